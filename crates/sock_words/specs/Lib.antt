@@ -1,2 +1,3 @@
-pub mod Printed
+pub mod KindText
 pub mod OutcomeText
+pub mod Printed
