@@ -1,3 +1,4 @@
 pub mod KindText
 pub mod OutcomeText
 pub mod Printed
+pub mod Words
