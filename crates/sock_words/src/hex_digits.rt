@@ -4,6 +4,7 @@ ghost use Rattle.hex.specs.Hex.{encode_lower};
 use std::fmt;
 
 /// Bytes that are shown in hexadecimal, two digits a byte, in lower case.
+#[derive(Clone, Copy)]
 pub struct HexDigits<'a>(pub &'a [u8]);
 
 impl fmt::Display for HexDigits<'_> {
