@@ -39,7 +39,7 @@ impl fmt::Display for Outcome {
                 id,
                 payload,
                 attachment,
-            } => { write!(f, "call {id} answered {payload} {attachment}") }
+            } => write!(f, "call {id} answered {payload} {attachment}"),
             Outcome::Peer { id, code } => write!(f, "call {id} peer {code}"),
             Outcome::CallFailed { id, code } => write!(f, "call {id} failed {code}"),
             Outcome::Held => write!(f, "held"),
