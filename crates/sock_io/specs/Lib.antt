@@ -1,0 +1,6 @@
+pub mod Causes
+pub mod Edge
+pub mod Link
+pub mod Linker
+pub mod Memory
+pub mod Shape
