@@ -8,7 +8,8 @@ use crate::fault::{BAD_WORDS, LineFault};
 
 /// The place of the first such byte.
 fn find_byte(bytes: &[u8], byte: u8) -> Option<usize>
-    ensures { result ≡ position (λ b. b == byte) bytes.now }
+    ensures place { result ≡ position (λ b. b == byte) bytes.now }
+    ensures within { IfSome result (λ at. at < length bytes.now) }
 {
     bytes.iter().position(|b| *b == byte)
 }
@@ -21,8 +22,8 @@ pub fn split_once(bytes: &[u8], byte: u8) -> Option<(&[u8], &[u8])>
     ensures shorter { IfSome result (λ p. length p.1.now < length bytes.now) }
 {
     match find_byte(bytes, byte) {
-        Some(at) if at < bytes.len() => Some((before(bytes, at), behind(bytes, at + 1))),
-        _ => None,
+        Some(at) => Some((before(bytes, at), behind(bytes, at + 1))),
+        None => None,
     }
 }
 
