@@ -2,3 +2,4 @@ pub mod NameList
 pub mod Meaning
 pub mod Answers
 pub mod Words
+pub mod Parts

@@ -5,6 +5,8 @@ mod bytes;
 mod fault;
 mod line;
 mod names;
+mod numbers;
+mod parts;
 mod script;
 mod words;
 
