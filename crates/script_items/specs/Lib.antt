@@ -3,3 +3,4 @@ pub mod Meaning
 pub mod Answers
 pub mod Words
 pub mod Parts
+pub mod Options

@@ -6,6 +6,7 @@ mod fault;
 mod line;
 mod names;
 mod numbers;
+mod options;
 mod parts;
 mod script;
 mod words;
