@@ -1,9 +1,9 @@
 -- Where a line or a word is cut.
-use Rattle.std.proofs.Common.{◌≡◌, ℕ, ◌<◌, ◌≤◌, ◌+◌, ◌-◌, ◌==◌, Bool, true, false, cond, not, Option, Some, None, List, [], ◌∷◌, length, take, drop, get_or, nat_lt, refl, ap, sym, ◌∙◌, subst, arith, position}
+use Rattle.std.proofs.Common.{◌≡◌, ℕ, ◌<◌, ◌≤◌, ◌+◌, ◌-◌, ◌==◌, Bool, true, false, cond, not, Some, None, List, [], ◌∷◌, length, take, drop, get_or, nat_lt, refl, ap, subst, arith, position}
 use Rattle.std.proofs.lemmas.Grind.{common_steps}
 use Rattle.std.proofs.lemmas.List.Splits.{slice_split_first, slice_split_none}
 use Rattle.std.proofs.lemmas.List.Sums.{fails_before_first, suffix_len_is}
-use Rattle.std.specs.List.{slice_split, position_or_len, before_first, after_first, suffix_len, onto_first}
+use Rattle.std.specs.List.{slice_split, position_or_len, suffix_len, onto_first}
 use Rattle.script_items.specs.Words.{HasFirst}
 
 -- before the first such byte is the first piece, and behind it are the others

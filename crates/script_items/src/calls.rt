@@ -63,8 +63,10 @@ pub fn read_call(
     let called = both(read_service(alloc, service), read_method(alloc, method));
     let bodies = read_bodies(alloc, payload, options);
     let retry = read_retry(options);
-    let ((names, (service, method)), ((payload, attachment), retry)) =
-        both(both(names, called), both(bodies, retry))?;
+    let ((names, (service, method)), ((payload, attachment), retry)) = both(
+        both(names, called),
+        both(bodies, retry),
+    )?;
     Ok(CallLine {
         names,
         service,

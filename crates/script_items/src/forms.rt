@@ -76,8 +76,10 @@ fn read_shape(options: &[u8]) -> Result<Shape, LineFault>
     let again = read_number_option(options, b"again=", 2, 65536, 0);
     let fail = read_number_option(options, b"fail=", 1, 65536, 0);
     let numbers = both(both(piece, again), fail);
-    let (((piece, again), fail), (end, serve)) =
-        both(numbers, both(read_end(options), read_serve(options)))?;
+    let (((piece, again), fail), (end, serve)) = both(
+        numbers,
+        both(read_end(options), read_serve(options)),
+    )?;
     Ok(Shape {
         piece,
         again,
@@ -140,7 +142,10 @@ pub fn read_tick(clients: u32, links: u32, args: &[u8]) -> Result<Line, LineFaul
     let (seat, args) = next_word(args)?;
     let (ticks, args) = next_word(args)?;
     no_more_words(args)?;
-    let (seat, ticks) = both(read_seat(clients, links, seat), read_number(ticks, 1, 65536))?;
+    let (seat, ticks) = both(
+        read_seat(clients, links, seat),
+        read_number(ticks, 1, 65536),
+    )?;
     Ok(Line::Tick { seat, ticks })
 }
 

@@ -1,10 +1,11 @@
-ghost use Rattle.std.specs.Prelude.{◌≡◌, ◌<◌, ◌≢◌, false, length, slice_index, List, count_by, option_map};
+ghost use Rattle.std.specs.Prelude.{◌≡◌, List, count_by, option_map};
 ghost use Rattle.std.specs.List.{list_all};
 ghost use Rattle.brpc_model.specs.Text.{words};
 ghost use Rattle.brpc_model.specs.Items.{Item, is_client, is_open};
 ghost use Rattle.brpc_model.specs.Lines.{item_of, line_item, is_text_byte};
 ghost use Rattle.script_items.specs.Answers.{Answers};
 ghost use Rattle.script_items.specs.Meaning.{item};
+ghost use Rattle.script_items.specs.Words.{says_nothing};
 
 use crate::fault::{BAD_BYTE, LineFault, UNKNOWN_WORD};
 use crate::forms::{
@@ -23,12 +24,7 @@ fn has_text_bytes(line: &[u8]) -> bool
 }
 
 /// What the words of a line say.
-fn read_words(
-    alloc: Global,
-    clients: u32,
-    links: u32,
-    line: &[u8],
-) -> Result<Line, LineFault>
+fn read_words(alloc: Global, clients: u32, links: u32, line: &[u8]) -> Result<Line, LineFault>
     ensures { (before : List Item) → count_by is_client before ≡ clients → count_by is_open before ≡ links
         → Answers item result (item_of before (words line.now)) }
 {
@@ -72,7 +68,7 @@ fn read_words(
 
 /// Whether a line says nothing: it is empty or begins with `#`.
 fn is_comment(line: &[u8]) -> bool
-    ensures { result ≡ false → (0 < length line.now) × (slice_index line.now 0 ≢ 35) }
+    ensures { result ≡ says_nothing line.now }
 {
     line.is_empty() || line[0] == b'#'
 }

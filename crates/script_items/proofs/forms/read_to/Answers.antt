@@ -1,4 +1,4 @@
-use Rattle.std.proofs.Common.{◌≡◌, ◌∷◌, [], ◌∙◌, ap, sym, rules, Ok}
+use Rattle.std.proofs.Common.{◌≡◌, ◌∷◌, [], rules, Ok}
 use Rattle.brpc_model.specs.Text.{words}
 use Rattle.script_items.specs.Answers.{both_of}
 use Rattle.script_items.proofs.SideBySide.{to_read}

@@ -1,4 +1,4 @@
-use Rattle.std.proofs.Common.{◌≡◌, ◌∷◌, ◌+◌, ◌==◌, ℕ, Bool, ◌∙◌, ap, sym, take, drop}
+use Rattle.std.proofs.Common.{◌∷◌, ◌+◌, ◌==◌, ℕ, Bool, ◌∙◌, ap, sym, drop}
 use Rattle.std.specs.List.{slice_split}
 use Rattle.script_items.proofs.Pieces.{cut_at, not_cut, has_piece}
 use Rattle.script_items.proofs.words.split_once.Goals as goal
