@@ -1,0 +1,3 @@
+pub mod Counting
+pub mod Called
+pub mod Used
