@@ -1,2 +1,5 @@
 pub mod LinesCut
 pub mod Holding
+pub mod Judged
+pub mod CallRows
+pub mod LineOf
