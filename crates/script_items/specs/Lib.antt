@@ -1,2 +1,4 @@
 pub mod NameList
 pub mod Meaning
+pub mod Answers
+pub mod Words

@@ -2,11 +2,14 @@
 #![tactic(auto)]
 
 mod bytes;
+mod fault;
 mod line;
 mod names;
 mod script;
+mod words;
 
 pub use bytes::{Bytes, Name};
+pub use fault::LineFault;
 pub use line::{CallLine, Line, OpenLine, Seat, SendLine, Shape, Target};
 pub use names::Names;
 pub use script::Script;
