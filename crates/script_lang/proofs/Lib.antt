@@ -3,3 +3,5 @@ pub mod Holding
 pub mod Judged
 pub mod CallRows
 pub mod LineOf
+pub mod Placed
+pub mod Whole

@@ -44,7 +44,7 @@ impl CallTable {
     {
         match line {
             Line::Slots(_) | Line::Requests(_) | Line::First(_) | Line::Sched => Ok(()),
-            Line::Tick { .. } => Ok(()),
+            Line::Tick { .. } | Line::To { .. } => Ok(()),
             Line::Client => self.begin_client(),
             Line::Call(_) => self.push(true),
             _ => self.push(false),

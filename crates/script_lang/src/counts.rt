@@ -64,7 +64,7 @@ impl Counts {
             Line::Requests(_) => self.others || self.requests,
             Line::First(_) => self.others || self.first,
             Line::Open(_) | Line::Client | Line::Sched => self.scheduled,
-            Line::Tick { .. } => !self.scheduled,
+            Line::Tick { .. } | Line::To { .. } => !self.scheduled,
             _ => self.clients == 0 || self.scheduled,
         }
     }
@@ -77,7 +77,7 @@ impl Counts {
             Line::Slots(_) | Line::Requests(_) | Line::First(_) | Line::Sched => false,
             Line::Client => self.clients >= MAX_CLIENTS,
             Line::Open(_) => self.links >= MAX_LINKS || self.operations >= MAX_OPERATIONS,
-            Line::Tick { .. } => self.turns >= MAX_TURNS,
+            Line::Tick { .. } | Line::To { .. } => self.turns >= MAX_TURNS,
             _ => self.operations >= MAX_OPERATIONS,
         }
     }
@@ -101,7 +101,7 @@ impl Counts {
             },
             Line::Client => Counts { others: true, clients: self.clients + 1, ..self },
             Line::Sched => Counts { others: true, scheduled: true, ..self },
-            Line::Tick { .. } => Counts { others: true, turns: self.turns + 1, ..self },
+            Line::Tick { .. } | Line::To { .. } => Counts { others: true, turns: self.turns + 1, ..self },
             _ => Counts { others: true, operations: self.operations + 1, ..self },
         }
     }

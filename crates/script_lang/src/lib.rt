@@ -3,7 +3,12 @@
 
 mod calls;
 mod counts;
+mod error;
 mod held;
 mod names;
+mod reader;
+mod stub;
 mod text;
 mod uses;
+
+pub use error::ScriptError;

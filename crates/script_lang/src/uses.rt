@@ -1,4 +1,4 @@
-ghost use Rattle.std.specs.Prelude.{◌≡◌, Bool, not, option_map};
+ghost use Rattle.std.specs.Prelude.{◌≡◌, ◌&&◌, ◌∷◌, ◌++◌, [], not, option_map, option_to_list, OnOk};
 ghost use Rattle.std.specs.List.{find};
 ghost use Rattle.script_items.specs.Meaning.{item};
 ghost use Rattle.script_lang.specs.Called.{has_call};
@@ -6,6 +6,7 @@ ghost use Rattle.script_lang.specs.Used.{use_of};
 
 use crate::calls::CallTable;
 use script_items::{Line, Target};
+use std::alloc::AllocError;
 
 /// A call that an `expire` or a `join` names.
 #[derive(Clone, Copy, Drop)]
@@ -17,15 +18,26 @@ pub struct CallUse {
     pub waits: bool,
 }
 
-/// The call that a line of this number names, if it names one.
-pub fn use_of(line: &Line, number: u32) -> Option<CallUse>
-    ensures { result ≡ use_of number (item line.now) }
+/// Notes the call that a line of this number names, if it names one.
+pub fn note_use(uses: &mut Vec<CallUse>, line: &Line, number: u32) -> Result<(), AllocError>
+    ensures { OnOk result (uses.new.items ≡ uses.old.items ++ option_to_list (use_of number (item line.now))) }
 {
     match line {
-        Line::Expire(target) => Some(CallUse { target: *target, line: number, waits: false }),
-        Line::Join(target) => Some(CallUse { target: *target, line: number, waits: true }),
-        _ => None,
+        Line::Expire(target) => push_use(uses, *target, number, false),
+        Line::Join(target) => push_use(uses, *target, number, true),
+        _ => Ok(()),
     }
+}
+
+fn push_use(uses: &mut Vec<CallUse>, target: Target, line: u32, waits: bool) -> Result<(), AllocError>
+    ensures { OnOk result (uses.new.items ≡ uses.old.items ++ (record { target = target; line = line; waits = waits }) ∷ []) }
+{
+    uses.push(CallUse {
+        target,
+        line,
+        waits,
+    })?;
+    Ok(())
 }
 
 /// The first line that names a call which isn't there.
@@ -37,9 +49,11 @@ pub fn first_lost(uses: &[CallUse], calls: &CallTable) -> Option<u32>
         .map(|used| used.line)
 }
 
-/// The first line that waits for a call.
-pub fn first_join(uses: &[CallUse]) -> Option<u32>
-    ensures { result ≡ option_map (λ u. u.line) (find (λ u. u.waits) uses.now) }
+/// The first line that may wait for good: the first `join`, where a link has no server.
+pub fn first_hanging(uses: &[CallUse], unserved: bool) -> Option<u32>
+    ensures { result ≡ option_map (λ u. u.line) (find (λ u. u.waits && unserved) uses.now) }
 {
-    uses.iter().find(|used| used.waits).map(|used| used.line)
+    uses.iter()
+        .find(|used| used.waits && unserved)
+        .map(|used| used.line)
 }
