@@ -1,12 +1,13 @@
 -- How a line at its place is judged, and what is known behind it.
-use Rattle.std.proofs.Common.{◌≡◌, ℕ, ◌+◌, Bool, true, false, ◌||◌, nat_lt, List, [], ◌∷◌, ◌++◌, length, map, bytes_eq, Option, Some, None, Ok, Err, option_map, option_to_list, refl, ap, sym, ◌∙◌, subst, if◌then◌else◌, arith, append-nil}
+use Rattle.std.proofs.Common.{◌≡◌, ℕ, ◌+◌, Bool, true, false, ◌||◌, nat_lt, List, [], ◌∷◌, ◌++◌, length, map, bytes_eq, Option, Some, None, Result, Ok, Err, option_map, option_to_list, refl, ap, sym, ◌∙◌, subst, if◌then◌else◌, arith, append-nil}
 use Rattle.std.proofs.lemmas.Grind.{common_steps}
 use Rattle.std.proofs.lemmas.List.{length-append, map-append}
 use Rattle.std.specs.List.{list_any}
-use Rattle.brpc_model.specs.Reads.{Reads}
+use Rattle.brpc_model.specs.Reads.{Reads, ◌>>=◌}
+use Rattle.brpc_model.specs.Lines.{line_item}
 use Rattle.brpc_model.specs.Items.{Item, mentioned}
 use Rattle.brpc_model.specs.Places.{names, with_names, is_held, held_behind, is_misplaced, is_too_many, is_unpaired, at_its_place}
-use Rattle.brpc_model.specs.Script.{Faulty, items}
+use Rattle.brpc_model.specs.Script.{Faulty, items, one_more, with_line}
 use Rattle.brpc_model.proofs.Growing.{names_more, is_held_more, items_some, items_none}
 use Rattle.script_items.specs.declared.line.Line.{Line}
 use Rattle.script_items.specs.Meaning.{item}
@@ -15,7 +16,9 @@ use Rattle.script_lang.specs.declared.reader.Reader.{Reader}
 use Rattle.script_lang.specs.Counting.{counts_of, counted, is_one_too_many, stands_wrong, IsWithinLimits}
 use Rattle.script_lang.specs.Called.{rows_of, rows_behind}
 use Rattle.script_lang.specs.Used.{uses_from, use_of}
-use Rattle.script_lang.specs.Known.{Knows, Keeps, HasNames}
+use Rattle.script_lang.specs.Known.{Knows, Keeps, HasNames, PlaceIs, LineIs}
+use Rattle.script_lang.specs.declared.error.ScriptError.{ScriptError}
+use Rattle.script_lang.specs.declared.error.ScriptError.TheVariants.{Fault, NoMemory}
 use Rattle.script_lang.proofs.Judged.{counts_more, wrong_place, too_many, still_within}
 use Rattle.script_lang.proofs.CallRows.{rows_more}
 use Rattle.script_lang.proofs.LineOf.{uses_more}
@@ -74,3 +77,18 @@ grown old new said line ns knows named room keeps =
         uses = keeps.uses ∙ ap (λ us. us ++ option_to_list (use_of (old.count + 1) i)) knows.uses
             ∙ ap (λ k. uses_from 1 said ++ option_to_list (use_of k i)) number ∙ sym (uses_more 1 said (Some i));
     }
+
+-- ## A line that was read by itself
+
+pub line_none : (said : List (Option Item)) (line : List ℕ) → line_item (items said) line ≡ Ok None → with_line (Ok said) line ≡ Ok (said ++ None ∷ [])
+line_none said line e = ap (λ r. one_more said (r >>= at_its_place (items said))) e
+
+pub line_fault : (said : List (Option Item)) (line : List ℕ) (kind : ℕ) → line_item (items said) line ≡ Err kind → with_line (Ok said) line ≡ Err (length said + 1, kind)
+line_fault said line kind e = ap (λ r. one_more said (r >>= at_its_place (items said))) e
+
+pub line_placed : (said : List (Option Item)) (line : List ℕ) (item : Item) (result : Result (Unit {0}) ScriptError) (reader : Reader) → line_item (items said) line ≡ Ok (Some item) → PlaceIs said item result reader →
+    LineIs (with_line (Ok said) line) result reader
+line_placed said line item (Ok done) reader e placed = (said ++ Some item ∷ [], ap (λ r. one_more said (r >>= at_its_place (items said))) e ∙ ap (one_more said) placed.0, placed.1)
+line_placed said line item (Err (Fault number kind)) reader e placed =
+    ap (λ r. one_more said (r >>= at_its_place (items said))) e ∙ ap (one_more said) placed.0 ∙ ap (λ n. Err (n, kind)) (sym placed.1)
+line_placed said line item (Err NoMemory) reader e placed = tt
