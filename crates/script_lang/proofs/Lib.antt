@@ -5,3 +5,4 @@ pub mod CallRows
 pub mod LineOf
 pub mod Placed
 pub mod Whole
+pub mod Sofar

@@ -6,9 +6,14 @@ mod counts;
 mod error;
 mod held;
 mod names;
+mod read;
 mod reader;
 mod stub;
 mod text;
 mod uses;
 
 pub use error::ScriptError;
+pub use read::read_script;
+pub use script_items::{
+    Bytes, CallLine, Line, Name, Names, OpenLine, Script, Seat, SendLine, Shape, Target,
+};
