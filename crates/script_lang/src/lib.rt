@@ -8,7 +8,6 @@ mod held;
 mod names;
 mod read;
 mod reader;
-mod stub;
 mod text;
 mod uses;
 

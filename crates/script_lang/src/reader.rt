@@ -10,9 +10,8 @@ use crate::counts::Counts;
 use crate::error::ScriptError;
 use crate::held;
 use crate::names::NameList;
-use crate::stub::read_line;
 use crate::uses::{first_hanging, first_lost, note_use, CallUse};
-use script_items::{Line, LineFault, Script};
+use script_items::{read_line, Line, LineFault, Script};
 use std::alloc::{AllocError, Global};
 
 /// The most names of a script.
