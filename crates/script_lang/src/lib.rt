@@ -11,6 +11,9 @@ mod reader;
 mod text;
 mod uses;
 
+#[cfg(test)]
+mod tests;
+
 pub use error::ScriptError;
 pub use read::read_script;
 pub use script_items::{
