@@ -1,0 +1,3 @@
+pub mod Told
+pub mod Read
+pub mod Reading
