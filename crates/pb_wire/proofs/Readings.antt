@@ -90,8 +90,12 @@ before_later (Eight n) place end h b = tt
 before_later (Four n) place end h b = tt
 before_later (Span from to) place end h b = (b.0, omega (arith, h, b.1))
 
+-- a field of these bytes that ends before the place next
+abbrev pub front : List ℕ → ℕ → ℕ → Field → Wire (Front wire.Field)
+front bytes at next f = Ok (record { value = field_in bytes f; size = next - at })
+
 front_upto : (bytes : List ℕ) (at end next : ℕ) (f : Field) → next ≤ end → IsBefore next f.value →
-    Ok (record { value = field_in (take end bytes) f; size = next - at }) ≡ Ok (record { value = field_in bytes f; size = next - at })
+    front (take end bytes) at next f ≡ front bytes at next f
 front_upto bytes at end next f h b =
     ap (λ v. Ok (record { value = record { number = f.number; value = v }; size = next - at })) (value_upto bytes end f.value (before_later f.value next end h b))
 
@@ -101,7 +105,7 @@ pub record Next (bytes : List ℕ) (at end next : ℕ) (f : Field) : Type 0 wher
   pub inside : next ≤ end
   pub short : end ≤ length bytes
   pub span : IsBefore next f.value
-  pub read : Ok (record { value = field_in (take end bytes) f; size = next - at }) ≡ field at (drop at (take end bytes))
+  pub read : front (take end bytes) at next f ≡ field at (drop at (take end bytes))
 
 pub ahead_next : (bytes : List ℕ) (at end next : ℕ) (f : Field) → Next bytes at end next f →
     ahead (reading bytes at end) ≡ Ok (Some (record { value = field_in bytes f; size = next - at }))
