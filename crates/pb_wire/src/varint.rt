@@ -1,7 +1,8 @@
-ghost use Rattle.std.specs.Prelude.{◌≡◌, ℕ, ◌+◌, ◌-◌, ◌*◌, ◌%◌, ◌^◌, ◌<◌, ◌≤◌, length, drop, ◌++◌, min, IfOk, is_ok, if◌then◌else◌};
+ghost use Rattle.std.specs.Prelude.{◌≡◌, ℕ, ◌+◌, ◌-◌, ◌*◌, ◌%◌, ◌^◌, ◌<◌, ◌≤◌, length, drop, ◌++◌, min, slice_range, Ok, IfOk, is_ok, if◌then◌else◌};
 ghost use Rattle.std.specs.List.{prefix_len};
 ghost use Rattle.brpc_model.specs.Wire.{varint, goes_on, low_first, varint_bytes};
 ghost use Rattle.pb_wire.specs.Told.{varint_front};
+ghost use Rattle.pb_wire.specs.Form.{IsVarint};
 
 use crate::fault::{NoMemory, WireFault};
 
@@ -18,6 +19,8 @@ pub fn read_varint(bytes: &[u8], at: usize) -> Result<(u64, usize), WireFault>
     requires { at ≤ length bytes.now }
     ensures exact { varint_front at result ≡ varint at (drop at bytes.now) }
     ensures within { IfOk result (λ r. (at < r.1) × (r.1 ≤ length bytes.now)) }
+    ensures spelled { IfOk result (λ r. IsVarint (slice_range bytes.now at r.1) r.0) }
+    ensures each { (n to : ℕ) → at ≤ to → to ≤ length bytes.now → IsVarint (slice_range bytes.now at to) n → result ≡ Ok (n, to) }
 {
     let (_, rest) = bytes.split_at(at);
     let more = count_followed(rest);
