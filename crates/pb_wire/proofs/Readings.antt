@@ -12,7 +12,8 @@ use Rattle.pb_wire.specs.Reading.{Reading, rest, first_field, unless_met, ahead,
 
 -- ## Places
 
-drop_of_take : (s n : ℕ) (xs : List ℕ) → drop s (take n xs) ≡ take (n - s) (drop s xs)
+-- what is dropped of the first ones is what is dropped, as far as they went
+pub drop_of_take : (s n : ℕ) (xs : List ℕ) → drop s (take n xs) ≡ take (n - s) (drop s xs)
 drop_of_take zero n xs = let e : n - zero ≡ n = omega arith in ap (λ k. take k xs) (sym e)
 drop_of_take (suc s) zero xs = let e : zero - suc s ≡ zero = omega arith in rw e refl
 drop_of_take (suc s) (suc n) [] = let e : take (suc n - suc s) [] ≡ [] = nothing (suc n - suc s) in sym e

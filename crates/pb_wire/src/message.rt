@@ -1,5 +1,7 @@
-ghost use Rattle.std.specs.Prelude.{◌≡◌, ℕ, ◌+◌, ◌<◌, ◌≤◌, length, None, IfOk, IfSome};
-ghost use Rattle.pb_wire.specs.Told.{answer_in, IsBefore};
+ghost use Rattle.std.specs.Prelude.{◌≡◌, ℕ, ◌+◌, ◌<◌, ◌≤◌, length, slice_range, Ok, Some, None, IfOk, IfSome};
+ghost use Rattle.brpc_model.specs.Wire.{Field as WireField};
+ghost use Rattle.pb_wire.specs.Told.{field_in, answer_in, IsBefore};
+ghost use Rattle.pb_wire.specs.Form.{IsField};
 ghost use Rattle.pb_wire.specs.Reading.{ahead, behind, sizeless, left, in_front};
 
 use crate::fault::WireFault;
@@ -65,6 +67,8 @@ impl<'a> Fields<'a> {
         ensures exact { answer_in self.old.bytes result ≡ sizeless (ahead self.old) }
         ensures place { self.new ≡ behind self.old (ahead self.old) }
         ensures rest { left self.old ≡ in_front (answer_in self.old.bytes result) (left self.new) }
+        ensures spelled { IfOk result (λ f. IfSome f (λ f. IsField self.old.at (slice_range self.old.bytes self.old.at self.new.at) (field_in self.old.bytes f))) }
+        ensures each { (f : WireField) (to : ℕ) → self.old.fault ≡ None → self.old.at ≤ to → to ≤ self.old.end → IsField self.old.at (slice_range self.old.bytes self.old.at to) f → (answer_in self.old.bytes result ≡ Ok (Some f)) × (self.new.at ≡ to) }
         ensures within { IfOk result (λ f. IfSome f (λ f. (self.old.at < self.new.at) × (self.new.at ≤ self.new.end) × (self.new.end ≤ length self.new.bytes) × IsBefore self.new.at f.value)) }
     {
         if let Some(fault) = self.fault {
