@@ -1,10 +1,10 @@
 -- A field is read exactly where the bytes spell one.
-use Rattle.std.proofs.Common.{◌≡◌, ◌≢◌, ℕ, zero, suc, ◌<◌, ◌≤◌, ◌+◌, ◌-◌, ◌*◌, ◌/◌, ◌%◌, ◌^◌, ◌==◌, ◌||◌, ◌⊎◌, nat_le, nat_lt, Bool, true, false, if◌then◌else◌, List, [], ◌∷◌, ◌++◌, length, take, drop, Ok, Err, refl, ap, sym, ◌∙◌, subst, ⊎_elim, inl, inr, arith}
+use Rattle.std.proofs.Common.{◌≡◌, ◌≢◌, ℕ, ◌<◌, ◌≤◌, ◌+◌, ◌*◌, ◌/◌, ◌%◌, ◌^◌, ◌==◌, ◌||◌, nat_le, nat_lt, Bool, true, false, if◌then◌else◌, List, ◌++◌, length, take, drop, Ok, Err, refl, ap, sym, ◌∙◌, subst, ⊎_elim, arith}
 use Rattle.std.proofs.Math.Seq.{take-add}
-use Rattle.std.proofs.lemmas.List.{length-take, length-drop, length-take-le, take-append-drop, take_at, drop_at, append_assoc, length-append}
+use Rattle.std.proofs.lemmas.List.{length-drop, length-take-le, take_at, drop_at, append_assoc, length-append}
 use Rattle.std.proofs.lemmas.Nat.{div-mul-add, mod-mul-add, div-add-mod'}
 use Rattle.std.proofs.lemmas.Bool.Decides.{leb_tells, eqb_tells}
-use Rattle.std.proofs.lemmas.Bool.{le-leb, lt-leb, le-ltb, lt-ltb, ltb-true}
+use Rattle.std.proofs.lemmas.Bool.{le-leb, lt-leb, le-ltb}
 use Rattle.std.proofs.lemmas.Grind.{common_steps}
 use Rattle.brpc_model.specs.Wire.{WireFault, Truncated, BadKey, Group, Wire, ◌>>=◌, Front, Value, Varint, Eight, Span, Four, Field, varint, bytes_of, span, value, with_key, field_of, field, least_first}
 use Rattle.pb_wire.specs.Form.{IsVarint, IsSpan, IsValue, IsField}
@@ -32,9 +32,9 @@ same_ok a b e = cc
 bytes_form : (n at : ℕ) (bytes : List ℕ) (b : Front (List ℕ)) → bytes_of n at bytes ≡ Ok b → (n ≤ length bytes) × (b ≡ record { value = take n bytes; size = n })
 bytes_form n at bytes b e =
     ⊎_elim (λ (y : (nat_le n (length bytes) ≡ true) × (n ≤ length bytes)).
-      (y.1, sym (same_ok (record { value = take n bytes; size = n }) b (ap (λ t. if t then Ok (record { value = take n bytes; size = n }) else Err (Truncated at)) (sym y.0) ∙ e))))
+    (y.1, sym (same_ok (record { value = take n bytes; size = n }) b (ap (λ t. if t then Ok (record { value = take n bytes; size = n }) else Err (Truncated at)) (sym y.0) ∙ e))))
     (λ (y : (nat_le n (length bytes) ≡ false) × (length bytes < n)).
-      absurd (no_fault (ap (λ t. if t then Ok (record { value = take n bytes; size = n }) else Err (Truncated at)) (sym y.0) ∙ e)))
+    absurd (no_fault (ap (λ t. if t then Ok (record { value = take n bytes; size = n }) else Err (Truncated at)) (sym y.0) ∙ e)))
     (leb_tells n (length bytes))
   where
     no_fault : Err (Truncated at) ≡ Ok b → ⊥
@@ -71,15 +71,22 @@ span_form at bytes v e =
     let size : length (take n.0.size bytes) ≡ n.0.size = length-take-le n.0.size bytes r.0 in
     let P : ℕ → Type 0 = λ k. IsVarint (take n.0.size bytes) k in
     let rest = length-drop n.0.size bytes in
-    subst (Formed 2 at bytes) q (omega (arith, r.0, f.0, rest), (refl, record {
-      size = take n.0.size bytes;
-      parts = take-add n.0.size n.0.value bytes;
-      size_is = subst P (sym long) r.1;
-      from_is = ap (λ s. at + s) (sym size);
-    }))
+    subst (Formed 2 at bytes) q (
+      omega (arith, r.0, f.0, rest),
+      (
+        refl,
+        record {
+          size = take n.0.size bytes;
+          parts = take-add n.0.size n.0.value bytes;
+          size_is = subst P (sym long) r.1;
+          from_is = ap (λ s. at + s) (sym size);
+        },
+      ),
+    )
   where
     whole : Front ℕ → Front (List ℕ) → Front Value
     whole n b = record { value = Span (at + n.size) b.value; size = n.size + b.size }
+
     spanned : Front ℕ → Front (List ℕ) → Wire (Front Value)
     spanned n b = Ok (whole n b)
 
@@ -87,25 +94,29 @@ value_form : (type at : ℕ) (bytes : List ℕ) (v : Front Value) → (type ≢ 
 value_form type at bytes v last e =
     ⊎_elim (λ (y : ((type == 0) ≡ true) × (type ≡ 0)). moved 0 y.1 (varint_form at bytes v (ap (λ t. if t then a else if type == 1 then b else if type == 2 then c else d) (sym y.0) ∙ e)))
     (λ (y : ((type == 0) ≡ false) × (type ≢ 0)).
-      let e1 = ap (λ t. if t then a else if type == 1 then b else if type == 2 then c else d) (sym y.0) ∙ e in
-      ⊎_elim (λ (z : ((type == 1) ≡ true) × (type ≡ 1)). moved 1 z.1 (fixed_form 1 8 at bytes Eight v (λ l h. (refl, h, refl)) (ap (λ t. if t then b else if type == 2 then c else d) (sym z.0) ∙ e1)))
-      (λ (z : ((type == 1) ≡ false) × (type ≢ 1)).
-        let e2 = ap (λ t. if t then b else if type == 2 then c else d) (sym z.0) ∙ e1 in
-        ⊎_elim (λ (w : ((type == 2) ≡ true) × (type ≡ 2)). moved 2 w.1 (span_form at bytes v (ap (λ t. if t then c else d) (sym w.0) ∙ e2)))
-        (λ (w : ((type == 2) ≡ false) × (type ≢ 2)).
-          moved 5 (last y.1 z.1 w.1) (fixed_form 5 4 at bytes Four v (λ l h. (refl, h, refl)) (ap (λ t. if t then c else d) (sym w.0) ∙ e2)))
-        (eqb_tells type 2))
-      (eqb_tells type 1))
+    let e1 = ap (λ t. if t then a else if type == 1 then b else if type == 2 then c else d) (sym y.0) ∙ e in
+    ⊎_elim (λ (z : ((type == 1) ≡ true) × (type ≡ 1)). moved 1 z.1 (fixed_form 1 8 at bytes Eight v (λ l h. (refl, h, refl)) (ap (λ t. if t then b else if type == 2 then c else d) (sym z.0) ∙ e1)))
+    (λ (z : ((type == 1) ≡ false) × (type ≢ 1)).
+    let e2 = ap (λ t. if t then b else if type == 2 then c else d) (sym z.0) ∙ e1 in
+    ⊎_elim (λ (w : ((type == 2) ≡ true) × (type ≡ 2)). moved 2 w.1 (span_form at bytes v (ap (λ t. if t then c else d) (sym w.0) ∙ e2)))
+    (λ (w : ((type == 2) ≡ false) × (type ≢ 2)).
+    moved 5 (last y.1 z.1 w.1) (fixed_form 5 4 at bytes Four v (λ l h. (refl, h, refl)) (ap (λ t. if t then c else d) (sym w.0) ∙ e2)))
+    (eqb_tells type 2))
+    (eqb_tells type 1))
     (eqb_tells type 0)
   where
     a : Wire (Front Value)
     a = varint at bytes >>= (λ n. Ok (record { value = Varint n.value; size = n.size }))
+
     b : Wire (Front Value)
     b = bytes_of 8 at bytes >>= (λ b. Ok (record { value = Eight (least_first b.value); size = 8 }))
+
     c : Wire (Front Value)
     c = span at bytes
+
     d : Wire (Front Value)
     d = bytes_of 4 at bytes >>= (λ b. Ok (record { value = Four (least_first b.value); size = 4 }))
+
     moved : (n : ℕ) → type ≡ n → Formed n at bytes v → Formed type at bytes v
     moved n e f = let P : ℕ → Type 0 = λ n. Formed n at bytes v in subst P (sym e) f
 
@@ -144,20 +155,23 @@ read_field_form at bytes f e =
     let whole : key / 8 * 8 + key % 8 ≡ key = div-add-mod' key 8 in
     let Q : ℕ → Type 0 = λ n. IsVarint (take size bytes) n in
     let R : ℕ → Type 0 = λ s. IsValue (key % 8) (at + s) (take v.0.size (drop size bytes)) v.0.value in
-    subst P (same_ok (made (key / 8) size v.0) f v.2)
-    (omega (arith, r.0, g.0, rest), record {
-      type = key % 8;
-      key = take size bytes;
-      value = take v.0.size (drop size bytes);
-      parts = take-add size v.0.size bytes;
-      key_is = subst Q (sym whole) r.1;
-      numbered = omega (arith, w.0.numbered);
-      short = omega (arith, whole, w.0.short);
-      value_is = subst R (sym spelled) g.1;
-    })
+    subst P {x = made (key / 8) size v.0} (same_ok (made (key / 8) size v.0) f v.2) (
+      omega (arith, r.0, g.0, rest),
+      record {
+        type = key % 8;
+        key = take size bytes;
+        value = take v.0.size (drop size bytes);
+        parts = take-add size v.0.size bytes;
+        key_is = subst Q (sym whole) r.1;
+        numbered = omega (arith, w.0.numbered);
+        short = omega (arith, whole, w.0.short);
+        value_is = subst R (sym spelled) g.1;
+      },
+    )
   where
     made : ℕ → ℕ → Front Value → Front Field
     made number size v = record { value = record { number = number; value = v.value }; size = size + v.size }
+
     numbered : ℕ → ℕ → Front Value → Wire (Front Field)
     numbered number size v = Ok (made number size v)
 
@@ -166,7 +180,7 @@ read_field_form at bytes f e =
 bytes_read : (n at : ℕ) (bytes more : List ℕ) → length bytes ≡ n → bytes_of n at (bytes ++ more) ≡ Ok (record { value = bytes; size = n })
 bytes_read n at bytes more h =
     ap (λ t. if t then Ok (record { value = take n (bytes ++ more); size = n }) else Err (Truncated at))
-      (le-leb n (length (bytes ++ more)) (omega (arith, h, length-append bytes more)))
+    (le-leb n (length (bytes ++ more)) (omega (arith, h, length-append bytes more)))
     ∙ ap (λ l. Ok (record { value = l; size = n })) (take_at bytes more n h)
 
 -- a number of so many bytes
@@ -225,11 +239,14 @@ key_read {B} at number type f one short t =
   where
     tested : Bool → ℕ → ℕ → Wire B
     tested long n k = if long || n == 0 || nat_le 6 k then Err (BadKey at) else if k == 3 || k == 4 then Err (Group at) else f n k
+
     not_none : (number : ℕ) → 1 ≤ number → (number == 0) ≡ false
     not_none number one = grind (arith, common_steps)
+
     good : (number type : ℕ) → 1 ≤ number → number < 2 ^ 29 → (type < 6) × (type ≢ 3) × (type ≢ 4) → (nat_lt 4294967295 (number * 8 + type) || number == 0 || nat_le 6 type) ≡ false
     good number type one short t =
         rw (le-ltb 4294967295 (number * 8 + type) (omega (arith, short, t.0)), lt-leb 6 type t.0) (ap (λ b. b || false) (not_none number one))
+
     no_group : (type : ℕ) → (type < 6) × (type ≢ 3) × (type ≢ 4) → (type == 3 || type == 4) ≡ false
     no_group type t = grind (arith, common_steps, t.1, t.2)
 

@@ -1,6 +1,6 @@
 -- What comes next of a reader of fields, and what is then left.
-use Rattle.std.proofs.Common.{◌≡◌, ℕ, zero, suc, ◌<◌, ◌≤◌, ◌+◌, ◌-◌, List, [], ◌∷◌, length, take, drop, slice_range, Option, Some, None, Ok, Err, refl, ap, sym, ◌∙◌, arith, subst, length-drop, length-append}
-use Rattle.std.proofs.lemmas.List.{drop-take, take-take, drop-drop, length-take}
+use Rattle.std.proofs.Common.{◌≡◌, ℕ, zero, suc, ◌<◌, ◌≤◌, ◌+◌, ◌-◌, List, [], ◌∷◌, length, take, drop, slice_range, Option, Some, None, Ok, Err, refl, ap, sym, ◌∙◌, arith, length-drop}
+use Rattle.std.proofs.lemmas.List.{take-take, drop-drop, length-take}
 use Rattle.brpc_model.specs.Wire as wire
 use Rattle.brpc_model.specs.Wire.{WireFault, Wire, ◌>>=◌, Front, field, fields, fields_with, fields_up_to}
 use Rattle.brpc_model.proofs.Fields.{enough, field_takes}
@@ -60,7 +60,7 @@ fields_go_on {A} inner at (b ∷ bytes) f e =
     let size = shorter b bytes f.size (field_takes at (b ∷ bytes) f e) in
     ap (λ r. r >>= (λ f. inner f.value >>= (λ first. fields_up_to inner (length bytes) (at + f.size) (drop f.size (b ∷ bytes)) >>= (λ rest. Ok (first ∷ rest))))) e
     ∙ ap (λ r. inner f.value >>= (λ first. r >>= (λ rest. Ok (first ∷ rest))))
-      (enough inner (length bytes) (length (drop f.size (b ∷ bytes))) (at + f.size) (drop f.size (b ∷ bytes)) size (omega arith))
+    (enough inner (length bytes) (length (drop f.size (b ∷ bytes))) (at + f.size) (drop f.size (b ∷ bytes)) size (omega arith))
 
 fields_fail : {A : Type 0} (inner : wire.Field → Wire A) (at : ℕ) (bytes : List ℕ) (x : WireFault) → 0 < length bytes → field at bytes ≡ Err x → fields_with inner at bytes ≡ Err x
 fields_fail inner at [] x h e = absurd (omega (arith, h))
@@ -143,3 +143,71 @@ ahead_fails bytes at end x n = ahead_is bytes at end (Err x) n.inside n.short n.
 pub left_fails : (bytes : List ℕ) (at end : ℕ) (x : WireFault) → Fails bytes at end x → left (reading bytes at end) ≡ Err x
 left_fails bytes at end x n =
     fields_fail (λ f. Ok f) at (slice_range bytes at end) x (some_left bytes at end n.inside n.short) (ap (λ l. field at l) (sym (upto_end bytes at end)) ∙ sym n.read)
+
+-- ## A message whose fields are read on, as by a reader of the messages inside it
+
+-- what was answered next
+abbrev Answered : ℕ → List ℕ → Wire (Option wire.Field) → Type 0
+Answered at bytes answer = ◌≡◌ {A = Wire (Option wire.Field)} answer (sizeless (first_field at bytes))
+
+record Found (at : ℕ) (bytes : List ℕ) (f : wire.Field) : Type 0 where
+  front : Front wire.Field
+  first : first_field at bytes ≡ Ok (Some front)
+  read : field at bytes ≡ Ok front
+  value : front.value ≡ f
+
+found_by : (f : wire.Field) (r : Wire (Front wire.Field)) → ◌≡◌ {A = Wire (Option wire.Field)} (Ok (Some f)) (sizeless (r >>= (λ f. Ok (Some f)))) →
+    (front : Front wire.Field) × (r ≡ Ok front) × (front.value ≡ f)
+found_by f (Ok front) e = (front, refl, cc)
+found_by f (Err x) e = absurd (cc)
+
+found : (at : ℕ) (bytes : List ℕ) (f : wire.Field) → Answered at bytes (Ok (Some f)) → Found at bytes f
+found at [] f e = absurd (cc)
+found at (b ∷ bytes) f e =
+    let r = found_by f (field at (b ∷ bytes)) e in
+    record { front = r.0; first = ap (λ r. r >>= (λ f. Ok (Some f))) r.1; read = r.1; value = r.2 }
+
+end_by : (r : Wire (Front wire.Field)) → ◌≡◌ {A = Wire (Option wire.Field)} (Ok None) (sizeless (r >>= (λ f. Ok (Some f)))) → ⊥
+end_by (Ok front) e = cc
+end_by (Err x) e = cc
+
+fault_by : (x : WireFault) (r : Wire (Front wire.Field)) → ◌≡◌ {A = Wire (Option wire.Field)} (Err x) (sizeless (r >>= (λ f. Ok (Some f)))) → r ≡ Err x
+fault_by x (Ok front) e = absurd (cc)
+fault_by x (Err y) e = cc
+
+-- behind a field that was answered the rest is read on
+pub read_on : {A : Type 0} (inner : wire.Field → Wire A) (r new : Reading) (f : wire.Field) → ◌≡◌ {A = Wire (Option wire.Field)} (Ok (Some f)) (sizeless (ahead r)) → new ≡ behind r (ahead r) →
+    left_with inner r ≡ inner f >>= (λ first. left_with inner new >>= (λ rest. Ok (first ∷ rest)))
+read_on {A} inner r new f e n = unmet r.bytes r.at r.end r.fault e n
+  where
+    going : Reading → wire.Field → Wire (List A)
+    going new f = inner f >>= (λ first. left_with inner new >>= (λ rest. Ok (first ∷ rest)))
+
+    unmet : (bytes : List ℕ) (at end : ℕ) (m : Option WireFault) → ◌≡◌ {A = Wire (Option wire.Field)} (Ok (Some f)) (sizeless (ahead (record { bytes = bytes; at = at; end = end; fault = m }))) →
+        new ≡ behind (record { bytes = bytes; at = at; end = end; fault = m }) (ahead (record { bytes = bytes; at = at; end = end; fault = m })) →
+        left_with inner (record { bytes = bytes; at = at; end = end; fault = m }) ≡ going new f
+    unmet bytes at end None e n =
+        let g = found at (slice_range bytes at end) f e in
+        fields_go_on inner at (slice_range bytes at end) g.front g.read
+        ∙ ap (λ l. inner g.front.value >>= (λ first. fields_with inner (at + g.front.size) l >>= (λ rest. Ok (first ∷ rest)))) (rest_from bytes at g.front.size end)
+        ∙ ap (λ r. going r g.front.value) (sym (n ∙ ap (behind (reading bytes at end)) g.first))
+        ∙ ap (going new) g.value
+    unmet bytes at end (Some x) e n = absurd (cc)
+
+-- at the end nothing is left
+pub read_end : {A : Type 0} (inner : wire.Field → Wire A) (r : Reading) → ◌≡◌ {A = Wire (Option wire.Field)} (Ok None) (sizeless (ahead r)) → left_with inner r ≡ Ok []
+read_end {A} inner r e = unmet r.at (rest r) r.fault e
+  where
+    unmet : (at : ℕ) (bytes : List ℕ) (m : Option WireFault) → ◌≡◌ {A = Wire (Option wire.Field)} (Ok None) (sizeless (unless_met m (first_field at bytes))) → unless_met m (fields_with inner at bytes) ≡ Ok []
+    unmet at [] None e = refl
+    unmet at (b ∷ bytes) None e = absurd (end_by (field at (b ∷ bytes)) e)
+    unmet at bytes (Some x) e = absurd (cc)
+
+-- a fault is all that is left
+pub read_fault : {A : Type 0} (inner : wire.Field → Wire A) (r : Reading) (x : WireFault) → ◌≡◌ {A = Wire (Option wire.Field)} (Err x) (sizeless (ahead r)) → left_with inner r ≡ Err x
+read_fault {A} inner r x e = unmet r.at (rest r) r.fault e
+  where
+    unmet : (at : ℕ) (bytes : List ℕ) (m : Option WireFault) → ◌≡◌ {A = Wire (Option wire.Field)} (Err x) (sizeless (unless_met m (first_field at bytes))) → unless_met m (fields_with inner at bytes) ≡ Err x
+    unmet at [] None e = absurd (cc)
+    unmet at (b ∷ bytes) None e = fields_fail inner at (b ∷ bytes) x (omega arith) (fault_by x (field at (b ∷ bytes)) e)
+    unmet at bytes (Some y) e = let q : y ≡ x = cc in ap (λ y. Err y) q

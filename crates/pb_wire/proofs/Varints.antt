@@ -1,12 +1,12 @@
 -- A varint is read exactly where the bytes spell one.
-use Rattle.std.proofs.Common.{◌≡◌, ◌≢◌, ℕ, zero, suc, ◌<◌, ◌≤◌, ◌+◌, ◌-◌, ◌*◌, ◌%◌, ◌^◌, ◌==◌, ◌⊎◌, nat_le, Bool, true, false, if◌then◌else◌, List, [], ◌∷◌, ◌++◌, length, get_or, take, drop, slice_range, Result, Ok, Err, IfOk, refl, ap, sym, ◌∙◌, subst, ⊎_elim, inl, inr, arith}
+use Rattle.std.proofs.Common.{◌≡◌, ◌≢◌, ℕ, suc, ◌<◌, ◌≤◌, ◌+◌, ◌-◌, ◌%◌, ◌^◌, ◌==◌, nat_le, Bool, true, false, if◌then◌else◌, List, [], ◌∷◌, ◌++◌, length, get_or, take, drop, slice_range, Result, Ok, Err, IfOk, refl, ap, sym, ◌∙◌, subst, ⊎_elim, arith}
 use Rattle.std.proofs.lemmas.List.{length-take, length-drop, take-append-drop, length-take-le, take_more, take_at, append_assoc, length-append}
 use Rattle.std.proofs.lemmas.List.Sums.{prefix_len_stops, prefix_len-le-length}
 use Rattle.std.proofs.lemmas.List.Elements.{All-cons, All-nil, All-head, All-tail}
-use Rattle.std.proofs.lemmas.Bool.{le-leb, lt-leb, leb-true, leb-false}
+use Rattle.std.proofs.lemmas.Bool.{le-leb, lt-leb, leb-false}
 use Rattle.std.proofs.lemmas.Bool.Decides.{leb_tells, eqb_tells}
 use Rattle.std.proofs.lemmas.Grind.{common_steps}
-use Rattle.std.specs.List.{All, prefix_len, take_while}
+use Rattle.std.specs.List.{All, prefix_len}
 use Rattle.brpc_model.specs.Wire.{WireFault, Truncated, LongVarint, Wire, Front, goes_on, low_first, varint}
 use Rattle.pb_wire.specs.declared.fault.WireFault as declared
 use Rattle.pb_wire.specs.Told.{varint_front}
@@ -57,18 +57,20 @@ made : (at : ℕ) (bytes : List ℕ) (more : ℕ) (f : Front ℕ) → more ≤ l
 made at bytes more f h e =
     ⊎_elim (λ (long : (nat_le 10 more ≡ true) × (10 ≤ more)). absurd (no_fault _ (ap (λ b. if b then Err (LongVarint at) else short (more == length bytes)) (sym long.0) ∙ e)))
     (λ (few : (nat_le 10 more ≡ false) × (more < 10)).
-      let e2 : short (more == length bytes) ≡ Ok f = ap (λ b. if b then Err (LongVarint at) else short (more == length bytes)) (sym few.0) ∙ e in
-      ⊎_elim (λ (all : ((more == length bytes) ≡ true) × (more ≡ length bytes)). absurd (no_fault _ (ap short (sym all.0) ∙ e2)))
-      (λ (some : ((more == length bytes) ≡ false) × (more ≢ length bytes)).
-        let e3 : Ok found ≡ Ok f = ap short (sym some.0) ∙ e2 in
-        record { few = few.1; inside = omega (arith, h, some.1); value = sym (ap value_in e3); size = sym (ap size_in e3) })
-      (eqb_tells more (length bytes)))
+    let e2 : short (more == length bytes) ≡ Ok f = ap (λ b. if b then Err (LongVarint at) else short (more == length bytes)) (sym few.0) ∙ e in
+    ⊎_elim (λ (all : ((more == length bytes) ≡ true) × (more ≡ length bytes)). absurd (no_fault _ (ap short (sym all.0) ∙ e2)))
+    (λ (some : ((more == length bytes) ≡ false) × (more ≢ length bytes)).
+    let e3 : Ok found ≡ Ok f = ap short (sym some.0) ∙ e2 in
+    record { few = few.1; inside = omega (arith, h, some.1); value = sym (ap value_in e3); size = sym (ap size_in e3) })
+    (eqb_tells more (length bytes)))
     (leb_tells 10 more)
   where
     found : Front ℕ
     found = record { value = low_first (take (more + 1) bytes) % 2 ^ 64; size = more + 1 }
+
     short : Bool → Wire (Front ℕ)
     short b = if b then Err (Truncated at) else Ok found
+
     no_fault : (x : WireFault) → Err x ≡ Ok f → ⊥
     no_fault x e = cc
 
@@ -104,9 +106,9 @@ form_read at spelled more n v =
     varint_is at (spelled ++ more)
     ∙ ap (varint_by at (spelled ++ more)) count
     ∙ ap (λ b. if b then Err (LongVarint at) else if length v.front == length (spelled ++ more) then Err (Truncated at) else Ok (record { value = low_first (take (length v.front + 1) (spelled ++ more)) % 2 ^ 64; size = length v.front + 1 }))
-      (lt-leb 10 (length v.front) (omega (arith, size, v.few)))
+    (lt-leb 10 (length v.front) (omega (arith, size, v.few)))
     ∙ ap (λ b. if b then Err (Truncated at) else Ok (record { value = low_first (take (length v.front + 1) (spelled ++ more)) % 2 ^ 64; size = length v.front + 1 }))
-      (apart (length v.front) (length (spelled ++ more)) (omega (arith, total, size)))
+    (apart (length v.front) (length (spelled ++ more)) (omega (arith, total, size)))
     ∙ ap (λ s. Ok (record { value = low_first (take s (spelled ++ more)) % 2 ^ 64; size = s })) (sym size)
     ∙ ap (λ l. Ok (record { value = low_first l % 2 ^ 64; size = length spelled })) (take_at spelled more (length spelled) refl)
     ∙ ap (λ v. Ok (record { value = v; size = length spelled })) (sym v.number)
@@ -132,6 +134,7 @@ form_answer bytes at r e later n to h k v = same r (e ∙ read) later
         ap (λ l. varint at l) (sym (take-append-drop (to - at) (drop at bytes)))
         ∙ form_read at (slice_range bytes at to) (drop (to - at) (drop at bytes)) n v
         ∙ ap (λ s. Ok (record { value = n; size = s })) size
+
     same : (r : Result (ℕ × ℕ) declared.WireFault) → varint_front at r ≡ Ok (record { value = n; size = to - at }) → IfOk r (λ r. at < r.1) → r ≡ Ok (n, to)
     same (Ok (m, next)) e later =
         let number : m ≡ n = ap value_in e in

@@ -1,5 +1,5 @@
 -- What the calls answer, as the definitions of the wire form say it.
-use Rattle.std.specs.Prelude.{ℕ, ◌-◌, ◌<◌, ◌≤◌, List, Result, Ok, Err, Option, Some, None, slice_range}
+use Rattle.std.specs.Prelude.{ℕ, ◌-◌, ◌≤◌, List, Result, Ok, Err, Option, Some, None, slice_range}
 use Rattle.brpc_model.specs.Wire as wire
 use Rattle.brpc_model.specs.Wire.{Wire, Front}
 use Rattle.pb_wire.specs.declared.fault.WireFault.{WireFault}

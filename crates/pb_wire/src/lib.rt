@@ -6,6 +6,8 @@
 
 mod fault;
 mod message;
+#[cfg(test)]
+mod tests;
 mod values;
 mod varint;
 

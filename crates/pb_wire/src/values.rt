@@ -71,11 +71,7 @@ fn split_key(key: u64, at: usize) -> Result<(u32, WireType), WireFault>
 }
 
 /// Reads the value of this wire type that begins at `at`; answers it with the place after it.
-fn read_value(
-    bytes: &[u8],
-    at: usize,
-    wire_type: WireType,
-) -> Result<(Value, usize), WireFault>
+fn read_value(bytes: &[u8], at: usize, wire_type: WireType) -> Result<(Value, usize), WireFault>
     requires { at ≤ length bytes.now }
     ensures exact { value_front bytes.now at result ≡ value (type_number wire_type) at (drop at bytes.now) }
     ensures within { IfOk result (λ r. (at ≤ r.1) × (r.1 ≤ length bytes.now) × IsBefore r.1 r.0) }

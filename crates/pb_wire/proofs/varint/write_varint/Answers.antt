@@ -1,4 +1,4 @@
-use Rattle.std.proofs.Common.{◌∙◌, ◌+◌, ◌%◌, ◌++◌, refl, sym, arith, rules, ap, length, min, take}
+use Rattle.std.proofs.Common.{◌∙◌, ◌+◌, ◌%◌, ◌++◌, refl, arith, rules, ap}
 use Rattle.std.proofs.Math.ListN.{set}
 use Rattle.std.proofs.lemmas.List.{length-set, length-take}
 use Rattle.pb_wire.proofs.Groups.{spell_more, spell_last, ten_are_enough}

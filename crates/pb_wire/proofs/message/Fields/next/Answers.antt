@@ -1,4 +1,4 @@
-use Rattle.std.proofs.Common.{◌≡◌, ◌+◌, ◌-◌, ◌<◌, ◌≤◌, List, ℕ, Option, Some, None, Ok, Err, option_map, length, take, drop, slice_range, min, refl, ap, sym, ◌∙◌, subst, arith}
+use Rattle.std.proofs.Common.{◌≡◌, ◌+◌, ◌-◌, ◌<◌, ◌≤◌, List, ℕ, Option, Some, None, Ok, Err, option_map, length, take, drop, slice_range, refl, ap, sym, ◌∙◌, subst, arith}
 use Rattle.std.proofs.lemmas.List.{length-take}
 use Rattle.brpc_model.specs.Wire as wire
 use Rattle.pb_wire.specs.declared.fault.WireFault.{WireFault}
