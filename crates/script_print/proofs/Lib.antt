@@ -1,0 +1,6 @@
+pub mod Spaced
+pub mod Gives
+pub mod Tokens
+pub mod Parts
+pub mod Shapes
+pub mod Calls

@@ -1,0 +1,2 @@
+//! Scripts printed and generated.
+#![tactic(auto)]
