@@ -4,3 +4,4 @@ pub mod Tokens
 pub mod Parts
 pub mod Shapes
 pub mod Calls
+pub mod Formed

@@ -26,7 +26,7 @@ pub record IsShape (s : Shape) : Type 0 where
 ended : (w : List ℕ) → IfOk (Ok (λ n. Some n) <*> number_in 0 65536 w) (λ o. IfSome o (IsWithin 0 65536))
 ended w = of_part (λ n. Some n) (number_in 0 65536 w) (IsWithin 0 65536) (λ o. IfSome o (IsWithin 0 65536)) (number_within 0 65536 w) (λ n h. h)
 
-shaped : (ws : List (List ℕ)) → IfOk (shape_in ws) IsShape
+pub shaped : (ws : List (List ℕ)) → IfOk (shape_in ws) IsShape
 shaped ws =
     let piece = option_in (number_in 1 65536) 65536 (values_of (codes "piece=") ws) in
     let again = option_in (number_in 2 65536) 0 (values_of (codes "again=") ws) in
