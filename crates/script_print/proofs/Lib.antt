@@ -5,3 +5,4 @@ pub mod Parts
 pub mod Shapes
 pub mod Calls
 pub mod Formed
+pub mod Frames
