@@ -6,3 +6,4 @@ pub mod Shapes
 pub mod Calls
 pub mod Formed
 pub mod Frames
+pub mod Placed
