@@ -1,17 +1,17 @@
 -- A call: what was read is printed so that it is read again as the same.
-use Rattle.std.proofs.Common.{◌≡◌, ℕ, ◌+◌, ◌^◌, ◌≤◌, ◌<◌, Bool, true, false, cond, if◌then◌else◌, ◌&&◌, ◌||◌, not, nat_le, nat_eq, ◌==◌, List, [], ◌∷◌, ◌++◌, length, drop, map, filter, flat_map, decimal, bytes_eq, codes, IfOk, Result, Ok, Err, refl, ap, sym, ◌∙◌, append-nil, append_assoc, arith}
+use Rattle.std.proofs.Common.{◌≡◌, ℕ, ◌+◌, Bool, true, false, if◌then◌else◌, ◌||◌, not, nat_le, nat_eq, ◌==◌, List, [], ◌∷◌, ◌++◌, length, drop, map, filter, flat_map, decimal, bytes_eq, codes, IfOk, Ok, Err, refl, ap, sym, ◌∙◌, append-nil, append_assoc, arith}
 use Rattle.std.specs.List.{list_all, list_any, starts_with, slice_split, before_last, after_last, join_with_byte}
-use Rattle.std.proofs.lemmas.Bool.{and_parts, and_from, cond-true, cond-false}
+use Rattle.std.proofs.lemmas.Bool.{and_from, cond-true}
 use Rattle.hex.specs.Hex.{IsBytes}
 use Rattle.sock_words.specs.Printed.{word, hex_text}
-use Rattle.brpc_model.specs.Text.{has_bytes, number_in, is_name_byte, spelled_in, method_in, service_in, hex_in}
+use Rattle.brpc_model.specs.Text.{has_bytes, number_in, is_name_byte, method_in, service_in, hex_in}
 use Rattle.brpc_model.specs.Reads.{Reads, ◌<*>◌, values_of, option_in, are_known}
 use Rattle.brpc_model.specs.Items.{CallLine}
 use Rattle.brpc_model.specs.Lines.{names_in, bodies_in, call_in}
 use Rattle.brpc_model.specs.ScriptText.{option_text, att_text, call_text}
-use Rattle.script_print.proofs.Spaced.{is_word, is_word_byte}
-use Rattle.script_print.proofs.Gives.{with_part, of_part, of_parts, of_part_test, of_test}
-use Rattle.script_print.proofs.Tokens.{IsWithin, IsSpelled, spelled, name_word_byte, service_word_byte, hex_word, hex_back, hex_bytes, none_bytes}
+use Rattle.script_print.proofs.Spaced.{is_word}
+use Rattle.script_print.proofs.Gives.{with_part, of_parts, of_part_test, of_test}
+use Rattle.script_print.proofs.Tokens.{IsSpelled, spelled, name_word_byte, service_word_byte, hex_word, hex_back, hex_bytes, none_bytes}
 use Rattle.script_print.proofs.Parts.{unless, passed_over, picked, all_unless, option_back, behind_key, of_option, IsOption, number_option, number_option_back, number_option_word, IsNames, names_of, names_back, names_word, joined_word, before_dot, after_dot, word_parts}
 use Rattle.script_print.proofs.Shapes.{option_words}
 

@@ -1,10 +1,10 @@
 -- What depends on the items of the setup and the clients alone stays where the other lines are put elsewhere.
-use Rattle.std.proofs.Common.{◌≡◌, ℕ, ◌+◌, Bool, true, false, cond, if◌then◌else◌, ◌&&◌, ◌||◌, not, nat_lt, nat_le, List, [], ◌∷◌, ◌++◌, length, fold, flat_map, filter, filter_map, count_by, Option, Some, None, refl, ap, sym, ◌∙◌, arith}
+use Rattle.std.proofs.Common.{◌≡◌, ℕ, ◌+◌, Bool, true, false, cond, if◌then◌else◌, ◌||◌, not, List, [], ◌∷◌, ◌++◌, fold, flat_map, filter, filter_map, count_by, Option, None, refl, ap, sym, ◌∙◌, arith}
 use Rattle.std.specs.List.{list_any, cons_option}
 use Rattle.std.proofs.lemmas.Bool.{cond-true, cond-false, false≢true, true≢false}
-use Rattle.brpc_model.specs.Items.{Item, Seat, Slots, Requests, First, Open, Client, Send, Call, Expire, Join, Fail, Hold, Drop, Sched, Tick, To, is_client, is_open, is_size, is_sched, is_turn, is_operation, is_join, mentioned, opened_name}
+use Rattle.brpc_model.specs.Items.{Item, Seat, Slots, Requests, First, Open, Client, Send, Call, Expire, Join, Fail, Hold, Drop, Sched, Tick, To, is_client, is_open, is_size, is_sched, is_turn, is_operation, mentioned, opened_name}
 use Rattle.brpc_model.specs.Places.{names, with_names, is_held, held_behind}
-use Rattle.brpc_model.specs.Operations.{operations, operations_from, clients, link_names, turn_of, schedule}
+use Rattle.brpc_model.specs.Operations.{operations, operations_from, link_names, turn_of, schedule}
 use Rattle.brpc_model.specs.Script.{is_unserved}
 
 -- an operation or the beginning of a client

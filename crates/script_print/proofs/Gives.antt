@@ -1,6 +1,5 @@
 -- What holds of the value of a part, where it was read.
-use Rattle.std.proofs.Common.{◌≡◌, ℕ, Bool, true, false, cond, Result, Ok, Err, IfOk, refl, sym, ◌∙◌, Option, Some, None}
-use Rattle.std.proofs.lemmas.Bool.{cond-true, cond_both}
+use Rattle.std.proofs.Common.{◌≡◌, ℕ, Bool, true, false, cond, Ok, Err, IfOk, refl}
 use Rattle.brpc_model.specs.Reads.{Reads, ◌<*>◌, ◌>>=◌}
 
 -- one more part

@@ -7,3 +7,5 @@ pub mod Calls
 pub mod Formed
 pub mod Frames
 pub mod Placed
+pub mod PrintedLines
+pub mod Again

@@ -1,20 +1,19 @@
 -- The parts of a line: lists of names, service and method, options, seats and kinds of step.
-use Rattle.std.proofs.Common.{◌≡◌, ℕ, zero, suc, ◌+◌, ◌-◌, ◌^◌, ◌<◌, ◌≤◌, Bool, true, false, cond, if◌then◌else◌, ◌&&◌, ◌||◌, not, nat_le, nat_lt, nat_eq, ◌==◌, List, [], ◌∷◌, ◌++◌, length, get_or, take, drop, map, filter, count_by, flat_map, decimal, bytes_eq, codes, IfOk, Result, Ok, Err, Option, Some, None, IfSome, refl, ap, sym, subst, ◌∙◌, append-nil, append_assoc, arith, eq-eqb, eqb-true, ne_eqb, inl, inr, ◌⊎◌, All, length-append}
-use Rattle.std.specs.List.{list_all, list_any, starts_with, slice_split, before_last, after_last, suffix_len, join_with_byte}
-use Rattle.std.proofs.lemmas.Bool.{and_parts, and_from, or_cases, or_left, or_right, cond-true, cond-false, false≢true, cases_Bool}
+use Rattle.std.proofs.Common.{◌≡◌, ℕ, suc, ◌+◌, ◌-◌, ◌^◌, ◌<◌, Bool, true, false, if◌then◌else◌, not, nat_le, nat_lt, ◌==◌, List, [], ◌∷◌, ◌++◌, length, get_or, take, drop, map, filter, count_by, decimal, bytes_eq, IfOk, Ok, Err, refl, ap, sym, ◌∙◌, arith, eq-eqb, eqb-true, ne_eqb, inl, inr, ◌⊎◌, All, length-append}
+use Rattle.std.specs.List.{list_all, list_any, slice_split, before_last, after_last, suffix_len, join_with_byte}
+use Rattle.std.proofs.lemmas.Bool.{and_parts, and_from, or_cases, cond-true, cond-false, false≢true}
 use Rattle.std.proofs.lemmas.List.{get_or-append-add}
 use Rattle.std.proofs.lemmas.List.Sums.{suffix_len_is}
 use Rattle.std.proofs.lemmas.List.Splits.{slice_split_none, slice_split_at}
 use Rattle.std.proofs.lemmas.Slice.Eq.{bytes_eq-Decides}
 use Rattle.std.proofs.Math.Seq.{take-append_seam, drop-append-add}
 use Rattle.std.specs.Char.{is_ascii_digit}
-use Rattle.hex.specs.Hex.{IsBytes}
-use Rattle.brpc_model.specs.Text.{number_in, is_name_byte, name_in, spelled_in}
-use Rattle.brpc_model.specs.Reads.{Reads, ◌<*>◌, ◌>>=◌, values_of, option_in, are_known}
+use Rattle.brpc_model.specs.Text.{number_in, is_name_byte, name_in}
+use Rattle.brpc_model.specs.Reads.{Reads, ◌<*>◌, ◌>>=◌, option_in}
 use Rattle.brpc_model.specs.Items.{Item, Seat, ClientSeat, ReaderSeat, is_client, is_open}
 use Rattle.brpc_model.specs.Lines.{kind_names, kind_in, names_in, target_in, seat_in}
 use Rattle.brpc_model.specs.ScriptText.{seat_text}
-use Rattle.script_print.proofs.Spaced.{is_word, is_word_byte, none_of, all_append, all_implied}
+use Rattle.script_print.proofs.Spaced.{is_word, is_word_byte, none_of, all_append}
 use Rattle.script_print.proofs.Gives.{of_test, of_part, of_parts, of_next, of_either, weaker}
 use Rattle.script_print.proofs.Tokens.{IsWithin, IsSpelled, number_within, number_back, decimal_word, decimal_digits, spelled, name_word_byte}
 

@@ -1,7 +1,7 @@
 -- Where each item of a script may stand, and that the items of the printed script may stand in their new order.
-use Rattle.std.proofs.Common.{◌≡◌, ℕ, ◌+◌, ◌<◌, ◌≤◌, Bool, true, false, cond, if◌then◌else◌, ◌&&◌, ◌||◌, not, nat_lt, nat_le, List, [], ◌∷◌, ◌++◌, length, fold, map, filter, count_by, Option, Some, None, IfOk, Result, Ok, Err, refl, ap, sym, subst, ◌∙◌, append_assoc, append-nil, arith}
+use Rattle.std.proofs.Common.{◌≡◌, ℕ, ◌+◌, Bool, true, false, cond, ◌&&◌, ◌||◌, not, nat_lt, nat_le, List, [], ◌∷◌, ◌++◌, length, fold, map, filter, count_by, Option, Some, None, IfOk, Ok, Err, refl, ap, sym, subst, ◌∙◌, append_assoc, append-nil}
 use Rattle.std.specs.List.{list_any}
-use Rattle.std.proofs.lemmas.Bool.{cond-true, cond-false, false≢true, true≢false, or_parts, or_from, or_left, or_right, and_left, and_right, not-true, not-false, cases_Bool, both_ways}
+use Rattle.std.proofs.lemmas.Bool.{cond-true, cond-false, false≢true, true≢false, or_parts, or_from, or_left, and_left, and_right, not-false, both_ways}
 use Rattle.std.proofs.lemmas.List.Folds.{list_any-append}
 use Rattle.std.proofs.lemmas.List.Elements.{filter-append}
 use Rattle.brpc_model.specs.Reads.{Reads, ◌>>=◌}
@@ -14,7 +14,7 @@ use Rattle.brpc_model.proofs.Growing.{names_more, items_some, items_none, stays}
 use Rattle.script_print.proofs.Gives.{of_next}
 use Rattle.script_print.proofs.Parts.{IsSeat}
 use Rattle.script_print.proofs.Formed.{IsFormed, Said, said_formed, line_back}
-use Rattle.script_print.proofs.Frames.{is_body, by_test, other_cases, turn_cases, body_cases, clients_same, opens_same, operations_count_same, any_client_same, names_same, held_same, turns_same}
+use Rattle.script_print.proofs.Frames.{is_body, by_test, turn_cases, body_cases, clients_same, opens_same, operations_count_same, any_client_same, names_same, held_same, turns_same}
 
 -- an item behind those of the lines before it
 pub record Stands (before : List Item) (item : Item) : Type 0 where

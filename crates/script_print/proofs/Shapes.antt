@@ -1,19 +1,17 @@
 -- The options of an `open`: what was read is printed so that it is read again as the same.
-use Rattle.std.proofs.Common.{◌≡◌, ℕ, ◌+◌, ◌%◌, ◌^◌, ◌≤◌, ◌<◌, Bool, true, false, cond, if◌then◌else◌, ◌&&◌, ◌||◌, not, nat_le, nat_eq, ◌==◌, List, [], ◌∷◌, ◌++◌, length, drop, map, filter, flat_map, decimal, bytes_eq, codes, IfOk, IfSome, Result, Ok, Err, Option, Some, None, refl, ap, sym, ◌∙◌, append-nil, append_assoc, arith, inl, inr}
-use Rattle.std.specs.List.{list_all, list_any, starts_with, slice_split, before_last, after_last, join_with_byte}
-use Rattle.std.proofs.lemmas.Bool.{and_parts, and_from, cond-true, cond-false}
-use Rattle.std.proofs.lemmas.Grind.{flat_map-append}
-use Rattle.hex.specs.Hex.{IsBytes}
-use Rattle.sock_words.specs.Printed.{word, hex_text}
-use Rattle.brpc_model.specs.Text.{words, number_in, is_name_byte, name_in, method_in, service_in, hex_in, sized}
-use Rattle.brpc_model.specs.Reads.{Reads, ◌<*>◌, ◌>>=◌, values_of, option_in, are_known}
-use Rattle.brpc_model.specs.Items.{Shape, CallLine, Seat, Item, Slots, Requests, First, Open, Client, Send, Call, Expire, Join, Fail, Hold, Drop, Sched, Tick, To}
-use Rattle.brpc_model.specs.Lines.{kind_in, shape_in, names_in, bodies_in, call_in, target_in, seat_in, alone, of_name, of_number, first_item, open_item, send_item, call_item, target_item, fail_item, tick_item, to_item, item_of, line_item, is_text_byte}
-use Rattle.brpc_model.specs.ScriptText.{option_text, end_text, shape_text, att_text, call_text, target_text, seat_text, item_text}
-use Rattle.script_print.proofs.Spaced.{is_word, is_word_byte, words_spaced, text_spaced, all_append}
-use Rattle.script_print.proofs.Gives.{with_part, of_part, of_parts, of_next, of_test, of_part_test, of_either, weaker}
-use Rattle.script_print.proofs.Tokens.{IsWithin, IsSpelled, number_within, number_back, decimal_word, spelled, name_word_byte, service_word_byte, hex_word, hex_back, hex_bytes, sized_reads, sized_same, none_bytes}
-use Rattle.script_print.proofs.Parts.{unless, passed_over, picked, all_unless, option_back, behind_key, of_option, IsOption, number_option, number_option_back, number_option_word, IsName, named, IsNames, names_of, names_back, names_word, joined_word, before_dot, after_dot, IsTarget, target_of, target_back, target_word, IsSeat, seated, seat_back, seat_word, IsKind, kind_of, word_parts}
+use Rattle.std.proofs.Common.{◌≡◌, ℕ, Bool, true, false, if◌then◌else◌, ◌||◌, not, nat_eq, ◌==◌, List, [], ◌∷◌, ◌++◌, drop, map, filter, flat_map, decimal, bytes_eq, codes, IfOk, IfSome, Ok, Err, Option, Some, None, refl, ap, sym, ◌∙◌, append-nil, append_assoc, arith}
+use Rattle.std.specs.List.{list_all, list_any, starts_with}
+use Rattle.std.proofs.lemmas.Bool.{and_from, cond-true, cond-false}
+use Rattle.sock_words.specs.Printed.{word}
+use Rattle.brpc_model.specs.Text.{number_in}
+use Rattle.brpc_model.specs.Reads.{Reads, ◌<*>◌, values_of, option_in, are_known}
+use Rattle.brpc_model.specs.Items.{Shape}
+use Rattle.brpc_model.specs.Lines.{shape_in}
+use Rattle.brpc_model.specs.ScriptText.{option_text, end_text, shape_text}
+use Rattle.script_print.proofs.Spaced.{is_word}
+use Rattle.script_print.proofs.Gives.{with_part, of_part, of_parts, of_part_test}
+use Rattle.script_print.proofs.Tokens.{IsWithin, number_within, number_back, decimal_word}
+use Rattle.script_print.proofs.Parts.{unless, passed_over, picked, all_unless, behind_key, of_option, IsOption, number_option, number_option_back, number_option_word, word_parts}
 
 -- ## The shape of a link
 

@@ -1,6 +1,6 @@
 -- Words behind one another, with a space between each two, are read as these words.
-use Rattle.std.proofs.Common.{◌≡◌, ℕ, Bool, true, false, ◌&&◌, not, nat_le, ◌==◌, List, [], ◌∷◌, ◌++◌, length, filter, flat_map, get_or, refl, ap, sym, ◌∙◌, append_assoc, append-nil, arith, leb-true, ne_eqb, All}
-use Rattle.std.specs.List.{slice_split, list_all, AllPass}
+use Rattle.std.proofs.Common.{◌≡◌, ℕ, Bool, true, false, ◌&&◌, nat_le, ◌==◌, List, [], ◌∷◌, ◌++◌, filter, flat_map, refl, ap, ◌∙◌, append-nil, arith, leb-true, ne_eqb, All}
+use Rattle.std.specs.List.{slice_split, list_all}
 use Rattle.std.proofs.lemmas.Bool.{and_parts, and_from, cond-true}
 use Rattle.std.proofs.lemmas.List.Splits.{slice_split_none, slice_split_at}
 use Rattle.std.proofs.lemmas.List.Sums.{AllPass-from_list_all}

@@ -1,7 +1,7 @@
 -- Numbers, names and hexadecimal: what was read is spelled so that it is read again as the same.
-use Rattle.std.proofs.Common.{◌≡◌, ℕ, zero, suc, ◌+◌, ◌/◌, ◌%◌, ◌*◌, ◌^◌, ◌<◌, ◌≤◌, Bool, true, false, cond, ◌&&◌, ◌||◌, not, nat_le, nat_lt, nat_eq, ◌==◌, List, [], ◌∷◌, ◌++◌, length, get_or, slice_index, decimal, bytes_eq, codes, IfOk, Result, Ok, Err, refl, ap, sym, ◌∙◌, arith, le-leb, leb-true, lt-ltb, eq-eqb, ne_eqb, inl, inr}
+use Rattle.std.proofs.Common.{◌≡◌, ℕ, suc, ◌/◌, ◌%◌, ◌^◌, ◌<◌, ◌≤◌, Bool, true, false, cond, ◌&&◌, ◌||◌, not, nat_le, nat_eq, ◌==◌, List, [], ◌∷◌, length, slice_index, decimal, bytes_eq, codes, IfOk, Result, Ok, Err, refl, ap, ◌∙◌, arith, le-leb, leb-true, ne_eqb, inl, inr}
 use Rattle.std.specs.List.{list_all}
-use Rattle.std.specs.Char.{is_ascii_digit, digit_value}
+use Rattle.std.specs.Char.{is_ascii_digit}
 use Rattle.std.specs.Str.Parse.{AllDigits, digits_value}
 use Rattle.std.proofs.lemmas.Str.Parse.{digit_from_value}
 use Rattle.std.proofs.lemmas.Fmt.{decimal_is_IsNumeral, first_decimal, decimal_digit}
@@ -11,7 +11,6 @@ use Rattle.hex.specs.declared.error.FromHexError.{FromHexError}
 use Rattle.hex.proofs.HexLemmas.{decode_of-ok, decode_of-encode_lower}
 use Rattle.sock_words.specs.Printed.{hex_text}
 use Rattle.brpc_model.specs.Text.{has_bytes, is_numeral, number_in, is_name_byte, spelled_in, pairs_in, hex_in, sized}
-use Rattle.brpc_model.specs.Reads.{Reads}
 use Rattle.script_print.proofs.Spaced.{is_word, is_word_byte, all_implied}
 use Rattle.script_print.proofs.Gives.{of_test, of_either}
 
