@@ -12,7 +12,7 @@ use Rattle.brpc_model.specs.ScriptText.{option_text, att_text, call_text}
 use Rattle.script_print.proofs.Spaced.{is_word}
 use Rattle.script_print.proofs.Gives.{with_part, of_parts, of_part_test, of_test}
 use Rattle.script_print.proofs.Tokens.{IsSpelled, spelled, name_word_byte, service_word_byte, hex_word, hex_back, hex_bytes, none_bytes}
-use Rattle.script_print.proofs.Parts.{unless, passed_over, picked, all_unless, option_back, behind_key, of_option, IsOption, number_option, number_option_back, number_option_word, IsNames, names_of, names_back, names_word, joined_word, before_dot, after_dot, word_parts}
+use Rattle.script_print.proofs.PartLemmas.{unless, passed_over, picked, all_unless, option_back, behind_key, of_option, IsOption, number_option, number_option_back, number_option_word, IsNames, names_of, names_back, names_word, joined_word, before_dot, after_dot, word_parts}
 use Rattle.script_print.proofs.Shapes.{option_words}
 
 -- two bodies that a call may have

@@ -12,7 +12,7 @@ use Rattle.brpc_model.specs.ScriptText.{seat_text, item_text}
 use Rattle.script_print.proofs.Spaced.{is_word, words_spaced, text_spaced}
 use Rattle.script_print.proofs.Gives.{of_part, of_parts, of_next, of_test, of_either}
 use Rattle.script_print.proofs.Tokens.{IsWithin, number_within, number_back, decimal_word, hex_word, hex_back, hex_bytes, sized_reads, sized_same}
-use Rattle.script_print.proofs.Parts.{IsName, named, IsTarget, target_of, target_back, target_word, IsSeat, seated, seat_back, seat_word, IsKind, kind_of}
+use Rattle.script_print.proofs.PartLemmas.{IsName, named, IsTarget, target_of, target_back, target_word, IsSeat, seated, seat_back, seat_word, IsKind, kind_of}
 use Rattle.script_print.proofs.Shapes.{IsShape, shaped, shape_words, shape_back, shape_text_words, shape_words_are}
 use Rattle.script_print.proofs.Calls.{IsCallLine, called, call_options, call_back, call_words_are, call_text_words}
 

@@ -1,7 +1,7 @@
 pub mod Spaced
 pub mod Gives
 pub mod Tokens
-pub mod Parts
+pub mod PartLemmas
 pub mod Shapes
 pub mod Calls
 pub mod Formed

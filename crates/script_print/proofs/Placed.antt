@@ -12,7 +12,7 @@ use Rattle.brpc_model.specs.Script.{Faulty, items, said_behind, one_more, with_l
 use Rattle.brpc_model.specs.ScriptText.{item_text}
 use Rattle.brpc_model.proofs.Growing.{names_more, items_some, items_none, stays}
 use Rattle.script_print.proofs.Gives.{of_next}
-use Rattle.script_print.proofs.Parts.{IsSeat}
+use Rattle.script_print.proofs.PartLemmas.{IsSeat}
 use Rattle.script_print.proofs.Formed.{IsFormed, Said, said_formed, line_back}
 use Rattle.script_print.proofs.Frames.{is_body, by_test, turn_cases, body_cases, clients_same, opens_same, operations_count_same, any_client_same, names_same, held_same, turns_same}
 

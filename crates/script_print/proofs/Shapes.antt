@@ -11,7 +11,7 @@ use Rattle.brpc_model.specs.ScriptText.{option_text, end_text, shape_text}
 use Rattle.script_print.proofs.Spaced.{is_word}
 use Rattle.script_print.proofs.Gives.{with_part, of_part, of_parts, of_part_test}
 use Rattle.script_print.proofs.Tokens.{IsWithin, number_within, number_back, decimal_word}
-use Rattle.script_print.proofs.Parts.{unless, passed_over, picked, all_unless, behind_key, of_option, IsOption, number_option, number_option_back, number_option_word, word_parts}
+use Rattle.script_print.proofs.PartLemmas.{unless, passed_over, picked, all_unless, behind_key, of_option, IsOption, number_option, number_option_back, number_option_word, word_parts}
 
 -- ## The shape of a link
 

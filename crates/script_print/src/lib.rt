@@ -1,2 +1,5 @@
-//! Scripts printed and generated.
+//! Scripts printed, and the scripts that are drawn from a seed.
 #![tactic(auto)]
+
+mod parts;
+
