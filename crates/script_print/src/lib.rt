@@ -1,5 +1,6 @@
 //! Scripts printed, and the scripts that are drawn from a seed.
 #![tactic(auto)]
 
+mod lines;
 mod parts;
 
