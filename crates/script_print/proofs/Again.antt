@@ -12,9 +12,11 @@ use Rattle.brpc_model.specs.ScriptText.{scheduled, printed_items}
 use Rattle.script_print.specs.ReadBack.{IsScript, IsSameScript, IsReadBack}
 use Rattle.script_print.proofs.Tokens.{IsWithin}
 use Rattle.script_print.proofs.Formed.{IsFormed}
-use Rattle.script_print.proofs.Frames.{is_body, by_test, other_cases, turn_cases, body_cases, any_filter, filter_twice, filter_again, clients_same, link_names_same, names_same, operations_same, unserved_same, schedule_same}
+use Rattle.script_print.specs.PrintedParts.{is_body}
+use Rattle.script_print.proofs.Frames.{by_test, other_cases, turn_cases, body_cases, any_filter, filter_twice, filter_again, clients_same, link_names_same, names_same, operations_same, unserved_same, schedule_same}
 use Rattle.script_print.proofs.Placed.{Stand, stand_append, More, lines_stand, lines_again, body_stand, turns_stand, sched_stands}
-use Rattle.script_print.proofs.PrintedLines.{line, lines_printed}
+use Rattle.script_print.specs.PrintedParts.{line}
+use Rattle.script_print.proofs.PrintedLines.{lines_printed}
 
 -- ## Tests over what the lines say
 

@@ -6,10 +6,7 @@ use Rattle.brpc_model.specs.Items.{Item, Seat, Slots, Requests, First, Open, Cli
 use Rattle.brpc_model.specs.Places.{names, with_names, is_held, held_behind}
 use Rattle.brpc_model.specs.Operations.{operations, operations_from, link_names, turn_of, schedule}
 use Rattle.brpc_model.specs.Script.{is_unserved}
-
--- an operation or the beginning of a client
-abbrev pub is_body : Item → Bool
-is_body i = not (is_size i || is_sched i || is_turn i)
+use Rattle.script_print.specs.PrintedParts.{is_body}
 
 -- ## Cases
 

@@ -14,7 +14,8 @@ use Rattle.brpc_model.proofs.Growing.{names_more, items_some, items_none, stays}
 use Rattle.script_print.proofs.Gives.{of_next}
 use Rattle.script_print.proofs.PartLemmas.{IsSeat}
 use Rattle.script_print.proofs.Formed.{IsFormed, Said, said_formed, line_back}
-use Rattle.script_print.proofs.Frames.{is_body, by_test, turn_cases, body_cases, clients_same, opens_same, operations_count_same, any_client_same, names_same, held_same, turns_same}
+use Rattle.script_print.specs.PrintedParts.{is_body}
+use Rattle.script_print.proofs.Frames.{by_test, turn_cases, body_cases, clients_same, opens_same, operations_count_same, any_client_same, names_same, held_same, turns_same}
 
 -- an item behind those of the lines before it
 pub record Stands (before : List Item) (item : Item) : Type 0 where

@@ -7,13 +7,10 @@ use Rattle.std.proofs.lemmas.List.Splits.{slice_split_at, length-slice_split}
 use Rattle.brpc_model.specs.Items.{Item}
 use Rattle.brpc_model.specs.Lines.{is_text_byte}
 use Rattle.brpc_model.specs.ScriptText.{item_text}
+use Rattle.script_print.specs.PrintedParts.{line}
 use Rattle.script_print.proofs.Spaced.{none_of}
 use Rattle.script_print.proofs.Formed.{line_text}
 use Rattle.script_print.proofs.Placed.{Stand}
-
--- a line and its end
-abbrev pub line : Item → List ℕ
-line item = item_text item ++ 10 ∷ []
 
 no_end : (b : ℕ) → is_text_byte b ≡ true → (b == 10) ≡ false
 no_end b h =

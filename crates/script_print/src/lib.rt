@@ -3,4 +3,5 @@
 
 mod lines;
 mod parts;
+mod script_text;
 
