@@ -9,3 +9,4 @@ pub mod Frames
 pub mod Placed
 pub mod PrintedLines
 pub mod Again
+pub mod Written

@@ -2,6 +2,7 @@
 #![tactic(auto)]
 
 mod lines;
+mod output;
 mod parts;
 mod script_text;
 

@@ -1,4 +1,5 @@
-ghost use Rattle.std.specs.Prelude.{◌≡◌, [], ◌++◌, map, IfOk, OnOk};
+ghost use Rattle.std.specs.Prelude.{◌≡◌, [], ◌++◌, filter, map, IfOk, OnOk};
+ghost use Rattle.std.specs.List.{list_any};
 ghost use Rattle.brpc_model.specs.Items.{is_turn};
 ghost use Rattle.brpc_model.specs.Operations.{slots, requests, first_version};
 ghost use Rattle.brpc_model.specs.ScriptText.{script_text};
@@ -130,4 +131,52 @@ fn push_body(alloc: Global, text: &mut Vec<u8>, lines: &[Line]) -> Result<(), Al
         push_where(alloc, text, line, is_body(line))?;
     }
     Ok(())
+}
+
+/// Appends the lines of the schedule.
+fn push_turns(alloc: Global, text: &mut Vec<u8>, lines: &[Line]) -> Result<(), AllocError>
+    ensures { OnOk result (
+        text.new.items ≡ text.old.items ++ lines_text (filter is_turn (map item lines.now))) }
+{
+    for line in lines {
+        push_where(alloc, text, line, is_turn(line))?;
+    }
+    Ok(())
+}
+
+/// Whether the lines have a schedule.
+fn has_turns(lines: &[Line]) -> bool
+    ensures { result ≡ list_any is_turn (map item lines.now) }
+{
+    for line in lines {
+        if is_turn(line) {
+            return true;
+        }
+    }
+    false
+}
+
+/// Appends the schedule behind its `sched`, where it has lines.
+fn push_schedule(alloc: Global, text: &mut Vec<u8>, lines: &[Line]) -> Result<(), AllocError>
+    ensures { OnOk result (
+        text.new.items ≡ text.old.items ++ lines_text (schedule_items (map item lines.now))) }
+{
+    if !has_turns(lines) {
+        return Ok(());
+    }
+    text.extend_from_slice(b"sched\n")?;
+    push_turns(alloc, text, lines)
+}
+
+/// The text of a script: the sizes that differ from their defaults, the setup and the clients,
+/// and the schedule where it has lines.
+pub fn text_of(alloc: Global, script: &Script) -> Result<Vec<u8>, AllocError>
+    ensures { IfOk result (λ text. text.items ≡ script_text script.now) }
+{
+    let lines = script.lines();
+    let mut text = Vec::new(alloc);
+    push_sizes(&mut text, lines)?;
+    push_body(alloc, &mut text, lines)?;
+    push_schedule(alloc, &mut text, lines)?;
+    Ok(text)
 }
