@@ -1,0 +1,12 @@
+//! Scripts printed, and the scripts that are drawn from a seed.
+#![tactic(auto)]
+
+mod draws;
+mod lines;
+mod output;
+mod parts;
+mod print;
+mod script_text;
+
+pub use print::{PrintFault, print_script};
+
