@@ -82,6 +82,8 @@ fn answered(alloc: Global, id: u64, payload: &[u8]) -> Result<Outcome, AllocErro
 fn outcomes_are_shown(rt: HostRuntime) -> Result<(), Fail> {
     let alloc = rt.alloc();
     let found = Vref::pack(2, 1);
+    assert_eq!(rt; answered(alloc, 1, b"hi")?, answered(alloc, 1, b"hi")?);
+    assert_ne!(rt; answered(alloc, 1, b"hi")?, answered(alloc, 1, b"ho")?);
     let table: [(Outcome, &str); 23] = [
         (
             Outcome::Opened {

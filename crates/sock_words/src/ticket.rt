@@ -1,9 +1,10 @@
 ghost use Rattle.std.specs.Prelude.{◌≡◌};
 ghost use Rattle.sock_words.specs.Words.{ticket, ticket_idle, ticket_generation, ticket_request, HasRequest, FitsTicket, IsTicket, OnlyTicket};
 
-/// A ticket: the mark of a writer's request in the head of a write chain. It has the slot of the
-/// request and the generation in which the request was claimed, so that no ticket comes twice. A
-/// head that is idle keeps the last ticket beside the mark that it is idle.
+/// A ticket: the mark of a writer's request in the head of a write chain (bRPC's io.md). It has the
+/// slot of the request and the generation in which the request was claimed, so that no ticket comes
+/// twice. A head that is idle keeps the last ticket beside the mark that it is idle. bRPC has the
+/// request's address here; the generation and the ticket that stays are this project's own.
 #[derive(Clone, Copy, Debug, PartialEq, Eq)]
 pub struct Ticket(u64);
 
