@@ -51,12 +51,14 @@ fn words_are_read_back(rt: HostRuntime) {
     assert_eq!(rt; (call.first(), call.range(), call.attempt()), (1, 8, 6));
     assert_eq!(rt; (call.oldest(), call.second()), (5, 4));
     let at = AtWord::pack(1, 2, 3, 4);
-    assert!(rt; AtWord::from_word(at.word()) == at);
+    assert!(rt; AtWord::from_word(at.word()) == at && !at.is_none() && AtWord::NONE.is_none());
     assert_eq!(rt; (at.first(), at.slot()), (1, 2));
     assert_eq!(rt; (at.link(), at.attempt()), (3, 4));
     let place = PlaceWord::pack(true, 1, 2);
     assert!(rt; place.dropped() && PlaceWord::from_word(place.word()) == place);
     assert_eq!(rt; (place.link(), place.position()), (1, 2));
+    assert!(rt; !place.is_none() && PlaceWord::NONE.is_none());
+    assert!(rt; !ticket.is_idle_alone() && Ticket::IDLE.is_idle_alone());
 }
 
 #[test]
