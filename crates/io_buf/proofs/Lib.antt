@@ -1,3 +1,4 @@
+mod Fronts
 mod Pieces
 mod Sizes
 mod Steps

@@ -49,8 +49,9 @@ impl IoBuf {
         self.room.take_longer(room);
     }
 
-    /// Lets the buffer go, and gives each of its blocks that comes free so back to the pool.
-    pub fn give_back(mut self, pool: &mut BlockPool)
+    /// Lets the buffer go, and gives each block that comes free so back to the pool: those that no
+    /// other buffer has a reference to.
+    pub fn recycle(mut self, pool: &mut BlockPool)
         ensures { pool.old ≤ pool.new }
     {
         while let Some(piece) = self.pop_piece() {
