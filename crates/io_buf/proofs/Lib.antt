@@ -1,4 +1,4 @@
 mod Fronts
-mod Pieces
-mod Sizes
+pub mod Pieces
+pub mod Sizes
 mod Steps

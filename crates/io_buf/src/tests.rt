@@ -37,20 +37,27 @@ fn cuts(rt: HostRuntime) -> Result<(), Fail> {
     Ok(())
 }
 
+// That the blocks are really shared is seen at the pool: none comes free with the copy.
 #[test]
 fn shares(rt: HostRuntime) -> Result<(), Fail> {
-    let mut pool = BlockPool::new(rt.alloc());
+    let mut pool = two_blocks(&rt)?;
     let mut buf = IoBuf::new(rt.alloc());
     buf.append_bytes(&mut pool, [b'a'; 8_193].as_slice())?;
     let mut copy = buf.share()?;
-    assert_eq!(rt; (copy.len(), copy.refs()), (8_193, 2));
+    let again = buf.share()?;
+    assert_eq!(rt; (copy.len(), copy.refs(), pool.kept()), (8_193, 2, 0));
     assert!(rt; !copy.is_empty() && !buf.is_empty());
-    assert!(rt; std::ptr::eq(copy.first_piece().as_ptr(), buf.first_piece().as_ptr()));
+    assert!(rt; copy.first_piece() == buf.first_piece());
     copy.pop_front(8_192);
     assert!(rt; has(&copy, b"a"));
     assert_eq!(rt; buf.len(), 8_193);
     assert!(rt; !buf.is_empty());
     assert_eq!(rt; buf.first_piece().len(), 8_192);
+    copy.recycle(&mut pool);
+    again.recycle(&mut pool);
+    assert_eq!(rt; pool.kept(), 0);
+    buf.recycle(&mut pool);
+    assert_eq!(rt; pool.kept(), 2);
     Ok(())
 }
 
