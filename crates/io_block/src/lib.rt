@@ -3,6 +3,8 @@
 
 mod memory;
 mod pool;
+#[cfg(test)]
+mod tests;
 
 pub use memory::NoMemory;
 pub use pool::{BLOCK_BYTES, BlockPool, KEPT_BLOCKS};

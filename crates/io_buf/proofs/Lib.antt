@@ -1,3 +1,4 @@
-mod Pieces
-mod Sizes
+mod Fronts
+pub mod Pieces
+pub mod Sizes
 mod Steps

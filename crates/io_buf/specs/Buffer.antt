@@ -37,11 +37,11 @@ piece_at b place = take (slice_index b.sizes place) (drop (sum (take place b.siz
 abbrev pub IsPiece : List ℕ → Type 0
 IsPiece piece = (0 < length piece) × (length piece ≤ BLOCK_BYTES)
 
--- new is old with the piece at its end, which took n of the spare references
-pub record AddsPiece (old new : Buffer) (piece : List ℕ) (n : ℕ) : Type 0 where
+-- new is old with the piece at its end, which took one of the spare references
+pub record AddsPiece (old new : Buffer) (piece : List ℕ) : Type 0 where
   pub items : new.items ≡ old.items ++ piece
   pub sizes : new.sizes ≡ old.sizes ++ length piece ∷ []
-  pub spare : new.spare + n ≡ old.spare
+  pub spare : new.spare + 1 ≡ old.spare
 
 -- new is old with the piece in front, which took one of the spare references
 pub record PutsPieceFirst (old new : Buffer) (piece : List ℕ) : Type 0 where

@@ -1,8 +1,8 @@
-ghost use Rattle.std.specs.Prelude.{◌≡◌, ℕ, ◌+◌, ◌<◌, ◌≤◌, ◌==◌, List, [], ◌∷◌, ◌++◌, length, sum, slice_index, take, IsOk, IfOk, OnOk, OnErr};
+ghost use Rattle.std.specs.Prelude.{◌≡◌, ◌<◌, ◌≤◌, ◌==◌, [], length, sum, slice_index, take, IsOk, OnOk, OnErr};
 
 use crate::room::Room;
 use bytes::Bytes;
-use io_block::{BLOCK_BYTES, BlockPool, NoMemory};
+use io_block::{BLOCK_BYTES, NoMemory};
 use std::alloc::Global;
 use std::collections::VecDeque;
 use std::marker::Model;
@@ -18,6 +18,10 @@ const MOST_REFS: usize = 1_125_899_906_842_624;
 /// A message as references to shared blocks (bRPC's iobuf.md). A contract sees its bytes as `items`,
 /// how many of them each reference has as `sizes`, and as `spare` the number of references that can
 /// be added without memory. Which blocks they lie in is seen nowhere.
+///
+/// Whether a block came free shows only as its last reference is given up. So blocks go back to a
+/// pool through the calls that are handed one, `append_bytes`, `recycle_front` and `recycle`, and
+/// `pop_front`, `pop_back` and a drop free them.
 #[derive(Drop)]
 pub struct IoBuf {
     pieces: VecDeque<Bytes>,
@@ -41,7 +45,7 @@ impl Model for IoBuf {
 }
 
 impl IoBuf {
-    ghost use Rattle.io_buf.specs.Buffer.{block_sizes, piece_at, IsPiece, AddsPiece};
+    ghost use Rattle.io_buf.specs.Buffer.{piece_at, IsPiece, AddsPiece};
 
     /// An empty buffer. It takes no memory.
     pub fn new(alloc: Global) -> IoBuf
@@ -130,7 +134,7 @@ impl IoBuf {
     fn push_reserved(&mut self, piece: Bytes)
         requires room { 0 < self.old.spare }
         requires piece { IsPiece piece }
-        ensures { AddsPiece self.old self.new piece 1 }
+        ensures { AddsPiece self.old self.new piece }
     {
         self.len += piece.len();
         self.pieces.push_back_reserved(piece);

@@ -1,6 +1,6 @@
-ghost use Rattle.std.specs.Prelude.{◌≡◌, ◌+◌, ◌<◌, ◌≤◌, List, [], ◌∷◌, ◌++◌, length, drop, IfOk, OnOk, OnErr, ℕ};
+ghost use Rattle.std.specs.Prelude.{◌≡◌, ℕ, ◌+◌, ◌<◌, ◌≤◌, List, [], ◌∷◌, ◌++◌, length, IfOk, OnOk, OnErr};
 ghost use Rattle.std.specs.Bool.{OnTrue};
-ghost use Rattle.io_buf.specs.Buffer.{block_sizes, IsPiece, AddsPiece};
+ghost use Rattle.io_buf.specs.Buffer.{block_sizes, IsPiece};
 
 use super::IoBuf;
 use crate::room::Room;
@@ -49,8 +49,9 @@ impl IoBuf {
         self.room.take_longer(room);
     }
 
-    /// Lets the buffer go, and gives each of its blocks that comes free so back to the pool.
-    pub fn give_back(mut self, pool: &mut BlockPool)
+    /// Lets the buffer go, and gives each block that comes free so back to the pool: those that no
+    /// other buffer has a reference to.
+    pub fn recycle(mut self, pool: &mut BlockPool)
         ensures { pool.old ≤ pool.new }
     {
         while let Some(piece) = self.pop_piece() {

@@ -1,8 +1,9 @@
-ghost use Rattle.std.specs.Prelude.{◌≡◌, ◌+◌, ◌-◌, ◌<◌, ◌≤◌, ℕ, List, [], ◌∷◌, ◌++◌, length, take, drop, MatchOption};
+ghost use Rattle.std.specs.Prelude.{◌≡◌, ◌+◌, ◌-◌, ◌<◌, ◌≤◌, [], length, take, drop, MatchOption};
 ghost use Rattle.io_buf.specs.Buffer.{front_sizes, rest_sizes, IsPiece, PutsPieceFirst, TakesLast, IsShorter};
 
 use super::IoBuf;
 use bytes::Bytes;
+use io_block::BlockPool;
 
 impl IoBuf {
     /// Drops the first n bytes. Each reference that goes takes the same time, however many there
@@ -16,7 +17,25 @@ impl IoBuf {
     {
         let keep = self.len - n;
         while self.len > keep {
-            self.advance_first(self.len - keep);
+            drop(self.advance_first(self.len - keep));
+        }
+    }
+
+    /// Drops the first n bytes, as `pop_front`, and gives each block that comes free so back to the
+    /// pool.
+    pub fn recycle_front(&mut self, pool: &mut BlockPool, n: usize)
+        requires { n ≤ length self.old.items }
+        ensures items { self.new.items ≡ drop n self.old.items }
+        ensures sizes { self.new.sizes ≡ rest_sizes n self.old.sizes }
+        ensures spare { self.new.spare + length self.new.sizes
+            ≡ self.old.spare + length self.old.sizes }
+        ensures pool { pool.old ≤ pool.new }
+    {
+        let keep = self.len - n;
+        while self.len > keep {
+            if let Some(piece) = self.advance_first(self.len - keep) {
+                pool.recycle(piece);
+            }
         }
     }
 
@@ -65,8 +84,8 @@ impl IoBuf {
         self.pieces.push_front_reserved(piece);
     }
 
-    // Drops up to n bytes of the first reference.
-    fn advance_first(&mut self, n: usize)
+    // Drops up to n bytes of the first reference, and returns it where it went whole.
+    fn advance_first(&mut self, n: usize) -> Option<Bytes>
         requires { (0 < n) × (n ≤ length self.old.items) }
         ensures shorter { IsShorter self.old self.new n }
         ensures items { self.new.items
@@ -80,7 +99,9 @@ impl IoBuf {
         if n < first.len() {
             first.advance(n);
             self.push_first_reserved(first);
+            return None;
         }
+        Some(first)
     }
 
     // Drops up to n bytes of the last reference.

@@ -1,5 +1,5 @@
 use Rattle.std.proofs.Common.{◌≤◌, length}
-use Rattle.io_buf.proofs.buf.IoBuf.give_back.Given as goal
+use Rattle.io_buf.proofs.buf.IoBuf.recycle.Given as goal
 
 abbrev pub invariant-loop-piece : goal.invariant-loop-piece
 invariant-loop-piece l = l.fn.pool ≤ l.pool
