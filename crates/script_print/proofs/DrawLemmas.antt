@@ -81,7 +81,3 @@ client_placed old new all x y clients i ops h grown behind before =
   where
     regroup : (a b c : List Item) → ((a ++ Client ∷ []) ++ b) ++ c ≡ a ++ (Client ∷ b ++ c)
     regroup a b c = append_assoc (a ++ Client ∷ []) b c ∙ append_assoc a (Client ∷ []) (b ++ c)
-
-pub map_push : {A B : Type 0} (f : A → B) (xs : List A) (x : A) → map f (xs ++ x ∷ []) ≡ map f xs ++ f x ∷ []
-map_push f [] x = refl
-map_push f (y ∷ xs) x = ap (λ zs. f y ∷ zs) (map_push f xs x)

@@ -11,3 +11,4 @@ pub mod PrintedLines
 pub mod Again
 pub mod Written
 pub mod DrawLemmas
+pub mod Generated

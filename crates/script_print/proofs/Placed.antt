@@ -118,11 +118,11 @@ many_same a b i e turns =
     ∙ ap (λ ns. many i (count_by is_client b) (count_by is_open b) (count_by is_operation b) (is_turn i && nat_le 4096 (count_by is_turn b)) ns) named
 
 -- the four reasons for a wrong place
-record InOrder (before : List Item) (i : Item) : Type 0 where
-  sized : (is_size i && list_any (λ j. not (is_size j) || is_same_size i j) before) ≡ false
-  begun : (is_operation i && not (is_open i) && not (list_any is_client before)) ≡ false
-  early : ((is_operation i || is_client i || is_sched i) && list_any is_sched before) ≡ false
-  late : (is_turn i && not (list_any is_sched before)) ≡ false
+pub record InOrder (before : List Item) (i : Item) : Type 0 where
+  pub sized : (is_size i && list_any (λ j. not (is_size j) || is_same_size i j) before) ≡ false
+  pub begun : (is_operation i && not (is_open i) && not (list_any is_client before)) ≡ false
+  pub early : ((is_operation i || is_client i || is_sched i) && list_any is_sched before) ≡ false
+  pub late : (is_turn i && not (list_any is_sched before)) ≡ false
 
 in_order : (before : List Item) (i : Item) → is_misplaced before i ≡ false → InOrder before i
 in_order before i e =
@@ -135,7 +135,7 @@ in_order before i e =
     let last = or_parts a b ab.0 in
     record { sized = last.0; begun = last.1; early = ab.1; late = abc.1 }
 
-of_order : (before : List Item) (i : Item) → InOrder before i → is_misplaced before i ≡ false
+pub of_order : (before : List Item) (i : Item) → InOrder before i → is_misplaced before i ≡ false
 of_order before i h =
     let a = is_size i && list_any (λ j. not (is_size j) || is_same_size i j) before in
     let b = is_operation i && not (is_open i) && not (list_any is_client before) in
