@@ -1,25 +1,24 @@
 -- The generated script is a script, and is printed as it is.
-use Rattle.std.proofs.Common.{subst₂, suc-mul, ◌≡◌, ℕ, zero, suc, ◌+◌, ◌-◌, ◌*◌, ◌/◌, ◌%◌, ◌<◌, ◌≤◌, Bool, true, false, cond, if◌then◌else◌, ◌&&◌, ◌||◌, not, nat_lt, nat_le, ◌==◌, List, [], ◌∷◌, ◌++◌, length, map, filter, filter_map, count_by, codes, slice_index, slice_get, unwrap_or, Option, Some, None, Result, Ok, Err, refl, ap, sym, subst, ◌∙◌, append_assoc, append-nil, arith, le-leb, inl, inr}
+use Rattle.std.proofs.Common.{subst₂, suc-mul, ◌≡◌, ℕ, zero, suc, ◌+◌, ◌*◌, ◌%◌, ◌<◌, ◌≤◌, Bool, true, false, cond, if◌then◌else◌, ◌&&◌, ◌||◌, not, nat_lt, nat_le, ◌==◌, List, [], ◌∷◌, ◌++◌, length, map, filter, filter_map, count_by, codes, slice_get, unwrap_or, Option, None, Ok, Err, refl, ap, sym, subst, ◌∙◌, append_assoc, append-nil, arith, le-leb, inl, inr}
 use Rattle.std.specs.List.{list_any, list_all, cons_option}
 use Rattle.std.proofs.lemmas.Bool.{and_parts, and_from, and_left, and_right, or_from, or_left, or_right, cond-true, cond-false, cond_both, false≢true, lt-leb}
 use Rattle.std.proofs.lemmas.List.Folds.{list_any-append, list_all-append}
 use Rattle.hex.specs.Hex.{IsBytes}
-use Rattle.brpc_model.specs.Text.{is_name_byte, sized}
-use Rattle.brpc_model.specs.Items.{Item, Shape, Seat, Slots, Requests, First, Open, Client, Send, Call, Expire, Join, Fail, Hold, Drop, Sched, Tick, To, is_client, is_open, is_size, is_sched, is_turn, is_operation, is_join, mentioned}
-use Rattle.brpc_model.specs.Places.{names, with_names, is_same_size, is_misplaced, is_too_many, is_unpaired}
-use Rattle.brpc_model.specs.Operations.{size, slots, requests, first_version, slots_in, requests_in, first_in}
+use Rattle.brpc_model.specs.Text.{is_name_byte}
+use Rattle.brpc_model.specs.Items.{Item, Shape, Slots, Requests, First, Open, Client, Send, Call, Expire, Join, Fail, Hold, Drop, Sched, Tick, To, is_client, is_open, is_size, is_sched, is_turn, is_operation, mentioned}
+use Rattle.brpc_model.specs.Places.{names, with_names, is_same_size, is_unpaired}
+use Rattle.brpc_model.specs.Operations.{slots, requests, first_version, slots_in, requests_in, first_in}
 use Rattle.brpc_model.specs.Script.{script_of, is_lost, may_hang}
 use Rattle.brpc_model.specs.ScriptText.{script_text, printed_items, unless_default, scheduled}
-use Rattle.brpc_model.specs.Drawn.{drawn, drawn_state, draws, state_behind, shaped, setup, call_of, gen_item, gen_size, gen_operations, gen_draws, gen_clients, generated}
+use Rattle.brpc_model.specs.Drawn.{drawn_state, draws, state_behind, shaped, setup, call_of, gen_item, gen_size, gen_operations, gen_draws, gen_clients, generated}
 use Rattle.brpc_model.proofs.Growing.{fold_more, names_more}
 use Rattle.script_print.specs.PrintedParts.{is_body}
 use Rattle.script_print.proofs.Spaced.{all_kept, all_implied}
-use Rattle.script_print.proofs.Tokens.{IsWithin, IsSpelled, none_bytes}
+use Rattle.script_print.proofs.Tokens.{IsSpelled, none_bytes}
 use Rattle.script_print.proofs.PartLemmas.{IsName, IsOption}
 use Rattle.script_print.proofs.Shapes.{IsShape}
 use Rattle.script_print.proofs.Formed.{IsFormed, IsMessage}
-use Rattle.script_print.proofs.Frames.{by_test}
-use Rattle.script_print.proofs.Placed.{Stands, Stand, stand_append, InOrder, of_order}
+use Rattle.script_print.proofs.Placed.{Stands, Stand, stand_append, of_order}
 use Rattle.script_print.proofs.Again.{AreWhole, IsSound, sound_back}
 
 -- ## Its items
@@ -106,9 +105,9 @@ printed_as_is is e =
 
 whole_as_is : (is : List Item) → list_all is_drawn is ≡ true → AreWhole is
 whole_as_is is e = record {
-    found = none_pass (is_lost is) (drawn_cases (λ i. is_lost is i ≡ false) (λ n s. refl) refl (λ n b. refl) (λ c. refl)) is e;
-    served = none_pass (may_hang is) (drawn_cases (λ i. may_hang is i ≡ false) (λ n s. refl) refl (λ n b. refl) (λ c. refl)) is e
-  }
+  found = none_pass (is_lost is) (drawn_cases (λ i. is_lost is i ≡ false) (λ n s. refl) refl (λ n b. refl) (λ c. refl)) is e;
+  served = none_pass (may_hang is) (drawn_cases (λ i. may_hang is i ≡ false) (λ n s. refl) refl (λ n b. refl) (λ c. refl)) is e;
+}
 
 -- ## Where they stand
 
@@ -150,24 +149,31 @@ drawn_length (suc n) x = ap (λ k. suc k) (drawn_length n (drawn_state x))
 
 message_of : (bytes : List ℕ) → IsBytes bytes → 1 ≤ length bytes → length bytes ≤ 64 → IsMessage bytes
 message_of bytes h low high = record {
-    bytes_are = h;
-    long = cond-true (nat_le 1 (length bytes) && nat_le (length bytes) 65536) (Ok bytes) (Err 6) (and_from (nat_le 1 (length bytes)) (nat_le (length bytes) 65536) (le-leb 1 (length bytes) low) (le-leb (length bytes) 65536 (omega arith)))
-  }
+  bytes_are = h;
+  long = cond-true (nat_le 1 (length bytes) && nat_le (length bytes) 65536) (Ok bytes) (Err 6) (and_from (nat_le 1 (length bytes)) (nat_le (length bytes) 65536) (le-leb 1 (length bytes) low) (le-leb (length bytes) 65536 (omega arith)));
+}
 
 made_send : (name bytes : List ℕ) → IsName name → with_names four (name ∷ []) ≡ four → IsMessage bytes → IsMade (Send name bytes)
 made_send name bytes hn known hb = record { formed = λ before. (hn, hb); acts = refl; opens = refl; begins = refl; gives = refl; schedules = refl; turns = refl; known = known; paired = λ before. refl }
 
 made_call : (name method bytes : List ℕ) (retry : ℕ) → IsName name → with_names four (name ∷ []) ≡ four → IsMethod method → IsBytes bytes → length bytes ≤ 64 → retry ≤ 1 → IsMade (call_of name method bytes retry)
 made_call name method bytes retry hn known hm hb long few = record {
-    formed = λ before. record {
-        names_are = hn;
-        service_is = record { reads = refl; bytes = refl; one = refl };
-        method_is = hm;
-        bodies_are = record { bytes = hb; more = none_bytes; long = le-leb (length bytes + 0) 65280 (omega arith) };
-        retry_in = inr (record { from = omega arith; to = omega arith })
-      };
-    acts = refl; opens = refl; begins = refl; gives = refl; schedules = refl; turns = refl; known = known; paired = λ before. refl
-  }
+  formed = λ before. record {
+    names_are = hn;
+    service_is = record { reads = refl; bytes = refl; one = refl };
+    method_is = hm;
+    bodies_are = record { bytes = hb; more = none_bytes; long = le-leb (length bytes + 0) 65280 (omega arith) };
+    retry_in = inr (record { from = omega arith; to = omega arith });
+  };
+  acts = refl;
+  opens = refl;
+  begins = refl;
+  gives = refl;
+  schedules = refl;
+  turns = refl;
+  known = known;
+  paired = λ before. refl;
+}
 
 made : (j c x : ℕ) → IsMade (gen_item j (map (λ d. d % 256) (draws (gen_size c j) x)))
 made j c x =
@@ -215,18 +221,18 @@ client_stands before cs ops h low =
       formed = tt;
       ordered = or_from (list_any is_sched before) false h.quiet refl;
       few = or_from (nat_le 31 (count_by is_client before) || false || false || false) (nat_lt 64 (length (names (before ++ Client ∷ []))))
-        (or_from (nat_le 31 (count_by is_client before) || false || false) false (or_from (nat_le 31 (count_by is_client before) || false) false (or_from (nat_le 31 (count_by is_client before)) false room refl) refl) refl)
-        (few_names before Client (still_named before Client h.named refl));
-      paired = refl
+          (or_from (nat_le 31 (count_by is_client before) || false || false) false (or_from (nat_le 31 (count_by is_client before) || false) false (or_from (nat_le 31 (count_by is_client before)) false room refl) refl) refl)
+          (few_names before Client (still_named before Client h.named refl));
+      paired = refl;
     }
 
 client_ready : (before : List Item) (cs ops : ℕ) → Ready before cs ops → Ready (before ++ Client ∷ []) (cs + 1) ops
 client_ready before cs ops h = record {
-    quiet = still_quiet before Client h.quiet refl;
-    named = still_named before Client h.named refl;
-    clients_are = counted_one is_client before Client cs h.clients_are refl;
-    operations_are = counted_none is_operation before Client ops h.operations_are refl
-  }
+  quiet = still_quiet before Client h.quiet refl;
+  named = still_named before Client h.named refl;
+  clients_are = counted_one is_client before Client cs h.clients_are refl;
+  operations_are = counted_none is_operation before Client ops h.operations_are refl;
+}
 
 made_stands : (before : List Item) (cs ops : ℕ) (i : Item) → Ready before cs ops → list_any is_client before ≡ true → ops < 4096 → IsMade i → Stands before i
 made_stands before cs ops i h begun low m =
@@ -245,19 +251,19 @@ made_stands before cs ops i h begun low m =
         sized = and_left (is_size i) (list_any (λ j. not (is_size j) || is_same_size i j) before) m.gives;
         begun = and_right (is_operation i && not (is_open i)) (not (list_any is_client before)) (ap not begun);
         early = and_right (is_operation i || is_client i || is_sched i) (list_any is_sched before) h.quiet;
-        late = and_left (is_turn i) (not (list_any is_sched before)) m.turns
+        late = and_left (is_turn i) (not (list_any is_sched before)) m.turns;
       });
       few = or_from (c || o || p || t) (nat_lt 64 (length (names (before ++ i ∷ [])))) (or_from (c || o || p) t (or_from (c || o) p (or_from c o client opened) operation) turn) (few_names before i (still_named before i h.named m.known));
-      paired = m.paired before
+      paired = m.paired before;
     }
 
 made_ready : (before : List Item) (cs ops : ℕ) (i : Item) → Ready before cs ops → IsMade i → Ready (before ++ i ∷ []) cs (ops + 1)
 made_ready before cs ops i h m = record {
-    quiet = still_quiet before i h.quiet m.schedules;
-    named = still_named before i h.named m.known;
-    clients_are = counted_none is_client before i cs h.clients_are m.begins;
-    operations_are = counted_one is_operation before i ops h.operations_are m.acts
-  }
+  quiet = still_quiet before i h.quiet m.schedules;
+  named = still_named before i h.named m.known;
+  clients_are = counted_none is_client before i cs h.clients_are m.begins;
+  operations_are = counted_one is_operation before i ops h.operations_are m.acts;
+}
 
 -- ### All of them
 
@@ -281,7 +287,7 @@ operations_go (suc more) c j x before cs n h begun room =
     let same : n + 1 + more ≡ n + suc more = omega arith in
     record {
       stand = (made_stands before cs n i h begun (omega arith) made_i, later.stand);
-      ready = subst₂ (λ b k. Ready b cs k) (append_assoc before (i ∷ []) rest) same later.ready
+      ready = subst₂ (λ b k. Ready b cs k) (append_assoc before (i ∷ []) rest) same later.ready;
     }
 
 has_client : (before : List Item) → list_any is_client (before ++ Client ∷ []) ≡ true
@@ -305,20 +311,27 @@ a_shape piece again serve hp ha = record { piece_in = hp; again_in = ha; fail_in
 
 setup_stands : Stand [] setup
 setup_stands = (
-    record { formed = (record { reads = refl; bytes = refl; one = refl }, a_shape 7 0 false (inr (record { from = omega arith; to = omega arith })) (inl refl)); ordered = refl; few = refl; paired = refl },
-    (record { formed = (record { reads = refl; bytes = refl; one = refl }, a_shape 65536 2 false (inl refl) (inr (record { from = omega arith; to = omega arith }))); ordered = refl; few = refl; paired = refl },
-    (record { formed = (record { reads = refl; bytes = refl; one = refl }, a_shape 65536 0 true (inl refl) (inl refl)); ordered = refl; few = refl; paired = refl },
-    (record { formed = (record { reads = refl; bytes = refl; one = refl }, a_shape 5 0 true (inr (record { from = omega arith; to = omega arith })) (inl refl)); ordered = refl; few = refl; paired = refl },
-    tt))))
+  record { formed = (record { reads = refl; bytes = refl; one = refl }, a_shape 7 0 false (inr (record { from = omega arith; to = omega arith })) (inl refl)); ordered = refl; few = refl; paired = refl },
+  (
+    record { formed = (record { reads = refl; bytes = refl; one = refl }, a_shape 65536 2 false (inl refl) (inr (record { from = omega arith; to = omega arith }))); ordered = refl; few = refl; paired = refl },
+    (
+      record { formed = (record { reads = refl; bytes = refl; one = refl }, a_shape 65536 0 true (inl refl) (inl refl)); ordered = refl; few = refl; paired = refl },
+      (
+        record { formed = (record { reads = refl; bytes = refl; one = refl }, a_shape 5 0 true (inr (record { from = omega arith; to = omega arith })) (inl refl)); ordered = refl; few = refl; paired = refl },
+        tt,
+      ),
+    ),
+  ),
+)
 
 setup_ready : Ready setup 0 4
 setup_ready = record { quiet = refl; named = refl; clients_are = refl; operations_are = refl }
 
 generated_sound : (seed clients ops : ℕ) → clients ≤ 31 → clients * ops ≤ 4092 → IsSound (generated seed clients ops)
 generated_sound seed clients ops few room = record {
-    stand = stand_append [] setup (gen_clients clients 1 ops seed) setup_stands (clients_go clients 1 ops seed setup 0 4 setup_ready (omega arith) (omega arith));
-    whole_is = whole_as_is (generated seed clients ops) (drawn_all seed clients ops)
-  }
+  stand = stand_append [] setup (gen_clients clients 1 ops seed) setup_stands (clients_go clients 1 ops seed setup 0 4 setup_ready (omega arith) (omega arith));
+  whole_is = whole_as_is (generated seed clients ops) (drawn_all seed clients ops);
+}
 
 -- a generated script is printed as it is, and read as it is
 pub generated_back : (seed clients ops : ℕ) → clients ≤ 31 → clients * ops ≤ 4092 → script_of (script_text (generated seed clients ops)) ≡ Ok (generated seed clients ops)

@@ -1,6 +1,8 @@
 ghost use Rattle.std.specs.Prelude.{◌≡◌, ◌++◌, ◌*◌, ◌^◌, ◌<◌, ◌≤◌, map, IfOk, OnOk};
 ghost use Rattle.brpc_model.specs.Drawn.{call_of, gen_item, gen_size, gen_operations, gen_draws, generated, setup, shaped, state_behind};
 ghost use Rattle.brpc_model.specs.Items as model;
+ghost use Rattle.brpc_model.specs.Script.{script_of};
+ghost use Rattle.brpc_model.specs.ScriptText.{script_text};
 ghost use Rattle.script_items.specs.Meaning.{item};
 
 use crate::draws::Draws;
@@ -151,21 +153,19 @@ fn generated_lines(
     Ok(lines)
 }
 
-/// The script that a seed draws: four links, and so many clients with so many operations each.
-/// The operations go round the four links, two of them sends and two calls, and their bytes are
-/// drawn client by client. The rule is this project's own.
-pub fn generate(
-    alloc: Global,
-    seed: u64,
-    clients: u16,
-    ops: u16,
-) -> Result<Script, NoMemory>
+/// The script that a seed below 2^32 draws: four links, and 1 to 31 clients with at least one
+/// operation each and at most 4,092 together. The operations of a client go round the four links,
+/// two of them sends and two calls, with 1 to 64 bytes each, which are drawn client by client. The
+/// rule is this project's own. It is read again from what is printed of it, and there is no
+/// error but want of memory.
+pub fn generate(alloc: Global, seed: u64, clients: u16, ops: u16) -> Result<Script, NoMemory>
     requires seed_in { seed < 2 ^ 32 }
     requires some_clients { 1 ≤ clients }
     requires clients_in { clients ≤ 31 }
     requires some_ops { 1 ≤ ops }
     requires all_in { clients * ops ≤ 4092 }
-    ensures { IfOk result (λ s. s ≡ generated seed clients ops) }
+    ensures exact { IfOk result (λ s. s ≡ generated seed clients ops) }
+    ensures again { IfOk result (λ s. script_of (script_text s) ≡ Ok s) }
 {
     match generated_lines(alloc, seed, u32::from(clients), u32::from(ops)) {
         Ok(lines) => Ok(Script::new(lines)),

@@ -8,7 +8,8 @@ mod output;
 mod parts;
 mod print;
 mod script_text;
+#[cfg(test)]
+mod tests;
 
 pub use generator::generate;
 pub use print::{PrintFault, print_script};
-

@@ -57,12 +57,7 @@ fn first_of(lines: &[Line]) -> u32
 }
 
 /// Appends a line with a size, unless it is the default.
-fn push_size(
-    text: &mut Vec<u8>,
-    name: &[u8],
-    default: u32,
-    number: u32,
-) -> Result<(), AllocError>
+fn push_size(text: &mut Vec<u8>, name: &[u8], default: u32, number: u32) -> Result<(), AllocError>
     ensures { OnOk result (text.new.items ≡ text.old.items ++ size_line name.now default number) }
 {
     if number == default {

@@ -1,6 +1,5 @@
-use Rattle.std.proofs.Common.{◌≡◌, ◌++◌, ◌∷◌, [], ◌+◌, map, ap, ◌∙◌}
+use Rattle.std.proofs.Common.{◌++◌, ◌∷◌, [], ◌+◌, map, ap, ◌∙◌}
 use Rattle.brpc_model.specs.Drawn.{gen_operations}
-use Rattle.brpc_model.specs.Items.{Client}
 use Rattle.std.proofs.lemmas.List.{map-append}
 use Rattle.script_items.specs.Meaning.{item}
 use Rattle.script_items.specs.declared.line.Line.TheVariants as lines
