@@ -1,0 +1,6 @@
+pub mod Groups
+pub mod Keys
+pub mod Readings
+pub mod Varints
+pub mod FieldForms
+pub mod ReadingForms
