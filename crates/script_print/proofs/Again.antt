@@ -44,6 +44,7 @@ found_before p (x ∷ xs) e = by_test (p x) (position_or_len p (x ∷ xs) < suc 
   where
     at_first : (n : ℕ) → n ≡ 0 → n < suc (length xs)
     at_first n e = omega arith
+
     later : (n : ℕ) → n ≡ 1 + position_or_len p xs → position_or_len p xs < length xs → n < suc (length xs)
     later n e h = omega arith
 
@@ -54,6 +55,7 @@ position_found p xs e = by_test (list_any p xs) (list_any p xs ≡ false)
   where
     never : (n : ℕ) → Some n ≡ None → ⊥
     never n d = cc
+
     lt_test : (m n : ℕ) → m < n → nat_lt m n ≡ true
     lt_test m n h = grind arith
 
@@ -245,8 +247,10 @@ schedule_stands before s h body turns none = behind (filter is_turn s) (turns_st
   where
     with_sched : filter is_body (before ++ Sched ∷ []) ≡ filter is_body s
     with_sched = filter-append is_body before (Sched ∷ []) ∙ append-nil (filter is_body before) ∙ body
+
     begun : list_any is_sched (before ++ Sched ∷ []) ≡ true
     begun = list_any-append is_sched before (Sched ∷ []) ∙ ap (λ t. t || true) none
+
     behind : (turns : List Item) → Stand (before ++ Sched ∷ []) turns → Stand before (scheduled turns)
     behind [] k = tt
     behind (t ∷ turns) k = (sched_stands before s h body none, k)
@@ -255,10 +259,10 @@ printed_stand : (s : List Item) → Stand [] s → Stand [] (printed_items s)
 printed_stand s h =
     let body = filter is_body s in
     let sizes : Stand [] (sizes_of s) =
-        sizes_stand (slots s == 31) (requests s == 4096) (first_version s == 0) (slots s) (requests s) (first_version s)
-        (size_fits slots_in (IsWithin 1 31) 31 (record { from = omega arith; to = omega arith }) slots_formed s [] h)
-        (size_fits requests_in (IsWithin 1 4096) 4096 (record { from = omega arith; to = omega arith }) requests_formed s [] h)
-        (size_fits first_in IsFirst 0 (record { from = omega arith; to = omega arith }, refl) first_formed s [] h) in
+    sizes_stand (slots s == 31) (requests s == 4096) (first_version s == 0) (slots s) (requests s) (first_version s)
+    (size_fits slots_in (IsWithin 1 31) 31 (record { from = omega arith; to = omega arith }) slots_formed s [] h)
+    (size_fits requests_in (IsWithin 1 4096) 4096 (record { from = omega arith; to = omega arith }) requests_formed s [] h)
+    (size_fits first_in IsFirst 0 (record { from = omega arith; to = omega arith }, refl) first_formed s [] h) in
     let operations : Stand (sizes_of s) body = body_stand s (sizes_of s) [] h (sizes_body s) (sizes_sched s) in
     let front : Stand [] (sizes_of s ++ body) = stand_append [] (sizes_of s) body sizes operations in
     let front_body : filter is_body (sizes_of s ++ body) ≡ filter is_body s = filter-append is_body (sizes_of s) body ∙ ap (λ xs. xs ++ filter is_body body) (sizes_body s) ∙ filter_again is_body s in
@@ -285,9 +289,9 @@ printed_whole s h =
     let p = printed_items s in
     record {
       found = any_alike (is_lost p) (is_lost s) (lost_same p s (operations_same p s (printed_body s))) p
-        ∙ any_printed (is_lost s) (other_cases (λ i. is_lost s i ≡ false) (λ n. refl) (λ n. refl) (λ n. refl) refl (λ x n. refl) (λ x k. refl)) s ∙ h.found;
+          ∙ any_printed (is_lost s) (other_cases (λ i. is_lost s i ≡ false) (λ n. refl) (λ n. refl) (λ n. refl) refl (λ x n. refl) (λ x k. refl)) s ∙ h.found;
       served = any_alike (may_hang p) (may_hang s) (hang_same p s (unserved_same p s (printed_body s))) p
-        ∙ any_printed (may_hang s) (other_cases (λ i. may_hang s i ≡ false) (λ n. refl) (λ n. refl) (λ n. refl) refl (λ x n. refl) (λ x k. refl)) s ∙ h.served
+          ∙ any_printed (may_hang s) (other_cases (λ i. may_hang s i ≡ false) (λ n. refl) (λ n. refl) (λ n. refl) refl (λ x n. refl) (λ x k. refl)) s ∙ h.served;
     }
 
 pub printed_sound : (s : List Item) → IsSound s → IsSound (printed_items s)
@@ -380,7 +384,7 @@ printed_same s =
       slots_same = size_printed slots_in 31 slots_only s ∙ slots_again (slots s == 31) (requests s == 4096) (first_version s == 0) (slots s) (requests s) (first_version s) by_slots;
       requests_same = size_printed requests_in 4096 requests_only s ∙ requests_again (slots s == 31) (requests s == 4096) (first_version s == 0) (slots s) (requests s) (first_version s) (eqb-true (requests s) 4096);
       first_same = size_printed first_in 0 first_only s ∙ first_again (slots s == 31) (requests s == 4096) (first_version s == 0) (slots s) (requests s) (first_version s) (eqb-true (first_version s) 0);
-      schedule_same = schedule_same p s (printed_turns s)
+      schedule_same = schedule_same p s (printed_turns s);
     }
 
 -- ## The law

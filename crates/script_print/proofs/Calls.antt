@@ -45,15 +45,15 @@ parts_are names service method bytes retry hn hs hm hb hr =
     with_part (Ok (λ ns s m bytes retry. made ns s m bytes retry) <*> names <*> service <*> method <*> bytes) retry
     (λ g. (r : ℕ) → IsOption 0 0 6 r → IsCallLine (g r)) (IsOption 0 0 6) IsCallLine
     (with_part (Ok (λ ns s m bytes retry. made ns s m bytes retry) <*> names <*> service <*> method) bytes
-        (λ g. (b : List ℕ × List ℕ) (r : ℕ) → AreBodies b.0 b.1 → IsOption 0 0 6 r → IsCallLine (g b r)) (λ b. AreBodies b.0 b.1) (λ g. (r : ℕ) → IsOption 0 0 6 r → IsCallLine (g r))
-        (with_part (Ok (λ ns s m bytes retry. made ns s m bytes retry) <*> names <*> service) method
-            (λ g. (m : List ℕ) (b : List ℕ × List ℕ) (r : ℕ) → IsSpelled is_name_byte 64 m → AreBodies b.0 b.1 → IsOption 0 0 6 r → IsCallLine (g m b r)) (IsSpelled is_name_byte 64)
-            (λ g. (b : List ℕ × List ℕ) (r : ℕ) → AreBodies b.0 b.1 → IsOption 0 0 6 r → IsCallLine (g b r))
-            (of_parts (λ ns s m bytes retry. made ns s m bytes retry) names service IsNames (IsSpelled (λ b. is_name_byte b || b == 46) 64)
-                (λ g. (m : List ℕ) (b : List ℕ × List ℕ) (r : ℕ) → IsSpelled is_name_byte 64 m → AreBodies b.0 b.1 → IsOption 0 0 6 r → IsCallLine (g m b r)) hn hs
-                (λ ns s hn hs m b r hm hb hr. record { names_are = hn; service_is = hs; method_is = hm; bodies_are = hb; retry_in = hr }))
-            hm (λ g m h hm b r hb hr. h m b r hm hb hr))
-        hb (λ g b h hb r hr. h b r hb hr))
+    (λ g. (b : List ℕ × List ℕ) (r : ℕ) → AreBodies b.0 b.1 → IsOption 0 0 6 r → IsCallLine (g b r)) (λ b. AreBodies b.0 b.1) (λ g. (r : ℕ) → IsOption 0 0 6 r → IsCallLine (g r))
+    (with_part (Ok (λ ns s m bytes retry. made ns s m bytes retry) <*> names <*> service) method
+    (λ g. (m : List ℕ) (b : List ℕ × List ℕ) (r : ℕ) → IsSpelled is_name_byte 64 m → AreBodies b.0 b.1 → IsOption 0 0 6 r → IsCallLine (g m b r)) (IsSpelled is_name_byte 64)
+    (λ g. (b : List ℕ × List ℕ) (r : ℕ) → AreBodies b.0 b.1 → IsOption 0 0 6 r → IsCallLine (g b r))
+    (of_parts (λ ns s m bytes retry. made ns s m bytes retry) names service IsNames (IsSpelled (λ b. is_name_byte b || b == 46) 64)
+    (λ g. (m : List ℕ) (b : List ℕ × List ℕ) (r : ℕ) → IsSpelled is_name_byte 64 m → AreBodies b.0 b.1 → IsOption 0 0 6 r → IsCallLine (g m b r)) hn hs
+    (λ ns s hn hs m b r hm hb hr. record { names_are = hn; service_is = hs; method_is = hm; bodies_are = hb; retry_in = hr }))
+    hm (λ g m h hm b r hb hr. h m b r hm hb hr))
+    hb (λ g b h hb r hr. h b r hb hr))
     hr (λ g r h hr. h r hr)
 
 pub called : (names method payload : List ℕ) (options : List (List ℕ)) → IfOk (call_in names method payload options) IsCallLine
@@ -63,11 +63,11 @@ called names method payload options =
     of_part_test (are_known (codes "att=" ∷ codes "retry=" ∷ []) [] options)
     (Ok (λ ns s m bytes retry. made ns s m bytes retry) <*> names_in (slice_split (λ b. b == 44) names) <*> service_in (before_last (λ b. b == 46) method) <*> method_in (after_last (λ b. b == 46) method) <*> bytes <*> retry) 3 IsCallLine
     (λ known. parts_are (names_in (slice_split (λ b. b == 44) names)) (service_in (before_last (λ b. b == 46) method)) (method_in (after_last (λ b. b == 46) method)) bytes retry
-        (names_of (slice_split (λ b. b == 44) names))
-        (spelled (λ b. is_name_byte b || b == 46) 64 service_word_byte (before_last (λ b. b == 46) method))
-        (spelled is_name_byte 64 name_word_byte (after_last (λ b. b == 46) method))
-        (bodies (hex_in payload) (option_in hex_in [] (values_of (codes "att=") options)) (hex_bytes payload) (of_option hex_in [] (values_of (codes "att=") options) IsBytes none_bytes hex_bytes))
-        (number_option 0 0 6 (values_of (codes "retry=") options)))
+    (names_of (slice_split (λ b. b == 44) names))
+    (spelled (λ b. is_name_byte b || b == 46) 64 service_word_byte (before_last (λ b. b == 46) method))
+    (spelled is_name_byte 64 name_word_byte (after_last (λ b. b == 46) method))
+    (bodies (hex_in payload) (option_in hex_in [] (values_of (codes "att=") options)) (hex_bytes payload) (of_option hex_in [] (values_of (codes "att=") options) IsBytes none_bytes hex_bytes))
+    (number_option 0 0 6 (values_of (codes "retry=") options)))
 
 -- ## The words of a call
 
@@ -107,23 +107,23 @@ call_back c h =
     let bytes = bodies_in (Ok (λ p a. (p, a)) <*> hex_in (hex_text c.payload) <*> att) in
     let retry = option_in (number_in 0 6) 0 (values_of (codes "retry=") ws) in
     let known : are_known (codes "att=" ∷ codes "retry=" ∷ []) [] ws ≡ true =
-        all_unless (λ w. list_any (bytes_eq w) [] || list_any (starts_with nat_eq w) (codes "att=" ∷ codes "retry=" ∷ [])) (not (has_bytes c.attachment)) (codes "att=" ++ hex_text c.attachment) (retry_words c) (λ e. refl)
-        (all_unless (λ w. list_any (bytes_eq w) [] || list_any (starts_with nat_eq w) (codes "att=" ∷ codes "retry=" ∷ [])) (c.retry == 0) (codes "retry=" ++ decimal c.retry) [] (λ e. refl) refl) in
+    all_unless (λ w. list_any (bytes_eq w) [] || list_any (starts_with nat_eq w) (codes "att=" ∷ codes "retry=" ∷ [])) (not (has_bytes c.attachment)) (codes "att=" ++ hex_text c.attachment) (retry_words c) (λ e. refl)
+    (all_unless (λ w. list_any (bytes_eq w) [] || list_any (starts_with nat_eq w) (codes "att=" ∷ codes "retry=" ∷ [])) (c.retry == 0) (codes "retry=" ++ decimal c.retry) [] (λ e. refl) refl) in
     let named : names ≡ Ok c.names = names_back c.names h.names_are in
     let served : service ≡ Ok c.service = ap service_in (before_dot c.service c.method h.method_is.bytes) ∙ h.service_is.reads in
     let asked : method ≡ Ok c.method = ap method_in (after_dot c.service c.method h.method_is.bytes) ∙ h.method_is.reads in
     let attached : att ≡ Ok c.attachment =
-        ap (λ vs. option_in hex_in [] (map (drop 4) vs)) (att_word c)
-        ∙ ap (option_in hex_in []) (behind_key 4 (not (has_bytes c.attachment)) (codes "att=" ++ hex_text c.attachment) (hex_text c.attachment) refl)
-        ∙ option_back hex_in [] c.attachment (not (has_bytes c.attachment)) (hex_text c.attachment) (none_or_some c.attachment) (λ e. hex_back c.attachment h.bodies_are.more) in
+    ap (λ vs. option_in hex_in [] (map (drop 4) vs)) (att_word c)
+    ∙ ap (option_in hex_in []) (behind_key 4 (not (has_bytes c.attachment)) (codes "att=" ++ hex_text c.attachment) (hex_text c.attachment) refl)
+    ∙ option_back hex_in [] c.attachment (not (has_bytes c.attachment)) (hex_text c.attachment) (none_or_some c.attachment) (λ e. hex_back c.attachment h.bodies_are.more) in
     let told : bytes ≡ Ok (c.payload, c.attachment) =
-        ap (λ r. bodies_in (Ok (λ p a. (p, a)) <*> r <*> att)) (hex_back c.payload h.bodies_are.bytes)
-        ∙ ap (λ r. bodies_in (Ok (λ p a. (p, a)) <*> Ok c.payload <*> r)) attached
-        ∙ cond-true (nat_le (length c.payload + length c.attachment) 65280) (Ok (c.payload, c.attachment)) (Err 6) h.bodies_are.long in
+    ap (λ r. bodies_in (Ok (λ p a. (p, a)) <*> r <*> att)) (hex_back c.payload h.bodies_are.bytes)
+    ∙ ap (λ r. bodies_in (Ok (λ p a. (p, a)) <*> Ok c.payload <*> r)) attached
+    ∙ cond-true (nat_le (length c.payload + length c.attachment) 65280) (Ok (c.payload, c.attachment)) (Err 6) h.bodies_are.long in
     let tried : retry ≡ Ok c.retry =
-        ap (λ vs. option_in (number_in 0 6) 0 (map (drop 6) vs)) (retry_word c)
-        ∙ ap (option_in (number_in 0 6) 0) (behind_key 6 (c.retry == 0) (codes "retry=" ++ decimal c.retry) (decimal c.retry) refl)
-        ∙ number_option_back 0 0 6 c.retry (omega arith) h.retry_in in
+    ap (λ vs. option_in (number_in 0 6) 0 (map (drop 6) vs)) (retry_word c)
+    ∙ ap (option_in (number_in 0 6) 0) (behind_key 6 (c.retry == 0) (codes "retry=" ++ decimal c.retry) (decimal c.retry) refl)
+    ∙ number_option_back 0 0 6 c.retry (omega arith) h.retry_in in
     cond-true (are_known (codes "att=" ∷ codes "retry=" ∷ []) [] ws) (Ok make <*> names <*> service <*> method <*> bytes <*> retry) (Err 3) known
     ∙ ap (λ r. Ok make <*> r <*> service <*> method <*> bytes <*> retry) named
     ∙ ap (λ r. Ok make <*> Ok c.names <*> r <*> method <*> bytes <*> retry) served
@@ -134,8 +134,8 @@ call_back c h =
 pub call_words_are : (c : CallLine) → IsCallLine c → list_all is_word (join_with_byte 44 c.names ∷ (c.service ++ 46 ∷ c.method) ∷ hex_text c.payload ∷ call_options c) ≡ true
 call_words_are c h =
     let options : list_all is_word (call_options c) ≡ true =
-        all_unless is_word (not (has_bytes c.attachment)) (codes "att=" ++ hex_text c.attachment) (retry_words c) (λ e. word_parts (hex_text c.attachment) (hex_word c.attachment h.bodies_are.more))
-        (all_unless is_word (c.retry == 0) (codes "retry=" ++ decimal c.retry) [] (λ e. word_parts (decimal c.retry) (number_option_word 0 0 6 c.retry (omega arith) h.retry_in e)) refl) in
+    all_unless is_word (not (has_bytes c.attachment)) (codes "att=" ++ hex_text c.attachment) (retry_words c) (λ e. word_parts (hex_text c.attachment) (hex_word c.attachment h.bodies_are.more))
+    (all_unless is_word (c.retry == 0) (codes "retry=" ++ decimal c.retry) [] (λ e. word_parts (decimal c.retry) (number_option_word 0 0 6 c.retry (omega arith) h.retry_in e)) refl) in
     let body = and_from (is_word (hex_text c.payload)) (list_all is_word (call_options c)) (hex_word c.payload h.bodies_are.bytes) options in
     let spot = and_from (is_word (c.service ++ 46 ∷ c.method)) (list_all is_word (hex_text c.payload ∷ call_options c)) (joined_word c.service c.method 46 h.service_is.one h.method_is.one refl) body in
     and_from (is_word (join_with_byte 44 c.names)) (list_all is_word ((c.service ++ 46 ∷ c.method) ∷ hex_text c.payload ∷ call_options c)) (names_word c.names h.names_are) spot
@@ -154,7 +154,7 @@ call_text_words c =
     let payload = word (hex_text c.payload) in
     let retry = option_text (codes "retry") 0 c.retry in
     let options : flat_map word (call_options c) ≡ att_text c.attachment ++ (retry ++ []) =
-        option_words (not (has_bytes c.attachment)) (codes "att=" ++ hex_text c.attachment) (retry_words c)
-        ∙ ap (λ t. t ++ flat_map word (retry_words c)) (att_of c.attachment)
-        ∙ ap (λ t. att_text c.attachment ++ t) (option_words (c.retry == 0) (codes "retry=" ++ decimal c.retry) []) in
+    option_words (not (has_bytes c.attachment)) (codes "att=" ++ hex_text c.attachment) (retry_words c)
+    ∙ ap (λ t. t ++ flat_map word (retry_words c)) (att_of c.attachment)
+    ∙ ap (λ t. att_text c.attachment ++ t) (option_words (c.retry == 0) (codes "retry=" ++ decimal c.retry) []) in
     sym (ap (λ t. codes "call" ++ (names ++ (spot ++ (payload ++ t)))) options ∙ regroup names spot payload (att_text c.attachment) retry)

@@ -323,4 +323,4 @@ said_formed before [] = tt
 said_formed before (b ∷ bytes) =
     of_either (b == 35) (Ok None) (cond (not (list_all is_text_byte (b ∷ bytes))) (Err 1) (Ok (λ i. Some i) <*> item_of before (words (b ∷ bytes)))) (Said before) tt
     (of_either (not (list_all is_text_byte (b ∷ bytes))) (Err 1) (Ok (λ i. Some i) <*> item_of before (words (b ∷ bytes))) (Said before) tt
-        (of_part (λ i. Some i) (item_of before (words (b ∷ bytes))) (IsFormed before) (Said before) (formed before (words (b ∷ bytes))) (λ i h. h)))
+    (of_part (λ i. Some i) (item_of before (words (b ∷ bytes))) (IsFormed before) (Said before) (formed before (words (b ∷ bytes))) (λ i h. h)))

@@ -1,5 +1,5 @@
 -- What depends on the items of the setup and the clients alone stays where the other lines are put elsewhere.
-use Rattle.std.proofs.Common.{◌≡◌, ℕ, ◌+◌, Bool, true, false, cond, if◌then◌else◌, ◌||◌, not, List, [], ◌∷◌, ◌++◌, fold, flat_map, filter, filter_map, count_by, Option, None, refl, ap, sym, ◌∙◌, arith}
+use Rattle.std.proofs.Common.{◌≡◌, ℕ, ◌+◌, Bool, true, false, cond, if◌then◌else◌, ◌||◌, List, [], ◌∷◌, ◌++◌, fold, flat_map, filter, filter_map, count_by, Option, None, refl, ap, sym, ◌∙◌, arith}
 use Rattle.std.specs.List.{list_any, cons_option}
 use Rattle.std.proofs.lemmas.Bool.{cond-true, cond-false, false≢true, true≢false}
 use Rattle.brpc_model.specs.Items.{Item, Seat, Slots, Requests, First, Open, Client, Send, Call, Expire, Join, Fail, Hold, Drop, Sched, Tick, To, is_client, is_open, is_size, is_sched, is_turn, is_operation, mentioned, opened_name}
@@ -197,5 +197,6 @@ turns_same a b e = sym (of a) ∙ ap (count_by is_turn) e ∙ of b
   where
     plain : (n : ℕ) → n + 0 ≡ n
     plain n = omega arith
+
     of : (xs : List Item) → count_by is_turn (filter is_turn xs) ≡ count_by is_turn xs
     of xs = fold_filter (λ n i. n + cond (is_turn i) 1 0) is_turn (λ n i e. ap (λ t. n + cond t 1 0) e ∙ plain n) 0 xs

@@ -10,3 +10,5 @@ pub mod Placed
 pub mod PrintedLines
 pub mod Again
 pub mod Written
+pub mod DrawLemmas
+pub mod Generated

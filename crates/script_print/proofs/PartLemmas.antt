@@ -135,14 +135,14 @@ dot_at s m h =
     let long : length xs ≡ length s + length (46 ∷ m) = length-append s (46 ∷ m) in
     suffix_len_is (λ b. not (b == 46)) xs (length s + 1) 0 (omega arith)
     (λ k low high.
-        let j = k - (length s + 1) in
-        let place : k ≡ length s + suc j = omega arith in
-        let at : get_or xs k 0 ≡ get_or m j 0 = ap (λ i. get_or xs i 0) place ∙ get_or-append-add s (46 ∷ m) (suc j) 0 in
-        ap (λ b. not (b == 46)) at ∙ ap not (no_dots m h j 0 (omega arith)))
+    let j = k - (length s + 1) in
+    let place : k ≡ length s + suc j = omega arith in
+    let at : get_or xs k 0 ≡ get_or m j 0 = ap (λ i. get_or xs i 0) place ∙ get_or-append-add s (46 ∷ m) (suc j) 0 in
+    ap (λ b. not (b == 46)) at ∙ ap not (no_dots m h j 0 (omega arith)))
     (λ some.
-        let place : length s + 1 - 1 ≡ length s + 0 = omega arith in
-        let at : get_or xs (length s + 1 - 1) 0 ≡ 46 = ap (λ i. get_or xs i 0) place ∙ get_or-append-add s (46 ∷ m) 0 0 in
-        ap (λ b. not (b == 46)) at)
+    let place : length s + 1 - 1 ≡ length s + 0 = omega arith in
+    let at : get_or xs (length s + 1 - 1) 0 ≡ 46 = ap (λ i. get_or xs i 0) place ∙ get_or-append-add s (46 ∷ m) 0 0 in
+    ap (λ b. not (b == 46)) at)
 
 pub before_dot : (s m : List ℕ) → list_all is_name_byte m ≡ true → before_last (λ b. b == 46) (s ++ 46 ∷ m) ≡ s
 before_dot s m h =
@@ -182,7 +182,7 @@ below_64 n h = let top = h.to in omega arith
 pub target_back : (make : ℕ → ℕ → Item) (c i : ℕ) → IsTarget c i → target_in make (slice_split (λ b. b == 46) (decimal c ++ 46 ∷ decimal i)) ≡ Ok (make c i)
 target_back make c i h =
     let cut = slice_split_at (λ b. b == 46) (decimal c) 46 (decimal i) (none_of is_ascii_digit (λ b. b == 46) digit_no_dot (decimal c) (decimal_digits c (below_64 c h.0))) refl
-        ∙ ap (λ ws. decimal c ∷ ws) (slice_split_none (λ b. b == 46) (decimal i) (none_of is_ascii_digit (λ b. b == 46) digit_no_dot (decimal i) (decimal_digits i (below_64 i h.1)))) in
+    ∙ ap (λ ws. decimal c ∷ ws) (slice_split_none (λ b. b == 46) (decimal i) (none_of is_ascii_digit (λ b. b == 46) digit_no_dot (decimal i) (decimal_digits i (below_64 i h.1)))) in
     ap (target_in make) cut
     ∙ ap (λ r. Ok make <*> r <*> number_in 0 18446744073709551615 (decimal i)) (number_back 0 18446744073709551615 c (below_64 c h.0) h.0)
     ∙ ap (λ r. Ok make <*> Ok c <*> r) (number_back 0 18446744073709551615 i (below_64 i h.1) h.1)
@@ -202,9 +202,9 @@ seated before (b ∷ w) =
     of_either (b == 114) (number_in 0 30 w >>= (λ k. if nat_lt k (count_by is_open before) then Ok (ReaderSeat k) else Err 4))
     (number_in 1 31 (b ∷ w) >>= (λ c. if nat_le c (count_by is_client before) then Ok (ClientSeat c) else Err 4)) (IsSeat before)
     (of_next (number_in 0 30 w) (λ k. if nat_lt k (count_by is_open before) then Ok (ReaderSeat k) else Err 4) (IsWithin 0 30) (IsSeat before) (number_within 0 30 w)
-        (λ k h. of_test (nat_lt k (count_by is_open before)) (ReaderSeat k) 4 (IsSeat before) (λ e. (h, e))))
+    (λ k h. of_test (nat_lt k (count_by is_open before)) (ReaderSeat k) 4 (IsSeat before) (λ e. (h, e))))
     (of_next (number_in 1 31 (b ∷ w)) (λ c. if nat_le c (count_by is_client before) then Ok (ClientSeat c) else Err 4) (IsWithin 1 31) (IsSeat before) (number_within 1 31 (b ∷ w))
-        (λ c h. of_test (nat_le c (count_by is_client before)) (ClientSeat c) 4 (IsSeat before) (λ e. (h, e))))
+    (λ c h. of_test (nat_le c (count_by is_client before)) (ClientSeat c) 4 (IsSeat before) (λ e. (h, e))))
 
 digit_first : (before : List Item) (ds : List ℕ) → is_word ds ≡ true → list_all is_ascii_digit ds ≡ true → seat_in before ds ≡ (number_in 1 31 ds >>= (λ c. if nat_le c (count_by is_client before) then Ok (ClientSeat c) else Err 4))
 digit_first before [] h k = absurd (false≢true h)

@@ -66,11 +66,13 @@ lines_stand (l ∷ ls) said = goes_on (said_behind (items said) l) (said_there (
   where
     none : (r : Faulty (List (Option Item))) → IfOk r (More (items (said ++ None ∷ []))) → IfOk r (More (items said))
     none r h = subst (λ b. IfOk r (More b)) (items_none said) h
+
     some : (i : Item) → Stands (items said) i → (r : Faulty (List (Option Item))) → IfOk r (More (items (said ++ Some i ∷ []))) → IfOk r (More (items said))
     some i h (Err f) m = tt
     some i h (Ok all) m =
         let at : More (items said ++ i ∷ []) all = subst (λ b. More b all) (items_some said i) m in
         record { more = i ∷ at.more; are = at.are ∙ append_assoc (items said) (i ∷ []) at.more; stand = (h, at.stand) }
+
     goes_on : (r : Reads (Option Item)) → IfOk r (There (items said))
         → IfOk (fold with_line (Ok (said ++ None ∷ [])) ls) (More (items (said ++ None ∷ [])))
         → ((i : Item) → IfOk (fold with_line (Ok (said ++ Some i ∷ [])) ls) (More (items (said ++ Some i ∷ []))))
@@ -118,11 +120,11 @@ many_same a b i e turns =
     ∙ ap (λ ns. many i (count_by is_client b) (count_by is_open b) (count_by is_operation b) (is_turn i && nat_le 4096 (count_by is_turn b)) ns) named
 
 -- the four reasons for a wrong place
-record InOrder (before : List Item) (i : Item) : Type 0 where
-  sized : (is_size i && list_any (λ j. not (is_size j) || is_same_size i j) before) ≡ false
-  begun : (is_operation i && not (is_open i) && not (list_any is_client before)) ≡ false
-  early : ((is_operation i || is_client i || is_sched i) && list_any is_sched before) ≡ false
-  late : (is_turn i && not (list_any is_sched before)) ≡ false
+pub record InOrder (before : List Item) (i : Item) : Type 0 where
+  pub sized : (is_size i && list_any (λ j. not (is_size j) || is_same_size i j) before) ≡ false
+  pub begun : (is_operation i && not (is_open i) && not (list_any is_client before)) ≡ false
+  pub early : ((is_operation i || is_client i || is_sched i) && list_any is_sched before) ≡ false
+  pub late : (is_turn i && not (list_any is_sched before)) ≡ false
 
 in_order : (before : List Item) (i : Item) → is_misplaced before i ≡ false → InOrder before i
 in_order before i e =
@@ -135,7 +137,7 @@ in_order before i e =
     let last = or_parts a b ab.0 in
     record { sized = last.0; begun = last.1; early = ab.1; late = abc.1 }
 
-of_order : (before : List Item) (i : Item) → InOrder before i → is_misplaced before i ≡ false
+pub of_order : (before : List Item) (i : Item) → InOrder before i → is_misplaced before i ≡ false
 of_order before i h =
     let a = is_size i && list_any (λ j. not (is_size j) || is_same_size i j) before in
     let b = is_operation i && not (is_open i) && not (list_any is_client before) in
@@ -177,10 +179,10 @@ body_stands a b i body e none = body_cases (λ i. Stands b i → Stands a i) sta
             sized = and_left (is_size i) (list_any (λ j. not (is_size j) || is_same_size i j) a) size;
             begun = begun_same a b i e order.begun;
             early = and_right (is_operation i || is_client i || is_sched i) (list_any is_sched a) none;
-            late = and_left (is_turn i) (not (list_any is_sched a)) turn
+            late = and_left (is_turn i) (not (list_any is_sched a)) turn;
           });
           few = many_same a b i e (and_left (is_turn i) (nat_le 4096 (count_by is_turn a)) turn ∙ sym (and_left (is_turn i) (nat_le 4096 (count_by is_turn b)) turn)) ∙ h.few;
-          paired = unpaired_same a b (λ n. held_same a b n e) i ∙ h.paired
+          paired = unpaired_same a b (λ n. held_same a b n e) i ∙ h.paired;
         }
 
 -- the items of the body stand behind others with the same body, where no schedule has begun
@@ -188,15 +190,15 @@ pub body_stand : (is a b : List Item) → Stand b is → filter is_body a ≡ fi
 body_stand [] a b h e none = tt
 body_stand (i ∷ is) a b h e none = by_test (is_body i) (Stand a (filter is_body (i ∷ is)))
     (λ body.
-        let one : filter is_body (i ∷ []) ≡ i ∷ [] = cond-true (is_body i) (i ∷ []) [] body in
-        let same : filter is_body (a ++ i ∷ []) ≡ filter is_body (b ++ i ∷ []) = filter-append is_body a (i ∷ []) ∙ ap (λ xs. xs ++ filter is_body (i ∷ [])) e ∙ sym (filter-append is_body b (i ∷ [])) in
-        let still : list_any is_sched (a ++ i ∷ []) ≡ false = list_any-append is_sched a (i ∷ []) ∙ or_from (list_any is_sched a) (is_sched i || false) none (or_from (is_sched i) false (body_cases (λ j. is_sched j ≡ false) (λ j s c t. c) i body) refl) in
-        subst (Stand a) (sym (cond-true (is_body i) (i ∷ filter is_body is) (filter is_body is) body))
-        (body_stands a b i body e none h.0, body_stand is (a ++ i ∷ []) (b ++ i ∷ []) h.1 same still))
+    let one : filter is_body (i ∷ []) ≡ i ∷ [] = cond-true (is_body i) (i ∷ []) [] body in
+    let same : filter is_body (a ++ i ∷ []) ≡ filter is_body (b ++ i ∷ []) = filter-append is_body a (i ∷ []) ∙ ap (λ xs. xs ++ filter is_body (i ∷ [])) e ∙ sym (filter-append is_body b (i ∷ [])) in
+    let still : list_any is_sched (a ++ i ∷ []) ≡ false = list_any-append is_sched a (i ∷ []) ∙ or_from (list_any is_sched a) (is_sched i || false) none (or_from (is_sched i) false (body_cases (λ j. is_sched j ≡ false) (λ j s c t. c) i body) refl) in
+    subst (Stand a) (sym (cond-true (is_body i) (i ∷ filter is_body is) (filter is_body is) body))
+    (body_stands a b i body e none h.0, body_stand is (a ++ i ∷ []) (b ++ i ∷ []) h.1 same still))
     (λ other.
-        let none_more : filter is_body (b ++ i ∷ []) ≡ filter is_body b = filter-append is_body b (i ∷ []) ∙ ap (λ xs. filter is_body b ++ xs) (cond-false (is_body i) (i ∷ []) [] other) ∙ append-nil (filter is_body b) in
-        subst (Stand a) (sym (cond-false (is_body i) (i ∷ filter is_body is) (filter is_body is) other))
-        (body_stand is a (b ++ i ∷ []) h.1 (e ∙ sym none_more) none))
+    let none_more : filter is_body (b ++ i ∷ []) ≡ filter is_body b = filter-append is_body b (i ∷ []) ∙ ap (λ xs. filter is_body b ++ xs) (cond-false (is_body i) (i ∷ []) [] other) ∙ append-nil (filter is_body b) in
+    subst (Stand a) (sym (cond-false (is_body i) (i ∷ filter is_body is) (filter is_body is) other))
+    (body_stand is a (b ++ i ∷ []) h.1 (e ∙ sym none_more) none))
 
 -- ### A line of the schedule
 
@@ -237,26 +239,26 @@ turn_stands a b i turn e t s h =
       formed = turn_cases (λ i. IsFormed b i → IsFormed a i) (λ seat n h. (seat_same a b seat e h.0, h.1)) (λ seat k h. (seat_same a b seat e h.0, h.1)) i turn h.formed;
       ordered = turn_cases (λ i. is_misplaced a i ≡ false) (λ seat n. ap not s) (λ seat k. ap not s) i turn;
       few = many_same a b i e (ap (λ n. is_turn i && nat_le 4096 n) (turns_same a b t)) ∙ h.few;
-      paired = unpaired_same a b (λ n. held_same a b n e) i ∙ h.paired
+      paired = unpaired_same a b (λ n. held_same a b n e) i ∙ h.paired;
     }
 
 pub turns_stand : (is a b : List Item) → Stand b is → filter is_body a ≡ filter is_body (b ++ is) → filter is_turn a ≡ filter is_turn b → list_any is_sched a ≡ true → Stand a (filter is_turn is)
 turns_stand [] a b h e t s = tt
 turns_stand (i ∷ is) a b h e t s = by_test (is_turn i) (Stand a (filter is_turn (i ∷ is)))
     (λ turn.
-        let begun : list_any is_sched b ≡ true = not-false (list_any is_sched b) (not_late b i turn (in_order b i h.0.ordered).late) in
-        let rest : filter is_body (i ∷ is) ≡ [] = no_body (i ∷ is) b h begun in
-        let now : filter is_body a ≡ filter is_body b = e ∙ filter-append is_body b (i ∷ is) ∙ ap (λ xs. filter is_body b ++ xs) rest ∙ append-nil (filter is_body b) in
-        let grown : filter is_body (a ++ i ∷ []) ≡ filter is_body ((b ++ i ∷ []) ++ is) =
-            filter-append is_body a (i ∷ []) ∙ ap (λ xs. filter is_body a ++ xs) (cond-false (is_body i) (i ∷ []) [] (turn_cases (λ j. is_body j ≡ false) (λ seat n. refl) (λ seat k. refl) i turn)) ∙ append-nil (filter is_body a) ∙ e ∙ ap (filter is_body) (sym (append_assoc b (i ∷ []) is)) in
-        let turns : filter is_turn (a ++ i ∷ []) ≡ filter is_turn (b ++ i ∷ []) = filter-append is_turn a (i ∷ []) ∙ ap (λ xs. xs ++ filter is_turn (i ∷ [])) t ∙ sym (filter-append is_turn b (i ∷ [])) in
-        let still : list_any is_sched (a ++ i ∷ []) ≡ true = list_any-append is_sched a (i ∷ []) ∙ or_left (list_any is_sched a) (is_sched i || false) s in
-        subst (Stand a) (sym (cond-true (is_turn i) (i ∷ filter is_turn is) (filter is_turn is) turn))
-        (turn_stands a b i turn now t s h.0, turns_stand is (a ++ i ∷ []) (b ++ i ∷ []) h.1 grown turns still))
+    let begun : list_any is_sched b ≡ true = not-false (list_any is_sched b) (not_late b i turn (in_order b i h.0.ordered).late) in
+    let rest : filter is_body (i ∷ is) ≡ [] = no_body (i ∷ is) b h begun in
+    let now : filter is_body a ≡ filter is_body b = e ∙ filter-append is_body b (i ∷ is) ∙ ap (λ xs. filter is_body b ++ xs) rest ∙ append-nil (filter is_body b) in
+    let grown : filter is_body (a ++ i ∷ []) ≡ filter is_body ((b ++ i ∷ []) ++ is) =
+    filter-append is_body a (i ∷ []) ∙ ap (λ xs. filter is_body a ++ xs) (cond-false (is_body i) (i ∷ []) [] (turn_cases (λ j. is_body j ≡ false) (λ seat n. refl) (λ seat k. refl) i turn)) ∙ append-nil (filter is_body a) ∙ e ∙ ap (filter is_body) (sym (append_assoc b (i ∷ []) is)) in
+    let turns : filter is_turn (a ++ i ∷ []) ≡ filter is_turn (b ++ i ∷ []) = filter-append is_turn a (i ∷ []) ∙ ap (λ xs. xs ++ filter is_turn (i ∷ [])) t ∙ sym (filter-append is_turn b (i ∷ [])) in
+    let still : list_any is_sched (a ++ i ∷ []) ≡ true = list_any-append is_sched a (i ∷ []) ∙ or_left (list_any is_sched a) (is_sched i || false) s in
+    subst (Stand a) (sym (cond-true (is_turn i) (i ∷ filter is_turn is) (filter is_turn is) turn))
+    (turn_stands a b i turn now t s h.0, turns_stand is (a ++ i ∷ []) (b ++ i ∷ []) h.1 grown turns still))
     (λ other.
-        let none_more : filter is_turn (b ++ i ∷ []) ≡ filter is_turn b = filter-append is_turn b (i ∷ []) ∙ ap (λ xs. filter is_turn b ++ xs) (cond-false (is_turn i) (i ∷ []) [] other) ∙ append-nil (filter is_turn b) in
-        subst (Stand a) (sym (cond-false (is_turn i) (i ∷ filter is_turn is) (filter is_turn is) other))
-        (turns_stand is a (b ++ i ∷ []) h.1 (e ∙ ap (filter is_body) (sym (append_assoc b (i ∷ []) is))) (t ∙ sym none_more) s))
+    let none_more : filter is_turn (b ++ i ∷ []) ≡ filter is_turn b = filter-append is_turn b (i ∷ []) ∙ ap (λ xs. filter is_turn b ++ xs) (cond-false (is_turn i) (i ∷ []) [] other) ∙ append-nil (filter is_turn b) in
+    subst (Stand a) (sym (cond-false (is_turn i) (i ∷ filter is_turn is) (filter is_turn is) other))
+    (turns_stand is a (b ++ i ∷ []) h.1 (e ∙ ap (filter is_body) (sym (append_assoc b (i ∷ []) is))) (t ∙ sym none_more) s))
   where
     not_late : (b : List Item) (i : Item) → is_turn i ≡ true → (is_turn i && not (list_any is_sched b)) ≡ false → not (list_any is_sched b) ≡ false
     not_late b i turn h = sym (ap (λ t. t && not (list_any is_sched b)) turn) ∙ h
@@ -277,5 +279,5 @@ sched_stands a s h e none =
       formed = tt;
       ordered = of_order a Sched (record { sized = refl; begun = refl; early = none; late = refl });
       few = ap (λ ns. nat_lt 64 (length ns)) named ∙ names_few s [] h refl;
-      paired = refl
+      paired = refl;
     }

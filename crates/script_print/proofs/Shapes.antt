@@ -34,15 +34,15 @@ shaped ws =
     let make : ℕ → ℕ → ℕ → Option ℕ → Bool → Shape = λ piece again fail end serve. record { piece = piece; again = again; fail = fail; serve = serve; end = end } in
     of_part_test (are_known (codes "piece=" ∷ codes "again=" ∷ codes "fail=" ∷ codes "end=" ∷ []) (codes "serve" ∷ []) ws) (Ok make <*> piece <*> again <*> fail <*> end <*> serve) 3 IsShape
     (λ known. with_part (Ok make <*> piece <*> again <*> fail <*> end) serve
-        (λ g. (s : Bool) → IsShape (g s)) (λ s. Unit {0}) IsShape
-        (with_part (Ok make <*> piece <*> again <*> fail) end
-            (λ g. (e : Option ℕ) (s : Bool) → IfSome e (IsWithin 0 65536) → IsShape (g e s)) (λ o. IfSome o (IsWithin 0 65536)) (λ g. (s : Bool) → IsShape (g s))
-            (of_triple make piece again fail (number_option 65536 1 65536 (values_of (codes "piece=") ws)) (number_option 0 2 65536 (values_of (codes "again=") ws)) (number_option 0 1 65536 (values_of (codes "fail=") ws))
-                (λ p a f hp ha hf e s he. record { piece_in = hp; again_in = ha; fail_in = hf; end_in = he }))
-            (of_option (λ w. Ok (λ n. Some n) <*> number_in 0 65536 w) None (values_of (codes "end=") ws) (λ o. IfSome o (IsWithin 0 65536)) tt ended)
-            (λ g e h he s. h e s he))
-        (of_option (λ w. Ok true) false (filter (bytes_eq (codes "serve")) ws) (λ s. Unit {0}) tt (λ w. tt))
-        (λ g s h hs. h s))
+    (λ g. (s : Bool) → IsShape (g s)) (λ s. Unit {0}) IsShape
+    (with_part (Ok make <*> piece <*> again <*> fail) end
+    (λ g. (e : Option ℕ) (s : Bool) → IfSome e (IsWithin 0 65536) → IsShape (g e s)) (λ o. IfSome o (IsWithin 0 65536)) (λ g. (s : Bool) → IsShape (g s))
+    (of_triple make piece again fail (number_option 65536 1 65536 (values_of (codes "piece=") ws)) (number_option 0 2 65536 (values_of (codes "again=") ws)) (number_option 0 1 65536 (values_of (codes "fail=") ws))
+    (λ p a f hp ha hf e s he. record { piece_in = hp; again_in = ha; fail_in = hf; end_in = he }))
+    (of_option (λ w. Ok (λ n. Some n) <*> number_in 0 65536 w) None (values_of (codes "end=") ws) (λ o. IfSome o (IsWithin 0 65536)) tt ended)
+    (λ g e h he s. h e s he))
+    (of_option (λ w. Ok true) false (filter (bytes_eq (codes "serve")) ws) (λ s. Unit {0}) tt (λ w. tt))
+    (λ g s h hs. h s))
   where
     of_triple : (make : ℕ → ℕ → ℕ → Option ℕ → Bool → Shape) (piece again fail : Reads ℕ)
         → IfOk piece (IsOption 65536 1 65536) → IfOk again (IsOption 0 2 65536) → IfOk fail (IsOption 0 1 65536)
@@ -52,7 +52,7 @@ shaped ws =
         with_part (Ok make <*> piece <*> again) fail
         (λ g. (f : ℕ) → IsOption 0 1 65536 f → (e : Option ℕ) (s : Bool) → IfSome e (IsWithin 0 65536) → IsShape (g f e s)) (IsOption 0 1 65536) (λ g. (e : Option ℕ) (s : Bool) → IfSome e (IsWithin 0 65536) → IsShape (g e s))
         (of_parts make piece again (IsOption 65536 1 65536) (IsOption 0 2 65536) (λ g. (f : ℕ) → IsOption 0 1 65536 f → (e : Option ℕ) (s : Bool) → IfSome e (IsWithin 0 65536) → IsShape (g f e s)) hp ha
-            (λ p a hp ha f hf e s he. k p a f hp ha hf e s he))
+        (λ p a hp ha f hf e s he. k p a f hp ha hf e s he))
         hf (λ g f h hf. h f hf)
 
 -- ` end=N` as words
@@ -154,30 +154,30 @@ shape_back s h =
     let ws = shape_words s in
     let make : ℕ → ℕ → ℕ → Option ℕ → Bool → Shape = λ piece again fail end serve. record { piece = piece; again = again; fail = fail; serve = serve; end = end } in
     let piece : option_in (number_in 1 65536) 65536 (values_of (codes "piece=") ws) ≡ Ok s.piece =
-        ap (λ vs. option_in (number_in 1 65536) 65536 (map (drop 6) vs)) (piece_words s)
-        ∙ ap (option_in (number_in 1 65536) 65536) (behind_key 6 (s.piece == 65536) (codes "piece=" ++ decimal s.piece) (decimal s.piece) refl)
-        ∙ number_option_back 65536 1 65536 s.piece (omega arith) h.piece_in in
+    ap (λ vs. option_in (number_in 1 65536) 65536 (map (drop 6) vs)) (piece_words s)
+    ∙ ap (option_in (number_in 1 65536) 65536) (behind_key 6 (s.piece == 65536) (codes "piece=" ++ decimal s.piece) (decimal s.piece) refl)
+    ∙ number_option_back 65536 1 65536 s.piece (omega arith) h.piece_in in
     let again : option_in (number_in 2 65536) 0 (values_of (codes "again=") ws) ≡ Ok s.again =
-        ap (λ vs. option_in (number_in 2 65536) 0 (map (drop 6) vs)) (again_words s)
-        ∙ ap (option_in (number_in 2 65536) 0) (behind_key 6 (s.again == 0) (codes "again=" ++ decimal s.again) (decimal s.again) refl)
-        ∙ number_option_back 0 2 65536 s.again (omega arith) h.again_in in
+    ap (λ vs. option_in (number_in 2 65536) 0 (map (drop 6) vs)) (again_words s)
+    ∙ ap (option_in (number_in 2 65536) 0) (behind_key 6 (s.again == 0) (codes "again=" ++ decimal s.again) (decimal s.again) refl)
+    ∙ number_option_back 0 2 65536 s.again (omega arith) h.again_in in
     let fail : option_in (number_in 1 65536) 0 (values_of (codes "fail=") ws) ≡ Ok s.fail =
-        ap (λ vs. option_in (number_in 1 65536) 0 (map (drop 5) vs)) (fail_words s)
-        ∙ ap (option_in (number_in 1 65536) 0) (behind_key 5 (s.fail == 0) (codes "fail=" ++ decimal s.fail) (decimal s.fail) refl)
-        ∙ number_option_back 0 1 65536 s.fail (omega arith) h.fail_in in
+    ap (λ vs. option_in (number_in 1 65536) 0 (map (drop 5) vs)) (fail_words s)
+    ∙ ap (option_in (number_in 1 65536) 0) (behind_key 5 (s.fail == 0) (codes "fail=" ++ decimal s.fail) (decimal s.fail) refl)
+    ∙ number_option_back 0 1 65536 s.fail (omega arith) h.fail_in in
     let end : option_in (λ w. Ok (λ n. Some n) <*> number_in 0 65536 w) None (values_of (codes "end=") ws) ≡ Ok s.end =
-        ap (λ vs. option_in (λ w. Ok (λ n. Some n) <*> number_in 0 65536 w) None (map (drop 4) vs)) (end_word s) ∙ end_back s.end h.end_in in
+    ap (λ vs. option_in (λ w. Ok (λ n. Some n) <*> number_in 0 65536 w) None (map (drop 4) vs)) (end_word s) ∙ end_back s.end h.end_in in
     let serve : option_in (λ w. Ok true) false (filter (bytes_eq (codes "serve")) ws) ≡ Ok s.serve =
-        ap (option_in (λ w. Ok true) false) (serve_words s) ∙ serve_back s.serve in
+    ap (option_in (λ w. Ok true) false) (serve_words s) ∙ serve_back s.serve in
     let known : are_known (codes "piece=" ∷ codes "again=" ∷ codes "fail=" ∷ codes "end=" ∷ []) (codes "serve" ∷ []) ws ≡ true =
-        shape_words_pass (λ w. list_any (bytes_eq w) (codes "serve" ∷ []) || list_any (starts_with nat_eq w) (codes "piece=" ∷ codes "again=" ∷ codes "fail=" ∷ codes "end=" ∷ [])) s (λ e. refl) (λ e. refl) (λ e. refl) refl (λ n e. refl) in
+    shape_words_pass (λ w. list_any (bytes_eq w) (codes "serve" ∷ []) || list_any (starts_with nat_eq w) (codes "piece=" ∷ codes "again=" ∷ codes "fail=" ∷ codes "end=" ∷ [])) s (λ e. refl) (λ e. refl) (λ e. refl) refl (λ n e. refl) in
     cond-true (are_known (codes "piece=" ∷ codes "again=" ∷ codes "fail=" ∷ codes "end=" ∷ []) (codes "serve" ∷ []) ws)
-        (Ok make <*> option_in (number_in 1 65536) 65536 (values_of (codes "piece=") ws) <*> option_in (number_in 2 65536) 0 (values_of (codes "again=") ws) <*> option_in (number_in 1 65536) 0 (values_of (codes "fail=") ws)
-            <*> option_in (λ w. Ok (λ n. Some n) <*> number_in 0 65536 w) None (values_of (codes "end=") ws) <*> option_in (λ w. Ok true) false (filter (bytes_eq (codes "serve")) ws)) (Err 3) known
+    (Ok make <*> option_in (number_in 1 65536) 65536 (values_of (codes "piece=") ws) <*> option_in (number_in 2 65536) 0 (values_of (codes "again=") ws) <*> option_in (number_in 1 65536) 0 (values_of (codes "fail=") ws)
+    <*> option_in (λ w. Ok (λ n. Some n) <*> number_in 0 65536 w) None (values_of (codes "end=") ws) <*> option_in (λ w. Ok true) false (filter (bytes_eq (codes "serve")) ws)) (Err 3) known
     ∙ ap (λ r. Ok make <*> r <*> option_in (number_in 2 65536) 0 (values_of (codes "again=") ws) <*> option_in (number_in 1 65536) 0 (values_of (codes "fail=") ws)
-            <*> option_in (λ w. Ok (λ n. Some n) <*> number_in 0 65536 w) None (values_of (codes "end=") ws) <*> option_in (λ w. Ok true) false (filter (bytes_eq (codes "serve")) ws)) piece
+    <*> option_in (λ w. Ok (λ n. Some n) <*> number_in 0 65536 w) None (values_of (codes "end=") ws) <*> option_in (λ w. Ok true) false (filter (bytes_eq (codes "serve")) ws)) piece
     ∙ ap (λ r. Ok make <*> Ok s.piece <*> r <*> option_in (number_in 1 65536) 0 (values_of (codes "fail=") ws)
-            <*> option_in (λ w. Ok (λ n. Some n) <*> number_in 0 65536 w) None (values_of (codes "end=") ws) <*> option_in (λ w. Ok true) false (filter (bytes_eq (codes "serve")) ws)) again
+    <*> option_in (λ w. Ok (λ n. Some n) <*> number_in 0 65536 w) None (values_of (codes "end=") ws) <*> option_in (λ w. Ok true) false (filter (bytes_eq (codes "serve")) ws)) again
     ∙ ap (λ r. Ok make <*> Ok s.piece <*> Ok s.again <*> r <*> option_in (λ w. Ok (λ n. Some n) <*> number_in 0 65536 w) None (values_of (codes "end=") ws) <*> option_in (λ w. Ok true) false (filter (bytes_eq (codes "serve")) ws)) fail
     ∙ ap (λ r. Ok make <*> Ok s.piece <*> Ok s.again <*> Ok s.fail <*> r <*> option_in (λ w. Ok true) false (filter (bytes_eq (codes "serve")) ws)) end
     ∙ ap (λ r. Ok make <*> Ok s.piece <*> Ok s.again <*> Ok s.fail <*> Ok s.end <*> r) serve

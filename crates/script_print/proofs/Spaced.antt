@@ -55,7 +55,7 @@ split_spaced w (v ∷ vs) h hs =
     slice_split_at (λ b. b == 32) w 32 (v ++ flat_map word vs) (none_of is_word_byte (λ b. b == 32) no_space w (and_parts (has_bytes w) (list_all is_word_byte w) h).1) refl
     ∙ ap (λ xs. w ∷ xs) (split_spaced v vs parts.0 parts.1)
 
-all_kept : {A : Type 0} (p : A → Bool) (xs : List A) → list_all p xs ≡ true → filter p xs ≡ xs
+pub all_kept : {A : Type 0} (p : A → Bool) (xs : List A) → list_all p xs ≡ true → filter p xs ≡ xs
 all_kept p [] h = refl
 all_kept p (x ∷ xs) h =
     let parts = and_parts (p x) (list_all p xs) h in

@@ -43,11 +43,11 @@ decimal_word n h =
 
 no_leading_zero : (n : ℕ) → n < 2 ^ 64 → ((length (decimal n) == 1) || not (slice_index (decimal n) 0 == 48)) ≡ true
 no_leading_zero n h = elim (cases_eq n 0) [
-    | inl none ↦ or_left (length (decimal n) == 1) (not (slice_index (decimal n) 0 == 48)) (ap (λ m. length (decimal m) == 1) none ∙ ap (λ ds. length ds == 1) (decimal_digit 0 (omega arith)))
-    | inr some ↦
-        let high = first_decimal n (omega arith) h in
-        or_right (length (decimal n) == 1) (not (slice_index (decimal n) 0 == 48)) (not_from_false (slice_index (decimal n) 0 == 48) (ne_eqb (slice_index (decimal n) 0) 48 (λ e. absurd (omega arith))))
-  ]
+  | inl none ↦ or_left (length (decimal n) == 1) (not (slice_index (decimal n) 0 == 48)) (ap (λ m. length (decimal m) == 1) none ∙ ap (λ ds. length ds == 1) (decimal_digit 0 (omega arith)))
+  | inr some ↦
+      let high = first_decimal n (omega arith) h in
+      or_right (length (decimal n) == 1) (not (slice_index (decimal n) 0 == 48)) (not_from_false (slice_index (decimal n) 0 == 48) (ne_eqb (slice_index (decimal n) 0) 48 (λ e. absurd (omega arith))))
+]
 
 decimal_numeral : (n : ℕ) → n < 2 ^ 64 → is_numeral (decimal n) ≡ true
 decimal_numeral n h =
@@ -65,9 +65,9 @@ number_within low high w =
     let n = digits_value 10 w in
     of_test (is_numeral w && nat_le low n && nat_le n high) n 4 (IsWithin low high)
     (λ e.
-        let outer = and_parts (is_numeral w && nat_le low n) (nat_le n high) e in
-        let inner = and_parts (is_numeral w) (nat_le low n) outer.0 in
-        record { from = leb-true low n inner.1; to = leb-true n high outer.1 })
+    let outer = and_parts (is_numeral w && nat_le low n) (nat_le n high) e in
+    let inner = and_parts (is_numeral w) (nat_le low n) outer.0 in
+    record { from = leb-true low n inner.1; to = leb-true n high outer.1 })
 
 pub number_back : (low high n : ℕ) → n < 2 ^ 64 → IsWithin low high n → number_in low high (decimal n) ≡ Ok n
 number_back low high n h r =
@@ -96,13 +96,13 @@ spelled is_byte high kind w =
     let test = has_bytes w && nat_le (length w) high && list_all is_byte w in
     of_test test w 7 (IsSpelled is_byte high)
     (λ e.
-        let outer = and_parts (has_bytes w && nat_le (length w) high) (list_all is_byte w) e in
-        let inner = and_parts (has_bytes w) (nat_le (length w) high) outer.0 in
-        record {
-          reads = cond-true test (Ok w) (Err 7) e;
-          bytes = outer.1;
-          one = and_from (has_bytes w) (list_all is_word_byte w) inner.0 (all_implied is_byte is_word_byte kind w outer.1)
-        })
+    let outer = and_parts (has_bytes w && nat_le (length w) high) (list_all is_byte w) e in
+    let inner = and_parts (has_bytes w) (nat_le (length w) high) outer.0 in
+    record {
+      reads = cond-true test (Ok w) (Err 7) e;
+      bytes = outer.1;
+      one = and_from (has_bytes w) (list_all is_word_byte w) inner.0 (all_implied is_byte is_word_byte kind w outer.1);
+    })
 
 -- ## Hexadecimal
 

@@ -1,12 +1,12 @@
 -- A text that is written piece by piece, and the text of a schedule.
-use Rattle.std.proofs.Common.{◌≡◌, ℕ, Bool, true, false, cond, ◌||◌, List, [], ◌∷◌, ◌++◌, take, drop, filter, flat_map, codes, Option, Some, None, refl, ap, sym, ◌∙◌, append_assoc, append-nil}
+use Rattle.std.proofs.Common.{◌≡◌, ℕ, Bool, true, false, ◌||◌, List, [], ◌∷◌, ◌++◌, take, drop, filter, codes, Option, Some, None, refl, ap, sym, ◌∙◌, append_assoc, append-nil}
 use Rattle.std.specs.Io.KnownBytes.{Appends}
 use Rattle.std.specs.List.{list_any}
-use Rattle.std.proofs.lemmas.Bool.{cond-true, cond-false, false≢true, true≢false, or_parts}
+use Rattle.std.proofs.lemmas.Bool.{cond-true, cond-false, false≢true, or_parts}
 use Rattle.std.proofs.lemmas.List.{take-append-drop}
 use Rattle.brpc_model.specs.Items.{Item, is_turn}
 use Rattle.brpc_model.specs.ScriptText.{scheduled}
-use Rattle.script_print.specs.PrintedParts.{line, lines_text, schedule_items}
+use Rattle.script_print.specs.PrintedParts.{lines_text, schedule_items}
 use Rattle.script_print.proofs.Frames.{by_test}
 
 -- one more piece of a list that is taken from its front

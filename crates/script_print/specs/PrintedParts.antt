@@ -1,6 +1,5 @@
 -- The parts of a printed script, each as a text of whole lines.
-use Rattle.std.specs.Prelude.{ℕ, ◌||◌, ◌==◌, Bool, not, if◌then◌else◌, List, [], ◌∷◌, ◌++◌, flat_map, filter, decimal}
-use Rattle.sock_words.specs.Printed.{word}
+use Rattle.std.specs.Prelude.{ℕ, ◌||◌, Bool, not, if◌then◌else◌, List, [], ◌∷◌, ◌++◌, flat_map, filter}
 use Rattle.brpc_model.specs.Items.{Item, Slots, Requests, First, is_size, is_sched, is_turn}
 use Rattle.brpc_model.specs.Operations.{slots, requests, first_version}
 use Rattle.brpc_model.specs.ScriptText.{item_text, unless_default, scheduled}
@@ -20,10 +19,6 @@ line_where wanted item = if wanted then line item else []
 -- the lines of these items
 abbrev pub lines_text : List Item → List ℕ
 lines_text items = flat_map line items
-
--- a word and a number that isn't the default, as a line
-abbrev pub size_line : List ℕ → ℕ → ℕ → List ℕ
-size_line name default n = if n == default then [] else name ++ word (decimal n) ++ 10 ∷ []
 
 -- the size lines of a script that differ from their defaults
 abbrev pub size_items : List Item → List Item

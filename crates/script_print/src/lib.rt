@@ -2,11 +2,14 @@
 #![tactic(auto)]
 
 mod draws;
+mod generator;
 mod lines;
 mod output;
 mod parts;
 mod print;
 mod script_text;
+#[cfg(test)]
+mod tests;
 
+pub use generator::generate;
 pub use print::{PrintFault, print_script};
-

@@ -28,11 +28,7 @@ pub enum PrintFault {
 /// What is printed of a script that was read is read again as the same script. `Sink` comes only
 /// where the sink failed, and `NoMemory` only before anything was written. The rules of the text
 /// are this project's own.
-pub fn print_script<K: Sink>(
-    alloc: Global,
-    script: &Script,
-    out: &mut K,
-) -> Result<(), PrintFault>
+pub fn print_script<K: Sink>(alloc: Global, script: &Script, out: &mut K) -> Result<(), PrintFault>
     ensures whole { OnOk result (
         Appends (K.contents out.old) (K.contents out.new) (script_text script.now)) }
     ensures kept { OnOk result (K.faults out.new ≡ K.faults out.old) }

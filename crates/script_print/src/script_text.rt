@@ -4,10 +4,9 @@ ghost use Rattle.brpc_model.specs.Items.{is_turn};
 ghost use Rattle.brpc_model.specs.Operations.{slots, requests, first_version};
 ghost use Rattle.brpc_model.specs.ScriptText.{script_text};
 ghost use Rattle.script_items.specs.Meaning.{item};
-ghost use Rattle.script_print.specs.PrintedParts.{is_body, line, line_where, lines_text, size_line, size_items, body_items, schedule_items};
+ghost use Rattle.script_print.specs.PrintedParts.{is_body, line, line_where, lines_text, size_items, body_items, schedule_items};
 
 use crate::lines::push_line;
-use crate::parts::push_number_word;
 use script_items::{Line, Script};
 use std::alloc::{AllocError, Global};
 
@@ -56,33 +55,6 @@ fn first_of(lines: &[Line]) -> u32
     FIRST
 }
 
-/// Appends a line with a size, unless it is the default.
-fn push_size(
-    text: &mut Vec<u8>,
-    name: &[u8],
-    default: u32,
-    number: u32,
-) -> Result<(), AllocError>
-    ensures { OnOk result (text.new.items ≡ text.old.items ++ size_line name.now default number) }
-{
-    if number == default {
-        return Ok(());
-    }
-    text.extend_from_slice(name)?;
-    push_number_word(text, u64::from(number))?;
-    text.extend_from_slice(b"\n")
-}
-
-/// Appends the lines of the sizes that differ from their defaults.
-fn push_sizes(text: &mut Vec<u8>, lines: &[Line]) -> Result<(), AllocError>
-    ensures { OnOk result (
-        text.new.items ≡ text.old.items ++ lines_text (size_items (map item lines.now))) }
-{
-    push_size(text, b"slots", SLOTS, slots_of(lines))?;
-    push_size(text, b"requests", REQUESTS, requests_of(lines))?;
-    push_size(text, b"first", FIRST, first_of(lines))
-}
-
 /// Whether the line is an operation or begins a client.
 fn is_body(line: &Line) -> bool
     ensures { result ≡ is_body (item line.now) }
@@ -120,6 +92,19 @@ fn push_where(
     }
     push_line(alloc, text, line)?;
     text.extend_from_slice(b"\n")
+}
+
+/// Appends the lines of the sizes that differ from their defaults.
+fn push_sizes(alloc: Global, text: &mut Vec<u8>, lines: &[Line]) -> Result<(), AllocError>
+    ensures { OnOk result (
+        text.new.items ≡ text.old.items ++ lines_text (size_items (map item lines.now))) }
+{
+    let slots = slots_of(lines);
+    let requests = requests_of(lines);
+    let first = first_of(lines);
+    push_where(alloc, text, &Line::Slots(slots), slots != SLOTS)?;
+    push_where(alloc, text, &Line::Requests(requests), requests != REQUESTS)?;
+    push_where(alloc, text, &Line::First(first), first != FIRST)
 }
 
 /// Appends the setup and the clients.
@@ -175,7 +160,7 @@ pub fn text_of(alloc: Global, script: &Script) -> Result<Vec<u8>, AllocError>
 {
     let lines = script.lines();
     let mut text = Vec::new(alloc);
-    push_sizes(&mut text, lines)?;
+    push_sizes(alloc, &mut text, lines)?;
     push_body(alloc, &mut text, lines)?;
     push_schedule(alloc, &mut text, lines)?;
     Ok(text)

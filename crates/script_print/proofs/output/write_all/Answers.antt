@@ -1,4 +1,4 @@
-use Rattle.std.proofs.Common.{◌≡◌, ◌++◌, take, drop, ap, ◌∙◌}
+use Rattle.std.proofs.Common.{◌++◌, take, ap, ◌∙◌}
 use Rattle.script_print.proofs.Written.{front_grows, Appends-append}
 use Rattle.script_print.proofs.output.write_all.Goals as goal
 

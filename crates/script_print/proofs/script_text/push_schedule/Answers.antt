@@ -1,6 +1,5 @@
-use Rattle.std.proofs.Common.{◌≡◌, ◌++◌, filter, map, codes, ap, sym, ◌∙◌, rules, OnOk, true, false, not}
+use Rattle.std.proofs.Common.{◌++◌, filter, map, ap, sym, ◌∙◌}
 use Rattle.std.proofs.lemmas.Result.{on_ok_weaker}
-use Rattle.std.proofs.lemmas.Bool.{not-true, not-false}
 use Rattle.brpc_model.specs.Items.{is_turn}
 use Rattle.script_items.specs.Meaning.{item}
 use Rattle.script_print.specs.PrintedParts.{lines_text}
@@ -14,5 +13,5 @@ returns-then-not-has_turns c =
 pub returns : goal.returns
 returns c = on_ok_weaker c.push_turns.result
     (λ e. e ∙ ap (λ t. t ++ lines_text (filter is_turn (map item c.args.lines.now))) c.in_ok-extend_from_slice.ensures.items
-        ∙ with_schedule c.args.text.now.items (map item c.args.lines.now) (sym c.has_turns.ensures ∙ c.if-not-has_turns.false))
+    ∙ with_schedule c.args.text.now.items (map item c.args.lines.now) (sym c.has_turns.ensures ∙ c.if-not-has_turns.false))
     c.push_turns.ensures
