@@ -66,6 +66,7 @@ impl<'a> Fields<'a> {
     pub fn next(&mut self) -> Result<Option<Field>, WireFault>
         ensures exact { answer_in self.old.bytes result ≡ sizeless (ahead self.old) }
         ensures place { self.new ≡ behind self.old (ahead self.old) }
+        ensures message { (self.new.bytes ≡ self.old.bytes) × (self.new.end ≡ self.old.end) }
         ensures rest { left self.old ≡ in_front (answer_in self.old.bytes result) (left self.new) }
         ensures spelled { IfOk result (λ f. IfSome f (λ f. IsField self.old.at (slice_range self.old.bytes self.old.at self.new.at) (field_in self.old.bytes f))) }
         ensures each { (f : WireField) (to : ℕ) → self.old.fault ≡ None → self.old.at ≤ to → to ≤ self.old.end → IsField self.old.at (slice_range self.old.bytes self.old.at to) f → (answer_in self.old.bytes result ≡ Ok (Some f)) × (self.new.at ≡ to) }
