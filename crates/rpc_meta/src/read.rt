@@ -21,11 +21,11 @@ impl RpcMeta {
         ensures { IfSome (answer result) (λ read. read ≡ read_meta bytes.now) }
     {
         let parts = gather(bytes)?;
-        let request = build_request(alloc, parts.request)?;
-        let response = build_response(alloc, parts.response)?;
-        if request.is_none() && response.is_none() {
+        if parts.request.is_none() && parts.response.is_none() {
             return Err(MetaFault::Neither);
         }
+        let request = build_request(alloc, parts.request)?;
+        let response = build_response(alloc, parts.response)?;
         Ok(RpcMeta {
             request,
             response,
