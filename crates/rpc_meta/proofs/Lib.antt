@@ -1,3 +1,4 @@
 pub mod Gathering
 pub mod Merging
 pub mod Building
+pub mod Appending

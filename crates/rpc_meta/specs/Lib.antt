@@ -3,3 +3,4 @@ pub mod Gathered
 pub mod Parts
 pub mod Steps
 pub mod Answer
+pub mod Writing

@@ -9,6 +9,7 @@ mod gather;
 mod meta;
 mod parts;
 mod read;
+mod write;
 
 pub use fault::MetaFault;
 pub use meta::{MetaBytes, RequestMeta, ResponseMeta, RpcMeta};
