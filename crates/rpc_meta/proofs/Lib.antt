@@ -2,3 +2,5 @@ pub mod Gathering
 pub mod Merging
 pub mod Building
 pub mod Appending
+pub mod Pieces
+pub mod RoundTrip

@@ -5,6 +5,7 @@ use Rattle.brpc_model.specs.Meta as meta
 use Rattle.rpc_meta.specs.Meaning.{request_of, response_of}
 use Rattle.rpc_meta.specs.declared.meta.RpcMeta.{RpcMeta}
 use Rattle.rpc_meta.specs.Writing.{Appends}
+use Rattle.rpc_meta.proofs.RoundTrip as trip
 use Rattle.rpc_meta.proofs.Appending.{kept, behind, joined}
 use Rattle.rpc_meta.proofs.write.append_meta.Goals as goal
 
