@@ -4,3 +4,5 @@ pub mod Readings
 pub mod Varints
 pub mod FieldForms
 pub mod ReadingForms
+pub mod Shortest
+pub mod Messages

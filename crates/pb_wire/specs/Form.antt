@@ -38,3 +38,8 @@ pub record IsField (at : ℕ) (bytes : List ℕ) (f : Field) : Type 0 where
   pub numbered : 1 ≤ f.number
   pub short : f.number < 2 ^ 29
   pub value_is : IsValue type (at + length key) value f.value
+
+-- these bytes, which begin at this place, spell these fields one after another
+abbrev pub IsMessage : ℕ → List ℕ → List Field → Type 0
+IsMessage at bytes [] = bytes ≡ []
+IsMessage at bytes (f ∷ fs) = (first : List ℕ) × (rest : List ℕ) × (bytes ≡ first ++ rest) × IsField at first f × IsMessage (at + length first) rest fs

@@ -1,7 +1,7 @@
-ghost use Rattle.std.specs.Prelude.{◌≡◌, ℕ, ◌+◌, ◌<◌, ◌≤◌, length, slice_range, Ok, Some, None, IfOk, IfSome};
+ghost use Rattle.std.specs.Prelude.{◌≡◌, ◌↔◌, ℕ, List, ◌+◌, ◌<◌, ◌≤◌, length, slice_range, Ok, Some, None, IfOk, IfSome};
 ghost use Rattle.brpc_model.specs.Wire.{Field as WireField};
 ghost use Rattle.pb_wire.specs.Told.{field_in, answer_in, IsBefore};
-ghost use Rattle.pb_wire.specs.Form.{IsField};
+ghost use Rattle.pb_wire.specs.Form.{IsField, IsMessage};
 ghost use Rattle.pb_wire.specs.Reading.{ahead, behind, sizeless, left, in_front};
 
 use crate::fault::WireFault;
@@ -34,7 +34,8 @@ impl<'a> Model for Fields<'a> {
 impl<'a> Fields<'a> {
     /// The fields of the message that these bytes are.
     pub fn new(bytes: &'a [u8]) -> Fields<'a>
-        ensures { result ≡ record { bytes = bytes.now; at = 0; end = length bytes.now; fault = None } }
+        ensures place { result ≡ record { bytes = bytes.now; at = 0; end = length bytes.now; fault = None } }
+        ensures spelled { (fs : List WireField) → (left result ≡ Ok fs) ↔ IsMessage 0 bytes.now fs }
     {
         Fields {
             bytes,
@@ -50,7 +51,8 @@ impl<'a> Fields<'a> {
     pub fn within(bytes: &'a [u8], from: usize, to: usize) -> Fields<'a>
         requires from_in { from ≤ to }
         requires to_in { to ≤ length bytes.now }
-        ensures { result ≡ record { bytes = bytes.now; at = from; end = to; fault = None } }
+        ensures place { result ≡ record { bytes = bytes.now; at = from; end = to; fault = None } }
+        ensures spelled { (fs : List WireField) → (left result ≡ Ok fs) ↔ IsMessage from (slice_range bytes.now from to) fs }
     {
         Fields {
             bytes,
@@ -66,6 +68,7 @@ impl<'a> Fields<'a> {
     pub fn next(&mut self) -> Result<Option<Field>, WireFault>
         ensures exact { answer_in self.old.bytes result ≡ sizeless (ahead self.old) }
         ensures place { self.new ≡ behind self.old (ahead self.old) }
+        ensures message { (self.new.bytes ≡ self.old.bytes) × (self.new.end ≡ self.old.end) }
         ensures rest { left self.old ≡ in_front (answer_in self.old.bytes result) (left self.new) }
         ensures spelled { IfOk result (λ f. IfSome f (λ f. IsField self.old.at (slice_range self.old.bytes self.old.at self.new.at) (field_in self.old.bytes f))) }
         ensures each { (f : WireField) (to : ℕ) → self.old.fault ≡ None → self.old.at ≤ to → to ≤ self.old.end → IsField self.old.at (slice_range self.old.bytes self.old.at to) f → (answer_in self.old.bytes result ≡ Ok (Some f)) × (self.new.at ≡ to) }

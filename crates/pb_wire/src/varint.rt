@@ -1,4 +1,4 @@
-ghost use Rattle.std.specs.Prelude.{◌≡◌, ℕ, ◌+◌, ◌-◌, ◌*◌, ◌%◌, ◌^◌, ◌<◌, ◌≤◌, length, drop, ◌++◌, min, slice_range, Ok, IfOk, is_ok, if◌then◌else◌};
+ghost use Rattle.std.specs.Prelude.{◌≡◌, ℕ, List, ◌+◌, ◌-◌, ◌*◌, ◌%◌, ◌^◌, ◌<◌, ◌≤◌, length, drop, ◌++◌, min, slice_range, Ok, IfOk, is_ok, if◌then◌else◌};
 ghost use Rattle.std.specs.List.{prefix_len};
 ghost use Rattle.brpc_model.specs.Wire.{varint, goes_on, low_first, varint_bytes};
 ghost use Rattle.pb_wire.specs.Told.{varint_front};
@@ -61,7 +61,9 @@ fn sum_groups(bytes: &[u8]) -> u64
 
 /// Appends the shortest varint of `value`; after a refusal `out` is unchanged.
 pub fn write_varint(out: &mut Vec<u8>, value: u64) -> Result<(), NoMemory>
-    ensures { out.new.items ≡ (if is_ok result then out.old.items ++ varint_bytes value else out.old.items) }
+    ensures exact { out.new.items ≡ (if is_ok result then out.old.items ++ varint_bytes value else out.old.items) }
+    ensures spelled { IsVarint (varint_bytes value) value }
+    ensures shortest { (bytes : List ℕ) → IsVarint bytes value → length (varint_bytes value) ≤ length bytes }
 {
     let mut spelled = [0u8; MOST_BYTES];
     let mut length = 0;
