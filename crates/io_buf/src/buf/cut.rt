@@ -21,6 +21,17 @@ impl IoBuf {
         Ok(all)
     }
 
+    /// A buffer with the first n bytes, in the same blocks. It copies nothing.
+    pub fn share_front(&self, n: usize) -> Result<IoBuf, NoMemory>
+        requires { n ≤ length self.now.items }
+        ensures items { IfOk result (λ b. b.items ≡ take n self.now.items) }
+        ensures sizes { IfOk result (λ b. b.sizes ≡ front_sizes n self.now.sizes) }
+    {
+        let mut front = IoBuf::new(self.alloc);
+        front.add_front(&self.pieces, n)?;
+        Ok(front)
+    }
+
     /// Cuts the first n bytes off, as a buffer over the same blocks. It copies nothing.
     pub fn cut_front(&mut self, n: usize) -> Result<IoBuf, CutFault>
         ensures items { IfOk result (λ front. front.items ≡ take n self.old.items) }
@@ -38,8 +49,7 @@ impl IoBuf {
         if n > self.len {
             return Err(CutFault::Short { have: self.len });
         }
-        let mut front = IoBuf::new(self.alloc);
-        front.add_front(&self.pieces, n)?;
+        let front = self.share_front(n)?;
         self.pop_front(n);
         Ok(front)
     }
