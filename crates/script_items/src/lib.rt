@@ -20,3 +20,6 @@ pub use line::{CallLine, Line, OpenLine, Seat, SendLine, Shape, Target};
 pub use names::Names;
 pub use read::read_line;
 pub use script::Script;
+
+#[cfg(test)]
+mod tests;
