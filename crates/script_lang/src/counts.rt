@@ -1,4 +1,4 @@
-ghost use Rattle.std.specs.Prelude.{◌≡◌, ◌≤◌, false, Bool};
+ghost use Rattle.std.specs.Prelude.{◌≡◌, false};
 ghost use Rattle.script_items.specs.Meaning.{item};
 ghost use Rattle.script_lang.specs.Counting.{no_counts, counted, stands_wrong, is_one_too_many, IsWithinLimits};
 

@@ -1,6 +1,6 @@
-ghost use Rattle.std.specs.Prelude.{◌≡◌, ◌+◌, ◌<◌, ◌||◌, nat_lt, length, ◌^◌, ℕ, List, [], ◌∷◌, ◌++◌, false, option_map, IfOk, OnOk, Some, None, Ok, Err, Option};
+ghost use Rattle.std.specs.Prelude.{◌≡◌, ◌+◌, ◌^◌, ◌<◌, ◌||◌, false, nat_lt, List, [], length, Option, OnOk};
 ghost use Rattle.brpc_model.specs.Items.{Item};
-ghost use Rattle.brpc_model.specs.Script.{items, said_behind, with_line, whole};
+ghost use Rattle.brpc_model.specs.Script.{with_line, whole};
 ghost use Rattle.script_items.specs.Meaning.{item};
 ghost use Rattle.script_lang.specs.Counting.{IsWithinLimits, is_one_too_many};
 ghost use Rattle.script_lang.specs.Known.{Knows, Keeps, HasNames, FaultIs, PlaceIs, LineIs, WholeIs};

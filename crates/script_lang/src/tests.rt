@@ -208,3 +208,27 @@ fn reads_scripts(rt: HostRuntime) {
         }
     }
 }
+
+#[test]
+fn tells_sizes_clients_and_links(rt: HostRuntime) -> Result<(), Fail> {
+    let alloc = rt.alloc();
+    let given = read_script(
+        alloc,
+        b"slots 3\nfirst 8\nrequests 70\nopen b\nclient\nopen a\nclient\n",
+    )
+    .or(Err("given"))?;
+    assert_eq!(rt; slot_count(&given), 3);
+    assert_eq!(rt; request_count(&given), 70);
+    assert_eq!(rt; first_version(&given), 8);
+    assert_eq!(rt; client_count(&given), 2);
+    let names = link_names(alloc, &given)?;
+    assert_eq!(rt; names.len(), 2);
+    assert_eq!(rt; names[0].as_slice(), b"b".as_slice());
+    assert_eq!(rt; names[1].as_slice(), b"a".as_slice());
+    let empty = read_script(alloc, b"").or(Err("empty"))?;
+    assert_eq!(rt; slot_count(&empty), 31);
+    assert_eq!(rt; request_count(&empty), 4096);
+    assert_eq!(rt; first_version(&empty), 0);
+    assert_eq!(rt; client_count(&empty), 0);
+    Ok(())
+}
