@@ -1,2 +1,4 @@
-pub mod Printed
+pub mod KindText
 pub mod OutcomeText
+pub mod Printed
+pub mod Words

@@ -1,0 +1,46 @@
+ghost use Rattle.std.specs.Prelude.{◌≡◌};
+ghost use Rattle.sock_words.specs.Words.{socket_id, socket_id_version, socket_id_slot, IsSocketId, OnlySocketId};
+
+/// The id of a socket: the slot that it lies in, and the version with which it was made there.
+/// Versions of a slot never come twice, so an id names one socket for good.
+#[derive(Clone, Copy, Debug, PartialEq, Eq)]
+pub struct SocketId(u64);
+
+impl SocketId {
+    /// The id of the socket that was made with this version in this slot.
+    pub fn pack(version: u32, slot: u32) -> Self
+        ensures word { result.0 ≡ socket_id version slot }
+        ensures parts { IsSocketId result.0 version slot }
+        ensures once { OnlySocketId result.0 version slot }
+    {
+        SocketId((u64::from(version) << 32) + u64::from(slot))
+    }
+
+    /// The id of this word.
+    pub fn from_word(word: u64) -> Self
+        ensures { result.0 ≡ word }
+    {
+        SocketId(word)
+    }
+
+    /// The word of this id.
+    pub fn word(self) -> u64
+        ensures { result ≡ self.0 }
+    {
+        self.0
+    }
+
+    /// The version with which the socket was made.
+    pub fn version(self) -> u32
+        ensures { result ≡ socket_id_version self.0 }
+    {
+        (self.0 >> 32) as u32
+    }
+
+    /// The slot that the socket lies in.
+    pub fn slot(self) -> u32
+        ensures { result ≡ socket_id_slot self.0 }
+    {
+        (self.0 & 0xffff_ffff) as u32
+    }
+}

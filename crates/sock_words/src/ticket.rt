@@ -1,0 +1,59 @@
+ghost use Rattle.std.specs.Prelude.{◌≡◌};
+ghost use Rattle.sock_words.specs.Words.{ticket, ticket_idle, ticket_generation, ticket_request, HasRequest, FitsTicket, IsTicket, OnlyTicket};
+
+/// A ticket: the mark of a writer's request in the head of a write chain. It has the slot of the
+/// request and the generation in which the request was claimed, so that no ticket comes twice. A
+/// head that is idle keeps the last ticket beside the mark that it is idle.
+#[derive(Clone, Copy, Debug, PartialEq, Eq)]
+pub struct Ticket(u64);
+
+impl Ticket {
+    /// The head of a chain that no ticket was ever put into.
+    pub const IDLE: Ticket = Ticket(1 << 63);
+
+    /// The ticket of a request slot, 0 to 65,534, in a generation below 2^47.
+    pub fn pack(idle: bool, generation: u64, request: u16) -> Self
+        requires { FitsTicket generation request }
+        ensures word { result.0 ≡ ticket idle generation request }
+        ensures parts { IsTicket result.0 idle generation request }
+        ensures once { OnlyTicket result.0 idle generation request }
+    {
+        Ticket((u64::from(idle) << 63) + (generation << 16) + u64::from(request) + 1)
+    }
+
+    /// The ticket of this word.
+    pub fn from_word(word: u64) -> Self
+        ensures { result.0 ≡ word }
+    {
+        Ticket(word)
+    }
+
+    /// The word of this ticket.
+    pub fn word(self) -> u64
+        ensures { result ≡ self.0 }
+    {
+        self.0
+    }
+
+    /// Whether the head is idle.
+    pub fn idle(self) -> bool
+        ensures { result ≡ ticket_idle self.0 }
+    {
+        self.0 >> 63 == 1
+    }
+
+    /// How often the request was freed before.
+    pub fn generation(self) -> u64
+        ensures { result ≡ ticket_generation self.0 }
+    {
+        (self.0 >> 16) & 0x7fff_ffff_ffff
+    }
+
+    /// The slot of the request. An idle head without any ticket has none.
+    pub fn request(self) -> u16
+        requires { HasRequest self.0 }
+        ensures { result ≡ ticket_request self.0 }
+    {
+        (self.0 & 0xffff) as u16 - 1
+    }
+}
