@@ -1,0 +1,168 @@
+-- The halves of a link, by what they took and gave.
+use Rattle.std.specs.Prelude.{ℕ, ◌≡◌, ◌≢◌, ◌+◌, ◌<◌, ◌≤◌, Bool, true, false, List, [], length, take, Option, IfSome, option_map}
+use Rattle.std.specs.Io.KnownBytes.{append_known}
+use Rattle.sock_io.specs.declared.link.Put.{Put}
+use Rattle.sock_io.specs.declared.link.Put.TheVariants as put
+use Rattle.sock_io.specs.declared.link.Ready.{Ready}
+use Rattle.sock_io.specs.declared.link.Ready.TheVariants as ready
+use Rattle.sock_io.specs.declared.link.Take.{Take}
+use Rattle.sock_io.specs.declared.link.Take.TheVariants as take_
+use Rattle.brpc_model.specs.Link.{LinkEnd}
+use Rattle.sock_io.specs.Causes.{Rose}
+
+-- a writing half
+pub record OutState : Type 0 where
+  -- which link it is
+  pub link : ℕ
+  -- all bytes that it took, where it tells them
+  pub took : Option (List ℕ)
+  -- its count of faults
+  pub faults : ℕ
+  -- whether it was finished
+  pub finished : Bool
+  -- whether its next put isn't `Again`
+  pub clear : Bool
+  -- whether its `ready` never answers `NotYet`
+  pub prompt : Bool
+  -- whether its last put answered `Again`
+  pub again : Bool
+  -- whether a `Now` clears its next put whatever its last put answered
+  pub steady : Bool
+  -- whether it takes each piece whole until it is finished
+  pub whole : Bool
+
+-- a reading half
+pub record InState : Type 0 where
+  -- how many bytes it gave
+  pub gave : ℕ
+  -- whether it answered `End`
+  pub gave_end : Bool
+  -- whether it answered `Closed`, where it tells
+  pub closed : Option Bool
+  -- its count of faults
+  pub faults : ℕ
+  -- the bytes that it gave, where it tells them
+  pub gave_bytes : Option (List ℕ)
+
+-- what a put took of the piece
+abbrev pub taken_of : List ℕ → Put → List ℕ
+taken_of piece (put.Took n) = take n piece
+taken_of piece put.Again = []
+taken_of piece put.Failed = []
+
+-- a put that takes anything takes at least a byte of the piece and at most all
+abbrev pub IsPutCount : List ℕ → Put → Type 0
+IsPutCount piece (put.Took n) = (0 < n) × (n ≤ length piece)
+IsPutCount piece other = Unit {0}
+
+-- which link it is stays, and whether it is always ready
+pub record SameOut (old new : OutState) : Type 0 where
+  pub link : new.link ≡ old.link
+  pub prompt : new.prompt ≡ old.prompt
+  pub later : old.faults ≤ new.faults
+
+-- how it paces its puts stays
+pub record SameKind (old new : OutState) : Type 0 where
+  pub steady : new.steady ≡ old.steady
+  pub whole : new.whole ≡ old.whole
+
+pub record PutStep (old new : OutState) (piece : List ℕ) (result : Put) : Type 0 where
+  pub count : IsPutCount piece result
+  pub took : new.took ≡ append_known old.took (taken_of piece result)
+  pub same : SameOut old new
+  pub kind : SameKind old new
+  pub finished : new.finished ≡ old.finished
+  pub again : result ≡ put.Again → old.clear ≡ false
+  pub last : (result ≡ put.Again → new.again ≡ true) × (result ≢ put.Again → new.again ≡ false)
+  pub whole : old.whole ≡ true → old.finished ≡ false → result ≡ put.Took (length piece)
+  pub failed : result ≡ put.Failed → old.finished ≡ false → Rose old.faults new.faults
+  pub kept : result ≢ put.Failed → new.faults ≡ old.faults
+  -- after its end it fails, and no count rises
+  pub ended : old.finished ≡ true → (result ≡ put.Failed) × (new.faults ≡ old.faults)
+
+pub record ReadyStep (old new : OutState) (result : Ready) : Type 0 where
+  pub took : new.took ≡ old.took
+  pub same : SameOut old new
+  pub kind : SameKind old new
+  pub finished : new.finished ≡ old.finished
+  pub again : new.again ≡ old.again
+  -- after a put that answered `Again`, `Now` says that the next put doesn't
+  pub now : result ≡ ready.Now → old.again ≡ true → new.clear ≡ true
+  pub steady : result ≡ ready.Now → old.steady ≡ true → new.clear ≡ true
+  -- asking never takes back what an earlier `Now` said
+  pub clear : old.clear ≡ true → new.clear ≡ true
+  pub prompt : old.prompt ≡ true → result ≢ ready.NotYet
+  pub failed : result ≡ ready.Failed → old.finished ≡ false → Rose old.faults new.faults
+  pub kept : result ≢ ready.Failed → new.faults ≡ old.faults
+  pub ended : old.finished ≡ true → (result ≡ ready.Failed) × (new.faults ≡ old.faults)
+
+pub record FinishStep (old new : OutState) : Type 0 where
+  pub took : new.took ≡ old.took
+  pub same : SameOut old new
+  pub kind : SameKind old new
+  pub faults : new.faults ≡ old.faults
+  pub finished : new.finished ≡ true
+
+-- a take that takes anything gives at least a byte and at most the room's
+abbrev pub IsTakeCount : List ℕ → Take → Type 0
+IsTakeCount room (take_.Took n) = (0 < n) × (n ≤ length room)
+IsTakeCount room other = Unit {0}
+
+abbrev pub taken_count : Take → ℕ
+taken_count (take_.Took n) = n
+taken_count other = 0
+
+-- what a take gave, as it stands at the front of the room
+abbrev pub given_of : List ℕ → Take → List ℕ
+given_of room (take_.Took n) = take n room
+given_of room other = []
+
+pub record TakeStep (old new : InState) (room : List ℕ) (result : Take) : Type 0 where
+  pub count : IsTakeCount room result
+  pub gave : new.gave ≡ old.gave + taken_count result
+  pub bytes : new.gave_bytes ≡ append_known old.gave_bytes (given_of room result)
+  pub end : (result ≡ take_.End → new.gave_end ≡ true) × (result ≢ take_.End → new.gave_end ≡ old.gave_end)
+  pub closed : (result ≡ take_.Closed → new.closed ≡ option_map (λ _. true) old.closed) × (result ≢ take_.Closed → new.closed ≡ old.closed)
+  pub later : old.faults ≤ new.faults
+  pub failed : result ≡ take_.Failed → Rose old.faults new.faults
+  pub kept : result ≢ take_.Failed → new.faults ≡ old.faults
+
+-- halves that took and gave nothing so far
+pub record IsUnused (out : OutState) (inn : InState) : Type 0 where
+  pub took : IfSome out.took (λ bytes. bytes ≡ [])
+  pub put_faults : out.faults ≡ 0
+  pub finished : out.finished ≡ false
+  pub gave : inn.gave ≡ 0
+  pub gave_bytes : IfSome inn.gave_bytes (λ bytes. bytes ≡ [])
+  pub gave_end : inn.gave_end ≡ false
+  pub take_faults : inn.faults ≡ 0
+
+-- a link that was opened just now: it has this number, it took and gave nothing, and it wasn't found closed
+pub record IsFresh (out : OutState) (inn : InState) (number : ℕ) : Type 0 where
+  pub link : out.link ≡ number
+  pub took : IfSome out.took (λ bytes. bytes ≡ [])
+  pub put_faults : out.faults ≡ 0
+  pub finished : out.finished ≡ false
+  pub gave : inn.gave ≡ 0
+  pub gave_bytes : IfSome inn.gave_bytes (λ bytes. bytes ≡ [])
+  pub gave_end : inn.gave_end ≡ false
+  pub closed : IfSome inn.closed (λ closed. closed ≡ false)
+  pub take_faults : inn.faults ≡ 0
+
+-- the link that these halves are, as it is given back
+abbrev pub end_of : OutState → InState → LinkEnd
+end_of out inn = record { link = out.link; took = out.took; put_faults = out.faults; gave = inn.gave_bytes; gave_count = inn.gave; take_faults = inn.faults; gave_end = inn.gave_end; closed = inn.closed }
+
+-- a connection that was accepted, as it was given back: what it took, and what it gave, where it tells these bytes; how
+-- many bytes it gave; how often its halves failed; and whether its reading half answered `End`
+pub record ConnectionEnd : Type 0 where
+  pub took : Option (List ℕ)
+  pub put_faults : ℕ
+  pub gave : Option (List ℕ)
+  pub gave_count : ℕ
+  pub take_faults : ℕ
+  pub gave_end : Bool
+
+-- the connection that these halves are, as it is given back
+abbrev pub connection_of : OutState → InState → ConnectionEnd
+connection_of out inn = record { took = out.took; put_faults = out.faults; gave = inn.gave_bytes; gave_count = inn.gave; take_faults = inn.faults; gave_end = inn.gave_end }

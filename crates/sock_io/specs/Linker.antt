@@ -1,0 +1,35 @@
+-- A linker in memory, by what callers see of it.
+use Rattle.std.specs.Prelude.{ℕ, ◌==◌, List, [], if◌then◌else◌, None, true, false}
+use Rattle.brpc_model.specs.Link.{LinkEnd}
+use Rattle.sock_io.specs.declared.link.LinkSpec.{LinkSpec}
+use Rattle.sock_io.specs.declared.shape.Shape.{Shape}
+use Rattle.sock_io.specs.Link.{OutState, ConnectionEnd}
+use Rattle.sock_io.specs.Shape.{ShapedState}
+
+-- how many links were opened and connections accepted, those given back, the numbers of the `open` calls that fail, the
+-- put from which on the links fail where it isn't asked for, how many `open` calls were made, and the count of faults
+pub record SinkLinkerState : Type 0 where
+  pub opened : ℕ
+  pub accepted : ℕ
+  pub back : List LinkEnd
+  pub done : List ConnectionEnd
+  pub fail_opens : List ℕ
+  pub fail_put : ℕ
+  pub calls : ℕ
+  pub faults : ℕ
+
+-- a writing half in memory that was not used yet
+abbrev pub new_mem_out : ℕ → OutState
+new_mem_out link = record { link = link; took = None; faults = 0; finished = false; clear = true; prompt = true; again = false; steady = true; whole = true }
+
+-- the shape that is asked for: the linker's own failing put stands in where none is
+abbrev pub shape_of : LinkSpec → (fail_put : ℕ) → Shape
+shape_of spec fail_put = record { piece = spec.piece; again = spec.again; fail = (if spec.fail == 0 then fail_put else spec.fail) }
+
+-- no shape at all: a piece is never longer
+abbrev pub plain_shape : Shape
+plain_shape = record { piece = 4294967295; again = 0; fail = 0 }
+
+-- a half of this shape over memory that took nothing yet
+abbrev pub new_half : ℕ → Shape → ShapedState
+new_half link shape = record { inner = new_mem_out link; shape = shape; puts = 0; paused = false; taken = []; faults = 0 }

@@ -1,0 +1,52 @@
+-- Sources, sinks and links in memory, by what callers see of them.
+use Rattle.std.specs.Prelude.{ℕ, List, [], ◌∷◌, length, min, Bool, false, Some}
+use Rattle.sock_io.specs.declared.ending.Ending.{Ending}
+use Rattle.sock_io.specs.declared.ending.Ending.TheVariants as ending
+use Rattle.sock_io.specs.declared.link.Take.{Take}
+use Rattle.sock_io.specs.declared.link.Take.TheVariants as take_
+use Rattle.sock_io.specs.Link.{InState}
+
+-- what a source will give, the numbers of its calls that fail, how many calls were made, and its count of faults
+pub record SourceState : Type 0 where
+  pub left : List ℕ
+  pub fail : List ℕ
+  pub calls : ℕ
+  pub faults : ℕ
+
+-- what a sink took, how much it takes in all, the numbers of its calls that fail, how many calls were made, and its
+-- count of faults
+pub record SinkState : Type 0 where
+  pub contents : List ℕ
+  pub room : ℕ
+  pub fail : List ℕ
+  pub calls : ℕ
+  pub faults : ℕ
+
+-- a reading half: what it gave, what waits to be taken, what comes behind that, and whether it answered `End` or `Closed`
+pub record MemInState : Type 0 where
+  pub given : List ℕ
+  pub waiting : List ℕ
+  pub ending : Ending
+  pub gave_end : Bool
+  pub closed : Bool
+
+-- a half to which nothing was given yet
+abbrev pub empty_in : Ending → MemInState
+empty_in ending = record { given = []; waiting = []; ending = ending; gave_end = false; closed = false }
+
+-- such a half as a reading half, which never fails
+abbrev pub mem_in : MemInState → InState
+mem_in i = record { gave = length i.given; gave_end = i.gave_end; closed = Some i.closed; faults = 0; gave_bytes = Some i.given }
+
+-- what a take answers: as many bytes as wait and the room takes; where none waits, what comes behind them
+abbrev pub take_answer : List ℕ → Ending → (room : ℕ) → Take
+take_answer (b ∷ bytes) ending room = take_.Took (min (length (b ∷ bytes)) room)
+take_answer [] ending.Open room = take_.Empty
+take_answer [] ending.Ended room = take_.End
+take_answer [] ending.Closed room = take_.Closed
+
+-- a half whose other end closes: one that gave its end keeps it
+abbrev pub closing : Ending → Ending
+closing ending.Open = ending.Closed
+closing ending.Ended = ending.Ended
+closing ending.Closed = ending.Closed

@@ -1,0 +1,28 @@
+//! What reaches the outside: sources, sinks, links and gates, and those in memory.
+#![tactic(auto)]
+
+mod counts;
+mod ending;
+mod link;
+mod mem_link;
+mod mem_sink;
+mod mem_source;
+mod shape;
+mod shaped;
+mod sink_linker;
+mod std_edge;
+mod stream;
+
+pub use ending::Ending;
+pub use link::{
+    Ends, Gate, In, LinkSpec, Linker, Mode, OpenFault, OpenGate, Out, Peer, Put, Ready, Served,
+    Take,
+};
+pub use mem_link::{MemIn, MemOut, NoPeer};
+pub use mem_sink::MemSink;
+pub use mem_source::MemSource;
+pub use shape::Shape;
+pub use shaped::Shaped;
+pub use sink_linker::SinkLinker;
+pub use std_edge::{StdSink, StdSource};
+pub use stream::{Failed, NoMemory, Sink, Source};

@@ -1,0 +1,251 @@
+ghost use Rattle.std.specs.Prelude.{◌≡◌, ◌≢◌, ℕ, ◌+◌, ◌<◌, ◌≤◌, ◌∷◌, ◌++◌, [], Bool, true, List, length, IfOk, IfSome, IsErrOf, OnErr, IsTrue};
+ghost use Rattle.std.specs.List.{AllByRecursion};
+ghost use Rattle.brpc_model.specs.Link.{LinkEnd};
+ghost use Rattle.sock_io.specs.Causes.{Rose};
+ghost use Rattle.sock_io.specs.Link.{OutState, InState, PutStep, ReadyStep, FinishStep, TakeStep, IsFresh, IsUnused, ConnectionEnd, end_of, connection_of};
+
+use crate::stream::NoMemory;
+use std::sync::Wait;
+
+/// What a put answers.
+#[derive(Clone, Copy, Debug, PartialEq, Eq)]
+pub enum Put {
+    /// So many bytes of the piece were taken, at least 1.
+    Took(usize),
+    /// Nothing was taken, for want of a place: ask `ready`.
+    Again,
+    /// Nothing was taken: the link failed, or the half was finished.
+    Failed,
+}
+
+/// Whether a put may go on.
+#[derive(Clone, Copy, Debug, PartialEq, Eq)]
+pub enum Ready {
+    /// After a put that answered `Again`: the next one won't.
+    Now,
+    /// Ask again.
+    NotYet,
+    /// The link failed, or the half was finished.
+    Failed,
+}
+
+/// What a take answers.
+#[derive(Clone, Copy, Debug, PartialEq, Eq)]
+pub enum Take {
+    /// So many bytes were given, at least 1.
+    Took(usize),
+    /// Nothing is there yet.
+    Empty,
+    /// The other end gave its end, and all before it was taken.
+    End,
+    /// The link was finished, and all that the other end gave was taken.
+    Closed,
+    /// The link failed.
+    Failed,
+}
+
+/// The writing half of a link.
+///
+/// It has a count of faults that never falls: it rises where a call answers `Failed`, and stands still at every other
+/// answer. A count that stands at its last value, 2^64 - 1, counts as risen.
+pub trait Out: Drop {
+    /// Which link it is, what it took, its count of faults, and whether it was finished.
+    ghost state: { Self → OutState };
+
+    /// Takes a part of the piece, from its front: 1 byte at least, or nothing at `Again` and `Failed`.
+    fn put(&mut self, piece: &[u8]) -> Put
+        requires { 0 < length piece.now }
+        ensures { PutStep (state self.old) (state self.new) piece.now result };
+
+    /// Whether a put may go on. It takes nothing.
+    fn ready(&mut self) -> Ready
+        ensures { ReadyStep (state self.old) (state self.new) result };
+
+    /// Ends the writing half. Later calls of `put` and `ready` answer `Failed` and leave the count as it is, so that no
+    /// program makes a fault by finishing first.
+    fn finish(&mut self)
+        ensures { FinishStep (state self.old) (state self.new) };
+
+    /// All bytes that this half took, in order, where it tells them.
+    fn taken(&self) -> &[u8]
+        ensures { IfSome (state self.now).took (λ bytes. result.now ≡ bytes) };
+}
+
+/// The reading half of a link. Its count of faults is as that of the writing half.
+pub trait In: Drop {
+    /// How many bytes it gave, which they are, whether it answered `End` or `Closed`, and its count of faults.
+    ghost state: { Self → InState };
+
+    /// Gives bytes into the front of the room.
+    fn take(&mut self, room: &mut [u8]) -> Take
+        requires { 0 < length room.old }
+        ensures { TakeStep (state self.old) (state self.new) room.new result };
+}
+
+/// What the other end did.
+#[derive(Clone, Copy, Debug, PartialEq, Eq)]
+pub enum Served {
+    /// A byte or a mark went in or out.
+    Moved,
+    /// Nothing could be moved now.
+    Waiting,
+    /// Nothing will be moved any more.
+    Done,
+}
+
+/// The other end of a link inside this process. An end without one answers `Done`.
+pub trait Peer: Drop {
+    fn serve(&mut self) -> Result<Served, NoMemory>;
+}
+
+/// How links are made.
+#[derive(Clone, Copy, Debug, PartialEq, Eq)]
+pub enum Mode {
+    /// In memory, with the other end called by `settle`.
+    Loop,
+    /// Over rings, with the other end on a thread of its own.
+    Ring,
+    /// Over TCP, to this port of 127.0.0.1.
+    Tcp(u16),
+}
+
+/// What is asked of a link.
+#[derive(Clone, Copy, Debug, PartialEq, Eq)]
+pub struct LinkSpec {
+    pub mode: Mode,
+    /// How many bytes a put takes at most. Not 0.
+    pub piece: u32,
+    /// Each put whose number this divides answers `Again`, unless the one before it did. 0 where it isn't asked for.
+    pub again: u32,
+    /// The put from which on all fail, counted from 1. 0 where it isn't asked for.
+    pub fail: u32,
+    /// Whether the other end is the built-in server.
+    pub serve: bool,
+    /// After how many responses the server gives its end.
+    pub end: Option<u32>,
+}
+
+/// The two halves of a link, and its other end.
+#[derive(Drop)]
+pub struct Ends<O: Out, I: In, P: Peer> {
+    pub out: O,
+    pub inn: I,
+    pub peer: P,
+}
+
+/// Why no link was opened, or no connection accepted.
+#[derive(Clone, Copy, Debug, PartialEq, Eq)]
+pub enum OpenFault {
+    /// The count of faults rose.
+    Failed,
+    NoMemory,
+}
+
+/// Opens links, numbered from 0, and accepts connections; and takes both back. At most 256 of each.
+///
+/// Its count of faults never falls: it rises where a call answers `Failed`, and stands still otherwise.
+pub trait Linker {
+    type O: Out + Send + Sync;
+
+    type I: In + Send + Sync;
+
+    type P: Peer + Send + Sync;
+
+    /// How many links were opened.
+    ghost opened: { Self → ℕ };
+
+    /// How many connections were accepted.
+    ghost accepted: { Self → ℕ };
+
+    /// The links given back, in order.
+    ghost back: { Self → List LinkEnd };
+
+    /// The connections given back, in order.
+    ghost done: { Self → List ConnectionEnd };
+
+    ghost faults: { Self → ℕ };
+
+    /// Whether `ready` never answers `NotYet` on its links in mode `Loop`.
+    ghost prompt: { Self → Bool };
+
+    /// Opens the next link, and reserves the room for its `back`.
+    fn open(&mut self, spec: &LinkSpec) -> Result<Ends<Self::O, Self::I, Self::P>, OpenFault>
+        requires piece { 0 < spec.now.piece }
+        requires few { opened self.old < 256 }
+        ensures fresh { IfOk result (λ ends. IsFresh (Self.O.state ends.out) (Self.I.state ends.inn) (opened self.old)) }
+        ensures prompt { IfOk result (λ ends. prompt self.old ≡ true → spec.now.mode ≡ Mode.Loop → (Self.O.state ends.out).prompt ≡ true) }
+        ensures opened { IfOk result (λ _. opened self.new ≡ opened self.old + 1) }
+        ensures refused { OnErr result (opened self.new ≡ opened self.old) }
+        ensures accepted { accepted self.new ≡ accepted self.old }
+        ensures back { back self.new ≡ back self.old }
+        ensures done { done self.new ≡ done self.old }
+        ensures stays_prompt { prompt self.new ≡ prompt self.old }
+        ensures later { faults self.old ≤ faults self.new }
+        ensures failed { IsErrOf result OpenFault.Failed → Rose (faults self.old) (faults self.new) }
+        ensures kept { (¬ IsErrOf result OpenFault.Failed) → faults self.new ≡ faults self.old };
+
+    /// Has a link's other end in memory answer what the link took since the last call, and close its half once the
+    /// link was finished. Other kinds of link do nothing here. What is told of the halves stays as it is, also where
+    /// memory is short.
+    fn settle(&mut self, ends: &mut Ends<Self::O, Self::I, Self::P>) -> Result<(), NoMemory>
+        ensures out { Self.O.state ends.new.out ≡ Self.O.state ends.old.out }
+        ensures inn { Self.I.state ends.new.inn ≡ Self.I.state ends.old.inn }
+        ensures opened { opened self.new ≡ opened self.old }
+        ensures accepted { accepted self.new ≡ accepted self.old }
+        ensures back { back self.new ≡ back self.old }
+        ensures done { done self.new ≡ done self.old }
+        ensures stays_prompt { prompt self.new ≡ prompt self.old }
+        ensures faults { faults self.new ≡ faults self.old };
+
+    /// Accepts the next connection, and reserves the room for its `done`. The first call listens on 127.0.0.1 at the
+    /// port.
+    fn accept(&mut self, port: u16) -> Result<(Self::O, Self::I), OpenFault>
+        requires { accepted self.old < 256 }
+        ensures fresh { IfOk result (λ halves. IsUnused (Self.O.state halves.0) (Self.I.state halves.1)) }
+        ensures accepted { IfOk result (λ _. accepted self.new ≡ accepted self.old + 1) }
+        ensures refused { OnErr result (accepted self.new ≡ accepted self.old) }
+        ensures opened { opened self.new ≡ opened self.old }
+        ensures back { back self.new ≡ back self.old }
+        ensures done { done self.new ≡ done self.old }
+        ensures stays_prompt { prompt self.new ≡ prompt self.old }
+        ensures later { faults self.old ≤ faults self.new }
+        ensures failed { IsErrOf result OpenFault.Failed → Rose (faults self.old) (faults self.new) }
+        ensures kept { (¬ IsErrOf result OpenFault.Failed) → faults self.new ≡ faults self.old };
+
+    /// Takes a connection back.
+    fn done(&mut self, out: Self::O, inn: Self::I)
+        requires { length (done self.old) < accepted self.old }
+        ensures done { done self.new ≡ done self.old ++ connection_of (Self.O.state out) (Self.I.state inn) ∷ [] }
+        ensures opened { opened self.new ≡ opened self.old }
+        ensures accepted { accepted self.new ≡ accepted self.old }
+        ensures back { back self.new ≡ back self.old }
+        ensures stays_prompt { prompt self.new ≡ prompt self.old }
+        ensures faults { faults self.new ≡ faults self.old };
+
+    /// Takes a link back, which was opened and not given back before.
+    fn back(&mut self, link: u16, ends: Ends<Self::O, Self::I, Self::P>)
+        requires opened { link < opened self.old }
+        requires own { (Self.O.state ends.out).link ≡ link }
+        requires once { AllByRecursion (λ (e : LinkEnd). e.link ≢ link) (back self.old) }
+        requires fewer { length (back self.old) < opened self.old }
+        ensures back { back self.new ≡ back self.old ++ end_of (Self.O.state ends.out) (Self.I.state ends.inn) ∷ [] }
+        ensures done { done self.new ≡ done self.old }
+        ensures opened { opened self.new ≡ opened self.old }
+        ensures accepted { accepted self.new ≡ accepted self.old }
+        ensures stays_prompt { prompt self.new ≡ prompt self.old }
+        ensures faults { faults self.new ≡ faults self.old };
+}
+
+/// Where a client may be made to wait before an operation.
+pub trait Gate: Send + Sync {
+    /// Returns once the client may make the operation; operations of a client are counted from 1.
+    fn pass<R: Wait>(&self, rt: &R, client: u16, operation: u16);
+}
+
+/// Lets all pass at once.
+#[derive(Drop)]
+pub struct OpenGate;
+
+impl Gate for OpenGate {
+    fn pass<R: Wait>(&self, _rt: &R, _client: u16, _operation: u16) {}
+}

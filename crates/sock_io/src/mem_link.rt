@@ -1,0 +1,165 @@
+ghost use Rattle.std.specs.Prelude.{◌≡◌, ℕ, ◌<◌, ◌++◌, [], Some, Ok, None, false, true, OnErr, OnOk, drop, length, take};
+ghost use Rattle.sock_io.specs.Link.{TakeStep};
+ghost use Rattle.sock_io.specs.Memory.{mem_in, empty_in, take_answer, closing};
+
+use crate::ending::Ending;
+use crate::link::{In, Out, Peer, Put, Ready, Served, Take};
+use crate::mem_source::{copy_front, from_place};
+use crate::stream::NoMemory;
+use std::alloc::Global;
+use std::marker::Model;
+
+/// A writing half in memory that takes everything. It keeps none of it, and so tells nothing: the wrapper that gives a
+/// link its shape keeps what was taken.
+#[derive(Drop)]
+pub struct MemOut {
+    link: u16,
+    finished: bool,
+}
+
+impl MemOut {
+    /// The writing half of the link of this number. For linkers.
+    pub fn new(link: u16) -> Self
+        ensures { ⟦<MemOut as Out>⟧.state result ≡ record { link = link; took = None; faults = 0; finished = false; clear = true; prompt = true; again = false; steady = true; whole = true } }
+    {
+        MemOut {
+            link,
+            finished: false,
+        }
+    }
+}
+
+impl Out for MemOut {
+    ghost state = { λ o. record { link = o.link; took = None; faults = 0; finished = o.finished; clear = true; prompt = true; again = false; steady = true; whole = true } };
+
+    fn put(&mut self, piece: &[u8]) -> Put {
+        if self.finished {
+            Put::Failed
+        } else {
+            Put::Took(piece.len())
+        }
+    }
+
+    fn ready(&mut self) -> Ready {
+        if self.finished {
+            Ready::Failed
+        } else {
+            Ready::Now
+        }
+    }
+
+    fn finish(&mut self) {
+        self.finished = true;
+    }
+
+    fn taken(&self) -> &[u8] {
+        &[]
+    }
+}
+
+/// A reading half in memory: it gives what the other end gave, and then answers how that went on.
+#[derive(Drop)]
+pub struct MemIn {
+    bytes: Vec<u8>,
+    at: usize,
+    ending: Ending,
+    gave_end: bool,
+    closed: bool,
+}
+
+impl Model for MemIn {
+    ghost use Rattle.std.specs.Prelude.{◌≤◌, drop, take, vec_len};
+    ghost use Rattle.sock_io.specs.Memory.{MemInState};
+
+    ghost Value = { MemInState };
+
+    ghost view = { λ i. record { given = take i.at i.bytes.items; waiting = drop i.at i.bytes.items; ending = i.ending; gave_end = i.gave_end; closed = i.closed } };
+
+    ghost invariant = { λ i. i.at ≤ vec_len i.bytes };
+}
+
+impl MemIn {
+    /// A half to which nothing was given yet. For linkers.
+    pub fn new(alloc: Global, ending: Ending) -> Self
+        ensures { result ≡ empty_in ending }
+    {
+        MemIn {
+            bytes: Vec::new(alloc),
+            at: 0,
+            ending,
+            gave_end: false,
+            closed: false,
+        }
+    }
+
+    /// The other end gives these bytes.
+    pub fn give(&mut self, bytes: &[u8]) -> Result<(), NoMemory>
+        requires { self.old.ending ≡ Ending.Open }
+        ensures ok { OnOk result (self.new ≡ record self.old { waiting = self.old.waiting ++ bytes.now }) }
+        ensures err { OnErr result (self.new ≡ self.old) }
+    {
+        match self.bytes.extend_from_slice(bytes) {
+            Ok(()) => Ok(()),
+            Err(_) => Err(NoMemory),
+        }
+    }
+
+    /// The other end gives its end.
+    pub fn end(&mut self)
+        requires { self.old.ending ≡ Ending.Open }
+        ensures { self.new ≡ record self.old { ending = Ending.Ended } }
+    {
+        self.ending = Ending::Ended;
+    }
+
+    /// The link was finished and the other end closes its half, unless it gave its end before.
+    pub fn close(&mut self)
+        ensures { self.new ≡ record self.old { ending = closing self.old.ending } }
+    {
+        match self.ending {
+            Ending::Open | Ending::Closed => self.ending = Ending::Closed,
+            Ending::Ended => {}
+        }
+    }
+}
+
+impl In for MemIn {
+    ghost state = { mem_in };
+
+    fn take(&mut self, room: &mut [u8]) -> Take
+        requires { 0 < length room.old }
+        ensures step { TakeStep (mem_in self.old) (mem_in self.new) room.new result }
+        ensures answer { result ≡ take_answer self.old.waiting self.old.ending (length room.old) }
+        ensures bytes { self.new.given ++ self.new.waiting ≡ self.old.given ++ self.old.waiting }
+        ensures ending { self.new.ending ≡ self.old.ending }
+    {
+        let count = copy_front(from_place(&self.bytes, self.at), room);
+        if count > 0 {
+            self.at += count;
+            return Take::Took(count);
+        }
+        match self.ending {
+            Ending::Open => Take::Empty,
+            Ending::Ended => {
+                self.gave_end = true;
+                Take::End
+            }
+            Ending::Closed => {
+                self.closed = true;
+                Take::Closed
+            }
+        }
+    }
+}
+
+/// No other end inside this process that would have to be served.
+#[derive(Drop)]
+pub struct NoPeer;
+
+impl Peer for NoPeer {
+    fn serve(&mut self) -> Result<Served, NoMemory>
+        ensures { result ≡ Ok Served.Done }
+    {
+        Ok(Served::Done)
+    }
+}
