@@ -1,5 +1,6 @@
 -- What the values of a line mean: the items that the definitions of scripts speak of.
 use Rattle.std.specs.Prelude.{ℕ, List}
+use Rattle.sock_words.specs.KindText.{kind_text}
 use Rattle.brpc_model.specs.Items.{Item, Slots, Requests, First, Open, Client, Send, Call, Expire, Join, Fail, Hold, Drop, Sched, Tick, To, ClientSeat, ReaderSeat}
 use Rattle.brpc_model.specs.Items as model
 use Rattle.script_items.specs.declared.line.Seat.{Seat}
@@ -38,3 +39,4 @@ item (lines.Hold name) = Hold name
 item (lines.Drop name) = Drop name
 item lines.Sched = Sched
 item (lines.Tick seat ticks) = Tick (seat_of seat) ticks
+item (lines.To seat kind) = To (seat_of seat) (kind_text kind)

@@ -1,5 +1,6 @@
 use crate::bytes::{Bytes, Name};
 use crate::names::Names;
+use sock_words::Kind;
 
 /// Whose steps a line of the schedule asks for: a client by its number, from 1, or the reader of a
 /// link by the link's number, from 0.
@@ -89,4 +90,6 @@ pub enum Line {
     Sched,
     /// So many ticks of a seat, 1 to 65,536.
     Tick { seat: Seat, ticks: u32 },
+    /// Ticks of a seat until one moved this kind of step.
+    To { seat: Seat, kind: Kind },
 }

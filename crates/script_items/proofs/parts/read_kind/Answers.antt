@@ -1,0 +1,7 @@
+use Rattle.std.proofs.Common.{◌≡◌, false, is_some, ap, sym, ◌∙◌}
+use Rattle.sock_words.specs.KindText.{is_kind_name}
+use Rattle.script_items.proofs.KindNames.{no_kind}
+use Rattle.script_items.proofs.parts.read_kind.Goals as goal
+
+pub returns-in-None : goal.returns-in-None
+returns-in-None c = no_kind c.args.word.now (ap is_some (sym c.in-None.is) ∙ c.from_text.ensures.known)
