@@ -1,4 +1,5 @@
 pub mod Causes
+pub mod Edge
 pub mod Link
 pub mod Linker
 pub mod Memory

@@ -12,6 +12,8 @@ mod shaped;
 mod sink_linker;
 mod std_edge;
 mod stream;
+#[cfg(test)]
+mod tests;
 
 pub use ending::Ending;
 pub use link::{

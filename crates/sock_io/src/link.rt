@@ -44,7 +44,8 @@ pub enum Take {
     Failed,
 }
 
-/// The writing half of a link.
+/// The writing half of a link: a socket's file descriptor that is written without blocking. `Again` is its EAGAIN, and
+/// `ready` stands for the wait until it can be written again.
 ///
 /// It has a count of faults that never falls: it rises where a call answers `Failed`, and stands still at every other
 /// answer. A count that stands at its last value, 2^64 - 1, counts as risen.
@@ -190,6 +191,7 @@ pub trait Linker {
     fn settle(&mut self, ends: &mut Ends<Self::O, Self::I, Self::P>) -> Result<(), NoMemory>
         ensures out { Self.O.state ends.new.out ≡ Self.O.state ends.old.out }
         ensures inn { Self.I.state ends.new.inn ≡ Self.I.state ends.old.inn }
+        ensures err { OnErr result ((self.new ≡ self.old) × (ends.new ≡ ends.old)) }
         ensures opened { opened self.new ≡ opened self.old }
         ensures accepted { accepted self.new ≡ accepted self.old }
         ensures back { back self.new ≡ back self.old }

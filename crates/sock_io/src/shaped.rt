@@ -1,7 +1,7 @@
 ghost use Rattle.sock_io.specs.declared.shaped.TheConstants.{TAKEN_ROOM};
 ghost use Rattle.std.specs.Prelude.{◌≡◌, ℕ, ◌-◌, ◌<◌, false, true, IfOk, [], length};
 ghost use Rattle.sock_io.specs.Causes.{next_number};
-ghost use Rattle.sock_io.specs.Link.{PutStep, ReadyStep, FinishStep};
+ghost use Rattle.sock_io.specs.Link.{PutStep, ReadyStep, FinishStep, SameKind};
 ghost use Rattle.sock_io.specs.Shape.{FollowsShape, answer_at, shaped_out};
 
 use crate::counts::{next_call, risen};
@@ -83,6 +83,7 @@ impl<O: Out> Out for Shaped<O> {
         ensures exact { self.old.inner.finished ≡ false → self.old.inner.whole ≡ true → result ≡ answer_at self.old.shape (next_number self.old.puts) self.old.paused (TAKEN_ROOM - length self.old.taken) piece.now }
         ensures puts { self.new.puts ≡ next_number self.old.puts }
         ensures shape { self.new.shape ≡ self.old.shape }
+        ensures inner { SameKind self.old.inner self.new.inner }
     {
         self.puts = next_call(self.puts);
         let paused = self.paused;
@@ -119,6 +120,7 @@ impl<O: Out> Out for Shaped<O> {
     fn ready(&mut self) -> Ready
         ensures step { ReadyStep (shaped_out self.old) (shaped_out self.new) result }
         ensures shape { self.new.shape ≡ self.old.shape }
+        ensures inner { SameKind self.old.inner self.new.inner }
         ensures puts { self.new.puts ≡ self.old.puts }
     {
         if self.finished {
@@ -137,6 +139,7 @@ impl<O: Out> Out for Shaped<O> {
     fn finish(&mut self)
         ensures step { FinishStep (shaped_out self.old) (shaped_out self.new) }
         ensures shape { self.new.shape ≡ self.old.shape }
+        ensures inner { SameKind self.old.inner self.new.inner }
         ensures puts { self.new.puts ≡ self.old.puts }
     {
         self.inner.finish();

@@ -3,25 +3,33 @@ ghost use Rattle.std.specs.Prelude.{◌≡◌, ℕ};
 use crate::counts::risen;
 use crate::stream::{Failed, Sink, Source};
 use std::io::{Read, Write};
+use std::marker::Model;
 
-/// A source over any reader.
+/// A source over any reader. Each `Err` of the reader is a fault.
 #[derive(Drop)]
 pub struct StdSource<R: Read + Drop> {
     reader: R,
     faults: u64,
 }
 
+impl<R: Read + Drop> Model for StdSource<R> {
+    ghost use Rattle.sock_io.specs.Edge.{ReaderState};
+
+    ghost Value = { ReaderState };
+
+    ghost view = { λ s. record { left = R.remaining s.reader; faults = s.faults } };
+}
+
 impl<R: Read + Drop> StdSource<R> {
     pub fn new(reader: R) -> Self
-        ensures reader { result.reader ≡ reader }
-        ensures faults { result.faults ≡ 0 }
+        ensures { result ≡ record { left = R.remaining reader; faults = 0 } }
     {
         StdSource { reader, faults: 0 }
     }
 }
 
 impl<R: Read + Drop> Source for StdSource<R> {
-    ghost left = { λ s. R.remaining s.reader };
+    ghost left = { λ s. s.left };
 
     ghost faults = { λ s. s.faults };
 
@@ -36,24 +44,31 @@ impl<R: Read + Drop> Source for StdSource<R> {
     }
 }
 
-/// A sink over any writer. A writer that takes nothing has failed.
+/// A sink over any writer. Each `Err` of the writer is a fault, and so is a write that takes nothing.
 #[derive(Drop)]
 pub struct StdSink<W: Write + Drop> {
     writer: W,
     faults: u64,
 }
 
+impl<W: Write + Drop> Model for StdSink<W> {
+    ghost use Rattle.sock_io.specs.Edge.{WriterState};
+
+    ghost Value = { WriterState };
+
+    ghost view = { λ s. record { contents = W.contents s.writer; faults = s.faults } };
+}
+
 impl<W: Write + Drop> StdSink<W> {
     pub fn new(writer: W) -> Self
-        ensures writer { result.writer ≡ writer }
-        ensures faults { result.faults ≡ 0 }
+        ensures { result ≡ record { contents = W.contents writer; faults = 0 } }
     {
         StdSink { writer, faults: 0 }
     }
 }
 
 impl<W: Write + Drop> Sink for StdSink<W> {
-    ghost contents = { λ s. W.contents s.writer };
+    ghost contents = { λ s. s.contents };
 
     ghost faults = { λ s. s.faults };
 
