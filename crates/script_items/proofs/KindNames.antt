@@ -1,5 +1,5 @@
 -- The names of the kinds of step.
-use Rattle.std.proofs.Common.{◌≡◌, ℕ, List, Bool, true, false, ap, sym, if◌then◌else◌, Ok, Err}
+use Rattle.std.proofs.Common.{◌≡◌, ℕ, List, false, ap, sym, if◌then◌else◌, Ok, Err}
 use Rattle.sock_words.specs.KindText.{is_kind_name}
 use Rattle.brpc_model.specs.Lines.{kind_in}
 

@@ -1,9 +1,10 @@
 -- Where a line or a word is cut.
-use Rattle.std.proofs.Common.{◌≡◌, ℕ, ◌<◌, ◌≤◌, ◌+◌, ◌-◌, ◌==◌, Bool, true, false, cond, not, Option, Some, None, List, [], ◌∷◌, length, take, drop, get_or, nat_lt, refl, ap, sym, ◌∙◌, subst, arith, position}
+use Rattle.std.proofs.Common.{◌≡◌, ℕ, ◌<◌, ◌≤◌, ◌+◌, ◌-◌, ◌==◌, Bool, true, false, cond, not, Some, None, List, [], ◌∷◌, length, take, drop, get_or, nat_lt, refl, ap, subst, arith, position}
 use Rattle.std.proofs.lemmas.Grind.{common_steps}
 use Rattle.std.proofs.lemmas.List.Splits.{slice_split_first, slice_split_none}
 use Rattle.std.proofs.lemmas.List.Sums.{fails_before_first, suffix_len_is}
-use Rattle.std.specs.List.{slice_split, position_or_len, before_first, after_first, suffix_len}
+use Rattle.std.specs.List.{slice_split, position_or_len, suffix_len, onto_first}
+use Rattle.script_items.specs.Words.{HasFirst}
 
 -- before the first such byte is the first piece, and behind it are the others
 pub cut_at : (p : ℕ → Bool) (xs : List ℕ) (n : ℕ) → Some n ≡ position p xs → slice_split p xs ≡ take n xs ∷ slice_split p (drop (n + 1) xs)
@@ -24,6 +25,14 @@ not_cut p xs none = elim (nat_lt (position_or_len p xs) (length xs)) as (λ b. n
       let beyond : length xs ≤ position_or_len p xs = grind (arith, common_steps, t) in
       slice_split_none p xs (λ k d h. fails_before_first p xs k d (omega arith))
 ] refl none
+
+-- there is always a piece
+pub has_piece : (p : ℕ → Bool) (xs : List ℕ) → HasFirst (slice_split p xs)
+has_piece p [] = ([], [], refl)
+has_piece p (x ∷ xs) =
+    let others = has_piece p xs in
+    elim (p x) as (λ t. HasFirst (cond t ([] ∷ slice_split p xs) (onto_first x (slice_split p xs))))
+    [ true ↦ ([], slice_split p xs, refl) | false ↦ (x ∷ others.0, others.1, ap (onto_first x) others.2) ]
 
 -- a place behind which no such byte stands, and directly before which one does, if it isn't 0
 pub last_at : (c : ℕ) (xs : List ℕ) (at : ℕ) → at ≤ length xs → ((k : ℕ) → at ≤ k → k < length xs → get_or xs k 0 ≡ c → ⊥) → (0 < at → get_or xs (at - 1) 0 ≡ c) → at ≡ length xs - suffix_len (λ b. not (b == c)) xs

@@ -4,3 +4,4 @@ pub mod Answers
 pub mod Words
 pub mod Parts
 pub mod Options
+pub mod Calls

@@ -1,5 +1,4 @@
 -- What the values of a line mean: the items that the definitions of scripts speak of.
-use Rattle.std.specs.Prelude.{ℕ, List}
 use Rattle.sock_words.specs.KindText.{kind_text}
 use Rattle.brpc_model.specs.Items.{Item, Slots, Requests, First, Open, Client, Send, Call, Expire, Join, Fail, Hold, Drop, Sched, Tick, To, ClientSeat, ReaderSeat}
 use Rattle.brpc_model.specs.Items as model

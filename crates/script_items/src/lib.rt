@@ -2,12 +2,15 @@
 #![tactic(auto)]
 
 mod bytes;
+mod calls;
 mod fault;
+mod forms;
 mod line;
 mod names;
 mod numbers;
 mod options;
 mod parts;
+mod read;
 mod script;
 mod words;
 
@@ -15,4 +18,8 @@ pub use bytes::{Bytes, Name};
 pub use fault::LineFault;
 pub use line::{CallLine, Line, OpenLine, Seat, SendLine, Shape, Target};
 pub use names::Names;
+pub use read::read_line;
 pub use script::Script;
+
+#[cfg(test)]
+mod tests;

@@ -2,7 +2,7 @@ ghost use Rattle.std.specs.Prelude.{◌≡◌, ◌<◌, ◌≤◌, ◌+◌, ◌-
 ghost use Rattle.std.specs.List.{slice_split, suffix_len, before_last, after_last};
 ghost use Rattle.brpc_model.specs.Text.{words};
 ghost use Rattle.script_items.specs.declared.fault.LineFault.TheVariants as faults;
-ghost use Rattle.script_items.specs.Words.{HasWord};
+ghost use Rattle.script_items.specs.Words.{HasFirst};
 
 use crate::fault::{BAD_WORDS, LineFault};
 
@@ -18,6 +18,7 @@ fn find_byte(bytes: &[u8], byte: u8) -> Option<usize>
 pub fn split_once(bytes: &[u8], byte: u8) -> Option<(&[u8], &[u8])>
     ensures some { IfSome result (λ p.
         slice_split (λ b. b == byte) bytes.now ≡ p.0.now ∷ slice_split (λ b. b == byte) p.1.now) }
+    ensures more { IfSome result (λ p. HasFirst (slice_split (λ b. b == byte) p.1.now)) }
     ensures none { IfNone result (slice_split (λ b. b == byte) bytes.now ≡ bytes.now ∷ []) }
     ensures shorter { IfSome result (λ p. length p.1.now < length bytes.now) }
 {
@@ -96,7 +97,7 @@ pub fn next_word(line: &[u8]) -> Result<(&[u8], &[u8]), LineFault>
 /// The end of a line that must have no more words.
 pub fn no_more_words(line: &[u8]) -> Result<(), LineFault>
     ensures none { IfOk result (λ _. words line.now ≡ []) }
-    ensures more { IfErr result (λ e. (e ≡ faults.Kind 3) × HasWord (words line.now)) }
+    ensures more { IfErr result (λ e. (e ≡ faults.Kind 3) × HasFirst (words line.now)) }
 {
     match first_word(line) {
         None => Ok(()),

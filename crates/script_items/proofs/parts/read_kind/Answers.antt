@@ -1,5 +1,4 @@
-use Rattle.std.proofs.Common.{◌≡◌, false, is_some, ap, sym, ◌∙◌}
-use Rattle.sock_words.specs.KindText.{is_kind_name}
+use Rattle.std.proofs.Common.{is_some, ap, sym, ◌∙◌}
 use Rattle.script_items.proofs.KindNames.{no_kind}
 use Rattle.script_items.proofs.parts.read_kind.Goals as goal
 

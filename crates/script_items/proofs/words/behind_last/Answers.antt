@@ -1,5 +1,4 @@
 use Rattle.std.proofs.Common.{rules, arith}
-use Rattle.std.proofs.lemmas.Grind.{common_steps}
 use Rattle.script_items.proofs.Pieces.{last_at}
 use Rattle.script_items.proofs.words.behind_last.Goals as goal
 

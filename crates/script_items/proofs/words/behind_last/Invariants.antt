@@ -1,4 +1,4 @@
-use Rattle.std.proofs.Common.{◌≡◌, ◌≢◌, ◌<◌, ◌≤◌, ℕ, length, get_or}
+use Rattle.std.proofs.Common.{◌≢◌, ◌<◌, ◌≤◌, ℕ, length, get_or}
 use Rattle.script_items.proofs.words.behind_last.Given as goal
 
 abbrev pub invariant-loop-at : goal.invariant-loop-at

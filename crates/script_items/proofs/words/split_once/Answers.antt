@@ -1,6 +1,6 @@
-use Rattle.std.proofs.Common.{◌≡◌, ◌∷◌, ◌+◌, ◌==◌, ℕ, Bool, ◌∙◌, ap, sym, take, drop}
+use Rattle.std.proofs.Common.{◌∷◌, ◌+◌, ◌==◌, ℕ, Bool, ◌∙◌, ap, sym, drop}
 use Rattle.std.specs.List.{slice_split}
-use Rattle.script_items.proofs.Pieces.{cut_at, not_cut}
+use Rattle.script_items.proofs.Pieces.{cut_at, not_cut, has_piece}
 use Rattle.script_items.proofs.words.split_once.Goals as goal
 
 pub returns-in-Some-clause-some : goal.returns-in-Some-clause-some
@@ -12,3 +12,6 @@ returns-in-Some-clause-some c =
 
 pub returns-in-None-clause-none : goal.returns-in-None-clause-none
 returns-in-None-clause-none c = not_cut (λ b. b == c.args.byte) c.args.bytes.now (sym c.in-None.is ∙ c.find_byte.ensures.place)
+
+pub returns-in-Some-clause-more : goal.returns-in-Some-clause-more
+returns-in-Some-clause-more c = has_piece (λ b. b == c.args.byte) c.behind.result.now
