@@ -1,0 +1,8 @@
+pub mod LinesCut
+pub mod Holding
+pub mod Judged
+pub mod CallRows
+pub mod LineOf
+pub mod Placed
+pub mod Whole
+pub mod Sofar

@@ -1,0 +1,4 @@
+pub mod Counting
+pub mod Called
+pub mod Used
+pub mod Known

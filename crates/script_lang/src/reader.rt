@@ -1,0 +1,158 @@
+ghost use Rattle.std.specs.Prelude.{◌≡◌, ◌+◌, ◌<◌, ◌||◌, nat_lt, length, ◌^◌, ℕ, List, [], ◌∷◌, ◌++◌, false, option_map, IfOk, OnOk, Some, None, Ok, Err, Option};
+ghost use Rattle.brpc_model.specs.Items.{Item};
+ghost use Rattle.brpc_model.specs.Script.{items, said_behind, with_line, whole};
+ghost use Rattle.script_items.specs.Meaning.{item};
+ghost use Rattle.script_lang.specs.Counting.{IsWithinLimits, is_one_too_many};
+ghost use Rattle.script_lang.specs.Known.{Knows, Keeps, HasNames, FaultIs, PlaceIs, LineIs, WholeIs};
+
+use crate::calls::CallTable;
+use crate::counts::Counts;
+use crate::error::ScriptError;
+use crate::held;
+use crate::names::NameList;
+use crate::uses::{first_hanging, first_lost, note_use, CallUse};
+use script_items::{read_line, Line, LineFault, Script};
+use std::alloc::{AllocError, Global};
+
+/// The most names of a script.
+const MAX_NAMES: usize = 64;
+
+/// A line at a wrong place.
+const MISPLACED: u8 = 8;
+/// One client, link, operation, schedule line or name too many.
+const TOO_MANY: u8 = 9;
+/// A call that the script doesn't have.
+const NO_CALL: u8 = 10;
+/// A `join` in a script where a link has no server.
+const MAY_HANG: u8 = 11;
+/// A `drop` of what isn't held, or a second `hold`.
+const UNPAIRED: u8 = 12;
+
+/// What is kept of the lines so far. After an error the reader is of no use.
+#[derive(Drop)]
+pub struct Reader {
+    alloc: Global,
+    /// How many lines came, comments and empty ones included.
+    count: u32,
+    /// Those that say something.
+    lines: Vec<Line>,
+    counts: Counts,
+    /// The names in the order of first mention.
+    names: NameList,
+    /// The names that the client in hand holds.
+    held: NameList,
+    calls: CallTable,
+    uses: Vec<CallUse>,
+}
+
+impl Reader {
+    /// Before the first line.
+    pub fn new(alloc: Global) -> Self
+        ensures { Knows result [] }
+    {
+        Reader {
+            alloc,
+            count: 0,
+            lines: Vec::new(alloc),
+            counts: Counts::new(),
+            names: NameList::new(alloc),
+            held: NameList::new(alloc),
+            calls: CallTable::new(alloc),
+            uses: Vec::new(alloc),
+        }
+    }
+
+    /// One more line, without what ends it.
+    pub fn read(&mut self, line: &[u8]) -> Result<(), ScriptError>
+        requires count { self.old.count + 1 < 2 ^ 32 }
+        requires limits { IsWithinLimits self.old.counts }
+        ensures { (said : List (Option Item)) → Knows self.old said → LineIs (with_line (Ok said) line.now) result self.new }
+    {
+        match read_line(self.alloc, self.counts.clients, self.counts.links, line) {
+            Ok(None) => {
+                self.count += 1;
+                Ok(())
+            }
+            Ok(Some(line)) => self.place(line),
+            Err(LineFault::Kind(kind)) => Err(self.fault(kind)),
+            Err(LineFault::NoMemory) => Err(ScriptError::NoMemory),
+        }
+    }
+
+    /// A fault of this kind in the line that comes next.
+    fn fault(&self, kind: u8) -> ScriptError
+        requires { self.now.count + 1 < 2 ^ 32 }
+        ensures { result ≡ ScriptError.Fault (self.now.count + 1) kind }
+    {
+        ScriptError::Fault {
+            line: self.count + 1,
+            kind,
+        }
+    }
+
+    /// A line that says something, at its place.
+    fn place(&mut self, line: Line) -> Result<(), ScriptError>
+        requires count { self.old.count + 1 < 2 ^ 32 }
+        requires limits { IsWithinLimits self.old.counts }
+        ensures { (said : List (Option Item)) → Knows self.old said → PlaceIs said (item line) result self.new }
+    {
+        self.names.add_mentioned(&line)?;
+        if let Some(kind) = self.fault_of(&line) {
+            return Err(self.fault(kind));
+        }
+        self.keep(line)?;
+        Ok(())
+    }
+
+    /// The kind of the fault of a line at this place, where its names are among the names already.
+    fn fault_of(&self, line: &Line) -> Option<u8>
+        ensures kind { (before : List Item) → HasNames self.now before (item line.now) → FaultIs before (item line.now) result }
+        ensures room { result ≡ None → is_one_too_many self.now.counts (item line.now) ≡ false }
+    {
+        if self.counts.is_misplaced(line) {
+            Some(MISPLACED)
+        } else if self.is_full(line) {
+            Some(TOO_MANY)
+        } else if held::is_unpaired(&self.held, line) {
+            Some(UNPAIRED)
+        } else {
+            None
+        }
+    }
+
+    /// Whether the line is one too many of its sort, or its names are.
+    fn is_full(&self, line: &Line) -> bool
+        ensures { result ≡ (is_one_too_many self.now.counts (item line.now) || nat_lt 64 (length self.now.names)) }
+    {
+        self.counts.is_one_too_many(line) || self.names.len() > MAX_NAMES
+    }
+
+    /// Keeps a line that stands where it may, and whose names are among the names already.
+    fn keep(&mut self, line: Line) -> Result<(), AllocError>
+        requires count { self.old.count + 1 < 2 ^ 32 }
+        requires limits { IsWithinLimits self.old.counts }
+        requires room { is_one_too_many self.old.counts (item line) ≡ false }
+        ensures { OnOk result (Keeps self.old self.new line) }
+    {
+        self.counts = self.counts.with(&line);
+        held::add(&mut self.held, &line)?;
+        self.calls.add(&line)?;
+        self.count += 1;
+        note_use(&mut self.uses, &line, self.count)?;
+        self.lines.push(line)?;
+        Ok(())
+    }
+
+    /// The script that the lines are together.
+    pub fn finish(self) -> Result<Script, ScriptError>
+        ensures { (said : List (Option Item)) → Knows self said → WholeIs (whole (Ok said)) result }
+    {
+        if let Some(line) = first_lost(&self.uses, &self.calls) {
+            return Err(ScriptError::Fault { line, kind: NO_CALL });
+        }
+        if let Some(line) = first_hanging(&self.uses, self.counts.unserved) {
+            return Err(ScriptError::Fault { line, kind: MAY_HANG });
+        }
+        Ok(Script::new(self.lines))
+    }
+}
