@@ -1,5 +1,5 @@
 -- Bytes in hexadecimal, as a loop over them writes them.
-use Rattle.std.proofs.Common.{◌≡◌, ℕ, zero, suc, ◌+◌, ◌/◌, ◌%◌, ◌^◌, ◌-◌, ◌<◌, ◌==◌, Bool, true, false, ◌&&◌, ◌⊎◌, inl, inr, List, [], ◌∷◌, ◌++◌, length, take, slice_index, get_or, refl, sym, ap, ◌∙◌, arith}
+use Rattle.std.proofs.Common.{◌≡◌, ℕ, zero, suc, ◌+◌, ◌/◌, ◌%◌, ◌^◌, ◌-◌, ◌<◌, ◌==◌, Bool, true, false, ◌&&◌, inl, inr, List, [], ◌∷◌, ◌++◌, length, take, slice_index, get_or, refl, sym, ap, ◌∙◌, arith}
 use Rattle.std.proofs.lemmas.Bool.{and_parts, cases_lt, eqb-true}
 use Rattle.std.proofs.lemmas.Fmt.{hex_byte}
 use Rattle.std.proofs.lemmas.List.{take_more}
@@ -42,8 +42,8 @@ pub byte_text : (b : ℕ) → b < 256 → padded_integral (format_spec 32 0 4 2 
 unfolding encode_with
 byte_text b below =
     hex_byte false b below
-      ∙ ap (λ d. d ∷ digit_glyph false (b % 16) ∷ []) (digit_is (b / 16) (omega arith))
-      ∙ ap (λ d. slice_index lower_digits (b / 16) ∷ d ∷ []) (digit_is (b % 16) (omega arith))
+    ∙ ap (λ d. d ∷ digit_glyph false (b % 16) ∷ []) (digit_is (b / 16) (omega arith))
+    ∙ ap (λ d. slice_index lower_digits (b / 16) ∷ d ∷ []) (digit_is (b % 16) (omega arith))
 
 -- one more byte
 pub encode_more : (xs : List ℕ) (i : ℕ) → i < length xs → encode_lower (take i xs) ++ encode_lower (get_or xs i 0 ∷ []) ≡ encode_lower (take (i + 1) xs)

@@ -1,5 +1,7 @@
-ghost use Rattle.std.specs.Prelude.{◌≡◌, ◌≢◌, ◌↔◌, IfNone, is_some, find, bytes_eq};
+ghost use Rattle.std.specs.Prelude.{◌≡◌, ◌≢◌, ◌↔◌, IfNone, Some, is_some, find, bytes_eq};
 ghost use Rattle.sock_words.specs.KindText.{kind_text, kinds, is_kind_name};
+
+use std::fmt;
 
 /// A kind of atomic step, by the name that a script's `to` line gives it. The letters part the
 /// steps by what they touch: A the reference word, S a socket slot's other words, C the chain of
@@ -146,56 +148,63 @@ impl Kind {
         Kind::K2,
     ];
 
-    /// The name of this kind, two bytes.
-    pub fn text(self) -> &'static [u8]
+    /// The name of this kind, a letter and a digit.
+    pub fn name(self) -> &'static str
         ensures { result.now ≡ kind_text self }
     {
         match self {
-            Kind::A1 => b"A1",
-            Kind::A2 => b"A2",
-            Kind::A3 => b"A3",
-            Kind::A4 => b"A4",
-            Kind::A5 => b"A5",
-            Kind::A6 => b"A6",
-            Kind::A7 => b"A7",
-            Kind::A8 => b"A8",
-            Kind::S1 => b"S1",
-            Kind::S2 => b"S2",
-            Kind::S3 => b"S3",
-            Kind::S4 => b"S4",
-            Kind::S5 => b"S5",
-            Kind::S6 => b"S6",
-            Kind::S7 => b"S7",
-            Kind::C1 => b"C1",
-            Kind::C2 => b"C2",
-            Kind::C3 => b"C3",
-            Kind::C4 => b"C4",
-            Kind::C5 => b"C5",
-            Kind::C6 => b"C6",
-            Kind::C7 => b"C7",
-            Kind::C8 => b"C8",
-            Kind::P1 => b"P1",
-            Kind::M1 => b"M1",
-            Kind::M2 => b"M2",
-            Kind::L1 => b"L1",
-            Kind::L2 => b"L2",
-            Kind::W1 => b"W1",
-            Kind::W2 => b"W2",
-            Kind::W3 => b"W3",
-            Kind::R1 => b"R1",
-            Kind::I1 => b"I1",
-            Kind::I2 => b"I2",
-            Kind::I3 => b"I3",
-            Kind::I4 => b"I4",
-            Kind::I5 => b"I5",
-            Kind::I6 => b"I6",
-            Kind::I7 => b"I7",
-            Kind::I8 => b"I8",
-            Kind::T1 => b"T1",
-            Kind::T2 => b"T2",
-            Kind::K1 => b"K1",
-            Kind::K2 => b"K2",
+            Kind::A1 => "A1",
+            Kind::A2 => "A2",
+            Kind::A3 => "A3",
+            Kind::A4 => "A4",
+            Kind::A5 => "A5",
+            Kind::A6 => "A6",
+            Kind::A7 => "A7",
+            Kind::A8 => "A8",
+            Kind::S1 => "S1",
+            Kind::S2 => "S2",
+            Kind::S3 => "S3",
+            Kind::S4 => "S4",
+            Kind::S5 => "S5",
+            Kind::S6 => "S6",
+            Kind::S7 => "S7",
+            Kind::C1 => "C1",
+            Kind::C2 => "C2",
+            Kind::C3 => "C3",
+            Kind::C4 => "C4",
+            Kind::C5 => "C5",
+            Kind::C6 => "C6",
+            Kind::C7 => "C7",
+            Kind::C8 => "C8",
+            Kind::P1 => "P1",
+            Kind::M1 => "M1",
+            Kind::M2 => "M2",
+            Kind::L1 => "L1",
+            Kind::L2 => "L2",
+            Kind::W1 => "W1",
+            Kind::W2 => "W2",
+            Kind::W3 => "W3",
+            Kind::R1 => "R1",
+            Kind::I1 => "I1",
+            Kind::I2 => "I2",
+            Kind::I3 => "I3",
+            Kind::I4 => "I4",
+            Kind::I5 => "I5",
+            Kind::I6 => "I6",
+            Kind::I7 => "I7",
+            Kind::I8 => "I8",
+            Kind::T1 => "T1",
+            Kind::T2 => "T2",
+            Kind::K1 => "K1",
+            Kind::K2 => "K2",
         }
+    }
+
+    /// The bytes of the name.
+    pub fn text(self) -> &'static [u8]
+        ensures { result.now ≡ kind_text self }
+    {
+        self.name().as_bytes()
     }
 
     /// The kind that has this name; none where no kind has it.
@@ -211,5 +220,14 @@ impl Kind {
         ensures { result ≡ find (λ k. bytes_eq text.now (kind_text k)) kinds }
     {
         Kind::ALL.iter().copied().find(|kind| text == kind.text())
+    }
+}
+
+/// The name of the kind.
+impl fmt::Display for Kind {
+    ghost output = { λ k. Some (kind_text k) };
+
+    fn fmt<W: fmt::Write>(&self, f: &mut fmt::Formatter<W>) -> fmt::Result {
+        f.write_str(self.name())
     }
 }

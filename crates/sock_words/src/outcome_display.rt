@@ -24,16 +24,22 @@ impl fmt::Display for Outcome {
 
     fn fmt<W: fmt::Write>(&self, f: &mut fmt::Formatter<W>) -> fmt::Result {
         match self {
-            Outcome::Opened { slot, version, link } => write!(f, "open {slot} {version} {link}"),
+            Outcome::Opened {
+                slot,
+                version,
+                link,
+            } => write!(f, "open {slot} {version} {link}"),
             Outcome::SlotsFull => write!(f, "slots full"),
             Outcome::Unopened => write!(f, "unopened"),
             Outcome::Gone { found } => write!(f, "gone {found}"),
             Outcome::Placed { link, position } => write!(f, "placed {link} {position}"),
             Outcome::Dropped { link, position } => write!(f, "dropped {link} {position}"),
             Outcome::Full => write!(f, "full"),
-            Outcome::Answered { id, payload, attachment } => {
-                write!(f, "call {id} answered {payload} {attachment}")
-            }
+            Outcome::Answered {
+                id,
+                payload,
+                attachment,
+            } => write!(f, "call {id} answered {payload} {attachment}"),
             Outcome::Peer { id, code } => write!(f, "call {id} peer {code}"),
             Outcome::CallFailed { id, code } => write!(f, "call {id} failed {code}"),
             Outcome::Held => write!(f, "held"),
