@@ -13,6 +13,7 @@ pub mod Stream
 pub mod FramesText
 pub mod Reply
 pub mod Link
+pub mod Commands
 pub mod Report
 pub mod Run
 pub mod Messages
