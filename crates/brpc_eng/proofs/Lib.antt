@@ -1,0 +1,12 @@
+pub mod Known
+pub mod SendLemmas
+pub mod LineLemmas
+pub mod Labels
+pub mod Fitting
+pub mod BuiltLemmas
+pub mod Texts
+pub mod Unlinked
+pub mod ScriptLemmas
+pub mod Reports
+pub mod NumberLemmas
+pub mod Replays

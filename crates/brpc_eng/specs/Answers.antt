@@ -1,0 +1,116 @@
+-- The answers of the program: the status, its cause, and what is written with it.
+use Rattle.std.specs.Prelude.{ℕ, ◌≡◌, ◌≢◌, ◌<◌, ◌≤◌, ◌+◌, ◌⊎◌, ◌++◌, Bool, true, false, List, [], length, codes, decimal, Option, Some, None, Ok, Err}
+use Rattle.std.specs.Io.KnownBytes.{Appends, Consumes}
+use Rattle.brpc_model.specs.Commands.{Command, Replay, command_of, usage_text}
+use Rattle.brpc_model.specs.Items.{Item}
+use Rattle.brpc_model.specs.Script.{script_of}
+use Rattle.brpc_model.specs.Link.{LinkEnd}
+use Rattle.brpc_model.specs.Run.{nothing_late}
+use Rattle.brpc_model.specs.Complete.{FitsWhole}
+use Rattle.sock_io.specs.Causes.{Rose}
+use Rattle.brpc_eng.specs.Built.{is_built}
+use Rattle.brpc_eng.specs.Streams.{script_limit, IsAtEnd, WrotePart}
+
+-- ## What a call finds outside, and what it leaves there
+
+-- a count of faults, before the call and now
+pub record Faults : Type 0 where
+  pub before : ℕ
+  pub now : ℕ
+
+-- it rose, or stands at its last value
+abbrev pub HaveRisen : Faults → Type 0
+HaveRisen faults = Rose faults.before faults.now
+
+-- a source: what it had to give and what of that is left, where it tells
+pub record Input : Type 0 where
+  pub given : Option (List ℕ)
+  pub left : Option (List ℕ)
+  pub faults : Faults
+
+-- a sink: what it had taken before and what it has taken now, where it tells
+pub record Output : Type 0 where
+  pub before : Option (List ℕ)
+  pub now : Option (List ℕ)
+  pub faults : Faults
+
+-- a linker: whether its links are always ready in time, and those that were given back
+pub record Links : Type 0 where
+  pub prompt : Bool
+  pub ends : List LinkEnd
+  pub faults : Faults
+
+-- ## What is written
+
+abbrev pub WroteAll : Output → List ℕ → Type 0
+WroteAll out text = Appends out.before out.now text
+
+-- a beginning of the text, since the sink failed
+abbrev pub WroteSome : Output → List ℕ → Type 0
+WroteSome out text = HaveRisen out.faults × WrotePart out.before out.now text
+
+abbrev pub Wrote : Output → List ℕ → Type 0
+Wrote out text = WroteAll out text ⊎ WroteSome out text
+
+abbrev pub WroteNothing : Output → Type 0
+WroteNothing out = out.now ≡ out.before
+
+abbrev pub not_built_text : List ℕ
+not_built_text = codes "not built\n"
+
+abbrev pub fault_text : ℕ → ℕ → List ℕ
+fault_text line kind = codes "script fault line " ++ decimal line ++ codes " kind " ++ decimal kind ++ codes "\n"
+
+-- ## A script that was read
+
+-- where the links are prompt, the text reports a run of the script over the links given back: it fits, and where nothing
+-- went wrong every send is placed
+abbrev pub IsReport : Links → List Item → List ℕ → Type 0
+IsReport links script text = links.prompt ≡ true → FitsWhole script text links.ends nothing_late
+
+-- the report was written, or the sink failed behind a beginning of it
+abbrev pub ReportWritten : Output → List ℕ → ℕ → Type 0
+ReportWritten out text status = ((status ≡ 0) × WroteAll out text) ⊎ ((status ≡ 5) × WroteSome out text)
+
+-- how the run of a script that is built ends
+pub data Ran (script : List Item) (out : Output) (links : Links) (status : ℕ) : Type 0 where
+  Reported : (text : List ℕ) → IsReport links script text → ReportWritten out text status → Ran script out links status
+  MemoryRanOut : status ≡ 7 → WroteNothing out → Ran script out links status
+  OpenFailed : status ≡ 8 → HaveRisen links.faults → links.ends ≡ [] → WroteNothing out → Ran script out links status
+
+-- ## `replay`
+
+-- the fault was written, or memory ran out
+abbrev pub FaultWritten : Output → ℕ → ℕ → ℕ → Type 0
+FaultWritten out line kind status = ((status ≡ 3) × Wrote out (fault_text line kind)) ⊎ ((status ≡ 7) × WroteNothing out)
+
+-- how `replay` ends where these bytes came
+pub data Replayed (input : Input) (out : Output) (links : Links) (bytes : List ℕ) (status : ℕ) : Type 0 where
+  RanScript : IsAtEnd input.left → (script : List Item) → script_of bytes ≡ Ok script → is_built script ≡ true → Ran script out links status → Replayed input out links bytes status
+  FaultyScript : IsAtEnd input.left → (line kind : ℕ) → script_of bytes ≡ Err (line, kind) → links.ends ≡ [] → FaultWritten out line kind status → Replayed input out links bytes status
+  SourceFailed : status ≡ 4 → HaveRisen input.faults → links.ends ≡ [] → WroteNothing out → Replayed input out links bytes status
+  TooLong : status ≡ 6 → script_limit < length bytes → links.ends ≡ [] → WroteNothing out → Replayed input out links bytes status
+  NoMemory : status ≡ 7 → links.ends ≡ [] → WroteNothing out → Replayed input out links bytes status
+  ScriptNotBuilt : status ≡ 10 → IsAtEnd input.left → (script : List Item) → script_of bytes ≡ Ok script → is_built script ≡ false → links.ends ≡ [] → Wrote out not_built_text →
+      Replayed input out links bytes status
+
+-- `replay` of what the source gives: of the input at most one byte more than a script may have is read, and where that
+-- one came no other status than 6 and 7 comes
+pub record ReplayedInput (input : Input) (out : Output) (links : Links) (status : ℕ) : Type 0 where
+  pub bytes : List ℕ
+  pub came : Consumes input.given input.left bytes
+  pub most : length bytes ≤ script_limit + 1
+  pub too_long : script_limit < length bytes → (status ≡ 6) ⊎ (status ≡ 7)
+  pub replayed : Replayed input out links bytes status
+
+-- ## The program
+
+-- why the program ends with a status
+pub data Answers (words : List (List ℕ)) (input : Input) (out : Output) (links : Links) (status : ℕ) : Type 0 where
+  -- the words ask for no command, and nothing is read
+  NoCommand : status ≡ 2 → command_of words ≡ None → input.left ≡ input.given → links.ends ≡ [] → Wrote out usage_text → Answers words input out links status
+  -- they ask for one that isn't built, and nothing is read
+  CommandNotBuilt : status ≡ 10 → (command : Command) → command_of words ≡ Some command → command ≢ Replay → input.left ≡ input.given → links.ends ≡ [] → Wrote out not_built_text →
+      Answers words input out links status
+  -- they ask for `replay`
+  Replays : command_of words ≡ Some Replay → ReplayedInput input out links status → Answers words input out links status

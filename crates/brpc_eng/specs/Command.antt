@@ -1,0 +1,14 @@
+-- What the words of the command line mean.
+use Rattle.brpc_model.specs.Commands as model
+use Rattle.brpc_eng.specs.declared.commands.Command.{Command}
+use Rattle.brpc_eng.specs.declared.commands.Command.TheVariants as command
+
+-- the command that is asked for
+abbrev pub meaning : Command → model.Command
+meaning command.Replay = model.Replay
+meaning (command.Sim seed) = model.Sim seed
+meaning (command.Run port) = model.Run port
+meaning (command.Gen draw) = model.Gen draw.seed draw.clients draw.operations
+meaning (command.Load draw) = model.Load draw.seed draw.clients draw.operations
+meaning command.Frames = model.Frames
+meaning (command.Serve port connections) = model.Serve port connections

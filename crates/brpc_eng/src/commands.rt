@@ -1,0 +1,202 @@
+ghost use Rattle.std.specs.Prelude.{◌≡◌, ◌∷◌, [], ◌==◌, ◌&&◌, ◌||◌, not, nat_le, ◌<◌, ◌≤◌, length, slice_index, map, string_bytes, option_map, IfSome, IfNone, Some, None, if◌then◌else◌, ℕ};
+ghost use Rattle.std.specs.List.{list_all};
+ghost use Rattle.std.specs.Char.{is_ascii_digit};
+ghost use Rattle.brpc_model.specs.Text.{is_numeral};
+ghost use Rattle.brpc_model.specs.Commands.{command_of, number, sim_of, run_of, drawn_of, serve_of};
+ghost use Rattle.brpc_model.specs.Commands as model;
+ghost use Rattle.brpc_eng.specs.Command.{meaning};
+
+/// A script that is drawn: `SEED CLIENTS OPS`.
+#[derive(Clone, Copy, Debug, PartialEq, Eq)]
+pub struct Draw {
+    pub seed: u32,
+    /// How many clients, 1 to 31.
+    pub clients: u32,
+    /// How many operations each client has; at most 4,092 in all.
+    pub operations: u32,
+}
+
+/// What the words of the command line ask for.
+#[derive(Clone, Copy, Debug, PartialEq, Eq)]
+pub enum Command {
+    /// `replay`: a script is read and run by its own schedule.
+    Replay,
+    /// `sim SEED`: it is run by a drawn schedule.
+    Sim(u32),
+    /// `run [PORT]`: it is run on threads.
+    Run(Option<u32>),
+    /// `gen SEED CLIENTS OPS`: a script is drawn and printed.
+    Gen(Draw),
+    /// `load SEED CLIENTS OPS`: a script is drawn and run, and a summary is printed.
+    Load(Draw),
+    /// `frames`: the frames of the input are printed.
+    Frames,
+    /// `serve PORT N`: so many connections are served.
+    Serve { port: u32, connections: u32 },
+}
+
+/// Whether each byte is a digit.
+fn has_digits(word: &[u8]) -> bool
+    ensures { result ≡ list_all is_ascii_digit word.now }
+{
+    word.iter().all(|b| b.is_ascii_digit())
+}
+
+/// Whether the first digit of several is 0.
+fn has_leading_zero(word: &[u8]) -> bool
+    requires { 0 < length word.now }
+    ensures { not result ≡ (length word.now == 1 || not (slice_index word.now 0 == 48)) }
+{
+    word.len() != 1 && word[0] == b'0'
+}
+
+/// Whether a word is decimal digits without a leading zero.
+fn is_numeral(word: &[u8]) -> bool
+    ensures { result ≡ is_numeral word.now }
+{
+    !word.is_empty() && has_digits(word) && !has_leading_zero(word)
+}
+
+/// The number, where it is in the range.
+fn in_range(value: u32, low: u32, high: u32) -> Option<u32>
+    ensures number { result ≡ (if nat_le low value && nat_le value high then Some value else None) }
+    ensures range { IfSome result (λ n. (low ≤ n) × (n ≤ high)) }
+{
+    if low <= value && value <= high {
+        Some(value)
+    } else {
+        None
+    }
+}
+
+/// The number of this range that a word spells, in decimal without leading zeros.
+fn number(word: &str, low: u32, high: u32) -> Option<u32>
+    ensures number { result ≡ number low high word.now }
+    ensures range { IfSome result (λ n. (low ≤ n) × (n ≤ high)) }
+{
+    if !is_numeral(word.as_bytes()) {
+        return None;
+    }
+    match word.parse::<u32>() {
+        Ok(value) => in_range(value, low, high),
+        Err(_) => None,
+    }
+}
+
+/// The first word, and those behind it.
+fn first_of(words: &[String]) -> Option<(&str, &[String])>
+    ensures some { IfSome result (λ p. map string_bytes words.now ≡ p.0.now ∷ map string_bytes p.1.now) }
+    ensures none { IfNone result (map string_bytes words.now ≡ []) }
+{
+    match words.split_first() {
+        Some((word, more)) => Some((word.as_str(), more)),
+        None => None,
+    }
+}
+
+/// A command of no further words.
+fn alone(command: Command, words: &[String]) -> Option<Command>
+    ensures { option_map meaning result ≡ model.alone (meaning command) (map string_bytes words.now) }
+{
+    match first_of(words) {
+        None => Some(command),
+        Some(_) => None,
+    }
+}
+
+/// `SEED` behind `sim`.
+fn sim(words: &[String]) -> Option<Command>
+    ensures { option_map meaning result ≡ sim_of (map string_bytes words.now) }
+{
+    let (seed, more) = first_of(words)?;
+    if first_of(more).is_some() {
+        return None;
+    }
+    let seed = number(seed, 0, u32::MAX)?;
+    Some(Command::Sim(seed))
+}
+
+/// `[PORT]` behind `run`.
+fn run(words: &[String]) -> Option<Command>
+    ensures { option_map meaning result ≡ run_of (map string_bytes words.now) }
+{
+    let Some((port, more)) = first_of(words) else {
+        return Some(Command::Run(None));
+    };
+    if first_of(more).is_some() {
+        return None;
+    }
+    let port = number(port, 1, 65_535)?;
+    Some(Command::Run(Some(port)))
+}
+
+/// `SEED CLIENTS OPS` behind `gen` or `load`.
+fn read_draw(words: &[String]) -> Option<Draw>
+    ensures { (make : ℕ → ℕ → ℕ → model.Command) → option_map (λ d. make d.seed d.clients d.operations) result ≡ drawn_of make (map string_bytes words.now) }
+{
+    let (seed, more) = first_of(words)?;
+    let (clients, more) = first_of(more)?;
+    let (operations, more) = first_of(more)?;
+    if first_of(more).is_some() {
+        return None;
+    }
+    let seed = number(seed, 0, u32::MAX)?;
+    let clients = number(clients, 1, 31)?;
+    let operations = number(operations, 1, 4_092)?;
+    within_all(seed, clients, operations)
+}
+
+/// The draw, where it has at most 4,092 operations in all.
+fn within_all(seed: u32, clients: u32, operations: u32) -> Option<Draw>
+    requires clients { clients ≤ 31 }
+    requires operations { operations ≤ 4092 }
+    ensures { (make : ℕ → ℕ → ℕ → model.Command) → option_map (λ d. make d.seed d.clients d.operations) result ≡ model.in_all make seed clients operations }
+{
+    if clients * operations <= 4_092 {
+        Some(Draw {
+            seed,
+            clients,
+            operations,
+        })
+    } else {
+        None
+    }
+}
+
+/// `PORT N` behind `serve`.
+fn serve(words: &[String]) -> Option<Command>
+    ensures { option_map meaning result ≡ serve_of (map string_bytes words.now) }
+{
+    let (port, more) = first_of(words)?;
+    let (connections, more) = first_of(more)?;
+    if first_of(more).is_some() {
+        return None;
+    }
+    let port = number(port, 1, 65_535)?;
+    let connections = number(connections, 1, 31)?;
+    Some(Command::Serve { port, connections })
+}
+
+/// What the words of the command line ask for, where they have the form of a command.
+pub fn read_command(words: &[String]) -> Option<Command>
+    ensures { option_map meaning result ≡ command_of (map string_bytes words.now) }
+{
+    let (word, more) = first_of(words)?;
+    if word == "replay" {
+        alone(Command::Replay, more)
+    } else if word == "sim" {
+        sim(more)
+    } else if word == "run" {
+        run(more)
+    } else if word == "gen" {
+        Some(Command::Gen(read_draw(more)?))
+    } else if word == "load" {
+        Some(Command::Load(read_draw(more)?))
+    } else if word == "frames" {
+        alone(Command::Frames, more)
+    } else if word == "serve" {
+        serve(more)
+    } else {
+        None
+    }
+}

@@ -1,0 +1,79 @@
+ghost use Rattle.std.specs.Prelude.{◌≡◌, [], map, string_bytes};
+ghost use Rattle.brpc_eng.specs.Answers.{Answers};
+ghost use Rattle.brpc_eng.specs.Status.{number_of};
+
+use crate::commands::{Command, read_command};
+use crate::replay::{NOT_BUILT, replay, write_answer};
+use crate::status::Status;
+use sock_io::{Gate, Linker, Sink, Source};
+use std::alloc::Global;
+
+const USAGE: &[u8] =
+    b"usage: replay | sim SEED | run [PORT] | gen SEED CLIENTS OPS | load SEED CLIENTS OPS | frames | serve PORT N\n";
+
+/// All that the program does: it reads its words, does what they ask for, and answers its status.
+///
+/// | status | comes |
+/// | --- | --- |
+/// | 0 | where the command was done and its input was read to its end |
+/// | 2 | exactly where the words ask for no command; the usage line is written |
+/// | 3 | exactly where the whole input is no script; the first fault is written |
+/// | 4 | only where the source failed |
+/// | 5 | only where the sink failed, in place of 0; a beginning of the report was written |
+/// | 6 | exactly where more than 1,048,576 bytes came |
+/// | 7 | where memory ran out |
+/// | 8 | only where a link couldn't be opened |
+/// | 10 | exactly where the command or the script isn't built; `not built` is written |
+///
+/// Faults are met in the order words, source, size, script, opening, run, printing; want of memory
+/// may come at any place of it, and is the one answer that needs no cause.
+pub fn brpc<R, S: Source, K: Sink, L: Linker, G: Gate>(
+    _rt: &R,
+    alloc: Global,
+    words: &[String],
+    source: &mut S,
+    out: &mut K,
+    links: &mut L,
+    _gate: &G,
+) -> u8
+    requires opened { L.opened links.old ≡ 0 }
+    requires back { L.back links.old ≡ [] }
+    ensures { Answers (map string_bytes words.now)
+        (record { given = S.left source.old; left = S.left source.new; faults = record { before = S.faults source.old; now = S.faults source.new } })
+        (record { before = K.contents out.old; now = K.contents out.new; faults = record { before = K.faults out.old; now = K.faults out.new } })
+        (record { prompt = L.prompt links.old; ends = L.back links.new; faults = record { before = L.faults links.old; now = L.faults links.new } })
+        result }
+{
+    answer(alloc, words, source, out, links).number()
+}
+
+/// What the words ask for is done.
+fn answer<S: Source, K: Sink, L: Linker>(
+    alloc: Global,
+    words: &[String],
+    source: &mut S,
+    out: &mut K,
+    links: &mut L,
+) -> Status
+    requires opened { L.opened links.old ≡ 0 }
+    requires back { L.back links.old ≡ [] }
+    ensures { Answers (map string_bytes words.now)
+        (record { given = S.left source.old; left = S.left source.new; faults = record { before = S.faults source.old; now = S.faults source.new } })
+        (record { before = K.contents out.old; now = K.contents out.new; faults = record { before = K.faults out.old; now = K.faults out.new } })
+        (record { prompt = L.prompt links.old; ends = L.back links.new; faults = record { before = L.faults links.old; now = L.faults links.new } })
+        (number_of result) }
+{
+    match read_command(words) {
+        None => {
+            write_answer(out, USAGE);
+            Status::WrongWords
+        }
+        Some(command) => match command {
+            Command::Replay => replay(alloc, source, out, links),
+            _ => {
+                write_answer(out, NOT_BUILT);
+                Status::NotBuilt
+            }
+        },
+    }
+}

@@ -1,0 +1,65 @@
+ghost use Rattle.std.specs.Prelude.{◌≡◌, []};
+ghost use Rattle.brpc_eng.specs.Status.{number_of};
+ghost use Rattle.brpc_eng.specs.Answers.{Wrote, FaultWritten, ReplayedInput};
+
+use crate::built::is_built;
+use crate::run::run_script;
+use crate::status::Status;
+use crate::streams::{InputFault, read_all, write_all};
+use script_lang::{ScriptError, read_script};
+use sock_io::{Linker, Sink, Source};
+use std::alloc::Global;
+
+pub const NOT_BUILT: &[u8] = b"not built\n";
+
+/// Reads a script and runs it by its own schedule.
+pub fn replay<S: Source, K: Sink, L: Linker>(
+    alloc: Global,
+    source: &mut S,
+    out: &mut K,
+    links: &mut L,
+) -> Status
+    requires opened { L.opened links.old ≡ 0 }
+    requires back { L.back links.old ≡ [] }
+    ensures { ReplayedInput
+        (record { given = S.left source.old; left = S.left source.new; faults = record { before = S.faults source.old; now = S.faults source.new } })
+        (record { before = K.contents out.old; now = K.contents out.new; faults = record { before = K.faults out.old; now = K.faults out.new } })
+        (record { prompt = L.prompt links.old; ends = L.back links.new; faults = record { before = L.faults links.old; now = L.faults links.new } })
+        (number_of result) }
+{
+    let bytes = match read_all(alloc, source) {
+        Ok(bytes) => bytes,
+        Err(InputFault::Failed) => return Status::SourceFailed,
+        Err(InputFault::TooLong) => return Status::TooLong,
+        Err(InputFault::NoMemory) => return Status::NoMemory,
+    };
+    match read_script(alloc, &bytes) {
+        Ok(script) if is_built(script.lines()) => run_script(alloc, script.lines(), out, links),
+        Ok(_) => {
+            write_answer(out, NOT_BUILT);
+            Status::NotBuilt
+        }
+        Err(ScriptError::Fault { line, kind }) => write_fault(alloc, line, kind, out),
+        Err(ScriptError::NoMemory) => Status::NoMemory,
+    }
+}
+
+/// Writes where a script is faulty.
+fn write_fault<K: Sink>(alloc: Global, line: u32, kind: u8, out: &mut K) -> Status
+    ensures { FaultWritten (record { before = K.contents out.old; now = K.contents out.new; faults = record { before = K.faults out.old; now = K.faults out.new } }) line kind (number_of result) }
+{
+    match format!(in alloc; "script fault line {line} kind {kind}\n") {
+        Ok(text) => {
+            write_answer(out, text.as_bytes());
+            Status::FaultyScript
+        }
+        Err(_) => Status::NoMemory,
+    }
+}
+
+/// Writes the text of an answer, which stands whatever becomes of the writing.
+pub fn write_answer<K: Sink>(out: &mut K, text: &[u8])
+    ensures { Wrote (record { before = K.contents out.old; now = K.contents out.new; faults = record { before = K.faults out.old; now = K.faults out.new } }) text.now }
+{
+    let _ = write_all(out, text);
+}

@@ -1,0 +1,44 @@
+ghost use Rattle.std.specs.Prelude.{◌≡◌};
+
+/// How the program ends.
+#[derive(Clone, Copy, Debug, PartialEq, Eq)]
+pub enum Status {
+    /// The command was done.
+    Done,
+    /// The words ask for no command.
+    WrongWords,
+    /// The input is no script.
+    FaultyScript,
+    /// A read failed.
+    SourceFailed,
+    /// A write of the report failed.
+    SinkFailed,
+    /// More bytes came than a script may have.
+    TooLong,
+    NoMemory,
+    /// A link couldn't be opened.
+    OpenFailed,
+    /// The command or the script isn't built.
+    NotBuilt,
+}
+
+impl Status {
+    ghost use Rattle.brpc_eng.specs.Status.{number_of};
+
+    /// The number with which the program ends.
+    pub fn number(self) -> u8
+        ensures { result ≡ number_of self }
+    {
+        match self {
+            Status::Done => 0,
+            Status::WrongWords => 2,
+            Status::FaultyScript => 3,
+            Status::SourceFailed => 4,
+            Status::SinkFailed => 5,
+            Status::TooLong => 6,
+            Status::NoMemory => 7,
+            Status::OpenFailed => 8,
+            Status::NotBuilt => 10,
+        }
+    }
+}

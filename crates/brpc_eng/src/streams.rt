@@ -1,0 +1,57 @@
+ghost use Rattle.std.specs.Prelude.{◌≡◌, ℕ, ◌<◌, ◌≤◌, ◌++◌, List, length, vec_len, IfOk, IsErrOf, OnErr, OnOk};
+ghost use Rattle.std.specs.Io.KnownBytes.{Appends, Consumes};
+ghost use Rattle.sock_io.specs.Causes.{Rose};
+ghost use Rattle.brpc_eng.specs.Streams.{ReadWhole, WrotePart};
+
+use crate::bytes::from_place;
+use sock_io::{Failed, Sink, Source};
+use std::alloc::Global;
+
+/// The bytes of a script are at most so many.
+const SCRIPT_LIMIT: usize = 1_048_576;
+
+/// Why the input wasn't read whole.
+#[derive(Clone, Copy, Debug, PartialEq, Eq)]
+pub enum InputFault {
+    /// A read failed.
+    Failed,
+    /// More bytes came than a script may have.
+    TooLong,
+    NoMemory,
+}
+
+/// Reads all that a source gives, and at most one byte more than a script may have.
+pub fn read_all<S: Source>(alloc: Global, source: &mut S) -> Result<Vec<u8>, InputFault>
+    ensures came { (bytes : List ℕ) × ReadWhole (S.left source.old) (S.left source.new) bytes result }
+    ensures failed { IsErrOf result InputFault.Failed → Rose (S.faults source.old) (S.faults source.new) }
+{
+    let mut bytes = Vec::new(alloc);
+    let mut room = [0u8; 4096];
+    while bytes.len() <= SCRIPT_LIMIT {
+        let most = room.len().min(SCRIPT_LIMIT + 1 - bytes.len());
+        match source.read(&mut room[..most]) {
+            Ok(0) => return Ok(bytes),
+            Ok(count) => {
+                if bytes.extend_from_slice(&room[..count]).is_err() {
+                    return Err(InputFault::NoMemory);
+                }
+            }
+            Err(Failed) => return Err(InputFault::Failed),
+        }
+    }
+    Err(InputFault::TooLong)
+}
+
+/// Writes a text whole.
+pub fn write_all<K: Sink>(out: &mut K, text: &[u8]) -> Result<(), Failed>
+    ensures whole { OnOk result (Appends (K.contents out.old) (K.contents out.new) text.now) }
+    ensures part { OnErr result (WrotePart (K.contents out.old) (K.contents out.new) text.now) }
+    ensures failed { OnErr result (Rose (K.faults out.old) (K.faults out.new)) }
+{
+    let mut rest = text;
+    while !rest.is_empty() {
+        let count = out.write(rest)?;
+        rest = from_place(rest, count);
+    }
+    Ok(())
+}

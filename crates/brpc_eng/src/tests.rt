@@ -1,0 +1,196 @@
+use crate::brpc;
+use sock_io::{MemSink, MemSource, OpenGate, SinkLinker};
+use std::test::Fail;
+
+/// The calls that fail, counted from 1 (0: none), and how much the sink takes.
+#[derive(Clone, Copy)]
+struct Outside {
+    read: u64,
+    write: u64,
+    open: u32,
+    put: u32,
+    room: usize,
+}
+
+const CALM: Outside = Outside {
+    read: 0,
+    write: 0,
+    open: 0,
+    put: 0,
+    room: 8192,
+};
+
+/// The status of a call, and what it wrote.
+fn answer(
+    rt: &HostRuntime,
+    words: &str,
+    input: &[u8],
+    outside: Outside,
+) -> Result<(u8, Vec<u8>), Fail> {
+    let alloc = rt.alloc();
+    let mut source = MemSource::new(input.to_vec(alloc)?, vec![in alloc; outside.read]?);
+    let mut out = MemSink::new(alloc, outside.room, vec![in alloc; outside.write]?)
+        .ok()
+        .ok_or("no memory")?;
+    let mut links = SinkLinker::new(alloc, vec![in alloc; outside.open]?, outside.put);
+    let mut list = Vec::new(alloc);
+    for word in words.split(' ') {
+        list.push(String::from_str(alloc, word)?)?;
+    }
+    let status = brpc(
+        rt,
+        alloc,
+        &list,
+        &mut source,
+        &mut out,
+        &mut links,
+        &OpenGate,
+    );
+    Ok((status, out.bytes().to_vec(alloc)?))
+}
+
+/// Scripts, with the put from which on the link fails (0: none), the status, and what is written.
+const ROWS: [(&str, u32, u8, &str); 10] = [
+    (
+        "open a piece=1\nclient\nsend a 6869\n",
+        0,
+        0,
+        "0.1 open 0 0 0\n1.1 placed 0 0\nlink 0 a accepted 1 placed 1 took 2 6869\norder 0 1.1.0\nend\n",
+    ),
+    ("", 0, 0, "end\n"),
+    ("client\nsend z 61", 0, 0, "1.1 unopened\nend\n"),
+    (
+        "open a\nclient\nsend a 6161\nsend a 62\n",
+        1,
+        0,
+        "0.1 open 0 0 0\n1.1 dropped 0 0\n1.2 gone 0000000200000000\nlink 0 a accepted 1 placed 0 took 0 -\norder 0 1.1.0\nend\n",
+    ),
+    (
+        "# a comment\r\nopen a piece=3\n\nclient\nsend a 61626364\nsend b 65\nsend a 66",
+        3,
+        0,
+        "0.1 open 0 0 0\n1.1 placed 0 0\n1.2 unopened\n1.3 dropped 0 1\nlink 0 a accepted 2 placed 1 took 4 61626364\norder 0 1.1.0 1.3.0\nend\n",
+    ),
+    ("client\nclient\n", 0, 10, "not built\n"),
+    ("open a again=2\n", 0, 10, "not built\n"),
+    ("open a\nopen b\n", 0, 10, "not built\n"),
+    (
+        "open a\nclient\nsend a 6\n",
+        0,
+        3,
+        "script fault line 3 kind 5\n",
+    ),
+    ("send a 61\n", 0, 3, "script fault line 1 kind 8\n"),
+];
+
+#[test]
+fn answers_scripts(rt: HostRuntime) -> Result<(), Fail> {
+    for (script, put, status, text) in ROWS {
+        let outside = Outside { put, ..CALM };
+        let (answered, written) = answer(&rt, "replay", script.as_bytes(), outside)?;
+        assert_eq!(rt; answered, status, "at {script}");
+        assert_eq!(rt; written.as_slice(), text.as_bytes(), "at {script}");
+    }
+    Ok(())
+}
+
+/// Words, with the status.
+const WORDS: [(&str, u8); 18] = [
+    ("--help", 2),
+    ("", 2),
+    ("replay now", 2),
+    ("sim", 2),
+    ("sim 4294967295", 10),
+    ("sim 4294967296", 2),
+    ("sim 07", 2),
+    ("sim -1", 2),
+    ("run", 10),
+    ("run 65535", 10),
+    ("run 0", 2),
+    ("gen 7 31 132", 10),
+    ("gen 7 31 133", 2),
+    ("load 7 32 1", 2),
+    ("load 7 1 4092", 10),
+    ("frames", 10),
+    ("serve 80 31", 10),
+    ("serve 80 32", 2),
+];
+
+#[test]
+fn answers_words(rt: HostRuntime) -> Result<(), Fail> {
+    for (words, status) in WORDS {
+        let (answered, written) = answer(&rt, words, b"client\n", CALM)?;
+        assert_eq!(rt; answered, status, "at {words}");
+        let text = if status == 2 {
+            "usage: replay | sim SEED | run [PORT] | gen SEED CLIENTS OPS | load SEED CLIENTS OPS | frames | serve PORT N\n"
+        } else {
+            "not built\n"
+        };
+        assert_eq!(rt; written.as_slice(), text.as_bytes(), "at {words}");
+    }
+    Ok(())
+}
+
+/// Calls of the outside that fail, with the status and how much of row 1's report is written.
+const FAULTS: [(Outside, u8, usize); 7] = [
+    (Outside { read: 1, ..CALM }, 4, 0),
+    (Outside { read: 2, ..CALM }, 4, 0),
+    (Outside { read: 3, ..CALM }, 0, 89),
+    (Outside { write: 1, ..CALM }, 5, 0),
+    (Outside { write: 2, ..CALM }, 0, 89),
+    (Outside { room: 40, ..CALM }, 5, 40),
+    (Outside { open: 1, ..CALM }, 8, 0),
+];
+
+#[test]
+fn answers_faults(rt: HostRuntime) -> Result<(), Fail> {
+    let (script, _, _, text) = ROWS[0];
+    for (outside, status, length) in FAULTS {
+        let (answered, written) = answer(&rt, "replay", script.as_bytes(), outside)?;
+        assert_eq!(rt; answered, status);
+        assert_eq!(rt;
+            written.as_slice(),
+            text.as_bytes().get(..length).unwrap_or(&[])
+        );
+    }
+    Ok(())
+}
+
+/// A send of so many bytes `61`, over a link whose put `put` fails, and the last two lines but one.
+fn send_of(rt: &HostRuntime, length: usize, put: u32) -> Result<Vec<u8>, Fail> {
+    let mut script = Vec::from_slice(rt.alloc(), b"open a\nclient\nsend a ")?;
+    for _ in 0..length {
+        script.extend_from_slice(b"61")?;
+    }
+    let (_, written) = answer(rt, "replay", &script, Outside { put, ..CALM })?;
+    Ok(written)
+}
+
+#[test]
+fn puts_long_messages(rt: HostRuntime) -> Result<(), Fail> {
+    let head = "6161616161616161616161616161616161616161616161616161616161616161";
+    let whole = send_of(&rt, 65_536, 0)?;
+    let want = format!(in rt.alloc();
+        "0.1 open 0 0 0\n1.1 placed 0 0\nlink 0 a accepted 1 placed 1 took 65536 {head}\norder 0 1.1.0\nend\n"
+    )?;
+    assert_eq!(rt; whole.as_slice(), want.as_bytes());
+    let cut = send_of(&rt, 8_193, 2)?;
+    let want = format!(in rt.alloc();
+        "0.1 open 0 0 0\n1.1 dropped 0 0\nlink 0 a accepted 1 placed 0 took 8192 {head}\norder 0 1.1.0\nend\n"
+    )?;
+    assert_eq!(rt; cut.as_slice(), want.as_bytes());
+    Ok(())
+}
+
+#[test]
+fn reads_up_to_the_limit(rt: HostRuntime) -> Result<(), Fail> {
+    let mut input = vec![in rt.alloc(); b'#'; 1_048_576]?;
+    let (answered, written) = answer(&rt, "replay", &input, CALM)?;
+    assert_eq!(rt; answered, 0);
+    assert_eq!(rt; written.as_slice(), b"end\n".as_slice());
+    input.push(b'#')?;
+    let (answered, written) = answer(&rt, "replay", &input, CALM)?;
+    assert_eq!(rt; answered, 6);
+    assert_eq!(rt; written.len(), 0);
+    Ok(())
+}
