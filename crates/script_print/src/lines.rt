@@ -27,11 +27,11 @@ fn push_named(text: &mut Vec<u8>, command: &[u8], name: &[u8]) -> Result<(), All
 }
 
 /// Appends an `open`.
-fn push_open(text: &mut Vec<u8>, open: &OpenLine) -> Result<(), AllocError>
-    ensures { OnOk result (text.new.items ≡ text.old.items ++ item_text (item (Line.Open open.now))) }
+fn push_open(text: &mut Vec<u8>, link: &OpenLine) -> Result<(), AllocError>
+    ensures { OnOk result (text.new.items ≡ text.old.items ++ item_text (item (Line.Open link.now))) }
 {
-    push_named(text, b"open", open.name.as_slice())?;
-    push_shape(text, &open.shape)
+    push_named(text, b"open", link.name.as_slice())?;
+    push_shape(text, &link.shape)
 }
 
 /// Appends a `send`.
@@ -76,7 +76,7 @@ pub fn push_line(alloc: Global, text: &mut Vec<u8>, line: &Line) -> Result<(), A
         Line::Slots(count) => push_size(text, b"slots", *count),
         Line::Requests(count) => push_size(text, b"requests", *count),
         Line::First(version) => push_size(text, b"first", *version),
-        Line::Open(open) => push_open(text, open),
+        Line::Open(link) => push_open(text, link),
         Line::Client => text.extend_from_slice(b"client"),
         Line::Send(send) => push_send(alloc, text, send),
         Line::Call(call) => push_call(alloc, text, call),

@@ -79,10 +79,10 @@ fn push_serve(text: &mut Vec<u8>, serve: bool) -> Result<(), AllocError>
 }
 
 /// Appends ` end=N` where it is given.
-fn push_end(text: &mut Vec<u8>, end: Option<u32>) -> Result<(), AllocError>
-    ensures { OnOk result (text.new.items ≡ text.old.items ++ end_text «end») }
+fn push_end(text: &mut Vec<u8>, replies: Option<u32>) -> Result<(), AllocError>
+    ensures { OnOk result (text.new.items ≡ text.old.items ++ end_text replies) }
 {
-    match end {
+    match replies {
         None => Ok(()),
         Some(count) => {
             text.extend_from_slice(b" end=")?;
