@@ -1,18 +1,18 @@
 -- A meta that was written is read as itself.
-use Rattle.std.proofs.Common.{◌≡◌, ◌⊎◌, ℕ, zero, suc, ℤ, pos, negsuc, neg_ℤ, ◌<◌, ◌≤◌, ◌+◌, ◌-◌, ◌*◌, ◌%◌, ◌^◌, ◌==◌, nat_lt, Bool, true, false, if◌then◌else◌, List, [], ◌∷◌, ◌++◌, length, fold, Option, Some, None, option_map, IfSome, Result, Ok, Err, refl, ap, sym, ◌∙◌, subst, inl, inr, arith}
+use Rattle.std.proofs.Common.{◌≡◌, ◌⊎◌, ℕ, zero, suc, ℤ, pos, negsuc, neg_ℤ, ◌<◌, ◌≤◌, ◌+◌, ◌-◌, ◌*◌, ◌%◌, ◌^◌, nat_lt, true, if◌then◌else◌, List, [], ◌∷◌, ◌++◌, length, fold, Option, Some, None, option_map, IfSome, Ok, refl, ap, sym, ◌∙◌, inl, inr, arith}
 use Rattle.std.specs.Option.{is_some}
 use Rattle.std.proofs.Math.Nat.{mod-eq_of_lt}
 use Rattle.std.proofs.lemmas.List.{length-append}
 use Rattle.std.proofs.lemmas.List.Sums.{fold-append}
 use Rattle.std.proofs.lemmas.Bool.{lt-ltb, le-ltb}
 use lib.Signed.{mag}
-use Rattle.brpc_model.specs.Wire.{Wire, ◌>>=◌, Value, Varint, Span, Field, varint_bytes, fields, fields_with}
-use Rattle.brpc_model.specs.Meta.{RequestMeta, ResponseMeta, Meta, Part, Request, Response, Plain, part_of, int32, read_meta}
+use Rattle.brpc_model.specs.Wire.{Wire, ◌>>=◌, Varint, Span, Field, varint_bytes}
+use Rattle.brpc_model.specs.Meta.{RequestMeta, ResponseMeta, Meta, Request, Response, Plain, int32, read_meta}
 use Rattle.brpc_model.specs.Spelling.{number_field, bytes_field, spelled_int, where_some, where_not_0, where_not_empty, request_bytes, response_bytes, meta_bytes}
 use Rattle.pb_wire.specs.Form.{IsField}
 use Rattle.rpc_meta.specs.Gathered.{Names, Outcome, Gathered, no_names, no_outcome, nothing, name_added, outcome_added, part_added}
 use Rattle.rpc_meta.specs.Steps.{gathered_after}
-use Rattle.rpc_meta.specs.Answer.{request_from, response_from, meta_from}
+use Rattle.rpc_meta.specs.Answer.{request_from, response_from}
 use Rattle.rpc_meta.specs.Writing.{HasPart, RequestFits, ResponseFits, MetaFits}
 use Rattle.rpc_meta.proofs.Gathering.{part}
 use Rattle.rpc_meta.proofs.Merging.{meta_is_read}
@@ -100,8 +100,8 @@ request_added at r h k l =
     let b = bytes_field 2 r.method in
     step_both kept name_added at (a ++ b) (where_some (number_field 3) r.log_id) no_names (name_state (Some r.service) (Some r.method) None) (name_state (Some r.service) (Some r.method) r.log_id)
     (step_both kept name_added at a b no_names (name_state (Some r.service) None None) (name_state (Some r.service) (Some r.method) None)
-      (bytes_added name_added at 1 r.service no_names (name_state (Some r.service) None None) (omega arith) (omega arith) h refl)
-      (bytes_added name_added (at + length a) 2 r.method (name_state (Some r.service) None None) (name_state (Some r.service) (Some r.method) None) (omega arith) (omega arith) k refl))
+    (bytes_added name_added at 1 r.service no_names (name_state (Some r.service) None None) (omega arith) (omega arith) h refl)
+    (bytes_added name_added (at + length a) 2 r.method (name_state (Some r.service) None None) (name_state (Some r.service) (Some r.method) None) (omega arith) (omega arith) k refl))
     (log_added (at + length (a ++ b)) r.service r.method r.log_id l)
 
 abbrev outcome_state : ℕ → List ℕ → Outcome
@@ -210,12 +210,12 @@ meta_step m fit short =
     let l4 = length-append a b in
     step_both part part_added 0 (a ++ b ++ c ++ d) e nothing (state q p (spelled_int m.compress_type) m.correlation_id 0) (state q p (spelled_int m.compress_type) m.correlation_id (spelled_int m.attachment_size))
     (step_both part part_added 0 (a ++ b ++ c) d nothing (state q p (spelled_int m.compress_type) 0 0) (state q p (spelled_int m.compress_type) m.correlation_id 0)
-      (step_both part part_added 0 (a ++ b) c nothing (state q p 0 0 0) (state q p (spelled_int m.compress_type) 0 0)
-        (step_both part part_added 0 a b nothing (state q None 0 0 0) (state q p 0 0 0)
-          (request_step 0 m.request fit.request (omega (arith, short, l1, l2, l3, l4)))
-          (response_step (0 + length a) q m.response fit.response (omega (arith, short, l1, l2, l3, l4))))
-        (compress_step (0 + length (a ++ b)) m.compress_type q p fit.compress_type.sfits))
-      (id_step (0 + length (a ++ b ++ c)) m.correlation_id q p (spelled_int m.compress_type) fit.correlation_id))
+    (step_both part part_added 0 (a ++ b) c nothing (state q p 0 0 0) (state q p (spelled_int m.compress_type) 0 0)
+    (step_both part part_added 0 a b nothing (state q None 0 0 0) (state q p 0 0 0)
+    (request_step 0 m.request fit.request (omega (arith, short, l1, l2, l3, l4)))
+    (response_step (0 + length a) q m.response fit.response (omega (arith, short, l1, l2, l3, l4))))
+    (compress_step (0 + length (a ++ b)) m.compress_type q p fit.compress_type.sfits))
+    (id_step (0 + length (a ++ b ++ c)) m.correlation_id q p (spelled_int m.compress_type) fit.correlation_id))
     (size_step (0 + length (a ++ b ++ c ++ d)) m.attachment_size q p (spelled_int m.compress_type) m.correlation_id fit.attachment_size.sfits)
 
 request_back : (o : Option RequestMeta) → Ok o ≡ request_from (option_map named o)

@@ -55,10 +55,7 @@ fn append_request(request: &Option<RequestMeta>, out: &mut Vec<u8>) -> Result<()
 }
 
 /// Appends the response where there is one, in the same way.
-fn append_response(
-    response: &Option<ResponseMeta>,
-    out: &mut Vec<u8>,
-) -> Result<(), NoMemory>
+fn append_response(response: &Option<ResponseMeta>, out: &mut Vec<u8>) -> Result<(), NoMemory>
     ensures written { Appends out.old.items (where_some (λ r. bytes_field 2 (response_bytes r)) (option_map response_of response.now)) result out.new.items }
     ensures fits { OnOk result (ResponseFits (option_map response_of response.now)) }
 {
