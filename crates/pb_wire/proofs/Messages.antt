@@ -1,5 +1,5 @@
 -- The fields of a message are read exactly where the bytes spell them.
-use Rattle.std.proofs.Common.{◌≡◌, ◌↔◌, ℕ, ◌+◌, List, [], ◌∷◌, ◌++◌, length, take, drop, Ok, Err, refl, ap, sym, ◌∙◌, subst}
+use Rattle.std.proofs.Common.{◌≡◌, ◌↔◌, ℕ, ◌+◌, List, [], ◌∷◌, length, take, drop, Ok, Err, refl, ap, sym, ◌∙◌, subst}
 use Rattle.std.proofs.lemmas.List.{take-append-drop, length-take-le, drop_at}
 use Rattle.brpc_model.specs.Wire.{WireFault, Wire, ◌>>=◌, Front, Field, field, fields, fields_up_to}
 use Rattle.pb_wire.specs.Form.{IsField, IsMessage}
@@ -47,12 +47,17 @@ read_message_form (f ∷ fs) at (b ∷ bytes) e =
     let value : r.0.value ≡ f = heads r.0.value f r.2.rest fs r.2.same in
     let tail : r.2.rest ≡ fs = tails r.0.value f r.2.rest fs r.2.same in
     let P : Field → Type 0 = λ f. IsField at (take r.0.size (b ∷ bytes)) f in
-    let Q : ℕ → Type 0 = λ s. IsMessage (at + s) (drop r.0.size (b ∷ bytes)) fs in
-    (take r.0.size (b ∷ bytes), drop r.0.size (b ∷ bytes), sym (take-append-drop r.0.size (b ∷ bytes)), subst P value form.1,
-     subst Q (sym size) (read_message_form fs (at + r.0.size) (drop r.0.size (b ∷ bytes)) (r.2.read ∙ ap (λ l. Ok l) tail)))
+    let Q : ℕ → Type 0 = λ s. IsMessage (at + s) (drop r.0.size (b ∷ bytes)) fs in (
+      take r.0.size (b ∷ bytes),
+      drop r.0.size (b ∷ bytes),
+      sym (take-append-drop r.0.size (b ∷ bytes)),
+      subst P value form.1,
+      subst Q (sym size) (read_message_form fs (at + r.0.size) (drop r.0.size (b ∷ bytes)) (r.2.read ∙ ap (λ l. Ok l) tail)),
+    )
   where
     heads : (a c : Field) (more cs : List Field) → a ∷ more ≡ c ∷ cs → a ≡ c
     heads a c more cs e = cc
+
     tails : (a c : Field) (more cs : List Field) → a ∷ more ≡ c ∷ cs → more ≡ cs
     tails a c more cs e = cc
 

@@ -1,5 +1,5 @@
 -- The shortest varint of a number spells it, and no other one is shorter.
-use Rattle.std.proofs.Common.{◌≡◌, ℕ, zero, suc, ◌<◌, ◌≤◌, ◌+◌, ◌*◌, ◌/◌, ◌%◌, ◌^◌, nat_lt, Bool, true, false, if◌then◌else◌, List, [], ◌∷◌, ◌++◌, length, refl, ap, sym, ◌∙◌, subst, ⊎_elim, arith}
+use Rattle.std.proofs.Common.{◌≡◌, ℕ, zero, suc, ◌<◌, ◌≤◌, ◌+◌, ◌/◌, ◌%◌, ◌^◌, Bool, if◌then◌else◌, List, [], ◌∷◌, ◌++◌, length, refl, ap, sym, ◌∙◌, subst, ⊎_elim, arith}
 use Rattle.std.proofs.Math.Nat.{pow-suc, mod-eq_of_lt}
 use Rattle.std.proofs.lemmas.Nat.{div_below}
 use Rattle.std.proofs.lemmas.List.{length-append}
@@ -44,12 +44,12 @@ spelled : (most n : ℕ) → 0 < most → n < 128 ^ most → Spelled most n (var
 spelled zero n h fits = absurd (omega (arith, h))
 spelled (suc most) n h fits =
     ⊎_elim (λ (small : n < 128).
-      let P : Bool → Type 0 = λ b. Spelled (suc most) n (if b then n ∷ [] else (n % 128 + 128) ∷ varint_up_to most (n / 128)) in
-      subst P (sym (lt-ltb n 128 small)) (one_byte most n small))
+    let P : Bool → Type 0 = λ b. Spelled (suc most) n (if b then n ∷ [] else (n % 128 + 128) ∷ varint_up_to most (n / 128)) in
+    subst P (sym (lt-ltb n 128 small)) (one_byte most n small))
     (λ (large : 128 ≤ n).
-      let below : n / 128 < 128 ^ most = div_below n 128 (128 ^ most) (omega arith) (rw (← pow-suc 128 most) fits) in
-      let P : Bool → Type 0 = λ b. Spelled (suc most) n (if b then n ∷ [] else (n % 128 + 128) ∷ varint_up_to most (n / 128)) in
-      subst P (sym (le-ltb n 128 large)) (one_more most n (varint_up_to most (n / 128)) (spelled most (n / 128) (at_least_one most large below) below)))
+    let below : n / 128 < 128 ^ most = div_below n 128 (128 ^ most) (omega arith) (rw (← pow-suc 128 most) fits) in
+    let P : Bool → Type 0 = λ b. Spelled (suc most) n (if b then n ∷ [] else (n % 128 + 128) ∷ varint_up_to most (n / 128)) in
+    subst P (sym (le-ltb n 128 large)) (one_more most n (varint_up_to most (n / 128)) (spelled most (n / 128) (at_least_one most large below) below)))
     (cases_lt n 128)
   where
     at_least_one : (r : ℕ) → 128 ≤ n → n / 128 < 128 ^ r → 0 < r

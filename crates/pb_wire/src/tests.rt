@@ -97,3 +97,15 @@ fn counts_the_places_of_a_span_from_the_start(rt: HostRuntime) {
     );
     assert_eq!(rt; fields.next(), Err(WireFault::Truncated { at: 5 }));
 }
+
+// With each allocation failing in turn, the output is what it was or has the whole varint behind it.
+#[test]
+fn a_refusal_leaves_the_output(rt: HostRuntime) {
+    let mut out = Vec::new(rt.alloc());
+    if out.push(9).is_ok() {
+        let written = write_varint(&mut out, u64::MAX).is_ok();
+        let want = if written { 11 } else { 1 };
+        assert_eq!(rt; out.len(), want);
+        assert_eq!(rt; out[0], 9);
+    }
+}

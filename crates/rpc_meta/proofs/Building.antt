@@ -1,5 +1,5 @@
 -- A meta that was built of what was gathered is the one that its definition has.
-use Rattle.std.proofs.Common.{◌≡◌, ◌⊎◌, ℕ, ℤ, List, Bool, true, false, not, Option, Some, None, option_map, Result, Ok, Err, IfSome, refl, ap, sym, ◌∙◌, inl, inr}
+use Rattle.std.proofs.Common.{◌≡◌, ◌⊎◌, ℕ, ℤ, List, true, false, Option, Some, None, option_map, Result, Ok, Err, IfSome, refl, ap, sym, ◌∙◌, inl, inr}
 use Rattle.std.specs.Option.{is_some}
 use Rattle.brpc_model.specs.Meta as meta
 use Rattle.rpc_meta.specs.declared.fault.MetaFault.{MetaFault}

@@ -1,6 +1,6 @@
 -- What is gathered of a field in front and of the fields behind it is what is gathered of them all.
-use Rattle.std.proofs.Common.{◌≡◌, ℕ, List, [], ◌∷◌, fold, Option, Some, None, Ok, Err, refl, ap, sym, ◌∙◌, subst}
-use Rattle.brpc_model.specs.Wire.{WireFault, Wire, ◌>>=◌, Field}
+use Rattle.std.proofs.Common.{◌≡◌, ℕ, List, ◌∷◌, fold, Option, Some, Ok, Err, refl, ap, sym, ◌∙◌}
+use Rattle.brpc_model.specs.Wire.{Wire, ◌>>=◌, Field}
 use Rattle.brpc_model.specs.Meta.{Part, part_of}
 use Rattle.pb_wire.specs.declared.values as declared
 use Rattle.pb_wire.specs.Told.{field_in, answer_in}
@@ -45,5 +45,5 @@ pub part_step : (g new_g : Gathered) (old new : Reading) (bytes : List ℕ) (fie
 part_step g new_g old new bytes field f whole same answered moved is added so_far =
     sym (part_front g new_g (part (field_in old.bytes f)) (left_with part new) (added ∙ ap (λ b. part (field_in b f) >>= (λ p. Ok (part_added g p))) (sym same)))
     ∙ ap (λ r. r >>= (λ ps. Ok (fold part_added g ps)))
-      (sym (read_on part old new (field_in old.bytes f) (sym (ap (λ (o : Option declared.Field.Field). answer_in old.bytes (Ok o)) is) ∙ answered) moved))
+    (sym (read_on part old new (field_in old.bytes f) (sym (ap (λ (o : Option declared.Field.Field). answer_in old.bytes (Ok o)) is) ∙ answered) moved))
     ∙ so_far

@@ -1,5 +1,5 @@
 -- What is gathered of the parts of a meta one after another is what its definition says of them all.
-use Rattle.std.proofs.Common.{◌≡◌, ℕ, ℤ, List, [], ◌∷◌, ◌++◌, fold, flat_map, Option, Some, None, unwrap_or, option_map, Result, Ok, Err, refl, ap, sym, ◌∙◌, subst, append_assoc}
+use Rattle.std.proofs.Common.{◌≡◌, ℕ, ℤ, List, [], ◌∷◌, ◌++◌, fold, flat_map, Option, Some, None, unwrap_or, option_map, Result, Ok, Err, refl, ap, sym, ◌∙◌, append_assoc}
 use Rattle.std.proofs.lemmas.List.{append-nil}
 use Rattle.std.proofs.lemmas.List.Concat.{flat_map-cons}
 use Rattle.std.proofs.lemmas.Grind.{flat_map-append}
@@ -143,16 +143,16 @@ fold_parts g [] = refl
 fold_parts g (Request inside ∷ ps) =
     fold_parts (part_added g (Request inside)) ps
     ∙ sorted_same g (inside ∷ flat_map requests_in ps) _ (flat_map responses_in ps) _ (flat_map plain_in ps) _
-      (flat_map-cons requests_in (Request inside) ps) (flat_map-cons responses_in (Request inside) ps) (flat_map-cons plain_in (Request inside) ps)
+    (flat_map-cons requests_in (Request inside) ps) (flat_map-cons responses_in (Request inside) ps) (flat_map-cons plain_in (Request inside) ps)
 fold_parts g (Response inside ∷ ps) =
     fold_parts (part_added g (Response inside)) ps
     ∙ sorted_same g (flat_map requests_in ps) _ (inside ∷ flat_map responses_in ps) _ (flat_map plain_in ps) _
-      (flat_map-cons requests_in (Response inside) ps) (flat_map-cons responses_in (Response inside) ps) (flat_map-cons plain_in (Response inside) ps)
+    (flat_map-cons requests_in (Response inside) ps) (flat_map-cons responses_in (Response inside) ps) (flat_map-cons plain_in (Response inside) ps)
 fold_parts g (Plain f ∷ ps) =
     fold_parts (part_added g (Plain f)) ps
     ∙ plain_front g (flat_map requests_in ps) (flat_map responses_in ps) f (flat_map plain_in ps)
     ∙ sorted_same g (flat_map requests_in ps) _ (flat_map responses_in ps) _ (f ∷ flat_map plain_in ps) _
-      (flat_map-cons requests_in (Plain f) ps) (flat_map-cons responses_in (Plain f) ps) (flat_map-cons plain_in (Plain f) ps)
+    (flat_map-cons requests_in (Plain f) ps) (flat_map-cons responses_in (Plain f) ps) (flat_map-cons plain_in (Plain f) ps)
 
 -- ## What a meta says
 
@@ -185,8 +185,10 @@ meta_of_sorted requests responses plain =
   where
     c : ℤ
     c = int32 (latest 0 (flat_map (found varint_of 3) plain))
+
     i : ℕ
     i = latest 0 (flat_map (found varint_of 4) plain)
+
     s : ℤ
     s = int32 (latest 0 (flat_map (found varint_of 5) plain))
 

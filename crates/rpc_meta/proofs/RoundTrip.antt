@@ -1,18 +1,19 @@
 -- A meta that was written is read as itself.
-use Rattle.std.proofs.Common.{◌≡◌, ◌⊎◌, ℕ, zero, suc, ℤ, pos, negsuc, neg_ℤ, ◌<◌, ◌≤◌, ◌+◌, ◌-◌, ◌*◌, ◌%◌, ◌^◌, ◌==◌, nat_lt, Bool, true, false, if◌then◌else◌, List, [], ◌∷◌, ◌++◌, length, fold, Option, Some, None, option_map, IfSome, Result, Ok, Err, refl, ap, sym, ◌∙◌, subst, inl, inr, arith}
+use Rattle.std.proofs.Common.{◌≡◌, ◌⊎◌, ℕ, zero, suc, ℤ, pos, negsuc, neg_ℤ, ◌<◌, ◌≤◌, ◌+◌, ◌-◌, ◌*◌, ◌%◌, ◌^◌, nat_lt, true, if◌then◌else◌, List, [], ◌∷◌, ◌++◌, length, fold, Option, Some, None, option_map, IfSome, Ok, refl, ap, sym, ◌∙◌, inl, inr, arith}
 use Rattle.std.specs.Option.{is_some}
 use Rattle.std.proofs.Math.Nat.{mod-eq_of_lt}
 use Rattle.std.proofs.lemmas.List.{length-append}
 use Rattle.std.proofs.lemmas.List.Sums.{fold-append}
 use Rattle.std.proofs.lemmas.Bool.{lt-ltb, le-ltb}
 use lib.Signed.{mag}
-use Rattle.brpc_model.specs.Wire.{Wire, ◌>>=◌, Value, Varint, Span, Field, varint_bytes, fields, fields_with}
-use Rattle.brpc_model.specs.Meta.{RequestMeta, ResponseMeta, Meta, Part, Request, Response, Plain, part_of, int32, read_meta}
+use Rattle.brpc_model.specs.Wire.{Wire, ◌>>=◌, Varint, Span, Field, varint_bytes}
+use Rattle.brpc_model.specs.Meta.{RequestMeta, ResponseMeta, Meta, Request, Response, Plain, int32, read_meta}
 use Rattle.brpc_model.specs.Spelling.{number_field, bytes_field, spelled_int, where_some, where_not_0, where_not_empty, request_bytes, response_bytes, meta_bytes}
 use Rattle.pb_wire.specs.Form.{IsField}
 use Rattle.rpc_meta.specs.Gathered.{Names, Outcome, Gathered, no_names, no_outcome, nothing, name_added, outcome_added, part_added}
 use Rattle.rpc_meta.specs.Steps.{gathered_after}
-use Rattle.rpc_meta.specs.Answer.{request_from, response_from, meta_from}
+use Rattle.rpc_meta.specs.Answer.{request_from, response_from}
+use Rattle.rpc_meta.specs.Writing.{HasPart, RequestFits, ResponseFits, MetaFits}
 use Rattle.rpc_meta.proofs.Gathering.{part}
 use Rattle.rpc_meta.proofs.Merging.{meta_is_read}
 use Rattle.rpc_meta.proofs.Building.{built}
@@ -21,7 +22,7 @@ use Rattle.rpc_meta.proofs.Pieces.{number_is, bytes_is, inner_place, Says, says_
 -- ## An int32
 
 -- a number below this has 31 bits and a sign
-abbrev pub IsInt : ℤ → Type 0
+abbrev IsInt : ℤ → Type 0
 IsInt z = mag z < 2 ^ 31
 
 spelled_fits : (z : ℤ) → IsInt z → spelled_int z < 2 ^ 64
@@ -99,8 +100,8 @@ request_added at r h k l =
     let b = bytes_field 2 r.method in
     step_both kept name_added at (a ++ b) (where_some (number_field 3) r.log_id) no_names (name_state (Some r.service) (Some r.method) None) (name_state (Some r.service) (Some r.method) r.log_id)
     (step_both kept name_added at a b no_names (name_state (Some r.service) None None) (name_state (Some r.service) (Some r.method) None)
-      (bytes_added name_added at 1 r.service no_names (name_state (Some r.service) None None) (omega arith) (omega arith) h refl)
-      (bytes_added name_added (at + length a) 2 r.method (name_state (Some r.service) None None) (name_state (Some r.service) (Some r.method) None) (omega arith) (omega arith) k refl))
+    (bytes_added name_added at 1 r.service no_names (name_state (Some r.service) None None) (omega arith) (omega arith) h refl)
+    (bytes_added name_added (at + length a) 2 r.method (name_state (Some r.service) None None) (name_state (Some r.service) (Some r.method) None) (omega arith) (omega arith) k refl))
     (log_added (at + length (a ++ b)) r.service r.method r.log_id l)
 
 abbrev outcome_state : ℕ → List ℕ → Outcome
@@ -153,13 +154,13 @@ asked o = where_some (λ (r : RequestMeta). bytes_field 1 (request_bytes r)) o
 abbrev answered : Option ResponseMeta → List ℕ
 answered o = where_some (λ (r : ResponseMeta). bytes_field 2 (response_bytes r)) o
 
--- a request's numbers fit
-abbrev pub RequestFits : Option RequestMeta → Type 0
-RequestFits o = IfSome o (λ r. IfSome r.log_id (λ n. n < 2 ^ 64))
-
--- a response's numbers fit
-abbrev pub ResponseFits : Option ResponseMeta → Type 0
-ResponseFits o = IfSome o (λ r. IsInt r.code)
+request_made : (at : ℕ) (r : RequestMeta) → Step kept name_added (inner_place at 1 (request_bytes r)) (request_bytes r) no_names (named r) → length (request_bytes r) < 2 ^ 64 →
+    MetaStep at (bytes_field 1 (request_bytes r)) nothing (state (Some (named r)) None 0 0 0)
+request_made at r step short =
+    step_field part part_added at (bytes_field 1 (request_bytes r)) (spanned at 1 (request_bytes r)) (Request step.values) nothing (state (Some (named r)) None 0 0 0)
+    (bytes_is at 1 (request_bytes r) (omega arith) (omega arith) short)
+    (ap (λ w. w >>= (λ inside. Ok (Request inside))) (says_all kept (inner_place at 1 (request_bytes r)) (request_bytes r) step.values step.says))
+    (ap (λ (n : Names). state (Some n) None 0 0 0) step.adds)
 
 request_step : (at : ℕ) (o : Option RequestMeta) → RequestFits o → length (asked o) < 2 ^ 64 → MetaStep at (asked o) nothing (state (option_map named o) None 0 0 0)
 request_step at None h k = step_none part part_added at nothing
@@ -169,40 +170,33 @@ request_step at (Some r) h k =
     let both = length-append (bytes_field 1 r.service) (bytes_field 2 r.method) in
     let service = inner_short 1 r.service in
     let method = inner_short 2 r.method in
-    let step = request_added (inner_place at 1 (request_bytes r)) r (omega (arith, k, whole, all, both, service)) (omega (arith, k, whole, all, both, method)) h in
-    let inside : fields (inner_place at 1 (request_bytes r)) (request_bytes r) ≡ Ok step.values = says_all kept (inner_place at 1 (request_bytes r)) (request_bytes r) step.values step.says in
-    step_field part part_added at (bytes_field 1 (request_bytes r)) (spanned at 1 (request_bytes r)) (Request step.values) nothing (state (Some (named r)) None 0 0 0)
-    (bytes_is at 1 (request_bytes r) (omega arith) (omega arith) (omega (arith, k, whole)))
-    (ap (λ w. w >>= (λ inside. Ok (Request inside))) inside)
-    (ap (λ (n : Names). state (Some n) None 0 0 0) step.adds)
+    request_made at r
+    (request_added (inner_place at 1 (request_bytes r)) r (omega (arith, k, whole, all, both, service)) (omega (arith, k, whole, all, both, method)) h)
+    (omega (arith, k, whole))
+
+response_made : (at : ℕ) (q : Option Names) (r : ResponseMeta) → Step kept outcome_added (inner_place at 2 (response_bytes r)) (response_bytes r) no_outcome (ended r) → length (response_bytes r) < 2 ^ 64 →
+    MetaStep at (bytes_field 2 (response_bytes r)) (state q None 0 0 0) (state q (Some (ended r)) 0 0 0)
+response_made at q r step short =
+    step_field part part_added at (bytes_field 2 (response_bytes r)) (spanned at 2 (response_bytes r)) (Response step.values) (state q None 0 0 0) (state q (Some (ended r)) 0 0 0)
+    (bytes_is at 2 (response_bytes r) (omega arith) (omega arith) short)
+    (ap (λ w. w >>= (λ inside. Ok (Response inside))) (says_all kept (inner_place at 2 (response_bytes r)) (response_bytes r) step.values step.says))
+    (ap (λ (n : Outcome). state q (Some n) 0 0 0) step.adds)
 
 response_step : (at : ℕ) (q : Option Names) (o : Option ResponseMeta) → ResponseFits o → length (answered o) < 2 ^ 64 → MetaStep at (answered o) (state q None 0 0 0) (state q (option_map ended o) 0 0 0)
 response_step at q None h k = step_none part part_added at (state q None 0 0 0)
 response_step at q (Some r) h k =
     let whole = inner_short 2 (response_bytes r) in
     let all = length-append (number_field 1 (spelled_int r.code)) (where_not_empty 2 r.text) in
-    let step = response_added (inner_place at 2 (response_bytes r)) r h (omega (arith, k, whole, all, text_short r.text)) in
-    let inside : fields (inner_place at 2 (response_bytes r)) (response_bytes r) ≡ Ok step.values = says_all kept (inner_place at 2 (response_bytes r)) (response_bytes r) step.values step.says in
-    step_field part part_added at (bytes_field 2 (response_bytes r)) (spanned at 2 (response_bytes r)) (Response step.values) (state q None 0 0 0) (state q (Some (ended r)) 0 0 0)
-    (bytes_is at 2 (response_bytes r) (omega arith) (omega arith) (omega (arith, k, whole)))
-    (ap (λ w. w >>= (λ inside. Ok (Response inside))) inside)
-    (ap (λ (n : Outcome). state q (Some n) 0 0 0) step.adds)
+    response_made at q r
+    (response_added (inner_place at 2 (response_bytes r)) r h.sfits (omega (arith, k, whole, all, text_short r.text)))
+    (omega (arith, k, whole))
   where
     text_short : (text : List ℕ) → length text ≤ length (where_not_empty 2 text)
     text_short [] = omega arith
     text_short (b ∷ text) = inner_short 2 (b ∷ text)
 
--- the numbers of a meta fit their types, and its spelling has a length of 64 bits
-pub record Fitting (m : Meta) : Type 0 where
-  pub request : RequestFits m.request
-  pub response : ResponseFits m.response
-  pub compress_type : IsInt m.compress_type
-  pub correlation_id : m.correlation_id < 2 ^ 64
-  pub attachment_size : IsInt m.attachment_size
-  pub short : length (meta_bytes m) < 2 ^ 64
-
-meta_step : (m : Meta) → Fitting m → MetaStep 0 (meta_bytes m) nothing (state (option_map named m.request) (option_map ended m.response) (spelled_int m.compress_type) m.correlation_id (spelled_int m.attachment_size))
-meta_step m fit =
+meta_step : (m : Meta) → MetaFits m → length (meta_bytes m) < 2 ^ 64 → MetaStep 0 (meta_bytes m) nothing (state (option_map named m.request) (option_map ended m.response) (spelled_int m.compress_type) m.correlation_id (spelled_int m.attachment_size))
+meta_step m fit short =
     let q = option_map named m.request in
     let p = option_map ended m.response in
     let a = asked m.request in
@@ -216,13 +210,13 @@ meta_step m fit =
     let l4 = length-append a b in
     step_both part part_added 0 (a ++ b ++ c ++ d) e nothing (state q p (spelled_int m.compress_type) m.correlation_id 0) (state q p (spelled_int m.compress_type) m.correlation_id (spelled_int m.attachment_size))
     (step_both part part_added 0 (a ++ b ++ c) d nothing (state q p (spelled_int m.compress_type) 0 0) (state q p (spelled_int m.compress_type) m.correlation_id 0)
-      (step_both part part_added 0 (a ++ b) c nothing (state q p 0 0 0) (state q p (spelled_int m.compress_type) 0 0)
-        (step_both part part_added 0 a b nothing (state q None 0 0 0) (state q p 0 0 0)
-          (request_step 0 m.request fit.request (omega (arith, fit.short, l1, l2, l3, l4)))
-          (response_step (0 + length a) q m.response fit.response (omega (arith, fit.short, l1, l2, l3, l4))))
-        (compress_step (0 + length (a ++ b)) m.compress_type q p fit.compress_type))
-      (id_step (0 + length (a ++ b ++ c)) m.correlation_id q p (spelled_int m.compress_type) fit.correlation_id))
-    (size_step (0 + length (a ++ b ++ c ++ d)) m.attachment_size q p (spelled_int m.compress_type) m.correlation_id fit.attachment_size)
+    (step_both part part_added 0 (a ++ b) c nothing (state q p 0 0 0) (state q p (spelled_int m.compress_type) 0 0)
+    (step_both part part_added 0 a b nothing (state q None 0 0 0) (state q p 0 0 0)
+    (request_step 0 m.request fit.request (omega (arith, short, l1, l2, l3, l4)))
+    (response_step (0 + length a) q m.response fit.response (omega (arith, short, l1, l2, l3, l4))))
+    (compress_step (0 + length (a ++ b)) m.compress_type q p fit.compress_type.sfits))
+    (id_step (0 + length (a ++ b ++ c)) m.correlation_id q p (spelled_int m.compress_type) fit.correlation_id))
+    (size_step (0 + length (a ++ b ++ c ++ d)) m.attachment_size q p (spelled_int m.compress_type) m.correlation_id fit.attachment_size.sfits)
 
 request_back : (o : Option RequestMeta) → Ok o ≡ request_from (option_map named o)
 request_back None = refl
@@ -230,7 +224,7 @@ request_back (Some r) = refl
 
 response_back : (o : Option ResponseMeta) → ResponseFits o → o ≡ option_map response_from (option_map ended o)
 response_back None h = refl
-response_back (Some r) h = ap (λ (z : ℤ). Some (record { code = z; text = r.text })) (sym (int32_spelled r.code h))
+response_back (Some r) h = ap (λ (z : ℤ). Some (record { code = z; text = r.text })) (sym (int32_spelled r.code h.sfits))
 
 -- what a meta has of its parts, its gathered fields have
 there : {A B : Type 0} (f : A → B) (o : Option A) → is_some o ≡ true → is_some (option_map f o) ≡ true
@@ -238,15 +232,15 @@ there f None e = e
 there f (Some a) e = refl
 
 -- a meta that has a request or a response is read as itself
-pub round_trip : (m : Meta) → Fitting m → (is_some m.request ≡ true) ⊎ (is_some m.response ≡ true) → read_meta (meta_bytes m) ≡ Ok m
-round_trip m fit present =
-    let step = meta_step m fit in
+pub round_trip : (m : Meta) → MetaFits m → length (meta_bytes m) < 2 ^ 64 → HasPart m → read_meta (meta_bytes m) ≡ Ok m
+round_trip m fit short present =
+    let step = meta_step m fit short in
     let g = state (option_map named m.request) (option_map ended m.response) (spelled_int m.compress_type) m.correlation_id (spelled_int m.attachment_size) in
     let read = says_all part 0 (meta_bytes m) step.values step.says in
     let gathered : Ok g ≡ gathered_after nothing (meta_bytes m) = sym (ap (λ r. r >>= (λ ps. Ok (fold part_added nothing ps))) read ∙ ap (λ g. Ok g) step.adds) in
     sym (built g m.request m.response m.compress_type m.attachment_size (read_meta (meta_bytes m)) (moved present) (request_back m.request) (response_back m.response fit.response)
-    (sym (int32_spelled m.compress_type fit.compress_type)) (sym (int32_spelled m.attachment_size fit.attachment_size)) (meta_is_read (meta_bytes m) g gathered))
+    (sym (int32_spelled m.compress_type fit.compress_type.sfits)) (sym (int32_spelled m.attachment_size fit.attachment_size.sfits)) (meta_is_read (meta_bytes m) g gathered))
   where
-    moved : (is_some m.request ≡ true) ⊎ (is_some m.response ≡ true) → (is_some (option_map named m.request) ≡ true) ⊎ (is_some (option_map ended m.response) ≡ true)
+    moved : HasPart m → (is_some (option_map named m.request) ≡ true) ⊎ (is_some (option_map ended m.response) ≡ true)
     moved (inl h) = inl (there named m.request h)
     moved (inr h) = inr (there ended m.response h)

@@ -1,5 +1,5 @@
 -- What a meta says, as the definition of a meta has it.
-use Rattle.std.specs.Prelude.{Option, option_map}
+use Rattle.std.specs.Prelude.{option_map}
 use Rattle.brpc_model.specs.Meta as meta
 use Rattle.rpc_meta.specs.declared.meta.RpcMeta.{RpcMeta}
 use Rattle.rpc_meta.specs.declared.meta.RequestMeta.{RequestMeta}

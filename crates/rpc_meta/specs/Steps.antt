@@ -7,7 +7,7 @@ use Rattle.pb_wire.specs.Told.{fault_of}
 use Rattle.rpc_meta.specs.declared.parts.RequestParts.{RequestParts}
 use Rattle.rpc_meta.specs.declared.parts.ResponseParts.{ResponseParts}
 use Rattle.rpc_meta.specs.declared.parts.MetaParts.{MetaParts}
-use Rattle.rpc_meta.specs.Gathered.{Names, Outcome, Gathered, no_names, no_outcome, nothing, name_added, outcome_added, part_added}
+use Rattle.rpc_meta.specs.Gathered.{Names, Outcome, Gathered, no_names, no_outcome, name_added, outcome_added, part_added}
 use Rattle.rpc_meta.specs.Parts.{names_of, outcome_of, gathered_of}
 
 -- the fields of a request, or the fault

@@ -83,10 +83,7 @@ fn read_response<'a>(
     requires to_in { to ≤ length bytes.now }
     ensures { response_read result ≡ outcome_after (option_map outcome_of before.entry) from (slice_range bytes.now from to) }
 {
-    let mut response = before.unwrap_or(ResponseParts {
-        code: 0,
-        text: &[],
-    });
+    let mut response = before.unwrap_or(ResponseParts { code: 0, text: &[] });
     let mut fields = Fields::within(bytes, from, to);
     while let Some(field) = fields.next()? {
         response = add_to_response(response, bytes, field);

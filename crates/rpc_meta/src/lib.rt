@@ -9,6 +9,8 @@ mod gather;
 mod meta;
 mod parts;
 mod read;
+#[cfg(test)]
+mod tests;
 mod write;
 
 pub use fault::MetaFault;

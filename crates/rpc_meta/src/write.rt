@@ -1,7 +1,8 @@
-ghost use Rattle.std.specs.Prelude.{◌≡◌, ◌++◌, option_map, if◌then◌else◌, is_ok};
+ghost use Rattle.std.specs.Prelude.{◌≡◌, ◌++◌, option_map, Ok, OnOk, if◌then◌else◌, is_ok};
+ghost use Rattle.brpc_model.specs.Meta.{read_meta};
 ghost use Rattle.brpc_model.specs.Spelling.{spelled_int, number_field, bytes_field, where_not_0, where_not_empty, where_some, request_bytes, response_bytes, meta_bytes};
 ghost use Rattle.rpc_meta.specs.Meaning.{request_of, response_of, meaning};
-ghost use Rattle.rpc_meta.specs.Writing.{Appends};
+ghost use Rattle.rpc_meta.specs.Writing.{Appends, HasPart, RequestFits, ResponseFits, MetaFits};
 
 use crate::meta::{RequestMeta, ResponseMeta, RpcMeta};
 use pb_wire::{NoMemory, write_varint};
@@ -12,7 +13,8 @@ impl RpcMeta {
     /// compress_type and attachment_size are written where they aren't 0, correlation_id always; log_id where it
     /// is there, and error_text where it isn't empty. After a refusal `out` is unchanged.
     pub fn write_to(&self, out: &mut Vec<u8>) -> Result<(), NoMemory>
-        ensures { out.new.items ≡ (if is_ok result then out.old.items ++ meta_bytes (meaning self.now) else out.old.items) }
+        ensures exact { out.new.items ≡ (if is_ok result then out.old.items ++ meta_bytes (meaning self.now) else out.old.items) }
+        ensures reads_back { OnOk result (HasPart (meaning self.now) → read_meta (meta_bytes (meaning self.now)) ≡ Ok (meaning self.now)) }
     {
         let before = out.len();
         let written = append_meta(self, out);
@@ -25,7 +27,8 @@ impl RpcMeta {
 
 /// Appends the meta, or a part of it before a refusal.
 fn append_meta(meta: &RpcMeta, out: &mut Vec<u8>) -> Result<(), NoMemory>
-    ensures { Appends out.old.items (meta_bytes (meaning meta.now)) result out.new.items }
+    ensures written { Appends out.old.items (meta_bytes (meaning meta.now)) result out.new.items }
+    ensures fits { OnOk result (MetaFits (meaning meta.now)) }
 {
     append_request(&meta.request, out)?;
     append_response(&meta.response, out)?;
@@ -36,7 +39,8 @@ fn append_meta(meta: &RpcMeta, out: &mut Vec<u8>) -> Result<(), NoMemory>
 
 /// Appends the request where there is one; its fields are spelled aside first, since their length stands before them.
 fn append_request(request: &Option<RequestMeta>, out: &mut Vec<u8>) -> Result<(), NoMemory>
-    ensures { Appends out.old.items (where_some (λ r. bytes_field 1 (request_bytes r)) (option_map request_of request.now)) result out.new.items }
+    ensures written { Appends out.old.items (where_some (λ r. bytes_field 1 (request_bytes r)) (option_map request_of request.now)) result out.new.items }
+    ensures fits { OnOk result (RequestFits (option_map request_of request.now)) }
 {
     let Some(request) = request else {
         return Ok(());
@@ -51,11 +55,9 @@ fn append_request(request: &Option<RequestMeta>, out: &mut Vec<u8>) -> Result<()
 }
 
 /// Appends the response where there is one, in the same way.
-fn append_response(
-    response: &Option<ResponseMeta>,
-    out: &mut Vec<u8>,
-) -> Result<(), NoMemory>
-    ensures { Appends out.old.items (where_some (λ r. bytes_field 2 (response_bytes r)) (option_map response_of response.now)) result out.new.items }
+fn append_response(response: &Option<ResponseMeta>, out: &mut Vec<u8>) -> Result<(), NoMemory>
+    ensures written { Appends out.old.items (where_some (λ r. bytes_field 2 (response_bytes r)) (option_map response_of response.now)) result out.new.items }
+    ensures fits { OnOk result (ResponseFits (option_map response_of response.now)) }
 {
     let Some(response) = response else {
         return Ok(());

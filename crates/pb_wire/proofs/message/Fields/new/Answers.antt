@@ -1,4 +1,4 @@
-use Rattle.std.proofs.Common.{◌≡◌, ◌↔◌, ◌-◌, ℕ, List, Ok, length, slice_range, take, subst, refl, arith}
+use Rattle.std.proofs.Common.{◌≡◌, ◌↔◌, ◌-◌, ℕ, List, Ok, length, slice_range, subst, arith}
 use Rattle.std.proofs.lemmas.List.{take_all}
 use Rattle.brpc_model.specs.Wire.{Wire, Field, fields}
 use Rattle.pb_wire.specs.Form.{IsMessage}

@@ -1,4 +1,4 @@
-use Rattle.std.proofs.Common.{◌≡◌, ◌⊎◌, Bool, true, false, not, Option, option_map, refl, ap, sym, ◌∙◌, inl, inr, arith, rules, w32}
+use Rattle.std.proofs.Common.{◌≡◌, Bool, true, false, not, Option, option_map, ap, ◌∙◌, inl, inr, rules, w32}
 use Rattle.std.specs.Option.{is_some}
 use Rattle.std.proofs.lemmas.Result.{err_from_is_err_and}
 use Rattle.std.proofs.lemmas.Int.{to_z-of_z}
@@ -30,8 +30,9 @@ returns c =
     let p = c.in_ok-parts.parts in
     built (gathered_of p) (option_map request_of c.in_ok-request.request) (option_map response_of c.in_ok-response.response) _ _ _
     (elim c.else-is_none.branch [
-      else-is_none-via-then-is_none+else-is_none-2 w ↦ inr (some_from outcome_of p.response w.is_none-then-is_none.result w.is_none-then-is_none.ensures w.if-is_none-2.false)
-    | else-is_none-via-else-is_none w ↦ inl (some_from names_of p.request c.is_none.result c.is_none.ensures w.if-is_none.false) ])
+      | else-is_none-via-then-is_none+else-is_none-2 w ↦ inr (some_from outcome_of p.response w.is_none-then-is_none.result w.is_none-then-is_none.ensures w.if-is_none-2.false)
+      | else-is_none-via-else-is_none w ↦ inl (some_from names_of p.request c.is_none.result c.is_none.ensures w.if-is_none.false)
+    ])
     c.in_ok-request.ensures c.in_ok-response.ensures
     (to_z-of_z w32 c.low_signed.result (record { sfits = c.low_signed.type_inv }) ∙ c.low_signed.ensures)
     (to_z-of_z w32 c.low_signed-2.result (record { sfits = c.low_signed-2.type_inv }) ∙ c.low_signed-2.ensures)
