@@ -10,3 +10,4 @@ pub mod ScriptLemmas
 pub mod Reports
 pub mod NumberLemmas
 pub mod Replays
+pub mod Exactly

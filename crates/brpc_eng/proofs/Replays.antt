@@ -1,5 +1,5 @@
 -- How `replay` ends, by what its calls say.
-use Rattle.std.proofs.Common.{◌≡◌, ◌≢◌, ℕ, ◌≤◌, ◌<◌, ◌+◌, ◌⊎◌, inl, inr, Bool, true, false, List, [], length, Option, Some, None, Vec, Result, Ok, Err, refl, ap, sym, ◌∙◌, subst, arith, option_map}
+use Rattle.std.proofs.Common.{◌≡◌, ◌≢◌, ℕ, ◌≤◌, inl, Bool, true, false, List, [], length, Some, Vec, Ok, Err, refl, ap, sym, ◌∙◌, subst, arith, option_map}
 use Rattle.std.specs.declared.alloc.Global.{Global}
 use Rattle.brpc_model.specs.Items.{Item}
 use Rattle.brpc_model.specs.Script.{script_of}
@@ -8,7 +8,7 @@ use Rattle.brpc_eng.specs.declared.commands.Command.{Command}
 use Rattle.brpc_eng.specs.declared.commands.Command.TheVariants.{Replay, Sim, Run, Gen, Load, Frames, Serve}
 use Rattle.brpc_eng.specs.Built.{is_built, IsWithinLimits}
 use Rattle.brpc_eng.specs.Command.{meaning}
-use Rattle.brpc_eng.specs.Streams.{script_limit, IsAtEnd, ReadWhole}
+use Rattle.brpc_eng.specs.Streams.{script_limit, ReadWhole}
 use Rattle.brpc_eng.specs.Answers as answer
 use Rattle.brpc_eng.proofs.ScriptLemmas.{within_limits}
 

@@ -1,5 +1,5 @@
 -- What was written is a report that fits.
-use Rattle.std.proofs.Common.{◌≡◌, ◌≢◌, ℕ, ◌≤◌, ◌<◌, ◌+◌, Bool, true, false, List, [], ◌∷◌, ◌++◌, length, take, drop, map, flat_map, replicate, Option, Some, None, IfSome, refl, ap, sym, ◌∙◌, subst, arith}
+use Rattle.std.proofs.Common.{◌≡◌, ℕ, Bool, true, false, List, [], ◌∷◌, ◌++◌, length, take, flat_map, replicate, Option, Some, None, IfSome, ap, sym, ◌∙◌, subst, arith}
 use Rattle.std.specs.Io.KnownBytes.{append_known}
 use Rattle.std.proofs.lemmas.List.{length-replicate}
 use Rattle.sock_words.specs.declared.outcome.Outcome.{Outcome}
@@ -10,14 +10,14 @@ use Rattle.brpc_model.specs.Report.{report_text}
 use Rattle.brpc_model.specs.Run.{nothing_late}
 use Rattle.brpc_model.specs.Complete.{FitsWhole}
 use Rattle.sock_io.specs.Link.{OutState, InState, FinishStep, IsFresh, end_of}
-use Rattle.brpc_eng.specs.Built.{is_built, is_one_client, begins_with_open}
+use Rattle.brpc_eng.specs.Built.{is_built, begins_with_open}
 use Rattle.brpc_eng.specs.Sending.{Sending, sendings, sends_to, bytes_of}
-use Rattle.brpc_eng.specs.Run.{outcomes_from, Ran, RanAndReported}
+use Rattle.brpc_eng.specs.Run.{outcomes_from, RanAndReported}
 use Rattle.brpc_eng.specs.ReportText.{linked_text, unlinked_text}
 use Rattle.brpc_eng.specs.Answers as answer
 use Rattle.brpc_eng.proofs.Labels.{linked, unlinked, length-outcomes_from}
 use Rattle.brpc_eng.proofs.Fitting.{OneLink, OneEnd, no_story, fits_linked, complete_linked}
-use Rattle.brpc_eng.proofs.BuiltLemmas.{one_link, NoLink, no_link, not_open}
+use Rattle.brpc_eng.proofs.BuiltLemmas.{one_link, no_link, not_open}
 use Rattle.brpc_eng.proofs.Texts.{linked_text_is, unlinked_text_is}
 use Rattle.brpc_eng.proofs.Unlinked.{all_unopened, fits_unlinked, complete_unlinked}
 

@@ -1,4 +1,4 @@
-use Rattle.std.proofs.Common.{◌≡◌, refl, sym}
+use Rattle.std.proofs.Common.{refl, sym}
 use Rattle.brpc_eng.specs.Answers as answer
 use Rattle.brpc_eng.proofs.Replays.{other_command}
 use Rattle.brpc_eng.proofs.engine.answer.Goals as goal
