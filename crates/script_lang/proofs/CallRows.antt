@@ -1,14 +1,14 @@
 -- The rows of calls tell which operations are calls.
-use Rattle.std.proofs.Common.{◌≡◌, ℕ, zero, suc, ◌+◌, ◌-◌, ◌<◌, ◌≤◌, ◌==◌, Bool, true, false, not, ◌||◌, ◌&&◌, cond, List, [], ◌∷◌, ◌++◌, length, get_or, fold, refl, ap, sym, ◌∙◌, subst, if◌then◌else◌, arith}
+use Rattle.std.proofs.Common.{◌≡◌, ℕ, zero, suc, ◌+◌, ◌==◌, Bool, true, false, ◌||◌, ◌&&◌, List, [], ◌∷◌, ◌++◌, length, get_or, fold, refl, ap, sym, ◌∙◌, if◌then◌else◌, arith}
 use Rattle.std.proofs.lemmas.Grind.{common_steps}
 use Rattle.std.proofs.lemmas.List.{length-append}
 use Rattle.std.proofs.lemmas.Bool.Decides.{same_from_decides, Decides-like, Decides-eqb}
 use Rattle.std.specs.List.{list_any}
 use Rattle.brpc_model.specs.Items.{Item, is_client, is_operation, is_call}
-use Rattle.brpc_model.specs.Operations.{Operation, operations_from, operations}
+use Rattle.brpc_model.specs.Operations.{operations_from, operations}
 use Rattle.brpc_model.specs.Script.{is_the_call}
 use Rattle.brpc_model.proofs.Growing.{fold_more}
-use Rattle.script_lang.specs.Called.{Rows, no_rows, rows_behind, rows_of, row_of, is_call_at, has_call}
+use Rattle.script_lang.specs.Called.{Rows, no_rows, rows_behind, rows_of, is_call_at, has_call}
 
 -- ## One row more, and one operation more
 
@@ -62,8 +62,8 @@ step : (client operation : Bool) (rows : Rows) (item : Item) (items : List Item)
     ((rows : Rows) → has_call (fold rows_behind rows items) c n ≡ (has_call rows c n || list_any (is_the_call c n) (operations_from (length rows.done) (length rows.current + 1) items))) →
     has_call (fold rows_behind (if client then record { done = rows.done ++ rows.current ∷ []; current = [] } else if operation then record { done = rows.done; current = rows.current ++ is_call item ∷ [] } else rows) items) c n
     ≡ (has_call rows c n || list_any (is_the_call c n) (if client then operations_from (length rows.done + 1) 1 items
-        else if operation then record { client = length rows.done; number = length rows.current + 1; item = item } ∷ operations_from (length rows.done) (length rows.current + 1 + 1) items
-        else operations_from (length rows.done) (length rows.current + 1) items))
+    else if operation then record { client = length rows.done; number = length rows.current + 1; item = item } ∷ operations_from (length rows.done) (length rows.current + 1 + 1) items
+    else operations_from (length rows.done) (length rows.current + 1) items))
 step true operation rows item items c n again =
     again (record { done = rows.done ++ rows.current ∷ []; current = [] })
     ∙ ap (λ row. is_call_at row n || list_any (is_the_call c n) (operations_from (length (rows.done ++ rows.current ∷ [])) 1 items)) (empty_row (rows.done ++ rows.current ∷ []) c)

@@ -1,6 +1,5 @@
 -- The names that the client in hand holds, behind one more line.
-use Rattle.std.proofs.Common.{◌≡◌, ℕ, Bool, true, false, not, ◌||◌, ◌&&◌, cond, List, [], ◌∷◌, ◌++◌, filter, bytes_eq, refl, ap, sym, ◌∙◌, subst, if◌then◌else◌, arith}
-use Rattle.std.proofs.lemmas.Grind.{common_steps}
+use Rattle.std.proofs.Common.{◌≡◌, ℕ, Bool, true, false, not, ◌||◌, ◌&&◌, List, [], ◌∷◌, ◌++◌, filter, bytes_eq, refl, ap, sym, ◌∙◌, subst, if◌then◌else◌}
 use Rattle.std.proofs.lemmas.Slice.Eq.{bytes_eq-Decides}
 use Rattle.std.proofs.lemmas.Bool.Decides.{same_from_decides, Decides-like}
 use Rattle.std.proofs.lemmas.List.Folds.{list_any-append}
@@ -26,8 +25,8 @@ or_idle false b h = refl
 pub holds : (name held : List ℕ) (names : List (List ℕ)) → list_any (bytes_eq held) (with_names names (name ∷ [])) ≡ (bytes_eq name held || list_any (bytes_eq held) names)
 holds name held names =
     elim (list_any (bytes_eq name) names) as (λ b. list_any (bytes_eq name) names ≡ b → list_any (bytes_eq held) (if b then names else names ++ name ∷ []) ≡ (bytes_eq name held || list_any (bytes_eq held) names)) [
-    | true ↦ λ e. or_idle (bytes_eq name held) _ (λ same. let P : List ℕ → Type 0 = λ n. list_any (bytes_eq n) names ≡ true in subst P ((bytes_eq-Decides name held).0 same) e)
-    | false ↦ λ e. list_any-append (bytes_eq held) names (name ∷ []) ∙ ap (λ b. list_any (bytes_eq held) names || (b || false)) (bytes_eq-sym held name) ∙ or_comm _ _
+      | true ↦ λ e. or_idle (bytes_eq name held) _ (λ same. let P : List ℕ → Type 0 = λ n. list_any (bytes_eq n) names ≡ true in subst P ((bytes_eq-Decides name held).0 same) e)
+      | false ↦ λ e. list_any-append (bytes_eq held) names (name ∷ []) ∙ ap (λ b. list_any (bytes_eq held) names || (b || false)) (bytes_eq-sym held name) ∙ or_comm _ _
     ] refl
 
 -- behind a `drop`

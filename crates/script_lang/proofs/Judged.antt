@@ -1,9 +1,9 @@
 -- What the counts say of the next line, and how they grow by it.
-use Rattle.std.proofs.Common.{◌≡◌, ℕ, ◌+◌, ◌≤◌, Bool, true, false, not, ◌||◌, ◌&&◌, nat_lt, nat_le, cond, List, [], ◌∷◌, ◌++◌, length, count_by, fold, refl, ap, sym, ◌∙◌, subst, if◌then◌else◌, arith}
+use Rattle.std.proofs.Common.{◌≡◌, ℕ, ◌+◌, ◌≤◌, Bool, true, false, not, ◌||◌, ◌&&◌, nat_lt, nat_le, cond, List, [], ◌∷◌, ◌++◌, length, count_by, fold, refl, ap, sym, ◌∙◌, arith}
 use Rattle.std.proofs.lemmas.Grind.{common_steps}
 use Rattle.std.proofs.lemmas.List.Folds.{list_any-append}
 use Rattle.std.specs.List.{list_any}
-use Rattle.brpc_model.specs.Items.{Item, Slots, Requests, First, Open, Client, Send, Call, Expire, Join, Fail, Hold, Drop, Sched, Tick, To, is_client, is_open, is_size, is_sched, is_turn, is_operation, mentioned}
+use Rattle.brpc_model.specs.Items.{Item, Slots, Requests, First, is_client, is_open, is_size, is_sched, is_turn, is_operation, mentioned}
 use Rattle.brpc_model.specs.Places.{is_misplaced, is_too_many, is_same_size, with_names, names}
 use Rattle.brpc_model.specs.Script.{is_unserved}
 use Rattle.brpc_model.proofs.Growing.{fold_more, names_more}
@@ -124,8 +124,8 @@ pub still_within : (c : Counts) (item : Item) → IsWithinLimits c → is_one_to
 still_within c item h room =
     let each = none (is_client item && nat_le 31 c.clients) (is_open item && nat_le 31 c.links) (is_operation item && nat_le 4096 c.operations) (is_turn item && nat_le 4096 c.turns) room in
     record {
-        clients = capped (is_client item) c.clients 31 h.clients each.0;
-        links = capped (is_open item) c.links 31 h.links each.1;
-        operations = capped (is_operation item) c.operations 4096 h.operations each.2;
-        turns = capped (is_turn item) c.turns 4096 h.turns each.3;
+      clients = capped (is_client item) c.clients 31 h.clients each.0;
+      links = capped (is_open item) c.links 31 h.links each.1;
+      operations = capped (is_operation item) c.operations 4096 h.operations each.2;
+      turns = capped (is_turn item) c.turns 4096 h.turns each.3;
     }

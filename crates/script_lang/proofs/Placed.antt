@@ -1,13 +1,11 @@
 -- How a line at its place is judged, and what is known behind it.
-use Rattle.std.proofs.Common.{◌≡◌, ℕ, ◌+◌, Bool, true, false, ◌||◌, nat_lt, List, [], ◌∷◌, ◌++◌, length, map, bytes_eq, Option, Some, None, Result, Ok, Err, option_map, option_to_list, refl, ap, sym, ◌∙◌, subst, if◌then◌else◌, arith, append-nil}
-use Rattle.std.proofs.lemmas.Grind.{common_steps}
+use Rattle.std.proofs.Common.{◌≡◌, ℕ, ◌+◌, Bool, false, ◌||◌, nat_lt, List, [], ◌∷◌, ◌++◌, length, map, Option, Some, None, Ok, Err, option_to_list, ap, sym, ◌∙◌, subst, if◌then◌else◌, arith, append-nil}
 use Rattle.std.proofs.lemmas.List.{length-append, map-append}
-use Rattle.std.specs.List.{list_any}
 use Rattle.brpc_model.specs.Reads.{Reads, ◌>>=◌}
 use Rattle.brpc_model.specs.Lines.{line_item}
 use Rattle.brpc_model.specs.Items.{Item, mentioned}
 use Rattle.brpc_model.specs.Places.{names, with_names, is_held, held_behind, is_misplaced, is_too_many, is_unpaired, at_its_place}
-use Rattle.brpc_model.specs.Script.{Faulty, items, one_more, with_line}
+use Rattle.brpc_model.specs.Script.{items, one_more, with_line}
 use Rattle.brpc_model.proofs.Growing.{names_more, is_held_more, items_some, items_none}
 use Rattle.script_items.specs.declared.line.Line.{Line}
 use Rattle.script_items.specs.Meaning.{item}
@@ -16,9 +14,7 @@ use Rattle.script_lang.specs.declared.reader.Reader.{Reader}
 use Rattle.script_lang.specs.Counting.{counts_of, counted, is_one_too_many, stands_wrong, IsWithinLimits}
 use Rattle.script_lang.specs.Called.{rows_of, rows_behind}
 use Rattle.script_lang.specs.Used.{uses_from, use_of}
-use Rattle.script_lang.specs.Known.{Knows, Keeps, HasNames, PlaceIs, LineIs}
-use Rattle.script_lang.specs.declared.error.ScriptError.{ScriptError}
-use Rattle.script_lang.specs.declared.error.ScriptError.TheVariants.{Fault, NoMemory}
+use Rattle.script_lang.specs.Known.{Knows, Keeps, HasNames}
 use Rattle.script_lang.proofs.Judged.{counts_more, wrong_place, too_many, still_within}
 use Rattle.script_lang.proofs.CallRows.{rows_more}
 use Rattle.script_lang.proofs.LineOf.{uses_more}
@@ -35,8 +31,8 @@ pub judged : (reader : Reader) (before : List Item) (item : Item) → HasNames r
 judged reader before item has misplaced many unpaired is_misplaced_so is_many is_unpaired_so =
     let first : is_misplaced before item ≡ misplaced = wrong_place before item ∙ ap (λ c. stands_wrong c item) (sym has.counts) ∙ is_misplaced_so in
     let second : is_too_many before item ≡ many =
-        too_many before item ∙ ap (λ c. is_one_too_many c item || nat_lt 64 (length (with_names (names before) (mentioned item)))) (sym has.counts)
-        ∙ ap (λ ns. is_one_too_many reader.counts item || nat_lt 64 (length ns)) (sym has.names) ∙ is_many in
+    too_many before item ∙ ap (λ c. is_one_too_many c item || nat_lt 64 (length (with_names (names before) (mentioned item)))) (sym has.counts)
+    ∙ ap (λ ns. is_one_too_many reader.counts item || nat_lt 64 (length ns)) (sym has.names) ∙ is_many in
     ap (λ b. judgement item b (is_too_many before item) (is_unpaired before item)) first
     ∙ ap (λ b. judgement item misplaced b (is_unpaired before item)) second
     ∙ ap (λ b. judgement item misplaced many b) is_unpaired_so
@@ -48,14 +44,14 @@ pub skipped : (old : Reader) (said : List (Option Item)) → Knows old said → 
 skipped old said knows =
     let same = items_none said in
     record {
-        count = ap (λ n. n + 1) knows.count ∙ sym (length-append said (None ∷ []));
-        lines = knows.lines ∙ sym same;
-        counts = knows.counts ∙ ap counts_of (sym same);
-        limits = knows.limits;
-        names = knows.names ∙ ap names (sym same);
-        held = λ name. ap (λ is. is_held is name) same ∙ knows.held name;
-        calls = knows.calls ∙ ap rows_of (sym same);
-        uses = knows.uses ∙ sym (uses_more 1 said None ∙ append-nil (uses_from 1 said));
+      count = ap (λ n. n + 1) knows.count ∙ sym (length-append said (None ∷ []));
+      lines = knows.lines ∙ sym same;
+      counts = knows.counts ∙ ap counts_of (sym same);
+      limits = knows.limits;
+      names = knows.names ∙ ap names (sym same);
+      held = λ name. ap (λ is. is_held is name) same ∙ knows.held name;
+      calls = knows.calls ∙ ap rows_of (sym same);
+      uses = knows.uses ∙ sym (uses_more 1 said None ∙ append-nil (uses_from 1 said));
     }
 
 -- the line said something, and its names were added first
@@ -67,28 +63,17 @@ grown old new said line ns knows named room keeps =
     let P : Counts → Type 0 = IsWithinLimits in
     let number : old.count + 1 ≡ 1 + length said = omega (arith, knows.count) in
     record {
-        count = keeps.count ∙ ap (λ n. n + 1) knows.count ∙ sym (length-append said (Some i ∷ []));
-        lines = ap (map item) keeps.lines ∙ map-append item old.lines.items (line ∷ []) ∙ ap (λ is. is ++ i ∷ []) knows.lines ∙ sym same;
-        counts = keeps.counts ∙ ap (λ c. counted c i) knows.counts ∙ sym (counts_more (items said) i) ∙ ap counts_of (sym same);
-        limits = subst P (sym keeps.counts) (still_within old.counts i knows.limits room);
-        names = keeps.names ∙ named ∙ ap (λ ms. with_names ms (mentioned i)) knows.names ∙ sym (names_more (items said) i) ∙ ap names (sym same);
-        held = λ name. ap (λ is. is_held is name) same ∙ is_held_more (items said) i name ∙ ap (λ b. held_behind name b i) (knows.held name) ∙ sym (keeps.held name);
-        calls = keeps.calls ∙ ap (λ rows. rows_behind rows i) knows.calls ∙ sym (rows_more (items said) i) ∙ ap rows_of (sym same);
-        uses = keeps.uses ∙ ap (λ us. us ++ option_to_list (use_of (old.count + 1) i)) knows.uses
-            ∙ ap (λ k. uses_from 1 said ++ option_to_list (use_of k i)) number ∙ sym (uses_more 1 said (Some i));
+      count = keeps.count ∙ ap (λ n. n + 1) knows.count ∙ sym (length-append said (Some i ∷ []));
+      lines = ap (map item) keeps.lines ∙ map-append item old.lines.items (line ∷ []) ∙ ap (λ is. is ++ i ∷ []) knows.lines ∙ sym same;
+      counts = keeps.counts ∙ ap (λ c. counted c i) knows.counts ∙ sym (counts_more (items said) i) ∙ ap counts_of (sym same);
+      limits = subst P (sym keeps.counts) (still_within old.counts i knows.limits room);
+      names = keeps.names ∙ named ∙ ap (λ ms. with_names ms (mentioned i)) knows.names ∙ sym (names_more (items said) i) ∙ ap names (sym same);
+      held = λ name. ap (λ is. is_held is name) same ∙ is_held_more (items said) i name ∙ ap (λ b. held_behind name b i) (knows.held name) ∙ sym (keeps.held name);
+      calls = keeps.calls ∙ ap (λ rows. rows_behind rows i) knows.calls ∙ sym (rows_more (items said) i) ∙ ap rows_of (sym same);
+      uses = keeps.uses ∙ ap (λ us. us ++ option_to_list (use_of (old.count + 1) i)) knows.uses
+          ∙ ap (λ k. uses_from 1 said ++ option_to_list (use_of k i)) number ∙ sym (uses_more 1 said (Some i));
     }
 
--- ## A line that was read by itself
-
+-- a line that says nothing
 pub line_none : (said : List (Option Item)) (line : List ℕ) → line_item (items said) line ≡ Ok None → with_line (Ok said) line ≡ Ok (said ++ None ∷ [])
 line_none said line e = ap (λ r. one_more said (r >>= at_its_place (items said))) e
-
-pub line_fault : (said : List (Option Item)) (line : List ℕ) (kind : ℕ) → line_item (items said) line ≡ Err kind → with_line (Ok said) line ≡ Err (length said + 1, kind)
-line_fault said line kind e = ap (λ r. one_more said (r >>= at_its_place (items said))) e
-
-pub line_placed : (said : List (Option Item)) (line : List ℕ) (item : Item) (result : Result (Unit {0}) ScriptError) (reader : Reader) → line_item (items said) line ≡ Ok (Some item) → PlaceIs said item result reader →
-    LineIs (with_line (Ok said) line) result reader
-line_placed said line item (Ok done) reader e placed = (said ++ Some item ∷ [], ap (λ r. one_more said (r >>= at_its_place (items said))) e ∙ ap (one_more said) placed.0, placed.1)
-line_placed said line item (Err (Fault number kind)) reader e placed =
-    ap (λ r. one_more said (r >>= at_its_place (items said))) e ∙ ap (one_more said) placed.0 ∙ ap (λ n. Err (n, kind)) (sym placed.1)
-line_placed said line item (Err NoMemory) reader e placed = tt

@@ -1,5 +1,5 @@
 -- A text that was read up to some place.
-use Rattle.std.proofs.Common.{◌≡◌, ◌+◌, ◌≤◌, ◌<◌, ℕ, List, Option, [], ◌∷◌, length, fold, Ok, Err, Result, refl, ap, sym, ◌∙◌, subst, arith}
+use Rattle.std.proofs.Common.{◌≡◌, ◌+◌, ◌≤◌, ◌<◌, ℕ, List, Option, [], ◌∷◌, length, fold, Ok, Err, Result, ap, sym, ◌∙◌, subst, arith}
 use Rattle.std.proofs.lemmas.List.{length-append}
 use Rattle.std.specs.Str.Lines.{lines}
 use Rattle.brpc_model.specs.Reads.{Reads}
@@ -7,9 +7,9 @@ use Rattle.brpc_model.specs.Items.{Item}
 use Rattle.brpc_model.specs.Script.{Faulty, items, one_more, said_behind, with_line, whole, script_of}
 use Rattle.brpc_model.proofs.Growing.{stays}
 use Rattle.script_lang.specs.declared.error.ScriptError.{ScriptError}
-use Rattle.script_lang.specs.declared.error.ScriptError.TheVariants.{Fault, NoMemory}
+use Rattle.script_lang.specs.declared.error.ScriptError.TheVariants.{Fault}
 use Rattle.script_lang.specs.declared.reader.Reader.{Reader}
-use Rattle.script_lang.specs.Known.{Knows, LineIs, WholeIs}
+use Rattle.script_lang.specs.Known.{Knows, LineIs}
 
 -- the reader read what is before the rest
 pub record Sofar (text rest : List ℕ) (reader : Reader) : Type 0 where
@@ -31,10 +31,10 @@ pub read_more : (text rest line behind : List ℕ) (old new : Reader) (sofar : S
 read_more text rest line behind old new sofar first shorter now =
     let long = longer sofar.said (said_behind (items sofar.said) line) now.0 now.1 in
     record {
-        said = now.0;
-        knows = now.2;
-        along = ap (λ a. fold with_line a (lines behind)) (sym now.1) ∙ ap (fold with_line (Ok sofar.said)) (sym first) ∙ sofar.along;
-        room = omega (arith, long, sofar.room, shorter);
+      said = now.0;
+      knows = now.2;
+      along = ap (λ a. fold with_line a (lines behind)) (sym now.1) ∙ ap (fold with_line (Ok sofar.said)) (sym first) ∙ sofar.along;
+      room = omega (arith, long, sofar.room, shorter);
     }
 
 -- the first fault is that of the text

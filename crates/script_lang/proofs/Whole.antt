@@ -1,5 +1,5 @@
 -- What the lines are together.
-use Rattle.std.proofs.Common.{◌≡◌, ℕ, ◌+◌, Bool, true, false, not, ◌&&◌, List, [], ◌∷◌, map, Option, Some, None, Ok, Err, option_map, refl, ap, sym, ◌∙◌}
+use Rattle.std.proofs.Common.{◌≡◌, ℕ, ◌+◌, Bool, not, ◌&&◌, List, map, Option, Some, None, Ok, Err, option_map, refl, ap, sym, ◌∙◌}
 use Rattle.std.specs.List.{find, list_any, position}
 use Rattle.brpc_model.specs.Items.{Item, Expire, Join}
 use Rattle.brpc_model.specs.Script.{Faulty, items, is_lost, is_unserved, may_hang, says, fault_at, whole}
@@ -46,14 +46,14 @@ pub whole_is : (reader : Reader) (said : List (Option Item)) → Knows reader sa
 whole_is reader said knows lost hanging lost_is hanging_is =
     let script = items said in
     let first : option_map (λ p. p + 1) (position (says (is_lost script)) said) ≡ lost =
-        position_is (is_lost script) (is_absent (rows_of script)) (lost_by_use script) said
-        ∙ ap (λ rows. option_map (λ u. u.line) (find (is_absent rows) (uses_from 1 said))) (sym knows.calls)
-        ∙ ap (λ us. option_map (λ u. u.line) (find (is_absent reader.calls) us)) (sym knows.uses) ∙ sym lost_is in
+    position_is (is_lost script) (is_absent (rows_of script)) (lost_by_use script) said
+    ∙ ap (λ rows. option_map (λ u. u.line) (find (is_absent rows) (uses_from 1 said))) (sym knows.calls)
+    ∙ ap (λ us. option_map (λ u. u.line) (find (is_absent reader.calls) us)) (sym knows.uses) ∙ sym lost_is in
     let second : option_map (λ p. p + 1) (position (says (may_hang script)) said) ≡ hanging =
-        position_is (may_hang script) (is_hanging (list_any is_unserved script)) (hanging_by_use script) said
-        ∙ ap (λ c. option_map (λ u. u.line) (find (is_hanging c.unserved) (uses_from 1 said))) (sym knows.counts)
-        ∙ ap (λ us. option_map (λ u. u.line) (find (is_hanging reader.counts.unserved) us)) (sym knows.uses) ∙ sym hanging_is in
+    position_is (may_hang script) (is_hanging (list_any is_unserved script)) (hanging_by_use script) said
+    ∙ ap (λ c. option_map (λ u. u.line) (find (is_hanging c.unserved) (uses_from 1 said))) (sym knows.counts)
+    ∙ ap (λ us. option_map (λ u. u.line) (find (is_hanging reader.counts.unserved) us)) (sym knows.uses) ∙ sym hanging_is in
     fault_at_place (position (says (is_lost script)) said) 10 (fault_at (position (says (may_hang script)) said) 11 (Ok script))
     ∙ ap (λ l. fault_in l 10 (fault_at (position (says (may_hang script)) said) 11 (Ok script))) first
     ∙ ap (fault_in lost 10) (fault_at_place (position (says (may_hang script)) said) 11 (Ok script) ∙ ap (λ h. fault_in h 11 (Ok script)) second
-        ∙ ap (λ is. fault_in hanging 11 (Ok is)) (sym knows.lines))
+    ∙ ap (λ is. fault_in hanging 11 (Ok is)) (sym knows.lines))

@@ -1,5 +1,5 @@
 -- What a reader knows of the lines so far, and what it answers to the next.
-use Rattle.std.specs.Prelude.{◌≡◌, ⊤, ℕ, ◌+◌, List, [], ◌∷◌, ◌++◌, length, map, bytes_eq, false, Option, Some, None, Result, Ok, Err, option_to_list}
+use Rattle.std.specs.Prelude.{◌≡◌, ⊤, ℕ, ◌+◌, List, [], ◌∷◌, ◌++◌, length, map, bytes_eq, Option, Some, None, Result, Ok, Err, option_to_list}
 use Rattle.std.specs.List.{list_any}
 use Rattle.brpc_model.specs.Items.{Item, mentioned}
 use Rattle.brpc_model.specs.Places.{names, with_names, is_held, held_behind, at_its_place}
@@ -8,9 +8,8 @@ use Rattle.script_items.specs.declared.line.Line.{Line}
 use Rattle.script_items.specs.Meaning.{item}
 use Rattle.script_lang.specs.declared.error.ScriptError.{ScriptError}
 use Rattle.script_lang.specs.declared.error.ScriptError.TheVariants.{Fault, NoMemory}
-use Rattle.script_lang.specs.declared.counts.Counts.{Counts}
 use Rattle.script_lang.specs.declared.reader.Reader.{Reader}
-use Rattle.script_lang.specs.Counting.{is_one_too_many, counts_of, counted, IsWithinLimits}
+use Rattle.script_lang.specs.Counting.{counts_of, counted, IsWithinLimits}
 use Rattle.script_lang.specs.Called.{rows_of, rows_behind}
 use Rattle.script_lang.specs.Used.{uses_from, use_of}
 

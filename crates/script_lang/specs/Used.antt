@@ -1,5 +1,5 @@
 -- The calls that lines name, each with the number of its line.
-use Rattle.std.specs.Prelude.{ℕ, ◌+◌, Bool, true, false, List, [], ◌∷◌, ◌++◌, Option, Some, None, option_and_then, option_to_list}
+use Rattle.std.specs.Prelude.{ℕ, ◌+◌, true, false, List, [], ◌∷◌, ◌++◌, Option, Some, None, option_and_then, option_to_list}
 use Rattle.brpc_model.specs.Items.{Item, Expire, Join}
 use Rattle.script_lang.specs.declared.uses.CallUse.{CallUse}
 

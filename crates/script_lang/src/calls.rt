@@ -1,6 +1,6 @@
-ghost use Rattle.std.specs.Prelude.{◌≡◌, ◌∷◌, ◌++◌, [], slice_index_or, OnOk};
+ghost use Rattle.std.specs.Prelude.{◌≡◌, ◌∷◌, ◌++◌, [], OnOk};
 ghost use Rattle.script_items.specs.Meaning.{item};
-ghost use Rattle.script_lang.specs.Called.{Rows, no_rows, rows_behind, row_of, has_call};
+ghost use Rattle.script_lang.specs.Called.{no_rows, rows_behind, row_of, has_call};
 
 use script_items::{Line, Target};
 use std::alloc::{AllocError, Global};

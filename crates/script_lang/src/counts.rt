@@ -1,4 +1,4 @@
-ghost use Rattle.std.specs.Prelude.{◌≡◌, ◌≤◌, false, Bool};
+ghost use Rattle.std.specs.Prelude.{◌≡◌, false};
 ghost use Rattle.script_items.specs.Meaning.{item};
 ghost use Rattle.script_lang.specs.Counting.{no_counts, counted, stands_wrong, is_one_too_many, IsWithinLimits};
 
@@ -89,9 +89,18 @@ impl Counts {
         ensures { result ≡ counted self (item line.now) }
     {
         match line {
-            Line::Slots(_) => Counts { slots: true, ..self },
-            Line::Requests(_) => Counts { requests: true, ..self },
-            Line::First(_) => Counts { first: true, ..self },
+            Line::Slots(_) => Counts {
+                slots: true,
+                ..self
+            },
+            Line::Requests(_) => Counts {
+                requests: true,
+                ..self
+            },
+            Line::First(_) => Counts {
+                first: true,
+                ..self
+            },
             Line::Open(open) => Counts {
                 others: true,
                 links: self.links + 1,
@@ -99,10 +108,26 @@ impl Counts {
                 unserved: self.unserved || !open.shape.serve,
                 ..self
             },
-            Line::Client => Counts { others: true, clients: self.clients + 1, ..self },
-            Line::Sched => Counts { others: true, scheduled: true, ..self },
-            Line::Tick { .. } | Line::To { .. } => Counts { others: true, turns: self.turns + 1, ..self },
-            _ => Counts { others: true, operations: self.operations + 1, ..self },
+            Line::Client => Counts {
+                others: true,
+                clients: self.clients + 1,
+                ..self
+            },
+            Line::Sched => Counts {
+                others: true,
+                scheduled: true,
+                ..self
+            },
+            Line::Tick { .. } | Line::To { .. } => Counts {
+                others: true,
+                turns: self.turns + 1,
+                ..self
+            },
+            _ => Counts {
+                others: true,
+                operations: self.operations + 1,
+                ..self
+            },
         }
     }
 }

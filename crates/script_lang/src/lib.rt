@@ -8,14 +8,15 @@ mod held;
 mod names;
 mod read;
 mod reader;
-mod text;
-mod uses;
-
+mod sizes;
 #[cfg(test)]
 mod tests;
+mod text;
+mod uses;
 
 pub use error::ScriptError;
 pub use read::read_script;
 pub use script_items::{
     Bytes, CallLine, Line, Name, Names, OpenLine, Script, Seat, SendLine, Shape, Target,
 };
+pub use sizes::{client_count, first_version, link_names, request_count, slot_count};

@@ -1,6 +1,6 @@
-ghost use Rattle.std.specs.Prelude.{◌≡◌, ◌+◌, ◌<◌, ◌||◌, nat_lt, length, ◌^◌, ℕ, List, [], ◌∷◌, ◌++◌, false, option_map, IfOk, OnOk, Some, None, Ok, Err, Option};
+ghost use Rattle.std.specs.Prelude.{◌≡◌, ◌+◌, ◌^◌, ◌<◌, ◌||◌, false, nat_lt, List, [], length, Option, OnOk};
 ghost use Rattle.brpc_model.specs.Items.{Item};
-ghost use Rattle.brpc_model.specs.Script.{items, said_behind, with_line, whole};
+ghost use Rattle.brpc_model.specs.Script.{with_line, whole};
 ghost use Rattle.script_items.specs.Meaning.{item};
 ghost use Rattle.script_lang.specs.Counting.{IsWithinLimits, is_one_too_many};
 ghost use Rattle.script_lang.specs.Known.{Knows, Keeps, HasNames, FaultIs, PlaceIs, LineIs, WholeIs};
@@ -10,8 +10,8 @@ use crate::counts::Counts;
 use crate::error::ScriptError;
 use crate::held;
 use crate::names::NameList;
-use crate::uses::{first_hanging, first_lost, note_use, CallUse};
-use script_items::{read_line, Line, LineFault, Script};
+use crate::uses::{CallUse, first_hanging, first_lost, note_use};
+use script_items::{Line, LineFault, Script, read_line};
 use std::alloc::{AllocError, Global};
 
 /// The most names of a script.
@@ -148,10 +148,16 @@ impl Reader {
         ensures { (said : List (Option Item)) → Knows self said → WholeIs (whole (Ok said)) result }
     {
         if let Some(line) = first_lost(&self.uses, &self.calls) {
-            return Err(ScriptError::Fault { line, kind: NO_CALL });
+            return Err(ScriptError::Fault {
+                line,
+                kind: NO_CALL,
+            });
         }
         if let Some(line) = first_hanging(&self.uses, self.counts.unserved) {
-            return Err(ScriptError::Fault { line, kind: MAY_HANG });
+            return Err(ScriptError::Fault {
+                line,
+                kind: MAY_HANG,
+            });
         }
         Ok(Script::new(self.lines))
     }

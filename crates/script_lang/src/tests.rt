@@ -96,12 +96,24 @@ const FAULTS: [(&str, u32, u8); 78] = [
     ("open a serve\nclient\ncall a E.E -\njoin 0.1\n", 4, 10),
     ("open a serve\nclient\ncall a E.E -\njoin 1.0\n", 4, 10),
     ("open a serve\nclient\ncall a E.E -\njoin 2.1\n", 4, 10),
-    ("open a\nclient\ncall a E.E -\njoin 1.1\nexpire 2.1\n", 5, 10),
+    (
+        "open a\nclient\ncall a E.E -\njoin 1.1\nexpire 2.1\n",
+        5,
+        10,
+    ),
     ("open a\nclient\nexpire 1.18446744073709551615\n", 3, 10),
     // A call that is waited for beside a link without a server.
     ("open a\nclient\ncall a E.E -\njoin 1.1\n", 4, 11),
-    ("open a serve\nopen b\nclient\ncall a E.E -\njoin 1.1\n", 5, 11),
-    ("open a serve\n\nclient\ncall a E.E -\njoin 1.1\nopen b\n", 5, 11),
+    (
+        "open a serve\nopen b\nclient\ncall a E.E -\njoin 1.1\n",
+        5,
+        11,
+    ),
+    (
+        "open a serve\n\nclient\ncall a E.E -\njoin 1.1\nopen b\n",
+        5,
+        11,
+    ),
     // What isn't held is dropped, or what is held is held again.
     ("open a\nclient\ndrop a\n", 3, 12),
     ("open a\nclient\nhold a\nhold a\n", 4, 12),
@@ -114,13 +126,21 @@ const FAULTS: [(&str, u32, u8); 78] = [
     ("open a\nclient\nexpire 1.9\nopens b\n", 4, 2),
     ("slots 1 2\nslots 40\n", 1, 3),
     ("tick 1 x\n", 1, 4),
-    ("# a comment\n\nopen a\r\n# \u{7f}\n\r\nclient\nhold b\nhold b", 8, 12),
+    (
+        "# a comment\n\nopen a\r\n# \u{7f}\n\r\nclient\nhold b\nhold b",
+        8,
+        12,
+    ),
 ];
 
 #[test]
 fn finds_the_first_fault(rt: HostRuntime) {
     for (text, line, kind) in &FAULTS {
-        assert_eq!(rt; fault(rt.alloc(), text.as_bytes()), (*line, *kind), "{text}");
+        assert_eq!(rt;
+            fault(rt.alloc(), text.as_bytes()),
+            (*line, *kind),
+            "{text}"
+        );
     }
 }
 
@@ -159,10 +179,22 @@ const SCRIPTS: [(&str, usize); 8] = [
     ("\n\r\n#\n", 0),
     ("open a\r\nclient\r\nsend a 61", 3),
     ("slots 31\nrequests 4096\nfirst 4294967292\nopen a", 4),
-    ("open a end=65536 serve fail=65536 piece=65536 again=2\nclient\ncall a,b S.p.Q.r aB retry=6 att=Cd\njoin 1.1\nexpire 1.1\n", 5),
-    ("open a serve\nclient\nexpire 2.2\nclient\nhold a\ncall a E.E -\nfail a 1500\ndrop a\n", 8),
-    ("  open   a   serve  \nclient\nsched\ntick 1 65536\nto r0 K2\nto 1 A1\n", 6),
-    ("client\nhold a\nclient\nhold a\ndrop a\nhold a\n# the end", 6),
+    (
+        "open a end=65536 serve fail=65536 piece=65536 again=2\nclient\ncall a,b S.p.Q.r aB retry=6 att=Cd\njoin 1.1\nexpire 1.1\n",
+        5,
+    ),
+    (
+        "open a serve\nclient\nexpire 2.2\nclient\nhold a\ncall a E.E -\nfail a 1500\ndrop a\n",
+        8,
+    ),
+    (
+        "  open   a   serve  \nclient\nsched\ntick 1 65536\nto r0 K2\nto 1 A1\n",
+        6,
+    ),
+    (
+        "client\nhold a\nclient\nhold a\ndrop a\nhold a\n# the end",
+        6,
+    ),
 ];
 
 #[test]
@@ -175,4 +207,28 @@ fn reads_scripts(rt: HostRuntime) {
             Err(error) => panic!(rt; "{error:?} of {text}"),
         }
     }
+}
+
+#[test]
+fn tells_sizes_clients_and_links(rt: HostRuntime) -> Result<(), Fail> {
+    let alloc = rt.alloc();
+    let given = read_script(
+        alloc,
+        b"slots 3\nfirst 8\nrequests 70\nopen b\nclient\nopen a\nclient\n",
+    )
+    .or(Err("given"))?;
+    assert_eq!(rt; slot_count(&given), 3);
+    assert_eq!(rt; request_count(&given), 70);
+    assert_eq!(rt; first_version(&given), 8);
+    assert_eq!(rt; client_count(&given), 2);
+    let names = link_names(alloc, &given)?;
+    assert_eq!(rt; names.len(), 2);
+    assert_eq!(rt; names[0].as_slice(), b"b".as_slice());
+    assert_eq!(rt; names[1].as_slice(), b"a".as_slice());
+    let empty = read_script(alloc, b"").or(Err("empty"))?;
+    assert_eq!(rt; slot_count(&empty), 31);
+    assert_eq!(rt; request_count(&empty), 4096);
+    assert_eq!(rt; first_version(&empty), 0);
+    assert_eq!(rt; client_count(&empty), 0);
+    Ok(())
 }

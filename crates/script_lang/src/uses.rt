@@ -29,7 +29,12 @@ pub fn note_use(uses: &mut Vec<CallUse>, line: &Line, number: u32) -> Result<(),
     }
 }
 
-fn push_use(uses: &mut Vec<CallUse>, target: Target, line: u32, waits: bool) -> Result<(), AllocError>
+fn push_use(
+    uses: &mut Vec<CallUse>,
+    target: Target,
+    line: u32,
+    waits: bool,
+) -> Result<(), AllocError>
     ensures { OnOk result (uses.new.items ≡ uses.old.items ++ (record { target = target; line = line; waits = waits }) ∷ []) }
 {
     uses.push(CallUse {

@@ -5,8 +5,9 @@ use Rattle.std.specs.Prelude.{◌≡◌, ℕ, ◌+◌, ◌-◌, ◌*◌, ◌/◌
 abbrev pub bit : Bool → ℕ
 bit b = if b then 1 else 0
 
--- ## The id of a socket: the version in bits 32 to 63, the slot in bits 0 to 31
+-- ## The id of a socket
 
+-- the version in bits 32 to 63, the slot in bits 0 to 31
 abbrev pub socket_id : ℕ → ℕ → ℕ
 socket_id version slot = version * 2 ^ 32 + slot
 
@@ -25,8 +26,9 @@ pub record IsSocketId (word version slot : ℕ) : Type 0 where
 abbrev pub OnlySocketId : ℕ → ℕ → ℕ → Type 0
 OnlySocketId word version slot = (v s : ℕ) → v < 2 ^ 32 → s < 2 ^ 32 → socket_id v s ≡ word → (v ≡ version) × (s ≡ slot)
 
--- ## The reference word of a socket: the version in bits 32 to 63, the references in bits 0 to 31
+-- ## The reference word of a socket
 
+-- the version in bits 32 to 63, the references in bits 0 to 31
 abbrev pub vref : ℕ → ℕ → ℕ
 vref version nref = version * 2 ^ 32 + nref
 
@@ -49,8 +51,10 @@ OnlyVref word version nref = (v n : ℕ) → v < 2 ^ 32 → n < 2 ^ 32 → vref 
 abbrev pub IsFailedVref : ℕ → Type 0
 IsFailedVref word = vref_version word % 2 ≡ 1
 
--- ## A ticket: whether the head is idle in bit 63, the generation in bits 16 to 62, one more than the request's slot in bits 0 to 15
+-- ## A ticket
 
+-- whether the head is idle in bit 63, the generation in bits 16 to 62, one more than the request's
+-- slot in bits 0 to 15
 abbrev pub ticket : Bool → ℕ → ℕ → ℕ
 ticket idle generation request = bit idle * 2 ^ 63 + generation * 2 ^ 16 + (request + 1)
 
@@ -87,8 +91,10 @@ pub record IsTicket (word : ℕ) (idle : Bool) (generation request : ℕ) : Type
 abbrev pub OnlyTicket : ℕ → Bool → ℕ → ℕ → Type 0
 OnlyTicket word idle generation request = (i : Bool) (g r : ℕ) → FitsTicket g r → ticket i g r ≡ word → (i ≡ idle) × (g ≡ generation) × (r ≡ request)
 
--- ## The word of a call id: the first version in bits 38 to 63, the state in bits 36 and 37, one less than the range in bits 33 to 35, the current attempt in bits 30 to 32, the queued errors in bits 15 to 29 and 0 to 14
+-- ## The word of a call id
 
+-- the first version in bits 38 to 63, the state in bits 36 and 37, one less than the range in bits 33
+-- to 35, the current attempt in bits 30 to 32, the queued errors in bits 15 to 29 and 0 to 14
 abbrev pub id_word : ℕ → ℕ → ℕ → ℕ → ℕ → ℕ → ℕ
 id_word first state range attempt oldest second = first * 2 ^ 38 + state * 2 ^ 36 + (range - 1) * 2 ^ 33 + attempt * 2 ^ 30 + oldest * 2 ^ 15 + second
 
@@ -134,8 +140,10 @@ pub record IsIdWord (word first state range attempt oldest second : ℕ) : Type 
 abbrev pub OnlyIdWord : ℕ → ℕ → ℕ → ℕ → ℕ → ℕ → ℕ → Type 0
 OnlyIdWord word first state range attempt oldest second = (f s r a o e : ℕ) → FitsIdWord f s r a o e → id_word f s r a o e ≡ word → (f ≡ first) × (s ≡ state) × (r ≡ range) × (a ≡ attempt) × (o ≡ oldest) × (e ≡ second)
 
--- ## Where a call's attempt went: the first version in bits 38 to 63, the id's slot in bits 22 to 37, one more than the link in bits 6 to 21, the attempt in bits 0 to 2
+-- ## Where a call's attempt went
 
+-- the id's first version in bits 38 to 63 and its slot in bits 22 to 37, one more than the link in
+-- bits 6 to 21, the attempt in bits 0 to 2
 abbrev pub at_word : ℕ → ℕ → ℕ → ℕ → ℕ
 at_word first slot link attempt = first * 2 ^ 38 + slot * 2 ^ 22 + (link + 1) * 2 ^ 6 + attempt
 
@@ -177,12 +185,14 @@ pub record IsAtWord (word first slot link attempt : ℕ) : Type 0 where
 abbrev pub OnlyAtWord : ℕ → ℕ → ℕ → ℕ → ℕ → Type 0
 OnlyAtWord word first slot link attempt = (f s l a : ℕ) → FitsAtWord f l a → s < 2 ^ 16 → at_word f s l a ≡ word → (f ≡ first) × (s ≡ slot) × (l ≡ link) × (a ≡ attempt)
 
--- ## Where a label stands: whether it was dropped in bit 63, the link in bits 32 to 47, one more than the position in bits 0 to 31
+-- ## Where a message stands
 
+-- whether it was dropped in bit 63, the link in bits 32 to 47, one more than the position in bits 0
+-- to 31
 abbrev pub place_word : Bool → ℕ → ℕ → ℕ
 place_word dropped link position = bit dropped * 2 ^ 63 + link * 2 ^ 32 + (position + 1)
 
--- the label was never accepted
+-- the message was never accepted
 abbrev pub no_place : ℕ
 no_place = 0
 

@@ -2,9 +2,10 @@ ghost use Rattle.std.specs.Prelude.{◌≡◌};
 ghost use Rattle.sock_words.specs.Words.{id_word, id_word_first, id_word_state, id_word_range, id_word_attempt, id_word_oldest, id_word_second, FitsIdWord, IsIdWord, OnlyIdWord};
 
 /// The word of a call id's slot. A call id owns a range of versions from its first one on, one
-/// for the whole call and one for each attempt. An error that comes while the id is locked is
-/// queued, two at most: a code of 1 to 4,095 in the upper 12 bits and the attempt in the lower 3,
-/// which are 7 for the whole call; 0 where no error is queued.
+/// for the whole call and one for each attempt (bRPC's bthread_id.md). An error that comes while
+/// the id is locked is queued, two at most: a code of 1 to 4,095 in the upper 12 bits and the
+/// attempt in the lower 3, which are 7 for the whole call; 0 where no error is queued. That all of
+/// this is one word, and that two errors are queued at most, is this project's own.
 #[derive(Clone, Copy, Debug, PartialEq, Eq)]
 pub struct IdWord(u64);
 

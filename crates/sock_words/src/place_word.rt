@@ -1,5 +1,5 @@
-ghost use Rattle.std.specs.Prelude.{◌≡◌, ◌<◌, ◌-◌, ◌^◌};
-ghost use Rattle.sock_words.specs.Words.{place_word, place_word_dropped, place_word_link, place_word_position, HasPosition, IsPlaceWord, OnlyPlaceWord};
+ghost use Rattle.std.specs.Prelude.{◌≡◌, ◌<◌, ◌-◌, ◌^◌, ◌↔◌, IsTrue};
+ghost use Rattle.sock_words.specs.Words.{place_word, no_place, place_word_dropped, place_word_link, place_word_position, HasPosition, IsPlaceWord, OnlyPlaceWord};
 
 /// Where a message stands in the order of a link, and whether it was dropped. Positions are counted
 /// from 0 per link, over placed and dropped messages alike.
@@ -32,6 +32,13 @@ impl PlaceWord {
         ensures { result ≡ self.0 }
     {
         self.0
+    }
+
+    /// Whether the message was never accepted.
+    pub fn is_none(self) -> bool
+        ensures { IsTrue result ↔ (self.0 ≡ no_place) }
+    {
+        self == PlaceWord::NONE
     }
 
     /// Whether the message was dropped.

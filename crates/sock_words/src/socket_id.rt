@@ -2,7 +2,8 @@ ghost use Rattle.std.specs.Prelude.{◌≡◌};
 ghost use Rattle.sock_words.specs.Words.{socket_id, socket_id_version, socket_id_slot, IsSocketId, OnlySocketId};
 
 /// The id of a socket: the slot that it lies in, and the version with which it was made there.
-/// Versions of a slot never come twice, so an id names one socket for good.
+/// Versions of a slot never come twice, so an id names one socket for good. The layout is that of
+/// bRPC's `VersionedRefWithId` (`versioned_ref_with_id.h`).
 #[derive(Clone, Copy, Debug, PartialEq, Eq)]
 pub struct SocketId(u64);
 

@@ -51,12 +51,14 @@ fn words_are_read_back(rt: HostRuntime) {
     assert_eq!(rt; (call.first(), call.range(), call.attempt()), (1, 8, 6));
     assert_eq!(rt; (call.oldest(), call.second()), (5, 4));
     let at = AtWord::pack(1, 2, 3, 4);
-    assert!(rt; AtWord::from_word(at.word()) == at);
+    assert!(rt; AtWord::from_word(at.word()) == at && !at.is_none() && AtWord::NONE.is_none());
     assert_eq!(rt; (at.first(), at.slot()), (1, 2));
     assert_eq!(rt; (at.link(), at.attempt()), (3, 4));
     let place = PlaceWord::pack(true, 1, 2);
     assert!(rt; place.dropped() && PlaceWord::from_word(place.word()) == place);
     assert_eq!(rt; (place.link(), place.position()), (1, 2));
+    assert!(rt; !place.is_none() && PlaceWord::NONE.is_none());
+    assert!(rt; !ticket.is_idle_alone() && Ticket::IDLE.is_idle_alone());
 }
 
 #[test]
@@ -82,6 +84,8 @@ fn answered(alloc: Global, id: u64, payload: &[u8]) -> Result<Outcome, AllocErro
 fn outcomes_are_shown(rt: HostRuntime) -> Result<(), Fail> {
     let alloc = rt.alloc();
     let found = Vref::pack(2, 1);
+    assert_eq!(rt; answered(alloc, 1, b"hi")?, answered(alloc, 1, b"hi")?);
+    assert_ne!(rt; answered(alloc, 1, b"hi")?, answered(alloc, 1, b"ho")?);
     let table: [(Outcome, &str); 23] = [
         (
             Outcome::Opened {

@@ -1,9 +1,10 @@
-ghost use Rattle.std.specs.Prelude.{◌≡◌};
-ghost use Rattle.sock_words.specs.Words.{ticket, ticket_idle, ticket_generation, ticket_request, HasRequest, FitsTicket, IsTicket, OnlyTicket};
+ghost use Rattle.std.specs.Prelude.{◌≡◌, ◌↔◌, IsTrue};
+ghost use Rattle.sock_words.specs.Words.{ticket, idle_head, ticket_idle, ticket_generation, ticket_request, HasRequest, FitsTicket, IsTicket, OnlyTicket};
 
-/// A ticket: the mark of a writer's request in the head of a write chain. It has the slot of the
-/// request and the generation in which the request was claimed, so that no ticket comes twice. A
-/// head that is idle keeps the last ticket beside the mark that it is idle.
+/// A ticket: the mark of a writer's request in the head of a write chain (bRPC's io.md). It has the
+/// slot of the request and the generation in which the request was claimed, so that no ticket comes
+/// twice. A head that is idle keeps the last ticket beside the mark that it is idle. bRPC has the
+/// request's address here; the generation and the ticket that stays are this project's own.
 #[derive(Clone, Copy, Debug, PartialEq, Eq)]
 pub struct Ticket(u64);
 
@@ -33,6 +34,13 @@ impl Ticket {
         ensures { result ≡ self.0 }
     {
         self.0
+    }
+
+    /// Whether the head is `IDLE`, which no ticket was ever put into.
+    pub fn is_idle_alone(self) -> bool
+        ensures { IsTrue result ↔ (self.0 ≡ idle_head) }
+    {
+        self == Ticket::IDLE
     }
 
     /// Whether the head is idle.

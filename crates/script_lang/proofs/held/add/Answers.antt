@@ -1,4 +1,4 @@
-use Rattle.std.proofs.Common.{rules, ◌≡◌, ℕ, List, bytes_eq, ap, sym, ◌∙◌}
+use Rattle.std.proofs.Common.{bytes_eq, ap, sym, ◌∙◌}
 use Rattle.std.specs.List.{list_any}
 use Rattle.brpc_model.specs.Places.{held_behind}
 use Rattle.script_items.specs.Meaning.{item}

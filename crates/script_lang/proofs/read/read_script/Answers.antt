@@ -1,6 +1,5 @@
-use Rattle.std.proofs.Common.{rules, ◌≡◌, ◌<◌, ◌^◌, ℕ, length, IfOk, Ok, Err, List, [], ◌∷◌, ap, sym, ◌∙◌, subst}
-use Rattle.brpc_model.specs.Script.{script_of}
-use Rattle.script_lang.proofs.Sofar.{Sofar, read_more, answers_fault}
+use Rattle.std.proofs.Common.{rules}
+use Rattle.script_lang.proofs.Sofar.{read_more, answers_fault}
 use Rattle.script_lang.proofs.read.read_script.Goals as goal
 
 pub returns-in_err-read-clause-fault : goal.returns-in_err-read-clause-fault

@@ -1,8 +1,4 @@
-use Rattle.std.proofs.Common.{◌≡◌, ◌+◌, ◌≤◌, List, Option, [], length, fold, Ok}
-use Rattle.std.specs.Str.Lines.{lines}
-use Rattle.brpc_model.specs.Items.{Item}
-use Rattle.brpc_model.specs.Script.{with_line}
-use Rattle.script_lang.specs.Known.{Knows}
+use Rattle.std.proofs.Common.{length}
 use Rattle.script_lang.proofs.Sofar.{Sofar}
 use Rattle.script_lang.proofs.read.read_script.Given as goal
 

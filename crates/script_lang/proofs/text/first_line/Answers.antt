@@ -1,4 +1,4 @@
-use Rattle.std.proofs.Common.{◌≡◌, ◌≢◌, ◌∷◌, ◌≤◌, ◌<◌, ◌+◌, ◌-◌, [], ◌∙◌, ℕ, ap, sym, length, take, drop, suc, get_or, arith, rules}
+use Rattle.std.proofs.Common.{◌≡◌, ◌≢◌, ◌∷◌, ◌<◌, ◌-◌, ◌∙◌, ℕ, ap, sym, length, take, drop, suc, get_or, arith}
 use Rattle.std.specs.Str.Lines.{lines, strip_carriage_return}
 use Rattle.script_lang.proofs.LinesCut.{lines_found, lines_last, behind_one}
 use Rattle.script_lang.proofs.text.first_line.Goals as goal

@@ -1,4 +1,4 @@
-use Rattle.std.proofs.Common.{rules, ◌≡◌, ℕ, Bool, not, List, filter, bytes_eq, ap, sym, ◌∙◌, arith}
+use Rattle.std.proofs.Common.{rules, not, filter, bytes_eq, ap, ◌∙◌}
 use Rattle.std.proofs.lemmas.Fn.{filter_same}
 use Rattle.script_lang.proofs.names.NameList.remove.Goals as goal
 

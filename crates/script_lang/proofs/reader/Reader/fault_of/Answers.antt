@@ -1,4 +1,4 @@
-use Rattle.std.proofs.Common.{rules, ◌≡◌, ◌+◌, ◌<◌, ◌||◌, nat_lt, length, ◌^◌, ℕ, List, [], ◌∷◌, ◌++◌, true, false, option_map, Some, None, Ok, Err, Option, refl, ap, sym, ◌∙◌, arith}
+use Rattle.std.proofs.Common.{true, false, refl, sym, ◌∙◌}
 use Rattle.script_items.specs.Meaning.{item}
 use Rattle.script_lang.proofs.Placed.{judged}
 use Rattle.script_lang.proofs.reader.Reader.fault_of.Goals as goal

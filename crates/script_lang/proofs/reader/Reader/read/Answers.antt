@@ -1,8 +1,5 @@
-use Rattle.std.proofs.Common.{rules, ◌≡◌, ℕ, List, [], ◌∷◌, ◌++◌, Some, None, Ok, Err, Option, Result, option_map, ap, sym, ◌∙◌, subst}
-use Rattle.brpc_model.specs.Script.{items, one_more}
-use Rattle.brpc_model.specs.Lines.{line_item}
-use Rattle.script_items.specs.Answers.{Answers}
-use Rattle.script_items.specs.Meaning.{item}
+use Rattle.std.proofs.Common.{rules, [], ◌∷◌, ◌++◌, None, ap, sym}
+use Rattle.brpc_model.specs.Script.{items}
 use Rattle.script_lang.proofs.Placed.{skipped, line_none}
 use Rattle.script_lang.proofs.reader.Reader.read.Goals as goal
 

@@ -1,0 +1,10 @@
+//! Blocks of 8,192 bytes, which message buffers write into, and a pool that keeps a few of them.
+#![tactic(auto)]
+
+mod memory;
+mod pool;
+#[cfg(test)]
+mod tests;
+
+pub use memory::NoMemory;
+pub use pool::{BLOCK_BYTES, BlockPool, KEPT_BLOCKS};

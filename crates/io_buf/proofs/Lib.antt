@@ -1,0 +1,4 @@
+mod Fronts
+pub mod Pieces
+pub mod Sizes
+mod Steps

@@ -1,0 +1,9 @@
+use Rattle.std.proofs.Common.{◌≤◌, length}
+use Rattle.io_buf.proofs.Fronts.{LosesFront}
+use Rattle.io_buf.proofs.buf.IoBuf.recycle_front.Given as goal
+
+abbrev pub invariant-loop-self : goal.invariant-loop-self
+invariant-loop-self l = record { front : LosesFront l.keep l.fn.self l.self; pool : l.fn.pool ≤ l.pool }
+
+abbrev pub decreases-loop-self : goal.decreases-loop-self
+decreases-loop-self l = length l.self.items

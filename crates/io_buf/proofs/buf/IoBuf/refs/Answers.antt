@@ -1,0 +1,7 @@
+use Rattle.std.proofs.Common.{◌≡◌, subst, sum, length}
+use Rattle.io_buf.proofs.Pieces.{sum-sizes}
+use Rattle.io_buf.specs.Buffer.{Buffer}
+use Rattle.io_buf.proofs.buf.IoBuf.refs.Goals as goal
+
+pub returns-clause-total : goal.returns-clause-total
+returns-clause-total c = let P : Buffer → Type 0 = λ b. sum b.sizes ≡ length b.items in subst P c.self.view_is (sum-sizes c.self.inside.pieces.items)

@@ -1,0 +1,3 @@
+pub mod Buffer
+pub mod Fault
+pub mod Inside

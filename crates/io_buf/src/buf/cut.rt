@@ -1,0 +1,77 @@
+ghost use Rattle.std.specs.Prelude.{◌≡◌, ◌+◌, ◌≤◌, ◌++◌, length, take, drop, map, All, IfOk, IfErr, OnOk, OnErr};
+ghost use Rattle.std.specs.List.{concat};
+ghost use Rattle.io_buf.specs.Buffer.{front_sizes, rest_sizes, IsPiece};
+ghost use Rattle.io_buf.specs.Fault.{IsCauseOf};
+
+use super::IoBuf;
+use crate::fault::CutFault;
+use bytes::Bytes;
+use io_block::NoMemory;
+use std::collections::VecDeque;
+
+impl IoBuf {
+    /// A buffer with the same bytes, in the same blocks. It copies nothing.
+    pub fn share(&self) -> Result<IoBuf, NoMemory>
+        ensures items { IfOk result (λ b. b.items ≡ self.now.items) }
+        ensures sizes { IfOk result (λ b. b.sizes ≡ self.now.sizes) }
+    {
+        let mut all = IoBuf::new(self.alloc);
+        all.reserve_refs(self.pieces.len())?;
+        all.add_front(&self.pieces, self.len)?;
+        Ok(all)
+    }
+
+    /// A buffer with the first n bytes, in the same blocks. It copies nothing.
+    pub fn share_front(&self, n: usize) -> Result<IoBuf, NoMemory>
+        requires { n ≤ length self.now.items }
+        ensures items { IfOk result (λ b. b.items ≡ take n self.now.items) }
+        ensures sizes { IfOk result (λ b. b.sizes ≡ front_sizes n self.now.sizes) }
+    {
+        let mut front = IoBuf::new(self.alloc);
+        front.add_front(&self.pieces, n)?;
+        Ok(front)
+    }
+
+    /// Cuts the first n bytes off, as a buffer over the same blocks. It copies nothing.
+    pub fn cut_front(&mut self, n: usize) -> Result<IoBuf, CutFault>
+        ensures items { IfOk result (λ front. front.items ≡ take n self.old.items) }
+        ensures sizes { IfOk result (λ front. front.sizes ≡ front_sizes n self.old.sizes) }
+        ensures rest_items { OnOk result (self.new.items ≡ drop n self.old.items) }
+        ensures rest_sizes { OnOk result (self.new.sizes ≡ rest_sizes n self.old.sizes) }
+        ensures spare { self.new.spare + length self.new.sizes
+            ≡ self.old.spare + length self.old.sizes }
+
+        // It is refused as too short exactly where n is above the length.
+        ensures fits { OnOk result (n ≤ length self.old.items) }
+        ensures cause { IfErr result (IsCauseOf (length self.old.items) n) }
+        ensures err { OnErr result (self.new ≡ self.old) }
+    {
+        if n > self.len {
+            return Err(CutFault::Short { have: self.len });
+        }
+        let front = self.share_front(n)?;
+        self.pop_front(n);
+        Ok(front)
+    }
+
+    // Adds references to the first n bytes of the pieces.
+    fn add_front(&mut self, pieces: &VecDeque<Bytes>, n: usize) -> Result<(), NoMemory>
+        requires pieces { All IsPiece pieces.now.items }
+        requires n { n ≤ length (concat pieces.now.items) }
+        ensures items { OnOk result (self.new.items
+            ≡ self.old.items ++ take n (concat pieces.now.items)) }
+        ensures sizes { OnOk result (self.new.sizes
+            ≡ self.old.sizes ++ front_sizes n (map length pieces.now.items)) }
+    {
+        let mut left = n;
+        let mut place = 0;
+        while left > 0 {
+            let piece = &pieces[place];
+            let taken = left.min(piece.len());
+            self.push_piece(piece.slice(..taken)?)?;
+            left -= taken;
+            place += 1;
+        }
+        Ok(())
+    }
+}

@@ -1,0 +1,122 @@
+ghost use Rattle.std.specs.Prelude.{◌≡◌, ◌+◌, ◌-◌, ◌<◌, ◌≤◌, [], length, take, drop, MatchOption};
+ghost use Rattle.io_buf.specs.Buffer.{front_sizes, rest_sizes, IsPiece, PutsPieceFirst, TakesLast, IsShorter};
+
+use super::IoBuf;
+use bytes::Bytes;
+use io_block::BlockPool;
+
+impl IoBuf {
+    /// Drops the first n bytes. Each reference that goes takes the same time, however many there
+    /// are.
+    pub fn pop_front(&mut self, n: usize)
+        requires { n ≤ length self.old.items }
+        ensures items { self.new.items ≡ drop n self.old.items }
+        ensures sizes { self.new.sizes ≡ rest_sizes n self.old.sizes }
+        ensures spare { self.new.spare + length self.new.sizes
+            ≡ self.old.spare + length self.old.sizes }
+    {
+        let keep = self.len - n;
+        while self.len > keep {
+            drop(self.advance_first(self.len - keep));
+        }
+    }
+
+    /// Drops the first n bytes, as `pop_front`, and gives each block that comes free so back to the
+    /// pool.
+    pub fn recycle_front(&mut self, pool: &mut BlockPool, n: usize)
+        requires { n ≤ length self.old.items }
+        ensures items { self.new.items ≡ drop n self.old.items }
+        ensures sizes { self.new.sizes ≡ rest_sizes n self.old.sizes }
+        ensures spare { self.new.spare + length self.new.sizes
+            ≡ self.old.spare + length self.old.sizes }
+        ensures pool { pool.old ≤ pool.new }
+    {
+        let keep = self.len - n;
+        while self.len > keep {
+            if let Some(piece) = self.advance_first(self.len - keep) {
+                pool.recycle(piece);
+            }
+        }
+    }
+
+    /// Drops the last n bytes.
+    pub fn pop_back(&mut self, n: usize)
+        requires { n ≤ length self.old.items }
+        ensures items { self.new.items ≡ take (length self.old.items - n) self.old.items }
+        ensures sizes { self.new.sizes
+            ≡ front_sizes (length self.old.items - n) self.old.sizes }
+        ensures spare { self.new.spare + length self.new.sizes
+            ≡ self.old.spare + length self.old.sizes }
+    {
+        let keep = self.len - n;
+        while self.len > keep {
+            self.retreat_last(self.len - keep);
+        }
+    }
+
+    // Takes the first reference.
+    pub(super) fn pop_piece(&mut self) -> Option<Bytes>
+        ensures { MatchOption result ((self.old.sizes ≡ []) × (self.old.items ≡ []) × (self.new ≡ self.old))
+            (λ piece. IsPiece piece × PutsPieceFirst self.new self.old piece) }
+    {
+        let piece = self.pieces.pop_front()?;
+        self.len -= piece.len();
+        Some(piece)
+    }
+
+    // Takes the last reference.
+    fn pop_last_piece(&mut self) -> Option<Bytes>
+        ensures { MatchOption result ((self.old.sizes ≡ []) × (self.old.items ≡ []) × (self.new ≡ self.old))
+            (λ piece. IsPiece piece × TakesLast self.old self.new piece) }
+    {
+        let piece = self.pieces.pop_back()?;
+        self.len -= piece.len();
+        Some(piece)
+    }
+
+    // Puts a reference in front, for which there is room.
+    fn push_first_reserved(&mut self, piece: Bytes)
+        requires room { 0 < self.old.spare }
+        requires piece { IsPiece piece }
+        ensures { PutsPieceFirst self.old self.new piece }
+    {
+        self.len += piece.len();
+        self.pieces.push_front_reserved(piece);
+    }
+
+    // Drops up to n bytes of the first reference, and returns it where it went whole.
+    fn advance_first(&mut self, n: usize) -> Option<Bytes>
+        requires { (0 < n) × (n ≤ length self.old.items) }
+        ensures shorter { IsShorter self.old self.new n }
+        ensures items { self.new.items
+            ≡ drop (length self.old.items - length self.new.items) self.old.items }
+        ensures sizes { self.new.sizes
+            ≡ rest_sizes (length self.old.items - length self.new.items) self.old.sizes }
+    {
+        let Some(mut first) = self.pop_piece() else {
+            unreachable!()
+        };
+        if n < first.len() {
+            first.advance(n);
+            self.push_first_reserved(first);
+            return None;
+        }
+        Some(first)
+    }
+
+    // Drops up to n bytes of the last reference.
+    fn retreat_last(&mut self, n: usize)
+        requires { (0 < n) × (n ≤ length self.old.items) }
+        ensures shorter { IsShorter self.old self.new n }
+        ensures items { self.new.items ≡ take (length self.new.items) self.old.items }
+        ensures sizes { self.new.sizes ≡ front_sizes (length self.new.items) self.old.sizes }
+    {
+        let Some(mut last) = self.pop_last_piece() else {
+            unreachable!()
+        };
+        if n < last.len() {
+            last.truncate(last.len() - n);
+            self.push_reserved(last);
+        }
+    }
+}

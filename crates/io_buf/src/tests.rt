@@ -1,0 +1,135 @@
+use crate::{BlockPool, CutFault, IoBuf, NoMemory};
+use std::test::Fail;
+
+fn is_send_and_sync<T: Send + Sync + Drop>(_value: T) {}
+
+// A pool that keeps two blocks.
+fn two_blocks(rt: &HostRuntime) -> Result<BlockPool, NoMemory> {
+    let mut pool = BlockPool::new(rt.alloc());
+    let first = pool.take()?;
+    let second = pool.take()?;
+    pool.give_back(first);
+    pool.give_back(second);
+    Ok(pool)
+}
+
+// Whether the buffer has these bytes, at most 16.
+fn has(buf: &IoBuf, bytes: &[u8]) -> bool {
+    let mut room = [0; 16];
+    if buf.len() != bytes.len() || bytes.len() > 16 {
+        return false;
+    }
+    let room = &mut room[..bytes.len()];
+    buf.copy_to(room);
+    &*room == bytes
+}
+
+#[test]
+fn cuts(rt: HostRuntime) -> Result<(), Fail> {
+    let mut pool = BlockPool::new(rt.alloc());
+    let mut buf = IoBuf::new(rt.alloc());
+    buf.append_bytes(&mut pool, b"abc")?;
+    let front = buf.cut_front(2)?;
+    assert!(rt; has(&front, b"ab") && has(&buf, b"c"));
+    assert_eq!(rt; buf.cut_front(2).err(), Some(CutFault::Short { have: 1 }));
+    assert!(rt; has(&buf, b"c"));
+    is_send_and_sync(front);
+    Ok(())
+}
+
+// That the blocks are really shared is seen at the pool: none comes free with the copy.
+#[test]
+fn shares(rt: HostRuntime) -> Result<(), Fail> {
+    let mut pool = two_blocks(&rt)?;
+    let mut buf = IoBuf::new(rt.alloc());
+    buf.append_bytes(&mut pool, [b'a'; 8_193].as_slice())?;
+    let mut copy = buf.share()?;
+    let again = buf.share()?;
+    assert_eq!(rt; (copy.len(), copy.refs(), pool.kept()), (8_193, 2, 0));
+    assert!(rt; !copy.is_empty() && !buf.is_empty());
+    assert!(rt; copy.first_piece() == buf.first_piece());
+    copy.pop_front(8_192);
+    assert!(rt; has(&copy, b"a"));
+    assert_eq!(rt; buf.len(), 8_193);
+    assert!(rt; !buf.is_empty());
+    assert_eq!(rt; buf.first_piece().len(), 8_192);
+    copy.recycle(&mut pool);
+    again.recycle(&mut pool);
+    assert_eq!(rt; pool.kept(), 0);
+    buf.recycle(&mut pool);
+    assert_eq!(rt; pool.kept(), 2);
+    Ok(())
+}
+
+#[test]
+fn lies_in_blocks(rt: HostRuntime) -> Result<(), Fail> {
+    let mut pool = BlockPool::new(rt.alloc());
+    for (len, refs, last) in [
+        (1, 1, 1),
+        (8_192, 1, 8_192),
+        (8_193, 2, 1),
+        (20_000, 3, 3_616),
+    ] {
+        let message = Vec::from_elem(rt.alloc(), b'a', len)?;
+        let mut buf = IoBuf::new(rt.alloc());
+        buf.append_bytes(&mut pool, message.as_slice())?;
+        assert_eq!(rt; (buf.len(), buf.refs()), (len, refs), "{len} bytes");
+        assert_eq!(rt; buf.piece(refs - 1).len(), last, "{len} bytes");
+        buf.recycle(&mut pool);
+        assert_eq!(rt; pool.kept(), refs, "{len} bytes");
+    }
+    Ok(())
+}
+
+#[test]
+fn fills_the_last_block(rt: HostRuntime) -> Result<(), Fail> {
+    let mut pool = two_blocks(&rt)?;
+    let mut buf = IoBuf::new(rt.alloc());
+    buf.append_bytes(&mut pool, b"abc")?;
+    let mut copy = buf.share()?;
+    buf.append_bytes(&mut pool, b"def")?;
+    assert_eq!(rt; (pool.kept(), buf.refs()), (1, 2));
+    assert!(rt; has(&buf, b"abcdef") && has(&copy, b"abc"));
+    let rest = buf.cut_front(4)?;
+    copy.reserve_refs(rest.refs())?;
+    copy.append_buf(rest);
+    assert!(rt; has(&copy, b"abcabcd") && has(&buf, b"ef"));
+    copy.pop_back(5);
+    assert!(rt; has(&copy, b"ab"));
+    let mut room = [0; 1];
+    copy.copy_at(1, room.as_mut_slice());
+    assert_eq!(rt; room, *b"b");
+    copy.recycle_front(&mut pool, 1);
+    copy.recycle(&mut pool);
+    assert_eq!(rt; pool.kept(), 1);
+    buf.recycle(&mut pool);
+    assert_eq!(rt; pool.kept(), 2);
+    Ok(())
+}
+
+// Run with each allocation failing in turn: a refused call leaves the buffer as it was.
+#[test]
+fn refusals_change_nothing(rt: HostRuntime) -> Result<(), Fail> {
+    let mut pool = BlockPool::new(rt.alloc());
+    let mut buf = IoBuf::new(rt.alloc());
+    if buf.append_bytes(&mut pool, b"abc").is_err() {
+        assert!(rt; buf.is_empty());
+        return Ok(());
+    }
+    let shared = buf.share().is_ok();
+    assert!(rt; has(&buf, b"abc"), "shared: {shared}");
+    let reserved = buf.reserve_refs(9).is_ok();
+    assert!(rt; has(&buf, b"abc"), "reserved: {reserved}");
+    if buf
+        .append_bytes(&mut pool, [b'd'; 20_000].as_slice())
+        .is_err()
+    {
+        assert!(rt; has(&buf, b"abc"));
+        return Ok(());
+    }
+    assert_eq!(rt; (buf.len(), buf.refs()), (20_003, 4));
+    if buf.cut_front(8_193).is_err() {
+        assert_eq!(rt; (buf.len(), buf.refs()), (20_003, 4));
+    }
+    Ok(())
+}

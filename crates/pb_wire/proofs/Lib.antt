@@ -1,0 +1,8 @@
+pub mod Groups
+pub mod Keys
+pub mod Readings
+pub mod Varints
+pub mod FieldForms
+pub mod ReadingForms
+pub mod Shortest
+pub mod Messages

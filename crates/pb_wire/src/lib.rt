@@ -1,0 +1,17 @@
+//! The wire form of Protocol Buffers: varints, and the fields of a message with their places.
+//!
+//! The rules are those of the Protocol Buffers encoding
+//! (<https://protobuf.dev/programming-guides/encoding/>). Groups, its wire types 3 and 4, are faults.
+#![tactic(auto)]
+
+mod fault;
+mod message;
+#[cfg(test)]
+mod tests;
+mod values;
+mod varint;
+
+pub use fault::{NoMemory, WireFault};
+pub use message::Fields;
+pub use values::{Field, Value};
+pub use varint::{read_varint, write_varint};

@@ -1,0 +1,21 @@
+-- One append behind another.
+use Rattle.std.proofs.Common.{◌≡◌, ℕ, List, ◌++◌, length, take, Result, Ok, Err, refl, ap, sym, ◌∙◌, subst, append_assoc, arith}
+use Rattle.std.proofs.lemmas.List.{take_at, take-take, length-append}
+use Rattle.rpc_meta.specs.Writing.{Appends}
+
+-- what stood in front of a piece stays, where all of it stays
+pub kept : (first old new piece : List ℕ) → old ≡ first ++ piece → take (length old) new ≡ old → take (length first) new ≡ first
+kept first old new piece e h =
+    let long = ap length e ∙ length-append first piece in
+    sym (take-take (length first) (length old) new (omega (arith, long)))
+    ∙ ap (take (length first)) (h ∙ e)
+    ∙ take_at first piece (length first) refl
+
+-- a piece behind what was appended
+pub behind : {E : Type 0} (first old new piece more : List ℕ) (r : Result (Unit {0}) E) → old ≡ first ++ piece → Appends old more r new → Appends first (piece ++ more) r new
+behind first old new piece more (Ok u) e h = h ∙ ap (λ l. l ++ more) e ∙ append_assoc first piece more
+behind first old new piece more (Err x) e h = kept first old new piece e h
+
+-- two pieces are one
+pub joined : (first old new piece more : List ℕ) → old ≡ first ++ piece → new ≡ old ++ more → new ≡ first ++ (piece ++ more)
+joined first old new piece more e h = h ∙ ap (λ l. l ++ more) e ∙ append_assoc first piece more

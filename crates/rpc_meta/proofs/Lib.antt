@@ -1,0 +1,6 @@
+pub mod Gathering
+pub mod Merging
+pub mod Building
+pub mod Appending
+pub mod Pieces
+pub mod RoundTrip

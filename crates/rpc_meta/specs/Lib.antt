@@ -1,0 +1,6 @@
+pub mod Meaning
+pub mod Gathered
+pub mod Parts
+pub mod Steps
+pub mod Answer
+pub mod Writing

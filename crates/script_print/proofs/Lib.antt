@@ -1,0 +1,14 @@
+pub mod Spaced
+pub mod Gives
+pub mod Tokens
+pub mod PartLemmas
+pub mod Shapes
+pub mod Calls
+pub mod Formed
+pub mod Frames
+pub mod Placed
+pub mod PrintedLines
+pub mod Again
+pub mod Written
+pub mod DrawLemmas
+pub mod Generated

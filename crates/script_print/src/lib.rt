@@ -1,0 +1,15 @@
+//! Scripts printed, and the scripts that are drawn from a seed.
+#![tactic(auto)]
+
+mod draws;
+mod generator;
+mod lines;
+mod output;
+mod parts;
+mod print;
+mod script_text;
+#[cfg(test)]
+mod tests;
+
+pub use generator::generate;
+pub use print::{PrintFault, print_script};

@@ -1,0 +1,49 @@
+ghost use Rattle.std.specs.Prelude.{◌≡◌, IsErrOf, OnOk};
+ghost use Rattle.std.specs.Io.KnownBytes.{Appends};
+ghost use Rattle.brpc_model.specs.ScriptText.{script_text};
+ghost use Rattle.sock_io.specs.Causes.{Rose};
+ghost use Rattle.script_print.specs.Output.{AppendsFront};
+ghost use Rattle.script_print.specs.ReadBack.{IsScript, IsReadBack};
+
+use crate::output::write_all;
+use crate::script_text::text_of;
+use script_items::Script;
+use sock_io::Sink;
+use std::alloc::Global;
+
+/// Why a script wasn't printed whole.
+#[derive(Clone, Copy, Debug, PartialEq, Eq)]
+pub enum PrintFault {
+    /// The sink failed, and has taken a front of the text.
+    Sink,
+    /// Memory ran out before anything was written.
+    NoMemory,
+}
+
+/// Prints a script, a line for each item: the sizes that differ from their defaults in the order
+/// `slots`, `requests`, `first`; then the setup and the clients; then `sched` and the schedule,
+/// where it has lines. Options of an `open` stand in the order piece, again, fail, serve, end, and
+/// `att` before `retry`, each where it isn't the default; hexadecimal is in lower case.
+///
+/// What is printed of a script that was read is read again as the same script. `Sink` comes only
+/// where the sink failed, and `NoMemory` only before anything was written. The rules of the text
+/// are this project's own.
+pub fn print_script<K: Sink>(alloc: Global, script: &Script, out: &mut K) -> Result<(), PrintFault>
+    ensures whole { OnOk result (
+        Appends (K.contents out.old) (K.contents out.new) (script_text script.now)) }
+    ensures kept { OnOk result (K.faults out.new ≡ K.faults out.old) }
+    ensures failed { IsErrOf result PrintFault.Sink →
+        Rose (K.faults out.old) (K.faults out.new) }
+    ensures front { IsErrOf result PrintFault.Sink →
+        AppendsFront (K.contents out.old) (K.contents out.new) (script_text script.now) }
+    ensures untouched { IsErrOf result PrintFault.NoMemory → out.new ≡ out.old }
+    ensures again { IsScript script.now → IsReadBack script.now }
+{
+    let Ok(text) = text_of(alloc, script) else {
+        return Err(PrintFault::NoMemory);
+    };
+    match write_all(out, text.as_slice()) {
+        Ok(()) => Ok(()),
+        Err(_) => Err(PrintFault::Sink),
+    }
+}

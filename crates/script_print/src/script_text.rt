@@ -1,0 +1,167 @@
+ghost use Rattle.std.specs.Prelude.{◌≡◌, [], ◌++◌, filter, map, IfOk, OnOk};
+ghost use Rattle.std.specs.List.{list_any};
+ghost use Rattle.brpc_model.specs.Items.{is_turn};
+ghost use Rattle.brpc_model.specs.Operations.{slots, requests, first_version};
+ghost use Rattle.brpc_model.specs.ScriptText.{script_text};
+ghost use Rattle.script_items.specs.Meaning.{item};
+ghost use Rattle.script_print.specs.PrintedParts.{is_body, line, line_where, lines_text, size_items, body_items, schedule_items};
+
+use crate::lines::push_line;
+use script_items::{Line, Script};
+use std::alloc::{AllocError, Global};
+
+/// The number of socket slots where a script gives none.
+const SLOTS: u32 = 31;
+
+/// The number of requests where a script gives none.
+const REQUESTS: u32 = 4_096;
+
+/// The first version of each slot where a script gives none.
+const FIRST: u32 = 0;
+
+/// The number of slots that the lines give, or its default.
+fn slots_of(lines: &[Line]) -> u32
+    ensures { result ≡ slots (map item lines.now) }
+{
+    for line in lines {
+        if let Line::Slots(count) = line {
+            return *count;
+        }
+    }
+    SLOTS
+}
+
+/// The number of requests that the lines give, or its default.
+fn requests_of(lines: &[Line]) -> u32
+    ensures { result ≡ requests (map item lines.now) }
+{
+    for line in lines {
+        if let Line::Requests(count) = line {
+            return *count;
+        }
+    }
+    REQUESTS
+}
+
+/// The first version that the lines give, or its default.
+fn first_of(lines: &[Line]) -> u32
+    ensures { result ≡ first_version (map item lines.now) }
+{
+    for line in lines {
+        if let Line::First(version) = line {
+            return *version;
+        }
+    }
+    FIRST
+}
+
+/// Whether the line is an operation or begins a client.
+fn is_body(line: &Line) -> bool
+    ensures { result ≡ is_body (item line.now) }
+{
+    !matches!(
+        line,
+        Line::Slots(_)
+            | Line::Requests(_)
+            | Line::First(_)
+            | Line::Sched
+            | Line::Tick { .. }
+            | Line::To { .. }
+    )
+}
+
+/// Whether the line is one of the schedule.
+fn is_turn(line: &Line) -> bool
+    ensures { result ≡ is_turn (item line.now) }
+{
+    matches!(line, Line::Tick { .. } | Line::To { .. })
+}
+
+/// Appends a line with its end, where it is wanted.
+fn push_where(
+    alloc: Global,
+    text: &mut Vec<u8>,
+    line: &Line,
+    wanted: bool,
+) -> Result<(), AllocError>
+    ensures { OnOk result (
+        text.new.items ≡ text.old.items ++ line_where wanted (item line.now)) }
+{
+    if !wanted {
+        return Ok(());
+    }
+    push_line(alloc, text, line)?;
+    text.extend_from_slice(b"\n")
+}
+
+/// Appends the lines of the sizes that differ from their defaults.
+fn push_sizes(alloc: Global, text: &mut Vec<u8>, lines: &[Line]) -> Result<(), AllocError>
+    ensures { OnOk result (
+        text.new.items ≡ text.old.items ++ lines_text (size_items (map item lines.now))) }
+{
+    let slots = slots_of(lines);
+    let requests = requests_of(lines);
+    let first = first_of(lines);
+    push_where(alloc, text, &Line::Slots(slots), slots != SLOTS)?;
+    push_where(alloc, text, &Line::Requests(requests), requests != REQUESTS)?;
+    push_where(alloc, text, &Line::First(first), first != FIRST)
+}
+
+/// Appends the setup and the clients.
+fn push_body(alloc: Global, text: &mut Vec<u8>, lines: &[Line]) -> Result<(), AllocError>
+    ensures { OnOk result (
+        text.new.items ≡ text.old.items ++ lines_text (body_items (map item lines.now))) }
+{
+    for line in lines {
+        push_where(alloc, text, line, is_body(line))?;
+    }
+    Ok(())
+}
+
+/// Appends the lines of the schedule.
+fn push_turns(alloc: Global, text: &mut Vec<u8>, lines: &[Line]) -> Result<(), AllocError>
+    ensures { OnOk result (
+        text.new.items ≡ text.old.items ++ lines_text (filter is_turn (map item lines.now))) }
+{
+    for line in lines {
+        push_where(alloc, text, line, is_turn(line))?;
+    }
+    Ok(())
+}
+
+/// Whether the lines have a schedule.
+fn has_turns(lines: &[Line]) -> bool
+    ensures { result ≡ list_any is_turn (map item lines.now) }
+{
+    for line in lines {
+        if is_turn(line) {
+            return true;
+        }
+    }
+    false
+}
+
+/// Appends the schedule behind its `sched`, where it has lines.
+fn push_schedule(alloc: Global, text: &mut Vec<u8>, lines: &[Line]) -> Result<(), AllocError>
+    ensures { OnOk result (
+        text.new.items ≡ text.old.items ++ lines_text (schedule_items (map item lines.now))) }
+{
+    if !has_turns(lines) {
+        return Ok(());
+    }
+    text.extend_from_slice(b"sched\n")?;
+    push_turns(alloc, text, lines)
+}
+
+/// The text of a script: the sizes that differ from their defaults, the setup and the clients,
+/// and the schedule where it has lines.
+pub fn text_of(alloc: Global, script: &Script) -> Result<Vec<u8>, AllocError>
+    ensures { IfOk result (λ text. text.items ≡ script_text script.now) }
+{
+    let lines = script.lines();
+    let mut text = Vec::new(alloc);
+    push_sizes(alloc, &mut text, lines)?;
+    push_body(alloc, &mut text, lines)?;
+    push_schedule(alloc, &mut text, lines)?;
+    Ok(text)
+}
