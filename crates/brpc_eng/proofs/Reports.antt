@@ -76,7 +76,7 @@ fits_over script name shape text o0 o1 o2 inn built begins fresh prompt run fini
 -- with what the calls say of the values that they were handed
 pub ran_linked : (script : List Item) (name name' : List ℕ) (shape : Shape) (text text' : List ℕ) (number : ℕ) (back0 back1 ends : List LinkEnd) (o0 o1 o2 : OutState) (inn : InState) (prompt : Bool) (out : answer.Output) (faults : answer.Faults) (status : ℕ) →
     is_built script ≡ true → BeginsWith script name shape → number ≡ 0 → back0 ≡ [] → back1 ≡ back0 → IsFresh o0 inn number → (prompt ≡ true → o0.prompt ≡ true) →
-    name' ≡ name → RanAndReported name' (sendings script) text o0 o1 → FinishStep o1 o2 → ends ≡ back1 ++ end_of o2 inn ∷ [] → text' ≡ text → answer.ReportWritten out text' status →
+    name' ≡ name → RanAndReported name' (sendings script) text o0 o1 → FinishStep o1 o2 → ends ≡ back1 ++ end_of o2 inn ∷ [] → text' ≡ text → answer.TextWritten out text' status →
     answer.Ran script out (record { prompt = prompt; ends = ends; faults = faults }) status
 ran_linked script name name' shape text text' number back0 back1 ends o0 o1 o2 inn prompt out faults status built begins n b c fresh ready named run finish back t wrote =
     let F : ℕ → Type 0 = λ x. IsFresh o0 inn x in
@@ -89,7 +89,7 @@ ran_linked script name name' shape text text' number back0 back1 ends o0 o1 o2 i
 -- ## Without a link
 
 pub ran_unlinked : (script : List Item) (outcomes : List Outcome) (text text' : List ℕ) (out : answer.Output) (links : answer.Links) (status : ℕ) →
-    is_built script ≡ true → begins_with_open script ≡ false → outcomes ≡ replicate (length (sendings script)) Unopened → text ≡ unlinked_text outcomes → text' ≡ text → answer.ReportWritten out text' status →
+    is_built script ≡ true → begins_with_open script ≡ false → outcomes ≡ replicate (length (sendings script)) Unopened → text ≡ unlinked_text outcomes → text' ≡ text → answer.TextWritten out text' status →
     links.ends ≡ [] → answer.Ran script out links status
 ran_unlinked script outcomes text text' out links status built other o t t' wrote ends =
     let sends = sendings script in

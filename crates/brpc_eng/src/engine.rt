@@ -3,6 +3,7 @@ ghost use Rattle.brpc_eng.specs.Answers.{Answers};
 ghost use Rattle.brpc_eng.specs.Status.{number_of};
 
 use crate::commands::{Command, read_command};
+use crate::generated::print_generated;
 use crate::replay::{NOT_BUILT, replay, write_answer};
 use crate::status::Status;
 use sock_io::{Gate, Linker, Sink, Source};
@@ -70,6 +71,7 @@ fn answer<S: Source, K: Sink, L: Linker>(
         }
         Some(command) => match command {
             Command::Replay => replay(alloc, source, out, links),
+            Command::Gen(draw) => print_generated(alloc, &draw, out),
             _ => {
                 write_answer(out, NOT_BUILT);
                 Status::NotBuilt
