@@ -7,11 +7,11 @@ use Rattle.brpc_model.specs.Items.{Item}
 use Rattle.brpc_model.specs.Script.{script_of}
 use Rattle.brpc_eng.specs.Built.{is_built}
 use Rattle.brpc_eng.specs.Streams.{script_limit, IsAtEnd}
-use Rattle.brpc_eng.specs.Answers.{HaveRisen, Input, Output, Links, ReportWritten, Ran, Reported, MemoryRanOut, OpenFailed, FaultWritten, Replayed, RanScript, FaultyScript, SourceFailed, TooLong, NoMemory, ScriptNotBuilt, Answers, NoCommand, CommandNotBuilt, Replays}
+use Rattle.brpc_eng.specs.Answers.{HaveRisen, Input, Output, Links, TextWritten, Ran, Reported, MemoryRanOut, OpenFailed, FaultWritten, Replayed, RanScript, FaultyScript, SourceFailed, TooLong, NoMemory, ScriptNotBuilt, Answers, NoCommand, CommandNotBuilt, Generated, Generates, Replays, is_built_command}
 
 -- ## Status 2
 
-not_two_written : (out : Output) (text : List ℕ) (status : ℕ) → ReportWritten out text status → status ≢ 2
+not_two_written : (out : Output) (text : List ℕ) (status : ℕ) → TextWritten out text status → status ≢ 2
 not_two_written out text status (inl w) = λ e. absurd (omega (arith, e, w.0))
 not_two_written out text status (inr w) = λ e. absurd (omega (arith, e, w.0))
 
@@ -32,11 +32,16 @@ not_two input out links bytes status (TooLong s long back wrote) = λ e. absurd 
 not_two input out links bytes status (NoMemory s back wrote) = λ e. absurd (omega (arith, e, s))
 not_two input out links bytes status (ScriptNotBuilt s end script is built back wrote) = λ e. absurd (omega (arith, e, s))
 
+not_two_made : (seed clients count : ℕ) (out : Output) (status : ℕ) → Generated seed clients count out status → status ≢ 2
+not_two_made seed clients count out status (inl w) = not_two_written out _ status w
+not_two_made seed clients count out status (inr w) = λ e. absurd (omega (arith, e, w.0))
+
 -- the words ask for no command exactly where the status is 2
 pub usage_exactly : (words : List (List ℕ)) (input : Input) (out : Output) (links : Links) (status : ℕ) → Answers words input out links status →
     (status ≡ 2 → command_of words ≡ None) × (command_of words ≡ None → status ≡ 2)
 usage_exactly words input out links status (NoCommand s none same back wrote) = (λ e. none, λ e. s)
 usage_exactly words input out links status (CommandNotBuilt s command is other same back wrote) = (λ e. absurd (omega (arith, e, s)), λ e. absurd (cc))
+usage_exactly words input out links status (Generates seed clients count is same back made) = (λ e. absurd (not_two_made seed clients count out status made e), λ e. absurd (cc))
 usage_exactly words input out links status (Replays is replayed) = (λ e. absurd (not_two input out links replayed.bytes status replayed.replayed e), λ e. absurd (cc))
 
 -- ## A report, or want of memory
@@ -56,7 +61,7 @@ pub record IsCalm (input : Input) (out : Output) (links : Links) : Type 0 where
   pub sink : HaveRisen out.faults → ⊥
   pub linker : HaveRisen links.faults → ⊥
 
-calm_written : (out : Output) (text : List ℕ) (status : ℕ) → (HaveRisen out.faults → ⊥) → ReportWritten out text status → status ≡ 0
+calm_written : (out : Output) (text : List ℕ) (status : ℕ) → (HaveRisen out.faults → ⊥) → TextWritten out text status → status ≡ 0
 calm_written out text status calm (inl w) = w.0
 calm_written out text status calm (inr w) = absurd (calm w.1.0)
 
@@ -86,7 +91,9 @@ pub report_comes : (script : List Item) (given : List ℕ) (words : List (List �
 report_comes script given words input out links status (NoCommand s none same back wrote) command told few is built calm = absurd (cc)
 report_comes script given words input out links status (CommandNotBuilt s other named differs same back wrote) command told few is built calm =
     let one : Some other ≡ Some Replay = sym named ∙ command in
-    let alike : other ≡ Replay = cc in absurd (differs alike)
+    let alike : other ≡ Replay = cc in
+    let never : true ≡ false = sym (ap is_built_command alike) ∙ differs in absurd (cc)
+report_comes script given words input out links status (Generates seed clients count named same back made) command told few is built calm = absurd (cc)
 report_comes script given words input out links status (Replays named replayed) command told few is built calm =
     let P : Option (List ℕ) → Type 0 = λ x. Consumes x input.left replayed.bytes in
     calm_replayed script given input out links replayed.bytes status calm (subst P told replayed.came) few is built replayed.replayed

@@ -1,5 +1,5 @@
 -- A script that was printed in part.
-use Rattle.std.proofs.Common.{◌≡◌, Err, Result, refl, subst, sym}
+use Rattle.std.proofs.Common.{◌≡◌, Err, refl, subst, sym}
 use Rattle.std.specs.Result.{IsErrOf}
 use Rattle.script_print.specs.declared.print.PrintFault.{PrintFault}
 use Rattle.script_print.specs.declared.print.PrintFault.TheVariants.{Sink}

@@ -1,5 +1,5 @@
 -- The answers of the program: the status, its cause, and what is written with it.
-use Rattle.std.specs.Prelude.{ℕ, ◌≡◌, ◌≢◌, ◌<◌, ◌≤◌, ◌+◌, ◌⊎◌, ◌++◌, Bool, true, false, List, [], length, codes, decimal, Option, Some, None, Ok, Err}
+use Rattle.std.specs.Prelude.{ℕ, ◌≡◌, ◌<◌, ◌≤◌, ◌+◌, ◌⊎◌, ◌++◌, Bool, true, false, List, [], length, codes, decimal, Option, Some, None, Ok, Err}
 use Rattle.std.specs.Io.KnownBytes.{Appends, Consumes}
 use Rattle.brpc_model.specs.Commands.{Command, Replay, Gen, command_of, usage_text}
 use Rattle.brpc_model.specs.ScriptText.{script_text}

@@ -16,7 +16,7 @@ const USAGE: &[u8] =
 ///
 /// | status | comes |
 /// | --- | --- |
-/// | 0 | where the command was done and its input was read to its end |
+/// | 0 | where the command was done; the input of `replay` was read to its end |
 /// | 2 | exactly where the words ask for no command; the usage line is written |
 /// | 3 | exactly where the whole input is no script; the first fault is written |
 /// | 4 | only where the source failed |

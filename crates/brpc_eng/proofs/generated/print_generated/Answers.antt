@@ -1,4 +1,4 @@
-use Rattle.std.proofs.Common.{◌≡◌, ◌∙◌, inl, inr, refl, ap, subst, List}
+use Rattle.std.proofs.Common.{◌∙◌, inl, inr, refl, ap, subst, List}
 use Rattle.brpc_model.specs.Items.{Item}
 use Rattle.brpc_model.specs.Drawn.{generated}
 use Rattle.brpc_model.specs.ScriptText.{script_text}
