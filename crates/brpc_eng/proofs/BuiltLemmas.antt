@@ -1,9 +1,9 @@
 -- What the scripts that are built have: their operations, links and sizes.
-use Rattle.std.proofs.Common.{◌≡◌, ℕ, suc, ◌≤◌, ◌+◌, Bool, true, false, ◌&&◌, List, [], ◌∷◌, length, map, filter_map, count_by, if◌then◌else◌, refl, ap, sym, subst, arith}
+use Rattle.std.proofs.Common.{◌≡◌, ℕ, suc, ◌≤◌, Bool, true, false, ◌&&◌, List, [], ◌∷◌, length, map, filter_map, count_by, if◌then◌else◌, refl, ap, sym, subst, arith}
 use Rattle.std.proofs.lemmas.List.Sums.{sum_by-cons}
 use Rattle.std.specs.List.{list_all}
-use Rattle.brpc_model.specs.Items.{Item, Open, Client, Send, Shape, is_operation, opened_name}
-use Rattle.brpc_model.specs.Operations.{operations, operations_from, link_names, slots, slots_in, first_version, first_in}
+use Rattle.brpc_model.specs.Items.{Item, Open, Client, Send, Shape, is_operation}
+use Rattle.brpc_model.specs.Operations.{operations, link_names, slots_in, first_in}
 use Rattle.brpc_eng.specs.Built.{is_send, is_plain, is_one_client, is_built, begins_with_open}
 use Rattle.brpc_eng.specs.Sending.{Sending, send_item, sendings}
 use Rattle.brpc_eng.proofs.Labels.{ops_of, operations_sends, names_sends}

@@ -1,25 +1,25 @@
 -- A run over one link, as it is reported, fits.
-use Rattle.std.proofs.Common.{◌≡◌, ◌≢◌, ℕ, zero, suc, ◌≤◌, ◌<◌, ◌+◌, ◌-◌, ◌*◌, ◌/◌, ◌^◌, ◌⊎◌, inl, inr, Bool, true, false, List, [], ◌∷◌, ◌++◌, length, take, drop, map, filter, flat_map, slice_get, Option, Some, None, IfSome, refl, ap, sym, ◌∙◌, subst, append-nil, arith, lit<, lit≤, nat_lt, bytes_eq, min, length-take, Contains, count_by, zip}
+use Rattle.std.proofs.Common.{◌≡◌, ◌≢◌, ℕ, zero, suc, ◌≤◌, ◌<◌, ◌+◌, ◌-◌, ◌*◌, ◌/◌, ◌^◌, ◌⊎◌, inl, inr, Bool, true, false, List, [], ◌∷◌, ◌++◌, length, take, drop, map, filter, flat_map, slice_get, Option, Some, None, IfSome, refl, ap, sym, ◌∙◌, subst, append-nil, arith, lit<, nat_lt, bytes_eq, min, length-take, count_by, zip}
 use Rattle.std.proofs.lemmas.List.{drop-take}
 use Rattle.std.proofs.lemmas.Slice.Eq.{bytes_eq-Decides}
 use Rattle.std.proofs.lemmas.Grind.{common_steps}
 use Rattle.std.specs.List.{AllByRecursion}
 use Rattle.sock_words.specs.declared.outcome.Outcome.{Outcome}
-use Rattle.sock_words.specs.declared.outcome.Outcome.TheVariants.{Opened, Unopened, Gone, Placed, Dropped, Failed}
+use Rattle.sock_words.specs.declared.outcome.Outcome.TheVariants.{Opened, Unopened, Placed, Failed}
 use Rattle.brpc_model.specs.Items.{Item, Open, Send, Call, Expire, Shape, CallLine, sought_name}
 use Rattle.brpc_model.specs.Operations.{Operation, Label, operations, link_names, name_of, slots, first_version}
 use Rattle.brpc_model.specs.Messages.{message}
 use Rattle.brpc_model.specs.Link.{LinkEnd}
 use Rattle.brpc_model.specs.Report.{LinkLine, Report}
-use Rattle.brpc_model.specs.Run.{Run, Story, nothing_late, IsOperation, HasOutcome, StandsAt}
+use Rattle.brpc_model.specs.Run.{Run, Story, nothing_late, StandsAt}
 use Rattle.brpc_model.specs.Order.{EachBefore, IsCut, InOwnOrder, TookInOrder}
-use Rattle.brpc_model.specs.Causes.{FailingBy, PutFailed, Failing, MayFindNone}
+use Rattle.brpc_model.specs.Causes.{PutFailed, MayFindNone}
 use Rattle.brpc_model.specs.Attempts.{attempt}
 use Rattle.brpc_model.specs.Outcomes.{SendCause, Cause}
 use Rattle.brpc_model.specs.Fits.{Shows, IsMade, FitsLink, FitsOnce, FitsRun, is_fail_of, count_outcomes}
-use Rattle.brpc_model.specs.Complete.{IsUntroubled, IsComplete, SendDone, Completeness}
-use Rattle.brpc_eng.specs.Sending.{Sending, send_item, goes_to, sends_to, bytes_of}
-use Rattle.brpc_eng.specs.Run.{recycled, verdict, outcomes_from}
+use Rattle.brpc_model.specs.Complete.{SendDone, Completeness}
+use Rattle.brpc_eng.specs.Sending.{Sending, goes_to, sends_to, bytes_of}
+use Rattle.brpc_eng.specs.Run.{verdict, outcomes_from}
 use Rattle.brpc_eng.specs.ReportText.{is_placed}
 use Rattle.brpc_eng.proofs.SendLemmas.{outcomes_other, outcomes_match, verdict_placed, verdict_dropped, verdict_gone}
 use Rattle.brpc_eng.proofs.Labels.{ops_of, send_op, first_label, labels, linked, Located, Matches, matches, Says, says, shown_at, rising, before_map, placed_count, by_goes, some_is, length-ops_of, length-outcomes_from}

@@ -1,5 +1,5 @@
 -- Known bytes that grow piece by piece.
-use Rattle.std.proofs.Common.{◌≡◌, ℕ, ◌≤◌, ◌+◌, List, [], ◌∷◌, ◌++◌, length, take, drop, Option, Some, None, refl, ap, sym, ◌∙◌, append_assoc, Result, Ok, Err, IfOk, OnOk, IfSome, ◌<◌, arith, length-append, length-take, length-drop}
+use Rattle.std.proofs.Common.{◌≡◌, ℕ, ◌≤◌, ◌+◌, List, ◌++◌, length, take, drop, Option, Some, None, refl, ap, sym, ◌∙◌, append_assoc, Result, Ok, Err, IfOk, OnOk, IfSome, ◌<◌, arith, length-append, length-take, length-drop}
 use Rattle.std.specs.Io.KnownBytes.{append_known, Appends, Consumes}
 use Rattle.std.proofs.Math.Seq.{take-add}
 use Rattle.std.proofs.lemmas.List.{take-append-drop, take-take}

@@ -1,11 +1,11 @@
 -- The labels that a link accepted, by the sends to its name.
-use Rattle.std.proofs.Common.{◌≡◌, ℕ, zero, suc, ◌≤◌, ◌<◌, ◌+◌, ◌-◌, ◌⊎◌, inl, inr, Bool, true, false, List, [], ◌∷◌, ◌++◌, length, take, map, filter, filter_map, slice_get, Option, Some, None, refl, ap, sym, ◌∙◌, subst, arith, nat_lt, nat_le, min, if◌then◌else◌}
+use Rattle.std.proofs.Common.{◌≡◌, ℕ, zero, suc, ◌≤◌, ◌<◌, ◌+◌, ◌-◌, ◌⊎◌, inl, inr, true, false, List, [], ◌∷◌, length, take, map, filter, filter_map, slice_get, Some, refl, ap, sym, ◌∙◌, subst, arith, nat_lt, nat_le, min, if◌then◌else◌}
 use Rattle.std.proofs.lemmas.Slice.Eq.{bytes_eq-Decides}
 use Rattle.std.proofs.lemmas.Grind.{common_steps}
 use Rattle.std.specs.List.{AllByRecursion}
 use Rattle.sock_words.specs.declared.outcome.Outcome.{Outcome}
 use Rattle.sock_words.specs.declared.outcome.Outcome.TheVariants.{Opened, Unopened}
-use Rattle.brpc_model.specs.Items.{Item, opened_name}
+use Rattle.brpc_model.specs.Items.{opened_name}
 use Rattle.brpc_model.specs.Operations.{Operation, Label, operations_from}
 use Rattle.brpc_model.specs.Report.{Report}
 use Rattle.brpc_model.specs.Order.{EachBefore}

@@ -10,3 +10,5 @@ pub mod ScriptLemmas
 pub mod Reports
 pub mod NumberLemmas
 pub mod Replays
+pub mod Exactly
+pub mod GeneratedLemmas

@@ -6,7 +6,7 @@ use Rattle.sock_words.specs.declared.outcome.Outcome.{Outcome}
 use Rattle.sock_words.specs.declared.outcome.Outcome.TheVariants.{Unopened}
 use Rattle.script_items.specs.declared.line.SendLine.{SendLine}
 use Rattle.script_items.specs.declared.line.Line.{Line}
-use Rattle.script_items.specs.declared.line.Line.TheVariants.{Slots, Requests, First, Open, Client, Send, Call, Expire, Join, Fail, Hold, Drop, Sched, Tick}
+use Rattle.script_items.specs.declared.line.Line.TheVariants.{Send}
 use Rattle.script_items.specs.Meaning.{item}
 use Rattle.sock_io.specs.Link.{OutState, SameOut}
 use Rattle.brpc_eng.specs.Sending.{Sending, sent_by, sendings, goes_to}

@@ -1,14 +1,15 @@
 -- How `replay` ends, by what its calls say.
-use Rattle.std.proofs.Common.{◌≡◌, ◌≢◌, ℕ, ◌≤◌, ◌<◌, ◌+◌, ◌⊎◌, inl, inr, Bool, true, false, List, [], length, Option, Some, None, Vec, Result, Ok, Err, refl, ap, sym, ◌∙◌, subst, arith, option_map}
+use Rattle.std.proofs.Common.{◌≡◌, ℕ, ◌≤◌, inl, Bool, true, false, List, [], length, Some, Vec, Ok, Err, refl, ap, sym, ◌∙◌, subst, arith, option_map}
 use Rattle.std.specs.declared.alloc.Global.{Global}
 use Rattle.brpc_model.specs.Items.{Item}
 use Rattle.brpc_model.specs.Script.{script_of}
 use Rattle.brpc_model.specs.Commands as model
 use Rattle.brpc_eng.specs.declared.commands.Command.{Command}
+use Rattle.brpc_eng.specs.declared.draw.Draw.{Draw}
 use Rattle.brpc_eng.specs.declared.commands.Command.TheVariants.{Replay, Sim, Run, Gen, Load, Frames, Serve}
 use Rattle.brpc_eng.specs.Built.{is_built, IsWithinLimits}
 use Rattle.brpc_eng.specs.Command.{meaning}
-use Rattle.brpc_eng.specs.Streams.{script_limit, IsAtEnd, ReadWhole}
+use Rattle.brpc_eng.specs.Streams.{script_limit, ReadWhole}
 use Rattle.brpc_eng.specs.Answers as answer
 use Rattle.brpc_eng.proofs.ScriptLemmas.{within_limits}
 
@@ -55,16 +56,22 @@ replays_faulty input out links status line kind bytes seen read whole s e back w
 
 -- ## The words
 
-not_replay : (command : Command) → (command ≡ Replay → ⊥) → meaning command ≢ model.Replay
-not_replay Replay h = λ e. h refl
-not_replay (Sim seed) h = λ e. absurd (cc)
-not_replay (Run port) h = λ e. absurd (cc)
-not_replay (Gen draw) h = λ e. absurd (cc)
-not_replay (Load draw) h = λ e. absurd (cc)
-not_replay Frames h = λ e. absurd (cc)
-not_replay (Serve port connections) h = λ e. absurd (cc)
+not_built : (command : Command) → (command ≡ Replay → ⊥) → ((draw : Draw) → command ≡ Gen draw → ⊥) → answer.is_built_command (meaning command) ≡ false
+not_built Replay h k = absurd (h refl)
+not_built (Sim seed) h k = refl
+not_built (Run port) h k = refl
+not_built (Gen draw) h k = absurd (k draw refl)
+not_built (Load draw) h k = refl
+not_built Frames h k = refl
+not_built (Serve port connections) h k = refl
 
 -- a command that isn't built
-pub other_command : (words : List (List ℕ)) (input : answer.Input) (out : answer.Output) (links : answer.Links) (command : Command) → option_map meaning (Some command) ≡ model.command_of words → (command ≡ Replay → ⊥) →
+pub other_command : (words : List (List ℕ)) (input : answer.Input) (out : answer.Output) (links : answer.Links) (command : Command) → option_map meaning (Some command) ≡ model.command_of words → (command ≡ Replay → ⊥) → ((draw : Draw) → command ≡ Gen draw → ⊥) →
     input.left ≡ input.given → links.ends ≡ [] → answer.Wrote out answer.not_built_text → answer.Answers words input out links 10
-other_command words input out links command e other same back wrote = answer.CommandNotBuilt refl (meaning command) (sym e) (not_replay command other) same back wrote
+other_command words input out links command e other drawn same back wrote = answer.CommandNotBuilt refl (meaning command) (sym e) (not_built command other drawn) same back wrote
+
+-- a drawn script
+pub drawn_command : (words : List (List ℕ)) (input : answer.Input) (out : answer.Output) (links : answer.Links) (status : ℕ) (command : Command) (draw : Draw) → option_map meaning (Some command) ≡ model.command_of words → command ≡ Gen draw →
+    input.left ≡ input.given → links.ends ≡ [] → answer.Generated draw.seed draw.clients draw.operations out status → answer.Answers words input out links status
+drawn_command words input out links status command draw e is same back made =
+    answer.Generates draw.seed draw.clients draw.operations (sym e ∙ ap (λ c. option_map meaning (Some c)) is) same back made

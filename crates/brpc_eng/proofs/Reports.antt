@@ -1,5 +1,5 @@
 -- What was written is a report that fits.
-use Rattle.std.proofs.Common.{◌≡◌, ◌≢◌, ℕ, ◌≤◌, ◌<◌, ◌+◌, Bool, true, false, List, [], ◌∷◌, ◌++◌, length, take, drop, map, flat_map, replicate, Option, Some, None, IfSome, refl, ap, sym, ◌∙◌, subst, arith}
+use Rattle.std.proofs.Common.{◌≡◌, ℕ, Bool, true, false, List, [], ◌∷◌, ◌++◌, length, take, flat_map, replicate, Option, Some, None, IfSome, ap, sym, ◌∙◌, subst, arith}
 use Rattle.std.specs.Io.KnownBytes.{append_known}
 use Rattle.std.proofs.lemmas.List.{length-replicate}
 use Rattle.sock_words.specs.declared.outcome.Outcome.{Outcome}
@@ -10,14 +10,14 @@ use Rattle.brpc_model.specs.Report.{report_text}
 use Rattle.brpc_model.specs.Run.{nothing_late}
 use Rattle.brpc_model.specs.Complete.{FitsWhole}
 use Rattle.sock_io.specs.Link.{OutState, InState, FinishStep, IsFresh, end_of}
-use Rattle.brpc_eng.specs.Built.{is_built, is_one_client, begins_with_open}
+use Rattle.brpc_eng.specs.Built.{is_built, begins_with_open}
 use Rattle.brpc_eng.specs.Sending.{Sending, sendings, sends_to, bytes_of}
-use Rattle.brpc_eng.specs.Run.{outcomes_from, Ran, RanAndReported}
+use Rattle.brpc_eng.specs.Run.{outcomes_from, RanAndReported}
 use Rattle.brpc_eng.specs.ReportText.{linked_text, unlinked_text}
 use Rattle.brpc_eng.specs.Answers as answer
 use Rattle.brpc_eng.proofs.Labels.{linked, unlinked, length-outcomes_from}
 use Rattle.brpc_eng.proofs.Fitting.{OneLink, OneEnd, no_story, fits_linked, complete_linked}
-use Rattle.brpc_eng.proofs.BuiltLemmas.{one_link, NoLink, no_link, not_open}
+use Rattle.brpc_eng.proofs.BuiltLemmas.{one_link, no_link, not_open}
 use Rattle.brpc_eng.proofs.Texts.{linked_text_is, unlinked_text_is}
 use Rattle.brpc_eng.proofs.Unlinked.{all_unopened, fits_unlinked, complete_unlinked}
 
@@ -76,7 +76,7 @@ fits_over script name shape text o0 o1 o2 inn built begins fresh prompt run fini
 -- with what the calls say of the values that they were handed
 pub ran_linked : (script : List Item) (name name' : List ℕ) (shape : Shape) (text text' : List ℕ) (number : ℕ) (back0 back1 ends : List LinkEnd) (o0 o1 o2 : OutState) (inn : InState) (prompt : Bool) (out : answer.Output) (faults : answer.Faults) (status : ℕ) →
     is_built script ≡ true → BeginsWith script name shape → number ≡ 0 → back0 ≡ [] → back1 ≡ back0 → IsFresh o0 inn number → (prompt ≡ true → o0.prompt ≡ true) →
-    name' ≡ name → RanAndReported name' (sendings script) text o0 o1 → FinishStep o1 o2 → ends ≡ back1 ++ end_of o2 inn ∷ [] → text' ≡ text → answer.ReportWritten out text' status →
+    name' ≡ name → RanAndReported name' (sendings script) text o0 o1 → FinishStep o1 o2 → ends ≡ back1 ++ end_of o2 inn ∷ [] → text' ≡ text → answer.TextWritten out text' status →
     answer.Ran script out (record { prompt = prompt; ends = ends; faults = faults }) status
 ran_linked script name name' shape text text' number back0 back1 ends o0 o1 o2 inn prompt out faults status built begins n b c fresh ready named run finish back t wrote =
     let F : ℕ → Type 0 = λ x. IsFresh o0 inn x in
@@ -89,7 +89,7 @@ ran_linked script name name' shape text text' number back0 back1 ends o0 o1 o2 i
 -- ## Without a link
 
 pub ran_unlinked : (script : List Item) (outcomes : List Outcome) (text text' : List ℕ) (out : answer.Output) (links : answer.Links) (status : ℕ) →
-    is_built script ≡ true → begins_with_open script ≡ false → outcomes ≡ replicate (length (sendings script)) Unopened → text ≡ unlinked_text outcomes → text' ≡ text → answer.ReportWritten out text' status →
+    is_built script ≡ true → begins_with_open script ≡ false → outcomes ≡ replicate (length (sendings script)) Unopened → text ≡ unlinked_text outcomes → text' ≡ text → answer.TextWritten out text' status →
     links.ends ≡ [] → answer.Ran script out links status
 ran_unlinked script outcomes text text' out links status built other o t t' wrote ends =
     let sends = sendings script in

@@ -1,11 +1,11 @@
 -- The sends so far, and one more.
-use Rattle.std.proofs.Common.{◌≡◌, ℕ, ◌≤◌, ◌<◌, ◌+◌, ◌*◌, ◌^◌, Bool, true, false, List, [], ◌∷◌, ◌++◌, length, take, drop, map, filter, flat_map, Option, Some, None, refl, ap, sym, ◌∙◌, append_assoc, arith, rules, cond, nat_lt, ◌==◌, length-append, append-nil, subst, get_or, suc, add-one}
+use Rattle.std.proofs.Common.{◌≡◌, ℕ, ◌≤◌, ◌<◌, ◌+◌, Bool, true, false, List, [], ◌∷◌, ◌++◌, length, take, drop, map, flat_map, Option, Some, None, refl, ap, sym, ◌∙◌, append_assoc, arith, length-append, append-nil, subst}
 use Rattle.std.proofs.Math.Seq.{take-append_seam, drop-append_seam, take-length, drop-length}
 use Rattle.std.proofs.lemmas.List.Elements.{filter-append}
 use Rattle.std.proofs.lemmas.Grind.{common_steps, flat_map-append}
 use Rattle.std.specs.Io.KnownBytes.{append_known}
 use Rattle.sock_words.specs.declared.outcome.Outcome.{Outcome}
-use Rattle.sock_words.specs.declared.outcome.Outcome.TheVariants.{Unopened, Gone, Placed, Dropped}
+use Rattle.sock_words.specs.declared.outcome.Outcome.TheVariants.{Unopened, Placed, Dropped}
 use Rattle.brpc_model.specs.Order.{IsCut}
 use Rattle.sock_io.specs.Link.{OutState, SameOut}
 use Rattle.brpc_eng.specs.Sending.{Sending, goes_to, sends_to, bytes_of}

@@ -1,5 +1,5 @@
 -- The text that is written is that of the report.
-use Rattle.std.proofs.Common.{◌≡◌, ℕ, zero, suc, ◌<◌, ◌+◌, Bool, true, false, List, [], ◌∷◌, ◌++◌, length, take, filter, flat_map, slice_get, Option, Some, None, refl, ap, sym, ◌∙◌, append-nil, append_assoc, arith, decimal, codes, if◌then◌else◌}
+use Rattle.std.proofs.Common.{◌≡◌, ℕ, zero, suc, ◌<◌, ◌+◌, true, false, List, [], ◌∷◌, ◌++◌, length, take, filter, flat_map, slice_get, Some, refl, ap, sym, ◌∙◌, append-nil, append_assoc, arith, decimal, codes, if◌then◌else◌}
 use Rattle.std.specs.Fmt.{digits}
 use Rattle.sock_words.specs.declared.outcome.Outcome.{Outcome}
 use Rattle.sock_words.specs.declared.outcome.Outcome.TheVariants.{Opened}

@@ -1,18 +1,18 @@
 -- A run without a link, as it is reported, fits.
-use Rattle.std.proofs.Common.{◌≡◌, ℕ, zero, suc, ◌<◌, ◌+◌, ◌⊎◌, inl, inr, List, [], ◌∷◌, length, replicate, slice_get, count_by, zip, Option, Some, None, refl, ap, sym, ◌∙◌, subst, arith}
+use Rattle.std.proofs.Common.{◌≡◌, ℕ, zero, suc, ◌<◌, inr, List, [], length, replicate, slice_get, count_by, zip, Some, None, refl, ap, sym, ◌∙◌, subst, arith}
 use Rattle.std.proofs.lemmas.List.{length-replicate}
 use Rattle.sock_words.specs.declared.outcome.Outcome.{Outcome}
 use Rattle.sock_words.specs.declared.outcome.Outcome.TheVariants.{Opened, Unopened, Failed}
 use Rattle.brpc_model.specs.Items.{Item, Send, Call, Expire, CallLine}
 use Rattle.brpc_model.specs.Operations.{Operation, operations, link_names}
-use Rattle.brpc_model.specs.Report.{Report, LinkLine}
+use Rattle.brpc_model.specs.Report.{LinkLine}
 use Rattle.brpc_model.specs.Run.{Run}
 use Rattle.brpc_model.specs.Causes.{MayFindNone}
 use Rattle.brpc_model.specs.Outcomes.{SendCause, Cause}
 use Rattle.brpc_model.specs.Fits.{FitsRun, is_fail_of, count_outcomes}
 use Rattle.brpc_model.specs.Complete.{Completeness, SendDone}
-use Rattle.brpc_eng.specs.Sending.{Sending, send_item}
-use Rattle.brpc_eng.proofs.Labels.{ops_of, send_op, unlinked, length-ops_of, some_is}
+use Rattle.brpc_eng.specs.Sending.{Sending}
+use Rattle.brpc_eng.proofs.Labels.{send_op, unlinked, length-ops_of, some_is}
 use Rattle.brpc_eng.proofs.Fitting.{run_of, op_is, no_fail_counted}
 use Rattle.brpc_eng.proofs.BuiltLemmas.{NoLink}
 

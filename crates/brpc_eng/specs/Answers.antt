@@ -1,7 +1,9 @@
 -- The answers of the program: the status, its cause, and what is written with it.
-use Rattle.std.specs.Prelude.{ℕ, ◌≡◌, ◌≢◌, ◌<◌, ◌≤◌, ◌+◌, ◌⊎◌, ◌++◌, Bool, true, false, List, [], length, codes, decimal, Option, Some, None, Ok, Err}
+use Rattle.std.specs.Prelude.{ℕ, ◌≡◌, ◌<◌, ◌≤◌, ◌+◌, ◌⊎◌, ◌++◌, Bool, true, false, List, [], length, codes, decimal, Option, Some, None, Ok, Err}
 use Rattle.std.specs.Io.KnownBytes.{Appends, Consumes}
-use Rattle.brpc_model.specs.Commands.{Command, Replay, command_of, usage_text}
+use Rattle.brpc_model.specs.Commands.{Command, Replay, Gen, command_of, usage_text}
+use Rattle.brpc_model.specs.ScriptText.{script_text}
+use Rattle.brpc_model.specs.Drawn.{generated}
 use Rattle.brpc_model.specs.Items.{Item}
 use Rattle.brpc_model.specs.Script.{script_of}
 use Rattle.brpc_model.specs.Link.{LinkEnd}
@@ -68,13 +70,13 @@ fault_text line kind = codes "script fault line " ++ decimal line ++ codes " kin
 abbrev pub IsReport : Links → List Item → List ℕ → Type 0
 IsReport links script text = links.prompt ≡ true → FitsWhole script text links.ends nothing_late
 
--- the report was written, or the sink failed behind a beginning of it
-abbrev pub ReportWritten : Output → List ℕ → ℕ → Type 0
-ReportWritten out text status = ((status ≡ 0) × WroteAll out text) ⊎ ((status ≡ 5) × WroteSome out text)
+-- the text was written, or the sink failed behind a beginning of it
+abbrev pub TextWritten : Output → List ℕ → ℕ → Type 0
+TextWritten out text status = ((status ≡ 0) × WroteAll out text) ⊎ ((status ≡ 5) × WroteSome out text)
 
 -- how the run of a script that is built ends
 pub data Ran (script : List Item) (out : Output) (links : Links) (status : ℕ) : Type 0 where
-  Reported : (text : List ℕ) → IsReport links script text → ReportWritten out text status → Ran script out links status
+  Reported : (text : List ℕ) → IsReport links script text → TextWritten out text status → Ran script out links status
   MemoryRanOut : status ≡ 7 → WroteNothing out → Ran script out links status
   OpenFailed : status ≡ 8 → HaveRisen links.faults → links.ends ≡ [] → WroteNothing out → Ran script out links status
 
@@ -103,14 +105,28 @@ pub record ReplayedInput (input : Input) (out : Output) (links : Links) (status 
   pub too_long : script_limit < length bytes → (status ≡ 6) ⊎ (status ≡ 7)
   pub replayed : Replayed input out links bytes status
 
+-- ## `gen`
+
+-- the drawn script was printed, or memory ran out before
+abbrev pub Generated : ℕ → ℕ → ℕ → Output → ℕ → Type 0
+Generated seed clients count out status = TextWritten out (script_text (generated seed clients count)) status ⊎ ((status ≡ 7) × WroteNothing out)
+
 -- ## The program
+
+-- the commands that are built
+abbrev pub is_built_command : Command → Bool
+is_built_command Replay = true
+is_built_command (Gen seed clients count) = true
+is_built_command other = false
 
 -- why the program ends with a status
 pub data Answers (words : List (List ℕ)) (input : Input) (out : Output) (links : Links) (status : ℕ) : Type 0 where
   -- the words ask for no command, and nothing is read
   NoCommand : status ≡ 2 → command_of words ≡ None → input.left ≡ input.given → links.ends ≡ [] → Wrote out usage_text → Answers words input out links status
   -- they ask for one that isn't built, and nothing is read
-  CommandNotBuilt : status ≡ 10 → (command : Command) → command_of words ≡ Some command → command ≢ Replay → input.left ≡ input.given → links.ends ≡ [] → Wrote out not_built_text →
+  CommandNotBuilt : status ≡ 10 → (command : Command) → command_of words ≡ Some command → is_built_command command ≡ false → input.left ≡ input.given → links.ends ≡ [] → Wrote out not_built_text →
       Answers words input out links status
+  -- they ask for a drawn script, and nothing is read
+  Generates : (seed clients count : ℕ) → command_of words ≡ Some (Gen seed clients count) → input.left ≡ input.given → links.ends ≡ [] → Generated seed clients count out status → Answers words input out links status
   -- they ask for `replay`
   Replays : command_of words ≡ Some Replay → ReplayedInput input out links status → Answers words input out links status

@@ -1,5 +1,5 @@
 -- What a script sends, and to which names.
-use Rattle.std.specs.Prelude.{ℕ, Bool, List, [], ◌∷◌, map, filter, filter_map, bytes_eq, Option, Some, None}
+use Rattle.std.specs.Prelude.{ℕ, Bool, List, filter, filter_map, bytes_eq, Option, Some, None}
 use Rattle.brpc_model.specs.Items.{Item, Send}
 
 -- a message, and the name that it is sent to

@@ -1,5 +1,5 @@
 -- What was read from a source, and what was written to a sink.
-use Rattle.std.specs.Prelude.{ℕ, ◌≡◌, ◌≢◌, ◌<◌, ◌≤◌, ◌+◌, ◌++◌, List, [], length, Vec, Option, IfSome, IfOk, IsErrOf, Result, Err}
+use Rattle.std.specs.Prelude.{ℕ, ◌≡◌, ◌≢◌, ◌≤◌, ◌+◌, ◌++◌, List, [], length, Vec, Option, IfSome, IfOk, IsErrOf, Result, Err}
 use Rattle.std.specs.Io.KnownBytes.{Appends, Consumes}
 use Rattle.std.specs.declared.alloc.Global.{Global}
 use Rattle.brpc_eng.specs.declared.streams.InputFault.{InputFault}

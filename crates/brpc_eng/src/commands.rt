@@ -6,15 +6,7 @@ ghost use Rattle.brpc_model.specs.Commands.{command_of, number, sim_of, run_of, 
 ghost use Rattle.brpc_model.specs.Commands as model;
 ghost use Rattle.brpc_eng.specs.Command.{meaning};
 
-/// A script that is drawn: `SEED CLIENTS OPS`.
-#[derive(Clone, Copy, Debug, PartialEq, Eq)]
-pub struct Draw {
-    pub seed: u32,
-    /// How many clients, 1 to 31.
-    pub clients: u32,
-    /// How many operations each client has; at most 4,092 in all.
-    pub operations: u32,
-}
+use crate::draw::Draw;
 
 /// What the words of the command line ask for.
 #[derive(Clone, Copy, Debug, PartialEq, Eq)]
@@ -148,7 +140,9 @@ fn read_draw(words: &[String]) -> Option<Draw>
 
 /// The draw, where it has at most 4,092 operations in all.
 fn within_all(seed: u32, clients: u32, operations: u32) -> Option<Draw>
+    requires some_clients { 1 ≤ clients }
     requires clients { clients ≤ 31 }
+    requires some_operations { 1 ≤ operations }
     requires operations { operations ≤ 4092 }
     ensures { (make : ℕ → ℕ → ℕ → model.Command) → option_map (λ d. make d.seed d.clients d.operations) result ≡ model.in_all make seed clients operations }
 {

@@ -3,6 +3,7 @@ ghost use Rattle.brpc_eng.specs.Answers.{Answers};
 ghost use Rattle.brpc_eng.specs.Status.{number_of};
 
 use crate::commands::{Command, read_command};
+use crate::generated::print_generated;
 use crate::replay::{NOT_BUILT, replay, write_answer};
 use crate::status::Status;
 use sock_io::{Gate, Linker, Sink, Source};
@@ -15,7 +16,7 @@ const USAGE: &[u8] =
 ///
 /// | status | comes |
 /// | --- | --- |
-/// | 0 | where the command was done and its input was read to its end |
+/// | 0 | where the command was done; the input of `replay` was read to its end |
 /// | 2 | exactly where the words ask for no command; the usage line is written |
 /// | 3 | exactly where the whole input is no script; the first fault is written |
 /// | 4 | only where the source failed |
@@ -70,6 +71,7 @@ fn answer<S: Source, K: Sink, L: Linker>(
         }
         Some(command) => match command {
             Command::Replay => replay(alloc, source, out, links),
+            Command::Gen(draw) => print_generated(alloc, &draw, out),
             _ => {
                 write_answer(out, NOT_BUILT);
                 Status::NotBuilt

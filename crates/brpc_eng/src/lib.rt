@@ -4,7 +4,9 @@
 mod built;
 mod bytes;
 mod commands;
+mod draw;
 mod engine;
+mod generated;
 mod progress;
 mod replay;
 mod report;

@@ -6,7 +6,7 @@ ghost use Rattle.brpc_eng.specs.Built.{is_built, begins_with_open, IsWithinLimit
 ghost use Rattle.brpc_eng.specs.Sending.{sendings};
 ghost use Rattle.brpc_eng.specs.Run.{RanAndReported};
 ghost use Rattle.brpc_eng.specs.Status.{number_of};
-ghost use Rattle.brpc_eng.specs.Answers.{Links, Ran, ReportWritten};
+ghost use Rattle.brpc_eng.specs.Answers.{Links, Ran, TextWritten};
 
 use crate::built::opening;
 use crate::report::{linked_report, unlinked_report};
@@ -123,7 +123,7 @@ fn run_over<O: Out>(
 
 /// Writes a report.
 fn write_report<K: Sink>(out: &mut K, text: &[u8]) -> Status
-    ensures { ReportWritten (record { before = K.contents out.old; now = K.contents out.new; faults = record { before = K.faults out.old; now = K.faults out.new } }) text.now (number_of result) }
+    ensures { TextWritten (record { before = K.contents out.old; now = K.contents out.new; faults = record { before = K.faults out.old; now = K.faults out.new } }) text.now (number_of result) }
 {
     match write_all(out, text) {
         Ok(()) => Status::Done,

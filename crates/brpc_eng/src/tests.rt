@@ -107,7 +107,7 @@ const WORDS: [(&str, u8); 18] = [
     ("run", 10),
     ("run 65535", 10),
     ("run 0", 2),
-    ("gen 7 31 132", 10),
+    ("load 7 31 132", 10),
     ("gen 7 31 133", 2),
     ("load 7 32 1", 2),
     ("load 7 1 4092", 10),
@@ -128,6 +128,16 @@ fn answers_words(rt: HostRuntime) -> Result<(), Fail> {
         };
         assert_eq!(rt; written.as_slice(), text.as_bytes(), "at {words}");
     }
+    Ok(())
+}
+
+#[test]
+fn prints_a_drawn_script(rt: HostRuntime) -> Result<(), Fail> {
+    let (answered, written) = answer(&rt, "gen 7 1 1", b"", CALM)?;
+    assert_eq!(rt; answered, 0);
+    let text =
+        "open a piece=7\nopen b again=2\nopen c serve\nopen d piece=5 serve\nclient\nsend a 5e\n";
+    assert_eq!(rt; written.as_slice(), text.as_bytes());
     Ok(())
 }
 

@@ -1,4 +1,4 @@
-use Rattle.std.proofs.Common.{◌≡◌, ◌∷◌, ◌∙◌, ap, sym, map}
+use Rattle.std.proofs.Common.{◌∷◌, ◌∙◌, ap, sym, map}
 use Rattle.std.proofs.lemmas.List.Folds.{list_all-map}
 use Rattle.script_items.specs.Meaning.{item}
 use Rattle.brpc_eng.specs.Built.{is_one_client, is_send}

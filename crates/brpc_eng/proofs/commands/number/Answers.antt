@@ -1,4 +1,4 @@
-use Rattle.std.proofs.Common.{◌≡◌, ◌<◌, ◌^◌, true, arith}
+use Rattle.std.proofs.Common.{◌≡◌, true, arith}
 use Rattle.brpc_model.specs.Text.{is_numeral}
 use Rattle.brpc_eng.proofs.NumberLemmas.{number_err}
 use Rattle.brpc_eng.proofs.commands.number.Goals as goal

@@ -1,4 +1,4 @@
-use Rattle.std.proofs.Common.{◌≡◌, ◌∙◌, ap, Err, refl}
+use Rattle.std.proofs.Common.{◌∙◌, ap, Err}
 use Rattle.brpc_eng.proofs.Replays.{limits_of, replays_built, replays_unbuilt, replays_faulty}
 use Rattle.brpc_eng.proofs.replay.replay.Goals as goal
 

@@ -1,4 +1,4 @@
-use Rattle.std.proofs.Common.{◌≤◌, arith, map}
+use Rattle.std.proofs.Common.{arith, map}
 use Rattle.script_items.specs.Meaning.{item, shape_of}
 use Rattle.brpc_eng.proofs.BuiltLemmas.{few_sends}
 use Rattle.brpc_eng.proofs.Reports.{ran_linked}

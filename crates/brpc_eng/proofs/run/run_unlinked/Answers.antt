@@ -1,4 +1,4 @@
-use Rattle.std.proofs.Common.{◌≡◌, ◌∙◌, map}
+use Rattle.std.proofs.Common.{◌∙◌, map}
 use Rattle.script_items.specs.Meaning.{item}
 use Rattle.brpc_eng.proofs.Reports.{ran_unlinked}
 use Rattle.brpc_eng.proofs.run.run_unlinked.Goals as goal

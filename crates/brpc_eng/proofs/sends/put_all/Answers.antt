@@ -1,4 +1,4 @@
-use Rattle.std.proofs.Common.{◌≡◌, arith, ◌∙◌, ◌≤◌, ◌+◌, length}
+use Rattle.std.proofs.Common.{arith, ◌∙◌}
 use Rattle.brpc_eng.proofs.Known.{front_more, within_piece}
 use Rattle.brpc_eng.proofs.sends.put_all.Goals as goal
 

@@ -1,4 +1,4 @@
-use Rattle.std.proofs.Common.{◌≡◌, ◌∷◌, ◌++◌, [], ◌≤◌, ◌+◌, ◌∙◌, sym, ap, subst, List, Some, rules, arith, refl, length, take, length-append}
+use Rattle.std.proofs.Common.{◌≡◌, ◌∷◌, ◌++◌, [], ◌∙◌, ap, Some, rules, arith, refl, length, take, length-append}
 use Rattle.brpc_eng.specs.Sending.{Sending}
 use Rattle.brpc_eng.proofs.LineLemmas.{sent_in, sent_at, sent_before, sent_take, sent_take-other, sofar_start, sofar_send, sofar_pass, sofar_end, sends_nothing, few}
 use Rattle.brpc_eng.proofs.sends.run_sends.Goals as goal

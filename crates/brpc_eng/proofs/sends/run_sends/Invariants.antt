@@ -1,4 +1,4 @@
-use Rattle.std.proofs.Common.{◌≡◌, ℕ, ◌≤◌, length, take}
+use Rattle.std.proofs.Common.{◌≡◌, ◌≤◌, length, take}
 use Rattle.sock_io.specs.Link.{SameOut}
 use Rattle.brpc_eng.proofs.LineLemmas.{sent_in, SofarLines}
 use Rattle.brpc_eng.proofs.sends.run_sends.Given as goal

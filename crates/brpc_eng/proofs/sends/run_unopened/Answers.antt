@@ -1,7 +1,7 @@
-use Rattle.std.proofs.Common.{◌≡◌, ◌∷◌, ◌++◌, [], ◌+◌, ◌∙◌, sym, ap, Some, rules, length, take, replicate}
+use Rattle.std.proofs.Common.{◌≡◌, ◌∷◌, ◌++◌, [], ◌∙◌, sym, ap, Some, rules, length, replicate}
 use Rattle.sock_words.specs.declared.outcome.Outcome.TheVariants.{Unopened}
 use Rattle.brpc_eng.specs.Sending.{Sending}
-use Rattle.brpc_eng.proofs.LineLemmas.{sent_in, sent_at, sent_take, sent_take-other, sends_nothing, unopened_more}
+use Rattle.brpc_eng.proofs.LineLemmas.{sent_at, sent_take-other, sends_nothing, unopened_more}
 use Rattle.brpc_eng.proofs.sends.run_unopened.Goals as goal
 
 pub loop-line-preserved-in_default : goal.loop-line-preserved-in_default

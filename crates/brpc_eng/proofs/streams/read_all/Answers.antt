@@ -1,4 +1,4 @@
-use Rattle.std.proofs.Common.{◌≡◌, ◌≤◌, ◌++◌, take, length, rules, arith, refl, length-append, length-take}
+use Rattle.std.proofs.Common.{◌++◌, take, arith, refl, length-append, length-take}
 use Rattle.brpc_eng.proofs.Known.{Consumes-append}
 use Rattle.brpc_eng.proofs.streams.read_all.Goals as goal
 

@@ -1,0 +1,99 @@
+-- What the answers say together: 2 comes exactly where the words ask for no command, and where nothing stands in the way
+-- of a report, only it and want of memory come.
+use Rattle.std.proofs.Common.{◌≡◌, ◌≢◌, ℕ, ◌≤◌, ◌⊎◌, inl, inr, true, false, List, ◌++◌, length, Option, Some, None, Ok, ap, sym, ◌∙◌, subst, arith, length-append, append-nil}
+use Rattle.std.specs.Io.KnownBytes.{Consumes}
+use Rattle.brpc_model.specs.Commands.{Replay, command_of}
+use Rattle.brpc_model.specs.Items.{Item}
+use Rattle.brpc_model.specs.Script.{script_of}
+use Rattle.brpc_eng.specs.Built.{is_built}
+use Rattle.brpc_eng.specs.Streams.{script_limit, IsAtEnd}
+use Rattle.brpc_eng.specs.Answers.{HaveRisen, Input, Output, Links, TextWritten, Ran, Reported, MemoryRanOut, OpenFailed, FaultWritten, Replayed, RanScript, FaultyScript, SourceFailed, TooLong, NoMemory, ScriptNotBuilt, Answers, NoCommand, CommandNotBuilt, Generated, Generates, Replays, is_built_command}
+
+-- ## Status 2
+
+not_two_written : (out : Output) (text : List ℕ) (status : ℕ) → TextWritten out text status → status ≢ 2
+not_two_written out text status (inl w) = λ e. absurd (omega (arith, e, w.0))
+not_two_written out text status (inr w) = λ e. absurd (omega (arith, e, w.0))
+
+not_two_ran : (script : List Item) (out : Output) (links : Links) (status : ℕ) → Ran script out links status → status ≢ 2
+not_two_ran script out links status (Reported text fits wrote) = not_two_written out text status wrote
+not_two_ran script out links status (MemoryRanOut s wrote) = λ e. absurd (omega (arith, e, s))
+not_two_ran script out links status (OpenFailed s rose back wrote) = λ e. absurd (omega (arith, e, s))
+
+not_two_fault : (out : Output) (line kind status : ℕ) → FaultWritten out line kind status → status ≢ 2
+not_two_fault out line kind status (inl w) = λ e. absurd (omega (arith, e, w.0))
+not_two_fault out line kind status (inr w) = λ e. absurd (omega (arith, e, w.0))
+
+not_two : (input : Input) (out : Output) (links : Links) (bytes : List ℕ) (status : ℕ) → Replayed input out links bytes status → status ≢ 2
+not_two input out links bytes status (RanScript end script is built ran) = not_two_ran script out links status ran
+not_two input out links bytes status (FaultyScript end line kind is back wrote) = not_two_fault out line kind status wrote
+not_two input out links bytes status (SourceFailed s rose back wrote) = λ e. absurd (omega (arith, e, s))
+not_two input out links bytes status (TooLong s long back wrote) = λ e. absurd (omega (arith, e, s))
+not_two input out links bytes status (NoMemory s back wrote) = λ e. absurd (omega (arith, e, s))
+not_two input out links bytes status (ScriptNotBuilt s end script is built back wrote) = λ e. absurd (omega (arith, e, s))
+
+not_two_made : (seed clients count : ℕ) (out : Output) (status : ℕ) → Generated seed clients count out status → status ≢ 2
+not_two_made seed clients count out status (inl w) = not_two_written out _ status w
+not_two_made seed clients count out status (inr w) = λ e. absurd (omega (arith, e, w.0))
+
+-- the words ask for no command exactly where the status is 2
+pub usage_exactly : (words : List (List ℕ)) (input : Input) (out : Output) (links : Links) (status : ℕ) → Answers words input out links status →
+    (status ≡ 2 → command_of words ≡ None) × (command_of words ≡ None → status ≡ 2)
+usage_exactly words input out links status (NoCommand s none same back wrote) = (λ e. none, λ e. s)
+usage_exactly words input out links status (CommandNotBuilt s command is other same back wrote) = (λ e. absurd (omega (arith, e, s)), λ e. absurd (cc))
+usage_exactly words input out links status (Generates seed clients count is same back made) = (λ e. absurd (not_two_made seed clients count out status made e), λ e. absurd (cc))
+usage_exactly words input out links status (Replays is replayed) = (λ e. absurd (not_two input out links replayed.bytes status replayed.replayed e), λ e. absurd (cc))
+
+-- ## A report, or want of memory
+
+-- what came is a beginning of what was given, and all of it at the end
+came_few : (given bytes : List ℕ) (left : Option (List ℕ)) → Consumes (Some given) left bytes → length bytes ≤ length given
+came_few given bytes None h = absurd h
+came_few given bytes (Some rest) h = omega (arith, ap length h ∙ length-append bytes rest)
+
+came_all : (given bytes : List ℕ) (left : Option (List ℕ)) → Consumes (Some given) left bytes → IsAtEnd left → bytes ≡ given
+came_all given bytes None h end = absurd h
+came_all given bytes (Some rest) h end = sym (h ∙ ap (λ x. bytes ++ x) end ∙ append-nil bytes)
+
+-- no count of faults rose
+pub record IsCalm (input : Input) (out : Output) (links : Links) : Type 0 where
+  pub source : HaveRisen input.faults → ⊥
+  pub sink : HaveRisen out.faults → ⊥
+  pub linker : HaveRisen links.faults → ⊥
+
+calm_written : (out : Output) (text : List ℕ) (status : ℕ) → (HaveRisen out.faults → ⊥) → TextWritten out text status → status ≡ 0
+calm_written out text status calm (inl w) = w.0
+calm_written out text status calm (inr w) = absurd (calm w.1.0)
+
+calm_ran : (script : List Item) (input : Input) (out : Output) (links : Links) (status : ℕ) → IsCalm input out links → Ran script out links status → (status ≡ 0) ⊎ (status ≡ 7)
+calm_ran script input out links status calm (Reported text fits wrote) = inl (calm_written out text status calm.sink wrote)
+calm_ran script input out links status calm (MemoryRanOut s wrote) = inr s
+calm_ran script input out links status calm (OpenFailed s rose back wrote) = absurd (calm.linker rose)
+
+calm_replayed : (script : List Item) (given : List ℕ) (input : Input) (out : Output) (links : Links) (bytes : List ℕ) (status : ℕ) → IsCalm input out links → Consumes (Some given) input.left bytes →
+    length given ≤ script_limit → script_of given ≡ Ok script → is_built script ≡ true → Replayed input out links bytes status → (status ≡ 0) ⊎ (status ≡ 7)
+calm_replayed script given input out links bytes status calm came few is built (RanScript end read is' built' ran) = calm_ran read input out links status calm ran
+calm_replayed script given input out links bytes status calm came few is built (FaultyScript end line kind is' back wrote) =
+    let same : script_of bytes ≡ Ok script = ap script_of (came_all given bytes input.left came end) ∙ is in absurd (cc)
+calm_replayed script given input out links bytes status calm came few is built (SourceFailed s rose back wrote) = absurd (calm.source rose)
+calm_replayed script given input out links bytes status calm came few is built (TooLong s long back wrote) = absurd (omega (arith, long, few, came_few given bytes input.left came))
+calm_replayed script given input out links bytes status calm came few is built (NoMemory s back wrote) = inr s
+calm_replayed script given input out links bytes status calm came few is built (ScriptNotBuilt s end read is' built' back wrote) =
+    let same : script_of bytes ≡ Ok script = ap script_of (came_all given bytes input.left came end) ∙ is in
+    let one : Ok read ≡ Ok script = sym is' ∙ same in
+    let alike : read ≡ script = cc in
+    let never : true ≡ false = sym built ∙ ap is_built (sym alike) ∙ built' in absurd (cc)
+
+-- `replay` of a script that is built, with no fault of the outside, ends with its report or for want of memory
+pub report_comes : (script : List Item) (given : List ℕ) (words : List (List ℕ)) (input : Input) (out : Output) (links : Links) (status : ℕ) → Answers words input out links status →
+    command_of words ≡ Some Replay → input.given ≡ Some given → length given ≤ script_limit → script_of given ≡ Ok script → is_built script ≡ true → IsCalm input out links →
+    (status ≡ 0) ⊎ (status ≡ 7)
+report_comes script given words input out links status (NoCommand s none same back wrote) command told few is built calm = absurd (cc)
+report_comes script given words input out links status (CommandNotBuilt s other named differs same back wrote) command told few is built calm =
+    let one : Some other ≡ Some Replay = sym named ∙ command in
+    let alike : other ≡ Replay = cc in
+    let never : true ≡ false = sym (ap is_built_command alike) ∙ differs in absurd (cc)
+report_comes script given words input out links status (Generates seed clients count named same back made) command told few is built calm = absurd (cc)
+report_comes script given words input out links status (Replays named replayed) command told few is built calm =
+    let P : Option (List ℕ) → Type 0 = λ x. Consumes x input.left replayed.bytes in
+    calm_replayed script given input out links replayed.bytes status calm (subst P told replayed.came) few is built replayed.replayed

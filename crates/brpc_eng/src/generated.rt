@@ -1,0 +1,26 @@
+ghost use Rattle.std.specs.Prelude.{◌≡◌};
+ghost use Rattle.brpc_eng.specs.Status.{number_of};
+ghost use Rattle.brpc_eng.specs.Answers.{Generated};
+
+use crate::draw::Draw;
+use crate::status::Status;
+use script_print::{PrintFault, generate, print_script};
+use sock_io::Sink;
+use std::alloc::Global;
+
+/// Draws a script and prints it.
+pub fn print_generated<K: Sink>(alloc: Global, draw: &Draw, out: &mut K) -> Status
+    ensures { Generated draw.now.seed draw.now.clients draw.now.operations
+        (record { before = K.contents out.old; now = K.contents out.new; faults = record { before = K.faults out.old; now = K.faults out.new } })
+        (number_of result) }
+{
+    let seed = u64::from(draw.seed);
+    let Ok(script) = generate(alloc, seed, draw.clients as u16, draw.operations as u16) else {
+        return Status::NoMemory;
+    };
+    match print_script(alloc, &script, out) {
+        Ok(()) => Status::Done,
+        Err(PrintFault::Sink) => Status::SinkFailed,
+        Err(PrintFault::NoMemory) => Status::NoMemory,
+    }
+}
