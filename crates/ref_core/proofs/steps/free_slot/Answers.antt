@@ -1,0 +1,5 @@
+use Rattle.ref_core.proofs.KeptRules.{frees}
+use Rattle.ref_core.proofs.steps.free_slot.Goals as goal
+
+pub returns-clause-keeps : goal.returns-clause-keeps
+returns-clause-keeps c i = frees i c.args.found

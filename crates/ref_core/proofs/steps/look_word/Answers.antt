@@ -1,0 +1,5 @@
+use Rattle.ref_core.proofs.KeptRules.{looks}
+use Rattle.ref_core.proofs.steps.look_word.Goals as goal
+
+pub returns-clause-keeps : goal.returns-clause-keeps
+returns-clause-keeps c i = looks i c.args.found c.ranges.found.fits

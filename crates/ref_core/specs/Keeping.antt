@@ -1,0 +1,52 @@
+-- What is asked of a step on one word: that the rule of the sockets holds after it, whatever the state was before.
+use Rattle.std.specs.Prelude.{◌≡◌, ◌≢◌, ℕ, ◌+◌, ◌%◌, ◌<◌, ◌≤◌, ◌⊎◌, Bool, true, List, [], slice_index}
+use mathlib.Core.Option.{some}
+use lib.ListN.{get_elem?}
+use Rattle.atomic_table.specs.Table.{State, stepped, keeps}
+use Rattle.sock_words.specs.declared.plain.Plan.{Plan}
+use Rattle.sock_words.specs.Words.{vref_version, vref_nref}
+use Rattle.sock_model.specs.declared.chain.Right.{Right}
+use Rattle.sock_model.specs.declared.home.Home.{Home}
+use Rattle.sock_model.specs.declared.view.View.{View}
+use Rattle.sock_model.specs.Weights.{is_ref, is_probe, is_any_coding, is_hold, is_known, is_zero, is_stage, is_recycled, is_met}
+use Rattle.sock_model.specs.SlotRows.{marks_of}
+use Rattle.sock_model.specs.Lawful.{Lawful}
+
+-- in every state that meets the rule, where a seat's view v allows the step and the word at place x is `found`, the rule
+-- still holds once that word is `next` and the seat's view has become row v
+abbrev pub KeepsRule : (Plan → View → Type 0) → (x found next : ℕ) → (View → View) → Type 0
+KeepsRule may x found next row = (p : Plan) (s : State Home View) (id : ℕ) (v : View) → Lawful (λ home. home) p s → get_elem? s.views id ≡ some v → may p v → slice_index s.words x ≡ found →
+    Lawful (λ home. home) p (stepped s x next id [] (row v) keeps)
+
+-- ## What a seat's view must say before a step on slot i
+
+-- nothing: the slot is one of the table
+abbrev pub MayClaim : ℕ → Plan → View → Type 0
+MayClaim i p v = i < p.slots
+
+-- one more reference may be counted; to a life only where the seat knows its id
+abbrev pub MayAdd : ℕ → ℕ → Bool → Plan → View → Type 0
+MayAdd i found is_life p v = (i < p.slots) × (is_life ≡ true → 0 < marks_of (is_known (vref_version found)) i v) × (marks_of is_ref i v < 65540)
+
+-- it has a reference to give, owes no code, and keeps the life of each link that it writes
+abbrev pub KeepsRights : ℕ → View → Type 0
+KeepsRights i v = (x : ℕ) (r : Right) (h : ℕ) → get_elem? v.rights x ≡ some r → 0 < marks_of (is_hold h) i v → 0 < marks_of (is_met h r.link) i v → (0 < marks_of is_probe i v) ⊎ (1 < marks_of (is_hold h) i v)
+
+abbrev pub MaySub : ℕ → Plan → View → Type 0
+MaySub i p v = (i < p.slots) × (0 < marks_of is_ref i v) × (marks_of is_any_coding i v ≡ 0) × KeepsRights i v
+
+-- it holds a life of the slot
+abbrev pub MayFail : ℕ → Plan → View → Type 0
+MayFail i p v = (i < p.slots) × ((h : ℕ) × (0 < marks_of (is_hold h) i v)) × (marks_of is_ref i v < 65540)
+
+-- it took the references to 0 at this word's version
+abbrev pub MayRecycle : ℕ → ℕ → Plan → View → Type 0
+MayRecycle i from p v = (i < p.slots) × (0 < marks_of (is_zero (vref_version from)) i v)
+
+-- it recycled the slot to a version with which it may be given again, and has nothing in hand
+abbrev pub MayFree : ℕ → Plan → View → Type 0
+MayFree i p v = (i < p.slots) × ((w : ℕ) × (0 < marks_of (is_recycled w) i v) × (w ≤ 4294967292)) × (v.hands ≡ [])
+
+-- it claimed the slot, and stored the link, the idle head and the code
+abbrev pub MayBear : ℕ → ℕ → Plan → View → Type 0
+MayBear i k p v = (i < p.slots) × (0 < marks_of (is_stage 3 k) i v)

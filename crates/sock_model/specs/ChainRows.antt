@@ -1,0 +1,76 @@
+-- What each step on the chains does to the view of the seat that makes it.
+use Rattle.std.specs.Prelude.{ℕ, suc, ◌-◌, ◌==◌, true, false, cond, not, List, [], ◌∷◌, ◌++◌}
+use Rattle.std.specs.List.{filter}
+use Rattle.sock_model.specs.declared.chain.Heading.{Heading}
+use Rattle.sock_model.specs.declared.chain.Entry.{Entry}
+use Rattle.sock_model.specs.declared.chain.Right.{Right}
+use Rattle.sock_model.specs.declared.chain.Claim.{Claim}
+use Rattle.sock_model.specs.declared.chain.Loose.{Loose}
+use Rattle.sock_model.specs.declared.chain.Stage.TheVariants.{Writes, Placed, Walks}
+use Rattle.sock_model.specs.declared.view.View.{View}
+use Rattle.sock_model.specs.declared.view.Hand.{Hand}
+use Rattle.sock_model.specs.Marks.{without_pass}
+use Rattle.sock_model.specs.Entries.{ticket}
+use Rattle.sock_model.specs.Memory.{IDLE}
+use Rattle.sock_model.specs.Writing.{loose_of}
+
+-- the claim c is the seat's one
+abbrev pub with_claim : View → Claim → View
+with_claim v c = record v { claims = c ∷ [] }
+
+-- the entry that the claim becomes
+abbrev pub entry_of : Claim → ℕ → Entry
+entry_of c before = record { link = c.link; request = c.request; generation = c.generation; before = before; heading = c.heading; bytes = c.bytes }
+
+-- an entry more in the own list
+abbrev pub more : List (List Entry) → Entry → List (List Entry)
+more [] e = []
+more (l ∷ ls) e = (l ++ e ∷ []) ∷ ls
+
+-- the exchange found a busy head
+abbrev pub queued : View → Claim → ℕ → View
+queued v c found = record v { claims = []; loose = loose_of (entry_of c found) ∷ v.loose; lists = more v.lists (entry_of c found) }
+
+-- the right of whoever found an idle head
+abbrev pub new_right : Claim → ℕ → List ℕ → ℕ → Right
+new_right c found sent places = let e = entry_of c (found - IDLE) in
+    record { link = c.link; last = ticket e; stage = Writes (ticket e); clean = false; at_home = true; taken = false; places = places; sent = sent; heading = c.heading; bytes = [] }
+
+abbrev pub righted : View → Claim → ℕ → List ℕ → ℕ → View
+righted v c found sent places = record v { claims = []; rights = new_right c found sent places ∷ v.rights; lists = more v.lists (entry_of c (found - IDLE)) }
+
+abbrev pub without_loose : View → ℕ → View
+without_loose v r = record v { loose = filter (λ (x : Loose). not (x.request == r)) v.loose }
+
+-- the right to write r.link is now r, or it is given up
+abbrev pub with_right : View → Right → View
+with_right v r = record v { rights = r ∷ filter (λ (x : Right). not (x.link == r.link)) v.rights }
+
+abbrev pub without_right : View → ℕ → View
+without_right v k = record v { rights = filter (λ (x : Right). not (x.link == k)) v.rights }
+
+-- the walk turned the next word of `at`
+abbrev pub turned_right : Right → ℕ → ℕ → ℕ → Right
+turned_right r top at before = cond (before == r.last) (record r { last = top; stage = Writes at }) (record r { stage = Walks top before at })
+
+-- the message in hand got its place, whole or dropped; `sent` is what the link took of it
+abbrev pub placed_right : Right → ℕ → Right
+placed_right r now = record r { stage = Placed now; taken = false; places = suc r.places; sent = r.sent ++ r.bytes }
+
+abbrev pub dropped_right : Right → ℕ → List ℕ → Right
+dropped_right r now sent = record r { stage = Placed now; taken = false; clean = false; places = suc r.places; sent = sent }
+
+-- the message of the first entry without a place is in hand
+abbrev pub taken_right : Right → Heading → List ℕ → Right
+taken_right r label bytes = record r { taken = true; heading = label; bytes = bytes }
+
+-- a link comes into a hand that belongs to no right, and goes home again
+abbrev pub with_hand : View → Hand → View
+with_hand v h = record v { hands = h ∷ v.hands }
+
+abbrev pub without_hand : View → ℕ → View
+without_hand v k = record v { hands = filter (λ (x : Hand). not (x.link == k)) v.hands }
+
+-- the same, where the link's pass is spent for it
+abbrev pub spent_hand : View → Hand → View
+spent_hand v h = record v { passes = without_pass h.link v.passes; hands = h ∷ v.hands }

@@ -1,0 +1,157 @@
+-- All seats on one thread as plain data, and what one tick of one seat makes of it.
+use Rattle.std.specs.Prelude.{ℕ, ◌+◌, ◌-◌, ◌*◌, ◌==◌, true, if◌then◌else◌, bit_or, List, [], ◌∷◌, ◌++◌, fold, slice_index, slice_set}
+use Rattle.std.specs.Prelude as std
+use mathlib.Core.Option.{Option, some, none}
+use lib.ListN.{get_elem?}
+use Rattle.sock_words.specs.declared.outcome.Outcome.{Outcome}
+use Rattle.sock_words.specs.declared.plain.Plan.{Plan}
+use Rattle.sock_model.specs.declared.home.Home.{Home}
+use Rattle.sock_model.specs.declared.home.Home.TheVariants.{Link}
+use Rattle.sock_model.specs.Memory.{IDLE}
+use Rattle.sock_model.specs.Layout.{tag_word, ref_word, link_word, head_word, code_word, name_word, open_word}
+use Rattle.sock_programs.specs.Calls.{Call, ClaimSlot, GiveBirth, AddRef, SubRef, SetOdd, Recycle, FreeSlot, StoreLink, LoadLink, ResetHead, WipeCode, StoreCode, StoreName, LoadName, StoreOpen, LoadOpen, TakeLink, FinishLink, PutLink}
+use Rattle.sock_words.specs.Words.{socket_id_slot, vref_version}
+use Rattle.sock_programs.specs.Programs.{Program, Do, Say}
+
+-- a seat: what it has still to do, and the links that it has in hand, the latest first
+pub record SeatState : Type 0 where
+  pub program : Program
+  pub hand : List Home
+
+-- the words, the homes of requests and links, each with what lies there or nothing, the seats, and the outcome of each operation so far
+pub record Core : Type 0 where
+  pub words : List ℕ
+  pub homes : List (Option Home)
+  pub seats : List SeatState
+  pub outcomes : List (std.Option Outcome)
+
+-- ## The words
+
+module _ (p : Plan) where
+  -- the place of the word that a step reads or changes; a move has none
+  abbrev pub word_of : Call → Option ℕ
+  word_of (ClaimSlot i) = some (tag_word i)
+  word_of (GiveBirth i k) = some (ref_word i)
+  word_of (AddRef id) = some (ref_word (socket_id_slot id))
+  word_of (SubRef i) = some (ref_word i)
+  word_of (SetOdd i) = some (ref_word i)
+  word_of (Recycle i from) = some (ref_word i)
+  word_of (FreeSlot i) = some (tag_word i)
+  word_of (StoreLink i k) = some (link_word i)
+  word_of (LoadLink i w) = some (link_word i)
+  word_of (ResetHead i k) = some (head_word i)
+  word_of (WipeCode i k) = some (code_word i)
+  word_of (StoreCode i h c) = some (code_word i)
+  word_of (StoreName n w) = some (name_word p n)
+  word_of (LoadName n) = some (name_word p n)
+  word_of (StoreOpen o w) = some (open_word p o)
+  word_of (LoadOpen o) = some (open_word p o)
+  word_of (TakeLink k) = none
+  word_of (FinishLink k) = none
+  word_of (PutLink k) = none
+
+-- the word after a step that found this word
+abbrev pub word_after : Call → ℕ → ℕ
+word_after (ClaimSlot i) found = 1
+word_after (GiveBirth i k) found = found + 1
+word_after (AddRef id) found = found + 1
+word_after (SubRef i) found = found - 1
+word_after (SetOdd i) found = bit_or found 4294967296
+word_after (Recycle i from) found = if found == from then (vref_version from + 1) * 4294967296 else found
+word_after (FreeSlot i) found = 0
+word_after (StoreLink i k) found = k
+word_after (ResetHead i k) found = IDLE
+word_after (WipeCode i k) found = 0
+word_after (StoreCode i h c) found = c
+word_after (StoreName n w) found = w
+word_after (StoreOpen o w) found = w
+word_after other found = found
+
+-- ## A step of seat i
+
+-- what the step found: the word, or nothing of a move
+abbrev pub found_at : List ℕ → Option ℕ → ℕ
+found_at ws none = 0
+found_at ws (some x) = slice_index ws x
+
+-- the words after a step
+abbrev pub words_after : List ℕ → Option ℕ → ℕ → List ℕ
+words_after ws none w = ws
+words_after ws (some x) w = slice_set ws x w
+
+-- the first that is in hand, and the others
+abbrev pub first_of : List Home → Option Home
+first_of [] = none
+first_of (x ∷ xs) = some x
+
+abbrev pub others_of : List Home → List Home
+others_of [] = []
+others_of (x ∷ xs) = xs
+
+-- what lies at a home
+abbrev pub lies_at : List (Option Home) → ℕ → List Home
+lies_at hs i = elim (get_elem? hs i) as (λ o. List Home) [ none ↦ [] | some x ↦ elim x as (λ o. List Home) [ none ↦ [] | some y ↦ y ∷ [] ] ]
+
+-- a link whose writing half is ended
+abbrev pub finished : Home → Home
+finished (Link k took next done) = Link k took next true
+finished other = other
+
+module _ (p : Plan) where
+  -- the home of a link stands behind those of the requests
+  abbrev pub link_place : ℕ → ℕ
+  link_place k = p.requests + k
+
+  -- the homes after a move
+  abbrev pub homes_after : Call → List Home → List (Option Home) → List (Option Home)
+  homes_after (TakeLink k) hand hs = slice_set hs (link_place k) none
+  homes_after (PutLink k) hand hs = slice_set hs (link_place k) (first_of hand)
+  homes_after other hand hs = hs
+
+  -- what is in hand after a move, or after the link in hand is ended
+  abbrev pub hand_after : Call → List (Option Home) → List Home → List Home
+  hand_after (TakeLink k) hs hand = lies_at hs (link_place k) ++ hand
+  hand_after (PutLink k) hs hand = others_of hand
+  hand_after (FinishLink k) hs [] = []
+  hand_after (FinishLink k) hs (x ∷ hand) = finished x ∷ hand
+  hand_after other hs hand = hand
+
+-- ## What is said, and the next step
+
+-- the outcomes with those that are said before the next step
+abbrev pub said : Program → List (std.Option Outcome) → List (std.Option Outcome)
+said (Say o outcome rest) os = said rest (slice_set os o (std.Some outcome))
+said other os = os
+
+-- the program from its next step on
+abbrev pub next_step : Program → Program
+next_step (Say o outcome rest) = next_step rest
+next_step other = other
+
+-- seat i has this program and this in hand, and said what comes before its next step
+abbrev pub with_seat : ℕ → Program → List Home → List ℕ → List (Option Home) → Core → Core
+with_seat i program hand ws hs c = record {
+  words = ws;
+  homes = hs;
+  seats = slice_set c.seats i (record { program = next_step program; hand = hand });
+  outcomes = said program c.outcomes;
+}
+
+-- a step of seat i, which goes on by what it found
+abbrev pub stepped : Plan → ℕ → SeatState → Call → (ℕ → Program) → Core → Core
+stepped p i seat call next c =
+    let found = found_at c.words (word_of p call) in
+    with_seat i (next found) (hand_after p call c.homes seat.hand) (words_after c.words (word_of p call) (word_after call found)) (homes_after p call seat.hand c.homes) c
+
+-- a tick of a seat in this state: its next step, if it has one
+abbrev pub tick_of : Plan → ℕ → SeatState → Program → Core → Core
+tick_of p i seat (Do call next) c = stepped p i seat call next c
+tick_of p i seat other c = c
+
+-- a tick of seat i; where there is no such seat nothing changes
+abbrev pub ticked : Plan → Core → ℕ → Core
+ticked p c i = elim (get_elem? c.seats i) as (λ o. Core) [ none ↦ c | some seat ↦ tick_of p i seat seat.program c ]
+
+-- ticks of these seats, one after another
+abbrev pub run : Plan → Core → List ℕ → Core
+run p c seats = fold (ticked p) c seats

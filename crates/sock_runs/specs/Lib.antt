@@ -1,0 +1,4 @@
+pub mod Rows
+pub mod May
+pub mod GoesOn
+pub mod Sound

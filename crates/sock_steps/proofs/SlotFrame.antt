@@ -1,0 +1,120 @@
+-- A step on a word of a slot, or on a word that names a life, leaves the chains' part of the rule as it was.
+use Rattle.std.proofs.Common.{◌≡◌, ℕ, ◌-◌, ◌*◌, ◌<◌, ◌≤◌, ◌⊎◌, eqb, List, get_or, set, refl, sym, ap, ◌∙◌, subst, inl, inr, ⊎_elim, arith}
+use Rattle.std.specs.List.{filter}
+use mathlib.Core.Option.{Option, some, none}
+use lib.ListN.{get_elem?}
+use Rattle.atomic_table.specs.Table.{State}
+use Rattle.atomic_table.proofs.Lists.{at_set}
+use Rattle.sock_model.specs.declared.chain.Right.{Right}
+use Rattle.sock_model.specs.declared.chain.Claim.{Claim}
+use Rattle.sock_model.specs.declared.chain.Loose.{Loose}
+use Rattle.sock_model.specs.declared.home.Home.{Home}
+use Rattle.sock_words.specs.declared.plain.Plan.{Plan}
+use Rattle.sock_model.specs.declared.view.View.{View}
+use Rattle.sock_model.specs.Weights.{total, is_reset, is_recycled, is_hold, is_met}
+use Rattle.sock_model.specs.Layout.{head_word, request_word, next_word, place_word}
+use Rattle.sock_model.specs.Slots.{count}
+use Rattle.sock_model.specs.References.{slot_facts, References}
+use Rattle.sock_model.specs.SlotRows.{marks_of}
+use Rattle.sock_model.specs.Memory.{IDLE}
+use Rattle.sock_model.specs.Reads.{head_at, rights_on, claims_of, loose_at, tokens, message, waits_of, carries, hands_of}
+use Rattle.sock_model.specs.Links.{HoldsRights, Failed, InSlots}
+use Rattle.sock_model.specs.Homes.{Unborn, Recycles, LinkHomes}
+use Rattle.sock_model.specs.Lawful.{Lawful}
+use Rattle.slot_laws.proofs.Sums.{total-set}
+use Rattle.chain_laws.proofs.Frames.{chains_frame}
+use Rattle.chain_laws.proofs.Gather.{gather_same}
+use Rattle.chain_laws.proofs.Authored.{keeps_lists}
+use Rattle.chain_laws.proofs.Letters.{messages_frame}
+use Rattle.chain_laws.proofs.Delivers.{delivers_same, delivers_failed}
+use Rattle.sock_steps.proofs.Steady.{Steady, SameChain}
+use Rattle.sock_steps.proofs.Places.{given_to, given_from, lives_to, lives_from, failed_to}
+
+-- rights that stay, and lives that are held and known as before
+pub still_holds : (p : Plan) (v w : View) → ((j h k : ℕ) → marks_of (is_met h k) j v ≤ marks_of (is_met h k) j w) → ((j h : ℕ) → marks_of (is_hold h) j v ≤ marks_of (is_hold h) j w) → w.rights ≡ v.rights → HoldsRights p v → HoldsRights p w
+still_holds p v w known hold same a i r g = let x = a i r (subst (λ l. get_elem? l i ≡ some r) same g) in let y = x.3 in let b = y.held in let c = y.met in
+    (x.0, x.1, x.2, record { inside = y.inside; held = omega (arith, hold x.1 x.2); met = omega (arith, known x.1 x.2 r.link) })
+
+-- the words that the chains read
+pub record ChainWords (p : Plan) (slot : ℕ → Option ℕ) (ws vs : List ℕ) : Type 0 where
+  pub heads : (k j : ℕ) → slot k ≡ some j → get_or vs (head_word j) 0 ≡ get_or ws (head_word j) 0
+  pub nexts : (r : ℕ) → r < p.requests → get_or vs (next_word p r) 0 ≡ get_or ws (next_word p r) 0
+  pub requests : (r : ℕ) → r < p.requests → get_or vs (request_word p r) 0 ≡ get_or ws (request_word p r) 0
+  pub places : (l : ℕ) → l < 8 * p.operations → get_or vs (place_word p l) 0 ≡ get_or ws (place_word p l) 0
+
+pub head_is : (slot : Option ℕ) (ws vs : List ℕ) → ((j : ℕ) → slot ≡ some j → get_or vs (head_word j) 0 ≡ get_or ws (head_word j) 0) → head_at vs slot ≡ head_at ws slot
+head_is none ws vs h = refl
+head_is (some j) ws vs h = ap (λ (y : ℕ). some y) (h j refl)
+
+module _ {S : Type 0} (shows : S → Home) (p : Plan) (s : State S View) (o : Lawful shows p s) (id : ℕ) (v w : View) (here : get_elem? s.views id ≡ some v) (ws : List ℕ) (same : SameChain v w) (st : Steady v w) where
+  abbrev t : State S View
+  t = record { words = ws; homes = s.homes; views = set s.views id w }
+
+  pub rights_stay : (k : ℕ) → (tokens (set s.views id w)).rights k ≡ (tokens s.views).rights k
+  rights_stay k = gather_same (rights_on k) s.views id v w here (ap (λ (l : List Right). filter (λ (x : Right). eqb x.link k) l) same.rights)
+
+  pub claims_stay : (r : ℕ) → (tokens (set s.views id w)).claims r ≡ (tokens s.views).claims r
+  claims_stay r = gather_same (claims_of r) s.views id v w here (ap (λ (l : List Claim). filter (λ (x : Claim). eqb x.request r) l) same.claims)
+
+  pub loose_stay : (r : ℕ) → (tokens (set s.views id w)).loose r ≡ (tokens s.views).loose r
+  loose_stay r = gather_same (loose_at r) s.views id v w here (ap (λ (l : List Loose). filter (λ (x : Loose). eqb x.request r) l) same.loose)
+
+  handlers_stay : (k : ℕ) → total (hands_of k) (set s.views id w) ≡ total (hands_of k) s.views
+  handlers_stay k = omega (arith, total-set (hands_of k) s.views id v w here, ap (total (carries k)) same.hands)
+
+  waiters_less : (k : ℕ) → total (waits_of k) (set s.views id w) ≤ total (waits_of k) s.views
+  waiters_less k = omega (arith, total-set (waits_of k) s.views id v w here, st.waits k)
+
+  pub in_slots_stay : ((j : ℕ) → j < p.slots → 0 < count is_reset (slot_facts t j) → get_or ws (head_word j) 0 ≡ IDLE) → InSlots p t o.slot o.log
+  in_slots_stay reset = record {
+    lives = λ k j e. let a = o.in_slots.lives k j e in (a.0, lives_to p s id v w here ws s.homes st j a.0 k a.1);
+    alone = λ j h k g. o.in_slots.alone j h k (lives_from p s id v w here ws s.homes st j h k g);
+    small = λ j h k g. o.in_slots.small j h k (given_from p s id v w here ws s.homes st j h k g);
+    entered = λ q e g. let a = o.in_slots.entered q e g in (a.0, a.1, given_to p s id v w here ws s.homes st a.0 a.1 e.link a.2);
+    reset = reset;
+  }
+
+  held_stay : HoldsRights p w → (j : ℕ) (u : View) → get_elem? (set s.views id w) j ≡ some u → HoldsRights p u
+  held_stay now j u g = ⊎_elim (λ y. subst (HoldsRights p) y.1 now) (λ y. o.held j u y.1) (at_set s.views id j w u g)
+
+  homes_stay : ((j x : ℕ) → marks_of (is_recycled x) j v ≤ marks_of (is_recycled x) j w) ⊎ ((k : ℕ) → hands_of k w ≡ 0) → LinkHomes shows p t o.slot
+  homes_stay hands = record {
+    own = o.homes.own;
+    idle = λ k j kl sk h. o.homes.idle k j kl sk (sym (rights_stay k) ∙ h);
+    busy = λ k r kl h. o.homes.busy k r kl (sym (rights_stay k) ∙ h);
+    waiting = λ k h. o.homes.waiting k (omega (arith, waiters_less k));
+    outside = λ k kl sk. ⊎_elim (λ y. inl y) (λ y. inr (omega (arith, handlers_stay k))) (o.homes.outside k kl sk);
+    hands = λ k h. let a = o.homes.hands k (omega (arith, handlers_stay k)) in let b = a.1 in (a.0, omega (arith, waiters_less k));
+    hand_of = λ j k u g h. ⊎_elim
+        (λ y. let hv : 0 < hands_of k v = omega (arith, ap (hands_of k) y.1, ap (total (carries k)) same.hands) in
+        ⊎_elim (λ more. carry u (λ a x. let q = ap (λ (z : View). marks_of (is_recycled x) a z) y.1 in omega (arith, more a x)) (o.homes.hand_of id k v here hv))
+        (λ none_. absurd (omega (arith, none_ k, ap (hands_of k) y.1))) hands)
+        (λ y. carry u (λ a x. omega arith) (o.homes.hand_of j k u y.1 h)) (at_set s.views id j w u g);
+  }
+    where
+      carry : {k : ℕ} {v' : View} (u : View) → ((a x : ℕ) → marks_of (is_recycled x) a v' ≤ marks_of (is_recycled x) a u) → Unborn shows p s k ⊎ Recycles shows p s v' k → Unborn shows p t k ⊎ Recycles shows p t u k
+      carry {k} {v'} u more (inl a) = inl (λ j h g. a j h (given_from p s id v w here ws s.homes st j h k g))
+      carry {k} {v'} u more (inr a) = let b = a.recycling in inr record { slot = a.slot; version = a.version; recycling = omega (arith, more a.slot a.version); life = given_to p s id v w here ws s.homes st a.slot (a.version - 2) k a.life }
+
+  -- the whole rule, from that of the slots
+  pub slot_frame : ChainWords p o.slot s.words ws → ((j : ℕ) → j < p.slots → 0 < count is_reset (slot_facts t j) → get_or ws (head_word j) 0 ≡ IDLE) → HoldsRights p w
+      → ((j x : ℕ) → marks_of (is_recycled x) j v ≤ marks_of (is_recycled x) j w) ⊎ ((k : ℕ) → hands_of k w ≡ 0) → References p t → Lawful shows p t
+  slot_frame words reset held hands refs = record {
+    slot = o.slot;
+    log = o.log;
+    freed = o.freed;
+    places = o.places;
+    kept = o.kept;
+    fits = o.fits;
+    references = refs;
+    in_slots = in_slots_stay reset;
+    held = held_stay held;
+    chains = chains_frame o.chains (λ k kl. head_is (o.slot k) s.words ws (words.heads k)) words.nexts words.requests (λ k kl. rights_stay k) (λ r rl. claims_stay r) (λ r rl. loose_stay r);
+    authors = keeps_lists (λ (y : View). y.lists) s.views o.log id v w o.authors here same.lists;
+    messages = messages_frame o.chains o.messages (tokens (set s.views id w)) (message shows s.homes) (λ r rl. refl) (λ r rl. claims_stay r)
+        (λ k e kl u. record { right = u.right; has = rights_stay k ∙ u.has; stage = u.stage; taken = u.taken }) (λ k r kl h f. (r, sym (rights_stay k) ∙ h, f, refl, refl, refl));
+    delivered = delivers_failed (delivers_same o.delivered (tokens (set s.views id w)) (λ l. get_or ws (place_word p l) 0) words.places (λ k r kl h. (r, sym (rights_stay k) ∙ h, refl, refl, refl)))
+        (Failed p t) (λ k kl. failed_to p s id v w here ws s.homes st k);
+    carried = λ j n u h g e. ⊎_elim (λ y. o.carried id n v h here (subst (λ l. get_elem? l n ≡ some h) (ap (λ (z : View). z.hands) (sym y.1) ∙ same.hands) e)) (λ y. o.carried j n u h y.1 e) (at_set s.views id j w u g);
+    homes = homes_stay hands;
+  }
