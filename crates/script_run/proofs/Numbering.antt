@@ -1,5 +1,9 @@
 -- Links that are opened and given back one after another.
-use Rattle.std.proofs.Common.{◌≡◌, ◌≢◌, ℕ, ◌+◌, ◌<◌, ◌≤◌, List, [], ◌∷◌, ◌++◌, length, map, ap, sym, subst, refl, ◌∙◌, arith}
+use Rattle.std.proofs.Common.{◌≡◌, ◌≢◌, ℕ, ◌+◌, ◌<◌, ◌≤◌, List, [], ◌∷◌, ◌++◌, length, map, get_or, drop, count_by, true, suc, ap, sym, subst, refl, ◌∙◌, append_assoc, min, arith}
+use Rattle.std.proofs.lemmas.List.{length-map, length-append, drop_more}
+use Rattle.script_items.specs.Meaning.{item}
+use Rattle.script_items.specs.declared.line.Line.{Line}
+use Rattle.brpc_model.specs.Items.{Shape, Item, Open, is_open}
 use Rattle.std.specs.List.{AllByRecursion}
 use Rattle.brpc_model.specs.Link.{LinkEnd}
 use Rattle.sock_io.specs.Link.{OutState, InState, IsFresh, end_of}
@@ -26,3 +30,20 @@ untouched out inn number n f e = record { link = f.link ∙ e; took = f.took; pu
 pub map_more : {A B : Type 0} (f : A → B) (xs : List A) (x : A) → map f (xs ++ x ∷ []) ≡ map f xs ++ f x ∷ []
 map_more f [] x = refl
 map_more f (y ∷ ys) x = ap (λ l. f y ∷ l) (map_more f ys x)
+
+-- one more link is opened
+pub opened_more : {A : Type 0} (f : A → LinkEnd) (old new : List A) (x : A) → AreUntouched 0 (map f old) → new ≡ old ++ x ∷ [] → IsUntouched (length old) (f x) → AreUntouched 0 (map f new)
+opened_more f old new x h e u = subst (AreUntouched 0) (sym (ap (map f) e ∙ map_more f old x)) (one_more 0 (map f old) (f x) h (subst (λ (n : ℕ). IsUntouched n (f x)) (omega (arith, length-map old f)) u))
+
+pub one_longer : {A : Type 0} (old new : List A) (x : A) → new ≡ old ++ x ∷ [] → length new ≡ length old + 1
+one_longer old new x e = ap length e ∙ length-append old (x ∷ [])
+
+-- one more link is given back
+pub given_more : {A : Type 0} (f : A → LinkEnd) (back more : List LinkEnd) (left rest : List A) (x : A) (all : List LinkEnd) → back ++ map f left ≡ all → left ≡ x ∷ rest → more ≡ back ++ f x ∷ [] → more ++ map f rest ≡ all
+given_more f back more left rest x all h l e = ap (λ b. b ++ map f rest) e ∙ append_assoc back (f x ∷ []) (map f rest) ∙ sym (ap (λ xs. back ++ map f xs) l) ∙ h
+
+pub next_number : {A : Type 0} (f : A → LinkEnd) (back : List LinkEnd) (left rest : List A) (x : A) (all : List A) (n next : ℕ) → back ++ map f left ≡ map f all → left ≡ x ∷ rest → length all ≤ 256 → n ≡ length back → next ≡ min (n + 1) 65535 → next ≡ n + 1
+next_number f back left rest x all n next h l few e m = omega (arith, few, e, m, ap length h, length-append back (map f left), length-map left f, length-map all f, ap length l)
+
+pub numbered_rest : {A : Type 0} (f : A → LinkEnd) (left rest : List A) (x : A) (n next : ℕ) → AreNumbered n (map f left) → left ≡ x ∷ rest → next ≡ n + 1 → AreNumbered next (map f rest)
+numbered_rest f left rest x n next h l e = subst (λ (k : ℕ). AreNumbered k (map f rest)) (sym e) (subst (λ xs. AreNumbered n (map f xs)) l h).1

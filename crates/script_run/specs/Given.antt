@@ -1,6 +1,8 @@
 -- Links as they are opened and given back.
 use Rattle.std.specs.Prelude.{ℕ, ◌≡◌, ◌+◌, false, List, [], ◌∷◌, ◌++◌, IfSome, Bool, true, nat_lt}
-use Rattle.brpc_model.specs.Items.{Item, Open}
+use Rattle.brpc_model.specs.Items.{Item, Open, is_open}
+use Rattle.script_items.specs.Meaning.{item}
+use Rattle.script_items.specs.declared.line.Line.{Line}
 use Rattle.brpc_model.specs.Link.{LinkEnd}
 
 -- the link of this number took and gave nothing, and did not fail
@@ -27,3 +29,11 @@ AreNumbered number (e ∷ es) = (e.link ≡ number) × AreNumbered (number + 1) 
 abbrev pub has_piece : Item → Bool
 has_piece (Open name shape) = nat_lt 0 shape.piece
 has_piece other = true
+
+-- the line opens a link
+abbrev pub is_open_line : Line → Bool
+is_open_line line = is_open (item line)
+
+-- and a put on its link takes a byte at least
+abbrev pub has_piece_line : Line → Bool
+has_piece_line line = has_piece (item line)

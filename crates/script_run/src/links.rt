@@ -1,4 +1,4 @@
-ghost use Rattle.std.specs.Prelude.{◌≡◌, ◌≤◌, ◌<◌, ◌+◌, ◌++◌, ◌∷◌, ℕ, true, [], List, length, map, count_by, OnOk, OnErr, IsErrOf};
+ghost use Rattle.std.specs.Prelude.{◌≡◌, ◌≤◌, ◌<◌, ◌+◌, ◌++◌, ◌∷◌, ℕ, true, [], List, length, map, count_by, OnOk, OnErr, IsErrOf, if◌then◌else◌};
 ghost use Rattle.std.specs.List.{list_all, AllByRecursion};
 ghost use Rattle.brpc_model.specs.Link.{LinkEnd};
 ghost use Rattle.sock_io.specs.declared.link.Ends.{Ends};
@@ -6,7 +6,7 @@ ghost use Rattle.brpc_model.specs.Items.{is_open};
 ghost use Rattle.script_items.specs.Meaning.{item};
 ghost use Rattle.sock_io.specs.Causes.{Rose};
 ghost use Rattle.sock_io.specs.Link.{end_of};
-ghost use Rattle.script_run.specs.Given.{IsUntouched, AreUntouched, AreNumbered, has_piece};
+ghost use Rattle.script_run.specs.Given.{IsUntouched, AreUntouched, AreNumbered, has_piece, is_open_line, has_piece_line};
 
 use script_items::{Line, OpenLine};
 use sock_io::{Ends, LinkSpec, Linker, Mode, OpenFault};
@@ -35,8 +35,8 @@ fn open_one<L: Linker>(
     requires piece { 0 < «open».now.shape.piece }
     requires opened { L.opened links.old ≡ length ends.old.items }
     requires few { length ends.old.items < 256 }
-    ensures one { OnOk result ((e : Ends L.O L.I L.P) × (ends.new.items ≡ ends.old.items ++ e ∷ []) × IsUntouched (length ends.old.items) (end_of (L.O.state e.out) (L.I.state e.inn))) }
-    ensures err { OnErr result (ends.new.items ≡ ends.old.items) }
+    ensures fresh { AreUntouched 0 (map (λ e. end_of (L.O.state e.out) (L.I.state e.inn)) ends.old.items) → AreUntouched 0 (map (λ e. end_of (L.O.state e.out) (L.I.state e.inn)) ends.new.items) }
+    ensures count { OnOk result (length ends.new.items ≡ length ends.old.items + 1) }
     ensures opened { L.opened links.new ≡ length ends.new.items }
     ensures back { L.back links.new ≡ L.back links.old }
     ensures prompt { L.prompt links.new ≡ L.prompt links.old }
@@ -53,6 +53,29 @@ fn open_one<L: Linker>(
     Ok(())
 }
 
+/// Opens the link of a line, where it is an `open` line.
+fn open_line<L: Linker>(
+    line: &Line,
+    links: &mut L,
+    ends: &mut Vec<Ends<L::O, L::I, L::P>>,
+) -> Result<(), OpenFault>
+    requires piece { has_piece (item line.now) ≡ true }
+    requires opened { L.opened links.old ≡ length ends.old.items }
+    requires few { is_open (item line.now) ≡ true → length ends.old.items < 256 }
+    ensures fresh { AreUntouched 0 (map (λ e. end_of (L.O.state e.out) (L.I.state e.inn)) ends.old.items) → AreUntouched 0 (map (λ e. end_of (L.O.state e.out) (L.I.state e.inn)) ends.new.items) }
+    ensures count { OnOk result (length ends.new.items ≡ length ends.old.items + (if is_open (item line.now) then 1 else 0)) }
+    ensures opened { L.opened links.new ≡ length ends.new.items }
+    ensures back { L.back links.new ≡ L.back links.old }
+    ensures prompt { L.prompt links.new ≡ L.prompt links.old }
+    ensures later { L.faults links.old ≤ L.faults links.new }
+    ensures failed { IsErrOf result OpenFault.Failed → Rose (L.faults links.old) (L.faults links.new) }
+{
+    match line {
+        Line::Open(open) => open_one(open, links, ends),
+        _ => Ok(()),
+    }
+}
+
 /// Opens the link of each `open` line, in order. Where one can't be opened, those before it are in `ends`.
 pub fn open_links<L: Linker>(
     lines: &[Line],
@@ -61,10 +84,10 @@ pub fn open_links<L: Linker>(
 ) -> Result<(), OpenFault>
     requires opened { L.opened links.old ≡ 0 }
     requires ends { ends.old.items ≡ [] }
-    requires few { count_by is_open (map item lines.now) ≤ 256 }
-    requires pieces { list_all has_piece (map item lines.now) ≡ true }
+    requires few { count_by is_open_line lines.now ≤ 256 }
+    requires pieces { list_all has_piece_line lines.now ≡ true }
     ensures fresh { AreUntouched 0 (map (λ e. end_of (L.O.state e.out) (L.I.state e.inn)) ends.new.items) }
-    ensures whole { OnOk result (length ends.new.items ≡ count_by is_open (map item lines.now)) }
+    ensures whole { OnOk result (length ends.new.items ≡ count_by is_open_line lines.now) }
     ensures opened { L.opened links.new ≡ length ends.new.items }
     ensures back { L.back links.new ≡ L.back links.old }
     ensures prompt { L.prompt links.new ≡ L.prompt links.old }
@@ -72,9 +95,7 @@ pub fn open_links<L: Linker>(
     ensures failed { IsErrOf result OpenFault.Failed → Rose (L.faults links.old) (L.faults links.new) }
 {
     for line in lines {
-        if let Line::Open(open) = line {
-            open_one(open, links, ends)?;
-        }
+        open_line(line, links, ends)?;
     }
     Ok(())
 }
