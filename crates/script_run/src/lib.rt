@@ -2,5 +2,7 @@
 #![tactic(auto)]
 
 mod links;
+mod run;
+mod schedule;
 
-pub use links::{give_back, open_links};
+pub use run::{RunFault, run_quiet};
