@@ -1,13 +1,15 @@
 -- Links that are opened and given back one after another.
-use Rattle.std.proofs.Common.{◌≡◌, ◌≢◌, ℕ, ◌+◌, ◌<◌, ◌≤◌, List, [], ◌∷◌, ◌++◌, length, map, get_or, drop, count_by, true, suc, ap, sym, subst, refl, ◌∙◌, append_assoc, min, arith}
-use Rattle.std.proofs.lemmas.List.{length-map, length-append, drop_more}
+use Rattle.std.proofs.Common.{◌≡◌, ◌≢◌, ℕ, ◌+◌, ◌<◌, ◌≤◌, List, [], ◌∷◌, ◌++◌, length, map, count_by, sum_by, cond, ap, sym, subst, refl, ◌∙◌, append_assoc, min, arith}
+use Rattle.std.proofs.lemmas.List.{length-map, length-append}
+use Rattle.std.proofs.lemmas.List.Sums.{sum_by-cons}
+use Rattle.std.proofs.lemmas.List.Folds.{list_all-map}
 use Rattle.script_items.specs.Meaning.{item}
 use Rattle.script_items.specs.declared.line.Line.{Line}
-use Rattle.brpc_model.specs.Items.{Shape, Item, Open, is_open}
-use Rattle.std.specs.List.{AllByRecursion}
+use Rattle.brpc_model.specs.Items.{Item, is_open}
+use Rattle.std.specs.List.{AllByRecursion, list_all}
 use Rattle.brpc_model.specs.Link.{LinkEnd}
 use Rattle.sock_io.specs.Link.{OutState, InState, IsFresh, end_of}
-use Rattle.script_run.specs.Given.{IsUntouched, AreUntouched, AreNumbered}
+use Rattle.script_run.specs.Given.{IsUntouched, AreUntouched, AreNumbered, is_open_line, has_piece, has_piece_line}
 
 -- one more untouched link
 pub one_more : (n : ℕ) (es : List LinkEnd) (e : LinkEnd) → AreUntouched n es → IsUntouched (n + length es) e → AreUntouched n (es ++ e ∷ [])
@@ -47,3 +49,18 @@ next_number f back left rest x all n next h l few e m = omega (arith, few, e, m,
 
 pub numbered_rest : {A : Type 0} (f : A → LinkEnd) (left rest : List A) (x : A) (n next : ℕ) → AreNumbered n (map f left) → left ≡ x ∷ rest → next ≡ n + 1 → AreNumbered next (map f rest)
 numbered_rest f left rest x n next h l e = subst (λ (k : ℕ). AreNumbered k (map f rest)) (sym e) (subst (λ xs. AreNumbered n (map f xs)) l h).1
+
+pub numbered_of : (n : ℕ) (es : List LinkEnd) → AreUntouched n es → AreNumbered n es
+numbered_of n [] h = tt
+numbered_of n (e ∷ es) h = (h.0.link, numbered_of (n + 1) es h.1)
+
+-- the links of the lines, and of what they say
+pub opens_of : (lines : List Line) → count_by is_open_line lines ≡ count_by is_open (map item lines)
+opens_of lines = sum_of (λ line. cond (is_open line) 1 0) lines
+  where
+    sum_of : (f : Item → ℕ) (ls : List Line) → sum_by (λ line. f (item line)) ls ≡ sum_by f (map item ls)
+    sum_of f [] = refl
+    sum_of f (l ∷ ls) = sum_by-cons (λ line. f (item line)) l ls ∙ ap (λ n. f (item l) + n) (sum_of f ls) ∙ sym (sum_by-cons f (item l) (map item ls))
+
+pub pieces_of : (lines : List Line) → list_all has_piece_line lines ≡ list_all has_piece (map item lines)
+pieces_of lines = sym (list_all-map has_piece item lines)

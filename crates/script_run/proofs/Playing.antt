@@ -1,5 +1,5 @@
 -- Ticks of one seat, and the lines of a schedule, one after another.
-use Rattle.std.proofs.Common.{◌≡◌, ◌≢◌, ℕ, zero, suc, ◌+◌, ◌-◌, ◌≤◌, ◌⊎◌, inl, inr, List, [], ◌∷◌, ◌++◌, map, take, get_or, length, replicate, filter_map, Option, Some, None, ap, sym, subst, refl, ◌∙◌, append_assoc, append-nil, arith, slice_set, min, leb, is_some, Result, Ok, Err, OnOk, Bool, true, false, ◌<◌}
+use Rattle.std.proofs.Common.{◌≡◌, ◌≢◌, ℕ, zero, suc, ◌+◌, ◌-◌, ◌≤◌, inl, inr, List, [], ◌∷◌, ◌++◌, map, take, get_or, length, replicate, Option, Some, None, ap, sym, subst, refl, ◌∙◌, append_assoc, append-nil, arith, slice_set, min, leb, is_some, Result, Ok, Err, OnOk, true, false, ◌<◌}
 use Rattle.std.proofs.lemmas.List.Sums.{fold-append}
 use Rattle.std.proofs.lemmas.List.{replicate-append-replicate, length-set, take_more}
 use Rattle.std.proofs.lemmas.Bool.{leb-false, leb-true}
@@ -17,12 +17,11 @@ use Rattle.sock_words.specs.declared.kind.Kind.{Kind}
 use Rattle.sock_words.specs.declared.plain.Plan.{Plan}
 use Rattle.sock_words.specs.KindText.{kind_text}
 use Rattle.sock_words.proofs.KindNames.{found_by_name}
-use Rattle.brpc_model.specs.Operations.{Turn, Ticks, Until, turn_of, schedule, seat_number}
-use Rattle.sock_programs.specs.Calls.{kind_of}
+use Rattle.brpc_model.specs.Operations.{Turn, turn_of, schedule, seat_number}
 use Rattle.sock_programs.specs.Programs.{Program, Do, Say, Rest}
 use Rattle.sock_programs.specs.Cores.{Core, SeatState, ticked, tick_of, run}
 use Rattle.sock_programs.specs.Runs.{next_kind, kind_in, IsAtRest, LeadsUpTo, Turns, Scheduled}
-use Rattle.script_run.specs.Played.{IsPlayable, AreOthers, HasOthersOnly, HasTurns, HasPlayed, HasPlayedAll}
+use Rattle.script_run.specs.Played.{IsPlayable, AreOthers, HasOthersOnly, HasPlayed, HasPlayedAll}
 
 -- ## One tick
 
@@ -180,9 +179,13 @@ scheduled_one p c turn seats h = (seats, [], sym (append-nil seats), h, refl)
 scheduled_more : (p : Plan) (turns : List Turn) (c : Core) (turn : Turn) (seats more : List ℕ) → Scheduled p c turns seats → Turns p (run p c seats) turn more → Scheduled p c (turns ++ turn ∷ []) (seats ++ more)
 scheduled_more p [] c turn seats more h t =
     subst (Scheduled p c (turn ∷ [])) (sym (ap (λ s. s ++ more) h)) (scheduled_one p c turn more (subst (λ s. Turns p (run p c s) turn more) h t))
-scheduled_more p (u ∷ us) c turn seats more h t =
-    (h.0, h.1 ++ more, ap (λ s. s ++ more) h.2 ∙ append_assoc h.0 h.1 more, h.3,
-      scheduled_more p us (run p c h.0) turn h.1 more h.4 (subst (λ d. Turns p d turn more) (ap (run p c) h.2 ∙ ran_on p c h.0 h.1) t))
+scheduled_more p (u ∷ us) c turn seats more h t = (
+  h.0,
+  h.1 ++ more,
+  ap (λ s. s ++ more) h.2 ∙ append_assoc h.0 h.1 more,
+  h.3,
+  scheduled_more p us (run p c h.0) turn h.1 more h.4 (subst (λ d. Turns p d turn more) (ap (run p c) h.2 ∙ ran_on p c h.0 h.1) t),
+)
 
 -- one line more
 pub played_more : (p : Plan) (turns : List Turn) (turn : Option Turn) (start mid now : Core) → HasPlayedAll p turns start mid → HasPlayed p turn mid now → HasPlayedAll p (turns ++ cons_option turn []) start now
@@ -213,7 +216,7 @@ pub tick_line : {E : Type 0} (p : Plan) (old new : Core) (seat : Seat) (ticks nu
     OnOk r (new ≡ run p old (replicate ticks number)) → OnOk r (HasPlayed p (turn_of (item line)) old new)
 tick_line p old new seat ticks number line (Ok done) is at h ran =
     subst (λ l. HasPlayed p (turn_of (item l)) old new) (sym is)
-      (record { seats = replicate ticks (seat_number (seat_of seat)); turns = refl; ran = ticks_of p old new (seat_number (seat_of seat)) ticks h (ran ∙ ap (λ n. run p old (replicate ticks n)) at) })
+    (record { seats = replicate ticks (seat_number (seat_of seat)); turns = refl; ran = ticks_of p old new (seat_number (seat_of seat)) ticks h (ran ∙ ap (λ n. run p old (replicate ticks n)) at) })
 tick_line p old new seat ticks number line (Err e) is at h ran = tt
 
 pub to_line : {E : Type 0} (p : Plan) (old new : Core) (seat : Seat) (kind : Kind) (number : ℕ) (line : Line) (r : Result (Unit {0}) E) → line ≡ lines.To seat kind → number ≡ min (seat_number (seat_of seat)) 65535 → IsPlayable old →

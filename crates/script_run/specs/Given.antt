@@ -1,5 +1,5 @@
 -- Links as they are opened and given back.
-use Rattle.std.specs.Prelude.{ℕ, ◌≡◌, ◌+◌, false, List, [], ◌∷◌, ◌++◌, IfSome, Bool, true, nat_lt}
+use Rattle.std.specs.Prelude.{ℕ, ◌≡◌, ◌+◌, false, List, [], ◌∷◌, IfSome, Bool, true, nat_lt}
 use Rattle.brpc_model.specs.Items.{Item, Open, is_open}
 use Rattle.script_items.specs.Meaning.{item}
 use Rattle.script_items.specs.declared.line.Line.{Line}

@@ -37,6 +37,7 @@ fn open_one<L: Linker>(
     requires few { length ends.old.items < 256 }
     ensures fresh { AreUntouched 0 (map (λ e. end_of (L.O.state e.out) (L.I.state e.inn)) ends.old.items) → AreUntouched 0 (map (λ e. end_of (L.O.state e.out) (L.I.state e.inn)) ends.new.items) }
     ensures count { OnOk result (length ends.new.items ≡ length ends.old.items + 1) }
+    ensures err { OnErr result (length ends.new.items ≡ length ends.old.items) }
     ensures opened { L.opened links.new ≡ length ends.new.items }
     ensures back { L.back links.new ≡ L.back links.old }
     ensures prompt { L.prompt links.new ≡ L.prompt links.old }
@@ -64,6 +65,7 @@ fn open_line<L: Linker>(
     requires few { is_open (item line.now) ≡ true → length ends.old.items < 256 }
     ensures fresh { AreUntouched 0 (map (λ e. end_of (L.O.state e.out) (L.I.state e.inn)) ends.old.items) → AreUntouched 0 (map (λ e. end_of (L.O.state e.out) (L.I.state e.inn)) ends.new.items) }
     ensures count { OnOk result (length ends.new.items ≡ length ends.old.items + (if is_open (item line.now) then 1 else 0)) }
+    ensures err { OnErr result (length ends.new.items ≡ length ends.old.items) }
     ensures opened { L.opened links.new ≡ length ends.new.items }
     ensures back { L.back links.new ≡ L.back links.old }
     ensures prompt { L.prompt links.new ≡ L.prompt links.old }
@@ -88,6 +90,7 @@ pub fn open_links<L: Linker>(
     requires pieces { list_all has_piece_line lines.now ≡ true }
     ensures fresh { AreUntouched 0 (map (λ e. end_of (L.O.state e.out) (L.I.state e.inn)) ends.new.items) }
     ensures whole { OnOk result (length ends.new.items ≡ count_by is_open_line lines.now) }
+    ensures most { length ends.new.items ≤ count_by is_open_line lines.now }
     ensures opened { L.opened links.new ≡ length ends.new.items }
     ensures back { L.back links.new ≡ L.back links.old }
     ensures prompt { L.prompt links.new ≡ L.prompt links.old }
@@ -123,6 +126,7 @@ pub fn give_back<L: Linker>(links: &mut L, ends: Vec<Ends<L::O, L::I, L::P>>)
     requires back { L.back links.old ≡ [] }
     requires few { length ends.items ≤ 256 }
     ensures back { L.back links.new ≡ map (λ e. end_of (L.O.state e.out) (L.I.state e.inn)) ends.items }
+    ensures opened { L.opened links.new ≡ L.opened links.old }
     ensures faults { L.faults links.new ≡ L.faults links.old }
     ensures prompt { L.prompt links.new ≡ L.prompt links.old }
 {

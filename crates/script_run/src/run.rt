@@ -158,11 +158,7 @@ fn play<L: Linker>(
 }
 
 /// The report of a script with these outcomes.
-fn report(
-    alloc: Global,
-    script: &Script,
-    told: Vec<(u16, Outcome)>,
-) -> Result<Vec<u8>, AllocError>
+fn report(alloc: Global, script: &Script, told: Vec<(u16, Outcome)>) -> Result<Vec<u8>, AllocError>
     ensures { IfOk result (λ text. text.items ≡ report_text script.now (quiet_report script.now (map (λ o. o.1) told.items))) }
 {
     let outcomes = outcomes_of(alloc, told)?;

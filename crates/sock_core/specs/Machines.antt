@@ -1,5 +1,5 @@
 -- What contracts see of a machine, and what its calls do.
-use Rattle.std.specs.Prelude.{ℕ, ◌≡◌, ◌≢◌, ◌<◌, ◌-◌, ◌⊎◌, List, [], replicate, Some, None}
+use Rattle.std.specs.Prelude.{ℕ, ◌≡◌, ◌≢◌, ◌<◌, ◌-◌, ◌⊎◌, List, [], replicate, Some}
 use Rattle.sock_words.specs.declared.kind.Kind.{Kind}
 use Rattle.sock_words.specs.declared.plain.Plan.{Plan}
 use Rattle.brpc_model.specs.Items.{Item}
@@ -63,10 +63,14 @@ IsTick old seat (ticks.Moved kind) new = HasMoved old seat kind new
 IsTick old seat ticks.Waits new = ⊥
 IsTick old seat ticks.Idle new = ((seat ≡ 0) ⊎ IsAtRest (core_in old) seat) × (new ≡ old)
 
+-- seat 0 begins the ending
+abbrev pub ending_by : List ℕ → Core → Core
+ending_by opens c = with_seat 0 (ending_of opens) [] c.words c.homes c
+
 -- rounds until no seat has a step left, and then the ending
 pub record IsSettling (old new : MachineState) : Type 0 where
   pub more : ℕ
   pub is_settled : IsSettled (run old.plan (core_in old) (rounds more (old.plan.seats - 1)))
   pub last : ℕ
-  pub ended : core_in new ≡ run old.plan (with_seat 0 (ending_of old.opens) [] (run old.plan (core_in old) (rounds more (old.plan.seats - 1))).words (run old.plan (core_in old) (rounds more (old.plan.seats - 1))).homes (run old.plan (core_in old) (rounds more (old.plan.seats - 1)))) (replicate last 0)
+  pub ended : core_in new ≡ run old.plan (ending_by old.opens (run old.plan (core_in old) (rounds more (old.plan.seats - 1)))) (replicate last 0)
   pub is_ended : IsSettled (core_in new)

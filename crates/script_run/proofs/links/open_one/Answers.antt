@@ -1,6 +1,4 @@
-use Rattle.std.proofs.Common.{rules, ◌≡◌, ◌++◌, [], ◌∷◌, length, sym, ap, subst, ◌∙◌}
-use Rattle.sock_io.specs.Link.{end_of}
-use Rattle.script_run.specs.Given.{IsUntouched}
+use Rattle.std.proofs.Common.{rules}
 use Rattle.script_run.proofs.Numbering.{untouched, opened_more}
 use Rattle.script_run.proofs.links.open_one.Goals as goal
 

@@ -1,10 +1,3 @@
-use Rattle.std.proofs.Common.{◌≡◌, Some, OnOk, min, replicate, ap, sym, subst, ◌∙◌}
-use Rattle.sock_programs.specs.Cores.{run}
-use Rattle.sock_words.specs.KindText.{kind_text}
-use Rattle.brpc_model.specs.Operations.{seat_number, turn_of}
-use Rattle.script_items.specs.Meaning.{item, seat_of}
-use Rattle.sock_core.specs.Machines.{core_in}
-use Rattle.script_run.specs.Played.{HasPlayed}
 use Rattle.script_run.proofs.Playing.{tick_line, to_line}
 use Rattle.script_run.proofs.schedule.play_line.Goals as goal
 

@@ -10,13 +10,13 @@ pub loop-line-preserved : goal.loop-line-preserved
 loop-line-preserved g c =
     let i = c.loop-line.invariant in
     let step = c.in_ok-play_line.ensures in record {
-  ran = line_played c.args.machine.now.plan c.args.lines.now c.loop-line.line-index c.line-item.result _ _ _ c.loop-line-test.true c.line-item.is i.ran
-      (subst (λ p. HasPlayed p (turn_of (item c.line-item.result)) (core_in c.loop-line.machine) (core_in c.play_line.new.machine)) i.table.plan step.ran);
-  playable = step.playable;
-  table = same_table _ _ _ i.table step.table;
-  ends = step.ends ∙ i.ends;
-  opened = step.opened ∙ i.opened;
-  back = step.back ∙ i.back;
-  faults = step.faults ∙ i.faults;
-  prompt = step.prompt ∙ i.prompt;
-}
+      ran = line_played c.args.machine.now.plan c.args.lines.now c.loop-line.line-index c.line-item.result _ _ _ c.loop-line-test.true c.line-item.is i.ran
+          (subst (λ p. HasPlayed p (turn_of (item c.line-item.result)) (core_in c.loop-line.machine) (core_in c.play_line.new.machine)) i.table.plan step.ran);
+      playable = step.playable;
+      table = same_table _ _ _ i.table step.table;
+      ends = step.ends ∙ i.ends;
+      opened = step.opened ∙ i.opened;
+      back = step.back ∙ i.back;
+      faults = step.faults ∙ i.faults;
+      prompt = step.prompt ∙ i.prompt;
+    }

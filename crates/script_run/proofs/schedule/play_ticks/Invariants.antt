@@ -1,4 +1,4 @@
-use Rattle.std.proofs.Common.{◌≡◌, ℕ, replicate}
+use Rattle.std.proofs.Common.{◌≡◌, replicate}
 use Rattle.sock_programs.specs.Cores.{run}
 use Rattle.sock_core.specs.Machines.{core_in, SameTable}
 use Rattle.script_run.specs.Played.{IsPlayable}

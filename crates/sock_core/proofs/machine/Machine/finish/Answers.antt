@@ -1,5 +1,4 @@
-use Rattle.std.proofs.Common.{◌≡◌, map, flat_map, ap}
-use Rattle.sock_programs.specs.Scripts.{told}
+use Rattle.std.proofs.Common.{map, ap}
 use Rattle.sock_core.specs.Machines.{core_in}
 use Rattle.sock_core.proofs.machine.Machine.finish.Goals as goal
 
