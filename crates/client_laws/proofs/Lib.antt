@@ -1,0 +1,5 @@
+pub mod Has
+pub mod Steps
+pub mod Parts
+pub mod Held
+pub mod Clients
