@@ -1,29 +1,26 @@
 -- The programs of clients, and of the ending, are allowed.
-use Rattle.std.proofs.Common.{◌≡◌, ◌≢◌, ℕ, zero, suc, ◌+◌, ◌-◌, ◌<◌, ◌≤◌, Bool, true, false, not, ◌&&◌, List, [], ◌∷◌, ◌++◌, length, refl, sym, ap, ◌∙◌, subst, inl, inr, arith, cond, eqb, eq-eqb, ne_eqb, Option, Some, None}
-use Rattle.std.proofs.lemmas.Bool.{and_parts, not-true, cond-true, cond-false}
+use Rattle.std.proofs.Common.{◌≡◌, ◌≢◌, ℕ, ◌+◌, ◌-◌, ◌<◌, ◌≤◌, Bool, true, false, not, ◌&&◌, List, [], ◌∷◌, ◌++◌, length, refl, sym, ap, ◌∙◌, subst, inr, arith, cond, eqb, eq-eqb, ne_eqb, Option, Some, None}
+use Rattle.std.proofs.lemmas.Bool.{and_parts, not-true, cond-true}
 use Rattle.std.specs.List.{AllByRecursion}
 use mathlib.Core.Logic.{dite}
 use native.Mathlib.Decide.{ℕ_discrete}
 use Rattle.sock_words.specs.declared.plain.Plan.{Plan}
-use Rattle.sock_words.specs.declared.outcome.Outcome.{Outcome}
-use Rattle.sock_words.specs.declared.outcome.Outcome.TheVariants.{Unopened, Gone, Held, Freed, Kept, NotHeld}
+use Rattle.sock_words.specs.declared.outcome.Outcome.TheVariants.{Unopened, Gone, Held, Freed, Kept}
 use Rattle.sock_words.specs.Words.{socket_id_version, socket_id_slot}
-use Rattle.sock_model.specs.declared.marks.Mark.{Mark}
 use Rattle.sock_model.specs.declared.marks.Mark.TheVariants.{Hold}
-use Rattle.sock_model.specs.Marks.{about}
 use Rattle.sock_model.specs.declared.view.View.{View}
-use Rattle.sock_model.specs.Weights.{total, only}
+use Rattle.sock_model.specs.Weights.{total}
 use Rattle.sock_programs.specs.declared.task.Op.{Op}
 use Rattle.sock_programs.specs.declared.task.Op.TheVariants as ops
 use Rattle.sock_programs.specs.declared.task.Task.{Task}
-use Rattle.sock_programs.specs.Programs.{Program, Do, Say, Rest, release, address, set_failed, fail, fail_outcome, hold, drop_held, end_open}
+use Rattle.sock_programs.specs.Programs.{Program, Say, release, address, set_failed, fail, fail_outcome, hold, drop_held, end_open}
 use Rattle.sock_programs.specs.Clients.{HeldLife, held_under, without_name, give_back, drop_of, operation, client_from, ending_of}
 use Rattle.sock_programs.specs.Told.{OpFits, TaskFits, in_hand_behind, goes_well, alternate}
 use Rattle.sock_runs.specs.GoesOn.{HasNothing, GoesOn}
 use Rattle.slot_laws.proofs.Numbers.{only-at, only-else}
 use Rattle.client_laws.specs.Openings.{link_of, links_of}
 use Rattle.client_laws.proofs.Has.{Has, holds, about_top, about_cons, at_slot, holding, letting, has_nothing, from_nothing}
-use Rattle.client_laws.proofs.Held.{IsInTable, under, about_share, more_here, more_else, all_more, length_more, under_more, all_without, length_without, under_without, none_under, without_unheld, held_in_table, fewer_here, fewer_else}
+use Rattle.client_laws.proofs.Held.{IsInTable, under, more_here, more_else, all_more, length_more, under_more, all_without, length_without, under_without, none_under, without_unheld, held_in_table, fewer_here, fewer_else}
 use Rattle.client_laws.proofs.Steps.{loads_open}
 use Rattle.client_laws.proofs.Parts.{Ready, release_goes, address_goes, reach_goes, set_failed_goes, open_goes}
 

@@ -1,22 +1,21 @@
 -- What a seat has, whatever it noted: its tokens at one slot, the lives that it holds, its passes and its links in hand.
-use Rattle.std.proofs.Common.{◌≡◌, ◌≢◌, ℕ, ◌+◌, ◌<◌, ◌≤◌, List, [], ◌∷◌, ◌++◌, length, map, refl, sym, ap, ◌∙◌, subst, arith, cond, eqb, eq-eqb, ne_eqb}
+use Rattle.std.proofs.Common.{◌≡◌, ◌≢◌, ℕ, ◌+◌, ◌<◌, ◌≤◌, List, [], ◌∷◌, length, map, refl, sym, ap, ◌∙◌, subst, arith}
 use mathlib.Core.List.{cons-ne-nil}
 use mathlib.Core.Logic.{dite}
 use native.Mathlib.Decide.{ℕ_discrete}
 use Rattle.sock_words.specs.Words.{socket_id_version, socket_id_slot}
 use Rattle.sock_model.specs.declared.marks.Mark.{Mark}
-use Rattle.sock_model.specs.declared.marks.Mark.TheVariants.{Claimed, Recycling, Hold, Probe, Zero, Coding, Tried, Known, Born, Saw, Failer, Stored, Told, Freer, Linked, Met}
+use Rattle.sock_model.specs.declared.marks.Mark.TheVariants.{Recycling, Hold, Tried, Known, Born, Saw, Failer, Stored, Told, Freer, Linked, Met}
 use Rattle.sock_model.specs.declared.marks.SlotMark.{SlotMark}
 use Rattle.sock_model.specs.declared.view.View.{View}
 use Rattle.sock_model.specs.declared.view.Hand.{Hand}
 use Rattle.sock_model.specs.Weights.{total, only, is_ref, is_probe, is_hold, is_zero, is_any_coding, is_coding, is_claimed, is_stage, is_recycled, is_recycling, is_busy}
-use Rattle.sock_model.specs.Marks.{about, at, without, without_at}
+use Rattle.sock_model.specs.Marks.{about, at}
 use Rattle.sock_model.specs.SlotRows.{marks_of}
 use Rattle.sock_programs.specs.Programs.{LAST_VERSION}
 use Rattle.sock_programs.specs.Clients.{HeldLife}
 use Rattle.sock_runs.specs.GoesOn.{HasNothing}
-use Rattle.slot_laws.proofs.Sums.{total-append, total_mono, taken_as, about-here, about-other}
-use Rattle.slot_laws.proofs.Frame.{about-without, about-without_else}
+use Rattle.slot_laws.proofs.Sums.{total_mono, about-here, about-other}
 use Rattle.slot_laws.proofs.Numbers.{only-else}
 use Rattle.slot_laws.proofs.Slots.{probe_ref}
 

@@ -1,17 +1,16 @@
 -- The parts of operations are allowed from what the seat has, where what follows is.
-use Rattle.std.proofs.Common.{◌≡◌, ◌≢◌, ℕ, zero, suc, ◌+◌, ◌-◌, ◌*◌, ◌%◌, ◌^◌, ◌<◌, ◌≤◌, Bool, true, false, ◌&&◌, List, [], ◌∷◌, length, refl, sym, ap, ap₂, ◌∙◌, subst, inl, inr, arith, cond, eqb, leb, lt-ltb, leb-true, leb-false, eq-eqb}
+use Rattle.std.proofs.Common.{◌≡◌, ◌≢◌, ℕ, zero, suc, ◌+◌, ◌-◌, ◌%◌, ◌<◌, ◌≤◌, Bool, true, false, ◌&&◌, List, [], ◌∷◌, length, refl, sym, ap, ◌∙◌, subst, inl, inr, arith, cond, eqb, leb, lt-ltb, leb-true, leb-false, eq-eqb}
 use Rattle.std.proofs.lemmas.Bool.{cond-true, cond-false, cond_both, and_from}
 use Rattle.sock_words.specs.declared.plain.Plan.{Plan}
-use Rattle.sock_words.specs.declared.outcome.Outcome.{Outcome}
 use Rattle.sock_words.specs.declared.outcome.Outcome.TheVariants.{Opened, SlotsFull}
 use Rattle.sock_words.specs.Words.{socket_id, socket_id_version, socket_id_slot, vref_version, vref_nref}
 use Rattle.sock_model.specs.declared.marks.Mark.{Mark}
-use Rattle.sock_model.specs.declared.marks.Mark.TheVariants.{Claimed, Recycling, Hold, Probe, Zero, Coding}
+use Rattle.sock_model.specs.declared.marks.Mark.TheVariants.{Claimed, Hold, Probe, Zero}
 use Rattle.sock_model.specs.declared.view.View.{View}
-use Rattle.sock_model.specs.Weights.{total, is_known}
+use Rattle.sock_model.specs.Weights.{is_known}
 use Rattle.sock_model.specs.SlotRows.{marks_of}
 use Rattle.sock_programs.specs.Calls.{GiveBirth, SubRef, FreeSlot, LoadLink, ResetHead, WipeCode, StoreCode, StoreName, StoreOpen, TakeLink, FinishLink, PutLink}
-use Rattle.sock_programs.specs.Programs.{Program, Do, Say, Rest, NO_SOCKET, LAST_VERSION, recycle, release, address, reach, set_failed, no_socket, make_socket, open_from}
+use Rattle.sock_programs.specs.Programs.{Program, Do, Say, NO_SOCKET, LAST_VERSION, recycle, release, address, reach, set_failed, no_socket, make_socket, open_from}
 use Rattle.sock_programs.specs.Clients.{HeldLife}
 use Rattle.sock_runs.specs.May.{Knows}
 use Rattle.sock_runs.specs.GoesOn.{GoesOn}

@@ -1,5 +1,5 @@
 -- Each step by what its seat has before and behind it, so that programs are read without their views.
-use Rattle.std.proofs.Common.{◌≡◌, ◌≢◌, ℕ, zero, ◌+◌, ◌-◌, ◌%◌, ◌<◌, ◌≤◌, ◌⊎◌, Bool, true, false, not, ◌&&◌, ◌||◌, List, [], ◌∷◌, length, map, filter, refl, sym, ap, ap₂, ◌∙◌, subst, inl, inr, ⊎_elim, arith, cond, eqb, ltb, eq-eqb, ne_eqb, eqb-true, le-ltb, lt-ltb}
+use Rattle.std.proofs.Common.{◌≡◌, ◌≢◌, ℕ, ◌+◌, ◌-◌, ◌%◌, ◌<◌, ◌≤◌, ◌⊎◌, Bool, true, false, not, ◌&&◌, ◌||◌, List, [], ◌∷◌, length, map, filter, refl, sym, ap, ap₂, ◌∙◌, subst, inl, inr, arith, cond, eqb, ltb, eq-eqb, ne_eqb, eqb-true, le-ltb, lt-ltb}
 use Rattle.std.proofs.lemmas.Bool.{cond-true, cond-false}
 use mathlib.Core.List.{cons-ne-nil, head-eq_of_cons-eq, tail-eq_of_cons-eq}
 use mathlib.Core.Logic.{dite}
@@ -13,15 +13,15 @@ use Rattle.sock_model.specs.declared.view.View.{View}
 use Rattle.sock_model.specs.declared.view.Hand.{Hand}
 use Rattle.sock_model.specs.Weights.{total, only, is_ref, is_probe, is_hold, is_zero, is_any_coding, is_coding, is_stage, is_recycled, is_recycling, is_busy, is_known, is_met}
 use Rattle.sock_model.specs.Marks.{about, at, without, without_at, without_pass}
-use Rattle.sock_model.specs.Slots.{version_of, nref_of}
+use Rattle.sock_model.specs.Slots.{version_of}
 use Rattle.sock_model.specs.SlotRows.{marks_of, back, subbed, freed, wrote}
 use Rattle.sock_model.specs.Layout.{name_word, open_word}
 use Rattle.sock_model.specs.ChainRows.{with_hand, without_hand, spent_hand}
-use Rattle.sock_programs.specs.Calls.{Call, ClaimSlot, GiveBirth, AddRef, SubRef, SetOdd, Recycle, FreeSlot, StoreLink, LoadLink, ResetHead, WipeCode, StoreCode, StoreName, LoadName, StoreOpen, LoadOpen, TakeLink, FinishLink, PutLink}
-use Rattle.sock_programs.specs.Programs.{Program, Do, Say, Rest, NO_SOCKET, LAST_VERSION}
+use Rattle.sock_programs.specs.Calls.{ClaimSlot, GiveBirth, AddRef, SubRef, SetOdd, Recycle, FreeSlot, StoreLink, LoadLink, ResetHead, WipeCode, StoreCode, StoreName, LoadName, StoreOpen, LoadOpen, TakeLink, FinishLink, PutLink}
+use Rattle.sock_programs.specs.Programs.{Program, Do, NO_SOCKET, LAST_VERSION}
 use Rattle.sock_programs.specs.Clients.{HeldLife}
-use Rattle.sock_runs.specs.Rows.{row, is_id, found_id, taken}
-use Rattle.sock_runs.specs.May.{May, MayTake, Ended, Knows, Finds, IsOfHeld, even_version}
+use Rattle.sock_runs.specs.Rows.{is_id, found_id}
+use Rattle.sock_runs.specs.May.{Knows, even_version}
 use Rattle.sock_runs.specs.GoesOn.{GoesOn}
 use Rattle.slot_laws.proofs.Sums.{total-append, total_mono, taken_as, about-here, about-other}
 use Rattle.slot_laws.proofs.Sums as sums
@@ -68,15 +68,20 @@ module _ (p : Plan) {s : ℕ} {t : List Mark} {held : List HeldLife} {passes lin
 
 pub stores_link : (p : Plan) {s k : ℕ} {t : List Mark} {held : List HeldLife} {passes links : List ℕ} {v : View} → Has s (Claimed 0 0 ∷ t) held (k ∷ passes) links v → s < p.slots → (next : ℕ → Program)
     → ((w : View) (found : ℕ) → Has s (Claimed 1 k ∷ t) held passes links w → GoesOn p w (next found)) → GoesOn p v (Do (StoreLink s k) next)
-stores_link p {s} {k} {t} {held} {passes} {links} {v} a inside next goes = ((inside, there, pass), λ found hand e. goes w found (becomes a w (Claimed 1 k ∷ t) passes links
-    (λ j n. about-other j s (Claimed 1 k) (without_at s (is_stage 0 0) v.marks) n ∙ about-without_else j s (is_stage 0 0) v.marks n)
-    (λ f o. omega (arith, about_top f s (Claimed 1 k) (without_at s (is_stage 0 0) v.marks), ap (total f) (about-without s (is_stage 0 0) v.marks), taken_as (is_stage 0 0) (Claimed 0 0) (about s v.marks) (stage_is 0 0) there f))
-    (λ x. omega (arith, a.passes_are x, passes-without k x v.passes pass)) a.hands_are))
+stores_link p {s} {k} {t} {held} {passes} {links} {v} a inside next goes = (
+  (inside, there, pass),
+  λ found hand e. goes w found (becomes a w (Claimed 1 k ∷ t) passes links
+      (λ j n. about-other j s (Claimed 1 k) (without_at s (is_stage 0 0) v.marks) n ∙ about-without_else j s (is_stage 0 0) v.marks n)
+      (λ f o. omega (arith, about_top f s (Claimed 1 k) (without_at s (is_stage 0 0) v.marks), ap (total f) (about-without s (is_stage 0 0) v.marks), taken_as (is_stage 0 0) (Claimed 0 0) (about s v.marks) (stage_is 0 0) there f))
+      (λ x. omega (arith, a.passes_are x, passes-without k x v.passes pass)) a.hands_are),
+)
   where
     w : View
     w = record v { marks = at s (Claimed 1 k) ∷ without_at s (is_stage 0 0) v.marks; passes = without_pass k v.passes }
+
     there : 0 < marks_of (is_stage 0 0) s v
     there = first (Claimed 0 0) a (is_stage 0 0) (of_stage 0 0) (pair-same 0 0)
+
     pass : 0 < total (only k) v.passes
     pass = omega (arith, a.passes_are k, only-same k)
 
@@ -93,11 +98,13 @@ module _ (p : Plan) {s k : ℕ} {t : List Mark} {held : List HeldLife} {passes l
 
   pub bears : Has s (Claimed 3 k ∷ t) held passes links v → s < p.slots → (next : ℕ → Program)
       → ((w : View) (found : ℕ) → Has s t held passes links w → 0 < marks_of (is_known (vref_version found)) s w → GoesOn p w (next found)) → GoesOn p v (Do (GiveBirth s k) next)
-  bears a inside next goes = let there = first (Claimed 3 k) a (is_stage 3 k) (of_stage 3 k) (pair-same 3 k) in
-      ((inside, there), λ found hand e. let h : ℕ = vref_version found in let es : List SlotMark = at s (Born h) ∷ at s (Linked h k) ∷ without_at s (is_stage 3 k) v.marks in
-      goes (record v { marks = at s (Known h) ∷ es }) found
-      (noted (noted (noted (gone (Claimed 3 k) a (is_stage 3 k) (stage_is 3 k) there) (Linked h k) (λ f o. o.linked h k)) (Born h) (λ f o. o.born h)) (Known h) (λ f o. o.known h))
-      (omega (arith, about_top (is_known h) s (Known h) es, only-same h)))
+  bears a inside next goes = let there = first (Claimed 3 k) a (is_stage 3 k) (of_stage 3 k) (pair-same 3 k) in (
+    (inside, there),
+    λ found hand e. let h : ℕ = vref_version found in let es : List SlotMark = at s (Born h) ∷ at s (Linked h k) ∷ without_at s (is_stage 3 k) v.marks in
+        goes (record v { marks = at s (Known h) ∷ es }) found
+        (noted (noted (noted (gone (Claimed 3 k) a (is_stage 3 k) (stage_is 3 k) there) (Linked h k) (λ f o. o.linked h k)) (Born h) (λ f o. o.born h)) (Known h) (λ f o. o.known h))
+        (omega (arith, about_top (is_known h) s (Known h) es, only-same h)),
+  )
 
 -- ## A reference
 
@@ -111,9 +118,12 @@ module _ (p : Plan) {s : ℕ} {t : List Mark} {held : List HeldLife} {passes lin
   pub adds : Has s t held passes links v → (id : ℕ) → socket_id_slot id ≡ s → Knows p v id → total is_ref t + length held < 65540 → (x : Program) (y : ℕ → Program)
       → ((u : View) → Has s (Hold (socket_id_version id) ∷ t) held passes links u → GoesOn p u x) → ((u : View) (found : ℕ) → Has s (Probe ∷ t) held passes links u → GoesOn p u (y found))
       → GoesOn p v (Do (AddRef id) (λ found. cond (eqb (vref_version found) (socket_id_version id)) x (y found)))
-  adds a id is knows few x y held_ gone_ = ((knows, subst (λ i. marks_of is_ref i v < 65540) (sym is) (omega (arith, refs_few a))), λ found hand e. let h : ℕ = socket_id_version id in let w : ℕ = vref_version found in let b : Bool = eqb w h in
-      subst (λ i. GoesOn p (record v { marks = at i (cond b (Hold w) Probe) ∷ at i (Saw w) ∷ v.marks }) (cond b x (y found))) (sym is)
-      (add_branch a b w h (eqb-true w h) x (y found) held_ (λ u. gone_ u found)))
+  adds a id is knows few x y held_ gone_ = (
+    (knows, subst (λ i. marks_of is_ref i v < 65540) (sym is) (omega (arith, refs_few a))),
+    λ found hand e. let h : ℕ = socket_id_version id in let w : ℕ = vref_version found in let b : Bool = eqb w h in
+        subst (λ i. GoesOn p (record v { marks = at i (cond b (Hold w) Probe) ∷ at i (Saw w) ∷ v.marks }) (cond b x (y found))) (sym is)
+        (add_branch a b w h (eqb-true w h) x (y found) held_ (λ u. gone_ u found)),
+  )
 
 -- what goes first of a seat's references to a slot
 abbrev pub GoesFirst : Mark → List Mark → Type 0
@@ -140,17 +150,21 @@ module _ (p : Plan) {s : ℕ} {t : List Mark} {held : List HeldLife} {passes lin
       → ((found : ℕ) (u : View) → ((eqb (vref_version found % 2) 1) && (eqb (vref_nref found) 1)) ≡ false → Has s t held passes links u → GoesOn p u (next found))
       → GoesOn p v (Do (SubRef s) next)
   subs e a (inl is) idle inside next last more = let b : Has s (Probe ∷ t) held passes links v = subst (λ x. Has s (x ∷ t) held passes links v) is a in
-      let there = first Probe b is_probe of_probe refl in let refs = b.here is_ref of_ref in
-      ((inside, omega arith, omega (arith, codings b)), λ found hand f. let own = f.0 in
-      subst (λ g. GoesOn p (subbed s found g v) (next found)) (sym (back_probe found b))
-      (sub_branch p v is_probe (gone Probe b is_probe probe_is there) (eqb (vref_version found % 2) 1) (eqb (vref_nref found) 1) (vref_version found) (next found)
-      (λ odd one u. last found u (eqb-true _ 1 odd) (eqb-true _ 1 one) (omega arith)) (λ no_ u. more found u no_)))
+      let there = first Probe b is_probe of_probe refl in let refs = b.here is_ref of_ref in (
+        (inside, omega arith, omega (arith, codings b)),
+        λ found hand f. let own = f.0 in
+            subst (λ g. GoesOn p (subbed s found g v) (next found)) (sym (back_probe found b))
+            (sub_branch p v is_probe (gone Probe b is_probe probe_is there) (eqb (vref_version found % 2) 1) (eqb (vref_nref found) 1) (vref_version found) (next found)
+            (λ odd one u. last found u (eqb-true _ 1 odd) (eqb-true _ 1 one) (omega arith)) (λ no_ u. more found u no_)),
+      )
   subs e a (inr is) idle inside next last more = let h : ℕ = is.0 in let b : Has s (Hold h ∷ t) held passes links v = subst (λ x. Has s (x ∷ t) held passes links v) is.1 a in
-      let there = first (Hold h) b (is_hold h) (of_hold h) (only-same h) in let refs = b.here is_ref of_ref in
-      ((inside, omega arith, omega (arith, codings b)), λ found hand f. let own = f.0 in
-      subst (λ g. GoesOn p (subbed s found g v) (next found)) (sym (back_hold found h b is.2 (f.1 h there)))
-      (sub_branch p v (is_hold h) (gone (Hold h) b (is_hold h) (hold_is h) there) (eqb (vref_version found % 2) 1) (eqb (vref_nref found) 1) (vref_version found) (next found)
-      (λ odd one u. last found u (eqb-true _ 1 odd) (eqb-true _ 1 one) (omega arith)) (λ no_ u. more found u no_)))
+      let there = first (Hold h) b (is_hold h) (of_hold h) (only-same h) in let refs = b.here is_ref of_ref in (
+        (inside, omega arith, omega (arith, codings b)),
+        λ found hand f. let own = f.0 in
+            subst (λ g. GoesOn p (subbed s found g v) (next found)) (sym (back_hold found h b is.2 (f.1 h there)))
+            (sub_branch p v (is_hold h) (gone (Hold h) b (is_hold h) (hold_is h) there) (eqb (vref_version found % 2) 1) (eqb (vref_nref found) 1) (vref_version found) (next found)
+            (λ odd one u. last found u (eqb-true _ 1 odd) (eqb-true _ 1 one) (omega arith)) (λ no_ u. more found u no_)),
+      )
 
 -- ## A life is failed
 
@@ -168,15 +182,19 @@ module _ (p : Plan) {s h : ℕ} {t : List Mark} {held : List HeldLife} {passes l
   pub sets_odd : Has s (Hold h ∷ t) held passes links v → s < p.slots → total is_ref t + length held < 65539 → (x y : ℕ → Program)
       → ((u : View) (found : ℕ) → Has s (Coding h ∷ Hold h ∷ Hold h ∷ t) held passes links u → GoesOn p u (x found)) → ((u : View) (found : ℕ) → Has s (Hold h ∷ t) held passes links u → GoesOn p u (y found))
       → GoesOn p v (Do (SetOdd s) (λ found. cond (eqb (vref_version found % 2) 0) (x found) (y found)))
-  sets_odd a inside few x y first_ again = let there = first (Hold h) a (is_hold h) (of_hold h) (only-same h) in
-      ((inside, (h, there), omega (arith, refs_few a)), λ found hand f. let same = f h there in
-      fail_branch a (eqb (vref_version found % 2) 0) (vref_version found) (λ e. let even = eqb-true (vref_version found % 2) 0 e in omega arith) (x found) (y found) (λ u. first_ u found) (λ u. again u found))
+  sets_odd a inside few x y first_ again = let there = first (Hold h) a (is_hold h) (of_hold h) (only-same h) in (
+    (inside, (h, there), omega (arith, refs_few a)),
+    λ found hand f. let same = f h there in
+        fail_branch a (eqb (vref_version found % 2) 0) (vref_version found) (λ e. let even = eqb-true (vref_version found % 2) 0 e in omega arith) (x found) (y found) (λ u. first_ u found) (λ u. again u found),
+  )
 
   pub stores_code : (c : ℕ) → c ≢ 0 → Has s (Coding h ∷ t) held passes links v → s < p.slots → (next : ℕ → Program)
       → ((u : View) (found : ℕ) → Has s t held passes links u → GoesOn p u (next found)) → GoesOn p v (Do (StoreCode s h c) next)
-  stores_code c some_ a inside next goes = let there = first (Coding h) a (is_coding h) (of_coding h) (only-same h) in
-      ((inside, there, some_), λ found hand e. goes (record v { marks = at s (Stored h c) ∷ at s (Told h c) ∷ without_at s (is_coding h) v.marks }) found
-      (noted (noted (gone (Coding h) a (is_coding h) (coding_as h) there) (Told h c) (λ f o. o.told h c)) (Stored h c) (λ f o. o.stored h c)))
+  stores_code c some_ a inside next goes = let there = first (Coding h) a (is_coding h) (of_coding h) (only-same h) in (
+    (inside, there, some_),
+    λ found hand e. goes (record v { marks = at s (Stored h c) ∷ at s (Told h c) ∷ without_at s (is_coding h) v.marks }) found
+        (noted (noted (gone (Coding h) a (is_coding h) (coding_as h) there) (Told h c) (λ f o. o.told h c)) (Stored h c) (λ f o. o.stored h c)),
+  )
 
 -- ## A slot is recycled
 
@@ -196,8 +214,11 @@ module _ (p : Plan) {s : ℕ} {t : List Mark} {held : List HeldLife} {passes lin
   pub loads_link : {v : View} (w : ℕ) → Has s (Recycling w ∷ t) held passes links v → s < p.slots → (next : ℕ → Program)
       → ((u : View) (k : ℕ) → k < p.links → total (only k) u.passes ≡ 0 → 0 < marks_of (is_met (w - 2) k) s u → Has s (Recycling w ∷ t) held passes links u → GoesOn p u (next k))
       → GoesOn p v (Do (LoadLink s w) next)
-  loads_link {v} w a inside next goes = ((inside, first (Recycling w) a (is_recycled w) (of_recycled w) (only-same w)), λ k hand f.
-      goes (record v { marks = at s (Met (w - 2) k) ∷ v.marks }) k f.0 f.1 (omega (arith, about_top (is_met (w - 2) k) s (Met (w - 2) k) v.marks, pair-same (w - 2) k)) (noted a (Met (w - 2) k) (λ f o. o.met (w - 2) k)))
+  loads_link {v} w a inside next goes = (
+    (inside, first (Recycling w) a (is_recycled w) (of_recycled w) (only-same w)),
+    λ k hand f.
+        goes (record v { marks = at s (Met (w - 2) k) ∷ v.marks }) k f.0 f.1 (omega (arith, about_top (is_met (w - 2) k) s (Met (w - 2) k) v.marks, pair-same (w - 2) k)) (noted a (Met (w - 2) k) (λ f o. o.met (w - 2) k)),
+  )
 
   -- of the one slot that it recycled
   recycling_is : {v : View} (w : ℕ) → Has s (Recycling w ∷ t) held passes links v → marks_of is_busy s v ≤ 1 → (f : Mark → ℕ) → total f (without is_recycling (about s v.marks)) + f (Recycling w) ≡ marks_of f s v
@@ -215,9 +236,12 @@ module _ (p : Plan) {s : ℕ} {t : List Mark} {held : List HeldLife} {passes lin
 module _ (p : Plan) {s : ℕ} {t : List Mark} {held : List HeldLife} {passes : List ℕ} where
   pub frees : {v : View} (w : ℕ) → Has s (Recycling w ∷ t) held passes [] v → w ≤ LAST_VERSION → s < p.slots → (next : ℕ → Program)
       → ((u : View) (found : ℕ) → Has s t held passes [] u → GoesOn p u (next found)) → GoesOn p v (Do (FreeSlot s) next)
-  frees {v} w a low inside next goes = ((inside, (w, first (Recycling w) a (is_recycled w) (of_recycled w) (only-same w), low), no_links v.hands a.hands_are), λ found hand once.
-      goes (freed s v) found (marked a (without_at s is_recycling v.marks) t (λ j n. about-without_else j s is_recycling v.marks n)
-      (λ f o. omega (arith, ap (total f) (about-without s is_recycling v.marks), recycling_is p w a once f))))
+  frees {v} w a low inside next goes = (
+    (inside, (w, first (Recycling w) a (is_recycled w) (of_recycled w) (only-same w), low), no_links v.hands a.hands_are),
+    λ found hand once.
+        goes (freed s v) found (marked a (without_at s is_recycling v.marks) t (λ j n. about-without_else j s is_recycling v.marks n)
+        (λ f o. omega (arith, ap (total f) (about-without s is_recycling v.marks), recycling_is p w a once f))),
+  )
 
 -- ## A link in hand
 
@@ -225,17 +249,22 @@ module _ (p : Plan) {s : ℕ} {t : List Mark} {held : List HeldLife} {passes : L
 module _ (p : Plan) {s k : ℕ} {t : List Mark} {held : List HeldLife} {passes : List ℕ} {v : View} where
   pub takes_last : (w : ℕ) → Has s (Recycling w ∷ t) held passes [] v → s < p.slots → k < p.links → total (only k) v.passes ≡ 0 → 0 < marks_of (is_met (w - 2) k) s v → (next : ℕ → Program)
       → ((u : View) (found : ℕ) → Has s (Recycling w ∷ t) held passes (k ∷ []) u → GoesOn p u (next found)) → GoesOn p v (Do (TakeLink k) next)
-  takes_last w a inside small spent there next goes = ((small, no_links v.hands a.hands_are, inr (s, w, inside, first (Recycling w) a (is_recycled w) (of_recycled w) (only-same w), there)), λ found hand is.
-      subst (λ u. GoesOn p u (next found)) (sym (cond-false (ltb 0 (total (only hand.link) v.passes)) (spent_hand v hand) (with_hand v hand) (le-ltb 0 _ (omega (arith, spent, ap (λ x. total (only x) v.passes) is)))))
-      (goes (with_hand v hand) found (becomes a (with_hand v hand) (Recycling w ∷ t) passes (k ∷ []) (λ j n. refl) (λ f o. refl) a.passes_are (λ i. is i ∷ a.hands_are i))))
+  takes_last w a inside small spent there next goes = (
+    (small, no_links v.hands a.hands_are, inr (s, w, inside, first (Recycling w) a (is_recycled w) (of_recycled w) (only-same w), there)),
+    λ found hand is.
+        subst (λ u. GoesOn p u (next found)) (sym (cond-false (ltb 0 (total (only hand.link) v.passes)) (spent_hand v hand) (with_hand v hand) (le-ltb 0 _ (omega (arith, spent, ap (λ x. total (only x) v.passes) is)))))
+        (goes (with_hand v hand) found (becomes a (with_hand v hand) (Recycling w ∷ t) passes (k ∷ []) (λ j n. refl) (λ f o. refl) a.passes_are (λ i. is i ∷ a.hands_are i))),
+  )
 
   pub takes_own : Has s t held (k ∷ passes) [] v → k < p.links → (next : ℕ → Program)
       → ((u : View) (found : ℕ) → Has s t held passes (k ∷ []) u → GoesOn p u (next found)) → GoesOn p v (Do (TakeLink k) next)
-  takes_own a small next goes = let pass : 0 < total (only k) v.passes = omega (arith, a.passes_are k, only-same k) in
-      ((small, no_links v.hands a.hands_are, inl pass), λ found hand is. let own : 0 < total (only hand.link) v.passes = subst (λ x. 0 < total (only x) v.passes) (sym is) pass in
-      subst (λ u. GoesOn p u (next found)) (sym (cond-true (ltb 0 (total (only hand.link) v.passes)) (spent_hand v hand) (with_hand v hand) (lt-ltb 0 _ own)))
-      (goes (spent_hand v hand) found (becomes a (spent_hand v hand) t passes (k ∷ []) (λ j n. refl) (λ f o. refl)
-      (λ x. omega (arith, a.passes_are x, passes-without hand.link x v.passes own, ap (only x) is)) (λ i. is i ∷ a.hands_are i))))
+  takes_own a small next goes = let pass : 0 < total (only k) v.passes = omega (arith, a.passes_are k, only-same k) in (
+    (small, no_links v.hands a.hands_are, inl pass),
+    λ found hand is. let own : 0 < total (only hand.link) v.passes = subst (λ x. 0 < total (only x) v.passes) (sym is) pass in
+        subst (λ u. GoesOn p u (next found)) (sym (cond-true (ltb 0 (total (only hand.link) v.passes)) (spent_hand v hand) (with_hand v hand) (lt-ltb 0 _ own)))
+        (goes (spent_hand v hand) found (becomes a (spent_hand v hand) t passes (k ∷ []) (λ j n. refl) (λ f o. refl)
+        (λ x. omega (arith, a.passes_are x, passes-without hand.link x v.passes own, ap (only x) is)) (λ i. is i ∷ a.hands_are i))),
+  )
 
 module _ (p : Plan) {s k : ℕ} {t : List Mark} {held : List HeldLife} {passes : List ℕ} {v : View} where
   pub finishes : Has s t held passes (k ∷ []) v → (next : ℕ → Program) → ((found : ℕ) → GoesOn p v (next found)) → GoesOn p v (Do (FinishLink k) next)
@@ -247,6 +276,7 @@ module _ (p : Plan) {s k : ℕ} {t : List Mark} {held : List HeldLife} {passes :
       none_left : (hs : List Hand) → map (λ (h : Hand). h.link) hs ≡ [] → map (λ (h : Hand). h.link) (filter (λ (x : Hand). not (eqb x.link k)) hs) ≡ []
       none_left [] e = refl
       none_left (h ∷ hs) e = absurd (cons-ne-nil _ _ e)
+
       emptied : (hs : List Hand) → map (λ (h : Hand). h.link) hs ≡ k ∷ [] → map (λ (h : Hand). h.link) (filter (λ (x : Hand). not (eqb x.link k)) hs) ≡ []
       emptied [] e = absurd (cons-ne-nil _ _ (sym e))
       emptied (h ∷ hs) e = let q = eq-eqb h.link k (head-eq_of_cons-eq e) in simp q (none_left hs (tail-eq_of_cons-eq e))
