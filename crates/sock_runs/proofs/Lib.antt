@@ -1,0 +1,5 @@
+pub mod Bounds
+pub mod Ids
+pub mod SlotTicks
+pub mod NameTicks
+pub mod HandTicks
