@@ -3,3 +3,5 @@ pub mod Ids
 pub mod SlotTicks
 pub mod NameTicks
 pub mod HandTicks
+pub mod Founds
+pub mod Ticks
