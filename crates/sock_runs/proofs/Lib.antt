@@ -5,3 +5,4 @@ pub mod NameTicks
 pub mod HandTicks
 pub mod Founds
 pub mod Ticks
+pub mod Allowed

@@ -120,7 +120,7 @@ next_goes p v (Say o outcome rest) g = next_goes p v rest g
 next_goes p v Rest g = g
 
 -- of two lists of one length each place of one is a place of the other
-beside : {A B : Type 0} (l : List A) (m : List B) (i : ℕ) (a : A) → length m ≡ length l → get_elem? l i ≡ some a → get_elem? m i ≡ none → ⊥
+pub beside : {A B : Type 0} (l : List A) (m : List B) (i : ℕ) (a : A) → length m ≡ length l → get_elem? l i ≡ some a → get_elem? m i ≡ none → ⊥
 beside [] m i a e at none_ = some-ne-none a (sym at)
 beside (x ∷ xs) [] i a e at none_ = omega (arith, e)
 beside (x ∷ xs) (y ∷ ys) zero a e at none_ = some-ne-none y none_
