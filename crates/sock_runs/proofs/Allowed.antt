@@ -94,7 +94,7 @@ module _ (p : Plan) (c : Core) (vs : List View) (sound : Sound p c vs) (i : ℕ)
   allows call may = let f = finds p (state c vs) sound.lawful i v at sound.limits.slots call may in (word_there call may, allows_word call may f, allows_move call may)
 
 -- the view of a seat
-view_there : {A B : Type 0} (l : List A) (m : List B) (i : ℕ) (a : A) → length m ≡ length l → get_elem? l i ≡ some a → (q : Option B) → get_elem? m i ≡ q → (b : B) × (get_elem? m i ≡ some b)
+pub view_there : {A B : Type 0} (l : List A) (m : List B) (i : ℕ) (a : A) → length m ≡ length l → get_elem? l i ≡ some a → (q : Option B) → get_elem? m i ≡ q → (b : B) × (get_elem? m i ≡ some b)
 view_there l m i a e at none none_ = absurd (beside l m i a e at none_)
 view_there l m i a e at (some b) is = (b, is)
 

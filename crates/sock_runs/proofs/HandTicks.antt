@@ -59,14 +59,16 @@ module _ (p : Plan) (s : State Home View) (o : Lawful (λ home. home) p s) (i : 
   -- the link that may be taken is at home, and the rule holds behind the move
   pub taking : (k : ℕ) → May p v (TakeLink k) → (h : AtHome p s.homes k) × Gone k (taken record { link = k; took = h.took; next = h.next } v)
   taking k may = dite (dec_le 1 (total (only k) v.passes))
-      (λ pass. let a = spend_law (λ home. home) p s o i v at k (omega arith) in let is : get_elem? s.homes (p.requests + k) ≡ some (some (Link k [] 0 false)) = a.1 ∙ ap (λ y. some (some y)) a.2 in
-      (record { took = []; next = 0; done = false; is = is },
-      subst (λ b. Gone k (cond b (spent_hand v record { link = k; took = []; next = 0 }) (with_hand v record { link = k; took = []; next = 0 }))) (sym (lt-ltb 0 (total (only k) v.passes) (omega arith))) (a.3 none refl)))
+      (λ pass. let a = spend_law (λ home. home) p s o i v at k (omega arith) in let is : get_elem? s.homes (p.requests + k) ≡ some (some (Link k [] 0 false)) = a.1 ∙ ap (λ y. some (some y)) a.2 in (
+        record { took = []; next = 0; done = false; is = is },
+        subst (λ b. Gone k (cond b (spent_hand v record { link = k; took = []; next = 0 }) (with_hand v record { link = k; took = []; next = 0 }))) (sym (lt-ltb 0 (total (only k) v.passes) (omega arith))) (a.3 none refl),
+      ))
       (λ spent. ⊎_elim (λ pass. absurd (omega arith))
       (λ e. let a = take_last_law (λ home. home) p s o i v at e.0 e.1 k e.2 e.3 e.4 (ap (total (λ (h : Hand). only k h.link)) may.1) in
-      let is : get_elem? s.homes (p.requests + k) ≡ some (some (Link k a.1 a.2 a.3)) = a.4 ∙ ap (λ y. some (some y)) a.5 in
-      (record { took = a.1; next = a.2; done = a.3; is = is },
-      subst (λ b. Gone k (cond b (spent_hand v record { link = k; took = a.1; next = a.2 }) (with_hand v record { link = k; took = a.1; next = a.2 }))) (sym (le-ltb 0 (total (only k) v.passes) (omega arith))) (a.6 none refl)))
+      let is : get_elem? s.homes (p.requests + k) ≡ some (some (Link k a.1 a.2 a.3)) = a.4 ∙ ap (λ y. some (some y)) a.5 in (
+        record { took = a.1; next = a.2; done = a.3; is = is },
+        subst (λ b. Gone k (cond b (spent_hand v record { link = k; took = a.1; next = a.2 }) (with_hand v record { link = k; took = a.1; next = a.2 }))) (sym (le-ltb 0 (total (only k) v.passes) (omega arith))) (a.6 none refl),
+      ))
       may.2)
 
   -- it is what the step finds

@@ -6,3 +6,5 @@ pub mod HandTicks
 pub mod Founds
 pub mod Ticks
 pub mod Allowed
+pub mod Along
+pub mod Ends

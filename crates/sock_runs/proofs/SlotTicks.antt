@@ -62,7 +62,7 @@ module _ (p : Plan) (s : State Home View) (o : Lawful (λ home. home) p s) (i : 
   fails j may = set_odd_law (λ home. home) p s o i v at j may.0 (fits p s o.references j may.0) may.1.0 may.1.1 may.2
 
   pub recycles : (j from : ℕ) → May p v (Recycle j from) → KeepsWord p s i v (Recycle j from)
-  recycles j from may = let found : ℕ = get_or s.words (ref_word j) 0 in 
+  recycles j from may = let found : ℕ = get_or s.words (ref_word j) 0 in
       let P : Bool → Type 0 = λ b. Lawful (λ home. home) p (stepped s (ref_word j) (cond b ((vref_version from + 1) * 4294967296) found) i [] (recycled j from found v) keeps) in
       dite (ℕ_discrete found from)
       (λ e. subst P (sym (eq-eqb found from e)) (recycle_law (λ home. home) p s o i v at j may.0 (fits p s o.references j may.0) from e may.2 may.3 may.1))
