@@ -1,20 +1,18 @@
 -- The next step of each seat is one that a machine may make: its word is there, no number leaves its range, and a link that it takes is at home.
-use Rattle.std.proofs.Common.{◌≡◌, ◌≢◌, ℕ, zero, suc, ◌+◌, ◌-◌, ◌*◌, ◌%◌, ◌/◌, ◌^◌, ◌<◌, ◌≤◌, List, [], ◌∷◌, length, refl, sym, ap, ◌∙◌, subst, arith}
+use Rattle.std.proofs.Common.{◌≡◌, ℕ, ◌+◌, ◌*◌, ◌<◌, List, length, refl, sym, subst, arith}
 use mathlib.Core.Option.{Option, some, none, some-injective, some-ne-none}
 use lib.ListN.{get_elem?}
 use Rattle.sock_words.specs.declared.plain.Plan.{Plan}
 use Rattle.sock_words.specs.Words.{socket_id_slot}
-use Rattle.sock_model.specs.declared.home.Home.{Home}
 use Rattle.sock_model.specs.declared.view.View.{View}
 use Rattle.sock_model.specs.Layout.{tag_word, ref_word, link_word, head_word, code_word, all_words, name_word, open_word}
-use Rattle.sock_model.specs.Lawful.{Lawful}
 use Rattle.sock_programs.specs.Calls.{Call, ClaimSlot, GiveBirth, AddRef, SubRef, SetOdd, Recycle, FreeSlot, StoreLink, LoadLink, ResetHead, WipeCode, StoreCode, StoreName, LoadName, StoreOpen, LoadOpen, TakeLink, FinishLink, PutLink}
 use Rattle.sock_programs.specs.Programs.{Program, Do}
 use Rattle.sock_programs.specs.Cores.{Core, SeatState, word_of, found_at}
 use Rattle.sock_runs.specs.Rows.{hand_at}
 use Rattle.sock_runs.specs.May.{May, Finds}
 use Rattle.sock_runs.specs.GoesOn.{GoesOn}
-use Rattle.sock_runs.specs.Sound.{state, IsWithinLimits, Sound, AllowsWord, AllowsMove, Allows}
+use Rattle.sock_runs.specs.Sound.{state, Sound, AllowsWord, AllowsMove, Allows}
 use Rattle.sock_runs.proofs.HandTicks.{taking}
 use Rattle.sock_runs.proofs.Founds.{finds}
 use Rattle.sock_runs.proofs.Ticks.{beside}

@@ -1,5 +1,5 @@
 -- Where no seat has anything left to do, a life that was set failed has ended, and each link is at home.
-use Rattle.std.proofs.Common.{◌≡◌, ℕ, zero, suc, ◌+◌, ◌-◌, ◌%◌, ◌<◌, ◌≤◌, ◌⊎◌, ◌==◌, List, [], ◌∷◌, length, map, refl, sym, ap, ◌∙◌, subst, ⊎_elim, arith}
+use Rattle.std.proofs.Common.{◌≡◌, ℕ, suc, ◌+◌, ◌-◌, ◌%◌, ◌<◌, ◌==◌, List, [], ◌∷◌, map, refl, sym, ap, ◌∙◌, subst, ⊎_elim, arith}
 use Rattle.std.specs.List.{filter}
 use mathlib.Core.Logic.{dite}
 use mathlib.Core.Option.{Option, some, none}
@@ -10,7 +10,7 @@ use Rattle.sock_model.specs.declared.chain.Right.{Right}
 use Rattle.sock_model.specs.declared.home.Home.{Home}
 use Rattle.sock_model.specs.declared.marks.Mark.{Mark}
 use Rattle.sock_model.specs.declared.view.View.{View}
-use Rattle.sock_model.specs.Weights.{total, tally, is_ref, is_zero, is_busy, is_born, is_failer, is_freer}
+use Rattle.sock_model.specs.Weights.{total, tally, is_ref, is_zero, is_busy, is_failer, is_freer}
 use Rattle.sock_model.specs.Marks.{about}
 use Rattle.sock_model.specs.SlotRows.{marks_of}
 use Rattle.sock_model.specs.Slots.{count}
@@ -20,8 +20,7 @@ use Rattle.slot_laws.proofs.Sums.{total_some}
 use Rattle.slot_laws.proofs.Numbers.{life_is, life-in, live-odd}
 use Rattle.sock_steps.proofs.Maps.{took_some, gather_nil}
 use Rattle.sock_steps.proofs.HandSteps.{link_value}
-use Rattle.sock_programs.specs.Programs.{Rest}
-use Rattle.sock_programs.specs.Cores.{Core, SeatState}
+use Rattle.sock_programs.specs.Cores.{Core}
 use Rattle.sock_runs.specs.GoesOn.{HasNothing, GoesOn}
 use Rattle.sock_runs.specs.Sound.{state, Sound, AllRest, AllFailed, IsAlive}
 use Rattle.sock_runs.proofs.Bounds.{law}

@@ -1,16 +1,16 @@
 -- What a step finds is as the rule has it.
-use Rattle.std.proofs.Common.{◌≡◌, ◌≢◌, ℕ, zero, suc, ◌+◌, ◌-◌, ◌%◌, ◌/◌, ◌^◌, ◌<◌, ◌≤◌, List, [], get_or, refl, sym, ap, ◌∙◌, subst, arith}
-use mathlib.Core.Option.{Option, some}
+use Rattle.std.proofs.Common.{◌≡◌, ◌≢◌, ℕ, ◌-◌, ◌%◌, ◌<◌, ◌≤◌, [], get_or, sym, ap, arith}
+use mathlib.Core.Option.{some}
 use lib.ListN.{get_elem?}
 use Rattle.atomic_table.specs.Table.{State, keeps}
-use Rattle.sock_words.specs.Words.{socket_id_slot, vref_version, vref_nref}
+use Rattle.sock_words.specs.Words.{socket_id_slot, vref_version}
 use Rattle.sock_words.specs.declared.plain.Plan.{Plan}
 use Rattle.sock_model.specs.declared.home.Home.{Home}
 use Rattle.sock_model.specs.declared.marks.Mark.{Mark}
 use Rattle.sock_model.specs.declared.marks.Mark.TheVariants.{Claimed}
 use Rattle.sock_model.specs.declared.view.View.{View}
 use Rattle.sock_model.specs.declared.view.Hand.{Hand}
-use Rattle.sock_model.specs.Weights.{total, is_claimed, is_busy, is_recycling, is_recycled, is_stage, is_linked}
+use Rattle.sock_model.specs.Weights.{is_claimed, is_busy, is_recycling, is_recycled, is_stage}
 use Rattle.sock_model.specs.Marks.{about}
 use Rattle.sock_model.specs.Layout.{ref_word, link_word, name_word, open_word}
 use Rattle.sock_model.specs.SlotRows.{marks_of}

@@ -1,8 +1,8 @@
 -- Steps on the words of names and of operations keep the rule.
-use Rattle.std.proofs.Common.{◌≡◌, ◌≢◌, ℕ, ◌+◌, ◌-◌, ◌*◌, ◌%◌, ◌/◌, ◌^◌, ◌<◌, ◌≤◌, ◌⊎◌, inl, inr, ⊎_elim, IsTrue, Bool, true, false, cond, List, [], get_or, set, get_or-set_other, get_or-set_same, length-set, refl, sym, ap, ◌∙◌, subst, arith}
+use Rattle.std.proofs.Common.{◌≡◌, ◌≢◌, ℕ, ◌+◌, ◌-◌, ◌*◌, ◌%◌, ◌/◌, ◌<◌, inr, ⊎_elim, Bool, true, false, cond, [], get_or, set, get_or-set_other, get_or-set_same, length-set, refl, sym, ap, ◌∙◌, subst, arith}
 use mathlib.Core.Logic.{dite}
-use mathlib.Core.Option.{Option, some}
-use native.Mathlib.Decide.{ℕ_discrete, dec_le}
+use mathlib.Core.Option.{some}
+use native.Mathlib.Decide.{ℕ_discrete}
 use lib.ListN.{get_elem?}
 use Rattle.atomic_table.specs.Table.{State, stepped, keeps}
 use Rattle.sock_words.specs.Words.{socket_id_version, socket_id_slot}
@@ -10,10 +10,10 @@ use Rattle.sock_words.specs.declared.plain.Plan.{Plan}
 use Rattle.sock_model.specs.declared.home.Home.{Home}
 use Rattle.sock_model.specs.declared.view.View.{View}
 use Rattle.sock_model.specs.declared.view.StoredWord.{StoredWord}
-use Rattle.sock_model.specs.Weights.{total, is_known, is_born, only}
+use Rattle.sock_model.specs.Weights.{total, is_born}
 use Rattle.sock_model.specs.Layout.{name_word, open_word, head_word}
 use Rattle.sock_model.specs.References.{slot_facts, References, Names, Stores, sayers, spare, uses_of}
-use Rattle.sock_model.specs.SlotRows.{marks_of, met, wrote}
+use Rattle.sock_model.specs.SlotRows.{met, wrote}
 use Rattle.sock_model.specs.Slots.{SlotFacts, SlotLaw, live, count}
 use Rattle.sock_model.specs.Lawful.{Lawful}
 use Rattle.slot_laws.proofs.Sums.{total-set, term_le}
@@ -21,10 +21,10 @@ use Rattle.slot_laws.proofs.Frame.{apart}
 use Rattle.slot_laws.proofs.Stored.{noted-else, noted-here}
 use Rattle.sock_steps.proofs.Steady.{wrote_steady}
 use Rattle.sock_steps.proofs.SlotSteps.{slot_law, idle_law, find_law, store_name_law, store_open_law}
-use Rattle.sock_programs.specs.Calls.{Call, StoreName, LoadName, StoreOpen, LoadOpen}
+use Rattle.sock_programs.specs.Calls.{StoreName, LoadName, StoreOpen, LoadOpen}
 use Rattle.sock_programs.specs.Programs.{NO_SOCKET}
 use Rattle.sock_runs.specs.Rows.{is_id, found_id}
-use Rattle.sock_runs.specs.May.{May, Knows}
+use Rattle.sock_runs.specs.May.{May}
 use Rattle.sock_runs.proofs.Ids.{id_some, id_socket}
 use Rattle.sock_runs.proofs.SlotTicks.{KeepsWord}
 

@@ -1,21 +1,19 @@
 -- Steps on the words of slots keep the rule.
-use Rattle.std.proofs.Common.{◌≡◌, ◌≢◌, ℕ, ◌+◌, ◌-◌, ◌*◌, ◌%◌, ◌^◌, ◌<◌, ◌≤◌, ◌==◌, eqb, eqb-true, eq-eqb, ne_eqb, cond, Bool, true, List, [], get_or, set, refl, sym, ap, ◌∙◌, subst, arith, bit_or}
+use Rattle.std.proofs.Common.{◌≡◌, ℕ, ◌+◌, ◌-◌, ◌*◌, ◌%◌, ◌^◌, ◌<◌, eqb, eqb-true, eq-eqb, ne_eqb, cond, Bool, [], get_or, set, sym, ap, ◌∙◌, subst, arith}
 use mathlib.Core.Logic.{dite}
-use mathlib.Core.Option.{Option, some, some-ne-none}
+use mathlib.Core.Option.{some, some-ne-none}
 use native.Mathlib.Decide.{ℕ_discrete}
 use lib.ListN.{get_elem?}
 use Rattle.atomic_table.specs.Table.{State, stepped, keeps}
-use Rattle.atomic_table.proofs.Lists.{exchanged}
 use Rattle.sock_words.specs.Words.{socket_id_version, socket_id_slot, vref_version, vref_nref}
 use Rattle.sock_words.specs.declared.plain.Plan.{Plan}
 use Rattle.sock_model.specs.declared.home.Home.{Home}
-use Rattle.sock_model.specs.declared.chain.Right.{Right}
 use Rattle.sock_model.specs.declared.view.View.{View}
-use Rattle.sock_model.specs.Weights.{total, is_ref, is_hold, is_met, is_probe, is_known}
-use Rattle.sock_model.specs.Layout.{tag_word, ref_word, link_word}
-use Rattle.sock_model.specs.SlotRows.{marks_of, claimed, gave_birth, added, back, subbed, failed, recycled, freed}
+use Rattle.sock_model.specs.Weights.{is_ref, is_known}
+use Rattle.sock_model.specs.Layout.{ref_word}
+use Rattle.sock_model.specs.SlotRows.{marks_of, gave_birth, added, back, subbed, recycled}
 use Rattle.sock_model.specs.Lawful.{Lawful}
-use Rattle.sock_steps.proofs.SlotSteps.{KeepsRights, claim_law, add_law, sub_law, set_odd_law, recycle_lost_law, free_law, link_law, meet_last_law, wipe_law, code_law}
+use Rattle.sock_steps.proofs.SlotSteps.{claim_law, add_law, sub_law, set_odd_law, recycle_lost_law, free_law, link_law, meet_last_law, wipe_law, code_law}
 use Rattle.sock_steps.proofs.Places.{own_count}
 use Rattle.sock_steps.proofs.Birth.{birth_law, reset_law}
 use Rattle.sock_steps.proofs.End.{recycle_law}

@@ -1,8 +1,7 @@
 -- A tick of any seat keeps all seats sound.
-use Rattle.std.proofs.Common.{◌≡◌, ◌≢◌, ℕ, zero, suc, ◌+◌, ◌-◌, ◌<◌, ◌≤◌, Bool, true, false, cond, nat_lt, List, [], ◌∷◌, length, length-set, set, refl, sym, ap, ◌∙◌, subst, inl, inr, ⊎_elim, arith}
-use mathlib.Core.Option.{Option, some, none, some-injective, some-ne-none}
+use Rattle.std.proofs.Common.{◌≡◌, ℕ, zero, suc, ◌+◌, ◌-◌, Bool, true, false, cond, nat_lt, List, [], ◌∷◌, length, length-set, set, refl, sym, ◌∙◌, subst, ⊎_elim, arith}
+use mathlib.Core.Option.{Option, some, none, some-ne-none}
 use lib.ListN.{get_elem?}
-use Rattle.atomic_table.specs.Table.{State}
 use Rattle.atomic_table.proofs.Lists.{at_set}
 use Rattle.sock_words.specs.Words.{socket_id_version, socket_id_slot}
 use Rattle.sock_words.specs.declared.plain.Plan.{Plan}
@@ -22,7 +21,7 @@ use Rattle.sock_runs.specs.GoesOn.{IsQuiet, GoesOn}
 use Rattle.sock_runs.specs.Sound.{state, AreInHand, SoundSeat, Sound, views_of, views_after}
 use Rattle.sock_runs.proofs.SlotTicks as slots
 use Rattle.sock_runs.proofs.NameTicks as names
-use Rattle.sock_runs.proofs.HandTicks.{takes, finishes, puts, taking, found_hand, in_hand_nil, take_in_hand, finish_in_hand, put_in_hand}
+use Rattle.sock_runs.proofs.HandTicks.{takes, finishes, puts, taking, found_hand, take_in_hand, finish_in_hand, put_in_hand}
 use Rattle.sock_runs.proofs.Founds.{finds}
 
 -- ## The view after a step

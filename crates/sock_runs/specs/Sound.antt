@@ -1,10 +1,10 @@
 -- All seats with their views: the rule holds of them, and each view allows what its seat has still to do.
-use Rattle.std.specs.Prelude.{ℕ, ◌≡◌, ◌+◌, ◌<◌, ◌≤◌, ◌≢◌, ◌%◌, ◌⊎◌, Bool, List, [], ◌∷◌, length, set}
-use mathlib.Core.Option.{Option, none, some}
+use Rattle.std.specs.Prelude.{ℕ, ◌≡◌, ◌+◌, ◌<◌, ◌≤◌, ◌≢◌, ◌%◌, Bool, List, [], ◌∷◌, length, set}
+use mathlib.Core.Option.{none, some}
 use lib.ListN.{get_elem?}
 use Rattle.atomic_table.specs.Table.{State}
 use Rattle.sock_words.specs.declared.plain.Plan.{Plan}
-use Rattle.sock_words.specs.Words.{vref_version, vref_nref, socket_id_slot}
+use Rattle.sock_words.specs.Words.{vref_version, vref_nref}
 use Rattle.sock_model.specs.declared.home.Home.{Home}
 use Rattle.sock_model.specs.declared.home.Home.TheVariants.{Link}
 use Rattle.sock_model.specs.declared.view.View.{View}
@@ -13,7 +13,6 @@ use Rattle.sock_model.specs.Lawful.{Lawful}
 use Rattle.sock_model.specs.Slots.{count}
 use Rattle.sock_model.specs.Weights.{is_born, is_failer, is_freer}
 use Rattle.sock_model.specs.References.{slot_facts}
-use Rattle.sock_model.specs.Layout.{all_words}
 use Rattle.sock_programs.specs.Calls.{Call, GiveBirth, AddRef, SubRef, Recycle, LoadLink, LoadName, TakeLink, FinishLink, PutLink}
 use Rattle.sock_programs.specs.Programs.{Program, Do, Rest, LAST_VERSION, NO_SOCKET}
 use Rattle.sock_programs.specs.Cores.{Core, SeatState, word_of, found_at, link_place, next_step, ticked}
