@@ -92,7 +92,7 @@ seats_sound p slots (ts ∷ clients) fit few rest (suc i) seat v e f = seats_sou
 
 -- ## A run begins
 
-pub opens_sound : (p : Plan) (clients : List (List Task)) → AreTasks p clients → IsWithinLimits p → PlanFits p → length clients ≤ 32 → Sound p (beginning p (programs p.slots clients)) (opening_views p clients)
+pub opens_sound : (p : Plan) (clients : List (List Task)) → AreTasks p clients → IsWithinLimits p → PlanFits p → length clients ≤ 512 → Sound p (beginning p (programs p.slots clients)) (opening_views p clients)
 opens_sound p [] are limits fits few = let z = are.some_ in absurd (omega (arith, z))
 opens_sound p (ts ∷ clients) are limits fits few =
     let slots : p.slots ≤ 256 = limits.slots in

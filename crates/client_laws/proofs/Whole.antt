@@ -33,7 +33,7 @@ module _ (p : Plan) (clients : List (List Task)) where
   pub ended_ahead : (os seats later : List ℕ) → IsAhead (run p (begins_to_end os seats) later)
   ended_ahead os seats later = run_ahead p (begins_to_end os seats) later (seat_ahead (played seats) 0 (ending_of os) [] (played seats).words (played seats).homes (played_ahead seats))
 
-  module _ (are : AreTasks p clients) (limits : IsWithinLimits p) (fits : PlanFits p) (few : length clients ≤ 32) where
+  module _ (are : AreTasks p clients) (limits : IsWithinLimits p) (fits : PlanFits p) (few : length clients ≤ 512) where
     pub played_sound : (seats : List ℕ) → Sound p (played seats) (played_views seats)
     played_sound seats = run_sound p (beginning p (programs p.slots clients)) (opening_views p clients) seats (opens_sound p clients are limits fits few)
 
