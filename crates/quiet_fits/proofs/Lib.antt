@@ -1,0 +1,6 @@
+pub mod Lists
+pub mod Counting
+pub mod Names
+pub mod Numbering
+pub mod TaskLemmas
+pub mod Reported
