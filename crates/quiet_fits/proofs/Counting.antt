@@ -15,7 +15,7 @@ tally b (suc n) = tally b n + cond (b n) 1 0
 abbrev pub but : (ℕ → Bool) → ℕ → ℕ → Bool
 but b j k = b k && not (k == j)
 
-but_other : (b : ℕ → Bool) (j k : ℕ) → k ≢ j → but b j k ≡ b k
+pub but_other : (b : ℕ → Bool) (j k : ℕ) → k ≢ j → but b j k ≡ b k
 but_other b j k h = grind (arith, nat_tests)
 
 but_same : (b : ℕ → Bool) (j : ℕ) → but b j j ≡ false
@@ -27,7 +27,7 @@ below_but b j (suc n) h =
     let same : cond {A = ℕ} (but b j n) 1 0 ≡ cond (b n) 1 0 = ap {B = ℕ} (λ x. cond x 1 0) (but_other b j n (λ e. omega (arith, e, h))) in
     omega (arith, below_but b j n (omega (arith, h)), same)
 
-one_less : (b : ℕ → Bool) (j n : ℕ) → j < n → b j ≡ true → tally b n ≡ tally (but b j) n + 1
+pub one_less : (b : ℕ → Bool) (j n : ℕ) → j < n → b j ≡ true → tally b n ≡ tally (but b j) n + 1
 one_less b j zero h e = absurd (omega (arith, h))
 one_less b j (suc n) h e = elim (n == j) as (λ x. (n == j) ≡ x → tally b (suc n) ≡ tally (but b j) (suc n) + 1) [
   | true ↦ λ t. let same : j ≡ n = grind (arith, nat_tests) in

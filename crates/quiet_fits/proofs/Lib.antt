@@ -4,3 +4,4 @@ pub mod Names
 pub mod Numbering
 pub mod TaskLemmas
 pub mod Reported
+pub mod Causes
