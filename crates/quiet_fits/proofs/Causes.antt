@@ -69,19 +69,19 @@ module _ (script : List Item) (core : Core) (ends : List LinkEnd) (quiet : is_qu
   abbrev pub run_of : Run
   run_of = record { script = script; report = report_of script core; ends = ends; late = nothing_late; story = story_of }
 
-  abbrev Names : List (List ℕ)
+  abbrev pub Names : List (List ℕ)
   Names = names script
 
-  abbrev link : ℕ → ℕ
+  abbrev pub link : ℕ → ℕ
   link i = link_at (operations script) i
 
-  abbrev Asked : ℕ → Operation → Type 0
+  abbrev pub Asked : ℕ → Operation → Type 0
   Asked i q = (op : Op) × (op_of Names (link i) q.item ≡ Some op)
 
   pub asked : (i : ℕ) (q : Operation) → IsOperation run_of i q → Asked i q
   asked i q e = let w = are_from 0 1 script i q e in asks_something Names (link i) q.item w.is (not_later script quiet q.item w.there)
 
-  abbrev TaskAt : ℕ → ℕ → Op → Type 0
+  abbrev pub TaskAt : ℕ → ℕ → Op → Type 0
   TaskAt c i op = IsTask (all_tasks script) core.outcomes c (record { number = i; op = op })
 
   pub task_at : (i : ℕ) (q : Operation) (e : IsOperation run_of i q) (op : Op) → op_of Names (link i) q.item ≡ Some op → TaskAt q.client i op

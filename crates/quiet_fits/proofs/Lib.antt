@@ -5,3 +5,4 @@ pub mod Numbering
 pub mod TaskLemmas
 pub mod Reported
 pub mod Causes
+pub mod Fitting
