@@ -6,3 +6,4 @@ pub mod TaskLemmas
 pub mod Reported
 pub mod Causes
 pub mod Fitting
+pub mod Reading
