@@ -22,9 +22,9 @@ use Rattle.sock_programs.specs.Told.{Told, IsTask, Became, Made, Why, OpensNone,
 use Rattle.quiet_fits.specs.Ends.{QuietEnds, IsQuietEnd}
 use Rattle.quiet_fits.proofs.Lists.{Has, within, some_is, contains_from, has_from, all_at, all_map}
 use Rattle.quiet_fits.proofs.Counting.{but, but_other, one_less, HasPlace, places, passing, passing_length, passing_pass, passing_apart, Passes, passes_at, tally_all, count_tally}
-use Rattle.quiet_fits.proofs.Names.{same_name, mentioned_has}
-use Rattle.quiet_fits.proofs.Numbering.{link_at, IsFrom, are_from, opened_by, names_of_operations, link_name_at}
-use Rattle.quiet_fits.proofs.TaskLemmas.{IsTaskOf, task_is, operation_task, open_asks, hold_asks, fail_asks}
+use Rattle.quiet_fits.proofs.Names.{same_name}
+use Rattle.quiet_fits.proofs.Numbering.{link_at, IsFrom, are_from}
+use Rattle.quiet_fits.proofs.TaskLemmas.{IsTaskOf, task_is, operation_task, open_asks, hold_asks, fail_asks, mentions_at, named_at}
 use Rattle.quiet_fits.proofs.Reported.{AllTold, outcome_told, told_outcome}
 
 -- ## Operations of a script without messages
@@ -125,16 +125,6 @@ module _ (script : List Item) (core : Core) (ends : List LinkEnd) (quiet : is_qu
     pub mentions : Has (names script) name
     pub is : IsTask (all_tasks script) core.outcomes operation.client (record { number = j; op = ops.Open (name_number (names script) name) k })
 
-  mentions_at : (i : ℕ) (q : Operation) → IsOperation run_of i q → (name : List ℕ) (item : Item) → q.item ≡ item → Has (mentioned item) name → Has (names script) name
-  mentions_at i q e name item same h =
-      let P : Item → Type 0 = λ x. Has (mentioned x) name in
-      mentioned_has script q.item name (are_from 0 1 script i q e).there (subst P (sym same) h)
-
-  named_at : (j k : ℕ) (q : Operation) (name : List ℕ) (shape : Shape) → IsOperation run_of j q → q.item ≡ Open name shape → k ≡ link_at (operations script) j → slice_get (link_names script) k ≡ Some name
-  named_at j k q name shape e item its =
-      let by_name : opened_by q ≡ Some name = ap opened_name item in
-      ap (λ x. slice_get x k) (names_of_operations 0 1 script) ∙ ap (slice_get (filter_map opened_by (operations script))) its ∙ link_name_at (operations script) j q name e by_name
-
   pub opened_at : (j slot version k : ℕ) → slice_get core.outcomes j ≡ Some (Some (Opened slot version k)) → OpenedAt j slot version k
   opened_at j slot version k b =
       let w = within (operations script) j (omega (arith, slice_get_within core.outcomes j (Some (Opened slot version k)) b, long)) in
@@ -150,8 +140,8 @@ module _ (script : List Item) (core : Core) (ends : List LinkEnd) (quiet : is_qu
         shape = m.1;
         item = m.2;
         its = m.4;
-        named = named_at j k q m.0 m.1 w.1 m.2 m.4;
-        mentions = mentions_at j q w.1 m.0 (Open m.0 m.1) m.2 (0, refl);
+        named = ap (slice_get (link_names script)) m.4 ∙ named_at script j q m.0 m.1 w.1 m.2;
+        mentions = mentions_at script j q w.1 m.0 (Open m.0 m.1) m.2 (0, refl);
         is = task_at j q w.1 (ops.Open (name_number Names m.0) k) (is_open_op ∙ ap (λ n. Some (ops.Open n k)) m.3);
       }
 
@@ -251,7 +241,7 @@ module _ (script : List Item) (core : Core) (ends : List LinkEnd) (quiet : is_qu
   hold_at : (h n : ℕ) (r : Operation) (name : List ℕ) (op : Op) → IsOperation run_of h r → op_of Names (link h) r.item ≡ Some op → op ≡ ops.Hold n → IsNumberOf n name → r.item ≡ Hold name
   hold_at h n r name op there asks e is =
       let w = hold_asks Names (link h) r.item n (asks ∙ ap Some e) in
-      let mentions : Has Names w.0 = mentions_at h r there w.0 (Hold w.0) w.1 (0, refl) in
+      let mentions : Has Names w.0 = mentions_at script h r there w.0 (Hold w.0) w.1 (0, refl) in
       w.1 ∙ ap Hold (same_name Names w.0 name mentions is.1 (sym w.2 ∙ is.0))
 
   after_hold : (i n : ℕ) (q : Operation) (name : List ℕ) (P : Outcome → Type 0) → IsNumberOf n name → AfterHold (all_tasks script) core.outcomes q.client i n P → RunAfterHold run_of i q name P
@@ -297,7 +287,7 @@ module _ (script : List Item) (core : Core) (ends : List LinkEnd) (quiet : is_qu
     pub failed : slice_get core.outcomes i ≡ Some (Some Failed)
 
   mentions_fail : (i : ℕ) (q : Operation) (name : List ℕ) (code : ℕ) → IsOperation run_of i q → q.item ≡ Fail name code → Has (names script) name
-  mentions_fail i q name code there e = mentions_at i q there name (Fail name code) e (0, refl)
+  mentions_fail i q name code there e = mentions_at script i q there name (Fail name code) e (0, refl)
 
   pub failed_at : (f : ℕ × ℕ) → Contains tells.fails f → FailedAt f.0 f.1
   failed_at f h =
@@ -390,13 +380,13 @@ module _ (script : List Item) (core : Core) (ends : List LinkEnd) (quiet : is_qu
       open_cause i (name_number Names name) (link i) q o there (ap is_open e) refl b (subst P (sym (some_is (ops.Open (name_number Names name) (link i)) op asks)) w)
   cause_of i q (Hold name) op o there e asks b w =
       let P : Op → Type 0 = λ x. WhyAt q.client i x o in
-      hold_cause i (name_number Names name) q name o there (refl, mentions_at i q there name (Hold name) e (0, refl)) (subst P (sym (some_is (ops.Hold (name_number Names name)) op asks)) w)
+      hold_cause i (name_number Names name) q name o there (refl, mentions_at script i q there name (Hold name) e (0, refl)) (subst P (sym (some_is (ops.Hold (name_number Names name)) op asks)) w)
   cause_of i q (Drop name) op o there e asks b w =
       let P : Op → Type 0 = λ x. WhyAt q.client i x o in
-      drop_cause i (name_number Names name) q name o (refl, mentions_at i q there name (Drop name) e (0, refl)) (subst P (sym (some_is (ops.Drop (name_number Names name)) op asks)) w)
+      drop_cause i (name_number Names name) q name o (refl, mentions_at script i q there name (Drop name) e (0, refl)) (subst P (sym (some_is (ops.Drop (name_number Names name)) op asks)) w)
   cause_of i q (Fail name code) op o there e asks b w =
       let P : Op → Type 0 = λ x. WhyAt q.client i x o in
-      fail_cause i (name_number Names name) code q name o there e (refl, mentions_at i q there name (Fail name code) e (0, refl)) (subst P (sym (some_is (ops.Fail (name_number Names name) code) op asks)) w)
+      fail_cause i (name_number Names name) code q name o there e (refl, mentions_at script i q there name (Fail name code) e (0, refl)) (subst P (sym (some_is (ops.Fail (name_number Names name) code) op asks)) w)
   cause_of i q other op o there e asks b w = absurd (cc)
 
   pub cause_at : (i : ℕ) (q : Operation) (o : Outcome) → IsOperation run_of i q → HasOutcome run_of i o → Cause run_of i q q.item o

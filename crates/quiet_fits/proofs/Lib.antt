@@ -7,3 +7,6 @@ pub mod Reported
 pub mod Causes
 pub mod Fitting
 pub mod Reading
+pub mod Sizes
+pub mod Alternating
+pub mod Tasks

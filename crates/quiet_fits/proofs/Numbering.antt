@@ -81,7 +81,7 @@ numbered_at number link (o ∷ ops) (suc i) op e =
 -- ## The operations of a script
 
 -- the operations where the item is one, a client's beginning, or neither
-behind_item : (client number : ℕ) (item : Item) (items : List Item) (P : List Operation → Type 0) →
+pub behind_item : (client number : ℕ) (item : Item) (items : List Item) (P : List Operation → Type 0) →
     (is_client item ≡ true → P (operations_from (client + 1) 1 items)) →
     (is_client item ≡ false → is_operation item ≡ true → P ((record { client = client; number = number; item = item }) ∷ operations_from client (number + 1) items)) →
     (is_client item ≡ false → is_operation item ≡ false → P (operations_from client number items)) →
@@ -206,3 +206,7 @@ link_later [] i j op e f h = absurd (cc)
 link_later (o ∷ ops) i zero op e f h = absurd (omega (arith, h))
 link_later (o ∷ ops) zero (suc j) op e f h = let here : is_open o.item ≡ true = ap (λ (x : Operation). is_open x.item) (some_is o op e) ∙ f in omega (arith, opens_open o (take j ops) here)
 link_later (o ∷ ops) (suc i) (suc j) op e f h = link_step o ops i j (opens_or_not o.item) (link_later ops i j op e f (omega (arith, h)))
+
+pub numbered_length : (number link : ℕ) (ops : List Operation) → length (numbered_from number link ops) ≡ length ops
+numbered_length number link [] = refl
+numbered_length number link (op ∷ ops) = ap suc (numbered_length (number + 1) (if is_open op.item then link + 1 else link) ops)

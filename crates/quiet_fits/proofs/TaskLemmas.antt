@@ -13,7 +13,8 @@ use Rattle.sock_programs.specs.Tasks.{Numbered, numbered_from, numbered, of_clie
 use Rattle.sock_programs.specs.Scripts.{tasks_from, all_tasks}
 use Rattle.sock_programs.specs.Told.{IsTask}
 use Rattle.quiet_fits.proofs.Lists.{Has, has_from, contains_from, some_is, filter_has, has_filter, filter_map_has, has_filter_map}
-use Rattle.quiet_fits.proofs.Numbering.{link_at, IsNumbered, is_numbered, numbered_at, IsFrom, are_from}
+use Rattle.quiet_fits.proofs.Names.{mentioned_has}
+use Rattle.quiet_fits.proofs.Numbering.{link_at, IsNumbered, is_numbered, numbered_at, IsFrom, are_from, opened_by, names_of_operations, link_name_at}
 
 -- ## Which client's tasks
 
@@ -46,7 +47,7 @@ pub record IsTaskOf (script : List Item) (c : ℕ) (t : Task) : Type 0 where
   pub own : operation.client ≡ c
   pub asks : op_of (names script) (link_at (operations script) t.number) operation.item ≡ Some t.op
 
-map_is : (o : Option Op) (number : ℕ) (t : Task) → option_map (λ (op : Op). record { number = number; op = op }) o ≡ Some t → (number ≡ t.number) × (o ≡ Some t.op)
+pub map_is : (o : Option Op) (number : ℕ) (t : Task) → option_map (λ (op : Op). record { number = number; op = op }) o ≡ Some t → (number ≡ t.number) × (o ≡ Some t.op)
 map_is None number t e = absurd (cc)
 map_is (Some op) number t e =
     let made : Task = record { number = number; op = op } in
@@ -126,3 +127,26 @@ fail_asks ns link (Open name shape) n c e = absurd (cc)
 fail_asks ns link (Hold name) n c e = absurd (cc)
 fail_asks ns link (Drop name) n c e = absurd (cc)
 fail_asks ns link other n c e = absurd (cc)
+
+pub drop_asks : (ns : List (List ℕ)) (link : ℕ) (item : Item) (n : ℕ) → op_of ns link item ≡ Some (ops.Drop n) → (name : List ℕ) × (item ≡ Drop name) × (n ≡ name_number ns name)
+drop_asks ns link (Drop name) n e =
+    let same : ops.Drop (name_number ns name) ≡ ops.Drop n = some_is _ (ops.Drop n) e in
+    (name, refl, cc)
+drop_asks ns link (Open name shape) n e = absurd (cc)
+drop_asks ns link (Hold name) n e = absurd (cc)
+drop_asks ns link (Fail name code) n e = absurd (cc)
+drop_asks ns link other n e = absurd (cc)
+
+-- ## The names and links of operations
+
+-- a name that an operation mentions is one of the script's
+pub mentions_at : (script : List Item) (i : ℕ) (q : Operation) → slice_get (operations script) i ≡ Some q → (name : List ℕ) (item : Item) → q.item ≡ item → Has (mentioned item) name → Has (names script) name
+mentions_at script i q e name item same h =
+    let P : Item → Type 0 = λ x. Has (mentioned x) name in
+    mentioned_has script q.item name (are_from 0 1 script i q e).there (subst P (sym same) h)
+
+-- the link of an `open` is the script's, under its name
+pub named_at : (script : List Item) (j : ℕ) (q : Operation) (name : List ℕ) (shape : Shape) → slice_get (operations script) j ≡ Some q → q.item ≡ Open name shape → slice_get (link_names script) (link_at (operations script) j) ≡ Some name
+named_at script j q name shape e item =
+    let by_name : opened_by q ≡ Some name = ap opened_name item in
+    ap (λ x. slice_get x (link_at (operations script) j)) (names_of_operations 0 1 script) ∙ link_name_at (operations script) j q name e by_name

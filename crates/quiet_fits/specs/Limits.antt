@@ -5,7 +5,7 @@ use Rattle.brpc_model.specs.Operations.{operations, clients, link_names, slots, 
 use Rattle.brpc_model.specs.Places.{names}
 
 -- what is within them; the first version is even, as that of each life is
-pub record IsWithinLimits (script : List Item) : Type 0 where
+pub record KeepsLimits (script : List Item) : Type 0 where
   pub some_slots : 1 ≤ slots script
   pub slots : slots script ≤ 31
   pub links : length (link_names script) ≤ 31
