@@ -1,27 +1,23 @@
 -- What the places of the lines say of the tasks: the setup opens sockets alone, and holds and drops of a name alternate.
-use Rattle.std.proofs.Common.{◌≡◌, ◌≢◌, ℕ, zero, suc, ◌≤◌, ◌<◌, ◌+◌, ◌==◌, Bool, true, false, ◌&&◌, ◌||◌, not, cond, if◌then◌else◌, List, [], ◌∷◌, ◌++◌, filter, filter_map, slice_get, bytes_eq, option_map, Option, Some, None, refl, ap, sym, ◌∙◌, subst, arith}
+use Rattle.std.proofs.Common.{◌≡◌, ◌≢◌, ℕ, zero, suc, ◌<◌, ◌+◌, ◌==◌, Bool, true, false, ◌&&◌, ◌||◌, not, cond, if◌then◌else◌, List, [], ◌∷◌, ◌++◌, filter_map, slice_get, bytes_eq, option_map, Some, refl, ap, sym, ◌∙◌, arith}
 use Rattle.std.proofs.lemmas.Bool.Decides.{nat_tests}
 use Rattle.std.proofs.lemmas.List.Folds.{list_any-append}
 use Rattle.std.proofs.lemmas.Slice.Eq.{bytes_eq-Decides}
 use Rattle.std.specs.List.{list_any, cons_option}
-use Rattle.brpc_model.specs.Items.{Item, Slots, Requests, First, Open, Client, Send, Call, Expire, Join, Fail, Hold, Drop, Sched, Tick, To, is_client, is_open, is_operation, is_size, is_sched, is_turn, mentioned}
+use Rattle.brpc_model.specs.Items.{Item, Open, Client, Send, Call, Expire, Join, Fail, Hold, Drop, is_client, is_open, is_operation, is_size, is_sched, is_turn, mentioned}
 use Rattle.brpc_model.specs.Operations.{Operation, operations_from}
-use Rattle.brpc_model.specs.Places.{is_misplaced, is_same_size, is_unpaired, is_held, held_behind}
+use Rattle.brpc_model.specs.Places.{is_same_size, is_held, held_behind}
 use Rattle.brpc_model.proofs.Growing.{is_held_more}
 use Rattle.sock_programs.specs.declared.task.Op.{Op}
 use Rattle.sock_programs.specs.declared.task.Op.TheVariants as ops
 use Rattle.sock_programs.specs.declared.task.Task.{Task}
 use Rattle.sock_programs.specs.Tasks.{Numbered, numbered_from, of_client, op_of, task_of, name_number}
 use Rattle.sock_programs.specs.Told.{goes_well, in_hand_behind, alternate}
-use Rattle.quiet_fits.proofs.Lists.{Has, has_first, has_later, some_is}
+use Rattle.quiet_fits.proofs.Lists.{or_parts, Has, has_first, has_later, some_is}
 use Rattle.quiet_fits.proofs.Numbering.{behind_item}
 use Rattle.quiet_fits.proofs.Reading.{IsPlaced, ArePlaced}
 
 -- ## The setup
-
-or_parts : (a b : Bool) → (a || b) ≡ false → (a ≡ false) × (b ≡ false)
-or_parts false b e = (refl, e)
-or_parts true b e = absurd (cc)
 
 must_open : (operation opens client : Bool) → (operation && not opens && not client) ≡ false → operation ≡ true → client ≡ false → opens ≡ true
 must_open true true client e o c = refl

@@ -1,15 +1,19 @@
 -- The sizes of a script that was read, and the numbers in its lines.
-use Rattle.std.proofs.Common.{◌≡◌, ℕ, zero, suc, ◌≤◌, ◌<◌, ◌+◌, ◌%◌, Bool, true, false, ◌&&◌, ◌||◌, nat_le, nat_lt, cond, List, [], ◌∷◌, ◌++◌, length, filter_map, count_by, slice_get, unwrap_or, Option, Some, None, Ok, inl, inr, refl, ap, sym, ◌∙◌, subst, arith}
+use Rattle.std.proofs.Common.{◌≡◌, ℕ, suc, ◌≤◌, ◌+◌, ◌%◌, Bool, true, false, ◌&&◌, ◌||◌, nat_le, nat_lt, cond, List, [], ◌∷◌, ◌++◌, length, filter_map, count_by, slice_get, unwrap_or, Option, Some, None, Ok, inl, inr, refl, ap, subst, arith}
 use Rattle.std.proofs.lemmas.Bool.Decides.{nat_tests}
 use Rattle.std.proofs.lemmas.List.Sums.{sum_by-append, sum_by-cons}
 use Rattle.std.specs.List.{AllByRecursion, cons_option}
-use Rattle.brpc_model.specs.Items.{Item, Slots, Requests, First, Open, Client, Send, Call, Expire, Join, Fail, Hold, Drop, Sched, Tick, To, is_client, is_open, is_operation, is_turn, opened_name}
-use Rattle.brpc_model.specs.Operations.{Operation, operations, operations_from, clients, link_names, slots, requests, first_version, size, slots_in, requests_in, first_in}
-use Rattle.brpc_model.specs.Places.{names, is_too_many}
+use Rattle.brpc_model.specs.Items.{Item, Slots, Requests, First, Client, is_client, is_open, is_operation, is_turn, opened_name}
+use Rattle.brpc_model.specs.Operations.{operations_from, clients, link_names, size, slots_in, requests_in, first_in}
+use Rattle.brpc_model.specs.Places.{names}
 use Rattle.brpc_model.specs.Script.{script_of}
+use Rattle.sock_model.specs.Lawful.{PlanFits}
+use Rattle.sock_programs.specs.Tasks.{plan_of}
+use Rattle.sock_programs.specs.Scripts.{all_tasks}
 use Rattle.quiet_fits.specs.Limits.{KeepsLimits}
-use Rattle.quiet_fits.proofs.Lists.{Has, all_at, filter_map_has}
+use Rattle.quiet_fits.proofs.Lists.{or_parts, all_at, filter_map_has}
 use Rattle.quiet_fits.proofs.Numbering.{behind_item, OpensOrNot, opens_or_not}
+use Rattle.quiet_fits.proofs.TaskLemmas.{tasks_length}
 use Rattle.quiet_fits.proofs.Reading.{InRange, IsPlaced, by_lines}
 
 -- ## How many of each sort
@@ -20,10 +24,6 @@ pub record IsCounted (script : List Item) : Type 0 where
   pub operations : count_by is_operation script ≤ 4096
   pub names : length (names script) ≤ 64
   pub in_range : AllByRecursion InRange script
-
-or_parts : (a b : Bool) → (a || b) ≡ false → (a ≡ false) × (b ≡ false)
-or_parts false b e = (refl, e)
-or_parts true b e = absurd (cc)
 
 one_few : (b : Bool) (m n : ℕ) → (b && nat_le m n) ≡ false → n ≤ m → n + cond b 1 0 ≤ m
 one_few true m n e h = grind (arith, nat_tests, e)
@@ -133,3 +133,11 @@ keeps_limits bytes script e =
       even = of_first.1;
       clients = w.clients;
     }
+
+-- so its table is one that the sockets' law is kept over
+pub plan_fits : (script : List Item) → KeepsLimits script → PlanFits (plan_of script)
+plan_fits script limits = record { narrow = omega (arith, limits.requests); even = limits.even }
+
+-- and it has few seats
+pub few_seats : (script : List Item) → KeepsLimits script → length (all_tasks script) ≤ 32
+few_seats script limits = omega (arith, limits.clients, tasks_length script 0 (clients script + 1))

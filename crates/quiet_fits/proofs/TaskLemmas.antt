@@ -1,20 +1,20 @@
 -- The tasks of a script, and the operations that they are.
-use Rattle.std.proofs.Common.{◌≡◌, ◌≢◌, ℕ, zero, suc, ◌+◌, ◌<◌, ◌≤◌, ◌==◌, ◌⊎◌, inl, inr, Bool, true, false, cond, List, [], ◌∷◌, length, filter, filter_map, slice_get, option_map, Option, Some, None, Contains, refl, ap, sym, ◌∙◌, subst, arith}
+use Rattle.std.proofs.Common.{◌≡◌, ℕ, zero, suc, ◌+◌, ◌<◌, ◌≤◌, ◌==◌, true, List, length, slice_get, option_map, Option, Some, None, refl, ap, sym, ◌∙◌, subst, arith}
 use Rattle.std.proofs.lemmas.Bool.Decides.{nat_tests}
 use Rattle.std.proofs.lemmas.Option.{slice_get_within}
 use Rattle.sock_words.specs.declared.outcome.Outcome.{Outcome}
-use Rattle.brpc_model.specs.Items.{Item, Slots, Requests, First, Open, Client, Send, Call, Expire, Join, Fail, Hold, Drop, Sched, Tick, To, Shape, is_open, mentioned, opened_name}
+use Rattle.brpc_model.specs.Items.{Item, Open, Fail, Hold, Drop, Shape, mentioned, opened_name}
 use Rattle.brpc_model.specs.Operations.{Operation, operations, clients, link_names}
 use Rattle.brpc_model.specs.Places.{names}
 use Rattle.sock_programs.specs.declared.task.Op.{Op}
 use Rattle.sock_programs.specs.declared.task.Op.TheVariants as ops
 use Rattle.sock_programs.specs.declared.task.Task.{Task}
-use Rattle.sock_programs.specs.Tasks.{Numbered, numbered_from, numbered, of_client, op_of, task_of, tasks, name_number}
+use Rattle.sock_programs.specs.Tasks.{Numbered, numbered, of_client, op_of, task_of, tasks, name_number}
 use Rattle.sock_programs.specs.Scripts.{tasks_from, all_tasks}
 use Rattle.sock_programs.specs.Told.{IsTask}
 use Rattle.quiet_fits.proofs.Lists.{Has, has_from, contains_from, some_is, filter_has, has_filter, filter_map_has, has_filter_map}
 use Rattle.quiet_fits.proofs.Names.{mentioned_has}
-use Rattle.quiet_fits.proofs.Numbering.{link_at, IsNumbered, is_numbered, numbered_at, IsFrom, are_from, opened_by, names_of_operations, link_name_at}
+use Rattle.quiet_fits.proofs.Numbering.{link_at, is_numbered, numbered_at, are_from, opened_by, names_of_operations, link_name_at}
 
 -- ## Which client's tasks
 
@@ -140,10 +140,22 @@ drop_asks ns link other n e = absurd (cc)
 -- ## The names and links of operations
 
 -- a name that an operation mentions is one of the script's
-pub mentions_at : (script : List Item) (i : ℕ) (q : Operation) → slice_get (operations script) i ≡ Some q → (name : List ℕ) (item : Item) → q.item ≡ item → Has (mentioned item) name → Has (names script) name
+mentions_at : (script : List Item) (i : ℕ) (q : Operation) → slice_get (operations script) i ≡ Some q → (name : List ℕ) (item : Item) → q.item ≡ item → Has (mentioned item) name → Has (names script) name
 mentions_at script i q e name item same h =
     let P : Item → Type 0 = λ x. Has (mentioned x) name in
     mentioned_has script q.item name (are_from 0 1 script i q e).there (subst P (sym same) h)
+
+pub mentions_open : (script : List Item) (i : ℕ) (q : Operation) → slice_get (operations script) i ≡ Some q → (name : List ℕ) (shape : Shape) → q.item ≡ Open name shape → Has (names script) name
+mentions_open script i q there name shape e = mentions_at script i q there name (Open name shape) e (zero, refl)
+
+pub mentions_hold : (script : List Item) (i : ℕ) (q : Operation) → slice_get (operations script) i ≡ Some q → (name : List ℕ) → q.item ≡ Hold name → Has (names script) name
+mentions_hold script i q there name e = mentions_at script i q there name (Hold name) e (zero, refl)
+
+pub mentions_drop : (script : List Item) (i : ℕ) (q : Operation) → slice_get (operations script) i ≡ Some q → (name : List ℕ) → q.item ≡ Drop name → Has (names script) name
+mentions_drop script i q there name e = mentions_at script i q there name (Drop name) e (zero, refl)
+
+pub mentions_fail : (script : List Item) (i : ℕ) (q : Operation) → slice_get (operations script) i ≡ Some q → (name : List ℕ) (code : ℕ) → q.item ≡ Fail name code → Has (names script) name
+mentions_fail script i q there name code e = mentions_at script i q there name (Fail name code) e (zero, refl)
 
 -- the link of an `open` is the script's, under its name
 pub named_at : (script : List Item) (j : ℕ) (q : Operation) (name : List ℕ) (shape : Shape) → slice_get (operations script) j ≡ Some q → q.item ≡ Open name shape → slice_get (link_names script) (link_at (operations script) j) ≡ Some name

@@ -1,29 +1,28 @@
 -- The tasks of a script that was read are those that a table may be asked for.
-use Rattle.std.proofs.Common.{◌≡◌, ◌≢◌, ℕ, zero, suc, ◌≤◌, ◌<◌, ◌+◌, ◌==◌, Bool, true, false, cond, List, [], ◌∷◌, length, filter, slice_get, bytes_eq, Option, Some, None, Ok, inl, inr, refl, ap, sym, ◌∙◌, subst, arith}
+use Rattle.std.proofs.Common.{◌≡◌, ◌≢◌, ℕ, ◌≤◌, ◌<◌, ◌+◌, ◌==◌, true, false, List, [], length, slice_get, bytes_eq, Option, Some, None, Ok, inl, inr, refl, ap, sym, ◌∙◌, subst, arith}
 use Rattle.std.proofs.lemmas.Bool.{cases_lt, cases_eq}
-use Rattle.std.proofs.lemmas.Bool.Decides.{nat_tests, Decides-eqb, same_from_decides}
+use Rattle.std.proofs.lemmas.Bool.Decides.{Decides-eqb, same_from_decides}
 use Rattle.std.proofs.lemmas.Option.{slice_get_within}
 use Rattle.std.proofs.lemmas.Slice.Eq.{bytes_eq-Decides}
 use Rattle.std.specs.List.{AllByRecursion}
-use Rattle.brpc_model.specs.Items.{Item, Open, Send, Call, Expire, Join, Fail, Hold, Drop, Shape, is_open, mentioned}
+use Rattle.brpc_model.specs.Items.{Item, Open, Fail, is_open, mentioned}
 use Rattle.brpc_model.specs.Operations.{Operation, operations, clients, link_names}
 use Rattle.brpc_model.specs.Order.{EachBefore}
 use Rattle.brpc_model.specs.Places.{names}
 use Rattle.brpc_model.specs.Script.{script_of}
-use Rattle.sock_words.specs.declared.plain.Plan.{Plan}
 use Rattle.sock_programs.specs.declared.task.Op.{Op}
 use Rattle.sock_programs.specs.declared.task.Op.TheVariants as ops
 use Rattle.sock_programs.specs.declared.task.Task.{Task}
-use Rattle.sock_programs.specs.Tasks.{Numbered, numbered_from, numbered, of_client, op_of, task_of, tasks, name_number, plan_of}
-use Rattle.sock_programs.specs.Scripts.{tasks_from, all_tasks, is_quiet}
+use Rattle.sock_programs.specs.Tasks.{Numbered, numbered, of_client, op_of, task_of, tasks, name_number, plan_of}
+use Rattle.sock_programs.specs.Scripts.{all_tasks}
 use Rattle.sock_programs.specs.Told.{OpFits, TaskFits, HaveOwnLinks, Differ, IsOpen, alternate, AreTasks}
 use Rattle.quiet_fits.proofs.Lists.{Has, some_is, all_from, all_at, before_from, before_filter, before_filter_map, filter_short, filter_map_short}
 use Rattle.quiet_fits.proofs.Names.{number_at, number_within, mentioned_has}
-use Rattle.quiet_fits.proofs.Numbering.{link_at, IsNumbered, is_numbered, IsFrom, are_from, link_later, numbered_length}
-use Rattle.quiet_fits.proofs.TaskLemmas.{tasks_length, of_tasks, IsTaskOf, has_task, map_is, open_asks, hold_asks, drop_asks, fail_asks, mentions_at, named_at}
-use Rattle.quiet_fits.proofs.Reading.{InRange, IsPlaced, ArePlaced, are_placed}
-use Rattle.quiet_fits.proofs.Sizes.{IsCounted, is_counted, operation_count}
-use Rattle.quiet_fits.proofs.Alternating.{OpensFirst, setup_opens, Numbers, alternates, Untouched, untouched}
+use Rattle.quiet_fits.proofs.Numbering.{link_at, is_numbered, are_from, link_later, numbered_length}
+use Rattle.quiet_fits.proofs.TaskLemmas.{tasks_length, of_tasks, IsTaskOf, has_task, map_is, open_asks, hold_asks, drop_asks, fail_asks, mentions_open, mentions_hold, mentions_drop, mentions_fail, named_at}
+use Rattle.quiet_fits.proofs.Reading.{InRange, ArePlaced, are_placed}
+use Rattle.quiet_fits.proofs.Sizes.{is_counted, operation_count}
+use Rattle.quiet_fits.proofs.Alternating.{setup_opens, Numbers, alternates, Untouched, untouched}
 
 -- ## Each client's tasks
 
@@ -40,20 +39,20 @@ module _ (script : List Item) where
   op_fits : AllByRecursion InRange script → (i : ℕ) (q : Operation) → slice_get (operations script) i ≡ Some q → (op : Op) → op_of (names script) (link_at (operations script) i) q.item ≡ Some op → OpFits (plan_of script) op
   op_fits range i q there (ops.Open n k) e =
       let w = open_asks (names script) (link_at (operations script) i) q.item n k e in
-      let mentions = mentions_at script i q there w.0 (Open w.0 w.1) w.2 (zero, refl) in
+      let mentions = mentions_open script i q there w.0 w.1 w.2 in
       let named = named_at script i q w.0 w.1 there w.2 in
       (omega (arith, w.3, number_within (names script) w.0 mentions), omega (arith, w.4, slice_get_within (link_names script) (link_at (operations script) i) w.0 named))
   op_fits range i q there (ops.Hold n) e =
       let w = hold_asks (names script) (link_at (operations script) i) q.item n e in
-      let mentions = mentions_at script i q there w.0 (Hold w.0) w.1 (zero, refl) in
+      let mentions = mentions_hold script i q there w.0 w.1 in
       omega (arith, w.2, number_within (names script) w.0 mentions)
   op_fits range i q there (ops.Drop n) e =
       let w = drop_asks (names script) (link_at (operations script) i) q.item n e in
-      let mentions = mentions_at script i q there w.0 (Drop w.0) w.1 (zero, refl) in
+      let mentions = mentions_drop script i q there w.0 w.1 in
       omega (arith, w.2, number_within (names script) w.0 mentions)
   op_fits range i q there (ops.Fail n code) e =
       let w = fail_asks (names script) (link_at (operations script) i) q.item n code e in
-      let mentions = mentions_at script i q there w.0 (Fail w.0 code) w.1 (zero, refl) in
+      let mentions = mentions_fail script i q there w.0 code w.1 in
       let P : Item → Type 0 = λ x. Has script x in
       (omega (arith, w.2, number_within (names script) w.0 mentions), fail_code w.0 code range (subst P w.1 (are_from 0 1 script i q there).there))
 
@@ -83,11 +82,13 @@ module _ (script : List Item) where
   in_order : (x y : Numbered) (a b : Task) → Ascend x y → task_of (names script) x ≡ Some a → task_of (names script) y ≡ Some b → InOrder a b
   in_order x y a b h e f =
       let v = map_is (op_of (names script) x.link x.op.item) x.number a e in
-      let w = map_is (op_of (names script) y.link y.op.item) y.number b f in
-      (omega (arith, h.0, v.0, w.0), own_links a.op b.op (λ n k m l is_a is_b same.
-        let p = open_asks (names script) x.link x.op.item n k (v.1 ∙ ap Some is_a) in
-        let q = open_asks (names script) y.link y.op.item m l (w.1 ∙ ap Some is_b) in
-        absurd (omega (arith, h.1 (ap is_open p.2), p.4, q.4, same))))
+      let w = map_is (op_of (names script) y.link y.op.item) y.number b f in (
+        omega (arith, h.0, v.0, w.0),
+        own_links a.op b.op (λ n k m l is_a is_b same.
+            let p = open_asks (names script) x.link x.op.item n k (v.1 ∙ ap Some is_a) in
+            let q = open_asks (names script) y.link y.op.item m l (w.1 ∙ ap Some is_b) in
+            absurd (omega (arith, h.1 (ap is_open p.2), p.4, q.4, same))),
+      )
 
   tasks_in_order : (c : ℕ) → EachBefore InOrder (tasks script c)
   tasks_in_order c = before_filter_map Ascend InOrder (task_of (names script)) in_order (of_client c (numbered script))
@@ -109,11 +110,13 @@ module _ (script : List Item) where
   of_two c d t u apart v w =
       let other : t.number ≢ u.number = λ e.
       let same : v.operation ≡ w.operation = some_is v.operation w.operation (sym v.there ∙ ap (slice_get (operations script)) e ∙ w.there) in
-      apart (sym v.own ∙ ap (λ (x : Operation). x.client) same ∙ w.own) in
-      (other, own_links t.op u.op (λ n k m l is_t is_u e.
-        let p = open_asks (names script) (link_at (operations script) t.number) v.operation.item n k (v.asks ∙ ap Some is_t) in
-        let q = open_asks (names script) (link_at (operations script) u.number) w.operation.item m l (w.asks ∙ ap Some is_u) in
-        other (same_link t.number u.number v.operation w.operation v.there w.there (ap is_open p.2) (ap is_open q.2) (sym p.4 ∙ e ∙ q.4))))
+      apart (sym v.own ∙ ap (λ (x : Operation). x.client) same ∙ w.own) in (
+        other,
+        own_links t.op u.op (λ n k m l is_t is_u e.
+            let p = open_asks (names script) (link_at (operations script) t.number) v.operation.item n k (v.asks ∙ ap Some is_t) in
+            let q = open_asks (names script) (link_at (operations script) u.number) w.operation.item m l (w.asks ∙ ap Some is_u) in
+            other (same_link t.number u.number v.operation w.operation v.there w.there (ap is_open p.2) (ap is_open q.2) (sym p.4 ∙ e ∙ q.4))),
+      )
 
   clients_differ : EachBefore (λ (ts us : List Task). AllByRecursion (λ (t : Task). AllByRecursion (Differ t) us) ts) (all_tasks script)
   clients_differ = before_from (λ (ts us : List Task). AllByRecursion (λ (t : Task). AllByRecursion (Differ t) us) ts) (all_tasks script) (λ i j ts us less e f.
@@ -148,10 +151,10 @@ module _ (script : List Item) where
   untouched_op : (n i : ℕ) (q : Operation) → slice_get (operations script) i ≡ Some q → IsNobodys n → (op : Op) → op_of (names script) (link_at (operations script) i) q.item ≡ Some op → Untouched n op
   untouched_op n i q there none (ops.Hold m) e =
       let w = hold_asks (names script) (link_at (operations script) i) q.item m e in
-      λ same. none w.0 (mentions_at script i q there w.0 (Hold w.0) w.1 (zero, refl)) (sym w.2 ∙ same)
+      λ same. none w.0 (mentions_hold script i q there w.0 w.1) (sym w.2 ∙ same)
   untouched_op n i q there none (ops.Drop m) e =
       let w = drop_asks (names script) (link_at (operations script) i) q.item m e in
-      λ same. none w.0 (mentions_at script i q there w.0 (Drop w.0) w.1 (zero, refl)) (sym w.2 ∙ same)
+      λ same. none w.0 (mentions_drop script i q there w.0 w.1) (sym w.2 ∙ same)
   untouched_op n i q there none other e = tt
 
   nobody : (n c : ℕ) → IsNobodys n → alternate n false (tasks script c) ≡ true
@@ -175,7 +178,7 @@ module _ (script : List Item) where
     | inr other ↦ nobody n c (λ nm h same. other (
         let is : nm ≡ name = some_is nm name (sym (number_at (names script) nm h) ∙ ap (slice_get (names script)) same ∙ e) in
         ap (name_number (names script)) (sym is) ∙ same
-      ))
+        ))
   ]
 
   alternating : ArePlaced [] script → (n c : ℕ) → alternate n false (tasks script c) ≡ true

@@ -1,5 +1,5 @@
 -- The sizes that a script may ask for.
-use Rattle.std.specs.Prelude.{ℕ, ◌≡◌, ◌%◌, ◌≤◌, List, length}
+use Rattle.std.specs.Prelude.{◌≡◌, ◌%◌, ◌≤◌, List, length}
 use Rattle.brpc_model.specs.Items.{Item}
 use Rattle.brpc_model.specs.Operations.{operations, clients, link_names, slots, requests, first_version}
 use Rattle.brpc_model.specs.Places.{names}
