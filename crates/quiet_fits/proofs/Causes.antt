@@ -1,11 +1,11 @@
 -- Why each operation of a script without messages has its outcome, as a report has to say it.
-use Rattle.std.proofs.Common.{◌≡◌, ◌≢◌, ℕ, zero, suc, ◌<◌, ◌%◌, ◌⊎◌, inl, inr, Bool, true, false, not, List, [], ◌∷◌, length, count_by, slice_get, Some, Contains, refl, ap, sym, ◌∙◌, subst, arith}
+use Rattle.std.proofs.Common.{◌≡◌, ◌≢◌, ℕ, ◌<◌, ◌%◌, ◌⊎◌, inl, inr, Bool, true, false, List, [], length, count_by, slice_get, Some, Contains, refl, ap, sym, ◌∙◌, subst, arith}
 use Rattle.std.proofs.lemmas.Option.{slice_get_within}
-use Rattle.std.specs.List.{list_any, AllByRecursion}
+use Rattle.std.specs.List.{AllByRecursion}
 use Rattle.sock_words.specs.Words.{vref_version}
 use Rattle.sock_words.specs.declared.outcome.Outcome.{Outcome}
 use Rattle.sock_words.specs.declared.outcome.Outcome.TheVariants.{Opened, SlotsFull, Unopened, Gone, Held, Freed, Kept, NotHeld, Failed, Already}
-use Rattle.brpc_model.specs.Items.{Item, Open, Fail, Hold, Drop, Shape, is_open, is_operation, sought_name}
+use Rattle.brpc_model.specs.Items.{Item, Open, Fail, Hold, Drop, Shape, is_open, sought_name}
 use Rattle.brpc_model.specs.Operations.{Operation, operations, link_names, slots}
 use Rattle.brpc_model.specs.Places.{names}
 use Rattle.brpc_model.specs.Link.{LinkEnd}
@@ -19,33 +19,15 @@ use Rattle.sock_programs.specs.Tasks.{name_number, op_of, plan_of}
 use Rattle.sock_programs.specs.Scripts.{is_later, is_quiet, all_tasks, report_of}
 use Rattle.sock_programs.specs.Told.{Told, IsTask, Made, Why, OpensNone, FoundNone, FoundFailed, AfterHold, HasLife, EachOpened, IsFail}
 use Rattle.quiet_fits.specs.Ends.{QuietEnds}
-use Rattle.quiet_fits.proofs.Lists.{or_parts, Has, within, some_is, contains_from, has_from, all_at, all_map}
+use Rattle.quiet_fits.proofs.Lists.{Has, within, some_is, contains_from, has_from, all_at, all_map}
 use Rattle.quiet_fits.proofs.Counting.{but, but_other, one_less, HasPlace, places, passing, passing_length, passing_pass, passing_apart, Passes, passes_at, tally_all, count_tally}
 use Rattle.quiet_fits.proofs.Names.{same_name}
 use Rattle.quiet_fits.proofs.Numbering.{link_at, are_from}
 use Rattle.quiet_fits.proofs.TaskLemmas.{task_is, operation_task, open_asks, hold_asks, fail_asks, mentions_open, mentions_hold, mentions_drop, mentions_fail, named_at}
-use Rattle.quiet_fits.proofs.Reported.{AllTold, outcome_told, told_outcome}
+use Rattle.quiet_fits.proofs.Quiet.{not_later, asked_at, all_told}
+use Rattle.quiet_fits.proofs.Reported.{outcome_told, told_outcome}
 
 -- ## Operations of a script without messages
-
-any_none : {A : Type 0} (test : A → Bool) (xs : List A) (x : A) → list_any test xs ≡ false → Has xs x → test x ≡ false
-any_none test [] x e h = absurd (cc)
-any_none test (y ∷ ys) x e (zero, f) = ap test (sym (some_is y x f)) ∙ (or_parts (test y) (list_any test ys) e).0
-any_none test (y ∷ ys) x e (suc k, f) = any_none test ys x (or_parts (test y) (list_any test ys) e).1 (k, f)
-
-not_true : (b : Bool) → not b ≡ true → b ≡ false
-not_true false e = refl
-not_true true e = absurd (cc)
-
-pub not_later : (script : List Item) → is_quiet script ≡ true → (item : Item) → Has script item → is_later item ≡ false
-not_later script quiet item h = any_none is_later script item (not_true (list_any is_later script) quiet) h
-
-pub asks_something : (ns : List (List ℕ)) (link : ℕ) (item : Item) → is_operation item ≡ true → is_later item ≡ false → (op : Op) × (op_of ns link item ≡ Some op)
-asks_something ns link (Open name shape) o l = (ops.Open (name_number ns name) link, refl)
-asks_something ns link (Hold name) o l = (ops.Hold (name_number ns name), refl)
-asks_something ns link (Drop name) o l = (ops.Drop (name_number ns name), refl)
-asks_something ns link (Fail name code) o l = (ops.Fail (name_number ns name) code, refl)
-asks_something ns link other o l = absurd (cc)
 
 -- an operation that seeks a name is a `fail` or a `hold` of it
 seeks_by : (ns : List (List ℕ)) (link : ℕ) (item : Item) (name : List ℕ) (op : Op) → is_later item ≡ false → op_of ns link item ≡ Some op → sought_name item ≡ Some name →
@@ -74,7 +56,7 @@ module _ (script : List Item) (core : Core) (ends : List LinkEnd) (quiet : is_qu
   Asked i q = (op : Op) × (op_of Names (link i) q.item ≡ Some op)
 
   pub asked : (i : ℕ) (q : Operation) → IsOperation run_of i q → Asked i q
-  asked i q e = let w = are_from 0 1 script i q e in asks_something Names (link i) q.item w.is (not_later script quiet q.item w.there)
+  asked i q e = asked_at script quiet i q e
 
   abbrev pub TaskAt : ℕ → ℕ → Op → Type 0
   TaskAt c i op = IsTask (all_tasks script) core.outcomes c (record { number = i; op = op })
@@ -82,17 +64,11 @@ module _ (script : List Item) (core : Core) (ends : List LinkEnd) (quiet : is_qu
   pub task_at : (i : ℕ) (q : Operation) (e : IsOperation run_of i q) (op : Op) → op_of Names (link i) q.item ≡ Some op → TaskAt q.client i op
   task_at i q e op f = operation_task script core.outcomes i q op e f
 
-  pub all_told : AllTold core.outcomes
-  all_told i h =
-      let w = within (operations script) i (omega (arith, h, long)) in
-      let a = asked i w.0 w.1 in
-      tells.told w.0.client (record { number = i; op = a.0 }) (task_at i w.0 w.1 a.0 a.1)
-
   pub became : (i : ℕ) (o : Outcome) → HasOutcome run_of i o → slice_get core.outcomes i ≡ Some (Some o)
-  became i o e = outcome_told core.outcomes all_told i o e
+  became i o e = outcome_told core.outcomes (all_told script core quiet long tells) i o e
 
   pub reported : (i : ℕ) (o : Outcome) → slice_get core.outcomes i ≡ Some (Some o) → HasOutcome run_of i o
-  reported i o e = told_outcome core.outcomes all_told i o e
+  reported i o e = told_outcome core.outcomes (all_told script core quiet long tells) i o e
 
   abbrev pub WhyAt : ℕ → ℕ → Op → Outcome → Type 0
   WhyAt c i op o = Why (all_tasks script) core.outcomes (plan_of script) tells.fails c i op o

@@ -26,7 +26,7 @@ use Rattle.quiet_fits.specs.Ends.{QuietEnds, IsQuietEnd}
 use Rattle.quiet_fits.proofs.Lists.{within, some_is, contains_from, has_from, all_from, all_map, before_at}
 use Rattle.quiet_fits.proofs.Counting.{HasPlace, places, passing, passing_length, passing_pass, passing_apart, Passes, passes_at, count_tally}
 use Rattle.quiet_fits.proofs.Numbering.{are_from}
-use Rattle.quiet_fits.proofs.Reported.{told_length}
+use Rattle.quiet_fits.proofs.Quiet.{not_later, report_length}
 use Rattle.quiet_fits.proofs.Causes as causes
 
 -- ## Links that accepted nothing
@@ -122,7 +122,7 @@ module _ (script : List Item) (core : Core) (ends : List LinkEnd) (quiet : is_qu
   -- ## No message and no call
 
   not_later_at : (i : ℕ) (q : Operation) → IsOperation run i q → is_later q.item ≡ false
-  not_later_at i q e = causes.not_later script quiet q.item (are_from 0 1 script i q e).there
+  not_later_at i q e = not_later script quiet q.item (are_from 0 1 script i q e).there
 
   no_call : (i : ℕ) (q : Operation) (call : CallLine) → IsOperation run i q → q.item ≡ Call call → ⊥
   no_call i q call e f = let later : true ≡ false = ap is_later (sym f) ∙ not_later_at i q e in absurd (cc)
@@ -272,7 +272,7 @@ module _ (script : List Item) (core : Core) (ends : List LinkEnd) (quiet : is_qu
 
   pub fits_run : FitsRun run
   fits_run = record {
-    one_each = told_length core.outcomes (causes.all_told script core ends quiet long given tells) ∙ long;
+    one_each = report_length script core quiet long tells ∙ long;
     causes = causes.cause_at script core ends quiet long given tells;
     line_each = lines_length (link_names script);
     links = fits_links;

@@ -4,6 +4,7 @@ pub mod Names
 pub mod Numbering
 pub mod TaskLemmas
 pub mod Reported
+pub mod Quiet
 pub mod Causes
 pub mod Fitting
 pub mod Reading
