@@ -8,3 +8,4 @@ pub mod Ticks
 pub mod Allowed
 pub mod Along
 pub mod Ends
+pub mod Notes
