@@ -9,3 +9,5 @@ pub mod Allowed
 pub mod Along
 pub mod Ends
 pub mod Notes
+pub mod Records
+pub mod Recorded
