@@ -28,7 +28,7 @@ use Rattle.sock_runs.specs.Sound.{state, Sound, views_of, views_after, views_alo
 use Rattle.sock_runs.proofs.Along.{place_inside}
 use Rattle.sock_runs.proofs.Notes.{bears, births_only, birth_notes}
 use Rattle.sock_runs.proofs.Records.{stores, next_stores, but, Records, next_records, next_stored, opens_same}
-use Rattle.sock_runs.proofs.Ticks.{beside, sound_ticks}
+use Rattle.sock_runs.proofs.Ticks.{sound_ticks, tick_keeps}
 
 -- the id stands in the word of operation o, in which no seat stores any more
 pub record IsRecorded (p : Plan) (c : Core) (left : ℕ → ℕ → Bool) (o id : ℕ) : Type 0 where
@@ -194,30 +194,15 @@ module _ (p : Plan) (Q : ℕ → Type 0) (c : Core) (vs : List View) (i : ℕ) (
       lives = λ j h inside born. settle (socket_id h j) (r.lives j h inside (omega (arith, born, born_after j h, births_only p v found (hand_at p c.homes call) h call (ap bears made) j)));
     }
 
-module _ (p : Plan) (Q : ℕ → Type 0) (c : Core) (vs : List View) (i : ℕ) (sound : Sound p c vs) (r : Recorded p Q c vs) where
-  by_call : (seat : SeatState) (v : View) (call : Call) (next : ℕ → Program) → get_elem? c.seats i ≡ some seat → get_elem? vs i ≡ some v → seat.program ≡ Do call next → May p v call
-      → Recorded p Q (stepped p i seat call next c) (views_of p i (Do call next) c vs v)
-  by_call seat v (GiveBirth n k) next at_seat at_view is may = birth_step p Q c vs i r seat v (GiveBirth n k) next at_seat at_view is may refl n k refl
-  by_call seat v (StoreOpen o x) next at_seat at_view is may = store_step p Q c vs i r seat v (StoreOpen o x) next at_seat at_view is may sound o x refl
-  by_call seat v call next at_seat at_view is may = plain_step p Q c vs i r seat v call next at_seat at_view is may refl refl
-
-  by_program : (seat : SeatState) (v : View) → get_elem? c.seats i ≡ some seat → get_elem? vs i ≡ some v → (program : Program) → seat.program ≡ program
-      → Recorded p Q (tick_of p i seat program c) (views_of p i program c vs v)
-  by_program seat v at_seat at_view (Do call next) e = let goes : GoesOn p v (Do call next) = subst (GoesOn p v) e (sound.seats i seat v at_seat at_view).goes_on in by_call seat v call next at_seat at_view e goes.0
-  by_program seat v at_seat at_view (Say _ _ _) e = r
-  by_program seat v at_seat at_view Rest e = r
-
-  by_view : (seat : SeatState) → get_elem? c.seats i ≡ some seat → (q : Option View) → get_elem? vs i ≡ q
-      → Recorded p Q (tick_of p i seat seat.program c) (elim q as (λ o. List View) [ none ↦ vs | some v ↦ views_of p i seat.program c vs v ])
-  by_view seat at_seat none e = absurd (beside c.seats vs i seat sound.each at_seat e)
-  by_view seat at_seat (some v) e = by_program seat v at_seat e seat.program refl
-
-  by_seat : (q : Option SeatState) → get_elem? c.seats i ≡ q
-      → Recorded p Q (elim q as (λ o. Core) [ none ↦ c | some seat ↦ tick_of p i seat seat.program c ])
-      (elim q as (λ o. List View) [ none ↦ vs | some seat ↦ elim (get_elem? vs i) as (λ o. List View) [ none ↦ vs | some v ↦ views_of p i seat.program c vs v ] ])
-  by_seat none e = r
-  by_seat (some seat) e = by_view seat e (get_elem? vs i) refl
+recorded_ticks : (p : Plan) (Q : ℕ → Type 0) (c : Core) (vs : List View) (i : ℕ) → Sound p c vs → Recorded p Q c vs → Recorded p Q (ticked p c i) (views_after p c vs i)
+recorded_ticks p Q c vs i sound r = tick_keeps p c vs i sound (Recorded p Q) r (λ seat v call next at_seat at_view is goes. by_call seat v call next at_seat at_view is goes.0)
+  where
+    by_call : (seat : SeatState) (v : View) (call : Call) (next : ℕ → Program) → get_elem? c.seats i ≡ some seat → get_elem? vs i ≡ some v → seat.program ≡ Do call next → May p v call
+        → Recorded p Q (stepped p i seat call next c) (views_of p i (Do call next) c vs v)
+    by_call seat v (GiveBirth n k) next at_seat at_view is may = birth_step p Q c vs i r seat v (GiveBirth n k) next at_seat at_view is may refl n k refl
+    by_call seat v (StoreOpen o x) next at_seat at_view is may = store_step p Q c vs i r seat v (StoreOpen o x) next at_seat at_view is may sound o x refl
+    by_call seat v call next at_seat at_view is may = plain_step p Q c vs i r seat v call next at_seat at_view is may refl refl
 
 pub run_recorded : (p : Plan) (Q : ℕ → Type 0) (c : Core) (vs : List View) (seats : List ℕ) → Sound p c vs → Recorded p Q c vs → Recorded p Q (run p c seats) (views_along p c vs seats)
 run_recorded p Q c vs [] sound r = r
-run_recorded p Q c vs (i ∷ seats) sound r = run_recorded p Q (ticked p c i) (views_after p c vs i) seats (sound_ticks p c vs i sound) (by_seat p Q c vs i sound r (get_elem? c.seats i) refl)
+run_recorded p Q c vs (i ∷ seats) sound r = run_recorded p Q (ticked p c i) (views_after p c vs i) seats (sound_ticks p c vs i sound) (recorded_ticks p Q c vs i sound r)
