@@ -11,3 +11,5 @@ pub mod Ends
 pub mod Notes
 pub mod Records
 pub mod Recorded
+pub mod Through
+pub mod Closing

@@ -71,7 +71,7 @@ but_none o left = ap (λ b. left o && not b) (eq-eqb o o refl) ∙ and_false (le
     and_false false = refl
 
 -- a step that stores nothing and makes no life goes on as it may
-plain_next : (left : ℕ → Bool) (call : Call) (next : ℕ → Program) → stores call ≡ none → bears call ≡ none → Records left (Do call next) → (found : ℕ) → Records left (next found)
+pub plain_next : (left : ℕ → Bool) (call : Call) (next : ℕ → Program) → stores call ≡ none → bears call ≡ none → Records left (Do call next) → (found : ℕ) → Records left (next found)
 plain_next left (GiveBirth i k) next s b r found = absurd (some-ne-none i b)
 plain_next left (StoreOpen o w) next s b r found = absurd (some-ne-none (o, w) s)
 plain_next left call next s b r found = r found
