@@ -13,3 +13,4 @@ pub mod Records
 pub mod Recorded
 pub mod Through
 pub mod Closing
+pub mod Opening

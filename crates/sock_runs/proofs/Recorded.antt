@@ -55,7 +55,7 @@ pub record Recorded (p : Plan) (Q : ℕ → Type 0) (c : Core) (vs : List View) 
   pub records : (j : ℕ) (seat : SeatState) → get_elem? c.seats j ≡ some seat → Records (left j) seat.program
   pub lives : (i h : ℕ) → i < p.slots → 0 < count (is_born h) (slot_facts (state c vs) i) → Stands p Q c left (socket_id h i)
 
-either_bool : (b : Bool) → (b ≡ true) ⊎ (b ≡ false)
+pub either_bool : (b : Bool) → (b ≡ true) ⊎ (b ≡ false)
 either_bool true = inl refl
 either_bool false = inr refl
 
