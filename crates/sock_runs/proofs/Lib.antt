@@ -14,3 +14,4 @@ pub mod Recorded
 pub mod Through
 pub mod Closing
 pub mod Opening
+pub mod Whole

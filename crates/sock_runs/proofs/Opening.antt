@@ -64,7 +64,7 @@ records_operation left slots held o next (ops.Hold name) mine opened other = thr
 records_operation left slots held o next (ops.Drop name) mine opened other = records_drop left o (held_under name held) _ (other refl (without_name name held))
 records_operation left slots held o next (ops.Fail name code) mine opened other = through_fail (Records left) (records_passes left) o name code (next held) (other refl held)
 
-or_cases : (a b : Bool) (P : Type 0) → (a ≡ true → P) → (b ≡ true → P) → (a || b) ≡ true → P
+pub or_cases : (a b : Bool) (P : Type 0) → (a ≡ true → P) → (b ≡ true → P) → (a || b) ≡ true → P
 or_cases true b P x y e = x refl
 or_cases false b P x y e = y e
 
@@ -76,7 +76,7 @@ or_second : (a b : Bool) → b ≡ true → (a || b) ≡ true
 or_second true b e = refl
 or_second false b e = e
 
-second_true : (a b : Bool) → (a && b) ≡ true → b ≡ true
+pub second_true : (a b : Bool) → (a && b) ≡ true → b ≡ true
 second_true true b e = e
 second_true false b e = absurd (true≢false (sym e))
 
@@ -129,7 +129,7 @@ module _ (p : Plan) (clients : List (List Task)) (are : AreTasks p clients) wher
   abbrev pub own_opens : ℕ → ℕ → Bool
   own_opens j o = elim (get_elem? clients j) as (λ q. Bool) [ none ↦ false | some ts ↦ opens_in ts o ]
 
-  own_is : (j o : ℕ) → own_opens j o ≡ true → (ts : List Task) × (get_elem? clients j ≡ some ts) × (opens_in ts o ≡ true)
+  pub own_is : (j o : ℕ) → own_opens j o ≡ true → (ts : List Task) × (get_elem? clients j ≡ some ts) × (opens_in ts o ≡ true)
   own_is j o there = by_client (get_elem? clients j) refl there
     where
       by_client : (q : Option (List Task)) → get_elem? clients j ≡ q → elim q as (λ q. Bool) [ none ↦ false | some ts ↦ opens_in ts o ] ≡ true → (ts : List Task) × (get_elem? clients j ≡ some ts) × (opens_in ts o ≡ true)
