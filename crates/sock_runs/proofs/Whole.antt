@@ -21,11 +21,11 @@ use Rattle.sock_programs.specs.Cores.{Core, SeatState, word_of, found_at, hand_a
 use Rattle.sock_programs.specs.Runs.{IsSettled, rounds}
 use Rattle.sock_programs.specs.Scripts.{programs, tasks_from, all_tasks, opened, ending, set_up, played, IsRunOf}
 use Rattle.sock_programs.specs.Told.{AreTasks}
-use Rattle.sock_runs.specs.Sound.{Sound, IsAhead, AllRest, AllFailed, IsAlive, views_after, views_along}
+use Rattle.sock_runs.specs.Sound.{Sound, IsAhead, AllRest, AllFailed, AllEnded, IsOver, IsAlive, views_after, views_along}
 use Rattle.sock_runs.proofs.HandTicks.{AtHome}
 use Rattle.sock_runs.proofs.Ticks.{sound_ticks, tick_keeps}
 use Rattle.sock_runs.proofs.Along.{run_sound, seat_ahead, run_ahead, beginning_ahead, settled_rests}
-use Rattle.sock_runs.proofs.Ends.{none_alive, links_home}
+use Rattle.sock_runs.proofs.Ends.{all_ended, is_over, none_alive, links_home}
 use Rattle.sock_runs.proofs.Recorded.{Recorded, run_recorded}
 use Rattle.sock_runs.proofs.Closing.{Closing, run_closing, closed_failed, closing_begins}
 use Rattle.sock_runs.proofs.Opening.{opens_in, or_cases, second_true, own_opens, own_is, beginning_recorded}
@@ -149,6 +149,13 @@ module _ (script : List Item) (are : AreTasks (plan_of script) (all_tasks script
   -- and none is alive
   pub end_dead : (i h : ℕ) → ¬ IsAlive p core (views_ended script core is vs) i h
   end_dead = none_alive p core (views_ended script core is vs) end_sound end_rests end_failed
+
+  -- each life has ended, and each slot is free again unless its versions are used up
+  pub end_ended : AllEnded p core (views_ended script core is vs)
+  end_ended = all_ended p core (views_ended script core is vs) end_sound end_rests end_failed
+
+  pub end_over : (i : ℕ) → i < p.slots → IsOver core.words i
+  end_over = is_over p core (views_ended script core is vs) end_sound end_rests end_failed
 
   -- each link is at home
   pub end_home : (k : ℕ) → k < p.links → AtHome p core.homes k
