@@ -1,14 +1,13 @@
 -- The ending sets each life failed that stands in the word of one of its operations.
-use Rattle.std.proofs.Common.{◌≡◌, ◌≢◌, ℕ, zero, suc, ◌+◌, ◌-◌, ◌*◌, ◌/◌, ◌%◌, ◌^◌, ◌<◌, ◌≤◌, ◌⊎◌, ◌==◌, Bool, true, false, cond, eqb, eq-eqb, ne_eqb, bit_or, List, [], ◌∷◌, length, get_or, set, get_or-set_same, refl, sym, ap, ◌∙◌, subst, inl, inr, ⊎_elim, arith}
+use Rattle.std.proofs.Common.{◌≡◌, ◌≢◌, ℕ, zero, suc, ◌+◌, ◌-◌, ◌*◌, ◌%◌, ◌<◌, ◌⊎◌, ◌==◌, Bool, false, cond, eq-eqb, ne_eqb, bit_or, List, [], ◌∷◌, length, get_or, set, get_or-set_same, refl, sym, ap, ◌∙◌, subst, inl, inr, ⊎_elim, arith}
 use Rattle.std.proofs.lemmas.Bool.{true≢false}
 use mathlib.Core.Logic.{dite}
-use mathlib.Core.Option.{Option, some, none, some-injective, some-ne-none}
+use mathlib.Core.Option.{some, none, some-injective, some-ne-none}
 use native.Mathlib.Decide.{ℕ_discrete}
 use lib.ListN.{get_elem?}
 use Rattle.atomic_table.proofs.Lists.{at_set, set_here, set_else}
 use Rattle.sock_words.specs.Words.{socket_id, socket_id_version, socket_id_slot, vref_version}
 use Rattle.sock_words.specs.declared.plain.Plan.{Plan}
-use Rattle.sock_model.specs.declared.home.Home.{Home}
 use Rattle.sock_model.specs.declared.view.View.{View}
 use Rattle.sock_model.specs.Weights.{is_born, is_failer, is_busy}
 use Rattle.sock_model.specs.Layout.{ref_word, open_word}
@@ -18,19 +17,18 @@ use Rattle.sock_model.specs.References.{slot_facts}
 use Rattle.slot_laws.proofs.Numbers.{life_is, life-in, live-odd, or-even, or-odd}
 use Rattle.sock_steps.proofs.Places.{counts}
 use Rattle.sock_programs.specs.Calls.{Call, GiveBirth, AddRef, SetOdd, StoreOpen, LoadOpen}
-use Rattle.sock_programs.specs.Programs.{Program, Do, Say, Rest, NO_SOCKET, end_open, address, set_failed, release}
+use Rattle.sock_programs.specs.Programs.{Program, Do, Say, Rest, NO_SOCKET, address, set_failed, release}
 use Rattle.sock_programs.specs.Clients.{ending_of}
 use Rattle.sock_programs.specs.Cores.{Core, SeatState, word_of, word_after, found_at, words_after, homes_after, hand_after, next_step, stepped, ticked, run, with_seat}
 use Rattle.sock_runs.specs.Rows.{row, hand_at}
-use Rattle.sock_runs.specs.May.{May}
 use Rattle.sock_runs.specs.GoesOn.{GoesOn}
-use Rattle.sock_runs.specs.Sound.{state, Sound, AllRest, AllFailed, views_of, views_after, views_along}
+use Rattle.sock_runs.specs.Sound.{state, Sound, AllRest, AllFailed, views_after, views_along}
 use Rattle.sock_runs.proofs.Along.{place_inside}
 use Rattle.sock_runs.proofs.Bounds.{law, lives_le}
 use Rattle.sock_runs.proofs.Notes.{bears, births_only, failers_stay}
 use Rattle.sock_runs.proofs.Records.{stores, next_stores, Records, next_records, opens_same}
 use Rattle.sock_runs.proofs.Recorded.{Recorded, plain_next}
-use Rattle.sock_runs.proofs.Through.{Passes, records_passes, through_end, through_ended}
+use Rattle.sock_runs.proofs.Through.{Passes, records_passes, through_end}
 use Rattle.sock_runs.proofs.Ticks.{sound_ticks, step_sound, tick_keeps}
 
 -- ## Programs
@@ -155,12 +153,12 @@ module _ (p : Plan) (n : ℕ) (c : Core) (vs : List View) (i : ℕ) (sound : Sou
       let t = life_is p.first h ((slot_facts (state c vs) j).version + live (slot_facts (state c vs) j)) (omega (arith, born, l.born h)) in let t₀ = t.0 in let t₁ = t.1 in let t₂ = t.2 in
       let le = lives_le p (state c vs) sound.lawful.references j inside in
       let word_is : get_or (words_after c.words (word_of p call) (word_after call (found_at c.words (word_of p call)))) (ref_word j) 0 ≡ bit_or (get_or c.words (ref_word j) 0) 4294967296
-          = subst (λ y. get_or (words_after c.words (word_of p y) (word_after y (found_at c.words (word_of p y)))) (ref_word j) 0 ≡ bit_or (get_or c.words (ref_word j) 0) 4294967296) (sym made)
-            (get_or-set_same c.words (ref_word j) (bit_or (get_or c.words (ref_word j) 0) 4294967296) 0 (omega (arith, sound.lawful.references.sized))) in
+      = subst (λ y. get_or (words_after c.words (word_of p y) (word_after y (found_at c.words (word_of p y)))) (ref_word j) 0 ≡ bit_or (get_or c.words (ref_word j) 0) 4294967296) (sym made)
+      (get_or-set_same c.words (ref_word j) (bit_or (get_or c.words (ref_word j) 0) 4294967296) 0 (omega (arith, sound.lawful.references.sized))) in
       let below : h < (slot_facts (state after (set vs i w)) j).version = dite (ℕ_discrete (version_of (get_or c.words (ref_word j) 0) % 2) 0)
-          (λ even. let y = ap version_of (word_is ∙ or-even (get_or c.words (ref_word j) 0) even) in omega arith)
-          (λ no_. let odd : version_of (get_or c.words (ref_word j) 0) % 2 ≡ 1 = omega arith in let y = ap version_of (word_is ∙ or-odd (get_or c.words (ref_word j) 0) odd) in
-          let dead = live-odd (slot_facts (state c vs) j).tag (slot_facts (state c vs) j).version (count is_busy (slot_facts (state c vs) j)) odd in omega arith) in
+      (λ even. let y = ap version_of (word_is ∙ or-even (get_or c.words (ref_word j) 0) even) in omega arith)
+      (λ no_. let odd : version_of (get_or c.words (ref_word j) 0) % 2 ≡ 1 = omega arith in let y = ap version_of (word_is ∙ or-odd (get_or c.words (ref_word j) 0) odd) in
+      let dead = live-odd (slot_facts (state c vs) j).tag (slot_facts (state c vs) j).version (count is_busy (slot_facts (state c vs) j)) odd in omega arith) in
       omega (arith, l'.failed h, life-in p.first h (slot_facts (state after (set vs i w)) j).version t₀ below t₂)
 
   step_fails : (j h o : ℕ) → j < p.slots → 0 < count (is_born h) (slot_facts (state c vs) j) → get_or c.words (open_word p o) 0 ≡ socket_id h j + 1 → Fails o (socket_id h j + 1) (Do call next)

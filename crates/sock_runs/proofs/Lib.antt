@@ -14,4 +14,5 @@ pub mod Recorded
 pub mod Through
 pub mod Closing
 pub mod Opening
+pub mod Untouched
 pub mod Whole

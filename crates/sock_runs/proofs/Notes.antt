@@ -1,5 +1,5 @@
 -- Which notes a step makes: each note of a view stays, and a life is noted as made by its birth alone.
-use Rattle.std.proofs.Common.{◌≡◌, ℕ, ◌-◌, ◌+◌, ◌%◌, ◌<◌, ◌≤◌, ◌==◌, ◌⊎◌, inl, inr, cond, nat_lt, List, [], ◌∷◌, refl, sym, ap, arith}
+use Rattle.std.proofs.Common.{◌≡◌, ℕ, ◌-◌, ◌+◌, ◌%◌, ◌<◌, ◌≤◌, ◌==◌, ◌⊎◌, inl, inr, cond, nat_lt, List, ◌∷◌, refl, sym, ap, arith}
 use mathlib.Core.Logic.{dite}
 use mathlib.Core.Option.{Option, some, none, some-ne-none}
 use native.Mathlib.Decide.{ℕ_discrete}
@@ -11,7 +11,7 @@ use Rattle.sock_model.specs.declared.marks.SlotMark.{SlotMark}
 use Rattle.sock_model.specs.declared.view.View.{View}
 use Rattle.sock_model.specs.declared.view.Hand.{Hand}
 use Rattle.sock_model.specs.Weights.{total, only, is_born, is_failer, is_stage, is_recycling, is_hold, is_probe, is_zero, is_coding}
-use Rattle.sock_model.specs.Marks.{about, at, without_at}
+use Rattle.sock_model.specs.Marks.{at, without_at}
 use Rattle.sock_model.specs.Slots.{version_of, nref_of}
 use Rattle.sock_model.specs.SlotRows.{marks_of, back, met}
 use Rattle.sock_model.specs.ChainRows.{with_hand, spent_hand}

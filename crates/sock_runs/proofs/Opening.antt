@@ -1,5 +1,5 @@
 -- The programs of clients store each life in the word of an `open` of their own, so each life of a run is recorded from the beginning on.
-use Rattle.std.proofs.Common.{◌≡◌, ◌≢◌, ℕ, zero, suc, ◌+◌, ◌<◌, ◌≤◌, ◌⊎◌, ◌==◌, ◌&&◌, ◌||◌, not, Bool, true, false, cond, eqb, eqb-true, eq-eqb, ne_eqb, List, [], ◌∷◌, ◌++◌, filter, map, refl, sym, ap, ◌∙◌, subst, inl, inr, ⊎_elim, arith}
+use Rattle.std.proofs.Common.{◌≡◌, ℕ, zero, suc, ◌+◌, ◌<◌, ◌==◌, ◌&&◌, ◌||◌, not, Bool, true, false, eqb-true, eq-eqb, ne_eqb, List, [], ◌∷◌, ◌++◌, map, refl, sym, ap, ◌∙◌, subst, arith}
 use Rattle.std.proofs.lemmas.Bool.{true≢false}
 use Rattle.std.specs.Prelude as std
 use Rattle.std.specs.Prelude.{None, Some}
@@ -8,7 +8,7 @@ use mathlib.Core.Logic.{dite}
 use mathlib.Core.Option.{Option, some, none, some-injective, some-ne-none}
 use native.Mathlib.Decide.{ℕ_discrete, dec_le}
 use lib.ListN.{get_elem?}
-use Rattle.sock_words.specs.Words.{socket_id, socket_id_slot, vref_version}
+use Rattle.sock_words.specs.Words.{socket_id_slot}
 use Rattle.sock_words.specs.declared.plain.Plan.{Plan}
 use Rattle.brpc_model.specs.Order.{EachBefore}
 use Rattle.sock_model.specs.declared.view.View.{View}
@@ -18,15 +18,15 @@ use Rattle.sock_steps.proofs.Quiet.{either_way}
 use Rattle.sock_programs.specs.declared.task.Op.{Op}
 use Rattle.sock_programs.specs.declared.task.Op.TheVariants as ops
 use Rattle.sock_programs.specs.declared.task.Task.{Task}
-use Rattle.sock_programs.specs.Programs.{Program, Do, Say, Rest, open_from, make_socket, no_socket}
+use Rattle.sock_programs.specs.Programs.{Program, open_from, make_socket, no_socket}
 use Rattle.sock_programs.specs.Clients.{HeldLife, held_under, without_name, give_back, drop_of, operation, client_from}
 use Rattle.sock_programs.specs.Cores.{SeatState, next_step}
 use Rattle.sock_programs.specs.Scripts.{beginning, programs}
 use Rattle.sock_programs.specs.Told.{HaveOwnLinks, Differ, AreTasks}
 use Rattle.sock_runs.proofs.Ends.{none_has}
 use Rattle.sock_runs.proofs.Records.{but, Records, next_records}
-use Rattle.sock_runs.proofs.Recorded.{Recorded, either_bool}
-use Rattle.sock_runs.proofs.Through.{Passes, records_passes, through_release, through_fail, through_hold, through_drop}
+use Rattle.sock_runs.proofs.Recorded.{Recorded}
+use Rattle.sock_runs.proofs.Through.{records_passes, through_release, through_fail, through_hold, through_drop}
 
 -- ## The operations of a client
 
@@ -113,7 +113,7 @@ before_at R (x ∷ xs) i zero a b each less at_a at_b = absurd (omega arith)
 before_at R (x ∷ xs) zero (suc j) a b each less at_a at_b = subst (λ y. R y b) (some-injective x a at_a) (all_at (R x) xs j b each.0 at_b)
 before_at R (x ∷ xs) (suc i) (suc j) a b each less at_a at_b = before_at R xs i j a b each.1 (omega arith) at_a at_b
 
-mapped : {A B : Type 0} (f : A → B) (l : List A) (i : ℕ) (b : B) → get_elem? (map f l) i ≡ some b → (a : A) × (get_elem? l i ≡ some a) × (f a ≡ b)
+pub mapped : {A B : Type 0} (f : A → B) (l : List A) (i : ℕ) (b : B) → get_elem? (map f l) i ≡ some b → (a : A) × (get_elem? l i ≡ some a) × (f a ≡ b)
 mapped f [] i b at = absurd (some-ne-none b (sym at))
 mapped f (x ∷ xs) zero b at = (x, refl, some-injective (f x) b at)
 mapped f (x ∷ xs) (suc i) b at = mapped f xs i b at

@@ -1,5 +1,5 @@
 -- Programs that store each life that they make in the word of an operation of their own, and the words that they leave alone.
-use Rattle.std.proofs.Common.{◌≡◌, ◌≢◌, ℕ, zero, suc, ◌+◌, ◌*◌, ◌<◌, ◌≤◌, ◌==◌, ◌&&◌, not, Bool, true, false, List, get_or, set, get_or-set_other, refl, sym, ap, ◌∙◌, arith}
+use Rattle.std.proofs.Common.{◌≡◌, ℕ, ◌+◌, ◌==◌, ◌&&◌, not, Bool, true, List, get_or, get_or-set_other, refl, sym, ap, arith}
 use mathlib.Core.Option.{Option, some, none, some-ne-none}
 use lib.Seq.{set-get_or}
 use Rattle.sock_words.specs.Words.{socket_id, socket_id_slot, vref_version}

@@ -1,14 +1,14 @@
 -- A whole run of a script: behind the ending no life is alive.
-use Rattle.std.proofs.Common.{◌≡◌, ℕ, zero, suc, ◌+◌, ◌<◌, ◌≤◌, ◌==◌, Bool, true, false, cond, eqb, eqb-true, List, [], ◌∷◌, ◌++◌, filter, length, length-set, replicate, refl, sym, ap, ◌∙◌, subst, arith}
+use Rattle.std.proofs.Common.{◌≡◌, ℕ, zero, suc, ◌+◌, ◌<◌, ◌==◌, Bool, true, false, cond, eqb-true, List, [], ◌∷◌, ◌++◌, length, length-set, replicate, refl, sym, ap, ◌∙◌, subst, arith}
 use Rattle.std.specs.Prelude as std
 use Rattle.std.specs.Prelude.{None, Some, option_map}
 use Rattle.std.specs.List.{filter_map, cons_option}
 use Rattle.std.proofs.lemmas.Bool.{true≢false}
 use Rattle.std.proofs.lemmas.List.{length-map}
-use mathlib.Core.Option.{Option, some, none, some-injective, some-ne-none}
+use mathlib.Core.Option.{some, some-injective, some-ne-none}
 use lib.ListN.{get_elem?}
 use Rattle.sock_words.specs.declared.plain.Plan.{Plan}
-use Rattle.brpc_model.specs.Items.{Item, Open, Fail, Hold, Drop, is_open}
+use Rattle.brpc_model.specs.Items.{Item, Open, is_open}
 use Rattle.brpc_model.specs.Places.{names}
 use Rattle.brpc_model.specs.Operations.{slots, clients}
 use Rattle.sock_model.specs.declared.view.View.{View}
@@ -18,20 +18,20 @@ use Rattle.sock_programs.specs.Tasks.{Numbered, numbered, of_client, op_of, task
 use Rattle.sock_programs.specs.Programs.{Program}
 use Rattle.sock_programs.specs.Clients.{client_from, ending_of}
 use Rattle.sock_programs.specs.Cores.{Core, SeatState, word_of, found_at, hand_after, next_step, ticked, run}
-use Rattle.sock_programs.specs.Runs.{IsSettled, rounds}
+use Rattle.sock_programs.specs.Runs.{rounds}
 use Rattle.sock_programs.specs.Scripts.{programs, tasks_from, all_tasks, opened, ending, set_up, played, IsRunOf}
 use Rattle.sock_programs.specs.Told.{AreTasks}
-use Rattle.sock_runs.specs.Sound.{Sound, IsAhead, AllRest, AllFailed, AllEnded, IsOver, IsAlive, views_after, views_along}
+use Rattle.sock_runs.specs.Sound.{Sound, IsAhead, AllRest, AreUntouched, AllFailed, AllEnded, IsOver, IsAlive, views_after, views_along}
 use Rattle.sock_runs.proofs.HandTicks.{AtHome}
 use Rattle.sock_runs.proofs.Ticks.{sound_ticks, tick_keeps}
 use Rattle.sock_runs.proofs.Along.{run_sound, seat_ahead, run_ahead, beginning_ahead, settled_rests}
 use Rattle.sock_runs.proofs.Ends.{all_ended, is_over, none_alive, links_home}
 use Rattle.sock_runs.proofs.Recorded.{Recorded, run_recorded}
 use Rattle.sock_runs.proofs.Closing.{Closing, run_closing, closed_failed, closing_begins}
-use Rattle.sock_runs.proofs.Opening.{opens_in, or_cases, second_true, own_opens, own_is, beginning_recorded}
+use Rattle.sock_runs.proofs.Untouched.{run_untouched, beginning_untouched, reseat_untouched}
+use Rattle.sock_runs.proofs.Opening.{opens_in, or_cases, own_opens, own_is, beginning_recorded}
 
 -- ## The operations of an ending
-
 
 behind : (q : std.Option ℕ) (os : List ℕ) (o : ℕ) → (n : ℕ) × (get_elem? os n ≡ some o) → (n : ℕ) × (get_elem? (cons_option q os) n ≡ some o)
 behind None os o x = x
@@ -160,3 +160,9 @@ module _ (script : List Item) (are : AreTasks (plan_of script) (all_tasks script
   -- each link is at home
   pub end_home : (k : ℕ) → k < p.links → AtHome p core.homes k
   end_home = links_home p core (views_ended script core is vs) end_sound end_rests
+
+  -- which took nothing
+  pub end_untouched : AreUntouched core
+  end_untouched = let before = run_untouched p (set_up script is.setup) (views_along p (opened script) vs (replicate is.setup 0)) turns set_up_sound
+      (run_untouched p (opened script) vs (replicate is.setup 0) begins.sound (beginning_untouched p (programs (slots script) (all_tasks script)))) in
+      subst AreUntouched (sym is.is_end) (run_untouched p closing (views_played script core is vs) (replicate is.last 0) closing_sound (reseat_untouched rested 0 (ending_of (opens script)) before))

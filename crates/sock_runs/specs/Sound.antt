@@ -1,5 +1,6 @@
 -- All seats with their views: the rule holds of them, and each view allows what its seat has still to do.
 use Rattle.std.specs.Prelude.{ℕ, ◌≡◌, ◌+◌, ◌<◌, ◌≤◌, ◌≢◌, ◌%◌, ◌⊎◌, Bool, List, [], ◌∷◌, length, set, slice_index}
+use Rattle.std.specs.List.{AllByRecursion}
 use mathlib.Core.Option.{none, some}
 use lib.ListN.{get_elem?}
 use Rattle.atomic_table.specs.Table.{State}
@@ -108,6 +109,15 @@ AllRest c = (i : ℕ) (seat : SeatState) → get_elem? c.seats i ≡ some seat �
 -- every life that was made was set failed
 abbrev pub AllFailed : Plan → Core → List View → Type 0
 AllFailed p c views = (i h : ℕ) → i < p.slots → 0 < count (is_born h) (slot_facts (state c views) i) → 0 < count (is_failer h) (slot_facts (state c views) i)
+
+-- a link that took nothing
+abbrev pub IsUntouched : Home → Type 0
+IsUntouched x = (k : ℕ) × (done : Bool) × (x ≡ Link k [] 0 done)
+
+-- as all are, at home and in hand
+pub record AreUntouched (c : Core) : Type 0 where
+  pub at_home : (i : ℕ) (x : Home) → get_elem? c.homes i ≡ some (some x) → IsUntouched x
+  pub in_hand : (i : ℕ) (seat : SeatState) → get_elem? c.seats i ≡ some seat → AllByRecursion IsUntouched seat.hand
 
 -- every life that was made has ended
 abbrev pub AllEnded : Plan → Core → List View → Type 0
