@@ -3,4 +3,5 @@ pub mod Edge
 pub mod Link
 pub mod Linker
 pub mod Memory
+pub mod Peer
 pub mod Shape

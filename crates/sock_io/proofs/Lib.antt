@@ -1,0 +1,2 @@
+mod PeerLaws
+mod PeerRows
