@@ -5,3 +5,4 @@ pub mod Linker
 pub mod Memory
 pub mod Peer
 pub mod Shape
+pub mod Writing
