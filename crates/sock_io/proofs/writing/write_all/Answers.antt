@@ -1,6 +1,6 @@
 use Rattle.std.proofs.Common.{◌++◌, take, ap, ◌∙◌}
-use Rattle.script_print.proofs.Written.{front_grows, Appends-append}
-use Rattle.script_print.proofs.output.write_all.Goals as goal
+use Rattle.sock_io.proofs.Growing.{front_grows, Appends-append}
+use Rattle.sock_io.proofs.writing.write_all.Goals as goal
 
 pub loop-rest-preserved : goal.loop-rest-preserved
 loop-rest-preserved g c =
