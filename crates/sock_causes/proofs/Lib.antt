@@ -1,0 +1,3 @@
+pub mod Tests
+pub mod Pieces
+pub mod Clients
