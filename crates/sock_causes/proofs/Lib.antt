@@ -1,3 +1,5 @@
 pub mod Tests
 pub mod Pieces
 pub mod Clients
+pub mod Added
+pub mod Names
