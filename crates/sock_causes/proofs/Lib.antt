@@ -6,3 +6,5 @@ pub mod Names
 pub mod Means
 pub mod Members
 pub mod Seats
+pub mod Tasks
+pub mod Ticks

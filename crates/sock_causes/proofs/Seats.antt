@@ -45,7 +45,7 @@ undo_done (x ∷ ds) todo d (inr m) = undo_done ds (x.task ∷ todo) d m
 
 -- ## What is said
 
-length_said : (q : Program) (os : List (Option Outcome)) → length (said q os) ≡ length os
+pub length_said : (q : Program) (os : List (Option Outcome)) → length (said q os) ≡ length os
 length_said (Do call next) os = refl
 length_said Rest os = refl
 length_said (Say o outcome more) os = length_said more (set os o (Some outcome)) ∙ length-set os o (Some outcome)
