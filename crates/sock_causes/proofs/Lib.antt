@@ -8,3 +8,5 @@ pub mod Members
 pub mod Seats
 pub mod Tasks
 pub mod Ticks
+pub mod Runs
+pub mod Begin

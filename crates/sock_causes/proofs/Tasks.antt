@@ -15,10 +15,10 @@ use Rattle.sock_causes.specs.Causes.{Asks}
 use Rattle.sock_causes.proofs.Members.{all_in, get_all, get_before, before_or_same}
 use Rattle.sock_causes.proofs.Seats.{Less}
 
-abbrev InOrder : Task → Task → Type 0
+abbrev pub InOrder : Task → Task → Type 0
 InOrder a b = (a.number < b.number) × HaveOwnLinks a.op b.op
 
-abbrev Apart : List Task → List Task → Type 0
+abbrev pub Apart : List Task → List Task → Type 0
 Apart ts us = AllByRecursion (λ (t : Task). AllByRecursion (Differ t) us) ts
 
 module _ {A : Type 0} (R Q : A → A → Type 0) (f : (a b : A) → R a b → Q a b) where
@@ -26,7 +26,7 @@ module _ {A : Type 0} (R Q : A → A → Type 0) (f : (a b : A) → R a b → Q 
   all_weaker x [] h = tt
   all_weaker x (y ∷ ys) h = (f x y h.0, all_weaker x ys h.1)
 
-  before_weaker : (xs : List A) → EachBefore R xs → EachBefore Q xs
+  pub before_weaker : (xs : List A) → EachBefore R xs → EachBefore Q xs
   before_weaker [] h = tt
   before_weaker (x ∷ xs) h = (all_weaker x xs h.0, before_weaker xs h.1)
 

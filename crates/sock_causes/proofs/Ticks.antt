@@ -165,3 +165,33 @@ module _ (p : Plan) (clients : List (List Task)) (are : AreTasks p clients) (c :
           (λ r. absurd (r.0 same.0)) z)
           (λ far. ⊎_elim (λ r. absurd (far.0 r.0)) (λ r. others k us x u far.0 a (story.seats k us x u a far.1 r.1)) z) y;
     }
+
+  -- behind the tick the story holds of the core and the views, and each new step is of seat i
+  abbrev Goes : Core → List View → Type 0
+  Goes d us = (es' : List Event) × Story p clients d us es' × ((e : Event) → In e es' → In e es ⊎ (e.client ≡ i))
+
+  new_step : (todo : List Task) (entry : Entry) (e : Event) → In e (told_of i todo entry es) → In e es ⊎ (e.client ≡ i)
+  new_step [] entry e m = inl m
+  new_step (t ∷ ts) entry e (inl same) = inr (ap (λ (x : Event). x.client) same)
+  new_step (t ∷ ts) entry e (inr m) = inl m
+
+  same_story : Goes c vs
+  same_story = (es, story, λ e m. inl m)
+
+  by_program : (seat : SeatState) (v : View) → get_elem? c.seats i ≡ some seat → get_elem? vs i ≡ some v → (tasks : List Task) → slice_get clients i ≡ Some tasks → (program : Program) → seat.program ≡ program
+      → Goes (tick_of p i seat program c) (views_of p i program c vs v)
+  by_program seat v at here tasks asks (Do call next) does = let y = story.seats i tasks seat v asks at here in
+      let s : SeatAt p.slots es c.outcomes i tasks y.0 y.1 (Do call next) v = subst (λ q. SeatAt p.slots es c.outcomes i tasks y.0 y.1 q v) does y.2 in
+      (told_of i y.1 (step call (found_at c.words (word_of p call))) es, step_story seat v tasks call next at here asks does y.0 y.1 s, new_step y.1 (step call (found_at c.words (word_of p call))))
+  by_program seat v at here tasks asks (Say o outcome more) does = same_story
+  by_program seat v at here tasks asks Rest does = same_story
+
+  by_seat : (o : Option SeatState) → get_elem? c.seats i ≡ o → Goes (elim o as (λ o. Core) [ none ↦ c | some seat ↦ tick_of p i seat seat.program c ])
+      (elim o as (λ o. List View) [ none ↦ vs | some seat ↦ elim (get_elem? vs i) as (λ o. List View) [ none ↦ vs | some v ↦ views_of p i seat.program c vs v ] ])
+  by_seat none e = same_story
+  by_seat (some seat) e = let v = elem_there c.seats vs i seat sound.each e in let a = get_of c.seats clients i seat story.each e in
+      subst (λ o. Goes (tick_of p i seat seat.program c) (elim o as (λ o. List View) [ none ↦ vs | some v ↦ views_of p i seat.program c vs v ])) (sym v.1) (by_program seat v.0 e v.1 a.0 a.1 seat.program refl)
+
+  -- a tick keeps the story
+  pub tick_story : Goes (ticked p c i) (views_after p c vs i)
+  tick_story = by_seat (get_elem? c.seats i) refl
