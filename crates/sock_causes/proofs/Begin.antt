@@ -30,10 +30,11 @@ use Rattle.sock_runs.specs.Sound.{state, Sound}
 use Rattle.sock_causes.specs.Stories.{Event, In, trace_now}
 use Rattle.sock_causes.specs.Explains.{Done, Explains}
 use Rattle.sock_causes.specs.Causes.{Holding}
-use Rattle.sock_causes.specs.Kept.{undo, SeatAt, SeatStory, Story}
+use Rattle.sock_causes.specs.Kept.{undo, SeatAt, SeatStory, Story, IsReady}
 use Rattle.sock_causes.proofs.Clients.{client_explains}
 use Rattle.sock_causes.proofs.Members.{all_in, all_of, get_all}
 use Rattle.sock_causes.proofs.Seats.{Less, length_said, said_else, after_say, undo_done}
+use Rattle.sock_causes.proofs.Ticks.{next_ready}
 use Rattle.sock_causes.proofs.Tasks.{Apart, InOrder, before_weaker}
 
 -- ## The words
@@ -139,6 +140,11 @@ seat_is slots [] i ts seat e f = absurd (cc)
 seat_is slots (c ∷ cs) zero ts seat e f = let q : c ≡ ts = cc in ap (λ us. next_step (client_from slots [] us)) (sym q) ∙ ap (λ (s : SeatState). s.program) (some-injective (record { program = next_step (client_from slots [] c); hand = [] }) seat f)
 seat_is slots (c ∷ cs) (suc i) ts seat e f = seat_is slots cs i ts seat e f
 
+ready_at : (qs : List Program) (i : ℕ) (seat : SeatState) → get_elem? (map (λ (program : Program). record { program = next_step program; hand = [] }) qs) i ≡ some seat → IsReady seat.program
+ready_at [] i seat e = absurd (some-ne-none seat (sym e))
+ready_at (q ∷ qs) zero seat e = subst (λ (s : SeatState). IsReady s.program) (some-injective (record { program = next_step q; hand = [] }) seat e) (next_ready q)
+ready_at (q ∷ qs) (suc i) seat e = ready_at qs i seat e
+
 each_mapped : {A B : Type 0} (f : A → B) (xs : List A) → length (map f xs) ≡ length xs
 each_mapped f [] = refl
 each_mapped f (x ∷ xs) = ap suc (each_mapped f xs)
@@ -168,6 +174,7 @@ module _ (p : Plan) (clients : List (List Task)) (are : AreTasks p clients) (vs 
   start_story sound = record {
     sized = length_all (programs p.slots clients) none_ ∙ length_same p.operations no_outcome;
     each = each_mapped _ (programs p.slots clients) ∙ each_mapped (client_from p.slots []) clients;
+    ready = λ i seat e. ready_at (programs p.slots clients) i seat e;
     good = tt;
     births = λ j l h. unborn p.first (slot_facts (state start vs) j) (sound.lawful.references.slots j l) (tag_at p.first p.slots j _ l) (version j l) h;
     fails = λ j l h. unfailed p.first (slot_facts (state start vs) j) (sound.lawful.references.slots j l) (tag_at p.first p.slots j _ l) (version j l) h;

@@ -10,3 +10,4 @@ pub mod Tasks
 pub mod Ticks
 pub mod Runs
 pub mod Begin
+pub mod Events

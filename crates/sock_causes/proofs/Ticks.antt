@@ -37,7 +37,7 @@ use Rattle.sock_runs.specs.Sound.{state, Sound, views_of, views_after}
 use Rattle.sock_causes.specs.Stories.{Entry, Event, In, trace_of, trace_now, told_of, stored_by, last_name, adds, marked}
 use Rattle.sock_causes.specs.Explains.{Done, IsPlain, Explains, step}
 use Rattle.sock_causes.specs.Causes.{Asks, Holding, Cause, Good}
-use Rattle.sock_causes.specs.Kept.{undo, SeatAt, SeatStory, Story}
+use Rattle.sock_causes.specs.Kept.{undo, SeatAt, SeatStory, Story, IsReady}
 use Rattle.sock_causes.proofs.Added.{IsNote, born_note, failer_note, tried_note, row_adds}
 use Rattle.sock_causes.proofs.Names.{name_stays}
 use Rattle.sock_causes.proofs.Means.{means_of}
@@ -84,6 +84,11 @@ get_of [] ys i x l e = absurd (some-ne-none x (sym e))
 get_of (z ∷ zs) [] i x l e = absurd (omega arith)
 get_of (z ∷ zs) (y ∷ ys) zero x l e = (y, refl)
 get_of (z ∷ zs) (y ∷ ys) (suc i) x l e = get_of zs ys i x (omega arith) e
+
+pub next_ready : (q : Program) → IsReady (next_step q)
+next_ready (Do call next) = tt
+next_ready Rest = tt
+next_ready (Say o outcome more) = next_ready more
 
 -- the setup is at work, or it is done
 abbrev pub MayMove : Core → List Event → ℕ → Type 0
@@ -153,6 +158,7 @@ module _ (p : Plan) (clients : List (List Task)) (are : AreTasks p clients) (c :
     step_story = record {
       sized = length_said (next found) c.outcomes ∙ story.sized;
       each = length-set c.seats i _ ∙ story.each;
+      ready = λ k x b. ⊎_elim (λ r. subst (λ (t : SeatState). IsReady t.program) r.1 (next_ready (next found))) (λ r. story.ready k x r.1) (at_set c.seats i k _ x b);
       good = good_now todo s;
       births = λ j l h. ties (is_born h) (born_note h) j (story.births j l h);
       fails = λ j l h. ties (is_failer h) (failer_note h) j (story.fails j l h);

@@ -13,7 +13,7 @@ use Rattle.sock_model.specs.Slots.{count}
 use Rattle.sock_model.specs.References.{slot_facts}
 use Rattle.sock_model.specs.SlotRows.{marks_of}
 use Rattle.sock_programs.specs.declared.task.Task.{Task}
-use Rattle.sock_programs.specs.Programs.{Program}
+use Rattle.sock_programs.specs.Programs.{Program, Do, Say, Rest}
 use Rattle.sock_programs.specs.Cores.{Core, SeatState}
 use Rattle.sock_runs.specs.Sound.{state}
 use Rattle.sock_causes.specs.Stories.{Event, In, trace_of, trace_now, last_name, marked}
@@ -44,9 +44,15 @@ pub record SeatAt (slots : ℕ) (es : List Event) (outcomes : List (Option Outco
 abbrev pub SeatStory : ℕ → List Event → List (Option Outcome) → ℕ → List Task → Program → View → Type 0
 SeatStory slots es outcomes c tasks program v = (done : List Done) × (todo : List Task) × SeatAt slots es outcomes c tasks done todo program v
 
+-- its outcomes are said
+abbrev pub IsReady : Program → Type 0
+IsReady (Say o outcome more) = ⊥
+IsReady other = Unit {0}
+
 pub record Story (p : Plan) (clients : List (List Task)) (c : Core) (views : List View) (es : List Event) : Type 0 where
   pub sized : length c.outcomes ≡ p.operations
   pub each : length c.seats ≡ length clients
+  pub ready : (i : ℕ) (seat : SeatState) → get_elem? c.seats i ≡ core.some seat → IsReady seat.program
   pub good : Good p clients es
   -- the marks that stay are those of the story
   pub births : (j : ℕ) → j < p.slots → (h : ℕ) → count (is_born h) (slot_facts (state c views) j) ≡ marked (is_born h) j es
