@@ -11,3 +11,4 @@ pub mod Ticks
 pub mod Runs
 pub mod Begin
 pub mod Events
+pub mod Final

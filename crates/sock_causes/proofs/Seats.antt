@@ -30,7 +30,7 @@ undo_todo R [] todo h = h
 undo_todo R (d ∷ ds) todo h = (undo_todo R ds (d.task ∷ todo) h).1
 
 -- each that is done stands before each that is to do
-undo_before : (R : Task → Task → Type 0) (done : List Done) (todo : List Task) → EachBefore R (undo done todo) → AllByRecursion (λ (d : Done). AllByRecursion (R d.task) todo) done
+pub undo_before : (R : Task → Task → Type 0) (done : List Done) (todo : List Task) → EachBefore R (undo done todo) → AllByRecursion (λ (d : Done). AllByRecursion (R d.task) todo) done
 undo_before R [] todo h = tt
 undo_before R (d ∷ ds) todo h = ((undo_todo R ds (d.task ∷ todo) h).0, all_of (λ (x : Done). AllByRecursion (R x.task) todo) ds (λ x m. (all_in (λ (x : Done). AllByRecursion (R x.task) (d.task ∷ todo)) ds x (undo_before R ds (d.task ∷ todo) h) m).1))
 
