@@ -12,3 +12,4 @@ pub mod Runs
 pub mod Begin
 pub mod Events
 pub mod Final
+pub mod Lives
