@@ -13,3 +13,4 @@ pub mod Begin
 pub mod Events
 pub mod Final
 pub mod Lives
+pub mod Fails
