@@ -14,3 +14,4 @@ pub mod Events
 pub mod Final
 pub mod Lives
 pub mod Fails
+pub mod Whys
