@@ -1,5 +1,5 @@
 -- What a step adds to the marks of its seat that stay.
-use Rattle.std.proofs.Common.{◌≡◌, ℕ, ◌+◌, ◌-◌, ◌%◌, ◌<◌, Bool, true, false, cond, eqb, List, [], ◌∷◌, refl, sym, ap, ◌∙◌, arith, nat_lt}
+use Rattle.std.proofs.Common.{◌≡◌, ℕ, ◌+◌, ◌-◌, ◌%◌, ◌<◌, Bool, true, false, cond, eqb, List, ◌∷◌, refl, ap, ◌∙◌, arith, nat_lt}
 use Rattle.sock_words.specs.declared.plain.Plan.{Plan}
 use Rattle.sock_words.specs.Words.{socket_id_version, socket_id_slot, vref_version}
 use Rattle.sock_model.specs.declared.marks.Mark.{Mark}
@@ -14,7 +14,6 @@ use Rattle.sock_model.specs.SlotRows.{marks_of, back, subbed, recycled}
 use Rattle.slot_laws.proofs.Slots.{zero_is, hold_is, probe_is, stage_is}
 use Rattle.sock_steps.proofs.Quiet.{less_without, more_without}
 use Rattle.sock_programs.specs.Calls.{Call, ClaimSlot, GiveBirth, AddRef, SubRef, SetOdd, Recycle, FreeSlot, StoreLink, LoadLink, ResetHead, WipeCode, StoreCode, StoreName, LoadName, StoreOpen, LoadOpen, TakeLink, FinishLink, PutLink}
-use Rattle.sock_programs.specs.Programs.{NO_SOCKET}
 use Rattle.sock_runs.specs.Rows.{row, is_id, found_id, taken}
 use Rattle.sock_causes.specs.Stories.{adds}
 use Rattle.sock_causes.proofs.Tests.{split}

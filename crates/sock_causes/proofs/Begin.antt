@@ -1,5 +1,5 @@
 -- At the beginning the story is empty.
-use Rattle.std.proofs.Common.{◌≡◌, ◌≢◌, ℕ, zero, suc, true, false, ◌+◌, ◌-◌, ◌*◌, ◌/◌, ◌%◌, ◌<◌, ◌≤◌, List, [], ◌∷◌, ◌++◌, map, length, get_or, replicate, sym, refl, ap, ◌∙◌, subst, arith}
+use Rattle.std.proofs.Common.{◌≡◌, ◌≢◌, ℕ, zero, suc, true, false, ◌+◌, ◌-◌, ◌*◌, ◌<◌, ◌≤◌, List, [], ◌∷◌, ◌++◌, map, length, get_or, replicate, sym, refl, ap, ◌∙◌, subst, arith}
 use Rattle.std.specs.Prelude.{Option, Some, None, fold, slice_get}
 use Rattle.std.specs.List.{AllByRecursion}
 use mathlib.Core.Option.{some, some-injective, some-ne-none}
@@ -13,26 +13,26 @@ use Rattle.sock_words.specs.declared.outcome.Outcome.{Outcome}
 use Rattle.sock_model.specs.declared.marks.Mark.{Mark}
 use Rattle.sock_model.specs.declared.marks.Mark.TheVariants.{Claimed}
 use Rattle.sock_model.specs.declared.view.View.{View}
-use Rattle.sock_model.specs.Weights.{total, tally, is_hold, is_busy, is_claimed, is_born, is_failer, is_tried}
-use Rattle.sock_model.specs.Layout.{tag_word, ref_word, name_word, all_words}
+use Rattle.sock_model.specs.Weights.{is_hold, is_busy, is_claimed, is_born, is_failer, is_tried}
+use Rattle.sock_model.specs.Layout.{tag_word, ref_word, all_words}
 use Rattle.sock_model.specs.Slots.{SlotFacts, SlotLaw, live, count}
 use Rattle.sock_model.specs.References.{slot_facts}
 use Rattle.sock_model.specs.SlotRows.{marks_of}
 use Rattle.slot_laws.proofs.Sums.{tally_mono}
 use Rattle.slot_laws.proofs.Numbers.{live-free, life-none}
 use Rattle.sock_programs.specs.declared.task.Task.{Task}
-use Rattle.sock_programs.specs.Programs.{Program, Do, Say, Rest}
+use Rattle.sock_programs.specs.Programs.{Program}
 use Rattle.sock_programs.specs.Clients.{client_from}
 use Rattle.sock_programs.specs.Cores.{Core, SeatState, said, next_step}
-use Rattle.sock_programs.specs.Scripts.{free_slot, free_slots, opening_words, opening_homes, programs, beginning}
+use Rattle.sock_programs.specs.Scripts.{free_slots, programs, beginning}
 use Rattle.sock_programs.specs.Told.{AreTasks, TaskFits, Differ, alternate}
 use Rattle.sock_runs.specs.Sound.{state, Sound}
-use Rattle.sock_causes.specs.Stories.{Event, In, trace_now}
+use Rattle.sock_causes.specs.Stories.{In, trace_now}
 use Rattle.sock_causes.specs.Explains.{Done, Explains}
 use Rattle.sock_causes.specs.Causes.{Holding}
-use Rattle.sock_causes.specs.Kept.{undo, SeatAt, SeatStory, Story, IsReady}
+use Rattle.sock_causes.specs.Kept.{SeatStory, Story, IsReady}
 use Rattle.sock_causes.proofs.Clients.{client_explains}
-use Rattle.sock_causes.proofs.Members.{all_in, all_of, get_all}
+use Rattle.sock_causes.proofs.Members.{all_in, all_of}
 use Rattle.sock_causes.proofs.Seats.{Less, length_said, said_else, after_say, undo_done}
 use Rattle.sock_causes.proofs.Ticks.{next_ready}
 use Rattle.sock_causes.proofs.Tasks.{Apart, InOrder, before_weaker}
@@ -122,17 +122,21 @@ module _ (p : Plan) (well : (ts : List Task) → Type 0) (explained : (ts : List
       nothing (t ∷ ts) = refl
 
       first_ : SeatStory p.slots [] (said (client_from p.slots [] t) os) c t (next_step (client_from p.slots [] t)) v → SeatStory p.slots [] (fold Says os (programs p.slots (t ∷ cs))) c t (next_step (client_from p.slots [] t)) v
-      first_ s = let a = s.2 in let os' : List (Option Outcome) = said (client_from p.slots [] t) os in (s.0, s.1, record {
-        all = a.all;
-        became = all_of (λ (d : Done). slice_get (fold Says os' (programs p.slots cs)) d.task.number ≡ Some (Some d.outcome)) s.0 (λ d m.
-          outcome_stays cs w.1 os' d.task.number (all_of (AllByRecursion (λ (u : Task). u.number ≢ d.task.number)) cs (λ us n. all_of (λ (u : Task). u.number ≢ d.task.number) us (λ u k r.
-            (all_in (Differ d.task) us u (all_in (λ (x : Task). AllByRecursion (Differ x) us) t d.task (all_in (Apart t) cs us apart.0 n) (subst (In d.task) (sym a.all) (undo_done s.0 s.1 d m))) k).0 (sym r))))
-          ∙ all_in (λ (d : Done). slice_get os' d.task.number ≡ Some (Some d.outcome)) s.0 d a.became m);
-        kept = a.kept;
-        past = a.past;
-        explains = a.explains;
-        holding = a.holding;
-      })
+      first_ s = let a = s.2 in let os' : List (Option Outcome) = said (client_from p.slots [] t) os in (
+        s.0,
+        s.1,
+        record {
+          all = a.all;
+          became = all_of (λ (d : Done). slice_get (fold Says os' (programs p.slots cs)) d.task.number ≡ Some (Some d.outcome)) s.0 (λ d m.
+              outcome_stays cs w.1 os' d.task.number (all_of (AllByRecursion (λ (u : Task). u.number ≢ d.task.number)) cs (λ us n. all_of (λ (u : Task). u.number ≢ d.task.number) us (λ u k r.
+              (all_in (Differ d.task) us u (all_in (λ (x : Task). AllByRecursion (Differ x) us) t d.task (all_in (Apart t) cs us apart.0 n) (subst (In d.task) (sym a.all) (undo_done s.0 s.1 d m))) k).0 (sym r))))
+              ∙ all_in (λ (d : Done). slice_get os' d.task.number ≡ Some (Some d.outcome)) s.0 d a.became m);
+          kept = a.kept;
+          past = a.past;
+          explains = a.explains;
+          holding = a.holding;
+        },
+      )
 
 seat_is : (slots : ℕ) (cs : List (List Task)) (i : ℕ) (ts : List Task) (seat : SeatState) → slice_get cs i ≡ Some ts
     → get_elem? (map (λ (program : Program). record { program = next_step program; hand = [] }) (programs slots cs)) i ≡ some seat → next_step (client_from slots [] ts) ≡ seat.program

@@ -1,22 +1,22 @@
 -- The program of a client explains each outcome that it says.
-use Rattle.std.proofs.Common.{◌≡◌, ◌≢◌, ℕ, zero, suc, ◌+◌, ◌-◌, ◌%◌, ◌<◌, ◌⊎◌, Bool, true, false, cond, ◌&&◌, eqb, eq-eqb, ne_eqb, List, [], ◌∷◌, ◌++◌, inl, inr, ⊎_elim, sym, refl, ap, ◌∙◌, subst, arith}
-use Rattle.std.specs.Prelude.{Option, Some, None, not, filter, if◌then◌else◌}
+use Rattle.std.proofs.Common.{◌≡◌, ◌≢◌, ℕ, zero, suc, ◌+◌, ◌%◌, ◌<◌, ◌⊎◌, Bool, true, false, cond, eqb, eq-eqb, ne_eqb, List, [], ◌∷◌, ◌++◌, inl, inr, ⊎_elim, sym, refl, ap, ◌∙◌, subst, arith}
+use Rattle.std.specs.Prelude.{Option, Some, None, not, if◌then◌else◌}
 use Rattle.std.specs.List.{AllByRecursion}
 use mathlib.Core.Logic.{dite}
 use native.Mathlib.Decide.{ℕ_discrete}
-use Rattle.sock_words.specs.Words.{socket_id, socket_id_version, socket_id_slot, vref_version}
+use Rattle.sock_words.specs.Words.{socket_id_version, socket_id_slot, vref_version}
 use Rattle.sock_words.specs.declared.outcome.Outcome.{Outcome}
 use Rattle.sock_words.specs.declared.outcome.Outcome.TheVariants.{Opened, SlotsFull, Unopened, Gone, Held, Freed, Kept, NotHeld, Failed, Already}
 use Rattle.sock_programs.specs.declared.task.Op.{Op}
 use Rattle.sock_programs.specs.declared.task.Op.TheVariants as ops
 use Rattle.sock_programs.specs.declared.task.Task.{Task}
-use Rattle.sock_programs.specs.Calls.{Call, ClaimSlot, GiveBirth, AddRef, SubRef, SetOdd, StoreLink, ResetHead, WipeCode, StoreCode, StoreName, LoadName, StoreOpen, TakeLink, FinishLink, PutLink}
-use Rattle.sock_programs.specs.Programs.{Program, Do, Say, Rest, NO_SOCKET, release, open_from, make_socket, set_failed, fail, fail_outcome, hold, drop_held}
+use Rattle.sock_programs.specs.Calls.{ClaimSlot, AddRef, SubRef, SetOdd, StoreCode, LoadName}
+use Rattle.sock_programs.specs.Programs.{Program, Do, Say, release, open_from, make_socket, set_failed, fail, fail_outcome, hold}
 use Rattle.sock_programs.specs.Clients.{HeldLife, held_under, without_name, give_back, drop_of, operation, client_from}
 use Rattle.sock_programs.specs.Told.{goes_well, in_hand_behind, alternate}
 use Rattle.sock_causes.specs.Stories.{Entry, In}
 use Rattle.sock_causes.specs.Explains.{Done, LastHold, Because, Explains, Tells, step}
-use Rattle.sock_causes.proofs.Tests.{split, split_eq, both_left, both_right, none_of}
+use Rattle.sock_causes.proofs.Tests.{split_eq, both_left, both_right, none_of}
 use Rattle.sock_causes.proofs.Pieces.{Grew, release_goes, reach_goes, release_ends}
 
 -- ## What is held
@@ -77,13 +77,34 @@ module _ (slots : ℕ) (done : List Done) (number : ℕ) (ts : List Task) where
       → (more i : ℕ) (trace : List Entry) → i + more ≡ slots → ((j : ℕ) → j < i → (found : ℕ) × In (step (ClaimSlot j) found) trace × (found ≢ 0)) → ((outcome : Outcome) → AllByRecursion (Tells outcome) trace)
       → Explains slots done trace (task (ops.Open name k) ∷ ts) (open_from more i number name k next)
   open_goes name k next then_ zero i trace e claims tells = (tt, λ a. (tt, λ b. (tt, λ c. (tt, λ d. (refl, (λ j l. let x = claims j (omega arith) in (x.0, inr (inr (inr (inr x.1))), x.2)), (tt, (tt, (tt, (tt, tells SlotsFull)))), then_ SlotsFull)))))
-  open_goes name k next then_ (suc more) i trace e claims tells = (tt, λ found. split_eq found 0 (make_socket number name k i next) (open_from more (i + 1) number name k next)
-      (Explains slots done (step (ClaimSlot i) found ∷ trace) (task (ops.Open name k) ∷ ts))
-      (λ zero_. (tt, λ a. (tt, λ b. (tt, λ c. ((name, refl), λ word. (tt, λ d. ((k, i, word, refl, inr (inl refl), refl), λ x.
-      (refl, (refl, word, x, inr (inr (inl refl)), refl, inl refl), (tt, (tt, (refl, (tt, (tt, (tt, (tt, tells (Opened i (vref_version word) k)))))))), then_ (Opened i (vref_version word) k)))))))))
-      (λ some_. open_goes name k next then_ more (i + 1) (step (ClaimSlot i) found ∷ trace) (omega arith)
-      (λ j l. dite (ℕ_discrete j i) (λ same. (found, inl (ap (λ z. step (ClaimSlot z) found) same), some_)) (λ far. let x = claims j (omega arith) in (x.0, inr x.1, x.2)))
-      (λ o. (tt, tells o))))
+  open_goes name k next then_ (suc more) i trace e claims tells = (
+    tt,
+    λ found. split_eq found 0 (make_socket number name k i next) (open_from more (i + 1) number name k next)
+        (Explains slots done (step (ClaimSlot i) found ∷ trace) (task (ops.Open name k) ∷ ts))
+        (λ zero_. (
+          tt,
+          λ a. (
+            tt,
+            λ b. (
+              tt,
+              λ c. (
+                (name, refl),
+                λ word. (
+                  tt,
+                  λ d. (
+                    (k, i, word, refl, inr (inl refl), refl),
+                    λ x.
+                        (refl, (refl, word, x, inr (inr (inl refl)), refl, inl refl), (tt, (tt, (refl, (tt, (tt, (tt, (tt, tells (Opened i (vref_version word) k)))))))), then_ (Opened i (vref_version word) k)),
+                  ),
+                ),
+              ),
+            ),
+          ),
+        ))
+        (λ some_. open_goes name k next then_ more (i + 1) (step (ClaimSlot i) found ∷ trace) (omega arith)
+        (λ j l. dite (ℕ_discrete j i) (λ same. (found, inl (ap (λ z. step (ClaimSlot z) found) same), some_)) (λ far. let x = claims j (omega arith) in (x.0, inr x.1, x.2)))
+        (λ o. (tt, tells o))),
+  )
 
   fail_goes : (name code : ℕ) (next : Program) → ((outcome : Outcome) → Explains slots (behind (ops.Fail name code) outcome) [] ts next)
       → Explains slots done [] (task (ops.Fail name code) ∷ ts) (fail number name code next)
@@ -99,16 +120,28 @@ module _ (slots : ℕ) (done : List Done) (number : ℕ) (ts : List Task) where
 
       says : (id f found : ℕ) (tr : List Entry) → Grew (trace3 id f found) tr → Explains slots done tr (task (ops.Fail name code) ∷ ts) (Say number (fail_outcome found) next)
       says id f found tr grew = let at = grew.0 (step (SetOdd (socket_id_slot id)) found) (inl refl) in
-          let P : Outcome → Type 0 = λ o. Because slots done tr (ops.Fail name code) o in
-          (refl, split_eq (vref_version found % 2) 0 Failed (Already (record { 0 = found })) P (λ even. (socket_id_slot id, found, at, even)) (λ odd. (socket_id_slot id, at, omega arith)),
-          grew.1 (fail_outcome found) (refl, (tt, (tt, tt))), then_ (fail_outcome found))
+          let P : Outcome → Type 0 = λ o. Because slots done tr (ops.Fail name code) o in (
+            refl,
+            split_eq (vref_version found % 2) 0 Failed (Already (record { 0 = found })) P (λ even. (socket_id_slot id, found, at, even)) (λ odd. (socket_id_slot id, at, omega arith)),
+            grew.1 (fail_outcome found) (refl, (tt, (tt, tt))),
+            then_ (fail_outcome found),
+          )
 
       held : (id f : ℕ) → vref_version f ≡ socket_id_version id → Explains slots done (step (AddRef id) f ∷ step (LoadName name) (id + 1) ∷ []) (task (ops.Fail name code) ∷ ts) (set_failed id code (λ found. release (socket_id_slot id) (λ _. Say number (fail_outcome found) next)))
-      held id f e = ((name, code, id, f, refl, refl, e, refl), λ found. let after : Program = release (socket_id_slot id) (λ _. Say number (fail_outcome found) next) in
-          split_eq (vref_version found % 2) 0 (Do (StoreCode (socket_id_slot id) (socket_id_version id) code) (λ _. Do (SubRef (socket_id_slot id)) (λ _. after))) after (Explains slots done (trace3 id f found) (task (ops.Fail name code) ∷ ts))
-          (λ even. (tt, λ a. (tt, λ b. let now : List Entry = step (SubRef (socket_id_slot id)) b ∷ step (StoreCode (socket_id_slot id) (socket_id_version id) code) a ∷ trace3 id f found in
-          release_goes slots done (task (ops.Fail name code)) ts now (λ _. Say number (fail_outcome found) next) (λ _ tr g. says id f found tr ((λ x m. g.0 x (inr (inr m))), λ o h. g.1 o (tt, (tt, h)))) (socket_id_slot id))))
-          (λ odd. release_goes slots done (task (ops.Fail name code)) ts (trace3 id f found) (λ _. Say number (fail_outcome found) next) (λ _ tr g. says id f found tr g) (socket_id_slot id)))
+      held id f e = (
+        (name, code, id, f, refl, refl, e, refl),
+        λ found. let after : Program = release (socket_id_slot id) (λ _. Say number (fail_outcome found) next) in
+            split_eq (vref_version found % 2) 0 (Do (StoreCode (socket_id_slot id) (socket_id_version id) code) (λ _. Do (SubRef (socket_id_slot id)) (λ _. after))) after (Explains slots done (trace3 id f found) (task (ops.Fail name code) ∷ ts))
+            (λ even. (
+              tt,
+              λ a. (
+                tt,
+                λ b. let now : List Entry = step (SubRef (socket_id_slot id)) b ∷ step (StoreCode (socket_id_slot id) (socket_id_version id) code) a ∷ trace3 id f found in
+                    release_goes slots done (task (ops.Fail name code)) ts now (λ _. Say number (fail_outcome found) next) (λ _ tr g. says id f found tr ((λ x m. g.0 x (inr (inr m))), λ o h. g.1 o (tt, (tt, h)))) (socket_id_slot id),
+              ),
+            ))
+            (λ odd. release_goes slots done (task (ops.Fail name code)) ts (trace3 id f found) (λ _. Say number (fail_outcome found) next) (λ _ tr g. says id f found tr g) (socket_id_slot id)),
+      )
 
   module _ (b : ℕ → Bool) (held : List HeldLife) (wells : (n : ℕ) → HeldAt n done held (b n)) (slots_next : List HeldLife → Program) where
     -- what follows explains itself behind each outcome that goes with what is held
@@ -132,8 +165,12 @@ module _ (slots : ℕ) (done : List Done) (number : ℕ) (ts : List Task) where
         (λ found. Say number (Gone (record { 0 = found })) (slots_next held))
         (refl, inl refl, (tt, tt), follows Unopened held (unheld_wells name Unopened free (λ q. absurd (cc))))
         (λ id found e. (refl, (id, inr (inl refl)), (tt, (tt, tt)), follows Held (held ++ (record { name = name; id = id }) ∷ []) (held_wells name id free)))
-        (λ id found tr ne grew. (refl, (id, grew.0 (step (LoadName name) (id + 1)) (inr (inl refl)), grew.0 (step (AddRef id) found) (inl refl), ne), grew.1 (Gone (record { 0 = found })) (tt, (tt, tt)),
-        follows (Gone (record { 0 = found })) held (unheld_wells name (Gone (record { 0 = found })) free (λ q. absurd (cc)))))
+        (λ id found tr ne grew. (
+          refl,
+          (id, grew.0 (step (LoadName name) (id + 1)) (inr (inl refl)), grew.0 (step (AddRef id) found) (inl refl), ne),
+          grew.1 (Gone (record { 0 = found })) (tt, (tt, tt)),
+          follows (Gone (record { 0 = found })) held (unheld_wells name (Gone (record { 0 = found })) free (λ q. absurd (cc))),
+        ))
 
     drop_wells : (name : ℕ) (outcome : Outcome) (n : ℕ) → HeldAt n (behind (ops.Drop name) outcome) (without_name name held) (in_hand_behind n (ops.Drop name) (b n))
     drop_wells name outcome n = split_eq name n false (b n) (HeldAt n (behind (ops.Drop name) outcome) (without_name name held))

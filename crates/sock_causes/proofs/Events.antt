@@ -1,11 +1,11 @@
 -- What the events of a good story have to do with one another.
-use Rattle.std.proofs.Common.{◌≡◌, ◌≢◌, ℕ, zero, suc, ◌+◌, ◌%◌, ◌<◌, ◌≤◌, ◌⊎◌, Bool, true, false, cond, eqb, eq-eqb, ne_eqb, List, [], ◌∷◌, inl, inr, ⊎_elim, sym, refl, ap, ◌∙◌, subst, arith}
+use Rattle.std.proofs.Common.{◌≡◌, ◌≢◌, ℕ, ◌%◌, ◌<◌, ◌≤◌, ◌⊎◌, Bool, true, false, cond, eqb, eq-eqb, ne_eqb, List, [], ◌∷◌, inl, inr, ⊎_elim, sym, refl, ap, ◌∙◌, subst, arith}
 use mathlib.Core.Logic.{dite}
 use native.Mathlib.Decide.{ℕ_discrete}
 use Rattle.sock_words.specs.declared.plain.Plan.{Plan}
 use Rattle.sock_words.specs.Words.{vref_version}
 use Rattle.sock_model.specs.declared.marks.Mark.{Mark}
-use Rattle.sock_model.specs.declared.marks.Mark.TheVariants.{Born, Failer, Tried}
+use Rattle.sock_model.specs.declared.marks.Mark.TheVariants.{Born, Failer}
 use Rattle.sock_model.specs.Weights.{total, is_born, is_failer, is_tried}
 use Rattle.slot_laws.proofs.Numbers.{only_is, only-at}
 use Rattle.sock_programs.specs.declared.task.Op.{Op}

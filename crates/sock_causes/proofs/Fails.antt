@@ -1,7 +1,6 @@
 -- All operations that failed a life, each with the link of the life.
-use Rattle.std.proofs.Common.{◌≡◌, ◌≢◌, ℕ, zero, suc, ◌+◌, ◌%◌, ◌<◌, ◌⊎◌, List, [], ◌∷◌, inl, inr, ⊎_elim, sym, refl, ap, ◌∙◌, subst, arith}
-use Rattle.std.specs.Prelude.{Option, Some, None}
-use Rattle.std.specs.List.{AllByRecursion}
+use Rattle.std.proofs.Common.{◌≡◌, ◌≢◌, ℕ, ◌%◌, List, [], ◌∷◌, inl, inr, ⊎_elim, sym, refl, ap, ◌∙◌, subst}
+use Rattle.std.specs.Prelude.{Option}
 use mathlib.Core.Logic.{dite}
 use native.Mathlib.Decide.{ℕ_discrete}
 use Rattle.brpc_model.specs.Order.{EachBefore}
@@ -11,12 +10,12 @@ use Rattle.sock_words.specs.declared.outcome.Outcome.{Outcome}
 use Rattle.sock_programs.specs.declared.task.Task.{Task}
 use Rattle.sock_programs.specs.Calls.{Call, SetOdd}
 use Rattle.sock_programs.specs.Told.{Made}
-use Rattle.sock_causes.specs.Stories.{Entry, Event, In, trace_of}
+use Rattle.sock_causes.specs.Stories.{Event, In, trace_of}
 use Rattle.sock_causes.specs.Explains.{step}
 use Rattle.sock_causes.specs.Causes.{Cause, Good}
 use Rattle.sock_causes.proofs.Members.{all_of, to_trace}
 use Rattle.sock_causes.proofs.Events.{event}
-use Rattle.sock_causes.proofs.Lives.{World, FailOf, OddMeans, odd_means, odd_life, one_life, one_fail}
+use Rattle.sock_causes.proofs.Lives.{World, FailOf, odd_means, odd_life, one_life, one_fail}
 use Rattle.sock_causes.proofs.Tasks.{one_task}
 
 module _ (p : Plan) (clients : List (List Task)) (outcomes : List (Option Outcome)) (es : List Event) (world : World p clients outcomes es) where
@@ -36,6 +35,9 @@ module _ (p : Plan) (clients : List (List Task)) (outcomes : List (Option Outcom
   pub more_fail : (xs ys : List Event) → ((x : Event) → In x xs → In x ys) → (f : ℕ × ℕ) → Fail xs f → Fail ys f
   more_fail xs ys part f x = record { client = x.client; slot = x.slot; found = x.found; is = part (event x.client f.0 (SetOdd x.slot) x.found) x.is; even = x.even; name = x.name; code = x.code; task = x.task; asks = x.asks; numbered = x.numbered; op = x.op; life = x.life }
 
+  one_number : (f g : ℕ × ℕ) → Fail es f → Fail es g → f.1 ≡ g.1 → f.0 ≡ g.0
+  one_number f g x y e = ap (λ (z : Event). z.number) (one_fail p clients outcomes es world f g x y e)
+
   -- another step
   kept : (e : Event) (xs : List Event) → ((i : ℕ) → e.entry.call ≡ SetOdd i → vref_version e.entry.found % 2 ≡ 0 → ⊥) → Gathered xs → Gathered (e ∷ xs)
   kept e xs none_ g = record {
@@ -50,18 +52,24 @@ module _ (p : Plan) (clients : List (List Task)) (outcomes : List (Option Outcom
       let m = odd_means p clients outcomes es world xs c o i found cause (λ x n. part x (inr n)) in let l = odd_life p clients outcomes es world xs c o i found cause.task m even in
       let new_fail : Fail (e ∷ xs) (o, l.0) = record { client = c; slot = i; found = found; is = inl refl; even = even; name = m.name; code = m.code; task = cause.task; asks = cause.is; numbered = cause.numbered; op = m.op; life = l.1 } in
       let number_apart : (f : ℕ × ℕ) → In f g.fails → o ≢ f.0 = λ f n q. let y = g.are f n in let same = (one_task p clients world.are c y.client cause.task y.task cause.is y.asks (cause.numbered ∙ (q ∙ sym y.numbered))).0 in
-        m.first y.slot y.found (subst (λ z. In (step (SetOdd y.slot) y.found) (trace_of c z xs)) (sym q) (subst (λ z. In (step (SetOdd y.slot) y.found) (trace_of z f.0 xs)) (sym same) (to_trace xs (event y.client f.0 (SetOdd y.slot) y.found) y.is))) in record {
+      m.first y.slot y.found (subst (λ z. In (step (SetOdd y.slot) y.found) (trace_of c z xs)) (sym q) (subst (λ z. In (step (SetOdd y.slot) y.found) (trace_of z f.0 xs)) (sym same) (to_trace xs (event y.client f.0 (SetOdd y.slot) y.found) y.is))) in record {
         fails = (o, l.0) ∷ g.fails;
         are = λ f n. ⊎_elim (λ q. subst (Fail (e ∷ xs)) (sym q) new_fail) (λ n. more_fail xs (e ∷ xs) (λ x n. inr n) f (g.are f n)) n;
         all = λ c' o' i' found' n ev name k made. ⊎_elim
             (λ same. inl (let calls : SetOdd i' ≡ SetOdd i = ap (λ (x : Event). x.entry.call) same in let slots : i' ≡ i = cc in
-              let founds : found' ≡ found = ap (λ (x : Event). x.entry.found) same in
-              let here : Made clients outcomes name k i (vref_version found) = subst (λ z. Made clients outcomes name k i (vref_version z)) founds (subst (λ z. Made clients outcomes name k z (vref_version found')) slots made) in
-              let links = (one_life p clients outcomes es world name m.name k l.0 i (vref_version found) here l.1).1 in let numbers : o' ≡ o = ap (λ (x : Event). x.number) same in
-              λ j. (numbers j, links j)))
+            let founds : found' ≡ found = ap (λ (x : Event). x.entry.found) same in
+            let here : Made clients outcomes name k i (vref_version found) = subst (λ z. Made clients outcomes name k i (vref_version z)) founds (subst (λ z. Made clients outcomes name k z (vref_version found')) slots made) in
+            let links = (one_life p clients outcomes es world name m.name k l.0 i (vref_version found) here l.1).1 in let numbers : o' ≡ o = ap (λ (x : Event). x.number) same in
+            λ j. (numbers j, links j)))
             (λ n. inr (g.all c' o' i' found' n ev name k made)) n;
-        once = (all_of (Another (o, l.0)) g.fails (λ f n. (number_apart f n, λ q. number_apart f n (ap (λ (x : Event). x.number)
-            (one_fail p clients outcomes es world (o, l.0) f (more_fail (e ∷ xs) es part (o, l.0) new_fail) (more_fail xs es (λ x k. part x (inr k)) f (g.are f n)) q)))), g.once);
+        once = (
+          all_of (Another (o, l.0)) g.fails (λ f n. (
+            number_apart f n,
+            λ q. number_apart f n
+                (one_number (o, l.0) f (more_fail (e ∷ xs) es part (o, l.0) new_fail) (more_fail xs es (λ x k. part x (inr k)) f (g.are f n)) q),
+          )),
+          g.once,
+        );
       }
 
   grow : (e : Event) (xs : List Event) → Cause p clients xs e → ((x : Event) → In x (e ∷ xs) → In x es) → Gathered xs → (call : Call) → e.entry.call ≡ call → Gathered (e ∷ xs)

@@ -1,9 +1,7 @@
 -- Where no seat has a step left, each task has its outcome, explained by its steps.
-use Rattle.std.proofs.Common.{◌≡◌, ◌≢◌, ℕ, zero, suc, ◌+◌, ◌%◌, ◌<◌, ◌≤◌, ◌⊎◌, List, [], ◌∷◌, map, length, inl, inr, ⊎_elim, sym, refl, ap, ◌∙◌, subst, arith}
+use Rattle.std.proofs.Common.{◌≡◌, ℕ, zero, suc, ◌<◌, ◌⊎◌, List, [], ◌∷◌, map, length, inl, inr, ⊎_elim, sym, refl, ap, ◌∙◌, subst, arith}
 use Rattle.std.specs.Prelude.{Option, Some, None, slice_get}
 use Rattle.std.specs.List.{AllByRecursion}
-use mathlib.Core.Logic.{dite}
-use native.Mathlib.Decide.{ℕ_discrete}
 use mathlib.Core.Option.{some, some-injective, some-ne-none}
 use mathlib.Core.Option as core
 use lib.ListN.{get_elem?}
@@ -11,9 +9,8 @@ use Rattle.brpc_model.specs.Order.{EachBefore}
 use Rattle.sock_words.specs.declared.kind.Kind.{Kind}
 use Rattle.sock_words.specs.declared.plain.Plan.{Plan}
 use Rattle.sock_words.specs.declared.outcome.Outcome.{Outcome}
-use Rattle.sock_model.specs.declared.marks.Mark.{Mark}
 use Rattle.sock_model.specs.declared.view.View.{View}
-use Rattle.sock_model.specs.Weights.{total, tally, is_busy}
+use Rattle.sock_model.specs.Weights.{tally, is_busy}
 use Rattle.sock_model.specs.Marks.{about}
 use Rattle.sock_model.specs.Slots.{count}
 use Rattle.sock_model.specs.References.{slot_facts}
@@ -21,15 +18,14 @@ use Rattle.sock_model.specs.SlotRows.{marks_of}
 use Rattle.sock_programs.specs.declared.task.Task.{Task}
 use Rattle.sock_programs.specs.Programs.{Program, Do, Say, Rest}
 use Rattle.sock_programs.specs.Cores.{Core, SeatState}
-use Rattle.sock_programs.specs.Runs.{kind_in, next_kind, IsAtRest, IsSettled}
-use Rattle.sock_programs.specs.Calls.{kind_of}
+use Rattle.sock_programs.specs.Runs.{kind_in, next_kind, IsSettled}
 use Rattle.sock_programs.specs.Told.{AreTasks}
 use Rattle.sock_runs.specs.GoesOn.{GoesOn, HasNothing}
 use Rattle.sock_runs.specs.Sound.{state, Sound}
 use Rattle.sock_causes.specs.Stories.{Event, In, trace_of}
 use Rattle.sock_causes.specs.Explains.{Done, Because, Tells}
 use Rattle.sock_causes.specs.Causes.{Asks}
-use Rattle.sock_causes.specs.Kept.{undo, AreKept, SeatAt, SeatStory, Story, IsReady}
+use Rattle.sock_causes.specs.Kept.{undo, AreKept, SeatAt, Story, IsReady}
 use Rattle.sock_causes.proofs.Members.{all_in, get_within}
 use Rattle.sock_causes.proofs.Seats.{Less, undo_before, undo_done}
 use Rattle.sock_causes.proofs.Tasks.{sorted_of, same_some}

@@ -15,3 +15,6 @@ pub mod Final
 pub mod Lives
 pub mod Fails
 pub mod Whys
+pub mod Told
+pub mod Endings
+pub mod Scripts

@@ -1,28 +1,22 @@
 -- Lives that were made and failed, and the tasks that did so.
-use Rattle.std.proofs.Common.{◌≡◌, ◌≢◌, ℕ, zero, suc, ◌+◌, ◌*◌, ◌/◌, ◌%◌, ◌<◌, ◌≤◌, ◌⊎◌, List, [], ◌∷◌, length, inl, inr, ⊎_elim, cond, eq-eqb, sym, refl, ap, ◌∙◌, subst, arith}
-use Rattle.std.specs.Prelude.{Option, Some, None, slice_get}
-use Rattle.std.specs.List.{AllByRecursion}
-use mathlib.Core.Logic.{dite}
-use native.Mathlib.Decide.{ℕ_discrete}
-use Rattle.brpc_model.specs.Order.{EachBefore}
+use Rattle.std.proofs.Common.{◌≡◌, ℕ, ◌+◌, ◌*◌, ◌%◌, ◌<◌, ◌≤◌, List, [], ◌∷◌, inl, inr, ⊎_elim, cond, eq-eqb, sym, refl, ap, ◌∙◌, subst, arith}
+use Rattle.std.specs.Prelude.{Option, Some, slice_get}
 use Rattle.sock_words.specs.Words.{socket_id, socket_id_version, socket_id_slot, vref_version}
 use Rattle.sock_words.specs.declared.plain.Plan.{Plan}
 use Rattle.sock_words.specs.declared.outcome.Outcome.{Outcome}
 use Rattle.sock_words.specs.declared.outcome.Outcome.TheVariants.{Opened, Failed, Already}
 use Rattle.sock_model.specs.Weights.{is_born, is_failer, is_tried}
-use Rattle.sock_programs.specs.declared.task.Op.{Op}
 use Rattle.sock_programs.specs.declared.task.Op.TheVariants as ops
 use Rattle.sock_programs.specs.declared.task.Task.{Task}
-use Rattle.sock_programs.specs.Calls.{Call, ClaimSlot, GiveBirth, AddRef, SetOdd, StoreName, LoadName}
-use Rattle.sock_programs.specs.Programs.{fail_outcome}
-use Rattle.sock_programs.specs.Told.{AreTasks, IsTask, Became, Made, IsFail}
+use Rattle.sock_programs.specs.Calls.{GiveBirth, AddRef, SetOdd, StoreName, LoadName}
+use Rattle.sock_programs.specs.Told.{AreTasks, IsTask, Made, IsFail}
 use Rattle.sock_causes.specs.Stories.{Entry, Event, In, trace_of, last_name, added_by, marked}
 use Rattle.sock_causes.specs.Explains.{Because, Tells, step}
-use Rattle.sock_causes.specs.Causes.{Asks, Holding, WasFailed, OddAt, Cause, Good}
+use Rattle.sock_causes.specs.Causes.{Asks, Holding, OddAt, Cause, Good}
 use Rattle.sock_causes.proofs.Members.{all_in, in_contains, contains_in, from_trace, to_trace}
 use Rattle.sock_causes.proofs.Events.{event, once, birth_adds, fail_adds, BeforeIn, cause_of, last_some}
 use Rattle.sock_causes.proofs.Final.{Final}
-use Rattle.sock_causes.proofs.Tasks.{one_task, one_link}
+use Rattle.sock_causes.proofs.Tasks.{one_link}
 
 -- what is known in the end
 pub record World (p : Plan) (clients : List (List Task)) (outcomes : List (Option Outcome)) (es : List Event) : Type 0 where
@@ -94,7 +88,7 @@ module _ (p : Plan) (clients : List (List Task)) (outcomes : List (Option Outcom
       let ex : Event = event a.client a.task.number (GiveBirth slot k) x.0 in let ey : Event = event b.client b.task.number (GiveBirth slot l) y.0 in
       let inside = (birth_means a.client a.task.number slot k x.0 x.2).0 in
       let same : ex ≡ ey = once (λ (e : Event). added_by (is_born version) slot e) es ex ey (world.born_once slot inside version) x.2 y.2
-        (birth_adds a.client a.task.number slot k x.0 version x.3) (birth_adds b.client b.task.number slot l y.0 version y.3) in
+      (birth_adds a.client a.task.number slot k x.0 version x.3) (birth_adds b.client b.task.number slot l y.0 version y.3) in
       let calls : GiveBirth slot k ≡ GiveBirth slot l = ap (λ (e : Event). e.entry.call) same in (ap (λ (e : Event). e.number) same, cc)
 
   -- ## Lives that were failed

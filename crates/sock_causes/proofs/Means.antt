@@ -1,5 +1,5 @@
 -- What a step finds, as the rule of the sockets has it.
-use Rattle.std.proofs.Common.{◌≡◌, ◌≢◌, ℕ, ◌+◌, ◌-◌, ◌%◌, ◌<◌, ◌≤◌, List, [], ◌∷◌, length, sym, refl, ap, ◌∙◌, subst, arith}
+use Rattle.std.proofs.Common.{◌≡◌, ◌≢◌, ℕ, ◌+◌, ◌<◌, ◌≤◌, List, [], ◌∷◌, sym, refl, subst, arith}
 use mathlib.Core.Option.{some}
 use lib.ListN.{get_elem?}
 use Rattle.sock_words.specs.Words.{socket_id_version, socket_id_slot, vref_version}
@@ -7,22 +7,21 @@ use Rattle.sock_words.specs.declared.plain.Plan.{Plan}
 use Rattle.sock_model.specs.declared.marks.Mark.{Mark}
 use Rattle.sock_model.specs.declared.marks.Mark.TheVariants.{Claimed}
 use Rattle.sock_model.specs.declared.view.View.{View}
-use Rattle.sock_model.specs.Weights.{total, tally, is_busy, is_stage, is_hold, is_known, is_failer, is_born}
+use Rattle.sock_model.specs.Weights.{is_busy, is_stage, is_hold, is_known}
 use Rattle.sock_model.specs.Marks.{about}
 use Rattle.sock_model.specs.Slots.{SlotLaw, live, count}
 use Rattle.sock_model.specs.References.{slot_facts}
 use Rattle.sock_model.specs.SlotRows.{marks_of}
 use Rattle.sock_model.specs.Lawful.{Lawful}
 use Rattle.slot_laws.proofs.Sums.{total_mono}
-use Rattle.slot_laws.proofs.Slots.{stage_is}
 use Rattle.slot_laws.proofs.Numbers.{live_le, life_is, life-in, pair_le}
 use Rattle.sock_steps.proofs.Places.{own_count}
-use Rattle.sock_programs.specs.Calls.{Call, ClaimSlot, GiveBirth, AddRef, SubRef, SetOdd, Recycle, FreeSlot, StoreLink, LoadLink, ResetHead, WipeCode, StoreCode, StoreName, LoadName, StoreOpen, LoadOpen, TakeLink, FinishLink, PutLink}
+use Rattle.sock_programs.specs.Calls.{Call, ClaimSlot, GiveBirth, AddRef, SetOdd, LoadName}
 use Rattle.sock_programs.specs.Cores.{Core, word_of, found_at}
 use Rattle.sock_programs.specs.declared.task.Task.{Task}
 use Rattle.sock_runs.specs.May.{May}
 use Rattle.sock_runs.specs.Sound.{state}
-use Rattle.sock_causes.specs.Stories.{Entry, Event, marked}
+use Rattle.sock_causes.specs.Stories.{Entry, Event}
 use Rattle.sock_causes.specs.Causes.{Holding, OddAt, WasFailed, Means}
 use Rattle.sock_causes.specs.Kept.{Story}
 

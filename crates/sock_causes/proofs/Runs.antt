@@ -1,5 +1,5 @@
 -- Ticks of the setup and then of all seats keep the story.
-use Rattle.std.proofs.Common.{◌≡◌, ◌≢◌, ℕ, zero, suc, ◌⊎◌, List, [], ◌∷◌, ◌++◌, replicate, set, inl, inr, ⊎_elim, sym, refl, ap, ◌∙◌, subst, arith}
+use Rattle.std.proofs.Common.{◌≡◌, ℕ, zero, suc, List, [], ◌∷◌, replicate, inl, inr, ⊎_elim, refl, ap, ◌∙◌}
 use Rattle.std.specs.Prelude.{Some, None, fold}
 use Rattle.std.specs.Prelude as std
 use mathlib.Core.Option.{Option, some, none}
@@ -19,7 +19,7 @@ use Rattle.sock_programs.specs.Told.{AreTasks}
 use Rattle.sock_runs.specs.Sound.{Sound, views_after}
 use Rattle.sock_causes.specs.Stories.{Event, In}
 use Rattle.sock_causes.specs.Kept.{Story}
-use Rattle.sock_causes.proofs.Ticks.{MayMove, tick_story}
+use Rattle.sock_causes.proofs.Ticks.{tick_story}
 
 -- a seat at rest stays so, whoever ticks
 module _ (p : Plan) (c : Core) (i k : ℕ) (rest : IsAtRest c k) where
@@ -40,20 +40,20 @@ module _ (p : Plan) (c : Core) (i k : ℕ) (rest : IsAtRest c k) where
 
 module _ (p : Plan) (sound_ticks : (c : Core) (vs : List View) (i : ℕ) → Sound p c vs → Sound p (ticked p c i) (views_after p c vs i)) (clients : List (List Task)) (are : AreTasks p clients) where
   -- a core with views and a story
-  abbrev pub Told_ : Core → Type 0
-  Told_ c = (vs : List View) × (es : List Event) × Sound p c vs × Story p clients c vs es
+  abbrev pub IsStoried : Core → Type 0
+  IsStoried c = (vs : List View) × (es : List Event) × Sound p c vs × Story p clients c vs es
 
   -- ticks of the setup
-  abbrev SetUp : Core → Type 0
+  abbrev pub SetUp : Core → Type 0
   SetUp c = (vs : List View) × (es : List Event) × Sound p c vs × Story p clients c vs es × ((e : Event) → In e es → e.client ≡ 0)
 
-  setup_runs : (n : ℕ) (c : Core) → SetUp c → SetUp (run p c (replicate n 0))
+  pub setup_runs : (n : ℕ) (c : Core) → SetUp c → SetUp (run p c (replicate n 0))
   setup_runs zero c t = t
   setup_runs (suc n) c t = let s = tick_story p clients are c t.0 t.1 t.2 t.3 0 (inl (refl, t.4)) in
       setup_runs n (ticked p c 0) (views_after p c t.0 0, s.0, sound_ticks c t.0 0 t.2, s.1, λ e m. ⊎_elim (λ old. t.4 e old) (λ q. q) (s.2 e m))
 
   -- then ticks of all seats
-  seats_run : (seats : List ℕ) (c : Core) → IsAtRest c 0 → Told_ c → Told_ (run p c seats)
+  pub seats_run : (seats : List ℕ) (c : Core) → IsAtRest c 0 → IsStoried c → IsStoried (run p c seats)
   seats_run [] c rest t = t
   seats_run (i ∷ is) c rest t = let s = tick_story p clients are c t.0 t.1 t.2 t.3 i (inr rest) in
       seats_run is (ticked p c i) (rest_stays p c i 0 rest) (views_after p c t.0 i, s.0, sound_ticks c t.0 i t.2, s.1)

@@ -1,9 +1,7 @@
 -- What a step makes of a seat's part of the story.
-use Rattle.std.proofs.Common.{◌≡◌, ◌≢◌, ℕ, zero, suc, ◌+◌, ◌<◌, ◌≤◌, ◌⊎◌, List, [], ◌∷◌, length, set, length-set, inl, inr, ⊎_elim, sym, refl, ap, ◌∙◌, subst, arith}
-use Rattle.std.specs.Prelude.{Option, Some, None, slice_get, slice_set}
+use Rattle.std.proofs.Common.{◌≡◌, ◌≢◌, ℕ, ◌<◌, ◌≤◌, List, [], ◌∷◌, length, set, length-set, inl, inr, ⊎_elim, sym, refl, ap, ◌∙◌, subst, arith}
+use Rattle.std.specs.Prelude.{Option, Some, slice_get}
 use Rattle.std.specs.List.{AllByRecursion}
-use mathlib.Core.Logic.{dite}
-use native.Mathlib.Decide.{ℕ_discrete}
 use Rattle.brpc_model.specs.Order.{EachBefore}
 use Rattle.sock_words.specs.Words.{socket_id_version, socket_id_slot}
 use Rattle.sock_words.specs.declared.outcome.Outcome.{Outcome}
@@ -75,9 +73,11 @@ module _ (slots : ℕ) (es : List Event) (c : ℕ) (tasks : List Task) (order : 
       let os' : List (Option Outcome) = set os o (Some outcome) in
       after_say more os' (d ∷ done) ts (all_of (λ (u : Task). u.number < length os') ts (λ u m. let a = all_in (λ (u : Task). u.number < length os) ts u fit.1 m in omega (arith, length-set os o (Some outcome)))) record {
         all = s.all;
-        became = (subst (λ z. slice_get (set os z (Some outcome)) t.number ≡ Some (Some outcome)) (sym x.0) (get_set_here os t.number (Some outcome) fit.0),
+        became = (
+          subst (λ z. slice_get (set os z (Some outcome)) t.number ≡ Some (Some outcome)) (sym x.0) (get_set_here os t.number (Some outcome) fit.0),
           all_of (λ (y : Done). slice_get os' y.task.number ≡ Some (Some y.outcome)) done (λ y m. get_set_else os o y.task.number (Some outcome) (λ e. let a = (all_in (λ (z : Done). AllByRecursion (Less z.task) (t ∷ ts)) done y before m).0 in omega (arith, x.0))
-            ∙ all_in (λ (y : Done). slice_get os y.task.number ≡ Some (Some y.outcome)) done y s.became m));
+              ∙ all_in (λ (y : Done). slice_get os y.task.number ≡ Some (Some y.outcome)) done y s.became m),
+        );
         kept = (x.1, x.2, s.kept);
         past = λ e m p. (s.past e m p).1;
         explains = subst (λ z. Explains slots (d ∷ done) z ts more) (sym none_) x.3;

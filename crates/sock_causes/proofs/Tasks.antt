@@ -1,5 +1,5 @@
 -- What is known of the tasks of a table: each has its own number, and each `open` its own link.
-use Rattle.std.proofs.Common.{◌≡◌, ◌≢◌, ℕ, zero, suc, ◌<◌, ◌⊎◌, List, [], ◌∷◌, inl, inr, ⊎_elim, sym, refl, ap, ◌∙◌, subst, arith}
+use Rattle.std.proofs.Common.{◌≡◌, ◌≢◌, ℕ, ◌<◌, List, [], ◌∷◌, ⊎_elim, sym, refl, ap, ◌∙◌, subst, arith}
 use Rattle.std.specs.Prelude.{Option, Some, slice_get}
 use Rattle.std.specs.List.{AllByRecursion}
 use mathlib.Core.Logic.{dite}
@@ -49,8 +49,11 @@ module _ (p : Plan) (clients : List (List Task)) (are : AreTasks p clients) wher
   -- a number is one task's
   pub one_task : (c d : ℕ) (t u : Task) → Asks clients c t → Asks clients d u → t.number ≡ u.number → (c ≡ d) × (t ≡ u)
   one_task c d t u a b e = dite (ℕ_discrete c d)
-      (λ same. (same, let q : a.0 ≡ b.0 = same_some (slice_get clients c) a.0 b.0 a.1 (ap (slice_get clients) same ∙ b.1) in let m : In t b.0 = subst (In t) q a.2 in
-      ⊎_elim (λ h. h) (λ h. ⊎_elim (λ x. absurd (omega arith)) (λ x. absurd (omega arith)) h) (before_or_same Less b.0 t u (sorted_of d b.0 b.1) m b.2)))
+      (λ same. (
+        same,
+        let q : a.0 ≡ b.0 = same_some (slice_get clients c) a.0 b.0 a.1 (ap (slice_get clients) same ∙ b.1) in let m : In t b.0 = subst (In t) q a.2 in
+            ⊎_elim (λ h. h) (λ h. ⊎_elim (λ x. absurd (omega arith)) (λ x. absurd (omega arith)) h) (before_or_same Less b.0 t u (sorted_of d b.0 b.1) m b.2),
+      ))
       (λ far. absurd (numbers_differ c d a.0 b.0 far a.1 b.1 t u a.2 b.2 e))
 
   own_links : (n m k l : ℕ) (a b : Op) → a ≡ ops.Open n k → b ≡ ops.Open m l → HaveOwnLinks a b → k ≢ l

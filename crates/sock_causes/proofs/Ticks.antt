@@ -1,17 +1,12 @@
 -- Each tick keeps the story.
-use Rattle.std.proofs.Common.{◌≡◌, ◌≢◌, ℕ, zero, suc, ◌+◌, ◌<◌, ◌≤◌, ◌⊎◌, List, [], ◌∷◌, length, set, length-set, inl, inr, ⊎_elim, sym, refl, ap, ◌∙◌, subst, cond, eqb, eq-eqb, arith}
+use Rattle.std.proofs.Common.{◌≡◌, ◌≢◌, ℕ, zero, suc, ◌+◌, ◌<◌, ◌⊎◌, List, [], ◌∷◌, length, set, length-set, inl, inr, ⊎_elim, sym, refl, ap, ◌∙◌, subst, cond, eqb, eq-eqb, arith}
 use Rattle.std.specs.Prelude.{Some, None, slice_get}
 use Rattle.std.specs.Prelude as std
-use Rattle.std.specs.List.{AllByRecursion}
-use mathlib.Core.Option.{Option, some, none, some-injective, some-ne-none}
-use mathlib.Core.Logic.{dite}
+use mathlib.Core.Option.{Option, some, none, some-ne-none}
 use lib.ListN.{get_elem?}
-use Rattle.atomic_table.specs.Table.{State}
 use Rattle.atomic_table.proofs.Lists.{at_set}
-use Rattle.brpc_model.specs.Order.{EachBefore}
 use Rattle.sock_words.specs.declared.plain.Plan.{Plan}
 use Rattle.sock_words.specs.Words.{socket_id_version, socket_id_slot, vref_version}
-use Rattle.sock_model.specs.declared.home.Home.{Home}
 use Rattle.sock_model.specs.declared.marks.Mark.{Mark}
 use Rattle.sock_model.specs.declared.marks.Mark.TheVariants.{Hold, Probe}
 use Rattle.sock_model.specs.declared.view.View.{View}
@@ -20,14 +15,14 @@ use Rattle.sock_model.specs.Weights.{is_hold, is_born, is_failer, is_tried}
 use Rattle.sock_model.specs.Layout.{name_word}
 use Rattle.sock_model.specs.Slots.{count, version_of}
 use Rattle.sock_model.specs.References.{slot_facts}
-use Rattle.sock_model.specs.SlotRows.{marks_of, added}
+use Rattle.sock_model.specs.SlotRows.{marks_of}
 use Rattle.slot_laws.proofs.After.{marks-added}
 use Rattle.slot_laws.proofs.Numbers.{only-at}
 use Rattle.sock_steps.proofs.Places.{counts}
 use Rattle.sock_programs.specs.declared.task.Task.{Task}
-use Rattle.sock_programs.specs.Calls.{Call, ClaimSlot, GiveBirth, AddRef, SubRef, SetOdd, Recycle, FreeSlot, StoreLink, LoadLink, ResetHead, WipeCode, StoreCode, StoreName, LoadName, StoreOpen, LoadOpen, TakeLink, FinishLink, PutLink, kind_of}
+use Rattle.sock_programs.specs.Calls.{Call, ClaimSlot, GiveBirth, AddRef, SetOdd, StoreName, kind_of}
 use Rattle.sock_programs.specs.Programs.{Program, Do, Say, Rest}
-use Rattle.sock_programs.specs.Cores.{Core, SeatState, word_of, word_after, found_at, words_after, homes_after, hand_after, said, next_step, stepped, tick_of, ticked}
+use Rattle.sock_programs.specs.Cores.{Core, SeatState, word_of, found_at, said, next_step, stepped, tick_of, ticked}
 use Rattle.sock_programs.specs.Runs.{kind_in, next_kind, IsAtRest}
 use Rattle.sock_programs.specs.Told.{AreTasks, TaskFits}
 use Rattle.sock_runs.specs.Rows.{row, hand_at}
@@ -36,13 +31,13 @@ use Rattle.sock_runs.specs.GoesOn.{GoesOn}
 use Rattle.sock_runs.specs.Sound.{state, Sound, views_of, views_after}
 use Rattle.sock_causes.specs.Stories.{Entry, Event, In, trace_of, trace_now, told_of, stored_by, last_name, adds, marked}
 use Rattle.sock_causes.specs.Explains.{Done, IsPlain, Explains, step}
-use Rattle.sock_causes.specs.Causes.{Asks, Holding, Cause, Good}
-use Rattle.sock_causes.specs.Kept.{undo, SeatAt, SeatStory, Story, IsReady}
+use Rattle.sock_causes.specs.Causes.{Holding, Good}
+use Rattle.sock_causes.specs.Kept.{SeatAt, SeatStory, Story, IsReady}
 use Rattle.sock_causes.proofs.Added.{IsNote, born_note, failer_note, tried_note, row_adds}
 use Rattle.sock_causes.proofs.Names.{name_stays}
 use Rattle.sock_causes.proofs.Means.{means_of}
 use Rattle.sock_causes.proofs.Members.{all_in, all_of}
-use Rattle.sock_causes.proofs.Seats.{Less, undo_in, undo_done, length_said, said_else, after_say, seat_else, seat_step}
+use Rattle.sock_causes.proofs.Seats.{undo_in, undo_done, length_said, said_else, after_say, seat_else, seat_step}
 use Rattle.sock_causes.proofs.Tasks.{sorted_of, fits_of, numbers_differ, same_some}
 
 -- ## Steps that leave the story as it is
@@ -123,15 +118,18 @@ module _ (p : Plan) (clients : List (List Task)) (are : AreTasks p clients) (c :
 
     good_now : (todo : List Task) → SeatAt p.slots es c.outcomes i tasks done todo (Do call next) v → Good p clients (told_of i todo (step call found) es)
     good_now [] s = story.good
-    good_now (t ∷ ts) s = (record {
-      order = λ x m q. (s.past x m q).0;
-      setup = λ x m q. ⊎_elim (λ h. h.1 x m) (λ h. absurd (never h q)) moves;
-      task = t;
-      is = (tasks, asks, subst (In t) (sym s.all) (undo_in done (t ∷ ts) t (inl refl)));
-      numbered = refl;
-      fits = s.explains.0;
-      means = means_of p clients c vs sound.lawful es story i v here (trace_of i t.number es) s.holding call may;
-    }, story.good)
+    good_now (t ∷ ts) s = (
+      record {
+        order = λ x m q. (s.past x m q).0;
+        setup = λ x m q. ⊎_elim (λ h. h.1 x m) (λ h. absurd (never h q)) moves;
+        task = t;
+        is = (tasks, asks, subst (In t) (sym s.all) (undo_in done (t ∷ ts) t (inl refl)));
+        numbered = refl;
+        fits = s.explains.0;
+        means = means_of p clients c vs sound.lawful es story i v here (trace_of i t.number es) s.holding call may;
+      },
+      story.good,
+    )
 
     ties : (f : Mark → ℕ) → IsNote f → (j : ℕ) → count f (slot_facts (state c vs) j) ≡ marked f j es → count f (slot_facts (state c' vs') j) ≡ marked f j es'
     ties f note j e = let a = counts (state c vs) i v w here c'.words c'.homes f j in let b = row_adds f note j p call found (hand_at p c.homes call) v in
@@ -141,8 +139,12 @@ module _ (p : Plan) (clients : List (List Task)) (are : AreTasks p clients) (c :
     names_now n l = name_stays p v c.words sound.lawful.references.sized n l call may ∙ (ap (stored_by n call) (story.named n l) ∙ sym (last_told p.slots i done (trace_now i todo es) call next found es n todo s.explains))
 
     others : (k : ℕ) (us : List Task) (x : SeatState) (u : View) → k ≢ i → slice_get clients k ≡ Some us → SeatStory p.slots es c.outcomes k us x.program u → SeatStory p.slots es' c'.outcomes k us x.program u
-    others k us x u ne a y = (y.0, y.1, seat_else p.slots es c.outcomes i k (λ q. ne (sym q)) todo (step call found) us y.0 y.1 x.program u c'.outcomes
-        (all_of (λ (d : Done). slice_get c'.outcomes d.task.number ≡ slice_get c.outcomes d.task.number) y.0 (λ d m. said_now d m todo s)) y.2)
+    others k us x u ne a y = (
+      y.0,
+      y.1,
+      seat_else p.slots es c.outcomes i k (λ q. ne (sym q)) todo (step call found) us y.0 y.1 x.program u c'.outcomes
+          (all_of (λ (d : Done). slice_get c'.outcomes d.task.number ≡ slice_get c.outcomes d.task.number) y.0 (λ d m. said_now d m todo s)) y.2,
+    )
       where
         said_now : (d : Done) → In d y.0 → (todo : List Task) → SeatAt p.slots es c.outcomes i tasks done todo (Do call next) v → slice_get (said (next found) c.outcomes) d.task.number ≡ slice_get c.outcomes d.task.number
         said_now d m [] s = said_else p.slots (next found) done (trace_now i [] es) [] c.outcomes d.task.number (s.explains.1 found) tt

@@ -1,26 +1,25 @@
 -- Each outcome has its cause.
-use Rattle.std.proofs.Common.{◌≡◌, ◌≢◌, ℕ, zero, suc, ◌+◌, ◌%◌, ◌<◌, ◌≤◌, ◌⊎◌, List, [], ◌∷◌, inl, inr, ⊎_elim, sym, refl, ap, ◌∙◌, subst, arith}
-use Rattle.std.specs.Prelude.{Option, Some, None, slice_get, Contains}
-use Rattle.std.specs.List.{AllByRecursion}
+use Rattle.std.proofs.Common.{◌≡◌, ◌≢◌, ℕ, ◌+◌, ◌%◌, ◌<◌, ◌≤◌, ◌⊎◌, List, [], ◌∷◌, inl, inr, ⊎_elim, sym, refl, ap, ◌∙◌, subst, arith}
+use Rattle.std.specs.Prelude.{Option, Some, slice_get, Contains}
 use mathlib.Core.Logic.{dite}
 use native.Mathlib.Decide.{ℕ_discrete}
 use Rattle.sock_words.specs.Words.{socket_id, socket_id_version, socket_id_slot, vref_version}
 use Rattle.sock_words.specs.declared.plain.Plan.{Plan}
 use Rattle.sock_words.specs.declared.outcome.Outcome.{Outcome}
 use Rattle.sock_words.specs.declared.outcome.Outcome.TheVariants.{Opened, SlotsFull, Unopened, Gone, Held, Freed, Kept, NotHeld, Failed, Already}
-use Rattle.sock_model.specs.Weights.{is_born, is_failer, is_tried}
+use Rattle.sock_model.specs.Weights.{is_tried}
 use Rattle.sock_programs.specs.declared.task.Op.{Op}
 use Rattle.sock_programs.specs.declared.task.Op.TheVariants as ops
 use Rattle.sock_programs.specs.declared.task.Task.{Task}
 use Rattle.sock_programs.specs.Calls.{Call, ClaimSlot, GiveBirth, AddRef, SetOdd, StoreName, LoadName}
 use Rattle.sock_programs.specs.Told.{IsOpen, IsTask, Became, Made, SeeksInVain, OpensNone, FoundNone, IsNoLater, FoundFailed, AfterHold, EachOpened, Why}
-use Rattle.sock_causes.specs.Stories.{Entry, Event, In, trace_of, last_name, marked}
+use Rattle.sock_causes.specs.Stories.{Entry, Event, In, trace_of, last_name}
 use Rattle.sock_causes.specs.Explains.{Done, LastHold, Because, step}
-use Rattle.sock_causes.specs.Causes.{Asks, WasFailed, Cause, Good}
+use Rattle.sock_causes.specs.Causes.{Asks, WasFailed}
 use Rattle.sock_causes.proofs.Members.{all_in, in_contains, from_trace}
-use Rattle.sock_causes.proofs.Events.{event, in_marked, try_adds, BirthIn, FailIn, marked_birth, marked_fail, BeforeIn, cause_of, Comes, compare, last_zero, last_some}
-use Rattle.sock_causes.proofs.Final.{Falls, Final}
-use Rattle.sock_causes.proofs.Lives.{World, task_of, asks_of, birth_made, birth_means, named_life, made_event, OddMeans, odd_means, odd_life, fail_says, one_outcome}
+use Rattle.sock_causes.proofs.Events.{event, in_marked, try_adds, marked_birth, marked_fail, BeforeIn, cause_of, Comes, compare, last_zero, last_some}
+use Rattle.sock_causes.proofs.Final.{Falls}
+use Rattle.sock_causes.proofs.Lives.{World, task_of, asks_of, birth_made, birth_means, named_life, made_event, odd_means, odd_life, fail_says, one_outcome}
 use Rattle.sock_causes.proofs.Fails.{Gathered}
 use Rattle.sock_causes.proofs.Tasks.{one_task, setup_opens}
 
@@ -30,8 +29,14 @@ use Rattle.sock_causes.proofs.Tasks.{one_task, setup_opens}
 last_hold : (n : ℕ) (P : Outcome → Type 0) (ds : List Done) → Falls ds → LastHold n P ds
     → (x : Done) × In x ds × (x.task.op ≡ ops.Hold n) × P x.outcome × ((y : Done) → In y ds → x.task.number < y.task.number → y.task.op ≢ ops.Hold n)
 last_hold n P [] f h = absurd h
-last_hold n P (d ∷ ds) f (inl h) = (d, inl refl, h.0, h.1, λ y m less. ⊎_elim (λ e. let q : y.task.number ≡ d.task.number = ap (λ (z : Done). z.task.number) e in absurd (omega arith))
-    (λ m. let q = all_in (λ (z : Done). z.task.number < d.task.number) ds y f.0 m in absurd (omega arith)) m)
+last_hold n P (d ∷ ds) f (inl h) = (
+  d,
+  inl refl,
+  h.0,
+  h.1,
+  λ y m less. ⊎_elim (λ e. let q : y.task.number ≡ d.task.number = ap (λ (z : Done). z.task.number) e in absurd (omega arith))
+      (λ m. let q = all_in (λ (z : Done). z.task.number < d.task.number) ds y f.0 m in absurd (omega arith)) m,
+)
 last_hold n P (d ∷ ds) f (inr h) = let t = last_hold n P ds f.1 h.1 in (t.0, inr t.1, t.2, t.3, λ y m less. ⊎_elim (λ e q. h.0 (ap (λ (z : Done). z.task.op) (sym e) ∙ q)) (λ m. t.4 y m less) m)
 
 -- ## What operations that seek a name did
@@ -107,11 +112,13 @@ module _ (p : Plan) (clients : List (List Task)) (outcomes : List (Option Outcom
   failed_by : (c : ℕ) (t : Task) (a : Asks clients c t) (call : Call) (found : ℕ) (b : BeforeIn p clients es (event c t.number call found)) (i h n k : ℕ) → WasFailed b.story i h → Made clients outcomes n k i h → (world.final c t a).outcome ≢ Failed
       → (o : ℕ) × Contains g.fails (o, k) × IsNoLater clients outcomes c t.number o
   failed_by c t a call found b i h n k was made ne = let y = marked_fail b.story i h was in let e : Event = event y.client y.number (SetOdd i) y.found in
-      let m : In e es = b.part e y.is in
-      (y.number, in_contains g.fails (y.number, k) (g.all y.client y.number i y.found m y.even n k (subst (λ z. Made clients outcomes n k i z) (sym y.version) made)),
-      λ u is q. let x = before e m in let same = (one_task p clients world.are c y.client u x.cause.task (asks_of p clients outcomes es world c u is) x.cause.is (q ∙ sym x.cause.numbered)).0 in
-      let le = b.cause.order e y.is (sym same) in
-      dite (ℕ_discrete y.number t.number) (λ r. absurd (ne (fail_says p clients outcomes es world c t.number i y.found t a refl (subst (λ z. In (event z t.number (SetOdd i) y.found) es) (sym same) (subst (λ z. In (event y.client z (SetOdd i) y.found) es) r m)) y.even))) (λ far. omega arith))
+      let m : In e es = b.part e y.is in (
+        y.number,
+        in_contains g.fails (y.number, k) (g.all y.client y.number i y.found m y.even n k (subst (λ z. Made clients outcomes n k i z) (sym y.version) made)),
+        λ u is q. let x = before e m in let same = (one_task p clients world.are c y.client u x.cause.task (asks_of p clients outcomes es world c u is) x.cause.is (q ∙ sym x.cause.numbered)).0 in
+            let le = b.cause.order e y.is (sym same) in
+            dite (ℕ_discrete y.number t.number) (λ r. absurd (ne (fail_says p clients outcomes es world c t.number i y.found t a refl (subst (λ z. In (event z t.number (SetOdd i) y.found) es) (sym same) (subst (λ z. In (event y.client z (SetOdd i) y.found) es) r m)) y.even))) (λ far. omega arith),
+      )
 
   -- ## Each outcome
 

@@ -1,5 +1,5 @@
 -- What each step of a story means, by what was done before it.
-use Rattle.std.specs.Prelude.{ℕ, ◌+◌, ◌%◌, ◌≡◌, ◌≢◌, ◌<◌, ◌≤◌, List, [], ◌∷◌, slice_get, Option, Some}
+use Rattle.std.specs.Prelude.{ℕ, ◌%◌, ◌≡◌, ◌≢◌, ◌<◌, ◌≤◌, List, [], ◌∷◌, slice_get, Some}
 use Rattle.sock_words.specs.declared.plain.Plan.{Plan}
 use Rattle.sock_words.specs.Words.{socket_id_version, socket_id_slot, vref_version}
 use Rattle.sock_model.specs.Weights.{is_failer}
@@ -16,7 +16,7 @@ Asks clients c t = (ts : List Task) × (slice_get clients c ≡ Some ts) × In t
 abbrev pub Holding : List Entry → (ℕ → Type 0) → Type 0
 Holding [] P = Unit {0}
 Holding (e ∷ es) P = elim e.call as (λ c. Type 0) [
-  AddRef id ↦ vref_version e.found ≡ socket_id_version id → P id
+  | AddRef id ↦ vref_version e.found ≡ socket_id_version id → P id
   | _ ↦ Unit {0}
 ]
 

@@ -64,7 +64,7 @@ Because slots done trace op outcome = ⊥
 -- a step tells the outcome of its operation
 abbrev pub Tells : Outcome → Entry → Type 0
 Tells outcome e = elim e.call as (λ c. Type 0) [
-  GiveBirth i k ↦ outcome ≡ Opened i (vref_version e.found) k
+  | GiveBirth i k ↦ outcome ≡ Opened i (vref_version e.found) k
   | SetOdd i ↦ outcome ≡ fail_outcome e.found
   | _ ↦ Unit {0}
 ]

@@ -13,7 +13,7 @@ use Rattle.sock_model.specs.Slots.{count}
 use Rattle.sock_model.specs.References.{slot_facts}
 use Rattle.sock_model.specs.SlotRows.{marks_of}
 use Rattle.sock_programs.specs.declared.task.Task.{Task}
-use Rattle.sock_programs.specs.Programs.{Program, Do, Say, Rest}
+use Rattle.sock_programs.specs.Programs.{Program, Say}
 use Rattle.sock_programs.specs.Cores.{Core, SeatState}
 use Rattle.sock_runs.specs.Sound.{state}
 use Rattle.sock_causes.specs.Stories.{Event, In, trace_of, trace_now, last_name, marked}

@@ -1,5 +1,5 @@
 -- The story of a run: each step that was made for an operation, the latest first.
-use Rattle.std.specs.Prelude.{ℕ, ◌+◌, ◌%◌, ◌==◌, ◌&&◌, ◌⊎◌, ◌≡◌, if◌then◌else◌, List, [], ◌∷◌}
+use Rattle.std.specs.Prelude.{ℕ, ◌%◌, ◌==◌, ◌&&◌, ◌⊎◌, ◌≡◌, if◌then◌else◌, List, [], ◌∷◌}
 use Rattle.sock_words.specs.Words.{vref_version}
 use Rattle.sock_model.specs.declared.marks.Mark.{Mark}
 use Rattle.sock_model.specs.declared.marks.Mark.TheVariants.{Tried, Born, Failer}
