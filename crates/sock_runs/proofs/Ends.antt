@@ -28,7 +28,7 @@ use Rattle.sock_runs.proofs.HandTicks.{AtHome}
 use Rattle.sock_runs.proofs.Allowed.{view_there}
 
 -- what no seat has is had by none together
-none_has : (f : Mark → ℕ) (i : ℕ) (vs : List View) → ((j : ℕ) (v : View) → get_elem? vs j ≡ some v → marks_of f i v ≡ 0) → tally f (map (λ (v : View). about i v.marks) vs) ≡ 0
+pub none_has : (f : Mark → ℕ) (i : ℕ) (vs : List View) → ((j : ℕ) (v : View) → get_elem? vs j ≡ some v → marks_of f i v ≡ 0) → tally f (map (λ (v : View). about i v.marks) vs) ≡ 0
 none_has f i [] each = refl
 none_has f i (x ∷ xs) each = omega (arith, each 0 x refl, none_has f i xs (λ j v e. each (suc j) v e))
 
