@@ -10,7 +10,7 @@ use Rattle.sock_words.specs.declared.kind.Kind.{Kind}
 use Rattle.sock_words.specs.declared.plain.Plan.{Plan}
 use Rattle.sock_words.specs.declared.outcome.Outcome.{Outcome}
 use Rattle.sock_model.specs.declared.view.View.{View}
-use Rattle.sock_model.specs.Weights.{tally, is_busy}
+use Rattle.sock_model.specs.Weights.{tally, is_claimed}
 use Rattle.sock_model.specs.Marks.{about}
 use Rattle.sock_model.specs.Slots.{count}
 use Rattle.sock_model.specs.References.{slot_facts}
@@ -94,9 +94,9 @@ at_end (Do call next) ready e = absurd (cc)
 at_end (Say o outcome more) ready e = absurd ready
 at_end Rest ready e = refl
 
-nothing_busy : (j : ℕ) (vs : List View) → ((k : ℕ) (v : View) → get_elem? vs k ≡ some v → marks_of is_busy j v ≡ 0) → tally is_busy (map (λ (v : View). about j v.marks) vs) ≡ 0
-nothing_busy j [] h = refl
-nothing_busy j (v ∷ vs) h = omega (arith, h 0 v refl, nothing_busy j vs (λ k u e. h (suc k) u e))
+nothing_claimed : (j : ℕ) (vs : List View) → ((k : ℕ) (v : View) → get_elem? vs k ≡ some v → marks_of is_claimed j v ≡ 0) → tally is_claimed (map (λ (v : View). about j v.marks) vs) ≡ 0
+nothing_claimed j [] h = refl
+nothing_claimed j (v ∷ vs) h = omega (arith, h 0 v refl, nothing_claimed j vs (λ k u e. h (suc k) u e))
 
 module _ (p : Plan) (clients : List (List Task)) (are : AreTasks p clients) (c : Core) (vs : List View) (es : List Event) (sound : Sound p c vs) (story : Story p clients c vs es) (settled : IsSettled c) where
   rests : (i : ℕ) (seat : SeatState) → get_elem? c.seats i ≡ some seat → seat.program ≡ Rest
@@ -104,9 +104,9 @@ module _ (p : Plan) (clients : List (List Task)) (are : AreTasks p clients) (c :
       at_end seat.program (story.ready i seat e) (sym a ∙ settled i (at_within c.seats i seat e))
 
   -- nobody claims a slot
-  pub idle : (j : ℕ) → count is_busy (slot_facts (state c vs) j) ≡ 0
-  idle j = nothing_busy j vs (λ k v e. let seat = at_there c.seats k (omega (arith, at_within vs k v e, sound.each)) in
-      let n : HasNothing v = subst (GoesOn p v) (rests k seat.0 seat.1) (sound.seats k seat.0 v seat.1 e).goes_on in n.busy j)
+  pub idle : (j : ℕ) → count is_claimed (slot_facts (state c vs) j) ≡ 0
+  idle j = nothing_claimed j vs (λ k v e. let seat = at_there c.seats k (omega (arith, at_within vs k v e, sound.each)) in
+      let n : HasNothing v = subst (GoesOn p v) (rests k seat.0 seat.1) (sound.seats k seat.0 v seat.1 e).goes_on in n.claims j)
 
   -- each task has its outcome
   pub final : (i : ℕ) (t : Task) → Asks clients i t → Final p.slots clients es c.outcomes i t

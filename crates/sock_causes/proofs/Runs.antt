@@ -16,6 +16,7 @@ use Rattle.sock_programs.specs.Cores.{Core, SeatState, tick_of, ticked, run}
 use Rattle.sock_programs.specs.Runs.{kind_in, next_kind, IsAtRest}
 use Rattle.sock_programs.specs.Calls.{kind_of}
 use Rattle.sock_programs.specs.Told.{AreTasks}
+use Rattle.sock_runs.proofs.Ticks.{sound_ticks}
 use Rattle.sock_runs.specs.Sound.{Sound, views_after}
 use Rattle.sock_causes.specs.Stories.{Event, In}
 use Rattle.sock_causes.specs.Kept.{Story}
@@ -38,7 +39,7 @@ module _ (p : Plan) (c : Core) (i k : ℕ) (rest : IsAtRest c k) where
   pub rest_stays : IsAtRest (ticked p c i) k
   rest_stays = rest_seat (get_elem? c.seats i) refl
 
-module _ (p : Plan) (sound_ticks : (c : Core) (vs : List View) (i : ℕ) → Sound p c vs → Sound p (ticked p c i) (views_after p c vs i)) (clients : List (List Task)) (are : AreTasks p clients) where
+module _ (p : Plan) (clients : List (List Task)) (are : AreTasks p clients) where
   -- a core with views and a story
   abbrev pub IsStoried : Core → Type 0
   IsStoried c = (vs : List View) × (es : List Event) × Sound p c vs × Story p clients c vs es
@@ -50,10 +51,10 @@ module _ (p : Plan) (sound_ticks : (c : Core) (vs : List View) (i : ℕ) → Sou
   pub setup_runs : (n : ℕ) (c : Core) → SetUp c → SetUp (run p c (replicate n 0))
   setup_runs zero c t = t
   setup_runs (suc n) c t = let s = tick_story p clients are c t.0 t.1 t.2 t.3 0 (inl (refl, t.4)) in
-      setup_runs n (ticked p c 0) (views_after p c t.0 0, s.0, sound_ticks c t.0 0 t.2, s.1, λ e m. ⊎_elim (λ old. t.4 e old) (λ q. q) (s.2 e m))
+      setup_runs n (ticked p c 0) (views_after p c t.0 0, s.0, sound_ticks p c t.0 0 t.2, s.1, λ e m. ⊎_elim (λ old. t.4 e old) (λ q. q) (s.2 e m))
 
   -- then ticks of all seats
   pub seats_run : (seats : List ℕ) (c : Core) → IsAtRest c 0 → IsStoried c → IsStoried (run p c seats)
   seats_run [] c rest t = t
   seats_run (i ∷ is) c rest t = let s = tick_story p clients are c t.0 t.1 t.2 t.3 i (inr rest) in
-      seats_run is (ticked p c i) (rest_stays p c i 0 rest) (views_after p c t.0 i, s.0, sound_ticks c t.0 i t.2, s.1)
+      seats_run is (ticked p c i) (rest_stays p c i 0 rest) (views_after p c t.0 i, s.0, sound_ticks p c t.0 i t.2, s.1)

@@ -1,13 +1,9 @@
 -- A run that began with its setup, and in which no seat has a step left, tells why each of its tasks has its outcome.
-use Rattle.std.proofs.Common.{◌≡◌, ℕ, ◌+◌, ◌<◌, ◌≤◌, List, [], ◌∷◌, ◌++◌, replicate, ⊎_elim, sym, refl, subst, arith}
+use Rattle.std.proofs.Common.{◌≡◌, ℕ, ◌+◌, ◌<◌, List, [], ◌∷◌, ◌++◌, replicate, ⊎_elim, sym, refl, subst, arith}
 use Rattle.sock_words.specs.declared.plain.Plan.{Plan}
-use Rattle.sock_model.specs.declared.marks.Mark.{Mark}
-use Rattle.sock_model.specs.declared.marks.Mark.TheVariants.{Claimed}
 use Rattle.sock_model.specs.declared.view.View.{View}
-use Rattle.sock_model.specs.Weights.{is_busy, is_claimed}
 use Rattle.sock_model.specs.Slots.{SlotLaw, live}
 use Rattle.sock_model.specs.References.{slot_facts}
-use Rattle.slot_laws.proofs.Sums.{tally_mono}
 use Rattle.slot_laws.proofs.Clauses.{taken_for}
 use Rattle.slot_laws.proofs.Numbers.{life_le}
 use Rattle.sock_programs.specs.declared.task.Task.{Task}
@@ -15,7 +11,7 @@ use Rattle.sock_programs.specs.Cores.{Core, ticked, run}
 use Rattle.sock_programs.specs.Runs.{IsAtRest, IsSettled}
 use Rattle.sock_programs.specs.Scripts.{programs, beginning}
 use Rattle.sock_programs.specs.Told.{AreTasks, IsFail, Told}
-use Rattle.sock_runs.specs.Sound.{state, Sound, views_after}
+use Rattle.sock_runs.specs.Sound.{state, Sound}
 use Rattle.sock_causes.specs.Stories.{Event}
 use Rattle.sock_causes.specs.Kept.{Story}
 use Rattle.sock_causes.proofs.Members.{all_of}
@@ -25,10 +21,6 @@ use Rattle.sock_causes.proofs.Fails.{Gathered, gather}
 use Rattle.sock_causes.proofs.Whys.{why_told}
 use Rattle.sock_causes.proofs.Begin.{start_story}
 use Rattle.sock_causes.proofs.Runs.{setup_runs, seats_run}
-
-claimed_le : (x : Mark) → is_claimed x ≤ is_busy x
-claimed_le (Claimed a b) = omega arith
-claimed_le _ = omega arith
 
 -- what a story tells where no seat has a step left
 module _ (p : Plan) (clients : List (List Task)) (are : AreTasks p clients) (c : Core) (vs : List View) (es : List Event) (sound : Sound p c vs) (story : Story p clients c vs es) (settled : IsSettled c) where
@@ -44,7 +36,7 @@ module _ (p : Plan) (clients : List (List Task)) (are : AreTasks p clients) (c :
     born_once = λ j l h. omega (arith, story.births j l h, (law j l).born h, life_le p.first h ((slot_facts (state c vs) j).version + live (slot_facts (state c vs) j)));
     failed_once = λ j l h. omega (arith, story.fails j l h, (law j l).failed h, life_le p.first h (slot_facts (state c vs) j).version);
     tried_born = λ j l t. let a = story.tries j l in
-        ⊎_elim (λ claimed. let b = idle p clients are c vs es sound story settled j in let d = tally_mono is_claimed is_busy claimed_le (slot_facts (state c vs) j).marks in absurd (omega arith))
+        ⊎_elim (λ claimed. let b = idle p clients are c vs es sound story settled j in absurd (omega arith))
         (λ born. omega (arith, story.births j l p.first))
         (taken_for p.first (slot_facts (state c vs) j) (law j l) sound.lawful.fits.even (omega arith));
   }
@@ -66,15 +58,15 @@ run_both : (p : Plan) (c : Core) (xs ys : List ℕ) → run p c (xs ++ ys) ≡ r
 run_both p c [] ys = refl
 run_both p c (x ∷ xs) ys = run_both p (ticked p c x) xs ys
 
-module _ (p : Plan) (sound_ticks : (c : Core) (vs : List View) (i : ℕ) → Sound p c vs → Sound p (ticked p c i) (views_after p c vs i)) (clients : List (List Task)) (are : AreTasks p clients)
+module _ (p : Plan) (clients : List (List Task)) (are : AreTasks p clients)
     (vs : List View) (sound : Sound p (beginning p (programs p.slots clients)) vs) where
   abbrev start : Core
   start = beginning p (programs p.slots clients)
 
   -- the same, with the setup's ticks apart
   pub told_behind : (n : ℕ) → IsAtRest (run p start (replicate n 0)) 0 → (seats : List ℕ) → IsSettled (run p (run p start (replicate n 0)) seats) → Told clients (run p (run p start (replicate n 0)) seats).outcomes p
-  told_behind n rest seats settled = let s = setup_runs p sound_ticks clients are n start (vs, [], sound, start_story p clients are vs sound, λ e m. absurd m) in
-      let t = seats_run p sound_ticks clients are seats (run p start (replicate n 0)) rest (s.0, s.1, s.2, s.3) in
+  told_behind n rest seats settled = let s = setup_runs p clients are n start (vs, [], sound, start_story p clients are vs sound, λ e m. absurd m) in
+      let t = seats_run p clients are seats (run p start (replicate n 0)) rest (s.0, s.1, s.2, s.3) in
       told_at p clients are (run p (run p start (replicate n 0)) seats) t.0 t.1 t.2 t.3 settled
 
   -- Where the setup went first, as often as it took, and then any seats, until none had a step left, each task has its outcome, and each outcome its cause.
