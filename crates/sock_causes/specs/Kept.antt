@@ -32,11 +32,15 @@ AreKept slots es c (d ∷ ds) = Because slots ds (trace_of c d.task.number es) d
 
 -- client c, whose tasks these are, has done some, and its program does the others
 pub record SeatAt (slots : ℕ) (es : List Event) (outcomes : List (Option Outcome)) (c : ℕ) (tasks : List Task) (done : List Done) (todo : List Task) (program : Program) (v : View) : Type 0 where
+  -- its tasks are those done and those to do
   pub all : tasks ≡ undo done todo
+  -- those done have their outcomes
   pub became : AllByRecursion (λ (d : Done). slice_get outcomes d.task.number ≡ Some (Some d.outcome)) done
+  -- each explained by its steps
   pub kept : AreKept slots es c done
   -- it made no step for the tasks behind the first
   pub past : (e : Event) → In e es → e.client ≡ c → AllByRecursion (λ (t : Task). e.number ≤ t.number) todo
+  -- and its program explains the others
   pub explains : Explains slots done (trace_now c todo es) todo program
   -- it holds what it took a reference to
   pub holding : Holding (trace_now c todo es) (λ id. 0 < marks_of (is_hold (socket_id_version id)) (socket_id_slot id) v)
@@ -50,9 +54,13 @@ IsReady (Say o outcome more) = ⊥
 IsReady other = Unit {0}
 
 pub record Story (p : Plan) (clients : List (List Task)) (c : Core) (views : List View) (es : List Event) : Type 0 where
+  -- each operation has its place among the outcomes
   pub sized : length c.outcomes ≡ p.operations
+  -- each client is a seat
   pub each : length c.seats ≡ length clients
+  -- no outcome is still to be said before a seat's next step
   pub ready : (i : ℕ) (seat : SeatState) → get_elem? c.seats i ≡ core.some seat → IsReady seat.program
+  -- each step has its cause
   pub good : Good p clients es
   -- the marks that stay are those of the story
   pub births : (j : ℕ) → j < p.slots → (h : ℕ) → count (is_born h) (slot_facts (state c views) j) ≡ marked (is_born h) j es
@@ -60,5 +68,6 @@ pub record Story (p : Plan) (clients : List (List Task)) (c : Core) (views : Lis
   pub tries : (j : ℕ) → j < p.slots → count is_tried (slot_facts (state c views) j) ≡ marked is_tried j es
   -- the words of names are those of the story
   pub named : (n : ℕ) → n < p.names → slice_index c.words (name_word p n) ≡ last_name n es
+  -- each client did its tasks so far
   pub seats : (i : ℕ) (tasks : List Task) (seat : SeatState) (v : View) → slice_get clients i ≡ Some tasks → get_elem? c.seats i ≡ core.some seat → get_elem? views i ≡ core.some v
       → SeatStory p.slots es c.outcomes i tasks seat.program v
