@@ -1,0 +1,6 @@
+pub mod Grown
+pub mod Readings
+pub mod Laws
+pub mod Steps
+pub mod Each
+pub mod Histories
