@@ -13,16 +13,16 @@ use Rattle.sock_model.specs.Layout.{name_word, open_word}
 use Rattle.sock_model.specs.SlotRows.{met, wrote}
 use Rattle.sock_model.specs.ChainRows.{with_hand, without_hand, spent_hand}
 use Rattle.sock_model.specs.Lawful.{Lawful}
-use Rattle.sock_model.specs.Plain.{Event, Nothing, Becomes, plain}
+use Rattle.sock_model.specs.Plain.{Event, Nothing, Becomes, Leads, plain}
 use Rattle.sock_programs.specs.Calls.{Call, ClaimSlot, GiveBirth, AddRef, SubRef, SetOdd, Recycle, FreeSlot, StoreLink, LoadLink, ResetHead, WipeCode, StoreCode, StoreName, LoadName, StoreOpen, LoadOpen, TakeLink, FinishLink, PutLink}
 use Rattle.sock_programs.specs.Programs.{Program, Do, Say, Rest}
-use Rattle.sock_programs.specs.Cores.{Core, SeatState, word_of, found_at}
+use Rattle.sock_programs.specs.Cores.{Core, SeatState, word_of, found_at, ticked}
 use Rattle.sock_runs.specs.Rows.{row, hand_at, is_id, found_id}
 use Rattle.sock_runs.specs.May.{May}
 use Rattle.sock_runs.specs.GoesOn.{GoesOn}
 use Rattle.sock_runs.specs.Sound.{Sound, state, views_of, views_after}
 use Rattle.sock_steps.proofs.Quiet.{either_way}
-use Rattle.plain_laws.specs.Events.{event_of, next_event, event_at}
+use Rattle.plain_laws.specs.Events.{event_of, next_event, event_at, events_of, views_through}
 use Rattle.plain_laws.proofs.Grown.{same_marks}
 use Rattle.plain_laws.proofs.Steps.{nothing, claim_event, birth_event, add_event, sub_event, fail_event, recycle_event, free_event, stage_event, code_event, met_event, met_link_event}
 
@@ -77,3 +77,9 @@ module _ (p : Plan) (c : Core) (views : List View) (sound : Sound p c views) (i 
   -- each tick is one event, or none
   pub each_tick : Becomes (plain views) (event_at p c views i) (plain (views_after p c views i))
   each_tick = of_seat (get_elem? c.seats i) refl
+
+-- and each run of ticks is their events one after another, where ticks keep what is sound
+pub each_run : (p : Plan) → ((c : Core) (views : List View) (i : ℕ) → Sound p c views → Sound p (ticked p c i) (views_after p c views i))
+    → (seats : List ℕ) (c : Core) (views : List View) → Sound p c views → Leads (plain views) (events_of p c views seats) (plain (views_through p c views seats))
+each_run p keeps [] c views sound = refl
+each_run p keeps (i ∷ seats) c views sound = (plain (views_after p c views i), each_tick p c views sound i, each_run p keeps seats (ticked p c i) (views_after p c views i) (keeps c views i sound))

@@ -73,9 +73,10 @@ module _ {S : Type 0} (p : Plan) (s : State S View) (law : References p s) (even
 
   -- a life that is held goes on
   pub held_lives : (h seat : ℕ) → 0 < q.holds seat (life_at i h) → Goes q (life_at i h)
-  held_lives h seat some_ = let t = (law.slots i inside).held h (omega (arith, holds_le s seat (life_at i h))) in let t₀ = t.0 in let t₁ = t.1 in let le = lives_le in let begun = (law.slots i inside).begun in
-      (omega (arith, births_are h, life-in p.first h (L.version + live L) (dite (ℕ_discrete (live L) 0) (λ z. omega arith) (λ n. omega arith)) (omega arith) t₁),
-      ends_are h ∙ life-high p.first h (L.version - 1) (omega arith))
+  held_lives h seat some_ = let t = (law.slots i inside).held h (omega (arith, holds_le s seat (life_at i h))) in let t₀ = t.0 in let t₁ = t.1 in let le = lives_le in let begun = (law.slots i inside).begun in (
+    omega (arith, births_are h, life-in p.first h (L.version + live L) (dite (ℕ_discrete (live L) 0) (λ z. omega arith) (λ n. omega arith)) (omega arith) t₁),
+    ends_are h ∙ life-high p.first h (L.version - 1) (omega arith),
+  )
 
   -- nobody holds a life of a slot without references
   pub unheld : L.nref ≡ live L → (h : ℕ) → IsUnheld q (life_at i h)

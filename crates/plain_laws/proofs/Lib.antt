@@ -4,3 +4,4 @@ pub mod Laws
 pub mod Steps
 pub mod Each
 pub mod Histories
+pub mod Stale

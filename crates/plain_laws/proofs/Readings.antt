@@ -41,7 +41,7 @@ module _ (views : List View) (id : ℕ) (v w : View) (here : get_elem? views id 
 
   -- the seat itself, and any other
   seat_after : (l : Life) → (plain after).holds id l ≡ marks_of (is_hold l.version) l.slot w
-  seat_after l = let g : View → ℕ = marks_of (is_hold l.version) l.slot in 
+  seat_after l = let g : View → ℕ = marks_of (is_hold l.version) l.slot in
       ap (λ (xs : List ℕ). get_or xs id 0) (map-set g views id w) ∙ at_set_index (map g views) id (g v) (g w) (at_map g views id v here)
 
   other_after : (seat : ℕ) → seat ≢ id → (l : Life) → (plain after).holds seat l ≡ (plain views).holds seat l

@@ -97,21 +97,27 @@ module _ {S : Type 0} (shows : S → Home) (p : Plan) (s : State S View) (o : La
     birth_event k there = let h : ℕ = version_of found in let law = o.references.slots i inside in let rest : List SlotMark = without_at i (is_stage 3 k) v.marks in
         let busy : 0 < count is_busy L = omega (arith, mine is_busy, total_mono (is_stage 3 k) is_busy (stage_busy 3 k) (about i v.marks)) in
         let dead : live L ≡ 0 = live-busy L.tag L.version (count is_busy L) busy in let even = law.busy_even busy in
-        let b = births_are p s o.references o.fits.even i inside in let e = ends_are p s o.references o.fits.even i inside in
-        ((omega (arith, b h, life-high p.first h (L.version + live L) (omega arith)),
-        λ g some_. let t = life_is p.first g (L.version + live L) (omega (arith, b g)) in let t₁ = t.1 in let t₂ = t.2 in omega (arith, e g, life-in p.first g (L.version - 1) t.0 (omega arith) t.2)),
-        birth_read s.views id v (gave_birth i found k v) here (life_at i h)
-        (silent_more v.marks (at i (mark.Born h) ∷ at i (mark.Linked h k) ∷ rest) (born_more v.marks (at i (mark.Linked h k) ∷ rest)
-        (silent_more v.marks rest (silent_less v.marks v.marks (same_marks v.marks) i (is_stage 3 k) (λ x y. ap is_read (stage_is 3 k x y))) i (mark.Linked h k) refl) i h) i (mark.Known h) refl))
+        let b = births_are p s o.references o.fits.even i inside in let e = ends_are p s o.references o.fits.even i inside in (
+          (
+            omega (arith, b h, life-high p.first h (L.version + live L) (omega arith)),
+            λ g some_. let t = life_is p.first g (L.version + live L) (omega (arith, b g)) in let t₁ = t.1 in let t₂ = t.2 in omega (arith, e g, life-in p.first g (L.version - 1) t.0 (omega arith) t.2),
+          ),
+          birth_read s.views id v (gave_birth i found k v) here (life_at i h)
+              (silent_more v.marks (at i (mark.Born h) ∷ at i (mark.Linked h k) ∷ rest) (born_more v.marks (at i (mark.Linked h k) ∷ rest)
+              (silent_more v.marks rest (silent_less v.marks v.marks (same_marks v.marks) i (is_stage 3 k) (λ x y. ap is_read (stage_is 3 k x y))) i (mark.Linked h k) refl) i h) i (mark.Known h) refl),
+        )
 
     -- a reference for the life h, which the seat knows
     pub add_event : (h : ℕ) (is_life : Bool) → (is_life ≡ true → version_of found ≡ h) → 0 < marks_of (is_known h) i v → To (cond is_life (Hold (life_at i h) id) Nothing) (added i found is_life v)
-    add_event h true is known = let w : ℕ = version_of found in let law = o.references.slots i inside in let same = is refl in
-        ((omega (arith, births_are p s o.references o.fits.even i inside h, law.known h (omega (arith, mine (is_known h)))),
-        fails_are p s o.references o.fits.even i inside h ∙ life-high p.first h L.version (omega arith)),
-        hold_read s.views id v (added i found true v) here (life_at i h)
-        (subst (λ y. Grown v.marks (added i found true v).marks no_life no_life no_life (once_more (life_at i y) no_life)) same
-        (hold_more v.marks (at i (mark.Saw w) ∷ v.marks) (silent_more v.marks v.marks (same_marks v.marks) i (mark.Saw w) refl) i w)))
+    add_event h true is known = let w : ℕ = version_of found in let law = o.references.slots i inside in let same = is refl in (
+      (
+        omega (arith, births_are p s o.references o.fits.even i inside h, law.known h (omega (arith, mine (is_known h)))),
+        fails_are p s o.references o.fits.even i inside h ∙ life-high p.first h L.version (omega arith),
+      ),
+      hold_read s.views id v (added i found true v) here (life_at i h)
+          (subst (λ y. Grown v.marks (added i found true v).marks no_life no_life no_life (once_more (life_at i y) no_life)) same
+          (hold_more v.marks (at i (mark.Saw w) ∷ v.marks) (silent_more v.marks v.marks (same_marks v.marks) i (mark.Saw w) refl) i w)),
+    )
     add_event h false is known = let w : ℕ = version_of found in nothing (added i found false v)
         (silent_more v.marks (at i (mark.Saw w) ∷ v.marks) (silent_more v.marks v.marks (same_marks v.marks) i (mark.Saw w) refl) i mark.Probe refl)
 
@@ -129,11 +135,12 @@ module _ {S : Type 0} (shows : S → Home) (p : Plan) (s : State S View) (o : La
             subst (λ (z : ℕ). 0 < marks_of (is_hold z) i v) (life_found p s o.references id v here [] keeps i inside fits g mine_g) mine_g) (ref_cases t.0 t.1)
 
         drops : 0 < marks_of (is_hold (version_of found - version_of found % 2)) i v → To (Drop (life_at i (version_of found - version_of found % 2)) id) (subbed i found (is_hold (version_of found - version_of found % 2)) v)
-        drops there_h = let x : ℕ = version_of found in let h : ℕ = x - x % 2 in let rest : List SlotMark = without_at i (is_hold h) v.marks in let g = hold_less i h v.marks there_h in
-            (omega (arith, own_holds s.views id v here (life_at i h)),
-            drop_read s.views id v (subbed i found (is_hold h) v) here (life_at i h)
-            (conds (eqb (x % 2) 1) (eqb (nref_of found) 1) (at i (mark.Zero x) ∷ rest) rest (λ es. Grown es v.marks no_life no_life no_life (once_more (life_at i h) no_life))
-            (silent_before rest v.marks g i (mark.Zero x) refl) g))
+        drops there_h = let x : ℕ = version_of found in let h : ℕ = x - x % 2 in let rest : List SlotMark = without_at i (is_hold h) v.marks in let g = hold_less i h v.marks there_h in (
+          omega (arith, own_holds s.views id v here (life_at i h)),
+          drop_read s.views id v (subbed i found (is_hold h) v) here (life_at i h)
+              (conds (eqb (x % 2) 1) (eqb (nref_of found) 1) (at i (mark.Zero x) ∷ rest) rest (λ es. Grown es v.marks no_life no_life no_life (once_more (life_at i h) no_life))
+              (silent_before rest v.marks g i (mark.Zero x) refl) g),
+        )
 
         backs : To Nothing (subbed i found is_probe v)
         backs = let x : ℕ = version_of found in let rest : List SlotMark = without_at i is_probe v.marks in let g = silent_less v.marks v.marks (same_marks v.marks) i is_probe (λ y z. ap is_read (probe_is y z)) in
@@ -152,11 +159,17 @@ module _ {S : Type 0} (shows : S → Home) (p : Plan) (s : State S View) (o : La
         fails even = let w : ℕ = version_of found in let law = o.references.slots i inside in
             let is = life_found p s o.references id v here [] keeps i inside fits h there in let mine_w : 0 < marks_of (is_hold w) i v = subst (λ y. 0 < marks_of (is_hold y) i v) (let z : h ≡ w = omega arith in z) there in
             let t = law.held w (omega (arith, mine (is_hold w))) in let t₀ = t.0 in
-            let m₁ : List SlotMark = at i (mark.Saw (w + 1)) ∷ v.marks in let m₂ : List SlotMark = at i (mark.Failer w) ∷ m₁ in let m₃ : List SlotMark = at i (mark.Coding w) ∷ m₂ in
-            (((omega (arith, births_are p s o.references o.fits.even i inside w, life-in p.first w (L.version + live L) law.begun (omega arith) even),
-            fails_are p s o.references o.fits.even i inside w ∙ life-high p.first w L.version (omega arith)), omega (arith, own_holds s.views id v here (life_at i w))),
-            fail_read s.views id v (record v { marks = at i (mark.Hold w) ∷ m₃ }) here (life_at i w)
-            (hold_more v.marks m₃ (silent_more v.marks m₂ (failer_more v.marks m₁ (silent_more v.marks v.marks (same_marks v.marks) i (mark.Saw (w + 1)) refl) i w) i (mark.Coding w) refl) i w))
+            let m₁ : List SlotMark = at i (mark.Saw (w + 1)) ∷ v.marks in let m₂ : List SlotMark = at i (mark.Failer w) ∷ m₁ in let m₃ : List SlotMark = at i (mark.Coding w) ∷ m₂ in (
+              (
+                (
+                  omega (arith, births_are p s o.references o.fits.even i inside w, life-in p.first w (L.version + live L) law.begun (omega arith) even),
+                  fails_are p s o.references o.fits.even i inside w ∙ life-high p.first w L.version (omega arith),
+                ),
+                omega (arith, own_holds s.views id v here (life_at i w)),
+              ),
+              fail_read s.views id v (record v { marks = at i (mark.Hold w) ∷ m₃ }) here (life_at i w)
+                  (hold_more v.marks m₃ (silent_more v.marks m₂ (failer_more v.marks m₁ (silent_more v.marks v.marks (same_marks v.marks) i (mark.Saw (w + 1)) refl) i w) i (mark.Coding w) refl) i w),
+            )
 
     -- whoever wins the exchange ends the life
     pub recycle_event : (from : ℕ) → 0 < marks_of (is_zero (version_of from)) i v → version_of from % 2 ≡ 1 → nref_of from ≡ 0 → To (cond (eqb found from) (End (life_at i (version_of from - 1))) Nothing) (recycled i from found v)
@@ -171,9 +184,12 @@ module _ {S : Type 0} (shows : S → Home) (p : Plan) (s : State S View) (o : La
         ends : found ≡ from → Same v.marks (without_at i (is_zero (version_of from)) v.marks)
             → To (End (life_at i (version_of from - 1))) (record v { marks = at i (mark.Recycling (version_of from + 1)) ∷ at i (mark.Freer (version_of from - 1)) ∷ without_at i (is_zero (version_of from)) v.marks })
         ends same g = let w : ℕ = version_of from in let rest : List SlotMark = without_at i (is_zero w) v.marks in let law = o.references.slots i inside in
-            let v_is : L.version ≡ w = ap version_of same in let n_is : L.nref ≡ 0 = ap nref_of same ∙ none_ in let dead : live L ≡ 0 = live-odd L.tag L.version (count is_busy L) (omega arith) in let begun = law.begun in let even = o.fits.even in
-            ((omega (arith, fails_are p s o.references o.fits.even i inside (w - 1), life-in p.first (w - 1) L.version (omega arith) (omega arith) (omega arith)),
-            ends_are p s o.references o.fits.even i inside (w - 1) ∙ life-high p.first (w - 1) (L.version - 1) (omega arith),
-            unheld p s o.references o.fits.even i inside (omega arith) (w - 1)),
-            end_read s.views id v (record v { marks = at i (mark.Recycling (w + 1)) ∷ at i (mark.Freer (w - 1)) ∷ rest }) here (life_at i (w - 1))
-            (silent_more v.marks (at i (mark.Freer (w - 1)) ∷ rest) (freer_more v.marks rest g i (w - 1)) i (mark.Recycling (w + 1)) refl))
+            let v_is : L.version ≡ w = ap version_of same in let n_is : L.nref ≡ 0 = ap nref_of same ∙ none_ in let dead : live L ≡ 0 = live-odd L.tag L.version (count is_busy L) (omega arith) in let begun = law.begun in let even = o.fits.even in (
+              (
+                omega (arith, fails_are p s o.references o.fits.even i inside (w - 1), life-in p.first (w - 1) L.version (omega arith) (omega arith) (omega arith)),
+                ends_are p s o.references o.fits.even i inside (w - 1) ∙ life-high p.first (w - 1) (L.version - 1) (omega arith),
+                unheld p s o.references o.fits.even i inside (omega arith) (w - 1),
+              ),
+              end_read s.views id v (record v { marks = at i (mark.Recycling (w + 1)) ∷ at i (mark.Freer (w - 1)) ∷ rest }) here (life_at i (w - 1))
+                  (silent_more v.marks (at i (mark.Freer (w - 1)) ∷ rest) (freer_more v.marks rest g i (w - 1)) i (mark.Recycling (w + 1)) refl),
+            )

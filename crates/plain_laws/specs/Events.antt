@@ -35,7 +35,7 @@ next_event p seat other ws v = Nothing
 -- the event of a tick of seat i; where there is no such seat nothing happens
 abbrev pub event_at : Plan → Core → List View → ℕ → Event
 event_at p c views i = elim (get_elem? c.seats i) as (λ o. Event) [
-  none ↦ Nothing
+  | none ↦ Nothing
   | some seat ↦ elim (get_elem? views i) as (λ o. Event) [ none ↦ Nothing | some v ↦ next_event p i seat.program c.words v ]
 ]
 

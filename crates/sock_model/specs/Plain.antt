@@ -22,6 +22,10 @@ pub record Plain : Type 0 where
   -- how many references to it a seat has
   pub holds : ℕ → Life → ℕ
 
+-- before anything happened
+abbrev pub no_lives : Plain
+no_lives = record { births = λ l. 0; fails = λ l. 0; ends = λ l. 0; holds = λ seat l. 0 }
+
 -- the life is live: it was made, and nobody has set it failed
 abbrev pub IsLive : Plain → Life → Type 0
 IsLive q l = (0 < q.births l) × (q.fails l ≡ 0)
