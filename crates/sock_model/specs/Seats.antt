@@ -20,7 +20,7 @@ spent = void no_plan
 
 -- the seat v takes in a seat that has no claim, entry, right or link in hand
 abbrev pub joined : View → View → View
-joined v w = record v { marks = v.marks ++ w.marks; passes = v.passes ++ w.passes; spare = v.spare + w.spare; stores = v.stores ++ w.stores; lists = v.lists ++ w.lists }
+joined v w = record v { marks = v.marks ++ w.marks; passes = v.passes ++ w.passes; spare = v.spare + w.spare; stores = v.stores ++ w.stores; found = v.found ++ w.found; lists = v.lists ++ w.lists }
 
 -- such a seat
 pub record IsBare (v : View) : Type 0 where
