@@ -1,5 +1,5 @@
 -- Each step of a seat, and so each tick of a machine, is one event of the plain model, or none.
-use Rattle.std.proofs.Common.{◌≡◌, ℕ, ◌-◌, ◌<◌, ◌≤◌, Bool, List, [], ◌∷◌, set, refl, sym, ap, subst, arith, eqb, eqb-true, cond, nat_lt}
+use Rattle.std.proofs.Common.{◌≡◌, ℕ, ◌-◌, List, [], ◌∷◌, set, refl, eqb, eqb-true, nat_lt}
 use mathlib.Core.Option.{Option, some, none}
 use lib.ListN.{get_elem?}
 use Rattle.atomic_table.specs.Table.{State}
@@ -23,14 +23,13 @@ use Rattle.sock_runs.specs.GoesOn.{GoesOn}
 use Rattle.sock_runs.specs.Sound.{Sound, state, views_of, views_after}
 use Rattle.sock_steps.proofs.Quiet.{either_way}
 use Rattle.plain_laws.specs.Events.{event_of, next_event, event_at, events_of, views_through}
-use Rattle.plain_laws.proofs.Grown.{same_marks}
-use Rattle.plain_laws.proofs.Steps.{nothing, claim_event, birth_event, add_event, sub_event, fail_event, recycle_event, free_event, stage_event, code_event, met_event, met_link_event}
+use Rattle.plain_laws.proofs.Steps.{marks_event, claim_event, birth_event, add_event, sub_event, fail_event, recycle_event, free_event, stage_event, code_event, met_event, met_link_event}
 
 -- an id that was found, or none
 id_found : {S : Type 0} (shows : S → Home) (p : Plan) (s : State S View) → Lawful shows p s → (id : ℕ) (v : View) → get_elem? s.views id ≡ some v → (word : ℕ)
     → Becomes (plain s.views) Nothing (plain (set s.views id (found_id word v)))
 id_found shows p s o id v here word = let slot : ℕ = socket_id_slot (word - 1) in let version : ℕ = socket_id_version (word - 1) in
-    either_way (is_id word) (met slot version v) v (λ w. Becomes (plain s.views) Nothing (plain (set s.views id w))) (met_event shows p s o id v here slot version) (nothing shows p s o id v here v (same_marks v.marks))
+    either_way (is_id word) (met slot version v) v (λ w. Becomes (plain s.views) Nothing (plain (set s.views id w))) (met_event shows p s o id v here slot version) (marks_event shows p s o id v here v refl)
 
 -- each step is its event
 pub each_step : {S : Type 0} (shows : S → Home) (p : Plan) (s : State S View) → Lawful shows p s → (id : ℕ) (v : View) → get_elem? s.views id ≡ some v → (call : Call) (hand : Hand) → May p v call
@@ -48,14 +47,14 @@ each_step shows p s o id v here (LoadLink i w) hand may = met_link_event shows p
 each_step shows p s o id v here (ResetHead i k) hand may = stage_event shows p s o id v here i 1 k 2 k v.passes
 each_step shows p s o id v here (WipeCode i k) hand may = stage_event shows p s o id v here i 2 k 3 k v.passes
 each_step shows p s o id v here (StoreCode i h c) hand may = code_event shows p s o id v here i h c
-each_step shows p s o id v here (StoreName n w) hand may = nothing shows p s o id v here (wrote (name_word p n) w v) (same_marks v.marks)
+each_step shows p s o id v here (StoreName n w) hand may = marks_event shows p s o id v here (wrote (name_word p n) w v) refl
 each_step shows p s o id v here (LoadName n) hand may = id_found shows p s o id v here (found_at s.words (word_of p (LoadName n)))
-each_step shows p s o id v here (StoreOpen n w) hand may = nothing shows p s o id v here (wrote (open_word p n) w v) (same_marks v.marks)
+each_step shows p s o id v here (StoreOpen n w) hand may = marks_event shows p s o id v here (wrote (open_word p n) w v) refl
 each_step shows p s o id v here (LoadOpen n) hand may = id_found shows p s o id v here (found_at s.words (word_of p (LoadOpen n)))
 each_step shows p s o id v here (TakeLink k) hand may = either_way (nat_lt 0 (total (only hand.link) v.passes)) (spent_hand v hand) (with_hand v hand) (λ w. Becomes (plain s.views) Nothing (plain (set s.views id w)))
-    (nothing shows p s o id v here (spent_hand v hand) (same_marks v.marks)) (nothing shows p s o id v here (with_hand v hand) (same_marks v.marks))
-each_step shows p s o id v here (FinishLink k) hand may = nothing shows p s o id v here v (same_marks v.marks)
-each_step shows p s o id v here (PutLink k) hand may = nothing shows p s o id v here (without_hand v k) (same_marks v.marks)
+    (marks_event shows p s o id v here (spent_hand v hand) refl) (marks_event shows p s o id v here (with_hand v hand) refl)
+each_step shows p s o id v here (FinishLink k) hand may = marks_event shows p s o id v here v refl
+each_step shows p s o id v here (PutLink k) hand may = marks_event shows p s o id v here (without_hand v k) refl
 
 module _ (p : Plan) (c : Core) (views : List View) (sound : Sound p c views) (i : ℕ) where
   of_program : (program : Program) (v : View) → get_elem? views i ≡ some v → GoesOn p v program → Becomes (plain views) (next_event p i program c.words v) (plain (views_of p i program c views v))

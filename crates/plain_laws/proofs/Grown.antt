@@ -1,5 +1,5 @@
 -- How many of the marks that the plain model reads a view has of each life, where marks come and go.
-use Rattle.std.proofs.Common.{◌≡◌, ◌≢◌, ℕ, ◌+◌, ◌<◌, List, [], ◌∷◌, refl, sym, ap, ◌∙◌, subst, arith, cond, eqb, eq-eqb, ne_eqb}
+use Rattle.std.proofs.Common.{◌≡◌, ◌≢◌, ℕ, ◌+◌, ◌<◌, List, [], ◌∷◌, refl, sym, ap, ◌∙◌, subst, arith, eq-eqb, ne_eqb}
 use Rattle.std.proofs.lemmas.Bool.Decides.{nat_tests}
 use mathlib.Core.Logic.{dite}
 use native.Mathlib.Decide.{ℕ_discrete}
@@ -8,7 +8,7 @@ use Rattle.sock_model.specs.declared.marks.Mark.TheVariants as mark
 use Rattle.sock_model.specs.declared.marks.SlotMark.{SlotMark}
 use Rattle.sock_model.specs.Weights.{total, only, pair, is_hold, is_born, is_failer, is_freer}
 use Rattle.sock_model.specs.Marks.{about, at, without, without_at}
-use Rattle.sock_model.specs.Plain.{Life, life_at, same_life, once_more}
+use Rattle.sock_model.specs.Plain.{Life, life_at, once_more}
 use Rattle.slot_laws.proofs.Sums.{about-here, about-other, taken_as}
 use Rattle.slot_laws.proofs.Frame.{about-without, about-without_else}
 use Rattle.slot_laws.proofs.Slots.{hold_is}

@@ -1,8 +1,8 @@
 -- What follows from the events alone: they keep the plain laws, what became of a life stands, and a slot is given again only once nobody holds a life of it.
-use Rattle.std.proofs.Common.{◌≡◌, ◌≢◌, ℕ, ◌+◌, ◌-◌, ◌<◌, ◌≤◌, ◌⊎◌, Bool, true, false, List, [], ◌∷◌, refl, sym, ap, ◌∙◌, subst, inl, inr, ⊎_elim, arith, cond, eqb, eq-eqb, eqb-true, ne_eqb}
+use Rattle.std.proofs.Common.{◌≡◌, ℕ, ◌+◌, ◌<◌, ◌≤◌, ◌⊎◌, true, false, List, [], ◌∷◌, refl, sym, ap, ◌∙◌, subst, inl, inr, ⊎_elim, arith, cond, eqb}
 use mathlib.Core.Logic.{dite}
 use native.Mathlib.Decide.{ℕ_discrete}
-use Rattle.sock_model.specs.Plain.{Life, life_at, Plain, Event, Nothing, Birth, Hold, Drop, Fail, End, MayCome, Becomes, Leads, changed, same_life, once_more, Goes, IsUnheld, PlainLaw}
+use Rattle.sock_model.specs.Plain.{Life, life_at, Plain, Event, Nothing, Birth, Hold, Drop, Fail, End, MayCome, Becomes, Leads, changed, same_life, Goes, IsUnheld, PlainLaw}
 use Rattle.slot_laws.proofs.Numbers.{pair_is, pair_le}
 
 -- two lives are one, or count as none

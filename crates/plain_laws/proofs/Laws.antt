@@ -1,23 +1,21 @@
 -- What the rule says of lives and of who holds them: the plain laws, and when each event may come.
-use Rattle.std.proofs.Common.{◌≡◌, ◌≢◌, ℕ, zero, suc, ◌+◌, ◌-◌, ◌/◌, ◌%◌, ◌<◌, ◌≤◌, List, [], ◌∷◌, map, get_or, refl, sym, ap, ◌∙◌, subst, arith}
+use Rattle.std.proofs.Common.{◌≡◌, ℕ, zero, suc, ◌+◌, ◌-◌, ◌%◌, ◌<◌, ◌≤◌, List, [], ◌∷◌, map, get_or, refl, ◌∙◌, arith}
 use Rattle.std.proofs.lemmas.Bool.Decides.{nat_tests}
 use mathlib.Core.Logic.{dite}
-use mathlib.Core.Option.{some}
 use native.Mathlib.Decide.{ℕ_discrete, dec_le}
-use lib.ListN.{get_elem?}
 use Rattle.atomic_table.specs.Table.{State}
 use Rattle.sock_words.specs.declared.plain.Plan.{Plan}
 use Rattle.sock_model.specs.declared.marks.Mark.{Mark}
 use Rattle.sock_model.specs.declared.home.Home.{Home}
 use Rattle.sock_model.specs.declared.view.View.{View}
-use Rattle.sock_model.specs.Weights.{total, tally, life, is_busy, is_ref, is_hold, is_known, is_born, is_failer, is_freer}
+use Rattle.sock_model.specs.Weights.{total, life, is_busy, is_ref, is_hold, is_born, is_failer, is_freer}
 use Rattle.sock_model.specs.Marks.{about}
 use Rattle.sock_model.specs.Slots.{SlotFacts, live, count}
 use Rattle.sock_model.specs.References.{slot_facts, References}
 use Rattle.sock_model.specs.SlotRows.{marks_of}
 use Rattle.sock_model.specs.Lawful.{Lawful}
 use Rattle.sock_model.specs.Plain.{Life, life_at, Plain, IsUnheld, Goes, PlainLaw, plain}
-use Rattle.slot_laws.proofs.Sums.{term_le, total_mono}
+use Rattle.slot_laws.proofs.Sums.{total_mono}
 use Rattle.slot_laws.proofs.Slots.{hold_ref}
 use Rattle.slot_laws.proofs.Numbers.{life-in, life_is, life_le, life-high, live_le, live_is}
 
@@ -42,7 +40,7 @@ counted s f j = total_map (λ (v : View). about j v.marks) (total f) s.views
 pub holds_le : {S : Type 0} (s : State S View) (seat : ℕ) (l : Life) → (plain s.views).holds seat l ≤ count (is_hold l.version) (slot_facts s l.slot)
 holds_le s seat l = let g : View → ℕ = marks_of (is_hold l.version) l.slot in omega (arith, index_le (map g s.views) seat, total_map g (λ n. n) s.views, counted s (is_hold l.version) l.slot)
 
-module _ {S : Type 0} (p : Plan) (s : State S View) (law : References p s) (even : p.first % 2 ≡ 0) (i : ℕ) (inside : i < p.slots) where
+module _ {S : Type 0} (p : Plan) (s : State S View) (law : References p s) (i : ℕ) (inside : i < p.slots) where
   abbrev L : SlotFacts
   L = slot_facts s i
 
@@ -72,8 +70,8 @@ module _ {S : Type 0} (p : Plan) (s : State S View) (law : References p s) (even
       (dite (ℕ_discrete (live L) 0) (λ z. omega arith) (λ n. let e = lives_even (omega arith) in omega arith), b₂)
 
   -- a life that is held goes on
-  pub held_lives : (h seat : ℕ) → 0 < q.holds seat (life_at i h) → Goes q (life_at i h)
-  held_lives h seat some_ = let t = (law.slots i inside).held h (omega (arith, holds_le s seat (life_at i h))) in let t₀ = t.0 in let t₁ = t.1 in let le = lives_le in let begun = (law.slots i inside).begun in (
+  pub held_lives : p.first % 2 ≡ 0 → (h seat : ℕ) → 0 < q.holds seat (life_at i h) → Goes q (life_at i h)
+  held_lives even h seat some_ = let t = (law.slots i inside).held h (omega (arith, holds_le s seat (life_at i h))) in let t₀ = t.0 in let t₁ = t.1 in let le = lives_le in let begun = (law.slots i inside).begun in (
     omega (arith, births_are h, life-in p.first h (L.version + live L) (dite (ℕ_discrete (live L) 0) (λ z. omega arith) (λ n. omega arith)) (omega arith) t₁),
     ends_are h ∙ life-high p.first h (L.version - 1) (omega arith),
   )
@@ -85,11 +83,11 @@ module _ {S : Type 0} (p : Plan) (s : State S View) (law : References p s) (even
 -- the plain laws follow from the rule
 pub plain_law : {S : Type 0} (shows : S → Home) (p : Plan) (s : State S View) → Lawful shows p s → PlainLaw p.slots (plain s.views)
 plain_law shows p s o = let law = o.references in let even = o.fits.even in record {
-  born_once = λ l inside. omega (arith, births_are p s law even l.slot inside l.version, life_le p.first l.version ((slot_facts s l.slot).version + live (slot_facts s l.slot)));
+  born_once = λ l inside. omega (arith, births_are p s law l.slot inside l.version, life_le p.first l.version ((slot_facts s l.slot).version + live (slot_facts s l.slot)));
   born_first = λ l inside. let v : ℕ = (slot_facts s l.slot).version in let n : ℕ = live (slot_facts s l.slot) in
-      omega (arith, births_are p s law even l.slot inside l.version, fails_are p s law even l.slot inside l.version, life-later p.first l.version v (v + n) (omega arith));
+      omega (arith, births_are p s law l.slot inside l.version, fails_are p s law l.slot inside l.version, life-later p.first l.version v (v + n) (omega arith));
   failed_first = λ l inside. let v : ℕ = (slot_facts s l.slot).version in
-      omega (arith, fails_are p s law even l.slot inside l.version, ends_are p s law even l.slot inside l.version, life-later p.first l.version (v - 1) v (omega arith));
-  held_goes = λ l seat inside some_. held_lives p s law even l.slot inside l.version seat some_;
-  one_goes = λ i g h inside a b. let x = (goes_is p s law even i inside g a).0 in let y = (goes_is p s law even i inside h b).0 in omega arith;
+      omega (arith, fails_are p s law l.slot inside l.version, ends_are p s law l.slot inside l.version, life-later p.first l.version (v - 1) v (omega arith));
+  held_goes = λ l seat inside some_. held_lives p s law l.slot inside even l.version seat some_;
+  one_goes = λ i g h inside a b. let x = (goes_is p s law i inside g a).0 in let y = (goes_is p s law i inside h b).0 in omega arith;
 }

@@ -5,3 +5,4 @@ pub mod Steps
 pub mod Each
 pub mod Histories
 pub mod Stale
+pub mod Seats

@@ -1,5 +1,5 @@
 -- How the plain reading of all views changes where one view does.
-use Rattle.std.proofs.Common.{◌≡◌, ◌≢◌, ℕ, zero, suc, ◌+◌, ◌-◌, ◌<◌, List, [], ◌∷◌, map, length, set, get_or, get_or-set_same, get_or-set_other, refl, sym, ap, ◌∙◌, arith, cond, eqb, eq-eqb, ne_eqb}
+use Rattle.std.proofs.Common.{◌≡◌, ◌≢◌, ℕ, zero, suc, ◌+◌, List, [], ◌∷◌, map, set, get_or, get_or-set_other, refl, sym, ap, ◌∙◌, arith, cond, eq-eqb, ne_eqb}
 use mathlib.Core.Logic.{dite}
 use mathlib.Core.Option.{some, some-injective, some-ne-none}
 use native.Mathlib.Decide.{ℕ_discrete}
@@ -40,11 +40,11 @@ module _ (views : List View) (id : ℕ) (v w : View) (here : get_elem? views id 
   same_seats f j n z e = omega (arith, total-set (marks_of f j) views id v w here)
 
   -- the seat itself, and any other
-  seat_after : (l : Life) → (plain after).holds id l ≡ marks_of (is_hold l.version) l.slot w
+  pub seat_after : (l : Life) → (plain after).holds id l ≡ marks_of (is_hold l.version) l.slot w
   seat_after l = let g : View → ℕ = marks_of (is_hold l.version) l.slot in
       ap (λ (xs : List ℕ). get_or xs id 0) (map-set g views id w) ∙ at_set_index (map g views) id (g v) (g w) (at_map g views id v here)
 
-  other_after : (seat : ℕ) → seat ≢ id → (l : Life) → (plain after).holds seat l ≡ (plain views).holds seat l
+  pub other_after : (seat : ℕ) → seat ≢ id → (l : Life) → (plain after).holds seat l ≡ (plain views).holds seat l
   other_after seat n l = let g : View → ℕ = marks_of (is_hold l.version) l.slot in
       ap (λ (xs : List ℕ). get_or xs seat 0) (map-set g views id w) ∙ get_or-set_other (map g views) id seat (g w) 0 n
 

@@ -1,18 +1,18 @@
 -- An id of a life that is over reaches no later life of its slot, and the views that a table begins with have no life.
-use Rattle.std.proofs.Common.{◌≡◌, ◌≢◌, ℕ, zero, suc, ◌+◌, ◌-◌, ◌%◌, ◌<◌, ◌≤◌, Bool, true, false, List, [], ◌∷◌, get_or, refl, sym, ap, ◌∙◌, arith, cond, eqb, ne_eqb}
+use Rattle.std.proofs.Common.{◌≡◌, ◌≢◌, ℕ, zero, suc, ◌+◌, ◌-◌, ◌<◌, false, [], ◌∷◌, get_or, refl, ap, arith, cond, eqb, ne_eqb}
 use Rattle.atomic_table.specs.Table.{State}
 use Rattle.sock_words.specs.declared.plain.Plan.{Plan}
 use Rattle.sock_words.specs.Words.{socket_id_version, socket_id_slot, vref_version}
 use Rattle.sock_model.specs.declared.home.Home.{Home}
 use Rattle.sock_model.specs.declared.view.View.{View}
 use Rattle.sock_model.specs.declared.view.Hand.{Hand}
-use Rattle.sock_model.specs.Weights.{is_probe, life}
-use Rattle.sock_model.specs.Slots.{version_of, live}
+use Rattle.sock_model.specs.Weights.{is_probe}
+use Rattle.sock_model.specs.Slots.{version_of}
 use Rattle.sock_model.specs.References.{slot_facts}
 use Rattle.sock_model.specs.SlotRows.{marks_of, added}
 use Rattle.sock_model.specs.Lawful.{Lawful}
 use Rattle.sock_model.specs.Seats.{first_view}
-use Rattle.sock_model.specs.Plain.{Life, Plain, no_lives, Nothing, Hold, plain}
+use Rattle.sock_model.specs.Plain.{no_lives, Nothing, Hold, plain}
 use Rattle.slot_laws.proofs.After.{marks-added}
 use Rattle.slot_laws.proofs.Numbers.{life_is}
 use Rattle.sock_programs.specs.Calls.{AddRef}
@@ -28,7 +28,7 @@ module _ {S : Type 0} (shows : S → Home) (p : Plan) (s : State S View) (o : La
   -- the slot has gone on to another version
   pub stale_version : vref_version found ≢ socket_id_version id
   stale_version same = let i : ℕ = socket_id_slot id in let h : ℕ = socket_id_version id in
-      let t = life_is p.first h ((slot_facts s i).version - 1) (omega (arith, ends_are p s o.references o.fits.even i inside h)) in let t₁ = t.1 in omega arith
+      let t = life_is p.first h ((slot_facts s i).version - 1) (omega (arith, ends_are p s o.references i inside h)) in let t₁ = t.1 in omega arith
 
   stale_test : eqb (vref_version found) (socket_id_version id) ≡ false
   stale_test = ne_eqb (vref_version found) (socket_id_version id) stale_version

@@ -1,37 +1,34 @@
 -- Each step of a seat is one event of the plain model, or none.
-use Rattle.std.proofs.Common.{◌≡◌, ◌≢◌, ℕ, ◌+◌, ◌-◌, ◌*◌, ◌/◌, ◌%◌, ◌<◌, ◌≤◌, ◌⊎◌, Bool, true, false, List, [], ◌∷◌, map, set, get_or, refl, sym, ap, ◌∙◌, subst, inl, inr, ⊎_elim, arith, cond, eqb, eqb-true, eq-eqb, ne_eqb, nat_lt, lt-ltb, le-ltb}
+use Rattle.std.proofs.Common.{◌≡◌, ℕ, ◌+◌, ◌-◌, ◌%◌, ◌<◌, ◌≤◌, Bool, true, false, List, [], ◌∷◌, set, get_or, refl, sym, ap, ◌∙◌, subst, ⊎_elim, arith, cond, eqb, eq-eqb, ne_eqb, nat_lt, lt-ltb, le-ltb}
 use mathlib.Core.Logic.{dite}
 use mathlib.Core.Option.{some}
 use native.Mathlib.Decide.{ℕ_discrete, dec_le}
 use lib.ListN.{get_elem?}
 use Rattle.atomic_table.specs.Table.{State, keeps}
-use Rattle.atomic_table.proofs.Lists.{set_again}
 use Rattle.sock_words.specs.declared.plain.Plan.{Plan}
-use Rattle.sock_words.specs.Words.{socket_id_version, socket_id_slot, vref_version, vref_nref}
 use Rattle.sock_model.specs.declared.marks.Mark.{Mark}
 use Rattle.sock_model.specs.declared.marks.Mark.TheVariants as mark
 use Rattle.sock_model.specs.declared.marks.SlotMark.{SlotMark}
 use Rattle.sock_model.specs.declared.home.Home.{Home}
 use Rattle.sock_model.specs.declared.view.View.{View}
-use Rattle.sock_model.specs.declared.view.Hand.{Hand}
-use Rattle.sock_model.specs.Weights.{total, tally, only, life, is_busy, is_claimed, is_ref, is_probe, is_hold, is_known, is_zero, is_stage, is_coding, is_recycling, is_born, is_failer, is_freer}
+use Rattle.sock_model.specs.Weights.{is_busy, is_ref, is_probe, is_hold, is_known, is_zero, is_stage, is_coding, is_recycling}
 use Rattle.sock_model.specs.Marks.{about, at, without_at}
 use Rattle.sock_model.specs.Layout.{ref_word}
 use Rattle.sock_model.specs.Slots.{SlotFacts, version_of, nref_of, live, count}
-use Rattle.sock_model.specs.References.{slot_facts, References}
-use Rattle.sock_model.specs.SlotRows.{marks_of, claimed, gave_birth, added, back, subbed, failed, recycled, freed, looked, linked, staged, coded, told_code, met, met_link}
+use Rattle.sock_model.specs.References.{slot_facts}
+use Rattle.sock_model.specs.SlotRows.{marks_of, claimed, gave_birth, added, back, subbed, failed, recycled, freed, looked, coded, told_code, met, met_link}
 use Rattle.sock_model.specs.Lawful.{Lawful}
-use Rattle.sock_model.specs.Plain.{Life, life_at, Plain, Event, Nothing, Birth, Hold, Drop, Fail, End, IsLive, MayCome, Becomes, once_more, plain}
+use Rattle.sock_model.specs.Plain.{life_at, Plain, Event, Nothing, Birth, Hold, Drop, Fail, End, Becomes, once_more, plain}
 use Rattle.slot_laws.proofs.Sums.{taken, total_mono}
 use Rattle.slot_laws.proofs.Slots.{stage_is, zero_is, probe_is, any_recycled, ref_cases}
-use Rattle.slot_laws.proofs.Numbers.{life-in, life_is, life-high, live_le, live-busy, live-odd, pair_le}
+use Rattle.slot_laws.proofs.Numbers.{life-in, life_is, life-high, live-busy, live-odd, pair_le}
 use Rattle.slot_laws.proofs.Kept.{life_found, conds}
 use Rattle.slot_laws.proofs.Codes.{coding_as}
 use Rattle.sock_steps.proofs.Quiet.{either_way}
 use Rattle.sock_steps.proofs.Places.{own_count}
 use Rattle.plain_laws.proofs.Grown.{Grown, Same, is_read, no_life, same_marks, silent_more, silent_less, born_more, failer_more, freer_more, hold_more, silent_before, hold_less}
 use Rattle.plain_laws.proofs.Readings.{own_holds, nothing_read, birth_read, hold_read, drop_read, fail_read, end_read}
-use Rattle.plain_laws.proofs.Laws.{counted, births_are, fails_are, ends_are, unheld}
+use Rattle.plain_laws.proofs.Laws.{births_are, fails_are, ends_are, unheld}
 
 stage_busy : (n k : ℕ) (x : Mark) → is_stage n k x ≤ is_busy x
 stage_busy n k (mark.Claimed a b) = pair_le n k a b
@@ -49,6 +46,10 @@ module _ {S : Type 0} (shows : S → Home) (p : Plan) (s : State S View) (o : La
   nothing w g = (tt, nothing_read s.views id v w here g)
 
   -- ## Steps that are no event
+
+  -- on the chains, on names, and of links: they leave the marks
+  pub marks_event : (w : View) → w.marks ≡ v.marks → To Nothing w
+  marks_event w e = nothing w (subst (λ (es : List SlotMark). Same v.marks es) (sym e) (same_marks v.marks))
 
   pub claim_event : (i found : ℕ) → To Nothing (claimed i found v)
   claim_event i found = nothing (claimed i found v) (silent_more v.marks v.marks (same_marks v.marks) i (cond (eqb found 0) (mark.Claimed 0 0) mark.Tried) (either_way (eqb found 0) (mark.Claimed 0 0) mark.Tried (λ m. is_read m ≡ 0) refl refl))
@@ -97,7 +98,7 @@ module _ {S : Type 0} (shows : S → Home) (p : Plan) (s : State S View) (o : La
     birth_event k there = let h : ℕ = version_of found in let law = o.references.slots i inside in let rest : List SlotMark = without_at i (is_stage 3 k) v.marks in
         let busy : 0 < count is_busy L = omega (arith, mine is_busy, total_mono (is_stage 3 k) is_busy (stage_busy 3 k) (about i v.marks)) in
         let dead : live L ≡ 0 = live-busy L.tag L.version (count is_busy L) busy in let even = law.busy_even busy in
-        let b = births_are p s o.references o.fits.even i inside in let e = ends_are p s o.references o.fits.even i inside in (
+        let b = births_are p s o.references i inside in let e = ends_are p s o.references i inside in (
           (
             omega (arith, b h, life-high p.first h (L.version + live L) (omega arith)),
             λ g some_. let t = life_is p.first g (L.version + live L) (omega (arith, b g)) in let t₁ = t.1 in let t₂ = t.2 in omega (arith, e g, life-in p.first g (L.version - 1) t.0 (omega arith) t.2),
@@ -111,8 +112,8 @@ module _ {S : Type 0} (shows : S → Home) (p : Plan) (s : State S View) (o : La
     pub add_event : (h : ℕ) (is_life : Bool) → (is_life ≡ true → version_of found ≡ h) → 0 < marks_of (is_known h) i v → To (cond is_life (Hold (life_at i h) id) Nothing) (added i found is_life v)
     add_event h true is known = let w : ℕ = version_of found in let law = o.references.slots i inside in let same = is refl in (
       (
-        omega (arith, births_are p s o.references o.fits.even i inside h, law.known h (omega (arith, mine (is_known h)))),
-        fails_are p s o.references o.fits.even i inside h ∙ life-high p.first h L.version (omega arith),
+        omega (arith, births_are p s o.references i inside h, law.known h (omega (arith, mine (is_known h)))),
+        fails_are p s o.references i inside h ∙ life-high p.first h L.version (omega arith),
       ),
       hold_read s.views id v (added i found true v) here (life_at i h)
           (subst (λ y. Grown v.marks (added i found true v).marks no_life no_life no_life (once_more (life_at i y) no_life)) same
@@ -162,8 +163,8 @@ module _ {S : Type 0} (shows : S → Home) (p : Plan) (s : State S View) (o : La
             let m₁ : List SlotMark = at i (mark.Saw (w + 1)) ∷ v.marks in let m₂ : List SlotMark = at i (mark.Failer w) ∷ m₁ in let m₃ : List SlotMark = at i (mark.Coding w) ∷ m₂ in (
               (
                 (
-                  omega (arith, births_are p s o.references o.fits.even i inside w, life-in p.first w (L.version + live L) law.begun (omega arith) even),
-                  fails_are p s o.references o.fits.even i inside w ∙ life-high p.first w L.version (omega arith),
+                  omega (arith, births_are p s o.references i inside w, life-in p.first w (L.version + live L) law.begun (omega arith) even),
+                  fails_are p s o.references i inside w ∙ life-high p.first w L.version (omega arith),
                 ),
                 omega (arith, own_holds s.views id v here (life_at i w)),
               ),
@@ -186,9 +187,9 @@ module _ {S : Type 0} (shows : S → Home) (p : Plan) (s : State S View) (o : La
         ends same g = let w : ℕ = version_of from in let rest : List SlotMark = without_at i (is_zero w) v.marks in let law = o.references.slots i inside in
             let v_is : L.version ≡ w = ap version_of same in let n_is : L.nref ≡ 0 = ap nref_of same ∙ none_ in let dead : live L ≡ 0 = live-odd L.tag L.version (count is_busy L) (omega arith) in let begun = law.begun in let even = o.fits.even in (
               (
-                omega (arith, fails_are p s o.references o.fits.even i inside (w - 1), life-in p.first (w - 1) L.version (omega arith) (omega arith) (omega arith)),
-                ends_are p s o.references o.fits.even i inside (w - 1) ∙ life-high p.first (w - 1) (L.version - 1) (omega arith),
-                unheld p s o.references o.fits.even i inside (omega arith) (w - 1),
+                omega (arith, fails_are p s o.references i inside (w - 1), life-in p.first (w - 1) L.version (omega arith) (omega arith) (omega arith)),
+                ends_are p s o.references i inside (w - 1) ∙ life-high p.first (w - 1) (L.version - 1) (omega arith),
+                unheld p s o.references i inside (omega arith) (w - 1),
               ),
               end_read s.views id v (record v { marks = at i (mark.Recycling (w + 1)) ∷ at i (mark.Freer (w - 1)) ∷ rest }) here (life_at i (w - 1))
                   (silent_more v.marks (at i (mark.Freer (w - 1)) ∷ rest) (freer_more v.marks rest g i (w - 1)) i (mark.Recycling (w + 1)) refl),

@@ -1,5 +1,5 @@
 -- A seat notes that it found a lasting word other than 0: a name or an `open` that has an id, or, by C1, a request that is taken.
-use Rattle.std.proofs.Common.{◌≡◌, ◌≢◌, ℕ, zero, suc, ◌+◌, ◌*◌, ◌/◌, ◌%◌, ◌<◌, ◌≤◌, List, [], ◌∷◌, get_or, set, bit_or, refl, sym, ap, ◌∙◌, subst, arith}
+use Rattle.std.proofs.Common.{◌≡◌, ◌≢◌, ℕ, zero, suc, ◌+◌, ◌*◌, ◌/◌, ◌%◌, ◌<◌, List, [], ◌∷◌, get_or, set, bit_or, refl, sym, ap, ◌∙◌, subst, arith}
 use mathlib.Core.Option.{Option, some, some-injective}
 use lib.ListN.{get_elem?}
 use lib.Seq.{set-get_or}
@@ -7,8 +7,8 @@ use Rattle.atomic_table.specs.Table.{State, stepped, keeps}
 use Rattle.sock_words.specs.declared.plain.Plan.{Plan}
 use Rattle.sock_model.specs.declared.home.Home.{Home}
 use Rattle.sock_model.specs.declared.view.View.{View}
-use Rattle.sock_model.specs.Layout.{request_word, place_word}
-use Rattle.sock_model.specs.Reads.{rights_on, claims_of, loose_at, tokens, message}
+use Rattle.sock_model.specs.Layout.{request_word}
+use Rattle.sock_model.specs.Reads.{claims_of, loose_at, tokens, message}
 use Rattle.sock_model.specs.Lawful.{Lawful}
 use Rattle.sock_model.specs.Rule.{Lasting, of_request, FoundWords, noting, Rule}
 use Rattle.chain_laws.proofs.Bits.{or_one_odd}

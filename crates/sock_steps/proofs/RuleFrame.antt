@@ -1,5 +1,5 @@
 -- What the whole rule says beside what is lawful, where one seat's view and some words change.
-use Rattle.std.proofs.Common.{◌≡◌, ◌≢◌, ℕ, zero, suc, ◌+◌, ◌*◌, ◌<◌, ◌≤◌, ◌⊎◌, List, [], ◌∷◌, ◌++◌, length, length-append, get_or, set, get_or-set_same, get_or-set_other, refl, sym, ap, ◌∙◌, subst, inl, inr, ⊎_elim, arith}
+use Rattle.std.proofs.Common.{◌≡◌, ◌≢◌, ℕ, zero, suc, ◌+◌, ◌*◌, ◌<◌, ◌≤◌, List, [], ◌∷◌, ◌++◌, length, length-append, get_or, set, get_or-set_same, get_or-set_other, sym, ap, ◌∙◌, subst, inl, ⊎_elim, arith}
 use mathlib.Core.Logic.{dite}
 use mathlib.Core.Option.{Option, some, some-injective}
 use native.Mathlib.Decide.{ℕ_discrete}
@@ -10,12 +10,11 @@ use Rattle.sock_words.specs.declared.plain.Plan.{Plan}
 use Rattle.sock_model.specs.declared.chain.Entry.{Entry}
 use Rattle.sock_model.specs.declared.home.Home.{Home}
 use Rattle.sock_model.specs.declared.view.View.{View}
-use Rattle.sock_model.specs.Weights.{total}
-use Rattle.sock_model.specs.Layout.{all_words, next_word}
+use Rattle.sock_model.specs.Layout.{all_words}
 use Rattle.sock_model.specs.ChainRows.{more}
 use Rattle.sock_model.specs.Seats.{spent}
 use Rattle.sock_model.specs.Lawful.{Lawful}
-use Rattle.sock_model.specs.Rule.{Lasting, of_name, of_open, of_request, FoundWords, MOST_ACCEPTED, AreShort, lists_of, FewMessages, Rule}
+use Rattle.sock_model.specs.Rule.{Lasting, of_name, of_open, of_request, FoundWords, MOST_ACCEPTED, AreShort, lists_of, Rule}
 use Rattle.slot_laws.proofs.Sums.{total-set}
 
 -- where the words stand that last
