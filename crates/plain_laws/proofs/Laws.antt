@@ -14,7 +14,7 @@ use Rattle.sock_model.specs.Slots.{SlotFacts, live, count}
 use Rattle.sock_model.specs.References.{slot_facts, References}
 use Rattle.sock_model.specs.SlotRows.{marks_of}
 use Rattle.sock_model.specs.Lawful.{Lawful}
-use Rattle.sock_model.specs.Plain.{Life, life_at, Plain, IsUnheld, Goes, PlainLaw, plain}
+use Rattle.sock_model.specs.Plain.{Life, life_at, Plain, IsUnheld, IsUnended, PlainLaw, plain}
 use Rattle.slot_laws.proofs.Sums.{total_mono}
 use Rattle.slot_laws.proofs.Slots.{hold_ref}
 use Rattle.slot_laws.proofs.Numbers.{life-in, life_is, life_le, life-high, live_le, live_is}
@@ -63,14 +63,14 @@ module _ {S : Type 0} (p : Plan) (s : State S View) (law : References p s) (i : 
   pub ends_are : (h : ℕ) → q.ends (life_at i h) ≡ life p.first h (L.version - 1)
   ends_are h = counted s (is_freer h) i ∙ (law.slots i inside).ended h
 
-  -- the version of a life that is born and not over: the slot's own while it is live, else the one below
-  goes_is : (h : ℕ) → Goes q (life_at i h) → (h + 1 ≡ L.version + live L) × (h % 2 ≡ 0)
-  goes_is h g = let le = lives_le in let b = life_is p.first h (L.version + live L) (let a = g.0 in omega (arith, births_are h)) in let b₀ = b.0 in let b₁ = b.1 in let b₂ = b.2 in
+  -- the version of a life that is born and has not ended: the slot's own while it is live, else the one below
+  unended_is : (h : ℕ) → IsUnended q (life_at i h) → (h + 1 ≡ L.version + live L) × (h % 2 ≡ 0)
+  unended_is h g = let le = lives_le in let b = life_is p.first h (L.version + live L) (let a = g.0 in omega (arith, births_are h)) in let b₀ = b.0 in let b₁ = b.1 in let b₂ = b.2 in
       let late : L.version ≤ h + 1 = dite (dec_le L.version (h + 1)) (λ y. y) (λ n. let z = g.1 in absurd (omega (arith, ends_are h, life-in p.first h (L.version - 1) b₀ (omega arith) b₂))) in
       (dite (ℕ_discrete (live L) 0) (λ z. omega arith) (λ n. let e = lives_even (omega arith) in omega arith), b₂)
 
-  -- a life that is held goes on
-  pub held_lives : p.first % 2 ≡ 0 → (h seat : ℕ) → 0 < q.holds seat (life_at i h) → Goes q (life_at i h)
+  -- a life that is held has not ended
+  pub held_lives : p.first % 2 ≡ 0 → (h seat : ℕ) → 0 < q.holds seat (life_at i h) → IsUnended q (life_at i h)
   held_lives even h seat some_ = let t = (law.slots i inside).held h (omega (arith, holds_le s seat (life_at i h))) in let t₀ = t.0 in let t₁ = t.1 in let le = lives_le in let begun = (law.slots i inside).begun in (
     omega (arith, births_are h, life-in p.first h (L.version + live L) (dite (ℕ_discrete (live L) 0) (λ z. omega arith) (λ n. omega arith)) (omega arith) t₁),
     ends_are h ∙ life-high p.first h (L.version - 1) (omega arith),
@@ -88,6 +88,6 @@ plain_law shows p s o = let law = o.references in let even = o.fits.even in reco
       omega (arith, births_are p s law l.slot inside l.version, fails_are p s law l.slot inside l.version, life-later p.first l.version v (v + n) (omega arith));
   failed_first = λ l inside. let v : ℕ = (slot_facts s l.slot).version in
       omega (arith, fails_are p s law l.slot inside l.version, ends_are p s law l.slot inside l.version, life-later p.first l.version (v - 1) v (omega arith));
-  held_goes = λ l seat inside some_. held_lives p s law l.slot inside even l.version seat some_;
-  one_goes = λ i g h inside a b. let x = (goes_is p s law i inside g a).0 in let y = (goes_is p s law i inside h b).0 in omega arith;
+  held_unended = λ l seat inside some_. held_lives p s law l.slot inside even l.version seat some_;
+  one_unended = λ i g h inside a b. let x = (unended_is p s law i inside g a).0 in let y = (unended_is p s law i inside h b).0 in omega arith;
 }

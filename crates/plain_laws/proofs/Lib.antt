@@ -6,3 +6,4 @@ pub mod Each
 pub mod Histories
 pub mod Stale
 pub mod Seats
+pub mod TickRule

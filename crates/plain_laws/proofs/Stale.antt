@@ -1,4 +1,4 @@
--- An id of a life that is over reaches no later life of its slot, and the views that a table begins with have no life.
+-- An id of a life that has ended reaches no later life of its slot, and the views that a table begins with have no life.
 use Rattle.std.proofs.Common.{◌≡◌, ◌≢◌, ℕ, zero, suc, ◌+◌, ◌-◌, ◌<◌, false, [], ◌∷◌, get_or, refl, ap, arith, cond, eqb, ne_eqb}
 use Rattle.atomic_table.specs.Table.{State}
 use Rattle.sock_words.specs.declared.plain.Plan.{Plan}

@@ -48,7 +48,7 @@ pub data Event : Type 0 where
   Drop : Life → ℕ → Event
   -- the seat sets the life failed, and gets the reference that stood for its being live
   Fail : Life → ℕ → Event
-  -- the life is over
+  -- the life ends
   End : Life → Event
 
 -- when each may happen
@@ -95,9 +95,9 @@ Leads before (event ∷ events) after = (next : Plain) × Becomes before event n
 
 -- ## The laws
 
--- the life was made, and isn't over
-abbrev pub Goes : Plain → Life → Type 0
-Goes q l = (0 < q.births l) × (q.ends l ≡ 0)
+-- the life was made, and has not ended
+abbrev pub IsUnended : Plain → Life → Type 0
+IsUnended q l = (0 < q.births l) × (q.ends l ≡ 0)
 
 -- what is true of so many slots at any time
 pub record PlainLaw (slots : ℕ) (q : Plain) : Type 0 where
@@ -107,10 +107,10 @@ pub record PlainLaw (slots : ℕ) (q : Plain) : Type 0 where
   pub born_first : (l : Life) → l.slot < slots → q.fails l ≤ q.births l
   -- it ends once at most, and after it failed
   pub failed_first : (l : Life) → l.slot < slots → q.ends l ≤ q.fails l
-  -- a life that someone holds is live, or failed and not over
-  pub held_goes : (l : Life) (seat : ℕ) → l.slot < slots → 0 < q.holds seat l → Goes q l
-  -- of a slot's lives one at most is born and not over
-  pub one_goes : (i g h : ℕ) → i < slots → Goes q (life_at i g) → Goes q (life_at i h) → g ≡ h
+  -- a life that someone holds is live, or failed and not ended
+  pub held_unended : (l : Life) (seat : ℕ) → l.slot < slots → 0 < q.holds seat l → IsUnended q l
+  -- of a slot's lives one at most is born and has not ended
+  pub one_unended : (i g h : ℕ) → i < slots → IsUnended q (life_at i g) → IsUnended q (life_at i h) → g ≡ h
 
 -- ## The reading
 

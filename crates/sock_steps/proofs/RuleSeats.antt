@@ -13,7 +13,7 @@ use Rattle.sock_model.specs.Marks.{about}
 use Rattle.sock_model.specs.Seats.{newcomer, spent, joined, IsBare, first_view}
 use Rattle.sock_model.specs.Lawful.{Lawful}
 use Rattle.sock_model.specs.Rule.{FoundWords, MOST_ACCEPTED, AreShort, lists_of, Rule}
-use Rattle.slot_laws.proofs.Sums.{total-set, total-append}
+use Rattle.slot_laws.proofs.Sums.{total-set, total-append, total_bound}
 use Rattle.sock_steps.proofs.Reseat.{splitting_law, joining_law}
 
 at_append : {A : Type 0} (xs ys : List A) (i : ℕ) (a : A) → get_elem? (xs ++ ys) i ≡ some a → (get_elem? xs i ≡ some a) ⊎ ((k : ℕ) × (get_elem? ys k ≡ some a))
@@ -35,14 +35,28 @@ one_view : (v u : View) (i : ℕ) → get_elem? (v ∷ []) i ≡ some u → v �
 one_view v u zero e = some-injective v u e
 one_view v u (suc i) e = absurd (some-ne-none u (sym e))
 
+-- a seat that found and accepted nothing yet
+pub record IsFresh (p : Plan) (v : View) : Type 0 where
+  pub plan : v.plan ≡ p
+  pub found : v.found ≡ []
+  pub lists : v.lists ≡ [] ∷ []
+
+-- what is lawful with such seats, of which there are no more than the table has, is the whole rule
+pub fresh_rule : {S : Type 0} {shows : S → Home} {p : Plan} {s : State S View} → Lawful shows p s → ((id : ℕ) (v : View) → get_elem? s.views id ≡ some v → IsFresh p v) → length s.views ≤ p.seats → p.seats ≤ 64 → Rule shows p s
+fresh_rule {S} {shows} {p} {s} o fresh seats few = record {
+  lawful = o;
+  plans = λ id v e. inl (fresh id v e).plan;
+  found_words = λ id v e. no_found p s.words v (fresh id v e).found;
+  few_messages = record {
+    few_seats = few;
+    few_lists = omega (arith, total_bound lists_of 1 s.views (λ id v e. let a = ap length (fresh id v e).lists in omega arith));
+    short = λ id v e. one_empty v (fresh id v e).lists;
+  };
+}
+
 -- a new table, whose first seat has all passes
 pub opening_rule : {S : Type 0} (shows : S → Home) (p : Plan) (ws : List ℕ) (hs : List (Option S)) → 1 ≤ p.seats → p.seats ≤ 64 → Lawful shows p record { words = ws; homes = hs; views = first_view p ∷ [] } → Rule shows p record { words = ws; homes = hs; views = first_view p ∷ [] }
-opening_rule shows p ws hs some_ few o = record {
-  lawful = o;
-  plans = λ id v e. inl (ap (λ (u : View). u.plan) (sym (one_view (first_view p) v id e)));
-  found_words = λ id v e. subst (FoundWords p ws) (one_view (first_view p) v id e) (no_found p ws (first_view p) refl);
-  few_messages = record { few_seats = few; few_lists = omega arith; short = λ id v e. subst AreShort (one_view (first_view p) v id e) (one_empty (first_view p) refl) };
-}
+opening_rule shows p ws hs some_ few o = fresh_rule o (λ id v e. subst (IsFresh p) (one_view (first_view p) v id e) record { plan = refl; found = refl; lists = refl }) (omega arith) few
 
 -- a seat gives away some of its passes to a new one, as long as the table has another seat
 pub splitting_rule : {S : Type 0} {shows : S → Home} {p : Plan} {s : State S View} (r : Rule shows p s) (id : ℕ) (v : View) → get_elem? s.views id ≡ some v → v.plan ≡ p → (mine its : List ℕ) (some_ more : ℕ)
