@@ -10,8 +10,9 @@ use Rattle.brpc_model.specs.Link.{LinkEnd}
 use Rattle.brpc_model.specs.Run.{nothing_late}
 use Rattle.brpc_model.specs.Complete.{FitsWhole}
 use Rattle.sock_io.specs.Causes.{Rose}
+use Rattle.sock_io.specs.Writing.{WrotePart}
 use Rattle.brpc_eng.specs.Built.{is_built}
-use Rattle.brpc_eng.specs.Streams.{script_limit, IsAtEnd, WrotePart}
+use Rattle.brpc_eng.specs.Streams.{script_limit, IsAtEnd}
 
 -- ## What a call finds outside, and what it leaves there
 

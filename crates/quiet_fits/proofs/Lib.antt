@@ -1,0 +1,13 @@
+pub mod Lists
+pub mod Counting
+pub mod Names
+pub mod Numbering
+pub mod TaskLemmas
+pub mod Reported
+pub mod Quiet
+pub mod Causes
+pub mod Fitting
+pub mod Reading
+pub mod Sizes
+pub mod Alternating
+pub mod Tasks
