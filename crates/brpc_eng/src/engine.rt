@@ -23,7 +23,7 @@ const USAGE: &[u8] =
 /// | 5 | only where the sink failed, in place of 0; a beginning of the report was written |
 /// | 6 | exactly where more than 1,048,576 bytes came |
 /// | 7 | where memory ran out |
-/// | 8 | only where a link couldn't be opened |
+/// | 8 | only where a link couldn't be opened; those opened before are given back untouched |
 /// | 10 | exactly where the command or the script isn't built; `not built` is written |
 ///
 /// Faults are met in the order words, source, size, script, opening, run, printing; want of memory
