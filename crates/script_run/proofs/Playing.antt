@@ -110,7 +110,7 @@ beyond_in [] i h = refl
 beyond_in (s ∷ ss) zero h = absurd (omega arith)
 beyond_in (s ∷ ss) (suc i) h = beyond_in ss i (omega arith)
 
-beyond : (c : Core) (i : ℕ) → length c.seats ≤ i → IsAtRest c i
+pub beyond : (c : Core) (i : ℕ) → length c.seats ≤ i → IsAtRest c i
 beyond c i h = ap (λ (o : core.Option SeatState). elim o as (λ o. Option Kind) [ core.none ↦ None | core.some seat ↦ kind_in seat.program ]) (beyond_in c.seats i h)
 
 -- a seat whose number is too high is as idle as that of the highest number

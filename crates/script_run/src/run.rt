@@ -47,6 +47,7 @@ pub fn run_quiet<L: Linker>(
     requires opened { L.opened links.old ≡ 0 }
     requires back { L.back links.old ≡ [] }
     ensures text { IfOk result (λ text. IsRunText script.now text.items) }
+    ensures only { IfOk result (λ text. (other : List ℕ) → IsRunText script.now other → other ≡ text.items) }
     ensures untouched { AreUntouched 0 (L.back links.new) }
     ensures all { OnOk result (length (L.back links.new) ≡ count_by is_open script.now) }
     ensures opened { L.opened links.new ≡ length (L.back links.new) }
