@@ -1,5 +1,5 @@
 -- A script has one run: where two cores are each the end of it, they are one core.
-use Rattle.std.proofs.Common.{◌≡◌, ◌≢◌, ℕ, zero, suc, ◌+◌, ◌-◌, ◌<◌, ◌≤◌, ◌⊎◌, inl, inr, Bool, true, false, leb, List, [], ◌∷◌, ◌++◌, length, replicate, Some, None, ap, sym, subst, refl, ◌∙◌, append_assoc, arith, Result, Ok, Err, IfOk}
+use Rattle.std.proofs.Common.{◌≡◌, ℕ, zero, suc, ◌+◌, ◌-◌, ◌≤◌, inl, inr, true, false, leb, List, [], ◌∷◌, ◌++◌, length, replicate, ap, sym, subst, refl, ◌∙◌, append_assoc, arith, Result, Ok, Err, IfOk}
 use Rattle.std.proofs.lemmas.Bool.{leb-false, leb-true}
 use Rattle.sock_words.specs.declared.plain.Plan.{Plan}
 use Rattle.sock_words.specs.KindText.{kind_text}

@@ -9,9 +9,9 @@ ghost use Rattle.script_items.specs.Meaning.{item};
 ghost use Rattle.sock_io.specs.Causes.{Rose};
 ghost use Rattle.sock_io.specs.Link.{end_of};
 ghost use Rattle.sock_programs.specs.Scripts.{is_quiet, IsRunOf};
-ghost use Rattle.sock_core.specs.Machines.{core_in, IsMade};
+ghost use Rattle.sock_core.specs.Machines.{core_in};
 ghost use Rattle.script_run.specs.Given.{AreUntouched, has_piece};
-ghost use Rattle.script_run.specs.Played.{IsRunText};
+ghost use Rattle.script_run.specs.Played.{IsMade, IsRunText};
 
 use crate::links::{give_back, open_links};
 use crate::schedule::play_schedule;

@@ -3,4 +3,4 @@
 
 mod machine;
 
-pub use machine::{Finished, Machine, NotMade, Tick};
+pub use machine::{Finished, Machine, NotMade, On, Tick};

@@ -1,8 +1,12 @@
-ghost use Rattle.std.specs.Prelude.{◌≡◌, ◌≢◌, ◌<◌, ℕ, List, Ok, Some, None, true, [], map, flat_map, length, IfOk, OnOk, IfErr};
+ghost use Rattle.std.specs.Prelude.{◌≡◌, ◌≢◌, ◌<◌, ℕ, List, Ok, Some, None, true, [], map, flat_map, length, IfOk, OnOk, IfErr, OnErr};
 ghost use Rattle.brpc_model.specs.Script.{script_of};
 ghost use Rattle.sock_io.specs.Link.{IsFresh, end_of};
-ghost use Rattle.sock_programs.specs.Scripts.{is_quiet, told};
-ghost use Rattle.sock_core.specs.Machines.{core_in, IsMade, IsTick, IsSettling};
+ghost use Rattle.sock_programs.specs.Scripts.{is_quiet, told, set_up};
+ghost use Rattle.sock_programs.specs.Tasks.{plan_of, opens};
+ghost use Rattle.sock_programs.specs.Cores.{ticked};
+ghost use Rattle.sock_programs.specs.Runs.{next_kind, IsAtRest};
+ghost use Rattle.sock_core.specs.Runs.{TickIs, Settled};
+ghost use Rattle.sock_core.specs.Machines.{core_in, steps_left};
 
 use script_items::Script;
 use sock_io::{Ends, In, Linker, NoMemory, Out, Peer};
@@ -10,14 +14,29 @@ use sock_words::{Kind, Outcome, PlaceWord};
 use std::alloc::Global;
 use std::marker::Model;
 
+/// For what a seat waits.
+#[derive(Clone, Copy, Debug, PartialEq, Eq)]
+pub enum On {
+    /// The next word of this ticket's request, which isn't connected yet.
+    Next(u64),
+    /// This call id, which another seat has locked, or whose end is waited for.
+    Id(u64),
+    /// The writing half of this link.
+    Out(u16),
+    /// The reading half of this link.
+    In(u16),
+    /// The socket of this `open`.
+    Open(u16),
+}
+
 /// What a tick of a seat did.
 #[derive(Clone, Copy, Debug, PartialEq, Eq)]
 pub enum Tick {
-    /// It made a step of this kind.
+    /// The seat made a step of this kind.
     Moved(Kind),
-    /// The seat waits for another one.
-    Waits,
-    /// The seat has no step.
+    /// The seat waits, and nothing was changed.
+    Waits(On),
+    /// The seat has no step left, and nothing was changed.
     Idle,
 }
 
@@ -63,7 +82,10 @@ impl<O: Out, I: In, P: Peer> Machine<O, I, P> {
     ) -> Result<Machine<O, I, P>, NotMade<O, I, P>>
         requires script { (bytes : List ℕ) × (script_of bytes ≡ Ok script.now) }
         requires quiet { is_quiet script.now ≡ true }
-        ensures made { IfOk result (λ machine. IsMade script.now machine) }
+        ensures plan { IfOk result (λ machine. machine.plan ≡ plan_of script.now) }
+        ensures opens { IfOk result (λ machine. machine.opens ≡ opens script.now) }
+        ensures core { IfOk result (λ machine. (n : ℕ) × (core_in machine ≡ set_up script.now n)) }
+        ensures rest { IfOk result (λ machine. IsAtRest (core_in machine) 0) }
         ensures ends { IfOk result (λ machine. machine.ends ≡ map (λ e. end_of (O.state e.out) (I.state e.inn)) ends.items) }
         ensures back { IfErr result (λ fault. fault.ends.items ≡ ends.items) }
     {
@@ -76,24 +98,27 @@ impl<O: Out, I: In, P: Peer> Machine<O, I, P> {
         links: &mut L,
         seat: u16,
     ) -> Result<Tick, NoMemory>
-        ensures tick { IfOk result (λ tick. IsTick self.old seat tick self.new) }
+        ensures tick { IfOk result (λ tick. TickIs seat tick (next_kind (core_in self.old) seat)) }
+        ensures moved { (kind : _) → result ≡ Ok (Tick.Moved kind) → core_in self.new ≡ ticked self.old.plan (core_in self.old) seat }
+        ensures left { (kind : _) → result ≡ Ok (Tick.Moved kind) → steps_left self.new < steps_left self.old }
+        ensures idle { result ≡ Ok Tick.Idle → self.new ≡ self.old }
+        ensures rest { IsAtRest (core_in self.old) 0 → IsAtRest (core_in self.new) 0 }
+        ensures plan { self.new.plan ≡ self.old.plan }
+        ensures opens { self.new.opens ≡ self.old.opens }
         ensures ends { self.new.ends ≡ self.old.ends }
-        ensures opened { L.opened links.new ≡ L.opened links.old }
-        ensures back { L.back links.new ≡ L.back links.old }
-        ensures faults { L.faults links.new ≡ L.faults links.old }
-        ensures prompt { L.prompt links.new ≡ L.prompt links.old }
+        ensures err { OnErr result (self.new ≡ self.old) }
+        ensures links { links.new ≡ links.old }
     {
         Err(NoMemory)
     }
 
     /// Rounds until no seat has a step left, and then the ending.
     pub fn settle<L: Linker<O = O, I = I, P = P>>(&mut self, links: &mut L) -> Result<(), NoMemory>
-        ensures settled { OnOk result (IsSettling self.old self.new) }
+        requires { IsAtRest (core_in self.old) 0 }
+        ensures settled { OnOk result (Settled self.old self.new) }
+        ensures plan { self.new.plan ≡ self.old.plan }
         ensures ends { self.new.ends ≡ self.old.ends }
-        ensures opened { L.opened links.new ≡ L.opened links.old }
-        ensures back { L.back links.new ≡ L.back links.old }
-        ensures faults { L.faults links.new ≡ L.faults links.old }
-        ensures prompt { L.prompt links.new ≡ L.prompt links.old }
+        ensures links { links.new ≡ links.old }
     {
         Err(NoMemory)
     }
