@@ -1,4 +1,7 @@
-ghost use Rattle.std.specs.Prelude.{◌≡◌, ◌≢◌, ◌<◌, ℕ, List, Ok, Some, None, true, [], map, flat_map, length, IfOk, OnOk, IfErr, OnErr};
+ghost use Rattle.std.specs.Prelude.{false, ◌≡◌, ◌≢◌, ◌<◌, ℕ, List, Ok, Some, None, true, [], map, flat_map, length, IfOk, OnOk, IfErr, OnErr};
+ghost use Rattle.std.specs.List.{AllByRecursion};
+ghost use Rattle.sock_io.specs.declared.link.Ends.{Ends};
+ghost use Rattle.brpc_model.specs.Operations.{link_names};
 ghost use Rattle.brpc_model.specs.Script.{script_of};
 ghost use Rattle.sock_io.specs.Link.{IsFresh, end_of};
 ghost use Rattle.sock_programs.specs.Scripts.{is_quiet, told, set_up};
@@ -82,6 +85,8 @@ impl<O: Out, I: In, P: Peer> Machine<O, I, P> {
     ) -> Result<Machine<O, I, P>, NotMade<O, I, P>>
         requires script { (bytes : List ℕ) × (script_of bytes ≡ Ok script.now) }
         requires quiet { is_quiet script.now ≡ true }
+        requires links { length ends.items ≡ length (link_names script.now) }
+        requires fresh { AllByRecursion (λ (e : Ends O I P). (O.state e.out).finished ≡ false) ends.items }
         ensures plan { IfOk result (λ machine. machine.plan ≡ plan_of script.now) }
         ensures opens { IfOk result (λ machine. machine.opens ≡ opens script.now) }
         ensures core { IfOk result (λ machine. (n : ℕ) × (core_in machine ≡ set_up script.now n)) }
