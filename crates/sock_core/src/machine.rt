@@ -92,7 +92,7 @@ impl<O: Out, I: In, P: Peer> Machine<O, I, P> {
         ensures core { IfOk result (λ machine. (n : ℕ) × (core_in machine ≡ set_up script.now n)) }
         ensures rest { IfOk result (λ machine. IsAtRest (core_in machine) 0) }
         ensures ends { IfOk result (λ machine. machine.ends ≡ map (λ e. end_of (O.state e.out) (I.state e.inn)) ends.items) }
-        ensures back { IfErr result (λ fault. fault.ends.items ≡ ends.items) }
+        ensures back { IfErr result (λ e. map (λ (x : _). end_of (O.state x.out) (I.state x.inn)) e.ends.items ≡ map (λ (x : _). end_of (O.state x.out) (I.state x.inn)) ends.items) }
     {
         Err(NotMade { ends })
     }
