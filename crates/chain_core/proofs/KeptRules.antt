@@ -1,37 +1,39 @@
 -- Each step on the words of a chain keeps the rule, as the laws of the steps say it of the word that is there.
-use Rattle.std.proofs.Common.{◌≡◌, ◌≢◌, ℕ, ◌+◌, ◌*◌, ◌/◌, ◌%◌, ◌^◌, ◌<◌, ◌≤◌, ◌⊎◌, Bool, true, false, eqb, cond, not, eq-eqb, ne_eqb, List, [], ◌∷◌, length, get_or, set, refl, sym, ap, ◌∙◌, subst, arith, bit_or, bit_and, ⊎_elim}
-use Rattle.std.specs.List.{filter}
+use Rattle.std.proofs.Common.{◌≡◌, ◌≢◌, ℕ, ◌+◌, ◌*◌, ◌/◌, ◌%◌, ◌<◌, ◌≤◌, ◌⊎◌, true, false, cond, eqb, eq-eqb, ne_eqb, List, ◌∷◌, get_or, set, refl, sym, ap, ◌∙◌, subst, arith, bit_or, bit_and, ⊎_elim}
 use Rattle.std.specs.Int.Bits.{or_add_and}
 use Rattle.std.proofs.lemmas.Nat.Bits.{and_pow}
-use lib.ListN.{get_elem?}
 use lib.Seq.{set-get_or}
-use mathlib.Core.Option.{some}
-use Rattle.atomic_table.specs.Table.{State, stepped, keeps}
+use lib.ListN.{get_elem?}
+use mathlib.Core.Option.{none, some}
+use Rattle.atomic_table.specs.Table.{State}
 use Rattle.sock_words.specs.declared.plain.Plan.{Plan}
 use Rattle.sock_model.specs.declared.chain.Heading.{Heading}
 use Rattle.sock_model.specs.declared.chain.Right.{Right}
 use Rattle.sock_model.specs.declared.chain.Stage.{Stage}
-use Rattle.sock_model.specs.declared.chain.Stage.TheVariants.{Writes, Placed, Passes, Empties, Walks, Turns}
+use Rattle.sock_model.specs.declared.chain.Stage.TheVariants.{Placed, Passes}
 use Rattle.sock_model.specs.declared.home.Home.{Home}
 use Rattle.sock_model.specs.declared.view.View.{View}
 use Rattle.sock_model.specs.Layout.{head_word, next_word, request_word}
-use Rattle.sock_model.specs.Entries.{slot_of, generation_of}
+use Rattle.sock_model.specs.Entries.{slot_of}
 use Rattle.sock_model.specs.Memory.{IDLE, UNCONNECTED}
-use Rattle.sock_model.specs.ChainRows.{with_claim, fresh_claim, ready_claim, queued, righted, without_loose, with_right, without_right, walking_right, passing_right, reading_right, turned_right, freed_right, freed_stage}
+use Rattle.sock_model.specs.ChainRows.{with_claim, fresh_claim, ready_claim, queued, new_right, righted, without_loose, with_right, without_right, walking_right, passing_right, reading_right, turned_right, freed_right, freed_stage}
+use Rattle.sock_model.specs.Reads.{link_home}
 use Rattle.sock_model.specs.Lawful.{Lawful}
 use Rattle.sock_model.specs.Keeping.{KeepsRule, LawfulAfter}
 use Rattle.chain_laws.proofs.Lists.{at_length}
 use Rattle.chain_laws.proofs.Grow.{last_small}
 use Rattle.chain_laws.proofs.Heads.{held_of}
 use Rattle.chain_laws.proofs.Frees.{Leads, to_end, to_next}
-use Rattle.sock_steps.proofs.Maps.{set_at, set_twice}
 use Rattle.sock_steps.proofs.RightSteps.{right_in, right_alone}
+use Rattle.sock_steps.proofs.Maps.{set_at}
 use Rattle.sock_steps.proofs.SlotSteps.{idle_law}
 use Rattle.sock_steps.proofs.ClaimSteps.{claiming_law, connecting_law, readying_law, claim_alone}
 use Rattle.sock_steps.proofs.AcceptSteps.{queued_law, righted_law}
 use Rattle.sock_steps.proofs.WalkSteps.{passing_law, reading_law, emptied_law, walking_law, turning_law}
-use Rattle.sock_steps.proofs.WriteSteps.{freeing_law, retiring_law}
-use Rattle.chain_core.specs.Conditions.{MayLook, MayClaim, MaySwap, MayConnect, MayTry, MayPass, MayRead, MayRetire, MayTurnTo, MayUnconnect, MayFree, IsPassed, retired_right}
+use Rattle.sock_steps.proofs.WriteSteps.{freeing_law}
+use Rattle.sock_steps.proofs.Retire.{passing_last_law}
+use Rattle.sock_model.specs.Conditions.{HasClaim}
+use Rattle.chain_core.specs.Conditions.{MayLook, MayClaim, MaySwap, MayConnect, MayTry, MayPass, MayRead, MayRetire, MayTurnTo, MayFree}
 use Rattle.chain_core.specs.Rights.{TakesRight}
 
 -- ## Numbers
@@ -69,40 +71,13 @@ passes r found p s id v o here m is =
     (subst (λ x. Lawful (λ home. home) p record { words = s.words; homes = s.homes; views = set s.views id (with_right v (passing_right m.mine.right m.now x)) }) word_is
     (passing_law (λ home. home) p s o id v here m.mine m.now m.stage m.not_last))
 
--- a list from which the same is taken out twice
-filter_one : (f : Right → Bool) (x : Right) (l : List Right) → filter f l ≡ l → (b : Bool) → f x ≡ b → filter f (cond b (x ∷ l) l) ≡ cond b (x ∷ l) l
-filter_one f x l h true e = ap (λ b. cond b (x ∷ filter f l) (filter f l)) e ∙ ap (λ y. x ∷ y) h
-filter_one f x l h false e = h
-
-filter_twice : (f : Right → Bool) (l : List Right) → filter f (filter f l) ≡ filter f l
-filter_twice f [] = refl
-filter_twice f (x ∷ xs) = filter_one f x (filter f xs) (filter_twice f xs) (f x) refl
-
-other_link : ℕ → Right → Bool
-other_link k x = not (eqb x.link k)
-
--- a right that takes the place of another for the same link
-right_twice : (v : View) (a b : Right) → b.link ≡ a.link → with_right (with_right v a) b ≡ with_right v b
-unfolding other_link
-right_twice v a b same = let gone : not (eqb a.link b.link) ≡ false = ap not (eq-eqb a.link b.link (sym same)) in
-    ap (λ l. record v { rights = b ∷ l })
-    (ap (λ t. cond t (a ∷ filter (other_link b.link) (filter (other_link a.link) v.rights)) (filter (other_link b.link) (filter (other_link a.link) v.rights))) gone
-    ∙ (ap (λ k. filter (other_link b.link) (filter (other_link k) v.rights)) (sym same) ∙ filter_twice (other_link b.link) v.rights))
-
 -- C5 of an entry that has its place, whose request isn't given back: the next entry comes at once
-pub retires : (r found : ℕ) → KeepsRule (MayRetire r) (λ p. next_word p r) found found (λ p v m. with_right v (retired_right m.0.mine.right found))
+pub retires : (r found : ℕ) → KeepsRule (MayRetire r) (λ p. next_word p r) found found (λ p v m. with_right v (freed_right (passing_right m.0.mine.right m.0.now found)))
 retires r found p s id v o here m is =
     let word_is : get_or s.words (next_word p (slot_of m.0.now)) 0 ≡ found = ap (λ q. get_or s.words (next_word p q) 0) m.0.request_is ∙ is in
-    let passed : Lawful (λ home. home) p record { words = s.words; homes = s.homes; views = set s.views id (with_right v (passing_right m.0.mine.right m.0.now found)) } =
-    subst (λ x. Lawful (λ home. home) p record { words = s.words; homes = s.homes; views = set s.views id (with_right v (passing_right m.0.mine.right m.0.now x)) }) word_is
-    (passing_law (λ home. home) p s o id v here m.0.mine m.0.now m.0.stage m.0.not_last) in
-    let gone = retiring_law (λ home. home) p id 0 m.0.now (Writes found) (with_right v (passing_right m.0.mine.right m.0.now found)) (passing_right m.0.mine.right m.0.now found)
-    (record { words = s.words; homes = s.homes; views = set s.views id (with_right v (passing_right m.0.mine.right m.0.now found)) })
-    passed (set_at s.views id (with_right v (passing_right m.0.mine.right m.0.now found)) (at_length s.views id v here)) refl (to_next m.0.now found) m.1 in
-    still p s (next_word p r) found id (with_right v (retired_right m.0.mine.right found)) is
-    (subst (λ vs. Lawful (λ home. home) p record { words = s.words; homes = s.homes; views = vs })
-    (set_twice s.views id (with_right v (passing_right m.0.mine.right m.0.now found)) (with_right (with_right v (passing_right m.0.mine.right m.0.now found)) (retired_right m.0.mine.right found))
-    ∙ ap (λ w. set s.views id w) (right_twice v (passing_right m.0.mine.right m.0.now found) (retired_right m.0.mine.right found) refl)) gone)
+    still p s (next_word p r) found id (with_right v (freed_right (passing_right m.0.mine.right m.0.now found))) is
+    (subst (λ x. Lawful (λ home. home) p record { words = s.words; homes = s.homes; views = set s.views id (with_right v (freed_right (passing_right m.0.mine.right m.0.now x))) }) word_is
+    (passing_last_law (λ home. home) p id v m.0.mine s o here m.0.now m.0.stage m.0.not_last m.1))
 
 -- C5 on the walk
 pub reads : (r found : ℕ) → found ≢ UNCONNECTED → KeepsRule (MayRead r) (λ p. next_word p r) found found (λ p v m. with_right v (reading_right m.mine.right m.top m.at m.after found))
@@ -119,7 +94,7 @@ claims r k found heading bytes free p s id v o here may is =
     subst (λ x. LawfulAfter p s (request_word p r) x id (with_claim v (fresh_claim k r found heading bytes))) (omega (arith, free))
     (claiming_law (λ home. home) p id r (found / 2) v (fresh_claim k r found heading bytes) s o here may.0 may.1 refl refl refl refl (omega (arith, is, free)))
 
-pub unconnects : (r found : ℕ) → KeepsRule (MayUnconnect r) (λ p. next_word p r) found UNCONNECTED (λ p v m. with_claim v (ready_claim m.claim))
+pub unconnects : (r found : ℕ) → KeepsRule (HasClaim r) (λ p. next_word p r) found UNCONNECTED (λ p v m. with_claim v (ready_claim m.claim))
 unconnects r found p s id v o here m is =
     readying_law o id r v m.claim (ready_claim m.claim) here m.request_in m.claims m.request_is m.request_is refl
     (λ filled. o.messages.claimed r m.claim m.request_in (claim_alone o id r v m.claim (ready_claim m.claim) here m.request_in m.claims m.request_is m.request_is) filled)
@@ -128,9 +103,18 @@ pub queues : (i own found : ℕ) → found < IDLE → KeepsRule (MaySwap i own) 
 queues i own found low p s id v o here m is = subst (λ x. LawfulAfter p s (head_word i) own id (queued v m.claim x)) is
     (queued_law (λ home. home) p s o id i own v here m (omega (arith, is, low)))
 
+-- the link of a right that says so is at home
+at_home : (p : Plan) (s : State Home View) (id : ℕ) (v w : View) (r : Right) (rest : List Right) (words : List ℕ) → get_elem? s.views id ≡ some v → w.rights ≡ r ∷ rest → r.at_home ≡ true
+    → Lawful (λ home. home) p record { words = words; homes = s.homes; views = set s.views id w } → link_home (λ home. home) p s.homes r.link ≡ some (r.sent, r.places)
+at_home p s id v w r rest words here has home o =
+    let here' = set_at s.views id w (at_length s.views id v here) in let has' : get_elem? w.rights 0 ≡ some r = ap (λ l. get_elem? l 0) has in
+    o.homes.busy r.link r (right_in o id 0 w r here' has') (right_alone o id 0 w r here' has') ∙ ap (λ b. cond b (some (r.sent, r.places)) none) home
+
 pub rights : (i own found : ℕ) → IDLE ≤ found → TakesRight i own found own
-rights i own found high p s id v o here m is = subst (λ x. (sent : List ℕ) × (places : ℕ) × LawfulAfter p s (head_word i) own id (righted v m.claim x sent places)) is
-    (righted_law (λ home. home) p s o id i own v here m (omega (arith, is, high)))
+rights i own found high p s id v o here m is =
+    let a : (sent : List ℕ) × (places : ℕ) × LawfulAfter p s (head_word i) own id (righted v m.claim found sent places) = subst (λ x. (sent : List ℕ) × (places : ℕ) × LawfulAfter p s (head_word i) own id (righted v m.claim x sent places)) is
+    (righted_law (λ home. home) p s o id i own v here m (omega (arith, is, high))) in
+    (a.0, a.1, at_home p s id v (righted v m.claim found a.0 a.1) (new_right m.claim found a.0 a.1) v.rights (set s.words (head_word i) own) here refl refl a.2, a.2)
 
 pub connects : (r before found : ℕ) → KeepsRule (MayConnect r before) (λ p. next_word p r) found before (λ p v m. without_loose v r)
 connects r before found p s id v o here m is = connecting_law (λ home. home) p id m.place v (record { request = r; before = before }) s o here m.request_in m.has

@@ -1,12 +1,10 @@
 -- What a seat's view must say before a step on the word of request r, or on the head of slot i.
-use Rattle.std.specs.Prelude.{◌≡◌, ◌≢◌, ℕ, ◌+◌, ◌<◌, ◌⊎◌, [], ◌∷◌}
+use Rattle.std.specs.Prelude.{◌≡◌, ◌≢◌, ℕ, ◌+◌, ◌<◌, ◌⊎◌, []}
 use mathlib.Core.Option.{some}
 use lib.ListN.{get_elem?}
 use Rattle.sock_words.specs.declared.plain.Plan.{Plan}
 use Rattle.sock_model.specs.declared.chain.Right.{Right}
-use Rattle.sock_model.specs.declared.chain.Claim.{Claim}
-use Rattle.sock_model.specs.declared.chain.Loose.{Loose}
-use Rattle.sock_model.specs.declared.chain.Stage.TheVariants.{Writes, Placed, Passes, Walks}
+use Rattle.sock_model.specs.declared.chain.Stage.TheVariants.{Placed, Passes, Walks}
 use Rattle.sock_model.specs.declared.view.View.{View}
 use Rattle.sock_model.specs.Entries.{slot_of, generation_of}
 use Rattle.sock_model.specs.Memory.{IDLE}
@@ -19,13 +17,6 @@ MayLook p v = Unit {0}
 -- C1: it has no claim
 abbrev pub MayClaim : ℕ → Plan → View → Type 0
 MayClaim r p v = (r < p.requests) × (v.claims ≡ [])
-
--- C7: its one claim is of this request
-pub record MayUnconnect (r : ℕ) (p : Plan) (v : View) : Type 0 where
-  pub claim : Claim
-  pub claims : v.claims ≡ claim ∷ []
-  pub request_is : claim.request ≡ r
-  pub request_in : r < p.requests
 
 -- C2: its one claim has this ticket and is ready, and it holds the life in slot i
 abbrev pub MaySwap : (i own : ℕ) → Plan → View → Type 0
@@ -52,10 +43,6 @@ pub record MayPass (r : ℕ) (p : Plan) (v : View) : Type 0 where
 -- C5 of a request that isn't given back, since its generation is the last one
 abbrev pub MayRetire : ℕ → Plan → View → Type 0
 MayRetire r p v = (m : MayPass r p v) × (generation_of m.now ≡ 140737488355327)
-
--- after it the next message comes, without C8
-abbrev pub retired_right : Right → ℕ → Right
-retired_right r next = record r { stage = Writes next }
 
 -- C5 on the walk, which stands at this request
 pub record MayRead (r : ℕ) (p : Plan) (v : View) : Type 0 where

@@ -10,6 +10,6 @@
 mod steps;
 
 pub use steps::{
-    claim_request, connect, empty_head, free_request, read_next, swap_head, turn_next, unconnect,
-    UNCONNECTED,
+    UNCONNECTED, claim_request, connect, empty_head, free_request, read_next, swap_head, turn_next,
+    unconnect,
 };

@@ -2,8 +2,9 @@ ghost use Rattle.std.specs.Prelude.{◌≡◌, ◌≢◌, ℕ, ◌+◌, ◌*◌,
 ghost use Rattle.sock_model.specs.declared.chain.Heading.{Heading};
 ghost use Rattle.sock_model.specs.Layout.{head_word, next_word, request_word};
 ghost use Rattle.sock_model.specs.ChainRows.{with_claim, fresh_claim, ready_claim, queued, without_loose, with_right, without_right, walking_right, passing_right, reading_right, turned_right, freed_right};
+ghost use Rattle.sock_model.specs.Conditions.{HasClaim};
 ghost use Rattle.sock_model.specs.Keeping.{KeepsRule};
-ghost use Rattle.chain_core.specs.Conditions.{MayLook, MayClaim, MaySwap, MayConnect, MayTry, MayPass, MayRead, MayRetire, MayTurnTo, MayUnconnect, MayFree, retired_right};
+ghost use Rattle.chain_core.specs.Conditions.{MayLook, MayClaim, MaySwap, MayConnect, MayTry, MayPass, MayRead, MayRetire, MayTurnTo, MayFree};
 ghost use Rattle.chain_core.specs.Rights.{TakesRight};
 
 use sock_words::{Step, Ticket};
@@ -91,7 +92,7 @@ pub fn empty_head(found: u64, last: Ticket) -> Step
 pub fn read_next(found: u64) -> Step
     ensures step { (result.found ≡ found) × (result.next ≡ found) × (result.won ≡ true) }
     ensures keeps_written { (r : ℕ) → KeepsRule (MayPass r) (λ p. next_word p r) found result.next (λ p v m. with_right v (passing_right m.mine.right m.now found)) }
-    ensures keeps_retired { (r : ℕ) → KeepsRule (MayRetire r) (λ p. next_word p r) found result.next (λ p v m. with_right v (retired_right m.0.mine.right found)) }
+    ensures keeps_retired { (r : ℕ) → KeepsRule (MayRetire r) (λ p. next_word p r) found result.next (λ p v m. with_right v (freed_right (passing_right m.0.mine.right m.0.now found))) }
     ensures keeps_walk { found ≢ 18446744073709551615 → (r : ℕ) → KeepsRule (MayRead r) (λ p. next_word p r) found result.next (λ p v m. with_right v (reading_right m.mine.right m.top m.at m.after found)) }
     ensures keeps_waiting { (r : ℕ) → KeepsRule MayLook (λ p. next_word p r) found result.next (λ p v m. v) }
 {
@@ -119,7 +120,7 @@ pub fn turn_next(found: u64, value: u64) -> Step
 /// `Socket::Write`: `req->next = WriteRequest::UNCONNECTED`).
 pub fn unconnect(found: u64) -> Step
     ensures step { (result.found ≡ found) × (result.next ≡ 18446744073709551615) × (result.won ≡ true) }
-    ensures keeps { (r : ℕ) → KeepsRule (MayUnconnect r) (λ p. next_word p r) found result.next (λ p v m. with_claim v (ready_claim m.claim)) }
+    ensures keeps { (r : ℕ) → KeepsRule (HasClaim r) (λ p. next_word p r) found result.next (λ p v m. with_claim v (ready_claim m.claim)) }
 {
     Step {
         found,

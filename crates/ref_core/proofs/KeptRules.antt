@@ -1,9 +1,6 @@
 -- Each step on a slot's words keeps the rule, as the laws of the steps say it of the word that is there.
-use Rattle.std.proofs.Common.{◌≡◌, ◌≢◌, ℕ, ◌+◌, ◌-◌, ◌*◌, ◌%◌, ◌^◌, ◌<◌, ◌≤◌, Bool, true, [], get_or, refl, sym, ◌∙◌, subst, arith, bit_or}
-use mathlib.Core.Logic.{dite}
-use native.Mathlib.Decide.{ℕ_discrete}
+use Rattle.std.proofs.Common.{◌≡◌, ◌≢◌, ℕ, ◌+◌, ◌-◌, ◌*◌, ◌%◌, ◌^◌, ◌<◌, Bool, [], sym, ◌∙◌, subst, arith, bit_or}
 use Rattle.sock_words.specs.Words.{vref_version, vref_nref}
-use Rattle.sock_model.specs.declared.view.View.{View}
 use Rattle.sock_model.specs.Layout.{tag_word, ref_word}
 use Rattle.sock_model.specs.SlotRows.{claimed, gave_birth, added, back, subbed, failed, recycled, freed, looked}
 use Rattle.sock_model.specs.Lawful.{Lawful}

@@ -23,6 +23,10 @@ with_claim v c = record v { claims = c ∷ [] }
 abbrev pub fresh_claim : (k r found : ℕ) → Heading → List ℕ → Claim
 fresh_claim k r found heading bytes = record { link = k; request = r; generation = found / 2; filled = false; ready = false; heading = heading; bytes = bytes }
 
+-- the message is at home
+abbrev pub filled_claim : Claim → Heading → List ℕ → Claim
+filled_claim c heading bytes = record c { filled = true; heading = heading; bytes = bytes }
+
 -- its next word is marked as not connected
 abbrev pub ready_claim : Claim → Claim
 ready_claim c = record c { ready = true }

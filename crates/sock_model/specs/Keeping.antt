@@ -1,5 +1,5 @@
 -- What is asked of a step on one word: that the rule of the sockets holds after it, whatever the state was before.
-use Rattle.std.specs.Prelude.{◌≡◌, ℕ, List, [], slice_index}
+use Rattle.std.specs.Prelude.{◌≡◌, ℕ, [], slice_index}
 use mathlib.Core.Option.{some}
 use lib.ListN.{get_elem?}
 use Rattle.atomic_table.specs.Table.{State, stepped, keeps}
