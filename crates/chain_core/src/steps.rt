@@ -1,4 +1,4 @@
-ghost use Rattle.std.specs.Prelude.{◌≡◌, ◌≢◌, ℕ, ◌+◌, ◌*◌, ◌%◌, ◌<◌, ◌≤◌, ◌↔◌, IsTrue, List, true, false, bit_or};
+ghost use Rattle.std.specs.Prelude.{◌≡◌, ◌≢◌, ℕ, ◌+◌, ◌*◌, ◌%◌, ◌<◌, ◌≤◌, List, true, false, bit_or};
 ghost use Rattle.sock_model.specs.declared.chain.Heading.{Heading};
 ghost use Rattle.sock_model.specs.Layout.{head_word, next_word, request_word};
 ghost use Rattle.sock_model.specs.ChainRows.{with_claim, fresh_claim, ready_claim, queued, without_loose, with_right, without_right, walking_right, passing_right, reading_right, turned_right, freed_right};
