@@ -1,0 +1,13 @@
+use Rattle.std.proofs.Common.{◌≡◌, ℕ, ◌++◌, List, length, Ok}
+use Rattle.frame_print.specs.Written.{Writes}
+use Rattle.frame_print.proofs.output.write_all.Given as goal
+
+abbrev pub invariant-loop-rest : goal.invariant-loop-rest
+invariant-loop-rest g l = record {
+  written : List ℕ;
+  split : written ++ l.rest ≡ l.text;
+  wrote : Writes (g.K.Sink.contents l.initial.out) (g.K.Sink.contents l.out) (g.K.Sink.faults l.initial.out) (g.K.Sink.faults l.out) written (Ok tt);
+}
+
+abbrev pub decreases-loop-rest : goal.decreases-loop-rest
+decreases-loop-rest g l = length l.rest
