@@ -10,7 +10,8 @@ use Rattle.brpc_model.specs.Stream.{Stream, Rest, Fault, stream, stream_from}
 use Rattle.brpc_model.specs.FramesText.{frame_line, ending_line}
 use Rattle.sock_io.specs.Causes.{Rose}
 use Rattle.sock_io.specs.declared.stream.Failed.{Failed}
-use Rattle.frame_print.specs.Written.{TookFront, Writes}
+use Rattle.frame_print.specs.Written.{Writes}
+use Rattle.sock_io.specs.Writing.{WrotePart}
 use Rattle.frame_print.specs.declared.print.StreamEnd.{StreamEnd}
 use Rattle.frame_print.specs.declared.print.StreamEnd.TheVariants as end_
 use Rattle.frame_print.specs.declared.print.PrintFault.{PrintFault}
@@ -43,10 +44,10 @@ ends_rest e bytes held p few end x waiting w = record {
 }
 
 pub ends_unwritten : (e : Edges) (bytes held : List ℕ) (p : Option (List ℕ)) (faults : ℕ) → length bytes ≤ frames_limit → IsAtEnd e.left → CutPrinted bytes e.before held p → judged held ≡ NoneYet →
-    TookFront p e.now (ending_line (Rest (length held))) → faults ≡ e.write_faults → Rose faults e.write_faults_now → SinkFailed e bytes
+    WrotePart p e.now (ending_line (Rest (length held))) → faults ≡ e.write_faults → Rose faults e.write_faults_now → SinkFailed e bytes
 ends_unwritten e bytes held p faults few end x waiting w kept rose = record {
   few = few;
-  wrote = let P : Stream → Type 0 = λ s. TookFront e.before e.now (text_of s) in
+  wrote = let P : Stream → Type 0 = λ s. WrotePart e.before e.now (text_of s) in
       inr (
         end,
         is_rest bytes held x.frames x.cut waiting,
@@ -58,7 +59,7 @@ ends_unwritten e bytes held p faults few end x waiting w kept rose = record {
 }
 
 fault_written : (e : Edges) (p : Option (List ℕ)) (faults : ℕ) (s : Stream) (r : Result (Unit {0}) Failed) → Appends e.before p (lines_of s) → faults ≡ e.write_faults →
-    Writes p e.now faults e.write_faults_now (ending_line s.ending) r → Appends e.before e.now (text_of s) ⊎ (TookFront e.before e.now (text_of s) × Rose e.write_faults e.write_faults_now)
+    Writes p e.now faults e.write_faults_now (ending_line s.ending) r → Appends e.before e.now (text_of s) ⊎ (WrotePart e.before e.now (text_of s) × Rose e.write_faults e.write_faults_now)
 fault_written e p faults s (Ok done) w kept f = inl (Appends-append e.before p e.now (lines_of s) (ending_line s.ending) w f.whole)
 fault_written e p faults s (Err fault) w kept f = inr (front_behind e.before p e.now (lines_of s) (ending_line s.ending) w f.front, rose_from e.write_faults faults e.write_faults_now kept f.failed)
 
@@ -69,7 +70,7 @@ ends_fault e bytes held p faults start f r few x fault begins kept w =
     let P : ℕ → Type 0 = λ n. Writes p e.now faults e.write_faults_now (ending_line (Fault n f)) r in
     let is = stream_fault bytes held x.frames x.cut f fault in
     let Q : Stream → Type 0 = λ s. IsFaulty s.ending in
-    let R : Stream → Type 0 = λ s. Appends e.before e.now (text_of s) ⊎ (TookFront e.before e.now (text_of s) × Rose e.write_faults e.write_faults_now) in
+    let R : Stream → Type 0 = λ s. Appends e.before e.now (text_of s) ⊎ (WrotePart e.before e.now (text_of s) × Rose e.write_faults e.write_faults_now) in
     record {
       few = few;
       ending = subst Q (sym is) tt;
@@ -130,8 +131,8 @@ ends_stopped e bytes held new p faults few x kept y =
     let fs = x.frames ++ y.frames in
     let cut : Cut bytes fs new = cut_more bytes held new x.frames y.frames x.cut y.cut in
     let more = stream_from cut.size new in
-    let P : List ℕ → Type 0 = λ l. TookFront e.before e.now l in
-    let front : TookFront e.before e.now (flat_map frame_line fs) =
+    let P : List ℕ → Type 0 = λ l. WrotePart e.before e.now l in
+    let front : WrotePart e.before e.now (flat_map frame_line fs) =
     subst P (sym (flat_map-append frame_line x.frames y.frames)) (front_behind e.before p e.now (flat_map frame_line x.frames) (flat_map frame_line y.frames) x.wrote y.front)
     in
     let all : frame_lines bytes ≡ flat_map frame_line fs ++ flat_map frame_line more.frames =

@@ -14,7 +14,8 @@ use Rattle.prpc_frame.specs.Leads.{Leads}
 use Rattle.prpc_frame.specs.Meaning.{frame_of, IsFault}
 use Rattle.prpc_frame.specs.declared.frame.Frame as code
 use Rattle.prpc_frame.specs.declared.fault.FrameFault.{FrameFault}
-use Rattle.frame_print.specs.Written.{TookFront, Writes}
+use Rattle.frame_print.specs.Written.{Writes}
+use Rattle.sock_io.specs.Writing.{WrotePart}
 use Rattle.frame_print.specs.Cutting.{CutPrinted, CutStopped, CutsWhole}
 use Rattle.frame_print.proofs.Writing.{front_behind, rose_from}
 use Rattle.frame_print.proofs.Cuts.{cut_one, cut_more, printed_one, printed_fed}
@@ -77,7 +78,7 @@ ok_wrote : (a b : Option (List ℕ)) (x y : ℕ) (t : List ℕ) (r : Result (Uni
 ok_wrote a b x y t (Ok u) e w = (w.whole, w.kept)
 ok_wrote a b x y t (Err f) e w = absurd (cc)
 
-err_wrote : (a b : Option (List ℕ)) (x y : ℕ) (t : List ℕ) (r : Result (Unit {0}) Failed) → is_err r ≡ true → Writes a b x y t r → TookFront a b t × Rose x y
+err_wrote : (a b : Option (List ℕ)) (x y : ℕ) (t : List ℕ) (r : Result (Unit {0}) Failed) → is_err r ≡ true → Writes a b x y t r → WrotePart a b t × Rose x y
 err_wrote a b x y t (Ok u) e w = absurd (cc)
 err_wrote a b x y t (Err f) e w = (w.front, w.failed)
 
@@ -94,7 +95,7 @@ pub stopped_next : (old held new : List ℕ) (o p q : Option (List ℕ)) (x y z 
     ((at : ℕ) (more : List ℕ) → Leads at more held (Ok there) new) → is_err r ≡ true → Writes p q y z (frame_line (frame_of f)) r → CutStopped old o new q x z
 stopped_next old held new o p q x y z f there r printed kept is leads err w =
     let P : Option code.Frame → Type 0 = λ t. (at : ℕ) (more : List ℕ) → Leads at more held (Ok t) new in
-    let Q : List ℕ → Type 0 = λ l. TookFront o q l in
+    let Q : List ℕ → Type 0 = λ l. WrotePart o q l in
     let wrote = err_wrote p q y z (frame_line (frame_of f)) r err w in
     let lines : flat_map frame_line (printed.frames ++ frame_of f ∷ []) ≡ flat_map frame_line printed.frames ++ frame_line (frame_of f) =
     flat_map-append frame_line printed.frames (frame_of f ∷ []) ∙ ap (λ l. flat_map frame_line printed.frames ++ l) (append-nil (frame_line (frame_of f)))

@@ -4,7 +4,8 @@ use Rattle.std.specs.Io.KnownBytes.{Appends, Keeps}
 use Rattle.std.proofs.lemmas.List.{take-append-drop}
 use Rattle.sock_io.specs.Causes.{Rose}
 use Rattle.sock_io.specs.declared.stream.Failed.{Failed}
-use Rattle.frame_print.specs.Written.{TookFront, Writes}
+use Rattle.frame_print.specs.Written.{Writes}
+use Rattle.sock_io.specs.Writing.{WrotePart}
 
 -- one more piece of a list that is taken from its front
 pub front_grows : (done rest all : List ℕ) (n : ℕ) → done ++ rest ≡ all → (done ++ take n rest) ++ drop n rest ≡ all
@@ -21,12 +22,12 @@ Appends-append (Some xs) (Some ys) None a b e f = absurd f
 Appends-append (Some xs) (Some ys) (Some zs) a b e f = f ∙ ap (λ x. x ++ b) e ∙ append_assoc xs a b
 
 -- a beginning of what comes second
-pub front_behind : (o p q : Option (List ℕ)) (s t : List ℕ) → Appends o p s → TookFront p q t → TookFront o q (s ++ t)
+pub front_behind : (o p q : Option (List ℕ)) (s t : List ℕ) → Appends o p s → WrotePart p q t → WrotePart o q (s ++ t)
 front_behind o p q s t whole front =
     (s ++ front.0, front.1, append_assoc s front.0 front.1 ∙ ap (λ x. s ++ x) front.2, Appends-append o p q s front.0 whole front.3)
 
 -- a beginning of what comes first
-pub front_before : (o p : Option (List ℕ)) (s t : List ℕ) → TookFront o p s → TookFront o p (s ++ t)
+pub front_before : (o p : Option (List ℕ)) (s t : List ℕ) → WrotePart o p s → WrotePart o p (s ++ t)
 front_before o p s t front = (front.0, front.1 ++ t, sym (append_assoc front.0 front.1 t) ∙ ap (λ x. x ++ t) front.2, front.3)
 
 pub rose_from : (x y z : ℕ) → y ≡ x → Rose y z → Rose x z

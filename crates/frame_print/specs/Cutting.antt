@@ -7,7 +7,7 @@ use Rattle.brpc_model.specs.FramesText.{frame_line, ending_line}
 use Rattle.sock_io.specs.Causes.{Rose}
 use Rattle.prpc_frame.specs.Meaning.{IsFault}
 use Rattle.prpc_frame.specs.declared.fault.FrameFault.{FrameFault}
-use Rattle.frame_print.specs.Written.{TookFront}
+use Rattle.sock_io.specs.Writing.{WrotePart}
 use Rattle.frame_print.specs.declared.print.StreamEnd.{StreamEnd}
 use Rattle.frame_print.specs.declared.print.StreamEnd.TheVariants as end_
 use Rattle.frame_print.specs.declared.print.PrintFault.{PrintFault}
@@ -34,7 +34,7 @@ pub record CutPrinted (old : List ℕ) (before : Option (List ℕ)) (new : List 
 pub record CutStopped (old : List ℕ) (before : Option (List ℕ)) (new : List ℕ) (now : Option (List ℕ)) (faults faults_now : ℕ) : Type 0 where
   pub frames : List Frame
   pub cut : Cut old frames new
-  pub front : TookFront before now (flat_map frame_line frames)
+  pub front : WrotePart before now (flat_map frame_line frames)
   pub rose : Rose faults faults_now
 
 -- the frames that are whole were printed; then no frame is whole, or there is a fault, or printing stopped
@@ -49,5 +49,5 @@ CutsWhole old before faults new now faults_now (Err other) = ⊥
 abbrev pub RestPrinted : Option (List ℕ) → Option (List ℕ) → ℕ → ℕ → ℕ → Result StreamEnd PrintFault → Type 0
 RestPrinted before now faults faults_now len (Ok end_.Rest) = Appends before now (ending_line (Rest len))
 RestPrinted before now faults faults_now len (Ok end_.Fault) = ⊥
-RestPrinted before now faults faults_now len (Err fault_.Sink) = TookFront before now (ending_line (Rest len)) × Rose faults faults_now
+RestPrinted before now faults faults_now len (Err fault_.Sink) = WrotePart before now (ending_line (Rest len)) × Rose faults faults_now
 RestPrinted before now faults faults_now len (Err other) = ⊥

@@ -4,7 +4,7 @@ use Rattle.std.specs.Io.KnownBytes.{Appends, Consumes, IsAtEnd}
 use Rattle.brpc_model.specs.Stream.{Ending, Rest, Fault, stream}
 use Rattle.brpc_model.specs.FramesText.{frame_line, frames_text}
 use Rattle.sock_io.specs.Causes.{Rose}
-use Rattle.frame_print.specs.Written.{TookFront}
+use Rattle.sock_io.specs.Writing.{WrotePart}
 use Rattle.frame_print.specs.declared.print.StreamEnd.{StreamEnd}
 use Rattle.frame_print.specs.declared.print.StreamEnd.TheVariants as end_
 use Rattle.frame_print.specs.declared.print.PrintFault.{PrintFault}
@@ -35,7 +35,7 @@ WroteAll edges text = Appends edges.before edges.now text
 
 -- a beginning of the text, since the sink failed
 abbrev pub WroteSome : Edges → List ℕ → Type 0
-WroteSome edges text = TookFront edges.before edges.now text × Rose edges.write_faults edges.write_faults_now
+WroteSome edges text = WrotePart edges.before edges.now text × Rose edges.write_faults edges.write_faults_now
 
 -- ## The stream of the bytes that came
 

@@ -2,15 +2,12 @@
 use Rattle.std.specs.Prelude.{◌≡◌, ℕ, List, ◌++◌, Option, Result, OnOk, OnErr}
 use Rattle.std.specs.Io.KnownBytes.{Appends}
 use Rattle.sock_io.specs.Causes.{Rose}
+use Rattle.sock_io.specs.Writing.{WrotePart}
 use Rattle.sock_io.specs.declared.stream.Failed.{Failed}
-
--- a beginning of the text was taken
-abbrev pub TookFront : Option (List ℕ) → Option (List ℕ) → List ℕ → Type 0
-TookFront before after text = (front rest : List ℕ) × (front ++ rest ≡ text) × Appends before after front
 
 -- the sink took the text whole; or it failed, by its count, behind a beginning of it
 pub record Writes (before after : Option (List ℕ)) (faults faults_now : ℕ) (text : List ℕ) (result : Result (Unit {0}) Failed) : Type 0 where
   pub whole : OnOk result (Appends before after text)
   pub kept : OnOk result (faults_now ≡ faults)
-  pub front : OnErr result (TookFront before after text)
+  pub front : OnErr result (WrotePart before after text)
   pub failed : OnErr result (Rose faults faults_now)

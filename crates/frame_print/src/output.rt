@@ -15,10 +15,5 @@ pub fn from_place(bytes: &[u8], at: usize) -> &[u8]
 pub fn write_all<K: Sink>(out: &mut K, text: &[u8]) -> Result<(), Failed>
     ensures { Writes (K.contents out.old) (K.contents out.new) (K.faults out.old) (K.faults out.new) text.now result }
 {
-    let mut rest = text;
-    while !rest.is_empty() {
-        let count = out.write(rest)?;
-        rest = from_place(rest, count);
-    }
-    Ok(())
+    sock_io::write_all(out, text)
 }
