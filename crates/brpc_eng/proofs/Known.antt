@@ -1,25 +1,15 @@
 -- Known bytes that grow piece by piece.
 use Rattle.std.proofs.Common.{◌≡◌, ℕ, ◌≤◌, ◌+◌, List, ◌++◌, length, take, drop, Option, Some, None, refl, ap, sym, ◌∙◌, append_assoc, Result, Ok, Err, IfOk, OnOk, IfSome, ◌<◌, arith, length-append, length-take, length-drop}
-use Rattle.std.specs.Io.KnownBytes.{append_known, Appends, Consumes}
+use Rattle.std.specs.Io.KnownBytes.{append_known, Consumes}
 use Rattle.std.proofs.Math.Seq.{take-add}
-use Rattle.std.proofs.lemmas.List.{take-append-drop, take-take}
+use Rattle.std.proofs.lemmas.List.{take-take}
 
 pub append_known-append : (o : Option (List ℕ)) (a b : List ℕ) → append_known (append_known o a) b ≡ append_known o (a ++ b)
 append_known-append None a b = refl
 append_known-append (Some xs) a b = ap Some (append_assoc xs a b)
 
--- one more piece of a list that is taken from its front
-pub front_grows : (done rest all : List ℕ) (n : ℕ) → done ++ rest ≡ all → (done ++ take n rest) ++ drop n rest ≡ all
-front_grows done rest all n e = append_assoc done (take n rest) (drop n rest) ∙ ap (λ x. done ++ x) (take-append-drop n rest) ∙ e
-
 pub took_grows : (o p q : Option (List ℕ)) (done piece : List ℕ) → p ≡ append_known o done → q ≡ append_known p piece → q ≡ append_known o (done ++ piece)
 took_grows o p q done piece e f = f ∙ ap (λ x. append_known x piece) e ∙ append_known-append o done piece
-
-pub Appends-append : (o p q : Option (List ℕ)) (a b : List ℕ) → Appends o p a → Appends p q b → Appends o q (a ++ b)
-Appends-append None p q a b e f = tt
-Appends-append (Some xs) None q a b e f = absurd e
-Appends-append (Some xs) (Some ys) None a b e f = absurd f
-Appends-append (Some xs) (Some ys) (Some zs) a b e f = f ∙ ap (λ x. x ++ b) e ∙ append_assoc xs a b
 
 pub Consumes-append : (o p q : Option (List ℕ)) (a b : List ℕ) → Consumes o p a → Consumes p q b → Consumes o q (a ++ b)
 Consumes-append None p q a b e f = tt

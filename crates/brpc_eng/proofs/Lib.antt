@@ -8,7 +8,6 @@ pub mod Texts
 pub mod Unlinked
 pub mod ScriptLemmas
 pub mod Reports
-pub mod NumberLemmas
 pub mod Replays
 pub mod Exactly
 pub mod GeneratedLemmas

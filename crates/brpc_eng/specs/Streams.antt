@@ -1,6 +1,6 @@
--- What was read from a source, and what was written to a sink.
-use Rattle.std.specs.Prelude.{ℕ, ◌≡◌, ◌≢◌, ◌≤◌, ◌+◌, ◌++◌, List, [], length, Vec, Option, IfSome, IfOk, IsErrOf, Result, Err}
-use Rattle.std.specs.Io.KnownBytes.{Appends, Consumes}
+-- What was read from a source.
+use Rattle.std.specs.Prelude.{ℕ, ◌≡◌, ◌≢◌, ◌≤◌, ◌+◌, List, [], length, Vec, Option, IfSome, IfOk, IsErrOf, Result, Err}
+use Rattle.std.specs.Io.KnownBytes.{Consumes}
 use Rattle.std.specs.declared.alloc.Global.{Global}
 use Rattle.brpc_eng.specs.declared.streams.InputFault.{InputFault}
 use Rattle.brpc_eng.specs.declared.streams.InputFault.TheVariants as fault
@@ -21,7 +21,3 @@ pub record ReadWhole (before after : Option (List ℕ)) (bytes : List ℕ) (resu
   pub too_long : IsErrOf result fault.TooLong → length bytes ≡ script_limit + 1
   pub within : result ≢ Err fault.TooLong → result ≢ Err fault.NoMemory → length bytes ≤ script_limit
   pub most : length bytes ≤ script_limit + 1
-
--- a beginning of the text was written
-abbrev pub WrotePart : Option (List ℕ) → Option (List ℕ) → List ℕ → Type 0
-WrotePart before after text = (part : List ℕ) × (rest : List ℕ) × (part ++ rest ≡ text) × Appends before after part

@@ -1,12 +1,10 @@
-ghost use Rattle.std.specs.Prelude.{◌≡◌, ◌∷◌, [], ◌==◌, ◌&&◌, ◌||◌, not, nat_le, ◌<◌, ◌≤◌, length, slice_index, map, string_bytes, option_map, IfSome, IfNone, Some, None, if◌then◌else◌, ℕ};
-ghost use Rattle.std.specs.List.{list_all};
-ghost use Rattle.std.specs.Char.{is_ascii_digit};
-ghost use Rattle.brpc_model.specs.Text.{is_numeral};
-ghost use Rattle.brpc_model.specs.Commands.{command_of, number, sim_of, run_of, drawn_of, serve_of};
+ghost use Rattle.std.specs.Prelude.{◌≡◌, ◌∷◌, [], ◌≤◌, map, string_bytes, option_map, IfSome, IfNone, ℕ};
+ghost use Rattle.brpc_model.specs.Commands.{command_of, sim_of, run_of, drawn_of, serve_of};
 ghost use Rattle.brpc_model.specs.Commands as model;
 ghost use Rattle.brpc_eng.specs.Command.{meaning};
 
 use crate::draw::Draw;
+use script_items::number;
 
 /// What the words of the command line ask for.
 #[derive(Clone, Copy, Debug, PartialEq, Eq)]
@@ -25,54 +23,6 @@ pub enum Command {
     Frames,
     /// `serve PORT N`: so many connections are served.
     Serve { port: u32, connections: u32 },
-}
-
-/// Whether each byte is a digit.
-fn has_digits(word: &[u8]) -> bool
-    ensures { result ≡ list_all is_ascii_digit word.now }
-{
-    word.iter().all(|b| b.is_ascii_digit())
-}
-
-/// Whether the first digit of several is 0.
-fn has_leading_zero(word: &[u8]) -> bool
-    requires { 0 < length word.now }
-    ensures { not result ≡ (length word.now == 1 || not (slice_index word.now 0 == 48)) }
-{
-    word.len() != 1 && word[0] == b'0'
-}
-
-/// Whether a word is decimal digits without a leading zero.
-fn is_numeral(word: &[u8]) -> bool
-    ensures { result ≡ is_numeral word.now }
-{
-    !word.is_empty() && has_digits(word) && !has_leading_zero(word)
-}
-
-/// The number, where it is in the range.
-fn in_range(value: u32, low: u32, high: u32) -> Option<u32>
-    ensures number { result ≡ (if nat_le low value && nat_le value high then Some value else None) }
-    ensures range { IfSome result (λ n. (low ≤ n) × (n ≤ high)) }
-{
-    if low <= value && value <= high {
-        Some(value)
-    } else {
-        None
-    }
-}
-
-/// The number of this range that a word spells, in decimal without leading zeros.
-fn number(word: &str, low: u32, high: u32) -> Option<u32>
-    ensures number { result ≡ number low high word.now }
-    ensures range { IfSome result (λ n. (low ≤ n) × (n ≤ high)) }
-{
-    if !is_numeral(word.as_bytes()) {
-        return None;
-    }
-    match word.parse::<u32>() {
-        Ok(value) => in_range(value, low, high),
-        Err(_) => None,
-    }
 }
 
 /// The first word, and those behind it.
@@ -104,7 +54,7 @@ fn sim(words: &[String]) -> Option<Command>
     if first_of(more).is_some() {
         return None;
     }
-    let seed = number(seed, 0, u32::MAX)?;
+    let seed = number(seed.as_bytes(), 0, u32::MAX)?;
     Some(Command::Sim(seed))
 }
 
@@ -118,7 +68,7 @@ fn run(words: &[String]) -> Option<Command>
     if first_of(more).is_some() {
         return None;
     }
-    let port = number(port, 1, 65_535)?;
+    let port = number(port.as_bytes(), 1, 65_535)?;
     Some(Command::Run(Some(port)))
 }
 
@@ -132,9 +82,9 @@ fn read_draw(words: &[String]) -> Option<Draw>
     if first_of(more).is_some() {
         return None;
     }
-    let seed = number(seed, 0, u32::MAX)?;
-    let clients = number(clients, 1, 31)?;
-    let operations = number(operations, 1, 4_092)?;
+    let seed = number(seed.as_bytes(), 0, u32::MAX)?;
+    let clients = number(clients.as_bytes(), 1, 31)?;
+    let operations = number(operations.as_bytes(), 1, 4_092)?;
     within_all(seed, clients, operations)
 }
 
@@ -166,8 +116,8 @@ fn serve(words: &[String]) -> Option<Command>
     if first_of(more).is_some() {
         return None;
     }
-    let port = number(port, 1, 65_535)?;
-    let connections = number(connections, 1, 31)?;
+    let port = number(port.as_bytes(), 1, 65_535)?;
+    let connections = number(connections.as_bytes(), 1, 31)?;
     Some(Command::Serve { port, connections })
 }
 

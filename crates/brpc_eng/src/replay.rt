@@ -5,9 +5,9 @@ ghost use Rattle.brpc_eng.specs.Answers.{Wrote, FaultWritten, ReplayedInput};
 use crate::built::is_built;
 use crate::run::run_script;
 use crate::status::Status;
-use crate::streams::{InputFault, read_all, write_all};
+use crate::streams::{InputFault, read_all};
 use script_lang::{ScriptError, read_script};
-use sock_io::{Linker, Sink, Source};
+use sock_io::{Linker, Sink, Source, write_all};
 use std::alloc::Global;
 
 pub const NOT_BUILT: &[u8] = b"not built\n";

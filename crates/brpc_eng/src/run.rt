@@ -12,9 +12,8 @@ use crate::built::opening;
 use crate::report::{linked_report, unlinked_report};
 use crate::sends::{run_sends, run_unopened};
 use crate::status::Status;
-use crate::streams::write_all;
 use script_items::{Line, OpenLine};
-use sock_io::{Failed, LinkSpec, Linker, Mode, NoMemory, OpenFault, Out, Sink};
+use sock_io::{Failed, LinkSpec, Linker, Mode, NoMemory, OpenFault, Out, Sink, write_all};
 use std::alloc::Global;
 
 /// Runs a script that is built, and writes its report.

@@ -1,10 +1,9 @@
 ghost use Rattle.std.specs.Prelude.{◌≡◌, ℕ, ◌<◌, ◌≤◌, ◌++◌, List, length, vec_len, IfOk, IsErrOf, OnErr, OnOk};
-ghost use Rattle.std.specs.Io.KnownBytes.{Appends, Consumes};
+ghost use Rattle.std.specs.Io.KnownBytes.{Consumes};
 ghost use Rattle.sock_io.specs.Causes.{Rose};
-ghost use Rattle.brpc_eng.specs.Streams.{ReadWhole, WrotePart};
+ghost use Rattle.brpc_eng.specs.Streams.{ReadWhole};
 
-use crate::bytes::from_place;
-use sock_io::{Failed, Sink, Source};
+use sock_io::{Failed, Source};
 use std::alloc::Global;
 
 /// The bytes of a script are at most so many.
@@ -40,18 +39,4 @@ pub fn read_all<S: Source>(alloc: Global, source: &mut S) -> Result<Vec<u8>, Inp
         }
     }
     Err(InputFault::TooLong)
-}
-
-/// Writes a text whole.
-pub fn write_all<K: Sink>(out: &mut K, text: &[u8]) -> Result<(), Failed>
-    ensures whole { OnOk result (Appends (K.contents out.old) (K.contents out.new) text.now) }
-    ensures part { OnErr result (WrotePart (K.contents out.old) (K.contents out.new) text.now) }
-    ensures failed { OnErr result (Rose (K.faults out.old) (K.faults out.new)) }
-{
-    let mut rest = text;
-    while !rest.is_empty() {
-        let count = out.write(rest)?;
-        rest = from_place(rest, count);
-    }
-    Ok(())
 }

@@ -18,6 +18,7 @@ pub use bytes::{Bytes, Name};
 pub use fault::LineFault;
 pub use line::{CallLine, Line, OpenLine, Seat, SendLine, Shape, Target};
 pub use names::Names;
+pub use numbers::number;
 pub use read::read_line;
 pub use script::Script;
 

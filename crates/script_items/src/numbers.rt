@@ -2,6 +2,7 @@ ghost use Rattle.std.specs.Prelude.{◌≡◌, ◌≤◌, ◌<◌, ◌==◌, ◌
 ghost use Rattle.std.specs.List.{list_all};
 ghost use Rattle.std.specs.Char.{is_ascii_digit, digit_value};
 ghost use Rattle.std.specs.Str.Parse.{digits_value};
+ghost use Rattle.brpc_model.specs.Commands.{number};
 ghost use Rattle.brpc_model.specs.Text.{is_numeral, number_in};
 ghost use Rattle.script_items.specs.Answers.{Answers};
 
@@ -52,24 +53,39 @@ fn with_digit(value: u64, digit: u8) -> Option<u64>
 }
 
 /// The number of 64 bits that a word spells, in decimal without leading zeros.
-pub fn read_wide(word: &[u8]) -> Result<u64, LineFault>
-    ensures { Answers (λ n. n) result (number_in 0 18446744073709551615 word.now) }
+fn wide_number(word: &[u8]) -> Option<u64>
+    ensures { result ≡ number 0 18446744073709551615 word.now }
 {
     if !is_numeral(word) {
-        return Err(BAD_NUMBER);
+        return None;
     }
-    digits_value(word).ok_or(BAD_NUMBER)
+    digits_value(word)
 }
 
 /// The number from `low` to `high` that a word spells, in decimal without leading zeros.
+pub fn number(word: &[u8], low: u32, high: u32) -> Option<u32>
+    ensures number { result ≡ number low high word.now }
+    ensures range { IfSome result (λ n. (low ≤ n) × (n ≤ high)) }
+{
+    let value = wide_number(word)?;
+    if u64::from(low) <= value && value <= u64::from(high) {
+        Some(value as u32)
+    } else {
+        None
+    }
+}
+
+/// The same as a part of a line: the number of 64 bits, or a fault.
+pub fn read_wide(word: &[u8]) -> Result<u64, LineFault>
+    ensures { Answers (λ n. n) result (number_in 0 18446744073709551615 word.now) }
+{
+    wide_number(word).ok_or(BAD_NUMBER)
+}
+
+/// The same as a part of a line: the number from `low` to `high`, or a fault.
 pub fn read_number(word: &[u8], low: u32, high: u32) -> Result<u32, LineFault>
     ensures number { Answers (λ n. n) result (number_in low high word.now) }
     ensures range { IfOk result (λ n. (low ≤ n) × (n ≤ high)) }
 {
-    let value = read_wide(word)?;
-    if u64::from(low) <= value && value <= u64::from(high) {
-        Ok(value as u32)
-    } else {
-        Err(BAD_NUMBER)
-    }
+    number(word, low, high).ok_or(BAD_NUMBER)
 }

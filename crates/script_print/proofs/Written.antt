@@ -1,23 +1,11 @@
--- A text that is written piece by piece, and the text of a schedule.
-use Rattle.std.proofs.Common.{◌≡◌, ℕ, Bool, true, false, ◌||◌, List, [], ◌∷◌, ◌++◌, take, drop, filter, codes, Option, Some, None, refl, ap, sym, ◌∙◌, append_assoc, append-nil}
-use Rattle.std.specs.Io.KnownBytes.{Appends}
+-- The text of a schedule.
+use Rattle.std.proofs.Common.{◌≡◌, ℕ, Bool, true, false, ◌||◌, List, [], ◌∷◌, ◌++◌, filter, codes, refl, ap, sym, ◌∙◌, append_assoc, append-nil}
 use Rattle.std.specs.List.{list_any}
 use Rattle.std.proofs.lemmas.Bool.{cond-true, cond-false, false≢true, or_parts}
-use Rattle.std.proofs.lemmas.List.{take-append-drop}
 use Rattle.brpc_model.specs.Items.{Item, is_turn}
 use Rattle.brpc_model.specs.ScriptText.{scheduled}
 use Rattle.script_print.specs.PrintedParts.{lines_text, schedule_items}
 use Rattle.script_print.proofs.Frames.{by_test}
-
--- one more piece of a list that is taken from its front
-pub front_grows : (done rest all : List ℕ) (n : ℕ) → done ++ rest ≡ all → (done ++ take n rest) ++ drop n rest ≡ all
-front_grows done rest all n e = append_assoc done (take n rest) (drop n rest) ∙ ap (λ x. done ++ x) (take-append-drop n rest) ∙ e
-
-pub Appends-append : (o p q : Option (List ℕ)) (a b : List ℕ) → Appends o p a → Appends p q b → Appends o q (a ++ b)
-Appends-append None p q a b e f = tt
-Appends-append (Some xs) None q a b e f = absurd e
-Appends-append (Some xs) (Some ys) None a b e f = absurd f
-Appends-append (Some xs) (Some ys) (Some zs) a b e f = f ∙ ap (λ x. x ++ b) e ∙ append_assoc xs a b
 
 -- what a script without a schedule prints of it
 unscheduled : (xs : List Item) → list_any is_turn xs ≡ false → filter is_turn xs ≡ []

@@ -4,7 +4,6 @@
 mod draws;
 mod generator;
 mod lines;
-mod output;
 mod parts;
 mod print;
 mod script_text;

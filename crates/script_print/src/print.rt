@@ -2,13 +2,12 @@ ghost use Rattle.std.specs.Prelude.{◌≡◌, IsErrOf, OnOk};
 ghost use Rattle.std.specs.Io.KnownBytes.{Appends};
 ghost use Rattle.brpc_model.specs.ScriptText.{script_text};
 ghost use Rattle.sock_io.specs.Causes.{Rose};
-ghost use Rattle.script_print.specs.Output.{AppendsFront};
+ghost use Rattle.sock_io.specs.Writing.{WrotePart};
 ghost use Rattle.script_print.specs.ReadBack.{IsScript, IsReadBack};
 
-use crate::output::write_all;
 use crate::script_text::text_of;
 use script_items::Script;
-use sock_io::Sink;
+use sock_io::{Sink, write_all};
 use std::alloc::Global;
 
 /// Why a script wasn't printed whole.
@@ -35,7 +34,7 @@ pub fn print_script<K: Sink>(alloc: Global, script: &Script, out: &mut K) -> Res
     ensures failed { IsErrOf result PrintFault.Sink →
         Rose (K.faults out.old) (K.faults out.new) }
     ensures front { IsErrOf result PrintFault.Sink →
-        AppendsFront (K.contents out.old) (K.contents out.new) (script_text script.now) }
+        WrotePart (K.contents out.old) (K.contents out.new) (script_text script.now) }
     ensures untouched { IsErrOf result PrintFault.NoMemory → out.new ≡ out.old }
     ensures again { IsScript script.now → IsReadBack script.now }
 {

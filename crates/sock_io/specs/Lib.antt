@@ -3,4 +3,6 @@ pub mod Edge
 pub mod Link
 pub mod Linker
 pub mod Memory
+pub mod Peer
 pub mod Shape
+pub mod Writing

@@ -14,6 +14,7 @@ mod std_edge;
 mod stream;
 #[cfg(test)]
 mod tests;
+mod writing;
 
 pub use ending::Ending;
 pub use link::{
@@ -28,3 +29,4 @@ pub use shaped::Shaped;
 pub use sink_linker::SinkLinker;
 pub use std_edge::{StdSink, StdSource};
 pub use stream::{Failed, NoMemory, Sink, Source};
+pub use writing::write_all;

@@ -3,6 +3,7 @@ ghost use Rattle.std.specs.List.{AllByRecursion};
 ghost use Rattle.brpc_model.specs.Link.{LinkEnd};
 ghost use Rattle.sock_io.specs.Causes.{Rose};
 ghost use Rattle.sock_io.specs.Link.{OutState, InState, PutStep, ReadyStep, FinishStep, TakeStep, IsFresh, IsUnused, ConnectionEnd, end_of, connection_of};
+ghost use Rattle.sock_io.specs.Peer.{PeerState, ServeStep, IsNewPeer};
 
 use crate::stream::NoMemory;
 use std::sync::Wait;
@@ -83,20 +84,32 @@ pub trait In: Drop {
         ensures { TakeStep (state self.old) (state self.new) room.new result };
 }
 
-/// What the other end did.
+/// What the other end did. A mark ends a direction: the link's finish comes in; the other end's end, or the closing of
+/// its half, goes out.
 #[derive(Clone, Copy, Debug, PartialEq, Eq)]
 pub enum Served {
     /// A byte or a mark went in or out.
     Moved,
     /// Nothing could be moved now.
     Waiting,
-    /// Nothing will be moved any more.
+    /// Nothing will be moved any more: the other end saw the link's finish, and gave its end or closed its half; or there
+    /// is none.
     Done,
 }
 
-/// The other end of a link inside this process. An end without one answers `Done`.
+/// The other end of a link inside this process. An end without one answers `Done` at every call, and so does one whose
+/// link is served by `Linker::settle`.
+///
+/// It takes the bytes of the link in their order and none behind the finish, and gives bytes in theirs and none behind its
+/// own end. It closes its half only after the link was finished.
 pub trait Peer: Drop {
-    fn serve(&mut self) -> Result<Served, NoMemory>;
+    /// Whether there is an other end to serve, what it took and gave, and the marks that it saw and gave.
+    ghost state: { Self → PeerState };
+
+    /// Moves what can be moved now. An other end that finds no memory gives its end in this call and throws later bytes
+    /// away, so that `NoMemory` comes once at most.
+    fn serve(&mut self) -> Result<Served, NoMemory>
+        ensures { ServeStep (state self.old) result (state self.new) };
 }
 
 /// How links are made.
@@ -174,6 +187,7 @@ pub trait Linker {
         requires piece { 0 < spec.now.piece }
         requires few { opened self.old < 256 }
         ensures fresh { IfOk result (λ ends. IsFresh (Self.O.state ends.out) (Self.I.state ends.inn) (opened self.old)) }
+        ensures peer { IfOk result (λ ends. IsNewPeer (Self.P.state ends.peer)) }
         ensures prompt { IfOk result (λ ends. prompt self.old ≡ true → spec.now.mode ≡ Mode.Loop → (Self.O.state ends.out).prompt ≡ true) }
         ensures opened { IfOk result (λ _. opened self.new ≡ opened self.old + 1) }
         ensures refused { OnErr result (opened self.new ≡ opened self.old) }

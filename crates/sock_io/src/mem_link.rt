@@ -1,6 +1,7 @@
 ghost use Rattle.std.specs.Prelude.{◌≡◌, ℕ, ◌<◌, ◌++◌, [], Some, Ok, None, false, true, OnErr, OnOk, drop, length, take};
 ghost use Rattle.sock_io.specs.Link.{TakeStep};
 ghost use Rattle.sock_io.specs.Memory.{mem_in, empty_in, take_answer, closing};
+ghost use Rattle.sock_io.specs.Peer.{no_peer};
 
 use crate::ending::Ending;
 use crate::link::{In, Out, Peer, Put, Ready, Served, Take};
@@ -157,9 +158,9 @@ impl In for MemIn {
 pub struct NoPeer;
 
 impl Peer for NoPeer {
-    fn serve(&mut self) -> Result<Served, NoMemory>
-        ensures { result ≡ Ok Served.Done }
-    {
+    ghost state = { λ _. no_peer };
+
+    fn serve(&mut self) -> Result<Served, NoMemory> {
         Ok(Served::Done)
     }
 }

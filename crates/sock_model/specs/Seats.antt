@@ -8,6 +8,10 @@ use Rattle.sock_model.specs.declared.view.View.{View}
 abbrev pub newcomer : Plan → List ℕ → ℕ → View
 newcomer p passes more = record { plan = p; marks = []; passes = passes; spare = more; stores = [] ∷ []; claims = []; loose = []; rights = []; hands = []; found = []; lists = [] ∷ [] }
 
+-- a seat that only carries passes until another takes it in: it accepts no message, and so has no list of them
+abbrev pub carrier : Plan → List ℕ → View
+carrier p passes = record { plan = p; marks = []; passes = passes; spare = 0; stores = [] ∷ []; claims = []; loose = []; rights = []; hands = []; found = []; lists = [] }
+
 -- a seat that was taken in
 abbrev pub void : Plan → View
 void p = record { plan = p; marks = []; passes = []; spare = 0; stores = []; claims = []; loose = []; rights = []; hands = []; found = []; lists = [] }
@@ -20,7 +24,7 @@ spent = void no_plan
 
 -- the seat v takes in a seat that has no claim, entry, right or link in hand
 abbrev pub joined : View → View → View
-joined v w = record v { marks = v.marks ++ w.marks; passes = v.passes ++ w.passes; spare = v.spare + w.spare; stores = v.stores ++ w.stores; lists = v.lists ++ w.lists }
+joined v w = record v { marks = v.marks ++ w.marks; passes = v.passes ++ w.passes; spare = v.spare + w.spare; stores = v.stores ++ w.stores; found = v.found ++ w.found; lists = v.lists ++ w.lists }
 
 -- such a seat
 pub record IsBare (v : View) : Type 0 where

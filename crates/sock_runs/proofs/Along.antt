@@ -76,7 +76,7 @@ rests (Do call next) quiet idle = absurd (none-some (kind_of call) (sym idle))
 rests (Say _ _ _) quiet idle = absurd (true≢false quiet)
 rests Rest quiet idle = refl
 
-place_inside : {A : Type 0} (l : List A) (i : ℕ) (a : A) → get_elem? l i ≡ some a → i < length l
+pub place_inside : {A : Type 0} (l : List A) (i : ℕ) (a : A) → get_elem? l i ≡ some a → i < length l
 place_inside [] i a e = absurd (some-ne-none a (sym e))
 place_inside (x ∷ xs) zero a e = omega arith
 place_inside (x ∷ xs) (suc i) a e = omega (arith, place_inside xs i a e)

@@ -1,5 +1,5 @@
 -- Where no seat has anything left to do, a life that was set failed has ended, and each link is at home.
-use Rattle.std.proofs.Common.{◌≡◌, ℕ, suc, ◌+◌, ◌-◌, ◌%◌, ◌<◌, ◌==◌, List, [], ◌∷◌, map, refl, sym, ap, ◌∙◌, subst, ⊎_elim, arith}
+use Rattle.std.proofs.Common.{◌≡◌, ℕ, suc, ◌+◌, ◌-◌, ◌%◌, ◌<◌, ◌≤◌, ◌==◌, List, [], ◌∷◌, map, refl, sym, ap, ◌∙◌, subst, inl, inr, ◌⊎◌, ⊎_elim, arith}
 use Rattle.std.specs.List.{filter}
 use mathlib.Core.Logic.{dite}
 use mathlib.Core.Option.{Option, some, none}
@@ -9,28 +9,42 @@ use Rattle.sock_words.specs.declared.plain.Plan.{Plan}
 use Rattle.sock_model.specs.declared.chain.Right.{Right}
 use Rattle.sock_model.specs.declared.home.Home.{Home}
 use Rattle.sock_model.specs.declared.marks.Mark.{Mark}
+use Rattle.sock_model.specs.declared.marks.Mark.TheVariants.{Claimed, Recycling}
 use Rattle.sock_model.specs.declared.view.View.{View}
-use Rattle.sock_model.specs.Weights.{total, tally, is_ref, is_zero, is_busy, is_failer, is_freer}
+use Rattle.sock_model.specs.Weights.{total, tally, is_ref, is_zero, is_busy, is_claimed, is_recycled, is_born, is_failer, is_freer}
 use Rattle.sock_model.specs.Marks.{about}
 use Rattle.sock_model.specs.SlotRows.{marks_of}
-use Rattle.sock_model.specs.Slots.{count}
+use Rattle.sock_model.specs.Slots.{SlotFacts, SlotLaw, live, count}
 use Rattle.sock_model.specs.Reads.{link_at, rights_on, tokens, carries, hands_of}
 use Rattle.sock_model.specs.References.{slot_facts}
 use Rattle.slot_laws.proofs.Sums.{total_some}
-use Rattle.slot_laws.proofs.Numbers.{life_is, life-in, live-odd}
+use Rattle.sock_steps.proofs.Places.{own_count}
+use Rattle.slot_laws.proofs.Numbers.{only-same, life_is, life-in, life-high, live-odd, live-yes}
 use Rattle.sock_steps.proofs.Maps.{took_some, gather_nil}
 use Rattle.sock_steps.proofs.HandSteps.{link_value}
 use Rattle.sock_programs.specs.Cores.{Core}
 use Rattle.sock_runs.specs.GoesOn.{HasNothing, GoesOn}
-use Rattle.sock_runs.specs.Sound.{state, Sound, AllRest, AllFailed, IsAlive}
+use Rattle.sock_runs.specs.Sound.{state, Sound, AllRest, AllFailed, AllEnded, IsOver, IsAlive}
 use Rattle.sock_runs.proofs.Bounds.{law}
 use Rattle.sock_runs.proofs.HandTicks.{AtHome}
 use Rattle.sock_runs.proofs.Allowed.{view_there}
 
 -- what no seat has is had by none together
-none_has : (f : Mark → ℕ) (i : ℕ) (vs : List View) → ((j : ℕ) (v : View) → get_elem? vs j ≡ some v → marks_of f i v ≡ 0) → tally f (map (λ (v : View). about i v.marks) vs) ≡ 0
+pub none_has : (f : Mark → ℕ) (i : ℕ) (vs : List View) → ((j : ℕ) (v : View) → get_elem? vs j ≡ some v → marks_of f i v ≡ 0) → tally f (map (λ (v : View). about i v.marks) vs) ≡ 0
 none_has f i [] each = refl
 none_has f i (x ∷ xs) each = omega (arith, each 0 x refl, none_has f i xs (λ j v e. each (suc j) v e))
+
+-- who is busy with a slot claimed it or recycled it to some version
+busy_mark : (m : Mark) → (is_busy m ≡ 0) ⊎ ((0 < is_claimed m) ⊎ ((w : ℕ) × (0 < is_recycled w m)))
+busy_mark (Claimed a b) = inr (inl (omega arith))
+busy_mark (Recycling w) = inr (inr (w, omega (arith, only-same w)))
+busy_mark _ = inl refl
+
+busy_is : (ms : List Mark) → 0 < total is_busy ms → (0 < total is_claimed ms) ⊎ ((w : ℕ) × (0 < total (is_recycled w) ms))
+busy_is [] h = absurd (omega arith)
+busy_is (m ∷ ms) h = ⊎_elim
+    (λ none_. ⊎_elim (λ x. inl (omega (arith, x))) (λ x. inr (x.0, omega (arith, x.1))) (busy_is ms (omega (arith, h, none_))))
+    (λ some_. ⊎_elim (λ x. inl (omega (arith, x))) (λ x. inr (x.0, omega (arith, x.1))) some_) (busy_mark m)
 
 module _ (p : Plan) (c : Core) (vs : List View) (sound : Sound p c vs) (rests : AllRest c) where
   pub has_nothing : (j : ℕ) (v : View) → get_elem? vs j ≡ some v → HasNothing v
@@ -67,6 +81,44 @@ module _ (p : Plan) (c : Core) (vs : List View) (sound : Sound p c vs) (rests : 
       by_slot none e = ⊎_elim (λ x. x) (λ some_. absurd (omega (arith, no_hands k))) (sound.lawful.homes.outside k inside e)
       by_slot (some j) e = let a = sound.lawful.homes.idle k j inside e (no_rights k) in took_some (link_at (λ (home : Home). home) p c.homes k) (a.0, a.1) a.2
 
-  -- where every life was failed, none is alive
-  pub none_alive : AllFailed p c vs → (i h : ℕ) → ¬ IsAlive p c vs i h
-  none_alive failed i h alive = let ended = failed_ends i h alive.inside (failed i h alive.inside alive.born) in let open_ = alive.not_ended in omega arith
+  module _ (failed : AllFailed p c vs) where
+    -- where every life was failed, each has ended
+    pub all_ended : AllEnded p c vs
+    all_ended i h inside born = failed_ends i h inside (failed i h inside born)
+
+    -- and none is alive
+    pub none_alive : (i h : ℕ) → ¬ IsAlive p c vs i h
+    none_alive i h alive = let ended = all_ended i h alive.inside alive.born in let open_ = alive.not_ended in omega arith
+
+    module _ (i : ℕ) (inside : i < p.slots) where
+      abbrev facts : SlotFacts
+      facts = slot_facts (state c vs) i
+
+      l : SlotLaw p.first (live (slot_facts (state c vs) i)) (slot_facts (state c vs) i)
+      l = law p (state c vs) sound.lawful.references i inside
+
+      -- a life that would be the last isn't there
+      no_last : (h : ℕ) → p.first ≤ h → h < facts.version + live facts → facts.version - 1 ≤ h → h % 2 ≡ 0 → ⊥
+      no_last h first below last even = let born : 0 < count (is_born h) (slot_facts (state c vs) i) = omega (arith, l.born h, life-in p.first h (facts.version + live facts) first below even) in
+          omega (arith, all_ended i h inside born, l.ended h, life-high p.first h (facts.version - 1) last)
+
+      is_even : facts.version % 2 ≡ 0
+      is_even = dite (ℕ_discrete (facts.version % 2) 0) (λ e. e) (λ no_. let first = sound.lawful.fits.even in let begun = l.begun in absurd (no_last (facts.version - 1) (omega arith) (omega arith) (omega arith) (omega arith)))
+
+      no_life : live facts ≡ 0
+      no_life = dite (ℕ_discrete (live facts) 0) (λ e. e) (λ some_. absurd (no_last facts.version l.begun (omega arith) (omega arith) is_even))
+
+      -- a slot whose versions aren't used up is claimed and recycled by no seat
+      none_busy : facts.version ≤ 4294967292 → count is_busy (slot_facts (state c vs) i) ≡ 0
+      none_busy low = none_has is_busy i vs (λ j v e. dite (ℕ_discrete (marks_of is_busy i v) 0) (λ q. q) (λ some_. absurd (⊎_elim
+          (λ claims. let none_ = (has_nothing j v e).claims i in omega arith)
+          (λ x. let high = (has_nothing j v e).retired i x.0 x.1 in let is = l.recycled x.0 (omega (arith, x.1, own_count (state c vs) j v e (is_recycled x.0) i)) in omega arith)
+          (busy_is (about i v.marks) (omega arith)))))
+
+      pub is_over : IsOver c.words i
+      is_over = let refs = none_has is_ref i vs (λ j v e. (has_nothing j v e).refs i) in record {
+        unreferred = omega (arith, l.counted, no_life, refs);
+        even = is_even;
+        free = dite (ℕ_discrete facts.tag 0) (λ e. inl e)
+            (λ taken. dite (dec_le facts.version 4294967292) (λ low. let tagged = l.tagged in absurd (omega (arith, no_life, live-yes facts.tag facts.version (count is_busy facts) (omega arith) is_even low (none_busy low)))) (λ high. inr (omega arith)));
+      }

@@ -8,3 +8,11 @@ pub mod Ticks
 pub mod Allowed
 pub mod Along
 pub mod Ends
+pub mod Notes
+pub mod Records
+pub mod Recorded
+pub mod Through
+pub mod Closing
+pub mod Opening
+pub mod Untouched
+pub mod Whole

@@ -132,7 +132,7 @@ homes_sized p _ hand hs = refl
 
 module _ (p : Plan) (c : Core) (vs : List View) (i : ℕ) (sound : Sound p c vs) where
   -- a step of the seat i
-  step_sound : (seat : SeatState) (v : View) (call : Call) (next : ℕ → Program) → get_elem? c.seats i ≡ some seat → get_elem? vs i ≡ some v → GoesOn p v (Do call next) → SoundSeat p seat v
+  pub step_sound : (seat : SeatState) (v : View) (call : Call) (next : ℕ → Program) → get_elem? c.seats i ≡ some seat → get_elem? vs i ≡ some v → GoesOn p v (Do call next) → SoundSeat p seat v
       → Sound p (stepped p i seat call next c) (views_of p i (Do call next) c vs v)
   step_sound seat v call next at_seat at_view goes old = let may = goes.0 in let found : ℕ = found_at c.words (word_of p call) in let hand : Hand = hand_at p c.homes call in let w : View = row p call found hand v in
       let seat' : SeatState = record { program = next_step (next found); hand = hand_after p call c.homes seat.hand } in
@@ -151,23 +151,30 @@ module _ (p : Plan) (c : Core) (vs : List View) (i : ℕ) (sound : Sound p c vs)
             (at_set c.seats i j seat' s' at_s);
       }
 
-  by_program : (seat : SeatState) (v : View) → get_elem? c.seats i ≡ some seat → get_elem? vs i ≡ some v → SoundSeat p seat v → (program : Program) → seat.program ≡ program
-      → Sound p (tick_of p i seat program c) (views_of p i program c vs v)
-  by_program seat v at_seat at_view old (Do call next) e = step_sound seat v call next at_seat at_view (subst (GoesOn p v) e old.goes_on) old
-  by_program seat v at_seat at_view old (Say _ _ _) e = sound
-  by_program seat v at_seat at_view old Rest e = sound
+-- what a step of the seat keeps, its tick keeps
+module _ (p : Plan) (c : Core) (vs : List View) (i : ℕ) (sound : Sound p c vs) (P : Core → List View → Type 0) (before : P c vs)
+    (step : (seat : SeatState) (v : View) (call : Call) (next : ℕ → Program) → get_elem? c.seats i ≡ some seat → get_elem? vs i ≡ some v → seat.program ≡ Do call next → GoesOn p v (Do call next)
+    → P (stepped p i seat call next c) (views_of p i (Do call next) c vs v)) where
+  by_program : (seat : SeatState) (v : View) → get_elem? c.seats i ≡ some seat → get_elem? vs i ≡ some v → (program : Program) → seat.program ≡ program
+      → P (tick_of p i seat program c) (views_of p i program c vs v)
+  by_program seat v at_seat at_view (Do call next) e = step seat v call next at_seat at_view e (subst (GoesOn p v) e (sound.seats i seat v at_seat at_view).goes_on)
+  by_program seat v at_seat at_view (Say _ _ _) e = before
+  by_program seat v at_seat at_view Rest e = before
 
   by_view : (seat : SeatState) → get_elem? c.seats i ≡ some seat → (q : Option View) → get_elem? vs i ≡ q
-      → Sound p (tick_of p i seat seat.program c) (elim q as (λ o. List View) [ none ↦ vs | some v ↦ views_of p i seat.program c vs v ])
+      → P (tick_of p i seat seat.program c) (elim q as (λ o. List View) [ none ↦ vs | some v ↦ views_of p i seat.program c vs v ])
   by_view seat at_seat none e = absurd (beside c.seats vs i seat sound.each at_seat e)
-  by_view seat at_seat (some v) e = by_program seat v at_seat e (sound.seats i seat v at_seat e) seat.program refl
+  by_view seat at_seat (some v) e = by_program seat v at_seat e seat.program refl
 
   by_seat : (q : Option SeatState) → get_elem? c.seats i ≡ q
-      → Sound p (elim q as (λ o. Core) [ none ↦ c | some seat ↦ tick_of p i seat seat.program c ])
+      → P (elim q as (λ o. Core) [ none ↦ c | some seat ↦ tick_of p i seat seat.program c ])
       (elim q as (λ o. List View) [ none ↦ vs | some seat ↦ elim (get_elem? vs i) as (λ o. List View) [ none ↦ vs | some v ↦ views_of p i seat.program c vs v ] ])
-  by_seat none e = sound
+  by_seat none e = before
   by_seat (some seat) e = by_view seat e (get_elem? vs i) refl
+
+  pub tick_keeps : P (ticked p c i) (views_after p c vs i)
+  tick_keeps = by_seat (get_elem? c.seats i) refl
 
 -- a tick of any seat keeps all seats sound
 pub sound_ticks : (p : Plan) (c : Core) (vs : List View) (i : ℕ) → Sound p c vs → Sound p (ticked p c i) (views_after p c vs i)
-sound_ticks p c vs i sound = by_seat p c vs i sound (get_elem? c.seats i) refl
+sound_ticks p c vs i sound = tick_keeps p c vs i sound (Sound p) sound (λ seat v call next at_seat at_view is goes. step_sound p c vs i sound seat v call next at_seat at_view goes (sound.seats i seat v at_seat at_view))

@@ -1,5 +1,6 @@
 -- All seats with their views: the rule holds of them, and each view allows what its seat has still to do.
-use Rattle.std.specs.Prelude.{ℕ, ◌≡◌, ◌+◌, ◌<◌, ◌≤◌, ◌≢◌, ◌%◌, Bool, List, [], ◌∷◌, length, set}
+use Rattle.std.specs.Prelude.{ℕ, ◌≡◌, ◌+◌, ◌<◌, ◌≤◌, ◌≢◌, ◌%◌, ◌⊎◌, Bool, List, [], ◌∷◌, length, set, slice_index}
+use Rattle.std.specs.List.{AllByRecursion}
 use mathlib.Core.Option.{none, some}
 use lib.ListN.{get_elem?}
 use Rattle.atomic_table.specs.Table.{State}
@@ -10,6 +11,7 @@ use Rattle.sock_model.specs.declared.home.Home.TheVariants.{Link}
 use Rattle.sock_model.specs.declared.view.View.{View}
 use Rattle.sock_model.specs.declared.view.Hand.{Hand}
 use Rattle.sock_model.specs.Lawful.{Lawful}
+use Rattle.sock_model.specs.Layout.{tag_word, ref_word}
 use Rattle.sock_model.specs.Slots.{count}
 use Rattle.sock_model.specs.Weights.{is_born, is_failer, is_freer}
 use Rattle.sock_model.specs.References.{slot_facts}
@@ -107,6 +109,25 @@ AllRest c = (i : ℕ) (seat : SeatState) → get_elem? c.seats i ≡ some seat �
 -- every life that was made was set failed
 abbrev pub AllFailed : Plan → Core → List View → Type 0
 AllFailed p c views = (i h : ℕ) → i < p.slots → 0 < count (is_born h) (slot_facts (state c views) i) → 0 < count (is_failer h) (slot_facts (state c views) i)
+
+-- a link that took nothing
+abbrev pub IsUntouched : Home → Type 0
+IsUntouched x = (k : ℕ) × (done : Bool) × (x ≡ Link k [] 0 done)
+
+-- as all are, at home and in hand
+pub record AreUntouched (c : Core) : Type 0 where
+  pub at_home : (i : ℕ) (x : Home) → get_elem? c.homes i ≡ some (some x) → IsUntouched x
+  pub in_hand : (i : ℕ) (seat : SeatState) → get_elem? c.seats i ≡ some seat → AllByRecursion IsUntouched seat.hand
+
+-- every life that was made has ended
+abbrev pub AllEnded : Plan → Core → List View → Type 0
+AllEnded p c views = (i h : ℕ) → i < p.slots → 0 < count (is_born h) (slot_facts (state c views) i) → 0 < count (is_freer h) (slot_facts (state c views) i)
+
+-- nobody refers to the slot, its version is that of no failed life, and it is free unless its versions are used up
+pub record IsOver (words : List ℕ) (i : ℕ) : Type 0 where
+  pub unreferred : vref_nref (slice_index words (ref_word i)) ≡ 0
+  pub even : vref_version (slice_index words (ref_word i)) % 2 ≡ 0
+  pub free : (slice_index words (tag_word i) ≡ 0) ⊎ (LAST_VERSION < vref_version (slice_index words (ref_word i)))
 
 -- the life of version h of slot i was made, and has not ended
 pub record IsAlive (p : Plan) (c : Core) (views : List View) (i h : ℕ) : Type 0 where

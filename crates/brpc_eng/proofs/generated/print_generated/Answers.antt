@@ -2,7 +2,7 @@ use Rattle.std.proofs.Common.{◌∙◌, inl, inr, refl, ap, subst, List}
 use Rattle.brpc_model.specs.Items.{Item}
 use Rattle.brpc_model.specs.Drawn.{generated}
 use Rattle.brpc_model.specs.ScriptText.{script_text}
-use Rattle.brpc_eng.specs.Streams.{WrotePart}
+use Rattle.sock_io.specs.Writing.{WrotePart}
 use Rattle.brpc_eng.proofs.GeneratedLemmas.{is_sink}
 use Rattle.brpc_eng.proofs.generated.print_generated.Goals as goal
 

@@ -1,0 +1,174 @@
+-- Lives that were made and failed, and the tasks that did so.
+use Rattle.std.proofs.Common.{◌≡◌, ℕ, ◌+◌, ◌*◌, ◌%◌, ◌<◌, ◌≤◌, List, [], ◌∷◌, inl, inr, ⊎_elim, cond, eq-eqb, sym, refl, ap, ◌∙◌, subst, arith}
+use Rattle.std.specs.Prelude.{Option, Some, slice_get}
+use Rattle.sock_words.specs.Words.{socket_id, socket_id_version, socket_id_slot, vref_version}
+use Rattle.sock_words.specs.declared.plain.Plan.{Plan}
+use Rattle.sock_words.specs.declared.outcome.Outcome.{Outcome}
+use Rattle.sock_words.specs.declared.outcome.Outcome.TheVariants.{Opened, Failed, Already}
+use Rattle.sock_model.specs.Weights.{is_born, is_failer, is_tried}
+use Rattle.sock_programs.specs.declared.task.Op.TheVariants as ops
+use Rattle.sock_programs.specs.declared.task.Task.{Task}
+use Rattle.sock_programs.specs.Calls.{GiveBirth, AddRef, SetOdd, StoreName, LoadName}
+use Rattle.sock_programs.specs.Told.{AreTasks, IsTask, Made, IsFail}
+use Rattle.sock_causes.specs.Stories.{Entry, Event, In, trace_of, last_name, added_by, marked}
+use Rattle.sock_causes.specs.Explains.{Because, Tells, step}
+use Rattle.sock_causes.specs.Causes.{Asks, Holding, OddAt, Cause, Good}
+use Rattle.sock_causes.proofs.Members.{all_in, in_contains, contains_in, from_trace, to_trace}
+use Rattle.sock_causes.proofs.Events.{event, once, birth_adds, fail_adds, BeforeIn, cause_of, last_some}
+use Rattle.sock_causes.proofs.Final.{Final}
+use Rattle.sock_causes.proofs.Tasks.{one_link}
+
+-- what is known in the end
+pub record World (p : Plan) (clients : List (List Task)) (outcomes : List (Option Outcome)) (es : List Event) : Type 0 where
+  pub are : AreTasks p clients
+  pub few : p.slots ≤ 256
+  pub good : Good p clients es
+  pub final : (c : ℕ) (t : Task) → Asks clients c t → Final p.slots clients es outcomes c t
+  pub born_once : (j : ℕ) → j < p.slots → (h : ℕ) → marked (is_born h) j es ≤ 1
+  pub failed_once : (j : ℕ) → j < p.slots → (h : ℕ) → marked (is_failer h) j es ≤ 1
+  -- a slot that was found taken had a life
+  pub tried_born : (j : ℕ) → j < p.slots → 0 < marked is_tried j es → 0 < marked (is_born p.first) j es
+
+pub one_outcome : (o : Option (Option Outcome)) (x y : Outcome) → o ≡ Some (Some x) → o ≡ Some (Some y) → x ≡ y
+one_outcome o x y e f = cc
+
+module _ (p : Plan) (clients : List (List Task)) (outcomes : List (Option Outcome)) (es : List Event) (world : World p clients outcomes es) where
+  pub task_of : (c : ℕ) (t : Task) → Asks clients c t → IsTask clients outcomes c t
+  task_of c t a = (a.0, a.1, in_contains a.0 t a.2)
+
+  pub asks_of : (c : ℕ) (t : Task) → IsTask clients outcomes c t → Asks clients c t
+  asks_of c t a = (a.0, a.1, contains_in a.0 t a.2)
+
+  before : (e : Event) → In e es → BeforeIn p clients es e
+  before e m = cause_of p clients es world.good e m
+
+  -- a step of a task tells its outcome
+  pub tells_of : (c : ℕ) (t : Task) → (a : Asks clients c t) → (x : Entry) → In x (trace_of c t.number es) → Tells (world.final c t a).outcome x
+  tells_of c t a x m = all_in (Tells (world.final c t a).outcome) (trace_of c t.number es) x (world.final c t a).tells m
+
+  -- an `open` that made a life says so
+  made_of : (c : ℕ) (t : Task) → Asks clients c t → (n k i found : ℕ) → t.op ≡ ops.Open n k → In (step (GiveBirth i k) found) (trace_of c t.number es) → Made clients outcomes n k i (vref_version found)
+  made_of c t a n k i found e m = let f = world.final c t a in let q = tells_of c t a (step (GiveBirth i k) found) m in
+      record { client = c; task = t; is = task_of c t a; op = e; became = f.became ∙ ap (λ (o : Outcome). Some (Some o)) q }
+
+  pub birth_made : (c o i k found : ℕ) → In (event c o (GiveBirth i k) found) es → (n : ℕ) × Made clients outcomes n k i (vref_version found)
+  birth_made c o i k found m = let b = (before (event c o (GiveBirth i k) found) m).cause in let f = b.fits in
+      (f.0, made_of c b.task b.is f.0 k i found f.1 (subst (λ z. In (step (GiveBirth i k) found) (trace_of c z es)) (sym b.numbered) (to_trace es (event c o (GiveBirth i k) found) m)))
+
+  pub birth_means : (c o i k found : ℕ) → In (event c o (GiveBirth i k) found) es → (i < p.slots) × (vref_version found % 2 ≡ 0) × (p.first ≤ vref_version found)
+  birth_means c o i k found m = (before (event c o (GiveBirth i k) found) m).cause.means
+
+  parts_of : (id v i : ℕ) → i < p.slots → id + 1 ≡ socket_id v i + 1 → (i ≡ socket_id_slot id) × (v ≡ socket_id_version id)
+  parts_of id v i l e = let f = world.few in let q : id ≡ v * 4294967296 + i = omega arith in (omega arith, omega arith)
+
+  -- the id under a name is that of a life of the name
+  pub named_life : (c o n id : ℕ) → In (event c o (LoadName n) (id + 1)) es → (k : ℕ) × Made clients outcomes n k (socket_id_slot id) (socket_id_version id)
+  named_life c o n id m = let b = before (event c o (LoadName n) (id + 1)) m in let w : id + 1 ≡ last_name n b.story = b.cause.means in
+      let s = last_some b.story n (λ z. omega arith) in
+      of_store s.0 s.1 s.2 (b.part (event s.0 s.1 (StoreName n (last_name n b.story)) s.2) s.3) w
+    where
+      of_store : {w : ℕ} (c o found : ℕ) → In (event c o (StoreName n w) found) es → id + 1 ≡ w → (k : ℕ) × Made clients outcomes n k (socket_id_slot id) (socket_id_version id)
+      of_store {w} c o found m e = let b = before (event c o (StoreName n w) found) m in let f = b.cause.fits in let k : ℕ = f.0 in let i : ℕ = f.1 in let word : ℕ = f.2 in
+          let birth : In (event c o (GiveBirth i k) word) es = b.part (event c o (GiveBirth i k) word) (from_trace c o b.story (step (GiveBirth i k) word) f.4) in
+          let made = made_of c b.cause.task b.cause.is n k i word f.3 (subst (λ z. In (step (GiveBirth i k) word) (trace_of c z es)) (sym b.cause.numbered) (to_trace es (event c o (GiveBirth i k) word) birth)) in
+          let parts = parts_of id (vref_version word) i (birth_means c o i k word birth).0 (e ∙ f.5) in
+          (k, subst (λ z. Made clients outcomes n k (socket_id_slot id) z) parts.1 (subst (λ z. Made clients outcomes n k z (vref_version word)) parts.0 made))
+
+  -- a life that was made has its step
+  pub made_event : (n k slot version : ℕ) (a : Made clients outcomes n k slot version) → (found x : ℕ) × In (event a.client a.task.number (GiveBirth slot k) found) es × (vref_version found ≡ version)
+      × In (event a.client a.task.number (StoreName n (socket_id version slot + 1)) x) es
+  made_event n k slot version a = let asks = asks_of a.client a.task a.is in let f = world.final a.client a.task asks in
+      let q : f.outcome ≡ Opened slot version k = one_outcome (slice_get outcomes a.task.number) f.outcome (Opened slot version k) f.became a.became in
+      let b : Because p.slots f.before (trace_of a.client a.task.number es) (ops.Open n k) (Opened slot version k) = subst (Because p.slots f.before (trace_of a.client a.task.number es) (ops.Open n k)) q (subst (λ z. Because p.slots f.before (trace_of a.client a.task.number es) z f.outcome) a.op f.because) in
+      (b.1, b.2, from_trace a.client a.task.number es (step (GiveBirth slot k) b.1) b.3, sym b.4, from_trace a.client a.task.number es (step (StoreName n (socket_id version slot + 1)) b.2) b.5)
+
+  -- a life was made once
+  pub one_life : (n m k l slot version : ℕ) (a : Made clients outcomes n k slot version) (b : Made clients outcomes m l slot version) → (a.task.number ≡ b.task.number) × (k ≡ l)
+  one_life n m k l slot version a b = let x = made_event n k slot version a in let y = made_event m l slot version b in
+      let ex : Event = event a.client a.task.number (GiveBirth slot k) x.0 in let ey : Event = event b.client b.task.number (GiveBirth slot l) y.0 in
+      let inside = (birth_means a.client a.task.number slot k x.0 x.2).0 in
+      let same : ex ≡ ey = once (λ (e : Event). added_by (is_born version) slot e) es ex ey (world.born_once slot inside version) x.2 y.2
+      (birth_adds a.client a.task.number slot k x.0 version x.3) (birth_adds b.client b.task.number slot l y.0 version y.3) in
+      let calls : GiveBirth slot k ≡ GiveBirth slot l = ap (λ (e : Event). e.entry.call) same in (ap (λ (e : Event). e.number) same, cc)
+
+  -- ## Lives that were failed
+
+  -- a step that failed a life, for this operation, and the link of the life
+  pub record FailOf (xs : List Event) (f : ℕ × ℕ) : Type 0 where
+    pub client : ℕ
+    pub slot : ℕ
+    pub found : ℕ
+    pub is : In (event client f.0 (SetOdd slot) found) xs
+    pub even : vref_version found % 2 ≡ 0
+    pub name : ℕ
+    pub code : ℕ
+    pub task : Task
+    pub asks : Asks clients client task
+    pub numbered : task.number ≡ f.0
+    pub op : task.op ≡ ops.Fail name code
+    pub life : Made clients outcomes name f.1 slot (vref_version found)
+
+  -- what a step that sets a life failed means, behind the part s of the story
+  pub record OddMeans (s : List Event) (c o i found : ℕ) (task : Task) : Type 0 where
+    pub name : ℕ
+    pub code : ℕ
+    pub id : ℕ
+    pub op : task.op ≡ ops.Fail name code
+    pub load : In (event c o (LoadName name) (id + 1)) es
+    pub slot : i ≡ socket_id_slot id
+    pub odd : OddAt s i (socket_id_version id) found
+    -- no step for the operation before it did so
+    pub first : (j word : ℕ) → In (step (SetOdd j) word) (trace_of c o s) → ⊥
+
+  pub odd_means : (s : List Event) (c o i found : ℕ) → (cause : Cause p clients s (event c o (SetOdd i) found)) → ((x : Event) → In x s → In x es) → OddMeans s c o i found cause.task
+  odd_means s c o i found cause part = let f = cause.fits in let n : ℕ = f.0 in let id : ℕ = f.2 in let word : ℕ = f.3 in
+      let tr : List Entry = step (AddRef id) word ∷ step (LoadName n) (id + 1) ∷ [] in
+      let load : In (event c o (LoadName n) (id + 1)) s = from_trace c o s (step (LoadName n) (id + 1)) (subst (In (step (LoadName n) (id + 1))) (sym f.5) (inr (inl refl))) in
+      let hold : Holding tr (λ id. i ≡ socket_id_slot id → OddAt s i (socket_id_version id) found) = subst (λ z. Holding z (λ id. i ≡ socket_id_slot id → OddAt s i (socket_id_version id) found)) f.5 cause.means in record {
+        name = n;
+        code = f.1;
+        id = id;
+        op = f.4;
+        load = part (event c o (LoadName n) (id + 1)) load;
+        slot = f.7;
+        odd = hold f.6 f.7;
+        first = λ j w k. ⊎_elim (λ e. let a : SetOdd j ≡ AddRef id = ap (λ (y : Entry). y.call) e in absurd (cc))
+            (λ k. ⊎_elim (λ e. let a : SetOdd j ≡ LoadName n = ap (λ (y : Entry). y.call) e in absurd (cc)) (λ k. k) k) (subst (In (step (SetOdd j) w)) f.5 k);
+      }
+
+  -- the life that such a step failed, where it found it live
+  pub odd_life : (s : List Event) (c o i found : ℕ) (task : Task) → (m : OddMeans s c o i found task) → vref_version found % 2 ≡ 0 → (k : ℕ) × Made clients outcomes m.name k i (vref_version found)
+  odd_life s c o i found task m even = let l = named_life c o m.name m.id m.load in
+      (l.0, subst (λ z. Made clients outcomes m.name l.0 i z) (sym (m.odd.0 even)) (subst (λ z. Made clients outcomes m.name l.0 z (socket_id_version m.id)) (sym m.slot) l.1))
+
+  -- a step that failed a life is of a task that was answered so
+  pub fail_says : (c o i found : ℕ) (t : Task) → (a : Asks clients c t) → t.number ≡ o → In (event c o (SetOdd i) found) es → vref_version found % 2 ≡ 0 → (world.final c t a).outcome ≡ Failed
+  fail_says c o i found t a e m even = let q = tells_of c t a (step (SetOdd i) found) (subst (λ z. In (step (SetOdd i) found) (trace_of c z es)) (sym e) (to_trace es (event c o (SetOdd i) found) m)) in
+      q ∙ ap (λ b. cond b Failed (Already (record { 0 = found }))) (eq-eqb (vref_version found % 2) 0 even)
+
+  pub fail_is : (f : ℕ × ℕ) → FailOf es f → IsFail clients outcomes f
+  fail_is f x = let fin = world.final x.client x.task x.asks in record {
+    client = x.client;
+    task = x.task;
+    is = task_of x.client x.task x.asks;
+    numbered = x.numbered;
+    name = x.name;
+    code = x.code;
+    op = x.op;
+    became = subst (λ z. slice_get outcomes z ≡ Some (Some Failed)) x.numbered (fin.became ∙ ap (λ (o : Outcome). Some (Some o)) (fail_says x.client f.0 x.slot x.found x.task x.asks x.numbered x.is x.even));
+    slot = x.slot;
+    version = vref_version x.found;
+    life = x.life;
+  }
+
+  -- two steps that failed the life of one link are one step
+  pub one_fail : (f g : ℕ × ℕ) (x : FailOf es f) (y : FailOf es g) → f.1 ≡ g.1 → event x.client f.0 (SetOdd x.slot) x.found ≡ event y.client g.0 (SetOdd y.slot) y.found
+  one_fail f g x y e = let a = x.life in let b : Made clients outcomes y.name f.1 y.slot (vref_version y.found) = subst (λ z. Made clients outcomes y.name z y.slot (vref_version y.found)) (sym e) y.life in
+      let same : a.task ≡ b.task = one_link p clients world.are a.client b.client x.name y.name f.1 a.task b.task (asks_of a.client a.task a.is) (asks_of b.client b.task b.is) a.op b.op in
+      let said = one_outcome (slice_get outcomes b.task.number) (Opened x.slot (vref_version x.found) f.1) (Opened y.slot (vref_version y.found) f.1) (subst (λ (z : Task). slice_get outcomes z.number ≡ Some (Some (Opened x.slot (vref_version x.found) f.1))) same a.became) b.became in
+      let slots : x.slot ≡ y.slot = cc in let versions : vref_version x.found ≡ vref_version y.found = cc in
+      let h : ℕ = vref_version y.found in let ev = made_event x.name f.1 x.slot (vref_version x.found) a in let inside = (birth_means a.client a.task.number x.slot f.1 ev.0 ev.2).0 in
+      let ex : Event = event x.client f.0 (SetOdd x.slot) x.found in let ey : Event = event y.client g.0 (SetOdd y.slot) y.found in
+      once (added_by (is_failer h) y.slot) es ex ey (world.failed_once y.slot (subst (λ z. z < p.slots) slots inside) h) x.is y.is
+      (subst (λ z. 0 < added_by (is_failer h) y.slot (event x.client f.0 (SetOdd z) x.found)) (sym slots) (fail_adds x.client f.0 y.slot x.found h versions y.even))
+      (fail_adds y.client g.0 y.slot y.found h refl y.even)

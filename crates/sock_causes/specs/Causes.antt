@@ -1,0 +1,58 @@
+-- What each step of a story means, by what was done before it.
+use Rattle.std.specs.Prelude.{ℕ, ◌%◌, ◌≡◌, ◌≢◌, ◌<◌, ◌≤◌, List, [], ◌∷◌, slice_get, Some}
+use Rattle.sock_words.specs.declared.plain.Plan.{Plan}
+use Rattle.sock_words.specs.Words.{socket_id_version, socket_id_slot, vref_version}
+use Rattle.sock_model.specs.Weights.{is_failer}
+use Rattle.sock_programs.specs.Calls.{Call, GiveBirth, AddRef, SetOdd, LoadName}
+use Rattle.sock_programs.specs.declared.task.Task.{Task}
+use Rattle.sock_causes.specs.Stories.{Entry, Event, In, trace_of, last_name, marked}
+use Rattle.sock_causes.specs.Explains.{Fits}
+
+-- client c has this task
+abbrev pub Asks : List (List Task) → ℕ → Task → Type 0
+Asks clients c t = (ts : List Task) × (slice_get clients c ≡ Some ts) × In t ts
+
+-- where the last step took a reference to the life of an id, this holds of the id
+abbrev pub Holding : List Entry → (ℕ → Type 0) → Type 0
+Holding [] P = Unit {0}
+Holding (e ∷ es) P = elim e.call as (λ c. Type 0) [
+  | AddRef id ↦ vref_version e.found ≡ socket_id_version id → P id
+  | _ ↦ Unit {0}
+]
+
+-- the life of version h of slot i was failed
+abbrev pub WasFailed : List Event → ℕ → ℕ → Type 0
+WasFailed es i h = 0 < marked (is_failer h) i es
+
+-- what is found where the life of version h of slot i is set failed
+abbrev pub OddAt : List Event → ℕ → ℕ → ℕ → Type 0
+OddAt es i h found = (vref_version found % 2 ≡ 0 → vref_version found ≡ h) × (vref_version found % 2 ≡ 1 → WasFailed es i h)
+
+-- what a step found, behind this story and these steps of its operation
+abbrev pub Means : Plan → List Event → List Entry → Call → ℕ → Type 0
+-- the word of a name is what was stored there last
+Means p es trace (LoadName n) found = found ≡ last_name n es
+-- a life is made in a slot of the table, with an even version that isn't below the first
+Means p es trace (GiveBirth i k) found = (i < p.slots) × (vref_version found % 2 ≡ 0) × (p.first ≤ vref_version found)
+-- where the slot has another version, the life was failed
+Means p es trace (AddRef id) found = vref_version found ≢ socket_id_version id → WasFailed es (socket_id_slot id) (socket_id_version id)
+-- the life that is held is set failed, or was failed before
+Means p es trace (SetOdd i) found = Holding trace (λ id. i ≡ socket_id_slot id → OddAt es i (socket_id_version id) found)
+Means p es trace other found = Unit {0}
+
+pub record Cause (p : Plan) (clients : List (List Task)) (es : List Event) (e : Event) : Type 0 where
+  -- a client's steps are for its operations in order
+  pub order : (x : Event) → In x es → x.client ≡ e.client → x.number ≤ e.number
+  -- those of the setup come first
+  pub setup : (x : Event) → In x es → e.client ≡ 0 → x.client ≡ 0
+  -- the task for which the step was made
+  pub task : Task
+  pub is : Asks clients e.client task
+  pub numbered : task.number ≡ e.number
+  pub fits : Fits task.op (trace_of e.client e.number es) e.entry.call
+  pub means : Means p es (trace_of e.client e.number es) e.entry.call e.entry.found
+
+-- each step has its cause in what was done before it
+abbrev pub Good : Plan → List (List Task) → List Event → Type 0
+Good p clients [] = Unit {0}
+Good p clients (e ∷ es) = Cause p clients es e × Good p clients es
