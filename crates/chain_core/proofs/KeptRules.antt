@@ -1,11 +1,11 @@
 -- Each step on the words of a chain keeps the rule, as the laws of the steps say it of the word that is there.
-use Rattle.std.proofs.Common.{◌≡◌, ◌≢◌, ℕ, ◌+◌, ◌*◌, ◌/◌, ◌%◌, ◌<◌, ◌≤◌, ◌⊎◌, true, false, cond, eqb, eq-eqb, ne_eqb, List, ◌∷◌, get_or, set, refl, sym, ap, ◌∙◌, subst, arith, bit_or, bit_and, ⊎_elim}
+use Rattle.std.proofs.Common.{◌≡◌, ◌≢◌, ℕ, ◌+◌, ◌*◌, ◌/◌, ◌%◌, ◌<◌, ◌≤◌, ◌⊎◌, true, false, cond, eqb, eq-eqb, ne_eqb, List, [], ◌∷◌, get_or, set, refl, sym, ap, ◌∙◌, subst, arith, bit_or, bit_and, ⊎_elim}
 use Rattle.std.specs.Int.Bits.{or_add_and}
 use Rattle.std.proofs.lemmas.Nat.Bits.{and_pow}
 use lib.Seq.{set-get_or}
 use lib.ListN.{get_elem?}
 use mathlib.Core.Option.{none, some}
-use Rattle.atomic_table.specs.Table.{State}
+use Rattle.atomic_table.specs.Table.{State, stepped, keeps}
 use Rattle.sock_words.specs.declared.plain.Plan.{Plan}
 use Rattle.sock_model.specs.declared.chain.Heading.{Heading}
 use Rattle.sock_model.specs.declared.chain.Right.{Right}
@@ -20,6 +20,7 @@ use Rattle.sock_model.specs.ChainRows.{with_claim, fresh_claim, ready_claim, que
 use Rattle.sock_model.specs.Reads.{link_home}
 use Rattle.sock_model.specs.Lawful.{Lawful}
 use Rattle.sock_model.specs.Keeping.{KeepsRule, LawfulAfter}
+use Rattle.sock_model.specs.Rule.{Rule, noting}
 use Rattle.chain_laws.proofs.Lists.{at_length}
 use Rattle.chain_laws.proofs.Grow.{last_small}
 use Rattle.chain_laws.proofs.Heads.{held_of}
@@ -32,9 +33,11 @@ use Rattle.sock_steps.proofs.AcceptSteps.{queued_law, righted_law}
 use Rattle.sock_steps.proofs.WalkSteps.{passing_law, reading_law, emptied_law, walking_law, turning_law}
 use Rattle.sock_steps.proofs.WriteSteps.{freeing_law}
 use Rattle.sock_steps.proofs.Retire.{passing_last_law}
+use Rattle.sock_steps.proofs.Noting.{tried_rule}
 use Rattle.sock_model.specs.Conditions.{HasClaim}
 use Rattle.chain_core.specs.Conditions.{MayLook, MayClaim, MaySwap, MayConnect, MayTry, MayPass, MayRead, MayRetire, MayTurnTo, MayFree}
 use Rattle.chain_core.specs.Rights.{TakesRight}
+use Rattle.chain_core.specs.Taken.{NotesTaken}
 
 -- ## Numbers
 
@@ -62,6 +65,11 @@ still p s place found id w is o = subst (λ x. LawfulAfter p s place x id w) is 
 -- C1 of a taken word, and C5 that finds no ticket
 pub looks : (place : Plan → ℕ) (found : ℕ) → KeepsRule MayLook place found found (λ p v m. v)
 looks place found p s id v o here may is = subst (λ x. LawfulAfter p s (place p) x id v) is (idle_law (λ home. home) p s o id v here (place p))
+
+-- C1 of a taken word, which the seat notes
+pub notes : (r found : ℕ) → found % 2 ≡ 1 → NotesTaken r found (bit_or found 1)
+notes r found taken p s id v o here mine inside is = subst (λ x. Rule (λ home. home) p (stepped s (request_word p r) (bit_or x 1) id [] (noting (request_word p r) v) keeps)) is
+    (tried_rule o id v here mine r inside (omega (arith, is, taken)))
 
 -- C5 of an entry that has its place
 pub passes : (r found : ℕ) → KeepsRule (MayPass r) (λ p. next_word p r) found found (λ p v m. with_right v (passing_right m.mine.right m.now found))

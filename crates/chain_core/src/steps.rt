@@ -6,6 +6,7 @@ ghost use Rattle.sock_model.specs.Conditions.{HasClaim};
 ghost use Rattle.sock_model.specs.Keeping.{KeepsRule};
 ghost use Rattle.chain_core.specs.Conditions.{MayLook, MayClaim, MaySwap, MayConnect, MayTry, MayPass, MayRead, MayRetire, MayTurnTo, MayFree};
 ghost use Rattle.chain_core.specs.Rights.{TakesRight};
+ghost use Rattle.chain_core.specs.Taken.{NotesTaken};
 
 use sock_words::{Step, Ticket};
 
@@ -26,6 +27,7 @@ pub fn claim_request(found: u64) -> Step
     ensures lost { found % 2 ≡ 1 → (result.next ≡ found) × (result.won ≡ false) }
     ensures keeps_won { found % 2 ≡ 0 → (r k : ℕ) (heading : Heading) (bytes : List ℕ) → KeepsRule (MayClaim r) (λ p. request_word p r) found result.next (λ p v m. with_claim v (fresh_claim k r found heading bytes)) }
     ensures keeps_lost { found % 2 ≡ 1 → (r : ℕ) → KeepsRule MayLook (λ p. request_word p r) found result.next (λ p v m. v) }
+    ensures notes_lost { found % 2 ≡ 1 → (r : ℕ) → NotesTaken r found result.next }
 {
     Step {
         found,

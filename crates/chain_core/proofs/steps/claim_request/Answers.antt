@@ -3,7 +3,7 @@ use Rattle.sock_model.specs.Layout.{request_word}
 use Rattle.sock_model.specs.ChainRows.{with_claim, fresh_claim}
 use Rattle.sock_model.specs.Keeping.{KeepsRule}
 use Rattle.chain_core.specs.Conditions.{MayLook, MayClaim}
-use Rattle.chain_core.proofs.KeptRules.{or_free, or_taken, tests_free, tests_taken, claims, looks}
+use Rattle.chain_core.proofs.KeptRules.{or_free, or_taken, tests_free, tests_taken, claims, looks, notes}
 use Rattle.chain_core.proofs.steps.claim_request.Goals as goal
 
 pub returns-clause-won : goal.returns-clause-won
@@ -20,3 +20,6 @@ returns-clause-keeps_won c free r k heading bytes =
 pub returns-clause-keeps_lost : goal.returns-clause-keeps_lost
 returns-clause-keeps_lost c taken r =
     subst (λ n. KeepsRule MayLook (λ p. request_word p r) c.args.found n (λ p v m. v)) (sym (or_taken c.args.found taken)) (looks (λ p. request_word p r) c.args.found)
+
+pub returns-clause-notes_lost : goal.returns-clause-notes_lost
+returns-clause-notes_lost c taken r = notes r c.args.found taken
