@@ -4,7 +4,7 @@ use Rattle.std.proofs.lemmas.List.Sums.{sum_by-cons}
 use Rattle.std.specs.List.{list_all}
 use Rattle.brpc_model.specs.Items.{Item, Open, Client, Send, Shape, is_operation}
 use Rattle.brpc_model.specs.Operations.{operations, link_names, slots_in, first_in}
-use Rattle.brpc_eng.specs.Built.{is_send, is_plain, is_one_client, is_built, begins_with_open}
+use Rattle.brpc_eng.specs.Built.{is_send, is_plain, is_one_client, is_one_link, begins_with_open}
 use Rattle.brpc_eng.specs.Sending.{Sending, send_item, sendings}
 use Rattle.brpc_eng.proofs.Labels.{ops_of, operations_sends, names_sends}
 use Rattle.brpc_eng.proofs.Fitting.{OneLink, open_op}
@@ -37,7 +37,7 @@ link_of_sends name shape ss = record {
   first_is = rw (sends_no_first ss) refl;
 }
 
-pub one_link : (name : List ℕ) (shape : Shape) (lines : List Item) → is_built (Open name shape ∷ lines) ≡ true → OneLink (Open name shape ∷ lines) name shape (sendings (Open name shape ∷ lines))
+pub one_link : (name : List ℕ) (shape : Shape) (lines : List Item) → is_one_link (Open name shape ∷ lines) ≡ true → OneLink (Open name shape ∷ lines) name shape (sendings (Open name shape ∷ lines))
 one_link name shape lines h = behind lines (and_right (is_plain shape) (is_one_client lines) h)
   where
     behind : (lines : List Item) → is_one_client lines ≡ true → OneLink (Open name shape ∷ lines) name shape (sendings (Open name shape ∷ lines))
@@ -77,7 +77,7 @@ few_sends (Send name bytes ∷ lines) = one_more name bytes lines (length (sendi
 few_sends (other ∷ lines) = more other lines (length (sendings lines)) (few_sends lines)
 
 -- a script that is built and doesn't begin with a link has one client at most
-pub not_open : (script : List Item) → is_built script ≡ true → begins_with_open script ≡ false → is_one_client script ≡ true
+pub not_open : (script : List Item) → is_one_link script ≡ true → begins_with_open script ≡ false → is_one_client script ≡ true
 not_open [] h e = refl
 not_open (Open name shape ∷ lines) h e = absurd (cc)
 not_open (other ∷ lines) h e = h

@@ -23,7 +23,7 @@ not_two_written out text status (inl w) = λ e. absurd (omega (arith, e, w.0))
 not_two_written out text status (inr w) = λ e. absurd (omega (arith, e, w.0))
 
 not_two_ran : (script : List Item) (out : Output) (links : Links) (status : ℕ) → Ran script out links status → status ≢ 2
-not_two_ran script out links status (Reported text fits wrote) = not_two_written out text status wrote
+not_two_ran script out links status (Reported text fits of_run wrote) = not_two_written out text status wrote
 not_two_ran script out links status (MemoryRanOut s wrote) = λ e. absurd (omega (arith, e, s))
 not_two_ran script out links status (OpenFailed s rose back wrote) = λ e. absurd (omega (arith, e, s))
 
@@ -82,7 +82,7 @@ calm_written out text status calm (inl w) = w.0
 calm_written out text status calm (inr w) = absurd (calm w.1.0)
 
 calm_ran : (script : List Item) (input : Input) (out : Output) (links : Links) (status : ℕ) → IsCalm input out links → Ran script out links status → (status ≡ 0) ⊎ (status ≡ 7)
-calm_ran script input out links status calm (Reported text fits wrote) = inl (calm_written out text status calm.sink wrote)
+calm_ran script input out links status calm (Reported text fits of_run wrote) = inl (calm_written out text status calm.sink wrote)
 calm_ran script input out links status calm (MemoryRanOut s wrote) = inr s
 calm_ran script input out links status calm (OpenFailed s rose back wrote) = absurd (calm.linker rose)
 

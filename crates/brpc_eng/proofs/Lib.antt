@@ -11,3 +11,4 @@ pub mod Reports
 pub mod Replays
 pub mod Exactly
 pub mod GeneratedLemmas
+pub mod QuietReports

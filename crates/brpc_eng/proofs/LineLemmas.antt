@@ -1,5 +1,7 @@
 -- What the first lines of a script send, and what the others do.
-use Rattle.std.proofs.Common.{◌≡◌, ℕ, ◌≤◌, ◌<◌, ◌+◌, Bool, true, false, List, [], ◌∷◌, ◌++◌, length, take, drop, map, Option, Some, None, refl, ap, sym, ◌∙◌, subst, arith, get_or, append-nil, replicate, length-append}
+use Rattle.std.specs.List.{list_any}
+use Rattle.sock_programs.specs.Scripts.{is_later}
+use Rattle.std.proofs.Common.{◌||◌, ◌≡◌, ℕ, ◌≤◌, ◌<◌, ◌+◌, Bool, true, false, List, [], ◌∷◌, ◌++◌, length, take, drop, map, Option, Some, None, refl, ap, sym, ◌∙◌, subst, arith, get_or, append-nil, replicate, length-append}
 use Rattle.std.proofs.lemmas.List.{replicate_more, map-append, take_more, drop_more, drop_all, take-append-drop}
 use Rattle.std.proofs.lemmas.List.Elements.{filter_map-append}
 use Rattle.sock_words.specs.declared.outcome.Outcome.{Outcome}
@@ -117,3 +119,9 @@ unopened_more lines i line s outcomes outcomes' h e f done pushed =
     let n = length (sent_in (take i lines)) in
     let more : length (sent_in (take (i + 1) lines)) ≡ n + 1 = ap length (sent_take lines i line s h e f) ∙ length-append (sent_in (take i lines)) (s ∷ []) in
     pushed ∙ ap (λ x. x ++ Unopened ∷ []) done ∙ replicate_more n Unopened ∙ ap (λ k. replicate k Unopened) (sym more)
+
+-- ## Operations on messages and calls
+
+pub later_of : (lines : List Line) → list_any (λ line. is_later (item line)) lines ≡ list_any is_later (map item lines)
+later_of [] = refl
+later_of (line ∷ lines) = ap (λ b. is_later (item line) || b) (later_of lines)

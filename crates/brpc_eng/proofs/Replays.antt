@@ -7,20 +7,15 @@ use Rattle.brpc_model.specs.Commands as model
 use Rattle.brpc_eng.specs.declared.commands.Command.{Command}
 use Rattle.brpc_eng.specs.declared.draw.Draw.{Draw}
 use Rattle.brpc_eng.specs.declared.commands.Command.TheVariants.{Replay, Sim, Run, Gen, Load, Frames, Serve}
-use Rattle.brpc_eng.specs.Built.{is_built, IsWithinLimits}
+use Rattle.brpc_eng.specs.Built.{is_built}
 use Rattle.brpc_eng.specs.Command.{meaning}
 use Rattle.brpc_eng.specs.Streams.{script_limit, ReadWhole}
 use Rattle.brpc_eng.specs.Answers as answer
-use Rattle.brpc_eng.proofs.ScriptLemmas.{within_limits}
 
 -- ## A script that was read
 
 pub fault_written : (out : answer.Output) (line kind : ℕ) (text : List ℕ) → text ≡ answer.fault_text line kind → answer.Wrote out text → answer.FaultWritten out line kind 3
 fault_written out line kind text e wrote = let P : List ℕ → Type 0 = λ x. answer.Wrote out x in inl (refl, subst P e wrote)
-
--- the lines of the script keep its limits
-pub limits_of : (seen : List ℕ) (script lines : List Item) → script_of seen ≡ Ok script → lines ≡ script → IsWithinLimits lines
-limits_of seen script lines e f = let P : List Item → Type 0 = λ x. IsWithinLimits x in subst P (sym f) (within_limits seen script e)
 
 -- where the whole input was read, it is within its limit
 whole_input : (input : answer.Input) (out : answer.Output) (links : answer.Links) (bytes : List ℕ) (read : Vec ℕ Global) (status : ℕ) → ReadWhole input.given input.left bytes (Ok read) →
@@ -33,13 +28,13 @@ whole_input input out links bytes read status whole replayed =
 came_is : (input : answer.Input) (bytes seen : List ℕ) (read : Vec ℕ Global) → ReadWhole input.given input.left bytes (Ok read) → seen ≡ read.items → seen ≡ bytes
 came_is input bytes seen read whole e = e ∙ whole.whole.0
 
-pub replays_built : (input : answer.Input) (out : answer.Output) (links : answer.Links) (status : ℕ) (bytes seen : List ℕ) (read : Vec ℕ Global) (script lines lines' : List Item) (test : Bool) →
-    ReadWhole input.given input.left bytes (Ok read) → seen ≡ read.items → script_of seen ≡ Ok script → lines ≡ script → lines' ≡ script → test ≡ is_built lines → test ≡ true →
-    answer.Ran lines' out links status → answer.ReplayedInput input out links status
-replays_built input out links status bytes seen read script lines lines' test whole s e l l' t built ran =
-    let is : script_of bytes ≡ Ok lines' = ap script_of (sym (came_is input bytes seen read whole s)) ∙ e ∙ ap (λ x. Ok x) (sym l') in
-    let tested : is_built lines' ≡ true = ap is_built (l' ∙ sym l) ∙ sym t ∙ built in
-    whole_input input out links bytes read status whole (answer.RanScript whole.whole.1 lines' is tested ran)
+pub replays_built : (input : answer.Input) (out : answer.Output) (links : answer.Links) (status : ℕ) (bytes seen : List ℕ) (read : Vec ℕ Global) (script lines : List Item) (test : Bool) →
+    ReadWhole input.given input.left bytes (Ok read) → seen ≡ read.items → script_of seen ≡ Ok script → lines ≡ script → test ≡ is_built lines → test ≡ true →
+    answer.Ran script out links status → answer.ReplayedInput input out links status
+replays_built input out links status bytes seen read script lines test whole s e l t built ran =
+    let is : script_of bytes ≡ Ok script = ap script_of (sym (came_is input bytes seen read whole s)) ∙ e in
+    let tested : is_built script ≡ true = ap is_built (sym l) ∙ sym t ∙ built in
+    whole_input input out links bytes read status whole (answer.RanScript whole.whole.1 script is tested ran)
 
 pub replays_unbuilt : (input : answer.Input) (out : answer.Output) (links : answer.Links) (bytes seen : List ℕ) (read : Vec ℕ Global) (script lines : List Item) (test : Bool) →
     ReadWhole input.given input.left bytes (Ok read) → seen ≡ read.items → script_of seen ≡ Ok script → lines ≡ script → test ≡ is_built lines → test ≡ false →

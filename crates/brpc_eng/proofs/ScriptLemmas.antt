@@ -12,7 +12,8 @@ use Rattle.brpc_model.specs.Lines.{line_item, item_of, is_text_byte, shape_in, a
 use Rattle.brpc_model.specs.Places.{names, at_its_place, is_misplaced, is_too_many, is_unpaired}
 use Rattle.brpc_model.specs.Script.{Faulty, script_of, with_line, one_more, said_behind, items, whole, fault_at, says, is_lost, may_hang}
 use Rattle.brpc_model.proofs.Growing.{items_some, items_none}
-use Rattle.brpc_eng.specs.Built.{IsWithinLimits, has_piece}
+use Rattle.script_run.specs.Given.{has_piece}
+use Rattle.brpc_eng.specs.Built.{IsWithinLimits}
 
 -- ## What a line may say
 

@@ -16,6 +16,9 @@ use Rattle.frame_print.specs.declared.print.StreamEnd.{StreamEnd}
 use Rattle.frame_print.specs.declared.print.StreamEnd.TheVariants as end_
 use Rattle.frame_print.specs.declared.print.PrintFault.{PrintFault}
 use Rattle.frame_print.specs.declared.print.PrintFault.TheVariants as fault_
+use Rattle.sock_programs.specs.Scripts.{is_quiet}
+use Rattle.script_run.specs.Given.{AreUntouched}
+use Rattle.script_run.specs.Played.{IsRunText}
 use Rattle.brpc_eng.specs.Built.{is_built}
 use Rattle.brpc_eng.specs.Streams.{script_limit, IsAtEnd}
 
@@ -76,15 +79,21 @@ fault_text line kind = codes "script fault line " ++ decimal line ++ codes " kin
 abbrev pub IsReport : Links → List Item → List ℕ → Type 0
 IsReport links script text = links.prompt ≡ true → FitsWhole script text links.ends nothing_late
 
+-- the text of a script without messages and calls is that of its run: the setup first, then the ticks of its schedule, then
+-- rounds until no client has a step left, then the ending; it has the outcomes of that run and no other
+abbrev pub IsTextOfRun : List Item → List ℕ → Type 0
+IsTextOfRun script text = is_quiet script ≡ true → IsRunText script text
+
 -- the text was written, or the sink failed behind a beginning of it
 abbrev pub TextWritten : Output → List ℕ → ℕ → Type 0
 TextWritten out text status = ((status ≡ 0) × WroteAll out text) ⊎ ((status ≡ 5) × WroteSome out text)
 
 -- how the run of a script that is built ends
 pub data Ran (script : List Item) (out : Output) (links : Links) (status : ℕ) : Type 0 where
-  Reported : (text : List ℕ) → IsReport links script text → TextWritten out text status → Ran script out links status
+  Reported : (text : List ℕ) → IsReport links script text → IsTextOfRun script text → TextWritten out text status → Ran script out links status
   MemoryRanOut : status ≡ 7 → WroteNothing out → Ran script out links status
-  OpenFailed : status ≡ 8 → HaveRisen links.faults → links.ends ≡ [] → WroteNothing out → Ran script out links status
+  -- the links that were opened before are given back, and nothing was done with them
+  OpenFailed : status ≡ 8 → HaveRisen links.faults → AreUntouched 0 links.ends → WroteNothing out → Ran script out links status
 
 -- ## `replay`
 

@@ -1,15 +1,42 @@
 ghost use Rattle.std.specs.Prelude.{◌≡◌, ℕ, List, false, ◌∷◌, map, IfSome, IfNone};
-ghost use Rattle.std.specs.List.{list_all};
+ghost use Rattle.std.specs.List.{list_all, list_any};
+ghost use Rattle.sock_programs.specs.Scripts.{is_quiet, is_later};
 ghost use Rattle.brpc_model.specs.Items.{Item, Open};
 ghost use Rattle.script_items.specs.Meaning.{item, shape_of};
-ghost use Rattle.brpc_eng.specs.Built.{is_built, is_one_client, is_plain, is_send, begins_with_open};
+ghost use Rattle.brpc_eng.specs.Built.{is_built, is_one_link, is_one_client, is_plain, is_send, begins_with_open};
 
 use script_items::{Line, OpenLine, Shape};
 
-/// Whether the script is built: at most one `open NAME [piece=N]`, then at most one `client`, and
-/// then its sends.
+/// Whether the script is built: one without messages and calls, or one of a link, a client and its
+/// sends.
 pub fn is_built(lines: &[Line]) -> bool
     ensures { result ≡ is_built (map item lines.now) }
+{
+    is_quiet(lines) || is_one_link(lines)
+}
+
+/// Whether a script has no message and no call, and nothing on calls.
+pub fn is_quiet(lines: &[Line]) -> bool
+    ensures { result ≡ is_quiet (map item lines.now) }
+{
+    !has_later(lines)
+}
+
+/// Whether there is an operation on messages or calls.
+fn has_later(lines: &[Line]) -> bool
+    ensures { result ≡ list_any (λ line. is_later (item line)) lines.now }
+{
+    lines.iter().any(|line| {
+        matches!(
+            line,
+            Line::Send(_) | Line::Call(_) | Line::Expire(_) | Line::Join(_)
+        )
+    })
+}
+
+/// Whether there is at most one `open NAME [piece=N]`, then at most one `client`, and then its sends.
+fn is_one_link(lines: &[Line]) -> bool
+    ensures { result ≡ is_one_link (map item lines.now) }
 {
     match lines {
         [Line::Open(open), rest @ ..] => is_plain(&open.shape) && is_one_client(rest),

@@ -24,7 +24,7 @@ const USAGE: &[u8] =
 /// | 5 | only where the sink failed, in place of 0; a beginning of the report was written |
 /// | 6 | exactly where more than 1,048,576 bytes came, in `frames` more than 268,435,456 |
 /// | 7 | where memory ran out |
-/// | 8 | only where a link couldn't be opened |
+/// | 8 | only where a link couldn't be opened; those opened before are given back untouched |
 /// | 9 | exactly where `frames` met a faulty frame; the frames before it and the fault are written |
 /// | 10 | exactly where the command or the script isn't built; `not built` is written |
 ///

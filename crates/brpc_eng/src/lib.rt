@@ -13,6 +13,7 @@ mod replay;
 mod report;
 mod run;
 mod sends;
+mod sockets;
 mod status;
 mod streams;
 #[cfg(test)]

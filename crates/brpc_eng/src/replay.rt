@@ -3,7 +3,7 @@ ghost use Rattle.brpc_eng.specs.Status.{number_of};
 ghost use Rattle.brpc_eng.specs.Answers.{Wrote, FaultWritten, ReplayedInput};
 
 use crate::built::is_built;
-use crate::run::run_script;
+use crate::sockets::run_script;
 use crate::status::Status;
 use crate::streams::{InputFault, read_all};
 use script_lang::{ScriptError, read_script};
@@ -34,7 +34,7 @@ pub fn replay<S: Source, K: Sink, L: Linker>(
         Err(InputFault::NoMemory) => return Status::NoMemory,
     };
     match read_script(alloc, &bytes) {
-        Ok(script) if is_built(script.lines()) => run_script(alloc, script.lines(), out, links),
+        Ok(script) if is_built(script.lines()) => run_script(alloc, &script, out, links),
         Ok(_) => {
             write_answer(out, NOT_BUILT);
             Status::NotBuilt

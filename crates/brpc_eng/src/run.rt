@@ -1,8 +1,9 @@
 ghost use Rattle.std.specs.Prelude.{◌≡◌, ◌≤◌, ◌<◌, true, false, ℕ, List, [], ◌∷◌, map, length, IfOk};
 ghost use Rattle.brpc_model.specs.Items.{Item, Open};
+ghost use Rattle.sock_programs.specs.Scripts.{is_quiet};
 ghost use Rattle.script_items.specs.Meaning.{item, shape_of};
 ghost use Rattle.sock_io.specs.Link.{SameOut};
-ghost use Rattle.brpc_eng.specs.Built.{is_built, begins_with_open, IsWithinLimits};
+ghost use Rattle.brpc_eng.specs.Built.{is_one_link, begins_with_open, IsWithinLimits};
 ghost use Rattle.brpc_eng.specs.Sending.{sendings};
 ghost use Rattle.brpc_eng.specs.Run.{RanAndReported};
 ghost use Rattle.brpc_eng.specs.Status.{number_of};
@@ -16,8 +17,8 @@ use script_items::{Line, OpenLine};
 use sock_io::{Failed, LinkSpec, Linker, Mode, NoMemory, OpenFault, Out, Sink, write_all};
 use std::alloc::Global;
 
-/// Runs a script that is built, and writes its report.
-pub fn run_script<K: Sink, L: Linker>(
+/// Runs a script of one link, one client and its sends, and writes its report.
+pub fn run_messages<K: Sink, L: Linker>(
     alloc: Global,
     lines: &[Line],
     out: &mut K,
@@ -25,7 +26,8 @@ pub fn run_script<K: Sink, L: Linker>(
 ) -> Status
     requires opened { L.opened links.old ≡ 0 }
     requires back { L.back links.old ≡ [] }
-    requires built { is_built (map item lines.now) ≡ true }
+    requires loud { is_quiet (map item lines.now) ≡ false }
+    requires built { is_one_link (map item lines.now) ≡ true }
     requires limits { IsWithinLimits (map item lines.now) }
     ensures { Ran (map item lines.now)
         (record { before = K.contents out.old; now = K.contents out.new; faults = record { before = K.faults out.old; now = K.faults out.new } })
@@ -40,7 +42,8 @@ pub fn run_script<K: Sink, L: Linker>(
 
 /// Runs the sends of a script without a link.
 fn run_unlinked<K: Sink>(alloc: Global, lines: &[Line], out: &mut K) -> Status
-    requires built { is_built (map item lines.now) ≡ true }
+    requires loud { is_quiet (map item lines.now) ≡ false }
+    requires built { is_one_link (map item lines.now) ≡ true }
     requires unlinked { begins_with_open (map item lines.now) ≡ false }
     ensures { (links : Links) → links.ends ≡ [] → Ran (map item lines.now)
         (record { before = K.contents out.old; now = K.contents out.new; faults = record { before = K.faults out.old; now = K.faults out.new } })
@@ -65,7 +68,8 @@ fn run_linked<K: Sink, L: Linker>(
 ) -> Status
     requires opened { L.opened links.old ≡ 0 }
     requires back { L.back links.old ≡ [] }
-    requires built { is_built (map item lines.now) ≡ true }
+    requires loud { is_quiet (map item lines.now) ≡ false }
+    requires built { is_one_link (map item lines.now) ≡ true }
     requires limits { IsWithinLimits (map item lines.now) }
     requires linked { (rest : List Item) × (map item lines.now ≡ Open «open».now.name (shape_of «open».now.shape) ∷ rest) }
     ensures { Ran (map item lines.now)
@@ -121,7 +125,7 @@ fn run_over<O: Out>(
 }
 
 /// Writes a report.
-fn write_report<K: Sink>(out: &mut K, text: &[u8]) -> Status
+pub fn write_report<K: Sink>(out: &mut K, text: &[u8]) -> Status
     ensures { TextWritten (record { before = K.contents out.old; now = K.contents out.new; faults = record { before = K.faults out.old; now = K.faults out.new } }) text.now (number_of result) }
 {
     match write_all(out, text) {

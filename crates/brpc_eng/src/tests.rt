@@ -71,9 +71,9 @@ const ROWS: [(&str, u32, u8, &str); 10] = [
         0,
         "0.1 open 0 0 0\n1.1 placed 0 0\n1.2 unopened\n1.3 dropped 0 1\nlink 0 a accepted 2 placed 1 took 4 61626364\norder 0 1.1.0 1.3.0\nend\n",
     ),
-    ("client\nclient\n", 0, 10, "not built\n"),
-    ("open a again=2\n", 0, 10, "not built\n"),
-    ("open a\nopen b\n", 0, 10, "not built\n"),
+    ("client\nclient\nsend z 61", 0, 10, "not built\n"),
+    ("open a again=2\nclient\nsend a 61", 0, 10, "not built\n"),
+    ("open a\nopen b\nclient\nsend a 61", 0, 10, "not built\n"),
     (
         "open a\nclient\nsend a 6\n",
         0,

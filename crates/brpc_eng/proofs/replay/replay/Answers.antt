@@ -1,14 +1,15 @@
 use Rattle.std.proofs.Common.{◌∙◌, ap, Err}
-use Rattle.brpc_eng.proofs.Replays.{limits_of, replays_built, replays_unbuilt, replays_faulty}
+use Rattle.brpc_eng.proofs.ScriptLemmas.{within_limits}
+use Rattle.brpc_eng.proofs.Replays.{replays_built, replays_unbuilt, replays_faulty}
 use Rattle.brpc_eng.proofs.replay.replay.Goals as goal
 
 pub run_script-requires-clause-limits : goal.run_script-requires-clause-limits
-run_script-requires-clause-limits g c κs within = limits_of c.deref.result.now _ _ c.in-Ok-read_script.ensures.script c.lines-in-Ok-read_script.ensures
+run_script-requires-clause-limits g c κs within = within_limits c.deref.result.now _ c.in-Ok-read_script.ensures.script
 
 pub returns-in-Ok-read_script : goal.returns-in-Ok-read_script
 returns-in-Ok-read_script g c =
-    replays_built _ _ _ _ c.in-Ok.ensures.came.0 c.deref.result.now c.in-Ok.bytes _ _ _ c.is_built.result c.in-Ok.ensures.came.1 c.deref.ensures.value c.in-Ok-read_script.ensures.script
-    c.lines.ensures c.lines-in-Ok-read_script.ensures c.is_built.ensures c.if-is_built.true c.run_script.ensures
+    replays_built _ _ _ _ c.in-Ok.ensures.came.0 c.deref.result.now c.in-Ok.bytes _ _ c.is_built.result c.in-Ok.ensures.came.1 c.deref.ensures.value c.in-Ok-read_script.ensures.script
+    c.lines.ensures c.is_built.ensures c.if-is_built.true c.run_script.ensures
 
 pub returns-in-Ok-2 : goal.returns-in-Ok-2
 returns-in-Ok-2 g c =

@@ -1,4 +1,4 @@
-use Rattle.brpc_eng.proofs.run.run_script.Goals as goal
+use Rattle.brpc_eng.proofs.run.run_messages.Goals as goal
 
 pub returns-in-None : goal.returns-in-None
 returns-in-None g c = c.run_unlinked.ensures _ c.requires.back

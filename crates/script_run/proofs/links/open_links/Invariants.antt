@@ -1,0 +1,14 @@
+use Rattle.std.proofs.Common.{◌≡◌, ◌≤◌, length, map, count_by, take}
+use Rattle.sock_io.specs.Link.{end_of}
+use Rattle.script_run.specs.Given.{AreUntouched, is_open_line}
+use Rattle.script_run.proofs.links.open_links.Given as goal
+
+abbrev pub invariant-loop-line : goal.invariant-loop-line
+invariant-loop-line g l = record {
+  opened : g.L.Linker.opened l.links ≡ length l.ends.items;
+  fresh : AreUntouched 0 (map (λ e. end_of (g.L.O.Out.state e.out) (g.L.I.In.state e.inn)) l.ends.items);
+  count : length l.ends.items ≡ count_by is_open_line (take l.line-index l.lines);
+  back : g.L.Linker.back l.links ≡ g.L.Linker.back l.initial.links;
+  prompt : g.L.Linker.prompt l.links ≡ g.L.Linker.prompt l.initial.links;
+  later : g.L.Linker.faults l.initial.links ≤ g.L.Linker.faults l.links;
+}

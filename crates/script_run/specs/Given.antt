@@ -1,0 +1,39 @@
+-- Links as they are opened and given back.
+use Rattle.std.specs.Prelude.{ℕ, ◌≡◌, ◌+◌, false, List, [], ◌∷◌, IfSome, Bool, true, nat_lt}
+use Rattle.brpc_model.specs.Items.{Item, Open, is_open}
+use Rattle.script_items.specs.Meaning.{item}
+use Rattle.script_items.specs.declared.line.Line.{Line}
+use Rattle.brpc_model.specs.Link.{LinkEnd}
+
+-- the link of this number took and gave nothing, and did not fail
+pub record IsUntouched (number : ℕ) (e : LinkEnd) : Type 0 where
+  pub link : e.link ≡ number
+  pub took : IfSome e.took (λ bytes. bytes ≡ [])
+  pub put_faults : e.put_faults ≡ 0
+  pub gave : IfSome e.gave (λ bytes. bytes ≡ [])
+  pub gave_count : e.gave_count ≡ 0
+  pub take_faults : e.take_faults ≡ 0
+  pub gave_end : e.gave_end ≡ false
+
+-- these links, of which the first has this number, are untouched
+abbrev pub AreUntouched : ℕ → List LinkEnd → Type 0
+AreUntouched number [] = Unit {0}
+AreUntouched number (e ∷ es) = IsUntouched number e × AreUntouched (number + 1) es
+
+-- the links have these numbers, from this one on
+abbrev pub AreNumbered : ℕ → List LinkEnd → Type 0
+AreNumbered number [] = Unit {0}
+AreNumbered number (e ∷ es) = (e.link ≡ number) × AreNumbered (number + 1) es
+
+-- a put on the link of the line takes a byte at least
+abbrev pub has_piece : Item → Bool
+has_piece (Open name shape) = nat_lt 0 shape.piece
+has_piece other = true
+
+-- the line opens a link
+abbrev pub is_open_line : Line → Bool
+is_open_line line = is_open (item line)
+
+-- and a put on its link takes a byte at least
+abbrev pub has_piece_line : Line → Bool
+has_piece_line line = has_piece (item line)
