@@ -1,0 +1,7 @@
+//! All seats on one thread, under any schedule.
+#![tactic(auto)]
+
+mod call;
+mod point;
+mod follows;
+mod steps;
