@@ -1,11 +1,11 @@
 -- A program that the rule allows from a view on: each step in turn, whatever it finds.
-use Rattle.std.specs.Prelude.{ℕ, ◌≡◌, List, []}
+use Rattle.std.specs.Prelude.{ℕ, ◌≡◌, ◌<◌, List, []}
 use Rattle.sock_words.specs.declared.plain.Plan.{Plan}
 use Rattle.sock_model.specs.declared.view.View.{View}
 use Rattle.sock_model.specs.declared.view.Hand.{Hand}
-use Rattle.sock_model.specs.Weights.{total, is_ref, is_zero, is_any_coding, is_busy}
+use Rattle.sock_model.specs.Weights.{total, is_ref, is_zero, is_any_coding, is_claimed, is_recycled}
 use Rattle.sock_model.specs.SlotRows.{marks_of}
-use Rattle.sock_programs.specs.Programs.{Program, Do, Say, Rest}
+use Rattle.sock_programs.specs.Programs.{Program, Do, Say, Rest, LAST_VERSION}
 use Rattle.sock_runs.specs.Rows.{row}
 use Rattle.sock_runs.specs.May.{May, Finds}
 
@@ -15,13 +15,14 @@ pub record IsQuiet (v : View) : Type 0 where
   pub loose : v.loose ≡ []
   pub rights : v.rights ≡ []
 
--- a seat that has nothing to give back: no reference, no exchange left, no code to store, no slot claimed or recycled, no
--- link in hand and no pass
+-- a seat that has nothing to give back: no reference, no exchange left, no code to store, no slot claimed, none recycled
+-- but those whose versions are used up, and no link in hand
 pub record HasNothing (v : View) : Type 0 where
   pub refs : (i : ℕ) → marks_of is_ref i v ≡ 0
   pub zeros : (i w : ℕ) → marks_of (is_zero w) i v ≡ 0
   pub codes : (i : ℕ) → marks_of is_any_coding i v ≡ 0
-  pub busy : (i : ℕ) → marks_of is_busy i v ≡ 0
+  pub claims : (i : ℕ) → marks_of is_claimed i v ≡ 0
+  pub retired : (i w : ℕ) → 0 < marks_of (is_recycled w) i v → LAST_VERSION < w
   pub hands : v.hands ≡ []
 
 -- the view allows the program

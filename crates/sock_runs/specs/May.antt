@@ -4,7 +4,7 @@ use Rattle.sock_words.specs.declared.plain.Plan.{Plan}
 use Rattle.sock_words.specs.Words.{socket_id_version, socket_id_slot, vref_version, vref_nref}
 use Rattle.sock_model.specs.declared.view.View.{View}
 use Rattle.sock_model.specs.declared.view.Hand.{Hand}
-use Rattle.sock_model.specs.Weights.{total, only, is_ref, is_hold, is_zero, is_recycled, is_stage, is_coding, is_any_coding, is_known, is_met}
+use Rattle.sock_model.specs.Weights.{total, only, is_ref, is_hold, is_zero, is_recycled, is_stage, is_coding, is_any_coding, is_busy, is_known, is_met}
 use Rattle.sock_model.specs.SlotRows.{marks_of}
 use Rattle.sock_programs.specs.Calls.{Call, ClaimSlot, GiveBirth, AddRef, SubRef, SetOdd, Recycle, FreeSlot, StoreLink, LoadLink, ResetHead, WipeCode, StoreCode, StoreName, LoadName, StoreOpen, LoadOpen, TakeLink, FinishLink, PutLink}
 use Rattle.sock_programs.specs.Programs.{NO_SOCKET, LAST_VERSION}
@@ -66,12 +66,15 @@ IsOfHeld v i found = (h : ℕ) → 0 < marks_of (is_hold h) i v → even_version
 abbrev pub FindsId : Plan → ℕ → Type 0
 FindsId p found = IsTrue (is_id found) → socket_id_slot (found - 1) < p.slots
 
+-- a word counts the seat's own references, a seat claims or recycles a slot once, and the pass of a link that is in a slot
+-- was spent
 abbrev pub Finds : Plan → View → Call → ℕ → Hand → Type 0
 Finds p v (GiveBirth i k) found hand = (vref_nref found < 4294967295) × (vref_version found % 2 ≡ 0) × (vref_version found ≤ LAST_VERSION)
 Finds p v (AddRef id) found hand = vref_nref found < 4294967295
-Finds p v (SubRef i) found hand = (0 < vref_nref found) × IsOfHeld v i found
+Finds p v (SubRef i) found hand = (marks_of is_ref i v ≤ vref_nref found) × IsOfHeld v i found
 Finds p v (SetOdd i) found hand = IsOfHeld v i found
-Finds p v (LoadLink i w) found hand = found < p.links
+Finds p v (FreeSlot i) found hand = marks_of is_busy i v ≤ 1
+Finds p v (LoadLink i w) found hand = (found < p.links) × (total (only found) v.passes ≡ 0)
 Finds p v (LoadName n) found hand = FindsId p found × (found ≢ NO_SOCKET)
 Finds p v (LoadOpen o) found hand = FindsId p found
 Finds p v (TakeLink k) found hand = hand.link ≡ k

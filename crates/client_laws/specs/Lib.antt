@@ -1,0 +1,2 @@
+pub mod AtSteps
+pub mod Openings
