@@ -1,0 +1,406 @@
+-- Why each operation of a script without messages has its outcome, as a report has to say it.
+use Rattle.std.proofs.Common.{◌≡◌, ◌≢◌, ℕ, zero, suc, ◌+◌, ◌<◌, ◌≤◌, ◌==◌, ◌%◌, ◌⊎◌, inl, inr, Bool, true, false, not, ◌||◌, ◌&&◌, cond, List, [], ◌∷◌, length, take, filter_map, count_by, slice_get, Option, Some, None, Contains, refl, ap, sym, ◌∙◌, subst, arith}
+use Rattle.std.proofs.lemmas.Option.{slice_get_within}
+use Rattle.std.specs.List.{list_any, AllByRecursion}
+use Rattle.sock_words.specs.Words.{vref_version}
+use Rattle.sock_words.specs.declared.outcome.Outcome.{Outcome}
+use Rattle.sock_words.specs.declared.outcome.Outcome.TheVariants.{Opened, SlotsFull, Unopened, Gone, Held, Freed, Kept, NotHeld, Failed, Already}
+use Rattle.brpc_model.specs.Items.{Item, Open, Send, Call, Fail, Hold, Drop, Shape, CallLine, is_open, is_operation, sought_name, mentioned, opened_name}
+use Rattle.brpc_model.specs.Operations.{Operation, operations, link_names, slots}
+use Rattle.brpc_model.specs.Places.{names}
+use Rattle.brpc_model.specs.Link.{LinkEnd}
+use Rattle.brpc_model.specs.Run.{Run, Story, nothing_late, IsOperation, HasOutcome, IsLinkOf, BecameSocket, HasSocket}
+use Rattle.brpc_model.specs.Causes.{FailingFor, WasFailed, MayFindNone, Opens}
+use Rattle.brpc_model.specs.Outcomes.{FoundFailed as RunFoundFailed, AfterHold as RunAfterHold, OpenCause, HoldCause, FailCause, DropCause, Cause, EachSlotOpened}
+use Rattle.sock_programs.specs.declared.task.Op.{Op}
+use Rattle.sock_programs.specs.declared.task.Op.TheVariants as ops
+use Rattle.sock_programs.specs.declared.task.Task.{Task}
+use Rattle.sock_programs.specs.Cores.{Core}
+use Rattle.sock_programs.specs.Tasks.{name_number, op_of, plan_of}
+use Rattle.sock_programs.specs.Scripts.{is_later, is_quiet, all_tasks, report_of}
+use Rattle.sock_programs.specs.Told.{Told, IsTask, Became, Made, Why, OpensNone, FoundNone, FoundFailed, AfterHold, HasLife, EachOpened, IsFail}
+use Rattle.quiet_fits.specs.Ends.{QuietEnds, IsQuietEnd}
+use Rattle.quiet_fits.proofs.Lists.{Has, within, some_is, contains_from, has_from, all_at, all_map}
+use Rattle.quiet_fits.proofs.Counting.{but, but_other, one_less, HasPlace, places, passing, passing_length, passing_pass, passing_apart, Passes, passes_at, tally_all, count_tally}
+use Rattle.quiet_fits.proofs.Names.{same_name, mentioned_has}
+use Rattle.quiet_fits.proofs.Numbering.{link_at, IsFrom, are_from, opened_by, names_of_operations, link_name_at}
+use Rattle.quiet_fits.proofs.TaskLemmas.{IsTaskOf, task_is, operation_task, open_asks, hold_asks, fail_asks}
+use Rattle.quiet_fits.proofs.Reported.{AllTold, outcome_told, told_outcome}
+
+-- ## Operations of a script without messages
+
+or_parts : (a b : Bool) → (a || b) ≡ false → (a ≡ false) × (b ≡ false)
+or_parts false b e = (refl, e)
+or_parts true b e = absurd (cc)
+
+any_none : {A : Type 0} (test : A → Bool) (xs : List A) (x : A) → list_any test xs ≡ false → Has xs x → test x ≡ false
+any_none test [] x e h = absurd (cc)
+any_none test (y ∷ ys) x e (zero, f) = ap test (sym (some_is y x f)) ∙ (or_parts (test y) (list_any test ys) e).0
+any_none test (y ∷ ys) x e (suc k, f) = any_none test ys x (or_parts (test y) (list_any test ys) e).1 (k, f)
+
+not_true : (b : Bool) → not b ≡ true → b ≡ false
+not_true false e = refl
+not_true true e = absurd (cc)
+
+pub not_later : (script : List Item) → is_quiet script ≡ true → (item : Item) → Has script item → is_later item ≡ false
+not_later script quiet item h = any_none is_later script item (not_true (list_any is_later script) quiet) h
+
+pub asks_something : (ns : List (List ℕ)) (link : ℕ) (item : Item) → is_operation item ≡ true → is_later item ≡ false → (op : Op) × (op_of ns link item ≡ Some op)
+asks_something ns link (Open name shape) o l = (ops.Open (name_number ns name) link, refl)
+asks_something ns link (Hold name) o l = (ops.Hold (name_number ns name), refl)
+asks_something ns link (Drop name) o l = (ops.Drop (name_number ns name), refl)
+asks_something ns link (Fail name code) o l = (ops.Fail (name_number ns name) code, refl)
+asks_something ns link other o l = absurd (cc)
+
+-- an operation that seeks a name is a `fail` or a `hold` of it
+seeks_by : (ns : List (List ℕ)) (link : ℕ) (item : Item) (name : List ℕ) (op : Op) → is_later item ≡ false → op_of ns link item ≡ Some op → sought_name item ≡ Some name →
+    ((c : ℕ) × (op ≡ ops.Fail (name_number ns name) c)) ⊎ (op ≡ ops.Hold (name_number ns name))
+seeks_by ns link (Fail nm code) name op l e f =
+    inl (code, sym (some_is (ops.Fail (name_number ns nm) code) op e) ∙ ap (λ x. ops.Fail (name_number ns x) code) (some_is nm name f))
+seeks_by ns link (Hold nm) name op l e f =
+    inr (sym (some_is (ops.Hold (name_number ns nm)) op e) ∙ ap (λ x. ops.Hold (name_number ns x)) (some_is nm name f))
+seeks_by ns link other name op l e f = absurd (cc)
+
+module _ (script : List Item) (core : Core) (ends : List LinkEnd) (quiet : is_quiet script ≡ true) (long : length core.outcomes ≡ length (operations script)) (given : QuietEnds script ends) (tells : Told (all_tasks script) core.outcomes (plan_of script)) where
+  abbrev pub story_of : Story
+  story_of = record { fails = tells.fails; gave = λ k. []; last = λ i. 0 }
+
+  -- the run that is reported
+  abbrev pub run_of : Run
+  run_of = record { script = script; report = report_of script core; ends = ends; late = nothing_late; story = story_of }
+
+  abbrev pub Names : List (List ℕ)
+  Names = names script
+
+  abbrev pub link : ℕ → ℕ
+  link i = link_at (operations script) i
+
+  abbrev pub Asked : ℕ → Operation → Type 0
+  Asked i q = (op : Op) × (op_of Names (link i) q.item ≡ Some op)
+
+  pub asked : (i : ℕ) (q : Operation) → IsOperation run_of i q → Asked i q
+  asked i q e = let w = are_from 0 1 script i q e in asks_something Names (link i) q.item w.is (not_later script quiet q.item w.there)
+
+  abbrev pub TaskAt : ℕ → ℕ → Op → Type 0
+  TaskAt c i op = IsTask (all_tasks script) core.outcomes c (record { number = i; op = op })
+
+  pub task_at : (i : ℕ) (q : Operation) (e : IsOperation run_of i q) (op : Op) → op_of Names (link i) q.item ≡ Some op → TaskAt q.client i op
+  task_at i q e op f = operation_task script core.outcomes i q op e f
+
+  pub all_told : AllTold core.outcomes
+  all_told i h =
+      let w = within (operations script) i (omega (arith, h, long)) in
+      let a = asked i w.0 w.1 in
+      tells.told w.0.client (record { number = i; op = a.0 }) (task_at i w.0 w.1 a.0 a.1)
+
+  pub became : (i : ℕ) (o : Outcome) → HasOutcome run_of i o → slice_get core.outcomes i ≡ Some (Some o)
+  became i o e = outcome_told core.outcomes all_told i o e
+
+  pub reported : (i : ℕ) (o : Outcome) → slice_get core.outcomes i ≡ Some (Some o) → HasOutcome run_of i o
+  reported i o e = told_outcome core.outcomes all_told i o e
+
+  abbrev pub WhyAt : ℕ → ℕ → Op → Outcome → Type 0
+  WhyAt c i op o = Why (all_tasks script) core.outcomes (plan_of script) tells.fails c i op o
+
+  pub why_at : (i : ℕ) (q : Operation) (e : IsOperation run_of i q) (op : Op) → op_of Names (link i) q.item ≡ Some op → (o : Outcome) → slice_get core.outcomes i ≡ Some (Some o) → WhyAt q.client i op o
+  why_at i q e op f o b = tells.why q.client (record { number = i; op = op }) o (task_at i q e op f) b
+
+  -- ## Lives
+
+  opened_is : (c o : ℕ) (op : Op) (slot version l : ℕ) → WhyAt c o op (Opened slot version l) → (n : ℕ) × (op ≡ ops.Open n l)
+  opened_is c o (ops.Open n k) slot version l w = (n, ap (ops.Open n) (sym w.0))
+  opened_is c o (ops.Hold n) slot version l w = absurd w
+  opened_is c o (ops.Drop n) slot version l w = absurd w
+  opened_is c o (ops.Fail n code) slot version l w = absurd w
+
+  -- the operation that made a life
+  pub record OpenedAt (j slot version k : ℕ) : Type 0 where
+    pub operation : Operation
+    pub there : slice_get (operations script) j ≡ Some operation
+    pub name : List ℕ
+    pub shape : Shape
+    pub item : operation.item ≡ Open name shape
+    pub its : k ≡ link_at (operations script) j
+    pub named : slice_get (link_names script) k ≡ Some name
+    pub mentions : Has (names script) name
+    pub is : IsTask (all_tasks script) core.outcomes operation.client (record { number = j; op = ops.Open (name_number (names script) name) k })
+
+  mentions_at : (i : ℕ) (q : Operation) → IsOperation run_of i q → (name : List ℕ) (item : Item) → q.item ≡ item → Has (mentioned item) name → Has (names script) name
+  mentions_at i q e name item same h =
+      let P : Item → Type 0 = λ x. Has (mentioned x) name in
+      mentioned_has script q.item name (are_from 0 1 script i q e).there (subst P (sym same) h)
+
+  named_at : (j k : ℕ) (q : Operation) (name : List ℕ) (shape : Shape) → IsOperation run_of j q → q.item ≡ Open name shape → k ≡ link_at (operations script) j → slice_get (link_names script) k ≡ Some name
+  named_at j k q name shape e item its =
+      let by_name : opened_by q ≡ Some name = ap opened_name item in
+      ap (λ x. slice_get x k) (names_of_operations 0 1 script) ∙ ap (slice_get (filter_map opened_by (operations script))) its ∙ link_name_at (operations script) j q name e by_name
+
+  pub opened_at : (j slot version k : ℕ) → slice_get core.outcomes j ≡ Some (Some (Opened slot version k)) → OpenedAt j slot version k
+  opened_at j slot version k b =
+      let w = within (operations script) j (omega (arith, slice_get_within core.outcomes j (Some (Opened slot version k)) b, long)) in
+      let q = w.0 in
+      let a = asked j q w.1 in
+      let o = opened_is q.client j a.0 slot version k (why_at j q w.1 a.0 a.1 (Opened slot version k) b) in
+      let is_open_op : op_of Names (link j) q.item ≡ Some (ops.Open o.0 k) = a.1 ∙ ap Some o.1 in
+      let m = open_asks Names (link j) q.item o.0 k is_open_op in
+      record {
+        operation = q;
+        there = w.1;
+        name = m.0;
+        shape = m.1;
+        item = m.2;
+        its = m.4;
+        named = named_at j k q m.0 m.1 w.1 m.2 m.4;
+        mentions = mentions_at j q w.1 m.0 (Open m.0 m.1) m.2 (0, refl);
+        is = task_at j q w.1 (ops.Open (name_number Names m.0) k) (is_open_op ∙ ap (λ n. Some (ops.Open n k)) m.3);
+      }
+
+  abbrev pub Makes : ℕ → ℕ → ℕ → ℕ → Type 0
+  Makes n k slot version = Made (all_tasks script) core.outcomes n k slot version
+
+  -- the operation that made it is known by the life
+  pub maker : (n k slot version : ℕ) (m : Makes n k slot version) → (w : OpenedAt m.task.number slot version k) × (n ≡ name_number Names w.name)
+  maker n k slot version m =
+      let w = opened_at m.task.number slot version k m.became in
+      let t = task_is script core.outcomes m.client m.task m.is in
+      let same : t.operation ≡ w.operation = some_is t.operation w.operation (sym t.there ∙ w.there) in
+      let asks : op_of Names (link m.task.number) (Open w.name w.shape) ≡ Some (ops.Open n k) =
+      ap (op_of Names (link m.task.number)) (sym w.item ∙ ap (λ (x : Operation). x.item) (sym same)) ∙ t.asks ∙ ap Some m.op in
+      let both : ops.Open (name_number Names w.name) (link m.task.number) ≡ ops.Open n k = some_is _ (ops.Open n k) asks in
+      (w, cc)
+
+  -- the name is one that the script mentions, with this number
+  abbrev pub IsNumberOf : ℕ → List ℕ → Type 0
+  IsNumberOf n name = (n ≡ name_number (names script) name) × Has (names script) name
+
+  link_of : (n k slot version : ℕ) (name : List ℕ) → IsNumberOf n name → (m : Makes n k slot version) → IsLinkOf run_of k name
+  link_of n k slot version name is m =
+      let w = maker n k slot version m in
+      let same : w.0.name ≡ name = same_name Names w.0.name name w.0.mentions is.1 (sym w.1 ∙ is.0) in
+      w.0.named ∙ ap Some same
+
+  -- ## Names without a socket
+
+  OpensNo : ℕ → Task → Type 0
+  OpensNo n t = OpensNone (all_tasks script) core.outcomes n t
+
+  opens_not : (n : ℕ) (name : List ℕ) → IsNumberOf n name → (j c : ℕ) → ((q : Operation) → IsOperation run_of j q → q.client ≡ c) →
+      ((op : Op) → TaskAt c j op → OpensNone (all_tasks script) core.outcomes n (record { number = j; op = op })) → Opens run_of j name → ⊥
+  opens_not n name is j c own none opens =
+      let slot = opens.0 in
+      let version = opens.1 in
+      let k = opens.2 in
+      let b = became j (Opened slot version k) opens.3 in
+      let w = opened_at j slot version k b in
+      let same : w.name ≡ name = some_is w.name name (sym w.named ∙ opens.4) in
+      let numbers : name_number Names w.name ≡ n = ap (name_number Names) same ∙ sym is.0 in
+      let P : ℕ → Type 0 = λ x. TaskAt x j (ops.Open (name_number Names w.name) k) in
+      none (ops.Open (name_number Names w.name) k) (subst P (own w.operation w.there) w.is) k slot version (ap (λ x. ops.Open x k) numbers) b
+
+  operation_is : (j : ℕ) (p q : Operation) → IsOperation run_of j p → IsOperation run_of j q → p ≡ q
+  operation_is j p q e f = some_is p q (sym e ∙ f)
+
+  find_none : (c o n : ℕ) (name : List ℕ) → IsNumberOf n name → FoundNone (all_tasks script) core.outcomes c o n → MayFindNone run_of c o name
+  find_none c o n name is found j q there =
+      let owner : (d : ℕ) → q.client ≡ d → (p : Operation) → IsOperation run_of j p → p.client ≡ d = λ d e p f. ap (λ (x : Operation). x.client) (operation_is j p q f there) ∙ e in
+      let a = asked j q there in
+      (
+        λ z opens. opens_not n name is j 0 (owner 0 z) (λ op t. found.setup (record { number = j; op = op }) t) opens,
+        λ own less. (
+          λ opens. opens_not n name is j c (owner c own) (λ op t. (found.own (record { number = j; op = op }) t less).0) opens,
+          λ sought. (
+            let s = seeks_by Names (link j) q.item name a.0 (not_later script quiet q.item (are_from 0 1 script j q there).there) a.1 sought in
+            let P : ℕ → Type 0 = λ x. TaskAt x j a.0 in
+            reported j Unopened ((found.own (record { number = j; op = a.0 }) (subst P own (task_at j q there a.0 a.1)) less).1 (by_number s))
+          ),
+        ),
+      )
+    where
+      by_number : {op : Op} → ((x : ℕ) × (op ≡ ops.Fail (name_number Names name) x)) ⊎ (op ≡ ops.Hold (name_number Names name)) → ((x : ℕ) × (op ≡ ops.Fail n x)) ⊎ (op ≡ ops.Hold n)
+      by_number (inl w) = inl (w.0, w.1 ∙ ap (λ m. ops.Fail m w.0) (sym is.0))
+      by_number (inr e) = inr (e ∙ ap ops.Hold (sym is.0))
+
+  -- ## Lives that were failed
+
+  end_at : (k : ℕ) (name : List ℕ) → IsLinkOf run_of k name → (e : LinkEnd) × Contains ends e × (e.link ≡ k)
+  end_at k name named =
+      let w = within ends k (omega (arith, slice_get_within (link_names script) k name named, given.as_many)) in
+      (w.0, contains_from ends w.0 (k, w.1), (given.quiet k w.0 w.1).numbered)
+
+  found_failed : (i n : ℕ) (q : Operation) (name : List ℕ) (P : ℕ → Type 0) → IsOperation run_of i q → IsNumberOf n name → FoundFailed (all_tasks script) core.outcomes tells.fails q.client i n P → RunFoundFailed run_of i name P
+  found_failed i n q name P there is f =
+      let named = link_of n f.link f.slot f.version name is f.made in
+      let e = end_at f.link name named in
+      let Q : ℕ → Type 0 = λ k. Contains tells.fails (f.fail, k) in
+      let failing : FailingFor run_of i f.link = (e.0, e.1, e.2, WasFailed f.fail
+      (λ p r at_i at_f same. (
+        let a = asked f.fail r at_f in
+        let own : r.client ≡ q.client = sym same ∙ ap (λ (x : Operation). x.client) (operation_is i p q at_i there) in
+        let R : ℕ → Type 0 = λ x. TaskAt x f.fail a.0 in
+        f.no_later (record { number = f.fail; op = a.0 }) (subst R own (task_at f.fail r at_f a.0 a.1)) refl
+      ))
+      (subst Q (sym e.2) f.failed)) in
+      (f.link, f.made.task.number, f.slot, f.version, reported f.made.task.number (Opened f.slot f.version f.link) f.made.became, named, f.holds, inl failing)
+
+  has_socket : (n : ℕ) (name : List ℕ) → IsNumberOf n name → HasLife (all_tasks script) core.outcomes n → HasSocket run_of name
+  has_socket n name is w = (w.0, link_of n w.0 w.1 w.2 name is w.3, (w.3.task.number, w.1, w.2, reported w.3.task.number (Opened w.1 w.2 w.0) w.3.became))
+
+  -- ## Holds and drops
+
+  -- what the task of a `hold` is
+  hold_at : (h n : ℕ) (r : Operation) (name : List ℕ) (op : Op) → IsOperation run_of h r → op_of Names (link h) r.item ≡ Some op → op ≡ ops.Hold n → IsNumberOf n name → r.item ≡ Hold name
+  hold_at h n r name op there asks e is =
+      let w = hold_asks Names (link h) r.item n (asks ∙ ap Some e) in
+      let mentions : Has Names w.0 = mentions_at h r there w.0 (Hold w.0) w.1 (0, refl) in
+      w.1 ∙ ap Hold (same_name Names w.0 name mentions is.1 (sym w.2 ∙ is.0))
+
+  after_hold : (i n : ℕ) (q : Operation) (name : List ℕ) (P : Outcome → Type 0) → IsNumberOf n name → AfterHold (all_tasks script) core.outcomes q.client i n P → RunAfterHold run_of i q name P
+  after_hold i n q name P is a =
+      let h = a.hold.number in
+      let t = task_is script core.outcomes q.client a.hold a.is in
+      (h, a.outcome, record {
+        before = a.before;
+        hold = t.operation;
+        there = t.there;
+        own = t.own;
+        same = hold_at h n t.operation name a.hold.op t.there t.asks a.op is;
+        last = λ j r low high there own same. (
+          let asks : op_of Names (link j) r.item ≡ Some (ops.Hold n) = ap (op_of Names (link j)) same ∙ ap (λ x. Some (ops.Hold x)) (sym is.0) in
+          let R : ℕ → Type 0 = λ x. TaskAt x j (ops.Hold n) in
+          a.last (record { number = j; op = ops.Hold n }) (subst R own (task_at j r there (ops.Hold n) asks)) low high refl
+        );
+      }, reported h a.outcome a.became, a.holds)
+
+  -- ## The causes
+
+  hold_cause : (i n : ℕ) (q : Operation) (name : List ℕ) (o : Outcome) → IsOperation run_of i q → IsNumberOf n name → WhyAt q.client i (ops.Hold n) o → HoldCause run_of i q name o
+  hold_cause i n q name Unopened there is w = find_none q.client i n name is w
+  hold_cause i n q name (Gone found) there is w = found_failed i n q name (λ version. vref_version found.0 ≢ version) there is w
+  hold_cause i n q name Held there is w = has_socket n name is w
+  hold_cause i n q name other there is w = absurd w
+
+  drop_cause : (i n : ℕ) (q : Operation) (name : List ℕ) (o : Outcome) → IsNumberOf n name → WhyAt q.client i (ops.Drop n) o → DropCause run_of i q name o
+  drop_cause i n q name NotHeld is w = after_hold i n q name (λ outcome. outcome ≢ Held) is w
+  drop_cause i n q name Freed is w = after_hold i n q name (λ outcome. outcome ≡ Held) is w
+  drop_cause i n q name Kept is w = after_hold i n q name (λ outcome. outcome ≡ Held) is w
+  drop_cause i n q name other is w = absurd w
+
+  -- a `fail` that was answered `failed`: the operation, and the link that it failed
+  pub record FailedAt (i k : ℕ) : Type 0 where
+    pub operation : Operation
+    pub there : slice_get (operations script) i ≡ Some operation
+    pub name : List ℕ
+    pub code : ℕ
+    pub item : operation.item ≡ Fail name code
+    pub named : IsLinkOf run_of k name
+    pub opened : BecameSocket run_of k
+    pub failed : slice_get core.outcomes i ≡ Some (Some Failed)
+
+  mentions_fail : (i : ℕ) (q : Operation) (name : List ℕ) (code : ℕ) → IsOperation run_of i q → q.item ≡ Fail name code → Has (names script) name
+  mentions_fail i q name code there e = mentions_at i q there name (Fail name code) e (0, refl)
+
+  pub failed_at : (f : ℕ × ℕ) → Contains tells.fails f → FailedAt f.0 f.1
+  failed_at f h =
+      let w = all_at (IsFail (all_tasks script) core.outcomes) tells.fails f tells.are (has_from tells.fails f h) in
+      let t = task_is script core.outcomes w.client w.task w.is in
+      let there : slice_get (operations script) f.0 ≡ Some t.operation = ap (slice_get (operations script)) (sym w.numbered) ∙ t.there in
+      let a = fail_asks Names (link w.task.number) t.operation.item w.name w.code (t.asks ∙ ap Some w.op) in
+      let life = w.life in
+      record {
+        operation = t.operation;
+        there = there;
+        name = a.0;
+        code = w.code;
+        item = a.1;
+        named = link_of w.name f.1 w.slot w.version a.0 (a.2, mentions_fail f.0 t.operation a.0 w.code there a.1) life;
+        opened = (life.task.number, w.slot, w.version, reported life.task.number (Opened w.slot w.version f.1) life.became);
+        failed = w.became;
+      }
+
+  failed_cause : (i k : ℕ) (q : Operation) (name : List ℕ) (code : ℕ) → IsOperation run_of i q → q.item ≡ Fail name code → Contains tells.fails (i, k) → HasSocket run_of name
+  failed_cause i k q name code there item h =
+      let w = failed_at (i, k) h in
+      let same : Fail w.name w.code ≡ Fail name code = sym w.item ∙ ap (λ (x : Operation). x.item) (operation_is i w.operation q w.there there) ∙ item in
+      let name_is : w.name ≡ name = cc in
+      (k, w.named ∙ ap Some name_is, w.opened)
+
+  fail_cause : (i n code : ℕ) (q : Operation) (name : List ℕ) (o : Outcome) → IsOperation run_of i q → q.item ≡ Fail name code → IsNumberOf n name → WhyAt q.client i (ops.Fail n code) o → FailCause run_of i q name o
+  fail_cause i n code q name Unopened there item is w = find_none q.client i n name is w
+  fail_cause i n code q name (Gone found) there item is w = found_failed i n q name (λ version. vref_version found.0 ≢ version) there is w
+  fail_cause i n code q name (Already found) there item is w = found_failed i n q name (λ version. vref_version found.0 % 2 ≡ 1) there is w
+  fail_cause i n code q name Failed there item is w = failed_cause i w.0 q name code there item w.1
+  fail_cause i n code q name other there item is w = absurd w
+
+  -- ## No slot
+
+  each_opened : EachOpened (all_tasks script) core.outcomes (plan_of script) → EachSlotOpened run_of
+  each_opened each slot low = let w = each slot low in (w.3.task.number, w.2, w.1, reported w.3.task.number (Opened slot w.2 w.1) w.3.became)
+
+  abbrev is_open_at : ℕ → Bool
+  is_open_at j = passes_at (λ (op : Operation). is_open op.item) (slice_get (operations script) j)
+
+  abbrev OpenedSlot : ℕ → ℕ → Type 0
+  OpenedSlot slot j = (version k : ℕ) × (slice_get core.outcomes j ≡ Some (Some (Opened slot version k)))
+
+  one_slot : (x y j : ℕ) → x ≢ y → OpenedSlot x j → OpenedSlot y j → ⊥
+  one_slot x y j apart v w =
+      let same : Some (Opened x v.0 v.1) ≡ Some (Opened y w.0 w.1) = some_is (Some (Opened x v.0 v.1)) (Some (Opened y w.0 w.1)) (sym v.2 ∙ w.2) in
+      let slot : x ≡ y = cc in
+      apart slot
+
+  open_place : (i j : ℕ) (slot version k : ℕ) → slice_get core.outcomes i ≡ Some (Some SlotsFull) → slice_get core.outcomes j ≡ Some (Some (Opened slot version k)) →
+      HasPlace OpenedSlot (but is_open_at i) (length (operations script)) slot
+  open_place i j slot version k full b =
+      let w = opened_at j slot version k b in
+      let other : j ≢ i = λ e. let same : Some (Opened slot version k) ≡ Some SlotsFull = some_is (Some (Opened slot version k)) (Some SlotsFull) (sym b ∙ ap (slice_get core.outcomes) e ∙ full) in absurd (cc) in
+      let opens : is_open_at j ≡ true = ap (passes_at (λ (op : Operation). is_open op.item)) w.there ∙ ap is_open w.item in
+      (j, slice_get_within (operations script) j w.operation w.there, but_other is_open_at i j other ∙ opens, (version, k, b))
+
+  -- where each slot was opened and one `open` more was made, there are more opens than slots
+  more_opens : (i : ℕ) (q : Operation) → IsOperation run_of i q → is_open q.item ≡ true → slice_get core.outcomes i ≡ Some (Some SlotsFull) → EachOpened (all_tasks script) core.outcomes (plan_of script) →
+      slots script < count_by (λ (op : Operation). is_open op.item) (operations script)
+  more_opens i q there o full each =
+      let always : ℕ → Bool = λ j. true in
+      let n = length (operations script) in
+      let here : is_open_at i ≡ true = ap (passes_at (λ (op : Operation). is_open op.item)) there ∙ o in
+      let low : i < n = slice_get_within (operations script) i q there in
+      let slots_ = passing always (slots script) in
+      let have : AllByRecursion (HasPlace OpenedSlot (but is_open_at i) n) slots_ = all_map (Passes always (slots script)) (HasPlace OpenedSlot (but is_open_at i) n)
+      (λ slot w. (let m = each slot w.0 in open_place i m.3.task.number slot m.2 m.1 full m.3.became)) slots_ (passing_pass always (slots script)) in
+      omega (
+        arith,
+        places OpenedSlot (λ (x y : ℕ). x ≢ y) n one_slot slots_ (but is_open_at i) (passing_apart always (slots script)) have,
+        passing_length always (slots script),
+        tally_all (slots script),
+        one_less is_open_at i n low here,
+        count_tally (λ (op : Operation). is_open op.item) (operations script),
+      )
+
+  open_cause : (i n k : ℕ) (q : Operation) (o : Outcome) → IsOperation run_of i q → is_open q.item ≡ true → k ≡ link i → slice_get core.outcomes i ≡ Some (Some o) → WhyAt q.client i (ops.Open n k) o → OpenCause run_of i o
+  open_cause i n k q (Opened slot version l) there o its b w = (w.0 ∙ its, w.1, w.2, w.3)
+  open_cause i n k q SlotsFull there o its b w = (each_opened w, more_opens i q there o b w)
+  open_cause i n k q other there o its b w = absurd w
+
+  -- ## Any operation
+
+  cause_of : (i : ℕ) (q : Operation) (item : Item) (op : Op) (o : Outcome) → IsOperation run_of i q → q.item ≡ item → op_of Names (link i) item ≡ Some op → slice_get core.outcomes i ≡ Some (Some o) → WhyAt q.client i op o →
+      Cause run_of i q item o
+  cause_of i q (Open name shape) op o there e asks b w =
+      let P : Op → Type 0 = λ x. WhyAt q.client i x o in
+      open_cause i (name_number Names name) (link i) q o there (ap is_open e) refl b (subst P (sym (some_is (ops.Open (name_number Names name) (link i)) op asks)) w)
+  cause_of i q (Hold name) op o there e asks b w =
+      let P : Op → Type 0 = λ x. WhyAt q.client i x o in
+      hold_cause i (name_number Names name) q name o there (refl, mentions_at i q there name (Hold name) e (0, refl)) (subst P (sym (some_is (ops.Hold (name_number Names name)) op asks)) w)
+  cause_of i q (Drop name) op o there e asks b w =
+      let P : Op → Type 0 = λ x. WhyAt q.client i x o in
+      drop_cause i (name_number Names name) q name o (refl, mentions_at i q there name (Drop name) e (0, refl)) (subst P (sym (some_is (ops.Drop (name_number Names name)) op asks)) w)
+  cause_of i q (Fail name code) op o there e asks b w =
+      let P : Op → Type 0 = λ x. WhyAt q.client i x o in
+      fail_cause i (name_number Names name) code q name o there e (refl, mentions_at i q there name (Fail name code) e (0, refl)) (subst P (sym (some_is (ops.Fail (name_number Names name) code) op asks)) w)
+  cause_of i q other op o there e asks b w = absurd (cc)
+
+  pub cause_at : (i : ℕ) (q : Operation) (o : Outcome) → IsOperation run_of i q → HasOutcome run_of i o → Cause run_of i q q.item o
+  cause_at i q o there has =
+      let a = asked i q there in
+      let b = became i o has in
+      cause_of i q q.item a.0 o there refl a.1 b (why_at i q there a.0 a.1 o b)

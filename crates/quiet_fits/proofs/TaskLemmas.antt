@@ -1,0 +1,128 @@
+-- The tasks of a script, and the operations that they are.
+use Rattle.std.proofs.Common.{◌≡◌, ◌≢◌, ℕ, zero, suc, ◌+◌, ◌<◌, ◌≤◌, ◌==◌, ◌⊎◌, inl, inr, Bool, true, false, cond, List, [], ◌∷◌, length, filter, filter_map, slice_get, option_map, Option, Some, None, Contains, refl, ap, sym, ◌∙◌, subst, arith}
+use Rattle.std.proofs.lemmas.Bool.Decides.{nat_tests}
+use Rattle.std.proofs.lemmas.Option.{slice_get_within}
+use Rattle.sock_words.specs.declared.outcome.Outcome.{Outcome}
+use Rattle.brpc_model.specs.Items.{Item, Slots, Requests, First, Open, Client, Send, Call, Expire, Join, Fail, Hold, Drop, Sched, Tick, To, Shape, is_open, mentioned, opened_name}
+use Rattle.brpc_model.specs.Operations.{Operation, operations, clients, link_names}
+use Rattle.brpc_model.specs.Places.{names}
+use Rattle.sock_programs.specs.declared.task.Op.{Op}
+use Rattle.sock_programs.specs.declared.task.Op.TheVariants as ops
+use Rattle.sock_programs.specs.declared.task.Task.{Task}
+use Rattle.sock_programs.specs.Tasks.{Numbered, numbered_from, numbered, of_client, op_of, task_of, tasks, name_number}
+use Rattle.sock_programs.specs.Scripts.{tasks_from, all_tasks}
+use Rattle.sock_programs.specs.Told.{IsTask}
+use Rattle.quiet_fits.proofs.Lists.{Has, has_from, contains_from, some_is, filter_has, has_filter, filter_map_has, has_filter_map}
+use Rattle.quiet_fits.proofs.Numbering.{link_at, IsNumbered, is_numbered, numbered_at, IsFrom, are_from}
+
+-- ## Which client's tasks
+
+pub tasks_at : (script : List Item) (from n k : ℕ) → k < n → slice_get (tasks_from script from n) k ≡ Some (tasks script (from + k))
+tasks_at script from zero k h = absurd (omega (arith, h))
+tasks_at script from (suc n) zero h = let same : from ≡ from + 0 = omega arith in ap (λ c. Some (tasks script c)) same
+tasks_at script from (suc n) (suc k) h =
+    let same : (from + 1) + k ≡ from + suc k = omega arith in
+    tasks_at script (from + 1) n k (omega (arith, h)) ∙ ap (λ c. Some (tasks script c)) same
+
+pub tasks_length : (script : List Item) (from n : ℕ) → length (tasks_from script from n) ≡ n
+tasks_length script from zero = refl
+tasks_length script from (suc n) = ap suc (tasks_length script (from + 1) n)
+
+-- the tasks of each client, of which there are one more than clients
+pub tasks_of : (script : List Item) (c : ℕ) → c ≤ clients script → slice_get (all_tasks script) c ≡ Some (tasks script c)
+tasks_of script c h = tasks_at script 0 (clients script + 1) c (omega (arith, h)) ∙ ap (λ x. Some (tasks script x)) (let same : 0 + c ≡ c = omega arith in same)
+
+pub of_tasks : (script : List Item) (c : ℕ) (ts : List Task) → slice_get (all_tasks script) c ≡ Some ts → (c ≤ clients script) × (tasks script c ≡ ts)
+of_tasks script c ts e =
+    let within : c ≤ clients script = omega (arith, slice_get_within (all_tasks script) c ts e, tasks_length script 0 (clients script + 1)) in
+    (within, some_is (tasks script c) ts (sym (tasks_of script c within) ∙ e))
+
+-- ## The operation of a task
+
+-- the operation that the task is
+pub record IsTaskOf (script : List Item) (c : ℕ) (t : Task) : Type 0 where
+  pub operation : Operation
+  pub there : slice_get (operations script) t.number ≡ Some operation
+  pub own : operation.client ≡ c
+  pub asks : op_of (names script) (link_at (operations script) t.number) operation.item ≡ Some t.op
+
+map_is : (o : Option Op) (number : ℕ) (t : Task) → option_map (λ (op : Op). record { number = number; op = op }) o ≡ Some t → (number ≡ t.number) × (o ≡ Some t.op)
+map_is None number t e = absurd (cc)
+map_is (Some op) number t e =
+    let made : Task = record { number = number; op = op } in
+    let same : made ≡ t = some_is made t e in
+    (ap (λ (x : Task). x.number) same, ap (λ (x : Task). Some x.op) same)
+
+numbered_task : (script : List Item) (c : ℕ) (t : Task) (x : Numbered) → Has (numbered script) x → (x.op.client == c) ≡ true → task_of (names script) x ≡ Some t → IsTaskOf script c t
+numbered_task script c t x there own e =
+    let w = is_numbered 0 0 (operations script) there.0 x there.1 in
+    let m = map_is (op_of (names script) x.link x.op.item) x.number t e in
+    let number : there.0 ≡ t.number = omega (arith, m.0, w.number) in
+    let link : x.link ≡ link_at (operations script) there.0 = omega (arith, w.link) in
+    record {
+      operation = x.op;
+      there = ap (slice_get (operations script)) (sym number) ∙ w.op;
+      own = grind (arith, nat_tests, own);
+      asks = ap (λ n. op_of (names script) (link_at (operations script) n) x.op.item) (sym number) ∙ ap (λ l. op_of (names script) l x.op.item) (sym link) ∙ m.1;
+    }
+
+pub has_task : (script : List Item) (c : ℕ) (t : Task) → Has (tasks script c) t → IsTaskOf script c t
+has_task script c t h =
+    let w = filter_map_has (task_of (names script)) (of_client c (numbered script)) t h in
+    let f = filter_has (λ (n : Numbered). n.op.client == c) (numbered script) w.0 w.1 in
+    numbered_task script c t w.0 f.0 f.1 w.2
+
+pub task_is : (script : List Item) (os : List (Option Outcome)) (c : ℕ) (t : Task) → IsTask (all_tasks script) os c t → IsTaskOf script c t
+task_is script os c t w =
+    let of_c = of_tasks script c w.0 w.1 in
+    let P : List Task → Type 0 = λ ts. Has ts t in
+    has_task script c t (subst P (sym of_c.1) (has_from w.0 t w.2))
+
+-- ## The task of an operation
+
+pub operation_task : (script : List Item) (os : List (Option Outcome)) (i : ℕ) (operation : Operation) (op : Op) → slice_get (operations script) i ≡ Some operation →
+    op_of (names script) (link_at (operations script) i) operation.item ≡ Some op → IsTask (all_tasks script) os operation.client (record { number = i; op = op })
+operation_task script os i operation op e f =
+    let x : Numbered = record { number = 0 + i; link = 0 + link_at (operations script) i; op = operation } in
+    let number : 0 + i ≡ i = omega arith in
+    let link : 0 + link_at (operations script) i ≡ link_at (operations script) i = omega arith in
+    let made : task_of (names script) x ≡ Some (record { number = i; op = op }) =
+    ap (λ l. option_map (λ (o : Op). record { number = 0 + i; op = o }) (op_of (names script) l operation.item)) link
+    ∙ ap (option_map (λ (o : Op). record { number = 0 + i; op = o })) f
+    ∙ ap (λ n. Some (record { number = n; op = op })) number in
+    let t : Task = record { number = i; op = op } in
+    let same : (operation.client == operation.client) ≡ true = grind (arith, nat_tests) in
+    let has : Has (tasks script operation.client) t = has_filter_map (task_of (names script)) (of_client operation.client (numbered script)) x t
+    (has_filter (λ (n : Numbered). n.op.client == operation.client) (numbered script) x (i, numbered_at 0 0 (operations script) i operation e) same) made in
+    let high : operation.client ≤ clients script = omega (arith, (are_from 0 1 script i operation e).high) in
+    (tasks script operation.client, tasks_of script operation.client high, contains_from (tasks script operation.client) t has)
+
+-- ## What an operation asks for
+
+pub open_asks : (ns : List (List ℕ)) (link : ℕ) (item : Item) (n k : ℕ) → op_of ns link item ≡ Some (ops.Open n k) → (name : List ℕ) × (shape : Shape) × (item ≡ Open name shape) × (n ≡ name_number ns name) × (k ≡ link)
+open_asks ns link (Open name shape) n k e =
+    let same : ops.Open (name_number ns name) link ≡ ops.Open n k = some_is _ (ops.Open n k) e in
+    (name, shape, refl, cc, cc)
+open_asks ns link (Hold name) n k e = absurd (cc)
+open_asks ns link (Drop name) n k e = absurd (cc)
+open_asks ns link (Fail name code) n k e = absurd (cc)
+open_asks ns link other n k e = absurd (cc)
+
+pub hold_asks : (ns : List (List ℕ)) (link : ℕ) (item : Item) (n : ℕ) → op_of ns link item ≡ Some (ops.Hold n) → (name : List ℕ) × (item ≡ Hold name) × (n ≡ name_number ns name)
+hold_asks ns link (Hold name) n e =
+    let same : ops.Hold (name_number ns name) ≡ ops.Hold n = some_is _ (ops.Hold n) e in
+    (name, refl, cc)
+hold_asks ns link (Open name shape) n e = absurd (cc)
+hold_asks ns link (Drop name) n e = absurd (cc)
+hold_asks ns link (Fail name code) n e = absurd (cc)
+hold_asks ns link other n e = absurd (cc)
+
+pub fail_asks : (ns : List (List ℕ)) (link : ℕ) (item : Item) (n c : ℕ) → op_of ns link item ≡ Some (ops.Fail n c) → (name : List ℕ) × (item ≡ Fail name c) × (n ≡ name_number ns name)
+fail_asks ns link (Fail name code) n c e =
+    let same : ops.Fail (name_number ns name) code ≡ ops.Fail n c = some_is _ (ops.Fail n c) e in
+    let code_is : code ≡ c = cc in
+    (name, ap (Fail name) code_is, cc)
+fail_asks ns link (Open name shape) n c e = absurd (cc)
+fail_asks ns link (Hold name) n c e = absurd (cc)
+fail_asks ns link (Drop name) n c e = absurd (cc)
+fail_asks ns link other n c e = absurd (cc)
