@@ -1,5 +1,7 @@
 -- Where a program goes on behind each step.
-use Rattle.std.proofs.Common.{◌≡◌, refl, ℕ, zero, suc, ◌+◌, ◌-◌, ◌<◌, ◌==◌, ◌&&◌, ◌||◌, Bool, true, false, not, nat_le, if◌then◌else◌, ap, sym, ◌∙◌, subst, arith, Some, None, add-one}
+use Rattle.std.proofs.lemmas.Bool.Decides.{nat_tests}
+use Rattle.sock_words.specs.declared.vref.Vref.{Vref}
+use Rattle.std.proofs.Common.{◌≢◌, ◌≡◌, refl, ℕ, zero, suc, ◌+◌, ◌-◌, ◌<◌, ◌==◌, ◌&&◌, ◌||◌, Bool, true, false, not, nat_le, if◌then◌else◌, ap, sym, ◌∙◌, subst, arith, Some, None, add-one}
 use Rattle.sock_words.specs.Words.{socket_id_slot, socket_id_version, vref_version, vref_nref}
 use Rattle.sock_programs.specs.Programs.{Program, open_from, release, NO_SOCKET}
 use Rattle.sock_core.specs.declared.point.Opening.{Opening}
@@ -47,3 +49,15 @@ pub seeks_gone : (a : Around) (aim : Aim) (i found : ℕ) → release_program a 
 seeks_gone a (aims.Hold o name) i found = refl
 seeks_gone a (aims.Fail o name code) i found = refl
 seeks_gone a (aims.End o) i found = refl
+
+-- who wins the exchange loads the link of the slot
+pub recycles : (a : Around) (i : ℕ) (t : Then) (from : Vref) (found : ℕ) → found ≡ from.0 → release_program a i t (releases.LoadLink (vref_version from.0 + 1)) ≡ after_of (release_program a i t (releases.Recycle from)) found
+recycles a i t from found h =
+    let e : (found == from.0) ≡ true = grind (arith, nat_tests) in
+    rw e refl
+
+-- the life is addressed where the version is its own
+pub seeks_reached : (a : Around) (aim : Aim) (id : SocketId) (found : ℕ) → vref_version found ≢ socket_id_version id.0 → release_program a (socket_id_slot id.0) (gone_then aim found) releases.SubRef ≡ after_of (seek_program a aim (seeks.AddRef id)) found
+seeks_reached a aim id found h =
+    let e : (vref_version found == socket_id_version id.0) ≡ false = grind (arith, nat_tests) in
+    rw e (seeks_gone a aim (socket_id_slot id.0) found)
