@@ -3,5 +3,6 @@
 
 mod call;
 mod point;
+mod seat;
 mod follows;
 mod steps;
