@@ -1,3 +1,4 @@
 pub mod Behind
 pub mod HeldLives
 pub mod GoingOn
+pub mod EndedLinks

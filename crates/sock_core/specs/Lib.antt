@@ -1,3 +1,4 @@
 pub mod Steps
 pub mod Points
 pub mod Seats
+pub mod Links

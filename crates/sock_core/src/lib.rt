@@ -6,3 +6,4 @@ mod point;
 mod seat;
 mod follows;
 mod steps;
+mod table;
