@@ -2,3 +2,4 @@ pub mod Steps
 pub mod Points
 pub mod Seats
 pub mod Links
+pub mod Machines

@@ -5,5 +5,6 @@ mod call;
 mod point;
 mod seat;
 mod follows;
+mod step;
 mod steps;
 mod table;

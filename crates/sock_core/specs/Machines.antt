@@ -1,0 +1,68 @@
+-- The machine: its core, the links as they would be given back, and what holds of it behind each step.
+use Rattle.std.specs.Prelude.{ℕ, ◌≡◌, ◌<◌, ◌≤◌, Bool, List, [], ◌∷◌, length, map, sum_by, slice_get, Option, Some, None}
+use Rattle.std.specs.List.{AllByRecursion}
+use mathlib.Core.Option as core
+use lib.ListN.{get_elem?}
+use Rattle.sock_words.specs.declared.plain.Plan.{Plan}
+use Rattle.sock_words.specs.declared.outcome.Outcome.{Outcome}
+use Rattle.brpc_model.specs.Link.{LinkEnd}
+use Rattle.sock_model.specs.declared.view.View.{View}
+use Rattle.sock_programs.specs.Calls.{Call}
+use Rattle.sock_programs.specs.Programs.{Program}
+use Rattle.sock_programs.specs.Clients.{ending_of}
+use Rattle.sock_programs.specs.Cores.{Core, SeatState, word_of, found_at, with_seat}
+use Rattle.sock_runs.specs.Sound.{Sound, AllowsWord}
+use Rattle.sock_core.specs.declared.point.Point.{Point}
+use Rattle.sock_core.specs.declared.seat.Seat.{Seat}
+use Rattle.sock_core.specs.Points.{TriesOneOf, link_at}
+use Rattle.sock_core.specs.Seats.{seat_program, seat_left}
+use Rattle.sock_core.specs.Links.{IsOfLinks, holder_of, homes_of, hand_of}
+
+-- ## What callers see
+
+pub record MachineState : Type 0 where
+  -- the sizes of the table
+  pub plan : Plan
+  pub core : Core
+  -- the numbers of the `open`s that the ending goes over
+  pub opens : List ℕ
+  -- the links, as they would be given back
+  pub ends : List LinkEnd
+  -- how many steps all seats have left at most
+  pub left : ℕ
+
+-- ## The core
+
+abbrev pub seat_state : ℕ → List Bool → Seat → SeatState
+seat_state slots dones seat = record { program = seat_program slots seat; hand = hand_of dones seat.point }
+
+-- from the words, who has each link in hand, which writing halves are ended, the seats, and the outcomes
+abbrev pub core_of : Plan → List ℕ → List (Option ℕ) → List Bool → List Seat → List (Option Outcome) → Core
+core_of p words holders dones seats outcomes = record { words = words; homes = homes_of p holders dones; seats = map (seat_state p.slots dones) seats; outcomes = outcomes }
+
+-- seat 0 begins the ending
+abbrev pub ending_by : List ℕ → Core → Core
+ending_by opens c = with_seat 0 (ending_of opens) [] c.words c.homes c
+
+-- ## What holds of it
+
+-- who has a link in hand is the one that took it
+abbrev pub HoldsItsLink : List (Option ℕ) → ℕ → Option ℕ → Type 0
+HoldsItsLink holders i None = Unit {0}
+HoldsItsLink holders i (Some k) = (k < length holders) × (holder_of holders k ≡ Some i)
+
+abbrev pub HoldTheirLinks : List (Option ℕ) → List Seat → Type 0
+HoldTheirLinks holders seats = (i : ℕ) (seat : Seat) → get_elem? seats i ≡ core.some seat → HoldsItsLink holders i (link_at seat.point)
+
+-- there are views by which the rule holds
+abbrev pub IsSound : Plan → Core → Type 0
+IsSound p c = ∥ ((views : List View) × Sound p c views) ∥₁
+
+-- ## One step
+
+-- the word of the step is there, and is one that it may find; it is of one of the table's links, and of its slots
+pub record StepFits (p : Plan) (words : List ℕ) (point : Point) (call : Call) : Type 0 where
+  pub there : (x : ℕ) → word_of p call ≡ core.some x → x < length words
+  pub word : AllowsWord call (found_at words (word_of p call))
+  pub link : IsOfLinks p.links call
+  pub slot : TriesOneOf p.slots point
