@@ -3,3 +3,6 @@ pub mod HeldLives
 pub mod GoingOn
 pub mod EndedLinks
 pub mod StepFacts
+pub mod Ranges
+pub mod Moves
+pub mod Ticked

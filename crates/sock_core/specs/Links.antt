@@ -1,5 +1,5 @@
 -- Which seat has a link in hand, and whether its writing half is ended: the homes of a core, and what its seats have in hand.
-use Rattle.std.specs.Prelude.{ℕ, ◌<◌, ◌≡◌, ◌++◌, true, false, Bool, is_some, if◌then◌else◌, List, [], ◌∷◌, map, replicate, slice_get, slice_set, unwrap_or, Option, Some, None}
+use Rattle.std.specs.Prelude.{ℕ, ◌<◌, ◌≡◌, ◌++◌, true, false, Bool, is_some, if◌then◌else◌, List, [], ◌∷◌, map, replicate, slice_set, slice_index_or, Option, Some, None}
 use mathlib.Core.Option as core
 use Rattle.sock_words.specs.declared.plain.Plan.{Plan}
 use Rattle.sock_model.specs.declared.home.Home.{Home}
@@ -30,10 +30,10 @@ dones_after other dones = dones
 -- ## As a core has them
 
 abbrev pub holder_of : List (Option ℕ) → ℕ → Option ℕ
-holder_of holders k = unwrap_or (slice_get holders k) None
+holder_of holders k = slice_index_or holders k None
 
 abbrev pub is_done : List Bool → ℕ → Bool
-is_done dones k = unwrap_or (slice_get dones k) false
+is_done dones k = slice_index_or dones k false
 
 -- a link that nobody has in hand lies at its home
 abbrev pub link_home : List (Option ℕ) → List Bool → ℕ → core.Option Home

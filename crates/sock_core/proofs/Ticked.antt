@@ -1,0 +1,90 @@
+-- One step of a seat is a tick of it.
+use Rattle.std.proofs.Common.{◌≡◌, ◌≢◌, refl, ℕ, zero, suc, ◌+◌, ◌<◌, Bool, true, false, List, [], ◌∷◌, ◌++◌, map, length, slice_set, Option, Some, None, ap, sym, ◌∙◌, ⊎_elim, arith, subst}
+use Rattle.std.proofs.lemmas.List.{map-set}
+use Rattle.atomic_table.proofs.Lists.{at_map, at_set}
+use mathlib.Core.Option as core
+use lib.ListN.{get_elem?}
+use Rattle.sock_words.specs.declared.plain.Plan.{Plan}
+use Rattle.sock_words.specs.declared.outcome.Outcome.{Outcome}
+use Rattle.sock_model.specs.declared.home.Home.{Home}
+use Rattle.sock_programs.specs.Calls as calls
+use Rattle.sock_programs.specs.Programs.{Program, Do, Say, Rest}
+use Rattle.sock_programs.specs.Cores.{Core, SeatState, word_of, found_at, words_after, word_after, homes_after, hand_after, said, next_step, stepped, tick_of, ticked}
+use Rattle.sock_programs.specs.Runs.{next_kind, kind_in}
+use Rattle.sock_core.specs.declared.seat.Seat.{Seat}
+use Rattle.sock_core.specs.declared.point.Next.{Next}
+use Rattle.sock_core.specs.Points.{Around, point_program, next_program, call_in, after_of, link_at, link_left, link_behind}
+use Rattle.sock_core.specs.Seats.{around, seat_program}
+use Rattle.sock_core.specs.Links.{holders_after, dones_after, homes_of, hand_with, hand_of}
+use Rattle.sock_core.specs.Machines.{core_of, seat_state, HoldsItsLink, HoldTheirLinks}
+use Rattle.sock_core.proofs.StepFacts.{HandOver, hand_over}
+use Rattle.sock_core.proofs.Moves.{MayMove, homes_moved, hand_moved, others_moved, holds_moved, others_hold}
+use Rattle.sock_core.proofs.Ranges.{set-map_but}
+
+-- a tick of a seat that has a step
+tick_by : (p : Plan) (i : ℕ) (seat : SeatState) (program : Program) (call : calls.Call) (c : Core) → call_in program ≡ Some call → tick_of p i seat program c ≡ stepped p i seat call (after_of program) c
+tick_by p i seat (Do step next) call c e = let h : step ≡ call = cc in ap (λ (x : calls.Call). stepped p i seat x next c) h
+tick_by p i seat (Say o outcome rest) call c e = cc
+tick_by p i seat Rest call c e = cc
+
+-- a tick of seat i where it is in this state
+pub ticked_by : (p : Plan) (c : Core) (i : ℕ) (seat : SeatState) (call : calls.Call) → get_elem? c.seats i ≡ core.some seat → call_in seat.program ≡ Some call → ticked p c i ≡ stepped p i seat call (after_of seat.program) c
+ticked_by p c i seat call at e =
+    ap (λ (o : core.Option SeatState). elim o as (λ x. Core) [ core.none ↦ c | core.some s ↦ tick_of p i s s.program c ]) at ∙ tick_by p i seat seat.program call c e
+
+-- equal parts make equal cores
+core_is : (ws vs : List ℕ) (hs gs : List (core.Option Home)) (ss ts : List SeatState) (os us : List (Option Outcome)) → ws ≡ vs → hs ≡ gs → ss ≡ ts → os ≡ us →
+    (let c : Core = record { words = ws; homes = hs; seats = ss; outcomes = os } in c) ≡ (record { words = vs; homes = gs; seats = ts; outcomes = us })
+core_is ws vs hs gs ss ts os us e f g h = λ k. record { words = e k; homes = f k; seats = g k; outcomes = h k }
+
+seat_is : (a b : Program) (hs gs : List Home) → a ≡ b → hs ≡ gs → (let s : SeatState = record { program = a; hand = hs } in s) ≡ (record { program = b; hand = gs })
+seat_is a b hs gs e f = λ k. record { program = e k; hand = f k }
+
+-- what a step of a seat at this point made of all seats
+pub record Went (p : Plan) (words fresh : List ℕ) (seats : List Seat) (i : ℕ) (seat seat' : Seat) (call : calls.Call) (outcomes told : List (Option Outcome)) : Type 0 where
+  pub at : get_elem? seats i ≡ core.some seat
+  pub next : Next
+  pub is_call : call_in (seat_program p.slots seat) ≡ Some call
+  pub goes : next_program (around p.slots seat) next ≡ after_of (seat_program p.slots seat) (found_at words (word_of p call))
+  pub behind : link_behind next ≡ link_left seat.point
+  pub words_are : fresh ≡ words_after words (word_of p call) (word_after call (found_at words (word_of p call)))
+  pub program : seat_program p.slots seat' ≡ next_step (next_program (around p.slots seat) next)
+  pub told_is : told ≡ said (next_program (around p.slots seat) next) outcomes
+  pub hand : link_at seat'.point ≡ link_behind next
+
+module _ (p : Plan) (words fresh : List ℕ) (holders : List (Option ℕ)) (dones : List Bool) (seats : List Seat) (i : ℕ) (seat seat' : Seat) (call : calls.Call) (outcomes told : List (Option Outcome))
+    (many : length holders ≡ p.links) (as_many : length dones ≡ p.links) (hold : HoldTheirLinks holders seats) (may : MayMove p.links holders call)
+    (w : Went p words fresh seats i seat seat' call outcomes told) where
+  over : HandOver call (link_at seat.point) (link_left seat.point)
+  over = hand_over (around p.slots seat) seat.point call w.is_call
+
+  own : HoldsItsLink holders i (link_at seat.point)
+  own = hold i seat w.at
+
+  -- the seats after it
+  seats_are : map (seat_state p.slots (dones_after call dones)) (slice_set seats i seat') ≡
+      slice_set (map (seat_state p.slots dones) seats) i (record { program = next_step (after_of (seat_program p.slots seat) (found_at words (word_of p call))); hand = hand_after p call (homes_of p holders dones) (hand_of dones seat.point) })
+  seats_are =
+      map-set (seat_state p.slots (dones_after call dones)) seats i seat'
+      ∙ ap (slice_set (map (seat_state p.slots (dones_after call dones)) seats) i)
+          (seat_is _ _ _ _ (w.program ∙ ap next_step w.goes) (ap (hand_with (dones_after call dones)) (w.hand ∙ w.behind) ∙ hand_moved p holders dones i many as_many call _ _ over may))
+      ∙ sym (set-map_but (seat_state p.slots dones) (seat_state p.slots (dones_after call dones)) seats i _
+          (λ j s at differ. seat_is _ _ _ _ refl (others_moved p holders dones i many as_many call _ _ over own j differ (link_at s.point) (hold j s at))))
+
+  pub tick_is : core_of p fresh (holders_after i call holders) (dones_after call dones) (slice_set seats i seat') told ≡ ticked p (core_of p words holders dones seats outcomes) i
+  tick_is =
+      core_is _ _ _ _ _ _ _ _ w.words_are (homes_moved p holders dones i many as_many call _ _ over own may) seats_are (w.told_is ∙ ap (λ (x : Program). said x outcomes) w.goes)
+      ∙ sym (ticked_by p (core_of p words holders dones seats outcomes) i (seat_state p.slots dones seat) call (at_map (seat_state p.slots dones) seats i seat w.at) w.is_call)
+
+  pub hold_is : HoldTheirLinks (holders_after i call holders) (slice_set seats i seat')
+  hold_is j s at = ⊎_elim
+      (λ t. subst (λ (x : Seat). HoldsItsLink (holders_after i call holders) j (link_at x.point)) t.1
+        (subst (λ (k : ℕ). HoldsItsLink (holders_after i call holders) k (link_at seat'.point)) (sym t.0)
+          (subst (HoldsItsLink (holders_after i call holders) i) (sym (w.hand ∙ w.behind)) (holds_moved p holders dones i many as_many call _ _ over own may))))
+      (λ t. others_hold p holders dones i many as_many call _ _ over own may j t.0 (link_at s.point) (hold j s t.1))
+      (at_set seats i j seat' s at)
+
+-- the kind of the next step of a seat
+pub kind_is : (p : Plan) (words : List ℕ) (holders : List (Option ℕ)) (dones : List Bool) (seats : List Seat) (i : ℕ) (seat : Seat) (outcomes : List (Option Outcome)) →
+    get_elem? seats i ≡ core.some seat → next_kind (core_of p words holders dones seats outcomes) i ≡ kind_in (seat_program p.slots seat)
+kind_is p words holders dones seats i seat outcomes at = ?
