@@ -64,7 +64,7 @@ abbrev pub HeldOnce : (ℕ → Bool) → List HeldLife → Type 0
 HeldOnce in_hand held = (n : ℕ) → total (under n) held ≤ cond (in_hand n) 1 0
 
 -- what follows an operation is allowed from what it may leave
-abbrev GoesOnFrom : Plan → List Task → Type 0
+abbrev pub GoesOnFrom : Plan → List Task → Type 0
 GoesOnFrom p ts = (held : List HeldLife) (in_hand : ℕ → Bool) (u : View) → AllByRecursion (IsInTable p) held → length held + length ts ≤ 4096
     → ((n : ℕ) → alternate n (in_hand n) ts ≡ true) → HeldOnce in_hand held → Ready held (links_of ts) u → GoesOn p u (client_from p.slots held ts)
 

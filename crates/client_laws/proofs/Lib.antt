@@ -3,7 +3,7 @@ pub mod Steps
 pub mod Parts
 pub mod Held
 pub mod Clients
-pub mod AtSteps
 pub mod Beginning
 pub mod Passes
 pub mod Opens
+pub mod Whole

@@ -21,14 +21,13 @@ use Rattle.sock_programs.specs.Scripts.{opening_words, opening_homes, programs, 
 use Rattle.sock_programs.specs.Runs.{IsAtRest}
 use Rattle.sock_programs.specs.Told.{TaskFits, alternate, AreTasks}
 use Rattle.sock_runs.specs.GoesOn.{GoesOn, HasNothing}
-use Rattle.sock_runs.specs.Sound.{AreInHand, SoundSeat, IsWithinLimits, Sound}
+use Rattle.sock_runs.specs.Sound.{AreInHand, SoundSeat, IsWithinLimits, Sound, IsAhead}
+use Rattle.sock_runs.proofs.Along.{seat_rests}
 use Rattle.slot_laws.proofs.Sums.{total-append}
 use Rattle.sock_steps.proofs.Reseat.{opening_law, splitting_law}
-use Rattle.client_laws.specs.AtSteps.{AreAtSteps}
 use Rattle.client_laws.specs.Openings.{links_of, links_of_all, without_passes, client_view, opening_views}
 use Rattle.client_laws.proofs.Parts.{Ready}
 use Rattle.client_laws.proofs.Clients.{client_goes_on, ending_goes_on}
-use Rattle.client_laws.proofs.AtSteps.{at_rest}
 use Rattle.client_laws.proofs.Beginning.{beyond, unused, at_home, length_homes}
 use Rattle.client_laws.proofs.Passes.{total_without, without_append, enough}
 
@@ -93,7 +92,7 @@ seats_sound p slots (ts ∷ clients) fit few rest (suc i) seat v e f = seats_sou
 
 -- ## A run begins
 
-pub opens_sound : (p : Plan) (clients : List (List Task)) → AreTasks p clients → IsWithinLimits p → PlanFits p → length clients ≤ 32 → Sound p (beginning p (programs p.slots clients)) (opening_views p clients)
+pub opens_sound : (p : Plan) (clients : List (List Task)) → AreTasks p clients → IsWithinLimits p → PlanFits p → length clients ≤ 512 → Sound p (beginning p (programs p.slots clients)) (opening_views p clients)
 opens_sound p [] are limits fits few = let z = are.some_ in absurd (omega (arith, z))
 opens_sound p (ts ∷ clients) are limits fits few =
     let slots : p.slots ≤ 256 = limits.slots in
@@ -122,9 +121,9 @@ first_there [] a b e = absurd (some-ne-none b (sym e))
 first_there (x ∷ xs) a b e = (x, refl)
 
 -- where seat 0 has no step left it may make the ending
-pub ending_sound : (p : Plan) (c : Core) (views : List View) (os : List ℕ) → AllByRecursion (λ o. o < p.operations) os → AreAtSteps c → IsAtRest c 0 → Sound p c views
+pub ending_sound : (p : Plan) (c : Core) (views : List View) (os : List ℕ) → AllByRecursion (λ o. o < p.operations) os → IsAhead c → IsAtRest c 0 → Sound p c views
     → Sound p (with_seat 0 (ending_of os) [] c.words c.homes c) views
-ending_sound p c views os all at rest sound = record {
+ending_sound p c views os all ahead idle sound = record {
   limits = sound.limits;
   lawful = sound.lawful;
   each = sound.each ∙ sym (length-set c.seats 0 (at_first (ending_of os)));
@@ -135,7 +134,7 @@ ending_sound p c views os all at rest sound = record {
   where
     new : (v : View) {seat : SeatState} → get_elem? (set c.seats 0 (at_first (ending_of os))) 0 ≡ some seat → get_elem? views 0 ≡ some v → SoundSeat p (at_first (ending_of os)) v
     new v {seat} e f = let old = first_there c.seats (at_first (ending_of os)) seat e in let was = sound.seats 0 old.0 v old.1 f in
-        let nothing : HasNothing v = subst (GoesOn p v) (at_rest c at 0 rest old.0 old.1) was.goes_on in record {
+        let nothing : HasNothing v = subst (GoesOn p v) (seat_rests c ahead 0 idle old.0 old.1) was.goes_on in record {
           quiet = was.quiet;
           hand = subst (AreInHand []) (sym nothing.hands) tt;
           goes_on = next_goes p v (ending_of os) (ending_goes_on p os all v nothing);

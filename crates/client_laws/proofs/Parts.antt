@@ -24,24 +24,24 @@ Ready held passes v = Has 0 [] held passes [] v
 module _ (p : Plan) {held : List HeldLife} {passes : List ℕ} where
   -- ## A reference given back
 
-  pub recycle_goes : (s from : ℕ) {v : View} → Has s (Zero (vref_version from) ∷ []) held passes [] v → s < p.slots → vref_version from % 2 ≡ 1 → vref_nref from ≡ 0 → (next : Bool → Program)
+  pub recycle_goes : (s from : ℕ) {v : View} → Has s (Zero (vref_version from) ∷ []) held passes [] v → s < p.slots → vref_version from % 2 ≡ 1 → vref_nref from ≡ 0 → vref_version from < 4294967295 → (next : Bool → Program)
       → ((b : Bool) (w : View) → Ready held passes w → GoesOn p w (next b)) → GoesOn p v (recycle s from next)
-  recycle_goes s from a inside odd none_ next goes = let w : ℕ = vref_version from + 1 in
+  recycle_goes s from a inside odd none_ low next goes = let w : ℕ = vref_version from + 1 in
       let end_ : Program = cond (leb w LAST_VERSION) (Do (FreeSlot s) (λ _. next true)) (next true) in let put : ℕ → ℕ → Program = λ k x. Do (PutLink k) (λ _. end_) in
       let finish : ℕ → ℕ → Program = λ k x. Do (FinishLink k) (put k) in let take : ℕ → Program = λ k. Do (TakeLink k) (finish k) in
-      recycles p from a inside odd none_ (Do (LoadLink s w) take) (next false)
-      (λ u₁ b₁. loads_link p w b₁ inside take (λ u₂ k small spent there b₂. takes_last p w b₂ inside small spent there (finish k) (λ u₃ x b₃. finishes p b₃ (put k) (λ y. puts p b₃ (λ _. end_) (λ u₄ z b₄.
+      recycles p from a inside odd none_ low (Do (LoadLink s w) take) (next false)
+      (λ u₁ b₁. loads_link p w b₁ inside take (λ u₂ k small spent there b₂. takes_last p w b₂ inside small spent there (finish k) (λ u₃ x b₃. finishes p b₃ small (put k) (λ y. puts p b₃ small (λ _. end_) (λ u₄ z b₄.
       cond_both (leb w LAST_VERSION) (Do (FreeSlot s) (λ _. next true)) (next true) (GoesOn p u₄)
-      (λ low. frees p w b₄ (leb-true w LAST_VERSION low) inside (λ _. next true) (λ u₅ f b₅. goes true u₅ (at_slot b₅ 0)))
+      (λ fits. frees p w b₄ (leb-true w LAST_VERSION fits) inside (λ _. next true) (λ u₅ f b₅. goes true u₅ (at_slot b₅ 0)))
       (λ late. goes true u₄ (at_slot (retiring w (leb-false w LAST_VERSION late) b₄) 0)))))))
       (λ u b. goes false u (at_slot b 0))
 
   pub release_goes : (s : ℕ) (e : Mark) {v : View} → Has s (e ∷ []) held passes [] v → GoesFirst e [] → s < p.slots → (next : Bool → Program)
       → ((b : Bool) (w : View) → Ready held passes w → GoesOn p w (next b)) → GoesOn p v (release s next)
   release_goes s e a back inside next goes = subs p e a back refl inside (λ found. cond (eqb (vref_version found % 2) 1 && eqb (vref_nref found) 1) (recycle s (found - 1) next) (next false))
-      (λ found u odd one many b. let same : vref_version found ≡ vref_version (found - 1) = omega (arith, one) in
+      (λ found u odd one many low b. let same : vref_version found ≡ vref_version (found - 1) = omega (arith, one) in
       subst (GoesOn p u) (sym (cond-true _ (recycle s (found - 1) next) (next false) (and_from _ _ (eq-eqb _ 1 odd) (eq-eqb _ 1 one))))
-      (recycle_goes s (found - 1) (subst (λ w. Has s (Zero w ∷ []) held passes [] u) same b) inside (ap (λ w. w % 2) (sym same) ∙ odd) (omega (arith, one)) next goes))
+      (recycle_goes s (found - 1) (subst (λ w. Has s (Zero w ∷ []) held passes [] u) same b) inside (ap (λ w. w % 2) (sym same) ∙ odd) (omega (arith, one)) (omega (arith, one, low)) next goes))
       (λ found u no_ b. subst (GoesOn p u) (sym (cond-false _ (recycle s (found - 1) next) (next false) no_)) (goes false u (at_slot b 0)))
 
   -- ## A life addressed
@@ -65,7 +65,7 @@ module _ (p : Plan) {held : List HeldLife} {passes : List ℕ} where
   set_failed_goes id code some_ a inside few next goes = let i : ℕ = socket_id_slot id in let h : ℕ = socket_id_version id in
       sets_odd p a inside (omega (arith, few)) (λ found. Do (StoreCode i h code) (λ _. Do (SubRef i) (λ _. next found))) next
       (λ u found b. stores_code p code some_ b inside (λ _. Do (SubRef i) (λ _. next found)) (λ u₁ x b₁. subs p (Hold h) b₁ (inr (h, refl, refl)) refl inside (λ _. next found)
-      (λ y u₂ odd one many b₂. absurd (omega (arith, one, many))) (λ y u₂ no_ b₂. goes u₂ found b₂)))
+      (λ y u₂ odd one many low b₂. absurd (omega (arith, one, many))) (λ y u₂ no_ b₂. goes u₂ found b₂)))
       goes
 
 -- ## A socket opened
@@ -75,7 +75,7 @@ module _ (p : Plan) {held : List HeldLife} {passes : List ℕ} (o name k : ℕ) 
   no_socket_goes : {v : View} → Ready held (k ∷ passes) v → GoesOn p v (no_socket o k next)
   no_socket_goes a = let said_ : ℕ → Program = λ _. Say o SlotsFull next in let store : ℕ → Program = λ _. Do (StoreOpen o NO_SOCKET) said_ in
       let put : ℕ → Program = λ _. Do (PutLink k) store in let finish : ℕ → Program = λ _. Do (FinishLink k) put in
-      takes_own p a small finish (λ u₁ x b₁. finishes p b₁ put (λ y. puts p b₁ store (λ u₂ z b₂. stores_open p b₂ o NO_SOCKET mine (inl refl) said_ (λ u₃ f same b₃. goes u₃ b₃))))
+      takes_own p a small finish (λ u₁ x b₁. finishes p b₁ small put (λ y. puts p b₁ small store (λ u₂ z b₂. stores_open p b₂ o NO_SOCKET mine (inl refl) said_ (λ u₃ f same b₃. goes u₃ b₃))))
 
   make_socket_goes : (i : ℕ) {v : View} → i < p.slots → p.slots ≤ 256 → Has i (Claimed 0 0 ∷ []) held (k ∷ passes) [] v → GoesOn p v (make_socket o name k i next)
   make_socket_goes i inside few a =

@@ -146,7 +146,7 @@ module _ (p : Plan) {s : ℕ} {t : List Mark} {held : List HeldLife} {passes lin
   back_hold found h a z e = cond-false (ltb 0 (marks_of is_probe s v)) is_probe (is_hold (version_of found - version_of found % 2)) (le-ltb 0 (marks_of is_probe s v) (omega (arith, probes a, z))) ∙ ap is_hold e
 
   pub subs : (e : Mark) → Has s (e ∷ t) held passes links v → GoesFirst e t → total is_any_coding t ≡ 0 → s < p.slots → (next : ℕ → Program)
-      → ((found : ℕ) (u : View) → vref_version found % 2 ≡ 1 → vref_nref found ≡ 1 → total is_ref t < vref_nref found → Has s (Zero (vref_version found) ∷ t) held passes links u → GoesOn p u (next found))
+      → ((found : ℕ) (u : View) → vref_version found % 2 ≡ 1 → vref_nref found ≡ 1 → total is_ref t < vref_nref found → vref_version found < 4294967295 → Has s (Zero (vref_version found) ∷ t) held passes links u → GoesOn p u (next found))
       → ((found : ℕ) (u : View) → ((eqb (vref_version found % 2) 1) && (eqb (vref_nref found) 1)) ≡ false → Has s t held passes links u → GoesOn p u (next found))
       → GoesOn p v (Do (SubRef s) next)
   subs e a (inl is) idle inside next last more = let b : Has s (Probe ∷ t) held passes links v = subst (λ x. Has s (x ∷ t) held passes links v) is a in
@@ -155,7 +155,7 @@ module _ (p : Plan) {s : ℕ} {t : List Mark} {held : List HeldLife} {passes lin
         λ found hand f. let own = f.0 in
             subst (λ g. GoesOn p (subbed s found g v) (next found)) (sym (back_probe found b))
             (sub_branch p v is_probe (gone Probe b is_probe probe_is there) (eqb (vref_version found % 2) 1) (eqb (vref_nref found) 1) (vref_version found) (next found)
-            (λ odd one u. last found u (eqb-true _ 1 odd) (eqb-true _ 1 one) (omega arith)) (λ no_ u. more found u no_)),
+            (λ odd one u. last found u (eqb-true _ 1 odd) (eqb-true _ 1 one) (omega arith) f.2) (λ no_ u. more found u no_)),
       )
   subs e a (inr is) idle inside next last more = let h : ℕ = is.0 in let b : Has s (Hold h ∷ t) held passes links v = subst (λ x. Has s (x ∷ t) held passes links v) is.1 a in
       let there = first (Hold h) b (is_hold h) (of_hold h) (only-same h) in let refs = b.here is_ref of_ref in (
@@ -163,7 +163,7 @@ module _ (p : Plan) {s : ℕ} {t : List Mark} {held : List HeldLife} {passes lin
         λ found hand f. let own = f.0 in
             subst (λ g. GoesOn p (subbed s found g v) (next found)) (sym (back_hold found h b is.2 (f.1 h there)))
             (sub_branch p v (is_hold h) (gone (Hold h) b (is_hold h) (hold_is h) there) (eqb (vref_version found % 2) 1) (eqb (vref_nref found) 1) (vref_version found) (next found)
-            (λ odd one u. last found u (eqb-true _ 1 odd) (eqb-true _ 1 one) (omega arith)) (λ no_ u. more found u no_)),
+            (λ odd one u. last found u (eqb-true _ 1 odd) (eqb-true _ 1 one) (omega arith) f.2) (λ no_ u. more found u no_)),
       )
 
 -- ## A life is failed
@@ -205,11 +205,11 @@ module _ (p : Plan) {s : ℕ} {t : List Mark} {held : List HeldLife} {passes lin
   recycle_branch v true w a x y won lost = won (record v { marks = at s (Recycling (w + 1)) ∷ at s (Freer (w - 1)) ∷ without_at s (is_zero w) v.marks }) (given (noted a (Freer (w - 1)) (λ f o. o.freer (w - 1))) (Recycling (w + 1)))
   recycle_branch v false w a x y won lost = lost (record v { marks = without_at s (is_zero w) v.marks }) a
 
-  pub recycles : {v : View} (from : ℕ) → Has s (Zero (vref_version from) ∷ t) held passes links v → s < p.slots → vref_version from % 2 ≡ 1 → vref_nref from ≡ 0 → (x y : Program)
+  pub recycles : {v : View} (from : ℕ) → Has s (Zero (vref_version from) ∷ t) held passes links v → s < p.slots → vref_version from % 2 ≡ 1 → vref_nref from ≡ 0 → vref_version from < 4294967295 → (x y : Program)
       → ((u : View) → Has s (Recycling (vref_version from + 1) ∷ t) held passes links u → GoesOn p u x) → ((u : View) → Has s t held passes links u → GoesOn p u y)
       → GoesOn p v (Do (Recycle s from) (λ found. cond (eqb found from) x y))
-  recycles {v} from a inside odd none_ x y won lost = let w : ℕ = vref_version from in let there = first (Zero w) a (is_zero w) (of_zero w) (only-same w) in
-      ((inside, there, odd, none_), λ found hand e. recycle_branch v (eqb found from) w (gone (Zero w) a (is_zero w) (zero_is w) there) x y won lost)
+  recycles {v} from a inside odd none_ low x y won lost = let w : ℕ = vref_version from in let there = first (Zero w) a (is_zero w) (of_zero w) (only-same w) in
+      ((inside, there, odd, none_, low), λ found hand e. recycle_branch v (eqb found from) w (gone (Zero w) a (is_zero w) (zero_is w) there) x y won lost)
 
   pub loads_link : {v : View} (w : ℕ) → Has s (Recycling w ∷ t) held passes links v → s < p.slots → (next : ℕ → Program)
       → ((u : View) (k : ℕ) → k < p.links → total (only k) u.passes ≡ 0 → 0 < marks_of (is_met (w - 2) k) s u → Has s (Recycling w ∷ t) held passes links u → GoesOn p u (next k))
@@ -267,11 +267,11 @@ module _ (p : Plan) {s k : ℕ} {t : List Mark} {held : List HeldLife} {passes :
   )
 
 module _ (p : Plan) {s k : ℕ} {t : List Mark} {held : List HeldLife} {passes : List ℕ} {v : View} where
-  pub finishes : Has s t held passes (k ∷ []) v → (next : ℕ → Program) → ((found : ℕ) → GoesOn p v (next found)) → GoesOn p v (Do (FinishLink k) next)
-  finishes a next goes = (a.hands_are, λ found hand e. goes found)
+  pub finishes : Has s t held passes (k ∷ []) v → k < p.links → (next : ℕ → Program) → ((found : ℕ) → GoesOn p v (next found)) → GoesOn p v (Do (FinishLink k) next)
+  finishes a small next goes = ((small, a.hands_are), λ found hand e. goes found)
 
-  pub puts : Has s t held passes (k ∷ []) v → (next : ℕ → Program) → ((u : View) (found : ℕ) → Has s t held passes [] u → GoesOn p u (next found)) → GoesOn p v (Do (PutLink k) next)
-  puts a next goes = (a.hands_are, λ found hand e. goes (without_hand v k) found (becomes a (without_hand v k) t passes [] (λ j n. refl) (λ f o. refl) a.passes_are (emptied v.hands a.hands_are)))
+  pub puts : Has s t held passes (k ∷ []) v → k < p.links → (next : ℕ → Program) → ((u : View) (found : ℕ) → Has s t held passes [] u → GoesOn p u (next found)) → GoesOn p v (Do (PutLink k) next)
+  puts a small next goes = ((small, a.hands_are), λ found hand e. goes (without_hand v k) found (becomes a (without_hand v k) t passes [] (λ j n. refl) (λ f o. refl) a.passes_are (emptied v.hands a.hands_are)))
     where
       none_left : (hs : List Hand) → map (λ (h : Hand). h.link) hs ≡ [] → map (λ (h : Hand). h.link) (filter (λ (x : Hand). not (eqb x.link k)) hs) ≡ []
       none_left [] e = refl

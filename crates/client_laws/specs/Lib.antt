@@ -1,2 +1,1 @@
-pub mod AtSteps
 pub mod Openings

@@ -27,11 +27,11 @@ use lib.Seq.{set-get_or}
 use Rattle.sock_model.specs.declared.view.StoredWord.{StoredWord}
 use Rattle.slot_laws.proofs.Kept.{settled}
 
-noted-else : (x z : ℕ) (n : StoredWord) → n.place ≢ x → (ss : List (List StoredWord)) → total (says x z) ss ≤ total (says x z) (noted n ss)
+pub noted-else : (x z : ℕ) (n : StoredWord) → n.place ≢ x → (ss : List (List StoredWord)) → total (says x z) ss ≤ total (says x z) (noted n ss)
 noted-else x z n ne [] = omega arith
 noted-else x z n ne (ns ∷ rest) = let q = ne_eqb n.place x ne in let e : latest x (n ∷ ns) ≡ latest x ns = ap (λ b. cond b n.word (latest x ns)) q in omega (arith, ap (only z) e)
 
-noted-here : (n : StoredWord) (ss : List (List StoredWord)) → 0 < total (says n.place n.word) (noted n ss)
+pub noted-here : (n : StoredWord) (ss : List (List StoredWord)) → 0 < total (says n.place n.word) (noted n ss)
 noted-here n [] = let e : latest n.place (n ∷ []) ≡ n.word = ap (λ b. cond b n.word 0) (eq-eqb n.place n.place refl) in omega (arith, ap (only n.word) e, only-same n.word)
 noted-here n (ns ∷ rest) = let e : latest n.place (n ∷ ns) ≡ n.word = ap (λ b. cond b n.word (latest n.place ns)) (eq-eqb n.place n.place refl) in omega (arith, ap (only n.word) e, only-same n.word)
 

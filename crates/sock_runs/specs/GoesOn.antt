@@ -1,9 +1,9 @@
 -- A program that the rule allows from a view on: each step in turn, whatever it finds.
-use Rattle.std.specs.Prelude.{ℕ, ◌≡◌, ◌<◌, List, []}
+use Rattle.std.specs.Prelude.{ℕ, ◌≡◌, ◌<◌, []}
 use Rattle.sock_words.specs.declared.plain.Plan.{Plan}
 use Rattle.sock_model.specs.declared.view.View.{View}
 use Rattle.sock_model.specs.declared.view.Hand.{Hand}
-use Rattle.sock_model.specs.Weights.{total, is_ref, is_zero, is_any_coding, is_claimed, is_recycled}
+use Rattle.sock_model.specs.Weights.{is_ref, is_zero, is_any_coding, is_claimed, is_recycled}
 use Rattle.sock_model.specs.SlotRows.{marks_of}
 use Rattle.sock_programs.specs.Programs.{Program, Do, Say, Rest, LAST_VERSION}
 use Rattle.sock_runs.specs.Rows.{row}

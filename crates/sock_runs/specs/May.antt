@@ -1,5 +1,5 @@
 -- What the view of a seat says before each step, so that the rule allows it, and what the step may find.
-use Rattle.std.specs.Prelude.{ℕ, ◌≡◌, ◌≢◌, ◌-◌, ◌%◌, ◌<◌, ◌≤◌, ◌⊎◌, ◌==◌, true, List, [], ◌∷◌, map, nat_lt, IsTrue, IsFalse}
+use Rattle.std.specs.Prelude.{ℕ, ◌≡◌, ◌≢◌, ◌-◌, ◌%◌, ◌<◌, ◌≤◌, ◌⊎◌, [], ◌∷◌, map, nat_lt, IsTrue}
 use Rattle.sock_words.specs.declared.plain.Plan.{Plan}
 use Rattle.sock_words.specs.Words.{socket_id_version, socket_id_slot, vref_version, vref_nref}
 use Rattle.sock_model.specs.declared.view.View.{View}
@@ -38,7 +38,7 @@ May p v (GiveBirth i k) = (i < p.slots) × (0 < marks_of (is_stage 3 k) i v)
 May p v (AddRef id) = Knows p v id × HasRoom v (socket_id_slot id)
 May p v (SubRef i) = (i < p.slots) × (0 < marks_of is_ref i v) × (marks_of is_any_coding i v ≡ 0)
 May p v (SetOdd i) = (i < p.slots) × ((h : ℕ) × (0 < marks_of (is_hold h) i v)) × HasRoom v i
-May p v (Recycle i from) = (i < p.slots) × (0 < marks_of (is_zero (vref_version from)) i v) × (vref_version from % 2 ≡ 1) × (vref_nref from ≡ 0)
+May p v (Recycle i from) = (i < p.slots) × (0 < marks_of (is_zero (vref_version from)) i v) × (vref_version from % 2 ≡ 1) × (vref_nref from ≡ 0) × (vref_version from < 4294967295)
 May p v (FreeSlot i) = (i < p.slots) × ((w : ℕ) × (0 < marks_of (is_recycled w) i v) × (w ≤ LAST_VERSION)) × (v.hands ≡ [])
 May p v (StoreLink i k) = (i < p.slots) × (0 < marks_of (is_stage 0 0) i v) × (0 < total (only k) v.passes)
 May p v (LoadLink i w) = (i < p.slots) × (0 < marks_of (is_recycled w) i v)
@@ -50,8 +50,8 @@ May p v (LoadName n) = n < p.names
 May p v (StoreOpen o w) = (o < p.operations) × ((w ≡ NO_SOCKET) ⊎ (IsTrue (nat_lt 0 w) × Knows p v (w - 1)))
 May p v (LoadOpen o) = o < p.operations
 May p v (TakeLink k) = MayTake p v k
-May p v (FinishLink k) = HasInHand v k
-May p v (PutLink k) = HasInHand v k
+May p v (FinishLink k) = (k < p.links) × HasInHand v k
+May p v (PutLink k) = (k < p.links) × HasInHand v k
 
 -- ## What it finds
 
@@ -71,7 +71,7 @@ FindsId p found = IsTrue (is_id found) → socket_id_slot (found - 1) < p.slots
 abbrev pub Finds : Plan → View → Call → ℕ → Hand → Type 0
 Finds p v (GiveBirth i k) found hand = (vref_nref found < 4294967295) × (vref_version found % 2 ≡ 0) × (vref_version found ≤ LAST_VERSION)
 Finds p v (AddRef id) found hand = vref_nref found < 4294967295
-Finds p v (SubRef i) found hand = (marks_of is_ref i v ≤ vref_nref found) × IsOfHeld v i found
+Finds p v (SubRef i) found hand = (marks_of is_ref i v ≤ vref_nref found) × IsOfHeld v i found × (vref_version found < 4294967295)
 Finds p v (SetOdd i) found hand = IsOfHeld v i found
 Finds p v (FreeSlot i) found hand = marks_of is_busy i v ≤ 1
 Finds p v (LoadLink i w) found hand = (found < p.links) × (total (only found) v.passes ≡ 0)

@@ -1,22 +1,21 @@
 -- All seats with their views: the rule holds of them, and each view allows what its seat has still to do.
-use Rattle.std.specs.Prelude.{ℕ, ◌≡◌, ◌+◌, ◌<◌, ◌≤◌, ◌≢◌, ◌%◌, ◌⊎◌, Bool, List, [], ◌∷◌, length, set}
-use mathlib.Core.Option.{Option, none, some}
+use Rattle.std.specs.Prelude.{ℕ, ◌≡◌, ◌+◌, ◌<◌, ◌≤◌, ◌≢◌, ◌%◌, Bool, List, [], ◌∷◌, length, set}
+use mathlib.Core.Option.{none, some}
 use lib.ListN.{get_elem?}
 use Rattle.atomic_table.specs.Table.{State}
 use Rattle.sock_words.specs.declared.plain.Plan.{Plan}
-use Rattle.sock_words.specs.Words.{vref_version, vref_nref, socket_id_slot}
+use Rattle.sock_words.specs.Words.{vref_version, vref_nref}
 use Rattle.sock_model.specs.declared.home.Home.{Home}
 use Rattle.sock_model.specs.declared.home.Home.TheVariants.{Link}
 use Rattle.sock_model.specs.declared.view.View.{View}
 use Rattle.sock_model.specs.declared.view.Hand.{Hand}
 use Rattle.sock_model.specs.Lawful.{Lawful}
 use Rattle.sock_model.specs.Slots.{count}
-use Rattle.sock_model.specs.Weights.{is_born, is_freer}
+use Rattle.sock_model.specs.Weights.{is_born, is_failer, is_freer}
 use Rattle.sock_model.specs.References.{slot_facts}
-use Rattle.sock_model.specs.Layout.{all_words}
 use Rattle.sock_programs.specs.Calls.{Call, GiveBirth, AddRef, SubRef, Recycle, LoadLink, LoadName, TakeLink, FinishLink, PutLink}
-use Rattle.sock_programs.specs.Programs.{Program, Do, LAST_VERSION, NO_SOCKET}
-use Rattle.sock_programs.specs.Cores.{Core, SeatState, word_of, found_at, link_place}
+use Rattle.sock_programs.specs.Programs.{Program, Do, Rest, LAST_VERSION, NO_SOCKET}
+use Rattle.sock_programs.specs.Cores.{Core, SeatState, word_of, found_at, link_place, next_step, ticked}
 use Rattle.sock_runs.specs.Rows.{row, hand_at}
 use Rattle.sock_runs.specs.GoesOn.{IsQuiet, GoesOn}
 
@@ -64,9 +63,14 @@ views_of p i other c views v = views
 -- the views after a tick of seat i
 abbrev pub views_after : Plan → Core → List View → ℕ → List View
 views_after p c views i = elim (get_elem? c.seats i) as (λ o. List View) [
-  none ↦ views
+  | none ↦ views
   | some seat ↦ elim (get_elem? views i) as (λ o. List View) [ none ↦ views | some v ↦ views_of p i seat.program c views v ]
 ]
+
+-- and after ticks of these seats, one after another
+abbrev pub views_along : Plan → Core → List View → List ℕ → List View
+views_along p c views [] = views
+views_along p c views (i ∷ seats) = views_along p (ticked p c i) (views_after p c views i) seats
 
 -- ## What a machine relies on
 
@@ -91,6 +95,18 @@ abbrev pub Allows : Plan → Core → Call → Type 0
 Allows p c call = ((x : ℕ) → word_of p call ≡ some x → x < length c.words) × AllowsWord call (found_at c.words (word_of p call)) × AllowsMove p c call
 
 -- ## The end of a run
+
+-- no seat has an outcome to say before its next step
+abbrev pub IsAhead : Core → Type 0
+IsAhead c = (i : ℕ) (seat : SeatState) → get_elem? c.seats i ≡ some seat → next_step seat.program ≡ seat.program
+
+-- no seat has anything left to do
+abbrev pub AllRest : Core → Type 0
+AllRest c = (i : ℕ) (seat : SeatState) → get_elem? c.seats i ≡ some seat → seat.program ≡ Rest
+
+-- every life that was made was set failed
+abbrev pub AllFailed : Plan → Core → List View → Type 0
+AllFailed p c views = (i h : ℕ) → i < p.slots → 0 < count (is_born h) (slot_facts (state c views) i) → 0 < count (is_failer h) (slot_facts (state c views) i)
 
 -- the life of version h of slot i was made, and has not ended
 pub record IsAlive (p : Plan) (c : Core) (views : List View) (i h : ℕ) : Type 0 where

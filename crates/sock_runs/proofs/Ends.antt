@@ -1,0 +1,72 @@
+-- Where no seat has anything left to do, a life that was set failed has ended, and each link is at home.
+use Rattle.std.proofs.Common.{◌≡◌, ℕ, suc, ◌+◌, ◌-◌, ◌%◌, ◌<◌, ◌==◌, List, [], ◌∷◌, map, refl, sym, ap, ◌∙◌, subst, ⊎_elim, arith}
+use Rattle.std.specs.List.{filter}
+use mathlib.Core.Logic.{dite}
+use mathlib.Core.Option.{Option, some, none}
+use native.Mathlib.Decide.{ℕ_discrete, dec_le}
+use lib.ListN.{get_elem?}
+use Rattle.sock_words.specs.declared.plain.Plan.{Plan}
+use Rattle.sock_model.specs.declared.chain.Right.{Right}
+use Rattle.sock_model.specs.declared.home.Home.{Home}
+use Rattle.sock_model.specs.declared.marks.Mark.{Mark}
+use Rattle.sock_model.specs.declared.view.View.{View}
+use Rattle.sock_model.specs.Weights.{total, tally, is_ref, is_zero, is_busy, is_failer, is_freer}
+use Rattle.sock_model.specs.Marks.{about}
+use Rattle.sock_model.specs.SlotRows.{marks_of}
+use Rattle.sock_model.specs.Slots.{count}
+use Rattle.sock_model.specs.Reads.{link_at, rights_on, tokens, carries, hands_of}
+use Rattle.sock_model.specs.References.{slot_facts}
+use Rattle.slot_laws.proofs.Sums.{total_some}
+use Rattle.slot_laws.proofs.Numbers.{life_is, life-in, live-odd}
+use Rattle.sock_steps.proofs.Maps.{took_some, gather_nil}
+use Rattle.sock_steps.proofs.HandSteps.{link_value}
+use Rattle.sock_programs.specs.Cores.{Core}
+use Rattle.sock_runs.specs.GoesOn.{HasNothing, GoesOn}
+use Rattle.sock_runs.specs.Sound.{state, Sound, AllRest, AllFailed, IsAlive}
+use Rattle.sock_runs.proofs.Bounds.{law}
+use Rattle.sock_runs.proofs.HandTicks.{AtHome}
+use Rattle.sock_runs.proofs.Allowed.{view_there}
+
+-- what no seat has is had by none together
+none_has : (f : Mark → ℕ) (i : ℕ) (vs : List View) → ((j : ℕ) (v : View) → get_elem? vs j ≡ some v → marks_of f i v ≡ 0) → tally f (map (λ (v : View). about i v.marks) vs) ≡ 0
+none_has f i [] each = refl
+none_has f i (x ∷ xs) each = omega (arith, each 0 x refl, none_has f i xs (λ j v e. each (suc j) v e))
+
+module _ (p : Plan) (c : Core) (vs : List View) (sound : Sound p c vs) (rests : AllRest c) where
+  pub has_nothing : (j : ℕ) (v : View) → get_elem? vs j ≡ some v → HasNothing v
+  has_nothing j v at = let seat = view_there vs c.seats j v (sym sound.each) at (get_elem? c.seats j) refl in
+      subst (GoesOn p v) (rests j seat.0 seat.1) (sound.seats j seat.0 v seat.1 at).goes_on
+
+  -- a life that was failed has ended
+  pub failed_ends : (i h : ℕ) → i < p.slots → 0 < count (is_failer h) (slot_facts (state c vs) i) → 0 < count (is_freer h) (slot_facts (state c vs) i)
+  failed_ends i h inside failed = let l = law p (state c vs) sound.lawful.references i inside in
+      let t = life_is p.first h (slot_facts (state c vs) i).version (omega (arith, l.failed h)) in let even = t.2 in let first = t.0 in let below = t.1 in
+      let refs = none_has is_ref i vs (λ j v e. (has_nothing j v e).refs i) in
+      let zeros = none_has (is_zero (slot_facts (state c vs) i).version) i vs (λ j v e. (has_nothing j v e).zeros i (slot_facts (state c vs) i).version) in
+      dite (ℕ_discrete (h + 1) (slot_facts (state c vs) i).version)
+      (λ last. let odd : (slot_facts (state c vs) i).version % 2 ≡ 1 = omega arith in
+      let dead = live-odd (slot_facts (state c vs) i).tag (slot_facts (state c vs) i).version (count is_busy (slot_facts (state c vs) i)) odd in
+      let zero_noted = l.zero_noted odd (omega (arith, l.counted, dead, refs)) in absurd (omega arith))
+      (λ n. omega (arith, l.ended h, life-in p.first h ((slot_facts (state c vs) i).version - 1) first (omega arith) even))
+
+  no_rights : (k : ℕ) → (tokens vs).rights k ≡ []
+  no_rights k = gather_nil (rights_on k) vs (λ j v e. let seat = view_there vs c.seats j v (sym sound.each) e (get_elem? c.seats j) refl in
+      ap (filter (λ (x : Right). x.link == k)) (sound.seats j seat.0 v seat.1 e).quiet.rights)
+
+  no_hands : (k : ℕ) → total (hands_of k) vs ≡ 0
+  no_hands k = dite (dec_le (total (hands_of k) vs) 0) (λ none_. omega arith)
+      (λ some_. let t = total_some (hands_of k) vs (omega arith) in let there = t.3 in absurd (omega (arith, there, ap (total (carries k)) (has_nothing t.0 t.1 t.2).hands)))
+
+  -- each link is at home
+  pub links_home : (k : ℕ) → k < p.links → AtHome p c.homes k
+  links_home k inside = let homes = sound.lawful.homes in let at_home = by_slot (sound.lawful.slot k) refl in let own = homes.own k at_home.0 inside at_home.1 in
+      let y = link_value (λ (home : Home). home) (get_elem? c.homes (p.requests + k)) k own.took own.next own.done (at_home.1 ∙ ap (λ (x : Home). some x) own.is) in
+      record { took = own.took; next = own.next; done = own.done; is = y.1 ∙ ap (λ (x : Home). some (some x)) y.2 }
+    where
+      by_slot : (q : Option ℕ) → sound.lawful.slot k ≡ q → (x : Home) × (link_at (λ (home : Home). home) p c.homes k ≡ some x)
+      by_slot none e = ⊎_elim (λ x. x) (λ some_. absurd (omega (arith, no_hands k))) (sound.lawful.homes.outside k inside e)
+      by_slot (some j) e = let a = sound.lawful.homes.idle k j inside e (no_rights k) in took_some (link_at (λ (home : Home). home) p c.homes k) (a.0, a.1) a.2
+
+  -- where every life was failed, none is alive
+  pub none_alive : AllFailed p c vs → (i h : ℕ) → ¬ IsAlive p c vs i h
+  none_alive failed i h alive = let ended = failed_ends i h alive.inside (failed i h alive.inside alive.born) in let open_ = alive.not_ended in omega arith

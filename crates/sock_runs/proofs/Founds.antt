@@ -1,0 +1,100 @@
+-- What a step finds is as the rule has it.
+use Rattle.std.proofs.Common.{◌≡◌, ◌≢◌, ℕ, ◌-◌, ◌%◌, ◌<◌, ◌≤◌, [], get_or, sym, ap, arith}
+use mathlib.Core.Option.{some}
+use lib.ListN.{get_elem?}
+use Rattle.atomic_table.specs.Table.{State, keeps}
+use Rattle.sock_words.specs.Words.{socket_id_slot, vref_version, vref_nref}
+use Rattle.sock_words.specs.declared.plain.Plan.{Plan}
+use Rattle.sock_model.specs.declared.home.Home.{Home}
+use Rattle.sock_model.specs.declared.marks.Mark.{Mark}
+use Rattle.sock_model.specs.declared.marks.Mark.TheVariants.{Claimed}
+use Rattle.sock_model.specs.declared.view.View.{View}
+use Rattle.sock_model.specs.declared.view.Hand.{Hand}
+use Rattle.sock_model.specs.Weights.{total, only, is_ref, is_claimed, is_busy, is_recycling, is_recycled, is_stage}
+use Rattle.sock_model.specs.Marks.{about}
+use Rattle.sock_model.specs.Layout.{ref_word, link_word, name_word, open_word}
+use Rattle.sock_model.specs.SlotRows.{marks_of}
+use Rattle.sock_model.specs.Slots.{count}
+use Rattle.sock_model.specs.References.{slot_facts}
+use Rattle.sock_model.specs.Reads.{waits_of}
+use Rattle.sock_model.specs.Lawful.{Lawful}
+use Rattle.slot_laws.proofs.Sums.{term_le, total_mono, tally_mono}
+use Rattle.slot_laws.proofs.Numbers.{pair_le}
+use Rattle.slot_laws.proofs.Slots.{recycled_le}
+use Rattle.slot_laws.proofs.Kept.{life_found}
+use Rattle.sock_steps.proofs.Places.{own_count, given_unwaited}
+use Rattle.sock_programs.specs.Calls.{Call, ClaimSlot, GiveBirth, AddRef, SubRef, SetOdd, Recycle, FreeSlot, StoreLink, LoadLink, ResetHead, WipeCode, StoreCode, StoreName, LoadName, StoreOpen, LoadOpen, TakeLink, FinishLink, PutLink}
+use Rattle.sock_programs.specs.Programs.{NO_SOCKET}
+use Rattle.sock_programs.specs.Cores.{word_of, found_at}
+use Rattle.sock_runs.specs.Rows.{hand_at}
+use Rattle.sock_runs.specs.May.{May, Finds, FindsId, IsOfHeld}
+use Rattle.sock_runs.proofs.Bounds.{law, fits, has_room, next_version}
+use Rattle.sock_runs.proofs.Ids.{id_some, id_socket}
+use Rattle.sock_runs.proofs.HandTicks.{found_hand}
+
+stage_claimed : (n k : ℕ) (x : Mark) → is_stage n k x ≤ is_claimed x
+stage_claimed n k (Claimed a b) = pair_le n k a b
+stage_claimed n k _ = omega arith
+
+claimed_busy : (x : Mark) → is_claimed x ≤ is_busy x
+claimed_busy (Claimed a b) = omega arith
+claimed_busy _ = omega arith
+
+module _ (p : Plan) (s : State Home View) (o : Lawful (λ home. home) p s) (i : ℕ) (v : View) (at : get_elem? s.views i ≡ some v) where
+  -- a claimed slot has an even version, with which it may be given again
+  births : (j k : ℕ) → May p v (GiveBirth j k) → (vref_version (get_or s.words (ref_word j) 0) % 2 ≡ 0) × (vref_version (get_or s.words (ref_word j) 0) ≤ 4294967292)
+  births j k may = let l = law p s o.references j may.0 in let there = total_mono (is_stage 3 k) is_claimed (stage_claimed 3 k) (about j v.marks) in
+      let claimed : 0 < count is_claimed (slot_facts s j) = omega (arith, there, own_count s i v at is_claimed j, may.1) in
+      (l.busy_even (omega (arith, claimed, tally_mono is_claimed is_busy claimed_busy (slot_facts s j).marks)), l.claimed_low claimed)
+
+  -- the life that the seat holds is that of the word
+  of_held : (j : ℕ) → j < p.slots → IsOfHeld v j (get_or s.words (ref_word j) 0)
+  of_held j inside h there = sym (life_found p s o.references i v at [] keeps j inside (fits p s o.references j inside) h there)
+
+  -- the link of a slot that is being recycled is one of the table
+  link_in : (j w : ℕ) → j < p.slots → 0 < marks_of (is_recycled w) j v → get_or s.words (link_word j) 0 < p.links
+  link_in j w inside there = let l = law p s o.references j inside in let f = slot_facts s j in
+      let recycling : 0 < count is_recycling (slot_facts s j) = omega (arith, own_count s i v at (is_recycled w) j, tally_mono (is_recycled w) is_recycling (recycled_le w) (slot_facts s j).marks, there) in
+      o.in_slots.small j ((slot_facts s j).version - 2) (get_or s.words (link_word j) 0) record { inside = inside; given = l.link_last recycling }
+
+  -- whose pass was spent
+  link_unwaited : (j w : ℕ) → j < p.slots → 0 < marks_of (is_recycled w) j v → total (only (get_or s.words (link_word j) 0)) v.passes ≡ 0
+  link_unwaited j w inside there = let l = law p s o.references j inside in let f = slot_facts s j in let k : ℕ = get_or s.words (link_word j) 0 in
+      let recycling : 0 < count is_recycling (slot_facts s j) = omega (arith, own_count s i v at (is_recycled w) j, tally_mono (is_recycled w) is_recycling (recycled_le w) (slot_facts s j).marks, there) in
+      omega (arith, given_unwaited p s o.references j ((slot_facts s j).version - 2) k record { inside = inside; given = l.link_last recycling }, term_le (waits_of k) s.views i v at)
+
+  -- the references that the seat has are counted
+  refs_counted : (j : ℕ) → j < p.slots → marks_of is_ref j v ≤ vref_nref (get_or s.words (ref_word j) 0)
+  refs_counted j inside = omega (arith, (law p s o.references j inside).counted, own_count s i v at is_ref j)
+
+  -- one seat at most claims or recycles a slot, and once
+  busy_once : (j : ℕ) → j < p.slots → marks_of is_busy j v ≤ 1
+  busy_once j inside = omega (arith, (law p s o.references j inside).busy_once, own_count s i v at is_busy j)
+
+  -- a name never has the word of an `open` that got no slot
+  named : p.slots ≤ 256 → (n : ℕ) → n < p.names → FindsId p (get_or s.words (name_word p n) 0) × (get_or s.words (name_word p n) 0 ≢ NO_SOCKET)
+  named few n inside = let found : ℕ = get_or s.words (name_word p n) 0 in (
+    λ is. (o.references.named.names n inside (id_some found is)).0,
+    λ e. let e' : get_or s.words (name_word p n) 0 ≡ 18446744073709551615 = e in let a = (o.references.named.names n inside (λ z. omega (arith, e', z))).0 in omega (arith, a, e', few),
+  )
+
+  pub finds : p.slots ≤ 256 → (call : Call) → May p v call → Finds p v call (found_at s.words (word_of p call)) (hand_at p s.homes call)
+  finds few (ClaimSlot j) may = tt
+  finds few (GiveBirth j k) may = let b = births j k may in (has_room p s o.references j may.0, b.0, b.1)
+  finds few (AddRef id) may = has_room p s o.references (socket_id_slot id) may.0.0
+  finds few (SubRef j) may = (refs_counted j may.0, of_held j may.0, next_version p s o.references j may.0)
+  finds few (SetOdd j) may = of_held j may.0
+  finds few (Recycle j from) may = tt
+  finds few (FreeSlot j) may = busy_once j may.0
+  finds few (StoreLink j k) may = tt
+  finds few (LoadLink j w) may = (link_in j w may.0 may.1, link_unwaited j w may.0 may.1)
+  finds few (ResetHead j k) may = tt
+  finds few (WipeCode j k) may = tt
+  finds few (StoreCode j h d) may = tt
+  finds few (StoreName n w) may = tt
+  finds few (LoadName n) may = named few n may
+  finds few (StoreOpen n w) may = tt
+  finds few (LoadOpen n) may = λ is. let found : ℕ = get_or s.words (open_word p n) 0 in (o.references.named.opens n may (id_socket found is) (id_some found is)).0
+  finds few (TakeLink k) may = ap (λ (h : Hand). h.link) (found_hand p s o i v at k may)
+  finds few (FinishLink k) may = tt
+  finds few (PutLink k) may = tt
