@@ -1,11 +1,11 @@
 -- Why each operation of a script without messages has its outcome, as a report has to say it.
-use Rattle.std.proofs.Common.{◌≡◌, ◌≢◌, ℕ, zero, suc, ◌+◌, ◌<◌, ◌≤◌, ◌==◌, ◌%◌, ◌⊎◌, inl, inr, Bool, true, false, not, ◌||◌, ◌&&◌, cond, List, [], ◌∷◌, length, take, filter_map, count_by, slice_get, Option, Some, None, Contains, refl, ap, sym, ◌∙◌, subst, arith}
+use Rattle.std.proofs.Common.{◌≡◌, ◌≢◌, ℕ, ◌<◌, ◌%◌, ◌⊎◌, inl, inr, Bool, true, false, List, [], length, count_by, slice_get, Some, Contains, refl, ap, sym, ◌∙◌, subst, arith}
 use Rattle.std.proofs.lemmas.Option.{slice_get_within}
-use Rattle.std.specs.List.{list_any, AllByRecursion}
+use Rattle.std.specs.List.{AllByRecursion}
 use Rattle.sock_words.specs.Words.{vref_version}
 use Rattle.sock_words.specs.declared.outcome.Outcome.{Outcome}
 use Rattle.sock_words.specs.declared.outcome.Outcome.TheVariants.{Opened, SlotsFull, Unopened, Gone, Held, Freed, Kept, NotHeld, Failed, Already}
-use Rattle.brpc_model.specs.Items.{Item, Open, Send, Call, Fail, Hold, Drop, Shape, CallLine, is_open, is_operation, sought_name, mentioned, opened_name}
+use Rattle.brpc_model.specs.Items.{Item, Open, Fail, Hold, Drop, Shape, is_open, sought_name}
 use Rattle.brpc_model.specs.Operations.{Operation, operations, link_names, slots}
 use Rattle.brpc_model.specs.Places.{names}
 use Rattle.brpc_model.specs.Link.{LinkEnd}
@@ -14,43 +14,20 @@ use Rattle.brpc_model.specs.Causes.{FailingFor, WasFailed, MayFindNone, Opens}
 use Rattle.brpc_model.specs.Outcomes.{FoundFailed as RunFoundFailed, AfterHold as RunAfterHold, OpenCause, HoldCause, FailCause, DropCause, Cause, EachSlotOpened}
 use Rattle.sock_programs.specs.declared.task.Op.{Op}
 use Rattle.sock_programs.specs.declared.task.Op.TheVariants as ops
-use Rattle.sock_programs.specs.declared.task.Task.{Task}
 use Rattle.sock_programs.specs.Cores.{Core}
 use Rattle.sock_programs.specs.Tasks.{name_number, op_of, plan_of}
 use Rattle.sock_programs.specs.Scripts.{is_later, is_quiet, all_tasks, report_of}
-use Rattle.sock_programs.specs.Told.{Told, IsTask, Became, Made, Why, OpensNone, FoundNone, FoundFailed, AfterHold, HasLife, EachOpened, IsFail}
-use Rattle.quiet_fits.specs.Ends.{QuietEnds, IsQuietEnd}
+use Rattle.sock_programs.specs.Told.{Told, IsTask, Made, Why, OpensNone, FoundNone, FoundFailed, AfterHold, HasLife, EachOpened, IsFail}
+use Rattle.quiet_fits.specs.Ends.{QuietEnds}
 use Rattle.quiet_fits.proofs.Lists.{Has, within, some_is, contains_from, has_from, all_at, all_map}
 use Rattle.quiet_fits.proofs.Counting.{but, but_other, one_less, HasPlace, places, passing, passing_length, passing_pass, passing_apart, Passes, passes_at, tally_all, count_tally}
-use Rattle.quiet_fits.proofs.Names.{same_name, mentioned_has}
-use Rattle.quiet_fits.proofs.Numbering.{link_at, IsFrom, are_from, opened_by, names_of_operations, link_name_at}
-use Rattle.quiet_fits.proofs.TaskLemmas.{IsTaskOf, task_is, operation_task, open_asks, hold_asks, fail_asks}
-use Rattle.quiet_fits.proofs.Reported.{AllTold, outcome_told, told_outcome}
+use Rattle.quiet_fits.proofs.Names.{same_name}
+use Rattle.quiet_fits.proofs.Numbering.{link_at, are_from}
+use Rattle.quiet_fits.proofs.TaskLemmas.{task_is, operation_task, open_asks, hold_asks, fail_asks, mentions_open, mentions_hold, mentions_drop, mentions_fail, named_at}
+use Rattle.quiet_fits.proofs.Quiet.{not_later, asked_at, all_told}
+use Rattle.quiet_fits.proofs.Reported.{outcome_told, told_outcome}
 
 -- ## Operations of a script without messages
-
-or_parts : (a b : Bool) → (a || b) ≡ false → (a ≡ false) × (b ≡ false)
-or_parts false b e = (refl, e)
-or_parts true b e = absurd (cc)
-
-any_none : {A : Type 0} (test : A → Bool) (xs : List A) (x : A) → list_any test xs ≡ false → Has xs x → test x ≡ false
-any_none test [] x e h = absurd (cc)
-any_none test (y ∷ ys) x e (zero, f) = ap test (sym (some_is y x f)) ∙ (or_parts (test y) (list_any test ys) e).0
-any_none test (y ∷ ys) x e (suc k, f) = any_none test ys x (or_parts (test y) (list_any test ys) e).1 (k, f)
-
-not_true : (b : Bool) → not b ≡ true → b ≡ false
-not_true false e = refl
-not_true true e = absurd (cc)
-
-pub not_later : (script : List Item) → is_quiet script ≡ true → (item : Item) → Has script item → is_later item ≡ false
-not_later script quiet item h = any_none is_later script item (not_true (list_any is_later script) quiet) h
-
-pub asks_something : (ns : List (List ℕ)) (link : ℕ) (item : Item) → is_operation item ≡ true → is_later item ≡ false → (op : Op) × (op_of ns link item ≡ Some op)
-asks_something ns link (Open name shape) o l = (ops.Open (name_number ns name) link, refl)
-asks_something ns link (Hold name) o l = (ops.Hold (name_number ns name), refl)
-asks_something ns link (Drop name) o l = (ops.Drop (name_number ns name), refl)
-asks_something ns link (Fail name code) o l = (ops.Fail (name_number ns name) code, refl)
-asks_something ns link other o l = absurd (cc)
 
 -- an operation that seeks a name is a `fail` or a `hold` of it
 seeks_by : (ns : List (List ℕ)) (link : ℕ) (item : Item) (name : List ℕ) (op : Op) → is_later item ≡ false → op_of ns link item ≡ Some op → sought_name item ≡ Some name →
@@ -79,7 +56,7 @@ module _ (script : List Item) (core : Core) (ends : List LinkEnd) (quiet : is_qu
   Asked i q = (op : Op) × (op_of Names (link i) q.item ≡ Some op)
 
   pub asked : (i : ℕ) (q : Operation) → IsOperation run_of i q → Asked i q
-  asked i q e = let w = are_from 0 1 script i q e in asks_something Names (link i) q.item w.is (not_later script quiet q.item w.there)
+  asked i q e = asked_at script quiet i q e
 
   abbrev pub TaskAt : ℕ → ℕ → Op → Type 0
   TaskAt c i op = IsTask (all_tasks script) core.outcomes c (record { number = i; op = op })
@@ -87,17 +64,11 @@ module _ (script : List Item) (core : Core) (ends : List LinkEnd) (quiet : is_qu
   pub task_at : (i : ℕ) (q : Operation) (e : IsOperation run_of i q) (op : Op) → op_of Names (link i) q.item ≡ Some op → TaskAt q.client i op
   task_at i q e op f = operation_task script core.outcomes i q op e f
 
-  pub all_told : AllTold core.outcomes
-  all_told i h =
-      let w = within (operations script) i (omega (arith, h, long)) in
-      let a = asked i w.0 w.1 in
-      tells.told w.0.client (record { number = i; op = a.0 }) (task_at i w.0 w.1 a.0 a.1)
-
   pub became : (i : ℕ) (o : Outcome) → HasOutcome run_of i o → slice_get core.outcomes i ≡ Some (Some o)
-  became i o e = outcome_told core.outcomes all_told i o e
+  became i o e = outcome_told core.outcomes (all_told script core quiet long tells) i o e
 
   pub reported : (i : ℕ) (o : Outcome) → slice_get core.outcomes i ≡ Some (Some o) → HasOutcome run_of i o
-  reported i o e = told_outcome core.outcomes all_told i o e
+  reported i o e = told_outcome core.outcomes (all_told script core quiet long tells) i o e
 
   abbrev pub WhyAt : ℕ → ℕ → Op → Outcome → Type 0
   WhyAt c i op o = Why (all_tasks script) core.outcomes (plan_of script) tells.fails c i op o
@@ -125,35 +96,34 @@ module _ (script : List Item) (core : Core) (ends : List LinkEnd) (quiet : is_qu
     pub mentions : Has (names script) name
     pub is : IsTask (all_tasks script) core.outcomes operation.client (record { number = j; op = ops.Open (name_number (names script) name) k })
 
-  mentions_at : (i : ℕ) (q : Operation) → IsOperation run_of i q → (name : List ℕ) (item : Item) → q.item ≡ item → Has (mentioned item) name → Has (names script) name
-  mentions_at i q e name item same h =
-      let P : Item → Type 0 = λ x. Has (mentioned x) name in
-      mentioned_has script q.item name (are_from 0 1 script i q e).there (subst P (sym same) h)
+  opened_by_open : (j slot version k n : ℕ) (q : Operation) (name : List ℕ) (shape : Shape) → IsOperation run_of j q → q.item ≡ Open name shape → n ≡ name_number Names name → k ≡ link j → op_of Names (link j) q.item ≡ Some (ops.Open n k) → OpenedAt j slot version k
+  opened_by_open j slot version k n q name shape there item number its asks = record {
+    operation = q;
+    there = there;
+    name = name;
+    shape = shape;
+    item = item;
+    its = its;
+    named = ap (slice_get (link_names script)) its ∙ named_at script j q name shape there item;
+    mentions = mentions_open script j q there name shape item;
+    is = task_at j q there (ops.Open (name_number Names name) k) (asks ∙ ap (λ n. Some (ops.Open n k)) number);
+  }
 
-  named_at : (j k : ℕ) (q : Operation) (name : List ℕ) (shape : Shape) → IsOperation run_of j q → q.item ≡ Open name shape → k ≡ link_at (operations script) j → slice_get (link_names script) k ≡ Some name
-  named_at j k q name shape e item its =
-      let by_name : opened_by q ≡ Some name = ap opened_name item in
-      ap (λ x. slice_get x k) (names_of_operations 0 1 script) ∙ ap (slice_get (filter_map opened_by (operations script))) its ∙ link_name_at (operations script) j q name e by_name
+  opened_by_task : (j slot version k n : ℕ) (q : Operation) → IsOperation run_of j q → op_of Names (link j) q.item ≡ Some (ops.Open n k) → OpenedAt j slot version k
+  opened_by_task j slot version k n q there asks =
+      let m = open_asks Names (link j) q.item n k asks in
+      opened_by_open j slot version k n q m.0 m.1 there m.2 m.3 m.4 asks
+
+  opened_by_operation : (j slot version k : ℕ) (q : Operation) (op : Op) → IsOperation run_of j q → op_of Names (link j) q.item ≡ Some op → slice_get core.outcomes j ≡ Some (Some (Opened slot version k)) → OpenedAt j slot version k
+  opened_by_operation j slot version k q op there asks b =
+      let o = opened_is q.client j op slot version k (why_at j q there op asks (Opened slot version k) b) in
+      opened_by_task j slot version k o.0 q there (asks ∙ ap Some o.1)
 
   pub opened_at : (j slot version k : ℕ) → slice_get core.outcomes j ≡ Some (Some (Opened slot version k)) → OpenedAt j slot version k
   opened_at j slot version k b =
       let w = within (operations script) j (omega (arith, slice_get_within core.outcomes j (Some (Opened slot version k)) b, long)) in
-      let q = w.0 in
-      let a = asked j q w.1 in
-      let o = opened_is q.client j a.0 slot version k (why_at j q w.1 a.0 a.1 (Opened slot version k) b) in
-      let is_open_op : op_of Names (link j) q.item ≡ Some (ops.Open o.0 k) = a.1 ∙ ap Some o.1 in
-      let m = open_asks Names (link j) q.item o.0 k is_open_op in
-      record {
-        operation = q;
-        there = w.1;
-        name = m.0;
-        shape = m.1;
-        item = m.2;
-        its = m.4;
-        named = named_at j k q m.0 m.1 w.1 m.2 m.4;
-        mentions = mentions_at j q w.1 m.0 (Open m.0 m.1) m.2 (0, refl);
-        is = task_at j q w.1 (ops.Open (name_number Names m.0) k) (is_open_op ∙ ap (λ n. Some (ops.Open n k)) m.3);
-      }
+      let a = asked j w.0 w.1 in
+      opened_by_operation j slot version k w.0 a.0 w.1 a.1 b
 
   abbrev pub Makes : ℕ → ℕ → ℕ → ℕ → Type 0
   Makes n k slot version = Made (all_tasks script) core.outcomes n k slot version
@@ -181,9 +151,6 @@ module _ (script : List Item) (core : Core) (ends : List LinkEnd) (quiet : is_qu
 
   -- ## Names without a socket
 
-  OpensNo : ℕ → Task → Type 0
-  OpensNo n t = OpensNone (all_tasks script) core.outcomes n t
-
   opens_not : (n : ℕ) (name : List ℕ) → IsNumberOf n name → (j c : ℕ) → ((q : Operation) → IsOperation run_of j q → q.client ≡ c) →
       ((op : Op) → TaskAt c j op → OpensNone (all_tasks script) core.outcomes n (record { number = j; op = op })) → Opens run_of j name → ⊥
   opens_not n name is j c own none opens =
@@ -203,16 +170,15 @@ module _ (script : List Item) (core : Core) (ends : List LinkEnd) (quiet : is_qu
   find_none : (c o n : ℕ) (name : List ℕ) → IsNumberOf n name → FoundNone (all_tasks script) core.outcomes c o n → MayFindNone run_of c o name
   find_none c o n name is found j q there =
       let owner : (d : ℕ) → q.client ≡ d → (p : Operation) → IsOperation run_of j p → p.client ≡ d = λ d e p f. ap (λ (x : Operation). x.client) (operation_is j p q f there) ∙ e in
-      let a = asked j q there in
-      (
+      let a = asked j q there in (
         λ z opens. opens_not n name is j 0 (owner 0 z) (λ op t. found.setup (record { number = j; op = op }) t) opens,
         λ own less. (
           λ opens. opens_not n name is j c (owner c own) (λ op t. (found.own (record { number = j; op = op }) t less).0) opens,
           λ sought. (
-            let s = seeks_by Names (link j) q.item name a.0 (not_later script quiet q.item (are_from 0 1 script j q there).there) a.1 sought in
-            let P : ℕ → Type 0 = λ x. TaskAt x j a.0 in
-            reported j Unopened ((found.own (record { number = j; op = a.0 }) (subst P own (task_at j q there a.0 a.1)) less).1 (by_number s))
-          ),
+              let s = seeks_by Names (link j) q.item name a.0 (not_later script quiet q.item (are_from 0 1 script j q there).there) a.1 sought in
+              let P : ℕ → Type 0 = λ x. TaskAt x j a.0 in
+              reported j Unopened ((found.own (record { number = j; op = a.0 }) (subst P own (task_at j q there a.0 a.1)) less).1 (by_number s))
+              ),
         ),
       )
     where
@@ -232,14 +198,19 @@ module _ (script : List Item) (core : Core) (ends : List LinkEnd) (quiet : is_qu
       let named = link_of n f.link f.slot f.version name is f.made in
       let e = end_at f.link name named in
       let Q : ℕ → Type 0 = λ k. Contains tells.fails (f.fail, k) in
-      let failing : FailingFor run_of i f.link = (e.0, e.1, e.2, WasFailed f.fail
-      (λ p r at_i at_f same. (
-        let a = asked f.fail r at_f in
-        let own : r.client ≡ q.client = sym same ∙ ap (λ (x : Operation). x.client) (operation_is i p q at_i there) in
-        let R : ℕ → Type 0 = λ x. TaskAt x f.fail a.0 in
-        f.no_later (record { number = f.fail; op = a.0 }) (subst R own (task_at f.fail r at_f a.0 a.1)) refl
-      ))
-      (subst Q (sym e.2) f.failed)) in
+      let failing : FailingFor run_of i f.link = (
+        e.0,
+        e.1,
+        e.2,
+        WasFailed f.fail
+            (λ p r at_i at_f same. (
+            let a = asked f.fail r at_f in
+            let own : r.client ≡ q.client = sym same ∙ ap (λ (x : Operation). x.client) (operation_is i p q at_i there) in
+            let R : ℕ → Type 0 = λ x. TaskAt x f.fail a.0 in
+            f.no_later (record { number = f.fail; op = a.0 }) (subst R own (task_at f.fail r at_f a.0 a.1)) refl
+            ))
+            (subst Q (sym e.2) f.failed),
+      ) in
       (f.link, f.made.task.number, f.slot, f.version, reported f.made.task.number (Opened f.slot f.version f.link) f.made.became, named, f.holds, inl failing)
 
   has_socket : (n : ℕ) (name : List ℕ) → IsNumberOf n name → HasLife (all_tasks script) core.outcomes n → HasSocket run_of name
@@ -251,25 +222,30 @@ module _ (script : List Item) (core : Core) (ends : List LinkEnd) (quiet : is_qu
   hold_at : (h n : ℕ) (r : Operation) (name : List ℕ) (op : Op) → IsOperation run_of h r → op_of Names (link h) r.item ≡ Some op → op ≡ ops.Hold n → IsNumberOf n name → r.item ≡ Hold name
   hold_at h n r name op there asks e is =
       let w = hold_asks Names (link h) r.item n (asks ∙ ap Some e) in
-      let mentions : Has Names w.0 = mentions_at h r there w.0 (Hold w.0) w.1 (0, refl) in
+      let mentions : Has Names w.0 = mentions_hold script h r there w.0 w.1 in
       w.1 ∙ ap Hold (same_name Names w.0 name mentions is.1 (sym w.2 ∙ is.0))
 
   after_hold : (i n : ℕ) (q : Operation) (name : List ℕ) (P : Outcome → Type 0) → IsNumberOf n name → AfterHold (all_tasks script) core.outcomes q.client i n P → RunAfterHold run_of i q name P
   after_hold i n q name P is a =
       let h = a.hold.number in
-      let t = task_is script core.outcomes q.client a.hold a.is in
-      (h, a.outcome, record {
-        before = a.before;
-        hold = t.operation;
-        there = t.there;
-        own = t.own;
-        same = hold_at h n t.operation name a.hold.op t.there t.asks a.op is;
-        last = λ j r low high there own same. (
-          let asks : op_of Names (link j) r.item ≡ Some (ops.Hold n) = ap (op_of Names (link j)) same ∙ ap (λ x. Some (ops.Hold x)) (sym is.0) in
-          let R : ℕ → Type 0 = λ x. TaskAt x j (ops.Hold n) in
-          a.last (record { number = j; op = ops.Hold n }) (subst R own (task_at j r there (ops.Hold n) asks)) low high refl
-        );
-      }, reported h a.outcome a.became, a.holds)
+      let t = task_is script core.outcomes q.client a.hold a.is in (
+        h,
+        a.outcome,
+        record {
+          before = a.before;
+          hold = t.operation;
+          there = t.there;
+          own = t.own;
+          same = hold_at h n t.operation name a.hold.op t.there t.asks a.op is;
+          last = λ j r low high there own same. (
+              let asks : op_of Names (link j) r.item ≡ Some (ops.Hold n) = ap (op_of Names (link j)) same ∙ ap (λ x. Some (ops.Hold x)) (sym is.0) in
+              let R : ℕ → Type 0 = λ x. TaskAt x j (ops.Hold n) in
+              a.last (record { number = j; op = ops.Hold n }) (subst R own (task_at j r there (ops.Hold n) asks)) low high refl
+              );
+        },
+        reported h a.outcome a.became,
+        a.holds,
+      )
 
   -- ## The causes
 
@@ -296,9 +272,6 @@ module _ (script : List Item) (core : Core) (ends : List LinkEnd) (quiet : is_qu
     pub opened : BecameSocket run_of k
     pub failed : slice_get core.outcomes i ≡ Some (Some Failed)
 
-  mentions_fail : (i : ℕ) (q : Operation) (name : List ℕ) (code : ℕ) → IsOperation run_of i q → q.item ≡ Fail name code → Has (names script) name
-  mentions_fail i q name code there e = mentions_at i q there name (Fail name code) e (0, refl)
-
   pub failed_at : (f : ℕ × ℕ) → Contains tells.fails f → FailedAt f.0 f.1
   failed_at f h =
       let w = all_at (IsFail (all_tasks script) core.outcomes) tells.fails f tells.are (has_from tells.fails f h) in
@@ -312,7 +285,7 @@ module _ (script : List Item) (core : Core) (ends : List LinkEnd) (quiet : is_qu
         name = a.0;
         code = w.code;
         item = a.1;
-        named = link_of w.name f.1 w.slot w.version a.0 (a.2, mentions_fail f.0 t.operation a.0 w.code there a.1) life;
+        named = link_of w.name f.1 w.slot w.version a.0 (a.2, mentions_fail script f.0 t.operation there a.0 w.code a.1) life;
         opened = (life.task.number, w.slot, w.version, reported life.task.number (Opened w.slot w.version f.1) life.became);
         failed = w.became;
       }
@@ -390,13 +363,13 @@ module _ (script : List Item) (core : Core) (ends : List LinkEnd) (quiet : is_qu
       open_cause i (name_number Names name) (link i) q o there (ap is_open e) refl b (subst P (sym (some_is (ops.Open (name_number Names name) (link i)) op asks)) w)
   cause_of i q (Hold name) op o there e asks b w =
       let P : Op → Type 0 = λ x. WhyAt q.client i x o in
-      hold_cause i (name_number Names name) q name o there (refl, mentions_at i q there name (Hold name) e (0, refl)) (subst P (sym (some_is (ops.Hold (name_number Names name)) op asks)) w)
+      hold_cause i (name_number Names name) q name o there (refl, mentions_hold script i q there name e) (subst P (sym (some_is (ops.Hold (name_number Names name)) op asks)) w)
   cause_of i q (Drop name) op o there e asks b w =
       let P : Op → Type 0 = λ x. WhyAt q.client i x o in
-      drop_cause i (name_number Names name) q name o (refl, mentions_at i q there name (Drop name) e (0, refl)) (subst P (sym (some_is (ops.Drop (name_number Names name)) op asks)) w)
+      drop_cause i (name_number Names name) q name o (refl, mentions_drop script i q there name e) (subst P (sym (some_is (ops.Drop (name_number Names name)) op asks)) w)
   cause_of i q (Fail name code) op o there e asks b w =
       let P : Op → Type 0 = λ x. WhyAt q.client i x o in
-      fail_cause i (name_number Names name) code q name o there e (refl, mentions_at i q there name (Fail name code) e (0, refl)) (subst P (sym (some_is (ops.Fail (name_number Names name) code) op asks)) w)
+      fail_cause i (name_number Names name) code q name o there e (refl, mentions_fail script i q there name code e) (subst P (sym (some_is (ops.Fail (name_number Names name) code) op asks)) w)
   cause_of i q other op o there e asks b w = absurd (cc)
 
   pub cause_at : (i : ℕ) (q : Operation) (o : Outcome) → IsOperation run_of i q → HasOutcome run_of i o → Cause run_of i q q.item o

@@ -4,7 +4,7 @@ use Rattle.std.proofs.lemmas.Bool.Decides.{nat_tests}
 use Rattle.std.proofs.lemmas.List.Sums.{sum_by-cons}
 use Rattle.std.specs.List.{AllByRecursion}
 use Rattle.brpc_model.specs.Order.{EachBefore}
-use Rattle.quiet_fits.proofs.Lists.{all_from, all_at, all_map, Has}
+use Rattle.quiet_fits.proofs.Lists.{all_from, all_at, all_map}
 
 -- how many places below n pass
 abbrev pub tally : (ℕ → Bool) → ℕ → ℕ
@@ -50,9 +50,9 @@ places Place Apart n own [] b apart h = omega arith
 places Place Apart n own (x ∷ xs) b apart h =
     let j = h.0.0 in
     let others : AllByRecursion (HasPlace Place (but b j) n) xs = all_from (HasPlace Place (but b j) n) xs (λ y g.
-      let w = all_at (HasPlace Place b n) xs y h.1 g in
-      let other : w.0 ≢ j = λ e. own x y j (all_at (Apart x) xs y apart.0 g) h.0.3 (subst (Place y) e w.3) in
-      (w.0, w.1, but_other b j w.0 other ∙ w.2, w.3)) in
+    let w = all_at (HasPlace Place b n) xs y h.1 g in
+    let other : w.0 ≢ j = λ e. own x y j (all_at (Apart x) xs y apart.0 g) h.0.3 (subst (Place y) e w.3) in
+    (w.0, w.1, but_other b j w.0 other ∙ w.2, w.3)) in
     omega (arith, places Place Apart n own xs (but b j) apart.1 others, one_less b j n h.0.1 h.0.2)
 
 -- ## The places that pass

@@ -1,17 +1,17 @@
 -- A run of a script without messages, as it is reported, fits.
-use Rattle.std.proofs.Common.{◌≡◌, ◌≢◌, ℕ, zero, suc, ◌+◌, ◌<◌, ◌≤◌, Bool, true, false, List, [], ◌∷◌, ◌++◌, length, map, flat_map, zip, count_by, slice_get, nat_lt, bytes_eq, Option, Some, None, IfSome, Contains, refl, ap, sym, ◌∙◌, subst, arith}
+use Rattle.std.proofs.Common.{◌≡◌, ◌≢◌, ℕ, zero, suc, ◌<◌, ◌≤◌, Bool, true, false, List, [], ◌∷◌, length, map, flat_map, zip, slice_get, nat_lt, bytes_eq, Option, Some, None, IfSome, Contains, refl, ap, sym, ◌∙◌, subst, arith}
 use Rattle.std.proofs.lemmas.Bool.Decides.{nat_tests}
 use Rattle.std.proofs.lemmas.Option.{slice_get_within}
 use Rattle.std.proofs.lemmas.Slice.Eq.{bytes_eq-Decides}
 use Rattle.std.specs.List.{AllByRecursion}
 use Rattle.sock_words.specs.declared.outcome.Outcome.{Outcome}
 use Rattle.sock_words.specs.declared.outcome.Outcome.TheVariants.{Opened, Failed}
-use Rattle.brpc_model.specs.Items.{Item, Open, Send, Call, Expire, Fail, Shape, CallLine, sought_name}
+use Rattle.brpc_model.specs.Items.{Item, Send, Call, Expire, Fail, CallLine, sought_name}
 use Rattle.brpc_model.specs.Operations.{Operation, Label, operations, link_names}
 use Rattle.brpc_model.specs.Places.{names}
 use Rattle.brpc_model.specs.Link.{LinkEnd}
 use Rattle.brpc_model.specs.Report.{LinkLine, report_text}
-use Rattle.brpc_model.specs.Run.{Run, nothing_late, IsOperation, HasOutcome, BecameSocket, AreGiven}
+use Rattle.brpc_model.specs.Run.{Run, nothing_late, IsOperation, HasOutcome, IsLinkOf, BecameSocket, AreGiven}
 use Rattle.brpc_model.specs.Order.{EachBefore, TookInOrder}
 use Rattle.brpc_model.specs.Causes.{AreFails}
 use Rattle.brpc_model.specs.Fits.{FitsLink, FitsOnce, FitsRun, count_outcomes, is_fail_of, is_open_of}
@@ -23,10 +23,10 @@ use Rattle.sock_programs.specs.Tasks.{name_number, plan_of}
 use Rattle.sock_programs.specs.Scripts.{is_later, is_quiet, all_tasks, quiet_link, report_of}
 use Rattle.sock_programs.specs.Told.{Told, Made}
 use Rattle.quiet_fits.specs.Ends.{QuietEnds, IsQuietEnd}
-use Rattle.quiet_fits.proofs.Lists.{Has, within, some_is, contains_from, has_from, all_from, all_map, before_at}
-use Rattle.quiet_fits.proofs.Counting.{HasPlace, places, passing, passing_length, passing_pass, passing_apart, Passes, passes_at, tally, count_tally}
-use Rattle.quiet_fits.proofs.Numbering.{IsFrom, are_from}
-use Rattle.quiet_fits.proofs.Reported.{told_length}
+use Rattle.quiet_fits.proofs.Lists.{within, some_is, contains_from, has_from, all_from, all_map, before_at}
+use Rattle.quiet_fits.proofs.Counting.{HasPlace, places, passing, passing_length, passing_pass, passing_apart, Passes, passes_at, count_tally}
+use Rattle.quiet_fits.proofs.Numbering.{are_from}
+use Rattle.quiet_fits.proofs.Quiet.{not_later, report_length}
 use Rattle.quiet_fits.proofs.Causes as causes
 
 -- ## Links that accepted nothing
@@ -122,7 +122,7 @@ module _ (script : List Item) (core : Core) (ends : List LinkEnd) (quiet : is_qu
   -- ## No message and no call
 
   not_later_at : (i : ℕ) (q : Operation) → IsOperation run i q → is_later q.item ≡ false
-  not_later_at i q e = causes.not_later script quiet q.item (are_from 0 1 script i q e).there
+  not_later_at i q e = not_later script quiet q.item (are_from 0 1 script i q e).there
 
   no_call : (i : ℕ) (q : Operation) (call : CallLine) → IsOperation run i q → q.item ≡ Call call → ⊥
   no_call i q call e f = let later : true ≡ false = ap is_later (sym f) ∙ not_later_at i q e in absurd (cc)
@@ -155,7 +155,7 @@ module _ (script : List Item) (core : Core) (ends : List LinkEnd) (quiet : is_qu
   are_fails = record {
     answered = all_from (λ (f : ℕ × ℕ). HasOutcome run f.0 Failed) tells.fails (λ f h. reported f.0 Failed (failed_at f (contains_from tells.fails f h)).failed);
     named = all_from (λ (f : ℕ × ℕ). (op : Operation) × IsOperation run f.0 op × (sought_name op.item ≡ slice_get (link_names script) f.1)) tells.fails
-    (λ f h. let w = failed_at f (contains_from tells.fails f h) in (w.operation, w.there, ap sought_name w.item ∙ sym w.named));
+        (λ f h. let w = failed_at f (contains_from tells.fails f h) in (w.operation, w.there, ap sought_name w.item ∙ sym w.named));
     lived = all_from (λ (f : ℕ × ℕ). BecameSocket run f.1) tells.fails (λ f h. (failed_at f (contains_from tells.fails f h)).opened);
     each = each_fail;
     once = tells.once;
@@ -182,6 +182,34 @@ module _ (script : List Item) (core : Core) (ends : List LinkEnd) (quiet : is_qu
   abbrev is_open_at : List ℕ → ℕ → Bool
   is_open_at name j = passes_at (λ (x : Operation × Outcome). is_open_of name x.0.item x.1) (slice_get Pairs j)
 
+  abbrev OpenedAt : ℕ → ℕ → ℕ → ℕ → Type 0
+  OpenedAt j slot version k = causes.OpenedAt script core ends quiet long given tells j slot version k
+
+  abbrev FailedAt : ℕ → ℕ → Type 0
+  FailedAt i k = causes.FailedAt script core ends quiet long given tells i k
+
+  open_place : (name : List ℕ) (j slot version k : ℕ) → HasOutcome run j (Opened slot version k) → (o : OpenedAt j slot version k) → o.name ≡ name → (j < length Pairs) × (is_open_at name j ≡ true)
+  open_place name j slot version k has o same =
+      let opened : Outcome = Opened slot version k in
+      let at : slice_get Pairs j ≡ Some (o.operation, opened) = zip_at (operations script) (report_of script core).outcomes j o.operation opened o.there has in
+      let test : Option (Operation × Outcome) → Bool = passes_at (λ (x : Operation × Outcome). is_open_of name x.0.item x.1) in
+      let by_item : is_open_of name o.operation.item opened ≡ bytes_eq o.name name = ap (λ item. is_open_of name item opened) o.item in
+      let tested : is_open_at name j ≡ is_open_of name o.operation.item opened = ap test at in
+      (slice_get_within Pairs j (o.operation, opened) at, tested ∙ by_item ∙ (bytes_eq-Decides o.name name).1 same)
+
+  life_place : (name : List ℕ) (i j slot version k : ℕ) → Contains tells.fails (i, k) → IsLinkOf run k name → HasOutcome run j (Opened slot version k) → HasPlace FailedIts (is_open_at name) (length Pairs) i
+  life_place name i j slot version k failed named has =
+      let o = causes.opened_at script core ends quiet long given tells j slot version k (became j (Opened slot version k) has) in
+      let w = open_place name j slot version k has o (some_is o.name name (sym o.named ∙ named)) in
+      (j, w.0, w.1, (k, failed, o.its))
+
+  failed_place : (name : List ℕ) (i k code : ℕ) (q : Operation) → IsOperation run i q → q.item ≡ Fail name code → Contains tells.fails (i, k) → (w : FailedAt i k) → HasPlace FailedIts (is_open_at name) (length Pairs) i
+  failed_place name i k code q there item failed w =
+      let whose : w.operation ≡ q = some_is w.operation q (sym w.there ∙ there) in
+      let same : Fail w.name w.code ≡ Fail name code = sym w.item ∙ ap (λ (x : Operation). x.item) whose ∙ item in
+      let name_is : w.name ≡ name = cc in
+      life_place name i w.opened.0 w.opened.1 w.opened.2 k failed (w.named ∙ ap Some name_is) w.opened.3
+
   fail_place : (name : List ℕ) (i : ℕ) → is_fail_at name i ≡ true → HasPlace FailedIts (is_open_at name) (length Pairs) i
   fail_place name i e =
       let x = passes_some (λ (x : Operation × Outcome). is_fail_of name x.0.item x.1) (slice_get Pairs i) e in
@@ -189,16 +217,7 @@ module _ (script : List Item) (core : Core) (ends : List LinkEnd) (quiet : is_qu
       let parts = fail_parts name x.0.0.item x.0.1 x.2 in
       let has : HasOutcome run i Failed = z.1 ∙ ap Some parts.2 in
       let pair = each_fail i has in
-      let w = failed_at (i, pair.0) pair.1 in
-      let same : Fail w.name w.code ≡ Fail name parts.0 = sym w.item ∙ ap (λ (q : Operation). q.item) (some_is w.operation x.0.0 (sym w.there ∙ z.0)) ∙ parts.1 in
-      let name_is : w.name ≡ name = cc in
-      let j = w.opened.0 in
-      let opened : Outcome = Opened w.opened.1 w.opened.2 pair.0 in
-      let o = causes.opened_at script core ends quiet long given tells j w.opened.1 w.opened.2 pair.0 (became j opened w.opened.3) in
-      let its_name : o.name ≡ name = some_is o.name w.name (sym o.named ∙ w.named) ∙ name_is in
-      let at : slice_get Pairs j ≡ Some (o.operation, opened) = zip_at (operations script) (report_of script core).outcomes j o.operation opened o.there w.opened.3 in
-      let opens : is_open_at name j ≡ true = ap (passes_at (λ (x : Operation × Outcome). is_open_of name x.0.item x.1)) at ∙ ap (λ item. is_open_of name item opened) o.item ∙ (bytes_eq-Decides o.name name).1 its_name in
-      (j, slice_get_within Pairs j (o.operation, opened) at, opens, (pair.0, pair.1, o.its))
+      failed_place name i pair.0 parts.0 x.0.0 z.0 parts.1 pair.1 (failed_at (i, pair.0) pair.1)
 
   few_fails : (name : List ℕ) → count_outcomes run (is_fail_of name) ≤ count_outcomes run (is_open_of name)
   few_fails name =
@@ -253,7 +272,7 @@ module _ (script : List Item) (core : Core) (ends : List LinkEnd) (quiet : is_qu
 
   pub fits_run : FitsRun run
   fits_run = record {
-    one_each = told_length core.outcomes (causes.all_told script core ends quiet long given tells) ∙ long;
+    one_each = report_length script core quiet long tells ∙ long;
     causes = causes.cause_at script core ends quiet long given tells;
     line_each = lines_length (link_names script);
     links = fits_links;

@@ -4,6 +4,10 @@ pub mod Names
 pub mod Numbering
 pub mod TaskLemmas
 pub mod Reported
+pub mod Quiet
 pub mod Causes
 pub mod Fitting
 pub mod Reading
+pub mod Sizes
+pub mod Alternating
+pub mod Tasks

@@ -1,29 +1,27 @@
 -- The operations of a script with their numbers: the place of each, its link, and its task.
-use Rattle.std.proofs.Common.{◌≡◌, ◌≢◌, ℕ, zero, suc, ◌+◌, ◌<◌, ◌≤◌, ◌==◌, ◌⊎◌, inl, inr, Bool, true, false, cond, if◌then◌else◌, List, [], ◌∷◌, ◌++◌, length, take, filter, filter_map, count_by, slice_get, option_map, Option, Some, None, refl, ap, sym, ◌∙◌, subst, arith}
-use Rattle.std.proofs.lemmas.Bool.Decides.{Decides-eqb, nat_tests}
+use Rattle.std.proofs.Common.{◌≡◌, ℕ, zero, suc, ◌+◌, ◌<◌, ◌≤◌, ◌⊎◌, inl, inr, Bool, true, false, cond, if◌then◌else◌, List, [], ◌∷◌, length, take, filter_map, count_by, slice_get, Option, Some, None, refl, ap, sym, ◌∙◌, subst, arith}
 use Rattle.std.proofs.lemmas.List.Sums.{sum_by-cons}
 use Rattle.std.specs.List.{cons_option}
-use Rattle.std.proofs.lemmas.Option.{slice_get_within}
-use Rattle.brpc_model.specs.Items.{Item, Slots, Requests, First, Open, Client, Send, Call, Expire, Join, Fail, Hold, Drop, Sched, Tick, To, Shape, is_open, is_client, is_operation, opened_name}
-use Rattle.brpc_model.specs.Operations.{Operation, operations, operations_from, clients, link_names}
-use Rattle.sock_programs.specs.Tasks.{Numbered, numbered_from, numbered}
-use Rattle.quiet_fits.proofs.Lists.{Has, has_first, has_later, has_cases, has_none, some_is}
+use Rattle.brpc_model.specs.Items.{Item, Slots, Requests, First, Open, Client, Sched, Tick, To, is_open, is_client, is_operation, opened_name}
+use Rattle.brpc_model.specs.Operations.{Operation, operations_from}
+use Rattle.sock_programs.specs.Tasks.{Numbered, numbered_from}
+use Rattle.quiet_fits.proofs.Lists.{Has, has_first, has_later, some_is}
 
 -- ## Links
 
-abbrev pub opens : List Operation → ℕ
-opens ops = count_by (λ (op : Operation). is_open op.item) ops
+abbrev pub count_opens : List Operation → ℕ
+count_opens ops = count_by (λ (op : Operation). is_open op.item) ops
 
 -- how many opens come before operation i, which is the number of its link
 abbrev pub link_at : List Operation → ℕ → ℕ
-link_at ops i = opens (take i ops)
+link_at ops i = count_opens (take i ops)
 
-opens_open : (op : Operation) (ops : List Operation) → is_open op.item ≡ true → opens (op ∷ ops) ≡ opens ops + 1
+opens_open : (op : Operation) (ops : List Operation) → is_open op.item ≡ true → count_opens (op ∷ ops) ≡ count_opens ops + 1
 opens_open op ops e =
     let one : cond {A = ℕ} (is_open op.item) 1 0 ≡ 1 = ap {B = ℕ} (λ b. cond b 1 0) e in
     omega (arith, one, sum_by-cons (λ (x : Operation). cond (is_open x.item) 1 0) op ops)
 
-opens_other : (op : Operation) (ops : List Operation) → is_open op.item ≡ false → opens (op ∷ ops) ≡ opens ops
+opens_other : (op : Operation) (ops : List Operation) → is_open op.item ≡ false → count_opens (op ∷ ops) ≡ count_opens ops
 opens_other op ops e =
     let one : cond {A = ℕ} (is_open op.item) 1 0 ≡ 0 = ap {B = ℕ} (λ b. cond b 1 0) e in
     omega (arith, one, sum_by-cons (λ (x : Operation). cond (is_open x.item) 1 0) op ops)
@@ -34,8 +32,8 @@ number_behind : (b : Bool) (link n : ℕ) → (if b then link + 1 else link) + n
 number_behind true link n = omega arith
 number_behind false link n = omega arith
 
-link_behind : (op : Operation) (ops : List Operation) (link : ℕ) → (if is_open op.item then link + 1 else link) + opens ops ≡ link + opens (op ∷ ops)
-link_behind op ops link = omega (arith, number_behind (is_open op.item) link (opens ops), sum_by-cons (λ (x : Operation). cond (is_open x.item) 1 0) op ops)
+link_behind : (op : Operation) (ops : List Operation) (link : ℕ) → (if is_open op.item then link + 1 else link) + count_opens ops ≡ link + count_opens (op ∷ ops)
+link_behind op ops link = omega (arith, number_behind (is_open op.item) link (count_opens ops), sum_by-cons (λ (x : Operation). cond (is_open x.item) 1 0) op ops)
 
 -- what is known of an operation with its numbers
 pub record IsNumbered (ops : List Operation) (first opened i : ℕ) (x : Numbered) : Type 0 where
@@ -81,7 +79,7 @@ numbered_at number link (o ∷ ops) (suc i) op e =
 -- ## The operations of a script
 
 -- the operations where the item is one, a client's beginning, or neither
-behind_item : (client number : ℕ) (item : Item) (items : List Item) (P : List Operation → Type 0) →
+pub behind_item : (client number : ℕ) (item : Item) (items : List Item) (P : List Operation → Type 0) →
     (is_client item ≡ true → P (operations_from (client + 1) 1 items)) →
     (is_client item ≡ false → is_operation item ≡ true → P ((record { client = client; number = number; item = item }) ∷ operations_from client (number + 1) items)) →
     (is_client item ≡ false → is_operation item ≡ false → P (operations_from client number items)) →
@@ -169,7 +167,7 @@ pub opens_or_not : (item : Item) → OpensOrNot item
 opens_or_not (Open n shape) = inl (refl, n, refl)
 opens_or_not other = inr (refl, refl)
 
-counted_step : (op : Operation) (ops : List Operation) → OpensOrNot op.item → length (filter_map opened_by ops) ≡ opens ops → length (filter_map opened_by (op ∷ ops)) ≡ opens (op ∷ ops)
+counted_step : (op : Operation) (ops : List Operation) → OpensOrNot op.item → length (filter_map opened_by ops) ≡ count_opens ops → length (filter_map opened_by (op ∷ ops)) ≡ count_opens (op ∷ ops)
 counted_step op ops (inl w) again =
     let longer : length (filter_map opened_by (op ∷ ops)) ≡ suc (length (filter_map opened_by ops)) = ap (λ o. length (cons_option o (filter_map opened_by ops))) w.2 in
     omega (arith, longer, again, opens_open op ops w.0)
@@ -177,7 +175,7 @@ counted_step op ops (inr w) again =
     let same : length (filter_map opened_by (op ∷ ops)) ≡ length (filter_map opened_by ops) = ap (λ o. length (cons_option o (filter_map opened_by ops))) w.1 in
     omega (arith, same, again, opens_other op ops w.0)
 
-pub links_counted : (ops : List Operation) → length (filter_map opened_by ops) ≡ opens ops
+pub links_counted : (ops : List Operation) → length (filter_map opened_by ops) ≡ count_opens ops
 links_counted [] = refl
 links_counted (op ∷ ops) = counted_step op ops (opens_or_not op.item) (links_counted ops)
 
@@ -206,3 +204,7 @@ link_later [] i j op e f h = absurd (cc)
 link_later (o ∷ ops) i zero op e f h = absurd (omega (arith, h))
 link_later (o ∷ ops) zero (suc j) op e f h = let here : is_open o.item ≡ true = ap (λ (x : Operation). is_open x.item) (some_is o op e) ∙ f in omega (arith, opens_open o (take j ops) here)
 link_later (o ∷ ops) (suc i) (suc j) op e f h = link_step o ops i j (opens_or_not o.item) (link_later ops i j op e f (omega (arith, h)))
+
+pub numbered_length : (number link : ℕ) (ops : List Operation) → length (numbered_from number link ops) ≡ length ops
+numbered_length number link [] = refl
+numbered_length number link (op ∷ ops) = ap suc (numbered_length (number + 1) (if is_open op.item then link + 1 else link) ops)

@@ -1,5 +1,5 @@
 -- The outcomes of a report are those of the core, where each operation has one.
-use Rattle.std.proofs.Common.{◌≡◌, ℕ, zero, suc, ◌<◌, List, [], ◌∷◌, ◌++◌, length, flat_map, slice_get, Option, Some, None, refl, ap, sym, ◌∙◌, arith}
+use Rattle.std.proofs.Common.{◌≡◌, ℕ, zero, suc, ◌<◌, List, [], ◌∷◌, length, flat_map, slice_get, Option, Some, None, refl, ap, arith}
 use Rattle.sock_words.specs.declared.outcome.Outcome.{Outcome}
 use Rattle.sock_programs.specs.Scripts.{told}
 use Rattle.quiet_fits.proofs.Lists.{some_is}

@@ -1,19 +1,20 @@
 -- The tasks of a script, and the operations that they are.
-use Rattle.std.proofs.Common.{◌≡◌, ◌≢◌, ℕ, zero, suc, ◌+◌, ◌<◌, ◌≤◌, ◌==◌, ◌⊎◌, inl, inr, Bool, true, false, cond, List, [], ◌∷◌, length, filter, filter_map, slice_get, option_map, Option, Some, None, Contains, refl, ap, sym, ◌∙◌, subst, arith}
+use Rattle.std.proofs.Common.{◌≡◌, ℕ, zero, suc, ◌+◌, ◌<◌, ◌≤◌, ◌==◌, true, List, length, slice_get, option_map, Option, Some, None, refl, ap, sym, ◌∙◌, subst, arith}
 use Rattle.std.proofs.lemmas.Bool.Decides.{nat_tests}
 use Rattle.std.proofs.lemmas.Option.{slice_get_within}
 use Rattle.sock_words.specs.declared.outcome.Outcome.{Outcome}
-use Rattle.brpc_model.specs.Items.{Item, Slots, Requests, First, Open, Client, Send, Call, Expire, Join, Fail, Hold, Drop, Sched, Tick, To, Shape, is_open, mentioned, opened_name}
+use Rattle.brpc_model.specs.Items.{Item, Open, Fail, Hold, Drop, Shape, mentioned, opened_name}
 use Rattle.brpc_model.specs.Operations.{Operation, operations, clients, link_names}
 use Rattle.brpc_model.specs.Places.{names}
 use Rattle.sock_programs.specs.declared.task.Op.{Op}
 use Rattle.sock_programs.specs.declared.task.Op.TheVariants as ops
 use Rattle.sock_programs.specs.declared.task.Task.{Task}
-use Rattle.sock_programs.specs.Tasks.{Numbered, numbered_from, numbered, of_client, op_of, task_of, tasks, name_number}
+use Rattle.sock_programs.specs.Tasks.{Numbered, numbered, of_client, op_of, task_of, tasks, name_number}
 use Rattle.sock_programs.specs.Scripts.{tasks_from, all_tasks}
 use Rattle.sock_programs.specs.Told.{IsTask}
 use Rattle.quiet_fits.proofs.Lists.{Has, has_from, contains_from, some_is, filter_has, has_filter, filter_map_has, has_filter_map}
-use Rattle.quiet_fits.proofs.Numbering.{link_at, IsNumbered, is_numbered, numbered_at, IsFrom, are_from}
+use Rattle.quiet_fits.proofs.Names.{mentioned_has}
+use Rattle.quiet_fits.proofs.Numbering.{link_at, is_numbered, numbered_at, are_from, opened_by, names_of_operations, link_name_at}
 
 -- ## Which client's tasks
 
@@ -46,7 +47,7 @@ pub record IsTaskOf (script : List Item) (c : ℕ) (t : Task) : Type 0 where
   pub own : operation.client ≡ c
   pub asks : op_of (names script) (link_at (operations script) t.number) operation.item ≡ Some t.op
 
-map_is : (o : Option Op) (number : ℕ) (t : Task) → option_map (λ (op : Op). record { number = number; op = op }) o ≡ Some t → (number ≡ t.number) × (o ≡ Some t.op)
+pub map_is : (o : Option Op) (number : ℕ) (t : Task) → option_map (λ (op : Op). record { number = number; op = op }) o ≡ Some t → (number ≡ t.number) × (o ≡ Some t.op)
 map_is None number t e = absurd (cc)
 map_is (Some op) number t e =
     let made : Task = record { number = number; op = op } in
@@ -126,3 +127,38 @@ fail_asks ns link (Open name shape) n c e = absurd (cc)
 fail_asks ns link (Hold name) n c e = absurd (cc)
 fail_asks ns link (Drop name) n c e = absurd (cc)
 fail_asks ns link other n c e = absurd (cc)
+
+pub drop_asks : (ns : List (List ℕ)) (link : ℕ) (item : Item) (n : ℕ) → op_of ns link item ≡ Some (ops.Drop n) → (name : List ℕ) × (item ≡ Drop name) × (n ≡ name_number ns name)
+drop_asks ns link (Drop name) n e =
+    let same : ops.Drop (name_number ns name) ≡ ops.Drop n = some_is _ (ops.Drop n) e in
+    (name, refl, cc)
+drop_asks ns link (Open name shape) n e = absurd (cc)
+drop_asks ns link (Hold name) n e = absurd (cc)
+drop_asks ns link (Fail name code) n e = absurd (cc)
+drop_asks ns link other n e = absurd (cc)
+
+-- ## The names and links of operations
+
+-- a name that an operation mentions is one of the script's
+mentions_at : (script : List Item) (i : ℕ) (q : Operation) → slice_get (operations script) i ≡ Some q → (name : List ℕ) (item : Item) → q.item ≡ item → Has (mentioned item) name → Has (names script) name
+mentions_at script i q e name item same h =
+    let P : Item → Type 0 = λ x. Has (mentioned x) name in
+    mentioned_has script q.item name (are_from 0 1 script i q e).there (subst P (sym same) h)
+
+pub mentions_open : (script : List Item) (i : ℕ) (q : Operation) → slice_get (operations script) i ≡ Some q → (name : List ℕ) (shape : Shape) → q.item ≡ Open name shape → Has (names script) name
+mentions_open script i q there name shape e = mentions_at script i q there name (Open name shape) e (zero, refl)
+
+pub mentions_hold : (script : List Item) (i : ℕ) (q : Operation) → slice_get (operations script) i ≡ Some q → (name : List ℕ) → q.item ≡ Hold name → Has (names script) name
+mentions_hold script i q there name e = mentions_at script i q there name (Hold name) e (zero, refl)
+
+pub mentions_drop : (script : List Item) (i : ℕ) (q : Operation) → slice_get (operations script) i ≡ Some q → (name : List ℕ) → q.item ≡ Drop name → Has (names script) name
+mentions_drop script i q there name e = mentions_at script i q there name (Drop name) e (zero, refl)
+
+pub mentions_fail : (script : List Item) (i : ℕ) (q : Operation) → slice_get (operations script) i ≡ Some q → (name : List ℕ) (code : ℕ) → q.item ≡ Fail name code → Has (names script) name
+mentions_fail script i q there name code e = mentions_at script i q there name (Fail name code) e (zero, refl)
+
+-- the link of an `open` is the script's, under its name
+pub named_at : (script : List Item) (j : ℕ) (q : Operation) (name : List ℕ) (shape : Shape) → slice_get (operations script) j ≡ Some q → q.item ≡ Open name shape → slice_get (link_names script) (link_at (operations script) j) ≡ Some name
+named_at script j q name shape e item =
+    let by_name : opened_by q ≡ Some name = ap opened_name item in
+    ap (λ x. slice_get x (link_at (operations script) j)) (names_of_operations 0 1 script) ∙ link_name_at (operations script) j q name e by_name

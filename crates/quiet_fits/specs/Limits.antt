@@ -1,11 +1,11 @@
 -- The sizes that a script may ask for.
-use Rattle.std.specs.Prelude.{ℕ, ◌≡◌, ◌%◌, ◌≤◌, List, length}
+use Rattle.std.specs.Prelude.{◌≡◌, ◌%◌, ◌≤◌, List, length}
 use Rattle.brpc_model.specs.Items.{Item}
 use Rattle.brpc_model.specs.Operations.{operations, clients, link_names, slots, requests, first_version}
 use Rattle.brpc_model.specs.Places.{names}
 
 -- what is within them; the first version is even, as that of each life is
-pub record IsWithinLimits (script : List Item) : Type 0 where
+pub record KeepsLimits (script : List Item) : Type 0 where
   pub some_slots : 1 ≤ slots script
   pub slots : slots script ≤ 31
   pub links : length (link_names script) ≤ 31
