@@ -6,3 +6,4 @@ pub mod StepFacts
 pub mod Ranges
 pub mod Moves
 pub mod Ticked
+pub mod Sounds

@@ -1,20 +1,21 @@
 -- One step of a seat is a tick of it.
-use Rattle.std.proofs.Common.{◌≡◌, ◌≢◌, refl, ℕ, zero, suc, ◌+◌, ◌<◌, Bool, true, false, List, [], ◌∷◌, ◌++◌, map, length, slice_set, Option, Some, None, ap, sym, ◌∙◌, ⊎_elim, arith, subst}
+use Rattle.std.proofs.Common.{◌≡◌, ◌≢◌, refl, ℕ, zero, suc, ◌+◌, ◌<◌, ◌≤◌, Bool, true, false, List, [], ◌∷◌, ◌++◌, map, length, slice_set, Option, Some, None, option_map, ap, sym, ◌∙◌, ⊎_elim, arith, subst}
 use Rattle.std.proofs.lemmas.List.{map-set}
-use Rattle.atomic_table.proofs.Lists.{at_map, at_set}
+use Rattle.atomic_table.proofs.Lists.{at_map, at_set, set_else}
 use mathlib.Core.Option as core
 use lib.ListN.{get_elem?}
 use Rattle.sock_words.specs.declared.plain.Plan.{Plan}
 use Rattle.sock_words.specs.declared.outcome.Outcome.{Outcome}
 use Rattle.sock_model.specs.declared.home.Home.{Home}
+use Rattle.sock_words.specs.declared.kind.Kind.{Kind}
+use Rattle.sock_programs.specs.Calls.{kind_of}
 use Rattle.sock_programs.specs.Calls as calls
 use Rattle.sock_programs.specs.Programs.{Program, Do, Say, Rest}
 use Rattle.sock_programs.specs.Cores.{Core, SeatState, word_of, found_at, words_after, word_after, homes_after, hand_after, said, next_step, stepped, tick_of, ticked}
 use Rattle.sock_programs.specs.Runs.{next_kind, kind_in}
-use Rattle.sock_core.specs.declared.seat.Seat.{Seat}
 use Rattle.sock_core.specs.declared.point.Next.{Next}
 use Rattle.sock_core.specs.Points.{Around, point_program, next_program, call_in, after_of, link_at, link_left, link_behind}
-use Rattle.sock_core.specs.Seats.{around, seat_program}
+use Rattle.sock_core.specs.Seats.{SeatData, around, seat_program}
 use Rattle.sock_core.specs.Links.{holders_after, dones_after, homes_of, hand_with, hand_of}
 use Rattle.sock_core.specs.Machines.{core_of, seat_state, HoldsItsLink, HoldTheirLinks}
 use Rattle.sock_core.proofs.StepFacts.{HandOver, hand_over}
@@ -24,7 +25,7 @@ use Rattle.sock_core.proofs.Ranges.{set-map_but}
 -- a tick of a seat that has a step
 tick_by : (p : Plan) (i : ℕ) (seat : SeatState) (program : Program) (call : calls.Call) (c : Core) → call_in program ≡ Some call → tick_of p i seat program c ≡ stepped p i seat call (after_of program) c
 tick_by p i seat (Do step next) call c e = let h : step ≡ call = cc in ap (λ (x : calls.Call). stepped p i seat x next c) h
-tick_by p i seat (Say o outcome rest) call c e = cc
+tick_by p i seat (Say o outcome after) call c e = cc
 tick_by p i seat Rest call c e = cc
 
 -- a tick of seat i where it is in this state
@@ -41,7 +42,7 @@ seat_is : (a b : Program) (hs gs : List Home) → a ≡ b → hs ≡ gs → (let
 seat_is a b hs gs e f = λ k. record { program = e k; hand = f k }
 
 -- what a step of a seat at this point made of all seats
-pub record Went (p : Plan) (words fresh : List ℕ) (seats : List Seat) (i : ℕ) (seat seat' : Seat) (call : calls.Call) (outcomes told : List (Option Outcome)) : Type 0 where
+pub record Went (p : Plan) (words fresh : List ℕ) (seats : List SeatData) (i : ℕ) (seat seat' : SeatData) (call : calls.Call) (outcomes told : List (Option Outcome)) : Type 0 where
   pub at : get_elem? seats i ≡ core.some seat
   pub next : Next
   pub is_call : call_in (seat_program p.slots seat) ≡ Some call
@@ -52,7 +53,7 @@ pub record Went (p : Plan) (words fresh : List ℕ) (seats : List Seat) (i : ℕ
   pub told_is : told ≡ said (next_program (around p.slots seat) next) outcomes
   pub hand : link_at seat'.point ≡ link_behind next
 
-module _ (p : Plan) (words fresh : List ℕ) (holders : List (Option ℕ)) (dones : List Bool) (seats : List Seat) (i : ℕ) (seat seat' : Seat) (call : calls.Call) (outcomes told : List (Option Outcome))
+module _ (p : Plan) (words fresh : List ℕ) (holders : List (Option ℕ)) (dones : List Bool) (seats : List SeatData) (i : ℕ) (seat seat' : SeatData) (call : calls.Call) (outcomes told : List (Option Outcome))
     (many : length holders ≡ p.links) (as_many : length dones ≡ p.links) (hold : HoldTheirLinks holders seats) (may : MayMove p.links holders call)
     (w : Went p words fresh seats i seat seat' call outcomes told) where
   over : HandOver call (link_at seat.point) (link_left seat.point)
@@ -78,13 +79,56 @@ module _ (p : Plan) (words fresh : List ℕ) (holders : List (Option ℕ)) (done
 
   pub hold_is : HoldTheirLinks (holders_after i call holders) (slice_set seats i seat')
   hold_is j s at = ⊎_elim
-      (λ t. subst (λ (x : Seat). HoldsItsLink (holders_after i call holders) j (link_at x.point)) t.1
+      (λ t. subst (λ (x : SeatData). HoldsItsLink (holders_after i call holders) j (link_at x.point)) t.1
         (subst (λ (k : ℕ). HoldsItsLink (holders_after i call holders) k (link_at seat'.point)) (sym t.0)
           (subst (HoldsItsLink (holders_after i call holders) i) (sym (w.hand ∙ w.behind)) (holds_moved p holders dones i many as_many call _ _ over own may))))
       (λ t. others_hold p holders dones i many as_many call _ _ over own may j t.0 (link_at s.point) (hold j s t.1))
       (at_set seats i j seat' s at)
 
+-- ## The next step
+
 -- the kind of the next step of a seat
-pub kind_is : (p : Plan) (words : List ℕ) (holders : List (Option ℕ)) (dones : List Bool) (seats : List Seat) (i : ℕ) (seat : Seat) (outcomes : List (Option Outcome)) →
-    get_elem? seats i ≡ core.some seat → next_kind (core_of p words holders dones seats outcomes) i ≡ kind_in (seat_program p.slots seat)
-kind_is p words holders dones seats i seat outcomes at = ?
+pub kind_is : (p : Plan) (words : List ℕ) (holders : List (Option ℕ)) (dones : List Bool) (seats : List SeatData) (i : ℕ) (seat : SeatData) (outcomes : List (Option Outcome)) →
+    get_elem? seats i ≡ core.some seat → next_kind (core_of p words holders dones seats outcomes) i ≡ option_map kind_of (call_in (seat_program p.slots seat))
+kind_is p words holders dones seats i seat outcomes at =
+    ap (λ (o : core.Option SeatState). elim o as (λ x. Option Kind) [ core.none ↦ None | core.some s ↦ kind_in s.program ]) (at_map (seat_state p.slots dones) seats i seat at) ∙ kind_of_first (seat_program p.slots seat)
+  where
+    kind_of_first : (program : Program) → kind_in program ≡ option_map kind_of (call_in program)
+    kind_of_first (Do call next) = refl
+    kind_of_first (Say o outcome after) = refl
+    kind_of_first Rest = refl
+
+-- a seat that isn't there has none
+pub kind_of_none : (c : Core) (i : ℕ) → length c.seats ≤ i → next_kind c i ≡ None
+kind_of_none c i h = ap (λ (o : core.Option SeatState). elim o as (λ x. Option Kind) [ core.none ↦ None | core.some s ↦ kind_in s.program ]) (past c.seats i h)
+  where
+    past : {A : Type 0} (xs : List A) (j : ℕ) → length xs ≤ j → get_elem? xs j ≡ core.none
+    past [] j q = refl
+    past (x ∷ xs) zero q = absurd (omega arith)
+    past (x ∷ xs) (suc j) q = past xs j (omega arith)
+
+-- a tick of a seat without a step changes nothing
+rests : (p : Plan) (i : ℕ) (seat : SeatState) (program : Program) (c : Core) → kind_in program ≡ None → tick_of p i seat program c ≡ c
+rests p i seat (Do call next) c e = cc
+rests p i seat (Say o outcome after) c e = refl
+rests p i seat Rest c e = refl
+
+pub stays : (p : Plan) (c : Core) (i : ℕ) → next_kind c i ≡ None → ticked p c i ≡ c
+stays p c i e = go (get_elem? c.seats i) e
+  where
+    go : (o : core.Option SeatState) → (elim o as (λ x. Option Kind) [ core.none ↦ None | core.some s ↦ kind_in s.program ]) ≡ None → (elim o as (λ x. Core) [ core.none ↦ c | core.some s ↦ tick_of p i s s.program c ]) ≡ c
+    go core.none h = refl
+    go (core.some s) h = rests p i s s.program c h
+
+-- a tick changes no other seat
+others : (p : Plan) (i j : ℕ) (seat : SeatState) (program : Program) (c : Core) → j ≢ i → get_elem? (tick_of p i seat program c).seats j ≡ get_elem? c.seats j
+others p i j seat (Do call next) c q = set_else c.seats i j _ q
+others p i j seat (Say o outcome after) c q = refl
+others p i j seat Rest c q = refl
+
+pub other_kind : (p : Plan) (c : Core) (i j : ℕ) → j ≢ i → next_kind (ticked p c i) j ≡ next_kind c j
+other_kind p c i j q = ap (λ (o : core.Option SeatState). elim o as (λ x. Option Kind) [ core.none ↦ None | core.some s ↦ kind_in s.program ]) (go (get_elem? c.seats i))
+  where
+    go : (o : core.Option SeatState) → get_elem? (elim o as (λ x. Core) [ core.none ↦ c | core.some s ↦ tick_of p i s s.program c ]).seats j ≡ get_elem? c.seats j
+    go core.none = refl
+    go (core.some s) = others p i j s s.program c q

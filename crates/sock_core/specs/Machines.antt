@@ -13,31 +13,17 @@ use Rattle.sock_programs.specs.Clients.{ending_of}
 use Rattle.sock_programs.specs.Cores.{Core, SeatState, word_of, found_at, with_seat}
 use Rattle.sock_runs.specs.Sound.{Sound, AllowsWord}
 use Rattle.sock_core.specs.declared.point.Point.{Point}
-use Rattle.sock_core.specs.declared.seat.Seat.{Seat}
 use Rattle.sock_core.specs.Points.{TriesOneOf, link_at}
-use Rattle.sock_core.specs.Seats.{seat_program, seat_left}
+use Rattle.sock_core.specs.Seats.{SeatData, seat_program, seat_left}
 use Rattle.sock_core.specs.Links.{IsOfLinks, holder_of, homes_of, hand_of}
-
--- ## What callers see
-
-pub record MachineState : Type 0 where
-  -- the sizes of the table
-  pub plan : Plan
-  pub core : Core
-  -- the numbers of the `open`s that the ending goes over
-  pub opens : List ℕ
-  -- the links, as they would be given back
-  pub ends : List LinkEnd
-  -- how many steps all seats have left at most
-  pub left : ℕ
 
 -- ## The core
 
-abbrev pub seat_state : ℕ → List Bool → Seat → SeatState
+abbrev pub seat_state : ℕ → List Bool → SeatData → SeatState
 seat_state slots dones seat = record { program = seat_program slots seat; hand = hand_of dones seat.point }
 
 -- from the words, who has each link in hand, which writing halves are ended, the seats, and the outcomes
-abbrev pub core_of : Plan → List ℕ → List (Option ℕ) → List Bool → List Seat → List (Option Outcome) → Core
+abbrev pub core_of : Plan → List ℕ → List (Option ℕ) → List Bool → List SeatData → List (Option Outcome) → Core
 core_of p words holders dones seats outcomes = record { words = words; homes = homes_of p holders dones; seats = map (seat_state p.slots dones) seats; outcomes = outcomes }
 
 -- seat 0 begins the ending
@@ -51,8 +37,8 @@ abbrev pub HoldsItsLink : List (Option ℕ) → ℕ → Option ℕ → Type 0
 HoldsItsLink holders i None = Unit {0}
 HoldsItsLink holders i (Some k) = (k < length holders) × (holder_of holders k ≡ Some i)
 
-abbrev pub HoldTheirLinks : List (Option ℕ) → List Seat → Type 0
-HoldTheirLinks holders seats = (i : ℕ) (seat : Seat) → get_elem? seats i ≡ core.some seat → HoldsItsLink holders i (link_at seat.point)
+abbrev pub HoldTheirLinks : List (Option ℕ) → List SeatData → Type 0
+HoldTheirLinks holders seats = (i : ℕ) (seat : SeatData) → get_elem? seats i ≡ core.some seat → HoldsItsLink holders i (link_at seat.point)
 
 -- there are views by which the rule holds
 abbrev pub IsSound : Plan → Core → Type 0
@@ -66,3 +52,35 @@ pub record StepFits (p : Plan) (words : List ℕ) (point : Point) (call : Call) 
   pub word : AllowsWord call (found_at words (word_of p call))
   pub link : IsOfLinks p.links call
   pub slot : TriesOneOf p.slots point
+
+-- ## The whole machine
+
+-- a machine: the sizes of its table, the words, who has each link in hand, which writing halves are ended, the seats, the
+-- numbers of the `open`s that the ending goes over, the outcomes, and the links as they would be given back
+pub record MachineState : Type 0 where
+  pub plan : Plan
+  pub words : List ℕ
+  pub holders : List (Option ℕ)
+  pub dones : List Bool
+  pub seats : List SeatData
+  pub opens : List ℕ
+  pub outcomes : List (Option Outcome)
+  pub ends : List LinkEnd
+
+-- its core
+abbrev pub core_in : MachineState → Core
+core_in m = core_of m.plan m.words m.holders m.dones m.seats m.outcomes
+
+-- how many steps its seats have left at most
+abbrev pub steps_left : MachineState → ℕ
+steps_left m = sum_by (seat_left m.plan.slots) m.seats
+
+-- what holds of it, with room for so many outcomes
+pub record IsMachine (m : MachineState) (room : ℕ) : Type 0 where
+  pub sound : IsSound m.plan (core_in m)
+  pub hold : ∥ HoldTheirLinks m.holders m.seats ∥₁
+  pub holders_are : length m.holders ≡ m.plan.links
+  pub dones_are : length m.dones ≡ m.plan.links
+  pub seats_are : length m.seats ≡ m.plan.seats
+  pub opens_are : ∥ AllByRecursion (λ o. o < m.plan.operations) m.opens ∥₁
+  pub has_room : length m.outcomes ≤ room

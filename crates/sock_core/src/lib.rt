@@ -2,6 +2,7 @@
 #![tactic(auto)]
 
 mod call;
+mod machine;
 mod point;
 mod seat;
 mod follows;

@@ -4,7 +4,7 @@ ghost use Rattle.sock_programs.specs.Programs.{Program, Say};
 ghost use Rattle.sock_programs.specs.Clients.{HeldLife, held_under, without_name, give_back, operation, client_from, ending_of};
 ghost use Rattle.sock_programs.specs.Cores.{said, next_step};
 ghost use Rattle.sock_core.specs.Points.{Around, point_program, next_program, link_at, link_behind, point_left, next_left};
-ghost use Rattle.sock_core.specs.Seats.{lives, around, client_of, seat_program, rest_left, seat_left};
+ghost use Rattle.sock_core.specs.Seats.{lives, seat_data, around, client_of, seat_program, rest_left, seat_left};
 
 use crate::point::{Aim, Next, Opening, Point, ReleaseStep, SeekStep, Then};
 use sock_programs::{Op, Task};
@@ -126,10 +126,10 @@ fn give_back(held: &mut Vec<Held>) -> Point
 impl Seat {
     /// The client goes on with its next task. Outcomes that need no step are told.
     pub fn go_on(&mut self, slots: u16, outcomes: &mut [Option<Outcome>])
-        ensures program { seat_program slots self.new ≡ next_step (client_of slots self.old) }
-        ensures said { outcomes.new ≡ said (client_of slots self.old) outcomes.old }
+        ensures program { seat_program slots (seat_data self.new) ≡ next_step (client_of slots (seat_data self.old)) }
+        ensures said { outcomes.new ≡ said (client_of slots (seat_data self.old)) outcomes.old }
         ensures hand { link_at self.new.point ≡ None }
-        ensures left { seat_left slots self.new ≤ rest_left slots self.old }
+        ensures left { seat_left slots (seat_data self.new) ≤ rest_left slots (seat_data self.old) }
         ensures ending { self.new.ending.items ≡ self.old.ending.items }
     {
         while let Some(task) = self.tasks.pop_front() {
@@ -146,10 +146,10 @@ impl Seat {
 
     /// The ending goes on with its next `open`.
     pub fn end_next(&mut self)
-        ensures program { (slots : ℕ) → seat_program slots self.new ≡ next_step (ending_of self.old.ending.items) }
+        ensures program { (slots : ℕ) → seat_program slots (seat_data self.new) ≡ next_step (ending_of self.old.ending.items) }
         ensures said { (outcomes : List (Option Outcome)) → outcomes ≡ said (ending_of self.old.ending.items) outcomes }
         ensures hand { link_at self.new.point ≡ None }
-        ensures left { (slots : ℕ) → seat_left slots self.new ≤ rest_left slots self.old }
+        ensures left { (slots : ℕ) → seat_left slots (seat_data self.new) ≤ rest_left slots (seat_data self.old) }
     {
         self.point = match self.ending.pop_front() {
             Some(operation) => Point::Seek(Aim::End { operation }, SeekStep::Load),
@@ -160,10 +160,10 @@ impl Seat {
     /// The seat goes on behind a step.
     pub fn follow(&mut self, slots: u16, next: Next, outcomes: &mut [Option<Outcome>])
         requires room { vec_len self.old.held < vec_capacity self.old.held }
-        ensures program { seat_program slots self.new ≡ next_step (next_program (around slots self.old) next) }
-        ensures said { outcomes.new ≡ said (next_program (around slots self.old) next) outcomes.old }
+        ensures program { seat_program slots (seat_data self.new) ≡ next_step (next_program (around slots (seat_data self.old)) next) }
+        ensures said { outcomes.new ≡ said (next_program (around slots (seat_data self.old)) next) outcomes.old }
         ensures hand { link_at self.new.point ≡ link_behind next }
-        ensures left { seat_left slots self.new ≤ next_left slots next + rest_left slots self.old }
+        ensures left { seat_left slots (seat_data self.new) ≤ next_left slots next + rest_left slots (seat_data self.old) }
     {
         match next {
             Next::Point(point) => self.point = point,
