@@ -1,5 +1,5 @@
 -- What is held, and what follows when some of it is given back.
-use Rattle.std.proofs.Common.{◌≡◌, refl, ℕ, ◌<◌, ◌==◌, Bool, true, false, not, if◌then◌else◌, ap, sym, ◌∙◌, arith, List, [], ◌∷◌, length, filter, Some, None, Option, option_map, remove, slice_index_or}
+use Rattle.std.proofs.Common.{◌≡◌, refl, ℕ, suc, ◌<◌, ◌==◌, Bool, true, false, not, if◌then◌else◌, ap, sym, ◌∙◌, arith, List, [], ◌∷◌, length, filter, Some, None, Option, option_map, remove, slice_index_or}
 use Rattle.sock_words.specs.Words.{socket_id_slot}
 use Rattle.sock_programs.specs.Programs.{Program, release}
 use Rattle.sock_programs.specs.Clients.{HeldLife, without_name, held_under, give_back, client_from, operation}
@@ -32,3 +32,7 @@ gives_oldest slots ends (h ∷ hs) x i rest slot is some gone =
 pub drops : (a : Around) (slots number name : ℕ) (id : SocketId) (held : List HeldLife) (i : ℕ) → i ≡ socket_id_slot id.0 → Some id.0 ≡ held_under name held → a.held ≡ without_name name held →
     release i (then_program a (thens.Dropped number)) ≡ operation slots held number a.goes_on (ops.Drop name)
 drops a slots number name id held i slot is rest = rw (slot, ← is, rest) refl
+
+pub lives_length : (hs : List Held) → length (lives hs) ≡ length hs
+lives_length [] = refl
+lives_length (h ∷ hs) = ap suc (lives_length hs)

@@ -7,3 +7,4 @@ pub mod Ranges
 pub mod Moves
 pub mod Ticked
 pub mod Sounds
+pub mod Places

@@ -21,7 +21,7 @@ use Rattle.sock_runs.proofs.Allowed.{sound_allows, view_there}
 use Rattle.sock_core.specs.Points.{call_in, after_of, TriesOneOf}
 use Rattle.sock_core.specs.Seats.{SeatData, around, seat_program}
 use Rattle.sock_core.specs.Links.{IsOfLinks, holder_of, is_done, link_home, homes_of}
-use Rattle.sock_core.specs.Machines.{core_of, seat_state, IsSound, StepFits}
+use Rattle.sock_core.specs.Machines.{MachineState, core_of, core_in, seat_state, IsSound, NextIs, StepFits}
 use Rattle.sock_core.proofs.StepFacts.{SlotOf, tries_one}
 use Rattle.sock_core.proofs.Moves.{MayMove, home_at}
 
@@ -83,32 +83,31 @@ may_try p v other may = tt
 view_at : (vs : List View) (ss : List SeatState) (i : ℕ) (s : SeatState) → length vs ≡ length ss → get_elem? ss i ≡ core.some s → (v : View) × (get_elem? vs i ≡ core.some v)
 view_at vs ss i s e at = view_there ss vs i s e at (get_elem? vs i) refl
 
-module _ (p : Plan) (words : List ℕ) (holders : List (Option ℕ)) (dones : List Bool) (seats : List SeatData) (outcomes : List (Option Outcome)) (i : ℕ) (seat : SeatData) (call : calls.Call)
-    (at : get_elem? seats i ≡ core.some seat) (is_call : call_in (seat_program p.slots seat) ≡ Some call) (sound : IsSound p (core_of p words holders dones seats outcomes)) where
-  core_ : Core
-  core_ = core_of p words holders dones seats outcomes
+same_some : {A : Type 0} {a b : A} → core.some a ≡ core.some b → a ≡ b
+same_some e = cc
 
-  state_at : get_elem? (core_of p words holders dones seats outcomes).seats i ≡ core.some (seat_state p.slots dones seat)
-  state_at = at_map (seat_state p.slots dones) seats i seat at
+module _ (m : MachineState) (i : ℕ) (call : calls.Call) (n : NextIs m i call) (sound : IsSound m.plan (core_in m)) where
+  state_at : get_elem? (core_in m).seats i ≡ core.some (seat_state m.plan.slots m.dones n.seat)
+  state_at = at_map (seat_state m.plan.slots m.dones) m.seats i n.seat n.at
 
-  allows : ((views : List View) × Sound p (core_of p words holders dones seats outcomes) views) → Allows p (core_of p words holders dones seats outcomes) call
-  allows s = sound_allows p (core_of p words holders dones seats outcomes) s.0 i (seat_state p.slots dones seat) call (after_of (seat_program p.slots seat)) s.1 state_at (step_first (seat_program p.slots seat) call is_call)
+  allows : ((views : List View) × Sound m.plan (core_in m) views) → Allows m.plan (core_in m) call
+  allows s = sound_allows m.plan (core_in m) s.0 i (seat_state m.plan.slots m.dones n.seat) call (after_of (seat_program m.plan.slots n.seat)) s.1 state_at (step_first (seat_program m.plan.slots n.seat) call n.is_call)
 
-  may_slot : ((views : List View) × Sound p (core_of p words holders dones seats outcomes) views) → SlotOf p.slots call
+  may_slot : ((views : List View) × Sound m.plan (core_in m) views) → SlotOf m.plan.slots call
   may_slot s =
-      let w = view_at s.0 (core_of p words holders dones seats outcomes).seats i (seat_state p.slots dones seat) s.1.each state_at in
-      let goes : GoesOn p w.0 (Do call (after_of (seat_program p.slots seat))) = subst (GoesOn p w.0) (step_first (seat_program p.slots seat) call is_call) (s.1.seats i (seat_state p.slots dones seat) w.0 state_at w.1).goes_on in
-      may_try p w.0 call goes.0
+      let w = view_at s.0 (core_in m).seats i (seat_state m.plan.slots m.dones n.seat) s.1.each state_at in
+      let goes : GoesOn m.plan w.0 (Do call (after_of (seat_program m.plan.slots n.seat))) = subst (GoesOn m.plan w.0) (step_first (seat_program m.plan.slots n.seat) call n.is_call) (s.1.seats i (seat_state m.plan.slots m.dones n.seat) w.0 state_at w.1).goes_on in
+      may_try m.plan w.0 call goes.0
 
-  pub moves : MayMove p.links holders call
-  moves = ∥∥₁_elim sound (move_prop p.links holders call) (λ s. may_move p words holders dones seats outcomes call (allows s).2)
+  pub moves : MayMove m.plan.links m.holders call
+  moves = ∥∥₁_elim sound (move_prop m.plan.links m.holders call) (λ s. may_move m.plan m.words m.holders m.dones m.seats m.outcomes call (allows s).2)
 
-  pub fits : StepFits p words seat.point call
+  pub fits : StepFits m i call
   fits = record {
     there = ∥∥₁_elim sound (hlevel props) (λ s. (allows s).0);
     word = ∥∥₁_elim sound (word_prop call _) (λ s. (allows s).1);
-    link = of_links p.links holders call moves;
-    slot = tries_one (around p.slots seat) p.slots seat.point call is_call (∥∥₁_elim sound (slot_prop p.slots call) may_slot);
+    link = of_links m.plan.links m.holders call moves;
+    slot = λ seat at. subst (λ (x : SeatData). TriesOneOf m.plan.slots x.point) (same_some (sym n.at ∙ at)) (tries_one (around m.plan.slots n.seat) m.plan.slots n.seat.point call n.is_call (∥∥₁_elim sound (slot_prop m.plan.slots call) may_slot));
   }
 
 -- a tick keeps a core sound

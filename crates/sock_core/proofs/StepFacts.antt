@@ -172,3 +172,34 @@ tries a slots (points.Release i t releases.FreeSlot) = λ h. tt
 
 pub tries_one : (a : Around) (slots : ℕ) (p : Point) (call : calls.Call) → call_in (point_program a p) ≡ Some call → SlotOf slots call → TriesOneOf slots p
 tries_one a slots p call e = subst (λ (o : Option calls.Call). Slots slots o p) e (tries a slots p)
+
+-- ## Surroundings
+
+-- the next step doesn't depend on what stands round the point
+pub same_call : (a b : Around) (p : Point) → call_in (point_program a p) ≡ call_in (point_program b p)
+same_call a b points.Rest = refl
+same_call a b (points.Open g (opens.Claim i)) = refl
+same_call a b (points.Open g (opens.StoreLink i)) = refl
+same_call a b (points.Open g (opens.ResetHead i)) = refl
+same_call a b (points.Open g (opens.WipeCode i)) = refl
+same_call a b (points.Open g (opens.GiveBirth i)) = refl
+same_call a b (points.Open g (opens.StoreOpen i v)) = refl
+same_call a b (points.Open g (opens.StoreName i v)) = refl
+same_call a b (points.Open g opens.TakeLink) = refl
+same_call a b (points.Open g opens.FinishLink) = refl
+same_call a b (points.Open g opens.PutLink) = refl
+same_call a b (points.Open g opens.StoreNone) = refl
+same_call a b (points.Seek (aims.Hold o n) seeks.Load) = refl
+same_call a b (points.Seek (aims.Fail o n code) seeks.Load) = refl
+same_call a b (points.Seek (aims.End o) seeks.Load) = refl
+same_call a b (points.Seek aim (seeks.AddRef id)) = refl
+same_call a b (points.Fail f fails.SetOdd) = refl
+same_call a b (points.Fail f (fails.StoreCode w)) = refl
+same_call a b (points.Fail f (fails.GiveBack w)) = refl
+same_call a b (points.Release i t releases.SubRef) = refl
+same_call a b (points.Release i t (releases.Recycle w)) = refl
+same_call a b (points.Release i t (releases.LoadLink w)) = refl
+same_call a b (points.Release i t (releases.TakeLink w k)) = refl
+same_call a b (points.Release i t (releases.FinishLink w k)) = refl
+same_call a b (points.Release i t (releases.PutLink w k)) = refl
+same_call a b (points.Release i t releases.FreeSlot) = refl

@@ -17,7 +17,7 @@ use Rattle.sock_core.specs.declared.point.Next.{Next}
 use Rattle.sock_core.specs.Points.{Around, point_program, next_program, call_in, after_of, link_at, link_left, link_behind}
 use Rattle.sock_core.specs.Seats.{SeatData, around, seat_program}
 use Rattle.sock_core.specs.Links.{holders_after, dones_after, homes_of, hand_with, hand_of}
-use Rattle.sock_core.specs.Machines.{core_of, seat_state, HoldsItsLink, HoldTheirLinks}
+use Rattle.sock_core.specs.Machines.{MachineState, core_of, core_in, seat_state, NextIs, SteppedTo, HoldsItsLink, HoldTheirLinks}
 use Rattle.sock_core.proofs.StepFacts.{HandOver, hand_over}
 use Rattle.sock_core.proofs.Moves.{MayMove, homes_moved, hand_moved, others_moved, holds_moved, others_hold}
 use Rattle.sock_core.proofs.Ranges.{set-map_but}
@@ -33,6 +33,9 @@ pub ticked_by : (p : Plan) (c : Core) (i : ℕ) (seat : SeatState) (call : calls
 ticked_by p c i seat call at e =
     ap (λ (o : core.Option SeatState). elim o as (λ x. Core) [ core.none ↦ c | core.some s ↦ tick_of p i s s.program c ]) at ∙ tick_by p i seat seat.program call c e
 
+same_some : {A : Type 0} {a b : A} → core.some a ≡ core.some b → a ≡ b
+same_some e = cc
+
 -- equal parts make equal cores
 core_is : (ws vs : List ℕ) (hs gs : List (core.Option Home)) (ss ts : List SeatState) (os us : List (Option Outcome)) → ws ≡ vs → hs ≡ gs → ss ≡ ts → os ≡ us →
     (let c : Core = record { words = ws; homes = hs; seats = ss; outcomes = os } in c) ≡ (record { words = vs; homes = gs; seats = ts; outcomes = us })
@@ -41,49 +44,48 @@ core_is ws vs hs gs ss ts os us e f g h = λ k. record { words = e k; homes = f 
 seat_is : (a b : Program) (hs gs : List Home) → a ≡ b → hs ≡ gs → (let s : SeatState = record { program = a; hand = hs } in s) ≡ (record { program = b; hand = gs })
 seat_is a b hs gs e f = λ k. record { program = e k; hand = f k }
 
--- what a step of a seat at this point made of all seats
-pub record Went (p : Plan) (words fresh : List ℕ) (seats : List SeatData) (i : ℕ) (seat seat' : SeatData) (call : calls.Call) (outcomes told : List (Option Outcome)) : Type 0 where
-  pub at : get_elem? seats i ≡ core.some seat
-  pub next : Next
-  pub is_call : call_in (seat_program p.slots seat) ≡ Some call
-  pub goes : next_program (around p.slots seat) next ≡ after_of (seat_program p.slots seat) (found_at words (word_of p call))
-  pub behind : link_behind next ≡ link_left seat.point
-  pub words_are : fresh ≡ words_after words (word_of p call) (word_after call (found_at words (word_of p call)))
-  pub program : seat_program p.slots seat' ≡ next_step (next_program (around p.slots seat) next)
-  pub told_is : told ≡ said (next_program (around p.slots seat) next) outcomes
-  pub hand : link_at seat'.point ≡ link_behind next
+module _ (m fresh : MachineState) (i : ℕ) (call : calls.Call) (n : NextIs m i call) (many : length m.holders ≡ m.plan.links) (as_many : length m.dones ≡ m.plan.links) (hold : HoldTheirLinks m.holders m.seats)
+    (may : MayMove m.plan.links m.holders call) (w : SteppedTo m fresh i call) where
+  same : n.seat ≡ w.seat
+  same = same_some (sym n.at ∙ w.at)
 
-module _ (p : Plan) (words fresh : List ℕ) (holders : List (Option ℕ)) (dones : List Bool) (seats : List SeatData) (i : ℕ) (seat seat' : SeatData) (call : calls.Call) (outcomes told : List (Option Outcome))
-    (many : length holders ≡ p.links) (as_many : length dones ≡ p.links) (hold : HoldTheirLinks holders seats) (may : MayMove p.links holders call)
-    (w : Went p words fresh seats i seat seat' call outcomes told) where
-  over : HandOver call (link_at seat.point) (link_left seat.point)
-  over = hand_over (around p.slots seat) seat.point call w.is_call
+  first : call_in (seat_program m.plan.slots w.seat) ≡ Some call
+  first = subst (λ (s : SeatData). call_in (seat_program m.plan.slots s) ≡ Some call) same n.is_call
 
-  own : HoldsItsLink holders i (link_at seat.point)
-  own = hold i seat w.at
+  over : HandOver call (link_at w.seat.point) (link_left w.seat.point)
+  over = hand_over (around m.plan.slots w.seat) w.seat.point call first
+
+  own : HoldsItsLink m.holders i (link_at w.seat.point)
+  own = hold i w.seat w.at
 
   -- the seats after it
-  seats_are : map (seat_state p.slots (dones_after call dones)) (slice_set seats i seat') ≡
-      slice_set (map (seat_state p.slots dones) seats) i (record { program = next_step (after_of (seat_program p.slots seat) (found_at words (word_of p call))); hand = hand_after p call (homes_of p holders dones) (hand_of dones seat.point) })
+  seats_are : map (seat_state m.plan.slots (dones_after call m.dones)) (slice_set m.seats i w.seat') ≡
+      slice_set (map (seat_state m.plan.slots m.dones) m.seats) i (record { program = next_step (after_of (seat_program m.plan.slots w.seat) (found_at m.words (word_of m.plan call))); hand = hand_after m.plan call (homes_of m.plan m.holders m.dones) (hand_of m.dones w.seat.point) })
   seats_are =
-      map-set (seat_state p.slots (dones_after call dones)) seats i seat'
-      ∙ ap (slice_set (map (seat_state p.slots (dones_after call dones)) seats) i)
-          (seat_is _ _ _ _ (w.program ∙ ap next_step w.goes) (ap (hand_with (dones_after call dones)) (w.hand ∙ w.behind) ∙ hand_moved p holders dones i many as_many call _ _ over may))
-      ∙ sym (set-map_but (seat_state p.slots dones) (seat_state p.slots (dones_after call dones)) seats i _
-          (λ j s at differ. seat_is _ _ _ _ refl (others_moved p holders dones i many as_many call _ _ over own j differ (link_at s.point) (hold j s at))))
+      map-set (seat_state m.plan.slots (dones_after call m.dones)) m.seats i w.seat'
+      ∙ ap (slice_set (map (seat_state m.plan.slots (dones_after call m.dones)) m.seats) i)
+          (seat_is _ _ _ _ (w.program ∙ ap next_step w.goes) (ap (hand_with (dones_after call m.dones)) (w.hand ∙ w.behind) ∙ hand_moved m.plan m.holders m.dones i many as_many call _ _ over may))
+      ∙ sym (set-map_but (seat_state m.plan.slots m.dones) (seat_state m.plan.slots (dones_after call m.dones)) m.seats i _
+          (λ j s at differ. seat_is _ _ _ _ refl (others_moved m.plan m.holders m.dones i many as_many call _ _ over own j differ (link_at s.point) (hold j s at))))
 
-  pub tick_is : core_of p fresh (holders_after i call holders) (dones_after call dones) (slice_set seats i seat') told ≡ ticked p (core_of p words holders dones seats outcomes) i
-  tick_is =
-      core_is _ _ _ _ _ _ _ _ w.words_are (homes_moved p holders dones i many as_many call _ _ over own may) seats_are (w.told_is ∙ ap (λ (x : Program). said x outcomes) w.goes)
-      ∙ sym (ticked_by p (core_of p words holders dones seats outcomes) i (seat_state p.slots dones seat) call (at_map (seat_state p.slots dones) seats i seat w.at) w.is_call)
+  after_it : core_of m.plan fresh.words (holders_after i call m.holders) (dones_after call m.dones) (slice_set m.seats i w.seat') fresh.outcomes ≡ ticked m.plan (core_in m) i
+  after_it =
+      core_is _ _ _ _ _ _ _ _ w.words (homes_moved m.plan m.holders m.dones i many as_many call _ _ over own may) seats_are (w.told ∙ ap (λ (x : Program). said x m.outcomes) w.goes)
+      ∙ sym (ticked_by m.plan (core_in m) i (seat_state m.plan.slots m.dones w.seat) call (at_map (seat_state m.plan.slots m.dones) m.seats i w.seat w.at) first)
 
-  pub hold_is : HoldTheirLinks (holders_after i call holders) (slice_set seats i seat')
-  hold_is j s at = ⊎_elim
-      (λ t. subst (λ (x : SeatData). HoldsItsLink (holders_after i call holders) j (link_at x.point)) t.1
-        (subst (λ (k : ℕ). HoldsItsLink (holders_after i call holders) k (link_at seat'.point)) (sym t.0)
-          (subst (HoldsItsLink (holders_after i call holders) i) (sym (w.hand ∙ w.behind)) (holds_moved p holders dones i many as_many call _ _ over own may))))
-      (λ t. others_hold p holders dones i many as_many call _ _ over own may j t.0 (link_at s.point) (hold j s t.1))
-      (at_set seats i j seat' s at)
+  pub tick_is : core_in fresh ≡ ticked m.plan (core_in m) i
+  tick_is = rw (w.plan, w.holders, w.dones, w.seats) after_it
+
+  hold_after : HoldTheirLinks (holders_after i call m.holders) (slice_set m.seats i w.seat')
+  hold_after j s at = ⊎_elim
+      (λ t. subst (λ (x : SeatData). HoldsItsLink (holders_after i call m.holders) j (link_at x.point)) t.1
+        (subst (λ (k : ℕ). HoldsItsLink (holders_after i call m.holders) k (link_at w.seat'.point)) (sym t.0)
+          (subst (HoldsItsLink (holders_after i call m.holders) i) (sym (w.hand ∙ w.behind)) (holds_moved m.plan m.holders m.dones i many as_many call _ _ over own may))))
+      (λ t. others_hold m.plan m.holders m.dones i many as_many call _ _ over own may j t.0 (link_at s.point) (hold j s t.1))
+      (at_set m.seats i j w.seat' s at)
+
+  pub hold_is : HoldTheirLinks fresh.holders fresh.seats
+  hold_is = rw (w.holders, w.seats) hold_after
 
 -- ## The next step
 

@@ -1,5 +1,5 @@
 -- The machine: its core, the links as they would be given back, and what holds of it behind each step.
-use Rattle.std.specs.Prelude.{ℕ, ◌≡◌, ◌<◌, ◌≤◌, Bool, List, [], ◌∷◌, length, map, sum_by, slice_get, Option, Some, None}
+use Rattle.std.specs.Prelude.{ℕ, ◌≡◌, ◌<◌, ◌≤◌, Bool, List, [], ◌∷◌, length, map, sum_by, slice_set, Option, Some, None}
 use Rattle.std.specs.List.{AllByRecursion}
 use mathlib.Core.Option as core
 use lib.ListN.{get_elem?}
@@ -10,12 +10,13 @@ use Rattle.sock_model.specs.declared.view.View.{View}
 use Rattle.sock_programs.specs.Calls.{Call}
 use Rattle.sock_programs.specs.Programs.{Program}
 use Rattle.sock_programs.specs.Clients.{ending_of}
-use Rattle.sock_programs.specs.Cores.{Core, SeatState, word_of, found_at, with_seat}
+use Rattle.sock_programs.specs.Cores.{Core, SeatState, word_of, found_at, word_after, words_after, said, next_step, with_seat}
 use Rattle.sock_runs.specs.Sound.{Sound, AllowsWord}
 use Rattle.sock_core.specs.declared.point.Point.{Point}
-use Rattle.sock_core.specs.Points.{TriesOneOf, link_at}
-use Rattle.sock_core.specs.Seats.{SeatData, seat_program, seat_left}
-use Rattle.sock_core.specs.Links.{IsOfLinks, holder_of, homes_of, hand_of}
+use Rattle.sock_core.specs.declared.point.Next.{Next}
+use Rattle.sock_core.specs.Points.{TriesOneOf, link_at, link_left, link_behind, call_in, after_of, next_program}
+use Rattle.sock_core.specs.Seats.{SeatData, around, seat_program, seat_left}
+use Rattle.sock_core.specs.Links.{IsOfLinks, holders_after, dones_after, holder_of, homes_of, hand_of}
 
 -- ## The core
 
@@ -44,15 +45,6 @@ HoldTheirLinks holders seats = (i : ℕ) (seat : SeatData) → get_elem? seats i
 abbrev pub IsSound : Plan → Core → Type 0
 IsSound p c = ∥ ((views : List View) × Sound p c views) ∥₁
 
--- ## One step
-
--- the word of the step is there, and is one that it may find; it is of one of the table's links, and of its slots
-pub record StepFits (p : Plan) (words : List ℕ) (point : Point) (call : Call) : Type 0 where
-  pub there : (x : ℕ) → word_of p call ≡ core.some x → x < length words
-  pub word : AllowsWord call (found_at words (word_of p call))
-  pub link : IsOfLinks p.links call
-  pub slot : TriesOneOf p.slots point
-
 -- ## The whole machine
 
 -- a machine: the sizes of its table, the words, who has each link in hand, which writing halves are ended, the seats, the
@@ -74,6 +66,47 @@ core_in m = core_of m.plan m.words m.holders m.dones m.seats m.outcomes
 -- how many steps its seats have left at most
 abbrev pub steps_left : MachineState → ℕ
 steps_left m = sum_by (seat_left m.plan.slots) m.seats
+
+-- ## One step
+
+-- the next step of seat i
+pub record NextIs (m : MachineState) (i : ℕ) (call : Call) : Type 0 where
+  pub seat : SeatData
+  pub at : get_elem? m.seats i ≡ core.some seat
+  pub is_call : call_in (seat_program m.plan.slots seat) ≡ Some call
+
+-- the slot that is tried is one of the table's
+abbrev pub TriesAt : MachineState → ℕ → Type 0
+TriesAt m i = (seat : SeatData) → get_elem? m.seats i ≡ core.some seat → TriesOneOf m.plan.slots seat.point
+
+-- the word of the step is there, and is one that it may find; it is of one of the table's links, and of its slots
+pub record StepFits (m : MachineState) (i : ℕ) (call : Call) : Type 0 where
+  pub there : (x : ℕ) → word_of m.plan call ≡ core.some x → x < length m.words
+  pub word : AllowsWord call (found_at m.words (word_of m.plan call))
+  pub link : IsOfLinks m.plan.links call
+  pub slot : TriesAt m i
+
+-- what the step of seat i made of a machine: its word, the links, where the seat goes on, and what was told
+pub record SteppedTo (old fresh : MachineState) (i : ℕ) (call : Call) : Type 0 where
+  pub plan : fresh.plan ≡ old.plan
+  pub opens : fresh.opens ≡ old.opens
+  pub ends : fresh.ends ≡ old.ends
+  pub words : fresh.words ≡ words_after old.words (word_of old.plan call) (word_after call (found_at old.words (word_of old.plan call)))
+  pub holders : fresh.holders ≡ holders_after i call old.holders
+  pub dones : fresh.dones ≡ dones_after call old.dones
+  pub seat : SeatData
+  pub seat' : SeatData
+  pub at : get_elem? old.seats i ≡ core.some seat
+  pub seats : fresh.seats ≡ slice_set old.seats i seat'
+  pub next : Next
+  pub goes : next_program (around old.plan.slots seat) next ≡ after_of (seat_program old.plan.slots seat) (found_at old.words (word_of old.plan call))
+  pub behind : link_behind next ≡ link_left seat.point
+  pub program : seat_program old.plan.slots seat' ≡ next_step (next_program (around old.plan.slots seat) next)
+  pub told : fresh.outcomes ≡ said (next_program (around old.plan.slots seat) next) old.outcomes
+  pub hand : link_at seat'.point ≡ link_behind next
+  pub left : seat_left old.plan.slots seat' < seat_left old.plan.slots seat
+
+-- ## What holds of it
 
 -- what holds of it, with room for so many outcomes
 pub record IsMachine (m : MachineState) (room : ℕ) : Type 0 where

@@ -9,3 +9,4 @@ mod follows;
 mod step;
 mod steps;
 mod table;
+mod tables;

@@ -3,53 +3,27 @@ ghost use Rattle.sock_programs.specs.Cores.{ticked, run};
 ghost use Rattle.sock_programs.specs.Runs.{next_kind, IsAtRest, IsSettled, rounds, from_to};
 ghost use Rattle.sock_core.specs.Machines.{MachineState, core_in, steps_left, ending_by};
 
-use crate::seat::Seat;
-use crate::step::make_step;
+use crate::tables::Tables;
 use sock_io::{Ends, In, Linker, NoMemory, Out, Peer};
 use sock_words::{Kind, Outcome, Plan};
-use std::collections::VecDeque;
 use std::marker::Model;
 
 /// All seats of a script, and the tables on which they step, on one thread.
 #[derive(Drop)]
 pub struct Machine<O: Out, I: In, P: Peer> {
-    plan: Plan,
-    words: Vec<u64>,
-    ends: Vec<Ends<O, I, P>>,
-    holders: Vec<Option<u16>>,
-    seats: Vec<Seat>,
-    opens: VecDeque<u16>,
-    outcomes: Vec<Option<Outcome>>,
+    tables: Tables<O, I, P>,
     told: Vec<(u16, Outcome)>,
 }
 
 impl<O: Out, I: In, P: Peer> Model for Machine<O, I, P> {
-    ghost use Rattle.std.specs.Prelude.{map, vec_capacity};
-    ghost use Rattle.sock_io.specs.Link.{end_of};
-    ghost use Rattle.sock_core.specs.Seats.{seat_data};
+    ghost use Rattle.std.specs.Prelude.{vec_capacity};
     ghost use Rattle.sock_core.specs.Machines.{MachineState, IsMachine};
 
     ghost Value = { MachineState };
 
-    ghost view = { λ m. record {
-        plan = m.plan;
-        words = m.words.items;
-        holders = m.holders.items;
-        dones = map (λ (e : _). (O.state e.out).finished) m.ends.items;
-        seats = map seat_data m.seats.items;
-        opens = m.opens.items;
-        outcomes = m.outcomes.items;
-        ends = map (λ (e : _). end_of (O.state e.out) (I.state e.inn)) m.ends.items } };
+    ghost view = { λ m. m.tables };
 
-    ghost invariant = { λ m. IsMachine (record {
-        plan = m.plan;
-        words = m.words.items;
-        holders = m.holders.items;
-        dones = map (λ (e : _). (O.state e.out).finished) m.ends.items;
-        seats = map seat_data m.seats.items;
-        opens = m.opens.items;
-        outcomes = m.outcomes.items;
-        ends = map (λ (e : _). end_of (O.state e.out) (I.state e.inn)) m.ends.items }) (vec_capacity m.told) };
+    ghost invariant = { λ m. IsMachine m.tables (vec_capacity m.told) };
 }
 
 impl<O: Out, I: In, P: Peer> Machine<O, I, P> {
@@ -64,27 +38,10 @@ impl<O: Out, I: In, P: Peer> Machine<O, I, P> {
         ensures idle { result ≡ Ok None → self.new ≡ self.old }
         ensures err { OnErr result (self.new ≡ self.old) }
     {
-        let at = usize::from(seat);
-        if at >= self.seats.len() {
-            return Ok(None);
-        }
-        let point = self.seats[at].point;
-        let Some(call) = point.call() else {
+        let Some(call) = self.tables.next_call(seat) else {
             return Ok(None);
         };
-        if self.seats[at].held.reserve(1).is_err() {
-            return Err(NoMemory);
-        }
-        let next = make_step(
-            &self.plan,
-            &mut self.words,
-            &mut self.ends,
-            &mut self.holders,
-            seat,
-            point,
-            call,
-        );
-        self.seats[at].follow(self.plan.slots, next, &mut self.outcomes);
+        self.tables.step(seat, call)?;
         Ok(Some(call.kind()))
     }
 }

@@ -1,10 +1,11 @@
-ghost use Rattle.std.specs.Prelude.{◌≡◌, ◌<◌, Some, length, map};
+ghost use Rattle.std.specs.Prelude.{◌≡◌, ◌<◌, ℕ, Some, length, map};
 ghost use Rattle.sock_io.specs.Link.{end_of};
 ghost use Rattle.sock_programs.specs.Cores.{word_of, found_at, words_after, word_after};
+ghost use mathlib.Core.Option.{some};
+ghost use Rattle.sock_runs.specs.Sound.{AllowsWord};
 ghost use Rattle.sock_core.specs.Steps.{step_of};
-ghost use Rattle.sock_core.specs.Points.{Around, point_program, next_program, call_in, after_of, link_behind, link_left, point_left, next_left};
-ghost use Rattle.sock_core.specs.Links.{holders_after, dones_after};
-ghost use Rattle.sock_core.specs.Machines.{StepFits};
+ghost use Rattle.sock_core.specs.Points.{Around, TriesOneOf, point_program, next_program, call_in, after_of, link_behind, link_left, point_left, next_left};
+ghost use Rattle.sock_core.specs.Links.{IsOfLinks, holders_after, dones_after};
 
 use crate::call::Call;
 use crate::point::{Next, Point};
@@ -23,7 +24,10 @@ pub fn make_step<O: Out, I: In, P: Peer>(
     call: Call,
 ) -> Next
     requires call { (a : Around) → call_in (point_program a point) ≡ Some (step_of call) }
-    requires fits { StepFits plan.now words.old point (step_of call) }
+    requires there { (x : ℕ) → word_of plan.now (step_of call) ≡ some x → x < length words.old }
+    requires word { AllowsWord (step_of call) (found_at words.old (word_of plan.now (step_of call))) }
+    requires link { IsOfLinks plan.now.links (step_of call) }
+    requires slot { TriesOneOf plan.now.slots point }
     requires ends { length ends.old ≡ plan.now.links }
     requires holders { length holders.old ≡ plan.now.links }
     ensures words { words.new ≡ words_after words.old (word_of plan.now (step_of call)) (word_after (step_of call) (found_at words.old (word_of plan.now (step_of call)))) }

@@ -11,7 +11,7 @@ some_around : Around
 some_around = record { slots = 0; goes_on = (λ hs. Rest); ends = Rest; held = [] }
 
 pub next-requires-clause-word : goal.next-requires-clause-word
-next-requires-clause-word g c = subst (MayFind c.args.point) (sym c.step_word-found.ensures.found) (may_find some_around c.args.point (step_of c.args.call) _ (c.requires.call some_around) c.requires.fits.word)
+next-requires-clause-word g c = subst (MayFind c.args.point) (sym c.step_word-found.ensures.found) (may_find some_around c.args.point (step_of c.args.call) _ (c.requires.call some_around) c.requires.word)
 
 pub next-requires-clause-step : goal.next-requires-clause-step
 next-requires-clause-step g c = has_step some_around c.args.point (step_of c.args.call) (c.requires.call some_around)

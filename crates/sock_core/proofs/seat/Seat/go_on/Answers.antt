@@ -3,6 +3,7 @@ use Rattle.sock_programs.specs.Clients.{client_from, give_back}
 use Rattle.sock_core.specs.declared.seat.Seat.{Seat}
 use Rattle.sock_core.specs.Points.{Around, point_program}
 use Rattle.sock_core.specs.Seats.{lives, around, seat_data}
+use Rattle.sock_core.proofs.HeldLives.{lives_length}
 use Rattle.sock_core.proofs.GoingOn.{begins_said, ends_tasks, none_in}
 use Rattle.sock_core.proofs.seat.Seat.go_on.Goals as goal
 
@@ -35,4 +36,4 @@ returns-clause-left c =
     let left : c.pop_front.new.self.items ≡ [] = sym c.in_default.ensures.items ∙ none in
     let fewer = c.give_back-self.ensures.left c.args.slots in
     let kept = rw none at c.loop-task.invariant.left in
-    rw left (omega (arith, c.give_back-self.new.held.ok, c.loop-task.self.held.ok))
+    rw left (omega (arith, c.give_back-self.new.held.ok, c.loop-task.self.held.ok, lives_length c.give_back-self.new.held.items, lives_length c.loop-task.self.held.items))
