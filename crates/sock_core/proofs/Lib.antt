@@ -8,3 +8,4 @@ pub mod Moves
 pub mod Ticked
 pub mod Sounds
 pub mod Places
+pub mod Keeping
