@@ -9,3 +9,4 @@ pub mod Ticked
 pub mod Sounds
 pub mod Places
 pub mod Keeping
+pub mod Playing

@@ -3,3 +3,4 @@ pub mod Points
 pub mod Seats
 pub mod Links
 pub mod Machines
+pub mod Runs

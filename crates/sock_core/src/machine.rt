@@ -1,12 +1,39 @@
-ghost use Rattle.std.specs.Prelude.{◌≡◌, ◌<◌, ◌≤◌, ◌∷◌, ◌++◌, [], Some, None, Ok, IfOk, OnOk, OnErr, IfSome, IsSome, IsOk, length, replicate};
+ghost use Rattle.std.specs.Prelude.{◌≡◌, ℕ, ◌-◌, true, false, ◌<◌, ◌≤◌, ◌∷◌, ◌++◌, [], Some, None, Ok, IfOk, OnOk, OnErr, IfSome, IsSome, IsOk, length, replicate};
 ghost use Rattle.sock_programs.specs.Cores.{ticked, run};
 ghost use Rattle.sock_programs.specs.Runs.{next_kind, IsAtRest, IsSettled, rounds, from_to};
 ghost use Rattle.sock_core.specs.Machines.{MachineState, core_in, steps_left, ending_by};
+ghost use Rattle.sock_core.specs.Runs.{TickIs, PlayedOn, RanFirst};
 
 use crate::tables::Tables;
 use sock_io::{Ends, In, Linker, NoMemory, Out, Peer};
 use sock_words::{Kind, Outcome, Plan};
 use std::marker::Model;
+
+/// For what a seat waits.
+#[derive(Clone, Copy, Debug, PartialEq, Eq)]
+pub enum On {
+    /// The next word of this ticket's request, which isn't connected yet.
+    Next(u64),
+    /// This call id, which another seat has locked, or whose end is waited for.
+    Id(u64),
+    /// The writing half of this link.
+    Out(u16),
+    /// The reading half of this link.
+    In(u16),
+    /// The socket of this `open`.
+    Open(u16),
+}
+
+/// What a tick of a seat did.
+#[derive(Clone, Copy, Debug, PartialEq, Eq)]
+pub enum Tick {
+    /// The seat made a step of this kind.
+    Moved(Kind),
+    /// The seat waits, and nothing was changed.
+    Waits(On),
+    /// The seat has no step left, and nothing was changed.
+    Idle,
+}
 
 /// All seats of a script, and the tables on which they step, on one thread.
 #[derive(Drop)]
@@ -43,5 +70,79 @@ impl<O: Out, I: In, P: Peer> Machine<O, I, P> {
         };
         self.tables.step(seat, call)?;
         Ok(Some(call.kind()))
+    }
+
+    /// A tick of a seat: its next step, if it has one. Seat 0 makes its ending in `settle` alone, and a seat that the
+    /// script doesn't have makes no step. Of a script without messages and calls no seat ever waits.
+    pub fn tick<L: Linker<O = O, I = I, P = P>>(
+        &mut self,
+        _links: &mut L,
+        seat: u16,
+    ) -> Result<Tick, NoMemory>
+        ensures tick { IfOk result (λ tick. TickIs seat tick (next_kind (core_in self.old) seat)) }
+        ensures moved { (kind : _) → result ≡ Ok (Tick.Moved kind) → core_in self.new ≡ ticked self.old.plan (core_in self.old) seat }
+        ensures idle { result ≡ Ok Tick.Idle → self.new ≡ self.old }
+        ensures rest { IsAtRest (core_in self.old) 0 → IsAtRest (core_in self.new) 0 }
+        ensures plan { self.new.plan ≡ self.old.plan }
+        ensures opens { self.new.opens ≡ self.old.opens }
+        ensures ends { self.new.ends ≡ self.old.ends }
+        ensures err { OnErr result (self.new ≡ self.old) }
+    {
+        if seat == 0 {
+            return Ok(Tick::Idle);
+        }
+        match self.advance(seat)? {
+            Some(kind) => Ok(Tick::Moved(kind)),
+            None => Ok(Tick::Idle),
+        }
+    }
+
+    /// How many seats there are.
+    fn seats(&self) -> u16
+        ensures count { result ≡ self.now.plan.seats }
+        ensures all { length (core_in self.now).seats ≡ self.now.plan.seats }
+    {
+        self.tables.plan.seats
+    }
+
+    /// A tick of each client, and whether one of them moved.
+    fn round(&mut self) -> Result<bool, NoMemory>
+        ensures core { OnOk result (core_in self.new ≡ run self.old.plan (core_in self.old) (from_to 1 (self.old.plan.seats - 1))) }
+        ensures moved { result ≡ Ok true → steps_left self.new < steps_left self.old }
+        ensures still { result ≡ Ok false → (i : ℕ) → 0 < i → i < self.old.plan.seats → IsAtRest (core_in self.old) i }
+        ensures same { result ≡ Ok false → self.new ≡ self.old }
+        ensures plan { self.new.plan ≡ self.old.plan }
+        ensures opens { self.new.opens ≡ self.old.opens }
+        ensures ends { self.new.ends ≡ self.old.ends }
+    {
+        let mut moved = false;
+        for seat in 1..self.seats() {
+            if self.advance(seat)?.is_some() {
+                moved = true;
+            }
+        }
+        Ok(moved)
+    }
+
+    /// Rounds of one tick for each client, until none of them moves.
+    fn play_on(&mut self) -> Result<(), NoMemory>
+        ensures ok { OnOk result (PlayedOn self.old self.new) }
+        ensures plan { self.new.plan ≡ self.old.plan }
+        ensures opens { self.new.opens ≡ self.old.opens }
+        ensures ends { self.new.ends ≡ self.old.ends }
+    {
+        while self.round()? {}
+        Ok(())
+    }
+
+    /// Steps of seat 0, until it has none left.
+    fn run_first(&mut self) -> Result<(), NoMemory>
+        ensures ok { OnOk result (RanFirst self.old self.new) }
+        ensures plan { self.new.plan ≡ self.old.plan }
+        ensures opens { self.new.opens ≡ self.old.opens }
+        ensures ends { self.new.ends ≡ self.old.ends }
+    {
+        while self.advance(0)?.is_some() {}
+        Ok(())
     }
 }
