@@ -70,6 +70,7 @@ module _ (m fresh : MachineState) (room i : ℕ) (call : calls.Call) (is : IsMac
     holders_are = ap length w.holders ∙ length_holders i call m.holders ∙ is.holders_are ∙ ap (λ (p : Plan). p.links) (sym w.plan);
     dones_are = ap length w.dones ∙ length_dones call m.dones ∙ is.dones_are ∙ ap (λ (p : Plan). p.links) (sym w.plan);
     seats_are = ap length w.seats ∙ length-set m.seats i w.seat' ∙ is.seats_are ∙ ap (λ (p : Plan). p.seats) (sym w.plan);
+    some_seat = let a = ap length w.seats ∙ length-set m.seats i w.seat' in let b = is.some_seat in omega arith;
     opens_are = rw (w.opens, w.plan) is.opens_are;
     has_room = let e = ap length w.told ∙ length_said (next_program (around m.plan.slots w.seat) w.next) m.outcomes in let h = is.has_room in omega arith;
   }

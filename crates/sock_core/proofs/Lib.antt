@@ -1,3 +1,4 @@
+-- NOTE for helper "machine": read /work/h/machine/READ_ME_FROM_LEAD.md (then drop this line and that file)
 pub mod Behind
 pub mod HeldLives
 pub mod GoingOn
@@ -10,3 +11,5 @@ pub mod Sounds
 pub mod Places
 pub mod Keeping
 pub mod Playing
+pub mod Ending
+pub mod Settling

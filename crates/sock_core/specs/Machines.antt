@@ -67,6 +67,22 @@ core_in m = core_of m.plan m.words m.holders m.dones m.seats m.outcomes
 abbrev pub steps_left : MachineState → ℕ
 steps_left m = sum_by (seat_left m.plan.slots) m.seats
 
+-- ## The ending
+
+-- seat 0 stands before the ending, over these `open`s, and nothing else was changed
+pub record BeganEnding (old fresh : MachineState) : Type 0 where
+  pub plan : fresh.plan ≡ old.plan
+  pub words : fresh.words ≡ old.words
+  pub holders : fresh.holders ≡ old.holders
+  pub dones : fresh.dones ≡ old.dones
+  pub outcomes : fresh.outcomes ≡ old.outcomes
+  pub ends : fresh.ends ≡ old.ends
+  pub opens : fresh.opens ≡ []
+  pub seat' : SeatData
+  pub seats : fresh.seats ≡ slice_set old.seats 0 seat'
+  pub program : (slots : ℕ) → seat_program slots seat' ≡ next_step (ending_of old.opens)
+  pub hand : link_at seat'.point ≡ None
+
 -- ## One step
 
 -- the next step of seat i
@@ -115,5 +131,6 @@ pub record IsMachine (m : MachineState) (room : ℕ) : Type 0 where
   pub holders_are : length m.holders ≡ m.plan.links
   pub dones_are : length m.dones ≡ m.plan.links
   pub seats_are : length m.seats ≡ m.plan.seats
+  pub some_seat : 0 < length m.seats
   pub opens_are : ∥ AllByRecursion (λ o. o < m.plan.operations) m.opens ∥₁
   pub has_room : length m.outcomes ≤ room

@@ -2,7 +2,7 @@ ghost use Rattle.std.specs.Prelude.{◌≡◌, ℕ, ◌-◌, true, false, ◌<�
 ghost use Rattle.sock_programs.specs.Cores.{ticked, run};
 ghost use Rattle.sock_programs.specs.Runs.{next_kind, IsAtRest, IsSettled, rounds, from_to};
 ghost use Rattle.sock_core.specs.Machines.{MachineState, core_in, steps_left, ending_by};
-ghost use Rattle.sock_core.specs.Runs.{TickIs, PlayedOn, RanFirst};
+ghost use Rattle.sock_core.specs.Runs.{TickIs, PlayedOn, RanFirst, Settled};
 
 use crate::tables::Tables;
 use sock_io::{Ends, In, Linker, NoMemory, Out, Peer};
@@ -144,5 +144,29 @@ impl<O: Out, I: In, P: Peer> Machine<O, I, P> {
     {
         while self.advance(0)?.is_some() {}
         Ok(())
+    }
+
+    /// Seat 0 begins the ending.
+    fn begin_ending(&mut self)
+        requires { IsAtRest (core_in self.old) 0 }
+        ensures core { core_in self.new ≡ ending_by self.old.opens (core_in self.old) }
+        ensures plan { self.new.plan ≡ self.old.plan }
+        ensures ends { self.new.ends ≡ self.old.ends }
+    {
+        self.tables.begin_ending();
+    }
+
+    /// Plays the script to its end: rounds of one tick for each client until none of them moves, and then the ending by
+    /// seat 0, which goes over each `open`. It always returns, and no seat has a step left then.
+    pub fn settle<L: Linker<O = O, I = I, P = P>>(&mut self, _links: &mut L) -> Result<(), NoMemory>
+        requires { IsAtRest (core_in self.old) 0 }
+        ensures settled { OnOk result (Settled self.old self.new) }
+        ensures plan { self.new.plan ≡ self.old.plan }
+        ensures ends { self.new.ends ≡ self.old.ends }
+    {
+        let _ = self.seats();
+        self.play_on()?;
+        self.begin_ending();
+        self.run_first()
     }
 }

@@ -3,7 +3,7 @@ ghost use mathlib.Core.Option.{some};
 ghost use lib.ListN.{get_elem?};
 ghost use Rattle.sock_programs.specs.Runs.{next_kind};
 ghost use Rattle.sock_core.specs.Steps.{step_of};
-ghost use Rattle.sock_core.specs.Machines.{MachineState, core_in, StepFits, NextIs, SteppedTo};
+ghost use Rattle.sock_core.specs.Machines.{MachineState, core_in, StepFits, NextIs, SteppedTo, BeganEnding};
 
 use crate::call::Call;
 use crate::seat::Seat;
@@ -84,5 +84,16 @@ impl<O: Out, I: In, P: Peer> Tables<O, I, P> {
         );
         place.follow(self.plan.slots, next, &mut self.outcomes);
         Ok(())
+    }
+
+    /// Seat 0 begins the ending, over the `open`s.
+    pub fn begin_ending(&mut self)
+        requires { 0 < length self.old.seats }
+        ensures { BeganEnding self.old self.new }
+    {
+        let first = &mut self.seats[0];
+        std::mem::swap(&mut first.ending, &mut self.opens);
+        self.opens.clear();
+        first.end_next();
     }
 }
