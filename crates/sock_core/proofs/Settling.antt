@@ -1,5 +1,5 @@
 -- A whole run: the rounds of the clients, and the ending.
-use Rattle.std.proofs.Common.{◌≡◌, ◌≢◌, refl, ℕ, zero, suc, ◌+◌, ◌-◌, ◌<◌, ◌≤◌, List, [], ◌∷◌, length, slice_set, replicate, Option, Some, None, ap, sym, ◌∙◌, arith, subst}
+use Rattle.std.proofs.Common.{◌≡◌, ◌≢◌, refl, ℕ, zero, suc, ◌+◌, ◌-◌, ◌<◌, ◌≤◌, List, [], ◌∷◌, length, slice_set, replicate, Option, Some, None, Result, Ok, Err, OnOk, ap, sym, ◌∙◌, arith, subst}
 use Rattle.std.proofs.Math.ListN.{length-set}
 use mathlib.Core.Option as core
 use lib.ListN.{get_elem?}
@@ -28,18 +28,22 @@ run_seats : (p : Plan) (c : Core) (seats : List ℕ) → length (run p c seats).
 run_seats p c [] = refl
 run_seats p c (i ∷ seats) = run_seats p (ticked p c i) seats ∙ ticked_seats p c i
 
+-- seat 0 rests, as it did before
+pub first_rests : (old played : MachineState) → IsAtRest (core_in old) 0 → PlayedOn old played → IsAtRest (core_in played) 0
+first_rests old played rest plays = ap (λ (c : Core). next_kind c 0) plays.core ∙ rounds_leave old.plan (core_in old) plays.more (old.plan.seats - 1) ∙ rest
+
+pub where_ok : {A E : Type 0} {P Q : Type 0} (r : Result A E) → (P → Q) → OnOk r P → OnOk r Q
+where_ok (Ok a) f h = f h
+where_ok (Err e) f h = tt
+
 module _ (old played begun fresh : MachineState) (count : length (core_in old).seats ≡ old.plan.seats) (rest : IsAtRest (core_in old) 0)
     (plays : PlayedOn old played) (plan : played.plan ≡ old.plan) (opens : played.opens ≡ old.opens)
     (begins : core_in begun ≡ ending_by played.opens (core_in played)) (plan' : begun.plan ≡ played.plan) (ran : RanFirst begun fresh) where
-  -- seat 0 rests, as it did before
-  pub first_rests : IsAtRest (core_in played) 0
-  first_rests = ap (λ (c : Core). next_kind c 0) plays.core ∙ rounds_leave old.plan (core_in old) plays.more (old.plan.seats - 1) ∙ rest
-
   many : length (core_in played).seats ≡ old.plan.seats
   many = ap (λ (c : Core). length c.seats) plays.core ∙ run_seats old.plan (core_in old) (rounds plays.more (old.plan.seats - 1)) ∙ count
 
   calm : IsSettled (core_in played)
-  calm zero below = first_rests
+  calm zero below = first_rests old played rest plays
   calm (suc i) below = plays.still (suc i) (omega arith) (let e = many in omega arith)
 
   last_core : core_in fresh ≡ run old.plan (ending_by old.opens (core_in played)) (replicate {A = ℕ} ran.steps 0)
