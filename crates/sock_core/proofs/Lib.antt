@@ -13,3 +13,4 @@ pub mod Keeping
 pub mod Playing
 pub mod Ending
 pub mod Settling
+pub mod Begun

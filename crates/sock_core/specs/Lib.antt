@@ -4,3 +4,4 @@ pub mod Seats
 pub mod Links
 pub mod Machines
 pub mod Runs
+pub mod Beginnings

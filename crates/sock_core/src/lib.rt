@@ -6,6 +6,7 @@ mod machine;
 mod point;
 mod seat;
 mod follows;
+mod setup;
 mod step;
 mod steps;
 mod table;
