@@ -3,10 +3,12 @@ use Rattle.std.proofs.Common.{◌≡◌, refl, ℕ, zero, suc, ◌+◌, ◌-◌,
 use Rattle.sock_words.specs.declared.outcome.Outcome.{Outcome}
 use Rattle.sock_programs.specs.declared.task.Task.{Task}
 use Rattle.sock_programs.specs.Programs.{Program}
-use Rattle.sock_programs.specs.Clients.{client_from}
+use Rattle.sock_programs.specs.Clients.{HeldLife, client_from}
 use Rattle.sock_programs.specs.Cores.{SeatState, said, next_step}
 use Rattle.sock_programs.specs.Scripts.{free_slot, free_slots, programs}
-use Rattle.sock_core.specs.Seats.{SeatData}
+use Rattle.sock_core.specs.Seats.{SeatData, seat_program}
+use Rattle.sock_core.specs.Points.{link_at}
+use Rattle.sock_core.specs.Links.{hand_with}
 use Rattle.sock_core.specs.Machines.{seat_state}
 use Rattle.sock_core.specs.Beginnings.{first_states, AreBegun}
 
@@ -53,3 +55,8 @@ begun_more slots seats clients seat tasks h e dones =
 
 pub told_more : (slots : ℕ) (os : List (Option Outcome)) (clients : List (List Task)) (tasks : List Task) → fold (λ (us : List (Option Outcome)) (program : Program). said program us) os (programs slots (clients ++ tasks ∷ [])) ≡ said (client_from slots [] tasks) (fold (λ (us : List (Option Outcome)) (program : Program). said program us) os (programs slots clients))
 told_more slots os clients tasks = ap (fold (λ (us : List (Option Outcome)) (program : Program). said program us) os) (map_last (client_from slots []) clients tasks) ∙ fold_last (λ (us : List (Option Outcome)) (program : Program). said program us) os (programs slots clients) (client_from slots [] tasks)
+
+-- a seat that has begun
+pub begun_seat : (slots : ℕ) (dones : List Bool) (seat : SeatData) (held : List HeldLife) (tasks : List Task) → seat_program slots seat ≡ next_step (client_from slots held tasks) → held ≡ [] → link_at seat.point ≡ None →
+    seat_state slots dones seat ≡ (record { program = next_step (client_from slots [] tasks); hand = [] })
+begun_seat slots dones seat held tasks e f g = λ k. record { program = (e ∙ ap (λ (hs : List HeldLife). next_step (client_from slots hs tasks)) f) k; hand = ap (hand_with dones) g k }
