@@ -45,7 +45,7 @@ get_is (z ∷ xs) (suc i) x e = get_is xs i x e
 sum_set : (f : SeatData → ℕ) (xs : List SeatData) (i : ℕ) (x y : SeatData) → get_elem? xs i ≡ core.some x → sum_by f (slice_set xs i y) + f x ≡ sum_by f xs + f y
 sum_set f xs i x y e = ap (λ (z : SeatData). sum_by f (slice_set xs i y) + f z) (sym (get_is xs i x e)) ∙ sum_by-set f xs i y x (there_within xs i x e)
 
-length_said : (p : Program) (os : List (Option Outcome)) → length (said p os) ≡ length os
+pub length_said : (p : Program) (os : List (Option Outcome)) → length (said p os) ≡ length os
 length_said (Say o outcome after) os = length_said after (slice_set os o (Some outcome)) ∙ length-set os o (Some outcome)
 length_said (Do call next) os = refl
 length_said Rest os = refl

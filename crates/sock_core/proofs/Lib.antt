@@ -14,3 +14,4 @@ pub mod Playing
 pub mod Ending
 pub mod Settling
 pub mod Begun
+pub mod Starting

@@ -1,13 +1,29 @@
-ghost use Rattle.std.specs.Prelude.{◌≡◌, ℕ, ◌-◌, true, false, ◌<◌, ◌≤◌, ◌∷◌, ◌++◌, [], Some, None, Ok, IfOk, OnOk, OnErr, IfSome, IsSome, IsOk, length, replicate};
+ghost use Rattle.std.specs.Prelude.{◌≡◌, ℕ, ◌-◌, true, false, ◌<◌, ◌≤◌, ◌∷◌, ◌++◌, [], Some, None, Ok, IfOk, OnOk, OnErr, IfSome, IsSome, IsOk, IfErr, length, map, vec_len, replicate};
+ghost use Rattle.std.specs.List.{AllByRecursion};
+ghost use Rattle.sock_io.specs.Link.{end_of};
+ghost use Rattle.sock_model.specs.Lawful.{PlanFits};
+ghost use Rattle.sock_programs.specs.Told.{AreTasks};
+ghost use Rattle.sock_programs.specs.Scripts.{beginning, programs};
+ghost use Rattle.sock_runs.specs.Sound.{IsWithinLimits};
 ghost use Rattle.sock_programs.specs.Cores.{ticked, run};
 ghost use Rattle.sock_programs.specs.Runs.{next_kind, IsAtRest, IsSettled, rounds, from_to};
 ghost use Rattle.sock_core.specs.Machines.{MachineState, core_in, steps_left, ending_by};
 ghost use Rattle.sock_core.specs.Runs.{TickIs, PlayedOn, RanFirst, Settled};
 
+use crate::setup::{Parts, parts_of};
 use crate::tables::Tables;
 use sock_io::{Ends, In, Linker, NoMemory, Out, Peer};
+use sock_programs::Task;
 use sock_words::{Kind, Outcome, Plan};
+use std::alloc::Global;
+use std::collections::VecDeque;
 use std::marker::Model;
+
+/// Why no machine was made: memory ran out. The links are handed back.
+#[derive(Drop)]
+pub struct NotMade<O: Out, I: In, P: Peer> {
+    pub ends: Vec<Ends<O, I, P>>,
+}
 
 /// For what a seat waits.
 #[derive(Clone, Copy, Debug, PartialEq, Eq)]
@@ -54,6 +70,51 @@ impl<O: Out, I: In, P: Peer> Model for Machine<O, I, P> {
 }
 
 impl<O: Out, I: In, P: Peer> Machine<O, I, P> {
+    /// The machine of these clients, each of which stands before its first step. Client 0 is the setup, which opens
+    /// sockets alone, and the ending goes over these `open`s. There is one link for each.
+    pub fn start(
+        alloc: Global,
+        plan: &Plan,
+        clients: Vec<VecDeque<Task>>,
+        opens: VecDeque<u16>,
+        ends: Vec<Ends<O, I, P>>,
+    ) -> Result<Self, NotMade<O, I, P>>
+        requires tasks { AreTasks plan.now (map (λ (tasks : _). tasks.items) clients.items) }
+        requires limits { IsWithinLimits plan.now }
+        requires plan { PlanFits plan.now }
+        requires seats { vec_len clients ≡ plan.now.seats }
+        requires few { plan.now.seats ≤ 512 }
+        requires opens { AllByRecursion (λ o. o < plan.now.operations) opens.items }
+        requires links { vec_len ends ≡ plan.now.links }
+        requires fresh { AllByRecursion (λ (e : _). (O.state e.out).finished ≡ false) ends.items }
+        ensures core { IfOk result (λ m. core_in m ≡ beginning plan.now (programs plan.now.slots (map (λ (tasks : _). tasks.items) clients.items))) }
+        ensures plan { IfOk result (λ m. m.plan ≡ plan.now) }
+        ensures opens { IfOk result (λ m. m.opens ≡ opens.items) }
+        ensures ends { IfOk result (λ m. m.ends ≡ map (λ (e : _). end_of (O.state e.out) (I.state e.inn)) ends.items) }
+        ensures err { IfErr result (λ e. e.ends ≡ ends) }
+    {
+        let Ok(parts) = parts_of(alloc, plan, clients) else {
+            return Err(NotMade { ends });
+        };
+        let Parts {
+            words,
+            holders,
+            seats,
+            outcomes,
+            told,
+        } = parts;
+        let tables = Tables {
+            plan: *plan,
+            words,
+            ends,
+            holders,
+            seats,
+            opens,
+            outcomes,
+        };
+        Ok(Machine { tables, told })
+    }
+
     /// A step of any seat, and its kind; none where the seat has no step left.
     fn advance(&mut self, seat: u16) -> Result<Option<Kind>, NoMemory>
         ensures kind { IfOk result (λ kind. kind ≡ next_kind (core_in self.old) seat) }

@@ -1,10 +1,10 @@
-ghost use Rattle.std.specs.Prelude.{◌≡◌, ◌*◌, ◌-◌, ◌<◌, ℕ, List, [], None, IfOk, OnOk, ◌++◌, map, fold, replicate, length, Option};
+ghost use Rattle.std.specs.Prelude.{◌≡◌, ◌*◌, ◌-◌, ◌<◌, ℕ, List, [], None, IfOk, OnOk, ◌++◌, map, fold, replicate, length, Option, vec_capacity};
 ghost use Rattle.sock_words.specs.declared.outcome.Outcome.{Outcome};
 ghost use Rattle.sock_model.specs.Layout.{all_words};
 ghost use Rattle.sock_programs.specs.Cores.{said};
 ghost use Rattle.sock_programs.specs.Scripts.{free_slot, free_slots, opening_words, programs};
 ghost use Rattle.sock_core.specs.Seats.{seat_data};
-ghost use Rattle.sock_core.specs.Beginnings.{AreBegun};
+ghost use Rattle.sock_core.specs.Beginnings.{AreBegun, AreParts};
 
 use crate::point::Point;
 use crate::seat::Seat;
@@ -96,4 +96,38 @@ pub fn seats_of(
         seats.push(seat)?;
     }
     Ok(seats)
+}
+
+/// All of a machine but its links, before its first step.
+#[derive(Drop)]
+pub struct Parts {
+    pub words: Vec<u64>,
+    pub holders: Vec<Option<u16>>,
+    pub seats: Vec<Seat>,
+    pub outcomes: Vec<Option<Outcome>>,
+    /// Room for all outcomes.
+    pub told: Vec<(u16, Outcome)>,
+}
+
+/// The parts of a machine of these clients.
+pub fn parts_of(
+    alloc: Global,
+    plan: &Plan,
+    clients: Vec<VecDeque<Task>>,
+) -> Result<Parts, AllocError>
+    ensures parts { IfOk result (λ parts. AreParts plan.now (map (λ (tasks : _). tasks.items) clients.items) parts.words.items parts.holders.items (map seat_data parts.seats.items) parts.outcomes.items (vec_capacity parts.told)) }
+    ensures told { IfOk result (λ parts. parts.told.items ≡ []) }
+{
+    let words = opening_words(alloc, plan)?;
+    let holders = free_links(alloc, plan.links)?;
+    let mut outcomes = no_outcomes(alloc, plan.operations)?;
+    let told = Vec::with_capacity(alloc, usize::from(plan.operations))?;
+    let seats = seats_of(alloc, plan.slots, clients, &mut outcomes)?;
+    Ok(Parts {
+        words,
+        holders,
+        seats,
+        outcomes,
+        told,
+    })
 }
