@@ -87,6 +87,7 @@ module _ (m fresh : MachineState) (w : BeganEnding m fresh) where
     some_seat = let a = ap length w.seats ∙ length-set m.seats 0 w.seat' in let b = is.some_seat in omega arith;
     opens_are = rw w.opens (∣ tt ∣₁);
     has_room = let a = ap length w.outcomes in let b = is.has_room in omega arith;
+    few_outcomes = let a = ap length w.outcomes in let b = is.few_outcomes in omega arith;
   }
 
 -- ## Other seats

@@ -73,6 +73,7 @@ module _ (m fresh : MachineState) (room i : ℕ) (call : calls.Call) (is : IsMac
     some_seat = let a = ap length w.seats ∙ length-set m.seats i w.seat' in let b = is.some_seat in omega arith;
     opens_are = rw (w.opens, w.plan) is.opens_are;
     has_room = let e = ap length w.told ∙ length_said (next_program (around m.plan.slots w.seat) w.next) m.outcomes in let h = is.has_room in omega arith;
+    few_outcomes = let e = ap length w.told ∙ length_said (next_program (around m.plan.slots w.seat) w.next) m.outcomes in let h = is.few_outcomes in omega arith;
   }
 
   pub step_leaves : steps_left fresh < steps_left m

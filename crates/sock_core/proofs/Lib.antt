@@ -15,3 +15,4 @@ pub mod Ending
 pub mod Settling
 pub mod Begun
 pub mod Starting
+pub mod Gathering

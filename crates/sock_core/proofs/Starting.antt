@@ -102,6 +102,7 @@ module _ (p : Plan) (clients : List (List Task)) (m : MachineState) (room : ℕ)
     some_seat = let a = tasks.some_ in let b = seats_many in omega arith;
     opens_are = ∣ subst (λ (q : Plan). AllByRecursion (λ o. o < q.operations) m.opens) (sym plan) opens ∣₁;
     has_room = let a = ap length parts.outcomes ∙ told_length (replicate p.operations None) (programs p.slots clients) ∙ length-replicate p.operations None in let b = parts.room_is in omega arith;
+    few_outcomes = let a = ap length parts.outcomes ∙ told_length (replicate p.operations None) (programs p.slots clients) ∙ length-replicate p.operations None in let b = limits.operations in omega arith;
   }
     where
       seats_many : length m.seats ≡ length clients

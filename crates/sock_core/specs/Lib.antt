@@ -5,3 +5,4 @@ pub mod Links
 pub mod Machines
 pub mod Runs
 pub mod Beginnings
+pub mod Finish

@@ -134,3 +134,4 @@ pub record IsMachine (m : MachineState) (room : ℕ) : Type 0 where
   pub some_seat : 0 < length m.seats
   pub opens_are : ∥ AllByRecursion (λ o. o < m.plan.operations) m.opens ∥₁
   pub has_room : length m.outcomes ≤ room
+  pub few_outcomes : length m.outcomes ≤ 4096

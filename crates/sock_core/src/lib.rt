@@ -5,6 +5,7 @@ mod call;
 mod machine;
 mod point;
 mod seat;
+mod finished;
 mod follows;
 mod setup;
 mod step;

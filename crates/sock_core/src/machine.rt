@@ -8,13 +8,15 @@ ghost use Rattle.sock_runs.specs.Sound.{IsWithinLimits};
 ghost use Rattle.sock_programs.specs.Cores.{ticked, run};
 ghost use Rattle.sock_programs.specs.Runs.{next_kind, IsAtRest, IsSettled, rounds, from_to};
 ghost use Rattle.sock_core.specs.Machines.{MachineState, core_in, steps_left, ending_by};
+ghost use Rattle.sock_core.specs.Finish.{told_from};
 ghost use Rattle.sock_core.specs.Runs.{TickIs, PlayedOn, RanFirst, Settled};
 
+use crate::finished::{Finished, gather};
 use crate::setup::{Parts, parts_of};
 use crate::tables::Tables;
 use sock_io::{Ends, In, Linker, NoMemory, Out, Peer};
 use sock_programs::Task;
-use sock_words::{Kind, Outcome, Plan};
+use sock_words::{Kind, Outcome, PlaceWord, Plan};
 use std::alloc::Global;
 use std::collections::VecDeque;
 use std::marker::Model;
@@ -55,18 +57,20 @@ pub enum Tick {
 #[derive(Drop)]
 pub struct Machine<O: Out, I: In, P: Peer> {
     tables: Tables<O, I, P>,
+    /// Room for the outcomes of `finish`.
     told: Vec<(u16, Outcome)>,
+    places: Vec<PlaceWord>,
 }
 
 impl<O: Out, I: In, P: Peer> Model for Machine<O, I, P> {
-    ghost use Rattle.std.specs.Prelude.{vec_capacity};
+    ghost use Rattle.std.specs.Prelude.{◌≡◌, [], vec_capacity};
     ghost use Rattle.sock_core.specs.Machines.{MachineState, IsMachine};
 
     ghost Value = { MachineState };
 
     ghost view = { λ m. m.tables };
 
-    ghost invariant = { λ m. IsMachine m.tables (vec_capacity m.told) };
+    ghost invariant = { λ m. IsMachine m.tables (vec_capacity m.told) × (m.told.items ≡ []) × (m.places.items ≡ []) };
 }
 
 impl<O: Out, I: In, P: Peer> Machine<O, I, P> {
@@ -112,7 +116,11 @@ impl<O: Out, I: In, P: Peer> Machine<O, I, P> {
             opens,
             outcomes,
         };
-        Ok(Machine { tables, told })
+        Ok(Machine {
+            tables,
+            told,
+            places: Vec::new(alloc),
+        })
     }
 
     /// A step of any seat, and its kind; none where the seat has no step left.
@@ -229,5 +237,25 @@ impl<O: Out, I: In, P: Peer> Machine<O, I, P> {
         self.play_on()?;
         self.begin_ending();
         self.run_first()
+    }
+
+    /// Takes the machine apart: the outcomes so far, and the links.
+    pub fn finish(self) -> Finished<O, I, P>
+        ensures outcomes { result.outcomes.items ≡ told_from 0 self.outcomes }
+        ensures places { result.places.items ≡ [] }
+        ensures ends { map (λ (e : _). end_of (O.state e.out) (I.state e.inn)) result.ends.items ≡ self.ends }
+    {
+        let Machine {
+            tables,
+            mut told,
+            places,
+        } = self;
+        let Tables { ends, outcomes, .. } = tables;
+        gather(&mut told, outcomes);
+        Finished {
+            outcomes: told,
+            places,
+            ends,
+        }
     }
 }

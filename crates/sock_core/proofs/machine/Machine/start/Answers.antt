@@ -9,8 +9,8 @@ pub invariant_of-result : goal.invariant_of-result
 invariant_of-result g c =
     let a = length_map (λ tasks. tasks.items) c.args.clients.items in
     let b = length_map (λ e. (g.O.Out.state e.out).finished) c.args.ends.items in
-    is_machine c.args.plan.now (map (λ tasks. tasks.items) c.args.clients.items) _ _ refl c.in-Ok.ensures.parts (all_map (λ e. (g.O.Out.state e.out).finished) c.args.ends.items c.requires.fresh)
-      c.requires.tasks c.requires.limits c.requires.plan (omega (arith, c.args.clients.ok, c.requires.seats)) c.requires.few (omega (arith, c.args.ends.ok, c.requires.links)) c.requires.opens
+    (is_machine c.args.plan.now (map (λ tasks. tasks.items) c.args.clients.items) _ _ refl c.in-Ok.ensures.parts (all_map (λ e. (g.O.Out.state e.out).finished) c.args.ends.items c.requires.fresh)
+      c.requires.tasks c.requires.limits c.requires.plan (omega (arith, c.args.clients.ok, c.requires.seats)) c.requires.few (omega (arith, c.args.ends.ok, c.requires.links)) c.requires.opens, c.in-Ok.ensures.told, c.new.ensures.items)
 
 pub returns-clause-core : goal.returns-clause-core
 returns-clause-core g c =
