@@ -1,6 +1,14 @@
 //! All seats on one thread, under any schedule.
 #![tactic(auto)]
 
+mod call;
 mod machine;
-
-pub use machine::{Finished, Machine, NotMade, Tick};
+mod point;
+mod seat;
+mod finished;
+mod follows;
+mod setup;
+mod step;
+mod steps;
+mod table;
+mod tables;
