@@ -6,3 +6,4 @@ pub mod Machines
 pub mod Runs
 pub mod Beginnings
 pub mod Finish
+pub mod Made

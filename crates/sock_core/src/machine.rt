@@ -74,6 +74,49 @@ impl<O: Out, I: In, P: Peer> Model for Machine<O, I, P> {
 }
 
 impl<O: Out, I: In, P: Peer> Machine<O, I, P> {
+    /// The machine of a script without messages and calls, behind its setup, over the links that were opened for it: one
+    /// for each `open`, in order, of which none is finished. Where memory runs out they are given back.
+    pub fn new(
+        alloc: Global,
+        script: &Script,
+        ends: Vec<Ends<O, I, P>>,
+    ) -> Result<Self, NotMade<O, I, P>>
+        requires script { (bytes : List ℕ) × (script_of bytes ≡ Ok script.now) }
+        requires quiet { is_quiet script.now ≡ true }
+        requires links { vec_len ends ≡ length (link_names script.now) }
+        requires fresh { AllByRecursion (λ (e : _). (O.state e.out).finished ≡ false) ends.items }
+        ensures made { IfOk result (λ m. IsMade script.now m) }
+        ensures ends { IfOk result (λ m. m.ends ≡ map (λ (e : _). end_of (O.state e.out) (I.state e.inn)) ends.items) }
+        ensures err { IfErr result (λ e. map (λ (x : _). end_of (O.state x.out) (I.state x.inn)) e.ends.items ≡ map (λ (x : _). end_of (O.state x.out) (I.state x.inn)) ends.items) }
+    {
+        let Ok(wanted) = wanted_of(alloc, script) else {
+            return Err(NotMade { ends });
+        };
+        let Wanted {
+            plan,
+            clients,
+            opens,
+        } = wanted;
+        let machine = Machine::start(alloc, &plan, clients, opens, ends)?;
+        machine.set_up()
+    }
+
+    /// The machine behind its setup.
+    fn set_up(mut self) -> Result<Self, NotMade<O, I, P>>
+        ensures ok { IfOk result (λ m. RanFirst self m) }
+        ensures plan { IfOk result (λ m. m.plan ≡ self.plan) }
+        ensures opens { IfOk result (λ m. m.opens ≡ self.opens) }
+        ensures ends { IfOk result (λ m. m.ends ≡ self.ends) }
+        ensures err { IfErr result (λ e. map (λ (x : _). end_of (O.state x.out) (I.state x.inn)) e.ends.items ≡ self.ends) }
+    {
+        match self.run_first() {
+            Ok(()) => Ok(self),
+            Err(NoMemory) => Err(NotMade {
+                ends: self.finish().ends,
+            }),
+        }
+    }
+
     /// The machine of these clients, each of which stands before its first step. Client 0 is the setup, which opens
     /// sockets alone, and the ending goes over these `open`s. There is one link for each.
     pub fn start(
