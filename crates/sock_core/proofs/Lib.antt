@@ -16,3 +16,4 @@ pub mod Settling
 pub mod Begun
 pub mod Starting
 pub mod Gathering
+pub mod Making

@@ -2,13 +2,17 @@
 #![tactic(auto)]
 
 mod call;
+mod finished;
+mod follows;
 mod machine;
 mod point;
 mod seat;
-mod finished;
-mod follows;
 mod setup;
 mod step;
 mod steps;
 mod table;
 mod tables;
+mod wanted;
+
+pub use finished::Finished;
+pub use machine::{Machine, NotMade, On, Tick};

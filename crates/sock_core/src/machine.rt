@@ -1,9 +1,12 @@
-ghost use Rattle.std.specs.Prelude.{◌≡◌, ℕ, ◌-◌, true, false, ◌<◌, ◌≤◌, ◌∷◌, ◌++◌, [], Some, None, Ok, IfOk, OnOk, OnErr, IfSome, IsSome, IsOk, IfErr, length, map, vec_len, replicate};
+ghost use Rattle.std.specs.Prelude.{◌≡◌, ℕ, List, ◌-◌, true, false, ◌<◌, ◌≤◌, ◌∷◌, ◌++◌, [], Some, None, Ok, IfOk, OnOk, OnErr, IfSome, IsSome, IsOk, IfErr, length, map, vec_len, replicate};
 ghost use Rattle.std.specs.List.{AllByRecursion};
 ghost use Rattle.sock_io.specs.Link.{end_of};
 ghost use Rattle.sock_model.specs.Lawful.{PlanFits};
 ghost use Rattle.sock_programs.specs.Told.{AreTasks};
-ghost use Rattle.sock_programs.specs.Scripts.{beginning, programs};
+ghost use Rattle.brpc_model.specs.Script.{script_of};
+ghost use Rattle.brpc_model.specs.Operations.{link_names};
+ghost use Rattle.sock_programs.specs.Scripts.{beginning, programs, is_quiet};
+ghost use Rattle.sock_core.specs.Made.{IsMade};
 ghost use Rattle.sock_runs.specs.Sound.{IsWithinLimits};
 ghost use Rattle.sock_programs.specs.Cores.{ticked, run};
 ghost use Rattle.sock_programs.specs.Runs.{next_kind, IsAtRest, IsSettled, rounds, from_to};
@@ -14,6 +17,8 @@ ghost use Rattle.sock_core.specs.Runs.{TickIs, PlayedOn, RanFirst, Settled};
 use crate::finished::{Finished, gather};
 use crate::setup::{Parts, parts_of};
 use crate::tables::Tables;
+use crate::wanted::{Wanted, wanted_of};
+use script_items::Script;
 use sock_io::{Ends, In, Linker, NoMemory, Out, Peer};
 use sock_programs::Task;
 use sock_words::{Kind, Outcome, PlaceWord, Plan};
@@ -188,16 +193,18 @@ impl<O: Out, I: In, P: Peer> Machine<O, I, P> {
     /// script doesn't have makes no step. Of a script without messages and calls no seat ever waits.
     pub fn tick<L: Linker<O = O, I = I, P = P>>(
         &mut self,
-        _links: &mut L,
+        links: &mut L,
         seat: u16,
     ) -> Result<Tick, NoMemory>
         ensures tick { IfOk result (λ tick. TickIs seat tick (next_kind (core_in self.old) seat)) }
         ensures moved { (kind : _) → result ≡ Ok (Tick.Moved kind) → core_in self.new ≡ ticked self.old.plan (core_in self.old) seat }
+        ensures fewer { (kind : _) → result ≡ Ok (Tick.Moved kind) → steps_left self.new < steps_left self.old }
         ensures idle { result ≡ Ok Tick.Idle → self.new ≡ self.old }
         ensures rest { IsAtRest (core_in self.old) 0 → IsAtRest (core_in self.new) 0 }
         ensures plan { self.new.plan ≡ self.old.plan }
         ensures opens { self.new.opens ≡ self.old.opens }
         ensures ends { self.new.ends ≡ self.old.ends }
+        ensures links { links.new ≡ links.old }
         ensures err { OnErr result (self.new ≡ self.old) }
     {
         if seat == 0 {
@@ -270,11 +277,12 @@ impl<O: Out, I: In, P: Peer> Machine<O, I, P> {
 
     /// Plays the script to its end: rounds of one tick for each client until none of them moves, and then the ending by
     /// seat 0, which goes over each `open`. It always returns, and no seat has a step left then.
-    pub fn settle<L: Linker<O = O, I = I, P = P>>(&mut self, _links: &mut L) -> Result<(), NoMemory>
+    pub fn settle<L: Linker<O = O, I = I, P = P>>(&mut self, links: &mut L) -> Result<(), NoMemory>
         requires { IsAtRest (core_in self.old) 0 }
         ensures settled { OnOk result (Settled self.old self.new) }
         ensures plan { self.new.plan ≡ self.old.plan }
         ensures ends { self.new.ends ≡ self.old.ends }
+        ensures links { links.new ≡ links.old }
     {
         let _ = self.seats();
         self.play_on()?;

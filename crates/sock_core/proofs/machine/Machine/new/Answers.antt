@@ -1,0 +1,26 @@
+use Rattle.std.proofs.Common.{sym, ◌∙◌}
+use Rattle.std.proofs.lemmas.List.{length-map}
+use Rattle.sock_core.proofs.Making.{are_tasks, are_within, fits_table, as_many_seats, few_seats, own_opens, made_of}
+use Rattle.sock_core.proofs.machine.Machine.new.Goals as goal
+
+pub start-requires-clause-tasks : goal.start-requires-clause-tasks
+start-requires-clause-tasks g c = are_tasks c.args.script.now c.requires.script _ c.in-Ok.ensures.plan _ c.in-Ok.ensures.clients
+
+pub start-requires-clause-limits : goal.start-requires-clause-limits
+start-requires-clause-limits g c = are_within c.args.script.now c.requires.script _ c.in-Ok.ensures.plan
+
+pub start-requires-clause-plan : goal.start-requires-clause-plan
+start-requires-clause-plan g c = fits_table c.args.script.now c.requires.script _ c.in-Ok.ensures.plan
+
+pub start-requires-clause-seats : goal.start-requires-clause-seats
+start-requires-clause-seats g c = c.in-Ok.wanted.clients.ok.0 ∙ (sym (length-map c.in-Ok.wanted.clients.items (λ tasks. tasks.items)) ∙ as_many_seats c.args.script.now c.requires.script _ c.in-Ok.ensures.plan _ c.in-Ok.ensures.clients)
+
+pub start-requires-clause-few : goal.start-requires-clause-few
+start-requires-clause-few g c = few_seats c.args.script.now c.requires.script _ c.in-Ok.ensures.plan
+
+pub start-requires-clause-opens : goal.start-requires-clause-opens
+start-requires-clause-opens g c = own_opens c.args.script.now c.requires.script _ c.in-Ok.ensures.plan _ c.in-Ok.ensures.opens
+
+pub returns-clause-made : goal.returns-clause-made
+returns-clause-made g c = made_of c.args.script.now c.in-Ok.wanted.plan _ c.in-Ok.wanted.opens.items c.in_ok-machine.machine c.set_up.result c.in-Ok.ensures.plan c.in-Ok.ensures.clients c.in-Ok.ensures.opens
+    c.in_ok-machine.ensures.core c.in_ok-machine.ensures.plan c.in_ok-machine.ensures.opens c.set_up.ensures.ok c.set_up.ensures.plan c.set_up.ensures.opens
