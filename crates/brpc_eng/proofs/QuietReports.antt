@@ -12,6 +12,7 @@ use Rattle.quiet_fits.proofs.Sizes.{link_count}
 use Rattle.quiet_runs.proofs.Runs.{run_fits}
 use Rattle.script_run.specs.Given.{IsUntouched, AreUntouched}
 use Rattle.script_run.specs.Played.{IsRunText}
+use Rattle.script_run.proofs.OneRun.{one_text}
 use Rattle.brpc_eng.specs.Answers as answer
 
 -- an untouched link took and gave nothing
@@ -39,7 +40,7 @@ pub ran_quiet : (bytes : List ℕ) (script : List Item) (text text' : List ℕ) 
 ran_quiet bytes script text text' out links status reads quiet ran untouched count t wrote =
     let core = ran.0 in
     let fits = run_fits bytes script reads core ran.1 quiet links.ends (quiet_ends script links.ends untouched count) in
-    answer.Reported text' (λ p. subst (λ x. FitsWhole script x links.ends nothing_late) (sym (t ∙ ran.2)) fits) (λ q. (core, ran.1, t ∙ ran.2)) wrote
+    answer.Reported text' (λ p. subst (λ x. FitsWhole script x links.ends nothing_late) (sym (t ∙ ran.2)) fits) (λ q. let told : IsRunText script text' = (core, ran.1, t ∙ ran.2) in (told, λ other k. one_text script other text' k told)) wrote
 
 pub ran_as : (read script : List Item) (out : answer.Output) (links : answer.Links) (status : ℕ) → read ≡ script → answer.Ran read out links status → answer.Ran script out links status
 ran_as read script out links status e ran = subst (λ s. answer.Ran s out links status) e ran

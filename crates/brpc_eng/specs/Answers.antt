@@ -80,9 +80,9 @@ abbrev pub IsReport : Links → List Item → List ℕ → Type 0
 IsReport links script text = links.prompt ≡ true → FitsWhole script text links.ends nothing_late
 
 -- the text of a script without messages and calls is that of its run: the setup first, then the ticks of its schedule, then
--- rounds until no client has a step left, then the ending; it has the outcomes of that run and no other
+-- rounds until no client has a step left, then the ending; and no other text is
 abbrev pub IsTextOfRun : List Item → List ℕ → Type 0
-IsTextOfRun script text = is_quiet script ≡ true → IsRunText script text
+IsTextOfRun script text = is_quiet script ≡ true → IsRunText script text × ((other : List ℕ) → IsRunText script other → other ≡ text)
 
 -- the text was written, or the sink failed behind a beginning of it
 abbrev pub TextWritten : Output → List ℕ → ℕ → Type 0

@@ -94,6 +94,31 @@ fn answers_scripts(rt: HostRuntime) -> Result<(), Fail> {
     Ok(())
 }
 
+/// A script of sockets alone: the slot is given again once its first life is given back, with its next version.
+#[test]
+fn reuses_a_slot(rt: HostRuntime) -> Result<(), Fail> {
+    let script = "slots 1\nopen a\nclient\nhold a\nfail a 1500\nopen b\ndrop a\nopen c\nhold a\n";
+    let text =
+        "0.1 open 0 0 0\n1.1 held\n1.2 failed\n1.3 slots full\n1.4 freed\n1.5 open 0 2 2\n1.6 gone 0000000200000001\nlink 0 a accepted 0 placed 0 took 0 -\norder 0\nlink 1 b accepted 0 placed 0 took 0 -\norder 1\nlink 2 c accepted 0 placed 0 took 0 -\norder 2\nend\n";
+    let (answered, written) = answer(&rt, "replay", script.as_bytes(), CALM)?;
+    assert_eq!(rt; answered, 0);
+    assert_eq!(rt; written.as_slice(), text.as_bytes());
+    Ok(())
+}
+
+/// A script with a schedule: the second hold of one client comes between the steps by which the other fails the socket.
+#[test]
+fn follows_a_schedule(rt: HostRuntime) -> Result<(), Fail> {
+    let script =
+        "open a\nclient\nhold a\nfail a 1500\ndrop a\nclient\nhold a\nsched\nto 1 A5\nto 1 A4\nto 1 A4\nto 1 A4\nto 2 A3\nto 1 A6\n";
+    let text =
+        "0.1 open 0 0 0\n1.1 held\n1.2 failed\n1.3 kept\n2.1 gone 0000000100000000\nlink 0 a accepted 0 placed 0 took 0 -\norder 0\nend\n";
+    let (answered, written) = answer(&rt, "replay", script.as_bytes(), CALM)?;
+    assert_eq!(rt; answered, 0);
+    assert_eq!(rt; written.as_slice(), text.as_bytes());
+    Ok(())
+}
+
 /// Words, with the status.
 const WORDS: [(&str, u8); 17] = [
     ("--help", 2),

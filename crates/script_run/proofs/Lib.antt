@@ -1,3 +1,4 @@
 pub mod Numbering
 pub mod Playing
 pub mod Running
+pub mod OneRun

@@ -1,5 +1,5 @@
 -- Ticks of one seat, and the lines of a schedule, one after another.
-use Rattle.std.proofs.Common.{◌≡◌, ◌≢◌, ℕ, zero, suc, ◌+◌, ◌-◌, ◌≤◌, inl, inr, List, [], ◌∷◌, ◌++◌, map, take, get_or, length, replicate, Option, Some, None, ap, sym, subst, refl, ◌∙◌, append_assoc, append-nil, arith, slice_set, min, leb, is_some, Result, Ok, Err, OnOk, true, false, ◌<◌}
+use Rattle.std.proofs.Common.{◌≡◌, ◌≢◌, ℕ, zero, suc, ◌+◌, ◌-◌, ◌≤◌, inl, inr, List, [], ◌∷◌, ◌++◌, map, take, get_or, length, replicate, Option, Some, None, ap, sym, subst, refl, ◌∙◌, append_assoc, append-nil, arith, min, leb, is_some, Result, Ok, Err, OnOk, true, false, ◌<◌}
 use Rattle.std.proofs.lemmas.List.Sums.{fold-append}
 use Rattle.std.proofs.lemmas.List.{replicate-append-replicate, length-set, take_more}
 use Rattle.std.proofs.lemmas.Bool.{leb-false, leb-true}
@@ -8,7 +8,7 @@ use Rattle.script_items.specs.Meaning.{item, seat_of}
 use Rattle.script_items.specs.declared.line.Line.{Line}
 use Rattle.script_items.specs.declared.line.Line.TheVariants as lines
 use Rattle.script_items.specs.declared.line.Seat.{Seat}
-use Rattle.sock_core.specs.Machines.{MachineState, SameTable}
+use Rattle.sock_core.specs.Machines.{MachineState}
 use Rattle.script_run.proofs.Numbering.{map_more}
 use Rattle.std.proofs.lemmas.List.Elements.{filter_map-append}
 use mathlib.Core.Option as core
@@ -21,7 +21,7 @@ use Rattle.brpc_model.specs.Operations.{Turn, turn_of, schedule, seat_number}
 use Rattle.sock_programs.specs.Programs.{Program, Do, Say, Rest}
 use Rattle.sock_programs.specs.Cores.{Core, SeatState, ticked, tick_of, run}
 use Rattle.sock_programs.specs.Runs.{next_kind, kind_in, IsAtRest, LeadsUpTo, Turns, Scheduled}
-use Rattle.script_run.specs.Played.{IsPlayable, AreOthers, HasOthersOnly, HasPlayed, HasPlayedAll}
+use Rattle.script_run.specs.Played.{SameTable, IsPlayable, AreOthers, HasOthersOnly, HasPlayed, HasPlayedAll}
 
 -- ## One tick
 
@@ -65,24 +65,7 @@ pub stopped : (p : Plan) (n k : ℕ) (start mid now : Core) (i : ℕ) (kind : Op
 stopped p n k start mid now i None within at rest none t = t ∙ rests p mid i rest ∙ stops p n k start mid i (omega (arith, within)) at rest
 stopped p n k start mid now i (Some kind) within at rest none t = cc
 
--- a tick of another seat leaves seat 0 where it is
-first_kept : (seats : List SeatState) (j : ℕ) (x : SeatState) → get_elem? (slice_set seats (suc j) x) 0 ≡ get_elem? seats 0
-first_kept [] j x = refl
-first_kept (s ∷ ss) j x = refl
-
-first_at : (p : Plan) (j : ℕ) (seat : SeatState) (program : Program) (c : Core) → get_elem? (tick_of p (suc j) seat program c).seats 0 ≡ get_elem? c.seats 0
-first_at p j seat (Do call next) c = first_kept c.seats j _
-first_at p j seat (Say o outcome next) c = refl
-first_at p j seat Rest c = refl
-
-first_there : (p : Plan) (j : ℕ) (c : Core) (o : core.Option SeatState) → get_elem? (elim o as (λ o. Core) [ core.none ↦ c | core.some seat ↦ tick_of p (suc j) seat seat.program c ]).seats 0 ≡ get_elem? c.seats 0
-first_there p j c core.none = refl
-first_there p j c (core.some seat) = first_at p j seat seat.program c
-
-pub first_rests : (p : Plan) (c : Core) (i : ℕ) → i ≢ 0 → IsAtRest c 0 → IsAtRest (ticked p c i) 0
-first_rests p c zero h r = absurd (h refl)
-first_rests p c (suc j) h r = ap (λ (o : core.Option SeatState). elim o as (λ o. Option Kind) [ core.none ↦ None | core.some seat ↦ kind_in seat.program ]) (first_there p j c (get_elem? c.seats (suc j))) ∙ r
-
+-- a tick leaves as many seats as there were
 as_many_at : (p : Plan) (i : ℕ) (seat : SeatState) (program : Program) (c : Core) → length (tick_of p i seat program c).seats ≡ length c.seats
 as_many_at p i seat (Do call next) c = length-set c.seats i _
 as_many_at p i seat (Say o outcome next) c = refl
@@ -99,10 +82,6 @@ pub run_as_many : (p : Plan) (c : Core) (seats : List ℕ) → length (run p c s
 run_as_many p c [] = refl
 run_as_many p c (i ∷ is) = run_as_many p (ticked p c i) is ∙ as_many p c i
 
--- what a tick keeps
-pub playable_on : (p : Plan) (old new : Core) (i : ℕ) → i ≢ 0 → IsPlayable old → new ≡ ticked p old i → IsPlayable new
-playable_on p old new i other h e = subst IsPlayable (sym e) (record { at_rest = first_rests p old i other h.at_rest; few = omega (arith, h.few, as_many p old i) })
-
 -- ## Seats that there aren't
 
 beyond_in : (seats : List SeatState) (i : ℕ) → length seats ≤ i → get_elem? seats i ≡ core.none
@@ -110,7 +89,7 @@ beyond_in [] i h = refl
 beyond_in (s ∷ ss) zero h = absurd (omega arith)
 beyond_in (s ∷ ss) (suc i) h = beyond_in ss i (omega arith)
 
-beyond : (c : Core) (i : ℕ) → length c.seats ≤ i → IsAtRest c i
+pub beyond : (c : Core) (i : ℕ) → length c.seats ≤ i → IsAtRest c i
 beyond c i h = ap (λ (o : core.Option SeatState). elim o as (λ o. Option Kind) [ core.none ↦ None | core.some seat ↦ kind_in seat.program ]) (beyond_in c.seats i h)
 
 -- a seat whose number is too high is as idle as that of the highest number

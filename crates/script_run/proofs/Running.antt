@@ -11,9 +11,10 @@ use Rattle.sock_programs.specs.Cores.{Core, run}
 use Rattle.sock_programs.specs.Runs.{IsAtRest, IsSettled, rounds, Scheduled}
 use Rattle.sock_programs.specs.Scripts.{IsRunOf, set_up, opened, played, ending, told, all_tasks, tasks_from, programs}
 use Rattle.sock_programs.specs.Tasks.{plan_of}
-use Rattle.sock_core.specs.Machines.{MachineState, core_in, IsMade, SameTable, IsSettling, ending_by}
+use Rattle.sock_core.specs.Machines.{MachineState, core_in, ending_by}
+use Rattle.sock_core.specs.Runs.{Settled}
 use Rattle.script_report.specs.Quiet as printed
-use Rattle.script_run.specs.Played.{IsPlayable, HasPlayedAll, IsRunText}
+use Rattle.script_run.specs.Played.{IsMade, SameTable, IsPlayable, HasPlayedAll, IsRunText}
 use Rattle.script_run.proofs.Playing.{run_as_many, ran_on}
 
 -- ## Seats
@@ -31,12 +32,12 @@ many_seats script n =
     ∙ many_tasks script 0 (clients script + 1)
 
 pub playable_of : (script : List Item) (machine : MachineState) → IsMade script machine → clients script ≤ 31 → IsPlayable (core_in machine)
-playable_of script machine made few = record { at_rest = made.at_rest; few = omega (arith, few, ap (λ (c : Core). length c.seats) made.core ∙ many_seats script made.setup) }
+playable_of script machine made few = record { at_rest = made.at_rest; few = omega (arith, few, ap (λ (c : Core). length c.seats) made.setup.1 ∙ many_seats script made.setup.0) }
 
 -- ## The whole run
 
 module _ (script : List Item) (start mid end_ : MachineState) (made : IsMade script start) (same : SameTable start mid)
-    (all : HasPlayedAll start.plan (schedule script) (core_in start) (core_in mid)) (settled : IsSettling mid end_) where
+    (all : HasPlayedAll start.plan (schedule script) (core_in start) (core_in mid)) (settled : Settled mid end_) where
   plan : mid.plan ≡ plan_of script
   plan = same.plan ∙ made.plan
 
@@ -44,31 +45,31 @@ module _ (script : List Item) (start mid end_ : MachineState) (made : IsMade scr
   count = ap (λ (p : Plan). p.seats - 1) plan ∙ (let e : (clients script + 1) - 1 ≡ clients script = omega arith in e)
 
   -- the core behind the rounds
-  rounded : run mid.plan (core_in mid) (rounds settled.more (mid.plan.seats - 1)) ≡ played script made.setup (all.seats ++ rounds settled.more (clients script))
+  rounded : run mid.plan (core_in mid) (rounds settled.more (mid.plan.seats - 1)) ≡ played script made.setup.0 (all.seats ++ rounds settled.more (clients script))
   rounded =
       ap (λ p. run p (core_in mid) (rounds settled.more (mid.plan.seats - 1))) plan
       ∙ ap (λ n. run (plan_of script) (core_in mid) (rounds settled.more n)) count
-      ∙ ap (λ c. run (plan_of script) c (rounds settled.more (clients script))) (all.ran ∙ ap (λ p. run p (core_in start) all.seats) made.plan ∙ ap (λ c. run (plan_of script) c all.seats) made.core)
-      ∙ sym (ran_on (plan_of script) (set_up script made.setup) all.seats (rounds settled.more (clients script)))
+      ∙ ap (λ c. run (plan_of script) c (rounds settled.more (clients script))) (all.ran ∙ ap (λ p. run p (core_in start) all.seats) made.plan ∙ ap (λ c. run (plan_of script) c all.seats) made.setup.1)
+      ∙ sym (ran_on (plan_of script) (set_up script made.setup.0) all.seats (rounds settled.more (clients script)))
 
   pub run_of : IsRunOf script (core_in end_)
   run_of = record {
-    setup = made.setup;
-    is_set_up = subst (λ (c : Core). IsAtRest c 0) made.core made.at_rest;
+    setup = made.setup.0;
+    is_set_up = subst (λ (c : Core). IsAtRest c 0) made.setup.1 made.at_rest;
     scheduled = all.seats;
-    by_schedule = subst (λ (c : Core). Scheduled (plan_of script) c (schedule script) all.seats) made.core (subst (λ p. Scheduled p (core_in start) (schedule script) all.seats) made.plan all.scheduled);
+    by_schedule = subst (λ (c : Core). Scheduled (plan_of script) c (schedule script) all.seats) made.setup.1 (subst (λ p. Scheduled p (core_in start) (schedule script) all.seats) made.plan all.scheduled);
     more = settled.more;
-    is_settled = subst IsSettled rounded settled.is_settled;
+    is_settled = subst IsSettled rounded settled.calm;
     last = settled.last;
-    is_end = settled.ended
+    is_end = settled.core
         ∙ ap (λ p. run p (ending_by mid.opens (run mid.plan (core_in mid) (rounds settled.more (mid.plan.seats - 1)))) (replicate settled.last 0)) plan
         ∙ ap (λ os. run (plan_of script) (ending_by os (run mid.plan (core_in mid) (rounds settled.more (mid.plan.seats - 1)))) (replicate settled.last 0)) (same.opens ∙ made.opens)
         ∙ ap (λ (c : Core). run (plan_of script) (ending script c) (replicate settled.last 0)) rounded;
-    is_ended = settled.is_ended;
+    is_ended = settled.ended;
   }
 
 pub run_answered : {E : Type 0} (script : List Item) (start mid end_ : MachineState) (r : Result (Unit {0}) E) → IsMade script start → SameTable start mid →
-    HasPlayedAll start.plan (schedule script) (core_in start) (core_in mid) → OnOk r (IsSettling mid end_) → OnOk r (IsRunOf script (core_in end_))
+    HasPlayedAll start.plan (schedule script) (core_in start) (core_in mid) → OnOk r (Settled mid end_) → OnOk r (IsRunOf script (core_in end_))
 run_answered script start mid end_ (Ok done) made same all settled = run_of script start mid end_ made same all settled
 run_answered script start mid end_ (Err e) made same all settled = tt
 

@@ -8,7 +8,21 @@ use Rattle.brpc_model.specs.Operations.{Turn}
 use Rattle.brpc_model.specs.Report.{report_text}
 use Rattle.sock_programs.specs.Cores.{Core, ticked, run}
 use Rattle.sock_programs.specs.Runs.{next_kind, IsAtRest, Turns, Scheduled}
-use Rattle.sock_programs.specs.Scripts.{IsRunOf, report_of}
+use Rattle.sock_programs.specs.Scripts.{IsRunOf, set_up, report_of}
+use Rattle.sock_programs.specs.Tasks.{plan_of, opens}
+use Rattle.sock_core.specs.Machines.{MachineState, core_in}
+
+-- the machine stands behind the setup of the script
+pub record IsMade (script : List Item) (machine : MachineState) : Type 0 where
+  pub plan : machine.plan ≡ plan_of script
+  pub opens : machine.opens ≡ opens script
+  pub setup : (n : ℕ) × (core_in machine ≡ set_up script n)
+  pub at_rest : IsAtRest (core_in machine) 0
+
+-- the sizes of the table are the same, and what the ending goes over
+pub record SameTable (old new : MachineState) : Type 0 where
+  pub plan : new.plan ≡ old.plan
+  pub opens : new.opens ≡ old.opens
 
 -- the seats that one line of a script has tick, none where it isn't a line of the schedule
 abbrev pub HasTurns : Plan → Core → Option Turn → List ℕ → Type 0

@@ -9,9 +9,9 @@ ghost use Rattle.script_items.specs.Meaning.{item};
 ghost use Rattle.sock_io.specs.Causes.{Rose};
 ghost use Rattle.sock_io.specs.Link.{end_of};
 ghost use Rattle.sock_programs.specs.Scripts.{is_quiet, IsRunOf};
-ghost use Rattle.sock_core.specs.Machines.{core_in, IsMade};
+ghost use Rattle.sock_core.specs.Machines.{core_in};
 ghost use Rattle.script_run.specs.Given.{AreUntouched, has_piece};
-ghost use Rattle.script_run.specs.Played.{IsRunText};
+ghost use Rattle.script_run.specs.Played.{IsMade, IsRunText};
 
 use crate::links::{give_back, open_links};
 use crate::schedule::play_schedule;
@@ -47,6 +47,7 @@ pub fn run_quiet<L: Linker>(
     requires opened { L.opened links.old ≡ 0 }
     requires back { L.back links.old ≡ [] }
     ensures text { IfOk result (λ text. IsRunText script.now text.items) }
+    ensures only { IfOk result (λ text. (other : List ℕ) → IsRunText script.now other → other ≡ text.items) }
     ensures untouched { AreUntouched 0 (L.back links.new) }
     ensures all { OnOk result (length (L.back links.new) ≡ count_by is_open script.now) }
     ensures opened { L.opened links.new ≡ length (L.back links.new) }

@@ -4,8 +4,8 @@ ghost use Rattle.sock_programs.specs.Runs.{next_kind, LeadsUpTo};
 ghost use Rattle.brpc_model.specs.Operations.{seat_number, turn_of, schedule};
 ghost use Rattle.script_items.specs.Meaning.{item, seat_of};
 ghost use Rattle.sock_words.specs.KindText.{kind_text};
-ghost use Rattle.sock_core.specs.Machines.{core_in, steps_left, SameTable};
-ghost use Rattle.script_run.specs.Played.{IsPlayable, HasPlayed, HasPlayedAll};
+ghost use Rattle.sock_core.specs.Machines.{core_in, steps_left};
+ghost use Rattle.script_run.specs.Played.{SameTable, IsPlayable, HasPlayed, HasPlayedAll};
 
 use script_items::{Line, Seat};
 use sock_core::{Machine, Tick};
@@ -42,7 +42,7 @@ fn tick_seat<L: Linker>(
 {
     match machine.tick(links, seat)? {
         Tick::Moved(kind) => Ok(Some(kind)),
-        Tick::Waits | Tick::Idle => Ok(None),
+        Tick::Waits(_) | Tick::Idle => Ok(None),
     }
 }
 

@@ -1,8 +1,8 @@
 use Rattle.std.proofs.Common.{◌≡◌, map, take}
 use Rattle.brpc_model.specs.Operations.{schedule}
 use Rattle.script_items.specs.Meaning.{item}
-use Rattle.sock_core.specs.Machines.{core_in, SameTable}
-use Rattle.script_run.specs.Played.{IsPlayable, HasPlayedAll}
+use Rattle.sock_core.specs.Machines.{core_in}
+use Rattle.script_run.specs.Played.{SameTable, IsPlayable, HasPlayedAll}
 use Rattle.script_run.proofs.schedule.play_schedule.Given as goal
 
 abbrev pub invariant-loop-line : goal.invariant-loop-line

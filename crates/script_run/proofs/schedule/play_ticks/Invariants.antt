@@ -1,7 +1,7 @@
 use Rattle.std.proofs.Common.{◌≡◌, replicate}
 use Rattle.sock_programs.specs.Cores.{run}
-use Rattle.sock_core.specs.Machines.{core_in, SameTable}
-use Rattle.script_run.specs.Played.{IsPlayable}
+use Rattle.sock_core.specs.Machines.{core_in}
+use Rattle.script_run.specs.Played.{SameTable, IsPlayable}
 use Rattle.script_run.proofs.schedule.play_ticks.Given as goal
 
 abbrev pub invariant-loop : goal.invariant-loop

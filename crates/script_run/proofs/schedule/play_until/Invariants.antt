@@ -1,7 +1,7 @@
 use Rattle.std.proofs.Common.{◌≡◌}
 use Rattle.sock_words.specs.KindText.{kind_text}
-use Rattle.sock_core.specs.Machines.{core_in, steps_left, SameTable}
-use Rattle.script_run.specs.Played.{IsPlayable, HasOthersOnly}
+use Rattle.sock_core.specs.Machines.{core_in, steps_left}
+use Rattle.script_run.specs.Played.{SameTable, IsPlayable, HasOthersOnly}
 use Rattle.script_run.proofs.schedule.play_until.Given as goal
 
 abbrev pub invariant-loop-moved : goal.invariant-loop-moved
