@@ -1,7 +1,8 @@
 -- A machine that is made for a script.
-use Rattle.std.proofs.Common.{◌≡◌, ℕ, ◌+◌, ◌<◌, ◌≤◌, List, length, map, refl, sym, ap, ◌∙◌, subst, arith, Result, Ok, Err, IfOk, replicate}
+use Rattle.std.proofs.Common.{◌≡◌, ℕ, ◌+◌, ◌<◌, ◌≤◌, List, length, map, refl, sym, ap, ◌∙◌, subst, arith, Result, Ok, Err, IfOk, replicate, [], ◌∷◌, flat_map, Option, Some, None}
 use Rattle.std.specs.List.{AllByRecursion}
 use Rattle.sock_words.specs.declared.plain.Plan.{Plan}
+use Rattle.sock_words.specs.declared.outcome.Outcome.{Outcome}
 use Rattle.brpc_model.specs.Items.{Item}
 use Rattle.brpc_model.specs.Script.{script_of}
 use Rattle.brpc_model.specs.Operations.{clients}
@@ -9,7 +10,7 @@ use Rattle.sock_model.specs.Lawful.{PlanFits}
 use Rattle.sock_programs.specs.declared.task.Task.{Task}
 use Rattle.sock_programs.specs.Cores.{Core, run}
 use Rattle.sock_programs.specs.Runs.{IsAtRest}
-use Rattle.sock_programs.specs.Scripts.{all_tasks, beginning, programs, opened, set_up}
+use Rattle.sock_programs.specs.Scripts.{all_tasks, beginning, programs, opened, set_up, told}
 use Rattle.sock_programs.specs.Tasks.{opens, plan_of}
 use Rattle.sock_programs.specs.Told.{AreTasks}
 use Rattle.sock_runs.specs.Sound.{IsWithinLimits}
@@ -21,7 +22,7 @@ use Rattle.quiet_runs.proofs.Lengths.{opens_in_range}
 use Rattle.quiet_runs.proofs.Starts.{within_limits}
 use Rattle.sock_core.specs.Machines.{MachineState, core_in}
 use Rattle.sock_core.specs.Runs.{RanFirst}
-use Rattle.sock_core.specs.Made.{IsMade}
+use Rattle.sock_core.specs.Finish.{told_from}
 
 abbrev pub Reads : List Item → Type 0
 Reads script = (bytes : List ℕ) × (script_of bytes ≡ Ok script)
@@ -48,17 +49,31 @@ module _ (script : List Item) (reads : Reads script) (p : Plan) (is : p ≡ plan
   pub own_opens : (os : List ℕ) → os ≡ opens script → AllByRecursion (λ (o : ℕ). o < p.operations) os
   own_opens os e = subst (λ (q : Plan). AllByRecursion (λ (o : ℕ). o < q.operations) os) (sym is) (subst (AllByRecursion (λ (o : ℕ). o < (plan_of script).operations)) (sym e) (opens_in_range script))
 
--- it is made once its setup has been done
-pub made_of : {E : Type 0} (script : List Item) (p : Plan) (ts : List (List Task)) (os : List ℕ) (start : MachineState) (r : Result MachineState E) → p ≡ plan_of script → ts ≡ all_tasks script → os ≡ opens script
-    → core_in start ≡ beginning p (programs p.slots ts) → start.plan ≡ p → start.opens ≡ os
-    → IfOk r (RanFirst start) → IfOk r (λ m. m.plan ≡ start.plan) → IfOk r (λ m. m.opens ≡ start.opens) → IfOk r (IsMade script)
-made_of script p ts os start (Err e) is tasks numbers core plan own ran kept same = tt
-made_of script p ts os start (Ok m) is tasks numbers core plan own ran kept same =
-    let begun : core_in start ≡ opened script = core ∙ (ap (λ (q : Plan). beginning q (programs q.slots ts)) is ∙ ap (λ l. beginning (plan_of script) (programs (plan_of script).slots l)) tasks) in
-    let sized : start.plan ≡ plan_of script = plan ∙ is in record {
-      plan = kept ∙ sized;
-      opens = same ∙ (own ∙ numbers);
-      setup = ran.steps;
-      core = ran.core ∙ (ap (λ q. run q (core_in start) (replicate ran.steps 0)) sized ∙ ap (λ c. run (plan_of script) c (replicate ran.steps 0)) begun);
-      at_rest = ran.still;
-    }
+module _ (script : List Item) (p : Plan) (ts : List (List Task)) (os : List ℕ) (start : MachineState) (is : p ≡ plan_of script) (tasks : ts ≡ all_tasks script) (numbers : os ≡ opens script)
+    (core : core_in start ≡ beginning p (programs p.slots ts)) (plan : start.plan ≡ p) (own : start.opens ≡ os) where
+  -- the machine begins as a run of the script does
+  begun : core_in start ≡ opened script
+  begun = core ∙ (ap (λ (q : Plan). beginning q (programs q.slots ts)) is ∙ ap (λ l. beginning (plan_of script) (programs (plan_of script).slots l)) tasks)
+
+  pub plan_made : {E : Type 0} (r : Result MachineState E) → IfOk r (λ m. m.plan ≡ start.plan) → IfOk r (λ m. m.plan ≡ plan_of script)
+  plan_made (Err e) kept = tt
+  plan_made (Ok m) kept = kept ∙ (plan ∙ is)
+
+  pub opens_made : {E : Type 0} (r : Result MachineState E) → IfOk r (λ m. m.opens ≡ start.opens) → IfOk r (λ m. m.opens ≡ opens script)
+  opens_made (Err e) same = tt
+  opens_made (Ok m) same = same ∙ (own ∙ numbers)
+
+  -- and its setup has been done
+  pub core_made : {E : Type 0} (r : Result MachineState E) → IfOk r (RanFirst start) → IfOk r (λ m. (n : ℕ) × (core_in m ≡ set_up script n))
+  core_made (Err e) ran = tt
+  core_made (Ok m) ran = (ran.steps, ran.core ∙ (ap (λ q. run q (core_in start) (replicate ran.steps 0)) (plan ∙ is) ∙ ap (λ c. run (plan_of script) c (replicate ran.steps 0)) begun))
+
+  pub rest_made : {E : Type 0} (r : Result MachineState E) → IfOk r (RanFirst start) → IfOk r (λ m. IsAtRest (core_in m) 0)
+  rest_made (Err e) ran = tt
+  rest_made (Ok m) ran = ran.still
+
+-- the outcomes without their numbers
+pub told_alone : (n : ℕ) (os : List (Option Outcome)) → map (λ (o : ℕ × Outcome). o.1) (told_from n os) ≡ flat_map told os
+told_alone n [] = refl
+told_alone n (Some o ∷ os) = ap (λ l. o ∷ l) (told_alone (n + 1) os)
+told_alone n (None ∷ os) = told_alone (n + 1) os

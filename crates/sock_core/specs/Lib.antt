@@ -6,4 +6,3 @@ pub mod Machines
 pub mod Runs
 pub mod Beginnings
 pub mod Finish
-pub mod Made

@@ -1,12 +1,12 @@
-ghost use Rattle.std.specs.Prelude.{◌≡◌, ℕ, List, ◌-◌, true, false, ◌<◌, ◌≤◌, ◌∷◌, ◌++◌, [], Some, None, Ok, IfOk, OnOk, OnErr, IfSome, IsSome, IsOk, IfErr, length, map, vec_len, replicate};
+ghost use Rattle.std.specs.Prelude.{◌≡◌, ℕ, List, ◌-◌, true, false, ◌<◌, ◌≤◌, ◌∷◌, ◌++◌, [], Some, None, Ok, IfOk, OnOk, OnErr, IfSome, IsSome, IsOk, IfErr, length, map, flat_map, vec_len, replicate};
 ghost use Rattle.std.specs.List.{AllByRecursion};
 ghost use Rattle.sock_io.specs.Link.{end_of};
 ghost use Rattle.sock_model.specs.Lawful.{PlanFits};
 ghost use Rattle.sock_programs.specs.Told.{AreTasks};
 ghost use Rattle.brpc_model.specs.Script.{script_of};
 ghost use Rattle.brpc_model.specs.Operations.{link_names};
-ghost use Rattle.sock_programs.specs.Scripts.{beginning, programs, is_quiet};
-ghost use Rattle.sock_core.specs.Made.{IsMade};
+ghost use Rattle.sock_programs.specs.Scripts.{beginning, programs, is_quiet, set_up, told};
+ghost use Rattle.sock_programs.specs.Tasks.{plan_of, opens};
 ghost use Rattle.sock_runs.specs.Sound.{IsWithinLimits};
 ghost use Rattle.sock_programs.specs.Cores.{ticked, run};
 ghost use Rattle.sock_programs.specs.Runs.{next_kind, IsAtRest, IsSettled, rounds, from_to};
@@ -88,11 +88,14 @@ impl<O: Out, I: In, P: Peer> Machine<O, I, P> {
     ) -> Result<Self, NotMade<O, I, P>>
         requires script { (bytes : List ℕ) × (script_of bytes ≡ Ok script.now) }
         requires quiet { is_quiet script.now ≡ true }
-        requires links { vec_len ends ≡ length (link_names script.now) }
+        requires links { length ends.items ≡ length (link_names script.now) }
         requires fresh { AllByRecursion (λ (e : _). (O.state e.out).finished ≡ false) ends.items }
-        ensures made { IfOk result (λ m. IsMade script.now m) }
+        ensures plan { IfOk result (λ m. m.plan ≡ plan_of script.now) }
+        ensures opens { IfOk result (λ m. m.opens ≡ opens script.now) }
+        ensures core { IfOk result (λ m. (n : ℕ) × (core_in m ≡ set_up script.now n)) }
+        ensures rest { IfOk result (λ m. IsAtRest (core_in m) 0) }
         ensures ends { IfOk result (λ m. m.ends ≡ map (λ (e : _). end_of (O.state e.out) (I.state e.inn)) ends.items) }
-        ensures err { IfErr result (λ e. map (λ (x : _). end_of (O.state x.out) (I.state x.inn)) e.ends.items ≡ map (λ (x : _). end_of (O.state x.out) (I.state x.inn)) ends.items) }
+        ensures back { IfErr result (λ e. map (λ (x : _). end_of (O.state x.out) (I.state x.inn)) e.ends.items ≡ map (λ (x : _). end_of (O.state x.out) (I.state x.inn)) ends.items) }
     {
         let Ok(wanted) = wanted_of(alloc, script) else {
             return Err(NotMade { ends });
@@ -112,7 +115,7 @@ impl<O: Out, I: In, P: Peer> Machine<O, I, P> {
         ensures plan { IfOk result (λ m. m.plan ≡ self.plan) }
         ensures opens { IfOk result (λ m. m.opens ≡ self.opens) }
         ensures ends { IfOk result (λ m. m.ends ≡ self.ends) }
-        ensures err { IfErr result (λ e. map (λ (x : _). end_of (O.state x.out) (I.state x.inn)) e.ends.items ≡ self.ends) }
+        ensures back { IfErr result (λ e. map (λ (x : _). end_of (O.state x.out) (I.state x.inn)) e.ends.items ≡ self.ends) }
     {
         match self.run_first() {
             Ok(()) => Ok(self),
@@ -198,7 +201,7 @@ impl<O: Out, I: In, P: Peer> Machine<O, I, P> {
     ) -> Result<Tick, NoMemory>
         ensures tick { IfOk result (λ tick. TickIs seat tick (next_kind (core_in self.old) seat)) }
         ensures moved { (kind : _) → result ≡ Ok (Tick.Moved kind) → core_in self.new ≡ ticked self.old.plan (core_in self.old) seat }
-        ensures fewer { (kind : _) → result ≡ Ok (Tick.Moved kind) → steps_left self.new < steps_left self.old }
+        ensures left { (kind : _) → result ≡ Ok (Tick.Moved kind) → steps_left self.new < steps_left self.old }
         ensures idle { result ≡ Ok Tick.Idle → self.new ≡ self.old }
         ensures rest { IsAtRest (core_in self.old) 0 → IsAtRest (core_in self.new) 0 }
         ensures plan { self.new.plan ≡ self.old.plan }
@@ -292,7 +295,8 @@ impl<O: Out, I: In, P: Peer> Machine<O, I, P> {
 
     /// Takes the machine apart: the outcomes so far, and the links.
     pub fn finish(self) -> Finished<O, I, P>
-        ensures outcomes { result.outcomes.items ≡ told_from 0 self.outcomes }
+        ensures numbered { result.outcomes.items ≡ told_from 0 self.outcomes }
+        ensures outcomes { map (λ o. o.1) result.outcomes.items ≡ flat_map told (core_in self).outcomes }
         ensures places { result.places.items ≡ [] }
         ensures ends { map (λ (e : _). end_of (O.state e.out) (I.state e.inn)) result.ends.items ≡ self.ends }
     {
