@@ -1,9 +1,9 @@
 -- Where a program goes on behind each step.
 use Rattle.std.proofs.lemmas.Bool.Decides.{nat_tests}
 use Rattle.sock_words.specs.declared.vref.Vref.{Vref}
-use Rattle.std.proofs.Common.{◌≢◌, ◌≡◌, refl, ℕ, zero, suc, ◌+◌, ◌-◌, ◌<◌, ◌==◌, ◌&&◌, ◌||◌, Bool, true, false, not, nat_le, if◌then◌else◌, ap, sym, ◌∙◌, subst, arith, Some, None, add-one}
-use Rattle.sock_words.specs.Words.{socket_id_slot, socket_id_version, vref_version, vref_nref}
-use Rattle.sock_programs.specs.Programs.{Program, open_from, release, NO_SOCKET}
+use Rattle.std.proofs.Common.{◌≢◌, ◌≡◌, refl, ℕ, suc, ◌+◌, ◌-◌, ◌<◌, ◌==◌, ◌||◌, Bool, true, false, not, sym, arith}
+use Rattle.sock_words.specs.Words.{socket_id_slot, socket_id_version, vref_version}
+use Rattle.sock_programs.specs.Programs.{open_from, release, NO_SOCKET}
 use Rattle.sock_core.specs.declared.point.Opening.{Opening}
 use Rattle.sock_core.specs.declared.point.OpenStep.TheVariants as opens
 use Rattle.sock_core.specs.declared.point.Aim.{Aim}
@@ -12,7 +12,7 @@ use Rattle.sock_core.specs.declared.point.SeekStep.TheVariants as seeks
 use Rattle.sock_core.specs.declared.point.Then.{Then}
 use Rattle.sock_core.specs.declared.point.ReleaseStep.TheVariants as releases
 use Rattle.sock_words.specs.declared.socket_id.SocketId.{SocketId}
-use Rattle.sock_core.specs.Points.{Around, client_on, open_program, seek_program, release_program, reached_program, then_program, gone_then, has_life, after_of, unopened_program}
+use Rattle.sock_core.specs.Points.{Around, client_on, open_program, seek_program, release_program, then_program, gone_then, has_life, after_of}
 
 -- a slot that is left to try is tried
 pub tries : (a : Around) (g : Opening) (slot : ℕ) → slot < a.slots → open_program a g (opens.Claim slot) ≡ open_from (a.slots - slot) slot g.operation g.name g.link (client_on a)

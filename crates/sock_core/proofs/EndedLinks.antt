@@ -1,5 +1,5 @@
 -- The end of a writing half changes nothing of what is told of the link.
-use Rattle.std.proofs.Common.{◌≡◌, refl, ℕ, Bool, true, List, map, slice_set, ap, ◌∙◌}
+use Rattle.std.proofs.Common.{◌≡◌, refl, ℕ, Bool, true, List, map, slice_set}
 use Rattle.std.proofs.lemmas.List.{map-set}
 use Rattle.sock_io.specs.Link.{OutState, InState, FinishStep, end_of}
 

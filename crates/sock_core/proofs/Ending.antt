@@ -1,27 +1,25 @@
 -- The ending: seat 0 begins it, and what the other seats have still to do stays.
-use Rattle.std.proofs.Common.{◌≡◌, ◌≢◌, refl, ℕ, zero, suc, ◌+◌, ◌-◌, ◌<◌, ◌≤◌, List, [], ◌∷◌, ◌++◌, map, length, slice_set, replicate, Option, Some, None, ◌⊎◌, ⊎_elim, ap, sym, ◌∙◌, arith, subst}
+use Rattle.std.proofs.Common.{◌≡◌, refl, ℕ, zero, suc, ◌+◌, ◌<◌, List, [], ◌∷◌, map, length, slice_set, replicate, Option, None, ⊎_elim, ap, sym, ◌∙◌, arith, subst}
 use Rattle.std.proofs.Props.{props}
 use Rattle.std.proofs.Math.Logic.{∥∥₁_elim}
 use Rattle.std.proofs.Math.ListN.{length-set}
 use Rattle.std.proofs.lemmas.List.{map-set}
-use Rattle.std.specs.List.{AllByRecursion}
 use Rattle.atomic_table.proofs.Lists.{at_set, set_else}
 use mathlib.Core.Option as core
 use lib.ListN.{get_elem?}
 use Rattle.sock_words.specs.declared.plain.Plan.{Plan}
 use Rattle.sock_words.specs.declared.outcome.Outcome.{Outcome}
 use Rattle.sock_words.specs.declared.kind.Kind.{Kind}
-use Rattle.sock_model.specs.declared.view.View.{View}
-use Rattle.sock_programs.specs.Programs.{Program, Do, Say, Rest}
+use Rattle.sock_programs.specs.Programs.{Program}
 use Rattle.sock_programs.specs.Clients.{ending_of}
-use Rattle.sock_programs.specs.Cores.{Core, SeatState, said, next_step, with_seat, ticked, run}
-use Rattle.sock_programs.specs.Runs.{next_kind, kind_in, IsAtRest, IsSettled, from_to, rounds}
-use Rattle.sock_runs.specs.Sound.{Sound, IsAhead}
+use Rattle.sock_programs.specs.Cores.{Core, SeatState, said, next_step, ticked, run}
+use Rattle.sock_programs.specs.Runs.{next_kind, kind_in, IsAtRest, from_to, rounds}
+use Rattle.sock_runs.specs.Sound.{IsAhead}
 use Rattle.client_laws.proofs.Opens.{ending_sound}
 use Rattle.sock_core.specs.Points.{link_at}
-use Rattle.sock_core.specs.Seats.{SeatData, around, seat_program}
+use Rattle.sock_core.specs.Seats.{SeatData, around}
 use Rattle.sock_core.specs.Links.{hand_with}
-use Rattle.sock_core.specs.Machines.{MachineState, core_in, core_of, seat_state, ending_by, BeganEnding, HoldsItsLink, HoldTheirLinks, IsMachine, IsSound}
+use Rattle.sock_core.specs.Machines.{MachineState, core_in, seat_state, ending_by, BeganEnding, HoldsItsLink, HoldTheirLinks, IsMachine, IsSound}
 use Rattle.sock_core.proofs.GoingOn.{at_step}
 use Rattle.sock_core.proofs.Keeping.{hold_in}
 use Rattle.sock_core.proofs.Ticked.{other_kind}
@@ -66,9 +64,9 @@ module _ (m fresh : MachineState) (w : BeganEnding m fresh) where
   pub ending_begins : core_in fresh ≡ ending_by m.opens (core_in m)
   ending_begins =
       rw (w.plan, w.words, w.holders, w.dones, w.outcomes, w.seats)
-        (core_is _ _ _ _ _ _ _ refl
-          (map-set (seat_state m.plan.slots m.dones) m.seats 0 w.seat' ∙ ap (slice_set (map (seat_state m.plan.slots m.dones) m.seats) 0) (seat_is _ _ _ _ (w.program m.plan.slots) (ap (hand_with m.dones) w.hand)))
-          (ending_says m.opens m.outcomes))
+      (core_is _ _ _ _ _ _ _ refl
+      (map-set (seat_state m.plan.slots m.dones) m.seats 0 w.seat' ∙ ap (slice_set (map (seat_state m.plan.slots m.dones) m.seats) 0) (seat_is _ _ _ _ (w.program m.plan.slots) (ap (hand_with m.dones) w.hand)))
+      (ending_says m.opens m.outcomes))
 
   hold_begins : HoldTheirLinks m.holders m.seats → HoldTheirLinks m.holders (slice_set m.seats 0 w.seat')
   hold_begins hold j s at = ⊎_elim
@@ -79,7 +77,7 @@ module _ (m fresh : MachineState) (w : BeganEnding m fresh) where
   pub ending_keeps : (room : ℕ) → IsMachine m room → IsAtRest (core_in m) 0 → IsMachine fresh room
   ending_keeps room is rest = record {
     sound = subst (λ (p : Plan). IsSound p (core_in fresh)) (sym w.plan) (subst (IsSound m.plan) (sym ending_begins)
-      (∥∥₁_elim is.opens_are (hlevel props) (λ all. ∥∥₁_elim is.sound (hlevel props) (λ s. ∣ (s.0, ending_sound m.plan (core_in m) s.0 m.opens all (ahead m) rest s.1) ∣₁))));
+        (∥∥₁_elim is.opens_are (hlevel props) (λ all. ∥∥₁_elim is.sound (hlevel props) (λ s. ∣ (s.0, ending_sound m.plan (core_in m) s.0 m.opens all (ahead m) rest s.1) ∣₁))));
     hold = ∣ rw (w.holders, w.seats) (hold_begins (hold_in m room is)) ∣₁;
     holders_are = ap length w.holders ∙ is.holders_are ∙ ap (λ (p : Plan). p.links) (sym w.plan);
     dones_are = ap length w.dones ∙ is.dones_are ∙ ap (λ (p : Plan). p.links) (sym w.plan);

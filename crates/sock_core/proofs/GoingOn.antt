@@ -1,8 +1,7 @@
 -- Each point stands before a step, or has nothing left to do: nothing is said there.
-use Rattle.std.proofs.Common.{length, arith, ◌≡◌, refl, ℕ, List, [], ◌∷◌, ◌++◌, Option, Some, None, ap, sym, ◌∙◌}
+use Rattle.std.proofs.Common.{length, arith, ◌≡◌, refl, ℕ, List, [], ◌∷◌, Option, sym}
 use Rattle.sock_words.specs.declared.outcome.Outcome.{Outcome}
 use Rattle.sock_programs.specs.declared.task.Task.{Task}
-use Rattle.sock_programs.specs.Programs.{Program}
 use Rattle.sock_programs.specs.Clients.{HeldLife, operation, client_from, give_back}
 use Rattle.sock_programs.specs.Cores.{said, next_step}
 use Rattle.sock_core.specs.declared.point.OpenStep.TheVariants as opens

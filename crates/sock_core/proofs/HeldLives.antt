@@ -1,5 +1,5 @@
 -- What is held, and what follows when some of it is given back.
-use Rattle.std.proofs.Common.{◌≡◌, refl, ℕ, suc, ◌<◌, ◌==◌, Bool, true, false, not, if◌then◌else◌, ap, sym, ◌∙◌, arith, List, [], ◌∷◌, length, filter, Some, None, Option, option_map, remove, slice_index_or}
+use Rattle.std.proofs.Common.{◌≡◌, refl, ℕ, suc, ◌<◌, ◌==◌, Bool, true, false, not, if◌then◌else◌, ap, ◌∙◌, arith, List, [], ◌∷◌, length, filter, Some, remove, slice_index_or}
 use Rattle.sock_words.specs.Words.{socket_id_slot}
 use Rattle.sock_programs.specs.Programs.{Program, release}
 use Rattle.sock_programs.specs.Clients.{HeldLife, without_name, held_under, give_back, client_from, operation}

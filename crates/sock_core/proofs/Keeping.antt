@@ -1,5 +1,5 @@
 -- What holds of a machine still holds behind a step.
-use Rattle.std.proofs.Common.{◌≡◌, refl, ℕ, zero, suc, ◌+◌, ◌<◌, ◌≤◌, Bool, true, List, [], ◌∷◌, length, sum_by, slice_set, slice_index_or, map, Option, Some, None, option_map, ap, sym, ◌∙◌, arith, subst}
+use Rattle.std.proofs.Common.{◌≡◌, refl, ℕ, zero, suc, ◌+◌, ◌<◌, Bool, true, List, [], ◌∷◌, length, sum_by, slice_set, slice_index_or, Option, Some, None, option_map, ap, sym, ◌∙◌, arith, subst}
 use Rattle.std.proofs.lemmas.List.Sums.{sum_by-set}
 use Rattle.sock_core.proofs.Places.{there_within}
 use Rattle.std.proofs.Props.{props}
@@ -9,13 +9,12 @@ use mathlib.Core.Option as core
 use lib.ListN.{get_elem?}
 use Rattle.sock_words.specs.declared.plain.Plan.{Plan}
 use Rattle.sock_words.specs.declared.outcome.Outcome.{Outcome}
-use Rattle.sock_words.specs.declared.kind.Kind.{Kind}
 use Rattle.sock_programs.specs.Calls as calls
 use Rattle.sock_programs.specs.Programs.{Program, Do, Say, Rest}
-use Rattle.sock_programs.specs.Cores.{Core, said, ticked}
+use Rattle.sock_programs.specs.Cores.{said, ticked}
 use Rattle.sock_programs.specs.Runs.{next_kind}
-use Rattle.sock_core.specs.Points.{link_at, call_in, next_program}
-use Rattle.sock_core.specs.Seats.{SeatData, around, seat_program, seat_left}
+use Rattle.sock_core.specs.Points.{next_program}
+use Rattle.sock_core.specs.Seats.{SeatData, around, seat_left}
 use Rattle.sock_core.specs.Links.{holders_after, dones_after}
 use Rattle.sock_core.specs.Machines.{MachineState, core_in, steps_left, NextIs, SteppedTo, StepFits, HoldsItsLink, HoldTheirLinks, IsMachine, IsSound}
 use Rattle.sock_core.proofs.Ticked.{tick_is, hold_is, kind_is}

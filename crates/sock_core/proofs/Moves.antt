@@ -1,5 +1,5 @@
 -- What a step of a seat makes of the homes of links, and of what the seats have in hand.
-use Rattle.std.proofs.Common.{◌≡◌, ◌≢◌, refl, ℕ, zero, suc, ◌+◌, ◌<◌, Bool, true, false, is_some, if◌then◌else◌, List, [], ◌∷◌, ◌++◌, map, length, replicate, slice_set, slice_index_or, Option, Some, None, ap, sym, ◌∙◌, arith, subst}
+use Rattle.std.proofs.Common.{◌≡◌, ◌≢◌, refl, ℕ, ◌<◌, Bool, true, false, List, [], ◌∷◌, ◌++◌, length, replicate, slice_set, Option, Some, None, ap, sym, ◌∙◌, arith, subst}
 use Rattle.std.proofs.lemmas.List.{get_or-set_same, get_or-set_other}
 use Rattle.std.proofs.Math.ListN.{length-set}
 use mathlib.Core.Option as core
@@ -8,7 +8,6 @@ use Rattle.sock_words.specs.declared.plain.Plan.{Plan}
 use Rattle.sock_model.specs.declared.home.Home.{Home}
 use Rattle.sock_model.specs.declared.home.Home.TheVariants.{Link}
 use Rattle.sock_programs.specs.Calls as calls
-use Rattle.sock_programs.specs.Runs.{from_to}
 use Rattle.sock_programs.specs.Cores.{link_place, homes_after, hand_after, lies_at}
 use Rattle.sock_core.specs.Links.{holders_after, dones_after, holder_of, is_done, link_home, homes_of, hand_with}
 use Rattle.sock_core.specs.Machines.{HoldsItsLink}
@@ -69,16 +68,16 @@ module _ (p : Plan) (holders : List (Option ℕ)) (dones : List Bool) (i : ℕ) 
       homes_of p (holders_after i call holders) (dones_after call dones) ≡ homes_after p call (hand_with dones before) (homes_of p holders dones)
   homes_moved (calls.TakeLink k) before behind over holds may =
       sym (homes_set p holders (slice_set holders k (Some i)) dones dones k core.none may.0
-        (away (slice_set holders k (Some i)) dones k i (get_or-set_same holders k (Some i) None (omega (arith, may.0))))
-        (λ j q. let e = get_or-set_other holders k j (Some i) None q in rw e refl))
+      (away (slice_set holders k (Some i)) dones k i (get_or-set_same holders k (Some i) None (omega (arith, may.0))))
+      (λ j q. let e = get_or-set_other holders k j (Some i) None q in rw e refl))
   homes_moved (calls.FinishLink k) before behind over holds may =
       let held = subst (HoldsItsLink holders i) over.0 holds in
       homes_same p holders holders (slice_set dones k true) dones (λ j. finish_home holders dones k i held.1 j (holder_of holders j) refl)
   homes_moved (calls.PutLink k) before behind over holds may =
       let e : hand_with dones before ≡ Link k [] 0 (is_done dones k) ∷ [] = ap (hand_with dones) over.0 in
       rw e (sym (homes_set p holders (slice_set holders k None) dones dones k _ may
-        (at_home (slice_set holders k None) dones k (get_or-set_same holders k None None (omega arith)))
-        (λ j q. let f = get_or-set_other holders k j None None q in rw f refl)))
+      (at_home (slice_set holders k None) dones k (get_or-set_same holders k None None (omega arith)))
+      (λ j q. let f = get_or-set_other holders k j None None q in rw f refl)))
   homes_moved other before behind over holds may = refl
 
   -- and of what the seat has in hand

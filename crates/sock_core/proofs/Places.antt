@@ -1,5 +1,5 @@
 -- The seats as they lie in memory.
-use Rattle.std.proofs.Common.{◌≡◌, refl, ℕ, zero, suc, ◌+◌, ◌<◌, ◌≤◌, false, List, [], ◌∷◌, ◌++◌, map, length, take, drop, slice_set, slice_index_or, Option, Some, None, option_map, IfSome, IfNone, OnOk, Result, Ok, Err, is_err, ap, sym, ◌∙◌, arith, subst}
+use Rattle.std.proofs.Common.{◌≡◌, refl, ℕ, zero, suc, ◌<◌, ◌≤◌, false, List, [], ◌∷◌, ◌++◌, map, length, take, slice_set, slice_index_or, Option, Some, None, option_map, IfSome, IfNone, OnOk, Result, Ok, Err, is_err, ap, sym, ◌∙◌, arith, subst}
 use Rattle.atomic_table.proofs.Lists.{at_map, at_index}
 use mathlib.Core.Option as core
 use lib.ListN.{get_elem?}

@@ -1,9 +1,9 @@
 -- Rounds of the clients, and steps of seat 0, one after another.
-use Rattle.std.proofs.Common.{◌≡◌, ◌≢◌, refl, ℕ, zero, suc, ◌+◌, ◌-◌, ◌<◌, ◌≤◌, Bool, true, false, List, [], ◌∷◌, ◌++◌, length, fold, replicate, is_some, Option, Some, None, IfSome, ◌⊎◌, inl, inr, ⊎_elim, ap, sym, ◌∙◌, arith, subst}
+use Rattle.std.proofs.Common.{◌≡◌, refl, ℕ, zero, suc, ◌+◌, ◌-◌, ◌<◌, ◌≤◌, Bool, true, false, List, [], ◌∷◌, ◌++◌, replicate, is_some, Option, Some, None, IfSome, ◌⊎◌, inl, inr, ⊎_elim, ap, sym, ◌∙◌, arith, subst}
 use Rattle.sock_words.specs.declared.plain.Plan.{Plan}
 use Rattle.sock_words.specs.declared.kind.Kind.{Kind}
 use Rattle.sock_programs.specs.Cores.{Core, ticked, run}
-use Rattle.sock_programs.specs.Runs.{next_kind, IsAtRest, from_to, rounds}
+use Rattle.sock_programs.specs.Runs.{IsAtRest, from_to, rounds}
 use Rattle.sock_core.specs.Machines.{MachineState, core_in, steps_left}
 
 pub run_append : (p : Plan) (c : Core) (xs ys : List ℕ) → run p c (xs ++ ys) ≡ run p (run p c xs) ys

@@ -1,12 +1,12 @@
 -- A whole run: the rounds of the clients, and the ending.
-use Rattle.std.proofs.Common.{◌≡◌, ◌≢◌, refl, ℕ, zero, suc, ◌+◌, ◌-◌, ◌<◌, ◌≤◌, List, [], ◌∷◌, length, slice_set, replicate, Option, Some, None, Result, Ok, Err, OnOk, ap, sym, ◌∙◌, arith, subst}
+use Rattle.std.proofs.Common.{◌≡◌, refl, ℕ, zero, suc, ◌-◌, List, [], ◌∷◌, length, replicate, Result, Ok, Err, OnOk, ap, ◌∙◌, arith, subst}
 use Rattle.std.proofs.Math.ListN.{length-set}
 use mathlib.Core.Option as core
 use lib.ListN.{get_elem?}
 use Rattle.sock_words.specs.declared.plain.Plan.{Plan}
 use Rattle.sock_programs.specs.Programs.{Program, Do, Say, Rest}
 use Rattle.sock_programs.specs.Cores.{Core, SeatState, tick_of, ticked, run}
-use Rattle.sock_programs.specs.Runs.{next_kind, IsAtRest, IsSettled, rounds, from_to}
+use Rattle.sock_programs.specs.Runs.{next_kind, IsAtRest, IsSettled, rounds}
 use Rattle.sock_core.specs.Machines.{MachineState, core_in, ending_by}
 use Rattle.sock_core.specs.Runs.{PlayedOn, RanFirst, Settled}
 use Rattle.sock_core.proofs.Ending.{rounds_leave, first_leaves, ending_leaves}

@@ -1,5 +1,5 @@
 -- What a sound core says of the next step of a seat, and that the core stays sound.
-use Rattle.std.proofs.Common.{◌≡◌, refl, ℕ, ◌<◌, Bool, List, [], length, Option, Some, None, ap, sym, ◌∙◌, arith, subst, is_some}
+use Rattle.std.proofs.Common.{◌≡◌, refl, ℕ, Bool, List, length, Option, Some, None, ap, sym, ◌∙◌, subst}
 use Rattle.std.proofs.Props.{props}
 use Rattle.std.proofs.Math.Logic.{∥∥₁_elim}
 use Rattle.atomic_table.proofs.Lists.{at_map}
@@ -9,10 +9,9 @@ use Rattle.sock_words.specs.declared.plain.Plan.{Plan}
 use Rattle.sock_words.specs.declared.outcome.Outcome.{Outcome}
 use Rattle.sock_model.specs.declared.view.View.{View}
 use Rattle.sock_model.specs.declared.home.Home.{Home}
-use Rattle.sock_model.specs.declared.home.Home.TheVariants.{Link}
 use Rattle.sock_programs.specs.Calls as calls
 use Rattle.sock_programs.specs.Programs.{Program, Do, Say, Rest}
-use Rattle.sock_programs.specs.Cores.{Core, SeatState, word_of, found_at, link_place, ticked}
+use Rattle.sock_programs.specs.Cores.{Core, SeatState, ticked}
 use Rattle.sock_runs.specs.May.{May}
 use Rattle.sock_runs.specs.GoesOn.{GoesOn}
 use Rattle.sock_runs.specs.Sound.{Sound, Allows, AllowsWord, AllowsMove, views_after}
@@ -20,7 +19,7 @@ use Rattle.sock_runs.proofs.Ticks.{sound_ticks}
 use Rattle.sock_runs.proofs.Allowed.{sound_allows, view_there}
 use Rattle.sock_core.specs.Points.{call_in, after_of, TriesOneOf}
 use Rattle.sock_core.specs.Seats.{SeatData, around, seat_program}
-use Rattle.sock_core.specs.Links.{IsOfLinks, holder_of, is_done, link_home, homes_of}
+use Rattle.sock_core.specs.Links.{IsOfLinks, holder_of, link_home}
 use Rattle.sock_core.specs.Machines.{MachineState, core_of, core_in, seat_state, IsSound, NextIs, StepFits}
 use Rattle.sock_core.proofs.StepFacts.{SlotOf, tries_one}
 use Rattle.sock_core.proofs.Moves.{MayMove, home_at}

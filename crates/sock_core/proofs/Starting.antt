@@ -1,5 +1,5 @@
 -- The core of a machine that begins.
-use Rattle.std.proofs.Common.{◌≡◌, refl, ℕ, zero, suc, ◌+◌, ◌<◌, ◌≤◌, Bool, true, false, List, [], ◌∷◌, ◌++◌, map, length, fold, replicate, slice_index_or, Option, Some, None, ap, sym, ◌∙◌, arith, subst}
+use Rattle.std.proofs.Common.{◌≡◌, refl, ℕ, zero, suc, ◌+◌, ◌<◌, ◌≤◌, Bool, false, List, [], ◌∷◌, ◌++◌, map, length, fold, replicate, Option, Some, None, ap, sym, ◌∙◌, arith, subst}
 use Rattle.std.specs.List.{AllByRecursion}
 use mathlib.Core.Option as core
 use lib.ListN.{get_elem?}
@@ -14,15 +14,14 @@ use Rattle.sock_programs.specs.Programs.{Program}
 use Rattle.sock_programs.specs.Cores.{Core, SeatState, said, next_step}
 use Rattle.sock_programs.specs.Runs.{from_to}
 use Rattle.sock_programs.specs.Told.{AreTasks}
-use Rattle.sock_programs.specs.Scripts.{opening_words, opening_homes, new_links, programs, beginning}
+use Rattle.sock_programs.specs.Scripts.{opening_homes, new_links, programs, beginning}
 use Rattle.sock_runs.specs.Sound.{Sound, IsWithinLimits}
 use Rattle.client_laws.specs.Openings.{opening_views}
 use Rattle.client_laws.proofs.Opens.{opens_sound}
 use Rattle.sock_core.specs.Points.{link_at}
-use Rattle.sock_core.specs.Seats.{SeatData}
 use Rattle.sock_core.specs.Links.{holder_of, is_done, link_home, homes_of, hand_with}
 use Rattle.sock_core.specs.Machines.{MachineState, core_in, core_of, seat_state, HoldsItsLink, HoldTheirLinks, IsMachine}
-use Rattle.sock_core.specs.Beginnings.{AreBegun, AreParts, first_states}
+use Rattle.sock_core.specs.Beginnings.{AreParts, first_states}
 use Rattle.sock_core.proofs.Keeping.{length_said}
 use Rattle.atomic_table.proofs.Lists.{at_map}
 
@@ -90,7 +89,7 @@ module _ (p : Plan) (clients : List (List Task)) (m : MachineState) (room : ℕ)
   hold_none : HoldTheirLinks m.holders m.seats
   hold_none i seat at = subst (HoldsItsLink m.holders i) (sym (nothing (link_at seat.point)
       (first_hand p.slots clients i (seat_state p.slots m.dones seat)
-        (subst (λ (l : List SeatState). get_elem? l i ≡ core.some (seat_state p.slots m.dones seat)) (parts.seats m.dones) (at_map (seat_state p.slots m.dones) m.seats i seat at))))) tt
+      (subst (λ (l : List SeatState). get_elem? l i ≡ core.some (seat_state p.slots m.dones seat)) (parts.seats m.dones) (at_map (seat_state p.slots m.dones) m.seats i seat at))))) tt
 
   pub is_machine : AreTasks p clients → IsWithinLimits p → PlanFits p → length clients ≡ p.seats → p.seats ≤ 512 → length m.dones ≡ p.links → AllByRecursion (λ o. o < p.operations) m.opens → IsMachine m room
   is_machine tasks limits fits many few links opens = record {

@@ -1,8 +1,6 @@
 -- What the next step of a point tells of the point: the link in hand before and behind it, and what it may find.
-use Rattle.std.proofs.Common.{◌≡◌, refl, ℕ, ◌<◌, Option, Some, None, ap, sym, ◌∙◌, subst}
-use Rattle.sock_words.specs.Words.{vref_version}
+use Rattle.std.proofs.Common.{◌≡◌, refl, ℕ, ◌<◌, Option, Some, None, subst}
 use Rattle.sock_programs.specs.Calls as calls
-use Rattle.sock_programs.specs.Programs.{Program}
 use Rattle.sock_runs.specs.Sound.{AllowsWord}
 use Rattle.sock_core.specs.declared.point.OpenStep.TheVariants as opens
 use Rattle.sock_core.specs.declared.point.SeekStep.TheVariants as seeks

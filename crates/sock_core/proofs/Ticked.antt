@@ -1,5 +1,5 @@
 -- One step of a seat is a tick of it.
-use Rattle.std.proofs.Common.{◌≡◌, ◌≢◌, refl, ℕ, zero, suc, ◌+◌, ◌<◌, ◌≤◌, Bool, true, false, List, [], ◌∷◌, ◌++◌, map, length, slice_set, Option, Some, None, option_map, ap, sym, ◌∙◌, ⊎_elim, arith, subst}
+use Rattle.std.proofs.Common.{◌≡◌, ◌≢◌, refl, ℕ, zero, suc, ◌≤◌, Bool, List, [], ◌∷◌, map, length, slice_set, Option, Some, None, option_map, ap, sym, ◌∙◌, ⊎_elim, arith, subst}
 use Rattle.std.proofs.lemmas.List.{map-set}
 use Rattle.atomic_table.proofs.Lists.{at_map, at_set, set_else}
 use mathlib.Core.Option as core
@@ -11,10 +11,9 @@ use Rattle.sock_words.specs.declared.kind.Kind.{Kind}
 use Rattle.sock_programs.specs.Calls.{kind_of}
 use Rattle.sock_programs.specs.Calls as calls
 use Rattle.sock_programs.specs.Programs.{Program, Do, Say, Rest}
-use Rattle.sock_programs.specs.Cores.{Core, SeatState, word_of, found_at, words_after, word_after, homes_after, hand_after, said, next_step, stepped, tick_of, ticked}
+use Rattle.sock_programs.specs.Cores.{Core, SeatState, word_of, found_at, hand_after, said, next_step, stepped, tick_of, ticked}
 use Rattle.sock_programs.specs.Runs.{next_kind, kind_in}
-use Rattle.sock_core.specs.declared.point.Next.{Next}
-use Rattle.sock_core.specs.Points.{Around, point_program, next_program, call_in, after_of, link_at, link_left, link_behind}
+use Rattle.sock_core.specs.Points.{call_in, after_of, link_at, link_left}
 use Rattle.sock_core.specs.Seats.{SeatData, around, seat_program}
 use Rattle.sock_core.specs.Links.{holders_after, dones_after, homes_of, hand_with, hand_of}
 use Rattle.sock_core.specs.Machines.{MachineState, core_of, core_in, seat_state, NextIs, SteppedTo, HoldsItsLink, HoldTheirLinks}
@@ -64,9 +63,9 @@ module _ (m fresh : MachineState) (i : ℕ) (call : calls.Call) (n : NextIs m i 
   seats_are =
       map-set (seat_state m.plan.slots (dones_after call m.dones)) m.seats i w.seat'
       ∙ ap (slice_set (map (seat_state m.plan.slots (dones_after call m.dones)) m.seats) i)
-          (seat_is _ _ _ _ (w.program ∙ ap next_step w.goes) (ap (hand_with (dones_after call m.dones)) (w.hand ∙ w.behind) ∙ hand_moved m.plan m.holders m.dones i many as_many call _ _ over may))
+      (seat_is _ _ _ _ (w.program ∙ ap next_step w.goes) (ap (hand_with (dones_after call m.dones)) (w.hand ∙ w.behind) ∙ hand_moved m.plan m.holders m.dones i many as_many call _ _ over may))
       ∙ sym (set-map_but (seat_state m.plan.slots m.dones) (seat_state m.plan.slots (dones_after call m.dones)) m.seats i _
-          (λ j s at differ. seat_is _ _ _ _ refl (others_moved m.plan m.holders m.dones i many as_many call _ _ over own j differ (link_at s.point) (hold j s at))))
+      (λ j s at differ. seat_is _ _ _ _ refl (others_moved m.plan m.holders m.dones i many as_many call _ _ over own j differ (link_at s.point) (hold j s at))))
 
   after_it : core_of m.plan fresh.words (holders_after i call m.holders) (dones_after call m.dones) (slice_set m.seats i w.seat') fresh.outcomes ≡ ticked m.plan (core_in m) i
   after_it =
@@ -79,8 +78,8 @@ module _ (m fresh : MachineState) (i : ℕ) (call : calls.Call) (n : NextIs m i 
   hold_after : HoldTheirLinks (holders_after i call m.holders) (slice_set m.seats i w.seat')
   hold_after j s at = ⊎_elim
       (λ t. subst (λ (x : SeatData). HoldsItsLink (holders_after i call m.holders) j (link_at x.point)) t.1
-        (subst (λ (k : ℕ). HoldsItsLink (holders_after i call m.holders) k (link_at w.seat'.point)) (sym t.0)
-          (subst (HoldsItsLink (holders_after i call m.holders) i) (sym (w.hand ∙ w.behind)) (holds_moved m.plan m.holders m.dones i many as_many call _ _ over own may))))
+      (subst (λ (k : ℕ). HoldsItsLink (holders_after i call m.holders) k (link_at w.seat'.point)) (sym t.0)
+      (subst (HoldsItsLink (holders_after i call m.holders) i) (sym (w.hand ∙ w.behind)) (holds_moved m.plan m.holders m.dones i many as_many call _ _ over own may))))
       (λ t. others_hold m.plan m.holders m.dones i many as_many call _ _ over own may j t.0 (link_at s.point) (hold j s t.1))
       (at_set m.seats i j w.seat' s at)
 

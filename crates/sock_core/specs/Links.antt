@@ -1,5 +1,5 @@
 -- Which seat has a link in hand, and whether its writing half is ended: the homes of a core, and what its seats have in hand.
-use Rattle.std.specs.Prelude.{ℕ, ◌<◌, ◌≡◌, ◌++◌, true, false, Bool, is_some, if◌then◌else◌, List, [], ◌∷◌, map, replicate, slice_set, slice_index_or, Option, Some, None}
+use Rattle.std.specs.Prelude.{ℕ, ◌<◌, ◌++◌, true, false, Bool, is_some, if◌then◌else◌, List, [], ◌∷◌, map, replicate, slice_set, slice_index_or, Option, Some, None}
 use mathlib.Core.Option as core
 use Rattle.sock_words.specs.declared.plain.Plan.{Plan}
 use Rattle.sock_model.specs.declared.home.Home.{Home}

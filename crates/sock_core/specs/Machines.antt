@@ -1,5 +1,5 @@
 -- The machine: its core, the links as they would be given back, and what holds of it behind each step.
-use Rattle.std.specs.Prelude.{ℕ, ◌≡◌, ◌<◌, ◌≤◌, Bool, List, [], ◌∷◌, length, map, sum_by, slice_set, Option, Some, None}
+use Rattle.std.specs.Prelude.{ℕ, ◌≡◌, ◌<◌, ◌≤◌, Bool, List, [], length, map, sum_by, slice_set, Option, Some, None}
 use Rattle.std.specs.List.{AllByRecursion}
 use mathlib.Core.Option as core
 use lib.ListN.{get_elem?}
@@ -8,11 +8,9 @@ use Rattle.sock_words.specs.declared.outcome.Outcome.{Outcome}
 use Rattle.brpc_model.specs.Link.{LinkEnd}
 use Rattle.sock_model.specs.declared.view.View.{View}
 use Rattle.sock_programs.specs.Calls.{Call}
-use Rattle.sock_programs.specs.Programs.{Program}
 use Rattle.sock_programs.specs.Clients.{ending_of}
 use Rattle.sock_programs.specs.Cores.{Core, SeatState, word_of, found_at, word_after, words_after, said, next_step, with_seat}
 use Rattle.sock_runs.specs.Sound.{Sound, AllowsWord}
-use Rattle.sock_core.specs.declared.point.Point.{Point}
 use Rattle.sock_core.specs.declared.point.Next.{Next}
 use Rattle.sock_core.specs.Points.{TriesOneOf, link_at, link_left, link_behind, call_in, after_of, next_program}
 use Rattle.sock_core.specs.Seats.{SeatData, around, seat_program, seat_left}

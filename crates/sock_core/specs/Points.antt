@@ -1,12 +1,10 @@
 -- What a seat has still to do, by the point at which it stands: the programs of the operations from each of their steps on.
-use Rattle.std.specs.Prelude.{ℕ, ◌+◌, ◌-◌, ◌==◌, ◌&&◌, ◌||◌, not, ◌%◌, ◌<◌, Bool, true, false, nat_le, if◌then◌else◌, List, [], ◌∷◌, ◌++◌, map, Option, Some, None}
-use Rattle.sock_words.specs.Words.{socket_id, socket_id_version, socket_id_slot, vref_version, vref_nref}
-use Rattle.sock_words.specs.declared.vref.Vref.{Vref}
+use Rattle.std.specs.Prelude.{ℕ, ◌+◌, ◌-◌, ◌==◌, ◌||◌, not, ◌<◌, Bool, true, false, nat_le, if◌then◌else◌, List, [], ◌∷◌, ◌++◌, Option, Some, None}
+use Rattle.sock_words.specs.Words.{socket_id, socket_id_version, socket_id_slot, vref_version}
 use Rattle.sock_words.specs.declared.socket_id.SocketId.{SocketId}
-use Rattle.sock_words.specs.declared.outcome.Outcome.{Outcome}
-use Rattle.sock_words.specs.declared.outcome.Outcome.TheVariants.{Opened, SlotsFull, Unopened, Gone, Held, Freed, Kept, NotHeld, Failed, Already}
+use Rattle.sock_words.specs.declared.outcome.Outcome.TheVariants.{Opened, SlotsFull, Unopened, Gone, Held, Freed, Kept}
 use Rattle.sock_programs.specs.Calls as calls
-use Rattle.sock_programs.specs.Programs.{Program, Do, Say, Rest, NO_SOCKET, LAST_VERSION, recycle, release, address, reach, set_failed, no_socket, make_socket, open_from, fail_outcome, fail, hold, drop_held, end_open}
+use Rattle.sock_programs.specs.Programs.{Program, Do, Say, Rest, NO_SOCKET, LAST_VERSION, recycle, release, address, set_failed, no_socket, make_socket, open_from, fail_outcome, fail, hold, end_open}
 use Rattle.sock_programs.specs.Clients.{HeldLife}
 use Rattle.sock_core.specs.declared.point.Opening.{Opening}
 use Rattle.sock_core.specs.declared.point.OpenStep.{OpenStep}

@@ -1,5 +1,5 @@
 -- What ticks and whole runs of a machine make of its core.
-use Rattle.std.specs.Prelude.{ℕ, ◌≡◌, ◌≢◌, ◌-◌, ◌<◌, ◌⊎◌, List, replicate, Option, Some, None}
+use Rattle.std.specs.Prelude.{ℕ, ◌≡◌, ◌≢◌, ◌-◌, ◌<◌, ◌⊎◌, replicate, Option, Some, None}
 use Rattle.sock_words.specs.declared.kind.Kind.{Kind}
 use Rattle.sock_programs.specs.Cores.{run}
 use Rattle.sock_programs.specs.Runs.{IsAtRest, IsSettled, rounds}

@@ -112,11 +112,7 @@ fn failed_outcome(found: Vref) -> Outcome
 fn dropped_outcome(freed: bool) -> Outcome
     ensures { result ≡ (if freed then Outcome.Freed else Outcome.Kept) }
 {
-    if freed {
-        Outcome::Freed
-    } else {
-        Outcome::Kept
-    }
+    if freed { Outcome::Freed } else { Outcome::Kept }
 }
 
 /// The release of a slot, at this step.
@@ -138,7 +134,11 @@ impl ReleaseStep {
             ReleaseStep::SubRef => {
                 let word = Vref::from_word(found);
                 if word.is_failed() && word.nref() == 1 {
-                    releasing(slot, follows, ReleaseStep::Recycle(Vref::from_word(found - 1)))
+                    releasing(
+                        slot,
+                        follows,
+                        ReleaseStep::Recycle(Vref::from_word(found - 1)),
+                    )
                 } else {
                     follows.next(false)
                 }
@@ -243,7 +243,11 @@ impl Aim {
     {
         match self {
             Aim::Hold { operation, name } => Next::Held(operation, name, id),
-            Aim::Fail { operation, code, .. } => {
+            Aim::Fail {
+                operation,
+                code,
+                ..
+            } => {
                 let failing = Failing {
                     id,
                     code,

@@ -1,4 +1,4 @@
-//! All seats on one thread, under any schedule.
+//! All seats of a script on one thread, under any schedule.
 #![tactic(auto)]
 
 mod call;

@@ -100,11 +100,7 @@ fn begin(held: &mut Vec<Held>, slots: u16, task: Task) -> Option<Point>
         }
         Op::Drop(name) => {
             let id = take_held(held, name)?;
-            Some(Point::Release(
-                id.slot(),
-                Then::Dropped { operation },
-                ReleaseStep::SubRef,
-            ))
+            Some(Point::Release(id.slot(), Then::Dropped { operation }, ReleaseStep::SubRef))
         }
     }
 }

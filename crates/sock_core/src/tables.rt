@@ -36,14 +36,15 @@ impl<O: Out, I: In, P: Peer> Model for Tables<O, I, P> {
     ghost Value = { MachineState };
 
     ghost view = { λ m. record {
-        plan = m.plan;
-        words = m.words.items;
-        holders = m.holders.items;
-        dones = map (λ (e : _). (O.state e.out).finished) m.ends.items;
-        seats = map seat_data m.seats.items;
-        opens = m.opens.items;
-        outcomes = m.outcomes.items;
-        ends = map (λ (e : _). end_of (O.state e.out) (I.state e.inn)) m.ends.items } };
+      plan = m.plan;
+      words = m.words.items;
+      holders = m.holders.items;
+      dones = map (λ (e : _). (O.state e.out).finished) m.ends.items;
+      seats = map seat_data m.seats.items;
+      opens = m.opens.items;
+      outcomes = m.outcomes.items;
+      ends = map (λ (e : _). end_of (O.state e.out) (I.state e.inn)) m.ends.items;
+    } };
 }
 
 impl<O: Out, I: In, P: Peer> Tables<O, I, P> {

@@ -1,6 +1,4 @@
-use Rattle.std.proofs.Common.{◌≡◌, ◌∙◌, sym, ap, Some, None, option_map}
-use Rattle.sock_words.specs.declared.socket_id.SocketId.{SocketId}
-use Rattle.sock_programs.specs.Clients.{held_under}
+use Rattle.std.proofs.Common.{◌∙◌}
 use Rattle.sock_core.specs.Seats.{lives}
 use Rattle.sock_core.proofs.HeldLives.{drops}
 use Rattle.sock_core.proofs.seat.begin.Goals as goal

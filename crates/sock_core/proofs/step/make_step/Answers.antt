@@ -1,6 +1,5 @@
 use Rattle.std.proofs.Common.{[], sym, subst}
 use Rattle.sock_programs.specs.Programs.{Rest}
-use Rattle.sock_runs.specs.Sound.{AllowsWord}
 use Rattle.sock_core.specs.Steps.{step_of}
 use Rattle.sock_core.specs.Points.{Around, MayFind}
 use Rattle.sock_core.proofs.StepFacts.{may_find, has_step}

@@ -1,5 +1,4 @@
-use Rattle.std.proofs.Common.{◌≡◌, ◌<◌, ap, sym, ◌∙◌, subst, Some, vec_capacity}
-use Rattle.sock_programs.specs.Calls.{kind_of}
+use Rattle.std.proofs.Common.{◌<◌, ap, sym, ◌∙◌, subst, Some, vec_capacity}
 use Rattle.sock_programs.specs.Cores.{ticked}
 use Rattle.sock_programs.specs.Runs.{next_kind}
 use Rattle.sock_core.specs.Steps.{step_of}
@@ -30,4 +29,4 @@ returns-clause-core g c =
 pub returns-clause-moved : goal.returns-clause-moved
 returns-clause-moved g c =
     subst (λ (m : MachineState). steps_left c.step.new.self < steps_left m) c.self.view_is
-      (step_leaves c.self.inside.tables c.step.new.self _ c.args.seat (step_of c.in-Some.call) c.self.invariant.0 c.in-Some.ensures.some c.in_ok-step.ensures.ok)
+    (step_leaves c.self.inside.tables c.step.new.self _ c.args.seat (step_of c.in-Some.call) c.self.invariant.0 c.in-Some.ensures.some c.in_ok-step.ensures.ok)

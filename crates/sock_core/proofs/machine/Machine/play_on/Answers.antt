@@ -10,8 +10,11 @@ pub loop-preserved : goal.loop-preserved
 loop-preserved g c =
     let so_far = c.loop.invariant.rounds in
     record {
-      rounds = (suc so_far.0, played_more c.args.self.now.plan (core_in c.args.self.now) (core_in c.loop.self) (core_in c.round.new.self) so_far.0 (c.args.self.now.plan.seats - 1) so_far.1
-        (subst (λ (p : Plan). core_in c.round.new.self ≡ run p (core_in c.loop.self) (from_to 1 (p.seats - 1))) c.loop.invariant.plan c.in_ok-round.ensures.core));
+      rounds = (
+        suc so_far.0,
+        played_more c.args.self.now.plan (core_in c.args.self.now) (core_in c.loop.self) (core_in c.round.new.self) so_far.0 (c.args.self.now.plan.seats - 1) so_far.1
+            (subst (λ (p : Plan). core_in c.round.new.self ≡ run p (core_in c.loop.self) (from_to 1 (p.seats - 1))) c.loop.invariant.plan c.in_ok-round.ensures.core),
+      );
       plan = c.in_ok-round.ensures.plan ∙ c.loop.invariant.plan;
       opens = c.in_ok-round.ensures.opens ∙ c.loop.invariant.opens;
       ends = c.in_ok-round.ensures.ends ∙ c.loop.invariant.ends;

@@ -9,8 +9,11 @@ pub loop-preserved : goal.loop-preserved
 loop-preserved g c =
     let so_far = c.loop.invariant.steps in
     record {
-      steps = (suc so_far.0, stepped_more c.args.self.now.plan (core_in c.args.self.now) (core_in c.loop.self) (core_in c.advance.new.self) so_far.0 so_far.1
-        (subst (λ (p : Plan). core_in c.advance.new.self ≡ ticked p (core_in c.loop.self) 0) c.loop.invariant.plan c.in_ok-advance.ensures.core));
+      steps = (
+        suc so_far.0,
+        stepped_more c.args.self.now.plan (core_in c.args.self.now) (core_in c.loop.self) (core_in c.advance.new.self) so_far.0 so_far.1
+            (subst (λ (p : Plan). core_in c.advance.new.self ≡ ticked p (core_in c.loop.self) 0) c.loop.invariant.plan c.in_ok-advance.ensures.core),
+      );
       plan = c.in_ok-advance.ensures.plan ∙ c.loop.invariant.plan;
       opens = c.in_ok-advance.ensures.opens ∙ c.loop.invariant.opens;
       ends = c.in_ok-advance.ensures.ends ∙ c.loop.invariant.ends;

@@ -9,4 +9,4 @@ returns-then-is_id-clause-program c a = rw (c.in-Load.is, c.from_word-id.ensures
 pub returns-else-version-clause-program : goal.returns-else-version-clause-program
 returns-else-version-clause-program c a =
     rw (c.releasing.ensures, c.gone.ensures, c.slot.ensures, c.from_word-word.ensures, c.in-AddRef.is)
-        (seeks_reached a c.args.self c.in-AddRef.id c.args.found (λ e. c.if-version.false (c.version.ensures ∙ ap vref_version c.from_word-word.ensures ∙ e ∙ sym c.version-in-AddRef.ensures)))
+    (seeks_reached a c.args.self c.in-AddRef.id c.args.found (λ e. c.if-version.false (c.version.ensures ∙ ap vref_version c.from_word-word.ensures ∙ e ∙ sym c.version-in-AddRef.ensures)))

@@ -1,4 +1,4 @@
-use Rattle.std.proofs.Common.{arith, subst, sym}
+use Rattle.std.proofs.Common.{arith}
 use Rattle.sock_core.proofs.Behind.{tries}
 use Rattle.sock_core.proofs.point.Opening.try_slot.Goals as goal
 

@@ -1,7 +1,7 @@
-use Rattle.std.proofs.Common.{◌≡◌, [], refl, sym, ◌∙◌, arith, ap}
-use Rattle.sock_programs.specs.Clients.{client_from, give_back}
+use Rattle.std.proofs.Common.{◌≡◌, [], refl, sym, ◌∙◌, arith}
+use Rattle.sock_programs.specs.Clients.{give_back}
 use Rattle.sock_core.specs.declared.seat.Seat.{Seat}
-use Rattle.sock_core.specs.Points.{Around, point_program}
+use Rattle.sock_core.specs.Points.{point_program}
 use Rattle.sock_core.specs.Seats.{lives, around, seat_data}
 use Rattle.sock_core.proofs.HeldLives.{lives_length}
 use Rattle.sock_core.proofs.GoingOn.{begins_said, ends_tasks, none_in}
@@ -12,7 +12,7 @@ returns-in-Some-begin-clause-said c =
     let seat : Seat = record c.loop-task.self { tasks = c.pop_front.new.self; held = c.begin.new.held } in
     let a = around c.args.slots (seat_data seat) in
     sym (begins_said a c.args.slots (lives c.loop-task.self.held.items) c.loop-task.self.tasks.items c.in-Some.task c.pop_front.new.self.items c.in-Some-begin.point c.loop-task.outcomes
-      c.in-Some.ensures.items (c.in-Some-begin.ensures.some a refl refl)) ∙ c.loop-task.invariant.told
+    c.in-Some.ensures.items (c.in-Some-begin.ensures.some a refl refl)) ∙ c.loop-task.invariant.told
 
 pub returns-clause-program : goal.returns-clause-program
 returns-clause-program c =

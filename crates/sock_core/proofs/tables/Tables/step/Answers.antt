@@ -1,5 +1,4 @@
 use Rattle.std.proofs.Common.{◌≡◌, ◌≤◌, ◌+◌, Option, refl, arith, ap, sym, ◌∙◌, subst, map, slice_set, List}
-use Rattle.brpc_model.specs.Link.{LinkEnd}
 use Rattle.sock_io.specs.Link.{end_of}
 use Rattle.sock_core.specs.Steps.{step_of}
 use Rattle.sock_core.specs.Seats.{SeatData, seat_data, around, seat_program, seat_left, rest_left}
@@ -11,7 +10,7 @@ use lib.ListN.{get_elem?}
 use Rattle.sock_words.specs.declared.outcome.Outcome.{Outcome}
 use Rattle.sock_programs.specs.Cores.{said, next_step}
 use Rattle.sock_core.specs.Points.{TriesOneOf, next_program, next_left}
-use Rattle.sock_core.specs.Machines.{MachineState, SteppedTo}
+use Rattle.sock_core.specs.Machines.{MachineState}
 use Rattle.sock_core.proofs.Places.{stepped_along, seat_within, seat_there, called, with_room, data_is, written}
 use Rattle.sock_core.proofs.tables.Tables.step.Goals as goal
 
@@ -23,15 +22,16 @@ index_mut-place-requires g c =
 pub returns-then-is_err-clause-err : goal.returns-then-is_err-clause-err
 returns-then-is_err-clause-err g c =
     ap (λ (ss : List SeatData). record {
-        plan = c.self.inside.plan;
-        words = c.self.inside.words.items;
-        holders = c.self.inside.holders.items;
-        dones = map (λ e. (g.O.Out.state e.out).finished) c.self.inside.ends.items;
-        seats = ss;
-        opens = c.self.inside.opens.items;
-        outcomes = c.self.inside.outcomes.items;
-        ends = map (λ e. end_of (g.O.Out.state e.out) (g.I.In.state e.inn)) c.self.inside.ends.items })
-      (with_room c.self.inside.seats.items c.from.result c.index_mut-place.result.now (record c.index_mut-place.result.now { held = c.reserve.new.self }) c.index_mut-place.ensures.value (data_is c.index_mut-place.result.now (record c.index_mut-place.result.now { held = c.reserve.new.self }) refl c.reserve.ensures.items refl refl))
+      plan = c.self.inside.plan;
+      words = c.self.inside.words.items;
+      holders = c.self.inside.holders.items;
+      dones = map (λ e. (g.O.Out.state e.out).finished) c.self.inside.ends.items;
+      seats = ss;
+      opens = c.self.inside.opens.items;
+      outcomes = c.self.inside.outcomes.items;
+      ends = map (λ e. end_of (g.O.Out.state e.out) (g.I.In.state e.inn)) c.self.inside.ends.items;
+    })
+    (with_room c.self.inside.seats.items c.from.result c.index_mut-place.result.now (record c.index_mut-place.result.now { held = c.reserve.new.self }) c.index_mut-place.ensures.value (data_is c.index_mut-place.result.now (record c.index_mut-place.result.now { held = c.reserve.new.self }) refl c.reserve.ensures.items refl refl))
     ∙ c.self.view_is
 
 pub make_step-next-requires-clause-call : goal.make_step-next-requires-clause-call
@@ -43,9 +43,9 @@ pub make_step-next-requires-clause-slot : goal.make_step-next-requires-clause-sl
 make_step-next-requires-clause-slot g c =
     let are = ap (λ (m : MachineState). m.seats) c.self.view_is in
     subst (λ n. TriesOneOf n c.index_mut-place.result.now.point) (sym (ap (λ (m : MachineState). m.plan.slots) c.self.view_is))
-      (c.requires.fits.slot (seat_data c.index_mut-place.result.now)
-        (seat_there c.args.self.now c.self.inside.seats.items are c.args.seat c.from.result c.from.ensures c.index_mut-place.result.now
-          (seat_within c.args.self.now c.self.inside.seats.items are c.args.seat c.from.result c.from.ensures c.requires.next.seat c.requires.next.at) c.index_mut-place.ensures.value))
+    (c.requires.fits.slot (seat_data c.index_mut-place.result.now)
+    (seat_there c.args.self.now c.self.inside.seats.items are c.args.seat c.from.result c.from.ensures c.index_mut-place.result.now
+    (seat_within c.args.self.now c.self.inside.seats.items are c.args.seat c.from.result c.from.ensures c.requires.next.seat c.requires.next.at) c.index_mut-place.ensures.value))
 
 pub returns-clause-ok : goal.returns-clause-ok
 returns-clause-ok g c =
@@ -56,7 +56,7 @@ returns-clause-ok g c =
     let n = c.self.inside.plan.slots in
     let less = c.make_step-next.ensures.left in
     let rest : seat_left n (seat_data c.follow.new.self) ≤ next_left n c.make_step-next.result + rest_left n (seat_data c.index_mut-place.result.now) =
-      subst (λ (s : SeatData). seat_left n (seat_data c.follow.new.self) ≤ next_left n c.make_step-next.result + rest_left n s) same c.follow.ensures.left in
+    subst (λ (s : SeatData). seat_left n (seat_data c.follow.new.self) ≤ next_left n c.make_step-next.result + rest_left n s) same c.follow.ensures.left in
     stepped_along c.self.view_is (record {
       plan = refl;
       opens = refl;
