@@ -1,14 +1,14 @@
 -- The report of a run without messages and calls.
-use Rattle.std.proofs.Common.{◌≡◌, ℕ, zero, suc, ◌+◌, true, List, [], ◌∷◌, length, count_by, slice_get, Some, Ok, ap, sym, ◌∙◌, subst, arith}
+use Rattle.std.proofs.Common.{◌≡◌, ℕ, zero, suc, ◌+◌, true, List, [], ◌∷◌, length, slice_get, Some, Ok, ap, sym, ◌∙◌, subst, arith}
 use Rattle.std.proofs.lemmas.Option.{slice_get-get_or, slice_get_within, get_or_from_slice_get}
-use Rattle.brpc_model.specs.Items.{Item, is_open}
+use Rattle.brpc_model.specs.Items.{Item}
+use Rattle.brpc_model.specs.Operations.{link_names}
 use Rattle.brpc_model.specs.Script.{script_of}
 use Rattle.brpc_model.specs.Link.{LinkEnd}
 use Rattle.brpc_model.specs.Run.{nothing_late}
 use Rattle.brpc_model.specs.Complete.{FitsWhole}
 use Rattle.sock_programs.specs.Scripts.{is_quiet}
 use Rattle.quiet_fits.specs.Ends.{IsQuietEnd, QuietEnds}
-use Rattle.quiet_fits.proofs.Sizes.{link_count}
 use Rattle.quiet_runs.proofs.Runs.{run_fits}
 use Rattle.script_run.specs.Given.{IsUntouched, AreUntouched}
 use Rattle.script_run.specs.Played.{IsRunText}
@@ -27,15 +27,15 @@ quiet_at n (x ∷ es) (suc k) e h is =
     let there : slice_get es k ≡ Some e = slice_get-get_or es k e (omega (arith, less)) ∙ ap Some (get_or_from_slice_get (x ∷ es) (suc k) e e is) in
     subst (λ (m : ℕ). IsQuietEnd m e) (omega arith) (quiet_at (n + 1) es k e h.1 there)
 
-quiet_ends : (script : List Item) (ends : List LinkEnd) → AreUntouched 0 ends → length ends ≡ count_by is_open script → QuietEnds script ends
+quiet_ends : (script : List Item) (ends : List LinkEnd) → AreUntouched 0 ends → length ends ≡ length (link_names script) → QuietEnds script ends
 quiet_ends script ends h count = record {
-  as_many = count ∙ sym (link_count script);
+  as_many = count;
   quiet = λ k e is. subst (λ (m : ℕ). IsQuietEnd m e) (omega arith) (quiet_at 0 ends k e h is);
 }
 
 -- with what the calls say of the values that they were handed
 pub ran_quiet : (bytes : List ℕ) (script : List Item) (text text' : List ℕ) (out : answer.Output) (links : answer.Links) (status : ℕ) →
-    script_of bytes ≡ Ok script → is_quiet script ≡ true → IsRunText script text → AreUntouched 0 links.ends → length links.ends ≡ count_by is_open script → text' ≡ text → answer.TextWritten out text' status →
+    script_of bytes ≡ Ok script → is_quiet script ≡ true → IsRunText script text → AreUntouched 0 links.ends → length links.ends ≡ length (link_names script) → text' ≡ text → answer.TextWritten out text' status →
     answer.Ran script out links status
 ran_quiet bytes script text text' out links status reads quiet ran untouched count t wrote =
     let core = ran.0 in

@@ -1,8 +1,11 @@
 -- Links that are opened and given back one after another.
-use Rattle.std.proofs.Common.{◌≡◌, ◌≢◌, ℕ, ◌+◌, ◌<◌, ◌≤◌, List, [], ◌∷◌, ◌++◌, length, map, count_by, sum_by, cond, ap, sym, subst, refl, ◌∙◌, append_assoc, min, arith}
+use Rattle.std.proofs.Common.{◌≡◌, ◌≢◌, ℕ, ◌+◌, ◌<◌, ◌≤◌, List, [], ◌∷◌, ◌++◌, length, map, count_by, sum_by, cond, ap, sym, subst, refl, ◌∙◌, append_assoc, min, arith, Ok}
 use Rattle.std.proofs.lemmas.List.{length-map, length-append}
 use Rattle.std.proofs.lemmas.List.Sums.{sum_by-cons}
 use Rattle.std.proofs.lemmas.List.Folds.{list_all-map}
+use Rattle.brpc_model.specs.Operations.{link_names}
+use Rattle.quiet_fits.proofs.Sizes.{link_count, keeps_limits}
+use Rattle.brpc_model.specs.Script.{script_of}
 use Rattle.script_items.specs.Meaning.{item}
 use Rattle.script_items.specs.declared.line.Line.{Line}
 use Rattle.brpc_model.specs.Items.{Item, is_open}
@@ -55,12 +58,26 @@ numbered_of n [] h = tt
 numbered_of n (e ∷ es) h = (h.0.link, numbered_of (n + 1) es h.1)
 
 -- the links of the lines, and of what they say
-pub opens_of : (lines : List Line) → count_by is_open_line lines ≡ count_by is_open (map item lines)
-opens_of lines = sum_of (λ line. cond (is_open line) 1 0) lines
-  where
-    sum_of : (f : Item → ℕ) (ls : List Line) → sum_by (λ line. f (item line)) ls ≡ sum_by f (map item ls)
-    sum_of f [] = refl
-    sum_of f (l ∷ ls) = sum_by-cons (λ line. f (item line)) l ls ∙ ap (λ n. f (item l) + n) (sum_of f ls) ∙ sym (sum_by-cons f (item l) (map item ls))
+sum_of : (f : Item → ℕ) (lines : List Line) → sum_by (λ line. f (item line)) lines ≡ sum_by f (map item lines)
+sum_of f [] = refl
+sum_of f (line ∷ lines) = sum_by-cons (λ l. f (item l)) line lines ∙ ap (λ n. f (item line) + n) (sum_of f lines) ∙ sym (sum_by-cons f (item line) (map item lines))
+
+opens_of : (lines : List Line) → count_by is_open_line lines ≡ length (link_names (map item lines))
+opens_of lines = sum_of (λ i. cond (is_open i) 1 0) lines ∙ sym (link_count (map item lines))
+
+pub links_of : (script : List Item) (lines : List Line) → map item lines ≡ script → count_by is_open_line lines ≡ length (link_names script)
+links_of script lines e = opens_of lines ∙ ap (λ s. length (link_names s)) e
+
+pub few_links : (bytes : List ℕ) (script : List Item) (lines : List Line) → script_of bytes ≡ Ok script → map item lines ≡ script → count_by is_open_line lines ≤ 31
+few_links bytes script lines reads e = let limits = keeps_limits bytes script reads in omega (arith, links_of script lines e, limits.links)
 
 pub pieces_of : (lines : List Line) → list_all has_piece_line lines ≡ list_all has_piece (map item lines)
 pieces_of lines = sym (list_all-map has_piece item lines)
+
+-- what holds of all holds with one more of which it holds
+pub all_with : {A : Type 0} (P : A → Type 0) (old new : List A) (x : A) → AllByRecursion P old → new ≡ old ++ x ∷ [] → P x → AllByRecursion P new
+all_with P old new x h e px = subst (AllByRecursion P) (sym e) (behind P old x h px)
+  where
+    behind : {A : Type 0} (P : A → Type 0) (xs : List A) (x : A) → AllByRecursion P xs → P x → AllByRecursion P (xs ++ x ∷ [])
+    behind P [] x h px = (px, tt)
+    behind P (y ∷ ys) x h px = (h.0, behind P ys x h.1 px)

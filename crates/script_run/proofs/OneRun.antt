@@ -1,5 +1,5 @@
 -- A script has one run: where two cores are each the end of it, they are one core.
-use Rattle.std.proofs.Common.{◌≡◌, ℕ, zero, suc, ◌+◌, ◌-◌, ◌≤◌, inl, inr, true, false, leb, List, [], ◌∷◌, ◌++◌, length, replicate, ap, sym, subst, refl, ◌∙◌, append_assoc, arith, Result, Ok, Err, IfOk}
+use Rattle.std.proofs.Common.{◌≡◌, ℕ, zero, suc, ◌+◌, ◌-◌, ◌≤◌, inl, inr, true, false, leb, List, [], ◌∷◌, ◌++◌, length, replicate, ap, sym, subst, refl, ◌∙◌, append_assoc, arith, Result, Ok, Err, IfOk, OnOk}
 use Rattle.std.proofs.lemmas.Bool.{leb-false, leb-true}
 use Rattle.sock_words.specs.declared.plain.Plan.{Plan}
 use Rattle.sock_words.specs.KindText.{kind_text}
@@ -115,3 +115,7 @@ one_text script text other h k = h.2 ∙ ap (λ c. report_text script (report_of
 pub only_text : {T E : Type 0} (script : List Item) (bytes : T → List ℕ) (r : Result T E) → IfOk r (λ text. IsRunText script (bytes text)) → IfOk r (λ text. (other : List ℕ) → IsRunText script other → other ≡ bytes text)
 only_text script bytes (Ok text) h = λ other k. one_text script other (bytes text) k h
 only_text script bytes (Err e) h = tt
+
+pub ok_all : {T E P : Type 0} (r : Result T E) → P → OnOk r P
+ok_all (Ok text) h = h
+ok_all (Err e) h = tt

@@ -1,11 +1,12 @@
-ghost use Rattle.std.specs.Prelude.{◌≡◌, ◌≤◌, ℕ, List, Ok, true, [], map, length, count_by, IfOk, OnOk, OnErr, IsErrOf};
-ghost use Rattle.std.specs.List.{list_all};
+ghost use Rattle.std.specs.Prelude.{◌≡◌, ◌≤◌, ℕ, List, Ok, true, false, [], map, length, count_by, IfOk, OnOk, OnErr, IsErrOf};
+ghost use Rattle.std.specs.List.{list_all, AllByRecursion};
 ghost use Rattle.brpc_model.specs.Items.{Item, is_open};
 ghost use Rattle.brpc_model.specs.Script.{script_of};
-ghost use Rattle.brpc_model.specs.Operations.{clients};
+ghost use Rattle.brpc_model.specs.Operations.{clients, link_names};
 ghost use Rattle.brpc_model.specs.Report.{report_text};
 ghost use Rattle.script_report.specs.Quiet.{quiet_report};
 ghost use Rattle.script_items.specs.Meaning.{item};
+ghost use Rattle.sock_io.specs.declared.link.Ends.{Ends};
 ghost use Rattle.sock_io.specs.Causes.{Rose};
 ghost use Rattle.sock_io.specs.Link.{end_of};
 ghost use Rattle.sock_programs.specs.Scripts.{is_quiet, IsRunOf};
@@ -41,15 +42,13 @@ pub fn run_quiet<L: Linker>(
 ) -> Result<Vec<u8>, RunFault>
     requires script { (bytes : List ℕ) × (script_of bytes ≡ Ok script.now) }
     requires quiet { is_quiet script.now ≡ true }
-    requires clients { clients script.now ≤ 31 }
-    requires links { count_by is_open script.now ≤ 256 }
     requires pieces { list_all has_piece script.now ≡ true }
     requires opened { L.opened links.old ≡ 0 }
     requires back { L.back links.old ≡ [] }
     ensures text { IfOk result (λ text. IsRunText script.now text.items) }
     ensures only { IfOk result (λ text. (other : List ℕ) → IsRunText script.now other → other ≡ text.items) }
     ensures untouched { AreUntouched 0 (L.back links.new) }
-    ensures all { OnOk result (length (L.back links.new) ≡ count_by is_open script.now) }
+    ensures all { OnOk result (length (L.back links.new) ≡ length (link_names script.now)) }
     ensures opened { L.opened links.new ≡ length (L.back links.new) }
     ensures prompt { L.prompt links.new ≡ L.prompt links.old }
     ensures later { L.faults links.old ≤ L.faults links.new }
@@ -87,6 +86,8 @@ fn run_over<L: Linker>(
     requires quiet { is_quiet script.now ≡ true }
     requires clients { clients script.now ≤ 31 }
     requires untouched { AreUntouched 0 (map (λ e. end_of (L.O.state e.out) (L.I.state e.inn)) ends.items) }
+    requires unfinished { AllByRecursion (λ (e : Ends L.O L.I L.P). (L.O.state e.out).finished ≡ false) ends.items }
+    requires all { length ends.items ≡ length (link_names script.now) }
     requires few { length ends.items ≤ 256 }
     requires opened { L.opened links.old ≡ length ends.items }
     requires back { L.back links.old ≡ [] }

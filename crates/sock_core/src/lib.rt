@@ -1,4 +1,5 @@
-//! All seats of a script on one thread, under any schedule.
+//! The whole product on one thread, under any schedule, for scripts of sockets alone: seats, the words and links on which
+//! they step, and the steps.
 #![tactic(auto)]
 
 mod call;
