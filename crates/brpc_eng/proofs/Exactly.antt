@@ -1,13 +1,20 @@
 -- What the answers say together: 2 comes exactly where the words ask for no command, and where nothing stands in the way
 -- of a report, only it and want of memory come.
-use Rattle.std.proofs.Common.{◌≡◌, ◌≢◌, ℕ, ◌≤◌, ◌⊎◌, inl, inr, true, false, List, ◌++◌, length, Option, Some, None, Ok, ap, sym, ◌∙◌, subst, arith, length-append, append-nil}
+use Rattle.std.proofs.Common.{◌≡◌, ◌≢◌, ℕ, ◌<◌, ◌≤◌, ◌⊎◌, inl, inr, true, false, List, ◌++◌, length, Option, Some, None, Result, Ok, Err, ap, sym, ◌∙◌, subst, arith, length-append, append-nil}
 use Rattle.std.specs.Io.KnownBytes.{Consumes}
 use Rattle.brpc_model.specs.Commands.{Replay, command_of}
 use Rattle.brpc_model.specs.Items.{Item}
 use Rattle.brpc_model.specs.Script.{script_of}
+use Rattle.brpc_model.specs.Stream.{Ending, Rest, Fault, stream}
+use Rattle.frame_print.specs.Printed.{frames_limit, Edges, IsRest, IsFaulty, SinkFailed, EndsAs}
+use Rattle.sock_io.specs.Causes.{Rose}
+use Rattle.frame_print.specs.declared.print.StreamEnd.{StreamEnd}
+use Rattle.frame_print.specs.declared.print.StreamEnd.TheVariants as end_
+use Rattle.frame_print.specs.declared.print.PrintFault.{PrintFault}
+use Rattle.frame_print.specs.declared.print.PrintFault.TheVariants as fault_
 use Rattle.brpc_eng.specs.Built.{is_built}
 use Rattle.brpc_eng.specs.Streams.{script_limit, IsAtEnd}
-use Rattle.brpc_eng.specs.Answers.{HaveRisen, Input, Output, Links, TextWritten, Ran, Reported, MemoryRanOut, OpenFailed, FaultWritten, Replayed, RanScript, FaultyScript, SourceFailed, TooLong, NoMemory, ScriptNotBuilt, Answers, NoCommand, CommandNotBuilt, Generated, Generates, Replays, is_built_command}
+use Rattle.brpc_eng.specs.Answers.{HaveRisen, Input, Output, Links, TextWritten, Ran, Reported, MemoryRanOut, OpenFailed, FaultWritten, Replayed, RanScript, FaultyScript, SourceFailed, TooLong, NoMemory, ScriptNotBuilt, Answers, NoCommand, CommandNotBuilt, Generated, Generates, PrintsInput, Replays, is_built_command, frames_status, FramesPrinted}
 
 -- ## Status 2
 
@@ -36,12 +43,21 @@ not_two_made : (seed clients count : ℕ) (out : Output) (status : ℕ) → Gene
 not_two_made seed clients count out status (inl w) = not_two_written out _ status w
 not_two_made seed clients count out status (inr w) = λ e. absurd (omega (arith, e, w.0))
 
+not_two_ended : (ended : Result StreamEnd PrintFault) (status : ℕ) → status ≡ frames_status ended → status ≢ 2
+not_two_ended (Ok end_.Rest) status s = λ e. absurd (omega (arith, e, s))
+not_two_ended (Ok end_.Fault) status s = λ e. absurd (omega (arith, e, s))
+not_two_ended (Err fault_.Source) status s = λ e. absurd (omega (arith, e, s))
+not_two_ended (Err fault_.Sink) status s = λ e. absurd (omega (arith, e, s))
+not_two_ended (Err fault_.TooLong) status s = λ e. absurd (omega (arith, e, s))
+not_two_ended (Err fault_.NoMemory) status s = λ e. absurd (omega (arith, e, s))
+
 -- the words ask for no command exactly where the status is 2
 pub usage_exactly : (words : List (List ℕ)) (input : Input) (out : Output) (links : Links) (status : ℕ) → Answers words input out links status →
     (status ≡ 2 → command_of words ≡ None) × (command_of words ≡ None → status ≡ 2)
 usage_exactly words input out links status (NoCommand s none same back wrote) = (λ e. none, λ e. s)
 usage_exactly words input out links status (CommandNotBuilt s command is other same back wrote) = (λ e. absurd (omega (arith, e, s)), λ e. absurd (cc))
 usage_exactly words input out links status (Generates seed clients count is same back made) = (λ e. absurd (not_two_made seed clients count out status made e), λ e. absurd (cc))
+usage_exactly words input out links status (PrintsInput is back printed) = (λ e. absurd (not_two_ended printed.ended status printed.numbered e), λ e. absurd (cc))
 usage_exactly words input out links status (Replays is replayed) = (λ e. absurd (not_two input out links replayed.bytes status replayed.replayed e), λ e. absurd (cc))
 
 -- ## A report, or want of memory
@@ -94,6 +110,44 @@ report_comes script given words input out links status (CommandNotBuilt s other 
     let alike : other ≡ Replay = cc in
     let never : true ≡ false = sym (ap is_built_command alike) ∙ differs in absurd (cc)
 report_comes script given words input out links status (Generates seed clients count named same back made) command told few is built calm = absurd (cc)
+report_comes script given words input out links status (PrintsInput named back printed) command told few is built calm = absurd (cc)
 report_comes script given words input out links status (Replays named replayed) command told few is built calm =
     let P : Option (List ℕ) → Type 0 = λ x. Consumes x input.left replayed.bytes in
     calm_replayed script given input out links replayed.bytes status calm (subst P told replayed.came) few is built replayed.replayed
+
+-- ## The statuses of `frames`
+
+too_long_ended : (edges : Edges) (bytes : List ℕ) (ended : Result StreamEnd PrintFault) (status : ℕ) → status ≡ frames_status ended → EndsAs edges bytes ended →
+    (status ≡ 6 → frames_limit < length bytes) × (frames_limit < length bytes → status ≡ 6)
+too_long_ended edges bytes (Ok end_.Rest) status s h = (λ e. absurd (omega (arith, e, s)), λ l. absurd (omega (arith, l, h.few)))
+too_long_ended edges bytes (Ok end_.Fault) status s h = (λ e. absurd (omega (arith, e, s)), λ l. absurd (omega (arith, l, h.few)))
+too_long_ended edges bytes (Err fault_.Source) status s h = (λ e. absurd (omega (arith, e, s)), λ l. absurd (omega (arith, l, h.few)))
+too_long_ended edges bytes (Err fault_.Sink) status s h = (λ e. absurd (omega (arith, e, s)), λ l. absurd (omega (arith, l, h.few)))
+too_long_ended edges bytes (Err fault_.TooLong) status s h = (λ e. omega (arith, h.long), λ l. s)
+too_long_ended edges bytes (Err fault_.NoMemory) status s h = (λ e. absurd (omega (arith, e, s)), λ l. absurd (omega (arith, l, h.few)))
+
+-- 6 comes exactly where more bytes came than the limit
+pub too_long_exactly : (input : Input) (out : Output) (status : ℕ) → (printed : FramesPrinted input out status) →
+    (status ≡ 6 → frames_limit < length printed.printed.bytes) × (frames_limit < length printed.printed.bytes → status ≡ 6)
+too_long_exactly input out status printed = too_long_ended _ printed.printed.bytes printed.ended status printed.numbered printed.printed.ended
+
+not_both : (e : Ending) → IsRest e → IsFaulty e → ⊥
+not_both (Rest n) r f = f
+not_both (Fault start fault) r f = r
+
+faulty_ended : (edges : Edges) (bytes : List ℕ) (ended : Result StreamEnd PrintFault) (status : ℕ) → status ≡ frames_status ended → length bytes ≤ frames_limit → EndsAs edges bytes ended →
+    (status ≡ 9 → IsFaulty (stream bytes).ending) × (IsFaulty (stream bytes).ending → (status ≡ 9) ⊎ (status ≡ 7) ⊎ ((status ≡ 5) × Rose edges.write_faults edges.write_faults_now))
+faulty_ended edges bytes (Ok end_.Rest) status s few h = (λ e. absurd (omega (arith, e, s)), λ f. absurd (not_both (stream bytes).ending h.ending f))
+faulty_ended edges bytes (Ok end_.Fault) status s few h = (λ e. h.ending, λ f. inl s)
+faulty_ended edges bytes (Err fault_.Source) status s few h = (λ e. absurd (omega (arith, e, s)), λ f. absurd (not_both (stream bytes).ending h.ending f))
+faulty_ended edges bytes (Err fault_.Sink) status s few h = (λ e. absurd (omega (arith, e, s)), λ f. inr (inr (s, sink_rose edges bytes h)))
+  where
+    sink_rose : (edges : Edges) (bytes : List ℕ) → SinkFailed edges bytes → Rose edges.write_faults edges.write_faults_now
+    sink_rose edges bytes h = elim h.wrote [ inl w ↦ w.1 | inr w ↦ w.2.1 ]
+faulty_ended edges bytes (Err fault_.TooLong) status s few h = absurd (omega (arith, few, h.long))
+faulty_ended edges bytes (Err fault_.NoMemory) status s few h = (λ e. absurd (omega (arith, e, s)), λ f. inr (inl s))
+
+-- 9 comes exactly where the bytes have a fault, unless memory ran out or the sink failed before
+pub faulty_exactly : (input : Input) (out : Output) (status : ℕ) → (printed : FramesPrinted input out status) → length printed.printed.bytes ≤ frames_limit →
+    (status ≡ 9 → IsFaulty (stream printed.printed.bytes).ending) × (IsFaulty (stream printed.printed.bytes).ending → (status ≡ 9) ⊎ (status ≡ 7) ⊎ ((status ≡ 5) × HaveRisen out.faults))
+faulty_exactly input out status printed few = faulty_ended _ printed.printed.bytes printed.ended status printed.numbered few printed.printed.ended

@@ -51,22 +51,27 @@ replays_faulty input out links status line kind bytes seen read whole s e back w
 
 -- ## The words
 
-not_built : (command : Command) → (command ≡ Replay → ⊥) → ((draw : Draw) → command ≡ Gen draw → ⊥) → answer.is_built_command (meaning command) ≡ false
-not_built Replay h k = absurd (h refl)
-not_built (Sim seed) h k = refl
-not_built (Run port) h k = refl
-not_built (Gen draw) h k = absurd (k draw refl)
-not_built (Load draw) h k = refl
-not_built Frames h k = refl
-not_built (Serve port connections) h k = refl
+not_built : (command : Command) → (command ≡ Replay → ⊥) → ((draw : Draw) → command ≡ Gen draw → ⊥) → (command ≡ Frames → ⊥) → answer.is_built_command (meaning command) ≡ false
+not_built Replay h k f = absurd (h refl)
+not_built (Sim seed) h k f = refl
+not_built (Run port) h k f = refl
+not_built (Gen draw) h k f = absurd (k draw refl)
+not_built (Load draw) h k f = refl
+not_built Frames h k f = absurd (f refl)
+not_built (Serve port connections) h k f = refl
 
 -- a command that isn't built
-pub other_command : (words : List (List ℕ)) (input : answer.Input) (out : answer.Output) (links : answer.Links) (command : Command) → option_map meaning (Some command) ≡ model.command_of words → (command ≡ Replay → ⊥) → ((draw : Draw) → command ≡ Gen draw → ⊥) →
+pub other_command : (words : List (List ℕ)) (input : answer.Input) (out : answer.Output) (links : answer.Links) (command : Command) → option_map meaning (Some command) ≡ model.command_of words → (command ≡ Replay → ⊥) → ((draw : Draw) → command ≡ Gen draw → ⊥) → (command ≡ Frames → ⊥) →
     input.left ≡ input.given → links.ends ≡ [] → answer.Wrote out answer.not_built_text → answer.Answers words input out links 10
-other_command words input out links command e other drawn same back wrote = answer.CommandNotBuilt refl (meaning command) (sym e) (not_built command other drawn) same back wrote
+other_command words input out links command e other drawn framed same back wrote = answer.CommandNotBuilt refl (meaning command) (sym e) (not_built command other drawn framed) same back wrote
 
 -- a drawn script
 pub drawn_command : (words : List (List ℕ)) (input : answer.Input) (out : answer.Output) (links : answer.Links) (status : ℕ) (command : Command) (draw : Draw) → option_map meaning (Some command) ≡ model.command_of words → command ≡ Gen draw →
     input.left ≡ input.given → links.ends ≡ [] → answer.Generated draw.seed draw.clients draw.operations out status → answer.Answers words input out links status
 drawn_command words input out links status command draw e is same back made =
     answer.Generates draw.seed draw.clients draw.operations (sym e ∙ ap (λ c. option_map meaning (Some c)) is) same back made
+
+-- the frames of the input
+pub frames_command : (words : List (List ℕ)) (input : answer.Input) (out : answer.Output) (links : answer.Links) (status : ℕ) (command : Command) → option_map meaning (Some command) ≡ model.command_of words → command ≡ Frames →
+    links.ends ≡ [] → answer.FramesPrinted input out status → answer.Answers words input out links status
+frames_command words input out links status command e is back printed = answer.PrintsInput (sym e ∙ ap (λ c. option_map meaning (Some c)) is) back printed

@@ -1,7 +1,7 @@
 -- The answers of the program: the status, its cause, and what is written with it.
-use Rattle.std.specs.Prelude.{ℕ, ◌≡◌, ◌<◌, ◌≤◌, ◌+◌, ◌⊎◌, ◌++◌, Bool, true, false, List, [], length, codes, decimal, Option, Some, None, Ok, Err}
+use Rattle.std.specs.Prelude.{ℕ, ◌≡◌, ◌<◌, ◌≤◌, ◌+◌, ◌⊎◌, ◌++◌, Bool, true, false, List, [], length, codes, decimal, Option, Some, None, Result, Ok, Err}
 use Rattle.std.specs.Io.KnownBytes.{Appends, Consumes}
-use Rattle.brpc_model.specs.Commands.{Command, Replay, Gen, command_of, usage_text}
+use Rattle.brpc_model.specs.Commands.{Command, Replay, Gen, Frames, command_of, usage_text}
 use Rattle.brpc_model.specs.ScriptText.{script_text}
 use Rattle.brpc_model.specs.Drawn.{generated}
 use Rattle.brpc_model.specs.Items.{Item}
@@ -11,6 +11,11 @@ use Rattle.brpc_model.specs.Run.{nothing_late}
 use Rattle.brpc_model.specs.Complete.{FitsWhole}
 use Rattle.sock_io.specs.Causes.{Rose}
 use Rattle.sock_io.specs.Writing.{WrotePart}
+use Rattle.frame_print.specs.Printed.{Edges, PrintsFrames}
+use Rattle.frame_print.specs.declared.print.StreamEnd.{StreamEnd}
+use Rattle.frame_print.specs.declared.print.StreamEnd.TheVariants as end_
+use Rattle.frame_print.specs.declared.print.PrintFault.{PrintFault}
+use Rattle.frame_print.specs.declared.print.PrintFault.TheVariants as fault_
 use Rattle.sock_programs.specs.Scripts.{is_quiet}
 use Rattle.script_run.specs.Given.{AreUntouched}
 use Rattle.script_run.specs.Played.{IsRunText}
@@ -121,12 +126,43 @@ pub record ReplayedInput (input : Input) (out : Output) (links : Links) (status 
 abbrev pub Generated : ℕ → ℕ → ℕ → Output → ℕ → Type 0
 Generated seed clients count out status = TextWritten out (script_text (generated seed clients count)) status ⊎ ((status ≡ 7) × WroteNothing out)
 
+-- ## `frames`
+
+-- what it found and left at the source and the sink
+abbrev pub edges_of : Input → Output → Edges
+edges_of input out = record {
+  given = input.given;
+  left = input.left;
+  read_faults = input.faults.before;
+  read_faults_now = input.faults.now;
+  before = out.before;
+  now = out.now;
+  write_faults = out.faults.before;
+  write_faults_now = out.faults.now;
+}
+
+-- the status of each ending
+abbrev pub frames_status : Result StreamEnd PrintFault → ℕ
+frames_status (Ok end_.Rest) = 0
+frames_status (Ok end_.Fault) = 9
+frames_status (Err fault_.Source) = 4
+frames_status (Err fault_.Sink) = 5
+frames_status (Err fault_.TooLong) = 6
+frames_status (Err fault_.NoMemory) = 7
+
+-- the frames of the bytes that came were printed, up to the ending of this status
+pub record FramesPrinted (input : Input) (out : Output) (status : ℕ) : Type 0 where
+  pub ended : Result StreamEnd PrintFault
+  pub numbered : status ≡ frames_status ended
+  pub printed : PrintsFrames (edges_of input out) ended
+
 -- ## The program
 
 -- the commands that are built
 abbrev pub is_built_command : Command → Bool
 is_built_command Replay = true
 is_built_command (Gen seed clients count) = true
+is_built_command Frames = true
 is_built_command other = false
 
 -- why the program ends with a status
@@ -138,5 +174,7 @@ pub data Answers (words : List (List ℕ)) (input : Input) (out : Output) (links
       Answers words input out links status
   -- they ask for a drawn script, and nothing is read
   Generates : (seed clients count : ℕ) → command_of words ≡ Some (Gen seed clients count) → input.left ≡ input.given → links.ends ≡ [] → Generated seed clients count out status → Answers words input out links status
+  -- they ask for the frames of the input
+  PrintsInput : command_of words ≡ Some Frames → links.ends ≡ [] → FramesPrinted input out status → Answers words input out links status
   -- they ask for `replay`
   Replays : command_of words ≡ Some Replay → ReplayedInput input out links status → Answers words input out links status

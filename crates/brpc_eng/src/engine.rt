@@ -3,6 +3,7 @@ ghost use Rattle.brpc_eng.specs.Answers.{Answers};
 ghost use Rattle.brpc_eng.specs.Status.{number_of};
 
 use crate::commands::{Command, read_command};
+use crate::frames::frames;
 use crate::generated::print_generated;
 use crate::replay::{NOT_BUILT, replay, write_answer};
 use crate::status::Status;
@@ -16,18 +17,20 @@ const USAGE: &[u8] =
 ///
 /// | status | comes |
 /// | --- | --- |
-/// | 0 | where the command was done; the input of `replay` was read to its end |
+/// | 0 | where the command was done; the input of `replay` and `frames` was read to its end |
 /// | 2 | exactly where the words ask for no command; the usage line is written |
 /// | 3 | exactly where the whole input is no script; the first fault is written |
 /// | 4 | only where the source failed |
 /// | 5 | only where the sink failed, in place of 0; a beginning of the report was written |
-/// | 6 | exactly where more than 1,048,576 bytes came |
+/// | 6 | exactly where more than 1,048,576 bytes came, in `frames` more than 268,435,456 |
 /// | 7 | where memory ran out |
 /// | 8 | only where a link couldn't be opened; those opened before are given back untouched |
+/// | 9 | exactly where `frames` met a faulty frame; the frames before it and the fault are written |
 /// | 10 | exactly where the command or the script isn't built; `not built` is written |
 ///
 /// Faults are met in the order words, source, size, script, opening, run, printing; want of memory
-/// may come at any place of it, and is the one answer that needs no cause.
+/// may come at any place of it, and is the one answer that needs no cause. `frames` prints as it reads, so that with 4,
+/// 6 and 7 the lines of the frames that were whole stand written.
 pub fn brpc<R, S: Source, K: Sink, L: Linker, G: Gate>(
     _rt: &R,
     alloc: Global,
@@ -72,6 +75,7 @@ fn answer<S: Source, K: Sink, L: Linker>(
         Some(command) => match command {
             Command::Replay => replay(alloc, source, out, links),
             Command::Gen(draw) => print_generated(alloc, &draw, out),
+            Command::Frames => frames(alloc, source, out),
             _ => {
                 write_answer(out, NOT_BUILT);
                 Status::NotBuilt

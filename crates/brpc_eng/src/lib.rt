@@ -6,6 +6,7 @@ mod bytes;
 mod commands;
 mod draw;
 mod engine;
+mod frames;
 mod generated;
 mod progress;
 mod replay;

@@ -13,11 +13,13 @@ pub enum Status {
     SourceFailed,
     /// A write of the report failed.
     SinkFailed,
-    /// More bytes came than a script may have.
+    /// More bytes came than a script may have, or than `frames` prints the frames of.
     TooLong,
     NoMemory,
     /// A link couldn't be opened.
     OpenFailed,
+    /// A frame of the input is faulty.
+    FaultyFrames,
     /// The command or the script isn't built.
     NotBuilt,
 }
@@ -38,6 +40,7 @@ impl Status {
             Status::TooLong => 6,
             Status::NoMemory => 7,
             Status::OpenFailed => 8,
+            Status::FaultyFrames => 9,
             Status::NotBuilt => 10,
         }
     }

@@ -120,7 +120,7 @@ fn follows_a_schedule(rt: HostRuntime) -> Result<(), Fail> {
 }
 
 /// Words, with the status.
-const WORDS: [(&str, u8); 18] = [
+const WORDS: [(&str, u8); 17] = [
     ("--help", 2),
     ("", 2),
     ("replay now", 2),
@@ -136,7 +136,6 @@ const WORDS: [(&str, u8); 18] = [
     ("gen 7 31 133", 2),
     ("load 7 32 1", 2),
     ("load 7 1 4092", 10),
-    ("frames", 10),
     ("serve 80 31", 10),
     ("serve 80 32", 2),
 ];
@@ -163,6 +162,14 @@ fn prints_a_drawn_script(rt: HostRuntime) -> Result<(), Fail> {
     let text =
         "open a piece=7\nopen b again=2\nopen c serve\nopen d piece=5 serve\nclient\nsend a 5e\n";
     assert_eq!(rt; written.as_slice(), text.as_bytes());
+    Ok(())
+}
+
+#[test]
+fn prints_frames(rt: HostRuntime) -> Result<(), Fail> {
+    let (answered, written) = answer(&rt, "frames", b"PRPD", CALM)?;
+    assert_eq!(rt; answered, 9);
+    assert_eq!(rt; written.as_slice(), b"fault 0 1 3\n".as_slice());
     Ok(())
 }
 

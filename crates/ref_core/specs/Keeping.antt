@@ -1,22 +1,18 @@
--- What is asked of a step on one word: that the rule of the sockets holds after it, whatever the state was before.
-use Rattle.std.specs.Prelude.{◌≡◌, ◌≢◌, ℕ, ◌+◌, ◌%◌, ◌<◌, ◌≤◌, ◌⊎◌, Bool, true, List, [], slice_index}
+-- What is asked of a step on a word of a slot, and what a seat's view must say before it.
+use Rattle.std.specs.Prelude.{◌≡◌, ℕ, ◌<◌, ◌≤◌, ◌⊎◌, Bool, true, []}
 use mathlib.Core.Option.{some}
 use lib.ListN.{get_elem?}
-use Rattle.atomic_table.specs.Table.{State, stepped, keeps}
 use Rattle.sock_words.specs.declared.plain.Plan.{Plan}
-use Rattle.sock_words.specs.Words.{vref_version, vref_nref}
+use Rattle.sock_words.specs.Words.{vref_version}
 use Rattle.sock_model.specs.declared.chain.Right.{Right}
-use Rattle.sock_model.specs.declared.home.Home.{Home}
 use Rattle.sock_model.specs.declared.view.View.{View}
 use Rattle.sock_model.specs.Weights.{is_ref, is_probe, is_any_coding, is_hold, is_known, is_zero, is_stage, is_recycled, is_met}
 use Rattle.sock_model.specs.SlotRows.{marks_of}
-use Rattle.sock_model.specs.Lawful.{Lawful}
+use Rattle.sock_model.specs.Keeping.{KeepsRule}
 
--- in every state that meets the rule, where a seat's view v allows the step and the word at place x is `found`, the rule
--- still holds once that word is `next` and the seat's view has become row v
-abbrev pub KeepsRule : (Plan → View → Type 0) → (x found next : ℕ) → (View → View) → Type 0
-KeepsRule may x found next row = (p : Plan) (s : State Home View) (id : ℕ) (v : View) → Lawful (λ home. home) p s → get_elem? s.views id ≡ some v → may p v → slice_index s.words x ≡ found →
-    Lawful (λ home. home) p (stepped s x next id [] (row v) keeps)
+-- the rule is kept by a step on the word at place x, whose row is a function of the view
+abbrev pub KeepsSlotRule : (may : Plan → View → Type 0) → (x found next : ℕ) → (View → View) → Type 0
+KeepsSlotRule may x found next row = KeepsRule may (λ p. x) found next (λ p v m. row v)
 
 -- ## What a seat's view must say before a step on slot i
 

@@ -4,6 +4,4 @@
 
 mod steps;
 
-pub use steps::{
-    add_ref, birth, claim_slot, free_slot, look_word, recycle, set_odd, sub_ref,
-};
+pub use steps::{add_ref, birth, claim_slot, free_slot, look_word, recycle, set_odd, sub_ref};

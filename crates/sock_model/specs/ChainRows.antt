@@ -1,12 +1,13 @@
 -- What each step on the chains does to the view of the seat that makes it.
-use Rattle.std.specs.Prelude.{ℕ, suc, ◌-◌, ◌==◌, true, false, cond, not, List, [], ◌∷◌, ◌++◌}
+use Rattle.std.specs.Prelude.{ℕ, suc, ◌-◌, ◌/◌, ◌==◌, true, false, cond, not, List, [], ◌∷◌, ◌++◌}
 use Rattle.std.specs.List.{filter}
 use Rattle.sock_model.specs.declared.chain.Heading.{Heading}
 use Rattle.sock_model.specs.declared.chain.Entry.{Entry}
 use Rattle.sock_model.specs.declared.chain.Right.{Right}
 use Rattle.sock_model.specs.declared.chain.Claim.{Claim}
 use Rattle.sock_model.specs.declared.chain.Loose.{Loose}
-use Rattle.sock_model.specs.declared.chain.Stage.TheVariants.{Writes, Placed, Walks}
+use Rattle.sock_model.specs.declared.chain.Stage.{Stage}
+use Rattle.sock_model.specs.declared.chain.Stage.TheVariants.{Writes, Placed, Passes, Empties, Walks, Turns}
 use Rattle.sock_model.specs.declared.view.View.{View}
 use Rattle.sock_model.specs.declared.view.Hand.{Hand}
 use Rattle.sock_model.specs.Marks.{without_pass}
@@ -17,6 +18,18 @@ use Rattle.sock_model.specs.Writing.{loose_of}
 -- the claim c is the seat's one
 abbrev pub with_claim : View → Claim → View
 with_claim v c = record v { claims = c ∷ [] }
+
+-- the claim of request r for a message to link k, which found this word: nothing is at home yet
+abbrev pub fresh_claim : (k r found : ℕ) → Heading → List ℕ → Claim
+fresh_claim k r found heading bytes = record { link = k; request = r; generation = found / 2; filled = false; ready = false; heading = heading; bytes = bytes }
+
+-- the message is at home
+abbrev pub filled_claim : Claim → Heading → List ℕ → Claim
+filled_claim c heading bytes = record c { filled = true; heading = heading; bytes = bytes }
+
+-- its next word is marked as not connected
+abbrev pub ready_claim : Claim → Claim
+ready_claim c = record c { ready = true }
 
 -- the entry that the claim becomes
 abbrev pub entry_of : Claim → ℕ → Entry
@@ -48,6 +61,26 @@ with_right v r = record v { rights = r ∷ filter (λ (x : Right). not (x.link =
 
 abbrev pub without_right : View → ℕ → View
 without_right v k = record v { rights = filter (λ (x : Right). not (x.link == k)) v.rights }
+
+-- the head had this newer ticket, from which the walk begins
+abbrev pub walking_right : Right → ℕ → Right
+walking_right r top = record r { stage = Walks top top 0 }
+
+-- the next word of `now`, which has its place, was read
+abbrev pub passing_right : Right → (now next : ℕ) → Right
+passing_right r now next = record r { stage = Passes now next }
+
+-- the next word at which the walk stands was read
+abbrev pub reading_right : Right → (top at after before : ℕ) → Right
+reading_right r top at after before = record r { stage = Turns top at after before }
+
+-- what comes once the entry that has its place gave its request back: the next one, or the head
+abbrev pub freed_stage : Stage → Stage
+freed_stage (Passes now next) = Writes next
+freed_stage other = Empties
+
+abbrev pub freed_right : Right → Right
+freed_right r = record r { stage = freed_stage r.stage }
 
 -- the walk turned the next word of `at`
 abbrev pub turned_right : Right → ℕ → ℕ → ℕ → Right

@@ -12,6 +12,13 @@ use Rattle.sock_model.specs.Entries.{ticket_of}
 use Rattle.sock_model.specs.Memory.{IDLE}
 use Rattle.sock_model.specs.Links.{HoldsLink}
 
+-- M1 and C7: its one claim is of request r
+pub record HasClaim (r : ℕ) (p : Plan) (v : View) : Type 0 where
+  pub claim : Claim
+  pub claims : v.claims ≡ claim ∷ []
+  pub request_is : claim.request ≡ r
+  pub request_in : r < p.requests
+
 -- C2: its one claim is filled and ready, and it holds the life of the claim's link, in slot i
 pub record MayExchange (p : Plan) (v : View) (i own : ℕ) : Type 0 where
   pub claim : Claim

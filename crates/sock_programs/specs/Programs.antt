@@ -28,8 +28,8 @@ LAST_VERSION = 4294967292
 abbrev pub recycle : ℕ → ℕ → (Bool → Program) → Program
 recycle i from next = Do (Recycle i from) (λ found.
     if found == from then
-      Do (LoadLink i (vref_version from + 1)) (λ k. Do (TakeLink k) (λ _. Do (FinishLink k) (λ _. Do (PutLink k) (λ _.
-      if nat_le (vref_version from + 1) LAST_VERSION then Do (FreeSlot i) (λ _. next true) else next true))))
+    Do (LoadLink i (vref_version from + 1)) (λ k. Do (TakeLink k) (λ _. Do (FinishLink k) (λ _. Do (PutLink k) (λ _.
+    if nat_le (vref_version from + 1) LAST_VERSION then Do (FreeSlot i) (λ _. next true) else next true))))
     else next false)
 
 -- a reference, or a 1 that was added to the word of another version, is taken back

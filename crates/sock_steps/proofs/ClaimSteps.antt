@@ -115,7 +115,7 @@ module _ {S : Type 0} {shows : S → Home} {p : Plan} {s : State S View} (o : La
   own_claim = ap (λ (l : List Claim). filter (λ (x : Claim). eqb x.request r) l) mine ∙ ap (λ b. cond b (c ∷ []) []) (eq-eqb c.request r is)
 
   -- the claim of the view is that of all views
-  claim_alone : (tokens s.views).claims r ≡ c ∷ []
+  pub claim_alone : (tokens s.views).claims r ≡ c ∷ []
   claim_alone = let few = few_claims o.chains r rl in let z : length (claims_of r v) ≡ 1 = ap length own_claim in gather_all (claims_of r) s.views id v at (omega arith) ∙ own_claim
 
   claim_changed : Changed p.requests (tokens s.views).claims (tokens (set s.views id (with_claim v c'))).claims r (c' ∷ [])

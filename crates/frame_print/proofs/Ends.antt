@@ -1,0 +1,174 @@
+-- How printing ends.
+use Rattle.std.proofs.Common.{◌≡◌, ℕ, ◌-◌, ◌≤◌, ◌⊎◌, inl, inr, List, ◌++◌, length, take, Option, Result, Ok, Err, ap, sym, ◌∙◌, subst, arith, length-append}
+use Rattle.std.specs.Prelude.{flat_map}
+use Rattle.std.specs.Io.KnownBytes.{Appends, IsAtEnd}
+use Rattle.std.proofs.lemmas.Grind.{flat_map-append}
+use Rattle.std.proofs.lemmas.List.{take-append-le}
+use Rattle.std.proofs.Math.Seq.{take-length}
+use Rattle.brpc_model.specs.Frame.{Frame, FrameFault, NoneYet, Faulty, judged}
+use Rattle.brpc_model.specs.Stream.{Stream, Rest, Fault, stream, stream_from}
+use Rattle.brpc_model.specs.FramesText.{frame_line, ending_line}
+use Rattle.sock_io.specs.Causes.{Rose}
+use Rattle.sock_io.specs.declared.stream.Failed.{Failed}
+use Rattle.frame_print.specs.Written.{Writes}
+use Rattle.sock_io.specs.Writing.{WrotePart}
+use Rattle.frame_print.specs.declared.print.StreamEnd.{StreamEnd}
+use Rattle.frame_print.specs.declared.print.StreamEnd.TheVariants as end_
+use Rattle.frame_print.specs.declared.print.PrintFault.{PrintFault}
+use Rattle.frame_print.specs.declared.print.PrintFault.TheVariants as fault_
+use Rattle.frame_print.specs.Printed.{frames_limit, Edges, frame_lines, first_lines, IsRest, IsFaulty, PrintedRest, PrintedFault, SourceFailed, SinkFailed, TooLong, NoMemory, EndsAs}
+use Rattle.frame_print.specs.Cutting.{behind, Cut, CutPrinted, CutStopped, CutsWhole, RestPrinted}
+use Rattle.frame_print.proofs.Writing.{Appends-append, front_behind, front_before, rose_from}
+use Rattle.frame_print.proofs.Cuts.{frames_then, cut_more, printed_more, stream_begins, stream_whole, stream_rest, stream_fault}
+
+abbrev text_of : Stream → List ℕ
+text_of s = flat_map frame_line s.frames ++ ending_line s.ending
+
+abbrev lines_of : Stream → List ℕ
+lines_of s = flat_map frame_line s.frames
+
+is_rest : (bytes held : List ℕ) (fs : List Frame) → Cut bytes fs held → judged held ≡ NoneYet → IsRest (stream bytes).ending
+is_rest bytes held fs x e = let P : Stream → Type 0 = λ s. IsRest s.ending in subst P (sym (stream_rest bytes held fs x e)) tt
+
+lines_written : (bytes held : List ℕ) (o p : Option (List ℕ)) → (x : CutPrinted bytes o held p) → judged held ≡ NoneYet → Appends o p (frame_lines bytes)
+lines_written bytes held o p x e = let P : Stream → Type 0 = λ s. Appends o p (lines_of s) in subst P (sym (stream_rest bytes held x.frames x.cut e)) x.wrote
+
+pub ends_rest : (e : Edges) (bytes held : List ℕ) (p : Option (List ℕ)) → length bytes ≤ frames_limit → IsAtEnd e.left → CutPrinted bytes e.before held p → judged held ≡ NoneYet →
+    Appends p e.now (ending_line (Rest (length held))) → PrintedRest e bytes
+ends_rest e bytes held p few end x waiting w = record {
+  few = few;
+  end = end;
+  ending = is_rest bytes held x.frames x.cut waiting;
+  wrote = let P : Stream → Type 0 = λ s. Appends e.before e.now (text_of s) in
+      subst P (sym (stream_rest bytes held x.frames x.cut waiting)) (Appends-append e.before p e.now (flat_map frame_line x.frames) (ending_line (Rest (length held))) x.wrote w);
+}
+
+pub ends_unwritten : (e : Edges) (bytes held : List ℕ) (p : Option (List ℕ)) (faults : ℕ) → length bytes ≤ frames_limit → IsAtEnd e.left → CutPrinted bytes e.before held p → judged held ≡ NoneYet →
+    WrotePart p e.now (ending_line (Rest (length held))) → faults ≡ e.write_faults → Rose faults e.write_faults_now → SinkFailed e bytes
+ends_unwritten e bytes held p faults few end x waiting w kept rose = record {
+  few = few;
+  wrote = let P : Stream → Type 0 = λ s. WrotePart e.before e.now (text_of s) in
+      inr (
+        end,
+        is_rest bytes held x.frames x.cut waiting,
+        (
+          subst P (sym (stream_rest bytes held x.frames x.cut waiting)) (front_behind e.before p e.now (flat_map frame_line x.frames) (ending_line (Rest (length held))) x.wrote w),
+          rose_from e.write_faults faults e.write_faults_now kept rose,
+        ),
+      );
+}
+
+fault_written : (e : Edges) (p : Option (List ℕ)) (faults : ℕ) (s : Stream) (r : Result (Unit {0}) Failed) → Appends e.before p (lines_of s) → faults ≡ e.write_faults →
+    Writes p e.now faults e.write_faults_now (ending_line s.ending) r → Appends e.before e.now (text_of s) ⊎ (WrotePart e.before e.now (text_of s) × Rose e.write_faults e.write_faults_now)
+fault_written e p faults s (Ok done) w kept f = inl (Appends-append e.before p e.now (lines_of s) (ending_line s.ending) w f.whole)
+fault_written e p faults s (Err fault) w kept f = inr (front_behind e.before p e.now (lines_of s) (ending_line s.ending) w f.front, rose_from e.write_faults faults e.write_faults_now kept f.failed)
+
+pub ends_fault : (e : Edges) (bytes held : List ℕ) (p : Option (List ℕ)) (faults start : ℕ) (f : FrameFault) (r : Result (Unit {0}) Failed) → length bytes ≤ frames_limit → CutPrinted bytes e.before held p →
+    judged held ≡ Faulty f → start ≡ length bytes - length held → faults ≡ e.write_faults → Writes p e.now faults e.write_faults_now (ending_line (Fault start f)) r → PrintedFault e bytes
+ends_fault e bytes held p faults start f r few x fault begins kept w =
+    let e1 : start ≡ x.cut.size = omega (arith, begins, x.cut.sized) in
+    let P : ℕ → Type 0 = λ n. Writes p e.now faults e.write_faults_now (ending_line (Fault n f)) r in
+    let is = stream_fault bytes held x.frames x.cut f fault in
+    let Q : Stream → Type 0 = λ s. IsFaulty s.ending in
+    let R : Stream → Type 0 = λ s. Appends e.before e.now (text_of s) ⊎ (WrotePart e.before e.now (text_of s) × Rose e.write_faults e.write_faults_now) in
+    record {
+      few = few;
+      ending = subst Q (sym is) tt;
+      wrote = subst R (sym is) (fault_written e p faults (frames_then x.frames (Fault x.cut.size f)) r x.wrote kept (subst P e1 w));
+    }
+
+pub ends_source : (e : Edges) (bytes held : List ℕ) → length bytes ≤ frames_limit → CutPrinted bytes e.before held e.now → judged held ≡ NoneYet → (faults : ℕ) → faults ≡ e.read_faults →
+    Rose faults e.read_faults_now → SourceFailed e bytes
+ends_source e bytes held few x waiting faults kept rose = record {
+  few = few;
+  rose = rose_from e.read_faults faults e.read_faults_now kept rose;
+  ending = is_rest bytes held x.frames x.cut waiting;
+  wrote = lines_written bytes held e.before e.now x waiting;
+}
+
+pub ends_long : (e : Edges) (whole held piece : List ℕ) → length whole ≡ frames_limit → length piece ≡ 1 → CutPrinted whole e.before held e.now → judged held ≡ NoneYet → TooLong e (whole ++ piece)
+ends_long e whole held piece all one x waiting =
+    let front : take frames_limit (whole ++ piece) ≡ whole =
+    ap (λ n. take n (whole ++ piece)) (sym all) ∙ (let le : length whole ≤ length whole = omega arith in take-append-le (length whole) whole piece le) ∙ take-length whole
+    in
+    let P : List ℕ → Type 0 = λ l. IsRest (stream l).ending in
+    let Q : List ℕ → Type 0 = λ l. Appends e.before e.now (frame_lines l) in
+    record {
+      long = omega (arith, length-append whole piece, all, one);
+      ending = subst P (sym front) (is_rest whole held x.frames x.cut waiting);
+      wrote = subst Q (sym front) (lines_written whole held e.before e.now x waiting);
+    }
+
+first_of : (fs gs : List Frame) → take (length fs) (fs ++ gs) ≡ fs
+first_of fs gs = (let le : length fs ≤ length fs = omega arith in take-append-le (length fs) fs gs le) ∙ take-length fs
+
+lines_first : (bytes held : List ℕ) (fs : List Frame) (s : Stream) → stream bytes ≡ behind fs s → first_lines (length fs) bytes ≡ flat_map frame_line fs
+lines_first bytes held fs s is = ap (λ (t : Stream). flat_map frame_line (take (length fs) t.frames)) is ∙ ap (λ l. flat_map frame_line l) (first_of fs s.frames)
+
+-- before a piece was fed
+pub ends_unfed : (e : Edges) (whole held piece : List ℕ) → length (whole ++ piece) ≤ frames_limit → CutPrinted whole e.before held e.now → NoMemory e (whole ++ piece)
+ends_unfed e whole held piece few x =
+    let P : List ℕ → Type 0 = λ l. Appends e.before e.now l in
+    record {
+      few = few;
+      frames = length x.frames;
+      wrote = subst P (sym (lines_first (whole ++ piece) held x.frames _ (stream_begins whole held x.frames x.cut piece))) x.wrote;
+    }
+
+pub ends_memory : (e : Edges) (bytes held : List ℕ) → length bytes ≤ frames_limit → CutPrinted bytes e.before held e.now → NoMemory e bytes
+ends_memory e bytes held few x =
+    let P : List ℕ → Type 0 = λ l. Appends e.before e.now l in
+    record {
+      few = few;
+      frames = length x.frames;
+      wrote = subst P (sym (lines_first bytes held x.frames _ (stream_whole bytes held x.frames x.cut))) x.wrote;
+    }
+
+-- in the line of a frame
+pub ends_stopped : (e : Edges) (bytes held new : List ℕ) (p : Option (List ℕ)) (faults : ℕ) → length bytes ≤ frames_limit → CutPrinted bytes e.before held p → faults ≡ e.write_faults →
+    CutStopped held p new e.now faults e.write_faults_now → SinkFailed e bytes
+ends_stopped e bytes held new p faults few x kept y =
+    let fs = x.frames ++ y.frames in
+    let cut : Cut bytes fs new = cut_more bytes held new x.frames y.frames x.cut y.cut in
+    let more = stream_from cut.size new in
+    let P : List ℕ → Type 0 = λ l. WrotePart e.before e.now l in
+    let front : WrotePart e.before e.now (flat_map frame_line fs) =
+    subst P (sym (flat_map-append frame_line x.frames y.frames)) (front_behind e.before p e.now (flat_map frame_line x.frames) (flat_map frame_line y.frames) x.wrote y.front)
+    in
+    let all : frame_lines bytes ≡ flat_map frame_line fs ++ flat_map frame_line more.frames =
+    ap (λ (s : Stream). flat_map frame_line s.frames) (stream_whole bytes new fs cut) ∙ flat_map-append frame_line fs more.frames
+    in
+    record {
+      few = few;
+      wrote = inl (subst P (sym all) (front_before e.before e.now (flat_map frame_line fs) (flat_map frame_line more.frames) front), rose_from e.write_faults faults e.write_faults_now kept y.rose);
+    }
+
+at_rest : (e : Edges) (bytes held : List ℕ) (p : Option (List ℕ)) (faults : ℕ) (r : Result StreamEnd PrintFault) → length bytes ≤ frames_limit → IsAtEnd e.left → CutPrinted bytes e.before held p →
+    judged held ≡ NoneYet → faults ≡ e.write_faults → RestPrinted p e.now faults e.write_faults_now (length held) r → EndsAs e bytes r
+at_rest e bytes held p faults (Ok end_.Rest) few end x waiting kept w = ends_rest e bytes held p few end x waiting w
+at_rest e bytes held p faults (Ok end_.Fault) few end x waiting kept w = absurd w
+at_rest e bytes held p faults (Err fault_.Source) few end x waiting kept w = absurd w
+at_rest e bytes held p faults (Err fault_.Sink) few end x waiting kept w = ends_unwritten e bytes held p faults few end x waiting w.0 kept w.1
+at_rest e bytes held p faults (Err fault_.TooLong) few end x waiting kept w = absurd w
+at_rest e bytes held p faults (Err fault_.NoMemory) few end x waiting kept w = absurd w
+
+-- at the end of the source
+pub ends_at_rest : (e : Edges) (bytes held : List ℕ) (p : Option (List ℕ)) (faults len : ℕ) (r : Result StreamEnd PrintFault) → length bytes ≤ frames_limit → IsAtEnd e.left → CutPrinted bytes e.before held p →
+    judged held ≡ NoneYet → len ≡ length held → faults ≡ e.write_faults → RestPrinted p e.now faults e.write_faults_now len r → EndsAs e bytes r
+ends_at_rest e bytes held p faults len r few end x waiting is kept w =
+    let P : ℕ → Type 0 = λ n. RestPrinted p e.now faults e.write_faults_now n r in
+    at_rest e bytes held p faults r few end x waiting kept (subst P is w)
+
+cut_ends : (e : Edges) (bytes held new : List ℕ) (p : Option (List ℕ)) (faults : ℕ) (x : PrintFault) → length bytes ≤ frames_limit → CutPrinted bytes e.before held p → faults ≡ e.write_faults →
+    CutsWhole held p faults new e.now e.write_faults_now (Err x) → EndsAs e bytes (Err x)
+cut_ends e bytes held new p faults fault_.Source few x kept w = absurd w
+cut_ends e bytes held new p faults fault_.Sink few x kept w = ends_stopped e bytes held new p faults few x kept w
+cut_ends e bytes held new p faults fault_.TooLong few x kept w = absurd w
+cut_ends e bytes held new p faults fault_.NoMemory few x kept w = ends_memory e bytes new few (printed_more bytes held new e.before p e.now x w)
+
+-- where printing the whole frames stopped
+pub ends_in_cut : (e : Edges) (bytes held new : List ℕ) (p : Option (List ℕ)) (faults : ℕ) (x y : PrintFault) (r : Result StreamEnd PrintFault) → length bytes ≤ frames_limit → CutPrinted bytes e.before held p →
+    faults ≡ e.write_faults → CutsWhole held p faults new e.now e.write_faults_now (Err x) → y ≡ x → r ≡ Err y → EndsAs e bytes r
+ends_in_cut e bytes held new p faults x y r few printed kept w same is =
+    let P : Result StreamEnd PrintFault → Type 0 = λ q. EndsAs e bytes q in
+    subst P (sym (is ∙ ap (λ (z : PrintFault). Err z) same)) (cut_ends e bytes held new p faults x few printed kept w)

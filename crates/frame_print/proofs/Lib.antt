@@ -1,0 +1,7 @@
+pub mod Writing
+pub mod Digits
+pub mod Cuts
+pub mod Ends
+pub mod PieceLemmas
+pub mod FrameLines
+pub mod Steps

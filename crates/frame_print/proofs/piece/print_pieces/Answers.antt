@@ -1,0 +1,14 @@
+use Rattle.std.proofs.Common.{◌+◌, take, drop}
+use Rattle.std.proofs.lemmas.Result.{err_from_is_err_and}
+use Rattle.frame_print.specs.Pieces.{pieces_text}
+use Rattle.frame_print.proofs.Writing.{stopped_in}
+use Rattle.frame_print.proofs.PieceLemmas.{pieces_rest}
+use Rattle.frame_print.proofs.piece.print_pieces.Goals as goal
+
+pub returns-in_err-print_piece : goal.returns-in_err-print_piece
+returns-in_err-print_piece g c =
+    let p = err_from_is_err_and c.from_residual.result c.from_residual.ensures.1 in
+    let ps = c.args.pieces.now in
+    let i = c.loop-piece.piece-index in
+    stopped_in _ _ _ _ _ _ (pieces_text (take i ps)) _ (pieces_text (drop (i + 1) ps)) _ _ _ _ c.loop-piece.invariant c.in_err-print_piece.ensures
+    (pieces_rest ps i c.piece-item.result c.loop-piece-test.true c.piece-item.is) p.1

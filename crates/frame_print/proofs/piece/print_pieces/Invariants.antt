@@ -1,0 +1,8 @@
+use Rattle.std.proofs.Common.{take, Ok}
+use Rattle.frame_print.specs.Written.{Writes}
+use Rattle.frame_print.specs.Pieces.{pieces_text}
+use Rattle.frame_print.proofs.piece.print_pieces.Given as goal
+
+abbrev pub invariant-loop-piece : goal.invariant-loop-piece
+invariant-loop-piece g l = Writes (g.K.Sink.contents l.initial.out) (g.K.Sink.contents l.out) (g.K.Sink.faults l.initial.out) (g.K.Sink.faults l.out)
+    (pieces_text (take l.piece-index l.pieces)) (Ok tt)

@@ -1,0 +1,12 @@
+use Rattle.std.proofs.Common.{◌≡◌, length}
+use Rattle.frame_print.specs.Cutting.{CutPrinted}
+use Rattle.frame_print.proofs.print.print_whole.Given as goal
+
+abbrev pub invariant-loop-frame : goal.invariant-loop-frame
+invariant-loop-frame g l = record {
+  printed : CutPrinted l.initial.cutter (g.K.Sink.contents l.initial.out) l.cutter (g.K.Sink.contents l.out);
+  kept : g.K.Sink.faults l.out ≡ g.K.Sink.faults l.initial.out;
+}
+
+abbrev pub decreases-loop-frame : goal.decreases-loop-frame
+decreases-loop-frame g l = length l.cutter

@@ -1,0 +1,67 @@
+ghost use Rattle.std.specs.Prelude.{◌≡◌, ◌*◌, ◌≤◌, length};
+ghost use Rattle.hex.specs.Hex.{encode_lower};
+ghost use Rattle.sock_words.specs.Printed.{hex_text};
+ghost use Rattle.frame_print.specs.Written.{Writes};
+
+use crate::output::{from_place, write_all};
+use io_buf::IoBuf;
+use sock_io::{Failed, Sink};
+
+/// As many bytes are turned into digits at once.
+const CHUNK: usize = 2048;
+
+/// Writes bytes in hexadecimal, `-` for none.
+pub fn print_hex<K: Sink>(out: &mut K, bytes: &[u8]) -> Result<(), Failed>
+    ensures { Writes (K.contents out.old) (K.contents out.new) (K.faults out.old) (K.faults out.new) (hex_text bytes.now) result }
+{
+    if bytes.is_empty() {
+        return write_all(out, b"-");
+    }
+    print_digits(out, bytes)
+}
+
+/// Writes the bytes of a buffer in hexadecimal, `-` for none.
+pub fn print_buffer<K: Sink>(out: &mut K, buf: &IoBuf) -> Result<(), Failed>
+    ensures { Writes (K.contents out.old) (K.contents out.new) (K.faults out.old) (K.faults out.new) (hex_text buf.now.items) result }
+{
+    if buf.is_empty() {
+        return write_all(out, b"-");
+    }
+    print_blocks(out, buf)
+}
+
+// Writes two digits a byte, block by block.
+fn print_blocks<K: Sink>(out: &mut K, buf: &IoBuf) -> Result<(), Failed>
+    ensures { Writes (K.contents out.old) (K.contents out.new) (K.faults out.old) (K.faults out.new) (encode_lower buf.now.items) result }
+{
+    for place in 0..buf.refs() {
+        print_digits(out, buf.piece(place))?;
+    }
+    Ok(())
+}
+
+// Writes two digits a byte.
+fn print_digits<K: Sink>(out: &mut K, bytes: &[u8]) -> Result<(), Failed>
+    ensures { Writes (K.contents out.old) (K.contents out.new) (K.faults out.old) (K.faults out.new) (encode_lower bytes.now) result }
+{
+    let mut rest = bytes;
+    while !rest.is_empty() {
+        let count = rest.len().min(CHUNK);
+        print_chunk(out, &rest[..count])?;
+        rest = from_place(rest, count);
+    }
+    Ok(())
+}
+
+// Writes two digits a byte of at most a chunk.
+fn print_chunk<K: Sink>(out: &mut K, bytes: &[u8]) -> Result<(), Failed>
+    requires { length bytes.now ≤ CHUNK }
+    ensures { Writes (K.contents out.old) (K.contents out.new) (K.faults out.old) (K.faults out.new) (encode_lower bytes.now) result }
+{
+    let mut room = [0; 2 * CHUNK];
+    let digits = &mut room[..2 * bytes.len()];
+    match hex::encode_to_slice(bytes, digits) {
+        Ok(()) => write_all(out, digits),
+        Err(_) => unreachable!(),
+    }
+}

@@ -1,0 +1,13 @@
+//! What `frames` prints: a line for each frame of the bytes that a source gives, and a last line.
+#![tactic(auto)]
+
+mod ending_text;
+mod frame_text;
+mod hexadecimal;
+mod output;
+mod piece;
+mod print;
+#[cfg(test)]
+mod tests;
+
+pub use print::{PrintFault, StreamEnd, print_frames};

@@ -1,0 +1,6 @@
+pub mod Judging
+pub mod Lasting
+pub mod Bodies
+pub mod Headers
+pub mod Encoded
+pub mod Sizes

@@ -1,0 +1,29 @@
+use Rattle.std.proofs.Common.{◌-◌, ◌+◌, ℕ, List, drop, ap, sym, ◌∙◌}
+use Rattle.std.proofs.lemmas.Result.{err_from_is_err_and}
+use Rattle.brpc_model.specs.Frame.{Begins}
+use Rattle.rpc_meta.specs.Meaning.{meaning}
+use Rattle.prpc_frame.proofs.Bodies.{meta_err, attachment_err, begins_with}
+use Rattle.prpc_frame.proofs.body.read_frame.Goals as goal
+
+pub returns-in_err-meta : goal.returns-in_err-meta
+returns-in_err-meta c =
+    let p = err_from_is_err_and c.from_residual.result c.from_residual.ensures.1 in
+    rw (p.1, p.2) (meta_err c.args.held.now.items c.args.sizes.meta c.args.sizes.body c.in_err-meta.field-0.0 c.requires.meta c.requires.body c.in_err-meta.ensures)
+
+pub returns-in_err-attached : goal.returns-in_err-attached
+returns-in_err-attached c =
+    let p = err_from_is_err_and c.from_residual-in_err-attached.result c.from_residual-in_err-attached.ensures.1 in
+    rw (p.1, p.2) (attachment_err c.args.held.now.items c.args.sizes.meta c.args.sizes.body (meaning c.in_ok-meta.meta) c.in_err-attached.field-0.0 c.requires.meta c.requires.body c.in_ok-meta.ensures c.in_err-attached.ensures)
+
+pub returns : goal.returns
+returns c =
+    let items = c.args.held.now.items in
+    let meta = c.args.sizes.meta in
+    let body = c.args.sizes.body in
+    let m = meaning c.in_ok-meta.meta in
+    let n = c.in_ok-attached.attached in
+    let rest = c.pop_front.new.self.items in
+    begins_with items meta body n m rest c.requires.meta c.requires.body c.in_ok-meta.ensures c.in_ok-attached.ensures.0 c.in_ok-attached.ensures.1
+    (c.pop_front.ensures.items ∙ ap (λ (l : List ℕ). drop (12 + meta) l) c.in_ok-rest.ensures.items)
+    ∙ ap (λ (l : List ℕ). Begins (record { meta = m; payload = l; attachment = drop (body - meta - n) rest }) body) (sym c.in_ok-payload.ensures.items)
+    ∙ ap (λ (l : List ℕ). Begins (record { meta = m; payload = c.in_ok-payload.payload.items; attachment = l }) body) (sym c.pop_front-2.ensures.items)

@@ -1,0 +1,31 @@
+-- What the body of a frame tells.
+use Rattle.std.specs.Prelude.{◌≡◌, ℕ, ◌≤◌, ◌<◌, ℤ, pos, List, take, drop, Result, Ok, Err}
+use Rattle.brpc_model.specs.Frame as model
+use Rattle.brpc_model.specs.Frame.{Judged, body_judged}
+use Rattle.brpc_model.specs.Meta.{read_meta}
+use Rattle.rpc_meta.specs.Meaning.{meaning}
+use Rattle.rpc_meta.specs.declared.meta.RpcMeta.{RpcMeta}
+use Rattle.prpc_frame.specs.Meaning.{frame_of, IsFault}
+use Rattle.prpc_frame.specs.Header.{inside_of}
+use Rattle.prpc_frame.specs.declared.frame.Frame.{Frame}
+use Rattle.prpc_frame.specs.declared.fault.FrameFault.{FrameFault}
+use Rattle.prpc_frame.specs.declared.fault.FrameFault.TheVariants.{AttachOver}
+use Rattle.prpc_frame.specs.declared.fault.NextFault as next
+use Rattle.prpc_frame.specs.declared.fault.NextFault.TheVariants as next_
+
+-- the meta behind the header, or its fault, whatever stands behind it
+abbrev pub MetaSays : List ℕ → ℕ → Result RpcMeta next.NextFault → Type 0
+MetaSays bytes size (Ok meta) = read_meta (take size (drop 12 bytes)) ≡ Ok (meaning meta)
+MetaSays bytes size (Err (next_.Frame fault)) = (behind : List ℕ) (body : ℕ) → IsFault (body_judged (read_meta (take size (drop 12 bytes))) behind body) fault
+MetaSays bytes size (Err next_.NoMemory) = Unit {0}
+
+-- the size of an attachment that fits in the room, or the fault of one that is negative or doesn't
+abbrev pub AttachmentSays : ℤ → ℕ → Result ℕ FrameFault → Type 0
+AttachmentSays size room (Ok n) = (size ≡ pos n) × (n ≤ room)
+AttachmentSays size room (Err fault) = (fault ≡ AttachOver size room) × ((n : ℕ) → size ≡ pos n → room < n)
+
+-- the frame, or the fault of its meta or its attachment
+abbrev pub BodySays : List ℕ → ℕ → ℕ → Result Frame next.NextFault → Type 0
+BodySays bytes meta body (Ok f) = body_judged (read_meta (take meta (inside_of body bytes))) (drop meta (inside_of body bytes)) body ≡ model.Begins (frame_of f) body
+BodySays bytes meta body (Err (next_.Frame fault)) = IsFault (body_judged (read_meta (take meta (inside_of body bytes))) (drop meta (inside_of body bytes)) body) fault
+BodySays bytes meta body (Err next_.NoMemory) = Unit {0}

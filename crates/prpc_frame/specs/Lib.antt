@@ -1,0 +1,6 @@
+pub mod Meaning
+pub mod Header
+pub mod Body
+pub mod Answers
+pub mod Inside
+pub mod Leads

@@ -1,0 +1,57 @@
+ghost use Rattle.std.specs.Prelude.{◌≡◌, ◌+◌, ◌≤◌, length};
+ghost use Rattle.prpc_frame.specs.Body.{MetaSays, AttachmentSays, BodySays};
+
+use crate::fault::{FrameFault, NextFault};
+use crate::frame::Frame;
+use crate::header::Sizes;
+use io_buf::IoBuf;
+use rpc_meta::{MetaFault, RpcMeta};
+use std::alloc::Global;
+
+/// The frame of these sizes at the front. Its payload and attachment are shared.
+pub fn read_frame(alloc: Global, held: &IoBuf, sizes: Sizes) -> Result<Frame, NextFault>
+    requires meta { sizes.meta ≤ sizes.body }
+    requires body { 12 + sizes.body ≤ length held.now.items }
+    ensures { BodySays held.now.items sizes.meta sizes.body result }
+{
+    let meta_bytes = sizes.meta as usize;
+    let body_bytes = sizes.body as usize;
+    let meta = read_meta(alloc, held, meta_bytes)?;
+    let room = sizes.body - sizes.meta;
+    let attached = attachment_bytes(&meta, room)?;
+    let mut rest = held.share_front(12 + body_bytes)?;
+    rest.pop_front(12 + meta_bytes);
+    let payload_bytes = (room - attached) as usize;
+    let payload = rest.share_front(payload_bytes)?;
+    rest.pop_front(payload_bytes);
+    Ok(Frame {
+        meta,
+        payload,
+        attachment: rest,
+    })
+}
+
+// The meta that stands behind the header.
+fn read_meta(alloc: Global, held: &IoBuf, size: usize) -> Result<RpcMeta, NextFault>
+    requires { 12 + size ≤ length held.now.items }
+    ensures { MetaSays held.now.items size result }
+{
+    let mut bytes = vec![in alloc; 0; size]?;
+    held.copy_at(12, &mut bytes);
+    match RpcMeta::read(alloc, &bytes) {
+        Ok(meta) => Ok(meta),
+        Err(MetaFault::NoMemory) => Err(NextFault::NoMemory),
+        Err(fault) => Err(NextFault::Frame(FrameFault::Meta(fault))),
+    }
+}
+
+// How many bytes the attachment has, where it fits in the room behind the meta.
+fn attachment_bytes(meta: &RpcMeta, room: u32) -> Result<u32, FrameFault>
+    ensures { AttachmentSays meta.now.attachment_size room result }
+{
+    let size = meta.attachment_size;
+    if size < 0 || size.unsigned_abs() > room {
+        return Err(FrameFault::AttachOver { size, room });
+    }
+    Ok(size.unsigned_abs())
+}

@@ -1,0 +1,12 @@
+use Rattle.std.proofs.Common.{◌≡◌, ◌≤◌, ◌+◌, ◌++◌, map, drop}
+use Rattle.sock_programs.specs.Tasks.{opens}
+use Rattle.script_items.specs.Meaning.{item}
+use Rattle.script_tasks.specs.Along.{opens_along}
+use Rattle.script_tasks.proofs.Alongs.{left}
+use Rattle.script_tasks.proofs.tasks.opens_of.Given as goal
+
+abbrev pub invariant-loop-line : goal.invariant-loop-line
+invariant-loop-line l = record {
+  room : l.number + left (map item (drop l.line-index l.lines)) ≤ 4096;
+  opens : l.opens.items ++ opens_along l.number (map item (drop l.line-index l.lines)) ≡ opens (map item l.lines);
+}

@@ -1,0 +1,30 @@
+ghost use Rattle.std.specs.Prelude.{◌≡◌, map, IfOk};
+ghost use Rattle.sock_programs.specs.Tasks.{plan_of};
+ghost use Rattle.script_items.specs.Meaning.{item};
+ghost use Rattle.quiet_fits.specs.Limits.{KeepsLimits};
+
+use crate::names::names_of;
+use crate::sizes::{
+    client_count, first_version, link_count, operation_count, request_count, slot_count,
+};
+use script_items::Line;
+use sock_words::Plan;
+use std::alloc::{AllocError, Global};
+
+/// The sizes of a script's table: what its lines give or count, and a seat for each client and one
+/// for the setup. The memory is for a list of the names.
+pub fn plan_of(alloc: Global, lines: &[Line]) -> Result<Plan, AllocError>
+    requires { KeepsLimits (map item lines.now) }
+    ensures { IfOk result (λ plan. plan ≡ plan_of (map item lines.now)) }
+{
+    let names = names_of(alloc, lines)?;
+    Ok(Plan {
+        slots: slot_count(lines) as u16,
+        links: link_count(lines) as u16,
+        requests: request_count(lines) as u16,
+        names: names.len() as u16,
+        operations: operation_count(lines) as u16,
+        seats: client_count(lines) as u16 + 1,
+        first: first_version(lines),
+    })
+}

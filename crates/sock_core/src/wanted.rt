@@ -1,0 +1,36 @@
+ghost use Rattle.std.specs.Prelude.{◌≡◌, ℕ, List, Ok, map, IfOk};
+ghost use Rattle.brpc_model.specs.Script.{script_of};
+ghost use Rattle.sock_programs.specs.Scripts.{all_tasks};
+ghost use Rattle.sock_programs.specs.Tasks.{plan_of, opens};
+
+use script_items::Script;
+use script_tasks::{opens_of, plan_of, tasks_of};
+use sock_programs::Task;
+use sock_words::Plan;
+use std::alloc::{AllocError, Global};
+use std::collections::VecDeque;
+
+/// What a script wants of a machine.
+#[derive(Drop)]
+pub struct Wanted {
+    pub plan: Plan,
+    /// The tasks of the setup and of each client.
+    pub clients: Vec<VecDeque<Task>>,
+    /// The `open`s that the ending goes over.
+    pub opens: VecDeque<u16>,
+}
+
+/// What a script that was read wants.
+pub fn wanted_of(alloc: Global, script: &Script) -> Result<Wanted, AllocError>
+    requires { (bytes : List ℕ) × (script_of bytes ≡ Ok script.now) }
+    ensures plan { IfOk result (λ w. w.plan ≡ plan_of script.now) }
+    ensures clients { IfOk result (λ w. map (λ (tasks : _). tasks.items) w.clients.items ≡ all_tasks script.now) }
+    ensures opens { IfOk result (λ w. w.opens.items ≡ opens script.now) }
+{
+    let lines = script.lines();
+    Ok(Wanted {
+        plan: plan_of(alloc, lines)?,
+        clients: tasks_of(alloc, lines)?,
+        opens: opens_of(alloc, lines)?,
+    })
+}
