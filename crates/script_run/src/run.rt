@@ -1,8 +1,10 @@
-ghost use Rattle.std.specs.Prelude.{◌≡◌, ◌≤◌, ℕ, List, Ok, true, false, [], map, length, count_by, IfOk, OnOk, OnErr, IsErrOf};
+ghost use Rattle.std.specs.Prelude.{◌≡◌, ◌<◌, ◌≤◌, ℕ, List, Ok, true, false, [], map, length, count_by, IfOk, OnOk, OnErr, IsErrOf};
 ghost use Rattle.std.specs.List.{list_all, AllByRecursion};
 ghost use Rattle.brpc_model.specs.Items.{Item, is_open};
 ghost use Rattle.brpc_model.specs.Script.{script_of};
-ghost use Rattle.brpc_model.specs.Operations.{clients, link_names};
+ghost use Rattle.sock_programs.specs.Cores.{Core};
+ghost use Rattle.sock_runs.specs.Sound.{IsOver};
+ghost use Rattle.brpc_model.specs.Operations.{slots, clients, link_names};
 ghost use Rattle.brpc_model.specs.Report.{report_text};
 ghost use Rattle.script_report.specs.Quiet.{quiet_report};
 ghost use Rattle.script_items.specs.Meaning.{item};
@@ -47,6 +49,8 @@ pub fn run_quiet<L: Linker>(
     requires back { L.back links.old ≡ [] }
     ensures text { IfOk result (λ text. IsRunText script.now text.items) }
     ensures only { IfOk result (λ text. (other : List ℕ) → IsRunText script.now other → other ≡ text.items) }
+    // In the end nobody refers to any slot: each life has ended.
+    ensures over { OnOk result ((core : Core) → IsRunOf script.now core → (slot : ℕ) → slot < slots script.now → IsOver core.words slot) }
     ensures untouched { AreUntouched 0 (L.back links.new) }
     ensures all { OnOk result (length (L.back links.new) ≡ length (link_names script.now)) }
     ensures opened { L.opened links.new ≡ length (L.back links.new) }

@@ -5,6 +5,7 @@ use Rattle.script_run.proofs.Numbering.{numbered_of, links_of, few_links, pieces
 use Rattle.std.proofs.lemmas.List.{length-map}
 use Rattle.quiet_fits.proofs.Sizes.{keeps_limits}
 use Rattle.script_run.proofs.OneRun.{only_text, ok_all}
+use Rattle.quiet_runs.proofs.Runs.{run_is_over}
 use Rattle.script_run.proofs.run.run_quiet.Goals as goal
 
 pub open_links-opened-requires-clause-pieces : goal.open_links-opened-requires-clause-pieces
@@ -34,3 +35,6 @@ give_back-requires-clause-few g c κs within = omega (arith, c.in-Err.ensures.mo
 pub returns-in-Ok-clause-all : goal.returns-in-Ok-clause-all
 returns-in-Ok-clause-all g c =
     ok_all c.run_over.result (ap length c.run_over.ensures.back ∙ length-map c.open_links-opened.new.ends.items _ ∙ c.in-Ok.ensures.whole ∙ links_of c.args.script.now c.lines.result.now c.lines.ensures)
+
+pub returns-in-Ok-clause-over : goal.returns-in-Ok-clause-over
+returns-in-Ok-clause-over g c = ok_all c.run_over.result (λ core run slot inside. run_is_over c.requires.script.0 c.args.script.now c.requires.script.1 core run slot inside)
