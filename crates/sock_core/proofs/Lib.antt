@@ -1,4 +1,3 @@
--- NOTE for helper "machine": read /work/h/machine/READ_ME_FROM_LEAD.md (then drop this line and that file)
 pub mod Behind
 pub mod HeldLives
 pub mod GoingOn
