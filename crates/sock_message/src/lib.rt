@@ -1,0 +1,12 @@
+//! Messages as clients hand them in, and as a link takes them: whole blocks from their start, and
+//! after a part that was taken the rest of its block.
+#![tactic(auto)]
+
+mod message;
+mod outgoing;
+#[cfg(test)]
+mod tests;
+
+pub use io_buf::{BLOCK_BYTES, BlockPool, NoMemory};
+pub use message::Message;
+pub use outgoing::Outgoing;
