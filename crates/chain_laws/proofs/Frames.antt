@@ -62,6 +62,8 @@ module _ (m m' : Memory) (t t' : Tokens) where
     counts = h.counts;
     some_noted = h.some_noted;
     fits = h.fits;
+    turned_is = h.turned_is;
+    noted_is = h.noted_is;
     last_is = h.last_is;
     stage_is = stage_frame c h.counts freed places r.stage (λ i e late g still. a i e late g) h.stage_is;
     points = λ i e late g. let s = a i e late g in points_frame c h.counts i e (m.next e.request) (m'.next e.request) (t.loose e.request) (t'.loose e.request) s.0 s.1 (h.points i e late g);

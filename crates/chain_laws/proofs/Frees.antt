@@ -65,6 +65,9 @@ module _ {links requests : ℕ} {m : Memory} {t : Tokens} {log : List Entry} {fr
   its_generation : generation_of now ≡ it.0.generation
   its_generation = let z = size.1 in ap generation_of (sym fits.now_is ∙ it.2) ∙ generation_is it.0 (omega arith)
 
+  pub now_small : generation_of now < 140737488355328
+  now_small = let z = size.2 in let q = its_generation in omega arith
+
   -- the request of `now` is given back by no other entry
   other : (j i : ℕ) (d : Entry) → freed j ≤ i → get_elem? (on j log) i ≡ some d → (j ≡ k → i ≢ freed k) → d.request ≢ it.0.request
   other j i d late g ne same = let z = live_same s j i d k (freed k) it.0 late g (omega arith) it.1 same in ne z.0 z.1
@@ -97,10 +100,10 @@ module _ {links requests : ℕ} {m : Memory} {t : Tokens} {log : List Entry} {fr
         (λ far. let a = fr.else j (in_size s j i d g).0 far in omega arith)
 
     -- C8
-    pub frees : (r' : Right) → r'.last ≡ r.last → r'.stage ≡ b → generation_of now < 140737488355327 → Same links m.head m'.head → Same requests m.next m'.next → Changed requests m.request m'.request (slot_of now) (2 * (generation_of now + 1))
+    pub frees : (r' : Right) → r'.last ≡ r.last → r'.turned ≡ r.turned → r'.noted ≡ r.noted → r'.stage ≡ b → generation_of now < 140737488355327 → Same links m.head m'.head → Same requests m.next m'.next → Changed requests m.request m'.request (slot_of now) (2 * (generation_of now + 1))
         → Changed links t.rights t'.rights k (r' ∷ []) → Same requests t.claims t'.claims → Same requests t.loose t'.loose
         → Chains links requests m' t' log freed' places
-    frees r' last' stage' small hd nx rq rt cl lo =
+    frees r' last' turned' noted' stage' small hd nx rq rt cl lo =
         let c = on k log in let n = held.counts in let f = held.fits in
         let els : (j i : ℕ) (d : Entry) → freed' j ≤ i → get_elem? (on j log) i ≡ some d → m'.request d.request ≡ m.request d.request =
         λ j i d late g. rq.else d.request (in_size s j i d g).1 (λ z. (later j i d late g).1 (z ∙ slot)) in
@@ -108,6 +111,8 @@ module _ {links requests : ℕ} {m : Memory} {t : Tokens} {log : List Entry} {fr
           counts = n;
           some_noted = held.some_noted;
           fits = (fits.noted, f.1, f.2, f.3);
+          turned_is = held.turned_is ∙ ap (λ y. n.left + y) (sym turned');
+          noted_is = held.noted_is ∙ sym noted';
           last_is = held.last_is ∙ sym last';
           stage_is = subst (InStage m' t' c n (suc (freed k)) (places k)) (sym stage') (after_free m m' t t' c n (freed k) (places k) r.last now r.stage b leads (on_distinct s k) (omega arith) held.last_is held.stage_is);
           points = λ i d late g. let z = in_size s k i d g in points_frame m m' t t' c n i d (m.next d.request) (m'.next d.request) (t.loose d.request) (t'.loose d.request) (nx d.request z.1) (lo d.request z.1) (held.points i d (omega arith) g);
@@ -140,10 +145,10 @@ module _ {links requests : ℕ} {m : Memory} {t : Tokens} {log : List Entry} {fr
         }
 
     -- the same where the generation is the last one: the request stays taken for good, and no word changes
-    pub retires : (r' : Right) → r'.last ≡ r.last → r'.stage ≡ b → generation_of now ≡ 140737488355327 → Same links m.head m'.head → Same requests m.next m'.next → Same requests m.request m'.request
+    pub retires : (r' : Right) → r'.last ≡ r.last → r'.turned ≡ r.turned → r'.noted ≡ r.noted → r'.stage ≡ b → generation_of now ≡ 140737488355327 → Same links m.head m'.head → Same requests m.next m'.next → Same requests m.request m'.request
         → Changed links t.rights t'.rights k (r' ∷ []) → Same requests t.claims t'.claims → Same requests t.loose t'.loose
         → Chains links requests m' t' log freed' places
-    retires r' last' stage' last hd nx rq rt cl lo =
+    retires r' last' turned' noted' stage' last hd nx rq rt cl lo =
         let c = on k log in let n = held.counts in let f = held.fits in
         let els : (j i : ℕ) (d : Entry) → freed' j ≤ i → get_elem? (on j log) i ≡ some d → m'.request d.request ≡ m.request d.request =
         λ j i d late g. rq d.request (in_size s j i d g).1 in
@@ -171,6 +176,8 @@ module _ {links requests : ℕ} {m : Memory} {t : Tokens} {log : List Entry} {fr
           counts = n;
           some_noted = held.some_noted;
           fits = (fits.noted, f.1, f.2, f.3);
+          turned_is = held.turned_is ∙ ap (λ y. n.left + y) (sym turned');
+          noted_is = held.noted_is ∙ sym noted';
           last_is = held.last_is ∙ sym last';
           stage_is = subst (InStage m' t' c n (suc (freed k)) (places k)) (sym stage') (after_free m m' t t' c n (freed k) (places k) r.last now r.stage b leads (on_distinct s k) (omega arith) held.last_is held.stage_is);
           points = λ i d late g. let z = in_size s k i d g in points_frame m m' t t' c n i d (m.next d.request) (m'.next d.request) (t.loose d.request) (t'.loose d.request) (nx d.request z.1) (lo d.request z.1) (held.points i d (omega arith) g);

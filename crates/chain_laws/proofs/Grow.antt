@@ -53,6 +53,8 @@ held_grow m t c a freed places r h w = let n = h.counts in let f = h.fits in rec
   counts = n;
   some_noted = h.some_noted;
   fits = (f.0, f.1, f.2, omega (arith, length-append c (a ∷ [])));
+  turned_is = h.turned_is;
+  noted_is = h.noted_is;
   last_is = nth_snoc c a n.noted (omega arith) ∙ h.last_is;
   stage_is = stage_grow m t c a n freed places r.stage f.0 f.1 f.2 f.3 h.stage_is;
   points = λ i e late g. elim (at_snoc c a i e g) [
@@ -67,12 +69,14 @@ held_grow m t c a freed places r h w = let n = h.counts in let f = h.fits in rec
 }
 
 -- the first entry of a head that was idle, with the right to write it
-held_first : (m : Memory) (t : Tokens) (c : List Entry) (a : Entry) (freed places : ℕ) (r : Right) → freed ≡ length c → places ≡ freed → r.last ≡ ticket a → r.stage ≡ Writes (ticket a) → t.loose a.request ≡ [] → Held m t (c ++ a ∷ []) freed places r
-held_first m t c a freed places r f p last stage still = let n : Counts = record { noted = suc (length c); left = suc (length c); top = suc (length c) } in
+held_first : (m : Memory) (t : Tokens) (c : List Entry) (a : Entry) (freed places : ℕ) (r : Right) → freed ≡ length c → places ≡ freed → r.last ≡ ticket a → r.turned ≡ 0 → r.noted ≡ suc places → r.stage ≡ Writes (ticket a) → t.loose a.request ≡ [] → Held m t (c ++ a ∷ []) freed places r
+held_first m t c a freed places r f p last none_turned noted stage still = let n : Counts = record { noted = suc (length c); left = suc (length c); top = suc (length c) } in
     let one : length (c ++ a ∷ []) ≡ suc (length c) = omega (arith, length-append c (a ∷ [])) in record {
       counts = n;
       some_noted = omega arith;
       fits = (omega arith, omega arith, omega arith, omega arith);
+      turned_is = omega arith;
+      noted_is = omega arith;
       last_is = nth_new c a ∙ sym last;
       stage_is = subst (InStage m t (c ++ a ∷ []) n freed places) (sym stage) ((refl, refl), p, omega arith, ap (λ y. nth (c ++ a ∷ []) (suc y)) f ∙ nth_new c a);
       points = λ i e late g. elim (at_snoc c a i e g) [
@@ -216,14 +220,14 @@ module _ {links requests : ℕ} {m : Memory} {t : Tokens} {log : List Entry} {fr
         nx rq cl (λ q ql. lo.else q ql)
 
     -- an idle head was found: the entry has the right
-    pub begins : (y : Right) → freed k ≡ length (on k log) → places k ≡ freed k → y.last ≡ ticket e → y.stage ≡ Writes (ticket e)
+    pub begins : (y : Right) → freed k ≡ length (on k log) → places k ≡ freed k → y.last ≡ ticket e → y.turned ≡ 0 → y.noted ≡ suc (places k) → y.stage ≡ Writes (ticket e)
         → Changed links m.head m'.head k (some (ticket e)) → Same requests m.next m'.next → Same requests m.request m'.request
         → Changed links t.rights t'.rights k (y ∷ []) → Changed requests t.claims t'.claims e.request [] → Same requests t.loose t'.loose
         → Chains links requests m' t' (log ++ e ∷ []) freed places
-    begins y done all last stage hd nx rq rt cl lo =
+    begins y done all last none_turned noted stage hd nx rq rt cl lo =
         let c' = on k log in
         let more : suc (length c') ≡ length (c' ++ e ∷ []) = omega (arith, length-append c' (e ∷ [])) in
-        let first : Held m' t' (c' ++ e ∷ []) (freed k) (places k) y = held_first m' t' c' e (freed k) (places k) y done all last stage (lo e.request x.request_in ∙ is_claimed.still) in
+        let first : Held m' t' (c' ++ e ∷ []) (freed k) (places k) y = held_first m' t' c' e (freed k) (places k) y done all last none_turned noted stage (lo e.request x.request_in ∙ is_claimed.still) in
         let now : Standing m' t' k (c' ++ e ∷ []) (freed k) (places k) = busy y (hd.here ∙ ap (λ n. some n) (sym (nth_new c' e) ∙ ap (λ n. nth (c' ++ e ∷ []) n) more)) rt.here first in
         exchanges (omega arith)
         (λ j jl. dite (ℕ_discrete j k) (λ same. subst (λ q. Standing m' t' q (on q (log ++ e ∷ [])) (freed q) (places q)) (sym same) (subst (λ l. Standing m' t' k l (freed k) (places k)) (sym (on_hit k log e x.link_is)) now))

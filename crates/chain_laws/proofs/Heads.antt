@@ -43,8 +43,8 @@ emptied c d m t freed places r h stage same =
 
 -- C4: the head had another ticket
 begun : (c : List Entry) → Distinct ticket c → (m : Memory) (t : Tokens) (freed places : ℕ) (r r' : Right) (h : Held m t c freed places r) → r.stage ≡ Empties → nth c (length c) ≢ r.last
-    → r'.last ≡ r.last → r'.stage ≡ Walks (nth c (length c)) (nth c (length c)) 0 → Held m t c freed places r'
-begun c d m t freed places r r' h stage ne last' stage' =
+    → r'.last ≡ r.last → r'.turned ≡ r.turned → r'.noted ≡ r.noted → r'.stage ≡ Walks (nth c (length c)) (nth c (length c)) 0 → Held m t c freed places r'
+begun c d m t freed places r r' h stage ne last' turned' noted' stage' =
     let n = h.counts in let f = h.fits in
     let st : InStage m t c n freed places Empties = subst (InStage m t c n freed places) stage h.stage_is in
     let short : n.noted ≢ length c = λ e. ne (sym (ap (λ y. nth c y) e) ∙ h.last_is) in
@@ -54,6 +54,8 @@ begun c d m t freed places r r' h stage ne last' stage' =
       counts = w;
       some_noted = h.some_noted;
       fits = (f.0, omega arith, omega arith, omega arith);
+      turned_is = (let z = h.turned_is in omega arith);
+      noted_is = h.noted_is ∙ sym noted';
       last_is = h.last_is ∙ sym last';
       stage_is = subst (InStage m t c w freed places) (sym stage') record { all_freed = (done, st.1); some_left = omega arith; top_is = refl; at_is = refl; after_is = λ y. absurd (omega arith); no_after = λ y. refl };
       points = λ i e late g. let z = at_length c i e g in let old = h.points i e late g in record {
@@ -65,8 +67,8 @@ begun c d m t freed places r r' h stage ne last' stage' =
     }
 
 -- P1 and C5 as far as the right goes: the stage is another
-restaged : (m : Memory) (t : Tokens) (c : List Entry) (freed places places' : ℕ) (r r' : Right) (h : Held m t c freed places r) → r'.last ≡ r.last → InStage m t c h.counts freed places' r'.stage → Held m t c freed places' r'
-restaged m t c freed places places' r r' h last now = record { counts = h.counts; some_noted = h.some_noted; fits = h.fits; last_is = h.last_is ∙ sym last; stage_is = now; points = h.points }
+restaged : (m : Memory) (t : Tokens) (c : List Entry) (freed places places' : ℕ) (r r' : Right) (h : Held m t c freed places r) → r'.last ≡ r.last → r'.turned ≡ r.turned → r'.noted ≡ r.noted → InStage m t c h.counts freed places' r'.stage → Held m t c freed places' r'
+restaged m t c freed places places' r r' h last turned noted now = record { counts = h.counts; some_noted = h.some_noted; fits = h.fits; turned_is = h.turned_is ∙ ap (λ n. h.counts.left + n) (sym turned); noted_is = h.noted_is ∙ sym noted; last_is = h.last_is ∙ sym last; stage_is = now; points = h.points }
 
 module _ {links requests : ℕ} {m : Memory} {t : Tokens} {log : List Entry} {freed places : ℕ → ℕ} (s : Chains links requests m t log freed places) where
   -- what a right tells
@@ -90,45 +92,45 @@ module _ {links requests : ℕ} {m : Memory} {t : Tokens} {log : List Entry} {fr
         relinks s k (idle (hd.here ∙ ap (λ n. some (IDLE + n)) (sym last)) rt.here done.0 done.1) (λ j jl ne. hd.else j jl ne) nx rq (λ j jl ne. rt.else j jl ne) cl lo (λ j jl ne. refl)
 
     -- C4 lost: the walk begins at the ticket found
-    pub begins_walk : (r' : Right) (w : ℕ) → r.stage ≡ Empties → m.head k ≡ some w → w ≢ r.last → r'.last ≡ r.last → r'.stage ≡ Walks w w 0
+    pub begins_walk : (r' : Right) (w : ℕ) → r.stage ≡ Empties → m.head k ≡ some w → w ≢ r.last → r'.last ≡ r.last → r'.turned ≡ r.turned → r'.noted ≡ r.noted → r'.stage ≡ Walks w w 0
         → Same links m.head m'.head → Same requests m.next m'.next → Same requests m.request m'.request
         → Changed links t.rights t'.rights k (r' ∷ []) → Same requests t.claims t'.claims → Same requests t.loose t'.loose
         → Chains links requests m' t' log freed places
-    begins_walk r' w stage found other last' stage' hd nx rq rt cl lo =
+    begins_walk r' w stage found other last' turned' noted' stage' hd nx rq rt cl lo =
         let c = on k log in let h = held_of k r kl has in
         let last : w ≡ nth c (length c) = some-injective w (nth c (length c)) (sym found ∙ h.0) in
-        let walk = begun c (on_distinct s k) m t (freed k) (places k) r r' h.1 stage (λ e. other (last ∙ e)) last' (stage' ∙ ap (λ n. Walks n n 0) last) in
+        let walk = begun c (on_distinct s k) m t (freed k) (places k) r r' h.1 stage (λ e. other (last ∙ e)) last' turned' noted' (stage' ∙ ap (λ n. Walks n n 0) last) in
         let walk' = held_frame m m' t t' c (freed k) (places k) _ (λ i d late g. let z = in_size s k i d g in (nx d.request z.1, lo d.request z.1)) walk in
         relinks s k (busy r' (hd k kl ∙ h.0) rt.here walk')
         (λ j jl ne. hd j jl) nx rq (λ j jl ne. rt.else j jl ne) cl lo (λ j jl ne. refl)
 
     -- a step that changes no word of the chain, and the stage alone
-    pub restages : {places' : ℕ → ℕ} (r' : Right) → r'.last ≡ r.last → ((h : Held m t (on k log) (freed k) (places k) r) → InStage m t (on k log) h.counts (freed k) (places' k) r'.stage)
+    pub restages : {places' : ℕ → ℕ} (r' : Right) → r'.last ≡ r.last → r'.turned ≡ r.turned → r'.noted ≡ r.noted → ((h : Held m t (on k log) (freed k) (places k) r) → InStage m t (on k log) h.counts (freed k) (places' k) r'.stage)
         → Same links m.head m'.head → Same requests m.next m'.next → Same requests m.request m'.request
         → Changed links t.rights t'.rights k (r' ∷ []) → Same requests t.claims t'.claims → Same requests t.loose t'.loose
         → ((j : ℕ) → j < links → j ≢ k → places' j ≡ places j)
         → Chains links requests m' t' log freed places'
-    restages {places'} r' last' now hd nx rq rt cl lo pl =
+    restages {places'} r' last' turned' noted' now hd nx rq rt cl lo pl =
         let c = on k log in let h = held_of k r kl has in
-        let new = restaged m t c (freed k) (places k) (places' k) r r' h.1 last' (now h.1) in
+        let new = restaged m t c (freed k) (places k) (places' k) r r' h.1 last' turned' noted' (now h.1) in
         let new' = held_frame m m' t t' c (freed k) (places' k) _ (λ i d late g. let z = in_size s k i d g in (nx d.request z.1, lo d.request z.1)) new in
         relinks s k (busy r' (hd k kl ∙ h.0) rt.here new') (λ j jl ne. hd j jl) nx rq (λ j jl ne. rt.else j jl ne) cl lo pl
 
     -- P1: the message of `now` has its place
-    pub places_one : {places' : ℕ → ℕ} (r' : Right) (now : ℕ) → r.stage ≡ Writes now → r'.last ≡ r.last → r'.stage ≡ Placed now → Changed links places places' k (suc (places k))
+    pub places_one : {places' : ℕ → ℕ} (r' : Right) (now : ℕ) → r.stage ≡ Writes now → r'.last ≡ r.last → r'.turned ≡ r.turned → r'.noted ≡ r.noted → r'.stage ≡ Placed now → Changed links places places' k (suc (places k))
         → Same links m.head m'.head → Same requests m.next m'.next → Same requests m.request m'.request
         → Changed links t.rights t'.rights k (r' ∷ []) → Same requests t.claims t'.claims → Same requests t.loose t'.loose
         → Chains links requests m' t' log freed places'
-    places_one {places'} r' now stage last' stage' pl hd nx rq rt cl lo = restages {places' = places'} r' last'
+    places_one {places'} r' now stage last' turned' noted' stage' pl hd nx rq rt cl lo = restages {places' = places'} r' last' turned' noted'
         (λ h. subst (InStage m t (on k log) h.counts (freed k) (places' k)) (sym stage') (let st : InStage m t (on k log) h.counts (freed k) (places k) (Writes now) = subst (InStage m t (on k log) h.counts (freed k) (places k)) stage h.stage_is in (st.0, pl.here ∙ ap suc st.1, st.2, st.3)))
         hd nx rq rt cl lo (λ j jl ne. pl.else j jl ne)
 
     -- C5 behind the entry that was written, where it isn't the last one
-    pub passes_on : (r' : Right) (now : ℕ) → requests ≤ 65535 → r.stage ≡ Placed now → now ≢ r.last → r'.last ≡ r.last → r'.stage ≡ Passes now (m.next (slot_of now))
+    pub passes_on : (r' : Right) (now : ℕ) → requests ≤ 65535 → r.stage ≡ Placed now → now ≢ r.last → r'.last ≡ r.last → r'.turned ≡ r.turned → r'.noted ≡ r.noted → r'.stage ≡ Passes now (m.next (slot_of now))
         → Same links m.head m'.head → Same requests m.next m'.next → Same requests m.request m'.request
         → Changed links t.rights t'.rights k (r' ∷ []) → Same requests t.claims t'.claims → Same requests t.loose t'.loose
         → Chains links requests m' t' log freed places
-    passes_on r' now narrow stage ne last' stage' hd nx rq rt cl lo = restages {places' = places} r' last'
+    passes_on r' now narrow stage ne last' turned' noted' stage' hd nx rq rt cl lo = restages {places' = places} r' last' turned' noted'
         (λ h. subst (InStage m t (on k log) h.counts (freed k) (places k)) (sym stage') (let c = on k log in let n = h.counts in let f = h.fits in
         let st : InStage m t c n (freed k) (places k) (Placed now) = subst (InStage m t c n (freed k) (places k)) stage h.stage_is in
         let more : suc (freed k) < n.noted = (let z : suc (freed k) ≢ n.noted = λ q. ne (sym st.3 ∙ (ap (λ y. nth c y) q ∙ h.last_is)) in let y = st.2 in omega arith) in
@@ -140,11 +142,11 @@ module _ {links requests : ℕ} {m : Memory} {t : Tokens} {log : List Entry} {fr
         hd nx rq rt cl lo (λ j jl ne. refl)
 
     -- C5 on the walk, where the next word was connected
-    pub reads_back : (r' : Right) (top at after : ℕ) → requests ≤ 65535 → r.stage ≡ Walks top at after → m.next (slot_of at) ≢ UNCONNECTED → r'.last ≡ r.last → r'.stage ≡ Turns top at after (m.next (slot_of at))
+    pub reads_back : (r' : Right) (top at after : ℕ) → requests ≤ 65535 → r.stage ≡ Walks top at after → m.next (slot_of at) ≢ UNCONNECTED → r'.last ≡ r.last → r'.turned ≡ r.turned → r'.noted ≡ r.noted → r'.stage ≡ Turns top at after (m.next (slot_of at))
         → Same links m.head m'.head → Same requests m.next m'.next → Same requests m.request m'.request
         → Changed links t.rights t'.rights k (r' ∷ []) → Same requests t.claims t'.claims → Same requests t.loose t'.loose
         → Chains links requests m' t' log freed places
-    reads_back r' top at after narrow stage found last' stage' hd nx rq rt cl lo = restages {places' = places} r' last'
+    reads_back r' top at after narrow stage found last' turned' noted' stage' hd nx rq rt cl lo = restages {places' = places} r' last' turned' noted'
         (λ h. subst (InStage m t (on k log) h.counts (freed k) (places k)) (sym stage') (let c = on k log in let n = h.counts in let f = h.fits in
         let st : OnWalk c n (freed k) (places k) top at after = subst (InStage m t c n (freed k) (places k)) stage h.stage_is in
         let some_left = st.some_left in let fr = st.all_freed in (

@@ -1,5 +1,5 @@
 -- A next word is connected, or turned round by the walk; a request is given back.
-use Rattle.std.proofs.Common.{◌≡◌, ◌≢◌, ℕ, suc, ◌-◌, ◌<◌, ◌≤◌, List, [], ◌∷◌, sym, refl, ap, ◌∙◌, subst, inl, ⊎_elim, arith}
+use Rattle.std.proofs.Common.{◌≡◌, ◌≢◌, ℕ, suc, ◌+◌, ◌-◌, ◌<◌, ◌≤◌, List, [], ◌∷◌, sym, refl, ap, ◌∙◌, subst, inl, ⊎_elim, arith}
 use mathlib.Core.Logic.{dite}
 use mathlib.Core.Option.{some, some-injective}
 use native.Mathlib.Decide.{ℕ_discrete}
@@ -37,6 +37,8 @@ module _ (m m' : Memory) (t t' : Tokens) where
     counts = h.counts;
     some_noted = h.some_noted;
     fits = h.fits;
+    turned_is = h.turned_is;
+    noted_is = h.noted_is;
     last_is = h.last_is;
     stage_is = stage_frame m m' t t' c h.counts freed places r.stage (λ i e late g still. others i e late g (λ z. no_token (t.loose q) y is (ap t.loose (sym z) ∙ still))) h.stage_is;
     points = λ i e late g. dite (ℕ_discrete e.request q)
@@ -181,8 +183,8 @@ module _ {links requests : ℕ} {m : Memory} {t : Tokens} {log : List Entry} {fr
     }
 
     -- the walk goes on
-    pub turns_on : (r' : Right) → before ≢ r.last → r'.last ≡ r.last → r'.stage ≡ Walks top before at → Changed links t.rights t'.rights k (r' ∷ []) → Chains links requests m' t' log freed places
-    turns_on r' on_it last' stage' rt =
+    pub turns_on : (r' : Right) → before ≢ r.last → r'.last ≡ r.last → r'.turned ≡ suc r.turned → r'.noted ≡ r.noted → r'.stage ≡ Walks top before at → Changed links t.rights t'.rights k (r' ∷ []) → Chains links requests m' t' log freed places
+    turns_on r' on_it last' turned' noted' stage' rt =
         let c = on k log in let n = held.counts in let f = held.fits in let j = here.place in let is = here.left_is in let wk = here.walk in let fr = wk.all_freed in let sl = wk.some_left in
         let back : before ≡ nth c j = here.before_is ∙ s.chained k j here.entry here.here in
         let more : n.noted < j = (let z : n.noted ≢ j = λ q. on_it (back ∙ (ap (λ y. nth c y) (sym q) ∙ held.last_is)) in omega arith) in
@@ -191,6 +193,8 @@ module _ {links requests : ℕ} {m : Memory} {t : Tokens} {log : List Entry} {fr
           counts = w;
           some_noted = held.some_noted;
           fits = (f.0, omega arith, omega arith, f.3);
+          turned_is = (let z = held.turned_is in omega arith);
+          noted_is = held.noted_is ∙ sym noted';
           last_is = held.last_is ∙ sym last';
           stage_is = subst (InStage m' t' c w (freed k) (places k)) (sym stage') record {
             all_freed = fr;
@@ -211,8 +215,8 @@ module _ {links requests : ℕ} {m : Memory} {t : Tokens} {log : List Entry} {fr
         } in turns_next rt.else (busy r' (hd k kl ∙ (held_of s k r kl has).0) rt.here new)
 
     -- the walk ends
-    pub turns_last : (r' : Right) → before ≡ r.last → r'.last ≡ top → r'.stage ≡ Writes at → Changed links t.rights t'.rights k (r' ∷ []) → Chains links requests m' t' log freed places
-    turns_last r' on_it last' stage' rt =
+    pub turns_last : (r' : Right) → before ≡ r.last → r'.last ≡ top → r'.turned ≡ 0 → r'.noted ≡ r.noted + suc r.turned → r'.stage ≡ Writes at → Changed links t.rights t'.rights k (r' ∷ []) → Chains links requests m' t' log freed places
+    turns_last r' on_it last' turned' noted' stage' rt =
         let c = on k log in let n = held.counts in let f = held.fits in let j = here.place in let is = here.left_is in let wk = here.walk in let fr = wk.all_freed in let sl = wk.some_left in
         let back : before ≡ nth c j = here.before_is ∙ s.chained k j here.entry here.here in
         let end : n.noted ≡ j = nth_same c (on_distinct s k) n.noted j (omega arith) (omega arith) (held.last_is ∙ (sym on_it ∙ back)) in
@@ -221,6 +225,8 @@ module _ {links requests : ℕ} {m : Memory} {t : Tokens} {log : List Entry} {fr
           counts = w;
           some_noted = omega arith;
           fits = (omega arith, omega arith, omega arith, f.3);
+          turned_is = omega arith;
+          noted_is = (let z = held.turned_is in let y = held.noted_is in omega arith);
           last_is = wk.top_is ∙ sym last';
           stage_is = subst (InStage m' t' c w (freed k) (places k)) (sym stage') ((refl, refl), fr.1, omega arith, ap (λ y. nth c y) (let z : suc (freed k) ≡ n.left = omega arith in z) ∙ wk.at_is);
           points = λ i d late g. dite (ℕ_discrete i j)

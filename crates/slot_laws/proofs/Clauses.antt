@@ -1,4 +1,4 @@
--- What the law of a slot says in the words of the papers. A seat that holds the life h is Odd where it saw h + 1, knows the code c where it was told it, and finds h dead where it knows h and saw a later version.
+-- What the law of a slot says of a seat: one that holds the life h and saw h + 1 knows that the life failed; it knows the code c where it was told it; and it finds h dead where it knows h and saw a later version.
 use Rattle.std.proofs.Common.{◌≡◌, ℕ, ◌+◌, ◌-◌, ◌%◌, ◌<◌, ◌≤◌, ◌≢◌, ◌⊎◌, List, sym, ◌∙◌, subst, inl, inr, arith}
 use mathlib.Core.Logic.{dite}
 use mathlib.Core.Option.{some}

@@ -1,5 +1,5 @@
 -- What each step on the chains does to the view of the seat that makes it.
-use Rattle.std.specs.Prelude.{ℕ, suc, ◌-◌, ◌/◌, ◌==◌, true, false, cond, not, List, [], ◌∷◌, ◌++◌}
+use Rattle.std.specs.Prelude.{ℕ, suc, ◌+◌, ◌-◌, ◌/◌, ◌==◌, true, false, cond, not, List, [], ◌∷◌, ◌++◌}
 use Rattle.std.specs.List.{filter}
 use Rattle.sock_model.specs.declared.chain.Heading.{Heading}
 use Rattle.sock_model.specs.declared.chain.Entry.{Entry}
@@ -47,7 +47,7 @@ queued v c found = record v { claims = []; loose = loose_of (entry_of c found) �
 -- the right of whoever found an idle head
 abbrev pub new_right : Claim → ℕ → List ℕ → ℕ → Right
 new_right c found sent places = let e = entry_of c (found - IDLE) in
-    record { link = c.link; last = ticket e; stage = Writes (ticket e); clean = false; at_home = true; taken = false; places = places; sent = sent; heading = c.heading; bytes = [] }
+    record { link = c.link; last = ticket e; stage = Writes (ticket e); clean = false; at_home = true; taken = false; places = places; sent = sent; heading = c.heading; bytes = []; put = 0; turned = 0; noted = suc places }
 
 abbrev pub righted : View → Claim → ℕ → List ℕ → ℕ → View
 righted v c found sent places = record v { claims = []; rights = new_right c found sent places ∷ v.rights; lists = more v.lists (entry_of c (found - IDLE)) }
@@ -84,18 +84,22 @@ freed_right r = record r { stage = freed_stage r.stage }
 
 -- the walk turned the next word of `at`
 abbrev pub turned_right : Right → ℕ → ℕ → ℕ → Right
-turned_right r top at before = cond (before == r.last) (record r { last = top; stage = Writes at }) (record r { stage = Walks top before at })
+turned_right r top at before = cond (before == r.last) (record r { last = top; stage = Writes at; turned = 0; noted = r.noted + suc r.turned }) (record r { stage = Walks top before at; turned = suc r.turned })
 
 -- the message in hand got its place, whole or dropped; `sent` is what the link took of it
 abbrev pub placed_right : Right → ℕ → Right
-placed_right r now = record r { stage = Placed now; taken = false; places = suc r.places; sent = r.sent ++ r.bytes }
+placed_right r now = record r { stage = Placed now; taken = false; places = suc r.places; sent = r.sent ++ r.bytes; put = 0 }
 
 abbrev pub dropped_right : Right → ℕ → List ℕ → Right
-dropped_right r now sent = record r { stage = Placed now; taken = false; clean = false; places = suc r.places; sent = sent }
+dropped_right r now sent = record r { stage = Placed now; taken = false; clean = false; places = suc r.places; sent = sent; put = 0 }
 
 -- the message of the first entry without a place is in hand
 abbrev pub taken_right : Right → Heading → List ℕ → Right
-taken_right r label bytes = record r { taken = true; heading = label; bytes = bytes }
+taken_right r label bytes = record r { taken = true; heading = label; bytes = bytes; put = 0 }
+
+-- the link took so many bytes more of the message in hand
+abbrev pub put_right : Right → ℕ → Right
+put_right r n = record r { put = r.put + n }
 
 -- a link comes into a hand that belongs to no right, and goes home again
 abbrev pub with_hand : View → Hand → View

@@ -37,7 +37,7 @@ pub enum Stage {
 }
 
 /// The right to write a link, up to the ticket `last`. It is clean where its holder's look found the socket live and it dropped nothing since.
-/// `sent` is what the link had taken when a message last got its place, `places` is how many of the link's messages have places, `at_home` says that the link is at home, and `taken` that the next message is in hand, whose label and bytes are kept then.
+/// `sent` is what the link had taken when a message last got its place, `places` is how many of the link's messages have places, `at_home` says that the link is at home, and `taken` that the next message is in hand, whose label and bytes are kept then; of these the link took the first `put`. `turned` is how many entries the walk has turned, and `noted` how many stand up to `last`.
 pub struct Right {
     pub link: u64,
     pub last: u64,
@@ -49,6 +49,9 @@ pub struct Right {
     pub sent: [u8; 0],
     pub heading: Heading,
     pub bytes: [u8; 0],
+    pub put: u64,
+    pub turned: u64,
+    pub noted: u64,
 }
 
 /// A claimed request for a message of `link`. Its home has the message where it is filled, and its next word is marked as not connected where it is ready.

@@ -55,7 +55,7 @@ module _ {S : Type 0} (shows : S → Home) (p : Plan) (s : State S View) (o : La
   link_slot : o.slot x.claim.link ≡ some i
   link_slot = o.in_slots.alone i x.life x.claim.link life
 
-  link_in : x.claim.link < p.links
+  pub link_in : x.claim.link < p.links
   link_in = o.in_slots.small i x.life x.claim.link life.life
 
   own_beside : Beside p o.slot s.words (set s.words (head_word i) own)
@@ -129,13 +129,20 @@ module _ {S : Type 0} (shows : S → Home) (p : Plan) (s : State S View) (o : La
       (λ k r kl h. o.homes.busy k r kl (sym (rights k kl) ∙ h))
       (λ k kl e. refl) refl)
 
+  -- where the head is idle each message of the link has a place, and the link at home knows how many
+  pub idle_home : IDLE ≤ found → (sent : List ℕ) × (places : ℕ) × (link_home shows p s.homes x.claim.link ≡ some (sent, places)) × (places ≡ length (on x.claim.link o.log))
+  idle_home high =
+      let b = idle_found o.chains x.claim.link found link_in o.fits.narrow head_is high in
+      let took = o.homes.idle x.claim.link i link_in link_slot b.rights in
+      (took.0, took.1, took.2, (o.delivered.at_home x.claim.link took.0 took.1 link_in took.2).2 ∙ (b.all_placed ∙ b.all_freed))
+
   -- the head was idle
   pub righted_law : IDLE ≤ found → (sent : List ℕ) × (places : ℕ) × Lawful shows p record { words = set s.words (head_word i) own; homes = s.homes; views = set s.views id (righted v x.claim found sent places) }
   righted_law high =
       let b = idle_found o.chains x.claim.link found link_in o.fits.narrow head_is high in
       let took = o.homes.idle x.claim.link i link_in link_slot b.rights in
       let c = x.claim in let e = entry_of c (found - IDLE) in let w : View = righted v c found took.0 took.1 in let same_slots : SameSlots v (righted v x.claim found took.0 took.1) = record { plan = refl; marks = refl; passes = λ y. omega arith; spare = refl; stores = refl } in
-      let fresh : Right = record { link = c.link; last = ticket e; stage = Writes (ticket e); clean = false; at_home = true; taken = false; places = took.1; sent = took.0; heading = c.heading; bytes = [] } in
+      let fresh : Right = record { link = c.link; last = ticket e; stage = Writes (ticket e); clean = false; at_home = true; taken = false; places = took.1; sent = took.0; heading = c.heading; bytes = []; put = 0; turned = 0; noted = suc took.1 } in
       let before : found - IDLE ≡ nth (on c.link o.log) (length (on c.link o.log)) = (let z = b.last_is in omega arith) in
       let own_right : rights_on c.link v ≡ [] = gather_none (rights_on c.link) s.views id v at b.rights in
       let rights : Changed p.links (tokens s.views).rights (tokens (set s.views id w)).rights c.link (fresh ∷ []) = record {
@@ -149,7 +156,7 @@ module _ {S : Type 0} (shows : S → Home) (p : Plan) (s : State S View) (o : La
             (λ n r g. ⊎_elim (λ q. let h = x.holds in let link : c.link ≡ r.link = ap (λ (y : Right). y.link) q in (subst (λ y. y < p.links) link link_in, i, x.life, record { inside = h.inside; held = h.held; met = subst (λ y. 0 < marks_of (is_met x.life y) i v) link h.met }))
             (λ q. let y = o.held id v at q.0 r q.1 in let h = y.3 in (y.0, y.1, y.2, record { inside = h.inside; held = h.held; met = h.met })) (head_or v.rights fresh n r g))
             (carried_same shows p s o id v w at (set s.words (head_word i) own) s.homes same_slots own_beside refl) (log_else (entry_of x.claim (found - IDLE)) refl)
-            (begins o.chains c.link c e (next_entry (found - IDLE) before) (memory p o.slot (set s.words (head_word i) own)) (tokens (set s.views id w)) fresh b.all_freed b.all_placed refl refl own_head
+            (begins o.chains c.link c e (next_entry (found - IDLE) before) (memory p o.slot (set s.words (head_word i) own)) (tokens (set s.views id w)) fresh b.all_freed b.all_placed refl refl (ap suc (o.delivered.at_home c.link took.0 took.1 link_in took.2).2) refl own_head
             (next_same p o.slot s.words own o.references.sized (slots_in o) c.link i link_slot (one_slot o))
             (request_same p o.slot s.words own o.references.sized (slots_in o) c.link i link_slot (one_slot o))
             rights

@@ -23,7 +23,7 @@ use Rattle.sock_model.specs.Writing.{InStage}
 use Rattle.sock_model.specs.Tokens.{Tokens}
 use Rattle.sock_model.specs.Messages.{Messages}
 use Rattle.sock_model.specs.Reads.{letter_of, took_of, as_link, shown, memory, message, link_at, link_home, tokens}
-use Rattle.sock_model.specs.ChainRows.{with_right}
+use Rattle.sock_model.specs.ChainRows.{with_right, put_right}
 use Rattle.sock_model.specs.Conditions.{HasRight}
 use Rattle.sock_model.specs.Links.{HoldsLink, Failed}
 use Rattle.sock_model.specs.Homes.{IsOwn}
@@ -48,7 +48,7 @@ module _ {S : Type 0} (shows : S → Home) (p : Plan) (s : State S View) (o : La
   alone : (tokens s.views).rights x.right.link ≡ x.right ∷ []
   alone = right_alone o id x.place v x.right at x.has
 
-  module _ (r' : Right) (link' : r'.link ≡ x.right.link) (last' : r'.last ≡ x.right.last) (stage' : r'.stage ≡ x.right.stage) (taken' : r'.taken ≡ x.right.taken) (label' : r'.heading ≡ x.right.heading) (bytes' : r'.bytes ≡ x.right.bytes) where
+  module _ (r' : Right) (link' : r'.link ≡ x.right.link) (last' : r'.last ≡ x.right.last) (turned' : r'.turned ≡ x.right.turned) (noted' : r'.noted ≡ x.right.noted) (stage' : r'.stage ≡ x.right.stage) (taken' : r'.taken ≡ x.right.taken) (label' : r'.heading ≡ x.right.heading) (bytes' : r'.bytes ≡ x.right.bytes) where
     abbrev t' : Tokens
     t' = tokens (set s.views id (with_right v r'))
 
@@ -56,7 +56,7 @@ module _ {S : Type 0} (shows : S → Home) (p : Plan) (s : State S View) (o : La
     rt = rights_after o id x.place v x.right at x.has r' link'
 
     chains_stay : Chains p.links p.requests (memory p o.slot s.words) (tokens (set s.views id (with_right v r'))) o.log o.freed o.places
-    chains_stay = restages o.chains x.right.link x.right kl alone {places' = o.places} r' last' (λ g. subst (InStage (memory p o.slot s.words) (tokens s.views) (on x.right.link o.log) g.counts (o.freed x.right.link) (o.places x.right.link)) (sym stage') g.stage_is)
+    chains_stay = restages o.chains x.right.link x.right kl alone {places' = o.places} r' last' turned' noted' (λ g. subst (InStage (memory p o.slot s.words) (tokens s.views) (on x.right.link o.log) g.counts (o.freed x.right.link) (o.places x.right.link)) (sym stage') g.stage_is)
         (λ j jl. refl) (λ j jl. refl) (λ j jl. refl) rt (claims_after o id x.place v x.right at x.has r' link') (loose_after o id x.place v x.right at x.has r' link') (λ j jl ne. refl)
 
     messages_stay : (hs : List (Option S)) → Same p.requests (message shows s.homes) (message shows hs) → Messages p.links p.requests (message shows hs) (tokens (set s.views id (with_right v r'))) o.log o.places
@@ -94,14 +94,22 @@ module _ {S : Type 0} (shows : S → Home) (p : Plan) (s : State S View) (o : La
 
   -- L1: what stands at home then is no link
   pub link_goes_law : (z : Option S) → as_link (shown shows (some z)) ≡ none → p.requests + x.right.link < length s.homes → Lawful shows p record { words = s.words; homes = set s.homes (p.requests + x.right.link) z; views = set s.views id (with_right v (record x.right { at_home = false })) }
-  link_goes_law z empty long = moved (record x.right { at_home = false }) refl refl refl refl refl refl z refl refl refl (λ y e. absurd (some-ne-none y (sym e ∙ empty))) (ap took_of empty) long
+  link_goes_law z empty long = moved (record x.right { at_home = false }) refl refl refl refl refl refl refl refl z refl refl refl (λ y e. absurd (some-ne-none y (sym e ∙ empty))) (ap took_of empty) long
 
   -- L2: the link comes back with what it has sent and its next place
   pub link_comes_law : (y : S) → shows y ≡ Link x.right.link x.right.sent x.right.places false → p.requests + x.right.link < length s.homes
       → Lawful shows p record { words = s.words; homes = set s.homes (p.requests + x.right.link) (some y); views = set s.views id (with_right v (record x.right { at_home = true })) }
-  link_comes_law y sees long = moved (record x.right { at_home = true }) refl refl refl refl refl refl (some y) refl refl refl
+  link_comes_law y sees long = moved (record x.right { at_home = true }) refl refl refl refl refl refl refl refl (some y) refl refl refl
       (λ h e. record { took = x.right.sent; next = x.right.places; done = false; is = some-injective h (Link x.right.link x.right.sent x.right.places false) (sym e ∙ ap (λ z. as_link (some z)) sees); «open» = λ j q. refl })
       (ap (λ z. took_of (as_link (some z))) sees) long
+
+  -- W1: what the link took of the message in hand is noted
+  pub put_law : (n : ℕ) → Lawful shows p record { words = s.words; homes = s.homes; views = set s.views id (with_right v (put_right x.right n)) }
+  put_law n = let r' : Right = put_right x.right n in right_base o id x.place v x.right at x.has r' refl s.words s.homes o.freed o.places o.kept (λ k ne. (refl, refl)) (beside_all p o.slot s.words) (λ k. refl)
+      (chains_stay r' refl refl refl refl refl refl refl refl) (messages_stay r' refl refl refl refl refl refl refl refl s.homes (λ q ql. refl))
+      (delivers_same o.delivered (tokens (set s.views id (with_right v r'))) (λ q. get_or s.words (place_word p q) 0) (λ q ql. refl)
+      (λ j y jl g. from_same (tokens s.views) (tokens (set s.views id (with_right v r'))) p.links x.right.link x.right r' alone (rt r' refl refl refl refl refl refl refl refl) refl refl refl j y jl g))
+      (o.homes.busy x.right.link x.right kl alone)
 
   -- the link that L1 takes
   pub link_home_law : x.right.at_home ≡ true → (y : S) × (get_elem? s.homes (p.requests + x.right.link) ≡ some (some y)) × (shows y ≡ Link x.right.link x.right.sent x.right.places false)
@@ -133,8 +141,8 @@ module _ {S : Type 0} (shows : S → Home) (p : Plan) (s : State S View) (o : La
   -- the right's part of A8, where the version was found even: the right is clean
   pub clean_law : (j h : ℕ) → HoldsLink p v j h x.right.link → (slot_facts s j).version % 2 ≡ 0 → Lawful shows p record { words = s.words; homes = s.homes; views = set s.views id (with_right v (record x.right { clean = true })) }
   clean_law j h holds even = right_base o id x.place v x.right at x.has (record x.right { clean = true }) refl s.words s.homes o.freed o.places o.kept (λ k ne. (refl, refl)) (beside_all p o.slot s.words) (λ k. refl)
-      (chains_stay (record x.right { clean = true }) refl refl refl refl refl refl) (messages_stay (record x.right { clean = true }) refl refl refl refl refl refl s.homes (λ q ql. refl))
-      (looks o.delivered (tokens (set s.views id (with_right v (record x.right { clean = true })))) x.right.link x.right (record x.right { clean = true }) kl alone (rt (record x.right { clean = true }) refl refl refl refl refl refl) refl refl (alive j h holds even))
+      (chains_stay (record x.right { clean = true }) refl refl refl refl refl refl refl refl) (messages_stay (record x.right { clean = true }) refl refl refl refl refl refl refl refl s.homes (λ q ql. refl))
+      (looks o.delivered (tokens (set s.views id (with_right v (record x.right { clean = true })))) x.right.link x.right (record x.right { clean = true }) kl alone (rt (record x.right { clean = true }) refl refl refl refl refl refl refl refl) refl refl (alive j h holds even))
       (o.homes.busy x.right.link x.right kl alone)
 
 -- A8 of whoever writes a link, where the life in its slot is live

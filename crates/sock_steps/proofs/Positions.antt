@@ -25,11 +25,11 @@ use Rattle.chain_laws.proofs.Lists.{at_length}
 -- ## Each author's entries stand in one list
 
 -- the sum of a weight over the names that the first n views keep
-spread : (ℕ → List ℕ) → ℕ → (ℕ → ℕ) → ℕ
+unfoldable pub spread : (ℕ → List ℕ) → ℕ → (ℕ → ℕ) → ℕ
 spread names zero f = 0
 spread names (suc n) f = total f (names zero) + spread (λ i. names (suc i)) n f
 
-spread_parts : (names : ℕ → List ℕ) (n : ℕ) (f g k : ℕ → ℕ) → ((a : ℕ) → f a ≡ g a + k a) → spread names n f ≡ spread names n g + spread names n k
+pub spread_parts : (names : ℕ → List ℕ) (n : ℕ) (f g k : ℕ → ℕ) → ((a : ℕ) → f a ≡ g a + k a) → spread names n f ≡ spread names n g + spread names n k
 unfolding spread
 spread_parts names zero f g k h = omega arith
 spread_parts names (suc n) f g k h = omega (arith, total_parts f g k h (names zero), spread_parts (λ i. names (suc i)) n f g k h)
@@ -92,7 +92,12 @@ views_few : (views : List View) → ((id : ℕ) (v : View) → get_elem? views i
 views_few [] short = omega arith
 views_few (v ∷ vs) short = omega (arith, views_few vs (λ id u g. short (suc id) u g), total_bound (λ (l : List Entry). length l) MOST_ACCEPTED v.lists (short zero v refl))
 
-on_shorter : (k : ℕ) (log : List Entry) → length (on k log) ≤ length log
+-- and as many at most as these lists may have
+pub few_log : (views : List View) (log : List Entry) → Authored (λ (v : View). v.lists) views log → total lists_of views ≤ 64 → ((id : ℕ) (v : View) → get_elem? views id ≡ some v → AreShort v) → length log ≤ 2147483648
+few_log views log authors few short = omega (arith, few, log_length (λ (v : View). v.lists) views log authors, views_few views short)
+
+-- a chain is no longer than the log
+pub on_shorter : (k : ℕ) (log : List Entry) → length (on k log) ≤ length log
 on_shorter k [] = omega arith
 on_shorter k (e ∷ es) = let ih = on_shorter k es in dite (ℕ_discrete e.link k)
     (λ y. let q = ap (λ t. length (cond t (e ∷ on k es) (on k es))) (eq-eqb e.link k y) in omega arith)
@@ -105,8 +110,7 @@ count_length (suc n) = omega (arith, length-append (count_up n) (n ∷ []), coun
 module _ {S : Type 0} {shows : S → Home} {p : Plan} {s : State S View} (r : Rule shows p s) where
   -- all links together accepted at most 2^31 messages
   pub few_entries : length r.lawful.log ≤ 2147483648
-  few_entries = let few = r.few_messages in let a = few.few_seats in let b = few.few_lists in
-      omega (arith, log_length (λ (v : View). v.lists) s.views r.lawful.log r.lawful.authors, views_few s.views few.short)
+  few_entries = let few = r.few_messages in let a = few.few_seats in let b = few.few_lists in few_log s.views r.lawful.log r.lawful.authors (omega arith) few.short
 
   -- so the place of each fits into 32 bits, counted from 1
   pub place_fits : (k i : ℕ) (e : Entry) → get_elem? (on k r.lawful.log) i ≡ some e → suc i < 4294967296

@@ -46,6 +46,18 @@ lasts_set p ws sized x n some_ y last there = let a = lasting_in p y last in let
 pub plan_is : {S : Type 0} {shows : S → Home} {p : Plan} {s : State S View} → Rule shows p s → (id : ℕ) (v : View) → get_elem? s.views id ≡ some v → v ≢ spent → v.plan ≡ p
 plan_is r id v here ne = ⊎_elim (λ e. e) (λ e. absurd (ne e)) (r.plans id v here)
 
+-- one entry more at the end of a seat's own list, which was shorter than it may be
+one_longer : (made : List Entry) (taken_in : List (List Entry)) (e : Entry) → ((n : ℕ) (l : List Entry) → get_elem? (made ∷ taken_in) n ≡ some l → length l ≤ MOST_ACCEPTED) → length made < MOST_ACCEPTED
+    → (n : ℕ) (l : List Entry) → get_elem? ((made ++ e ∷ []) ∷ taken_in) n ≡ some l → length l ≤ MOST_ACCEPTED
+one_longer made taken_in e short room zero l g = omega (arith, length-append made (e ∷ []), ap length (some-injective (made ++ e ∷ []) l g))
+one_longer made taken_in e short room (suc n) l g = short (suc n) l g
+
+-- leaves the number of its lists, and none is longer than it may be
+pub accept_short : (v w : View) (made : List Entry) (taken_in : List (List Entry)) (e : Entry) → v.lists ≡ made ∷ taken_in → w.lists ≡ more v.lists e → length made < MOST_ACCEPTED → AreShort v
+    → (lists_of w ≡ lists_of v) × AreShort w
+accept_short v w made taken_in e own grown room short = let is : w.lists ≡ (made ++ e ∷ []) ∷ taken_in = grown ∙ ap (λ (l : List (List Entry)). more l e) own in
+    (ap length is ∙ sym (ap length own), λ k l g. one_longer made taken_in e (λ m q h. short m q (subst (λ (ls : List (List Entry)). get_elem? ls m ≡ some q) (sym own) h)) room k l (subst (λ (ls : List (List Entry)). get_elem? ls k ≡ some l) is g))
+
 module _ {S : Type 0} {shows : S → Home} {p : Plan} {s : State S View} (r : Rule shows p s) (id : ℕ) (v : View) (here : get_elem? s.views id ≡ some v) (mine : v.plan ≡ p) where
   -- What a step has to keep beside what is lawful: what the seat found, and how many messages it had accepted.
   pub rule_frame : (w : View) (ws : List ℕ) (hs : List (Option S)) → w.plan ≡ v.plan → Lasts p s.words ws → FoundWords p ws w → length w.lists ≡ length v.lists → AreShort w
@@ -82,12 +94,6 @@ module _ {S : Type 0} {shows : S → Home} {p : Plan} {s : State S View} (r : Ru
   pub accept_rule : (w : View) (x n : ℕ) (made : List Entry) (taken_in : List (List Entry)) (e : Entry) → w.plan ≡ v.plan → w.found ≡ v.found → v.lists ≡ made ∷ taken_in → w.lists ≡ more v.lists e → length made < MOST_ACCEPTED → (Lasting p x → n ≢ 0)
       → Lawful shows p record { words = set s.words x n; homes = s.homes; views = set s.views id w } → Rule shows p record { words = set s.words x n; homes = s.homes; views = set s.views id w }
   accept_rule w x n made taken_in e plan found own grown room some_ = let lasts = lasts_set p s.words r.lawful.references.sized x n some_ in
-      let is : w.lists ≡ (made ++ e ∷ []) ∷ taken_in = grown ∙ ap (λ (l : List (List Entry)). more l e) own in
+      let grows = accept_short v w made taken_in e own grown room (λ m q h. r.few_messages.short id v here m q h) in
       rule_frame w (set s.words x n) s.homes plan lasts
-      (λ k y g. let a = r.found_words id v here k y (subst (λ (l : List ℕ). get_elem? l k ≡ some y) found g) in (a.0, lasts y a.0 a.1)) (ap length is ∙ sym (ap length own))
-      (λ k l g. one_longer made taken_in e (λ m q h. r.few_messages.short id v here m q (subst (λ (ls : List (List Entry)). get_elem? ls m ≡ some q) (sym own) h)) room k l (subst (λ (ls : List (List Entry)). get_elem? ls k ≡ some l) is g))
-    where
-      one_longer : (made : List Entry) (taken_in : List (List Entry)) (e : Entry) → ((n : ℕ) (l : List Entry) → get_elem? (made ∷ taken_in) n ≡ some l → length l ≤ MOST_ACCEPTED) → length made < MOST_ACCEPTED
-          → (n : ℕ) (l : List Entry) → get_elem? ((made ++ e ∷ []) ∷ taken_in) n ≡ some l → length l ≤ MOST_ACCEPTED
-      one_longer made taken_in e short room zero l g = omega (arith, length-append made (e ∷ []), ap length (some-injective (made ++ e ∷ []) l g))
-      one_longer made taken_in e short room (suc n) l g = short (suc n) l g
+      (λ k y g. let a = r.found_words id v here k y (subst (λ (l : List ℕ). get_elem? l k ≡ some y) found g) in (a.0, lasts y a.0 a.1)) grows.0 grows.1

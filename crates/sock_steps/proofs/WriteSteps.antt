@@ -59,7 +59,7 @@ freeing_law shows p id i now b v r s o at has leads small =
     right_step o id i v r at has (record r { stage = b }) refl (set s.words (request_word p (slot_of now)) (2 * (generation_of now + 1))) (bump o.freed r.link) refl refl refl refl refl (λ any. leads_no_writes r.last now any r.stage b leads)
     (request_beside p o.slot s.words (2 * (generation_of now + 1)) o.references.sized (slots_in o) (slot_of now) low) (request_place p o.slot s.words (2 * (generation_of now + 1)) o.references.sized (slots_in o) (slot_of now) low)
     (frees o.chains r.link r kl alone o.fits.narrow now b leads (memory p o.slot (set s.words (request_word p (slot_of now)) (2 * (generation_of now + 1)))) (tokens (set s.views id (with_right v (record r { stage = b })))) (bump o.freed r.link) (bump_changed p.links o.freed r.link)
-    (record r { stage = b }) refl refl small
+    (record r { stage = b }) refl refl refl refl small
     (request_head p o.slot s.words (2 * (generation_of now + 1)) o.references.sized (slots_in o) (slot_of now) low) (request_next p o.slot s.words (2 * (generation_of now + 1)) o.references.sized (slots_in o) (slot_of now) low) (request_changed p o.slot s.words (2 * (generation_of now + 1)) o.references.sized (slots_in o) (slot_of now) low)
     (rights_after o id i v r at has (record r { stage = b }) refl) (claims_after o id i v r at has (record r { stage = b }) refl) (loose_after o id i v r at has (record r { stage = b }) refl))
 
@@ -73,7 +73,7 @@ retiring_law shows p id i now b v r s o at has leads small =
     right_step o id i v r at has (record r { stage = b }) refl (s.words) (bump o.freed r.link) refl refl refl refl refl (λ any. leads_no_writes r.last now any r.stage b leads)
     (beside_all p o.slot s.words) (λ l ll. refl)
     (retires o.chains r.link r kl alone o.fits.narrow now b leads (memory p o.slot (s.words)) (tokens (set s.views id (with_right v (record r { stage = b })))) (bump o.freed r.link) (bump_changed p.links o.freed r.link)
-    (record r { stage = b }) refl refl small
+    (record r { stage = b }) refl refl refl refl small
     (λ j jl. refl) (λ j jl. refl) (λ j jl. refl)
     (rights_after o id i v r at has (record r { stage = b }) refl) (claims_after o id i v r at has (record r { stage = b }) refl) (loose_after o id i v r at has (record r { stage = b }) refl))
 
@@ -87,6 +87,17 @@ letter_home shows (some (some y)) l bytes e = (y, refl, message_is (shows y) l b
     message_is Empty l bytes e = absurd (some-ne-none (l, bytes) (sym e))
     message_is (Link k took next done) l bytes e = absurd (some-ne-none (l, bytes) (sym e))
     message_is (Message k cs) l bytes e = let q : (k, cs) ≡ (l, bytes) = some-injective (k, cs) (l, bytes) e in λ w. Message (q w).0 (q w).1
+
+-- the request of the message that is the next to be taken is one of the table
+pub writes_in : {S : Type 0} (shows : S → Home) (p : Plan) (id i now : ℕ) (v : View) (r : Right) (s : State S View) (o : Lawful shows p s) → get_elem? s.views id ≡ some v → get_elem? v.rights i ≡ some r → r.stage ≡ Writes now → slot_of now < p.requests
+writes_in shows p id i now v r s o at has stage =
+    let kl = right_in o id i v r at has in let alone = right_alone o id i v r at has in
+    let e = at_some (on r.link o.log) (o.places r.link) (writes_room o.chains r.link r now kl alone stage) in
+    let size = in_size o.chains r.link (o.places r.link) e.0 e.1 in let narrow = o.fits.narrow in
+    let h = (held_of o.chains r.link r kl alone).1 in
+    let st : InStage (memory p o.slot s.words) (tokens s.views) (on r.link o.log) h.counts (o.freed r.link) (o.places r.link) (Writes now) = subst (InStage (memory p o.slot s.words) (tokens s.views) (on r.link o.log) h.counts (o.freed r.link) (o.places r.link)) stage h.stage_is in
+    let tick : ticket e.0 ≡ now = sym (ticket_at_is (on r.link o.log) (o.places r.link) e.0 e.1) ∙ (ap (λ y. nth (on r.link o.log) (suc y)) st.1 ∙ st.3) in
+    let low = size.1 in let is : slot_of now ≡ e.0.request = ap slot_of (sym tick) ∙ slot_is e.0 (omega arith) in omega arith
 
 -- M2: what stands at home then is no message
 pub taking_law : {S : Type 0} (shows : S → Home) (p : Plan) (id : ℕ) (v : View) (x : MayTake v) (s : State S View) (o : Lawful shows p s) → get_elem? s.views id ≡ some v
@@ -122,7 +133,7 @@ taking_law shows p id v x s o at =
       home.2,
       λ z empty. right_base o id x.mine.place v x.mine.right at x.mine.has (taken_right x.mine.right e.0.heading e.0.bytes) refl s.words (set s.homes request z) o.freed o.places o.kept (λ k ne. (refl, refl)) (beside_all p o.slot s.words)
           (λ j. ap (λ h. as_link (shown shows h)) (set_else s.homes request (p.requests + j) z (λ q. omega arith)))
-          (restages o.chains x.mine.right.link x.mine.right kl has {places' = o.places} (taken_right x.mine.right e.0.heading e.0.bytes) refl (λ g. g.stage_is) (λ j jl. refl) (λ j jl. refl) (λ j jl. refl) rt cl lo (λ j jl ne. refl))
+          (restages o.chains x.mine.right.link x.mine.right kl has {places' = o.places} (taken_right x.mine.right e.0.heading e.0.bytes) refl refl refl (λ g. g.stage_is) (λ j jl. refl) (λ j jl. refl) (λ j jl. refl) rt cl lo (λ j jl ne. refl))
           (takes_letter o.chains o.messages t' x.mine.right.link x.mine.right (taken_right x.mine.right e.0.heading e.0.bytes) x.now kl has x.stage rt cl (message shows (set s.homes request z)) e.0 e.1 tick x.stage refl refl refl
           record { here = ap (λ i. letter_of (shown shows (get_elem? (set s.homes request z) i))) (sym rq) ∙ (ap (λ h. letter_of (shown shows h)) (set_at s.homes request z long) ∙ empty); else = λ j jl ne. ap (λ h. letter_of (shown shows h)) (set_else s.homes request j z (λ q. ne (q ∙ rq))) })
           (moves_link (delivers_same o.delivered t' (λ q. get_or s.words (place_word p q) 0) (λ q ql. refl)
@@ -154,7 +165,7 @@ placing_law shows p id v x s o at =
     subst (λ i. Lawful shows p record { words = set s.words i (place_value false x.mine.right.link x.mine.right.places); homes = s.homes; views = set s.views id (with_right v (placed_right x.mine.right x.now)) }) is
     (right_base o id x.mine.place v x.mine.right at x.mine.has (placed_right x.mine.right x.now) refl (set s.words (place_word p e.0.heading.place) value) s.homes o.freed (bump o.places x.mine.right.link) (bump o.kept x.mine.right.link) (λ k ne. (bump-else o.places x.mine.right.link k ne, bump-else o.kept x.mine.right.link k ne))
     (place_beside p o.slot s.words value o.references.sized (slots_in o) e.0.heading.place lab) (λ k. refl)
-    (places_one o.chains x.mine.right.link x.mine.right kl has {places' = bump o.places x.mine.right.link} (placed_right x.mine.right x.now) x.now x.stage refl refl (bump_changed p.links o.places x.mine.right.link)
+    (places_one o.chains x.mine.right.link x.mine.right kl has {places' = bump o.places x.mine.right.link} (placed_right x.mine.right x.now) x.now x.stage refl refl refl refl (bump_changed p.links o.places x.mine.right.link)
     (place_head p o.slot s.words value o.references.sized (slots_in o) e.0.heading.place lab) (place_next p o.slot s.words value o.references.sized (slots_in o) e.0.heading.place lab) (place_request p o.slot s.words value o.references.sized (slots_in o) e.0.heading.place lab) rt cl lo)
     (lets_go o.chains o.messages t' x.mine.right.link x.mine.right (placed_right x.mine.right x.now) x.now kl has x.stage rt cl (bump o.places x.mine.right.link) refl (bump_changed p.links o.places x.mine.right.link))
     (places_whole o.delivered t' (λ q. get_or (set s.words (place_word p e.0.heading.place) value) (place_word p q) 0) (bump o.places x.mine.right.link) (bump o.kept x.mine.right.link) (Failed p s) x.mine.right.link x.mine.right (placed_right x.mine.right x.now) e.0 kl has rt e.1 lab
@@ -186,7 +197,7 @@ dropping_law shows p id v x s o at dead =
     subst (λ i. Lawful shows p record { words = set s.words i (place_value true x.mine.right.link x.mine.right.places); homes = s.homes; views = set s.views id (with_right v (dropped_right x.mine.right x.now x.sent)) }) is
     (right_base o id x.mine.place v x.mine.right at x.mine.has (dropped_right x.mine.right x.now x.sent) refl (set s.words (place_word p e.0.heading.place) value) s.homes o.freed (bump o.places x.mine.right.link) o.kept (λ k ne. (bump-else o.places x.mine.right.link k ne, refl))
     (place_beside p o.slot s.words value o.references.sized (slots_in o) e.0.heading.place lab) (λ k. refl)
-    (places_one o.chains x.mine.right.link x.mine.right kl has {places' = bump o.places x.mine.right.link} (dropped_right x.mine.right x.now x.sent) x.now x.stage refl refl (bump_changed p.links o.places x.mine.right.link)
+    (places_one o.chains x.mine.right.link x.mine.right kl has {places' = bump o.places x.mine.right.link} (dropped_right x.mine.right x.now x.sent) x.now x.stage refl refl refl refl (bump_changed p.links o.places x.mine.right.link)
     (place_head p o.slot s.words value o.references.sized (slots_in o) e.0.heading.place lab) (place_next p o.slot s.words value o.references.sized (slots_in o) e.0.heading.place lab) (place_request p o.slot s.words value o.references.sized (slots_in o) e.0.heading.place lab) rt cl lo)
     (lets_go o.chains o.messages t' x.mine.right.link x.mine.right (dropped_right x.mine.right x.now x.sent) x.now kl has x.stage rt cl (bump o.places x.mine.right.link) refl (bump_changed p.links o.places x.mine.right.link))
     (drops o.delivered t' (λ q. get_or (set s.words (place_word p e.0.heading.place) value) (place_word p q) 0) (bump o.places x.mine.right.link) o.kept (Failed p s) x.mine.right.link x.mine.right (dropped_right x.mine.right x.now x.sent) e.0 kl has rt e.1 lab
