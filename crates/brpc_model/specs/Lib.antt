@@ -15,6 +15,7 @@ pub mod Reply
 pub mod Link
 pub mod Commands
 pub mod Report
+pub mod PlaceWords
 pub mod Run
 pub mod Messages
 pub mod Order
