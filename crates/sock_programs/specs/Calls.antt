@@ -1,7 +1,8 @@
 -- The steps that seats make: each is one atomic step on a word, one move of a link, or one call on the link in hand.
-use Rattle.std.specs.Prelude.{ℕ}
+use Rattle.std.specs.Prelude.{ℕ, List}
 use Rattle.sock_words.specs.declared.kind.Kind.{Kind}
-use Rattle.sock_words.specs.declared.kind.Kind.TheVariants.{A1, A2, A3, A4, A5, A6, A7, S1, S2, S3, S4, S6, S7, L1, L2, W3}
+use Rattle.sock_words.specs.declared.kind.Kind.TheVariants.{A1, A2, A3, A4, A5, A6, A7, A8, C1, C2, C3, C4, C5, C6, C7, C8, M1, P1, S1, S2, S3, S4, S5, S6, S7, L1, L2, W3}
+use Rattle.sock_model.specs.declared.chain.Heading.{Heading}
 
 -- a step: the number of the slot, name, operation or link of which it is, and what it is to store; behind these, where the
 -- word alone doesn't tell it, the link or the life for which it is made
@@ -39,6 +40,33 @@ pub data Call : Type 0 where
   TakeLink : ℕ → Call
   FinishLink : ℕ → Call
   PutLink : ℕ → Call
+  -- the slot's word is loaded, for the life of this id
+  LookWord : ℕ → Call
+  -- the link of a life that the seat holds is loaded, and the error code of one: slot, the version of the life
+  FindLink : ℕ → ℕ → Call
+  LoadCode : ℕ → ℕ → Call
+  -- bit 0 of a request's word is set: the id of the life for whose link the request is to be used, request
+  ClaimRequest : ℕ → ℕ → Call
+  -- a message into its home: request, heading, bytes
+  PutMessage : ℕ → Heading → List ℕ → Call
+  -- a request's next word is marked as not connected
+  Unconnect : ℕ → Call
+  -- the slot's head is exchanged with a ticket: slot, ticket
+  SwapHead : ℕ → ℕ → Call
+  -- a request's next word becomes the ticket that the exchange found: request, ticket
+  Connect : ℕ → ℕ → Call
+  -- the slot's head becomes idle behind this ticket, where it is this ticket: slot, ticket
+  EmptyHead : ℕ → ℕ → Call
+  -- a request's next word is loaded
+  ReadNext : ℕ → Call
+  -- on a walk a request's next word becomes the ticket of its successor, or 0: request, ticket
+  TurnNext : ℕ → ℕ → Call
+  -- a request's word becomes the generation after this one, not taken: request, generation
+  FreeRequest : ℕ → ℕ → Call
+  -- the place word of a message that the link took whole: its number, link, position
+  StorePlace : ℕ → ℕ → ℕ → Call
+  -- and of one that was dropped: its number, link, position
+  DropPlace : ℕ → ℕ → ℕ → Call
 
 -- the kind of a step, as the schedule of a script names it
 abbrev pub kind_of : Call → Kind
@@ -61,3 +89,17 @@ kind_of (LoadOpen o) = S7
 kind_of (TakeLink k) = L1
 kind_of (FinishLink k) = W3
 kind_of (PutLink k) = L2
+kind_of (LookWord id) = A8
+kind_of (FindLink i h) = S2
+kind_of (LoadCode i h) = S5
+kind_of (ClaimRequest id q) = C1
+kind_of (PutMessage q heading bytes) = M1
+kind_of (Unconnect q) = C7
+kind_of (SwapHead i own) = C2
+kind_of (Connect q before) = C3
+kind_of (EmptyHead i last) = C4
+kind_of (ReadNext q) = C5
+kind_of (TurnNext q value) = C6
+kind_of (FreeRequest q g) = C8
+kind_of (StorePlace l k n) = P1
+kind_of (DropPlace l k n) = P1

@@ -1,11 +1,13 @@
 -- The program of a client: its tasks in order, and then each held reference given back, the oldest first.
-use Rattle.std.specs.Prelude.{ℕ, ◌+◌, ◌==◌, not, if◌then◌else◌, List, [], ◌∷◌, ◌++◌, filter, Option, Some, None}
+use Rattle.std.specs.Prelude.{ℕ, ◌==◌, not, if◌then◌else◌, List, [], ◌∷◌, ◌++◌, filter, Option, Some, None}
 use Rattle.sock_words.specs.declared.outcome.Outcome.TheVariants.{NotHeld}
 use Rattle.sock_words.specs.Words.{socket_id_slot}
 use Rattle.sock_programs.specs.declared.task.Op.{Op}
 use Rattle.sock_programs.specs.declared.task.Op.TheVariants as ops
 use Rattle.sock_programs.specs.declared.task.Task.{Task}
+use Rattle.sock_programs.specs.declared.task.Sizes.{Sizes}
 use Rattle.sock_programs.specs.Programs.{Program, Rest, Say, open_from, fail, hold, drop_held, release, end_open}
+use Rattle.sock_programs.specs.Sends.{send}
 
 -- ## Held references
 
@@ -35,17 +37,18 @@ abbrev pub drop_of : ℕ → Option ℕ → Program → Program
 drop_of o None next = Say o NotHeld next
 drop_of o (Some id) next = drop_held o id next
 
--- one operation, of so many slots; what follows depends on what is held behind it
-abbrev pub operation : ℕ → List HeldLife → ℕ → (List HeldLife → Program) → Op → Program
-operation slots held o next (ops.Open name k) = open_from slots 0 o name k (next held)
-operation slots held o next (ops.Hold name) = hold o name (λ id. next (held ++ (record { name = name; id = id }) ∷ [])) (next held)
-operation slots held o next (ops.Drop name) = drop_of o (held_under name held) (next (without_name name held))
-operation slots held o next (ops.Fail name code) = fail o name code (next held)
+-- one operation, over a table of these sizes; what follows depends on what is held behind it
+abbrev pub operation : Sizes → List HeldLife → ℕ → (List HeldLife → Program) → Op → Program
+operation sizes held o next (ops.Open name k) = open_from sizes.slots 0 o name k (next held)
+operation sizes held o next (ops.Send name bytes) = send sizes.requests o name bytes (next held)
+operation sizes held o next (ops.Hold name) = hold o name (λ id. next (held ++ (record { name = name; id = id }) ∷ [])) (next held)
+operation sizes held o next (ops.Drop name) = drop_of o (held_under name held) (next (without_name name held))
+operation sizes held o next (ops.Fail name code) = fail o name code (next held)
 
 -- these tasks in order, from these held lives on
-abbrev pub client_from : ℕ → List HeldLife → List Task → Program
-client_from slots held [] = give_back held
-client_from slots held (t ∷ ts) = operation slots held t.number (λ held'. client_from slots held' ts) t.op
+abbrev pub client_from : Sizes → List HeldLife → List Task → Program
+client_from sizes held [] = give_back held
+client_from sizes held (t ∷ ts) = operation sizes held t.number (λ held'. client_from sizes held' ts) t.op
 
 -- the ending by seat 0 goes over these `open` operations
 abbrev pub ending_of : List ℕ → Program

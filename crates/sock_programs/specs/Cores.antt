@@ -1,17 +1,18 @@
 -- All seats on one thread as plain data, and what one tick of one seat makes of it.
-use Rattle.std.specs.Prelude.{ℕ, ◌+◌, ◌-◌, ◌*◌, ◌==◌, true, if◌then◌else◌, bit_or, List, [], ◌∷◌, ◌++◌, fold, slice_index, slice_set}
+use Rattle.std.specs.Prelude.{ℕ, ◌+◌, ◌-◌, ◌*◌, ◌%◌, ◌==◌, true, false, if◌then◌else◌, bit_or, List, [], ◌∷◌, ◌++◌, slice_index, slice_set}
 use Rattle.std.specs.Prelude as std
 use mathlib.Core.Option.{Option, some, none}
 use lib.ListN.{get_elem?}
 use Rattle.sock_words.specs.declared.outcome.Outcome.{Outcome}
 use Rattle.sock_words.specs.declared.plain.Plan.{Plan}
 use Rattle.sock_model.specs.declared.home.Home.{Home}
-use Rattle.sock_model.specs.declared.home.Home.TheVariants.{Link}
-use Rattle.sock_model.specs.Memory.{IDLE}
-use Rattle.sock_model.specs.Layout.{tag_word, ref_word, link_word, head_word, code_word, name_word, open_word}
-use Rattle.sock_programs.specs.Calls.{Call, ClaimSlot, GiveBirth, AddRef, SubRef, SetOdd, Recycle, FreeSlot, StoreLink, LoadLink, ResetHead, WipeCode, StoreCode, StoreName, LoadName, StoreOpen, LoadOpen, TakeLink, FinishLink, PutLink}
+use Rattle.sock_model.specs.declared.home.Home.TheVariants.{Link, Message}
+use Rattle.sock_model.specs.Memory.{IDLE, UNCONNECTED}
+use Rattle.sock_model.specs.Deliveries.{place_value}
+use Rattle.sock_model.specs.Layout.{tag_word, ref_word, link_word, head_word, code_word, name_word, open_word, request_word, next_word, place_word}
+use Rattle.sock_programs.specs.Calls.{Call, ClaimSlot, GiveBirth, AddRef, SubRef, SetOdd, Recycle, FreeSlot, StoreLink, LoadLink, ResetHead, WipeCode, StoreCode, StoreName, LoadName, StoreOpen, LoadOpen, TakeLink, FinishLink, PutLink, LookWord, FindLink, LoadCode, ClaimRequest, PutMessage, Unconnect, SwapHead, Connect, EmptyHead, ReadNext, TurnNext, FreeRequest, StorePlace, DropPlace}
 use Rattle.sock_words.specs.Words.{socket_id_slot, vref_version}
-use Rattle.sock_programs.specs.Programs.{Program, Do, Say}
+use Rattle.sock_programs.specs.Programs.{Program, Do, Say, Sent}
 
 -- a seat: what it has still to do, and the links that it has in hand, the latest first
 pub record SeatState : Type 0 where
@@ -49,6 +50,20 @@ module _ (p : Plan) where
   word_of (TakeLink k) = none
   word_of (FinishLink k) = none
   word_of (PutLink k) = none
+  word_of (LookWord id) = some (ref_word (socket_id_slot id))
+  word_of (FindLink i h) = some (link_word i)
+  word_of (LoadCode i h) = some (code_word i)
+  word_of (ClaimRequest id q) = some (request_word p q)
+  word_of (PutMessage q heading bytes) = none
+  word_of (Unconnect q) = some (next_word p q)
+  word_of (SwapHead i own) = some (head_word i)
+  word_of (Connect q before) = some (next_word p q)
+  word_of (EmptyHead i last) = some (head_word i)
+  word_of (ReadNext q) = some (next_word p q)
+  word_of (TurnNext q value) = some (next_word p q)
+  word_of (FreeRequest q g) = some (request_word p q)
+  word_of (StorePlace l k n) = some (place_word p l)
+  word_of (DropPlace l k n) = some (place_word p l)
 
 -- the word after a step that found this word
 abbrev pub word_after : Call → ℕ → ℕ
@@ -65,6 +80,15 @@ word_after (WipeCode i k) found = 0
 word_after (StoreCode i h c) found = c
 word_after (StoreName n w) found = w
 word_after (StoreOpen o w) found = w
+word_after (ClaimRequest id q) found = if found % 2 == 0 then found + 1 else found
+word_after (Unconnect q) found = UNCONNECTED
+word_after (SwapHead i own) found = own
+word_after (Connect q before) found = before
+word_after (EmptyHead i last) found = if found == last then IDLE + last else found
+word_after (TurnNext q value) found = value
+word_after (FreeRequest q g) found = 2 * (g + 1)
+word_after (StorePlace l k n) found = place_value false k n
+word_after (DropPlace l k n) found = place_value true k n
 word_after other found = found
 
 -- ## A step of seat i
@@ -106,6 +130,7 @@ module _ (p : Plan) where
   abbrev pub homes_after : Call → List Home → List (Option Home) → List (Option Home)
   homes_after (TakeLink k) hand hs = slice_set hs (link_place k) none
   homes_after (PutLink k) hand hs = slice_set hs (link_place k) (first_of hand)
+  homes_after (PutMessage q heading bytes) hand hs = slice_set hs q (some (Message heading bytes))
   homes_after other hand hs = hs
 
   -- what is in hand after a move, or after the link in hand is ended
@@ -120,12 +145,14 @@ module _ (p : Plan) where
 
 -- the outcomes with those that are said before the next step
 abbrev pub said : Program → List (std.Option Outcome) → List (std.Option Outcome)
-said (Say o outcome rest) os = said rest (slice_set os o (std.Some outcome))
+said (Say o outcome next) os = said next (slice_set os o (std.Some outcome))
+said (Sent o next) os = said next os
 said other os = os
 
 -- the program from its next step on
 abbrev pub next_step : Program → Program
-next_step (Say o outcome rest) = next_step rest
+next_step (Say o outcome next) = next_step next
+next_step (Sent o next) = next_step next
 next_step other = other
 
 -- seat i has this program and this in hand, and said what comes before its next step
@@ -142,16 +169,3 @@ abbrev pub stepped : Plan → ℕ → SeatState → Call → (ℕ → Program) �
 stepped p i seat call next c =
     let found = found_at c.words (word_of p call) in
     with_seat i (next found) (hand_after p call c.homes seat.hand) (words_after c.words (word_of p call) (word_after call found)) (homes_after p call seat.hand c.homes) c
-
--- a tick of a seat in this state: its next step, if it has one
-abbrev pub tick_of : Plan → ℕ → SeatState → Program → Core → Core
-tick_of p i seat (Do call next) c = stepped p i seat call next c
-tick_of p i seat other c = c
-
--- a tick of seat i; where there is no such seat nothing changes
-abbrev pub ticked : Plan → Core → ℕ → Core
-ticked p c i = elim (get_elem? c.seats i) as (λ o. Core) [ none ↦ c | some seat ↦ tick_of p i seat seat.program c ]
-
--- ticks of these seats, one after another
-abbrev pub run : Plan → Core → List ℕ → Core
-run p c seats = fold (ticked p) c seats

@@ -1,8 +1,11 @@
 pub mod Calls
+pub mod Writings
 pub mod Programs
 pub mod Tasks
+pub mod Sends
 pub mod Clients
 pub mod Cores
+pub mod Ticks
 pub mod Runs
 pub mod Scripts
 pub mod Told

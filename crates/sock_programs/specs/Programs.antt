@@ -1,15 +1,30 @@
 -- The program of each operation: a tree of steps, which goes on by the word that each step found.
-use Rattle.std.specs.Prelude.{ℕ, zero, suc, ◌+◌, ◌-◌, ◌%◌, ◌^◌, ◌==◌, ◌&&◌, Bool, true, false, nat_le, if◌then◌else◌}
+use Rattle.std.specs.Prelude.{ℕ, zero, suc, ◌+◌, ◌-◌, ◌%◌, ◌^◌, ◌==◌, ◌&&◌, Bool, true, false, List, nat_le, if◌then◌else◌}
 use Rattle.sock_words.specs.Words.{socket_id, socket_id_version, socket_id_slot, vref_version, vref_nref}
 use Rattle.sock_words.specs.declared.outcome.Outcome.{Outcome}
 use Rattle.sock_words.specs.declared.outcome.Outcome.TheVariants.{Opened, SlotsFull, Unopened, Gone, Held, Freed, Kept, Failed, Already}
+use Rattle.sock_io.specs.declared.link.Put.{Put}
+use Rattle.sock_io.specs.declared.link.Ready.{Ready}
+use Rattle.sock_model.specs.declared.chain.Heading.{Heading}
+use Rattle.sock_programs.specs.Writings.{Writing}
 use Rattle.sock_programs.specs.Calls.{Call, ClaimSlot, GiveBirth, AddRef, SubRef, SetOdd, Recycle, FreeSlot, StoreLink, LoadLink, ResetHead, WipeCode, StoreCode, StoreName, LoadName, StoreOpen, LoadOpen, TakeLink, FinishLink, PutLink}
 
--- what a seat has still to do: a step, and what follows by the word found; an operation's outcome, which takes no step; or nothing
+-- what a seat has still to do: a step, and what follows by the word found; an operation's outcome, which takes no step; or nothing.
+-- Whoever writes a link also makes steps that find more than a word: a message out of its home, which is that of the request; the link out
+-- of its home, where what follows is told how many of its messages have places, and home again with that number; a put into the link in hand,
+-- which has answered before or not that it takes more, and the question whether it does, where what follows is told what it answers. And it
+-- comes to the heads of loops. Of an operation whose message was accepted nothing is said: its place word tells the outcome.
 pub data Program : Type 0 where
   Do : Call → (ℕ → Program) → Program
   Say : ℕ → Outcome → Program → Program
+  Sent : ℕ → Program → Program
   Rest : Program
+  TakeMessage : ℕ → (Heading → List ℕ → Program) → Program
+  TakeHome : ℕ → (ℕ → Program) → Program
+  PutHome : ℕ → ℕ → Program → Program
+  PutBytes : ℕ → Bool → List ℕ → (Put → Program) → Program
+  AskReady : ℕ → (Ready → Program) → Program
+  Write : Writing → Program → Program
 
 -- ## Words
 
@@ -20,6 +35,10 @@ NO_SOCKET = 2 ^ 64 - 1
 -- the last version that a slot may be given again with
 abbrev pub LAST_VERSION : ℕ
 LAST_VERSION = 4294967292
+
+-- the last generation of a request, which isn't given back then
+abbrev pub LAST_GENERATION : ℕ
+LAST_GENERATION = 140737488355327
 
 -- ## Parts that operations share
 

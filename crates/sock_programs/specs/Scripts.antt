@@ -1,35 +1,46 @@
 -- The run of a script: how it begins, its setup, its schedule, the rounds until no client has a step left, and the ending.
-use Rattle.std.specs.Prelude.{ℕ, zero, suc, ◌≡◌, ◌+◌, ◌-◌, ◌*◌, Bool, true, false, ◌||◌, not, List, [], ◌∷◌, ◌++◌, length, map, flat_map, fold, replicate, Option, Some, None}
-use Rattle.std.specs.List.{list_any}
+use Rattle.std.specs.Prelude.{ℕ, zero, suc, ◌≡◌, ◌+◌, ◌-◌, ◌*◌, Bool, true, false, not, List, [], ◌∷◌, ◌++◌, map, flat_map, fold, replicate, slice_index, None}
+use Rattle.std.specs.List.{AllByRecursion, list_any}
 use mathlib.Core.Option as core
 use Rattle.sock_words.specs.declared.plain.Plan.{Plan}
-use Rattle.sock_words.specs.declared.outcome.Outcome.{Outcome}
+use Rattle.sock_words.specs.declared.place_word.PlaceWord.{PlaceWord}
 use Rattle.sock_model.specs.declared.home.Home.{Home}
 use Rattle.sock_model.specs.declared.home.Home.TheVariants.{Link}
-use Rattle.sock_model.specs.Layout.{all_words}
+use Rattle.sock_model.specs.Layout.{all_words, place_word}
 use Rattle.brpc_model.specs.Items.{Item, Send, Call, Expire, Join}
-use Rattle.brpc_model.specs.Operations.{clients, schedule, slots, link_names}
-use Rattle.brpc_model.specs.Report.{LinkLine, Report}
+use Rattle.brpc_model.specs.Operations.{Turn, Ticks, clients}
+use Rattle.brpc_model.specs.Drawn.{sim_seats}
+use Rattle.brpc_model.specs.Report.{Report}
+use Rattle.brpc_model.specs.PlaceWords.{IsReportOf}
 use Rattle.sock_programs.specs.Programs.{Program}
 use Rattle.sock_programs.specs.declared.task.Task.{Task}
+use Rattle.sock_programs.specs.declared.task.Sizes.{Sizes}
 use Rattle.sock_programs.specs.Tasks.{tasks, opens, plan_of}
 use Rattle.sock_programs.specs.Clients.{client_from, ending_of}
-use Rattle.sock_programs.specs.Cores.{Core, SeatState, said, next_step, with_seat, run}
-use Rattle.sock_programs.specs.Runs.{IsAtRest, IsSettled, rounds, Scheduled}
+use Rattle.sock_programs.specs.Cores.{Core, said, next_step, with_seat, lies_at, link_place}
+use Rattle.sock_programs.specs.Ticks.{Answer, Moment, quiet, seats_of, run, AreAnswered, IsPrompt, broken_in, answers_in}
+use Rattle.sock_programs.specs.Runs.{IsAtRest, IsSettled, from_to, rounds, Scheduled}
 
 -- ## Which scripts
 
 -- an operation that a tick can't make yet
 abbrev pub is_later : Item → Bool
-is_later (Send name bytes) = true
 is_later (Call call) = true
 is_later (Expire client number) = true
 is_later (Join client number) = true
 is_later other = false
 
--- the script has no message, no call, and nothing on calls
-abbrev pub is_quiet : List Item → Bool
-is_quiet script = not (list_any is_later script)
+-- the script has no call, and nothing on calls
+abbrev pub is_callless : List Item → Bool
+is_callless script = not (list_any is_later script)
+
+abbrev pub is_send_item : Item → Bool
+is_send_item (Send name bytes) = true
+is_send_item other = false
+
+-- the script sends a message
+abbrev pub has_send : List Item → Bool
+has_send script = list_any is_send_item script
 
 -- ## How a run begins
 
@@ -52,9 +63,13 @@ new_links k (suc n) = core.some (Link k [] 0 false) ∷ new_links (k + 1) n
 abbrev pub opening_homes : Plan → List (core.Option Home)
 opening_homes p = replicate p.requests core.none ++ new_links 0 p.links
 
--- the programs of these clients, of so many slots
-abbrev pub programs : ℕ → List (List Task) → List Program
-programs slots clients = map (client_from slots []) clients
+-- how many slots and requests a table has
+abbrev pub sizes_of : Plan → Sizes
+sizes_of p = record { slots = p.slots; requests = p.requests }
+
+-- the programs of these clients, over a table of these sizes
+abbrev pub programs : Sizes → List (List Task) → List Program
+programs sizes clients = map (client_from sizes []) clients
 
 -- the seats have these programs
 abbrev pub beginning : Plan → List Program → Core
@@ -75,7 +90,7 @@ abbrev pub all_tasks : List Item → List (List Task)
 all_tasks script = tasks_from script 0 (clients script + 1)
 
 abbrev pub opened : List Item → Core
-opened script = beginning (plan_of script) (programs (slots script) (all_tasks script))
+opened script = beginning (plan_of script) (programs (sizes_of (plan_of script)) (all_tasks script))
 
 -- ## How it goes on
 
@@ -83,40 +98,61 @@ opened script = beginning (plan_of script) (programs (slots script) (all_tasks s
 abbrev pub ending : List Item → Core → Core
 ending script c = with_seat 0 (ending_of (opens script)) [] c.words c.homes c
 
--- the core behind so many ticks of the setup
+-- the core behind so many ticks of the setup, which asks no link
 abbrev pub set_up : List Item → ℕ → Core
-set_up script n = run (plan_of script) (opened script) (replicate n 0)
+set_up script n = run (plan_of script) (opened script) (replicate n (quiet 0))
 
--- behind the ticks of these clients
-abbrev pub played : List Item → ℕ → List ℕ → Core
-played script n seats = run (plan_of script) (set_up script n) seats
+-- behind these ticks of the clients
+abbrev pub played : List Item → ℕ → List Moment → Core
+played script n moments = run (plan_of script) (set_up script n) moments
 
--- the core in which the run of the script ends
-pub record IsRunOf (script : List Item) (end_ : Core) : Type 0 where
+-- the schedule of one tick each of the seats that `sim` draws
+abbrev pub drawn_turns : List Item → ℕ → List Turn
+drawn_turns script seed = map (λ i. Ticks i 1) (sim_seats script seed)
+
+-- the core in which the run of the script by these lines of a schedule ends, over links that are always ready in time
+pub record IsRunOf (script : List Item) (turns : List Turn) (end_ : Core) : Type 0 where
   -- the setup takes so many ticks of seat 0
   pub setup : ℕ
   pub is_set_up : IsAtRest (set_up script setup) 0
-  -- the schedule is the ticks of these seats
-  pub scheduled : List ℕ
-  pub by_schedule : Scheduled (plan_of script) (set_up script setup) (schedule script) scheduled
+  -- the schedule makes these ticks
+  pub scheduled : List Moment
+  pub by_schedule : Scheduled (plan_of script) (set_up script setup) turns scheduled
   -- so many rounds more, and no seat has a step left
   pub more : ℕ
-  pub is_settled : IsSettled (played script setup (scheduled ++ rounds more (clients script)))
+  pub later : List Moment
+  pub in_rounds : seats_of later ≡ rounds more (clients script)
+  pub is_settled : IsSettled (played script setup (scheduled ++ later))
+  -- whoever asked its link was answered
+  pub answered : AreAnswered (plan_of script) (set_up script setup) (scheduled ++ later)
+  pub prompt : AllByRecursion IsPrompt (scheduled ++ later)
   -- the ending takes so many ticks of seat 0
   pub last : ℕ
-  pub is_end : end_ ≡ run (plan_of script) (ending script (played script setup (scheduled ++ rounds more (clients script)))) (replicate last 0)
+  pub is_end : end_ ≡ run (plan_of script) (ending script (played script setup (scheduled ++ later))) (replicate last (quiet 0))
   pub is_ended : IsSettled end_
 
--- ## What is reported
+-- what the links that were asked answered in the run, one after another
+abbrev pub answers_of : {script : List Item} {turns : List Turn} {end_ : Core} → IsRunOf script turns end_ → List Answer
+answers_of {script} r = answers_in (plan_of script) (set_up script r.setup) (r.scheduled ++ r.later)
 
-abbrev pub told : Option Outcome → List Outcome
-told (Some outcome) = outcome ∷ []
-told None = []
+-- and those that answered that they failed
+abbrev pub broken_of : {script : List Item} {turns : List Turn} {end_ : Core} → IsRunOf script turns end_ → List ℕ
+broken_of {script} r = broken_in (plan_of script) (set_up script r.setup) (r.scheduled ++ r.later)
 
--- a link that accepted no message
-abbrev pub quiet_link : LinkLine
-quiet_link = record { order = []; placed = 0; took = [] }
+-- ## What a run leaves
 
--- the outcomes of the core, and the links of the script, which accepted nothing
-abbrev pub report_of : List Item → Core → Report
-report_of script core = record { outcomes = flat_map told core.outcomes; links = map (λ _. quiet_link) (link_names script) }
+-- the place words, eight for each operation
+abbrev pub place_words : Plan → List ℕ → List PlaceWord
+place_words p words = map (λ l. record { 0 = slice_index words (place_word p l) }) (from_to 0 (8 * p.operations))
+
+-- what the links at home took, as many as there are
+abbrev pub taken_by : Home → List ℕ
+taken_by (Link k took next done) = took
+taken_by other = []
+
+abbrev pub took_at_home : Plan → List (core.Option Home) → List (List ℕ)
+took_at_home p homes = map (λ k. flat_map taken_by (lies_at homes (link_place p k))) (from_to 0 p.links)
+
+-- what is reported of the core in which a run ends, where this is said of what its links took
+abbrev pub Reports : List Item → Core → List (List ℕ) → Report → Type 0
+Reports script core took report = let p = plan_of script in IsReportOf script core.outcomes (place_words p core.words) took report

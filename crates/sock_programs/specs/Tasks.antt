@@ -4,7 +4,7 @@ use Rattle.sock_words.specs.declared.plain.Plan.{Plan}
 use Rattle.sock_programs.specs.declared.task.Op.{Op}
 use Rattle.sock_programs.specs.declared.task.Op.TheVariants as ops
 use Rattle.sock_programs.specs.declared.task.Task.{Task}
-use Rattle.brpc_model.specs.Items.{Item, Open, Fail, Hold, Drop, is_open}
+use Rattle.brpc_model.specs.Items.{Item, Open, Send, Fail, Hold, Drop, is_open}
 use Rattle.brpc_model.specs.Places.{names}
 use Rattle.brpc_model.specs.Operations.{Operation, operations, clients, link_names, slots, requests, first_version}
 
@@ -35,6 +35,7 @@ of_client client ops = filter (λ (n : Numbered). n.op.client == client) ops
 -- what an item asks for, by numbers; other operations aren't among the tasks yet
 abbrev pub op_of : List (List ℕ) → ℕ → Item → Option Op
 op_of names link (Open name shape) = Some (ops.Open (name_number names name) link)
+op_of names link (Send name bytes) = Some (ops.Send (name_number names name) bytes)
 op_of names link (Hold name) = Some (ops.Hold (name_number names name))
 op_of names link (Drop name) = Some (ops.Drop (name_number names name))
 op_of names link (Fail name code) = Some (ops.Fail (name_number names name) code)

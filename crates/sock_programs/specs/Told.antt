@@ -1,20 +1,26 @@
 -- What the outcomes of the tasks tell, once each of them is told: why each task has its outcome, by what became of the others.
-use Rattle.std.specs.Prelude.{ℕ, ◌≡◌, ◌≢◌, ◌%◌, ◌<◌, ◌≤◌, ◌⊎◌, ◌==◌, ◌&&◌, Bool, true, false, not, if◌then◌else◌, List, [], ◌∷◌, slice_get, length, Option, Some, None, Contains}
+use Rattle.std.specs.Prelude.{ℕ, ◌≡◌, ◌≢◌, ◌*◌, ◌%◌, ◌<◌, ◌≤◌, ◌⊎◌, ◌==◌, ◌&&◌, ◌++◌, Bool, true, false, not, nat_le, if◌then◌else◌, List, [], ◌∷◌, slice_get, slice_index, slice_index_or, length, map, flat_map, take, drop, sum_by, Option, Some, None, Contains}
 use Rattle.std.specs.List.{AllByRecursion}
 use Rattle.sock_words.specs.declared.plain.Plan.{Plan}
 use Rattle.sock_words.specs.Words.{vref_version}
 use Rattle.sock_words.specs.declared.outcome.Outcome.{Outcome}
-use Rattle.sock_words.specs.declared.outcome.Outcome.TheVariants.{Opened, SlotsFull, Unopened, Gone, Held, Freed, Kept, NotHeld, Failed, Already}
-use Rattle.brpc_model.specs.Order.{EachBefore}
+use Rattle.sock_words.specs.declared.outcome.Outcome.TheVariants.{Opened, SlotsFull, Unopened, Gone, Full, Held, Freed, Kept, NotHeld, Failed, Already}
+use Rattle.brpc_model.specs.Order.{EachBefore, IsCut}
+use Rattle.sock_model.specs.Layout.{place_word}
+use Rattle.sock_model.specs.Deliveries.{place_value}
 use Rattle.sock_programs.specs.declared.task.Op.{Op}
 use Rattle.sock_programs.specs.declared.task.Op.TheVariants as ops
 use Rattle.sock_programs.specs.declared.task.Task.{Task}
+use Rattle.sock_programs.specs.Cores.{Core}
+use Rattle.sock_programs.specs.Runs.{from_to}
+use Rattle.sock_programs.specs.Scripts.{took_at_home}
 
 -- ## Tasks that a table may be asked for
 
--- the numbers of a task are those of the table, and a code isn't 0
+-- the numbers of a task are those of the table, a message has from 1 to 65,536 bytes, and a code isn't 0
 abbrev pub OpFits : Plan → Op → Type 0
 OpFits p (ops.Open n k) = (n < p.names) × (k < p.links)
+OpFits p (ops.Send n bytes) = (n < p.names) × (bytes ≢ []) × (length bytes ≤ 65536)
 OpFits p (ops.Hold n) = n < p.names
 OpFits p (ops.Drop n) = n < p.names
 OpFits p (ops.Fail n c) = (n < p.names) × (c ≢ 0)
@@ -66,6 +72,46 @@ pub record AreTasks (p : Plan) (clients : List (List Task)) : Type 0 where
   -- so few that no client could take too many references
   pub few : AllByRecursion (λ (ts : List Task). length ts ≤ 4096) clients
 
+-- ## What the links accepted
+
+-- a message that a link accepted: the operation that sent it, and its bytes
+pub record Accepted : Type 0 where
+  pub operation : ℕ
+  pub bytes : List ℕ
+
+-- the messages of a link in order, and how many of them it took whole
+pub record Order : Type 0 where
+  pub accepted : List Accepted
+  pub placed : ℕ
+
+abbrev pub bytes_of : Accepted → List ℕ
+bytes_of a = a.bytes
+
+-- a link took this: the placed messages, one after another, and then a proper prefix of the next
+pub record IsTaken (o : Order) (took : List ℕ) : Type 0 where
+  pub cut : List ℕ
+  pub took_is : took ≡ flat_map bytes_of (take o.placed o.accepted) ++ cut
+  pub is_cut : IsCut cut (map bytes_of (drop o.placed o.accepted))
+
+-- message a stands at place i of the order of link k
+abbrev pub StandsAt : (ℕ → Order) → ℕ → ℕ → Accepted → Type 0
+StandsAt orders k i a = slice_get (orders k).accepted i ≡ Some a
+
+-- how many messages all of so many links accepted
+abbrev pub all_accepted : ℕ → (ℕ → Order) → ℕ
+all_accepted links orders = sum_by (λ k. length (orders k).accepted) (from_to 0 links)
+
+-- the orders are those that the place words and the links of the core show
+pub record AreOrders (p : Plan) (c : Core) (orders : ℕ → Order) : Type 0 where
+  -- the word of an accepted message tells its link and its place, and whether it was dropped
+  pub written : (k i : ℕ) (a : Accepted) → k < p.links → StandsAt orders k i a → slice_index c.words (place_word p (8 * a.operation)) ≡ place_value (nat_le (orders k).placed i) k i
+  -- and no other word tells anything
+  pub alone : (l : ℕ) → l < 8 * p.operations → (slice_index c.words (place_word p l) ≡ 0) ⊎ ((k i : ℕ) × (a : Accepted) × (k < p.links) × StandsAt orders k i a × (l ≡ 8 * a.operation))
+  pub within : (k : ℕ) → k < p.links → (orders k).placed ≤ length (orders k).accepted
+  pub taken : (k : ℕ) → k < p.links → IsTaken (orders k) (slice_index_or (took_at_home p c.homes) k [])
+  -- no message stands in two places
+  pub apart : (k l i j : ℕ) (a b : Accepted) → k < p.links → l < p.links → StandsAt orders k i a → StandsAt orders l j b → a.operation ≡ b.operation → (k ≡ l) × (i ≡ j)
+
 -- ## What became of them
 
 module _ (clients : List (List Task)) (outcomes : List (Option Outcome)) where
@@ -89,7 +135,7 @@ module _ (clients : List (List Task)) (outcomes : List (Option Outcome)) where
 
   -- where the task looks for a socket of the name, it found none
   abbrev pub SeeksInVain : ℕ → Task → Type 0
-  SeeksInVain n t = (((c : ℕ) × (t.op ≡ ops.Fail n c)) ⊎ (t.op ≡ ops.Hold n)) → Became t.number Unopened
+  SeeksInVain n t = (((c : ℕ) × (t.op ≡ ops.Fail n c)) ⊎ ((t.op ≡ ops.Hold n) ⊎ ((bytes : List ℕ) × (t.op ≡ ops.Send n bytes)))) → Became t.number Unopened
 
   -- a task that opened no socket of the name
   abbrev pub OpensNone : ℕ → Task → Type 0
@@ -104,16 +150,18 @@ module _ (clients : List (List Task)) (outcomes : List (Option Outcome)) where
   abbrev pub IsNoLater : ℕ → ℕ → ℕ → Type 0
   IsNoLater c o f = (t : Task) → IsTask c t → t.number ≡ f → f < o
 
-  -- a life of the name with a version of which this holds was failed by an operation that isn't a later one of client c
-  pub record FoundFailed (fails : List (ℕ × ℕ)) (c o n : ℕ) (P : ℕ → Type 0) : Type 0 where
+  -- the life with this link was failed by an operation that isn't a later one of client c, or since the link failed
+  abbrev pub WasFailed : List (ℕ × ℕ) → List ℕ → ℕ → ℕ → ℕ → Type 0
+  WasFailed fails broken c o link = ((fail : ℕ) × Contains fails (fail, link) × IsNoLater c o fail) ⊎ Contains broken link
+
+  -- so was a life of the name with a version of which this holds
+  pub record FoundFailed (fails : List (ℕ × ℕ)) (broken : List ℕ) (c o n : ℕ) (P : ℕ → Type 0) : Type 0 where
     pub link : ℕ
     pub slot : ℕ
     pub version : ℕ
     pub made : Made n link slot version
     pub holds : P version
-    pub fail : ℕ
-    pub failed : Contains fails (fail, link)
-    pub no_later : IsNoLater c o fail
+    pub failed : WasFailed fails broken c o link
 
   -- the last `hold` of the name by client c before operation o has an outcome of which this holds
   pub record AfterHold (c o n : ℕ) (P : Outcome → Type 0) : Type 0 where
@@ -148,27 +196,50 @@ module _ (clients : List (List Task)) (outcomes : List (Option Outcome)) where
     pub version : ℕ
     pub life : Made name fail.1 slot version
 
-  module _ (p : Plan) (fails : List (ℕ × ℕ)) where
+  -- message a, which link k accepted, is that of a `send` to a name of the link's socket, of which nothing is said
+  pub record IsSent (k : ℕ) (a : Accepted) : Type 0 where
+    pub client : ℕ
+    pub task : Task
+    pub is : IsTask client task
+    pub numbered : task.number ≡ a.operation
+    pub name : ℕ
+    pub op : task.op ≡ ops.Send name a.bytes
+    pub slot : ℕ
+    pub version : ℕ
+    pub life : Made name k slot version
+    pub untold : slice_get outcomes a.operation ≡ Some None
+
+  -- of one client, the message of an earlier operation stands before that of a later one
+  abbrev pub InOwnOrder : Accepted → Accepted → Type 0
+  InOwnOrder a b = (c : ℕ) (t u : Task) → IsTask c t → IsTask c u → t.number ≡ a.operation → u.number ≡ b.operation → t.number < u.number
+
+  module _ (p : Plan) (fails : List (ℕ × ℕ)) (broken : List ℕ) (orders : ℕ → Order) where
     -- why operation o of client c has its outcome
     abbrev pub Why : ℕ → ℕ → Op → Outcome → Type 0
     Why c o (ops.Open n k) (Opened slot version l) = (l ≡ k) × (slot < p.slots) × (version % 2 ≡ 0) × (p.first ≤ version)
     Why c o (ops.Open n k) SlotsFull = EachOpened p
+    Why c o (ops.Send n bytes) Unopened = FoundNone c o n
+    Why c o (ops.Send n bytes) (Gone found) = FoundFailed fails broken c o n (λ version. vref_version found.0 ≢ version)
+    Why c o (ops.Send n bytes) Full = HasLife n × (p.requests ≤ all_accepted p.links orders)
     Why c o (ops.Hold n) Unopened = FoundNone c o n
-    Why c o (ops.Hold n) (Gone found) = FoundFailed fails c o n (λ version. vref_version found.0 ≢ version)
+    Why c o (ops.Hold n) (Gone found) = FoundFailed fails broken c o n (λ version. vref_version found.0 ≢ version)
     Why c o (ops.Hold n) Held = HasLife n
     Why c o (ops.Fail n code) Unopened = FoundNone c o n
-    Why c o (ops.Fail n code) (Gone found) = FoundFailed fails c o n (λ version. vref_version found.0 ≢ version)
-    Why c o (ops.Fail n code) (Already found) = FoundFailed fails c o n (λ version. vref_version found.0 % 2 ≡ 1)
+    Why c o (ops.Fail n code) (Gone found) = FoundFailed fails broken c o n (λ version. vref_version found.0 ≢ version)
+    Why c o (ops.Fail n code) (Already found) = FoundFailed fails broken c o n (λ version. vref_version found.0 % 2 ≡ 1)
     Why c o (ops.Fail n code) Failed = (k : ℕ) × Contains fails (o, k)
     Why c o (ops.Drop n) NotHeld = AfterHold c o n (λ outcome. outcome ≢ Held)
     Why c o (ops.Drop n) Freed = AfterHold c o n (λ outcome. outcome ≡ Held)
     Why c o (ops.Drop n) Kept = AfterHold c o n (λ outcome. outcome ≡ Held)
     Why c o op outcome = ⊥
 
-  -- why each task has its outcome
-  pub record Told (p : Plan) : Type 0 where
-    -- each task has an outcome
-    pub told : (c : ℕ) (t : Task) → IsTask c t → (outcome : Outcome) × Became t.number outcome
+  -- why each task has its outcome, and each link took what it took; these links answered that they failed
+  pub record Told (p : Plan) (c : Core) (broken : List ℕ) : Type 0 where
+    pub orders : ℕ → Order
+    pub are_orders : AreOrders p c orders
+    -- each task has an outcome, or is a `send` whose message was accepted
+    pub told : (client : ℕ) (t : Task) → IsTask client t → ((outcome : Outcome) × Became t.number outcome)
+        ⊎ ((k i : ℕ) × (a : Accepted) × (k < p.links) × StandsAt orders k i a × (a.operation ≡ t.number))
     -- the `fail` operations that were answered `failed`, each with the link of the life that it failed
     pub fails : List (ℕ × ℕ)
     pub are : AllByRecursion IsFail fails
@@ -176,5 +247,10 @@ module _ (clients : List (List Task)) (outcomes : List (Option Outcome)) where
     pub once : EachBefore (λ (f g : ℕ × ℕ). (f.0 ≢ g.0) × (f.1 ≢ g.1)) fails
     -- no two opens made the same life
     pub lives : (n k m l slot version : ℕ) (a : Made n k slot version) (b : Made m l slot version) → a.task.number ≡ b.task.number
-    -- and each outcome has its cause
-    pub why : (c : ℕ) (t : Task) (outcome : Outcome) → IsTask c t → Became t.number outcome → Why p fails c t.number t.op outcome
+    -- each outcome has its cause
+    pub why : (client : ℕ) (t : Task) (outcome : Outcome) → IsTask client t → Became t.number outcome → Why p fails broken orders client t.number t.op outcome
+    -- what a link accepted was sent to its socket, by each client in the order of its operations
+    pub sent : (k : ℕ) → k < p.links → AllByRecursion (IsSent k) (orders k).accepted
+    pub own_order : (k : ℕ) → k < p.links → EachBefore InOwnOrder (orders k).accepted
+    -- and messages are dropped only where the link's life was failed
+    pub dropped : (k : ℕ) → k < p.links → (orders k).placed < length (orders k).accepted → Contains broken k ⊎ ((fail : ℕ) × Contains fails (fail, k))

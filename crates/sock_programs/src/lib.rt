@@ -3,4 +3,4 @@
 
 pub mod task;
 
-pub use task::{Op, Task};
+pub use task::{Op, Sizes, Task};
