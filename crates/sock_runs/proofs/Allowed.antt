@@ -1,29 +1,40 @@
 -- The next step of each seat is one that a machine may make: its word is there, no number leaves its range, and a link that it takes is at home.
-use Rattle.std.proofs.Common.{◌≡◌, ℕ, ◌+◌, ◌*◌, ◌<◌, List, length, refl, sym, subst, arith}
+use Rattle.std.proofs.Common.{◌≡◌, ℕ, ◌+◌, ◌*◌, ◌<◌, List, length, sym, subst, arith}
 use mathlib.Core.Option.{Option, some, none, some-injective, some-ne-none}
 use lib.ListN.{get_elem?}
 use Rattle.sock_words.specs.declared.plain.Plan.{Plan}
 use Rattle.sock_words.specs.Words.{socket_id_slot}
 use Rattle.sock_model.specs.declared.view.View.{View}
-use Rattle.sock_model.specs.Layout.{tag_word, ref_word, link_word, head_word, code_word, all_words, name_word, open_word}
-use Rattle.sock_programs.specs.Calls.{Call, ClaimSlot, GiveBirth, AddRef, SubRef, SetOdd, Recycle, FreeSlot, StoreLink, LoadLink, ResetHead, WipeCode, StoreCode, StoreName, LoadName, StoreOpen, LoadOpen, TakeLink, FinishLink, PutLink}
-use Rattle.sock_programs.specs.Programs.{Program, Do}
+use Rattle.sock_model.specs.Layout.{tag_word, ref_word, link_word, head_word, code_word, all_words, name_word, open_word, request_word, next_word, place_word}
+use Rattle.sock_model.specs.Memory.{IDLE}
+use Rattle.sock_programs.specs.Calls.{Call, ClaimSlot, GiveBirth, AddRef, SubRef, SetOdd, Recycle, FreeSlot, StoreLink, LoadLink, ResetHead, WipeCode, StoreCode, StoreName, LoadName, StoreOpen, LoadOpen, TakeLink, FinishLink, PutLink, LookWord, FindLink, LoadCode, ClaimRequest, PutMessage, Unconnect, SwapHead, Connect, EmptyHead, ReadNext, TurnNext, FreeRequest, StorePlace, DropPlace}
+use Rattle.sock_programs.specs.Programs.{Program, Do, Say, Sent, Rest, TakeMessage, TakeHome, PutHome, PutBytes, AskReady, Write}
 use Rattle.sock_programs.specs.Cores.{Core, SeatState, word_of, found_at}
 use Rattle.sock_runs.specs.Rows.{hand_at}
 use Rattle.sock_runs.specs.May.{May, Finds}
 use Rattle.sock_runs.specs.GoesOn.{GoesOn}
-use Rattle.sock_runs.specs.Sound.{state, Sound, AllowsWord, AllowsMove, Allows}
+use Rattle.sock_runs.specs.Sound.{state, Sound, AllowsWord, AllowsMove, Allows, AllowsStep, AreFew, MOST_PLACES, first_step}
 use Rattle.sock_runs.proofs.HandTicks.{taking}
 use Rattle.sock_runs.proofs.Founds.{finds}
-use Rattle.sock_runs.proofs.Ticks.{beside}
+use Rattle.sock_runs.proofs.ChainTicks.{read_inside, turn_inside, free_inside, free_small}
+use Rattle.sock_runs.proofs.LinkTicks.{message_there, link_there, has_link, link_put_there, link_asked_there}
+use Rattle.sock_runs.proofs.Rounds.{begins_round}
+use Rattle.sock_runs.proofs.Cases.{beside, goes_first}
+use Rattle.sock_runs.proofs.Few.{last_small, places_small}
 
 -- a word of a slot is there
 slot_word : (p : Plan) (ws : List ℕ) → length ws ≡ all_words p → (j n : ℕ) → j < p.slots → n < 6 * j + 6 → (x : ℕ) → some n ≡ some x → x < length ws
 slot_word p ws sized j n inside near x e = omega (arith, sized, some-injective n x e)
 
-module _ (p : Plan) (c : Core) (vs : List View) (sound : Sound p c vs) (i : ℕ) (v : View) (at : get_elem? vs i ≡ some v) where
+module _ (p : Plan) (c : Core) (vs : List View) (sound : Sound p c vs) (few : AreFew vs) (i : ℕ) (v : View) (at : get_elem? vs i ≡ some v) where
   abbrev found : Call → ℕ
   found call = found_at c.words (word_of p call)
+
+  next_there : (q : ℕ) → q < p.requests → (x : ℕ) → some (next_word p q) ≡ some x → x < length c.words
+  next_there q inside x e = omega (arith, inside, sound.lawful.references.sized, some-injective (next_word p q) x e)
+
+  place_there : (l : ℕ) → l < 8 * p.operations → (x : ℕ) → some (place_word p l) ≡ some x → x < length c.words
+  place_there l inside x e = omega (arith, inside, sound.lawful.references.sized, some-injective (place_word p l) x e)
 
   word_there : (call : Call) → May p v call → (x : ℕ) → word_of p call ≡ some x → x < length c.words
   word_there (ClaimSlot j) may x e = slot_word p c.words sound.lawful.references.sized j (tag_word j) may (omega arith) x e
@@ -45,8 +56,22 @@ module _ (p : Plan) (c : Core) (vs : List View) (sound : Sound p c vs) (i : ℕ)
   word_there (TakeLink k) may x e = absurd (some-ne-none x (sym e))
   word_there (FinishLink k) may x e = absurd (some-ne-none x (sym e))
   word_there (PutLink k) may x e = absurd (some-ne-none x (sym e))
+  word_there (LookWord id) may x e = slot_word p c.words sound.lawful.references.sized (socket_id_slot id) (ref_word (socket_id_slot id)) may.0 (omega arith) x e
+  word_there (FindLink j h) may x e = slot_word p c.words sound.lawful.references.sized j (link_word j) may.0 (omega arith) x e
+  word_there (LoadCode j h) may x e = slot_word p c.words sound.lawful.references.sized j (code_word j) may.0 (omega arith) x e
+  word_there (ClaimRequest id q) may x e = let inside = may.0 in omega (arith, inside, sound.lawful.references.sized, some-injective (request_word p q) x e)
+  word_there (PutMessage q heading bytes) may x e = absurd (some-ne-none x (sym e))
+  word_there (Unconnect q) may x e = next_there q may.0 x e
+  word_there (SwapHead j own) may x e = slot_word p c.words sound.lawful.references.sized j (head_word j) may.0 (omega arith) x e
+  word_there (Connect q before) may x e = next_there q may.0 x e
+  word_there (EmptyHead j last) may x e = slot_word p c.words sound.lawful.references.sized j (head_word j) may.0 (omega arith) x e
+  word_there (ReadNext q) may x e = next_there q (read_inside p (state c vs) sound.lawful i v at q may) x e
+  word_there (TurnNext q value) may x e = next_there q (turn_inside p (state c vs) sound.lawful i v at q value may) x e
+  word_there (FreeRequest q g) may x e = let inside = free_inside p (state c vs) sound.lawful i v at q g may in omega (arith, inside, sound.lawful.references.sized, some-injective (request_word p q) x e)
+  word_there (StorePlace l k n) may x e = place_there l (let inside = may.0.label_in in omega (arith, inside, may.2)) x e
+  word_there (DropPlace l k n) may x e = place_there l (let inside = may.0.label_in in omega (arith, inside, may.2)) x e
 
-  allows_word : (call : Call) → May p v call → Finds p v call (found call) (hand_at p c.homes call) → AllowsWord call (found call)
+  allows_word : (call : Call) → May p v call → Finds p v call (found call) (hand_at p c.words c.homes call) → AllowsWord call (found call)
   allows_word (ClaimSlot j) may f = tt
   allows_word (GiveBirth j k) may f = f.0
   allows_word (AddRef id) may f = f
@@ -66,27 +91,23 @@ module _ (p : Plan) (c : Core) (vs : List View) (sound : Sound p c vs) (i : ℕ)
   allows_word (TakeLink k) may f = tt
   allows_word (FinishLink k) may f = tt
   allows_word (PutLink k) may f = tt
+  allows_word (FindLink j h) may f = omega (arith, f.0, sound.limits.links)
+  allows_word (ClaimRequest id q) may f = f.1
+  allows_word (EmptyHead j last) may f = let x = may.1.0 in
+      subst (λ n. n < IDLE) x.last_is (last_small p (state c vs) sound.lawful i v at x.mine.place x.mine.right x.mine.has)
+  allows_word (StorePlace l k n) may f = let x = may.0 in
+      subst (λ m. m < MOST_PLACES) (sym may.4) (places_small p (state c vs) sound.lawful i v at x.mine.place x.mine.right x.mine.has few x.now x.stage)
+  allows_word (DropPlace l k n) may f = let x = may.0 in
+      subst (λ m. m < MOST_PLACES) (sym may.4) (places_small p (state c vs) sound.lawful i v at x.mine.place x.mine.right x.mine.has few x.now x.stage)
+  allows_word (FreeRequest q g) may f = free_small p (state c vs) sound.lawful i v at q g may
+  allows_word _ may f = tt
 
   allows_move : (call : Call) → May p v call → AllowsMove p c call
   allows_move (TakeLink k) may = let h = (taking p (state c vs) sound.lawful i v at k may).0 in (may.0, (h.took, h.next, h.done, h.is))
   allows_move (FinishLink k) may = may.0
   allows_move (PutLink k) may = may.0
-  allows_move (ClaimSlot j) may = tt
-  allows_move (GiveBirth j k) may = tt
-  allows_move (AddRef id) may = tt
-  allows_move (SubRef j) may = tt
-  allows_move (SetOdd j) may = tt
-  allows_move (Recycle j from) may = tt
-  allows_move (FreeSlot j) may = tt
-  allows_move (StoreLink j k) may = tt
-  allows_move (LoadLink j w) may = tt
-  allows_move (ResetHead j k) may = tt
-  allows_move (WipeCode j k) may = tt
-  allows_move (StoreCode j h d) may = tt
-  allows_move (StoreName n w) may = tt
-  allows_move (LoadName n) may = tt
-  allows_move (StoreOpen n w) may = tt
-  allows_move (LoadOpen n) may = tt
+  allows_move (PutMessage q heading bytes) may = may.0
+  allows_move _ may = tt
 
   allows : (call : Call) → May p v call → Allows p c call
   allows call may = let f = finds p (state c vs) sound.lawful i v at sound.limits.slots call may in (word_there call may, allows_word call may f, allows_move call may)
@@ -96,7 +117,19 @@ pub view_there : {A B : Type 0} (l : List A) (m : List B) (i : ℕ) (a : A) → 
 view_there l m i a e at none none_ = absurd (beside l m i a e at none_)
 view_there l m i a e at (some b) is = (b, is)
 
--- each seat's next step is allowed
-pub sound_allows : (p : Plan) (c : Core) (vs : List View) (i : ℕ) (seat : SeatState) (call : Call) (next : ℕ → Program) → Sound p c vs → get_elem? c.seats i ≡ some seat → seat.program ≡ Do call next → Allows p c call
-sound_allows p c vs i seat call next sound at is = let w = view_there c.seats vs i seat sound.each at (get_elem? vs i) refl in
-    let goes : GoesOn p w.0 (Do call next) = subst (GoesOn p w.0) is (sound.seats i seat w.0 at w.1).goes_on in allows p c vs sound i w.0 w.1 call goes.0
+-- a step that the view allows is one that the machine may make
+step_allowed : (p : Plan) (c : Core) (vs : List View) (i : ℕ) (seat : SeatState) (v : View) → Sound p c vs → AreFew vs → get_elem? c.seats i ≡ some seat → get_elem? vs i ≡ some v → (program : Program) → GoesOn p v program → AllowsStep p c seat program
+step_allowed p c vs i seat v sound few at at_view (Do call next) goes = allows p c vs sound few i v at_view call goes.0
+step_allowed p c vs i seat v sound few at at_view (TakeMessage q next) goes = message_there p c vs sound i seat v at at_view q next goes
+step_allowed p c vs i seat v sound few at at_view (TakeHome k next) goes = link_there p c vs sound i seat v at at_view k next goes
+step_allowed p c vs i seat v sound few at at_view (PutHome k n after) goes = has_link p c vs sound i seat v at at_view k n after goes
+step_allowed p c vs i seat v sound few at at_view (PutBytes k asked bytes next) goes = link_put_there p c vs sound i seat v at at_view k asked bytes next goes
+step_allowed p c vs i seat v sound few at at_view (AskReady k next) goes = link_asked_there p c vs sound i seat v at at_view k next goes
+step_allowed p c vs i seat v sound few at at_view (Say o outcome next) goes = tt
+step_allowed p c vs i seat v sound few at at_view (Sent o next) goes = tt
+step_allowed p c vs i seat v sound few at at_view Rest goes = tt
+step_allowed p c vs i seat v sound few at at_view (Write w after) goes = tt
+
+-- each seat's next step is allowed, also where it is the first of a round
+pub sound_allows : (p : Plan) (c : Core) (vs : List View) (i : ℕ) (seat : SeatState) (v : View) → Sound p c vs → AreFew vs → get_elem? c.seats i ≡ some seat → get_elem? vs i ≡ some v → AllowsStep p c seat (first_step seat.program)
+sound_allows p c vs i seat v sound few at at_view = step_allowed p c vs i seat v sound few at at_view (first_step seat.program) (goes_first p v (begins_round p v) seat.program (sound.seats i seat v at at_view).goes_on)

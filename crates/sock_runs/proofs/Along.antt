@@ -1,5 +1,5 @@
 -- Runs of any length keep all seats sound, and a seat of a run never has an outcome to say before its next step.
-use Rattle.std.proofs.Common.{◌≡◌, ℕ, zero, suc, ◌<◌, Bool, true, false, List, [], ◌∷◌, length, map, refl, sym, ap, ◌∙◌, subst, ⊎_elim, arith}
+use Rattle.std.proofs.Common.{◌≡◌, ℕ, zero, suc, ◌<◌, Bool, true, false, List, [], ◌∷◌, ◌++◌, length, map, set, refl, sym, ap, ◌∙◌, subst, ⊎_elim, arith}
 use Rattle.std.proofs.lemmas.Bool.{true≢false}
 use Rattle.std.proofs.lemmas.Option.{none-some}
 use Rattle.std.specs.Prelude as std
@@ -9,47 +9,94 @@ use lib.ListN.{get_elem?}
 use Rattle.atomic_table.proofs.Lists.{at_set}
 use Rattle.sock_words.specs.declared.kind.Kind.{Kind}
 use Rattle.sock_words.specs.declared.plain.Plan.{Plan}
+use Rattle.sock_io.specs.declared.link.Put.{Put}
+use Rattle.sock_io.specs.declared.link.Ready.{Ready}
 use Rattle.sock_model.specs.declared.home.Home.{Home}
+use Rattle.sock_model.specs.Messages.{Letter}
+use Rattle.sock_model.specs.Reads.{message, link_home}
 use Rattle.sock_model.specs.declared.view.View.{View}
 use Rattle.sock_programs.specs.Calls.{kind_of}
-use Rattle.sock_programs.specs.Programs.{Program, Do, Say, Rest}
-use Rattle.sock_programs.specs.Cores.{Core, SeatState, word_of, word_after, found_at, words_after, homes_after, hand_after, with_seat, next_step, tick_of, ticked, run}
+use Rattle.sock_programs.specs.Programs.{Program, Do, Say, Sent, Rest, TakeMessage, TakeHome, PutHome, PutBytes, AskReady, Write}
+use Rattle.sock_programs.specs.Cores.{Core, SeatState, word_of, word_after, found_at, words_after, homes_after, hand_after, lies_at, first_of, others_of, link_place, with_seat, next_step}
+use Rattle.sock_programs.specs.Sends.{block}
+use Rattle.sock_programs.specs.Ticks.{Answer, Unasked, OfPut, OfReady, Moment, AreAnswered, fed, with_places, onto_first, with_message, with_link, with_put, with_ready, step_with, tick_with, ticked, run}
 use Rattle.sock_programs.specs.Runs.{kind_in, IsAtRest, IsSettled}
 use Rattle.sock_programs.specs.Scripts.{beginning}
 use Rattle.sock_runs.specs.Sound.{Sound, IsAhead, AllRest, views_after, views_along}
 use Rattle.sock_runs.proofs.Ticks.{sound_ticks}
 
 -- ticks of any seats, one after another, keep all seats sound
-pub run_sound : (p : Plan) (c : Core) (vs : List View) (seats : List ℕ) → Sound p c vs → Sound p (run p c seats) (views_along p c vs seats)
-run_sound p c vs [] sound = sound
-run_sound p c vs (i ∷ seats) sound = run_sound p (ticked p c i) (views_after p c vs i) seats (sound_ticks p c vs i sound)
+pub run_sound : (p : Plan) (c : Core) (vs : List View) (moments : List Moment) → Sound p c vs → AreAnswered p c moments → Sound p (run p c moments) (views_along p c vs moments)
+run_sound p c vs [] sound answered = sound
+run_sound p c vs (m ∷ moments) sound answered = run_sound p (ticked p c m) (views_after p c vs m) moments (sound_ticks p c vs m sound answered.0) answered.1
 
 -- ## Outcomes are said at once
 
 next_again : (program : Program) → next_step (next_step program) ≡ next_step program
-next_again (Do call next) = refl
 next_again (Say _ _ after) = next_again after
-next_again Rest = refl
+next_again (Sent _ after) = next_again after
+next_again _ = refl
 
 -- a seat that has made a step, or that has a new program, is ahead as the others are
 pub seat_ahead : (c : Core) (i : ℕ) (program : Program) (hand : List Home) (ws : List ℕ) (hs : List (Option Home)) → IsAhead c → IsAhead (with_seat i program hand ws hs c)
 seat_ahead c i program hand ws hs ahead j seat at = ⊎_elim (λ a. subst (λ (x : SeatState). next_step x.program ≡ x.program) a.1 (next_again program)) (λ a. ahead j seat a.1)
     (at_set c.seats i j (record { program = next_step program; hand = hand }) seat at)
 
-module _ (p : Plan) (c : Core) (i : ℕ) (ahead : IsAhead c) where
-  tick_ahead : (seat : SeatState) (program : Program) → IsAhead (tick_of p i seat program c)
-  tick_ahead seat (Do call next) = let found : ℕ = found_at c.words (word_of p call) in
+module _ (p : Plan) (c : Core) (i : ℕ) (seat : SeatState) (ahead : IsAhead c) where
+  message_ahead : (q : ℕ) (x : Option Letter) (next : Letter → Program) → IsAhead (with_message p i seat c q x next)
+  message_ahead q none next = ahead
+  message_ahead q (some letter) next = seat_ahead c i (next letter) seat.hand c.words (set c.homes q none) ahead
+
+  home_ahead : (k : ℕ) (x : Option (List ℕ × ℕ)) (next : ℕ → Program) → IsAhead (with_link p i seat c k x next)
+  home_ahead k none next = ahead
+  home_ahead k (some home) next = seat_ahead c i (next home.1) (lies_at c.homes (link_place p k) ++ seat.hand) c.words (set c.homes (link_place p k) none) ahead
+
+  put_ahead : (bytes : List ℕ) (answer : Answer) (next : Put → Program) → IsAhead (with_put p i seat c bytes answer next)
+  put_ahead bytes Unasked next = ahead
+  put_ahead bytes (OfReady answer) next = ahead
+  put_ahead bytes (OfPut answer) next = seat_ahead c i (next answer) (onto_first (fed bytes answer) seat.hand) c.words c.homes ahead
+
+  ready_ahead : (answer : Answer) (next : Ready → Program) → IsAhead (with_ready p i seat c answer next)
+  ready_ahead Unasked next = ahead
+  ready_ahead (OfPut answer) next = ahead
+  ready_ahead (OfReady answer) next = seat_ahead c i (next answer) seat.hand c.words c.homes ahead
+
+  step_ahead : (answer : Answer) (program : Program) → IsAhead (step_with p i seat c answer program)
+  step_ahead answer (Do call next) = let found : ℕ = found_at c.words (word_of p call) in
       seat_ahead c i (next found) (hand_after p call c.homes seat.hand) (words_after c.words (word_of p call) (word_after call found)) (homes_after p call seat.hand c.homes) ahead
-  tick_ahead seat (Say _ _ _) = ahead
-  tick_ahead seat Rest = ahead
+  step_ahead answer (TakeMessage q next) = message_ahead q (message (λ (home : Home). home) c.homes q) (λ letter. next letter.0 letter.1)
+  step_ahead answer (TakeHome k next) = home_ahead k (link_home (λ (home : Home). home) p c.homes k) next
+  step_ahead answer (PutHome k n after) = seat_ahead c i after (others_of seat.hand) c.words (set c.homes (link_place p k) (first_of (onto_first (with_places n) seat.hand))) ahead
+  step_ahead answer (PutBytes k asked bytes next) = put_ahead bytes answer next
+  step_ahead answer (AskReady k next) = ready_ahead answer next
+  step_ahead answer (Say o outcome next) = ahead
+  step_ahead answer (Sent o next) = ahead
+  step_ahead answer Rest = ahead
+  step_ahead answer (Write w after) = ahead
 
-  by_seat : (q : Option SeatState) → IsAhead (elim q as (λ o. Core) [ none ↦ c | some seat ↦ tick_of p i seat seat.program c ])
-  by_seat none = ahead
-  by_seat (some seat) = tick_ahead seat seat.program
+  tick_ahead : (answer : Answer) (program : Program) → IsAhead (tick_with p i seat c answer program)
+  tick_ahead answer (Write w after) = step_ahead answer (block w after)
+  tick_ahead answer (Do call next) = step_ahead answer (Do call next)
+  tick_ahead answer (TakeMessage q next) = step_ahead answer (TakeMessage q next)
+  tick_ahead answer (TakeHome k next) = step_ahead answer (TakeHome k next)
+  tick_ahead answer (PutHome k n after) = step_ahead answer (PutHome k n after)
+  tick_ahead answer (PutBytes k asked bytes next) = step_ahead answer (PutBytes k asked bytes next)
+  tick_ahead answer (AskReady k next) = step_ahead answer (AskReady k next)
+  tick_ahead answer (Say o outcome next) = ahead
+  tick_ahead answer (Sent o next) = ahead
+  tick_ahead answer Rest = ahead
 
-pub run_ahead : (p : Plan) (c : Core) (seats : List ℕ) → IsAhead c → IsAhead (run p c seats)
+-- so is it behind a tick
+pub ticked_ahead : (p : Plan) (c : Core) (m : Moment) → IsAhead c → IsAhead (ticked p c m)
+ticked_ahead p c m ahead = by_seat (get_elem? c.seats m.seat)
+  where
+    by_seat : (q : Option SeatState) → IsAhead (elim q as (λ o. Core) [ none ↦ c | some seat ↦ tick_with p m.seat seat c m.answer seat.program ])
+    by_seat none = ahead
+    by_seat (some seat) = tick_ahead p c m.seat seat ahead m.answer seat.program
+
+pub run_ahead : (p : Plan) (c : Core) (moments : List Moment) → IsAhead c → IsAhead (run p c moments)
 run_ahead p c [] ahead = ahead
-run_ahead p c (i ∷ seats) ahead = run_ahead p (ticked p c i) seats (by_seat p c i ahead (get_elem? c.seats i))
+run_ahead p c (m ∷ moments) ahead = run_ahead p (ticked p c m) moments (ticked_ahead p c m ahead)
 
 -- as they are at the beginning
 seats_ahead : (programs : List Program) (i : ℕ) (seat : SeatState) → get_elem? (map (λ (program : Program). record { program = next_step program; hand = [] }) programs) i ≡ some seat → next_step seat.program ≡ seat.program
@@ -64,17 +111,25 @@ beginning_ahead p programs = seats_ahead programs
 
 abbrev says : Program → Bool
 says (Say _ _ _) = true
+says (Sent _ _) = true
 says _ = false
 
 never_says : (program : Program) → says (next_step program) ≡ false
-never_says (Do call next) = refl
 never_says (Say _ _ after) = never_says after
-never_says Rest = refl
+never_says (Sent _ after) = never_says after
+never_says _ = refl
 
 rests : (program : Program) → says program ≡ false → kind_in program ≡ None → program ≡ Rest
 rests (Do call next) quiet idle = absurd (none-some (kind_of call) (sym idle))
 rests (Say _ _ _) quiet idle = absurd (true≢false quiet)
+rests (Sent _ _) quiet idle = absurd (true≢false quiet)
 rests Rest quiet idle = refl
+rests (TakeMessage q next) quiet idle = absurd (none-some _ (sym idle))
+rests (TakeHome k next) quiet idle = absurd (none-some _ (sym idle))
+rests (PutHome k n after) quiet idle = absurd (none-some _ (sym idle))
+rests (PutBytes k asked bytes next) quiet idle = absurd (none-some _ (sym idle))
+rests (AskReady k next) quiet idle = absurd (none-some _ (sym idle))
+rests (Write w after) quiet idle = absurd (none-some _ (sym idle))
 
 pub place_inside : {A : Type 0} (l : List A) (i : ℕ) (a : A) → get_elem? l i ≡ some a → i < length l
 place_inside [] i a e = absurd (some-ne-none a (sym e))

@@ -65,7 +65,7 @@ module _ (p : Plan) (c : Core) (vs : List View) (sound : Sound p c vs) (rests : 
 
   no_rights : (k : ℕ) → (tokens vs).rights k ≡ []
   no_rights k = gather_nil (rights_on k) vs (λ j v e. let seat = view_there vs c.seats j v (sym sound.each) e (get_elem? c.seats j) refl in
-      ap (filter (λ (x : Right). x.link == k)) (sound.seats j seat.0 v seat.1 e).quiet.rights)
+      ap (filter (λ (x : Right). x.link == k)) (has_nothing j v e).quiet.rights)
 
   no_hands : (k : ℕ) → total (hands_of k) vs ≡ 0
   no_hands k = dite (dec_le (total (hands_of k) vs) 0) (λ none_. omega arith)

@@ -1,36 +1,38 @@
 -- What a step finds is as the rule has it.
-use Rattle.std.proofs.Common.{◌≡◌, ◌≢◌, ℕ, ◌-◌, ◌%◌, ◌<◌, ◌≤◌, [], get_or, sym, ap, arith}
+use Rattle.std.proofs.Common.{◌≡◌, ◌≢◌, ℕ, ◌+◌, ◌-◌, ◌%◌, ◌<◌, ◌≤◌, [], get_or, sym, ap, arith}
 use mathlib.Core.Option.{some}
 use lib.ListN.{get_elem?}
 use Rattle.atomic_table.specs.Table.{State, keeps}
-use Rattle.sock_words.specs.Words.{socket_id_slot, vref_version, vref_nref}
+use Rattle.sock_words.specs.Words.{socket_id_slot, socket_id_version, vref_version, vref_nref}
 use Rattle.sock_words.specs.declared.plain.Plan.{Plan}
 use Rattle.sock_model.specs.declared.home.Home.{Home}
 use Rattle.sock_model.specs.declared.marks.Mark.{Mark}
 use Rattle.sock_model.specs.declared.marks.Mark.TheVariants.{Claimed}
 use Rattle.sock_model.specs.declared.view.View.{View}
 use Rattle.sock_model.specs.declared.view.Hand.{Hand}
-use Rattle.sock_model.specs.Weights.{total, only, is_ref, is_claimed, is_busy, is_recycling, is_recycled, is_stage}
+use Rattle.sock_model.specs.Weights.{total, only, is_ref, is_hold, is_saw, is_claimed, is_busy, is_recycling, is_recycled, is_stage}
 use Rattle.sock_model.specs.Marks.{about}
-use Rattle.sock_model.specs.Layout.{ref_word, link_word, name_word, open_word}
+use Rattle.sock_model.specs.Layout.{ref_word, link_word, name_word, open_word, request_word}
+use Rattle.sock_model.specs.Requests.{Phase, free_phase, claimed_phase, used_phase, retired_phase}
 use Rattle.sock_model.specs.SlotRows.{marks_of}
 use Rattle.sock_model.specs.Slots.{count}
 use Rattle.sock_model.specs.References.{slot_facts}
-use Rattle.sock_model.specs.Reads.{waits_of}
+use Rattle.sock_model.specs.Reads.{waits_of, memory, tokens}
 use Rattle.sock_model.specs.Lawful.{Lawful}
 use Rattle.slot_laws.proofs.Sums.{term_le, total_mono, tally_mono}
 use Rattle.slot_laws.proofs.Numbers.{pair_le}
 use Rattle.slot_laws.proofs.Slots.{recycled_le}
 use Rattle.slot_laws.proofs.Kept.{life_found}
 use Rattle.sock_steps.proofs.Places.{own_count, given_unwaited}
-use Rattle.sock_programs.specs.Calls.{Call, ClaimSlot, GiveBirth, AddRef, SubRef, SetOdd, Recycle, FreeSlot, StoreLink, LoadLink, ResetHead, WipeCode, StoreCode, StoreName, LoadName, StoreOpen, LoadOpen, TakeLink, FinishLink, PutLink}
+use Rattle.sock_programs.specs.Calls.{Call, ClaimSlot, GiveBirth, AddRef, SubRef, SetOdd, Recycle, FreeSlot, StoreLink, LoadLink, ResetHead, WipeCode, StoreCode, StoreName, LoadName, StoreOpen, LoadOpen, TakeLink, FinishLink, PutLink, LookWord, FindLink, LoadCode, ClaimRequest, PutMessage, Unconnect, SwapHead, Connect, EmptyHead, ReadNext, TurnNext, FreeRequest, StorePlace, DropPlace}
 use Rattle.sock_programs.specs.Programs.{NO_SOCKET}
 use Rattle.sock_programs.specs.Cores.{word_of, found_at}
 use Rattle.sock_runs.specs.Rows.{hand_at}
-use Rattle.sock_runs.specs.May.{May, Finds, FindsId, IsOfHeld}
+use Rattle.sock_runs.specs.May.{May, Finds, FindsId, IsOfHeld, FindsFailed}
 use Rattle.sock_runs.proofs.Bounds.{law, fits, has_room, next_version}
 use Rattle.sock_runs.proofs.Ids.{id_some, id_socket}
 use Rattle.sock_runs.proofs.HandTicks.{found_hand}
+use Rattle.sock_runs.proofs.ChainTicks.{held_link_in, held_link_is}
 
 stage_claimed : (n k : ℕ) (x : Mark) → is_stage n k x ≤ is_claimed x
 stage_claimed n k (Claimed a b) = pair_le n k a b
@@ -50,6 +52,12 @@ module _ (p : Plan) (s : State Home View) (o : Lawful (λ home. home) p s) (i : 
   -- the life that the seat holds is that of the word
   of_held : (j : ℕ) → j < p.slots → IsOfHeld v j (get_or s.words (ref_word j) 0)
   of_held j inside h there = sym (life_found p s o.references i v at [] keeps j inside (fits p s o.references j inside) h there)
+
+  -- and where the seat saw it failed, the word says so
+  failed_found : (j : ℕ) → j < p.slots → FindsFailed v j (get_or s.words (ref_word j) 0)
+  failed_found j inside h there saw = let l = law p s o.references j inside in
+      let here = l.held h (omega (arith, there, own_count s i v at (is_hold h) j)) in
+      let seen = l.saw (h + 1) (omega (arith, saw, own_count s i v at (is_saw (h + 1)) j)) in omega (arith, here, seen)
 
   -- the link of a slot that is being recycled is one of the table
   link_in : (j w : ℕ) → j < p.slots → 0 < marks_of (is_recycled w) j v → get_or s.words (link_word j) 0 < p.links
@@ -78,7 +86,18 @@ module _ (p : Plan) (s : State Home View) (o : Lawful (λ home. home) p s) (i : 
     λ e. let e' : get_or s.words (name_word p n) 0 ≡ 18446744073709551615 = e in let a = (o.references.named.names n inside (λ z. omega (arith, e', z))).0 in omega (arith, a, e', few),
   )
 
-  pub finds : p.slots ≤ 256 → (call : Call) → May p v call → Finds p v call (found_at s.words (word_of p call)) (hand_at p s.homes call)
+  -- a request's word is twice its generation, and one more where it is taken
+  request_small : (q : ℕ) → q < p.requests → get_or s.words (request_word p q) 0 < 281474976710656
+  request_small q inside = let u = o.chains.in_use q inside in by_phase u.generation u.times u.small u.phase
+    where
+      by_phase : (g n : ℕ) → g < 140737488355328 → Phase (memory p o.slot s.words) (tokens s.views) o.log o.freed q g n → get_or s.words (request_word p q) 0 < 281474976710656
+      by_phase g n small (free_phase x) = omega (arith, small, x.word)
+      by_phase g n small (claimed_phase x) = omega (arith, small, x.word)
+      by_phase g n small (used_phase x) = let l = o.chains.live x.link x.place x.entry x.late x.here in let a = l.0 in
+          let is : get_or s.words (request_word p x.entry.request) 0 ≡ get_or s.words (request_word p q) 0 = ap (λ z. get_or s.words (request_word p z) 0) x.request_is in omega (arith, small, a, is, x.generation_is)
+      by_phase g n small (retired_phase x) = omega (arith, small, x.word)
+
+  pub finds : p.slots ≤ 256 → (call : Call) → May p v call → Finds p v call (found_at s.words (word_of p call)) (hand_at p s.words s.homes call)
   finds few (ClaimSlot j) may = tt
   finds few (GiveBirth j k) may = let b = births j k may in (has_room p s o.references j may.0, b.0, b.1)
   finds few (AddRef id) may = has_room p s o.references (socket_id_slot id) may.0.0
@@ -98,3 +117,20 @@ module _ (p : Plan) (s : State Home View) (o : Lawful (λ home. home) p s) (i : 
   finds few (TakeLink k) may = ap (λ (h : Hand). h.link) (found_hand p s o i v at k may)
   finds few (FinishLink k) may = tt
   finds few (PutLink k) may = tt
+  finds few (LookWord id) may = (of_held (socket_id_slot id) may.0, failed_found (socket_id_slot id) may.0)
+  finds few (FindLink j h) may = (held_link_in p s o i v at j h may, held_link_is p s o i v at j h may)
+  finds few (LoadCode j h) may = tt
+  finds few (ClaimRequest id q) may = (
+    (held_link_in p s o i v at (socket_id_slot id) (socket_id_version id) may.1, held_link_is p s o i v at (socket_id_slot id) (socket_id_version id) may.1),
+    request_small q may.0,
+  )
+  finds few (PutMessage q heading bytes) may = tt
+  finds few (Unconnect q) may = tt
+  finds few (SwapHead j own) may = tt
+  finds few (Connect q before) may = tt
+  finds few (EmptyHead j last) may = tt
+  finds few (ReadNext q) may = tt
+  finds few (TurnNext q value) may = tt
+  finds few (FreeRequest q g) may = tt
+  finds few (StorePlace l k n) may = tt
+  finds few (DropPlace l k n) may = tt

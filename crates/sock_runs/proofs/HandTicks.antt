@@ -25,7 +25,7 @@ use Rattle.sock_runs.specs.Sound.{AreInHand}
 
 -- the rule holds behind a move of seat i, which has this view and these links in hand
 abbrev pub KeepsHome : Plan → State Home View → ℕ → View → List Home → Call → Type 0
-KeepsHome p s i v hand call = Lawful (λ home. home) p record { words = s.words; homes = homes_after p call hand s.homes; views = set s.views i (row p call 0 (hand_at p s.homes call) v) }
+KeepsHome p s i v hand call = Lawful (λ home. home) p record { words = s.words; homes = homes_after p call hand s.homes; views = set s.views i (row p call 0 (hand_at p s.words s.homes call) v) }
 
 -- the one link in hand, as the home and as the view has it
 pub record TheOne (xs : List Home) (hs : List Hand) (k : ℕ) : Type 0 where
@@ -72,7 +72,7 @@ module _ (p : Plan) (s : State Home View) (o : Lawful (λ home. home) p s) (i : 
       may.2)
 
   -- it is what the step finds
-  pub found_hand : (k : ℕ) (may : May p v (TakeLink k)) → hand_at p s.homes (TakeLink k) ≡ record { link = k; took = (taking k may).0.took; next = (taking k may).0.next }
+  pub found_hand : (k : ℕ) (may : May p v (TakeLink k)) → hand_at p s.words s.homes (TakeLink k) ≡ record { link = k; took = (taking k may).0.took; next = (taking k may).0.next }
   found_hand k may = ap (λ x. as_hand k (took_of (as_link (shown (λ (home : Home). home) x)))) (taking k may).0.is
 
   pub takes : (hand : List Home) (k : ℕ) → May p v (TakeLink k) → KeepsHome p s i v hand (TakeLink k)

@@ -21,6 +21,7 @@ use Rattle.slot_laws.proofs.Slots.{stage_is, any_recycled, hold_is, probe_is, ze
 use Rattle.sock_steps.proofs.Quiet.{either_way, Less, More, less_add, less_all, less_without, more_add, more_all, more_without}
 use Rattle.sock_programs.specs.Calls.{Call, ClaimSlot, GiveBirth, AddRef, SubRef, SetOdd, Recycle, FreeSlot, StoreLink, LoadLink, ResetHead, WipeCode, StoreCode, StoreName, LoadName, StoreOpen, LoadOpen, TakeLink, FinishLink, PutLink}
 use Rattle.sock_runs.specs.Rows.{row, is_id, found_id}
+use Rattle.sock_runs.proofs.Leaves.{sending_marks}
 
 -- the slot in which a step makes a life
 abbrev pub bears : Call → Option ℕ
@@ -87,6 +88,7 @@ module _ (p : Plan) (v : View) (found : ℕ) (hand : Hand) where
     failers_stay (TakeLink k) = either_way (nat_lt 0 (total (only hand.link) v.passes)) (spent_hand v hand) (with_hand v hand) (λ (u : View). More (is_failer h) v.marks u.marks) same same
     failers_stay (FinishLink k) = same
     failers_stay (PutLink k) = same
+    failers_stay call = sending_marks p v found hand Stay same (λ i w. add i (Saw w) v.marks same) (λ i g k. add i (Met g k) v.marks same) (λ i g d w. add i (Told g d) (at i (Saw w) ∷ v.marks) (add i (Saw w) v.marks same)) call refl
 
   module _ (h : ℕ) where
     abbrev Fewer : List SlotMark → Type 0
@@ -132,6 +134,7 @@ module _ (p : Plan) (v : View) (found : ℕ) (hand : Hand) where
     births_only (TakeLink k) no_birth = either_way (nat_lt 0 (total (only hand.link) v.passes)) (spent_hand v hand) (with_hand v hand) (λ (u : View). Less (is_born h) v.marks u.marks) as_many as_many
     births_only (FinishLink k) no_birth = as_many
     births_only (PutLink k) no_birth = as_many
+    births_only call no_birth = sending_marks p v found hand Fewer as_many (λ i w. plus i (Saw w) v.marks refl as_many) (λ i g k. plus i (Met g k) v.marks refl as_many) (λ i g d w. plus i (Told g d) (at i (Saw w) ∷ v.marks) refl (plus i (Saw w) v.marks refl as_many)) call refl
 
     -- and a birth notes one life
     pub birth_notes : (i k : ℕ) (j : ℕ) → ((j ≡ i) × (h ≡ version_of found)) ⊎ (marks_of (is_born h) j (row p (GiveBirth i k) found hand v) ≤ marks_of (is_born h) j v)

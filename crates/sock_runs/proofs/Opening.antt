@@ -18,15 +18,16 @@ use Rattle.sock_steps.proofs.Quiet.{either_way}
 use Rattle.sock_programs.specs.declared.task.Op.{Op}
 use Rattle.sock_programs.specs.declared.task.Op.TheVariants as ops
 use Rattle.sock_programs.specs.declared.task.Task.{Task}
+use Rattle.sock_programs.specs.declared.task.Sizes.{Sizes}
 use Rattle.sock_programs.specs.Programs.{Program, open_from, make_socket, no_socket}
 use Rattle.sock_programs.specs.Clients.{HeldLife, held_under, without_name, give_back, drop_of, operation, client_from}
 use Rattle.sock_programs.specs.Cores.{SeatState, next_step}
-use Rattle.sock_programs.specs.Scripts.{beginning, programs}
+use Rattle.sock_programs.specs.Scripts.{sizes_of, beginning, programs}
 use Rattle.sock_programs.specs.Told.{HaveOwnLinks, Differ, AreTasks}
 use Rattle.sock_runs.proofs.Ends.{none_has}
-use Rattle.sock_runs.proofs.Records.{but, Records, next_records}
+use Rattle.sock_runs.proofs.Records.{but, Records}
 use Rattle.sock_runs.proofs.Recorded.{Recorded}
-use Rattle.sock_runs.proofs.Through.{records_passes, through_release, through_fail, through_hold, through_drop}
+use Rattle.sock_runs.proofs.Through.{records_passes, records_follow, next_follows, through_release, through_fail, through_hold, through_drop, through_send}
 
 -- ## The operations of a client
 
@@ -57,12 +58,13 @@ records_drop left o None next after = after
 records_drop left o (Some id) next after = through_drop (Records left) (records_passes left) o id next after
 
 -- one operation: an `open` stores in its own word, and the others in none
-records_operation : (left : ℕ → Bool) (slots : ℕ) (held : List HeldLife) (o : ℕ) (next : List HeldLife → Program) (op : Op) → (is_opening op ≡ true → left o ≡ true) → (is_opening op ≡ true → (h : List HeldLife) → Records (but o left) (next h))
-    → (is_opening op ≡ false → (h : List HeldLife) → Records left (next h)) → Records left (operation slots held o next op)
-records_operation left slots held o next (ops.Open name k) mine opened other = records_open left o name k (mine refl) (next held) (opened refl held) slots 0
-records_operation left slots held o next (ops.Hold name) mine opened other = through_hold (Records left) (records_passes left) o name (λ id. next (held ++ (record { name = name; id = id }) ∷ [])) (next held) (λ id. other refl (held ++ (record { name = name; id = id }) ∷ [])) (other refl held)
-records_operation left slots held o next (ops.Drop name) mine opened other = records_drop left o (held_under name held) _ (other refl (without_name name held))
-records_operation left slots held o next (ops.Fail name code) mine opened other = through_fail (Records left) (records_passes left) o name code (next held) (other refl held)
+records_operation : (left : ℕ → Bool) (sizes : Sizes) (held : List HeldLife) (o : ℕ) (next : List HeldLife → Program) (op : Op) → (is_opening op ≡ true → left o ≡ true) → (is_opening op ≡ true → (h : List HeldLife) → Records (but o left) (next h))
+    → (is_opening op ≡ false → (h : List HeldLife) → Records left (next h)) → Records left (operation sizes held o next op)
+records_operation left sizes held o next (ops.Open name k) mine opened other = records_open left o name k (mine refl) (next held) (opened refl held) sizes.slots 0
+records_operation left sizes held o next (ops.Send name bytes) mine opened other = through_send (Records left) (records_passes left) sizes.requests o name bytes (next held) (other refl held)
+records_operation left sizes held o next (ops.Hold name) mine opened other = through_hold (Records left) (records_passes left) o name (λ id. next (held ++ (record { name = name; id = id }) ∷ [])) (next held) (λ id. other refl (held ++ (record { name = name; id = id }) ∷ [])) (other refl held)
+records_operation left sizes held o next (ops.Drop name) mine opened other = records_drop left o (held_under name held) _ (other refl (without_name name held))
+records_operation left sizes held o next (ops.Fail name code) mine opened other = through_fail (Records left) (records_passes left) o name code (next held) (other refl held)
 
 pub or_cases : (a b : Bool) (P : Type 0) → (a ≡ true → P) → (b ≡ true → P) → (a || b) ≡ true → P
 or_cases true b P x y e = x refl
@@ -90,14 +92,14 @@ later n R less [] all o there = absurd (true≢false (sym there))
 later n R less (t ∷ ts) all o there = or_cases (is_opening t.op && (t.number == o)) (opens_in ts o) (n < o)
     (λ here. subst (λ z. n < z) (eqb-true t.number o (second_true (is_opening t.op) (t.number == o) here)) (less t all.0)) (λ more. later n R less ts all.1 o more) there
 
-pub records_client : (slots : ℕ) (ts : List Task) (held : List HeldLife) (left : ℕ → Bool) → ((o : ℕ) → opens_in ts o ≡ true → left o ≡ true)
-    → EachBefore (λ (a b : Task). (a.number < b.number) × HaveOwnLinks a.op b.op) ts → Records left (client_from slots held ts)
-records_client slots [] held left mine order = records_back left held
-records_client slots (t ∷ ts) held left mine order = records_operation left slots held t.number (λ h. client_from slots h ts) t.op
+pub records_client : (sizes : Sizes) (ts : List Task) (held : List HeldLife) (left : ℕ → Bool) → ((o : ℕ) → opens_in ts o ≡ true → left o ≡ true)
+    → EachBefore (λ (a b : Task). (a.number < b.number) × HaveOwnLinks a.op b.op) ts → Records left (client_from sizes held ts)
+records_client sizes [] held left mine order = records_back left held
+records_client sizes (t ∷ ts) held left mine order = records_operation left sizes held t.number (λ h. client_from sizes h ts) t.op
     (λ opening. mine t.number (or_first (is_opening t.op && (t.number == t.number)) (opens_in ts t.number) (both_true (is_opening t.op) (t.number == t.number) opening (eq-eqb t.number t.number refl))))
-    (λ opening h. records_client slots ts h (but t.number left) (λ o there. both_true (left o) (not (o == t.number)) (mine o (or_second (is_opening t.op && (t.number == o)) (opens_in ts o) there))
+    (λ opening h. records_client sizes ts h (but t.number left) (λ o there. both_true (left o) (not (o == t.number)) (mine o (or_second (is_opening t.op && (t.number == o)) (opens_in ts o) there))
     (ap not (ne_eqb o t.number (λ e. let less = later t.number (λ (b : Task). (t.number < b.number) × HaveOwnLinks t.op b.op) (λ b x. x.0) ts order.0 o there in omega arith)))) order.1)
-    (λ _ h. records_client slots ts h left (λ o there. mine o (or_second (is_opening t.op && (t.number == o)) (opens_in ts o) there)) order.1)
+    (λ _ h. records_client sizes ts h left (λ o there. mine o (or_second (is_opening t.op && (t.number == o)) (opens_in ts o) there)) order.1)
 
 -- ## All clients
 
@@ -146,15 +148,15 @@ module _ (p : Plan) (clients : List (List Task)) (are : AreTasks p clients) wher
   apart j k o a b = dite (ℕ_discrete j k) (λ e. e) (λ far. dite (dec_le j k) (λ le. absurd (never_both j k o (omega arith) a b)) (λ gt. absurd (never_both k j o (omega arith) b a)))
 
   -- no life is made before the first step
-  pub beginning_recorded : (Q : ℕ → Type 0) → ((j o : ℕ) → own_opens j o ≡ true → Q o) → (vs : List View) → ((j : ℕ) (v : View) → get_elem? vs j ≡ some v → v.marks ≡ []) → Recorded p Q (beginning p (programs p.slots clients)) vs
+  pub beginning_recorded : (Q : ℕ → Type 0) → ((j o : ℕ) → own_opens j o ≡ true → Q o) → (vs : List View) → ((j : ℕ) (v : View) → get_elem? vs j ≡ some v → v.marks ≡ []) → Recorded p Q (beginning p (programs (sizes_of p) clients)) vs
   beginning_recorded Q among vs blank = record {
     left = own_opens;
     among = among;
     apart = apart;
-    records = λ j seat at. let a = mapped (λ (program : Program). record { program = next_step program; hand = [] }) (programs p.slots clients) j seat at in
-        let b = mapped (client_from p.slots []) clients j a.0 a.1 in
-        subst (λ (s : SeatState). Records (own_opens j) s.program) a.2 (next_records (own_opens j) a.0 (subst (Records (own_opens j)) b.2
-        (records_client p.slots b.0 [] (own_opens j) (λ o there. ap (λ q. elim q as (λ q. Bool) [ none ↦ false | some ts ↦ opens_in ts o ]) b.1 ∙ there)
+    records = λ j seat at. let a = mapped (λ (program : Program). record { program = next_step program; hand = [] }) (programs (sizes_of p) clients) j seat at in
+        let b = mapped (client_from (sizes_of p) []) clients j a.0 a.1 in
+        subst (λ (s : SeatState). Records (own_opens j) s.program) a.2 (next_follows (Records (own_opens j)) (records_follow (own_opens j)) a.0 (subst (Records (own_opens j)) b.2
+        (records_client (sizes_of p) b.0 [] (own_opens j) (λ o there. ap (λ q. elim q as (λ q. Bool) [ none ↦ false | some ts ↦ opens_in ts o ]) b.1 ∙ there)
         (all_at (EachBefore (λ (a b : Task). (a.number < b.number) × HaveOwnLinks a.op b.op)) clients j b.0 are.in_order b.1))));
     lives = λ i h inside born. let none_ = none_has (is_born h) i vs (λ j v at. ap (λ l. total (is_born h) (about i l)) (blank j v at)) in absurd (omega (arith, born, none_));
   }

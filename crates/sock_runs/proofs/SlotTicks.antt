@@ -1,7 +1,7 @@
 -- Steps on the words of slots keep the rule.
-use Rattle.std.proofs.Common.{◌≡◌, ℕ, ◌+◌, ◌-◌, ◌*◌, ◌%◌, ◌^◌, ◌<◌, eqb, eqb-true, eq-eqb, ne_eqb, cond, Bool, [], get_or, set, sym, ap, ◌∙◌, subst, arith}
+use Rattle.std.proofs.Common.{◌≡◌, ℕ, ◌+◌, ◌-◌, ◌*◌, ◌%◌, ◌^◌, ◌<◌, eqb, eqb-true, eq-eqb, ne_eqb, cond, Bool, [], get_or, set, sym, subst, arith}
 use mathlib.Core.Logic.{dite}
-use mathlib.Core.Option.{some, some-ne-none}
+use mathlib.Core.Option.{some}
 use native.Mathlib.Decide.{ℕ_discrete}
 use lib.ListN.{get_elem?}
 use Rattle.atomic_table.specs.Table.{State, stepped, keeps}
@@ -26,7 +26,7 @@ use Rattle.sock_runs.proofs.Bounds.{fits, has_room, law}
 -- the rule holds behind a step of seat i, which has this view, on one word
 abbrev pub KeepsWord : Plan → State Home View → ℕ → View → Call → Type 0
 KeepsWord p s i v call = let found = found_at s.words (word_of p call) in
-    Lawful (λ home. home) p record { words = words_after s.words (word_of p call) (word_after call found); homes = s.homes; views = set s.views i (row p call found (hand_at p s.homes call) v) }
+    Lawful (λ home. home) p record { words = words_after s.words (word_of p call) (word_after call found); homes = s.homes; views = set s.views i (row p call found (hand_at p s.words s.homes call) v) }
 
 module _ (p : Plan) (s : State Home View) (o : Lawful (λ home. home) p s) (i : ℕ) (v : View) (at : get_elem? s.views i ≡ some v) where
   pub claims : (j : ℕ) → May p v (ClaimSlot j) → KeepsWord p s i v (ClaimSlot j)
@@ -50,11 +50,11 @@ module _ (p : Plan) (s : State Home View) (o : Lawful (λ home. home) p s) (i : 
   pub some_counted : (j : ℕ) → j < p.slots → 0 < marks_of is_ref j v → 0 < vref_nref (get_or s.words (ref_word j) 0)
   some_counted j inside there = omega (arith, (law p s o.references j inside).counted, own_count s i v at is_ref j)
 
-  pub subs : v.rights ≡ [] → (j : ℕ) → May p v (SubRef j) → KeepsWord p s i v (SubRef j)
-  subs none_ j may = let found : ℕ = get_or s.words (ref_word j) 0 in
+  pub subs : (j : ℕ) → May p v (SubRef j) → KeepsWord p s i v (SubRef j)
+  subs j may = let found : ℕ = get_or s.words (ref_word j) 0 in
       let is : (get_or s.words (ref_word j) 0 + (2 ^ 64 - 1)) % 2 ^ 64 ≡ get_or s.words (ref_word j) 0 - 1 = omega (arith, some_counted j may.0 may.1, fits p s o.references j may.0) in
       subst (λ n. Lawful (λ home. home) p (stepped s (ref_word j) n i [] (subbed j found (back j found v) v) keeps)) is
-      (sub_law (λ home. home) p s o i v at j may.0 (fits p s o.references j may.0) may.1 may.2 (λ x r h e. absurd (some-ne-none r (sym (ap (λ l. get_elem? l x) (sym none_) ∙ e)))))
+      (sub_law (λ home. home) p s o i v at j may.0 (fits p s o.references j may.0) may.1 may.2 may.3)
 
   pub fails : (j : ℕ) → May p v (SetOdd j) → KeepsWord p s i v (SetOdd j)
   fails j may = set_odd_law (λ home. home) p s o i v at j may.0 (fits p s o.references j may.0) may.1.0 may.1.1 may.2

@@ -1,0 +1,164 @@
+-- What the steps of whoever sends or writes leave as it is: all that a view has beside the chains, but for notes.
+use Rattle.std.proofs.Common.{◌≡◌, ℕ, ◌+◌, ◌%◌, ◌==◌, Bool, true, false, nat_lt, List, [], ◌∷◌, refl, sym, take, ◌++◌}
+use Rattle.std.proofs.lemmas.Bool.{true≢false}
+use Rattle.sock_words.specs.Words.{socket_id_version, socket_id_slot, vref_version}
+use Rattle.sock_words.specs.declared.plain.Plan.{Plan}
+use Rattle.sock_model.specs.declared.chain.Claim.{Claim}
+use Rattle.sock_model.specs.declared.chain.Right.{Right}
+use Rattle.sock_model.specs.declared.chain.Stage.{Stage}
+use Rattle.sock_model.specs.declared.chain.Stage.TheVariants.{Writes, Placed, Passes, Walks, Turns}
+use Rattle.sock_model.specs.declared.marks.Mark.TheVariants.{Saw, Told, Met}
+use Rattle.sock_model.specs.declared.marks.SlotMark.{SlotMark}
+use Rattle.sock_model.specs.declared.view.View.{View}
+use Rattle.sock_model.specs.declared.view.Hand.{Hand}
+use Rattle.sock_model.specs.Marks.{at}
+use Rattle.sock_model.specs.Memory.{IDLE, UNCONNECTED}
+use Rattle.sock_model.specs.Slots.{version_of}
+use Rattle.sock_model.specs.SlotRows.{looked, told_code, met_link}
+use Rattle.sock_model.specs.ChainRows.{with_claim, queued, righted, with_right, without_right, turned_right, placed_right, dropped_right}
+use Rattle.sock_steps.proofs.Quiet.{either_way}
+use Rattle.sock_programs.specs.Calls.{Call, LookWord, FindLink, LoadCode, ClaimRequest, PutMessage, Unconnect, SwapHead, Connect, EmptyHead, ReadNext, TurnNext, FreeRequest, StorePlace, DropPlace}
+use Rattle.sock_runs.specs.Rows.{row, by_claim, by_right, new_claim, filled_claim, ready_claim, exchanged, looked_clean, emptied, settled, read_next, turned_next, freed_next, placed_next, dropped_next}
+
+-- whether a step is one of whoever sends or writes
+abbrev pub is_sending : Call → Bool
+is_sending (LookWord id) = true
+is_sending (FindLink i h) = true
+is_sending (LoadCode i h) = true
+is_sending (ClaimRequest id q) = true
+is_sending (PutMessage q heading bytes) = true
+is_sending (Unconnect q) = true
+is_sending (SwapHead i own) = true
+is_sending (Connect q before) = true
+is_sending (EmptyHead i last) = true
+is_sending (ReadNext q) = true
+is_sending (TurnNext q value) = true
+is_sending (FreeRequest q g) = true
+is_sending (StorePlace l k n) = true
+is_sending (DropPlace l k n) = true
+is_sending other = false
+
+pub claim_way : (P : View → Type 0) (cs : List Claim) (then_ : Claim → View) (v : View) → P v → ((c : Claim) → P (then_ c)) → P (by_claim cs then_ v)
+claim_way P [] then_ v a b = a
+claim_way P (c ∷ cs) then_ v a b = b c
+
+pub right_way : (P : View → Type 0) (rs : List Right) (then_ : Right → View) (v : View) → P v → ((r : Right) → P (then_ r)) → P (by_right rs then_ v)
+right_way P [] then_ v a b = a
+right_way P (r ∷ rs) then_ v a b = b r
+
+-- what holds of all views that differ from this one on the chains alone holds behind a step of the chains
+module _ (P : View → Type 0) (v : View) (same : P v) where
+  module _ (claims : (c : Claim) → P (with_claim v c)) (rights : (r : Right) → P (with_right v r)) (gone : (k : ℕ) → P (without_right v k)) where
+    pub reads_way : (found : ℕ) (r : Right) (stage : Stage) → P (read_next found v r stage)
+    reads_way found r (Placed now) = rights (settled (record r { stage = Passes now found }))
+    reads_way found r (Walks top at_ after) = either_way (found == UNCONNECTED) v (with_right v (record r { stage = Turns top at_ after found })) P same (rights (record r { stage = Turns top at_ after found }))
+    reads_way found r _ = same
+
+    pub turns_way : (r : Right) (stage : Stage) → P (turned_next v r stage)
+    turns_way r (Turns top at_ after before) = rights (turned_right r top at_ before)
+    turns_way r _ = same
+
+    pub places_way : (r : Right) (stage : Stage) → P (placed_next v r stage)
+    places_way r (Writes now) = rights (settled (placed_right r now))
+    places_way r _ = same
+
+    pub drops_way : (r : Right) (stage : Stage) → P (dropped_next v r stage)
+    drops_way r (Writes now) = rights (settled (dropped_right r now (r.sent ++ take r.put r.bytes)))
+    drops_way r _ = same
+
+    pub emptied_way : (last found : ℕ) (r : Right) → P (emptied last found v r)
+    emptied_way last found r = either_way (found == last) (without_right v r.link) (with_right v (record r { stage = Walks found found 0 })) P (gone r.link) (rights (record r { stage = Walks found found 0 }))
+
+  pub exchanges_way : ((c : Claim) (n : ℕ) → P (queued v c n)) → ((c : Claim) (n : ℕ) (sent : List ℕ) (m : ℕ) → P (righted v c n sent m)) → (found : ℕ) (hand : Hand) (c : Claim) → P (exchanged found hand v c)
+  exchanges_way busy idle found hand c = either_way (nat_lt found IDLE) (queued v c found) (righted v c found hand.took hand.next) P (busy c found) (idle c found hand.took hand.next)
+
+-- what holds of the marks, and with these notes more, holds of the marks behind each such step
+module _ (p : Plan) (v : View) (found : ℕ) (hand : Hand) (Q : List SlotMark → Type 0) (same : Q v.marks) (saw : (i w : ℕ) → Q (at i (Saw w) ∷ v.marks)) (met : (i h k : ℕ) → Q (at i (Met h k) ∷ v.marks))
+    (told : (i h c w : ℕ) → Q (at i (Told h c) ∷ at i (Saw w) ∷ v.marks)) where
+  abbrev P : View → Type 0
+  P w = Q w.marks
+
+  pub sending_marks : (call : Call) → is_sending call ≡ true → Q (row p call found hand v).marks
+  sending_marks (LookWord id) is = right_way P v.rights (looked_clean (socket_id_slot id) found v) (looked (socket_id_slot id) found v) (saw (socket_id_slot id) (version_of found))
+      (λ r. either_way (vref_version found % 2 == 0) (with_right (looked (socket_id_slot id) found v) (record r { clean = true })) (looked (socket_id_slot id) found v) P (saw (socket_id_slot id) (version_of found)) (saw (socket_id_slot id) (version_of found)))
+  sending_marks (FindLink i h) is = met i h found
+  sending_marks (LoadCode i h) is = either_way (found == 0) v (told_code i h found v) P same (told i h found (h + 1))
+  sending_marks (ClaimRequest id q) is = let i : ℕ = socket_id_slot id in let h : ℕ = socket_id_version id in
+      either_way (found % 2 == 0) (with_claim (met_link i h hand.link v) (new_claim hand.link q found)) v P (met i h hand.link) same
+  sending_marks (PutMessage q heading bytes) is = claim_way P v.claims (λ c. with_claim v (filled_claim c heading bytes)) v same (λ c. same)
+  sending_marks (Unconnect q) is = claim_way P v.claims (λ c. with_claim v (ready_claim c)) v same (λ c. same)
+  sending_marks (SwapHead i own) is = claim_way P v.claims (exchanged found hand v) v same (exchanges_way P v same (λ c n. same) (λ c n sent m. same) found hand)
+  sending_marks (Connect q before) is = same
+  sending_marks (EmptyHead i last) is = right_way P v.rights (emptied last found v) v same (emptied_way P v same (λ c. same) (λ r. same) (λ k. same) last found)
+  sending_marks (ReadNext q) is = right_way P v.rights (λ r. read_next found v r r.stage) v same (λ r. reads_way P v same (λ c. same) (λ r. same) (λ k. same) found r r.stage)
+  sending_marks (TurnNext q value) is = right_way P v.rights (λ r. turned_next v r r.stage) v same (λ r. turns_way P v same (λ c. same) (λ r. same) (λ k. same) r r.stage)
+  sending_marks (FreeRequest q g) is = right_way P v.rights (freed_next v) v same (λ r. same)
+  sending_marks (StorePlace l k n) is = right_way P v.rights (λ r. placed_next v r r.stage) v same (λ r. places_way P v same (λ c. same) (λ r. same) (λ k. same) r r.stage)
+  sending_marks (DropPlace l k n) is = right_way P v.rights (λ r. dropped_next v r r.stage) v same (λ r. drops_way P v same (λ c. same) (λ r. same) (λ k. same) r r.stage)
+  sending_marks _ is = absurd (true≢false (sym is))
+
+-- all of a view that isn't on the chains, and no mark
+pub record SameSeat (v w : View) : Type 0 where
+  pub plan : w.plan ≡ v.plan
+  pub passes : w.passes ≡ v.passes
+  pub spare : w.spare ≡ v.spare
+  pub stores : w.stores ≡ v.stores
+  pub hands : w.hands ≡ v.hands
+  pub found : w.found ≡ v.found
+
+-- such steps leave it
+module _ (p : Plan) (v : View) (found : ℕ) (hand : Hand) where
+  abbrev Same : View → Type 0
+  Same w = SameSeat v w
+
+  pub sending_same : (call : Call) → is_sending call ≡ true → SameSeat v (row p call found hand v)
+  sending_same (LookWord id) is = right_way Same v.rights (looked_clean (socket_id_slot id) found v) (looked (socket_id_slot id) found v) (record { plan = refl; passes = refl; spare = refl; stores = refl; hands = refl; found = refl })
+      (λ r. either_way (vref_version found % 2 == 0) (with_right (looked (socket_id_slot id) found v) (record r { clean = true })) (looked (socket_id_slot id) found v) Same (record { plan = refl; passes = refl; spare = refl; stores = refl; hands = refl; found = refl }) (record { plan = refl; passes = refl; spare = refl; stores = refl; hands = refl; found = refl }))
+  sending_same (FindLink i h) is = record { plan = refl; passes = refl; spare = refl; stores = refl; hands = refl; found = refl }
+  sending_same (LoadCode i h) is = either_way (found == 0) v (told_code i h found v) Same (record { plan = refl; passes = refl; spare = refl; stores = refl; hands = refl; found = refl }) (record { plan = refl; passes = refl; spare = refl; stores = refl; hands = refl; found = refl })
+  sending_same (ClaimRequest id q) is = let i : ℕ = socket_id_slot id in let h : ℕ = socket_id_version id in
+      either_way (found % 2 == 0) (with_claim (met_link i h hand.link v) (new_claim hand.link q found)) v Same (record { plan = refl; passes = refl; spare = refl; stores = refl; hands = refl; found = refl }) (record { plan = refl; passes = refl; spare = refl; stores = refl; hands = refl; found = refl })
+  sending_same (PutMessage q heading bytes) is = claim_way Same v.claims (λ c. with_claim v (filled_claim c heading bytes)) v (record { plan = refl; passes = refl; spare = refl; stores = refl; hands = refl; found = refl }) (λ c. (record { plan = refl; passes = refl; spare = refl; stores = refl; hands = refl; found = refl }))
+  sending_same (Unconnect q) is = claim_way Same v.claims (λ c. with_claim v (ready_claim c)) v (record { plan = refl; passes = refl; spare = refl; stores = refl; hands = refl; found = refl }) (λ c. (record { plan = refl; passes = refl; spare = refl; stores = refl; hands = refl; found = refl }))
+  sending_same (SwapHead i own) is = claim_way Same v.claims (exchanged found hand v) v (record { plan = refl; passes = refl; spare = refl; stores = refl; hands = refl; found = refl }) (exchanges_way Same v (record { plan = refl; passes = refl; spare = refl; stores = refl; hands = refl; found = refl }) (λ c n. (record { plan = refl; passes = refl; spare = refl; stores = refl; hands = refl; found = refl })) (λ c n sent m. (record { plan = refl; passes = refl; spare = refl; stores = refl; hands = refl; found = refl })) found hand)
+  sending_same (Connect q before) is = record { plan = refl; passes = refl; spare = refl; stores = refl; hands = refl; found = refl }
+  sending_same (EmptyHead i last) is = right_way Same v.rights (emptied last found v) v (record { plan = refl; passes = refl; spare = refl; stores = refl; hands = refl; found = refl }) (emptied_way Same v (record { plan = refl; passes = refl; spare = refl; stores = refl; hands = refl; found = refl }) (λ c. (record { plan = refl; passes = refl; spare = refl; stores = refl; hands = refl; found = refl })) (λ r. (record { plan = refl; passes = refl; spare = refl; stores = refl; hands = refl; found = refl })) (λ k. (record { plan = refl; passes = refl; spare = refl; stores = refl; hands = refl; found = refl })) last found)
+  sending_same (ReadNext q) is = right_way Same v.rights (λ r. read_next found v r r.stage) v (record { plan = refl; passes = refl; spare = refl; stores = refl; hands = refl; found = refl }) (λ r. reads_way Same v (record { plan = refl; passes = refl; spare = refl; stores = refl; hands = refl; found = refl }) (λ c. (record { plan = refl; passes = refl; spare = refl; stores = refl; hands = refl; found = refl })) (λ r. (record { plan = refl; passes = refl; spare = refl; stores = refl; hands = refl; found = refl })) (λ k. (record { plan = refl; passes = refl; spare = refl; stores = refl; hands = refl; found = refl })) found r r.stage)
+  sending_same (TurnNext q value) is = right_way Same v.rights (λ r. turned_next v r r.stage) v (record { plan = refl; passes = refl; spare = refl; stores = refl; hands = refl; found = refl }) (λ r. turns_way Same v (record { plan = refl; passes = refl; spare = refl; stores = refl; hands = refl; found = refl }) (λ c. (record { plan = refl; passes = refl; spare = refl; stores = refl; hands = refl; found = refl })) (λ r. (record { plan = refl; passes = refl; spare = refl; stores = refl; hands = refl; found = refl })) (λ k. (record { plan = refl; passes = refl; spare = refl; stores = refl; hands = refl; found = refl })) r r.stage)
+  sending_same (FreeRequest q g) is = right_way Same v.rights (freed_next v) v (record { plan = refl; passes = refl; spare = refl; stores = refl; hands = refl; found = refl }) (λ r. (record { plan = refl; passes = refl; spare = refl; stores = refl; hands = refl; found = refl }))
+  sending_same (StorePlace l k n) is = right_way Same v.rights (λ r. placed_next v r r.stage) v (record { plan = refl; passes = refl; spare = refl; stores = refl; hands = refl; found = refl }) (λ r. places_way Same v (record { plan = refl; passes = refl; spare = refl; stores = refl; hands = refl; found = refl }) (λ c. (record { plan = refl; passes = refl; spare = refl; stores = refl; hands = refl; found = refl })) (λ r. (record { plan = refl; passes = refl; spare = refl; stores = refl; hands = refl; found = refl })) (λ k. (record { plan = refl; passes = refl; spare = refl; stores = refl; hands = refl; found = refl })) r r.stage)
+  sending_same (DropPlace l k n) is = right_way Same v.rights (λ r. dropped_next v r r.stage) v (record { plan = refl; passes = refl; spare = refl; stores = refl; hands = refl; found = refl }) (λ r. drops_way Same v (record { plan = refl; passes = refl; spare = refl; stores = refl; hands = refl; found = refl }) (λ c. (record { plan = refl; passes = refl; spare = refl; stores = refl; hands = refl; found = refl })) (λ r. (record { plan = refl; passes = refl; spare = refl; stores = refl; hands = refl; found = refl })) (λ k. (record { plan = refl; passes = refl; spare = refl; stores = refl; hands = refl; found = refl })) r r.stage)
+  sending_same _ is = absurd (true≢false (sym is))
+
+-- so they take or give no link that belongs to no right
+pub sending_hands : (p : Plan) (v : View) (found : ℕ) (hand : Hand) (call : Call) → is_sending call ≡ true → (row p call found hand v).hands ≡ v.hands
+sending_hands p v found hand call is = (sending_same p v found hand call is).hands
+
+-- whether it is the exchange of a head
+abbrev pub is_exchange : Call → Bool
+is_exchange (SwapHead i own) = true
+is_exchange other = false
+
+-- all but the exchange leave the lists of accepted messages
+module _ (p : Plan) (v : View) (found : ℕ) (hand : Hand) where
+  abbrev SameLists : View → Type 0
+  SameLists w = w.lists ≡ v.lists
+
+  pub own_lists : (call : Call) → is_sending call ≡ true → is_exchange call ≡ false → (row p call found hand v).lists ≡ v.lists
+  own_lists (LookWord id) is other_ = right_way SameLists v.rights (looked_clean (socket_id_slot id) found v) (looked (socket_id_slot id) found v) refl
+      (λ r. either_way (vref_version found % 2 == 0) (with_right (looked (socket_id_slot id) found v) (record r { clean = true })) (looked (socket_id_slot id) found v) SameLists refl refl)
+  own_lists (FindLink i h) is other_ = refl
+  own_lists (LoadCode i h) is other_ = either_way (found == 0) v (told_code i h found v) SameLists refl refl
+  own_lists (ClaimRequest id q) is other_ = let i : ℕ = socket_id_slot id in let h : ℕ = socket_id_version id in
+      either_way (found % 2 == 0) (with_claim (met_link i h hand.link v) (new_claim hand.link q found)) v SameLists refl refl
+  own_lists (PutMessage q heading bytes) is other_ = claim_way SameLists v.claims (λ c. with_claim v (filled_claim c heading bytes)) v refl (λ c. refl)
+  own_lists (Unconnect q) is other_ = claim_way SameLists v.claims (λ c. with_claim v (ready_claim c)) v refl (λ c. refl)
+  own_lists (Connect q before) is other_ = refl
+  own_lists (EmptyHead i last) is other_ = right_way SameLists v.rights (emptied last found v) v refl (emptied_way SameLists v refl (λ c. refl) (λ r. refl) (λ k. refl) last found)
+  own_lists (ReadNext q) is other_ = right_way SameLists v.rights (λ r. read_next found v r r.stage) v refl (λ r. reads_way SameLists v refl (λ c. refl) (λ r. refl) (λ k. refl) found r r.stage)
+  own_lists (TurnNext q value) is other_ = right_way SameLists v.rights (λ r. turned_next v r r.stage) v refl (λ r. turns_way SameLists v refl (λ c. refl) (λ r. refl) (λ k. refl) r r.stage)
+  own_lists (FreeRequest q g) is other_ = right_way SameLists v.rights (freed_next v) v refl (λ r. refl)
+  own_lists (StorePlace l k n) is other_ = right_way SameLists v.rights (λ r. placed_next v r r.stage) v refl (λ r. places_way SameLists v refl (λ c. refl) (λ r. refl) (λ k. refl) r r.stage)
+  own_lists (DropPlace l k n) is other_ = right_way SameLists v.rights (λ r. dropped_next v r r.stage) v refl (λ r. drops_way SameLists v refl (λ c. refl) (λ r. refl) (λ k. refl) r r.stage)
+  own_lists (SwapHead i own) is other_ = absurd (true≢false other_)
+  own_lists _ is other_ = absurd (true≢false (sym is))

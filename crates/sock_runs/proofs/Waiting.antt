@@ -1,0 +1,133 @@
+-- A tick of a seat that waits changes nothing; and where all links are prompt and each seat is at rest or waits, none waits.
+use Rattle.std.proofs.Common.{◌≡◌, ◌≢◌, ℕ, zero, suc, ◌-◌, ◌<◌, ◌≤◌, ◌⊎◌, Bool, true, false, List, [], ◌∷◌, length, set, refl, sym, ap, ap₂, ◌∙◌, subst, inl, inr, ⊎_elim, arith, cond, eqb, eqb-true}
+use Rattle.std.proofs.lemmas.Bool.{true≢false}
+use Rattle.std.specs.Prelude.{slice_index}
+use Rattle.std.specs.List.{filter}
+use mathlib.Core.Option.{Option, some, none}
+use mathlib.Core.List.{cons-ne-nil}
+use lib.ListN.{get_elem?}
+use lib.Seq.{set-get_or}
+use Rattle.atomic_table.proofs.Lists.{set_again}
+use Rattle.sock_words.specs.declared.plain.Plan.{Plan}
+use Rattle.sock_io.specs.declared.link.Ready.TheVariants.{NotYet}
+use Rattle.sock_model.specs.declared.chain.Entry.{Entry}
+use Rattle.sock_model.specs.declared.chain.Loose.{Loose}
+use Rattle.sock_model.specs.declared.chain.Right.{Right}
+use Rattle.sock_model.specs.declared.chain.Stage.TheVariants as stages
+use Rattle.sock_model.specs.declared.view.View.{View}
+use Rattle.sock_model.specs.Layout.{next_word}
+use Rattle.sock_model.specs.Entries.{slot_of, on, nth}
+use Rattle.sock_model.specs.Memory.{Memory, UNCONNECTED}
+use Rattle.sock_model.specs.Tokens.{Tokens}
+use Rattle.sock_model.specs.Writing.{Held, InStage, OnWalk, Waits}
+use Rattle.sock_model.specs.Chains.{Chains}
+use Rattle.sock_model.specs.Reads.{tokens, loose_at}
+use Rattle.chain_laws.proofs.Lists.{nth_some, at_some}
+use Rattle.chain_laws.proofs.Frames.{in_size}
+use Rattle.chain_laws.proofs.Heads.{held_of, slot_is}
+use Rattle.sock_steps.proofs.Maps.{gather_nil}
+use Rattle.sock_steps.proofs.RightSteps.{right_in, right_alone}
+use Rattle.sock_programs.specs.Writings.{Writing}
+use Rattle.sock_programs.specs.Writings as heads
+use Rattle.sock_programs.specs.Programs.{Program, Do, TakeMessage, Write}
+use Rattle.sock_programs.specs.Calls.{TurnNext}
+use Rattle.sock_programs.specs.Cores.{Core, SeatState, with_seat}
+use Rattle.sock_programs.specs.Ticks.{Answer, OfReady, Moment, tick_with, ticked, IsAnswered, IsPrompt, waits_at, waits}
+use Rattle.sock_programs.specs.Runs.{IsAtRest, IsSettled}
+use Rattle.sock_runs.specs.GoesOn.{GoesOn}
+use Rattle.sock_runs.specs.Sound.{Sound, IsAhead}
+use Rattle.sock_runs.proofs.Allowed.{view_there}
+use Rattle.sock_runs.proofs.Along.{seat_rests, place_inside}
+
+-- ## Its tick changes nothing
+
+module _ (p : Plan) (i : ℕ) (seat : SeatState) (c : Core) where
+  -- the seat has this program, and the core is else as it was
+  abbrev with_program : Program → Core
+  with_program program = record c { seats = set c.seats i (record { program = program; hand = seat.hand }) }
+
+  walk_stays : (h : heads.Holder) (top place after : ℕ) (then_ : Program) (answer : Answer) → waits_at p c answer (Write (heads.Walks h top place after) then_) ≡ true
+      → tick_with p i seat c answer (Write (heads.Walks h top place after) then_) ≡ with_program (Write (heads.Walks h top place after) then_)
+  walk_stays h top place after then_ answer is = let found : ℕ = slice_index c.words (next_word p (slot_of place)) in
+      ap₂ (λ (b : Bool) (ws : List ℕ). with_seat i (cond b (Write (heads.Walks h top place after) then_) (Do (TurnNext (slot_of place) after) (λ _. cond (eqb found h.last)
+      (TakeMessage (slot_of place) (λ heading bytes. Write (heads.Puts (record h { last = top }) place heading bytes 0 false) then_)) (Write (heads.Walks h top found place) then_)))) seat.hand ws c.homes c)
+      is (set-get_or c.words (next_word p (slot_of place)) 0)
+
+  stays : (program : Program) (answer : Answer) → waits_at p c answer program ≡ true → tick_with p i seat c answer program ≡ with_program program
+  stays (Write (heads.Walks h top place after) then_) answer is = walk_stays h top place after then_ answer is
+  stays (Write (heads.Waits h now heading left taken) after) (OfReady NotYet) is = refl
+  stays (Write (heads.Waits h now heading left taken) after) _ is = absurd (true≢false (sym is))
+  stays _ answer is = absurd (true≢false (sym is))
+
+module _ (p : Plan) (c : Core) (m : Moment) where
+  still_by : (q : Option SeatState) → get_elem? c.seats m.seat ≡ q → elim q as (λ o. Bool) [ none ↦ false | some seat ↦ waits_at p c m.answer seat.program ] ≡ true
+      → elim q as (λ o. Core) [ none ↦ c | some seat ↦ tick_with p m.seat seat c m.answer seat.program ] ≡ c
+  still_by none at is = absurd (true≢false (sym is))
+  still_by (some seat) at is = stays p m.seat seat c seat.program m.answer is ∙ ap (λ seats. record c { seats = seats }) (set_again c.seats m.seat seat at)
+
+pub waits_still : (p : Plan) (c : Core) (vs : List View) (m : Moment) → Sound p c vs → IsAhead c → IsAnswered c m → waits p c m ≡ true → ticked p c m ≡ c
+waits_still p c vs m sound ahead answered is = still_by p c m (get_elem? c.seats m.seat) refl is
+
+-- ## An entry for which a walk waits is loose
+
+is_loose : (e : Entry) (x : ℕ) (l : List Loose) → Waits e x l → e.before < UNCONNECTED → x ≡ UNCONNECTED → l ≢ []
+is_loose e x l (inl connected) small unconnected none_ = absurd (omega (arith, small, sym connected.0 ∙ unconnected))
+is_loose e x l (inr loose) small unconnected none_ = cons-ne-nil _ _ (sym loose.1 ∙ none_)
+
+module _ {links requests : ℕ} {m : Memory} {t : Tokens} {log : List Entry} {freed places : ℕ → ℕ} (s : Chains links requests m t log freed places) (k : ℕ) (r : Right) (kl : k < links) (has : t.rights k ≡ r ∷ []) (narrow : requests ≤ 65535) where
+  -- a ticket isn't the mark of a next word that isn't connected
+  before_small : (n : ℕ) → n ≤ length (on k log) → nth (on k log) n < UNCONNECTED
+  before_small zero inside = omega arith
+  before_small (suc n) inside = let e = nth_some (on k log) n (omega (arith, inside)) in let size = in_size s k n e.0 e.1 in omega (arith, e.2, size.1, size.2, narrow)
+
+  pub walk_waits : (top place after : ℕ) → r.stage ≡ stages.Walks top place after → m.next (slot_of place) ≡ UNCONNECTED → t.loose (slot_of place) ≢ []
+  walk_waits top place after stage unconnected none_ =
+      let h : Held m t (on k log) (freed k) (places k) r = (held_of s k r kl has).1 in let n = h.counts in let f = h.fits in
+      let walk : OnWalk (on k log) n (freed k) (places k) top place after = subst (InStage m t (on k log) n (freed k) (places k)) stage h.stage_is in
+      let some_left = walk.some_left in let all_freed = walk.all_freed in
+      let j : ℕ = n.left - 1 in let is : suc (n.left - 1) ≡ n.left = omega (arith, some_left) in
+      let a = nth_some (on k log) (n.left - 1) (omega (arith, some_left, f.2, f.3)) in let e : Entry = a.0 in let size = in_size s k (n.left - 1) a.0 a.1 in
+      let slot : slot_of place ≡ a.0.request = ap slot_of (sym walk.at_is ∙ (ap (λ y. nth (on k log) y) (sym is) ∙ a.2)) ∙ slot_is a.0 (omega (arith, size.1, narrow)) in
+      is_loose a.0 (m.next a.0.request) (t.loose a.0.request) ((h.points (n.left - 1) a.0 (omega (arith, all_freed.0, some_left)) a.1).unturned (omega (arith, some_left)) (omega (arith, some_left)))
+      (omega (arith, before_small (n.left - 1) (omega (arith, f.2, f.3)), s.chained k (n.left - 1) a.0 a.1)) (ap m.next (sym slot) ∙ unconnected) (ap t.loose (sym slot) ∙ none_)
+
+-- ## Where each seat is at rest or waits
+
+-- a seat waits, whose link is prompt
+abbrev WaitsPromptly : Plan → Core → ℕ → Type 0
+WaitsPromptly p c i = (m : Moment) × (m.seat ≡ i) × IsPrompt m × (waits p c m ≡ true)
+
+module _ (p : Plan) (c : Core) (vs : List View) (sound : Sound p c vs) (ahead : IsAhead c) (each : (i : ℕ) → i < length c.seats → IsAtRest c i ⊎ WaitsPromptly p c i) where
+  of_seat : (m : Moment) (j : ℕ) (seat : SeatState) → m.seat ≡ j → get_elem? c.seats j ≡ some seat → waits p c m ≡ true → waits_at p c m.answer seat.program ≡ true
+  of_seat m j seat same at is = sym (ap (λ (o : Option SeatState). elim o as (λ o. Bool) [ none ↦ false | some seat ↦ waits_at p c m.answer seat.program ]) (ap (get_elem? c.seats) same ∙ at)) ∙ is
+
+  -- who waits has none of its entries loose
+  held_loose : (v : View) (program : Program) (answer : Answer) → GoesOn p v program → waits_at p c answer program ≡ true → v.loose ≡ []
+  held_loose v (Write w after) answer goes is = goes.0.1.loose
+  held_loose v _ answer goes is = absurd (true≢false (sym is))
+
+  no_loose : (j : ℕ) (v : View) → get_elem? vs j ≡ some v → v.loose ≡ []
+  no_loose j v at = let seat = view_there vs c.seats j v (sym sound.each) at (get_elem? c.seats j) refl in let goes = (sound.seats j seat.0 v seat.1 at).goes_on in
+      ⊎_elim (λ rest. (subst (GoesOn p v) (seat_rests c ahead j rest seat.0 seat.1) goes).quiet.loose)
+      (λ w. held_loose v seat.0.program w.0.answer goes (of_seat w.0 j seat.0 w.1 seat.1 w.3))
+      (each j (place_inside c.seats j seat.0 seat.1))
+
+  all_connected : (q : ℕ) → (tokens vs).loose q ≡ []
+  all_connected q = gather_nil (loose_at q) vs (λ j v at. ap (filter (λ (x : Loose). eqb x.request q)) (no_loose j v at))
+
+  none_waits : (j : ℕ) (v : View) → get_elem? vs j ≡ some v → (program : Program) (answer : Answer) → GoesOn p v program → answer ≢ OfReady NotYet → waits_at p c answer program ≡ true → ⊥
+  none_waits j v at (Write (heads.Walks h top place after) then_) answer goes prompt is = let r : Right = goes.0.0 in let has = ap (λ (rs : List Right). get_elem? rs 0) goes.0.1.one in let o = sound.lawful in
+      walk_waits o.chains r.link r (right_in o j 0 v r at has) (right_alone o j 0 v r at has) o.fits.narrow top place after goes.0.2.stage_is (eqb-true _ UNCONNECTED is) (all_connected (slot_of place))
+  none_waits j v at (Write (heads.Waits h now heading left taken) after) (OfReady NotYet) goes prompt is = prompt refl
+  none_waits j v at (Write (heads.Waits h now heading left taken) after) _ goes prompt is = true≢false (sym is)
+  none_waits j v at _ answer goes prompt is = true≢false (sym is)
+
+  settles : IsSettled c
+  settles i inside = ⊎_elim (λ rest. rest)
+      (λ w. let seat = at_some c.seats i inside in let v = view_there c.seats vs i seat.0 sound.each seat.1 (get_elem? vs i) refl in
+      absurd (none_waits i v.0 v.1 seat.0.program w.0.answer (sound.seats i seat.0 v.0 seat.1 v.1).goes_on w.2 (of_seat w.0 i seat.0 w.1 seat.1 w.3)))
+      (each i inside)
+
+-- where each seat is at rest or waits, and no link answers that it takes no more yet, none waits
+pub still_settles : (p : Plan) (c : Core) (vs : List View) → Sound p c vs → IsAhead c → ((i : ℕ) → i < length c.seats → IsAtRest c i ⊎ ((m : Moment) × (m.seat ≡ i) × IsPrompt m × (waits p c m ≡ true))) → IsSettled c
+still_settles p c vs sound ahead each = settles p c vs sound ahead each
