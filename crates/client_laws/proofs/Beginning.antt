@@ -1,13 +1,14 @@
 -- The words and homes as a run begins: slots are free, names unset, and links at home.
-use Rattle.std.proofs.Common.{◌≡◌, ℕ, zero, suc, ◌+◌, ◌-◌, ◌*◌, ◌<◌, ◌≤◌, false, List, [], ◌∷◌, ◌++◌, length, get_or, slice_index, replicate, refl, ap, ◌∙◌, arith, length-append, get_or-append-add}
+use Rattle.std.proofs.Common.{◌≡◌, ℕ, zero, suc, ◌+◌, ◌-◌, ◌*◌, ◌<◌, ◌≤◌, false, List, [], ◌∷◌, ◌++◌, length, get_or, slice_index, replicate, refl, sym, ap, ◌∙◌, arith, length-append, get_or-append-add}
 use Rattle.std.proofs.lemmas.List.{length-replicate, get_or-replicate, get_or_append_left, get_or-append_right, get_or_past}
 use mathlib.Core.Logic.{dite}
-use mathlib.Core.Option.{Option, some, none}
+use mathlib.Core.Option.{Option, some, none, some-injective, some-ne-none}
 use native.Mathlib.Decide.{dec_le}
 use lib.ListN.{get_elem?}
 use Rattle.sock_words.specs.declared.plain.Plan.{Plan}
+use Rattle.sock_model.specs.declared.chain.Heading.{Heading}
 use Rattle.sock_model.specs.declared.home.Home.{Home}
-use Rattle.sock_model.specs.declared.home.Home.TheVariants.{Link}
+use Rattle.sock_model.specs.declared.home.Home.TheVariants.{Link, Message}
 use Rattle.sock_model.specs.Layout.{all_words}
 use Rattle.sock_model.specs.Reads.{as_link, shown, link_at}
 use Rattle.sock_model.specs.Seats.{Unused}
@@ -69,3 +70,17 @@ module _ (p : Plan) where
 
   pub length_homes : length (opening_homes p) ≡ p.requests + p.links
   length_homes = length-append (replicate p.requests none) (new_links 0 p.links) ∙ omega (arith, length_links 0 p.links, length-replicate {A = Option Home} p.requests none)
+
+-- no home has a message
+links_only : (j n i : ℕ) (heading : Heading) (bytes : List ℕ) → get_elem? (new_links j n) i ≡ some (some (Message heading bytes)) → ⊥
+links_only j zero i heading bytes e = some-ne-none (some (Message heading bytes)) (sym e)
+links_only j (suc n) zero heading bytes e = let q : Link j [] 0 false ≡ Message heading bytes = some-injective (Link j [] 0 false) (Message heading bytes) (some-injective (some (Link j [] 0 false)) (some (Message heading bytes)) e) in cc
+links_only j (suc n) (suc i) heading bytes e = links_only (j + 1) n i heading bytes e
+
+homes_only : (r j n i : ℕ) (heading : Heading) (bytes : List ℕ) → get_elem? (replicate r none ++ new_links j n) i ≡ some (some (Message heading bytes)) → ⊥
+homes_only zero j n i heading bytes e = links_only j n i heading bytes e
+homes_only (suc r) j n zero heading bytes e = some-ne-none (Message heading bytes) (sym (some-injective none (some (Message heading bytes)) e))
+homes_only (suc r) j n (suc i) heading bytes e = homes_only r j n i heading bytes e
+
+pub no_message : (p : Plan) (i : ℕ) (heading : Heading) (bytes : List ℕ) → get_elem? (opening_homes p) i ≡ some (some (Message heading bytes)) → ⊥
+no_message p i heading bytes e = homes_only p.requests 0 p.links i heading bytes e

@@ -2,8 +2,11 @@
 use Rattle.std.proofs.Common.{◌≡◌, ◌≢◌, ℕ, ◌+◌, ◌<◌, ◌≤◌, List, [], ◌∷◌, length, map, refl, sym, ap, ◌∙◌, subst, arith}
 use mathlib.Core.List.{cons-ne-nil}
 use mathlib.Core.Logic.{dite}
+use mathlib.Core.Option.{some-ne-none}
+use lib.ListN.{get_elem?}
 use native.Mathlib.Decide.{ℕ_discrete}
 use Rattle.sock_words.specs.Words.{socket_id_version, socket_id_slot}
+use Rattle.sock_model.specs.declared.chain.Entry.{Entry}
 use Rattle.sock_model.specs.declared.marks.Mark.{Mark}
 use Rattle.sock_model.specs.declared.marks.Mark.TheVariants.{Recycling, Hold, Tried, Known, Born, Saw, Failer, Stored, Told, Freer, Linked, Met}
 use Rattle.sock_model.specs.declared.marks.SlotMark.{SlotMark}
@@ -14,7 +17,8 @@ use Rattle.sock_model.specs.Marks.{about, at}
 use Rattle.sock_model.specs.SlotRows.{marks_of}
 use Rattle.sock_programs.specs.Programs.{LAST_VERSION}
 use Rattle.sock_programs.specs.Clients.{HeldLife}
-use Rattle.sock_runs.specs.GoesOn.{HasNothing}
+use Rattle.sock_runs.specs.GoesOn.{IsQuiet, HasNothing}
+use Rattle.sock_runs.specs.May.{KeepsRights}
 use Rattle.slot_laws.proofs.Sums.{total_mono, about-here, about-other}
 use Rattle.slot_laws.proofs.Numbers.{only-else}
 use Rattle.slot_laws.proofs.Slots.{probe_ref}
@@ -103,38 +107,46 @@ pub holds_few : (j : ℕ) (hs : List HeldLife) → total is_ref (about j (holds 
 holds_few j [] = omega arith
 holds_few j (h ∷ hs) = omega (arith, about_le is_ref (socket_id_slot h.id) j (Hold (socket_id_version h.id)) (holds hs), holds_few j hs)
 
--- at slot s the seat has these tokens besides those of the lives that it holds, it has at least these passes, and these links in hand
-pub record Has (s : ℕ) (t : List Mark) (held : List HeldLife) (passes links : List ℕ) (v : View) : Type 0 where
+-- at slot s the seat has these tokens besides those of the lives that it holds, it has at least these passes, and these links in hand; these are its lists
+-- of accepted entries, and it has nothing else on the chains
+pub record Has (lists : List (List Entry)) (s : ℕ) (t : List Mark) (held : List HeldLife) (passes links : List ℕ) (v : View) : Type 0 where
   pub rest : List SlotMark
   pub idle : Idle rest
   pub here : (f : Mark → ℕ) → OfTokens f → marks_of f s v ≡ total f t + (total f (about s rest) + total f (about s (holds held)))
   pub other : (f : Mark → ℕ) → OfTokens f → (j : ℕ) → j ≢ s → marks_of f j v ≡ total f (about j rest) + total f (about j (holds held))
   pub passes_are : (k : ℕ) → total (only k) passes ≤ total (only k) v.passes
   pub hands_are : map (λ (h : Hand). h.link) v.hands ≡ links
+  pub lists_are : v.lists ≡ lists
+  pub quiet : IsQuiet v
 
 -- ## How it changes
 
-module _ {s : ℕ} {t : List Mark} {held : List HeldLife} {passes links : List ℕ} {v : View} (a : Has s t held passes links v) where
+module _ {lists : List (List Entry)} {s : ℕ} {t : List Mark} {held : List HeldLife} {passes links : List ℕ} {v : View} (a : Has lists s t held passes links v) where
+  pub still : (w : View) → w.claims ≡ v.claims → w.loose ≡ v.loose → w.rights ≡ v.rights → w.lists ≡ v.lists → IsQuiet w × (w.lists ≡ lists)
+  still w c l r e = (record { claims = c ∙ a.quiet.claims; loose = l ∙ a.quiet.loose; rights = r ∙ a.quiet.rights }, e ∙ a.lists_are)
+
   pub becomes : (w : View) (u : List Mark) (less hand : List ℕ) → ((j : ℕ) → j ≢ s → about j w.marks ≡ about j v.marks)
       → ((f : Mark → ℕ) → OfTokens f → total f (about s w.marks) + total f t ≡ total f (about s v.marks) + total f u)
-      → ((k : ℕ) → total (only k) less ≤ total (only k) w.passes) → map (λ (h : Hand). h.link) w.hands ≡ hand → Has s u held less hand w
-  becomes w u less hand others heres pass in_hand = record {
+      → ((k : ℕ) → total (only k) less ≤ total (only k) w.passes) → map (λ (h : Hand). h.link) w.hands ≡ hand → IsQuiet w × (w.lists ≡ lists) → Has lists s u held less hand w
+  becomes w u less hand others heres pass in_hand same = record {
     rest = a.rest;
     idle = a.idle;
     here = λ f o. omega (arith, heres f o, a.here f o);
     other = λ f o j n. ap (total f) (others j n) ∙ a.other f o j n;
     passes_are = pass;
     hands_are = in_hand;
+    lists_are = same.1;
+    quiet = same.0;
   }
 
   -- where only the marks change
   pub marked : (es : List SlotMark) (u : List Mark) → ((j : ℕ) → j ≢ s → about j es ≡ about j v.marks)
-      → ((f : Mark → ℕ) → OfTokens f → total f (about s es) + total f t ≡ total f (about s v.marks) + total f u) → Has s u held passes links (record v { marks = es })
-  marked es u others heres = becomes (record v { marks = es }) u passes links others heres a.passes_are a.hands_are
+      → ((f : Mark → ℕ) → OfTokens f → total f (about s es) + total f t ≡ total f (about s v.marks) + total f u) → Has lists s u held passes links (record v { marks = es })
+  marked es u others heres = becomes (record v { marks = es }) u passes links others heres a.passes_are a.hands_are (still (record v { marks = es }) refl refl refl refl)
 
   -- where marks stay
-  pub kept : (w : View) → w.marks ≡ v.marks → ((k : ℕ) → total (only k) passes ≤ total (only k) w.passes) → w.hands ≡ v.hands → Has s t held passes links w
-  kept w same pass hand = becomes w t passes links (λ j n. ap (about j) same) (λ f o. ap (λ (es : List SlotMark). total f (about s es) + total f t) same) pass (ap (map (λ (h : Hand). h.link)) hand ∙ a.hands_are)
+  pub kept : (w : View) → w.marks ≡ v.marks → ((k : ℕ) → total (only k) passes ≤ total (only k) w.passes) → w.hands ≡ v.hands → IsQuiet w × (w.lists ≡ lists) → Has lists s t held passes links w
+  kept w same pass hand stays = becomes w t passes links (λ j n. ap (about j) same) (λ f o. ap (λ (es : List SlotMark). total f (about s es) + total f t) same) pass (ap (map (λ (h : Hand). h.link)) hand ∙ a.hands_are) stays
 
   -- no reference to the word alone, and no code, beside the tokens at the slot
   pub probes : marks_of is_probe s v ≡ total is_probe t
@@ -146,26 +158,32 @@ module _ {s : ℕ} {t : List Mark} {held : List HeldLife} {passes links : List �
   pub refs_few : marks_of is_ref s v ≤ total is_ref t + length held
   refs_few = omega (arith, a.here is_ref of_ref, a.idle.refs s, holds_few s held)
 
+  -- a seat that writes no link has no right whose life it could lose
+  pub keeps_rights : (i : ℕ) → KeepsRights i v
+  keeps_rights i x r h e = absurd (some-ne-none r (sym (ap (λ l. get_elem? l x) (sym a.quiet.rights) ∙ e)))
+
 -- ## Between the slots
 
 -- where nothing is there besides, any slot may be looked at
-pub at_slot : {s : ℕ} {held : List HeldLife} {passes links : List ℕ} {v : View} → Has s [] held passes links v → (i : ℕ) → Has i [] held passes links v
-at_slot {s} {held} {passes} {links} {v} a i = record {
+pub at_slot : {lists : List (List Entry)} {s : ℕ} {held : List HeldLife} {passes links : List ℕ} {v : View} → Has lists s [] held passes links v → (i : ℕ) → Has lists i [] held passes links v
+at_slot {lists} {s} {held} {passes} {links} {v} a i = record {
   rest = a.rest;
   idle = a.idle;
   here = λ f o. omega (arith, all f o i);
   other = λ f o j n. all f o j;
   passes_are = a.passes_are;
   hands_are = a.hands_are;
+  lists_are = a.lists_are;
+  quiet = a.quiet;
 }
   where
     all : (f : Mark → ℕ) → OfTokens f → (j : ℕ) → marks_of f j v ≡ total f (about j a.rest) + total f (about j (holds held))
     all f o j = dite (ℕ_discrete j s) (λ e. subst (λ x. marks_of f x v ≡ total f (about x a.rest) + total f (about x (holds held))) (sym e) (omega (arith, a.here f o))) (λ n. a.other f o j n)
 
 -- a reference that stays is held from then on, and one that is held may go
-pub holding : {s : ℕ} {held : List HeldLife} {passes links : List ℕ} {v : View} (h : ℕ) (more : List HeldLife) → Has s (Hold h ∷ []) held passes links v
+pub holding : {lists : List (List Entry)} {s : ℕ} {held : List HeldLife} {passes links : List ℕ} {v : View} (h : ℕ) (more : List HeldLife) → Has lists s (Hold h ∷ []) held passes links v
     → ((f : Mark → ℕ) → total f (about s (holds more)) ≡ f (Hold h) + total f (about s (holds held))) → ((f : Mark → ℕ) (j : ℕ) → j ≢ s → total f (about j (holds more)) ≡ total f (about j (holds held)))
-    → Has s [] more passes links v
+    → Has lists s [] more passes links v
 holding h more a grows stays = record {
   rest = a.rest;
   idle = a.idle;
@@ -173,11 +191,13 @@ holding h more a grows stays = record {
   other = λ f o j n. omega (arith, a.other f o j n, stays f j n);
   passes_are = a.passes_are;
   hands_are = a.hands_are;
+  lists_are = a.lists_are;
+  quiet = a.quiet;
 }
 
-pub letting : {s : ℕ} {held : List HeldLife} {passes links : List ℕ} {v : View} (h : ℕ) (fewer : List HeldLife) → Has s [] held passes links v
+pub letting : {lists : List (List Entry)} {s : ℕ} {held : List HeldLife} {passes links : List ℕ} {v : View} (h : ℕ) (fewer : List HeldLife) → Has lists s [] held passes links v
     → ((f : Mark → ℕ) → total f (about s (holds held)) ≡ f (Hold h) + total f (about s (holds fewer))) → ((f : Mark → ℕ) (j : ℕ) → j ≢ s → total f (about j (holds held)) ≡ total f (about j (holds fewer)))
-    → Has s (Hold h ∷ []) fewer passes links v
+    → Has lists s (Hold h ∷ []) fewer passes links v
 letting h fewer a grows stays = record {
   rest = a.rest;
   idle = a.idle;
@@ -185,11 +205,13 @@ letting h fewer a grows stays = record {
   other = λ f o j n. omega (arith, a.other f o j n, stays f j n);
   passes_are = a.passes_are;
   hands_are = a.hands_are;
+  lists_are = a.lists_are;
+  quiet = a.quiet;
 }
 
 -- a slot whose versions are used up stays recycled
-pub retiring : {s : ℕ} {held : List HeldLife} {passes links : List ℕ} {v : View} (w : ℕ) → LAST_VERSION < w → Has s (Recycling w ∷ []) held passes links v → Has s [] held passes links v
-retiring {s} {held} {passes} {links} {v} w late a = record {
+pub retiring : {lists : List (List Entry)} {s : ℕ} {held : List HeldLife} {passes links : List ℕ} {v : View} (w : ℕ) → LAST_VERSION < w → Has lists s (Recycling w ∷ []) held passes links v → Has lists s [] held passes links v
+retiring {lists} {s} {held} {passes} {links} {v} w late a = record {
   rest = at s (Recycling w) ∷ a.rest;
   idle = record {
     refs = λ i. omega (arith, about_le is_ref s i (Recycling w) a.rest, a.idle.refs i);
@@ -203,6 +225,8 @@ retiring {s} {held} {passes} {links} {v} w late a = record {
   other = λ f o j n. omega (arith, a.other f o j n, about_cons f s j (Recycling w) a.rest n);
   passes_are = a.passes_are;
   hands_are = a.hands_are;
+  lists_are = a.lists_are;
+  quiet = a.quiet;
 }
 
 -- ## At rest
@@ -211,17 +235,18 @@ pub no_links : (hs : List Hand) → map (λ (h : Hand). h.link) hs ≡ [] → hs
 no_links [] e = refl
 no_links (h ∷ hs) e = absurd (cons-ne-nil _ _ e)
 
-pub has_nothing : {s : ℕ} {passes : List ℕ} {v : View} → Has s [] [] passes [] v → HasNothing v
-has_nothing {s} {passes} {v} a = record {
+pub has_nothing : {lists : List (List Entry)} {s : ℕ} {passes : List ℕ} {v : View} → Has lists s [] [] passes [] v → HasNothing v
+has_nothing {lists} {s} {passes} {v} a = record {
   refs = λ i. let b = at_slot a i in omega (arith, b.here is_ref of_ref, b.idle.refs i);
   zeros = λ i w. let b = at_slot a i in omega (arith, b.here (is_zero w) (of_zero w), b.idle.zeros i w);
   codes = λ i. let b = at_slot a i in omega (arith, b.here is_any_coding of_any_coding, b.idle.codes i);
   claims = λ i. let b = at_slot a i in omega (arith, b.here is_claimed of_claimed, b.idle.claims i);
   retired = λ i w some_. let b = at_slot a i in b.idle.retired i w (omega (arith, some_, b.here (is_recycled w) (of_recycled w)));
   hands = no_links v.hands a.hands_are;
+  quiet = a.quiet;
 }
 
-pub from_nothing : {v : View} (s : ℕ) → HasNothing v → Has s [] [] [] [] v
+pub from_nothing : {v : View} (s : ℕ) → HasNothing v → Has v.lists s [] [] [] [] v
 from_nothing {v} s n = record {
   rest = v.marks;
   idle = record { refs = n.refs; zeros = n.zeros; codes = n.codes; claims = n.claims; retired = n.retired };
@@ -229,4 +254,6 @@ from_nothing {v} s n = record {
   other = λ f o j ne. omega arith;
   passes_are = λ k. omega arith;
   hands_are = ap (map (λ (h : Hand). h.link)) n.hands;
+  lists_are = refl;
+  quiet = n.quiet;
 }

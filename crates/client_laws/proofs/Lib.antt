@@ -2,8 +2,12 @@ pub mod Has
 pub mod Steps
 pub mod Parts
 pub mod Held
+pub mod Sending
 pub mod Clients
 pub mod Beginning
 pub mod Passes
 pub mod Opens
+pub mod Lasting
 pub mod Whole
+pub mod Few
+pub mod Fresh

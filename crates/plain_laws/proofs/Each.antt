@@ -1,29 +1,41 @@
 -- Each step of a seat, and so each tick of a machine, is one event of the plain model, or none.
-use Rattle.std.proofs.Common.{◌≡◌, ℕ, ◌-◌, List, [], ◌∷◌, set, refl, eqb, eqb-true, nat_lt}
+use Rattle.std.proofs.Common.{◌≡◌, ℕ, ◌-◌, List, [], ◌∷◌, set, refl, ap, true, false, eqb, eqb-true, nat_lt}
 use mathlib.Core.Option.{Option, some, none}
 use lib.ListN.{get_elem?}
 use Rattle.atomic_table.specs.Table.{State}
 use Rattle.sock_words.specs.declared.plain.Plan.{Plan}
 use Rattle.sock_words.specs.Words.{socket_id_version, socket_id_slot, vref_version}
+use Rattle.sock_model.specs.declared.chain.Right.{Right}
 use Rattle.sock_model.specs.declared.home.Home.{Home}
 use Rattle.sock_model.specs.declared.view.View.{View}
 use Rattle.sock_model.specs.declared.view.Hand.{Hand}
 use Rattle.sock_model.specs.Weights.{total, only}
 use Rattle.sock_model.specs.Layout.{name_word, open_word}
 use Rattle.sock_model.specs.SlotRows.{met, wrote}
-use Rattle.sock_model.specs.ChainRows.{with_hand, without_hand, spent_hand}
+use Rattle.sock_model.specs.ChainRows.{with_hand, without_hand, spent_hand, taken_right}
+use Rattle.sock_model.specs.Messages.{Letter}
+use Rattle.sock_model.specs.Reads.{message, link_home}
 use Rattle.sock_model.specs.Lawful.{Lawful}
 use Rattle.sock_model.specs.Plain.{Event, Nothing, Becomes, Leads, plain}
 use Rattle.sock_programs.specs.Calls.{Call, ClaimSlot, GiveBirth, AddRef, SubRef, SetOdd, Recycle, FreeSlot, StoreLink, LoadLink, ResetHead, WipeCode, StoreCode, StoreName, LoadName, StoreOpen, LoadOpen, TakeLink, FinishLink, PutLink}
-use Rattle.sock_programs.specs.Programs.{Program, Do, Say, Rest}
-use Rattle.sock_programs.specs.Cores.{Core, SeatState, word_of, found_at, ticked}
-use Rattle.sock_runs.specs.Rows.{row, hand_at, is_id, found_id}
+use Rattle.sock_programs.specs.Programs.{Program, Do, TakeMessage, TakeHome, PutHome, PutBytes, Write}
+use Rattle.sock_programs.specs.Cores.{Core, SeatState, word_of, found_at}
+use Rattle.sock_programs.specs.Sends.{block}
+use Rattle.sock_programs.specs.Ticks.{Answer, Unasked, OfPut, OfReady, Moment, AreAnswered, ticked}
+use Rattle.sock_runs.specs.Rows.{row, hand_at, is_id, found_id, took_message, link_away, link_home_again, took_bytes}
 use Rattle.sock_runs.specs.May.{May}
 use Rattle.sock_runs.specs.GoesOn.{GoesOn}
-use Rattle.sock_runs.specs.Sound.{Sound, state, views_of, views_after}
+use Rattle.sock_runs.specs.Sound.{Sound, state, first_step, views_with_message, views_with_link, views_with_put, views_with, views_of, views_after, views_along}
 use Rattle.sock_steps.proofs.Quiet.{either_way}
-use Rattle.plain_laws.specs.Events.{event_of, next_event, event_at, events_of, views_through}
-use Rattle.plain_laws.proofs.Steps.{marks_event, claim_event, birth_event, add_event, sub_event, fail_event, recycle_event, free_event, stage_event, code_event, met_event, met_link_event}
+use Rattle.plain_laws.specs.Events.{event_of, next_event, event_at, events_of}
+use Rattle.sock_model.specs.declared.marks.Mark.TheVariants as mark
+use Rattle.sock_model.specs.Marks.{at}
+use Rattle.sock_runs.proofs.Leaves.{sending_marks}
+use Rattle.sock_runs.proofs.Rounds.{begins_round}
+use Rattle.sock_runs.proofs.Ticks.{sound_ticks}
+use Rattle.sock_runs.proofs.Cases.{with_rights, right_rights, put_rights}
+use Rattle.plain_laws.proofs.Grown.{Same, same_marks, silent_more}
+use Rattle.plain_laws.proofs.Steps.{nothing, marks_event, claim_event, birth_event, add_event, sub_event, fail_event, recycle_event, free_event, stage_event, code_event, met_event, met_link_event}
 
 -- an id that was found, or none
 id_found : {S : Type 0} (shows : S → Home) (p : Plan) (s : State S View) → Lawful shows p s → (id : ℕ) (v : View) → get_elem? s.views id ≡ some v → (word : ℕ)
@@ -55,30 +67,56 @@ each_step shows p s o id v here (TakeLink k) hand may = either_way (nat_lt 0 (to
     (marks_event shows p s o id v here (spent_hand v hand) refl) (marks_event shows p s o id v here (with_hand v hand) refl)
 each_step shows p s o id v here (FinishLink k) hand may = marks_event shows p s o id v here v refl
 each_step shows p s o id v here (PutLink k) hand may = marks_event shows p s o id v here (without_hand v k) refl
+each_step shows p s o id v here call hand may = let found : ℕ = found_at s.words (word_of p call) in nothing shows p s o id v here (row p call found hand v)
+    (sending_marks p v found hand (Same v.marks) (same_marks v.marks) (λ i w. silent_more v.marks v.marks (same_marks v.marks) i (mark.Saw w) refl) (λ i h k. silent_more v.marks v.marks (same_marks v.marks) i (mark.Met h k) refl)
+    (λ i h c w. silent_more v.marks (at i (mark.Saw w) ∷ v.marks) (silent_more v.marks v.marks (same_marks v.marks) i (mark.Saw w) refl) i (mark.Told h c) refl) call refl)
 
-module _ (p : Plan) (c : Core) (views : List View) (sound : Sound p c views) (i : ℕ) where
-  of_program : (program : Program) (v : View) → get_elem? views i ≡ some v → GoesOn p v program → Becomes (plain views) (next_event p i program c.words v) (plain (views_of p i program c views v))
-  of_program (Do call next) v here goes = each_step (λ (home : Home). home) p (state c views) sound.lawful i v here call (hand_at p c.homes call) goes.0
-  of_program (Say o outcome more) v here goes = (tt, refl)
-  of_program Rest v here goes = (tt, refl)
+module _ (p : Plan) (c : Core) (views : List View) (sound : Sound p c views) (m : Moment) where
+  -- a move or a put of whoever writes a link leaves all but its right
+  moved : (v w : View) → get_elem? views m.seat ≡ some v → (rights : List Right) × (w ≡ with_rights v rights) → Becomes (plain views) Nothing (plain (set views m.seat w))
+  moved v w here x = marks_event (λ (home : Home). home) p (state c views) sound.lawful m.seat v here w (ap (λ (u : View). u.marks) x.1)
 
-  of_view : (seat : SeatState) → get_elem? c.seats i ≡ some seat → (o : Option View) → get_elem? views i ≡ o
-      → Becomes (plain views) (elim o as (λ o. Event) [ none ↦ Nothing | some v ↦ next_event p i seat.program c.words v ]) (plain (elim o as (λ o. List View) [ none ↦ views | some v ↦ views_of p i seat.program c views v ]))
-  of_view seat at none here = (tt, refl)
-  of_view seat at (some v) here = of_program seat.program v here (sound.seats i seat v at here).goes_on
+  of_letter : (v : View) → get_elem? views m.seat ≡ some v → (x : Option Letter) → Becomes (plain views) Nothing (plain (views_with_message p m.seat c views v x))
+  of_letter v here none = (tt, refl)
+  of_letter v here (some letter) = moved v (took_message letter.0 letter.1 v) here (right_rights v v.rights (λ r. taken_right r letter.0 letter.1))
 
-  of_seat : (o : Option SeatState) → get_elem? c.seats i ≡ o → Becomes (plain views)
-      (elim o as (λ o. Event) [ none ↦ Nothing | some seat ↦ elim (get_elem? views i) as (λ o. Event) [ none ↦ Nothing | some v ↦ next_event p i seat.program c.words v ] ])
-      (plain (elim o as (λ o. List View) [ none ↦ views | some seat ↦ elim (get_elem? views i) as (λ o. List View) [ none ↦ views | some v ↦ views_of p i seat.program c views v ] ]))
-  of_seat none at = (tt, refl)
-  of_seat (some seat) at = of_view seat at (get_elem? views i) refl
+  of_home : (v : View) → get_elem? views m.seat ≡ some v → (x : Option (List ℕ × ℕ)) → Becomes (plain views) Nothing (plain (views_with_link p m.seat c views v x))
+  of_home v here none = (tt, refl)
+  of_home v here (some home) = moved v (link_away v) here (right_rights v v.rights (λ r. record r { at_home = false }))
+
+  of_put : (v : View) → get_elem? views m.seat ≡ some v → (answer : Answer) → Becomes (plain views) Nothing (plain (views_with_put p m.seat c views v answer))
+  of_put v here (OfPut answer) = moved v (took_bytes answer v) here (put_rights v answer)
+  of_put v here Unasked = (tt, refl)
+  of_put v here (OfReady answer) = (tt, refl)
+
+  of_first : (program : Program) (v : View) → get_elem? views m.seat ≡ some v → GoesOn p v program → Becomes (plain views) (next_event p m.seat program c.words v) (plain (views_with p m.seat c views v m.answer program))
+  of_first (Do call next) v here goes = each_step (λ (home : Home). home) p (state c views) sound.lawful m.seat v here call (hand_at p c.words c.homes call) goes.0
+  of_first (TakeMessage q next) v here goes = of_letter v here (message (λ (home : Home). home) c.homes q)
+  of_first (TakeHome k next) v here goes = of_home v here (link_home (λ (home : Home). home) p c.homes k)
+  of_first (PutHome k n after) v here goes = moved v (link_home_again v) here (right_rights v v.rights (λ r. record r { at_home = true }))
+  of_first (PutBytes k asked bytes next) v here goes = of_put v here m.answer
+  of_first _ v here goes = (tt, refl)
+
+  of_program : (program : Program) (v : View) → get_elem? views m.seat ≡ some v → GoesOn p v program → Becomes (plain views) (next_event p m.seat (first_step program) c.words v) (plain (views_of p m.seat c views v m.answer program))
+  of_program (Write w after) v here goes = of_first (block w after) v here (begins_round p v w after goes)
+  of_program program v here goes = of_first program v here goes
+
+  of_view : (seat : SeatState) → get_elem? c.seats m.seat ≡ some seat → (o : Option View) → get_elem? views m.seat ≡ o
+      → Becomes (plain views) (elim o as (λ o. Event) [ none ↦ Nothing | some v ↦ next_event p m.seat (first_step seat.program) c.words v ]) (plain (elim o as (λ o. List View) [ none ↦ views | some v ↦ views_of p m.seat c views v m.answer seat.program ]))
+  of_view seat at_seat none here = (tt, refl)
+  of_view seat at_seat (some v) here = of_program seat.program v here (sound.seats m.seat seat v at_seat here).goes_on
+
+  of_seat : (o : Option SeatState) → get_elem? c.seats m.seat ≡ o → Becomes (plain views)
+      (elim o as (λ o. Event) [ none ↦ Nothing | some seat ↦ elim (get_elem? views m.seat) as (λ o. Event) [ none ↦ Nothing | some v ↦ next_event p m.seat (first_step seat.program) c.words v ] ])
+      (plain (elim o as (λ o. List View) [ none ↦ views | some seat ↦ elim (get_elem? views m.seat) as (λ o. List View) [ none ↦ views | some v ↦ views_of p m.seat c views v m.answer seat.program ] ]))
+  of_seat none at_seat = (tt, refl)
+  of_seat (some seat) at_seat = of_view seat at_seat (get_elem? views m.seat) refl
 
   -- each tick is one event, or none
-  pub each_tick : Becomes (plain views) (event_at p c views i) (plain (views_after p c views i))
-  each_tick = of_seat (get_elem? c.seats i) refl
+  pub each_tick : Becomes (plain views) (event_at p c views m) (plain (views_after p c views m))
+  each_tick = of_seat (get_elem? c.seats m.seat) refl
 
--- and each run of ticks is their events one after another, where ticks keep what is sound
-pub each_run : (p : Plan) → ((c : Core) (views : List View) (i : ℕ) → Sound p c views → Sound p (ticked p c i) (views_after p c views i))
-    → (seats : List ℕ) (c : Core) (views : List View) → Sound p c views → Leads (plain views) (events_of p c views seats) (plain (views_through p c views seats))
-each_run p keeps [] c views sound = refl
-each_run p keeps (i ∷ seats) c views sound = (plain (views_after p c views i), each_tick p c views sound i, each_run p keeps seats (ticked p c i) (views_after p c views i) (keeps c views i sound))
+-- and each run of ticks is their events one after another
+pub each_run : (p : Plan) (moments : List Moment) (c : Core) (views : List View) → Sound p c views → AreAnswered p c moments → Leads (plain views) (events_of p c views moments) (plain (views_along p c views moments))
+each_run p [] c views sound answered = refl
+each_run p (m ∷ moments) c views sound answered = (plain (views_after p c views m), each_tick p c views sound m, each_run p moments (ticked p c m) (views_after p c views m) (sound_ticks p c views m sound answered.0) answered.1)

@@ -10,9 +10,10 @@ use Rattle.sock_model.specs.SlotRows.{marks_of}
 use Rattle.sock_model.specs.Plain.{Life, life_at, Event, Nothing, Birth, Hold, Drop, Fail, End}
 use Rattle.sock_programs.specs.Calls.{Call, GiveBirth, AddRef, SubRef, SetOdd, Recycle}
 use Rattle.sock_programs.specs.Programs.{Program, Do}
-use Rattle.sock_programs.specs.Cores.{Core, word_of, found_at, ticked}
+use Rattle.sock_programs.specs.Cores.{Core, word_of, found_at}
+use Rattle.sock_programs.specs.Ticks.{Moment, ticked}
 use Rattle.sock_runs.specs.May.{even_version}
-use Rattle.sock_runs.specs.Sound.{views_after}
+use Rattle.sock_runs.specs.Sound.{first_step, views_after}
 
 -- the life that an id names
 abbrev pub life_of : ℕ → Life
@@ -27,23 +28,19 @@ event_of seat (SetOdd i) found v = if vref_version found % 2 == 0 then Fail (lif
 event_of seat (Recycle i from) found v = if found == from then End (life_at i (vref_version from - 1)) else Nothing
 event_of seat other found v = Nothing
 
--- the event of what a seat does next
+-- the event of what a seat does next: only steps on words are events
 abbrev pub next_event : Plan → ℕ → Program → List ℕ → View → Event
 next_event p seat (Do call next) ws v = event_of seat call (found_at ws (word_of p call)) v
 next_event p seat other ws v = Nothing
 
--- the event of a tick of seat i; where there is no such seat nothing happens
-abbrev pub event_at : Plan → Core → List View → ℕ → Event
-event_at p c views i = elim (get_elem? c.seats i) as (λ o. Event) [
+-- the event of a tick; where there is no such seat nothing happens
+abbrev pub event_at : Plan → Core → List View → Moment → Event
+event_at p c views m = elim (get_elem? c.seats m.seat) as (λ o. Event) [
   | none ↦ Nothing
-  | some seat ↦ elim (get_elem? views i) as (λ o. Event) [ none ↦ Nothing | some v ↦ next_event p i seat.program c.words v ]
+  | some seat ↦ elim (get_elem? views m.seat) as (λ o. Event) [ none ↦ Nothing | some v ↦ next_event p m.seat (first_step seat.program) c.words v ]
 ]
 
--- the views after ticks of these seats, one after another, and the events of these ticks
-abbrev pub views_through : Plan → Core → List View → List ℕ → List View
-views_through p c views [] = views
-views_through p c views (i ∷ seats) = views_through p (ticked p c i) (views_after p c views i) seats
-
-abbrev pub events_of : Plan → Core → List View → List ℕ → List Event
+-- the events of ticks, one after another
+abbrev pub events_of : Plan → Core → List View → List Moment → List Event
 events_of p c views [] = []
-events_of p c views (i ∷ seats) = event_at p c views i ∷ events_of p (ticked p c i) (views_after p c views i) seats
+events_of p c views (m ∷ moments) = event_at p c views m ∷ events_of p (ticked p c m) (views_after p c views m) moments

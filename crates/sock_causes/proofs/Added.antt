@@ -7,7 +7,7 @@ use Rattle.sock_model.specs.declared.marks.Mark.TheVariants.{Claimed, Recycling,
 use Rattle.sock_model.specs.declared.marks.SlotMark.{SlotMark}
 use Rattle.sock_model.specs.declared.view.View.{View}
 use Rattle.sock_model.specs.declared.view.Hand.{Hand}
-use Rattle.sock_model.specs.Weights.{total, is_probe, is_hold, is_stage, is_recycling, is_zero, is_coding, is_born, is_failer, is_tried, only}
+use Rattle.sock_model.specs.Weights.{total, is_probe, is_hold, is_stage, is_recycling, is_zero, is_coding, is_born, is_failer, is_linked, is_tried, only}
 use Rattle.sock_model.specs.Marks.{about, at, without_at}
 use Rattle.sock_model.specs.Slots.{version_of, nref_of}
 use Rattle.sock_model.specs.SlotRows.{marks_of, back, subbed, recycled}
@@ -15,10 +15,11 @@ use Rattle.slot_laws.proofs.Slots.{zero_is, hold_is, probe_is, stage_is}
 use Rattle.sock_steps.proofs.Quiet.{less_without, more_without}
 use Rattle.sock_programs.specs.Calls.{Call, ClaimSlot, GiveBirth, AddRef, SubRef, SetOdd, Recycle, FreeSlot, StoreLink, LoadLink, ResetHead, WipeCode, StoreCode, StoreName, LoadName, StoreOpen, LoadOpen, TakeLink, FinishLink, PutLink}
 use Rattle.sock_runs.specs.Rows.{row, is_id, found_id, taken}
+use Rattle.sock_runs.proofs.Leaves.{sending_marks}
 use Rattle.sock_causes.specs.Stories.{adds}
 use Rattle.sock_causes.proofs.Tests.{split}
 
--- a weight of no mark but Tried, Born and Failer
+-- a weight of no mark but Tried, Born, Linked and Failer
 pub record IsNote (f : Mark → ℕ) : Type 0 where
   pub claimed : (a k : ℕ) → f (Claimed a k) ≡ 0
   pub recycling : (w : ℕ) → f (Recycling w) ≡ 0
@@ -31,17 +32,19 @@ pub record IsNote (f : Mark → ℕ) : Type 0 where
   pub stored : (h c : ℕ) → f (Stored h c) ≡ 0
   pub told : (h c : ℕ) → f (Told h c) ≡ 0
   pub freer : (h : ℕ) → f (Freer h) ≡ 0
-  pub linked : (h k : ℕ) → f (Linked h k) ≡ 0
   pub met : (h k : ℕ) → f (Met h k) ≡ 0
 
 pub born_note : (h : ℕ) → IsNote (is_born h)
-born_note h = record { claimed = λ a k. refl; recycling = λ w. refl; hold = λ g. refl; probe = refl; zeros = λ w. refl; coding = λ g. refl; known = λ g. refl; saw = λ w. refl; stored = λ g c. refl; told = λ g c. refl; freer = λ g. refl; linked = λ g k. refl; met = λ g k. refl }
+born_note h = record { claimed = λ a k. refl; recycling = λ w. refl; hold = λ g. refl; probe = refl; zeros = λ w. refl; coding = λ g. refl; known = λ g. refl; saw = λ w. refl; stored = λ g c. refl; told = λ g c. refl; freer = λ g. refl; met = λ g k. refl }
 
 pub failer_note : (h : ℕ) → IsNote (is_failer h)
-failer_note h = record { claimed = λ a k. refl; recycling = λ w. refl; hold = λ g. refl; probe = refl; zeros = λ w. refl; coding = λ g. refl; known = λ g. refl; saw = λ w. refl; stored = λ g c. refl; told = λ g c. refl; freer = λ g. refl; linked = λ g k. refl; met = λ g k. refl }
+failer_note h = record { claimed = λ a k. refl; recycling = λ w. refl; hold = λ g. refl; probe = refl; zeros = λ w. refl; coding = λ g. refl; known = λ g. refl; saw = λ w. refl; stored = λ g c. refl; told = λ g c. refl; freer = λ g. refl; met = λ g k. refl }
+
+pub linked_note : (h k : ℕ) → IsNote (is_linked h k)
+linked_note h k = record { claimed = λ a l. refl; recycling = λ w. refl; hold = λ g. refl; probe = refl; zeros = λ w. refl; coding = λ g. refl; known = λ g. refl; saw = λ w. refl; stored = λ g c. refl; told = λ g c. refl; freer = λ g. refl; met = λ g l. refl }
 
 pub tried_note : IsNote is_tried
-tried_note = record { claimed = λ a k. refl; recycling = λ w. refl; hold = λ g. refl; probe = refl; zeros = λ w. refl; coding = λ g. refl; known = λ g. refl; saw = λ w. refl; stored = λ g c. refl; told = λ g c. refl; freer = λ g. refl; linked = λ g k. refl; met = λ g k. refl }
+tried_note = record { claimed = λ a k. refl; recycling = λ w. refl; hold = λ g. refl; probe = refl; zeros = λ w. refl; coding = λ g. refl; known = λ g. refl; saw = λ w. refl; stored = λ g c. refl; told = λ g c. refl; freer = λ g. refl; met = λ g k. refl }
 
 coding_is : (h : ℕ) (x : Mark) → 0 < is_coding h x → (g : ℕ) × (x ≡ Coding g)
 coding_is h (Coding k) p = (k, refl)
@@ -102,8 +105,12 @@ module _ (f : Mark → ℕ) (note : IsNote f) (j : ℕ) where
       tried_or true = note.claimed 0 0
       tried_or false = refl
   row_adds p (GiveBirth i k) found hand v = let h : ℕ = version_of found in let less : List SlotMark = without_at i (is_stage 3 k) v.marks in
-      let a = quiet i (Known h) (at i (Born h) ∷ at i (Linked h k) ∷ less) (note.known h) in let b = put i (Born h) (at i (Linked h k) ∷ less) in let c = quiet i (Linked h k) less (note.linked h k) in
-      let d = gone i (is_stage 3 k) v.marks (stage_none 3 k) in omega arith
+      let a = quiet i (Known h) (at i (Born h) ∷ at i (Linked h k) ∷ less) (note.known h) in let b = put i (Born h) (at i (Linked h k) ∷ less) in let c = put i (Linked h k) less in
+      let e = both (eqb i j) (f (Born h)) (f (Linked h k)) in let d = gone i (is_stage 3 k) v.marks (stage_none 3 k) in omega arith
+    where
+      both : (b : Bool) (m n : ℕ) → cond b (m + n) 0 ≡ cond b m 0 + cond b n 0
+      both true m n = refl
+      both false m n = refl
   row_adds p (AddRef id) found hand v = let i : ℕ = socket_id_slot id in let w : ℕ = version_of found in let b : Bool = eqb (vref_version found) (socket_id_version id) in
       let z : f (cond b (Hold w) Probe) ≡ 0 = split b (Hold w) Probe (λ m. f m ≡ 0) (note.hold w) note.probe in
       let a = quiet i (cond b (Hold w) Probe) (at i (Saw w) ∷ v.marks) z in let c = quiet i (Saw w) v.marks (note.saw w) in omega arith
@@ -136,3 +143,5 @@ module _ (f : Mark → ℕ) (note : IsNote f) (j : ℕ) where
       taken_same = split (nat_lt 0 (total (only hand.link) v.passes)) _ _ (λ (u : View). marks_of f j u ≡ marks_of f j v) refl refl
   row_adds p (FinishLink k) found hand v = omega arith
   row_adds p (PutLink k) found hand v = omega arith
+  row_adds p call found hand v = let a = sending_marks p v found hand (λ es. sum es ≡ sum v.marks) refl (λ i w. quiet i (Saw w) v.marks (note.saw w)) (λ i h k. quiet i (Met h k) v.marks (note.met h k))
+      (λ i h c w. quiet i (Told h c) (at i (Saw w) ∷ v.marks) (note.told h c) ∙ quiet i (Saw w) v.marks (note.saw w)) call refl in omega arith

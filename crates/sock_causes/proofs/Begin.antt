@@ -8,12 +8,11 @@ use native.Mathlib.Decide.{ℕ_discrete}
 use lib.ListN.{get_elem?}
 use Rattle.brpc_model.specs.Order.{EachBefore}
 use Rattle.sock_words.specs.declared.plain.Plan.{Plan}
-use Rattle.sock_words.specs.Words.{socket_id_version, socket_id_slot}
 use Rattle.sock_words.specs.declared.outcome.Outcome.{Outcome}
 use Rattle.sock_model.specs.declared.marks.Mark.{Mark}
 use Rattle.sock_model.specs.declared.marks.Mark.TheVariants.{Claimed}
 use Rattle.sock_model.specs.declared.view.View.{View}
-use Rattle.sock_model.specs.Weights.{is_hold, is_busy, is_claimed, is_born, is_failer, is_tried}
+use Rattle.sock_model.specs.Weights.{is_hold, is_busy, is_claimed, is_born, is_failer, is_linked, is_tried}
 use Rattle.sock_model.specs.Layout.{tag_word, ref_word, all_words}
 use Rattle.sock_model.specs.Slots.{SlotFacts, SlotLaw, live, count}
 use Rattle.sock_model.specs.References.{slot_facts}
@@ -21,19 +20,19 @@ use Rattle.sock_model.specs.SlotRows.{marks_of}
 use Rattle.slot_laws.proofs.Sums.{tally_mono}
 use Rattle.slot_laws.proofs.Numbers.{live-free, life-none}
 use Rattle.sock_programs.specs.declared.task.Task.{Task}
+use Rattle.sock_programs.specs.declared.task.Sizes.{Sizes}
 use Rattle.sock_programs.specs.Programs.{Program}
 use Rattle.sock_programs.specs.Clients.{client_from}
 use Rattle.sock_programs.specs.Cores.{Core, SeatState, said, next_step}
-use Rattle.sock_programs.specs.Scripts.{free_slots, programs, beginning}
+use Rattle.sock_programs.specs.Scripts.{free_slots, sizes_of, programs, beginning}
 use Rattle.sock_programs.specs.Told.{AreTasks, TaskFits, Differ, alternate}
 use Rattle.sock_runs.specs.Sound.{state, Sound}
 use Rattle.sock_causes.specs.Stories.{In, trace_now}
-use Rattle.sock_causes.specs.Explains.{Done, Explains}
-use Rattle.sock_causes.specs.Causes.{Holding}
-use Rattle.sock_causes.specs.Kept.{SeatStory, Story, IsReady}
+use Rattle.sock_causes.specs.Explains.{Done, Explains, holds}
+use Rattle.sock_causes.specs.Kept.{undo, AreClaims, AreMadeNow, SeatStory, Story, IsReady}
 use Rattle.sock_causes.proofs.Clients.{client_explains}
 use Rattle.sock_causes.proofs.Members.{all_in, all_of}
-use Rattle.sock_causes.proofs.Seats.{Less, length_said, said_else, after_say, undo_done}
+use Rattle.sock_causes.proofs.Seats.{Less, length_said, said_else, no_claims, after_say, undo_in, undo_done}
 use Rattle.sock_causes.proofs.Ticks.{next_ready}
 use Rattle.sock_causes.proofs.Tasks.{Apart, InOrder, before_weaker}
 
@@ -76,6 +75,10 @@ module _ (first : ℕ) (l : SlotFacts) (law : SlotLaw first (live l) l) (tag : l
   idle : count is_busy l ≡ 0
   idle = dite (ℕ_discrete (count is_busy l) 0) (λ z. z) (λ n. let a = law.busy_taken (omega arith) in absurd (omega arith))
 
+  unlinked : (h k : ℕ) → count (is_linked h k) l ≡ 0
+  unlinked h k = let a = live-free l.tag l.version (count is_busy l) tag in dite (ℕ_discrete (count (is_linked h k) l) 0) (λ z. z)
+      (λ n. let x = law.link_low h k (omega (arith, n)) in let y = law.link_begun h k (omega (arith, n)) in absurd (omega (arith, x, y, a, version)))
+
   untried : count is_tried l ≡ 0
   untried = let a = live-free l.tag l.version (count is_busy l) tag in let b = tally_mono is_claimed is_busy claimed_le l.marks in let i = idle in
       dite (ℕ_discrete (count is_tried l) 0) (λ z. z) (λ n. let c = law.taken_by (omega arith) in absurd (omega arith))
@@ -96,53 +99,88 @@ length_same : {A : Type 0} (n : ℕ) (x : A) → length (replicate n x) ≡ n
 length_same zero x = refl
 length_same (suc n) x = ap suc (length_same n x)
 
-module _ (p : Plan) (well : (ts : List Task) → Type 0) (explained : (ts : List Task) → well ts → Explains p.slots [] [] ts (client_from p.slots [] ts)) where
-  -- those of other clients stay
-  outcome_stays : (cs : List (List Task)) → AllByRecursion well cs → (os : List (Option Outcome)) (j : ℕ) → AllByRecursion (AllByRecursion (λ (t : Task). t.number ≢ j)) cs → slice_get (fold Says os (programs p.slots cs)) j ≡ slice_get os j
-  outcome_stays [] w os j h = refl
-  outcome_stays (c ∷ cs) w os j h = outcome_stays cs w.1 (said (client_from p.slots [] c) os) j h.1 ∙ said_else p.slots (client_from p.slots [] c) [] [] c os j (explained c w.0) h.0
+blank_at : (n j : ℕ) → j < n → slice_get (replicate n no_outcome) j ≡ Some None
+blank_at zero j l = absurd (omega arith)
+blank_at (suc n) zero l = refl
+blank_at (suc n) (suc j) l = blank_at n j (omega arith)
 
-  seats_begin : (cs : List (List Task)) → AllByRecursion well cs → EachBefore Apart cs → AllByRecursion (EachBefore Less) cs → (os : List (Option Outcome)) → AllByRecursion (AllByRecursion (λ (t : Task). t.number < length os)) cs
-      → (c i : ℕ) (ts : List Task) (v : View) → slice_get cs i ≡ Some ts → SeatStory p.slots [] (fold Says os (programs p.slots cs)) c ts (next_step (client_from p.slots [] ts)) v
-  seats_begin [] w apart sorted os fit c i ts v e = absurd (cc)
-  seats_begin (t ∷ cs) w apart sorted os fit c (suc i) ts v e = let os' : List (Option Outcome) = said (client_from p.slots [] t) os in
-      seats_begin cs w.1 apart.1 sorted.1 os' (subst (λ n. AllByRecursion (AllByRecursion (λ (t : Task). t.number < n)) cs) (sym (length_said (client_from p.slots [] t) os)) fit.1) c i ts v e
-  seats_begin (t ∷ cs) w apart sorted os fit c zero ts v e = let q : t ≡ ts = cc in
-      subst (λ us. SeatStory p.slots [] (fold Says os (programs p.slots (t ∷ cs))) c us (next_step (client_from p.slots [] us)) v) q (first_ (after_say p.slots [] c t sorted.0 v (client_from p.slots [] t) os [] t fit.0 record {
+module _ (p : Plan) (well : (ts : List Task) → Type 0) (explained : (ts : List Task) → well ts → Explains p.slots p.requests [] [] [] ts (client_from (sizes_of p) [] ts)) where
+  abbrev all_programs : List (List Task) → List Program
+  all_programs cs = programs (sizes_of p) cs
+
+  abbrev first_program : List Task → Program
+  first_program ts = client_from (sizes_of p) [] ts
+
+  -- those of other clients stay
+  outcome_stays : (cs : List (List Task)) → AllByRecursion well cs → (os : List (Option Outcome)) (j : ℕ) → AllByRecursion (AllByRecursion (λ (t : Task). t.number ≢ j)) cs → slice_get (fold Says os (all_programs cs)) j ≡ slice_get os j
+  outcome_stays [] w os j h = refl
+  outcome_stays (c ∷ cs) w os j h = outcome_stays cs w.1 (said (first_program c) os) j h.1 ∙ said_else p.slots p.requests (first_program c) [] [] [] c os j (explained c w.0) h.0
+
+  -- no task has an outcome yet
+  abbrev AreBlank : List (Option Outcome) → List Task → Type 0
+  AreBlank os ts = AllByRecursion (λ (t : Task). slice_get os t.number ≡ Some None) ts
+
+  blank_stays : (t : List Task) (us : List Task) (os : List (Option Outcome)) → well t → AllByRecursion (λ (x : Task). AllByRecursion (Differ x) us) t → AreBlank os us → AreBlank (said (first_program t) os) us
+  blank_stays t us os w apart blank = all_of (λ (u : Task). slice_get (said (first_program t) os) u.number ≡ Some None) us (λ u m. said_else p.slots p.requests (first_program t) [] [] [] t os u.number (explained t w)
+      (all_of (λ (x : Task). x.number ≢ u.number) t (λ x n. (all_in (Differ x) us u (all_in (λ (x : Task). AllByRecursion (Differ x) us) t x apart n) m).0))
+      ∙ all_in (λ (u : Task). slice_get os u.number ≡ Some None) us u blank m)
+
+  seats_begin : (cs : List (List Task)) → AllByRecursion well cs → EachBefore Apart cs → AllByRecursion (EachBefore Less) cs → (os : List (Option Outcome)) → AllByRecursion (AllByRecursion (λ (t : Task). t.number < length os)) cs → AllByRecursion (AreBlank os) cs
+      → (c i : ℕ) (ts : List Task) (v : View) → v.lists ≡ [] ∷ [] → slice_get cs i ≡ Some ts → SeatStory p [] [] (fold Says os (all_programs cs)) c ts (next_step (first_program ts)) v
+  seats_begin [] w apart sorted os fit blank c i ts v fresh e = absurd (cc)
+  seats_begin (t ∷ cs) w apart sorted os fit blank c (suc i) ts v fresh e = let os' : List (Option Outcome) = said (first_program t) os in
+      seats_begin cs w.1 apart.1 sorted.1 os' (subst (λ n. AllByRecursion (AllByRecursion (λ (t : Task). t.number < n)) cs) (sym (length_said (first_program t) os)) fit.1)
+      (all_of (AreBlank os') cs (λ us m. blank_stays t us os w.0 (all_in (Apart t) cs us apart.0 m) (all_in (AreBlank os) cs us blank.1 m))) c i ts v fresh e
+  seats_begin (t ∷ cs) w apart sorted os fit blank c zero ts v fresh e = let q : t ≡ ts = cc in
+      subst (λ us. SeatStory p [] [] (fold Says os (all_programs (t ∷ cs))) c us (next_step (first_program us)) v) q (first_ (after_say p [] [] c t sorted.0 v (first_program t) os [] t fit.0 record {
         all = refl;
         became = tt;
+        unsaid = blank.0;
         kept = tt;
         past = λ x m. absurd m;
-        explains = subst (λ z. Explains p.slots [] z t (client_from p.slots [] t)) (nothing t) (explained t w.0);
-        holding = subst (λ z. Holding z (λ id. 0 < marks_of (is_hold (socket_id_version id)) (socket_id_slot id) v)) (nothing t) tt;
+        explains = subst (λ z. Explains p.slots p.requests [] [] z t (first_program t)) (nothing t) (explained t w.0);
+        holding = λ i h. subst (λ z. holds i h z ≤ marks_of (is_hold h) i v) (nothing t) (omega arith);
+        claims = subst (λ z. AreClaims [] z v.claims) (nothing t) (no_claims [] v.claims);
+        made = [];
+        lists = fresh;
+        are_made = none_made t;
       }))
     where
       nothing : (todo : List Task) → [] ≡ trace_now c todo []
       nothing [] = refl
       nothing (t ∷ ts) = refl
 
-      first_ : SeatStory p.slots [] (said (client_from p.slots [] t) os) c t (next_step (client_from p.slots [] t)) v → SeatStory p.slots [] (fold Says os (programs p.slots (t ∷ cs))) c t (next_step (client_from p.slots [] t)) v
-      first_ s = let a = s.2 in let os' : List (Option Outcome) = said (client_from p.slots [] t) os in (
-        s.0,
-        s.1,
-        record {
-          all = a.all;
-          became = all_of (λ (d : Done). slice_get (fold Says os' (programs p.slots cs)) d.task.number ≡ Some (Some d.outcome)) s.0 (λ d m.
-              outcome_stays cs w.1 os' d.task.number (all_of (AllByRecursion (λ (u : Task). u.number ≢ d.task.number)) cs (λ us n. all_of (λ (u : Task). u.number ≢ d.task.number) us (λ u k r.
-              (all_in (Differ d.task) us u (all_in (λ (x : Task). AllByRecursion (Differ x) us) t d.task (all_in (Apart t) cs us apart.0 n) (subst (In d.task) (sym a.all) (undo_done s.0 s.1 d m))) k).0 (sym r))))
-              ∙ all_in (λ (d : Done). slice_get os' d.task.number ≡ Some (Some d.outcome)) s.0 d a.became m);
-          kept = a.kept;
-          past = a.past;
-          explains = a.explains;
-          holding = a.holding;
-        },
-      )
+      none_made : (todo : List Task) → AreMadeNow [] c [] todo []
+      none_made [] = refl
+      none_made (t ∷ ts) = ([], refl, refl)
 
-seat_is : (slots : ℕ) (cs : List (List Task)) (i : ℕ) (ts : List Task) (seat : SeatState) → slice_get cs i ≡ Some ts
-    → get_elem? (map (λ (program : Program). record { program = next_step program; hand = [] }) (programs slots cs)) i ≡ some seat → next_step (client_from slots [] ts) ≡ seat.program
-seat_is slots [] i ts seat e f = absurd (cc)
-seat_is slots (c ∷ cs) zero ts seat e f = let q : c ≡ ts = cc in ap (λ us. next_step (client_from slots [] us)) (sym q) ∙ ap (λ (s : SeatState). s.program) (some-injective (record { program = next_step (client_from slots [] c); hand = [] }) seat f)
-seat_is slots (c ∷ cs) (suc i) ts seat e f = seat_is slots cs i ts seat e f
+      first_ : SeatStory p [] [] (said (first_program t) os) c t (next_step (first_program t)) v → SeatStory p [] [] (fold Says os (all_programs (t ∷ cs))) c t (next_step (first_program t)) v
+      first_ s = let a = s.2 in let os' : List (Option Outcome) = said (first_program t) os in
+          let stays : (x : Task) → In x (undo s.0 s.1) → slice_get (fold Says os' (all_programs cs)) x.number ≡ slice_get os' x.number = λ x m.
+          outcome_stays cs w.1 os' x.number (all_of (AllByRecursion (λ (u : Task). u.number ≢ x.number)) cs (λ us n. all_of (λ (u : Task). u.number ≢ x.number) us (λ u k r.
+          (all_in (Differ x) us u (all_in (λ (x : Task). AllByRecursion (Differ x) us) t x (all_in (Apart t) cs us apart.0 n) (subst (In x) (sym a.all) m)) k).0 (sym r)))) in (
+            s.0,
+            s.1,
+            record {
+              all = a.all;
+              became = all_of (λ (d : Done). slice_get (fold Says os' (all_programs cs)) d.task.number ≡ Some d.outcome) s.0 (λ d m. stays d.task (undo_done s.0 s.1 d m) ∙ all_in (λ (d : Done). slice_get os' d.task.number ≡ Some d.outcome) s.0 d a.became m);
+              unsaid = all_of (λ (u : Task). slice_get (fold Says os' (all_programs cs)) u.number ≡ Some None) s.1 (λ u m. stays u (undo_in s.0 s.1 u m) ∙ all_in (λ (u : Task). slice_get os' u.number ≡ Some None) s.1 u a.unsaid m);
+              kept = a.kept;
+              past = a.past;
+              explains = a.explains;
+              holding = a.holding;
+              claims = a.claims;
+              made = a.made;
+              lists = a.lists;
+              are_made = a.are_made;
+            },
+          )
+
+seat_is : (sizes : Sizes) (cs : List (List Task)) (i : ℕ) (ts : List Task) (seat : SeatState) → slice_get cs i ≡ Some ts
+    → get_elem? (map (λ (program : Program). record { program = next_step program; hand = [] }) (programs sizes cs)) i ≡ some seat → next_step (client_from sizes [] ts) ≡ seat.program
+seat_is sizes [] i ts seat e f = absurd (cc)
+seat_is sizes (c ∷ cs) zero ts seat e f = let q : c ≡ ts = cc in ap (λ us. next_step (client_from sizes [] us)) (sym q) ∙ ap (λ (s : SeatState). s.program) (some-injective (record { program = next_step (client_from sizes [] c); hand = [] }) seat f)
+seat_is sizes (c ∷ cs) (suc i) ts seat e f = seat_is sizes cs i ts seat e f
 
 ready_at : (qs : List Program) (i : ℕ) (seat : SeatState) → get_elem? (map (λ (program : Program). record { program = next_step program; hand = [] }) qs) i ≡ some seat → IsReady seat.program
 ready_at [] i seat e = absurd (some-ne-none seat (sym e))
@@ -153,9 +191,9 @@ each_mapped : {A B : Type 0} (f : A → B) (xs : List A) → length (map f xs) �
 each_mapped f [] = refl
 each_mapped f (x ∷ xs) = ap suc (each_mapped f xs)
 
-module _ (p : Plan) (clients : List (List Task)) (are : AreTasks p clients) (vs : List View) where
+module _ (p : Plan) (clients : List (List Task)) (are : AreTasks p clients) (vs : List View) (fresh : (i : ℕ) (v : View) → get_elem? vs i ≡ some v → v.lists ≡ [] ∷ []) where
   abbrev start : Core
-  start = beginning p (programs p.slots clients)
+  start = beginning p (programs (sizes_of p) clients)
 
   abbrev none_ : List (Option Outcome)
   none_ = replicate p.operations no_outcome
@@ -173,19 +211,25 @@ module _ (p : Plan) (clients : List (List Task)) (are : AreTasks p clients) (vs 
   each_fits = all_of (AllByRecursion (λ (t : Task). t.number < length none_)) clients (λ ts m. all_of (λ (t : Task). t.number < length none_) ts (λ t n.
       let a = (all_in (TaskFits p) ts t (all_in (AllByRecursion (TaskFits p)) clients ts are.fit m) n).0 in omega (arith, length_same p.operations no_outcome)))
 
+  each_blank : AllByRecursion (AllByRecursion (λ (t : Task). slice_get none_ t.number ≡ Some None)) clients
+  each_blank = all_of (AllByRecursion (λ (t : Task). slice_get none_ t.number ≡ Some None)) clients (λ ts m. all_of (λ (t : Task). slice_get none_ t.number ≡ Some None) ts (λ t n.
+      blank_at p.operations t.number (all_in (TaskFits p) ts t (all_in (AllByRecursion (TaskFits p)) clients ts are.fit m) n).0))
+
   -- the story with which a run begins
-  pub start_story : Sound p start vs → Story p clients start vs []
+  pub start_story : Sound p start vs → Story p clients start vs [] []
   start_story sound = record {
-    sized = length_all (programs p.slots clients) none_ ∙ length_same p.operations no_outcome;
-    each = each_mapped _ (programs p.slots clients) ∙ each_mapped (client_from p.slots []) clients;
-    ready = λ i seat e. ready_at (programs p.slots clients) i seat e;
+    sized = length_all (programs (sizes_of p) clients) none_ ∙ length_same p.operations no_outcome;
+    each = each_mapped _ (programs (sizes_of p) clients) ∙ each_mapped (client_from (sizes_of p) []) clients;
+    ready = λ i seat e. ready_at (programs (sizes_of p) clients) i seat e;
     good = tt;
     births = λ j l h. unborn p.first (slot_facts (state start vs) j) (sound.lawful.references.slots j l) (tag_at p.first p.slots j _ l) (version j l) h;
+    links = λ j l h k. unlinked p.first (slot_facts (state start vs) j) (sound.lawful.references.slots j l) (tag_at p.first p.slots j _ l) (version j l) h k;
     fails = λ j l h. unfailed p.first (slot_facts (state start vs) j) (sound.lawful.references.slots j l) (tag_at p.first p.slots j _ l) (version j l) h;
     tries = λ j l. untried p.first (slot_facts (state start vs) j) (sound.lawful.references.slots j l) (tag_at p.first p.slots j _ l) (version j l);
     named = λ n l. name_at p.first p.slots (all_words p - 6 * p.slots) n;
-    seats = λ i ts seat v e f g. subst (λ q. SeatStory p.slots [] start.outcomes i ts q v) (seat_is p.slots clients i ts seat e f)
-        (seats_begin p Alternates (client_explains p.slots) clients each_alternates are.differ each_sorted none_ each_fits i i ts v e);
+    used = λ e m. absurd m;
+    seats = λ i ts seat v e f g. subst (λ q. SeatStory p [] [] start.outcomes i ts q v) (seat_is (sizes_of p) clients i ts seat e f)
+        (seats_begin p Alternates (λ us w. client_explains p.slots p.requests us w []) clients each_alternates are.differ each_sorted none_ each_fits each_blank i i ts v (fresh i v g) e);
   }
     where
       version : (j : ℕ) → j < p.slots → (slot_facts (state start vs) j).version ≡ p.first

@@ -1,14 +1,13 @@
 -- What the events of a good story have to do with one another.
-use Rattle.std.proofs.Common.{◌≡◌, ◌≢◌, ℕ, ◌%◌, ◌<◌, ◌≤◌, ◌⊎◌, Bool, true, false, cond, eqb, eq-eqb, ne_eqb, List, [], ◌∷◌, inl, inr, ⊎_elim, sym, refl, ap, ◌∙◌, subst, arith}
+use Rattle.std.proofs.Common.{◌≡◌, ◌≢◌, ℕ, ◌+◌, ◌%◌, ◌<◌, ◌≤◌, ◌⊎◌, Bool, true, false, cond, eqb, eq-eqb, ne_eqb, List, [], ◌∷◌, inl, inr, ⊎_elim, sym, refl, ap, ◌∙◌, subst, arith}
 use mathlib.Core.Logic.{dite}
 use native.Mathlib.Decide.{ℕ_discrete}
 use Rattle.sock_words.specs.declared.plain.Plan.{Plan}
 use Rattle.sock_words.specs.Words.{vref_version}
 use Rattle.sock_model.specs.declared.marks.Mark.{Mark}
-use Rattle.sock_model.specs.declared.marks.Mark.TheVariants.{Born, Failer}
-use Rattle.sock_model.specs.Weights.{total, is_born, is_failer, is_tried}
-use Rattle.slot_laws.proofs.Numbers.{only_is, only-at}
-use Rattle.sock_programs.specs.declared.task.Op.{Op}
+use Rattle.sock_model.specs.declared.marks.Mark.TheVariants.{Born, Failer, Linked}
+use Rattle.sock_model.specs.Weights.{total, is_born, is_failer, is_linked, is_tried}
+use Rattle.slot_laws.proofs.Numbers.{only_is, only-at, pair_is, pair-at}
 use Rattle.sock_programs.specs.declared.task.Task.{Task}
 use Rattle.sock_programs.specs.Calls.{Call, ClaimSlot, GiveBirth, SetOdd, StoreName}
 use Rattle.sock_causes.specs.Stories.{Entry, Event, In, trace_of, stored_by, last_name, adds, added_by, marked}
@@ -41,7 +40,7 @@ same_test : (j : ℕ) (n : ℕ) → cond (eqb j j) n 0 ≡ n
 same_test j n = ap (λ b. cond b n 0) (eq-eqb j j refl)
 
 pub birth_adds : (c o j k found h : ℕ) → vref_version found ≡ h → 0 < added_by (is_born h) j (event c o (GiveBirth j k) found)
-birth_adds c o j k found h e = let a = same_test j (is_born h (Born (vref_version found))) in let b = only-at h (vref_version found) e in omega arith
+birth_adds c o j k found h e = let a = same_test j (is_born h (Born (vref_version found)) + is_born h (Linked (vref_version found) k)) in let b = only-at h (vref_version found) e in omega arith
 
 pub fail_adds : (c o j found h : ℕ) → vref_version found ≡ h → h % 2 ≡ 0 → 0 < added_by (is_failer h) j (event c o (SetOdd j) found)
 fail_adds c o j found h e even = let n : ℕ = is_failer h (Failer (vref_version found)) in let q = eq-eqb (vref_version found % 2) 0 (ap (λ z. z % 2) e ∙ even) in
@@ -88,7 +87,8 @@ neither true false = refl
 neither false d = refl
 
 birth_added : (c o : ℕ) (call : Call) (found j h : ℕ) → 0 < adds (is_born h) j call found → (k : ℕ) × (call ≡ GiveBirth j k) × (vref_version found ≡ h)
-birth_added c o (GiveBirth i k) found j h p = let t = test_of i j (is_born h (Born (vref_version found))) p in (k, ap (λ z. GiveBirth z k) t.0, only_is h (vref_version found) t.1)
+birth_added c o (GiveBirth i k) found j h p = let t = test_of i j (is_born h (Born (vref_version found)) + is_born h (Linked (vref_version found) k)) p in
+    (k, ap (λ z. GiveBirth z k) t.0, only_is h (vref_version found) (let a = t.1 in omega (arith, a)))
 birth_added c o (ClaimSlot i) found j h p = let a = neither (eqb i j) (eqb found 0) in absurd (omega arith)
 birth_added c o (SetOdd i) found j h p = let a = neither (eqb i j) (eqb (vref_version found % 2) 0) in absurd (omega arith)
 birth_added c o _ found j h p = absurd (omega arith)
@@ -99,6 +99,24 @@ fail_added c o (SetOdd i) found j h p = let t = test_of i j (cond (eqb (vref_ver
 fail_added c o (ClaimSlot i) found j h p = let a = neither (eqb i j) (eqb found 0) in absurd (omega arith)
 fail_added c o (GiveBirth i k) found j h p = let a = none_added i j in absurd (omega arith)
 fail_added c o _ found j h p = absurd (omega arith)
+
+given_added : (call : Call) (found j h k : ℕ) → 0 < adds (is_linked h k) j call found → (call ≡ GiveBirth j k) × (vref_version found ≡ h)
+given_added (GiveBirth i l) found j h k p = let t = test_of i j (is_linked h k (Born (vref_version found)) + is_linked h k (Linked (vref_version found) l)) p in
+    let q = pair_is h k (vref_version found) l (let a = t.1 in omega (arith, a)) in ((λ n. GiveBirth (t.0 n) (q.1 n)), q.0)
+given_added (ClaimSlot i) found j h k p = let a = neither (eqb i j) (eqb found 0) in absurd (omega arith)
+given_added (SetOdd i) found j h k p = let a = neither (eqb i j) (eqb (vref_version found % 2) 0) in absurd (omega arith)
+given_added _ found j h k p = absurd (omega arith)
+
+-- a life that was made with a link was made by a step
+pub marked_given : (es : List Event) (j h k : ℕ) → 0 < marked (is_linked h k) j es → (c o found : ℕ) × In (event c o (GiveBirth j k) found) es × (vref_version found ≡ h)
+marked_given [] j h k p = absurd (omega arith)
+marked_given (e ∷ es) j h k p = dite (ℕ_discrete (added_by (is_linked h k) j e) 0) (λ z. let t = marked_given es j h k (omega arith) in (t.0, t.1, t.2, inr t.3, t.4))
+    (λ n. let t = given_added e.entry.call e.entry.found j h k (omega arith) in (e.client, e.number, e.entry.found, inl (ap (λ z. event e.client e.number z e.entry.found) (sym t.0)), t.1))
+
+-- and a step makes it so
+pub given_by : (es : List Event) (c o found j h k : ℕ) → In (event c o (GiveBirth j k) found) es → vref_version found ≡ h → 0 < marked (is_linked h k) j es
+given_by es c o found j h k m e = let n : ℕ = is_linked h k (Born (vref_version found)) + is_linked h k (Linked (vref_version found) k) in
+    let a = same_test j n in let b = pair-at h k (vref_version found) k e refl in let d = some_in (added_by (is_linked h k) j) es (event c o (GiveBirth j k) found) m in omega (arith, a, b, d)
 
 pub marked_birth : (es : List Event) (j h : ℕ) → 0 < marked (is_born h) j es → BirthIn es j h
 marked_birth [] j h p = absurd (omega arith)
@@ -112,25 +130,25 @@ marked_fail (e ∷ es) j h p = dite (ℕ_discrete (added_by (is_failer h) j e) 0
 
 -- ## Before and after
 
-module _ (p : Plan) (clients : List (List Task)) where
+module _ (p : Plan) (clients : List (List Task)) (broken : List ℕ) where
   -- the part of the story before this event
   pub record BeforeIn (es : List Event) (e : Event) : Type 0 where
     pub story : List Event
-    pub good : Good p clients story
-    pub cause : Cause p clients story e
+    pub good : Good p clients broken story
+    pub cause : Cause p clients broken story e
     pub part : (x : Event) → In x story → In x es
 
   -- each event has its cause in the part before it
-  pub cause_of : (es : List Event) → Good p clients es → (e : Event) → In e es → BeforeIn es e
+  pub cause_of : (es : List Event) → Good p clients broken es → (e : Event) → In e es → BeforeIn es e
   cause_of [] g e m = absurd m
   cause_of (x ∷ es) g e (inl same) = subst (BeforeIn (x ∷ es)) (sym same) record { story = es; good = g.1; cause = g.0; part = λ y n. inr n }
   cause_of (x ∷ es) g e (inr m) = let b = cause_of es g.1 e m in record { story = b.story; good = b.good; cause = b.cause; part = λ y n. inr (b.part y n) }
 
   -- x comes before e
   abbrev pub Comes : Event → Event → Type 0
-  Comes x e = (s : List Event) × Good p clients s × Cause p clients s e × In x s
+  Comes x e = (s : List Event) × Good p clients broken s × Cause p clients broken s e × In x s
 
-  pub compare : (es : List Event) → Good p clients es → (x e : Event) → In x es → In e es → Comes x e ⊎ ((x ≡ e) ⊎ Comes e x)
+  pub compare : (es : List Event) → Good p clients broken es → (x e : Event) → In x es → In e es → Comes x e ⊎ ((x ≡ e) ⊎ Comes e x)
   compare [] g x e m n = absurd m
   compare (y ∷ es) g x e (inl a) (inl b) = inr (inl (a ∙ sym b))
   compare (y ∷ es) g x e (inl a) (inr n) = inr (inr (subst (Comes e) (sym a) (es, g.1, g.0, n)))
@@ -139,23 +157,23 @@ module _ (p : Plan) (clients : List (List Task)) where
 
   -- ## Words of names
 
-  stores_some : (op : Op) (trace : List Entry) (n w : ℕ) → Fits op trace (StoreName n w) → w ≢ 0
-  stores_some op trace n w f = λ z. let e = f.5 in omega arith
+  stores_some : (t : Task) (trace : List Entry) (n w : ℕ) → Fits t broken trace (StoreName n w) → w ≢ 0
+  stores_some t trace n w f = λ z. let e = f.5 in omega arith
 
-  stored_zero : (n : ℕ) (call : Call) (before : ℕ) (op : Op) (trace : List Entry) → Fits op trace call → stored_by n call before ≡ 0 → before ≡ 0
-  stored_zero n (StoreName m w) before op trace f z = dite (ℕ_discrete m n)
-      (λ e. absurd (stores_some op trace m w f (sym (ap (λ b. cond b w before) (eq-eqb m n e)) ∙ z)))
+  stored_zero : (n : ℕ) (call : Call) (before : ℕ) (t : Task) (trace : List Entry) → Fits t broken trace call → stored_by n call before ≡ 0 → before ≡ 0
+  stored_zero n (StoreName m w) before t trace f z = dite (ℕ_discrete m n)
+      (λ e. absurd (stores_some t trace m w f (sym (ap (λ b. cond b w before) (eq-eqb m n e)) ∙ z)))
       (λ ne. sym (ap (λ b. cond b w before) (ne_eqb m n ne)) ∙ z)
-  stored_zero n _ before op trace f z = z
+  stored_zero n _ before t trace f z = z
 
   -- where the word is 0 nothing was stored
-  pub last_zero : (es : List Event) → Good p clients es → (n : ℕ) → last_name n es ≡ 0 → (c o w found : ℕ) → In (event c o (StoreName n w) found) es → ⊥
+  pub last_zero : (es : List Event) → Good p clients broken es → (n : ℕ) → last_name n es ≡ 0 → (c o w found : ℕ) → In (event c o (StoreName n w) found) es → ⊥
   last_zero [] g n z c o w found m = m
   last_zero (e ∷ es) g n z c o w found (inl same) = let q : e.entry.call ≡ StoreName n w = ap (λ (x : Event). x.entry.call) (sym same) in
-      let f : Fits g.0.task.op (trace_of e.client e.number es) (StoreName n w) = subst (Fits g.0.task.op (trace_of e.client e.number es)) q g.0.fits in
+      let f : Fits g.0.task broken (trace_of e.client e.number es) (StoreName n w) = subst (Fits g.0.task broken (trace_of e.client e.number es)) q g.0.fits in
       let a : stored_by n (StoreName n w) (last_name n es) ≡ 0 = subst (λ x. stored_by n x (last_name n es) ≡ 0) q z in
-      stores_some g.0.task.op (trace_of e.client e.number es) n w f (sym (ap (λ b. cond b w (last_name n es)) (eq-eqb n n refl)) ∙ a)
-  last_zero (e ∷ es) g n z c o w found (inr m) = last_zero es g.1 n (stored_zero n e.entry.call (last_name n es) g.0.task.op (trace_of e.client e.number es) g.0.fits z) c o w found m
+      stores_some g.0.task (trace_of e.client e.number es) n w f (sym (ap (λ b. cond b w (last_name n es)) (eq-eqb n n refl)) ∙ a)
+  last_zero (e ∷ es) g n z c o w found (inr m) = last_zero es g.1 n (stored_zero n e.entry.call (last_name n es) g.0.task (trace_of e.client e.number es) g.0.fits z) c o w found m
 
 stored_from : (n : ℕ) (call : Call) (before : ℕ) → (call ≡ StoreName n (stored_by n call before)) ⊎ (stored_by n call before ≡ before)
 stored_from n (StoreName m w) before = dite (ℕ_discrete m n)

@@ -8,48 +8,49 @@ use Rattle.sock_words.specs.declared.outcome.Outcome.TheVariants.{Opened, Failed
 use Rattle.sock_model.specs.Weights.{is_born, is_failer, is_tried}
 use Rattle.sock_programs.specs.declared.task.Op.TheVariants as ops
 use Rattle.sock_programs.specs.declared.task.Task.{Task}
-use Rattle.sock_programs.specs.Calls.{GiveBirth, AddRef, SetOdd, StoreName, LoadName}
-use Rattle.sock_programs.specs.Told.{AreTasks, IsTask, Made, IsFail}
+use Rattle.sock_programs.specs.Calls.{GiveBirth, AddRef, SetOdd, StoreName, LoadName, FindLink, ClaimRequest}
+use Rattle.sock_programs.specs.Programs.{fail_outcome}
+use Rattle.sock_programs.specs.Told.{AreTasks, Order, IsTask, Made, IsFail, all_accepted}
 use Rattle.sock_causes.specs.Stories.{Entry, Event, In, trace_of, last_name, added_by, marked}
-use Rattle.sock_causes.specs.Explains.{Because, Tells, step}
-use Rattle.sock_causes.specs.Causes.{Asks, Holding, OddAt, Cause, Good}
+use Rattle.sock_causes.specs.Explains.{Because, Explained, Tells, TellsFail, FailsLife, FailsLink, holds, step}
+use Rattle.sock_causes.specs.Causes.{Asks, OddAt, WasGiven, Cause, Good}
 use Rattle.sock_causes.proofs.Members.{all_in, in_contains, contains_in, from_trace, to_trace}
-use Rattle.sock_causes.proofs.Events.{event, once, birth_adds, fail_adds, BeforeIn, cause_of, last_some}
-use Rattle.sock_causes.proofs.Final.{Final}
+use Rattle.sock_causes.proofs.Events.{event, once, birth_adds, fail_adds, marked_given, given_by, BeforeIn, cause_of, last_some}
+use Rattle.sock_causes.proofs.Final.{Final, one_said}
+use Rattle.sock_causes.proofs.Sending.{add_holds}
 use Rattle.sock_causes.proofs.Tasks.{one_link}
 
 -- what is known in the end
-pub record World (p : Plan) (clients : List (List Task)) (outcomes : List (Option Outcome)) (es : List Event) : Type 0 where
+pub record World (p : Plan) (clients : List (List Task)) (outcomes : List (Option Outcome)) (broken : List ℕ) (orders : ℕ → Order) (es : List Event) : Type 0 where
   pub are : AreTasks p clients
   pub few : p.slots ≤ 256
-  pub good : Good p clients es
-  pub final : (c : ℕ) (t : Task) → Asks clients c t → Final p.slots clients es outcomes c t
+  pub good : Good p clients broken es
+  pub final : (c : ℕ) (t : Task) → Asks clients c t → Final p.slots p.requests clients es outcomes c t
   pub born_once : (j : ℕ) → j < p.slots → (h : ℕ) → marked (is_born h) j es ≤ 1
   pub failed_once : (j : ℕ) → j < p.slots → (h : ℕ) → marked (is_failer h) j es ≤ 1
   -- a slot that was found taken had a life
   pub tried_born : (j : ℕ) → j < p.slots → 0 < marked is_tried j es → 0 < marked (is_born p.first) j es
+  -- where each request was found claimed, so many messages were accepted
+  pub full : ((q : ℕ) → q < p.requests → (c o id found : ℕ) × In (event c o (ClaimRequest id q) found) es × (found % 2 ≡ 1)) → p.requests ≤ all_accepted p.links orders
 
-pub one_outcome : (o : Option (Option Outcome)) (x y : Outcome) → o ≡ Some (Some x) → o ≡ Some (Some y) → x ≡ y
-one_outcome o x y e f = cc
-
-module _ (p : Plan) (clients : List (List Task)) (outcomes : List (Option Outcome)) (es : List Event) (world : World p clients outcomes es) where
+module _ (p : Plan) (clients : List (List Task)) (outcomes : List (Option Outcome)) (broken : List ℕ) (orders : ℕ → Order) (es : List Event) (world : World p clients outcomes broken orders es) where
   pub task_of : (c : ℕ) (t : Task) → Asks clients c t → IsTask clients outcomes c t
   task_of c t a = (a.0, a.1, in_contains a.0 t a.2)
 
   pub asks_of : (c : ℕ) (t : Task) → IsTask clients outcomes c t → Asks clients c t
   asks_of c t a = (a.0, a.1, contains_in a.0 t a.2)
 
-  before : (e : Event) → In e es → BeforeIn p clients es e
-  before e m = cause_of p clients es world.good e m
+  before : (e : Event) → In e es → BeforeIn p clients broken es e
+  before e m = cause_of p clients broken es world.good e m
 
   -- a step of a task tells its outcome
-  pub tells_of : (c : ℕ) (t : Task) → (a : Asks clients c t) → (x : Entry) → In x (trace_of c t.number es) → Tells (world.final c t a).outcome x
-  tells_of c t a x m = all_in (Tells (world.final c t a).outcome) (trace_of c t.number es) x (world.final c t a).tells m
+  pub tells_of : (c : ℕ) (t : Task) → (a : Asks clients c t) → (x : Entry) → In x (trace_of c t.number es) → Tells t.op (world.final c t a).outcome x
+  tells_of c t a x m = all_in (Tells t.op (world.final c t a).outcome) (trace_of c t.number es) x (world.final c t a).tells m
 
   -- an `open` that made a life says so
   made_of : (c : ℕ) (t : Task) → Asks clients c t → (n k i found : ℕ) → t.op ≡ ops.Open n k → In (step (GiveBirth i k) found) (trace_of c t.number es) → Made clients outcomes n k i (vref_version found)
   made_of c t a n k i found e m = let f = world.final c t a in let q = tells_of c t a (step (GiveBirth i k) found) m in
-      record { client = c; task = t; is = task_of c t a; op = e; became = f.became ∙ ap (λ (o : Outcome). Some (Some o)) q }
+      record { client = c; task = t; is = task_of c t a; op = e; became = f.became ∙ ap (λ (o : Option Outcome). Some o) q }
 
   pub birth_made : (c o i k found : ℕ) → In (event c o (GiveBirth i k) found) es → (n : ℕ) × Made clients outcomes n k i (vref_version found)
   birth_made c o i k found m = let b = (before (event c o (GiveBirth i k) found) m).cause in let f = b.fits in
@@ -78,8 +79,9 @@ module _ (p : Plan) (clients : List (List Task)) (outcomes : List (Option Outcom
   pub made_event : (n k slot version : ℕ) (a : Made clients outcomes n k slot version) → (found x : ℕ) × In (event a.client a.task.number (GiveBirth slot k) found) es × (vref_version found ≡ version)
       × In (event a.client a.task.number (StoreName n (socket_id version slot + 1)) x) es
   made_event n k slot version a = let asks = asks_of a.client a.task a.is in let f = world.final a.client a.task asks in
-      let q : f.outcome ≡ Opened slot version k = one_outcome (slice_get outcomes a.task.number) f.outcome (Opened slot version k) f.became a.became in
-      let b : Because p.slots f.before (trace_of a.client a.task.number es) (ops.Open n k) (Opened slot version k) = subst (Because p.slots f.before (trace_of a.client a.task.number es) (ops.Open n k)) q (subst (λ z. Because p.slots f.before (trace_of a.client a.task.number es) z f.outcome) a.op f.because) in
+      let q : f.outcome ≡ Some (Opened slot version k) = one_said (slice_get outcomes a.task.number) f.outcome (Some (Opened slot version k)) f.became a.became in
+      let x : Explained p.slots p.requests f.before (trace_of a.client a.task.number es) a.task.op (Some (Opened slot version k)) = subst (Explained p.slots p.requests f.before (trace_of a.client a.task.number es) a.task.op) q f.explained in
+      let b : Because p.slots p.requests f.before (trace_of a.client a.task.number es) (ops.Open n k) (Opened slot version k) = subst (λ z. Because p.slots p.requests f.before (trace_of a.client a.task.number es) z (Opened slot version k)) a.op x.0 in
       (b.1, b.2, from_trace a.client a.task.number es (step (GiveBirth slot k) b.1) b.3, sym b.4, from_trace a.client a.task.number es (step (StoreName n (socket_id version slot + 1)) b.2) b.5)
 
   -- a life was made once
@@ -90,6 +92,10 @@ module _ (p : Plan) (clients : List (List Task)) (outcomes : List (Option Outcom
       let same : ex ≡ ey = once (λ (e : Event). added_by (is_born version) slot e) es ex ey (world.born_once slot inside version) x.2 y.2
       (birth_adds a.client a.task.number slot k x.0 version x.3) (birth_adds b.client b.task.number slot l y.0 version y.3) in
       let calls : GiveBirth slot k ≡ GiveBirth slot l = ap (λ (e : Event). e.entry.call) same in (ap (λ (e : Event). e.number) same, cc)
+
+  -- a life that was made with a link has it, and a name
+  pub given_made : (j h k : ℕ) → WasGiven es j h k → (n : ℕ) × Made clients outcomes n k j h
+  given_made j h k given = let g = marked_given es j h k given in let m = birth_made g.0 g.1 j k g.2 g.3 in (m.0, subst (λ z. Made clients outcomes m.0 k j z) g.4 m.1)
 
   -- ## Lives that were failed
 
@@ -108,7 +114,7 @@ module _ (p : Plan) (clients : List (List Task)) (outcomes : List (Option Outcom
     pub op : task.op ≡ ops.Fail name code
     pub life : Made clients outcomes name f.1 slot (vref_version found)
 
-  -- what a step that sets a life failed means, behind the part s of the story
+  -- what a step of a `fail` that sets a life failed means, behind the part s of the story
   pub record OddMeans (s : List Event) (c o i found : ℕ) (task : Task) : Type 0 where
     pub name : ℕ
     pub code : ℕ
@@ -120,20 +126,52 @@ module _ (p : Plan) (clients : List (List Task)) (outcomes : List (Option Outcom
     -- no step for the operation before it did so
     pub first : (j word : ℕ) → In (step (SetOdd j) word) (trace_of c o s) → ⊥
 
-  pub odd_means : (s : List Event) (c o i found : ℕ) → (cause : Cause p clients s (event c o (SetOdd i) found)) → ((x : Event) → In x s → In x es) → OddMeans s c o i found cause.task
-  odd_means s c o i found cause part = let f = cause.fits in let n : ℕ = f.0 in let id : ℕ = f.2 in let word : ℕ = f.3 in
+  -- and what that of a `send` means, whose link failed
+  pub record LinkMeans (s : List Event) (i found : ℕ) (task : Task) : Type 0 where
+    pub name : ℕ
+    pub bytes : List ℕ
+    pub op : task.op ≡ ops.Send name bytes
+    pub id : ℕ
+    pub link : ℕ
+    pub refused : In link broken
+    pub slot : i ≡ socket_id_slot id
+    pub odd : OddAt s i (socket_id_version id) found
+    pub given : WasGiven es i (socket_id_version id) link
+
+  pub odd_means : (s : List Event) (c o i found : ℕ) → (cause : Cause p clients broken s (event c o (SetOdd i) found)) → ((x : Event) → In x s → In x es) → FailsLife cause.task.op (trace_of c o s) i → OddMeans s c o i found cause.task
+  odd_means s c o i found cause part f = let n : ℕ = f.0 in let id : ℕ = f.2 in let word : ℕ = f.3 in
       let tr : List Entry = step (AddRef id) word ∷ step (LoadName n) (id + 1) ∷ [] in
       let load : In (event c o (LoadName n) (id + 1)) s = from_trace c o s (step (LoadName n) (id + 1)) (subst (In (step (LoadName n) (id + 1))) (sym f.5) (inr (inl refl))) in
-      let hold : Holding tr (λ id. i ≡ socket_id_slot id → OddAt s i (socket_id_version id) found) = subst (λ z. Holding z (λ id. i ≡ socket_id_slot id → OddAt s i (socket_id_version id) found)) f.5 cause.means in record {
+      let held : 0 < holds i (socket_id_version id) (trace_of c o s) = subst (λ z. 0 < holds z (socket_id_version id) (trace_of c o s)) (sym f.7)
+      (subst (λ z. 0 < holds (socket_id_slot id) (socket_id_version id) z) (sym f.5) (let a : holds (socket_id_slot id) (socket_id_version id) tr ≡ 1 + 0 = add_holds id word 0 f.6 in omega (arith, a))) in record {
         name = n;
         code = f.1;
         id = id;
         op = f.4;
         load = part (event c o (LoadName n) (id + 1)) load;
         slot = f.7;
-        odd = hold f.6 f.7;
+        odd = cause.means (socket_id_version id) held;
         first = λ j w k. ⊎_elim (λ e. let a : SetOdd j ≡ AddRef id = ap (λ (y : Entry). y.call) e in absurd (cc))
             (λ k. ⊎_elim (λ e. let a : SetOdd j ≡ LoadName n = ap (λ (y : Entry). y.call) e in absurd (cc)) (λ k. k) k) (subst (In (step (SetOdd j) w)) f.5 k);
+      }
+
+  -- more steps, and a life is still made with its link
+  given_later : (xs ys : List Event) → ((x : Event) → In x xs → In x ys) → (j h k : ℕ) → WasGiven xs j h k → WasGiven ys j h k
+  given_later xs ys part j h k given = let g = marked_given xs j h k given in given_by ys g.0 g.1 g.2 j h k (part (event g.0 g.1 (GiveBirth j k) g.2) g.3) g.4
+
+  pub link_means : (s : List Event) (c o i found : ℕ) → (cause : Cause p clients broken s (event c o (SetOdd i) found)) → ((x : Event) → In x s → In x es) → FailsLink cause.task broken (trace_of c o s) i → LinkMeans s i found cause.task
+  link_means s c o i found cause part f = let id : ℕ = f.0 in let k : ℕ = f.1 in let w = f.2 in
+      let find : In (event c o (FindLink (socket_id_slot id) (socket_id_version id)) k) es = part (event c o (FindLink (socket_id_slot id) (socket_id_version id)) k) (from_trace c o s (step (FindLink (socket_id_slot id) (socket_id_version id)) k) w.link) in
+      let b = before (event c o (FindLink (socket_id_slot id) (socket_id_version id)) k) find in record {
+        name = w.name;
+        bytes = w.bytes;
+        op = w.op;
+        id = id;
+        link = k;
+        refused = f.4;
+        slot = f.3;
+        odd = cause.means (socket_id_version id) (subst (λ z. 0 < holds z (socket_id_version id) (trace_of c o s)) (sym f.3) w.holds);
+        given = subst (λ z. WasGiven es z (socket_id_version id) k) (sym f.3) (given_later b.story es b.part (socket_id_slot id) (socket_id_version id) k b.cause.means);
       }
 
   -- the life that such a step failed, where it found it live
@@ -142,9 +180,10 @@ module _ (p : Plan) (clients : List (List Task)) (outcomes : List (Option Outcom
       (l.0, subst (λ z. Made clients outcomes m.name l.0 i z) (sym (m.odd.0 even)) (subst (λ z. Made clients outcomes m.name l.0 z (socket_id_version m.id)) (sym m.slot) l.1))
 
   -- a step that failed a life is of a task that was answered so
-  pub fail_says : (c o i found : ℕ) (t : Task) → (a : Asks clients c t) → t.number ≡ o → In (event c o (SetOdd i) found) es → vref_version found % 2 ≡ 0 → (world.final c t a).outcome ≡ Failed
-  fail_says c o i found t a e m even = let q = tells_of c t a (step (SetOdd i) found) (subst (λ z. In (step (SetOdd i) found) (trace_of c z es)) (sym e) (to_trace es (event c o (SetOdd i) found) m)) in
-      q ∙ ap (λ b. cond b Failed (Already (record { 0 = found }))) (eq-eqb (vref_version found % 2) 0 even)
+  pub fail_says : (c o i found name code : ℕ) (t : Task) → (a : Asks clients c t) → t.number ≡ o → t.op ≡ ops.Fail name code → In (event c o (SetOdd i) found) es → vref_version found % 2 ≡ 0 → (world.final c t a).outcome ≡ Some Failed
+  fail_says c o i found name code t a e op m even = let q = tells_of c t a (step (SetOdd i) found) (subst (λ z. In (step (SetOdd i) found) (trace_of c z es)) (sym e) (to_trace es (event c o (SetOdd i) found) m)) in
+      let r : (world.final c t a).outcome ≡ Some (fail_outcome found) = subst (λ z. TellsFail z (world.final c t a).outcome found) op q in
+      r ∙ ap (λ b. Some (cond b Failed (Already (record { 0 = found })))) (eq-eqb (vref_version found % 2) 0 even)
 
   pub fail_is : (f : ℕ × ℕ) → FailOf es f → IsFail clients outcomes f
   fail_is f x = let fin = world.final x.client x.task x.asks in record {
@@ -155,7 +194,7 @@ module _ (p : Plan) (clients : List (List Task)) (outcomes : List (Option Outcom
     name = x.name;
     code = x.code;
     op = x.op;
-    became = subst (λ z. slice_get outcomes z ≡ Some (Some Failed)) x.numbered (fin.became ∙ ap (λ (o : Outcome). Some (Some o)) (fail_says x.client f.0 x.slot x.found x.task x.asks x.numbered x.is x.even));
+    became = subst (λ z. slice_get outcomes z ≡ Some (Some Failed)) x.numbered (fin.became ∙ ap (λ (o : Option Outcome). Some o) (fail_says x.client f.0 x.slot x.found x.name x.code x.task x.asks x.numbered x.op x.is x.even));
     slot = x.slot;
     version = vref_version x.found;
     life = x.life;
@@ -165,7 +204,7 @@ module _ (p : Plan) (clients : List (List Task)) (outcomes : List (Option Outcom
   pub one_fail : (f g : ℕ × ℕ) (x : FailOf es f) (y : FailOf es g) → f.1 ≡ g.1 → event x.client f.0 (SetOdd x.slot) x.found ≡ event y.client g.0 (SetOdd y.slot) y.found
   one_fail f g x y e = let a = x.life in let b : Made clients outcomes y.name f.1 y.slot (vref_version y.found) = subst (λ z. Made clients outcomes y.name z y.slot (vref_version y.found)) (sym e) y.life in
       let same : a.task ≡ b.task = one_link p clients world.are a.client b.client x.name y.name f.1 a.task b.task (asks_of a.client a.task a.is) (asks_of b.client b.task b.is) a.op b.op in
-      let said = one_outcome (slice_get outcomes b.task.number) (Opened x.slot (vref_version x.found) f.1) (Opened y.slot (vref_version y.found) f.1) (subst (λ (z : Task). slice_get outcomes z.number ≡ Some (Some (Opened x.slot (vref_version x.found) f.1))) same a.became) b.became in
+      let said = one_said (slice_get outcomes b.task.number) (Some (Opened x.slot (vref_version x.found) f.1)) (Some (Opened y.slot (vref_version y.found) f.1)) (subst (λ (z : Task). slice_get outcomes z.number ≡ Some (Some (Opened x.slot (vref_version x.found) f.1))) same a.became) b.became in
       let slots : x.slot ≡ y.slot = cc in let versions : vref_version x.found ≡ vref_version y.found = cc in
       let h : ℕ = vref_version y.found in let ev = made_event x.name f.1 x.slot (vref_version x.found) a in let inside = (birth_means a.client a.task.number x.slot f.1 ev.0 ev.2).0 in
       let ex : Event = event x.client f.0 (SetOdd x.slot) x.found in let ey : Event = event y.client g.0 (SetOdd y.slot) y.found in

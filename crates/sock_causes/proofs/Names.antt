@@ -5,8 +5,8 @@ use native.Mathlib.Decide.{ℕ_discrete}
 use Rattle.sock_words.specs.Words.{socket_id_slot}
 use Rattle.sock_words.specs.declared.plain.Plan.{Plan}
 use Rattle.sock_model.specs.declared.view.View.{View}
-use Rattle.sock_model.specs.Layout.{tag_word, ref_word, link_word, head_word, code_word, name_word, open_word, all_words}
-use Rattle.sock_programs.specs.Calls.{Call, ClaimSlot, GiveBirth, AddRef, SubRef, SetOdd, Recycle, FreeSlot, StoreLink, LoadLink, ResetHead, WipeCode, StoreCode, StoreName, LoadName, StoreOpen, LoadOpen, TakeLink, FinishLink, PutLink}
+use Rattle.sock_model.specs.Layout.{tag_word, ref_word, link_word, head_word, code_word, name_word, open_word, request_word, next_word, place_word, all_words}
+use Rattle.sock_programs.specs.Calls.{Call, ClaimSlot, GiveBirth, AddRef, SubRef, SetOdd, Recycle, FreeSlot, StoreLink, LoadLink, ResetHead, WipeCode, StoreCode, StoreName, LoadName, StoreOpen, LoadOpen, TakeLink, FinishLink, PutLink, LookWord, FindLink, LoadCode, ClaimRequest, PutMessage, Unconnect, SwapHead, Connect, EmptyHead, ReadNext, TurnNext, FreeRequest, StorePlace, DropPlace}
 use Rattle.sock_programs.specs.Cores.{word_of, word_after, found_at, words_after}
 use Rattle.sock_runs.specs.May.{May}
 use Rattle.sock_causes.specs.Stories.{stored_by}
@@ -44,3 +44,17 @@ module _ (p : Plan) (v : View) (ws : List ℕ) (sized : length ws ≡ all_words 
   name_stays (TakeLink k) may = refl
   name_stays (FinishLink k) may = refl
   name_stays (PutLink k) may = refl
+  name_stays (LookWord id) may = else_ (ref_word (socket_id_slot id)) _ (λ e. omega (arith, may.0))
+  name_stays (FindLink i h) may = else_ (link_word i) _ (λ e. omega (arith, may.0))
+  name_stays (LoadCode i h) may = else_ (code_word i) _ (λ e. omega (arith, may.0))
+  name_stays (ClaimRequest id q) may = else_ (request_word p q) _ (λ e. omega arith)
+  name_stays (PutMessage q heading bytes) may = refl
+  name_stays (Unconnect q) may = else_ (next_word p q) _ (λ e. omega arith)
+  name_stays (SwapHead i own) may = else_ (head_word i) _ (λ e. omega (arith, may.0))
+  name_stays (Connect q before) may = else_ (next_word p q) _ (λ e. omega arith)
+  name_stays (EmptyHead i last) may = else_ (head_word i) _ (λ e. omega (arith, may.0))
+  name_stays (ReadNext q) may = else_ (next_word p q) _ (λ e. omega arith)
+  name_stays (TurnNext q value) may = else_ (next_word p q) _ (λ e. omega arith)
+  name_stays (FreeRequest q g) may = else_ (request_word p q) _ (λ e. omega arith)
+  name_stays (StorePlace l k m) may = else_ (place_word p l) _ (λ e. omega arith)
+  name_stays (DropPlace l k m) may = else_ (place_word p l) _ (λ e. omega arith)

@@ -1,62 +1,84 @@
 -- The parts that operations share explain what follows them.
-use Rattle.std.proofs.Common.{◌≡◌, ◌≢◌, ℕ, ◌+◌, ◌-◌, ◌%◌, Bool, true, false, ◌&&◌, List, [], ◌∷◌, inr, eqb, sym, subst, arith}
-use Rattle.std.specs.List.{AllByRecursion}
+use Rattle.std.proofs.Common.{◌≡◌, ◌≢◌, ℕ, ◌+◌, ◌-◌, ◌%◌, Bool, true, false, ◌&&◌, List, [], ◌∷◌, inr, eqb, sym, refl, ◌∙◌, subst, arith}
 use Rattle.std.specs.Prelude.{nat_le, if◌then◌else◌}
 use Rattle.sock_words.specs.Words.{socket_id_version, socket_id_slot, vref_version, vref_nref}
-use Rattle.sock_words.specs.declared.outcome.Outcome.{Outcome}
+use Rattle.sock_programs.specs.declared.task.Op.{Op}
 use Rattle.sock_programs.specs.declared.task.Task.{Task}
-use Rattle.sock_programs.specs.Calls.{SubRef, Recycle, FreeSlot, LoadLink, TakeLink, FinishLink, PutLink, AddRef, LoadName}
+use Rattle.sock_programs.specs.Calls.{Call, SubRef, Recycle, FreeSlot, LoadLink, TakeLink, FinishLink, PutLink, AddRef, LoadName, GiveBirth, SetOdd, SwapHead}
 use Rattle.sock_programs.specs.Programs.{Program, Do, LAST_VERSION, recycle, release, address, reach}
-use Rattle.sock_causes.specs.Stories.{Entry, In}
-use Rattle.sock_causes.specs.Explains.{Done, Explains, Tells, step}
+use Rattle.sock_causes.specs.Stories.{Entry}
+use Rattle.sock_causes.specs.Explains.{Done, Explains, Grew, step}
 use Rattle.sock_causes.proofs.Tests.{split, split_eq}
 
--- what was done is still done, and nothing was done since that tells an outcome
-abbrev pub Grew : List Entry → List Entry → Type 0
-Grew old new = ((x : Entry) → In x old → In x new) × ((outcome : Outcome) → AllByRecursion (Tells outcome) old → AllByRecursion (Tells outcome) new)
+-- ## Steps that tell nothing
 
-module _ (slots : ℕ) (done : List Done) where
+pub grew_same : (op : Op) (trace : List Entry) → Grew op trace trace
+grew_same op trace = record { has = λ x m. m; swap = refl; tells = λ o h. h }
+
+pub grew_on : (op : Op) (a b c : List Entry) → Grew op a b → Grew op b c → Grew op a c
+grew_on op a b c g h = record { has = λ x m. h.has x (g.has x m); swap = h.swap ∙ g.swap; tells = λ o t. h.tells o (g.tells o t) }
+
+-- a step that makes no life, fails none and exchanges no head
+abbrev pub IsMute : Call → Type 0
+IsMute (GiveBirth i k) = ⊥
+IsMute (SetOdd i) = ⊥
+IsMute (SwapHead i own) = ⊥
+IsMute other = Unit {0}
+
+pub mute_grew : (op : Op) (trace : List Entry) (call : Call) (found : ℕ) → IsMute call → Grew op trace (step call found ∷ trace)
+mute_grew op trace (GiveBirth i k) found mute = absurd mute
+mute_grew op trace (SetOdd i) found mute = absurd mute
+mute_grew op trace (SwapHead i own) found mute = absurd mute
+mute_grew op trace _ found mute = record { has = λ x m. inr m; swap = refl; tells = λ o h. (tt, h) }
+
+module _ (slots requests : ℕ) (broken : List ℕ) (done : List Done) where
   module _ (t : Task) (ts : List Task) where
     abbrev Goes : List Entry → Program → Type 0
-    Goes trace program = Explains slots done trace (t ∷ ts) program
+    Goes trace program = Explains slots requests broken done trace (t ∷ ts) program
 
-    pub recycle_goes : (trace : List Entry) (next : Bool → Program) → ((b : Bool) (tr : List Entry) → Grew trace tr → Goes tr (next b)) → (i from : ℕ) → Goes trace (recycle i from next)
-    recycle_goes trace next k i from = (
+    abbrev Follows : List Entry → (Bool → Program) → Type 0
+    Follows trace next = (b : Bool) (tr : List Entry) → Grew t.op trace tr → Goes tr (next b)
+
+    freed_goes : (trace : List Entry) (next : Bool → Program) → Follows trace next → (i n : ℕ) → (tr : List Entry) → Grew t.op trace tr → Goes tr (if nat_le n LAST_VERSION then Do (FreeSlot i) (λ _. next true) else next true)
+    freed_goes trace next k i n tr g = split (nat_le n LAST_VERSION) (Do (FreeSlot i) (λ _. next true)) (next true) (Goes tr)
+        (tt, λ d. k true (step (FreeSlot i) d ∷ tr) (grew_on t.op trace tr (step (FreeSlot i) d ∷ tr) g (mute_grew t.op tr (FreeSlot i) d tt)))
+        (k true tr g)
+
+    pub recycle_goes : (trace : List Entry) (next : Bool → Program) → Follows trace next → (i from : ℕ) (tr : List Entry) → Grew t.op trace tr → Goes tr (recycle i from next)
+    recycle_goes trace next k i from tr g = (
       tt,
-      λ found. split_eq found from (Do (LoadLink i (vref_version from + 1)) (λ l. Do (TakeLink l) (λ _. Do (FinishLink l) (λ _. Do (PutLink l) (λ _. if nat_le (vref_version from + 1) LAST_VERSION then Do (FreeSlot i) (λ _. next true) else next true))))) (next false)
-          (Goes (step (Recycle i from) found ∷ trace))
+      λ found. let one : List Entry = step (Recycle i from) found ∷ tr in let g₁ = grew_on t.op trace tr one g (mute_grew t.op tr (Recycle i from) found tt) in
+          split_eq found from (Do (LoadLink i (vref_version from + 1)) (λ l. Do (TakeLink l) (λ _. Do (FinishLink l) (λ _. Do (PutLink l) (λ _. if nat_le (vref_version from + 1) LAST_VERSION then Do (FreeSlot i) (λ _. next true) else next true))))) (next false)
+          (Goes one)
           (λ e. (
             tt,
-            λ l. (
+            λ l. let two : List Entry = step (LoadLink i (vref_version from + 1)) l ∷ one in let g₂ = grew_on t.op trace one two g₁ (mute_grew t.op one (LoadLink i (vref_version from + 1)) l tt) in (
               tt,
-              λ a. (
+              λ a. let three : List Entry = step (TakeLink l) a ∷ two in let g₃ = grew_on t.op trace two three g₂ (mute_grew t.op two (TakeLink l) a tt) in (
                 tt,
-                λ b. (
+                λ b. let four : List Entry = step (FinishLink l) b ∷ three in let g₄ = grew_on t.op trace three four g₃ (mute_grew t.op three (FinishLink l) b tt) in (
                   tt,
-                  λ c. let now : List Entry = step (PutLink l) c ∷ step (FinishLink l) b ∷ step (TakeLink l) a ∷ step (LoadLink i (vref_version from + 1)) l ∷ step (Recycle i from) found ∷ trace in
-                      split (nat_le (vref_version from + 1) LAST_VERSION) (Do (FreeSlot i) (λ _. next true)) (next true) (Goes now)
-                      (tt, λ d. k true (step (FreeSlot i) d ∷ now) ((λ x m. inr (inr (inr (inr (inr (inr m)))))), λ o h. (tt, (tt, (tt, (tt, (tt, (tt, h))))))))
-                      (k true now ((λ x m. inr (inr (inr (inr (inr m))))), λ o h. (tt, (tt, (tt, (tt, (tt, h))))))),
+                  λ c. freed_goes trace next k i (vref_version from + 1) (step (PutLink l) c ∷ four) (grew_on t.op trace four (step (PutLink l) c ∷ four) g₄ (mute_grew t.op four (PutLink l) c tt)),
                 ),
               ),
             ),
-          )
-          )
-          (λ n. k false (step (Recycle i from) found ∷ trace) ((λ x m. inr m), λ o h. (tt, h))),
+          ))
+          (λ n. k false one g₁),
     )
 
-    pub release_goes : (trace : List Entry) (next : Bool → Program) → ((b : Bool) (tr : List Entry) → Grew trace tr → Goes tr (next b)) → (i : ℕ) → Goes trace (release i next)
+    pub release_goes : (trace : List Entry) (next : Bool → Program) → Follows trace next → (i : ℕ) → Goes trace (release i next)
     release_goes trace next k i = (
       tt,
-      λ found. split (eqb (vref_version found % 2) 1 && eqb (vref_nref found) 1) (recycle i (found - 1) next) (next false) (Goes (step (SubRef i) found ∷ trace))
-          (recycle_goes (step (SubRef i) found ∷ trace) next (λ b tr g. k b tr ((λ x m. g.0 x (inr m)), λ o h. g.1 o (tt, h))) i (found - 1))
-          (k false (step (SubRef i) found ∷ trace) ((λ x m. inr m), λ o h. (tt, h))),
+      λ found. let one : List Entry = step (SubRef i) found ∷ trace in let g = mute_grew t.op trace (SubRef i) found tt in
+          split (eqb (vref_version found % 2) 1 && eqb (vref_nref found) 1) (recycle i (found - 1) next) (next false) (Goes one)
+          (recycle_goes trace next k i (found - 1) one g)
+          (k false one g),
     )
 
     pub reach_goes : (name : ℕ) (unopened : Program) (held : ℕ → Program) (gone : ℕ → Program)
         → Goes (step (LoadName name) 0 ∷ []) unopened
         → ((id found : ℕ) → vref_version found ≡ socket_id_version id → Goes (step (AddRef id) found ∷ step (LoadName name) (id + 1) ∷ []) (held id))
-        → ((id found : ℕ) (tr : List Entry) → vref_version found ≢ socket_id_version id → Grew (step (AddRef id) found ∷ step (LoadName name) (id + 1) ∷ []) tr → Goes tr (gone found))
+        → ((id found : ℕ) (tr : List Entry) → vref_version found ≢ socket_id_version id → Grew t.op (step (AddRef id) found ∷ step (LoadName name) (id + 1) ∷ []) tr → Goes tr (gone found))
         → Goes [] (reach name unopened held gone)
     reach_goes name unopened held gone u h g = (
       tt,
@@ -74,7 +96,7 @@ module _ (slots : ℕ) (done : List Done) where
         )
 
   abbrev Ends : List Entry → Program → Type 0
-  Ends trace program = Explains slots done trace [] program
+  Ends trace program = Explains slots requests broken done trace [] program
 
   -- behind the last task
   pub recycle_ends : (trace : List Entry) (next : Bool → Program) → ((b : Bool) → Ends trace (next b)) → (i from : ℕ) → Ends trace (recycle i from next)

@@ -1,22 +1,27 @@
 -- What a step makes of a seat's part of the story.
-use Rattle.std.proofs.Common.{◌≡◌, ◌≢◌, ℕ, ◌<◌, ◌≤◌, List, [], ◌∷◌, length, set, length-set, inl, inr, ⊎_elim, sym, refl, ap, ◌∙◌, subst, arith}
-use Rattle.std.specs.Prelude.{Option, Some, slice_get}
+use Rattle.std.proofs.Common.{◌≡◌, ◌≢◌, ℕ, ◌+◌, ◌<◌, ◌≤◌, Bool, true, false, List, [], ◌∷◌, length, set, length-set, inl, inr, ⊎_elim, sym, refl, ap, ◌∙◌, subst, arith}
+use Rattle.std.specs.Prelude.{Option, Some, None, slice_get}
 use Rattle.std.specs.List.{AllByRecursion}
 use Rattle.brpc_model.specs.Order.{EachBefore}
 use Rattle.sock_words.specs.Words.{socket_id_version, socket_id_slot}
+use Rattle.sock_words.specs.declared.plain.Plan.{Plan}
 use Rattle.sock_words.specs.declared.outcome.Outcome.{Outcome}
+use Rattle.sock_model.specs.declared.chain.Claim.{Claim}
+use Rattle.sock_model.specs.declared.chain.Entry as chain
 use Rattle.sock_model.specs.declared.view.View.{View}
-use Rattle.sock_model.specs.Weights.{is_hold}
+use Rattle.sock_model.specs.Weights.{is_hold, is_linked}
 use Rattle.sock_model.specs.SlotRows.{marks_of}
 use Rattle.sock_programs.specs.declared.task.Task.{Task}
 use Rattle.sock_programs.specs.Calls.{Call}
-use Rattle.sock_programs.specs.Programs.{Program, Do, Say, Rest}
+use Rattle.sock_programs.specs.Programs.{Program, Do, Say, Sent, Rest, TakeMessage, TakeHome, PutHome, PutBytes, AskReady, Write}
 use Rattle.sock_programs.specs.Cores.{said, next_step}
-use Rattle.sock_causes.specs.Stories.{Entry, Event, In, trace_of, trace_now, told_of}
-use Rattle.sock_causes.specs.Explains.{Done, Because, Tells, Explains, step}
-use Rattle.sock_causes.specs.Causes.{Holding}
-use Rattle.sock_causes.specs.Kept.{undo, AreKept, SeatAt, SeatStory}
+use Rattle.sock_causes.specs.Stories.{Entry, Event, In, trace_of, trace_now, told_of, added_by, marked}
+use Rattle.sock_causes.specs.Explains.{Done, Explained, Tells, Explains, holds, swapped, step}
+use Rattle.sock_causes.specs.Causes.{WasGiven}
+use Rattle.sock_causes.specs.Kept.{undo, AreKept, IsOfTask, EndsIn, AreMade, AreMadeNow, AreClaims, SeatAt, SeatStory}
 use Rattle.sock_causes.proofs.Members.{all_in, all_of, get_set_here, get_set_else, trace_here, trace_client, trace_number, trace_none}
+use Rattle.sock_causes.proofs.Sending.{Within}
+use Rattle.sock_causes.proofs.Broken.{explains_more}
 
 abbrev pub Less : Task → Task → Type 0
 Less a b = a.number < b.number
@@ -44,91 +49,233 @@ undo_done (x ∷ ds) todo d (inr m) = undo_done ds (x.task ∷ todo) d m
 -- ## What is said
 
 pub length_said : (q : Program) (os : List (Option Outcome)) → length (said q os) ≡ length os
-length_said (Do call next) os = refl
-length_said Rest os = refl
 length_said (Say o outcome more) os = length_said more (set os o (Some outcome)) ∙ length-set os o (Some outcome)
+length_said (Sent o more) os = length_said more os
+length_said _ os = refl
 
 -- other operations keep their outcomes
-pub said_else : (slots : ℕ) (q : Program) (done : List Done) (trace : List Entry) (todo : List Task) (os : List (Option Outcome)) (j : ℕ) → Explains slots done trace todo q → AllByRecursion (λ (t : Task). t.number ≢ j) todo → slice_get (said q os) j ≡ slice_get os j
-said_else slots (Do call next) done trace todo os j x h = refl
-said_else slots Rest done trace todo os j x h = refl
-said_else slots (Say o outcome more) done trace [] os j x h = absurd x
-said_else slots (Say o outcome more) done trace (t ∷ ts) os j x h = said_else slots more (record { task = t; outcome = outcome } ∷ done) [] ts (set os o (Some outcome)) j x.3 h.1
+pub said_else : (slots requests : ℕ) (q : Program) (broken : List ℕ) (done : List Done) (trace : List Entry) (todo : List Task) (os : List (Option Outcome)) (j : ℕ) → Explains slots requests broken done trace todo q
+    → AllByRecursion (λ (t : Task). t.number ≢ j) todo → slice_get (said q os) j ≡ slice_get os j
+said_else slots requests (Say o outcome more) broken done trace [] os j x h = absurd x
+said_else slots requests (Say o outcome more) broken done trace (t ∷ ts) os j x h = said_else slots requests more broken (record { task = t; outcome = Some outcome } ∷ done) [] ts (set os o (Some outcome)) j x.3 h.1
     ∙ get_set_else os o j (Some outcome) (λ e. h.0 (sym x.0 ∙ e))
+said_else slots requests (Sent o more) broken done trace [] os j x h = absurd x
+said_else slots requests (Sent o more) broken done trace (t ∷ ts) os j x h = said_else slots requests more broken (record { task = t; outcome = None } ∷ done) [] ts os j x.3 h.1
+said_else slots requests _ broken done trace todo os j x h = refl
 
 nothing_now : (c : ℕ) (es : List Event) (t : Task) (todo : List Task) → AllByRecursion (Less t) todo → ((e : Event) → In e es → e.client ≡ c → e.number ≤ t.number) → trace_now c todo es ≡ []
 nothing_now c es t [] after past = refl
 nothing_now c es t (u ∷ us) after past = trace_none c u.number es (λ e m p q. omega (arith, after.0, past e m p))
 
-module _ (slots : ℕ) (es : List Event) (c : ℕ) (tasks : List Task) (order : EachBefore Less tasks) (v : View) where
+-- no step is made for the next task yet
+pub no_claims : (es : List Event) (claims : List Claim) → AreClaims es [] claims
+no_claims es claims = record { new = λ x id q found before a b. absurd (cc); filled = λ x id q found word heading bytes before a b. absurd (cc); marked = λ x id q found word next heading bytes before a b. absurd (cc) }
+
+-- the messages of the tasks done, before the next task
+made_next : (es : List Event) (c : ℕ) (done : List Done) (todo : List Task) (made : List chain.Entry) → trace_now c todo es ≡ [] → AreMade es c done made → AreMadeNow es c done todo made
+made_next es c done [] made none_ m = m
+made_next es c done (t ∷ ts) made none_ m = (made, subst (λ z. EndsIn es c t made made (swapped z)) (sym none_) refl, m)
+
+module _ (p : Plan) (es : List Event) (broken : List ℕ) (c : ℕ) (tasks : List Task) (order : EachBefore Less tasks) (v : View) where
+  -- the task at hand is done, with this outcome or none
+  module _ (outcome : Option Outcome) (os os' : List (Option Outcome)) (done : List Done) (t : Task) (ts : List Task) (program more : Program) (s : SeatAt p es broken os c tasks done (t ∷ ts) program v)
+      (explained : Explained p.slots p.requests done (trace_of c t.number es) t.op outcome × AllByRecursion (Tells t.op outcome) (trace_of c t.number es))
+      (here : slice_get os' t.number ≡ Some outcome) (others : (j : ℕ) → t.number ≢ j → slice_get os' j ≡ slice_get os j)
+      (explains : Explains p.slots p.requests broken (record { task = t; outcome = outcome } ∷ done) [] ts more) where
+    abbrev d : Done
+    d = record { task = t; outcome = outcome }
+
+    task_done : SeatAt p es broken os' c tasks (d ∷ done) ts more v
+    task_done = let sorted : EachBefore Less (undo done (t ∷ ts)) = subst (EachBefore Less) s.all order in
+        let before = undo_before Less done (t ∷ ts) sorted in let later = (undo_todo Less done (t ∷ ts) sorted).0 in
+        let none_ = nothing_now c es t ts later (λ e m p. (s.past e m p).0) in record {
+          all = s.all;
+          became = (
+            here,
+            all_of (λ (y : Done). slice_get os' y.task.number ≡ Some y.outcome) done (λ y m. others y.task.number (λ e. let a = (all_in (λ (z : Done). AllByRecursion (Less z.task) (t ∷ ts)) done y before m).0 in omega (arith, e, a))
+                ∙ all_in (λ (y : Done). slice_get os y.task.number ≡ Some y.outcome) done y s.became m),
+          );
+          unsaid = all_of (λ (u : Task). slice_get os' u.number ≡ Some None) ts (λ u m. others u.number (λ e. let a = all_in (Less t) ts u later m in omega (arith, e, a)) ∙ all_in (λ (u : Task). slice_get os u.number ≡ Some None) ts u s.unsaid.1 m);
+          kept = (explained.0, explained.1, s.kept);
+          past = λ e m p. (s.past e m p).1;
+          explains = subst (λ z. Explains p.slots p.requests broken (d ∷ done) z ts more) (sym none_) explains;
+          holding = λ i h. subst (λ z. holds i h z ≤ marks_of (is_hold h) i v) (sym none_) (omega arith);
+          claims = subst (λ z. AreClaims es z v.claims) (sym none_) (no_claims es v.claims);
+          made = s.made;
+          lists = s.lists;
+          are_made = made_next es c (d ∷ done) ts s.made none_ s.are_made;
+        }
+
   -- the outcomes that come before the next step are said
-  pub after_say : (q : Program) (os : List (Option Outcome)) (done : List Done) (todo : List Task) → AllByRecursion (λ (t : Task). t.number < length os) todo → SeatAt slots es os c tasks done todo q v → SeatStory slots es (said q os) c tasks (next_step q) v
+  pub after_say : (q : Program) (os : List (Option Outcome)) (done : List Done) (todo : List Task) → AllByRecursion (λ (t : Task). t.number < length os) todo → SeatAt p es broken os c tasks done todo q v
+      → SeatStory p es broken (said q os) c tasks (next_step q) v
+  after_say (Say o outcome more) os done [] fit s = absurd s.explains
+  after_say (Say o outcome more) os done (t ∷ ts) fit s = let x = s.explains in let d : Done = record { task = t; outcome = Some outcome } in let os' : List (Option Outcome) = set os o (Some outcome) in
+      after_say more os' (d ∷ done) ts (all_of (λ (u : Task). u.number < length os') ts (λ u m. let a = all_in (λ (u : Task). u.number < length os) ts u fit.1 m in omega (arith, length-set os o (Some outcome))))
+      (task_done (Some outcome) os os' done t ts (Say o outcome more) more s (x.1, x.2)
+      (subst (λ z. slice_get (set os z (Some outcome)) t.number ≡ Some (Some outcome)) (sym x.0) (get_set_here os t.number (Some outcome) fit.0))
+      (λ j ne. get_set_else os o j (Some outcome) (λ e. ne (sym x.0 ∙ e))) x.3)
+  after_say (Sent o more) os done [] fit s = absurd s.explains
+  after_say (Sent o more) os done (t ∷ ts) fit s = let x = s.explains in let d : Done = record { task = t; outcome = None } in
+      after_say more os (d ∷ done) ts fit.1 (task_done None os os done t ts (Sent o more) more s (x.1, x.2) s.unsaid.0 (λ j ne. refl) x.3)
   after_say (Do call next) os done todo fit s = (done, todo, s)
   after_say Rest os done todo fit s = (done, todo, s)
-  after_say (Say o outcome more) os done [] fit s = absurd s.explains
-  after_say (Say o outcome more) os done (t ∷ ts) fit s = let d : Done = record { task = t; outcome = outcome } in let x = s.explains in
-      let sorted : EachBefore Less (undo done (t ∷ ts)) = subst (EachBefore Less) s.all order in
-      let before = undo_before Less done (t ∷ ts) sorted in let later = (undo_todo Less done (t ∷ ts) sorted).0 in
-      let none_ = nothing_now c es t ts later (λ e m p. (s.past e m p).0) in
-      let os' : List (Option Outcome) = set os o (Some outcome) in
-      after_say more os' (d ∷ done) ts (all_of (λ (u : Task). u.number < length os') ts (λ u m. let a = all_in (λ (u : Task). u.number < length os) ts u fit.1 m in omega (arith, length-set os o (Some outcome)))) record {
-        all = s.all;
-        became = (
-          subst (λ z. slice_get (set os z (Some outcome)) t.number ≡ Some (Some outcome)) (sym x.0) (get_set_here os t.number (Some outcome) fit.0),
-          all_of (λ (y : Done). slice_get os' y.task.number ≡ Some (Some y.outcome)) done (λ y m. get_set_else os o y.task.number (Some outcome) (λ e. let a = (all_in (λ (z : Done). AllByRecursion (Less z.task) (t ∷ ts)) done y before m).0 in omega (arith, x.0))
-              ∙ all_in (λ (y : Done). slice_get os y.task.number ≡ Some (Some y.outcome)) done y s.became m),
-        );
-        kept = (x.1, x.2, s.kept);
-        past = λ e m p. (s.past e m p).1;
-        explains = subst (λ z. Explains slots (d ∷ done) z ts more) (sym none_) x.3;
-        holding = subst (λ z. Holding z (λ id. 0 < marks_of (is_hold (socket_id_version id)) (socket_id_slot id) v)) (sym none_) tt;
-      }
+  after_say (TakeMessage q next) os done todo fit s = (done, todo, s)
+  after_say (TakeHome k next) os done todo fit s = (done, todo, s)
+  after_say (PutHome k n after) os done todo fit s = (done, todo, s)
+  after_say (PutBytes k asked bytes next) os done todo fit s = (done, todo, s)
+  after_say (AskReady k next) os done todo fit s = (done, todo, s)
+  after_say (Write w after) os done todo fit s = (done, todo, s)
+
+-- ## What stays
+
+-- a life that was made with a link is so with more steps
+pub given_more : (e : Event) (es : List Event) (i h k : ℕ) → WasGiven es i h k → WasGiven (e ∷ es) i h k
+given_more e es i h k g = let n : ℕ = added_by (is_linked h k) i e in let m : ℕ = marked (is_linked h k) i es in omega arith
+
+module _ (old fresh : List Event) (c : ℕ) (given : (i h k : ℕ) → WasGiven old i h k → WasGiven fresh i h k) where
+  -- the message of a task whose steps are the same
+  of_task_same : (t : Task) (e : chain.Entry) → trace_of c t.number fresh ≡ trace_of c t.number old → IsOfTask old c t e → IsOfTask fresh c t e
+  of_task_same t e same x = record { heading = x.heading; name = x.name; op = x.op; id = x.id; load = subst (In (step _ (x.id + 1))) (sym same) x.load; link = given (socket_id_slot x.id) (socket_id_version x.id) e.link x.link }
+
+  ends_same : (t : Task) (before made : List chain.Entry) (b : Bool) → trace_of c t.number fresh ≡ trace_of c t.number old → EndsIn old c t before made b → EndsIn fresh c t before made b
+  ends_same t before made true same x = (x.0, x.1, of_task_same t x.0 same x.2)
+  ends_same t before made false same x = x
+
+  pub made_same : (done : List Done) (made : List chain.Entry) → AllByRecursion (λ (d : Done). trace_of c d.task.number fresh ≡ trace_of c d.task.number old) done → AreMade old c done made → AreMade fresh c done made
+  made_same [] made same m = m
+  made_same (d ∷ ds) made same m = (
+    m.0,
+    subst (λ z. EndsIn fresh c d.task m.0 made (swapped z)) (sym same.0) (ends_same d.task m.0 made (swapped (trace_of c d.task.number old)) same.0 m.1),
+    made_same ds m.0 same.1 m.2,
+  )
+
+  pub made_now_same : (done : List Done) (todo : List Task) (made : List chain.Entry) → AllByRecursion (λ (d : Done). trace_of c d.task.number fresh ≡ trace_of c d.task.number old) done → trace_now c todo fresh ≡ trace_now c todo old
+      → AreMadeNow old c done todo made → AreMadeNow fresh c done todo made
+  made_now_same done [] made same now m = made_same done made same m
+  made_now_same done (t ∷ ts) made same now m = (m.0, subst (λ z. EndsIn fresh c t m.0 made (swapped z)) (sym now) (ends_same t m.0 made (swapped (trace_of c t.number old)) now m.1), made_same done m.0 same m.2)
+
+  pub claims_same : (trace : List Entry) (claims : List Claim) → AreClaims old trace claims → AreClaims fresh trace claims
+  claims_same trace claims a = record {
+    new = λ x id q found before e f even. given (socket_id_slot id) (socket_id_version id) x.link (a.new x id q found before e f even);
+    filled = λ x id q found word heading bytes before e f even. let y = a.filled x id q found word heading bytes before e f even in (given (socket_id_slot id) (socket_id_version id) x.link y.0, y.1, y.2);
+    marked = λ x id q found word next heading bytes before e f even. let y = a.marked x id q found word next heading bytes before e f even in (given (socket_id_slot id) (socket_id_version id) x.link y.0, y.1, y.2);
+  }
 
 -- the steps of the tasks done are the same
-kept_same : (slots : ℕ) (old fresh : List Event) (c : ℕ) (done : List Done) → AllByRecursion (λ (d : Done). trace_of c d.task.number fresh ≡ trace_of c d.task.number old) done → AreKept slots old c done → AreKept slots fresh c done
-kept_same slots old fresh c [] same k = tt
-kept_same slots old fresh c (d ∷ ds) same k = (subst (λ z. Because slots ds z d.task.op d.outcome) (sym same.0) k.0, subst (AllByRecursion (Tells d.outcome)) (sym same.0) k.1, kept_same slots old fresh c ds same.1 k.2)
+kept_same : (slots requests : ℕ) (old fresh : List Event) (c : ℕ) (done : List Done) → AllByRecursion (λ (d : Done). trace_of c d.task.number fresh ≡ trace_of c d.task.number old) done → AreKept slots requests old c done → AreKept slots requests fresh c done
+kept_same slots requests old fresh c [] same k = tt
+kept_same slots requests old fresh c (d ∷ ds) same k = (
+  subst (λ z. Explained slots requests ds z d.task.op d.outcome) (sym same.0) k.0,
+  subst (AllByRecursion (Tells d.task.op d.outcome)) (sym same.0) k.1,
+  kept_same slots requests old fresh c ds same.1 k.2,
+)
 
-module _ (slots : ℕ) (es : List Event) (os : List (Option Outcome)) where
+module _ (p : Plan) (es : List Event) (broken more : List ℕ) (within : Within broken more) (os : List (Option Outcome)) where
+  -- the outcomes of a client's tasks stay
+  module _ (os' : List (Option Outcome)) (tasks : List Task) (done : List Done) (todo : List Task) (same : (t : Task) → In t (undo done todo) → slice_get os' t.number ≡ slice_get os t.number) where
+    became_same : AllByRecursion (λ (d : Done). slice_get os d.task.number ≡ Some d.outcome) done → AllByRecursion (λ (d : Done). slice_get os' d.task.number ≡ Some d.outcome) done
+    became_same b = all_of (λ (x : Done). slice_get os' x.task.number ≡ Some x.outcome) done (λ x m. same x.task (undo_done done todo x m) ∙ all_in (λ (x : Done). slice_get os x.task.number ≡ Some x.outcome) done x b m)
+
+    unsaid_same : AllByRecursion (λ (t : Task). slice_get os t.number ≡ Some None) todo → AllByRecursion (λ (t : Task). slice_get os' t.number ≡ Some None) todo
+    unsaid_same b = all_of (λ (t : Task). slice_get os' t.number ≡ Some None) todo (λ t m. same t (undo_in done todo t m) ∙ all_in (λ (t : Task). slice_get os t.number ≡ Some None) todo t b m)
+
   -- a step of another client
   pub seat_else : (c d : ℕ) → c ≢ d → (new_todo : List Task) (entry : Entry) (tasks : List Task) (done : List Done) (todo : List Task) (program : Program) (v : View) (os' : List (Option Outcome))
-      → AllByRecursion (λ (x : Done). slice_get os' x.task.number ≡ slice_get os x.task.number) done
-      → SeatAt slots es os d tasks done todo program v → SeatAt slots (told_of c new_todo entry es) os' d tasks done todo program v
+      → ((t : Task) → In t (undo done todo) → slice_get os' t.number ≡ slice_get os t.number)
+      → SeatAt p es broken os d tasks done todo program v → SeatAt p (told_of c new_todo entry es) more os' d tasks done todo program v
   seat_else c d ne [] entry tasks done todo program v os' same s = record {
     all = s.all;
-    became = all_of (λ (x : Done). slice_get os' x.task.number ≡ Some (Some x.outcome)) done (λ x m. all_in (λ (x : Done). slice_get os' x.task.number ≡ slice_get os x.task.number) done x same m ∙ all_in (λ (x : Done). slice_get os x.task.number ≡ Some (Some x.outcome)) done x s.became m);
+    became = became_same os' tasks done todo same s.became;
+    unsaid = unsaid_same os' tasks done todo same s.unsaid;
     kept = s.kept;
     past = s.past;
-    explains = s.explains;
+    explains = explains_more p.slots p.requests program broken more done (trace_now d todo es) todo within s.explains;
     holding = s.holding;
+    claims = s.claims;
+    made = s.made;
+    lists = s.lists;
+    are_made = s.are_made;
   }
   seat_else c d ne (n ∷ ns) entry tasks done todo program v os' same s = let e : Event = record { client = c; number = n.number; entry = entry } in
-      let now : trace_now d todo (e ∷ es) ≡ trace_now d todo es = unchanged todo in record {
+      let now : trace_now d todo (e ∷ es) ≡ trace_now d todo es = unchanged todo in
+      let past_same = all_of (λ (x : Done). trace_of d x.task.number (e ∷ es) ≡ trace_of d x.task.number es) done (λ x m. trace_client d x.task.number e es ne) in record {
         all = s.all;
-        became = all_of (λ (x : Done). slice_get os' x.task.number ≡ Some (Some x.outcome)) done (λ x m. all_in (λ (x : Done). slice_get os' x.task.number ≡ slice_get os x.task.number) done x same m ∙ all_in (λ (x : Done). slice_get os x.task.number ≡ Some (Some x.outcome)) done x s.became m);
-        kept = kept_same slots es (e ∷ es) d done (all_of (λ (x : Done). trace_of d x.task.number (e ∷ es) ≡ trace_of d x.task.number es) done (λ x m. trace_client d x.task.number e es ne)) s.kept;
+        became = became_same os' tasks done todo same s.became;
+        unsaid = unsaid_same os' tasks done todo same s.unsaid;
+        kept = kept_same p.slots p.requests es (e ∷ es) d done past_same s.kept;
         past = λ y m p. ⊎_elim (λ q. absurd (ne (sym (ap (λ (z : Event). z.client) q) ∙ p))) (λ m. s.past y m p) m;
-        explains = subst (λ z. Explains slots done z todo program) (sym now) s.explains;
-        holding = subst (λ z. Holding z (λ id. 0 < marks_of (is_hold (socket_id_version id)) (socket_id_slot id) v)) (sym now) s.holding;
+        explains = subst (λ z. Explains p.slots p.requests more done z todo program) (sym now) (explains_more p.slots p.requests program broken more done (trace_now d todo es) todo within s.explains);
+        holding = λ i h. subst (λ z. holds i h z ≤ marks_of (is_hold h) i v) (sym now) (s.holding i h);
+        claims = subst (λ z. AreClaims (e ∷ es) z v.claims) (sym now) (claims_same es (e ∷ es) d (given_more e es) (trace_now d todo es) v.claims s.claims);
+        made = s.made;
+        lists = s.lists;
+        are_made = made_now_same es (e ∷ es) d (given_more e es) done todo s.made past_same now s.are_made;
       }
     where
       unchanged : (todo : List Task) → trace_now d todo ((record { client = c; number = n.number; entry = entry }) ∷ es) ≡ trace_now d todo es
       unchanged [] = refl
       unchanged (t ∷ ts) = trace_client d t.number (record { client = c; number = n.number; entry = entry }) es ne
 
-  -- a step of this client
-  pub seat_step : (c : ℕ) (tasks : List Task) → EachBefore Less tasks → (done : List Done) (todo : List Task) (call : Call) (next : ℕ → Program) (v w : View) (found : ℕ)
-      → Holding (step call found ∷ []) (λ id. 0 < marks_of (is_hold (socket_id_version id)) (socket_id_slot id) w)
-      → SeatAt slots es os c tasks done todo (Do call next) v → SeatAt slots (told_of c todo (step call found) es) os c tasks done todo (next found) w
-  seat_step c tasks order done [] call next v w found hold s = record { all = s.all; became = s.became; kept = s.kept; past = s.past; explains = s.explains.1 found; holding = tt }
-  seat_step c tasks order done (t ∷ ts) call next v w found hold s = let e : Event = record { client = c; number = t.number; entry = step call found } in
-      let sorted : EachBefore Less (undo done (t ∷ ts)) = subst (EachBefore Less) s.all order in
-      let before = undo_before Less done (t ∷ ts) sorted in let later = (undo_todo Less done (t ∷ ts) sorted).0 in
-      let here = trace_here c t.number e es refl refl in record {
-        all = s.all;
-        became = s.became;
-        kept = kept_same slots es (e ∷ es) c done (all_of (λ (x : Done). trace_of c x.task.number (e ∷ es) ≡ trace_of c x.task.number es) done (λ x m. trace_number c x.task.number e es (λ q. let a = (all_in (λ (z : Done). AllByRecursion (Less z.task) (t ∷ ts)) done x before m).0 in omega arith))) s.kept;
-        past = λ y m p. ⊎_elim (λ q. let n : y.number ≡ t.number = ap (λ (z : Event). z.number) q in (omega arith, all_of (λ (u : Task). y.number ≤ u.number) ts (λ u k. let a = all_in (Less t) ts u later k in omega arith))) (λ m. s.past y m p) m;
-        explains = subst (λ z. Explains slots done z (t ∷ ts) (next found)) (sym here) (s.explains.1 found);
-        holding = subst (λ z. Holding z (λ id. 0 < marks_of (is_hold (socket_id_version id)) (socket_id_slot id) w)) (sym here) hold;
-      }
+  -- a move or a put of this client, which changes its right alone
+  pub seat_moves : (c : ℕ) (tasks : List Task) (done : List Done) (todo : List Task) (program next : Program) (v w : View) → w.marks ≡ v.marks → w.claims ≡ v.claims → w.lists ≡ v.lists
+      → Explains p.slots p.requests more done (trace_now c todo es) todo next → SeatAt p es broken os c tasks done todo program v → SeatAt p es more os c tasks done todo next w
+  seat_moves c tasks done todo program next v w marks claims lists explains s = record {
+    all = s.all;
+    became = s.became;
+    unsaid = s.unsaid;
+    kept = s.kept;
+    past = s.past;
+    explains = explains;
+    holding = λ i h. subst (λ ms. holds i h (trace_now c todo es) ≤ marks_of (is_hold h) i (record w { marks = ms })) (sym marks) (s.holding i h);
+    claims = subst (AreClaims es (trace_now c todo es)) (sym claims) s.claims;
+    made = s.made;
+    lists = lists ∙ s.lists;
+    are_made = s.are_made;
+  }
+
+-- a step of this client
+module _ (p : Plan) (es : List Event) (broken : List ℕ) (os : List (Option Outcome)) (c : ℕ) (tasks : List Task) (order : EachBefore Less tasks) (done : List Done) (call : Call) (next : ℕ → Program) (v w : View) (found : ℕ) where
+  -- behind the last task
+  pub seat_ends : SeatAt p es broken os c tasks done [] (Do call next) v → w.lists ≡ v.lists → SeatAt p es broken os c tasks done [] (next found) w
+  seat_ends s lists = record {
+    all = s.all;
+    became = s.became;
+    unsaid = s.unsaid;
+    kept = s.kept;
+    past = s.past;
+    explains = s.explains.1 found;
+    holding = λ i h. omega arith;
+    claims = no_claims es w.claims;
+    made = s.made;
+    lists = lists ∙ s.lists;
+    are_made = s.are_made;
+  }
+
+  module _ (t : Task) (ts : List Task) (s : SeatAt p es broken os c tasks done (t ∷ ts) (Do call next) v) where
+    abbrev pub this_event : Event
+    this_event = record { client = c; number = t.number; entry = step call found }
+
+    -- the traces of the tasks done stay
+    pub done_same : AllByRecursion (λ (x : Done). trace_of c x.task.number (this_event ∷ es) ≡ trace_of c x.task.number es) done
+    done_same = let sorted : EachBefore Less (undo done (t ∷ ts)) = subst (EachBefore Less) s.all order in let before = undo_before Less done (t ∷ ts) sorted in
+        all_of (λ (x : Done). trace_of c x.task.number (this_event ∷ es) ≡ trace_of c x.task.number es) done
+        (λ x m. trace_number c x.task.number this_event es (λ q. let a = (all_in (λ (z : Done). AllByRecursion (Less z.task) (t ∷ ts)) done x before m).0 in omega arith))
+
+    pub seat_step : ((i h : ℕ) → holds i h (step call found ∷ trace_of c t.number es) ≤ marks_of (is_hold h) i w) → AreClaims (this_event ∷ es) (step call found ∷ trace_of c t.number es) w.claims
+        → (made : List chain.Entry) → w.lists ≡ made ∷ [] → (before : List chain.Entry) → EndsIn (this_event ∷ es) c t before made (swapped (step call found ∷ trace_of c t.number es)) → AreMade es c done before
+        → SeatAt p (this_event ∷ es) broken os c tasks done (t ∷ ts) (next found) w
+    seat_step holding claims made lists before ends are = let sorted : EachBefore Less (undo done (t ∷ ts)) = subst (EachBefore Less) s.all order in let later = (undo_todo Less done (t ∷ ts) sorted).0 in
+        let here = trace_here c t.number this_event es refl refl in record {
+          all = s.all;
+          became = s.became;
+          unsaid = s.unsaid;
+          kept = kept_same p.slots p.requests es (this_event ∷ es) c done done_same s.kept;
+          past = λ y m p. ⊎_elim (λ q. let n : y.number ≡ t.number = ap (λ (z : Event). z.number) q in (omega arith, all_of (λ (u : Task). y.number ≤ u.number) ts (λ u k. let a = all_in (Less t) ts u later k in omega arith))) (λ m. s.past y m p) m;
+          explains = subst (λ z. Explains p.slots p.requests broken done z (t ∷ ts) (next found)) (sym here) (s.explains.1 found);
+          holding = λ i h. subst (λ z. holds i h z ≤ marks_of (is_hold h) i w) (sym here) (holding i h);
+          claims = subst (λ z. AreClaims (this_event ∷ es) z w.claims) (sym here) claims;
+          made = made;
+          lists = lists;
+          are_made = (before, subst (λ z. EndsIn (this_event ∷ es) c t before made (swapped z)) (sym here) ends, made_same es (this_event ∷ es) c (given_more this_event es) done before done_same are);
+        }

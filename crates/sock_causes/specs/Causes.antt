@@ -2,27 +2,23 @@
 use Rattle.std.specs.Prelude.{ℕ, ◌%◌, ◌≡◌, ◌≢◌, ◌<◌, ◌≤◌, List, [], ◌∷◌, slice_get, Some}
 use Rattle.sock_words.specs.declared.plain.Plan.{Plan}
 use Rattle.sock_words.specs.Words.{socket_id_version, socket_id_slot, vref_version}
-use Rattle.sock_model.specs.Weights.{is_failer}
-use Rattle.sock_programs.specs.Calls.{Call, GiveBirth, AddRef, SetOdd, LoadName}
+use Rattle.sock_model.specs.Weights.{is_failer, is_linked}
+use Rattle.sock_programs.specs.Calls.{Call, GiveBirth, AddRef, SetOdd, LoadName, LookWord, FindLink}
 use Rattle.sock_programs.specs.declared.task.Task.{Task}
 use Rattle.sock_causes.specs.Stories.{Entry, Event, In, trace_of, last_name, marked}
-use Rattle.sock_causes.specs.Explains.{Fits}
+use Rattle.sock_causes.specs.Explains.{Fits, holds}
 
 -- client c has this task
 abbrev pub Asks : List (List Task) → ℕ → Task → Type 0
 Asks clients c t = (ts : List Task) × (slice_get clients c ≡ Some ts) × In t ts
 
--- where the last step took a reference to the life of an id, this holds of the id
-abbrev pub Holding : List Entry → (ℕ → Type 0) → Type 0
-Holding [] P = Unit {0}
-Holding (e ∷ es) P = elim e.call as (λ c. Type 0) [
-  | AddRef id ↦ vref_version e.found ≡ socket_id_version id → P id
-  | _ ↦ Unit {0}
-]
-
 -- the life of version h of slot i was failed
 abbrev pub WasFailed : List Event → ℕ → ℕ → Type 0
 WasFailed es i h = 0 < marked (is_failer h) i es
+
+-- the life of version h of slot i was made with link k
+abbrev pub WasGiven : List Event → ℕ → ℕ → ℕ → Type 0
+WasGiven es i h k = 0 < marked (is_linked h k) i es
 
 -- what is found where the life of version h of slot i is set failed
 abbrev pub OddAt : List Event → ℕ → ℕ → ℕ → Type 0
@@ -37,10 +33,14 @@ Means p es trace (GiveBirth i k) found = (i < p.slots) × (vref_version found % 
 -- where the slot has another version, the life was failed
 Means p es trace (AddRef id) found = vref_version found ≢ socket_id_version id → WasFailed es (socket_id_slot id) (socket_id_version id)
 -- the life that is held is set failed, or was failed before
-Means p es trace (SetOdd i) found = Holding trace (λ id. i ≡ socket_id_slot id → OddAt es i (socket_id_version id) found)
+Means p es trace (SetOdd i) found = (h : ℕ) → 0 < holds i h trace → OddAt es i h found
+-- it is seen live, or was failed before
+Means p es trace (LookWord id) found = 0 < holds (socket_id_slot id) (socket_id_version id) trace → vref_version found % 2 ≡ 1 → WasFailed es (socket_id_slot id) (socket_id_version id)
+-- its link is the one with which it was made
+Means p es trace (FindLink i h) found = WasGiven es i h found
 Means p es trace other found = Unit {0}
 
-pub record Cause (p : Plan) (clients : List (List Task)) (es : List Event) (e : Event) : Type 0 where
+pub record Cause (p : Plan) (clients : List (List Task)) (broken : List ℕ) (es : List Event) (e : Event) : Type 0 where
   -- a client's steps are for its operations in order
   pub order : (x : Event) → In x es → x.client ≡ e.client → x.number ≤ e.number
   -- those of the setup come first
@@ -49,10 +49,10 @@ pub record Cause (p : Plan) (clients : List (List Task)) (es : List Event) (e : 
   pub task : Task
   pub is : Asks clients e.client task
   pub numbered : task.number ≡ e.number
-  pub fits : Fits task.op (trace_of e.client e.number es) e.entry.call
+  pub fits : Fits task broken (trace_of e.client e.number es) e.entry.call
   pub means : Means p es (trace_of e.client e.number es) e.entry.call e.entry.found
 
--- each step has its cause in what was done before it
-abbrev pub Good : Plan → List (List Task) → List Event → Type 0
-Good p clients [] = Unit {0}
-Good p clients (e ∷ es) = Cause p clients es e × Good p clients es
+-- each step has its cause in what was done before it, and in links that failed
+abbrev pub Good : Plan → List (List Task) → List ℕ → List Event → Type 0
+Good p clients broken [] = Unit {0}
+Good p clients broken (e ∷ es) = Cause p clients broken es e × Good p clients broken es

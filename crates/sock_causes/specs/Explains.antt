@@ -1,81 +1,199 @@
--- A program that says an outcome of each task in order, each explained by the steps that were made for it.
-use Rattle.std.specs.Prelude.{ℕ, ◌+◌, ◌%◌, ◌≡◌, ◌≢◌, ◌<◌, ◌⊎◌, List, [], ◌∷◌}
+-- A program that says an outcome of each task in order, or has its message accepted, each explained by the steps that were made for it.
+use Rattle.std.specs.Prelude.{ℕ, ◌+◌, ◌-◌, ◌%◌, ◌==◌, ◌≡◌, ◌≢◌, ◌<◌, ◌⊎◌, Bool, true, false, if◌then◌else◌, List, [], ◌∷◌, Option, Some, None}
 use Rattle.std.specs.List.{AllByRecursion}
 use Rattle.sock_words.specs.Words.{socket_id, socket_id_version, socket_id_slot, vref_version}
 use Rattle.sock_words.specs.declared.outcome.Outcome.{Outcome}
-use Rattle.sock_words.specs.declared.outcome.Outcome.TheVariants.{Opened, SlotsFull, Unopened, Gone, Held, Freed, Kept, NotHeld, Failed, Already}
+use Rattle.sock_words.specs.declared.outcome.Outcome.TheVariants.{Opened, SlotsFull, Unopened, Gone, Full, Held, Freed, Kept, NotHeld, Failed, Already}
+use Rattle.sock_io.specs.declared.link.Put.{Put}
+use Rattle.sock_io.specs.declared.link.Put.TheVariants as puts
+use Rattle.sock_io.specs.declared.link.Ready.{Ready}
+use Rattle.sock_io.specs.declared.link.Ready.TheVariants as asks
+use Rattle.sock_model.specs.declared.chain.Heading.{Heading}
+use Rattle.sock_model.specs.declared.marks.Mark.TheVariants.{Hold}
+use Rattle.sock_model.specs.Weights.{is_hold}
 use Rattle.sock_programs.specs.declared.task.Op.{Op}
 use Rattle.sock_programs.specs.declared.task.Op.TheVariants as ops
 use Rattle.sock_programs.specs.declared.task.Task.{Task}
-use Rattle.sock_programs.specs.Calls.{Call, ClaimSlot, GiveBirth, AddRef, SetOdd, StoreName, LoadName}
-use Rattle.sock_programs.specs.Programs.{Program, Do, Say, Rest, fail_outcome}
+use Rattle.sock_programs.specs.Calls.{Call, ClaimSlot, GiveBirth, AddRef, SubRef, SetOdd, StoreName, LoadName, LookWord, FindLink, ClaimRequest, PutMessage, Unconnect, SwapHead}
+use Rattle.sock_programs.specs.Programs.{Program, Do, Say, Sent, Rest, fail_outcome, TakeMessage, TakeHome, PutHome, PutBytes, AskReady, Write}
+use Rattle.sock_programs.specs.Sends.{heading_of}
+use Rattle.sock_runs.specs.Writes.{holder_of}
 use Rattle.sock_causes.specs.Stories.{Entry, In}
 
 abbrev pub step : Call → ℕ → Entry
 step call found = record { call = call; found = found }
 
--- a task that is done, with its outcome
+-- a task that is done, with its outcome, or none where its message was accepted
 pub record Done : Type 0 where
   pub task : Task
-  pub outcome : Outcome
+  pub outcome : Option Outcome
 
 -- of tasks that are done, the latest first, the last `hold` of the name has an outcome of which this holds
 abbrev pub LastHold : ℕ → (Outcome → Type 0) → List Done → Type 0
 LastHold n P [] = ⊥
-LastHold n P (d ∷ ds) = ((d.task.op ≡ ops.Hold n) × P d.outcome) ⊎ ((d.task.op ≢ ops.Hold n) × LastHold n P ds)
+LastHold n P (d ∷ ds) = ((d.task.op ≡ ops.Hold n) × (outcome : Outcome) × (d.outcome ≡ Some outcome) × P outcome) ⊎ ((d.task.op ≢ ops.Hold n) × LastHold n P ds)
+
+-- ## What the steps of an operation come to
+
+-- the references to the life h of slot i that an operation has, which had so many before this step
+abbrev pub holds_behind : ℕ → ℕ → Call → ℕ → ℕ → ℕ
+holds_behind i h (AddRef id) found n = (if socket_id_slot id == i then (if vref_version found == socket_id_version id then is_hold h (Hold (vref_version found)) else 0) else 0) + n
+holds_behind i h (SetOdd j) found n = if j == i then (if vref_version found % 2 == 0 then (if n == 0 then 0 else n + 1) else n) else n
+holds_behind i h (SubRef j) found n = if j == i then n - 1 else n
+holds_behind i h other found n = n
+
+abbrev pub holds : ℕ → ℕ → List Entry → ℕ
+holds i h [] = 0
+holds i h (e ∷ es) = holds_behind i h e.call e.found (holds i h es)
+
+-- it exchanged a head with its ticket
+abbrev pub swaps : Call → Bool → Bool
+swaps (SwapHead i own) before = true
+swaps other before = before
+
+abbrev pub swapped : List Entry → Bool
+swapped [] = false
+swapped (e ∷ es) = swaps e.call (swapped es)
 
 -- ## Steps
 
--- a step that adds no mark that stays, and stores no name
+-- a step that adds no mark that stays, stores no name, and accepts no message
 abbrev pub IsPlain : Call → Type 0
 IsPlain (ClaimSlot i) = ⊥
 IsPlain (GiveBirth i k) = ⊥
 IsPlain (SetOdd i) = ⊥
 IsPlain (StoreName n w) = ⊥
+IsPlain (SwapHead i own) = ⊥
 IsPlain other = Unit {0}
 
--- an operation that made these steps may make this one
-abbrev pub Fits : Op → List Entry → Call → Type 0
-Fits op trace (GiveBirth i k) = (n : ℕ) × (op ≡ ops.Open n k)
-Fits op trace (SetOdd i) = (n code id found : ℕ) × (op ≡ ops.Fail n code) × (trace ≡ step (AddRef id) found ∷ step (LoadName n) (id + 1) ∷ [])
+-- a `fail` sets the life failed that it has just reached
+abbrev pub FailsLife : Op → List Entry → ℕ → Type 0
+FailsLife op trace i = (n code id found : ℕ) × (op ≡ ops.Fail n code) × (trace ≡ step (AddRef id) found ∷ step (LoadName n) (id + 1) ∷ [])
     × (vref_version found ≡ socket_id_version id) × (i ≡ socket_id_slot id)
-Fits op trace (StoreName n w) = (k i found : ℕ) × (op ≡ ops.Open n k) × In (step (GiveBirth i k) found) trace × (w ≡ socket_id (vref_version found) i + 1)
-Fits op trace other = Unit {0}
+
+-- a `send` holds the life of this id, which it found under its name, and found that its link is k
+pub record IsWriterOf (t : Task) (trace : List Entry) (id k : ℕ) : Type 0 where
+  pub name : ℕ
+  pub bytes : List ℕ
+  pub op : t.op ≡ ops.Send name bytes
+  pub load : In (step (LoadName name) (id + 1)) trace
+  pub link : In (step (FindLink (socket_id_slot id) (socket_id_version id)) k) trace
+  pub holds : 0 < holds (socket_id_slot id) (socket_id_version id) trace
+
+-- and the link answered that it failed
+abbrev pub FailsLink : Task → List ℕ → List Entry → ℕ → Type 0
+FailsLink t broken trace i = (id k : ℕ) × IsWriterOf t trace id k × (i ≡ socket_id_slot id) × In k broken
+
+-- a `send` claimed a request, put its message there and marked the request's next word, and exchanged no head before
+pub record IsReadied (t : Task) (trace : List Entry) : Type 0 where
+  pub name : ℕ
+  pub bytes : List ℕ
+  pub op : t.op ≡ ops.Send name bytes
+  pub id : ℕ
+  pub request : ℕ
+  pub words : ℕ × ℕ
+  pub found : ℕ
+  pub before : List Entry
+  pub trace_is : trace ≡ step (Unconnect request) words.0 ∷ step (PutMessage request (heading_of t.number) bytes) words.1 ∷ step (ClaimRequest id request) found ∷ before
+  pub free : found % 2 ≡ 0
+  pub load : In (step (LoadName name) (id + 1)) before
+  pub first : swapped before ≡ false
+
+-- the task's operation, which made these steps, may make this one, where these links answered that they failed
+abbrev pub Fits : Task → List ℕ → List Entry → Call → Type 0
+Fits t broken trace (GiveBirth i k) = (n : ℕ) × (t.op ≡ ops.Open n k)
+Fits t broken trace (SetOdd i) = FailsLife t.op trace i ⊎ FailsLink t broken trace i
+Fits t broken trace (StoreName n w) = (k i found : ℕ) × (t.op ≡ ops.Open n k) × In (step (GiveBirth i k) found) trace × (w ≡ socket_id (vref_version found) i + 1)
+Fits t broken trace (LookWord id) = 0 < holds (socket_id_slot id) (socket_id_version id) trace
+Fits t broken trace (SwapHead i own) = IsReadied t trace
+Fits t broken trace other = Unit {0}
 
 -- ## Outcomes
 
--- these steps explain the outcome, behind these tasks
-abbrev pub Because : ℕ → List Done → List Entry → Op → Outcome → Type 0
-Because slots done trace (ops.Open n k) (Opened i version l) = (l ≡ k) × (found x : ℕ) × In (step (GiveBirth i k) found) trace × (version ≡ vref_version found)
+-- the life of an id that the name had was found to be of another version, or, where it was held, failed
+abbrev pub WasGone : ℕ → List Entry → ℕ → Type 0
+WasGone n trace found = (id : ℕ) × In (step (LoadName n) (id + 1)) trace × In (step (AddRef id) found) trace × (vref_version found ≢ socket_id_version id)
+
+abbrev pub WasOdd : ℕ → List Entry → ℕ → Type 0
+WasOdd n trace found = (id : ℕ) × In (step (LoadName n) (id + 1)) trace × In (step (LookWord id) found) trace × (vref_version found % 2 ≡ 1)
+
+-- these steps explain the outcome, behind these tasks, over a table of so many slots and requests
+abbrev pub Because : ℕ → ℕ → List Done → List Entry → Op → Outcome → Type 0
+Because slots requests done trace (ops.Open n k) (Opened i version l) = (l ≡ k) × (found x : ℕ) × In (step (GiveBirth i k) found) trace × (version ≡ vref_version found)
     × In (step (StoreName n (socket_id version i + 1)) x) trace
-Because slots done trace (ops.Open n k) SlotsFull = (i : ℕ) → i < slots → (found : ℕ) × In (step (ClaimSlot i) found) trace × (found ≢ 0)
-Because slots done trace (ops.Hold n) Unopened = In (step (LoadName n) 0) trace
-Because slots done trace (ops.Hold n) (Gone found) = (id : ℕ) × In (step (LoadName n) (id + 1)) trace × In (step (AddRef id) found.0) trace × (vref_version found.0 ≢ socket_id_version id)
-Because slots done trace (ops.Hold n) Held = (id : ℕ) × In (step (LoadName n) (id + 1)) trace
-Because slots done trace (ops.Fail n code) Unopened = In (step (LoadName n) 0) trace
-Because slots done trace (ops.Fail n code) (Gone found) = (id : ℕ) × In (step (LoadName n) (id + 1)) trace × In (step (AddRef id) found.0) trace × (vref_version found.0 ≢ socket_id_version id)
-Because slots done trace (ops.Fail n code) (Already found) = (i : ℕ) × In (step (SetOdd i) found.0) trace × (vref_version found.0 % 2 ≡ 1)
-Because slots done trace (ops.Fail n code) Failed = (i found : ℕ) × In (step (SetOdd i) found) trace × (vref_version found % 2 ≡ 0)
-Because slots done trace (ops.Drop n) NotHeld = LastHold n (λ outcome. outcome ≢ Held) done
-Because slots done trace (ops.Drop n) Freed = LastHold n (λ outcome. outcome ≡ Held) done
-Because slots done trace (ops.Drop n) Kept = LastHold n (λ outcome. outcome ≡ Held) done
-Because slots done trace op outcome = ⊥
+Because slots requests done trace (ops.Open n k) SlotsFull = (i : ℕ) → i < slots → (found : ℕ) × In (step (ClaimSlot i) found) trace × (found ≢ 0)
+Because slots requests done trace (ops.Send n bytes) Unopened = In (step (LoadName n) 0) trace
+Because slots requests done trace (ops.Send n bytes) (Gone found) = WasGone n trace found.0 ⊎ WasOdd n trace found.0
+Because slots requests done trace (ops.Send n bytes) Full = ((id : ℕ) × In (step (LoadName n) (id + 1)) trace) × ((q : ℕ) → q < requests → (id found : ℕ) × In (step (ClaimRequest id q) found) trace × (found % 2 ≡ 1))
+Because slots requests done trace (ops.Hold n) Unopened = In (step (LoadName n) 0) trace
+Because slots requests done trace (ops.Hold n) (Gone found) = WasGone n trace found.0
+Because slots requests done trace (ops.Hold n) Held = (id : ℕ) × In (step (LoadName n) (id + 1)) trace
+Because slots requests done trace (ops.Fail n code) Unopened = In (step (LoadName n) 0) trace
+Because slots requests done trace (ops.Fail n code) (Gone found) = WasGone n trace found.0
+Because slots requests done trace (ops.Fail n code) (Already found) = (i : ℕ) × In (step (SetOdd i) found.0) trace × (vref_version found.0 % 2 ≡ 1)
+Because slots requests done trace (ops.Fail n code) Failed = (i found : ℕ) × In (step (SetOdd i) found) trace × (vref_version found % 2 ≡ 0)
+Because slots requests done trace (ops.Drop n) NotHeld = LastHold n (λ outcome. outcome ≢ Held) done
+Because slots requests done trace (ops.Drop n) Freed = LastHold n (λ outcome. outcome ≡ Held) done
+Because slots requests done trace (ops.Drop n) Kept = LastHold n (λ outcome. outcome ≡ Held) done
+Because slots requests done trace op outcome = ⊥
+
+abbrev pub IsSend : Op → Type 0
+IsSend (ops.Send n bytes) = Unit {0}
+IsSend other = ⊥
+
+-- the same, of an operation whose message was accepted too; it exchanged a head just then
+abbrev pub Explained : ℕ → ℕ → List Done → List Entry → Op → Option Outcome → Type 0
+Explained slots requests done trace op None = IsSend op × (swapped trace ≡ true)
+Explained slots requests done trace op (Some outcome) = Because slots requests done trace op outcome × (swapped trace ≡ false)
+
+-- where a `fail` found this word as it set a life failed, its outcome is this one
+abbrev pub TellsFail : Op → Option Outcome → ℕ → Type 0
+TellsFail (ops.Fail n code) outcome found = outcome ≡ Some (fail_outcome found)
+TellsFail other outcome found = Unit {0}
 
 -- a step tells the outcome of its operation
-abbrev pub Tells : Outcome → Entry → Type 0
-Tells outcome e = elim e.call as (λ c. Type 0) [
-  | GiveBirth i k ↦ outcome ≡ Opened i (vref_version e.found) k
-  | SetOdd i ↦ outcome ≡ fail_outcome e.found
+abbrev pub Tells : Op → Option Outcome → Entry → Type 0
+Tells op outcome e = elim e.call as (λ c. Type 0) [
+  | GiveBirth i k ↦ outcome ≡ Some (Opened i (vref_version e.found) k)
+  | SetOdd i ↦ TellsFail op outcome e.found
   | _ ↦ Unit {0}
 ]
 
 -- ## Programs
 
--- behind the tasks done and the steps made for the task in hand, the program says an outcome of each task in order
-abbrev pub Explains : ℕ → List Done → List Entry → List Task → Program → Type 0
-Explains slots done trace [] (Do call next) = IsPlain call × ((found : ℕ) → Explains slots done trace [] (next found))
-Explains slots done trace (t ∷ ts) (Do call next) = Fits t.op trace call × ((found : ℕ) → Explains slots done (step call found ∷ trace) (t ∷ ts) (next found))
-Explains slots done trace [] (Say o outcome more) = ⊥
-Explains slots done trace (t ∷ ts) (Say o outcome more) = (o ≡ t.number) × Because slots done trace t.op outcome × AllByRecursion (Tells outcome) trace
-    × Explains slots (record { task = t; outcome = outcome } ∷ done) [] ts more
-Explains slots done trace todo Rest = todo ≡ []
+-- what was done is still done, and nothing was done since that tells the outcome of the operation or exchanges a head
+pub record Grew (op : Op) (old new : List Entry) : Type 0 where
+  pub has : (x : Entry) → In x old → In x new
+  pub swap : swapped new ≡ swapped old
+  pub tells : (outcome : Option Outcome) → AllByRecursion (Tells op outcome) old → AllByRecursion (Tells op outcome) new
+
+-- the links that failed, with this one where it answers so
+abbrev pub broken_put : ℕ → Put → List ℕ → List ℕ
+broken_put k puts.Failed broken = k ∷ broken
+broken_put k other broken = broken
+
+abbrev pub broken_ready : ℕ → Ready → List ℕ → List ℕ
+broken_ready k asks.Failed broken = k ∷ broken
+broken_ready k other broken = broken
+
+module _ (slots requests : ℕ) where
+  -- behind the tasks done and the steps made for the task in hand, and where these links failed, the program says an outcome of each task in order
+  abbrev pub Explains : List ℕ → List Done → List Entry → List Task → Program → Type 0
+  Explains broken done trace [] (Do call next) = IsPlain call × ((found : ℕ) → Explains broken done trace [] (next found))
+  Explains broken done trace (t ∷ ts) (Do call next) = Fits t broken trace call × ((found : ℕ) → Explains broken done (step call found ∷ trace) (t ∷ ts) (next found))
+  Explains broken done trace [] (Say o outcome more) = ⊥
+  Explains broken done trace (t ∷ ts) (Say o outcome more) = (o ≡ t.number) × Explained slots requests done trace t.op (Some outcome) × AllByRecursion (Tells t.op (Some outcome)) trace
+      × Explains broken (record { task = t; outcome = Some outcome } ∷ done) [] ts more
+  Explains broken done trace [] (Sent o more) = ⊥
+  Explains broken done trace (t ∷ ts) (Sent o more) = (o ≡ t.number) × Explained slots requests done trace t.op None × AllByRecursion (Tells t.op None) trace
+      × Explains broken (record { task = t; outcome = None } ∷ done) [] ts more
+  Explains broken done trace todo Rest = todo ≡ []
+  Explains broken done trace todo (TakeMessage q next) = (heading : Heading) (bytes : List ℕ) → Explains broken done trace todo (next heading bytes)
+  Explains broken done trace todo (TakeHome k next) = (places : ℕ) → Explains broken done trace todo (next places)
+  Explains broken done trace todo (PutHome k n after) = Explains broken done trace todo after
+  Explains broken done trace todo (PutBytes k asked bytes next) = (answer : Put) → Explains (broken_put k answer broken) done trace todo (next answer)
+  Explains broken done trace todo (AskReady k next) = (answer : Ready) → Explains (broken_ready k answer broken) done trace todo (next answer)
+  Explains broken done trace [] (Write w after) = ⊥
+  -- whoever writes makes steps that tell no outcome, and links may fail meanwhile
+  Explains broken done trace (t ∷ ts) (Write w after) = IsWriterOf t trace (holder_of w).id (holder_of w).link
+      × ((longer : List Entry) (others : List ℕ) → Grew t.op trace longer → ((k : ℕ) → In k broken → In k others) → Explains others done longer (t ∷ ts) after)

@@ -1,8 +1,8 @@
 -- The story of a run: each step that was made for an operation, the latest first.
-use Rattle.std.specs.Prelude.{ℕ, ◌%◌, ◌==◌, ◌&&◌, ◌⊎◌, ◌≡◌, if◌then◌else◌, List, [], ◌∷◌}
+use Rattle.std.specs.Prelude.{ℕ, ◌+◌, ◌%◌, ◌==◌, ◌&&◌, ◌⊎◌, ◌≡◌, if◌then◌else◌, List, [], ◌∷◌}
 use Rattle.sock_words.specs.Words.{vref_version}
 use Rattle.sock_model.specs.declared.marks.Mark.{Mark}
-use Rattle.sock_model.specs.declared.marks.Mark.TheVariants.{Tried, Born, Failer}
+use Rattle.sock_model.specs.declared.marks.Mark.TheVariants.{Tried, Born, Failer, Linked}
 use Rattle.sock_model.specs.Weights.{total}
 use Rattle.sock_programs.specs.Calls.{Call, ClaimSlot, GiveBirth, SetOdd, StoreName}
 use Rattle.sock_programs.specs.declared.task.Task.{Task}
@@ -47,10 +47,10 @@ abbrev pub last_name : ℕ → List Event → ℕ
 last_name n [] = 0
 last_name n (e ∷ es) = stored_by n e.entry.call (last_name n es)
 
--- how much a step adds to the marks of slot j that stay: a slot found taken, a life made, a life failed
+-- how much a step adds to the marks of slot j that stay: a slot found taken, a life made, with its link, a life failed
 abbrev pub adds : (Mark → ℕ) → ℕ → Call → ℕ → ℕ
 adds f j (ClaimSlot i) found = if i == j then (if found == 0 then 0 else f Tried) else 0
-adds f j (GiveBirth i k) found = if i == j then f (Born (vref_version found)) else 0
+adds f j (GiveBirth i k) found = if i == j then f (Born (vref_version found)) + f (Linked (vref_version found) k) else 0
 adds f j (SetOdd i) found = if i == j then (if vref_version found % 2 == 0 then f (Failer (vref_version found)) else 0) else 0
 adds f j other found = 0
 
