@@ -4,7 +4,7 @@ use Rattle.std.proofs.lemmas.Bool.Decides.{nat_tests}
 use Rattle.std.proofs.lemmas.List.Sums.{sum_by-cons}
 use Rattle.std.specs.List.{AllByRecursion}
 use Rattle.brpc_model.specs.Order.{EachBefore}
-use Rattle.quiet_fits.proofs.Lists.{all_from, all_at, all_map}
+use Rattle.report_fits.proofs.Lists.{all_from, all_at, all_map}
 
 -- how many places below n pass
 abbrev pub tally : (ℕ → Bool) → ℕ → ℕ

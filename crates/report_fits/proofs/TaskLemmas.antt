@@ -3,7 +3,7 @@ use Rattle.std.proofs.Common.{◌≡◌, ℕ, zero, suc, ◌+◌, ◌<◌, ◌�
 use Rattle.std.proofs.lemmas.Bool.Decides.{nat_tests}
 use Rattle.std.proofs.lemmas.Option.{slice_get_within}
 use Rattle.sock_words.specs.declared.outcome.Outcome.{Outcome}
-use Rattle.brpc_model.specs.Items.{Item, Open, Fail, Hold, Drop, Shape, mentioned, opened_name}
+use Rattle.brpc_model.specs.Items.{Item, Open, Send, Fail, Hold, Drop, Shape, mentioned, opened_name}
 use Rattle.brpc_model.specs.Operations.{Operation, operations, clients, link_names}
 use Rattle.brpc_model.specs.Places.{names}
 use Rattle.sock_programs.specs.declared.task.Op.{Op}
@@ -12,9 +12,9 @@ use Rattle.sock_programs.specs.declared.task.Task.{Task}
 use Rattle.sock_programs.specs.Tasks.{Numbered, numbered, of_client, op_of, task_of, tasks, name_number}
 use Rattle.sock_programs.specs.Scripts.{tasks_from, all_tasks}
 use Rattle.sock_programs.specs.Told.{IsTask}
-use Rattle.quiet_fits.proofs.Lists.{Has, has_from, contains_from, some_is, filter_has, has_filter, filter_map_has, has_filter_map}
-use Rattle.quiet_fits.proofs.Names.{mentioned_has}
-use Rattle.quiet_fits.proofs.Numbering.{link_at, is_numbered, numbered_at, are_from, opened_by, names_of_operations, link_name_at}
+use Rattle.report_fits.proofs.Lists.{Has, has_from, contains_from, some_is, filter_has, has_filter, filter_map_has, has_filter_map}
+use Rattle.report_fits.proofs.Names.{mentioned_has}
+use Rattle.report_fits.proofs.Numbering.{link_at, is_numbered, numbered_at, are_from, opened_by, names_of_operations, link_name_at}
 
 -- ## Which client's tasks
 
@@ -104,16 +104,29 @@ pub open_asks : (ns : List (List ℕ)) (link : ℕ) (item : Item) (n k : ℕ) �
 open_asks ns link (Open name shape) n k e =
     let same : ops.Open (name_number ns name) link ≡ ops.Open n k = some_is _ (ops.Open n k) e in
     (name, shape, refl, cc, cc)
+open_asks ns link (Send name bytes) n k e = absurd (cc)
 open_asks ns link (Hold name) n k e = absurd (cc)
 open_asks ns link (Drop name) n k e = absurd (cc)
 open_asks ns link (Fail name code) n k e = absurd (cc)
 open_asks ns link other n k e = absurd (cc)
+
+pub send_asks : (ns : List (List ℕ)) (link : ℕ) (item : Item) (n : ℕ) (bytes : List ℕ) → op_of ns link item ≡ Some (ops.Send n bytes) → (name : List ℕ) × (item ≡ Send name bytes) × (n ≡ name_number ns name)
+send_asks ns link (Send name given) n bytes e =
+    let same : ops.Send (name_number ns name) given ≡ ops.Send n bytes = some_is _ (ops.Send n bytes) e in
+    let bytes_are : given ≡ bytes = cc in
+    (name, ap (Send name) bytes_are, cc)
+send_asks ns link (Open name shape) n bytes e = absurd (cc)
+send_asks ns link (Hold name) n bytes e = absurd (cc)
+send_asks ns link (Drop name) n bytes e = absurd (cc)
+send_asks ns link (Fail name code) n bytes e = absurd (cc)
+send_asks ns link other n bytes e = absurd (cc)
 
 pub hold_asks : (ns : List (List ℕ)) (link : ℕ) (item : Item) (n : ℕ) → op_of ns link item ≡ Some (ops.Hold n) → (name : List ℕ) × (item ≡ Hold name) × (n ≡ name_number ns name)
 hold_asks ns link (Hold name) n e =
     let same : ops.Hold (name_number ns name) ≡ ops.Hold n = some_is _ (ops.Hold n) e in
     (name, refl, cc)
 hold_asks ns link (Open name shape) n e = absurd (cc)
+hold_asks ns link (Send name bytes) n e = absurd (cc)
 hold_asks ns link (Drop name) n e = absurd (cc)
 hold_asks ns link (Fail name code) n e = absurd (cc)
 hold_asks ns link other n e = absurd (cc)
@@ -124,6 +137,7 @@ fail_asks ns link (Fail name code) n c e =
     let code_is : code ≡ c = cc in
     (name, ap (Fail name) code_is, cc)
 fail_asks ns link (Open name shape) n c e = absurd (cc)
+fail_asks ns link (Send name bytes) n c e = absurd (cc)
 fail_asks ns link (Hold name) n c e = absurd (cc)
 fail_asks ns link (Drop name) n c e = absurd (cc)
 fail_asks ns link other n c e = absurd (cc)
@@ -133,6 +147,7 @@ drop_asks ns link (Drop name) n e =
     let same : ops.Drop (name_number ns name) ≡ ops.Drop n = some_is _ (ops.Drop n) e in
     (name, refl, cc)
 drop_asks ns link (Open name shape) n e = absurd (cc)
+drop_asks ns link (Send name bytes) n e = absurd (cc)
 drop_asks ns link (Hold name) n e = absurd (cc)
 drop_asks ns link (Fail name code) n e = absurd (cc)
 drop_asks ns link other n e = absurd (cc)
@@ -147,6 +162,9 @@ mentions_at script i q e name item same h =
 
 pub mentions_open : (script : List Item) (i : ℕ) (q : Operation) → slice_get (operations script) i ≡ Some q → (name : List ℕ) (shape : Shape) → q.item ≡ Open name shape → Has (names script) name
 mentions_open script i q there name shape e = mentions_at script i q there name (Open name shape) e (zero, refl)
+
+pub mentions_send : (script : List Item) (i : ℕ) (q : Operation) → slice_get (operations script) i ≡ Some q → (name bytes : List ℕ) → q.item ≡ Send name bytes → Has (names script) name
+mentions_send script i q there name bytes e = mentions_at script i q there name (Send name bytes) e (zero, refl)
 
 pub mentions_hold : (script : List Item) (i : ℕ) (q : Operation) → slice_get (operations script) i ≡ Some q → (name : List ℕ) → q.item ≡ Hold name → Has (names script) name
 mentions_hold script i q there name e = mentions_at script i q there name (Hold name) e (zero, refl)

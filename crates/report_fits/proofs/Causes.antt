@@ -1,50 +1,63 @@
--- Why each operation of a script without messages has its outcome, as a report has to say it.
-use Rattle.std.proofs.Common.{◌≡◌, ◌≢◌, ℕ, ◌<◌, ◌%◌, ◌⊎◌, inl, inr, Bool, true, false, List, [], length, count_by, slice_get, Some, Contains, refl, ap, sym, ◌∙◌, subst, arith}
+-- Why each operation of a script without calls has its outcome, as a report has to say it.
+use Rattle.std.proofs.Common.{◌≡◌, ◌≢◌, ℕ, ◌<◌, ◌≤◌, ◌%◌, ◌*◌, ◌⊎◌, inl, inr, Bool, true, false, if◌then◌else◌, nat_le, List, [], length, count_by, slice_get, Some, None, Contains, refl, ap, sym, ◌∙◌, subst, arith}
+use Rattle.std.proofs.lemmas.Bool.Decides.{nat_tests}
 use Rattle.std.proofs.lemmas.Option.{slice_get_within}
 use Rattle.std.specs.List.{AllByRecursion}
 use Rattle.sock_words.specs.Words.{vref_version}
 use Rattle.sock_words.specs.declared.outcome.Outcome.{Outcome}
-use Rattle.sock_words.specs.declared.outcome.Outcome.TheVariants.{Opened, SlotsFull, Unopened, Gone, Held, Freed, Kept, NotHeld, Failed, Already}
-use Rattle.brpc_model.specs.Items.{Item, Open, Fail, Hold, Drop, Shape, is_open, sought_name}
-use Rattle.brpc_model.specs.Operations.{Operation, operations, link_names, slots}
+use Rattle.sock_words.specs.declared.outcome.Outcome.TheVariants.{Opened, SlotsFull, Unopened, Gone, Placed, Dropped, Full, Held, Freed, Kept, NotHeld, Failed, Already}
+use Rattle.sock_words.specs.declared.place_word.PlaceWord.{PlaceWord}
+use Rattle.brpc_model.specs.Items.{Item, Open, Send, Fail, Hold, Drop, Shape, is_open, sought_name}
+use Rattle.brpc_model.specs.Operations.{Operation, operations, link_names, slots, requests}
 use Rattle.brpc_model.specs.Places.{names}
 use Rattle.brpc_model.specs.Link.{LinkEnd}
-use Rattle.brpc_model.specs.Run.{Run, Story, nothing_late, IsOperation, HasOutcome, IsLinkOf, BecameSocket, HasSocket}
-use Rattle.brpc_model.specs.Causes.{FailingFor, WasFailed, MayFindNone, Opens}
-use Rattle.brpc_model.specs.Outcomes.{FoundFailed as RunFoundFailed, AfterHold as RunAfterHold, OpenCause, HoldCause, FailCause, DropCause, Cause, EachSlotOpened}
+use Rattle.brpc_model.specs.Report.{Report}
+use Rattle.brpc_model.specs.PlaceWords.{word_at, outcome_by_word}
+use Rattle.brpc_model.specs.Attempts.{attempt}
+use Rattle.brpc_model.specs.Run.{Run, Story, nothing_late, IsOperation, HasOutcome, IsLinkOf, BecameSocket, HasSocket, StandsAt}
+use Rattle.brpc_model.specs.Causes.{FailingBy, PutFailed, WasFailed as ByFail, FailingFor, MayFindNone, MayBeFull, Opens, IsNoLater}
+use Rattle.brpc_model.specs.Outcomes.{FoundFailed as RunFoundFailed, AfterHold as RunAfterHold, OpenCause, SendCause, HoldCause, FailCause, DropCause, Cause, EachSlotOpened}
 use Rattle.sock_programs.specs.declared.task.Op.{Op}
 use Rattle.sock_programs.specs.declared.task.Op.TheVariants as ops
 use Rattle.sock_programs.specs.Cores.{Core}
 use Rattle.sock_programs.specs.Tasks.{name_number, op_of, plan_of}
-use Rattle.sock_programs.specs.Scripts.{is_later, is_quiet, all_tasks, report_of}
-use Rattle.sock_programs.specs.Told.{Told, IsTask, Made, Why, OpensNone, FoundNone, FoundFailed, AfterHold, HasLife, EachOpened, IsFail}
-use Rattle.quiet_fits.specs.Ends.{QuietEnds}
-use Rattle.quiet_fits.proofs.Lists.{Has, within, some_is, contains_from, has_from, all_at, all_map}
-use Rattle.quiet_fits.proofs.Counting.{but, but_other, one_less, HasPlace, places, passing, passing_length, passing_pass, passing_apart, Passes, passes_at, tally_all, count_tally}
-use Rattle.quiet_fits.proofs.Names.{same_name}
-use Rattle.quiet_fits.proofs.Numbering.{link_at, are_from}
-use Rattle.quiet_fits.proofs.TaskLemmas.{task_is, operation_task, open_asks, hold_asks, fail_asks, mentions_open, mentions_hold, mentions_drop, mentions_fail, named_at}
-use Rattle.quiet_fits.proofs.Quiet.{not_later, asked_at, all_told}
-use Rattle.quiet_fits.proofs.Reported.{outcome_told, told_outcome}
+use Rattle.sock_programs.specs.Scripts.{is_later, is_callless, all_tasks, Reports}
+use Rattle.sock_programs.specs.Told.{Told, Accepted, IsTask, Made, Why, OpensNone, FoundNone, FoundFailed, WasFailed, AfterHold, HasLife, EachOpened, IsFail, all_accepted}
+use Rattle.report_fits.specs.Ends.{AreEnds}
+use Rattle.report_fits.specs.Limits.{KeepsLimits}
+use Rattle.report_fits.proofs.Lists.{Has, within, some_is, contains_from, has_from, all_at, all_map}
+use Rattle.report_fits.proofs.Counting.{but, but_other, one_less, HasPlace, places, passing, passing_length, passing_pass, passing_apart, Passes, passes_at, tally_all, count_tally}
+use Rattle.report_fits.proofs.Names.{same_name}
+use Rattle.report_fits.proofs.Numbering.{link_at, are_from}
+use Rattle.report_fits.proofs.TaskLemmas.{task_is, operation_task, open_asks, hold_asks, fail_asks, mentions_open, mentions_send, mentions_hold, mentions_drop, mentions_fail, named_at}
+use Rattle.report_fits.proofs.Callless.{not_later, asked_at}
+use Rattle.report_fits.proofs.Reported.{is_said, outcome_told, told_outcome, SaidOrPlaced, said_or_placed}
+use Rattle.report_fits.proofs.Sends as sends
+use Rattle.report_fits.proofs.Lines as lines
 
--- ## Operations of a script without messages
+-- ## Operations that seek
 
--- an operation that seeks a name is a `fail` or a `hold` of it
-seeks_by : (ns : List (List ℕ)) (link : ℕ) (item : Item) (name : List ℕ) (op : Op) → is_later item ≡ false → op_of ns link item ≡ Some op → sought_name item ≡ Some name →
-    ((c : ℕ) × (op ≡ ops.Fail (name_number ns name) c)) ⊎ (op ≡ ops.Hold (name_number ns name))
+-- an operation that seeks a name is a `fail`, a `hold` or a `send` of it
+abbrev Seeks : Op → ℕ → Type 0
+Seeks op n = ((c : ℕ) × (op ≡ ops.Fail n c)) ⊎ ((op ≡ ops.Hold n) ⊎ ((bytes : List ℕ) × (op ≡ ops.Send n bytes)))
+
+seeks_by : (ns : List (List ℕ)) (link : ℕ) (item : Item) (name : List ℕ) (op : Op) → is_later item ≡ false → op_of ns link item ≡ Some op → sought_name item ≡ Some name → Seeks op (name_number ns name)
 seeks_by ns link (Fail nm code) name op l e f =
     inl (code, sym (some_is (ops.Fail (name_number ns nm) code) op e) ∙ ap (λ x. ops.Fail (name_number ns x) code) (some_is nm name f))
 seeks_by ns link (Hold nm) name op l e f =
-    inr (sym (some_is (ops.Hold (name_number ns nm)) op e) ∙ ap (λ x. ops.Hold (name_number ns x)) (some_is nm name f))
+    inr (inl (sym (some_is (ops.Hold (name_number ns nm)) op e) ∙ ap (λ x. ops.Hold (name_number ns x)) (some_is nm name f)))
+seeks_by ns link (Send nm bytes) name op l e f =
+    inr (inr (bytes, sym (some_is (ops.Send (name_number ns nm) bytes) op e) ∙ ap (λ x. ops.Send (name_number ns x) bytes) (some_is nm name f)))
 seeks_by ns link other name op l e f = absurd (cc)
 
-module _ (script : List Item) (core : Core) (ends : List LinkEnd) (quiet : is_quiet script ≡ true) (long : length core.outcomes ≡ length (operations script)) (given : QuietEnds script ends) (tells : Told (all_tasks script) core.outcomes (plan_of script)) where
+module _ (script : List Item) (core : Core) (broken : List ℕ) (report : Report) (took : List (List ℕ)) (ends : List LinkEnd) (callless : is_callless script ≡ true) (limits : KeepsLimits script) (long : length core.outcomes ≡ length (operations script))
+    (tells : Told (all_tasks script) core.outcomes (plan_of script) core broken) (reports : Reports script core took report) (given : AreEnds script core broken ends) where
   abbrev pub story_of : Story
   story_of = record { fails = tells.fails; gave = λ k. []; last = λ i. 0 }
 
   -- the run that is reported
   abbrev pub run_of : Run
-  run_of = record { script = script; report = report_of script core; ends = ends; late = nothing_late; story = story_of }
+  run_of = record { script = script; report = report; ends = ends; late = nothing_late; story = story_of }
 
   abbrev pub Names : List (List ℕ)
   Names = names script
@@ -56,7 +69,7 @@ module _ (script : List Item) (core : Core) (ends : List LinkEnd) (quiet : is_qu
   Asked i q = (op : Op) × (op_of Names (link i) q.item ≡ Some op)
 
   pub asked : (i : ℕ) (q : Operation) → IsOperation run_of i q → Asked i q
-  asked i q e = asked_at script quiet i q e
+  asked i q e = asked_at script callless i q e
 
   abbrev pub TaskAt : ℕ → ℕ → Op → Type 0
   TaskAt c i op = IsTask (all_tasks script) core.outcomes c (record { number = i; op = op })
@@ -64,14 +77,21 @@ module _ (script : List Item) (core : Core) (ends : List LinkEnd) (quiet : is_qu
   pub task_at : (i : ℕ) (q : Operation) (e : IsOperation run_of i q) (op : Op) → op_of Names (link i) q.item ≡ Some op → TaskAt q.client i op
   task_at i q e op f = operation_task script core.outcomes i q op e f
 
-  pub became : (i : ℕ) (o : Outcome) → HasOutcome run_of i o → slice_get core.outcomes i ≡ Some (Some o)
-  became i o e = outcome_told core.outcomes (all_told script core quiet long tells) i o e
+  abbrev pub Words : List PlaceWord
+  Words = lines.Words script core broken report took limits tells reports
+
+  -- what is reported was said, but of messages that were accepted
+  pub became : (i : ℕ) (o : Outcome) → is_said o ≡ true → HasOutcome run_of i o → slice_get core.outcomes i ≡ Some (Some o)
+  became i o s e = outcome_told Words core.outcomes i o s (ap (λ os. slice_get os i) (sym reports.outcomes) ∙ e)
 
   pub reported : (i : ℕ) (o : Outcome) → slice_get core.outcomes i ≡ Some (Some o) → HasOutcome run_of i o
-  reported i o e = told_outcome core.outcomes (all_told script core quiet long tells) i o e
+  reported i o e = ap (λ os. slice_get os i) reports.outcomes ∙ told_outcome Words core.outcomes i o e
+
+  pub said_or_placed_at : (i : ℕ) (o : Outcome) → HasOutcome run_of i o → SaidOrPlaced Words core.outcomes i o
+  said_or_placed_at i o e = said_or_placed Words core.outcomes i o (ap (λ os. slice_get os i) (sym reports.outcomes) ∙ e)
 
   abbrev pub WhyAt : ℕ → ℕ → Op → Outcome → Type 0
-  WhyAt c i op o = Why (all_tasks script) core.outcomes (plan_of script) tells.fails c i op o
+  WhyAt c i op o = Why (all_tasks script) core.outcomes (plan_of script) tells.fails broken tells.orders c i op o
 
   pub why_at : (i : ℕ) (q : Operation) (e : IsOperation run_of i q) (op : Op) → op_of Names (link i) q.item ≡ Some op → (o : Outcome) → slice_get core.outcomes i ≡ Some (Some o) → WhyAt q.client i op o
   why_at i q e op f o b = tells.why q.client (record { number = i; op = op }) o (task_at i q e op f) b
@@ -80,6 +100,7 @@ module _ (script : List Item) (core : Core) (ends : List LinkEnd) (quiet : is_qu
 
   opened_is : (c o : ℕ) (op : Op) (slot version l : ℕ) → WhyAt c o op (Opened slot version l) → (n : ℕ) × (op ≡ ops.Open n l)
   opened_is c o (ops.Open n k) slot version l w = (n, ap (ops.Open n) (sym w.0))
+  opened_is c o (ops.Send n bytes) slot version l w = absurd w
   opened_is c o (ops.Hold n) slot version l w = absurd w
   opened_is c o (ops.Drop n) slot version l w = absurd w
   opened_is c o (ops.Fail n code) slot version l w = absurd w
@@ -143,7 +164,7 @@ module _ (script : List Item) (core : Core) (ends : List LinkEnd) (quiet : is_qu
   abbrev pub IsNumberOf : ℕ → List ℕ → Type 0
   IsNumberOf n name = (n ≡ name_number (names script) name) × Has (names script) name
 
-  link_of : (n k slot version : ℕ) (name : List ℕ) → IsNumberOf n name → (m : Makes n k slot version) → IsLinkOf run_of k name
+  pub link_of : (n k slot version : ℕ) (name : List ℕ) → IsNumberOf n name → (m : Makes n k slot version) → IsLinkOf run_of k name
   link_of n k slot version name is m =
       let w = maker n k slot version m in
       let same : w.0.name ≡ name = same_name Names w.0.name name w.0.mentions is.1 (sym w.1 ∙ is.0) in
@@ -157,7 +178,7 @@ module _ (script : List Item) (core : Core) (ends : List LinkEnd) (quiet : is_qu
       let slot = opens.0 in
       let version = opens.1 in
       let k = opens.2 in
-      let b = became j (Opened slot version k) opens.3 in
+      let b = became j (Opened slot version k) refl opens.3 in
       let w = opened_at j slot version k b in
       let same : w.name ≡ name = some_is w.name name (sym w.named ∙ opens.4) in
       let numbers : name_number Names w.name ≡ n = ap (name_number Names) same ∙ sym is.0 in
@@ -175,42 +196,46 @@ module _ (script : List Item) (core : Core) (ends : List LinkEnd) (quiet : is_qu
         λ own less. (
           λ opens. opens_not n name is j c (owner c own) (λ op t. (found.own (record { number = j; op = op }) t less).0) opens,
           λ sought. (
-              let s = seeks_by Names (link j) q.item name a.0 (not_later script quiet q.item (are_from 0 1 script j q there).there) a.1 sought in
+              let s = seeks_by Names (link j) q.item name a.0 (not_later script callless q.item (are_from 0 1 script j q there).there) a.1 sought in
               let P : ℕ → Type 0 = λ x. TaskAt x j a.0 in
               reported j Unopened ((found.own (record { number = j; op = a.0 }) (subst P own (task_at j q there a.0 a.1)) less).1 (by_number s))
               ),
         ),
       )
     where
-      by_number : {op : Op} → ((x : ℕ) × (op ≡ ops.Fail (name_number Names name) x)) ⊎ (op ≡ ops.Hold (name_number Names name)) → ((x : ℕ) × (op ≡ ops.Fail n x)) ⊎ (op ≡ ops.Hold n)
+      by_number : {op : Op} → Seeks op (name_number Names name) → Seeks op n
       by_number (inl w) = inl (w.0, w.1 ∙ ap (λ m. ops.Fail m w.0) (sym is.0))
-      by_number (inr e) = inr (e ∙ ap ops.Hold (sym is.0))
+      by_number (inr (inl e)) = inr (inl (e ∙ ap ops.Hold (sym is.0)))
+      by_number (inr (inr w)) = inr (inr (w.0, w.1 ∙ ap (λ m. ops.Send m w.0) (sym is.0)))
 
   -- ## Lives that were failed
 
-  end_at : (k : ℕ) (name : List ℕ) → IsLinkOf run_of k name → (e : LinkEnd) × Contains ends e × (e.link ≡ k)
-  end_at k name named =
-      let w = within ends k (omega (arith, slice_get_within (link_names script) k name named, given.as_many)) in
-      (w.0, contains_from ends w.0 (k, w.1), (given.quiet k w.0 w.1).numbered)
+  -- link k as it was given back
+  pub end_at : (k : ℕ) → k < length (link_names script) → (e : LinkEnd) × Contains ends e × (e.link ≡ k) × (Contains broken k → 0 < e.put_faults)
+  end_at k low =
+      let w = within ends k (omega (arith, low, given.as_many)) in
+      let is = given.each k w.0 w.1 in
+      (w.0, contains_from ends w.0 (k, w.1), is.numbered, is.failed)
 
-  found_failed : (i n : ℕ) (q : Operation) (name : List ℕ) (P : ℕ → Type 0) → IsOperation run_of i q → IsNumberOf n name → FoundFailed (all_tasks script) core.outcomes tells.fails q.client i n P → RunFoundFailed run_of i name P
+  -- a cause of this run by which the link was failing for an operation
+  failing_by : (i k : ℕ) (q : Operation) (e : LinkEnd) → IsOperation run_of i q → e.link ≡ k → (Contains broken k → 0 < e.put_faults) → WasFailed (all_tasks script) core.outcomes tells.fails broken q.client i k → FailingBy run_of (IsNoLater run_of i) e
+  failing_by i k q e there same broke (inl f) =
+      let Q : ℕ → Type 0 = λ k. Contains tells.fails (f.0, k) in
+      ByFail f.0
+      (λ p r at_i at_f own. (
+      let a = asked f.0 r at_f in
+      let client : r.client ≡ q.client = sym own ∙ ap (λ (x : Operation). x.client) (operation_is i p q at_i there) in
+      let R : ℕ → Type 0 = λ x. TaskAt x f.0 a.0 in
+      f.2 (record { number = f.0; op = a.0 }) (subst R client (task_at f.0 r at_f a.0 a.1)) refl
+      ))
+      (subst Q (sym same) f.1)
+  failing_by i k q e there same broke (inr b) = PutFailed (broke b)
+
+  found_failed : (i n : ℕ) (q : Operation) (name : List ℕ) (P : ℕ → Type 0) → IsOperation run_of i q → IsNumberOf n name → FoundFailed (all_tasks script) core.outcomes tells.fails broken q.client i n P → RunFoundFailed run_of i name P
   found_failed i n q name P there is f =
       let named = link_of n f.link f.slot f.version name is f.made in
-      let e = end_at f.link name named in
-      let Q : ℕ → Type 0 = λ k. Contains tells.fails (f.fail, k) in
-      let failing : FailingFor run_of i f.link = (
-        e.0,
-        e.1,
-        e.2,
-        WasFailed f.fail
-            (λ p r at_i at_f same. (
-            let a = asked f.fail r at_f in
-            let own : r.client ≡ q.client = sym same ∙ ap (λ (x : Operation). x.client) (operation_is i p q at_i there) in
-            let R : ℕ → Type 0 = λ x. TaskAt x f.fail a.0 in
-            f.no_later (record { number = f.fail; op = a.0 }) (subst R own (task_at f.fail r at_f a.0 a.1)) refl
-            ))
-            (subst Q (sym e.2) f.failed),
-      ) in
+      let e = end_at f.link (slice_get_within (link_names script) f.link name named) in
+      let failing : FailingFor run_of i f.link = (e.0, e.1, e.2, failing_by i f.link q e.0 there e.2 e.3 f.failed) in
       (f.link, f.made.task.number, f.slot, f.version, reported f.made.task.number (Opened f.slot f.version f.link) f.made.became, named, f.holds, inl failing)
 
   has_socket : (n : ℕ) (name : List ℕ) → IsNumberOf n name → HasLife (all_tasks script) core.outcomes n → HasSocket run_of name
@@ -354,6 +379,47 @@ module _ (script : List Item) (core : Core) (ends : List LinkEnd) (quiet : is_qu
   open_cause i n k q SlotsFull there o its b w = (each_opened w, more_opens i q there o b w)
   open_cause i n k q other there o its b w = absurd w
 
+  -- ## Sends
+
+  abbrev Stands : ℕ → ℕ → Accepted → Type 0
+  Stands k i a = lines.Stands script core broken report took limits tells reports k i a
+
+  -- a message stands in the line of its link
+  pub stands_at : (k p : ℕ) (a : Accepted) → k < length (link_names script) → Stands k p a → StandsAt run_of (attempt a.operation 0) k p
+  stands_at k p a low at =
+      let l = lines.line_at script core broken report took limits tells reports k low in
+      (l.0, l.1, lines.place_at script core broken report took limits tells reports k p l.0 a l.1 at)
+
+  -- a link that dropped a message was failing
+  pub dropped_failing : (k : ℕ) → k < length (link_names script) → (tells.orders k).placed < length (tells.orders k).accepted → (e : LinkEnd) → Contains ends e → e.link ≡ k → (Contains broken k → 0 < e.put_faults) → FailingBy run_of (λ i. Unit {0}) e
+  dropped_failing k low fewer e there same broke = by_cause (tells.dropped k low fewer)
+    where
+      by_cause : Contains broken k ⊎ ((fail : ℕ) × Contains tells.fails (fail, k)) → FailingBy run_of (λ i. Unit {0}) e
+      by_cause (inl b) = PutFailed (broke b)
+      by_cause (inr f) = let Q : ℕ → Type 0 = λ k. Contains tells.fails (f.0, k) in ByFail f.0 tt (subst Q (sym same) f.1)
+
+  placed_cause : (k p : ℕ) (q : Operation) (name : List ℕ) (a : Accepted) → k < length (link_names script) → Stands k p a → (b : Bool) → nat_le (tells.orders k).placed p ≡ b → SendCause run_of a.operation q name (if b then Dropped k p else Placed k p)
+  placed_cause k p q name a low at true e =
+      let w = end_at k low in
+      let fewer : (tells.orders k).placed < length (tells.orders k).accepted = grind (arith, nat_tests, e, slice_get_within (tells.orders k).accepted p a at) in
+      (stands_at k p a low at, (w.0, w.1, w.2, dropped_failing k low fewer w.0 w.1 w.2 w.3))
+  placed_cause k p q name a low at false e = stands_at k p a low at
+
+  -- each request was taken, and this send is one more
+  full : (i : ℕ) (q : Operation) (name bytes : List ℕ) → IsOperation run_of i q → q.item ≡ Send name bytes → slice_get core.outcomes i ≡ Some (Some Full) → requests script ≤ all_accepted (length (link_names script)) tells.orders → MayBeFull run_of
+  full i q name bytes there item b many =
+      let told : slice_get core.outcomes i ≡ Some None → ⊥ = λ e. let same : Some Full ≡ None = some_is (Some Full) None (sym b ∙ e) in absurd (cc) in (
+        omega (arith, many, lines.lines_sum script core broken report took limits tells reports),
+        omega (arith, many, sends.fewer script core broken limits tells i q name bytes there item told),
+      )
+
+  send_cause : (i n : ℕ) (bytes : List ℕ) (q : Operation) (name : List ℕ) (o : Outcome) → IsOperation run_of i q → q.item ≡ Send name bytes → IsNumberOf n name → slice_get core.outcomes i ≡ Some (Some o) → WhyAt q.client i (ops.Send n bytes) o →
+      SendCause run_of i q name o
+  send_cause i n bytes q name Unopened there item is b w = find_none q.client i n name is w
+  send_cause i n bytes q name (Gone found) there item is b w = found_failed i n q name (λ version. vref_version found.0 ≢ version) there is w
+  send_cause i n bytes q name Full there item is b w = (has_socket n name is w.0, full i q name bytes there item b w.1)
+  send_cause i n bytes q name other there item is b w = absurd w
+
   -- ## Any operation
 
   cause_of : (i : ℕ) (q : Operation) (item : Item) (op : Op) (o : Outcome) → IsOperation run_of i q → q.item ≡ item → op_of Names (link i) item ≡ Some op → slice_get core.outcomes i ≡ Some (Some o) → WhyAt q.client i op o →
@@ -361,6 +427,9 @@ module _ (script : List Item) (core : Core) (ends : List LinkEnd) (quiet : is_qu
   cause_of i q (Open name shape) op o there e asks b w =
       let P : Op → Type 0 = λ x. WhyAt q.client i x o in
       open_cause i (name_number Names name) (link i) q o there (ap is_open e) refl b (subst P (sym (some_is (ops.Open (name_number Names name) (link i)) op asks)) w)
+  cause_of i q (Send name bytes) op o there e asks b w =
+      let P : Op → Type 0 = λ x. WhyAt q.client i x o in
+      send_cause i (name_number Names name) bytes q name o there e (refl, mentions_send script i q there name bytes e) b (subst P (sym (some_is (ops.Send (name_number Names name) bytes) op asks)) w)
   cause_of i q (Hold name) op o there e asks b w =
       let P : Op → Type 0 = λ x. WhyAt q.client i x o in
       hold_cause i (name_number Names name) q name o there (refl, mentions_hold script i q there name e) (subst P (sym (some_is (ops.Hold (name_number Names name)) op asks)) w)
@@ -372,8 +441,37 @@ module _ (script : List Item) (core : Core) (ends : List LinkEnd) (quiet : is_qu
       fail_cause i (name_number Names name) code q name o there e (refl, mentions_fail script i q there name code e) (subst P (sym (some_is (ops.Fail (name_number Names name) code) op asks)) w)
   cause_of i q other op o there e asks b w = absurd (cc)
 
-  pub cause_at : (i : ℕ) (q : Operation) (o : Outcome) → IsOperation run_of i q → HasOutcome run_of i o → Cause run_of i q q.item o
-  cause_at i q o there has =
+  -- an operation of which nothing was said is a send whose message was accepted
+  abbrev pub WasAccepted : ℕ → Type 0
+  WasAccepted i = (k p : ℕ) × (a : Accepted) × (k < length (link_names script)) × Stands k p a × (a.operation ≡ i)
+
+  pub was_accepted : (i : ℕ) (q : Operation) → IsOperation run_of i q → slice_get core.outcomes i ≡ Some None → WasAccepted i
+  was_accepted i q there none_ =
       let a = asked i q there in
-      let b = became i o has in
-      cause_of i q q.item a.0 o there refl a.1 b (why_at i q there a.0 a.1 o b)
+      by_told (tells.told q.client (record { number = i; op = a.0 }) (task_at i q there a.0 a.1))
+    where
+      by_told : ((o : Outcome) × (slice_get core.outcomes i ≡ Some (Some o))) ⊎ WasAccepted i → WasAccepted i
+      by_told (inl w) = absurd (let same : None ≡ Some w.0 = some_is None (Some w.0) (sym none_ ∙ w.1) in cc)
+      by_told (inr w) = w
+
+  accepted_cause : (i : ℕ) (q : Operation) (o : Outcome) → IsOperation run_of i q → o ≡ outcome_by_word (word_at Words (8 * i)) → WasAccepted i → Cause run_of i q q.item o
+  accepted_cause i q o there is w =
+      let k = w.0 in
+      let p = w.1 in
+      let a = w.2 in
+      let s = sends.sent_at script core broken limits tells k p a w.3 w.4 in
+      let same : s.operation ≡ q = some_is s.operation q (sym s.there ∙ ap (slice_get (operations script)) w.5 ∙ there) in
+      let item : q.item ≡ Send s.name a.bytes = ap (λ (x : Operation). x.item) (sym same) ∙ s.item in
+      let outcome : (if nat_le (tells.orders k).placed p then Dropped k p else Placed k p) ≡ o =
+      sym (lines.outcome_at script core broken report took limits tells reports k p a w.3 w.4) ∙ ap (λ n. outcome_by_word (word_at Words (8 * n))) w.5 ∙ sym is in
+      let P : ℕ → Type 0 = λ n. SendCause run_of n q s.name (if nat_le (tells.orders k).placed p then Dropped k p else Placed k p) in
+      let Q : Outcome → Type 0 = λ x. SendCause run_of i q s.name x in
+      let R : Item → Type 0 = λ x. Cause run_of i q x o in
+      subst R (sym item) (subst Q outcome (subst P w.5 (placed_cause k p q s.name a w.3 w.4 (nat_le (tells.orders k).placed p) refl)))
+
+  pub cause_at : (i : ℕ) (q : Operation) (o : Outcome) → IsOperation run_of i q → HasOutcome run_of i o → Cause run_of i q q.item o
+  cause_at i q o there has = by_case (said_or_placed_at i o has)
+    where
+      by_case : SaidOrPlaced Words core.outcomes i o → Cause run_of i q q.item o
+      by_case (inl b) = let a = asked i q there in cause_of i q q.item a.0 o there refl a.1 b (why_at i q there a.0 a.1 o b)
+      by_case (inr w) = accepted_cause i q o there w.1 (was_accepted i q there w.0)

@@ -19,10 +19,10 @@ use Rattle.sock_runs.specs.Sound.{IsWithinLimits, Sound, IsAhead, AllRest}
 use Rattle.sock_runs.proofs.Whole.{Begins}
 use Rattle.client_laws.specs.Openings.{client_view, opening_views}
 use Rattle.client_laws.proofs.Opens.{opens_sound, ending_sound}
-use Rattle.quiet_fits.specs.Limits.{KeepsLimits}
-use Rattle.quiet_fits.proofs.Sizes.{keeps_limits, plan_fits, few_seats}
-use Rattle.quiet_fits.proofs.Tasks.{tasks_of_script}
-use Rattle.quiet_runs.proofs.Lengths.{opens_in_range}
+use Rattle.report_fits.specs.Limits.{KeepsLimits}
+use Rattle.report_fits.proofs.Sizes.{keeps_limits, plan_fits, few_seats}
+use Rattle.report_fits.proofs.Tasks.{tasks_of_script}
+use Rattle.whole_runs.proofs.Lengths.{opens_in_range}
 
 -- the sizes of a script's table
 pub within_limits : (script : List Item) → KeepsLimits script → IsWithinLimits (plan_of script)

@@ -5,7 +5,7 @@ use Rattle.std.proofs.lemmas.Bool.Decides.{Decides-eqb, same_from_decides}
 use Rattle.std.proofs.lemmas.Option.{slice_get_within}
 use Rattle.std.proofs.lemmas.Slice.Eq.{bytes_eq-Decides}
 use Rattle.std.specs.List.{AllByRecursion}
-use Rattle.brpc_model.specs.Items.{Item, Open, Fail, is_open, mentioned}
+use Rattle.brpc_model.specs.Items.{Item, Open, Send, Fail, is_open, mentioned}
 use Rattle.brpc_model.specs.Operations.{Operation, operations, clients, link_names}
 use Rattle.brpc_model.specs.Order.{EachBefore}
 use Rattle.brpc_model.specs.Places.{names}
@@ -16,13 +16,13 @@ use Rattle.sock_programs.specs.declared.task.Task.{Task}
 use Rattle.sock_programs.specs.Tasks.{Numbered, numbered, of_client, op_of, task_of, tasks, name_number, plan_of}
 use Rattle.sock_programs.specs.Scripts.{all_tasks}
 use Rattle.sock_programs.specs.Told.{OpFits, TaskFits, HaveOwnLinks, Differ, IsOpen, alternate, AreTasks}
-use Rattle.quiet_fits.proofs.Lists.{Has, some_is, all_from, all_at, before_from, before_filter, before_filter_map, filter_short, filter_map_short}
-use Rattle.quiet_fits.proofs.Names.{number_at, number_within, mentioned_has}
-use Rattle.quiet_fits.proofs.Numbering.{link_at, is_numbered, are_from, link_later, numbered_length}
-use Rattle.quiet_fits.proofs.TaskLemmas.{tasks_length, of_tasks, IsTaskOf, has_task, map_is, open_asks, hold_asks, drop_asks, fail_asks, mentions_open, mentions_hold, mentions_drop, mentions_fail, named_at}
-use Rattle.quiet_fits.proofs.Reading.{InRange, ArePlaced, are_placed}
-use Rattle.quiet_fits.proofs.Sizes.{is_counted, operation_count}
-use Rattle.quiet_fits.proofs.Alternating.{setup_opens, Numbers, alternates, Untouched, untouched}
+use Rattle.report_fits.proofs.Lists.{Has, some_is, all_from, all_at, before_from, before_filter, before_filter_map, filter_short, filter_map_short}
+use Rattle.report_fits.proofs.Names.{number_at, number_within, mentioned_has}
+use Rattle.report_fits.proofs.Numbering.{link_at, is_numbered, are_from, link_later, numbered_length}
+use Rattle.report_fits.proofs.TaskLemmas.{tasks_length, of_tasks, IsTaskOf, has_task, map_is, open_asks, send_asks, hold_asks, drop_asks, fail_asks, mentions_open, mentions_send, mentions_hold, mentions_drop, mentions_fail, named_at}
+use Rattle.report_fits.proofs.Reading.{InRange, ArePlaced, are_placed}
+use Rattle.report_fits.proofs.Sizes.{is_counted, operation_count}
+use Rattle.report_fits.proofs.Alternating.{setup_opens, Numbers, alternates, Untouched, untouched}
 
 -- ## Each client's tasks
 
@@ -36,12 +36,21 @@ module _ (script : List Item) where
   fail_code : (name : List ℕ) (code : ℕ) → AllByRecursion InRange script → Has script (Fail name code) → code ≢ 0
   fail_code name code range h e = let w = all_at InRange script (Fail name code) range h in absurd (omega (arith, w.0, e))
 
+  sent_bytes : (name bytes : List ℕ) → AllByRecursion InRange script → Has script (Send name bytes) → (bytes ≢ []) × (length bytes ≤ 65536)
+  sent_bytes name bytes range h = let w = all_at InRange script (Send name bytes) range h in (λ e. absurd (omega (arith, w.0, ap length e)), w.1)
+
   op_fits : AllByRecursion InRange script → (i : ℕ) (q : Operation) → slice_get (operations script) i ≡ Some q → (op : Op) → op_of (names script) (link_at (operations script) i) q.item ≡ Some op → OpFits (plan_of script) op
   op_fits range i q there (ops.Open n k) e =
       let w = open_asks (names script) (link_at (operations script) i) q.item n k e in
       let mentions = mentions_open script i q there w.0 w.1 w.2 in
       let named = named_at script i q w.0 w.1 there w.2 in
       (omega (arith, w.3, number_within (names script) w.0 mentions), omega (arith, w.4, slice_get_within (link_names script) (link_at (operations script) i) w.0 named))
+  op_fits range i q there (ops.Send n bytes) e =
+      let w = send_asks (names script) (link_at (operations script) i) q.item n bytes e in
+      let mentions = mentions_send script i q there w.0 bytes w.1 in
+      let P : Item → Type 0 = λ x. Has script x in
+      let sent = sent_bytes w.0 bytes range (subst P w.1 (are_from 0 1 script i q there).there) in
+      (omega (arith, w.2, number_within (names script) w.0 mentions), sent.0, sent.1)
   op_fits range i q there (ops.Hold n) e =
       let w = hold_asks (names script) (link_at (operations script) i) q.item n e in
       let mentions = mentions_hold script i q there w.0 w.1 in

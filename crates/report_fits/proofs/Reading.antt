@@ -1,11 +1,11 @@
 -- What each script has that was read: a proof line by line.
-use Rattle.std.proofs.Common.{◌≡◌, ℕ, ◌≤◌, ◌%◌, ◌==◌, Bool, true, false, not, List, [], ◌∷◌, ◌++◌, fold, position, Option, Some, None, Ok, Err, IfOk, IfSome, if◌then◌else◌, refl, sym, subst, append_assoc, append-nil, arith, codes, bytes_eq}
+use Rattle.std.proofs.Common.{◌≡◌, ℕ, ◌≤◌, ◌%◌, ◌==◌, ◌<◌, nat_lt, Bool, true, false, not, List, [], ◌∷◌, ◌++◌, length, fold, position, Option, Some, None, Ok, Err, IfOk, IfSome, if◌then◌else◌, refl, sym, subst, append_assoc, append-nil, arith, codes, bytes_eq}
 use Rattle.std.proofs.lemmas.Grind.{common_steps}
 use Rattle.std.specs.List.{list_all, slice_split}
 use Rattle.std.specs.Str.Lines.{lines}
-use Rattle.brpc_model.specs.Reads.{Reads, ◌<*>◌, ◌>>=◌}
+use Rattle.brpc_model.specs.Reads.{Reads, ◌<*>◌, ◌>>=◌, option_in, values_of}
 use Rattle.brpc_model.specs.Text.{number_in, name_in, hex_in, sized, words}
-use Rattle.brpc_model.specs.Items.{Item, Slots, Requests, First, Open, Client, Send, Call, Expire, Join, Fail, Hold, Drop, Sched, Tick, To}
+use Rattle.brpc_model.specs.Items.{Item, Slots, Requests, First, Open, Client, Send, Call, Expire, Join, Fail, Hold, Drop, Sched, Tick, To, Shape}
 use Rattle.brpc_model.specs.Lines.{line_item, item_of, is_text_byte, shape_in, alone, of_name, of_number, first_item, open_item, send_item, call_in, call_item, target_in, target_item, fail_item, seat_in, tick_item, kind_in, to_item}
 use Rattle.brpc_model.specs.Places.{at_its_place, is_misplaced, is_too_many, is_unpaired}
 use Rattle.brpc_model.specs.Script.{Faulty, script_of, with_line, one_more, said_behind, items, whole, fault_at, says, is_lost, may_hang}
@@ -13,11 +13,13 @@ use Rattle.brpc_model.proofs.Growing.{items_some, items_none}
 
 -- ## The numbers of a line
 
--- the numbers of an item are in their ranges
+-- the numbers of an item are in their ranges, and a message has 1 to 65,536 bytes
 abbrev pub InRange : Item → Type 0
 InRange (Slots n) = (1 ≤ n) × (n ≤ 31)
 InRange (Requests n) = (1 ≤ n) × (n ≤ 4096)
 InRange (First v) = (v ≤ 4294967292) × (v % 2 ≡ 0)
+InRange (Open name shape) = nat_lt 0 shape.piece ≡ true
+InRange (Send name bytes) = (1 ≤ length bytes) × (length bytes ≤ 65536)
 InRange (Fail name code) = (1500 ≤ code) × (code ≤ 1999)
 InRange other = Unit {0}
 
@@ -65,18 +67,65 @@ first_reads (n ∷ []) = of_then (number_in 0 4294967292 n) _ (λ v. (0 ≤ v) �
     (λ v h. by_test (v % 2 == 0) (Ok (First v)) (Err 4) InRange (λ e. (h.1, grind (arith, common_steps, e))) (λ e. tt))
 first_reads (n ∷ m ∷ more) = tt
 
+either_way : {A : Type 0} (b : Bool) (x y : Reads A) (P : A → Type 0) → IfOk x P → IfOk y P → IfOk (if b then x else y) P
+either_way true x y P g h = g
+either_way false x y P g h = h
+
+-- one part more, of which what is read doesn't depend
+one_part : {A B : Type 0} (f : Reads (A → B)) (r : Reads A) (Q : B → Type 0) → IfOk f (λ g. (a : A) → Q (g a)) → IfOk (f <*> r) Q
+one_part (Ok g) (Ok a) Q h = h a
+one_part (Ok g) (Err k) Q h = tt
+one_part (Err j) (Ok a) Q h = tt
+one_part (Err j) (Err k) Q h = tt
+
+first_part : {A B : Type 0} (f : A → B) (r : Reads A) (P : A → Type 0) (Q : B → Type 0) → IfOk r P → ((a : A) → P a → Q (f a)) → IfOk (Ok f <*> r) Q
+first_part f (Ok a) P Q h g = g a h
+first_part f (Err k) P Q h g = tt
+
+some_number : (low high : ℕ) (w : List ℕ) → 0 < low → IfOk (number_in low high w) (λ n. nat_lt 0 n ≡ true)
+some_number low high w h = grind (arith, common_steps)
+
+some_piece : (values : List (List ℕ)) → IfOk (option_in (number_in 1 65536) 65536 values) (λ n. nat_lt 0 n ≡ true)
+some_piece [] = refl
+some_piece (w ∷ []) = some_number 1 65536 w (omega arith)
+some_piece (w ∷ v ∷ more) = tt
+
+-- a shape whose first part isn't 0, whatever the others are
+some_shape : (piece again fail : Reads ℕ) (ending : Reads (Option ℕ)) (serve : Reads Bool) → IfOk piece (λ n. nat_lt 0 n ≡ true) →
+    IfOk (Ok (λ p a f e s. record { piece = p; again = a; fail = f; serve = s; «end» = e }) <*> piece <*> again <*> fail <*> ending <*> serve) (λ (shape : Shape). nat_lt 0 shape.piece ≡ true)
+some_shape piece again fail ending serve h =
+    let make : ℕ → ℕ → ℕ → Option ℕ → Bool → Shape = λ p a f e s. record { piece = p; again = a; fail = f; serve = s; «end» = e } in
+    let one : IfOk (Ok make <*> piece) (λ g. (a f : ℕ) (e : Option ℕ) (s : Bool) → nat_lt 0 (g a f e s).piece ≡ true) =
+    first_part make piece (λ n. nat_lt 0 n ≡ true) (λ g. (a f : ℕ) (e : Option ℕ) (s : Bool) → nat_lt 0 (g a f e s).piece ≡ true) h (λ p q a f e s. q) in
+    let two : IfOk (Ok make <*> piece <*> again) (λ g. (f : ℕ) (e : Option ℕ) (s : Bool) → nat_lt 0 (g f e s).piece ≡ true) =
+    one_part (Ok make <*> piece) again (λ g. (f : ℕ) (e : Option ℕ) (s : Bool) → nat_lt 0 (g f e s).piece ≡ true) one in
+    let three : IfOk (Ok make <*> piece <*> again <*> fail) (λ g. (e : Option ℕ) (s : Bool) → nat_lt 0 (g e s).piece ≡ true) =
+    one_part (Ok make <*> piece <*> again) fail (λ g. (e : Option ℕ) (s : Bool) → nat_lt 0 (g e s).piece ≡ true) two in
+    let four : IfOk (Ok make <*> piece <*> again <*> fail <*> ending) (λ g. (s : Bool) → nat_lt 0 (g s).piece ≡ true) =
+    one_part (Ok make <*> piece <*> again <*> fail) ending (λ g. (s : Bool) → nat_lt 0 (g s).piece ≡ true) three in
+    one_part (Ok make <*> piece <*> again <*> fail <*> ending) serve (λ (shape : Shape). nat_lt 0 shape.piece ≡ true) four
+
+shape_has : (options : List (List ℕ)) → IfOk (shape_in options) (λ shape. nat_lt 0 shape.piece ≡ true)
+shape_has options = either_way _ _ (Err 3) (λ (shape : Shape). nat_lt 0 shape.piece ≡ true) (some_shape _ _ _ _ _ (some_piece (values_of (codes "piece=") options))) tt
+
 open_reads : (args : List (List ℕ)) → ReadsRange (open_item args)
 open_reads [] = tt
-open_reads (name ∷ options) = of_two (λ n shape. Open n shape) (name_in name) (shape_in options) (λ s. Unit {0}) (anything (shape_in options)) (λ n s t. tt)
+open_reads (name ∷ options) = of_two (λ n shape. Open n shape) (name_in name) (shape_in options) (λ shape. nat_lt 0 shape.piece ≡ true) (shape_has options) (λ n s h. h)
 
 alone_reads : (item : Item) (args : List (List ℕ)) → InRange item → ReadsRange (alone item args)
 alone_reads item [] h = h
 alone_reads item (w ∷ more) h = tt
 
+sized_range : (low high : ℕ) (bytes : List ℕ) → IfOk (sized low high bytes) (λ b. (low ≤ length b) × (length b ≤ high))
+sized_range low high bytes = grind (arith, common_steps)
+
+message_range : (hex : List ℕ) → IfOk (hex_in hex >>= sized 1 65536) (λ b. (1 ≤ length b) × (length b ≤ 65536))
+message_range hex = of_then (hex_in hex) (sized 1 65536) (λ b. Unit {0}) (λ b. (1 ≤ length b) × (length b ≤ 65536)) (anything (hex_in hex)) (λ b t. sized_range 1 65536 b)
+
 send_reads : (args : List (List ℕ)) → ReadsRange (send_item args)
 send_reads [] = tt
 send_reads (name ∷ []) = tt
-send_reads (name ∷ hex ∷ []) = of_two (λ n bytes. Send n bytes) (name_in name) (hex_in hex >>= sized 1 65536) (λ b. Unit {0}) (anything (hex_in hex >>= sized 1 65536)) (λ n b t. tt)
+send_reads (name ∷ hex ∷ []) = of_two (λ n bytes. Send n bytes) (name_in name) (hex_in hex >>= sized 1 65536) (λ b. (1 ≤ length b) × (length b ≤ 65536)) (message_range hex) (λ n b h. h)
 send_reads (name ∷ hex ∷ w ∷ more) = tt
 
 call_reads : (args : List (List ℕ)) → ReadsRange (call_item args)

@@ -1,3 +1,5 @@
 pub mod Lengths
 pub mod Starts
 pub mod Runs
+pub mod OneRun
+pub mod Unasked

@@ -10,11 +10,11 @@ use Rattle.brpc_model.specs.Script.{script_of}
 use Rattle.sock_model.specs.Lawful.{PlanFits}
 use Rattle.sock_programs.specs.Tasks.{plan_of}
 use Rattle.sock_programs.specs.Scripts.{all_tasks}
-use Rattle.quiet_fits.specs.Limits.{KeepsLimits}
-use Rattle.quiet_fits.proofs.Lists.{or_parts, all_at, filter_map_has}
-use Rattle.quiet_fits.proofs.Numbering.{behind_item, OpensOrNot, opens_or_not}
-use Rattle.quiet_fits.proofs.TaskLemmas.{tasks_length}
-use Rattle.quiet_fits.proofs.Reading.{InRange, IsPlaced, by_lines}
+use Rattle.report_fits.specs.Limits.{KeepsLimits}
+use Rattle.report_fits.proofs.Lists.{or_parts, all_at, filter_map_has}
+use Rattle.report_fits.proofs.Numbering.{behind_item, OpensOrNot, opens_or_not}
+use Rattle.report_fits.proofs.TaskLemmas.{tasks_length}
+use Rattle.report_fits.proofs.Reading.{InRange, IsPlaced, by_lines}
 
 -- ## How many of each sort
 

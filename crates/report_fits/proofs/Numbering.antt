@@ -5,7 +5,7 @@ use Rattle.std.specs.List.{cons_option}
 use Rattle.brpc_model.specs.Items.{Item, Slots, Requests, First, Open, Client, Sched, Tick, To, is_open, is_client, is_operation, opened_name}
 use Rattle.brpc_model.specs.Operations.{Operation, operations_from}
 use Rattle.sock_programs.specs.Tasks.{Numbered, numbered_from}
-use Rattle.quiet_fits.proofs.Lists.{Has, has_first, has_later, some_is}
+use Rattle.report_fits.proofs.Lists.{Has, has_first, has_later, some_is}
 
 -- ## Links
 

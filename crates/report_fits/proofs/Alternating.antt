@@ -13,9 +13,9 @@ use Rattle.sock_programs.specs.declared.task.Op.TheVariants as ops
 use Rattle.sock_programs.specs.declared.task.Task.{Task}
 use Rattle.sock_programs.specs.Tasks.{Numbered, numbered_from, of_client, op_of, task_of, name_number}
 use Rattle.sock_programs.specs.Told.{goes_well, in_hand_behind, alternate}
-use Rattle.quiet_fits.proofs.Lists.{or_parts, Has, has_first, has_later, some_is}
-use Rattle.quiet_fits.proofs.Numbering.{behind_item}
-use Rattle.quiet_fits.proofs.Reading.{IsPlaced, ArePlaced}
+use Rattle.report_fits.proofs.Lists.{or_parts, Has, has_first, has_later, some_is}
+use Rattle.report_fits.proofs.Numbering.{behind_item}
+use Rattle.report_fits.proofs.Reading.{IsPlaced, ArePlaced}
 
 -- ## The setup
 

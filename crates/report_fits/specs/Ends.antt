@@ -1,0 +1,28 @@
+-- The links of a script without calls, as they are given back.
+use Rattle.std.specs.Prelude.{ℕ, ◌≡◌, ◌<◌, List, [], length, slice_get, slice_index_or, Some, IfSome, Contains}
+use Rattle.sock_words.specs.declared.plain.Plan.{Plan}
+use Rattle.brpc_model.specs.Items.{Item}
+use Rattle.brpc_model.specs.Operations.{link_names}
+use Rattle.brpc_model.specs.Link.{LinkEnd}
+use Rattle.brpc_model.specs.PlaceWords.{took_at}
+use Rattle.sock_programs.specs.Cores.{Core}
+use Rattle.sock_programs.specs.Tasks.{plan_of}
+use Rattle.sock_programs.specs.Scripts.{took_at_home}
+
+-- link k, as a run that ended in this core gave it back: as far as it tells, it took what lies at its home, and gave nothing;
+-- where it answered that it failed, its count of faults shows it
+pub record IsEnd (p : Plan) (core : Core) (broken : List ℕ) (k : ℕ) (e : LinkEnd) : Type 0 where
+  pub numbered : e.link ≡ k
+  pub took : IfSome e.took (λ bytes. bytes ≡ slice_index_or (took_at_home p core.homes) k [])
+  pub gave_none : e.gave_count ≡ 0
+  pub gave : IfSome e.gave (λ bytes. bytes ≡ [])
+  pub failed : Contains broken k → 0 < e.put_faults
+
+-- each link of the script was given back, in the order of their numbers
+pub record AreEnds (script : List Item) (core : Core) (broken : List ℕ) (ends : List LinkEnd) : Type 0 where
+  pub as_many : length ends ≡ length (link_names script)
+  pub each : (k : ℕ) (e : LinkEnd) → slice_get ends k ≡ Some e → IsEnd (plan_of script) core broken k e
+
+-- what is said of each link that tells what it took is what it tells
+abbrev pub AreTold : List LinkEnd → List (List ℕ) → Type 0
+AreTold ends took = (k : ℕ) (e : LinkEnd) → slice_get ends k ≡ Some e → IfSome e.took (λ bytes. took_at took k ≡ bytes)
