@@ -6,5 +6,6 @@ mod plan;
 mod sizes;
 mod tasks;
 
-pub use plan::plan_of;
+pub use plan::{plan_of, sizes_of};
+pub use sock_message::{BlockPool, NoMemory};
 pub use tasks::{opens_of, tasks_of};

@@ -1,13 +1,15 @@
 ghost use Rattle.std.specs.Prelude.{◌≡◌, map, IfOk};
 ghost use Rattle.sock_programs.specs.Tasks.{plan_of};
+ghost use Rattle.sock_programs.specs.Scripts.{sizes_of};
 ghost use Rattle.script_items.specs.Meaning.{item};
-ghost use Rattle.quiet_fits.specs.Limits.{KeepsLimits};
+ghost use Rattle.report_fits.specs.Limits.{KeepsLimits};
 
 use crate::names::names_of;
 use crate::sizes::{
     client_count, first_version, link_count, operation_count, request_count, slot_count,
 };
 use script_items::Line;
+use sock_programs::Sizes;
 use sock_words::Plan;
 use std::alloc::{AllocError, Global};
 
@@ -27,4 +29,14 @@ pub fn plan_of(alloc: Global, lines: &[Line]) -> Result<Plan, AllocError>
         seats: client_count(lines) as u16 + 1,
         first: first_version(lines),
     })
+}
+
+/// How many slots and requests a table has.
+pub fn sizes_of(plan: &Plan) -> Sizes
+    ensures { result ≡ sizes_of plan.now }
+{
+    Sizes {
+        slots: plan.slots,
+        requests: plan.requests,
+    }
 }

@@ -1,7 +1,7 @@
 use Rattle.std.proofs.Common.{rules, ◌≡◌, ◌+◌, arith, length, map, ap, sym, ◌∙◌}
 use Rattle.std.proofs.lemmas.List.{length-map}
 use Rattle.brpc_model.specs.Places.{names}
-use Rattle.quiet_fits.proofs.Sizes.{link_count, operation_count}
+use Rattle.report_fits.proofs.Sizes.{link_count, operation_count}
 use Rattle.script_items.specs.Meaning.{item}
 use Rattle.script_tasks.proofs.Plans.{plan_is}
 use Rattle.script_tasks.proofs.plan.plan_of.Goals as goal
