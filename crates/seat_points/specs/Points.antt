@@ -1,0 +1,465 @@
+-- What a seat has still to do, by the point at which it stands: the programs of the operations from each of their steps on.
+use Rattle.std.specs.Prelude.{ℕ, ◌+◌, ◌-◌, ◌*◌, ◌/◌, ◌%◌, ◌==◌, ◌||◌, not, ◌<◌, ◌≤◌, Bool, true, false, nat_lt, nat_le, if◌then◌else◌, List, [], ◌∷◌, ◌++◌, length, drop, Option, Some, None}
+use Rattle.sock_words.specs.Words.{socket_id, socket_id_version, socket_id_slot, vref_version}
+use Rattle.sock_words.specs.declared.socket_id.SocketId.{SocketId}
+use Rattle.sock_words.specs.declared.ticket.Ticket.{Ticket}
+use Rattle.sock_words.specs.declared.outcome.Outcome.TheVariants.{Opened, SlotsFull, Unopened, Gone, Full, Held, Freed, Kept}
+use Rattle.sock_io.specs.declared.link.Put.{Put}
+use Rattle.sock_io.specs.declared.link.Put.TheVariants as puts
+use Rattle.sock_io.specs.declared.link.Ready.{Ready}
+use Rattle.sock_model.specs.Entries.{slot_of, generation_of}
+use Rattle.sock_model.specs.Memory.{IDLE}
+use Rattle.sock_message.specs.Pieces.{piece}
+use Rattle.sock_programs.specs.declared.task.Sizes.{Sizes}
+use Rattle.sock_programs.specs.Calls as calls
+use Rattle.sock_programs.specs.Writings as heads
+use Rattle.sock_programs.specs.Programs.{Program, Do, Say, Sent, Rest, TakeMessage, TakeHome, PutHome, PutBytes, AskReady, Write, NO_SOCKET, LAST_VERSION, recycle, release, address, set_failed, no_socket, make_socket, open_from, fail_outcome, fail, hold, end_open}
+use Rattle.sock_programs.specs.Sends.{block, one_more, freed, passed, put_answered, write_link, heading_of, accept, claim_from, start, send}
+use Rattle.sock_programs.specs.Clients.{HeldLife}
+use Rattle.seat_points.specs.declared.point.Opening.{Opening}
+use Rattle.seat_points.specs.declared.point.OpenStep.{OpenStep}
+use Rattle.seat_points.specs.declared.point.OpenStep.TheVariants as opens
+use Rattle.seat_points.specs.declared.point.Aim.{Aim}
+use Rattle.seat_points.specs.declared.point.Aim.TheVariants as aims
+use Rattle.seat_points.specs.declared.point.SeekStep.{SeekStep}
+use Rattle.seat_points.specs.declared.point.SeekStep.TheVariants as seeks
+use Rattle.seat_points.specs.declared.point.Failing.{Failing}
+use Rattle.seat_points.specs.declared.point.FailStep.{FailStep}
+use Rattle.seat_points.specs.declared.point.FailStep.TheVariants as fails
+use Rattle.seat_points.specs.declared.point.Then.{Then}
+use Rattle.seat_points.specs.declared.point.Then.TheVariants as thens
+use Rattle.seat_points.specs.declared.point.ReleaseStep.{ReleaseStep}
+use Rattle.seat_points.specs.declared.point.ReleaseStep.TheVariants as releases
+use Rattle.seat_points.specs.declared.point.Sending.{Sending}
+use Rattle.seat_points.specs.declared.point.SendStep.{SendStep}
+use Rattle.seat_points.specs.declared.point.SendStep.TheVariants as sends
+use Rattle.seat_points.specs.declared.point.Holder.{Holder}
+use Rattle.seat_points.specs.declared.point.Writer.{Writer}
+use Rattle.seat_points.specs.declared.point.Current.{Current}
+use Rattle.seat_points.specs.declared.point.WriteStep.{WriteStep}
+use Rattle.seat_points.specs.declared.point.WriteStep.TheVariants as writes
+use Rattle.seat_points.specs.declared.point.Point.{Point}
+use Rattle.seat_points.specs.declared.point.Point.TheVariants as points
+use Rattle.seat_points.specs.declared.point.Next.{Next}
+use Rattle.seat_points.specs.declared.point.Next.TheVariants as nexts
+
+-- what stands round a point: how many slots and requests there are, how the client goes on by what it holds, how the ending
+-- goes on, what is held now, the message that the seat is to send, and of the message that it writes what the link hasn't taken,
+-- and how many bytes it took
+pub record Around : Type 0 where
+  pub sizes : Sizes
+  pub goes_on : List HeldLife → Program
+  pub ends : Program
+  pub held : List HeldLife
+  pub message : List ℕ
+  pub left : List ℕ
+  pub taken : ℕ
+
+-- what follows the release of a life that was set failed, where this word was found
+abbrev pub failed_then : Option ℕ → ℕ → Then
+failed_then (Some o) found = thens.Failed o (record { 0 = found })
+failed_then None found = thens.Ended
+
+-- what follows where another version was found
+abbrev pub gone_then : Aim → ℕ → Then
+gone_then (aims.Hold o name) found = thens.Gone o (record { 0 = found })
+gone_then (aims.Send o name) found = thens.Gone o (record { 0 = found })
+gone_then (aims.Fail o name code) found = thens.Gone o (record { 0 = found })
+gone_then (aims.End o) found = thens.Ended
+
+-- the word that was loaded is the id of a life
+abbrev pub has_life : Aim → ℕ → Bool
+has_life (aims.End o) word = not ((word == 0) || (word == NO_SOCKET))
+has_life other word = not (word == 0)
+
+-- whoever writes, as the programs have it
+abbrev pub holder_of : Holder → heads.Holder
+holder_of h = record { id = h.id.0; link = h.link; last = h.last.0; places = h.places }
+
+module _ (a : Around) where
+  abbrev pub client_on : Program
+  client_on = a.goes_on a.held
+
+  -- what follows a release, told whether it recycled the slot
+  abbrev pub then_program : Then → Bool → Program
+  then_program (thens.Gone o found) freed = Say o (Gone found) client_on
+  then_program (thens.Failed o found) freed = Say o (fail_outcome found.0) client_on
+  then_program (thens.Dropped o) freed = Say o (if freed then Freed else Kept) client_on
+  then_program (thens.Full o) freed = Say o Full client_on
+  then_program (thens.Sent o) freed = Sent o client_on
+  then_program thens.GaveBack freed = client_on
+  then_program thens.Ended freed = a.ends
+
+  -- ## Releasing
+
+  abbrev pub free_program : ℕ → Then → Program
+  free_program i t = Do (calls.FreeSlot i) (λ _. then_program t true)
+
+  abbrev pub put_program : ℕ → Then → ℕ → ℕ → Program
+  put_program i t w k = Do (calls.PutLink k) (λ _. if nat_le w LAST_VERSION then free_program i t else then_program t true)
+
+  abbrev pub finish_program : ℕ → Then → ℕ → ℕ → Program
+  finish_program i t w k = Do (calls.FinishLink k) (λ _. put_program i t w k)
+
+  abbrev pub take_program : ℕ → Then → ℕ → ℕ → Program
+  take_program i t w k = Do (calls.TakeLink k) (λ _. finish_program i t w k)
+
+  abbrev pub release_program : ℕ → Then → ReleaseStep → Program
+  release_program i t releases.SubRef = release i (then_program t)
+  release_program i t (releases.Recycle from) = recycle i from.0 (then_program t)
+  release_program i t (releases.LoadLink w) = Do (calls.LoadLink i w) (λ k. take_program i t w k)
+  release_program i t (releases.TakeLink w k) = take_program i t w k
+  release_program i t (releases.FinishLink w k) = finish_program i t w k
+  release_program i t (releases.PutLink w k) = put_program i t w k
+  release_program i t releases.FreeSlot = free_program i t
+
+  -- ## Failing
+
+  abbrev pub failed_program : Failing → ℕ → Program
+  failed_program f found = release (socket_id_slot f.id.0) (then_program (failed_then f.operation found))
+
+  abbrev pub fail_program : Failing → FailStep → Program
+  fail_program f fails.SetOdd = set_failed f.id.0 f.code (failed_program f)
+  fail_program f (fails.StoreCode found) = Do (calls.StoreCode (socket_id_slot f.id.0) (socket_id_version f.id.0) f.code) (λ _. Do (calls.SubRef (socket_id_slot f.id.0)) (λ _. failed_program f found.0))
+  fail_program f (fails.GiveBack found) = Do (calls.SubRef (socket_id_slot f.id.0)) (λ _. failed_program f found.0)
+
+  -- ## Sending
+
+  -- behind a message that was accepted
+  abbrev pub sent_program : ℕ → ℕ → Program
+  sent_program o id = release (socket_id_slot id) (then_program (thens.Sent o))
+
+  abbrev pub connect_program : Sending → ℕ → ℕ → Program
+  connect_program s q before = Do (calls.Connect q before) (λ _. sent_program s.operation s.id.0)
+
+  abbrev pub swap_program : Sending → ℕ → ℕ → Program
+  swap_program s q own = Do (calls.SwapHead (socket_id_slot s.id.0) own) (λ found.
+      if nat_lt found IDLE then connect_program s q found else write_link s.id.0 q own (sent_program s.operation s.id.0))
+
+  abbrev pub unconnect_program : Sending → ℕ → ℕ → Program
+  unconnect_program s q own = Do (calls.Unconnect q) (λ _. swap_program s q own)
+
+  -- the message of request q is taken, with the link in hand
+  abbrev pub first_program : Sending → ℕ → ℕ → ℕ → ℕ → Program
+  first_program s q own k places = TakeMessage q (λ heading bytes. Write (heads.Puts (record { id = s.id.0; link = k; last = own; places = places }) own heading bytes 0 false) (sent_program s.operation s.id.0))
+
+  abbrev pub send_program : Sending → SendStep → Program
+  send_program s sends.Look = start a.sizes.requests s.operation s.id.0 a.message client_on
+  send_program s (sends.Claim q) = Do (calls.ClaimRequest s.id.0 q) (λ found.
+      if found % 2 == 0 then accept s.id.0 q (found / 2) (heading_of s.operation) a.message (sent_program s.operation s.id.0)
+      else claim_from (a.sizes.requests - (q + 1)) (q + 1) s.operation s.id.0 a.message client_on)
+  send_program s (sends.PutMessage q own) = Do (calls.PutMessage q (heading_of s.operation) a.message) (λ _. unconnect_program s q own.0)
+  send_program s (sends.Unconnect q own) = unconnect_program s q own.0
+  send_program s (sends.SwapHead q own) = swap_program s q own.0
+  send_program s (sends.Connect q before) = connect_program s q before.0
+  send_program s (sends.FindLink q own) = write_link s.id.0 q own.0 (sent_program s.operation s.id.0)
+  send_program s (sends.TakeHome q own k) = TakeHome k (λ places. first_program s q own.0 k places)
+  send_program s (sends.TakeMessage q own k places) = first_program s q own.0 k places
+
+  -- ## Writing
+
+  module _ (w : Writer) where
+    -- behind the loops
+    abbrev pub written_program : Program
+    written_program = sent_program w.operation w.holder.id.0
+
+    abbrev pub puts_program : Current → Bool → Program
+    puts_program c asked = Write (heads.Puts (holder_of w.holder) c.ticket.0 (heading_of c.operation) a.left a.taken asked) written_program
+
+    abbrev pub give_program : Current → Program
+    give_program c = Do (calls.SubRef (socket_id_slot w.holder.id.0)) (λ _. puts_program c false)
+
+    abbrev pub drop_program : Current → Program
+    drop_program c = Do (calls.DropPlace (8 * c.operation) w.holder.link w.holder.places) (λ _. passed (one_more (holder_of w.holder)) c.ticket.0 written_program)
+
+    -- a message is taken, with which the holder goes on
+    abbrev pub next_message : heads.Holder → ℕ → Program
+    next_message h ticket = TakeMessage (slot_of ticket) (λ heading bytes. Write (heads.Puts h ticket heading bytes 0 false) written_program)
+
+    -- what follows the giving back of a request: the message of the next ticket, or the head
+    abbrev pub freed_program : Option Ticket → Program
+    freed_program None = Write (heads.Empties (holder_of w.holder)) written_program
+    freed_program (Some next) = next_message (holder_of w.holder) next.0
+
+    abbrev pub taken_again : ℕ → Program
+    taken_again found = TakeHome w.holder.link (λ places. Write (heads.Walks (record (holder_of w.holder) { places = places }) found found 0) written_program)
+
+    abbrev pub walk_program : ℕ → ℕ → ℕ → Program
+    walk_program top at after = Write (heads.Walks (holder_of w.holder) top at after) written_program
+
+    abbrev pub first_of_walk : ℕ → ℕ → Program
+    first_of_walk top at = next_message (record (holder_of w.holder) { last = top }) at
+
+    abbrev pub write_program : WriteStep → Program
+    write_program (writes.Look c asked) = puts_program c asked
+    write_program (writes.Put c asked) = PutBytes w.holder.link asked (piece a.left a.taken) (put_answered (holder_of w.holder) c.ticket.0 (heading_of c.operation) a.left a.taken written_program)
+    write_program (writes.Ask c) = Write (heads.Waits (holder_of w.holder) c.ticket.0 (heading_of c.operation) a.left a.taken) written_program
+    write_program (writes.SetOdd c) = set_failed w.holder.id.0 1009 (λ _. puts_program c false)
+    write_program (writes.StoreCode c) = Do (calls.StoreCode (socket_id_slot w.holder.id.0) (socket_id_version w.holder.id.0) 1009) (λ _. give_program c)
+    write_program (writes.GiveBack c) = give_program c
+    write_program (writes.StorePlace c) = Do (calls.StorePlace (8 * c.operation) w.holder.link w.holder.places) (λ _. passed (one_more (holder_of w.holder)) c.ticket.0 written_program)
+    write_program (writes.LoadCode c) = Do (calls.LoadCode (socket_id_slot w.holder.id.0) (socket_id_version w.holder.id.0)) (λ _. drop_program c)
+    write_program (writes.DropPlace c) = drop_program c
+    write_program (writes.ReadNext now) = Do (calls.ReadNext (slot_of now.0)) (λ next. freed now.0 (next_message (holder_of w.holder) next))
+    write_program (writes.Free now next) = Do (calls.FreeRequest (slot_of now.0) (generation_of now.0)) (λ _. freed_program next)
+    write_program (writes.TakeMessage next) = next_message (holder_of w.holder) next.0
+    write_program writes.PutHome = Write (heads.Empties (holder_of w.holder)) written_program
+    write_program writes.EmptyHead = Do (calls.EmptyHead (socket_id_slot w.holder.id.0) w.holder.last.0) (λ found. if found == w.holder.last.0 then written_program else taken_again found)
+    write_program (writes.TakeHome found) = taken_again found.0
+    write_program (writes.Walk top at after) = walk_program top.0 at.0 after.0
+    write_program (writes.Turn top at after before) = Do (calls.TurnNext (slot_of at.0) after.0) (λ _.
+        if before.0 == w.holder.last.0 then first_of_walk top.0 at.0 else walk_program top.0 before.0 at.0)
+    write_program (writes.TakeFirst top at) = first_of_walk top.0 at.0
+
+  -- ## The way to a life
+
+  -- without a life under the name
+  abbrev pub unopened_program : Aim → Program
+  unopened_program (aims.Hold o name) = Say o Unopened client_on
+  unopened_program (aims.Send o name) = Say o Unopened client_on
+  unopened_program (aims.Fail o name code) = Say o Unopened client_on
+  unopened_program (aims.End o) = a.ends
+
+  -- with a reference to the life
+  abbrev pub reached_program : Aim → SocketId → Program
+  reached_program (aims.Hold o name) id = Say o Held (a.goes_on (a.held ++ (record { name = name; id = id.0 }) ∷ []))
+  reached_program (aims.Send o name) id = send_program (record { operation = o; id = id }) sends.Look
+  reached_program (aims.Fail o name code) id = fail_program (record { id = id; code = code; operation = Some o }) fails.SetOdd
+  reached_program (aims.End o) id = fail_program (record { id = id; code = 1014; operation = None }) fails.SetOdd
+
+  abbrev pub seek_program : Aim → SeekStep → Program
+  seek_program (aims.Hold o name) seeks.Load = hold o name (λ id. a.goes_on (a.held ++ (record { name = name; id = id }) ∷ [])) client_on
+  seek_program (aims.Send o name) seeks.Load = send a.sizes.requests o name a.message client_on
+  seek_program (aims.Fail o name code) seeks.Load = fail o name code client_on
+  seek_program (aims.End o) seeks.Load = end_open o a.ends
+  seek_program aim (seeks.AddRef id) = address id.0 (reached_program aim id) (λ found. then_program (gone_then aim found) false)
+
+  -- ## Opening
+
+  abbrev pub name_program : Opening → ℕ → ℕ → Program
+  name_program g i v = Do (calls.StoreName g.name (socket_id v i + 1)) (λ _. Say g.operation (Opened i v g.link) client_on)
+
+  abbrev pub told_program : Opening → ℕ → ℕ → Program
+  told_program g i v = Do (calls.StoreOpen g.operation (socket_id v i + 1)) (λ _. name_program g i v)
+
+  abbrev pub birth_program : Opening → ℕ → Program
+  birth_program g i = Do (calls.GiveBirth i g.link) (λ found. told_program g i (vref_version found))
+
+  abbrev pub wipe_program : Opening → ℕ → Program
+  wipe_program g i = Do (calls.WipeCode i g.link) (λ _. birth_program g i)
+
+  abbrev pub reset_program : Opening → ℕ → Program
+  reset_program g i = Do (calls.ResetHead i g.link) (λ _. wipe_program g i)
+
+  abbrev pub none_program : Opening → Program
+  none_program g = Do (calls.StoreOpen g.operation NO_SOCKET) (λ _. Say g.operation SlotsFull client_on)
+
+  abbrev pub unused_program : Opening → Program
+  unused_program g = Do (calls.PutLink g.link) (λ _. none_program g)
+
+  abbrev pub open_program : Opening → OpenStep → Program
+  open_program g (opens.Claim i) = Do (calls.ClaimSlot i) (λ found.
+      if found == 0 then make_socket g.operation g.name g.link i client_on else open_from (a.sizes.slots - (i + 1)) (i + 1) g.operation g.name g.link client_on)
+  open_program g (opens.StoreLink i) = make_socket g.operation g.name g.link i client_on
+  open_program g (opens.ResetHead i) = reset_program g i
+  open_program g (opens.WipeCode i) = wipe_program g i
+  open_program g (opens.GiveBirth i) = birth_program g i
+  open_program g (opens.StoreOpen i v) = told_program g i v
+  open_program g (opens.StoreName i v) = name_program g i v
+  open_program g opens.TakeLink = no_socket g.operation g.link client_on
+  open_program g opens.FinishLink = Do (calls.FinishLink g.link) (λ _. unused_program g)
+  open_program g opens.PutLink = unused_program g
+  open_program g opens.StoreNone = none_program g
+
+  -- ## Points
+
+  -- from a point on
+  abbrev pub point_program : Point → Program
+  point_program points.Rest = Rest
+  point_program (points.Open g at) = open_program g at
+  point_program (points.Seek aim at) = seek_program aim at
+  point_program (points.Fail f at) = fail_program f at
+  point_program (points.Release i t at) = release_program i t at
+  point_program (points.Send s at) = send_program s at
+  point_program (points.Write w at) = write_program w at
+
+  -- behind a step
+  abbrev pub next_program : Next → Program
+  next_program (nexts.Point point) = point_program point
+  next_program (nexts.Said o outcome) = Say o outcome client_on
+  next_program (nexts.Sent o) = Sent o client_on
+  next_program (nexts.Held o name id) = Say o Held (a.goes_on (a.held ++ (record { name = name; id = id.0 }) ∷ []))
+  next_program nexts.GaveBack = client_on
+  next_program nexts.Ended = a.ends
+
+-- ## What follows a step
+
+-- behind a step on a word, by the word found
+abbrev pub word_behind : Program → ℕ → Program
+word_behind (Do call next) found = next found
+word_behind other found = other
+
+-- that may be the first step of a round
+abbrev pub after_word : Program → ℕ → Program
+after_word (Write w after) found = word_behind (block w after) found
+after_word other found = word_behind other found
+
+-- with the message of operation o
+abbrev pub after_message : Program → ℕ → List ℕ → Program
+after_message (TakeMessage q next) o bytes = next (heading_of o) bytes
+after_message other o bytes = other
+
+-- with the link, of whose messages so many have places
+abbrev pub after_link : Program → ℕ → Program
+after_link (TakeHome k next) places = next places
+after_link other places = other
+
+-- where the link is home again: that is the first step of a round
+abbrev pub home_behind : Program → Program
+home_behind (PutHome k n after) = after
+home_behind other = other
+
+abbrev pub after_home : Program → Program
+after_home (Write w after) = home_behind (block w after)
+after_home other = other
+
+-- and where the link answered
+abbrev pub after_put : Program → Put → Program
+after_put (PutBytes k asked bytes next) answer = next answer
+after_put other answer = other
+
+abbrev pub ready_behind : Program → Ready → Program
+ready_behind (AskReady k next) answer = next answer
+ready_behind other answer = other
+
+abbrev pub after_ready : Program → Ready → Program
+after_ready (Write w after) answer = ready_behind (block w after) answer
+after_ready other answer = other
+
+-- what stands round a point then
+abbrev pub with_message : List ℕ → Around → Around
+with_message bytes a = record a { left = bytes; taken = 0 }
+
+abbrev pub with_put : Put → Around → Around
+with_put (puts.Took n) a = record a { left = drop n a.left; taken = a.taken + n }
+with_put other a = a
+
+-- ## Links in hand
+
+-- the link in hand without a right to write it, at a point
+abbrev pub link_at : Point → Option ℕ
+link_at (points.Open g opens.FinishLink) = Some g.link
+link_at (points.Open g opens.PutLink) = Some g.link
+link_at (points.Release i t (releases.FinishLink w k)) = Some k
+link_at (points.Release i t (releases.PutLink w k)) = Some k
+link_at other = None
+
+-- and behind a step
+abbrev pub link_behind : Next → Option ℕ
+link_behind (nexts.Point point) = link_at point
+link_behind other = None
+
+-- and behind the next step of a point
+abbrev pub link_left : Point → Option ℕ
+link_left (points.Open g opens.TakeLink) = Some g.link
+link_left (points.Open g opens.FinishLink) = Some g.link
+link_left (points.Release i t (releases.TakeLink w k)) = Some k
+link_left (points.Release i t (releases.FinishLink w k)) = Some k
+link_left other = None
+
+-- ## What a table has
+
+-- a slot that is tried is one of so many
+abbrev pub IsOneOf : ℕ → OpenStep → Type 0
+IsOneOf slots (opens.Claim i) = i < slots
+IsOneOf slots other = Unit {0}
+
+-- and a request
+abbrev pub IsOneOfRequests : ℕ → SendStep → Type 0
+IsOneOfRequests requests (sends.Claim q) = q < requests
+IsOneOfRequests requests other = Unit {0}
+
+-- one more place has room in a place word
+abbrev pub HasPlaceLeft : Writer → WriteStep → Type 0
+HasPlaceLeft w (writes.StorePlace c) = w.holder.places < 4294967295
+HasPlaceLeft w (writes.DropPlace c) = w.holder.places < 4294967295
+HasPlaceLeft w other = Unit {0}
+
+abbrev pub IsWithin : Sizes → Point → Type 0
+IsWithin sizes (points.Open g at) = IsOneOf sizes.slots at
+IsWithin sizes (points.Send s at) = (sizes.requests ≤ 4096) × IsOneOfRequests sizes.requests at
+IsWithin sizes (points.Write w at) = HasPlaceLeft w at
+IsWithin sizes other = Unit {0}
+
+-- ## Words found
+
+-- a slot is recycled to a version that there is, and its link is one of the table's
+abbrev pub MayFindIn : ReleaseStep → ℕ → Type 0
+MayFindIn (releases.Recycle from) found = vref_version from.0 < 4294967295
+MayFindIn (releases.LoadLink w) found = found < 256
+MayFindIn other found = Unit {0}
+
+-- a request's word has a generation below 2^47
+abbrev pub MayFindOf : SendStep → ℕ → Type 0
+MayFindOf (sends.Claim q) found = found < 281474976710656
+MayFindOf (sends.FindLink q own) found = found < 256
+MayFindOf other found = Unit {0}
+
+abbrev pub MayFind : Point → ℕ → Type 0
+MayFind (points.Release i t at) found = MayFindIn at found
+MayFind (points.Send s at) found = MayFindOf at found
+MayFind other found = Unit {0}
+
+-- ## Which step comes next
+
+-- one on a word, or a message into its home
+abbrev pub SendsByWord : SendStep → Type 0
+SendsByWord (sends.TakeHome q own k) = ⊥
+SendsByWord (sends.TakeMessage q own k places) = ⊥
+SendsByWord other = Unit {0}
+
+abbrev pub WritesByWord : WriteStep → Type 0
+WritesByWord (writes.Put c asked) = ⊥
+WritesByWord (writes.Ask c) = ⊥
+WritesByWord (writes.TakeMessage next) = ⊥
+WritesByWord writes.PutHome = ⊥
+WritesByWord (writes.TakeHome found) = ⊥
+WritesByWord (writes.TakeFirst top at) = ⊥
+WritesByWord other = Unit {0}
+
+abbrev pub GoesByWord : Point → Type 0
+GoesByWord points.Rest = ⊥
+GoesByWord (points.Send s at) = SendsByWord at
+GoesByWord (points.Write w at) = WritesByWord at
+GoesByWord other = Unit {0}
+
+-- the message of a request is taken
+abbrev pub TakesMessage : Point → Type 0
+TakesMessage (points.Send s (sends.TakeMessage q own k places)) = Unit {0}
+TakesMessage (points.Write w (writes.TakeMessage next)) = Unit {0}
+TakesMessage (points.Write w (writes.TakeFirst top at)) = Unit {0}
+TakesMessage other = ⊥
+
+-- a link is taken to be written
+abbrev pub TakesLink : Point → Type 0
+TakesLink (points.Send s (sends.TakeHome q own k)) = Unit {0}
+TakesLink (points.Write w (writes.TakeHome found)) = Unit {0}
+TakesLink other = ⊥
+
+-- it goes home, a piece is put, or the link is asked
+abbrev pub PutsHome : Point → Type 0
+PutsHome (points.Write w writes.PutHome) = Unit {0}
+PutsHome other = ⊥
+
+abbrev pub PutsPiece : Point → Type 0
+PutsPiece (points.Write w (writes.Put c asked)) = Unit {0}
+PutsPiece other = ⊥
+
+abbrev pub Asks : Point → Type 0
+Asks (points.Write w (writes.Ask c)) = Unit {0}
+Asks other = ⊥
+
+-- the link took all that was left
+abbrev pub is_whole : List ℕ → Put → Bool
+is_whole left (puts.Took n) = nat_le (length left) n
+is_whole left other = false

@@ -1,0 +1,100 @@
+ghost use Rattle.std.specs.Prelude.{◌≡◌, ℕ, List, None, Bool};
+ghost use Rattle.seat_points.specs.Points.{Around, point_program, next_program, after_word, after_message, after_link, after_home, after_put, after_ready, with_message, with_put, is_whole, IsWithin, MayFind, GoesByWord, TakesMessage, TakesLink, PutsHome, PutsPiece, Asks, link_behind, link_left};
+
+use crate::point::{Next, Point, SendStep, WriteStep};
+use sock_io::{Put, Ready};
+use sock_programs::Sizes;
+
+impl Point {
+    /// Where a seat goes on, over a table of these sizes, by the word that its step found; 0 where it was none on a word.
+    pub fn next(self, sizes: Sizes, found: u64) -> Next
+        requires within { IsWithin sizes self }
+        requires word { MayFind self found }
+        requires step { GoesByWord self }
+        ensures program { (a : Around) → a.sizes ≡ sizes → next_program a result ≡ after_word (point_program a self) found }
+        ensures hand { link_behind result ≡ link_left self }
+    {
+        match self {
+            Point::Rest => Next::Ended,
+            Point::Open(opening, step) => opening.next(sizes.slots, step, found),
+            Point::Seek(aim, step) => aim.next(step, found),
+            Point::Fail(failing, step) => failing.next(step, found),
+            Point::Release(slot, follows, step) => step.next(slot, follows, found),
+            Point::Send(sending, step) => sending.next(sizes.requests, step, found),
+            Point::Write(writer, step) => writer.next(step, found),
+        }
+    }
+
+    /// Where it goes on with the message of this operation in hand.
+    pub fn with_message(self, operation: u16) -> Next
+        requires step { TakesMessage self }
+        ensures program { (a : Around) (bytes : List ℕ) → next_program (with_message bytes a) result ≡ after_message (point_program a self) operation bytes }
+        ensures hand { link_behind result ≡ None }
+    {
+        match self {
+            Point::Send(sending, SendStep::TakeMessage(_, own, link, places)) => {
+                sending.writes(own, link, places, operation)
+            }
+            Point::Write(writer, WriteStep::TakeMessage(next)) => writer.writes(next, operation),
+            Point::Write(writer, WriteStep::TakeFirst(top, at)) => {
+                writer.up_to(top).writes(at, operation)
+            }
+            _ => Next::Ended,
+        }
+    }
+
+    /// Where it goes on with its link in hand, of whose messages so many have places.
+    pub fn with_link(self, places: u32) -> Next
+        requires step { TakesLink self }
+        ensures program { (a : Around) → next_program a result ≡ after_link (point_program a self) places }
+        ensures hand { link_behind result ≡ None }
+    {
+        match self {
+            Point::Send(sending, SendStep::TakeHome(request, own, link)) => {
+                sending.to(SendStep::TakeMessage(request, own, link, places))
+            }
+            Point::Write(writer, WriteStep::TakeHome(found)) => writer.walks(found, places),
+            _ => Next::Ended,
+        }
+    }
+
+    /// Where it goes on once its link is home.
+    pub fn link_home(self) -> Next
+        requires step { PutsHome self }
+        ensures program { (a : Around) → next_program a result ≡ after_home (point_program a self) }
+        ensures hand { link_behind result ≡ None }
+    {
+        match self {
+            Point::Write(writer, _) => writer.to(WriteStep::EmptyHead),
+            _ => Next::Ended,
+        }
+    }
+
+    /// Where it goes on by what its link answered to a put, and whether it took all that was left.
+    pub fn put_answered(self, answer: Put, whole: bool) -> Next
+        requires step { PutsPiece self }
+        ensures program { (a : Around) → whole ≡ is_whole a.left answer → next_program (with_put answer a) result ≡ after_put (point_program a self) answer }
+        ensures hand { link_behind result ≡ None }
+    {
+        match self {
+            Point::Write(writer, WriteStep::Put(current, _)) => {
+                writer.to(current.put_answered(answer, whole))
+            }
+            _ => Next::Ended,
+        }
+    }
+
+    /// Where it goes on by what its link answered to the question whether it takes more.
+    pub fn ready_answered(self, answer: Ready) -> Next
+        requires step { Asks self }
+        ensures program { (a : Around) → next_program a result ≡ after_ready (point_program a self) answer }
+        ensures hand { link_behind result ≡ None }
+    {
+        match self {
+            Point::Write(writer, WriteStep::Ask(current)) => {
+                writer.to(current.ready_answered(answer))
+            }
+            _ => Next::Ended,
+        }
+    }
+}

@@ -1,0 +1,262 @@
+use crate::call::Call;
+use sock_words::{Outcome, SocketId, Ticket, Vref};
+
+/// What an `open` is about: its number in the script, and the numbers of its name and its link.
+#[derive(Clone, Copy)]
+pub struct Opening {
+    pub operation: u16,
+    pub name: u16,
+    pub link: u16,
+}
+
+/// Where an `open` stands, by the step that comes next.
+#[derive(Clone, Copy)]
+pub enum OpenStep {
+    /// This slot is tried.
+    Claim(u16),
+    /// The slot is claimed, and gets its link,
+    StoreLink(u16),
+    /// then its idle head,
+    ResetHead(u16),
+    /// then the code 0,
+    WipeCode(u16),
+    /// and then its first reference.
+    GiveBirth(u16),
+    /// The life of this slot and version is told in the word of the `open`,
+    StoreOpen(u16, u32),
+    /// and then in the word of the name.
+    StoreName(u16, u32),
+    /// No slot was free: the link is taken,
+    TakeLink,
+    /// its writing half is ended,
+    FinishLink,
+    /// it is put back,
+    PutLink,
+    /// and the word of the `open` says so.
+    StoreNone,
+}
+
+/// Why a life is addressed.
+#[derive(Clone, Copy)]
+pub enum Aim {
+    Hold {
+        operation: u16,
+        name: u16,
+    },
+    Send {
+        operation: u16,
+        name: u16,
+    },
+    Fail {
+        operation: u16,
+        name: u16,
+        code: u16,
+    },
+    /// The ending of the socket of an `open`.
+    End {
+        operation: u16,
+    },
+}
+
+/// Where the way to a life stands.
+#[derive(Clone, Copy)]
+pub enum SeekStep {
+    /// The word with its id is loaded.
+    Load,
+    /// A reference to the life of this id is added.
+    AddRef(SocketId),
+}
+
+/// A life that is held and is to be set failed, with which code; and by which operation, or by the ending.
+#[derive(Clone, Copy)]
+pub struct Failing {
+    pub id: SocketId,
+    pub code: u16,
+    pub operation: Option<u16>,
+}
+
+/// Where the failing of a life stands. The word is that which the first step found.
+#[derive(Clone, Copy)]
+pub enum FailStep {
+    SetOdd,
+    StoreCode(Vref),
+    /// The reference that creation made is given back.
+    GiveBack(Vref),
+}
+
+/// What follows a release.
+#[derive(Clone, Copy)]
+pub enum Then {
+    /// The operation found another version.
+    Gone { operation: u16, found: Vref },
+    /// The operation `fail` is done, and had found this word.
+    Failed { operation: u16, found: Vref },
+    /// The operation `drop` is done.
+    Dropped { operation: u16 },
+    /// The operation `send` found each request taken.
+    Full { operation: u16 },
+    /// The message of the operation `send` was accepted.
+    Sent { operation: u16 },
+    /// A client gave back what it held.
+    GaveBack,
+    /// The ending of an `open` is done.
+    Ended,
+}
+
+/// Where the release of a reference stands.
+#[derive(Clone, Copy)]
+pub enum ReleaseStep {
+    SubRef,
+    /// The exchange from this word is tried.
+    Recycle(Vref),
+    /// The slot was recycled to this version, and its link is loaded,
+    LoadLink(u32),
+    /// taken,
+    TakeLink(u32, u16),
+    /// ended,
+    FinishLink(u32, u16),
+    /// and put back.
+    PutLink(u32, u16),
+    FreeSlot,
+}
+
+/// A `send` that holds the life of this id.
+#[derive(Clone, Copy)]
+pub struct Sending {
+    pub operation: u16,
+    pub id: SocketId,
+}
+
+/// Where a `send` that holds a life stands, by the step that comes next.
+#[derive(Clone, Copy)]
+pub enum SendStep {
+    /// The life's word is looked at.
+    Look,
+    /// This request is tried.
+    Claim(u16),
+    /// The request is claimed, with this ticket, and gets the message,
+    PutMessage(u16, Ticket),
+    /// then its next word is marked as not connected,
+    Unconnect(u16, Ticket),
+    /// and then the head is exchanged.
+    SwapHead(u16, Ticket),
+    /// The head was busy: the next word gets the ticket that was found there.
+    Connect(u16, Ticket),
+    /// The head was idle: the link of the life is found,
+    FindLink(u16, Ticket),
+    /// taken out of its home,
+    TakeHome(u16, Ticket, u16),
+    /// of whose messages so many have places, and then the message out of its own.
+    TakeMessage(u16, Ticket, u16, u32),
+}
+
+/// Whoever writes a link: the life that it holds, its link, the ticket of the last message that it has to write, and how
+/// many of the link's messages have places.
+#[derive(Clone, Copy)]
+pub struct Holder {
+    pub id: SocketId,
+    pub link: u16,
+    pub last: Ticket,
+    pub places: u32,
+}
+
+/// A `send` that writes its link.
+#[derive(Clone, Copy)]
+pub struct Writer {
+    pub operation: u16,
+    pub holder: Holder,
+}
+
+/// The message in hand: its ticket, and the operation that sent it.
+#[derive(Clone, Copy)]
+pub struct Current {
+    pub ticket: Ticket,
+    pub operation: u16,
+}
+
+/// Where whoever writes a link stands, by the step that comes next.
+#[derive(Clone, Copy)]
+pub enum WriteStep {
+    /// A look comes before a put; whether the link answered since its last put that it takes more.
+    Look(Current, bool),
+    Put(Current, bool),
+    /// The link took nothing of the last put, and is asked whether it takes more.
+    Ask(Current),
+    /// The link failed: its life is set failed.
+    SetOdd(Current),
+    StoreCode(Current),
+    GiveBack(Current),
+    /// The link took the message whole: it gets its place.
+    StorePlace(Current),
+    /// The life failed: the message is dropped, behind a load of the error code.
+    LoadCode(Current),
+    DropPlace(Current),
+    /// The message of this ticket has its place and isn't the last: its next word is read.
+    ReadNext(Ticket),
+    /// Its request is given back; then the message of the next ticket follows, if it wasn't the last one.
+    Free(Ticket, Option<Ticket>),
+    /// The message of this ticket is taken out of its home.
+    TakeMessage(Ticket),
+    /// All have their places: the link goes home,
+    PutHome,
+    /// the head is tried,
+    EmptyHead,
+    /// and where it has this newer ticket, the link is taken again.
+    TakeHome(Ticket),
+    /// The walk from the first of these tickets has come to the second, whose successor is the third, or 0.
+    Walk(Ticket, Ticket, Ticket),
+    /// The same, and the next word of the second was read: it had the fourth.
+    Turn(Ticket, Ticket, Ticket, Ticket),
+    /// The walk from the first ended at the second, whose message is taken.
+    TakeFirst(Ticket, Ticket),
+}
+
+/// Where a seat stands in its program.
+#[derive(Clone, Copy)]
+pub enum Point {
+    /// It has nothing left to do.
+    Rest,
+    Open(Opening, OpenStep),
+    Seek(Aim, SeekStep),
+    Fail(Failing, FailStep),
+    /// A reference to this slot is given back.
+    Release(u32, Then, ReleaseStep),
+    Send(Sending, SendStep),
+    Write(Writer, WriteStep),
+}
+
+/// The next step of a seat.
+#[derive(Clone, Copy)]
+pub enum Step {
+    /// One on a word, or a move that tells nothing.
+    Call(Call),
+    /// The message of the seat into the home of this request, for this operation.
+    PutMessage(u16, u16),
+    /// The message of this request is taken out of its home.
+    TakeMessage(u16),
+    /// This link is taken out of its home by whoever writes it,
+    TakeHome(u16),
+    /// and goes home with so many places.
+    PutHome(u16, u32),
+    /// What is next of the message in hand is put into this link, which has answered or not since its last put that it takes more.
+    PutBytes(u16, bool),
+    /// This link is asked whether it takes more.
+    AskReady(u16),
+}
+
+/// How a seat goes on behind a step.
+#[derive(Drop)]
+pub enum Next {
+    /// In the same operation.
+    Point(Point),
+    /// The operation of this number has its outcome.
+    Said(u16, Outcome),
+    /// The message of the operation of this number was accepted.
+    Sent(u16),
+    /// The operation `hold` of this number holds this life, under a name.
+    Held(u16, u16, SocketId),
+    /// What the client held is given back.
+    GaveBack,
+    /// The ending of an `open` is done.
+    Ended,
+}

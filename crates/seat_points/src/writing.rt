@@ -1,0 +1,298 @@
+ghost use Rattle.std.specs.Prelude.{◌≡◌, ◌+◌, ◌<◌, ℕ, List, None, Some, Bool, false};
+ghost use Rattle.sock_model.specs.Entries.{slot_of, generation_of};
+ghost use Rattle.sock_programs.specs.Sends.{one_more, freed, passed};
+ghost use Rattle.sock_io.specs.declared.link.Put.{Put};
+ghost use Rattle.seat_points.specs.Points.{Around, point_program, write_program, written_program, holder_of, next_message, freed_program, taken_again, next_program, after_word, after_message, after_link, after_put, after_ready, with_message, with_put, is_whole, HasPlaceLeft, WritesByWord, link_behind};
+ghost use Rattle.seat_points.specs.Steps.{first_in, step_as};
+
+use crate::call::Call;
+use crate::point::{Current, Holder, Next, Point, ReleaseStep, Step, Then, WriteStep, Writer};
+use crate::releasing::releasing;
+use sock_io::{Put, Ready};
+use sock_words::{Ticket, Vref};
+
+/// The code of a socket whose link failed, bRPC's `EFAILEDSOCKET`.
+const EFAILEDSOCKET: u16 = 1009;
+
+/// The next word of a request that isn't connected yet.
+const UNCONNECTED: u64 = u64::MAX;
+
+/// The last generation of a request, which isn't given back then.
+const LAST_GENERATION: u64 = 140_737_488_355_327;
+
+/// The request of a ticket, and its generation.
+fn request_of(ticket: Ticket) -> u16
+    ensures { result ≡ slot_of ticket.0 }
+{
+    ((ticket.word() % 65_536) as u16).saturating_sub(1)
+}
+
+fn generation(ticket: Ticket) -> u64
+    ensures { result ≡ generation_of ticket.0 }
+{
+    ticket.word() / 65_536
+}
+
+impl Current {
+    /// What follows a put into the link, and whether it took all that was left.
+    pub fn put_answered(self, answer: Put, whole: bool) -> WriteStep
+        ensures { (a : Around) (w : Writer) (asked : Bool) → whole ≡ is_whole a.left answer → write_program (with_put answer a) w result ≡ after_put (write_program a w (WriteStep.Put self asked)) answer }
+    {
+        match answer {
+            Put::Took(_) => {
+                if whole {
+                    WriteStep::StorePlace(self)
+                } else {
+                    WriteStep::Look(self, false)
+                }
+            }
+            Put::Again => WriteStep::Ask(self),
+            Put::Failed => WriteStep::SetOdd(self),
+        }
+    }
+
+    /// What follows the question whether the link takes more.
+    pub fn ready_answered(self, answer: Ready) -> WriteStep
+        ensures { (a : Around) (w : Writer) → write_program a w result ≡ after_ready (write_program a w (WriteStep.Ask self)) answer }
+    {
+        match answer {
+            Ready::Now => WriteStep::Look(self, true),
+            Ready::NotYet => WriteStep::Ask(self),
+            Ready::Failed => WriteStep::SetOdd(self),
+        }
+    }
+}
+
+impl Holder {
+    /// One place more was given.
+    fn one_more(self) -> Holder
+        requires { self.places < 4294967295 }
+        ensures { holder_of result ≡ one_more (holder_of self) }
+    {
+        Holder {
+            places: self.places + 1,
+            ..self
+        }
+    }
+}
+
+impl Writer {
+    /// Whoever writes comes to this step.
+    pub fn to(self, step: WriteStep) -> Next
+        ensures { result ≡ Next.Point (Point.Write self step) }
+    {
+        Next::Point(Point::Write(self, step))
+    }
+
+    /// It has the message of this ticket and operation in hand.
+    pub fn writes(self, ticket: Ticket, operation: u16) -> Next
+        ensures program { (a : Around) (bytes : List ℕ) → next_program (with_message bytes a) result ≡ after_message (next_message a self (holder_of self.holder) ticket.0) operation bytes }
+        ensures hand { link_behind result ≡ None }
+    {
+        self.to(WriteStep::Look(Current { ticket, operation }, false))
+    }
+
+    /// It has noted the messages up to this ticket.
+    pub fn up_to(self, top: Ticket) -> Writer
+        ensures operation { result.operation ≡ self.operation }
+        ensures holder { result.holder ≡ record self.holder { last = top } }
+    {
+        Writer {
+            holder: Holder {
+                last: top,
+                ..self.holder
+            },
+            ..self
+        }
+    }
+
+    /// It has its link in hand again, of whose messages so many have places, and walks from the ticket found in the head.
+    pub fn walks(self, found: Ticket, places: u32) -> Next
+        ensures program { (a : Around) → next_program a result ≡ after_link (taken_again a self found.0) places }
+        ensures hand { link_behind result ≡ None }
+    {
+        let writer = Writer {
+            holder: Holder {
+                places,
+                ..self.holder
+            },
+            ..self
+        };
+        writer.to(WriteStep::Walk(found, found, Ticket::from_word(0)))
+    }
+
+    /// The next step of whoever writes.
+    pub fn step(self, step: WriteStep) -> Step
+        ensures { (a : Around) → first_in (write_program a self step) ≡ Some (step_as a result) }
+    {
+        let Holder {
+            id,
+            link,
+            last,
+            places,
+        } = self.holder;
+        match step {
+            WriteStep::Look(_, _) => Step::Call(Call::LookWord(id)),
+            WriteStep::Put(_, asked) => Step::PutBytes(link, asked),
+            WriteStep::Ask(_) => Step::AskReady(link),
+            WriteStep::SetOdd(_) => Step::Call(Call::SetOdd(id.slot())),
+            WriteStep::StoreCode(_) => {
+                Step::Call(Call::StoreCode(id.slot(), id.version(), EFAILEDSOCKET))
+            }
+            WriteStep::GiveBack(_) => Step::Call(Call::SubRef(id.slot())),
+            WriteStep::StorePlace(current) => {
+                Step::Call(Call::StorePlace(current.operation, link, places))
+            }
+            WriteStep::LoadCode(_) => Step::Call(Call::LoadCode(id)),
+            WriteStep::DropPlace(current) => {
+                Step::Call(Call::DropPlace(current.operation, link, places))
+            }
+            WriteStep::ReadNext(now) => Step::Call(Call::ReadNext(request_of(now))),
+            WriteStep::Free(now, _) => {
+                Step::Call(Call::FreeRequest(request_of(now), generation(now)))
+            }
+            WriteStep::TakeMessage(next) => Step::TakeMessage(request_of(next)),
+            WriteStep::PutHome => Step::PutHome(link, places),
+            WriteStep::EmptyHead => Step::Call(Call::EmptyHead(id.slot(), last)),
+            WriteStep::TakeHome(_) => Step::TakeHome(link),
+            WriteStep::Walk(_, at, _) => Step::Call(Call::ReadNext(request_of(at))),
+            WriteStep::Turn(_, at, after, _) => Step::Call(Call::TurnNext(request_of(at), after)),
+            WriteStep::TakeFirst(_, at) => Step::TakeMessage(request_of(at)),
+        }
+    }
+
+    /// What follows a look: a put, or the message is dropped.
+    fn looked(self, current: Current, asked: bool, found: Vref) -> Next
+        ensures program { (a : Around) → next_program a result ≡ after_word (write_program a self (WriteStep.Look current asked)) found.0 }
+        ensures hand { link_behind result ≡ None }
+    {
+        if found.is_failed() {
+            self.to(WriteStep::LoadCode(current))
+        } else {
+            self.to(WriteStep::Put(current, asked))
+        }
+    }
+
+    /// What follows the exchange that makes the version odd: who did so stores the code.
+    fn failed(self, current: Current, found: Vref) -> Next
+        ensures program { (a : Around) → next_program a result ≡ after_word (write_program a self (WriteStep.SetOdd current)) found.0 }
+        ensures hand { link_behind result ≡ None }
+    {
+        if found.is_failed() {
+            self.to(WriteStep::Look(current, false))
+        } else {
+            self.to(WriteStep::StoreCode(current))
+        }
+    }
+
+    /// What follows once the request of this ticket needn't be given back: the next message, or the head.
+    fn freed(self, next: Option<Ticket>) -> Next
+        ensures program { (a : Around) → next_program a result ≡ freed_program a self next }
+        ensures hand { link_behind result ≡ None }
+    {
+        match next {
+            Some(next) => self.to(WriteStep::TakeMessage(next)),
+            None => self.to(WriteStep::PutHome),
+        }
+    }
+
+    /// The request of this ticket is given back, but for one of the last generation.
+    fn gives_back(self, now: Ticket, next: Option<Ticket>) -> Next
+        ensures program { (a : Around) → next_program a result ≡ freed now.0 (freed_program a self next) }
+        ensures hand { link_behind result ≡ None }
+    {
+        if generation(now) == LAST_GENERATION {
+            self.freed(next)
+        } else {
+            self.to(WriteStep::Free(now, next))
+        }
+    }
+
+    /// The message of this ticket has its place.
+    fn passed(self, now: Ticket) -> Next
+        requires { self.holder.places < 4294967295 }
+        ensures program { (a : Around) → next_program a result ≡ passed (one_more (holder_of self.holder)) now.0 (written_program a self) }
+        ensures hand { link_behind result ≡ None }
+    {
+        let writer = Writer {
+            holder: self.holder.one_more(),
+            ..self
+        };
+        if now == writer.holder.last {
+            writer.gives_back(now, None)
+        } else {
+            writer.to(WriteStep::ReadNext(now))
+        }
+    }
+
+    /// What follows a try of the head: where it is idle now all is written, and else a newer ticket was found there.
+    fn emptied(self, found: Ticket) -> Next
+        ensures program { (a : Around) → next_program a result ≡ after_word (write_program a self WriteStep.EmptyHead) found.0 }
+        ensures hand { link_behind result ≡ None }
+    {
+        if found == self.holder.last {
+            let operation = self.operation;
+            releasing(
+                self.holder.id.slot(),
+                Then::Sent { operation },
+                ReleaseStep::SubRef,
+            )
+        } else {
+            self.to(WriteStep::TakeHome(found))
+        }
+    }
+
+    /// What follows on a walk once a next word was turned; before that it had the last of these tickets.
+    fn turned(self, top: Ticket, at: Ticket, before: Ticket) -> Next
+        ensures program { (a : Around) (after : Ticket) (found : ℕ) → next_program a result ≡ after_word (write_program a self (WriteStep.Turn top at after before)) found }
+        ensures hand { link_behind result ≡ None }
+    {
+        if before == self.holder.last {
+            self.to(WriteStep::TakeFirst(top, at))
+        } else {
+            self.to(WriteStep::Walk(top, before, at))
+        }
+    }
+
+    /// What follows on a walk once the next word was read, which may not be connected yet.
+    fn walked(self, top: Ticket, at: Ticket, after: Ticket, found: u64) -> Next
+        ensures program { (a : Around) → next_program a result ≡ after_word (write_program a self (WriteStep.Walk top at after)) found }
+        ensures hand { link_behind result ≡ None }
+    {
+        if found == UNCONNECTED {
+            self.to(WriteStep::Walk(top, at, after))
+        } else {
+            self.to(WriteStep::Turn(top, at, after, Ticket::from_word(found)))
+        }
+    }
+
+    /// Where whoever writes goes on by the word that its step found.
+    pub fn next(self, step: WriteStep, found: u64) -> Next
+        requires room { HasPlaceLeft self step }
+        requires by_word { WritesByWord step }
+        ensures program { (a : Around) → next_program a result ≡ after_word (write_program a self step) found }
+        ensures hand { link_behind result ≡ None }
+    {
+        match step {
+            WriteStep::Look(current, asked) => self.looked(current, asked, Vref::from_word(found)),
+            WriteStep::SetOdd(current) => self.failed(current, Vref::from_word(found)),
+            WriteStep::StoreCode(current) => self.to(WriteStep::GiveBack(current)),
+            WriteStep::GiveBack(current) => self.to(WriteStep::Look(current, false)),
+            WriteStep::LoadCode(current) => self.to(WriteStep::DropPlace(current)),
+            WriteStep::StorePlace(current) | WriteStep::DropPlace(current) => {
+                self.passed(current.ticket)
+            }
+            WriteStep::ReadNext(now) => self.gives_back(now, Some(Ticket::from_word(found))),
+            WriteStep::Free(_, next) => self.freed(next),
+            WriteStep::EmptyHead => self.emptied(Ticket::from_word(found)),
+            WriteStep::Walk(top, at, after) => self.walked(top, at, after, found),
+            WriteStep::Turn(top, at, _, before) => self.turned(top, at, before),
+            WriteStep::Put(_, _)
+            | WriteStep::Ask(_)
+            | WriteStep::TakeMessage(_)
+            | WriteStep::PutHome
+            | WriteStep::TakeHome(_)
+            | WriteStep::TakeFirst(_, _) => Next::Ended,
+        }
+    }
+}
