@@ -11,7 +11,7 @@ behind_one (suc n) x = behind_one n (drawn_state x)
 pub behind_more : (n x : ℕ) → state_behind (n + 1) x ≡ drawn_state (state_behind n x)
 behind_more n x = ap (λ k. state_behind k x) (add-one n) ∙ behind_one n x
 
-draws_one : (n x : ℕ) → draws (suc n) x ≡ draws n x ++ drawn (state_behind n x) ∷ []
+pub draws_one : (n x : ℕ) → draws (suc n) x ≡ draws n x ++ drawn (state_behind n x) ∷ []
 draws_one zero x = refl
 draws_one (suc n) x = ap (λ ds. drawn x ∷ ds) (draws_one n (drawn_state x))
 

@@ -11,4 +11,5 @@ pub mod PrintedLines
 pub mod Again
 pub mod Written
 pub mod DrawLemmas
+pub mod SeatLemmas
 pub mod Generated

@@ -1,2 +1,3 @@
 pub mod ReadBack
 pub mod PrintedParts
+pub mod Seats

@@ -25,7 +25,7 @@ impl Draws {
     }
 
     /// The next number.
-    fn draw(&mut self) -> u64
+    pub fn draw(&mut self) -> u64
         ensures number { result ≡ drawn self.old.state }
         ensures state { self.new.state ≡ drawn_state self.old.state }
     {

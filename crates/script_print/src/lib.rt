@@ -7,8 +7,10 @@ mod lines;
 mod parts;
 mod print;
 mod script_text;
+mod seats;
 #[cfg(test)]
 mod tests;
 
 pub use generator::generate;
 pub use print::{PrintFault, print_script};
+pub use seats::DrawnSeats;

@@ -1,4 +1,4 @@
-use crate::{generate, print_script};
+use crate::{DrawnSeats, generate, print_script};
 use script_items::{
     Bytes, CallLine, Line, Name, Names, OpenLine, Script, Seat, SendLine, Shape, Target,
 };
@@ -117,5 +117,22 @@ fn prints_every_line(rt: HostRuntime) -> Result<(), Fail> {
     let mut sink = MemSink::new(alloc, 500, Vec::new(alloc))?;
     print_script(alloc, &Script::new(lines), &mut sink)?;
     assert_eq!(rt; sink.bytes(), EVERY_LINE.as_bytes());
+    Ok(())
+}
+
+// The first seats of two clients and three links, and how many are drawn.
+#[test]
+fn draws_seats(rt: HostRuntime) -> Result<(), Fail> {
+    let mut seats = DrawnSeats::new(2, 3, 1);
+    for seat in [34, 33, 2, 1, 34, 1, 1, 32, 34, 2] {
+        assert_eq!(rt; seats.next_seat(), seat);
+    }
+    for (clients, links, operations, count) in [
+        (2, 3, 4_096, 262_400),
+        (0, 1, 0, 256),
+        (0, 0, 0, 0),
+    ] {
+        assert_eq!(rt; DrawnSeats::new(clients, links, 1).count(operations), count);
+    }
     Ok(())
 }

@@ -1,2 +1,4 @@
-pub mod Known
 pub mod Texts
+pub mod Rows
+pub mod Reported
+pub mod Table

@@ -3,7 +3,12 @@
 
 mod links;
 mod operations;
-mod report;
+mod orders;
+mod told;
+mod words;
 
 pub use links::Accepted;
-pub use report::quiet_report;
+pub use told::print_report;
+
+#[cfg(test)]
+mod tests;

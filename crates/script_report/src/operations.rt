@@ -1,8 +1,8 @@
-ghost use Rattle.std.specs.Prelude.{◌≡◌, ◌++◌, map, IfOk, OnOk, string_bytes};
+ghost use Rattle.std.specs.Prelude.{◌≡◌, map, IfOk, string_bytes};
 ghost use Rattle.brpc_model.specs.Items.{is_operation};
 ghost use Rattle.brpc_model.specs.Operations.{operations};
 ghost use Rattle.script_items.specs.Meaning.{item};
-ghost use Rattle.script_report.specs.Lines.{place_of, outcome_text_line, outcome_text_lines};
+ghost use Rattle.script_report.specs.Lines.{place_of, outcome_text_line};
 
 use script_items::Line;
 use sock_words::Outcome;
@@ -46,8 +46,8 @@ pub fn places_of(alloc: Global, lines: &[Line]) -> Result<Vec<OperationPlace>, A
     Ok(places)
 }
 
-// `C.I OUTCOME`.
-fn outcome_line(
+/// `C.I OUTCOME`.
+pub fn outcome_line(
     alloc: Global,
     place: OperationPlace,
     outcome: &Outcome,
@@ -57,25 +57,4 @@ fn outcome_line(
     let client = place.client;
     let number = place.number;
     format!(in alloc; "{client}.{number} {outcome}\n")
-}
-
-/// Appends a line for each operation that has an outcome.
-pub fn push_outcomes(
-    alloc: Global,
-    text: &mut Vec<u8>,
-    places: &[OperationPlace],
-    outcomes: &[Outcome],
-) -> Result<(), AllocError>
-    ensures { OnOk result (text.new.items ≡ text.old.items ++ outcome_text_lines places.now outcomes.now) }
-{
-    let mut at = 0usize;
-    for outcome in outcomes {
-        let Some(place) = places.get(at) else {
-            return Ok(());
-        };
-        let line = outcome_line(alloc, *place, outcome)?;
-        text.extend_from_slice(line.as_bytes())?;
-        at = at.saturating_add(1);
-    }
-    Ok(())
 }

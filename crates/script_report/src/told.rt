@@ -1,0 +1,133 @@
+ghost use Rattle.std.specs.Prelude.{◌≡◌, ◌*◌, ◌++◌, map, None, IfOk, OnOk, string_bytes};
+ghost use Rattle.brpc_model.specs.Operations.{link_names};
+ghost use Rattle.sock_words.specs.Words.{HasPosition};
+ghost use Rattle.script_items.specs.Meaning.{item};
+ghost use Rattle.script_report.specs.Lines.{outcome_text_line, outcome_text_lines};
+ghost use Rattle.brpc_model.specs.PlaceWords.{word_at, ArePlaces, HasEachOutcome, outcome_of, outcomes_from, took_at, IsReportText};
+ghost use Rattle.script_report.specs.Rows.{row_at, rows_text};
+
+use crate::links::{Accepted, push_link};
+use crate::operations::{OperationPlace, outcome_line, places_of};
+use crate::orders::orders_of;
+use crate::words::{count_placed, first_word, outcome_by_word};
+use script_items::Line;
+use sock_words::{Outcome, PlaceWord};
+use std::alloc::{AllocError, Global};
+
+// The line of an operation, by what was said of it or else by its place word; none where neither tells.
+fn told_line(
+    alloc: Global,
+    place: OperationPlace,
+    operation: usize,
+    said: &Option<Outcome>,
+    words: &[PlaceWord],
+) -> Result<String, AllocError>
+    ensures { IfOk result (λ text. (said.now ≡ None → HasPosition (word_at words.now (8 * operation))) → string_bytes text ≡ outcome_text_line place (outcome_of words.now operation said.now)) }
+{
+    match said {
+        Some(outcome) => outcome_line(alloc, place, outcome),
+        None => match outcome_by_word(first_word(words, operation)) {
+            Some(outcome) => outcome_line(alloc, place, &outcome),
+            None => Ok(String::new(alloc)),
+        },
+    }
+}
+
+// Appends the lines of all operations.
+fn push_told(
+    alloc: Global,
+    text: &mut Vec<u8>,
+    operations: &[OperationPlace],
+    said: &[Option<Outcome>],
+    words: &[PlaceWord],
+) -> Result<(), AllocError>
+    ensures { OnOk result (HasEachOutcome words.now said.now → text.new.items ≡ text.old.items ++ outcome_text_lines operations.now (outcomes_from words.now 0 said.now)) }
+{
+    let mut operation = 0usize;
+    for outcome in said {
+        let Some(place) = operations.get(operation) else {
+            return Ok(());
+        };
+        let line = told_line(alloc, *place, operation, outcome, words)?;
+        text.extend_from_slice(line.as_bytes())?;
+        operation = operation.saturating_add(1);
+    }
+    Ok(())
+}
+
+// The order of a link.
+fn row_at(orders: &[Vec<Accepted>], link: usize) -> &[Accepted]
+    ensures { result.now ≡ row_at (map (λ row. row.items) orders.now) link }
+{
+    match orders.get(link) {
+        Some(order) => order.as_slice(),
+        None => &[],
+    }
+}
+
+// What a link took.
+fn took_at<'a>(took: &[&'a [u8]], link: usize) -> &'a [u8]
+    ensures { result.now ≡ took_at (map (λ bytes. bytes.now) took.now) link }
+{
+    match took.get(link) {
+        Some(bytes) => *bytes,
+        None => &[],
+    }
+}
+
+// Appends the lines of all links.
+fn push_rows(
+    alloc: Global,
+    text: &mut Vec<u8>,
+    operations: &[OperationPlace],
+    lines: &[Line],
+    words: &[PlaceWord],
+    orders: &[Vec<Accepted>],
+    took: &[&[u8]],
+) -> Result<(), AllocError>
+    ensures { OnOk result (text.new.items ≡ text.old.items ++ rows_text operations.now words.now (map (λ row. row.items) orders.now) (map (λ bytes. bytes.now) took.now) 0 (link_names (map item lines.now))) }
+{
+    let mut link = 0usize;
+    for line in lines {
+        if let Line::Open(open) = line {
+            let order = row_at(orders, link);
+            let placed = count_placed(words, order);
+            push_link(
+                alloc,
+                text,
+                operations,
+                link,
+                open.name.as_slice(),
+                order,
+                placed,
+                took_at(took, link),
+            )?;
+            link = link.saturating_add(1);
+        }
+    }
+    Ok(())
+}
+
+/// The report of a run of these lines: of each operation the outcome that was said, or else that of its message, and of
+/// each link the labels that it accepted, how many of them are placed, and what it took.
+///
+/// `said` has an entry for each operation in the order of the script, `words` eight place words for each of them, one for
+/// each attempt, and `took` an entry for each link. An operation of which nothing was said and whose word tells no
+/// position gets no line. Where the words are places, its time is linear in the lines, the words and the text.
+pub fn print_report(
+    alloc: Global,
+    lines: &[Line],
+    said: &[Option<Outcome>],
+    words: &[PlaceWord],
+    took: &[&[u8]],
+) -> Result<Vec<u8>, AllocError>
+    ensures { IfOk result (λ text. ArePlaces words.now → HasEachOutcome words.now said.now → IsReportText (map item lines.now) said.now words.now (map (λ bytes. bytes.now) took.now) text.items) }
+{
+    let operations = places_of(alloc, lines)?;
+    let orders = orders_of(alloc, lines, words)?;
+    let mut text = Vec::new(alloc);
+    push_told(alloc, &mut text, &operations, said, words)?;
+    push_rows(alloc, &mut text, &operations, lines, words, &orders, took)?;
+    text.extend_from_slice(b"end\n")?;
+    Ok(text)
+}
