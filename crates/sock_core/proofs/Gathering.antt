@@ -1,6 +1,10 @@
--- One outcome more.
-use Rattle.std.proofs.Common.{◌≡◌, refl, ℕ, ◌+◌, List, [], ◌∷◌, ◌++◌, length, Option, ap, sym, ◌∙◌, arith}
+-- One outcome more, and one place word more.
+use Rattle.std.proofs.Common.{◌≡◌, refl, ℕ, zero, suc, ◌+◌, List, [], ◌∷◌, ◌++◌, length, map, slice_index, Option, ap, sym, ◌∙◌, arith}
 use Rattle.sock_words.specs.declared.outcome.Outcome.{Outcome}
+use Rattle.sock_words.specs.declared.plain.Plan.{Plan}
+use Rattle.sock_words.specs.declared.place_word.PlaceWord.{PlaceWord}
+use Rattle.sock_model.specs.Layout.{place_word}
+use Rattle.sock_programs.specs.Runs.{from_to}
 use Rattle.sock_core.specs.Finish.{told_at, told_from}
 
 assoc : {A : Type 0} (xs ys zs : List A) → (xs ++ ys) ++ zs ≡ xs ++ (ys ++ zs)
@@ -19,3 +23,20 @@ pub told_last : (n m : ℕ) (os : List (Option Outcome)) (o : Option Outcome) �
 told_last n m [] o e = let h : n ≡ m = omega arith in no_more (told_at n o) ∙ ap (λ k. told_at k o) h
 told_last n m (p ∷ os) o e =
     ap (λ (l : List (ℕ × Outcome)). told_at n p ++ l) (told_last (n + 1) m os o (omega arith)) ∙ sym (assoc (told_at n p) (told_from (n + 1) os) (told_at m o))
+
+map_one_more : {A : Type 0} (f : ℕ → A) (a n : ℕ) → map f (from_to a (n + 1)) ≡ map f (from_to a n) ++ f (a + n) ∷ []
+map_one_more f a zero = let e : a ≡ a + 0 = omega arith in ap (λ k. f k ∷ []) e
+map_one_more f a (suc n) =
+    let e : a + 1 + n ≡ a + suc n = omega arith in
+    let more : suc n + 1 ≡ suc (n + 1) = omega arith in
+    rw more (ap (λ (l : List _). f a ∷ l) (map_one_more f (a + 1) n ∙ ap (λ k. map f (from_to (a + 1) n) ++ f k ∷ []) e))
+
+-- the place word of this number
+abbrev pub word_of_place : Plan → List ℕ → ℕ → PlaceWord
+word_of_place p words k = record { 0 = slice_index words (place_word p k) }
+
+pub places_last : (p : Plan) (words : List ℕ) (n : ℕ) (ws : List PlaceWord) (w : PlaceWord) → ws ≡ map (word_of_place p words) (from_to 0 n) → w.0 ≡ slice_index words (place_word p n) →
+    ws ++ w ∷ [] ≡ map (word_of_place p words) (from_to 0 (n + 1))
+places_last p words n ws w are is =
+    let e : n ≡ 0 + n = omega arith in
+    (λ i. are i ++ (record { 0 = is i }) ∷ []) ∙ (ap (λ k. map (word_of_place p words) (from_to 0 n) ++ word_of_place p words k ∷ []) e ∙ sym (map_one_more (word_of_place p words) 0 n))

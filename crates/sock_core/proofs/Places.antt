@@ -1,80 +1,85 @@
 -- The seats as they lie in memory.
-use Rattle.std.proofs.Common.{◌≡◌, refl, ℕ, zero, suc, ◌<◌, ◌≤◌, false, List, [], ◌∷◌, ◌++◌, map, length, take, slice_set, slice_index_or, Option, Some, None, option_map, IfSome, IfNone, OnOk, Result, Ok, Err, is_err, ap, sym, ◌∙◌, arith, subst}
+use Rattle.std.proofs.Common.{◌≡◌, refl, ℕ, ◌<◌, ◌≤◌, List, [], ◌∷◌, map, length, slice_set, slice_index_or, Option, Some, None, option_map, IfSome, IfNone, ap, sym, ◌∙◌, arith, subst}
+use Rattle.std.proofs.lemmas.List.{map-set}
+use Rattle.std.proofs.Math.Seq.{map-set_same}
 use Rattle.atomic_table.proofs.Lists.{at_map, at_index}
 use mathlib.Core.Option as core
 use lib.ListN.{get_elem?}
-use Rattle.sock_programs.specs.Calls.{kind_of}
-use Rattle.sock_programs.specs.Calls as calls
-use Rattle.std.proofs.Math.Seq.{map-set_same}
-use Rattle.sock_programs.specs.Runs.{next_kind}
-use Rattle.sock_core.specs.declared.call.Call.{Call}
+use Rattle.sock_programs.specs.Scripts.{sizes_of}
+use Rattle.sock_runs.proofs.Along.{place_inside}
+use Rattle.seat_points.specs.declared.point.Step.{Step}
+use Rattle.seat_points.specs.Points.{Around, point_program}
+use Rattle.seat_points.specs.Steps.{step_as, first_in}
+use Rattle.sock_core.specs.declared.machine.Tick.{Tick}
 use Rattle.sock_core.specs.declared.seat.Seat.{Seat}
-use Rattle.sock_core.specs.Steps.{step_of}
-use Rattle.sock_core.specs.Points.{call_in, point_program, Around}
 use Rattle.sock_core.specs.Seats.{SeatData, lives, seat_data, seat_program, around}
-use Rattle.sock_core.specs.Machines.{MachineState, core_in, seat_state, NextIs, SteppedTo}
-use Rattle.sock_core.proofs.StepFacts.{same_call}
-use Rattle.sock_core.proofs.Ticked.{kind_is}
-
--- a list that was written whole
-pub written : {A : Type 0} (n : ℕ) (xs ys : List A) → length xs ≡ n → take n (xs ++ ys) ≡ xs
-written zero [] ys e = refl
-written zero (x ∷ xs) ys e = absurd (omega arith)
-written (suc n) [] ys e = absurd (omega arith)
-written (suc n) (x ∷ xs) ys e = ap (λ (l : List _). x ∷ l) (written n xs ys (omega arith))
-
-pub there_within : {A : Type 0} (xs : List A) (i : ℕ) (x : A) → get_elem? xs i ≡ core.some x → i < length xs
-there_within [] i x e = absurd (none_some e)
-  where
-    none_some : core.none ≡ core.some x → ⊥
-    none_some h = cc
-there_within (y ∷ ys) zero x e = omega arith
-there_within (y ∷ ys) (suc i) x e = let h = there_within ys i x e in omega arith
+use Rattle.sock_core.specs.Machines.{MachineState, TableState}
+use Rattle.sock_core.specs.Steps.{IsNext, NextIs, HasNoStep, Fits, StepFits}
+use Rattle.sock_core.specs.Telling.{StepTold, TickTold}
 
 length_map : {A B : Type 0} (f : A → B) (xs : List A) → length (map f xs) ≡ length xs
 length_map f [] = refl
-length_map f (x ∷ xs) = ap suc (length_map f xs)
-
--- what succeeded
-pub on_ok : {A E : Type 0} {P : Type 0} (r : Result A E) → is_err r ≡ false → OnOk r P → P
-on_ok (Ok a) e h = h
-on_ok (Err a) e h = cc
+length_map f (x ∷ xs) = let h = length_map f xs in omega arith
 
 same_some : {A : Type 0} {a b : A} → core.some a ≡ core.some b → a ≡ b
 same_some e = cc
 
-module _ (m : MachineState) (items : List Seat) (are : map seat_data items ≡ m.seats) (i j : ℕ) (there : j ≡ i) where
-  -- a seat at its place
-  pub seat_there : (x : Seat) → j < length items → x ≡ slice_index_or items j x → get_elem? m.seats i ≡ core.some (seat_data x)
-  seat_there x h e = subst (λ (k : ℕ). get_elem? m.seats k ≡ core.some (seat_data x)) there (subst (λ (l : List SeatData). get_elem? l j ≡ core.some (seat_data x)) are (at_map seat_data items j x (at_index items j x h e)))
+-- the tables with these seats
+abbrev pub view_of : TableState → List Seat → List ℕ → MachineState
+view_of t items opens = record { plan = t.plan; words = t.words; letters = t.letters; links = t.links; seats = map seat_data items; opens = opens; outcomes = t.outcomes; ends = t.ends }
 
-  pub seat_within : (s : SeatData) → get_elem? m.seats i ≡ core.some s → j < length items
-  seat_within s e = let h = there_within (map seat_data items) i s (subst (λ (l : List SeatData). get_elem? l i ≡ core.some s) (sym are) e) in omega (arith, length_map seat_data items)
+pub data_is : (x y : Seat) → y.tasks.items ≡ x.tasks.items → y.held.items ≡ x.held.items → y.ending.items ≡ x.ending.items → y.point ≡ x.point → y.message ≡ x.message → y.out ≡ x.out → seat_data y ≡ seat_data x
+data_is x y a b d e f g = λ k. record { tasks = a k; held = lives (b k); ending = d k; point = e k; message = f k; out = g k }
 
-  pub seat_past : length items ≤ j → length (core_in m).seats ≤ i
-  seat_past h =
-      let a = length_map (seat_state m.plan.slots m.dones) m.seats in
-      let b = ap length are in
-      let d = length_map seat_data items in omega arith
+module _ (t : TableState) (items : List Seat) (opens : List ℕ) (i j : ℕ) (there : j ≡ i) where
+  pub seat_there : (x : Seat) → j < length items → x ≡ slice_index_or items j x → get_elem? (map seat_data items) i ≡ core.some (seat_data x)
+  seat_there x h e = subst (λ (k : ℕ). get_elem? (map seat_data items) k ≡ core.some (seat_data x)) there (at_map seat_data items j x (at_index items j x h e))
 
-  pub named : (x : Seat) (o : Option Call) → j < length items → x ≡ slice_index_or items j x → ((a : Around) → option_map step_of o ≡ call_in (point_program a x.point)) → IfSome o (λ (call : Call). NextIs m i (step_of call))
-  named x None h e call = tt
-  named x (Some c) h e call = record { seat = seat_data x; at = seat_there x h e; is_call = sym (call (around m.plan.slots (seat_data x))) }
+  pub seat_within : (s : SeatData) → get_elem? (map seat_data items) i ≡ core.some s → j < length items
+  seat_within s e = let h = place_inside (map seat_data items) i s e in omega (arith, length_map seat_data items)
 
-  pub unnamed : (x : Seat) (o : Option Call) → j < length items → x ≡ slice_index_or items j x → ((a : Around) → option_map step_of o ≡ call_in (point_program a x.point)) → IfNone o (next_kind (core_in m) i ≡ None)
-  unnamed x None h e call = kind_is m.plan m.words m.holders m.dones m.seats i (seat_data x) m.outcomes (seat_there x h e) ∙ ap (option_map kind_of) (sym (call (around m.plan.slots (seat_data x))))
-  unnamed x (Some c) h e call = tt
+  -- the next step of the seat that lies there
+  pub named : (x : Seat) (o : Option Step) → j < length items → x ≡ slice_index_or items j x → ((a : Around) → option_map (step_as a) o ≡ first_in (point_program a x.point)) → IfSome o (λ step. NextIs (view_of t items opens) i step)
+  named x None h e first = tt
+  named x (Some step) h e first = record { seat = seat_data x; at = seat_there x h e; is = sym (first (around (sizes_of t.plan) (seat_data x))) }
 
-  -- the step of the seat that lies there
-  pub called : (x : Seat) (call : calls.Call) → j < length items → x ≡ slice_index_or items j x → NextIs m i call → (a : Around) → call_in (point_program a x.point) ≡ Some call
-  called x call h e n a = same_call a (around m.plan.slots (seat_data x)) x.point ∙ subst (λ (s : SeatData). call_in (seat_program m.plan.slots s) ≡ Some call) (same_some (sym n.at ∙ seat_there x h e)) n.is_call
+  pub unnamed : (x : Seat) (o : Option Step) → j < length items → x ≡ slice_index_or items j x → ((a : Around) → option_map (step_as a) o ≡ first_in (point_program a x.point)) → IfNone o (HasNoStep (view_of t items opens) i)
+  unnamed x (Some step) h e first = tt
+  unnamed x None h e first = λ seat at. subst (λ (s : SeatData). first_in (seat_program (sizes_of t.plan) s) ≡ None) (same_some (sym (seat_there x h e) ∙ at)) (sym (first (around (sizes_of t.plan) (seat_data x))))
+
+  pub past : length items ≤ j → HasNoStep (view_of t items opens) i
+  past h seat at = absurd (let inside = seat_within seat at in omega arith)
+
+  module _ (x y : Seat) (is : x ≡ slice_index_or items j x) (same : seat_data y ≡ seat_data x) (step : Step) (n : NextIs (view_of t items opens) i step) where
+    within : j < length items
+    within = seat_within n.seat n.at
+
+    lies : seat_data y ≡ n.seat
+    lies = same ∙ same_some (sym (seat_there x within is) ∙ n.at)
+
+    pub next_here : IsNext t (seat_data y) step
+    next_here = subst (λ (s : SeatData). IsNext t s step) (sym lies) n.is
+
+    pub fits_here : StepFits (view_of t items opens) i step → Fits t (seat_data y) step
+    fits_here fits = subst (λ (s : SeatData). Fits t s step) (sym lies) (fits n.seat n.at)
+
+    pub told_here : {t' : TableState} (z : Seat) {tick : Tick} → StepTold t t' i (seat_data y) (seat_data z) step tick → TickTold (view_of t items opens) (view_of t' (slice_set items j z) opens) i step tick
+    told_here {t'} z {tick} h = record {
+      seat = n.seat;
+      at = n.at;
+      seat' = seat_data z;
+      seats = map-set seat_data items j z ∙ ap (λ k. slice_set (map seat_data items) k (seat_data z)) there;
+      opens = refl;
+      told = subst (λ (s : SeatData). StepTold t t' i s (seat_data z) step tick) lies h;
+    }
 
 -- the seat gets room, and nothing else
 pub with_room : (items : List Seat) (j : ℕ) (x y : Seat) → x ≡ slice_index_or items j x → seat_data y ≡ seat_data x → map seat_data (slice_set items j y) ≡ map seat_data items
 with_room items j x y e h = map-set_same seat_data items j y x (h ∙ ap seat_data e)
 
-pub data_is : (x y : Seat) → y.tasks.items ≡ x.tasks.items → y.held.items ≡ x.held.items → y.ending.items ≡ x.ending.items → y.point ≡ x.point → seat_data y ≡ seat_data x
-data_is x y a b d e = λ k. record { tasks = a k; held = lives (b k); ending = d k; point = e k }
+-- the tables as they lie in memory
+pub next_in : {m n : MachineState} {i : ℕ} {step : Step} → n ≡ m → NextIs m i step → NextIs n i step
+next_in {m} {n} {i} {step} e h = subst (λ (x : MachineState). NextIs x i step) (sym e) h
 
-pub stepped_along : {m n fresh : MachineState} {i : ℕ} {call : calls.Call} → m ≡ n → SteppedTo m fresh i call → SteppedTo n fresh i call
-stepped_along {m} {n} {fresh} {i} {call} e w = subst (λ (x : MachineState). SteppedTo x fresh i call) e w
+pub told_along : {m n fresh : MachineState} {i : ℕ} {step : Step} {tick : Tick} → m ≡ n → TickTold m fresh i step tick → TickTold n fresh i step tick
+told_along {m} {n} {fresh} {i} {step} {tick} e h = subst (λ (x : MachineState). TickTold x fresh i step tick) e h

@@ -1,135 +1,376 @@
 -- One step of a seat is a tick of it.
-use Rattle.std.proofs.Common.{◌≡◌, ◌≢◌, refl, ℕ, zero, suc, ◌≤◌, Bool, List, [], ◌∷◌, map, length, slice_set, Option, Some, None, option_map, ap, sym, ◌∙◌, ⊎_elim, arith, subst}
-use Rattle.std.proofs.lemmas.List.{map-set}
-use Rattle.atomic_table.proofs.Lists.{at_map, at_set, set_else}
+use Rattle.std.proofs.Common.{◌≡◌, ◌≢◌, refl, ℕ, ◌<◌, eqb, eq-eqb, ne_eqb, cond, Bool, true, false, List, [], ◌∷◌, ◌++◌, map, length, slice_set, slice_index_or, Option, Some, None, IfSome, ⊎_elim, ap, sym, ◌∙◌, arith, subst}
+use Rattle.std.proofs.lemmas.List.{append-nil, get_or-set_same, get_or-set_other}
+use Rattle.std.proofs.lemmas.Bool.{true≢false}
+use Rattle.std.specs.Io.KnownBytes.{append_known}
+use Rattle.atomic_table.proofs.Lists.{at_set, at_map, at_longer}
 use mathlib.Core.Option as core
 use lib.ListN.{get_elem?}
 use Rattle.sock_words.specs.declared.plain.Plan.{Plan}
-use Rattle.sock_words.specs.declared.outcome.Outcome.{Outcome}
+use Rattle.sock_io.specs.declared.link.Put.{Put}
+use Rattle.sock_io.specs.declared.link.Put.TheVariants as puts
+use Rattle.sock_io.specs.declared.link.Ready.{Ready}
+use Rattle.sock_io.specs.Link.{OutState, PutStep, ReadyStep, taken_of}
+use Rattle.sock_model.specs.declared.chain.Heading.{Heading}
 use Rattle.sock_model.specs.declared.home.Home.{Home}
-use Rattle.sock_words.specs.declared.kind.Kind.{Kind}
-use Rattle.sock_programs.specs.Calls.{kind_of}
+use Rattle.sock_model.specs.declared.home.Home.TheVariants.{Link, Message}
+use Rattle.sock_model.specs.Reads.{letter_of, took_of, as_link, shown, message, link_home}
 use Rattle.sock_programs.specs.Calls as calls
-use Rattle.sock_programs.specs.Programs.{Program, Do, Say, Rest}
-use Rattle.sock_programs.specs.Cores.{Core, SeatState, word_of, found_at, hand_after, said, next_step, stepped, tick_of, ticked}
-use Rattle.sock_programs.specs.Runs.{next_kind, kind_in}
-use Rattle.sock_core.specs.Points.{call_in, after_of, link_at, link_left}
+use Rattle.sock_programs.specs.Programs.{Program}
+use Rattle.sock_programs.specs.Sends.{heading_of}
+use Rattle.sock_programs.specs.Cores.{Core, SeatState, word_of, found_at, homes_after, hand_after, first_of, others_of, link_place}
+use Rattle.sock_programs.specs.Ticks.{Answer, Unasked, OfPut, OfReady, FitsPut, IsAnswer, IsAnswered, fed, with_places, onto_first, tick_with, ticked}
+use Rattle.sock_programs.specs.Scripts.{sizes_of}
+use Rattle.sock_runs.proofs.Along.{place_inside}
+use Rattle.seat_points.specs.declared.point.Step.{Step}
+use Rattle.seat_points.specs.declared.point.Step.TheVariants as firsts
+use Rattle.seat_points.specs.declared.call.Call.{Call}
+use Rattle.seat_points.specs.declared.call.Call.TheVariants as steps
+use Rattle.seat_points.specs.Points.{after_word, after_message, after_link, after_home, after_put, after_ready}
+use Rattle.seat_points.specs.Steps.{First, OfCall, OfMessage, OfLink, OfHome, step_of, step_as, first_in}
+use Rattle.seat_points.specs.Steps as kinds
+use Rattle.seat_points.proofs.StepFacts.{puts_home, asks}
+use Rattle.sock_core.specs.declared.letter.Letter.{Letter}
 use Rattle.sock_core.specs.Seats.{SeatData, around, seat_program}
-use Rattle.sock_core.specs.Links.{holders_after, dones_after, homes_of, hand_with, hand_of}
-use Rattle.sock_core.specs.Machines.{MachineState, core_of, core_in, seat_state, NextIs, SteppedTo, HoldsItsLink, HoldTheirLinks}
-use Rattle.sock_core.proofs.StepFacts.{HandOver, hand_over}
-use Rattle.sock_core.proofs.Moves.{MayMove, homes_moved, hand_moved, others_moved, holds_moved, others_hold}
-use Rattle.sock_core.proofs.Ranges.{set-map_but}
+use Rattle.sock_core.specs.Links.{LinksData, Taken, Agrees, IsPaced, holder_of, is_done, link_with, homes_of, hand_of, letter_home}
+use Rattle.sock_core.specs.Machines.{MachineState, ArePaced, table_of, seat_state, core_with}
+use Rattle.sock_core.specs.Steps.{IsSized, NextIs, OutsAfter, CallMade, MessageTaken, LinkTaken, LinkPut, LinkAsked, Made, SteppedTo, letters_after, holders_after}
+use Rattle.sock_core.proofs.Hands.{HasNone, HasOnly, lies_home, hand_only, home_at, letters_set}
+use Rattle.sock_core.proofs.Changes.{Changed, take_changes, give_changes, out_changes, none_changes, core_set, seat_at}
+use Rattle.sock_core.proofs.FirstSteps.{word_tick, message_tick, link_tick, home_tick, put_tick, ready_tick, head_home, head_asks, AnswersFirst, answers_first, paced_first}
 
--- a tick of a seat that has a step
-tick_by : (p : Plan) (i : ℕ) (seat : SeatState) (program : Program) (call : calls.Call) (c : Core) → call_in program ≡ Some call → tick_of p i seat program c ≡ stepped p i seat call (after_of program) c
-tick_by p i seat (Do step next) call c e = let h : step ≡ call = cc in ap (λ (x : calls.Call). stepped p i seat x next c) h
-tick_by p i seat (Say o outcome after) call c e = cc
-tick_by p i seat Rest call c e = cc
+-- ## What is asked of a step, and what it makes
 
--- a tick of seat i where it is in this state
-pub ticked_by : (p : Plan) (c : Core) (i : ℕ) (seat : SeatState) (call : calls.Call) → get_elem? c.seats i ≡ core.some seat → call_in seat.program ≡ Some call → ticked p c i ≡ stepped p i seat call (after_of seat.program) c
-ticked_by p c i seat call at e =
-    ap (λ (o : core.Option SeatState). elim o as (λ x. Core) [ core.none ↦ c | core.some s ↦ tick_of p i s s.program c ]) at ∙ tick_by p i seat seat.program call c e
+-- who takes a link finds it at home, and has none in hand; who ends it, puts it home or asks it has it in hand, and no other
+abbrev pub MayTake : Plan → LinksData → ℕ → ℕ → Type 0
+MayTake p l i k = (k < p.links) × (holder_of l k ≡ None) × HasNone l i
 
-same_some : {A : Type 0} {a b : A} → core.some a ≡ core.some b → a ≡ b
-same_some e = cc
+abbrev pub MayAsk : Plan → LinksData → ℕ → ℕ → Type 0
+MayAsk p l i k = (k < p.links) × HasOnly l i k
 
--- equal parts make equal cores
-core_is : (ws vs : List ℕ) (hs gs : List (core.Option Home)) (ss ts : List SeatState) (os us : List (Option Outcome)) → ws ≡ vs → hs ≡ gs → ss ≡ ts → os ≡ us →
-    (let c : Core = record { words = ws; homes = hs; seats = ss; outcomes = os } in c) ≡ (record { words = vs; homes = gs; seats = ts; outcomes = us })
-core_is ws vs hs gs ss ts os us e f g h = λ k. record { words = e k; homes = f k; seats = g k; outcomes = h k }
+abbrev pub MayCall : Plan → LinksData → ℕ → calls.Call → Type 0
+MayCall p l i (calls.TakeLink k) = MayTake p l i k
+MayCall p l i (calls.FinishLink k) = MayAsk p l i k
+MayCall p l i (calls.PutLink k) = MayAsk p l i k
+MayCall p l i (calls.PutMessage q heading bytes) = q < p.requests
+MayCall p l i other = Unit {0}
 
-seat_is : (a b : Program) (hs gs : List Home) → a ≡ b → hs ≡ gs → (let s : SeatState = record { program = a; hand = hs } in s) ≡ (record { program = b; hand = gs })
-seat_is a b hs gs e f = λ k. record { program = e k; hand = f k }
+abbrev pub MayMake : Plan → LinksData → ℕ → First → Type 0
+MayMake p l i (OfCall call) = MayCall p l i call
+MayMake p l i (OfMessage q) = Unit {0}
+MayMake p l i (OfLink k) = MayTake p l i k
+MayMake p l i (OfHome k n) = MayAsk p l i k
+MayMake p l i (kinds.OfPut k asked bytes) = MayAsk p l i k
+MayMake p l i (kinds.OfReady k) = MayAsk p l i k
 
-module _ (m fresh : MachineState) (i : ℕ) (call : calls.Call) (n : NextIs m i call) (many : length m.holders ≡ m.plan.links) (as_many : length m.dones ≡ m.plan.links) (hold : HoldTheirLinks m.holders m.seats)
-    (may : MayMove m.plan.links m.holders call) (w : SteppedTo m fresh i call) where
-  same : n.seat ≡ w.seat
-  same = same_some (sym n.at ∙ w.at)
+-- a step on a word, or a move that tells nothing
+abbrev pub IsCall : First → Type 0
+IsCall (OfCall call) = Unit {0}
+IsCall other = ⊥
 
-  first : call_in (seat_program m.plan.slots w.seat) ≡ Some call
-  first = subst (λ (s : SeatData). call_in (seat_program m.plan.slots s) ≡ Some call) same n.is_call
+-- a step of seat i, in which its link answered this, over links that had taken that: a tick
+pub record SteppedWith (old fresh : MachineState) (i : ℕ) (answer : Answer) (took : Taken) : Type 0 where
+  pub later : Taken
+  pub agrees : Agrees fresh.links later
+  pub core : core_with fresh later ≡ ticked old.plan (core_with old took) (record { seat = i; answer = answer })
+  pub answered : IsAnswered (core_with old took) (record { seat = i; answer = answer })
 
-  over : HandOver call (link_at w.seat.point) (link_left w.seat.point)
-  over = hand_over (around m.plan.slots w.seat) w.seat.point call first
+-- ## Which bytes the links took
 
-  own : HoldsItsLink m.holders i (link_at w.seat.point)
-  own = hold i w.seat w.at
+-- link k took this, and each other what it had
+abbrev pub later_at : ℕ → List ℕ → Taken → Taken
+later_at k bytes took j = cond (eqb j k) bytes (took j)
 
-  -- the seats after it
-  seats_are : map (seat_state m.plan.slots (dones_after call m.dones)) (slice_set m.seats i w.seat') ≡
-      slice_set (map (seat_state m.plan.slots m.dones) m.seats) i (record { program = next_step (after_of (seat_program m.plan.slots w.seat) (found_at m.words (word_of m.plan call))); hand = hand_after m.plan call (homes_of m.plan m.holders m.dones) (hand_of m.dones w.seat.point) })
-  seats_are =
-      map-set (seat_state m.plan.slots (dones_after call m.dones)) m.seats i w.seat'
-      ∙ ap (slice_set (map (seat_state m.plan.slots (dones_after call m.dones)) m.seats) i)
-      (seat_is _ _ _ _ (w.program ∙ ap next_step w.goes) (ap (hand_with (dones_after call m.dones)) (w.hand ∙ w.behind) ∙ hand_moved m.plan m.holders m.dones i many as_many call _ _ over may))
-      ∙ sym (set-map_but (seat_state m.plan.slots m.dones) (seat_state m.plan.slots (dones_after call m.dones)) m.seats i _
-      (λ j s at differ. seat_is _ _ _ _ refl (others_moved m.plan m.holders m.dones i many as_many call _ _ over own j differ (link_at s.point) (hold j s at))))
+later_here : (k : ℕ) (bytes : List ℕ) (took : Taken) → later_at k bytes took k ≡ bytes
+later_here k bytes took = ap (λ b. cond b bytes (took k)) (eq-eqb k k refl)
 
-  after_it : core_of m.plan fresh.words (holders_after i call m.holders) (dones_after call m.dones) (slice_set m.seats i w.seat') fresh.outcomes ≡ ticked m.plan (core_in m) i
-  after_it =
-      core_is _ _ _ _ _ _ _ _ w.words (homes_moved m.plan m.holders m.dones i many as_many call _ _ over own may) seats_are (w.told ∙ ap (λ (x : Program). said x m.outcomes) w.goes)
-      ∙ sym (ticked_by m.plan (core_in m) i (seat_state m.plan.slots m.dones w.seat) call (at_map (seat_state m.plan.slots m.dones) m.seats i w.seat w.at) first)
+later_else : (k j : ℕ) (bytes : List ℕ) (took : Taken) → j ≢ k → later_at k bytes took j ≡ took j
+later_else k j bytes took differ = ap (λ b. cond b bytes (took j)) (ne_eqb j k differ)
 
-  pub tick_is : core_in fresh ≡ ticked m.plan (core_in m) i
-  tick_is = rw (w.plan, w.holders, w.dones, w.seats) after_it
+agrees_same : (l l' : LinksData) (took : Taken) → l'.outs ≡ l.outs → Agrees l took → Agrees l' took
+agrees_same l l' took same agrees k out at = agrees k out (sym (ap (λ (os : List OutState). get_elem? os k) same) ∙ at)
 
-  hold_after : HoldTheirLinks (holders_after i call m.holders) (slice_set m.seats i w.seat')
-  hold_after j s at = ⊎_elim
-      (λ t. subst (λ (x : SeatData). HoldsItsLink (holders_after i call m.holders) j (link_at x.point)) t.1
-      (subst (λ (k : ℕ). HoldsItsLink (holders_after i call m.holders) k (link_at w.seat'.point)) (sym t.0)
-      (subst (HoldsItsLink (holders_after i call m.holders) i) (sym (w.hand ∙ w.behind)) (holds_moved m.plan m.holders m.dones i many as_many call _ _ over own may))))
-      (λ t. others_hold m.plan m.holders m.dones i many as_many call _ _ over own may j t.0 (link_at s.point) (hold j s t.1))
-      (at_set m.seats i j w.seat' s at)
+agrees_set : (l l' : LinksData) (took later : Taken) (k : ℕ) (out' : OutState) → l'.outs ≡ slice_set l.outs k out' → IfSome out'.took (λ bytes. bytes ≡ later k) → ((j : ℕ) → j ≢ k → later j ≡ took j) → Agrees l took → Agrees l' later
+agrees_set l l' took later k out' outs here other agrees j out at = ⊎_elim
+    (λ a. subst (λ n. IfSome out.took (λ bytes. bytes ≡ later n)) (sym a.0) (subst (λ (o : OutState). IfSome o.took (λ bytes. bytes ≡ later k)) a.1 here))
+    (λ a. subst (λ t. IfSome out.took (λ bytes. bytes ≡ t)) (sym (other j a.0)) (agrees j out a.1))
+    (at_set l.outs k j out' out (sym (ap (λ (os : List OutState). get_elem? os j) outs) ∙ at))
 
-  pub hold_is : HoldTheirLinks fresh.holders fresh.seats
-  hold_is = rw (w.holders, w.seats) hold_after
+known_more : (o : Option (List ℕ)) (t more : List ℕ) → IfSome o (λ bytes. bytes ≡ t) → IfSome (append_known o more) (λ bytes. bytes ≡ t ++ more)
+known_more None t more is = tt
+known_more (Some bytes) t more is = ap (λ (l : List ℕ). l ++ more) is
 
--- ## The next step
+-- ## What each kind of step changes
 
--- the kind of the next step of a seat
-pub kind_is : (p : Plan) (words : List ℕ) (holders : List (Option ℕ)) (dones : List Bool) (seats : List SeatData) (i : ℕ) (seat : SeatData) (outcomes : List (Option Outcome)) →
-    get_elem? seats i ≡ core.some seat → next_kind (core_of p words holders dones seats outcomes) i ≡ option_map kind_of (call_in (seat_program p.slots seat))
-kind_is p words holders dones seats i seat outcomes at =
-    ap (λ (o : core.Option SeatState). elim o as (λ x. Option Kind) [ core.none ↦ None | core.some s ↦ kind_in s.program ]) (at_map (seat_state p.slots dones) seats i seat at) ∙ kind_of_first (seat_program p.slots seat)
-  where
-    kind_of_first : (program : Program) → kind_in program ≡ option_map kind_of (call_in program)
-    kind_of_first (Do call next) = refl
-    kind_of_first (Say o outcome after) = refl
-    kind_of_first Rest = refl
+changed_is : {p : Plan} {i : ℕ} {l l' : LinksData} {ls ms : List (Option Letter)} {took later : Taken} {hand hand' : List Home} {hs gs : List (core.Option Home)} → Changed p i l l' ls ms took later hand hs → hand ≡ hand' → hs ≡ gs → Changed p i l l' ls ms took later hand' gs
+changed_is c e f = record { own = c.own ∙ e; others = c.others; homes_are = c.homes_are ∙ f }
 
--- a seat that isn't there has none
-pub kind_of_none : (c : Core) (i : ℕ) → length c.seats ≤ i → next_kind c i ≡ None
-kind_of_none c i h = ap (λ (o : core.Option SeatState). elim o as (λ x. Option Kind) [ core.none ↦ None | core.some s ↦ kind_in s.program ]) (past c.seats i h)
-  where
-    past : {A : Type 0} (xs : List A) (j : ℕ) → length xs ≤ j → get_elem? xs j ≡ core.none
-    past [] j q = refl
-    past (x ∷ xs) zero q = absurd (omega arith)
-    past (x ∷ xs) (suc j) q = past xs j (omega arith)
+letters_along : {p : Plan} {i : ℕ} {l l' : LinksData} {ls ms : List (Option Letter)} {took later : Taken} {hand : List Home} {hs : List (core.Option Home)} → ms ≡ ls → Changed p i l l' ls ls took later hand hs → Changed p i l l' ls ms took later hand hs
+letters_along {p} {i} {l} {l'} {ls} {ms} {took} {later} {hand} {hs} e c = subst (λ xs. Changed p i l l' ls xs took later hand hs) (sym e) c
 
--- a tick of a seat without a step changes nothing
-rests : (p : Plan) (i : ℕ) (seat : SeatState) (program : Program) (c : Core) → kind_in program ≡ None → tick_of p i seat program c ≡ c
-rests p i seat (Do call next) c e = cc
-rests p i seat (Say o outcome after) c e = refl
-rests p i seat Rest c e = refl
+links_are : (l l' : LinksData) → l'.holders ≡ l.holders → l'.nexts ≡ l.nexts → l'.outs ≡ l.outs → l' ≡ l
+links_are l l' e f g = λ k. record { holders = e k; nexts = f k; outs = g k }
 
-pub stays : (p : Plan) (c : Core) (i : ℕ) → next_kind c i ≡ None → ticked p c i ≡ c
-stays p c i e = go (get_elem? c.seats i) e
-  where
-    go : (o : core.Option SeatState) → (elim o as (λ x. Option Kind) [ core.none ↦ None | core.some s ↦ kind_in s.program ]) ≡ None → (elim o as (λ x. Core) [ core.none ↦ c | core.some s ↦ tick_of p i s s.program c ]) ≡ c
-    go core.none h = refl
-    go (core.some s) h = rests p i s s.program c h
+-- what is put into the home of a request has the operation's heading
+abbrev IsLabelled : calls.Call → Type 0
+IsLabelled (calls.PutMessage q heading bytes) = heading ≡ heading_of heading.operation
+IsLabelled other = Unit {0}
 
--- a tick changes no other seat
-others : (p : Plan) (i j : ℕ) (seat : SeatState) (program : Program) (c : Core) → j ≢ i → get_elem? (tick_of p i seat program c).seats j ≡ get_elem? c.seats j
-others p i j seat (Do call next) c q = set_else c.seats i j _ q
-others p i j seat (Say o outcome after) c q = refl
-others p i j seat Rest c q = refl
+module _ (p : Plan) (i : ℕ) (letters : List (Option Letter)) (sized : length letters ≡ p.requests) (l l' : LinksData) (took : Taken) (many : length l.holders ≡ p.links) where
+  abbrev homes : List (core.Option Home)
+  homes = homes_of l p letters took
 
-pub other_kind : (p : Plan) (c : Core) (i j : ℕ) → j ≢ i → next_kind (ticked p c i) j ≡ next_kind c j
-other_kind p c i j q = ap (λ (o : core.Option SeatState). elim o as (λ x. Option Kind) [ core.none ↦ None | core.some s ↦ kind_in s.program ]) (go (get_elem? c.seats i))
-  where
-    go : (o : core.Option SeatState) → get_elem? (elim o as (λ x. Core) [ core.none ↦ c | core.some s ↦ tick_of p i s s.program c ]).seats j ≡ get_elem? c.seats j
-    go core.none = refl
-    go (core.some s) = others p i j s s.program c q
+  abbrev hand : List Home
+  hand = hand_of l p.links took i
+
+  done_is : (k : ℕ) (out : OutState) → get_elem? l.outs k ≡ core.some out → is_done l k ≡ out.finished
+  done_is k out at = ap (λ o. elim o as (λ o. Bool) [ core.none ↦ false | core.some out ↦ out.finished ]) at
+
+  linked : (k : ℕ) (ts us : List ℕ) (m n : ℕ) (d e : Bool) → ts ≡ us → m ≡ n → d ≡ e → Link k ts m d ≡ Link k us n e
+  linked k ts us m n d e f g h = λ x. Link k (f x) (g x) (h x)
+
+  -- a step on a word, or a move without a right
+  call_changes : (call : calls.Call) (letters' : List (Option Letter)) → MayCall p l i call → IsLabelled call → letters' ≡ letters_after call letters → l'.holders ≡ holders_after i call l.holders → l'.nexts ≡ l.nexts → OutsAfter call l.outs l'.outs →
+      Changed p i l l' letters letters' took took (hand_after p call homes hand) (homes_after p call hand homes)
+  call_changes (calls.TakeLink k) letters' may labelled lettered holders nexts outs =
+      letters_along lettered (take_changes p i k letters sized l l' took many may.0 may.1 may.2 holders nexts outs)
+  call_changes (calls.FinishLink k) letters' may labelled lettered holders nexts outs = let out' = outs.1 in let step = outs.4 in
+      letters_along lettered (changed_is (out_changes p i k letters sized l l' took many may.0 took outs.0 out' may.1 holders nexts outs.2 outs.3 (λ j differ. refl))
+      (ap (λ (x : Home). x ∷ []) (linked k _ _ _ _ _ _ refl refl step.finished) ∙ sym (ap (λ (h : List Home). hand_after p (calls.FinishLink k) homes h) (hand_only l took p.links i k may.0 may.1))) refl)
+  call_changes (calls.PutLink k) letters' may labelled lettered holders nexts outs =
+      letters_along lettered (changed_is (give_changes p i k letters sized l l' took many may.0 may.1 holders (λ j differ. ap (λ (ns : List ℕ). slice_index_or ns j 0) nexts) outs)
+      (sym (ap others_of (hand_only l took p.links i k may.0 may.1)))
+      (ap (λ x. slice_set homes (link_place p k) x)
+      (ap core.some (ap (λ (x : LinksData). link_with x took k) (same_but nexts outs)) ∙ sym (ap first_of (hand_only l took p.links i k may.0 may.1)))))
+    where
+      same_but : l'.nexts ≡ l.nexts → l'.outs ≡ l.outs → (let x : LinksData = record { holders = l.holders; nexts = l'.nexts; outs = l'.outs } in x) ≡ l
+      same_but f g = λ k. record { holders = l.holders; nexts = f k; outs = g k }
+  call_changes (calls.PutMessage q heading bytes) letters' may labelled lettered holders nexts outs =
+      none_changes p i l l' letters letters' took _ (links_are l l' holders nexts outs)
+      (ap (λ ls. homes_of l p ls took) lettered ∙ sym (letters_set p letters sized l took q (Some (record { operation = heading.operation; message = bytes })) may)
+      ∙ ap (λ (h : Heading). slice_set homes q (core.some (Message h bytes))) (sym labelled))
+  call_changes _ letters' may labelled lettered holders nexts outs = none_changes p i l l' letters letters' took homes (links_are l l' holders nexts outs) (ap (λ ls. homes_of l p ls took) lettered)
+
+  call_agrees : (call : calls.Call) → OutsAfter call l.outs l'.outs → Agrees l took → Agrees l' took
+  call_agrees (calls.FinishLink k) outs agrees = let out' = outs.1 in let step = outs.4 in
+      agrees_set l l' took took k out' outs.3 (subst (λ o. IfSome o (λ bytes. bytes ≡ took k)) (sym step.took) (agrees k outs.0 outs.2)) (λ j differ. refl) agrees
+  call_agrees _ outs agrees = agrees_same l l' took outs agrees
+
+  -- a link that goes home with its places
+  home_changes : (k n : ℕ) → MayAsk p l i k → l'.holders ≡ slice_set l.holders k None → l'.nexts ≡ slice_set l.nexts k n → k < length l.nexts → l'.outs ≡ l.outs →
+      Changed p i l l' letters letters took took (others_of hand) (slice_set homes (link_place p k) (first_of (onto_first (with_places n) hand)))
+  home_changes k n may holders nexts inside outs = changed_is
+      (give_changes p i k letters sized l l' took many may.0 may.1 holders (λ j differ. ap (λ (ns : List ℕ). slice_index_or ns j 0) nexts ∙ get_or-set_other l.nexts k j n 0 differ) outs)
+      (sym (ap others_of (hand_only l took p.links i k may.0 may.1)))
+      (ap (λ x. slice_set homes (link_place p k) x)
+      (ap core.some (linked k _ _ _ _ _ _ refl (ap (λ (ns : List ℕ). slice_index_or ns k 0) nexts ∙ get_or-set_same l.nexts k n 0 inside) (ap (λ (os : List OutState). elim (get_elem? os k) as (λ o. Bool) [ core.none ↦ false | core.some out ↦ out.finished ]) outs))
+      ∙ sym (ap (λ (h : List Home). first_of (onto_first (with_places n) h)) (hand_only l took p.links i k may.0 may.1))))
+
+  -- a put
+  fed_link : (k m : ℕ) (d : Bool) (bytes : List ℕ) (put : Put) → Link k (took k ++ taken_of bytes put) m d ≡ fed bytes put (Link k (took k) m d)
+  fed_link k m d bytes (puts.Took n) = refl
+  fed_link k m d bytes puts.Again = linked k _ _ _ _ _ _ (append-nil (took k)) refl refl
+  fed_link k m d bytes puts.Failed = linked k _ _ _ _ _ _ (append-nil (took k)) refl refl
+
+  put_changes : (k : ℕ) (bytes : List ℕ) (put : Put) (out out' : OutState) → MayAsk p l i k → l'.holders ≡ l.holders → l'.nexts ≡ l.nexts → get_elem? l.outs k ≡ core.some out → l'.outs ≡ slice_set l.outs k out' → out'.finished ≡ out.finished →
+      Changed p i l l' letters letters took (later_at k (took k ++ taken_of bytes put) took) (onto_first (fed bytes put) hand) homes
+  put_changes k bytes put out out' may holders nexts at outs finished = let later : Taken = later_at k (took k ++ taken_of bytes put) took in changed_is
+      (out_changes p i k letters sized l l' took many may.0 later out out' may.1 holders nexts at outs (λ j differ. later_else k j (took k ++ taken_of bytes put) took differ))
+      (ap (λ (x : Home). x ∷ []) (linked k _ _ _ _ _ _ (later_here k (took k ++ taken_of bytes put) took) refl (finished ∙ sym (done_is k out at)) ∙ fed_link k (slice_index_or l.nexts k 0) (is_done l k) bytes put)
+      ∙ sym (ap (onto_first (fed bytes put)) (hand_only l took p.links i k may.0 may.1)))
+      refl
+
+  ready_changes : (k : ℕ) (out out' : OutState) → MayAsk p l i k → l'.holders ≡ l.holders → l'.nexts ≡ l.nexts → get_elem? l.outs k ≡ core.some out → l'.outs ≡ slice_set l.outs k out' → out'.finished ≡ out.finished →
+      Changed p i l l' letters letters took took hand homes
+  ready_changes k out out' may holders nexts at outs finished = changed_is
+      (out_changes p i k letters sized l l' took many may.0 took out out' may.1 holders nexts at outs (λ j differ. refl))
+      (ap (λ (x : Home). x ∷ []) (linked k _ _ _ _ _ _ refl refl (finished ∙ sym (done_is k out at))) ∙ sym (hand_only l took p.links i k may.0 may.1))
+      refl
+
+-- ## A step
+
+fits_put : (asked : Bool) (bytes : List ℕ) (put : Put) (out out' : OutState) → PutStep out out' bytes put → (asked ≡ true → out.clear ≡ true) → FitsPut asked bytes put
+fits_put asked bytes (puts.Took n) out out' step paced = step.count
+fits_put true bytes puts.Again out out' step paced = absurd (true≢false (sym (paced refl) ∙ step.again refl))
+fits_put false bytes puts.Again out out' step paced = refl
+fits_put asked bytes puts.Failed out out' step paced = tt
+
+labelled_step : (call : Call) → IsLabelled (step_of call)
+labelled_step (steps.ClaimSlot i) = tt
+labelled_step (steps.GiveBirth i k) = tt
+labelled_step (steps.AddRef id) = tt
+labelled_step (steps.SubRef i) = tt
+labelled_step (steps.SetOdd i) = tt
+labelled_step (steps.Recycle i from) = tt
+labelled_step (steps.FreeSlot i) = tt
+labelled_step (steps.StoreLink i k) = tt
+labelled_step (steps.LoadLink i w) = tt
+labelled_step (steps.ResetHead i k) = tt
+labelled_step (steps.WipeCode i k) = tt
+labelled_step (steps.StoreCode i h c) = tt
+labelled_step (steps.StoreName n w) = tt
+labelled_step (steps.LoadName n) = tt
+labelled_step (steps.StoreOpen o w) = tt
+labelled_step (steps.LoadOpen o) = tt
+labelled_step (steps.TakeLink k) = tt
+labelled_step (steps.FinishLink k) = tt
+labelled_step (steps.PutLink k) = tt
+labelled_step (steps.LookWord id) = tt
+labelled_step (steps.FindLink id) = tt
+labelled_step (steps.LoadCode id) = tt
+labelled_step (steps.ClaimRequest id q) = tt
+labelled_step (steps.Unconnect q) = tt
+labelled_step (steps.SwapHead i own) = tt
+labelled_step (steps.Connect q before) = tt
+labelled_step (steps.EmptyHead i last) = tt
+labelled_step (steps.ReadNext q) = tt
+labelled_step (steps.TurnNext q value) = tt
+labelled_step (steps.FreeRequest q g) = tt
+labelled_step (steps.StorePlace o k n) = tt
+labelled_step (steps.DropPlace o k n) = tt
+
+module _ (old fresh : MachineState) (i : ℕ) (seat seat' : SeatData) (at : get_elem? old.seats i ≡ core.some seat) (seats : fresh.seats ≡ slice_set old.seats i seat') (sized : IsSized (table_of old))
+    (paced : IsPaced old.links.outs (seat_program (sizes_of old.plan) seat)) (took : Taken) (agrees : Agrees old.links took) where
+  abbrev program : Program
+  program = seat_program (sizes_of old.plan) seat
+
+  abbrev own : SeatState
+  own = seat_state old.plan old.links took i seat
+
+  abbrev before : Core
+  before = core_with old took
+
+  own_at : get_elem? before.seats i ≡ core.some own
+  own_at = seat_at old.plan old.links took 0 old.seats i seat at ∙ ap (λ j. core.some (seat_state old.plan old.links took j seat)) (omega arith)
+
+  ticks : (answer : Answer) → ticked old.plan before (record { seat = i; answer = answer }) ≡ tick_with old.plan i own before answer program
+  ticks answer = ap (λ (o : core.Option SeatState). elim o as (λ x. Core) [ core.none ↦ before | core.some s ↦ tick_with old.plan i s before answer s.program ]) own_at
+
+  answers : (first : First) (answer : Answer) → first_in program ≡ Some first → AnswersFirst first answer → IsAnswered before (record { seat = i; answer = answer })
+  answers first answer next fits s there = subst (λ (x : SeatState). IsAnswer x.program answer) (core.some-injective own s (sym own_at ∙ there)) (answers_first program first answer next fits)
+
+  call_core : (call : calls.Call) → first_in program ≡ Some (OfCall call) → MayCall old.plan old.links i call → IsLabelled call → CallMade (table_of old) (table_of fresh) i program seat' call →
+      Agrees fresh.links took × (core_with fresh took ≡ ticked old.plan before (record { seat = i; answer = Unasked }))
+  call_core call next may labelled w = (
+    call_agrees old.plan i old.letters sized.letters_are old.links fresh.links took sized.holders_are call w.outs agrees,
+    core_set old fresh i seat' (after_word program (found_at old.words (word_of old.plan call))) took took _ _ _ seats w.goes w.words
+        (call_changes old.plan i old.letters sized.letters_are old.links fresh.links took sized.holders_are call fresh.letters may labelled w.letters w.holders w.nexts w.outs)
+        ∙ sym (ticks Unasked ∙ word_tick old.plan i own before Unasked program call next),
+  )
+
+  call_steps : (call : calls.Call) → first_in program ≡ Some (OfCall call) → MayCall old.plan old.links i call → IsLabelled call → CallMade (table_of old) (table_of fresh) i program seat' call → SteppedWith old fresh i Unasked took
+  call_steps call next may labelled w = let core = call_core call next may labelled w in record {
+    later = took;
+    agrees = core.0;
+    core = core.1;
+    answered = answers (OfCall call) Unasked next tt;
+  }
+
+  message_steps : (q : ℕ) → first_in program ≡ Some (OfMessage q) → MessageTaken (table_of old) (table_of fresh) i program seat' q → SteppedWith old fresh i Unasked took
+  message_steps q next w = record {
+    later = took;
+    agrees = agrees_same old.links fresh.links took (ap (λ (l : LinksData). l.outs) w.links) agrees;
+    core = core_set old fresh i seat' (after_message program w.letter.operation w.letter.message) took took own.hand _ _ seats w.goes w.words
+        (none_changes old.plan i old.links fresh.links old.letters fresh.letters took _ w.links
+        (ap (λ ls. homes_of old.links old.plan ls took) w.letters ∙ sym (letters_set old.plan old.letters sized.letters_are old.links took q None inside)))
+        ∙ sym (ticks Unasked ∙ message_tick old.plan i own before Unasked program q w.letter.operation w.letter.message next found);
+    answered = answers (OfMessage q) Unasked next tt;
+  }
+    where
+      inside : q < old.plan.requests
+      inside = let a = place_inside old.letters q (Some w.letter) w.at in let b = sized.letters_are in omega arith
+
+      found : message (λ (home : Home). home) before.homes q ≡ core.some (heading_of w.letter.operation, w.letter.message)
+      found = ap (λ x. letter_of (shown (λ (home : Home). home) x)) (at_longer (map letter_home old.letters) _ q (letter_home (Some w.letter)) (at_map letter_home old.letters q (Some w.letter) w.at))
+
+  link_steps : (k : ℕ) → first_in program ≡ Some (OfLink k) → MayTake old.plan old.links i k → LinkTaken (table_of old) (table_of fresh) i program seat' k → SteppedWith old fresh i Unasked took
+  link_steps k next may w = record {
+    later = took;
+    agrees = agrees_same old.links fresh.links took (ap (λ (l : LinksData). l.outs) w.links) agrees;
+    core = core_set old fresh i seat' (after_link program (slice_index_or old.links.nexts k 0)) took took _ _ _ seats w.goes w.words
+        (letters_along w.letters (take_changes old.plan i k old.letters sized.letters_are old.links fresh.links took sized.holders_are may.0 may.1 may.2
+        (ap (λ (l : LinksData). l.holders) w.links) (ap (λ (l : LinksData). l.nexts) w.links) (ap (λ (l : LinksData). l.outs) w.links)))
+        ∙ sym (ticks Unasked ∙ link_tick old.plan i own before Unasked program k (slice_index_or old.links.nexts k 0) (took k) next found);
+    answered = answers (OfLink k) Unasked next tt;
+  }
+    where
+      found : link_home (λ (home : Home). home) old.plan before.homes k ≡ core.some (took k, slice_index_or old.links.nexts k 0)
+      found = ap (λ x. took_of (as_link (shown (λ (home : Home). home) x))) (home_at old.plan old.letters sized.letters_are old.links took k may.0 ∙ ap core.some (lies_home old.links took k may.1))
+
+  home_steps : (k n : ℕ) → first_in program ≡ Some (OfHome k n) → MayAsk old.plan old.links i k → LinkPut (table_of old) (table_of fresh) i program seat' k n → SteppedWith old fresh i Unasked took
+  home_steps k n next may w = record {
+    later = took;
+    agrees = agrees_same old.links fresh.links took (ap (λ (l : LinksData). l.outs) w.links) agrees;
+    core = core_set old fresh i seat' (after_home program) took took _ _ _ seats w.goes w.words
+        (letters_along w.letters (home_changes old.plan i old.letters sized.letters_are old.links fresh.links took sized.holders_are k n may
+        (ap (λ (l : LinksData). l.holders) w.links) (ap (λ (l : LinksData). l.nexts) w.links) (let a = may.0 in let b = sized.nexts_are in omega arith) (ap (λ (l : LinksData). l.outs) w.links)))
+        ∙ sym (ticks Unasked ∙ home_tick old.plan i own before Unasked program k n next (head_home (around (sizes_of old.plan) seat) seat.point (puts_home (around (sizes_of old.plan) seat) seat.point k n next).0));
+    answered = answers (OfHome k n) Unasked next tt;
+  }
+
+  put_steps : (k : ℕ) (asked : Bool) (bytes : List ℕ) (put : Put) → first_in program ≡ Some (kinds.OfPut k asked bytes) → MayAsk old.plan old.links i k →
+      LinkAsked (table_of old) (table_of fresh) i program seat' k (after_put program put) (λ out out'. PutStep out out' bytes put) → SteppedWith old fresh i (OfPut put) took
+  put_steps k asked bytes put next may w = let a = w.asked in let step = a.answered in record {
+    later = later_at k (took k ++ taken_of bytes put) took;
+    agrees = agrees_set old.links fresh.links took (later_at k (took k ++ taken_of bytes put) took) k a.out' a.outs_are
+        (subst (λ o. IfSome o (λ bs. bs ≡ later_at k (took k ++ taken_of bytes put) took k)) (sym step.took)
+        (subst (λ t. IfSome (append_known a.out.took (taken_of bytes put)) (λ bs. bs ≡ t)) (sym (later_here k (took k ++ taken_of bytes put) took)) (known_more a.out.took (took k) (taken_of bytes put) (agrees k a.out a.at))))
+        (λ j differ. later_else k j (took k ++ taken_of bytes put) took differ) agrees;
+    core = core_set old fresh i seat' (after_put program put) took (later_at k (took k ++ taken_of bytes put) took) _ _ _ seats w.goes w.words
+        (letters_along w.letters (put_changes old.plan i old.letters sized.letters_are old.links fresh.links took sized.holders_are k bytes put a.out a.out' may w.holders w.nexts a.at a.outs_are step.finished))
+        ∙ sym (ticks (OfPut put) ∙ put_tick old.plan i own before put program k asked bytes next);
+    answered = answers (kinds.OfPut k asked bytes) (OfPut put) next (put, refl, fits_put asked bytes put a.out a.out' step (λ e. paced_first old.links.outs program k asked bytes next paced e a.out a.at));
+  }
+
+  ready_steps : (k : ℕ) (ready : Ready) → first_in program ≡ Some (kinds.OfReady k) → MayAsk old.plan old.links i k →
+      LinkAsked (table_of old) (table_of fresh) i program seat' k (after_ready program ready) (λ out out'. ReadyStep out out' ready) → SteppedWith old fresh i (OfReady ready) took
+  ready_steps k ready next may w = let a = w.asked in let step = a.answered in record {
+    later = took;
+    agrees = agrees_set old.links fresh.links took took k a.out' a.outs_are (subst (λ o. IfSome o (λ bs. bs ≡ took k)) (sym step.took) (agrees k a.out a.at)) (λ j differ. refl) agrees;
+    core = core_set old fresh i seat' (after_ready program ready) took took own.hand before.homes _ seats w.goes w.words
+        (letters_along w.letters (ready_changes old.plan i old.letters sized.letters_are old.links fresh.links took sized.holders_are k a.out a.out' may w.holders w.nexts a.at a.outs_are step.finished))
+        ∙ sym (ticks (OfReady ready) ∙ ready_tick old.plan i own before ready program k next (head_asks (around (sizes_of old.plan) seat) seat.point (asks (around (sizes_of old.plan) seat) seat.point k next).0));
+    answered = answers (kinds.OfReady k) (OfReady ready) next (ready, refl);
+  }
+
+  along : (answer answer' : Answer) → answer ≡ answer' → SteppedWith old fresh i answer' took → SteppedWith old fresh i answer took
+  along answer answer' e s = subst (λ (a : Answer). SteppedWith old fresh i a took) (sym e) s
+
+  by_step : (step : Step) (answer : Answer) → first_in program ≡ Some (step_as (around (sizes_of old.plan) seat) step) → MayMake old.plan old.links i (step_as (around (sizes_of old.plan) seat) step)
+      → Made (table_of old) (table_of fresh) i program seat' (step_as (around (sizes_of old.plan) seat) step) answer → SteppedWith old fresh i answer took
+  by_step (firsts.Call call) answer next may w = along answer Unasked w.0 (call_steps (step_of call) next may (labelled_step call) w.1)
+  by_step (firsts.PutMessage q o) answer next may w = along answer Unasked w.0 (call_steps _ next may refl w.1)
+  by_step (firsts.TakeMessage q) answer next may w = along answer Unasked w.0 (message_steps q next w.1)
+  by_step (firsts.TakeHome k) answer next may w = along answer Unasked w.0 (link_steps k next may w.1)
+  by_step (firsts.PutHome k n) answer next may w = along answer Unasked w.0 (home_steps k n next may w.1)
+  by_step (firsts.PutBytes k asked) answer next may w = along answer (OfPut w.0) w.1 (put_steps k asked _ w.0 next may w.2)
+  by_step (firsts.AskReady k) answer next may w = along answer (OfReady w.0) w.1 (ready_steps k w.0 next may w.2)
+
+  -- a step on a word leaves what the links took
+  quiet_step : (step : Step) (answer : Answer) → first_in program ≡ Some (step_as (around (sizes_of old.plan) seat) step) → MayMake old.plan old.links i (step_as (around (sizes_of old.plan) seat) step)
+      → IsCall (step_as (around (sizes_of old.plan) seat) step) → Made (table_of old) (table_of fresh) i program seat' (step_as (around (sizes_of old.plan) seat) step) answer →
+      Agrees fresh.links took × (core_with fresh took ≡ ticked old.plan before (record { seat = i; answer = Unasked }))
+  quiet_step (firsts.Call call) answer next may is w = call_core (step_of call) next may (labelled_step call) w.1
+  quiet_step (firsts.PutMessage q o) answer next may is w = call_core _ next may refl w.1
+  quiet_step (firsts.TakeMessage q) answer next may is w = absurd is
+  quiet_step (firsts.TakeHome k) answer next may is w = absurd is
+  quiet_step (firsts.PutHome k n) answer next may is w = absurd is
+  quiet_step (firsts.PutBytes k asked) answer next may is w = absurd is
+  quiet_step (firsts.AskReady k) answer next may is w = absurd is
+
+-- what is asked of the next step of a seat
+abbrev pub MayStep : MachineState → ℕ → Step → Type 0
+MayStep m i step = (seat : SeatData) → get_elem? m.seats i ≡ core.some seat → MayMake m.plan m.links i (step_as (around (sizes_of m.plan) seat) step)
+
+-- one step of a seat is a tick of it, whatever its links took so far
+pub step_core : (old fresh : MachineState) (i : ℕ) (step : Step) (answer : Answer) → IsSized (table_of old) → NextIs old i step → MayStep old i step → ArePaced old.plan old.links old.seats → SteppedTo old fresh i step answer →
+    (took : Taken) → Agrees old.links took → SteppedWith old fresh i answer took
+step_core old fresh i step answer sized n may paced w took agrees = by_step old fresh i w.seat w.seat' w.at w.seats sized (paced i w.seat w.at) took agrees step answer
+    (subst (λ (s : SeatData). first_in (seat_program (sizes_of old.plan) s) ≡ Some (step_as (around (sizes_of old.plan) s) step)) (core.some-injective n.seat w.seat (sym n.at ∙ w.at)) n.is)
+    (may w.seat w.at) w.made
+
+pub step_quiet : (old fresh : MachineState) (i : ℕ) (step : Step) (answer : Answer) → IsSized (table_of old) → NextIs old i step → MayStep old i step → ArePaced old.plan old.links old.seats → (w : SteppedTo old fresh i step answer) →
+    IsCall (step_as (around (sizes_of old.plan) w.seat) step) → (took : Taken) → Agrees old.links took → Agrees fresh.links took × (core_with fresh took ≡ ticked old.plan (core_with old took) (record { seat = i; answer = Unasked }))
+step_quiet old fresh i step answer sized n may paced w is took agrees = quiet_step old fresh i w.seat w.seat' w.at w.seats sized (paced i w.seat w.at) took agrees step answer
+    (subst (λ (s : SeatData). first_in (seat_program (sizes_of old.plan) s) ≡ Some (step_as (around (sizes_of old.plan) s) step)) (core.some-injective n.seat w.seat (sym n.at ∙ w.at)) n.is)
+    (may w.seat w.at) is w.made

@@ -1,51 +1,76 @@
--- Which seat has a link in hand, and whether its writing half is ended: the homes of a core, and what its seats have in hand.
-use Rattle.std.specs.Prelude.{ℕ, ◌<◌, ◌++◌, true, false, Bool, is_some, if◌then◌else◌, List, [], ◌∷◌, map, replicate, slice_set, slice_index_or, Option, Some, None}
+-- Messages and links as a machine has them: at home, or in hand of a seat.
+use Rattle.std.specs.Prelude.{ℕ, ◌≡◌, ◌==◌, ◌++◌, true, false, Bool, is_some, if◌then◌else◌, List, [], ◌∷◌, map, flat_map, slice_index_or, Option, Some, None, IfSome}
 use mathlib.Core.Option as core
+use lib.ListN.{get_elem?}
 use Rattle.sock_words.specs.declared.plain.Plan.{Plan}
+use Rattle.sock_io.specs.Link.{OutState}
 use Rattle.sock_model.specs.declared.home.Home.{Home}
-use Rattle.sock_model.specs.declared.home.Home.TheVariants.{Link}
-use Rattle.sock_programs.specs.Calls.{Call, TakeLink, FinishLink, PutLink}
+use Rattle.sock_model.specs.declared.home.Home.TheVariants.{Link, Message}
+use Rattle.sock_programs.specs.Writings as heads
+use Rattle.sock_programs.specs.Programs.{Program, PutBytes, Write}
 use Rattle.sock_programs.specs.Runs.{from_to}
-use Rattle.sock_core.specs.declared.point.Point.{Point}
-use Rattle.sock_core.specs.Points.{link_at}
+use Rattle.sock_programs.specs.Sends.{heading_of}
+use Rattle.sock_core.specs.declared.letter.Letter.{Letter}
 
--- the step is of one of so many links, if it is of a link
-abbrev pub IsOfLinks : ℕ → Call → Type 0
-IsOfLinks links (TakeLink k) = k < links
-IsOfLinks links (FinishLink k) = k < links
-IsOfLinks links (PutLink k) = k < links
-IsOfLinks links other = Unit {0}
+-- the message that lies at the home of a request
+abbrev pub letter_home : Option Letter → core.Option Home
+letter_home None = core.none
+letter_home (Some letter) = core.some (Message (heading_of letter.operation) letter.message)
 
--- who has each link in hand, after a step of a seat
-abbrev pub holders_after : ℕ → Call → List (Option ℕ) → List (Option ℕ)
-holders_after seat (TakeLink k) holders = slice_set holders k (Some seat)
-holders_after seat (PutLink k) holders = slice_set holders k None
-holders_after seat other holders = holders
+-- all links: who has each in hand, how many of its messages have places, and its writing half
+pub record LinksData : Type 0 where
+  pub holders : List (Option ℕ)
+  pub nexts : List ℕ
+  pub outs : List OutState
 
--- which writing halves are ended, after a step
-abbrev pub dones_after : Call → List Bool → List Bool
-dones_after (FinishLink k) dones = slice_set dones k true
-dones_after other dones = dones
+-- what each link took: a writing half may not tell it, so this stands beside a machine
+abbrev pub Taken : Type 0
+Taken = ℕ → List ℕ
 
--- ## As a core has them
+module _ (l : LinksData) where
+  abbrev pub holder_of : ℕ → Option ℕ
+  holder_of k = slice_index_or l.holders k None
 
-abbrev pub holder_of : List (Option ℕ) → ℕ → Option ℕ
-holder_of holders k = slice_index_or holders k None
+  abbrev pub is_done : ℕ → Bool
+  is_done k = elim (get_elem? l.outs k) as (λ o. Bool) [ core.none ↦ false | core.some out ↦ out.finished ]
 
-abbrev pub is_done : List Bool → ℕ → Bool
-is_done dones k = slice_index_or dones k false
+  -- a link as a home has it
+  abbrev pub link_with : Taken → ℕ → Home
+  link_with took k = Link k (took k) (slice_index_or l.nexts k 0) (is_done k)
 
--- a link that nobody has in hand lies at its home
-abbrev pub link_home : List (Option ℕ) → List Bool → ℕ → core.Option Home
-link_home holders dones k = if is_some (holder_of holders k) then core.none else core.some (Link k [] 0 (is_done dones k))
+  -- a link that nobody has in hand lies at its home
+  abbrev pub link_home : Taken → ℕ → core.Option Home
+  link_home took k = if is_some (holder_of k) then core.none else core.some (link_with took k)
 
-abbrev pub homes_of : Plan → List (Option ℕ) → List Bool → List (core.Option Home)
-homes_of p holders dones = replicate p.requests core.none ++ map (link_home holders dones) (from_to 0 p.links)
+  abbrev pub homes_of : Plan → List (Option Letter) → Taken → List (core.Option Home)
+  homes_of p letters took = map letter_home letters ++ map (link_home took) (from_to 0 p.links)
 
-abbrev pub hand_with : List Bool → Option ℕ → List Home
-hand_with dones None = []
-hand_with dones (Some k) = Link k [] 0 (is_done dones k) ∷ []
+  -- a link that a seat has in hand
+  abbrev pub in_hand : Taken → ℕ → ℕ → List Home
+  in_hand took i k = elim (holder_of k) as (λ o. List Home) [ None ↦ [] | Some j ↦ if j == i then link_with took k ∷ [] else [] ]
 
--- what a seat has in hand at a point
-abbrev pub hand_of : List Bool → Point → List Home
-hand_of dones point = hand_with dones (link_at point)
+  -- all that it has, of so many links
+  abbrev pub hand_of : ℕ → Taken → ℕ → List Home
+  hand_of count took i = flat_map (in_hand took i) (from_to 0 count)
+
+  -- where its writing half tells what a link took, it took this
+  abbrev pub Agrees : Taken → Type 0
+  Agrees took = (k : ℕ) (out : OutState) → get_elem? l.outs k ≡ core.some out → IfSome out.took (λ bytes. bytes ≡ took k)
+
+  -- each of them is prompt
+  abbrev pub ArePrompt : Type 0
+  ArePrompt = (k : ℕ) (out : OutState) → get_elem? l.outs k ≡ core.some out → out.prompt ≡ true
+
+-- the next put into a link isn't answered `Again`, and the last one was
+abbrev pub IsClear : List OutState → ℕ → Type 0
+IsClear outs k = (out : OutState) → get_elem? outs k ≡ core.some out → out.clear ≡ true
+
+abbrev pub WasRefused : List OutState → ℕ → Type 0
+WasRefused outs k = (out : OutState) → get_elem? outs k ≡ core.some out → out.again ≡ true
+
+-- a seat that was answered that its link takes more finds it so, and one that asks was answered `Again`
+abbrev pub IsPaced : List OutState → Program → Type 0
+IsPaced outs (Write (heads.Puts h now heading left taken asked) after) = asked ≡ true → IsClear outs h.link
+IsPaced outs (Write (heads.Waits h now heading left taken) after) = WasRefused outs h.link
+IsPaced outs (PutBytes k asked bytes next) = asked ≡ true → IsClear outs k
+IsPaced outs other = Unit {0}

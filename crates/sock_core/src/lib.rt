@@ -1,19 +1,19 @@
-//! The whole product on one thread, under any schedule, for scripts of sockets alone: seats, the words and links on which
-//! they step, and the steps.
+//! The whole product on one thread, under any schedule, for scripts without calls: seats, the words, messages and links on
+//! which they step, and the steps.
 #![tactic(auto)]
 
-mod call;
 mod finished;
-mod follows;
+mod letter;
 mod machine;
-mod point;
+mod moves;
+mod puts;
 mod seat;
 mod setup;
-mod step;
-mod steps;
 mod table;
 mod tables;
+mod waiting;
 mod wanted;
+mod words;
 
 pub use finished::Finished;
 pub use machine::{Machine, NotMade, On, Tick};

@@ -3,11 +3,12 @@ ghost use Rattle.sock_words.specs.declared.outcome.Outcome.TheVariants.{NotHeld}
 ghost use Rattle.sock_programs.specs.Programs.{Program, Say};
 ghost use Rattle.sock_programs.specs.Clients.{HeldLife, held_under, without_name, give_back, operation, client_from, ending_of};
 ghost use Rattle.sock_programs.specs.Cores.{said, next_step};
-ghost use Rattle.sock_core.specs.Points.{Around, point_program, next_program, link_at, link_behind, point_left, next_left};
-ghost use Rattle.sock_core.specs.Seats.{lives, seat_data, around, client_of, seat_program, rest_left, seat_left};
+ghost use Rattle.seat_points.specs.Points.{Around, point_program, next_program};
+ghost use Rattle.sock_core.specs.Seats.{lives, bytes_of, seat_data, around, client_of, seat_program};
 
-use crate::point::{Aim, Next, Opening, Point, ReleaseStep, SeekStep, Then};
-use sock_programs::{Op, Task};
+use seat_points::{Aim, Next, Opening, Point, ReleaseStep, SeekStep, Then};
+use sock_message::{Message, Outgoing};
+use sock_programs::{Op, Sizes, Task};
 use sock_words::{Outcome, SocketId};
 use std::collections::VecDeque;
 
@@ -18,16 +19,17 @@ pub struct Held {
     pub id: SocketId,
 }
 
-/// A seat: the tasks behind the one that it is at, the lives that it holds, the `open`s that it has still to end, and
-/// where it stands.
+/// A seat: the tasks behind the one that it is at, the lives that it holds, the `open`s that it has still to end, where it
+/// stands, the message that it is to send, and the one that it writes.
 #[derive(Drop)]
 pub struct Seat {
     pub tasks: VecDeque<Task>,
     pub held: Vec<Held>,
     pub ending: VecDeque<u16>,
     pub point: Point,
+    pub message: Option<Message>,
+    pub out: Option<Outgoing>,
 }
-
 /// The operation of this number has this outcome.
 fn tell(outcomes: &mut [Option<Outcome>], operation: u16, outcome: Outcome)
     ensures { outcomes.new ≡ slice_set outcomes.old operation (Some outcome) }
@@ -69,25 +71,35 @@ fn take_held(held: &mut Vec<Held>, name: u16) -> Option<SocketId>
     id
 }
 
-/// Where a task begins, of a table of so many slots; nowhere where it is a `drop` of what isn't held.
-fn begin(held: &mut Vec<Held>, slots: u16, task: Task) -> Option<Point>
-    ensures some { IfSome result (λ point. (a : Around) → a.slots ≡ slots → a.held ≡ lives held.new.items →
-        point_program a point ≡ operation slots (lives held.old.items) task.number a.goes_on task.op) }
+/// Where a task begins, over a table of these sizes; nowhere where it is a `drop` of what isn't held. The message of a `send` comes
+/// into the seat's hand.
+fn begin(
+    held: &mut Vec<Held>,
+    message: &mut Option<Message>,
+    sizes: Sizes,
+    task: Task,
+) -> Option<Point>
+    ensures some { IfSome result (λ point. (a : Around) → a.sizes ≡ sizes → a.held ≡ lives held.new.items → a.message ≡ bytes_of message.new →
+        point_program a point ≡ operation sizes (lives held.old.items) task.number a.goes_on task.op) }
     ensures none { IfNone result ((goes_on : List HeldLife → Program) →
-        operation slots (lives held.old.items) task.number goes_on task.op ≡ Say task.number NotHeld (goes_on (lives held.new.items))) }
-    ensures hand { IfSome result (λ point. link_at point ≡ None) }
-    ensures left { IfSome result (λ point. point_left slots point ≤ slots + 12) }
-    ensures fewer { vec_len held.new ≤ vec_len held.old }
+        operation sizes (lives held.old.items) task.number goes_on task.op ≡ Say task.number NotHeld (goes_on (lives held.new.items))) }
 {
-    let operation = task.number;
-    match task.op {
+    let Task {
+        number: operation,
+        op,
+    } = task;
+    match op {
         Op::Open(name, link) => {
             let opening = Opening {
                 operation,
                 name,
                 link,
             };
-            Some(opening.try_slot(slots, 0))
+            Some(opening.try_slot(sizes.slots, 0))
+        }
+        Op::Send(name, bytes) => {
+            *message = Some(bytes);
+            Some(Point::Seek(Aim::Send { operation, name }, SeekStep::Load))
         }
         Op::Hold(name) => Some(Point::Seek(Aim::Hold { operation, name }, SeekStep::Load)),
         Op::Fail(name, code) => {
@@ -107,10 +119,7 @@ fn begin(held: &mut Vec<Held>, slots: u16, task: Task) -> Option<Point>
 
 /// Where a client goes on behind its last task: it gives back what it holds, the oldest first.
 fn give_back(held: &mut Vec<Held>) -> Point
-    ensures program { (slots : ℕ) (ends : Program) →
-        point_program (record { slots = slots; goes_on = (λ hs. client_from slots hs []); ends = ends; held = lives held.new.items }) result ≡ give_back (lives held.old.items) }
-    ensures hand { link_at result ≡ None }
-    ensures left { (slots : ℕ) → point_left slots result + 8 * vec_len held.new ≤ 8 * vec_len held.old }
+    ensures { (a : Around) → a.goes_on ≡ (λ hs. client_from a.sizes hs []) → a.held ≡ lives held.new.items → point_program a result ≡ give_back (lives held.old.items) }
 {
     if held.is_empty() {
         return Point::Rest;
@@ -120,21 +129,19 @@ fn give_back(held: &mut Vec<Held>) -> Point
 }
 
 impl Seat {
-    /// The client goes on with its next task. Outcomes that need no step are told.
-    pub fn go_on(&mut self, slots: u16, outcomes: &mut [Option<Outcome>])
-        ensures program { seat_program slots (seat_data self.new) ≡ next_step (client_of slots (seat_data self.old)) }
-        ensures said { outcomes.new ≡ said (client_of slots (seat_data self.old)) outcomes.old }
-        ensures hand { link_at self.new.point ≡ None }
-        ensures left { seat_left slots (seat_data self.new) ≤ rest_left slots (seat_data self.old) }
-        ensures ending { self.new.ending.items ≡ self.old.ending.items }
+    /// The client goes on with its next task, over a table of these sizes. Outcomes that need no step are told.
+    pub fn go_on(&mut self, sizes: Sizes, outcomes: &mut [Option<Outcome>])
+        ensures program { seat_program sizes (seat_data self.new) ≡ next_step (client_of sizes (seat_data self.old)) }
+        ensures said { outcomes.new ≡ said (client_of sizes (seat_data self.old)) outcomes.old }
     {
         while let Some(task) = self.tasks.pop_front() {
-            match begin(&mut self.held, slots, task) {
+            let number = task.number;
+            match begin(&mut self.held, &mut self.message, sizes, task) {
                 Some(point) => {
                     self.point = point;
                     return;
                 }
-                None => tell(outcomes, task.number, Outcome::NotHeld),
+                None => tell(outcomes, number, Outcome::NotHeld),
             }
         }
         self.point = give_back(&mut self.held);
@@ -142,10 +149,8 @@ impl Seat {
 
     /// The ending goes on with its next `open`.
     pub fn end_next(&mut self)
-        ensures program { (slots : ℕ) → seat_program slots (seat_data self.new) ≡ next_step (ending_of self.old.ending.items) }
+        ensures program { (sizes : Sizes) → seat_program sizes (seat_data self.new) ≡ next_step (ending_of self.old.ending.items) }
         ensures said { (outcomes : List (Option Outcome)) → outcomes ≡ said (ending_of self.old.ending.items) outcomes }
-        ensures hand { link_at self.new.point ≡ None }
-        ensures left { (slots : ℕ) → seat_left slots (seat_data self.new) ≤ rest_left slots (seat_data self.old) }
     {
         self.point = match self.ending.pop_front() {
             Some(operation) => Point::Seek(Aim::End { operation }, SeekStep::Load),
@@ -154,25 +159,24 @@ impl Seat {
     }
 
     /// The seat goes on behind a step.
-    pub fn follow(&mut self, slots: u16, next: Next, outcomes: &mut [Option<Outcome>])
+    pub fn follow(&mut self, sizes: Sizes, next: Next, outcomes: &mut [Option<Outcome>])
         requires room { vec_len self.old.held < vec_capacity self.old.held }
-        ensures program { seat_program slots (seat_data self.new) ≡ next_step (next_program (around slots (seat_data self.old)) next) }
-        ensures said { outcomes.new ≡ said (next_program (around slots (seat_data self.old)) next) outcomes.old }
-        ensures hand { link_at self.new.point ≡ link_behind next }
-        ensures left { seat_left slots (seat_data self.new) ≤ next_left slots next + rest_left slots (seat_data self.old) }
+        ensures program { seat_program sizes (seat_data self.new) ≡ next_step (next_program (around sizes (seat_data self.old)) next) }
+        ensures said { outcomes.new ≡ said (next_program (around sizes (seat_data self.old)) next) outcomes.old }
     {
         match next {
             Next::Point(point) => self.point = point,
             Next::Said(operation, outcome) => {
                 tell(outcomes, operation, outcome);
-                self.go_on(slots, outcomes);
+                self.go_on(sizes, outcomes);
             }
+            Next::Sent(_) => self.go_on(sizes, outcomes),
             Next::Held(operation, name, id) => {
                 self.held.push_reserved(Held { name, id });
                 tell(outcomes, operation, Outcome::Held);
-                self.go_on(slots, outcomes);
+                self.go_on(sizes, outcomes);
             }
-            Next::GaveBack => self.go_on(slots, outcomes),
+            Next::GaveBack => self.go_on(sizes, outcomes),
             Next::Ended => self.end_next(),
         }
     }

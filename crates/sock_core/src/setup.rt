@@ -1,15 +1,14 @@
-ghost use Rattle.std.specs.Prelude.{◌≡◌, ◌*◌, ◌-◌, ◌<◌, ℕ, List, [], None, IfOk, OnOk, ◌++◌, map, fold, replicate, length, Option, vec_capacity};
-ghost use Rattle.sock_words.specs.declared.outcome.Outcome.{Outcome};
-ghost use Rattle.sock_model.specs.Layout.{all_words};
-ghost use Rattle.sock_programs.specs.Cores.{said};
+ghost use Rattle.std.specs.Prelude.{◌≡◌, ◌*◌, ◌≤◌, [], None, IfOk, OnOk, ◌++◌, map, replicate, vec_capacity};
 ghost use Rattle.sock_programs.specs.Scripts.{free_slot, free_slots, opening_words, programs};
 ghost use Rattle.sock_core.specs.Seats.{seat_data};
-ghost use Rattle.sock_core.specs.Beginnings.{AreBegun, AreParts};
+ghost use Rattle.sock_core.specs.Beginnings.{AreBegun, AreParts, said_first};
 
-use crate::point::Point;
+use crate::letter::Letter;
 use crate::seat::Seat;
-use sock_programs::Task;
-use sock_words::{Outcome, Plan};
+use script_tasks::sizes_of;
+use seat_points::Point;
+use sock_programs::{Sizes, Task};
+use sock_words::{Outcome, PlaceWord, Plan};
 use std::alloc::{AllocError, Global};
 use std::collections::VecDeque;
 
@@ -41,7 +40,7 @@ fn push_zeros(words: &mut Vec<u64>, count: usize) -> Result<(), AllocError>
 }
 
 /// The words of a table before its first step.
-pub fn opening_words(alloc: Global, plan: &Plan) -> Result<Vec<u64>, AllocError>
+fn opening_words(alloc: Global, plan: &Plan) -> Result<Vec<u64>, AllocError>
     ensures { IfOk result (λ words. words.items ≡ opening_words plan.now) }
 {
     let mut words = Vec::new(alloc);
@@ -52,37 +51,37 @@ pub fn opening_words(alloc: Global, plan: &Plan) -> Result<Vec<u64>, AllocError>
     Ok(words)
 }
 
-/// Nobody has one of so many links in hand.
-pub fn free_links(alloc: Global, links: u16) -> Result<Vec<Option<u16>>, AllocError>
-    ensures { IfOk result (λ holders. holders.items ≡ replicate links None) }
+/// So many places at each of which nothing is.
+fn empty_places<T: Drop>(alloc: Global, count: u16) -> Result<Vec<Option<T>>, AllocError>
+    ensures { IfOk result (λ places. places.items ≡ replicate count None) }
 {
-    let mut holders = Vec::new(alloc);
-    for _ in 0..links {
-        holders.push(None)?;
+    let mut places = Vec::new(alloc);
+    for _ in 0..count {
+        places.push(None)?;
     }
-    Ok(holders)
+    Ok(places)
 }
 
-/// No operation of so many has an outcome.
-pub fn no_outcomes(alloc: Global, operations: u16) -> Result<Vec<Option<Outcome>>, AllocError>
-    ensures { IfOk result (λ outcomes. outcomes.items ≡ replicate operations None) }
+/// Of each of so many links no message has a place.
+fn no_nexts(alloc: Global, links: u16) -> Result<Vec<u32>, AllocError>
+    ensures { IfOk result (λ nexts. nexts.items ≡ replicate links 0) }
 {
-    let mut outcomes = Vec::new(alloc);
-    for _ in 0..operations {
-        outcomes.push(None)?;
+    let mut nexts = Vec::new(alloc);
+    for _ in 0..links {
+        nexts.push(0)?;
     }
-    Ok(outcomes)
+    Ok(nexts)
 }
 
 /// The seats of these clients, each before its first step. Outcomes that need no step are told.
-pub fn seats_of(
+fn seats_of(
     alloc: Global,
-    slots: u16,
+    sizes: Sizes,
     clients: Vec<VecDeque<Task>>,
     outcomes: &mut [Option<Outcome>],
 ) -> Result<Vec<Seat>, AllocError>
-    ensures seats { IfOk result (λ seats. AreBegun slots (map seat_data seats.items) (map (λ (tasks : _). tasks.items) clients.items)) }
-    ensures told { OnOk result (outcomes.new ≡ fold (λ os program. said program os) outcomes.old (programs slots (map (λ (tasks : _). tasks.items) clients.items))) }
+    ensures seats { IfOk result (λ seats. AreBegun sizes (map seat_data seats.items) (map (λ (tasks : _). tasks.items) clients.items)) }
+    ensures told { OnOk result (outcomes.new ≡ said_first outcomes.old (programs sizes (map (λ (tasks : _). tasks.items) clients.items))) }
 {
     let mut seats = Vec::new(alloc);
     for tasks in clients {
@@ -91,22 +90,31 @@ pub fn seats_of(
             held: Vec::new(alloc),
             ending: VecDeque::new(alloc),
             point: Point::Rest,
+            message: None,
+            out: None,
         };
-        seat.go_on(slots, outcomes);
+        seat.go_on(sizes, outcomes);
         seats.push(seat)?;
     }
     Ok(seats)
 }
 
-/// All of a machine but its links, before its first step.
+/// All of a machine but its links and the `open`s of its ending, before its first step.
 #[derive(Drop)]
 pub struct Parts {
     pub words: Vec<u64>,
+    /// The home of each request.
+    pub letters: Vec<Option<Letter>>,
+    /// Who has each link in hand.
     pub holders: Vec<Option<u16>>,
+    /// How many messages of each link have places.
+    pub nexts: Vec<u32>,
     pub seats: Vec<Seat>,
     pub outcomes: Vec<Option<Outcome>>,
     /// Room for all outcomes.
     pub told: Vec<(u16, Outcome)>,
+    /// Room for all place words.
+    pub places: Vec<PlaceWord>,
 }
 
 /// The parts of a machine of these clients.
@@ -115,19 +123,28 @@ pub fn parts_of(
     plan: &Plan,
     clients: Vec<VecDeque<Task>>,
 ) -> Result<Parts, AllocError>
-    ensures parts { IfOk result (λ parts. AreParts plan.now (map (λ (tasks : _). tasks.items) clients.items) parts.words.items parts.holders.items (map seat_data parts.seats.items) parts.outcomes.items (vec_capacity parts.told)) }
+    ensures parts { IfOk result (λ parts. AreParts plan.now (map (λ (tasks : _). tasks.items) clients.items) parts.words.items parts.letters.items parts.holders.items parts.nexts.items (map seat_data parts.seats.items) parts.outcomes.items) }
     ensures told { IfOk result (λ parts. parts.told.items ≡ []) }
+    ensures told_room { IfOk result (λ parts. plan.now.operations ≤ vec_capacity parts.told) }
+    ensures places { IfOk result (λ parts. parts.places.items ≡ []) }
+    ensures places_room { IfOk result (λ parts. 8 * plan.now.operations ≤ vec_capacity parts.places) }
 {
     let words = opening_words(alloc, plan)?;
-    let holders = free_links(alloc, plan.links)?;
-    let mut outcomes = no_outcomes(alloc, plan.operations)?;
+    let letters = empty_places(alloc, plan.requests)?;
+    let holders = empty_places(alloc, plan.links)?;
+    let nexts = no_nexts(alloc, plan.links)?;
+    let mut outcomes = empty_places(alloc, plan.operations)?;
     let told = Vec::with_capacity(alloc, usize::from(plan.operations))?;
-    let seats = seats_of(alloc, plan.slots, clients, &mut outcomes)?;
+    let places = Vec::with_capacity(alloc, 8 * usize::from(plan.operations))?;
+    let seats = seats_of(alloc, sizes_of(plan), clients, &mut outcomes)?;
     Ok(Parts {
         words,
+        letters,
         holders,
+        nexts,
         seats,
         outcomes,
         told,
+        places,
     })
 }

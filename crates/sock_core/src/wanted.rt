@@ -4,10 +4,10 @@ ghost use Rattle.sock_programs.specs.Scripts.{all_tasks};
 ghost use Rattle.sock_programs.specs.Tasks.{plan_of, opens};
 
 use script_items::Script;
-use script_tasks::{opens_of, plan_of, tasks_of};
+use script_tasks::{BlockPool, NoMemory, opens_of, plan_of, tasks_of};
 use sock_programs::Task;
 use sock_words::Plan;
-use std::alloc::{AllocError, Global};
+use std::alloc::Global;
 use std::collections::VecDeque;
 
 /// What a script wants of a machine.
@@ -20,17 +20,18 @@ pub struct Wanted {
     pub opens: VecDeque<u16>,
 }
 
-/// What a script that was read wants.
-pub fn wanted_of(alloc: Global, script: &Script) -> Result<Wanted, AllocError>
+/// What a script that was read wants. Its messages are copied into blocks of a pool of their own.
+pub fn wanted_of(alloc: Global, script: &Script) -> Result<Wanted, NoMemory>
     requires { (bytes : List ℕ) × (script_of bytes ≡ Ok script.now) }
     ensures plan { IfOk result (λ w. w.plan ≡ plan_of script.now) }
     ensures clients { IfOk result (λ w. map (λ (tasks : _). tasks.items) w.clients.items ≡ all_tasks script.now) }
     ensures opens { IfOk result (λ w. w.opens.items ≡ opens script.now) }
 {
     let lines = script.lines();
+    let mut pool = BlockPool::new(alloc);
     Ok(Wanted {
         plan: plan_of(alloc, lines)?,
-        clients: tasks_of(alloc, lines)?,
+        clients: tasks_of(alloc, &mut pool, lines)?,
         opens: opens_of(alloc, lines)?,
     })
 }

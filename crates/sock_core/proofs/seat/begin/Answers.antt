@@ -1,8 +1,11 @@
 use Rattle.std.proofs.Common.{◌∙◌}
 use Rattle.sock_core.specs.Seats.{lives}
-use Rattle.sock_core.proofs.HeldLives.{drops}
+use Rattle.sock_core.proofs.HeldLives.{drops, sends}
 use Rattle.sock_core.proofs.seat.begin.Goals as goal
 
 pub returns-in_ok-id-in-Drop-clause-some : goal.returns-in_ok-id-in-Drop-clause-some
-returns-in_ok-id-in-Drop-clause-some c a slots held =
-    rw (c.in-Drop.is) (drops a c.args.slots c.args.task.number _ c.in_ok-id-in-Drop.id (lives c.args.held.now.items) c.slot.result c.slot.ensures c.in_ok-id-in-Drop.ensures.id (held ∙ c.in_ok-id-in-Drop.ensures.rest))
+returns-in_ok-id-in-Drop-clause-some c a sizes held message =
+    rw (c.in-Drop.is) (drops a c.args.sizes c.args.task.number _ c.in_ok-id-in-Drop.id (lives c.args.held.now.items) c.slot.result c.slot.ensures c.in_ok-id-in-Drop.ensures.id (held ∙ c.in_ok-id-in-Drop.ensures.rest))
+
+pub returns-in-Send-clause-some : goal.returns-in-Send-clause-some
+returns-in-Send-clause-some c a sizes held message = sends a c.args.sizes c.args.task.number c.in-Send.name c.in-Send.bytes (lives c.args.held.now.items) c.args.task.op sizes held message c.in-Send.is

@@ -1,7 +1,11 @@
-use Rattle.std.proofs.Common.{rules, ◌≡◌, map, ap, ◌∙◌}
-use Rattle.sock_core.specs.Finish.{told_from}
-use Rattle.sock_core.proofs.Making.{told_alone}
+use Rattle.std.proofs.Common.{rules, ◌≡◌, map, ap, sym, ◌∙◌}
+use Rattle.sock_io.specs.Link.{end_of}
+use Rattle.sock_core.proofs.Making.{map_map}
 use Rattle.sock_core.proofs.machine.Machine.finish.Goals as goal
 
-pub returns-clause-outcomes : goal.returns-clause-outcomes
-returns-clause-outcomes g c = let all : c.gather.new.told.items ≡ told_from 0 c.args.self.outcomes = search rules in ap (map (λ o. o.1)) all ∙ told_alone 0 c.args.self.outcomes
+pub returns-clause-took : goal.returns-clause-took
+returns-clause-took g c =
+    let outs : c.args.self.links.outs ≡ map (λ e. g.O.Out.state e.out) c.tables-inside.inside.0.0.ends.items = search rules in
+    let ends : c.args.self.ends ≡ map (λ e. end_of (g.O.Out.state e.out) (g.I.In.state e.inn)) c.tables-inside.inside.0.0.ends.items = search rules in
+    ap (map (λ o. o.took)) outs ∙ (map_map (λ e. g.O.Out.state e.out) (λ o. o.took) c.tables-inside.inside.0.0.ends.items
+    ∙ sym (ap (map (λ e. e.took)) ends ∙ map_map (λ e. end_of (g.O.Out.state e.out) (g.I.In.state e.inn)) (λ e. e.took) c.tables-inside.inside.0.0.ends.items))

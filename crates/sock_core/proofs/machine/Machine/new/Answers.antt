@@ -1,6 +1,6 @@
 use Rattle.std.proofs.Common.{sym, ◌∙◌}
 use Rattle.std.proofs.lemmas.List.{length-map}
-use Rattle.sock_core.proofs.Making.{are_tasks, are_within, fits_table, as_many_seats, few_seats, own_opens, plan_made, opens_made, core_made, rest_made}
+use Rattle.sock_core.proofs.Making.{are_tasks, are_within, fits_table, as_many_seats, few_seats, own_opens, few_opens, plan_made, opens_made, agrees_made, core_made, rest_made, prompt_made}
 use Rattle.sock_core.proofs.machine.Machine.new.Goals as goal
 
 pub start-requires-clause-tasks : goal.start-requires-clause-tasks
@@ -21,18 +21,29 @@ start-requires-clause-few g c = few_seats c.args.script.now c.requires.script _ 
 pub start-requires-clause-opens : goal.start-requires-clause-opens
 start-requires-clause-opens g c = own_opens c.args.script.now c.requires.script _ c.in-Ok.ensures.plan _ c.in-Ok.ensures.opens
 
+pub start-requires-clause-few_opens : goal.start-requires-clause-few_opens
+start-requires-clause-few_opens g c = few_opens c.args.script.now c.requires.script _ c.in-Ok.ensures.plan _ c.in-Ok.ensures.opens
+
 pub returns-clause-plan : goal.returns-clause-plan
 returns-clause-plan g c = plan_made c.args.script.now c.in-Ok.wanted.plan _ c.in-Ok.wanted.opens.items c.in_ok-machine.machine c.in-Ok.ensures.plan c.in-Ok.ensures.clients c.in-Ok.ensures.opens
-    c.in_ok-machine.ensures.core c.in_ok-machine.ensures.plan c.in_ok-machine.ensures.opens c.set_up.result c.set_up.ensures.plan
+    c.in_ok-machine.ensures.core c.in_ok-machine.ensures.plan c.in_ok-machine.ensures.opens c.in_ok-machine.ensures.agrees c.set_up.result c.set_up.ensures.ok
 
 pub returns-clause-opens : goal.returns-clause-opens
 returns-clause-opens g c = opens_made c.args.script.now c.in-Ok.wanted.plan _ c.in-Ok.wanted.opens.items c.in_ok-machine.machine c.in-Ok.ensures.plan c.in-Ok.ensures.clients c.in-Ok.ensures.opens
-    c.in_ok-machine.ensures.core c.in_ok-machine.ensures.plan c.in_ok-machine.ensures.opens c.set_up.result c.set_up.ensures.opens
+    c.in_ok-machine.ensures.core c.in_ok-machine.ensures.plan c.in_ok-machine.ensures.opens c.in_ok-machine.ensures.agrees c.set_up.result c.set_up.ensures.ok
+
+pub returns-clause-agrees : goal.returns-clause-agrees
+returns-clause-agrees g c = agrees_made c.args.script.now c.in-Ok.wanted.plan _ c.in-Ok.wanted.opens.items c.in_ok-machine.machine c.in-Ok.ensures.plan c.in-Ok.ensures.clients c.in-Ok.ensures.opens
+    c.in_ok-machine.ensures.core c.in_ok-machine.ensures.plan c.in_ok-machine.ensures.opens c.in_ok-machine.ensures.agrees c.set_up.result c.set_up.ensures.ok
 
 pub returns-clause-core : goal.returns-clause-core
 returns-clause-core g c = core_made c.args.script.now c.in-Ok.wanted.plan _ c.in-Ok.wanted.opens.items c.in_ok-machine.machine c.in-Ok.ensures.plan c.in-Ok.ensures.clients c.in-Ok.ensures.opens
-    c.in_ok-machine.ensures.core c.in_ok-machine.ensures.plan c.in_ok-machine.ensures.opens c.set_up.result c.set_up.ensures.ok
+    c.in_ok-machine.ensures.core c.in_ok-machine.ensures.plan c.in_ok-machine.ensures.opens c.in_ok-machine.ensures.agrees c.set_up.result c.set_up.ensures.ok
 
 pub returns-clause-rest : goal.returns-clause-rest
 returns-clause-rest g c = rest_made c.args.script.now c.in-Ok.wanted.plan _ c.in-Ok.wanted.opens.items c.in_ok-machine.machine c.in-Ok.ensures.plan c.in-Ok.ensures.clients c.in-Ok.ensures.opens
-    c.in_ok-machine.ensures.core c.in_ok-machine.ensures.plan c.in_ok-machine.ensures.opens c.set_up.result c.set_up.ensures.ok
+    c.in_ok-machine.ensures.core c.in_ok-machine.ensures.plan c.in_ok-machine.ensures.opens c.in_ok-machine.ensures.agrees c.set_up.result c.set_up.ensures.ok
+
+pub returns-clause-outs : goal.returns-clause-outs
+returns-clause-outs g c = prompt_made c.args.script.now c.in-Ok.wanted.plan _ c.in-Ok.wanted.opens.items c.in_ok-machine.machine c.in-Ok.ensures.plan c.in-Ok.ensures.clients c.in-Ok.ensures.opens
+    c.in_ok-machine.ensures.core c.in_ok-machine.ensures.plan c.in_ok-machine.ensures.opens c.in_ok-machine.ensures.agrees c.set_up.result c.set_up.ensures.ok c.in_ok-machine.ensures.outs

@@ -1,21 +1,19 @@
-use Rattle.std.proofs.Common.{◌≡◌, ◌∙◌, ◌-◌, suc, subst}
-use Rattle.sock_words.specs.declared.plain.Plan.{Plan}
-use Rattle.sock_programs.specs.Cores.{run}
-use Rattle.sock_programs.specs.Runs.{from_to}
-use Rattle.sock_core.specs.Machines.{core_in}
-use Rattle.sock_core.proofs.Playing.{played_more}
+use Rattle.std.proofs.Common.{Ok, ap}
+use Rattle.sock_core.proofs.Endings.{both_join}
+use Rattle.sock_core.proofs.Rounding.{played_none, played_more, played_last}
 use Rattle.sock_core.proofs.machine.Machine.play_on.Goals as goal
 
+pub loop-init : goal.loop-init
+loop-init g c = played_none c.args.self.now c.requires c.most_left-end.ensures.left
+
+pub returns-in_err-round-clause-same : goal.returns-in_err-round-clause-same
+returns-in_err-round-clause-same g c = both_join c.args.self.now c.loop.self c.round.new.self (c.loop.invariant.ran.0, c.loop.invariant.ran.1) c.round.ensures.same
+
+pub returns-then-not-branch-clause-ok : goal.returns-then-not-branch-clause-ok
+returns-then-not-branch-clause-ok g c = played_last c.args.self.now c.loop.self c.round.new.self c.loop.counter c.loop.invariant c.in_ok-round.ensures.ran c.round.ensures.rest (c.in_ok-round.ensures.still (ap Ok c.if-not-branch.true))
+
+pub returns-then-not-branch-clause-same : goal.returns-then-not-branch-clause-same
+returns-then-not-branch-clause-same g c = both_join c.args.self.now c.loop.self c.round.new.self (c.loop.invariant.ran.0, c.loop.invariant.ran.1) c.round.ensures.same
+
 pub loop-preserved : goal.loop-preserved
-loop-preserved g c =
-    let so_far = c.loop.invariant.rounds in
-    record {
-      rounds = (
-        suc so_far.0,
-        played_more c.args.self.now.plan (core_in c.args.self.now) (core_in c.loop.self) (core_in c.round.new.self) so_far.0 (c.args.self.now.plan.seats - 1) so_far.1
-            (subst (λ (p : Plan). core_in c.round.new.self ≡ run p (core_in c.loop.self) (from_to 1 (p.seats - 1))) c.loop.invariant.plan c.in_ok-round.ensures.core),
-      );
-      plan = c.in_ok-round.ensures.plan ∙ c.loop.invariant.plan;
-      opens = c.in_ok-round.ensures.opens ∙ c.loop.invariant.opens;
-      ends = c.in_ok-round.ensures.ends ∙ c.loop.invariant.ends;
-    }
+loop-preserved g c = played_more c.args.self.now c.loop.self c.round.new.self c.loop.counter c.loop.invariant c.in_ok-round.ensures.ran c.round.ensures.rest (c.in_ok-round.ensures.fewer (ap Ok c.if-not-branch.false))

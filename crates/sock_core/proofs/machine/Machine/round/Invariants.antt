@@ -1,4 +1,4 @@
-use Rattle.sock_core.proofs.Playing.{RoundSoFar}
+use Rattle.sock_core.proofs.Rounding.{RoundSoFar}
 use Rattle.sock_core.proofs.machine.Machine.round.Given as goal
 
 -- the clients before this one were ticked

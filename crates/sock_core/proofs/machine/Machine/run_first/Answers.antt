@@ -1,20 +1,14 @@
-use Rattle.std.proofs.Common.{◌≡◌, ◌∙◌, suc, subst}
-use Rattle.sock_words.specs.declared.plain.Plan.{Plan}
-use Rattle.sock_programs.specs.Cores.{ticked}
-use Rattle.sock_core.specs.Machines.{core_in}
-use Rattle.sock_core.proofs.Playing.{stepped_more}
+use Rattle.std.proofs.Common.{refl}
+use Rattle.sock_core.proofs.Endings.{plain_rests}
+use Rattle.sock_core.proofs.Rounding.{first_more, first_last, leaves_fewer}
 use Rattle.sock_core.proofs.machine.Machine.run_first.Goals as goal
 
+pub returns-then-not-is_moved-clause-ok : goal.returns-then-not-is_moved-clause-ok
+returns-then-not-is_moved-clause-ok g c =
+    first_last c.args.self.now c.loop.self c.advance.new.self c.loop.counter c.in_ok-advance.field-0 c.loop.invariant c.in_ok-advance.ensures.tick (c.in_ok-advance.ensures.first refl c.loop.invariant.plain)
+    (plain_rests c.loop.self c.advance.new.self c.in_ok-advance.field-0 c.loop.invariant.plain (c.is_moved.ensures.still c.if-not-is_moved.true) c.in_ok-advance.ensures.tick)
+
 pub loop-preserved : goal.loop-preserved
-loop-preserved g c =
-    let so_far = c.loop.invariant.steps in
-    record {
-      steps = (
-        suc so_far.0,
-        stepped_more c.args.self.now.plan (core_in c.args.self.now) (core_in c.loop.self) (core_in c.advance.new.self) so_far.0 so_far.1
-            (subst (λ (p : Plan). core_in c.advance.new.self ≡ ticked p (core_in c.loop.self) 0) c.loop.invariant.plan c.in_ok-advance.ensures.core),
-      );
-      plan = c.in_ok-advance.ensures.plan ∙ c.loop.invariant.plan;
-      opens = c.in_ok-advance.ensures.opens ∙ c.loop.invariant.opens;
-      ends = c.in_ok-advance.ensures.ends ∙ c.loop.invariant.ends;
-    }
+loop-preserved g c = let moved = c.is_moved.ensures.moved c.if-not-is_moved.false in
+    first_more c.args.self.now c.loop.self c.advance.new.self c.loop.counter c.in_ok-advance.field-0 c.loop.invariant c.in_ok-advance.ensures.tick (c.in_ok-advance.ensures.first refl c.loop.invariant.plain)
+    (leaves_fewer moved.0 c.in_ok-advance.field-0 c.loop.self c.advance.new.self moved.1 c.in_ok-advance.ensures.left)

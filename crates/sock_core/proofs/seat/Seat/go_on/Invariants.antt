@@ -1,15 +1,13 @@
-use Rattle.std.proofs.Common.{◌≡◌, ◌≤◌, length}
+use Rattle.std.proofs.Common.{◌≡◌, length}
 use Rattle.sock_programs.specs.Cores.{said, next_step}
-use Rattle.sock_core.specs.Seats.{seat_data, client_of, rest_left}
+use Rattle.sock_core.specs.Seats.{seat_data, client_of}
 use Rattle.sock_core.proofs.seat.Seat.go_on.Given as goal
 
 -- what is left is as before, but for the outcomes that were told
 abbrev pub invariant-loop-task : goal.invariant-loop-task
 invariant-loop-task l = record {
-  program : next_step (client_of l.slots (seat_data l.self)) ≡ next_step (client_of l.slots (seat_data l.fn.self));
-  told : said (client_of l.slots (seat_data l.self)) l.outcomes ≡ said (client_of l.slots (seat_data l.fn.self)) l.fn.outcomes;
-  left : rest_left l.slots (seat_data l.self) ≤ rest_left l.slots (seat_data l.fn.self);
-  ending : l.self.ending.items ≡ l.fn.self.ending.items;
+  program : next_step (client_of l.sizes (seat_data l.self)) ≡ next_step (client_of l.sizes (seat_data l.fn.self));
+  told : said (client_of l.sizes (seat_data l.self)) l.outcomes ≡ said (client_of l.sizes (seat_data l.fn.self)) l.fn.outcomes;
 }
 
 abbrev pub decreases-loop-task : goal.decreases-loop-task

@@ -1,0 +1,181 @@
+-- What a step makes of the links, as they would be given back.
+use Rattle.std.proofs.Common.{◌≡◌, ◌≢◌, refl, ℕ, zero, suc, ◌<◌, ◌⊎◌, inr, ⊎_elim, Bool, true, false, List, [], ◌∷◌, length, slice_set, Some, ap, sym, ◌∙◌, arith, subst}
+use Rattle.std.proofs.lemmas.List.{get_or-set_same, get_or-set_other}
+use Rattle.std.proofs.lemmas.List.Elements.{Contains-push_cases}
+use Rattle.std.proofs.lemmas.Option.{get_or_from_slice_get, same_Some}
+use Rattle.std.proofs.Math.ListN.{length-set}
+use native.Mathlib.Decide.{ℕ_discrete}
+use mathlib.Core.Logic.{dite}
+use Rattle.std.specs.Prelude.{slice_get}
+use Rattle.atomic_table.proofs.Lists.{at_set}
+use Rattle.sock_runs.proofs.Along.{place_inside}
+use mathlib.Core.Option as core
+use lib.ListN.{get_elem?}
+use Rattle.brpc_model.specs.Link.{LinkEnd}
+use Rattle.sock_io.specs.declared.link.Put.{Put}
+use Rattle.sock_io.specs.declared.link.Put.TheVariants as puts
+use Rattle.sock_io.specs.declared.link.Ready.{Ready}
+use Rattle.sock_io.specs.declared.link.Ready.TheVariants as asks
+use Rattle.sock_io.specs.Link.{OutState, PutStep, ReadyStep}
+use Rattle.sock_io.specs.Causes.{Rose}
+use Rattle.sock_programs.specs.Calls as calls
+use Rattle.sock_programs.specs.Writings.{Puts, Waits, Empties, Walks}
+use Rattle.sock_programs.specs.Programs.{Program, Do, Say, Sent, Rest, TakeMessage, TakeHome, PutHome, PutBytes, AskReady, Write}
+use Rattle.sock_programs.specs.Cores.{Core, SeatState}
+use Rattle.sock_programs.specs.Ticks.{Answer, Unasked, OfPut, OfReady, asked_link, broken_at}
+use Rattle.seat_points.specs.Steps.{First, OfCall, OfMessage, OfLink, OfHome, first_in}
+use Rattle.seat_points.specs.Steps as kinds
+use Rattle.sock_core.specs.Seats.{SeatData}
+use Rattle.sock_core.specs.Links.{LinksData, ArePrompt, is_done}
+use Rattle.sock_core.specs.Machines.{MachineState, table_of}
+use Rattle.sock_core.specs.Steps.{SameLink, OutsAfter, Made, LinkAsked}
+use Rattle.sock_core.specs.Runs.{SameLinks, ShowFaults}
+use Rattle.sock_core.proofs.FirstSteps.{same_some}
+use Rattle.sock_core.proofs.Joining.{same_link_none, show_faults_none}
+use Rattle.sock_core.proofs.Sounds.{AsksUnfinished}
+
+-- ## Prompt links
+
+prompt_same : (l l' : LinksData) → l'.outs ≡ l.outs → ArePrompt l → ArePrompt l'
+prompt_same l l' same prompt k out at = prompt k out (sym (ap (λ (os : List OutState). get_elem? os k) same) ∙ at)
+
+prompt_set : (l l' : LinksData) (k : ℕ) (out out' : OutState) → get_elem? l.outs k ≡ core.some out → l'.outs ≡ slice_set l.outs k out' → out'.prompt ≡ out.prompt → ArePrompt l → ArePrompt l'
+prompt_set l l' k out out' at outs same prompt j other there = ⊎_elim
+    (λ a. subst (λ (o : OutState). o.prompt ≡ true) a.1 (same ∙ prompt k out at))
+    (λ a. prompt j other a.1)
+    (at_set l.outs k j out' other (sym (ap (λ (os : List OutState). get_elem? os j) outs) ∙ there))
+
+prompt_call : (call : calls.Call) (l l' : LinksData) → OutsAfter call l.outs l'.outs → ArePrompt l → ArePrompt l'
+prompt_call (calls.FinishLink k) l l' o = prompt_set l l' k o.0 o.1 o.2 o.3 o.4.same.prompt
+prompt_call _ l l' o = prompt_same l l' o
+
+-- ## The same links
+
+pub links_kept : (old fresh : MachineState) → fresh.ends ≡ old.ends → (ArePrompt old.links → ArePrompt fresh.links) → SameLinks old fresh
+links_kept old fresh ends prompt = record {
+  as_many = ap length ends;
+  each = λ k x y at also. subst (SameLink x) (same_Some x y (sym at ∙ ap (λ (es : List LinkEnd). slice_get es k) (sym ends) ∙ also)) (same_link_none x);
+  prompt = prompt;
+}
+
+-- what stands where it was written
+behind_is : (es : List LinkEnd) (k : ℕ) (b e : LinkEnd) → k < length es → slice_get (slice_set es k b) k ≡ Some e → b ≡ e
+behind_is es k b e inside at = sym (get_or-set_same es k b e inside) ∙ get_or_from_slice_get (slice_set es k b) k e e at
+
+links_set : (old fresh : MachineState) (k : ℕ) (before behind : LinkEnd) → get_elem? old.ends k ≡ core.some before → fresh.ends ≡ slice_set old.ends k behind → SameLink before behind → (ArePrompt old.links → ArePrompt fresh.links) → SameLinks old fresh
+links_set old fresh k before behind at ends same prompt = record {
+  as_many = ap length ends ∙ length-set old.ends k behind;
+  each = λ j x y there also. let also' : slice_get (slice_set old.ends k behind) j ≡ Some y = ap (λ (es : List LinkEnd). slice_get es j) (sym ends) ∙ also in dite (ℕ_discrete j k)
+      (λ e. let inside = place_inside old.ends k before at in
+      let y_is : behind ≡ y = behind_is old.ends k behind y inside (subst (λ n. slice_get (slice_set old.ends k behind) n ≡ Some y) e also') in
+      let x_is : before ≡ x = first_is old.ends k before x at (subst (λ n. slice_get old.ends n ≡ Some x) e there) in
+      subst (λ (z : LinkEnd). SameLink z y) x_is (subst (SameLink before) y_is same))
+      (λ differ. subst (SameLink x) (sym (get_or_from_slice_get old.ends j x y there) ∙ sym (get_or-set_other old.ends k j behind y differ) ∙ get_or_from_slice_get (slice_set old.ends k behind) j y y also') (same_link_none x));
+  prompt = prompt;
+}
+  where
+    first_is : (es : List LinkEnd) (n : ℕ) (a b : LinkEnd) → get_elem? es n ≡ core.some a → slice_get es n ≡ Some b → a ≡ b
+    first_is [] n a b e f = cc
+    first_is (x ∷ xs) zero a b e f = cc
+    first_is (x ∷ xs) (suc n) a b e f = first_is xs n a b e (rest_at xs x n f)
+      where
+        rest_at : (xs : List LinkEnd) (x : LinkEnd) (n : ℕ) → slice_get (x ∷ xs) (suc n) ≡ Some b → slice_get xs n ≡ Some b
+        rest_at xs x n g = g
+
+module _ (old fresh : MachineState) (i : ℕ) (of : Program) (seat' : SeatData) where
+  asked_links : {k : ℕ} {next : Program} {HasAnswered : OutState → OutState → Type 0} → LinkAsked (table_of old) (table_of fresh) i of seat' k next HasAnswered →
+      ((out out' : OutState) → HasAnswered out out' → out'.prompt ≡ out.prompt) → SameLinks old fresh
+  asked_links {k} w stays = let a = w.asked in links_set old fresh k a.before a.behind a.end_at a.ends_are a.same (prompt_set old.links fresh.links k a.out a.out' a.at a.outs_are (stays a.out a.out' a.answered))
+
+  -- the links stay those that they were
+  pub made_links : (first : First) (answer : Answer) → Made (table_of old) (table_of fresh) i of seat' first answer → SameLinks old fresh
+  made_links (OfCall call) answer w = links_kept old fresh w.1.ends (prompt_call call old.links fresh.links w.1.outs)
+  made_links (OfMessage q) answer w = links_kept old fresh w.1.ends (prompt_same old.links fresh.links (ap (λ (l : LinksData). l.outs) w.1.links))
+  made_links (OfLink k) answer w = links_kept old fresh w.1.ends (prompt_same old.links fresh.links (ap (λ (l : LinksData). l.outs) w.1.links))
+  made_links (OfHome k n) answer w = links_kept old fresh w.1.ends (prompt_same old.links fresh.links (ap (λ (l : LinksData). l.outs) w.1.links))
+  made_links (kinds.OfPut k asked bytes) answer w = asked_links w.2 (λ out out' step. step.same.prompt)
+  made_links (kinds.OfReady k) answer w = asked_links w.2 (λ out out' step. step.same.prompt)
+
+  -- a prompt link answers in time
+  pub made_prompt : (first : First) (answer : Answer) → Made (table_of old) (table_of fresh) i of seat' first answer → ArePrompt old.links → answer ≢ OfReady asks.NotYet
+  made_prompt (OfCall call) answer w prompt yet = let e = w.0 in cc
+  made_prompt (OfMessage q) answer w prompt yet = let e = w.0 in cc
+  made_prompt (OfLink k) answer w prompt yet = let e = w.0 in cc
+  made_prompt (OfHome k n) answer w prompt yet = let e = w.0 in cc
+  made_prompt (kinds.OfPut k asked bytes) answer w prompt yet = let e = w.1 in cc
+  made_prompt (kinds.OfReady k) answer w prompt yet = let a = w.2.asked in let e = w.1 in a.answered.prompt (prompt k a.out a.at) (let f : w.0 ≡ asks.NotYet = cc in f)
+
+  -- ## Links that failed
+
+  some_fault : (before now : ℕ) → Rose before now → 0 < now
+  some_fault before now rose = omega (arith, rose)
+
+  fault_shown : {k : ℕ} {next : Program} {HasAnswered : OutState → OutState → Type 0} (w : LinkAsked (table_of old) (table_of fresh) i of seat' k next HasAnswered) → Rose w.asked.out.faults w.asked.out'.faults →
+      (ks : List ℕ) → (ks ≡ []) ⊎ (ks ≡ k ∷ []) → ShowFaults fresh ks
+  fault_shown {k} w rose ks is = ⊎_elim
+      (λ e. subst (ShowFaults fresh) (sym e) (show_faults_none fresh))
+      (λ e. subst (ShowFaults fresh) (sym e) (λ j x has at. ⊎_elim
+      (λ h. let inside = h.1 in absurd (omega (arith, inside)))
+      (λ same. let a = w.asked in
+      let x_is : a.behind ≡ x = behind_is old.ends k a.behind x (place_inside old.ends k a.before a.end_at) (ap (λ (es : List LinkEnd). slice_get es k) (sym a.ends_are) ∙ subst (λ n. slice_get fresh.ends n ≡ Some x) (sym same) at) in
+      subst (λ (z : LinkEnd). 0 < z.put_faults) x_is (subst (λ n. 0 < n) (sym a.faults) (some_fault a.out.faults a.out'.faults rose)))
+      (Contains-push_cases [] k j has)))
+      is
+
+  done_at : (k : ℕ) (out : OutState) → get_elem? old.links.outs k ≡ core.some out → is_done old.links k ≡ false → out.finished ≡ false
+  done_at k out at done = sym (ap (λ (o : core.Option OutState). elim o as (λ x. Bool) [ core.none ↦ false | core.some x ↦ x.finished ]) at) ∙ done
+
+-- the link that is asked is that of the first step
+abbrev IsAsked : First → List ℕ → Type 0
+IsAsked (kinds.OfPut k asked bytes) ks = (ks ≡ []) ⊎ (ks ≡ k ∷ [])
+IsAsked (kinds.OfReady k) ks = (ks ≡ []) ⊎ (ks ≡ k ∷ [])
+IsAsked other ks = Unit {0}
+
+asks_first : (program : Program) (first : First) → first_in program ≡ Some first → IsAsked first (asked_link program)
+asks_first (PutBytes k asked bytes next) first e = subst (λ (f : First). IsAsked f (k ∷ [])) (same_some e) (inr refl)
+asks_first (AskReady k next) first e = subst (λ (f : First). IsAsked f (k ∷ [])) (same_some e) (inr refl)
+asks_first (Write (Waits h now heading left taken) after) first e = subst (λ (f : First). IsAsked f (h.link ∷ [])) (same_some e) (inr refl)
+asks_first (Write (Puts h now heading left taken asked) after) first e = subst (λ (f : First). IsAsked f []) (same_some e) tt
+asks_first (Write (Walks h top place after) then_) first e = subst (λ (f : First). IsAsked f []) (same_some e) tt
+asks_first (Write (Empties h) after) first e = subst (λ (f : First). IsAsked f []) (same_some e) tt
+asks_first (Do call next) first e = subst (λ (f : First). IsAsked f []) (same_some e) tt
+asks_first (TakeMessage q next) first e = subst (λ (f : First). IsAsked f []) (same_some e) tt
+asks_first (TakeHome k next) first e = subst (λ (f : First). IsAsked f []) (same_some e) tt
+asks_first (PutHome k n after) first e = subst (λ (f : First). IsAsked f []) (same_some e) tt
+asks_first (Say o outcome next) first e = cc
+asks_first (Sent o next) first e = cc
+asks_first Rest first e = cc
+
+module _ (old fresh : MachineState) (i : ℕ) (c : Core) (seat : SeatState) (there : get_elem? c.seats i ≡ core.some seat) (seat' : SeatData) where
+  none_broken : ShowFaults fresh []
+  none_broken = show_faults_none fresh
+
+  at_seat : (ks : SeatState → List ℕ) → ShowFaults fresh (ks seat) → ShowFaults fresh (elim (get_elem? c.seats i) as (λ o. List ℕ) [ core.none ↦ [] | core.some s ↦ ks s ])
+  at_seat ks shown = subst (λ (o : core.Option SeatState). ShowFaults fresh (elim o as (λ x. List ℕ) [ core.none ↦ [] | core.some s ↦ ks s ])) (sym there) shown
+
+  put_broken : (k : ℕ) (asked : Bool) (bytes : List ℕ) (put : Put) (next : Program) → LinkAsked (table_of old) (table_of fresh) i seat.program seat' k next (λ out out'. PutStep out out' bytes put) →
+      first_in seat.program ≡ Some (kinds.OfPut k asked bytes) → is_done old.links k ≡ false → ShowFaults fresh (broken_at c (record { seat = i; answer = OfPut put }))
+  put_broken k asked bytes (puts.Took n) next w first done = none_broken
+  put_broken k asked bytes puts.Again next w first done = none_broken
+  put_broken k asked bytes puts.Failed next w first done = let a = w.asked in
+      at_seat (λ s. asked_link s.program) (fault_shown old fresh i seat.program seat' w (a.answered.failed refl (done_at old fresh i seat.program seat' k a.out a.at done)) (asked_link seat.program) (asks_first seat.program (kinds.OfPut k asked bytes) first))
+
+  ready_broken : (k : ℕ) (ready : Ready) (next : Program) → LinkAsked (table_of old) (table_of fresh) i seat.program seat' k next (λ out out'. ReadyStep out out' ready) →
+      first_in seat.program ≡ Some (kinds.OfReady k) → is_done old.links k ≡ false → ShowFaults fresh (broken_at c (record { seat = i; answer = OfReady ready }))
+  ready_broken k asks.Now next w first done = none_broken
+  ready_broken k asks.NotYet next w first done = none_broken
+  ready_broken k asks.Failed next w first done = let a = w.asked in
+      at_seat (λ s. asked_link s.program) (fault_shown old fresh i seat.program seat' w (a.answered.failed refl (done_at old fresh i seat.program seat' k a.out a.at done)) (asked_link seat.program) (asks_first seat.program (kinds.OfReady k) first))
+
+  unasked : (answer : Answer) → answer ≡ Unasked → ShowFaults fresh (broken_at c (record { seat = i; answer = answer }))
+  unasked answer e = subst (λ (a : Answer). ShowFaults fresh (broken_at c (record { seat = i; answer = a }))) (sym e) none_broken
+
+  -- a link that answered that it failed shows it
+  pub made_broken : (first : First) (answer : Answer) → Made (table_of old) (table_of fresh) i seat.program seat' first answer → first_in seat.program ≡ Some first → AsksUnfinished old.links first →
+      ShowFaults fresh (broken_at c (record { seat = i; answer = answer }))
+  made_broken (OfCall call) answer w first open_ = unasked answer w.0
+  made_broken (OfMessage q) answer w first open_ = unasked answer w.0
+  made_broken (OfLink k) answer w first open_ = unasked answer w.0
+  made_broken (OfHome k n) answer w first open_ = unasked answer w.0
+  made_broken (kinds.OfPut k asked bytes) answer w first open_ = subst (λ (a : Answer). ShowFaults fresh (broken_at c (record { seat = i; answer = a }))) (sym w.1) (put_broken k asked bytes w.0 _ w.2 first open_)
+  made_broken (kinds.OfReady k) answer w first open_ = subst (λ (a : Answer). ShowFaults fresh (broken_at c (record { seat = i; answer = a }))) (sym w.1) (ready_broken k w.0 _ w.2 first open_)

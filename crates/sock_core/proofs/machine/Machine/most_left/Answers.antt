@@ -1,0 +1,8 @@
+use Rattle.std.proofs.Common.{◌-◌, subst}
+use Rattle.sock_core.specs.Machines.{MachineState, MOST_LEFT}
+use Rattle.sock_core.specs.Driving.{LastsAtMost}
+use Rattle.sock_core.proofs.Endings.{lasts_most}
+use Rattle.sock_core.proofs.machine.Machine.most_left.Goals as goal
+
+pub returns-clause-left : goal.returns-clause-left
+returns-clause-left g c = subst (λ (m : MachineState). LastsAtMost m (MOST_LEFT - 1)) c.self.view_is (lasts_most c.self.inside.tables _ c.self.invariant.0)

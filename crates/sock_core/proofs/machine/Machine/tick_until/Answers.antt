@@ -1,0 +1,21 @@
+use Rattle.std.proofs.Common.{◌∙◌, refl}
+use Rattle.sock_core.proofs.Endings.{both_join, passed_none, passed_more, passed_last}
+use Rattle.sock_core.proofs.machine.Machine.tick_until.Goals as goal
+
+pub loop-init : goal.loop-init
+loop-init g c = record { so_far = passed_none c.args.self.now c.args.seat c.args.kind c.requires c.most_left-end.ensures.left; same_links = refl }
+
+pub returns-then-is_last-clause-led : goal.returns-then-is_last-clause-led
+returns-then-is_last-clause-led g c = passed_last c.args.self.now c.loop.self c.tick.new.self c.args.seat c.args.kind c.loop.counter c.loop.invariant.so_far c.in_ok-tick.field-0 (c.is_last.ensures.last c.if-is_last.true) c.in_ok-tick.ensures.tick
+
+pub returns-then-is_last-clause-same : goal.returns-then-is_last-clause-same
+returns-then-is_last-clause-same g c = both_join c.args.self.now c.loop.self c.tick.new.self (c.loop.invariant.so_far.passed.0, c.loop.invariant.so_far.passed.1) c.tick.ensures.same
+
+pub returns-in_err-tick-clause-same : goal.returns-in_err-tick-clause-same
+returns-in_err-tick-clause-same g c = both_join c.args.self.now c.loop.self c.tick.new.self (c.loop.invariant.so_far.passed.0, c.loop.invariant.so_far.passed.1) c.tick.ensures.same
+
+pub loop-preserved : goal.loop-preserved
+loop-preserved g c = record {
+  so_far = passed_more c.args.self.now c.loop.self c.tick.new.self c.args.seat c.args.kind c.loop.counter c.loop.invariant.so_far c.in_ok-tick.field-0 (c.is_last.ensures.other c.if-is_last.false) c.in_ok-tick.ensures.tick c.in_ok-tick.ensures.left c.tick.ensures.rest;
+  same_links = c.tick.ensures.links ∙ c.loop.invariant.same_links;
+}

@@ -1,0 +1,25 @@
+use Rattle.std.proofs.Common.{refl, arith, ap, ◌∙◌, slice_set, None}
+use Rattle.sock_programs.specs.Scripts.{sizes_of}
+use Rattle.seat_points.specs.Points.{next_program}
+use Rattle.sock_core.specs.Seats.{seat_data, around}
+use Rattle.seat_points.specs.Points.{after_home}
+use Rattle.sock_core.proofs.Stepping.{written, makes_along, goes, same_sizes, links_are}
+use Rattle.sock_core.proofs.table.Table.put_home.Goals as goal
+
+pub returns : goal.returns
+returns g c seat =
+    let sizes = c.sizes.ensures in
+    makes_along c.self.view_is (record {
+      is = (
+        refl,
+        record {
+          words = refl;
+          letters = refl;
+          links = links_are _ (written c.self.inside.holders.len c.put_home.new.holders _ (omega (arith, c.self.inside.holders.ok)) ∙ c.put_home.ensures.holders ∙ ap (λ hs. slice_set hs c.args.link None) c.deref_mut.ensures.value) (written c.self.inside.nexts.len c.put_home.new.nexts _ (omega (arith, c.self.inside.nexts.ok)) ∙ c.put_home.ensures.nexts ∙ ap (λ ns. slice_set ns c.args.link c.args.places) c.deref_mut-2.ensures.value);
+          ends = refl;
+          goes = goes (next_program (around c.sizes.result (seat_data c.args.place.now)) c.link_home-next.result) refl sizes c.follow.ensures.program
+              (written c.self.inside.outcomes.len c.follow.new.outcomes _ (omega (arith, c.self.inside.outcomes.ok))) c.follow.ensures.said c.deref_mut-3.ensures.value
+              (c.link_home-next.ensures.program (around c.sizes.result (seat_data c.args.place.now)) ∙ same_sizes c.sizes.result (sizes_of c.self.inside.plan) (seat_data c.args.place.now) after_home sizes);
+        },
+      );
+    })

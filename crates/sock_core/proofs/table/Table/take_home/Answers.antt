@@ -1,0 +1,26 @@
+use Rattle.std.proofs.Common.{refl, arith, ap, ◌∙◌, slice_set, Some}
+use Rattle.sock_programs.specs.Scripts.{sizes_of}
+use Rattle.seat_points.specs.Points.{next_program}
+use Rattle.sock_core.specs.Seats.{seat_data, around}
+use Rattle.seat_points.specs.Points.{after_link}
+use Rattle.sock_core.specs.Seats.{seat_program}
+use Rattle.sock_core.proofs.Stepping.{written, makes_along, goes, same_sizes, links_are}
+use Rattle.sock_core.proofs.table.Table.take_home.Goals as goal
+
+pub returns : goal.returns
+returns g c =
+    let sizes = c.sizes.ensures in
+    makes_along c.self.view_is (record {
+      is = (
+        refl,
+        record {
+          words = refl;
+          letters = refl;
+          links = links_are _ (written c.self.inside.holders.len c.take_home-places.new.holders _ (omega (arith, c.self.inside.holders.ok)) ∙ c.take_home-places.ensures.holders ∙ ap (λ hs. slice_set hs c.args.link (Some c.args.seat)) c.deref_mut.ensures.value) refl;
+          ends = refl;
+          goes = goes (next_program (around c.sizes.result (seat_data c.args.place.now)) c.with_link-next.result) refl sizes c.follow.ensures.program
+              (written c.self.inside.outcomes.len c.follow.new.outcomes _ (omega (arith, c.self.inside.outcomes.ok))) c.follow.ensures.said c.deref_mut-2.ensures.value
+              (c.with_link-next.ensures.program (around c.sizes.result (seat_data c.args.place.now)) ∙ same_sizes c.sizes.result (sizes_of c.self.inside.plan) (seat_data c.args.place.now) (λ x. after_link x c.take_home-places.result) sizes ∙ ap (after_link (seat_program (sizes_of c.self.inside.plan) (seat_data c.args.place.now))) (rw c.deref.ensures.value at c.take_home-places.ensures.places));
+        },
+      );
+    })

@@ -1,0 +1,75 @@
+-- How many ticks that move are left, seats that ask no link, and where the ending begins.
+use Rattle.std.specs.Prelude.{ℕ, ◌≡◌, ◌-◌, ◌<◌, ◌≤◌, [], slice_set}
+use mathlib.Core.Option as core
+use lib.ListN.{get_elem?}
+use Rattle.sock_programs.specs.Programs.{Program, Do, Say, Sent, Rest}
+use Rattle.sock_programs.specs.Clients.{ending_of}
+use Rattle.sock_programs.specs.Cores.{next_step}
+use Rattle.sock_programs.specs.Ticks.{quiet, ticked}
+use Rattle.sock_programs.specs.Scripts.{sizes_of}
+use Rattle.sock_words.specs.declared.kind.Kind.{Kind}
+use Rattle.sock_core.specs.declared.machine.Tick.{Tick}
+use Rattle.sock_core.specs.declared.machine.Tick.TheVariants.{Moved}
+use Rattle.sock_core.specs.Seats.{SeatData, seat_program}
+use Rattle.sock_core.specs.Links.{Taken, Agrees}
+use Rattle.sock_core.specs.Machines.{MachineState, IsSoundMachine, core_with}
+
+-- ## Ticks that are left
+
+-- a sound machine has so many ticks that move left at most
+abbrev pub LastsAtMost : MachineState → ℕ → Type 0
+LastsAtMost m n = ∥ ((s : IsSoundMachine m) × (s.left ≤ n)) ∥₁
+
+-- some tick moved, or none need have
+abbrev pub LeavesFewer : MachineState → MachineState → Type 0
+LeavesFewer old new = (n : ℕ) → LastsAtMost old n → (0 < n) × LastsAtMost new (n - 1)
+
+abbrev pub LeavesAsMany : MachineState → MachineState → Type 0
+LeavesAsMany old new = (n : ℕ) → LastsAtMost old n → LastsAtMost new n
+
+-- what a tick that answers this leaves
+abbrev pub Leaves : Tick → MachineState → MachineState → Type 0
+Leaves (Moved kind) old new = LeavesFewer old new
+Leaves other old new = LeavesAsMany old new
+
+-- a tick that is a step of this kind, or in which nothing moved
+abbrev pub IsLast : Tick → Kind → Type 0
+IsLast (Moved found) kind = found ≡ kind
+IsLast other kind = Unit {0}
+
+-- a tick that is a step of another kind
+abbrev pub IsOther : Tick → Kind → Type 0
+IsOther (Moved found) kind = found ≡ kind → ⊥
+IsOther other kind = ⊥
+
+-- ## Seat 0, which asks no link
+
+-- neither the program nor what follows asks a link, or comes to where one is written
+abbrev pub AsksNone : Program → Type 0
+AsksNone (Do call next) = (found : ℕ) → AsksNone (next found)
+AsksNone (Say o outcome next) = AsksNone next
+AsksNone (Sent o next) = AsksNone next
+AsksNone Rest = Unit {0}
+AsksNone other = ⊥
+
+abbrev pub IsPlain : MachineState → Type 0
+IsPlain m = (seat : SeatData) → get_elem? m.seats 0 ≡ core.some seat → AsksNone (seat_program (sizes_of m.plan) seat)
+
+-- a tick of it
+abbrev pub TickedFirst : MachineState → MachineState → Type 0
+TickedFirst old new = IsPlain new × (new.ends ≡ old.ends) × ((took : Taken) → Agrees old.links took → Agrees new.links took × (core_with new took ≡ ticked old.plan (core_with old took) (quiet 0)))
+
+-- ## The ending
+
+-- seat 0 goes over the `open`s of the ending
+pub record BeganEnding (old new : MachineState) : Type 0 where
+  pub plan : new.plan ≡ old.plan
+  pub words : new.words ≡ old.words
+  pub letters : new.letters ≡ old.letters
+  pub links : new.links ≡ old.links
+  pub outcomes : new.outcomes ≡ old.outcomes
+  pub ends : new.ends ≡ old.ends
+  pub opens : new.opens ≡ []
+  pub seat' : SeatData
+  pub seats : new.seats ≡ slice_set old.seats 0 seat'
+  pub program : seat_program (sizes_of old.plan) seat' ≡ next_step (ending_of old.opens)
