@@ -1,10 +1,10 @@
 -- Links that are opened and given back one after another.
-use Rattle.std.proofs.Common.{◌≡◌, ◌≢◌, ℕ, ◌+◌, ◌<◌, ◌≤◌, List, [], ◌∷◌, ◌++◌, length, map, count_by, sum_by, cond, ap, sym, subst, refl, ◌∙◌, append_assoc, min, arith, Ok}
+use Rattle.std.proofs.Common.{◌≡◌, ◌≢◌, ℕ, ◌+◌, ◌<◌, ◌≤◌, List, [], ◌∷◌, ◌++◌, length, map, count_by, sum_by, cond, ap, sym, subst, refl, ◌∙◌, append_assoc, min, arith, Ok, IfSome}
 use Rattle.std.proofs.lemmas.List.{length-map, length-append}
 use Rattle.std.proofs.lemmas.List.Sums.{sum_by-cons}
 use Rattle.std.proofs.lemmas.List.Folds.{list_all-map}
 use Rattle.brpc_model.specs.Operations.{link_names}
-use Rattle.quiet_fits.proofs.Sizes.{link_count, keeps_limits}
+use Rattle.report_fits.proofs.Sizes.{link_count, keeps_limits}
 use Rattle.brpc_model.specs.Script.{script_of}
 use Rattle.script_items.specs.Meaning.{item}
 use Rattle.script_items.specs.declared.line.Line.{Line}
@@ -81,3 +81,8 @@ all_with P old new x h e px = subst (AllByRecursion P) (sym e) (behind P old x h
     behind : {A : Type 0} (P : A → Type 0) (xs : List A) (x : A) → AllByRecursion P xs → P x → AllByRecursion P (xs ++ x ∷ [])
     behind P [] x h px = (px, tt)
     behind P (y ∷ ys) x h px = (h.0, behind P ys x h.1 px)
+
+-- links that are untouched took nothing
+pub unused_of : {A : Type 0} (f : A → LinkEnd) (n : ℕ) (xs : List A) → AreUntouched n (map f xs) → AllByRecursion (λ (x : A). IfSome (f x).took (λ bytes. bytes ≡ [])) xs
+unused_of f n [] h = tt
+unused_of f n (x ∷ xs) h = (h.0.took, unused_of f (n + 1) xs h.1)

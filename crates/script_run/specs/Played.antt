@@ -1,62 +1,84 @@
--- The ticks that a script's schedule has, and the text of a run.
-use Rattle.std.specs.Prelude.{ℕ, zero, suc, ◌≡◌, ◌≢◌, ◌≤◌, length, replicate, List, [], Option, Some, None}
-use Rattle.sock_words.specs.declared.kind.Kind.{Kind}
+-- The lines by which a script is run, the ticks that they make, and the text of a run.
+use Rattle.std.specs.Prelude.{ℕ, ◌≡◌, ◌≤◌, length, List, [], Option, Some, None}
+use Rattle.std.specs.List.{AllByRecursion}
 use Rattle.sock_words.specs.declared.plain.Plan.{Plan}
-use Rattle.sock_words.specs.KindText.{kind_text}
 use Rattle.brpc_model.specs.Items.{Item}
-use Rattle.brpc_model.specs.Operations.{Turn}
-use Rattle.brpc_model.specs.Report.{report_text}
-use Rattle.sock_programs.specs.Cores.{Core, ticked, run}
-use Rattle.sock_programs.specs.Runs.{next_kind, IsAtRest, Turns, Scheduled}
-use Rattle.sock_programs.specs.Scripts.{IsRunOf, set_up, report_of}
+use Rattle.brpc_model.specs.Link.{LinkEnd}
+use Rattle.brpc_model.specs.Operations.{Turn, schedule}
+use Rattle.brpc_model.specs.Report.{Report, report_text}
+use Rattle.sock_programs.specs.Cores.{Core}
+use Rattle.sock_programs.specs.Ticks.{Moment, run, AreAnswered, IsPrompt, broken_in}
+use Rattle.sock_programs.specs.Runs.{IsAtRest, Turns}
+use Rattle.sock_programs.specs.Scripts.{IsRunOf, Reports, broken_of, set_up, drawn_turns}
 use Rattle.sock_programs.specs.Tasks.{plan_of, opens}
-use Rattle.sock_core.specs.Machines.{MachineState, core_in}
+use Rattle.report_fits.specs.Ends.{AreEnds, AreTold}
+use Rattle.sock_core.specs.Links.{Taken, Agrees, ArePrompt}
+use Rattle.sock_core.specs.Machines.{MachineState, core_with}
+use Rattle.sock_core.specs.Runs.{SameTable, SameLinks, ShowFaults}
+use Rattle.script_run.specs.declared.schedule.Schedule.{Schedule}
+use Rattle.script_run.specs.declared.schedule.Schedule.TheVariants.{Own, Drawn}
 
--- the machine stands behind the setup of the script
-pub record IsMade (script : List Item) (machine : MachineState) : Type 0 where
-  pub plan : machine.plan ≡ plan_of script
-  pub opens : machine.opens ≡ opens script
-  pub setup : (n : ℕ) × (core_in machine ≡ set_up script n)
-  pub at_rest : IsAtRest (core_in machine) 0
+-- the lines of the schedule by which a script is run
+abbrev pub turns_of : List Item → Schedule → List Turn
+turns_of script Own = schedule script
+turns_of script (Drawn seed) = drawn_turns script seed
 
--- the sizes of the table are the same, and what the ending goes over
-pub record SameTable (old new : MachineState) : Type 0 where
-  pub plan : new.plan ≡ old.plan
-  pub opens : new.opens ≡ old.opens
+-- ## The machine
 
--- the seats that one line of a script has tick, none where it isn't a line of the schedule
-abbrev pub HasTurns : Plan → Core → Option Turn → List ℕ → Type 0
-HasTurns p c None seats = seats ≡ []
-HasTurns p c (Some turn) seats = Turns p c turn seats
-
--- a line was played
-pub record HasPlayed (p : Plan) (turn : Option Turn) (old new : Core) : Type 0 where
-  pub seats : List ℕ
-  pub turns : HasTurns p old turn seats
-  pub ran : new ≡ run p old seats
-
--- all lines were
-pub record HasPlayedAll (p : Plan) (turns : List Turn) (old new : Core) : Type 0 where
-  pub seats : List ℕ
-  pub scheduled : Scheduled p old turns seats
-  pub ran : new ≡ run p old seats
+-- the machine stands behind the setup of the script, and its links took nothing
+pub record IsMade (script : List Item) (m : MachineState) : Type 0 where
+  pub plan : m.plan ≡ plan_of script
+  pub opens : m.opens ≡ opens script
+  pub agrees : Agrees m.links (λ k. [])
+  pub setup : (n : ℕ) × (core_with m (λ k. []) ≡ set_up script n)
+  pub at_rest : IsAtRest (core_with m (λ k. [])) 0
 
 -- the schedule's turn: seat 0 has no step left, and no seat has a number above 65,534
-pub record IsPlayable (c : Core) : Type 0 where
-  pub at_rest : IsAtRest c 0
-  pub few : length c.seats ≤ 65535
+pub record IsPlayable (m : MachineState) : Type 0 where
+  pub at_rest : (took : Taken) → IsAtRest (core_with m took) 0
+  pub few : length m.seats ≤ 65535
 
--- so many steps of seat i from here on are of other kinds
-abbrev pub AreOthers : Plan → ℕ → List ℕ → Core → ℕ → Type 0
-AreOthers p i kind c zero = Unit {0}
-AreOthers p i kind c (suc n) = (k : Kind) × (next_kind c i ≡ Some k) × (kind_text k ≢ kind) × AreOthers p i kind (ticked p c i) n
+-- ## Ticks
 
--- ticks of seat i led here, and each of their steps was of another kind
-pub record HasOthersOnly (p : Plan) (i : ℕ) (kind : List ℕ) (start now : Core) : Type 0 where
-  pub ticks : ℕ
-  pub others : AreOthers p i kind start ticks
-  pub ran : now ≡ run p start (replicate ticks i)
+-- ticks like these were made, over links that had taken this
+pub record PlayedWith (Ticks : Core → List Moment → Type 0) (old new : MachineState) (took : Taken) : Type 0 where
+  pub moments : List Moment
+  pub are : Ticks (core_with old took) moments
+  pub answered : AreAnswered old.plan (core_with old took) moments
+  pub prompt : ArePrompt old.links → AllByRecursion IsPrompt moments
+  pub later : Taken
+  pub agrees : Agrees new.links later
+  pub core : core_with new later ≡ run old.plan (core_with old took) moments
+  pub broken : ShowFaults new (broken_in old.plan (core_with old took) moments)
 
--- the text reports a run of the script
-abbrev pub IsRunText : List Item → List ℕ → Type 0
-IsRunText script text = (core : Core) × IsRunOf script core × (text ≡ report_text script (report_of script core))
+pub record HasPlayed (Ticks : Core → List Moment → Type 0) (old new : MachineState) : Type 0 where
+  pub table : SameTable old new
+  pub links : SameLinks old new
+  pub seats : length new.seats ≡ length old.seats
+  pub played : (took : Taken) → Agrees old.links took → PlayedWith Ticks old new took
+
+-- the ticks that one line of a script makes, none where it isn't a line of the schedule
+abbrev pub HasTurns : Plan → Option Turn → Core → List Moment → Type 0
+HasTurns p None c moments = moments ≡ []
+HasTurns p (Some turn) c moments = Turns p c turn moments
+
+-- ## Runs
+
+-- the machine was played to the end of a run, from behind the setup, over links that are always ready in time
+pub record HasRun (script : List Item) (turns : List Turn) (m : MachineState) : Type 0 where
+  pub took : Taken
+  pub agrees : Agrees m.links took
+  pub run : IsRunOf script turns (core_with m took)
+  pub broken : ShowFaults m (broken_of run)
+
+-- the text reports a run of the script by these lines, over the links that were given back
+pub record IsRunText (script : List Item) (turns : List Turn) (text : List ℕ) (ends : List LinkEnd) : Type 0 where
+  pub core : Core
+  pub run : IsRunOf script turns core
+  -- what is reported that the links took
+  pub took : List (List ℕ)
+  pub told : AreTold ends took
+  pub report : Report
+  pub reports : Reports script core took report
+  pub is_text : text ≡ report_text script report
+  pub ends_are : AreEnds script core (broken_of run) ends

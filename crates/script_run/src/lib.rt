@@ -1,8 +1,13 @@
-//! Runs a script without messages and calls on the machine, over links that it opens and gives back, and prints the report.
+//! Runs a script without calls on the machine, by its own schedule or a drawn one, over links that it opens and gives
+//! back, and prints the report.
 #![tactic(auto)]
 
 mod links;
+mod report;
 mod run;
+mod said;
 mod schedule;
 
-pub use run::{RunFault, run_quiet};
+pub use links::spec_of;
+pub use run::{RunFault, run_script};
+pub use schedule::Schedule;

@@ -12,9 +12,13 @@ use script_items::{Line, OpenLine};
 use sock_io::{Ends, LinkSpec, Linker, Mode, OpenFault};
 
 /// What a line asks of its link.
-fn spec_of(open: &OpenLine) -> LinkSpec
+pub fn spec_of(open: &OpenLine) -> LinkSpec
     ensures piece { result.piece ≡ «open».now.shape.piece }
     ensures mode { result.mode ≡ Mode.Loop }
+    ensures again { result.again ≡ «open».now.shape.again }
+    ensures fail { result.fail ≡ «open».now.shape.fail }
+    ensures serve { result.serve ≡ «open».now.shape.serve }
+    ensures end_ { result.«end» ≡ «open».now.shape.«end» }
 {
     LinkSpec {
         mode: Mode::Loop,
@@ -37,6 +41,7 @@ fn open_one<L: Linker>(
     requires few { length ends.old.items < 256 }
     ensures fresh { AreUntouched 0 (map (λ e. end_of (L.O.state e.out) (L.I.state e.inn)) ends.old.items) → AreUntouched 0 (map (λ e. end_of (L.O.state e.out) (L.I.state e.inn)) ends.new.items) }
     ensures unfinished { AllByRecursion (λ (e : Ends L.O L.I L.P). (L.O.state e.out).finished ≡ false) ends.old.items → AllByRecursion (λ (e : Ends L.O L.I L.P). (L.O.state e.out).finished ≡ false) ends.new.items }
+    ensures prompt_each { L.prompt links.old ≡ true → AllByRecursion (λ (e : Ends L.O L.I L.P). (L.O.state e.out).prompt ≡ true) ends.old.items → AllByRecursion (λ (e : Ends L.O L.I L.P). (L.O.state e.out).prompt ≡ true) ends.new.items }
     ensures count { OnOk result (length ends.new.items ≡ length ends.old.items + 1) }
     ensures err { OnErr result (length ends.new.items ≡ length ends.old.items) }
     ensures opened { L.opened links.new ≡ length ends.new.items }
@@ -66,6 +71,7 @@ fn open_line<L: Linker>(
     requires few { is_open (item line.now) ≡ true → length ends.old.items < 256 }
     ensures fresh { AreUntouched 0 (map (λ e. end_of (L.O.state e.out) (L.I.state e.inn)) ends.old.items) → AreUntouched 0 (map (λ e. end_of (L.O.state e.out) (L.I.state e.inn)) ends.new.items) }
     ensures unfinished { AllByRecursion (λ (e : Ends L.O L.I L.P). (L.O.state e.out).finished ≡ false) ends.old.items → AllByRecursion (λ (e : Ends L.O L.I L.P). (L.O.state e.out).finished ≡ false) ends.new.items }
+    ensures prompt_each { L.prompt links.old ≡ true → AllByRecursion (λ (e : Ends L.O L.I L.P). (L.O.state e.out).prompt ≡ true) ends.old.items → AllByRecursion (λ (e : Ends L.O L.I L.P). (L.O.state e.out).prompt ≡ true) ends.new.items }
     ensures count { OnOk result (length ends.new.items ≡ length ends.old.items + (if is_open (item line.now) then 1 else 0)) }
     ensures err { OnErr result (length ends.new.items ≡ length ends.old.items) }
     ensures opened { L.opened links.new ≡ length ends.new.items }
@@ -92,6 +98,7 @@ pub fn open_links<L: Linker>(
     requires pieces { list_all has_piece_line lines.now ≡ true }
     ensures fresh { AreUntouched 0 (map (λ e. end_of (L.O.state e.out) (L.I.state e.inn)) ends.new.items) }
     ensures unfinished { AllByRecursion (λ (e : Ends L.O L.I L.P). (L.O.state e.out).finished ≡ false) ends.new.items }
+    ensures prompt_each { L.prompt links.old ≡ true → AllByRecursion (λ (e : Ends L.O L.I L.P). (L.O.state e.out).prompt ≡ true) ends.new.items }
     ensures whole { OnOk result (length ends.new.items ≡ count_by is_open_line lines.now) }
     ensures most { length ends.new.items ≤ count_by is_open_line lines.now }
     ensures opened { L.opened links.new ≡ length ends.new.items }

@@ -1,29 +1,32 @@
-ghost use Rattle.std.specs.Prelude.{◌≡◌, ◌<◌, ◌≤◌, ℕ, List, Ok, true, false, [], map, length, count_by, IfOk, OnOk, OnErr, IsErrOf};
+ghost use Rattle.std.specs.Prelude.{◌≡◌, ◌<◌, ◌≤◌, ℕ, List, Option, Ok, true, false, [], map, length, IfOk, OnOk, IsOk, IsErrOf};
 ghost use Rattle.std.specs.List.{list_all, AllByRecursion};
-ghost use Rattle.brpc_model.specs.Items.{Item, is_open};
+ghost use Rattle.brpc_model.specs.Link.{LinkEnd};
+ghost use Rattle.brpc_model.specs.Items.{Item};
 ghost use Rattle.brpc_model.specs.Script.{script_of};
+ghost use Rattle.brpc_model.specs.Operations.{slots, link_names, operations};
+ghost use Rattle.brpc_model.specs.PlaceWords.{ArePlaces, HasEachOutcome, IsReportText};
 ghost use Rattle.sock_programs.specs.Cores.{Core};
+ghost use Rattle.sock_programs.specs.Scripts.{is_callless, IsRunOf};
 ghost use Rattle.sock_runs.specs.Sound.{IsOver};
-ghost use Rattle.brpc_model.specs.Operations.{slots, clients, link_names};
-ghost use Rattle.brpc_model.specs.Report.{report_text};
-ghost use Rattle.script_report.specs.Quiet.{quiet_report};
-ghost use Rattle.script_items.specs.Meaning.{item};
 ghost use Rattle.sock_io.specs.declared.link.Ends.{Ends};
 ghost use Rattle.sock_io.specs.Causes.{Rose};
 ghost use Rattle.sock_io.specs.Link.{end_of};
-ghost use Rattle.sock_programs.specs.Scripts.{is_quiet, IsRunOf};
-ghost use Rattle.sock_core.specs.Machines.{core_in};
+ghost use Rattle.sock_words.specs.declared.outcome.Outcome.{Outcome};
+ghost use Rattle.sock_core.specs.Finish.{told_from};
+ghost use Rattle.sock_core.specs.Links.{ArePrompt};
+ghost use Rattle.sock_core.specs.Runs.{SameLinks};
 ghost use Rattle.script_run.specs.Given.{AreUntouched, has_piece};
-ghost use Rattle.script_run.specs.Played.{IsMade, IsRunText};
+ghost use Rattle.script_run.specs.Played.{IsMade, HasRun, IsRunText, turns_of};
+ghost use Rattle.report_fits.specs.Ends.{AreTold};
 
 use crate::links::{give_back, open_links};
-use crate::schedule::play_schedule;
+use crate::report::report;
+use crate::schedule::{Schedule, play_schedule};
 use script_items::Script;
-use script_report::quiet_report;
-use sock_core::{Machine, NotMade};
-use sock_io::{Ends, Linker, NoMemory, OpenFault};
-use sock_words::Outcome;
-use std::alloc::{AllocError, Global};
+use sock_core::{Finished, Machine, NotMade};
+use sock_io::{Ends, In, Linker, NoMemory, OpenFault, Out, Peer};
+use sock_words::{Outcome, PlaceWord};
+use std::alloc::Global;
 
 /// Why a script wasn't run.
 #[derive(Clone, Copy, Debug, PartialEq, Eq)]
@@ -33,25 +36,25 @@ pub enum RunFault {
     NoMemory,
 }
 
-/// Runs a script without messages and calls by its own schedule: the text of its report.
+/// Runs a script without calls by a schedule: the text of its report.
 ///
-/// Its links are opened in order and all given back, in order, whatever becomes of the run; nothing
-/// is put on them or taken from them. Where one can't be opened, nothing is run.
-pub fn run_quiet<L: Linker>(
+/// Its links are opened in order and all given back, in order, whatever becomes of the run. Where one can't be opened,
+/// nothing is run, and nothing is put on the others.
+pub fn run_script<L: Linker>(
     alloc: Global,
     script: &Script,
+    schedule: Schedule,
     links: &mut L,
 ) -> Result<Vec<u8>, RunFault>
     requires script { (bytes : List ℕ) × (script_of bytes ≡ Ok script.now) }
-    requires quiet { is_quiet script.now ≡ true }
+    requires callless { is_callless script.now ≡ true }
     requires pieces { list_all has_piece script.now ≡ true }
     requires opened { L.opened links.old ≡ 0 }
     requires back { L.back links.old ≡ [] }
-    ensures text { IfOk result (λ text. IsRunText script.now text.items) }
-    ensures only { IfOk result (λ text. (other : List ℕ) → IsRunText script.now other → other ≡ text.items) }
+    ensures text { IfOk result (λ text. L.prompt links.old ≡ true → IsRunText script.now (turns_of script.now schedule) text.items (L.back links.new)) }
     // In the end nobody refers to any slot: each life has ended.
-    ensures over { OnOk result ((core : Core) → IsRunOf script.now core → (slot : ℕ) → slot < slots script.now → IsOver core.words slot) }
-    ensures untouched { AreUntouched 0 (L.back links.new) }
+    ensures over { OnOk result (L.prompt links.old ≡ true → (core : Core) → IsRunOf script.now (turns_of script.now schedule) core → (slot : ℕ) → slot < slots script.now → IsOver core.words slot) }
+    ensures unopened { IsErrOf result RunFault.OpenFailed → AreUntouched 0 (L.back links.new) }
     ensures all { OnOk result (length (L.back links.new) ≡ length (link_names script.now)) }
     ensures opened { L.opened links.new ≡ length (L.back links.new) }
     ensures prompt { L.prompt links.new ≡ L.prompt links.old }
@@ -61,7 +64,7 @@ pub fn run_quiet<L: Linker>(
     let mut ends = Vec::new(alloc);
     let opened = open_links(script.lines(), links, &mut ends);
     match opened {
-        Ok(()) => run_over(alloc, script, links, ends),
+        Ok(()) => run_over(alloc, script, schedule, links, ends),
         Err(fault) => {
             give_back(links, ends);
             Err(not_opened(fault))
@@ -83,20 +86,21 @@ fn not_opened(fault: OpenFault) -> RunFault
 fn run_over<L: Linker>(
     alloc: Global,
     script: &Script,
+    schedule: Schedule,
     links: &mut L,
     ends: Vec<Ends<L::O, L::I, L::P>>,
 ) -> Result<Vec<u8>, RunFault>
     requires script { (bytes : List ℕ) × (script_of bytes ≡ Ok script.now) }
-    requires quiet { is_quiet script.now ≡ true }
-    requires clients { clients script.now ≤ 31 }
+    requires callless { is_callless script.now ≡ true }
     requires untouched { AreUntouched 0 (map (λ e. end_of (L.O.state e.out) (L.I.state e.inn)) ends.items) }
     requires unfinished { AllByRecursion (λ (e : Ends L.O L.I L.P). (L.O.state e.out).finished ≡ false) ends.items }
+    requires prompt { L.prompt links.old ≡ true → AllByRecursion (λ (e : Ends L.O L.I L.P). (L.O.state e.out).prompt ≡ true) ends.items }
     requires all { length ends.items ≡ length (link_names script.now) }
     requires few { length ends.items ≤ 256 }
     requires opened { L.opened links.old ≡ length ends.items }
     requires back { L.back links.old ≡ [] }
-    ensures text { IfOk result (λ text. IsRunText script.now text.items) }
-    ensures back { L.back links.new ≡ map (λ e. end_of (L.O.state e.out) (L.I.state e.inn)) ends.items }
+    ensures text { IfOk result (λ text. L.prompt links.old ≡ true → IsRunText script.now (turns_of script.now schedule) text.items (L.back links.new)) }
+    ensures back { length (L.back links.new) ≡ length ends.items }
     ensures opened { L.opened links.new ≡ L.opened links.old }
     ensures faults { L.faults links.new ≡ L.faults links.old }
     ensures prompt { L.prompt links.new ≡ L.prompt links.old }
@@ -109,75 +113,83 @@ fn run_over<L: Linker>(
             return Err(RunFault::NoMemory);
         }
     };
-    run_on(alloc, script, links, machine)
+    run_on(alloc, script, schedule, links, machine)
 }
 
 /// Runs a script on a machine, and gives its links back.
 fn run_on<L: Linker>(
     alloc: Global,
     script: &Script,
+    schedule: Schedule,
     links: &mut L,
     mut machine: Machine<L::O, L::I, L::P>,
 ) -> Result<Vec<u8>, RunFault>
+    requires script { (bytes : List ℕ) × (script_of bytes ≡ Ok script.now) }
+    requires callless { is_callless script.now ≡ true }
     requires made { IsMade script.now machine }
-    requires clients { clients script.now ≤ 31 }
     requires untouched { AreUntouched 0 machine.ends }
+    requires prompt { L.prompt links.old ≡ true → ArePrompt machine.links }
+    requires all { length machine.ends ≡ length (link_names script.now) }
     requires few { length machine.ends ≤ 256 }
     requires opened { L.opened links.old ≡ length machine.ends }
     requires back { L.back links.old ≡ [] }
-    ensures text { IfOk result (λ text. IsRunText script.now text.items) }
-    ensures back { L.back links.new ≡ machine.ends }
+    ensures text { IfOk result (λ text. L.prompt links.old ≡ true → IsRunText script.now (turns_of script.now schedule) text.items (L.back links.new)) }
+    ensures back { length (L.back links.new) ≡ length machine.ends }
     ensures opened { L.opened links.new ≡ L.opened links.old }
     ensures faults { L.faults links.new ≡ L.faults links.old }
     ensures prompt { L.prompt links.new ≡ L.prompt links.old }
     ensures known { IsErrOf result RunFault.OpenFailed → ⊥ }
 {
-    let played = play(&mut machine, links, script);
-    let finished = machine.finish();
-    give_back(links, finished.ends);
+    let played = play(alloc, &mut machine, links, script, schedule);
+    let Finished {
+        outcomes,
+        places,
+        ends,
+    } = machine.finish();
+    let text = report_played(alloc, script, played, outcomes, &places, &ends);
+    give_back(links, ends);
+    text
+}
+
+/// The report of a run that was played, by what it left.
+fn report_played<O: Out, I: In, P: Peer>(
+    alloc: Global,
+    script: &Script,
+    played: Result<(), NoMemory>,
+    outcomes: Vec<(u16, Outcome)>,
+    places: &[PlaceWord],
+    ends: &[Ends<O, I, P>],
+) -> Result<Vec<u8>, RunFault>
+    requires script { (bytes : List ℕ) × (script_of bytes ≡ Ok script.now) }
+    ensures played { IsOk result → IsOk played }
+    ensures text { IfOk result (λ text. (os : List (Option Outcome)) → length os ≡ length (operations script.now) → outcomes.items ≡ told_from 0 os → ArePlaces places.now → HasEachOutcome places.now os →
+        (took : List (List ℕ)) × AreTold (map (λ e. end_of (O.state e.out) (I.state e.inn)) ends.now) took × IsReportText script.now os places.now took text.items) }
+    ensures known { IsErrOf result RunFault.OpenFailed → ⊥ }
+{
     if played.is_err() {
         return Err(RunFault::NoMemory);
     }
-    match report(alloc, script, finished.outcomes) {
+    match report(alloc, script, outcomes, places, ends) {
         Ok(text) => Ok(text),
         Err(_) => Err(RunFault::NoMemory),
     }
 }
 
-/// Plays the schedule of a script, and then until no seat has a step left.
+/// Plays a schedule of a script, and then until no seat has a step left.
 fn play<L: Linker>(
+    alloc: Global,
     machine: &mut Machine<L::O, L::I, L::P>,
     links: &mut L,
     script: &Script,
+    schedule: Schedule,
 ) -> Result<(), NoMemory>
+    requires script { (bytes : List ℕ) × (script_of bytes ≡ Ok script.now) }
     requires made { IsMade script.now machine.old }
-    requires clients { clients script.now ≤ 31 }
-    ensures run { OnOk result (IsRunOf script.now (core_in machine.new)) }
-    ensures ends { machine.new.ends ≡ machine.old.ends }
-    ensures opened { L.opened links.new ≡ L.opened links.old }
-    ensures back { L.back links.new ≡ L.back links.old }
-    ensures faults { L.faults links.new ≡ L.faults links.old }
-    ensures prompt { L.prompt links.new ≡ L.prompt links.old }
+    ensures run { OnOk result (ArePrompt machine.old.links → HasRun script.now (turns_of script.now schedule) machine.new) }
+    ensures plan { OnOk result (machine.new.plan ≡ machine.old.plan) }
+    ensures ends { SameLinks machine.old machine.new }
+    ensures links { links.new ≡ links.old }
 {
-    play_schedule(machine, links, script.lines())?;
+    play_schedule(alloc, machine, links, script, schedule)?;
     machine.settle(links)
-}
-
-/// The report of a script with these outcomes.
-fn report(alloc: Global, script: &Script, told: Vec<(u16, Outcome)>) -> Result<Vec<u8>, AllocError>
-    ensures { IfOk result (λ text. text.items ≡ report_text script.now (quiet_report script.now (map (λ o. o.1) told.items))) }
-{
-    let outcomes = outcomes_of(alloc, told)?;
-    quiet_report(alloc, script.lines(), &outcomes)
-}
-
-/// The outcomes alone.
-fn outcomes_of(alloc: Global, told: Vec<(u16, Outcome)>) -> Result<Vec<Outcome>, AllocError>
-    ensures { IfOk result (λ outcomes. outcomes.items ≡ map (λ o. o.1) told.items) }
-{
-    let mut outcomes = Vec::new(alloc);
-    for (_, outcome) in told {
-        outcomes.push(outcome)?;
-    }
-    Ok(outcomes)
 }

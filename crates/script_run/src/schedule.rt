@@ -1,16 +1,31 @@
-ghost use Rattle.std.specs.Prelude.{◌≡◌, ◌<◌, ℕ, min, IfOk, IfSome, OnOk, map, replicate};
-ghost use Rattle.sock_programs.specs.Cores.{ticked, run};
-ghost use Rattle.sock_programs.specs.Runs.{next_kind, LeadsUpTo};
+ghost use Rattle.std.specs.Prelude.{◌≡◌, ◌∷◌, [], ℕ, List, Ok, false, min, OnOk, map, replicate};
+ghost use Rattle.brpc_model.specs.Items.{Item};
+ghost use Rattle.brpc_model.specs.Script.{script_of};
+ghost use Rattle.sock_programs.specs.Ticks.{seats_of};
+ghost use Rattle.sock_programs.specs.Runs.{LeadsUpTo, Scheduled};
+ghost use Rattle.sock_programs.specs.Scripts.{drawn_turns};
 ghost use Rattle.brpc_model.specs.Operations.{seat_number, turn_of, schedule};
 ghost use Rattle.script_items.specs.Meaning.{item, seat_of};
 ghost use Rattle.sock_words.specs.KindText.{kind_text};
-ghost use Rattle.sock_core.specs.Machines.{core_in, steps_left};
-ghost use Rattle.script_run.specs.Played.{SameTable, IsPlayable, HasPlayed, HasPlayedAll};
+ghost use Rattle.sock_core.specs.Runs.{SameLinks};
+ghost use Rattle.script_run.specs.Played.{IsPlayable, HasPlayed, HasTurns, turns_of};
 
-use script_items::{Line, Seat};
+use script_items::{Line, Script, Seat};
+use script_print::DrawnSeats;
+use script_tasks::plan_of;
 use sock_core::{Machine, Tick};
 use sock_io::{Linker, NoMemory};
 use sock_words::Kind;
+use std::alloc::Global;
+
+/// By which schedule a script is run.
+#[derive(Clone, Copy, Debug, PartialEq, Eq)]
+pub enum Schedule {
+    /// Its own lines.
+    Own,
+    /// One tick each of the seats that are drawn from this seed.
+    Drawn(u64),
+}
 
 /// The number of a seat: that of a client, and 32 + k for the reader of link k. There are fewer seats than 65,535.
 fn seat_number(seat: Seat) -> u16
@@ -22,27 +37,22 @@ fn seat_number(seat: Seat) -> u16
     }
 }
 
-/// A tick of a seat, while seat 0 has no step left: the kind of its step, if it had one.
+/// A tick of a seat, and whether it had a step left: where it hadn't, more ticks would change nothing.
 fn tick_seat<L: Linker>(
     machine: &mut Machine<L::O, L::I, L::P>,
     links: &mut L,
     seat: u16,
-) -> Result<Option<Kind>, NoMemory>
-    requires playable { IsPlayable (core_in machine.old) }
-    ensures kind { IfOk result (λ kind. next_kind (core_in machine.old) seat ≡ kind) }
-    ensures ticked { OnOk result (core_in machine.new ≡ ticked machine.old.plan (core_in machine.old) seat) }
-    ensures left { IfOk result (λ kind. IfSome kind (λ _. steps_left machine.new < steps_left machine.old)) }
-    ensures playable { OnOk result (IsPlayable (core_in machine.new)) }
-    ensures table { OnOk result (SameTable machine.old machine.new) }
-    ensures ends { machine.new.ends ≡ machine.old.ends }
-    ensures opened { L.opened links.new ≡ L.opened links.old }
-    ensures back { L.back links.new ≡ L.back links.old }
-    ensures faults { L.faults links.new ≡ L.faults links.old }
-    ensures prompt { L.prompt links.new ≡ L.prompt links.old }
+) -> Result<bool, NoMemory>
+    requires playable { IsPlayable machine.old }
+    ensures ticked { OnOk result (HasPlayed (λ c moments. seats_of moments ≡ seat ∷ []) machine.old machine.new) }
+    ensures idle { result ≡ Ok false → (n : ℕ) → HasPlayed (λ c moments. seats_of moments ≡ replicate n seat) machine.old machine.new }
+    ensures playable { OnOk result (IsPlayable machine.new) }
+    ensures ends { SameLinks machine.old machine.new }
+    ensures links { links.new ≡ links.old }
 {
     match machine.tick(links, seat)? {
-        Tick::Moved(kind) => Ok(Some(kind)),
-        Tick::Waits(_) | Tick::Idle => Ok(None),
+        Tick::Moved(_) | Tick::Waits(_) => Ok(true),
+        Tick::Idle => Ok(false),
     }
 }
 
@@ -53,47 +63,34 @@ fn play_ticks<L: Linker>(
     seat: u16,
     ticks: u32,
 ) -> Result<(), NoMemory>
-    requires playable { IsPlayable (core_in machine.old) }
-    ensures ran { OnOk result (core_in machine.new ≡ run machine.old.plan (core_in machine.old) (replicate ticks seat)) }
-    ensures playable { OnOk result (IsPlayable (core_in machine.new)) }
-    ensures table { OnOk result (SameTable machine.old machine.new) }
-    ensures ends { machine.new.ends ≡ machine.old.ends }
-    ensures opened { L.opened links.new ≡ L.opened links.old }
-    ensures back { L.back links.new ≡ L.back links.old }
-    ensures faults { L.faults links.new ≡ L.faults links.old }
-    ensures prompt { L.prompt links.new ≡ L.prompt links.old }
+    requires playable { IsPlayable machine.old }
+    ensures played { OnOk result (HasPlayed (λ c moments. seats_of moments ≡ replicate ticks seat) machine.old machine.new) }
+    ensures playable { OnOk result (IsPlayable machine.new) }
+    ensures ends { SameLinks machine.old machine.new }
+    ensures links { links.new ≡ links.old }
 {
     for _ in 0..ticks {
-        if tick_seat(machine, links, seat)?.is_none() {
+        if !tick_seat(machine, links, seat)? {
             return Ok(());
         }
     }
     Ok(())
 }
 
-/// Ticks of a seat up to its first step of this kind, or until it has no step left.
+/// Ticks of a seat up to its first step of this kind, or to where it waits or has no step left.
 fn play_until<L: Linker>(
     machine: &mut Machine<L::O, L::I, L::P>,
     links: &mut L,
     seat: u16,
     kind: Kind,
 ) -> Result<(), NoMemory>
-    requires playable { IsPlayable (core_in machine.old) }
-    ensures ran { OnOk result ((n : ℕ) × LeadsUpTo machine.old.plan seat (kind_text kind) (core_in machine.old) n × (core_in machine.new ≡ run machine.old.plan (core_in machine.old) (replicate n seat))) }
-    ensures playable { OnOk result (IsPlayable (core_in machine.new)) }
-    ensures table { OnOk result (SameTable machine.old machine.new) }
-    ensures ends { machine.new.ends ≡ machine.old.ends }
-    ensures opened { L.opened links.new ≡ L.opened links.old }
-    ensures back { L.back links.new ≡ L.back links.old }
-    ensures faults { L.faults links.new ≡ L.faults links.old }
-    ensures prompt { L.prompt links.new ≡ L.prompt links.old }
+    requires playable { IsPlayable machine.old }
+    ensures played { OnOk result (HasPlayed (LeadsUpTo machine.old.plan seat (kind_text kind)) machine.old machine.new) }
+    ensures playable { OnOk result (IsPlayable machine.new) }
+    ensures ends { SameLinks machine.old machine.new }
+    ensures links { links.new ≡ links.old }
 {
-    while let Some(moved) = tick_seat(machine, links, seat)? {
-        if moved == kind {
-            return Ok(());
-        }
-    }
-    Ok(())
+    machine.tick_until(links, seat, kind)
 }
 
 /// Plays a line, where it is one of the schedule.
@@ -102,15 +99,11 @@ fn play_line<L: Linker>(
     links: &mut L,
     line: &Line,
 ) -> Result<(), NoMemory>
-    requires playable { IsPlayable (core_in machine.old) }
-    ensures ran { OnOk result (HasPlayed machine.old.plan (turn_of (item line.now)) (core_in machine.old) (core_in machine.new)) }
-    ensures playable { OnOk result (IsPlayable (core_in machine.new)) }
-    ensures table { OnOk result (SameTable machine.old machine.new) }
-    ensures ends { machine.new.ends ≡ machine.old.ends }
-    ensures opened { L.opened links.new ≡ L.opened links.old }
-    ensures back { L.back links.new ≡ L.back links.old }
-    ensures faults { L.faults links.new ≡ L.faults links.old }
-    ensures prompt { L.prompt links.new ≡ L.prompt links.old }
+    requires playable { IsPlayable machine.old }
+    ensures played { OnOk result (HasPlayed (HasTurns machine.old.plan (turn_of (item line.now))) machine.old machine.new) }
+    ensures playable { OnOk result (IsPlayable machine.new) }
+    ensures ends { SameLinks machine.old machine.new }
+    ensures links { links.new ≡ links.old }
 {
     match line {
         Line::Tick { seat, ticks } => play_ticks(machine, links, seat_number(*seat), *ticks),
@@ -120,23 +113,66 @@ fn play_line<L: Linker>(
 }
 
 /// Plays the lines of the schedule, in order.
-pub fn play_schedule<L: Linker>(
+fn play_lines<L: Linker>(
     machine: &mut Machine<L::O, L::I, L::P>,
     links: &mut L,
     lines: &[Line],
 ) -> Result<(), NoMemory>
-    requires playable { IsPlayable (core_in machine.old) }
-    ensures ran { OnOk result (HasPlayedAll machine.old.plan (schedule (map item lines.now)) (core_in machine.old) (core_in machine.new)) }
-    ensures playable { OnOk result (IsPlayable (core_in machine.new)) }
-    ensures table { OnOk result (SameTable machine.old machine.new) }
-    ensures ends { machine.new.ends ≡ machine.old.ends }
-    ensures opened { L.opened links.new ≡ L.opened links.old }
-    ensures back { L.back links.new ≡ L.back links.old }
-    ensures faults { L.faults links.new ≡ L.faults links.old }
-    ensures prompt { L.prompt links.new ≡ L.prompt links.old }
+    requires playable { IsPlayable machine.old }
+    ensures played { OnOk result (HasPlayed (λ c. Scheduled machine.old.plan c (schedule (map item lines.now))) machine.old machine.new) }
+    ensures playable { OnOk result (IsPlayable machine.new) }
+    ensures ends { SameLinks machine.old machine.new }
+    ensures links { links.new ≡ links.old }
 {
     for line in lines {
         play_line(machine, links, line)?;
     }
     Ok(())
+}
+
+/// Plays a tick of each seat that is drawn from a seed.
+fn play_drawn<L: Linker>(
+    alloc: Global,
+    machine: &mut Machine<L::O, L::I, L::P>,
+    links: &mut L,
+    script: &Script,
+    seed: u64,
+) -> Result<(), NoMemory>
+    requires script { (bytes : List ℕ) × (script_of bytes ≡ Ok script.now) }
+    requires playable { IsPlayable machine.old }
+    ensures played { OnOk result (HasPlayed (λ c. Scheduled machine.old.plan c (drawn_turns script.now seed)) machine.old machine.new) }
+    ensures playable { OnOk result (IsPlayable machine.new) }
+    ensures ends { SameLinks machine.old machine.new }
+    ensures links { links.new ≡ links.old }
+{
+    let Ok(plan) = plan_of(alloc, script.lines()) else {
+        return Err(NoMemory);
+    };
+    let mut seats = DrawnSeats::new(plan.seats - 1, plan.links, seed);
+    for _ in 0..seats.count(plan.operations) {
+        let seat = seats.next_seat();
+        tick_seat(machine, links, seat)?;
+    }
+    Ok(())
+}
+
+/// Plays a schedule of a script.
+pub fn play_schedule<L: Linker>(
+    alloc: Global,
+    machine: &mut Machine<L::O, L::I, L::P>,
+    links: &mut L,
+    script: &Script,
+    schedule: Schedule,
+) -> Result<(), NoMemory>
+    requires script { (bytes : List ℕ) × (script_of bytes ≡ Ok script.now) }
+    requires playable { IsPlayable machine.old }
+    ensures played { OnOk result (HasPlayed (λ c. Scheduled machine.old.plan c (turns_of script.now schedule)) machine.old machine.new) }
+    ensures playable { OnOk result (IsPlayable machine.new) }
+    ensures ends { SameLinks machine.old machine.new }
+    ensures links { links.new ≡ links.old }
+{
+    match schedule {
+        Schedule::Own => play_lines(machine, links, script.lines()),
+        Schedule::Drawn(seed) => play_drawn(alloc, machine, links, script, seed),
+    }
 }

@@ -7,3 +7,6 @@ returns-clause-fresh g c old = opened_more _ _ _ c.in_ok-opened.opened old (sear
 
 pub returns-clause-unfinished : goal.returns-clause-unfinished
 returns-clause-unfinished g c old = all_with _ _ _ c.in_ok-opened.opened old (search rules) c.in_ok-opened.ensures.fresh.finished
+
+pub returns-clause-prompt_each : goal.returns-clause-prompt_each
+returns-clause-prompt_each g c prompt old = all_with _ _ _ c.in_ok-opened.opened old (search rules) (c.in_ok-opened.ensures.prompt prompt c.spec_of.ensures.mode)

@@ -1,16 +1,16 @@
-use Rattle.std.proofs.Common.{subst}
-use Rattle.brpc_model.specs.Operations.{schedule}
-use Rattle.sock_core.specs.Machines.{core_in}
-use Rattle.script_run.specs.Played.{HasPlayedAll}
-use Rattle.script_run.proofs.Running.{playable_of, run_answered}
+use Rattle.script_run.specs.Played.{turns_of}
+use Rattle.script_run.proofs.Running.{playable_of, run_answered, plan_answered}
+use Rattle.script_run.proofs.Playing.{then_same_links}
 use Rattle.script_run.proofs.run.play.Goals as goal
 
 pub play_schedule-requires-clause-playable : goal.play_schedule-requires-clause-playable
-play_schedule-requires-clause-playable g c κs within = playable_of _ _ c.requires.made c.requires.clients
+play_schedule-requires-clause-playable g c κs within = playable_of c.requires.script.0 c.args.script.now c.args.machine.now c.requires.script.1 c.requires.made
 
 pub returns-clause-run : goal.returns-clause-run
-returns-clause-run g c =
-    let step = c.in_ok-play_schedule.ensures in
-    run_answered c.args.script.now _ _ _ c.settle.result c.requires.made step.table
-    (subst (λ s. HasPlayedAll c.args.machine.now.plan (schedule s) (core_in c.args.machine.now) (core_in c.play_schedule.new.machine)) c.lines.ensures step.ran)
-    c.settle.ensures.settled
+returns-clause-run g c = run_answered c.args.script.now (turns_of c.args.script.now c.args.schedule) c.args.machine.now c.play_schedule.new.machine c.settle.new.self c.settle.result c.requires.made c.in_ok-play_schedule.ensures.played c.settle.ensures.settled
+
+pub returns-clause-plan : goal.returns-clause-plan
+returns-clause-plan g c = plan_answered c.args.machine.now c.play_schedule.new.machine c.settle.new.self c.settle.result c.in_ok-play_schedule.ensures.played.table.plan c.settle.ensures.settled
+
+pub returns-clause-ends : goal.returns-clause-ends
+returns-clause-ends g c = then_same_links c.args.machine.now c.play_schedule.new.machine c.settle.new.self c.play_schedule.ensures.ends c.settle.ensures.ends

@@ -1,7 +1,30 @@
-use Rattle.std.proofs.Common.{sym, subst, ◌∙◌}
-use Rattle.script_run.specs.Given.{AreNumbered}
-use Rattle.script_run.proofs.Numbering.{numbered_of}
+use Rattle.std.proofs.Common.{map, sym, ap, length, arith, ◌∙◌}
+use Rattle.sock_io.specs.Link.{end_of}
+use Rattle.script_run.specs.Played.{turns_of}
+use Rattle.script_run.proofs.Playing.{numbered_later, count_later}
+use Rattle.script_run.proofs.Running.{text_answered}
 use Rattle.script_run.proofs.run.run_on.Goals as goal
 
 pub give_back-requires-clause-numbered : goal.give_back-requires-clause-numbered
-give_back-requires-clause-numbered g c κs within = subst (AreNumbered 0) (sym (c.finish-finished.ensures.ends ∙ c.play-played.ensures.ends)) (numbered_of 0 _ c.requires.untouched)
+give_back-requires-clause-numbered g c κs within = numbered_later c.args.machine c.play-played.new.machine _ c.requires.untouched c.play-played.ensures.ends c.finish-outcomes.ensures.ends
+
+pub give_back-requires-clause-opened : goal.give_back-requires-clause-opened
+give_back-requires-clause-opened g c κs within =
+    ap g.L.Linker.opened c.play-played.ensures.links ∙ c.requires.opened ∙ sym (count_later (λ e. end_of (g.L.O.Out.state e.out) (g.L.I.In.state e.inn)) c.args.machine c.play-played.new.machine c.finish-outcomes.result.ends.items c.play-played.ensures.ends c.finish-outcomes.ensures.ends)
+
+pub give_back-requires-clause-few : goal.give_back-requires-clause-few
+give_back-requires-clause-few g c κs within =
+    let few = c.requires.few in
+    let count = count_later (λ e. end_of (g.L.O.Out.state e.out) (g.L.I.In.state e.inn)) c.args.machine c.play-played.new.machine c.finish-outcomes.result.ends.items c.play-played.ensures.ends c.finish-outcomes.ensures.ends in omega (arith, few, count)
+
+pub returns-clause-text : goal.returns-clause-text
+returns-clause-text g c =
+    let links = map (λ e. end_of (g.L.O.Out.state e.out) (g.L.I.In.state e.inn)) in
+    text_answered (λ text. text.items) c.report_played-text.result c.play-played.result c.requires.script.0 c.args.script.now (turns_of c.args.script.now c.args.schedule) c.args.machine c.play-played.new.machine c.finish-outcomes.result.outcomes.items c.deref.result.now
+    (links c.deref-2.result.now) (g.L.Linker.back c.give_back.new.links) c.requires.script.1 c.requires.callless c.requires.made c.requires.untouched c.requires.all c.play-played.ensures.ends c.finish-outcomes.ensures.took c.finish-outcomes.ensures.letters
+    c.finish-outcomes.ensures.numbered (c.deref.ensures.value ∙ c.finish-outcomes.ensures.places) (ap links c.deref-2.ensures.value ∙ c.finish-outcomes.ensures.ends) (c.give_back.ensures.back ∙ sym (ap links c.deref-2.ensures.value))
+    c.report_played-text.ensures.played c.requires.prompt c.play-played.ensures.run c.play-played.ensures.plan c.report_played-text.ensures.text
+
+pub returns-clause-back : goal.returns-clause-back
+returns-clause-back g c =
+    ap length c.give_back.ensures.back ∙ ap length c.finish-outcomes.ensures.ends ∙ c.play-played.ensures.ends.as_many

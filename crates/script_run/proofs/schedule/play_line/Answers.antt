@@ -1,8 +1,20 @@
-use Rattle.script_run.proofs.Playing.{tick_line, to_line}
+use Rattle.std.proofs.Common.{refl}
+use Rattle.script_run.proofs.Playing.{on_ok, same_links}
+use Rattle.script_run.proofs.Lines.{tick_line, to_line, unscheduled_line}
 use Rattle.script_run.proofs.schedule.play_line.Goals as goal
 
-pub returns-in-Tick-clause-ran : goal.returns-in-Tick-clause-ran
-returns-in-Tick-clause-ran g c = tick_line c.args.machine.now.plan _ _ c.in-Tick.seat c.in-Tick.ticks _ c.args.line.now c.play_ticks.result c.in-Tick.is c.seat_number.ensures c.requires.playable c.play_ticks.ensures.ran
+pub returns-in-Tick-clause-played : goal.returns-in-Tick-clause-played
+returns-in-Tick-clause-played g c =
+    on_ok c.play_ticks.result (tick_line c.args.machine.now c.play_ticks.new.machine c.in-Tick.seat c.in-Tick.ticks c.seat_number.result c.args.line.now c.in-Tick.is c.seat_number.ensures c.requires.playable) c.play_ticks.ensures.played
 
-pub returns-in-To-clause-ran : goal.returns-in-To-clause-ran
-returns-in-To-clause-ran g c = to_line c.args.machine.now.plan _ _ c.in-To.seat c.in-To.kind _ c.args.line.now c.play_until.result c.in-To.is c.seat_number-in-To.ensures c.requires.playable c.play_until.ensures.ran
+pub returns-in-To-clause-played : goal.returns-in-To-clause-played
+returns-in-To-clause-played g c =
+    on_ok c.play_until.result (to_line c.args.machine.now c.play_until.new.machine c.in-To.seat c.in-To.kind c.seat_number-in-To.result c.args.line.now c.in-To.is c.seat_number-in-To.ensures c.requires.playable) c.play_until.ensures.played
+
+pub returns-in_default : goal.returns-in_default
+returns-in_default g c = record {
+  played = unscheduled_line c.args.machine.now c.args.line.now c.in_default.not-Tick c.in_default.not-To;
+  playable = c.requires.playable;
+  ends = same_links c.args.machine.now;
+  links = refl;
+}

@@ -1,22 +1,14 @@
-use Rattle.std.proofs.Common.{◌∙◌, subst}
-use Rattle.brpc_model.specs.Operations.{turn_of}
-use Rattle.script_items.specs.Meaning.{item}
-use Rattle.sock_core.specs.Machines.{core_in}
-use Rattle.script_run.specs.Played.{HasPlayed}
-use Rattle.script_run.proofs.Playing.{line_played, same_table}
+use Rattle.std.proofs.Common.{ap}
+use Rattle.sock_programs.specs.Scripts.{drawn_turns}
+use Rattle.script_run.specs.Played.{turns_of}
+use Rattle.script_run.proofs.Playing.{on_ok}
+use Rattle.script_run.proofs.Lines.{by_lines, by_draws}
 use Rattle.script_run.proofs.schedule.play_schedule.Goals as goal
 
-pub loop-line-preserved : goal.loop-line-preserved
-loop-line-preserved g c =
-    let i = c.loop-line.invariant in
-    let step = c.in_ok-play_line.ensures in record {
-      ran = line_played c.args.machine.now.plan c.args.lines.now c.loop-line.line-index c.line-item.result _ _ _ c.loop-line-test.true c.line-item.is i.ran
-          (subst (λ p. HasPlayed p (turn_of (item c.line-item.result)) (core_in c.loop-line.machine) (core_in c.play_line.new.machine)) i.table.plan step.ran);
-      playable = step.playable;
-      table = same_table _ _ _ i.table step.table;
-      ends = step.ends ∙ i.ends;
-      opened = step.opened ∙ i.opened;
-      back = step.back ∙ i.back;
-      faults = step.faults ∙ i.faults;
-      prompt = step.prompt ∙ i.prompt;
-    }
+pub returns-in-Own-clause-played : goal.returns-in-Own-clause-played
+returns-in-Own-clause-played g c =
+    on_ok c.play_lines.result (by_lines c.args.script.now c.lines.result.now (turns_of c.args.script.now c.args.schedule) c.args.machine.now c.play_lines.new.machine c.lines.ensures (ap (turns_of c.args.script.now) c.in-Own.is)) c.play_lines.ensures.played
+
+pub returns-in-Drawn-clause-played : goal.returns-in-Drawn-clause-played
+returns-in-Drawn-clause-played g c =
+    on_ok c.play_drawn.result (by_draws (turns_of c.args.script.now c.args.schedule) (drawn_turns c.args.script.now c.in-Drawn.seed) c.args.machine.now c.play_drawn.new.machine (ap (turns_of c.args.script.now) c.in-Drawn.is)) c.play_drawn.ensures.played

@@ -1,12 +1,43 @@
-use Rattle.std.proofs.Common.{ap, ◌∙◌}
-use Rattle.sock_programs.specs.Cores.{ticked}
-use Rattle.sock_core.specs.Machines.{core_in}
-use Rattle.script_run.proofs.Playing.{stopped}
+use Rattle.std.proofs.Common.{◌≡◌, replicate, subst, refl, ◌∙◌, arith}
+use Rattle.sock_programs.specs.Ticks.{seats_of}
+use Rattle.script_run.specs.Played.{HasPlayed}
+use Rattle.script_run.proofs.Playing.{none_played, same_links, then_same_links}
+use Rattle.script_run.proofs.Lines.{one_more_tick, ticks_left}
 use Rattle.script_run.proofs.schedule.play_ticks.Goals as goal
 
-pub returns-then-is_none-clause-ran : goal.returns-then-is_none-clause-ran
-returns-then-is_none-clause-ran g c =
-    let i = c.loop.invariant in
+pub loop-init : goal.loop-init
+loop-init g c = record {
+  played = none_played (λ d moments. seats_of moments ≡ replicate 0 c.args.seat) c.args.machine.now (λ d. refl);
+  playable = c.requires.playable;
+  ends = same_links c.args.machine.now;
+  links = refl;
+}
+
+pub returns-in_err-tick_seat-clause-ends : goal.returns-in_err-tick_seat-clause-ends
+returns-in_err-tick_seat-clause-ends g c = then_same_links c.args.machine.now c.loop.machine c.tick_seat.new.machine c.loop.invariant.ends c.tick_seat.ensures.ends
+
+pub returns-then-not-branch-clause-played : goal.returns-then-not-branch-clause-played
+returns-then-not-branch-clause-played g c =
     let step = c.in_ok-tick_seat.ensures in
-    stopped c.args.machine.now.plan c.args.ticks c.loop.counter _ _ _ c.args.seat c.in_ok-tick_seat.field-0 c.loop-test.true i.ran step.kind c.if-is_none.ensures
-    (step.ticked ∙ ap (λ p. ticked p (core_in c.loop.machine) c.args.seat) i.table.plan)
+    let was = c.in_ok-tick_seat.was in
+    let test = c.if-not-branch.true in
+    ticks_left c.args.seat c.args.ticks c.loop.counter c.args.machine.now c.loop.machine c.tick_seat.new.machine c.loop-test.true c.loop.invariant.played (step.idle (cc))
+
+pub returns-then-not-branch-clause-ends : goal.returns-then-not-branch-clause-ends
+returns-then-not-branch-clause-ends g c = then_same_links c.args.machine.now c.loop.machine c.tick_seat.new.machine c.loop.invariant.ends c.in_ok-tick_seat.ensures.ends
+
+pub loop-preserved : goal.loop-preserved
+loop-preserved g c =
+    let i = c.loop.invariant in
+    let step = c.in_ok-tick_seat.ensures in record {
+      played = one_more_tick c.args.seat c.loop.counter c.args.machine.now c.loop.machine c.tick_seat.new.machine i.played step.ticked;
+      playable = step.playable;
+      ends = then_same_links c.args.machine.now c.loop.machine c.tick_seat.new.machine i.ends step.ends;
+      links = step.links ∙ i.links;
+    }
+
+pub returns-clause-played : goal.returns-clause-played
+returns-clause-played g c =
+    let most = c.loop.auto.counter-end in
+    let least = c.loop-test.false in
+    subst (λ n. HasPlayed (λ d moments. seats_of moments ≡ replicate n c.args.seat) c.args.machine.now c.loop.machine) (omega (arith, most, least)) c.loop.invariant.played

@@ -1,0 +1,57 @@
+-- What the links tell that they took, one after another.
+use Rattle.std.proofs.Common.{◌≡◌, ℕ, zero, suc, ◌+◌, ◌<◌, ◌≤◌, List, [], ◌∷◌, ◌++◌, map, take, get_or, length, Some, IfSome, Result, Ok, Err, IfOk, ap, sym, subst, ◌∙◌, arith}
+use Rattle.std.proofs.lemmas.List.{length-map, length-take-le, take_more, take_all}
+use Rattle.sock_words.specs.declared.outcome.Outcome.{Outcome}
+use Rattle.sock_words.specs.declared.place_word.PlaceWord.{PlaceWord}
+use Rattle.std.specs.Prelude.{Option}
+use Rattle.brpc_model.specs.Items.{Item}
+use Rattle.brpc_model.specs.Link.{LinkEnd}
+use Rattle.brpc_model.specs.PlaceWords.{ArePlaces, HasEachOutcome, IsReportText}
+use Rattle.brpc_model.specs.Operations.{operations}
+use Rattle.script_items.specs.Meaning.{item}
+use Rattle.script_items.specs.declared.line.Line.{Line}
+use Rattle.report_fits.specs.Ends.{AreTold}
+use Rattle.sock_core.specs.Finish.{told_from}
+use Rattle.script_run.proofs.Numbering.{map_more}
+
+first_told : (e other : LinkEnd) (bytes : List ℕ) → Some e ≡ Some other → IfSome e.took (λ told. bytes ≡ told) → IfSome other.took (λ told. bytes ≡ told)
+first_told e other bytes at h = let same : e ≡ other = cc in subst (λ (x : LinkEnd). IfSome x.took (λ told. bytes ≡ told)) same h
+
+-- one link more
+told_push : (ends : List LinkEnd) (took : List (List ℕ)) (e : LinkEnd) (bytes : List ℕ) → length took ≡ length ends → AreTold ends took → IfSome e.took (λ told. bytes ≡ told) → AreTold (ends ++ e ∷ []) (took ++ bytes ∷ [])
+told_push [] [] e bytes many h told zero other at = first_told e other bytes at told
+told_push [] [] e bytes many h told (suc k) other at = absurd (cc)
+told_push [] (b ∷ bs) e bytes many h told k other at = absurd (omega (arith, many))
+told_push (x ∷ xs) [] e bytes many h told k other at = absurd (omega (arith, many))
+told_push (x ∷ xs) (b ∷ bs) e bytes many h told zero other at = h zero other at
+told_push (x ∷ xs) (b ∷ bs) e bytes many h told (suc k) other at = told_push xs bs e bytes (omega (arith, many)) (λ j y a. h (suc j) y a) told k other at
+
+module _ {A T : Type 0} (f : A → LinkEnd) (view : T → List ℕ) (ends : List A) where
+  pub told_more : (i : ℕ) (x : A) (took more : List T) (t : T) → i < length ends → x ≡ get_or ends i x → length took ≡ i → more ≡ took ++ t ∷ [] → IfSome (f x).took (λ told. view t ≡ told) →
+      AreTold (map f (take i ends)) (map view took) → AreTold (map f (take (i + 1) ends)) (map view more)
+  told_more i x took more t inside at many push told h =
+      let links : map f (take (i + 1) ends) ≡ map f (take i ends) ++ f x ∷ [] = ap (map f) (take_more ends i x inside ∙ ap (λ y. take i ends ++ y ∷ []) (sym at)) ∙ map_more f (take i ends) x in
+      let bytes : map view more ≡ map view took ++ view t ∷ [] = ap (map view) push ∙ map_more view took t in
+      let as_many : length (map view took) ≡ length (map f (take i ends)) = length-map took view ∙ many ∙ sym (length-map (take i ends) f ∙ length-take-le i ends (omega (arith, inside))) in
+      subst (λ es. AreTold es (map view more)) (sym links) (subst (AreTold (map f (take i ends) ++ f x ∷ [])) (sym bytes) (told_push (map f (take i ends)) (map view took) (f x) (view t) as_many h told))
+
+  pub told_all : (i : ℕ) (took : List T) → length ends ≤ i → AreTold (map f (take i ends)) (map view took) → AreTold (map f ends) (map view took)
+  told_all i took h told = subst (λ es. AreTold (map f es) (map view took)) (take_all i ends h) told
+
+module _ {A L T E : Type 0} (items : T → List ℕ) (view : A → List ℕ) (ends_of : L → LinkEnd) where
+  -- the report that was printed is that of what is left
+  pub reported : (r : Result T E) (lines : List Line) (script : List Item) (count : ℕ) (outcomes : List (ℕ × Outcome)) (said shown : List (Option Outcome)) (words : List PlaceWord) (links : List L) (took showing : List A) →
+      map item lines ≡ script → count ≡ length (operations script) → ((os : List (Option Outcome)) → length os ≡ count → outcomes ≡ told_from 0 os → said ≡ os) → shown ≡ said → showing ≡ took → AreTold (map ends_of links) (map view took) →
+      IfOk r (λ t. ArePlaces words → HasEachOutcome words shown → IsReportText (map item lines) shown words (map view showing) (items t)) →
+      IfOk r (λ t. (os : List (Option Outcome)) → length os ≡ length (operations script) → outcomes ≡ told_from 0 os → ArePlaces words → HasEachOutcome words os → (x : List (List ℕ)) × AreTold (map ends_of links) x × IsReportText script os words x (items t))
+  reported (Ok t) lines script count outcomes said shown words links took showing e counted spread f s told h =
+      λ os many are places each.
+      let is : shown ≡ os = f ∙ spread os (many ∙ sym counted) are in (
+        map view took,
+        told,
+        subst (λ xs. IsReportText xs os words (map view took) (items t)) e
+            (subst (λ xs. IsReportText (map item lines) xs words (map view took) (items t)) is
+            (subst (λ xs. IsReportText (map item lines) shown words (map view xs) (items t)) s
+            (h places (subst (HasEachOutcome words) (sym is) each)))),
+      )
+  reported (Err x) lines script count outcomes said shown words links took showing e counted spread f s told h = tt

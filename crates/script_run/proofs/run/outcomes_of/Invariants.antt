@@ -1,9 +1,0 @@
-use Rattle.std.proofs.Common.{◌≡◌, ◌++◌, map}
-use Rattle.std.specs.Vec.Iter.{into_iter_items}
-use Rattle.script_run.proofs.run.outcomes_of.Given as goal
-
-abbrev pub invariant-loop-outcome : goal.invariant-loop-outcome
-invariant-loop-outcome l =
-    goal.iterator-loop-outcome.can_next l.outcome-iterator ×
-    goal.iterator-loop-outcome.is_finite l.outcome-iterator ×
-    (l.outcomes.items ++ map (λ o. o.1) (into_iter_items l.outcome-iterator) ≡ map (λ o. o.1) l.fn.told.items)

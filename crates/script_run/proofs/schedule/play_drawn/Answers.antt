@@ -1,0 +1,71 @@
+use Rattle.std.proofs.Common.{◌<◌, ◌+◌, ap, sym, subst, refl, ◌∙◌, arith}
+use Rattle.brpc_model.specs.Operations.{clients}
+use Rattle.report_fits.specs.Limits.{KeepsLimits}
+use Rattle.report_fits.proofs.Sizes.{keeps_limits}
+use Rattle.script_print.specs.Seats.{SeatDraws}
+use Rattle.sock_words.specs.declared.plain.Plan.{Plan}
+use Rattle.sock_programs.specs.Tasks.{plan_of}
+use Rattle.script_run.proofs.Playing.{same_links, then_same_links}
+use Rattle.script_run.proofs.Lines.{seats_in, none_drawn, begins_drawing, count_is, seats_there, draws_on, seat_drawn, drawn_more, drawn_played}
+use Rattle.script_run.proofs.schedule.play_drawn.Goals as goal
+
+pub plan_of-requires : goal.plan_of-requires
+plan_of-requires g c = subst KeepsLimits (sym c.lines.ensures) (keeps_limits c.requires.script.0 c.args.script.now c.requires.script.1)
+
+pub new-seats-requires : goal.new-seats-requires
+new-seats-requires g c =
+    let limits = (keeps_limits c.requires.script.0 c.args.script.now c.requires.script.1).links in
+    let plan = ap (λ (p : Plan). p.links) (c.in-Ok.ensures ∙ ap plan_of c.lines.ensures) in omega (arith, limits, plan)
+
+pub loop-init : goal.loop-init
+loop-init g c =
+    let plan = c.in-Ok.ensures ∙ ap plan_of c.lines.ensures in
+    let begins = begins_drawing c.args.script.now c.in-Ok.plan c.new-seats.result c.args.seed plan c.new-seats.ensures in record {
+      draws = begins;
+      count = count_is c.args.script.now c.in-Ok.plan c.new-seats.result 0 c.args.seed c.count-end.result plan begins c.count-end.ensures;
+      played = none_drawn (seats_in c.args.script.now) (clients c.args.script.now) c.args.seed c.args.machine.now;
+      playable = c.requires.playable;
+      ends = same_links c.args.machine.now;
+      links = refl;
+    }
+
+pub next_seat-seat-requires : goal.next_seat-seat-requires
+next_seat-seat-requires g c =
+    let i = c.loop.invariant in
+    subst (λ (s : SeatDraws). 0 < s.clients + s.links) (sym i.draws) (seats_there c.args.script.now c.loop.counter c.count-end.result c.loop-test.true i.count)
+
+pub tick_seat-requires-clause-playable : goal.tick_seat-requires-clause-playable
+tick_seat-requires-clause-playable g c κs within = c.loop.invariant.playable
+
+pub returns-in_err-tick_seat-clause-ends : goal.returns-in_err-tick_seat-clause-ends
+returns-in_err-tick_seat-clause-ends g c = then_same_links c.args.machine.now c.loop.machine c.tick_seat.new.machine c.loop.invariant.ends c.tick_seat.ensures.ends
+
+pub returns-in_err-tick_seat-clause-links : goal.returns-in_err-tick_seat-clause-links
+returns-in_err-tick_seat-clause-links g c = c.tick_seat.ensures.links ∙ c.loop.invariant.links
+
+pub loop-preserved : goal.loop-preserved
+loop-preserved g c =
+    let i = c.loop.invariant in
+    let step = c.in_ok-tick_seat.ensures in
+    let script = c.args.script.now in record {
+      draws = draws_on script c.loop.counter c.args.seed c.loop.seats c.next_seat-seat.new.self i.draws c.next_seat-seat.ensures.after;
+      count = i.count;
+      played = drawn_more (seats_in script) (clients script) c.loop.counter c.args.seed c.next_seat-seat.result c.args.machine.now c.loop.machine c.tick_seat.new.machine
+          (seats_there script c.loop.counter c.count-end.result c.loop-test.true i.count) (seat_drawn script c.loop.counter c.args.seed c.next_seat-seat.result c.loop.seats i.draws c.next_seat-seat.ensures.seat) i.played step.ticked;
+      playable = step.playable;
+      ends = then_same_links c.args.machine.now c.loop.machine c.tick_seat.new.machine i.ends step.ends;
+      links = step.links ∙ i.links;
+    }
+
+pub returns-clause-played : goal.returns-clause-played
+returns-clause-played g c =
+    let i = c.loop.invariant in
+    let most = c.loop.auto.counter-end in
+    let least = c.loop-test.false in
+    drawn_played c.args.script.now c.loop.counter c.count-end.result c.args.seed c.args.machine.now c.loop.machine i.count (omega (arith, most, least)) i.played
+
+pub returns-clause-ends : goal.returns-clause-ends
+returns-clause-ends g c = c.loop.invariant.ends
+
+pub returns-clause-links : goal.returns-clause-links
+returns-clause-links g c = c.loop.invariant.links

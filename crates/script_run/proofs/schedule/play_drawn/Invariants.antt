@@ -1,0 +1,18 @@
+use Rattle.std.proofs.Common.{◌≡◌, length}
+use Rattle.brpc_model.specs.Operations.{clients, operations}
+use Rattle.script_print.specs.Seats.{seat_count}
+use Rattle.sock_programs.specs.Runs.{Scheduled}
+use Rattle.sock_core.specs.Runs.{SameLinks}
+use Rattle.script_run.specs.Played.{IsPlayable, HasPlayed}
+use Rattle.script_run.proofs.Lines.{drawn_so_far, draws_of, seats_in}
+use Rattle.script_run.proofs.schedule.play_drawn.Given as goal
+
+abbrev pub invariant-loop : goal.invariant-loop
+invariant-loop g l = record {
+  draws : l.seats ≡ draws_of l.script l.counter l.seed;
+  count : l.end ≡ seat_count (seats_in l.script) (length (operations l.script));
+  played : HasPlayed (λ c. Scheduled l.initial.machine.plan c (drawn_so_far (seats_in l.script) (clients l.script) l.counter l.seed)) l.initial.machine l.machine;
+  playable : IsPlayable l.machine;
+  ends : SameLinks l.initial.machine l.machine;
+  links : l.links ≡ l.initial.links;
+}
