@@ -2,8 +2,9 @@
 -- of a report, only it and want of memory come.
 use Rattle.std.proofs.Common.{◌≡◌, ◌≢◌, ℕ, ◌<◌, ◌≤◌, ◌⊎◌, inl, inr, true, false, List, ◌++◌, length, Option, Some, None, Result, Ok, Err, ap, sym, ◌∙◌, subst, arith, length-append, append-nil}
 use Rattle.std.specs.Io.KnownBytes.{Consumes}
-use Rattle.brpc_model.specs.Commands.{Replay, command_of}
+use Rattle.brpc_model.specs.Commands.{Command, Replay, Sim, Gen, Frames, command_of}
 use Rattle.brpc_model.specs.Items.{Item}
+use Rattle.brpc_model.specs.Operations.{Turn}
 use Rattle.brpc_model.specs.Script.{script_of}
 use Rattle.brpc_model.specs.Stream.{Ending, Rest, Fault, stream}
 use Rattle.frame_print.specs.Printed.{frames_limit, Edges, IsRest, IsFaulty, SinkFailed, EndsAs}
@@ -12,9 +13,9 @@ use Rattle.frame_print.specs.declared.print.StreamEnd.{StreamEnd}
 use Rattle.frame_print.specs.declared.print.StreamEnd.TheVariants as end_
 use Rattle.frame_print.specs.declared.print.PrintFault.{PrintFault}
 use Rattle.frame_print.specs.declared.print.PrintFault.TheVariants as fault_
-use Rattle.brpc_eng.specs.Built.{is_built}
+use Rattle.sock_programs.specs.Scripts.{is_callless}
 use Rattle.brpc_eng.specs.Streams.{script_limit, IsAtEnd}
-use Rattle.brpc_eng.specs.Answers.{HaveRisen, Input, Output, Links, TextWritten, Ran, Reported, MemoryRanOut, OpenFailed, FaultWritten, Replayed, RanScript, FaultyScript, SourceFailed, TooLong, NoMemory, ScriptNotBuilt, Answers, NoCommand, CommandNotBuilt, Generated, Generates, PrintsInput, Replays, is_built_command, frames_status, FramesPrinted}
+use Rattle.brpc_eng.specs.Answers.{HaveRisen, Input, Output, Links, TextWritten, Ran, Reported, MemoryRanOut, OpenFailed, FaultWritten, Replayed, RanScript, FaultyScript, SourceFailed, TooLong, NoMemory, ScriptNotBuilt, Answers, NoCommand, CommandNotBuilt, Generated, Generates, PrintsInput, Replays, Simulates, is_built_command, frames_status, FramesPrinted}
 
 -- ## Status 2
 
@@ -22,22 +23,22 @@ not_two_written : (out : Output) (text : List ℕ) (status : ℕ) → TextWritte
 not_two_written out text status (inl w) = λ e. absurd (omega (arith, e, w.0))
 not_two_written out text status (inr w) = λ e. absurd (omega (arith, e, w.0))
 
-not_two_ran : (script : List Item) (out : Output) (links : Links) (status : ℕ) → Ran script out links status → status ≢ 2
-not_two_ran script out links status (Reported text fits of_run wrote) = not_two_written out text status wrote
-not_two_ran script out links status (MemoryRanOut s wrote) = λ e. absurd (omega (arith, e, s))
-not_two_ran script out links status (OpenFailed s rose back wrote) = λ e. absurd (omega (arith, e, s))
+not_two_ran : (turns : List Turn) (script : List Item) (out : Output) (links : Links) (status : ℕ) → Ran turns script out links status → status ≢ 2
+not_two_ran turns script out links status (Reported text fits of_run wrote) = not_two_written out text status wrote
+not_two_ran turns script out links status (MemoryRanOut s wrote) = λ e. absurd (omega (arith, e, s))
+not_two_ran turns script out links status (OpenFailed s rose back wrote) = λ e. absurd (omega (arith, e, s))
 
 not_two_fault : (out : Output) (line kind status : ℕ) → FaultWritten out line kind status → status ≢ 2
 not_two_fault out line kind status (inl w) = λ e. absurd (omega (arith, e, w.0))
 not_two_fault out line kind status (inr w) = λ e. absurd (omega (arith, e, w.0))
 
-not_two : (input : Input) (out : Output) (links : Links) (bytes : List ℕ) (status : ℕ) → Replayed input out links bytes status → status ≢ 2
-not_two input out links bytes status (RanScript end script is built ran) = not_two_ran script out links status ran
-not_two input out links bytes status (FaultyScript end line kind is back wrote) = not_two_fault out line kind status wrote
-not_two input out links bytes status (SourceFailed s rose back wrote) = λ e. absurd (omega (arith, e, s))
-not_two input out links bytes status (TooLong s long back wrote) = λ e. absurd (omega (arith, e, s))
-not_two input out links bytes status (NoMemory s back wrote) = λ e. absurd (omega (arith, e, s))
-not_two input out links bytes status (ScriptNotBuilt s end script is built back wrote) = λ e. absurd (omega (arith, e, s))
+not_two : (turns : List Item → List Turn) (input : Input) (out : Output) (links : Links) (bytes : List ℕ) (status : ℕ) → Replayed turns input out links bytes status → status ≢ 2
+not_two turns input out links bytes status (RanScript end script is built ran) = not_two_ran (turns script) script out links status ran
+not_two turns input out links bytes status (FaultyScript end line kind is back wrote) = not_two_fault out line kind status wrote
+not_two turns input out links bytes status (SourceFailed s rose back wrote) = λ e. absurd (omega (arith, e, s))
+not_two turns input out links bytes status (TooLong s long back wrote) = λ e. absurd (omega (arith, e, s))
+not_two turns input out links bytes status (NoMemory s back wrote) = λ e. absurd (omega (arith, e, s))
+not_two turns input out links bytes status (ScriptNotBuilt s end script is built back wrote) = λ e. absurd (omega (arith, e, s))
 
 not_two_made : (seed clients count : ℕ) (out : Output) (status : ℕ) → Generated seed clients count out status → status ≢ 2
 not_two_made seed clients count out status (inl w) = not_two_written out _ status w
@@ -58,7 +59,8 @@ usage_exactly words input out links status (NoCommand s none same back wrote) = 
 usage_exactly words input out links status (CommandNotBuilt s command is other same back wrote) = (λ e. absurd (omega (arith, e, s)), λ e. absurd (cc))
 usage_exactly words input out links status (Generates seed clients count is same back made) = (λ e. absurd (not_two_made seed clients count out status made e), λ e. absurd (cc))
 usage_exactly words input out links status (PrintsInput is back printed) = (λ e. absurd (not_two_ended printed.ended status printed.numbered e), λ e. absurd (cc))
-usage_exactly words input out links status (Replays is replayed) = (λ e. absurd (not_two input out links replayed.bytes status replayed.replayed e), λ e. absurd (cc))
+usage_exactly words input out links status (Replays is replayed) = (λ e. absurd (not_two _ input out links replayed.bytes status replayed.replayed e), λ e. absurd (cc))
+usage_exactly words input out links status (Simulates seed is replayed) = (λ e. absurd (not_two _ input out links replayed.bytes status replayed.replayed e), λ e. absurd (cc))
 
 -- ## A report, or want of memory
 
@@ -81,39 +83,57 @@ calm_written : (out : Output) (text : List ℕ) (status : ℕ) → (HaveRisen ou
 calm_written out text status calm (inl w) = w.0
 calm_written out text status calm (inr w) = absurd (calm w.1.0)
 
-calm_ran : (script : List Item) (input : Input) (out : Output) (links : Links) (status : ℕ) → IsCalm input out links → Ran script out links status → (status ≡ 0) ⊎ (status ≡ 7)
-calm_ran script input out links status calm (Reported text fits of_run wrote) = inl (calm_written out text status calm.sink wrote)
-calm_ran script input out links status calm (MemoryRanOut s wrote) = inr s
-calm_ran script input out links status calm (OpenFailed s rose back wrote) = absurd (calm.linker rose)
+calm_ran : (turns : List Turn) (script : List Item) (input : Input) (out : Output) (links : Links) (status : ℕ) → IsCalm input out links → Ran turns script out links status → (status ≡ 0) ⊎ (status ≡ 7)
+calm_ran turns script input out links status calm (Reported text fits of_run wrote) = inl (calm_written out text status calm.sink wrote)
+calm_ran turns script input out links status calm (MemoryRanOut s wrote) = inr s
+calm_ran turns script input out links status calm (OpenFailed s rose back wrote) = absurd (calm.linker rose)
 
-calm_replayed : (script : List Item) (given : List ℕ) (input : Input) (out : Output) (links : Links) (bytes : List ℕ) (status : ℕ) → IsCalm input out links → Consumes (Some given) input.left bytes →
-    length given ≤ script_limit → script_of given ≡ Ok script → is_built script ≡ true → Replayed input out links bytes status → (status ≡ 0) ⊎ (status ≡ 7)
-calm_replayed script given input out links bytes status calm came few is built (RanScript end read is' built' ran) = calm_ran read input out links status calm ran
-calm_replayed script given input out links bytes status calm came few is built (FaultyScript end line kind is' back wrote) =
+calm_replayed : (turns : List Item → List Turn) (script : List Item) (given : List ℕ) (input : Input) (out : Output) (links : Links) (bytes : List ℕ) (status : ℕ) → IsCalm input out links → Consumes (Some given) input.left bytes →
+    length given ≤ script_limit → script_of given ≡ Ok script → is_callless script ≡ true → Replayed turns input out links bytes status → (status ≡ 0) ⊎ (status ≡ 7)
+calm_replayed turns script given input out links bytes status calm came few is built (RanScript end read is' built' ran) = calm_ran (turns read) read input out links status calm ran
+calm_replayed turns script given input out links bytes status calm came few is built (FaultyScript end line kind is' back wrote) =
     let same : script_of bytes ≡ Ok script = ap script_of (came_all given bytes input.left came end) ∙ is in absurd (cc)
-calm_replayed script given input out links bytes status calm came few is built (SourceFailed s rose back wrote) = absurd (calm.source rose)
-calm_replayed script given input out links bytes status calm came few is built (TooLong s long back wrote) = absurd (omega (arith, long, few, came_few given bytes input.left came))
-calm_replayed script given input out links bytes status calm came few is built (NoMemory s back wrote) = inr s
-calm_replayed script given input out links bytes status calm came few is built (ScriptNotBuilt s end read is' built' back wrote) =
+calm_replayed turns script given input out links bytes status calm came few is built (SourceFailed s rose back wrote) = absurd (calm.source rose)
+calm_replayed turns script given input out links bytes status calm came few is built (TooLong s long back wrote) = absurd (omega (arith, long, few, came_few given bytes input.left came))
+calm_replayed turns script given input out links bytes status calm came few is built (NoMemory s back wrote) = inr s
+calm_replayed turns script given input out links bytes status calm came few is built (ScriptNotBuilt s end read is' built' back wrote) =
     let same : script_of bytes ≡ Ok script = ap script_of (came_all given bytes input.left came end) ∙ is in
     let one : Ok read ≡ Ok script = sym is' ∙ same in
     let alike : read ≡ script = cc in
-    let never : true ≡ false = sym built ∙ ap is_built (sym alike) ∙ built' in absurd (cc)
+    let never : true ≡ false = sym built ∙ ap is_callless (sym alike) ∙ built' in absurd (cc)
 
--- `replay` of a script that is built, with no fault of the outside, ends with its report or for want of memory
-pub report_comes : (script : List Item) (given : List ℕ) (words : List (List ℕ)) (input : Input) (out : Output) (links : Links) (status : ℕ) → Answers words input out links status →
-    command_of words ≡ Some Replay → input.given ≡ Some given → length given ≤ script_limit → script_of given ≡ Ok script → is_built script ≡ true → IsCalm input out links →
+-- a command that runs a script
+abbrev RunsScript : Command → Type 0
+RunsScript Replay = Unit {0}
+RunsScript (Sim seed) = Unit {0}
+RunsScript other = ⊥
+
+never_unbuilt : (command : Command) → RunsScript command → is_built_command command ≡ false → ⊥
+never_unbuilt Replay h e = let f : true ≡ false = e in absurd (cc)
+never_unbuilt (Sim seed) h e = let f : true ≡ false = e in absurd (cc)
+never_unbuilt other h e = h
+
+-- `replay` and `sim` of a script that is built, with no fault of the outside, end with its report or for want of memory
+pub report_comes : (script : List Item) (given : List ℕ) (words : List (List ℕ)) (input : Input) (out : Output) (links : Links) (status : ℕ) (command : Command) → Answers words input out links status →
+    command_of words ≡ Some command → RunsScript command → input.given ≡ Some given → length given ≤ script_limit → script_of given ≡ Ok script → is_callless script ≡ true → IsCalm input out links →
     (status ≡ 0) ⊎ (status ≡ 7)
-report_comes script given words input out links status (NoCommand s none same back wrote) command told few is built calm = absurd (cc)
-report_comes script given words input out links status (CommandNotBuilt s other named differs same back wrote) command told few is built calm =
-    let one : Some other ≡ Some Replay = sym named ∙ command in
-    let alike : other ≡ Replay = cc in
-    let never : true ≡ false = sym (ap is_built_command alike) ∙ differs in absurd (cc)
-report_comes script given words input out links status (Generates seed clients count named same back made) command told few is built calm = absurd (cc)
-report_comes script given words input out links status (PrintsInput named back printed) command told few is built calm = absurd (cc)
-report_comes script given words input out links status (Replays named replayed) command told few is built calm =
+report_comes script given words input out links status command (NoCommand s none same back wrote) asked runs told few is built calm = absurd (cc)
+report_comes script given words input out links status command (CommandNotBuilt s other named differs same back wrote) asked runs told few is built calm =
+    let one : Some other ≡ Some command = sym named ∙ asked in
+    let alike : other ≡ command = cc in
+    absurd (never_unbuilt command runs (subst (λ (x : Command). is_built_command x ≡ false) alike differs))
+report_comes script given words input out links status command (Generates seed clients count named same back made) asked runs told few is built calm =
+    let one : Some (Gen seed clients count) ≡ Some command = sym named ∙ asked in
+    let alike : Gen seed clients count ≡ command = cc in absurd (subst RunsScript (sym alike) runs)
+report_comes script given words input out links status command (PrintsInput named back printed) asked runs told few is built calm =
+    let one : Some Frames ≡ Some command = sym named ∙ asked in
+    let alike : Frames ≡ command = cc in absurd (subst RunsScript (sym alike) runs)
+report_comes script given words input out links status command (Replays named replayed) asked runs told few is built calm =
     let P : Option (List ℕ) → Type 0 = λ x. Consumes x input.left replayed.bytes in
-    calm_replayed script given input out links replayed.bytes status calm (subst P told replayed.came) few is built replayed.replayed
+    calm_replayed _ script given input out links replayed.bytes status calm (subst P told replayed.came) few is built replayed.replayed
+report_comes script given words input out links status command (Simulates seed named replayed) asked runs told few is built calm =
+    let P : Option (List ℕ) → Type 0 = λ x. Consumes x input.left replayed.bytes in
+    calm_replayed _ script given input out links replayed.bytes status calm (subst P told replayed.came) few is built replayed.replayed
 
 -- ## The statuses of `frames`
 

@@ -1,14 +1,6 @@
 pub mod Known
-pub mod SendLemmas
-pub mod LineLemmas
-pub mod Labels
-pub mod Fitting
-pub mod BuiltLemmas
-pub mod Texts
-pub mod Unlinked
-pub mod ScriptLemmas
-pub mod Reports
+pub mod Pieces
+pub mod Reported
 pub mod Replays
-pub mod Exactly
 pub mod GeneratedLemmas
-pub mod QuietReports
+pub mod Exactly

@@ -1,5 +1,6 @@
 -- How `replay` ends, by what its calls say.
-use Rattle.std.proofs.Common.{◌≡◌, ℕ, ◌≤◌, inl, Bool, true, false, List, [], length, Some, Vec, Ok, Err, refl, ap, sym, ◌∙◌, subst, arith, option_map}
+use Rattle.std.proofs.Common.{◌≡◌, ℕ, ◌≤◌, inl, Bool, true, false, List, [], length, Some, Vec, Ok, Err, refl, ap, sym, ◌∙◌, subst, arith, option_map, map, not, ◌||◌, ◌∷◌}
+use Rattle.std.specs.List.{list_any}
 use Rattle.std.specs.declared.alloc.Global.{Global}
 use Rattle.brpc_model.specs.Items.{Item}
 use Rattle.brpc_model.specs.Script.{script_of}
@@ -7,7 +8,8 @@ use Rattle.brpc_model.specs.Commands as model
 use Rattle.brpc_eng.specs.declared.commands.Command.{Command}
 use Rattle.brpc_eng.specs.declared.draw.Draw.{Draw}
 use Rattle.brpc_eng.specs.declared.commands.Command.TheVariants.{Replay, Sim, Run, Gen, Load, Frames, Serve}
-use Rattle.brpc_eng.specs.Built.{is_built}
+use Rattle.brpc_model.specs.Operations.{Turn}
+use Rattle.sock_programs.specs.Scripts.{is_callless, is_later, drawn_turns}
 use Rattle.brpc_eng.specs.Command.{meaning}
 use Rattle.brpc_eng.specs.Streams.{script_limit, ReadWhole}
 use Rattle.brpc_eng.specs.Answers as answer
@@ -18,9 +20,9 @@ pub fault_written : (out : answer.Output) (line kind : ℕ) (text : List ℕ) �
 fault_written out line kind text e wrote = let P : List ℕ → Type 0 = λ x. answer.Wrote out x in inl (refl, subst P e wrote)
 
 -- where the whole input was read, it is within its limit
-whole_input : (input : answer.Input) (out : answer.Output) (links : answer.Links) (bytes : List ℕ) (read : Vec ℕ Global) (status : ℕ) → ReadWhole input.given input.left bytes (Ok read) →
-    answer.Replayed input out links bytes status → answer.ReplayedInput input out links status
-whole_input input out links bytes read status whole replayed =
+whole_input : (turns : List Item → List Turn) (input : answer.Input) (out : answer.Output) (links : answer.Links) (bytes : List ℕ) (read : Vec ℕ Global) (status : ℕ) → ReadWhole input.given input.left bytes (Ok read) →
+    answer.Replayed turns input out links bytes status → answer.ReplayedInput turns input out links status
+whole_input turns input out links bytes read status whole replayed =
     let few : length bytes ≤ script_limit = whole.within (λ e. absurd (cc)) (λ e. absurd (cc)) in
     record { bytes = bytes; came = whole.came; most = whole.most; too_long = λ long. absurd (omega (arith, long, few)); replayed = replayed }
 
@@ -28,42 +30,42 @@ whole_input input out links bytes read status whole replayed =
 came_is : (input : answer.Input) (bytes seen : List ℕ) (read : Vec ℕ Global) → ReadWhole input.given input.left bytes (Ok read) → seen ≡ read.items → seen ≡ bytes
 came_is input bytes seen read whole e = e ∙ whole.whole.0
 
-pub replays_built : (input : answer.Input) (out : answer.Output) (links : answer.Links) (status : ℕ) (bytes seen : List ℕ) (read : Vec ℕ Global) (script lines : List Item) (test : Bool) →
-    ReadWhole input.given input.left bytes (Ok read) → seen ≡ read.items → script_of seen ≡ Ok script → lines ≡ script → test ≡ is_built lines → test ≡ true →
-    answer.Ran script out links status → answer.ReplayedInput input out links status
-replays_built input out links status bytes seen read script lines test whole s e l t built ran =
+pub replays_built : (turns : List Item → List Turn) (input : answer.Input) (out : answer.Output) (links : answer.Links) (status : ℕ) (bytes seen : List ℕ) (read : Vec ℕ Global) (script lines : List Item) (test : Bool) →
+    ReadWhole input.given input.left bytes (Ok read) → seen ≡ read.items → script_of seen ≡ Ok script → lines ≡ script → test ≡ is_callless lines → test ≡ true →
+    answer.Ran (turns script) script out links status → answer.ReplayedInput turns input out links status
+replays_built turns input out links status bytes seen read script lines test whole s e l t built ran =
     let is : script_of bytes ≡ Ok script = ap script_of (sym (came_is input bytes seen read whole s)) ∙ e in
-    let tested : is_built script ≡ true = ap is_built (sym l) ∙ sym t ∙ built in
-    whole_input input out links bytes read status whole (answer.RanScript whole.whole.1 script is tested ran)
+    let tested : is_callless script ≡ true = ap is_callless (sym l) ∙ sym t ∙ built in
+    whole_input turns input out links bytes read status whole (answer.RanScript whole.whole.1 script is tested ran)
 
-pub replays_unbuilt : (input : answer.Input) (out : answer.Output) (links : answer.Links) (bytes seen : List ℕ) (read : Vec ℕ Global) (script lines : List Item) (test : Bool) →
-    ReadWhole input.given input.left bytes (Ok read) → seen ≡ read.items → script_of seen ≡ Ok script → lines ≡ script → test ≡ is_built lines → test ≡ false →
-    links.ends ≡ [] → answer.Wrote out answer.not_built_text → answer.ReplayedInput input out links 10
-replays_unbuilt input out links bytes seen read script lines test whole s e l t built back wrote =
+pub replays_unbuilt : (turns : List Item → List Turn) (input : answer.Input) (out : answer.Output) (links : answer.Links) (bytes seen : List ℕ) (read : Vec ℕ Global) (script lines : List Item) (test : Bool) →
+    ReadWhole input.given input.left bytes (Ok read) → seen ≡ read.items → script_of seen ≡ Ok script → lines ≡ script → test ≡ is_callless lines → test ≡ false →
+    links.ends ≡ [] → answer.Wrote out answer.not_built_text → answer.ReplayedInput turns input out links 10
+replays_unbuilt turns input out links bytes seen read script lines test whole s e l t built back wrote =
     let is : script_of bytes ≡ Ok lines = ap script_of (sym (came_is input bytes seen read whole s)) ∙ e ∙ ap (λ x. Ok x) (sym l) in
-    whole_input input out links bytes read 10 whole (answer.ScriptNotBuilt refl whole.whole.1 lines is (sym t ∙ built) back wrote)
+    whole_input turns input out links bytes read 10 whole (answer.ScriptNotBuilt refl whole.whole.1 lines is (sym t ∙ built) back wrote)
 
-pub replays_faulty : (input : answer.Input) (out : answer.Output) (links : answer.Links) (status line kind : ℕ) (bytes seen : List ℕ) (read : Vec ℕ Global) →
+pub replays_faulty : (turns : List Item → List Turn) (input : answer.Input) (out : answer.Output) (links : answer.Links) (status line kind : ℕ) (bytes seen : List ℕ) (read : Vec ℕ Global) →
     ReadWhole input.given input.left bytes (Ok read) → seen ≡ read.items → script_of seen ≡ Err (line, kind) → links.ends ≡ [] → answer.FaultWritten out line kind status →
-    answer.ReplayedInput input out links status
-replays_faulty input out links status line kind bytes seen read whole s e back wrote =
-    whole_input input out links bytes read status whole (answer.FaultyScript whole.whole.1 line kind (ap script_of (sym (came_is input bytes seen read whole s)) ∙ e) back wrote)
+    answer.ReplayedInput turns input out links status
+replays_faulty turns input out links status line kind bytes seen read whole s e back wrote =
+    whole_input turns input out links bytes read status whole (answer.FaultyScript whole.whole.1 line kind (ap script_of (sym (came_is input bytes seen read whole s)) ∙ e) back wrote)
 
 -- ## The words
 
-not_built : (command : Command) → (command ≡ Replay → ⊥) → ((draw : Draw) → command ≡ Gen draw → ⊥) → (command ≡ Frames → ⊥) → answer.is_built_command (meaning command) ≡ false
-not_built Replay h k f = absurd (h refl)
-not_built (Sim seed) h k f = refl
-not_built (Run port) h k f = refl
-not_built (Gen draw) h k f = absurd (k draw refl)
-not_built (Load draw) h k f = refl
-not_built Frames h k f = absurd (f refl)
-not_built (Serve port connections) h k f = refl
+not_built : (command : Command) → (command ≡ Replay → ⊥) → ((seed : ℕ) → command ≡ Sim seed → ⊥) → ((draw : Draw) → command ≡ Gen draw → ⊥) → (command ≡ Frames → ⊥) → answer.is_built_command (meaning command) ≡ false
+not_built Replay h s k f = absurd (h refl)
+not_built (Sim seed) h s k f = absurd (s seed refl)
+not_built (Run port) h s k f = refl
+not_built (Gen draw) h s k f = absurd (k draw refl)
+not_built (Load draw) h s k f = refl
+not_built Frames h s k f = absurd (f refl)
+not_built (Serve port connections) h s k f = refl
 
 -- a command that isn't built
-pub other_command : (words : List (List ℕ)) (input : answer.Input) (out : answer.Output) (links : answer.Links) (command : Command) → option_map meaning (Some command) ≡ model.command_of words → (command ≡ Replay → ⊥) → ((draw : Draw) → command ≡ Gen draw → ⊥) → (command ≡ Frames → ⊥) →
+pub other_command : (words : List (List ℕ)) (input : answer.Input) (out : answer.Output) (links : answer.Links) (command : Command) → option_map meaning (Some command) ≡ model.command_of words → (command ≡ Replay → ⊥) → ((seed : ℕ) → command ≡ Sim seed → ⊥) → ((draw : Draw) → command ≡ Gen draw → ⊥) → (command ≡ Frames → ⊥) →
     input.left ≡ input.given → links.ends ≡ [] → answer.Wrote out answer.not_built_text → answer.Answers words input out links 10
-other_command words input out links command e other drawn framed same back wrote = answer.CommandNotBuilt refl (meaning command) (sym e) (not_built command other drawn framed) same back wrote
+other_command words input out links command e other simulated drawn framed same back wrote = answer.CommandNotBuilt refl (meaning command) (sym e) (not_built command other simulated drawn framed) same back wrote
 
 -- a drawn script
 pub drawn_command : (words : List (List ℕ)) (input : answer.Input) (out : answer.Output) (links : answer.Links) (status : ℕ) (command : Command) (draw : Draw) → option_map meaning (Some command) ≡ model.command_of words → command ≡ Gen draw →
@@ -75,3 +77,17 @@ drawn_command words input out links status command draw e is same back made =
 pub frames_command : (words : List (List ℕ)) (input : answer.Input) (out : answer.Output) (links : answer.Links) (status : ℕ) (command : Command) → option_map meaning (Some command) ≡ model.command_of words → command ≡ Frames →
     links.ends ≡ [] → answer.FramesPrinted input out status → answer.Answers words input out links status
 frames_command words input out links status command e is back printed = answer.PrintsInput (sym e ∙ ap (λ c. option_map meaning (Some c)) is) back printed
+
+-- a simulation
+pub simulated : (words : List (List ℕ)) (input : answer.Input) (out : answer.Output) (links : answer.Links) (status : ℕ) (command : Command) (seed drawn : ℕ) → option_map meaning (Some command) ≡ model.command_of words → command ≡ Sim seed →
+    drawn ≡ seed → answer.ReplayedInput (λ script. drawn_turns script drawn) input out links status → answer.Answers words input out links status
+simulated words input out links status command seed drawn e is same replayed = answer.Simulates drawn (sym e ∙ ap (λ c. option_map meaning (Some c)) (is ∙ ap Sim (sym same))) replayed
+
+-- ## What is built
+
+any_map : {A B : Type 0} (f : B → Bool) (g : A → B) (xs : List A) → list_any f (map g xs) ≡ list_any (λ (x : A). f (g x)) xs
+any_map f g [] = refl
+any_map f g (x ∷ xs) = ap (λ b. f (g x) || b) (any_map f g xs)
+
+pub built_is : {A : Type 0} (f : A → Item) (lines : List A) (script : List Item) (calls : Bool) → calls ≡ list_any (λ (x : A). is_later (f x)) lines → script ≡ map f lines → not calls ≡ is_callless script
+built_is f lines script calls e is = ap not (e ∙ sym (any_map is_later f lines)) ∙ sym (ap is_callless is)

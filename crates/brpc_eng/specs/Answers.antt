@@ -1,10 +1,11 @@
 -- The answers of the program: the status, its cause, and what is written with it.
 use Rattle.std.specs.Prelude.{ℕ, ◌≡◌, ◌<◌, ◌≤◌, ◌+◌, ◌⊎◌, ◌++◌, Bool, true, false, List, [], length, codes, decimal, Option, Some, None, Result, Ok, Err}
 use Rattle.std.specs.Io.KnownBytes.{Appends, Consumes}
-use Rattle.brpc_model.specs.Commands.{Command, Replay, Gen, Frames, command_of, usage_text}
+use Rattle.brpc_model.specs.Commands.{Command, Replay, Sim, Gen, Frames, command_of, usage_text}
 use Rattle.brpc_model.specs.ScriptText.{script_text}
 use Rattle.brpc_model.specs.Drawn.{generated}
 use Rattle.brpc_model.specs.Items.{Item}
+use Rattle.brpc_model.specs.Operations.{Turn, schedule}
 use Rattle.brpc_model.specs.Script.{script_of}
 use Rattle.brpc_model.specs.Link.{LinkEnd}
 use Rattle.brpc_model.specs.Run.{nothing_late}
@@ -16,10 +17,9 @@ use Rattle.frame_print.specs.declared.print.StreamEnd.{StreamEnd}
 use Rattle.frame_print.specs.declared.print.StreamEnd.TheVariants as end_
 use Rattle.frame_print.specs.declared.print.PrintFault.{PrintFault}
 use Rattle.frame_print.specs.declared.print.PrintFault.TheVariants as fault_
-use Rattle.sock_programs.specs.Scripts.{is_quiet}
+use Rattle.sock_programs.specs.Scripts.{is_callless, has_send, drawn_turns, answers_of}
 use Rattle.script_run.specs.Given.{AreUntouched}
 use Rattle.script_run.specs.Played.{IsRunText}
-use Rattle.brpc_eng.specs.Built.{is_built}
 use Rattle.brpc_eng.specs.Streams.{script_limit, IsAtEnd}
 
 -- ## What a call finds outside, and what it leaves there
@@ -79,46 +79,48 @@ fault_text line kind = codes "script fault line " ++ decimal line ++ codes " kin
 abbrev pub IsReport : Links → List Item → List ℕ → Type 0
 IsReport links script text = links.prompt ≡ true → FitsWhole script text links.ends nothing_late
 
--- the text of a script without messages and calls is that of its run: the setup first, then the ticks of its schedule, then
--- rounds until no client has a step left, then the ending; and no other text is
-abbrev pub IsTextOfRun : List Item → List ℕ → Type 0
-IsTextOfRun script text = is_quiet script ≡ true → IsRunText script text × ((other : List ℕ) → IsRunText script other → other ≡ text)
+-- and it is that of a run by these lines of a schedule: the setup first, then the ticks of these lines, then rounds until no client has a step
+-- left, then the ending; and no other text is that of a run in which the links answered the same, as they do where none is asked, and of which
+-- the same is said of what they took
+abbrev pub IsTextOfRun : Links → List Item → List Turn → List ℕ → Type 0
+IsTextOfRun links script turns text = links.prompt ≡ true → (is : IsRunText script turns text links.ends)
+    × ((other : List ℕ) (ends : List LinkEnd) (run : IsRunText script turns other ends) → run.took ≡ is.took → (has_send script ≡ false) ⊎ (answers_of run.run ≡ answers_of is.run) → other ≡ text)
 
 -- the text was written, or the sink failed behind a beginning of it
 abbrev pub TextWritten : Output → List ℕ → ℕ → Type 0
 TextWritten out text status = ((status ≡ 0) × WroteAll out text) ⊎ ((status ≡ 5) × WroteSome out text)
 
 -- how the run of a script that is built ends
-pub data Ran (script : List Item) (out : Output) (links : Links) (status : ℕ) : Type 0 where
-  Reported : (text : List ℕ) → IsReport links script text → IsTextOfRun script text → TextWritten out text status → Ran script out links status
-  MemoryRanOut : status ≡ 7 → WroteNothing out → Ran script out links status
+pub data Ran (turns : List Turn) (script : List Item) (out : Output) (links : Links) (status : ℕ) : Type 0 where
+  Reported : (text : List ℕ) → IsReport links script text → IsTextOfRun links script turns text → TextWritten out text status → Ran turns script out links status
+  MemoryRanOut : status ≡ 7 → WroteNothing out → Ran turns script out links status
   -- the links that were opened before are given back, and nothing was done with them
-  OpenFailed : status ≡ 8 → HaveRisen links.faults → AreUntouched 0 links.ends → WroteNothing out → Ran script out links status
+  OpenFailed : status ≡ 8 → HaveRisen links.faults → AreUntouched 0 links.ends → WroteNothing out → Ran turns script out links status
 
--- ## `replay`
+-- ## `replay` and `sim`
 
 -- the fault was written, or memory ran out
 abbrev pub FaultWritten : Output → ℕ → ℕ → ℕ → Type 0
 FaultWritten out line kind status = ((status ≡ 3) × Wrote out (fault_text line kind)) ⊎ ((status ≡ 7) × WroteNothing out)
 
--- how `replay` ends where these bytes came
-pub data Replayed (input : Input) (out : Output) (links : Links) (bytes : List ℕ) (status : ℕ) : Type 0 where
-  RanScript : IsAtEnd input.left → (script : List Item) → script_of bytes ≡ Ok script → is_built script ≡ true → Ran script out links status → Replayed input out links bytes status
-  FaultyScript : IsAtEnd input.left → (line kind : ℕ) → script_of bytes ≡ Err (line, kind) → links.ends ≡ [] → FaultWritten out line kind status → Replayed input out links bytes status
-  SourceFailed : status ≡ 4 → HaveRisen input.faults → links.ends ≡ [] → WroteNothing out → Replayed input out links bytes status
-  TooLong : status ≡ 6 → script_limit < length bytes → links.ends ≡ [] → WroteNothing out → Replayed input out links bytes status
-  NoMemory : status ≡ 7 → links.ends ≡ [] → WroteNothing out → Replayed input out links bytes status
-  ScriptNotBuilt : status ≡ 10 → IsAtEnd input.left → (script : List Item) → script_of bytes ≡ Ok script → is_built script ≡ false → links.ends ≡ [] → Wrote out not_built_text →
-      Replayed input out links bytes status
+-- how a script is run where these bytes came, by the schedule that it has or is given
+pub data Replayed (turns : List Item → List Turn) (input : Input) (out : Output) (links : Links) (bytes : List ℕ) (status : ℕ) : Type 0 where
+  RanScript : IsAtEnd input.left → (script : List Item) → script_of bytes ≡ Ok script → is_callless script ≡ true → Ran (turns script) script out links status → Replayed turns input out links bytes status
+  FaultyScript : IsAtEnd input.left → (line kind : ℕ) → script_of bytes ≡ Err (line, kind) → links.ends ≡ [] → FaultWritten out line kind status → Replayed turns input out links bytes status
+  SourceFailed : status ≡ 4 → HaveRisen input.faults → links.ends ≡ [] → WroteNothing out → Replayed turns input out links bytes status
+  TooLong : status ≡ 6 → script_limit < length bytes → links.ends ≡ [] → WroteNothing out → Replayed turns input out links bytes status
+  NoMemory : status ≡ 7 → links.ends ≡ [] → WroteNothing out → Replayed turns input out links bytes status
+  ScriptNotBuilt : status ≡ 10 → IsAtEnd input.left → (script : List Item) → script_of bytes ≡ Ok script → is_callless script ≡ false → links.ends ≡ [] → Wrote out not_built_text →
+      Replayed turns input out links bytes status
 
--- `replay` of what the source gives: of the input at most one byte more than a script may have is read, and where that
+-- the run of what the source gives: of the input at most one byte more than a script may have is read, and where that
 -- one came no other status than 6 and 7 comes
-pub record ReplayedInput (input : Input) (out : Output) (links : Links) (status : ℕ) : Type 0 where
+pub record ReplayedInput (turns : List Item → List Turn) (input : Input) (out : Output) (links : Links) (status : ℕ) : Type 0 where
   pub bytes : List ℕ
   pub came : Consumes input.given input.left bytes
   pub most : length bytes ≤ script_limit + 1
   pub too_long : script_limit < length bytes → (status ≡ 6) ⊎ (status ≡ 7)
-  pub replayed : Replayed input out links bytes status
+  pub replayed : Replayed turns input out links bytes status
 
 -- ## `gen`
 
@@ -161,6 +163,7 @@ pub record FramesPrinted (input : Input) (out : Output) (status : ℕ) : Type 0 
 -- the commands that are built
 abbrev pub is_built_command : Command → Bool
 is_built_command Replay = true
+is_built_command (Sim seed) = true
 is_built_command (Gen seed clients count) = true
 is_built_command Frames = true
 is_built_command other = false
@@ -176,5 +179,7 @@ pub data Answers (words : List (List ℕ)) (input : Input) (out : Output) (links
   Generates : (seed clients count : ℕ) → command_of words ≡ Some (Gen seed clients count) → input.left ≡ input.given → links.ends ≡ [] → Generated seed clients count out status → Answers words input out links status
   -- they ask for the frames of the input
   PrintsInput : command_of words ≡ Some Frames → links.ends ≡ [] → FramesPrinted input out status → Answers words input out links status
-  -- they ask for `replay`
-  Replays : command_of words ≡ Some Replay → ReplayedInput input out links status → Answers words input out links status
+  -- they ask for a run of the script by its own schedule
+  Replays : command_of words ≡ Some Replay → ReplayedInput schedule input out links status → Answers words input out links status
+  -- or by one that is drawn from a seed
+  Simulates : (seed : ℕ) → command_of words ≡ Some (Sim seed) → ReplayedInput (λ script. drawn_turns script seed) input out links status → Answers words input out links status

@@ -7,6 +7,7 @@ use crate::frames::frames;
 use crate::generated::print_generated;
 use crate::replay::{NOT_BUILT, replay, write_answer};
 use crate::status::Status;
+use script_run::Schedule;
 use sock_io::{Gate, Linker, Sink, Source};
 use std::alloc::Global;
 
@@ -17,7 +18,7 @@ const USAGE: &[u8] =
 ///
 /// | status | comes |
 /// | --- | --- |
-/// | 0 | where the command was done; the input of `replay` and `frames` was read to its end |
+/// | 0 | where the command was done; the input of `replay`, `sim` and `frames` was read to its end |
 /// | 2 | exactly where the words ask for no command; the usage line is written |
 /// | 3 | exactly where the whole input is no script; the first fault is written |
 /// | 4 | only where the source failed |
@@ -73,7 +74,10 @@ fn answer<S: Source, K: Sink, L: Linker>(
             Status::WrongWords
         }
         Some(command) => match command {
-            Command::Replay => replay(alloc, source, out, links),
+            Command::Replay => replay(alloc, source, out, links, Schedule::Own),
+            Command::Sim(seed) => {
+                replay(alloc, source, out, links, Schedule::Drawn(u64::from(seed)))
+            }
             Command::Gen(draw) => print_generated(alloc, &draw, out),
             Command::Frames => frames(alloc, source, out),
             _ => {

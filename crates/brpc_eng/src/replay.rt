@@ -1,27 +1,29 @@
 ghost use Rattle.std.specs.Prelude.{◌≡◌, []};
+ghost use Rattle.script_run.specs.Played.{turns_of};
 ghost use Rattle.brpc_eng.specs.Status.{number_of};
 ghost use Rattle.brpc_eng.specs.Answers.{Wrote, FaultWritten, ReplayedInput};
 
-use crate::built::is_built;
-use crate::sockets::run_script;
+use crate::run::{is_built, run_and_report};
 use crate::status::Status;
 use crate::streams::{InputFault, read_all};
 use script_lang::{ScriptError, read_script};
+use script_run::Schedule;
 use sock_io::{Linker, Sink, Source, write_all};
 use std::alloc::Global;
 
 pub const NOT_BUILT: &[u8] = b"not built\n";
 
-/// Reads a script and runs it by its own schedule.
+/// Reads a script and runs it by a schedule: its own, or one that is drawn.
 pub fn replay<S: Source, K: Sink, L: Linker>(
     alloc: Global,
     source: &mut S,
     out: &mut K,
     links: &mut L,
+    schedule: Schedule,
 ) -> Status
     requires opened { L.opened links.old ≡ 0 }
     requires back { L.back links.old ≡ [] }
-    ensures { ReplayedInput
+    ensures { ReplayedInput (λ script. turns_of script schedule)
         (record { given = S.left source.old; left = S.left source.new; faults = record { before = S.faults source.old; now = S.faults source.new } })
         (record { before = K.contents out.old; now = K.contents out.new; faults = record { before = K.faults out.old; now = K.faults out.new } })
         (record { prompt = L.prompt links.old; ends = L.back links.new; faults = record { before = L.faults links.old; now = L.faults links.new } })
@@ -34,7 +36,7 @@ pub fn replay<S: Source, K: Sink, L: Linker>(
         Err(InputFault::NoMemory) => return Status::NoMemory,
     };
     match read_script(alloc, &bytes) {
-        Ok(script) if is_built(script.lines()) => run_script(alloc, &script, out, links),
+        Ok(script) if is_built(&script) => run_and_report(alloc, &script, schedule, out, links),
         Ok(_) => {
             write_answer(out, NOT_BUILT);
             Status::NotBuilt

@@ -1,131 +1,60 @@
-ghost use Rattle.std.specs.Prelude.{◌≡◌, ◌≤◌, ◌<◌, true, false, ℕ, List, [], ◌∷◌, map, length, IfOk};
-ghost use Rattle.brpc_model.specs.Items.{Item, Open};
-ghost use Rattle.sock_programs.specs.Scripts.{is_quiet};
-ghost use Rattle.script_items.specs.Meaning.{item, shape_of};
-ghost use Rattle.sock_io.specs.Link.{SameOut};
-ghost use Rattle.brpc_eng.specs.Built.{is_one_link, begins_with_open, IsWithinLimits};
-ghost use Rattle.brpc_eng.specs.Sending.{sendings};
-ghost use Rattle.brpc_eng.specs.Run.{RanAndReported};
+ghost use Rattle.std.specs.Prelude.{◌≡◌, ℕ, List, [], Ok, true};
+ghost use Rattle.std.specs.List.{list_all, list_any};
+ghost use Rattle.brpc_model.specs.Script.{script_of};
+ghost use Rattle.script_items.specs.Meaning.{item};
+ghost use Rattle.sock_programs.specs.Scripts.{is_callless, is_later};
+ghost use Rattle.script_run.specs.Given.{has_piece};
+ghost use Rattle.script_run.specs.Played.{turns_of};
 ghost use Rattle.brpc_eng.specs.Status.{number_of};
-ghost use Rattle.brpc_eng.specs.Answers.{Links, Ran, TextWritten};
+ghost use Rattle.brpc_eng.specs.Answers.{Ran, TextWritten};
 
-use crate::built::opening;
-use crate::report::{linked_report, unlinked_report};
-use crate::sends::{run_sends, run_unopened};
 use crate::status::Status;
-use script_items::{Line, OpenLine};
-use sock_io::{Failed, LinkSpec, Linker, Mode, NoMemory, OpenFault, Out, Sink, write_all};
+use script_items::{Line, Script};
+use script_run::{RunFault, Schedule, run_script};
+use sock_io::{Failed, Linker, Sink, write_all};
 use std::alloc::Global;
 
-/// Runs a script of one link, one client and its sends, and writes its report.
-pub fn run_messages<K: Sink, L: Linker>(
+/// Whether a script has no call, and nothing on calls: only these are built.
+pub fn is_built(script: &Script) -> bool
+    ensures { result ≡ is_callless script.now }
+{
+    !has_calls(script.lines())
+}
+
+/// Whether there is a call, or an operation on one.
+fn has_calls(lines: &[Line]) -> bool
+    ensures { result ≡ list_any (λ line. is_later (item line)) lines.now }
+{
+    lines.iter().any(|line| matches!(line, Line::Call(_) | Line::Expire(_) | Line::Join(_)))
+}
+
+/// Runs a script that is built, and writes its report.
+pub fn run_and_report<K: Sink, L: Linker>(
     alloc: Global,
-    lines: &[Line],
+    script: &Script,
+    schedule: Schedule,
     out: &mut K,
     links: &mut L,
 ) -> Status
     requires opened { L.opened links.old ≡ 0 }
     requires back { L.back links.old ≡ [] }
-    requires loud { is_quiet (map item lines.now) ≡ false }
-    requires built { is_one_link (map item lines.now) ≡ true }
-    requires limits { IsWithinLimits (map item lines.now) }
-    ensures { Ran (map item lines.now)
+    requires script { (bytes : List ℕ) × (script_of bytes ≡ Ok script.now) }
+    requires built { is_callless script.now ≡ true }
+    requires pieces { list_all has_piece script.now ≡ true }
+    ensures { Ran (turns_of script.now schedule) script.now
         (record { before = K.contents out.old; now = K.contents out.new; faults = record { before = K.faults out.old; now = K.faults out.new } })
         (record { prompt = L.prompt links.old; ends = L.back links.new; faults = record { before = L.faults links.old; now = L.faults links.new } })
         (number_of result) }
 {
-    match opening(lines) {
-        Some(open) => run_linked(alloc, open, lines, out, links),
-        None => run_unlinked(alloc, lines, out),
-    }
-}
-
-/// Runs the sends of a script without a link.
-fn run_unlinked<K: Sink>(alloc: Global, lines: &[Line], out: &mut K) -> Status
-    requires loud { is_quiet (map item lines.now) ≡ false }
-    requires built { is_one_link (map item lines.now) ≡ true }
-    requires unlinked { begins_with_open (map item lines.now) ≡ false }
-    ensures { (links : Links) → links.ends ≡ [] → Ran (map item lines.now)
-        (record { before = K.contents out.old; now = K.contents out.new; faults = record { before = K.faults out.old; now = K.faults out.new } })
-        links (number_of result) }
-{
-    let Ok(outcomes) = run_unopened(alloc, lines) else {
-        return Status::NoMemory;
-    };
-    match unlinked_report(alloc, &outcomes) {
+    match run_script(alloc, script, schedule, links) {
         Ok(text) => write_report(out, &text),
-        Err(_) => Status::NoMemory,
-    }
-}
-
-/// Opens the link of a script, runs its sends over it, and gives it back.
-fn run_linked<K: Sink, L: Linker>(
-    alloc: Global,
-    open: &OpenLine,
-    lines: &[Line],
-    out: &mut K,
-    links: &mut L,
-) -> Status
-    requires opened { L.opened links.old ≡ 0 }
-    requires back { L.back links.old ≡ [] }
-    requires loud { is_quiet (map item lines.now) ≡ false }
-    requires built { is_one_link (map item lines.now) ≡ true }
-    requires limits { IsWithinLimits (map item lines.now) }
-    requires linked { (rest : List Item) × (map item lines.now ≡ Open «open».now.name (shape_of «open».now.shape) ∷ rest) }
-    ensures { Ran (map item lines.now)
-        (record { before = K.contents out.old; now = K.contents out.new; faults = record { before = K.faults out.old; now = K.faults out.new } })
-        (record { prompt = L.prompt links.old; ends = L.back links.new; faults = record { before = L.faults links.old; now = L.faults links.new } })
-        (number_of result) }
-{
-    let mut ends = match links.open(&spec_of(open)) {
-        Ok(ends) => ends,
-        Err(OpenFault::Failed) => return Status::OpenFailed,
-        Err(OpenFault::NoMemory) => return Status::NoMemory,
-    };
-    let text = run_over(alloc, &mut ends.out, open.name.as_slice(), lines);
-    ends.out.finish();
-    links.back(0, ends);
-    match text {
-        Ok(text) => write_report(out, &text),
-        Err(NoMemory) => Status::NoMemory,
-    }
-}
-
-/// What a line asks of its link.
-fn spec_of(open: &OpenLine) -> LinkSpec
-    ensures piece { result.piece ≡ «open».now.shape.piece }
-    ensures mode { result.mode ≡ Mode.Loop }
-{
-    LinkSpec {
-        mode: Mode::Loop,
-        piece: open.shape.piece,
-        again: open.shape.again,
-        fail: open.shape.fail,
-        serve: open.shape.serve,
-        end: open.shape.end,
-    }
-}
-
-/// Runs the sends over a link of this name, and makes the report.
-fn run_over<O: Out>(
-    alloc: Global,
-    out: &mut O,
-    name: &[u8],
-    lines: &[Line],
-) -> Result<Vec<u8>, NoMemory>
-    requires { length (sendings (map item lines.now)) ≤ 4096 }
-    ensures same { SameOut (O.state out.old) (O.state out.new) }
-    ensures ran { IfOk result (λ text. RanAndReported name.now (sendings (map item lines.now)) text.items (O.state out.old) (O.state out.new)) }
-{
-    let outcomes = run_sends(alloc, out, name, lines)?;
-    match linked_report(alloc, name, &outcomes, out.taken()) {
-        Ok(text) => Ok(text),
-        Err(_) => Err(NoMemory),
+        Err(RunFault::OpenFailed) => Status::OpenFailed,
+        Err(RunFault::NoMemory) => Status::NoMemory,
     }
 }
 
 /// Writes a report.
-pub fn write_report<K: Sink>(out: &mut K, text: &[u8]) -> Status
+fn write_report<K: Sink>(out: &mut K, text: &[u8]) -> Status
     ensures { TextWritten (record { before = K.contents out.old; now = K.contents out.new; faults = record { before = K.faults out.old; now = K.faults out.new } }) text.now (number_of result) }
 {
     match write_all(out, text) {

@@ -50,7 +50,7 @@ fn answer(
 }
 
 /// Scripts, with the put from which on the link fails (0: none), the status, and what is written.
-const ROWS: [(&str, u32, u8, &str); 10] = [
+const ROWS: [(&str, u32, u8, &str); 9] = [
     (
         "open a piece=1\nclient\nsend a 6869\n",
         0,
@@ -71,9 +71,13 @@ const ROWS: [(&str, u32, u8, &str); 10] = [
         0,
         "0.1 open 0 0 0\n1.1 placed 0 0\n1.2 unopened\n1.3 dropped 0 1\nlink 0 a accepted 2 placed 1 took 4 61626364\norder 0 1.1.0 1.3.0\nend\n",
     ),
-    ("client\nclient\nsend z 61", 0, 10, "not built\n"),
-    ("open a again=2\nclient\nsend a 61", 0, 10, "not built\n"),
-    ("open a\nopen b\nclient\nsend a 61", 0, 10, "not built\n"),
+    ("open a\nclient\ncall a E.E -", 0, 10, "not built\n"),
+    (
+        "open a\nopen b\nclient\nclient\nsend b 61",
+        0,
+        0,
+        "0.1 open 0 0 0\n0.2 open 1 0 1\n2.1 placed 1 0\nlink 0 a accepted 0 placed 0 took 0 -\norder 0\nlink 1 b accepted 1 placed 1 took 1 61\norder 1 2.1.0\nend\n",
+    ),
     (
         "open a\nclient\nsend a 6\n",
         0,
@@ -89,6 +93,65 @@ fn answers_scripts(rt: HostRuntime) -> Result<(), Fail> {
         let outside = Outside { put, ..CALM };
         let (answered, written) = answer(&rt, "replay", script.as_bytes(), outside)?;
         assert_eq!(rt; answered, status, "at {script}");
+        assert_eq!(rt; written.as_slice(), text.as_bytes(), "at {script}");
+    }
+    Ok(())
+}
+
+/// Scripts of several clients, or with links that are slow or fail, and their reports.
+const SENDS: [(&str, &str, &str); 9] = [
+    (
+        "replay",
+        "open a\nclient\nsend a 6161\nclient\nsend a 6262\nsched\nto 1 C2\nto 2 C3\nto 1 C4",
+        "0.1 open 0 0 0\n1.1 placed 0 0\n2.1 placed 0 1\nlink 0 a accepted 2 placed 2 took 4 61616262\norder 0 1.1.0 2.1.0\nend\n",
+    ),
+    (
+        "replay",
+        "open a\nclient\nsend a 61\nclient\nsend a 62\nclient\nsend a 63\nclient\nsend a 64\nsched\nto 1 C2\nto 2 C3\nto 3 C2\nto 4 C3\nto 1 C4\ntick 1 100",
+        "0.1 open 0 0 0\n1.1 placed 0 0\n2.1 placed 0 1\n3.1 placed 0 2\n4.1 placed 0 3\nlink 0 a accepted 4 placed 4 took 4 61626364\norder 0 1.1.0 2.1.0 3.1.0 4.1.0\nend\n",
+    ),
+    (
+        "replay",
+        "open a piece=3 fail=2\nclient\nsend a 61616161\nclient\nsend a 62626262\nsched\nto 1 C2\nto 2 C3",
+        "0.1 open 0 0 0\n1.1 dropped 0 0\n2.1 dropped 0 1\nlink 0 a accepted 2 placed 0 took 3 616161\norder 0 1.1.0 2.1.0\nend\n",
+    ),
+    (
+        "replay",
+        "open a\nclient\nsend a 6161\nclient\nfail a 1500\nclient\nsend a 6262\nsched\nto 1 C2\nto 3 C3\nto 1 L1\nto 1 A8\nto 2 A5",
+        "0.1 open 0 0 0\n1.1 placed 0 0\n2.1 failed\n3.1 dropped 0 1\nlink 0 a accepted 2 placed 1 took 2 6161\norder 0 1.1.0 3.1.0\nend\n",
+    ),
+    (
+        "replay",
+        "slots 1\nopen a\nclient\nhold a\nfail a 1500\nopen b\ndrop a\nopen c\nsend a 61",
+        "0.1 open 0 0 0\n1.1 held\n1.2 failed\n1.3 slots full\n1.4 freed\n1.5 open 0 2 2\n1.6 gone 0000000200000001\nlink 0 a accepted 0 placed 0 took 0 -\norder 0\nlink 1 b accepted 0 placed 0 took 0 -\norder 1\nlink 2 c accepted 0 placed 0 took 0 -\norder 2\nend\n",
+    ),
+    (
+        "replay",
+        "requests 1\nopen a\nclient\nsend a 61\nclient\nsend a 62\nsched\nto 1 C2\ntick 2 10",
+        "0.1 open 0 0 0\n1.1 placed 0 0\n2.1 full\nlink 0 a accepted 1 placed 1 took 1 61\norder 0 1.1.0\nend\n",
+    ),
+    (
+        "replay",
+        "open a again=2 piece=1\nclient\nsend a 616263",
+        "0.1 open 0 0 0\n1.1 placed 0 0\nlink 0 a accepted 1 placed 1 took 3 616263\norder 0 1.1.0\nend\n",
+    ),
+    (
+        "replay",
+        "open a again=2 fail=5 piece=1\nclient\nsend a 616263",
+        "0.1 open 0 0 0\n1.1 dropped 0 0\nlink 0 a accepted 1 placed 0 took 2 6162\norder 0 1.1.0\nend\n",
+    ),
+    (
+        "sim 7",
+        "open a piece=1\nclient\nsend a 6869\n",
+        "0.1 open 0 0 0\n1.1 placed 0 0\nlink 0 a accepted 1 placed 1 took 2 6869\norder 0 1.1.0\nend\n",
+    ),
+];
+
+#[test]
+fn reports_sends(rt: HostRuntime) -> Result<(), Fail> {
+    for (words, script, text) in SENDS {
+        let (answered, written) = answer(&rt, words, script.as_bytes(), CALM)?;
+        assert_eq!(rt; answered, 0, "at {script}");
         assert_eq!(rt; written.as_slice(), text.as_bytes(), "at {script}");
     }
     Ok(())
@@ -120,12 +183,11 @@ fn follows_a_schedule(rt: HostRuntime) -> Result<(), Fail> {
 }
 
 /// Words, with the status.
-const WORDS: [(&str, u8); 17] = [
+const WORDS: [(&str, u8); 16] = [
     ("--help", 2),
     ("", 2),
     ("replay now", 2),
     ("sim", 2),
-    ("sim 4294967295", 10),
     ("sim 4294967296", 2),
     ("sim 07", 2),
     ("sim -1", 2),

@@ -1,22 +1,23 @@
-use Rattle.std.proofs.Common.{◌∙◌, ap, Err}
-use Rattle.brpc_eng.proofs.ScriptLemmas.{within_limits}
+use Rattle.std.proofs.Common.{◌∙◌, ap, ap₂, sym, refl, Err}
+use Rattle.brpc_eng.proofs.Pieces.{has_pieces}
 use Rattle.brpc_eng.proofs.Replays.{replays_built, replays_unbuilt, replays_faulty}
 use Rattle.brpc_eng.proofs.replay.replay.Goals as goal
 
-pub run_script-requires-clause-limits : goal.run_script-requires-clause-limits
-run_script-requires-clause-limits g c κs within = within_limits c.deref.result.now _ c.in-Ok-read_script.ensures.script
+pub run_and_report-requires-clause-pieces : goal.run_and_report-requires-clause-pieces
+run_and_report-requires-clause-pieces g c κs within = has_pieces c.deref.result.now _ c.in-Ok-read_script.ensures.script
 
 pub returns-in-Ok-read_script : goal.returns-in-Ok-read_script
 returns-in-Ok-read_script g c =
-    replays_built _ _ _ _ c.in-Ok.ensures.came.0 c.deref.result.now c.in-Ok.bytes _ _ c.is_built.result c.in-Ok.ensures.came.1 c.deref.ensures.value c.in-Ok-read_script.ensures.script
-    c.lines.ensures c.is_built.ensures c.if-is_built.true c.run_script.ensures
+    replays_built _ _ _ _ _ c.in-Ok.ensures.came.0 c.deref.result.now c.in-Ok.bytes _ _ c.is_built.result c.in-Ok.ensures.came.1 c.deref.ensures.value c.in-Ok-read_script.ensures.script
+    refl c.is_built.ensures c.if-is_built.true c.run_and_report.ensures
 
 pub returns-in-Ok-2 : goal.returns-in-Ok-2
 returns-in-Ok-2 g c =
-    replays_unbuilt _ _ _ c.in-Ok.ensures.came.0 c.deref.result.now c.in-Ok.bytes _ _ c.is_built.result c.in-Ok.ensures.came.1 c.deref.ensures.value c.in-Ok-read_script.ensures.script
-    c.lines.ensures c.is_built.ensures c.if-is_built.false c.requires.back c.write_answer.ensures
+    replays_unbuilt _ _ _ _ c.in-Ok.ensures.came.0 c.deref.result.now c.in-Ok.bytes _ _ c.is_built.result c.in-Ok.ensures.came.1 c.deref.ensures.value c.in-Ok-read_script.ensures.script
+    refl c.is_built.ensures c.if-is_built.false c.requires.back c.write_answer.ensures
 
 pub returns-in-Err-Fault : goal.returns-in-Err-Fault
 returns-in-Err-Fault g c =
-    replays_faulty _ _ _ _ c.in-Err-Fault.line c.in-Err-Fault.kind c.in-Ok.ensures.came.0 c.deref.result.now c.in-Ok.bytes c.in-Ok.ensures.came.1 c.deref.ensures.value
-    (c.read_script.ensures.fault c.in-Err-Fault.line c.in-Err-Fault.kind (c.in-Err-Fault.is ∙ ap (λ x. Err x) c.in-Err-Fault.field-0-is)) c.requires.back c.write_fault.ensures
+    replays_faulty _ _ _ _ _ _ _ c.in-Ok.ensures.came.0 c.deref.result.now c.in-Ok.bytes c.in-Ok.ensures.came.1 c.deref.ensures.value
+    (c.read_script.ensures.fault c.in-Err-Fault.line c.in-Err-Fault.kind (c.in-Err-Fault.is ∙ ap (λ x. Err x) c.in-Err-Fault.field-0-is) ∙ ap₂ (λ a b. Err (a, b)) (sym c.in-Err-Fault.line-is) (sym c.in-Err-Fault.kind-is))
+    c.requires.back c.write_fault.ensures
