@@ -14,14 +14,23 @@ use Rattle.sock_model.specs.Weights.{total}
 use Rattle.sock_programs.specs.declared.task.Op.{Op}
 use Rattle.sock_programs.specs.declared.task.Op.TheVariants as ops
 use Rattle.sock_programs.specs.declared.task.Task.{Task}
-use Rattle.sock_programs.specs.Programs.{Program, Say, release, address, set_failed, fail, fail_outcome, hold, drop_held, end_open}
+use Rattle.sock_programs.specs.Programs.{Program, Say, Round, release, address, set_failed, fail, fail_outcome, hold, drop_held, end_open}
 use Rattle.sock_programs.specs.Clients.{HeldLife, held_under, without_name, give_back, drop_of, operation, client_from, ending_of}
 use Rattle.sock_programs.specs.Scripts.{sizes_of}
 use Rattle.sock_programs.specs.Told.{OpFits, TaskFits, in_hand_behind, goes_well, alternate}
 use Rattle.sock_runs.specs.GoesOn.{HasNothing, GoesOn}
 use Rattle.slot_laws.proofs.Numbers.{only-at, only-else}
+use Rattle.corr_core.specs.Word.{error_of}
+use Rattle.corr_core.specs.declared.marks.Plan.{Plan as IdPlan}
+use Rattle.sock_words.specs.declared.outcome.Outcome.TheVariants.{NotBegun, Joined}
+use Rattle.sock_programs.specs.Heads.{Joins}
+use Rattle.sock_programs.specs.Posts.{WHOLE, post_with, posted}
+use Rattle.sock_programs.specs.Attempts.{expire, expire_outcome, join}
+use Rattle.sock_runs.proofs.Passes.{way, post_with_goes, posted_goes}
+use Rattle.client_laws.proofs.Calling.{call_goes}
 use Rattle.client_laws.specs.Openings.{link_of, links_of}
-use Rattle.client_laws.proofs.Has.{Has, holds, about_top, about_cons, at_slot, holding, letting, has_nothing, from_nothing}
+use Rattle.sock_runs.specs.Has.{Has, holds}
+use Rattle.client_laws.proofs.Has.{about_top, about_cons, at_slot, holding, letting, has_nothing, from_nothing}
 use Rattle.client_laws.proofs.Held.{IsInTable, under, more_here, more_else, all_more, length_more, under_more, all_without, length_without, under_without, none_under, without_unheld, held_in_table, fewer_here, fewer_else}
 use Rattle.client_laws.proofs.Steps.{loads_open}
 use Rattle.client_laws.proofs.Sending.{send_goes}
@@ -31,7 +40,7 @@ use Rattle.client_laws.proofs.Parts.{Ready, release_goes, address_goes, reach_go
 
 module _ (p : Plan) {lists : List (List Entry)} {held : List HeldLife} {passes : List ℕ} (few : length held ≤ 4096) where
   -- a life is failed, and the reference to it given back
-  fails_held : (id code : ℕ) {v : View} → code ≢ 0 → socket_id_slot id < p.slots → Has lists (socket_id_slot id) (Hold (socket_id_version id) ∷ []) held passes [] v → (next : ℕ → Program)
+  pub fails_held : (id code : ℕ) {v : View} → code ≢ 0 → socket_id_slot id < p.slots → Has lists (socket_id_slot id) (Hold (socket_id_version id) ∷ []) held passes [] v → (next : ℕ → Program)
       → ((found : ℕ) (u : View) → Ready lists held passes u → GoesOn p u (next found)) → GoesOn p v (set_failed id code (λ found. release (socket_id_slot id) (λ _. next found)))
   fails_held id code some_ inside a next goes = set_failed_goes p id code some_ a inside few (λ found. release (socket_id_slot id) (λ _. next found))
       (λ u found b. release_goes p (socket_id_slot id) (Hold (socket_id_version id)) b (inr (socket_id_version id, refl, refl)) inside (λ _. next found) (λ c w. goes found w))
@@ -60,6 +69,15 @@ give_back_goes p [] all a = has_nothing a
 give_back_goes p (h ∷ hs) {passes} {v} all a = let i : ℕ = socket_id_slot h.id in let g : ℕ = socket_id_version h.id in
     release_goes p i (Hold g) (letting g hs (at_slot a i) (λ f. about_top f i (Hold g) (holds hs)) (λ f j n. about_cons f i j (Hold g) (holds hs) n)) (inr (g, refl, refl)) all.0 (λ _. give_back hs) (λ b u c. give_back_goes p hs all.1 c)
 
+-- ## On calls
+
+expire_goes : (p : Plan) (v : View) (o t : ℕ) (next : Program) → GoesOn p v next → GoesOn p v (expire o t next)
+expire_goes p v o t next goes = λ id _. way p v (eqb id 0) (Say o NotBegun next) (post_with id (error_of 1008 WHOLE) (λ how. posted id (error_of 1008 WHOLE) (Say o (expire_outcome how) next) how)) (λ _. goes)
+    (λ _. post_with_goes p v id (error_of 1008 WHOLE) (λ how. posted id (error_of 1008 WHOLE) (Say o (expire_outcome how) next) how) (λ how f. posted_goes p v id (error_of 1008 WHOLE) (Say o (expire_outcome how) next) goes how f))
+
+join_goes : (p : Plan) (v : View) → v.loose ≡ [] → (o t : ℕ) (next : Program) → GoesOn p v next → GoesOn p v (join o t next)
+join_goes p v loose o t next goes = λ id _. way p v (eqb id 0) (Say o NotBegun next) (Round (Joins id) (λ _. Say o Joined next)) (λ _. goes) (λ _. ((tt, loose), λ _ _. goes))
+
 -- ## A client
 
 -- what is held under each name, where `in_hand` says of which names something may be
@@ -67,14 +85,14 @@ abbrev pub HeldOnce : (ℕ → Bool) → List HeldLife → Type 0
 HeldOnce in_hand held = (n : ℕ) → total (under n) held ≤ cond (in_hand n) 1 0
 
 -- what follows an operation is allowed from what it may leave
-abbrev pub GoesOnFrom : Plan → List Task → Type 0
-GoesOnFrom p ts = (made : List Entry) (held : List HeldLife) (in_hand : ℕ → Bool) (u : View) → length made + length ts ≤ 4096 → AllByRecursion (IsInTable p) held → length held + length ts ≤ 4096
-    → ((n : ℕ) → alternate n (in_hand n) ts ≡ true) → HeldOnce in_hand held → Ready (made ∷ []) held (links_of ts) u → GoesOn p u (client_from (sizes_of p) held ts)
+abbrev pub GoesOnFrom : Plan → IdPlan → List Task → Type 0
+GoesOnFrom p q ts = (made : List Entry) (held : List HeldLife) (in_hand : ℕ → Bool) (u : View) → AllByRecursion (IsInTable p) held → length held + length ts ≤ 4096
+    → ((n : ℕ) → alternate n (in_hand n) ts ≡ true) → HeldOnce in_hand held → Ready (made ∷ []) held (links_of ts) u → GoesOn p u (client_from (sizes_of p q) held ts)
 
-module _ (p : Plan) (slots : p.slots ≤ 256) (requests : p.requests ≤ 4096) (o : ℕ) (mine : o < p.operations) (ts : List Task) (goes : GoesOnFrom p ts) (made : List Entry) (short : length made + length ts + 1 ≤ 4096) (held : List HeldLife) (in_hand : ℕ → Bool)
+module _ (p : Plan) (q : IdPlan) (slots : p.slots ≤ 256) (requests : p.requests ≤ 4096) (o : ℕ) (mine : o < p.operations) (ts : List Task) (goes : GoesOnFrom p q ts) (made : List Entry) (held : List HeldLife) (in_hand : ℕ → Bool)
     (all : AllByRecursion (IsInTable p) held) (few : length held + length ts + 1 ≤ 4096) (once : HeldOnce in_hand held) where
   abbrev next : List HeldLife → Program
-  next held = client_from (sizes_of p) held ts
+  next held = client_from (sizes_of p q) held ts
 
   -- a name that comes to be in hand may be held once more
   hold_once : (m : ℕ) → in_hand m ≡ false → (id : ℕ) → HeldOnce (λ n. in_hand_behind n (ops.Hold m) (in_hand n)) (held ++ (record { name = m; id = id }) ∷ [])
@@ -98,36 +116,40 @@ module _ (p : Plan) (slots : p.slots ≤ 256) (requests : p.requests ≤ 4096) (
 
   drop_op : (m : ℕ) (found : Option ℕ) → held_under m held ≡ found → ((n : ℕ) → alternate n (in_hand_behind n (ops.Drop m) (in_hand n)) ts ≡ true) → {v : View} → Ready (made ∷ []) held (links_of ts) v
       → GoesOn p v (drop_of o found (next (without_name m held)))
-  drop_op m None e rest {v} a = goes made (without_name m held) (λ n. in_hand_behind n (ops.Drop m) (in_hand n)) v (omega (arith, short)) (all_without p m held all) (omega (arith, length_without m held, few)) rest (drop_once m)
+  drop_op m None e rest {v} a = goes made (without_name m held) (λ n. in_hand_behind n (ops.Drop m) (in_hand n)) v (all_without p m held all) (omega (arith, length_without m held, few)) rest (drop_once m)
       (subst (λ l. Ready (made ∷ []) l (links_of ts) v) (sym (without_unheld m held e)) a)
   drop_op m (Some id) e rest {v} a = let few_ : total (under m) held ≤ 1 = at_most (in_hand m) (once m) in
       drop_goes p o id (held_in_table p m id held e all) (letting (socket_id_version id) (without_name m held) (at_slot a (socket_id_slot id)) (fewer_here m id held e few_) (fewer_else m id held e few_)) (next (without_name m held))
-      (λ u b. goes made (without_name m held) (λ n. in_hand_behind n (ops.Drop m) (in_hand n)) u (omega (arith, short)) (all_without p m held all) (omega (arith, length_without m held, few)) rest (drop_once m) b)
+      (λ u b. goes made (without_name m held) (λ n. in_hand_behind n (ops.Drop m) (in_hand n)) u (all_without p m held all) (omega (arith, length_without m held, few)) rest (drop_once m) b)
     where
       at_most : (b : Bool) → total (under m) held ≤ cond b 1 0 → total (under m) held ≤ 1
       at_most true h = h
       at_most false h = omega (arith, h)
 
   pub operation_goes : (op : Op) → OpFits p op → ((n : ℕ) → (goes_well n op (in_hand n) && alternate n (in_hand_behind n op (in_hand n)) ts) ≡ true) → {v : View} → Ready (made ∷ []) held (link_of op ++ links_of ts) v
-      → GoesOn p v (operation (sizes_of p) held o (λ held'. client_from (sizes_of p) held' ts) op)
+      → GoesOn p v (operation (sizes_of p q) held o (λ held'. client_from (sizes_of p q) held' ts) op)
   operation_goes (ops.Open name k) fits well a = open_goes p o name k mine fits.0 fits.1 (next held)
-      (λ u b. goes made held in_hand u (omega (arith, short)) all (omega (arith, few)) (λ n. (and_parts (goes_well n (ops.Open name k) (in_hand n)) _ (well n)).1) once b) p.slots 0 (omega arith) slots a
-  operation_goes (ops.Send name bytes) fits well a = send_goes p made (omega (arith, few)) requests (omega (arith, short)) o mine bytes fits.1 (next held)
-      (λ longer most u b. goes longer held in_hand u (omega (arith, most, short)) all (omega (arith, few)) (λ n. (and_parts (goes_well n (ops.Send name bytes) (in_hand n)) _ (well n)).1) once b) name fits.0 a
+      (λ u b. goes made held in_hand u all (omega (arith, few)) (λ n. (and_parts (goes_well n (ops.Open name k) (in_hand n)) _ (well n)).1) once b) p.slots 0 (omega arith) slots a
+  operation_goes (ops.Send name bytes) fits well a = send_goes p made (omega (arith, few)) requests o mine bytes fits.1 (next held)
+      (λ longer most u b. goes longer held in_hand u all (omega (arith, few)) (λ n. (and_parts (goes_well n (ops.Send name bytes) (in_hand n)) _ (well n)).1) once b) name fits.0 a
+  operation_goes (ops.Call asked) fits well a = call_goes p made held (links_of ts) (omega (arith, few)) requests asked fits (next held)
+      (λ longer most u b. goes longer held in_hand u all (omega (arith, few)) (λ n. (and_parts (goes_well n (ops.Call asked) (in_hand n)) _ (well n)).1) once b) q.slots a
+  operation_goes (ops.Expire t) fits well {v} a = expire_goes p v o t (next held) (goes made held in_hand v all (omega (arith, few)) (λ n. (and_parts (goes_well n (ops.Expire t) (in_hand n)) _ (well n)).1) once a)
+  operation_goes (ops.Join t) fits well {v} a = join_goes p v a.quiet.loose o t (next held) (goes made held in_hand v all (omega (arith, few)) (λ n. (and_parts (goes_well n (ops.Join t) (in_hand n)) _ (well n)).1) once a)
   operation_goes (ops.Hold name) fits well a = let rest : (n : ℕ) → alternate n (in_hand_behind n (ops.Hold name) (in_hand n)) ts ≡ true = λ n. (and_parts (goes_well n (ops.Hold name) (in_hand n)) _ (well n)).1 in
       let free : in_hand name ≡ false = not-true (in_hand name) (sym (cond-true (eqb name name) (not (in_hand name)) true (eq-eqb name name refl)) ∙ (and_parts (goes_well name (ops.Hold name) (in_hand name)) _ (well name)).0) in
       hold_goes p (omega (arith, few)) o name fits a (λ id. next (held ++ (record { name = name; id = id }) ∷ [])) (next held)
-      (λ u b. goes made held (λ n. in_hand_behind n (ops.Hold name) (in_hand n)) u (omega (arith, short)) all (omega (arith, few)) rest (keep_once name) b)
-      (λ id u slot b. let h : HeldLife = record { name = name; id = id } in goes made (held ++ h ∷ []) (λ n. in_hand_behind n (ops.Hold name) (in_hand n)) u (omega (arith, short)) (all_more p held h all slot) (omega (arith, length_more held h, few)) rest (hold_once name free id) b)
+      (λ u b. goes made held (λ n. in_hand_behind n (ops.Hold name) (in_hand n)) u all (omega (arith, few)) rest (keep_once name) b)
+      (λ id u slot b. let h : HeldLife = record { name = name; id = id } in goes made (held ++ h ∷ []) (λ n. in_hand_behind n (ops.Hold name) (in_hand n)) u (all_more p held h all slot) (omega (arith, length_more held h, few)) rest (hold_once name free id) b)
   operation_goes (ops.Drop name) fits well a = drop_op name (held_under name held) refl (λ n. (and_parts (goes_well n (ops.Drop name) (in_hand n)) _ (well n)).1) a
   operation_goes (ops.Fail name code) fits well a = fail_goes p (omega (arith, few)) o name code fits.0 fits.1 a (next held)
-      (λ u b. goes made held in_hand u (omega (arith, short)) all (omega (arith, few)) (λ n. (and_parts (goes_well n (ops.Fail name code) (in_hand n)) _ (well n)).1) once b)
+      (λ u b. goes made held in_hand u all (omega (arith, few)) (λ n. (and_parts (goes_well n (ops.Fail name code) (in_hand n)) _ (well n)).1) once b)
 
 -- a client with these tasks, which holds these lives and has the passes of the links that it opens, is allowed all that it does
-pub client_goes_on : (p : Plan) → p.slots ≤ 256 → p.requests ≤ 4096 → (ts : List Task) → AllByRecursion (TaskFits p) ts → GoesOnFrom p ts
-client_goes_on p slots requests [] fit made held in_hand u short all few rest once a = give_back_goes p held all a
-client_goes_on p slots requests (t ∷ ts) fit made held in_hand u short all few rest once a = let one = fit.0 in
-    operation_goes p slots requests t.number one.0 ts (client_goes_on p slots requests ts fit.1) made (omega (arith, short)) held in_hand all (omega (arith, few)) once t.op one.1 rest a
+pub client_goes_on : (p : Plan) (q : IdPlan) → p.slots ≤ 256 → p.requests ≤ 4096 → (ts : List Task) → AllByRecursion (TaskFits p) ts → GoesOnFrom p q ts
+client_goes_on p q slots requests [] fit made held in_hand u all few rest once a = (refl, (made, held, links_of [], a, omega (arith, few), λ longer w b. give_back_goes p held all b))
+client_goes_on p q slots requests (t ∷ ts) fit made held in_hand u all few rest once a = let one = fit.0 in
+    (refl, (made, held, links_of (t ∷ ts), a, omega (arith, few), λ longer w b. operation_goes p q slots requests t.number one.0 ts (client_goes_on p q slots requests ts fit.1) longer held in_hand all (omega (arith, few)) once t.op one.1 rest b))
 
 -- ## The ending
 

@@ -17,26 +17,14 @@ use Rattle.sock_model.specs.Marks.{about, at}
 use Rattle.sock_model.specs.SlotRows.{marks_of}
 use Rattle.sock_programs.specs.Programs.{LAST_VERSION}
 use Rattle.sock_programs.specs.Clients.{HeldLife}
-use Rattle.sock_runs.specs.GoesOn.{IsQuiet, HasNothing}
+use Rattle.sock_runs.specs.GoesOn.{HasNothing}
+use Rattle.sock_runs.specs.Has.{IsQuiet, OfTokens, Idle, holds, Has}
 use Rattle.sock_runs.specs.May.{KeepsRights}
 use Rattle.slot_laws.proofs.Sums.{total_mono, about-here, about-other}
 use Rattle.slot_laws.proofs.Numbers.{only-else}
 use Rattle.slot_laws.proofs.Slots.{probe_ref}
 
 -- ## Weights of tokens
-
--- the weight counts tokens alone, and none that waits
-pub record OfTokens (f : Mark → ℕ) : Type 0 where
-  pub tried : f Tried ≡ 0
-  pub known : (h : ℕ) → f (Known h) ≡ 0
-  pub born : (h : ℕ) → f (Born h) ≡ 0
-  pub saw : (w : ℕ) → f (Saw w) ≡ 0
-  pub failer : (h : ℕ) → f (Failer h) ≡ 0
-  pub stored : (h c : ℕ) → f (Stored h c) ≡ 0
-  pub told : (h c : ℕ) → f (Told h c) ≡ 0
-  pub freer : (h : ℕ) → f (Freer h) ≡ 0
-  pub linked : (h k : ℕ) → f (Linked h k) ≡ 0
-  pub met : (h k : ℕ) → f (Met h k) ≡ 0
 
 pub of_ref : OfTokens is_ref
 of_ref = record { tried = refl; known = λ x. refl; born = λ x. refl; saw = λ x. refl; failer = λ x. refl; stored = λ x y. refl; told = λ x y. refl; freer = λ x. refl; linked = λ x y. refl; met = λ x y. refl }
@@ -73,19 +61,6 @@ of_busy = record { tried = refl; known = λ x. refl; born = λ x. refl; saw = λ
 
 -- ## What is held
 
--- tokens that a seat may keep for good: slots that it recycled, whose versions are used up
-pub record Idle (rest : List SlotMark) : Type 0 where
-  pub refs : (i : ℕ) → total is_ref (about i rest) ≡ 0
-  pub zeros : (i w : ℕ) → total (is_zero w) (about i rest) ≡ 0
-  pub codes : (i : ℕ) → total is_any_coding (about i rest) ≡ 0
-  pub claims : (i : ℕ) → total is_claimed (about i rest) ≡ 0
-  pub retired : (i w : ℕ) → 0 < total (is_recycled w) (about i rest) → LAST_VERSION < w
-
--- the references of the held lives
-abbrev pub holds : List HeldLife → List SlotMark
-holds [] = []
-holds (h ∷ hs) = at (socket_id_slot h.id) (Hold (socket_id_version h.id)) ∷ holds hs
-
 -- a mark more of slot i, as slot j sees it
 pub about_cons : (f : Mark → ℕ) (i j : ℕ) (m : Mark) (es : List SlotMark) → ((j ≡ i) → ⊥) → total f (about j (at i m ∷ es)) ≡ total f (about j es)
 about_cons f i j m es n = ap (total f) (about-other j i m es n)
@@ -106,18 +81,6 @@ holds_none f z j (h ∷ hs) = omega (arith, about_le f (socket_id_slot h.id) j (
 pub holds_few : (j : ℕ) (hs : List HeldLife) → total is_ref (about j (holds hs)) ≤ length hs
 holds_few j [] = omega arith
 holds_few j (h ∷ hs) = omega (arith, about_le is_ref (socket_id_slot h.id) j (Hold (socket_id_version h.id)) (holds hs), holds_few j hs)
-
--- at slot s the seat has these tokens besides those of the lives that it holds, it has at least these passes, and these links in hand; these are its lists
--- of accepted entries, and it has nothing else on the chains
-pub record Has (lists : List (List Entry)) (s : ℕ) (t : List Mark) (held : List HeldLife) (passes links : List ℕ) (v : View) : Type 0 where
-  pub rest : List SlotMark
-  pub idle : Idle rest
-  pub here : (f : Mark → ℕ) → OfTokens f → marks_of f s v ≡ total f t + (total f (about s rest) + total f (about s (holds held)))
-  pub other : (f : Mark → ℕ) → OfTokens f → (j : ℕ) → j ≢ s → marks_of f j v ≡ total f (about j rest) + total f (about j (holds held))
-  pub passes_are : (k : ℕ) → total (only k) passes ≤ total (only k) v.passes
-  pub hands_are : map (λ (h : Hand). h.link) v.hands ≡ links
-  pub lists_are : v.lists ≡ lists
-  pub quiet : IsQuiet v
 
 -- ## How it changes
 

@@ -13,7 +13,8 @@ use Rattle.sock_model.specs.Weights.{total, only}
 use Rattle.sock_model.specs.Marks.{about, at}
 use Rattle.sock_programs.specs.Clients.{HeldLife, held_under, without_name}
 use Rattle.slot_laws.proofs.Numbers.{only-at, only-else}
-use Rattle.client_laws.proofs.Has.{holds}
+use Rattle.sock_runs.specs.Has.{holds}
+
 
 -- the life's slot is one of the table
 abbrev pub IsInTable : Plan → HeldLife → Type 0

@@ -3,11 +3,7 @@ pub mod Steps
 pub mod Parts
 pub mod Held
 pub mod Sending
+pub mod Calling
+pub mod Retrying
 pub mod Clients
-pub mod Beginning
-pub mod Passes
-pub mod Opens
-pub mod Lasting
-pub mod Whole
-pub mod Few
-pub mod Fresh
+pub mod Reading

@@ -15,7 +15,8 @@ use Rattle.sock_programs.specs.Programs.{Program, Do, Say, NO_SOCKET, LAST_VERSI
 use Rattle.sock_programs.specs.Clients.{HeldLife}
 use Rattle.sock_runs.specs.May.{Knows}
 use Rattle.sock_runs.specs.GoesOn.{GoesOn}
-use Rattle.client_laws.proofs.Has.{Has, at_slot, retiring}
+use Rattle.sock_runs.specs.Has.{Has}
+use Rattle.client_laws.proofs.Has.{at_slot, retiring}
 use Rattle.client_laws.proofs.Steps.{GoesFirst, claims, stores_link, resets, wipes, bears, adds, subs, sets_odd, stores_code, recycles, loads_link, frees, takes_last, takes_own, finishes, puts, loads_name, stores_open, stores_name}
 
 -- between its operations a seat holds these lives, and has these passes at least

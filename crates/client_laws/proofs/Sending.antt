@@ -24,13 +24,15 @@ use Rattle.sock_model.specs.Rule.{MOST_ACCEPTED}
 use Rattle.sock_programs.specs.Calls.{Connect}
 use Rattle.sock_programs.specs.Writings.{Puts}
 use Rattle.sock_programs.specs.Programs.{Program, Do, Say, Sent, TakeMessage, TakeHome, Write, release}
-use Rattle.sock_programs.specs.Sends.{write_link, heading_of, accept, claim_from, start, send}
+use Rattle.sock_programs.specs.Sends.{write_link, first_put, heading_of, accept, claim_from, start, send}
 use Rattle.sock_programs.specs.Clients.{HeldLife}
+use Rattle.sock_runs.proofs.Rounds.{first_goes}
 use Rattle.sock_runs.specs.Rows.{by_right, looked_clean, new_claim, filled_claim, ready_claim}
 use Rattle.sock_runs.specs.Writes.{IsNote, AreNotes, behind}
 use Rattle.sock_runs.specs.GoesOn.{GoesOn}
 use Rattle.slot_laws.proofs.Numbers.{only-same, pair-same}
-use Rattle.client_laws.proofs.Has.{Has, OfTokens, probes, codings, refs_few, about_top, no_links, of_hold}
+use Rattle.sock_runs.specs.Has.{Has, OfTokens}
+use Rattle.client_laws.proofs.Has.{probes, codings, refs_few, about_top, no_links, of_hold}
 use Rattle.client_laws.proofs.Held.{about_share}
 use Rattle.client_laws.proofs.Steps.{noted, first}
 use Rattle.client_laws.proofs.Parts.{Ready, release_goes, reach_goes}
@@ -90,15 +92,15 @@ own_of c = ticket_of c.request c.generation
 module _ (p : Plan) {lists : List (List Entry)} {held : List HeldLife} {passes : List ℕ} (id : ℕ) (inside : socket_id_slot id < p.slots) (few : length held ≤ 4096) (after : Program)
     (goes : (u : View) → Has lists (socket_id_slot id) (Hold (socket_id_version id) ∷ []) held passes [] u → GoesOn p u after) (c : Claim) (found : ℕ) (sent : List ℕ) (places : ℕ) where
   abbrev puts_of : Heading → List ℕ → Program
-  puts_of heading bytes = Write (Puts (record { id = id; link = c.link; last = own_of c; places = places }) (own_of c) heading bytes 0 false) after
+  puts_of heading bytes = first_put (record { id = id; link = c.link; last = own_of c; places = places }) (own_of c) heading bytes after
 
   -- at the head of the loop the message is in hand
   puts_goes : {w : View} → Has lists (socket_id_slot id) (Hold (socket_id_version id) ∷ []) held passes [] w → 0 < marks_of (is_met (socket_id_version id) c.link) (socket_id_slot id) w → (heading : Heading) (bytes : List ℕ)
       → heading.place < 8 * p.operations → bytes ≢ [] → GoesOn p (writing (taken_right (right_away c found sent places) heading bytes) w) (puts_of heading bytes)
-  puts_goes {w} a met heading bytes label some_ = let h : ℕ = socket_id_version id in (
-    (
-      taken_right (right_away c found sent places) heading bytes,
-      record {
+  puts_goes {w} a met heading bytes label some_ = let h : ℕ = socket_id_version id in first_goes p after (record { id = id; link = c.link; last = own_of c; places = places }) (own_of c) heading bytes 0 refl
+      (writing (taken_right (right_away c found sent places) heading bytes) w)
+      (taken_right (right_away c found sent places) heading bytes)
+      (record {
         one = refl;
         claims = a.quiet.claims;
         loose = a.quiet.loose;
@@ -111,8 +113,8 @@ module _ (p : Plan) {lists : List (List Entry)} {held : List HeldLife} {passes :
         room = omega (arith, refs_few a, few);
         no_probe = probes a;
         no_coding = codings a;
-      },
-      record {
+      })
+      (record {
         stage = refl;
         in_hand = refl;
         heading_is = refl;
@@ -121,10 +123,8 @@ module _ (p : Plan) {lists : List (List Entry)} {held : List HeldLife} {passes :
         some_left = some_;
         clean = λ z. absurd (omega (arith, z));
         label_in = label;
-      },
-    ),
-    λ notes are. goes (behind notes w) (behind_has a notes are),
-  )
+      })
+      (λ notes are. goes (behind notes w) (behind_has a notes are))
 
   message_goes : {w : View} → Has lists (socket_id_slot id) (Hold (socket_id_version id) ∷ []) held passes [] w → 0 < marks_of (is_met (socket_id_version id) c.link) (socket_id_slot id) w → (q : ℕ) → slot_of (own_of c) ≡ q
       → GoesOn p (writing (right_away c found sent places) w) (TakeMessage q puts_of)
@@ -134,7 +134,7 @@ module _ (p : Plan) {lists : List (List Entry)} {held : List HeldLife} {passes :
   )
 
   home_goes : {w : View} → Has lists (socket_id_slot id) (Hold (socket_id_version id) ∷ []) held passes [] w → 0 < marks_of (is_met (socket_id_version id) c.link) (socket_id_slot id) w → (q : ℕ) → slot_of (own_of c) ≡ q
-      → GoesOn p (writing (new_right c found sent places) w) (TakeHome c.link (λ n. TakeMessage q (λ heading bytes. Write (Puts (record { id = id; link = c.link; last = own_of c; places = n }) (own_of c) heading bytes 0 false) after)))
+      → GoesOn p (writing (new_right c found sent places) w) (TakeHome c.link (λ n. TakeMessage q (λ heading bytes. first_put (record { id = id; link = c.link; last = own_of c; places = n }) (own_of c) heading bytes after)))
   home_goes {w} a met q is = let r : Right = new_right c found sent places in (
     r,
     (refl, refl, refl, no_links w.hands a.hands_are),
@@ -146,7 +146,7 @@ module _ (p : Plan) {lists : List (List Entry)} {held : List HeldLife} {passes :
       → GoesOn p (writing (new_right c found sent places) w) (write_link id q (own_of c) after)
   write_link_goes {w} a met q is = let i : ℕ = socket_id_slot id in let h : ℕ = socket_id_version id in let r : Right = new_right c found sent places in (
     (inside, first (Hold h) a (is_hold h) (of_hold h) (only-same h)),
-    λ k hand f. subst (λ x. GoesOn p (writing r (met_link i h x w)) (TakeHome x (λ n. TakeMessage q (λ heading bytes. Write (Puts (record { id = id; link = x; last = own_of c; places = n }) (own_of c) heading bytes 0 false) after))))
+    λ k hand f. subst (λ x. GoesOn p (writing r (met_link i h x w)) (TakeHome x (λ n. TakeMessage q (λ heading bytes. first_put (record { id = id; link = x; last = own_of c; places = n }) (own_of c) heading bytes after))))
         (sym (f.1 c.link met)) (home_goes (noted a (Met h c.link) (λ f o. o.met h c.link)) (omega (arith, about_top (is_met h c.link) i (Met h c.link) w.marks, pair-same h c.link)) q is),
   )
 
@@ -187,7 +187,7 @@ connected_has {v = v} a q before = record {
 }
 
 module _ (p : Plan) (made : List Entry) {held : List HeldLife} {passes : List ℕ} (id : ℕ) (inside : socket_id_slot id < p.slots) (few : length held ≤ 4096) (requests : p.requests ≤ 4096)
-    (short : length made < MOST_ACCEPTED) (after : Program)
+    (after : Program)
     (goes : (longer : List Entry) → length longer ≤ length made + 1 → (u : View) → Has (longer ∷ []) (socket_id_slot id) (Hold (socket_id_version id) ∷ []) held passes [] u → GoesOn p u after) where
   longer_by : (e : Entry) → length (made ++ e ∷ []) ≤ length made + 1
   longer_by e = omega (arith, length-append made (e ∷ []))
@@ -203,7 +203,7 @@ module _ (p : Plan) (made : List Entry) {held : List HeldLife} {passes : List �
       subst (λ rs. GoesOn p (record (accepted w e) { rights = new_right c found took next ∷ rs }) (write_link id c.request (own_of c) after)) (sym a.quiet.rights)
       (write_link_goes p id inside few after (goes (made ++ e ∷ []) (longer_by e)) c found took next (accepted_has a e) met c.request (slot_is c.request c.generation (omega (arith, in_table, requests))))
 
-  accept_goes : {w : View} → Has (made ∷ []) (socket_id_slot id) (Hold (socket_id_version id) ∷ []) held passes [] w → (k q word : ℕ) → 0 < marks_of (is_met (socket_id_version id) k) (socket_id_slot id) w
+  pub accept_goes : {w : View} → Has (made ∷ []) (socket_id_slot id) (Hold (socket_id_version id) ∷ []) held passes [] w → (k q word : ℕ) → 0 < marks_of (is_met (socket_id_version id) k) (socket_id_slot id) w
       → q < p.requests → (heading : Heading) (bytes : List ℕ) → heading.place < 8 * p.operations → bytes ≢ []
       → GoesOn p (record w { claims = new_claim k q word ∷ [] }) (accept id q (word / 2) heading bytes after)
   accept_goes {w} a k q word met in_table heading bytes label some_ = let h : ℕ = socket_id_version id in
@@ -214,8 +214,7 @@ module _ (p : Plan) (made : List Entry) {held : List HeldLife} {passes : List �
           λ x₂ hand₂ f₂. (
             (
               inside,
-              (
-                record {
+              record {
                   claim = c₃;
                   claims = refl;
                   is_filled = refl;
@@ -228,8 +227,6 @@ module _ (p : Plan) (made : List Entry) {held : List HeldLife} {passes : List �
                   taken_in = [];
                   lists = a.lists_are;
                 },
-                short,
-              ),
             ),
             λ found hand f. exchange_branch a c₃ met in_table (ltb found IDLE) found hand.took hand.next,
           ),
@@ -238,7 +235,7 @@ module _ (p : Plan) (made : List Entry) {held : List HeldLife} {passes : List �
 
 -- ## A request is claimed
 
-module _ (p : Plan) (made : List Entry) {held : List HeldLife} {passes : List ℕ} (few : length held ≤ 4096) (requests : p.requests ≤ 4096) (short : length made < MOST_ACCEPTED) (o : ℕ) (mine : o < p.operations)
+module _ (p : Plan) (made : List Entry) {held : List HeldLife} {passes : List ℕ} (few : length held ≤ 4096) (requests : p.requests ≤ 4096) (o : ℕ) (mine : o < p.operations)
     (bytes : List ℕ) (some_ : bytes ≢ []) (next : Program)
     (goes : (longer : List Entry) → length longer ≤ length made + 1 → (u : View) → Ready (longer ∷ []) held passes u → GoesOn p u next) where
   -- behind an accepted message
@@ -262,7 +259,7 @@ module _ (p : Plan) (made : List Entry) {held : List HeldLife} {passes : List �
       branch : GoesOn p v (claim_from left (q + 1) o id bytes next) → (b : Bool) (found k : ℕ) → GoesOn p (cond b (with_claim (met_link (socket_id_slot id) (socket_id_version id) k v) (new_claim k q found)) v)
           (cond b (accept id q (found / 2) (heading_of o) bytes (release (socket_id_slot id) (λ _. Sent o next))) (claim_from left (q + 1) o id bytes next))
       branch lost true found k = let i : ℕ = socket_id_slot id in let h : ℕ = socket_id_version id in
-          accept_goes p made id inside few requests short (release i (λ _. Sent o next)) (λ longer most u b. release_sent longer most id inside b)
+          accept_goes p made id inside few requests (release i (λ _. Sent o next)) (λ longer most u b. release_sent longer most id inside b)
           (noted a (Met h k) (λ f o. o.met h k)) k q found (omega (arith, about_top (is_met h k) i (Met h k) v.marks, pair-same h k)) (omega (arith, fits)) (heading_of o) bytes (omega (arith, mine)) some_
       branch lost false found k = lost
 

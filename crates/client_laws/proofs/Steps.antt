@@ -30,7 +30,8 @@ use Rattle.slot_laws.proofs.Numbers.{only-same, only-else, pair-same}
 use Rattle.slot_laws.proofs.Frame.{about-without, about-without_else, passes-without}
 use Rattle.slot_laws.proofs.Slots.{probe_is, hold_is, zero_is, stage_is, any_recycled, recycled_le, busy-parts}
 use Rattle.slot_laws.proofs.Codes.{coding_as}
-use Rattle.client_laws.proofs.Has.{Has, OfTokens, becomes, marked, kept, probes, codings, refs_few, keeps_rights, still, about_top, at_slot, no_links, of_ref, of_hold, of_probe, of_zero, of_coding, of_stage, of_recycled}
+use Rattle.sock_runs.specs.Has.{Has, OfTokens}
+use Rattle.client_laws.proofs.Has.{becomes, marked, kept, probes, codings, refs_few, keeps_rights, still, about_top, at_slot, no_links, of_ref, of_hold, of_probe, of_zero, of_coding, of_stage, of_recycled}
 
 -- ## Marks that come and go
 
@@ -299,7 +300,7 @@ module _ (p : Plan) {lists : List (List Entry)} {s : ℕ} {held : List HeldLife}
       → ((word : ℕ) (u : View) → Knows p u (word - 1) → Has lists (socket_id_slot (word - 1)) [] held passes links u → GoesOn p u (y word)) → GoesOn p v (Do (LoadName n) (λ word. cond (eqb word 0) x (y word)))
   loads_name n inside x y none_ one = (inside, λ word hand f. found_branch p a word (eqb word 0) (λ e. f.1) f.0 refl x (y word) none_ (one word))
 
-  ends_branch : (word : ℕ) (b c : Bool) → b ≡ eqb word 0 → c ≡ eqb word NO_SOCKET → (is_id word ≡ true → socket_id_slot (word - 1) < p.slots) → (x y : Program) → GoesOn p v x
+  pub ends_branch : (word : ℕ) (b c : Bool) → b ≡ eqb word 0 → c ≡ eqb word NO_SOCKET → (is_id word ≡ true → socket_id_slot (word - 1) < p.slots) → (x y : Program) → GoesOn p v x
       → ((u : View) → Knows p u (word - 1) → Has lists (socket_id_slot (word - 1)) [] held passes links u → GoesOn p u y) → GoesOn p (found_id word v) (cond b x (cond c x y))
   ends_branch word true c is is₁ inside x y none_ one = subst (λ u. GoesOn p u x) (sym (cond-false (is_id word) _ v (ap not (ap (λ b. b || eqb word NO_SOCKET) (sym is))))) none_
   ends_branch word false true is is₁ inside x y none_ one = subst (λ u. GoesOn p u x) (sym (cond-false (is_id word) _ v (ap not (ap₂ (λ b c. b || c) (sym is) (sym is₁))))) none_

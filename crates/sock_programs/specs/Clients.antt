@@ -6,8 +6,9 @@ use Rattle.sock_programs.specs.declared.task.Op.{Op}
 use Rattle.sock_programs.specs.declared.task.Op.TheVariants as ops
 use Rattle.sock_programs.specs.declared.task.Task.{Task}
 use Rattle.sock_programs.specs.declared.task.Sizes.{Sizes}
-use Rattle.sock_programs.specs.Programs.{Program, Rest, Say, open_from, fail, hold, drop_held, release, end_open}
+use Rattle.sock_programs.specs.Programs.{Program, Rest, Say, Retries, open_from, fail, hold, drop_held, release, end_open}
 use Rattle.sock_programs.specs.Sends.{send}
+use Rattle.sock_programs.specs.Attempts.{call, expire, join}
 
 -- ## Held references
 
@@ -41,14 +42,17 @@ drop_of o (Some id) next = drop_held o id next
 abbrev pub operation : Sizes → List HeldLife → ℕ → (List HeldLife → Program) → Op → Program
 operation sizes held o next (ops.Open name k) = open_from sizes.slots 0 o name k (next held)
 operation sizes held o next (ops.Send name bytes) = send sizes.requests o name bytes (next held)
+operation sizes held o next (ops.Call asked) = call sizes.requests sizes.ids asked (next held)
+operation sizes held o next (ops.Expire t) = expire o t (next held)
+operation sizes held o next (ops.Join t) = join o t (next held)
 operation sizes held o next (ops.Hold name) = hold o name (λ id. next (held ++ (record { name = name; id = id }) ∷ [])) (next held)
 operation sizes held o next (ops.Drop name) = drop_of o (held_under name held) (next (without_name name held))
 operation sizes held o next (ops.Fail name code) = fail o name code (next held)
 
--- these tasks in order, from these held lives on
+-- these tasks in order, from these held lives on; before each, and behind the last, the retries that wait are tried
 abbrev pub client_from : Sizes → List HeldLife → List Task → Program
-client_from sizes held [] = give_back held
-client_from sizes held (t ∷ ts) = operation sizes held t.number (λ held'. client_from sizes held' ts) t.op
+client_from sizes held [] = Retries sizes.requests (give_back held)
+client_from sizes held (t ∷ ts) = Retries sizes.requests (operation sizes held t.number (λ held'. client_from sizes held' ts) t.op)
 
 -- the ending by seat 0 goes over these `open` operations
 abbrev pub ending_of : List ℕ → Program

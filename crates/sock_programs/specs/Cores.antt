@@ -1,5 +1,5 @@
 -- All seats on one thread as plain data, and what one tick of one seat makes of it.
-use Rattle.std.specs.Prelude.{ℕ, ◌+◌, ◌-◌, ◌*◌, ◌%◌, ◌==◌, true, false, if◌then◌else◌, bit_or, List, [], ◌∷◌, ◌++◌, slice_index, slice_set}
+use Rattle.std.specs.Prelude.{ℕ, ◌+◌, ◌-◌, ◌*◌, ◌%◌, ◌==◌, true, false, if◌then◌else◌, bit_or, List, [], ◌∷◌, ◌++◌, slice_index, slice_index_or, slice_set, Bool}
 use Rattle.std.specs.Prelude as std
 use mathlib.Core.Option.{Option, some, none}
 use lib.ListN.{get_elem?}
@@ -12,19 +12,35 @@ use Rattle.sock_model.specs.Deliveries.{place_value}
 use Rattle.sock_model.specs.Layout.{tag_word, ref_word, link_word, head_word, code_word, name_word, open_word, request_word, next_word, place_word}
 use Rattle.sock_programs.specs.Calls.{Call, ClaimSlot, GiveBirth, AddRef, SubRef, SetOdd, Recycle, FreeSlot, StoreLink, LoadLink, ResetHead, WipeCode, StoreCode, StoreName, LoadName, StoreOpen, LoadOpen, TakeLink, FinishLink, PutLink, LookWord, FindLink, LoadCode, ClaimRequest, PutMessage, Unconnect, SwapHead, Connect, EmptyHead, ReadNext, TurnNext, FreeRequest, StorePlace, DropPlace}
 use Rattle.sock_words.specs.Words.{socket_id_slot, vref_version}
-use Rattle.sock_programs.specs.Programs.{Program, Do, Say, Sent}
+use Rattle.sock_programs.specs.Programs.{Program, Do, Say, Sent, Keep, Retries}
+use Rattle.sock_programs.specs.Heads.{Retry}
+use Rattle.sock_programs.specs.Attempts.{retry}
+use Rattle.sock_programs.specs.declared.task.Asked.{Asked}
+use Rattle.corr_core.specs.declared.marks.Plan.{Plan as IdPlan}
 
 -- a seat: what it has still to do, and the links that it has in hand, the latest first
 pub record SeatState : Type 0 where
   pub program : Program
   pub hand : List Home
 
--- the words, the homes of requests and links, each with what lies there or nothing, the seats, and the outcome of each operation so far
+-- what stands aside of the sockets: the sizes, words and homes of the table of ids, of each seat the retries that wait, the oldest first,
+-- of each link what its reading half gave, and whether the run is ending
+pub record Calls : Type 0 where
+  pub plan : IdPlan
+  pub words : List ℕ
+  pub homes : List (Option (std.Option Asked))
+  pub waiting : List (List Retry)
+  pub gave : List (List ℕ)
+  pub ending : Bool
+
+-- the words, the homes of requests and links, each with what lies there or nothing, the seats, the outcome of each operation so far, and what
+-- stands aside of the sockets
 pub record Core : Type 0 where
   pub words : List ℕ
   pub homes : List (Option Home)
   pub seats : List SeatState
   pub outcomes : List (std.Option Outcome)
+  pub calls : Calls
 
 -- ## The words
 
@@ -143,6 +159,24 @@ module _ (p : Plan) where
 
 -- ## What is said, and the next step
 
+-- where the retries that the seat keeps are to be tried, the oldest goes first, and where none waits what follows
+abbrev pub resolved : List Retry → Program → Program
+resolved w (Say o outcome next) = Say o outcome (resolved w next)
+resolved w (Sent o next) = Sent o (resolved w next)
+resolved w (Keep r next) = resolved (w ++ r ∷ []) next
+resolved [] (Retries requests after) = resolved [] after
+resolved (r ∷ w) (Retries requests after) = retry requests r.id r.attempt (Retries requests after)
+resolved w other = other
+
+-- the retries that still wait then
+abbrev pub still_waiting : List Retry → Program → List Retry
+still_waiting w (Say o outcome next) = still_waiting w next
+still_waiting w (Sent o next) = still_waiting w next
+still_waiting w (Keep r next) = still_waiting (w ++ r ∷ []) next
+still_waiting [] (Retries requests after) = still_waiting [] after
+still_waiting (r ∷ w) (Retries requests after) = w
+still_waiting w other = w
+
 -- the outcomes with those that are said before the next step
 abbrev pub said : Program → List (std.Option Outcome) → List (std.Option Outcome)
 said (Say o outcome next) os = said next (slice_set os o (std.Some outcome))
@@ -155,13 +189,17 @@ next_step (Say o outcome next) = next_step next
 next_step (Sent o next) = next_step next
 next_step other = other
 
+abbrev pub waiting_at : List (List Retry) → ℕ → List Retry
+waiting_at ws i = slice_index_or ws i []
+
 -- seat i has this program and this in hand, and said what comes before its next step
 abbrev pub with_seat : ℕ → Program → List Home → List ℕ → List (Option Home) → Core → Core
 with_seat i program hand ws hs c = record {
   words = ws;
   homes = hs;
-  seats = slice_set c.seats i (record { program = next_step program; hand = hand });
-  outcomes = said program c.outcomes;
+  seats = slice_set c.seats i (record { program = next_step (resolved (waiting_at c.calls.waiting i) program); hand = hand });
+  outcomes = said (resolved (waiting_at c.calls.waiting i) program) c.outcomes;
+  calls = record c.calls { waiting = slice_set c.calls.waiting i (still_waiting (waiting_at c.calls.waiting i) program) };
 }
 
 -- a step of seat i, which goes on by what it found

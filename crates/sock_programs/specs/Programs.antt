@@ -7,6 +7,8 @@ use Rattle.sock_io.specs.declared.link.Put.{Put}
 use Rattle.sock_io.specs.declared.link.Ready.{Ready}
 use Rattle.sock_model.specs.declared.chain.Heading.{Heading}
 use Rattle.sock_programs.specs.Writings.{Writing}
+use Rattle.sock_programs.specs.Asides.{Step, Found}
+use Rattle.sock_programs.specs.Heads.{Head, Exit, Retry}
 use Rattle.sock_programs.specs.Calls.{Call, ClaimSlot, GiveBirth, AddRef, SubRef, SetOdd, Recycle, FreeSlot, StoreLink, LoadLink, ResetHead, WipeCode, StoreCode, StoreName, LoadName, StoreOpen, LoadOpen, TakeLink, FinishLink, PutLink}
 
 -- what a seat has still to do: a step, and what follows by the word found; an operation's outcome, which takes no step; or nothing.
@@ -14,6 +16,8 @@ use Rattle.sock_programs.specs.Calls.{Call, ClaimSlot, GiveBirth, AddRef, SubRef
 -- of its home, where what follows is told how many of its messages have places, and home again with that number; a put into the link in hand,
 -- which has answered before or not that it takes more, and the question whether it does, where what follows is told what it answers. And it
 -- comes to the heads of loops. Of an operation whose message was accepted nothing is said: its place word tells the outcome.
+-- Steps on ids and at reading halves stand aside of the table of the sockets, as do the loops made of them. A retry is kept, which takes no
+-- step; and where the retries that the seat keeps are to be tried, over a table of so many requests, the oldest goes first.
 pub data Program : Type 0 where
   Do : Call → (ℕ → Program) → Program
   Say : ℕ → Outcome → Program → Program
@@ -25,6 +29,10 @@ pub data Program : Type 0 where
   PutBytes : ℕ → Bool → List ℕ → (Put → Program) → Program
   AskReady : ℕ → (Ready → Program) → Program
   Write : Writing → Program → Program
+  Aside : (step : Step) → (Found step → Program) → Program
+  Round : (head : Head) → (Exit head → Program) → Program
+  Keep : Retry → Program → Program
+  Retries : ℕ → Program → Program
 
 -- ## Words
 

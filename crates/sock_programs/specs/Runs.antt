@@ -9,7 +9,9 @@ use Rattle.sock_words.specs.declared.plain.Plan.{Plan}
 use Rattle.brpc_model.specs.Operations.{Turn, Ticks, Until}
 use Rattle.sock_programs.specs.Calls.{kind_of}
 use Rattle.sock_programs.specs.Writings.{Writing, Puts, Waits, Empties, Walks}
-use Rattle.sock_programs.specs.Programs.{Program, Do, TakeMessage, TakeHome, PutHome, PutBytes, AskReady, Write}
+use Rattle.sock_programs.specs.Programs.{Program, Do, TakeMessage, TakeHome, PutHome, PutBytes, AskReady, Write, Aside, Round}
+use Rattle.sock_programs.specs.Asides.{kind_aside}
+use Rattle.sock_programs.specs.Rounds.{kind_of_round}
 use Rattle.sock_programs.specs.Cores.{Core}
 use Rattle.sock_programs.specs.Ticks.{Moment, seats_of, ticked, run, waits}
 
@@ -30,6 +32,8 @@ kind_in (PutHome k n after) = Some L2
 kind_in (PutBytes k asked bytes next) = Some W1
 kind_in (AskReady k next) = Some W2
 kind_in (Write w after) = Some (head_kind w)
+kind_in (Aside step next) = Some (kind_aside step)
+kind_in (Round head next) = Some (kind_of_round head)
 kind_in other = None
 
 -- the kind of the next step of seat i, where it has one

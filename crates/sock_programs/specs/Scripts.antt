@@ -1,5 +1,5 @@
 -- The run of a script: how it begins, its setup, its schedule, the rounds until no client has a step left, and the ending.
-use Rattle.std.specs.Prelude.{ℕ, zero, suc, ◌≡◌, ◌+◌, ◌-◌, ◌*◌, Bool, true, false, not, List, [], ◌∷◌, ◌++◌, map, flat_map, fold, replicate, slice_index, None}
+use Rattle.std.specs.Prelude.{ℕ, zero, suc, ◌≡◌, ◌⊎◌, ◌+◌, ◌-◌, ◌*◌, Bool, true, false, not, List, [], ◌∷◌, ◌++◌, map, flat_map, fold, length, replicate, slice_index, None}
 use Rattle.std.specs.List.{AllByRecursion, list_any}
 use mathlib.Core.Option as core
 use Rattle.sock_words.specs.declared.plain.Plan.{Plan}
@@ -8,17 +8,19 @@ use Rattle.sock_model.specs.declared.home.Home.{Home}
 use Rattle.sock_model.specs.declared.home.Home.TheVariants.{Link}
 use Rattle.sock_model.specs.Layout.{all_words, place_word}
 use Rattle.brpc_model.specs.Items.{Item, Send, Call, Expire, Join}
-use Rattle.brpc_model.specs.Operations.{Turn, Ticks, clients}
+use Rattle.brpc_model.specs.Operations.{Turn, Ticks, clients, link_names}
 use Rattle.brpc_model.specs.Drawn.{sim_seats}
 use Rattle.brpc_model.specs.Report.{Report}
 use Rattle.brpc_model.specs.PlaceWords.{IsReportOf}
-use Rattle.sock_programs.specs.Programs.{Program}
+use Rattle.sock_programs.specs.Programs.{Program, Rest}
+use Rattle.sock_programs.specs.Readers.{reader}
+use Rattle.corr_core.specs.declared.marks.Plan.{Plan as IdPlan}
 use Rattle.sock_programs.specs.declared.task.Task.{Task}
 use Rattle.sock_programs.specs.declared.task.Sizes.{Sizes}
-use Rattle.sock_programs.specs.Tasks.{tasks, opens, plan_of}
+use Rattle.sock_programs.specs.Tasks.{tasks, opens, calls, plan_of, id_plan_of}
 use Rattle.sock_programs.specs.Clients.{client_from, ending_of}
-use Rattle.sock_programs.specs.Cores.{Core, said, next_step, with_seat, lies_at, link_place}
-use Rattle.sock_programs.specs.Ticks.{Answer, Moment, quiet, seats_of, run, AreAnswered, IsPrompt, broken_in, answers_in}
+use Rattle.sock_programs.specs.Cores.{Calls, Core, resolved, said, next_step, with_seat, lies_at, link_place}
+use Rattle.sock_programs.specs.Ticks.{Answer, Moment, quiet, seats_of, ticked, run, waits, AreAnswered, IsPrompt, broken_in, answers_in}
 use Rattle.sock_programs.specs.Runs.{IsAtRest, IsSettled, from_to, rounds, Scheduled}
 
 -- ## Which scripts
@@ -64,21 +66,46 @@ abbrev pub opening_homes : Plan → List (core.Option Home)
 opening_homes p = replicate p.requests core.none ++ new_links 0 p.links
 
 -- how many slots and requests a table has
-abbrev pub sizes_of : Plan → Sizes
-sizes_of p = record { slots = p.slots; requests = p.requests }
+abbrev pub sizes_of : Plan → IdPlan → Sizes
+sizes_of p q = record { slots = p.slots; requests = p.requests; ids = q.slots }
 
 -- the programs of these clients, over a table of these sizes
 abbrev pub programs : Sizes → List (List Task) → List Program
 programs sizes clients = map (client_from sizes []) clients
 
+-- the table of ids: each slot is free, at the first version 1
+abbrev pub opening_ids : ℕ → List ℕ
+opening_ids zero = []
+opening_ids (suc n) = 0 ∷ 274877906944 ∷ opening_ids n
+
+abbrev pub opening_calls : IdPlan → ℕ → Calls
+opening_calls q links = record {
+  plan = q;
+  words = opening_ids q.slots ++ replicate (2 * q.operations) 0;
+  homes = replicate q.slots (core.some None);
+  waiting = replicate q.seats [];
+  gave = replicate links [];
+  ending = false;
+}
+
 -- the seats have these programs
-abbrev pub beginning : Plan → List Program → Core
-beginning p programs = record {
+abbrev pub beginning : Plan → IdPlan → List Program → Core
+beginning p q programs = record {
   words = opening_words p;
   homes = opening_homes p;
-  seats = map (λ (program : Program). record { program = next_step program; hand = [] }) programs;
-  outcomes = fold (λ os program. said program os) (replicate p.operations None) programs;
+  seats = map (λ (program : Program). record { program = next_step (resolved [] program); hand = [] }) programs;
+  outcomes = fold (λ os program. said (resolved [] program) os) (replicate p.operations None) programs;
+  calls = opening_calls q p.links;
 }
+
+-- the readers of the links, of which the next has this number; each link has the number of its `open`
+abbrev pub readers_from : List ℕ → ℕ → List ℕ → List Program
+readers_from calls k [] = []
+readers_from calls k (o ∷ os) = reader calls k o ∷ readers_from calls (k + 1) os
+
+-- the seats of clients stand before those of the readers, which begin at 32
+abbrev pub all_programs : List Program → List Program → List Program
+all_programs clients readers = clients ++ (replicate (32 - length clients) Rest ++ readers)
 
 -- the tasks of so many clients from this one on
 abbrev pub tasks_from : List Item → ℕ → ℕ → List (List Task)
@@ -90,13 +117,18 @@ abbrev pub all_tasks : List Item → List (List Task)
 all_tasks script = tasks_from script 0 (clients script + 1)
 
 abbrev pub opened : List Item → Core
-opened script = beginning (plan_of script) (programs (sizes_of (plan_of script)) (all_tasks script))
+opened script = beginning (plan_of script) (id_plan_of script)
+    (all_programs (programs (sizes_of (plan_of script) (id_plan_of script)) (all_tasks script)) (readers_from (calls script) 0 (opens script)))
 
 -- ## How it goes on
 
 -- seat 0 begins the ending
 abbrev pub ending : List Item → Core → Core
 ending script c = with_seat 0 (ending_of (opens script)) [] c.words c.homes c
+
+-- and behind it the run is ending, so that a reading ends where nothing more is there
+abbrev pub is_ending : Core → Core
+is_ending c = record c { calls = record c.calls { ending = true } }
 
 -- the core behind so many ticks of the setup, which asks no link
 abbrev pub set_up : List Item → ℕ → Core
@@ -130,6 +162,50 @@ pub record IsRunOf (script : List Item) (turns : List Turn) (end_ : Core) : Type
   pub last : ℕ
   pub is_end : end_ ≡ run (plan_of script) (ending script (played script setup (scheduled ++ later))) (replicate last (quiet 0))
   pub is_ended : IsSettled end_
+
+-- ## With calls
+
+-- the seats that `settle` ticks in a round: the clients, and then the readers
+abbrev pub round_of : List Item → List ℕ
+round_of script = from_to 1 (clients script) ++ from_to 32 (length (link_names script))
+
+abbrev pub rounds_of : ℕ → List Item → List ℕ
+rounds_of zero script = []
+rounds_of (suc n) script = round_of script ++ rounds_of n script
+
+-- no tick of these moves: each seat waits, or has no step left
+abbrev pub AreStill : Plan → Core → List Moment → Type 0
+AreStill p c [] = Unit {0}
+AreStill p c (m ∷ ms) = (IsAtRest c m.seat ⊎ (waits p c m ≡ true)) × AreStill p (ticked p c m) ms
+
+-- rounds up to one that moved nothing
+pub record Settles (script : List Item) (c : Core) (moments : List Moment) : Type 0 where
+  pub more : ℕ
+  pub moved : List Moment
+  pub last : List Moment
+  pub all : moments ≡ moved ++ last
+  pub in_rounds : seats_of moved ≡ rounds_of more script
+  pub one_more : seats_of last ≡ round_of script
+  pub still : AreStill (plan_of script) (run (plan_of script) c moved) last
+
+-- the core in which the run of a script ends by these lines of a schedule: rounds up to one that moved nothing, the ending, and such rounds again
+pub record IsRunWithCalls (script : List Item) (turns : List Turn) (end_ : Core) : Type 0 where
+  pub setup : ℕ
+  pub is_set_up : IsAtRest (set_up script setup) 0
+  pub scheduled : List Moment
+  pub by_schedule : Scheduled (plan_of script) (set_up script setup) turns scheduled
+  pub later : List Moment
+  pub settles : Settles script (played script setup scheduled) later
+  pub answered : AreAnswered (plan_of script) (set_up script setup) (scheduled ++ later)
+  pub last : ℕ
+  pub ended : Core
+  pub is_ended : ended ≡ is_ending (run (plan_of script) (ending script (played script setup (scheduled ++ later))) (replicate last (quiet 0)))
+  pub is_over : IsAtRest ended 0
+  pub final : List Moment
+  pub settles_again : Settles script ended final
+  pub answered_again : AreAnswered (plan_of script) ended final
+  pub prompt : AllByRecursion IsPrompt (scheduled ++ later ++ final)
+  pub is_end : end_ ≡ run (plan_of script) ended final
 
 -- what the links that were asked answered in the run, one after another
 abbrev pub answers_of : {script : List Item} {turns : List Turn} {end_ : Core} → IsRunOf script turns end_ → List Answer

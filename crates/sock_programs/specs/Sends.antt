@@ -1,5 +1,5 @@
 -- The program of a `send`, and of whoever writes a link: each loop unrolled by one round.
-use Rattle.std.specs.Prelude.{ℕ, zero, suc, ◌+◌, ◌*◌, ◌/◌, ◌%◌, ◌==◌, true, false, List, length, drop, nat_lt, nat_le, if◌then◌else◌}
+use Rattle.std.specs.Prelude.{ℕ, zero, suc, ◌+◌, ◌*◌, ◌/◌, ◌%◌, ◌==◌, true, false, List, [], length, drop, nat_lt, nat_le, if◌then◌else◌}
 use Rattle.sock_words.specs.Words.{socket_id_version, socket_id_slot, vref_version}
 use Rattle.sock_words.specs.declared.outcome.Outcome.TheVariants.{Unopened, Gone, Full}
 use Rattle.sock_io.specs.declared.link.Put.{Put}
@@ -11,8 +11,9 @@ use Rattle.sock_model.specs.Entries.{ticket_of, slot_of, generation_of}
 use Rattle.sock_model.specs.Memory.{IDLE, UNCONNECTED}
 use Rattle.sock_programs.specs.Calls.{LookWord, FindLink, LoadCode, ClaimRequest, PutMessage, Unconnect, SwapHead, Connect, EmptyHead, ReadNext, TurnNext, FreeRequest, StorePlace, DropPlace}
 use Rattle.sock_programs.specs.Writings.{Holder, Writing, Puts, Waits, Empties, Walks}
-use Rattle.sock_message.specs.Pieces.{piece}
+use Rattle.sock_programs.specs.Parts.{part}
 use Rattle.sock_programs.specs.Programs.{Program, Do, Say, Sent, TakeMessage, TakeHome, PutHome, PutBytes, AskReady, Write, LAST_GENERATION, reach, release, set_failed}
+use Rattle.sock_programs.specs.Posts.{post}
 
 -- ## Writing
 
@@ -24,16 +25,23 @@ freed now next = if generation_of now == LAST_GENERATION then next else Do (Free
 abbrev pub one_more : Holder → Holder
 one_more h = record h { places = h.places + 1 }
 
--- the message of ticket `now` has its place: the head is tried next, or the message that follows is taken
+-- the message of ticket `now` has its place, and what is told of it comes first: the head is tried next, or the message that follows is taken
+abbrev pub passed_telling : Holder → ℕ → (Program → Program) → Program → Program
+passed_telling h now tells after = if now == h.last then freed now (tells (Write (Empties h) after))
+    else Do (ReadNext (slot_of now)) (λ next. freed now (tells (TakeMessage (slot_of next) (λ heading bytes. Write (Puts h next heading bytes 0 false) after))))
+
 abbrev pub passed : Holder → ℕ → Program → Program
-passed h now after = if now == h.last then freed now (Write (Empties h) after)
-    else Do (ReadNext (slot_of now)) (λ next. freed now (TakeMessage (slot_of next) (λ heading bytes. Write (Puts h next heading bytes 0 false) after)))
+passed h now after = passed_telling h now (λ next. next) after
+
+-- the call whose message was dropped is posted the code, or 1009 where none was stored yet
+abbrev pub tell_drop : Heading → ℕ → Program → Program
+tell_drop heading code next = if heading.owner == 0 then next else post heading.owner (if code == 0 then 1009 else code) heading.attempt next
 
 abbrev pub placed : Holder → ℕ → Heading → Program → Program
 placed h now heading after = Do (StorePlace heading.place h.link h.places) (λ _. passed (one_more h) now after)
 
 abbrev pub dropped : Holder → ℕ → Heading → Program → Program
-dropped h now heading after = Do (LoadCode (socket_id_slot h.id) (socket_id_version h.id)) (λ _. Do (DropPlace heading.place h.link h.places) (λ _. passed (one_more h) now after))
+dropped h now heading after = Do (LoadCode (socket_id_slot h.id) (socket_id_version h.id)) (λ code. Do (DropPlace heading.place h.link h.places) (λ _. passed_telling (one_more h) now (tell_drop heading code) after))
 
 -- a failed link sets its socket failed
 abbrev pub link_failed : Holder → Program → Program
@@ -55,7 +63,7 @@ ready_answered h now heading left taken after asks.Failed = link_failed h (Write
 -- one round from the head of a loop. A look comes before each put; what a failed socket still has is dropped.
 abbrev pub block : Writing → Program → Program
 block (Puts h now heading left taken asked) after = Do (LookWord h.id) (λ found.
-    if vref_version found % 2 == 0 then PutBytes h.link asked (piece left taken) (put_answered h now heading left taken after)
+    if vref_version found % 2 == 0 then PutBytes h.link asked (part heading.parts left taken) (put_answered h now heading left taken after)
     else dropped h now heading after)
 block (Waits h now heading left taken) after = AskReady h.link (ready_answered h now heading left taken after)
 block (Empties h) after = PutHome h.link h.places (Do (EmptyHead (socket_id_slot h.id) h.last) (λ found.
@@ -68,14 +76,20 @@ block (Walks h top at after) then_ = Do (ReadNext (slot_of at)) (λ found.
 
 -- ## Sending
 
+-- the first look and the one put behind it; where the socket was found failed, the loop begins with a look of its own
+abbrev pub first_put : Holder → ℕ → Heading → List ℕ → Program → Program
+first_put h now heading bytes after = Do (LookWord h.id) (λ found.
+    if vref_version found % 2 == 0 then PutBytes h.link false (part heading.parts bytes 0) (put_answered h now heading bytes 0 after)
+    else Write (Puts h now heading bytes 0 false) after)
+
 -- whoever found an idle head writes the link until the head is idle again
 abbrev pub write_link : ℕ → ℕ → ℕ → Program → Program
 write_link id q own after = Do (FindLink (socket_id_slot id) (socket_id_version id)) (λ k. TakeHome k (λ places. TakeMessage q (λ heading bytes.
-    Write (Puts (record { id = id; link = k; last = own; places = places }) own heading bytes 0 false) after)))
+    first_put (record { id = id; link = k; last = own; places = places }) own heading bytes after)))
 
 -- what stands with the message of operation o: its place word is the first of the operation's eight
 abbrev pub heading_of : ℕ → Heading
-heading_of o = record { client = 0; operation = o; attempt = 0; place = 8 * o; owner = 0 }
+heading_of o = record { client = 0; operation = o; attempt = 0; place = 8 * o; owner = 0; parts = [] }
 
 -- the message is accepted with request q, whose generation is g
 abbrev pub accept : ℕ → ℕ → ℕ → Heading → List ℕ → Program → Program

@@ -1,10 +1,12 @@
 -- The operations of a script with numbers in place of names and links.
-use Rattle.std.specs.Prelude.{ℕ, ◌+◌, ◌==◌, if◌then◌else◌, List, [], ◌∷◌, length, filter, filter_map, option_map, bytes_eq, Option, Some, None}
+use Rattle.std.specs.Prelude.{ℕ, ◌+◌, ◌==◌, ◌&&◌, if◌then◌else◌, List, [], ◌∷◌, length, map, filter, filter_map, option_map, bytes_eq, Option, Some, None}
 use Rattle.sock_words.specs.declared.plain.Plan.{Plan}
 use Rattle.sock_programs.specs.declared.task.Op.{Op}
 use Rattle.sock_programs.specs.declared.task.Op.TheVariants as ops
 use Rattle.sock_programs.specs.declared.task.Task.{Task}
-use Rattle.brpc_model.specs.Items.{Item, Open, Send, Fail, Hold, Drop, is_open}
+use Rattle.sock_programs.specs.declared.task.Asked.{Asked}
+use Rattle.corr_core.specs.declared.marks.Plan.{Plan as IdPlan}
+use Rattle.brpc_model.specs.Items.{Item, Open, Send, Call, Expire, Join, Fail, Hold, Drop, CallLine, is_open, is_call}
 use Rattle.brpc_model.specs.Places.{names}
 use Rattle.brpc_model.specs.Operations.{Operation, operations, clients, link_names, slots, requests, first_version}
 
@@ -32,25 +34,52 @@ numbered script = numbered_from 0 0 (operations script)
 abbrev pub of_client : ℕ → List Numbered → List Numbered
 of_client client ops = filter (λ (n : Numbered). n.op.client == client) ops
 
--- what an item asks for, by numbers; other operations aren't among the tasks yet
-abbrev pub op_of : List (List ℕ) → ℕ → Item → Option Op
-op_of names link (Open name shape) = Some (ops.Open (name_number names name) link)
-op_of names link (Send name bytes) = Some (ops.Send (name_number names name) bytes)
-op_of names link (Hold name) = Some (ops.Hold (name_number names name))
-op_of names link (Drop name) = Some (ops.Drop (name_number names name))
-op_of names link (Fail name code) = Some (ops.Fail (name_number names name) code)
-op_of names link other = None
+-- the number of the call `C.I`
+abbrev pub number_of : List Numbered → ℕ → ℕ → ℕ
+number_of [] client i = 0
+number_of (n ∷ ns) client i = if (n.op.client == client) && (n.op.number == i) then n.number else number_of ns client i
 
-abbrev pub task_of : List (List ℕ) → Numbered → Option Task
-task_of names n = option_map (λ (op : Op). record { number = n.number; op = op }) (op_of names n.link n.op.item)
+abbrev pub asked_of : List (List ℕ) → ℕ → CallLine → Asked
+asked_of names o call = record {
+  operation = o;
+  names = map (name_number names) call.names;
+  service = call.service;
+  method = call.method;
+  payload = call.payload;
+  attachment = call.attachment;
+  range = call.retry + 2;
+}
+
+-- what an item asks for, by numbers
+abbrev pub op_of : List Numbered → List (List ℕ) → Numbered → Item → Option Op
+op_of all names n (Open name shape) = Some (ops.Open (name_number names name) n.link)
+op_of all names n (Send name bytes) = Some (ops.Send (name_number names name) bytes)
+op_of all names n (Call call) = Some (ops.Call (asked_of names n.number call))
+op_of all names n (Expire client i) = Some (ops.Expire (number_of all client i))
+op_of all names n (Join client i) = Some (ops.Join (number_of all client i))
+op_of all names n (Hold name) = Some (ops.Hold (name_number names name))
+op_of all names n (Drop name) = Some (ops.Drop (name_number names name))
+op_of all names n (Fail name code) = Some (ops.Fail (name_number names name) code)
+op_of all names n other = None
+
+abbrev pub task_of : List Numbered → List (List ℕ) → Numbered → Option Task
+task_of all names n = option_map (λ (op : Op). record { number = n.number; op = op }) (op_of all names n n.op.item)
 
 -- the tasks of a client, in order; client 0 is the setup
 abbrev pub tasks : List Item → ℕ → List Task
-tasks script client = filter_map (task_of (names script)) (of_client client (numbered script))
+tasks script client = filter_map (task_of (numbered script) (names script)) (of_client client (numbered script))
 
 -- the numbers of the `open` operations, in order of their links
 abbrev pub opens : List Item → List ℕ
 opens script = filter_map (λ (n : Numbered). if is_open n.op.item then Some n.number else None) (numbered script)
+
+-- and of the `call` operations
+abbrev pub calls : List Item → List ℕ
+calls script = filter_map (λ (n : Numbered). if is_call n.op.item then Some n.number else None) (numbered script)
+
+-- the sizes of its table of ids: each call has an id slot, and each client and reader a seat
+abbrev pub id_plan_of : List Item → IdPlan
+id_plan_of script = record { slots = length (calls script); operations = length (operations script); seats = 32 + length (link_names script) }
 
 -- the sizes of a script's table
 abbrev pub plan_of : List Item → Plan

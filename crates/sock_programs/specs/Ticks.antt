@@ -1,5 +1,6 @@
 -- A tick of one seat: its next step, with what the link in its hand answers.
-use Rattle.std.specs.Prelude.{ℕ, ◌≡◌, ◌≢◌, ◌<◌, ◌≤◌, ◌==◌, Bool, true, false, if◌then◌else◌, List, [], ◌∷◌, ◌++◌, length, take, map, fold, slice_index, slice_set}
+use Rattle.std.specs.Prelude.{ℕ, ◌≡◌, ◌≢◌, ◌<◌, ◌≤◌, ◌==◌, ◌&&◌, not, Bool, true, false, if◌then◌else◌, List, [], ◌∷◌, ◌++◌, length, take, map, fold, slice_index, slice_set}
+use Rattle.std.specs.Prelude as std
 use mathlib.Core.Option.{Option, some, none}
 use lib.ListN.{get_elem?}
 use Rattle.sock_words.specs.declared.plain.Plan.{Plan}
@@ -16,15 +17,26 @@ use Rattle.sock_model.specs.Memory.{UNCONNECTED}
 use Rattle.sock_model.specs.Messages.{Letter}
 use Rattle.sock_model.specs.Reads.{message, link_home}
 use Rattle.sock_programs.specs.Writings as heads
-use Rattle.sock_programs.specs.Programs.{Program, Do, TakeMessage, TakeHome, PutHome, PutBytes, AskReady, Write}
+use Rattle.sock_programs.specs.Programs.{Program, Do, TakeMessage, TakeHome, PutHome, PutBytes, AskReady, Write, Aside, Round}
+use Rattle.sock_programs.specs.declared.task.Asked.{Asked}
+use Rattle.sock_programs.specs.Asides.{Step, Found, TakeBytes, Taking, Bytes, Nothing, id_slot, id_first}
+use Rattle.sock_programs.specs.Heads.{Head, Exit, Locks, Joins, Opens, Reads, Discards}
+use Rattle.sock_programs.specs.Posts.{is_first, is_sought}
+use Rattle.sock_programs.specs.Readers.{room_of}
+use Rattle.sock_programs.specs.Rounds.{round}
+use Rattle.sock_programs.specs.Beside.{found_in, calls_after}
+use Rattle.sock_model.specs.Layout.{open_word}
+use Rattle.id_rule.specs.Lawful as ids
+use Rattle.corr_core.specs.Word.{parts}
 use Rattle.sock_programs.specs.Sends.{block}
-use Rattle.sock_programs.specs.Cores.{Core, SeatState, lies_at, first_of, others_of, link_place, with_seat, stepped}
+use Rattle.sock_programs.specs.Cores.{Calls, Core, SeatState, lies_at, first_of, others_of, link_place, with_seat, stepped}
 
 -- what a link answered in a tick, where it was asked
 pub data Answer : Type 0 where
   Unasked : Answer
   OfPut : Put → Answer
   OfReady : Ready → Answer
+  OfTake : Taking → Answer
 
 -- a tick of a seat, with what the link in its hand answers
 pub record Moment : Type 0 where
@@ -55,6 +67,11 @@ abbrev pub onto_first : (Home → Home) → List Home → List Home
 onto_first change [] = []
 onto_first change (x ∷ xs) = change x ∷ xs
 
+-- what a take was answered
+abbrev pub taken : Answer → Option Taking
+taken (OfTake t) = some t
+taken other = none
+
 -- ## A tick
 
 module _ (p : Plan) (i : ℕ) (seat : SeatState) (c : Core) where
@@ -77,6 +94,11 @@ module _ (p : Plan) (i : ℕ) (seat : SeatState) (c : Core) where
   with_ready (OfReady answer) next = with_seat i (next answer) seat.hand c.words c.homes c
   with_ready other next = c
 
+  -- a step aside of the sockets, which found this
+  abbrev pub with_found : (step : Step) → Option (Found step) → (Found step → Program) → Core
+  with_found step none next = c
+  with_found step (some found) next = with_seat i (next found) seat.hand c.words c.homes (record c { calls = calls_after step found c.calls })
+
   -- the next step of a seat in this state, which isn't at the head of a loop
   abbrev pub step_with : Answer → Program → Core
   step_with answer (Do call next) = stepped p i seat call next c
@@ -85,11 +107,13 @@ module _ (p : Plan) (i : ℕ) (seat : SeatState) (c : Core) where
   step_with answer (PutHome k n after) = with_seat i after (others_of seat.hand) c.words (slice_set c.homes (link_place p k) (first_of (onto_first (with_places n) seat.hand))) c
   step_with answer (PutBytes k asked bytes next) = with_put bytes answer next
   step_with answer (AskReady k next) = with_ready answer next
+  step_with answer (Aside step next) = with_found step (found_in step c.calls (taken answer)) next
   step_with answer other = c
 
   -- at the head of a loop it is the first step of the next round
   abbrev pub tick_with : Answer → Program → Core
   tick_with answer (Write w after) = step_with answer (block w after)
+  tick_with answer (Round head next) = step_with answer (round head next)
   tick_with answer other = step_with answer other
 
 -- a tick of a seat; where there is no such seat nothing changes
@@ -108,8 +132,19 @@ FitsPut asked bytes (Took n) = (0 < n) × (n ≤ length bytes)
 FitsPut asked bytes Again = asked ≡ false
 FitsPut asked bytes other = Unit {0}
 
+-- a take gives some bytes, as many as there is room for at most
+abbrev pub FitsTake : ℕ → Taking → Type 0
+FitsTake room (Bytes bytes) = (0 < length bytes) × (length bytes ≤ room)
+FitsTake room other = Unit {0}
+
+abbrev pub IsTaken : ℕ → Answer → Type 0
+IsTaken room answer = (t : Taking) × (answer ≡ OfTake t) × FitsTake room t
+
 -- a seat whose next step asks its link is answered
 abbrev pub IsAnswer : Program → Answer → Type 0
+IsAnswer (Aside (TakeBytes k room) next) answer = IsTaken room answer
+IsAnswer (Round (Reads r) next) answer = IsTaken (room_of r.total) answer
+IsAnswer (Round (Discards k total) next) answer = IsTaken (room_of total) answer
 IsAnswer (PutBytes k asked bytes next) answer = (put : Put) × (answer ≡ OfPut put) × FitsPut asked bytes put
 IsAnswer (AskReady k next) answer = (ready : Ready) × (answer ≡ OfReady ready)
 IsAnswer (Write (heads.Waits h now heading left taken) after) answer = (ready : Ready) × (answer ≡ OfReady ready)
@@ -159,9 +194,23 @@ answers_in p c (m ∷ ms) = answers_at c m ++ answers_in p (ticked p c m) ms
 -- ## Waiting
 
 -- the seat waits: for the next word of the entry to which its walk has come, or for its link to take more. Its tick changes nothing.
+abbrev pub is_nothing : Bool → Answer → Bool
+is_nothing ending (OfTake Nothing) = not ending
+is_nothing ending other = false
+
+-- for an id that another seat has locked, or, of a `join`, that hasn't ended, for the word of an `open`, or for more bytes
+abbrev pub waits_in : Plan → List ℕ → Calls → Answer → Head → Bool
+waits_in p ws a answer (Locks i sought std.None) = let w = parts (slice_index a.words (ids.id_word i)) in is_sought sought w && not (w.state == 1)
+waits_in p ws a answer (Joins id) = is_first (id_first id) (parts (slice_index a.words (ids.id_word (id_slot id))))
+waits_in p ws a answer (Opens o) = slice_index ws (open_word p o) == 0
+waits_in p ws a answer (Reads r) = is_nothing a.ending answer
+waits_in p ws a answer (Discards k total) = is_nothing a.ending answer
+waits_in p ws a answer other = false
+
 abbrev pub waits_at : Plan → Core → Answer → Program → Bool
 waits_at p c answer (Write (heads.Walks h top at after) then_) = slice_index c.words (next_word p (slot_of at)) == UNCONNECTED
 waits_at p c (OfReady NotYet) (Write (heads.Waits h now heading left taken) then_) = true
+waits_at p c answer (Round head next) = waits_in p c.words c.calls answer head
 waits_at p c answer other = false
 
 abbrev pub waits : Plan → Core → Moment → Bool

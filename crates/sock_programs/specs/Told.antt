@@ -11,6 +11,8 @@ use Rattle.sock_model.specs.Deliveries.{place_value}
 use Rattle.sock_programs.specs.declared.task.Op.{Op}
 use Rattle.sock_programs.specs.declared.task.Op.TheVariants as ops
 use Rattle.sock_programs.specs.declared.task.Task.{Task}
+use Rattle.sock_programs.specs.declared.task.Asked.{Asked}
+use Rattle.sock_programs.specs.Attempts.{name_of}
 use Rattle.sock_programs.specs.Cores.{Core}
 use Rattle.sock_programs.specs.Runs.{from_to}
 use Rattle.sock_programs.specs.Scripts.{took_at_home}
@@ -18,9 +20,18 @@ use Rattle.sock_programs.specs.Scripts.{took_at_home}
 -- ## Tasks that a table may be asked for
 
 -- the numbers of a task are those of the table, a message has from 1 to 65,536 bytes, and a code isn't 0
+pub record AskedFits (p : Plan) (asked : Asked) : Type 0 where
+  pub operation : asked.operation < p.operations
+  pub names : (n : ℕ) → name_of asked n < p.names
+  pub range_low : 2 ≤ asked.range
+  pub range_high : asked.range ≤ 8
+
 abbrev pub OpFits : Plan → Op → Type 0
 OpFits p (ops.Open n k) = (n < p.names) × (k < p.links)
 OpFits p (ops.Send n bytes) = (n < p.names) × (bytes ≢ []) × (length bytes ≤ 65536)
+OpFits p (ops.Call asked) = AskedFits p asked
+OpFits p (ops.Expire t) = t < p.operations
+OpFits p (ops.Join t) = t < p.operations
 OpFits p (ops.Hold n) = n < p.names
 OpFits p (ops.Drop n) = n < p.names
 OpFits p (ops.Fail n c) = (n < p.names) × (c ≢ 0)

@@ -3,4 +3,4 @@
 
 pub mod task;
 
-pub use task::{Op, Sizes, Task};
+pub use task::{Asked, Op, Sizes, Task};

@@ -1,5 +1,17 @@
 use sock_message::Message;
 
+/// A call as it lies in its home: the number of its operation, the numbers of its one or two names, what is asked of whom, and how many versions its id has.
+#[derive(Drop)]
+pub struct Asked {
+    pub operation: u16,
+    pub names: [u16; 0],
+    pub service: [u8; 0],
+    pub method: [u8; 0],
+    pub payload: [u8; 0],
+    pub attachment: [u8; 0],
+    pub range: u8,
+}
+
 /// An operation of a client, with numbers in place of the names and links of its script.
 #[derive(Drop)]
 pub enum Op {
@@ -7,6 +19,11 @@ pub enum Op {
     Open(u16, u16),
     /// `send`: the name's number, the message.
     Send(u16, Message),
+    /// `call`: what is asked.
+    Call(Asked),
+    /// `expire`, and `join`: the number of the call's operation.
+    Expire(u16),
+    Join(u16),
     /// `hold`: the name's number.
     Hold(u16),
     /// `drop`: the name's number.
@@ -22,9 +39,10 @@ pub struct Task {
     pub op: Op,
 }
 
-/// How many slots and requests a table has. An `open` and a `send` go over them.
+/// How many slots, requests and id slots a table has. An `open`, a `send` and a `call` go over them.
 #[derive(Clone, Copy, Debug, PartialEq, Eq)]
 pub struct Sizes {
     pub slots: u16,
     pub requests: u16,
+    pub ids: u16,
 }

@@ -8,7 +8,8 @@ use Rattle.sock_model.specs.declared.view.View.{View}
 use Rattle.sock_model.specs.Layout.{tag_word, ref_word, link_word, head_word, code_word, all_words, name_word, open_word, request_word, next_word, place_word}
 use Rattle.sock_model.specs.Memory.{IDLE}
 use Rattle.sock_programs.specs.Calls.{Call, ClaimSlot, GiveBirth, AddRef, SubRef, SetOdd, Recycle, FreeSlot, StoreLink, LoadLink, ResetHead, WipeCode, StoreCode, StoreName, LoadName, StoreOpen, LoadOpen, TakeLink, FinishLink, PutLink, LookWord, FindLink, LoadCode, ClaimRequest, PutMessage, Unconnect, SwapHead, Connect, EmptyHead, ReadNext, TurnNext, FreeRequest, StorePlace, DropPlace}
-use Rattle.sock_programs.specs.Programs.{Program, Do, Say, Sent, Rest, TakeMessage, TakeHome, PutHome, PutBytes, AskReady, Write}
+use Rattle.sock_programs.specs.Programs.{Program, Do, Say, Sent, Rest, TakeMessage, TakeHome, PutHome, PutBytes, AskReady, Write, Aside, Round, Keep, Retries}
+use Rattle.sock_runs.proofs.Passes.{goes_round}
 use Rattle.sock_programs.specs.Cores.{Core, SeatState, word_of, found_at}
 use Rattle.sock_runs.specs.Rows.{hand_at}
 use Rattle.sock_runs.specs.May.{May, Finds}
@@ -17,7 +18,7 @@ use Rattle.sock_runs.specs.Sound.{state, Sound, AllowsWord, AllowsMove, Allows, 
 use Rattle.sock_runs.proofs.HandTicks.{taking}
 use Rattle.sock_runs.proofs.Founds.{finds}
 use Rattle.sock_runs.proofs.ChainTicks.{read_inside, turn_inside, free_inside, free_small}
-use Rattle.sock_runs.proofs.LinkTicks.{message_there, link_there, has_link, link_put_there, link_asked_there}
+use Rattle.sock_runs.proofs.LinkTicks.{RetriesGo, message_there, link_there, has_link, link_put_there, link_asked_there}
 use Rattle.sock_runs.proofs.Rounds.{begins_round}
 use Rattle.sock_runs.proofs.Cases.{beside, goes_first}
 use Rattle.sock_runs.proofs.Few.{last_small, places_small}
@@ -118,18 +119,22 @@ view_there l m i a e at none none_ = absurd (beside l m i a e at none_)
 view_there l m i a e at (some b) is = (b, is)
 
 -- a step that the view allows is one that the machine may make
-step_allowed : (p : Plan) (c : Core) (vs : List View) (i : ℕ) (seat : SeatState) (v : View) → Sound p c vs → AreFew vs → get_elem? c.seats i ≡ some seat → get_elem? vs i ≡ some v → (program : Program) → GoesOn p v program → AllowsStep p c seat program
-step_allowed p c vs i seat v sound few at at_view (Do call next) goes = allows p c vs sound few i v at_view call goes.0
-step_allowed p c vs i seat v sound few at at_view (TakeMessage q next) goes = message_there p c vs sound i seat v at at_view q next goes
-step_allowed p c vs i seat v sound few at at_view (TakeHome k next) goes = link_there p c vs sound i seat v at at_view k next goes
-step_allowed p c vs i seat v sound few at at_view (PutHome k n after) goes = has_link p c vs sound i seat v at at_view k n after goes
-step_allowed p c vs i seat v sound few at at_view (PutBytes k asked bytes next) goes = link_put_there p c vs sound i seat v at at_view k asked bytes next goes
-step_allowed p c vs i seat v sound few at at_view (AskReady k next) goes = link_asked_there p c vs sound i seat v at at_view k next goes
-step_allowed p c vs i seat v sound few at at_view (Say o outcome next) goes = tt
-step_allowed p c vs i seat v sound few at at_view (Sent o next) goes = tt
-step_allowed p c vs i seat v sound few at at_view Rest goes = tt
-step_allowed p c vs i seat v sound few at at_view (Write w after) goes = tt
+step_allowed : (p : Plan) → RetriesGo p → (c : Core) (vs : List View) (i : ℕ) (seat : SeatState) (v : View) → Sound p c vs → AreFew vs → get_elem? c.seats i ≡ some seat → get_elem? vs i ≡ some v → (program : Program) → GoesOn p v program → AllowsStep p c seat program
+step_allowed p retries_go c vs i seat v sound few at at_view (Do call next) goes = allows p c vs sound few i v at_view call goes.0
+step_allowed p retries_go c vs i seat v sound few at at_view (TakeMessage q next) goes = message_there p retries_go c vs sound i seat v at at_view q next goes
+step_allowed p retries_go c vs i seat v sound few at at_view (TakeHome k next) goes = link_there p retries_go c vs sound i seat v at at_view k next goes
+step_allowed p retries_go c vs i seat v sound few at at_view (PutHome k n after) goes = has_link p retries_go c vs sound i seat v at at_view k n after goes
+step_allowed p retries_go c vs i seat v sound few at at_view (PutBytes k asked bytes next) goes = link_put_there p retries_go c vs sound i seat v at at_view k asked bytes next goes
+step_allowed p retries_go c vs i seat v sound few at at_view (AskReady k next) goes = link_asked_there p retries_go c vs sound i seat v at at_view k next goes
+step_allowed p retries_go c vs i seat v sound few at at_view (Say o outcome next) goes = tt
+step_allowed p retries_go c vs i seat v sound few at at_view (Sent o next) goes = tt
+step_allowed p retries_go c vs i seat v sound few at at_view Rest goes = tt
+step_allowed p retries_go c vs i seat v sound few at at_view (Write w after) goes = tt
+step_allowed p retries_go c vs i seat v sound few at at_view (Aside step next) goes = tt
+step_allowed p retries_go c vs i seat v sound few at at_view (Round head next) goes = tt
+step_allowed p retries_go c vs i seat v sound few at at_view (Keep r next) goes = tt
+step_allowed p retries_go c vs i seat v sound few at at_view (Retries requests after) goes = tt
 
 -- each seat's next step is allowed, also where it is the first of a round
-pub sound_allows : (p : Plan) (c : Core) (vs : List View) (i : ℕ) (seat : SeatState) (v : View) → Sound p c vs → AreFew vs → get_elem? c.seats i ≡ some seat → get_elem? vs i ≡ some v → AllowsStep p c seat (first_step seat.program)
-sound_allows p c vs i seat v sound few at at_view = step_allowed p c vs i seat v sound few at at_view (first_step seat.program) (goes_first p v (begins_round p v) seat.program (sound.seats i seat v at at_view).goes_on)
+pub sound_allows : (p : Plan) → RetriesGo p → (c : Core) (vs : List View) (i : ℕ) (seat : SeatState) (v : View) → Sound p c vs → AreFew vs → get_elem? c.seats i ≡ some seat → get_elem? vs i ≡ some v → AllowsStep p c seat (first_step seat.program)
+sound_allows p retries_go c vs i seat v sound few at at_view = step_allowed p retries_go c vs i seat v sound few at at_view (first_step seat.program) (goes_first p v (begins_round p v) (goes_round p v) seat.program (sound.seats i seat v at at_view).goes_on)

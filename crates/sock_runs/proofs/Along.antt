@@ -16,31 +16,40 @@ use Rattle.sock_model.specs.Messages.{Letter}
 use Rattle.sock_model.specs.Reads.{message, link_home}
 use Rattle.sock_model.specs.declared.view.View.{View}
 use Rattle.sock_programs.specs.Calls.{kind_of}
-use Rattle.sock_programs.specs.Programs.{Program, Do, Say, Sent, Rest, TakeMessage, TakeHome, PutHome, PutBytes, AskReady, Write}
-use Rattle.sock_programs.specs.Cores.{Core, SeatState, word_of, word_after, found_at, words_after, homes_after, hand_after, lies_at, first_of, others_of, link_place, with_seat, next_step}
+use Rattle.sock_programs.specs.Programs.{Program, Do, Say, Sent, Rest, TakeMessage, TakeHome, PutHome, PutBytes, AskReady, Write, Aside, Round, Keep, Retries}
+use Rattle.sock_programs.specs.Heads.{Head, Exit, Retry}
+use Rattle.sock_programs.specs.Asides.{Step, Found, kind_aside}
+use Rattle.sock_programs.specs.Beside.{found_in, calls_after}
+use Rattle.sock_programs.specs.Rounds.{round, kind_of_round}
+use Rattle.corr_core.specs.declared.marks.Plan.{Plan as IdPlan}
+use Rattle.sock_programs.specs.Cores.{Core, SeatState, word_of, word_after, found_at, words_after, homes_after, hand_after, lies_at, first_of, others_of, link_place, with_seat, next_step, resolved, waiting_at}
 use Rattle.sock_programs.specs.Sends.{block}
-use Rattle.sock_programs.specs.Ticks.{Answer, Unasked, OfPut, OfReady, Moment, AreAnswered, fed, with_places, onto_first, with_message, with_link, with_put, with_ready, step_with, tick_with, ticked, run}
+use Rattle.sock_programs.specs.Ticks.{Answer, Unasked, OfPut, OfReady, OfTake, Moment, AreAnswered, fed, with_places, onto_first, with_message, with_link, with_put, with_ready, with_found, taken, step_with, tick_with, ticked, run}
 use Rattle.sock_programs.specs.Runs.{kind_in, IsAtRest, IsSettled}
 use Rattle.sock_programs.specs.Scripts.{beginning}
-use Rattle.sock_runs.specs.Sound.{Sound, IsAhead, AllRest, views_after, views_along}
+use Rattle.sock_runs.specs.Sound.{Sound, IsAhead, AllRest, is_begun, AreFitting, views_after, views_along}
+use Rattle.sock_runs.proofs.LinkTicks.{RetriesGo}
 use Rattle.sock_runs.proofs.Ticks.{sound_ticks}
 
 -- ticks of any seats, one after another, keep all seats sound
-pub run_sound : (p : Plan) (c : Core) (vs : List View) (moments : List Moment) → Sound p c vs → AreAnswered p c moments → Sound p (run p c moments) (views_along p c vs moments)
-run_sound p c vs [] sound answered = sound
-run_sound p c vs (m ∷ moments) sound answered = run_sound p (ticked p c m) (views_after p c vs m) moments (sound_ticks p c vs m sound answered.0) answered.1
+pub run_sound : (p : Plan) → RetriesGo p → (c : Core) (vs : List View) (moments : List Moment) → Sound p c vs → AreAnswered p c moments → AreFitting p c moments → Sound p (run p c moments) (views_along p c vs moments)
+run_sound p go c vs [] sound answered fitting = sound
+run_sound p go c vs (m ∷ moments) sound answered fitting = run_sound p go (ticked p c m) (views_after p c vs m) moments (sound_ticks p go c vs m sound answered.0 fitting.0) answered.1 fitting.1
 
 -- ## Outcomes are said at once
 
-next_again : (program : Program) → next_step (next_step program) ≡ next_step program
-next_again (Say _ _ after) = next_again after
-next_again (Sent _ after) = next_again after
-next_again _ = refl
+pub begins : (w : List Retry) (program : Program) → is_begun (next_step (resolved w program)) ≡ true
+begins w (Say _ _ after) = begins w after
+begins w (Sent _ after) = begins w after
+begins w (Keep r after) = begins (w ++ r ∷ []) after
+begins [] (Retries requests after) = begins [] after
+begins (r ∷ w) (Retries requests after) = refl
+begins w _ = refl
 
 -- a seat that has made a step, or that has a new program, is ahead as the others are
 pub seat_ahead : (c : Core) (i : ℕ) (program : Program) (hand : List Home) (ws : List ℕ) (hs : List (Option Home)) → IsAhead c → IsAhead (with_seat i program hand ws hs c)
-seat_ahead c i program hand ws hs ahead j seat at = ⊎_elim (λ a. subst (λ (x : SeatState). next_step x.program ≡ x.program) a.1 (next_again program)) (λ a. ahead j seat a.1)
-    (at_set c.seats i j (record { program = next_step program; hand = hand }) seat at)
+seat_ahead c i program hand ws hs ahead j seat at = ⊎_elim (λ a. subst (λ (x : SeatState). is_begun x.program ≡ true) a.1 (begins (waiting_at c.calls.waiting i) program)) (λ a. ahead j seat a.1)
+    (at_set c.seats i j (record { program = next_step (resolved (waiting_at c.calls.waiting i) program); hand = hand }) seat at)
 
 module _ (p : Plan) (c : Core) (i : ℕ) (seat : SeatState) (ahead : IsAhead c) where
   message_ahead : (q : ℕ) (x : Option Letter) (next : Letter → Program) → IsAhead (with_message p i seat c q x next)
@@ -54,12 +63,18 @@ module _ (p : Plan) (c : Core) (i : ℕ) (seat : SeatState) (ahead : IsAhead c) 
   put_ahead : (bytes : List ℕ) (answer : Answer) (next : Put → Program) → IsAhead (with_put p i seat c bytes answer next)
   put_ahead bytes Unasked next = ahead
   put_ahead bytes (OfReady answer) next = ahead
+  put_ahead bytes (OfTake answer) next = ahead
   put_ahead bytes (OfPut answer) next = seat_ahead c i (next answer) (onto_first (fed bytes answer) seat.hand) c.words c.homes ahead
 
   ready_ahead : (answer : Answer) (next : Ready → Program) → IsAhead (with_ready p i seat c answer next)
   ready_ahead Unasked next = ahead
   ready_ahead (OfPut answer) next = ahead
+  ready_ahead (OfTake answer) next = ahead
   ready_ahead (OfReady answer) next = seat_ahead c i (next answer) seat.hand c.words c.homes ahead
+
+  found_ahead : (step : Step) (x : Option (Found step)) (next : Found step → Program) → IsAhead (with_found p i seat c step x next)
+  found_ahead step none next = ahead
+  found_ahead step (some found) next = seat_ahead (record c { calls = calls_after step found c.calls }) i (next found) seat.hand c.words c.homes ahead
 
   step_ahead : (answer : Answer) (program : Program) → IsAhead (step_with p i seat c answer program)
   step_ahead answer (Do call next) = let found : ℕ = found_at c.words (word_of p call) in
@@ -69,6 +84,10 @@ module _ (p : Plan) (c : Core) (i : ℕ) (seat : SeatState) (ahead : IsAhead c) 
   step_ahead answer (PutHome k n after) = seat_ahead c i after (others_of seat.hand) c.words (set c.homes (link_place p k) (first_of (onto_first (with_places n) seat.hand))) ahead
   step_ahead answer (PutBytes k asked bytes next) = put_ahead bytes answer next
   step_ahead answer (AskReady k next) = ready_ahead answer next
+  step_ahead answer (Aside step next) = found_ahead step (found_in step c.calls (taken answer)) next
+  step_ahead answer (Round head next) = ahead
+  step_ahead answer (Keep r next) = ahead
+  step_ahead answer (Retries requests after) = ahead
   step_ahead answer (Say o outcome next) = ahead
   step_ahead answer (Sent o next) = ahead
   step_ahead answer Rest = ahead
@@ -76,6 +95,10 @@ module _ (p : Plan) (c : Core) (i : ℕ) (seat : SeatState) (ahead : IsAhead c) 
 
   tick_ahead : (answer : Answer) (program : Program) → IsAhead (tick_with p i seat c answer program)
   tick_ahead answer (Write w after) = step_ahead answer (block w after)
+  tick_ahead answer (Round head next) = step_ahead answer (round head next)
+  tick_ahead answer (Aside step next) = step_ahead answer (Aside step next)
+  tick_ahead answer (Keep r next) = ahead
+  tick_ahead answer (Retries requests after) = ahead
   tick_ahead answer (Do call next) = step_ahead answer (Do call next)
   tick_ahead answer (TakeMessage q next) = step_ahead answer (TakeMessage q next)
   tick_ahead answer (TakeHome k next) = step_ahead answer (TakeHome k next)
@@ -99,37 +122,31 @@ run_ahead p c [] ahead = ahead
 run_ahead p c (m ∷ moments) ahead = run_ahead p (ticked p c m) moments (ticked_ahead p c m ahead)
 
 -- as they are at the beginning
-seats_ahead : (programs : List Program) (i : ℕ) (seat : SeatState) → get_elem? (map (λ (program : Program). record { program = next_step program; hand = [] }) programs) i ≡ some seat → next_step seat.program ≡ seat.program
+seats_ahead : (programs : List Program) (i : ℕ) (seat : SeatState) → get_elem? (map (λ (program : Program). record { program = next_step (resolved [] program); hand = [] }) programs) i ≡ some seat → is_begun seat.program ≡ true
 seats_ahead [] i seat at = absurd (some-ne-none seat (sym at))
-seats_ahead (x ∷ xs) zero seat at = subst (λ (y : SeatState). next_step y.program ≡ y.program) (some-injective (record { program = next_step x; hand = [] }) seat at) (next_again x)
+seats_ahead (x ∷ xs) zero seat at = subst (λ (y : SeatState). is_begun y.program ≡ true) (some-injective (record { program = next_step (resolved [] x); hand = [] }) seat at) (begins [] x)
 seats_ahead (x ∷ xs) (suc i) seat at = seats_ahead xs i seat at
 
-pub beginning_ahead : (p : Plan) (programs : List Program) → IsAhead (beginning p programs)
-beginning_ahead p programs = seats_ahead programs
+pub beginning_ahead : (p : Plan) (q : IdPlan) (programs : List Program) → IsAhead (beginning p q programs)
+beginning_ahead p q programs = seats_ahead programs
 
 -- ## A settled core
 
-abbrev says : Program → Bool
-says (Say _ _ _) = true
-says (Sent _ _) = true
-says _ = false
-
-never_says : (program : Program) → says (next_step program) ≡ false
-never_says (Say _ _ after) = never_says after
-never_says (Sent _ after) = never_says after
-never_says _ = refl
-
-rests : (program : Program) → says program ≡ false → kind_in program ≡ None → program ≡ Rest
-rests (Do call next) quiet idle = absurd (none-some (kind_of call) (sym idle))
-rests (Say _ _ _) quiet idle = absurd (true≢false quiet)
-rests (Sent _ _) quiet idle = absurd (true≢false quiet)
-rests Rest quiet idle = refl
-rests (TakeMessage q next) quiet idle = absurd (none-some _ (sym idle))
-rests (TakeHome k next) quiet idle = absurd (none-some _ (sym idle))
-rests (PutHome k n after) quiet idle = absurd (none-some _ (sym idle))
-rests (PutBytes k asked bytes next) quiet idle = absurd (none-some _ (sym idle))
-rests (AskReady k next) quiet idle = absurd (none-some _ (sym idle))
-rests (Write w after) quiet idle = absurd (none-some _ (sym idle))
+rests : (program : Program) → is_begun program ≡ true → kind_in program ≡ None → program ≡ Rest
+rests (Do call next) begun idle = absurd (none-some (kind_of call) (sym idle))
+rests (Say _ _ _) begun idle = absurd (true≢false (sym begun))
+rests (Sent _ _) begun idle = absurd (true≢false (sym begun))
+rests (Keep _ _) begun idle = absurd (true≢false (sym begun))
+rests (Retries _ _) begun idle = absurd (true≢false (sym begun))
+rests Rest begun idle = refl
+rests (TakeMessage q next) begun idle = absurd (none-some _ (sym idle))
+rests (TakeHome k next) begun idle = absurd (none-some _ (sym idle))
+rests (PutHome k n after) begun idle = absurd (none-some _ (sym idle))
+rests (PutBytes k asked bytes next) begun idle = absurd (none-some _ (sym idle))
+rests (AskReady k next) begun idle = absurd (none-some _ (sym idle))
+rests (Write w after) begun idle = absurd (none-some _ (sym idle))
+rests (Aside step next) begun idle = absurd (none-some (kind_aside step) (sym idle))
+rests (Round head next) begun idle = absurd (none-some (kind_of_round head) (sym idle))
 
 pub place_inside : {A : Type 0} (l : List A) (i : ℕ) (a : A) → get_elem? l i ≡ some a → i < length l
 place_inside [] i a e = absurd (some-ne-none a (sym e))
@@ -138,7 +155,7 @@ place_inside (x ∷ xs) (suc i) a e = omega (arith, place_inside xs i a e)
 
 -- a seat that has no step left has nothing left to do
 pub seat_rests : (c : Core) → IsAhead c → (i : ℕ) → IsAtRest c i → (seat : SeatState) → get_elem? c.seats i ≡ some seat → seat.program ≡ Rest
-seat_rests c ahead i idle seat at = rests seat.program (ap says (sym (ahead i seat at)) ∙ never_says seat.program)
+seat_rests c ahead i idle seat at = rests seat.program (ahead i seat at)
     (sym (ap (λ o. elim o as (λ o. std.Option Kind) [ none ↦ None | some s ↦ kind_in s.program ]) at) ∙ idle)
 
 -- where no seat has a step left, none has anything left to do

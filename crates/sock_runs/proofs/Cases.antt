@@ -17,13 +17,23 @@ use Rattle.sock_model.specs.Messages.{Letter}
 use Rattle.sock_model.specs.Reads.{letter_of, shown, message, link_home}
 use Rattle.sock_programs.specs.Writings.{Writing, Puts, Waits, Empties, Walks}
 use Rattle.sock_programs.specs.Calls.{Call}
-use Rattle.sock_programs.specs.Programs.{Program, Do, Say, Sent, Rest, TakeMessage, TakeHome, PutHome, PutBytes, AskReady, Write}
+use Rattle.sock_programs.specs.Programs.{Program, Do, Say, Sent, Rest, TakeMessage, TakeHome, PutHome, PutBytes, AskReady, Write, Aside, Round, Keep, Retries}
+use Rattle.sock_programs.specs.Asides.{Step, Found, TakeBytes, Taking}
+use Rattle.sock_programs.specs.Heads.{Head, Exit, Posts, Unlocks, Decides, Locks, Joins, Opens, Reads, Discards}
+use Rattle.sock_programs.specs.Rounds.{round}
+use Rattle.sock_programs.specs.Beside.{found_in, calls_after}
+use Rattle.sock_runs.specs.Fits.{FitsFound}
 use Rattle.sock_programs.specs.Sends.{block}
-use Rattle.sock_programs.specs.Cores.{Core, SeatState, word_of, found_at, lies_at, first_of, others_of, link_place, with_seat, stepped}
-use Rattle.sock_programs.specs.Ticks.{Answer, OfPut, OfReady, Moment, FitsPut, IsAnswer, IsAnswered, fed, with_places, onto_first, with_message, with_link, step_with, tick_with, ticked}
+use Rattle.corr_core.specs.Word.{parts, code_of}
+use Rattle.sock_programs.specs.Asides.{PutCall, id_slot}
+use Rattle.sock_programs.specs.Heads.{HasEnded}
+use Rattle.sock_programs.specs.Posts.{ends_call, end_id, unlocked}
+use Rattle.std.specs.Prelude.{if◌then◌else◌, ◌+◌, Some, None}
+use Rattle.sock_programs.specs.Cores.{Calls, Core, SeatState, word_of, found_at, lies_at, first_of, others_of, link_place, with_seat, stepped}
+use Rattle.sock_programs.specs.Ticks.{Answer, OfPut, OfReady, Moment, FitsPut, IsAnswer, IsAnswered, fed, with_places, onto_first, with_message, with_link, taken, with_found, step_with, tick_with, ticked}
 use Rattle.sock_runs.specs.Rows.{row, hand_at, by_right, took_message, link_away, link_home_again, took_bytes}
 use Rattle.sock_runs.specs.GoesOn.{GoesOn}
-use Rattle.sock_runs.specs.Sound.{Sound, first_step, views_with_message, views_with_link, views_with, views_of, views_after}
+use Rattle.sock_runs.specs.Sound.{Sound, first_step, views_with_message, views_with_link, views_with, views_of, views_after, FitsBeside, IsFitting}
 
 -- of two lists of one length each place of one is a place of the other
 pub beside : {A B : Type 0} (l : List A) (m : List B) (i : ℕ) (a : A) → length m ≡ length l → get_elem? l i ≡ some a → get_elem? m i ≡ none → ⊥
@@ -55,22 +65,45 @@ answer_begins (TakeHome k next) answer a = a
 answer_begins (PutHome k n after) answer a = a
 answer_begins (PutBytes k asked bytes next) answer a = a
 answer_begins (AskReady k next) answer a = a
+answer_begins (Aside step next) answer a = a
+answer_begins (Keep r next) answer a = a
+answer_begins (Retries requests after) answer a = a
+answer_begins (Round (Posts id e w) next) answer a = tt
+answer_begins (Round (Unlocks i w advance) next) answer a = tt
+answer_begins (Round (Decides id asked w e) next) answer a = begins_decides (ends_call (parts w) e)
+  where
+    begins_decides : (b : Bool) → IsAnswer (if b then end_id (id_slot id) (next (HasEnded asked.operation (code_of e)))
+        else Aside (PutCall (id_slot id) asked) (λ _. Round (Unlocks (id_slot id) w true) (unlocked (record { id = id; attempt = (parts w).attempt + 1 }) next))) answer
+    begins_decides true = tt
+    begins_decides false = tt
+answer_begins (Round (Locks i sought None) next) answer a = tt
+answer_begins (Round (Locks i sought (Some w)) next) answer a = tt
+answer_begins (Round (Joins id) next) answer a = tt
+answer_begins (Round (Opens o) next) answer a = tt
+answer_begins (Round (Reads r) next) answer a = a
+answer_begins (Round (Discards k total) next) answer a = a
 
 -- a round that the view allows from the head of a loop on, it allows from its first step on
-pub goes_first : (p : Plan) (v : View) → ((w : Writing) (after : Program) → GoesOn p v (Write w after) → GoesOn p v (block w after)) → (program : Program) → GoesOn p v program → GoesOn p v (first_step program)
-goes_first p v begins (Write w after) g = begins w after g
-goes_first p v begins (Do call next) g = g
-goes_first p v begins (Say o outcome next) g = g
-goes_first p v begins (Sent o next) g = g
-goes_first p v begins Rest g = g
-goes_first p v begins (TakeMessage q next) g = g
-goes_first p v begins (TakeHome k next) g = g
-goes_first p v begins (PutHome k n after) g = g
-goes_first p v begins (PutBytes k asked bytes next) g = g
-goes_first p v begins (AskReady k next) g = g
+pub goes_first : (p : Plan) (v : View) → ((w : Writing) (after : Program) → GoesOn p v (Write w after) → GoesOn p v (block w after))
+    → ((head : Head) (next : Exit head → Program) → GoesOn p v (Round head next) → GoesOn p v (round head next)) → (program : Program) → GoesOn p v program → GoesOn p v (first_step program)
+goes_first p v begins rounds (Write w after) g = begins w after g
+goes_first p v begins rounds (Do call next) g = g
+goes_first p v begins rounds (Say o outcome next) g = g
+goes_first p v begins rounds (Sent o next) g = g
+goes_first p v begins rounds Rest g = g
+goes_first p v begins rounds (TakeMessage q next) g = g
+goes_first p v begins rounds (TakeHome k next) g = g
+goes_first p v begins rounds (PutHome k n after) g = g
+goes_first p v begins rounds (PutBytes k asked bytes next) g = g
+goes_first p v begins rounds (AskReady k next) g = g
+goes_first p v begins rounds (Aside step next) g = g
+goes_first p v begins rounds (Round head next) g = rounds head next g
+goes_first p v begins rounds (Keep r next) g = g
+goes_first p v begins rounds (Retries requests after) g = g
 
 module _ (p : Plan) (c : Core) (vs : List View) (m : Moment) (sound : Sound p c vs) (answered : IsAnswered c m)
-    (begins_round : (v : View) (w : Writing) (after : Program) → GoesOn p v (Write w after) → GoesOn p v (block w after)) (P : Core → List View → Type 0) (before : P c vs) where
+    (fitting : IsFitting p c m) (begins_round : (v : View) (w : Writing) (after : Program) → GoesOn p v (Write w after) → GoesOn p v (block w after))
+    (goes_round : (v : View) (head : Head) (next : Exit head → Program) → GoesOn p v (Round head next) → GoesOn p v (round head next)) (P : Core → List View → Type 0) (before : P c vs) where
   -- a tick of the seat is its first step
   from_first : (seat : SeatState) (v : View) (program : Program) → P (step_with p m.seat seat c m.answer (first_step program)) (views_with p m.seat c vs v m.answer (first_step program))
       → P (tick_with p m.seat seat c m.answer program) (views_of p m.seat c vs v m.answer program)
@@ -84,6 +117,10 @@ module _ (p : Plan) (c : Core) (vs : List View) (m : Moment) (sound : Sound p c 
   from_first seat v (PutHome k n after) x = x
   from_first seat v (PutBytes k asked bytes next) x = x
   from_first seat v (AskReady k next) x = x
+  from_first seat v (Aside step next) x = x
+  from_first seat v (Round head next) x = x
+  from_first seat v (Keep r next) x = x
+  from_first seat v (Retries requests after) x = x
 
   by_view : (seat : SeatState) → get_elem? c.seats m.seat ≡ some seat → ((v : View) → get_elem? vs m.seat ≡ some v → P (tick_with p m.seat seat c m.answer seat.program) (views_of p m.seat c vs v m.answer seat.program))
       → (q : Option View) → get_elem? vs m.seat ≡ q → P (tick_with p m.seat seat c m.answer seat.program) (elim q as (λ o. List View) [ none ↦ vs | some v ↦ views_of p m.seat c vs v m.answer seat.program ])
@@ -114,35 +151,46 @@ module _ (p : Plan) (c : Core) (vs : List View) (m : Moment) (sound : Sound p c 
       → P (with_seat m.seat (next answer) (onto_first (fed bytes answer) seat.hand) c.words c.homes c) (set vs m.seat (took_bytes answer v)))
       (ready : (seat : SeatState) (v : View) (k : ℕ) (next : Ready → Program) (answer : Ready) → get_elem? c.seats m.seat ≡ some seat → get_elem? vs m.seat ≡ some v
       → first_step seat.program ≡ AskReady k next → GoesOn p v (AskReady k next) → m.answer ≡ OfReady answer
-      → P (with_seat m.seat (next answer) seat.hand c.words c.homes c) vs) where
+      → P (with_seat m.seat (next answer) seat.hand c.words c.homes c) vs)
+      (aside : (seat : SeatState) (v : View) (step : Step) (next : Found step → Program) (found : Found step) → get_elem? c.seats m.seat ≡ some seat → get_elem? vs m.seat ≡ some v
+      → first_step seat.program ≡ Aside step next → GoesOn p v (Aside step next) → FitsFound p step found
+      → P (with_seat m.seat (next found) seat.hand c.words c.homes (record c { calls = calls_after step found c.calls })) vs) where
     by_first : (seat : SeatState) (v : View) → get_elem? c.seats m.seat ≡ some seat → get_elem? vs m.seat ≡ some v → (program : Program) → first_step seat.program ≡ program → GoesOn p v program
-        → IsAnswer program m.answer → P (step_with p m.seat seat c m.answer program) (views_with p m.seat c vs v m.answer program)
-    by_first seat v at_seat at_view (Do call next) e g a = step seat v call next at_seat at_view e g
-    by_first seat v at_seat at_view (TakeMessage q next) e g a = by_letter (message (λ (h : Home). h) c.homes q) refl
+        → FitsBeside p c m.answer program → IsAnswer program m.answer → P (step_with p m.seat seat c m.answer program) (views_with p m.seat c vs v m.answer program)
+    by_first seat v at_seat at_view (Do call next) e g f a = step seat v call next at_seat at_view e g
+    by_first seat v at_seat at_view (TakeMessage q next) e g f a = by_letter (message (λ (h : Home). h) c.homes q) refl
       where
         by_letter : (x : Option Letter) → message (λ (h : Home). h) c.homes q ≡ x
             → P (with_message p m.seat seat c q x (λ letter. next letter.0 letter.1)) (views_with_message p m.seat c vs v x)
         by_letter none is = before
         by_letter (some letter) is = message_ seat v q next letter.0 letter.1 at_seat at_view e g (lies_there (get_elem? c.homes q) letter.0 letter.1 is)
-    by_first seat v at_seat at_view (TakeHome k next) e g a = by_home (link_home (λ (h : Home). h) p c.homes k) refl
+    by_first seat v at_seat at_view (TakeHome k next) e g f a = by_home (link_home (λ (h : Home). h) p c.homes k) refl
       where
         by_home : (x : Option (List ℕ × ℕ)) → link_home (λ (h : Home). h) p c.homes k ≡ x
             → P (with_link p m.seat seat c k x next) (views_with_link p m.seat c vs v x)
         by_home none is = before
         by_home (some h) is = home seat v k next h.0 h.1 at_seat at_view e g is
-    by_first seat v at_seat at_view (PutHome k n after) e g a = puts_home seat v k n after at_seat at_view e g
-    by_first seat v at_seat at_view (PutBytes k asked bytes next) e g a =
+    by_first seat v at_seat at_view (PutHome k n after) e g f a = puts_home seat v k n after at_seat at_view e g
+    by_first seat v at_seat at_view (PutBytes k asked bytes next) e g f a =
         subst (λ (x : Answer). P (step_with p m.seat seat c x (PutBytes k asked bytes next)) (views_with p m.seat c vs v x (PutBytes k asked bytes next))) (sym a.1) (put seat v k asked bytes next a.0 at_seat at_view e g a.1 a.2)
-    by_first seat v at_seat at_view (AskReady k next) e g a =
+    by_first seat v at_seat at_view (AskReady k next) e g f a =
         subst (λ (x : Answer). P (step_with p m.seat seat c x (AskReady k next)) (views_with p m.seat c vs v x (AskReady k next))) (sym a.1) (ready seat v k next a.0 at_seat at_view e g a.1)
-    by_first seat v at_seat at_view (Say o outcome next) e g a = before
-    by_first seat v at_seat at_view (Sent o next) e g a = before
-    by_first seat v at_seat at_view Rest e g a = before
-    by_first seat v at_seat at_view (Write w after) e g a = before
+    by_first seat v at_seat at_view (Say o outcome next) e g f a = before
+    by_first seat v at_seat at_view (Sent o next) e g f a = before
+    by_first seat v at_seat at_view Rest e g f a = before
+    by_first seat v at_seat at_view (Write w after) e g f a = before
+    by_first seat v at_seat at_view (Keep r next) e g f a = before
+    by_first seat v at_seat at_view (Retries requests after) e g f a = before
+    by_first seat v at_seat at_view (Round head next) e g f a = before
+    by_first seat v at_seat at_view (Aside step next) e g f a = by_found (found_in step c.calls (taken m.answer)) refl
+      where
+        by_found : (x : Option (Found step)) → found_in step c.calls (taken m.answer) ≡ x → P (with_found p m.seat seat c step x next) vs
+        by_found none is = before
+        by_found (some found) is = aside seat v step next found at_seat at_view e g (f found is)
 
     pub tick_keeps : P (ticked p c m) (views_after p c vs m)
     tick_keeps = by_seat (λ seat v at_seat at_view. from_first seat v seat.program (by_first seat v at_seat at_view (first_step seat.program) refl
-        (goes_first p v (begins_round v) seat.program (sound.seats m.seat seat v at_seat at_view).goes_on) (answer_begins seat.program m.answer (answered seat at_seat)))) (get_elem? c.seats m.seat) refl
+        (goes_first p v (begins_round v) (goes_round v) seat.program (sound.seats m.seat seat v at_seat at_view).goes_on) (fitting seat at_seat) (answer_begins seat.program m.answer (answered seat at_seat)))) (get_elem? c.seats m.seat) refl
 
 -- ## Steps that change no word
 
@@ -153,6 +201,7 @@ ComesNext p (TakeHome k next) program = (n : ℕ) × (program ≡ next n)
 ComesNext p (PutHome k n after) program = program ≡ after
 ComesNext p (PutBytes k asked bytes next) program = (answer : Put) × (program ≡ next answer) × FitsPut asked bytes answer
 ComesNext p (AskReady k next) program = (answer : Ready) × (program ≡ next answer)
+ComesNext p (Aside step next) program = (found : Found step) × (program ≡ next found) × FitsFound p step found
 ComesNext p other program = ⊥
 
 -- the view's rights are others, or the same
@@ -170,18 +219,19 @@ put_rights v Failed = (v.rights, refl)
 
 -- where all but the steps on words and the moves without a right are taken as one, whatever right and link they leave the seat
 module _ (p : Plan) (c : Core) (vs : List View) (m : Moment) (sound : Sound p c vs) (answered : IsAnswered c m)
-    (begins_round : (v : View) (w : Writing) (after : Program) → GoesOn p v (Write w after) → GoesOn p v (block w after)) (P : Core → List View → Type 0) (before : P c vs)
+    (fitting : IsFitting p c m) (begins_round : (v : View) (w : Writing) (after : Program) → GoesOn p v (Write w after) → GoesOn p v (block w after))
+    (goes_round : (v : View) (head : Head) (next : Exit head → Program) → GoesOn p v (Round head next) → GoesOn p v (round head next)) (P : Core → List View → Type 0) (before : P c vs)
     (step : (seat : SeatState) (v : View) (call : Call) (next : ℕ → Program) → get_elem? c.seats m.seat ≡ some seat → get_elem? vs m.seat ≡ some v → first_step seat.program ≡ Do call next → GoesOn p v (Do call next)
     → P (stepped p m.seat seat call next c) (set vs m.seat (row p call (found_at c.words (word_of p call)) (hand_at p c.words c.homes call) v)))
-    (other : (seat : SeatState) (v : View) (program : Program) (rights : List Right) (hand : List Home) (hs : List (Option Home)) → get_elem? c.seats m.seat ≡ some seat → get_elem? vs m.seat ≡ some v
-    → ComesNext p (first_step seat.program) program → P (with_seat m.seat program hand c.words hs c) (set vs m.seat (with_rights v rights))) where
+    (other : (seat : SeatState) (v : View) (program : Program) (rights : List Right) (hand : List Home) (hs : List (Option Home)) (a : Calls) → get_elem? c.seats m.seat ≡ some seat → get_elem? vs m.seat ≡ some v
+    → ComesNext p (first_step seat.program) program → P (with_seat m.seat program hand c.words hs (record c { calls = a })) (set vs m.seat (with_rights v rights))) where
   any_right : (seat : SeatState) (v w : View) (program first : Program) (hand : List Home) (hs : List (Option Home)) → get_elem? c.seats m.seat ≡ some seat → get_elem? vs m.seat ≡ some v → first_step seat.program ≡ first → ComesNext p first program
       → (rights : List Right) × (w ≡ with_rights v rights) → P (with_seat m.seat program hand c.words hs c) (set vs m.seat w)
   any_right seat v w program first hand hs at_seat at_view is comes x = subst (λ u. P (with_seat m.seat program hand c.words hs c) (set vs m.seat u)) (sym x.1)
-      (other seat v program x.0 hand hs at_seat at_view (subst (λ f. ComesNext p f program) (sym is) comes))
+      (other seat v program x.0 hand hs c.calls at_seat at_view (subst (λ f. ComesNext p f program) (sym is) comes))
 
   pub tick_keeps_marks : P (ticked p c m) (views_after p c vs m)
-  tick_keeps_marks = tick_keeps p c vs m sound answered begins_round P before step
+  tick_keeps_marks = tick_keeps p c vs m sound answered fitting begins_round goes_round P before step
       (λ seat v q next heading bytes at_seat at_view is goes at_home. any_right seat v (took_message heading bytes v) (next heading bytes) (TakeMessage q next) seat.hand (set c.homes q none) at_seat at_view is
       (let label = sound.labels q heading bytes at_home in (heading, bytes, refl, label.0, label.1)) (right_rights v v.rights (λ r. taken_right r heading bytes)))
       (λ seat v k next took n at_seat at_view is goes at_home. any_right seat v (link_away v) (next n) (TakeHome k next) (lies_at c.homes (link_place p k) ++ seat.hand) (set c.homes (link_place p k) none) at_seat at_view is
@@ -192,3 +242,5 @@ module _ (p : Plan) (c : Core) (vs : List View) (m : Moment) (sound : Sound p c 
       (answer, refl, fits) (put_rights v answer))
       (λ seat v k next answer at_seat at_view is goes answer_is. subst (λ ws. P (with_seat m.seat (next answer) seat.hand c.words c.homes c) ws) (set_again vs m.seat v at_view)
       (any_right seat v v (next answer) (AskReady k next) seat.hand c.homes at_seat at_view is (answer, refl) (v.rights, refl)))
+      (λ seat v step next found at_seat at_view is goes fits. subst (λ ws. P (with_seat m.seat (next found) seat.hand c.words c.homes (record c { calls = calls_after step found c.calls })) ws) (set_again vs m.seat v at_view)
+      (other seat v (next found) v.rights seat.hand c.homes (calls_after step found c.calls) at_seat at_view (subst (λ f. ComesNext p f (next found)) (sym is) (found, refl, fits))))

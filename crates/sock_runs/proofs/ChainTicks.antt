@@ -152,7 +152,7 @@ module _ (p : Plan) (s : State Home View) (o : Lawful (λ home. home) p s) (i : 
       (readying_law o i q v c (ready_claim c) at may.0 may.1.1 may.1.2 may.1.2 refl (λ filled. o.messages.claimed q c may.0 alone filled))
 
   pub swaps_head : (j own : ℕ) → May p v (SwapHead j own) → KeepsWord p s i v (SwapHead j own)
-  swaps_head j own may = let x = may.1.0 in let c : Claim = x.claim in let found : ℕ = get_or s.words (head_word j) 0 in let hand : Hand = hand_at p s.words s.homes (SwapHead j own) in
+  swaps_head j own may = let x = may.1 in let c : Claim = x.claim in let found : ℕ = get_or s.words (head_word j) 0 in let hand : Hand = hand_at p s.words s.homes (SwapHead j own) in
       let P : Bool → Type 0 = λ b. With (set s.words (head_word j) own) (cond b (queued v c found) (righted v c found hand.took hand.next)) in
       subst (λ cs. With (set s.words (head_word j) own) (by_claim cs (exchanged found hand v) v)) (sym x.claims)
       (dite (dec_le IDLE found)

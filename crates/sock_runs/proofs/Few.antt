@@ -36,9 +36,11 @@ use Rattle.sock_programs.specs.Cores.{Core, word_of, found_at}
 use Rattle.sock_programs.specs.Ticks.{Moment, IsAnswered, AreAnswered, ticked}
 use Rattle.sock_runs.specs.Rows.{row, hand_at, is_id, by_claim, exchanged}
 use Rattle.sock_runs.specs.May.{May}
-use Rattle.sock_runs.specs.Sound.{Sound, AreFew, MOST_PLACES, views_after, views_along}
+use Rattle.sock_runs.specs.Sound.{Sound, AreFew, MOST_PLACES, views_after, views_along, IsFitting, AreFitting}
 use Rattle.sock_runs.proofs.Leaves.{sending_same, is_exchange, own_lists}
 use Rattle.sock_runs.proofs.Rounds.{begins_round}
+use Rattle.sock_runs.proofs.Passes.{goes_round}
+use Rattle.sock_runs.proofs.LinkTicks.{RetriesGo}
 use Rattle.sock_runs.proofs.Cases.{tick_keeps_marks}
 use Rattle.sock_runs.proofs.Ticks.{sound_ticks}
 
@@ -83,27 +85,26 @@ few_set vs i w few is = record {
 few_lists : (v w : View) → w.lists ≡ v.lists → IsFew v → IsFew w
 few_lists v w same is = subst (λ (ls : List (List Entry)). (length ls ≤ 1) × ((n : ℕ) (l : List Entry) → get_elem? ls n ≡ some l → length l ≤ MOST_ACCEPTED)) (sym same) is
 
-few_row : (p : Plan) (v : View) (call : Call) (found : ℕ) (hand : Hand) → May p v call → IsFew v → IsFew (row p call found hand v)
-few_row p v (SwapHead i own) found hand may is = let x = may.1.0 in
+-- a seat that may accept one message more
+abbrev pub IsShorter : View → Type 0
+IsShorter v = (made : List Entry) (taken_in : List (List Entry)) → v.lists ≡ made ∷ taken_in → length made < MOST_ACCEPTED
+
+few_row : (p : Plan) (v : View) (call : Call) (found : ℕ) (hand : Hand) → May p v call → IsShorter v → IsFew v → IsFew (row p call found hand v)
+few_row p v (SwapHead i own) found hand may short is = let x = may.1 in
     subst (λ cs. IsFew (by_claim cs (exchanged found hand v) v)) (sym x.claims)
     (either_way (nat_lt found IDLE) (queued v x.claim found) (righted v x.claim found hand.took hand.next) IsFew
     (accepts (queued v x.claim found) (entry_of x.claim found) refl) (accepts (righted v x.claim found hand.took hand.next) (entry_of x.claim (found - IDLE)) refl))
   where
     accepts : (w : View) (e : Entry) → w.lists ≡ more v.lists e → IsFew w
-    accepts w e grown = let x = may.1.0 in let a = accept_short v w x.made x.taken_in e x.lists grown may.1.1 is.1 in let n = is.0 in (omega (arith, a.0), a.1)
-few_row p v call found hand may is = few_lists v (row p call found hand v) (row_same p call found hand v refl).lists is
+    accepts w e grown = let x = may.1 in let a = accept_short v w x.made x.taken_in e x.lists grown (short x.made x.taken_in x.lists) is.1 in let n = is.0 in (omega (arith, a.0), a.1)
+few_row p v call found hand may short is = few_lists v (row p call found hand v) (row_same p call found hand v refl).lists is
 
 -- a tick of any seat keeps it so
-pub few_ticks : (p : Plan) (c : Core) (vs : List View) (m : Moment) → Sound p c vs → IsAnswered c m → AreFew vs → AreFew (views_after p c vs m)
-few_ticks p c vs m sound answered few = tick_keeps_marks p c vs m sound answered (begins_round p) (λ c' vs'. AreFew vs') few
+pub few_ticks : (p : Plan) (c : Core) (vs : List View) (m : Moment) → Sound p c vs → IsAnswered c m → IsFitting p c m → ((i : ℕ) (v : View) → get_elem? vs i ≡ some v → IsShorter v) → AreFew vs → AreFew (views_after p c vs m)
+few_ticks p c vs m sound answered fitting shorter few = tick_keeps_marks p c vs m sound answered fitting (begins_round p) (goes_round p) (λ c' vs'. AreFew vs') few
     (λ seat v call next at_seat at_view is goes. few_set vs m.seat (row p call (found_at c.words (word_of p call)) (hand_at p c.words c.homes call) v) few
-    (few_row p v call (found_at c.words (word_of p call)) (hand_at p c.words c.homes call) goes.0 (few.short m.seat v at_view)))
-    (λ seat v program rights hand hs at_seat at_view comes. few_set vs m.seat (record v { rights = rights }) few (few.short m.seat v at_view))
-
--- and so do any ticks, one after another
-pub few_runs : (p : Plan) (c : Core) (vs : List View) (moments : List Moment) → Sound p c vs → AreAnswered p c moments → AreFew vs → AreFew (views_along p c vs moments)
-few_runs p c vs [] sound answered few = few
-few_runs p c vs (m ∷ moments) sound answered few = few_runs p (ticked p c m) (views_after p c vs m) moments (sound_ticks p c vs m sound answered.0) answered.1 (few_ticks p c vs m sound answered.0 few)
+    (few_row p v call (found_at c.words (word_of p call)) (hand_at p c.words c.homes call) goes.0 (shorter m.seat v at_view) (few.short m.seat v at_view)))
+    (λ seat v program rights hand hs a at_seat at_view comes. few_set vs m.seat (record v { rights = rights }) few (few.short m.seat v at_view))
 
 -- ## Numbers that fit their words
 

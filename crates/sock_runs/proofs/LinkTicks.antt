@@ -1,5 +1,5 @@
 -- Moves and puts of whoever writes a link: what each of them needs is there, and behind it all seats are sound.
-use Rattle.std.proofs.Common.{◌≡◌, ◌≢◌, ℕ, ◌+◌, ◌<◌, ◌≤◌, Bool, true, false, List, [], ◌∷◌, ◌++◌, length, length-set, append-nil, append_assoc, set, take, drop, refl, sym, ap, ◌∙◌, subst, ⊎_elim, arith}
+use Rattle.std.proofs.Common.{◌≡◌, ◌≢◌, ℕ, zero, suc, get_or, ◌+◌, ◌<◌, ◌≤◌, Bool, true, false, List, [], ◌∷◌, ◌++◌, length, length-set, append-nil, append_assoc, set, take, drop, refl, sym, ap, ◌∙◌, subst, ⊎_elim, arith}
 use Rattle.std.proofs.Math.Seq.{take-add}
 use Rattle.std.proofs.lemmas.List.{take-append-le}
 use mathlib.Core.Option.{Option, some, none, some-injective, some-ne-none}
@@ -23,8 +23,15 @@ use Rattle.sock_model.specs.Reads.{took_of, as_link, shown, link_home}
 use Rattle.sock_steps.proofs.RightSteps.{right_in}
 use Rattle.sock_steps.proofs.WriteSteps.{taking_law, writes_in}
 use Rattle.sock_steps.proofs.LinkSteps.{link_goes_law, link_comes_law, link_home_law, put_law}
-use Rattle.sock_programs.specs.Programs.{Program, Say, Sent, TakeMessage, TakeHome, PutHome, PutBytes, AskReady}
-use Rattle.sock_programs.specs.Cores.{Core, SeatState, lies_at, first_of, others_of, link_place, next_step, with_seat}
+use Rattle.sock_programs.specs.Programs.{Program, Say, Sent, TakeMessage, TakeHome, PutHome, PutBytes, AskReady, Keep, Retries}
+use Rattle.std.specs.List.{AllByRecursion}
+use Rattle.sock_programs.specs.Heads.{Retry}
+use Rattle.sock_programs.specs.Attempts.{retry}
+use Rattle.sock_programs.specs.Asides.{Step, Found, ClaimId, PutCall, MakeId, StoreCall, LoadCall, StoreAt, LoadAt, LoadIdWord, LockId, PostId, UnlockId, EndId, FreeId, TakeCall, TakeBytes, Taking, Bytes}
+use Rattle.sock_programs.specs.Programs.{Aside}
+use Rattle.sock_programs.specs.Beside.{calls_after, more_given}
+use Rattle.sock_runs.specs.Fits.{FitsFound, FitsRetry}
+use Rattle.sock_programs.specs.Cores.{Calls, Core, SeatState, lies_at, first_of, others_of, link_place, resolved, still_waiting, waiting_at, next_step, with_seat}
 use Rattle.sock_programs.specs.Ticks.{fed, with_places, onto_first, FitsPut}
 use Rattle.sock_runs.specs.Rows.{by_right, took_message, link_away, link_home_again, took_bytes}
 use Rattle.sock_runs.specs.Writes.{MayTakeMessage, Writes}
@@ -38,6 +45,65 @@ pub next_goes : (p : Plan) (v : View) (program : Program) → GoesOn p v program
 next_goes p v (Say o outcome after) g = next_goes p v after g
 next_goes p v (Sent o after) g = next_goes p v after g
 next_goes p v _ g = g
+
+-- ## Retries that wait
+
+fits_set : {A : Type 0} (P : List A → Type 0) (ws : List (List A)) (i : ℕ) (x : List A) → P x → ((j : ℕ) → P (get_or ws j [])) → (j : ℕ) → P (get_or (set ws i x) j [])
+fits_set P [] i x px all j = all j
+fits_set P (w ∷ ws) zero x px all zero = px
+fits_set P (w ∷ ws) zero x px all (suc j) = all (suc j)
+fits_set P (w ∷ ws) (suc i) x px all zero = all zero
+fits_set P (w ∷ ws) (suc i) x px all (suc j) = fits_set P ws i x px (λ k. all (suc k)) j
+
+all_more : (ws : List Retry) (r : Retry) → AllByRecursion FitsRetry ws → FitsRetry r → AllByRecursion FitsRetry (ws ++ r ∷ [])
+all_more [] r all one = (one, tt)
+all_more (w ∷ ws) r all one = (all.0, all_more ws r all.1 one)
+
+-- no step aside touches the retries that wait
+waiting_given : (k : ℕ) (t : Taking) (a : Calls) → (more_given k t a).waiting ≡ a.waiting
+waiting_given k (Bytes bytes) a = refl
+waiting_given k _ a = refl
+
+waiting_stays : (step : Step) (found : Found step) (a : Calls) → (calls_after step found a).waiting ≡ a.waiting
+waiting_stays (TakeBytes k room) found a = waiting_given k found a
+waiting_stays (ClaimId i) found a = refl
+waiting_stays (PutCall i asked) found a = refl
+waiting_stays (MakeId i range) found a = refl
+waiting_stays (StoreCall o id) found a = refl
+waiting_stays (LoadCall o) found a = refl
+waiting_stays (StoreAt o w) found a = refl
+waiting_stays (LoadAt o) found a = refl
+waiting_stays (LoadIdWord i) found a = refl
+waiting_stays (LockId i from) found a = refl
+waiting_stays (PostId i from e) found a = refl
+waiting_stays (UnlockId i from advance) found a = refl
+waiting_stays (EndId i) found a = refl
+waiting_stays (FreeId i) found a = refl
+waiting_stays (TakeCall i) found a = refl
+
+-- each retry may be tried where the seat is at ease
+abbrev pub RetriesGo : Plan → Type 0
+RetriesGo p = (v : View) (r : Retry) (requests : ℕ) (after : Program) → FitsRetry r → GoesOn p v (Retries requests after) → GoesOn p v (retry requests r.id r.attempt (Retries requests after))
+
+module _ (p : Plan) (retries_go : RetriesGo p) where
+  pub resolved_goes : (v : View) (ws : List Retry) (program : Program) → AllByRecursion FitsRetry ws → GoesOn p v program → GoesOn p v (resolved ws program)
+  resolved_goes v ws (Say o outcome next) all g = resolved_goes v ws next all g
+  resolved_goes v ws (Sent o next) all g = resolved_goes v ws next all g
+  resolved_goes v ws (Keep r next) all g = resolved_goes v (ws ++ r ∷ []) next (all_more ws r all g.0) g.1
+  resolved_goes v [] (Retries requests after) all g = resolved_goes v [] after tt (g.1.5 g.1.0 v g.1.3)
+  resolved_goes v (r ∷ ws) (Retries requests after) all g = retries_go v r requests after all.0 g
+  resolved_goes v ws _ all g = g
+
+  pub still_fit : (v : View) (ws : List Retry) (program : Program) → AllByRecursion FitsRetry ws → GoesOn p v program → AllByRecursion FitsRetry (still_waiting ws program)
+  still_fit v ws (Say o outcome next) all g = still_fit v ws next all g
+  still_fit v ws (Sent o next) all g = still_fit v ws next all g
+  still_fit v ws (Keep r next) all g = still_fit v (ws ++ r ∷ []) next (all_more ws r all g.0) g.1
+  still_fit v [] (Retries requests after) all g = still_fit v [] after tt (g.1.5 g.1.0 v g.1.3)
+  still_fit v (r ∷ ws) (Retries requests after) all g = all.1
+  still_fit v ws _ all g = all
+
+  pub come_goes : (v : View) (ws : List Retry) (program : Program) → AllByRecursion FitsRetry ws → GoesOn p v program → GoesOn p v (next_step (resolved ws program))
+  come_goes v ws program all g = next_goes p v (resolved ws program) (resolved_goes v ws program all g)
 
 -- a home that gets no message
 labels_set : (p : Plan) (hs : List (Option Home)) (q : ℕ) (x : Option Home) → ((heading : Heading) (bytes : List ℕ) → x ≡ some (Message heading bytes) → ⊥) → AreLabelled p hs → AreLabelled p (set hs q x)
@@ -102,20 +168,40 @@ restaged v r r' hand one link are = subst (λ (w : View). AreHeld hand w.rights 
 
 -- ## All seats
 
-module _ (p : Plan) (c : Core) (vs : List View) (sound : Sound p c vs) (i : ℕ) (seat : SeatState) (v : View) (at_seat : get_elem? c.seats i ≡ some seat) (at_view : get_elem? vs i ≡ some v) where
+module _ (p : Plan) (retries_go : RetriesGo p) (c : Core) (vs : List View) (sound : Sound p c vs) (i : ℕ) (seat : SeatState) (v : View) (at_seat : get_elem? c.seats i ≡ some seat) (at_view : get_elem? vs i ≡ some v) where
   -- seat i has this program and this in hand, and its view is w
   pub reseats : (program : Program) (hand : List Home) (ws : List ℕ) (hs : List (Option Home)) (w : View) → Lawful (λ home. home) p record { words = ws; homes = hs; views = set vs i w } → length hs ≡ length c.homes → AreLabelled p hs
-      → AreHeld hand w.rights w.hands → GoesOn p w (next_step program) → Sound p (with_seat i program hand ws hs c) (set vs i w)
-  reseats program hand ws hs w law sized labels held goes = let seat' : SeatState = record { program = next_step program; hand = hand } in
-      let fresh : SoundSeat p seat' w = record { hand = held; goes_on = goes } in record {
+      → AreHeld hand w.rights w.hands → GoesOn p w program → Sound p (with_seat i program hand ws hs c) (set vs i w)
+  reseats program hand ws hs w law sized labels held goes = let seat' : SeatState = record { program = next_step (resolved (waiting_at c.calls.waiting i) program); hand = hand } in
+      let fresh : SoundSeat p seat' w = record { hand = held; goes_on = come_goes p retries_go w (waiting_at c.calls.waiting i) program (sound.waiting i) goes } in record {
         limits = sound.limits;
         lawful = law;
         each = length-set vs i w ∙ (sound.each ∙ sym (length-set c.seats i seat'));
         homes = sized ∙ sound.homes;
         labels = labels;
+        waiting = fits_set (AllByRecursion FitsRetry) c.calls.waiting i (still_waiting (waiting_at c.calls.waiting i) program) (still_fit p retries_go w (waiting_at c.calls.waiting i) program (sound.waiting i) goes) sound.waiting;
         seats = λ j s' u at_s at_u. ⊎_elim
             (λ a. ⊎_elim (λ b. subst (λ x. SoundSeat p x u) a.1 (subst (λ y. SoundSeat p seat' y) b.1 fresh)) (λ b. absurd (b.0 a.0)) (at_set vs i j w u at_u))
             (λ a. ⊎_elim (λ b. absurd (a.0 b.0)) (λ b. sound.seats j s' u a.1 b.1) (at_set vs i j w u at_u))
+            (at_set c.seats i j seat' s' at_s);
+      }
+
+  -- the same where what stands aside of the sockets becomes this, with the same retries waiting
+  pub reseats_beside : (a : Calls) → a.waiting ≡ c.calls.waiting → (program : Program) → GoesOn p v program → Sound p (with_seat i program seat.hand c.words c.homes (record c { calls = a })) (set vs i v)
+  reseats_beside a kept program goes = let ws' : List Retry = waiting_at a.waiting i in let fit : AllByRecursion FitsRetry (waiting_at a.waiting i) = subst (λ (x : List (List Retry)). AllByRecursion FitsRetry (waiting_at x i)) (sym kept) (sound.waiting i) in
+      let seat' : SeatState = record { program = next_step (resolved (waiting_at a.waiting i) program); hand = seat.hand } in
+      let old = sound.seats i seat v at_seat at_view in
+      let fresh : SoundSeat p seat' v = record { hand = old.hand; goes_on = come_goes p retries_go v (waiting_at a.waiting i) program fit goes } in record {
+        limits = sound.limits;
+        lawful = subst (λ us. Lawful (λ home. home) p record { words = c.words; homes = c.homes; views = us }) (sym (set_again vs i v at_view)) sound.lawful;
+        each = length-set vs i v ∙ (sound.each ∙ sym (length-set c.seats i seat'));
+        homes = sound.homes;
+        labels = sound.labels;
+        waiting = fits_set (AllByRecursion FitsRetry) a.waiting i (still_waiting (waiting_at a.waiting i) program) (still_fit p retries_go v (waiting_at a.waiting i) program fit goes)
+            (subst (λ (x : List (List Retry)). (j : ℕ) → AllByRecursion FitsRetry (waiting_at x j)) (sym kept) sound.waiting);
+        seats = λ j s' u at_s at_u. ⊎_elim
+            (λ a. ⊎_elim (λ b. subst (λ x. SoundSeat p x u) a.1 (subst (λ y. SoundSeat p seat' y) b.1 fresh)) (λ b. absurd (b.0 a.0)) (at_set vs i j v u at_u))
+            (λ a. ⊎_elim (λ b. absurd (a.0 b.0)) (λ b. sound.seats j s' u a.1 b.1) (at_set vs i j v u at_u))
             (at_set c.seats i j seat' s' at_s);
       }
 
@@ -146,7 +232,7 @@ module _ (p : Plan) (c : Core) (vs : List View) (sound : Sound p c vs) (i : ℕ)
       (length-set c.homes q none) (labels_set p c.homes q none (λ l b e. some-ne-none (Message l b) (sym e)) sound.labels)
       (subst (λ (u : View). AreHeld seat.hand u.rights u.hands) (sym w) (restaged v r (taken_right r heading bytes) seat.hand may.2 refl
       (held_same seat.hand r (taken_right r heading bytes) v.hands refl refl (sym (ap (λ n. r.sent ++ take n r.bytes) may.6)) (with_one v r may.2 seat.hand are))))
-      (next_goes p (took_message heading bytes v) (next heading bytes) (goes.1 heading bytes label.0 label.1))
+      (goes.1 heading bytes label.0 label.1)
 
   -- ## L1
 
@@ -176,7 +262,7 @@ module _ (p : Plan) (c : Core) (vs : List View) (sound : Sound p c vs) (i : ℕ)
       (length-set c.homes (link_place p k) none) (labels_set p c.homes (link_place p k) none (λ l b e. some-ne-none (Message l b) (sym e)) sound.labels)
       (subst (λ (u : View). AreHeld (lies_at c.homes (link_place p k) ++ seat.hand) u.rights u.hands) (sym away)
       (restaged v r r' (lies_at c.homes (link_place p k) ++ seat.hand) w.0 refl (subst (AreHeld (lies_at c.homes (link_place p k) ++ seat.hand) (r' ∷ [])) (sym w.3) (held_away (lies_at c.homes (link_place p k) ++ seat.hand) r' r.places refl hand))))
-      (next_goes p (link_away v) (next n) (subst (λ m. GoesOn p (link_away v) (next m)) (sym q.1) goes.3))
+      (subst (λ m. GoesOn p (link_away v) (next m)) (sym q.1) goes.3)
 
   -- the same, by what the home shows
   pub takes_home_shown : (k : ℕ) (next : ℕ → Program) (took : List ℕ) (n : ℕ) → GoesOn p v (TakeHome k next) → link_home (λ (h : Home). h) p c.homes k ≡ some (took, n)
@@ -211,7 +297,7 @@ module _ (p : Plan) (c : Core) (vs : List View) (sound : Sound p c vs) (i : ℕ)
       (labels_set p c.homes (link_place p k) x (λ l b e. let z : Link r.link r.sent r.places false ≡ Message l b = some-injective (Link r.link r.sent r.places false) (Message l b) (sym first ∙ e) in cc) sound.labels)
       (subst (λ (u : View). AreHeld (others_of seat.hand) u.rights u.hands) (sym home)
       (restaged v r r' (others_of seat.hand) w.0 refl (subst (AreHeld (others_of seat.hand) (r' ∷ [])) (sym w.3) (held_home (others_of seat.hand) r' refl (ap others_of h.1)))))
-      (next_goes p (link_home_again v) after goes.5)
+      goes.5
 
   -- ## W1 and W2
 
@@ -225,7 +311,7 @@ module _ (p : Plan) (c : Core) (vs : List View) (sound : Sound p c vs) (i : ℕ)
   still : (program : Program) (hand : List Home) → AreHeld hand v.rights v.hands → GoesOn p v program → Sound p (with_seat i program hand c.words c.homes c) vs
   still program hand held goes = let same : set vs i v ≡ vs = set_again vs i v at_view in
       subst (Sound p (with_seat i program hand c.words c.homes c)) same
-      (reseats program hand c.words c.homes v (subst (λ us. Lawful (λ home. home) p record { words = c.words; homes = c.homes; views = us }) (sym same) sound.lawful) refl sound.labels held (next_goes p v program goes))
+      (reseats program hand c.words c.homes v (subst (λ us. Lawful (λ home. home) p record { words = c.words; homes = c.homes; views = us }) (sym same) sound.lawful) refl sound.labels held goes)
 
   unmoved : (program : Program) (hand : List Home) → hand ≡ seat.hand → GoesOn p v program → Sound p (with_seat i program hand c.words c.homes c) (set vs i v)
   unmoved program hand same goes = subst (Sound p (with_seat i program hand c.words c.homes c)) (sym (set_again vs i v at_view)) (still program hand (subst (λ xs. AreHeld xs v.rights v.hands) (sym same) are) goes)
@@ -243,6 +329,14 @@ module _ (p : Plan) (c : Core) (vs : List View) (sound : Sound p c vs) (i : ℕ)
       refl sound.labels
       (subst (λ (u : View). AreHeld (onto_first (fed bytes (Took n)) seat.hand) u.rights u.hands) (sym put)
       (restaged v r r' (onto_first (fed bytes (Took n)) seat.hand) w.0 refl (subst (AreHeld (onto_first (fed bytes (Took n)) seat.hand) (r' ∷ [])) (sym w.3) (held_away (onto_first (fed bytes (Took n)) seat.hand) r' h.0 w.2 hand))))
-      (next_goes p (took_bytes (Took n) v) (next (Took n)) (goes.1 (Took n) fits))
+      (goes.1 (Took n) fits)
   puts_bytes k asked bytes next Again goes fits = unmoved (next Again) (onto_first (fed bytes Again) seat.hand) (onto_same (fed bytes Again) seat.hand (λ x. refl)) (goes.1 Again fits)
   puts_bytes k asked bytes next Failed goes fits = unmoved (next Failed) (onto_first (fed bytes Failed) seat.hand) (onto_same (fed bytes Failed) seat.hand (λ x. refl)) (goes.1 Failed fits)
+
+  -- ## Steps aside
+
+  pub steps_aside : (step : Step) (next : Found step → Program) (found : Found step) → GoesOn p v (Aside step next) → FitsFound p step found
+      → Sound p (with_seat i (next found) seat.hand c.words c.homes (record c { calls = calls_after step found c.calls })) vs
+  steps_aside step next found goes fits = let same : set vs i v ≡ vs = set_again vs i v at_view in let kept : (calls_after step found c.calls).waiting ≡ c.calls.waiting = waiting_stays step found c.calls in
+      subst (Sound p (with_seat i (next found) seat.hand c.words c.homes (record c { calls = calls_after step found c.calls }))) same
+      (reseats_beside (calls_after step found c.calls) kept (next found) (goes found fits))

@@ -1,5 +1,5 @@
 -- From the head of a loop one round goes on, whatever it finds: each of its steps is allowed, and it comes to the head of a loop again, or behind them.
-use Rattle.std.proofs.Common.{◌≡◌, ◌≢◌, ℕ, zero, suc, ◌+◌, ◌-◌, ◌*◌, ◌%◌, ◌<◌, ◌≤◌, ◌⊎◌, Bool, true, false, not, ◌&&◌, List, [], ◌∷◌, ◌++◌, length, take, drop, refl, sym, ap, ◌∙◌, subst, inl, inr, arith, cond, eqb, leb, ltb, eq-eqb, ne_eqb, eqb-true, le-ltb, leb-true, leb-false}
+use Rattle.std.proofs.Common.{◌≡◌, ◌≢◌, ℕ, zero, suc, ◌+◌, ◌-◌, ◌*◌, ◌%◌, ◌<◌, ◌≤◌, ◌⊎◌, Bool, true, false, not, ◌&&◌, List, [], ◌∷◌, ◌++◌, length, take, drop, min, refl, sym, ap, ◌∙◌, subst, inl, inr, arith, cond, eqb, leb, ltb, ltb-true, eq-eqb, ne_eqb, eqb-true, le-ltb, leb-true, leb-false}
 use Rattle.std.proofs.lemmas.Bool.{cond-false, true≢false}
 use Rattle.std.proofs.lemmas.List.{append_assoc, append-nil, take-append-drop, length-drop, length-take, drop-drop}
 use Rattle.std.specs.List.{filter}
@@ -34,9 +34,11 @@ use Rattle.slot_laws.proofs.Slots.{hold_ref}
 use Rattle.sock_model.specs.Entries.{slot_of, generation_of}
 use Rattle.sock_model.specs.Memory.{UNCONNECTED}
 use Rattle.sock_programs.specs.Calls.{StoreCode, SubRef, ReadNext, FreeRequest, DropPlace, EmptyHead, TurnNext}
+use Rattle.sock_programs.specs.Parts.{room_of_part}
 use Rattle.sock_programs.specs.Writings.{Holder, Writing, Puts, Waits, Empties, Walks}
 use Rattle.sock_programs.specs.Programs.{Program, Do, TakeMessage, TakeHome, PutBytes, Write, LAST_GENERATION, set_failed}
-use Rattle.sock_programs.specs.Sends.{freed, one_more, passed, placed, dropped, put_answered, ready_answered, block}
+use Rattle.sock_runs.proofs.Passes.{tell_goes}
+use Rattle.sock_programs.specs.Sends.{freed, one_more, passed, passed_telling, tell_drop, placed, dropped, put_answered, ready_answered, block, first_put}
 use Rattle.sock_runs.specs.May.{even_version}
 use Rattle.sock_runs.specs.Rows as Rows
 use Rattle.sock_runs.specs.Rows.{row, by_right, settled, settled_stage, read_next, turned_next, placed_next, dropped_next, emptied, looked_clean, took_bytes}
@@ -291,7 +293,7 @@ module _ (p : Plan) (after : Program) where
   )
 
   module _ (v : View) (h : Holder) (r s : Right) (now : ℕ) (a : Keeps p v h.id h.link r) (link : s.link ≡ h.link) (last : s.last ≡ h.last) (places : s.places ≡ h.places) (away : s.at_home ≡ false)
-      (none_ : s.taken ≡ false) (put : s.put ≡ 0) (follows : Follows p v after) where
+      (none_ : s.taken ≡ false) (put : s.put ≡ 0) (follows : Follows p v after) (tells : Program → Program) (tells_go : (w : View) (x : Program) → GoesOn p w x → GoesOn p w (tells x)) where
     -- the right as it is, but for its stage
     staged : (b : Stage) → IsHolder p (with_right v (record s { stage = b })) h (record s { stage = b })
     staged b = holder h (changed (record s { stage = b }) a link) last places away
@@ -301,36 +303,36 @@ module _ (p : Plan) (after : Program) where
 
     next_branch : (next : ℕ) (b : Bool) → b ≡ eqb (generation_of now) LAST_GENERATION → (w : View) (t : Right) → IsHolder p w h t → t.taken ≡ false → t.put ≡ 0 → Follows p w after
         → GoesOn p (with_right w (record t { stage = cond b (stages.Writes next) (stages.Passes now next) }))
-        (cond b (TakeMessage (slot_of next) (λ heading bytes. Write (Puts h next heading bytes 0 false) after))
-        (Do (FreeRequest (slot_of now) (generation_of now)) (λ _. TakeMessage (slot_of next) (λ heading bytes. Write (Puts h next heading bytes 0 false) after))))
+        (cond b (tells (TakeMessage (slot_of next) (λ heading bytes. Write (Puts h next heading bytes 0 false) after)))
+        (Do (FreeRequest (slot_of now) (generation_of now)) (λ _. tells (TakeMessage (slot_of next) (λ heading bytes. Write (Puts h next heading bytes 0 false) after)))))
     next_branch next true is w t c none_ unput follows = let x : Right = record t { stage = stages.Writes next } in
-        takes_next (with_right w x) h x next (holder h (changed x (keeps c) c.link) c.last c.places c.away) refl none_ unput follows
+        tells_go (with_right w x) (TakeMessage (slot_of next) (λ heading bytes. Write (Puts h next heading bytes 0 false) after)) (takes_next (with_right w x) h x next (holder h (changed x (keeps c) c.link) c.last c.places c.away) refl none_ unput follows)
     next_branch next false is w t c none_ unput follows = let x : Right = record t { stage = stages.Passes now next } in let u : View = with_right w x in
         let d : IsHolder p u h x = holder h (changed x (keeps c) c.link) c.last c.places c.away in let y : Right = record x { stage = stages.Writes next } in (
           (now, refl, refl, not_equal _ _ is, (x, d.one, inr (next, refl))),
           λ found hand f.
-              by_one p u x (λ r. with_right u (record r { stage = Rows.freed_stage r.stage })) u (TakeMessage (slot_of next) (λ heading bytes. Write (Puts h next heading bytes 0 false) after)) d.one
-              (takes_next (with_right u y) h y next (holder h (changed y (keeps d) d.link) d.last d.places d.away) refl none_ unput follows),
+              by_one p u x (λ r. with_right u (record r { stage = Rows.freed_stage r.stage })) u (tells (TakeMessage (slot_of next) (λ heading bytes. Write (Puts h next heading bytes 0 false) after))) d.one
+              (tells_go (with_right u y) (TakeMessage (slot_of next) (λ heading bytes. Write (Puts h next heading bytes 0 false) after)) (takes_next (with_right u y) h y next (holder h (changed y (keeps d) d.link) d.last d.places d.away) refl none_ unput follows)),
         )
 
     passed_branch : (b d : Bool) → b ≡ eqb now h.last → d ≡ eqb (generation_of now) LAST_GENERATION → GoesOn p (with_right v (record s { stage = cond (b && d) stages.Empties (stages.Placed now) }))
-        (cond b (cond d (Write (Empties h) after) (Do (FreeRequest (slot_of now) (generation_of now)) (λ _. Write (Empties h) after)))
-        (Do (ReadNext (slot_of now)) (λ next. freed now (TakeMessage (slot_of next) (λ heading bytes. Write (Puts h next heading bytes 0 false) after)))))
-    passed_branch true true is is₁ = ((record s { stage = stages.Empties }, staged stages.Empties, record { stage_is = refl; none_ = none_; put = put }), follows)
+        (cond b (cond d (tells (Write (Empties h) after)) (Do (FreeRequest (slot_of now) (generation_of now)) (λ _. tells (Write (Empties h) after))))
+        (Do (ReadNext (slot_of now)) (λ next. freed now (tells (TakeMessage (slot_of next) (λ heading bytes. Write (Puts h next heading bytes 0 false) after))))))
+    passed_branch true true is is₁ = tells_go (with_right v (record s { stage = stages.Empties })) (Write (Empties h) after) ((record s { stage = stages.Empties }, staged stages.Empties, record { stage_is = refl; none_ = none_; put = put }), follows)
     passed_branch true false is is₁ = let x : Right = record s { stage = stages.Placed now } in let u : View = with_right v x in (
       (now, refl, refl, not_equal _ _ is₁, (x, (staged (stages.Placed now)).one, inl (refl, eqb-true now h.last (sym is) ∙ sym last))),
-      λ found hand f. by_one p u x (λ r. with_right u (record r { stage = Rows.freed_stage r.stage })) u (Write (Empties h) after) (staged (stages.Placed now)).one
-          ((record s { stage = stages.Empties }, restaged (stages.Placed now) stages.Empties, record { stage_is = refl; none_ = none_; put = put }), follows),
+      λ found hand f. by_one p u x (λ r. with_right u (record r { stage = Rows.freed_stage r.stage })) u (tells (Write (Empties h) after)) (staged (stages.Placed now)).one
+          (tells_go (with_right u (record x { stage = stages.Empties })) (Write (Empties h) after) ((record s { stage = stages.Empties }, restaged (stages.Placed now) stages.Empties, record { stage_is = refl; none_ = none_; put = put }), follows)),
     )
     passed_branch false d is is₁ = let x : Right = record s { stage = stages.Placed now } in let u : View = with_right v x in (
       (x, (staged (stages.Placed now)).one, inl (now, refl, (λ e. not_equal now h.last is (e ∙ last)), refl)),
-      λ found hand f. by_one p u x (λ r. read_next found u r r.stage) u (freed now (TakeMessage (slot_of found) (λ heading bytes. Write (Puts h found heading bytes 0 false) after))) (staged (stages.Placed now)).one
+      λ found hand f. by_one p u x (λ r. read_next found u r r.stage) u (freed now (tells (TakeMessage (slot_of found) (λ heading bytes. Write (Puts h found heading bytes 0 false) after)))) (staged (stages.Placed now)).one
           (next_branch found (eqb (generation_of now) LAST_GENERATION) refl u x (staged (stages.Placed now)) none_ put follows),
     )
 
-    pub passed_goes : s.stage ≡ stages.Placed now → GoesOn p (with_right v (settled s)) (passed h now after)
-    passed_goes stage = subst (λ b. GoesOn p (with_right v (record s { stage = settled_stage s.last b })) (passed h now after)) (sym stage)
-        (subst (λ l. GoesOn p (with_right v (record s { stage = settled_stage l (stages.Placed now) })) (passed h now after)) (sym last) (passed_branch (eqb now h.last) (eqb (generation_of now) LAST_GENERATION) refl refl))
+    pub passed_goes : s.stage ≡ stages.Placed now → GoesOn p (with_right v (settled s)) (passed_telling h now tells after)
+    passed_goes stage = subst (λ b. GoesOn p (with_right v (record s { stage = settled_stage s.last b })) (passed_telling h now tells after)) (sym stage)
+        (subst (λ l. GoesOn p (with_right v (record s { stage = settled_stage l (stages.Placed now) })) (passed_telling h now tells after)) (sym last) (passed_branch (eqb now h.last) (eqb (generation_of now) LAST_GENERATION) refl refl))
 
 -- ## The message in hand
 
@@ -359,7 +361,7 @@ module _ (p : Plan) (after : Program) (v : View) (h : Holder) (r : Right) (now :
     (record { mine = own_right a; now = now; stage = stage; taken = in_hand; is_clean = clean; away = a.away; label_in = labelled }, a.one, ap (λ (x : Heading). x.place) (sym heading_is), sym a.link, sym a.places, whole),
     λ found hand f. by_one p v r (λ r. placed_next v r r.stage) v (passed (one_more h) now after) a.one
         (subst (λ b. GoesOn p (placed_next v r b) (passed (one_more h) now after)) (sym stage)
-        (passed_goes p after v (one_more h) r (placed_right r now) now (keeps a) a.link a.last (omega (arith, a.places)) a.away refl refl follows refl)),
+        (passed_goes p after v (one_more h) r (placed_right r now) now (keeps a) a.link a.last (omega (arith, a.places)) a.away refl refl follows (λ x. x) (λ w x g. g) refl)),
   )
 
 module _ (p : Plan) (after : Program) (v : View) (h : Holder) (r : Right) (now : ℕ) (heading : Heading) (left : List ℕ) (taken : ℕ) (a : IsHolder p v h r) (m : HasMessage p r now heading left taken) (follows : Follows p v after) where
@@ -372,8 +374,8 @@ module _ (p : Plan) (after : Program) (v : View) (h : Holder) (r : Right) (now :
   clean_or_none : r.put ≡ 0 ⊎ (r.clean ≡ true)
   clean_or_none = dite (ℕ_discrete r.put 0) (λ e. inl e) (λ n. inr (m.clean (omega (arith, n, m.put))))
 
-  drops_goes : 0 < marks_of (is_saw (socket_id_version h.id + 1)) (socket_id_slot h.id) v → GoesOn p v (Do (DropPlace heading.place h.link h.places) (λ _. passed (one_more h) now after))
-  drops_goes saw = let sent : List ℕ = r.sent ++ take r.put r.bytes in (
+  drops_goes : (code : ℕ) → 0 < marks_of (is_saw (socket_id_version h.id + 1)) (socket_id_slot h.id) v → GoesOn p v (Do (DropPlace heading.place h.link h.places) (λ _. passed_telling (one_more h) now (tell_drop heading code) after))
+  drops_goes code saw = let sent : List ℕ = r.sent ++ take r.put r.bytes in (
     (
       record { mine = own_right a; now = now; sent = sent; stage = m.stage; taken = m.in_hand; away = a.away; label_in = labelled p after v h r now heading a m.stage m.in_hand m.heading_is m.label_in follows; part = part_of clean_or_none },
       a.one,
@@ -383,10 +385,22 @@ module _ (p : Plan) (after : Program) (v : View) (h : Holder) (r : Right) (now :
       refl,
       (socket_id_slot h.id, socket_id_version h.id, life_of_link a, saw),
     ),
-    λ found hand f. by_one p v r (λ r. dropped_next v r r.stage) v (passed (one_more h) now after) a.one
-        (subst (λ b. GoesOn p (dropped_next v r b) (passed (one_more h) now after)) (sym m.stage)
-        (passed_goes p after v (one_more h) r (dropped_right r now sent) now (keeps a) a.link a.last (omega (arith, a.places)) a.away refl refl follows refl)),
+    λ found hand f. by_one p v r (λ r. dropped_next v r r.stage) v (passed_telling (one_more h) now (tell_drop heading code) after) a.one
+        (subst (λ b. GoesOn p (dropped_next v r b) (passed_telling (one_more h) now (tell_drop heading code) after)) (sym m.stage)
+        (passed_goes p after v (one_more h) r (dropped_right r now sent) now (keeps a) a.link a.last (omega (arith, a.places)) a.away refl refl follows (tell_drop heading code) (λ w x g. tell_goes p w heading code x g) refl)),
   )
+
+-- a piece has room for a byte
+some_min : (a b : ℕ) → 0 < a → 0 < b → 0 < min a b
+some_min a b x y = omega (arith, x, y)
+
+some_room : (parts : List ℕ) (taken : ℕ) → 0 < room_of_part parts taken
+some_room [] taken = omega arith
+some_room (n ∷ ns) taken = by_part (ltb taken n) refl (some_room ns (taken - n))
+  where
+    by_part : (b : Bool) → ltb taken n ≡ b → 0 < room_of_part ns (taken - n) → 0 < cond b (min (n - taken) (8192 - taken % 8192)) (room_of_part ns (taken - n))
+    by_part true is more = let less : taken < n = ltb-true taken n is in some_min (n - taken) (8192 - taken % 8192) (omega (arith, less)) (omega arith)
+    by_part false is more = more
 
 module _ (p : Plan) (after : Program) (h : Holder) (now : ℕ) (heading : Heading) (left : List ℕ) (taken : ℕ) where
   pub dropped_goes : (v : View) (r : Right) → IsHolder p v h r → HasMessage p r now heading left taken → Follows p v after → 0 < marks_of (is_saw (socket_id_version h.id + 1)) (socket_id_slot h.id) v
@@ -394,10 +408,10 @@ module _ (p : Plan) (after : Program) (h : Holder) (now : ℕ) (heading : Headin
   dropped_goes v r a m follows saw = let i : ℕ = socket_id_slot h.id in let g : ℕ = socket_id_version h.id in
       ((a.holds.inside, a.holds.held), λ found hand f. by_code found (eqb found 0))
     where
-      by_code : (found : ℕ) (b : Bool) → GoesOn p (cond b v (told_code (socket_id_slot h.id) (socket_id_version h.id) found v)) (Do (DropPlace heading.place h.link h.places) (λ _. passed (one_more h) now after))
-      by_code found true = drops_goes p after v h r now heading left taken a m follows saw
+      by_code : (found : ℕ) (b : Bool) → GoesOn p (cond b v (told_code (socket_id_slot h.id) (socket_id_version h.id) found v)) (Do (DropPlace heading.place h.link h.places) (λ _. passed_telling (one_more h) now (tell_drop heading found) after))
+      by_code found true = drops_goes p after v h r now heading left taken a m follows found saw
       by_code found false = let i : ℕ = socket_id_slot h.id in let g : ℕ = socket_id_version h.id in let new : List SlotMark = at i (Told g found) ∷ at i (Saw (g + 1)) ∷ [] in
-          drops_goes p after (with_notes new v) h r now heading left taken (holder_noted new (tt, (tt, tt)) a) m (follows_noted p v after new (tt, (tt, tt)) follows) (omega (arith, saw, about_append i (is_saw (g + 1)) new v.marks))
+          drops_goes p after (with_notes new v) h r now heading left taken (holder_noted new (tt, (tt, tt)) a) m (follows_noted p v after new (tt, (tt, tt)) follows) found (omega (arith, saw, about_append i (is_saw (g + 1)) new v.marks))
 
   -- the link failed, or its seat asks again
   refused_goes : (v : View) (r : Right) → IsHolder p v h r → HasMessage p r now heading left taken → Follows p v after → GoesOn p v (set_failed h.id 1009 (λ _. Write (Puts h now heading left taken false) after))
@@ -435,15 +449,15 @@ module _ (p : Plan) (after : Program) (h : Holder) (now : ℕ) (heading : Headin
       follows,
     )
 
-    put_goes : (asked : Bool) → GoesOn p v (PutBytes h.link asked (take (8192 - taken % 8192) left) (put_answered h now heading left taken after))
+    put_goes : (asked : Bool) → GoesOn p v (PutBytes h.link asked (take (room_of_part heading.parts taken) left) (put_answered h now heading left taken after))
     put_goes asked = (
-      (r, (a.one, a.link, a.away, a.hands), m.in_hand, clean, some_piece (8192 - taken % 8192) left (omega arith) m.some_left, (drop (8192 - taken % 8192) left, m.left_is ∙ sym (take-append-drop (8192 - taken % 8192) left))),
+      (r, (a.one, a.link, a.away, a.hands), m.in_hand, clean, some_piece (room_of_part heading.parts taken) left (some_room heading.parts taken) m.some_left, (drop (room_of_part heading.parts taken) left, m.left_is ∙ sym (take-append-drop (room_of_part heading.parts taken) left))),
       answers,
     )
       where
-        answers : (answer : Put) → FitsPut asked (take (8192 - taken % 8192) left) answer → GoesOn p (took_bytes answer v) (put_answered h now heading left taken after answer)
+        answers : (answer : Put) → FitsPut asked (take (room_of_part heading.parts taken) left) answer → GoesOn p (took_bytes answer v) (put_answered h now heading left taken after answer)
         answers (puts.Took n) fits = by_one p v r (λ r. with_right v (put_right r n)) v (put_answered h now heading left taken after (puts.Took n)) a.one
-            (took_branch n (omega (arith, fits.1, length-take (8192 - taken % 8192) left)) (leb (length left) n) refl)
+            (took_branch n (omega (arith, fits.1, length-take (room_of_part heading.parts taken) left)) (leb (length left) n) refl)
         answers puts.Again fits = ((r, a, m), follows)
         answers puts.Failed fits = refused_goes v r a m follows
 
@@ -451,7 +465,7 @@ module _ (p : Plan) (after : Program) (h : Holder) (now : ℕ) (heading : Headin
 
   look_branch : (v : View) (r : Right) (asked : Bool) → IsHolder p v h r → HasMessage p r now heading left taken → Follows p v after → (b : Bool) (w : ℕ) → (b ≡ false → w ≡ socket_id_version h.id + 1)
       → GoesOn p (cond b (with_right (with_notes (at (socket_id_slot h.id) (Saw w) ∷ []) v) (record r { clean = true })) (with_notes (at (socket_id_slot h.id) (Saw w) ∷ []) v))
-      (cond b (PutBytes h.link asked (take (8192 - taken % 8192) left) (put_answered h now heading left taken after)) (dropped h now heading after))
+      (cond b (PutBytes h.link asked (take (room_of_part heading.parts taken) left) (put_answered h now heading left taken after)) (dropped h now heading after))
   look_branch v r asked a m follows true w odd = let i : ℕ = socket_id_slot h.id in let new : List SlotMark = at i (Saw w) ∷ [] in let s : Right = record r { clean = true } in
       put_goes (with_right (with_notes new v) s) s (holder h (changed s (noted new (tt, tt) (keeps a)) a.link) a.last a.places a.away)
       (record { stage = m.stage; in_hand = m.in_hand; heading_is = m.heading_is; put = m.put; left_is = m.left_is; some_left = m.some_left; clean = λ z. refl; label_in = m.label_in }) refl (follows_noted p v after new (tt, tt) follows) asked
@@ -463,9 +477,25 @@ module _ (p : Plan) (after : Program) (h : Holder) (now : ℕ) (heading : Headin
   puts_round v r asked a m follows = let i : ℕ = socket_id_slot h.id in (
     (a.holds.inside, inr (r, a.one, life_of_link a)),
     λ found hand f. let b : Bool = eqb (vref_version found % 2) 0 in let same : even_version found ≡ socket_id_version h.id = f.0 (socket_id_version h.id) a.holds.held in
-        by_one p v r (looked_clean i found v) (looked i found v) (cond b (PutBytes h.link asked (take (8192 - taken % 8192) left) (put_answered h now heading left taken after)) (dropped h now heading after)) a.one
+        by_one p v r (looked_clean i found v) (looked i found v) (cond b (PutBytes h.link asked (take (room_of_part heading.parts taken) left) (put_answered h now heading left taken after)) (dropped h now heading after)) a.one
         (look_branch v r asked a m follows b (vref_version found) (λ e. omega (arith, same, not_equal (vref_version found % 2) 0 (sym e)))),
   )
+
+  -- the first look comes before the loop
+  pub first_goes : taken ≡ 0 → (v : View) (r : Right) → IsHolder p v h r → HasMessage p r now heading left taken → Follows p v after → GoesOn p v (first_put h now heading left after)
+  first_goes none_ v r a m follows = let i : ℕ = socket_id_slot h.id in (
+    (a.holds.inside, inr (r, a.one, life_of_link a)),
+    λ found hand f. let b : Bool = eqb (vref_version found % 2) 0 in
+        by_one p v r (looked_clean i found v) (looked i found v) (cond b (PutBytes h.link false (take (room_of_part heading.parts 0) left) (put_answered h now heading left 0 after)) (Write (Puts h now heading left 0 false) after)) a.one
+        (first_branch b (vref_version found)),
+  )
+    where
+      first_branch : (b : Bool) (w : ℕ) → GoesOn p (cond b (with_right (with_notes (at (socket_id_slot h.id) (Saw w) ∷ []) v) (record r { clean = true })) (with_notes (at (socket_id_slot h.id) (Saw w) ∷ []) v))
+          (cond b (PutBytes h.link false (take (room_of_part heading.parts 0) left) (put_answered h now heading left 0 after)) (Write (Puts h now heading left 0 false) after))
+      first_branch true w = subst (λ n. GoesOn p (with_right (with_notes (at (socket_id_slot h.id) (Saw w) ∷ []) v) (record r { clean = true })) (PutBytes h.link false (take (room_of_part heading.parts n) left) (put_answered h now heading left n after))) none_
+          (look_branch v r false a m follows true w (λ e. absurd (true≢false e)))
+      first_branch false w = let new : List SlotMark = at (socket_id_slot h.id) (Saw w) ∷ [] in
+          ((r, holder_noted new (tt, tt) a, subst (λ n. HasMessage p r now heading left n) none_ m), follows_noted p v after new (tt, tt) follows)
 
   waits_round : (v : View) (r : Right) → IsHolder p v h r → HasMessage p r now heading left taken → Follows p v after → GoesOn p v (block (Waits h now heading left taken) after)
   waits_round v r a m follows = ((r, (a.one, a.link, a.away, a.hands)), answers)

@@ -17,11 +17,12 @@ use Rattle.sock_programs.specs.Ticks.{Moment, IsAnswered, ticked}
 use Rattle.sock_runs.specs.Rows.{row, hand_at}
 use Rattle.sock_runs.specs.May.{May}
 use Rattle.sock_runs.specs.GoesOn.{GoesOn}
-use Rattle.sock_runs.specs.Sound.{state, AreInHand, AreHeld, AreLabelled, Sound, views_after}
+use Rattle.sock_runs.specs.Sound.{state, AreInHand, AreHeld, AreLabelled, Sound, views_after, IsFitting}
+use Rattle.sock_runs.proofs.Passes.{goes_round}
 use Rattle.sock_runs.proofs.SlotTicks as slots
 use Rattle.sock_runs.proofs.NameTicks as names
 use Rattle.sock_runs.proofs.ChainTicks as chains
-use Rattle.sock_runs.proofs.LinkTicks.{next_goes, reseats, takes_message, takes_home_shown, puts_home, puts_bytes, asks_ready}
+use Rattle.sock_runs.proofs.LinkTicks.{RetriesGo, reseats, steps_aside, takes_message, takes_home_shown, puts_home, puts_bytes, asks_ready}
 use Rattle.sock_runs.proofs.HandTicks.{takes, finishes, puts}
 use Rattle.sock_runs.proofs.Held.{held_in_hand, keeps_held}
 use Rattle.sock_runs.proofs.Founds.{finds}
@@ -98,24 +99,25 @@ labels_stay p v (PutMessage q l cs) may hand held hs labels i heading bytes at =
     parts a b c d e = (cc, cc)
 labels_stay p v _ may hand held hs labels i heading bytes at = labels i heading bytes at
 
-module _ (p : Plan) (c : Core) (vs : List View) (i : ℕ) (sound : Sound p c vs) where
+module _ (p : Plan) (retries_go : RetriesGo p) (c : Core) (vs : List View) (i : ℕ) (sound : Sound p c vs) where
   -- a step of the seat i
   pub step_sound : (seat : SeatState) (v : View) (call : Call) (next : ℕ → Program) → get_elem? c.seats i ≡ some seat → get_elem? vs i ≡ some v → GoesOn p v (Do call next)
       → Sound p (stepped p i seat call next c) (set vs i (row p call (found_at c.words (word_of p call)) (hand_at p c.words c.homes call) v))
   step_sound seat v call next at_seat at_view goes = let may = goes.0 in let old = sound.seats i seat v at_seat at_view in let found : ℕ = found_at c.words (word_of p call) in let hand : Hand = hand_at p c.words c.homes call in let w : View = row p call found hand v in
-      reseats p c vs sound i seat v at_seat at_view (next found) (hand_after p call c.homes seat.hand) (words_after c.words (word_of p call) (word_after call found)) (homes_after p call seat.hand c.homes) w
+      reseats p retries_go c vs sound i seat v at_seat at_view (next found) (hand_after p call c.homes seat.hand) (words_after c.words (word_of p call) (word_after call found)) (homes_after p call seat.hand c.homes) w
       (keeps_rule p c vs sound.lawful i v at_view seat.hand old.hand sound.homes call may)
       (homes_sized p call seat.hand c.homes)
       (labels_stay p v call may seat.hand old.hand c.homes sound.labels)
       (keeps_held p c vs sound.lawful i v at_view seat.hand old.hand call may)
-      (next_goes p w (next found) (goes.1 found hand (finds p (state c vs) sound.lawful i v at_view sound.limits.slots call may)))
+      (goes.1 found hand (finds p (state c vs) sound.lawful i v at_view sound.limits.slots call may))
 
--- a tick of any seat keeps all seats sound
-pub sound_ticks : (p : Plan) (c : Core) (vs : List View) (m : Moment) → Sound p c vs → IsAnswered c m → Sound p (ticked p c m) (views_after p c vs m)
-sound_ticks p c vs m sound answered = tick_keeps p c vs m sound answered (begins_round p) (Sound p) sound
-    (λ seat v call next at_seat at_view is goes. step_sound p c vs m.seat sound seat v call next at_seat at_view goes)
-    (λ seat v q next heading bytes at_seat at_view is goes here. takes_message p c vs sound m.seat seat v at_seat at_view q next heading bytes goes here)
-    (λ seat v k next took n at_seat at_view is goes here. takes_home_shown p c vs sound m.seat seat v at_seat at_view k next took n goes here)
-    (λ seat v k n after at_seat at_view is goes. puts_home p c vs sound m.seat seat v at_seat at_view k n after goes)
-    (λ seat v k asked bytes next answer at_seat at_view is goes answer_is fits. puts_bytes p c vs sound m.seat seat v at_seat at_view k asked bytes next answer goes fits)
-    (λ seat v k next answer at_seat at_view is goes answer_is. asks_ready p c vs sound m.seat seat v at_seat at_view k next answer goes)
+-- a tick of any seat keeps all seats sound, where each retry may be tried, and what steps aside of the sockets find is as it should be
+pub sound_ticks : (p : Plan) → RetriesGo p → (c : Core) (vs : List View) (m : Moment) → Sound p c vs → IsAnswered c m → IsFitting p c m → Sound p (ticked p c m) (views_after p c vs m)
+sound_ticks p retries_go c vs m sound answered fitting = tick_keeps p c vs m sound answered fitting (begins_round p) (goes_round p) (Sound p) sound
+    (λ seat v call next at_seat at_view is goes. step_sound p retries_go c vs m.seat sound seat v call next at_seat at_view goes)
+    (λ seat v q next heading bytes at_seat at_view is goes here. takes_message p retries_go c vs sound m.seat seat v at_seat at_view q next heading bytes goes here)
+    (λ seat v k next took n at_seat at_view is goes here. takes_home_shown p retries_go c vs sound m.seat seat v at_seat at_view k next took n goes here)
+    (λ seat v k n after at_seat at_view is goes. puts_home p retries_go c vs sound m.seat seat v at_seat at_view k n after goes)
+    (λ seat v k asked bytes next answer at_seat at_view is goes answer_is fits. puts_bytes p retries_go c vs sound m.seat seat v at_seat at_view k asked bytes next answer goes fits)
+    (λ seat v k next answer at_seat at_view is goes answer_is. asks_ready p retries_go c vs sound m.seat seat v at_seat at_view k next answer goes)
+    (λ seat v step next found at_seat at_view is goes fits. steps_aside p retries_go c vs sound m.seat seat v at_seat at_view step next found goes fits)

@@ -8,7 +8,9 @@ use lib.ListN.{get_elem?}
 use Rattle.sock_words.specs.declared.kind.Kind.{Kind}
 use Rattle.sock_words.specs.declared.plain.Plan.{Plan}
 use Rattle.sock_programs.specs.Writings.{Puts, Waits, Empties, Walks}
-use Rattle.sock_programs.specs.Programs.{Program, Do, Say, Sent, Rest, TakeMessage, TakeHome, PutHome, PutBytes, AskReady, Write}
+use Rattle.sock_programs.specs.Programs.{Program, Do, Say, Sent, Rest, TakeMessage, TakeHome, PutHome, PutBytes, AskReady, Write, Aside, Round, Keep, Retries}
+use Rattle.sock_programs.specs.Asides.{TakeBytes}
+use Rattle.sock_programs.specs.Heads.{Reads, Discards}
 use Rattle.sock_programs.specs.Cores.{Core, SeatState}
 use Rattle.sock_programs.specs.Ticks.{Unasked, quiet, tick_with, ticked, run, IsAnswer, AreAnswered}
 use Rattle.sock_programs.specs.Runs.{kind_in, IsAtRest, IsSettled}
@@ -22,6 +24,13 @@ asks_or_not p c i seat (Write (Waits h now heading left taken) after) = inr (ref
 asks_or_not p c i seat (Write (Puts h now heading left taken asked) after) = inl tt
 asks_or_not p c i seat (Write (Empties h) after) = inl tt
 asks_or_not p c i seat (Write (Walks h top at after) then_) = inl tt
+asks_or_not p c i seat (Aside (TakeBytes k room) next) = inr (refl, λ e. none-some _ (sym e))
+asks_or_not p c i seat (Aside step next) = inl tt
+asks_or_not p c i seat (Round (Reads r) next) = inr (refl, λ e. none-some _ (sym e))
+asks_or_not p c i seat (Round (Discards k total) next) = inr (refl, λ e. none-some _ (sym e))
+asks_or_not p c i seat (Round head next) = inl tt
+asks_or_not p c i seat (Keep r next) = inl tt
+asks_or_not p c i seat (Retries requests after) = inl tt
 asks_or_not p c i seat (Do call next) = inl tt
 asks_or_not p c i seat (Say o outcome next) = inl tt
 asks_or_not p c i seat (Sent o next) = inl tt

@@ -1,5 +1,5 @@
 -- A tick of a seat that waits changes nothing; and where all links are prompt and each seat is at rest or waits, none waits.
-use Rattle.std.proofs.Common.{◌≡◌, ◌≢◌, ℕ, zero, suc, ◌-◌, ◌<◌, ◌≤◌, ◌⊎◌, Bool, true, false, List, [], ◌∷◌, length, set, refl, sym, ap, ap₂, ◌∙◌, subst, inl, inr, ⊎_elim, arith, cond, eqb, eqb-true}
+use Rattle.std.proofs.Common.{◌≡◌, ◌≢◌, ℕ, zero, suc, ◌-◌, ◌<◌, ◌≤◌, ◌⊎◌, Bool, true, false, not, ◌&&◌, List, [], ◌∷◌, length, set, refl, sym, ap, ap₂, ◌∙◌, subst, inl, inr, ⊎_elim, arith, cond, eqb, eqb-true}
 use Rattle.std.proofs.lemmas.Bool.{true≢false}
 use Rattle.std.specs.Prelude.{slice_index}
 use Rattle.std.specs.List.{filter}
@@ -29,14 +29,24 @@ use Rattle.sock_steps.proofs.Maps.{gather_nil}
 use Rattle.sock_steps.proofs.RightSteps.{right_in, right_alone}
 use Rattle.sock_programs.specs.Writings.{Writing}
 use Rattle.sock_programs.specs.Writings as heads
-use Rattle.sock_programs.specs.Programs.{Program, Do, TakeMessage, Write}
+use Rattle.std.specs.Prelude as std
+use Rattle.corr_core.specs.Word.{parts}
+use Rattle.id_rule.specs.Lawful.{id_word}
+use Rattle.sock_model.specs.Layout.{open_word}
+use Rattle.sock_programs.specs.Asides.{Taking, Nothing, id_slot}
+use Rattle.sock_programs.specs.Beside.{at_last, more_given}
+use Rattle.sock_programs.specs.Heads.{Head, Exit, Retry, Sought, Locks, Joins, Opens, Reads, Discards, Locking, NotThere}
+use Rattle.sock_programs.specs.Posts.{is_sought, locking}
+use Rattle.sock_programs.specs.Readers.{took, discarded}
+use Rattle.sock_programs.specs.Programs.{Program, Do, Say, Sent, TakeMessage, Write, Round, Keep, Retries}
 use Rattle.sock_programs.specs.Calls.{TurnNext}
 use Rattle.sock_programs.specs.Cores.{Core, SeatState, with_seat}
-use Rattle.sock_programs.specs.Ticks.{Answer, OfReady, Moment, tick_with, ticked, IsAnswered, IsPrompt, waits_at, waits}
-use Rattle.sock_programs.specs.Runs.{IsAtRest, IsSettled}
+use Rattle.sock_programs.specs.Ticks.{Answer, OfReady, OfTake, Moment, tick_with, ticked, IsAnswered, IsPrompt, waits_at, waits_in, waits}
+use Rattle.sock_programs.specs.Runs.{IsAtRest}
 use Rattle.sock_runs.specs.GoesOn.{GoesOn}
-use Rattle.sock_runs.specs.Sound.{Sound, IsAhead}
+use Rattle.sock_runs.specs.Sound.{Sound, IsAhead, is_begun}
 use Rattle.sock_runs.proofs.Allowed.{view_there}
+use Rattle.sock_runs.proofs.Passes.{and_left, and_right}
 use Rattle.sock_runs.proofs.Along.{seat_rests, place_inside}
 
 -- ## Its tick changes nothing
@@ -46,17 +56,53 @@ module _ (p : Plan) (i : ℕ) (seat : SeatState) (c : Core) where
   abbrev with_program : Program → Core
   with_program program = record c { seats = set c.seats i (record { program = program; hand = seat.hand }) }
 
+  -- a seat that comes to the program which it had keeps what waits with it
+  again : (program : Program) → is_begun program ≡ true → with_seat i program seat.hand c.words c.homes c ≡ with_program program
+  again (Say o outcome next) begun = absurd (true≢false (sym begun))
+  again (Sent o next) begun = absurd (true≢false (sym begun))
+  again (Keep r next) begun = absurd (true≢false (sym begun))
+  again (Retries requests after) begun = absurd (true≢false (sym begun))
+  again program begun = ap (λ (ws : List (List Retry)). record c { seats = set c.seats i (record { program = program; hand = seat.hand }); calls = record c.calls { waiting = ws } }) (set-get_or c.calls.waiting i [])
+
   walk_stays : (h : heads.Holder) (top place after : ℕ) (then_ : Program) (answer : Answer) → waits_at p c answer (Write (heads.Walks h top place after) then_) ≡ true
       → tick_with p i seat c answer (Write (heads.Walks h top place after) then_) ≡ with_program (Write (heads.Walks h top place after) then_)
   walk_stays h top place after then_ answer is = let found : ℕ = slice_index c.words (next_word p (slot_of place)) in
       ap₂ (λ (b : Bool) (ws : List ℕ). with_seat i (cond b (Write (heads.Walks h top place after) then_) (Do (TurnNext (slot_of place) after) (λ _. cond (eqb found h.last)
       (TakeMessage (slot_of place) (λ heading bytes. Write (heads.Puts (record h { last = top }) place heading bytes 0 false) then_)) (Write (heads.Walks h top found place) then_)))) seat.hand ws c.homes c)
-      is (set-get_or c.words (next_word p (slot_of place)) 0)
+      is (set-get_or c.words (next_word p (slot_of place)) 0) ∙ again (Write (heads.Walks h top place after) then_) refl
+
+  -- an id that is sought is locked
+  locking_stays : (j : ℕ) (sought : Sought) (found : ℕ) (k : Locking → Program) → (is_sought sought (parts found) && not (eqb (parts found).state 1)) ≡ true → locking j sought found k ≡ Round (Locks j sought std.None) k
+  locking_stays j sought found k is = let two : Bool → Program = λ b. cond b (Round (Locks j sought (std.Some found)) k) (Round (Locks j sought std.None) k) in
+      ap (λ (b : Bool). cond (not b) (k (NotThere found)) (two (eqb (parts found).state 1))) (and_left (is_sought sought (parts found)) (not (eqb (parts found).state 1)) is)
+      ∙ by_state (eqb (parts found).state 1) (and_right (is_sought sought (parts found)) (not (eqb (parts found).state 1)) is)
+    where
+      by_state : (b : Bool) → not b ≡ true → cond b (Round (Locks j sought (std.Some found)) k) (Round (Locks j sought std.None) k) ≡ Round (Locks j sought std.None) k
+      by_state true is = absurd (true≢false (sym is))
+      by_state false is = refl
+
+  nothing_stays : not c.calls.ending ≡ true → at_last c.calls.ending Nothing ≡ Nothing
+  nothing_stays is = by_ending c.calls.ending is
+    where
+      by_ending : (b : Bool) → not b ≡ true → at_last b Nothing ≡ Nothing
+      by_ending true is = absurd (true≢false (sym is))
+      by_ending false is = refl
+
+  round_stays : (head : Head) (next : Exit head → Program) (answer : Answer) → waits_in p c.words c.calls answer head ≡ true → tick_with p i seat c answer (Round head next) ≡ with_program (Round head next)
+  round_stays (Locks j sought std.None) next answer is = ap (λ (x : Program). with_seat i x seat.hand c.words c.homes c) (locking_stays j sought (slice_index c.calls.words (id_word j)) next is) ∙ again (Round (Locks j sought std.None) next) refl
+  round_stays (Joins id) next answer is = let found : ℕ = slice_index c.calls.words (id_word (id_slot id)) in
+      ap (λ (b : Bool). with_seat i (cond b (Round (Joins id) next) (next found)) seat.hand c.words c.homes c) is ∙ again (Round (Joins id) next) refl
+  round_stays (Opens o) next answer is = let found : ℕ = slice_index c.words (open_word p o) in
+      ap₂ (λ (b : Bool) (ws : List ℕ). with_seat i (cond b (Round (Opens o) next) (next found)) seat.hand ws c.homes c) is (set-get_or c.words (open_word p o) 0) ∙ again (Round (Opens o) next) refl
+  round_stays (Reads r) next (OfTake Nothing) is = ap (λ (t : Taking). with_seat i (took r next t) seat.hand c.words c.homes (record c { calls = more_given r.link t c.calls })) (nothing_stays is) ∙ again (Round (Reads r) next) refl
+  round_stays (Discards k total) next (OfTake Nothing) is = ap (λ (t : Taking). with_seat i (discarded k total next t) seat.hand c.words c.homes (record c { calls = more_given k t c.calls })) (nothing_stays is) ∙ again (Round (Discards k total) next) refl
+  round_stays _ next answer is = absurd (true≢false (sym is))
 
   stays : (program : Program) (answer : Answer) → waits_at p c answer program ≡ true → tick_with p i seat c answer program ≡ with_program program
   stays (Write (heads.Walks h top place after) then_) answer is = walk_stays h top place after then_ answer is
-  stays (Write (heads.Waits h now heading left taken) after) (OfReady NotYet) is = refl
+  stays (Write (heads.Waits h now heading left taken) after) (OfReady NotYet) is = again (Write (heads.Waits h now heading left taken) after) refl
   stays (Write (heads.Waits h now heading left taken) after) _ is = absurd (true≢false (sym is))
+  stays (Round head next) answer is = round_stays head next answer is
   stays _ answer is = absurd (true≢false (sym is))
 
 module _ (p : Plan) (c : Core) (m : Moment) where
@@ -97,13 +143,26 @@ module _ {links requests : ℕ} {m : Memory} {t : Tokens} {log : List Entry} {fr
 abbrev WaitsPromptly : Plan → Core → ℕ → Type 0
 WaitsPromptly p c i = (m : Moment) × (m.seat ≡ i) × IsPrompt m × (waits p c m ≡ true)
 
+-- a seat waits for an id, for an `open`, or for more bytes
+abbrev pub StandsAside : Core → ℕ → Type 0
+StandsAside c i = (seat : SeatState) × (get_elem? c.seats i ≡ some seat) × ((head : Head) × (next : Exit head → Program) × (seat.program ≡ Round head next))
+
 module _ (p : Plan) (c : Core) (vs : List View) (sound : Sound p c vs) (ahead : IsAhead c) (each : (i : ℕ) → i < length c.seats → IsAtRest c i ⊎ WaitsPromptly p c i) where
   of_seat : (m : Moment) (j : ℕ) (seat : SeatState) → m.seat ≡ j → get_elem? c.seats j ≡ some seat → waits p c m ≡ true → waits_at p c m.answer seat.program ≡ true
   of_seat m j seat same at is = sym (ap (λ (o : Option SeatState). elim o as (λ o. Bool) [ none ↦ false | some seat ↦ waits_at p c m.answer seat.program ]) (ap (get_elem? c.seats) same ∙ at)) ∙ is
 
   -- who waits has none of its entries loose
+  held_aside : (v : View) (head : Head) (next : Exit head → Program) (answer : Answer) → GoesOn p v (Round head next) → waits_in p c.words c.calls answer head ≡ true → v.loose ≡ []
+  held_aside v (Locks j sought w) next answer goes is = goes.0.1
+  held_aside v (Joins id) next answer goes is = goes.0.1
+  held_aside v (Opens o) next answer goes is = goes.0.1
+  held_aside v (Reads r) next answer goes is = goes.0.1
+  held_aside v (Discards k total) next answer goes is = goes.0.1
+  held_aside v _ next answer goes is = absurd (true≢false (sym is))
+
   held_loose : (v : View) (program : Program) (answer : Answer) → GoesOn p v program → waits_at p c answer program ≡ true → v.loose ≡ []
   held_loose v (Write w after) answer goes is = goes.0.1.loose
+  held_loose v (Round head next) answer goes is = held_aside v head next answer goes is
   held_loose v _ answer goes is = absurd (true≢false (sym is))
 
   no_loose : (j : ℕ) (v : View) → get_elem? vs j ≡ some v → v.loose ≡ []
@@ -115,19 +174,21 @@ module _ (p : Plan) (c : Core) (vs : List View) (sound : Sound p c vs) (ahead : 
   all_connected : (q : ℕ) → (tokens vs).loose q ≡ []
   all_connected q = gather_nil (loose_at q) vs (λ j v at. ap (filter (λ (x : Loose). eqb x.request q)) (no_loose j v at))
 
-  none_waits : (j : ℕ) (v : View) → get_elem? vs j ≡ some v → (program : Program) (answer : Answer) → GoesOn p v program → answer ≢ OfReady NotYet → waits_at p c answer program ≡ true → ⊥
-  none_waits j v at (Write (heads.Walks h top place after) then_) answer goes prompt is = let r : Right = goes.0.0 in let has = ap (λ (rs : List Right). get_elem? rs 0) goes.0.1.one in let o = sound.lawful in
-      walk_waits o.chains r.link r (right_in o j 0 v r at has) (right_alone o j 0 v r at has) o.fits.narrow top place after goes.0.2.stage_is (eqb-true _ UNCONNECTED is) (all_connected (slot_of place))
-  none_waits j v at (Write (heads.Waits h now heading left taken) after) (OfReady NotYet) goes prompt is = prompt refl
-  none_waits j v at (Write (heads.Waits h now heading left taken) after) _ goes prompt is = true≢false (sym is)
-  none_waits j v at _ answer goes prompt is = true≢false (sym is)
+  -- so no writer waits
+  waits_aside : (j : ℕ) (v : View) → get_elem? vs j ≡ some v → (program : Program) (answer : Answer) → GoesOn p v program → answer ≢ OfReady NotYet → waits_at p c answer program ≡ true → (head : Head) × (next : Exit head → Program) × (program ≡ Round head next)
+  waits_aside j v at (Write (heads.Walks h top place after) then_) answer goes prompt is = let r : Right = goes.0.0 in let has = ap (λ (rs : List Right). get_elem? rs 0) goes.0.1.one in let o = sound.lawful in
+      absurd (walk_waits o.chains r.link r (right_in o j 0 v r at has) (right_alone o j 0 v r at has) o.fits.narrow top place after goes.0.2.stage_is (eqb-true _ UNCONNECTED is) (all_connected (slot_of place)))
+  waits_aside j v at (Write (heads.Waits h now heading left taken) after) (OfReady NotYet) goes prompt is = absurd (prompt refl)
+  waits_aside j v at (Write (heads.Waits h now heading left taken) after) _ goes prompt is = absurd (true≢false (sym is))
+  waits_aside j v at (Round head next) answer goes prompt is = (head, next, refl)
+  waits_aside j v at _ answer goes prompt is = absurd (true≢false (sym is))
 
-  settles : IsSettled c
-  settles i inside = ⊎_elim (λ rest. rest)
+  settles : (i : ℕ) → i < length c.seats → IsAtRest c i ⊎ StandsAside c i
+  settles i inside = ⊎_elim (λ rest. inl rest)
       (λ w. let seat = at_some c.seats i inside in let v = view_there c.seats vs i seat.0 sound.each seat.1 (get_elem? vs i) refl in
-      absurd (none_waits i v.0 v.1 seat.0.program w.0.answer (sound.seats i seat.0 v.0 seat.1 v.1).goes_on w.2 (of_seat w.0 i seat.0 w.1 seat.1 w.3)))
+      inr (seat.0, seat.1, waits_aside i v.0 v.1 seat.0.program w.0.answer (sound.seats i seat.0 v.0 seat.1 v.1).goes_on w.2 (of_seat w.0 i seat.0 w.1 seat.1 w.3)))
       (each i inside)
 
--- where each seat is at rest or waits, and no link answers that it takes no more yet, none waits
-pub still_settles : (p : Plan) (c : Core) (vs : List View) → Sound p c vs → IsAhead c → ((i : ℕ) → i < length c.seats → IsAtRest c i ⊎ ((m : Moment) × (m.seat ≡ i) × IsPrompt m × (waits p c m ≡ true))) → IsSettled c
+-- where each seat is at rest or waits, and no link answers that it takes no more yet, no writer waits
+pub still_settles : (p : Plan) (c : Core) (vs : List View) → Sound p c vs → IsAhead c → ((i : ℕ) → i < length c.seats → IsAtRest c i ⊎ ((m : Moment) × (m.seat ≡ i) × IsPrompt m × (waits p c m ≡ true))) → (i : ℕ) → i < length c.seats → IsAtRest c i ⊎ StandsAside c i
 still_settles p c vs sound ahead each = settles p c vs sound ahead each

@@ -1,5 +1,5 @@
 -- A program that the rule allows from a view on: each step in turn, whatever it finds.
-use Rattle.std.specs.Prelude.{ℕ, ◌≡◌, ◌≢◌, ◌*◌, ◌<◌, true, false, List, []}
+use Rattle.std.specs.Prelude.{ℕ, ◌≡◌, ◌≢◌, ◌*◌, ◌<◌, ◌≤◌, true, false, List, [], ◌∷◌, length}
 use Rattle.sock_words.specs.declared.plain.Plan.{Plan}
 use Rattle.sock_io.specs.declared.link.Put.{Put}
 use Rattle.sock_io.specs.declared.link.Ready.{Ready}
@@ -8,19 +8,19 @@ use Rattle.sock_model.specs.declared.chain.Right.{Right}
 use Rattle.sock_model.specs.declared.marks.SlotMark.{SlotMark}
 use Rattle.sock_model.specs.declared.view.View.{View}
 use Rattle.sock_model.specs.declared.view.Hand.{Hand}
-use Rattle.sock_model.specs.Weights.{is_ref, is_zero, is_any_coding, is_claimed, is_recycled}
+use Rattle.sock_model.specs.Weights.{is_ref, is_probe, is_hold, is_zero, is_any_coding, is_claimed, is_recycled}
 use Rattle.sock_model.specs.SlotRows.{marks_of}
-use Rattle.sock_programs.specs.Programs.{Program, Do, Say, Sent, Rest, TakeMessage, TakeHome, PutHome, PutBytes, AskReady, Write, LAST_VERSION}
+use Rattle.sock_programs.specs.Programs.{Program, Do, Say, Sent, Rest, TakeMessage, TakeHome, PutHome, PutBytes, AskReady, Write, Aside, Round, Keep, Retries, LAST_VERSION}
 use Rattle.sock_programs.specs.Ticks.{FitsPut}
-use Rattle.sock_runs.specs.Rows.{row, took_message, link_away, link_home_again, took_bytes}
+use Rattle.sock_runs.specs.Rows.{row, found_id, took_message, link_away, link_home_again, took_bytes}
 use Rattle.sock_runs.specs.Writes.{MayTakeMessage, Writes, MayPut, At, AreNotes, behind}
-use Rattle.sock_runs.specs.May.{May, Finds}
-
--- a seat that writes no link and has no message on its way
-pub record IsQuiet (v : View) : Type 0 where
-  pub claims : v.claims ≡ []
-  pub loose : v.loose ≡ []
-  pub rights : v.rights ≡ []
+use Rattle.sock_runs.specs.May.{May, Finds, FindsId}
+use Rattle.sock_model.specs.declared.chain.Entry.{Entry}
+use Rattle.sock_programs.specs.Clients.{HeldLife}
+use Rattle.sock_runs.specs.Has.{IsQuiet, Has}
+use Rattle.sock_runs.specs.Fits.{FitsFound, FitsHead, FitsExit, FitsRetry}
+use Rattle.sock_programs.specs.Asides.{Found}
+use Rattle.sock_programs.specs.Heads.{Head, Exit, Opens, Posts, Unlocks, Decides}
 
 -- a seat that has nothing to give back: no reference, no exchange left, no code to store, no slot claimed, none recycled
 -- but those whose versions are used up, no link in hand, and nothing on the chains
@@ -32,6 +32,13 @@ pub record HasNothing (v : View) : Type 0 where
   pub retired : (i w : ℕ) → 0 < marks_of (is_recycled w) i v → LAST_VERSION < w
   pub hands : v.hands ≡ []
   pub quiet : IsQuiet v
+
+-- whoever may wait at this head has none of its entries loose
+abbrev pub IsConnected : Head → View → Type 0
+IsConnected (Posts id e w) v = Unit {0}
+IsConnected (Unlocks i w advance) v = Unit {0}
+IsConnected (Decides id asked w e) v = Unit {0}
+IsConnected other v = v.loose ≡ []
 
 -- the view allows the program
 abbrev pub GoesOn : Plan → View → Program → Type 0
@@ -45,3 +52,9 @@ GoesOn p v (PutHome k n after) = (r : Right) × Writes v k false r × (r.places 
 GoesOn p v (PutBytes k asked bytes next) = MayPut v k bytes × ((answer : Put) → FitsPut asked bytes answer → GoesOn p (took_bytes answer v) (next answer))
 GoesOn p v (AskReady k next) = ((r : Right) × Writes v k false r) × ((answer : Ready) → GoesOn p v (next answer))
 GoesOn p v (Write w after) = At p v w × ((notes : List SlotMark) → AreNotes notes → GoesOn p (behind notes v) after)
+GoesOn p v (Aside step next) = (found : Found step) → FitsFound p step found → GoesOn p v (next found)
+GoesOn p v (Round (Opens o) next) = ((o < p.operations) × (v.loose ≡ [])) × ((word : ℕ) → word ≢ 0 → FindsId p word → GoesOn p (found_id word v) (next word))
+GoesOn p v (Round head next) = (FitsHead p head × IsConnected head v) × ((exit : Exit head) → FitsExit head exit → GoesOn p v (next exit))
+GoesOn p v (Keep r next) = FitsRetry r × GoesOn p v next
+GoesOn p v (Retries requests after) = (requests ≡ p.requests) × ((made : List Entry) × (held : List HeldLife) × (passes : List ℕ) × Has (made ∷ []) 0 [] held passes [] v × (length held ≤ 4096)
+    × ((longer : List Entry) (u : View) → Has (longer ∷ []) 0 [] held passes [] u → GoesOn p u after))

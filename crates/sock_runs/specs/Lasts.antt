@@ -1,5 +1,5 @@
 -- How many ticks are left at most, where each link that is asked answers in time.
-use Rattle.std.specs.Prelude.{ℕ, ◌≡◌, ◌≢◌, ◌+◌, ◌-◌, ◌*◌, ◌≤◌, Bool, true, false, List, [], length, nat_lt}
+use Rattle.std.specs.Prelude.{ℕ, zero, suc, ◌≡◌, ◌≢◌, ◌+◌, ◌-◌, ◌*◌, ◌≤◌, ◌==◌, Bool, true, false, if◌then◌else◌, List, [], ◌∷◌, length, nat_lt, slice_index, Some, None}
 use mathlib.Core.Option.{Option, some}
 use lib.ListN.{get_elem?}
 use Rattle.sock_words.specs.Words.{socket_id_version, socket_id_slot}
@@ -22,16 +22,44 @@ use Rattle.sock_model.specs.Weights.{total, is_saw}
 use Rattle.sock_programs.specs.Calls.{Call, PutMessage, SwapHead, TurnNext}
 use Rattle.sock_programs.specs.Cores.{Core, SeatState}
 use Rattle.sock_programs.specs.Writings.{Holder, Writing, Puts, Waits, Empties, Walks}
-use Rattle.sock_programs.specs.Programs.{Program, Do, Say, Sent, Rest, TakeMessage, TakeHome, PutHome, PutBytes, AskReady, Write}
+use Rattle.sock_programs.specs.Programs.{Program, Do, Say, Sent, Rest, TakeMessage, TakeHome, PutHome, PutBytes, AskReady, Write, Aside, Round, Keep, Retries}
+use Rattle.corr_core.specs.Word.{Parts, parts}
+use Rattle.id_rule.specs.Lawful.{id_word}
+use Rattle.sock_programs.specs.Asides.{Step, Found, MakeId, LockId, PostId, UnlockId, EndId, id_slot}
+use Rattle.sock_programs.specs.Heads.{Head, Exit, Retry, Posts, Unlocks, Decides, Locks, Joins, Opens, Reads, Discards, Unlocking, IsOpen, HasNext}
+use Rattle.sock_programs.specs.Readers.{LIMIT}
+use Rattle.sock_runs.specs.Fits.{FitsFound, FitsExit}
 use Rattle.sock_programs.specs.Ticks.{FitsPut}
 use Rattle.sock_runs.specs.Rows.{row, took_message, link_away, link_home_again, took_bytes}
 use Rattle.sock_runs.specs.May.{Finds}
 
+-- ## Errors of calls
+
+-- whoever expects a word of an id and finds another one makes at most so many steps more for that
+abbrev pub STALE : ℕ
+STALE = 2
+
+-- so whoever changes an id word pays that for each of 64 seats
+abbrev pub CHANGE : ℕ
+CHANGE = 1 + 64 * STALE
+
+-- a call out of its home is decided on: it ends, or it goes home again and its id is unlocked
+abbrev pub DECISION : ℕ
+DECISION = CHANGE + 1
+
+-- an error that is queued is taken out once, by an exchange, and decided on
+abbrev pub ERROR : ℕ
+ERROR = 1 + DECISION
+
+-- an error is posted, and decided on by whoever got the lock with it
+abbrev pub POST : ℕ
+POST = 1 + (CHANGE + ERROR) + ERROR
+
 -- ## Messages and walks
 
--- whoever writes a message of so many bytes makes at most so many steps for it
+-- whoever writes a message of so many bytes makes at most so many steps for it, with the post where it is dropped
 abbrev pub weight : ℕ → ℕ
-weight n = 14 * n + 40
+weight n = 14 * n + 40 + POST
 
 abbrev pub home_weight : Option Home → ℕ
 home_weight (some (Message heading bytes)) = weight (length bytes)
@@ -80,10 +108,94 @@ waiting_cost false = 25
 
 -- from the head of a loop up to what follows the loops, but for the messages that it comes to
 abbrev pub loop_cost : View → Writing → ℕ
-loop_cost v (Puts h now heading left taken asked) = 14 * length left + asking_cost asked + failing_cost (saw_failed v h) + 8
-loop_cost v (Waits h now heading left taken) = 14 * length left + waiting_cost (saw_failed v h) + 8
+loop_cost v (Puts h now heading left taken asked) = 14 * length left + asking_cost asked + failing_cost (saw_failed v h) + 8 + POST
+loop_cost v (Waits h now heading left taken) = 14 * length left + waiting_cost (saw_failed v h) + 8 + POST
 loop_cost v (Empties h) = 4
 loop_cost v (Walks h top at after) = 1
+
+-- ## Ids and readers
+
+-- a whole frame has twelve bytes, and a response is a lock, the call out of its home, and the end
+abbrev pub FRAME : ℕ
+FRAME = 2 * CHANGE + 3
+
+-- what an attempt of a call costs at most, over a table of so many requests: as a retry its lock, its message, which may be dropped, and its own post
+abbrev pub attempt_cost : ℕ → ℕ
+attempt_cost requests = requests + weight 131072 + 2 * POST + 2 * CHANGE + 100
+
+-- from the head of a loop up to what follows it, but for what the words of the ids are counted for. A reading goes on with each byte.
+abbrev pub round_cost : Head → ℕ
+round_cost (Posts id e w) = CHANGE + ERROR
+round_cost (Unlocks i w advance) = CHANGE
+round_cost (Decides id asked w e) = DECISION
+round_cost (Locks i sought None) = CHANGE + 1
+round_cost (Locks i sought (Some w)) = CHANGE
+round_cost (Joins id) = 1
+round_cost (Opens o) = 1
+round_cost (Reads r) = (LIMIT - r.total) * (1 + FRAME) + length r.rest * FRAME + 1
+round_cost (Discards k total) = LIMIT - total + 1
+
+abbrev pub advance_gain : Plan → Bool → ℕ
+advance_gain p advance = if advance then attempt_cost p.requests else 0
+
+abbrev pub popped_gain : ℕ → ℕ
+popped_gain from = if (parts from).oldest == 0 then 0 else ERROR
+
+-- what a step costs by what it found: whoever changes an id word pays for all that expect it, for the attempts of a new call, and for an error that it queues
+abbrev pub aside_cost : Plan → (step : Step) → Found step → ℕ
+aside_cost p (MakeId i range) found = CHANGE + (range - 2) * attempt_cost p.requests
+aside_cost p (LockId i from) found = if found == from then CHANGE else 1
+aside_cost p (PostId i from e) found = if found == from then (if (parts from).state == 1 then CHANGE else CHANGE + ERROR) else 1
+aside_cost p (UnlockId i from advance) found = if found == from then CHANGE else 1
+aside_cost p (EndId i) found = CHANGE
+aside_cost p other found = 1
+
+-- and what was counted for it: another word than the one expected, an error that was queued, an attempt that the call had left
+abbrev pub aside_gain : Plan → (step : Step) → Found step → ℕ
+aside_gain p (LockId i from) found = if found == from then 0 else STALE
+aside_gain p (PostId i from e) found = if found == from then 0 else STALE
+aside_gain p (UnlockId i from advance) found = if found == from then popped_gain from + advance_gain p advance else STALE
+aside_gain p other found = 0
+
+-- by how much more the loop may be left
+abbrev pub unlocking_gain : Unlocking → ℕ
+unlocking_gain (IsOpen w) = 0
+unlocking_gain (HasNext w e) = ERROR
+
+abbrev pub exit_gain : Plan → (head : Head) → Exit head → ℕ
+exit_gain p (Unlocks i w advance) exit = unlocking_gain exit + advance_gain p advance
+exit_gain p other exit = 0
+
+-- the word that a seat expects in its loop
+abbrev pub expected : Head → List (ℕ × ℕ)
+expected (Posts id e w) = (id_slot id, w) ∷ []
+expected (Unlocks i w advance) = (i, w) ∷ []
+expected (Locks i sought (Some w)) = (i, w) ∷ []
+expected other = []
+
+abbrev pub expects : Program → List (ℕ × ℕ)
+expects (Round head next) = expected head
+expects other = []
+
+-- where another one is there by now
+abbrev pub stale_cost : List ℕ → ℕ × ℕ → ℕ
+stale_cost words x = if slice_index words (id_word x.0) == x.1 then 0 else STALE
+
+-- an id that isn't free has so many attempts left, and so many errors queued
+abbrev pub queued_errors : Parts → ℕ
+queued_errors w = (if w.oldest == 0 then 0 else ERROR) + (if w.second == 0 then 0 else ERROR)
+
+abbrev pub id_left : ℕ → Parts → ℕ
+id_left requests w = if w.state == 0 then 0 else (w.range - (2 + w.attempt)) * attempt_cost requests + queued_errors w
+
+abbrev pub ids_left : ℕ → List ℕ → ℕ → ℕ
+ids_left requests words zero = 0
+ids_left requests words (suc n) = id_left requests (parts (slice_index words (id_word n))) + ids_left requests words n
+
+-- what is left beside the seats' own numbers: attempts and errors of ids, retries that wait, and loops that expect another word
+abbrev pub calls_left : Plan → Core → ℕ
+calls_left p c = ids_left p.requests c.calls.words c.calls.plan.slots + total (λ (ws : List Retry). length ws * attempt_cost p.requests) c.calls.waiting
+    + total (λ (s : SeatState). total (stale_cost c.calls.words) (expects s.program)) c.seats
 
 -- the program has at most so many steps left, whatever they find, but for those that its walks and the messages that it takes are counted for
 abbrev pub LastsFor : Plan → View → Program → ℕ → Type 0
@@ -96,6 +208,10 @@ LastsFor p v (TakeHome k next) n = (m : ℕ) × (m + 1 ≤ n) × ((places : ℕ)
 LastsFor p v (PutHome k places after) n = (m : ℕ) × (m + 1 ≤ n) × LastsFor p (link_home_again v) after m
 LastsFor p v (PutBytes k asked bytes next) n = (answer : Put) → FitsPut asked bytes answer → (m : ℕ) × (m + 1 ≤ n) × LastsFor p (took_bytes answer v) (next answer) m
 LastsFor p v (AskReady k next) n = (answer : Ready) → answer ≢ NotYet → (m : ℕ) × (m + 1 ≤ n) × LastsFor p v (next answer) m
+LastsFor p v (Aside step next) n = (found : Found step) → FitsFound p step found → (m : ℕ) × (m + aside_cost p step found ≤ n + aside_gain p step found) × LastsFor p v (next found) m
+LastsFor p v (Round head next) n = (m : ℕ) × (round_cost head + m ≤ n) × ((exit : Exit head) → FitsExit head exit → LastsFor p v (next exit) (m + exit_gain p head exit))
+LastsFor p v (Keep r next) n = (m : ℕ) × (m + attempt_cost p.requests ≤ n) × LastsFor p v next m
+LastsFor p v (Retries requests after) n = (u : View) → LastsFor p u after n
 LastsFor p v (Write w after) n = (m : ℕ) × (loop_cost v w + m ≤ n) × ((u : View) → LastsFor p u after m)
 
 -- ## All seats
@@ -105,8 +221,8 @@ pub record Lasts (p : Plan) (c : Core) (views : List View) (n : ℕ) : Type 0 wh
   pub numbers : List ℕ
   pub each : length numbers ≡ length c.seats
   pub seats : (i : ℕ) (seat : SeatState) (v : View) (k : ℕ) → get_elem? c.seats i ≡ some seat → get_elem? views i ≡ some v → get_elem? numbers i ≡ some k → LastsFor p v seat.program k
-  -- with the messages at home, and what is left of walks
-  pub sum : total (λ (k : ℕ). k) numbers + (total home_weight c.homes + total (λ (v : View). total (walk_left (accepted views)) v.rights) views) ≤ n
+  -- with the messages at home, what is left of walks, and what is left of ids and retries
+  pub sum : total (λ (k : ℕ). k) numbers + (total home_weight c.homes + total (λ (v : View). total (walk_left (accepted views)) v.rights) views + calls_left p c) ≤ n
 
 -- no run has more ticks that move
 abbrev pub MOST_TICKS : ℕ

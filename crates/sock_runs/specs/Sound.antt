@@ -1,5 +1,6 @@
 -- All seats with their views: the rule holds of them, and each view allows what its seat has still to do.
 use Rattle.std.specs.Prelude.{ℕ, ◌≡◌, ◌+◌, ◌*◌, ◌<◌, ◌≤◌, ◌≢◌, ◌%◌, ◌⊎◌, Bool, true, false, List, [], ◌∷◌, ◌++◌, length, take, set, slice_index}
+use Rattle.std.specs.List.{AllByRecursion}
 use mathlib.Core.Option.{Option, none, some}
 use lib.ListN.{get_elem?}
 use Rattle.atomic_table.specs.Table.{State}
@@ -21,10 +22,15 @@ use Rattle.sock_model.specs.References.{slot_facts}
 use Rattle.sock_model.specs.Messages.{Letter}
 use Rattle.sock_model.specs.Reads.{message, link_home}
 use Rattle.sock_programs.specs.Calls.{Call, GiveBirth, AddRef, SubRef, Recycle, LoadLink, LoadName, TakeLink, FinishLink, PutLink, FindLink, ClaimRequest, PutMessage, EmptyHead, FreeRequest, StorePlace, DropPlace}
-use Rattle.sock_programs.specs.Programs.{Program, Do, TakeMessage, TakeHome, PutHome, PutBytes, AskReady, Write, Rest, LAST_VERSION, NO_SOCKET, LAST_GENERATION}
+use Rattle.sock_programs.specs.Programs.{Program, Do, TakeMessage, TakeHome, PutHome, PutBytes, Say, Sent, Keep, Retries, AskReady, Write, Aside, Round, Rest, LAST_VERSION, NO_SOCKET, LAST_GENERATION}
 use Rattle.sock_programs.specs.Sends.{block}
-use Rattle.sock_programs.specs.Cores.{Core, SeatState, word_of, found_at, link_place, next_step}
-use Rattle.sock_programs.specs.Ticks.{Answer, OfPut, Moment, ticked}
+use Rattle.sock_programs.specs.Rounds.{round}
+use Rattle.sock_programs.specs.Asides.{Found}
+use Rattle.sock_programs.specs.Heads.{Retry}
+use Rattle.sock_programs.specs.Beside.{found_in}
+use Rattle.sock_runs.specs.Fits.{FitsFound, FitsRetry}
+use Rattle.sock_programs.specs.Cores.{Core, SeatState, word_of, found_at, link_place, next_step, waiting_at}
+use Rattle.sock_programs.specs.Ticks.{Answer, OfPut, Moment, ticked, taken}
 use Rattle.sock_runs.specs.Rows.{row, hand_at, took_message, link_away, link_home_again, took_bytes}
 use Rattle.sock_runs.specs.GoesOn.{GoesOn}
 
@@ -77,6 +83,8 @@ pub record Sound (p : Plan) (c : Core) (views : List View) : Type 0 where
   pub each : length views ≡ length c.seats
   pub homes : length c.homes ≡ p.requests + p.links
   pub labels : AreLabelled p c.homes
+  -- a retry that waits is one of the attempts of a call
+  pub waiting : (i : ℕ) → AllByRecursion FitsRetry (waiting_at c.calls.waiting i)
   pub seats : (i : ℕ) (seat : SeatState) (v : View) → get_elem? c.seats i ≡ some seat → get_elem? views i ≡ some v → SoundSeat p seat v
 
 -- each client keeps one list of the messages that it had accepted, which isn't longer than it may be
@@ -111,6 +119,7 @@ module _ (p : Plan) (i : ℕ) (c : Core) (views : List View) (v : View) where
 
   abbrev pub views_of : Answer → Program → List View
   views_of answer (Write w after) = views_with answer (block w after)
+  views_of answer (Round head next) = views_with answer (round head next)
   views_of answer other = views_with answer other
 
 -- the views after a tick
@@ -182,13 +191,33 @@ AllowsStep p c seat other = Unit {0}
 -- at the head of a loop it is the first step of the next round
 abbrev pub first_step : Program → Program
 first_step (Write w after) = block w after
+first_step (Round head next) = round head next
 first_step other = other
+
+-- what a step aside finds is as the rule of the ids says
+abbrev pub FitsBeside : Plan → Core → Answer → Program → Type 0
+FitsBeside p c answer (Aside step next) = (found : Found step) → found_in step c.calls (taken answer) ≡ some found → FitsFound p step found
+FitsBeside p c answer other = Unit {0}
+
+abbrev pub IsFitting : Plan → Core → Moment → Type 0
+IsFitting p c m = (seat : SeatState) → get_elem? c.seats m.seat ≡ some seat → FitsBeside p c m.answer (first_step seat.program)
+
+abbrev pub AreFitting : Plan → Core → List Moment → Type 0
+AreFitting p c [] = Unit {0}
+AreFitting p c (m ∷ ms) = IsFitting p c m × AreFitting p (ticked p c m) ms
 
 -- ## The end of a run
 
 -- no seat has an outcome to say before its next step
+abbrev pub is_begun : Program → Bool
+is_begun (Say o outcome next) = false
+is_begun (Sent o next) = false
+is_begun (Keep r next) = false
+is_begun (Retries requests after) = false
+is_begun other = true
+
 abbrev pub IsAhead : Core → Type 0
-IsAhead c = (i : ℕ) (seat : SeatState) → get_elem? c.seats i ≡ some seat → next_step seat.program ≡ seat.program
+IsAhead c = (i : ℕ) (seat : SeatState) → get_elem? c.seats i ≡ some seat → is_begun seat.program ≡ true
 
 -- no seat has anything left to do
 abbrev pub AllRest : Core → Type 0

@@ -1,0 +1,2 @@
+//! Rows of scripts computed by the definitions of runs.
+#![tactic(auto)]

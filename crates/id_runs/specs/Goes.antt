@@ -1,0 +1,201 @@
+-- A program that the rule of the ids allows from a view on, and all seats with their views.
+use Rattle.std.specs.Prelude.{ℕ, ◌≡◌, ◌≢◌, ◌+◌, ◌<◌, ◌≤◌, ◌⊎◌, Bool, true, false, List, [], ◌∷◌, length, slice_index, Option, Some, None}
+use Rattle.std.specs.Prelude as std
+use mathlib.Core.Option as core
+use lib.ListN.{get_elem?}
+use Rattle.sock_words.specs.declared.plain.Plan.{Plan}
+use Rattle.sock_io.specs.declared.link.Put.{Put}
+use Rattle.sock_io.specs.declared.link.Ready.{Ready}
+use Rattle.sock_model.specs.declared.chain.Heading.{Heading}
+use Rattle.corr_core.specs.Word.{Parts, parts, code_of, attempt_of}
+use Rattle.corr_core.specs.declared.marks.Plan.{Plan as IdPlan}
+use Rattle.corr_core.specs.declared.marks.Hand.TheVariants.{Empty, Full}
+use Rattle.corr_core.specs.declared.marks.Token.TheVariants.{Locked}
+use Rattle.id_rule.specs.Lawful.{Lawful, call_word, at_word}
+use Rattle.id_rule.specs.Plays.{LockFits, Longer}
+use Rattle.sock_programs.specs.declared.task.Asked.{Asked}
+use Rattle.sock_programs.specs.Calls.{Call, FindLink, LoadCode}
+use Rattle.sock_programs.specs.Writings.{Writing, Puts, Waits}
+use Rattle.sock_programs.specs.Asides.{Step, LoadCall, LoadAt, MakeId, LoadIdWord, LockId, PostId, UnlockId, TakeCall, Found, id_slot, id_first}
+use Rattle.sock_programs.specs.Heads.{Head, Exit, Retry, Reading, Posts, Unlocks, Decides, Locks, Joins, Opens, Reads, Discards, Posting, HasLocked, Unlocking, IsOpen, HasNext, Locking, NotThere, Has, Ended}
+use Rattle.sock_programs.specs.Programs.{Program, Do, Say, Sent, Rest, TakeMessage, TakeHome, PutHome, PutBytes, AskReady, Write, Aside, Round, Keep, Retries}
+use Rattle.sock_programs.specs.Posts.{advance_of}
+use Rattle.std.specs.List.{AllByRecursion}
+use Rattle.sock_programs.specs.Cores.{Core, SeatState, word_of, found_at, waiting_at}
+use Rattle.sock_programs.specs.Sends.{block}
+use Rattle.sock_programs.specs.Rounds.{round}
+use Rattle.sock_programs.specs.Ticks.{Moment}
+use Rattle.sock_model.specs.declared.home.Home.TheVariants.{Message}
+use Rattle.sock_programs.specs.Told.{AskedFits}
+use Rattle.id_runs.specs.Held.{IdView, id_state, one, HasOne, CallFits, AtFits, MayId, id_row}
+
+-- ## What the table of the sockets says
+
+-- a link's number fits an at word, and a code an error
+abbrev pub FitsSock : Call → ℕ → Type 0
+FitsSock (FindLink i h) found = found < 65535
+FitsSock (LoadCode i h) found = found < 4096
+FitsSock other found = Unit {0}
+
+-- the owner of a message is none, or an id of the table
+abbrev pub FitsOwner : IdPlan → Heading → Type 0
+FitsOwner q heading = heading.owner ≢ 0 → (id_slot heading.owner < q.slots) × (heading.attempt ≤ 6)
+
+abbrev pub FitsWriting : IdPlan → Writing → Type 0
+FitsWriting q (Puts h now heading left taken asked) = FitsOwner q heading
+FitsWriting q (Waits h now heading left taken) = FitsOwner q heading
+FitsWriting q other = Unit {0}
+
+-- ## What a step may find
+
+abbrev pub HasRoom : ℕ → Type 0
+HasRoom word = (parts word).attempt + 2 ≤ (parts word).range
+
+-- the id is free, open or locked, and has an attempt of its range where it isn't free
+abbrev pub IsIdWord : ℕ → Type 0
+IsIdWord word = (0 < (parts word).state → HasRoom word) × ((parts word).state < 3) × (0 < (parts word).state → (parts word).oldest ≡ 0 → (parts word).second ≡ 0)
+
+-- the word of a lock whose errors the seat has noted as they are
+abbrev pub FindsLonger : IdView → ℕ → ℕ → Type 0
+FindsLonger u i found = (f rg att o s : ℕ) (c : Asked) → HasOne i (Locked f rg att c o s (Full c)) u → Longer f rg att (parts found).oldest (parts found).second (parts found)
+
+abbrev pub FindsCall : Plan → IdView → ℕ → Asked → Type 0
+FindsCall p u i asked = AskedFits p asked × ((f rg att o s : ℕ) (c : Asked) → HasOne i (Locked f rg att c o s (Full c)) u → c ≡ asked)
+
+abbrev pub FindsId : Plan → IdPlan → IdView → (step : Step) → Found step → Type 0
+FindsId p q u (MakeId i range) found = (1 ≤ (parts found).first) × ((parts found).first ≤ 67108856)
+FindsId p q u (LoadIdWord i) found = IsIdWord found
+FindsId p q u (LockId i from) found = IsIdWord found
+FindsId p q u (PostId i from e) found = IsIdWord found
+FindsId p q u (UnlockId i from advance) found = FindsLonger u i found
+FindsId p q u (TakeCall i) asked = FindsCall p u i asked
+FindsId p q u (LoadCall o) found = found ≢ 0 → CallFits q found
+FindsId p q u (LoadAt o) found = found ≢ 0 → AtFits q found
+FindsId p q u other found = Unit {0}
+
+-- ## Loops
+
+-- an error that can be queued
+abbrev pub IsError : ℕ → Type 0
+IsError e = (e ≢ 0) × (e < 32768)
+
+abbrev pub IsPostable : Parts → Type 0
+IsPostable w = (w.state ≡ 1) ⊎ ((w.state ≡ 2) × (w.second ≡ 0))
+
+-- the seat's one token is a lock of this slot, its call at home or taken out of it, and the word is of that lock
+pub record IsLocked (i : ℕ) (more : ℕ) (word : ℕ) (u : IdView) : Type 0 where
+  pub f : ℕ
+  pub rg : ℕ
+  pub att : ℕ
+  pub o : ℕ
+  pub s : ℕ
+  pub c : Asked
+  pub tokens : u.tokens ≡ one i (Locked f rg att c o s (Full c))
+  pub word_is : Longer f rg att o s (parts word)
+  pub room : att + more + 2 ≤ rg
+
+pub record IsTaken (i : ℕ) (asked : Asked) (word : ℕ) (u : IdView) : Type 0 where
+  pub f : ℕ
+  pub rg : ℕ
+  pub att : ℕ
+  pub o : ℕ
+  pub s : ℕ
+  pub tokens : u.tokens ≡ one i (Locked f rg att asked o s Empty)
+  pub word_is : Longer f rg att o s (parts word)
+  pub room : att + 2 ≤ rg
+
+abbrev pub IsFree : IdView → Type 0
+IsFree u = u.tokens ≡ []
+
+abbrev pub IsOpenWord : Option ℕ → Type 0
+IsOpenWord (Some w) = (parts w).state ≡ 1
+IsOpenWord None = Unit {0}
+
+abbrev pub AtHead : Plan → IdPlan → IdView → Head → Type 0
+AtHead p q u (Posts id e w) = IsFree u × (id_slot id < q.slots) × IsPostable (parts w) × IsError e
+AtHead p q u (Unlocks i w advance) = (i < q.slots) × IsLocked i (advance_of advance) w u
+AtHead p q u (Decides id asked w e) = (id_slot id < q.slots) × IsTaken (id_slot id) asked w u × AskedFits p asked
+AtHead p q u (Locks i sought w) = IsFree u × (i < q.slots) × IsOpenWord w
+AtHead p q u (Joins id) = IsFree u × (id_slot id < q.slots)
+AtHead p q u (Opens o) = IsFree u
+AtHead p q u (Reads r) = IsFree u × (r.ids ≡ q.slots)
+AtHead p q u (Discards k total) = IsFree u
+
+abbrev pub LeavesPost : ℕ → Posting → IdView → Type 0
+LeavesPost i (HasLocked w) u = IsLocked i 0 w u
+LeavesPost i other u = IsFree u
+
+abbrev pub LeavesUnlock : ℕ → Unlocking → IdView → Type 0
+LeavesUnlock i (HasNext w e) u = IsLocked i 0 w u
+LeavesUnlock i (IsOpen w) u = IsFree u
+
+abbrev pub LeavesLock : ℕ → Locking → IdView → Type 0
+LeavesLock i (Has w) u = IsLocked i 0 w u
+LeavesLock i (NotThere w) u = IsFree u
+
+-- an error's code
+abbrev pub IsCode : ℕ → Type 0
+IsCode c = (0 < c) × (c < 4096)
+
+abbrev pub EndsReading : Ended → IdView → Type 0
+EndsReading how u = IsFree u × IsCode how.code
+
+abbrev pub Leaves : (head : Head) → Exit head → IdView → Type 0
+Leaves (Posts id e w) exit u = LeavesPost (id_slot id) exit u
+Leaves (Unlocks i w advance) exit u = LeavesUnlock i exit u
+Leaves (Locks i sought w) exit u = LeavesLock i exit u
+Leaves (Reads r) exit u = EndsReading exit u
+Leaves other exit u = IsFree u
+
+-- ## Programs
+
+abbrev pub FitsRetryId : IdPlan → Retry → Type 0
+FitsRetryId q r = (id_slot r.id < q.slots) × (r.attempt ≤ 6)
+
+abbrev pub IdGoesOn : Plan → IdPlan → IdView → Program → Type 0
+IdGoesOn p q u (Do call next) = (found : ℕ) → FitsSock call found → IdGoesOn p q u (next found)
+IdGoesOn p q u (Say o outcome next) = IdGoesOn p q u next
+IdGoesOn p q u (Sent o next) = IdGoesOn p q u next
+IdGoesOn p q u Rest = IsFree u
+IdGoesOn p q u (TakeMessage r next) = (heading : Heading) (bytes : List ℕ) → FitsOwner q heading → IdGoesOn p q u (next heading bytes)
+IdGoesOn p q u (TakeHome k next) = (n : ℕ) → IdGoesOn p q u (next n)
+IdGoesOn p q u (PutHome k n after) = IdGoesOn p q u after
+IdGoesOn p q u (PutBytes k asked bytes next) = (answer : Put) → IdGoesOn p q u (next answer)
+IdGoesOn p q u (AskReady k next) = (answer : Ready) → IdGoesOn p q u (next answer)
+IdGoesOn p q u (Write w after) = IsFree u × FitsWriting q w × ((v : IdView) → IsFree v → IdGoesOn p q v after)
+IdGoesOn p q u (Aside step next) = MayId p q u step × ((found : Found step) (c : Asked) → FindsId p q u step found → IdGoesOn p q (id_row q step found c u) (next found))
+IdGoesOn p q u (Round head next) = AtHead p q u head × ((exit : Exit head) (v : IdView) → Leaves head exit v → IdGoesOn p q v (next exit))
+IdGoesOn p q u (Keep r next) = FitsRetryId q r × IdGoesOn p q u next
+IdGoesOn p q u (Retries requests after) = IsFree u × ((v : IdView) → IsFree v → IdGoesOn p q v after)
+
+-- ## All seats
+
+pub record SoundIds (p : Plan) (q : IdPlan) (c : Core) (us : List IdView) : Type 0 where
+  pub plan : c.calls.plan ≡ q
+  pub rule : Lawful q (id_state c.calls us)
+  pub each : length us ≡ length c.seats
+  -- each seat stands for one
+  pub real : (i : ℕ) (u : IdView) → get_elem? us i ≡ core.some u → 0 < u.share
+  -- a call at home is one of the script
+  pub homes : (i : ℕ) (asked : Asked) → get_elem? c.calls.homes i ≡ core.some (core.some (Some asked)) → AskedFits p asked
+  -- a word of a call that was stored names an id of the table, and so does an at word
+  pub called : (o : ℕ) → o < q.operations → slice_index c.calls.words (call_word q o) ≢ 0 → CallFits q (slice_index c.calls.words (call_word q o))
+  pub placed : (o : ℕ) → o < q.operations → slice_index c.calls.words (at_word q o) ≢ 0 → AtFits q (slice_index c.calls.words (at_word q o))
+  -- a retry that waits is one of an id of the table
+  pub waiting : (i : ℕ) → AllByRecursion (FitsRetryId q) (waiting_at c.calls.waiting i)
+  pub seats : (i : ℕ) (seat : SeatState) (u : IdView) → get_elem? c.seats i ≡ core.some seat → get_elem? us i ≡ core.some u → IdGoesOn p q u seat.program
+
+-- ## What the table of the sockets says at a tick
+
+abbrev pub first_of : Program → Program
+first_of (Write w after) = block w after
+first_of (Round head next) = round head next
+first_of other = other
+
+abbrev pub FitsFirst : Plan → IdPlan → Core → Program → Type 0
+FitsFirst p q c (Do call next) = FitsSock call (found_at c.words (word_of p call))
+FitsFirst p q c (TakeMessage r next) = (heading : Heading) (bytes : List ℕ) → get_elem? c.homes r ≡ core.some (core.some (Message heading bytes)) → FitsOwner q heading
+FitsFirst p q c other = Unit {0}
+
+abbrev pub IsFittingIds : Plan → IdPlan → Core → Moment → Type 0
+IsFittingIds p q c m = (seat : SeatState) → get_elem? c.seats m.seat ≡ core.some seat → FitsFirst p q c (first_of seat.program)
