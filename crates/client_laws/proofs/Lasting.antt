@@ -18,7 +18,7 @@ use Rattle.sock_model.specs.Weights.{total}
 use Rattle.sock_programs.specs.declared.task.Op.{Op}
 use Rattle.sock_programs.specs.declared.task.Op.TheVariants as ops
 use Rattle.sock_programs.specs.declared.task.Task.{Task}
-use Rattle.sock_programs.specs.Calls.{Call, ClaimSlot, GiveBirth, AddRef, SubRef, SetOdd, Recycle, FreeSlot, StoreLink, LoadLink, ResetHead, WipeCode, StoreCode, StoreName, LoadName, StoreOpen, LoadOpen, TakeLink, FinishLink, PutLink, LookWord, FindLink, ClaimRequest, PutMessage, Unconnect, SwapHead, Connect}
+use Rattle.sock_programs.specs.Calls.{ClaimSlot, GiveBirth, AddRef, SubRef, Recycle, FreeSlot, StoreLink, LoadLink, ResetHead, WipeCode, StoreName, LoadName, StoreOpen, LoadOpen, TakeLink, FinishLink, PutLink, LookWord, FindLink, ClaimRequest, PutMessage, Unconnect, SwapHead, Connect}
 use Rattle.sock_programs.specs.Programs.{Program, Do, Say, Sent, NO_SOCKET, LAST_VERSION, recycle, release, address, reach, set_failed, no_socket, make_socket, open_from, fail_outcome, fail, hold, end_open}
 use Rattle.sock_programs.specs.Sends.{write_link, heading_of, accept, claim_from, start, send}
 use Rattle.sock_programs.specs.Clients.{HeldLife, held_under, without_name, give_back, drop_of, operation, client_from, ending_of}
@@ -28,8 +28,8 @@ use Rattle.sock_programs.specs.Told.{OpFits, TaskFits, AreTasks}
 use Rattle.slot_laws.proofs.Sums.{total-append}
 use Rattle.sock_runs.specs.Rows.{row, link_away}
 use Rattle.sock_runs.specs.Sound.{IsWithinLimits}
-use Rattle.sock_runs.specs.Lasts.{weight, home_weight, accepted, walk_left, cost, LastsFor, Lasts, MOST_TICKS}
-use Rattle.sock_runs.proofs.Costs.{Lasting, lasts_next, lasting_more, either_lasts, takes_next}
+use Rattle.sock_runs.specs.Lasts.{weight, home_weight, accepted, walk_left, LastsFor, Lasts, MOST_TICKS}
+use Rattle.sock_runs.proofs.Costs.{Lasting, lasts_next, lasting_more, either_lasts, does, set_failed_lasts, takes_first}
 use Rattle.sock_runs.proofs.WalksLeft.{set_few}
 use Rattle.client_laws.specs.Openings.{client_view, opening_views}
 use Rattle.client_laws.proofs.Held.{length_without}
@@ -37,16 +37,12 @@ use Rattle.client_laws.proofs.Held.{length_without}
 -- ## Parts of programs
 
 module _ (p : Plan) where
-  -- a step, whatever it finds
-  does : (call : Call) (next : ℕ → Program) (n m : ℕ) → n + cost call ≤ m → ((found : ℕ) → Lasting p (next found) n) → Lasting p (Do call next) m
-  does call next n m le l v = (n, le, λ found hand f. l found (row p call found hand v))
-
   frees_lasts : (i : ℕ) (next : Program) (n : ℕ) (b : Bool) → Lasting p next n → Lasting p (cond b (Do (FreeSlot i) (λ _. next)) next) (1 + n)
-  frees_lasts i next n b l = either_lasts p (Do (FreeSlot i) (λ _. next)) next (1 + n) b (does (FreeSlot i) (λ _. next) n (1 + n) (omega arith) (λ found. l)) (lasting_more p next n (1 + n) (omega arith) l)
+  frees_lasts i next n b l = either_lasts p (Do (FreeSlot i) (λ _. next)) next (1 + n) b (does p (FreeSlot i) (λ _. next) n (1 + n) (omega arith) (λ found. l)) (lasting_more p next n (1 + n) (omega arith) l)
 
   ends_link : (k : ℕ) (next : Program) (n : ℕ) → Lasting p next n → Lasting p (Do (TakeLink k) (λ _. Do (FinishLink k) (λ _. Do (PutLink k) (λ _. next)))) (3 + n)
-  ends_link k next n l = does (TakeLink k) (λ _. Do (FinishLink k) (λ _. Do (PutLink k) (λ _. next))) (2 + n) (3 + n) (omega arith)
-      (λ a. does (FinishLink k) (λ _. Do (PutLink k) (λ _. next)) (1 + n) (2 + n) (omega arith) (λ b. does (PutLink k) (λ _. next) n (1 + n) (omega arith) (λ c. l)))
+  ends_link k next n l = does p (TakeLink k) (λ _. Do (FinishLink k) (λ _. Do (PutLink k) (λ _. next))) (2 + n) (3 + n) (omega arith)
+      (λ a. does p (FinishLink k) (λ _. Do (PutLink k) (λ _. next)) (1 + n) (2 + n) (omega arith) (λ b. does p (PutLink k) (λ _. next) n (1 + n) (omega arith) (λ c. l)))
 
   recycle_lasts : (i from : ℕ) (next : Bool → Program) (n : ℕ) → ((b : Bool) → Lasting p (next b) n) → Lasting p (recycle i from next) (6 + n)
   recycle_lasts i from next n l v = let freeing : Program = cond (nat_le (vref_version from + 1) LAST_VERSION) (Do (FreeSlot i) (λ _. next true)) (next true) in
@@ -54,7 +50,7 @@ module _ (p : Plan) where
         5 + n,
         omega arith,
         λ found hand f. either_lasts p (Do (LoadLink i (vref_version from + 1)) ending) (next false) (5 + n) (found == from)
-            (does (LoadLink i (vref_version from + 1)) ending (4 + n) (5 + n) (omega arith) (λ k. lasting_more p (ending k) (3 + (1 + n)) (4 + n) (omega arith)
+            (does p (LoadLink i (vref_version from + 1)) ending (4 + n) (5 + n) (omega arith) (λ k. lasting_more p (ending k) (3 + (1 + n)) (4 + n) (omega arith)
             (ends_link k freeing (1 + n) (frees_lasts i (next true) n (nat_le (vref_version from + 1) LAST_VERSION) (l true)))))
             (lasting_more p (next false) n (5 + n) (omega arith) (l false)) (row p (Recycle i from) found hand v),
       )
@@ -84,32 +80,23 @@ module _ (p : Plan) where
         (row p (LoadName name) word hand v),
   )
 
-  set_failed_lasts : (id code : ℕ) (next : ℕ → Program) (n : ℕ) → ((found : ℕ) → Lasting p (next found) n) → Lasting p (set_failed id code next) (3 + n)
-  set_failed_lasts id code next n l v = let i : ℕ = socket_id_slot id in let h : ℕ = socket_id_version id in (
-    2 + n,
-    omega arith,
-    λ found hand f. either_lasts p (Do (StoreCode i h code) (λ _. Do (SubRef i) (λ _. next found))) (next found) (2 + n) (vref_version found % 2 == 0)
-        (does (StoreCode i h code) (λ _. Do (SubRef i) (λ _. next found)) (1 + n) (2 + n) (omega arith) (λ a. does (SubRef i) (λ _. next found) n (1 + n) (omega arith) (λ b. l found)))
-        (lasting_more p (next found) n (2 + n) (omega arith) (l found)) (row p (SetOdd i) found hand v),
-  )
-
   -- ## Operations
 
   module _ (o : ℕ) (next : Program) (n : ℕ) (l : Lasting p next n) where
     no_socket_lasts : (k : ℕ) → Lasting p (no_socket o k next) (4 + n)
-    no_socket_lasts k = lasting_more p (no_socket o k next) (3 + (1 + n)) (4 + n) (omega arith) (ends_link k (Do (StoreOpen o NO_SOCKET) (λ _. Say o SlotsFull next)) (1 + n) (does (StoreOpen o NO_SOCKET) (λ _. Say o SlotsFull next) n (1 + n) (omega arith) (λ a. l)))
+    no_socket_lasts k = lasting_more p (no_socket o k next) (3 + (1 + n)) (4 + n) (omega arith) (ends_link k (Do (StoreOpen o NO_SOCKET) (λ _. Say o SlotsFull next)) (1 + n) (does p (StoreOpen o NO_SOCKET) (λ _. Say o SlotsFull next) n (1 + n) (omega arith) (λ a. l)))
 
     make_socket_lasts : (name k i : ℕ) → Lasting p (make_socket o name k i next) (6 + n)
     make_socket_lasts name k i =
         let word : ℕ → ℕ = λ found. socket_id (vref_version found) i + 1 in
         let stores : ℕ → Program = λ found. Do (StoreName name (word found)) (λ _. Say o (Opened i (vref_version found) k) next) in
         let born : ℕ → Program = λ found. Do (StoreOpen o (word found)) (λ _. stores found) in
-        does (StoreLink i k) (λ _. Do (ResetHead i k) (λ _. Do (WipeCode i k) (λ _. Do (GiveBirth i k) born))) (5 + n) (6 + n) (omega arith)
-        (λ a. does (ResetHead i k) (λ _. Do (WipeCode i k) (λ _. Do (GiveBirth i k) born)) (4 + n) (5 + n) (omega arith)
-        (λ b. does (WipeCode i k) (λ _. Do (GiveBirth i k) born) (3 + n) (4 + n) (omega arith)
-        (λ c. does (GiveBirth i k) born (2 + n) (3 + n) (omega arith)
-        (λ found. does (StoreOpen o (word found)) (λ _. stores found) (1 + n) (2 + n) (omega arith)
-        (λ d. does (StoreName name (word found)) (λ _. Say o (Opened i (vref_version found) k) next) n (1 + n) (omega arith) (λ e. l))))))
+        does p (StoreLink i k) (λ _. Do (ResetHead i k) (λ _. Do (WipeCode i k) (λ _. Do (GiveBirth i k) born))) (5 + n) (6 + n) (omega arith)
+        (λ a. does p (ResetHead i k) (λ _. Do (WipeCode i k) (λ _. Do (GiveBirth i k) born)) (4 + n) (5 + n) (omega arith)
+        (λ b. does p (WipeCode i k) (λ _. Do (GiveBirth i k) born) (3 + n) (4 + n) (omega arith)
+        (λ c. does p (GiveBirth i k) born (2 + n) (3 + n) (omega arith)
+        (λ found. does p (StoreOpen o (word found)) (λ _. stores found) (1 + n) (2 + n) (omega arith)
+        (λ d. does p (StoreName name (word found)) (λ _. Say o (Opened i (vref_version found) k) next) n (1 + n) (omega arith) (λ e. l))))))
 
     open_lasts : (name k slots i : ℕ) → Lasting p (open_from slots i o name k next) (slots + 6 + n)
     open_lasts name k zero i v = lasting_more p (no_socket o k next) (4 + n) (6 + n) (omega arith) (no_socket_lasts k) v
@@ -124,7 +111,7 @@ module _ (p : Plan) where
     fail_lasts name code = lasting_more p (fail o name code next) (2 + (10 + n)) (12 + n) (omega arith) (reach_lasts name (Say o Unopened next)
         (λ id. set_failed id code (λ found. release (socket_id_slot id) (λ _. Say o (fail_outcome found) next))) (λ found. Say o (Gone (record { 0 = found })) next) (10 + n) n (omega arith) (lasting_more p next n (10 + n) (omega arith) l)
         (λ id. lasting_more p (set_failed id code (λ found. release (socket_id_slot id) (λ _. Say o (fail_outcome found) next))) (3 + (7 + n)) (10 + n) (omega arith)
-        (set_failed_lasts id code (λ found. release (socket_id_slot id) (λ _. Say o (fail_outcome found) next)) (7 + n) (λ found. release_lasts (socket_id_slot id) (λ _. Say o (fail_outcome found) next) n (λ b. l))))
+        (set_failed_lasts p id code (λ found. release (socket_id_slot id) (λ _. Say o (fail_outcome found) next)) (7 + n) (λ found. release_lasts (socket_id_slot id) (λ _. Say o (fail_outcome found) next) n (λ b. l))))
         (λ found. l))
 
     hold_lasts : (name : ℕ) (more : ℕ → Program) (m : ℕ) → 7 + n ≤ m → ((id : ℕ) → Lasting p (more id) m) → Lasting p (hold o name more next) (2 + m)
@@ -137,46 +124,46 @@ module _ (p : Plan) where
     -- ## Sending
 
     -- who finds an idle head writes the link
-    write_lasts : (id q own : ℕ) (after : Program) (m : ℕ) → Lasting p after m → Lasting p (write_link id q own after) (3 + m)
+    write_lasts : (id q own : ℕ) (after : Program) (m : ℕ) → Lasting p after m → Lasting p (write_link id q own after) (8 + m)
     write_lasts id q own after m k v = (
-      2 + m,
+      7 + m,
       omega arith,
-      λ link hand f. (1 + m, omega arith, λ places. takes_next p after m k (record { id = id; link = link; last = own; places = places }) own q (link_away (row p (FindLink (socket_id_slot id) (socket_id_version id)) link hand v))),
+      λ link hand f. (6 + m, omega arith, λ places. takes_first p after m k (record { id = id; link = link; last = own; places = places }) own q (link_away (row p (FindLink (socket_id_slot id) (socket_id_version id)) link hand v))),
     )
 
-    accept_lasts : (id q g : ℕ) (heading : Heading) (bytes : List ℕ) (after : Program) (m : ℕ) → Lasting p after m → Lasting p (accept id q g heading bytes after) (weight (length bytes) + 8 + m)
+    accept_lasts : (id q g : ℕ) (heading : Heading) (bytes : List ℕ) (after : Program) (m : ℕ) → Lasting p after m → Lasting p (accept id q g heading bytes after) (weight (length bytes) + 13 + m)
     accept_lasts id q g heading bytes after m k = let own : ℕ = ticket_of q g in
         let swapped : ℕ → Program = λ found. cond (nat_lt found IDLE) (Do (Connect q found) (λ _. after)) (write_link id q own after) in
-        does (PutMessage q heading bytes) (λ _. Do (Unconnect q) (λ _. Do (SwapHead (socket_id_slot id) own) swapped)) (7 + m) (weight (length bytes) + 8 + m) (omega arith)
-        (λ a. does (Unconnect q) (λ _. Do (SwapHead (socket_id_slot id) own) swapped) (6 + m) (7 + m) (omega arith)
-        (λ b. does (SwapHead (socket_id_slot id) own) swapped (3 + m) (6 + m) (omega arith)
-        (λ found. either_lasts p (Do (Connect q found) (λ _. after)) (write_link id q own after) (3 + m) (nat_lt found IDLE) (does (Connect q found) (λ _. after) m (3 + m) (omega arith) (λ c. k)) (write_lasts id q own after m k))))
+        does p (PutMessage q heading bytes) (λ _. Do (Unconnect q) (λ _. Do (SwapHead (socket_id_slot id) own) swapped)) (12 + m) (weight (length bytes) + 13 + m) (omega arith)
+        (λ a. does p (Unconnect q) (λ _. Do (SwapHead (socket_id_slot id) own) swapped) (11 + m) (12 + m) (omega arith)
+        (λ b. does p (SwapHead (socket_id_slot id) own) swapped (8 + m) (11 + m) (omega arith)
+        (λ found. either_lasts p (Do (Connect q found) (λ _. after)) (write_link id q own after) (8 + m) (nat_lt found IDLE) (does p (Connect q found) (λ _. after) m (8 + m) (omega arith) (λ c. k)) (write_lasts id q own after m k))))
 
     sent_lasts : (id : ℕ) → Lasting p (release (socket_id_slot id) (λ _. Sent o next)) (7 + n)
     sent_lasts id = release_lasts (socket_id_slot id) (λ _. Sent o next) n (λ b. l)
 
-    claim_lasts : (id : ℕ) (bytes : List ℕ) (requests q : ℕ) → Lasting p (claim_from requests q o id bytes next) (requests + (weight (length bytes) + 15 + n))
-    claim_lasts id bytes zero q v = lasting_more p (release (socket_id_slot id) (λ _. Say o Full next)) (7 + n) (0 + (weight (length bytes) + 15 + n)) (omega arith) (release_lasts (socket_id_slot id) (λ _. Say o Full next) n (λ b. l)) v
-    claim_lasts id bytes (suc requests) q v = let m : ℕ = requests + (weight (length bytes) + 15 + n) in let after : Program = release (socket_id_slot id) (λ _. Sent o next) in (
-      requests + (weight (length bytes) + 15 + n),
+    claim_lasts : (id : ℕ) (bytes : List ℕ) (requests q : ℕ) → Lasting p (claim_from requests q o id bytes next) (requests + (weight (length bytes) + 20 + n))
+    claim_lasts id bytes zero q v = lasting_more p (release (socket_id_slot id) (λ _. Say o Full next)) (7 + n) (0 + (weight (length bytes) + 20 + n)) (omega arith) (release_lasts (socket_id_slot id) (λ _. Say o Full next) n (λ b. l)) v
+    claim_lasts id bytes (suc requests) q v = let m : ℕ = requests + (weight (length bytes) + 20 + n) in let after : Program = release (socket_id_slot id) (λ _. Sent o next) in (
+      requests + (weight (length bytes) + 20 + n),
       omega arith,
       λ found hand f. either_lasts p (accept id q (found / 2) (heading_of o) bytes after) (claim_from requests (q + 1) o id bytes next) m (found % 2 == 0)
-          (lasting_more p (accept id q (found / 2) (heading_of o) bytes after) (weight (length bytes) + 8 + (7 + n)) m (omega arith) (accept_lasts id q (found / 2) (heading_of o) bytes after (7 + n) (sent_lasts id)))
+          (lasting_more p (accept id q (found / 2) (heading_of o) bytes after) (weight (length bytes) + 13 + (7 + n)) m (omega arith) (accept_lasts id q (found / 2) (heading_of o) bytes after (7 + n) (sent_lasts id)))
           (claim_lasts id bytes requests (q + 1)) (row p (ClaimRequest id q) found hand v),
     )
 
-    start_lasts : (requests id : ℕ) (bytes : List ℕ) → Lasting p (start requests o id bytes next) (requests + (weight (length bytes) + 16 + n))
+    start_lasts : (requests id : ℕ) (bytes : List ℕ) → Lasting p (start requests o id bytes next) (requests + (weight (length bytes) + 21 + n))
     start_lasts requests id bytes v = let gone : ℕ → Program = λ found. release (socket_id_slot id) (λ _. Say o (Gone (record { 0 = found })) next) in (
-      requests + (weight (length bytes) + 15 + n),
+      requests + (weight (length bytes) + 20 + n),
       omega arith,
-      λ found hand f. either_lasts p (claim_from requests 0 o id bytes next) (gone found) (requests + (weight (length bytes) + 15 + n)) (vref_version found % 2 == 0) (claim_lasts id bytes requests 0)
-          (lasting_more p (gone found) (7 + n) (requests + (weight (length bytes) + 15 + n)) (omega arith) (release_lasts (socket_id_slot id) (λ _. Say o (Gone (record { 0 = found })) next) n (λ b. l))) (row p (LookWord id) found hand v),
+      λ found hand f. either_lasts p (claim_from requests 0 o id bytes next) (gone found) (requests + (weight (length bytes) + 20 + n)) (vref_version found % 2 == 0) (claim_lasts id bytes requests 0)
+          (lasting_more p (gone found) (7 + n) (requests + (weight (length bytes) + 20 + n)) (omega arith) (release_lasts (socket_id_slot id) (λ _. Say o (Gone (record { 0 = found })) next) n (λ b. l))) (row p (LookWord id) found hand v),
     )
 
-    send_lasts : (requests name : ℕ) (bytes : List ℕ) → Lasting p (send requests o name bytes next) (requests + (weight (length bytes) + 18 + n))
-    send_lasts requests name bytes = lasting_more p (send requests o name bytes next) (2 + (requests + (weight (length bytes) + 16 + n))) (requests + (weight (length bytes) + 18 + n)) (omega arith)
-        (reach_lasts name (Say o Unopened next) (λ id. start requests o id bytes next) (λ found. Say o (Gone (record { 0 = found })) next) (requests + (weight (length bytes) + 16 + n)) n (omega arith)
-        (lasting_more p next n (requests + (weight (length bytes) + 16 + n)) (omega arith) l) (λ id. start_lasts requests id bytes) (λ found. l))
+    send_lasts : (requests name : ℕ) (bytes : List ℕ) → Lasting p (send requests o name bytes next) (requests + (weight (length bytes) + 23 + n))
+    send_lasts requests name bytes = lasting_more p (send requests o name bytes next) (2 + (requests + (weight (length bytes) + 21 + n))) (requests + (weight (length bytes) + 23 + n)) (omega arith)
+        (reach_lasts name (Say o Unopened next) (λ id. start requests o id bytes next) (λ found. Say o (Gone (record { 0 = found })) next) (requests + (weight (length bytes) + 21 + n)) n (omega arith)
+        (lasting_more p next n (requests + (weight (length bytes) + 21 + n)) (omega arith) l) (λ id. start_lasts requests id bytes) (λ found. l))
 
     -- ## The ending
 
@@ -187,7 +174,7 @@ module _ (p : Plan) where
       λ word hand f. either_lasts p next (cond (word == NO_SOCKET) next (ends word)) (11 + n) (word == 0) (lasting_more p next n (11 + n) (omega arith) l)
           (either_lasts p next (ends word) (11 + n) (word == NO_SOCKET) (lasting_more p next n (11 + n) (omega arith) l)
           (lasting_more p (ends word) (1 + (10 + n)) (11 + n) (omega arith) (address_lasts (word - 1) (fails word) (λ _. next) (10 + n) n (omega arith)
-          (lasting_more p (fails word) (3 + (7 + n)) (10 + n) (omega arith) (set_failed_lasts (word - 1) 1014 (λ _. release (socket_id_slot (word - 1)) (λ _. next)) (7 + n) (λ found. release_lasts (socket_id_slot (word - 1)) (λ _. next) n (λ b. l))))
+          (lasting_more p (fails word) (3 + (7 + n)) (10 + n) (omega arith) (set_failed_lasts p (word - 1) 1014 (λ _. release (socket_id_slot (word - 1)) (λ _. next)) (7 + n) (λ found. release_lasts (socket_id_slot (word - 1)) (λ _. next) n (λ b. l))))
           (λ found. l)))) (row p (LoadOpen o) word hand v),
     )
 
@@ -196,7 +183,7 @@ module _ (p : Plan) where
   -- what an operation costs, and the reference that it may leave
   abbrev op_cost : Op → ℕ
   op_cost (ops.Open name k) = p.slots + 6
-  op_cost (ops.Send name bytes) = p.requests + (weight (length bytes) + 18)
+  op_cost (ops.Send name bytes) = p.requests + (weight (length bytes) + 23)
   op_cost (ops.Hold name) = 9
   op_cost (ops.Drop name) = 7
   op_cost (ops.Fail name code) = 12
@@ -210,7 +197,7 @@ module _ (p : Plan) where
 
   operation_lasts : (held : List HeldLife) (o : ℕ) (next : List HeldLife → Program) (n : ℕ) → ((hs : List HeldLife) → Lasting p (next hs) (n + 7 * length hs)) → (op : Op) → Lasting p (operation (sizes_of p) held o next op) (op_cost op + n + 7 * length held)
   operation_lasts held o next n l (ops.Open name k) = lasting_more p (open_from p.slots 0 o name k (next held)) (p.slots + 6 + (n + 7 * length held)) (p.slots + 6 + n + 7 * length held) (omega arith) (open_lasts o (next held) (n + 7 * length held) (l held) name k p.slots 0)
-  operation_lasts held o next n l (ops.Send name bytes) = lasting_more p (send p.requests o name bytes (next held)) (p.requests + (weight (length bytes) + 18 + (n + 7 * length held))) (p.requests + (weight (length bytes) + 18) + n + 7 * length held) (omega arith)
+  operation_lasts held o next n l (ops.Send name bytes) = lasting_more p (send p.requests o name bytes (next held)) (p.requests + (weight (length bytes) + 23 + (n + 7 * length held))) (p.requests + (weight (length bytes) + 23) + n + 7 * length held) (omega arith)
       (send_lasts o (next held) (n + 7 * length held) (l held) p.requests name bytes)
   operation_lasts held o next n l (ops.Hold name) = let more : ℕ → Program = λ id. next (held ++ (record { name = name; id = id }) ∷ []) in
       lasting_more p (hold o name more (next held)) (2 + (7 + (n + 7 * length held))) (9 + n + 7 * length held) (omega arith)
@@ -252,22 +239,22 @@ no_walks p f [] = refl
 no_walks p f (ts ∷ clients) = omega (arith, no_rights p f clients)
 
 -- what a client's tasks cost at most
-task_few : (p : Plan) → IsWithinLimits p → (t : Task) → TaskFits p t → task_cost p t ≤ 921658
+task_few : (p : Plan) → IsWithinLimits p → (t : Task) → TaskFits p t → task_cost p t ≤ 921663
 task_few p limits t fits = op_few t.op fits.1
   where
-    op_few : (op : Op) → OpFits p op → op_cost p op ≤ 921658
+    op_few : (op : Op) → OpFits p op → op_cost p op ≤ 921663
     op_few (ops.Open name k) fits = omega (arith, limits.slots)
     op_few (ops.Send name bytes) fits = omega (arith, limits.requests, fits.2)
     op_few (ops.Hold name) fits = omega arith
     op_few (ops.Drop name) fits = omega arith
     op_few (ops.Fail name code) fits = omega arith
 
-tasks_few : (p : Plan) → IsWithinLimits p → (ts : List Task) → AllByRecursion (TaskFits p) ts → total (task_cost p) ts ≤ 921658 * length ts
+tasks_few : (p : Plan) → IsWithinLimits p → (ts : List Task) → AllByRecursion (TaskFits p) ts → total (task_cost p) ts ≤ 921663 * length ts
 tasks_few p limits [] fits = omega arith
 tasks_few p limits (t ∷ ts) fits = omega (arith, task_few p limits t fits.0, tasks_few p limits ts fits.1)
 
 clients_few : (p : Plan) → IsWithinLimits p → (clients : List (List Task)) → AllByRecursion (AllByRecursion (TaskFits p)) clients → AllByRecursion (λ (ts : List Task). length ts ≤ 4096) clients
-    → total (λ (k : ℕ). k) (map (total (task_cost p)) clients) ≤ 3775111168 * length clients
+    → total (λ (k : ℕ). k) (map (total (task_cost p)) clients) ≤ 3775131648 * length clients
 clients_few p limits [] fits few = omega arith
 clients_few p limits (ts ∷ clients) fits few = omega (arith, tasks_few p limits ts fits.0, few.0, clients_few p limits clients fits.1 few.1)
 

@@ -22,10 +22,10 @@ use Rattle.sock_model.specs.Entries.{ticket_of, slot_of}
 use Rattle.sock_model.specs.Memory.{IDLE}
 use Rattle.sock_model.specs.Rule.{MOST_ACCEPTED}
 use Rattle.sock_programs.specs.Calls.{Connect}
-use Rattle.sock_programs.specs.Writings.{Puts}
-use Rattle.sock_programs.specs.Programs.{Program, Do, Say, Sent, TakeMessage, TakeHome, Write, release}
-use Rattle.sock_programs.specs.Sends.{write_link, heading_of, accept, claim_from, start, send}
+use Rattle.sock_programs.specs.Programs.{Program, Do, Say, Sent, TakeMessage, TakeHome, release}
+use Rattle.sock_programs.specs.Sends.{write_link, first_put, heading_of, accept, claim_from, start, send}
 use Rattle.sock_programs.specs.Clients.{HeldLife}
+use Rattle.sock_runs.proofs.Rounds.{first_goes}
 use Rattle.sock_runs.specs.Rows.{by_right, looked_clean, new_claim, filled_claim, ready_claim}
 use Rattle.sock_runs.specs.Writes.{IsNote, AreNotes, behind}
 use Rattle.sock_runs.specs.GoesOn.{GoesOn}
@@ -90,15 +90,15 @@ own_of c = ticket_of c.request c.generation
 module _ (p : Plan) {lists : List (List Entry)} {held : List HeldLife} {passes : List ℕ} (id : ℕ) (inside : socket_id_slot id < p.slots) (few : length held ≤ 4096) (after : Program)
     (goes : (u : View) → Has lists (socket_id_slot id) (Hold (socket_id_version id) ∷ []) held passes [] u → GoesOn p u after) (c : Claim) (found : ℕ) (sent : List ℕ) (places : ℕ) where
   abbrev puts_of : Heading → List ℕ → Program
-  puts_of heading bytes = Write (Puts (record { id = id; link = c.link; last = own_of c; places = places }) (own_of c) heading bytes 0 false) after
+  puts_of heading bytes = first_put (record { id = id; link = c.link; last = own_of c; places = places }) (own_of c) heading bytes after
 
   -- at the head of the loop the message is in hand
   puts_goes : {w : View} → Has lists (socket_id_slot id) (Hold (socket_id_version id) ∷ []) held passes [] w → 0 < marks_of (is_met (socket_id_version id) c.link) (socket_id_slot id) w → (heading : Heading) (bytes : List ℕ)
       → heading.place < 8 * p.operations → bytes ≢ [] → GoesOn p (writing (taken_right (right_away c found sent places) heading bytes) w) (puts_of heading bytes)
-  puts_goes {w} a met heading bytes label some_ = let h : ℕ = socket_id_version id in (
-    (
-      taken_right (right_away c found sent places) heading bytes,
-      record {
+  puts_goes {w} a met heading bytes label some_ = let h : ℕ = socket_id_version id in first_goes p after (record { id = id; link = c.link; last = own_of c; places = places }) (own_of c) heading bytes 0 refl
+      (writing (taken_right (right_away c found sent places) heading bytes) w)
+      (taken_right (right_away c found sent places) heading bytes)
+      (record {
         one = refl;
         claims = a.quiet.claims;
         loose = a.quiet.loose;
@@ -111,8 +111,8 @@ module _ (p : Plan) {lists : List (List Entry)} {held : List HeldLife} {passes :
         room = omega (arith, refs_few a, few);
         no_probe = probes a;
         no_coding = codings a;
-      },
-      record {
+      })
+      (record {
         stage = refl;
         in_hand = refl;
         heading_is = refl;
@@ -121,10 +121,8 @@ module _ (p : Plan) {lists : List (List Entry)} {held : List HeldLife} {passes :
         some_left = some_;
         clean = λ z. absurd (omega (arith, z));
         label_in = label;
-      },
-    ),
-    λ notes are. goes (behind notes w) (behind_has a notes are),
-  )
+      })
+      (λ notes are. goes (behind notes w) (behind_has a notes are))
 
   message_goes : {w : View} → Has lists (socket_id_slot id) (Hold (socket_id_version id) ∷ []) held passes [] w → 0 < marks_of (is_met (socket_id_version id) c.link) (socket_id_slot id) w → (q : ℕ) → slot_of (own_of c) ≡ q
       → GoesOn p (writing (right_away c found sent places) w) (TakeMessage q puts_of)
@@ -134,7 +132,7 @@ module _ (p : Plan) {lists : List (List Entry)} {held : List HeldLife} {passes :
   )
 
   home_goes : {w : View} → Has lists (socket_id_slot id) (Hold (socket_id_version id) ∷ []) held passes [] w → 0 < marks_of (is_met (socket_id_version id) c.link) (socket_id_slot id) w → (q : ℕ) → slot_of (own_of c) ≡ q
-      → GoesOn p (writing (new_right c found sent places) w) (TakeHome c.link (λ n. TakeMessage q (λ heading bytes. Write (Puts (record { id = id; link = c.link; last = own_of c; places = n }) (own_of c) heading bytes 0 false) after)))
+      → GoesOn p (writing (new_right c found sent places) w) (TakeHome c.link (λ n. TakeMessage q (λ heading bytes. first_put (record { id = id; link = c.link; last = own_of c; places = n }) (own_of c) heading bytes after)))
   home_goes {w} a met q is = let r : Right = new_right c found sent places in (
     r,
     (refl, refl, refl, no_links w.hands a.hands_are),
@@ -146,7 +144,7 @@ module _ (p : Plan) {lists : List (List Entry)} {held : List HeldLife} {passes :
       → GoesOn p (writing (new_right c found sent places) w) (write_link id q (own_of c) after)
   write_link_goes {w} a met q is = let i : ℕ = socket_id_slot id in let h : ℕ = socket_id_version id in let r : Right = new_right c found sent places in (
     (inside, first (Hold h) a (is_hold h) (of_hold h) (only-same h)),
-    λ k hand f. subst (λ x. GoesOn p (writing r (met_link i h x w)) (TakeHome x (λ n. TakeMessage q (λ heading bytes. Write (Puts (record { id = id; link = x; last = own_of c; places = n }) (own_of c) heading bytes 0 false) after))))
+    λ k hand f. subst (λ x. GoesOn p (writing r (met_link i h x w)) (TakeHome x (λ n. TakeMessage q (λ heading bytes. first_put (record { id = id; link = x; last = own_of c; places = n }) (own_of c) heading bytes after))))
         (sym (f.1 c.link met)) (home_goes (noted a (Met h c.link) (λ f o. o.met h c.link)) (omega (arith, about_top (is_met h c.link) i (Met h c.link) w.marks, pair-same h c.link)) q is),
   )
 

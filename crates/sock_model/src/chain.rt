@@ -1,13 +1,14 @@
 // The write chain: what the views have of it. The definitions are in specs/, and the steps that keep them in proofs/.
 
 /// What stands with a message: the client and the number there of its operation, its attempt, the number of its place
-/// word, and its owner, which is the call's id, or 0 for a send.
+/// word, its owner, which is the call's id, or 0 for a send, and the lengths of the parts by which it is put: none for a send.
 pub struct Heading {
     pub client: u16,
     pub operation: u16,
     pub attempt: u8,
     pub place: u32,
     pub owner: u64,
+    pub parts: [u32; 0],
 }
 
 /// A message that a link accepted. Its request and generation are its ticket, and `before` is the ticket of the entry before it, or 0.

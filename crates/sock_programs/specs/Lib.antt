@@ -9,3 +9,4 @@ pub mod Ticks
 pub mod Runs
 pub mod Scripts
 pub mod Told
+pub mod Drops

@@ -1,5 +1,5 @@
 -- The program of a `send`, and of whoever writes a link: each loop unrolled by one round.
-use Rattle.std.specs.Prelude.{ℕ, zero, suc, ◌+◌, ◌*◌, ◌/◌, ◌%◌, ◌==◌, true, false, List, length, drop, nat_lt, nat_le, if◌then◌else◌}
+use Rattle.std.specs.Prelude.{ℕ, zero, suc, ◌+◌, ◌*◌, ◌/◌, ◌%◌, ◌==◌, true, false, List, [], length, drop, nat_lt, nat_le, if◌then◌else◌}
 use Rattle.sock_words.specs.Words.{socket_id_version, socket_id_slot, vref_version}
 use Rattle.sock_words.specs.declared.outcome.Outcome.TheVariants.{Unopened, Gone, Full}
 use Rattle.sock_io.specs.declared.link.Put.{Put}
@@ -68,14 +68,20 @@ block (Walks h top at after) then_ = Do (ReadNext (slot_of at)) (λ found.
 
 -- ## Sending
 
+-- the first look and the one put behind it; where the socket was found failed, the loop begins with a look of its own
+abbrev pub first_put : Holder → ℕ → Heading → List ℕ → Program → Program
+first_put h now heading bytes after = Do (LookWord h.id) (λ found.
+    if vref_version found % 2 == 0 then PutBytes h.link false (piece bytes 0) (put_answered h now heading bytes 0 after)
+    else Write (Puts h now heading bytes 0 false) after)
+
 -- whoever found an idle head writes the link until the head is idle again
 abbrev pub write_link : ℕ → ℕ → ℕ → Program → Program
 write_link id q own after = Do (FindLink (socket_id_slot id) (socket_id_version id)) (λ k. TakeHome k (λ places. TakeMessage q (λ heading bytes.
-    Write (Puts (record { id = id; link = k; last = own; places = places }) own heading bytes 0 false) after)))
+    first_put (record { id = id; link = k; last = own; places = places }) own heading bytes after)))
 
 -- what stands with the message of operation o: its place word is the first of the operation's eight
 abbrev pub heading_of : ℕ → Heading
-heading_of o = record { client = 0; operation = o; attempt = 0; place = 8 * o; owner = 0 }
+heading_of o = record { client = 0; operation = o; attempt = 0; place = 8 * o; owner = 0; parts = [] }
 
 -- the message is accepted with request q, whose generation is g
 abbrev pub accept : ℕ → ℕ → ℕ → Heading → List ℕ → Program → Program

@@ -1,5 +1,5 @@
 -- What a round of whoever writes a link costs: from the head of a loop its first step is one of those that are left at most.
-use Rattle.std.proofs.Common.{◌≡◌, ◌≢◌, ℕ, ◌+◌, ◌-◌, ◌*◌, ◌%◌, ◌<◌, ◌≤◌, Bool, true, false, List, [], ◌∷◌, length, take, drop, refl, sym, ap, ◌∙◌, subst, arith, cond, eqb, leb, ltb, eq-eqb, eqb-true, lt-ltb, ltb-true, leb-false}
+use Rattle.std.proofs.Common.{◌≡◌, ◌≢◌, ℕ, ◌+◌, ◌-◌, ◌*◌, ◌%◌, ◌==◌, ◌<◌, ◌≤◌, Bool, true, false, List, [], ◌∷◌, length, take, drop, refl, sym, ap, ◌∙◌, subst, arith, cond, eqb, leb, ltb, eq-eqb, eqb-true, lt-ltb, ltb-true, leb-false}
 use Rattle.std.proofs.lemmas.Bool.{true≢false}
 use Rattle.std.proofs.lemmas.List.{length-drop}
 use Rattle.sock_words.specs.declared.plain.Plan.{Plan}
@@ -17,10 +17,10 @@ use Rattle.sock_model.specs.Marks.{about, at, without_at}
 use Rattle.sock_model.specs.Entries.{slot_of, generation_of}
 use Rattle.sock_model.specs.SlotRows.{marks_of, back, looked}
 use Rattle.sock_model.specs.ChainRows.{with_right}
-use Rattle.sock_programs.specs.Calls.{LoadCode, SubRef, StoreCode, StorePlace, DropPlace, EmptyHead, ReadNext, TurnNext, FreeRequest}
+use Rattle.sock_programs.specs.Calls.{Call, LookWord, LoadCode, SetOdd, SubRef, StoreCode, StorePlace, DropPlace, EmptyHead, ReadNext, TurnNext, FreeRequest}
 use Rattle.sock_programs.specs.Writings.{Holder, Writing, Puts, Waits, Empties, Walks}
 use Rattle.sock_programs.specs.Programs.{Program, Do, Say, Sent, Rest, TakeMessage, TakeHome, PutHome, PutBytes, AskReady, Write, LAST_GENERATION, set_failed}
-use Rattle.sock_programs.specs.Sends.{freed, one_more, passed, placed, dropped, put_answered, block}
+use Rattle.sock_programs.specs.Sends.{freed, one_more, passed, placed, dropped, put_answered, block, first_put}
 use Rattle.sock_programs.specs.Ticks.{FitsPut}
 use Rattle.sock_programs.specs.Cores.{next_step}
 use Rattle.sock_steps.proofs.Quiet.{either_way}
@@ -29,7 +29,7 @@ use Rattle.slot_laws.proofs.Numbers.{only-same}
 use Rattle.sock_runs.specs.Rows.{row, by_right, looked_clean, took_message, link_home_again, link_away, took_bytes}
 use Rattle.sock_runs.specs.May.{IsOfHeld, FindsFailed}
 use Rattle.sock_runs.specs.Writes.{At}
-use Rattle.sock_runs.specs.Lasts.{weight, saw_failed, asking_cost, failing_cost, waiting_cost, loop_cost, LastsFor}
+use Rattle.sock_runs.specs.Lasts.{weight, cost, saw_failed, asking_cost, failing_cost, waiting_cost, loop_cost, LastsFor}
 use Rattle.sock_runs.proofs.Leaves.{right_way}
 
 -- ## Numbers
@@ -64,6 +64,20 @@ lasting_more p program m n le l v = lasts_more p v program m n le (l v)
 pub either_lasts : (p : Plan) (a b : Program) (n : ℕ) (x : Bool) → Lasting p a n → Lasting p b n → Lasting p (cond x a b) n
 either_lasts p a b n true k l = k
 either_lasts p a b n false k l = l
+
+-- a step, whatever it finds
+pub does : (p : Plan) (call : Call) (next : ℕ → Program) (n m : ℕ) → n + cost call ≤ m → ((found : ℕ) → Lasting p (next found) n) → Lasting p (Do call next) m
+does p call next n m le l v = (n, le, λ found hand f. l found (row p call found hand v))
+
+-- a life is set failed, by whoever holds it or not
+pub set_failed_lasts : (p : Plan) (id code : ℕ) (next : ℕ → Program) (n : ℕ) → ((found : ℕ) → Lasting p (next found) n) → Lasting p (set_failed id code next) (3 + n)
+set_failed_lasts p id code next n l v = let i : ℕ = socket_id_slot id in let h : ℕ = socket_id_version id in (
+  2 + n,
+  omega arith,
+  λ found hand f. either_lasts p (Do (StoreCode i h code) (λ _. Do (SubRef i) (λ _. next found))) (next found) (2 + n) (vref_version found % 2 == 0)
+      (does p (StoreCode i h code) (λ _. Do (SubRef i) (λ _. next found)) (1 + n) (2 + n) (omega arith) (λ a. does p (SubRef i) (λ _. next found) n (1 + n) (omega arith) (λ b. l found)))
+      (lasting_more p (next found) n (2 + n) (omega arith) (l found)) (row p (SetOdd i) found hand v),
+)
 
 -- ## Notes that a seat saw a life failed
 
@@ -173,7 +187,7 @@ module _ (p : Plan) (after : Program) (m : ℕ) (follows : Lasting p after m) wh
   waiting_few false = omega arith
 
   -- the message that follows is taken, and stands for whoever writes it
-  pub takes_next : (h : Holder) (now q : ℕ) → Lasting p (TakeMessage q (λ heading bytes. Write (Puts h now heading bytes 0 false) after)) (1 + m)
+  takes_next : (h : Holder) (now q : ℕ) → Lasting p (TakeMessage q (λ heading bytes. Write (Puts h now heading bytes 0 false) after)) (1 + m)
   takes_next h now q u heading bytes some_ = (
     weight (length bytes) + m,
     omega arith,
@@ -199,6 +213,34 @@ module _ (p : Plan) (after : Program) (m : ℕ) (follows : Lasting p after m) wh
     omega arith,
     λ code hand f. (5 + m, omega arith, λ found hand' g. passed_lasts (one_more h) now (row p (DropPlace heading.place h.link h.places) found hand' (row p (LoadCode (socket_id_slot h.id) (socket_id_version h.id)) code hand u))),
   )
+
+  -- ## The first look
+
+  module _ (h : Holder) (now : ℕ) (heading : Heading) (bytes : List ℕ) where
+    -- the head of the loop, with the whole message in hand
+    whole_lasts : Lasting p (Write (Puts h now heading bytes 0 false) after) (weight (length bytes) + m)
+    whole_lasts u = heads_lasts u (Puts h now heading bytes 0 false) (weight (length bytes) + m) (omega (arith, failing_few (saw_failed u h)))
+
+    first_answers : (answer : Put) → Lasting p (put_answered h now heading bytes 0 after answer) (weight (length bytes) + 3 + m)
+    first_answers (puts.Took k) = either_lasts p (placed h now heading after) (Write (Puts h now heading (drop k bytes) (0 + k) false) after) (weight (length bytes) + 3 + m) (leb (length bytes) k)
+        (lasting_more p (placed h now heading after) (6 + m) (weight (length bytes) + 3 + m) (omega arith) (placed_lasts h now heading))
+        (λ u. heads_lasts u (Puts h now heading (drop k bytes) (0 + k) false) (weight (length bytes) + 3 + m) (omega (arith, length-drop k bytes, failing_few (saw_failed u h))))
+    first_answers puts.Again = λ u. heads_lasts u (Waits h now heading bytes 0) (weight (length bytes) + 3 + m) (omega (arith, waiting_few (saw_failed u h)))
+    first_answers puts.Failed = lasting_more p (set_failed h.id 1009 (λ _. Write (Puts h now heading bytes 0 false) after)) (3 + (weight (length bytes) + m)) (weight (length bytes) + 3 + m) (omega arith)
+        (set_failed_lasts p h.id 1009 (λ _. Write (Puts h now heading bytes 0 false) after) (weight (length bytes) + m) (λ _. whole_lasts))
+
+    first_put_lasts : Lasting p (first_put h now heading bytes after) (weight (length bytes) + 5 + m)
+    first_put_lasts = let n : ℕ = weight (length bytes) + 4 + m in
+        let puts_first : Program = PutBytes h.link false (take (8192 - 0 % 8192) bytes) (put_answered h now heading bytes 0 after) in
+        let looks_again : Program = Write (Puts h now heading bytes 0 false) after in
+        does p (LookWord h.id) (λ found. cond (vref_version found % 2 == 0) puts_first looks_again) n (weight (length bytes) + 5 + m) (omega arith)
+        (λ found. either_lasts p puts_first looks_again n (vref_version found % 2 == 0)
+        (λ u answer fits. (weight (length bytes) + 3 + m, omega arith, first_answers answer (took_bytes answer u)))
+        (lasting_more p looks_again (weight (length bytes) + m) n (omega arith) whole_lasts))
+
+  -- who found an idle head takes the message, looks and goes on
+  pub takes_first : (h : Holder) (now q : ℕ) → Lasting p (TakeMessage q (λ heading bytes. first_put h now heading bytes after)) (6 + m)
+  takes_first h now q u heading bytes some_ = (weight (length bytes) + 5 + m, omega arith, first_put_lasts h now heading bytes (took_message heading bytes u))
 
   -- ## One round
 

@@ -36,7 +36,7 @@ use Rattle.sock_model.specs.Memory.{UNCONNECTED}
 use Rattle.sock_programs.specs.Calls.{StoreCode, SubRef, ReadNext, FreeRequest, DropPlace, EmptyHead, TurnNext}
 use Rattle.sock_programs.specs.Writings.{Holder, Writing, Puts, Waits, Empties, Walks}
 use Rattle.sock_programs.specs.Programs.{Program, Do, TakeMessage, TakeHome, PutBytes, Write, LAST_GENERATION, set_failed}
-use Rattle.sock_programs.specs.Sends.{freed, one_more, passed, placed, dropped, put_answered, ready_answered, block}
+use Rattle.sock_programs.specs.Sends.{freed, one_more, passed, placed, dropped, put_answered, ready_answered, block, first_put}
 use Rattle.sock_runs.specs.May.{even_version}
 use Rattle.sock_runs.specs.Rows as Rows
 use Rattle.sock_runs.specs.Rows.{row, by_right, settled, settled_stage, read_next, turned_next, placed_next, dropped_next, emptied, looked_clean, took_bytes}
@@ -466,6 +466,22 @@ module _ (p : Plan) (after : Program) (h : Holder) (now : ℕ) (heading : Headin
         by_one p v r (looked_clean i found v) (looked i found v) (cond b (PutBytes h.link asked (take (8192 - taken % 8192) left) (put_answered h now heading left taken after)) (dropped h now heading after)) a.one
         (look_branch v r asked a m follows b (vref_version found) (λ e. omega (arith, same, not_equal (vref_version found % 2) 0 (sym e)))),
   )
+
+  -- the first look comes before the loop
+  pub first_goes : taken ≡ 0 → (v : View) (r : Right) → IsHolder p v h r → HasMessage p r now heading left taken → Follows p v after → GoesOn p v (first_put h now heading left after)
+  first_goes none_ v r a m follows = let i : ℕ = socket_id_slot h.id in (
+    (a.holds.inside, inr (r, a.one, life_of_link a)),
+    λ found hand f. let b : Bool = eqb (vref_version found % 2) 0 in
+        by_one p v r (looked_clean i found v) (looked i found v) (cond b (PutBytes h.link false (take (8192 - 0 % 8192) left) (put_answered h now heading left 0 after)) (Write (Puts h now heading left 0 false) after)) a.one
+        (first_branch b (vref_version found)),
+  )
+    where
+      first_branch : (b : Bool) (w : ℕ) → GoesOn p (cond b (with_right (with_notes (at (socket_id_slot h.id) (Saw w) ∷ []) v) (record r { clean = true })) (with_notes (at (socket_id_slot h.id) (Saw w) ∷ []) v))
+          (cond b (PutBytes h.link false (take (8192 - 0 % 8192) left) (put_answered h now heading left 0 after)) (Write (Puts h now heading left 0 false) after))
+      first_branch true w = subst (λ n. GoesOn p (with_right (with_notes (at (socket_id_slot h.id) (Saw w) ∷ []) v) (record r { clean = true })) (PutBytes h.link false (take (8192 - n % 8192) left) (put_answered h now heading left n after))) none_
+          (look_branch v r false a m follows true w (λ e. absurd (true≢false e)))
+      first_branch false w = let new : List SlotMark = at (socket_id_slot h.id) (Saw w) ∷ [] in
+          ((r, holder_noted new (tt, tt) a, subst (λ n. HasMessage p r now heading left n) none_ m), follows_noted p v after new (tt, tt) follows)
 
   waits_round : (v : View) (r : Right) → IsHolder p v h r → HasMessage p r now heading left taken → Follows p v after → GoesOn p v (block (Waits h now heading left taken) after)
   waits_round v r a m follows = ((r, (a.one, a.link, a.away, a.hands)), answers)

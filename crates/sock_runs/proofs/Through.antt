@@ -16,7 +16,7 @@ use Rattle.sock_steps.proofs.Quiet.{either_way}
 use Rattle.sock_programs.specs.Calls.{Call, GiveBirth, StoreOpen, AddRef, SubRef, SetOdd, Recycle, FreeSlot, LoadLink, StoreCode, LoadName, LoadOpen, TakeLink, FinishLink, PutLink, LookWord, FindLink, LoadCode, ClaimRequest, PutMessage, Unconnect, SwapHead, Connect, EmptyHead, ReadNext, TurnNext, FreeRequest, StorePlace, DropPlace}
 use Rattle.sock_programs.specs.Writings.{Holder, Writing, Puts, Waits, Empties, Walks}
 use Rattle.sock_programs.specs.Programs.{Program, Do, Say, Sent, Rest, TakeMessage, TakeHome, PutHome, PutBytes, AskReady, Write, NO_SOCKET, LAST_VERSION, LAST_GENERATION, recycle, release, address, reach, set_failed, fail, fail_outcome, hold, drop_held, end_open}
-use Rattle.sock_programs.specs.Sends.{freed, one_more, passed, placed, dropped, link_failed, put_answered, ready_answered, block, write_link, heading_of, accept, claim_from, start, send}
+use Rattle.sock_programs.specs.Sends.{freed, one_more, passed, placed, dropped, link_failed, put_answered, ready_answered, block, first_put, write_link, heading_of, accept, claim_from, start, send}
 use Rattle.sock_programs.specs.Cores.{next_step}
 use Rattle.sock_runs.specs.Sound.{first_step}
 use Rattle.sock_runs.proofs.Cases.{ComesNext}
@@ -165,9 +165,13 @@ module _ (G : Program → Type 0) (g : Passes G) where
       (g.message (slot_of at) _ (λ heading bytes. g.write (Puts (record h { last = top }) at heading bytes 0 false) next after)) (g.write (Walks h top found at) next after))))
 
   -- a message that is sent
+  pub through_first_put : (h : Holder) (now : ℕ) (heading : Heading) (bytes : List ℕ) (next : Program) → G next → G (first_put h now heading bytes next)
+  through_first_put h now heading bytes next after = g.step (LookWord h.id) _ refl refl (λ found. either_way (vref_version found % 2 == 0) _ _ G
+      (g.put h.link false _ (put_answered h now heading bytes 0 next) (through_put h now heading bytes 0 next after)) (g.write (Puts h now heading bytes 0 false) next after))
+
   pub through_write_link : (id q own : ℕ) (next : Program) → G next → G (write_link id q own next)
   through_write_link id q own next after = g.step (FindLink (socket_id_slot id) (socket_id_version id)) _ refl refl (λ k. g.home k _ (λ places. g.message q _ (λ heading bytes.
-      g.write (Puts (record { id = id; link = k; last = own; places = places }) own heading bytes 0 false) next after)))
+      through_first_put (record { id = id; link = k; last = own; places = places }) own heading bytes next after)))
 
   through_accept : (id q n : ℕ) (heading : Heading) (bytes : List ℕ) (next : Program) → G next → G (accept id q n heading bytes next)
   through_accept id q n heading bytes next after = g.step (PutMessage q heading bytes) _ refl refl (λ _. g.step (Unconnect q) _ refl refl (λ _. g.step (SwapHead (socket_id_slot id) (ticket_of q n)) _ refl refl (λ found.

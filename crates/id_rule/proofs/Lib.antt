@@ -1,0 +1,3 @@
+pub mod Frames
+pub mod Allowed
+pub mod Kept
