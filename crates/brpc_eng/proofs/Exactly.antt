@@ -7,13 +7,12 @@ use Rattle.brpc_model.specs.Items.{Item}
 use Rattle.brpc_model.specs.Operations.{Turn}
 use Rattle.brpc_model.specs.Script.{script_of}
 use Rattle.brpc_model.specs.Stream.{Ending, Rest, Fault, stream}
-use Rattle.frame_print.specs.Printed.{frames_limit, Edges, IsRest, IsFaulty, SinkFailed, EndsAs}
-use Rattle.sock_io.specs.Causes.{Rose}
+use Rattle.frame_print.specs.Printed.{frames_limit, Edges, IsRest, IsFaulty, EndsAs}
 use Rattle.frame_print.specs.declared.print.StreamEnd.{StreamEnd}
 use Rattle.frame_print.specs.declared.print.StreamEnd.TheVariants as end_
 use Rattle.frame_print.specs.declared.print.PrintFault.{PrintFault}
 use Rattle.frame_print.specs.declared.print.PrintFault.TheVariants as fault_
-use Rattle.sock_programs.specs.Scripts.{is_callless}
+use Rattle.brpc_eng.specs.Built.{is_built_script}
 use Rattle.brpc_eng.specs.Streams.{script_limit, IsAtEnd}
 use Rattle.brpc_eng.specs.Answers.{HaveRisen, Input, Output, Links, TextWritten, Ran, Reported, MemoryRanOut, OpenFailed, FaultWritten, Replayed, RanScript, FaultyScript, SourceFailed, TooLong, NoMemory, ScriptNotBuilt, Answers, NoCommand, CommandNotBuilt, Generated, Generates, PrintsInput, Replays, Simulates, is_built_command, frames_status, FramesPrinted}
 
@@ -33,7 +32,7 @@ not_two_fault out line kind status (inl w) = λ e. absurd (omega (arith, e, w.0)
 not_two_fault out line kind status (inr w) = λ e. absurd (omega (arith, e, w.0))
 
 not_two : (turns : List Item → List Turn) (input : Input) (out : Output) (links : Links) (bytes : List ℕ) (status : ℕ) → Replayed turns input out links bytes status → status ≢ 2
-not_two turns input out links bytes status (RanScript end script is built ran) = not_two_ran (turns script) script out links status ran
+not_two turns input out links bytes status (RanScript end script is built opened ran) = not_two_ran (turns script) script out links status ran
 not_two turns input out links bytes status (FaultyScript end line kind is back wrote) = not_two_fault out line kind status wrote
 not_two turns input out links bytes status (SourceFailed s rose back wrote) = λ e. absurd (omega (arith, e, s))
 not_two turns input out links bytes status (TooLong s long back wrote) = λ e. absurd (omega (arith, e, s))
@@ -89,8 +88,8 @@ calm_ran turns script input out links status calm (MemoryRanOut s wrote) = inr s
 calm_ran turns script input out links status calm (OpenFailed s rose back wrote) = absurd (calm.linker rose)
 
 calm_replayed : (turns : List Item → List Turn) (script : List Item) (given : List ℕ) (input : Input) (out : Output) (links : Links) (bytes : List ℕ) (status : ℕ) → IsCalm input out links → Consumes (Some given) input.left bytes →
-    length given ≤ script_limit → script_of given ≡ Ok script → is_callless script ≡ true → Replayed turns input out links bytes status → (status ≡ 0) ⊎ (status ≡ 7)
-calm_replayed turns script given input out links bytes status calm came few is built (RanScript end read is' built' ran) = calm_ran (turns read) read input out links status calm ran
+    length given ≤ script_limit → script_of given ≡ Ok script → is_built_script script ≡ true → Replayed turns input out links bytes status → (status ≡ 0) ⊎ (status ≡ 7)
+calm_replayed turns script given input out links bytes status calm came few is built (RanScript end read is' built' opened ran) = calm_ran (turns read) read input out links status calm ran
 calm_replayed turns script given input out links bytes status calm came few is built (FaultyScript end line kind is' back wrote) =
     let same : script_of bytes ≡ Ok script = ap script_of (came_all given bytes input.left came end) ∙ is in absurd (cc)
 calm_replayed turns script given input out links bytes status calm came few is built (SourceFailed s rose back wrote) = absurd (calm.source rose)
@@ -100,7 +99,7 @@ calm_replayed turns script given input out links bytes status calm came few is b
     let same : script_of bytes ≡ Ok script = ap script_of (came_all given bytes input.left came end) ∙ is in
     let one : Ok read ≡ Ok script = sym is' ∙ same in
     let alike : read ≡ script = cc in
-    let never : true ≡ false = sym built ∙ ap is_callless (sym alike) ∙ built' in absurd (cc)
+    let never : true ≡ false = sym built ∙ ap is_built_script (sym alike) ∙ built' in absurd (cc)
 
 -- a command that runs a script
 abbrev RunsScript : Command → Type 0
@@ -115,7 +114,7 @@ never_unbuilt other h e = h
 
 -- `replay` and `sim` of a script that is built, with no fault of the outside, end with its report or for want of memory
 pub report_comes : (script : List Item) (given : List ℕ) (words : List (List ℕ)) (input : Input) (out : Output) (links : Links) (status : ℕ) (command : Command) → Answers words input out links status →
-    command_of words ≡ Some command → RunsScript command → input.given ≡ Some given → length given ≤ script_limit → script_of given ≡ Ok script → is_callless script ≡ true → IsCalm input out links →
+    command_of words ≡ Some command → RunsScript command → input.given ≡ Some given → length given ≤ script_limit → script_of given ≡ Ok script → is_built_script script ≡ true → IsCalm input out links →
     (status ≡ 0) ⊎ (status ≡ 7)
 report_comes script given words input out links status command (NoCommand s none same back wrote) asked runs told few is built calm = absurd (cc)
 report_comes script given words input out links status command (CommandNotBuilt s other named differs same back wrote) asked runs told few is built calm =
@@ -156,18 +155,15 @@ not_both (Rest n) r f = f
 not_both (Fault start fault) r f = r
 
 faulty_ended : (edges : Edges) (bytes : List ℕ) (ended : Result StreamEnd PrintFault) (status : ℕ) → status ≡ frames_status ended → length bytes ≤ frames_limit → EndsAs edges bytes ended →
-    (status ≡ 9 → IsFaulty (stream bytes).ending) × (IsFaulty (stream bytes).ending → (status ≡ 9) ⊎ (status ≡ 7) ⊎ ((status ≡ 5) × Rose edges.write_faults edges.write_faults_now))
+    (status ≡ 9 → IsFaulty (stream bytes).ending) × (IsFaulty (stream bytes).ending → (status ≡ 9) ⊎ (status ≡ 7))
 faulty_ended edges bytes (Ok end_.Rest) status s few h = (λ e. absurd (omega (arith, e, s)), λ f. absurd (not_both (stream bytes).ending h.ending f))
 faulty_ended edges bytes (Ok end_.Fault) status s few h = (λ e. h.ending, λ f. inl s)
 faulty_ended edges bytes (Err fault_.Source) status s few h = (λ e. absurd (omega (arith, e, s)), λ f. absurd (not_both (stream bytes).ending h.ending f))
-faulty_ended edges bytes (Err fault_.Sink) status s few h = (λ e. absurd (omega (arith, e, s)), λ f. inr (inr (s, sink_rose edges bytes h)))
-  where
-    sink_rose : (edges : Edges) (bytes : List ℕ) → SinkFailed edges bytes → Rose edges.write_faults edges.write_faults_now
-    sink_rose edges bytes h = elim h.wrote [ inl w ↦ w.1 | inr w ↦ w.2.1 ]
+faulty_ended edges bytes (Err fault_.Sink) status s few h = (λ e. absurd (omega (arith, e, s)), λ f. absurd (not_both (stream bytes).ending h.ending f))
 faulty_ended edges bytes (Err fault_.TooLong) status s few h = absurd (omega (arith, few, h.long))
-faulty_ended edges bytes (Err fault_.NoMemory) status s few h = (λ e. absurd (omega (arith, e, s)), λ f. inr (inl s))
+faulty_ended edges bytes (Err fault_.NoMemory) status s few h = (λ e. absurd (omega (arith, e, s)), λ f. inr s)
 
--- 9 comes exactly where the bytes have a fault, unless memory ran out or the sink failed before
+-- 9 comes exactly where the bytes have a fault, unless memory ran out
 pub faulty_exactly : (input : Input) (out : Output) (status : ℕ) → (printed : FramesPrinted input out status) → length printed.printed.bytes ≤ frames_limit →
-    (status ≡ 9 → IsFaulty (stream printed.printed.bytes).ending) × (IsFaulty (stream printed.printed.bytes).ending → (status ≡ 9) ⊎ (status ≡ 7) ⊎ ((status ≡ 5) × HaveRisen out.faults))
+    (status ≡ 9 → IsFaulty (stream printed.printed.bytes).ending) × (IsFaulty (stream printed.printed.bytes).ending → (status ≡ 9) ⊎ (status ≡ 7))
 faulty_exactly input out status printed few = faulty_ended _ printed.printed.bytes printed.ended status printed.numbered few printed.printed.ended

@@ -4,3 +4,4 @@ pub mod Reported
 pub mod Replays
 pub mod GeneratedLemmas
 pub mod Exactly
+pub mod Statuses

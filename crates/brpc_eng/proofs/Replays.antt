@@ -1,5 +1,5 @@
 -- How `replay` ends, by what its calls say.
-use Rattle.std.proofs.Common.{◌≡◌, ℕ, ◌≤◌, inl, Bool, true, false, List, [], length, Some, Vec, Ok, Err, refl, ap, sym, ◌∙◌, subst, arith, option_map, map, not, ◌||◌, ◌∷◌}
+use Rattle.std.proofs.Common.{◌≡◌, ℕ, ◌≤◌, inl, Bool, true, false, List, [], length, Some, Vec, Ok, Err, refl, ap, ap₂, sym, ◌∙◌, subst, arith, option_map, map, not, ◌&&◌, ◌||◌, ◌∷◌}
 use Rattle.std.specs.List.{list_any}
 use Rattle.std.specs.declared.alloc.Global.{Global}
 use Rattle.brpc_model.specs.Items.{Item}
@@ -10,6 +10,7 @@ use Rattle.brpc_eng.specs.declared.draw.Draw.{Draw}
 use Rattle.brpc_eng.specs.declared.commands.Command.TheVariants.{Replay, Sim, Run, Gen, Load, Frames, Serve}
 use Rattle.brpc_model.specs.Operations.{Turn}
 use Rattle.sock_programs.specs.Scripts.{is_callless, is_later, drawn_turns}
+use Rattle.brpc_eng.specs.Built.{is_built_script, is_other_end}
 use Rattle.brpc_eng.specs.Command.{meaning}
 use Rattle.brpc_eng.specs.Streams.{script_limit, ReadWhole}
 use Rattle.brpc_eng.specs.Answers as answer
@@ -31,22 +32,22 @@ came_is : (input : answer.Input) (bytes seen : List ℕ) (read : Vec ℕ Global)
 came_is input bytes seen read whole e = e ∙ whole.whole.0
 
 pub replays_built : (turns : List Item → List Turn) (input : answer.Input) (out : answer.Output) (links : answer.Links) (status : ℕ) (bytes seen : List ℕ) (read : Vec ℕ Global) (script lines : List Item) (test : Bool) →
-    ReadWhole input.given input.left bytes (Ok read) → seen ≡ read.items → script_of seen ≡ Ok script → lines ≡ script → test ≡ is_callless lines → test ≡ true →
-    answer.Ran (turns script) script out links status → answer.ReplayedInput turns input out links status
-replays_built turns input out links status bytes seen read script lines test whole s e l t built ran =
+    ReadWhole input.given input.left bytes (Ok read) → seen ≡ read.items → script_of seen ≡ Ok script → lines ≡ script → test ≡ is_built_script lines → test ≡ true →
+    answer.OpenedBy script links status → answer.Ran (turns script) script out links status → answer.ReplayedInput turns input out links status
+replays_built turns input out links status bytes seen read script lines test whole s e l t built opened ran =
     let is : script_of bytes ≡ Ok script = ap script_of (sym (came_is input bytes seen read whole s)) ∙ e in
-    let tested : is_callless script ≡ true = ap is_callless (sym l) ∙ sym t ∙ built in
-    whole_input turns input out links bytes read status whole (answer.RanScript whole.whole.1 script is tested ran)
+    let tested : is_built_script script ≡ true = ap is_built_script (sym l) ∙ sym t ∙ built in
+    whole_input turns input out links bytes read status whole (answer.RanScript whole.whole.1 script is tested opened ran)
 
 pub replays_unbuilt : (turns : List Item → List Turn) (input : answer.Input) (out : answer.Output) (links : answer.Links) (bytes seen : List ℕ) (read : Vec ℕ Global) (script lines : List Item) (test : Bool) →
-    ReadWhole input.given input.left bytes (Ok read) → seen ≡ read.items → script_of seen ≡ Ok script → lines ≡ script → test ≡ is_callless lines → test ≡ false →
-    links.ends ≡ [] → answer.Wrote out answer.not_built_text → answer.ReplayedInput turns input out links 10
+    ReadWhole input.given input.left bytes (Ok read) → seen ≡ read.items → script_of seen ≡ Ok script → lines ≡ script → test ≡ is_built_script lines → test ≡ false →
+    answer.OpenedNone links → answer.Wrote out answer.not_built_text → answer.ReplayedInput turns input out links 10
 replays_unbuilt turns input out links bytes seen read script lines test whole s e l t built back wrote =
     let is : script_of bytes ≡ Ok lines = ap script_of (sym (came_is input bytes seen read whole s)) ∙ e ∙ ap (λ x. Ok x) (sym l) in
     whole_input turns input out links bytes read 10 whole (answer.ScriptNotBuilt refl whole.whole.1 lines is (sym t ∙ built) back wrote)
 
 pub replays_faulty : (turns : List Item → List Turn) (input : answer.Input) (out : answer.Output) (links : answer.Links) (status line kind : ℕ) (bytes seen : List ℕ) (read : Vec ℕ Global) →
-    ReadWhole input.given input.left bytes (Ok read) → seen ≡ read.items → script_of seen ≡ Err (line, kind) → links.ends ≡ [] → answer.FaultWritten out line kind status →
+    ReadWhole input.given input.left bytes (Ok read) → seen ≡ read.items → script_of seen ≡ Err (line, kind) → answer.OpenedNone links → answer.FaultWritten out line kind status →
     answer.ReplayedInput turns input out links status
 replays_faulty turns input out links status line kind bytes seen read whole s e back wrote =
     whole_input turns input out links bytes read status whole (answer.FaultyScript whole.whole.1 line kind (ap script_of (sym (came_is input bytes seen read whole s)) ∙ e) back wrote)
@@ -64,18 +65,18 @@ not_built (Serve port connections) h s k f = refl
 
 -- a command that isn't built
 pub other_command : (words : List (List ℕ)) (input : answer.Input) (out : answer.Output) (links : answer.Links) (command : Command) → option_map meaning (Some command) ≡ model.command_of words → (command ≡ Replay → ⊥) → ((seed : ℕ) → command ≡ Sim seed → ⊥) → ((draw : Draw) → command ≡ Gen draw → ⊥) → (command ≡ Frames → ⊥) →
-    input.left ≡ input.given → links.ends ≡ [] → answer.Wrote out answer.not_built_text → answer.Answers words input out links 10
+    input.left ≡ input.given → answer.OpenedNone links → answer.Wrote out answer.not_built_text → answer.Answers words input out links 10
 other_command words input out links command e other simulated drawn framed same back wrote = answer.CommandNotBuilt refl (meaning command) (sym e) (not_built command other simulated drawn framed) same back wrote
 
 -- a drawn script
 pub drawn_command : (words : List (List ℕ)) (input : answer.Input) (out : answer.Output) (links : answer.Links) (status : ℕ) (command : Command) (draw : Draw) → option_map meaning (Some command) ≡ model.command_of words → command ≡ Gen draw →
-    input.left ≡ input.given → links.ends ≡ [] → answer.Generated draw.seed draw.clients draw.operations out status → answer.Answers words input out links status
+    input.left ≡ input.given → answer.OpenedNone links → answer.Generated draw.seed draw.clients draw.operations out status → answer.Answers words input out links status
 drawn_command words input out links status command draw e is same back made =
     answer.Generates draw.seed draw.clients draw.operations (sym e ∙ ap (λ c. option_map meaning (Some c)) is) same back made
 
 -- the frames of the input
 pub frames_command : (words : List (List ℕ)) (input : answer.Input) (out : answer.Output) (links : answer.Links) (status : ℕ) (command : Command) → option_map meaning (Some command) ≡ model.command_of words → command ≡ Frames →
-    links.ends ≡ [] → answer.FramesPrinted input out status → answer.Answers words input out links status
+    answer.OpenedNone links → answer.FramesPrinted input out status → answer.Answers words input out links status
 frames_command words input out links status command e is back printed = answer.PrintsInput (sym e ∙ ap (λ c. option_map meaning (Some c)) is) back printed
 
 -- a simulation
@@ -89,5 +90,15 @@ any_map : {A B : Type 0} (f : B → Bool) (g : A → B) (xs : List A) → list_a
 any_map f g [] = refl
 any_map f g (x ∷ xs) = ap (λ b. f (g x) || b) (any_map f g xs)
 
-pub built_is : {A : Type 0} (f : A → Item) (lines : List A) (script : List Item) (calls : Bool) → calls ≡ list_any (λ (x : A). is_later (f x)) lines → script ≡ map f lines → not calls ≡ is_callless script
-built_is f lines script calls e is = ap not (e ∙ sym (any_map is_later f lines)) ∙ sym (ap is_callless is)
+pub built_is : {A : Type 0} (f : A → Item) (lines : List A) (script : List Item) (calls ends : Bool) → calls ≡ list_any (λ (x : A). is_later (f x)) lines → ends ≡ list_any (λ (x : A). is_other_end (f x)) lines → script ≡ map f lines →
+    (not calls && not ends) ≡ is_built_script script
+built_is f lines script calls ends e e' is =
+    ap₂ (λ c o. not c && not o) (e ∙ sym (any_map is_later f lines)) (e' ∙ sym (any_map is_other_end f lines)) ∙ sym (ap is_built_script is)
+
+and_left : (a b : Bool) → (a && b) ≡ true → a ≡ true
+and_left true b e = refl
+and_left false b e = e
+
+-- a script that is built has no call
+pub built_callless : (script : List Item) → is_built_script script ≡ true → is_callless script ≡ true
+built_callless script = and_left (is_callless script) (not (list_any is_other_end script))

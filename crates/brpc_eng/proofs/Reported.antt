@@ -7,7 +7,7 @@ use Rattle.brpc_model.specs.Link.{LinkEnd}
 use Rattle.brpc_model.specs.Run.{nothing_late}
 use Rattle.brpc_model.specs.Complete.{FitsWhole}
 use Rattle.sock_programs.specs.Scripts.{is_callless, has_send, answers_of, Reports}
-use Rattle.whole_runs.proofs.Runs.{run_fits}
+use Rattle.whole_runs.proofs.Runs.{run_fits, run_drops_told}
 use Rattle.whole_runs.proofs.OneRun.{one_text}
 use Rattle.whole_runs.proofs.Unasked.{only_text}
 use Rattle.script_run.specs.Played.{IsRunText}
@@ -29,4 +29,4 @@ ran_reported turns bytes script text text' out links status reads callless ran t
     answer.Reported text'
     (λ q. let is = ran q in subst (λ x. FitsWhole script x links.ends nothing_late) (sym (t ∙ is.is_text)) (run_fits bytes script reads turns is.core is.run callless is.report is.took is.reports links.ends is.told is.ends_are))
     (λ q. let is : IsRunText script turns text' links.ends = subst (λ x. IsRunText script turns x links.ends) (sym t) (ran q) in
-    (is, λ other ends run took same. same_text turns script other text' ends links.ends run is took same)) wrote
+    (is, run_drops_told bytes script reads turns is.core is.run, λ other ends run took same. same_text turns script other text' ends links.ends run is took same)) wrote

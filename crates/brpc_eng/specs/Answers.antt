@@ -1,5 +1,5 @@
 -- The answers of the program: the status, its cause, and what is written with it.
-use Rattle.std.specs.Prelude.{ℕ, ◌≡◌, ◌<◌, ◌≤◌, ◌+◌, ◌⊎◌, ◌++◌, Bool, true, false, List, [], length, codes, decimal, Option, Some, None, Result, Ok, Err}
+use Rattle.std.specs.Prelude.{ℕ, ◌≡◌, ◌≢◌, ◌<◌, ◌≤◌, ◌+◌, ◌⊎◌, ◌++◌, Bool, true, false, List, [], length, codes, decimal, Option, Some, None, Result, Ok, Err}
 use Rattle.std.specs.Io.KnownBytes.{Appends, Consumes}
 use Rattle.brpc_model.specs.Commands.{Command, Replay, Sim, Gen, Frames, command_of, usage_text}
 use Rattle.brpc_model.specs.ScriptText.{script_text}
@@ -17,10 +17,13 @@ use Rattle.frame_print.specs.declared.print.StreamEnd.{StreamEnd}
 use Rattle.frame_print.specs.declared.print.StreamEnd.TheVariants as end_
 use Rattle.frame_print.specs.declared.print.PrintFault.{PrintFault}
 use Rattle.frame_print.specs.declared.print.PrintFault.TheVariants as fault_
-use Rattle.sock_programs.specs.Scripts.{is_callless, has_send, drawn_turns, answers_of}
-use Rattle.script_run.specs.Given.{AreUntouched}
+use Rattle.sock_programs.specs.Scripts.{has_send, drawn_turns, answers_of}
+use Rattle.sock_io.specs.declared.link.LinkSpec.{LinkSpec}
+use Rattle.script_run.specs.Given.{AreNumbered, AreUntouched, IsBeginning, specs_of}
+use Rattle.sock_programs.specs.Drops.{DropsTold}
 use Rattle.script_run.specs.Played.{IsRunText}
 use Rattle.brpc_eng.specs.Streams.{script_limit, IsAtEnd}
+use Rattle.brpc_eng.specs.Built.{is_built_script}
 
 -- ## What a call finds outside, and what it leaves there
 
@@ -32,6 +35,10 @@ pub record Faults : Type 0 where
 -- it rose, or stands at its last value
 abbrev pub HaveRisen : Faults → Type 0
 HaveRisen faults = Rose faults.before faults.now
+
+-- it stands still
+abbrev pub StandStill : Faults → Type 0
+StandStill faults = faults.now ≡ faults.before
 
 -- a source: what it had to give and what of that is left, where it tells
 pub record Input : Type 0 where
@@ -45,16 +52,30 @@ pub record Output : Type 0 where
   pub now : Option (List ℕ)
   pub faults : Faults
 
--- a linker: whether its links are always ready in time, and those that were given back
+-- a linker: whether its links are always ready in time, what was asked of each link that was opened, and those that were given back
 pub record Links : Type 0 where
   pub prompt : Bool
+  pub asked : List LinkSpec
   pub ends : List LinkEnd
   pub faults : Faults
 
+-- no link was opened
+abbrev pub OpenedNone : Links → Type 0
+OpenedNone links = (links.asked ≡ []) × (links.ends ≡ [])
+
+-- the links that the lines of a script ask for were opened as they ask, all of them where a report was written or begun, else the
+-- first of them; and each is given back, in order
+pub record OpenedBy (script : List Item) (links : Links) (status : ℕ) : Type 0 where
+  pub front : IsBeginning links.asked (specs_of script)
+  pub whole : (status ≡ 0) ⊎ (status ≡ 5) → links.asked ≡ specs_of script
+  pub given_back : length links.ends ≡ length links.asked
+  pub numbered : AreNumbered 0 links.ends
+
 -- ## What is written
 
+-- the whole text, and no write failed
 abbrev pub WroteAll : Output → List ℕ → Type 0
-WroteAll out text = Appends out.before out.now text
+WroteAll out text = Appends out.before out.now text × StandStill out.faults
 
 -- a beginning of the text, since the sink failed
 abbrev pub WroteSome : Output → List ℕ → Type 0
@@ -64,7 +85,7 @@ abbrev pub Wrote : Output → List ℕ → Type 0
 Wrote out text = WroteAll out text ⊎ WroteSome out text
 
 abbrev pub WroteNothing : Output → Type 0
-WroteNothing out = out.now ≡ out.before
+WroteNothing out = (out.now ≡ out.before) × StandStill out.faults
 
 abbrev pub not_built_text : List ℕ
 not_built_text = codes "not built\n"
@@ -80,10 +101,10 @@ abbrev pub IsReport : Links → List Item → List ℕ → Type 0
 IsReport links script text = links.prompt ≡ true → FitsWhole script text links.ends nothing_late
 
 -- and it is that of a run by these lines of a schedule: the setup first, then the ticks of these lines, then rounds until no client has a step
--- left, then the ending; and no other text is that of a run in which the links answered the same, as they do where none is asked, and of which
--- the same is said of what they took
+-- left, then the ending; each `drop` was answered `freed` or `kept` by what its own steps did; and no other text is that of a run in which the
+-- links answered the same, as they do where none is asked, and of which the same is said of what they took
 abbrev pub IsTextOfRun : Links → List Item → List Turn → List ℕ → Type 0
-IsTextOfRun links script turns text = links.prompt ≡ true → (is : IsRunText script turns text links.ends)
+IsTextOfRun links script turns text = links.prompt ≡ true → (is : IsRunText script turns text links.ends) × DropsTold is.run
     × ((other : List ℕ) (ends : List LinkEnd) (run : IsRunText script turns other ends) → run.took ≡ is.took → (has_send script ≡ false) ⊎ (answers_of run.run ≡ answers_of is.run) → other ≡ text)
 
 -- the text was written, or the sink failed behind a beginning of it
@@ -105,12 +126,12 @@ FaultWritten out line kind status = ((status ≡ 3) × Wrote out (fault_text lin
 
 -- how a script is run where these bytes came, by the schedule that it has or is given
 pub data Replayed (turns : List Item → List Turn) (input : Input) (out : Output) (links : Links) (bytes : List ℕ) (status : ℕ) : Type 0 where
-  RanScript : IsAtEnd input.left → (script : List Item) → script_of bytes ≡ Ok script → is_callless script ≡ true → Ran (turns script) script out links status → Replayed turns input out links bytes status
-  FaultyScript : IsAtEnd input.left → (line kind : ℕ) → script_of bytes ≡ Err (line, kind) → links.ends ≡ [] → FaultWritten out line kind status → Replayed turns input out links bytes status
-  SourceFailed : status ≡ 4 → HaveRisen input.faults → links.ends ≡ [] → WroteNothing out → Replayed turns input out links bytes status
-  TooLong : status ≡ 6 → script_limit < length bytes → links.ends ≡ [] → WroteNothing out → Replayed turns input out links bytes status
-  NoMemory : status ≡ 7 → links.ends ≡ [] → WroteNothing out → Replayed turns input out links bytes status
-  ScriptNotBuilt : status ≡ 10 → IsAtEnd input.left → (script : List Item) → script_of bytes ≡ Ok script → is_callless script ≡ false → links.ends ≡ [] → Wrote out not_built_text →
+  RanScript : IsAtEnd input.left → (script : List Item) → script_of bytes ≡ Ok script → is_built_script script ≡ true → OpenedBy script links status → Ran (turns script) script out links status → Replayed turns input out links bytes status
+  FaultyScript : IsAtEnd input.left → (line kind : ℕ) → script_of bytes ≡ Err (line, kind) → OpenedNone links → FaultWritten out line kind status → Replayed turns input out links bytes status
+  SourceFailed : status ≡ 4 → HaveRisen input.faults → OpenedNone links → WroteNothing out → Replayed turns input out links bytes status
+  TooLong : status ≡ 6 → script_limit < length bytes → OpenedNone links → WroteNothing out → Replayed turns input out links bytes status
+  NoMemory : status ≡ 7 → OpenedNone links → WroteNothing out → Replayed turns input out links bytes status
+  ScriptNotBuilt : status ≡ 10 → IsAtEnd input.left → (script : List Item) → script_of bytes ≡ Ok script → is_built_script script ≡ false → OpenedNone links → Wrote out not_built_text →
       Replayed turns input out links bytes status
 
 -- the run of what the source gives: of the input at most one byte more than a script may have is read, and where that
@@ -171,15 +192,22 @@ is_built_command other = false
 -- why the program ends with a status
 pub data Answers (words : List (List ℕ)) (input : Input) (out : Output) (links : Links) (status : ℕ) : Type 0 where
   -- the words ask for no command, and nothing is read
-  NoCommand : status ≡ 2 → command_of words ≡ None → input.left ≡ input.given → links.ends ≡ [] → Wrote out usage_text → Answers words input out links status
+  NoCommand : status ≡ 2 → command_of words ≡ None → input.left ≡ input.given → OpenedNone links → Wrote out usage_text → Answers words input out links status
   -- they ask for one that isn't built, and nothing is read
-  CommandNotBuilt : status ≡ 10 → (command : Command) → command_of words ≡ Some command → is_built_command command ≡ false → input.left ≡ input.given → links.ends ≡ [] → Wrote out not_built_text →
+  CommandNotBuilt : status ≡ 10 → (command : Command) → command_of words ≡ Some command → is_built_command command ≡ false → input.left ≡ input.given → OpenedNone links → Wrote out not_built_text →
       Answers words input out links status
   -- they ask for a drawn script, and nothing is read
-  Generates : (seed clients count : ℕ) → command_of words ≡ Some (Gen seed clients count) → input.left ≡ input.given → links.ends ≡ [] → Generated seed clients count out status → Answers words input out links status
+  Generates : (seed clients count : ℕ) → command_of words ≡ Some (Gen seed clients count) → input.left ≡ input.given → OpenedNone links → Generated seed clients count out status → Answers words input out links status
   -- they ask for the frames of the input
-  PrintsInput : command_of words ≡ Some Frames → links.ends ≡ [] → FramesPrinted input out status → Answers words input out links status
+  PrintsInput : command_of words ≡ Some Frames → OpenedNone links → FramesPrinted input out status → Answers words input out links status
   -- they ask for a run of the script by its own schedule
   Replays : command_of words ≡ Some Replay → ReplayedInput schedule input out links status → Answers words input out links status
   -- or by one that is drawn from a seed
   Simulates : (seed : ℕ) → command_of words ≡ Some (Sim seed) → ReplayedInput (λ script. drawn_turns script seed) input out links status → Answers words input out links status
+
+-- ## The counts of the source and the linker
+
+-- which stand still, by the status: the source's with each but 4, and the linker's with each but 8, with which they have risen
+pub record CountsStand (source linker : Faults) (status : ℕ) : Type 0 where
+  pub source_still : status ≢ 4 → StandStill source
+  pub linker_still : status ≢ 8 → StandStill linker

@@ -1,5 +1,6 @@
-ghost use Rattle.std.specs.Prelude.{◌≡◌, [], map, string_bytes};
-ghost use Rattle.brpc_eng.specs.Answers.{Answers};
+ghost use Rattle.std.specs.Prelude.{◌≡◌, Some, [], map, string_bytes};
+ghost use Rattle.brpc_model.specs.Commands.{Frames, command_of};
+ghost use Rattle.brpc_eng.specs.Answers.{Answers, CountsStand};
 ghost use Rattle.brpc_eng.specs.Status.{number_of};
 
 use crate::commands::{Command, read_command};
@@ -26,12 +27,13 @@ const USAGE: &[u8] =
 /// | 6 | exactly where more than 1,048,576 bytes came, in `frames` more than 268,435,456 |
 /// | 7 | where memory ran out |
 /// | 8 | only where a link couldn't be opened; those opened before are given back untouched |
-/// | 9 | exactly where `frames` met a faulty frame; the frames before it and the fault are written |
+/// | 9 | exactly where the bytes read by `frames` have a faulty frame, also where the sink fails; the frames before it and the fault are written |
 /// | 10 | exactly where the command or the script isn't built; `not built` is written |
 ///
 /// Faults are met in the order words, source, size, script, opening, run, printing; want of memory
 /// may come at any place of it, and is the one answer that needs no cause. `frames` prints as it reads, so that with 4,
-/// 6 and 7 the lines of the frames that were whole stand written.
+/// 6 and 7 the lines of the frames that were whole stand written; where the sink fails the bytes of that read are judged to
+/// their end, and no more are read.
 pub fn brpc<R, S: Source, K: Sink, L: Linker, G: Gate>(
     _rt: &R,
     alloc: Global,
@@ -41,12 +43,16 @@ pub fn brpc<R, S: Source, K: Sink, L: Linker, G: Gate>(
     links: &mut L,
     _gate: &G,
 ) -> u8
-    requires opened { L.opened links.old ≡ 0 }
+    requires asked { L.asked links.old ≡ [] }
     requires back { L.back links.old ≡ [] }
-    ensures { Answers (map string_bytes words.now)
+    ensures answers { Answers (map string_bytes words.now)
         (record { given = S.left source.old; left = S.left source.new; faults = record { before = S.faults source.old; now = S.faults source.new } })
         (record { before = K.contents out.old; now = K.contents out.new; faults = record { before = K.faults out.old; now = K.faults out.new } })
-        (record { prompt = L.prompt links.old; ends = L.back links.new; faults = record { before = L.faults links.old; now = L.faults links.new } })
+        (record { prompt = L.prompt links.old; asked = L.asked links.new; ends = L.back links.new; faults = record { before = L.faults links.old; now = L.faults links.new } })
+        result }
+    ensures counts { (command_of (map string_bytes words.now) ≡ Some Frames → ⊥) → CountsStand
+        (record { before = S.faults source.old; now = S.faults source.new })
+        (record { before = L.faults links.old; now = L.faults links.new })
         result }
 {
     answer(alloc, words, source, out, links).number()
@@ -60,12 +66,16 @@ fn answer<S: Source, K: Sink, L: Linker>(
     out: &mut K,
     links: &mut L,
 ) -> Status
-    requires opened { L.opened links.old ≡ 0 }
+    requires asked { L.asked links.old ≡ [] }
     requires back { L.back links.old ≡ [] }
-    ensures { Answers (map string_bytes words.now)
+    ensures answers { Answers (map string_bytes words.now)
         (record { given = S.left source.old; left = S.left source.new; faults = record { before = S.faults source.old; now = S.faults source.new } })
         (record { before = K.contents out.old; now = K.contents out.new; faults = record { before = K.faults out.old; now = K.faults out.new } })
-        (record { prompt = L.prompt links.old; ends = L.back links.new; faults = record { before = L.faults links.old; now = L.faults links.new } })
+        (record { prompt = L.prompt links.old; asked = L.asked links.new; ends = L.back links.new; faults = record { before = L.faults links.old; now = L.faults links.new } })
+        (number_of result) }
+    ensures counts { (command_of (map string_bytes words.now) ≡ Some Frames → ⊥) → CountsStand
+        (record { before = S.faults source.old; now = S.faults source.new })
+        (record { before = L.faults links.old; now = L.faults links.new })
         (number_of result) }
 {
     match read_command(words) {

@@ -1,7 +1,7 @@
 ghost use Rattle.std.specs.Prelude.{◌≡◌, []};
 ghost use Rattle.script_run.specs.Played.{turns_of};
 ghost use Rattle.brpc_eng.specs.Status.{number_of};
-ghost use Rattle.brpc_eng.specs.Answers.{Wrote, FaultWritten, ReplayedInput};
+ghost use Rattle.brpc_eng.specs.Answers.{Wrote, FaultWritten, ReplayedInput, CountsStand};
 
 use crate::run::{is_built, run_and_report};
 use crate::status::Status;
@@ -21,12 +21,16 @@ pub fn replay<S: Source, K: Sink, L: Linker>(
     links: &mut L,
     schedule: Schedule,
 ) -> Status
-    requires opened { L.opened links.old ≡ 0 }
+    requires asked { L.asked links.old ≡ [] }
     requires back { L.back links.old ≡ [] }
-    ensures { ReplayedInput (λ script. turns_of script schedule)
+    ensures replayed { ReplayedInput (λ script. turns_of script schedule)
         (record { given = S.left source.old; left = S.left source.new; faults = record { before = S.faults source.old; now = S.faults source.new } })
         (record { before = K.contents out.old; now = K.contents out.new; faults = record { before = K.faults out.old; now = K.faults out.new } })
-        (record { prompt = L.prompt links.old; ends = L.back links.new; faults = record { before = L.faults links.old; now = L.faults links.new } })
+        (record { prompt = L.prompt links.old; asked = L.asked links.new; ends = L.back links.new; faults = record { before = L.faults links.old; now = L.faults links.new } })
+        (number_of result) }
+    ensures counts { CountsStand
+        (record { before = S.faults source.old; now = S.faults source.new })
+        (record { before = L.faults links.old; now = L.faults links.new })
         (number_of result) }
 {
     let bytes = match read_all(alloc, source) {

@@ -1,24 +1,26 @@
-ghost use Rattle.std.specs.Prelude.{◌≡◌, ℕ, List, [], Ok, true};
+ghost use Rattle.std.specs.Prelude.{◌≡◌, ◌≢◌, ℕ, List, [], Ok, true};
 ghost use Rattle.std.specs.List.{list_all, list_any};
 ghost use Rattle.brpc_model.specs.Script.{script_of};
-ghost use Rattle.script_items.specs.Meaning.{item};
-ghost use Rattle.sock_programs.specs.Scripts.{is_callless, is_later};
+ghost use Rattle.script_items.specs.Meaning.{item, seat_of};
+ghost use Rattle.sock_programs.specs.Scripts.{is_later};
 ghost use Rattle.script_run.specs.Given.{has_piece};
 ghost use Rattle.script_run.specs.Played.{turns_of};
 ghost use Rattle.brpc_eng.specs.Status.{number_of};
-ghost use Rattle.brpc_eng.specs.Answers.{Ran, TextWritten};
+ghost use Rattle.brpc_eng.specs.Answers.{OpenedBy, Ran, TextWritten};
+ghost use Rattle.brpc_eng.specs.Built.{is_built_script, is_other_end, is_reader_seat};
 
 use crate::status::Status;
-use script_items::{Line, Script};
+use script_items::{Line, Script, Seat};
 use script_run::{RunFault, Schedule, run_script};
 use sock_io::{Failed, Linker, Sink, write_all};
 use std::alloc::Global;
 
-/// Whether a script has no call, and nothing on calls: only these are built.
+/// Whether a script is one that is run: no line asks for a call, for an other end that answers or ends, or for a reader.
 pub fn is_built(script: &Script) -> bool
-    ensures { result ≡ is_callless script.now }
+    ensures { result ≡ is_built_script script.now }
 {
-    !has_calls(script.lines())
+    let lines = script.lines();
+    !has_calls(lines) && !has_other_ends(lines)
 }
 
 /// Whether there is a call, or an operation on one.
@@ -26,6 +28,31 @@ fn has_calls(lines: &[Line]) -> bool
     ensures { result ≡ list_any (λ line. is_later (item line)) lines.now }
 {
     lines.iter().any(|line| matches!(line, Line::Call(_) | Line::Expire(_) | Line::Join(_)))
+}
+
+/// Whether there is a line that asks for an other end or a reader.
+fn has_other_ends(lines: &[Line]) -> bool
+    ensures { result ≡ list_any (λ line. is_other_end (item line)) lines.now }
+{
+    lines.iter().any(asks_other_end)
+}
+
+/// Whether a line asks for an other end or a reader.
+fn asks_other_end(line: &Line) -> bool
+    ensures { result ≡ is_other_end (item line.now) }
+{
+    match line {
+        Line::Open(open) => open.shape.serve || open.shape.end.is_some(),
+        Line::Tick { seat, .. } | Line::To { seat, .. } => is_reader(*seat),
+        _ => false,
+    }
+}
+
+/// Whether it is a reader's seat.
+fn is_reader(seat: Seat) -> bool
+    ensures { result ≡ is_reader_seat (seat_of seat) }
+{
+    matches!(seat, Seat::Reader(_))
 }
 
 /// Runs a script that is built, and writes its report.
@@ -36,15 +63,19 @@ pub fn run_and_report<K: Sink, L: Linker>(
     out: &mut K,
     links: &mut L,
 ) -> Status
-    requires opened { L.opened links.old ≡ 0 }
+    requires asked { L.asked links.old ≡ [] }
     requires back { L.back links.old ≡ [] }
     requires script { (bytes : List ℕ) × (script_of bytes ≡ Ok script.now) }
-    requires built { is_callless script.now ≡ true }
+    requires built { is_built_script script.now ≡ true }
     requires pieces { list_all has_piece script.now ≡ true }
-    ensures { Ran (turns_of script.now schedule) script.now
+    ensures ran { Ran (turns_of script.now schedule) script.now
         (record { before = K.contents out.old; now = K.contents out.new; faults = record { before = K.faults out.old; now = K.faults out.new } })
-        (record { prompt = L.prompt links.old; ends = L.back links.new; faults = record { before = L.faults links.old; now = L.faults links.new } })
+        (record { prompt = L.prompt links.old; asked = L.asked links.new; ends = L.back links.new; faults = record { before = L.faults links.old; now = L.faults links.new } })
         (number_of result) }
+    ensures opened { OpenedBy script.now
+        (record { prompt = L.prompt links.old; asked = L.asked links.new; ends = L.back links.new; faults = record { before = L.faults links.old; now = L.faults links.new } })
+        (number_of result) }
+    ensures linker { number_of result ≢ 8 → L.faults links.new ≡ L.faults links.old }
 {
     match run_script(alloc, script, schedule, links) {
         Ok(text) => write_report(out, &text),

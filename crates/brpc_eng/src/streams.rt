@@ -23,6 +23,7 @@ pub enum InputFault {
 pub fn read_all<S: Source>(alloc: Global, source: &mut S) -> Result<Vec<u8>, InputFault>
     ensures came { (bytes : List ℕ) × ReadWhole (S.left source.old) (S.left source.new) bytes result }
     ensures failed { IsErrOf result InputFault.Failed → Rose (S.faults source.old) (S.faults source.new) }
+    ensures kept { (¬ IsErrOf result InputFault.Failed) → S.faults source.new ≡ S.faults source.old }
 {
     let mut bytes = Vec::new(alloc);
     let mut room = [0u8; 4096];

@@ -49,136 +49,210 @@ fn answer(
     Ok((status, out.bytes().to_vec(alloc)?))
 }
 
-/// Scripts, with the put from which on the link fails (0: none), the status, and what is written.
-const ROWS: [(&str, u32, u8, &str); 9] = [
+/// A row: the words, the input, the put from which on each link fails (0: none), the status, and all that is written.
+type Row = (&'static str, &'static str, u32, u8, &'static str);
+
+const ROWS: [Row; 34] = [
     (
+        "replay",
         "open a piece=1\nclient\nsend a 6869\n",
         0,
         0,
         "0.1 open 0 0 0\n1.1 placed 0 0\nlink 0 a accepted 1 placed 1 took 2 6869\norder 0 1.1.0\nend\n",
     ),
-    ("", 0, 0, "end\n"),
-    ("client\nsend z 61", 0, 0, "1.1 unopened\nend\n"),
+    ("replay", "", 0, 0, "end\n"),
+    ("replay", "client\nsend z 61", 0, 0, "1.1 unopened\nend\n"),
     (
+        "replay",
         "open a\nclient\nsend a 6161\nsend a 62\n",
         1,
         0,
         "0.1 open 0 0 0\n1.1 dropped 0 0\n1.2 gone 0000000200000000\nlink 0 a accepted 1 placed 0 took 0 -\norder 0 1.1.0\nend\n",
     ),
     (
+        "replay",
         "# a comment\r\nopen a piece=3\n\nclient\nsend a 61626364\nsend b 65\nsend a 66",
         3,
         0,
         "0.1 open 0 0 0\n1.1 placed 0 0\n1.2 unopened\n1.3 dropped 0 1\nlink 0 a accepted 2 placed 1 took 4 61626364\norder 0 1.1.0 1.3.0\nend\n",
     ),
-    ("open a\nclient\ncall a E.E -", 0, 10, "not built\n"),
     (
+        "replay",
+        "open a\nclient\ncall a E.E -",
+        0,
+        10,
+        "not built\n",
+    ),
+    ("replay", "open a serve\n", 0, 10, "not built\n"),
+    (
+        "replay",
+        "open a end=0\nclient\nsend a 61\n",
+        0,
+        10,
+        "not built\n",
+    ),
+    ("replay", "open a\nsched\ntick r0 1\n", 0, 10, "not built\n"),
+    ("replay", "open a\nsched\nto r0 C2\n", 0, 10, "not built\n"),
+    (
+        "replay",
+        "open a serve\nsend a 61\n",
+        0,
+        3,
+        "script fault line 2 kind 8\n",
+    ),
+    (
+        "replay",
         "open a\nopen b\nclient\nclient\nsend b 61",
         0,
         0,
         "0.1 open 0 0 0\n0.2 open 1 0 1\n2.1 placed 1 0\nlink 0 a accepted 0 placed 0 took 0 -\norder 0\nlink 1 b accepted 1 placed 1 took 1 61\norder 1 2.1.0\nend\n",
     ),
     (
+        "replay",
         "open a\nclient\nsend a 6\n",
         0,
         3,
         "script fault line 3 kind 5\n",
     ),
-    ("send a 61\n", 0, 3, "script fault line 1 kind 8\n"),
-];
-
-#[test]
-fn answers_scripts(rt: HostRuntime) -> Result<(), Fail> {
-    for (script, put, status, text) in ROWS {
-        let outside = Outside { put, ..CALM };
-        let (answered, written) = answer(&rt, "replay", script.as_bytes(), outside)?;
-        assert_eq!(rt; answered, status, "at {script}");
-        assert_eq!(rt; written.as_slice(), text.as_bytes(), "at {script}");
-    }
-    Ok(())
-}
-
-/// Scripts of several clients, or with links that are slow or fail, and their reports.
-const SENDS: [(&str, &str, &str); 9] = [
+    (
+        "replay",
+        "send a 61\n",
+        0,
+        3,
+        "script fault line 1 kind 8\n",
+    ),
     (
         "replay",
         "open a\nclient\nsend a 6161\nclient\nsend a 6262\nsched\nto 1 C2\nto 2 C3\nto 1 C4",
+        0,
+        0,
         "0.1 open 0 0 0\n1.1 placed 0 0\n2.1 placed 0 1\nlink 0 a accepted 2 placed 2 took 4 61616262\norder 0 1.1.0 2.1.0\nend\n",
     ),
     (
         "replay",
         "open a\nclient\nsend a 61\nclient\nsend a 62\nclient\nsend a 63\nclient\nsend a 64\nsched\nto 1 C2\nto 2 C3\nto 3 C2\nto 4 C3\nto 1 C4\ntick 1 100",
+        0,
+        0,
         "0.1 open 0 0 0\n1.1 placed 0 0\n2.1 placed 0 1\n3.1 placed 0 2\n4.1 placed 0 3\nlink 0 a accepted 4 placed 4 took 4 61626364\norder 0 1.1.0 2.1.0 3.1.0 4.1.0\nend\n",
     ),
     (
         "replay",
         "open a piece=3 fail=2\nclient\nsend a 61616161\nclient\nsend a 62626262\nsched\nto 1 C2\nto 2 C3",
+        0,
+        0,
         "0.1 open 0 0 0\n1.1 dropped 0 0\n2.1 dropped 0 1\nlink 0 a accepted 2 placed 0 took 3 616161\norder 0 1.1.0 2.1.0\nend\n",
     ),
     (
         "replay",
         "open a\nclient\nsend a 6161\nclient\nfail a 1500\nclient\nsend a 6262\nsched\nto 1 C2\nto 3 C3\nto 1 L1\nto 1 A8\nto 2 A5",
+        0,
+        0,
         "0.1 open 0 0 0\n1.1 placed 0 0\n2.1 failed\n3.1 dropped 0 1\nlink 0 a accepted 2 placed 1 took 2 6161\norder 0 1.1.0 3.1.0\nend\n",
     ),
     (
         "replay",
         "slots 1\nopen a\nclient\nhold a\nfail a 1500\nopen b\ndrop a\nopen c\nsend a 61",
+        0,
+        0,
         "0.1 open 0 0 0\n1.1 held\n1.2 failed\n1.3 slots full\n1.4 freed\n1.5 open 0 2 2\n1.6 gone 0000000200000001\nlink 0 a accepted 0 placed 0 took 0 -\norder 0\nlink 1 b accepted 0 placed 0 took 0 -\norder 1\nlink 2 c accepted 0 placed 0 took 0 -\norder 2\nend\n",
     ),
     (
         "replay",
         "requests 1\nopen a\nclient\nsend a 61\nclient\nsend a 62\nsched\nto 1 C2\ntick 2 10",
+        0,
+        0,
         "0.1 open 0 0 0\n1.1 placed 0 0\n2.1 full\nlink 0 a accepted 1 placed 1 took 1 61\norder 0 1.1.0\nend\n",
     ),
     (
         "replay",
         "open a again=2 piece=1\nclient\nsend a 616263",
+        0,
+        0,
         "0.1 open 0 0 0\n1.1 placed 0 0\nlink 0 a accepted 1 placed 1 took 3 616263\norder 0 1.1.0\nend\n",
     ),
     (
         "replay",
         "open a again=2 fail=5 piece=1\nclient\nsend a 616263",
+        0,
+        0,
         "0.1 open 0 0 0\n1.1 dropped 0 0\nlink 0 a accepted 1 placed 0 took 2 6162\norder 0 1.1.0\nend\n",
     ),
     (
         "sim 7",
         "open a piece=1\nclient\nsend a 6869\n",
+        0,
+        0,
         "0.1 open 0 0 0\n1.1 placed 0 0\nlink 0 a accepted 1 placed 1 took 2 6869\norder 0 1.1.0\nend\n",
+    ),
+    (
+        "replay",
+        "open a\nclient\nhold a\nfail a 1500\ndrop a\nclient\nhold a\nsched\nto 1 A5\nto 1 A4\nto 1 A4\nto 1 A4\nto 2 A3\nto 1 A6\n",
+        0,
+        0,
+        "0.1 open 0 0 0\n1.1 held\n1.2 failed\n1.3 kept\n2.1 gone 0000000100000000\nlink 0 a accepted 0 placed 0 took 0 -\norder 0\nend\n",
+    ),
+    (
+        "replay",
+        "slots 1\nopen a\nclient\nhold a\nfail a 1500\nopen b\ndrop a\nopen c\nhold a\n",
+        0,
+        0,
+        "0.1 open 0 0 0\n1.1 held\n1.2 failed\n1.3 slots full\n1.4 freed\n1.5 open 0 2 2\n1.6 gone 0000000200000001\nlink 0 a accepted 0 placed 0 took 0 -\norder 0\nlink 1 b accepted 0 placed 0 took 0 -\norder 1\nlink 2 c accepted 0 placed 0 took 0 -\norder 2\nend\n",
+    ),
+    (
+        "replay",
+        "slots 1\nfirst 4294967292\nopen a\nclient\nfail a 1500\nopen b\n",
+        0,
+        0,
+        "0.1 open 0 4294967292 0\n1.1 failed\n1.2 slots full\nlink 0 a accepted 0 placed 0 took 0 -\norder 0\nlink 1 b accepted 0 placed 0 took 0 -\norder 1\nend\n",
+    ),
+    ("replay", "client\nclient\n", 0, 0, "end\n"),
+    (
+        "frames",
+        "PRPC\0\0\0\x12\0\0\0\x10\n\x0c\n\x04Echo\x12\x04Echo\x20\x02hiPRP",
+        0,
+        0,
+        "frame request 4563686f 4563686f id 2 compress 0 payload 6869 attachment -\nrest 3\n",
+    ),
+    ("frames", "PRPD", 0, 9, "fault 0 1 3\n"),
+    (
+        "frames",
+        "PRPC\x04\0\0\x01\0\0\0\0",
+        0,
+        9,
+        "fault 0 2 67108865\n",
+    ),
+    (
+        "frames",
+        "PRPC\0\0\0\x04\0\0\0\x05",
+        0,
+        9,
+        "fault 0 3 5 4\n",
+    ),
+    ("frames", "PRPC\x04\0\0\x01\0\0\0", 0, 0, "rest 11\n"),
+    (
+        "gen 7 1 1",
+        "",
+        0,
+        0,
+        "open a piece=7\nopen b again=2\nopen c serve\nopen d piece=5 serve\nclient\nsend a 5e\n",
+    ),
+    (
+        "replay",
+        "slots 2\nrequests 1\nopen a\nopen b\nclient\nsend a 61\nclient\nfail a 1500\nclient\nsend b 62\nsched\nto 1 C2\nto 2 A5\ntick 1 7\ntick 3 30",
+        0,
+        0,
+        "0.1 open 0 0 0\n0.2 open 1 0 1\n1.1 dropped 0 0\n2.1 failed\n3.1 full\nlink 0 a accepted 1 placed 0 took 0 -\norder 0 1.1.0\nlink 1 b accepted 0 placed 0 took 0 -\norder 1\nend\n",
     ),
 ];
 
 #[test]
-fn reports_sends(rt: HostRuntime) -> Result<(), Fail> {
-    for (words, script, text) in SENDS {
-        let (answered, written) = answer(&rt, words, script.as_bytes(), CALM)?;
-        assert_eq!(rt; answered, 0, "at {script}");
-        assert_eq!(rt; written.as_slice(), text.as_bytes(), "at {script}");
+fn answers_rows(rt: HostRuntime) -> Result<(), Fail> {
+    for (words, input, put, status, text) in ROWS {
+        let outside = Outside { put, ..CALM };
+        let (answered, written) = answer(&rt, words, input.as_bytes(), outside)?;
+        assert_eq!(rt; answered, status, "at {input}");
+        assert_eq!(rt; written.as_slice(), text.as_bytes(), "at {input}");
     }
-    Ok(())
-}
-
-/// A script of sockets alone: the slot is given again once its first life is given back, with its next version.
-#[test]
-fn reuses_a_slot(rt: HostRuntime) -> Result<(), Fail> {
-    let script = "slots 1\nopen a\nclient\nhold a\nfail a 1500\nopen b\ndrop a\nopen c\nhold a\n";
-    let text =
-        "0.1 open 0 0 0\n1.1 held\n1.2 failed\n1.3 slots full\n1.4 freed\n1.5 open 0 2 2\n1.6 gone 0000000200000001\nlink 0 a accepted 0 placed 0 took 0 -\norder 0\nlink 1 b accepted 0 placed 0 took 0 -\norder 1\nlink 2 c accepted 0 placed 0 took 0 -\norder 2\nend\n";
-    let (answered, written) = answer(&rt, "replay", script.as_bytes(), CALM)?;
-    assert_eq!(rt; answered, 0);
-    assert_eq!(rt; written.as_slice(), text.as_bytes());
-    Ok(())
-}
-
-/// A script with a schedule: the second hold of one client comes between the steps by which the other fails the socket.
-#[test]
-fn follows_a_schedule(rt: HostRuntime) -> Result<(), Fail> {
-    let script =
-        "open a\nclient\nhold a\nfail a 1500\ndrop a\nclient\nhold a\nsched\nto 1 A5\nto 1 A4\nto 1 A4\nto 1 A4\nto 2 A3\nto 1 A6\n";
-    let text =
-        "0.1 open 0 0 0\n1.1 held\n1.2 failed\n1.3 kept\n2.1 gone 0000000100000000\nlink 0 a accepted 0 placed 0 took 0 -\norder 0\nend\n";
-    let (answered, written) = answer(&rt, "replay", script.as_bytes(), CALM)?;
-    assert_eq!(rt; answered, 0);
-    assert_eq!(rt; written.as_slice(), text.as_bytes());
     Ok(())
 }
 
@@ -217,24 +291,6 @@ fn answers_words(rt: HostRuntime) -> Result<(), Fail> {
     Ok(())
 }
 
-#[test]
-fn prints_a_drawn_script(rt: HostRuntime) -> Result<(), Fail> {
-    let (answered, written) = answer(&rt, "gen 7 1 1", b"", CALM)?;
-    assert_eq!(rt; answered, 0);
-    let text =
-        "open a piece=7\nopen b again=2\nopen c serve\nopen d piece=5 serve\nclient\nsend a 5e\n";
-    assert_eq!(rt; written.as_slice(), text.as_bytes());
-    Ok(())
-}
-
-#[test]
-fn prints_frames(rt: HostRuntime) -> Result<(), Fail> {
-    let (answered, written) = answer(&rt, "frames", b"PRPD", CALM)?;
-    assert_eq!(rt; answered, 9);
-    assert_eq!(rt; written.as_slice(), b"fault 0 1 3\n".as_slice());
-    Ok(())
-}
-
 /// Calls of the outside that fail, with the status and how much of row 1's report is written.
 const FAULTS: [(Outside, u8, usize); 7] = [
     (Outside { read: 1, ..CALM }, 4, 0),
@@ -248,7 +304,7 @@ const FAULTS: [(Outside, u8, usize); 7] = [
 
 #[test]
 fn answers_faults(rt: HostRuntime) -> Result<(), Fail> {
-    let (script, _, _, text) = ROWS[0];
+    let (_, script, _, _, text) = ROWS[0];
     for (outside, status, length) in FAULTS {
         let (answered, written) = answer(&rt, "replay", script.as_bytes(), outside)?;
         assert_eq!(rt; answered, status);
@@ -260,29 +316,33 @@ fn answers_faults(rt: HostRuntime) -> Result<(), Fail> {
     Ok(())
 }
 
-/// A send of so many bytes `61`, over a link whose put `put` fails, and the last two lines but one.
-fn send_of(rt: &HostRuntime, length: usize, put: u32) -> Result<Vec<u8>, Fail> {
+/// The answer to a send of so many bytes `61`, over a link whose put `put` fails (0: none).
+fn send_of(rt: &HostRuntime, length: usize, put: u32) -> Result<(u8, Vec<u8>), Fail> {
     let mut script = Vec::from_slice(rt.alloc(), b"open a\nclient\nsend a ")?;
     for _ in 0..length {
         script.extend_from_slice(b"61")?;
     }
-    let (_, written) = answer(rt, "replay", &script, Outside { put, ..CALM })?;
-    Ok(written)
+    answer(rt, "replay", &script, Outside { put, ..CALM })
 }
 
 #[test]
 fn puts_long_messages(rt: HostRuntime) -> Result<(), Fail> {
     let head = "6161616161616161616161616161616161616161616161616161616161616161";
-    let whole = send_of(&rt, 65_536, 0)?;
+    let (status, whole) = send_of(&rt, 65_536, 0)?;
+    assert_eq!(rt; status, 0);
     let want = format!(in rt.alloc();
         "0.1 open 0 0 0\n1.1 placed 0 0\nlink 0 a accepted 1 placed 1 took 65536 {head}\norder 0 1.1.0\nend\n"
     )?;
     assert_eq!(rt; whole.as_slice(), want.as_bytes());
-    let cut = send_of(&rt, 8_193, 2)?;
+    let (status, cut) = send_of(&rt, 8_193, 2)?;
+    assert_eq!(rt; status, 0);
     let want = format!(in rt.alloc();
         "0.1 open 0 0 0\n1.1 dropped 0 0\nlink 0 a accepted 1 placed 0 took 8192 {head}\norder 0 1.1.0\nend\n"
     )?;
     assert_eq!(rt; cut.as_slice(), want.as_bytes());
+    let (status, long) = send_of(&rt, 65_537, 0)?;
+    assert_eq!(rt; status, 3);
+    assert_eq!(rt; long.as_slice(), b"script fault line 3 kind 6\n".as_slice());
     Ok(())
 }
 

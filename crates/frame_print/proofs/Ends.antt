@@ -16,10 +16,12 @@ use Rattle.frame_print.specs.declared.print.StreamEnd.{StreamEnd}
 use Rattle.frame_print.specs.declared.print.StreamEnd.TheVariants as end_
 use Rattle.frame_print.specs.declared.print.PrintFault.{PrintFault}
 use Rattle.frame_print.specs.declared.print.PrintFault.TheVariants as fault_
-use Rattle.frame_print.specs.Printed.{frames_limit, Edges, frame_lines, first_lines, IsRest, IsFaulty, PrintedRest, PrintedFault, SourceFailed, SinkFailed, TooLong, NoMemory, EndsAs}
-use Rattle.frame_print.specs.Cutting.{behind, Cut, CutPrinted, CutStopped, CutsWhole, RestPrinted}
+use Rattle.frame_print.specs.Printed.{frames_limit, Edges, frame_lines, first_lines, IsRest, IsFaulty, PrintedRest, PrintedFault, SourceFailed, SinkFailed, TooLong, NoMemory, WroteSome, EndsAs}
+use Rattle.frame_print.specs.Cutting.{CutPrinted, CutStopped, CutsWhole, RestPrinted, JudgesAs, EndsStopped}
+use Rattle.prpc_frame.specs.Cuts.{behind, Cut}
 use Rattle.frame_print.proofs.Writing.{Appends-append, front_behind, front_before, rose_from}
-use Rattle.frame_print.proofs.Cuts.{frames_then, cut_more, printed_more, stream_begins, stream_whole, stream_rest, stream_fault}
+use Rattle.frame_print.proofs.Cuts.{printed_more}
+use Rattle.prpc_frame.proofs.Cuts.{frames_then, cut_more, stream_begins, stream_whole, stream_rest, stream_fault}
 
 abbrev text_of : Stream → List ℕ
 text_of s = flat_map frame_line s.frames ++ ending_line s.ending
@@ -47,10 +49,10 @@ pub ends_unwritten : (e : Edges) (bytes held : List ℕ) (p : Option (List ℕ))
     WrotePart p e.now (ending_line (Rest (length held))) → faults ≡ e.write_faults → Rose faults e.write_faults_now → SinkFailed e bytes
 ends_unwritten e bytes held p faults few end x waiting w kept rose = record {
   few = few;
+  ending = is_rest bytes held x.frames x.cut waiting;
   wrote = let P : Stream → Type 0 = λ s. WrotePart e.before e.now (text_of s) in
       inr (
         end,
-        is_rest bytes held x.frames x.cut waiting,
         (
           subst P (sym (stream_rest bytes held x.frames x.cut waiting)) (front_behind e.before p e.now (flat_map frame_line x.frames) (ending_line (Rest (length held))) x.wrote w),
           rose_from e.write_faults faults e.write_faults_now kept rose,
@@ -111,8 +113,7 @@ ends_unfed e whole held piece few x =
     let P : List ℕ → Type 0 = λ l. Appends e.before e.now l in
     record {
       few = few;
-      frames = length x.frames;
-      wrote = subst P (sym (lines_first (whole ++ piece) held x.frames _ (stream_begins whole held x.frames x.cut piece))) x.wrote;
+      wrote = inl (length x.frames, subst P (sym (lines_first (whole ++ piece) held x.frames _ (stream_begins whole held x.frames x.cut piece))) x.wrote);
     }
 
 pub ends_memory : (e : Edges) (bytes held : List ℕ) → length bytes ≤ frames_limit → CutPrinted bytes e.before held e.now → NoMemory e bytes
@@ -120,28 +121,44 @@ ends_memory e bytes held few x =
     let P : List ℕ → Type 0 = λ l. Appends e.before e.now l in
     record {
       few = few;
-      frames = length x.frames;
-      wrote = subst P (sym (lines_first bytes held x.frames _ (stream_whole bytes held x.frames x.cut))) x.wrote;
+      wrote = inl (length x.frames, subst P (sym (lines_first bytes held x.frames _ (stream_whole bytes held x.frames x.cut))) x.wrote);
     }
 
--- in the line of a frame
-pub ends_stopped : (e : Edges) (bytes held new : List ℕ) (p : Option (List ℕ)) (faults : ℕ) → length bytes ≤ frames_limit → CutPrinted bytes e.before held p → faults ≡ e.write_faults →
-    CutStopped held p new e.now faults e.write_faults_now → SinkFailed e bytes
-ends_stopped e bytes held new p faults few x kept y =
+-- the sink failed in the line of a frame
+lines_lost : (e : Edges) (bytes held mid : List ℕ) (p : Option (List ℕ)) (faults : ℕ) → CutPrinted bytes e.before held p → faults ≡ e.write_faults → CutStopped held p mid e.now faults e.write_faults_now →
+    WroteSome e (frame_lines bytes)
+lines_lost e bytes held mid p faults x kept y =
     let fs = x.frames ++ y.frames in
-    let cut : Cut bytes fs new = cut_more bytes held new x.frames y.frames x.cut y.cut in
-    let more = stream_from cut.size new in
+    let cut : Cut bytes fs mid = cut_more bytes held mid x.frames y.frames x.cut y.cut in
+    let more = stream_from cut.size mid in
     let P : List ℕ → Type 0 = λ l. WrotePart e.before e.now l in
     let front : WrotePart e.before e.now (flat_map frame_line fs) =
     subst P (sym (flat_map-append frame_line x.frames y.frames)) (front_behind e.before p e.now (flat_map frame_line x.frames) (flat_map frame_line y.frames) x.wrote y.front)
     in
     let all : frame_lines bytes ≡ flat_map frame_line fs ++ flat_map frame_line more.frames =
-    ap (λ (s : Stream). flat_map frame_line s.frames) (stream_whole bytes new fs cut) ∙ flat_map-append frame_line fs more.frames
+    ap (λ (s : Stream). flat_map frame_line s.frames) (stream_whole bytes mid fs cut) ∙ flat_map-append frame_line fs more.frames
     in
+    (subst P (sym all) (front_before e.before e.now (flat_map frame_line fs) (flat_map frame_line more.frames) front), rose_from e.write_faults faults e.write_faults_now kept y.rose)
+
+-- the frames that were cut before and after it
+cut_behind : (o : Option (List ℕ)) (bytes held mid new : List ℕ) (p q : Option (List ℕ)) (faults faults_now : ℕ) → (x : CutPrinted bytes o held p) → (y : CutStopped held p mid q faults faults_now) → (gs : List Frame) → Cut mid gs new →
+    Cut bytes ((x.frames ++ y.frames) ++ gs) new
+cut_behind o bytes held mid new p q faults faults_now x y gs z = cut_more bytes mid new (x.frames ++ y.frames) gs (cut_more bytes held mid x.frames y.frames x.cut y.cut) z
+
+-- by how the bytes are judged then
+judged_ends : (e : Edges) (bytes new : List ℕ) (fs : List Frame) (r : Result StreamEnd PrintFault) → length bytes ≤ frames_limit → WroteSome e (frame_lines bytes) → Cut bytes fs new → JudgesAs (judged new) r → EndsAs e bytes r
+judged_ends e bytes new fs (Ok end_.Rest) few lost x j = absurd j
+judged_ends e bytes new fs (Ok end_.Fault) few lost x j =
+    let Q : Stream → Type 0 = λ s. IsFaulty s.ending in
     record {
       few = few;
-      wrote = inl (subst P (sym all) (front_before e.before e.now (flat_map frame_line fs) (flat_map frame_line more.frames) front), rose_from e.write_faults faults e.write_faults_now kept y.rose);
+      ending = subst Q (sym (stream_fault bytes new fs x j.0 j.1)) tt;
+      wrote = inr (front_before e.before e.now (frame_lines bytes) (ending_line (stream bytes).ending) lost.0, lost.1);
     }
+judged_ends e bytes new fs (Err fault_.Source) few lost x j = absurd j
+judged_ends e bytes new fs (Err fault_.Sink) few lost x j = record { few = few; ending = is_rest bytes new fs x j; wrote = inl lost }
+judged_ends e bytes new fs (Err fault_.TooLong) few lost x j = absurd j
+judged_ends e bytes new fs (Err fault_.NoMemory) few lost x j = record { few = few; wrote = inr lost }
 
 at_rest : (e : Edges) (bytes held : List ℕ) (p : Option (List ℕ)) (faults : ℕ) (r : Result StreamEnd PrintFault) → length bytes ≤ frames_limit → IsAtEnd e.left → CutPrinted bytes e.before held p →
     judged held ≡ NoneYet → faults ≡ e.write_faults → RestPrinted p e.now faults e.write_faults_now (length held) r → EndsAs e bytes r
@@ -159,16 +176,13 @@ ends_at_rest e bytes held p faults len r few end x waiting is kept w =
     let P : ℕ → Type 0 = λ n. RestPrinted p e.now faults e.write_faults_now n r in
     at_rest e bytes held p faults r few end x waiting kept (subst P is w)
 
-cut_ends : (e : Edges) (bytes held new : List ℕ) (p : Option (List ℕ)) (faults : ℕ) (x : PrintFault) → length bytes ≤ frames_limit → CutPrinted bytes e.before held p → faults ≡ e.write_faults →
-    CutsWhole held p faults new e.now e.write_faults_now (Err x) → EndsAs e bytes (Err x)
-cut_ends e bytes held new p faults fault_.Source few x kept w = absurd w
-cut_ends e bytes held new p faults fault_.Sink few x kept w = ends_stopped e bytes held new p faults few x kept w
-cut_ends e bytes held new p faults fault_.TooLong few x kept w = absurd w
-cut_ends e bytes held new p faults fault_.NoMemory few x kept w = ends_memory e bytes new few (printed_more bytes held new e.before p e.now x w)
-
 -- where printing the whole frames stopped
-pub ends_in_cut : (e : Edges) (bytes held new : List ℕ) (p : Option (List ℕ)) (faults : ℕ) (x y : PrintFault) (r : Result StreamEnd PrintFault) → length bytes ≤ frames_limit → CutPrinted bytes e.before held p →
-    faults ≡ e.write_faults → CutsWhole held p faults new e.now e.write_faults_now (Err x) → y ≡ x → r ≡ Err y → EndsAs e bytes r
-ends_in_cut e bytes held new p faults x y r few printed kept w same is =
+pub ends_in_cut : (e : Edges) (bytes held mid new : List ℕ) (p : Option (List ℕ)) (faults : ℕ) (x : PrintFault) (r : Result StreamEnd PrintFault) → length bytes ≤ frames_limit → CutPrinted bytes e.before held p →
+    faults ≡ e.write_faults → CutsWhole held p faults mid e.now e.write_faults_now (Err x) → EndsStopped mid new x r → EndsAs e bytes r
+ends_in_cut e bytes held mid new p faults fault_.Source r few x kept w stopped = absurd w
+ends_in_cut e bytes held mid new p faults fault_.Sink r few x kept w stopped =
+    judged_ends e bytes new _ r few (lines_lost e bytes held mid p faults x kept w) (cut_behind e.before bytes held mid new p e.now faults e.write_faults_now x w stopped.frames stopped.cut) stopped.judges
+ends_in_cut e bytes held mid new p faults fault_.TooLong r few x kept w stopped = absurd w
+ends_in_cut e bytes held mid new p faults fault_.NoMemory r few x kept w stopped =
     let P : Result StreamEnd PrintFault → Type 0 = λ q. EndsAs e bytes q in
-    subst P (sym (is ∙ ap (λ (z : PrintFault). Err z) same)) (cut_ends e bytes held new p faults x few printed kept w)
+    subst P (sym stopped) (ends_memory e bytes mid few (printed_more bytes held mid e.before p e.now x w))

@@ -1,24 +1,29 @@
 -- The steps of reading, feeding and cutting.
 use Rattle.std.proofs.Common.{◌≡◌, ℕ, ◌+◌, ◌-◌, ◌≤◌, min, List, [], ◌∷◌, ◌++◌, length, take, true, false, Option, Some, None, Result, Ok, Err, OnOk, refl, ap, sym, ◌∙◌, subst, arith, append_assoc, append-nil, length-append, length-take}
-use Rattle.std.specs.Prelude.{max, flat_map, is_err}
+use Rattle.std.specs.Prelude.{max, flat_map, is_err, MatchBool, Bool}
 use Rattle.std.specs.Io.KnownBytes.{Appends, Consumes, Keeps}
 use Rattle.std.proofs.lemmas.Grind.{flat_map-append}
-use Rattle.brpc_model.specs.Frame.{NoneYet, judged}
+use Rattle.brpc_model.specs.Frame.{Frame, Judged, NoneYet, judged}
 use Rattle.brpc_model.specs.Stream.{stream_from}
 use Rattle.brpc_model.specs.FramesText.{frame_line}
 use Rattle.sock_io.specs.Causes.{Rose}
 use Rattle.sock_io.specs.declared.stream.Failed.{Failed}
 use Rattle.io_block.specs.declared.memory.NoMemory.{NoMemory}
-use Rattle.prpc_frame.specs.Answers.{Fed}
+use Rattle.prpc_frame.specs.Answers.{Fed, Answers}
+use Rattle.prpc_frame.specs.declared.fault.NextFault.{NextFault}
+use Rattle.prpc_frame.specs.declared.fault.NextFault.TheVariants as next
 use Rattle.prpc_frame.specs.Leads.{Leads}
-use Rattle.prpc_frame.specs.Meaning.{frame_of, IsFault}
+use Rattle.prpc_frame.specs.Meaning.{frame_of, fault_of, IsFault}
 use Rattle.prpc_frame.specs.declared.frame.Frame as code
 use Rattle.prpc_frame.specs.declared.fault.FrameFault.{FrameFault}
-use Rattle.frame_print.specs.Written.{Writes}
+use Rattle.frame_print.specs.Written.{Writes, Gathers}
 use Rattle.sock_io.specs.Writing.{WrotePart}
-use Rattle.frame_print.specs.Cutting.{CutPrinted, CutStopped, CutsWhole}
-use Rattle.frame_print.proofs.Writing.{front_behind, rose_from}
-use Rattle.frame_print.proofs.Cuts.{cut_one, cut_more, printed_one, printed_fed}
+use Rattle.frame_print.specs.declared.print.StreamEnd.TheVariants as end_
+use Rattle.frame_print.specs.Cutting.{CutPrinted, CutGathered, CutStopped, CutsWhole, Judges}
+use Rattle.prpc_frame.specs.Cuts.{Cut}
+use Rattle.frame_print.proofs.Writing.{Appends-nil, Appends-append, front_behind, front_before, rose_from}
+use Rattle.frame_print.proofs.Cuts.{printed_fed, fault_meant}
+use Rattle.prpc_frame.proofs.Cuts.{cut_none, cut_next}
 
 -- ## Reading
 
@@ -46,13 +51,13 @@ consumes_end o p q bytes room count e f zero =
     subst Q (append-nil bytes) (consumes_append o p q bytes [] e (subst P zero f))
 
 -- what was read fits below the limit
-pub few_left : (whole piece room : List ℕ) (read count least most : ℕ) → read ≡ length whole → read ≤ 268435456 → (read ≡ 268435456 → ⊥) → least ≡ min 4096 (268435456 - read) → most ≡ max least 1 →
+pub few_left : (whole piece room : List ℕ) (read count least most : ℕ) → read ≡ length whole → read ≤ 268435456 → (read ≡ 268435456 → ⊥) → least ≡ min 65536 (268435456 - read) → most ≡ max least 1 →
     length piece ≡ length (take most room) → length (whole ++ take count piece) ≤ 268435456
 few_left whole piece room read count least most counted few other l m size =
     omega (arith, length-append whole (take count piece), length-take count piece, length-take most room, counted, few, other, l, m, size)
 
 -- at the limit it is one byte
-pub one_read : (piece room : List ℕ) (read count least most : ℕ) → read ≡ 268435456 → least ≡ min 4096 (268435456 - read) → most ≡ max least 1 → length piece ≡ length (take most room) → count ≤ length piece →
+pub one_read : (piece room : List ℕ) (read count least most : ℕ) → read ≡ 268435456 → least ≡ min 65536 (268435456 - read) → most ≡ max least 1 → length piece ≡ length (take most room) → count ≤ length piece →
     (count ≡ 0 → ⊥) → length (take count piece) ≡ 1
 one_read piece room read count least most all l m size within some =
     omega (arith, length-take count piece, length-take most room, all, l, m, size, within, some)
@@ -82,30 +87,97 @@ err_wrote : (a b : Option (List ℕ)) (x y : ℕ) (t : List ℕ) (r : Result (Un
 err_wrote a b x y t (Ok u) e w = absurd (cc)
 err_wrote a b x y t (Err f) e w = (w.front, w.failed)
 
--- the frame at the front was printed
-pub printed_next : (old held new : List ℕ) (o p q : Option (List ℕ)) (x y z : ℕ) (f : code.Frame) (there : Option code.Frame) (r : Result (Unit {0}) Failed) → CutPrinted old o held p → y ≡ x → there ≡ Some f →
-    ((at : ℕ) (more : List ℕ) → Leads at more held (Ok there) new) → is_err r ≡ false → Writes p q y z (frame_line (frame_of f)) r → CutPrinted old o new q × (z ≡ x)
-printed_next old held new o p q x y z f there r printed kept is leads ok w =
-    let P : Option code.Frame → Type 0 = λ t. (at : ℕ) (more : List ℕ) → Leads at more held (Ok t) new in
-    let wrote = ok_wrote p q y z (frame_line (frame_of f)) r ok w in
-    (printed_one old held new o p q (frame_of f) printed (subst P is leads) wrote.0, wrote.1 ∙ kept)
+-- nothing waits yet
+pub gathered_none : (bytes held : List ℕ) (o : Option (List ℕ)) → held ≡ [] → CutGathered bytes o bytes o held
+gathered_none bytes held o none = record { frames = []; cut = cut_none bytes; done = []; wrote = Appends-nil o; split = none }
 
--- the sink failed in its line
-pub stopped_next : (old held new : List ℕ) (o p q : Option (List ℕ)) (x y z : ℕ) (f : code.Frame) (there : Option code.Frame) (r : Result (Unit {0}) Failed) → CutPrinted old o held p → y ≡ x → there ≡ Some f →
-    ((at : ℕ) (more : List ℕ) → Leads at more held (Ok there) new) → is_err r ≡ true → Writes p q y z (frame_line (frame_of f)) r → CutStopped old o new q x z
-stopped_next old held new o p q x y z f there r printed kept is leads err w =
-    let P : Option code.Frame → Type 0 = λ t. (at : ℕ) (more : List ℕ) → Leads at more held (Ok t) new in
+lines_next : (fs : List Frame) (f : code.Frame) → flat_map frame_line (fs ++ frame_of f ∷ []) ≡ flat_map frame_line fs ++ frame_line (frame_of f)
+lines_next fs f = flat_map-append frame_line fs (frame_of f ∷ []) ∙ ap (λ l. flat_map frame_line fs ++ l) (append-nil (frame_line (frame_of f)))
+
+-- the line of the frame at the front waits
+pub gathered_next : (old cutter new : List ℕ) (o p q : Option (List ℕ)) (held now : List ℕ) (x y z : ℕ) (f : code.Frame) (there : Option code.Frame) (r : Result (Unit {0}) Failed) → CutGathered old o cutter p held → y ≡ x → there ≡ Some f →
+    ((at : ℕ) (more : List ℕ) → Leads at more cutter (Ok there) new) → is_err r ≡ false → Gathers p q y z held now (frame_line (frame_of f)) r → CutGathered old o new q now × (z ≡ x)
+gathered_next old cutter new o p q held now x y z f there (Err e) g kept is leads ok w = absurd (cc)
+gathered_next old cutter new o p q held now x y z f there (Ok u) g kept is leads ok w = (
+  record {
+    frames = g.frames ++ frame_of f ∷ [];
+    cut = cut_next old cutter new g.frames f there g.cut is leads;
+    done = g.done ++ w.0;
+    wrote = Appends-append o p q g.done w.0 g.wrote w.1;
+    split = append_assoc g.done w.0 now
+        ∙ ap (λ l. g.done ++ l) w.2
+        ∙ sym (append_assoc g.done held (frame_line (frame_of f)))
+        ∙ ap (λ l. l ++ frame_line (frame_of f)) g.split
+        ∙ sym (lines_next g.frames f);
+  },
+  w.3 ∙ kept,
+)
+
+-- the sink failed in the lines that waited, or in that line
+pub gather_stopped : (old cutter new : List ℕ) (o p q : Option (List ℕ)) (held now : List ℕ) (x y z : ℕ) (f : code.Frame) (there : Option code.Frame) (r : Result (Unit {0}) Failed) → CutGathered old o cutter p held → y ≡ x → there ≡ Some f →
+    ((at : ℕ) (more : List ℕ) → Leads at more cutter (Ok there) new) → is_err r ≡ true → Gathers p q y z held now (frame_line (frame_of f)) r → CutStopped old o new q x z
+gather_stopped old cutter new o p q held now x y z f there (Ok u) g kept is leads err w = absurd (cc)
+gather_stopped old cutter new o p q held now x y z f there (Err e) g kept is leads err w =
     let Q : List ℕ → Type 0 = λ l. WrotePart o q l in
-    let wrote = err_wrote p q y z (frame_line (frame_of f)) r err w in
-    let lines : flat_map frame_line (printed.frames ++ frame_of f ∷ []) ≡ flat_map frame_line printed.frames ++ frame_line (frame_of f) =
-    flat_map-append frame_line printed.frames (frame_of f ∷ []) ∙ ap (λ l. flat_map frame_line printed.frames ++ l) (append-nil (frame_line (frame_of f)))
-    in
+    let lines = sym (append_assoc g.done held (frame_line (frame_of f))) ∙ ap (λ l. l ++ frame_line (frame_of f)) g.split ∙ sym (lines_next g.frames f) in
     record {
-      frames = printed.frames ++ frame_of f ∷ [];
-      cut = cut_more old held new printed.frames (frame_of f ∷ []) printed.cut (cut_one held new (frame_of f) (subst P is leads));
-      front = subst Q (sym lines) (front_behind o p q (flat_map frame_line printed.frames) (frame_line (frame_of f)) printed.wrote wrote.0);
-      rose = rose_from x y z kept wrote.1;
+      frames = g.frames ++ frame_of f ∷ [];
+      cut = cut_next old cutter new g.frames f there g.cut is leads;
+      front = subst Q lines (front_behind o p q g.done (held ++ frame_line (frame_of f)) g.wrote w.0);
+      rose = rose_from x y z kept w.1;
     }
+
+-- all lines were written
+pub gathered_written : (old new : List ℕ) (o p q : Option (List ℕ)) (held : List ℕ) → CutGathered old o new p held → Appends p q held → CutPrinted old o new q
+gathered_written old new o p q held g w =
+    let P : List ℕ → Type 0 = λ l. Appends o q l in
+    record { frames = g.frames; cut = g.cut; wrote = subst P g.split (Appends-append o p q g.done held g.wrote w) }
+
+-- the sink failed in the lines that waited
+pub gathered_lost : (old new : List ℕ) (o p q : Option (List ℕ)) (held : List ℕ) (x y z : ℕ) → CutGathered old o new p held → y ≡ x → WrotePart p q held → Rose y z → CutStopped old o new q x z
+gathered_lost old new o p q held x y z g kept front rose =
+    let Q : List ℕ → Type 0 = λ l. WrotePart o q l in
+    record { frames = g.frames; cut = g.cut; front = subst Q g.split (front_behind o p q g.done held g.wrote front); rose = rose_from x y z kept rose }
+
+-- a line that was written behind the lines that waited
+pub gathers_written : (o p q : Option (List ℕ)) (x y z : ℕ) (held text now : List ℕ) (r : Result (Unit {0}) Failed) → Appends o p held → y ≡ x → now ≡ [] → Writes p q y z text r → Gathers o q x z held now text r
+gathers_written o p q x y z held text now (Ok u) wrote kept none w =
+    (held ++ text, Appends-append o p q held text wrote w.whole, ap (λ l. (held ++ text) ++ l) none ∙ append-nil (held ++ text), w.kept ∙ kept)
+gathers_written o p q x y z held text now (Err e) wrote kept none w = (front_behind o p q held text wrote w.front, rose_from x y z kept w.failed)
+
+-- the lines that waited were written, and that line waits in their place
+pub gathers_waits : (o p : Option (List ℕ)) (x y : ℕ) (held mid now text : List ℕ) → Appends o p held → y ≡ x → mid ≡ [] → now ≡ mid ++ text → Gathers o p x y held now text (Ok tt)
+gathers_waits o p x y held mid now text wrote kept none is = (held, wrote, ap (λ l. held ++ l) (is ∙ ap (λ l. l ++ text) none), kept)
+
+pub kept_true : (b : Bool) (P Q : Type 0) → b ≡ true → MatchBool b P Q → P
+kept_true true P Q e h = h
+kept_true false P Q e h = absurd (cc)
+
+pub kept_false : (b : Bool) (P Q : Type 0) → b ≡ false → MatchBool b P Q → Q
+kept_false true P Q e h = absurd (cc)
+kept_false false P Q e h = h
+
+-- where no frame is cut, the same bytes are held
+pub same_none : (j : Judged) (old new : List ℕ) (t : Option code.Frame) → t ≡ None → Answers j old (Ok t) new → new ≡ old
+same_none j old new t is h = let P : Option code.Frame → Type 0 = λ o. Answers j old (Ok o) new in let k : Answers j old (Ok None) new = subst P is h in k.1
+
+pub same_fault : (j : Judged) (old new : List ℕ) (n : NextFault) (fault : FrameFault) → n ≡ next.Frame fault → Answers j old (Err n) new → new ≡ old
+same_fault j old new n fault is h = let P : NextFault → Type 0 = λ o. Answers j old (Err o) new in let k : Answers j old (Err (next.Frame fault)) new = subst P is h in k.1
+
+pub same_memory : (j : Judged) (old new : List ℕ) (n : NextFault) → n ≡ next.NoMemory → Answers j old (Err n) new → new ≡ old
+same_memory j old new n is h = let P : NextFault → Type 0 = λ o. Answers j old (Err o) new in let k : Answers j old (Err next.NoMemory) new = subst P is h in k
+
+-- the sink failed in the lines that waited, and no frame was cut meanwhile
+pub gathered_lost_at : (old held new : List ℕ) (o p q : Option (List ℕ)) (lines : List ℕ) (x y z : ℕ) (e : Failed) → new ≡ held → CutGathered old o held p lines → y ≡ x → Writes p q y z lines (Err e) → CutStopped old o new q x z
+gathered_lost_at old held new o p q lines x y z e same g kept w =
+    let P : List ℕ → Type 0 = λ l. CutStopped old o l q x z in subst P (sym same) (gathered_lost old held o p q lines x y z g kept w.front w.failed)
+
+-- the sink failed in the lines that waited
+pub gathers_lost : (o p : Option (List ℕ)) (x y : ℕ) (held now text : List ℕ) (e f : Failed) (r : Result (Unit {0}) Failed) → r ≡ Err f → Writes o p x y held (Err e) → Gathers o p x y held now text r
+gathers_lost o p x y held now text e f r is w =
+    let P : Result (Unit {0}) Failed → Type 0 = λ q. Gathers o p x y held now text q in
+    let lost : Gathers o p x y held now text (Err f) = (front_before o p held text w.front, w.failed) in
+    subst P (sym is) lost
 
 -- no frame is whole
 pub cut_waits : (held new : List ℕ) (p q : Option (List ℕ)) (x y : ℕ) (o : Option FrameFault) → o ≡ None → CutsWhole held p x new q y (Ok o) → CutPrinted held p new q × (judged new ≡ NoneYet) × (y ≡ x)
@@ -114,3 +186,15 @@ cut_waits held new p q x y o is h = let P : Option FrameFault → Type 0 = λ t.
 -- there is a fault
 pub cut_faulty : (held new : List ℕ) (p q : Option (List ℕ)) (x y : ℕ) (f : FrameFault) (o : Option FrameFault) → o ≡ Some f → CutsWhole held p x new q y (Ok o) → CutPrinted held p new q × IsFault (judged new) f × (y ≡ x)
 cut_faulty held new p q x y f o is h = let P : Option FrameFault → Type 0 = λ t. CutsWhole held p x new q y (Ok t) in subst P is h
+
+-- ## Where the sink failed
+
+-- the frames that were passed over, up to the fault
+pub judged_fault : (old held new : List ℕ) (fs : List Frame) (n : NextFault) (fault : FrameFault) → Cut old fs held → n ≡ next.Frame fault → Answers (judged held) held (Err n) new → Judges old new (Ok end_.Fault)
+judged_fault old held new fs n fault cut is h =
+    let P : NextFault → Type 0 = λ o. Answers (judged held) held (Err o) new in
+    let k : Answers (judged held) held (Err (next.Frame fault)) new = subst P is h in
+    let Q : List ℕ → Type 0 = λ l. Judges old l (Ok end_.Fault) in
+    let meant = fault_meant (fault_of fault) (judged held) k.0 in
+    let there : Judges old held (Ok end_.Fault) = record { frames = fs; cut = cut; judges = (meant.0, meant.2) } in
+    subst Q (sym k.1) there

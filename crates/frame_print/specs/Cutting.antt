@@ -1,10 +1,12 @@
 -- What printing the frames that are whole leaves of the bytes that a cutter held, and what printing a rest leaves.
-use Rattle.std.specs.Prelude.{ℕ, ◌≡◌, ◌+◌, List, ◌++◌, length, flat_map, Option, Some, None, Result, Ok, Err}
+use Rattle.std.specs.Prelude.{ℕ, ◌≡◌, List, ◌++◌, flat_map, Option, Some, None, Result, Ok, Err}
 use Rattle.std.specs.Io.KnownBytes.{Appends}
-use Rattle.brpc_model.specs.Frame.{Frame, NoneYet, judged}
-use Rattle.brpc_model.specs.Stream.{Stream, Rest, stream_from}
+use Rattle.brpc_model.specs.Frame.{Frame, Judged, NoneYet, Faulty, judged}
+use Rattle.brpc_model.specs.Frame as model
+use Rattle.brpc_model.specs.Stream.{Rest}
 use Rattle.brpc_model.specs.FramesText.{frame_line, ending_line}
 use Rattle.sock_io.specs.Causes.{Rose}
+use Rattle.prpc_frame.specs.Cuts.{Cut}
 use Rattle.prpc_frame.specs.Meaning.{IsFault}
 use Rattle.prpc_frame.specs.declared.fault.FrameFault.{FrameFault}
 use Rattle.sock_io.specs.Writing.{WrotePart}
@@ -13,22 +15,19 @@ use Rattle.frame_print.specs.declared.print.StreamEnd.TheVariants as end_
 use Rattle.frame_print.specs.declared.print.PrintFault.{PrintFault}
 use Rattle.frame_print.specs.declared.print.PrintFault.TheVariants as fault_
 
--- a stream with more frames before it
-abbrev pub behind : List Frame → Stream → Stream
-behind frames s = record { frames = frames ++ s.frames; ending = s.ending }
-
--- some frames were cut off the front of the bytes, however they go on
-pub record Cut (old : List ℕ) (frames : List Frame) (new : List ℕ) : Type 0 where
-  -- so many bytes of them
-  pub size : ℕ
-  pub sized : length old ≡ size + length new
-  pub leads : (at : ℕ) (more : List ℕ) → stream_from at (old ++ more) ≡ behind frames (stream_from (at + size) (new ++ more))
-
 -- and their lines were written
 pub record CutPrinted (old : List ℕ) (before : Option (List ℕ)) (new : List ℕ) (now : Option (List ℕ)) : Type 0 where
   pub frames : List Frame
   pub cut : Cut old frames new
   pub wrote : Appends before now (flat_map frame_line frames)
+
+-- their lines were written up to those that wait
+pub record CutGathered (old : List ℕ) (before : Option (List ℕ)) (new : List ℕ) (now : Option (List ℕ)) (held : List ℕ) : Type 0 where
+  pub frames : List Frame
+  pub cut : Cut old frames new
+  pub done : List ℕ
+  pub wrote : Appends before now done
+  pub split : done ++ held ≡ flat_map frame_line frames
 
 -- the sink failed in the line of one of the frames
 pub record CutStopped (old : List ℕ) (before : Option (List ℕ)) (new : List ℕ) (now : Option (List ℕ)) (faults faults_now : ℕ) : Type 0 where
@@ -44,6 +43,25 @@ CutsWhole old before faults new now faults_now (Ok (Some fault)) = CutPrinted ol
 CutsWhole old before faults new now faults_now (Err fault_.Sink) = CutStopped old before new now faults faults_now
 CutsWhole old before faults new now faults_now (Err fault_.NoMemory) = CutPrinted old before new now
 CutsWhole old before faults new now faults_now (Err other) = ⊥
+
+-- the sink failed, and so the bytes end that came
+abbrev pub JudgesAs : Judged → Result StreamEnd PrintFault → Type 0
+JudgesAs j (Ok end_.Rest) = ⊥
+JudgesAs j (Ok end_.Fault) = (fault : model.FrameFault) × (j ≡ Faulty fault)
+JudgesAs j (Err fault_.Sink) = j ≡ NoneYet
+JudgesAs j (Err fault_.NoMemory) = Unit {0}
+JudgesAs j (Err other) = ⊥
+
+-- the frames that are whole were passed over, and what is behind them was judged
+pub record Judges (old new : List ℕ) (result : Result StreamEnd PrintFault) : Type 0 where
+  pub frames : List Frame
+  pub cut : Cut old frames new
+  pub judges : JudgesAs (judged new) result
+
+-- how it ends where printing stopped for this reason
+abbrev pub EndsStopped : List ℕ → List ℕ → PrintFault → Result StreamEnd PrintFault → Type 0
+EndsStopped old new fault_.Sink result = Judges old new result
+EndsStopped old new other result = result ≡ Err other
 
 -- the line of a rest of so many bytes was written, or the sink failed behind a beginning of it
 abbrev pub RestPrinted : Option (List ℕ) → Option (List ℕ) → ℕ → ℕ → ℕ → Result StreamEnd PrintFault → Type 0

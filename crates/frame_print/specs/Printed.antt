@@ -77,10 +77,11 @@ pub record SourceFailed (edges : Edges) (bytes : List ℕ) : Type 0 where
   pub ending : IsRest (stream bytes).ending
   pub wrote : WroteAll edges (frame_lines bytes)
 
--- the sink failed in the line of a frame; or, at the end of the source, in the rest's line or before
+-- the sink failed in the line of a frame; or, at the end of the source, in the rest's line or before; the bytes have no fault
 pub record SinkFailed (edges : Edges) (bytes : List ℕ) : Type 0 where
   pub few : length bytes ≤ frames_limit
-  pub wrote : WroteSome edges (frame_lines bytes) ⊎ (IsAtEnd edges.left × IsRest (stream bytes).ending × WroteSome edges (frames_text bytes))
+  pub ending : IsRest (stream bytes).ending
+  pub wrote : WroteSome edges (frame_lines bytes) ⊎ (IsAtEnd edges.left × WroteSome edges (frames_text bytes))
 
 -- one byte more came than is printed; the others have no fault, and the lines of all their frames were written
 pub record TooLong (edges : Edges) (bytes : List ℕ) : Type 0 where
@@ -88,11 +89,10 @@ pub record TooLong (edges : Edges) (bytes : List ℕ) : Type 0 where
   pub ending : IsRest (stream (take frames_limit bytes)).ending
   pub wrote : WroteAll edges (frame_lines (take frames_limit bytes))
 
--- memory ran out behind the lines of the first frames
+-- memory ran out behind the lines of the first frames, or after the sink failed in the line of a frame
 pub record NoMemory (edges : Edges) (bytes : List ℕ) : Type 0 where
   pub few : length bytes ≤ frames_limit
-  pub frames : ℕ
-  pub wrote : WroteAll edges (first_lines frames bytes)
+  pub wrote : ((frames : ℕ) × WroteAll edges (first_lines frames bytes)) ⊎ WroteSome edges (frame_lines bytes)
 
 -- by what is answered
 abbrev pub EndsAs : Edges → List ℕ → Result StreamEnd PrintFault → Type 0

@@ -10,6 +10,9 @@ use sock_io::{Failed, Sink};
 /// As many bytes are turned into digits at once.
 const CHUNK: usize = 2048;
 
+/// So few bytes get a smaller room, which is made faster.
+const SHORT: usize = 32;
+
 /// Writes bytes in hexadecimal, `-` for none.
 pub fn print_hex<K: Sink>(out: &mut K, bytes: &[u8]) -> Result<(), Failed>
     ensures { Writes (K.contents out.old) (K.contents out.new) (K.faults out.old) (K.faults out.new) (hex_text bytes.now) result }
@@ -58,7 +61,23 @@ fn print_chunk<K: Sink>(out: &mut K, bytes: &[u8]) -> Result<(), Failed>
     requires { length bytes.now ≤ CHUNK }
     ensures { Writes (K.contents out.old) (K.contents out.new) (K.faults out.old) (K.faults out.new) (encode_lower bytes.now) result }
 {
+    if bytes.len() <= SHORT {
+        return print_short(out, bytes);
+    }
     let mut room = [0; 2 * CHUNK];
+    let digits = &mut room[..2 * bytes.len()];
+    match hex::encode_to_slice(bytes, digits) {
+        Ok(()) => write_all(out, digits),
+        Err(_) => unreachable!(),
+    }
+}
+
+// The same of a few bytes.
+fn print_short<K: Sink>(out: &mut K, bytes: &[u8]) -> Result<(), Failed>
+    requires { length bytes.now ≤ SHORT }
+    ensures { Writes (K.contents out.old) (K.contents out.new) (K.faults out.old) (K.faults out.new) (encode_lower bytes.now) result }
+{
+    let mut room = [0; 2 * SHORT];
     let digits = &mut room[..2 * bytes.len()];
     match hex::encode_to_slice(bytes, digits) {
         Ok(()) => write_all(out, digits),

@@ -4,6 +4,7 @@
 mod ending_text;
 mod frame_text;
 mod hexadecimal;
+mod lines;
 mod output;
 mod piece;
 mod print;

@@ -1,9 +1,9 @@
-ghost use Rattle.std.specs.Prelude.{◌≡◌};
+ghost use Rattle.std.specs.Prelude.{◌≡◌, [], OnOk};
 ghost use Rattle.frame_print.specs.Printed.{Edges, PrintsFrames};
-ghost use Rattle.frame_print.specs.Cutting.{CutsWhole, RestPrinted};
+ghost use Rattle.frame_print.specs.Cutting.{CutsWhole, EndsStopped, Judges, RestPrinted};
 
 use crate::ending_text::{print_fault, print_rest};
-use crate::frame_text::print_frame;
+use crate::lines::Lines;
 use prpc_frame::{BlockPool, Cutter, FrameFault, NextFault};
 use sock_io::{Failed, Sink, Source};
 use std::alloc::Global;
@@ -12,7 +12,7 @@ use std::alloc::Global;
 const FRAMES_LIMIT: usize = 268_435_456;
 
 /// The most bytes that are read at once.
-const ROOM: usize = 4096;
+const ROOM: usize = 65_536;
 
 /// How a stream ended whose text was printed.
 #[derive(Clone, Copy, Debug, PartialEq, Eq)]
@@ -28,22 +28,51 @@ pub enum StreamEnd {
 pub enum PrintFault {
     /// A read failed.
     Source,
-    /// A write failed before the line of a fault.
+    /// A write failed, and the bytes that came have no fault.
     Sink,
     /// More than 268,435,456 bytes came.
     TooLong,
     NoMemory,
 }
 
-/// Prints a line for each frame of the bytes that a source gives, as soon as the frame is whole, and then the line of
+/// Prints a line for each frame of the bytes that a source gives, before it is asked for more, and then the line of
 /// the rest or of the first fault.
 ///
-/// It holds one frame and the bytes of one read behind it, and at most one byte more is read than 268,435,456.
+/// Where the sink fails nothing more is read or written. The bytes that came are then judged to their end, so that it ends
+/// in a fault exactly where they have one.
+///
+/// It holds one frame and the bytes of one read behind it, and at most one byte more is read than 268,435,456. The lines of
+/// the frames of one read are written together, before the next.
 pub fn print_frames<S: Source, K: Sink>(
     alloc: Global,
     source: &mut S,
     out: &mut K,
 ) -> Result<StreamEnd, PrintFault>
+    ensures { PrintsFrames (record {
+      given = S.left source.old;
+      left = S.left source.new;
+      read_faults = S.faults source.old;
+      read_faults_now = S.faults source.new;
+      before = K.contents out.old;
+      now = K.contents out.new;
+      write_faults = K.faults out.old;
+      write_faults_now = K.faults out.new;
+    }) result }
+{
+    match Lines::new(alloc) {
+        Ok(mut lines) => print_all(alloc, source, out, &mut lines),
+        Err(_) => Err(PrintFault::NoMemory),
+    }
+}
+
+// The same, with room for the lines.
+fn print_all<S: Source, K: Sink>(
+    alloc: Global,
+    source: &mut S,
+    out: &mut K,
+    lines: &mut Lines,
+) -> Result<StreamEnd, PrintFault>
+    requires { lines.old.bytes ≡ [] }
     ensures { PrintsFrames (record {
       given = S.left source.old;
       left = S.left source.new;
@@ -76,26 +105,75 @@ pub fn print_frames<S: Source, K: Sink>(
             return Err(PrintFault::NoMemory);
         }
         read += count;
-        if let Some(fault) = print_whole(&mut cutter, out)? {
+        let whole = match print_whole(&mut cutter, out, lines) {
+            Ok(whole) => whole,
+            Err(stopped) => return end_stopped(&mut cutter, stopped),
+        };
+        if let Some(fault) = whole {
             let _ = print_fault(out, read - cutter.held_len(), fault);
             return Ok(StreamEnd::Fault);
         }
     }
 }
 
-// Prints each frame that is whole, up to the first fault.
-fn print_whole<K: Sink>(cutter: &mut Cutter, out: &mut K) -> Result<Option<FrameFault>, PrintFault>
-    ensures { CutsWhole cutter.old (K.contents out.old) (K.faults out.old) cutter.new (K.contents out.new) (K.faults out.new) result }
+// Prints each frame that is whole, up to the first fault. Its lines are gathered, and written before it returns.
+fn print_whole<K: Sink>(
+    cutter: &mut Cutter,
+    out: &mut K,
+    lines: &mut Lines,
+) -> Result<Option<FrameFault>, PrintFault>
+    requires { lines.old.bytes ≡ [] }
+    ensures cuts { CutsWhole cutter.old (K.contents out.old) (K.faults out.old) cutter.new (K.contents out.new) (K.faults out.new) result }
+    ensures none { OnOk result (lines.new.bytes ≡ []) }
 {
     loop {
         match cutter.next() {
             Ok(Some(frame)) => {
-                if print_frame(out, &frame).is_err() {
+                if lines.print(out, &frame).is_err() {
                     return Err(PrintFault::Sink);
                 }
             }
-            Ok(None) => return Ok(None),
-            Err(NextFault::Frame(fault)) => return Ok(Some(fault)),
+            Ok(None) => {
+                return match lines.flush(out) {
+                    Ok(()) => Ok(None),
+                    Err(Failed) => Err(PrintFault::Sink),
+                };
+            }
+            Err(NextFault::Frame(fault)) => {
+                return match lines.flush(out) {
+                    Ok(()) => Ok(Some(fault)),
+                    Err(Failed) => Err(PrintFault::Sink),
+                };
+            }
+            Err(NextFault::NoMemory) => {
+                return match lines.flush(out) {
+                    Ok(()) => Err(PrintFault::NoMemory),
+                    Err(Failed) => Err(PrintFault::Sink),
+                };
+            }
+        }
+    }
+}
+
+// How it ends where printing the frames stopped.
+fn end_stopped(cutter: &mut Cutter, stopped: PrintFault) -> Result<StreamEnd, PrintFault>
+    ensures { EndsStopped cutter.old cutter.new stopped result }
+{
+    match stopped {
+        PrintFault::Sink => judge_whole(cutter),
+        other => Err(other),
+    }
+}
+
+// The sink failed: how the bytes end that came.
+fn judge_whole(cutter: &mut Cutter) -> Result<StreamEnd, PrintFault>
+    ensures { Judges cutter.old cutter.new result }
+{
+    loop {
+        match cutter.next() {
+            Ok(Some(_frame)) => {}
+            Ok(None) => return Err(PrintFault::Sink),
+            Err(NextFault::Frame(_)) => return Ok(StreamEnd::Fault),
             Err(NextFault::NoMemory) => return Err(PrintFault::NoMemory),
         }
     }

@@ -1,17 +1,16 @@
 -- Each step is allowed to a seat whose view meets its condition.
-use Rattle.std.proofs.Common.{◌≡◌, ◌≢◌, ℕ, zero, suc, ◌+◌, ◌-◌, ◌*◌, ◌^◌, ◌<◌, ◌≤◌, ◌⊎◌, inl, inr, ⊎_elim, Bool, true, false, cond, eqb, leb, le-leb, eq-eqb, ne_eqb, List, [], ◌∷◌, ◌++◌, Some, None, length, get_or, set, sym, refl, ap, ◌∙◌, subst, lt_of_not-le, arith}
+use Rattle.std.proofs.Common.{◌≡◌, ◌≢◌, ℕ, ◌+◌, ◌<◌, ◌≤◌, inl, inr, Bool, cond, eqb, le-leb, eq-eqb, ne_eqb, List, [], ◌∷◌, Some, None, get_or, set, sym, refl, ap, ◌∙◌, subst, lt_of_not-le, arith}
 use Rattle.std.specs.Prelude.{Option as Maybe}
 use Rattle.std.specs.List.{flat_map}
 use Rattle.std.proofs.lemmas.Bool.{lt-leb}
 use mathlib.Core.Logic.{dite}
-use mathlib.Core.Option.{Option, none, some, some-injective, some-ne-none}
+use mathlib.Core.Option.{Option, none, some}
 use native.Mathlib.Decide.{ℕ_discrete, dec_le}
 use lib.ListN.{get_elem?}
-use prog.Atomic.{either}
-use Rattle.atomic_table.specs.Table.{State, Me, step, Act, keeps, takes, gives, stepped, Allows}
+use Rattle.atomic_table.specs.Table.{State, Me, keeps, takes, gives, stepped}
 use Rattle.atomic_table.proofs.Lists.{set_here, set_else}
 use Rattle.corr_core.specs.Word.{Parts, parts, made_word, locked_word, free_word}
-use Rattle.corr_core.specs.Law.{LAST, total, Each, Local, Live, HomeIs, Holds, SlotLaw}
+use Rattle.corr_core.specs.Law.{LAST, Local, HomeIs, SlotLaw}
 use Rattle.corr_core.specs.declared.marks.Plan.{Plan}
 use Rattle.corr_core.specs.declared.marks.Hand.{Hand}
 use Rattle.corr_core.specs.declared.marks.Hand.TheVariants.{Empty, Out, Full}
@@ -21,9 +20,9 @@ use Rattle.corr_core.specs.declared.marks.Note.{Note}
 use Rattle.corr_core.specs.declared.marks.Note.TheVariants.{Tried, Made, Ended, Locker, Queued, Attempt, Saw}
 use Rattle.corr_core.specs.declared.marks.View.{View}
 use Rattle.corr_core.proofs.Notes.{Inserted, at_length}
-use Rattle.corr_core.proofs.Slots.{queued_word, open_word, popped_word, IsLock, is_lock, claim_home, no_tokens, tries, claims, sees, reclaims, makes, locks, queues, relocks, stays, advances, opens, pops, ends, frees, same_token}
+use Rattle.corr_core.proofs.Slots.{queued_word, open_word, popped_word, IsLock, is_lock, claim_home, no_tokens, tries, claims, sees, reclaims, makes, locks, queues, relocks, stays, advances, opens, pops, ends, frees}
 use Rattle.id_rule.specs.Lawful.{tag_word, id_word, tokens_in, notes_in, local, Lawful, with_token, no_token, with_note}
-use Rattle.id_rule.specs.Plays.{hand_of, with_hand, value_of, hand_by, claimed_view, locked_view, claim_told, read_told, see_told, take_told, give_told, make_told, lock_told, queue_told, unlock_told, end_told, free_told, put_error, popped_view, advanced_view, ended_view, IsHome, NotLeaving, Fitting, LockFits}
+use Rattle.id_rule.specs.Plays.{hand_of, with_hand, value_of, hand_by, claimed_view, locked_view, popped_view, ended_view, IsHome, NotLeaving, Fitting, LockFits}
 use Rattle.id_rule.proofs.Frames.{Aside, token_here, drop_here, note_here, aside_token, aside_drop, aside_note, aside_both, mine, own_tokens, first_tokens, same_tokens, same_notes, more_notes, on_tag, on_id}
 
 module _ {C : Type 0} (p : Plan) (id : ℕ) (me : Me (Maybe C) (View C)) (i : ℕ) (inside : i < p.slots) (real : 0 < me.0.share) (s : State (Maybe C) (View C)) (law : Lawful p s) (here : get_elem? s.views id ≡ some me.0) where

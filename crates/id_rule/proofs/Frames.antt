@@ -1,25 +1,24 @@
 -- A step on one slot leaves the law of every other slot.
-use Rattle.std.proofs.Common.{◌≡◌, ◌≢◌, ℕ, zero, suc, ◌+◌, ◌-◌, ◌*◌, ◌<◌, ◌≤◌, ◌⊎◌, inl, inr, ⊎_elim, Bool, true, false, cond, eqb, eq-eqb, ne_eqb, List, [], ◌∷◌, ◌++◌, length, get_or, set, length-set, get_or-set_same, get_or-set_other, sym, refl, ap, ◌∙◌, subst, arith}
+use Rattle.std.proofs.Common.{◌≡◌, ◌≢◌, ℕ, ◌*◌, ◌<◌, ◌≤◌, ⊎_elim, cond, eqb, eq-eqb, ne_eqb, List, [], ◌∷◌, length, get_or, set, length-set, get_or-set_same, get_or-set_other, sym, refl, ap, ◌∙◌, subst, arith}
 use Rattle.std.specs.Prelude.{Option as Maybe}
 use Rattle.std.specs.List.{flat_map}
 use mathlib.Core.Logic.{dite}
-use mathlib.Core.Option.{Option, none, some, some-injective, some-ne-none}
+use mathlib.Core.Option.{Option, some}
 use native.Mathlib.Decide.{ℕ_discrete}
 use lib.ListN.{get_elem?}
 use Rattle.atomic_table.specs.Table.{State}
 use Rattle.atomic_table.proofs.Lists.{at_set}
-use Rattle.corr_core.specs.Word.{Parts, parts}
-use Rattle.corr_core.specs.Law.{total, Each, Local, SlotLaw, Stands, vacant, retired, claimed, opened, locked, leaving}
+use Rattle.corr_core.specs.Word.{parts}
+use Rattle.corr_core.specs.Law.{total, Each, Local, SlotLaw, vacant, retired, claimed, opened, locked, leaving}
 use Rattle.corr_core.specs.declared.marks.Plan.{Plan}
 use Rattle.corr_core.specs.declared.marks.Token.{Token}
 use Rattle.corr_core.specs.declared.marks.Note.{Note}
 use Rattle.corr_core.specs.declared.marks.Held.{Held}
-use Rattle.corr_core.specs.declared.marks.Noted.{Noted}
 use Rattle.corr_core.specs.declared.marks.Kept.{Kept}
 use Rattle.corr_core.specs.declared.marks.View.{View}
 use Rattle.corr_core.proofs.Notes.{Inserted, each_map, gather_more, total_set}
 use Rattle.corr_core.proofs.Gather.{gather_all, gather_none, gather_own, gather_same}
-use Rattle.id_rule.specs.Lawful.{tag_word, id_word, all_words, KeptFits, kept_in, is_stored, tokens_of, notes_of, tokens_in, notes_in, share_of, local, IsBare, Lawful, without, with_token, no_token, with_note}
+use Rattle.id_rule.specs.Lawful.{tag_word, id_word, KeptFits, kept_in, is_stored, tokens_of, notes_of, tokens_in, notes_in, share_of, local, Lawful, without, with_token, no_token, with_note}
 
 module _ {C : Type 0} where
   without_here : (i : ℕ) (hs : List (Held C)) → tokens_of i (without i hs) ≡ []

@@ -1,25 +1,21 @@
 -- Words of operations, seats that are made and joined, and the table at its start.
-use Rattle.std.proofs.Common.{◌≡◌, ◌≢◌, ℕ, zero, suc, ◌+◌, ◌-◌, ◌*◌, ◌^◌, ◌<◌, ◌≤◌, ◌⊎◌, inl, inr, ⊎_elim, Bool, true, false, cond, eqb, eq-eqb, ne_eqb, List, [], ◌∷◌, ◌++◌, map, None, length, get_or, set, replicate, length-set, length-append, append-nil, append_assoc, get_or-set_same, get_or-set_other, sym, refl, ap, ◌∙◌, subst, arith}
+use Rattle.std.proofs.Common.{◌≡◌, ◌≢◌, ℕ, ◌*◌, ◌<◌, ◌≤◌, ⊎_elim, Bool, true, false, cond, eq-eqb, ne_eqb, List, get_or, set, length-set, get_or-set_same, get_or-set_other, sym, refl, ap, ◌∙◌, subst, arith}
 use Rattle.std.specs.Prelude.{Option as Maybe}
 use Rattle.std.specs.List.{flat_map}
 use mathlib.Core.Logic.{dite}
-use mathlib.Core.Option.{Option, none, some, some-injective, some-ne-none}
+use mathlib.Core.Option.{none, some}
 use native.Mathlib.Decide.{ℕ_discrete}
 use lib.ListN.{get_elem?}
-use Rattle.atomic_table.specs.Table.{State, Me, step, Act, keeps, stepped, Allows, Joins, Splits, opening}
+use Rattle.atomic_table.specs.Table.{State, Me, step, keeps, stepped, Allows}
 use Rattle.atomic_table.proofs.Lists.{at_set}
-use Rattle.corr_core.specs.Word.{Parts, parts, free_word}
-use Rattle.corr_core.specs.Law.{LAST, total, Each, pair, born, Local, SlotLaw, vacant}
+use Rattle.corr_core.specs.Word.{parts}
+use Rattle.corr_core.specs.Law.{total, Each, SlotLaw}
 use Rattle.corr_core.specs.declared.marks.Plan.{Plan}
-use Rattle.corr_core.specs.declared.marks.Token.{Token}
-use Rattle.corr_core.specs.declared.marks.Note.{Note}
-use Rattle.corr_core.specs.declared.marks.Held.{Held}
-use Rattle.corr_core.specs.declared.marks.Noted.{Noted}
 use Rattle.corr_core.specs.declared.marks.Kept.{Kept}
 use Rattle.corr_core.specs.declared.marks.View.{View}
 use Rattle.corr_core.proofs.Notes.{Inserted, total_insert, each_insert, each_map, gather_more, total_set, pair-same}
 use Rattle.corr_core.proofs.Gather.{gather_same}
-use Rattle.id_rule.specs.Lawful.{tag_word, id_word, all_words, KeptFits, kept_in, is_stored, tokens_of, notes_of, tokens_in, notes_in, share_of, local, IsBare, Lawful, first_view, spent, newcomer, lighter, joined, with_kept}
+use Rattle.id_rule.specs.Lawful.{tag_word, id_word, all_words, KeptFits, kept_in, is_stored, tokens_of, notes_of, tokens_in, notes_in, share_of, local, Lawful, with_kept}
 use Rattle.id_rule.specs.Plays.{store_told, load_told, found_view}
 
 -- a step on the word of an operation leaves what is read of each slot

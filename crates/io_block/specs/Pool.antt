@@ -2,7 +2,7 @@
 use Rattle.std.specs.Prelude.{◌≡◌, ◌≤◌, [], take, All}
 use Rattle.bytes.specs.Filled.{Filled}
 use Rattle.io_block.specs.declared.pool.TheConstants.{BLOCK_BYTES, KEPT_BLOCKS}
-use Rattle.io_block.specs.declared.pool.BlockPool.TheInside.{Inside}
+use Rattle.io_block.specs.declared.kept.Kept.TheInside.{Inside}
 
 -- a block with no bytes, and at least 8,192 free ones
 abbrev pub IsFree : Filled → Type 0

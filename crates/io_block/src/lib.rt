@@ -1,10 +1,14 @@
 //! Blocks of 8,192 bytes, which message buffers write into, and a pool that keeps a few of them.
 #![tactic(auto)]
 
+mod kept;
 mod memory;
 mod pool;
+mod room;
+mod scratch;
 #[cfg(test)]
 mod tests;
 
 pub use memory::NoMemory;
 pub use pool::{BLOCK_BYTES, BlockPool, KEPT_BLOCKS};
+pub use scratch::Scratch;

@@ -1,6 +1,9 @@
-ghost use Rattle.std.specs.Prelude.{◌≡◌, ◌+◌, ◌-◌, ◌<◌, ◌≤◌, min, [], IsOk, IsSome, ◌↔◌, IfOk, IfSome};
+ghost use Rattle.std.specs.Prelude.{◌≡◌, ◌+◌, ◌-◌, ◌<◌, ◌≤◌, min, [], IsOk, IfOk, length};
 
 use crate::NoMemory;
+use crate::kept::Kept;
+use crate::room::Room;
+use crate::scratch::Scratch;
 use bytes::{Bytes, BytesMut};
 use std::alloc::Global;
 use std::marker::Model;
@@ -12,12 +15,14 @@ pub const BLOCK_BYTES: usize = 8_192;
 /// How many blocks a pool keeps at most. bRPC keeps eight for each thread.
 pub const KEPT_BLOCKS: usize = 8;
 
-/// Keeps up to eight blocks that came free, so that a stream of messages runs on the same few.
-/// Contracts see how many it keeps.
+/// Keeps up to eight blocks that came free, so that a stream of messages runs on the same few, and
+/// the rest of the block that was written to last, so that small messages lie in one block behind
+/// one another. Contracts see how many it keeps.
 #[derive(Drop)]
 pub struct BlockPool {
-    kept: [BytesMut; KEPT_BLOCKS],
-    count: usize,
+    kept: Kept,
+    room: Room,
+    scratch: Scratch,
     alloc: Global,
 }
 
@@ -26,11 +31,7 @@ impl Model for BlockPool {
 
     ghost Value = { ℕ };
 
-    ghost use Rattle.io_block.specs.Pool.{KeepsBlocks};
-
-    ghost view = { λ p. p.count };
-
-    ghost invariant = { KeepsBlocks };
+    ghost view = { λ p. p.kept };
 }
 
 impl BlockPool {
@@ -39,17 +40,9 @@ impl BlockPool {
         ensures { result ≡ 0 }
     {
         BlockPool {
-            kept: [
-                BytesMut::new(alloc),
-                BytesMut::new(alloc),
-                BytesMut::new(alloc),
-                BytesMut::new(alloc),
-                BytesMut::new(alloc),
-                BytesMut::new(alloc),
-                BytesMut::new(alloc),
-                BytesMut::new(alloc),
-            ],
-            count: 0,
+            kept: Kept::new(alloc),
+            room: Room::none(alloc),
+            scratch: Scratch::new(alloc),
             alloc,
         }
     }
@@ -59,7 +52,7 @@ impl BlockPool {
         ensures count { result ≡ self.now }
         ensures at_most { result ≤ KEPT_BLOCKS }
     {
-        self.count
+        self.kept.count()
     }
 
     /// A block with no bytes and 8,192 free ones: a kept one, which takes no memory, or a new one.
@@ -68,11 +61,7 @@ impl BlockPool {
         ensures kept { 0 < self.old → IsOk result }
         ensures count { self.new ≡ self.old - 1 }
     {
-        if let Some(block) = self.pop() {
-            return Ok(exact(block));
-        }
-        let block = BytesMut::with_capacity(self.alloc, BLOCK_BYTES)?;
-        Ok(exact(block))
+        self.kept.take()
     }
 
     /// Takes a block back that came free. It is kept while fewer than eight are, and dropped
@@ -81,10 +70,7 @@ impl BlockPool {
         requires { (block.items ≡ []) × (BLOCK_BYTES ≤ block.spare) }
         ensures { self.new ≡ min KEPT_BLOCKS (self.old + 1) }
     {
-        if self.count < KEPT_BLOCKS {
-            self.kept[self.count] = block;
-            self.count += 1;
-        }
+        self.kept.give_back(block);
     }
 
     /// Lets a reference to a block go. Where it was the last one the block came free, and is taken
@@ -93,38 +79,53 @@ impl BlockPool {
         ensures at_least { self.old ≤ self.new }
         ensures at_most { self.new ≤ min KEPT_BLOCKS (self.old + 1) }
     {
-        let _ = &self.count;
+        let _ = self.kept.count();
+        if !piece.is_unique() {
+            return;
+        }
         let Ok(mut block) = piece.try_into_mut() else {
             return;
         };
         block.clear();
         if block.capacity() >= BLOCK_BYTES {
-            self.give_back(block);
+            self.kept.give_back(block);
         }
     }
 
-    // The block that was kept last.
-    fn pop(&mut self) -> Option<BytesMut>
-        ensures variant { IsSome result ↔ (0 < self.old) }
-        ensures block { IfSome result (λ b. (b.items ≡ []) × (BLOCK_BYTES ≤ b.spare)) }
-        ensures count { self.new ≡ self.old - 1 }
+    /// Lends the memory to spell in, which holds anything. What is lent meanwhile is another.
+    pub fn lend_scratch(&mut self) -> Scratch
+        ensures { self.new ≡ self.old }
     {
-        if self.count == 0 {
-            return None;
-        }
-        self.count -= 1;
-        let empty = BytesMut::new(self.alloc);
-        Some(mem::replace(&mut self.kept[self.count], empty))
+        let empty = Scratch::new(self.alloc);
+        mem::replace(&mut self.scratch, empty)
     }
-}
 
-// Moves what is above 8,192 free bytes out of the block's range.
-fn exact(mut block: BytesMut) -> BytesMut
-    requires { (block.items ≡ []) × (BLOCK_BYTES ≤ block.spare) }
-    ensures { (result.items ≡ []) × (result.spare ≡ BLOCK_BYTES) }
-{
-    let above = block.capacity() - BLOCK_BYTES;
-    block.advance_mut(above);
-    block.advance(above);
-    block
+    /// Takes that memory back, unless it grew beyond a block.
+    pub fn keep_scratch(&mut self, scratch: Scratch)
+        ensures { self.new ≡ self.old }
+    {
+        if scratch.front.capacity() <= BLOCK_BYTES {
+            self.scratch = scratch;
+        }
+    }
+
+    /// How many bytes the rest of the last block takes.
+    pub fn left(&self) -> usize
+        ensures { result ≤ BLOCK_BYTES }
+    {
+        self.room.left()
+    }
+
+    /// Copies the bytes behind those that were written last, where the rest of that block takes
+    /// them, and into a whole block otherwise; returns a reference to them.
+    pub fn write(&mut self, bytes: &[u8]) -> Result<Bytes, NoMemory>
+        requires { length bytes.now ≤ BLOCK_BYTES }
+        ensures ok { IfOk result (λ piece. piece ≡ bytes.now) }
+        ensures kept { self.new ≤ self.old }
+    {
+        if self.room.left() < bytes.len() {
+            self.room.renew(&mut self.kept)?;
+        }
+        self.room.write(bytes)
+    }
 }

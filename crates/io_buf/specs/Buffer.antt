@@ -37,6 +37,10 @@ piece_at b place = take (slice_index b.sizes place) (drop (sum (take place b.siz
 abbrev pub IsPiece : List ℕ → Type 0
 IsPiece piece = (0 < length piece) × (length piece ≤ BLOCK_BYTES)
 
+-- how many bytes one reference may have
+abbrev pub IsSize : ℕ → Type 0
+IsSize n = (0 < n) × (n ≤ BLOCK_BYTES)
+
 -- new is old with the piece at its end, which took one of the spare references
 pub record AddsPiece (old new : Buffer) (piece : List ℕ) : Type 0 where
   pub items : new.items ≡ old.items ++ piece

@@ -1,3 +1,4 @@
 pub mod Buffer
 pub mod Fault
+pub mod Refs
 pub mod Inside

@@ -1,10 +1,9 @@
-ghost use Rattle.std.specs.Prelude.{◌≡◌, ◌<◌, ◌≤◌, ◌==◌, [], length, sum, slice_index, take, IsOk, OnOk, OnErr};
+ghost use Rattle.std.specs.Prelude.{◌≡◌, ◌<◌, ◌≤◌, ◌==◌, [], length, sum, slice_index, take, All, IsOk, OnOk, OnErr};
 
-use crate::room::Room;
+use crate::refs::Refs;
 use bytes::Bytes;
 use io_block::{BLOCK_BYTES, NoMemory};
 use std::alloc::Global;
-use std::collections::VecDeque;
 use std::marker::Model;
 
 mod append;
@@ -20,12 +19,11 @@ const MOST_REFS: usize = 1_125_899_906_842_624;
 /// be added without memory. Which blocks they lie in is seen nowhere.
 ///
 /// Whether a block came free shows only as its last reference is given up. So blocks go back to a
-/// pool through the calls that are handed one, `append_bytes`, `recycle_front` and `recycle`, and
-/// `pop_front`, `pop_back` and a drop free them.
+/// pool through the calls that are handed one, `recycle_front` and `recycle`, and `pop_front`,
+/// `pop_back` and a drop free them.
 #[derive(Drop)]
 pub struct IoBuf {
-    pieces: VecDeque<Bytes>,
-    room: Room,
+    pieces: Refs,
     len: usize,
     alloc: Global,
 }
@@ -45,20 +43,16 @@ impl Model for IoBuf {
 }
 
 impl IoBuf {
-    ghost use Rattle.io_buf.specs.Buffer.{piece_at, IsPiece, AddsPiece};
+    ghost use Rattle.io_buf.specs.Buffer.{piece_at, IsPiece, IsSize, AddsPiece};
 
-    /// An empty buffer. It takes no memory.
+    /// An empty buffer. It takes no memory, nor do two references.
     pub fn new(alloc: Global) -> IoBuf
         ensures items { result.items ≡ [] }
         ensures sizes { result.sizes ≡ [] }
-        ensures spare { result.spare ≡ 0 }
+        ensures spare { result.spare ≡ 2 }
     {
-        let Ok(pieces) = VecDeque::with_capacity(alloc, 0) else {
-            unreachable!()
-        };
         IoBuf {
-            pieces,
-            room: Room::none(alloc),
+            pieces: Refs::new(alloc),
             len: 0,
             alloc,
         }
@@ -82,6 +76,7 @@ impl IoBuf {
     pub fn refs(&self) -> usize
         ensures value { result ≡ length self.now.sizes }
         ensures total { sum self.now.sizes ≡ length self.now.items }
+        ensures each { All IsSize self.now.sizes }
     {
         self.pieces.len()
     }
@@ -94,7 +89,7 @@ impl IoBuf {
         ensures some { 0 < length result.now }
         ensures at_most { length result.now ≤ BLOCK_BYTES }
     {
-        self.pieces[0].as_slice()
+        self.pieces.get(0).as_slice()
     }
 
     /// The bytes of the reference at this place.
@@ -105,7 +100,7 @@ impl IoBuf {
         ensures some { 0 < length result.now }
         ensures at_most { length result.now ≤ BLOCK_BYTES }
     {
-        self.pieces[place].as_slice()
+        self.pieces.get(place).as_slice()
     }
 
     /// Makes room for n references, so that adding them takes no memory.

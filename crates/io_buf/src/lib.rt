@@ -4,7 +4,7 @@
 
 mod buf;
 mod fault;
-mod room;
+mod refs;
 #[cfg(test)]
 mod tests;
 

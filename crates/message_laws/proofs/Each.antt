@@ -1,5 +1,5 @@
--- Each tick is one event of the plain model of messages, or none.
-use Rattle.std.proofs.Common.{◌≡◌, ◌≢◌, ℕ, suc, ◌+◌, ◌%◌, ◌<◌, ◌⊎◌, inl, inr, ⊎_elim, eqb, ltb, not, cond, Bool, true, false, eq-eqb, List, [], ◌∷◌, ◌++◌, length, take, set, slice_index, sym, refl, ap, ◌∙◌, subst, arith}
+-- Each step, move and put is one event of the plain model of messages, or none.
+use Rattle.std.proofs.Common.{◌≡◌, ◌≢◌, ℕ, suc, ◌+◌, ◌%◌, ◌<◌, ◌⊎◌, inl, inr, ⊎_elim, eqb, ltb, not, cond, Bool, true, false, eq-eqb, List, [], ◌∷◌, ◌++◌, length, take, set, slice_index, sym, refl, ap, ◌∙◌, subst, ne_eqb, arith}
 use Rattle.std.proofs.Math.Seq.{take-length}
 use Rattle.std.specs.List.{filter}
 use mathlib.Core.Logic.{dite}
@@ -22,19 +22,17 @@ use Rattle.sock_model.specs.Layout.{head_word, request_word}
 use Rattle.sock_model.specs.Memory.{IDLE}
 use Rattle.sock_steps.proofs.WriteSteps.{writes_in}
 use Rattle.sock_programs.specs.Calls.{Call, ClaimSlot, GiveBirth, AddRef, SubRef, SetOdd, Recycle, FreeSlot, StoreLink, LoadLink, ResetHead, WipeCode, StoreCode, StoreName, LoadName, StoreOpen, LoadOpen, TakeLink, FinishLink, PutLink, LookWord, FindLink, LoadCode, ClaimRequest, PutMessage, Unconnect, SwapHead, Connect, EmptyHead, ReadNext, TurnNext, FreeRequest, StorePlace, DropPlace}
-use Rattle.sock_programs.specs.Cores.{Core, word_of, word_after, found_at, words_after, homes_after, link_place, with_seat, stepped, lies_at, others_of, first_of}
-use Rattle.sock_programs.specs.Ticks.{Moment, IsAnswered, AreAnswered, FitsPut, ticked, run, onto_first, with_places, fed}
+use Rattle.sock_programs.specs.Cores.{Core, word_of, word_after, found_at, words_after, homes_after, link_place}
+use Rattle.sock_programs.specs.Ticks.{FitsPut}
 use Rattle.sock_runs.specs.Rows.{row, hand_at, by_right, looked_clean, emptied, took_message, link_away, link_home_again, took_bytes}
 use Rattle.sock_model.specs.SlotRows.{looked}
 use Rattle.sock_runs.specs.May.{May}
-use Rattle.sock_runs.specs.Sound.{Sound, AreInHand, AreHeld, state, views_after, views_along}
+use Rattle.sock_runs.specs.Sound.{AreInHand, AreHeld, state}
 use Rattle.sock_runs.specs.Writes.{MayTakeMessage, Writes, MayPut}
-use Rattle.sock_runs.proofs.Cases.{tick_keeps}
 use Rattle.sock_runs.proofs.ChainTicks.{free_inside}
 use Rattle.sock_runs.proofs.Held.{held_in_hand}
-use Rattle.sock_runs.proofs.Rounds.{begins_round}
-use Rattle.sock_runs.proofs.Ticks.{sound_ticks}
-use Rattle.message_laws.specs.Messages.{Event, Nothing, Claim, Accept, Take, Place, Dropped, Free, Becomes, Leads}
+use Rattle.message_laws.specs.Messages.{Event, Nothing, Claim, Take, Place, Dropped, Becomes}
+use Rattle.message_laws.specs.Events.{accept_event, event_of, put_event}
 use Rattle.message_laws.specs.Standing.{Stand, taken_of, of_right, stand, messages}
 use Rattle.message_laws.proofs.Orders.{order_is, accepted_same, accepted_more, accept_may, lists_stay, message_lists, away_lists, home_lists, bytes_lists}
 use Rattle.message_laws.proofs.Words.{on_request, requests_after, claims_even, claims_odd, frees_at}
@@ -44,26 +42,24 @@ use Rattle.message_laws.proofs.Carried.{stand_takes}
 use Rattle.message_laws.proofs.Home.{stand_puts}
 use Rattle.message_laws.proofs.Swaps.{entry, after, swap_row, swap_lists, swap_stand}
 
-abbrev pub IsEvent : Plan → Core → List View → Core → List View → Type 0
-IsEvent p c views c' views' = (event : Event) × Becomes p (messages p c views) event (messages p c' views')
+abbrev pub IsEvent : Plan → Core → List View → Event → Core → List View → Type 0
+IsEvent p c views event c' views' = Becomes p (messages p c views) event (messages p c' views')
 
-no_event : (p : Plan) (c : Core) (views : List View) → IsEvent p c views c views
-no_event p c views = (Nothing, record { may = tt; accepted = λ d. ((λ h. h), (λ h. h)); placed = λ k kl. refl; took = λ k kl. refl; request = λ r rl. refl })
+-- where nothing changes
+pub no_event : (p : Plan) (c : Core) (views : List View) → IsEvent p c views Nothing c views
+no_event p c views = record { may = tt; accepted = λ d. ((λ h. h), (λ h. h)); placed = λ k kl. refl; took = λ k kl. refl; request = λ r rl. refl }
 
 module _ (p : Plan) (c : Core) (views : List View) (o : Lawful (λ (home : Home). home) p (state c views)) (i : ℕ) (v : View) (at : get_elem? views i ≡ some v) where
   module _ (c' : Core) (w : View) (lists : w.lists ≡ v.lists) where
     -- neither a message, nor a place, nor a byte, nor a request
-    nothing : ((k : ℕ) → stand p c' (set views i w) k ≡ stand p c views k) → ((r : ℕ) → r < p.requests → slice_index c'.words (request_word p r) ≡ slice_index c.words (request_word p r)) → IsEvent p c views c' (set views i w)
-    nothing stands requests = (
-      Nothing,
-      record {
-        may = tt;
-        accepted = accepted_same p c views o i v at w lists;
-        placed = λ k kl. ap (λ (s : Stand). s.placed) (stands k);
-        took = λ k kl. ap (λ (s : Stand). s.took) (stands k);
-        request = requests;
-      },
-    )
+    nothing : ((k : ℕ) → stand p c' (set views i w) k ≡ stand p c views k) → ((r : ℕ) → r < p.requests → slice_index c'.words (request_word p r) ≡ slice_index c.words (request_word p r)) → IsEvent p c views Nothing c' (set views i w)
+    nothing stands requests = record {
+      may = tt;
+      accepted = accepted_same p c views o i v at w lists;
+      placed = λ k kl. ap (λ (s : Stand). s.placed) (stands k);
+      took = λ k kl. ap (λ (s : Stand). s.took) (stands k);
+      request = requests;
+    }
 
   -- ## Steps on words
 
@@ -78,43 +74,39 @@ module _ (p : Plan) (c : Core) (views : List View) (o : Lawful (λ (home : Home)
     Behind call = (c'.words ≡ words_after c.words (word_of p call) (word_after call (found call))) × (c'.homes ≡ homes_after p call in_hand c.homes)
 
     abbrev IsStep : Call → Type 0
-    IsStep call = IsEvent p c views c' (set views i (row p call (found call) (hand call) v))
+    IsStep call = IsEvent p c views (event_of call (found call) v) c' (set views i (row p call (found call) (hand call) v))
 
     requests_of : (call : Call) → Behind call → May p v call → on_request call ≡ false → (r : ℕ) → r < p.requests → slice_index c'.words (request_word p r) ≡ slice_index c.words (request_word p r)
     requests_of call b may is r rl = ap (λ l. slice_index l (request_word p r)) b.0 ∙ requests_after p c.words r rl v call (found call) may is
 
     -- a step that leaves each link
-    leaves : (call : Call) → Behind call → May p v call → leaves_links call ≡ true → on_request call ≡ false → ((j own : ℕ) → call ≡ SwapHead j own → ⊥) → IsStep call
-    leaves call b may links word other = nothing c' (row p call (found call) (hand call) v) (lists_stay p call (found call) (hand call) v other)
-        (stand_stays p c c' views i v at call (found call) (hand call) in_hand may links b.1) (requests_of call b may word)
+    leaves : (call : Call) → event_of call (found call) v ≡ Nothing → Behind call → May p v call → leaves_links call ≡ true → on_request call ≡ false → ((j own : ℕ) → call ≡ SwapHead j own → ⊥) → IsStep call
+    leaves call none_ b may links word other = subst (λ e. IsEvent p c views e c' (set views i (row p call (found call) (hand call) v))) (sym none_) (nothing c' (row p call (found call) (hand call) v) (lists_stay p call (found call) (hand call) v other)
+        (stand_stays p c c' views i v at call (found call) (hand call) in_hand may links b.1) (requests_of call b may word))
 
     claims : (id q : ℕ) → Behind (ClaimRequest id q) → May p v (ClaimRequest id q) → IsStep (ClaimRequest id q)
     claims id q b may = let call : Call = ClaimRequest id q in let lists = lists_stay p (ClaimRequest id q) (found (ClaimRequest id q)) (hand (ClaimRequest id q)) v (λ j own e. let f : ClaimRequest id q ≡ SwapHead j own = e in cc) in
         let stands = stand_stays p c c' views i v at (ClaimRequest id q) (found (ClaimRequest id q)) (hand (ClaimRequest id q)) in_hand may refl b.1 in dite (ℕ_discrete (slice_index c.words (request_word p q) % 2) 0)
-        (λ even. (
-          Claim q,
-          record {
-            may = claim_may p c views q even;
-            accepted = accepted_same p c views o i v at (row p (ClaimRequest id q) (found (ClaimRequest id q)) (hand (ClaimRequest id q)) v) lists;
-            placed = λ k kl. ap (λ (s : Stand). s.placed) (stands k);
-            took = λ k kl. ap (λ (s : Stand). s.took) (stands k);
-            request = λ r rl. subst (λ l. ((r ≡ q) × (slice_index l (request_word p r) ≡ suc (slice_index c.words (request_word p q)))) ⊎ ((r ≢ q) × (slice_index l (request_word p r) ≡ slice_index c.words (request_word p r)))) (sym b.0) (claims_even p c.words o.references.sized q may.0 id even r);
-          },
-        ))
-        (λ odd. nothing c' (row p (ClaimRequest id q) (found (ClaimRequest id q)) (hand (ClaimRequest id q)) v) lists stands (λ r rl. ap (λ l. slice_index l (request_word p r)) b.0 ∙ claims_odd p c.words o.references.sized q may.0 id odd r))
+        (λ even. subst (λ (e : Event). IsEvent p c views e c' (set views i (row p (ClaimRequest id q) (found (ClaimRequest id q)) (hand (ClaimRequest id q)) v))) (sym (ap (λ b. cond b (Claim q) Nothing) (eq-eqb (slice_index c.words (request_word p q) % 2) 0 even))) record {
+          may = claim_may p c views q even;
+          accepted = accepted_same p c views o i v at (row p (ClaimRequest id q) (found (ClaimRequest id q)) (hand (ClaimRequest id q)) v) lists;
+          placed = λ k kl. ap (λ (s : Stand). s.placed) (stands k);
+          took = λ k kl. ap (λ (s : Stand). s.took) (stands k);
+          request = λ r rl. subst (λ l. ((r ≡ q) × (slice_index l (request_word p r) ≡ suc (slice_index c.words (request_word p q)))) ⊎ ((r ≢ q) × (slice_index l (request_word p r) ≡ slice_index c.words (request_word p r)))) (sym b.0) (claims_even p c.words o.references.sized q may.0 id even r);
+        })
+        (λ odd. subst (λ (e : Event). IsEvent p c views e c' (set views i (row p (ClaimRequest id q) (found (ClaimRequest id q)) (hand (ClaimRequest id q)) v))) (sym (ap (λ b. cond b (Claim q) Nothing) (ne_eqb (slice_index c.words (request_word p q) % 2) 0 odd)))
+        (nothing c' (row p (ClaimRequest id q) (found (ClaimRequest id q)) (hand (ClaimRequest id q)) v) lists stands (λ r rl. ap (λ l. slice_index l (request_word p r)) b.0 ∙ claims_odd p c.words o.references.sized q may.0 id odd r)))
 
     swaps : (j own : ℕ) → Behind (SwapHead j own) → May p v (SwapHead j own) → IsStep (SwapHead j own)
     swaps j own b may = let x = may.1.0 in let in_head : Bool = ltb (slice_index c.words (head_word j)) IDLE in
-        subst (λ (w : View). IsEvent p c views c' (set views i w)) (sym (swap_row p c views o i v at j own x)) (
-          Accept (entry p c views o i v at j own x in_head),
-          record {
-            may = accept_may p c views o i v at j own may.0 x;
-            accepted = accepted_more p c views o i v at (after p c views o i v at j own x in_head) (entry p c views o i v at j own x in_head) x.made x.taken_in x.lists (swap_lists p c views o i v at j own x in_head);
-            placed = λ k kl. ap (λ (s : Stand). s.placed) (swap_stand p c views o i v at j own x c' b.1 k);
-            took = λ k kl. ap (λ (s : Stand). s.took) (swap_stand p c views o i v at j own x c' b.1 k);
-            request = requests_of (SwapHead j own) b may refl;
-          },
-        )
+        subst (λ (w : View). IsEvent p c views (event_of (SwapHead j own) (found (SwapHead j own)) v) c' (set views i w)) (sym (swap_row p c views o i v at j own x))
+        (subst (λ (e : Event). IsEvent p c views e c' (set views i (after p c views o i v at j own x (ltb (slice_index c.words (head_word j)) IDLE)))) (sym (ap (accept_event (slice_index c.words (head_word j))) x.claims)) record {
+          may = accept_may p c views o i v at j own may.0 x;
+          accepted = accepted_more p c views o i v at (after p c views o i v at j own x in_head) (entry p c views o i v at j own x in_head) x.made x.taken_in x.lists (swap_lists p c views o i v at j own x in_head);
+          placed = λ k kl. ap (λ (s : Stand). s.placed) (swap_stand p c views o i v at j own x c' b.1 k);
+          took = λ k kl. ap (λ (s : Stand). s.took) (swap_stand p c views o i v at j own x c' b.1 k);
+          request = requests_of (SwapHead j own) b may refl;
+        })
 
     looks : (id : ℕ) → Behind (LookWord id) → May p v (LookWord id) → IsStep (LookWord id)
     looks id b may = let call : Call = LookWord id in let lists = lists_stay p (LookWord id) (found (LookWord id)) (hand (LookWord id)) v (λ j own e. let f : LookWord id ≡ SwapHead j own = e in cc) in
@@ -130,10 +122,10 @@ module _ (p : Plan) (c : Core) (views : List View) (o : Lawful (λ (home : Home)
     other_step call other = lists_stay p call (found call) (hand call) v other
 
     -- a step that leaves what the right tells
-    keeps_right : (call : Call) → Behind call → May p v call → on_request call ≡ false → homes_after p call in_hand c.homes ≡ c.homes → ((j own : ℕ) → call ≡ SwapHead j own → ⊥) → (r : Right) (one : v.rights ≡ r ∷ [])
+    keeps_right : (call : Call) → event_of call (found call) v ≡ Nothing → Behind call → May p v call → on_request call ≡ false → homes_after p call in_hand c.homes ≡ c.homes → ((j own : ℕ) → call ≡ SwapHead j own → ⊥) → (r : Right) (one : v.rights ≡ r ∷ [])
         → Keeps p c views o i v at r one (row p call (found call) (hand call) v) (of_right r) → IsStep call
-    keeps_right call b may word homes other r one k = nothing c' (row p call (found call) (hand call) v) (other_step call other)
-        (kept p c views o i v at r one c' (row p call (found call) (hand call) v) k (same_homes p c c' r.link (b.1 ∙ homes))) (requests_of call b may word)
+    keeps_right call none_ b may word homes other r one k = subst (λ e. IsEvent p c views e c' (set views i (row p call (found call) (hand call) v))) (sym none_) (nothing c' (row p call (found call) (hand call) v) (other_step call other)
+        (kept p c views o i v at r one c' (row p call (found call) (hand call) v) k (same_homes p c c' r.link (b.1 ∙ homes))) (requests_of call b may word))
 
     empties : (j last : ℕ) → Behind (EmptyHead j last) → May p v (EmptyHead j last) → IsStep (EmptyHead j last)
     empties j last b may = let x = may.1.0 in let r : Right = x.mine.right in let one = may.1.1 in let requests = requests_of (EmptyHead j last) b may refl in
@@ -151,26 +143,23 @@ module _ (p : Plan) (c : Core) (views : List View) (o : Lawful (λ (home : Home)
             (keeps_with p c views o i v at r one v (walking_right r (found (EmptyHead j last))) (of_right r) one refl refl refl) (same_homes p c c' r.link homes) k
 
     reads : (q : ℕ) → Behind (ReadNext q) → May p v (ReadNext q) → IsStep (ReadNext q)
-    reads q b may = keeps_right (ReadNext q) b may refl refl (λ j own e. let f : ReadNext q ≡ SwapHead j own = e in cc) may.0 may.1
+    reads q b may = keeps_right (ReadNext q) refl b may refl refl (λ j own e. let f : ReadNext q ≡ SwapHead j own = e in cc) may.0 may.1
         (reads_keeps p c views o i v at may.0 may.1 q (found (ReadNext q)) (hand (ReadNext q)) (⊎_elim (λ a. inl (a.0, a.1)) (λ a. inr (a.0, a.1, a.2, a.3)) may.2))
 
     turns : (q value : ℕ) → Behind (TurnNext q value) → May p v (TurnNext q value) → IsStep (TurnNext q value)
-    turns q value b may = let x = may.0 in keeps_right (TurnNext q value) b may refl refl (λ j own e. let f : TurnNext q value ≡ SwapHead j own = e in cc) x.mine.right may.1
+    turns q value b may = let x = may.0 in keeps_right (TurnNext q value) refl b may refl refl (λ j own e. let f : TurnNext q value ≡ SwapHead j own = e in cc) x.mine.right may.1
         (turns_keeps p c views o i v at x.mine.right may.1 q value (found (TurnNext q value)) x.top x.at x.before (hand (TurnNext q value)) x.stage)
 
     frees : (q g : ℕ) → q < p.requests → Behind (FreeRequest q g) → May p v (FreeRequest q g) → IsStep (FreeRequest q g)
     frees q g inside b may = let r : Right = may.4.0 in let one = may.4.1 in
-        let stands = kept p c views o i v at may.4.0 one c' (row p (FreeRequest q g) (found (FreeRequest q g)) (hand (FreeRequest q g)) v) (frees_keeps p c views o i v at may.4.0 one q g (found (FreeRequest q g)) (hand (FreeRequest q g))) (same_homes p c c' may.4.0.link b.1) in (
-          Free q,
-          record {
-            may = free_may p c views o i v at (λ k. order_is p c views o i v at k) q g may;
-            accepted = accepted_same p c views o i v at (row p (FreeRequest q g) (found (FreeRequest q g)) (hand (FreeRequest q g)) v) (other_step (FreeRequest q g) (λ j own e. let f : FreeRequest q g ≡ SwapHead j own = e in cc));
-            placed = λ k kl. ap (λ (s : Stand). s.placed) (stands k);
-            took = λ k kl. ap (λ (s : Stand). s.took) (stands k);
-            request = λ r rl. subst (λ l. ((r ≡ q) × (slice_index l (request_word p r) ≡ suc (slice_index c.words (request_word p q)))) ⊎ ((r ≢ q) × (slice_index l (request_word p r) ≡ slice_index c.words (request_word p r)))) (sym b.0)
-                (frees_at p c.words o.references.sized q inside g (free_word p c views o i v at q g may) r);
-          },
-        )
+        let stands = kept p c views o i v at may.4.0 one c' (row p (FreeRequest q g) (found (FreeRequest q g)) (hand (FreeRequest q g)) v) (frees_keeps p c views o i v at may.4.0 one q g (found (FreeRequest q g)) (hand (FreeRequest q g))) (same_homes p c c' may.4.0.link b.1) in record {
+          may = free_may p c views o i v at (λ k. order_is p c views o i v at k) q g may;
+          accepted = accepted_same p c views o i v at (row p (FreeRequest q g) (found (FreeRequest q g)) (hand (FreeRequest q g)) v) (other_step (FreeRequest q g) (λ j own e. let f : FreeRequest q g ≡ SwapHead j own = e in cc));
+          placed = λ k kl. ap (λ (s : Stand). s.placed) (stands k);
+          took = λ k kl. ap (λ (s : Stand). s.took) (stands k);
+          request = λ r rl. subst (λ l. ((r ≡ q) × (slice_index l (request_word p r) ≡ suc (slice_index c.words (request_word p q)))) ⊎ ((r ≢ q) × (slice_index l (request_word p r) ≡ slice_index c.words (request_word p r)))) (sym b.0)
+              (frees_at p c.words o.references.sized q inside g (free_word p c views o i v at q g may) r);
+        }
 
     -- one more message has its place
     module _ (r : Right) (one : v.rights ≡ r ∷ []) (w : View) (t : List ℕ) (k : Keeps p c views o i v at r one w (record { placed = suc r.places; took = t })) (same : t ≡ taken_of r) (homes : SameHomes p c c' r.link) where
@@ -198,30 +187,26 @@ module _ (p : Plan) (c : Core) (views : List View) (o : Lawful (λ (home : Home)
     places : (l k n : ℕ) → Behind (StorePlace l k n) → May p v (StorePlace l k n) → IsStep (StorePlace l k n)
     places l k n b may = let x = may.0 in let r : Right = x.mine.right in let one = may.1 in let w : View = row p (StorePlace l k n) (found (StorePlace l k n)) (hand (StorePlace l k n)) v in
         let makes = places_makes p c views o i v at x.mine.right one l k n (found (StorePlace l k n)) x.now (hand (StorePlace l k n)) x.stage in
-        let same = whole_taken x.mine.right x.taken may.5 in let homes = same_homes p c c' x.mine.right.link b.1 in (
-          Place x.mine.right.link,
-          record {
-            may = place_may p c views o i v at x.mine.right one (λ k. order_is p c views o i v at k) x.now x.stage x.taken x.is_clean may.5;
-            accepted = accepted_same p c views o i v at (row p (StorePlace l k n) (found (StorePlace l k n)) (hand (StorePlace l k n)) v) (other_step (StorePlace l k n) (λ j own e. let f : StorePlace l k n ≡ SwapHead j own = e in cc));
-            placed = λ j jl. more_placed x.mine.right one (row p (StorePlace l k n) (found (StorePlace l k n)) (hand (StorePlace l k n)) v) (x.mine.right.sent ++ x.mine.right.bytes) makes same homes j;
-            took = λ j jl. as_taken x.mine.right one (row p (StorePlace l k n) (found (StorePlace l k n)) (hand (StorePlace l k n)) v) (x.mine.right.sent ++ x.mine.right.bytes) makes same homes j;
-            request = requests_of (StorePlace l k n) b may refl;
-          },
-        )
+        let same = whole_taken x.mine.right x.taken may.5 in let homes = same_homes p c c' x.mine.right.link b.1 in
+        subst (λ (z : ℕ). IsEvent p c views (Place z) c' (set views i (row p (StorePlace l k n) (found (StorePlace l k n)) (hand (StorePlace l k n)) v))) (sym may.3) record {
+          may = place_may p c views o i v at x.mine.right one (λ k. order_is p c views o i v at k) x.now x.stage x.taken x.is_clean may.5;
+          accepted = accepted_same p c views o i v at (row p (StorePlace l k n) (found (StorePlace l k n)) (hand (StorePlace l k n)) v) (other_step (StorePlace l k n) (λ j own e. let f : StorePlace l k n ≡ SwapHead j own = e in cc));
+          placed = λ j jl. more_placed x.mine.right one (row p (StorePlace l k n) (found (StorePlace l k n)) (hand (StorePlace l k n)) v) (x.mine.right.sent ++ x.mine.right.bytes) makes same homes j;
+          took = λ j jl. as_taken x.mine.right one (row p (StorePlace l k n) (found (StorePlace l k n)) (hand (StorePlace l k n)) v) (x.mine.right.sent ++ x.mine.right.bytes) makes same homes j;
+          request = requests_of (StorePlace l k n) b may refl;
+        }
 
     drops : (l k n : ℕ) → Behind (DropPlace l k n) → May p v (DropPlace l k n) → IsStep (DropPlace l k n)
     drops l k n b may = let x = may.0 in let one = may.1 in let makes = drops_makes p c views o i v at x.mine.right one l k n (found (DropPlace l k n)) x.now (hand (DropPlace l k n)) x.stage in
         let same : x.mine.right.sent ++ take x.mine.right.put x.mine.right.bytes ≡ taken_of x.mine.right = sym (ap (λ b. cond b (x.mine.right.sent ++ take x.mine.right.put x.mine.right.bytes) x.mine.right.sent) x.taken) in
-        let homes = same_homes p c c' x.mine.right.link b.1 in let orders = λ (k : ℕ). order_is p c views o i v at k in (
-          Dropped x.mine.right.link,
-          record {
-            may = drop_may p c views o i v at x.mine.right one orders x.now x.stage x.taken (dropped_part p c views o i v at x.mine.right one orders x.now x.stage x.sent x.taken may.5 x.part);
-            accepted = accepted_same p c views o i v at (row p (DropPlace l k n) (found (DropPlace l k n)) (hand (DropPlace l k n)) v) (other_step (DropPlace l k n) (λ j own e. let f : DropPlace l k n ≡ SwapHead j own = e in cc));
-            placed = λ j jl. more_placed x.mine.right one (row p (DropPlace l k n) (found (DropPlace l k n)) (hand (DropPlace l k n)) v) (x.mine.right.sent ++ take x.mine.right.put x.mine.right.bytes) makes same homes j;
-            took = λ j jl. as_taken x.mine.right one (row p (DropPlace l k n) (found (DropPlace l k n)) (hand (DropPlace l k n)) v) (x.mine.right.sent ++ take x.mine.right.put x.mine.right.bytes) makes same homes j;
-            request = requests_of (DropPlace l k n) b may refl;
-          },
-        )
+        let homes = same_homes p c c' x.mine.right.link b.1 in let orders = λ (k : ℕ). order_is p c views o i v at k in
+        subst (λ (z : ℕ). IsEvent p c views (Dropped z) c' (set views i (row p (DropPlace l k n) (found (DropPlace l k n)) (hand (DropPlace l k n)) v))) (sym may.3) record {
+          may = drop_may p c views o i v at x.mine.right one orders x.now x.stage x.taken (dropped_part p c views o i v at x.mine.right one orders x.now x.stage x.sent x.taken may.5 x.part);
+          accepted = accepted_same p c views o i v at (row p (DropPlace l k n) (found (DropPlace l k n)) (hand (DropPlace l k n)) v) (other_step (DropPlace l k n) (λ j own e. let f : DropPlace l k n ≡ SwapHead j own = e in cc));
+          placed = λ j jl. more_placed x.mine.right one (row p (DropPlace l k n) (found (DropPlace l k n)) (hand (DropPlace l k n)) v) (x.mine.right.sent ++ take x.mine.right.put x.mine.right.bytes) makes same homes j;
+          took = λ j jl. as_taken x.mine.right one (row p (DropPlace l k n) (found (DropPlace l k n)) (hand (DropPlace l k n)) v) (x.mine.right.sent ++ take x.mine.right.put x.mine.right.bytes) makes same homes j;
+          request = requests_of (DropPlace l k n) b may refl;
+        }
 
     takes_link : (k : ℕ) → Behind (TakeLink k) → May p v (TakeLink k) → IsStep (TakeLink k)
     takes_link k b may = nothing c' (row p (TakeLink k) (found (TakeLink k)) (hand (TakeLink k)) v) (other_step (TakeLink k) (λ j own e. let f : TakeLink k ≡ SwapHead j own = e in cc))
@@ -232,34 +217,34 @@ module _ (p : Plan) (c : Core) (views : List View) (o : Lawful (λ (home : Home)
         (stand_puts p c views o i v at k in_hand are may.1 c' b.1 (omega (arith, sized, k_in))) (requests_of (PutLink k) b may refl)
 
     -- each step is one event or none
-    each_call : (call : Call) → AreHeld in_hand v.rights v.hands → length c.homes ≡ p.requests + p.links → Behind call → May p v call → IsStep call
-    each_call (ClaimSlot j) held sized b may = leaves (ClaimSlot j) b may refl refl (λ j' own e. let f : ClaimSlot j ≡ SwapHead j' own = e in cc)
-    each_call (GiveBirth j k) held sized b may = leaves (GiveBirth j k) b may refl refl (λ j' own e. let f : GiveBirth j k ≡ SwapHead j' own = e in cc)
-    each_call (AddRef id) held sized b may = leaves (AddRef id) b may refl refl (λ j' own e. let f : AddRef id ≡ SwapHead j' own = e in cc)
-    each_call (SubRef j) held sized b may = leaves (SubRef j) b may refl refl (λ j' own e. let f : SubRef j ≡ SwapHead j' own = e in cc)
-    each_call (SetOdd j) held sized b may = leaves (SetOdd j) b may refl refl (λ j' own e. let f : SetOdd j ≡ SwapHead j' own = e in cc)
-    each_call (Recycle j from) held sized b may = leaves (Recycle j from) b may refl refl (λ j' own e. let f : Recycle j from ≡ SwapHead j' own = e in cc)
-    each_call (FreeSlot j) held sized b may = leaves (FreeSlot j) b may refl refl (λ j' own e. let f : FreeSlot j ≡ SwapHead j' own = e in cc)
-    each_call (StoreLink j k) held sized b may = leaves (StoreLink j k) b may refl refl (λ j' own e. let f : StoreLink j k ≡ SwapHead j' own = e in cc)
-    each_call (LoadLink j x) held sized b may = leaves (LoadLink j x) b may refl refl (λ j' own e. let f : LoadLink j x ≡ SwapHead j' own = e in cc)
-    each_call (ResetHead j k) held sized b may = leaves (ResetHead j k) b may refl refl (λ j' own e. let f : ResetHead j k ≡ SwapHead j' own = e in cc)
-    each_call (WipeCode j k) held sized b may = leaves (WipeCode j k) b may refl refl (λ j' own e. let f : WipeCode j k ≡ SwapHead j' own = e in cc)
-    each_call (StoreCode j h d) held sized b may = leaves (StoreCode j h d) b may refl refl (λ j' own e. let f : StoreCode j h d ≡ SwapHead j' own = e in cc)
-    each_call (StoreName n x) held sized b may = leaves (StoreName n x) b may refl refl (λ j' own e. let f : StoreName n x ≡ SwapHead j' own = e in cc)
-    each_call (LoadName n) held sized b may = leaves (LoadName n) b may refl refl (λ j' own e. let f : LoadName n ≡ SwapHead j' own = e in cc)
-    each_call (StoreOpen n x) held sized b may = leaves (StoreOpen n x) b may refl refl (λ j' own e. let f : StoreOpen n x ≡ SwapHead j' own = e in cc)
-    each_call (LoadOpen n) held sized b may = leaves (LoadOpen n) b may refl refl (λ j' own e. let f : LoadOpen n ≡ SwapHead j' own = e in cc)
+    pub each_call : (call : Call) → AreHeld in_hand v.rights v.hands → length c.homes ≡ p.requests + p.links → Behind call → May p v call → IsStep call
+    each_call (ClaimSlot j) held sized b may = leaves (ClaimSlot j) refl b may refl refl (λ j' own e. let f : ClaimSlot j ≡ SwapHead j' own = e in cc)
+    each_call (GiveBirth j k) held sized b may = leaves (GiveBirth j k) refl b may refl refl (λ j' own e. let f : GiveBirth j k ≡ SwapHead j' own = e in cc)
+    each_call (AddRef id) held sized b may = leaves (AddRef id) refl b may refl refl (λ j' own e. let f : AddRef id ≡ SwapHead j' own = e in cc)
+    each_call (SubRef j) held sized b may = leaves (SubRef j) refl b may refl refl (λ j' own e. let f : SubRef j ≡ SwapHead j' own = e in cc)
+    each_call (SetOdd j) held sized b may = leaves (SetOdd j) refl b may refl refl (λ j' own e. let f : SetOdd j ≡ SwapHead j' own = e in cc)
+    each_call (Recycle j from) held sized b may = leaves (Recycle j from) refl b may refl refl (λ j' own e. let f : Recycle j from ≡ SwapHead j' own = e in cc)
+    each_call (FreeSlot j) held sized b may = leaves (FreeSlot j) refl b may refl refl (λ j' own e. let f : FreeSlot j ≡ SwapHead j' own = e in cc)
+    each_call (StoreLink j k) held sized b may = leaves (StoreLink j k) refl b may refl refl (λ j' own e. let f : StoreLink j k ≡ SwapHead j' own = e in cc)
+    each_call (LoadLink j x) held sized b may = leaves (LoadLink j x) refl b may refl refl (λ j' own e. let f : LoadLink j x ≡ SwapHead j' own = e in cc)
+    each_call (ResetHead j k) held sized b may = leaves (ResetHead j k) refl b may refl refl (λ j' own e. let f : ResetHead j k ≡ SwapHead j' own = e in cc)
+    each_call (WipeCode j k) held sized b may = leaves (WipeCode j k) refl b may refl refl (λ j' own e. let f : WipeCode j k ≡ SwapHead j' own = e in cc)
+    each_call (StoreCode j h d) held sized b may = leaves (StoreCode j h d) refl b may refl refl (λ j' own e. let f : StoreCode j h d ≡ SwapHead j' own = e in cc)
+    each_call (StoreName n x) held sized b may = leaves (StoreName n x) refl b may refl refl (λ j' own e. let f : StoreName n x ≡ SwapHead j' own = e in cc)
+    each_call (LoadName n) held sized b may = leaves (LoadName n) refl b may refl refl (λ j' own e. let f : LoadName n ≡ SwapHead j' own = e in cc)
+    each_call (StoreOpen n x) held sized b may = leaves (StoreOpen n x) refl b may refl refl (λ j' own e. let f : StoreOpen n x ≡ SwapHead j' own = e in cc)
+    each_call (LoadOpen n) held sized b may = leaves (LoadOpen n) refl b may refl refl (λ j' own e. let f : LoadOpen n ≡ SwapHead j' own = e in cc)
     each_call (TakeLink k) held sized b may = takes_link k b may
-    each_call (FinishLink k) held sized b may = leaves (FinishLink k) b may refl refl (λ j' own e. let f : FinishLink k ≡ SwapHead j' own = e in cc)
+    each_call (FinishLink k) held sized b may = leaves (FinishLink k) refl b may refl refl (λ j' own e. let f : FinishLink k ≡ SwapHead j' own = e in cc)
     each_call (PutLink k) held sized b may = puts_link k (held_in_hand in_hand v.rights v.hands may.2 held) sized b may
     each_call (LookWord id) held sized b may = looks id b may
-    each_call (FindLink j h) held sized b may = leaves (FindLink j h) b may refl refl (λ j' own e. let f : FindLink j h ≡ SwapHead j' own = e in cc)
-    each_call (LoadCode j h) held sized b may = leaves (LoadCode j h) b may refl refl (λ j' own e. let f : LoadCode j h ≡ SwapHead j' own = e in cc)
+    each_call (FindLink j h) held sized b may = leaves (FindLink j h) refl b may refl refl (λ j' own e. let f : FindLink j h ≡ SwapHead j' own = e in cc)
+    each_call (LoadCode j h) held sized b may = leaves (LoadCode j h) refl b may refl refl (λ j' own e. let f : LoadCode j h ≡ SwapHead j' own = e in cc)
     each_call (ClaimRequest id q) held sized b may = claims id q b may
-    each_call (PutMessage q heading bytes) held sized b may = leaves (PutMessage q heading bytes) b may refl refl (λ j' own e. let f : PutMessage q heading bytes ≡ SwapHead j' own = e in cc)
-    each_call (Unconnect q) held sized b may = leaves (Unconnect q) b may refl refl (λ j' own e. let f : Unconnect q ≡ SwapHead j' own = e in cc)
+    each_call (PutMessage q heading bytes) held sized b may = leaves (PutMessage q heading bytes) refl b may refl refl (λ j' own e. let f : PutMessage q heading bytes ≡ SwapHead j' own = e in cc)
+    each_call (Unconnect q) held sized b may = leaves (Unconnect q) refl b may refl refl (λ j' own e. let f : Unconnect q ≡ SwapHead j' own = e in cc)
     each_call (SwapHead j own) held sized b may = swaps j own b may
-    each_call (Connect q before) held sized b may = leaves (Connect q before) b may refl refl (λ j' own e. let f : Connect q before ≡ SwapHead j' own = e in cc)
+    each_call (Connect q before) held sized b may = leaves (Connect q before) refl b may refl refl (λ j' own e. let f : Connect q before ≡ SwapHead j' own = e in cc)
     each_call (EmptyHead j last) held sized b may = empties j last b may
     each_call (ReadNext q) held sized b may = reads q b may
     each_call (TurnNext q value) held sized b may = turns q value b may
@@ -273,60 +258,38 @@ module _ (p : Plan) (c : Core) (views : List View) (o : Lawful (λ (home : Home)
     same_requests : (r : ℕ) → r < p.requests → slice_index c'.words (request_word p r) ≡ slice_index c.words (request_word p r)
     same_requests r rl = ap (λ l. slice_index l (request_word p r)) words
 
-    moves : (r : Right) (one : v.rights ≡ r ∷ []) (w : View) → w.lists ≡ v.lists → Keeps p c views o i v at r one w (of_right r) → SameHomes p c c' r.link → IsEvent p c views c' (set views i w)
+    moves : (r : Right) (one : v.rights ≡ r ∷ []) (w : View) → w.lists ≡ v.lists → Keeps p c views o i v at r one w (of_right r) → SameHomes p c c' r.link → IsEvent p c views Nothing c' (set views i w)
     moves r one w lists k homes = nothing c' w lists (kept p c views o i v at r one c' w k homes) same_requests
 
-    takes_letter : (q : ℕ) (heading : Heading) (bytes : List ℕ) → c'.homes ≡ set c.homes q none → MayTakeMessage v q → IsEvent p c views c' (set views i (took_message heading bytes v))
+    pub takes_letter : (q : ℕ) (heading : Heading) (bytes : List ℕ) → c'.homes ≡ set c.homes q none → MayTakeMessage v q → IsEvent p c views Nothing c' (set views i (took_message heading bytes v))
     takes_letter q heading bytes homes may = let r : Right = may.0 in let one = may.2 in
         let low = writes_in (λ (home : Home). home) p i 0 may.1 v may.0 (state c views) o at (ap (λ (l : List Right). get_elem? l 0) one) may.3 in
         moves may.0 one (took_message heading bytes v) (message_lists heading bytes v) (takes_keeps p c views o i v at may.0 one heading bytes may.4)
         (λ k ne. ap (λ hs. home_of p (record c { homes = hs }) k) homes ∙ home_else p c.homes q k none (let is = may.5 in λ e. omega (arith, low, is, e)))
 
-    goes_away : (k : ℕ) (r : Right) → c'.homes ≡ set c.homes (link_place p k) none → Writes v k true r → IsEvent p c views c' (set views i (link_away v))
+    pub goes_away : (k : ℕ) (r : Right) → c'.homes ≡ set c.homes (link_place p k) none → Writes v k true r → IsEvent p c views Nothing c' (set views i (link_away v))
     goes_away k r homes mine = moves r mine.0 (link_away v) (away_lists v) (away_keeps p c views o i v at r mine.0) (subst (SameHomes p c c') (sym mine.1) (homes_set p c c' k none homes))
 
-    comes_home : (k : ℕ) (r : Right) (x : Option Home) → c'.homes ≡ set c.homes (link_place p k) x → Writes v k false r → IsEvent p c views c' (set views i (link_home_again v))
+    pub comes_home : (k : ℕ) (r : Right) (x : Option Home) → c'.homes ≡ set c.homes (link_place p k) x → Writes v k false r → IsEvent p c views Nothing c' (set views i (link_home_again v))
     comes_home k r x homes mine = moves r mine.0 (link_home_again v) (home_lists v) (home_keeps p c views o i v at r mine.0) (subst (SameHomes p c c') (sym mine.1) (homes_set p c c' k x homes))
 
-    still : c'.homes ≡ c.homes → IsEvent p c views c' (set views i v)
+    still : c'.homes ≡ c.homes → IsEvent p c views Nothing c' (set views i v)
     still homes = nothing c' v refl (λ k. same_stand p c views o i v at c' v refl refl k (ap (λ hs. home_of p (record c { homes = hs }) k) homes)) same_requests
 
-    takes_bytes : (k : ℕ) (asked : Bool) (bytes : List ℕ) (answer : Put) → c'.homes ≡ c.homes → MayPut v k bytes → FitsPut asked bytes answer → IsEvent p c views c' (set views i (took_bytes answer v))
+    pub takes_bytes : (k : ℕ) (asked : Bool) (bytes : List ℕ) (answer : Put) → c'.homes ≡ c.homes → MayPut v k bytes → FitsPut asked bytes answer → IsEvent p c views (put_event k bytes answer) c' (set views i (took_bytes answer v))
     takes_bytes k asked bytes Again homes may fits = still homes
     takes_bytes k asked bytes Failed homes may fits = still homes
     takes_bytes k asked bytes (Took n) homes may fits = let r : Right = may.0 in let one = may.1.0 in
         let stage = o.messages.taken_writes may.0.link may.0 (inside p c views o i v at may.0 one) (alone p c views o i v at may.0 one) may.2 in
         let own = stands_by p c views o i v at may.0 one in
-        let stood = became p c views o i v at may.0 one c' (took_bytes (Took n) v) (of_right (put_right may.0 n)) (puts_makes p c views o i v at may.0 one n) (same_homes p c c' may.0.link homes) in (
-          Take may.0.link (take n bytes),
-          record {
-            may = take_may p c views o i v at may.0 one (λ k. order_is p c views o i v at k) stage.0 stage.1 n bytes may.5.0 may.2 may.3 may.5.1 fits.0 fits.1;
-            accepted = accepted_same p c views o i v at (took_bytes (Took n) v) (bytes_lists (Took n) v);
-            placed = λ j jl. ⊎_elim
-                (λ a. ap (λ (s : Stand). s.placed) a.1 ∙ (sym (ap (λ (s : Stand). s.placed) own) ∙ ap (λ l. (stand p c views l).placed) (sym a.0)))
-                (λ a. ap (λ (s : Stand). s.placed) a.1) (stood j);
-            took = λ j jl. ⊎_elim
-                (λ a. inl (a.0, ap (λ (s : Stand). s.took) a.1 ∙ (took_more p c views o i v at may.0 one n bytes may.5.0 may.2 may.5.1 fits.1 ∙ ap (λ l. l ++ take n bytes) (sym (ap (λ (s : Stand). s.took) own)))))
-                (λ a. inr (a.0, ap (λ (s : Stand). s.took) a.1)) (stood j);
-            request = same_requests;
-          },
-        )
-
--- ## Ticks
-
-pub each_tick : (p : Plan) (c : Core) (views : List View) (m : Moment) → Sound p c views → IsAnswered c m → IsEvent p c views (ticked p c m) (views_after p c views m)
-each_tick p c views m sound answered = tick_keeps p c views m sound answered (begins_round p) (IsEvent p c views) (no_event p c views)
-    (λ seat v call next at_seat at_view is goes. let old = sound.seats m.seat seat v at_seat at_view in
-    each_call p c views sound.lawful m.seat v at_view (stepped p m.seat seat call next c) seat.hand call old.hand sound.homes (refl, refl) goes.0)
-    (λ seat v q next heading bytes at_seat at_view is goes here. takes_letter p c views sound.lawful m.seat v at_view (with_seat m.seat (next heading bytes) seat.hand c.words (set c.homes q none) c) refl q heading bytes refl goes.0)
-    (λ seat v k next took n at_seat at_view is goes here. goes_away p c views sound.lawful m.seat v at_view (with_seat m.seat (next n) (lies_at c.homes (link_place p k) ++ seat.hand) c.words (set c.homes (link_place p k) none) c) refl k goes.0 refl goes.1)
-    (λ seat v k n then_ at_seat at_view is goes. comes_home p c views sound.lawful m.seat v at_view (with_seat m.seat then_ (others_of seat.hand) c.words (set c.homes (link_place p k) (first_of (onto_first (with_places n) seat.hand))) c) refl
-    k goes.0 (first_of (onto_first (with_places n) seat.hand)) refl goes.1)
-    (λ seat v k asked bytes next answer at_seat at_view is goes answer_is fits. takes_bytes p c views sound.lawful m.seat v at_view (with_seat m.seat (next answer) (onto_first (fed bytes answer) seat.hand) c.words c.homes c) refl k asked bytes answer refl goes.0 fits)
-    (λ seat v k next answer at_seat at_view is goes answer_is. (Nothing, record { may = tt; accepted = λ d. ((λ h. h), (λ h. h)); placed = λ j jl. refl; took = λ j jl. refl; request = λ r rl. refl }))
-
--- and each run of ticks is their events one after another
-pub each_run : (p : Plan) (moments : List Moment) (c : Core) (views : List View) → Sound p c views → AreAnswered p c moments → (events : List Event) × Leads p (messages p c views) events (messages p (run p c moments) (views_along p c views moments))
-each_run p [] c views sound answered = ([], refl)
-each_run p (m ∷ ms) c views sound answered = let now = each_tick p c views m sound answered.0 in let later = each_run p ms (ticked p c m) (views_after p c views m) (sound_ticks p c views m sound answered.0) answered.1 in
-    (now.0 ∷ later.0, (messages p (ticked p c m) (views_after p c views m), now.1, later.1))
+        let stood = became p c views o i v at may.0 one c' (took_bytes (Took n) v) (of_right (put_right may.0 n)) (puts_makes p c views o i v at may.0 one n) (same_homes p c c' may.0.link homes) in subst (λ (z : ℕ). IsEvent p c views (Take z (take n bytes)) c' (set views i (took_bytes (Took n) v))) may.1.1 record {
+          may = take_may p c views o i v at may.0 one (λ k. order_is p c views o i v at k) stage.0 stage.1 n bytes may.5.0 may.2 may.3 may.5.1 fits.0 fits.1;
+          accepted = accepted_same p c views o i v at (took_bytes (Took n) v) (bytes_lists (Took n) v);
+          placed = λ j jl. ⊎_elim
+              (λ a. ap (λ (s : Stand). s.placed) a.1 ∙ (sym (ap (λ (s : Stand). s.placed) own) ∙ ap (λ l. (stand p c views l).placed) (sym a.0)))
+              (λ a. ap (λ (s : Stand). s.placed) a.1) (stood j);
+          took = λ j jl. ⊎_elim
+              (λ a. inl (a.0, ap (λ (s : Stand). s.took) a.1 ∙ (took_more p c views o i v at may.0 one n bytes may.5.0 may.2 may.5.1 fits.1 ∙ ap (λ l. l ++ take n bytes) (sym (ap (λ (s : Stand). s.took) own)))))
+              (λ a. inr (a.0, ap (λ (s : Stand). s.took) a.1)) (stood j);
+          request = same_requests;
+        }

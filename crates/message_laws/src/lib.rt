@@ -1,2 +1,2 @@
-//! Each tick is one event of the plain model of messages, or none.
+//! Each step, move and put is one event of the plain model of messages, or none.
 #![tactic(auto)]

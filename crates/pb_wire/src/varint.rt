@@ -22,6 +22,9 @@ pub fn read_varint(bytes: &[u8], at: usize) -> Result<(u64, usize), WireFault>
     ensures spelled { IfOk result (λ r. IsVarint (slice_range bytes.now at r.1) r.0) }
     ensures each { (n to : ℕ) → at ≤ to → to ≤ length bytes.now → IsVarint (slice_range bytes.now at to) n → result ≡ Ok (n, to) }
 {
+    if at < bytes.len() && bytes[at] < 0x80 {
+        return Ok((u64::from(bytes[at]), at + 1));
+    }
     let (_, rest) = bytes.split_at(at);
     let more = count_followed(rest);
     if more == MOST_BYTES {
@@ -65,6 +68,12 @@ pub fn write_varint(out: &mut Vec<u8>, value: u64) -> Result<(), NoMemory>
     ensures spelled { IsVarint (varint_bytes value) value }
     ensures shortest { (bytes : List ℕ) → IsVarint bytes value → length (varint_bytes value) ≤ length bytes }
 {
+    if value < 0x80 {
+        return match out.push(value as u8) {
+            Ok(()) => Ok(()),
+            Err(_) => Err(NoMemory),
+        };
+    }
     let mut spelled = [0u8; MOST_BYTES];
     let mut length = 0;
     let mut rest = value;

@@ -1,7 +1,8 @@
 -- How the parts of a body make a frame or a fault.
-use Rattle.std.proofs.Common.{◌≡◌, ℕ, ◌+◌, ◌-◌, ◌<◌, ◌≤◌, ℤ, pos, negsuc, List, length, take, drop, Some, Result, Ok, Err, IfSome, refl, ap, sym, ◌∙◌, subst, arith, length-take, length-drop}
+use Rattle.std.proofs.Common.{◌≡◌, ℕ, ◌+◌, ◌-◌, ◌<◌, ◌≤◌, ℤ, pos, negsuc, List, [], length, take, drop, Some, Result, Ok, Err, IfSome, refl, ap, sym, ◌∙◌, subst, arith, length-take, length-drop}
 use Rattle.std.proofs.lemmas.Bool.{lt-ltb, le-ltb}
-use Rattle.std.proofs.lemmas.List.{drop-drop, drop-take, take-append-le, take-append-drop}
+use Rattle.std.proofs.lemmas.List.{drop-drop, drop-take, take-take, take-append-le, take-append-drop}
+use Rattle.std.proofs.Math.Seq.{take-length, drop-length}
 use Rattle.brpc_model.specs.Meta as metas
 use Rattle.brpc_model.specs.Meta.{Meta, read_meta}
 use Rattle.brpc_model.specs.Frame.{Judged, Faulty, Begins, AttachOver, body_judged, with_attachment}
@@ -69,6 +70,25 @@ begins_with bytes meta body n m rest h k e s room r =
     ∙ ap (λ (l : List ℕ). with_attachment m m.attachment_size l body) behind
     ∙ fits m m.attachment_size n rest body s (omega (arith, size, room))
     ∙ ap (λ (z : ℕ). Begins (record { meta = m; payload = take (z - n) rest; attachment = drop (z - n) rest }) body) size
+
+-- a frame without an attachment
+pub begins_alone : (bytes : List ℕ) (meta body n : ℕ) (m : Meta) (rest none : List ℕ) → meta ≤ body → 12 + body ≤ length bytes → read_meta (take meta (drop 12 bytes)) ≡ Ok m →
+    m.attachment_size ≡ pos n → n ≡ 0 → none ≡ [] → rest ≡ drop (12 + meta) (take (12 + body) bytes) →
+    body_judged (read_meta (take meta (inside_of body bytes))) (drop meta (inside_of body bytes)) body ≡ Begins (record { meta = m; payload = rest; attachment = none }) body
+begins_alone bytes meta body n m rest none h k e s zero empty r =
+    let behind : drop meta (inside_of body bytes) ≡ rest = sym (r ∙ behind_meta meta body bytes) in
+    let size : length rest ≡ body - meta = sym (ap length behind) ∙ behind_size meta body bytes k in
+    let all : body - meta - n ≡ length rest = omega (arith, size, zero) in
+    begins_with bytes meta body n m rest h k e s (omega (arith, zero)) r
+    ∙ ap (λ (z : ℕ). Begins (record { meta = m; payload = take z rest; attachment = drop z rest }) body) all
+    ∙ ap (λ (l : List ℕ). Begins (record { meta = m; payload = l; attachment = drop (length rest) rest }) body) (take-length rest)
+    ∙ ap (λ (l : List ℕ). Begins (record { meta = m; payload = rest; attachment = l }) body) (drop-length rest ∙ sym empty)
+
+-- the meta in the first piece is that behind the header
+pub meta_lies : (items : List ℕ) (n size : ℕ) → 12 + size ≤ n → take size (drop 12 (take n items)) ≡ take size (drop 12 items)
+meta_lies items n size fits =
+    let split : n ≡ 12 + (n - 12) = omega (arith, fits) in
+    ap (λ (m : ℕ). take size (drop 12 (take m items))) split ∙ ap (take size) (drop-take 12 (n - 12) items) ∙ take-take size (n - 12) (drop 12 items) (omega (arith, fits))
 
 -- ## What a body answers
 

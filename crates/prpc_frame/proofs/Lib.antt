@@ -4,3 +4,4 @@ pub mod Bodies
 pub mod Headers
 pub mod Encoded
 pub mod Sizes
+pub mod Cuts

@@ -13,11 +13,15 @@ use Rattle.prpc_frame.specs.declared.fault.FrameFault.TheVariants.{AttachOver}
 use Rattle.prpc_frame.specs.declared.fault.NextFault as next
 use Rattle.prpc_frame.specs.declared.fault.NextFault.TheVariants as next_
 
+-- the meta that these bytes are, or its fault, whatever stands behind it
+abbrev pub MetaIs : List ℕ → Result RpcMeta next.NextFault → Type 0
+MetaIs bytes (Ok meta) = read_meta bytes ≡ Ok (meaning meta)
+MetaIs bytes (Err (next_.Frame fault)) = (behind : List ℕ) (body : ℕ) → IsFault (body_judged (read_meta bytes) behind body) fault
+MetaIs bytes (Err next_.NoMemory) = Unit {0}
+
 -- the meta behind the header, or its fault, whatever stands behind it
 abbrev pub MetaSays : List ℕ → ℕ → Result RpcMeta next.NextFault → Type 0
-MetaSays bytes size (Ok meta) = read_meta (take size (drop 12 bytes)) ≡ Ok (meaning meta)
-MetaSays bytes size (Err (next_.Frame fault)) = (behind : List ℕ) (body : ℕ) → IsFault (body_judged (read_meta (take size (drop 12 bytes))) behind body) fault
-MetaSays bytes size (Err next_.NoMemory) = Unit {0}
+MetaSays bytes size result = MetaIs (take size (drop 12 bytes)) result
 
 -- the size of an attachment that fits in the room, or the fault of one that is negative or doesn't
 abbrev pub AttachmentSays : ℤ → ℕ → Result ℕ FrameFault → Type 0

@@ -4,3 +4,4 @@ pub mod Body
 pub mod Answers
 pub mod Inside
 pub mod Leads
+pub mod Cuts

@@ -1,5 +1,5 @@
-ghost use Rattle.std.specs.Prelude.{◌≡◌, ◌+◌, ◌≤◌, length};
-ghost use Rattle.prpc_frame.specs.Body.{MetaSays, AttachmentSays, BodySays};
+ghost use Rattle.std.specs.Prelude.{◌≡◌, ◌+◌, ◌≤◌, length, take, drop, IfSome};
+ghost use Rattle.prpc_frame.specs.Body.{MetaIs, MetaSays, AttachmentSays, BodySays};
 
 use crate::fault::{FrameFault, NextFault};
 use crate::frame::Frame;
@@ -21,6 +21,13 @@ pub fn read_frame(alloc: Global, held: &IoBuf, sizes: Sizes) -> Result<Frame, Ne
     let attached = attachment_bytes(&meta, room)?;
     let mut rest = held.share_front(12 + body_bytes)?;
     rest.pop_front(12 + meta_bytes);
+    if attached == 0 {
+        return Ok(Frame {
+            meta,
+            payload: rest,
+            attachment: IoBuf::new(alloc),
+        });
+    }
     let payload_bytes = (room - attached) as usize;
     let payload = rest.share_front(payload_bytes)?;
     rest.pop_front(payload_bytes);
@@ -31,14 +38,35 @@ pub fn read_frame(alloc: Global, held: &IoBuf, sizes: Sizes) -> Result<Frame, Ne
     })
 }
 
-// The meta that stands behind the header.
+// The meta that stands behind the header: read where it lies where it is in the first piece, else
+// copied first.
 fn read_meta(alloc: Global, held: &IoBuf, size: usize) -> Result<RpcMeta, NextFault>
     requires { 12 + size ≤ length held.now.items }
     ensures { MetaSays held.now.items size result }
 {
+    if let Some(bytes) = meta_in(held.first_piece(), size) {
+        return meta_of(alloc, bytes);
+    }
     let mut bytes = vec![in alloc; 0; size]?;
     held.copy_at(12, &mut bytes);
-    match RpcMeta::read(alloc, &bytes) {
+    meta_of(alloc, &bytes)
+}
+
+// The bytes of the meta, where all of them are in the first piece.
+fn meta_in(front: &[u8], size: usize) -> Option<&[u8]>
+    ensures { IfSome result (λ bytes. (bytes.now ≡ take size (drop 12 front.now)) × (12 + size ≤ length front.now)) }
+{
+    if front.len() < 12 || size > front.len() - 12 {
+        return None;
+    }
+    Some(&front[12..12 + size])
+}
+
+// The meta that these bytes are.
+fn meta_of(alloc: Global, bytes: &[u8]) -> Result<RpcMeta, NextFault>
+    ensures { MetaIs bytes.now result }
+{
+    match RpcMeta::read(alloc, bytes) {
         Ok(meta) => Ok(meta),
         Err(MetaFault::NoMemory) => Err(NextFault::NoMemory),
         Err(fault) => Err(NextFault::Frame(FrameFault::Meta(fault))),

@@ -1,4 +1,5 @@
-ghost use Rattle.std.specs.Prelude.{◌≡◌, ℕ, List, ◌+◌, ◌-◌, ◌≤◌, ◌++◌, pos, length, Ok, IfOk, OnOk};
+ghost use Rattle.std.specs.Prelude.{◌≡◌, ℕ, List, ◌+◌, ◌-◌, ◌≤◌, ◌∷◌, ◌++◌, pos, length, All, Ok, IfOk, OnOk};
+ghost use Rattle.io_buf.specs.Buffer.{block_sizes, IsSize};
 ghost use Rattle.std.specs.Int.{w32, to_be_bytes};
 ghost use Rattle.brpc_model.specs.Frame.{Frame as ModelFrame, IsFrame, Begins, magic, body_limit, frame_bytes, judged};
 ghost use Rattle.brpc_model.specs.Meta.{read_meta};
@@ -8,11 +9,14 @@ ghost use Rattle.rpc_meta.specs.Writing.{HasPart};
 ghost use Rattle.prpc_frame.specs.Meaning.{frame_with};
 
 use crate::header::MAGIC;
-use io_buf::{BlockPool, IoBuf, NoMemory};
+use io_block::Scratch;
+use io_buf::{BLOCK_BYTES, BlockPool, IoBuf, NoMemory};
 use rpc_meta::RpcMeta;
 use std::alloc::Global;
 
 /// Writes a frame (brpc's baidu_std.md). The payload and the attachment are shared, not copied.
+/// Header and meta are spelled in the pool's scratch memory, so in a stream of frames no call takes
+/// memory but for a block, and for more than two references.
 ///
 /// The meta's attachment_size is the attachment's length, the meta has a request or a response, and
 /// the body has at most 67,108,864 bytes.
@@ -32,13 +36,22 @@ pub fn encode(
     // It is taken for this frame and for no other, whatever stands behind it.
     ensures only { IfOk result (λ b. (more : List ℕ) →
         judged (b.items ++ more) ≡ Begins (frame_with (meaning meta.now) payload.now.items attachment.now.items) (length b.items - 12)) }
+
+    // Header and meta are one reference up to 8,192 bytes, and the others are those of the payload
+    // and then those of the attachment. None is empty.
+    ensures sizes { IfOk result (λ b. b.sizes ≡ block_sizes (12 + length (meta_bytes (meaning meta.now))) ++ payload.now.sizes ++ attachment.now.sizes) }
+    ensures head { IfOk result (λ b. 12 + length (meta_bytes (meaning meta.now)) ≤ BLOCK_BYTES
+        → b.sizes ≡ (12 + length (meta_bytes (meaning meta.now))) ∷ payload.now.sizes ++ attachment.now.sizes) }
+    ensures each { IfOk result (λ b. All IsSize b.sizes) }
 {
-    let spelled = spell_meta(alloc, meta)?;
-    let head = frame_head(alloc, &spelled, payload.len() + attachment.len())?;
+    let mut scratch = pool.lend_scratch();
+    spell_front(&mut scratch, meta, payload.len() + attachment.len())?;
     let mut frame = IoBuf::new(alloc);
-    frame.append_bytes(pool, &head)?;
+    frame.append_bytes(pool, &scratch.front)?;
+    pool.keep_scratch(scratch);
     append_shared(&mut frame, payload)?;
     append_shared(&mut frame, attachment)?;
+    let _ = frame.refs();
     Ok(frame)
 }
 
@@ -49,39 +62,49 @@ pub fn begins_with_one_frame()
         → (bytes ≡ others) × (f ≡ g) }
 {}
 
-// The bytes of the meta.
-fn spell_meta(alloc: Global, meta: &RpcMeta) -> Result<Vec<u8>, NoMemory>
-    requires { HasPart (meaning meta.now) }
-    ensures bytes { IfOk result (λ spelled. spelled.items ≡ meta_bytes (meaning meta.now)) }
+// Spells the header and the meta, before so many bytes of payload and attachment.
+fn spell_front(scratch: &mut Scratch, meta: &RpcMeta, behind: usize) -> Result<(), NoMemory>
+    requires part { HasPart (meaning meta.now) }
+    requires small { length (meta_bytes (meaning meta.now)) + behind ≤ body_limit }
+    ensures front { OnOk result (scratch.new.front.items ≡ magic ++ to_be_bytes w32 (length (meta_bytes (meaning meta.now)) + behind) ++ to_be_bytes w32 (length (meta_bytes (meaning meta.now))) ++ meta_bytes (meaning meta.now)) }
     ensures reads_back { OnOk result (read_meta (meta_bytes (meaning meta.now)) ≡ Ok (meaning meta.now)) }
 {
-    let mut spelled = Vec::new(alloc);
-    match meta.write_to(&mut spelled) {
-        Ok(()) => Ok(spelled),
+    spell_meta(&mut scratch.inside, &mut scratch.part, meta)?;
+    frame_head(&scratch.part, behind, &mut scratch.front)
+}
+
+// Spells the meta.
+fn spell_meta(inside: &mut Vec<u8>, spelled: &mut Vec<u8>, meta: &RpcMeta) -> Result<(), NoMemory>
+    requires { HasPart (meaning meta.now) }
+    ensures bytes { OnOk result (spelled.new.items ≡ meta_bytes (meaning meta.now)) }
+    ensures reads_back { OnOk result (read_meta (meta_bytes (meaning meta.now)) ≡ Ok (meaning meta.now)) }
+{
+    spelled.clear();
+    match meta.write_with(inside, spelled) {
+        Ok(()) => Ok(()),
         Err(_) => Err(NoMemory),
     }
 }
 
-// The header and the meta, before so many bytes of payload and attachment.
-fn frame_head(alloc: Global, meta: &[u8], behind: usize) -> Result<Vec<u8>, NoMemory>
+// Spells the header, before this meta and so many bytes of payload and attachment, and the meta.
+fn frame_head(meta: &[u8], behind: usize, head: &mut Vec<u8>) -> Result<(), NoMemory>
     requires { length meta.now + behind ≤ body_limit }
-    ensures { IfOk result (λ head. head.items ≡ magic ++ to_be_bytes w32 (length meta.now + behind) ++ to_be_bytes w32 (length meta.now) ++ meta.now) }
+    ensures { OnOk result (head.new.items ≡ magic ++ to_be_bytes w32 (length meta.now + behind) ++ to_be_bytes w32 (length meta.now) ++ meta.now) }
 {
     let meta_bytes = meta.len() as u32;
     let body_bytes = (meta.len() + behind) as u32;
-    let mut head = Vec::from_slice(alloc, &MAGIC)?;
+    head.clear();
+    head.extend_from_slice(&MAGIC)?;
     head.extend_from_slice(&body_bytes.to_be_bytes())?;
     head.extend_from_slice(&meta_bytes.to_be_bytes())?;
     head.extend_from_slice(meta)?;
-    Ok(head)
+    Ok(())
 }
 
 // Appends references to the part's bytes.
 fn append_shared(frame: &mut IoBuf, part: &IoBuf) -> Result<(), NoMemory>
-    ensures { OnOk result (frame.new.items ≡ frame.old.items ++ part.now.items) }
+    ensures items { OnOk result (frame.new.items ≡ frame.old.items ++ part.now.items) }
+    ensures sizes { OnOk result (frame.new.sizes ≡ frame.old.sizes ++ part.now.sizes) }
 {
-    let part = part.share()?;
-    frame.reserve_refs(part.refs())?;
-    frame.append_buf(part);
-    Ok(())
+    frame.append_shared(part)
 }

@@ -7,6 +7,9 @@ ghost use Rattle.rpc_meta.specs.Writing.{Appends, HasPart, RequestFits, Response
 use crate::meta::{RequestMeta, ResponseMeta, RpcMeta};
 use pb_wire::{NoMemory, write_varint};
 
+/// So much room a message inside the meta gets at first.
+const INSIDE_ROOM: usize = 96;
+
 impl RpcMeta {
     /// Appends the meta: fields by rising number, shortest varints, a negative int32 in ten bytes.
     ///
@@ -16,8 +19,18 @@ impl RpcMeta {
         ensures exact { out.new.items ≡ (if is_ok result then out.old.items ++ meta_bytes (meaning self.now) else out.old.items) }
         ensures reads_back { OnOk result (HasPart (meaning self.now) → read_meta (meta_bytes (meaning self.now)) ≡ Ok (meaning self.now)) }
     {
+        let mut inside = Vec::with_capacity(*out.allocator(), INSIDE_ROOM)?;
+        self.write_with(&mut inside, out)
+    }
+
+    /// Appends the meta, as `write_to`. The messages inside it are spelled in `inside`, which takes no memory
+    /// where it has room for them.
+    pub fn write_with(&self, inside: &mut Vec<u8>, out: &mut Vec<u8>) -> Result<(), NoMemory>
+        ensures exact { out.new.items ≡ (if is_ok result then out.old.items ++ meta_bytes (meaning self.now) else out.old.items) }
+        ensures reads_back { OnOk result (HasPart (meaning self.now) → read_meta (meta_bytes (meaning self.now)) ≡ Ok (meaning self.now)) }
+    {
         let before = out.len();
-        let written = append_meta(self, out);
+        let written = append_meta(self, inside, out);
         if written.is_err() {
             out.truncate(before);
         }
@@ -26,45 +39,53 @@ impl RpcMeta {
 }
 
 /// Appends the meta, or a part of it before a refusal.
-fn append_meta(meta: &RpcMeta, out: &mut Vec<u8>) -> Result<(), NoMemory>
+fn append_meta(meta: &RpcMeta, inside: &mut Vec<u8>, out: &mut Vec<u8>) -> Result<(), NoMemory>
     ensures written { Appends out.old.items (meta_bytes (meaning meta.now)) result out.new.items }
     ensures fits { OnOk result (MetaFits (meaning meta.now)) }
 {
-    append_request(&meta.request, out)?;
-    append_response(&meta.response, out)?;
+    append_request(&meta.request, inside, out)?;
+    append_response(&meta.response, inside, out)?;
     append_int(3, meta.compress_type, out)?;
     append_number(4, meta.correlation_id, out)?;
     append_int(5, meta.attachment_size, out)
 }
 
 /// Appends the request where there is one; its fields are spelled aside first, since their length stands before them.
-fn append_request(request: &Option<RequestMeta>, out: &mut Vec<u8>) -> Result<(), NoMemory>
+fn append_request(
+    request: &Option<RequestMeta>,
+    inside: &mut Vec<u8>,
+    out: &mut Vec<u8>,
+) -> Result<(), NoMemory>
     ensures written { Appends out.old.items (where_some (λ r. bytes_field 1 (request_bytes r)) (option_map request_of request.now)) result out.new.items }
     ensures fits { OnOk result (RequestFits (option_map request_of request.now)) }
 {
     let Some(request) = request else {
         return Ok(());
     };
-    let mut inside = Vec::new(*out.allocator());
-    append_bytes(1, request.service.as_slice(), &mut inside)?;
-    append_bytes(2, request.method.as_slice(), &mut inside)?;
+    inside.clear();
+    append_bytes(1, request.service.as_slice(), inside)?;
+    append_bytes(2, request.method.as_slice(), inside)?;
     if let Some(log_id) = request.log_id {
-        append_number(3, log_id, &mut inside)?;
+        append_number(3, log_id, inside)?;
     }
     append_bytes(1, inside.as_slice(), out)
 }
 
 /// Appends the response where there is one, in the same way.
-fn append_response(response: &Option<ResponseMeta>, out: &mut Vec<u8>) -> Result<(), NoMemory>
+fn append_response(
+    response: &Option<ResponseMeta>,
+    inside: &mut Vec<u8>,
+    out: &mut Vec<u8>,
+) -> Result<(), NoMemory>
     ensures written { Appends out.old.items (where_some (λ r. bytes_field 2 (response_bytes r)) (option_map response_of response.now)) result out.new.items }
     ensures fits { OnOk result (ResponseFits (option_map response_of response.now)) }
 {
     let Some(response) = response else {
         return Ok(());
     };
-    let mut inside = Vec::new(*out.allocator());
-    append_number(1, spelled(response.code), &mut inside)?;
-    append_text(2, response.text.as_slice(), &mut inside)?;
+    inside.clear();
+    append_number(1, spelled(response.code), inside)?;
+    append_text(2, response.text.as_slice(), inside)?;
     append_bytes(2, inside.as_slice(), out)
 }
 

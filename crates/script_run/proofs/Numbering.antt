@@ -1,6 +1,7 @@
 -- Links that are opened and given back one after another.
-use Rattle.std.proofs.Common.{◌≡◌, ◌≢◌, ℕ, ◌+◌, ◌<◌, ◌≤◌, List, [], ◌∷◌, ◌++◌, length, map, count_by, sum_by, cond, ap, sym, subst, refl, ◌∙◌, append_assoc, min, arith, Ok, IfSome}
-use Rattle.std.proofs.lemmas.List.{length-map, length-append}
+use Rattle.std.proofs.Common.{◌≡◌, ◌≢◌, ℕ, ◌+◌, ◌<◌, ◌≤◌, List, [], ◌∷◌, ◌++◌, length, map, count_by, sum_by, cond, ap, sym, subst, refl, ◌∙◌, append_assoc, append-nil, min, take, drop, get_or, arith, Ok, IfSome}
+use Rattle.std.proofs.lemmas.List.{length-map, length-append, take_all, take_more, map-append, take-append-drop}
+use Rattle.std.proofs.lemmas.List.Elements.{filter_map-append}
 use Rattle.std.proofs.lemmas.List.Sums.{sum_by-cons}
 use Rattle.std.proofs.lemmas.List.Folds.{list_all-map}
 use Rattle.brpc_model.specs.Operations.{link_names}
@@ -12,7 +13,8 @@ use Rattle.brpc_model.specs.Items.{Item, is_open}
 use Rattle.std.specs.List.{AllByRecursion, list_all}
 use Rattle.brpc_model.specs.Link.{LinkEnd}
 use Rattle.sock_io.specs.Link.{OutState, InState, IsFresh, end_of}
-use Rattle.script_run.specs.Given.{IsUntouched, AreUntouched, AreNumbered, is_open_line, has_piece, has_piece_line}
+use Rattle.sock_io.specs.declared.link.LinkSpec.{LinkSpec}
+use Rattle.script_run.specs.Given.{IsUntouched, AreUntouched, AreNumbered, IsBeginning, is_open_line, has_piece, has_piece_line, spec_asked, specs_of}
 
 -- one more untouched link
 pub one_more : (n : ℕ) (es : List LinkEnd) (e : LinkEnd) → AreUntouched n es → IsUntouched (n + length es) e → AreUntouched n (es ++ e ∷ [])
@@ -86,3 +88,29 @@ all_with P old new x h e px = subst (AllByRecursion P) (sym e) (behind P old x h
 pub unused_of : {A : Type 0} (f : A → LinkEnd) (n : ℕ) (xs : List A) → AreUntouched n (map f xs) → AllByRecursion (λ (x : A). IfSome (f x).took (λ bytes. bytes ≡ [])) xs
 unused_of f n [] h = tt
 unused_of f n (x ∷ xs) h = (h.0.took, unused_of f (n + 1) xs h.1)
+
+-- ## What the lines ask
+
+specs-append : (xs ys : List Line) → specs_of (map item (xs ++ ys)) ≡ specs_of (map item xs) ++ specs_of (map item ys)
+specs-append xs ys = ap specs_of (map-append item xs ys) ∙ filter_map-append spec_asked (map item xs) (map item ys)
+
+-- one line more
+pub asked_more : (lines : List Line) (i : ℕ) (line : Line) (old new : List LinkSpec) → i < length lines → line ≡ get_or lines i line → old ≡ specs_of (map item (take i lines)) → new ≡ old ++ specs_of (item line ∷ []) →
+    new ≡ specs_of (map item (take (i + 1) lines))
+asked_more lines i line old new within at was is =
+    is ∙ ap (λ a. a ++ specs_of (item line ∷ [])) was ∙ sym (specs-append (take i lines) (line ∷ []))
+    ∙ sym (ap (λ ls. specs_of (map item ls)) (take_more lines i line within ∙ ap (λ l. take i lines ++ l ∷ []) (sym at)))
+
+-- all lines
+pub asked_whole : (lines : List Line) (i : ℕ) (asked : List LinkSpec) → length lines ≤ i → asked ≡ specs_of (map item (take i lines)) → asked ≡ specs_of (map item lines)
+asked_whole lines i asked all is = is ∙ ap (λ ls. specs_of (map item ls)) (take_all i lines all)
+
+-- what the first lines ask is a beginning of what all of them ask
+pub asked_front : (lines : List Line) (i : ℕ) (asked : List LinkSpec) → asked ≡ specs_of (map item (take i lines)) → IsBeginning asked (specs_of (map item lines))
+asked_front lines i asked is = (
+  specs_of (map item (drop i lines)),
+  ap (λ a. a ++ specs_of (map item (drop i lines))) is ∙ sym (specs-append (take i lines) (drop i lines)) ∙ ap (λ ls. specs_of (map item ls)) (take-append-drop i lines),
+)
+
+pub begins_whole : (asked whole : List LinkSpec) → asked ≡ whole → IsBeginning asked whole
+begins_whole asked whole e = ([], append-nil asked ∙ e)

@@ -31,6 +31,9 @@ use Rattle.sock_core.specs.Machines.{MachineState, core_with, ending_by}
 use Rattle.sock_core.specs.Runs.{SameLinks, ShowFaults, SettledWith, Settled}
 use Rattle.script_run.specs.Given.{IsUntouched, AreUntouched}
 use Rattle.script_run.specs.Played.{IsMade, IsPlayable, PlayedWith, HasPlayed, HasRun, IsRunText}
+use Rattle.report_fits.proofs.Tasks.{tasks_of_script}
+use Rattle.run_laws.proofs.Laws.{keeps_laws}
+use Rattle.whole_runs.proofs.Starts.{begins}
 use Rattle.whole_runs.proofs.Lengths.{ended_length}
 use Rattle.whole_runs.proofs.Runs.{run_places, run_at_home}
 use Rattle.script_run.proofs.Seated.{many_with, same_kind}
@@ -193,6 +196,7 @@ module _ (bytes : List ℕ) (script : List Item) (turns : List Turn) (start m : 
       let report = subst (λ ws. IsReportText script m.outcomes ws w.0 text) words_now w.2 in record {
         core = end_core;
         run = ran.run;
+        laws = keeps_laws script (tasks_of_script bytes script reads) (begins bytes script reads) turns end_core ran.run;
         took = w.0;
         told = w.1;
         report = report.report;

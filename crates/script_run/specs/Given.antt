@@ -1,9 +1,12 @@
 -- Links as they are opened and given back.
-use Rattle.std.specs.Prelude.{ℕ, ◌≡◌, ◌+◌, false, List, [], ◌∷◌, IfSome, Bool, true, nat_lt}
-use Rattle.brpc_model.specs.Items.{Item, Open, is_open}
+use Rattle.std.specs.Prelude.{ℕ, ◌≡◌, ◌+◌, ◌++◌, false, List, [], ◌∷◌, IfSome, Bool, true, nat_lt, Option, Some, None}
+use Rattle.std.specs.List.{filter_map}
+use Rattle.brpc_model.specs.Items.{Item, Open, Shape, is_open}
 use Rattle.script_items.specs.Meaning.{item}
 use Rattle.script_items.specs.declared.line.Line.{Line}
 use Rattle.brpc_model.specs.Link.{LinkEnd}
+use Rattle.sock_io.specs.declared.link.LinkSpec.{LinkSpec}
+use Rattle.sock_io.specs.declared.link.Mode.TheVariants as mode
 
 -- the link of this number took and gave nothing, and did not fail
 pub record IsUntouched (number : ℕ) (e : LinkEnd) : Type 0 where
@@ -37,3 +40,22 @@ is_open_line line = is_open (item line)
 -- and a put on its link takes a byte at least
 abbrev pub has_piece_line : Line → Bool
 has_piece_line line = has_piece (item line)
+
+-- ## What is asked of links
+
+-- what a link of this shape is asked, in memory
+abbrev pub spec_of : Shape → LinkSpec
+spec_of shape = record { mode = mode.Loop; piece = shape.piece; again = shape.again; fail = shape.fail; serve = shape.serve; end = shape.end }
+
+-- what a line asks of its link, where it opens one
+abbrev pub spec_asked : Item → Option LinkSpec
+spec_asked (Open name shape) = Some (spec_of shape)
+spec_asked other = None
+
+-- what the lines of a script ask of their links, in order
+abbrev pub specs_of : List Item → List LinkSpec
+specs_of script = filter_map spec_asked script
+
+-- the first are a beginning of the others
+abbrev pub IsBeginning : List LinkSpec → List LinkSpec → Type 0
+IsBeginning front whole = (rest : List LinkSpec) × (front ++ rest ≡ whole)

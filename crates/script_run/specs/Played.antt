@@ -12,6 +12,7 @@ use Rattle.sock_programs.specs.Runs.{IsAtRest, Turns}
 use Rattle.sock_programs.specs.Scripts.{IsRunOf, Reports, broken_of, set_up, drawn_turns}
 use Rattle.sock_programs.specs.Tasks.{plan_of, opens}
 use Rattle.report_fits.specs.Ends.{AreEnds, AreTold}
+use Rattle.run_laws.specs.Laws.{KeepsLaws}
 use Rattle.sock_core.specs.Links.{Taken, Agrees, ArePrompt}
 use Rattle.sock_core.specs.Machines.{MachineState, core_with}
 use Rattle.sock_core.specs.Runs.{SameTable, SameLinks, ShowFaults}
@@ -75,6 +76,8 @@ pub record HasRun (script : List Item) (turns : List Turn) (m : MachineState) : 
 pub record IsRunText (script : List Item) (turns : List Turn) (text : List ℕ) (ends : List LinkEnd) : Type 0 where
   pub core : Core
   pub run : IsRunOf script turns core
+  -- whose ticks are events of the plain model, with at most one put behind a failure
+  pub laws : KeepsLaws run
   -- what is reported that the links took
   pub took : List (List ℕ)
   pub told : AreTold ends took

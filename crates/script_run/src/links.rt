@@ -6,19 +6,15 @@ ghost use Rattle.brpc_model.specs.Items.{is_open};
 ghost use Rattle.script_items.specs.Meaning.{item};
 ghost use Rattle.sock_io.specs.Causes.{Rose};
 ghost use Rattle.sock_io.specs.Link.{end_of};
-ghost use Rattle.script_run.specs.Given.{IsUntouched, AreUntouched, AreNumbered, has_piece, is_open_line, has_piece_line};
+ghost use Rattle.script_items.specs.Meaning.{shape_of};
+ghost use Rattle.script_run.specs.Given.{IsUntouched, AreUntouched, AreNumbered, IsBeginning, has_piece, is_open_line, has_piece_line, spec_of, specs_of};
 
 use script_items::{Line, OpenLine};
 use sock_io::{Ends, LinkSpec, Linker, Mode, OpenFault};
 
 /// What a line asks of its link.
 pub fn spec_of(open: &OpenLine) -> LinkSpec
-    ensures piece { result.piece ≡ «open».now.shape.piece }
-    ensures mode { result.mode ≡ Mode.Loop }
-    ensures again { result.again ≡ «open».now.shape.again }
-    ensures fail { result.fail ≡ «open».now.shape.fail }
-    ensures serve { result.serve ≡ «open».now.shape.serve }
-    ensures end_ { result.«end» ≡ «open».now.shape.«end» }
+    ensures { result ≡ spec_of (shape_of «open».now.shape) }
 {
     LinkSpec {
         mode: Mode::Loop,
@@ -37,18 +33,21 @@ fn open_one<L: Linker>(
     ends: &mut Vec<Ends<L::O, L::I, L::P>>,
 ) -> Result<(), OpenFault>
     requires piece { 0 < «open».now.shape.piece }
-    requires opened { L.opened links.old ≡ length ends.old.items }
+    requires opened { length (L.asked links.old) ≡ length ends.old.items }
     requires few { length ends.old.items < 256 }
     ensures fresh { AreUntouched 0 (map (λ e. end_of (L.O.state e.out) (L.I.state e.inn)) ends.old.items) → AreUntouched 0 (map (λ e. end_of (L.O.state e.out) (L.I.state e.inn)) ends.new.items) }
     ensures unfinished { AllByRecursion (λ (e : Ends L.O L.I L.P). (L.O.state e.out).finished ≡ false) ends.old.items → AllByRecursion (λ (e : Ends L.O L.I L.P). (L.O.state e.out).finished ≡ false) ends.new.items }
     ensures prompt_each { L.prompt links.old ≡ true → AllByRecursion (λ (e : Ends L.O L.I L.P). (L.O.state e.out).prompt ≡ true) ends.old.items → AllByRecursion (λ (e : Ends L.O L.I L.P). (L.O.state e.out).prompt ≡ true) ends.new.items }
     ensures count { OnOk result (length ends.new.items ≡ length ends.old.items + 1) }
     ensures err { OnErr result (length ends.new.items ≡ length ends.old.items) }
-    ensures opened { L.opened links.new ≡ length ends.new.items }
+    ensures asked { OnOk result (L.asked links.new ≡ L.asked links.old ++ spec_of (shape_of «open».now.shape) ∷ []) }
+    ensures refused { OnErr result (L.asked links.new ≡ L.asked links.old) }
+    ensures opened { length (L.asked links.new) ≡ length ends.new.items }
     ensures back { L.back links.new ≡ L.back links.old }
     ensures prompt { L.prompt links.new ≡ L.prompt links.old }
     ensures later { L.faults links.old ≤ L.faults links.new }
     ensures failed { IsErrOf result OpenFault.Failed → Rose (L.faults links.old) (L.faults links.new) }
+    ensures kept { (¬ IsErrOf result OpenFault.Failed) → L.faults links.new ≡ L.faults links.old }
 {
     if ends.try_reserve(1).is_err() {
         return Err(OpenFault::NoMemory);
@@ -67,18 +66,21 @@ fn open_line<L: Linker>(
     ends: &mut Vec<Ends<L::O, L::I, L::P>>,
 ) -> Result<(), OpenFault>
     requires piece { has_piece (item line.now) ≡ true }
-    requires opened { L.opened links.old ≡ length ends.old.items }
+    requires opened { length (L.asked links.old) ≡ length ends.old.items }
     requires few { is_open (item line.now) ≡ true → length ends.old.items < 256 }
     ensures fresh { AreUntouched 0 (map (λ e. end_of (L.O.state e.out) (L.I.state e.inn)) ends.old.items) → AreUntouched 0 (map (λ e. end_of (L.O.state e.out) (L.I.state e.inn)) ends.new.items) }
     ensures unfinished { AllByRecursion (λ (e : Ends L.O L.I L.P). (L.O.state e.out).finished ≡ false) ends.old.items → AllByRecursion (λ (e : Ends L.O L.I L.P). (L.O.state e.out).finished ≡ false) ends.new.items }
     ensures prompt_each { L.prompt links.old ≡ true → AllByRecursion (λ (e : Ends L.O L.I L.P). (L.O.state e.out).prompt ≡ true) ends.old.items → AllByRecursion (λ (e : Ends L.O L.I L.P). (L.O.state e.out).prompt ≡ true) ends.new.items }
     ensures count { OnOk result (length ends.new.items ≡ length ends.old.items + (if is_open (item line.now) then 1 else 0)) }
     ensures err { OnErr result (length ends.new.items ≡ length ends.old.items) }
-    ensures opened { L.opened links.new ≡ length ends.new.items }
+    ensures asked { OnOk result (L.asked links.new ≡ L.asked links.old ++ specs_of (item line.now ∷ [])) }
+    ensures refused { OnErr result (L.asked links.new ≡ L.asked links.old) }
+    ensures opened { length (L.asked links.new) ≡ length ends.new.items }
     ensures back { L.back links.new ≡ L.back links.old }
     ensures prompt { L.prompt links.new ≡ L.prompt links.old }
     ensures later { L.faults links.old ≤ L.faults links.new }
     ensures failed { IsErrOf result OpenFault.Failed → Rose (L.faults links.old) (L.faults links.new) }
+    ensures kept { (¬ IsErrOf result OpenFault.Failed) → L.faults links.new ≡ L.faults links.old }
 {
     match line {
         Line::Open(open) => open_one(open, links, ends),
@@ -92,7 +94,7 @@ pub fn open_links<L: Linker>(
     links: &mut L,
     ends: &mut Vec<Ends<L::O, L::I, L::P>>,
 ) -> Result<(), OpenFault>
-    requires opened { L.opened links.old ≡ 0 }
+    requires asked { L.asked links.old ≡ [] }
     requires ends { ends.old.items ≡ [] }
     requires few { count_by is_open_line lines.now ≤ 256 }
     requires pieces { list_all has_piece_line lines.now ≡ true }
@@ -101,11 +103,14 @@ pub fn open_links<L: Linker>(
     ensures prompt_each { L.prompt links.old ≡ true → AllByRecursion (λ (e : Ends L.O L.I L.P). (L.O.state e.out).prompt ≡ true) ends.new.items }
     ensures whole { OnOk result (length ends.new.items ≡ count_by is_open_line lines.now) }
     ensures most { length ends.new.items ≤ count_by is_open_line lines.now }
-    ensures opened { L.opened links.new ≡ length ends.new.items }
+    ensures asked { OnOk result (L.asked links.new ≡ specs_of (map item lines.now)) }
+    ensures front { IsBeginning (L.asked links.new) (specs_of (map item lines.now)) }
+    ensures opened { length (L.asked links.new) ≡ length ends.new.items }
     ensures back { L.back links.new ≡ L.back links.old }
     ensures prompt { L.prompt links.new ≡ L.prompt links.old }
     ensures later { L.faults links.old ≤ L.faults links.new }
     ensures failed { IsErrOf result OpenFault.Failed → Rose (L.faults links.old) (L.faults links.new) }
+    ensures kept { (¬ IsErrOf result OpenFault.Failed) → L.faults links.new ≡ L.faults links.old }
 {
     for line in lines {
         open_line(line, links, ends)?;
@@ -116,13 +121,13 @@ pub fn open_links<L: Linker>(
 /// Gives one link back.
 fn give_one<L: Linker>(links: &mut L, link: u16, ends: Ends<L::O, L::I, L::P>)
     requires own { (L.O.state ends.out).link ≡ link }
-    requires opened { link < L.opened links.old }
+    requires opened { link < length (L.asked links.old) }
     requires next { link ≡ length (L.back links.old) }
     requires lower { AllByRecursion (λ (e : LinkEnd). e.link < link) (L.back links.old) }
     ensures back { L.back links.new ≡ L.back links.old ++ end_of (L.O.state ends.out) (L.I.state ends.inn) ∷ [] }
     ensures lower { AllByRecursion (λ (e : LinkEnd). e.link < link + 1) (L.back links.new) }
     ensures next { link + 1 ≡ length (L.back links.new) }
-    ensures opened { L.opened links.new ≡ L.opened links.old }
+    ensures asked { L.asked links.new ≡ L.asked links.old }
     ensures faults { L.faults links.new ≡ L.faults links.old }
     ensures prompt { L.prompt links.new ≡ L.prompt links.old }
 {
@@ -132,11 +137,12 @@ fn give_one<L: Linker>(links: &mut L, link: u16, ends: Ends<L::O, L::I, L::P>)
 /// Gives the links back, in order.
 pub fn give_back<L: Linker>(links: &mut L, ends: Vec<Ends<L::O, L::I, L::P>>)
     requires numbered { AreNumbered 0 (map (λ e. end_of (L.O.state e.out) (L.I.state e.inn)) ends.items) }
-    requires opened { L.opened links.old ≡ length ends.items }
+    requires opened { length (L.asked links.old) ≡ length ends.items }
     requires back { L.back links.old ≡ [] }
     requires few { length ends.items ≤ 256 }
     ensures back { L.back links.new ≡ map (λ e. end_of (L.O.state e.out) (L.I.state e.inn)) ends.items }
-    ensures opened { L.opened links.new ≡ L.opened links.old }
+    ensures numbered { AreNumbered 0 (L.back links.new) }
+    ensures asked { L.asked links.new ≡ L.asked links.old }
     ensures faults { L.faults links.new ≡ L.faults links.old }
     ensures prompt { L.prompt links.new ≡ L.prompt links.old }
 {

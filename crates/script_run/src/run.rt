@@ -15,7 +15,7 @@ ghost use Rattle.sock_words.specs.declared.outcome.Outcome.{Outcome};
 ghost use Rattle.sock_core.specs.Finish.{told_from};
 ghost use Rattle.sock_core.specs.Links.{ArePrompt};
 ghost use Rattle.sock_core.specs.Runs.{SameLinks};
-ghost use Rattle.script_run.specs.Given.{AreUntouched, has_piece};
+ghost use Rattle.script_run.specs.Given.{AreNumbered, AreUntouched, IsBeginning, has_piece, specs_of};
 ghost use Rattle.script_run.specs.Played.{IsMade, HasRun, IsRunText, turns_of};
 ghost use Rattle.report_fits.specs.Ends.{AreTold};
 
@@ -49,17 +49,22 @@ pub fn run_script<L: Linker>(
     requires script { (bytes : List ℕ) × (script_of bytes ≡ Ok script.now) }
     requires callless { is_callless script.now ≡ true }
     requires pieces { list_all has_piece script.now ≡ true }
-    requires opened { L.opened links.old ≡ 0 }
+    requires asked { L.asked links.old ≡ [] }
     requires back { L.back links.old ≡ [] }
     ensures text { IfOk result (λ text. L.prompt links.old ≡ true → IsRunText script.now (turns_of script.now schedule) text.items (L.back links.new)) }
     // In the end nobody refers to any slot: each life has ended.
     ensures over { OnOk result (L.prompt links.old ≡ true → (core : Core) → IsRunOf script.now (turns_of script.now schedule) core → (slot : ℕ) → slot < slots script.now → IsOver core.words slot) }
     ensures unopened { IsErrOf result RunFault.OpenFailed → AreUntouched 0 (L.back links.new) }
     ensures all { OnOk result (length (L.back links.new) ≡ length (link_names script.now)) }
-    ensures opened { L.opened links.new ≡ length (L.back links.new) }
+    // What is asked of the links is what the lines of the script ask, all of it unless one could not be opened.
+    ensures asked { OnOk result (L.asked links.new ≡ specs_of script.now) }
+    ensures front { IsBeginning (L.asked links.new) (specs_of script.now) }
+    ensures given_back { length (L.back links.new) ≡ length (L.asked links.new) }
+    ensures numbered { AreNumbered 0 (L.back links.new) }
     ensures prompt { L.prompt links.new ≡ L.prompt links.old }
     ensures later { L.faults links.old ≤ L.faults links.new }
     ensures failed { IsErrOf result RunFault.OpenFailed → Rose (L.faults links.old) (L.faults links.new) }
+    ensures kept { (¬ IsErrOf result RunFault.OpenFailed) → L.faults links.new ≡ L.faults links.old }
 {
     let mut ends = Vec::new(alloc);
     let opened = open_links(script.lines(), links, &mut ends);
@@ -74,7 +79,8 @@ pub fn run_script<L: Linker>(
 
 /// The answer where a link wasn't opened.
 fn not_opened(fault: OpenFault) -> RunFault
-    ensures { result ≡ RunFault.OpenFailed → fault ≡ OpenFault.Failed }
+    ensures failed { result ≡ RunFault.OpenFailed → fault ≡ OpenFault.Failed }
+    ensures kept { fault ≡ OpenFault.Failed → result ≡ RunFault.OpenFailed }
 {
     match fault {
         OpenFault::Failed => RunFault::OpenFailed,
@@ -97,19 +103,20 @@ fn run_over<L: Linker>(
     requires prompt { L.prompt links.old ≡ true → AllByRecursion (λ (e : Ends L.O L.I L.P). (L.O.state e.out).prompt ≡ true) ends.items }
     requires all { length ends.items ≡ length (link_names script.now) }
     requires few { length ends.items ≤ 256 }
-    requires opened { L.opened links.old ≡ length ends.items }
+    requires opened { length (L.asked links.old) ≡ length ends.items }
     requires back { L.back links.old ≡ [] }
     ensures text { IfOk result (λ text. L.prompt links.old ≡ true → IsRunText script.now (turns_of script.now schedule) text.items (L.back links.new)) }
     ensures back { length (L.back links.new) ≡ length ends.items }
-    ensures opened { L.opened links.new ≡ L.opened links.old }
+    ensures numbered { AreNumbered 0 (L.back links.new) }
+    ensures asked { L.asked links.new ≡ L.asked links.old }
     ensures faults { L.faults links.new ≡ L.faults links.old }
     ensures prompt { L.prompt links.new ≡ L.prompt links.old }
     ensures known { IsErrOf result RunFault.OpenFailed → ⊥ }
 {
     let machine = match Machine::new(alloc, script, ends) {
         Ok(machine) => machine,
-        Err(NotMade { ends }) => {
-            give_back(links, ends);
+        Err(NotMade { ends: unused }) => {
+            give_back(links, unused);
             return Err(RunFault::NoMemory);
         }
     };
@@ -131,11 +138,12 @@ fn run_on<L: Linker>(
     requires prompt { L.prompt links.old ≡ true → ArePrompt machine.links }
     requires all { length machine.ends ≡ length (link_names script.now) }
     requires few { length machine.ends ≤ 256 }
-    requires opened { L.opened links.old ≡ length machine.ends }
+    requires opened { length (L.asked links.old) ≡ length machine.ends }
     requires back { L.back links.old ≡ [] }
     ensures text { IfOk result (λ text. L.prompt links.old ≡ true → IsRunText script.now (turns_of script.now schedule) text.items (L.back links.new)) }
     ensures back { length (L.back links.new) ≡ length machine.ends }
-    ensures opened { L.opened links.new ≡ L.opened links.old }
+    ensures numbered { AreNumbered 0 (L.back links.new) }
+    ensures asked { L.asked links.new ≡ L.asked links.old }
     ensures faults { L.faults links.new ≡ L.faults links.old }
     ensures prompt { L.prompt links.new ≡ L.prompt links.old }
     ensures known { IsErrOf result RunFault.OpenFailed → ⊥ }

@@ -14,7 +14,7 @@ use Rattle.sock_programs.specs.declared.task.Sizes.{Sizes}
 use Rattle.sock_programs.specs.Calls as calls
 use Rattle.sock_programs.specs.Writings as heads
 use Rattle.sock_programs.specs.Programs.{Program, Do, Say, Sent, Rest, TakeMessage, TakeHome, PutHome, PutBytes, AskReady, Write, NO_SOCKET, LAST_VERSION, recycle, release, address, set_failed, no_socket, make_socket, open_from, fail_outcome, fail, hold, end_open}
-use Rattle.sock_programs.specs.Sends.{block, one_more, freed, passed, put_answered, write_link, heading_of, accept, claim_from, start, send}
+use Rattle.sock_programs.specs.Sends.{block, one_more, freed, passed, put_answered, first_put, write_link, heading_of, accept, claim_from, start, send}
 use Rattle.sock_programs.specs.Clients.{HeldLife}
 use Rattle.seat_points.specs.declared.point.Opening.{Opening}
 use Rattle.seat_points.specs.declared.point.OpenStep.{OpenStep}
@@ -141,7 +141,7 @@ module _ (a : Around) where
 
   -- the message of request q is taken, with the link in hand
   abbrev pub first_program : Sending → ℕ → ℕ → ℕ → ℕ → Program
-  first_program s q own k places = TakeMessage q (λ heading bytes. Write (heads.Puts (record { id = s.id.0; link = k; last = own; places = places }) own heading bytes 0 false) (sent_program s.operation s.id.0))
+  first_program s q own k places = TakeMessage q (λ heading bytes. first_put (record { id = s.id.0; link = k; last = own; places = places }) own heading bytes (sent_program s.operation s.id.0))
 
   abbrev pub send_program : Sending → SendStep → Program
   send_program s sends.Look = start a.sizes.requests s.operation s.id.0 a.message client_on
@@ -165,6 +165,14 @@ module _ (a : Around) where
 
     abbrev pub puts_program : Current → Bool → Program
     puts_program c asked = Write (heads.Puts (holder_of w.holder) c.ticket.0 (heading_of c.operation) a.left a.taken asked) written_program
+
+    -- a piece is put
+    abbrev pub put_piece : Current → Bool → Program
+    put_piece c asked = PutBytes w.holder.link asked (piece a.left a.taken) (put_answered (holder_of w.holder) c.ticket.0 (heading_of c.operation) a.left a.taken written_program)
+
+    -- the first look: where the life was found failed, the loop begins with a look of its own
+    abbrev pub first_look : Current → Program
+    first_look c = Do (calls.LookWord w.holder.id.0) (λ found. if vref_version found % 2 == 0 then put_piece c false else puts_program c false)
 
     abbrev pub give_program : Current → Program
     give_program c = Do (calls.SubRef (socket_id_slot w.holder.id.0)) (λ _. puts_program c false)
@@ -191,8 +199,9 @@ module _ (a : Around) where
     first_of_walk top at = next_message (record (holder_of w.holder) { last = top }) at
 
     abbrev pub write_program : WriteStep → Program
+    write_program (writes.FirstLook c) = first_look c
     write_program (writes.Look c asked) = puts_program c asked
-    write_program (writes.Put c asked) = PutBytes w.holder.link asked (piece a.left a.taken) (put_answered (holder_of w.holder) c.ticket.0 (heading_of c.operation) a.left a.taken written_program)
+    write_program (writes.Put c asked) = put_piece c asked
     write_program (writes.Ask c) = Write (heads.Waits (holder_of w.holder) c.ticket.0 (heading_of c.operation) a.left a.taken) written_program
     write_program (writes.SetOdd c) = set_failed w.holder.id.0 1009 (λ _. puts_program c false)
     write_program (writes.StoreCode c) = Do (calls.StoreCode (socket_id_slot w.holder.id.0) (socket_id_version w.holder.id.0) 1009) (λ _. give_program c)

@@ -177,6 +177,8 @@ pub struct Current {
 /// Where whoever writes a link stands, by the step that comes next.
 #[derive(Clone, Copy)]
 pub enum WriteStep {
+    /// The first look, before the first put.
+    FirstLook(Current),
     /// A look comes before a put; whether the link answered since its last put that it takes more.
     Look(Current, bool),
     Put(Current, bool),

@@ -145,6 +145,6 @@ impl Sending {
             ticket: own,
             operation,
         };
-        writer.to(WriteStep::Look(current, false))
+        writer.to(WriteStep::FirstLook(current))
     }
 }

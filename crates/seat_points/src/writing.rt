@@ -132,7 +132,7 @@ impl Writer {
             places,
         } = self.holder;
         match step {
-            WriteStep::Look(_, _) => Step::Call(Call::LookWord(id)),
+            WriteStep::FirstLook(_) | WriteStep::Look(_, _) => Step::Call(Call::LookWord(id)),
             WriteStep::Put(_, asked) => Step::PutBytes(link, asked),
             WriteStep::Ask(_) => Step::AskReady(link),
             WriteStep::SetOdd(_) => Step::Call(Call::SetOdd(id.slot())),
@@ -158,6 +158,18 @@ impl Writer {
             WriteStep::Walk(_, at, _) => Step::Call(Call::ReadNext(request_of(at))),
             WriteStep::Turn(_, at, after, _) => Step::Call(Call::TurnNext(request_of(at), after)),
             WriteStep::TakeFirst(_, at) => Step::TakeMessage(request_of(at)),
+        }
+    }
+
+    /// What follows the first look: a put, or the loop, which drops nothing before it looked again.
+    fn looked_first(self, current: Current, found: Vref) -> Next
+        ensures program { (a : Around) → next_program a result ≡ after_word (write_program a self (WriteStep.FirstLook current)) found.0 }
+        ensures hand { link_behind result ≡ None }
+    {
+        if found.is_failed() {
+            self.to(WriteStep::Look(current, false))
+        } else {
+            self.to(WriteStep::Put(current, false))
         }
     }
 
@@ -274,6 +286,7 @@ impl Writer {
         ensures hand { link_behind result ≡ None }
     {
         match step {
+            WriteStep::FirstLook(current) => self.looked_first(current, Vref::from_word(found)),
             WriteStep::Look(current, asked) => self.looked(current, asked, Vref::from_word(found)),
             WriteStep::SetOdd(current) => self.failed(current, Vref::from_word(found)),
             WriteStep::StoreCode(current) => self.to(WriteStep::GiveBack(current)),

@@ -17,7 +17,7 @@ use Rattle.sock_programs.specs.Told.{goes_well, in_hand_behind, alternate}
 use Rattle.sock_causes.specs.Stories.{Entry, In}
 use Rattle.sock_causes.specs.Explains.{Done, LastHold, Because, Explains, Tells, Grew, swapped, step}
 use Rattle.sock_causes.proofs.Tests.{split_eq, both_left, both_right, none_of}
-use Rattle.sock_causes.proofs.Pieces.{grew_on, mute_grew, release_goes, reach_goes, release_ends}
+use Rattle.sock_causes.proofs.Pieces.{grew_on, mute_grew, release_goes, release_tells, reach_goes, release_ends}
 use Rattle.sock_causes.proofs.Sending.{send_goes}
 
 -- ## What is held
@@ -203,14 +203,11 @@ module _ (slots requests : ℕ) (done : List Done) (number : ℕ) (ts : List Tas
         (λ w. subst (λ z. Explains slots requests broken done [] (task_of (ops.Drop name) ∷ ts) (drop_of number z (slots_next (without_name name held)))) (sym w.1)
         (refl, (w.0, refl), tt, follows (Some NotHeld) broken (without_name name held) (drop_wells name NotHeld)))
         (λ w. subst (λ z. Explains slots requests broken done [] (task_of (ops.Drop name) ∷ ts) (drop_of number z (slots_next (without_name name held)))) (sym w.1.1)
-        (release_goes slots requests broken done (task_of (ops.Drop name)) ts [] (λ freed. Say number (if freed then Freed else Kept) (slots_next (without_name name held)))
-        (λ freed tr grew. dropped w.0 freed tr grew) (socket_id_slot w.1.0)))
+        (release_tells slots requests broken done (task_of (ops.Drop name)) ts (λ freed. Say number (if freed then Freed else Kept) (slots_next (without_name name held)))
+        (λ tr grew won. (refl, ((w.0, won), grew.swap), grew.tells (Some Freed) tt, follows (Some Freed) broken (without_name name held) (drop_wells name Freed)))
+        (λ tr grew gave none_. (refl, ((w.0, gave, none_), grew.swap), grew.tells (Some Kept) tt, follows (Some Kept) broken (without_name name held) (drop_wells name Kept)))
+        (socket_id_slot w.1.0)))
         (subst (HeldAt name done held) there (wells name))
-      where
-        dropped : LastHold name (λ outcome. outcome ≡ Held) done → (freed : Bool) (tr : List Entry) → Grew (ops.Drop name) [] tr
-            → Explains slots requests broken done tr (task_of (ops.Drop name) ∷ ts) (Say number (if freed then Freed else Kept) (slots_next (without_name name held)))
-        dropped last true tr grew = (refl, (last, grew.swap), grew.tells (Some Freed) tt, follows (Some Freed) broken (without_name name held) (drop_wells name Freed))
-        dropped last false tr grew = (refl, (last, grew.swap), grew.tells (Some Kept) tt, follows (Some Kept) broken (without_name name held) (drop_wells name Kept))
 
     -- an operation that may come here
     operation_goes : (op : Op) → ((n : ℕ) → goes_well n op (b n) ≡ true) → Follows op → Explains slots requests broken done [] (task_of op ∷ ts) (operation (record { slots = slots; requests = requests }) held number slots_next op)

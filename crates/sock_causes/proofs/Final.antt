@@ -30,7 +30,7 @@ use Rattle.sock_causes.specs.Explains.{Done, Explained, Tells, swapped}
 use Rattle.sock_causes.specs.Causes.{Asks}
 use Rattle.sock_causes.specs.Kept.{undo, AreKept, IsOfTask, EndsIn, AreMade, AreMadeNow, SeatAt, Story, IsReady}
 use Rattle.sock_causes.proofs.Members.{all_in, all_of, get_within}
-use Rattle.sock_causes.proofs.Seats.{Less, undo_before, undo_done}
+use Rattle.sock_causes.proofs.Seats.{Less, undo_before, undo_done, from_undo}
 use Rattle.sock_causes.proofs.Tasks.{sorted_of, same_some}
 use Rattle.sock_causes.proofs.Ticks.{get_of}
 
@@ -58,10 +58,6 @@ undo_falls (d ∷ ds) todo h = (heads ds (undo_before Less ds (d.task ∷ todo) 
     heads : (xs : List Done) → AllByRecursion (λ (x : Done). AllByRecursion (Less x.task) (d.task ∷ todo)) xs → AllByRecursion (λ (x : Done). x.task.number < d.task.number) xs
     heads [] h = tt
     heads (x ∷ xs) h = (h.0.0, heads xs h.1)
-
-from_undo : (done : List Done) (todo : List Task) (t : Task) → In t (undo done todo) → ((x : Done) × In x done × (x.task ≡ t)) ⊎ In t todo
-from_undo [] todo t m = inr m
-from_undo (d ∷ ds) todo t m = ⊎_elim (λ h. inl (h.0, inr h.1, h.2)) (λ h. ⊎_elim (λ e. inl (d, inl refl, sym e)) (λ n. inr n) h) (from_undo ds (d.task ∷ todo) t m)
 
 module _ (slots requests : ℕ) (clients : List (List Task)) (es : List Event) (outcomes : List (Option Outcome)) (c : ℕ) where
   final_done : (done : List Done) → AreKept slots requests es c done → Falls done → ((x : Done) → In x done → Asks clients c x.task × (slice_get outcomes x.task.number ≡ Some x.outcome))

@@ -3,6 +3,7 @@ pub mod Senders
 pub mod Tests
 pub mod Pieces
 pub mod Sending
+pub mod AtWork
 pub mod Clients
 pub mod Broken
 pub mod Members

@@ -17,6 +17,7 @@ use Rattle.sock_programs.specs.Sends.{block}
 use Rattle.sock_programs.specs.Cores.{Core, SeatState, found_at, word_of, word_after, words_after, hand_after, homes_after, lies_at, first_of, others_of, link_place, with_seat}
 use Rattle.sock_programs.specs.Ticks.{Answer, OfPut, OfReady, Moment, quiet, IsAnswered, AreAnswered, fed, with_places, onto_first, with_message, with_link, with_put, with_ready, step_with, tick_with, ticked, run, broken_at, broken_in}
 use Rattle.sock_programs.specs.Runs.{kind_in, next_kind, IsAtRest}
+use Rattle.sock_programs.specs.Drops.{MadeIn}
 use Rattle.sock_programs.specs.Told.{AreTasks}
 use Rattle.sock_runs.proofs.Ticks.{sound_ticks}
 use Rattle.sock_runs.specs.Sound.{Sound, views_after}
@@ -100,7 +101,7 @@ module _ (p : Plan) (clients : List (List Task)) (are : AreTasks p clients) wher
   setup_tick : (c : Core) → IsAnswered c (quiet 0) → SetUp c → SetUp (ticked p c (quiet 0))
   setup_tick c answered t = let a = t.at in let s = tick_story p clients are c a.views a.events a.broken a.sound a.story (quiet 0) answered (inl (refl, t.alone)) in record {
     at = record { views = views_after p c a.views (quiet 0); events = s.0; broken = s.1; sound = sound_ticks p c a.views (quiet 0) a.sound answered; story = s.2 };
-    alone = λ e m. ⊎_elim (λ old. t.alone e old) (λ q. q) (s.3 e m);
+    alone = λ e m. ⊎_elim (λ old. t.alone e old) (λ q. q.0) (s.3 e m);
     whole = λ k m. ⊎_elim (λ old. t.whole k old) (λ q. q) (s.4 k m);
   }
 
@@ -117,12 +118,14 @@ module _ (p : Plan) (clients : List (List Task)) (are : AreTasks p clients) wher
   in_right k [] ys m = m
   in_right k (x ∷ xs) ys m = inr (in_right k xs ys m)
 
-  -- then ticks of all seats; each link that failed meanwhile did so in one of them
+  -- then ticks of all seats; each link that failed meanwhile did so in one of them, and each new step was made in one of them
   pub seats_run : (moments : List Moment) (c : Core) → AreAnswered p c moments → IsAtRest c 0 → (t : IsStoried c) → (s : IsStoried (run p c moments)) × ((k : ℕ) → In k s.broken → In k t.broken ⊎ In k (broken_in p c moments))
-  seats_run [] c answered rest t = (t, λ k m. inl m)
+      × ((e : Event) → In e s.events → In e t.events ⊎ MadeIn p clients c moments e.client e.number e.entry.call e.entry.found)
+  seats_run [] c answered rest t = (t, (λ k m. inl m), λ e m. inl m)
   seats_run (x ∷ xs) c answered rest t = let s = tick_story p clients are c t.views t.events t.broken t.sound t.story x answered.0 (inr rest) in
       let next : IsStoried (ticked p c x) = record { views = views_after p c t.views x; events = s.0; broken = s.1; sound = sound_ticks p c t.views x t.sound answered.0; story = s.2 } in
       let r = seats_run xs (ticked p c x) answered.1 (rest_stays p c x 0 rest) next in (
         r.0,
-        λ k m. ⊎_elim (λ n. ⊎_elim (λ o. inl o) (λ o. inr (in_left k (broken_at c x) (broken_in p (ticked p c x) xs) o)) (s.4 k n)) (λ n. inr (in_right k (broken_at c x) (broken_in p (ticked p c x) xs) n)) (r.1 k m),
+        (λ k m. ⊎_elim (λ n. ⊎_elim (λ o. inl o) (λ o. inr (in_left k (broken_at c x) (broken_in p (ticked p c x) xs) o)) (s.4 k n)) (λ n. inr (in_right k (broken_at c x) (broken_in p (ticked p c x) xs) n)) (r.1 k m)),
+        λ e m. ⊎_elim (λ n. ⊎_elim (λ o. inl o) (λ o. inr (inl o.1)) (s.3 e n)) (λ n. inr (inr n)) (r.2 e m),
       )

@@ -1,5 +1,5 @@
 -- What a step makes of a seat's part of the story.
-use Rattle.std.proofs.Common.{◌≡◌, ◌≢◌, ℕ, ◌+◌, ◌<◌, ◌≤◌, Bool, true, false, List, [], ◌∷◌, length, set, length-set, inl, inr, ⊎_elim, sym, refl, ap, ◌∙◌, subst, arith}
+use Rattle.std.proofs.Common.{◌≡◌, ◌≢◌, ℕ, ◌+◌, ◌<◌, ◌≤◌, ◌⊎◌, Bool, true, false, List, [], ◌∷◌, length, set, length-set, inl, inr, ⊎_elim, sym, refl, ap, ◌∙◌, subst, arith}
 use Rattle.std.specs.Prelude.{Option, Some, None, slice_get}
 use Rattle.std.specs.List.{AllByRecursion}
 use Rattle.brpc_model.specs.Order.{EachBefore}
@@ -28,7 +28,7 @@ Less a b = a.number < b.number
 
 -- ## Tasks done and to do
 
-undo_todo : (R : Task → Task → Type 0) (done : List Done) (todo : List Task) → EachBefore R (undo done todo) → EachBefore R todo
+pub undo_todo : (R : Task → Task → Type 0) (done : List Done) (todo : List Task) → EachBefore R (undo done todo) → EachBefore R todo
 undo_todo R [] todo h = h
 undo_todo R (d ∷ ds) todo h = (undo_todo R ds (d.task ∷ todo) h).1
 
@@ -45,6 +45,11 @@ pub undo_done : (done : List Done) (todo : List Task) (d : Done) → In d done �
 undo_done [] todo d m = absurd m
 undo_done (x ∷ ds) todo d (inl e) = undo_in ds (x.task ∷ todo) d.task (inl (ap (λ (y : Done). y.task) e))
 undo_done (x ∷ ds) todo d (inr m) = undo_done ds (x.task ∷ todo) d m
+
+-- a task is done or still to do
+pub from_undo : (done : List Done) (todo : List Task) (t : Task) → In t (undo done todo) → ((x : Done) × In x done × (x.task ≡ t)) ⊎ In t todo
+from_undo [] todo t m = inr m
+from_undo (d ∷ ds) todo t m = ⊎_elim (λ h. inl (h.0, inr h.1, h.2)) (λ h. ⊎_elim (λ e. inl (d, inl refl, sym e)) (λ n. inr n) h) (from_undo ds (d.task ∷ todo) t m)
 
 -- ## What is said
 

@@ -22,7 +22,7 @@ use Rattle.sock_programs.specs.declared.task.Task.{Task}
 use Rattle.sock_programs.specs.Calls.{Call, AddRef, SubRef, SetOdd, StoreCode, LoadName, LookWord, FindLink, LoadCode, ClaimRequest, PutMessage, Unconnect, SwapHead, Connect, EmptyHead, ReadNext, TurnNext, FreeRequest, StorePlace, DropPlace}
 use Rattle.sock_programs.specs.Writings.{Holder, Writing, Puts, Waits, Empties, Walks}
 use Rattle.sock_programs.specs.Programs.{Program, Do, Say, Sent, TakeMessage, TakeHome, PutBytes, Write, LAST_GENERATION, release}
-use Rattle.sock_programs.specs.Sends.{freed, one_more, passed, placed, dropped, link_failed, put_answered, ready_answered, block, write_link, heading_of, accept, claim_from, start, send}
+use Rattle.sock_programs.specs.Sends.{freed, one_more, passed, placed, dropped, link_failed, put_answered, ready_answered, block, first_put, write_link, heading_of, accept, claim_from, start, send}
 use Rattle.sock_runs.specs.Writes.{holder_of}
 use Rattle.sock_causes.specs.Stories.{Entry, In}
 use Rattle.sock_causes.specs.Explains.{Done, Explains, Explained, Tells, TellsFail, Grew, IsWriterOf, holds, holds_behind, swapped, step, broken_put, broken_ready}
@@ -204,6 +204,16 @@ module _ (slots requests : ℕ) (done : List Done) (t : Task) (ts : List Task) w
   pub round_goes : (broken : List ℕ) (trace : List Entry) (w : Writing) (after : Program) → Goes broken trace (Write w after) → Goes broken trace (block w after)
   round_goes broken trace w after x = block_goes broken trace after x.1 w broken trace record { grew = grew_same t.op trace; within = λ k m. m; writer = x.0 }
 
+  -- and the first look before them, where it would explain the loop
+  first_goes : (broken : List ℕ) (trace : List Entry) (h : Holder) (now : ℕ) (heading : Heading) (bytes : List ℕ) (after : Program) → Goes broken trace (Write (Puts h now heading bytes 0 false) after) → Goes broken trace (first_put h now heading bytes after)
+  first_goes broken trace h now heading bytes after x = let a : IsAt broken trace after x.1 h broken trace = record { grew = grew_same t.op trace; within = λ k m. m; writer = x.0 } in (
+    a.writer.holds,
+    λ found. let one : List Entry = step (LookWord h.id) found ∷ trace in let b : IsAt broken trace after x.1 h broken one = mute_at broken trace after x.1 h broken trace (LookWord h.id) found tt refl a in
+        split (eqb (vref_version found % 2) 0) (PutBytes h.link false _ (put_answered h now heading bytes 0 after)) (Write (Puts h now heading bytes 0 false) after) (Goes broken one)
+        (λ answer. put_goes broken trace after x.1 h now heading bytes 0 broken one b answer)
+        (again broken trace after x.1 (Puts h now heading bytes 0 false) broken one b),
+  )
+
   -- ## Sending
 
   module _ (name : ℕ) (bytes : List ℕ) (op : t.op ≡ ops.Send name bytes) (next : Program) where
@@ -241,7 +251,7 @@ module _ (slots requests : ℕ) (done : List Done) (t : Task) (ts : List Task) w
               split (nat_lt head IDLE) (Do (Connect q head) (λ _. after)) (write_link id q own after) (Goes broken now)
               (tt, λ z. accepted_goes follows id broken (step (Connect q head) z ∷ now) refl (tt, (tt, (tt, (tt, (tt, a.tells None)))))) (
                 tt,
-                λ k places heading message. let wrote : List Entry = step (FindLink i v) k ∷ now in (
+                λ k places heading message. let wrote : List Entry = step (FindLink i v) k ∷ now in first_goes broken wrote (record { id = id; link = k; last = own; places = places }) own heading message after (
                   record { name = name; bytes = bytes; op = op; load = inr (inr (inr (inr (inr a.load)))); link = inl refl; holds = a.held },
                   λ longer others g within. accepted_goes follows id others longer (g.swap) (g.tells None (tt, (tt, (tt, (tt, (tt, a.tells None)))))),
                 ),

@@ -30,6 +30,7 @@ use Rattle.sock_programs.specs.Programs.{Program, Do, Say, Sent, Rest, TakeMessa
 use Rattle.sock_programs.specs.Cores.{Core, SeatState, word_of, word_after, words_after, hand_after, homes_after, found_at, lies_at, link_place, others_of, first_of, next_step, with_seat, stepped}
 use Rattle.sock_programs.specs.Ticks.{OfPut, OfReady, Moment, IsAnswered, fed, with_places, onto_first, asked_link, is_refusal, broken_at, ticked}
 use Rattle.sock_programs.specs.Runs.{kind_in, next_kind, IsAtRest}
+use Rattle.sock_programs.specs.Drops.{Makes}
 use Rattle.sock_programs.specs.Told.{AreTasks, TaskFits}
 use Rattle.sock_runs.specs.Rows.{row, hand_at, took_message, link_away, link_home_again, took_bytes}
 use Rattle.sock_runs.specs.May.{May}
@@ -45,6 +46,7 @@ use Rattle.sock_causes.proofs.Names.{name_stays}
 use Rattle.sock_causes.proofs.Used.{word_stays}
 use Rattle.sock_causes.proofs.Means.{means_of, odd_failed, held_given}
 use Rattle.sock_causes.proofs.Members.{all_in, all_of, trace_here}
+use Rattle.sock_causes.proofs.AtWork.{next_is, is_at}
 use Rattle.sock_causes.proofs.Holding.{holds_row}
 use Rattle.sock_causes.proofs.Sending.{Within, round_goes}
 use Rattle.sock_causes.proofs.Broken.{good_more}
@@ -310,14 +312,19 @@ module _ (p : Plan) (clients : List (List Task)) (are : AreTasks p clients) (c :
 
 module _ (p : Plan) (clients : List (List Task)) (are : AreTasks p clients) (c : Core) (vs : List View) (es : List Event) (broken : List ℕ) (sound : Sound p c vs) (story : Story p clients c vs es broken)
     (m : Moment) (answered : IsAnswered c m) (moves : MayMove c es m.seat) where
-  -- behind the tick the story holds of the core and the views, each new step is of the moment's seat, and each link that failed since did so in the tick
-  abbrev Goes : Core → List View → Type 0
-  Goes d us = (es' : List Event) × (broken' : List ℕ) × Story p clients d us es' broken' × ((e : Event) → In e es' → In e es ⊎ (e.client ≡ m.seat)) × ((k : ℕ) → In k broken' → In k broken ⊎ In k (broken_at c m))
+  -- a step of the moment's seat, made in this tick
+  abbrev IsNew : Event → Type 0
+  IsNew e = (e.client ≡ m.seat) × Makes p clients c m e.client e.number e.entry.call e.entry.found
 
-  new_step : (todo : List Task) (entry : Entry) (e : Event) → In e (told_of m.seat todo entry es) → In e es ⊎ (e.client ≡ m.seat)
-  new_step [] entry e n = inl n
-  new_step (t ∷ ts) entry e (inl same) = inr (ap (λ (x : Event). x.client) same)
-  new_step (t ∷ ts) entry e (inr n) = inl n
+  -- behind the tick the story holds of the core and the views, each new step was made in it by the moment's seat, and each link that failed since did so in the tick
+  abbrev Goes : Core → List View → Type 0
+  Goes d us = (es' : List Event) × (broken' : List ℕ) × Story p clients d us es' broken' × ((e : Event) → In e es' → In e es ⊎ IsNew e) × ((k : ℕ) → In k broken' → In k broken ⊎ In k (broken_at c m))
+
+  new_step : (seat : SeatState) (v : View) (call : Call) (next : ℕ → Program) → get_elem? c.seats m.seat ≡ some seat → first_step seat.program ≡ Do call next → (tasks : List Task) → slice_get clients m.seat ≡ Some tasks
+      → (done : List Done) (todo : List Task) → SeatAt p es broken c.outcomes m.seat tasks done todo seat.program v → (e : Event) → In e (told_of m.seat todo (step call (found_at c.words (word_of p call))) es) → In e es ⊎ IsNew e
+  new_step seat v call next at does tasks asks done [] s e n = inl n
+  new_step seat v call next at does tasks asks done (t ∷ ts) s e (inl same) = inr (subst IsNew (sym same) (refl, record { seat = refl; at = is_at p clients are c es broken m.seat tasks asks done t ts seat.program v s; next = next_is c m.seat seat call next at does; word = refl }))
+  new_step seat v call next at does tasks asks done (t ∷ ts) s e (inr n) = inl n
 
   -- whoever is asked and answers that it failed is the link broken in the tick
   broken_here : (seat : SeatState) (k : ℕ) → get_elem? c.seats m.seat ≡ some seat → is_refusal m.answer ≡ true → asked_link seat.program ≡ k ∷ [] → In k (broken_at c m)
@@ -399,7 +406,7 @@ module _ (p : Plan) (clients : List (List Task)) (are : AreTasks p clients) (c :
         told_of m.seat t.todo entry es,
         broken,
         step_story p clients are c vs es broken sound story m.seat seat v t.tasks at here t.asks_ call next goes.0 (never_at_rest seat call next at is) t.done t.todo s,
-        new_step t.todo entry,
+        new_step seat v call next at is t.tasks t.asks_ t.done t.todo t.told,
         λ k n. inl n,
       ))
       (λ seat v q next heading bytes at here is goes at_home. let t = teller seat v at here in

@@ -1,5 +1,5 @@
 -- A run that began with its setup, and in which no seat has a step left, tells why each of its tasks has its outcome, and what its links accepted.
-use Rattle.std.proofs.Common.{◌≡◌, ◌≢◌, ℕ, ◌+◌, ◌*◌, ◌%◌, ◌<◌, ◌≤◌, ◌⊎◌, Bool, true, false, List, length, inl, inr, ⊎_elim, sym, refl, ap, ◌∙◌, subst, arith}
+use Rattle.std.proofs.Common.{◌≡◌, ◌≢◌, ℕ, ◌+◌, ◌-◌, ◌*◌, ◌%◌, ◌<◌, ◌≤◌, ◌⊎◌, Bool, true, false, List, length, inl, inr, ⊎_elim, sym, refl, ap, ◌∙◌, subst, arith}
 use Rattle.std.specs.Prelude.{Option, Some, None, slice_get, slice_index, nat_le, Contains}
 use Rattle.std.proofs.lemmas.List.{length-map}
 use Rattle.std.proofs.lemmas.Bool.{leb-true, le-leb}
@@ -8,6 +8,7 @@ use lib.ListN.{get_elem?}
 use Rattle.sock_words.specs.Words.{socket_id_version, socket_id_slot}
 use Rattle.sock_words.specs.declared.plain.Plan.{Plan}
 use Rattle.sock_words.specs.declared.outcome.Outcome.{Outcome}
+use Rattle.sock_words.specs.declared.outcome.Outcome.TheVariants.{Freed, Kept}
 use Rattle.sock_model.specs.declared.chain.Entry.{Entry}
 use Rattle.sock_model.specs.declared.chain.Heading.{Heading}
 use Rattle.sock_model.specs.declared.view.View.{View}
@@ -23,18 +24,22 @@ use Rattle.slot_laws.proofs.Numbers.{life_le}
 use Rattle.chain_laws.proofs.Lists.{at_length, at_some}
 use Rattle.chain_laws.proofs.Frames.{in_log}
 use Rattle.sock_programs.specs.declared.task.Task.{Task}
-use Rattle.sock_programs.specs.Calls.{ClaimRequest, LoadName}
+use Rattle.sock_programs.specs.Calls.{Call, SubRef, Recycle, ClaimRequest, LoadName}
 use Rattle.sock_programs.specs.Cores.{Core}
+use Rattle.sock_programs.specs.Ticks.{Moment}
 use Rattle.sock_programs.specs.Runs.{IsSettled}
-use Rattle.sock_programs.specs.Told.{AreTasks, Accepted, Order, StandsAt, AreOrders, IsTask, Became, Made, IsFail, IsSent, InOwnOrder, Told}
+use Rattle.sock_programs.specs.Drops.{MadeIn, AreDropsTold}
+use Rattle.sock_programs.specs.declared.task.Op.{Op}
+use Rattle.sock_programs.specs.declared.task.Op.TheVariants as ops
+use Rattle.sock_programs.specs.Told.{AreTasks, IsOpen, Accepted, Order, StandsAt, AreOrders, IsTask, Became, Made, IsFail, IsSent, InOwnOrder, Told}
 use Rattle.sock_runs.specs.GoesOn.{GoesOn, HasNothing}
 use Rattle.sock_runs.specs.Sound.{state, Sound, AllRest}
-use Rattle.sock_causes.specs.Stories.{Event, In}
-use Rattle.sock_causes.specs.Explains.{step}
+use Rattle.sock_causes.specs.Stories.{Event, In, trace_of}
+use Rattle.sock_causes.specs.Explains.{step, Because, Explained, WonRecycling, GaveBackOnly}
 use Rattle.sock_causes.specs.Causes.{Asks, WasGiven}
 use Rattle.sock_causes.specs.Kept.{StaysUsed, Story}
 use Rattle.sock_causes.proofs.Members.{all_of, in_contains, from_trace, get_within}
-use Rattle.sock_causes.proofs.Tasks.{one_task}
+use Rattle.sock_causes.proofs.Tasks.{one_task, setup_opens, same_some}
 use Rattle.sock_causes.proofs.Sending.{Within}
 use Rattle.sock_causes.proofs.Broken.{good_more}
 use Rattle.sock_causes.proofs.Events.{event, marked_fail}
@@ -215,6 +220,34 @@ module _ (p : Plan) (clients : List (List Task)) (are : AreTasks p clients) (c :
     own_order = λ k kl. each_before p d ws ended.lawful (each_made p clients are c vs es failed sound story settled d ws ended.lawful left) (InOwnOrder clients c.outcomes) k own_before other_before;
     dropped = λ k kl less. link_failed k (dropped_before k kl less);
   }
+
+  -- ## Drops
+
+  -- where each step of the story was made by the setup, or in these ticks
+  module _ (from : Core) (ms : List Moment) (steps : (e : Event) → In e es → (e.client ≡ 0) ⊎ MadeIn p clients from ms e.client e.number e.entry.call e.entry.found) where
+    made_step : (i o : ℕ) → (i ≡ 0 → ⊥) → (call : Call) (found : ℕ) → In (step call found) (trace_of i o es) → MadeIn p clients from ms i o call found
+    made_step i o later call found m = ⊎_elim (λ z. absurd (later z)) (λ x. x) (steps (event i o call found) (from_trace i o es (step call found) m))
+
+    -- the setup has no drops
+    drops_later : (i n : ℕ) (t : Task) → Asks clients i t → t.op ≡ ops.Drop n → i ≡ 0 → ⊥
+    drops_later i n t asks op z = subst IsOpen op (setup_opens p clients are t (subst (λ k. Asks clients k t) z asks))
+
+    because : (i : ℕ) (t : Task) (asks : Asks clients i t) (op : Op) (o : Outcome) → t.op ≡ op → Became clients c.outcomes t.number o → Because p.slots p.requests (each_final i t asks).before (trace_of i t.number es) op o
+    because i t asks op o is became = let fin = each_final i t asks in let q : fin.outcome ≡ Some o = same_some (slice_get c.outcomes t.number) fin.outcome (Some o) fin.became became in
+        subst (λ (z : Op). Because p.slots p.requests fin.before (trace_of i t.number es) z o) is (subst (Explained p.slots p.requests fin.before (trace_of i t.number es) t.op) q fin.explained).0
+
+    drops_there : AreDropsTold p clients c.outcomes from ms
+    drops_there = record {
+      freed = λ i t n is op became. let asks = asks_of p clients c.outcomes broken orders es world i t is in let x = because i t asks (ops.Drop n) Freed op became in let w : WonRecycling (trace_of i t.number es) = x.1 in
+          (w.0, w.1, made_step i t.number (drops_later i n t asks op) (Recycle w.0 w.1) w.1 w.2);
+      kept = λ i t n is op became. let asks = asks_of p clients c.outcomes broken orders es world i t is in let x = because i t asks (ops.Drop n) Kept op became in let g : GaveBackOnly (trace_of i t.number es) = x.1 in
+          let later = drops_later i n t asks op in
+          (g.0, g.1, made_step i t.number later (SubRef g.0) g.1 g.2, ⊎_elim (λ none_. inl none_) (λ lost. inr (lost.0, made_step i t.number later (Recycle g.0 (g.1 - 1)) lost.0 lost.1, lost.2)) g.3);
+    }
+
+    -- each drop was answered by what its own steps did
+    pub drops_at : AreDropsTold p clients d.outcomes from ms
+    drops_at = subst (λ (os : List (Option Outcome)). AreDropsTold p clients os from ms) (sym left.outcomes) drops_there
 
   -- each task has its outcome or its message was accepted, each outcome its cause, and each message its link
   pub told_at : Told clients d.outcomes p d broken

@@ -309,8 +309,8 @@ module _ (p : Plan) (clients : List (List Task)) (outcomes : List (Option Outcom
 
     why_drop : (n : ℕ) (o : Outcome) → Holds (ops.Drop n) o
     why_drop n NotHeld op e b = after_hold c t a n (λ x. x ≢ Held) b
-    why_drop n Freed op e b = after_hold c t a n (λ x. x ≡ Held) b
-    why_drop n Kept op e b = after_hold c t a n (λ x. x ≡ Held) b
+    why_drop n Freed op e b = after_hold c t a n (λ x. x ≡ Held) b.0
+    why_drop n Kept op e b = after_hold c t a n (λ x. x ≡ Held) b.0
     why_drop n _ op e b = absurd b
 
     why_each : (op : Op) (o : Outcome) → Holds op o

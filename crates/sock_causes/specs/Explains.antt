@@ -1,7 +1,7 @@
 -- A program that says an outcome of each task in order, or has its message accepted, each explained by the steps that were made for it.
 use Rattle.std.specs.Prelude.{ℕ, ◌+◌, ◌-◌, ◌%◌, ◌==◌, ◌≡◌, ◌≢◌, ◌<◌, ◌⊎◌, Bool, true, false, if◌then◌else◌, List, [], ◌∷◌, Option, Some, None}
 use Rattle.std.specs.List.{AllByRecursion}
-use Rattle.sock_words.specs.Words.{socket_id, socket_id_version, socket_id_slot, vref_version}
+use Rattle.sock_words.specs.Words.{socket_id, socket_id_version, socket_id_slot, vref_version, vref_nref}
 use Rattle.sock_words.specs.declared.outcome.Outcome.{Outcome}
 use Rattle.sock_words.specs.declared.outcome.Outcome.TheVariants.{Opened, SlotsFull, Unopened, Gone, Full, Held, Freed, Kept, NotHeld, Failed, Already}
 use Rattle.sock_io.specs.declared.link.Put.{Put}
@@ -14,7 +14,7 @@ use Rattle.sock_model.specs.Weights.{is_hold}
 use Rattle.sock_programs.specs.declared.task.Op.{Op}
 use Rattle.sock_programs.specs.declared.task.Op.TheVariants as ops
 use Rattle.sock_programs.specs.declared.task.Task.{Task}
-use Rattle.sock_programs.specs.Calls.{Call, ClaimSlot, GiveBirth, AddRef, SubRef, SetOdd, StoreName, LoadName, LookWord, FindLink, ClaimRequest, PutMessage, Unconnect, SwapHead}
+use Rattle.sock_programs.specs.Calls.{Call, ClaimSlot, GiveBirth, AddRef, SubRef, SetOdd, Recycle, StoreName, LoadName, LookWord, FindLink, ClaimRequest, PutMessage, Unconnect, SwapHead}
 use Rattle.sock_programs.specs.Programs.{Program, Do, Say, Sent, Rest, fail_outcome, TakeMessage, TakeHome, PutHome, PutBytes, AskReady, Write}
 use Rattle.sock_programs.specs.Sends.{heading_of}
 use Rattle.sock_runs.specs.Writes.{holder_of}
@@ -117,6 +117,19 @@ WasGone n trace found = (id : ℕ) × In (step (LoadName n) (id + 1)) trace × I
 abbrev pub WasOdd : ℕ → List Entry → ℕ → Type 0
 WasOdd n trace found = (id : ℕ) × In (step (LoadName n) (id + 1)) trace × In (step (LookWord id) found) trace × (vref_version found % 2 ≡ 1)
 
+-- the operation's own exchange recycled a slot: it found the word that it expected
+abbrev pub WonRecycling : List Entry → Type 0
+WonRecycling trace = (i from : ℕ) × In (step (Recycle i from) from) trace
+
+-- it gave a reference back, and was not the last at a failed life, or its exchange found another word
+abbrev pub GaveBackOnly : List Entry → Type 0
+GaveBackOnly trace = (i found : ℕ) × In (step (SubRef i) found) trace
+    × ((((vref_version found % 2 ≡ 1) × (vref_nref found ≡ 1)) → ⊥) ⊎ ((other : ℕ) × In (step (Recycle i (found - 1)) other) trace × (other ≢ found - 1)))
+
+-- its exchange recycled none
+abbrev pub RecycledNone : List Entry → Type 0
+RecycledNone trace = (i from : ℕ) → In (step (Recycle i from) from) trace → ⊥
+
 -- these steps explain the outcome, behind these tasks, over a table of so many slots and requests
 abbrev pub Because : ℕ → ℕ → List Done → List Entry → Op → Outcome → Type 0
 Because slots requests done trace (ops.Open n k) (Opened i version l) = (l ≡ k) × (found x : ℕ) × In (step (GiveBirth i k) found) trace × (version ≡ vref_version found)
@@ -133,8 +146,8 @@ Because slots requests done trace (ops.Fail n code) (Gone found) = WasGone n tra
 Because slots requests done trace (ops.Fail n code) (Already found) = (i : ℕ) × In (step (SetOdd i) found.0) trace × (vref_version found.0 % 2 ≡ 1)
 Because slots requests done trace (ops.Fail n code) Failed = (i found : ℕ) × In (step (SetOdd i) found) trace × (vref_version found % 2 ≡ 0)
 Because slots requests done trace (ops.Drop n) NotHeld = LastHold n (λ outcome. outcome ≢ Held) done
-Because slots requests done trace (ops.Drop n) Freed = LastHold n (λ outcome. outcome ≡ Held) done
-Because slots requests done trace (ops.Drop n) Kept = LastHold n (λ outcome. outcome ≡ Held) done
+Because slots requests done trace (ops.Drop n) Freed = LastHold n (λ outcome. outcome ≡ Held) done × WonRecycling trace
+Because slots requests done trace (ops.Drop n) Kept = LastHold n (λ outcome. outcome ≡ Held) done × GaveBackOnly trace × RecycledNone trace
 Because slots requests done trace op outcome = ⊥
 
 abbrev pub IsSend : Op → Type 0

@@ -154,6 +154,7 @@ module _ (a : Around) (on : (hs : List HeldLife) → IsCalm (next_step (a.goes_o
   behind_word (points.Send s (sends.FindLink q own)) found goes = inl tt
   behind_word (points.Send s (sends.TakeHome q own k)) found goes = absurd goes
   behind_word (points.Send s (sends.TakeMessage q own k n)) found goes = absurd goes
+  behind_word (points.Write w (writes.FirstLook c)) found goes = inl (either_way (vref_version found % 2 == 0) _ _ Calm refl refl)
   behind_word (points.Write w (writes.Look c asked)) found goes = inr ((λ outs paced. either_way (vref_version found % 2 == 0) _ _ (λ x. IsPaced outs (next_step x)) paced tt), (w.holder.id.0, refl))
   behind_word (points.Write w (writes.Put c asked)) found goes = absurd goes
   behind_word (points.Write w (writes.Ask c)) found goes = absurd goes
@@ -177,7 +178,7 @@ module _ (a : Around) (on : (hs : List HeldLife) → IsCalm (next_step (a.goes_o
 -- ## Behind the others
 
 pub behind_message : (a : Around) (p : Point) (o : ℕ) (bytes : List ℕ) → TakesMessage p → IsCalm (next_step (after_message (point_program a p) o bytes))
-behind_message a (points.Send s (sends.TakeMessage q own k n)) o bytes takes = refl
+behind_message a (points.Send s (sends.TakeMessage q own k n)) o bytes takes = tt
 behind_message a (points.Write w (writes.TakeMessage next)) o bytes takes = refl
 behind_message a (points.Write w (writes.TakeFirst top at)) o bytes takes = refl
 behind_message a _ o bytes takes = absurd takes

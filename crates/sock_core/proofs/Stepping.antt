@@ -163,6 +163,7 @@ behind_put a other (points.Send s (sends.Connect q before)) = tt
 behind_put a other (points.Send s (sends.FindLink q own)) = tt
 behind_put a other (points.Send s (sends.TakeHome q own k)) = tt
 behind_put a other (points.Send s (sends.TakeMessage q own k n)) = tt
+behind_put a other (points.Write w (writes.FirstLook m)) = tt
 behind_put a other (points.Write w (writes.Look m asked)) = tt
 behind_put a other (points.Write w (writes.Put m asked)) = tt
 behind_put a other (points.Write w (writes.Ask m)) = tt

@@ -209,6 +209,7 @@ module _ (p : Plan) (c : Core) where
   asks_link a (points.Send s (sends.FindLink q own)) = tt
   asks_link a (points.Send s (sends.TakeHome q own k)) = tt
   asks_link a (points.Send s (sends.TakeMessage q own k n)) = tt
+  asks_link a (points.Write w (writes.FirstLook m)) = tt
   asks_link a (points.Write w (writes.Look m asked)) = tt
   asks_link a (points.Write w (writes.Put m asked)) = tt
   asks_link a (points.Write w (writes.Ask m)) = (refl, refl, refl, (_, _, refl, refl))

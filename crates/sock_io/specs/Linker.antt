@@ -6,10 +6,10 @@ use Rattle.sock_io.specs.declared.shape.Shape.{Shape}
 use Rattle.sock_io.specs.Link.{OutState, ConnectionEnd}
 use Rattle.sock_io.specs.Shape.{ShapedState}
 
--- how many links were opened and connections accepted, those given back, the numbers of the `open` calls that fail, the
+-- what was asked of each link that was opened, how many connections were accepted, those given back, the numbers of the `open` calls that fail, the
 -- put from which on the links fail where it isn't asked for, how many `open` calls were made, and the count of faults
 pub record SinkLinkerState : Type 0 where
-  pub opened : ℕ
+  pub asked : List LinkSpec
   pub accepted : ℕ
   pub back : List LinkEnd
   pub done : List ConnectionEnd

@@ -159,14 +159,16 @@ pub enum OpenFault {
 ///
 /// Its count of faults never falls: it rises where a call answers `Failed`, and stands still otherwise.
 pub trait Linker {
+    ghost use Rattle.sock_io.specs.declared.link.LinkSpec.{LinkSpec};
+
     type O: Out + Send + Sync;
 
     type I: In + Send + Sync;
 
     type P: Peer + Send + Sync;
 
-    /// How many links were opened.
-    ghost opened: { Self → ℕ };
+    /// What was asked of each link that was opened, in order.
+    ghost asked: { Self → List LinkSpec };
 
     /// How many connections were accepted.
     ghost accepted: { Self → ℕ };
@@ -185,12 +187,12 @@ pub trait Linker {
     /// Opens the next link, and reserves the room for its `back`.
     fn open(&mut self, spec: &LinkSpec) -> Result<Ends<Self::O, Self::I, Self::P>, OpenFault>
         requires piece { 0 < spec.now.piece }
-        requires few { opened self.old < 256 }
-        ensures fresh { IfOk result (λ ends. IsFresh (Self.O.state ends.out) (Self.I.state ends.inn) (opened self.old)) }
+        requires few { length (asked self.old) < 256 }
+        ensures fresh { IfOk result (λ ends. IsFresh (Self.O.state ends.out) (Self.I.state ends.inn) (length (asked self.old))) }
         ensures peer { IfOk result (λ ends. IsNewPeer (Self.P.state ends.peer)) }
         ensures prompt { IfOk result (λ ends. prompt self.old ≡ true → spec.now.mode ≡ Mode.Loop → (Self.O.state ends.out).prompt ≡ true) }
-        ensures opened { IfOk result (λ _. opened self.new ≡ opened self.old + 1) }
-        ensures refused { OnErr result (opened self.new ≡ opened self.old) }
+        ensures asked { IfOk result (λ _. asked self.new ≡ asked self.old ++ spec.now ∷ []) }
+        ensures refused { OnErr result (asked self.new ≡ asked self.old) }
         ensures accepted { accepted self.new ≡ accepted self.old }
         ensures back { back self.new ≡ back self.old }
         ensures done { done self.new ≡ done self.old }
@@ -206,7 +208,7 @@ pub trait Linker {
         ensures out { Self.O.state ends.new.out ≡ Self.O.state ends.old.out }
         ensures inn { Self.I.state ends.new.inn ≡ Self.I.state ends.old.inn }
         ensures err { OnErr result ((self.new ≡ self.old) × (ends.new ≡ ends.old)) }
-        ensures opened { opened self.new ≡ opened self.old }
+        ensures asked { asked self.new ≡ asked self.old }
         ensures accepted { accepted self.new ≡ accepted self.old }
         ensures back { back self.new ≡ back self.old }
         ensures done { done self.new ≡ done self.old }
@@ -220,7 +222,7 @@ pub trait Linker {
         ensures fresh { IfOk result (λ halves. IsUnused (Self.O.state halves.0) (Self.I.state halves.1)) }
         ensures accepted { IfOk result (λ _. accepted self.new ≡ accepted self.old + 1) }
         ensures refused { OnErr result (accepted self.new ≡ accepted self.old) }
-        ensures opened { opened self.new ≡ opened self.old }
+        ensures asked { asked self.new ≡ asked self.old }
         ensures back { back self.new ≡ back self.old }
         ensures done { done self.new ≡ done self.old }
         ensures stays_prompt { prompt self.new ≡ prompt self.old }
@@ -232,7 +234,7 @@ pub trait Linker {
     fn done(&mut self, out: Self::O, inn: Self::I)
         requires { length (done self.old) < accepted self.old }
         ensures done { done self.new ≡ done self.old ++ connection_of (Self.O.state out) (Self.I.state inn) ∷ [] }
-        ensures opened { opened self.new ≡ opened self.old }
+        ensures asked { asked self.new ≡ asked self.old }
         ensures accepted { accepted self.new ≡ accepted self.old }
         ensures back { back self.new ≡ back self.old }
         ensures stays_prompt { prompt self.new ≡ prompt self.old }
@@ -240,13 +242,13 @@ pub trait Linker {
 
     /// Takes a link back, which was opened and not given back before.
     fn back(&mut self, link: u16, ends: Ends<Self::O, Self::I, Self::P>)
-        requires opened { link < opened self.old }
+        requires opened { link < length (asked self.old) }
         requires own { (Self.O.state ends.out).link ≡ link }
         requires once { AllByRecursion (λ (e : LinkEnd). e.link ≢ link) (back self.old) }
-        requires fewer { length (back self.old) < opened self.old }
+        requires fewer { length (back self.old) < length (asked self.old) }
         ensures back { back self.new ≡ back self.old ++ end_of (Self.O.state ends.out) (Self.I.state ends.inn) ∷ [] }
         ensures done { done self.new ≡ done self.old }
-        ensures opened { opened self.new ≡ opened self.old }
+        ensures asked { asked self.new ≡ asked self.old }
         ensures accepted { accepted self.new ≡ accepted self.old }
         ensures stays_prompt { prompt self.new ≡ prompt self.old }
         ensures faults { faults self.new ≡ faults self.old };

@@ -37,7 +37,7 @@ pub struct SinkLinker {
     fail_opens: Vec<u32>,
     fail_put: u32,
     calls: u64,
-    opened: u16,
+    asked: Vec<LinkSpec>,
     accepted: u16,
     faults: u64,
     links: Vec<Link>,
@@ -53,21 +53,21 @@ impl Model for SinkLinker {
 
     ghost Value = { SinkLinkerState };
 
-    ghost view = { λ l. record { opened = l.opened; accepted = l.accepted; back = map (λ e. end_of (shaped_out e.out) (mem_in e.inn)) l.links.items; done = map (λ c. connection_of (shaped_out c.out) (mem_in c.inn)) l.connections.items; fail_opens = l.fail_opens.items; fail_put = l.fail_put; calls = l.calls; faults = l.faults } };
+    ghost view = { λ l. record { asked = l.asked.items; accepted = l.accepted; back = map (λ e. end_of (shaped_out e.out) (mem_in e.inn)) l.links.items; done = map (λ c. connection_of (shaped_out c.out) (mem_in c.inn)) l.connections.items; fail_opens = l.fail_opens.items; fail_put = l.fail_put; calls = l.calls; faults = l.faults } };
 
-    ghost invariant = { λ l. (l.opened ≤ vec_capacity l.links) × (vec_len l.links ≤ l.opened) × (l.accepted ≤ vec_capacity l.connections) × (vec_len l.connections ≤ l.accepted) };
+    ghost invariant = { λ l. (vec_len l.asked ≤ vec_capacity l.links) × (vec_len l.links ≤ vec_len l.asked) × (l.accepted ≤ vec_capacity l.connections) × (vec_len l.connections ≤ l.accepted) };
 }
 
 impl SinkLinker {
     pub fn new(alloc: Global, fail_opens: Vec<u32>, fail_put: u32) -> Self
-        ensures { result ≡ record { opened = 0; accepted = 0; back = []; done = []; fail_opens = fail_opens.items; fail_put = fail_put; calls = 0; faults = 0 } }
+        ensures { result ≡ record { asked = []; accepted = 0; back = []; done = []; fail_opens = fail_opens.items; fail_put = fail_put; calls = 0; faults = 0 } }
     {
         SinkLinker {
             alloc,
             fail_opens,
             fail_put,
             calls: 0,
-            opened: 0,
+            asked: Vec::new(alloc),
             accepted: 0,
             faults: 0,
             links: Vec::new(alloc),
@@ -83,7 +83,7 @@ impl Linker for SinkLinker {
 
     type P = NoPeer;
 
-    ghost opened = { λ l. l.opened };
+    ghost asked = { λ l. l.asked };
 
     ghost accepted = { λ l. l.accepted };
 
@@ -97,10 +97,10 @@ impl Linker for SinkLinker {
 
     fn open(&mut self, spec: &LinkSpec) -> Result<Link, OpenFault>
         requires piece { 0 < spec.now.piece }
-        requires few { self.old.opened < 256 }
-        ensures out { IfOk result (λ ends. ends.out ≡ new_half self.old.opened (shape_of spec.now self.old.fail_put)) }
+        requires few { length self.old.asked < 256 }
+        ensures out { IfOk result (λ ends. ends.out ≡ new_half (length self.old.asked) (shape_of spec.now self.old.fail_put)) }
         ensures inn { IfOk result (λ ends. ends.inn ≡ empty_in Ending.Open) }
-        ensures linker { IfOk result (λ _. self.new ≡ record self.old { opened = self.old.opened + 1; calls = next_number self.old.calls }) }
+        ensures linker { IfOk result (λ _. self.new ≡ record self.old { asked = self.old.asked ++ spec.now ∷ []; calls = next_number self.old.calls }) }
         ensures refused { OnErr result (self.new ≡ record self.old { calls = next_number self.old.calls; faults = self.new.faults }) }
         ensures later { self.old.faults ≤ self.new.faults }
         ensures failed { IsErrOf result OpenFault.Failed → Rose self.old.faults self.new.faults }
@@ -112,8 +112,9 @@ impl Linker for SinkLinker {
             self.faults = risen(self.faults);
             return Err(OpenFault::Failed);
         }
-        let room = self.opened as usize + 1 - self.links.len();
-        if self.links.reserve(room).is_err() {
+        let opened = self.asked.len();
+        let room = opened + 1 - self.links.len();
+        if self.asked.reserve(1).is_err() || self.links.reserve(room).is_err() {
             return Err(OpenFault::NoMemory);
         }
         let fail = if spec.fail == 0 {
@@ -126,9 +127,9 @@ impl Linker for SinkLinker {
             again: spec.again,
             fail,
         };
-        match Shaped::new(self.alloc, MemOut::new(self.opened), shape) {
+        match Shaped::new(self.alloc, MemOut::new(opened as u16), shape) {
             Ok(out) => {
-                self.opened += 1;
+                self.asked.push_reserved(*spec);
                 Ok(Ends {
                     out,
                     inn: MemIn::new(self.alloc, Ending::Open),
@@ -189,7 +190,7 @@ impl Linker for SinkLinker {
     }
 
     fn back(&mut self, _link: u16, ends: Link)
-        requires { length self.old.back < self.old.opened }
+        requires { length self.old.back < length self.old.asked }
         ensures { self.new ≡ record self.old { back = self.old.back ++ end_of (shaped_out ends.out) (mem_in ends.inn) ∷ [] } }
     {
         match self.links.push(ends) {

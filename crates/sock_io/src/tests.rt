@@ -153,7 +153,7 @@ fn reading_half_in_memory(rt: HostRuntime) {
 /// Opens a link, puts two bytes into it, finishes it, settles it and gives it back: what its halves answered.
 fn use_link<L: Linker>(links: &mut L, spec: &LinkSpec) -> Result<(Put, Take, Take), OpenFault>
     requires piece { 0 < spec.now.piece }
-    requires first { L.opened links.old ≡ 0 }
+    requires first { L.asked links.old ≡ [] }
     requires none { L.back links.old ≡ [] }
 {
     let mut room = [0; 2];

@@ -26,6 +26,8 @@ pub struct View {
     pub passes: [u16; 0],
     /// How many seats may still be split off.
     pub spare: u16,
+    /// For how many of the table's seats it stands: itself, those that it took in, and those that it has yet to split off.
+    pub share: u16,
     /// The words that were stored for names and operations, the latest first.
     pub stores: [[StoredWord; 0]; 0],
     /// The requests that it claimed and has not exchanged.
@@ -39,6 +41,8 @@ pub struct View {
     /// The places of words that it left or found other than 0 and that never become 0 again: of names, of operations, and
     /// of requests that it found taken.
     pub found: [usize; 0],
+    /// What it found other than 0 at names and operations, the latest first.
+    pub finds: [StoredWord; 0],
     /// The accepted entries, the earliest first.
     pub lists: [[Entry; 0]; 0],
 }

@@ -18,3 +18,4 @@ pub mod Runs
 pub mod Scripts
 pub mod Told
 pub mod ToldCalls
+pub mod Drops

@@ -68,19 +68,19 @@ unlists lists views log id v w h here one none_ = record {
 
 module _ {S : Type 0} {shows : S → Home} {p : Plan} {s : State S View} (o : Lawful shows p s) (id : ℕ) (v : View) (here : get_elem? s.views id ≡ some v) (one : v.lists ≡ [] ∷ []) where
   -- a seat that accepted nothing may do without its list
-  pub unlisted_law : Lawful shows p record { words = s.words; homes = s.homes; views = set s.views id (record v { lists = [] }) }
-  unlisted_law = let same : SameSlots v (record v { lists = [] }) = record { plan = refl; marks = refl; passes = λ k. omega arith; spare = refl; stores = refl } in
-      let rights : (k : ℕ) → (tokens (set s.views id (record v { lists = [] }))).rights k ≡ (tokens s.views).rights k = λ k. gather_same (rights_on k) s.views id v (record v { lists = [] }) here refl in
-      let claims : (q : ℕ) → (tokens (set s.views id (record v { lists = [] }))).claims q ≡ (tokens s.views).claims q = λ q. gather_same (claims_of q) s.views id v (record v { lists = [] }) here refl in
-      chain_frame shows p s o id v (record v { lists = [] }) here s.words s.homes same (beside_all p o.slot s.words) o.log o.freed o.places o.kept o.in_slots.entered
+  pub unlisted_law : Lawful shows p record { words = s.words; homes = s.homes; views = set s.views id (record v { lists = []; share = 0 }) }
+  unlisted_law = let same : SameSlots v (record v { lists = []; share = 0 }) = record { plan = refl; marks = refl; passes = λ k. omega arith; spare = refl; stores = refl } in
+      let rights : (k : ℕ) → (tokens (set s.views id (record v { lists = []; share = 0 }))).rights k ≡ (tokens s.views).rights k = λ k. gather_same (rights_on k) s.views id v (record v { lists = []; share = 0 }) here refl in
+      let claims : (q : ℕ) → (tokens (set s.views id (record v { lists = []; share = 0 }))).claims q ≡ (tokens s.views).claims q = λ q. gather_same (claims_of q) s.views id v (record v { lists = []; share = 0 }) here refl in
+      chain_frame shows p s o id v (record v { lists = []; share = 0 }) here s.words s.homes same (beside_all p o.slot s.words) o.log o.freed o.places o.kept o.in_slots.entered
       (λ i r g. let x = o.held id v here i r g in let h = x.3 in (x.0, x.1, x.2, record { inside = h.inside; held = h.held; met = h.met }))
-      (carried_same shows p s o id v (record v { lists = [] }) here s.words s.homes same (beside_all p o.slot s.words) refl) (λ k e. (refl, refl, refl))
-      (chains_frame o.chains (λ k kl. refl) (λ q ql. refl) (λ q ql. refl) (λ k kl. rights k) (λ q ql. claims q) (λ q ql. gather_same (loose_at q) s.views id v (record v { lists = [] }) here refl))
-      (unlists (λ (y : View). y.lists) s.views o.log id v (record v { lists = [] }) o.authors here one refl)
-      (messages_frame o.chains o.messages (tokens (set s.views id (record v { lists = [] }))) (message shows s.homes) (λ q ql. refl) (λ q ql. claims q)
+      (carried_same shows p s o id v (record v { lists = []; share = 0 }) here s.words s.homes same (beside_all p o.slot s.words) refl) (λ k e. (refl, refl, refl))
+      (chains_frame o.chains (λ k kl. refl) (λ q ql. refl) (λ q ql. refl) (λ k kl. rights k) (λ q ql. claims q) (λ q ql. gather_same (loose_at q) s.views id v (record v { lists = []; share = 0 }) here refl))
+      (unlists (λ (y : View). y.lists) s.views o.log id v (record v { lists = []; share = 0 }) o.authors here one refl)
+      (messages_frame o.chains o.messages (tokens (set s.views id (record v { lists = []; share = 0 }))) (message shows s.homes) (λ q ql. refl) (λ q ql. claims q)
       (λ k e kl u. record { right = u.right; has = rights k ∙ u.has; stage = u.stage; taken = u.taken }) (λ k r kl h g. (r, sym (rights k) ∙ h, g, refl, refl, refl)))
-      (delivers_same o.delivered (tokens (set s.views id (record v { lists = [] }))) (λ l. get_or s.words (place_word p l) 0) (λ l ll. refl) (λ j y jl h. (y, sym (rights j) ∙ h, refl, refl, refl)))
-      (links_frame shows p s o id v (record v { lists = [] }) here s.words s.homes same (beside_all p o.slot s.words) (λ k h. refl) (λ k x kl e. o.homes.own k x kl e)
+      (delivers_same o.delivered (tokens (set s.views id (record v { lists = []; share = 0 }))) (λ l. get_or s.words (place_word p l) 0) (λ l ll. refl) (λ j y jl h. (y, sym (rights j) ∙ h, refl, refl, refl)))
+      (links_frame shows p s o id v (record v { lists = []; share = 0 }) here s.words s.homes same (beside_all p o.slot s.words) (λ k h. refl) (λ k x kl e. o.homes.own k x kl e)
       (λ k j kl sk h. o.homes.idle k j kl sk (sym (rights k) ∙ h)) (λ k r kl h. o.homes.busy k r kl (sym (rights k) ∙ h)) (λ k kl e. refl) refl)
 
 set_last : {A : Type 0} (l : List A) (a b : A) → set (l ++ a ∷ []) (length l) b ≡ l ++ b ∷ []

@@ -12,11 +12,12 @@ use Rattle.brpc_model.specs.Complete.{FitsWhole}
 use Rattle.sock_programs.specs.Tasks.{plan_of}
 use Rattle.sock_programs.specs.Cores.{Core}
 use Rattle.sock_programs.specs.Scripts.{IsRunOf, Reports, all_tasks, broken_of, is_callless, place_words}
+use Rattle.sock_programs.specs.Drops.{DropsTold}
 use Rattle.sock_programs.specs.Told.{Told}
 use Rattle.sock_runs.specs.Sound.{IsOver}
 use Rattle.sock_runs.proofs.HandTicks.{AtHome}
 use Rattle.sock_runs.proofs.Whole.{end_over, all_homes}
-use Rattle.sock_causes.proofs.Scripts.{run_told}
+use Rattle.sock_causes.proofs.Scripts.{run_told, run_drops}
 use Rattle.client_laws.proofs.Fresh.{opening_fresh}
 use Rattle.report_fits.specs.Ends.{AreEnds, AreTold}
 use Rattle.report_fits.proofs.Fitting.{fits}
@@ -29,6 +30,10 @@ use Rattle.whole_runs.proofs.Starts.{views_of, begins}
 module _ (bytes : List ℕ) (script : List Item) (reads : script_of bytes ≡ Ok script) (turns : List Turn) (core : Core) (run : IsRunOf script turns core) where
   told : Told (all_tasks script) core.outcomes (plan_of script) core (broken_of run)
   told = run_told script (tasks_of_script bytes script reads) (views_of script) (begins bytes script reads) (opening_fresh (plan_of script) (all_tasks script)) turns core run
+
+  -- each drop was answered `freed` or `kept` by what its own steps did
+  pub run_drops_told : DropsTold run
+  run_drops_told = run_drops script (tasks_of_script bytes script reads) (views_of script) (begins bytes script reads) (opening_fresh (plan_of script) (all_tasks script)) turns core run
 
   -- each outcome of the report has its cause, and each link that tells what it took took what its lines say
   pub run_fits : is_callless script ≡ true → (report : Report) (took : List (List ℕ)) → Reports script core took report → (ends : List LinkEnd) → AreTold ends took → AreEnds script core (broken_of run) ends → FitsWhole script (report_text script report) ends nothing_late

@@ -3,17 +3,14 @@ ghost use Rattle.std.specs.Bool.{OnTrue};
 ghost use Rattle.io_buf.specs.Buffer.{block_sizes, IsPiece};
 
 use super::IoBuf;
-use crate::room::Room;
 use bytes::Bytes;
 use io_block::{BLOCK_BYTES, BlockPool, NoMemory};
 use std::alloc::Global;
-use std::mem;
 
 impl IoBuf {
-    /// Copies the bytes to the end, first into the last block while that is this buffer's own and
-    /// has room, and then into blocks of the pool. In a buffer that was empty they lie in pieces of
-    /// 8,192 bytes from their start, the last one shorter. Blocks of this buffer that came free go
-    /// back to the pool first.
+    /// Copies the bytes to the end, first into the rest of the block that the pool's buffers wrote to
+    /// last, and then into whole blocks. In a buffer that was empty they lie in pieces of 8,192
+    /// bytes from their start, the last one shorter, and at most 8,192 bytes in one piece.
     pub fn append_bytes(&mut self, pool: &mut BlockPool, bytes: &[u8]) -> Result<(), NoMemory>
         ensures items { OnOk result (self.new.items ≡ self.old.items ++ bytes.now) }
         ensures empty { OnOk result (self.old.items ≡ []
@@ -25,11 +22,11 @@ impl IoBuf {
         if bytes.is_empty() {
             return Ok(());
         }
-        if bytes.len() <= self.room.left() {
-            let piece = self.room.write(bytes)?;
+        if bytes.len() <= BLOCK_BYTES && (fresh || bytes.len() <= pool.left()) {
+            let piece = pool.write(bytes)?;
             return self.push_piece(piece);
         }
-        let added = in_blocks(self.alloc, &mut self.room, pool, bytes, fresh)?;
+        let added = in_blocks(self.alloc, pool, bytes, fresh)?;
         self.reserve_refs(added.refs())?;
         self.append_buf(added);
         Ok(())
@@ -45,8 +42,6 @@ impl IoBuf {
         while let Some(piece) = other.pop_piece() {
             self.push_reserved(piece);
         }
-        let room = mem::replace(&mut other.room, Room::none(self.alloc));
-        self.room.take_longer(room);
     }
 
     /// Lets the buffer go, and gives each block that comes free so back to the pool: those that no
@@ -57,7 +52,6 @@ impl IoBuf {
         while let Some(piece) = self.pop_piece() {
             pool.recycle(piece);
         }
-        self.room.give_back(pool);
     }
 
     // Adds a reference.
@@ -72,13 +66,8 @@ impl IoBuf {
         Ok(())
     }
 
-    // Writes the bytes to fresh blocks.
-    fn fill_blocks(
-        &mut self,
-        room: &mut Room,
-        pool: &mut BlockPool,
-        bytes: &[u8],
-    ) -> Result<(), NoMemory>
+    // Writes the bytes in pieces of a block.
+    fn fill_blocks(&mut self, pool: &mut BlockPool, bytes: &[u8]) -> Result<(), NoMemory>
         ensures items { OnOk result (self.new.items ≡ self.old.items ++ bytes.now) }
         ensures sizes { OnOk result (self.new.sizes
             ≡ self.old.sizes ++ block_sizes (length bytes.now)) }
@@ -86,34 +75,31 @@ impl IoBuf {
         let mut at = 0;
         while at < bytes.len() {
             let end = at + BLOCK_BYTES.min(bytes.len() - at);
-            room.renew(pool)?;
-            self.push_piece(room.write(&bytes[at..end])?)?;
+            self.push_piece(pool.write(&bytes[at..end])?)?;
             at = end;
         }
         Ok(())
     }
 }
 
-// The bytes, which are more than the room takes: what fits is written to the room, unless they are
-// to begin with a fresh block, and the others to fresh blocks.
+// The bytes in pieces of a block; unless they are to begin with a whole piece, what fits goes into
+// the rest of the last block first.
 fn in_blocks(
     alloc: Global,
-    room: &mut Room,
     pool: &mut BlockPool,
     bytes: &[u8],
     fresh: bool,
 ) -> Result<IoBuf, NoMemory>
-    requires { room.old < length bytes.now }
     ensures items { IfOk result (λ b. b.items ≡ bytes.now) }
     ensures sizes { IfOk result (λ b. OnTrue fresh (b.sizes ≡ block_sizes (length bytes.now))) }
 {
     let mut added = IoBuf::new(alloc);
-    let within = room.left();
-    if fresh || within == 0 {
-        added.fill_blocks(room, pool, bytes)?;
+    let within = pool.left();
+    if fresh || within == 0 || within >= bytes.len() {
+        added.fill_blocks(pool, bytes)?;
         return Ok(added);
     }
-    added.push_piece(room.write(&bytes[..within])?)?;
-    added.fill_blocks(room, pool, &bytes[within..])?;
+    added.push_piece(pool.write(&bytes[..within])?)?;
+    added.fill_blocks(pool, &bytes[within..])?;
     Ok(added)
 }

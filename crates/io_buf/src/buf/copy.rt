@@ -3,8 +3,7 @@ ghost use Rattle.std.specs.List.{concat};
 ghost use Rattle.io_buf.specs.Buffer.{IsPiece};
 
 use super::IoBuf;
-use bytes::Bytes;
-use std::collections::VecDeque;
+use crate::refs::Refs;
 
 impl IoBuf {
     /// Copies all bytes to the room, which is as long as the buffer. They stay in the buffer.
@@ -25,7 +24,7 @@ impl IoBuf {
 }
 
 // Fills the room with the bytes of the pieces, from a place on.
-fn copy_from(pieces: &VecDeque<Bytes>, start: usize, room: &mut [u8])
+fn copy_from(pieces: &Refs, start: usize, room: &mut [u8])
     requires pieces { All IsPiece pieces.now.items }
     requires bytes { start + length room.old ≤ length (concat pieces.now.items) }
     ensures { room.new ≡ take (length room.old) (drop start (concat pieces.now.items)) }
@@ -34,7 +33,7 @@ fn copy_from(pieces: &VecDeque<Bytes>, start: usize, room: &mut [u8])
     let mut done = 0;
     let mut place = 0;
     while done < room.len() {
-        let piece = pieces[place].as_slice();
+        let piece = pieces.get(place).as_slice();
         let from = skip.min(piece.len());
         let taken = (piece.len() - from).min(room.len() - done);
         room[done..done + taken].copy_from_slice(&piece[from..from + taken]);

@@ -5,9 +5,8 @@ ghost use Rattle.io_buf.specs.Fault.{IsCauseOf};
 
 use super::IoBuf;
 use crate::fault::CutFault;
-use bytes::Bytes;
+use crate::refs::Refs;
 use io_block::NoMemory;
-use std::collections::VecDeque;
 
 impl IoBuf {
     /// A buffer with the same bytes, in the same blocks. It copies nothing.
@@ -19,6 +18,16 @@ impl IoBuf {
         all.reserve_refs(self.pieces.len())?;
         all.add_front(&self.pieces, self.len)?;
         Ok(all)
+    }
+
+    /// Appends references to the other buffer's bytes. It copies nothing. After a refusal it has a
+    /// beginning of them besides its own.
+    pub fn append_shared(&mut self, other: &IoBuf) -> Result<(), NoMemory>
+        ensures items { OnOk result (self.new.items ≡ self.old.items ++ other.now.items) }
+        ensures sizes { OnOk result (self.new.sizes ≡ self.old.sizes ++ other.now.sizes) }
+    {
+        self.reserve_refs(other.pieces.len())?;
+        self.add_front(&other.pieces, other.len)
     }
 
     /// A buffer with the first n bytes, in the same blocks. It copies nothing.
@@ -55,7 +64,7 @@ impl IoBuf {
     }
 
     // Adds references to the first n bytes of the pieces.
-    fn add_front(&mut self, pieces: &VecDeque<Bytes>, n: usize) -> Result<(), NoMemory>
+    fn add_front(&mut self, pieces: &Refs, n: usize) -> Result<(), NoMemory>
         requires pieces { All IsPiece pieces.now.items }
         requires n { n ≤ length (concat pieces.now.items) }
         ensures items { OnOk result (self.new.items
@@ -66,7 +75,7 @@ impl IoBuf {
         let mut left = n;
         let mut place = 0;
         while left > 0 {
-            let piece = &pieces[place];
+            let piece = pieces.get(place);
             let taken = left.min(piece.len());
             self.push_piece(piece.slice(..taken)?)?;
             left -= taken;

@@ -4,20 +4,20 @@ use Rattle.brpc_eng.specs.Status.{number_of}
 use Rattle.brpc_eng.proofs.Replays.{other_command, drawn_command, frames_command, simulated}
 use Rattle.brpc_eng.proofs.engine.answer.Goals as goal
 
-pub returns-in-None : goal.returns-in-None
-returns-in-None g c = answer.NoCommand refl (sym c.in-None.ensures) refl c.requires.back c.write_answer.ensures
+pub returns-in-None-clause-answers : goal.returns-in-None-clause-answers
+returns-in-None-clause-answers g c = answer.NoCommand refl (sym c.in-None.ensures) refl (c.requires.asked, c.requires.back) c.write_answer.ensures
 
-pub returns-in_default : goal.returns-in_default
-returns-in_default g c = other_command _ _ _ _ c.in-Some.command c.in-Some.ensures c.in_default.not-Replay c.in_default.not-Sim c.in_default.not-Gen c.in_default.not-Frames refl c.requires.back c.write_answer-in_default.ensures
+pub returns-in_default-clause-answers : goal.returns-in_default-clause-answers
+returns-in_default-clause-answers g c = other_command _ _ _ _ c.in-Some.command c.in-Some.ensures c.in_default.not-Replay c.in_default.not-Sim c.in_default.not-Gen c.in_default.not-Frames refl (c.requires.asked, c.requires.back) c.write_answer-in_default.ensures
 
-pub returns-in-Gen : goal.returns-in-Gen
-returns-in-Gen g c = drawn_command _ _ _ _ _ c.in-Some.command c.in-Gen.draw c.in-Some.ensures c.in-Gen.is refl c.requires.back c.print_generated.ensures
+pub returns-in-Gen-clause-answers : goal.returns-in-Gen-clause-answers
+returns-in-Gen-clause-answers g c = drawn_command _ _ _ _ _ c.in-Some.command c.in-Gen.draw c.in-Some.ensures c.in-Gen.is refl (c.requires.asked, c.requires.back) c.print_generated.ensures
 
-pub returns-in-Frames : goal.returns-in-Frames
-returns-in-Frames g c = frames_command _ _ _ _ _ c.in-Some.command c.in-Some.ensures c.in-Frames.is c.requires.back c.frames.ensures
+pub returns-in-Frames-clause-answers : goal.returns-in-Frames-clause-answers
+returns-in-Frames-clause-answers g c = frames_command _ _ _ _ _ c.in-Some.command c.in-Some.ensures c.in-Frames.is (c.requires.asked, c.requires.back) c.frames.ensures
 
-pub returns-in-Sim : goal.returns-in-Sim
-returns-in-Sim g c =
+pub returns-in-Sim-clause-answers : goal.returns-in-Sim-clause-answers
+returns-in-Sim-clause-answers g c =
     let input : answer.Input = record {
       given = g.S.Source.left c.args.source.now;
       left = g.S.Source.left c.replay-in-Sim.new.source;
@@ -30,7 +30,8 @@ returns-in-Sim g c =
     } in
     let links : answer.Links = record {
       prompt = g.L.Linker.prompt c.args.links.now;
+      asked = g.L.Linker.asked c.replay-in-Sim.new.links;
       ends = g.L.Linker.back c.replay-in-Sim.new.links;
       faults = record { before = g.L.Linker.faults c.args.links.now; now = g.L.Linker.faults c.replay-in-Sim.new.links };
     } in
-    simulated _ input out links (number_of c.replay-in-Sim.result) c.in-Some.command c.in-Sim.seed c.from.result c.in-Some.ensures c.in-Sim.is c.from.ensures c.replay-in-Sim.ensures
+    simulated _ input out links (number_of c.replay-in-Sim.result) c.in-Some.command c.in-Sim.seed c.from.result c.in-Some.ensures c.in-Sim.is c.from.ensures c.replay-in-Sim.ensures.replayed

@@ -6,18 +6,18 @@ use Rattle.brpc_eng.proofs.replay.replay.Goals as goal
 pub run_and_report-requires-clause-pieces : goal.run_and_report-requires-clause-pieces
 run_and_report-requires-clause-pieces g c κs within = has_pieces c.deref.result.now _ c.in-Ok-read_script.ensures.script
 
-pub returns-in-Ok-read_script : goal.returns-in-Ok-read_script
-returns-in-Ok-read_script g c =
+pub returns-in-Ok-read_script-clause-replayed : goal.returns-in-Ok-read_script-clause-replayed
+returns-in-Ok-read_script-clause-replayed g c =
     replays_built _ _ _ _ _ c.in-Ok.ensures.came.0 c.deref.result.now c.in-Ok.bytes _ _ c.is_built.result c.in-Ok.ensures.came.1 c.deref.ensures.value c.in-Ok-read_script.ensures.script
-    refl c.is_built.ensures c.if-is_built.true c.run_and_report.ensures
+    refl c.is_built.ensures c.if-is_built.true c.run_and_report.ensures.opened c.run_and_report.ensures.ran
 
-pub returns-in-Ok-2 : goal.returns-in-Ok-2
-returns-in-Ok-2 g c =
+pub returns-in-Ok-2-clause-replayed : goal.returns-in-Ok-2-clause-replayed
+returns-in-Ok-2-clause-replayed g c =
     replays_unbuilt _ _ _ _ c.in-Ok.ensures.came.0 c.deref.result.now c.in-Ok.bytes _ _ c.is_built.result c.in-Ok.ensures.came.1 c.deref.ensures.value c.in-Ok-read_script.ensures.script
-    refl c.is_built.ensures c.if-is_built.false c.requires.back c.write_answer.ensures
+    refl c.is_built.ensures c.if-is_built.false (c.requires.asked, c.requires.back) c.write_answer.ensures
 
-pub returns-in-Err-Fault : goal.returns-in-Err-Fault
-returns-in-Err-Fault g c =
+pub returns-in-Err-Fault-clause-replayed : goal.returns-in-Err-Fault-clause-replayed
+returns-in-Err-Fault-clause-replayed g c =
     replays_faulty _ _ _ _ _ _ _ c.in-Ok.ensures.came.0 c.deref.result.now c.in-Ok.bytes c.in-Ok.ensures.came.1 c.deref.ensures.value
     (c.read_script.ensures.fault c.in-Err-Fault.line c.in-Err-Fault.kind (c.in-Err-Fault.is ∙ ap (λ x. Err x) c.in-Err-Fault.field-0-is) ∙ ap₂ (λ a b. Err (a, b)) (sym c.in-Err-Fault.line-is) (sym c.in-Err-Fault.kind-is))
-    c.requires.back c.write_fault.ensures
+    (c.requires.asked, c.requires.back) c.write_fault.ensures

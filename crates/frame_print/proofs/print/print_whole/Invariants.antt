@@ -1,10 +1,10 @@
 use Rattle.std.proofs.Common.{◌≡◌, length}
-use Rattle.frame_print.specs.Cutting.{CutPrinted}
+use Rattle.frame_print.specs.Cutting.{CutGathered}
 use Rattle.frame_print.proofs.print.print_whole.Given as goal
 
 abbrev pub invariant-loop-frame : goal.invariant-loop-frame
 invariant-loop-frame g l = record {
-  printed : CutPrinted l.initial.cutter (g.K.Sink.contents l.initial.out) l.cutter (g.K.Sink.contents l.out);
+  gathered : CutGathered l.initial.cutter (g.K.Sink.contents l.initial.out) l.cutter (g.K.Sink.contents l.out) l.lines.bytes;
   kept : g.K.Sink.faults l.out ≡ g.K.Sink.faults l.initial.out;
 }
 

@@ -2,7 +2,7 @@ use Rattle.std.proofs.Common.{◌-◌, ◌+◌, ℕ, List, drop, ap, sym, ◌∙
 use Rattle.std.proofs.lemmas.Result.{err_from_is_err_and}
 use Rattle.brpc_model.specs.Frame.{Begins}
 use Rattle.rpc_meta.specs.Meaning.{meaning}
-use Rattle.prpc_frame.proofs.Bodies.{meta_err, attachment_err, begins_with}
+use Rattle.prpc_frame.proofs.Bodies.{meta_err, attachment_err, begins_with, begins_alone}
 use Rattle.prpc_frame.proofs.body.read_frame.Goals as goal
 
 pub returns-in_err-meta : goal.returns-in_err-meta
@@ -27,3 +27,9 @@ returns c =
     (c.pop_front.ensures.items ∙ ap (λ (l : List ℕ). drop (12 + meta) l) c.in_ok-rest.ensures.items)
     ∙ ap (λ (l : List ℕ). Begins (record { meta = m; payload = l; attachment = drop (body - meta - n) rest }) body) (sym c.in_ok-payload.ensures.items)
     ∙ ap (λ (l : List ℕ). Begins (record { meta = m; payload = c.in_ok-payload.payload.items; attachment = l }) body) (sym c.pop_front-2.ensures.items)
+
+pub returns-then-attached-eq0 : goal.returns-then-attached-eq0
+returns-then-attached-eq0 c =
+    begins_alone c.args.held.now.items c.args.sizes.meta c.args.sizes.body c.in_ok-attached.attached (meaning c.in_ok-meta.meta) c.pop_front.new.self.items c.new.result.items c.requires.meta c.requires.body c.in_ok-meta.ensures
+    c.in_ok-attached.ensures.0 c.if-attached-eq0.true c.new.ensures.items
+    (c.pop_front.ensures.items ∙ ap (λ (l : List ℕ). drop (12 + c.args.sizes.meta) l) c.in_ok-rest.ensures.items)

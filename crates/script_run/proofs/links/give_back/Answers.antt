@@ -16,7 +16,7 @@ loop-ends-preserved g c =
         numbered = numbered_rest _ _ _ _ _ _ i.numbered one next;
         lower = subst (λ (k : ℕ). AllByRecursion (λ (e : LinkEnd). e.link < k) (g.L.Linker.back c.give_one.new.links)) (sym next) c.give_one.ensures.lower;
         whole = given_more _ _ _ _ _ _ _ i.whole one c.give_one.ensures.back;
-        opened = c.give_one.ensures.opened ∙ i.opened;
+        asked = c.give_one.ensures.asked ∙ i.asked;
         faults = c.give_one.ensures.faults ∙ i.faults;
         prompt = c.give_one.ensures.prompt ∙ i.prompt;
       },

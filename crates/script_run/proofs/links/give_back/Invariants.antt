@@ -14,7 +14,7 @@ invariant-loop-ends g l =
       numbered : AreNumbered l.link (map (λ e. end_of (g.L.O.Out.state e.out) (g.L.I.In.state e.inn)) (into_iter_items l.ends-iterator));
       lower : AllByRecursion (λ (e : LinkEnd). e.link < l.link) (g.L.Linker.back l.links);
       whole : g.L.Linker.back l.links ++ map (λ e. end_of (g.L.O.Out.state e.out) (g.L.I.In.state e.inn)) (into_iter_items l.ends-iterator) ≡ map (λ e. end_of (g.L.O.Out.state e.out) (g.L.I.In.state e.inn)) l.fn.ends.items;
-      opened : g.L.Linker.opened l.links ≡ g.L.Linker.opened l.initial.links;
+      asked : g.L.Linker.asked l.links ≡ g.L.Linker.asked l.initial.links;
       faults : g.L.Linker.faults l.links ≡ g.L.Linker.faults l.initial.links;
       prompt : g.L.Linker.prompt l.links ≡ g.L.Linker.prompt l.initial.links;
     }

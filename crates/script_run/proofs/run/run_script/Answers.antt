@@ -1,4 +1,5 @@
-use Rattle.std.proofs.Common.{ap, ◌∙◌, arith}
+use Rattle.std.proofs.Common.{◌≡◌, Err, ap, ◌∙◌, arith}
+use Rattle.sock_io.specs.declared.link.OpenFault.TheVariants.{Failed}
 use Rattle.std.specs.List.{list_all}
 use Rattle.script_run.specs.Given.{has_piece}
 use Rattle.script_run.specs.Played.{turns_of}
@@ -37,3 +38,7 @@ returns-in-Ok-clause-over g c =
 pub returns-in-Ok-clause-all : goal.returns-in-Ok-clause-all
 returns-in-Ok-clause-all g c =
     ok_all c.run_over.result (c.run_over.ensures.back ∙ c.in-Ok.ensures.whole ∙ links_of c.args.script.now c.lines.result.now c.lines.ensures)
+
+pub returns-in-Err-clause-kept : goal.returns-in-Err-clause-kept
+returns-in-Err-clause-kept g c known =
+    c.give_back.ensures.faults ∙ c.in-Err.ensures.kept (λ e. let is : c.in-Err.fault ≡ Failed = cc in known (ap (λ x. Err x) (c.not_opened.ensures.kept is)))

@@ -9,14 +9,14 @@ pub loop-left-preserved : goal.loop-left-preserved
 loop-left-preserved c =
     let ps = c.args.pieces.now.items in
     let i = c.loop-left.place in
-    let p = c.index-piece.result.now in
+    let p = c.get-piece.result.now in
     let n = c.loop-left.left in
     let t = c.min-taken.result in
     let more = drop (i + 1) ps in
     let have = c.loop-left.self in
     let known = c.loop-left.invariant in
     let within = place_within ps i n (omega arith) known.fits in
-    let here = at_place ps i p within c.index-piece.ensures in
+    let here = at_place ps i p within c.get-piece.ensures.value in
     let taken : t ≡ min n (length p) = omega (arith, c.min-taken.ensures, c.len.ensures) in
     let all : t - 0 ≡ t = omega arith in
     let chunk : c.in_ok-slice.field-0 ≡ take t p = c.in_ok-slice.ensures.ok ∙ ap (λ (m : ℕ). take m p) all in

@@ -14,32 +14,32 @@ returns-then-is_empty-clause-empty c = λ none.
 
 pub returns-then-bytes-left-clause-empty : goal.returns-then-bytes-left-clause-empty
 returns-then-bytes-left-clause-empty c =
+    let P : Buffer → Type 0 = λ b. b.items ≡ [] → b.sizes ≡ [] in
     let ps = c.self.inside.pieces.items in
     let size : length c.in_ok-piece.piece ≡ length c.args.bytes.now = ap length c.in_ok-piece.ensures.ok in
     let filled : length c.args.bytes.now ≡ 0 → ⊥ = eqb-false (length c.args.bytes.now) 0 (sym c.if-is_empty.ensures) in
     let some : 0 < length c.args.bytes.now = omega arith in
     on_ok_weaker c.push_piece.result (λ e none.
     e
-    ∙ ap (λ (l : List ℕ). l ++ length c.in_ok-piece.piece ∷ []) (no_sizes ps c.self.invariant.pieces (ap (λ (b : Buffer). b.items) c.self.view_is ∙ none))
+    ∙ ap (λ (l : List ℕ). l ++ length c.in_ok-piece.piece ∷ []) (subst P c.self.view_is (no_sizes ps c.self.invariant.pieces) none)
     ∙ ap (λ (n : ℕ). n ∷ []) size
-    ∙ sym (block_sizes-one (length c.args.bytes.now) some (omega (arith, c.if-bytes-left.true, c.left.ensures.at_most)))) c.push_piece.ensures.sizes
+    ∙ sym (block_sizes-one (length c.args.bytes.now) some (omega (arith, c.if-bytes-le-BLOCK_BYTES.true)))) c.push_piece.ensures.sizes
 
 pub returns-then-bytes-left-clause-kept : goal.returns-then-bytes-left-clause-kept
-returns-then-bytes-left-clause-kept c =
-    on_ok_weaker c.push_piece.result (λ e. (length c.in_ok-piece.piece ∷ [], e ∙ ap (λ (b : Buffer). b.sizes ++ length c.in_ok-piece.piece ∷ []) c.self.view_is)) c.push_piece.ensures.sizes
+returns-then-bytes-left-clause-kept c = on_ok_weaker c.push_piece.result (λ e. (length c.in_ok-piece.piece ∷ [], e)) c.push_piece.ensures.sizes
 
 pub returns-clause-empty : goal.returns-clause-empty
 returns-clause-empty c = λ none.
+    let P : Buffer → Type 0 = λ b. b.items ≡ [] → b.sizes ≡ [] in
     let ps = c.self.inside.pieces.items in
     let no_items = ap (λ (b : Buffer). b.items) c.self.view_is ∙ none in
     let fresh : (c.self.inside.len == 0) ≡ true = eq-eqb c.self.inside.len 0 (c.self.invariant.len ∙ ap length no_items) in
     c.append_buf.ensures.sizes
-    ∙ ap (λ (l : List ℕ). l ++ c.in_ok-added.added.sizes) (c.in_ok-reserve_refs.ensures.sizes ∙ no_sizes ps c.self.invariant.pieces no_items)
+    ∙ ap (λ (l : List ℕ). l ++ c.in_ok-added.added.sizes) (c.in_ok-reserve_refs.ensures.sizes ∙ subst P c.self.view_is (no_sizes ps c.self.invariant.pieces) none)
     ∙ MatchBool-at_true _ _ fresh c.in_ok-added.ensures.sizes
 
 pub returns-clause-kept : goal.returns-clause-kept
 returns-clause-kept c = (
   c.in_ok-added.added.sizes,
-  c.append_buf.ensures.sizes
-      ∙ ap (λ (l : List ℕ). l ++ c.in_ok-added.added.sizes) (c.in_ok-reserve_refs.ensures.sizes ∙ ap (λ (b : Buffer). b.sizes) c.self.view_is),
+  c.append_buf.ensures.sizes ∙ ap (λ (l : List ℕ). l ++ c.in_ok-added.added.sizes) c.in_ok-reserve_refs.ensures.sizes,
 )

@@ -10,4 +10,4 @@ returns-clause-value c =
     let within : c.args.place < length c.self.inside.pieces.items =
     omega (arith, c.requires, ap (λ (b : Buffer). length b.sizes) c.self.view_is, length-map c.self.inside.pieces.items length)
     in
-    subst P c.self.view_is (c.as_slice.ensures ∙ piece_lies c.self.inside.pieces.items c.args.place c.index.result.now c.index.result.now within c.index.ensures)
+    subst P c.self.view_is (c.as_slice.ensures ∙ piece_lies c.self.inside.pieces.items c.args.place c.get.result.now c.get.result.now within c.get.ensures.value)

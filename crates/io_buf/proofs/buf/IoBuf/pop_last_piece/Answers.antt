@@ -22,6 +22,7 @@ invariant_of-self-2 c =
       pieces = all.0;
       len = omega (arith, c.self.invariant.len, c.len.ensures, ap (λ (ps : List (List _)). length (concat ps)) c.in_ok-piece.ensures.items, ap length (concat_push new piece), length-append (concat new) piece);
       few = omega (arith, c.self.invariant.few, c.in_ok-piece.ensures.capacity);
+      fits = omega (arith, c.self.invariant.fits, c.in_ok-piece.ensures.capacity, c.in_ok-piece.ensures.cases);
     }
 
 pub returns : goal.returns
@@ -34,7 +35,7 @@ returns c =
       record {
         items = sym (ap (λ (b : Buffer). b.items) c.self.view_is) ∙ ap concat c.in_ok-piece.ensures.items ∙ concat_push new piece;
         sizes = sizes;
-        spare = omega (arith, ap (λ (b : Buffer). b.spare) c.self.view_is, c.in_ok-piece.ensures.capacity, c.in_ok-piece.ensures.cases, c.self.inside.pieces.small);
+        spare = omega (arith, ap (λ (b : Buffer). b.spare) c.self.view_is, c.in_ok-piece.ensures.capacity, c.in_ok-piece.ensures.cases, c.self.invariant.fits);
         fronts = λ m. ap (front_sizes (length (concat new) + m)) sizes ∙ front_sizes-push new m (length piece) all.0;
       },
     )

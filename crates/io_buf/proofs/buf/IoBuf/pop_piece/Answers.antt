@@ -12,4 +12,5 @@ invariant_of-self-2 c =
       pieces = All-rest IsPiece piece new _ c.in_ok-piece.ensures.items c.self.invariant.pieces;
       len = omega (arith, c.self.invariant.len, c.len.ensures, ap (λ (ps : List (List _)). length (concat ps)) c.in_ok-piece.ensures.items, length-append piece (concat new));
       few = omega (arith, c.self.invariant.few, c.in_ok-piece.ensures.capacity);
+      fits = omega (arith, c.self.invariant.fits, c.in_ok-piece.ensures.capacity, c.in_ok-piece.ensures.cases);
     }

@@ -12,7 +12,7 @@ overflow_add-self c =
       c.len.ensures,
       c.self.invariant.len,
       c.self.invariant.few,
-      c.self.inside.pieces.ok,
+      c.self.invariant.fits,
       length-concat-le c.self.inside.pieces.items c.self.invariant.pieces,
       ap (λ (b : Buffer). b.spare) c.self.view_is,
     )

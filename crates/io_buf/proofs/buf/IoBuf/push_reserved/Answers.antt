@@ -15,7 +15,7 @@ overflow_add-self c =
       c.len.ensures,
       c.self.invariant.len,
       c.self.invariant.few,
-      c.self.inside.pieces.ok,
+      c.self.invariant.fits,
       length-concat-le c.self.inside.pieces.items c.self.invariant.pieces,
       ap (λ (b : Buffer). b.spare) c.self.view_is,
     )
@@ -34,6 +34,7 @@ invariant_of-self c =
         length-append (concat old) c.args.piece,
       );
       few = omega (arith, c.self.invariant.few, c.push_back_reserved.ensures.capacity);
+      fits = omega (arith, ap length c.push_back_reserved.ensures.items, length-append old (c.args.piece ∷ []), c.push_back_reserved.ensures.capacity, c.requires.room, ap (λ (b : Buffer). b.spare) c.self.view_is);
     }
 
 pub returns : goal.returns
@@ -43,5 +44,5 @@ returns c =
       items = ap concat c.push_back_reserved.ensures.items ∙ concat_push old c.args.piece ∙ ap (λ (b : Buffer). b.items ++ c.args.piece) c.self.view_is;
       sizes = ap (map length) c.push_back_reserved.ensures.items ∙ map_push length old c.args.piece
           ∙ ap (λ (b : Buffer). b.sizes ++ length c.args.piece ∷ []) c.self.view_is;
-      spare = omega (arith, c.push_back_reserved.ensures.len, c.push_back_reserved.ensures.capacity, c.requires.room, ap (λ (b : Buffer). b.spare) c.self.view_is);
+      spare = omega (arith, ap length c.push_back_reserved.ensures.items, length-append old (c.args.piece ∷ []), c.push_back_reserved.ensures.capacity, c.requires.room, ap (λ (b : Buffer). b.spare) c.self.view_is);
     }

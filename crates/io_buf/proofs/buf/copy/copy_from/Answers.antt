@@ -20,7 +20,7 @@ loop-done-preserved c =
     let known = c.loop-done.invariant in
     let within = place_within ps i (all - done) (omega arith) (omega arith) in
     let here : drop i ps ≡ p ∷ drop (i + 1) ps =
-    at_place ps i c.index.result.now within c.index.ensures ∙ ap (λ (q : List ℕ). q ∷ drop (i + 1) ps) (sym c.as_slice-piece.ensures)
+    at_place ps i c.get.result.now within c.get.ensures.value ∙ ap (λ (q : List ℕ). q ∷ drop (i + 1) ps) (sym c.as_slice-piece.ensures)
     in
     let from_is : from ≡ min skip (length p) = omega arith in
     let taken_is : taken ≡ min (length p - from) (all - done) = omega arith in

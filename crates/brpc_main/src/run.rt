@@ -1,0 +1,69 @@
+ghost use Rattle.std.specs.Prelude.{◌≡◌, ◌⊎◌, [], IfOk, drop};
+ghost use Rattle.std.specs.Process.{exit_status};
+ghost use Rattle.std.specs.Vec.Iter.{into_iter_items};
+ghost use Rattle.brpc_eng.specs.Answers.{Answers};
+ghost use Rattle.brpc_main.specs.Words.{arguments, words_behind};
+
+use brpc_eng::brpc;
+use sock_io::{Gate, Linker, Sink, Source};
+use std::alloc::{AllocError, Global};
+use std::env::Args;
+use std::io;
+use std::process::ExitCode;
+
+/// The status of want of memory.
+const NO_MEMORY: u8 = 7;
+
+/// Hands the arguments behind the first, which is the program's name, to the top call as its words, byte for byte, and ends
+/// with the number that it answers. Arguments that can't be had as text are no words. Where memory runs out for the list of
+/// words it ends with 7, and nothing is read, written or opened.
+pub fn run_with<R, S: Source, K: Sink, L: Linker, G: Gate>(
+    rt: &R,
+    alloc: Global,
+    args: io::Result<Args>,
+    source: &mut S,
+    out: &mut K,
+    links: &mut L,
+    gate: &G,
+) -> ExitCode
+    requires asked { L.asked links.old ≡ [] }
+    requires back { L.back links.old ≡ [] }
+    ensures { Answers (words_behind args)
+        (record { given = S.left source.old; left = S.left source.new; faults = record { before = S.faults source.old; now = S.faults source.new } })
+        (record { before = K.contents out.old; now = K.contents out.new; faults = record { before = K.faults out.old; now = K.faults out.new } })
+        (record { prompt = L.prompt links.old; asked = L.asked links.new; ends = L.back links.new; faults = record { before = L.faults links.old; now = L.faults links.new } })
+        (exit_status result)
+        ⊎ ((exit_status result ≡ 7) × (source.new ≡ source.old) × (out.new ≡ out.old) × (links.new ≡ links.old)) }
+{
+    match all_of(alloc, args) {
+        Ok(args) => ExitCode::from(brpc(rt, alloc, behind_first(&args), source, out, links, gate)),
+        Err(_) => ExitCode::from(NO_MEMORY),
+    }
+}
+
+/// All arguments.
+fn all_of(alloc: Global, args: io::Result<Args>) -> Result<Vec<String>, AllocError>
+    ensures { IfOk result (λ all. all.items ≡ arguments args) }
+{
+    match args {
+        Ok(args) => listed(alloc, args),
+        Err(_) => Ok(Vec::new(alloc)),
+    }
+}
+
+/// The arguments as a list.
+fn listed(alloc: Global, args: Args) -> Result<Vec<String>, AllocError>
+    ensures { IfOk result (λ all. all.items ≡ into_iter_items args) }
+{
+    args.collect(alloc)
+}
+
+/// All but the first.
+fn behind_first(args: &[String]) -> &[String]
+    ensures { result.now ≡ drop 1 args.now }
+{
+    match args.split_first() {
+        Some((_, words)) => words,
+        None => &[],
+    }
+}

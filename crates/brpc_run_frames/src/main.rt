@@ -1,0 +1,9 @@
+//! The program as it is built: a frame and then a faulty one, status 9.
+#![tactic(auto)]
+
+use brpc_main::run_program;
+use std::process::ExitCode;
+
+fn main(rt: HostRuntime) -> ExitCode {
+    run_program(&rt)
+}

@@ -1,0 +1,3 @@
+pub mod Totals
+pub mod Answering
+pub mod Fed

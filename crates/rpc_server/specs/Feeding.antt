@@ -1,0 +1,54 @@
+-- What feeding a connection appends and leaves.
+use Rattle.std.specs.Prelude.{◌≡◌, ℕ, ◌+◌, List, [], ◌∷◌, ◌++◌, length, take, flat_map, filter_map, Some, Result, Ok, Err}
+use Rattle.brpc_model.specs.Frame.{Frame, FrameFault, NoneYet, judged, frame_bytes}
+use Rattle.brpc_model.specs.Stream.{Rest, Fault, stream}
+use Rattle.brpc_model.specs.Reply.{reply, reply_frames, replies}
+use Rattle.prpc_frame.specs.Cuts.{Cut}
+use Rattle.prpc_frame.specs.Meaning.{fault_of, IsFault}
+use Rattle.rpc_server.specs.Held.{Held}
+use Rattle.rpc_server.specs.declared.conn.ConnFault.{ConnFault}
+use Rattle.rpc_server.specs.declared.conn.ConnFault.TheVariants as fault_
+
+-- the reply to a frame, if it has one, and its bytes
+abbrev pub replies_to : Frame → List Frame
+replies_to f = filter_map reply (f ∷ [])
+
+abbrev pub reply_bytes : Frame → List ℕ
+reply_bytes f = flat_map frame_bytes (replies_to f)
+
+-- ## A piece
+
+-- the replies to the frames that became whole with the piece were appended and counted; and however the bytes go on, their replies are those and
+-- the ones behind
+pub record Replied (c : Held) (piece : List ℕ) (c' : Held) (before now : List ℕ) : Type 0 where
+  pub appended : now ≡ before ++ replies (c.bytes ++ piece)
+  pub counted : c'.made ≡ c.made + length (reply_frames (c.bytes ++ piece))
+  pub goes_on : (more : List ℕ) → reply_frames (c.bytes ++ (piece ++ more)) ≡ reply_frames (c.bytes ++ piece) ++ reply_frames (c'.bytes ++ more)
+
+-- what is held is the rest of a frame that isn't whole; or there is a fault, and no frame behind it; or memory ran out behind the replies to
+-- some first frames
+abbrev pub Feeds : Held → List ℕ → List ℕ → Result (Unit {0}) ConnFault → Held → List ℕ → Type 0
+Feeds c piece before (Ok _) c' now = Replied c piece c' before now × ((stream (c.bytes ++ piece)).ending ≡ Rest (length c'.bytes))
+Feeds c piece before (Err (fault_.Frame fault)) c' now = Replied c piece c' before now
+    × ((at : ℕ) × (f : FrameFault) × (fault_of fault ≡ Some f) × ((stream (c.bytes ++ piece)).ending ≡ Fault at f))
+Feeds c piece before (Err fault_.NoMemory) c' now = (n : ℕ) × (now ≡ before ++ flat_map frame_bytes (filter_map reply (take n (stream (c.bytes ++ piece)).frames)))
+
+-- ## The frames that are whole
+
+pub record Answered (c : Held) (c' : Held) (before now : List ℕ) : Type 0 where
+  pub frames : List Frame
+  pub cut : Cut c.bytes frames c'.bytes
+  pub appended : now ≡ before ++ flat_map frame_bytes (filter_map reply frames)
+  pub counted : c'.made ≡ c.made + length (filter_map reply frames)
+
+-- up to a frame whose reply wasn't made
+pub record Stopped (c : Held) (before now : List ℕ) : Type 0 where
+  pub frames : List Frame
+  pub left : List ℕ
+  pub cut : Cut c.bytes frames left
+  pub appended : now ≡ before ++ flat_map frame_bytes (filter_map reply frames)
+
+abbrev pub AnswersWhole : Held → List ℕ → Result (Unit {0}) ConnFault → Held → List ℕ → Type 0
+AnswersWhole c before (Ok _) c' now = Answered c c' before now × (judged c'.bytes ≡ NoneYet)
+AnswersWhole c before (Err (fault_.Frame fault)) c' now = Answered c c' before now × IsFault (judged c'.bytes) fault
+AnswersWhole c before (Err fault_.NoMemory) c' now = Stopped c before now

@@ -1,0 +1,4 @@
+pub mod Answers
+pub mod Held
+pub mod Inside
+pub mod Feeding

@@ -1,0 +1,139 @@
+-- No message is empty: neither one of a filled claim nor one that a link accepted.
+use Rattle.std.proofs.Common.{◌≡◌, ◌≢◌, ℕ, zero, suc, ◌-◌, ◌%◌, ◌<◌, ◌≤◌, ◌++◌, ◌⊎◌, ⊎_elim, Bool, true, false, cond, eqb, nat_lt, List, [], ◌∷◌, length, set, refl, sym, ap, ◌∙◌, subst, arith}
+use Rattle.std.proofs.lemmas.Bool.{true≢false}
+use Rattle.std.proofs.lemmas.List.{append_assoc}
+use mathlib.Core.List.{cons-ne-nil}
+use mathlib.Core.Option.{some, some-injective}
+use lib.ListN.{get_elem?}
+use Rattle.atomic_table.proofs.Lists.{at_set}
+use Rattle.sock_words.specs.declared.plain.Plan.{Plan}
+use Rattle.sock_words.specs.Words.{socket_id_slot, socket_id_version, vref_version}
+use Rattle.sock_model.specs.declared.chain.Claim.{Claim}
+use Rattle.sock_model.specs.declared.chain.Entry.{Entry}
+use Rattle.sock_model.specs.declared.chain.Right.{Right}
+use Rattle.sock_model.specs.declared.chain.Stage.{Stage}
+use Rattle.sock_model.specs.declared.chain.Stage.TheVariants.{Writes, Placed, Passes, Empties, Walks, Turns}
+use Rattle.sock_model.specs.declared.view.View.{View}
+use Rattle.sock_model.specs.declared.view.Hand.{Hand}
+use Rattle.sock_model.specs.ChainRows.{with_claim, with_right, without_right, queued, righted, with_hand, spent_hand, taken_right}
+use Rattle.sock_model.specs.Deliveries.{whole}
+use Rattle.sock_model.specs.Memory.{IDLE, UNCONNECTED}
+use Rattle.sock_model.specs.SlotRows.{looked, told_code, met, met_link}
+use Rattle.sock_model.specs.Weights.{total, only}
+use Rattle.sock_programs.specs.Calls.{Call, LoadName, LoadOpen, TakeLink, LookWord, LoadCode, ClaimRequest, PutMessage, Unconnect, SwapHead, EmptyHead, ReadNext, TurnNext, FreeRequest, StorePlace, DropPlace}
+use Rattle.sock_programs.specs.Cores.{Core, word_of, found_at}
+use Rattle.sock_programs.specs.Ticks.{Moment, IsAnswered}
+use Rattle.sock_runs.specs.Rows.{row, hand_at, is_id, by_right, by_claim, new_claim, exchanged, emptied, read_next, turned_next, freed_next, placed_next, dropped_next}
+use Rattle.sock_runs.specs.May.{May}
+use Rattle.sock_runs.specs.Sound.{Sound, views_after}
+use Rattle.sock_runs.proofs.Cases.{with_rights, right_rights, put_rights}
+use Rattle.run_laws.proofs.Cases.{tick_does}
+
+-- ## Claims
+
+-- a claim that is filled has some byte
+abbrev pub IsFull : View → Type 0
+IsFull v = (c : Claim) (cs : List Claim) → v.claims ≡ c ∷ cs → c.filled ≡ true → c.bytes ≢ []
+
+abbrev pub AreFull : List View → Type 0
+AreFull views = (i : ℕ) (v : View) → get_elem? views i ≡ some v → IsFull v
+
+either : (b : Bool) (x y : View) → IsFull x → IsFull y → IsFull (cond b x y)
+either true x y p q = p
+either false x y p q = q
+
+by_right_full : (v : View) → IsFull v → (rs : List Right) (then_ : Right → View) → ((r : Right) → IsFull (then_ r)) → IsFull (by_right rs then_ v)
+by_right_full v f [] then_ each = f
+by_right_full v f (r ∷ rs) then_ each = each r
+
+first_is : (c d : Claim) (cs ds : List Claim) → c ∷ cs ≡ d ∷ ds → c ≡ d
+first_is c d cs ds e = cc
+
+full_with : (v : View) (c : Claim) → (c.filled ≡ true → c.bytes ≢ []) → IsFull (with_claim v c)
+full_with v c f d ds e = subst (λ (x : Claim). x.filled ≡ true → x.bytes ≢ []) (first_is c d [] ds e) f
+
+by_claim_full : (v : View) → IsFull v → (cs : List Claim) → v.claims ≡ cs → (then_ : Claim → View) → ((c : Claim) (ds : List Claim) → v.claims ≡ c ∷ ds → IsFull (then_ c)) → IsFull (by_claim cs then_ v)
+by_claim_full v f [] e then_ each = f
+by_claim_full v f (c ∷ cs) e then_ each = each c cs e
+
+pub none_full : (v : View) → v.claims ≡ [] → IsFull v
+none_full v none_ c cs e = absurd (cons-ne-nil c cs (sym e ∙ none_))
+
+row_full : (p : Plan) (call : Call) (found : ℕ) (hand : Hand) (v : View) → May p v call → IsFull v → IsFull (row p call found hand v)
+row_full p (LoadName n) found hand v may f = either (is_id found) (met (socket_id_slot (found - 1)) (socket_id_version (found - 1)) v) v f f
+row_full p (LoadOpen n) found hand v may f = either (is_id found) (met (socket_id_slot (found - 1)) (socket_id_version (found - 1)) v) v f f
+row_full p (TakeLink k) found hand v may f = either (nat_lt 0 (total (only hand.link) v.passes)) (spent_hand v hand) (with_hand v hand) f f
+row_full p (LookWord id) found hand v may f = let u : View = looked (socket_id_slot id) found v in look_full u f v.rights
+  where
+    look_full : (u : View) → IsFull u → (rs : List Right) → IsFull (by_right rs (λ r. cond (eqb (vref_version found % 2) 0) (with_right u (record r { clean = true })) u) u)
+    look_full u g [] = g
+    look_full u g (r ∷ rs) = either (eqb (vref_version found % 2) 0) (with_right u (record r { clean = true })) u g g
+row_full p (LoadCode i h) found hand v may f = either (eqb found 0) v (told_code i h found v) f f
+row_full p (ClaimRequest id q) found hand v may f = either (eqb (found % 2) 0) (with_claim (met_link (socket_id_slot id) (socket_id_version id) hand.link v) (new_claim hand.link q found)) v
+    (full_with (met_link (socket_id_slot id) (socket_id_version id) hand.link v) (new_claim hand.link q found) (λ e. absurd (true≢false (sym e)))) f
+row_full p (PutMessage q heading bytes) found hand v may f = by_claim_full v f v.claims refl (λ c. with_claim v (record c { filled = true; heading = heading; bytes = bytes }))
+    (λ c ds e. full_with v (record c { filled = true; heading = heading; bytes = bytes }) (λ y. may.3))
+row_full p (Unconnect q) found hand v may f = by_claim_full v f v.claims refl (λ c. with_claim v (record c { ready = true })) (λ c ds e. full_with v (record c { ready = true }) (f c ds e))
+row_full p (SwapHead i own) found hand v may f = by_claim_full v f v.claims refl (exchanged found hand v)
+    (λ c ds e. either (nat_lt found IDLE) (queued v c found) (righted v c found hand.took hand.next) (none_full (queued v c found) refl) (none_full (righted v c found hand.took hand.next) refl))
+row_full p (EmptyHead i last) found hand v may f = by_right_full v f v.rights (emptied last found v) (λ r. either (eqb found last) (without_right v r.link) (with_right v (record r { stage = Walks found found 0 })) f f)
+row_full p (ReadNext q) found hand v may f = by_right_full v f v.rights (λ r. read_next found v r r.stage) (λ r. by_stage r r.stage)
+  where
+    by_stage : (r : Right) (stage : Stage) → IsFull (read_next found v r stage)
+    by_stage r (Placed now) = f
+    by_stage r (Walks top at after) = either (eqb found UNCONNECTED) v (with_right v (record r { stage = Turns top at after found })) f f
+    by_stage r (Writes now) = f
+    by_stage r (Passes now next) = f
+    by_stage r Empties = f
+    by_stage r (Turns top at after before) = f
+row_full p (TurnNext q value) found hand v may f = by_right_full v f v.rights (λ r. turned_next v r r.stage) (λ r. by_stage r r.stage)
+  where
+    by_stage : (r : Right) (stage : Stage) → IsFull (turned_next v r stage)
+    by_stage r (Turns top at after before) = f
+    by_stage r _ = f
+row_full p (FreeRequest q g) found hand v may f = by_right_full v f v.rights (freed_next v) (λ r. f)
+row_full p (StorePlace l k n) found hand v may f = by_right_full v f v.rights (λ r. placed_next v r r.stage) (λ r. by_stage r r.stage)
+  where
+    by_stage : (r : Right) (stage : Stage) → IsFull (placed_next v r stage)
+    by_stage r (Writes now) = f
+    by_stage r _ = f
+row_full p (DropPlace l k n) found hand v may f = by_right_full v f v.rights (λ r. dropped_next v r r.stage) (λ r. by_stage r r.stage)
+  where
+    by_stage : (r : Right) (stage : Stage) → IsFull (dropped_next v r stage)
+    by_stage r (Writes now) = f
+    by_stage r _ = f
+row_full p call found hand v may f = f
+
+module _ (p : Plan) (c : Core) (views : List View) (m : Moment) (sound : Sound p c views) (answered : IsAnswered c m) (full : AreFull views) where
+  set_full : (v w : View) → IsFull w → AreFull (set views m.seat w)
+  set_full v w f i u at = ⊎_elim (λ r. subst IsFull r.1 f) (λ r. full i u r.1) (at_set views m.seat i w u at)
+
+  moved : (v w : View) → get_elem? views m.seat ≡ some v → (rights : List Right) × (w ≡ with_rights v rights) → AreFull (set views m.seat w)
+  moved v w here x = set_full v w (subst IsFull (sym x.1) (full m.seat v here))
+
+  pub full_tick : AreFull (views_after p c views m)
+  full_tick = tick_does p c views m sound answered (λ e d us. AreFull us) (λ none_. full) (λ seat at_seat still. full)
+      (λ seat v call next at_seat here is goes. let w : View = row p call (found_at c.words (word_of p call)) (hand_at p c.words c.homes call) v in
+      set_full v w (row_full p call (found_at c.words (word_of p call)) (hand_at p c.words c.homes call) v goes.0 (full m.seat v here)))
+      (λ seat v q next heading bytes at_seat here is goes. moved v _ here (right_rights v v.rights (λ r. taken_right r heading bytes)))
+      (λ seat v k next n at_seat here is goes. moved v _ here (right_rights v v.rights (λ r. record r { at_home = false })))
+      (λ seat v k n after at_seat here is goes. moved v _ here (right_rights v v.rights (λ r. record r { at_home = true })))
+      (λ seat v k asked bytes next answer at_seat here is goes answer_is fits. moved v _ here (put_rights v answer))
+      (λ seat v k next answer at_seat here is goes answer_is. full)
+
+-- ## Orders
+
+-- what a link took of such messages goes on, where it hasn't taken the last of them whole
+pub cut_off : (es : List Entry) → ((i : ℕ) (e : Entry) → get_elem? es i ≡ some e → e.bytes ≢ []) → (kept n : ℕ) → kept ≤ n → n < length es → (part : List ℕ)
+    → ((part ≡ []) ⊎ ((e : Entry) × (rest : List ℕ) × (get_elem? es kept ≡ some e) × (e.bytes ≡ part ++ rest) × (rest ≢ []))) → (rest : List ℕ) × (whole es (suc n) ≡ (whole es kept ++ part) ++ rest) × (rest ≢ [])
+cut_off [] each kept n low less part of = absurd (omega arith)
+cut_off (e ∷ es) each zero n low less part of = ⊎_elim
+    (λ none_. (e.bytes ++ whole es n, ap (λ l. l ++ (e.bytes ++ whole es n)) (sym none_), some_append e.bytes (whole es n) (each 0 e refl)))
+    (λ x. let rest : List ℕ = x.1 in (rest ++ whole es n, ap (λ l. l ++ whole es n) (ap (λ (y : Entry). y.bytes) (some-injective e x.0 x.2) ∙ x.3) ∙ append_assoc part rest (whole es n), some_append rest (whole es n) x.4)) of
+  where
+    some_append : (a b : List ℕ) → a ≢ [] → a ++ b ≢ []
+    some_append [] b ne = absurd (ne refl)
+    some_append (x ∷ a) b ne = cons-ne-nil x (a ++ b)
+cut_off (e ∷ es) each (suc kept) zero low less part of = absurd (omega arith)
+cut_off (e ∷ es) each (suc kept) (suc n) low less part of = let x = cut_off es (λ i d at. each (suc i) d at) kept n (omega arith) (omega arith) part of in
+    (x.0, ap (λ l. e.bytes ++ l) x.1 ∙ (ap (λ l. e.bytes ++ l) (append_assoc (whole es kept) part x.0) ∙ (sym (append_assoc e.bytes (whole es kept) (part ++ x.0)) ∙ (sym (append_assoc (e.bytes ++ whole es kept) part x.0)))), x.2)

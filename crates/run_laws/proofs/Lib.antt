@@ -1,0 +1,12 @@
+pub mod Modes
+pub mod Lives
+pub mod Cases
+pub mod Kept
+pub mod Stops
+pub mod Arrives
+pub mod Breaks
+pub mod InTime
+pub mod Full
+pub mod Events
+pub mod Begins
+pub mod Laws

@@ -1,0 +1,146 @@
+-- A link that was taken out of its home and moved into a hand.
+use Rattle.std.proofs.Common.{◌≡◌, ℕ, ◌+◌, ◌*◌, ◌<◌, Bool, true, false, List, [], ◌∷◌, refl, sym, ap, ◌∙◌, subst, arith}
+use Rattle.atomic_table.specs.Table.{Me, rest}
+use Rattle.sock_io.specs.declared.link.Out.{Ghosts}
+use Rattle.sock_words.specs.declared.plain.Plan.{Plan}
+use Rattle.sock_model.specs.declared.home.Home.{Home}
+use Rattle.sock_model.specs.declared.home.Home.TheVariants as home
+use Rattle.sock_model.specs.declared.view.View.{View}
+use Rattle.sock_rule.specs.declared.homes.LinkHome.{LinkHome}
+use Rattle.sock_rule.specs.declared.homes.SockHome.{SockHome}
+use Rattle.sock_rule.specs.declared.homes.SockHome.TheVariants.{Empty, Link, Message}
+use Rattle.sock_model.specs.ChainRows.{without_hand}
+use Rattle.sock_rule.specs.declared.homes.Letter.{Letter}
+use Rattle.sock_model.specs.declared.chain.Heading.{Heading}
+use Rattle.sock_model.specs.declared.chain.Right.{Right}
+use Rattle.sock_model.specs.Entries.{slot_of}
+use Rattle.sock_model.specs.ChainRows.{with_right, taken_right}
+use Rattle.sock_rule.specs.ChainPlays.{TookOwn, TookLetter}
+use Rattle.sock_rule.specs.Shows.{shows, heading_of}
+use Rattle.sock_rule.specs.Plays.{TookLink}
+
+abbrev number : Home → ℕ
+number (home.Link k took next done) = k
+number _ = 0
+
+abbrev bytes : Home → List ℕ
+bytes (home.Link k took next done) = took
+bytes _ = []
+
+abbrev next_place : Home → ℕ
+next_place (home.Link k took next done) = next
+next_place _ = 0
+
+abbrev is_link : Home → ℕ
+is_link (home.Link k took next done) = 1
+is_link _ = 0
+
+abbrev top : {S : Type 0} → S → List (ℕ × S) → S
+top d [] = d
+top d (c ∷ cs) = c.1
+
+-- the slot that was taken stands first
+pub taken_slots : {S : Type 0} {f : S → Home} {m n : Me S View} {k : ℕ} {row : List ℕ → ℕ → View} (t : TookLink f m n k row) (q : Plan) → m.0.plan ≡ q → n.1 ≡ (q.requests + k, t.value) ∷ rest n.1
+taken_slots {k = k} t q e = t.slots ∙ (λ i. ((e i).requests + k, t.value) ∷ rest (sym t.slots i))
+
+module _ {O : Type 0} {g : Ghosts O} (m n : Me (SockHome O g) View) (k : ℕ) (row : List ℕ → ℕ → View) (t : TookLink shows m n k row) (slot : ℕ) (x : SockHome O g) (moved : n.1 ≡ (slot, x) ∷ rest n.1) where
+  value_is : t.value ≡ x
+  value_is = ap (top t.value) (sym t.slots ∙ moved)
+
+  pub must_link : ((h : LinkHome O g) → x ≡ Link h → ⊥) → ⊥
+  must_link none_ = by_value x refl
+    where
+      by_value : (y : SockHome O g) → x ≡ y → ⊥
+      by_value Empty e = let a = ap is_link (sym t.shown ∙ ap shows (value_is ∙ e)) in omega arith
+      by_value (Link h) e = none_ h e
+      by_value (Message m) e = let a = ap is_link (sym t.shown ∙ ap shows (value_is ∙ e)) in omega arith
+
+  module _ (h : LinkHome O g) (is : x ≡ Link h) where
+    shown_is : home.Link (g.state h.out).link h.took.list h.next (g.state h.out).finished ≡ home.Link k t.took t.next t.done
+    shown_is = ap shows (sym (value_is ∙ is)) ∙ t.shown
+
+    pub its_link : (g.state h.out).link ≡ k
+    its_link = ap number shown_is
+
+    pub after_move : (new : Me (SockHome O g) View) → new ≡ (n.0, (slot, Empty) ∷ rest n.1) → new ≡ (row h.took.list h.next, (slot, Empty) ∷ m.1)
+    after_move new e = let took = ap bytes shown_is in let next = ap next_place shown_is in let v : n.0 ≡ row h.took.list h.next = t.view ∙ (λ i. row (sym took i) (sym next i)) in
+        let below : rest n.1 ≡ m.1 = ap rest t.slots in e ∙ (λ i. (v i, (slot, Empty) ∷ below i))
+
+-- the slot that is to go home stands first
+pub put_slots : {S : Type 0} (p q : Plan) (l : List (ℕ × S)) (k : ℕ) (y : S) (below : List (ℕ × S)) → p ≡ q → l ≡ (q.requests + k, y) ∷ below → l ≡ (p.requests + k, y) ∷ below
+put_slots p q l k y below same is = is ∙ (λ i. ((sym same i).requests + k, y) ∷ below)
+
+-- and is home then
+pub back_home : {S : Type 0} (m n r : Me S View) (q : Plan) (k : ℕ) (y : S) → m.0.plan ≡ q → n ≡ (m.0, (q.requests + k, y) ∷ rest m.1)
+    → ((j : ℕ) (z : S) (below : List (ℕ × S)) → n.1 ≡ (n.0.plan.requests + j, z) ∷ below → r ≡ (without_hand n.0 j, below)) → r ≡ (without_hand m.0 k, rest m.1)
+back_home {S} m n r q k y plan is told = let v = ap (λ (x : Me S View). x.0) is in let same : n.0.plan ≡ q = ap (λ (u : View). u.plan) v ∙ plan in
+    told k y (rest m.1) (put_slots n.0.plan q n.1 k y (rest m.1) same (ap (λ (x : Me S View). x.1) is)) ∙ (λ i. (without_hand (v i) k, rest m.1))
+
+-- ## The link of a right, and a message
+
+pub own_slots : {O : Type 0} {g : Ghosts O} (m n : Me (SockHome O g) View) (r : Right) (t : TookOwn shows m n r) (q : Plan) → m.0.plan ≡ q → n.1 ≡ (q.requests + r.link, t.value) ∷ rest n.1
+own_slots m n r t q e = t.slots ∙ (λ i. ((e i).requests + r.link, t.value) ∷ rest (sym t.slots i))
+
+abbrev is_done : Home → Bool
+is_done (home.Link k took next done) = done
+is_done _ = true
+
+module _ {O : Type 0} {g : Ghosts O} (m n : Me (SockHome O g) View) (r : Right) (t : TookOwn shows m n r) (slot : ℕ) (x : SockHome O g) (moved : n.1 ≡ (slot, x) ∷ rest n.1) where
+  own_value : t.value ≡ x
+  own_value = ap (top t.value) (sym t.slots ∙ moved)
+
+  pub must_own : ((h : LinkHome O g) → x ≡ Link h → ⊥) → ⊥
+  must_own none_ = by_value x refl
+    where
+      by_value : (y : SockHome O g) → x ≡ y → ⊥
+      by_value Empty e = let a = ap is_link (sym t.shown ∙ ap shows (own_value ∙ e)) in omega arith
+      by_value (Link h) e = none_ h e
+      by_value (Message w) e = let a = ap is_link (sym t.shown ∙ ap shows (own_value ∙ e)) in omega arith
+
+  module _ (h : LinkHome O g) (is : x ≡ Link h) where
+    own_shown : home.Link (g.state h.out).link h.took.list h.next (g.state h.out).finished ≡ home.Link r.link r.sent r.places false
+    own_shown = ap shows (sym (own_value ∙ is)) ∙ t.shown
+
+    pub own_link : ((g.state h.out).link ≡ r.link) × ((g.state h.out).finished ≡ false)
+    own_link = (ap number own_shown, ap is_done own_shown)
+
+    pub own_took : (h.took.list ≡ r.sent) × (h.next ≡ r.places)
+    own_took = (ap bytes own_shown, ap next_place own_shown)
+
+    pub own_after : (new : Me (SockHome O g) View) → new ≡ (n.0, (slot, Empty) ∷ rest n.1) → new ≡ (with_right m.0 (record r { at_home = false }), (slot, Empty) ∷ m.1)
+    own_after new e = let below : rest n.1 ≡ m.1 = ap rest t.slots in e ∙ (λ i. (t.view i, (slot, Empty) ∷ below i))
+
+abbrev is_letter : Home → ℕ
+is_letter (home.Message l b) = 1
+is_letter _ = 0
+
+abbrev letter_heading : Heading → Home → Heading
+letter_heading d (home.Message l b) = l
+letter_heading d _ = d
+
+abbrev letter_bytes : Home → List ℕ
+letter_bytes (home.Message l b) = b
+letter_bytes _ = []
+
+module _ {O : Type 0} {g : Ghosts O} (m n : Me (SockHome O g) View) (r : Right) (now : ℕ) (t : TookLetter shows m n r now) (slot : ℕ) (x : SockHome O g) (moved : n.1 ≡ (slot, x) ∷ rest n.1) where
+  letter_value : t.value ≡ x
+  letter_value = ap (top t.value) (sym t.slots ∙ moved)
+
+  pub must_letter : ((h : Letter) → x ≡ Message h → ⊥) → ⊥
+  must_letter none_ = by_value x refl
+    where
+      by_value : (y : SockHome O g) → x ≡ y → ⊥
+      by_value Empty e = let a = ap is_letter (sym t.shown ∙ ap shows (letter_value ∙ e)) in omega arith
+      by_value (Link h) e = let a = ap is_letter (sym t.shown ∙ ap shows (letter_value ∙ e)) in omega arith
+      by_value (Message w) e = none_ w e
+
+  module _ (h : Letter) (is : x ≡ Message h) where
+    letter_shown : home.Message (heading_of h) h.bytes ≡ home.Message t.heading t.bytes
+    letter_shown = ap shows (sym (letter_value ∙ is)) ∙ t.shown
+
+    pub letter_label : h.label.place < 8 * m.0.plan.operations
+    letter_label = subst (λ (y : Heading). y.place < 8 * m.0.plan.operations) (sym (ap (letter_heading (heading_of h)) letter_shown)) t.label_in
+
+    pub letter_after : slot ≡ slot_of now → (new : Me (SockHome O g) View) → new ≡ (n.0, (slot, Empty) ∷ rest n.1) → new ≡ (with_right m.0 (taken_right r (heading_of h) h.bytes), (slot_of now, Empty) ∷ m.1)
+    letter_after at new e = let below : rest n.1 ≡ m.1 = ap rest t.slots in let l = ap (letter_heading (heading_of h)) letter_shown in let b = ap letter_bytes letter_shown in
+        e ∙ ((λ i. (t.view i, (at i, Empty) ∷ below i)) ∙ (λ i. (with_right m.0 (taken_right r (sym l i) (sym b i)), (slot_of now, Empty) ∷ m.1)))

@@ -1,0 +1,75 @@
+-- Each link is at home once all seats have ended, with what it took.
+use Rattle.std.proofs.Common.{◌≡◌, ℕ, ◌+◌, ◌<◌, Bool, ⊎_elim, eqb, List, [], refl, sym, ap, ◌∙◌, arith}
+use mathlib.Core.Logic.{dite}
+use mathlib.Core.Option.{Option, some, none, some-injective, some-ne-none}
+use native.Mathlib.Decide.{ℕ_discrete}
+use lib.ListN.{get_elem?}
+use Rattle.std.specs.List.{filter}
+use Rattle.atomic_table.specs.Table.{State}
+use Rattle.sock_words.specs.declared.plain.Plan.{Plan}
+use Rattle.sock_model.specs.declared.home.Home.{Home}
+use Rattle.sock_model.specs.declared.home.Home.TheVariants.{Empty, Link, Message}
+use Rattle.sock_model.specs.declared.chain.Entry.{Entry}
+use Rattle.sock_model.specs.declared.chain.Right.{Right}
+use Rattle.sock_model.specs.declared.view.View.{View}
+use Rattle.sock_model.specs.Weights.{total}
+use Rattle.sock_model.specs.Reads.{took_of, link_at, rights_on, hands_of, carries, tokens}
+use Rattle.sock_model.specs.Seats.{IsBare}
+use Rattle.sock_steps.proofs.HandSteps.{link_value}
+use Rattle.sock_steps.proofs.Reseat.{closing_law}
+use Rattle.sock_rule.specs.OnTable.{OnTable}
+use Rattle.sock_rule.specs.Closing.{LinkTook}
+use Rattle.sock_rule.proofs.Closes.{others, none_flat, only_one}
+use Rattle.sock_rule.proofs.Reached.{label_of}
+
+-- a home that took something is a link's
+took_there : (o : Option Home) (t : List ℕ) (n : ℕ) → took_of o ≡ some (t, n) → (k : ℕ) × (d : Bool) × (o ≡ some (Link k t n d))
+took_there none t n e = absurd (some-ne-none (t, n) (sym e))
+took_there (some Empty) t n e = absurd (some-ne-none (t, n) (sym e))
+took_there (some (Message l b)) t n e = absurd (some-ne-none (t, n) (sym e))
+took_there (some (Link k a b d)) t n e = let q : (a, b) ≡ (t, n) = some-injective (a, b) (t, n) e in (k, d, (λ i. some (Link k (q i).0 (q i).1 d)))
+
+-- the home of link k, with what its link took
+pub record AtHome {S : Type 0} (shows : S → Home) (p : Plan) (s : State S View) (log : List Entry) (k : ℕ) : Type 0 where
+  pub value : S
+  pub took : List ℕ
+  pub next : ℕ
+  pub done : Bool
+  pub there : get_elem? s.homes (p.requests + k) ≡ some (some value)
+  pub shown_is : shows value ≡ Link k took next done
+  pub took_is : LinkTook p log s.words k took
+
+module _ {S : Type 0} {shows : S → Home} {p : Plan} (s : State S View) (t : OnTable shows p s) (id : ℕ) (v : View) (here : get_elem? s.views id ≡ some v) (all : v.share ≡ p.seats) (bare : IsBare v) where
+  same_view : (j : ℕ) (u : View) → get_elem? s.views j ≡ some u → j ≡ id → v ≡ u
+  same_view j u e same = some-injective v u (sym here ∙ (ap (get_elem? s.views) (sym same) ∙ e))
+
+  no_rights : (k : ℕ) → (tokens s.views).rights k ≡ []
+  no_rights k = none_flat (rights_on k) s.views (λ j u e. dite (ℕ_discrete j id)
+      (λ same. ap (rights_on k) (sym (same_view j u e same)) ∙ ap (filter (λ (x : Right). eqb x.link k)) bare.rights)
+      (λ other. ap (filter (λ (x : Right). eqb x.link k)) (others s t id v here all j u e other).rights))
+
+  no_hands : (k : ℕ) → total (hands_of k) s.views ≡ 0
+  no_hands k = only_one (hands_of k) s.views id v here (λ j u e other. ap (total (carries k)) (others s t id v here all j u e other).hands) ∙ ap (total (carries k)) bare.hands
+
+  link_there : (k : ℕ) → k < p.links → (x : Home) × (link_at shows p s.homes k ≡ some x)
+  link_there k kl = by_slot (t.rule.lawful.slot k) refl
+    where
+      by_slot : (o : Option ℕ) → t.rule.lawful.slot k ≡ o → (x : Home) × (link_at shows p s.homes k ≡ some x)
+      by_slot none e = ⊎_elim (λ y. y) (λ h. absurd (let z = no_hands k in omega arith)) (t.rule.lawful.homes.outside k kl e)
+      by_slot (some j) e = let i = t.rule.lawful.homes.idle k j kl e (no_rights k) in let h = took_there (link_at shows p s.homes k) i.0 i.1 i.2 in (Link h.0 i.0 i.1 h.1, h.2)
+
+  pub links_back : (k : ℕ) → k < p.links → AtHome shows p s t.rule.lawful.log k
+  links_back k kl = let x = link_there k kl in let own = t.rule.lawful.homes.own k x.0 kl x.1 in
+      let at : link_at shows p s.homes k ≡ some (Link k own.took own.next own.done) = x.1 ∙ ap some own.is in
+      let y = link_value shows (get_elem? s.homes (p.requests + k)) k own.took own.next own.done at in record {
+        value = y.0;
+        took = own.took;
+        next = own.next;
+        done = own.done;
+        there = y.1;
+        shown_is = y.2;
+        took_is = record {
+          kept = t.rule.lawful.kept k;
+          fifo = λ apart. closing_law shows p s t.rule.lawful apart (λ i e g. label_of t.rule.lawful t.labelled i e g) k kl (no_rights k) own.took own.next (ap took_of at);
+        };
+      }

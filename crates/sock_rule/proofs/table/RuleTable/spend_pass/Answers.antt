@@ -1,0 +1,24 @@
+use Rattle.std.proofs.Common.{◌<◌, arith, refl, ◌∙◌, sym, subst}
+use Rattle.sock_rule.specs.Shows.{shows}
+use Rattle.sock_rule.proofs.Moving.{spends}
+use Rattle.sock_rule.proofs.Handing.{taken_slots, must_link, its_link, after_move}
+use Rattle.sock_rule.proofs.Seating.{still_seat}
+use Rattle.sock_rule.proofs.table.RuleTable.spend_pass.Goals as goal
+
+pub load-requires : goal.load-requires
+load-requires g c = let a = c.requires.seat in (a.0, omega (arith, c.args.self.now.sized, c.args.self.now.some_slots), spends shows c.args.self.now.table.shared.key _ _ _ (a.1 ∙ sym c.args.self.now.planned) a.2 0 c.args.link c.requires.pass)
+
+pub exchange-value-requires : goal.exchange-value-requires
+exchange-value-requires g c = let t = c.load.ensures.2 c.args.link c.requires.pass in (c.load.ensures.0 ∙ c.requires.seat.0, (t.value, taken_slots t c.args.self.now.plan c.requires.seat.1))
+
+pub unreachable-requires : goal.unreachable-requires
+unreachable-requires g c = let t = c.load.ensures.2 c.args.link c.requires.pass in must_link _ _ _ _ t _ _ c.exchange-value.ensures.2 c.in_default.not-Link
+
+pub returns-clause-view : goal.returns-clause-view
+returns-clause-view g c = let t = c.load.ensures.2 c.args.link c.requires.pass in after_move _ _ _ _ t _ _ c.exchange-value.ensures.2 c.in-Link.home c.in-Link.is _ c.exchange-value.ensures.3
+
+pub returns-clause-link : goal.returns-clause-link
+returns-clause-link g c = let t = c.load.ensures.2 c.args.link c.requires.pass in (its_link _ _ _ _ t _ _ c.exchange-value.ensures.2 c.in-Link.home c.in-Link.is, subst (λ q. c.args.link < q.links) c.requires.seat.1 t.inside)
+
+pub returns-clause-seat : goal.returns-clause-seat
+returns-clause-seat g c = let t = c.load.ensures.2 c.args.link c.requires.pass in still_seat _ _ c.args.seat.now c.exchange-value.new.seat _ c.requires.seat (c.exchange-value.ensures.0 ∙ c.load.ensures.0) (after_move _ _ _ _ t _ _ c.exchange-value.ensures.2 c.in-Link.home c.in-Link.is _ c.exchange-value.ensures.3) refl refl

@@ -1,0 +1,18 @@
+use Rattle.std.proofs.Common.{arith, refl}
+use Rattle.sock_rule.specs.Shows.{shows}
+use Rattle.sock_rule.proofs.Naming.{stores_nothing_on}
+use Rattle.sock_rule.proofs.Seating.{still_seat}
+use Rattle.sock_rule.proofs.table.RuleTable.store_nothing.Goals as goal
+
+pub store-requires : goal.store-requires
+store-requires g c = let a = c.requires.seat in (
+  a.0,
+  omega (arith, c.args.self.now.sized, c.requires.operation),
+  stores_nothing_on shows _ _ _ _ _ c.args.self.now.planned a.1 a.2 c.args.operation _ c.requires.operation c.args.self.now.some_slots refl,
+)
+
+pub returns-clause-view : goal.returns-clause-view
+returns-clause-view g c = c.store.ensures.2
+
+pub returns-clause-seat : goal.returns-clause-seat
+returns-clause-seat g c = still_seat _ _ c.args.seat.now c.store.new.seat _ c.requires.seat c.store.ensures.0 c.store.ensures.2 refl refl

@@ -1,0 +1,73 @@
+-- What the words and the notes of all seats say once the table is closed.
+use Rattle.std.specs.Prelude.{◌≡◌, ℕ, ◌%◌, ◌<◌, ◌≤◌, List, [], map, length, slice_index}
+use mathlib.Core.Option.{some}
+use lib.ListN.{get_elem?}
+use Rattle.sock_words.specs.declared.plain.Plan.{Plan}
+use Rattle.sock_model.specs.declared.view.View.{View}
+use Rattle.sock_model.specs.declared.chain.Entry.{Entry}
+use Rattle.sock_model.specs.Authors.{pick}
+use Rattle.sock_model.specs.Entries.{on}
+use Rattle.sock_model.specs.Fifo.{IsFifo}
+use Rattle.sock_model.specs.declared.view.StoredWord.{StoredWord}
+use Rattle.sock_model.specs.Weights.{is_claimed, is_any_coding, is_zero, is_tried, is_known, is_born, is_saw, is_failer, is_freer, is_coded, is_stored, is_told, is_linked, is_met}
+use Rattle.sock_model.specs.Layout.{ref_word, request_word, place_word}
+use Rattle.sock_model.specs.Slots.{version_of, nref_of}
+use Rattle.sock_model.specs.SlotRows.{marks_of}
+use Rattle.sock_rule.specs.OnTable.{put_in}
+
+-- between two calls a seat has nothing but references, rights and notes
+pub record IsAtRest (p : Plan) (v : View) : Type 0 where
+  pub unclaimed : (i : ℕ) → i < p.slots → marks_of is_claimed i v ≡ 0
+  pub uncoding : (i : ℕ) → i < p.slots → marks_of is_any_coding i v ≡ 0
+  pub no_zero : (i w : ℕ) → i < p.slots → marks_of (is_zero w) i v ≡ 0
+  pub no_passes : v.passes ≡ []
+
+-- of the last words, and of the view of the seat that took in all others
+pub record Closing (p : Plan) (v : View) (words : List ℕ) : Type 0 where
+  -- what was found at a name or an operation was stored there
+  pub found_was : (n : ℕ) (x : StoredWord) → get_elem? v.finds n ≡ some x → 0 < put_in x.place x.word v
+  -- each word of a slot has an even version, and one reference where it is live, else none
+  pub even : (i : ℕ) → i < p.slots → version_of (slice_index words (ref_word i)) % 2 ≡ 0
+  pub one_or_none : (i : ℕ) → i < p.slots → nref_of (slice_index words (ref_word i)) ≤ 1
+  -- a life was made once
+  pub born_once : (i h : ℕ) → i < p.slots → marks_of (is_born h) i v ≤ 1
+  -- and then it was failed once, by a seat that stored its code, where the slot has a later version, and else not
+  pub failed_once : (i h : ℕ) → i < p.slots → 0 < marks_of (is_born h) i v → h < version_of (slice_index words (ref_word i)) → marks_of (is_failer h) i v ≡ 1
+  pub not_failed : (i h : ℕ) → i < p.slots → version_of (slice_index words (ref_word i)) ≤ h → marks_of (is_failer h) i v ≡ 0
+  pub coded : (i h : ℕ) → i < p.slots → marks_of (is_failer h) i v ≡ marks_of (is_coded h) i v
+  -- and ended once
+  pub ended_once : (i h : ℕ) → i < p.slots → 0 < marks_of (is_born h) i v → h < version_of (slice_index words (ref_word i)) → marks_of (is_freer h) i v ≡ 1
+  pub not_ended : (i h : ℕ) → i < p.slots → version_of (slice_index words (ref_word i)) ≤ h → marks_of (is_freer h) i v ≡ 0
+  -- a life that is known, and behind a version that was seen, was failed
+  pub dead_failed : (i h w : ℕ) → i < p.slots → 0 < marks_of (is_known h) i v → 0 < marks_of (is_saw w) i v → h < w → marks_of (is_failer h) i v ≡ 1
+  -- a code that was found was stored, by the seat that failed the life
+  pub told_stored : (i h c : ℕ) → i < p.slots → 0 < marks_of (is_told h c) i v → 0 < marks_of (is_stored h c) i v
+  -- a link that was found is that of the pass with which the life was made
+  pub met_linked : (i h k : ℕ) → i < p.slots → 0 < marks_of (is_met h k) i v → 0 < marks_of (is_linked h k) i v
+  -- a slot that was found taken had a life
+  pub full : (i : ℕ) → i < p.slots → 0 < marks_of is_tried i v → 0 < marks_of (is_born p.first) i v
+
+-- the places of the labels differ
+abbrev pub PlacesDiffer : List Entry → Type 0
+PlacesDiffer log = (i j : ℕ) (a b : Entry) → get_elem? log i ≡ some a → get_elem? log j ≡ some b → a.heading.place ≡ b.heading.place → i ≡ j
+
+-- what link k took, where the places of all labels differ: the messages of its order, as their place words say
+pub record LinkTook (p : Plan) (log : List Entry) (words : List ℕ) (k : ℕ) (took : List ℕ) : Type 0 where
+  pub kept : ℕ
+  pub fifo : PlacesDiffer log → IsFifo (λ l. slice_index words (place_word p l)) k (on k log) kept took
+
+-- the messages that all seats had accepted stand in one order, and each list that the last view keeps is what one of the seats had accepted, in its own order
+pub record Ordered (p : Plan) (found : List ℕ) (lists : List (List Entry)) : Type 0 where
+  pub log : List Entry
+  -- the author of each
+  pub by : List ℕ
+  pub long : length by ≡ length log
+  -- the authors whose lists these are
+  pub names : List ℕ
+  pub lists_are : lists ≡ map (λ a. pick a by log) names
+  -- each author's list is there once
+  pub apart : (i k a : ℕ) → get_elem? names i ≡ some a → get_elem? names k ≡ some a → i ≡ k
+  -- and each author has one
+  pub named : (q a : ℕ) → get_elem? by q ≡ some a → (i : ℕ) × (get_elem? names i ≡ some a)
+  -- where each request was found taken, there are as many as requests at least
+  pub full : ((q : ℕ) → q < p.requests → (n : ℕ) × (get_elem? found n ≡ some (request_word p q))) → p.requests ≤ length log

@@ -1,0 +1,11 @@
+pub mod Shows
+pub mod OnTable
+pub mod Plays
+pub mod Rows
+pub mod Seated
+pub mod Hands
+pub mod Closing
+pub mod Becoming
+pub mod ChainPlays
+pub mod Sending
+pub mod Holding

@@ -1,0 +1,77 @@
+-- The rule of a table that threads share: the rule of the sockets, and what the views keep beside it.
+use Rattle.std.specs.Prelude.{◌≡◌, ℕ, ◌+◌, ◌*◌, ◌%◌, true, ◌<◌, ◌≤◌, List, [], length, slice_index}
+use mathlib.Core.Option.{Option, some}
+use lib.ListN.{get_elem?}
+use Rattle.atomic_table.specs.Table.{State}
+use Rattle.sock_words.specs.declared.plain.Plan.{Plan}
+use Rattle.sock_model.specs.declared.home.Home.{Home}
+use Rattle.sock_model.specs.declared.chain.Claim.{Claim}
+use Rattle.sock_model.specs.declared.chain.Entry.{Entry}
+use Rattle.sock_model.specs.declared.view.View.{View}
+use Rattle.sock_model.specs.declared.view.StoredWord.{StoredWord}
+use Rattle.sock_model.specs.Weights.{total, pair}
+use Rattle.sock_model.specs.Layout.{code_word, request_word}
+use Rattle.sock_model.specs.Seats.{first_view}
+use Rattle.sock_model.specs.Rule.{lists_of, Rule}
+
+abbrev pub share_of : View → ℕ
+share_of v = v.share
+
+-- how often this word was stored at this place
+abbrev pub is_put : ℕ → ℕ → StoredWord → ℕ
+is_put x w n = pair x w n.place n.word
+
+abbrev pub put_in : ℕ → ℕ → View → ℕ
+put_in x w v = total (total (is_put x w)) v.stores
+
+-- a seat that stands for none has at most passes
+pub record IsIdle (v : View) : Type 0 where
+  pub marks : v.marks ≡ []
+  pub lists : v.lists ≡ []
+  pub finds : v.finds ≡ []
+  pub stores : (x w : ℕ) → put_in x w v ≡ 0
+  pub claims : v.claims ≡ []
+  pub loose : v.loose ≡ []
+  pub rights : v.rights ≡ []
+  pub hands : v.hands ≡ []
+
+-- what each seat found at a name or an operation was stored there by one of the seats
+abbrev pub FindsWere : List View → View → Type 0
+FindsWere views v = (n : ℕ) (x : StoredWord) → get_elem? v.finds n ≡ some x → 0 < total (put_in x.place x.word) views
+
+-- each code fits 16 bits, and a request that isn't taken has its home there: a seat that claims one takes its home with it, gives it back with the message in it, takes it
+-- with the message, and gives it back where it frees the request
+pub record Settled {S : Type 0} (p : Plan) (ws : List ℕ) (hs : List (Option S)) : Type 0 where
+  pub codes : (i : ℕ) → i < p.slots → slice_index ws (code_word i) < 65536
+  pub present : (r : ℕ) → r < p.requests → slice_index ws (request_word p r) % 2 ≡ 0 → (y : S) × (get_elem? hs r ≡ some (some y))
+
+-- the label of each message that a seat had accepted, or that its claim has, is of a place word of the table
+pub record LabelledIn (p : Plan) (lists : List (List Entry)) (claims : List Claim) : Type 0 where
+  pub entries : (n : ℕ) (l : List Entry) → get_elem? lists n ≡ some l → (i : ℕ) (e : Entry) → get_elem? l i ≡ some e → e.heading.place < 8 * p.operations
+  pub claimed : (i : ℕ) (c : Claim) → get_elem? claims i ≡ some c → c.filled ≡ true → c.heading.place < 8 * p.operations
+
+abbrev pub Labelled : Plan → View → Type 0
+Labelled p v = LabelledIn p v.lists v.claims
+
+module _ {S : Type 0} (shows : S → Home) where
+  pub record OnTable (p : Plan) (s : State S View) : Type 0 where
+    -- the rule of the sockets
+    pub rule : Rule shows p s
+    -- each request has a home, and then each link
+    pub housed : length s.homes ≡ p.requests + p.links
+    -- all views together stand for the seats of the table
+    pub shares : total share_of s.views ≡ p.seats
+    -- each view keeps a list of accepted messages for each seat at most for which it stands
+    pub listed : (id : ℕ) (v : View) → get_elem? s.views id ≡ some v → lists_of v ≤ v.share
+    -- one that stands for none has nothing but passes
+    pub idle : (id : ℕ) (v : View) → get_elem? s.views id ≡ some v → v.share ≡ 0 → IsIdle v
+    -- codes and the homes of requests
+    pub settled : Settled p s.words s.homes
+    -- labels
+    pub labelled : (id : ℕ) (v : View) → get_elem? s.views id ≡ some v → Labelled p v
+    -- what was found was stored
+    pub found_was : (id : ℕ) (v : View) → get_elem? s.views id ≡ some v → FindsWere s.views v
+
+-- the first seat stands for all, and has all passes
+abbrev pub opener : Plan → View
+opener p = record (first_view p) { share = p.seats }

@@ -1,0 +1,72 @@
+// L1 and L2 of links that nobody has a right to write. A link comes out of its home by a load that takes the slot's turn
+// and a plain move, and goes back by a plain move and a load that gives the turn back.
+ghost use Rattle.std.specs.Prelude.{◌≡◌, ◌+◌, ◌-◌, ◌<◌, ℕ, [], ◌∷◌};
+ghost use Rattle.atomic_table.specs.Table.{rest};
+ghost use Rattle.sock_model.specs.Weights.{is_recycled, is_met};
+ghost use Rattle.sock_model.specs.SlotRows.{marks_of};
+ghost use Rattle.sock_model.specs.ChainRows.{with_hand, without_hand, spent_hand};
+ghost use Rattle.sock_rule.specs.declared.homes.SockHome.TheVariants.{Empty};
+ghost use Rattle.sock_rule.specs.Seated.{IsSeat};
+ghost use Rattle.sock_rule.specs.Hands.{hand_of, Recycles};
+
+use crate::homes::{LinkHome, SockHome};
+use crate::plays::{PutLink, SpendPass, TakeLast};
+use crate::table::{RuleTable, SockSeat};
+use sock_io::Out;
+
+impl<O: Out> RuleTable<O> {
+    /// L1 of whoever recycled slot `at`, of the link of the life that ended.
+    pub fn take_last_link(&self, seat: &mut SockSeat<O>, at: u16, link: u16) -> LinkHome<O>
+        requires seat { IsSeat self.now.table.shared.table_id self.now.plan seat.old }
+        requires slot { at < self.now.plan.slots }
+        requires recycled { Recycles at link seat.old.me.0 }
+        requires empty { seat.old.me.0.hands ≡ [] }
+        ensures seat { IsSeat self.now.table.shared.table_id self.now.plan seat.new }
+        ensures view { seat.new.me ≡ (with_hand seat.old.me.0 (hand_of link result.took.list result.next), (self.now.plan.requests + link, Empty) ∷ seat.old.me.1) }
+        ensures link { ((O.state result.out).link ≡ link) × (link < self.now.plan.links) }
+    {
+        let word = 6 * at as usize + 2;
+        self.table.shared.load::<TakeLast>(seat, word);
+        let slot = self.plan.requests as usize + link as usize;
+        let value = self.table.shared.exchange(seat, slot, SockHome::Empty);
+        let SockHome::Link(home) = value else {
+            unreachable!();
+        };
+        home
+    }
+
+    /// L1 of a link whose pass gets no socket: the pass is spent.
+    pub fn spend_pass(&self, seat: &mut SockSeat<O>, link: u16) -> LinkHome<O>
+        requires seat { IsSeat self.now.table.shared.table_id self.now.plan seat.old }
+        requires pass { seat.old.me.0.passes ≡ link ∷ [] }
+        ensures seat { IsSeat self.now.table.shared.table_id self.now.plan seat.new }
+        ensures view { seat.new.me ≡ (spent_hand seat.old.me.0 (hand_of link result.took.list result.next), (self.now.plan.requests + link, Empty) ∷ seat.old.me.1) }
+        ensures link { ((O.state result.out).link ≡ link) × (link < self.now.plan.links) }
+    {
+        self.table.shared.load::<SpendPass>(seat, 0);
+        let slot = self.plan.requests as usize + link as usize;
+        let value = self.table.shared.exchange(seat, slot, SockHome::Empty);
+        let SockHome::Link(home) = value else {
+            unreachable!();
+        };
+        home
+    }
+
+    /// L2: the link in hand goes home, with what it took.
+    pub fn put_link(&self, seat: &mut SockSeat<O>, link: u16, home: LinkHome<O>)
+        requires seat { IsSeat self.now.table.shared.table_id self.now.plan seat.old }
+        requires inside { link < self.now.plan.links }
+        requires top { seat.old.me.1 ≡ (self.now.plan.requests + link, Empty) ∷ rest seat.old.me.1 }
+        requires hand { seat.old.me.0.hands ≡ hand_of link home.took.list home.next ∷ [] }
+        requires link { (O.state home.out).link ≡ link }
+        ensures seat { IsSeat self.now.table.shared.table_id self.now.plan seat.new }
+        ensures view { seat.new.me ≡ (without_hand seat.old.me.0 link, rest seat.old.me.1) }
+    {
+        let slot = self.plan.requests as usize + link as usize;
+        let place = self.table.shared.exchange(seat, slot, SockHome::Link(home));
+        let SockHome::Empty = place else {
+            unreachable!();
+        };
+        self.table.shared.load::<PutLink>(seat, 0);
+    }
+}

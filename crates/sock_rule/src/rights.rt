@@ -1,0 +1,190 @@
+// The steps of whoever writes a link.
+ghost use Rattle.std.specs.Prelude.{◌≡◌, ◌≢◌, ◌+◌, ◌*◌, ◌/◌, ◌%◌, ◌<◌, ◌≤◌, ℕ, false, true, [], ◌∷◌, ◌↔◌, IsTrue};
+ghost use Rattle.atomic_table.specs.Table.{rest};
+ghost use Rattle.sock_model.specs.Deliveries.{place_value};
+ghost use Rattle.sock_model.specs.declared.chain.Right.{Right};
+ghost use Rattle.sock_model.specs.declared.chain.Stage.TheVariants.{Writes, Walks, Turns};
+ghost use Rattle.sock_model.specs.ChainRows.{with_right, placed_right, freed_right, turned_right};
+ghost use Rattle.sock_model.specs.Entries.{slot_of, generation_of};
+ghost use Rattle.sock_rule.specs.declared.homes.SockHome.TheVariants.{Empty};
+ghost use Rattle.sock_rule.specs.Seated.{IsSeat};
+ghost use Rattle.sock_rule.specs.Shows.{heading_of};
+ghost use Rattle.sock_rule.specs.Holding.{Rights, LinkAtHome, MayTakeMsg, TookMsg, MayLookToWrite, LookedToWrite, MayStorePlace, MayFreeRequest, MayEmptyHead, Emptied, MayReadOn, ReadOn, MayReadBack, ReadBack, MayTurnNext};
+
+use crate::homes::{Letter, LinkHome, SockHome};
+use crate::plays::{
+    EmptyHead, FreeRequest, LookToWrite, PutOwn, ReadNext, StorePlace, TakeLetter, TakeOwn,
+    TurnNext,
+};
+use crate::table::{RuleTable, SockSeat};
+use sock_io::Out;
+use sock_words::{PlaceWord, Step, Ticket};
+
+impl<O: Out> RuleTable<O> {
+    /// L1 of the link that the seat has the right to write.
+    pub fn take_link(&self, seat: &mut SockSeat<O>, link: u16) -> LinkHome<O>
+        requires seat { IsSeat self.now.table.shared.table_id self.now.plan seat.old }
+        requires home { LinkAtHome link seat.old.me.0 }
+        ensures seat { IsSeat self.now.table.shared.table_id self.now.plan seat.new }
+        ensures view { (r : Right) → Rights r seat.old.me.0 → seat.new.me ≡ (with_right seat.old.me.0 (record r { at_home = false }), (self.now.plan.requests + link, Empty) ∷ seat.old.me.1) }
+        ensures took { (r : Right) → Rights r seat.old.me.0 → (result.took.list ≡ r.sent) × (result.next ≡ r.places) }
+        ensures link { ((O.state result.out).link ≡ link) × ((O.state result.out).finished ≡ false) × (link < self.now.plan.links) }
+    {
+        self.table.shared.load::<TakeOwn>(seat, 0);
+        let slot = self.plan.requests as usize + link as usize;
+        let value = self.table.shared.exchange(seat, slot, SockHome::Empty);
+        let SockHome::Link(home) = value else {
+            unreachable!();
+        };
+        home
+    }
+
+    /// M2: the message of the ticket comes out of its home.
+    pub fn take_msg(&self, seat: &mut SockSeat<O>, now: Ticket) -> Letter
+        requires seat { IsSeat self.now.table.shared.table_id self.now.plan seat.old }
+        requires may { MayTakeMsg now.0 seat.old.me.0 }
+        requires ticket { (0 < now.0 % 65536) × (now.0 < 9223372036854775808) }
+        ensures seat { IsSeat self.now.table.shared.table_id self.now.plan seat.new }
+        ensures view { (r : Right) → Rights r seat.old.me.0 → TookMsg r now.0 result Empty seat.old.me seat.new.me }
+        ensures label { result.label.place < 8 * self.now.plan.operations }
+        ensures few { (r : Right) → Rights r seat.old.me.0 → r.places < 4294967295 }
+    {
+        self.table.shared.load::<TakeLetter>(seat, 0);
+        let slot = now.request() as usize;
+        let value = self.table.shared.exchange(seat, slot, SockHome::Empty);
+        let SockHome::Message(msg) = value else {
+            unreachable!();
+        };
+        msg
+    }
+
+    /// A8 of whoever writes the link of the life in slot `at`: where that is live, its right is clean.
+    pub fn look_to_write(&self, seat: &mut SockSeat<O>, at: u16) -> Step
+        requires seat { IsSeat self.now.table.shared.table_id self.now.plan seat.old }
+        requires may { MayLookToWrite self.now.plan at seat.old.me.0 }
+        ensures seat { IsSeat self.now.table.shared.table_id self.now.plan seat.new }
+        ensures view { (r : Right) → Rights r seat.old.me.0 → LookedToWrite r at result.found seat.old.me seat.new.me }
+    {
+        let word = 6 * at as usize + 1;
+        let found = self.table.shared.load::<LookToWrite>(seat, word);
+        ref_core::look_word(found)
+    }
+
+    /// P1 of a message that its link took whole.
+    pub fn store_place(&self, seat: &mut SockSeat<O>, at: u32, value: PlaceWord)
+        requires seat { IsSeat self.now.table.shared.table_id self.now.plan seat.old }
+        requires may { (k places : ℕ) × MayStorePlace self.now.plan at k places seat.old.me.0 × (value.0 ≡ place_value false k places) }
+        ensures seat { IsSeat self.now.table.shared.table_id self.now.plan seat.new }
+        ensures view { (r : Right) (now : ℕ) → Rights r seat.old.me.0 → r.stage ≡ Writes now → seat.new.me ≡ (with_right seat.old.me.0 (placed_right r now), seat.old.me.1) }
+    {
+        let word = 6 * self.plan.slots as usize
+            + self.plan.names as usize
+            + self.plan.operations as usize
+            + self.plan.requests as usize
+            + self.plan.requests as usize
+            + at as usize;
+        let place = value.word();
+        self.table.shared.store::<StorePlace>(seat, word, place);
+    }
+
+    /// C8: the request of a message that has its place is free again, and its home is back.
+    pub fn free_request(&self, seat: &mut SockSeat<O>, now: Ticket)
+        requires seat { IsSeat self.now.table.shared.table_id self.now.plan seat.old }
+        requires may { MayFreeRequest now.0 seat.old.me }
+        requires ticket { (0 < now.0 % 65536) × (slot_of now.0 < self.now.plan.requests) }
+        ensures seat { IsSeat self.now.table.shared.table_id self.now.plan seat.new }
+        ensures view { (r : Right) → Rights r seat.old.me.0 → seat.new.me ≡ (with_right seat.old.me.0 (freed_right r), rest seat.old.me.1) }
+    {
+        let word = 6 * self.plan.slots as usize
+            + self.plan.names as usize
+            + self.plan.operations as usize
+            + now.request() as usize;
+        let next = 2 * (now.generation() + 1);
+        self.table.shared.store::<FreeRequest>(seat, word, next);
+    }
+
+    /// L2 of the link that the seat has the right to write.
+    pub fn put_own_link(&self, seat: &mut SockSeat<O>, link: u16, home: LinkHome<O>)
+        requires seat { IsSeat self.now.table.shared.table_id self.now.plan seat.old }
+        requires inside { link < self.now.plan.links }
+        requires top { seat.old.me.1 ≡ (self.now.plan.requests + link, Empty) ∷ rest seat.old.me.1 }
+        requires right { (r : Right) × Rights r seat.old.me.0 × (r.link ≡ link) × (home.took.list ≡ r.sent) × (home.next ≡ r.places) }
+        requires link { ((O.state home.out).link ≡ link) × ((O.state home.out).finished ≡ false) }
+        ensures seat { IsSeat self.now.table.shared.table_id self.now.plan seat.new }
+        ensures view { (r : Right) → Rights r seat.old.me.0 → seat.new.me ≡ (with_right seat.old.me.0 (record r { at_home = true }), rest seat.old.me.1) }
+    {
+        let slot = self.plan.requests as usize + link as usize;
+        let place = self.table.shared.exchange(seat, slot, SockHome::Link(home));
+        let SockHome::Empty = place else {
+            unreachable!();
+        };
+        self.table.shared.load::<PutOwn>(seat, 0);
+    }
+
+    /// C4, compare_exchange of the head from the last ticket to idle with it: the right is given up, or a newer ticket
+    /// was found.
+    pub fn empty_head(&self, seat: &mut SockSeat<O>, at: u16, last: Ticket) -> Step
+        requires seat { IsSeat self.now.table.shared.table_id self.now.plan seat.old }
+        requires may { MayEmptyHead self.now.plan at last.0 seat.old.me.0 }
+        requires ticket { last.0 < 9223372036854775808 }
+        ensures seat { IsSeat self.now.table.shared.table_id self.now.plan seat.new }
+        ensures view { (r : Right) → Rights r seat.old.me.0 → Emptied r last.0 result.found seat.old.me seat.new.me }
+    {
+        let word = 6 * at as usize + 3;
+        let old = last.word();
+        let new = old + 9_223_372_036_854_775_808;
+        let found = self
+            .table
+            .shared
+            .compare_exchange::<EmptyHead>(seat, word, old, new);
+        chain_core::empty_head(found, last)
+    }
+
+    /// C5 after a message has its place: the ticket of the one that follows.
+    pub fn read_on(&self, seat: &mut SockSeat<O>, now: Ticket) -> u64
+        requires seat { IsSeat self.now.table.shared.table_id self.now.plan seat.old }
+        requires may { MayReadOn now.0 seat.old.me.0 }
+        requires ticket { (0 < now.0 % 65536) × (slot_of now.0 < self.now.plan.requests) }
+        ensures seat { IsSeat self.now.table.shared.table_id self.now.plan seat.new }
+        ensures view { (r : Right) → Rights r seat.old.me.0 → ReadOn r now.0 result seat.old.me seat.new.me }
+    {
+        let word = 6 * self.plan.slots as usize
+            + self.plan.names as usize
+            + self.plan.operations as usize
+            + self.plan.requests as usize
+            + now.request() as usize;
+        self.table.shared.load::<ReadNext>(seat, word)
+    }
+
+    /// C5 on the walk, which waits while it finds `UNCONNECTED`.
+    pub fn read_back(&self, seat: &mut SockSeat<O>, at: Ticket) -> u64
+        requires seat { IsSeat self.now.table.shared.table_id self.now.plan seat.old }
+        requires may { MayReadBack at.0 seat.old.me.0 }
+        requires ticket { (0 < at.0 % 65536) × (slot_of at.0 < self.now.plan.requests) }
+        ensures seat { IsSeat self.now.table.shared.table_id self.now.plan seat.new }
+        ensures view { (r : Right) (top after : ℕ) → Rights r seat.old.me.0 → r.stage ≡ Walks top at.0 after → ReadBack r top at.0 after result seat.old.me seat.new.me }
+    {
+        let word = 6 * self.plan.slots as usize
+            + self.plan.names as usize
+            + self.plan.operations as usize
+            + self.plan.requests as usize
+            + at.request() as usize;
+        self.table.shared.load::<ReadNext>(seat, word)
+    }
+
+    /// C6, store of the successor, or 0, into the next word at which the walk stands.
+    pub fn turn_next(&self, seat: &mut SockSeat<O>, at: Ticket, value: u64)
+        requires seat { IsSeat self.now.table.shared.table_id self.now.plan seat.old }
+        requires may { MayTurnNext at.0 value seat.old.me.0 }
+        requires ticket { (0 < at.0 % 65536) × (slot_of at.0 < self.now.plan.requests) }
+        ensures seat { IsSeat self.now.table.shared.table_id self.now.plan seat.new }
+        ensures view { (r : Right) (top after before : ℕ) → Rights r seat.old.me.0 → r.stage ≡ Turns top at.0 after before → seat.new.me ≡ (with_right seat.old.me.0 (turned_right r top at.0 before), seat.old.me.1) }
+    {
+        let word = 6 * self.plan.slots as usize
+            + self.plan.names as usize
+            + self.plan.operations as usize
+            + self.plan.requests as usize
+            + at.request() as usize;
+        self.table.shared.store::<TurnNext>(seat, word, value);
+    }
+}

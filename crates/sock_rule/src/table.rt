@@ -1,0 +1,78 @@
+// The table of words and homes, and its seats.
+ghost use Rattle.std.specs.Prelude.{◌≡◌, ◌+◌, ◌*◌, ◌<◌, ◌≤◌, ℕ, [], IfOk, IfErr};
+ghost use Rattle.sock_model.specs.Layout.{all_words};
+ghost use Rattle.sock_model.specs.Seats.{joined};
+ghost use Rattle.sock_rule.specs.OnTable.{opener};
+ghost use Rattle.sock_rule.specs.Shows.{shows};
+ghost use Rattle.sock_rule.specs.Seated.{IsNew, IsSeat, MayGive, giving, given, passing, passed, IsDone};
+
+use crate::homes::SockHome;
+use crate::plays::{Give, PassOut, SockRule, TakeIn};
+use atomic_table::{Refused, Seat, Table};
+use sock_io::Out;
+use sock_model::{Plan, View};
+use std::alloc::Global;
+
+pub type SockSeat<O> = Seat<SockHome<O>, View>;
+
+/// The words and homes of the sockets, on which each seat steps through a `&`.
+#[derive(Drop)]
+pub struct RuleTable<O: Out> {
+    pub table: Table<SockHome<O>, View, Plan, SockRule, Global>,
+    pub plan: Plan,
+    pub ghost sized: { table.shared.table_id.words ≡ all_words plan },
+    pub ghost housed: { table.shared.table_id.slots ≡ plan.requests + plan.links },
+    pub ghost planned: { table.shared.key ≡ plan },
+    pub ghost some_slots: { 0 < plan.slots },
+}
+
+impl<O: Out> RuleTable<O> {
+    /// A table of these words and homes. Its first seat stands for all, and has all passes.
+    pub fn open(
+        alloc: Global,
+        plan: Plan,
+        words: &[u64],
+        homes: Vec<SockHome<O>>,
+    ) -> Result<(RuleTable<O>, SockSeat<O>), Refused<SockHome<O>, Global>>
+        requires new { IsNew shows plan words.now homes.items }
+        requires slots { 0 < plan.slots }
+        ensures ok { IfOk result (λ t. (t.0.plan ≡ plan) × (t.1.table_id ≡ t.0.table.shared.table_id) × (t.1.me ≡ (opener plan, []))) }
+        ensures err { IfErr result (λ r. r.slots.items ≡ homes.items) }
+    {
+        let (table, seat) = Table::new(alloc, words, homes, &plan)?;
+        Ok((RuleTable { table, plan }, seat))
+    }
+
+    /// A new seat.
+    pub fn give(&self, seat: &mut SockSeat<O>) -> SockSeat<O>
+        requires seat { IsSeat self.now.table.shared.table_id self.now.plan seat.old }
+        requires may { MayGive seat.old.me.0 }
+        ensures seat { IsSeat self.now.table.shared.table_id self.now.plan seat.new }
+        ensures new { IsSeat self.now.table.shared.table_id self.now.plan result }
+        ensures view { (seat.new.me ≡ (giving seat.old.me.0, seat.old.me.1)) × (result.me ≡ (given seat.old.me.0, [])) }
+    {
+        self.table.shared.split_seat::<Give>(seat)
+    }
+
+    /// A seat of its own for the pass that stands first.
+    pub fn pass_out(&self, seat: &mut SockSeat<O>) -> SockSeat<O>
+        requires seat { IsSeat self.now.table.shared.table_id self.now.plan seat.old }
+        requires spare { 0 < seat.old.me.0.spare }
+        ensures seat { IsSeat self.now.table.shared.table_id self.now.plan seat.new }
+        ensures pass { result.table_id ≡ self.now.table.shared.table_id }
+        ensures view { (seat.new.me ≡ (passing seat.old.me.0, seat.old.me.1)) × (result.me ≡ (passed seat.old.me.0, [])) }
+    {
+        self.table.shared.split_seat::<PassOut>(seat)
+    }
+
+    /// The seat `from` has no reference, right or link. Its passes, its notes and its lists are added to those of `seat`.
+    pub fn take_in(&self, seat: &mut SockSeat<O>, from: SockSeat<O>)
+        requires seat { IsSeat self.now.table.shared.table_id self.now.plan seat.old }
+        requires from { (from.table_id ≡ self.now.table.shared.table_id) × (from.me.1 ≡ []) }
+        requires done { IsDone self.now.plan from.me.0 }
+        ensures seat { IsSeat self.now.table.shared.table_id self.now.plan seat.new }
+        ensures view { seat.new.me ≡ (joined seat.old.me.0 from.me.0, seat.old.me.1) }
+    {
+        self.table.shared.join_seat::<TakeIn>(seat, from);
+    }
+}

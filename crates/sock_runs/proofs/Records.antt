@@ -1,0 +1,96 @@
+-- Programs that store each life that they make in the word of an operation of their own, and the words that they leave alone.
+use Rattle.std.proofs.Common.{◌≡◌, ℕ, ◌+◌, ◌*◌, ◌<◌, ◌==◌, ◌&&◌, not, Bool, true, false, List, get_or, get_or-set_other, refl, sym, ap, arith}
+use mathlib.Core.Option.{Option, some, none, some-ne-none}
+use lib.Seq.{set-get_or}
+use Rattle.sock_words.specs.Words.{socket_id, socket_id_slot, vref_version}
+use Rattle.sock_words.specs.declared.plain.Plan.{Plan}
+use Rattle.sock_model.specs.declared.view.View.{View}
+use Rattle.sock_model.specs.Layout.{tag_word, ref_word, link_word, head_word, code_word, name_word, open_word, request_word, next_word, place_word}
+use Rattle.sock_model.specs.Deliveries.{place_value}
+use Rattle.sock_programs.specs.Calls.{Call, ClaimSlot, GiveBirth, AddRef, SubRef, SetOdd, Recycle, FreeSlot, StoreLink, LoadLink, ResetHead, WipeCode, StoreCode, StoreName, LoadName, StoreOpen, LoadOpen, TakeLink, FinishLink, PutLink, LookWord, FindLink, LoadCode, ClaimRequest, PutMessage, Unconnect, SwapHead, Connect, EmptyHead, ReadNext, TurnNext, FreeRequest, StorePlace, DropPlace}
+use Rattle.sock_io.specs.declared.link.Put.{Put}
+use Rattle.sock_io.specs.declared.link.Ready.{Ready}
+use Rattle.sock_model.specs.declared.chain.Heading.{Heading}
+use Rattle.sock_programs.specs.Programs.{Program, Do, Say, Sent, Rest, TakeMessage, TakeHome, PutHome, PutBytes, AskReady, Write}
+use Rattle.sock_programs.specs.Cores.{word_of, word_after, found_at, words_after, next_step}
+use Rattle.sock_runs.specs.May.{May}
+use Rattle.sock_runs.specs.Sound.{first_step}
+
+-- ## What a program stores in the words of operations
+
+-- the operation, and the word
+abbrev pub stores : Call → Option (ℕ × ℕ)
+stores (StoreOpen o w) = some (o, w)
+stores _ = none
+
+abbrev pub next_stores : Program → Option (ℕ × ℕ)
+next_stores (Do call next) = stores call
+next_stores _ = none
+
+-- the operations of `left` but this one
+abbrev pub but : ℕ → (ℕ → Bool) → ℕ → Bool
+but o left x = left x && not (x == o)
+
+-- the program stores only words of the operations of `left`, each at most once, and of each life that it makes at once
+abbrev pub Records : (ℕ → Bool) → Program → Type 0
+Records left (Do (GiveBirth i k) next) = (found : ℕ) → ((o : ℕ) × (next_stores (next found) ≡ some (o, socket_id (vref_version found) i + 1))) × Records left (next found)
+Records left (Do (StoreOpen o w) next) = (left o ≡ true) × ((found : ℕ) → Records (but o left) (next found))
+Records left (Do call next) = (found : ℕ) → Records left (next found)
+Records left (Say o outcome next) = Records left next
+Records left (Sent o next) = Records left next
+Records left Rest = Unit {0}
+Records left (TakeMessage q next) = (heading : Heading) (bytes : List ℕ) → Records left (next heading bytes)
+Records left (TakeHome k next) = (places : ℕ) → Records left (next places)
+Records left (PutHome k n after) = Records left after
+Records left (PutBytes k asked bytes next) = (answer : Put) → Records left (next answer)
+Records left (AskReady k next) = (answer : Ready) → Records left (next answer)
+Records left (Write w after) = Records left after
+
+pub next_stored : (program : Program) (x : ℕ × ℕ) → next_stores program ≡ some x → next_stores (next_step program) ≡ some x
+next_stored (Say o outcome next) x e = absurd (some-ne-none x (sym e))
+next_stored (Sent o next) x e = absurd (some-ne-none x (sym e))
+next_stored _ x e = e
+
+-- who stores next isn't at the head of a loop
+pub first_stored : (program : Program) (x : ℕ × ℕ) → next_stores program ≡ some x → next_stores (first_step program) ≡ some x
+first_stored (Write w after) x e = absurd (some-ne-none x (sym e))
+first_stored _ x e = e
+
+-- ## Words of operations
+
+-- a step that stores in none leaves them all
+pub opens_same : (p : Plan) (ws : List ℕ) (v : View) (o : ℕ) → o < p.operations → (call : Call) → May p v call → stores call ≡ none
+    → get_or (words_after ws (word_of p call) (word_after call (found_at ws (word_of p call)))) (open_word p o) 0 ≡ get_or ws (open_word p o) 0
+opens_same p ws v o inside (ClaimSlot j) may none_ = let slot = may in get_or-set_other ws (tag_word j) (open_word p o) 1 0 (λ e. omega arith)
+opens_same p ws v o inside (GiveBirth j k) may none_ = let slot = may.0 in get_or-set_other ws (ref_word j) (open_word p o) (word_after (GiveBirth j k) (get_or ws (ref_word j) 0)) 0 (λ e. omega arith)
+opens_same p ws v o inside (AddRef id) may none_ = let slot = may.0.0 in get_or-set_other ws (ref_word (socket_id_slot id)) (open_word p o) (word_after (AddRef id) (get_or ws (ref_word (socket_id_slot id)) 0)) 0 (λ e. omega arith)
+opens_same p ws v o inside (SubRef j) may none_ = let slot = may.0 in get_or-set_other ws (ref_word j) (open_word p o) (word_after (SubRef j) (get_or ws (ref_word j) 0)) 0 (λ e. omega arith)
+opens_same p ws v o inside (SetOdd j) may none_ = let slot = may.0 in get_or-set_other ws (ref_word j) (open_word p o) (word_after (SetOdd j) (get_or ws (ref_word j) 0)) 0 (λ e. omega arith)
+opens_same p ws v o inside (Recycle j from) may none_ = let slot = may.0 in get_or-set_other ws (ref_word j) (open_word p o) (word_after (Recycle j from) (get_or ws (ref_word j) 0)) 0 (λ e. omega arith)
+opens_same p ws v o inside (FreeSlot j) may none_ = let slot = may.0 in get_or-set_other ws (tag_word j) (open_word p o) 0 0 (λ e. omega arith)
+opens_same p ws v o inside (StoreLink j k) may none_ = let slot = may.0 in get_or-set_other ws (link_word j) (open_word p o) k 0 (λ e. omega arith)
+opens_same p ws v o inside (LoadLink j w) may none_ = ap (λ l. get_or l (open_word p o) 0) (set-get_or ws (link_word j) 0)
+opens_same p ws v o inside (ResetHead j k) may none_ = let slot = may.0 in get_or-set_other ws (head_word j) (open_word p o) (word_after (ResetHead j k) (get_or ws (head_word j) 0)) 0 (λ e. omega arith)
+opens_same p ws v o inside (WipeCode j k) may none_ = let slot = may.0 in get_or-set_other ws (code_word j) (open_word p o) 0 0 (λ e. omega arith)
+opens_same p ws v o inside (StoreCode j h d) may none_ = let slot = may.0 in get_or-set_other ws (code_word j) (open_word p o) d 0 (λ e. omega arith)
+opens_same p ws v o inside (StoreName n w) may none_ = let slot = may.0 in get_or-set_other ws (name_word p n) (open_word p o) w 0 (λ e. omega arith)
+opens_same p ws v o inside (LoadName n) may none_ = ap (λ l. get_or l (open_word p o) 0) (set-get_or ws (name_word p n) 0)
+opens_same p ws v o inside (StoreOpen n w) may none_ = absurd (some-ne-none (n, w) none_)
+opens_same p ws v o inside (LoadOpen n) may none_ = ap (λ l. get_or l (open_word p o) 0) (set-get_or ws (open_word p n) 0)
+opens_same p ws v o inside (TakeLink k) may none_ = refl
+opens_same p ws v o inside (FinishLink k) may none_ = refl
+opens_same p ws v o inside (PutLink k) may none_ = refl
+opens_same p ws v o inside (LookWord id) may none_ = ap (λ l. get_or l (open_word p o) 0) (set-get_or ws (ref_word (socket_id_slot id)) 0)
+opens_same p ws v o inside (FindLink i h) may none_ = ap (λ l. get_or l (open_word p o) 0) (set-get_or ws (link_word i) 0)
+opens_same p ws v o inside (LoadCode i h) may none_ = ap (λ l. get_or l (open_word p o) 0) (set-get_or ws (code_word i) 0)
+opens_same p ws v o inside (ClaimRequest id q) may none_ = let low = inside in get_or-set_other ws (request_word p q) (open_word p o) (word_after (ClaimRequest id q) (get_or ws (request_word p q) 0)) 0 (λ e. omega arith)
+opens_same p ws v o inside (PutMessage q heading bytes) may none_ = refl
+opens_same p ws v o inside (Unconnect q) may none_ = let low = inside in get_or-set_other ws (next_word p q) (open_word p o) (word_after (Unconnect q) 0) 0 (λ e. omega arith)
+opens_same p ws v o inside (SwapHead i own) may none_ = let slot = may.0 in get_or-set_other ws (head_word i) (open_word p o) own 0 (λ e. omega arith)
+opens_same p ws v o inside (Connect q before) may none_ = let low = inside in get_or-set_other ws (next_word p q) (open_word p o) before 0 (λ e. omega arith)
+opens_same p ws v o inside (EmptyHead i last) may none_ = let slot = may.0 in get_or-set_other ws (head_word i) (open_word p o) (word_after (EmptyHead i last) (get_or ws (head_word i) 0)) 0 (λ e. omega arith)
+opens_same p ws v o inside (ReadNext q) may none_ = ap (λ l. get_or l (open_word p o) 0) (set-get_or ws (next_word p q) 0)
+opens_same p ws v o inside (TurnNext q value) may none_ = let low = inside in get_or-set_other ws (next_word p q) (open_word p o) value 0 (λ e. omega arith)
+opens_same p ws v o inside (FreeRequest q g) may none_ = let low = inside in get_or-set_other ws (request_word p q) (open_word p o) (2 * (g + 1)) 0 (λ e. omega arith)
+opens_same p ws v o inside (StorePlace l k n) may none_ = let low = inside in get_or-set_other ws (place_word p l) (open_word p o) (place_value false k n) 0 (λ e. omega arith)
+opens_same p ws v o inside (DropPlace l k n) may none_ = let low = inside in get_or-set_other ws (place_word p l) (open_word p o) (place_value true k n) 0 (λ e. omega arith)

@@ -1,0 +1,75 @@
+-- The end of a life, step by step, as what becomes of the view of the seat that ends it.
+use Rattle.std.proofs.Common.{◌≡◌, ◌≢◌, ℕ, ◌+◌, ◌-◌, ◌<◌, ◌≤◌, true, false, cond, List, [], ◌∷◌, le-leb, refl, sym, ap, ◌∙◌, subst, arith}
+use Rattle.std.proofs.lemmas.Bool.{lt-leb}
+use Rattle.atomic_table.specs.Table.{Me, rest}
+use Rattle.sock_model.specs.declared.marks.Mark.{Mark}
+use Rattle.sock_model.specs.declared.marks.Mark.TheVariants.{Recycling, Zero, Freer, Met}
+use Rattle.sock_model.specs.declared.view.View.{View}
+use Rattle.sock_model.specs.Weights.{is_busy, is_recycling, is_zero, is_recycled, is_met}
+use Rattle.sock_model.specs.Marks.{about}
+use Rattle.sock_model.specs.Slots.{version_of}
+use Rattle.sock_model.specs.SlotRows.{marks_of, recycled, freed, met_link}
+use Rattle.slot_laws.proofs.Numbers.{only-same, pair-same}
+use Rattle.slot_laws.proofs.Sums.{total_mono}
+use Rattle.sock_rule.specs.Becoming.{Became}
+use Rattle.sock_model.specs.ChainRows.{with_hand, without_hand}
+use Rattle.sock_rule.specs.Hands.{hand_of, Recycles}
+use Rattle.sock_rule.proofs.Becoming.{then_, back_again, counts_as, becomes, lost_marks, won_marks, met_marks, freed_marks}
+use Rattle.sock_table.specs.Refs.{retired, EndedBy}
+
+-- a link came into an empty hand, and went home again
+pub came_home : {S : Type 0} (b t c : Me S View) (k : ℕ) (took : List ℕ) (next : ℕ) (x : ℕ × S) → t ≡ (with_hand b.0 (hand_of k took next), x ∷ b.1) → c ≡ (without_hand t.0 k, rest t.1) → b.0.hands ≡ [] → c ≡ b
+came_home {S} b t c k took next x came went empty = went ∙ (ap (λ (m : Me S View). (without_hand m.0 k, rest m.1)) came ∙ (λ i. (back_again b.0 (hand_of k took next) empty i, b.1)))
+
+pub in_hand : {S : Type 0} (b t : Me S View) (k : ℕ) (took took' : List ℕ) (next next' : ℕ) (x : ℕ × S) → t ≡ (with_hand b.0 (hand_of k took next), x ∷ b.1) → b.0.hands ≡ [] → took' ≡ took → next' ≡ next → t.0.hands ≡ hand_of k took' next' ∷ []
+in_hand {S} b t k took took' next next' x came empty same also = ap (λ (m : Me S View). m.0.hands) came ∙ (λ i. hand_of k (sym same i) (sym also i) ∷ empty i)
+
+module _ (i from found : ℕ) (u a : View) (is : a ≡ recycled i from found u) (zero_ : 0 < marks_of (is_zero (version_of from)) i u) where
+  -- lost
+  pub lost : found ≢ from → (notes : List Mark) × Became i u a notes (Zero (version_of from) ∷ []) × EndedBy false (version_of from) notes
+  lost ne = ([], becomes i is (lost_marks i from found u ne zero_), refl)
+
+  module _ (hit : found ≡ from) where
+    won : Became i u a (Freer (version_of from - 1) ∷ Recycling (version_of from + 1) ∷ []) (Zero (version_of from) ∷ [])
+    won = becomes i is (won_marks i from found u hit zero_)
+
+    pub recycled_in : 0 < marks_of (is_recycled (version_of from + 1)) i a
+    recycled_in = let w = won.here (is_recycled (version_of from + 1)) in let s = only-same (version_of from + 1) in omega arith
+
+    module _ (k : ℕ) (b : View) (met : b ≡ met_link i (version_of from + 1 - 2) k a) where
+      met_now : Became i u b (Freer (version_of from - 1) ∷ Recycling (version_of from + 1) ∷ Met (version_of from + 1 - 2) k ∷ []) (Zero (version_of from) ∷ [])
+      met_now = then_ i won (becomes i met (met_marks i (version_of from + 1 - 2) k a))
+
+      pub recycles : Recycles i k b
+      recycles = record {
+        version = version_of from + 1;
+        recycled = (let w = met_now.here (is_recycled (version_of from + 1)) in let s = only-same (version_of from + 1) in omega arith);
+        met = (let w = met_now.here (is_met (version_of from + 1 - 2) k) in let s = pair-same (version_of from + 1 - 2) k in omega arith);
+      }
+
+      -- the slot's versions are used up
+      pub retires : (c : View) → c ≡ b → 4294967292 < version_of from + 1 → (notes : List Mark) × Became i u c notes (Zero (version_of from) ∷ []) × EndedBy true (version_of from) notes
+      retires c same late = let r : retired (version_of from + 1) ≡ Recycling (version_of from + 1) ∷ [] = ap (λ z. cond z [] (Recycling (version_of from + 1) ∷ [])) (lt-leb (version_of from + 1) 4294967292 late) in (
+        Freer (version_of from - 1) ∷ Met (version_of from + 1 - 2) k ∷ Recycling (version_of from + 1) ∷ [],
+        counts_as i (λ f. omega arith) (becomes i same met_now),
+        (k, ap (λ (l : List Mark). Freer (version_of from - 1) ∷ Met (version_of from + 1 - 2) k ∷ l) (sym r)),
+      )
+
+      -- it may be given again
+      pub frees : (c d : View) → c ≡ b → d ≡ freed i c → version_of from + 1 ≤ 4294967292 → marks_of is_busy i u ≡ 0 → (notes : List Mark) × Became i u d notes (Zero (version_of from) ∷ []) × EndedBy true (version_of from) notes
+      frees c d same free early alone = let r : retired (version_of from + 1) ≡ [] = ap (λ z. cond z [] (Recycling (version_of from + 1) ∷ [])) (le-leb (version_of from + 1) 4294967292 early) in
+          let now : Became i u c (Freer (version_of from - 1) ∷ Recycling (version_of from + 1) ∷ Met (version_of from + 1 - 2) k ∷ []) (Zero (version_of from) ∷ []) = becomes i same met_now in
+          let one : marks_of is_recycling i c ≡ 1 = (let w = now.here is_recycling in let le = total_mono is_recycling is_busy recycling_busy (about i u.marks) in omega arith) in
+          let there : 0 < marks_of (is_recycled (version_of from + 1)) i c = (let w = now.here (is_recycled (version_of from + 1)) in let s = only-same (version_of from + 1) in omega arith) in (
+            Freer (version_of from - 1) ∷ Met (version_of from + 1 - 2) k ∷ [],
+            counts_as i (λ f. omega arith) (then_ i now (becomes i free (freed_marks i (version_of from + 1) c one there))),
+            (k, ap (λ (l : List Mark). Freer (version_of from - 1) ∷ Met (version_of from + 1 - 2) k ∷ l) (sym r)),
+          )
+        where
+          recycling_busy : (m : Mark) → is_recycling m ≤ is_busy m
+          recycling_busy (Recycling w) = omega arith
+          recycling_busy _ = omega arith
+
+      pub recycled_there : (c : View) → c ≡ b → 0 < marks_of (is_recycled (version_of from + 1)) i c
+      unfolding recycles
+      recycled_there c same = subst (λ (y : View). 0 < marks_of (is_recycled (version_of from + 1)) i y) (sym same) recycles.recycled

@@ -1,0 +1,95 @@
+-- What a seat learns of a life that it holds, and what it has from a seat that it takes in.
+use Rattle.std.proofs.Common.{◌≡◌, ◌≢◌, ℕ, ◌+◌, ◌<◌, cond, eqb, ne_eqb, eq-eqb, List, [], ◌∷◌, ◌++◌, append-nil, refl, sym, ap, ◌∙◌, subst, arith}
+use mathlib.Core.Logic.{dite}
+use native.Mathlib.Decide.{ℕ_discrete}
+use Rattle.sock_words.specs.declared.plain.Plan.{Plan}
+use Rattle.sock_words.specs.Words.{socket_id_version, socket_id_slot}
+use Rattle.sock_model.specs.declared.marks.Mark.TheVariants.{Saw, Told, Met}
+use Rattle.sock_model.specs.declared.view.View.{View}
+use Rattle.sock_model.specs.Weights.{total, is_probe, is_claimed, is_any_coding, is_zero, is_met, is_told}
+use Rattle.sock_model.specs.Marks.{about, without_pass}
+use Rattle.sock_model.specs.Seats.{carrier, joined}
+use Rattle.sock_model.specs.SlotRows.{marks_of, met_link, told_code}
+use Rattle.sock_model.specs.ChainRows.{without_hand, spent_hand}
+use Rattle.slot_laws.proofs.Sums.{total-append}
+use Rattle.sock_rule.specs.Becoming.{Became}
+use Rattle.sock_rule.specs.Hands.{hand_of}
+use Rattle.sock_rule.specs.OnTable.{is_put, put_in}
+use Rattle.sock_rule.proofs.Becoming.{then_, becomes, adds_mark, met_marks, back_again}
+use Rattle.sock_table.specs.Refs.{IsBetween, SameNotes}
+use Rattle.sock_table.specs.Answers.{LinkOf, CodeOf}
+use Rattle.sock_table.proofs.Joining.{sum_of}
+use Rattle.sock_table.proofs.Making.{marks_same, pass_alone, spent_alone}
+use Rattle.sock_table.proofs.Quiet.{between}
+
+module _ (p : Plan) (i id : ℕ) (v w : View) (at_id : i ≡ socket_id_slot id) where
+  pub link_of : (k : ℕ) → w ≡ met_link i (socket_id_version id) k v → ((d : ℕ) → 0 < marks_of (is_met (socket_id_version id) d) i v → k ≡ d) → k < p.links → LinkOf p k id v w
+  link_of k is same inside = subst (λ (j : ℕ). LinkOf p k id v w) at_id record {
+    inside = inside;
+    same = λ d there. same d (subst (λ (j : ℕ). 0 < marks_of (is_met (socket_id_version id) d) j v) (sym at_id) there);
+    became = subst (λ (j : ℕ). Became j v w (Met (socket_id_version id) k ∷ []) []) at_id (becomes i is (met_marks i (socket_id_version id) k v));
+  }
+
+  pub link_between : (k : ℕ) → LinkOf p k id v w → IsBetween p v → IsBetween p w
+  link_between k l b = between p (socket_id_slot id) v w _ _ b l.became record { claimed = refl; probe = refl; coding = refl; zeros = λ x. refl }
+
+  told_marks : (c : ℕ) → Became i v (told_code i (socket_id_version id) c v) (Saw (socket_id_version id + 1) ∷ Told (socket_id_version id) c ∷ []) []
+  told_marks c = then_ i (adds_mark i (Saw (socket_id_version id + 1)) v) (adds_mark i (Told (socket_id_version id) c) record v { marks = Rattle.sock_model.specs.Marks.at i (Saw (socket_id_version id + 1)) ∷ v.marks })
+
+  module _ (c : ℕ) (is : w ≡ cond (eqb c 0) v (told_code i (socket_id_version id) c v)) where
+    none_told : c ≡ 0 → w ≡ v
+    none_told e = is ∙ ap (λ b. cond b v (told_code i (socket_id_version id) c v)) (eq-eqb c 0 e)
+
+    is_told_now : c ≢ 0 → Became (socket_id_slot id) v w (Saw (socket_id_version id + 1) ∷ Told (socket_id_version id) c ∷ []) []
+    is_told_now ne = subst (λ (j : ℕ). Became j v w (Saw (socket_id_version id + 1) ∷ Told (socket_id_version id) c ∷ []) []) at_id
+        (becomes i (is ∙ ap (λ b. cond b v (told_code i (socket_id_version id) c v)) (ne_eqb c 0 ne)) (told_marks c))
+
+    pub code_of : ((d : ℕ) → 0 < marks_of (is_told (socket_id_version id) d) i v → c ≡ d) → CodeOf c id v w
+    code_of same = record { same = λ d there. same d (subst (λ (j : ℕ). 0 < marks_of (is_told (socket_id_version id) d) j v) (sym at_id) there); none_yet = none_told; told = is_told_now }
+
+    pub code_between : IsBetween p v → IsBetween p w
+    code_between b = dite (ℕ_discrete c 0) (λ e. subst (IsBetween p) (sym (none_told e)) b)
+        (λ ne. between p (socket_id_slot id) v w _ _ b (is_told_now ne) record { claimed = refl; probe = refl; coding = refl; zeros = λ x. refl })
+
+-- two seats between calls are one between calls
+pub both_between : (p : Plan) (v w y : View) → y ≡ joined v w → IsBetween p v → IsBetween p w → IsBetween p y
+both_between p v w y is a b = subst (IsBetween p) (sym is) record {
+  unclaimed = λ i il. omega (arith, sum_of p v w is_claimed i, a.unclaimed i il, b.unclaimed i il);
+  unprobed = λ i il. omega (arith, sum_of p v w is_probe i, a.unprobed i il, b.unprobed i il);
+  uncoding = λ i il. omega (arith, sum_of p v w is_any_coding i, a.uncoding i il, b.uncoding i il);
+  no_zero = λ i x il. omega (arith, sum_of p v w (is_zero x) i, a.no_zero i x il, b.no_zero i x il);
+  no_rights = a.no_rights;
+  empty = a.empty;
+  no_passes = ap (λ (l : List ℕ). l ++ w.passes) a.no_passes ∙ b.no_passes;
+}
+
+-- a pass was taken in, its link taken out of its home and put there again
+module _ (p : Plan) (u a x t c : View) (k next : ℕ) (took : List ℕ) (is : x ≡ carrier p (k ∷ [])) (took_in : a ≡ joined u x) (spent : t ≡ spent_hand a (hand_of k took next)) (went : c ≡ without_hand t k) (b : IsBetween p u) where
+  no_hand : a.hands ≡ []
+  no_hand = ap (λ (y : View). y.hands) took_in ∙ b.empty
+
+  finished : c ≡ record a { passes = without_pass k a.passes }
+  finished = went ∙ (ap (λ (y : View). without_hand y k) spent ∙ back_again (record a { passes = without_pass k a.passes }) (hand_of k took next) no_hand)
+
+  same_marks : c.marks ≡ u.marks
+  same_marks = ap (λ (y : View). y.marks) finished ∙ marks_same p u a x k is took_in
+
+  pub finished_between : IsBetween p c
+  finished_between = record {
+    unclaimed = λ i il. ap (λ es. total is_claimed (about i es)) same_marks ∙ b.unclaimed i il;
+    unprobed = λ i il. ap (λ es. total is_probe (about i es)) same_marks ∙ b.unprobed i il;
+    uncoding = λ i il. ap (λ es. total is_any_coding (about i es)) same_marks ∙ b.uncoding i il;
+    no_zero = λ i z il. ap (λ es. total (is_zero z) (about i es)) same_marks ∙ b.no_zero i z il;
+    no_rights = ap (λ (y : View). y.rights) finished ∙ (ap (λ (y : View). y.rights) took_in ∙ b.no_rights);
+    empty = ap (λ (y : View). y.hands) finished ∙ no_hand;
+    no_passes = ap (λ (y : View). y.passes) finished ∙ (ap (without_pass k) (pass_alone p u a x k is took_in b.no_passes) ∙ spent_alone k);
+  }
+
+  pub finished_notes : SameNotes u c
+  finished_notes = record {
+    marks = same_marks;
+    found = ap (λ (y : View). y.found) finished ∙ (ap (λ (y : View). y.found) took_in ∙ (ap (λ (y : View). u.found ++ y.found) is ∙ append-nil u.found));
+    finds = ap (λ (y : View). y.finds) finished ∙ (ap (λ (y : View). y.finds) took_in ∙ (ap (λ (y : View). u.finds ++ y.finds) is ∙ append-nil u.finds));
+    stores = λ z n. (let e = ap (λ (y : View). put_in z n y) finished ∙ (ap (λ (y : View). put_in z n y) took_in ∙ ap (λ (y : View). total (total (is_put z n)) (u.stores ++ y.stores)) is) in
+        let s = total-append (total (is_put z n)) u.stores ([] ∷ []) in omega arith);
+  }

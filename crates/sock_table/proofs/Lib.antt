@@ -1,0 +1,10 @@
+pub mod Ending
+pub mod Giving
+pub mod Addressing
+pub mod Quiet
+pub mod Naming
+pub mod Failing
+pub mod Making
+pub mod Joining
+pub mod Lasts
+pub mod Learning

@@ -1,0 +1,10 @@
+use Rattle.std.proofs.Common.{ap}
+use Rattle.sock_model.specs.Layout.{open_word}
+use Rattle.sock_table.proofs.Naming.{put_between}
+use Rattle.sock_table.proofs.table.SockTable.note.Goals as goal
+
+pub returns-in-Some-clause-between : goal.returns-in-Some-clause-between
+returns-in-Some-clause-between g c = put_between c.args.self.now.rule.plan (open_word c.args.self.now.rule.plan c.args.operation) _ c.args.seat.now.me.0 c.store_open.new.seat.me.0 (ap (λ m. m.0) c.store_open.ensures.view)
+
+pub returns-in-None-clause-between : goal.returns-in-None-clause-between
+returns-in-None-clause-between g c = put_between c.args.self.now.rule.plan (open_word c.args.self.now.rule.plan c.args.operation) _ c.args.seat.now.me.0 c.store_nothing.new.seat.me.0 (ap (λ m. m.0) c.store_nothing.ensures.view)

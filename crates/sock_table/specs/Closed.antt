@@ -1,0 +1,72 @@
+-- The seats that are handed in at the end, and what the table's last words say of them.
+use Rattle.std.specs.Prelude.{◌≡◌, ℕ, ◌+◌, ◌*◌, ◌<◌, List, [], ◌∷◌}
+use Rattle.std.specs.List.{flat_map}
+use Rattle.atomic_table.specs.Seated.{TableId}
+use Rattle.atomic_table.specs.declared.shared.Seat.{Seat}
+use Rattle.sock_words.specs.declared.plain.Plan.{Plan}
+use Rattle.sock_words.specs.declared.vref.Vref.{Vref}
+use Rattle.sock_words.specs.declared.place_word.PlaceWord.{PlaceWord}
+use Rattle.sock_model.specs.declared.view.View.{View}
+use Rattle.sock_model.specs.Layout.{ref_word, place_word}
+use Rattle.sock_rule.specs.Seated.{IsSeat, IsDone}
+use Rattle.sock_rule.specs.Closing.{IsAtRest, Closing, Ordered, LinkTook}
+use Rattle.std.specs.Prelude.{slice_index}
+use Rattle.std.specs.Option.{ForSome}
+use Rattle.sock_io.specs.declared.link.Out.{Ghosts}
+use Rattle.sock_io.specs.Link.{OutState}
+use Rattle.sock_model.specs.declared.chain.Entry.{Entry}
+use Rattle.sock_rule.specs.declared.homes.LinkHome.{LinkHome}
+use Rattle.sock_rule.specs.declared.homes.SockHome.{SockHome}
+use Rattle.sock_rule.specs.declared.homes.SockHome.TheVariants.{Link}
+use mathlib.Core.Option.{some}
+use lib.ListN.{get_elem?}
+
+-- a seat of the table that holds nothing
+pub record IsDoneSeat {S : Type 0} (z : TableId) (p : Plan) (s : Seat S View) : Type 0 where
+  pub seat : IsSeat z p s
+  pub slots : s.me.1 ≡ []
+  pub done : IsDone p s.me.0
+  pub rest : IsAtRest p s.me.0
+
+abbrev pub AllDone : {S : Type 0} → TableId → Plan → List (Seat S View) → Type 0
+AllDone z p [] = Unit {0}
+AllDone z p (s ∷ ss) = IsDoneSeat z p s × AllDone z p ss
+
+-- n of them have the words that stand at these places
+abbrev pub WordsAre : {A : Type 0} → (A → ℕ) → (ℕ → ℕ) → ℕ → List A → List ℕ → Type 0
+WordsAre {A} word at n xs ws = (i : ℕ) → i < n → (x : A) × (get_elem? xs i ≡ some x) × (word x ≡ slice_index ws (at i))
+
+-- behind the homes of requests stand those of the links
+abbrev pub AreLinks : {O : Type 0} {g : Ghosts O} → ℕ → ℕ → List (SockHome O g) → Type 0
+AreLinks {O} {g} requests links homes = (k : ℕ) → k < links → (h : LinkHome O g) × (get_elem? homes (requests + k) ≡ some (Link h))
+
+-- the halves of the first n links, in their order
+abbrev pub OutsOf : {O : Type 0} {g : Ghosts O} → ℕ → ℕ → List O → List (SockHome O g) → Type 0
+OutsOf {O} {g} requests n outs homes = (k : ℕ) → k < n → (h : LinkHome O g) × (get_elem? outs k ≡ some h.out) × (get_elem? homes (requests + k) ≡ some (Link h))
+
+-- the writing half of link k comes back, the one that was handed in for it, with what it took
+pub record OutBack {O : Type 0} (state : O → OutState) (p : Plan) (log : List Entry) (words : List ℕ) (outs : List O) (k : ℕ) : Type 0 where
+  pub out : O
+  pub there : get_elem? outs k ≡ some out
+  pub own : (state out).link ≡ k
+  pub took : List ℕ
+  pub tells : ForSome (state out).took (λ bytes. bytes ≡ took)
+  pub took_is : LinkTook p log words k took
+
+-- what the words and the notes of all seats, those of each in its place, say
+pub record ClosedBy {O S : Type 0} (state : O → OutState) (p : Plan) (seats : List (Seat S View)) (places : List PlaceWord) (vrefs : List Vref) (outs : List O) : Type 0 where
+  pub view : View
+  pub words : List ℕ
+  pub marks : view.marks ≡ flat_map (λ (s : Seat S View). s.me.0.marks) seats
+  pub finds : view.finds ≡ flat_map (λ (s : Seat S View). s.me.0.finds) seats
+  pub stores : view.stores ≡ flat_map (λ (s : Seat S View). s.me.0.stores) seats
+  -- the lists of accepted messages: those of each seat in its place, each in its own order
+  pub lists : view.lists ≡ flat_map (λ (s : Seat S View). s.me.0.lists) seats
+  pub found : view.found ≡ flat_map (λ (s : Seat S View). s.me.0.found) seats
+  pub ordered : Ordered p view.found view.lists
+  pub closing : Closing p view words
+  -- one reference word for each slot, and one place word for each place index
+  pub each : WordsAre (λ (x : Vref). x.0) ref_word p.slots vrefs words
+  pub placed : WordsAre (λ (x : PlaceWord). x.0) (place_word p) (8 * p.operations) places words
+  -- one half for each link
+  pub outs_back : (k : ℕ) → k < p.links → OutBack state p ordered.log words outs k

@@ -1,0 +1,5 @@
+pub mod Refs
+pub mod Answers
+pub mod Passes
+pub mod Named
+pub mod Closed

@@ -1,0 +1,166 @@
+// A table that ends.
+ghost use Rattle.std.specs.Prelude.{◌≡◌, ◌+◌, ◌*◌, ◌<◌, ◌≤◌, ℕ, false, [], length, slice_index_or, vec_len, vec_capacity, IfOk, IfErr};
+ghost use Rattle.std.specs.Mem.Slots.{slots_items, slots_filled, slots_len, IsFull};
+ghost use Rattle.sock_words.specs.declared.vref.Vref.{Vref};
+ghost use Rattle.sock_words.specs.declared.place_word.PlaceWord.{PlaceWord};
+ghost use Rattle.sock_model.specs.Layout.{all_words, ref_word, place_word};
+ghost use Rattle.std.specs.List.{flat_map};
+ghost use Rattle.sock_model.specs.Weights.{total};
+ghost use Rattle.sock_rule.specs.Seated.{IsSeat};
+ghost use Rattle.sock_table.specs.Closed.{AllDone, IsDoneSeat, WordsAre, AreLinks, OutsOf, ClosedBy};
+
+use crate::table::SockTable;
+use atomic_table::Closed as ClosedTable;
+use sock_io::Out;
+use sock_rule::{LinkHome, RuleTable, SockHome, SockSeat};
+use sock_words::{PlaceWord, Plan, Vref};
+use std::alloc::{AllocError, Global};
+
+/// What a table leaves: the place word of each label's place index, the reference word of each slot, and the writing half of
+/// each link.
+#[derive(Drop)]
+pub struct Closed<O: Out> {
+    pub places: Vec<PlaceWord>,
+    pub vrefs: Vec<Vref>,
+    pub outs: Vec<O>,
+}
+
+/// There was no memory. All is untouched.
+#[derive(Drop)]
+pub struct NotClosed<O: Out> {
+    pub table: SockTable<O>,
+    pub seats: Vec<SockSeat<O>>,
+}
+
+// From the last to the first, so that what they noted stands in their order.
+fn join_all<O: Out>(rule: &RuleTable<O>, mut seats: Vec<SockSeat<O>>) -> SockSeat<O>
+    requires seats { AllDone rule.now.table.shared.table_id rule.now.plan seats.items }
+    requires some { 1 ≤ total (λ s. s.me.0.share) seats.items }
+    ensures seat { IsDoneSeat rule.now.table.shared.table_id rule.now.plan result }
+    ensures share { result.me.0.share ≡ total (λ s. s.me.0.share) seats.items }
+    ensures marks { result.me.0.marks ≡ flat_map (λ s. s.me.0.marks) seats.items }
+    ensures finds { result.me.0.finds ≡ flat_map (λ s. s.me.0.finds) seats.items }
+    ensures stores { result.me.0.stores ≡ flat_map (λ s. s.me.0.stores) seats.items }
+    ensures lists { result.me.0.lists ≡ flat_map (λ s. s.me.0.lists) seats.items }
+    ensures found { result.me.0.found ≡ flat_map (λ s. s.me.0.found) seats.items }
+{
+    let Some(mut seat) = seats.pop() else {
+        unreachable!();
+    };
+    while let Some(mut earlier) = seats.pop() {
+        rule.take_in(&mut earlier, seat);
+        seat = earlier;
+    }
+    seat
+}
+
+// The rooms of what is left, so that all memory is there before the table ends.
+fn rooms<O: Out>(alloc: Global, plan: &Plan) -> Result<Closed<O>, AllocError>
+    ensures sized { IfOk result (λ c. (length c.places.items ≡ 8 * plan.now.operations) × (length c.vrefs.items ≡ plan.now.slots)) }
+    ensures outs { IfOk result (λ c. (c.outs.items ≡ []) × (vec_len c.outs ≡ 0) × (vec_capacity c.outs ≡ plan.now.links)) }
+{
+    let places = vec![in alloc; PlaceWord::NONE; 8 * plan.operations as usize]?;
+    let vrefs = vec![in alloc; Vref::from_word(0); plan.slots as usize]?;
+    let outs = Vec::with_capacity(alloc, plan.links as usize)?;
+    Ok(Closed {
+        places,
+        vrefs,
+        outs,
+    })
+}
+
+fn read_vrefs<S>(table: &ClosedTable<S, Global>, plan: &Plan, vrefs: &mut Vec<Vref>)
+    requires full { IsFull table.now.words }
+    requires words { slots_len table.now.words ≡ all_words plan.now }
+    requires sized { length vrefs.old.items ≡ plan.now.slots }
+    ensures { WordsAre (λ (x : Vref). x.0) ref_word plan.now.slots vrefs.new.items (slots_items table.now.words) }
+{
+    let slots = plan.slots as usize;
+    let mut i = 0;
+    while i < slots {
+        vrefs[i] = Vref::from_word(table.word(6 * i + 1));
+        i += 1;
+    }
+}
+
+fn read_places<S>(table: &ClosedTable<S, Global>, plan: &Plan, places: &mut Vec<PlaceWord>)
+    requires full { IsFull table.now.words }
+    requires words { slots_len table.now.words ≡ all_words plan.now }
+    requires sized { length places.old.items ≡ 8 * plan.now.operations }
+    ensures { WordsAre (λ (x : PlaceWord). x.0) (place_word plan.now) (8 * plan.now.operations) places.new.items (slots_items table.now.words) }
+{
+    let first = 6 * plan.slots as usize
+        + plan.names as usize
+        + plan.operations as usize
+        + plan.requests as usize
+        + plan.requests as usize;
+    let count = 8 * plan.operations as usize;
+    let mut i = 0;
+    while i < count {
+        places[i] = PlaceWord::from_word(table.word(first + i));
+        i += 1;
+    }
+}
+
+// The writing halves, in order of the links, out of their homes.
+fn take_outs<O: Out>(table: &mut ClosedTable<SockHome<O>, Global>, plan: &Plan, outs: &mut Vec<O>)
+    requires full { IsFull table.old.slots }
+    requires homes { slots_len table.old.slots ≡ plan.now.requests + plan.now.links }
+    requires links { AreLinks plan.now.requests plan.now.links (slots_items table.old.slots) }
+    requires empty { (outs.old.items ≡ []) × (vec_len outs.old ≡ 0) }
+    requires room { vec_capacity outs.old ≡ plan.now.links }
+    ensures outs { OutsOf plan.now.requests plan.now.links outs.new.items (slots_items table.old.slots) }
+    ensures taken { (k : ℕ) → k < slots_len table.new.slots → slice_index_or (slots_filled table.new.slots) k false ≡ false }
+{
+    let requests = plan.requests as usize;
+    let links = plan.links as usize;
+    let mut k = 0;
+    while k < requests {
+        drop(table.take(k));
+        k += 1;
+    }
+    let mut link = 0;
+    while link < links {
+        let home = table.take(requests + link);
+        let SockHome::Link(home) = home else {
+            unreachable!();
+        };
+        let LinkHome { out, .. } = home;
+        outs.push_reserved(out);
+        link += 1;
+    }
+}
+
+impl<O: Out> SockTable<O> {
+    /// The seats are all that the table has but those that were taken in, and hold nothing. Where memory is wanting all is
+    /// untouched.
+    pub fn close(self, alloc: Global, seats: Vec<SockSeat<O>>) -> Result<Closed<O>, NotClosed<O>>
+        requires seats { AllDone self.rule.table.shared.table_id self.rule.plan seats.items }
+        requires all { total (λ s. s.me.0.share) seats.items ≡ self.rule.plan.seats }
+        requires some { 1 ≤ self.rule.plan.seats }
+        ensures closed { IfOk result (λ c. ClosedBy O.state self.rule.plan seats.items c.places.items c.vrefs.items c.outs.items) }
+        ensures untouched { IfErr result (λ e. (e.table ≡ self) × (e.seats ≡ seats)) }
+    {
+        let Ok(left) = rooms(alloc, &self.rule.plan) else {
+            return Err(NotClosed { table: self, seats });
+        };
+        let seat = join_all(&self.rule, seats);
+        let SockTable { rule } = self;
+        let RuleTable { table, plan } = rule;
+        let mut table = table.close_with(seat);
+        let Closed {
+            mut places,
+            mut vrefs,
+            mut outs,
+        } = left;
+        read_vrefs(&table, &plan, &mut vrefs);
+        read_places(&table, &plan, &mut places);
+        take_outs(&mut table, &plan, &mut outs);
+        table.free();
+        Ok(Closed {
+            places,
+            vrefs,
+            outs,
+        })
+    }
+}

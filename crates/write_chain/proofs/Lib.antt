@@ -1,0 +1,4 @@
+pub mod Accepting
+pub mod Taking
+pub mod Finishing
+pub mod Putting

@@ -1,0 +1,38 @@
+use Rattle.std.proofs.Common.{ℕ, ◌≡◌, ◌+◌, ◌*◌, ◌<◌, ◌≤◌, [], ◌∷◌, List, false, true, refl, sym, ap, ◌∙◌, subst, arith}
+use Rattle.atomic_table.specs.Table.{rest}
+use Rattle.sock_words.specs.Words.{socket_id_version, socket_id_slot}
+use Rattle.sock_model.specs.Weights.{is_hold}
+use Rattle.sock_model.specs.SlotRows.{marks_of}
+use Rattle.sock_model.specs.ChainRows.{fresh_claim}
+use Rattle.sock_rule.specs.ChainPlays.{blank}
+use Rattle.sock_rule.specs.Shows.{heading_of}
+use Rattle.sock_table.specs.Answers.{Holds}
+use Rattle.write_chain.specs.Sending.{FoundTaken}
+use Rattle.write_chain.proofs.Accepting.{asks_first, asks_next, still_holds, still_room, started_after, false_true}
+use Rattle.write_chain.proofs.entry.start.Goals as goal
+
+pub loop-at-init : goal.loop-at-init
+loop-at-init g c = (c.look.ensures.seat, refl, refl, refl, c.look.ensures.slots, asks_first c.args.table.now.rule.plan c.args.sock.id.0 c.args.seat.now.me.0 c.look.new.seat.me.0 c.in_default.ensures.live)
+
+pub claim_request-step-requires-clause-seat : goal.claim_request-step-requires-clause-seat
+claim_request-step-requires-clause-seat g c = c.loop-at.invariant.0
+
+pub claim_request-step-requires-clause-unclaimed : goal.claim_request-step-requires-clause-unclaimed
+claim_request-step-requires-clause-unclaimed g c = ap (λ v. v.claims) c.loop-at.invariant.5.others ∙ c.requires.may.claims
+
+pub loop-at-preserved : goal.loop-at-preserved
+loop-at-preserved g c = let odd = c.claim_request-step.ensures.asked.1 (λ e. false_true (sym c.if-step.false ∙ c.claim_request-step.ensures.won.1 e)) in (
+  c.claim_request-step.ensures.seat,
+  refl,
+  refl,
+  refl,
+  ap (λ m. m.1) odd ∙ c.loop-at.invariant.4,
+  asks_next c.args.table.now.rule.plan c.args.sock.id.0 c.loop-at.at c.args.seat.now.me.0 c.loop-at.seat.me.0 c.claim_request-step.new.seat.me.0 c.loop-at.invariant.5 (ap (λ m. m.0) odd),
+)
+
+pub accept-requires-clause-claimed : goal.accept-requires-clause-claimed
+accept-requires-clause-claimed g c = let y = c.claim_request-step.ensures.asked.0 (c.claim_request-step.ensures.won.0 c.if-step.true) in (fresh_claim 0 c.loop-at.at c.claim_request-step.result.found blank [], ap (λ m. m.0.claims) y.2, refl, refl)
+
+pub returns-then-step-clause-started : goal.returns-then-step-clause-started
+returns-then-step-clause-started g c = let y = c.claim_request-step.ensures.asked.0 (c.claim_request-step.ensures.won.0 c.if-step.true) in
+    started_after c.args.table.now.rule.plan c.args.sock c.loop-at.at (heading_of c.args.msg) c.args.msg.bytes (fresh_claim 0 c.loop-at.at c.claim_request-step.result.found blank []) c.accept.result c.args.seat.now.me.0 c.loop-at.seat.me.0 c.claim_request-step.new.seat.me.0 c.accept.new.seat.me.0 c.loop-at.invariant.5 (ap (λ m. m.0) y.2) c.accept.ensures.started

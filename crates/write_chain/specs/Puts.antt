@@ -1,0 +1,13 @@
+-- How far a put comes.
+use Rattle.std.specs.Prelude.{◌≡◌, ℕ, ◌++◌, List}
+use Rattle.sock_io.specs.declared.link.Out.{Ghosts}
+use Rattle.write_chain.specs.declared.right.InHand.{InHand}
+
+-- the link took this from the front of what was left, and all else in hand is as it was
+pub record WentOn {O : Type 0} {g : Ghosts O} (old new : InHand O g) (taken : List ℕ) : Type 0 where
+  pub left : old.bytes.left ≡ taken ++ new.bytes.left
+  pub took : new.home.took.list ≡ old.home.took.list ++ taken
+  pub next : new.home.next ≡ old.home.next
+  pub link : (g.state new.home.out).link ≡ (g.state old.home.out).link
+  pub finished : (g.state new.home.out).finished ≡ (g.state old.home.out).finished
+  pub others : (new.link ≡ old.link) × (new.now ≡ old.now) × (new.label ≡ old.label) × (new.owner ≡ old.owner)

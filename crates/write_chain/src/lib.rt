@@ -1,0 +1,10 @@
+//! Messages to sockets: accepted in one order, and written by whoever found the head idle.
+#![tactic(auto)]
+
+mod entry;
+mod hold;
+mod right;
+
+pub use entry::{Refused, Started, start};
+pub use hold::Once;
+pub use right::{Doing, InHand, WriteRight};
