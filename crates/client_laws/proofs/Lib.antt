@@ -7,3 +7,9 @@ pub mod Calling
 pub mod Retrying
 pub mod Clients
 pub mod Reading
+pub mod Beginning
+pub mod Passes
+pub mod Opens
+pub mod Whole
+pub mod Few
+pub mod Fresh

@@ -73,7 +73,7 @@ module _ (p : Plan) (q : IdPlan) (narrow : q.slots ≤ 65536) where
       (address how.reading.id (set_failed how.reading.id how.code (λ _. release (socket_id_slot how.reading.id) (λ _. post_each calls how.reading.link how.code how.reading.kept (thrown_away how)))) (λ _. post_each calls how.reading.link how.code how.reading.kept (thrown_away how)))
       (λ _. goes u ends.0)
       (λ _. address_goes p q narrow u how.reading.id (set_failed how.reading.id how.code (λ _. release (socket_id_slot how.reading.id) (λ _. post_each calls how.reading.link how.code how.reading.kept (thrown_away how)))) (λ _. post_each calls how.reading.link how.code how.reading.kept (thrown_away how))
-      (set_failed_goes p q narrow u how.reading.id how.code (λ _. release (socket_id_slot how.reading.id) (λ _. post_each calls how.reading.link how.code how.reading.kept (thrown_away how)))
+      (set_failed_goes p q narrow u how.reading.id how.code ends.1.1 (λ _. release (socket_id_slot how.reading.id) (λ _. post_each calls how.reading.link how.code how.reading.kept (thrown_away how)))
       (λ _. release_goes p q narrow u (socket_id_slot how.reading.id) (λ _. post_each calls how.reading.link how.code how.reading.kept (thrown_away how)) (λ _. goes u ends.0)))
       (λ _. goes u ends.0))
 

@@ -1,25 +1,21 @@
--- A run begins with few seats, of which none had a message accepted, and so each seat accepts few in it.
+-- A run begins with few seats, of which none had a message accepted, and where each seat may accept one more at each moment each accepts few in it.
 use Rattle.std.proofs.Common.{ℕ, zero, suc, ◌≡◌, ◌<◌, ◌≤◌, ◌-◌, List, [], ◌∷◌, length, map, sym, subst, arith}
 use Rattle.std.proofs.lemmas.List.{length-map}
-use Rattle.std.specs.List.{AllByRecursion}
 use mathlib.Core.Option.{some, some-injective, some-ne-none}
 use lib.ListN.{get_elem?}
 use Rattle.sock_words.specs.declared.plain.Plan.{Plan}
 use Rattle.sock_model.specs.declared.chain.Entry.{Entry}
 use Rattle.sock_model.specs.declared.view.View.{View}
-use Rattle.sock_model.specs.Lawful.{PlanFits}
 use Rattle.sock_model.specs.Rule.{MOST_ACCEPTED}
 use Rattle.sock_model.specs.Seats.{newcomer, below}
 use Rattle.sock_programs.specs.declared.task.Task.{Task}
-use Rattle.sock_programs.specs.Ticks.{Moment, AreAnswered}
-use Rattle.sock_programs.specs.Runs.{IsAtRest}
-use Rattle.sock_programs.specs.Scripts.{sizes_of, programs, beginning}
-use Rattle.sock_programs.specs.Told.{AreTasks}
-use Rattle.sock_runs.specs.Sound.{IsWithinLimits, AreFew, views_along}
-use Rattle.sock_runs.proofs.Few.{IsFew, few_runs}
+use Rattle.sock_programs.specs.Cores.{Core}
+use Rattle.sock_programs.specs.Ticks.{Moment, AreAnswered, ticked}
+use Rattle.sock_runs.specs.Sound.{Sound, AreFew, AreFitting, views_after, views_along}
+use Rattle.sock_runs.proofs.Few.{IsFew, IsShorter, few_ticks}
+use Rattle.sock_runs.proofs.Ticks.{sound_ticks}
 use Rattle.client_laws.specs.Openings.{links_of_all, without_passes, client_view, opening_views}
-use Rattle.client_laws.proofs.Opens.{opens_sound, ending_sound}
-use Rattle.client_laws.proofs.Whole.{played, played_views, begins_to_end, played_ahead, played_sound}
+use Rattle.client_laws.proofs.Retrying.{retries_go}
 
 -- whoever has no message accepted yet
 no_entry : (p : Plan) (passes : List ℕ) (more : ℕ) → IsFew (newcomer p passes more)
@@ -43,12 +39,15 @@ opening_few p (ts ∷ clients) few = record { few_seats = omega (arith, few, len
         subst IsFew (some-injective (newcomer p ps more) v e) (no_entry p ps more)
     each (suc i) v e = no_entries p clients i v e
 
--- whatever the order of ticks, in the run and in its ending
-module _ (p : Plan) (clients : List (List Task)) (are : AreTasks p clients) (limits : IsWithinLimits p) (fits : PlanFits p) (few : length clients ≤ 64) where
-  pub played_few : (moments : List Moment) → AreAnswered p (beginning p (programs (sizes_of p) clients)) moments → AreFew (played_views p clients moments)
-  played_few moments answered = few_runs p (beginning p (programs (sizes_of p) clients)) (opening_views p clients) moments (opens_sound p clients are limits fits (omega (arith, few))) answered (opening_few p clients few)
+-- ## A run
 
-  pub ended_few : (os : List ℕ) (moments later : List Moment) → AllByRecursion (λ o. o < p.operations) os → IsAtRest (played p clients moments) 0
-      → AreAnswered p (beginning p (programs (sizes_of p) clients)) moments → AreAnswered p (begins_to_end p clients os moments) later → AreFew (views_along p (begins_to_end p clients os moments) (played_views p clients moments) later)
-  ended_few os moments later all idle answered later_answered = few_runs p (begins_to_end p clients os moments) (played_views p clients moments) later
-      (ending_sound p (played p clients moments) (played_views p clients moments) os all (played_ahead p clients moments) idle (played_sound p clients are limits fits (omega (arith, few)) moments answered)) later_answered (played_few moments answered)
+-- at each of these moments each seat may accept one message more
+abbrev pub AreShorter : Plan → Core → List View → List Moment → Type 0
+AreShorter p c vs [] = Unit {0}
+AreShorter p c vs (m ∷ moments) = ((i : ℕ) (v : View) → get_elem? vs i ≡ some v → IsShorter v) × AreShorter p (ticked p c m) (views_after p c vs m) moments
+
+-- then whatever the order of ticks, each seat accepts few
+pub few_runs : (p : Plan) → p.requests ≤ 4096 → (c : Core) (vs : List View) (moments : List Moment) → Sound p c vs → AreAnswered p c moments → AreFitting p c moments → AreShorter p c vs moments → AreFew vs → AreFew (views_along p c vs moments)
+few_runs p small c vs [] sound answered fitting shorter few = few
+few_runs p small c vs (m ∷ moments) sound answered fitting shorter few = few_runs p small (ticked p c m) (views_after p c vs m) moments (sound_ticks p (retries_go p small) c vs m sound answered.0 fitting.0) answered.1 fitting.1 shorter.1
+    (few_ticks p c vs m sound answered.0 fitting.0 shorter.0 few)
