@@ -21,3 +21,4 @@ pub mod Ends
 pub mod WalksLeft
 pub mod Waiting
 pub mod IdCosts
+pub mod Costs
