@@ -123,11 +123,11 @@ begun_at p (x ∷ xs) [] all i seat v e f = absurd all
 begun_at p (x ∷ xs) (ts ∷ tss) all zero seat v e f = subst (λ s. SoundSeat p s v) (some-injective (at_first x) seat e) (subst (SoundSeat p (at_first x)) (some-injective (client_view p ts) v f) (all.0 (links_of ts) 0 (λ k. omega arith)))
 begun_at p (x ∷ xs) (ts ∷ tss) all (suc i) seat v e f = begun_at p xs tss all.1 i seat v e f
 
-begin_both : (p : Plan) (xs ys : List Program) (as bs : List (List Task)) → AllBegin p xs as → AllBegin p ys bs → AllBegin p (xs ++ ys) (as ++ bs)
-begin_both p [] ys [] bs a b = b
-begin_both p [] ys (x ∷ as) bs a b = absurd a
-begin_both p (x ∷ xs) ys [] bs a b = absurd a
-begin_both p (x ∷ xs) ys (y ∷ as) bs a b = (a.0, begin_both p xs ys as bs a.1 b)
+begin_both : (p : Plan) (xs ys : List Program) (tss uss : List (List Task)) → AllBegin p xs tss → AllBegin p ys uss → AllBegin p (xs ++ ys) (tss ++ uss)
+begin_both p [] ys [] uss a b = b
+begin_both p [] ys (x ∷ tss) uss a b = absurd a
+begin_both p (x ∷ xs) ys [] uss a b = absurd a
+begin_both p (x ∷ xs) ys (y ∷ tss) uss a b = (a.0, begin_both p xs ys tss uss a.1 b)
 
 begin_length : (p : Plan) (xs : List Program) (tss : List (List Task)) → AllBegin p xs tss → length xs ≡ length tss
 begin_length p [] [] a = refl

@@ -12,14 +12,14 @@ use Rattle.corr_core.specs.declared.marks.Hand.TheVariants.{Full}
 use Rattle.corr_core.specs.declared.marks.Token.TheVariants.{Locked}
 use Rattle.corr_core.proofs.Slots.{is_lock}
 use Rattle.id_rule.specs.Lawful.{tag_word, id_word, call_word, at_word, local, Lawful}
-use Rattle.id_rule.specs.Plays.{Longer}
+use Rattle.id_rule.specs.Plays.{Longer, IsHome, value_of}
 use Rattle.id_rule.proofs.Allowed as allowed
 use Rattle.sock_programs.specs.declared.task.Asked.{Asked}
 use Rattle.sock_programs.specs.Asides.{Step, Found, ClaimId, PutCall, MakeId, StoreCall, LoadCall, StoreAt, LoadAt, LoadIdWord, LockId, PostId, UnlockId, EndId, FreeId, TakeCall, TakeBytes, Taking, Bytes}
 use Rattle.sock_programs.specs.Cores.{Calls}
 use Rattle.sock_programs.specs.Beside.{found_in, calls_after, more_given, call_at}
 use Rattle.sock_programs.specs.Told.{AskedFits}
-use Rattle.id_runs.specs.Held.{CallFits, AtFits, StoredFit, IdView, id_state, id_row, HasOne, MayId}
+use Rattle.id_runs.specs.Held.{CallFits, AtFits, StoredFit, IdView, id_state, id_row, HasOne, HasCallAt, MayId}
 use Rattle.id_runs.specs.Goes.{HasRoom, IsIdWord, FindsId}
 use Rattle.id_runs.proofs.Keeps as steps
 
@@ -102,6 +102,10 @@ module _ (p : Plan) (q : IdPlan) (a : Calls) (plan : a.plan ≡ q) (us : List Id
   -- the call at home is that of the lock
   home_there : (i : ℕ) → i < q.slots → (f rg att x y : ℕ) (c : Asked) → HasOne i (Locked f rg att c x y (Full c)) u → get_elem? a.homes i ≡ some (some (Some c))
   home_there i inside f rg att x y c has = (allowed.known q k (u, []) i inside real (id_state a us) law at f rg att x y c has).home
+
+  -- a call is at home where the view says so
+  pub call_there : (i : ℕ) → i < q.slots → HasCallAt i u → (c : Asked) × (get_elem? a.homes i ≡ some (some (Some c)))
+  call_there i inside may = (may.1, (allowed.takes_law q k (u, []) i inside real (id_state a us) law at may.0 may.2 (subst IsHome (sym may.3) tt)).0 ∙ ap (λ h. some (some (value_of h))) may.3)
 
   called : (x : Option (Option (Maybe Asked))) (asked : Asked) → call_at x ≡ some asked → x ≡ some (some (Some asked))
   called none asked e = absurd (some-ne-none asked (sym e))
