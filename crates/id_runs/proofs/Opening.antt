@@ -44,7 +44,7 @@ id_at (suc n) z zero c inside small = let e : 2 * 0 + c ≡ c = omega arith in a
 id_at (suc n) z (suc i) c inside small = let e : 2 * suc i + c ≡ 2 + (2 * i + c) = omega arith in
     ap (λ x. get_or (0 ∷ 274877906944 ∷ (opening_ids n ++ z)) x 0) e ∙ (get_or-append-add (0 ∷ 274877906944 ∷ []) (opening_ids n ++ z) (2 * i + c) 0 ∙ id_at n z i c (omega (arith, inside)) small)
 
-zeros : (m x : ℕ) → get_or (replicate m 0) x 0 ≡ 0
+zeros : (m x : ℕ) → slice_index (replicate m 0) x ≡ 0
 zeros m x = dite (dec_le m x) (λ past. get_or_past (replicate m 0) x 0 (omega (arith, past, length-replicate {A = ℕ} m 0))) (λ inside. get_or-replicate m x 0 0 (omega arith))
 
 module _ (q : IdPlan) where
@@ -140,10 +140,10 @@ begins_law q links = let u = unused q in record {
 
 -- ## The programs of the seats
 
-none_wait : {A : Type 0} (n i : ℕ) → get_or (replicate n []) i [] ≡ []
-none_wait {A} zero i = refl
-none_wait {A} (suc n) zero = refl
-none_wait {A} (suc n) (suc i) = none_wait {A} n i
+none_wait : (n i : ℕ) → waiting_at (replicate n []) i ≡ []
+none_wait zero i = refl
+none_wait (suc n) zero = refl
+none_wait (suc n) (suc i) = none_wait n i
 
 both : {A : Type 0} (P : A → Type 0) (xs ys : List A) → AllByRecursion P xs → AllByRecursion P ys → AllByRecursion P (xs ++ ys)
 both P [] ys a b = b
