@@ -22,3 +22,7 @@ pub mod WalksLeft
 pub mod Waiting
 pub mod IdCosts
 pub mod Costs
+pub mod AttemptCosts
+pub mod SeatCosts
+pub mod IdsLeft
+pub mod Lasting
