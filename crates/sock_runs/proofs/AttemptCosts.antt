@@ -81,7 +81,7 @@ module _ (p : Plan) where
   -- the first free request is claimed, whether or not there is one
   pub claims_lasts : (heading : Heading) (bytes : List ℕ) (full accepted : Program) (m : ℕ) → Lasting p full m → Lasting p accepted m → (left q id : ℕ)
       → Lasting p (claims_from left q id heading bytes full accepted) (left + (weight (length bytes) + 13 + m))
-  claims_lasts heading bytes full accepted m f a zero q id = lasting_more p full m (0 + (weight (length bytes) + 13 + m)) (omega arith) f
+  claims_lasts heading bytes full accepted m f a zero q id v = lasting_more p full m (0 + (weight (length bytes) + 13 + m)) (omega arith) f v
   claims_lasts heading bytes full accepted m f a (suc left) q id v = let n : ℕ = left + (weight (length bytes) + 13 + m) in (
     left + (weight (length bytes) + 13 + m),
     omega arith,

@@ -55,7 +55,7 @@ use Rattle.sock_runs.specs.Lasts.{STALE, CHANGE, home_weight, accepted, walk_lef
 use Rattle.sock_runs.proofs.Founds.{finds}
 use Rattle.sock_runs.proofs.ChainTicks.{held_link_is, has_one}
 use Rattle.sock_runs.proofs.Leaves.{is_exchange}
-use Rattle.sock_runs.proofs.LinkTicks.{message_there}
+use Rattle.sock_runs.proofs.LinkTicks.{RetriesGo, message_there}
 use Rattle.sock_steps.proofs.LinkSteps.{link_home_law}
 use Rattle.sock_runs.proofs.Rounds.{begins_round}
 use Rattle.sock_runs.proofs.Cases.{beside, answer_begins}
@@ -249,7 +249,7 @@ module _ (p : Plan) (c : Core) (vs : List View) (n : ℕ) (lasts : Lasts p c vs 
 
   module _ (sound : Sound p c vs) (j own : ℕ) (may : May p v (SwapHead j own)) where
     abbrev link : ℕ
-    link = may.1.0.claim.link
+    link = may.1.claim.link
 
     abbrev found : ℕ
     found = slice_index c.words (head_word j)
@@ -261,8 +261,8 @@ module _ (p : Plan) (c : Core) (vs : List View) (n : ℕ) (lasts : Lasts p c vs 
     counts = accepted vs
 
     -- the seat's lists have one entry more, of its claim's link
-    counts_after : (e : Entry) (w : View) → e.link ≡ may.1.0.claim.link → w.lists ≡ more v.lists e → (q : ℕ) → accepted (set vs i w) q ≡ accepted vs q + only may.1.0.claim.link q
-    counts_after e w is lists q = let x = may.1.0 in let f : View → ℕ = λ u. total (λ (l : List Entry). length (on q l)) u.lists in
+    counts_after : (e : Entry) (w : View) → e.link ≡ may.1.claim.link → w.lists ≡ more v.lists e → (q : ℕ) → accepted (set vs i w) q ≡ accepted vs q + only may.1.claim.link q
+    counts_after e w is lists q = let x = may.1 in let f : View → ℕ = λ u. total (λ (l : List Entry). length (on q l)) u.lists in
         omega (
           arith,
           total-set f vs i v w at_view,
@@ -273,36 +273,36 @@ module _ (p : Plan) (c : Core) (vs : List View) (n : ℕ) (lasts : Lasts p c vs 
         )
 
     -- no two seats may write it
-    one_right : total (λ (u : View). total (λ (r : Right). only may.1.0.claim.link r.link) u.rights) vs ≤ 1
-    one_right = let o = sound.lawful in let x = may.1.0 in
+    one_right : total (λ (u : View). total (λ (r : Right). only may.1.claim.link r.link) u.rights) vs ≤ 1
+    one_right = let o = sound.lawful in let x = may.1 in
         omega (arith, all_rights x.claim.link vs, few_rights o.chains x.claim.link (link_in (λ home. home) p (state c vs) o i j own v at_view x))
 
-    walks_after : (w : View) (e : Entry) → e.link ≡ may.1.0.claim.link → w.lists ≡ more v.lists e → total (walk_left (accepted (set vs i w))) w.rights ≡ total (walk_left (accepted (set vs i w))) v.rights
+    walks_after : (w : View) (e : Entry) → e.link ≡ may.1.claim.link → w.lists ≡ more v.lists e → total (walk_left (accepted (set vs i w))) w.rights ≡ total (walk_left (accepted (set vs i w))) v.rights
         → walks (set vs i w) ≤ walks vs + 2
     walks_after w e is lists rights = let after : ℕ → ℕ = accepted (set vs i w) in
-        omega (arith, total-set (λ (u : View). total (walk_left after) u.rights) vs i v w at_view, rights, all_more (accepted vs) after may.1.0.claim.link (counts_after e w is lists) vs, one_right)
+        omega (arith, total-set (λ (u : View). total (walk_left after) u.rights) vs i v w at_view, rights, all_more (accepted vs) after may.1.claim.link (counts_after e w is lists) vs, one_right)
 
-    busy_after : walks (set vs i (queued v may.1.0.claim (slice_index c.words (head_word j)))) ≤ walks vs + 2
-    busy_after = let x = may.1.0 in let n : ℕ = slice_index c.words (head_word j) in walks_after (queued v x.claim n) (entry_of x.claim n) refl refl refl
+    busy_after : walks (set vs i (queued v may.1.claim (slice_index c.words (head_word j)))) ≤ walks vs + 2
+    busy_after = let x = may.1 in let n : ℕ = slice_index c.words (head_word j) in walks_after (queued v x.claim n) (entry_of x.claim n) refl refl refl
 
     hand_is : (q : ℕ) (sent : List ℕ) (places : ℕ) → slice_index c.words (link_word j) ≡ q → link_home (λ home. home) p c.homes q ≡ some (sent, places) → hand_at p c.words c.homes (SwapHead j own) ≡ record { link = q; took = sent; next = places }
     hand_is q sent places e h = ap (λ z. as_hand z (link_home (λ home. home) p c.homes z)) e ∙ ap (as_hand q) h
 
     -- whoever found an idle head has no walk left
-    none_left : (sent : List ℕ) (places : ℕ) → places ≡ length (on may.1.0.claim.link sound.lawful.log)
-        → walk_left (accepted (set vs i (righted v may.1.0.claim (slice_index c.words (head_word j)) sent places))) (new_right may.1.0.claim (slice_index c.words (head_word j)) sent places) ≡ 0
-    none_left sent places all = let x = may.1.0 in let n : ℕ = slice_index c.words (head_word j) in let w : View = righted v x.claim n sent places in
+    none_left : (sent : List ℕ) (places : ℕ) → places ≡ length (on may.1.claim.link sound.lawful.log)
+        → walk_left (accepted (set vs i (righted v may.1.claim (slice_index c.words (head_word j)) sent places))) (new_right may.1.claim (slice_index c.words (head_word j)) sent places) ≡ 0
+    none_left sent places all = let x = may.1 in let n : ℕ = slice_index c.words (head_word j) in let w : View = righted v x.claim n sent places in
         omega (arith, all, counts_after (entry_of x.claim (n - IDLE)) w refl refl x.claim.link, only-same x.claim.link, accepted_count (λ (u : View). u.lists) vs sound.lawful.log sound.lawful.authors x.claim.link)
 
     idle_after : IDLE ≤ slice_index c.words (head_word j)
-        → walks (set vs i (righted v may.1.0.claim (slice_index c.words (head_word j)) (hand_at p c.words c.homes (SwapHead j own)).took (hand_at p c.words c.homes (SwapHead j own)).next)) ≤ walks vs + 2
-    idle_after idle = let o = sound.lawful in let x = may.1.0 in let n : ℕ = slice_index c.words (head_word j) in let a = idle_home (λ home. home) p (state c vs) o i j own v at_view x idle in
+        → walks (set vs i (righted v may.1.claim (slice_index c.words (head_word j)) (hand_at p c.words c.homes (SwapHead j own)).took (hand_at p c.words c.homes (SwapHead j own)).next)) ≤ walks vs + 2
+    idle_after idle = let o = sound.lawful in let x = may.1 in let n : ℕ = slice_index c.words (head_word j) in let a = idle_home (λ home. home) p (state c vs) o i j own v at_view x idle in
         let is : slice_index c.words (link_word j) ≡ x.claim.link = held_link_is p (state c vs) o i v at_view j x.life (x.holds.inside, x.holds.held) x.claim.link x.holds.met in
         subst (λ (z : Hand). walks (set vs i (righted v x.claim n z.took z.next)) ≤ walks vs + 2) (sym (hand_is x.claim.link a.0 a.1 is a.2))
         (walks_after (righted v x.claim n a.0 a.1) (entry_of x.claim (n - IDLE)) refl refl (omega (arith, none_left a.0 a.1 a.3)))
 
     swapped : walks (set vs i (row p (SwapHead j own) (slice_index c.words (head_word j)) (hand_at p c.words c.homes (SwapHead j own)) v)) ≤ walks vs + 2
-    swapped = let x = may.1.0 in let n : ℕ = slice_index c.words (head_word j) in let g : Hand = hand_at p c.words c.homes (SwapHead j own) in
+    swapped = let x = may.1 in let n : ℕ = slice_index c.words (head_word j) in let g : Hand = hand_at p c.words c.homes (SwapHead j own) in
         subst (λ cs. walks (set vs i (by_claim cs (exchanged n g v) v)) ≤ walks vs + 2) (sym x.claims)
         (dite (dec_le IDLE n)
         (λ idle. subst (λ b. walks (set vs i (cond b (queued v x.claim n) (righted v x.claim n g.took g.next))) ≤ walks vs + 2) (sym (le-ltb n IDLE idle)) (idle_after idle))
@@ -315,7 +315,7 @@ module _ (p : Plan) (c : Core) (vs : List View) (n : ℕ) (lasts : Lasts p c vs 
 
   -- ## Any step
 
-  module _ (sound : Sound p c vs) where
+  module _ (go : RetriesGo p) (sound : Sound p c vs) where
     pub call_moves : (call : Call) (next : ℕ → Program) → GoesOn p v (Do call next) → LastsFor p v (Do call next) k
         → Fewer p n (stepped p i seat call next c) (set vs i (row p call (found_at c.words (word_of p call)) (hand_at p c.words c.homes call) v))
     call_moves (SwapHead j own) next goes l = exchange_steps sound j own goes.0 next goes l
@@ -334,7 +334,7 @@ module _ (p : Plan) (c : Core) (vs : List View) (n : ℕ) (lasts : Lasts p c vs 
     -- the message is at home, and stands for whoever writes it
     message_moves : (q : ℕ) (next : Heading → List ℕ → Program) → GoesOn p v (TakeMessage q next) → LastsFor p v (TakeMessage q next) k
         → Fewer p n (with_message p i seat c q (message (λ home. home) c.homes q) (λ letter. next letter.0 letter.1)) (views_with_message p i c vs v (message (λ home. home) c.homes q))
-    message_moves q next goes l = let a = message_there p c vs sound i seat v at_seat at_view q next goes in let heading : Heading = a.1.0 in let bytes : List ℕ = a.1.1 in let m = l heading bytes a.1.4 in
+    message_moves q next goes l = let a = message_there p go c vs sound i seat v at_seat at_view q next goes in let heading : Heading = a.1.0 in let bytes : List ℕ = a.1.1 in let m = l heading bytes a.1.4 in
         let few = m.1 in
         subst (λ (x : Option Letter). Fewer p n (with_message p i seat c q x (λ letter. next letter.0 letter.1)) (views_with_message p i c vs v x)) (sym (ap (λ (h : Option (Option Home)). letter_of (shown (λ home. home) h)) a.1.2))
         (seat_steps (next heading bytes) seat.hand c.words (set c.homes q none) (took_message heading bytes v) m.0 (goes.1 heading bytes a.1.3 a.1.4) m.2 (message_lists v heading bytes)

@@ -26,3 +26,6 @@ pub mod AttemptCosts
 pub mod SeatCosts
 pub mod IdsLeft
 pub mod Lasting
+pub mod ReadCosts
+pub mod AsideTicks
+pub mod AsideMoves

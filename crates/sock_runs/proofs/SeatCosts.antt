@@ -34,12 +34,12 @@ one_paid : (words : List ℕ) (y x : ℕ × ℕ) → slice_index words (id_word 
 one_paid words y x there = by_same ((eqb x.0 y.0) && (eqb x.1 y.1)) refl (eqb (slice_index words (id_word x.0)) x.1) refl
   where
     by_same : (b : Bool) → ((eqb x.0 y.0) && (eqb x.1 y.1)) ≡ b → (s : Bool) → eqb (slice_index words (id_word x.0)) x.1 ≡ s → cond s 0 STALE + cond b STALE 0 ≤ STALE
-    by_same false no true is = omega arith
-    by_same false no false is = omega arith
+    by_same false other true is = omega arith
+    by_same false other false is = omega arith
     by_same true same true is = omega arith
     by_same true same false is = let a = eqb-true x.0 y.0 (and_left (eqb x.0 y.0) (eqb x.1 y.1) same) in let b = eqb-true x.1 y.1 (and_right (eqb x.0 y.0) (eqb x.1 y.1) same) in
         let here : slice_index words (id_word x.0) ≡ x.1 = ap (λ n. slice_index words (id_word n)) a ∙ (there ∙ sym b) in
-        let no : true ≡ false = sym (eq-eqb (slice_index words (id_word x.0)) x.1 here) ∙ is in cc
+        let never : true ≡ false = sym (eq-eqb (slice_index words (id_word x.0)) x.1 here) ∙ is in cc
 
 some_paid : (words : List ℕ) (y : ℕ × ℕ) (xs : List (ℕ × ℕ)) → slice_index words (id_word y.0) ≡ y.1 → total (stale_cost words) xs + total (fresh_at y) xs ≤ total (λ (x : ℕ × ℕ). STALE) xs
 some_paid words y [] there = omega arith
