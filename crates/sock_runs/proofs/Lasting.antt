@@ -132,7 +132,7 @@ loud_sum y q b' m b S' S H W W' k I I' settles stale walk less = omega (arith, s
 -- ## A seat moves
 
 -- what is left of all walks
-abbrev walks : List View → ℕ
+abbrev pub walks : List View → ℕ
 walks vs = total (λ (v : View). total (walk_left (accepted vs)) v.rights) vs
 
 abbrev same : ℕ → ℕ

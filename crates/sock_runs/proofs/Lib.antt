@@ -29,3 +29,4 @@ pub mod Lasting
 pub mod ReadCosts
 pub mod AsideTicks
 pub mod AsideMoves
+pub mod HeadMoves
