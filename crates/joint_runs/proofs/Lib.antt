@@ -2,4 +2,3 @@ pub mod Joint
 pub mod Both
 pub mod Starts
 pub mod Runs
-pub mod Left

@@ -77,7 +77,7 @@ module _ (p : Plan) (v : View) where
   pub decide_lasts : (id w e : ℕ) (k : Deciding → Program) (m n : ℕ) → ((exit : Deciding) → LastsFor p v (k exit) (m + 0)) → ERROR + m ≤ n → LastsFor p v (decide id w e k) n
   decide_lasts id w e k m n leave room = λ asked fits. (DECISION + m, omega (arith, room), (m, omega arith, λ exit _. leave exit))
 
-  end_lasts : (i : ℕ) (next : Program) (m n : ℕ) → LastsFor p v next m → DECISION + m ≤ n → LastsFor p v (end_id i next) n
+  pub end_lasts : (i : ℕ) (next : Program) (m n : ℕ) → LastsFor p v next m → CHANGE + 1 + m ≤ n → LastsFor p v (end_id i next) n
   end_lasts i next m n l room = λ found _. (m + 1, omega (arith, room), by_last (leb ((parts found).first + (parts found).range) LAST))
     where
       by_last : (b : Bool) → LastsFor p v (cond b (Aside (FreeId i) (λ _. next)) next) (m + 1)

@@ -34,7 +34,7 @@ fits_packed w f r o s = omega (arith, f, packed_attempt w r (omega (arith, f, r)
 locked_fits : (from : ℕ) → FitsWord from → FitsWord (packed (locked_word (parts from)))
 locked_fits from f = fits_packed (locked_word (parts from)) (omega (arith, f)) (omega arith) (omega arith) (omega arith)
 
-posted_fits : (from e : ℕ) → (parts from).state ≡ 1 → FitsWord from → FitsWord (packed (posted_word (parts from) e))
+pub posted_fits : (from e : ℕ) → (parts from).state ≡ 1 → FitsWord from → FitsWord (packed (posted_word (parts from) e))
 posted_fits from e one f = subst (λ b. FitsWord (packed (cond b (locked_word (parts from)) record { first = (parts from).first; state = 2; range = (parts from).range; attempt = (parts from).attempt; oldest = cond (eqb (parts from).oldest 0) e (parts from).oldest; second = cond (eqb (parts from).oldest 0) 0 e })))
     (sym (eq-eqb (parts from).state 1 one)) (locked_fits from f)
 
@@ -46,7 +46,7 @@ none_cond : (b : Bool) → cond b 0 0 < 32768
 none_cond true = omega arith
 none_cond false = omega arith
 
-got_fits : (from : ℕ) → FitsWord from → FitsWord (packed (posted_word (parts from) 0))
+pub got_fits : (from : ℕ) → FitsWord from → FitsWord (packed (posted_word (parts from) 0))
 got_fits from f = by_state (eqb (parts from).state 1)
   where
     by_state : (b : Bool) → FitsWord (packed (cond b (locked_word (parts from)) record { first = (parts from).first; state = 2; range = (parts from).range; attempt = (parts from).attempt; oldest = cond (eqb (parts from).oldest 0) 0 (parts from).oldest; second = cond (eqb (parts from).oldest 0) 0 0 }))
@@ -54,7 +54,7 @@ got_fits from f = by_state (eqb (parts from).state 1)
     by_state false = fits_packed record { first = (parts from).first; state = 2; range = (parts from).range; attempt = (parts from).attempt; oldest = cond (eqb (parts from).oldest 0) 0 (parts from).oldest; second = cond (eqb (parts from).oldest 0) 0 0 }
         (omega (arith, f)) (omega arith) (small_cond (eqb (parts from).oldest 0) (parts from).oldest (omega arith)) (none_cond (eqb (parts from).oldest 0))
 
-unlocked_fits : (from more : ℕ) → FitsMore more from → FitsWord (packed (unlocked_word (parts from) more))
+pub unlocked_fits : (from more : ℕ) → FitsMore more from → FitsWord (packed (unlocked_word (parts from) more))
 unlocked_fits from more f = fits_packed (unlocked_word (parts from) more) (omega (arith, f)) (omega arith) (omega arith) (omega arith)
 
 -- ## Ways
