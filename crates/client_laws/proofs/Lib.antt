@@ -11,5 +11,7 @@ pub mod Beginning
 pub mod Passes
 pub mod Opens
 pub mod Whole
+pub mod OpCosts
+pub mod ReaderCosts
 pub mod Few
 pub mod Fresh
