@@ -21,3 +21,8 @@ pub mod Ends
 pub mod WalksLeft
 pub mod Waiting
 pub mod IdCosts
+pub mod Records
+pub mod Through
+pub mod ThroughLoops
+pub mod ThroughSends
+pub mod ThroughCalls
