@@ -26,3 +26,4 @@ pub mod Through
 pub mod ThroughLoops
 pub mod ThroughSends
 pub mod ThroughCalls
+pub mod Recorded

@@ -19,17 +19,20 @@ use Rattle.sock_model.specs.References.{slot_facts}
 use Rattle.sock_steps.proofs.Places.{counts}
 use Rattle.sock_programs.specs.Calls.{Call, GiveBirth, StoreOpen}
 use Rattle.sock_programs.specs.Programs.{Program, Do}
-use Rattle.sock_programs.specs.Cores.{Core, SeatState, word_of, word_after, found_at, words_after, homes_after, hand_after, next_step, with_seat, stepped}
+use Rattle.sock_programs.specs.Cores.{Calls, Core, SeatState, word_of, word_after, found_at, words_after, homes_after, hand_after, resolved, next_step, waiting_at, with_seat, stepped}
 use Rattle.sock_programs.specs.Ticks.{Moment, ticked, run, IsAnswered, AreAnswered}
 use Rattle.sock_runs.specs.Rows.{row, hand_at}
 use Rattle.sock_runs.specs.May.{May}
-use Rattle.sock_runs.specs.Sound.{state, Sound, first_step, views_after, views_along}
+use Rattle.sock_runs.specs.Sound.{state, Sound, first_step, IsFitting, AreFitting, views_after, views_along}
 use Rattle.sock_runs.proofs.Along.{place_inside}
 use Rattle.sock_runs.proofs.Notes.{bears, births_only, birth_notes}
 use Rattle.sock_runs.proofs.Records.{stores, next_stores, but, Records, next_stored, first_stored, opens_same}
-use Rattle.sock_runs.proofs.Through.{records_passes, records_follow, next_follows, comes_follows, through_first}
+use Rattle.sock_runs.proofs.Through.{records_passes, records_follow, comes_follows}
+use Rattle.sock_runs.proofs.ThroughCalls.{through_first, through_next}
 use Rattle.sock_runs.proofs.Cases.{ComesNext, with_rights, tick_keeps_marks}
 use Rattle.sock_runs.proofs.Rounds.{begins_round}
+use Rattle.sock_runs.proofs.Passes.{goes_round}
+use Rattle.sock_runs.proofs.LinkTicks.{RetriesGo}
 use Rattle.sock_runs.proofs.Ticks.{sound_ticks}
 
 -- the id stands in the word of operation o, in which no seat stores any more
@@ -90,7 +93,7 @@ module _ (p : Plan) (Q : ℕ → Type 0) (c : Core) (vs : List View) (i : ℕ) (
   after = stepped p i seat call next c
 
   abbrev seat' : SeatState
-  seat' = record { program = next_step (next (found_at c.words (word_of p call))); hand = hand_after p call c.homes seat.hand }
+  seat' = record { program = next_step (resolved (waiting_at c.calls.waiting i) (next (found_at c.words (word_of p call)))); hand = hand_after p call c.homes seat.hand }
 
   mine : Records (r.left i) (Do call next)
   mine = subst (Records (r.left i)) is (through_first (Records (r.left i)) (records_passes (r.left i)) (records_follow (r.left i)) seat.program (r.records i seat at_seat))
@@ -121,7 +124,7 @@ module _ (p : Plan) (Q : ℕ → Type 0) (c : Core) (vs : List View) (i : ℕ) (
       left = r.left;
       among = r.among;
       apart = r.apart;
-      records = λ j s at. ⊎_elim (λ a. subst (λ (x : SeatState). Records (r.left j) x.program) a.1 (subst (λ k. Records (r.left k) seat'.program) (sym a.0) (next_follows (Records (r.left i)) (records_follow (r.left i)) (next found) goes))) (λ a. r.records j s a.1) (at_set c.seats i j seat' s at);
+      records = λ j s at. ⊎_elim (λ a. subst (λ (x : SeatState). Records (r.left j) x.program) a.1 (subst (λ k. Records (r.left k) seat'.program) (sym a.0) (through_next (Records (r.left i)) (records_passes (r.left i)) (records_follow (r.left i)) (waiting_at c.calls.waiting i) (next found) goes))) (λ a. r.records j s a.1) (at_set c.seats i j seat' s at);
       lives = lives;
     }
 
@@ -132,7 +135,7 @@ module _ (p : Plan) (Q : ℕ → Type 0) (c : Core) (vs : List View) (i : ℕ) (
     pub birth_step : (n k : ℕ) → call ≡ GiveBirth n k → Recorded p Q after (set vs i w)
     birth_step n k made = let m = subst (λ x. Records (r.left i) (Do x next)) made mine found in
         keep m.1 (λ j h inside born. ⊎_elim
-        (λ a. inr record { place = i; seat = seat'; there = here; operation = m.0.0; next = next_stored (next found) (m.0.0, socket_id h j + 1) (m.0.1 ∙ (λ q. some (m.0.0, socket_id (sym a.1 q) (sym a.0 q) + 1))) })
+        (λ a. inr record { place = i; seat = seat'; there = here; operation = m.0.0; next = next_stored (waiting_at c.calls.waiting i) (next found) (m.0.0, socket_id h j + 1) (m.0.1 ∙ (λ q. some (m.0.0, socket_id (sym a.1 q) (sym a.0 q) + 1))) })
         (λ less. carry (socket_id h j) (r.lives j h inside (omega (arith, born, born_after j h, less))))
         (subst (λ x. ((j ≡ n) × (h ≡ vref_version found)) ⊎ (marks_of (is_born h) j (row p x found (hand_at p c.words c.homes call) v) ≤ marks_of (is_born h) j v)) (sym made) (birth_notes p v found (hand_at p c.words c.homes call) h n k j)))
 
@@ -191,7 +194,7 @@ module _ (p : Plan) (Q : ℕ → Type 0) (c : Core) (vs : List View) (i : ℕ) (
       among = λ j n e. r.among j n (left_less j n e);
       apart = λ j k n a b. r.apart j k n (left_less j n a) (left_less k n b);
       records = λ j s at. ⊎_elim
-          (λ a. subst (λ (y : SeatState). Records (left' j) y.program) a.1 (subst (λ k. Records (left' k) seat'.program) (sym a.0) (subst (λ l. Records l seat'.program) (sym left_here) (next_follows (Records (but o (r.left i))) (records_follow (but o (r.left i))) (next found) (now.1 found)))))
+          (λ a. subst (λ (y : SeatState). Records (left' j) y.program) a.1 (subst (λ k. Records (left' k) seat'.program) (sym a.0) (subst (λ l. Records l seat'.program) (sym left_here) (through_next (Records (but o (r.left i))) (records_passes (but o (r.left i))) (records_follow (but o (r.left i))) (waiting_at c.calls.waiting i) (next found) (now.1 found)))))
           (λ a. subst (λ l. Records l s.program) (sym (left_else j a.0)) (r.records j s a.1)) (at_set c.seats i j seat' s at);
       lives = λ j h inside born. settle (socket_id h j) (r.lives j h inside (omega (arith, born, born_after j h, births_only p v found (hand_at p c.words c.homes call) h call (ap bears made) j)));
     }
@@ -202,40 +205,40 @@ stores_none p (Do call next) q comes = absurd comes
 stores_none p _ q comes = refl
 
 -- such a step leaves what is recorded
-module _ (p : Plan) (Q : ℕ → Type 0) (c : Core) (vs : List View) (i : ℕ) (r : Recorded p Q c vs) (seat : SeatState) (v : View) (program : Program) (rights : List Right) (hand : List Home) (hs : List (Option Home))
+module _ (p : Plan) (Q : ℕ → Type 0) (c : Core) (vs : List View) (i : ℕ) (r : Recorded p Q c vs) (seat : SeatState) (v : View) (program : Program) (rights : List Right) (hand : List Home) (hs : List (Option Home)) (a : Calls)
     (at_seat : get_elem? c.seats i ≡ some seat) (at_view : get_elem? vs i ≡ some v) (comes : ComesNext p (first_step seat.program) program) where
   abbrev still_seat : SeatState
-  still_seat = record { program = next_step program; hand = hand }
+  still_seat = record { program = next_step (resolved (waiting_at a.waiting i) program); hand = hand }
 
-  still_born : (j h : ℕ) → count (is_born h) (slot_facts (state (with_seat i program hand c.words hs c) (set vs i (with_rights v rights))) j) + marks_of (is_born h) j v ≡ count (is_born h) (slot_facts (state c vs) j) + marks_of (is_born h) j v
+  still_born : (j h : ℕ) → count (is_born h) (slot_facts (state (with_seat i program hand c.words hs (record c { calls = a })) (set vs i (with_rights v rights))) j) + marks_of (is_born h) j v ≡ count (is_born h) (slot_facts (state c vs) j) + marks_of (is_born h) j v
   still_born j h = counts (state c vs) i v (with_rights v rights) at_view c.words hs (is_born h) j
 
   still_records : Records (r.left i) program
   still_records = comes_follows (Records (r.left i)) (records_follow (r.left i)) p (first_step seat.program) program comes
       (through_first (Records (r.left i)) (records_passes (r.left i)) (records_follow (r.left i)) seat.program (r.records i seat at_seat))
 
-  still_stands : (id : ℕ) → Stands p Q c r.left id → Stands p Q (with_seat i program hand c.words hs c) r.left id
+  still_stands : (id : ℕ) → Stands p Q c r.left id → Stands p Q (with_seat i program hand c.words hs (record c { calls = a })) r.left id
   still_stands id (inl (o, q, x)) = inl (o, q, record { inside = x.inside; word = x.word; spent = x.spent })
   still_stands id (inr x) = dite (ℕ_discrete x.place i)
       (λ e. let same : x.seat ≡ seat = some-injective x.seat seat (sym x.there ∙ (ap (get_elem? c.seats) e ∙ at_seat)) in
       absurd (some-ne-none (x.operation, id + 1) (sym x.next ∙ (ap (λ (y : SeatState). next_stores y.program) same ∙ stores_none p seat.program program comes))))
       (λ far. inr record { place = x.place; seat = x.seat; there = set_else c.seats i x.place still_seat far ∙ x.there; operation = x.operation; next = x.next })
 
-  pub still_recorded : Recorded p Q (with_seat i program hand c.words hs c) (set vs i (with_rights v rights))
+  pub still_recorded : Recorded p Q (with_seat i program hand c.words hs (record c { calls = a })) (set vs i (with_rights v rights))
   still_recorded = record {
     left = r.left;
     among = r.among;
     apart = r.apart;
     records = λ j s at. ⊎_elim
-        (λ a. subst (λ (x : SeatState). Records (r.left j) x.program) a.1 (subst (λ k. Records (r.left k) still_seat.program) (sym a.0) (next_follows (Records (r.left i)) (records_follow (r.left i)) program still_records)))
-        (λ a. r.records j s a.1) (at_set c.seats i j still_seat s at);
+        (λ x. subst (λ (y : SeatState). Records (r.left j) y.program) x.1 (subst (λ k. Records (r.left k) still_seat.program) (sym x.0) (through_next (Records (r.left i)) (records_passes (r.left i)) (records_follow (r.left i)) (waiting_at a.waiting i) program still_records)))
+        (λ x. r.records j s x.1) (at_set c.seats i j still_seat s at);
     lives = λ j h inside born. still_stands (socket_id h j) (r.lives j h inside (omega (arith, born, still_born j h)));
   }
 
-recorded_ticks : (p : Plan) (Q : ℕ → Type 0) (c : Core) (vs : List View) (m : Moment) → Sound p c vs → IsAnswered c m → Recorded p Q c vs → Recorded p Q (ticked p c m) (views_after p c vs m)
-recorded_ticks p Q c vs m sound answered r = tick_keeps_marks p c vs m sound answered (begins_round p) (Recorded p Q) r
+recorded_ticks : (p : Plan) (Q : ℕ → Type 0) (c : Core) (vs : List View) (m : Moment) → Sound p c vs → IsAnswered c m → IsFitting p c m → Recorded p Q c vs → Recorded p Q (ticked p c m) (views_after p c vs m)
+recorded_ticks p Q c vs m sound answered fitting r = tick_keeps_marks p c vs m sound answered fitting (begins_round p) (goes_round p) (Recorded p Q) r
     (λ seat v call next at_seat at_view is goes. by_call seat v call next at_seat at_view is goes.0)
-    (λ seat v program rights hand hs at_seat at_view comes. still_recorded p Q c vs m.seat r seat v program rights hand hs at_seat at_view comes)
+    (λ seat v program rights hand hs a at_seat at_view comes. still_recorded p Q c vs m.seat r seat v program rights hand hs a at_seat at_view comes)
   where
     by_call : (seat : SeatState) (v : View) (call : Call) (next : ℕ → Program) → get_elem? c.seats m.seat ≡ some seat → get_elem? vs m.seat ≡ some v → first_step seat.program ≡ Do call next → May p v call
         → Recorded p Q (stepped p m.seat seat call next c) (set vs m.seat (row p call (found_at c.words (word_of p call)) (hand_at p c.words c.homes call) v))
@@ -243,6 +246,7 @@ recorded_ticks p Q c vs m sound answered r = tick_keeps_marks p c vs m sound ans
     by_call seat v (StoreOpen o x) next at_seat at_view is may = store_step p Q c vs m.seat r seat v (StoreOpen o x) next at_seat at_view is may sound o x refl
     by_call seat v call next at_seat at_view is may = plain_step p Q c vs m.seat r seat v call next at_seat at_view is may refl refl
 
-pub run_recorded : (p : Plan) (Q : ℕ → Type 0) (c : Core) (vs : List View) (moments : List Moment) → Sound p c vs → AreAnswered p c moments → Recorded p Q c vs → Recorded p Q (run p c moments) (views_along p c vs moments)
-run_recorded p Q c vs [] sound answered r = r
-run_recorded p Q c vs (m ∷ ms) sound answered r = run_recorded p Q (ticked p c m) (views_after p c vs m) ms (sound_ticks p c vs m sound answered.0) answered.1 (recorded_ticks p Q c vs m sound answered.0 r)
+pub run_recorded : (p : Plan) → RetriesGo p → (Q : ℕ → Type 0) (c : Core) (vs : List View) (moments : List Moment) → Sound p c vs → AreAnswered p c moments → AreFitting p c moments → Recorded p Q c vs → Recorded p Q (run p c moments) (views_along p c vs moments)
+run_recorded p go Q c vs [] sound answered fitting r = r
+run_recorded p go Q c vs (m ∷ ms) sound answered fitting r = run_recorded p go Q (ticked p c m) (views_after p c vs m) ms (sound_ticks p go c vs m sound answered.0 fitting.0) answered.1 fitting.1
+    (recorded_ticks p Q c vs m sound answered.0 fitting.0 r)
