@@ -27,3 +27,4 @@ pub mod ThroughLoops
 pub mod ThroughSends
 pub mod ThroughCalls
 pub mod Recorded
+pub mod Closing
