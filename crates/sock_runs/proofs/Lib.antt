@@ -28,3 +28,4 @@ pub mod ThroughSends
 pub mod ThroughCalls
 pub mod Recorded
 pub mod Closing
+pub mod Opening

@@ -83,7 +83,7 @@ but_none o left = ap (λ b. left o && not b) (eq-eqb o o refl) ∙ and_false (le
     and_false false = refl
 
 -- a program may as well have more operations left
-records_more : (program : Program) (left more : ℕ → Bool) → ((o : ℕ) → left o ≡ true → more o ≡ true) → Records left program → Records more program
+pub records_more : (program : Program) (left more : ℕ → Bool) → ((o : ℕ) → left o ≡ true → more o ≡ true) → Records left program → Records more program
 records_more (Do (GiveBirth i k) next) left more up r = λ found. ((r found).0, records_more (next found) left more up (r found).1)
 records_more (Do (StoreOpen o w) next) left more up r = (up o r.0, λ found. records_more (next found) (but o left) (but o more) (λ x e. but_more o left more up x e) (r.1 found))
 records_more (Do call next) left more up r = λ found. records_more (next found) left more up (r found)

@@ -1,5 +1,5 @@
 -- What holds behind a call, a retry, an `expire`, a `join` or a reading holds before it, and what a seat's program meets it meets with the retries that wait.
-use Rattle.std.proofs.Common.{◌≡◌, ℕ, zero, suc, ◌+◌, ◌-◌, ◌/◌, ◌%◌, ◌==◌, ◌&&◌, not, nat_lt, Bool, true, false, cond, List, [], ◌∷◌, ◌++◌, length, refl}
+use Rattle.std.proofs.Common.{ℕ, zero, suc, ◌+◌, ◌-◌, ◌/◌, ◌%◌, ◌==◌, ◌&&◌, nat_lt, false, cond, List, [], ◌∷◌, ◌++◌, length, refl}
 use Rattle.std.specs.Prelude.{None}
 use Rattle.sock_words.specs.Words.{socket_id_version, socket_id_slot, vref_version, at_word, at_word_first, at_word_slot, at_word_link, at_word_attempt}
 use Rattle.sock_words.specs.declared.outcome.Outcome.TheVariants.{Unopened, Joined, NotBegun}
@@ -10,12 +10,11 @@ use Rattle.brpc_model.specs.Frame.{Frame}
 use Rattle.sock_programs.specs.declared.task.Asked.{Asked}
 use Rattle.sock_programs.specs.Calls.{LookWord, FindLink, ClaimRequest, LoadName}
 use Rattle.sock_programs.specs.Asides.{ClaimId, PutCall, MakeId, StoreCall, LoadCall, StoreAt, LoadAt, TakeCall, call_id, id_slot, id_first}
-use Rattle.sock_programs.specs.Heads.{First, Reading, Unlocks, Locks, Joins, Opens, Reads, Discards, Retry, Posting, WasGone, WasStale, WasCrowded, WasQueued, HasLocked, Unlocking, IsOpen, HasNext, Locking, NotThere, Has, Ended}
-use Rattle.sock_programs.specs.Programs.{Program, Do, Say, Sent, Rest, TakeMessage, TakeHome, PutHome, PutBytes, AskReady, Write, Aside, Round, Keep, Retries, NO_SOCKET, release, address, set_failed}
-use Rattle.sock_programs.specs.Posts.{WHOLE, post, post_with, posted, decide, decided}
-use Rattle.sock_programs.specs.Sends.{accept}
+use Rattle.sock_programs.specs.Heads.{First, Unlocks, Locks, Joins, Opens, Reads, Discards, Retry, Posting, WasGone, WasStale, WasCrowded, WasQueued, HasLocked, Unlocking, IsOpen, HasNext, Locking, NotThere, Has, Ended}
+use Rattle.sock_programs.specs.Programs.{Program, Do, Say, Sent, Rest, TakeMessage, TakeHome, PutHome, PutBytes, AskReady, Write, Aside, Round, Keep, Retries, NO_SOCKET, release, address}
+use Rattle.sock_programs.specs.Posts.{WHOLE, post, posted, decided}
 use Rattle.sock_programs.specs.Attempts.{claims_from, name_of, frame_of, heading_for, attempt, begin_call, claim_id, call, tried_again, retry_locked, retry, expire_outcome, expire, join}
-use Rattle.sock_programs.specs.Readers.{LIMIT, answer, kept_for, ends_with, posted_last, post_each, thrown_away, read, reader}
+use Rattle.sock_programs.specs.Readers.{LIMIT, kept_for, ends_with, posted_last, post_each, thrown_away, read, reader}
 use Rattle.sock_programs.specs.Cores.{resolved, next_step}
 use Rattle.sock_runs.specs.Sound.{first_step}
 use Rattle.sock_runs.proofs.Through.{Passes, Follows, next_follows, through_release, through_address, through_set_failed}

@@ -1,9 +1,9 @@
 -- What holds behind a loop aside of the sockets, however it is left, holds before it, and behind a post or a decision.
-use Rattle.std.proofs.Common.{◌≡◌, ℕ, ◌+◌, ◌==◌, ◌&&◌, not, nat_lt, nat_le, Bool, true, false, cond, List, [], ◌∷◌, ◌++◌, length, refl}
+use Rattle.std.proofs.Common.{ℕ, ◌+◌, ◌==◌, ◌&&◌, not, nat_lt, nat_le, Bool, true, false, cond, List, [], ◌∷◌, ◌++◌, length, refl}
 use Rattle.std.specs.Prelude.{Option, Some, None}
 use Rattle.sock_words.specs.declared.outcome.Outcome.TheVariants.{CallFailed}
 use Rattle.sock_steps.proofs.Quiet.{either_way}
-use Rattle.corr_core.specs.Word.{Parts, parts, posted_word, unlocked_word, code_of, error_of}
+use Rattle.corr_core.specs.Word.{parts, posted_word, unlocked_word, code_of, error_of}
 use Rattle.corr_core.specs.Law.{LAST}
 use Rattle.brpc_model.specs.Frame.{Frame}
 use Rattle.brpc_model.specs.Stream as streams
@@ -11,9 +11,9 @@ use Rattle.sock_programs.specs.declared.task.Asked.{Asked}
 use Rattle.sock_programs.specs.Calls.{LoadOpen}
 use Rattle.sock_programs.specs.Asides.{PutCall, LoadIdWord, LockId, PostId, UnlockId, EndId, FreeId, TakeCall, TakeBytes, Taking, Bytes, Nothing, NoMore, AtEnd, Closed, Broken, call_id, id_slot, id_first}
 use Rattle.sock_programs.specs.Heads.{Head, Exit, Retry, Sought, Version, Reading, Posts, Unlocks, Decides, Locks, Joins, Opens, Reads, Discards, Posting, WasGone, WasStale, WasCrowded, WasQueued, HasLocked, Unlocking, IsOpen, HasNext, Deciding, HasEnded, GoesOn, Locking, NotThere, Has, Ended}
-use Rattle.sock_programs.specs.Programs.{Program, Say, Aside, Round, Keep}
+use Rattle.sock_programs.specs.Programs.{Program, Say}
 use Rattle.sock_programs.specs.Posts.{packed, advance_of, is_first, is_sought, is_stale, is_full, judged, posts_round, post_with, posted, post, popped, unlocks_round, ends_call, end_id, decide, decided, unlocked, decides_round, locking, locks_round, joins_round}
-use Rattle.sock_programs.specs.Readers.{LIMIT, ending_of, slot_in, version_in, has_response, is_early, answer, answered, responses, last_of, ended_by, read_on, took, room_of, reads_round, discarded, discards_round, opens_round}
+use Rattle.sock_programs.specs.Readers.{LIMIT, ending_of, slot_in, version_in, has_response, is_early, answer, answered, responses, last_of, ended_by, read_on, took, room_of, discarded, opens_round}
 use Rattle.sock_programs.specs.Rounds.{round}
 use Rattle.sock_runs.proofs.Through.{Passes}
 

@@ -1,5 +1,5 @@
 -- What holds behind a message that is sent, or behind the loops of whoever writes a link, holds before it.
-use Rattle.std.proofs.Common.{◌≡◌, ℕ, zero, suc, ◌+◌, ◌-◌, ◌/◌, ◌%◌, ◌==◌, nat_lt, nat_le, Bool, true, false, cond, List, length, drop, refl}
+use Rattle.std.proofs.Common.{ℕ, zero, suc, ◌+◌, ◌-◌, ◌/◌, ◌%◌, ◌==◌, nat_lt, nat_le, true, false, cond, List, length, drop, refl}
 use Rattle.sock_words.specs.Words.{socket_id_version, socket_id_slot, vref_version}
 use Rattle.sock_words.specs.declared.outcome.Outcome.TheVariants.{Unopened, Gone, Full}
 use Rattle.sock_io.specs.declared.link.Put.{Put}
@@ -12,7 +12,7 @@ use Rattle.sock_model.specs.Memory.{IDLE, UNCONNECTED}
 use Rattle.sock_steps.proofs.Quiet.{either_way}
 use Rattle.sock_programs.specs.Calls.{LoadOpen, LookWord, FindLink, LoadCode, ClaimRequest, PutMessage, Unconnect, SwapHead, Connect, EmptyHead, ReadNext, TurnNext, FreeRequest, StorePlace, DropPlace}
 use Rattle.sock_programs.specs.Writings.{Holder, Writing, Puts, Waits, Empties, Walks}
-use Rattle.sock_programs.specs.Programs.{Program, Say, Sent, TakeMessage, Write, NO_SOCKET, LAST_GENERATION, release, address, set_failed, end_open}
+use Rattle.sock_programs.specs.Programs.{Program, Sent, TakeMessage, Write, NO_SOCKET, LAST_GENERATION, release, address, set_failed, end_open}
 use Rattle.sock_programs.specs.Sends.{freed, one_more, passed_telling, tell_drop, placed, dropped, link_failed, put_answered, ready_answered, block, first_put, write_link, heading_of, accept, claim_from, start, send}
 use Rattle.sock_runs.proofs.Through.{Passes, through_release, through_address, through_reach, through_set_failed}
 use Rattle.sock_runs.proofs.ThroughLoops.{through_post}
