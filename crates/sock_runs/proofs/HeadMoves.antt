@@ -1,5 +1,5 @@
 -- Each tick that moves leaves fewer: at the heads of the loops aside of the sockets, and of any seat.
-use Rattle.std.proofs.Common.{◌≡◌, ◌≢◌, ℕ, zero, suc, ◌+◌, ◌-◌, ◌*◌, ◌<◌, ◌≤◌, ◌⊎◌, Bool, true, false, not, ◌&&◌, List, [], ◌∷◌, length, refl, sym, ap, ◌∙◌, subst, inl, inr, arith, cond, eqb, Some, None}
+use Rattle.std.proofs.Common.{◌≡◌, ◌≢◌, ℕ, zero, suc, ◌+◌, ◌-◌, ◌*◌, ◌<◌, ◌≤◌, ◌⊎◌, Bool, true, false, not, ◌&&◌, List, [], ◌∷◌, length, refl, sym, ap, ◌∙◌, subst, inl, inr, arith, cond, eqb, leb, Some, None}
 use Rattle.std.proofs.lemmas.Bool.{true≢false}
 use Rattle.std.specs.Prelude as std
 use Rattle.std.specs.Prelude.{slice_index}
@@ -12,15 +12,15 @@ use Rattle.sock_model.specs.declared.view.View.{View}
 use Rattle.sock_model.specs.declared.view.Hand.{Hand}
 use Rattle.sock_model.specs.Layout.{open_word}
 use Rattle.sock_model.specs.Weights.{total}
-use Rattle.corr_core.specs.Word.{parts}
+use Rattle.corr_core.specs.Word.{parts, posted_word, unlocked_word, code_of}
+use Rattle.corr_core.specs.Law.{LAST}
 use Rattle.id_rule.specs.Lawful.{id_word}
 use Rattle.sock_programs.specs.declared.task.Asked.{Asked}
 use Rattle.sock_programs.specs.Calls.{LoadOpen}
 use Rattle.sock_programs.specs.Asides.{Step, Found, ClaimId, PutCall, MakeId, StoreCall, LoadCall, StoreAt, LoadAt, LoadIdWord, LockId, PostId, UnlockId, EndId, FreeId, TakeCall, TakeBytes, Taking, Bytes, Nothing, NoMore, AtEnd, Closed, Broken, id_slot, id_first}
-use Rattle.sock_programs.specs.Heads.{Head, Exit, Retry, Sought, Reading, Posts, Unlocks, Decides, Locks, Joins, Opens, Reads, Discards, Posting, Unlocking, Deciding, HasEnded, Locking, Ended}
+use Rattle.sock_programs.specs.Heads.{Head, Exit, Retry, Sought, Reading, Posts, Unlocks, Decides, Locks, Joins, Opens, Reads, Discards, Posting, WasQueued, HasLocked, Unlocking, Deciding, HasEnded, Locking, Has, Ended}
 use Rattle.sock_programs.specs.Beside.{found_in, at_last, taking_in}
-use Rattle.sock_programs.specs.Posts.{advance_of, ends_call, end_id, unlocked, posts_round, unlocks_round, decides_round, locks_round, joins_round, is_sought, is_first}
-use Rattle.corr_core.specs.Word.{code_of}
+use Rattle.sock_programs.specs.Posts.{packed, judged, popped, locking, advance_of, ends_call, end_id, unlocked, posts_round, unlocks_round, decides_round, locks_round, joins_round, is_sought, is_first}
 use Rattle.sock_programs.specs.Readers.{took, discarded, room_of}
 use Rattle.sock_programs.specs.Rounds.{round}
 use Rattle.sock_programs.specs.Programs.{Program, Do, Say, Sent, Rest, TakeMessage, TakeHome, PutHome, PutBytes, AskReady, Write, Aside, Round, Keep, Retries}
@@ -123,20 +123,20 @@ module _ (p : Plan) (go : RetriesGo p) (c : Core) (vs : List View) (n : ℕ) (la
   Counted program = IsCountedAt c answer (first_step program) × FitsBeside p c answer (first_step program)
 
   posts_move : (id e from : ℕ) (next : Posting → Program) → seat.program ≡ Round (Posts id e from) next → GoesOn p v (Round (Posts id e from) next) → LastsFor p v (Round (Posts id e from) next) (k + STALE) → Counted (Round (Posts id e from) next) → Moves (Round (Posts id e from) next)
-  posts_move id e from next at goes l counted = let found : ℕ = slice_index c.calls.words (id_word (id_slot id)) in
-      inr (aside_moves STALE (omega arith) (PostId (id_slot id) from e) _ (slice_index c.calls.words (id_word (id_slot id))) refl counted.0.1 counted.1 (λ lost. late_of (id_slot id) from lost (ap expects at))
+  posts_move id e from next at goes l counted =
+      inr (aside_moves STALE (omega arith) (PostId (id_slot id) from e) (λ found. cond (eqb found from) (cond (eqb (parts from).state 1) (next (HasLocked (packed (posted_word (parts from) e)))) (next WasQueued)) (judged id e found next)) (slice_index c.calls.words (id_word (id_slot id))) refl counted.0.1 counted.1 (λ lost. late_of (id_slot id) from lost (ap expects at))
       (goes_round p v (Posts id e from) next goes) (posts_fall p v id e from next (k + STALE) (λ one. posted_fits from e one goes.0.0) l (slice_index c.calls.words (id_word (id_slot id)))))
 
   unlocks_move : (j from : ℕ) (advance : Bool) (next : Unlocking → Program) → seat.program ≡ Round (Unlocks j from advance) next → GoesOn p v (Round (Unlocks j from advance) next) → LastsFor p v (Round (Unlocks j from advance) next) (k + STALE) → Counted (Round (Unlocks j from advance) next)
       → Moves (Round (Unlocks j from advance) next)
   unlocks_move j from advance next at goes l counted =
-      inr (aside_moves STALE (omega arith) (UnlockId j from advance) _ (slice_index c.calls.words (id_word j)) refl counted.0.1 counted.1 (λ lost. late_of j from lost (ap expects at))
+      inr (aside_moves STALE (omega arith) (UnlockId j from advance) (λ found. cond (eqb found from) (popped j (parts from).oldest (packed (unlocked_word (parts from) (advance_of advance))) next) (Round (Unlocks j found advance) next)) (slice_index c.calls.words (id_word j)) refl counted.0.1 counted.1 (λ lost. late_of j from lost (ap expects at))
       (goes_round p v (Unlocks j from advance) next goes) (unlocks_fall p v j from advance next (k + STALE) (unlocked_fits from (advance_of advance) goes.0.0) l (slice_index c.calls.words (id_word j))))
 
   tries_move : (j : ℕ) (sought : Sought) (from : ℕ) (next : Locking → Program) → seat.program ≡ Round (Locks j sought (Some from)) next → GoesOn p v (Round (Locks j sought (Some from)) next) → LastsFor p v (Round (Locks j sought (Some from)) next) (k + STALE) → Counted (Round (Locks j sought (Some from)) next)
       → Moves (Round (Locks j sought (Some from)) next)
   tries_move j sought from next at goes l counted =
-      inr (aside_moves STALE (omega arith) (LockId j from) _ (slice_index c.calls.words (id_word j)) refl counted.0.1 counted.1 (λ lost. late_of j from lost (ap expects at))
+      inr (aside_moves STALE (omega arith) (LockId j from) (λ found. cond (eqb found from) (next (Has (packed (posted_word (parts from) 0)))) (locking j sought found next)) (slice_index c.calls.words (id_word j)) refl counted.0.1 counted.1 (λ lost. late_of j from lost (ap expects at))
       (goes_round p v (Locks j sought (Some from)) next goes) (tries_fall p v j sought from next (k + STALE) (got_fits from goes.0.0) l (slice_index c.calls.words (id_word j))))
 
   locks_move : (j : ℕ) (sought : Sought) (next : Locking → Program) → GoesOn p v (Round (Locks j sought None) next) → LastsFor p v (Round (Locks j sought None) next) (k + 0) → Counted (Round (Locks j sought None) next) → Moves (Round (Locks j sought None) next)
@@ -144,7 +144,7 @@ module _ (p : Plan) (go : RetriesGo p) (c : Core) (vs : List View) (n : ℕ) (la
     where
       by_word : (b : Bool) → ((is_sought sought (parts (slice_index c.calls.words (id_word j)))) && not (eqb (parts (slice_index c.calls.words (id_word j))).state 1)) ≡ b → Moves (Round (Locks j sought None) next)
       by_word true is = inl (inr is)
-      by_word false is = inr (aside_moves 0 (omega arith) (LoadIdWord j) _ (slice_index c.calls.words (id_word j)) refl counted.0.1 counted.1 refl
+      by_word false is = inr (aside_moves 0 (omega arith) (LoadIdWord j) (λ found. locking j sought found next) (slice_index c.calls.words (id_word j)) refl counted.0.1 counted.1 refl
           (goes_round p v (Locks j sought None) next goes) (locks_fall p v j sought next (k + 0) l (slice_index c.calls.words (id_word j)) is))
 
   joins_move : (id : ℕ) (next : ℕ → Program) → GoesOn p v (Round (Joins id) next) → LastsFor p v (Round (Joins id) next) (k + 0) → Counted (Round (Joins id) next) → Moves (Round (Joins id) next)
@@ -152,38 +152,36 @@ module _ (p : Plan) (go : RetriesGo p) (c : Core) (vs : List View) (n : ℕ) (la
     where
       by_word : (b : Bool) → is_first (id_first id) (parts (slice_index c.calls.words (id_word (id_slot id)))) ≡ b → Moves (Round (Joins id) next)
       by_word true is = inl (inr is)
-      by_word false is = inr (aside_moves 0 (omega arith) (LoadIdWord (id_slot id)) _ (slice_index c.calls.words (id_word (id_slot id))) refl counted.0.1 counted.1 refl
+      by_word false is = inr (aside_moves 0 (omega arith) (LoadIdWord (id_slot id)) (λ found. cond (is_first (id_first id) (parts found)) (Round (Joins id) next) (next found)) (slice_index c.calls.words (id_word (id_slot id))) refl counted.0.1 counted.1 refl
           (goes_round p v (Joins id) next goes) (joins_fall p v id next (k + 0) l (slice_index c.calls.words (id_word (id_slot id))) is))
 
+  -- the two ways of a decision
+  abbrev ends_by : ℕ → Asked → ℕ → (Deciding → Program) → Program
+  ends_by id asked e next = end_id (id_slot id) (next (HasEnded asked.operation (code_of e)))
+
+  abbrev again_by : ℕ → Asked → ℕ → (Deciding → Program) → Program
+  again_by id asked word next = Aside (PutCall (id_slot id) asked) (λ _. Round (Unlocks (id_slot id) word true) (unlocked (record { id = id; attempt = (parts word).attempt + 1 }) next))
+
+  either_moves : (id : ℕ) (asked : Asked) (word e : ℕ) (next : Deciding → Program) (b : Bool) → GoesOn p v (cond b (ends_by id asked e next) (again_by id asked word next)) → LastsFor p v (cond b (ends_by id asked e next) (again_by id asked word next)) (k + 0)
+      → IsCountedAt c answer (cond b (ends_by id asked e next) (again_by id asked word next)) → FitsBeside p c answer (cond b (ends_by id asked e next) (again_by id asked word next))
+      → Fewer p n (step_with p i seat c answer (cond b (ends_by id asked e next) (again_by id asked word next))) (views_with p i c vs v answer (cond b (ends_by id asked e next) (again_by id asked word next)))
+  either_moves id asked word e next true goes l counted fitting = let ended : Program = next (HasEnded asked.operation (code_of e)) in
+      any_aside (EndId (id_slot id)) (λ found. cond (leb ((parts found).first + (parts found).range) LAST) (Aside (FreeId (id_slot id)) (λ _. ended)) ended) counted fitting goes l
+  either_moves id asked word e next false goes l counted fitting = any_aside (PutCall (id_slot id) asked) (λ _. Round (Unlocks (id_slot id) word true) (unlocked (record { id = id; attempt = (parts word).attempt + 1 }) next)) counted fitting goes l
+
   decides_move : (id : ℕ) (asked : Asked) (word e : ℕ) (next : Deciding → Program) → GoesOn p v (Round (Decides id asked word e) next) → LastsFor p v (Round (Decides id asked word e) next) (k + 0) → Counted (Round (Decides id asked word e) next) → Moves (Round (Decides id asked word e) next)
-  decides_move id asked word e next goes l counted = inr (by_end (ends_call (parts word) e) (goes_round p v (Decides id asked word e) next goes) (decides_lasts p v id asked word e next (k + 0) l) counted.0 counted.1)
-    where
-      abbrev ended : Program
-      ended = end_id (id_slot id) (next (HasEnded asked.operation (code_of e)))
-
-      abbrev again : Program
-      again = Aside (PutCall (id_slot id) asked) (λ _. Round (Unlocks (id_slot id) word true) (unlocked (record { id = id; attempt = (parts word).attempt + 1 }) next))
-
-      by_end : (b : Bool) → GoesOn p v (cond b ended again) → LastsFor p v (cond b ended again) (k + 0) → IsCountedAt c answer (cond b ended again) → FitsBeside p c answer (cond b ended again)
-          → Fewer p n (step_with p i seat c answer (cond b ended again)) (views_with p i c vs v answer (cond b ended again))
-      by_end true goes l counted fitting = any_aside (EndId (id_slot id)) _ counted fitting goes l
-      by_end false goes l counted fitting = any_aside (PutCall (id_slot id) asked) _ counted fitting goes l
+  decides_move id asked word e next goes l counted = inr (either_moves id asked word e next (ends_call (parts word) e) (goes_round p v (Decides id asked word e) next goes) (decides_lasts p v id asked word e next (k + 0) l) counted.0 counted.1)
 
   opens_move : (o : ℕ) (next : ℕ → Program) → GoesOn p v (Round (Opens o) next) → LastsFor p v (Round (Opens o) next) (k + 0) → Moves (Round (Opens o) next)
   opens_move o next goes l = by_word (eqb (slice_index c.words (open_word p o)) 0) refl
     where
-      abbrev found : ℕ
-      found = slice_index c.words (open_word p o)
-
-      abbrev w : View
-      w = row p (LoadOpen o) (slice_index c.words (open_word p o)) (hand_at p c.words c.homes (LoadOpen o)) v
-
       by_word : (b : Bool) → eqb (slice_index c.words (open_word p o)) 0 ≡ b → Moves (Round (Opens o) next)
       by_word true is = inl (inr is)
-      by_word false is = let goes' = goes_round p v (Opens o) next goes in let room = l.1 in
+      by_word false is = let goes' = goes_round p v (Opens o) next goes in let room = l.1 in let found : ℕ = slice_index c.words (open_word p o) in let hand : Hand = hand_at p c.words c.homes (LoadOpen o) in
+          let w : View = row p (LoadOpen o) (slice_index c.words (open_word p o)) (hand_at p c.words c.homes (LoadOpen o)) v in
           inr (found_steps p c vs n lasts i seat v at_seat at_view k at_number sound (LoadOpen o) (λ word. cond (eqb word 0) (Round (Opens o) next) (next word)) 1 l.0 refl goes'.0 goes'
           (subst (λ b. LastsFor p w (cond b (Round (Opens o) next) (next found)) l.0) (sym is) (l.2 found w)) (omega (arith, room))
-          (let z = rights_few (accepted vs) p v found (hand_at p c.words c.homes (LoadOpen o)) (LoadOpen o) goes'.0 refl in omega (arith, z)))
+          (let z = rights_few (accepted vs) p v found hand (LoadOpen o) goes'.0 refl in omega (arith, z)))
 
   reads_move : (r : Reading) (next : Ended → Program) → GoesOn p v (Round (Reads r) next) → LastsFor p v (Round (Reads r) next) (k + 0) → IsTaken (room_of r.total) answer → Counted (Round (Reads r) next) → Moves (Round (Reads r) next)
   reads_move r next goes l a counted = by_wait (is_nothing c.calls.ending answer) refl

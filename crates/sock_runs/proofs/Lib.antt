@@ -31,3 +31,11 @@ pub mod ReadCosts
 pub mod AsideTicks
 pub mod AsideMoves
 pub mod HeadMoves
+pub mod Records
+pub mod Through
+pub mod ThroughLoops
+pub mod ThroughSends
+pub mod ThroughCalls
+pub mod Recorded
+pub mod Closing
+pub mod Opening
