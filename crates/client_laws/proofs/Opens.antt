@@ -89,39 +89,38 @@ new_ready p ks passes more has = record {
 }
 
 -- the seat with this program, before its first step
-abbrev at_first : Program → SeatState
+abbrev pub at_first : Program → SeatState
 at_first program = record { program = next_step (resolved [] program); hand = [] }
 
--- it is sound with the passes of the links that these tasks open
-abbrev Begins : Plan → Program → List Task → Type 0
-Begins p program ts = (passes : List ℕ) (more : ℕ) → ((k : ℕ) → total (only k) (links_of ts) ≤ total (only k) passes) → SoundSeat p (at_first program) (newcomer p passes more)
+-- the program is allowed with the passes of the links that these tasks open
+abbrev pub Begins : Plan → Program → List Task → Type 0
+Begins p program ts = (passes : List ℕ) (more : ℕ) → ((k : ℕ) → total (only k) (links_of ts) ≤ total (only k) passes) → GoesOn p (newcomer p passes more) program
+
+seat_begins : (p : Plan) → p.requests ≤ 4096 → (program : Program) (ts : List Task) → Begins p program ts → (passes : List ℕ) (more : ℕ) → ((k : ℕ) → total (only k) (links_of ts) ≤ total (only k) passes) → SoundSeat p (at_first program) (newcomer p passes more)
+seat_begins p requests program ts b passes more has = record { hand = tt; goes_on = come_goes p (retries_go p requests) (newcomer p passes more) [] program tt (b passes more has) }
 
 client_begins : (p : Plan) (q : IdPlan) → p.slots ≤ 256 → p.requests ≤ 4096 → (ts : List Task) → AllByRecursion (TaskFits p) ts → length ts ≤ 4096 → ((n : ℕ) → alternate n false ts ≡ true) → Begins p (client_from (sizes_of p q) [] ts) ts
-client_begins p q slots requests ts fit few rest passes more has = record {
-  hand = tt;
-  goes_on = come_goes p (retries_go p requests) (newcomer p passes more) [] (client_from (sizes_of p q) [] ts) tt
-      (client_goes_on p q slots requests ts fit [] [] (λ n. false) (newcomer p passes more) tt (omega (arith, few)) rest (λ n. omega arith) (new_ready p (links_of ts) passes more has));
-}
+client_begins p q slots requests ts fit few rest passes more has = client_goes_on p q slots requests ts fit [] [] (λ n. false) (newcomer p passes more) tt (omega (arith, few)) rest (λ n. omega arith) (new_ready p (links_of ts) passes more has)
 
 rest_begins : (p : Plan) → Begins p Rest []
-rest_begins p passes more has = record { hand = tt; goes_on = has_nothing (new_ready p [] passes more has) }
+rest_begins p passes more has = has_nothing (new_ready p [] passes more has)
 
 reader_begins : (p : Plan) (calls : List ℕ) (k o : ℕ) → o < p.operations → Begins p (reader calls k o) []
-reader_begins p calls k o inside passes more has = record { hand = tt; goes_on = reader_goes p calls k o inside (new_ready p [] passes more has) }
+reader_begins p calls k o inside passes more has = reader_goes p calls k o inside (new_ready p [] passes more has)
 
 -- each of these programs begins with the tasks beside it
-abbrev AllBegin : Plan → List Program → List (List Task) → Type 0
+abbrev pub AllBegin : Plan → List Program → List (List Task) → Type 0
 AllBegin p [] [] = Unit {0}
 AllBegin p [] (ts ∷ tss) = ⊥
 AllBegin p (x ∷ xs) [] = ⊥
 AllBegin p (x ∷ xs) (ts ∷ tss) = Begins p x ts × AllBegin p xs tss
 
-begun_at : (p : Plan) (xs : List Program) (tss : List (List Task)) → AllBegin p xs tss → (i : ℕ) (seat : SeatState) (v : View) → get_elem? (map at_first xs) i ≡ some seat → get_elem? (map (client_view p) tss) i ≡ some v → SoundSeat p seat v
-begun_at p [] [] all i seat v e f = absurd (some-ne-none v (sym f))
-begun_at p [] (ts ∷ tss) all i seat v e f = absurd all
-begun_at p (x ∷ xs) [] all i seat v e f = absurd all
-begun_at p (x ∷ xs) (ts ∷ tss) all zero seat v e f = subst (λ s. SoundSeat p s v) (some-injective (at_first x) seat e) (subst (SoundSeat p (at_first x)) (some-injective (client_view p ts) v f) (all.0 (links_of ts) 0 (λ k. omega arith)))
-begun_at p (x ∷ xs) (ts ∷ tss) all (suc i) seat v e f = begun_at p xs tss all.1 i seat v e f
+begun_at : (p : Plan) → p.requests ≤ 4096 → (xs : List Program) (tss : List (List Task)) → AllBegin p xs tss → (i : ℕ) (seat : SeatState) (v : View) → get_elem? (map at_first xs) i ≡ some seat → get_elem? (map (client_view p) tss) i ≡ some v → SoundSeat p seat v
+begun_at p requests [] [] all i seat v e f = absurd (some-ne-none v (sym f))
+begun_at p requests [] (ts ∷ tss) all i seat v e f = absurd all
+begun_at p requests (x ∷ xs) [] all i seat v e f = absurd all
+begun_at p requests (x ∷ xs) (ts ∷ tss) all zero seat v e f = subst (λ s. SoundSeat p s v) (some-injective (at_first x) seat e) (subst (SoundSeat p (at_first x)) (some-injective (client_view p ts) v f) (seat_begins p requests x ts all.0 (links_of ts) 0 (λ k. omega arith)))
+begun_at p requests (x ∷ xs) (ts ∷ tss) all (suc i) seat v e f = begun_at p requests xs tss all.1 i seat v e f
 
 begin_both : (p : Plan) (xs ys : List Program) (tss uss : List (List Task)) → AllBegin p xs tss → AllBegin p ys uss → AllBegin p (xs ++ ys) (tss ++ uss)
 begin_both p [] ys [] uss a b = b
@@ -189,7 +188,7 @@ opens_sound p q (ts ∷ clients) calls opens are limits fits few inside =
     let all : (k : ℕ) → total (only k) (links_of ts) + total (only k) (links_of_all clients) ≤ total (only k) (below p.links) = λ k. omega (arith, enough p (ts ∷ clients) are k, total-append (only k) (links_of ts) (links_of_all clients)) in
     let has : (k : ℕ) → total (only k) (links_of_all later) ≤ total (only k) (below p.links) = λ k. subst (λ ks. total (only k) ks ≤ total (only k) (below p.links)) (sym same) (omega (arith, all k)) in
     let more : ℕ = 511 - length later in let ps : List ℕ = without_passes (links_of_all later) (below p.links) in
-    let first : SoundSeat p (at_first (client_from (sizes_of p q) [] ts)) (newcomer p ps more) = client_begins p q slots requests ts fit.0 small.0 (λ n. (are.alternating n).0) ps more
+    let first : SoundSeat p (at_first (client_from (sizes_of p q) [] ts)) (newcomer p ps more) = seat_begins p requests (client_from (sizes_of p q) [] ts) ts (client_begins p q slots requests ts fit.0 small.0 (λ n. (are.alternating n).0)) ps more
         (λ k. omega (arith, all k, total_without (links_of_all later) (below p.links) has k, ap (total (only k)) same)) in record {
       limits = limits;
       lawful = spread p (below p.links) 511 [] later has (omega (arith, few)) (opening_law (λ home. home) p (opening_words p) (opening_homes p) (unused p) fits (limits.first)
@@ -198,15 +197,15 @@ opens_sound p q (ts ∷ clients) calls opens are limits fits few inside =
       homes = length_homes p;
       labels = λ i heading bytes e. absurd (no_message p i heading bytes e);
       waiting = λ i. subst (AllByRecursion FitsRetry) (sym (none_wait q.seats i)) tt;
-      seats = seats_at ts clients first begin;
+      seats = seats_at requests first begin;
     }
   where
-    seats_at : (ts : List Task) (clients : List (List Task)) → SoundSeat p (at_first (client_from (sizes_of p q) [] ts)) (newcomer p (without_passes (links_of_all (later_seats clients (length opens))) (below p.links)) (511 - length (later_seats clients (length opens))))
+    seats_at : p.requests ≤ 4096 → SoundSeat p (at_first (client_from (sizes_of p q) [] ts)) (newcomer p (without_passes (links_of_all (later_seats clients (length opens))) (below p.links)) (511 - length (later_seats clients (length opens))))
         → AllBegin p (later_programs p q clients calls opens) (later_seats clients (length opens))
         → (i : ℕ) (seat : SeatState) (v : View) → get_elem? (at_first (client_from (sizes_of p q) [] ts) ∷ map at_first (later_programs p q clients calls opens)) i ≡ some seat → get_elem? (opening_views p (ts ∷ later_seats clients (length opens))) i ≡ some v → SoundSeat p seat v
-    seats_at ts clients first begin zero seat v e f = subst (λ s. SoundSeat p s v) (some-injective (at_first (client_from (sizes_of p q) [] ts)) seat e)
+    seats_at requests first begin zero seat v e f = subst (λ s. SoundSeat p s v) (some-injective (at_first (client_from (sizes_of p q) [] ts)) seat e)
         (subst (SoundSeat p (at_first (client_from (sizes_of p q) [] ts))) (some-injective (newcomer p (without_passes (links_of_all (later_seats clients (length opens))) (below p.links)) (511 - length (later_seats clients (length opens)))) v f) first)
-    seats_at ts clients first begin (suc i) seat v e f = begun_at p (later_programs p q clients calls opens) (later_seats clients (length opens)) begin i seat v e f
+    seats_at requests first begin (suc i) seat v e f = begun_at p requests (later_programs p q clients calls opens) (later_seats clients (length opens)) begin i seat v e f
 
 -- ## The ending begins
 
