@@ -93,7 +93,7 @@ abbrev pub at_first : Program → SeatState
 at_first program = record { program = next_step (resolved [] program); hand = [] }
 
 -- the program is allowed with the passes of the links that these tasks open
-abbrev pub Begins : Plan → Program → List Task → Type 0
+abbrev Begins : Plan → Program → List Task → Type 0
 Begins p program ts = (passes : List ℕ) (more : ℕ) → ((k : ℕ) → total (only k) (links_of ts) ≤ total (only k) passes) → GoesOn p (newcomer p passes more) program
 
 seat_begins : (p : Plan) → p.requests ≤ 4096 → (program : Program) (ts : List Task) → Begins p program ts → (passes : List ℕ) (more : ℕ) → ((k : ℕ) → total (only k) (links_of ts) ≤ total (only k) passes) → SoundSeat p (at_first program) (newcomer p passes more)
@@ -109,7 +109,7 @@ reader_begins : (p : Plan) (calls : List ℕ) (k o : ℕ) → o < p.operations �
 reader_begins p calls k o inside passes more has = reader_goes p calls k o inside (new_ready p [] passes more has)
 
 -- each of these programs begins with the tasks beside it
-abbrev pub AllBegin : Plan → List Program → List (List Task) → Type 0
+abbrev AllBegin : Plan → List Program → List (List Task) → Type 0
 AllBegin p [] [] = Unit {0}
 AllBegin p [] (ts ∷ tss) = ⊥
 AllBegin p (x ∷ xs) [] = ⊥
@@ -121,6 +121,13 @@ begun_at p requests [] (ts ∷ tss) all i seat v e f = absurd all
 begun_at p requests (x ∷ xs) [] all i seat v e f = absurd all
 begun_at p requests (x ∷ xs) (ts ∷ tss) all zero seat v e f = subst (λ s. SoundSeat p s v) (some-injective (at_first x) seat e) (subst (SoundSeat p (at_first x)) (some-injective (client_view p ts) v f) (seat_begins p requests x ts all.0 (links_of ts) 0 (λ k. omega arith)))
 begun_at p requests (x ∷ xs) (ts ∷ tss) all (suc i) seat v e f = begun_at p requests xs tss all.1 i seat v e f
+
+goes_at : (p : Plan) (xs : List Program) (tss : List (List Task)) → AllBegin p xs tss → (i : ℕ) (x : Program) (v : View) → get_elem? xs i ≡ some x → get_elem? (map (client_view p) tss) i ≡ some v → GoesOn p v x
+goes_at p [] [] all i y v e f = absurd (some-ne-none v (sym f))
+goes_at p [] (ts ∷ tss) all i y v e f = absurd all
+goes_at p (x ∷ xs) [] all i y v e f = absurd all
+goes_at p (x ∷ xs) (ts ∷ tss) all zero y v e f = subst (GoesOn p v) (some-injective x y e) (subst (λ u. GoesOn p u x) (some-injective (client_view p ts) v f) (all.0 (links_of ts) 0 (λ k. omega arith)))
+goes_at p (x ∷ xs) (ts ∷ tss) all (suc i) y v e f = goes_at p xs tss all.1 i y v e f
 
 begin_both : (p : Plan) (xs ys : List Program) (tss uss : List (List Task)) → AllBegin p xs tss → AllBegin p ys uss → AllBegin p (xs ++ ys) (tss ++ uss)
 begin_both p [] ys [] uss a b = b
@@ -176,36 +183,60 @@ none_wait (suc n) (suc i) = none_wait n i
 abbrev pub begun_core : Plan → IdPlan → List (List Task) → List ℕ → List ℕ → Core
 begun_core p q clients calls opens = beginning p q (all_programs (programs (sizes_of p q) clients) (readers_from calls 0 opens))
 
+-- the first seat has its own links, and the others theirs
+module _ (p : Plan) (ts : List Task) (clients : List (List Task)) (readers : ℕ) (are : AreTasks p (ts ∷ clients)) where
+  later_links : links_of_all (later_seats clients readers) ≡ links_of_all clients
+  later_links = links_more clients (replicate (32 - suc (length clients)) [] ++ replicate readers []) (no_links (32 - suc (length clients)) readers)
+
+  both_have : (k : ℕ) → total (only k) (links_of ts) + total (only k) (links_of_all (later_seats clients readers)) ≤ total (only k) (below p.links)
+  both_have k = omega (arith, enough p (ts ∷ clients) are k, total-append (only k) (links_of ts) (links_of_all clients), ap (total (only k)) later_links)
+
+  later_has : (k : ℕ) → total (only k) (links_of_all (later_seats clients readers)) ≤ total (only k) (below p.links)
+  later_has k = omega (arith, both_have k)
+
+  first_has : (k : ℕ) → total (only k) (links_of ts) ≤ total (only k) (without_passes (links_of_all (later_seats clients readers)) (below p.links))
+  first_has k = omega (arith, both_have k, total_without (links_of_all (later_seats clients readers)) (below p.links) later_has k)
+
+module _ (p : Plan) (q : IdPlan) (ts : List Task) (clients : List (List Task)) (calls opens : List ℕ) (are : AreTasks p (ts ∷ clients)) (limits : IsWithinLimits p) (inside : AllByRecursion (λ o. o < p.operations) opens) where
+  first_begins : Begins p (client_from (sizes_of p q) [] ts) ts
+  first_begins = let fit = are.fit in let small = are.few in client_begins p q limits.slots limits.requests ts fit.0 small.0 (λ n. (are.alternating n).0)
+
+  others_begin : AllBegin p (later_programs p q clients calls opens) (later_seats clients (length opens))
+  others_begin = let fit = are.fit in let small = are.few in later_begin p q limits.slots limits.requests clients calls opens fit.1 small.1 (λ n. (are.alternating n).1) inside
+
+  abbrev first_view : View
+  first_view = newcomer p (without_passes (links_of_all (later_seats clients (length opens))) (below p.links)) (511 - length (later_seats clients (length opens)))
+
+  seats_sound : (i : ℕ) (seat : SeatState) (v : View) → get_elem? (map at_first (client_from (sizes_of p q) [] ts ∷ later_programs p q clients calls opens)) i ≡ some seat → get_elem? (opening_views p (ts ∷ later_seats clients (length opens))) i ≡ some v → SoundSeat p seat v
+  seats_sound zero seat v e f = subst (λ s. SoundSeat p s v) (some-injective (at_first (client_from (sizes_of p q) [] ts)) seat e) (subst (SoundSeat p (at_first (client_from (sizes_of p q) [] ts))) (some-injective first_view v f)
+      (seat_begins p limits.requests (client_from (sizes_of p q) [] ts) ts first_begins (without_passes (links_of_all (later_seats clients (length opens))) (below p.links)) (511 - length (later_seats clients (length opens))) (first_has p ts clients (length opens) are)))
+  seats_sound (suc i) seat v e f = begun_at p limits.requests (later_programs p q clients calls opens) (later_seats clients (length opens)) others_begin i seat v e f
+
+  seats_go : (i : ℕ) (x : Program) (v : View) → get_elem? (client_from (sizes_of p q) [] ts ∷ later_programs p q clients calls opens) i ≡ some x → get_elem? (opening_views p (ts ∷ later_seats clients (length opens))) i ≡ some v → GoesOn p v x
+  seats_go zero x v e f = subst (GoesOn p v) (some-injective (client_from (sizes_of p q) [] ts) x e) (subst (λ u. GoesOn p u (client_from (sizes_of p q) [] ts)) (some-injective first_view v f)
+      (first_begins (without_passes (links_of_all (later_seats clients (length opens))) (below p.links)) (511 - length (later_seats clients (length opens))) (first_has p ts clients (length opens) are)))
+  seats_go (suc i) x v e f = goes_at p (later_programs p q clients calls opens) (later_seats clients (length opens)) others_begin i x v e f
+
+-- each seat is allowed its program
+pub opens_goes : (p : Plan) (q : IdPlan) (clients : List (List Task)) (calls opens : List ℕ) → AreTasks p clients → IsWithinLimits p → AllByRecursion (λ o. o < p.operations) opens → (i : ℕ) (x : Program) (v : View)
+    → get_elem? (all_programs (programs (sizes_of p q) clients) (readers_from calls 0 opens)) i ≡ some x → get_elem? (opening_views p (all_seats clients (length opens))) i ≡ some v → GoesOn p v x
+opens_goes p q [] calls opens are limits inside i x v e f = let z = are.some_ in absurd (omega (arith, z))
+opens_goes p q (ts ∷ clients) calls opens are limits inside i x v e f = seats_go p q ts clients calls opens are limits inside i x v e f
+
+-- and the rule holds
 pub opens_sound : (p : Plan) (q : IdPlan) (clients : List (List Task)) (calls opens : List ℕ) → AreTasks p clients → IsWithinLimits p → PlanFits p → length (all_seats clients (length opens)) ≤ 512 → AllByRecursion (λ o. o < p.operations) opens
     → Sound p (begun_core p q clients calls opens) (opening_views p (all_seats clients (length opens)))
 opens_sound p q [] calls opens are limits fits few inside = let z = are.some_ in absurd (omega (arith, z))
-opens_sound p q (ts ∷ clients) calls opens are limits fits few inside =
-    let slots : p.slots ≤ 256 = limits.slots in let requests : p.requests ≤ 4096 = limits.requests in
-    let fit = are.fit in let small = are.few in
-    let later : List (List Task) = later_seats clients (length opens) in
-    let same : links_of_all later ≡ links_of_all clients = links_more clients (replicate (32 - suc (length clients)) [] ++ replicate (length opens) []) (no_links (32 - suc (length clients)) (length opens)) in
-    let begin : AllBegin p (later_programs p q clients calls opens) later = later_begin p q slots requests clients calls opens fit.1 small.1 (λ n. (are.alternating n).1) inside in
-    let all : (k : ℕ) → total (only k) (links_of ts) + total (only k) (links_of_all clients) ≤ total (only k) (below p.links) = λ k. omega (arith, enough p (ts ∷ clients) are k, total-append (only k) (links_of ts) (links_of_all clients)) in
-    let has : (k : ℕ) → total (only k) (links_of_all later) ≤ total (only k) (below p.links) = λ k. subst (λ ks. total (only k) ks ≤ total (only k) (below p.links)) (sym same) (omega (arith, all k)) in
-    let more : ℕ = 511 - length later in let ps : List ℕ = without_passes (links_of_all later) (below p.links) in
-    let first : SoundSeat p (at_first (client_from (sizes_of p q) [] ts)) (newcomer p ps more) = seat_begins p requests (client_from (sizes_of p q) [] ts) ts (client_begins p q slots requests ts fit.0 small.0 (λ n. (are.alternating n).0)) ps more
-        (λ k. omega (arith, all k, total_without (links_of_all later) (below p.links) has k, ap (total (only k)) same)) in record {
-      limits = limits;
-      lawful = spread p (below p.links) 511 [] later has (omega (arith, few)) (opening_law (λ home. home) p (opening_words p) (opening_homes p) (unused p) fits (limits.first)
-          (λ r rl. beyond p (request_word p r) (omega arith)) (λ l ll. beyond p (place_word p l) (omega arith)) (at_home p));
-      each = ap suc (length-map later (client_view p) ∙ sym (length-map (later_programs p q clients calls opens) at_first ∙ begin_length p (later_programs p q clients calls opens) later begin));
-      homes = length_homes p;
-      labels = λ i heading bytes e. absurd (no_message p i heading bytes e);
-      waiting = λ i. subst (AllByRecursion FitsRetry) (sym (none_wait q.seats i)) tt;
-      seats = seats_at requests first begin;
-    }
-  where
-    seats_at : p.requests ≤ 4096 → SoundSeat p (at_first (client_from (sizes_of p q) [] ts)) (newcomer p (without_passes (links_of_all (later_seats clients (length opens))) (below p.links)) (511 - length (later_seats clients (length opens))))
-        → AllBegin p (later_programs p q clients calls opens) (later_seats clients (length opens))
-        → (i : ℕ) (seat : SeatState) (v : View) → get_elem? (at_first (client_from (sizes_of p q) [] ts) ∷ map at_first (later_programs p q clients calls opens)) i ≡ some seat → get_elem? (opening_views p (ts ∷ later_seats clients (length opens))) i ≡ some v → SoundSeat p seat v
-    seats_at requests first begin zero seat v e f = subst (λ s. SoundSeat p s v) (some-injective (at_first (client_from (sizes_of p q) [] ts)) seat e)
-        (subst (SoundSeat p (at_first (client_from (sizes_of p q) [] ts))) (some-injective (newcomer p (without_passes (links_of_all (later_seats clients (length opens))) (below p.links)) (511 - length (later_seats clients (length opens)))) v f) first)
-    seats_at requests first begin (suc i) seat v e f = begun_at p requests (later_programs p q clients calls opens) (later_seats clients (length opens)) begin i seat v e f
+opens_sound p q (ts ∷ clients) calls opens are limits fits few inside = let later : List (List Task) = later_seats clients (length opens) in record {
+  limits = limits;
+  lawful = spread p (below p.links) 511 [] later (later_has p ts clients (length opens) are) (omega (arith, few)) (opening_law (λ home. home) p (opening_words p) (opening_homes p) (unused p) fits (limits.first)
+      (λ r rl. beyond p (request_word p r) (omega arith)) (λ l ll. beyond p (place_word p l) (omega arith)) (at_home p));
+  each = ap suc (length-map later (client_view p) ∙ sym (length-map (later_programs p q clients calls opens) at_first ∙ begin_length p (later_programs p q clients calls opens) later (others_begin p q ts clients calls opens are limits inside)));
+  homes = length_homes p;
+  labels = λ i heading bytes e. absurd (no_message p i heading bytes e);
+  waiting = λ i. subst (AllByRecursion FitsRetry) (sym (none_wait q.seats i)) tt;
+  seats = seats_sound p q ts clients calls opens are limits inside;
+}
 
 -- ## The ending begins
 
@@ -214,7 +245,7 @@ first_there [] a b e = absurd (some-ne-none b (sym e))
 first_there (x ∷ xs) a b e = (x, refl)
 
 -- the ending has no retry, and its first step comes at once
-ending_resolved : (w : List Retry) (os : List ℕ) → (next_step (resolved w (ending_of os)) ≡ ending_of os) × (still_waiting w (ending_of os) ≡ w)
+pub ending_resolved : (w : List Retry) (os : List ℕ) → (next_step (resolved w (ending_of os)) ≡ ending_of os) × (still_waiting w (ending_of os) ≡ w)
 ending_resolved w [] = (refl, refl)
 ending_resolved w (o ∷ os) = (refl, refl)
 
