@@ -38,3 +38,5 @@ pub mod ThroughCalls
 pub mod Recorded
 pub mod Closing
 pub mod Opening
+pub mod Quiets
+pub mod Whole
