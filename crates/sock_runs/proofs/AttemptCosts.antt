@@ -1,5 +1,5 @@
 -- What an attempt of a call costs, and a retry that waited.
-use Rattle.std.proofs.Common.{◌≡◌, ℕ, zero, suc, ◌+◌, ◌-◌, ◌*◌, ◌/◌, ◌≤◌, ◌==◌, ◌%◌, ◌&&◌, Bool, true, false, List, length, arith, cond, nat_le, nat_lt, None}
+use Rattle.std.proofs.Common.{ℕ, zero, suc, ◌+◌, ◌-◌, ◌/◌, ◌≤◌, ◌==◌, ◌%◌, ◌&&◌, Bool, true, false, List, length, arith, cond, nat_le, nat_lt}
 use Rattle.sock_words.specs.declared.plain.Plan.{Plan}
 use Rattle.sock_words.specs.Words.{socket_id_version, socket_id_slot, vref_version, vref_nref, at_word}
 use Rattle.sock_model.specs.declared.chain.Heading.{Heading}
@@ -8,15 +8,14 @@ use Rattle.sock_model.specs.Entries.{ticket_of}
 use Rattle.sock_model.specs.Memory.{IDLE}
 use Rattle.sock_programs.specs.declared.task.Asked.{Asked}
 use Rattle.sock_programs.specs.Calls.{AddRef, SubRef, Recycle, FreeSlot, LoadLink, LoadName, TakeLink, FinishLink, PutLink, LookWord, FindLink, ClaimRequest, PutMessage, Unconnect, SwapHead, Connect}
-use Rattle.sock_programs.specs.Asides.{StoreAt, PutCall, id_slot, id_first}
+use Rattle.sock_programs.specs.Asides.{StoreAt, id_slot, id_first}
 use Rattle.sock_programs.specs.Heads.{Unlocks, Unlocking, IsOpen, HasNext, Deciding, HasEnded, Locking, NotThere, Has}
 use Rattle.sock_programs.specs.Heads as heads
-use Rattle.sock_programs.specs.Programs.{Program, Do, Aside, Round, LAST_VERSION, recycle, release, address}
+use Rattle.sock_programs.specs.Programs.{Program, Do, Aside, LAST_VERSION, recycle, release, address}
 use Rattle.sock_programs.specs.Posts.{post, decided}
 use Rattle.sock_programs.specs.Sends.{write_link, accept}
 use Rattle.sock_programs.specs.Attempts.{claims_from, name_of, frame_of, heading_for, attempt, tried_again, retry_locked, retry}
 use Rattle.sock_programs.specs.Told.{AskedFits}
-use Rattle.sock_runs.specs.Fits.{FitsUnlocking, FitsLocking}
 use Rattle.sock_runs.specs.Rows.{row, link_away}
 use Rattle.sock_runs.specs.Lasts.{LastsFor, STALE, CHANGE, ERROR, POST, weight, attempt_cost, unlocking_gain}
 use Rattle.sock_runs.proofs.IdCosts.{lasts_more, post_lasts, decide_lasts}

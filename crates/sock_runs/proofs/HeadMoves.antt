@@ -1,5 +1,5 @@
 -- Each tick that moves leaves fewer: at the heads of the loops aside of the sockets, and of any seat.
-use Rattle.std.proofs.Common.{◌≡◌, ◌≢◌, ℕ, zero, suc, ◌+◌, ◌-◌, ◌*◌, ◌<◌, ◌≤◌, ◌⊎◌, Bool, true, false, not, ◌&&◌, List, [], ◌∷◌, length, refl, sym, ap, ◌∙◌, subst, inl, inr, arith, cond, eqb, leb, Some, None}
+use Rattle.std.proofs.Common.{◌≡◌, ◌≢◌, ℕ, ◌+◌, ◌<◌, ◌≤◌, ◌⊎◌, Bool, true, false, not, ◌&&◌, List, [], ◌∷◌, length, refl, sym, ap, ◌∙◌, subst, inl, inr, arith, cond, eqb, leb, Some, None}
 use Rattle.std.proofs.lemmas.Bool.{true≢false}
 use Rattle.std.specs.Prelude as std
 use Rattle.std.specs.Prelude.{slice_index}
@@ -18,19 +18,18 @@ use Rattle.id_rule.specs.Lawful.{id_word}
 use Rattle.sock_programs.specs.declared.task.Asked.{Asked}
 use Rattle.sock_programs.specs.Calls.{LoadOpen}
 use Rattle.sock_programs.specs.Asides.{Step, Found, ClaimId, PutCall, MakeId, StoreCall, LoadCall, StoreAt, LoadAt, LoadIdWord, LockId, PostId, UnlockId, EndId, FreeId, TakeCall, TakeBytes, Taking, Bytes, Nothing, NoMore, AtEnd, Closed, Broken, id_slot, id_first}
-use Rattle.sock_programs.specs.Heads.{Head, Exit, Retry, Sought, Reading, Posts, Unlocks, Decides, Locks, Joins, Opens, Reads, Discards, Posting, WasQueued, HasLocked, Unlocking, Deciding, HasEnded, Locking, Has, Ended}
+use Rattle.sock_programs.specs.Heads.{Head, Exit, Sought, Reading, Posts, Unlocks, Decides, Locks, Joins, Opens, Reads, Discards, Posting, WasQueued, HasLocked, Unlocking, Deciding, HasEnded, Locking, Has, Ended}
 use Rattle.sock_programs.specs.Beside.{found_in, at_last, taking_in}
-use Rattle.sock_programs.specs.Posts.{packed, judged, popped, locking, advance_of, ends_call, end_id, unlocked, posts_round, unlocks_round, decides_round, locks_round, joins_round, is_sought, is_first}
+use Rattle.sock_programs.specs.Posts.{packed, judged, popped, locking, advance_of, ends_call, end_id, unlocked, is_sought, is_first}
 use Rattle.sock_programs.specs.Readers.{took, discarded, room_of}
-use Rattle.sock_programs.specs.Rounds.{round}
 use Rattle.sock_programs.specs.Programs.{Program, Do, Say, Sent, Rest, TakeMessage, TakeHome, PutHome, PutBytes, AskReady, Write, Aside, Round, Keep, Retries}
-use Rattle.sock_programs.specs.Cores.{Core, SeatState, word_of, found_at}
-use Rattle.sock_programs.specs.Ticks.{Answer, OfReady, OfTake, Moment, FitsTake, IsTaken, IsAnswer, IsAnswered, IsPrompt, taken, with_found, step_with, tick_with, ticked, is_nothing, waits_in, waits_at, waits}
+use Rattle.sock_programs.specs.Cores.{Core, SeatState}
+use Rattle.sock_programs.specs.Ticks.{Answer, OfReady, OfTake, Moment, FitsTake, IsTaken, IsAnswer, IsAnswered, IsPrompt, taken, with_found, step_with, tick_with, ticked, is_nothing, waits_at, waits}
 use Rattle.sock_programs.specs.Runs.{kind_in, IsAtRest}
 use Rattle.sock_runs.specs.Rows.{row, hand_at}
 use Rattle.sock_runs.specs.GoesOn.{GoesOn}
 use Rattle.sock_runs.specs.Sound.{Sound, FitsBeside, IsFitting, first_step, views_with, views_of, views_after}
-use Rattle.sock_runs.specs.Lasts.{STALE, accepted, walk_left, expects, arriving, stale_cost, LastsFor, Lasts, IsCountedStep, IsCountedAt, IsCounted}
+use Rattle.sock_runs.specs.Lasts.{STALE, accepted, expects, arriving, stale_cost, LastsFor, Lasts, IsCountedStep, IsCountedAt, IsCounted}
 use Rattle.sock_runs.proofs.Allowed.{view_there}
 use Rattle.sock_runs.proofs.Cases.{beside}
 use Rattle.sock_runs.proofs.LinkTicks.{RetriesGo}

@@ -1,19 +1,19 @@
 -- What a round of a loop on ids costs: its first step falls by more than it costs, whatever it finds, but where it waits.
-use Rattle.std.proofs.Common.{◌≡◌, ℕ, zero, suc, ◌+◌, ◌-◌, ◌*◌, ◌≤◌, Bool, true, false, not, ◌&&◌, List, refl, sym, ap, ap₂, ◌∙◌, subst, arith, cond, eqb, eq-eqb, eqb-true, leb, Some, None}
+use Rattle.std.proofs.Common.{◌≡◌, ℕ, ◌+◌, ◌≤◌, Bool, true, false, not, ◌&&◌, refl, ap₂, arith, cond, eqb, eq-eqb, eqb-true, leb, Some, None}
 use Rattle.std.proofs.lemmas.Bool.{true≢false}
 use Rattle.std.specs.Prelude as std
 use Rattle.sock_words.specs.declared.plain.Plan.{Plan}
 use Rattle.sock_model.specs.declared.view.View.{View}
-use Rattle.corr_core.specs.Word.{Parts, parts, code_of, attempt_of, error_of, posted_word, unlocked_word}
+use Rattle.corr_core.specs.Word.{parts, code_of, error_of, posted_word, unlocked_word}
 use Rattle.corr_core.specs.Law.{LAST}
 use Rattle.sock_programs.specs.declared.task.Asked.{Asked}
-use Rattle.sock_programs.specs.Asides.{Step, Found, LoadIdWord, LockId, PostId, UnlockId, EndId, FreeId, PutCall, TakeCall, id_slot, id_first}
+use Rattle.sock_programs.specs.Asides.{Step, Found, LoadIdWord, LockId, PostId, UnlockId, FreeId, PutCall, id_slot, id_first}
 use Rattle.sock_programs.specs.Heads.{Head, Exit, Retry, Sought, Posts, Unlocks, Decides, Locks, Joins, Opens, Posting, WasGone, WasStale, WasCrowded, WasQueued, HasLocked, Unlocking, IsOpen, HasNext, Deciding, HasEnded, Locking, NotThere, Has}
 use Rattle.sock_programs.specs.Heads as heads
 use Rattle.sock_programs.specs.Programs.{Program, Do, Say, Sent, Rest, TakeMessage, TakeHome, PutHome, PutBytes, AskReady, Write, Aside, Round, Keep, Retries}
-use Rattle.sock_programs.specs.Posts.{packed, advance_of, is_first, is_sought, is_stale, is_full, judged, posts_round, post_with, posted, post, popped, unlocks_round, ends_call, end_id, decide, unlocked, decides_round, decided, locking, locks_round, joins_round}
-use Rattle.sock_runs.specs.Fits.{FitsWord, FitsMore, FitsTaken, FitsPosting, FitsUnlocking, FitsLocking, FitsExit}
-use Rattle.sock_runs.specs.Lasts.{LastsFor, fresh, fresh_at, left_word, STALE, CHANGE, DECISION, ERROR, POST, attempt_cost, advance_gain, popped_gain, aside_cost, aside_gain, unlocking_gain}
+use Rattle.sock_programs.specs.Posts.{packed, advance_of, is_first, is_sought, is_stale, is_full, judged, posted, post, popped, ends_call, end_id, decide, unlocked, decides_round, decided, locking}
+use Rattle.sock_runs.specs.Fits.{FitsWord, FitsPosting, FitsUnlocking, FitsLocking}
+use Rattle.sock_runs.specs.Lasts.{LastsFor, fresh, fresh_at, left_word, STALE, CHANGE, DECISION, ERROR, POST, attempt_cost, advance_gain, aside_cost, aside_gain, unlocking_gain}
 
 -- who has at most so many steps left has at most more
 pub lasts_more : (p : Plan) (v : View) (program : Program) (m n : ℕ) → m ≤ n → LastsFor p v program m → LastsFor p v program n

@@ -1,14 +1,13 @@
 -- What is counted for ids falls by what a step on an id word gains, and rises by what it costs at most.
-use Rattle.std.proofs.Common.{◌≡◌, ◌≢◌, ℕ, zero, suc, ◌+◌, ◌-◌, ◌*◌, ◌<◌, ◌≤◌, Bool, true, false, List, [], ◌∷◌, length, set, refl, sym, ap, ap₂, ◌∙◌, subst, arith, cond, eqb, eq-eqb, eqb-true, get_or-set_same, get_or-set_other}
+use Rattle.std.proofs.Common.{◌≡◌, ◌≢◌, ℕ, zero, suc, ◌+◌, ◌-◌, ◌*◌, ◌<◌, ◌≤◌, Bool, true, false, List, [], ◌∷◌, length, set, refl, sym, ap, ap₂, ◌∙◌, subst, arith, cond, eqb, eqb-true, get_or-set_same, get_or-set_other}
 use mathlib.Core.Logic.{dite}
 use native.Mathlib.Decide.{ℕ_discrete}
 use Rattle.std.specs.Prelude.{slice_index, Some}
-use lib.ListN.{get_or}
 use Rattle.sock_model.specs.Weights.{total}
 use Rattle.corr_core.specs.Word.{Parts, parts, made_word, locked_word, posted_word, unlocked_word, free_word}
 use Rattle.id_rule.specs.Lawful.{id_word}
 use Rattle.sock_programs.specs.Asides.{id_slot}
-use Rattle.sock_programs.specs.Heads.{Head, Exit, Posts, Unlocks, Locks}
+use Rattle.sock_programs.specs.Heads.{Head, Posts, Unlocks, Locks}
 use Rattle.sock_programs.specs.Programs.{Program, Round}
 use Rattle.sock_programs.specs.Cores.{SeatState}
 use Rattle.sock_runs.specs.Lasts.{STALE, ERROR, attempt_cost, expected, expects, stale_cost, queued_errors, id_left, ids_left}

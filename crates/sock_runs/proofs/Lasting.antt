@@ -13,7 +13,6 @@ use Rattle.sock_words.specs.declared.plain.Plan.{Plan}
 use Rattle.sock_io.specs.declared.link.Put.{Put}
 use Rattle.sock_io.specs.declared.link.Ready.{Ready}
 use Rattle.sock_io.specs.declared.link.Ready.TheVariants.{NotYet}
-use Rattle.sock_words.specs.declared.kind.Kind.{Kind}
 use Rattle.sock_model.specs.declared.chain.Entry.{Entry}
 use Rattle.sock_model.specs.declared.chain.Heading.{Heading}
 use Rattle.sock_model.specs.declared.chain.Right.{Right}
@@ -33,7 +32,6 @@ use Rattle.slot_laws.proofs.Numbers.{only-same}
 use Rattle.chain_laws.proofs.Few.{few_rights}
 use Rattle.sock_steps.proofs.Maps.{set_at}
 use Rattle.sock_runs.proofs.Along.{place_inside}
-use Rattle.sock_runs.proofs.Allowed.{view_there}
 use Rattle.sock_steps.proofs.AcceptSteps.{link_in, idle_home}
 use Rattle.sock_steps.proofs.Walked.{walk_less, turn_less, accepted_count}
 use Rattle.sock_programs.specs.Writings.{Holder, Writing, Puts, Waits, Empties, Walks}
@@ -45,12 +43,12 @@ use Rattle.corr_core.specs.Word.{parts}
 use Rattle.corr_core.specs.declared.marks.Plan.{Plan as IdPlan}
 use Rattle.id_rule.specs.Lawful.{id_word}
 use Rattle.sock_programs.specs.Cores.{Calls, Core, SeatState, resolved, still_waiting, waiting_at, word_of, word_after, found_at, words_after, homes_after, hand_after, lies_at, first_of, others_of, link_place, with_seat, next_step, stepped}
-use Rattle.sock_programs.specs.Ticks.{Answer, OfReady, Moment, FitsPut, IsAnswer, IsAnswered, IsPrompt, fed, with_places, onto_first, with_message, with_link, step_with, tick_with, ticked, waits_at, waits}
-use Rattle.sock_programs.specs.Runs.{kind_in, IsAtRest}
+use Rattle.sock_programs.specs.Ticks.{Answer, OfReady, FitsPut, IsAnswer, fed, with_places, onto_first, with_message, with_link, step_with, tick_with, waits_at, waits}
+use Rattle.sock_programs.specs.Runs.{kind_in}
 use Rattle.sock_runs.specs.Rows.{row, hand_at, as_hand, by_claim, exchanged, took_message, link_away, link_home_again, took_bytes}
 use Rattle.sock_runs.specs.May.{May, Finds}
 use Rattle.sock_runs.specs.GoesOn.{GoesOn}
-use Rattle.sock_runs.specs.Sound.{state, Sound, IsAhead, views_with_message, views_with_link, views_with, views_of, views_after}
+use Rattle.sock_runs.specs.Sound.{state, Sound, views_with_message, views_with_link, views_with, views_of}
 use Rattle.sock_runs.specs.Lasts.{STALE, CHANGE, home_weight, accepted, walk_left, expects, arriving, stale_cost, fresh, id_left, ids_left, LastsFor, Lasts}
 use Rattle.sock_runs.proofs.Founds.{finds}
 use Rattle.sock_runs.proofs.ChainTicks.{held_link_is, has_one}
@@ -58,7 +56,7 @@ use Rattle.sock_runs.proofs.Leaves.{is_exchange}
 use Rattle.sock_runs.proofs.LinkTicks.{RetriesGo, message_there}
 use Rattle.sock_steps.proofs.LinkSteps.{link_home_law}
 use Rattle.sock_runs.proofs.Rounds.{begins_round}
-use Rattle.sock_runs.proofs.Cases.{beside, answer_begins}
+use Rattle.sock_runs.proofs.Cases.{answer_begins}
 use Rattle.sock_runs.proofs.Costs.{lasts_round, lasts_walk}
 use Rattle.sock_runs.proofs.SeatCosts.{IsThere, waiting_left, waiting_set, settled}
 use Rattle.sock_runs.proofs.IdsLeft.{all_stale}

@@ -39,3 +39,5 @@ pub mod ThroughCalls
 pub mod Recorded
 pub mod Closing
 pub mod Opening
+pub mod Quiets
+pub mod Whole

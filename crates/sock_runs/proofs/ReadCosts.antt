@@ -1,5 +1,5 @@
 -- What a reading costs: each byte pays for the steps that it may make, and each whole frame for those of its response.
-use Rattle.std.proofs.Common.{◌≡◌, ◌≢◌, ℕ, zero, suc, ◌+◌, ◌-◌, ◌*◌, ◌<◌, ◌≤◌, Bool, true, false, not, ◌&&◌, List, [], ◌∷◌, ◌++◌, length, length-append, length-drop, drop, refl, sym, ap, ◌∙◌, subst, arith, cond, nat_lt, None}
+use Rattle.std.proofs.Common.{◌≡◌, ◌≢◌, ℕ, zero, suc, ◌+◌, ◌-◌, ◌*◌, ◌<◌, ◌≤◌, Bool, true, false, ◌&&◌, List, [], ◌∷◌, ◌++◌, length, length-append, length-drop, drop, refl, arith, cond, nat_lt, None}
 use Rattle.sock_words.specs.declared.plain.Plan.{Plan}
 use Rattle.sock_model.specs.declared.view.View.{View}
 use Rattle.brpc_model.specs.Frame.{Frame, Judged, NoneYet, Faulty, Begins, judged}
@@ -7,10 +7,10 @@ use Rattle.brpc_model.specs.Stream as streams
 use Rattle.corr_core.specs.Word.{parts}
 use Rattle.sock_programs.specs.Asides.{TakeBytes, Taking, Bytes, Nothing, NoMore, AtEnd, Closed, Broken, call_id}
 use Rattle.sock_programs.specs.Heads.{Version, Reading, Locks, Reads, Discards, Locking, NotThere, Has, Ended}
-use Rattle.sock_programs.specs.Programs.{Program, Say, Aside, Round}
+use Rattle.sock_programs.specs.Programs.{Program, Say, Round}
 use Rattle.sock_programs.specs.Readers.{LIMIT, answer, answered, responses, read_on, took, took_bytes, last_of, ended_by, room_of, discarded, slot_in, version_in, has_response, ending_of, is_early}
 use Rattle.sock_programs.specs.Ticks.{FitsTake}
-use Rattle.sock_runs.specs.Fits.{FitsEnded, FitsLocking}
+use Rattle.sock_runs.specs.Fits.{FitsEnded}
 use Rattle.sock_runs.specs.Lasts.{LastsFor, CHANGE, FRAME}
 use Rattle.sock_runs.proofs.IdCosts.{lasts_more, end_lasts, Falls}
 

@@ -1,17 +1,17 @@
 -- The number of a seat that goes on: with the retries that wait at it, and with what it paid for a word that it expects.
-use Rattle.std.proofs.Common.{◌≡◌, ℕ, zero, suc, ◌+◌, ◌-◌, ◌*◌, ◌<◌, ◌≤◌, Bool, true, false, ◌&&◌, List, [], ◌∷◌, ◌++◌, length, length-append, set, refl, sym, ap, ◌∙◌, subst, arith, cond, eqb, eq-eqb, eqb-true, Some, None}
+use Rattle.std.proofs.Common.{◌≡◌, ℕ, zero, suc, ◌+◌, ◌-◌, ◌*◌, ◌≤◌, Bool, true, false, ◌&&◌, List, [], ◌∷◌, ◌++◌, length, length-append, set, refl, sym, ap, ◌∙◌, subst, arith, cond, eqb, eq-eqb, eqb-true, Some, None}
 use Rattle.std.specs.Prelude.{slice_index, slice_index_or}
 use Rattle.std.specs.Prelude as std
 use Rattle.sock_words.specs.declared.plain.Plan.{Plan}
 use Rattle.sock_model.specs.declared.view.View.{View}
 use Rattle.sock_model.specs.Weights.{total}
 use Rattle.id_rule.specs.Lawful.{id_word}
-use Rattle.sock_programs.specs.Heads.{Head, Exit, Retry, Posts, Unlocks, Decides, Locks, Joins, Opens, Reads, Discards}
+use Rattle.sock_programs.specs.Heads.{Head, Exit, Retry, Posts, Unlocks, Locks}
 use Rattle.sock_programs.specs.Programs.{Program, Do, Say, Sent, Rest, TakeMessage, TakeHome, PutHome, PutBytes, AskReady, Write, Aside, Round, Keep, Retries}
 use Rattle.sock_programs.specs.Attempts.{retry}
 use Rattle.sock_programs.specs.Cores.{resolved, still_waiting, next_step}
 use Rattle.sock_runs.specs.GoesOn.{GoesOn}
-use Rattle.sock_runs.specs.Lasts.{LastsFor, STALE, CHANGE, attempt_cost, expects, expected, arriving, stale_cost, fresh, fresh_at}
+use Rattle.sock_runs.specs.Lasts.{LastsFor, STALE, attempt_cost, expects, arriving, stale_cost, fresh, fresh_at}
 use Rattle.sock_runs.proofs.IdCosts.{lasts_more}
 use Rattle.sock_runs.proofs.AttemptCosts.{retry_lasts}
 use Rattle.sock_runs.proofs.Passes.{and_left, and_right}
