@@ -7,74 +7,95 @@ use Rattle.brpc_model.specs.Items.{Item}
 use Rattle.brpc_model.specs.Operations.{Turn}
 use Rattle.sock_programs.specs.Tasks.{opens, calls, plan_of, id_plan_of}
 use Rattle.sock_programs.specs.Cores.{Core}
-use Rattle.sock_programs.specs.Ticks.{quiet, run}
+use Rattle.sock_programs.specs.Ticks.{Moment, AreAnswered, quiet, run}
 use Rattle.sock_programs.specs.Runs.{IsAtRest}
 use Rattle.sock_programs.specs.Scripts.{sizes_of, programs, readers_from, all_programs, all_tasks, opened, set_up, played, ending, is_ending, IsRunWithCalls}
 use Rattle.sock_runs.specs.Sound.{IsAhead, views_along}
-use Rattle.sock_runs.proofs.Along.{run_ahead, beginning_ahead, seat_ahead}
+use Rattle.sock_runs.proofs.Along.{run_ahead, beginning_ahead}
 use Rattle.sock_runs.proofs.Unasked.{quiet_answered}
-use Rattle.sock_runs.proofs.Resting.{rest_along}
+use Rattle.sock_runs.proofs.Quiets.{run_rests}
+use Rattle.sock_runs.proofs.Whole.{closing_of, views_played, views_closed, views_ended, AreFittingIn, Begins}
 use Rattle.client_laws.specs.Openings.{opening_views, all_seats}
-use Rattle.joint_runs.proofs.Both.{BothSound, AreBoth, joint_along, behind_both}
+use Rattle.client_laws.proofs.Fresh.{opening_blank}
+use Rattle.client_laws.proofs.Opens.{ending_sound}
+use Rattle.joint_runs.proofs.Both.{BothSound, AreBoth, joint_along, behind_both, are_fitting}
 use Rattle.joint_runs.proofs.Starts.{AreFor, opens_both, ending_both, told_both}
 
 -- the tables of a script are made for it
 abbrev pub AreMade : List Item → Type 0
 AreMade script = AreFor (plan_of script) (id_plan_of script) (all_tasks script) (calls script) (opens script)
 
-module _ (script : List Item) {turns : List Turn} {end_ : Core} (r : IsRunWithCalls script turns end_) where
-  -- the views as the run begins, behind the setup, where the ending begins, and behind it
-  abbrev pub first : List View
-  first = opening_views (plan_of script) (all_seats (all_tasks script) (length (opens script)))
+-- the views as a run of the script begins
+abbrev pub first_views : List Item → List View
+first_views script = opening_views (plan_of script) (all_seats (all_tasks script) (length (opens script)))
 
-  abbrev pub behind_setup : List View
-  behind_setup = views_along (plan_of script) (opened script) first (replicate r.setup (quiet 0))
+pub begins : (script : List Item) → AreMade script → Begins script (first_views script)
+begins script made = record {
+  sound = (opens_both (plan_of script) (id_plan_of script) (all_tasks script) (calls script) (opens script) made).sockets;
+  blank = opening_blank (plan_of script) (all_seats (all_tasks script) (length (opens script)));
+  ends = λ c ws sound ahead idle. ending_sound (plan_of script) c ws (opens script) made.opens_in ahead idle sound;
+}
 
-  abbrev pub behind_clients : List View
-  behind_clients = views_along (plan_of script) (set_up script r.setup) behind_setup (r.scheduled ++ r.later)
-
-  abbrev pub behind_ending : List View
-  behind_ending = views_along (plan_of script) (ending script (played script r.setup (r.scheduled ++ r.later))) behind_clients (replicate r.last (quiet 0))
-
-  -- of each part of the run
+module _ (script : List Item) (turns : List Turn) (end_ : Core) (r : IsRunWithCalls script turns end_) where
+  -- the setup, the clients and readers up to the ending, the ending, and what follows it
   pub record IsSoundRun : Type 0 where
-    pub setup : AreBoth (plan_of script) (id_plan_of script) (opened script) first (replicate r.setup (quiet 0))
-    pub clients : AreBoth (plan_of script) (id_plan_of script) (set_up script r.setup) behind_setup (r.scheduled ++ r.later)
-    pub ending_ : AreBoth (plan_of script) (id_plan_of script) (ending script (played script r.setup (r.scheduled ++ r.later))) behind_clients (replicate r.last (quiet 0))
-    pub final : AreBoth (plan_of script) (id_plan_of script) r.ended behind_ending r.final
+    pub setup : AreBoth (plan_of script) (id_plan_of script) (opened script) (first_views script) (replicate r.setup (quiet 0))
+    pub clients : AreBoth (plan_of script) (id_plan_of script) (set_up script r.setup) (views_along (plan_of script) (opened script) (first_views script) (replicate r.setup (quiet 0))) (r.scheduled ++ r.later)
+    pub closing : AreBoth (plan_of script) (id_plan_of script) (closing_of script turns end_ r) (views_played script turns end_ r (first_views script)) (replicate r.last (quiet 0))
+    pub final : AreBoth (plan_of script) (id_plan_of script) r.ended (views_closed script turns end_ r (first_views script)) r.final
+    pub over : BothSound (plan_of script) (id_plan_of script) end_ (views_ended script turns end_ r (first_views script))
 
-  -- no seat has an outcome to say before its next step
-  setup_ahead : IsAhead (set_up script r.setup)
-  setup_ahead = run_ahead (plan_of script) (opened script) (replicate r.setup (quiet 0))
-      (beginning_ahead (plan_of script) (id_plan_of script) (all_programs (programs (sizes_of (plan_of script) (id_plan_of script)) (all_tasks script)) (readers_from (calls script) 0 (opens script))))
-
-  clients_ahead : IsAhead (played script r.setup (r.scheduled ++ r.later))
-  clients_ahead = run_ahead (plan_of script) (set_up script r.setup) (r.scheduled ++ r.later) setup_ahead
+  pub are_fitting_in : IsSoundRun → AreFittingIn script turns end_ r
+  are_fitting_in s = record {
+    of_setup = are_fitting (plan_of script) (id_plan_of script) (opened script) (first_views script) (replicate r.setup (quiet 0)) s.setup;
+    of_played = are_fitting (plan_of script) (id_plan_of script) (set_up script r.setup) (views_along (plan_of script) (opened script) (first_views script) (replicate r.setup (quiet 0))) (r.scheduled ++ r.later) s.clients;
+    of_closing = are_fitting (plan_of script) (id_plan_of script) (closing_of script turns end_ r) (views_played script turns end_ r (first_views script)) (replicate r.last (quiet 0)) s.closing;
+    of_final = are_fitting (plan_of script) (id_plan_of script) r.ended (views_closed script turns end_ r (first_views script)) r.final s.final;
+  }
 
   module _ (made : AreMade script) where
-    setup_both : AreBoth (plan_of script) (id_plan_of script) (opened script) first (replicate r.setup (quiet 0))
-    setup_both = joint_along (plan_of script) (id_plan_of script) made.few_slots made.operations (opened script) first (replicate r.setup (quiet 0)) (opens_both (plan_of script) (id_plan_of script) (all_tasks script) (calls script) (opens script) made)
-        (quiet_answered (plan_of script) (opened script) 0 r.setup r.is_set_up)
+    abbrev Along : Core → List View → List Moment → Type 0
+    Along c vs moments = AreBoth (plan_of script) (id_plan_of script) c vs moments
 
-    clients_both : AreBoth (plan_of script) (id_plan_of script) (set_up script r.setup) behind_setup (r.scheduled ++ r.later)
-    clients_both = joint_along (plan_of script) (id_plan_of script) made.few_slots made.operations (set_up script r.setup) behind_setup (r.scheduled ++ r.later) (behind_both (plan_of script) (id_plan_of script) (opened script) first (replicate r.setup (quiet 0)) setup_both) r.answered
+    along : (c : Core) (vs : List View) (moments : List Moment) → BothSound (plan_of script) (id_plan_of script) c vs → AreAnswered (plan_of script) c moments → Along c vs moments
+    along c vs moments both answered = joint_along (plan_of script) (id_plan_of script) made.few_slots made.operations c vs moments both answered
+
+    behind : (c : Core) (vs : List View) (moments : List Moment) → Along c vs moments → BothSound (plan_of script) (id_plan_of script) (run (plan_of script) c moments) (views_along (plan_of script) c vs moments)
+    behind c vs moments are = behind_both (plan_of script) (id_plan_of script) c vs moments are
+
+    setup_both : Along (opened script) (first_views script) (replicate r.setup (quiet 0))
+    setup_both = along (opened script) (first_views script) (replicate r.setup (quiet 0)) (opens_both (plan_of script) (id_plan_of script) (all_tasks script) (calls script) (opens script) made) (quiet_answered (plan_of script) (opened script) 0 r.setup r.is_set_up)
+
+    clients_both : Along (set_up script r.setup) (views_along (plan_of script) (opened script) (first_views script) (replicate r.setup (quiet 0))) (r.scheduled ++ r.later)
+    clients_both = along (set_up script r.setup) (views_along (plan_of script) (opened script) (first_views script) (replicate r.setup (quiet 0))) (r.scheduled ++ r.later) (behind (opened script) (first_views script) (replicate r.setup (quiet 0)) setup_both) r.answered
+
+    -- no seat has an outcome to say before its next step
+    ahead : IsAhead (played script r.setup (r.scheduled ++ r.later))
+    ahead = run_ahead (plan_of script) (set_up script r.setup) (r.scheduled ++ r.later) (run_ahead (plan_of script) (opened script) (replicate r.setup (quiet 0))
+        (beginning_ahead (plan_of script) (id_plan_of script) (all_programs (programs (sizes_of (plan_of script) (id_plan_of script)) (all_tasks script)) (readers_from (calls script) 0 (opens script)))))
 
     -- seat 0 is at rest behind the setup, and stays so
     idle : IsAtRest (played script r.setup (r.scheduled ++ r.later)) 0
-    idle = rest_along (plan_of script) (set_up script r.setup) (r.scheduled ++ r.later) 0 r.is_set_up
+    idle = run_rests (plan_of script) (set_up script r.setup) (r.scheduled ++ r.later) 0 r.is_set_up
 
-    last_both : AreBoth (plan_of script) (id_plan_of script) (ending script (played script r.setup (r.scheduled ++ r.later))) behind_clients (replicate r.last (quiet 0))
-    last_both = joint_along (plan_of script) (id_plan_of script) made.few_slots made.operations (ending script (played script r.setup (r.scheduled ++ r.later))) behind_clients (replicate r.last (quiet 0))
-        (ending_both (plan_of script) (id_plan_of script) (all_tasks script) (calls script) (opens script) made (played script r.setup (r.scheduled ++ r.later)) behind_clients clients_ahead idle
-        (behind_both (plan_of script) (id_plan_of script) (set_up script r.setup) behind_setup (r.scheduled ++ r.later) clients_both))
-        (quiet_answered (plan_of script) (ending script (played script r.setup (r.scheduled ++ r.later))) 0 r.last (subst (λ d. IsAtRest d 0) r.is_ended r.is_over))
+    closing_both : Along (closing_of script turns end_ r) (views_played script turns end_ r (first_views script)) (replicate r.last (quiet 0))
+    closing_both = along (closing_of script turns end_ r) (views_played script turns end_ r (first_views script)) (replicate r.last (quiet 0))
+        (ending_both (plan_of script) (id_plan_of script) (all_tasks script) (calls script) (opens script) made (played script r.setup (r.scheduled ++ r.later)) (views_played script turns end_ r (first_views script)) ahead idle
+        (behind (set_up script r.setup) (views_along (plan_of script) (opened script) (first_views script) (replicate r.setup (quiet 0))) (r.scheduled ++ r.later) clients_both))
+        (quiet_answered (plan_of script) (closing_of script turns end_ r) 0 r.last (subst (λ d. IsAtRest d 0) r.is_ended r.is_over))
 
-    final_both : AreBoth (plan_of script) (id_plan_of script) r.ended behind_ending r.final
-    final_both = joint_along (plan_of script) (id_plan_of script) made.few_slots made.operations r.ended behind_ending r.final
-        (subst (λ d. BothSound (plan_of script) (id_plan_of script) d behind_ending) (sym r.is_ended)
-        (told_both (plan_of script) (id_plan_of script) (run (plan_of script) (ending script (played script r.setup (r.scheduled ++ r.later))) (replicate r.last (quiet 0))) behind_ending
-        (behind_both (plan_of script) (id_plan_of script) (ending script (played script r.setup (r.scheduled ++ r.later))) behind_clients (replicate r.last (quiet 0)) last_both)))
+    final_both : Along r.ended (views_closed script turns end_ r (first_views script)) r.final
+    final_both = along r.ended (views_closed script turns end_ r (first_views script)) r.final
+        (subst (λ d. BothSound (plan_of script) (id_plan_of script) d (views_closed script turns end_ r (first_views script))) (sym r.is_ended)
+        (told_both (plan_of script) (id_plan_of script) (run (plan_of script) (closing_of script turns end_ r) (replicate r.last (quiet 0))) (views_closed script turns end_ r (first_views script))
+        (behind (closing_of script turns end_ r) (views_played script turns end_ r (first_views script)) (replicate r.last (quiet 0)) closing_both)))
         r.answered_again
 
     pub joint_runs : IsSoundRun
-    joint_runs = record { setup = setup_both; clients = clients_both; ending_ = last_both; final = final_both }
+    joint_runs = record {
+      setup = setup_both;
+      clients = clients_both;
+      closing = closing_both;
+      final = final_both;
+      over = subst (λ d. BothSound (plan_of script) (id_plan_of script) d (views_ended script turns end_ r (first_views script))) (sym r.is_end) (behind r.ended (views_closed script turns end_ r (first_views script)) r.final final_both);
+    }

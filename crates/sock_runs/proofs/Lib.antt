@@ -16,7 +16,6 @@ pub mod Few
 pub mod Allowed
 pub mod Along
 pub mod Unasked
-pub mod Resting
 pub mod Notes
 pub mod Ends
 pub mod WalksLeft
