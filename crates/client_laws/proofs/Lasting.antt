@@ -1,5 +1,5 @@
 -- How many ticks a run of clients and readers has at most, and its ending.
-use Rattle.std.proofs.Common.{None, ◌≡◌, ℕ, zero, suc, ◌+◌, ◌-◌, ◌*◌, ◌<◌, ◌≤◌, eqb, eq-eqb, cond, List, [], ◌∷◌, ◌++◌, length, length-append, length-set, map, set, get_or, replicate, refl, sym, ap, ◌∙◌, subst, arith}
+use Rattle.std.proofs.Common.{None, ◌≡◌, ℕ, zero, suc, ◌+◌, ◌-◌, ◌*◌, ◌<◌, ◌≤◌, eqb, eq-eqb, List, [], ◌∷◌, ◌++◌, length, length-append, length-set, map, set, replicate, refl, sym, ap, ◌∙◌, subst, arith}
 use Rattle.std.proofs.lemmas.Bool.{cond-true}
 use Rattle.std.proofs.lemmas.List.{length-map, length-replicate}
 use Rattle.std.specs.Prelude.{slice_index}
@@ -17,7 +17,6 @@ use Rattle.id_rule.specs.Lawful.{id_word}
 use Rattle.sock_programs.specs.declared.task.Op.{Op}
 use Rattle.sock_programs.specs.declared.task.Op.TheVariants as ops
 use Rattle.sock_programs.specs.declared.task.Task.{Task}
-use Rattle.sock_programs.specs.Heads.{Retry}
 use Rattle.sock_programs.specs.Programs.{Program, Rest}
 use Rattle.sock_programs.specs.Clients.{client_from, ending_of}
 use Rattle.sock_programs.specs.Cores.{Core, SeatState, resolved, still_waiting, waiting_at, next_step, with_seat}
@@ -26,7 +25,7 @@ use Rattle.sock_programs.specs.Told.{OpFits, TaskFits, AreTasks}
 use Rattle.slot_laws.proofs.Sums.{total-append}
 use Rattle.sock_runs.specs.GoesOn.{GoesOn}
 use Rattle.sock_runs.specs.Sound.{IsWithinLimits}
-use Rattle.sock_runs.specs.Lasts.{STALE, weight, attempt_cost, home_weight, accepted, walk_left, expects, arriving, stale_cost, id_left, ids_left, calls_left, LastsFor, Lasts, MOST_TICKS}
+use Rattle.sock_runs.specs.Lasts.{STALE, attempt_cost, home_weight, accepted, walk_left, expects, arriving, stale_cost, id_left, ids_left, calls_left, LastsFor, Lasts, MOST_TICKS}
 use Rattle.sock_runs.proofs.IdCosts.{lasts_more}
 use Rattle.sock_runs.proofs.Costs.{Lasting, lasting_more}
 use Rattle.sock_runs.proofs.WalksLeft.{set_few}
@@ -177,8 +176,14 @@ module _ (p : Plan) (q : IdPlan) (clients : List (List Task)) (calls opens : Lis
   numbers_sum : IsWithinLimits p → q.slots ≤ 4096 → AllByRecursion (AllByRecursion (TaskFits p)) clients → AllByRecursion (λ (ts : List Task). length ts ≤ 4096) clients → length calls ≤ 4096
       → total (λ (k : ℕ). k) first_numbers ≤ 53248000000 * length clients + 4415000000 * length opens
   numbers_sum limits ids fits few some_calls = let gap : ℕ = 32 - length (programs (sizes_of p q) clients) in
-      omega (arith, total-append (λ (k : ℕ). k) (map (total (task_cost p q.slots)) clients) (replicate gap 0 ++ replicate (length opens) (reader_cost (length calls))), total-append (λ (k : ℕ). k) (replicate gap 0) (replicate (length opens) (reader_cost (length calls))),
-      clients_few p q.slots limits ids clients fits few, no_numbers gap, readers_few (length calls) some_calls (length opens))
+      omega (
+        arith,
+        total-append (λ (k : ℕ). k) (map (total (task_cost p q.slots)) clients) (replicate gap 0 ++ replicate (length opens) (reader_cost (length calls))),
+        total-append (λ (k : ℕ). k) (replicate gap 0) (replicate (length opens) (reader_cost (length calls))),
+        clients_few p q.slots limits ids clients fits few,
+        no_numbers gap,
+        readers_few (length calls) some_calls (length opens),
+      )
 
   -- nothing is counted for calls
   calls_few : calls_left p (begun_core p q clients calls opens) ≤ STALE * length (map at_first all)
@@ -191,8 +196,17 @@ module _ (p : Plan) (q : IdPlan) (clients : List (List Task)) (calls opens : Lis
     numbers = first_numbers;
     each = last_length p all first_numbers lasts ∙ sym (length-map all at_first);
     seats = numbers_at p all first_numbers lasts (opening_views p (all_seats clients (length opens))) (opens_goes p q clients calls opens are limits inside);
-    sum = omega (arith, numbers_sum limits ids fit small few_calls, homes_light p, no_walks p (walk_left (accepted (opening_views p (all_seats clients (length opens))))) (all_seats clients (length opens)), calls_few, few_clients, few_opens,
-        length-map all at_first, many few_clients);
+    sum = omega (
+      arith,
+      numbers_sum limits ids fit small few_calls,
+      homes_light p,
+      no_walks p (walk_left (accepted (opening_views p (all_seats clients (length opens))))) (all_seats clients (length opens)),
+      calls_few,
+      few_clients,
+      few_opens,
+      length-map all at_first,
+      many few_clients,
+    );
   }
     where
       many : length clients ≤ 32 → length all ≡ 32 + length opens

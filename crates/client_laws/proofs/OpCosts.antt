@@ -1,10 +1,10 @@
 -- What the operations of clients cost, and the ending.
-use Rattle.std.proofs.Common.{◌≡◌, ℕ, zero, suc, ◌+◌, ◌-◌, ◌*◌, ◌/◌, ◌≤◌, ◌==◌, ◌%◌, Bool, true, false, List, [], ◌∷◌, ◌++◌, length, length-append, refl, arith, cond}
+use Rattle.std.proofs.Common.{ℕ, zero, suc, ◌+◌, ◌-◌, ◌*◌, ◌/◌, ◌≤◌, ◌==◌, ◌%◌, List, [], ◌∷◌, ◌++◌, length, length-append, arith, cond}
 use Rattle.std.specs.Prelude.{Option, Some, None}
 use Rattle.std.specs.List.{AllByRecursion}
 use Rattle.sock_words.specs.declared.plain.Plan.{Plan}
 use Rattle.sock_words.specs.declared.outcome.Outcome.TheVariants.{Opened, SlotsFull, Unopened, Gone, Full, Held, Freed, Kept, NotBegun, Joined}
-use Rattle.sock_words.specs.Words.{socket_id, socket_id_version, socket_id_slot, vref_version}
+use Rattle.sock_words.specs.Words.{socket_id, socket_id_slot, vref_version}
 use Rattle.sock_model.specs.Weights.{total}
 use Rattle.corr_core.specs.Word.{parts, error_of}
 use Rattle.corr_core.specs.declared.marks.Plan.{Plan as IdPlan}
@@ -214,4 +214,3 @@ module _ (p : Plan) where
   pub ending_of_lasts : (os : List ℕ) → Lasting p (ending_of os) (12 * length os)
   ending_of_lasts [] v = tt
   ending_of_lasts (o ∷ os) v = lasting_more p (end_open o (ending_of os)) (12 + 12 * length os) (12 * suc (length os)) (omega arith) (end_lasts o (ending_of os) (12 * length os) (ending_of_lasts os)) v
-

@@ -7,7 +7,6 @@ use mathlib.Core.Logic.{dite}
 use mathlib.Core.Option.{Option, none, some, some-injective, some-ne-none}
 use native.Mathlib.Decide.{dec_le}
 use lib.ListN.{get_elem?}
-use Rattle.atomic_table.specs.Table.{State}
 use Rattle.atomic_table.proofs.Lists.{at_set}
 use Rattle.sock_words.specs.declared.plain.Plan.{Plan}
 use Rattle.corr_core.specs.Word.{Parts, parts, free_word}
@@ -16,16 +15,16 @@ use Rattle.corr_core.specs.declared.marks.Plan.{Plan as IdPlan}
 use Rattle.corr_core.specs.declared.marks.Token.{Token}
 use Rattle.corr_core.specs.declared.marks.Note.{Note}
 use Rattle.corr_core.specs.declared.marks.Kept.{Kept}
-use Rattle.id_rule.specs.Lawful.{Lawful, Unused, KeptFits, is_stored, kept_in, share_of, tokens_in, notes_in, local, newcomer, all_words, tag_word, id_word, call_word, at_word}
+use Rattle.id_rule.specs.Lawful.{Lawful, Unused, KeptFits, kept_in, share_of, tokens_in, notes_in, newcomer, tag_word, id_word, call_word, at_word}
 use Rattle.sock_programs.specs.declared.task.Asked.{Asked}
 use Rattle.sock_programs.specs.declared.task.Task.{Task}
 use Rattle.sock_programs.specs.Heads.{Retry}
 use Rattle.sock_programs.specs.Programs.{Program, Rest}
-use Rattle.sock_programs.specs.Clients.{client_from, ending_of}
+use Rattle.sock_programs.specs.Clients.{ending_of}
 use Rattle.sock_programs.specs.Cores.{Core, SeatState, resolved, still_waiting, waiting_at, next_step, with_seat}
 use Rattle.sock_programs.specs.Scripts.{opening_words, opening_homes, opening_ids, opening_calls, sizes_of, programs, readers_from, all_programs, beginning, is_ending}
 use Rattle.sock_programs.specs.Told.{OpFits, TaskFits}
-use Rattle.id_runs.specs.Held.{IdView, id_state, CallFits, AtFits}
+use Rattle.id_runs.specs.Held.{IdView, id_state}
 use Rattle.id_runs.specs.Goes.{IsFree, FitsRetryId, HandFits, HomesFit, CodesFit, IdGoesOn, SoundIds}
 use Rattle.id_runs.proofs.Clients.{client_goes, ending_goes}
 use Rattle.id_runs.proofs.Reading.{reader_goes}

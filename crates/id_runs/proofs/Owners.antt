@@ -1,7 +1,6 @@
 -- Whatever a seat does on the sockets, messages stay those of ids of the table, and codes below 4,096.
-use Rattle.std.proofs.Common.{◌≡◌, ◌≢◌, ℕ, zero, suc, ◌+◌, ◌*◌, ◌<◌, ◌≤◌, ⊎_elim, Bool, true, false, cond, eqb, List, [], ◌∷◌, ◌++◌, length, length-set, get_or, get_or-set_same, get_or-set_other, set, take, refl, sym, ap, ◌∙◌, subst, arith}
+use Rattle.std.proofs.Common.{◌≡◌, ◌≢◌, ℕ, ◌+◌, ◌*◌, ◌<◌, ◌≤◌, ⊎_elim, List, [], ◌∷◌, ◌++◌, length, length-set, get_or, get_or-set_same, get_or-set_other, set, refl, sym, subst, arith}
 use Rattle.std.proofs.lemmas.List.{get_or_past}
-use Rattle.std.specs.List.{AllByRecursion}
 use mathlib.Core.Logic.{dite}
 use mathlib.Core.Option.{Option, none, some, some-injective, some-ne-none}
 use native.Mathlib.Decide.{ℕ_discrete, dec_le}
@@ -10,10 +9,9 @@ use Rattle.atomic_table.proofs.Lists.{at_set}
 use Rattle.sock_words.specs.declared.plain.Plan.{Plan}
 use Rattle.sock_io.specs.declared.link.Put.{Put}
 use Rattle.sock_io.specs.declared.link.Put.TheVariants as puts
-use Rattle.sock_model.specs.declared.chain.Heading.{Heading}
 use Rattle.sock_model.specs.declared.home.Home.{Home}
 use Rattle.sock_model.specs.declared.home.Home.TheVariants.{Empty, Link, Message}
-use Rattle.sock_model.specs.Layout.{tag_word, ref_word, link_word, head_word, code_word, name_word, open_word, request_word, next_word, place_word}
+use Rattle.sock_model.specs.Layout.{tag_word, code_word, name_word, open_word, request_word, next_word, place_word}
 use Rattle.corr_core.specs.declared.marks.Plan.{Plan as IdPlan}
 use Rattle.sock_programs.specs.Calls.{Call, ClaimSlot, GiveBirth, AddRef, SubRef, SetOdd, Recycle, FreeSlot, StoreLink, LoadLink, ResetHead, WipeCode, StoreCode, StoreName, LoadName, StoreOpen, LoadOpen, TakeLink, FinishLink, PutLink, LookWord, FindLink, LoadCode, ClaimRequest, PutMessage, Unconnect, SwapHead, Connect, EmptyHead, ReadNext, TurnNext, FreeRequest, StorePlace, DropPlace}
 use Rattle.sock_programs.specs.Programs.{Program, Do}
@@ -102,7 +100,7 @@ module _ (p : Plan) where
   code_set : (ws : List ℕ) (x w : ℕ) → CodesFit p ws → ((i : ℕ) → i < p.slots → x ≡ code_word i → w < 4096) → CodesFit p (set ws x w)
   code_set ws x w fit new i inside = dite (ℕ_discrete x (code_word i))
       (λ e. dite (dec_le (length ws) x) (λ past. let none_ : get_or (set ws x w) (code_word i) 0 ≡ 0 = get_or_past (set ws x w) (code_word i) 0 (omega (arith, past, e, length-set ws x w)) in omega (arith, none_))
-          (λ n. let here : get_or (set ws x w) x 0 ≡ w = get_or-set_same ws x w 0 (omega arith) in subst (λ y. get_or (set ws x w) y 0 < 4096) e (subst (λ y. y < 4096) (sym here) (new i inside e))))
+      (λ n. let here : get_or (set ws x w) x 0 ≡ w = get_or-set_same ws x w 0 (omega arith) in subst (λ y. get_or (set ws x w) y 0 < 4096) e (subst (λ y. y < 4096) (sym here) (new i inside e))))
       (λ n. subst (λ y. y < 4096) (sym (get_or-set_other ws x (code_word i) w 0 (λ e. n (sym e)))) (fit i inside))
 
   -- a word of a slot that is no code

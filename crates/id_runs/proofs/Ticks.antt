@@ -1,6 +1,5 @@
 -- A tick of any seat keeps the rule of the ids, and what each seat may do with them.
-use Rattle.std.proofs.Common.{◌≡◌, ◌≢◌, ℕ, zero, suc, ◌+◌, ◌-◌, ◌*◌, ◌<◌, ◌≤◌, ⊎_elim, Bool, true, false, cond, eqb, leb, List, [], ◌∷◌, ◌++◌, Some, None, length, length-set, get_or, get_or-set_same, get_or-set_other, set, refl, sym, ap, ◌∙◌, subst, arith}
-use Rattle.std.specs.Prelude.{Option as Maybe}
+use Rattle.std.proofs.Common.{◌≡◌, ◌≢◌, ℕ, zero, suc, ◌+◌, ◌*◌, ◌<◌, ◌≤◌, ⊎_elim, Bool, true, false, cond, eqb, leb, List, [], ◌∷◌, ◌++◌, Some, None, length, length-set, get_or, get_or-set_same, get_or-set_other, set, refl, sym, ap, ◌∙◌, subst, arith}
 use mathlib.Core.Logic.{dite}
 use native.Mathlib.Decide.{ℕ_discrete}
 use Rattle.std.specs.List.{AllByRecursion}
@@ -21,19 +20,18 @@ use Rattle.corr_core.specs.declared.marks.Plan.{Plan as IdPlan}
 use Rattle.corr_core.specs.declared.marks.Hand.TheVariants as hands
 use Rattle.corr_core.specs.declared.marks.Token.{Token}
 use Rattle.corr_core.specs.declared.marks.Token.TheVariants.{Claimed, Locked, Leaving}
-use Rattle.corr_core.specs.declared.marks.Note.TheVariants.{Tried, Queued, Saw, Attempt, Made, Ended}
+use Rattle.corr_core.specs.declared.marks.Note.TheVariants.{Tried, Queued, Saw, Attempt}
 use Rattle.id_rule.specs.Lawful.{Lawful, all_words, tag_word, id_word, call_word, at_word, tokens_in, with_token, no_token, with_note}
-use Rattle.id_rule.specs.Plays.{popped_view, advanced_view, ended_view, found_view, claimed_view, with_hand}
+use Rattle.id_rule.specs.Plays.{popped_view, advanced_view, with_hand}
 use Rattle.sock_programs.specs.declared.task.Asked.{Asked}
 use Rattle.sock_programs.specs.Asides.{Step, Found, ClaimId, PutCall, MakeId, StoreCall, LoadCall, StoreAt, LoadAt, LoadIdWord, LockId, PostId, UnlockId, EndId, FreeId, TakeCall, TakeBytes, Taking, Bytes}
-use Rattle.sock_programs.specs.Heads.{Head, Exit, Retry}
+use Rattle.sock_programs.specs.Heads.{Retry}
 use Rattle.sock_programs.specs.Programs.{Program, Do, Say, Sent, Rest, TakeMessage, TakeHome, PutHome, PutBytes, AskReady, Write, Aside, Round, Keep, Retries}
 use Rattle.sock_programs.specs.Posts.{packed, advance_of}
 use Rattle.sock_programs.specs.Sends.{block}
 use Rattle.sock_programs.specs.Rounds.{round}
-use Rattle.sock_programs.specs.Attempts.{retry}
 use Rattle.sock_programs.specs.Cores.{Calls, Core, SeatState, word_of, found_at, words_after, word_after, homes_after, hand_after, lies_at, first_of, others_of, link_place, resolved, still_waiting, waiting_at, next_step, with_seat}
-use Rattle.sock_programs.specs.Beside.{found_in, calls_after, more_given}
+use Rattle.sock_programs.specs.Beside.{found_in, calls_after}
 use Rattle.sock_programs.specs.Ticks.{Answer, Unasked, OfPut, OfReady, OfTake, Moment, fed, with_places, onto_first, taken, with_message, with_link, with_put, with_ready, with_found, step_with, tick_with, ticked}
 use Rattle.sock_programs.specs.Told.{AskedFits}
 use Rattle.id_runs.specs.Held.{CallFits, AtFits, StoredFit, IdView, id_state, by_token, made_by, unlocked_by, ended_by, locked_by, id_row, MayId}
@@ -263,9 +261,11 @@ module _ (p : Plan) (q : IdPlan) (narrow : q.slots ≤ 65536) (same : q.operatio
 
     on_ids : (step : Step) (next : Found step → Program) (t : Option Taking) → IdGoesOn p q u (Aside step next) → (x : Option (Found step)) → found_in step c.calls t ≡ x → After (with_found p i seat c step x next)
     on_ids step next t go none is = before
-    on_ids step next t go (some found) is = let r = keeps_ids p q c.calls sound.plan us sound.rule i u at_view (sound.real i u at_view) step t found is go.0 in let w : IdView = id_row q step found r.0 u in let k = calls_plan step found in
-        (set us i w, reseats (calls_after step found c.calls) (next found) seat.hand c.words c.homes (id_row q step found r.0 u) held sound.codes sound.owners (k.0 ∙ sound.plan) k.1 r.1 (row_share q step found r.0 u) (calls_homes step found go.0) (calls_stored step found go.0)
-        (go.1 found r.0 (finds_ids p q c.calls sound.plan us sound.rule i u at_view (sound.real i u at_view) (sound.called, sound.placed) sound.homes step t found is go.0)))
+    on_ids step next t go (some found) is = let r = keeps_ids p q c.calls sound.plan us sound.rule i u at_view (sound.real i u at_view) step t found is go.0 in let w : IdView = id_row q step found r.0 u in let k = calls_plan step found in (
+      set us i w,
+      reseats (calls_after step found c.calls) (next found) seat.hand c.words c.homes (id_row q step found r.0 u) held sound.codes sound.owners (k.0 ∙ sound.plan) k.1 r.1 (row_share q step found r.0 u) (calls_homes step found go.0) (calls_stored step found go.0)
+          (go.1 found r.0 (finds_ids p q c.calls sound.plan us sound.rule i u at_view (sound.real i u at_view) (sound.called, sound.placed) sound.homes step t found is go.0)),
+    )
 
     message_there : (x : Option (Option Home)) (letter : Letter) → letter_of (shown (λ (home : Home). home) x) ≡ some letter → x ≡ some (some (Message letter.0 letter.1))
     message_there none letter e = absurd (some-ne-none letter (sym e))

@@ -1,24 +1,19 @@
 -- What each of the two tables relies on of the other, the other's rule gives.
-use Rattle.std.proofs.Common.{◌≡◌, ℕ, zero, suc, ◌+◌, ◌<◌, ◌≤◌, Bool, List, Some, None, length, refl, sym, ap, ◌∙◌, subst, arith}
-use mathlib.Core.Option.{Option, none, some, some-injective, some-ne-none}
+use Rattle.std.proofs.Common.{◌≡◌, ℕ, ◌<◌, ◌≤◌, List, length, refl, sym, ap, subst, arith}
+use mathlib.Core.Option.{Option, none, some}
 use lib.ListN.{get_elem?}
 use Rattle.sock_words.specs.declared.plain.Plan.{Plan}
 use Rattle.sock_model.specs.declared.view.View.{View}
-use Rattle.corr_core.specs.Word.{parts}
 use Rattle.corr_core.specs.declared.marks.Plan.{Plan as IdPlan}
-use Rattle.corr_core.specs.declared.marks.Hand.TheVariants.{Full}
-use Rattle.corr_core.specs.declared.marks.Token.TheVariants.{Locked}
-use Rattle.id_rule.specs.Lawful.{id_word}
-use Rattle.sock_programs.specs.Asides.{Step, Found, ClaimId, PutCall, MakeId, StoreCall, LoadCall, StoreAt, LoadAt, LoadIdWord, LockId, PostId, UnlockId, EndId, FreeId, TakeCall, TakeBytes, Taking}
-use Rattle.sock_programs.specs.Posts.{advance_of}
+use Rattle.sock_programs.specs.Asides.{Step, Found, ClaimId, PutCall, MakeId, StoreCall, LoadCall, StoreAt, LoadAt, LoadIdWord, LockId, PostId, UnlockId, EndId, FreeId, TakeCall, TakeBytes}
 use Rattle.sock_programs.specs.Calls.{Call, FindLink, LoadCode}
 use Rattle.sock_programs.specs.Programs.{Program, Do, Say, Sent, Rest, TakeMessage, TakeHome, PutHome, PutBytes, AskReady, Write, Aside, Round, Keep, Retries}
-use Rattle.sock_programs.specs.Cores.{Core, SeatState, word_of, found_at}
+use Rattle.sock_programs.specs.Cores.{Core, word_of, found_at}
 use Rattle.sock_programs.specs.Beside.{found_in, call_at, at_last}
 use Rattle.sock_programs.specs.Sends.{block}
 use Rattle.sock_programs.specs.Rounds.{round}
-use Rattle.sock_programs.specs.Ticks.{Answer, Moment, IsAnswer, IsAnswered, IsTaken, taken}
-use Rattle.sock_runs.specs.Fits.{FitsFound, FitsMore}
+use Rattle.sock_programs.specs.Ticks.{Answer, Moment, IsAnswer, IsAnswered, taken}
+use Rattle.sock_runs.specs.Fits.{FitsFound}
 use Rattle.sock_runs.specs.May.{May}
 use Rattle.sock_runs.specs.GoesOn.{GoesOn}
 use Rattle.sock_runs.specs.Sound.{state, Sound, FitsBeside, IsFitting, first_step}
@@ -27,7 +22,7 @@ use Rattle.sock_runs.proofs.Cases as cases
 use Rattle.sock_runs.proofs.Founds.{finds}
 use Rattle.sock_runs.proofs.Rounds.{begins_round}
 use Rattle.sock_runs.proofs.Passes.{goes_round}
-use Rattle.id_runs.specs.Held.{IdView, HasCallAt, MayId}
+use Rattle.id_runs.specs.Held.{IdView, MayId}
 use Rattle.id_runs.specs.Goes.{FindsId, IdGoesOn, SoundIds, FitsSock, FitsFirst, IsFittingIds}
 use Rattle.id_runs.specs.Goes as goes
 use Rattle.id_runs.proofs.Steps.{finds_ids, call_there}

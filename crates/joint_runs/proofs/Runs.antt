@@ -1,15 +1,13 @@
 -- In a whole run with calls both tables are sound at each moment, and each tick finds what each table relies on.
-use Rattle.std.proofs.Common.{◌≡◌, ℕ, List, [], ◌∷◌, ◌++◌, length, replicate, refl, sym, subst}
-use Rattle.sock_words.specs.declared.plain.Plan.{Plan}
+use Rattle.std.proofs.Common.{List, ◌++◌, length, replicate, sym, subst}
 use Rattle.sock_model.specs.declared.view.View.{View}
-use Rattle.corr_core.specs.declared.marks.Plan.{Plan as IdPlan}
 use Rattle.brpc_model.specs.Items.{Item}
 use Rattle.brpc_model.specs.Operations.{Turn}
 use Rattle.sock_programs.specs.Tasks.{opens, calls, plan_of, id_plan_of}
 use Rattle.sock_programs.specs.Cores.{Core}
 use Rattle.sock_programs.specs.Ticks.{Moment, AreAnswered, quiet, run}
 use Rattle.sock_programs.specs.Runs.{IsAtRest}
-use Rattle.sock_programs.specs.Scripts.{sizes_of, programs, readers_from, all_programs, all_tasks, opened, set_up, played, ending, is_ending, IsRunWithCalls}
+use Rattle.sock_programs.specs.Scripts.{sizes_of, programs, readers_from, all_programs, all_tasks, opened, set_up, played, IsRunWithCalls}
 use Rattle.sock_runs.specs.Sound.{IsAhead, views_along}
 use Rattle.sock_runs.proofs.Along.{run_ahead, beginning_ahead}
 use Rattle.sock_runs.proofs.Unasked.{quiet_answered}

@@ -1,11 +1,8 @@
 -- A run begins with both rules, the ending does, and so does what follows it.
-use Rattle.std.proofs.Common.{◌≡◌, ℕ, zero, suc, ◌+◌, ◌-◌, ◌<◌, ◌≤◌, List, [], ◌∷◌, ◌++◌, length, length-append, replicate, refl, sym, ap, ◌∙◌, subst, arith}
+use Rattle.std.proofs.Common.{◌≡◌, ℕ, suc, ◌+◌, ◌-◌, ◌<◌, ◌≤◌, List, [], ◌∷◌, ◌++◌, length, length-append, replicate, refl, ap, ◌∙◌, arith}
 use Rattle.std.proofs.lemmas.List.{length-map, length-replicate}
 use Rattle.std.specs.List.{AllByRecursion}
-use mathlib.Core.Option.{some}
-use lib.ListN.{get_elem?}
 use Rattle.sock_words.specs.declared.plain.Plan.{Plan}
-use Rattle.sock_model.specs.declared.home.Home.{Home}
 use Rattle.sock_model.specs.declared.home.Home.TheVariants.{Empty, Link, Message}
 use Rattle.sock_model.specs.declared.view.View.{View}
 use Rattle.sock_model.specs.Lawful.{PlanFits}
@@ -22,7 +19,7 @@ use Rattle.sock_runs.proofs.Along.{seat_rests}
 use Rattle.client_laws.specs.Openings.{opening_views, all_seats}
 use Rattle.client_laws.proofs.Beginning.{unused, no_message}
 use Rattle.client_laws.proofs.Opens.{begun_core, opens_sound, ending_sound, told_sound}
-use Rattle.id_runs.specs.Goes.{FitsHome, HomesFit, CodesFit}
+use Rattle.id_runs.specs.Goes.{HomesFit, CodesFit}
 use Rattle.id_runs.proofs.Opening.{all_go, begins_ids, first_views, ending_ids, told_ids}
 use Rattle.joint_runs.proofs.Both.{BothSound}
 
