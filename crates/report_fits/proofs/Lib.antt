@@ -13,6 +13,8 @@ pub mod Callless
 pub mod Causes
 pub mod Fitting
 pub mod Places
+pub mod CallLines
+pub mod Frames
 pub mod Reading
 pub mod Sizes
 pub mod Alternating
