@@ -16,6 +16,7 @@ pub mod Places
 pub mod CallLines
 pub mod Frames
 pub mod Reading
+pub mod Called
 pub mod Sizes
 pub mod Alternating
 pub mod Tasks
