@@ -47,7 +47,7 @@ fits_found p q u (TakeBytes k room) found may f = tt
 
 module _ (p : Plan) (q : IdPlan) (narrow : q.slots ≤ 65536) (same : q.operations ≡ p.operations) (c : Core) (us : List IdView) (ids : SoundIds p q c us) (m : Moment) where
   -- the first step of a round is one that the view allows
-  goes_first : (u : IdView) (program : Program) → IdGoesOn p q u program → IdGoesOn p q u (first_step program)
+  pub goes_first : (u : IdView) (program : Program) → IdGoesOn p q u program → IdGoesOn p q u (first_step program)
   goes_first u (Write w after) g = block_goes p q narrow u w after g
   goes_first u (Round head next) g = ids_round p q u head next g
   goes_first u (Do call next) g = g
@@ -79,7 +79,7 @@ module _ (p : Plan) (q : IdPlan) (narrow : q.slots ≤ 65536) (same : q.operatio
   beside u at (Keep r next) g = tt
   beside u at (Retries requests after) g = tt
 
-  view_at : {A B : Type 0} (l : List A) (n : List B) (i : ℕ) (a : A) → length n ≡ length l → get_elem? l i ≡ some a → (x : Option B) → get_elem? n i ≡ x → (b : B) × (get_elem? n i ≡ some b)
+  pub view_at : {A B : Type 0} (l : List A) (n : List B) (i : ℕ) (a : A) → length n ≡ length l → get_elem? l i ≡ some a → (x : Option B) → get_elem? n i ≡ x → (b : B) × (get_elem? n i ≡ some b)
   view_at l n i a e at none is = absurd (Rattle.sock_runs.proofs.Cases.beside l n i a e at is)
   view_at l n i a e at (some b) is = (b, is)
 
