@@ -1,22 +1,19 @@
 -- What is counted of steps aside of the sockets, the rule of the ids gives: each of them finds something, and is of an id of the table.
-use Rattle.std.proofs.Common.{◌≡◌, ℕ, ◌+◌, ◌*◌, ◌<◌, ◌≤◌, List, [], ◌∷◌, length, refl, sym, ap, ◌∙◌, subst, arith, get_or, Some}
-use Rattle.std.specs.Prelude.{Option as Maybe}
-use mathlib.Core.Option.{Option, none, some}
+use Rattle.std.proofs.Common.{◌≡◌, ℕ, ◌<◌, ◌≤◌, List, [], refl, sym, ap, subst, arith, get_or, Some}
+use mathlib.Core.Option.{some}
 use lib.ListN.{get_elem?}
 use Rattle.sock_words.specs.declared.plain.Plan.{Plan}
 use Rattle.corr_core.specs.Law.{HomeIs}
-use Rattle.corr_core.specs.Word.{parts}
 use Rattle.corr_core.specs.declared.marks.Plan.{Plan as IdPlan}
 use Rattle.corr_core.specs.declared.marks.Hand.{Hand}
-use Rattle.corr_core.specs.declared.marks.Hand.TheVariants.{Full}
 use Rattle.id_rule.specs.Lawful.{tag_word, id_word, call_word, at_word}
-use Rattle.id_rule.specs.Plays.{hand_of, IsHome}
+use Rattle.id_rule.specs.Plays.{IsHome}
 use Rattle.id_rule.proofs.Allowed as allowed
 use Rattle.sock_programs.specs.declared.task.Asked.{Asked}
 use Rattle.sock_programs.specs.Asides.{Step, Found, ClaimId, PutCall, MakeId, StoreCall, LoadCall, StoreAt, LoadAt, LoadIdWord, LockId, PostId, UnlockId, EndId, FreeId, TakeCall, TakeBytes}
 use Rattle.sock_programs.specs.Beside.{found_in, call_at, at_last, taking_in}
 use Rattle.sock_programs.specs.Programs.{Program, Do, Say, Sent, Rest, TakeMessage, TakeHome, PutHome, PutBytes, AskReady, Write, Aside, Round, Keep, Retries}
-use Rattle.sock_programs.specs.Cores.{Core, SeatState}
+use Rattle.sock_programs.specs.Cores.{Core}
 use Rattle.sock_programs.specs.Ticks.{Answer, Moment, IsAnswer, IsAnswered, taken}
 use Rattle.sock_runs.specs.Sound.{first_step}
 use Rattle.sock_runs.specs.Lasts.{IsSlot, IsCountedStep, IsCountedAt, IsCounted}
