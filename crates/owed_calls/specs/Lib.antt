@@ -1,3 +1,4 @@
 pub mod Owing
 pub mod Owes
 pub mod Sound
+pub mod Fits
