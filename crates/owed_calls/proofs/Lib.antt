@@ -21,3 +21,4 @@ pub mod Finds
 pub mod MoveTicks
 pub mod IdFacts
 pub mod OwingTicks
+pub mod AllSettled

@@ -2,3 +2,4 @@ pub mod Owing
 pub mod Owes
 pub mod Sound
 pub mod Fits
+pub mod Settled
