@@ -21,6 +21,15 @@ pub mod Ends
 pub mod WalksLeft
 pub mod Waiting
 pub mod IdCosts
+pub mod Costs
+pub mod AttemptCosts
+pub mod SeatCosts
+pub mod IdsLeft
+pub mod Lasting
+pub mod ReadCosts
+pub mod AsideTicks
+pub mod AsideMoves
+pub mod HeadMoves
 pub mod Records
 pub mod Through
 pub mod ThroughLoops
@@ -29,3 +38,5 @@ pub mod ThroughCalls
 pub mod Recorded
 pub mod Closing
 pub mod Opening
+pub mod Quiets
+pub mod Whole
