@@ -291,7 +291,7 @@ closed_failed p n c vs r rests i h inside born = ⊎_elim (λ failed. failed) (�
 
 -- ## How it begins
 
-records_ending : (os : List ℕ) → Records nothing (ending_of os)
+pub records_ending : (os : List ℕ) → Records nothing (ending_of os)
 records_ending [] = tt
 records_ending (o ∷ os) = through_end (Records nothing) (records_passes nothing) o (ending_of os) (records_ending os)
 

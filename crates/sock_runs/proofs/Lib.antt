@@ -40,3 +40,4 @@ pub mod Closing
 pub mod Opening
 pub mod Quiets
 pub mod Whole
+pub mod Rested

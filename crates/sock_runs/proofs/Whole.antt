@@ -1,12 +1,9 @@
 -- A whole run of a script: all seats are sound from its first tick to its last, and behind the ending no life is alive, where each client ends.
-use Rattle.std.proofs.Common.{◌≡◌, ℕ, zero, suc, ◌+◌, ◌-◌, ◌<◌, ◌≤◌, ◌==◌, ⊎_elim, inl, inr, Bool, true, false, cond, eqb-true, List, [], ◌∷◌, ◌++◌, length, length-append, replicate, refl, sym, ap, ◌∙◌, subst, arith}
+use Rattle.std.proofs.Common.{◌≡◌, ℕ, zero, suc, ◌+◌, ◌-◌, ◌<◌, ◌≤◌, ◌==◌, Bool, true, false, cond, eqb-true, List, [], ◌∷◌, ◌++◌, length, replicate, refl, sym, ap, ◌∙◌, subst, arith}
 use Rattle.std.specs.Prelude as std
 use Rattle.std.specs.Prelude.{None, Some, option_map}
 use Rattle.std.specs.List.{filter_map, cons_option}
 use Rattle.std.proofs.lemmas.Bool.{true≢false}
-use Rattle.std.proofs.lemmas.List.{length-map}
-use mathlib.Core.Logic.{dite}
-use native.Mathlib.Decide.{ℕ_discrete, dec_le}
 use mathlib.Core.Option.{some, some-injective, some-ne-none}
 use lib.ListN.{get_elem?}
 use Rattle.sock_words.specs.declared.plain.Plan.{Plan}
@@ -18,8 +15,8 @@ use Rattle.sock_programs.specs.declared.task.Op.{Op}
 use Rattle.sock_programs.specs.declared.task.Task.{Task}
 use Rattle.sock_programs.specs.Tasks.{Numbered, numbered, of_client, op_of, task_of, tasks, opens, calls, plan_of, id_plan_of}
 use Rattle.sock_programs.specs.Programs.{Program, Rest}
-use Rattle.sock_programs.specs.Clients.{client_from, ending_of}
-use Rattle.sock_programs.specs.Cores.{Core, SeatState, next_step, resolved}
+use Rattle.sock_programs.specs.Clients.{ending_of}
+use Rattle.sock_programs.specs.Cores.{Core}
 use Rattle.sock_programs.specs.Ticks.{Moment, quiet, run, AreAnswered}
 use Rattle.sock_programs.specs.Runs.{IsAtRest, IsSettled}
 use Rattle.sock_programs.specs.Scripts.{sizes_of, programs, readers_from, all_programs, tasks_from, all_tasks, opened, ending, is_ending, set_up, played, IsRunWithCalls}
@@ -29,11 +26,10 @@ use Rattle.sock_runs.proofs.HandTicks.{AtHome}
 use Rattle.sock_runs.proofs.LinkTicks.{RetriesGo}
 use Rattle.sock_runs.proofs.Along.{run_sound, seat_ahead, seat_rests, place_inside, run_ahead, beginning_ahead, settled_rests}
 use Rattle.sock_runs.proofs.Unasked.{quiet_answered}
-use Rattle.sock_runs.proofs.Quiets.{run_seats, run_rests}
+use Rattle.sock_runs.proofs.Quiets.{run_rests}
 use Rattle.sock_runs.proofs.Ends.{all_ended, is_over, none_alive, links_home}
-use Rattle.sock_runs.proofs.Records.{Records}
-use Rattle.sock_runs.proofs.Recorded.{Recorded, nothing, records_nothing, run_recorded}
-use Rattle.sock_runs.proofs.Closing.{Closing, run_closing, closed_failed, closing_begins}
+use Rattle.sock_runs.proofs.Recorded.{Recorded, run_recorded}
+use Rattle.sock_runs.proofs.Rested.{IsPast, recorded_ending, recorded_on, rested_failed}
 use Rattle.sock_runs.proofs.Opening.{opens_in, or_cases, own_opens, own_is, beginning_recorded, others_still}
 
 -- ## The operations of an ending
@@ -116,20 +112,15 @@ pub record Begins (script : List Item) (vs : List View) : Type 0 where
   pub blank : (j : ℕ) (v : View) → get_elem? vs j ≡ some v → v.marks ≡ []
   pub ends : (c : Core) (ws : List View) → Sound (plan_of script) c ws → IsAhead c → IsAtRest c 0 → Sound (plan_of script) (ending script c) ws
 
--- who owes a call ends it: before the ending no client makes a life any more, and at the end no seat has a step left
+-- who owes a call ends it, so that no seat has a step left at the end; and the reader of each link has found the life of its link failed, or failed it. A client may
+-- make a life while the run is ending, behind a `join`, and it is its reader that fails it.
 pub record IsOwed (script : List Item) (turns : List Turn) (core : Core) (is : IsRunWithCalls script turns core) : Type 0 where
-  pub before : (j : ℕ) (seat : SeatState) → 0 < j → j ≤ clients script → get_elem? (played script is.setup (is.scheduled ++ is.later)).seats j ≡ some seat → Records nothing seat.program
   pub after : IsSettled core
+  pub past : (o n : ℕ) → get_elem? (opens script) n ≡ some o → IsPast (plan_of script) core o
 
 -- the run is ending, which the seats don't see
 sound_ending : (p : Plan) (c : Core) (ws : List View) → Sound p c ws → Sound p (is_ending c) ws
 sound_ending p c ws s = record { limits = s.limits; lawful = s.lawful; each = s.each; homes = s.homes; labels = s.labels; waiting = s.waiting; seats = s.seats }
-
-closing_ending : (p : Plan) (n : ℕ) (c : Core) (ws : List View) → Closing p n c ws → Closing p n (is_ending c) ws
-closing_ending p n c ws r = record {
-  quiet = r.quiet;
-  failing = λ i h inside born. ⊎_elim (λ a. inl a) (λ x. inr record { operation = x.operation; inside = x.inside; word = x.word; seat = x.seat; there = x.there; fails = x.fails }) (r.failing i h inside born);
-}
 
 module _ (script : List Item) (are : AreTasks (plan_of script) (all_tasks script)) (vs : List View) (begins : Begins script vs) (go : RetriesGo (plan_of script)) (turns : List Turn) (core : Core) (is : IsRunWithCalls script turns core)
     (fitting : AreFittingIn script turns core is) where
@@ -207,23 +198,19 @@ module _ (script : List Item) (are : AreTasks (plan_of script) (all_tasks script
       beginning_recorded p (all_tasks script) are (id_plan_of script) (replicate (32 - length (programs (sizes_of (plan_of script) (id_plan_of script)) (all_tasks script))) Rest ++ readers_from (calls script) 0 (opens script))
       (others_still (32 - length (programs (sizes_of (plan_of script) (id_plan_of script)) (all_tasks script))) (calls script) (opens script) 0) (IsListed script) (own_listed script are) vs begins.blank))
 
-  some_seat : 0 < length rested.seats
-  some_seat = let a = run_seats p (set_up script is.setup) moments in let b = run_seats p (opened script) (replicate is.setup (quiet 0)) in let first : List Program = programs (sizes_of (plan_of script) (id_plan_of script)) (all_tasks script) in
-      let others : List Program = replicate (32 - length first) Rest ++ readers_from (calls script) 0 (opens script) in
-      let seat : Program → SeatState = λ program. record { program = next_step (resolved [] program); hand = [] } in
-      let d = length-map (all_programs (programs (sizes_of (plan_of script) (id_plan_of script)) (all_tasks script)) (readers_from (calls script) 0 (opens script))) seat in
-      let e = length-map (all_tasks script) (client_from (sizes_of (plan_of script) (id_plan_of script)) []) in omega (arith, a, b, d, e, length-append first others, are.some_)
+  recorded_closed : Recorded p (IsListed script) is.ended (views_closed script turns core is vs)
+  recorded_closed = subst (λ c. Recorded p (IsListed script) c (views_closed script turns core is vs)) (sym is.is_ended) (recorded_on p (IsListed script) closed (views_closed script turns core is vs)
+      (run_recorded p go (IsListed script) closing (views_played script turns core is vs) (replicate is.last (quiet 0)) closing_sound end_answered fitting.of_closing
+      (recorded_ending p (opens script) (IsListed script) rested (views_played script turns core is vs) recorded (λ seat at. seat_rests rested rested_ahead 0 rested_idle seat at))))
+
+  -- each life that was made stands in the word of an `open`
+  pub recorded_end : Recorded p (IsListed script) core (views_ended script turns core is vs)
+  recorded_end = subst (λ c. Recorded p (IsListed script) c (views_ended script turns core is vs)) (sym is.is_end)
+      (run_recorded p go (IsListed script) is.ended (views_closed script turns core is vs) is.final closed_sound is.answered_again fitting.of_final recorded_closed)
 
   -- ## Where each call is ended
 
   module _ (owed : IsOwed script turns core is) where
-    -- before the ending nobody makes a life any more
-    stands_still : (j : ℕ) (seat : SeatState) → get_elem? rested.seats j ≡ some seat → Records nothing seat.program
-    stands_still j seat at = dite (ℕ_discrete j 0)
-        (λ first. subst (Records nothing) (sym (seat_rests rested rested_ahead 0 rested_idle seat (ap (get_elem? rested.seats) (sym first) ∙ at))) tt)
-        (λ later. dite (dec_le j (clients script)) (λ inside. owed.before j seat (omega arith) inside at)
-        (λ beyond. records_nothing p (IsListed script) rested (views_played script turns core is vs) recorded j (λ o x. let low = x.0 in beyond low) seat at))
-
     -- nothing is left to do
     pub end_rests : AllRest core
     end_rests = settled_rests core ended_ahead owed.after
@@ -232,15 +219,9 @@ module _ (script : List Item) (are : AreTasks (plan_of script) (all_tasks script
     pub end_sound : (ws : List View) × Sound p core ws × AllRest core
     end_sound = (views_ended script turns core is vs, ended_sound, end_rests)
 
-    closed_closing : Closing p 0 is.ended (views_closed script turns core is vs)
-    closed_closing = subst (λ c. Closing p 0 c (views_closed script turns core is vs)) (sym is.is_ended)
-        (closing_ending p 0 closed (views_closed script turns core is vs) (run_closing p go 0 closing (views_played script turns core is vs) (replicate is.last (quiet 0)) closing_sound end_answered fitting.of_closing
-        (closing_begins p (opens script) (IsListed script) (λ j o x. x.1) rested (views_played script turns core is vs) played_sound recorded stands_still some_seat)))
-
     -- every life was failed
     pub end_failed : AllFailed p core (views_ended script turns core is vs)
-    end_failed = closed_failed p 0 core (views_ended script turns core is vs) (subst (λ c. Closing p 0 c (views_ended script turns core is vs)) (sym is.is_end)
-        (run_closing p go 0 is.ended (views_closed script turns core is vs) is.final closed_sound is.answered_again fitting.of_final closed_closing)) (λ seat at. seat_rests core ended_ahead 0 ended_idle seat at)
+    end_failed = rested_failed p (IsListed script) core (views_ended script turns core is vs) ended_sound recorded_end end_rests (λ j o x. owed.past o x.1.0 x.1.1)
 
     -- and none is alive
     pub end_dead : (i h : ℕ) → ¬ IsAlive p core (views_ended script turns core is vs) i h
