@@ -8,6 +8,7 @@ use mathlib.Core.Option as core
 use mathlib.Core.Option.{some, some-injective, some-ne-none}
 use lib.ListN.{get_elem?}
 use Rattle.sock_words.specs.declared.plain.Plan.{Plan}
+use Rattle.sock_model.specs.declared.chain.Entry.{Entry}
 use Rattle.sock_model.specs.declared.chain.Right.{Right}
 use Rattle.sock_model.specs.declared.view.View.{View}
 use Rattle.sock_model.specs.Weights.{total}
@@ -25,7 +26,7 @@ use Rattle.sock_programs.specs.Told.{OpFits, TaskFits, AreTasks}
 use Rattle.slot_laws.proofs.Sums.{total-append}
 use Rattle.sock_runs.specs.GoesOn.{GoesOn}
 use Rattle.sock_runs.specs.Sound.{IsWithinLimits}
-use Rattle.sock_runs.specs.Lasts.{STALE, attempt_cost, home_weight, accepted, walk_left, expects, arriving, stale_cost, id_left, ids_left, calls_left, LastsFor, Lasts, MOST_TICKS}
+use Rattle.sock_runs.specs.Lasts.{STALE, attempt_cost, home_weight, accepted, walk_left, entries, expects, arriving, stale_cost, id_left, ids_left, calls_left, LastsFor, Lasts, MOST_TICKS}
 use Rattle.sock_runs.proofs.IdCosts.{lasts_more}
 use Rattle.sock_runs.proofs.Costs.{Lasting, lasting_more}
 use Rattle.sock_runs.proofs.WalksLeft.{set_few}
@@ -58,6 +59,14 @@ no_walks : (p : Plan) (f : Right → ℕ) (clients : List (List Task)) → total
 no_walks p f [] = refl
 no_walks p f (ts ∷ clients) = omega (arith, no_rights p f clients)
 
+no_entry : (p : Plan) (clients : List (List Task)) → total (λ (v : View). total (λ (l : List Entry). length l) v.lists) (map (client_view p) clients) ≡ 0
+no_entry p [] = refl
+no_entry p (ts ∷ clients) = omega (arith, no_entry p clients)
+
+no_entries : (p : Plan) (clients : List (List Task)) → entries (opening_views p clients) ≡ 0
+no_entries p [] = refl
+no_entries p (ts ∷ clients) = omega (arith, no_entry p clients)
+
 -- a free id has nothing left
 free_left : (requests : ℕ) (w : Parts) → w.state ≡ 0 → id_left requests w ≡ 0
 free_left requests w is = cond-true (eqb w.state 0) 0 _ (eq-eqb w.state 0 is)
@@ -76,14 +85,14 @@ product_few : (r a n : ℕ) → a ≤ n → r * a ≤ r * n
 product_few zero a n small = omega arith
 product_few (suc r) a n small = let b = product_few r a n small in omega (arith, b, small)
 
-attempts_few : (requests range : ℕ) → requests ≤ 4096 → range ≤ 8 → (range - 2) * attempt_cost requests ≤ 11044914
-attempts_few requests range few high = let a : attempt_cost requests ≤ 1840819 = omega (arith, few) in let b = product_few (range - 2) (attempt_cost requests) 1840819 a in omega (arith, b, high)
+attempts_few : (requests range : ℕ) → requests ≤ 4096 → range ≤ 8 → (range - 2) * attempt_cost requests ≤ 111708210
+attempts_few requests range few high = let a : attempt_cost requests ≤ 18618035 = omega (arith, few) in let b = product_few (range - 2) (attempt_cost requests) 18618035 a in omega (arith, b, high)
 
 -- over so many id slots
-task_few : (p : Plan) (ids : ℕ) → IsWithinLimits p → ids ≤ 4096 → (t : Task) → TaskFits p t → task_cost p ids t ≤ 13000000
+task_few : (p : Plan) (ids : ℕ) → IsWithinLimits p → ids ≤ 4096 → (t : Task) → TaskFits p t → task_cost p ids t ≤ 131000000
 task_few p ids limits few t fits = let requests = limits.requests in let slots = limits.slots in op_few requests slots t.op fits.1
   where
-    op_few : p.requests ≤ 4096 → p.slots ≤ 256 → (op : Op) → OpFits p op → op_cost p ids op ≤ 13000000
+    op_few : p.requests ≤ 4096 → p.slots ≤ 256 → (op : Op) → OpFits p op → op_cost p ids op ≤ 131000000
     op_few requests slots (ops.Open name k) fits = omega (arith, slots)
     op_few requests slots (ops.Send name bytes) fits = let short = fits.2 in omega (arith, requests, short)
     op_few requests slots (ops.Call asked) fits = let high = fits.range_high in let a = attempts_few p.requests asked.range requests high in omega (arith, requests, few, a)
@@ -93,12 +102,12 @@ task_few p ids limits few t fits = let requests = limits.requests in let slots =
     op_few requests slots (ops.Drop name) fits = omega arith
     op_few requests slots (ops.Fail name code) fits = omega arith
 
-tasks_few : (p : Plan) (ids : ℕ) → IsWithinLimits p → ids ≤ 4096 → (ts : List Task) → AllByRecursion (TaskFits p) ts → total (task_cost p ids) ts ≤ 13000000 * length ts
+tasks_few : (p : Plan) (ids : ℕ) → IsWithinLimits p → ids ≤ 4096 → (ts : List Task) → AllByRecursion (TaskFits p) ts → total (task_cost p ids) ts ≤ 131000000 * length ts
 tasks_few p ids limits few [] fits = omega arith
 tasks_few p ids limits few (t ∷ ts) fits = let a = task_few p ids limits few t fits.0 in let b = tasks_few p ids limits few ts fits.1 in omega (arith, a, b)
 
 clients_few : (p : Plan) (ids : ℕ) → IsWithinLimits p → ids ≤ 4096 → (clients : List (List Task)) → AllByRecursion (AllByRecursion (TaskFits p)) clients → AllByRecursion (λ (ts : List Task). length ts ≤ 4096) clients
-    → total (λ (k : ℕ). k) (map (total (task_cost p ids)) clients) ≤ 53248000000 * length clients
+    → total (λ (k : ℕ). k) (map (total (task_cost p ids)) clients) ≤ 536576000000 * length clients
 clients_few p ids limits few [] fits small = omega arith
 clients_few p ids limits few (ts ∷ clients) fits small = let a = tasks_few p ids limits few ts fits.0 in let b = clients_few p ids limits few clients fits.1 small.1 in let c = small.0 in omega (arith, a, b, c)
 
@@ -174,7 +183,7 @@ module _ (p : Plan) (q : IdPlan) (clients : List (List Task)) (calls opens : Lis
       (rests_last p (32 - length (programs (sizes_of p q) clients))) (readers_last p calls 0 opens))
 
   numbers_sum : IsWithinLimits p → q.slots ≤ 4096 → AllByRecursion (AllByRecursion (TaskFits p)) clients → AllByRecursion (λ (ts : List Task). length ts ≤ 4096) clients → length calls ≤ 4096
-      → total (λ (k : ℕ). k) first_numbers ≤ 53248000000 * length clients + 4415000000 * length opens
+      → total (λ (k : ℕ). k) first_numbers ≤ 536576000000 * length clients + 4415000000 * length opens
   numbers_sum limits ids fits few some_calls = let gap : ℕ = 32 - length (programs (sizes_of p q) clients) in
       omega (
         arith,
@@ -200,7 +209,7 @@ module _ (p : Plan) (q : IdPlan) (clients : List (List Task)) (calls opens : Lis
       arith,
       numbers_sum limits ids fit small few_calls,
       homes_light p,
-      no_walks p (walk_left (accepted (opening_views p (all_seats clients (length opens))))) (all_seats clients (length opens)),
+      no_walks p (walk_left (accepted (opening_views p (all_seats clients (length opens))))) (all_seats clients (length opens)), no_entries p (all_seats clients (length opens)),
       calls_few,
       few_clients,
       few_opens,

@@ -23,7 +23,7 @@ use Rattle.sock_programs.specs.Clients.{HeldLife, held_under, without_name, give
 use Rattle.sock_programs.specs.Scripts.{sizes_of}
 use Rattle.sock_programs.specs.Told.{AskedFits, OpFits, TaskFits}
 use Rattle.sock_runs.specs.Rows.{row}
-use Rattle.sock_runs.specs.Lasts.{CHANGE, ERROR, POST, weight, attempt_cost}
+use Rattle.sock_runs.specs.Lasts.{CHANGE, ERROR, POST, ACCEPT, weight, attempt_cost}
 use Rattle.sock_runs.proofs.IdCosts.{lasts_more, judged_lasts, posted_lasts}
 use Rattle.sock_runs.proofs.Costs.{Lasting, lasting_more, either_lasts, does, set_failed_lasts}
 use Rattle.sock_runs.proofs.AttemptCosts.{release_lasts, address_lasts, ends_link, accept_lasts, attempt_lasts}
@@ -33,7 +33,7 @@ use Rattle.client_laws.proofs.Held.{length_without}
 
 -- a call that is begun makes its id, with all of its attempts, and tries the first
 abbrev pub begin_cost : Plan → Asked → ℕ
-begin_cost p asked = CHANGE + (asked.range - 2) * attempt_cost p.requests + 2 + (p.requests + weight 131072 + POST + CHANGE + 23)
+begin_cost p asked = CHANGE + (asked.range - 2) * attempt_cost p.requests + 2 + (p.requests + weight 131072 + POST + CHANGE + 23 + ACCEPT)
 
 module _ (p : Plan) where
   reach_lasts : (name : ℕ) (unopened : Program) (held gone : ℕ → Program) (n m : ℕ) → 7 + m ≤ n → Lasting p unopened n → ((id : ℕ) → Lasting p (held id) n) → ((found : ℕ) → Lasting p (gone found) m) → Lasting p (reach name unopened held gone) (2 + n)
@@ -90,28 +90,28 @@ module _ (p : Plan) where
     sent_lasts : (id : ℕ) → Lasting p (release (socket_id_slot id) (λ _. Sent o next)) (7 + n)
     sent_lasts id = release_lasts p (socket_id_slot id) (λ _. Sent o next) n (λ b. l)
 
-    claim_lasts : (id : ℕ) (bytes : List ℕ) (requests q : ℕ) → Lasting p (claim_from requests q o id bytes next) (requests + (weight (length bytes) + 20 + n))
-    claim_lasts id bytes zero q v = lasting_more p (release (socket_id_slot id) (λ _. Say o Full next)) (7 + n) (0 + (weight (length bytes) + 20 + n)) (omega arith) (release_lasts p (socket_id_slot id) (λ _. Say o Full next) n (λ b. l)) v
-    claim_lasts id bytes (suc requests) q v = let m : ℕ = requests + (weight (length bytes) + 20 + n) in let after : Program = release (socket_id_slot id) (λ _. Sent o next) in (
-      requests + (weight (length bytes) + 20 + n),
+    claim_lasts : (id : ℕ) (bytes : List ℕ) (requests q : ℕ) → Lasting p (claim_from requests q o id bytes next) (requests + (weight (length bytes) + (20 + ACCEPT) + n))
+    claim_lasts id bytes zero q v = lasting_more p (release (socket_id_slot id) (λ _. Say o Full next)) (7 + n) (0 + (weight (length bytes) + (20 + ACCEPT) + n)) (omega arith) (release_lasts p (socket_id_slot id) (λ _. Say o Full next) n (λ b. l)) v
+    claim_lasts id bytes (suc requests) q v = let m : ℕ = requests + (weight (length bytes) + (20 + ACCEPT) + n) in let after : Program = release (socket_id_slot id) (λ _. Sent o next) in (
+      requests + (weight (length bytes) + (20 + ACCEPT) + n),
       omega arith,
       λ found hand f. either_lasts p (accept id q (found / 2) (heading_of o) bytes after) (claim_from requests (q + 1) o id bytes next) m (found % 2 == 0)
-          (lasting_more p (accept id q (found / 2) (heading_of o) bytes after) (weight (length bytes) + 13 + (7 + n)) m (omega arith) (accept_lasts p id q (found / 2) (heading_of o) bytes after (7 + n) (sent_lasts id)))
+          (lasting_more p (accept id q (found / 2) (heading_of o) bytes after) (weight (length bytes) + (13 + ACCEPT) + (7 + n)) m (omega arith) (accept_lasts p id q (found / 2) (heading_of o) bytes after (7 + n) (sent_lasts id)))
           (claim_lasts id bytes requests (q + 1)) (row p (ClaimRequest id q) found hand v),
     )
 
-    start_lasts : (requests id : ℕ) (bytes : List ℕ) → Lasting p (start requests o id bytes next) (requests + (weight (length bytes) + 21 + n))
+    start_lasts : (requests id : ℕ) (bytes : List ℕ) → Lasting p (start requests o id bytes next) (requests + (weight (length bytes) + (21 + ACCEPT) + n))
     start_lasts requests id bytes v = let gone : ℕ → Program = λ found. release (socket_id_slot id) (λ _. Say o (Gone (record { 0 = found })) next) in (
-      requests + (weight (length bytes) + 20 + n),
+      requests + (weight (length bytes) + (20 + ACCEPT) + n),
       omega arith,
-      λ found hand f. either_lasts p (claim_from requests 0 o id bytes next) (gone found) (requests + (weight (length bytes) + 20 + n)) (vref_version found % 2 == 0) (claim_lasts id bytes requests 0)
-          (lasting_more p (gone found) (7 + n) (requests + (weight (length bytes) + 20 + n)) (omega arith) (release_lasts p (socket_id_slot id) (λ _. Say o (Gone (record { 0 = found })) next) n (λ b. l))) (row p (LookWord id) found hand v),
+      λ found hand f. either_lasts p (claim_from requests 0 o id bytes next) (gone found) (requests + (weight (length bytes) + (20 + ACCEPT) + n)) (vref_version found % 2 == 0) (claim_lasts id bytes requests 0)
+          (lasting_more p (gone found) (7 + n) (requests + (weight (length bytes) + (20 + ACCEPT) + n)) (omega arith) (release_lasts p (socket_id_slot id) (λ _. Say o (Gone (record { 0 = found })) next) n (λ b. l))) (row p (LookWord id) found hand v),
     )
 
-    send_lasts : (requests name : ℕ) (bytes : List ℕ) → Lasting p (send requests o name bytes next) (requests + (weight (length bytes) + 23 + n))
-    send_lasts requests name bytes = lasting_more p (send requests o name bytes next) (2 + (requests + (weight (length bytes) + 21 + n))) (requests + (weight (length bytes) + 23 + n)) (omega arith)
-        (reach_lasts name (Say o Unopened next) (λ id. start requests o id bytes next) (λ found. Say o (Gone (record { 0 = found })) next) (requests + (weight (length bytes) + 21 + n)) n (omega arith)
-        (lasting_more p next n (requests + (weight (length bytes) + 21 + n)) (omega arith) l) (λ id. start_lasts requests id bytes) (λ found. l))
+    send_lasts : (requests name : ℕ) (bytes : List ℕ) → Lasting p (send requests o name bytes next) (requests + (weight (length bytes) + (23 + ACCEPT) + n))
+    send_lasts requests name bytes = lasting_more p (send requests o name bytes next) (2 + (requests + (weight (length bytes) + (21 + ACCEPT) + n))) (requests + (weight (length bytes) + (23 + ACCEPT) + n)) (omega arith)
+        (reach_lasts name (Say o Unopened next) (λ id. start requests o id bytes next) (λ found. Say o (Gone (record { 0 = found })) next) (requests + (weight (length bytes) + (21 + ACCEPT) + n)) n (omega arith)
+        (lasting_more p next n (requests + (weight (length bytes) + (21 + ACCEPT) + n)) (omega arith) l) (λ id. start_lasts requests id bytes) (λ found. l))
 
     -- ## Calls
 
@@ -124,7 +124,7 @@ module _ (p : Plan) where
     )
       where
         tries : ℕ
-        tries = p.requests + weight 131072 + POST + CHANGE + 23
+        tries = p.requests + weight 131072 + POST + CHANGE + 23 + ACCEPT
 
     claim_id_lasts : (asked : Asked) → AskedFits p asked → (ids i socket : ℕ) → Lasting p (claim_id ids i p.requests socket asked next) (ids + (begin_cost p asked + n))
     claim_id_lasts asked fits zero i socket v = lasts_more p v next n (0 + (begin_cost p asked + n)) (omega arith) (l v)
@@ -175,7 +175,7 @@ module _ (p : Plan) where
   -- what an operation costs, and the reference that it may leave, over so many id slots
   abbrev pub op_cost : ℕ → Op → ℕ
   op_cost ids (ops.Open name k) = p.slots + 6
-  op_cost ids (ops.Send name bytes) = p.requests + (weight (length bytes) + 23)
+  op_cost ids (ops.Send name bytes) = p.requests + (weight (length bytes) + (23 + ACCEPT))
   op_cost ids (ops.Call asked) = 1 + (ids + begin_cost p asked)
   op_cost ids (ops.Expire t) = 1 + POST
   op_cost ids (ops.Join t) = 2
@@ -192,7 +192,7 @@ module _ (p : Plan) where
 
   operation_lasts : (q : IdPlan) (held : List HeldLife) (o : ℕ) (next : List HeldLife → Program) (n : ℕ) → ((hs : List HeldLife) → Lasting p (next hs) (n + 7 * length hs)) → (op : Op) → OpFits p op → Lasting p (operation (sizes_of p q) held o next op) (op_cost q.slots op + n + 7 * length held)
   operation_lasts q held o next n l (ops.Open name k) fits = lasting_more p (open_from p.slots 0 o name k (next held)) (p.slots + 6 + (n + 7 * length held)) (p.slots + 6 + n + 7 * length held) (omega arith) (open_lasts o (next held) (n + 7 * length held) (l held) name k p.slots 0)
-  operation_lasts q held o next n l (ops.Send name bytes) fits = lasting_more p (send p.requests o name bytes (next held)) (p.requests + (weight (length bytes) + 23 + (n + 7 * length held))) (p.requests + (weight (length bytes) + 23) + n + 7 * length held) (omega arith)
+  operation_lasts q held o next n l (ops.Send name bytes) fits = lasting_more p (send p.requests o name bytes (next held)) (p.requests + (weight (length bytes) + (23 + ACCEPT) + (n + 7 * length held))) (p.requests + (weight (length bytes) + (23 + ACCEPT)) + n + 7 * length held) (omega arith)
       (send_lasts o (next held) (n + 7 * length held) (l held) p.requests name bytes)
   operation_lasts q held o next n l (ops.Call asked) fits = lasting_more p (call p.requests q.slots asked (next held)) (1 + (q.slots + (begin_cost p asked + (n + 7 * length held)))) (1 + (q.slots + begin_cost p asked) + n + 7 * length held) (omega arith) (call_lasts o (next held) (n + 7 * length held) (l held) asked fits q.slots)
   operation_lasts q held o next n l (ops.Expire t) fits = lasting_more p (expire o t (next held)) (1 + (POST + (n + 7 * length held))) (1 + POST + n + 7 * length held) (omega arith) (expire_lasts o (next held) (n + 7 * length held) (l held) t)
