@@ -39,5 +39,6 @@ pub mod Recorded
 pub mod Closing
 pub mod Opening
 pub mod Quiets
+pub mod Bounded
 pub mod Whole
 pub mod Rested

@@ -293,3 +293,7 @@ AreCounted p c (m ∷ ms) = IsCounted c m × AreCounted p (ticked p c m) ms
 -- no run has more ticks that move
 abbrev pub MOST_TICKS : ℕ
 MOST_TICKS = 281474976710656
+
+-- where fewer are left, so few messages are accepted that the place of each fits its word
+abbrev pub MOST_PAID : ℕ
+MOST_PAID = 562949953421312
