@@ -32,6 +32,9 @@ use Rattle.sock_runs.proofs.Costs.{Lasting, lasting_more}
 use Rattle.sock_runs.proofs.WalksLeft.{set_few}
 use Rattle.sock_runs.proofs.SeatCosts.{waiting_left, waiting_set, settled}
 use Rattle.sock_runs.proofs.IdsLeft.{all_stale}
+use Rattle.sock_runs.proofs.Along.{beginning_ahead, seat_ahead}
+use Rattle.sock_runs.proofs.Bounded.{IsBounded}
+use Rattle.client_laws.proofs.Few.{opening_few}
 use Rattle.id_runs.proofs.Opening.{unused}
 use Rattle.client_laws.specs.Openings.{client_view, opening_views, all_seats}
 use Rattle.client_laws.proofs.OpCosts.{op_cost, task_cost, client_lasts, ending_of_lasts}
@@ -199,7 +202,16 @@ module _ (p : Plan) (q : IdPlan) (clients : List (List Task)) (calls opens : Lis
   calls_few = let ids = no_ids p.requests (begun_core p q clients calls opens).calls.words q.slots (λ i inside. ap (λ (w : Parts). w.state) ((unused q).ids i inside)) in
       let waits = none_wait p q.seats in let stale = all_stale (begun_core p q clients calls opens).calls.words (map at_first all) in omega (arith, ids, waits, stale)
 
-  pub opening_lasts : AreTasks p clients → IsWithinLimits p → q.slots ≤ 4096 → length clients ≤ 32 → length opens ≤ 256 → length calls ≤ 4096 → AllByRecursion (λ o. o < p.operations) opens
+  length_readers : (k : ℕ) (os : List ℕ) → length (readers_from calls k os) ≡ length os
+  length_readers k [] = refl
+  length_readers k (o ∷ os) = ap suc (length_readers (k + 1) os)
+
+  many : length clients ≤ 32 → length all ≡ 32 + length opens
+  many few = length-append (programs (sizes_of p q) clients) (replicate (32 - length (programs (sizes_of p q) clients)) Rest ++ readers_from calls 0 opens)
+      ∙ (ap (λ m. length (programs (sizes_of p q) clients) + m) (length-append (replicate (32 - length (programs (sizes_of p q) clients)) Rest) (readers_from calls 0 opens))
+      ∙ omega (arith, few, length-map clients (client_from (sizes_of p q) []), length-replicate {A = Program} (32 - length (programs (sizes_of p q) clients)) Rest, length_readers 0 opens))
+
+  pub opening_lasts : AreTasks p clients → IsWithinLimits p → q.slots ≤ 4096 → length clients ≤ 32 → length opens ≤ 32 → length calls ≤ 4096 → AllByRecursion (λ o. o < p.operations) opens
       → Lasts p (begun_core p q clients calls opens) (opening_views p (all_seats clients (length opens))) MOST_TICKS
   opening_lasts are limits ids few_clients few_opens few_calls inside = let fit = are.fit in let small = are.few in let lasts = all_last fit in record {
     numbers = first_numbers;
@@ -209,7 +221,8 @@ module _ (p : Plan) (q : IdPlan) (clients : List (List Task)) (calls opens : Lis
       arith,
       numbers_sum limits ids fit small few_calls,
       homes_light p,
-      no_walks p (walk_left (accepted (opening_views p (all_seats clients (length opens))))) (all_seats clients (length opens)), no_entries p (all_seats clients (length opens)),
+      no_walks p (walk_left (accepted (opening_views p (all_seats clients (length opens))))) (all_seats clients (length opens)),
+      no_entries p (all_seats clients (length opens)),
       calls_few,
       few_clients,
       few_opens,
@@ -217,15 +230,23 @@ module _ (p : Plan) (q : IdPlan) (clients : List (List Task)) (calls opens : Lis
       many few_clients,
     );
   }
-    where
-      many : length clients ≤ 32 → length all ≡ 32 + length opens
-      many few = length-append (programs (sizes_of p q) clients) (replicate (32 - length (programs (sizes_of p q) clients)) Rest ++ readers_from calls 0 opens)
-          ∙ (ap (λ m. length (programs (sizes_of p q) clients) + m) (length-append (replicate (32 - length (programs (sizes_of p q) clients)) Rest) (readers_from calls 0 opens))
-          ∙ omega (arith, few, length-map clients (client_from (sizes_of p q) []), length-replicate {A = Program} (32 - length (programs (sizes_of p q) clients)) Rest, readers_length 0 opens))
-        where
-          readers_length : (k : ℕ) (os : List ℕ) → length (readers_from calls k os) ≡ length os
-          readers_length k [] = refl
-          readers_length k (o ∷ os) = ap suc (readers_length (k + 1) os)
+
+  length_seats : length clients ≤ 32 → length (all_seats clients (length opens)) ≡ 32 + length opens
+  length_seats few = length-append clients (replicate (32 - length clients) [] ++ replicate (length opens) [])
+      ∙ (ap (λ m. length clients + m) (length-append (replicate (32 - length clients) []) (replicate (length opens) []))
+      ∙ omega (arith, few, length-replicate {A = List Task} (32 - length clients) [], length-replicate {A = List Task} (length opens) []))
+
+  -- a run begins with at most so many ticks
+  pub opening_bounded : AreTasks p clients → IsWithinLimits p → q.slots ≤ 4096 → length clients ≤ 32 → length opens ≤ 32 → length calls ≤ 4096 → AllByRecursion (λ o. o < p.operations) opens
+      → IsBounded p MOST_TICKS (begun_core p q clients calls opens) (opening_views p (all_seats clients (length opens)))
+  opening_bounded are limits ids few_clients few_opens few_calls inside = record {
+    ahead = beginning_ahead p q all;
+    few_seats = omega (arith, few_opens, length-map all at_first, many few_clients);
+    left = MOST_TICKS;
+    lasts = opening_lasts are limits ids few_clients few_opens few_calls inside;
+    within = omega arith;
+    few = opening_few p (all_seats clients (length opens)) (omega (arith, few_opens, length_seats few_clients));
+  }
 
 -- ## The ending begins
 
@@ -271,3 +292,17 @@ ending_lasts p c vs os n lasts = record {
 -- behind the ending the readers are told, which changes nothing else
 pub told_lasts : (p : Plan) (c : Core) (vs : List View) (n : ℕ) → Lasts p c vs n → Lasts p (is_ending c) vs n
 told_lasts p c vs n lasts = record { numbers = lasts.numbers; each = lasts.each; seats = lasts.seats; sum = lasts.sum }
+
+-- the ending begins with so many ticks more
+pub ending_bounded : (p : Plan) (most : ℕ) (c : Core) (vs : List View) (os : List ℕ) → IsBounded p most c vs → IsBounded p (most + 20 * length os) (with_seat 0 (ending_of os) [] c.words c.homes c) vs
+ending_bounded p most c vs os b = let within = b.within in let seats = b.few_seats in record {
+  ahead = seat_ahead c 0 (ending_of os) [] c.words c.homes b.ahead;
+  few_seats = omega (arith, seats, length-set c.seats 0 (record { program = next_step (resolved (waiting_at c.calls.waiting 0) (ending_of os)); hand = [] }));
+  left = b.left + 20 * length os;
+  lasts = ending_lasts p c vs os b.left b.lasts;
+  within = omega (arith, within);
+  few = b.few;
+}
+
+pub told_bounded : (p : Plan) (most : ℕ) (c : Core) (vs : List View) → IsBounded p most c vs → IsBounded p most (is_ending c) vs
+told_bounded p most c vs b = record { ahead = b.ahead; few_seats = b.few_seats; left = b.left; lasts = told_lasts p c vs b.left b.lasts; within = b.within; few = b.few }

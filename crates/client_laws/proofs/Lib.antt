@@ -13,6 +13,6 @@ pub mod Opens
 pub mod Whole
 pub mod OpCosts
 pub mod ReaderCosts
-pub mod Lasting
 pub mod Few
+pub mod Lasting
 pub mod Fresh

@@ -98,13 +98,13 @@ module _ (p : Plan) (c : Core) (vs : List View) (m : Moment) where
 
 -- ## A run over prompt links
 
--- no seat has an outcome to say before its next step, there are few seats, so few ticks are left that few messages are accepted, and each seat had few accepted
-pub record IsBounded (p : Plan) (c : Core) (vs : List View) : Type 0 where
+-- no seat has an outcome to say before its next step, there are few seats, at most so many ticks are left, and each seat had few messages accepted
+pub record IsBounded (p : Plan) (most : ℕ) (c : Core) (vs : List View) : Type 0 where
   pub ahead : IsAhead c
   pub few_seats : length c.seats ≤ 64
   pub left : ℕ
   pub lasts : Lasts p c vs left
-  pub within : left < MOST_PAID
+  pub within : left ≤ most
   pub few : AreFew vs
 
 module _ (p : Plan) (go : RetriesGo p) (c : Core) (vs : List View) (m : Moment) (sound : Sound p c vs) (answered : IsAnswered c m) (prompt : IsPrompt m) (fitting : IsFitting p c m) (counted : IsCounted c m) where
@@ -117,12 +117,12 @@ module _ (p : Plan) (go : RetriesGo p) (c : Core) (vs : List View) (m : Moment) 
       same : ticked p c m ≡ c → views_after p c vs m ≡ vs → Lasts p (ticked p c m) (views_after p c vs m) n
       same a b = subst (λ d. Lasts p d (views_after p c vs m) n) (sym a) (subst (λ us. Lasts p c us n) (sym b) lasts)
 
-  pub bounded_ticks : IsBounded p c vs → IsBounded p (ticked p c m) (views_after p c vs m)
-  bounded_ticks b = let l = tick_lasts b.left b.ahead b.few_seats b.lasts in let le = l.1 in let within = b.within in let seats = b.few_seats in record {
+  pub bounded_ticks : (most : ℕ) → most < MOST_PAID → IsBounded p most c vs → IsBounded p most (ticked p c m) (views_after p c vs m)
+  bounded_ticks most small b = let l = tick_lasts b.left b.ahead b.few_seats b.lasts in let le = l.1 in let within = b.within in let seats = b.few_seats in record {
     ahead = ticked_ahead p c m b.ahead;
     few_seats = omega (arith, seats, ticked_seats p c m);
     left = l.0;
     lasts = l.2;
     within = omega (arith, le, within);
-    few = few_lasts p c vs m b.left sound answered fitting b.lasts b.within b.few;
+    few = few_lasts p c vs m b.left sound answered fitting b.lasts (omega (arith, within, small)) b.few;
   }
