@@ -206,8 +206,9 @@ module _ (p : Plan) (q : IdPlan) (clients : List (List Task)) (calls opens : Lis
   length_readers k [] = refl
   length_readers k (o ∷ os) = ap suc (length_readers (k + 1) os)
 
-  many : length clients ≤ 32 → length all ≡ 32 + length opens
-  many few = length-append (programs (sizes_of p q) clients) (replicate (32 - length (programs (sizes_of p q) clients)) Rest ++ readers_from calls 0 opens)
+  -- how many seats there are
+  pub length_all : length clients ≤ 32 → length all ≡ 32 + length opens
+  length_all few = length-append (programs (sizes_of p q) clients) (replicate (32 - length (programs (sizes_of p q) clients)) Rest ++ readers_from calls 0 opens)
       ∙ (ap (λ m. length (programs (sizes_of p q) clients) + m) (length-append (replicate (32 - length (programs (sizes_of p q) clients)) Rest) (readers_from calls 0 opens))
       ∙ omega (arith, few, length-map clients (client_from (sizes_of p q) []), length-replicate {A = Program} (32 - length (programs (sizes_of p q) clients)) Rest, length_readers 0 opens))
 
@@ -227,11 +228,11 @@ module _ (p : Plan) (q : IdPlan) (clients : List (List Task)) (calls opens : Lis
       few_clients,
       few_opens,
       length-map all at_first,
-      many few_clients,
+      length_all few_clients,
     );
   }
 
-  length_seats : length clients ≤ 32 → length (all_seats clients (length opens)) ≡ 32 + length opens
+  pub length_seats : length clients ≤ 32 → length (all_seats clients (length opens)) ≡ 32 + length opens
   length_seats few = length-append clients (replicate (32 - length clients) [] ++ replicate (length opens) [])
       ∙ (ap (λ m. length clients + m) (length-append (replicate (32 - length clients) []) (replicate (length opens) []))
       ∙ omega (arith, few, length-replicate {A = List Task} (32 - length clients) [], length-replicate {A = List Task} (length opens) []))
@@ -241,7 +242,7 @@ module _ (p : Plan) (q : IdPlan) (clients : List (List Task)) (calls opens : Lis
       → IsBounded p MOST_TICKS (begun_core p q clients calls opens) (opening_views p (all_seats clients (length opens)))
   opening_bounded are limits ids few_clients few_opens few_calls inside = record {
     ahead = beginning_ahead p q all;
-    few_seats = omega (arith, few_opens, length-map all at_first, many few_clients);
+    few_seats = omega (arith, few_opens, length-map all at_first, length_all few_clients);
     left = MOST_TICKS;
     lasts = opening_lasts are limits ids few_clients few_opens few_calls inside;
     within = omega arith;

@@ -1,12 +1,14 @@
 -- Both tables stay sound, tick by tick, and each tick is as each table relies on.
-use Rattle.std.proofs.Common.{◌≡◌, ◌≤◌, List, [], ◌∷◌}
+use Rattle.std.proofs.Common.{ℕ, ◌≡◌, ◌<◌, ◌≤◌, List, [], ◌∷◌}
 use Rattle.sock_words.specs.declared.plain.Plan.{Plan}
 use Rattle.sock_model.specs.declared.view.View.{View}
 use Rattle.corr_core.specs.declared.marks.Plan.{Plan as IdPlan}
 use Rattle.sock_programs.specs.Cores.{Core}
-use Rattle.sock_programs.specs.Ticks.{Moment, IsAnswered, AreAnswered, ticked, run}
+use Rattle.sock_programs.specs.Ticks.{Moment, IsAnswered, AreAnswered, IsPrompt, ticked, run}
 use Rattle.sock_runs.specs.Sound.{Sound, IsFitting, AreFitting, views_after, views_along}
-use Rattle.sock_runs.specs.Lasts.{IsCounted, AreCounted}
+use Rattle.sock_runs.specs.Lasts.{IsCounted, AreCounted, MOST_PAID}
+use Rattle.sock_runs.proofs.Bounded.{IsBounded, bounded_ticks}
+use Rattle.std.specs.List.{AllByRecursion}
 use Rattle.sock_runs.proofs.Ticks.{sound_ticks}
 use Rattle.client_laws.proofs.Retrying.{retries_go}
 use Rattle.id_runs.specs.Held.{IdView}
@@ -30,6 +32,11 @@ pub record FitsBoth (p : Plan) (c : Core) (m : Moment) : Type 0 where
 abbrev pub AreBoth : Plan → IdPlan → Core → List View → List Moment → Type 0
 AreBoth p q c vs [] = BothSound p q c vs
 AreBoth p q c vs (m ∷ moments) = BothSound p q c vs × FitsBoth p c m × AreBoth p q (ticked p c m) (views_after p c vs m) moments
+
+-- and few ticks are left at each of them
+abbrev pub AreBounded : Plan → ℕ → Core → List View → List Moment → Type 0
+AreBounded p most c vs [] = IsBounded p most c vs
+AreBounded p most c vs (m ∷ moments) = IsBounded p most c vs × AreBounded p most (ticked p c m) (views_after p c vs m) moments
 
 module _ (p : Plan) (q : IdPlan) (narrow : q.slots ≤ 65536) (same : q.operations ≡ p.operations) where
   pub fits_both : (c : Core) (vs : List View) (m : Moment) → BothSound p q c vs → IsAnswered c m → FitsBoth p c m
@@ -63,3 +70,15 @@ module _ (p : Plan) (q : IdPlan) where
   pub are_counted : (c : Core) (vs : List View) (moments : List Moment) → AreBoth p q c vs moments → AreCounted p c moments
   are_counted c vs [] are = tt
   are_counted c vs (m ∷ moments) are = (are.1.counted, are_counted (ticked p c m) (views_after p c vs m) moments are.2)
+
+  -- where each link is prompt, no tick leaves more
+  pub bounded_along : (most : ℕ) → most < MOST_PAID → (c : Core) (vs : List View) (moments : List Moment) → AreBoth p q c vs moments → AreAnswered p c moments → AllByRecursion IsPrompt moments → IsBounded p most c vs → AreBounded p most c vs moments
+  bounded_along most small c vs [] are answered prompt b = b
+  bounded_along most small c vs (m ∷ moments) are answered prompt b = let sockets = are.0.sockets in let limits = sockets.limits in (
+    b,
+    bounded_along most small (ticked p c m) (views_after p c vs m) moments are.2 answered.1 prompt.1 (bounded_ticks p (retries_go p limits.requests) c vs m are.0.sockets answered.0 prompt.0 are.1.fitting are.1.counted most small b),
+  )
+
+  pub behind_bounded : (most : ℕ) (c : Core) (vs : List View) (moments : List Moment) → AreBounded p most c vs moments → IsBounded p most (run p c moments) (views_along p c vs moments)
+  behind_bounded most c vs [] b = b
+  behind_bounded most c vs (m ∷ moments) b = behind_bounded most (ticked p c m) (views_after p c vs m) moments b.1

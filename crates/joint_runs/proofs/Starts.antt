@@ -18,6 +18,9 @@ use Rattle.sock_runs.specs.Sound.{IsWithinLimits, IsAhead}
 use Rattle.sock_runs.proofs.Along.{seat_rests}
 use Rattle.client_laws.specs.Openings.{opening_views, all_seats}
 use Rattle.client_laws.proofs.Beginning.{unused, no_message}
+use Rattle.sock_runs.specs.Lasts.{MOST_TICKS}
+use Rattle.sock_runs.proofs.Bounded.{IsBounded}
+use Rattle.client_laws.proofs.Lasting.{length_all, length_seats, opening_bounded}
 use Rattle.client_laws.proofs.Opens.{begun_core, opens_sound, ending_sound, told_sound}
 use Rattle.id_runs.specs.Goes.{HomesFit, CodesFit}
 use Rattle.id_runs.proofs.Opening.{all_go, begins_ids, first_views, ending_ids, told_ids}
@@ -29,33 +32,24 @@ pub record AreFor (p : Plan) (q : IdPlan) (clients : List (List Task)) (calls op
   pub limits : IsWithinLimits p
   pub plan : PlanFits p
   pub few_clients : length clients ≤ 32
-  pub few_opens : length opens ≤ 256
+  pub few_opens : length opens ≤ 32
   pub opens_in : AllByRecursion (λ o. o < p.operations) opens
   pub calls_in : AllByRecursion (λ o. o < q.operations) calls
   -- an id slot for each call, and a seat for each client and reader
   pub slots : length calls ≡ q.slots
-  pub few_slots : q.slots ≤ 65536
+  pub few_slots : q.slots ≤ 4096
   pub operations : q.operations ≡ p.operations
   pub seats : q.seats ≡ 32 + length opens
-
-length_readers : (calls : List ℕ) (k : ℕ) (os : List ℕ) → length (readers_from calls k os) ≡ length os
-length_readers calls k [] = refl
-length_readers calls k (o ∷ os) = ap suc (length_readers calls (k + 1) os)
-
-length_seats : (clients : List (List Task)) (n : ℕ) → length clients ≤ 32 → length (all_seats clients n) ≡ 32 + n
-length_seats clients n few = length-append clients (replicate (32 - length clients) [] ++ replicate n [])
-    ∙ (ap (λ m. length clients + m) (length-append (replicate (32 - length clients) []) (replicate n []))
-    ∙ omega (arith, few, length-replicate {A = List Task} (32 - length clients) [], length-replicate {A = List Task} n []))
 
 module _ (p : Plan) (q : IdPlan) (clients : List (List Task)) (calls opens : List ℕ) (f : AreFor p q clients calls opens) where
   abbrev all : List Program
   all = all_programs (programs (sizes_of p q) clients) (readers_from calls 0 opens)
 
-  length_all : length all ≡ q.seats
-  length_all = let few = f.few_clients in let is = f.seats in let a = length-map clients (client_from (sizes_of p q) []) in
-      length-append (programs (sizes_of p q) clients) (replicate (32 - length (programs (sizes_of p q) clients)) Rest ++ readers_from calls 0 opens)
-      ∙ (ap (λ m. length (programs (sizes_of p q) clients) + m) (length-append (replicate (32 - length (programs (sizes_of p q) clients)) Rest) (readers_from calls 0 opens))
-      ∙ omega (arith, few, is, a, length-replicate {A = Program} (32 - length (programs (sizes_of p q) clients)) Rest, length_readers calls 0 opens))
+  pub narrow : q.slots ≤ 65536
+  narrow = let few = f.few_slots in omega (arith, few)
+
+  length_is : length all ≡ q.seats
+  length_is = let is = f.seats in omega (arith, is, length_all p q clients calls opens f.few_clients)
 
   codes : CodesFit p (opening_words p)
   codes i inside = let z = (unused p).codes i inside in omega (arith, z)
@@ -67,17 +61,21 @@ module _ (p : Plan) (q : IdPlan) (clients : List (List Task)) (calls opens : Lis
 
   pub opens_both : BothSound p q (begun_core p q clients calls opens) (opening_views p (all_seats clients (length opens)))
   opens_both = record {
-    sockets = opens_sound p q clients calls opens f.are f.limits f.plan (let few = f.few_opens in omega (arith, few, length_seats clients (length opens) f.few_clients)) f.opens_in;
+    sockets = opens_sound p q clients calls opens f.are f.limits f.plan (let few = f.few_opens in omega (arith, few, length_seats p q clients calls opens f.few_clients)) f.opens_in;
     id_views = first_views q.seats;
-    ids = begins_ids p q f.few_slots f.operations all (let are = f.are in all_go p q f.few_slots f.operations clients calls opens are.fit f.calls_in f.slots) length_all codes owners;
+    ids = begins_ids p q narrow f.operations all (let are = f.are in all_go p q narrow f.operations clients calls opens are.fit f.calls_in f.slots) length_is codes owners;
   }
+
+  -- and at most so many ticks are left
+  pub opens_bounded : IsBounded p MOST_TICKS (begun_core p q clients calls opens) (opening_views p (all_seats clients (length opens)))
+  opens_bounded = opening_bounded p q clients calls opens f.are f.limits f.few_slots f.few_clients f.few_opens (let few = f.few_slots in let is = f.slots in omega (arith, few, is)) f.opens_in
 
   -- where seat 0 has no step left it may make the ending
   pub ending_both : (c : Core) (vs : List View) → IsAhead c → IsAtRest c 0 → BothSound p q c vs → BothSound p q (with_seat 0 (ending_of opens) [] c.words c.homes c) vs
   ending_both c vs ahead idle b = record {
     sockets = ending_sound p c vs opens f.opens_in ahead idle b.sockets;
     id_views = b.id_views;
-    ids = ending_ids p q f.few_slots f.operations c b.id_views opens (λ seat at. seat_rests c ahead 0 idle seat at) b.ids;
+    ids = ending_ids p q narrow f.operations c b.id_views opens (λ seat at. seat_rests c ahead 0 idle seat at) b.ids;
   }
 
 -- behind the ending the readers are told
