@@ -1,9 +1,8 @@
 -- Behind any tick no more is left than before, and each seat has few messages accepted.
-use Rattle.std.proofs.Common.{◌≡◌, ◌≢◌, ℕ, ◌+◌, ◌-◌, ◌<◌, ◌≤◌, ◌⊎◌, Bool, true, false, not, ◌||◌, List, [], ◌∷◌, length, set, refl, sym, ap, ◌∙◌, subst, ⊎_elim, arith, cond, eqb}
+use Rattle.std.proofs.Common.{◌≡◌, ℕ, ◌-◌, ◌<◌, ◌≤◌, Bool, true, false, not, ◌||◌, List, [], ◌∷◌, length, set, refl, sym, ap, ◌∙◌, subst, ⊎_elim, arith, cond, eqb}
 use Rattle.std.proofs.lemmas.Bool.{true≢false}
 use Rattle.std.specs.Prelude.{slice_index}
 use Rattle.std.specs.Prelude as std
-use Rattle.std.specs.List.{AllByRecursion}
 use mathlib.Core.Option.{Option, some, none}
 use lib.ListN.{get_elem?}
 use Rattle.atomic_table.proofs.Lists.{set_again}
@@ -19,13 +18,12 @@ use Rattle.sock_model.specs.Entries.{slot_of}
 use Rattle.sock_model.specs.Memory.{UNCONNECTED}
 use Rattle.sock_model.specs.ChainRows.{with_right}
 use Rattle.sock_model.specs.SlotRows.{met}
-use Rattle.sock_programs.specs.Calls.{ReadNext, LoadOpen}
+use Rattle.sock_programs.specs.Calls.{ReadNext}
 use Rattle.sock_programs.specs.Writings as heads
-use Rattle.sock_programs.specs.Asides.{Nothing}
 use Rattle.sock_programs.specs.Heads.{Head, Exit, Locks, Joins, Opens, Reads, Discards}
 use Rattle.sock_programs.specs.Programs.{Program, Rest, Write, Round, NO_SOCKET}
 use Rattle.sock_programs.specs.Cores.{Core, SeatState}
-use Rattle.sock_programs.specs.Ticks.{Answer, OfReady, OfTake, Moment, IsAnswered, AreAnswered, IsPrompt, ticked, run, tick_with, waits_at, waits_in, waits}
+use Rattle.sock_programs.specs.Ticks.{Answer, OfReady, Moment, IsAnswered, IsPrompt, ticked, tick_with, waits_at, waits_in, waits}
 use Rattle.sock_programs.specs.Runs.{IsAtRest}
 use Rattle.sock_runs.specs.Rows.{row, hand_at, by_right, read_next, found_id}
 use Rattle.sock_runs.specs.GoesOn.{GoesOn}
