@@ -1,11 +1,11 @@
 -- The tables of a script within its limits are made for it.
-use Rattle.std.proofs.Common.{◌≡◌, ℕ, zero, suc, ◌+◌, ◌<◌, ◌≤◌, Bool, true, false, List, [], ◌∷◌, length, refl, sym, ap, ◌∙◌, subst, arith, cond}
+use Rattle.std.proofs.Common.{◌≡◌, ℕ, suc, ◌+◌, ◌<◌, ◌≤◌, Bool, true, false, List, [], ◌∷◌, length, refl, sym, ap, subst, arith, cond}
 use Rattle.std.specs.Prelude.{Option, Some, None, filter_map, unwrap_or}
 use Rattle.std.specs.List.{AllByRecursion, cons_option}
 use Rattle.sock_model.specs.Lawful.{PlanFits}
 use Rattle.brpc_model.specs.Items.{Item, Slots, Requests, First, Open, Client, Send, Call, Expire, Join, Fail, Hold, Drop, Sched, Tick, To, is_open, is_call, opened_name}
 use Rattle.brpc_model.specs.Operations.{Operation, operations_from, operations, link_names}
-use Rattle.sock_programs.specs.Tasks.{Numbered, numbered_from, opens, calls, plan_of, id_plan_of}
+use Rattle.sock_programs.specs.Tasks.{Numbered, numbered_from, opens, plan_of}
 use Rattle.sock_programs.specs.Scripts.{all_tasks}
 use Rattle.sock_programs.specs.Told.{AreTasks}
 use Rattle.sock_runs.specs.Sound.{IsWithinLimits}
