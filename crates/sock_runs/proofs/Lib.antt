@@ -41,3 +41,4 @@ pub mod Opening
 pub mod Quiets
 pub mod Whole
 pub mod Rested
+pub mod Versions
