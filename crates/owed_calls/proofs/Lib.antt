@@ -22,3 +22,4 @@ pub mod MoveTicks
 pub mod IdFacts
 pub mod OwingTicks
 pub mod AllSettled
+pub mod LivesFit
