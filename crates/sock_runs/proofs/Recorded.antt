@@ -27,7 +27,7 @@ use Rattle.sock_runs.specs.Sound.{state, Sound, first_step, IsFitting, AreFittin
 use Rattle.sock_runs.proofs.Along.{place_inside}
 use Rattle.sock_runs.proofs.Notes.{bears, births_only, birth_notes}
 use Rattle.sock_runs.proofs.Records.{stores, next_stores, but, Records, next_stored, first_stored, opens_same}
-use Rattle.sock_runs.proofs.Through.{records_passes, records_follow, comes_follows}
+use Rattle.sock_runs.proofs.Through.{records_passes, records_opens, records_follow, comes_follows}
 use Rattle.sock_runs.proofs.ThroughCalls.{through_first, through_next}
 use Rattle.sock_runs.proofs.Cases.{ComesNext, with_rights, tick_keeps_marks}
 use Rattle.sock_runs.proofs.Rounds.{begins_round}
@@ -132,7 +132,7 @@ module _ (p : Plan) (Q : ℕ → ℕ → Type 0) (c : Core) (vs : List View) (i 
   seat' = record { program = next_step (resolved (waiting_at c.calls.waiting i) (next (found_at c.words (word_of p call)))); hand = hand_after p call c.homes seat.hand }
 
   mine : Records (r.left i) (Do call next)
-  mine = subst (Records (r.left i)) is (through_first (Records (r.left i)) (records_passes (r.left i)) (records_follow (r.left i)) seat.program (r.records i seat at_seat))
+  mine = subst (Records (r.left i)) is (through_first (Records (r.left i)) (records_passes (r.left i)) (records_opens (r.left i)) (records_follow (r.left i)) seat.program (r.records i seat at_seat))
 
   -- the other seats are as they were
   stays : (j : ℕ) (s : SeatState) → j ≢ i → get_elem? c.seats j ≡ some s → get_elem? after.seats j ≡ some s
@@ -256,7 +256,7 @@ module _ (p : Plan) (Q : ℕ → ℕ → Type 0) (c : Core) (vs : List View) (i 
 
   still_records : Records (r.left i) program
   still_records = comes_follows (Records (r.left i)) (records_follow (r.left i)) p (first_step seat.program) program comes
-      (through_first (Records (r.left i)) (records_passes (r.left i)) (records_follow (r.left i)) seat.program (r.records i seat at_seat))
+      (through_first (Records (r.left i)) (records_passes (r.left i)) (records_opens (r.left i)) (records_follow (r.left i)) seat.program (r.records i seat at_seat))
 
   still_stands : (id : ℕ) → Stands p Q c r.left id → Stands p Q (with_seat i program hand c.words hs (record c { calls = a })) r.left id
   still_stands id (inl (j, o, q, x)) = inl (j, o, q, record { inside = x.inside; word = x.word; spent = x.spent })
