@@ -42,3 +42,4 @@ pub mod Quiets
 pub mod Whole
 pub mod Rested
 pub mod Versions
+pub mod ReaderSeats
