@@ -43,3 +43,4 @@ pub mod Whole
 pub mod Rested
 pub mod Versions
 pub mod ReaderSeats
+pub mod OpensStay

@@ -277,7 +277,7 @@ module _ (p : Plan) (Q : ℕ → ℕ → Type 0) (c : Core) (vs : List View) (i 
     lives = λ j h inside born. still_stands (socket_id h j) (r.lives j h inside (omega (arith, born, still_born j h)));
   }
 
-recorded_ticks : (p : Plan) (Q : ℕ → ℕ → Type 0) (c : Core) (vs : List View) (m : Moment) → Sound p c vs → IsAnswered c m → IsFitting p c m → Recorded p Q c vs → Recorded p Q (ticked p c m) (views_after p c vs m)
+pub recorded_ticks : (p : Plan) (Q : ℕ → ℕ → Type 0) (c : Core) (vs : List View) (m : Moment) → Sound p c vs → IsAnswered c m → IsFitting p c m → Recorded p Q c vs → Recorded p Q (ticked p c m) (views_after p c vs m)
 recorded_ticks p Q c vs m sound answered fitting r = tick_keeps_marks p c vs m sound answered fitting (begins_round p) (goes_round p) (Recorded p Q) r
     (λ seat v call next at_seat at_view is goes. by_call seat v call next at_seat at_view is goes.0)
     (λ seat v program rights hand hs a at_seat at_view comes. still_recorded p Q c vs m.seat r seat v program rights hand hs a at_seat at_view comes)
