@@ -44,3 +44,5 @@ pub mod Rested
 pub mod Versions
 pub mod ReaderSeats
 pub mod OpensStay
+pub mod LinkNotes
+pub mod LinksRecorded
