@@ -46,3 +46,4 @@ pub mod ReaderSeats
 pub mod OpensStay
 pub mod LinkNotes
 pub mod LinksRecorded
+pub mod LinksOpening

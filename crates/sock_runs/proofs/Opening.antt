@@ -129,7 +129,7 @@ mapped f [] i b at = absurd (some-ne-none b (sym at))
 mapped f (x ∷ xs) zero b at = (x, refl, some-injective (f x) b at)
 mapped f (x ∷ xs) (suc i) b at = mapped f xs i b at
 
-appended : {A : Type 0} (xs ys : List A) (j : ℕ) (a : A) → get_elem? (xs ++ ys) j ≡ some a → (get_elem? xs j ≡ some a) ⊎ ((k : ℕ) × (get_elem? ys k ≡ some a))
+pub appended : {A : Type 0} (xs ys : List A) (j : ℕ) (a : A) → get_elem? (xs ++ ys) j ≡ some a → (get_elem? xs j ≡ some a) ⊎ ((k : ℕ) × (get_elem? ys k ≡ some a))
 appended [] ys j a at = inr (j, at)
 appended (x ∷ xs) ys zero a at = inl at
 appended (x ∷ xs) ys (suc j) a at = appended xs ys j a at
