@@ -47,3 +47,5 @@ pub mod OpensStay
 pub mod LinkNotes
 pub mod LinksRecorded
 pub mod LinksOpening
+pub mod LinksStay
+pub mod WillStore

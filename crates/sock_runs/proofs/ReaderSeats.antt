@@ -24,7 +24,7 @@ use Rattle.sock_programs.specs.Readers.{read, reader}
 use Rattle.sock_programs.specs.Cores.{Calls, Core, SeatState, word_of, word_after, found_at, words_after, hand_after, resolved, next_step, waiting_at, with_seat, stepped}
 use Rattle.sock_programs.specs.Ticks.{Moment, ticked, run, IsAnswered, AreAnswered}
 use Rattle.sock_programs.specs.Scripts.{beginning, readers_from, all_programs}
-use Rattle.sock_runs.specs.May.{May}
+use Rattle.sock_runs.specs.May.{May, Knows}
 use Rattle.sock_runs.specs.Sound.{Sound, first_step, IsFitting, AreFitting, views_after, views_along}
 use Rattle.sock_runs.proofs.Records.{stores, loads, awaits, opens_same}
 use Rattle.sock_runs.proofs.Notes.{bears}
@@ -113,17 +113,18 @@ behind_none call next x found = x found
 
 -- ## Words of operations
 
+-- what is stored there isn't 0
+pub stored_some : (p : Plan) (v : View) (w : ℕ) → (w ≡ NO_SOCKET) ⊎ (IsTrue (nat_lt 0 w) × Knows p v (w - 1)) → w ≡ 0 → ⊥
+stored_some p v w (inl e) z = let y : 18446744073709551615 ≡ 0 = sym e ∙ z in omega (arith, y)
+stored_some p v w (inr k) z = let y : IsTrue (nat_lt 0 0) = subst (λ x. IsTrue (nat_lt 0 x)) z k.0 in true≢false (sym y)
+
 -- a word that was stored isn't 0 again
-stays_stored : (p : Plan) (c : Core) (v : View) (o : ℕ) → o < p.operations → length c.words ≡ Rattle.sock_model.specs.Layout.all_words p → (call : Call) → May p v call → get_or c.words (open_word p o) 0 ≢ 0
+pub stays_stored : (p : Plan) (c : Core) (v : View) (o : ℕ) → o < p.operations → length c.words ≡ Rattle.sock_model.specs.Layout.all_words p → (call : Call) → May p v call → get_or c.words (open_word p o) 0 ≢ 0
     → get_or (words_after c.words (word_of p call) (word_after call (found_at c.words (word_of p call)))) (open_word p o) 0 ≢ 0
 stays_stored p c v o inside sized (StoreOpen n w) may some_ = dite (ℕ_discrete n o)
     (λ e. λ z. let same : get_or (set c.words (open_word p n) w) (open_word p o) 0 ≡ w = ap (λ k. get_or (set c.words (open_word p n) w) (open_word p k) 0) (sym e) ∙ get_or-set_same c.words (open_word p n) w 0 (omega (arith, inside, e, sized)) in
-    stored w may.1 (sym same ∙ z))
+    stored_some p v w may.1 (sym same ∙ z))
     (λ far. λ z. some_ (sym (get_or-set_other c.words (open_word p n) (open_word p o) w 0 (λ e. far (omega (arith, e)))) ∙ z))
-  where
-    stored : (w : ℕ) → (w ≡ NO_SOCKET) ⊎ (IsTrue (nat_lt 0 w) × Rattle.sock_runs.specs.May.Knows p v (w - 1)) → w ≡ 0 → ⊥
-    stored w (inl e) z = let y : 18446744073709551615 ≡ 0 = sym e ∙ z in omega (arith, y)
-    stored w (inr k) z = let y : IsTrue (nat_lt 0 0) = subst (λ x. IsTrue (nat_lt 0 x)) z k.0 in true≢false (sym y)
 stays_stored p c v o inside sized call may some_ = by_none call may refl
   where
     by_none : (call : Call) → May p v call → stores call ≡ none → get_or (words_after c.words (word_of p call) (word_after call (found_at c.words (word_of p call)))) (open_word p o) 0 ≢ 0
