@@ -23,3 +23,4 @@ pub mod IdFacts
 pub mod OwingTicks
 pub mod AllSettled
 pub mod LivesFit
+pub mod OwingRuns
