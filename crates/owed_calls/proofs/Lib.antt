@@ -24,3 +24,4 @@ pub mod OwingTicks
 pub mod AllSettled
 pub mod LivesFit
 pub mod OwingRuns
+pub mod OwingEnding

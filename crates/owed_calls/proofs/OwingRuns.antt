@@ -140,3 +140,32 @@ module _ (p : Plan) (q : IdPlan) (narrow : q.slots ≤ 65536) (same : q.operatio
     fits_step : (answer : Answer) → OthersFit q life calls c u answer (goes.first_of seat.program) → StepFits p q life calls c seat u answer (goes.first_of seat.program)
     fits_step answer f = subst (StepFits p q life calls c seat u answer) (sym (same_first seat.program)) (by_program answer (first_step seat.program) refl
         (goes_first p v (begins_round p v) (goes_round p v) seat.program (sound.seats i seat v at_seat at_view).goes_on) (subst (OthersFit q life calls c u answer) (same_first seat.program) f))
+
+  -- ## Over a run
+
+  beside : {A B : Type 0} (l : List A) (m : List B) (j : ℕ) (a : A) → length m ≡ length l → get_elem? l j ≡ some a → (b : B) × (get_elem? m j ≡ some b)
+  beside [] m j a e at = absurd (some-ne-none a (sym at))
+  beside (x ∷ xs) [] j a e at = absurd (let z : ⊥ = omega (arith, e) in z)
+  beside (x ∷ xs) (y ∷ ys) zero a e at = (y, refl)
+  beside (x ∷ xs) (y ∷ ys) (suc j) a e at = beside xs ys j a (omega (arith, e)) at
+
+  module _ (go : RetriesGo p) (Q : ℕ → ℕ → Type 0) where
+    -- what stands at the end of some ticks says the same before them
+    pub reach_back : (c : Core) (vs : List View) (ms : List Moment) → Sound p c vs → AreAnswered p c ms → AreFitting p c ms → Recorded p Q c vs → Reaches (run p c ms) (views_along p c vs ms) → Reaches c vs
+    reach_back c vs ms sound answered fitting recorded r = record {
+      stays = λ o inside some_. let e = run_word p Q o inside go c vs ms sound answered fitting recorded some_ in r.stays o inside (λ z. some_ (sym e ∙ z)) ∙ e;
+      given = λ i h k inside g. r.given i h k inside (run_given p i h k go c vs ms sound answered fitting g);
+    }
+
+    one_tick : (c : Core) (vs : List View) (m : Moment) → Sound p c vs → Reaches c vs → AllReaders c → length c.seats ≡ 32 + length os → ((ws : List IdView) × SoundIds p q c ws) → IsSaying q life calls c m → (us : List Owing) → SoundOwing q life calls c us
+        → (us' : List Owing) × SoundOwing q life calls (ticked p c m) us'
+    one_tick c vs m sound reach readers many known says us owing = owing_ticks p q narrow same life links calls c us known.0 m owing known.1
+        (λ seat u at_seat at. let v = beside c.seats vs m.seat seat sound.each at_seat in fits_step c vs sound reach readers many us owing m.seat seat u v.0 at_seat at v.1 m.answer (says us owing seat u at_seat at))
+
+    pub run_owing : (c : Core) (vs : List View) (ms : List Moment) → Sound p c vs → AreAnswered p c ms → AreFitting p c ms → Recorded p Q c vs → AllReaders c → length c.seats ≡ 32 + length os → AreSaying p q life calls c ms
+        → Reaches (run p c ms) (views_along p c vs ms) → (us : List Owing) → SoundOwing q life calls c us → (us' : List Owing) × SoundOwing q life calls (run p c ms) us'
+    run_owing c vs [] sound answered fitting recorded readers many says reach us owing = (us, owing)
+    run_owing c vs (m ∷ ms) sound answered fitting recorded readers many says reach us owing =
+        let next = one_tick c vs m sound (reach_back c vs (m ∷ ms) sound answered fitting recorded reach) readers many says.0 says.1 us owing in
+        run_owing (ticked p c m) (views_after p c vs m) ms (sound_ticks p go c vs m sound answered.0 fitting.0) answered.1 fitting.1 (recorded_ticks p Q c vs m sound answered.0 fitting.0 recorded)
+        (λ n o at. run_reader p calls (32 + n) n o (in_os n o at) go c vs (m ∷ []) sound (answered.0, tt) (fitting.0, tt) (readers n o at)) (run_seats p c (m ∷ []) ∙ many) says.2 reach next.0 next.1
