@@ -26,3 +26,4 @@ pub mod LivesFit
 pub mod OwingRuns
 pub mod OwingEnding
 pub mod Beginning
+pub mod Ended
