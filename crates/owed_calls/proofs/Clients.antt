@@ -31,7 +31,7 @@ calm_on : (u v : Owing) → IsCalm u → Further u v → IsCalm v
 calm_on u v c f = (f.duty ∙ c.0, f.left ∙ c.1, f.link ∙ c.2)
 
 -- who has no link finds none failed
-no_link : (life : ℕ → Option ℕ) (u : Owing) → u.link ≡ [] → FoundFailed life u
+pub no_link : (life : ℕ → Option ℕ) (u : Owing) → u.link ≡ [] → FoundFailed life u
 no_link life u none_ k s e lives = let z : [] ≡ k ∷ [] = sym none_ ∙ e in absurd cc
 
 -- an operation that waits for others

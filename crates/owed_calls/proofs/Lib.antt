@@ -25,3 +25,5 @@ pub mod AllSettled
 pub mod LivesFit
 pub mod OwingRuns
 pub mod OwingEnding
+pub mod Beginning
+pub mod Ended

@@ -68,7 +68,7 @@ same_first (Keep r next) = refl
 same_first (Retries requests after) = refl
 
 -- a word that names a socket is one more than its id
-id_is : (w s : ℕ) → id_of w ≡ Some s → (w ≡ s + 1) × (w ≢ NO_SOCKET)
+pub id_is : (w s : ℕ) → id_of w ≡ Some s → (w ≡ s + 1) × (w ≢ NO_SOCKET)
 id_is w s e = by_zero (eqb w 0) (eqb w NO_SOCKET) refl refl e
   where
     by_zero : (z n : Bool) → eqb w 0 ≡ z → eqb w NO_SOCKET ≡ n → cond z None (cond n None (Some (w - 1))) ≡ Some s → (w ≡ s + 1) × (w ≢ NO_SOCKET)
@@ -77,7 +77,7 @@ id_is w s e = by_zero (eqb w 0) (eqb w NO_SOCKET) refl refl e
     by_zero false false a b e = let y : w - 1 ≡ s = cc in let some_ : w ≢ 0 = (λ z. true≢false (sym (eq-eqb w 0 z) ∙ a)) in (omega (arith, y, some_), λ z. true≢false (sym (eq-eqb w NO_SOCKET z) ∙ b))
 
 -- a word that isn't 0
-id_by : (w : ℕ) → w ≢ 0 → id_of w ≡ cond (w == NO_SOCKET) None (Some (w - 1))
+pub id_by : (w : ℕ) → w ≢ 0 → id_of w ≡ cond (w == NO_SOCKET) None (Some (w - 1))
 id_by w some_ = ap (λ b. cond b None (cond (w == NO_SOCKET) None (Some (w - 1)))) (ne_eqb w 0 some_)
 
 module _ (p : Plan) (q : IdPlan) (narrow : q.slots ≤ 65536) (same : q.operations ≡ p.operations) (calls os final : List ℕ) (in_os : (k o : ℕ) → get_elem? os k ≡ some o → o < p.operations)
