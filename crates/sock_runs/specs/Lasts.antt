@@ -70,7 +70,7 @@ abbrev pub home_weight : Option Home → ℕ
 home_weight (some (Message heading bytes)) = weight (length bytes)
 home_weight other = 0
 
--- whoever has a message accepted pays so much for good, so that no more are accepted than that
+-- whoever has a message accepted pays so much for it, which stays in what is counted: so where the sum is bounded, few are accepted
 abbrev pub ACCEPT : ℕ
 ACCEPT = 16777216
 
