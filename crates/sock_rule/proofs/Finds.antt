@@ -99,15 +99,15 @@ finds_beside {S} {shows} {p} {s} t id v u here some_ mine ws x word was same kep
 pub puts_beside : {S : Type 0} {shows : S → Home} {p : Plan} {s : State S View} (t : OnTable shows p s) (id : ℕ) (v : View) (here : get_elem? s.views id ≡ some v) (some_ : 0 < v.share) (mine : v.plan ≡ p) (ws : List ℕ) (x word : ℕ)
     → Settled p (record { place = x; word = word } ∷ t.stored) ws s.homes → Rule shows p record { words = ws; homes = s.homes; views = set s.views id (noting x (wrote x word v)) }
     → OnTable shows p record { words = ws; homes = s.homes; views = set s.views id (put_at x word (record { place = x; word = word } ∷ t.stored) v) }
-puts_beside {S} {shows} {p} {s} t id v here some_ mine ws x word kept r = let new : StoredWord = record { place = x; word = word } in let u : View = noting x (wrote x word v) in let w : View = put_at x word (record { place = x; word = word } ∷ t.stored) v in
+puts_beside {S} {shows} {p} {s} t id v here some_ mine ws x word kept r = let u : View = noting x (wrote x word v) in let w : View = put_at x word (record { place = x; word = word } ∷ t.stored) v in
     let more : (y z : ℕ) → is_put y z record { place = x; word = word } + total (put_in y z) s.views ≡ total (put_in y z) (set s.views id w) = λ y z. omega (arith, total-set (put_in y z) s.views id v w here, wrote_more x word y z v) in
     record {
-      rule = subst (λ vs. Rule shows p record { words = ws; homes = s.homes; views = vs }) (set_twice s.views id u w) (aside_rule {s = record { words = ws; homes = s.homes; views = set s.views id u }} id u (set_at s.views id u (at_length s.views id v here)) r mine u.share u.finds (new ∷ t.stored ∷ v.histories));
+      rule = subst (λ vs. Rule shows p record { words = ws; homes = s.homes; views = vs }) (set_twice s.views id u w) (aside_rule {s = record { words = ws; homes = s.homes; views = set s.views id u }} id u (set_at s.views id u (at_length s.views id v here)) r mine u.share u.finds ((record { place = x; word = word } ∷ t.stored) ∷ v.histories));
       housed = t.housed;
       shares = (let a = t.shares in omega (arith, total-set share_of s.views id v w here));
       listed = λ j z g. ⊎_elim (λ y. subst (λ (q : View). lists_of q ≤ q.share) y.1 (t.listed id v here)) (λ y. t.listed j z y.1) (at_set s.views id j w z g);
       idle = λ j z g none_. ⊎_elim (λ y. absurd (omega (arith, ap (λ (q : View). q.share) y.1))) (λ y. t.idle j z y.1 none_) (at_set s.views id j w z g);
-      stored = new ∷ t.stored;
+      stored = record { place = x; word = word } ∷ t.stored;
       put = λ y z. let a = t.put y z in omega (arith, more y z);
       settled = kept;
       met = λ j z g n h e. ⊎_elim (λ y. own n h (subst (λ (q : View). get_elem? q.histories n ≡ some h) (sym y.1) e)) (λ y. further h (t.met j z y.1 n h e)) (at_set s.views id j w z g);
