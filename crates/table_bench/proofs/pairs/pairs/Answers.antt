@@ -1,6 +1,4 @@
-use Rattle.std.proofs.Common.{◌∙◌}
 use Rattle.sock_open.proofs.Testing.{done_between, kept_done}
-use Rattle.sock_open.proofs.Racing.{told_known}
 use Rattle.table_bench.proofs.pairs.pairs.Goals as goal
 
 pub find-requires-clause-seat : goal.find-requires-clause-seat

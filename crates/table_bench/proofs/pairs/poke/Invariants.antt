@@ -1,4 +1,3 @@
-use Rattle.std.proofs.Common.{◌≡◌}
 use Rattle.sock_table.specs.Closed.{IsDoneSeat}
 use Rattle.sock_table.specs.Refs.{Knows}
 use Rattle.table_bench.proofs.pairs.poke.Given as goal
