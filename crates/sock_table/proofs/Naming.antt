@@ -61,10 +61,14 @@ module _ {S : Type 0} (x word : ℕ) (m n : Me S View) (told : FoundAt x word m 
   read_nothing e = record { all = told.all; view = ap (λ (y : Me S View). y.0) told.view ∙ ap (λ (z : ℕ). found_at x z told.all m.0) e; history = subst (λ (z : ℕ). IsHistory x z m.0 told.all) e told.history }
 
   pub read_id : word ≢ 0 → word ≢ NOTHING → (id : ℕ) → id ≡ word - 1 → FindsId x id m.0 n.0
-  read_id some_ an_id id e = let is : word ≡ id + 1 = omega arith in record { all = told.all; history = subst (λ (z : ℕ). IsHistory x z m.0 told.all) is told.history; view = ap (λ (y : Me S View). y.0) told.view
-      ∙ (ap (λ b. cond b m.0 (cond (eqb word 18446744073709551615) (finding x word told.all m.0) (finding x word told.all (met ((word - 1) % 4294967296) ((word - 1) / 4294967296) m.0)))) (ne_eqb word 0 some_)
-      ∙ (ap (λ b. cond b (finding x word told.all m.0) (finding x word told.all (met ((word - 1) % 4294967296) ((word - 1) / 4294967296) m.0))) (ne_eqb word 18446744073709551615 an_id)
-      ∙ (let f : word ≡ id + 1 = omega arith in (λ i. finding x (f i) told.all (met (sym e i % 4294967296) (sym e i / 4294967296) m.0))))) }
+  read_id some_ an_id id e = let is : word ≡ id + 1 = omega arith in record {
+    all = told.all;
+    history = subst (λ (z : ℕ). IsHistory x z m.0 told.all) is told.history;
+    view = ap (λ (y : Me S View). y.0) told.view
+        ∙ (ap (λ b. cond b m.0 (cond (eqb word 18446744073709551615) (finding x word told.all m.0) (finding x word told.all (met ((word - 1) % 4294967296) ((word - 1) / 4294967296) m.0)))) (ne_eqb word 0 some_)
+        ∙ (ap (λ b. cond b (finding x word told.all m.0) (finding x word told.all (met ((word - 1) % 4294967296) ((word - 1) / 4294967296) m.0))) (ne_eqb word 18446744073709551615 an_id)
+        ∙ (let f : word ≡ id + 1 = omega arith in (λ i. finding x (f i) told.all (met (sym e i % 4294967296) (sym e i / 4294967296) m.0)))));
+  }
 
   pub read_slots : n.1 ≡ m.1
   read_slots = ap (λ (y : Me S View). y.1) told.view
