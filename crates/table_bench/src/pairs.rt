@@ -145,7 +145,12 @@ fn by_four<R: Threads + Sync>(
 }
 
 /// By 1, 2 or 4 threads, so many pairs by each: how many references were got.
-pub fn on_threads<R: Threads + Sync>(rt: &R, alloc: Global, threads: u32, count: u32) -> Option<u64> {
+pub fn on_threads<R: Threads + Sync>(
+    rt: &R,
+    alloc: Global,
+    threads: u32,
+    count: u32,
+) -> Option<u64> {
     let Made {
         table,
         mut seats,
