@@ -1,5 +1,5 @@
 -- What the tests hand out of a new table, and seats between their calls.
-use Rattle.std.proofs.Common.{◌≡◌, ◌≢◌, ℕ, zero, suc, false, ◌+◌, ◌-◌, ◌<◌, ◌≤◌, List, [], ◌∷◌, ◌++◌, refl, sym, ap, ◌∙◌, subst, arith, IfSome, Option, Some, None, option_to_list}
+use Rattle.std.proofs.Common.{◌≡◌, ℕ, ◌+◌, ◌<◌, List, [], ◌∷◌, ◌++◌, refl, sym, ap, ◌∙◌, subst, arith, IfSome, Option, Some, None, option_to_list}
 use Rattle.atomic_table.specs.Seated.{TableId}
 use Rattle.atomic_table.specs.Table.{Me}
 use Rattle.atomic_table.specs.declared.shared.Seat.{Seat}
@@ -11,7 +11,6 @@ use Rattle.sock_model.specs.declared.marks.Mark.{Mark}
 use Rattle.sock_model.specs.declared.marks.SlotMark.{SlotMark}
 use Rattle.sock_model.specs.declared.view.View.{View}
 use Rattle.sock_model.specs.Weights.{total, is_ref, is_known}
-use Rattle.sock_model.specs.SlotRows.{marks_of}
 use Rattle.slot_laws.proofs.Sums.{total-append}
 use Rattle.sock_rule.specs.Becoming.{Became}
 use Rattle.sock_rule.proofs.Becoming.{then_}
@@ -25,7 +24,7 @@ use Rattle.sock_table.specs.Answers.{LinkOf}
 use Rattle.sock_table.specs.Closed.{AllDone, IsDoneSeat}
 use Rattle.sock_open.specs.Made.{IsNewSeat, AreNewSeats, PassesFrom}
 use Rattle.sock_open.proofs.Testing.{done_between, kept_done}
-use Rattle.sock_open.proofs.Making.{new_view, new_done}
+use Rattle.sock_open.proofs.Making.{new_view}
 
 -- the link that was found is a note, and no reference
 pub linked_notes : (p : Plan) (k id : ℕ) (v w : View) → LinkOf p k id v w → (adds : List Mark) × (total is_ref adds ≡ 0) × Became (socket_id_slot id) v w adds []
