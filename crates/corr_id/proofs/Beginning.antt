@@ -4,14 +4,13 @@ use Rattle.std.specs.Prelude.{Option as Maybe}
 use mathlib.Core.Logic.{dite}
 use native.Mathlib.Decide.{ℕ_discrete}
 use Rattle.atomic_table.specs.Seated.{TableId}
-use Rattle.atomic_table.specs.Table.{Me}
 use Rattle.atomic_table.specs.declared.shared.Seat.{Seat}
 use Rattle.corr_core.specs.Word.{parts, free_word}
 use Rattle.corr_core.specs.Law.{Each}
 use Rattle.corr_core.specs.declared.marks.Plan.{Plan}
 use Rattle.corr_core.specs.declared.marks.View.{View}
 use Rattle.sock_words.specs.Words.{IsIdWord}
-use Rattle.id_rule.specs.Lawful.{tag_word, id_word, all_words, Unused, first_view, lighter, newcomer}
+use Rattle.id_rule.specs.Lawful.{tag_word, id_word, all_words, Unused, newcomer}
 use Rattle.corr_id.specs.Opening.{AreNew}
 
 -- the first n slots have their words
@@ -66,6 +65,3 @@ module _ {C : Type 0} where
   -- the seat that stands for so many
   abbrev pub stands_for : ℕ → View C
   stands_for n = record { tokens = []; notes = []; kept = []; share = n }
-
-  pub lighter_is : (m : Me (Maybe C) (View C)) (n : ℕ) → m ≡ (stands_for (suc n), []) → ◌≡◌ {A = Me (Maybe C) (View C)} (lighter m.0, m.1) (stands_for n, [])
-  lighter_is m n e = ap (λ (k : Me (Maybe C) (View C)). (lighter k.0, k.1)) e

@@ -13,6 +13,7 @@ use Rattle.corr_core.specs.declared.marks.Note.{Note}
 use Rattle.corr_core.specs.declared.marks.Noted.{Noted}
 use Rattle.corr_core.specs.declared.marks.View.{View}
 use Rattle.id_rule.specs.Lawful.{tokens_in, notes_of}
+use Rattle.id_rule.specs.Plays.{LockFits}
 use Rattle.corr_id.specs.Calls.{Became, one, is_event, events, is_saw, Found, Quiet, Did, Locks, GotLock}
 use Rattle.corr_id.proofs.Seats.{notes_append, total_append}
 
@@ -88,3 +89,36 @@ module _ {C : Type 0} where
   pub queued_did : (i : ℕ) (u v w : View C) (f f' e e' : ℕ) → Quiet u v → Became i v w (tokens_in i v) (one i (Queued f e)) → f ≡ f' → e ≡ e' → Did i u w (tokens_in i u) (one i (Queued f' e'))
   queued_did i u v w f f' e e' q b ff ee = let k = did_more i u v w (tokens_in i u) (tokens_in i v) [] (one i (Queued f e)) (did_none i u v q) b in
       record { tokens = k.tokens ∙ q.tokens i; others = k.others; added = k.added ∙ λ z. record { slot = i; note = Queued (ff z) (ee z) } ∷ events u.notes; grows = k.grows; kept = k.kept; share = k.share }
+
+pub locked_fits : (w q : Parts) → q ≡ locked_word w → LockFits w → w.oldest ≡ 0 → w.second ≡ 0 → LockFits q × (q.state ≡ 2) × (q.oldest ≡ 0 → q.second ≡ 0)
+locked_fits w q e f z y = (
+  subst LockFits (sym e) record { low = f.low; range_low = f.range_low; range_high = f.range_high; room = f.room },
+  ap (λ (k : Parts). k.state) e,
+  (λ n. ap (λ (k : Parts). k.second) e ∙ y),
+)
+
+module _ {C : Type 0} where
+  pub quiet_after : (u v w : View C) → Quiet u v → Quiet v w → Quiet u w
+  quiet_after u v w a b = record {
+    tokens = λ j. b.tokens j ∙ a.tokens j;
+    events_same = b.events_same ∙ a.events_same;
+    grows = λ j g. let x = a.grows j g in let y = b.grows j g in omega arith;
+    kept = b.kept ∙ a.kept;
+    share = b.share ∙ a.share;
+  }
+
+  pub got_after : (i : ℕ) (u v w : View C) (word : ℕ) (k : Parts) (c : C) → Quiet u v → GotLock i v w word k c → GotLock i u w word k c
+  got_after i u v w word k c a b = record {
+    found = b.found;
+    was_open = b.was_open;
+    word_is = b.word_is;
+    locks = b.locks;
+    did = record {
+      tokens = b.did.tokens;
+      others = λ j n. b.did.others j n ∙ a.tokens j;
+      added = b.did.added ∙ ap (λ l. one i (Locker k.first c) ++ l) a.events_same;
+      grows = λ j g. let x = a.grows j g in let y = b.did.grows j g in omega arith;
+      kept = b.did.kept ∙ a.kept;
+      share = b.did.share ∙ a.share;
+    };
+  }

@@ -38,7 +38,7 @@ module _ {C : Type 0} where
   abbrev pub unlock_told : Step (Maybe C) → Me (Maybe C) (View C) → ℕ → Me (Maybe C) (View C) → Type 0
   unlock_told st m found n = (i f rg at o s : ℕ) (c : C) → st.word ≡ id_word i → has_token i (Locked f rg at c o s (Full c)) m
       → (found ≡ st.first → Becomes m n (advanced_view i f (parts st.first).attempt (parts st.second).attempt (popped_view i f rg (parts st.second).attempt c (parts found).oldest (parts found).second (with_note i (Saw found) m.0))))
-      × (found ≢ st.first → Becomes m n (with_token i (Locked f rg at c (parts found).oldest (parts found).second (Full c)) m.0) × Longer f rg at o s (parts found) × FreshBehind {C} (parts found) (Locked f rg at c o s (Full c)))
+      × (found ≢ st.first → Becomes m n (with_token i (Locked f rg at c (parts found).oldest (parts found).second (Full c)) m.0) × Longer f rg at o s (parts found) × FreshBehind (parts found) (Locked f rg at c o s (Full c)))
 
   -- T2: where the seat stored or found a word before, there is one
   abbrev pub load_told : Step (Maybe C) → Me (Maybe C) (View C) → ℕ → Me (Maybe C) (View C) → Type 0

@@ -1,5 +1,5 @@
 // Ids that are made, locked and ended.
-ghost use Rattle.std.specs.Prelude.{◌≡◌, ◌+◌, ◌*◌, ◌/◌, ◌%◌, ◌<◌, ◌≤◌, ◌⊎◌, ℕ, [], ◌∷◌, IfOk, IfErr};
+ghost use Rattle.std.specs.Prelude.{◌≡◌, ◌+◌, ◌*◌, ◌<◌, ◌≤◌, ◌⊎◌, ℕ, [], ◌∷◌, true, false, IfOk, IfErr};
 ghost use Rattle.corr_core.specs.Word.{parts};
 ghost use Rattle.corr_core.specs.Law.{LAST, total, is_tried};
 ghost use Rattle.corr_core.specs.declared.marks.Hand.TheVariants.{Empty, Full};
@@ -150,21 +150,41 @@ impl<C> IdTable<C> {
         let at = slot as u16;
         let own = version % 4_294_967_296;
         'looks: for _ in rt.forever() {
-            let word = IdWord::from_word(self.load_id_word(seat, at));
-            if word.state() == IdWord::FREE
-                || own < word.first() as u64
-                || own >= word.first() as u64 + word.range() as u64
-            {
-                return Err(IdGone { found: word.word() });
+            let found = self.load_id_word(seat, at);
+            let word = IdWord::from_word(found);
+            if is_out_of(word, own) {
+                return Err(IdGone { found });
             }
-            if word.state() == IdWord::OPEN {
-                let next = corr_core::lock_id(word.word(), word).next;
-                if self.lock_id(seat, at, word.word(), next) == word.word() {
-                    return Ok(self.take_call(seat, at, IdWord::from_word(next)));
-                }
+            if word.state() != IdWord::OPEN {
+                continue;
+            }
+            if let Ok(lock) = self.try_lock(seat, at, found) {
+                return Ok(lock);
             }
         }
         unreachable!()
+    }
+
+    // I3 of a word that was found open, and K2; else the word that was found now.
+    pub(crate) fn try_lock(
+        &self,
+        seat: &mut IdSeat<C>,
+        at: u16,
+        from: u64,
+    ) -> Result<IdLock<C>, u64>
+        requires seat { Sits self.now.table.shared.table_id seat.old }
+        requires slot { at < self.now.table.shared.key.slots }
+        requires from { ((parts from).state ≡ 1) × Found at from seat.old.me.0 }
+        ensures seat { Stays seat.old seat.new }
+        ensures locked { IfOk result (λ k. (k.slot ≡ at) × GotLock at seat.old.me.0 seat.new.me.0 from (parts k.word.0) k.content) }
+        ensures lost { IfErr result (λ found. Quiet seat.old.me.0 seat.new.me.0 × Found at found seat.new.me.0) }
+    {
+        let next = corr_core::lock_id(from, IdWord::from_word(from)).next;
+        let found = self.lock_id(seat, at, from, next);
+        if found != from {
+            return Err(found);
+        }
+        Ok(self.take_call(seat, at, IdWord::from_word(next)))
     }
 
     /// The range of the lock ends, with the errors that are queued (`bthread_id_unlock_and_destroy`). The content comes back.
@@ -203,10 +223,27 @@ impl<C> IdTable<C> {
         let at = slot as u16;
         let own = id % 4_294_967_296;
         'looks: for _ in rt.forever() {
-            let word = IdWord::from_word(self.load_id_word(seat, at));
-            if word.first() as u64 != own || word.state() == IdWord::FREE {
+            if lacks_id(IdWord::from_word(self.load_id_word(seat, at)), own) {
                 return;
             }
         }
     }
+}
+
+// Whether the word is free, or has another range than the version's.
+fn is_out_of(word: IdWord, version: u64) -> bool
+    ensures out { result ≡ true → OutOf (parts word.0) version }
+    ensures within { result ≡ false → ((parts word.0).first ≤ version) × (version < (parts word.0).first + (parts word.0).range) }
+{
+    let first = u64::from(word.first());
+    word.state() == IdWord::FREE || version < first || version >= first + u64::from(word.range())
+}
+
+// Whether the word doesn't have the range of this first version.
+pub(crate) fn lacks_id(word: IdWord, first: u64) -> bool
+    ensures lacks { result ≡ true → LacksId (parts word.0) first }
+    ensures has { result ≡ false → ((parts word.0).first ≡ first) × (((parts word.0).state ≡ 1) ⊎ ((parts word.0).state ≡ 2)) }
+{
+    let state = word.state();
+    u64::from(word.first()) != first || (state != IdWord::OPEN && state != IdWord::LOCKED)
 }

@@ -93,6 +93,7 @@ impl<C> IdTable<C> {
         requires from { ((parts from).state ≡ 1) × (parts next ≡ locked_word (parts from)) }
         ensures seat { Stays seat.old seat.new }
         ensures won { result ≡ from → LockFits (parts from) × ((c : C) × Became at seat.old.me.0 seat.new.me.0 (Locked (parts from).first (parts from).range (parts from).attempt c (parts from).oldest (parts from).second (Full c) ∷ []) (one at (Locker (parts from).first c))) }
+        ensures none_queued { result ≡ from → ((parts from).oldest ≡ 0) × ((parts from).second ≡ 0) }
         ensures lost { result ≢ from → Became at seat.old.me.0 seat.new.me.0 (tokens_in at seat.old.me.0) (one at (Saw result)) }
     {
         let word = 2 * at as usize + 1;
@@ -106,23 +107,23 @@ impl<C> IdTable<C> {
         &self,
         seat: &mut IdSeat<C>,
         at: u16,
-        from: IdWord,
+        from: u64,
         next: u64,
         error: u16,
     ) -> u64
         requires seat { Sits self.now.table.shared.table_id seat.old }
         requires slot { at < self.now.table.shared.key.slots }
-        requires from { ((parts from.0).state ≡ 2) × ((parts from.0).second ≡ 0) }
-        requires error { (1 ≤ error) × IsFresh (parts from.0).attempt error }
-        requires next { parts next ≡ posted_word (parts from.0) error }
+        requires from { ((parts from).state ≡ 2) × ((parts from).second ≡ 0) }
+        requires error { (1 ≤ error) × IsFresh (parts from).attempt error }
+        requires next { parts next ≡ posted_word (parts from) error }
         ensures seat { Stays seat.old seat.new }
-        ensures won { result ≡ from.0 → Became at seat.old.me.0 seat.new.me.0 (tokens_in at seat.old.me.0) (one at (Queued (parts from.0).first error)) }
-        ensures lost { result ≢ from.0 → Became at seat.old.me.0 seat.new.me.0 (tokens_in at seat.old.me.0) (one at (Saw result)) }
+        ensures won { result ≡ from → Became at seat.old.me.0 seat.new.me.0 (tokens_in at seat.old.me.0) (one at (Queued (parts from).first error)) }
+        ensures lost { result ≢ from → Became at seat.old.me.0 seat.new.me.0 (tokens_in at seat.old.me.0) (one at (Saw result)) }
     {
         let word = 2 * at as usize + 1;
         self.table
             .shared
-            .compare_exchange::<Queue>(seat, word, from.word(), next)
+            .compare_exchange::<Queue>(seat, word, from, next)
     }
 
     // I5: the id opens, or its oldest error is taken out. The answer is the word found.
@@ -130,25 +131,25 @@ impl<C> IdTable<C> {
         &self,
         seat: &mut IdSeat<C>,
         at: u16,
-        from: IdWord,
+        from: u64,
         next: u64,
         advance: bool,
     ) -> u64
         requires seat { Sits self.now.table.shared.table_id seat.old }
         requires slot { at < self.now.table.shared.key.slots }
-        requires next { parts next ≡ unlocked_word (parts from.0) (tick advance) }
-        requires room { IsTrue advance → (parts from.0).attempt + 2 < (parts from.0).range }
-        requires lock { (c : C) × Locks at seat.old.me.0 (parts from.0) c (Full c) }
+        requires next { parts next ≡ unlocked_word (parts from) (tick advance) }
+        requires room { IsTrue advance → (parts from).attempt + 2 < (parts from).range }
+        requires lock { (c : C) × Locks at seat.old.me.0 (parts from) c (Full c) }
         ensures seat { Stays seat.old seat.new }
-        ensures won { result ≡ from.0 → (c : C) → Locks at seat.old.me.0 (parts from.0) c (Full c) → Became at (with_note at (Saw from.0) seat.old.me.0) seat.new.me.0 (tokens_left (parts from.0) (parts next) c) (advance_note at (parts from.0) (parts next)) }
-        ensures lost { result ≢ from.0 → (c : C) → Locks at seat.old.me.0 (parts from.0) c (Full c) → Became at seat.old.me.0 seat.new.me.0 (Locked (parts result).first (parts result).range (parts result).attempt c (parts result).oldest (parts result).second (Full c) ∷ []) [] }
-        ensures longer { result ≢ from.0 → Longer (parts from.0).first (parts from.0).range (parts from.0).attempt (parts from.0).oldest (parts from.0).second (parts result) }
-        ensures fresh { result ≢ from.0 → ((parts from.0).oldest ≡ 0 → (parts result).oldest ≢ 0 → IsFresh (parts result).attempt (parts result).oldest) × ((parts from.0).second ≡ 0 → (parts result).second ≢ 0 → IsFresh (parts result).attempt (parts result).second) }
+        ensures won { result ≡ from → (c : C) → Locks at seat.old.me.0 (parts from) c (Full c) → Became at (with_note at (Saw from) seat.old.me.0) seat.new.me.0 (tokens_left (parts from) (parts next) c) (advance_note at (parts from) (parts next)) }
+        ensures lost { result ≢ from → (c : C) → Locks at seat.old.me.0 (parts from) c (Full c) → Became at seat.old.me.0 seat.new.me.0 (Locked (parts result).first (parts result).range (parts result).attempt c (parts result).oldest (parts result).second (Full c) ∷ []) [] }
+        ensures longer { result ≢ from → Longer (parts from).first (parts from).range (parts from).attempt (parts from).oldest (parts from).second (parts result) }
+        ensures fresh { result ≢ from → ((parts from).oldest ≡ 0 → (parts result).oldest ≢ 0 → IsFresh (parts result).attempt (parts result).oldest) × ((parts from).second ≡ 0 → (parts result).second ≢ 0 → IsFresh (parts result).attempt (parts result).second) }
     {
         let word = 2 * at as usize + 1;
         self.table
             .shared
-            .compare_exchange::<Unlock>(seat, word, from.word(), next)
+            .compare_exchange::<Unlock>(seat, word, from, next)
     }
 
     // I6: the range of the lock, whose word is `from`, ends.

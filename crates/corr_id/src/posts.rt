@@ -5,7 +5,7 @@ ghost use Rattle.corr_id.specs.Seats.{Sits, Stays};
 ghost use Rattle.corr_id.specs.Calls.{error_in};
 ghost use Rattle.corr_id.specs.Posts.{PostOk, IsStale, IsTimely};
 
-use crate::calls::IdLock;
+use crate::calls::{IdLock, lacks_id};
 use crate::table::{IdSeat, IdTable};
 use sock_words::IdWord;
 use std::sync::Wait;
@@ -49,32 +49,29 @@ impl<C> IdTable<C> {
         let at = slot as u16;
         let own = id % 4_294_967_296;
         let error = corr_core::error_bits(code, attempt);
-        let mut word = IdWord::from_word(self.load_id_word(seat, at));
+        let mut found = self.load_id_word(seat, at);
         'tries: for _ in rt.forever() {
-            let state = word.state();
-            if word.first() as u64 != own || (state != IdWord::OPEN && state != IdWord::LOCKED) {
-                return Posted::Gone(word.word());
+            let word = IdWord::from_word(found);
+            if lacks_id(word, own) {
+                return Posted::Gone(found);
             }
             if is_stale(word, attempt) {
                 return Posted::Stale(word.attempt());
             }
-            if state == IdWord::OPEN {
-                let next = corr_core::lock_id(word.word(), word).next;
-                let found = self.lock_id(seat, at, word.word(), next);
-                if found == word.word() {
-                    return Posted::Locked(self.take_call(seat, at, IdWord::from_word(next)));
+            if word.state() == IdWord::OPEN {
+                match self.try_lock(seat, at, found) {
+                    Ok(lock) => return Posted::Locked(lock),
+                    Err(now) => found = now,
                 }
-                word = IdWord::from_word(found);
+            } else if word.second() != 0 {
+                return Posted::Crowded(word.oldest() / 8, word.second() / 8);
             } else {
-                if word.second() != 0 {
-                    return Posted::Crowded(word.oldest() / 8, word.second() / 8);
-                }
                 let next = queued(word, code, attempt);
-                let found = self.queue_id(seat, at, word, next, error);
-                if found == word.word() {
+                let now = self.queue_id(seat, at, found, next, error);
+                if now == found {
                     return Posted::Queued;
                 }
-                word = IdWord::from_word(found);
+                found = now;
             }
         }
         unreachable!()

@@ -38,23 +38,23 @@ impl<C> IdTable<C> {
         let None = nothing else {
             unreachable!();
         };
-        let mut from = word;
+        let mut from = word.word();
         let mut step = advance;
         'tries: loop {
             let next = without_oldest(from, step);
             let found = self.unlock_id(seat, slot, from, next, step);
-            if found != from.word() {
-                from = IdWord::from_word(found);
+            if found != from {
+                from = found;
                 continue;
             }
-            let oldest = from.oldest();
+            let oldest = IdWord::from_word(from).oldest();
             if oldest == 0 {
                 return Unlocked::Open;
             }
-            from = IdWord::from_word(next);
+            from = next;
             step = false;
             if !is_thrown_away(oldest, from) {
-                let lock = self.take_call(seat, slot, from);
+                let lock = self.take_call(seat, slot, IdWord::from_word(from));
                 return Unlocked::Next(lock, oldest / 8, attempt_in(oldest));
             }
         }
@@ -62,22 +62,22 @@ impl<C> IdTable<C> {
 }
 
 // The word without its oldest error.
-fn without_oldest(word: IdWord, advance: bool) -> u64
-    requires locked { (parts word.0).state ≡ 2 }
-    requires room { IsTrue advance → (parts word.0).attempt + 2 < (parts word.0).range }
-    ensures { parts result ≡ unlocked_word (parts word.0) (tick advance) }
+fn without_oldest(word: u64, advance: bool) -> u64
+    requires locked { (parts word).state ≡ 2 }
+    requires room { IsTrue advance → (parts word).attempt + 2 < (parts word).range }
+    ensures { parts result ≡ unlocked_word (parts word) (tick advance) }
 {
-    corr_core::unlock_id(word.word(), word, advance).next
+    corr_core::unlock_id(word, IdWord::from_word(word), advance).next
 }
 
 // Whether the error is stale at this word.
-fn is_thrown_away(error: u16, word: IdWord) -> bool
+fn is_thrown_away(error: u16, word: u64) -> bool
     requires { 0 < error }
-    ensures thrown { result ≡ true → stale (parts word.0).attempt error ≡ 1 }
-    ensures kept { result ≡ false → stale (parts word.0).attempt error ≡ 0 }
+    ensures thrown { result ≡ true → stale (parts word).attempt error ≡ 1 }
+    ensures kept { result ≡ false → stale (parts word).attempt error ≡ 0 }
 {
     let attempt = error % 8;
-    attempt != 7 && attempt != u16::from(word.attempt())
+    attempt != 7 && attempt != u16::from(IdWord::from_word(word).attempt())
 }
 
 // The attempt of an error.

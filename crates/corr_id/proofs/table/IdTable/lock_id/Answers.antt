@@ -38,3 +38,6 @@ returns-clause-won g c = λ hit. let t = (c.compare_exchange.ensures.2 c.args.at
 
 pub returns-clause-lost : goal.returns-clause-lost
 returns-clause-lost g c = λ miss. became_as c.args.at (ap (λ m. m.0) ((c.compare_exchange.ensures.2 c.args.at refl).1 miss)) (became_note c.args.at c.args.seat.now.me.0 (Saw c.compare_exchange.result))
+
+pub returns-clause-none_queued : goal.returns-clause-none_queued
+returns-clause-none_queued g c = λ hit. subst (λ (y : ℕ). ((parts y).oldest ≡ 0) × ((parts y).second ≡ 0)) hit ((c.compare_exchange.ensures.2 c.args.at refl).0 hit).3

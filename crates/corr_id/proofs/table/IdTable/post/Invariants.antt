@@ -10,5 +10,5 @@ invariant-tries g l = record {
   same_id : l.seat.id ≡ l.fn.seat.id;
   same_slots : l.seat.me.1 ≡ l.fn.seat.me.1;
   quiet : Quiet l.fn.seat.me.0 l.seat.me.0;
-  found : Found (slot_of l.id) l.word.0 l.seat.me.0;
+  found : Found (slot_of l.id) l.found l.seat.me.0;
 }
