@@ -1,9 +1,8 @@
 -- What each change of a view makes of the slot and of the notes.
-use Rattle.std.proofs.Common.{◌≡◌, ◌≢◌, ℕ, Bool, true, false, cond, eqb, eq-eqb, ne_eqb, le-leb, ◌+◌, ◌<◌, ◌≤◌, ◌⊎◌, inl, inr, IsTrue, List, [], ◌∷◌, ◌++◌, append_assoc, Some, None, sym, refl, ap, ◌∙◌, subst, arith}
+use Rattle.std.proofs.Common.{◌≡◌, ◌≢◌, ℕ, Bool, true, false, cond, eqb, eq-eqb, ne_eqb, le-leb, ◌+◌, ◌<◌, ◌≤◌, ◌⊎◌, inl, inr, IsTrue, List, [], ◌∷◌, ◌++◌, append_assoc, sym, refl, ap, ◌∙◌, subst, arith}
 use Rattle.std.specs.Prelude.{Option as Maybe}
 use mathlib.Core.Option.{Option, none, some}
-use Rattle.atomic_table.specs.Table.{Me}
-use Rattle.corr_core.specs.Word.{Parts, parts, tick, unlocked_word}
+use Rattle.corr_core.specs.Word.{Parts, tick, unlocked_word}
 use Rattle.corr_core.specs.Law.{LAST}
 use Rattle.std.proofs.lemmas.Bool.{lt-leb}
 use mathlib.Core.Logic.{dite}
@@ -13,13 +12,13 @@ use Rattle.corr_core.specs.declared.marks.Hand.TheVariants.{Empty, Out, Full}
 use Rattle.corr_core.specs.declared.marks.Token.{Token}
 use Rattle.corr_core.specs.declared.marks.Token.TheVariants.{Claimed, Locked, Leaving}
 use Rattle.corr_core.specs.declared.marks.Note.{Note}
-use Rattle.corr_core.specs.declared.marks.Note.TheVariants.{Tried, Made, Ended, Locker, Queued, Attempt, Saw}
+use Rattle.corr_core.specs.declared.marks.Note.TheVariants.{Tried, Ended, Attempt}
 use Rattle.corr_core.specs.declared.marks.Noted.{Noted}
 use Rattle.corr_core.specs.declared.marks.View.{View}
-use Rattle.id_rule.specs.Lawful.{tokens_in, tokens_of, without, with_token, no_token, with_note}
-use Rattle.id_rule.specs.Plays.{claimed_view, locked_view, ended_view, popped_view, advanced_view, Longer, hand_of, with_hand, value_of, hand_by, IsHome, NotLeaving, Fitting}
+use Rattle.id_rule.specs.Lawful.{tokens_in, with_token, no_token, with_note}
+use Rattle.id_rule.specs.Plays.{claimed_view, ended_view, popped_view, advanced_view, Longer, hand_of, with_hand, hand_by, IsHome, NotLeaving, Fitting}
 use Rattle.corr_id.specs.Calls.{Became, one, tokens_left, advance_note}
-use Rattle.id_rule.proofs.Frames.{token_here, drop_here, note_here, aside_token, aside_drop, aside_note}
+use Rattle.id_rule.proofs.Frames.{token_here, drop_here, aside_token, aside_drop}
 
 module _ {C : Type 0} (i : ℕ) where
   pub became_token : (v : View C) (t : Token C) → Became i v (with_token i t v) (t ∷ []) []

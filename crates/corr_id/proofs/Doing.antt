@@ -1,8 +1,9 @@
 -- What a whole call does to the tokens and to the lists of events.
-use Rattle.std.proofs.Common.{◌≡◌, ◌≢◌, ℕ, ◌+◌, ◌<◌, ◌≤◌, Bool, true, false, cond, eqb, eq-eqb, List, [], ◌∷◌, ◌++◌, append_assoc, sym, refl, ap, ◌∙◌, subst, arith}
+use Rattle.std.proofs.Common.{◌≡◌, ◌≢◌, ℕ, ◌≤◌, ◌⊎◌, ⊎_elim, Some, None, true, false, cond, eq-eqb, List, [], ◌∷◌, ◌++◌, append_assoc, sym, refl, ap, ◌∙◌, subst, arith}
 use mathlib.Core.Logic.{dite}
 use native.Mathlib.Decide.{ℕ_discrete}
-use Rattle.corr_core.specs.Word.{Parts, parts, locked_word}
+use Rattle.std.specs.Prelude.{Option as Maybe, MatchOption}
+use Rattle.corr_core.specs.Word.{Parts, parts, locked_word, error_of}
 use Rattle.corr_core.proofs.Notes.{only-same}
 use Rattle.corr_core.specs.declared.marks.Hand.TheVariants.{Empty, Full}
 use Rattle.corr_core.specs.declared.marks.Token.TheVariants.{Locked}
@@ -14,7 +15,7 @@ use Rattle.corr_core.specs.declared.marks.Noted.{Noted}
 use Rattle.corr_core.specs.declared.marks.View.{View}
 use Rattle.id_rule.specs.Lawful.{tokens_in, notes_of}
 use Rattle.id_rule.specs.Plays.{LockFits}
-use Rattle.corr_id.specs.Calls.{Became, one, is_event, events, is_saw, Found, Quiet, Did, Locks, GotLock}
+use Rattle.corr_id.specs.Calls.{Became, one, is_event, events, is_saw, Found, Quiet, Did, GotLock, error_in}
 use Rattle.corr_id.proofs.Seats.{notes_append, total_append}
 
 module _ {C : Type 0} where
@@ -122,3 +123,10 @@ module _ {C : Type 0} where
       share = b.did.share ∙ a.share;
     };
   }
+
+pub error_is : (attempt : Maybe ℕ) (r code : ℕ) → MatchOption attempt (r ≡ error_of code 7) (λ n. r ≡ error_of code n) → r ≡ error_in code attempt
+error_is None r code h = h
+error_is (Some n) r code h = h
+
+pub was_two : (s : ℕ) → (s ≡ 1) ⊎ (s ≡ 2) → s ≢ 1 → s ≡ 2
+was_two s h n = ⊎_elim (λ e. absurd (n e)) (λ e. e) h

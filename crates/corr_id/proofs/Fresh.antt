@@ -1,5 +1,5 @@
 -- What a step of a seat leaves of the errors that are queued behind those that a lock's holder noted.
-use Rattle.std.proofs.Common.{◌≡◌, ◌≢◌, ℕ, ◌+◌, ◌*◌, ◌<◌, ◌≤◌, ◌⊎◌, inl, inr, cond, eqb, eq-eqb, ne_eqb, List, [], ◌∷◌, get_or, set, length, length-set, get_or-set_same, get_or-set_other, sym, refl, ap, ◌∙◌, subst, arith}
+use Rattle.std.proofs.Common.{◌≡◌, ◌≢◌, ℕ, ◌*◌, ◌<◌, ◌≤◌, cond, eqb, eq-eqb, ne_eqb, List, [], ◌∷◌, get_or, set, get_or-set_same, get_or-set_other, sym, ap, subst, arith}
 use Rattle.std.specs.Prelude.{Option as Maybe}
 use Rattle.std.specs.List.{flat_map}
 use mathlib.Core.Logic.{dite}
@@ -14,13 +14,11 @@ use Rattle.corr_core.specs.declared.marks.Hand.{Hand}
 use Rattle.corr_core.specs.declared.marks.Token.{Token}
 use Rattle.corr_core.specs.declared.marks.Token.TheVariants.{Claimed, Locked, Leaving}
 use Rattle.corr_core.specs.declared.marks.View.{View}
-use Rattle.corr_core.proofs.Notes.{each_map}
 use Rattle.corr_core.proofs.Gather.{gather_same}
 use Rattle.corr_core.proofs.Slots.{queued_word}
 use Rattle.id_rule.specs.Lawful.{tag_word, id_word, tokens_of, tokens_in, local, Lawful}
 use Rattle.id_rule.specs.Plays.{with_hand}
-use Rattle.id_rule.proofs.Frames.{Aside}
-use Rattle.corr_id.specs.Ruled.{IsFresh, FreshBehind, Ruled}
+use Rattle.corr_id.specs.Ruled.{IsFresh, FreshBehind}
 
 module _ {C : Type 0} where
   -- of all slots

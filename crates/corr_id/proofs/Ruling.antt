@@ -1,5 +1,5 @@
 -- Each kind of step keeps the rule of the table.
-use Rattle.std.proofs.Common.{◌≡◌, ◌≢◌, ℕ, zero, suc, ◌+◌, ◌*◌, ◌<◌, ◌≤◌, ◌⊎◌, Bool, true, false, cond, eqb, le-leb, eq-eqb, ne_eqb, List, [], ◌∷◌, get_or, set, sym, refl, ap, ◌∙◌, subst, lt_of_not-le, arith}
+use Rattle.std.proofs.Common.{◌≡◌, ◌≢◌, ℕ, zero, suc, ◌+◌, ◌*◌, ◌<◌, ◌≤◌, Bool, true, false, cond, eqb, le-leb, eq-eqb, ne_eqb, List, [], ◌∷◌, get_or, set, sym, refl, ap, ◌∙◌, subst, lt_of_not-le, arith}
 use Rattle.std.specs.Prelude.{Option as Maybe}
 use Rattle.std.specs.List.{flat_map}
 use Rattle.std.proofs.lemmas.Bool.{lt-leb}
@@ -10,22 +10,21 @@ use lib.ListN.{get_elem?}
 use Rattle.atomic_table.specs.Table.{State, Me, keeps, takes, gives, stepped, homes_after}
 use Rattle.atomic_table.proofs.Lists.{set_here}
 use Rattle.corr_core.specs.Word.{Parts, parts, made_word, locked_word, free_word}
-use Rattle.corr_core.specs.Law.{LAST, Each, total, only}
+use Rattle.corr_core.specs.Law.{LAST, Each, total}
 use Rattle.corr_core.specs.declared.marks.Plan.{Plan}
 use Rattle.corr_core.specs.declared.marks.Hand.{Hand}
 use Rattle.corr_core.specs.declared.marks.Hand.TheVariants.{Empty, Out, Full}
 use Rattle.corr_core.specs.declared.marks.Token.{Token}
 use Rattle.corr_core.specs.declared.marks.Token.TheVariants.{Claimed, Locked, Leaving}
 use Rattle.corr_core.specs.declared.marks.Note.TheVariants.{Tried, Made, Ended, Locker, Queued, Attempt, Saw}
-use Rattle.corr_core.specs.declared.marks.Kept.{Kept}
 use Rattle.corr_core.specs.declared.marks.View.{View}
 use Rattle.corr_core.proofs.Notes.{each_map, each_at, total_some, at_length}
 use Rattle.corr_core.proofs.Shuffles.{each_of}
 use Rattle.corr_core.proofs.Slots.{queued_word, open_word, popped_word, no_tokens}
 use Rattle.id_rule.specs.Lawful.{tag_word, id_word, all_words, tokens_of, tokens_in, local, kept_in, KeptFits, Lawful, with_token, no_token, with_note, with_kept}
 use Rattle.id_rule.specs.Plays.{IsHome, NotLeaving, Fitting, hand_of, with_hand, value_of, hand_by, claimed_view, locked_view, popped_view, ended_view, found_view, LockFits}
-use Rattle.id_rule.proofs.Frames.{token_here, drop_here, aside_token, aside_drop, aside_note, own_tokens, first_tokens, same_tokens}
-use Rattle.id_rule.proofs.Allowed.{own, claims_law, reads_law, sees_law, makes_law, locks_law, queues_law, known, relocks_law, unlocks_law, advances_law, ends_law, frees_law, takes_law, gives_law, home_not_leaving, o}
+use Rattle.id_rule.proofs.Frames.{token_here, drop_here, aside_token, aside_drop, own_tokens, first_tokens, same_tokens}
+use Rattle.id_rule.proofs.Allowed.{own, claims_law, reads_law, sees_law, makes_law, locks_law, queues_law, relocks_law, unlocks_law, advances_law, ends_law, frees_law, takes_law, gives_law, o}
 use Rattle.id_rule.proofs.Kept.{stores_law, finds_law}
 use Rattle.corr_id.specs.Ruled.{IsFresh, FreshBehind, Ruled, is_place}
 use Rattle.corr_id.proofs.Fresh.{AllFresh, noted_all, none_queued, other_hand, one_queued, fresh_tag, fresh_id, own_fresh, fresh_high}

@@ -1,15 +1,14 @@
 -- A seat that is split off, one that is taken in, and the table at its start.
-use Rattle.std.proofs.Common.{◌≡◌, ◌≢◌, ℕ, zero, suc, ◌+◌, ◌-◌, ◌*◌, ◌<◌, ◌≤◌, ◌⊎◌, inl, inr, ⊎_elim, Bool, true, false, cond, eqb, List, [], ◌∷◌, ◌++◌, map, None, length, get_or, set, replicate, length-append, append-nil, sym, refl, ap, ◌∙◌, subst, arith}
+use Rattle.std.proofs.Common.{◌≡◌, ℕ, zero, suc, ◌+◌, ◌*◌, ◌<◌, ◌≤◌, ⊎_elim, true, false, cond, eqb, List, [], ◌∷◌, ◌++◌, map, None, get_or, set, replicate, sym, refl, ap, ◌∙◌, subst, arith}
 use Rattle.std.specs.Prelude.{Option as Maybe}
 use Rattle.std.specs.List.{flat_map}
-use mathlib.Core.Option.{Option, none, some, some-injective, some-ne-none}
+use mathlib.Core.Option.{none, some, some-injective, some-ne-none}
 use lib.ListN.{get_elem?}
-use Rattle.atomic_table.specs.Table.{State, Joins, Splits, opening}
+use Rattle.atomic_table.specs.Table.{Joins, Splits, opening}
 use Rattle.atomic_table.proofs.Lists.{at_set, at_snoc}
 use Rattle.corr_core.specs.Word.{parts, free_word}
-use Rattle.corr_core.specs.Law.{LAST, total, Each, born, Local, SlotLaw, vacant}
+use Rattle.corr_core.specs.Law.{total, Each, Local, SlotLaw, vacant}
 use Rattle.corr_core.specs.declared.marks.Plan.{Plan}
-use Rattle.corr_core.specs.declared.marks.Note.{Note}
 use Rattle.corr_core.specs.declared.marks.Noted.{Noted}
 use Rattle.corr_core.specs.declared.marks.Kept.{Kept}
 use Rattle.corr_core.specs.declared.marks.View.{View}
@@ -17,7 +16,7 @@ use Rattle.corr_core.proofs.Notes.{each_map, total_set}
 use Rattle.corr_core.proofs.Gather.{gather_same}
 use Rattle.corr_core.proofs.Shuffles.{shuffled, total_flat, each_of, each_in, each_both, flat_snoc}
 use Rattle.corr_id.specs.Ruled.{FreshBehind, Ruled}
-use Rattle.id_rule.specs.Lawful.{tag_word, id_word, all_words, KeptFits, kept_in, is_stored, tokens_of, notes_of, tokens_in, notes_in, share_of, local, IsBare, Lawful, Unused, first_view, spent, newcomer, lighter, joined}
+use Rattle.id_rule.specs.Lawful.{tag_word, id_word, KeptFits, kept_in, is_stored, tokens_of, notes_of, tokens_in, notes_in, share_of, local, IsBare, Lawful, Unused, first_view, spent, newcomer, lighter, joined}
 
 pub total_append : {A : Type 0} (g : A → ℕ) (l m : List A) → total g (l ++ m) ≡ total g l + total g m
 total_append g [] m = omega arith

@@ -9,7 +9,7 @@ use Rattle.corr_core.specs.declared.marks.Noted.{Noted}
 use Rattle.corr_core.specs.declared.marks.View.{View}
 use Rattle.id_rule.specs.Lawful.{tokens_in, with_note}
 use Rattle.id_rule.specs.Plays.{LockFits}
-use Rattle.corr_id.specs.Calls.{Became, Did, Locks, Found, one, events, advance_note, tokens_left, error_in}
+use Rattle.corr_id.specs.Calls.{Became, Did, Locks, one, events, advance_note, tokens_left, error_in}
 use Rattle.corr_id.specs.Posts.{IsTimely}
 use Rattle.corr_id.specs.Unlocks.{Stepped, Replaced}
 use Rattle.corr_id.proofs.Becoming.{became_note}

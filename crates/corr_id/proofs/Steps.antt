@@ -1,34 +1,25 @@
 -- Each step with what it tells.
-use Rattle.std.proofs.Common.{◌≡◌, ◌≢◌, ℕ, ◌+◌, ◌*◌, ◌<◌, ◌≤◌, ◌⊎◌, inl, inr, ⊎_elim, Bool, true, false, cond, eqb, eq-eqb, ne_eqb, le-leb, List, [], ◌∷◌, Some, None, length, get_or, set, lt_of_not-le, get_or-set_same, get_or-set_other, sym, refl, ap, ◌∙◌, subst, arith}
+use Rattle.std.proofs.Common.{◌≡◌, ◌≢◌, ℕ, ◌+◌, ◌*◌, ◌<◌, ◌≤◌, ◌⊎◌, ⊎_elim, true, cond, eqb, eq-eqb, ne_eqb, List, [], ◌∷◌, get_or, sym, refl, ap, ◌∙◌, subst, arith}
 use Rattle.std.specs.Prelude.{Option as Maybe}
-use Rattle.std.specs.List.{flat_map}
-use Rattle.std.proofs.lemmas.Bool.{lt-leb}
 use mathlib.Core.Logic.{dite}
-use mathlib.Core.Option.{Option, none, some}
-use native.Mathlib.Decide.{ℕ_discrete, dec_le}
-use lib.ListN.{get_elem?}
+use mathlib.Core.Option.{none}
+use native.Mathlib.Decide.{ℕ_discrete}
 use prog.Atomic.{either}
 use Rattle.atomic_table.specs.Table.{State, Me, step, Act, keeps, takes, gives, stepped, homes_after, carried_after, Allows}
-use Rattle.atomic_table.proofs.Lists.{set_here, at_set}
-use Rattle.corr_core.specs.Word.{Parts, parts, made_word, locked_word, posted_word, unlocked_word, free_word, error_of}
-use Rattle.corr_core.specs.Law.{LAST, Each, total, only, Local, SlotLaw}
+use Rattle.corr_core.specs.Word.{Parts, parts, made_word, locked_word, posted_word, unlocked_word, free_word}
 use Rattle.corr_core.specs.declared.marks.Plan.{Plan}
 use Rattle.corr_core.specs.declared.marks.Hand.{Hand}
 use Rattle.corr_core.specs.declared.marks.Hand.TheVariants.{Empty, Out, Full}
 use Rattle.corr_core.specs.declared.marks.Token.{Token}
 use Rattle.corr_core.specs.declared.marks.Token.TheVariants.{Claimed, Locked, Leaving}
-use Rattle.corr_core.specs.declared.marks.Note.TheVariants.{Tried, Made, Ended, Locker, Queued, Attempt, Saw}
-use Rattle.corr_core.specs.declared.marks.Kept.{Kept}
+use Rattle.corr_core.specs.declared.marks.Note.TheVariants.{Made, Queued, Attempt, Saw}
 use Rattle.corr_core.specs.declared.marks.View.{View}
 use Rattle.corr_core.proofs.Slots.{queued_word, open_word, popped_word, same_token, claim_home, no_tokens, is_lock}
 use Rattle.corr_core.proofs.Gather.{gather_none}
-use Rattle.corr_core.proofs.Notes.{each_map, each_at, total_some}
-use Rattle.corr_core.proofs.Shuffles.{each_of}
-use Rattle.id_rule.specs.Lawful.{tag_word, id_word, all_words, tokens_in, local, kept_in, KeptFits, Lawful, with_token, no_token, with_note, with_kept}
-use Rattle.id_rule.specs.Plays.{IsHome, NotLeaving, Fitting, hand_of, with_hand, value_of, hand_by, claimed_view, locked_view, claim_told, read_told, see_told, take_told, give_told, make_told, lock_told, queue_told, end_told, free_told, store_told, found_view, put_error, popped_view, advanced_view, ended_view, LockFits, Longer}
-use Rattle.id_rule.proofs.Frames.{Aside, token_here, drop_here, note_here, aside_token, aside_drop, aside_note, aside_both, own_tokens, first_tokens, same_tokens}
+use Rattle.id_rule.specs.Lawful.{tag_word, id_word, all_words, tokens_in, local, with_token, no_token, with_note, with_kept}
+use Rattle.id_rule.specs.Plays.{IsHome, NotLeaving, Fitting, hand_of, with_hand, value_of, hand_by, claimed_view, locked_view, claim_told, read_told, take_told, give_told, make_told, lock_told, queue_told, end_told, free_told, store_told, found_view, put_error, popped_view, advanced_view, ended_view}
 use Rattle.id_rule.proofs.Allowed.{own, known, o}
-use Rattle.corr_id.specs.Ruled.{IsFresh, FreshBehind, Ruled, is_place, unlock_told, load_told}
+use Rattle.corr_id.specs.Ruled.{IsFresh, FreshBehind, Ruled, see_told, unlock_told, load_told}
 use Rattle.corr_id.proofs.Ruling.{claims_ruled, reads_ruled, sees_ruled, makes_ruled, locks_ruled, queues_ruled, relocks_ruled, unlocks_ruled, advances_ruled, behind, ends_ruled, frees_ruled, takes_ruled, gives_ruled, stores_ruled, finds_ruled, kept_stays}
 
 opened_is : (w : Parts) (more : ℕ) → w.oldest ≡ 0 → w.second ≡ 0 → unlocked_word w more ≡ open_word w more
@@ -74,7 +65,7 @@ module _ {C : Type 0} (p : Plan) (slots id : ℕ) (me : Me (Maybe C) (View C)) (
   )
 
   pub seeing : Allows (Ruled p) slots id me (id_word i) (λ n. n) (see_told (step slots (id_word i) 0 0 none) me)
-  seeing s r long here fits = let n : ℕ = get_or s.words (id_word i) 0 in (with_note i (Saw n) me.0, keeps, tt, sees_ruled p id me i inside real s r here, λ x at. of_id (λ y. with_note y (Saw n) me.0) x at)
+  seeing s r long here fits = let n : ℕ = get_or s.words (id_word i) 0 in (with_note i (Saw n) me.0, keeps, tt, sees_ruled p id me i inside real s r here, λ x at. (of_id (λ y. with_note y (Saw n) me.0) x at, (o p id me i inside real s r.lawful here).first_some))
 
   pub taking : (t : Token C) → tokens_in i me.0 ≡ t ∷ [] → IsHome (hand_of t) → Allows (Ruled p) slots id me (tag_word i) (λ n. n) (take_told (step slots (tag_word i) 0 0 none) me)
   taking t has ready s r long here fits = let k = takes_ruled p id me i inside real s r here t has ready in (

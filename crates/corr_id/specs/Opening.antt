@@ -1,5 +1,5 @@
 -- A new table with its seats.
-use Rattle.std.specs.Prelude.{◌≡◌, ℕ, List, [], Option, length}
+use Rattle.std.specs.Prelude.{◌≡◌, List, [], Option}
 use Rattle.atomic_table.specs.Seated.{TableId}
 use Rattle.atomic_table.specs.declared.shared.Seat.{Seat}
 use Rattle.corr_core.specs.Law.{Each}

@@ -1,5 +1,5 @@
 -- The rule of the table, and what an unlocking exchange tells.
-use Rattle.std.specs.Prelude.{◌≡◌, ◌≢◌, ℕ, ◌<◌, ◌⊎◌, List, []}
+use Rattle.std.specs.Prelude.{◌≡◌, ◌≢◌, ℕ, ◌<◌, ◌≤◌, ◌⊎◌}
 use Rattle.std.specs.Prelude.{Option as Maybe}
 use Rattle.atomic_table.specs.Table.{State, Me, Step}
 use Rattle.corr_core.specs.Word.{Parts, parts, attempt_of}
@@ -33,6 +33,10 @@ module _ {C : Type 0} where
   pub record Ruled (p : Plan) (s : State (Maybe C) (View C)) : Type 0 where
     pub lawful : Lawful p s
     pub fresh : (i : ℕ) → i < p.slots → Each (FreshBehind (local s i).word) (local s i).tokens
+
+  -- I7: a word is never 0
+  abbrev pub see_told : Step (Maybe C) → Me (Maybe C) (View C) → ℕ → Me (Maybe C) (View C) → Type 0
+  see_told st m found n = (i : ℕ) → st.word ≡ id_word i → Becomes m n (with_note i (Saw found) m.0) × (1 ≤ (parts found).first)
 
   -- I5: the word found is noted; where another one was expected, the errors in it are now noted
   abbrev pub unlock_told : Step (Maybe C) → Me (Maybe C) (View C) → ℕ → Me (Maybe C) (View C) → Type 0

@@ -1,6 +1,5 @@
 -- What an unlocking says, by its answer.
-use Rattle.std.specs.Prelude.{◌≡◌, ◌≢◌, ℕ, ◌+◌, ◌-◌, ◌*◌, ◌<◌, ◌≤◌, ◌⊎◌, ◌==◌, ◌&&◌, not, Bool, false, IsTrue, if◌then◌else◌, List, [], ◌∷◌}
-use Rattle.std.specs.Prelude.{Option as Maybe}
+use Rattle.std.specs.Prelude.{◌≡◌, ℕ, ◌+◌, ◌-◌, ◌*◌, ◌<◌, ◌==◌, ◌&&◌, not, Bool, IsTrue, if◌then◌else◌, [], ◌∷◌}
 use Rattle.corr_core.specs.Word.{Parts, parts, tick, attempt_of, unlocked_word}
 use Rattle.corr_core.specs.declared.marks.Hand.TheVariants.{Empty, Full}
 use Rattle.corr_core.specs.declared.marks.Token.TheVariants.{Locked}

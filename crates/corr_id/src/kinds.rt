@@ -48,6 +48,7 @@ impl<C> IdTable<C> {
         requires slot { at < self.now.table.shared.key.slots }
         ensures seat { Stays seat.old seat.new }
         ensures saw { Became at seat.old.me.0 seat.new.me.0 (tokens_in at seat.old.me.0) (one at (Saw result)) }
+        ensures first { 1 ≤ (parts result).first }
     {
         let word = 2 * at as usize + 1;
         self.table.shared.load::<See>(seat, word)

@@ -1,4 +1,4 @@
-use Rattle.std.proofs.Common.{◌≡◌, ◌+◌, ◌-◌, ℕ, length, []}
+use Rattle.std.proofs.Common.{◌≡◌, ◌+◌, ◌-◌, length, []}
 use Rattle.std.specs.Vec.{vec_len, vec_capacity}
 use Rattle.corr_id.specs.Opening.{AreNew}
 use Rattle.corr_id.proofs.Beginning.{stands_for}

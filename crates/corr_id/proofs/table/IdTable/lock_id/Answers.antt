@@ -1,4 +1,4 @@
-use Rattle.std.proofs.Common.{arith, refl, ap, sym, ◌∙◌, subst, ℕ, ◌≡◌, ◌≢◌, [], ◌∷◌}
+use Rattle.std.proofs.Common.{arith, refl, ap, sym, subst, ℕ, ◌≡◌, [], ◌∷◌}
 use mathlib.Core.Logic.{dite}
 use native.Mathlib.Decide.{ℕ_discrete}
 use Rattle.corr_core.specs.Word.{parts}

@@ -3,7 +3,7 @@ use Rattle.corr_core.specs.Word.{parts}
 use Rattle.corr_core.specs.declared.marks.Hand.TheVariants.{Empty, Full}
 use Rattle.corr_core.specs.declared.marks.Token.TheVariants.{Claimed}
 use Rattle.corr_core.specs.declared.marks.Note.TheVariants.{Made}
-use Rattle.corr_id.specs.Calls.{Became, one, version_of}
+use Rattle.corr_id.specs.Calls.{Became, one}
 use Rattle.corr_id.proofs.Becoming.{became_both}
 use Rattle.corr_id.proofs.table.IdTable.make.Goals as goal
 

@@ -1,10 +1,10 @@
-use Rattle.std.proofs.Common.{arith, refl, ap, sym, ◌∙◌, subst, ℕ, ◌<◌, ◌≡◌, ◌∷◌, []}
+use Rattle.std.proofs.Common.{arith, refl, ap, sym, ◌∙◌, subst, ℕ, ◌<◌, ◌∷◌}
 use mathlib.Core.Option.{some-injective}
 use Rattle.atomic_table.specs.Table.{rest}
 use Rattle.corr_core.specs.declared.marks.Hand.TheVariants.{Out}
 use Rattle.id_rule.specs.Plays.{hand_of, with_hand, value_of}
 use Rattle.corr_id.proofs.Steps.{taking, giving}
-use Rattle.corr_id.proofs.Becoming.{top_value, moved_became, out_token, taken_share, hand_out, out_leaves, out_fits}
+use Rattle.corr_id.proofs.Becoming.{top_value, moved_became, out_token, hand_out, out_leaves, out_fits}
 use Rattle.corr_id.proofs.table.IdTable.move_call.Goals as goal
 
 pub load-requires : goal.load-requires

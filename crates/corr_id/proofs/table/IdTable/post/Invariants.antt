@@ -1,4 +1,4 @@
-use Rattle.std.proofs.Common.{◌≡◌, ◌/◌}
+use Rattle.std.proofs.Common.{◌≡◌}
 use Rattle.corr_id.specs.Calls.{Quiet, Found, slot_of}
 use Rattle.corr_id.proofs.table.IdTable.post.Given as goal
 
