@@ -1,5 +1,5 @@
 -- A step of a seat is a tick of the machine, which stays sound, and has one tick less left if the seat moved.
-use Rattle.std.proofs.Common.{◌≡◌, refl, ℕ, zero, suc, ◌+◌, Bool, false, List, [], ◌∷◌, length, slice_set, Option, Some, None, ap, sym, ◌∙◌, arith, subst}
+use Rattle.std.proofs.Common.{◌≡◌, refl, ℕ, zero, suc, ◌+◌, ◌<◌, ◌⊎◌, inl, inr, Bool, false, List, [], ◌∷◌, length, slice_set, Option, Some, None, ap, sym, ◌∙◌, arith, subst}
 use Rattle.std.proofs.Props.{props}
 use Rattle.std.proofs.Math.Logic.{∥∥₁_elim}
 use Rattle.std.proofs.Math.ListN.{length-set}
@@ -21,7 +21,10 @@ use Rattle.sock_programs.specs.Ticks.{Answer, Unasked, OfPut, OfReady, Moment, q
 use Rattle.sock_programs.specs.Runs.{kind_in, next_kind, IsAtRest}
 use Rattle.sock_programs.specs.Scripts.{sizes_of}
 use Rattle.seat_points.specs.declared.point.Step.{Step}
-use Rattle.seat_points.specs.Points.{after_word}
+use Rattle.seat_points.specs.declared.point.Next.{Next}
+use Rattle.seat_points.specs.declared.point.Next.TheVariants as nexts
+use Rattle.seat_points.specs.Points.{Around, after_word, next_program}
+use Rattle.sock_words.specs.declared.socket_id.SocketId.{SocketId}
 use Rattle.seat_points.specs.Steps.{First, OfCall, OfMessage, OfLink, OfHome, step_as, first_in}
 use Rattle.seat_points.specs.Steps as kinds
 use Rattle.sock_core.specs.declared.letter.Letter.{Letter}
@@ -31,8 +34,8 @@ use Rattle.sock_core.specs.declared.machine.Tick.{Tick}
 use Rattle.sock_core.specs.declared.machine.Tick.TheVariants.{Moved, Waits, Idle}
 use Rattle.sock_core.specs.Seats.{SeatData, around, seat_program}
 use Rattle.sock_core.specs.Links.{LinksData, Taken, Agrees}
-use Rattle.sock_core.specs.Machines.{MachineState, IsMachine, ArePaced, table_of, seat_state, seats_with, core_with}
-use Rattle.sock_core.specs.Steps.{IsSized, NextIs, HasNoStep, OutsAfter, Goes, Made, SteppedTo, letters_after, holders_after}
+use Rattle.sock_core.specs.Machines.{MachineState, TableState, IsMachine, ArePaced, table_of, seat_state, seats_with, core_with}
+use Rattle.sock_core.specs.Steps.{IsSized, IsNext, NextIs, HasNoStep, OutsAfter, Goes, Made, SteppedTo, letters_after, holders_after}
 use Rattle.sock_core.specs.Telling.{TickTold, Tells, WaitsOn, is_waiting}
 use Rattle.sock_core.specs.Runs.{Ticked, TickedWith, TickIs, WaitsFor}
 use Rattle.sock_core.specs.Driving.{LeavesFewer, LeavesAsMany, Leaves, AsksNone, IsPlain, TickedFirst}
@@ -258,7 +261,7 @@ module _ (m fresh : MachineState) (room i : ℕ) (step : Step) (tick : Tick) (is
 -- ## Seat 0
 
 pub next_none : (program : Program) → AsksNone program → AsksNone (next_step program)
-next_none (Say o outcome after) x = next_none after x
+next_none (Say o outcome after) x = next_none after x.1
 next_none (Sent o after) x = next_none after x
 next_none (Do call after) x = x
 next_none Rest x = x
@@ -278,6 +281,22 @@ after_none (Say o outcome after) found x = x
 after_none (Sent o after) found x = x
 after_none Rest found x = tt
 after_none _ found x = absurd x
+
+-- none of its steps is one on a link, or on the message of a link
+pub only_calls : (t : TableState) (seat : SeatData) (step : Step) → IsNext t seat step → AsksNone (seat_program (sizes_of t.plan) seat) → IsCall (step_as (around (sizes_of t.plan) seat) step)
+only_calls t seat step next plain = first_call (seat_program (sizes_of t.plan) seat) (step_as (around (sizes_of t.plan) seat) step) next plain
+
+-- and behind none of them a life is held
+pub no_hold : (a : Around) (program : Program) (found : ℕ) (n : Next) → AsksNone program → next_program a n ≡ after_word program found → (o name : ℕ) (id : SocketId) → n ≡ nexts.Held o name id → ⊥
+no_hold a program found n plain is o name id held =
+    let says : AsksNone (next_program a (nexts.Held o name id)) = subst (λ (m : Next). AsksNone (next_program a m)) held (subst AsksNone (sym is) (after_none program found plain)) in says.0 refl
+
+-- so a seat that asks none wants no room for a life
+pub room_for : (t u : TableState) (seat : SeatData) (a : Around) (n : Next) (found few most : ℕ) → t ≡ u → (few < most) ⊎ AsksNone (seat_program (sizes_of u.plan) seat) → next_program a n ≡ after_word (seat_program (sizes_of t.plan) seat) found →
+    (o name : ℕ) (id : SocketId) → n ≡ nexts.Held o name id → few < most
+room_for t u seat a n found few most same (inl room) is o name id held = room
+room_for t u seat a n found few most same (inr plain) is o name id held =
+    absurd (no_hold a (seat_program (sizes_of t.plan) seat) found n (subst (λ (x : TableState). AsksNone (seat_program (sizes_of x.plan) seat)) (sym same) plain) is o name id held)
 
 -- and what follows it asks no link either
 call_made : (m fresh : MachineState) (i : ℕ) (of : Program) (seat' : SeatData) (f : First) (said : Answer) → IsCall f → AsksNone of → Made (table_of m) (table_of fresh) i of seat' f said → AsksNone (seat_program (sizes_of m.plan) seat')

@@ -25,13 +25,12 @@ use Rattle.sock_core.specs.Links.{LinksData, Taken, Agrees, ArePrompt, IsPaced}
 use Rattle.sock_core.specs.Machines.{MachineState, IsMachine, ArePaced, MOST_LEFT, seats_with, core_with, ending_by}
 use Rattle.sock_core.specs.Steps.{NextIs}
 use Rattle.sock_core.specs.Telling.{TickTold}
-use Rattle.sock_core.specs.Runs.{SameTable, SameLinks, Ticked, Led, PlayedOn, RanFirst, Settled}
+use Rattle.sock_core.specs.Runs.{SameTable, SameLinks, Ticked, Led}
 use Rattle.sock_core.specs.Driving.{LastsAtMost, Leaves, IsLast, IsOther, AsksNone, IsPlain, TickedFirst, BeganEnding}
-use Rattle.sock_core.proofs.Advancing.{is_sized, first_told, next_none}
+use Rattle.sock_core.proofs.Advancing.{is_sized, next_none}
 use Rattle.sock_core.proofs.Beginning.{ends_sound, ends_core, rests_none}
 use Rattle.sock_core.proofs.Answering.{links_kept}
 use Rattle.sock_core.proofs.Joining.{same_table_none, same_links_none, same_table_join, same_links_join, some_taken, idle_rests}
-use Rattle.sock_core.proofs.Settling.{settles}
 use Rattle.std.proofs.lemmas.Bool.{true≢false}
 use Rattle.sock_core.proofs.Leading.{Passed, led_none, led_more, led_here, led_waits, led_idle}
 use Rattle.sock_core.proofs.Paces.{calm_paced, ending_calm}
@@ -108,9 +107,6 @@ module _ (old fresh : MachineState) (room : ℕ) (is : IsMachine old room) (rest
 pub lasts_most : (m : MachineState) (room : ℕ) → IsMachine m room → LastsAtMost m (MOST_LEFT - 1)
 lasts_most m room is = ∥∥₁_elim is.sound (hlevel props) (λ s. let h = s.bounded in ∣ (s, omega (arith, h)) ∣₁)
 
-pub first_ticked : (m fresh : MachineState) (room i : ℕ) (step : Step) (tick : Tick) (is : IsMachine m room) → NextIs m i step → TickTold m fresh i step tick → i ≡ 0 → IsPlain m → TickedFirst m fresh
-first_ticked m fresh room i step tick is n w e plain = subst (λ j. NextIs m j step → TickTold m fresh j step tick → TickedFirst m fresh) (sym e) (λ n0 w0. first_told m fresh room step tick is n0 w0 plain) n w
-
 module _ {E : Type 0} (a b : MachineState) (i : ℕ) where
   pub tick_rests : (r : Result Tick E) → i ≢ 0 → IfOk r (λ tick. Ticked a b i tick) → OnErr r (b ≡ a) → ((took : Taken) → IsAtRest (core_with a took) 0) → (took : Taken) → IsAtRest (core_with b took) 0
   tick_rests (Ok tick) other t same rest = client_rests a b i tick other t rest
@@ -152,12 +148,6 @@ plain_rests a b (ticks.Waits what) plain still t = let some_ = some_taken a.link
 plain_rests a b ticks.Idle plain still t = idle_rests a b 0 t
 
 -- ## The whole
-
-module _ {E : Type 0} (a b c d : MachineState) where
-  pub settles_where : (r : Result (Unit {0}) E) → PlayedOn a b → length b.seats ≡ b.plan.seats → ((took : Taken) → IsAtRest (core_with b took) 0) → c.plan ≡ b.plan → c.links ≡ b.links → c.ends ≡ b.ends →
-      ((took : Taken) → core_with c took ≡ ending_by b.opens (core_with b took)) → OnOk r (RanFirst c d) → OnOk r (Settled a d)
-  settles_where (Ok u) played many rest plan links ends begins first = settles a b c d played many rest plan links ends begins first
-  settles_where (Err e) played many rest plan links ends begins first = tt
 
 pub settled_links : (a b c d : MachineState) → SameLinks a b → c.links ≡ b.links → c.ends ≡ b.ends → SameLinks c d → SameLinks a d
 settled_links a b c d first links ends last = same_links_join a b d first (same_links_join b c d (links_kept b c ends (λ prompt. subst ArePrompt (sym links) prompt)) last)

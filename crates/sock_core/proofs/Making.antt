@@ -1,5 +1,5 @@
 -- A machine that is made for a script.
-use Rattle.std.proofs.Common.{◌≡◌, ℕ, zero, suc, ◌+◌, ◌<◌, ◌≤◌, true, false, List, [], ◌∷◌, length, map, replicate, Option, Some, None, IfSome, refl, sym, ap, ◌∙◌, subst, arith, Result, Ok, Err, IfOk, cond, ◌==◌, if◌then◌else◌, Bool, slice_get}
+use Rattle.std.proofs.Common.{◌≡◌, ℕ, zero, suc, ◌+◌, ◌<◌, ◌≤◌, true, false, List, [], ◌∷◌, length, map, replicate, Option, Some, None, IfSome, refl, sym, ap, ◌∙◌, subst, arith, Ok, cond, ◌==◌, if◌then◌else◌, Bool, slice_get}
 use Rattle.std.specs.List.{AllByRecursion}
 use mathlib.Core.Option as core
 use lib.ListN.{get_elem?}
@@ -104,8 +104,8 @@ either true x y a b = a
 either false x y a b = b
 
 open_none : (more i o name k : ℕ) (next : Program) → AsksNone next → AsksNone (open_from more i o name k next)
-open_none zero i o name k next x = λ a b d e. x
-open_none (suc more) i o name k next x = λ found. either (found == 0) _ _ (λ a b d e f g. x) (open_none more (i + 1) o name k next x)
+open_none zero i o name k next x = λ a b d e. (λ h. cc, x)
+open_none (suc more) i o name k next x = λ found. either (found == 0) _ _ (λ a b d e f g. (λ h. cc, x)) (open_none more (i + 1) o name k next x)
 
 task_none : (sizes : Sizes) (o : ℕ) (next : List HeldLife → Program) (op : Op) → IsOpen op → AsksNone (next []) → AsksNone (operation sizes [] o next op)
 task_none sizes o next (ops.Open name k) own x = open_none sizes.slots 0 o name k (next []) x
@@ -116,7 +116,7 @@ opens_none sizes [] all = tt
 opens_none sizes (t ∷ ts) all = task_none sizes t.number (λ (held : List HeldLife). client_from sizes held ts) t.op all.0 (opens_none sizes ts all.1)
 
 next_none : (program : Program) → AsksNone program → AsksNone (next_step program)
-next_none (Say o outcome next) x = next_none next x
+next_none (Say o outcome next) x = next_none next x.1
 next_none (Sent o next) x = next_none next x
 next_none (Do call next) x = x
 next_none Rest x = x
@@ -141,30 +141,24 @@ module _ (script : List Item) (p : Plan) (ts : List (List Task)) (os : List ℕ)
   begun : core_with start (λ k. []) ≡ opened script
   begun = core_is ∙ (ap (λ (q : Plan). beginning q (programs (sizes_of q) ts)) is ∙ ap (λ l. beginning (plan_of script) (programs (sizes_of (plan_of script)) l)) tasks)
 
-  pub plan_made : {E : Type 0} (r : Result MachineState E) → IfOk r (RanFirst start) → IfOk r (λ m. m.plan ≡ plan_of script)
-  plan_made (Err e) ran = tt
-  plan_made (Ok m) ran = ran.same.0.plan ∙ (plan ∙ is)
+  pub plan_made : (m : MachineState) → RanFirst start m → m.plan ≡ plan_of script
+  plan_made m ran = ran.same.0.plan ∙ (plan ∙ is)
 
-  pub opens_made : {E : Type 0} (r : Result MachineState E) → IfOk r (RanFirst start) → IfOk r (λ m. m.opens ≡ opens script)
-  opens_made (Err e) ran = tt
-  opens_made (Ok m) ran = ran.same.0.opens ∙ (own ∙ numbers)
+  pub opens_made : (m : MachineState) → RanFirst start m → m.opens ≡ opens script
+  opens_made m ran = ran.same.0.opens ∙ (own ∙ numbers)
 
-  pub agrees_made : {E : Type 0} (r : Result MachineState E) → IfOk r (RanFirst start) → IfOk r (λ m. Agrees m.links (λ k. []))
-  agrees_made (Err e) ran = tt
-  agrees_made (Ok m) ran = (ran.core (λ k. []) agrees).0
+  pub agrees_made : (m : MachineState) → RanFirst start m → Agrees m.links (λ k. [])
+  agrees_made m ran = (ran.core (λ k. []) agrees).0
 
   -- and its setup has been done
-  pub core_made : {E : Type 0} (r : Result MachineState E) → IfOk r (RanFirst start) → IfOk r (λ m. (n : ℕ) × (core_with m (λ k. []) ≡ set_up script n))
-  core_made (Err e) ran = tt
-  core_made (Ok m) ran = (ran.steps, (ran.core (λ k. []) agrees).1 ∙ (ap (λ q. run q (core_with start (λ k. [])) (replicate ran.steps (quiet 0))) (plan ∙ is) ∙ ap (λ c. run (plan_of script) c (replicate ran.steps (quiet 0))) begun))
+  pub core_made : (m : MachineState) → RanFirst start m → (n : ℕ) × (core_with m (λ k. []) ≡ set_up script n)
+  core_made m ran = (ran.steps, (ran.core (λ k. []) agrees).1 ∙ (ap (λ q. run q (core_with start (λ k. [])) (replicate ran.steps (quiet 0))) (plan ∙ is) ∙ ap (λ c. run (plan_of script) c (replicate ran.steps (quiet 0))) begun))
 
-  pub rest_made : {E : Type 0} (r : Result MachineState E) → IfOk r (RanFirst start) → IfOk r (λ m. IsAtRest (core_with m (λ k. [])) 0)
-  rest_made (Err e) ran = tt
-  rest_made (Ok m) ran = ran.still (λ k. [])
+  pub rest_made : (m : MachineState) → RanFirst start m → IsAtRest (core_with m (λ k. [])) 0
+  rest_made m ran = ran.still (λ k. [])
 
-  pub prompt_made : {E H : Type 0} (r : Result MachineState E) → IfOk r (RanFirst start) → (H → ArePrompt start.links) → IfOk r (λ m. H → ArePrompt m.links)
-  prompt_made (Err e) ran prompt = tt
-  prompt_made (Ok m) ran prompt = λ all. ran.same.1.prompt (prompt all)
+  pub prompt_made : {H : Type 0} (m : MachineState) → RanFirst start m → (H → ArePrompt start.links) → H → ArePrompt m.links
+  prompt_made m ran prompt = λ all. ran.same.1.prompt (prompt all)
 
 -- ## What is left of it
 

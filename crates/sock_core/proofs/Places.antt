@@ -16,6 +16,7 @@ use Rattle.sock_core.specs.Seats.{SeatData, lives, seat_data, seat_program, arou
 use Rattle.sock_core.specs.Machines.{MachineState, TableState}
 use Rattle.sock_core.specs.Steps.{IsNext, NextIs, HasNoStep, Fits, StepFits}
 use Rattle.sock_core.specs.Telling.{StepTold, TickTold}
+use Rattle.sock_core.specs.Driving.{AsksNone, IsPlain}
 
 length_map : {A B : Type 0} (f : A → B) (xs : List A) → length (map f xs) ≡ length xs
 length_map f [] = refl
@@ -62,6 +63,9 @@ module _ (t : TableState) (items : List Seat) (opens : List ℕ) (i j : ℕ) (th
 
     pub fits_here : StepFits (view_of t items opens) i step → Fits t (seat_data y) step
     fits_here fits = subst (λ (s : SeatData). Fits t s step) (sym lies) (fits n.seat n.at)
+
+    pub plain_here : i ≡ 0 → IsPlain (view_of t items opens) → AsksNone (seat_program (sizes_of t.plan) (seat_data y))
+    plain_here first plain = subst (λ (s : SeatData). AsksNone (seat_program (sizes_of t.plan) s)) (sym lies) (plain n.seat (subst (λ k. get_elem? (map seat_data items) k ≡ core.some n.seat) first n.at))
 
     pub told_here : {t' : TableState} (z : Seat) {tick : Tick} → StepTold t t' i (seat_data y) (seat_data z) step tick → TickTold (view_of t items opens) (view_of t' (slice_set items j z) opens) i step tick
     told_here {t'} z {tick} h = record {

@@ -1,5 +1,5 @@
 -- How many ticks that move are left, seats that ask no link, and where the ending begins.
-use Rattle.std.specs.Prelude.{ℕ, ◌≡◌, ◌-◌, ◌<◌, ◌≤◌, [], slice_set}
+use Rattle.std.specs.Prelude.{ℕ, ◌≡◌, ◌≢◌, ◌-◌, ◌<◌, ◌≤◌, [], slice_set}
 use mathlib.Core.Option as core
 use lib.ListN.{get_elem?}
 use Rattle.sock_programs.specs.Programs.{Program, Do, Say, Sent, Rest}
@@ -8,6 +8,7 @@ use Rattle.sock_programs.specs.Cores.{next_step}
 use Rattle.sock_programs.specs.Ticks.{quiet, ticked}
 use Rattle.sock_programs.specs.Scripts.{sizes_of}
 use Rattle.sock_words.specs.declared.kind.Kind.{Kind}
+use Rattle.sock_words.specs.declared.outcome.Outcome.TheVariants.{Held}
 use Rattle.sock_core.specs.declared.machine.Tick.{Tick}
 use Rattle.sock_core.specs.declared.machine.Tick.TheVariants.{Moved}
 use Rattle.sock_core.specs.Seats.{SeatData, seat_program}
@@ -42,12 +43,12 @@ abbrev pub IsOther : Tick → Kind → Type 0
 IsOther (Moved found) kind = found ≡ kind → ⊥
 IsOther other kind = ⊥
 
--- ## Seat 0, which asks no link
+-- ## Seat 0, which asks no link and holds no life
 
--- neither the program nor what follows asks a link, or comes to where one is written
+-- neither the program nor what follows asks a link, comes to where one is written, or holds a life
 abbrev pub AsksNone : Program → Type 0
 AsksNone (Do call next) = (found : ℕ) → AsksNone (next found)
-AsksNone (Say o outcome next) = AsksNone next
+AsksNone (Say o outcome next) = (outcome ≢ Held) × AsksNone next
 AsksNone (Sent o next) = AsksNone next
 AsksNone Rest = Unit {0}
 AsksNone other = ⊥

@@ -29,7 +29,7 @@ use std::alloc::Global;
 use std::collections::VecDeque;
 use std::marker::Model;
 
-/// Why no machine was made: memory ran out. The links are handed back.
+/// Why no machine was made: memory ran out. The links are handed back as they were.
 #[derive(Drop)]
 pub struct NotMade<O: Out, I: In, P: Peer> {
     pub ends: Vec<Ends<O, I, P>>,
@@ -111,7 +111,6 @@ impl<O: Out, I: In, P: Peer> Machine<O, I, P> {
     fn advance(&mut self, seat: u16) -> Result<Tick, NoMemory>
         ensures tick { IfOk result (λ tick. Ticked self.old self.new seat tick) }
         ensures left { IfOk result (λ tick. Leaves tick self.old self.new) }
-        ensures first { seat ≡ 0 → IsPlain self.old → OnOk result (TickedFirst self.old self.new) }
         ensures many { length self.new.seats ≡ self.new.plan.seats }
         ensures err { OnErr result (self.new ≡ self.old) }
     {
@@ -120,6 +119,20 @@ impl<O: Out, I: In, P: Peer> Machine<O, I, P> {
         };
         let tick = self.tables.step(seat, step)?;
         Ok(tick)
+    }
+
+    /// A step of seat 0, which asks no link and holds no life. It takes no memory.
+    fn advance_first(&mut self) -> Tick
+        requires { IsPlain self.old }
+        ensures tick { Ticked self.old self.new 0 result }
+        ensures left { Leaves result self.old self.new }
+        ensures first { TickedFirst self.old self.new }
+        ensures many { length self.new.seats ≡ self.new.plan.seats }
+    {
+        match self.tables.next_step(0) {
+            Some(step) => self.tables.step_first(step),
+            None => Tick::Idle,
+        }
     }
 
     /// A tick of a seat: its next step, if it has one. Seat 0 makes its ending in `settle` alone, and a seat that the
@@ -217,19 +230,17 @@ impl<O: Out, I: In, P: Peer> Machine<O, I, P> {
         Ok(())
     }
 
-    /// Steps of seat 0, until it has none left.
-    fn run_first(&mut self) -> Result<(), NoMemory>
+    /// Steps of seat 0, until it has none left. They take no memory.
+    fn run_first(&mut self)
         requires { IsPlain self.old }
-        ensures ok { OnOk result (RanFirst self.old self.new) }
+        ensures ran { RanFirst self.old self.new }
         ensures ends { self.new.ends ≡ self.old.ends }
-        ensures same { SameTable self.old self.new × SameLinks self.old self.new }
     {
         for _ in 0..self.most_left() {
-            if !self.advance(0)?.is_moved() {
-                return Ok(());
+            if !self.advance_first().is_moved() {
+                return;
             }
         }
-        Ok(())
     }
 
     /// Seat 0 begins the ending.
@@ -257,13 +268,15 @@ impl<O: Out, I: In, P: Peer> Machine<O, I, P> {
         self.play_on()?;
         let _ = self.seats();
         self.begin_ending();
-        self.run_first()
+        self.run_first();
+        Ok(())
     }
 }
 
 impl<O: Out, I: In, P: Peer> Machine<O, I, P> {
     /// The machine of a script without calls, behind its setup, over the links that were opened for it: one for each
-    /// `open`, in order, of which none is finished and none took anything. Where memory runs out they are given back.
+    /// `open`, in order, of which none is finished and none took anything. All memory is taken before any link is touched,
+    /// so where it runs out they are given back as they were.
     pub fn new(
         alloc: Global,
         script: &Script,
@@ -281,7 +294,7 @@ impl<O: Out, I: In, P: Peer> Machine<O, I, P> {
         ensures rest { IfOk result (λ m. IsAtRest (core_with m (λ k. [])) 0) }
         ensures ends { IfOk result (λ m. m.ends ≡ map (λ (e : _). end_of (O.state e.out) (I.state e.inn)) ends.items) }
         ensures outs { IfOk result (λ m. AllByRecursion (λ (e : _). (O.state e.out).prompt ≡ true) ends.items → ArePrompt m.links) }
-        ensures back { IfErr result (λ e. map (λ (x : _). end_of (O.state x.out) (I.state x.inn)) e.ends.items ≡ map (λ (x : _). end_of (O.state x.out) (I.state x.inn)) ends.items) }
+        ensures back { IfErr result (λ e. e.ends ≡ ends) }
     {
         let Ok(wanted) = wanted_of(alloc, script) else {
             return Err(NotMade { ends });
@@ -291,23 +304,9 @@ impl<O: Out, I: In, P: Peer> Machine<O, I, P> {
             clients,
             opens,
         } = wanted;
-        let machine = Machine::start(alloc, &plan, clients, opens, ends)?;
-        machine.set_up()
-    }
-
-    /// The machine behind its setup.
-    fn set_up(mut self) -> Result<Self, NotMade<O, I, P>>
-        requires { IsPlain self }
-        ensures ok { IfOk result (λ m. RanFirst self m) }
-        ensures ends { IfOk result (λ m. m.ends ≡ self.ends) }
-        ensures back { IfErr result (λ e. map (λ (x : _). end_of (O.state x.out) (I.state x.inn)) e.ends.items ≡ self.ends) }
-    {
-        match self.run_first() {
-            Ok(()) => Ok(self),
-            Err(NoMemory) => Err(NotMade {
-                ends: self.finish().ends,
-            }),
-        }
+        let mut machine = Machine::start(alloc, &plan, clients, opens, ends)?;
+        machine.run_first();
+        Ok(machine)
     }
 
     /// The machine of these clients, each of which stands before its first step. Client 0 is the setup, which opens

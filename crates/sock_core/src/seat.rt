@@ -160,7 +160,7 @@ impl Seat {
 
     /// The seat goes on behind a step.
     pub fn follow(&mut self, sizes: Sizes, next: Next, outcomes: &mut [Option<Outcome>])
-        requires room { vec_len self.old.held < vec_capacity self.old.held }
+        requires room { (o name : ℕ) (id : SocketId) → next ≡ Next.Held o name id → vec_len self.old.held < vec_capacity self.old.held }
         ensures program { seat_program sizes (seat_data self.new) ≡ next_step (next_program (around sizes (seat_data self.old)) next) }
         ensures said { outcomes.new ≡ said (next_program (around sizes (seat_data self.old)) next) outcomes.old }
     {

@@ -1,9 +1,10 @@
-ghost use Rattle.std.specs.Prelude.{◌≡◌, ◌<◌, ℕ, Bool, false, vec_len, vec_capacity};
+ghost use Rattle.std.specs.Prelude.{◌≡◌, ◌<◌, ◌⊎◌, ℕ, Bool, false, vec_len, vec_capacity};
 ghost use Rattle.sock_programs.specs.Scripts.{sizes_of};
 ghost use Rattle.sock_programs.specs.Cores.{word_of, found_at};
 ghost use Rattle.seat_points.specs.Steps.{step_of};
 ghost use Rattle.sock_programs.specs.Ticks.{Unasked, OfPut, OfReady};
-ghost use Rattle.sock_core.specs.Seats.{seat_data};
+ghost use Rattle.sock_core.specs.Seats.{seat_data, seat_program};
+ghost use Rattle.sock_core.specs.Driving.{AsksNone};
 ghost use Rattle.sock_core.specs.Steps.{IsSized, IsNext, Fits, Makes};
 ghost use Rattle.sock_core.specs.Telling.{StepTold};
 
@@ -63,12 +64,12 @@ impl<O: Out, I: In, P: Peer> Table<O, I, P> {
         }
     }
 
-    /// A step on a word, or a move that tells nothing; the word found.
+    /// A step on a word, or a move that tells nothing; the word found. Only a seat that comes to hold a life wants room for it.
     pub fn make_call(&mut self, place: &mut Seat, seat: u16, call: Call) -> u64
         requires next { IsNext self.old (seat_data place.old) (Step.Call call) }
         requires fits { Fits self.old (seat_data place.old) (Step.Call call) }
         requires sized { IsSized self.old }
-        requires room { vec_len place.old.held < vec_capacity place.old.held }
+        requires room { (vec_len place.old.held < vec_capacity place.old.held) ⊎ AsksNone (seat_program (sizes_of self.old.plan) (seat_data place.old)) }
         ensures made { Makes self.old self.new seat (seat_data place.old) (seat_data place.new) (Step.Call call) Unasked }
         ensures found { result ≡ found_at self.old.words (word_of self.old.plan (step_of call)) }
     {
@@ -85,7 +86,7 @@ impl<O: Out, I: In, P: Peer> Table<O, I, P> {
     pub fn put_message(&mut self, place: &mut Seat, request: u16, operation: u16)
         requires next { IsNext self.old (seat_data place.old) (Step.PutMessage request operation) }
         requires fits { Fits self.old (seat_data place.old) (Step.PutMessage request operation) }
-        requires room { vec_len place.old.held < vec_capacity place.old.held }
+        requires room { (vec_len place.old.held < vec_capacity place.old.held) ⊎ AsksNone (seat_program (sizes_of self.old.plan) (seat_data place.old)) }
         ensures { (seat : ℕ) → Makes self.old self.new seat (seat_data place.old) (seat_data place.new) (Step.PutMessage request operation) Unasked }
     {
         put_message(&mut self.letters, request, operation, &mut place.message);
@@ -165,7 +166,7 @@ impl<O: Out, I: In, P: Peer> Table<O, I, P> {
         requires next { IsNext self.old (seat_data place.old) step }
         requires fits { Fits self.old (seat_data place.old) step }
         requires sized { IsSized self.old }
-        requires room { vec_len place.old.held < vec_capacity place.old.held }
+        requires room { (vec_len place.old.held < vec_capacity place.old.held) ⊎ AsksNone (seat_program (sizes_of self.old.plan) (seat_data place.old)) }
         ensures { StepTold self.old self.new seat (seat_data place.old) (seat_data place.new) step result }
     {
         let kind = step.kind();

@@ -2,7 +2,7 @@ ghost use Rattle.std.specs.Prelude.{◌≡◌, ◌<◌, ℕ, Some, None, IfSome,
 ghost use Rattle.sock_core.specs.Machines.{MachineState, table_of};
 ghost use Rattle.sock_core.specs.Steps.{IsSized, HasNoStep, NextIs, StepFits};
 ghost use Rattle.sock_core.specs.Telling.{TickTold};
-ghost use Rattle.sock_core.specs.Driving.{BeganEnding};
+ghost use Rattle.sock_core.specs.Driving.{BeganEnding, IsPlain};
 
 use crate::machine::Tick;
 use crate::seat::Seat;
@@ -74,6 +74,18 @@ impl<O: Out, I: In, P: Peer> Tables<O, I, P> {
             return Err(NoMemory);
         }
         Ok(self.table.step(place, seat, step))
+    }
+
+    /// Makes the next step of seat 0, which asks no link and holds no life. It takes no memory.
+    pub fn step_first(&mut self, step: Step) -> Tick
+        requires plain { IsPlain self.old }
+        requires next { NextIs self.old 0 step }
+        requires fits { StepFits self.old 0 step }
+        requires sized { IsSized (table_of self.old) }
+        ensures { TickTold self.old self.new 0 step result }
+    {
+        let place = &mut self.seats[0];
+        self.table.step(place, 0, step)
     }
 
     /// Seat 0 begins the ending, over the `open`s.

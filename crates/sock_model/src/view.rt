@@ -43,6 +43,9 @@ pub struct View {
     pub found: [usize; 0],
     /// What it found other than 0 at names and operations, the latest first.
     pub finds: [StoredWord; 0],
+    /// What all seats had stored at names and operations, the latest first: as it was when this seat stored or found a word
+    /// other than 0 there.
+    pub histories: [[StoredWord; 0]; 0],
     /// The accepted entries, the earliest first.
     pub lists: [[Entry; 0]; 0],
 }

@@ -1,5 +1,5 @@
 -- The seats and the passes of a new table, as they are split off the first seat.
-use Rattle.std.proofs.Common.{◌≡◌, ◌≢◌, ℕ, zero, suc, ◌+◌, ◌-◌, ◌<◌, ◌≤◌, List, [], ◌∷◌, ◌++◌, reverse, refl, sym, ap, ◌∙◌, subst, arith}
+use Rattle.std.proofs.Common.{◌≡◌, ℕ, suc, ◌+◌, ◌-◌, ◌≤◌, List, [], ◌∷◌, ◌++◌, reverse, refl, sym, ap, ◌∙◌, subst, arith}
 use Rattle.std.proofs.lemmas.List.{reverse-append}
 use Rattle.atomic_table.specs.Seated.{TableId}
 use Rattle.atomic_table.specs.Table.{Me}
@@ -18,7 +18,7 @@ use Rattle.sock_table.specs.Refs.{IsBetween}
 use Rattle.sock_table.specs.Closed.{IsDoneSeat}
 use Rattle.sock_rule.specs.Seated.{IsDone}
 use Rattle.sock_rule.specs.Closing.{IsAtRest}
-use Rattle.sock_open.specs.Made.{IsNewSeat, AreNewSeats, PassesFrom, AreMade}
+use Rattle.sock_open.specs.Made.{IsNewSeat, AreNewSeats, PassesFrom}
 
 -- a seat with the passes of the first n links, which stands for some of the seats
 abbrev pub standing : Plan → ℕ → ℕ → ℕ → View

@@ -1,5 +1,5 @@
 -- What the tests hand out of a new table, and seats between their calls.
-use Rattle.std.proofs.Common.{◌≡◌, ◌≢◌, ℕ, zero, suc, false, ◌+◌, ◌-◌, ◌<◌, ◌≤◌, List, [], ◌∷◌, ◌++◌, refl, sym, ap, ◌∙◌, subst, arith, IfSome, Option, Some, None, option_to_list}
+use Rattle.std.proofs.Common.{◌≡◌, ℕ, ◌+◌, ◌<◌, List, [], ◌∷◌, ◌++◌, refl, sym, ap, ◌∙◌, subst, arith, IfSome, Option, Some, None, option_to_list}
 use Rattle.atomic_table.specs.Seated.{TableId}
 use Rattle.atomic_table.specs.Table.{Me}
 use Rattle.atomic_table.specs.declared.shared.Seat.{Seat}
@@ -11,11 +11,10 @@ use Rattle.sock_model.specs.declared.marks.Mark.{Mark}
 use Rattle.sock_model.specs.declared.marks.SlotMark.{SlotMark}
 use Rattle.sock_model.specs.declared.view.View.{View}
 use Rattle.sock_model.specs.Weights.{total, is_ref, is_known}
-use Rattle.sock_model.specs.SlotRows.{marks_of}
 use Rattle.slot_laws.proofs.Sums.{total-append}
 use Rattle.sock_rule.specs.Becoming.{Became}
 use Rattle.sock_rule.proofs.Becoming.{then_}
-use Rattle.sock_rule.specs.Rows.{put_at}
+use Rattle.sock_rule.specs.Rows.{PutAt}
 use Rattle.sock_rule.specs.Seated.{IsSeat}
 use Rattle.sock_table.specs.Named.{Found}
 use Rattle.sock_table.specs.declared.passes.LinkPass.{LinkPass}
@@ -25,7 +24,7 @@ use Rattle.sock_table.specs.Answers.{LinkOf}
 use Rattle.sock_table.specs.Closed.{AllDone, IsDoneSeat}
 use Rattle.sock_open.specs.Made.{IsNewSeat, AreNewSeats, PassesFrom}
 use Rattle.sock_open.proofs.Testing.{done_between, kept_done}
-use Rattle.sock_open.proofs.Making.{new_view, new_done}
+use Rattle.sock_open.proofs.Making.{new_view}
 
 -- the link that was found is a note, and no reference
 pub linked_notes : (p : Plan) (k id : ℕ) (v w : View) → LinkOf p k id v w → (adds : List Mark) × (total is_ref adds ≡ 0) × Became (socket_id_slot id) v w adds []
@@ -55,11 +54,11 @@ module _ {S : Type 0} (z : TableId) (p : Plan) where
   new_share s n = ap (λ (v : View). v.share) (new_view z p s n)
 
   -- a word was stored
-  pub stored_done : (x word : ℕ) (s t : Seat S View) → IsDoneSeat z p s → IsSeat z p t → t.me ≡ (put_at x word s.me.0, s.me.1) → (IsBetween p s.me.0 → IsBetween p t.me.0) → SameTokens p s.me.0 t.me.0 → IsDoneSeat z p t
-  stored_done x word s t d is view b same = kept_done z p s t d is (ap (λ (m : Me S View). m.1) view) (b (done_between z p s d)) same
+  pub stored_done : (x word : ℕ) (s t : Seat S View) → IsDoneSeat z p s → IsSeat z p t → PutAt x word s.me t.me → (IsBetween p s.me.0 → IsBetween p t.me.0) → SameTokens p s.me.0 t.me.0 → IsDoneSeat z p t
+  stored_done x word s t d is view b same = kept_done z p s t d is (ap (λ (m : Me S View). m.1) view.view) (b (done_between z p s d)) same
 
-  pub stored_known : (x word id : ℕ) (s t : Seat S View) → t.me ≡ (put_at x word s.me.0, s.me.1) → Knows p s.me.0 id → Knows p t.me.0 id
-  stored_known x word id s t view k = known_same p id s.me.0 t.me.0 (ap (λ (m : Me S View). m.0.marks) view) k
+  pub stored_known : (x word id : ℕ) (s t : Seat S View) → PutAt x word s.me t.me → Knows p s.me.0 id → Knows p t.me.0 id
+  stored_known x word id s t view k = known_same p id s.me.0 t.me.0 (ap (λ (m : Me S View). m.0.marks) view.view) k
 
   pub three_done : (a b c : Seat S View) (xs : List (Seat S View)) → xs ≡ a ∷ b ∷ c ∷ [] → IsDoneSeat z p a → IsDoneSeat z p b → IsDoneSeat z p c → AllDone z p xs
   three_done a b c xs e x y w = subst (AllDone z p) (sym e) (x, (y, (w, tt)))

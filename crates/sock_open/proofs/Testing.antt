@@ -1,13 +1,13 @@
 -- Seats between operations, which hold nothing.
-use Rattle.std.proofs.Common.{◌≡◌, ◌≢◌, ℕ, ◌+◌, ◌-◌, ◌%◌, ◌<◌, ◌≤◌, Bool, true, false, cond, nat_le, List, [], ◌∷◌, ◌++◌, length, refl, sym, ap, ◌∙◌, subst, arith, IfOk, IfErr}
+use Rattle.std.proofs.Common.{◌≡◌, ℕ, ◌+◌, ◌-◌, ◌<◌, ◌≤◌, Bool, true, false, cond, nat_le, List, [], ◌∷◌, ◌++◌, refl, sym, ap, ◌∙◌, subst, arith, IfOk, IfErr}
 use Rattle.atomic_table.specs.Seated.{TableId}
 use Rattle.atomic_table.specs.declared.shared.Seat.{Seat}
 use Rattle.std.specs.declared.result.Result.{Result}
 use Rattle.std.specs.declared.result.Result.TheVariants.{Ok, Err}
 use Rattle.sock_words.specs.declared.plain.Plan.{Plan}
-use Rattle.sock_words.specs.Words.{socket_id_version, socket_id_slot, vref_version}
+use Rattle.sock_words.specs.Words.{socket_id_version, socket_id_slot}
 use Rattle.sock_model.specs.declared.marks.Mark.{Mark}
-use Rattle.sock_model.specs.declared.marks.Mark.TheVariants.{Hold, Probe, Freer, Met, Recycling, Saw, Failer, Stored, Told}
+use Rattle.sock_model.specs.declared.marks.Mark.TheVariants.{Hold, Probe, Freer, Met, Recycling, Saw}
 use Rattle.sock_model.specs.declared.view.View.{View}
 use Rattle.sock_model.specs.Weights.{total, is_ref, is_probe, is_known, is_hold}
 use Rattle.sock_model.specs.Marks.{about}
@@ -21,7 +21,7 @@ use Rattle.sock_table.specs.Refs.{IsBetween, EndedBy, GaveBack, MayAddress, Same
 use Rattle.sock_table.specs.Answers.{Holds, Held, GoneFrom, FailedBy, FoundFailed}
 use Rattle.sock_table.specs.Closed.{IsDoneSeat}
 use Rattle.sock_table.specs.declared.refs.Already.{Already}
-use Rattle.sock_table.proofs.Making.{became_same, same_then}
+use Rattle.sock_table.proofs.Making.{became_same}
 
 probe_ref : (m : Mark) → is_probe m ≤ is_ref m
 probe_ref Probe = omega arith

@@ -100,7 +100,7 @@ module _ {S : Type 0} (shows : S → Home) (p : Plan) (slots id : ℕ) (me : Me 
         home.1,
         beside t id v (with_claim v (fresh_claim 0 r found blank [])) here some_ (set s.words (request_word p r) (bit_or found 1)) (set s.homes r none) (length-set s.homes r none)
             record { share = refl; lists = refl; finds = refl; stores = λ y z. omega arith; labels = claim_labelled p v (fresh_claim 0 r found blank []) (λ f. absurd (no_truth f)) }
-            (subst (λ n. Rattle.sock_rule.specs.OnTable.Settled p (set s.words (request_word p r) n) (set s.homes r none)) next (taken_settled t.settled r (2 * g + 1) (omega arith) (omega (arith, o.references.sized))))
+            (subst (λ n. Rattle.sock_rule.specs.OnTable.Settled p t.stored (set s.words (request_word p r) n) (set s.homes r none)) next (taken_settled t.settled r (2 * g + 1) (omega arith) (omega (arith, o.references.sized))))
             (subst (λ n. Rule shows p record { words = set s.words (request_word p r) n; homes = set s.homes r none; views = set s.views id (with_claim v (fresh_claim 0 r found blank [])) }) next rule),
         λ q at. let e = same_request r q mine at in (
           (λ z. (home.0, free_generation o r inside even, ap (λ (x : ℕ). (with_claim v (fresh_claim 0 x found blank []), (x, home.0) ∷ me.1)) e)),
@@ -112,7 +112,7 @@ module _ {S : Type 0} (shows : S → Home) (p : Plan) (slots id : ℕ) (me : Me 
         keeps,
         tt,
         beside t id v (noting (request_word p r) v) here some_ (set s.words (request_word p r) (bit_or found 1)) s.homes refl record { share = refl; lists = refl; finds = refl; stores = λ y z. omega arith; labels = λ x. x }
-            (subst (λ n. Rattle.sock_rule.specs.OnTable.Settled p (set s.words (request_word p r) n) s.homes) (sym (odd_stays found (omega arith))) (load_settled t.settled (request_word p r)))
+            (subst (λ n. Rattle.sock_rule.specs.OnTable.Settled p t.stored (set s.words (request_word p r) n) s.homes) (sym (odd_stays found (omega arith))) (load_settled t.settled (request_word p r)))
             (tried_rule t.rule id v here mine r inside (omega arith)),
         λ q at. ((λ even. absurd (odd even)), λ z. ap (λ (x : ℕ). (noting x v, me.1)) at),
       ))

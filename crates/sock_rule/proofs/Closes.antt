@@ -65,7 +65,7 @@ module _ {S : Type 0} {shows : S → Home} {p : Plan} (s : State S View) (t : On
   pub others : (j : ℕ) (u : View) → get_elem? s.views j ≡ some u → ¬ (j ≡ id) → IsIdle u
   others j u e ne = let a = two_terms share_of s.views id j v u here e ne in let b = t.shares in t.idle j u e (omega arith)
 
-  counts : (f : Mark → ℕ) (i : ℕ) → count f (slot_facts s i) ≡ marks_of f i v
+  pub counts : (f : Mark → ℕ) (i : ℕ) → count f (slot_facts s i) ≡ marks_of f i v
   counts f i = tally_is f i s.views ∙ only_one (marks_of f i) s.views id v here (λ j u e ne. ap (λ es. total f (about i es)) (others j u e ne).marks)
 
   put_is : (x w : ℕ) → total (put_in x w) s.views ≡ put_in x w v
@@ -102,8 +102,16 @@ module _ {S : Type 0} {shows : S → Home} {p : Plan} (s : State S View) (t : On
     pub closing : Closing p v s.words
     closing = record {
       found_was = λ n x e. omega (arith, t.found_was id v here n x e, put_is x.place x.word);
+      stored = t.stored;
+      put = λ x w. t.put x w ∙ put_is x w;
+      met = t.met id v here;
       even = λ i il. even_ i il;
       one_or_none = λ i il. omega (arith, (law i il).counted, counts is_ref i, free i il, lives_le i il);
+      one_where_live = λ i il. let w : ℕ = (slot_facts s i).version in let n : ℕ = live (slot_facts s i) in let known = born_is i il (slot_facts s i).version in
+          let c = (law i il).counted in let r = counts is_ref i in let none_ = free i il in let le = lives_le i il in let e = even_ i il in let b = (law i il).begun in
+          dite (ℕ_discrete (live (slot_facts s i)) 0)
+          (λ zero_. let h = life-high p.first w (w + n) (omega arith) in omega arith)
+          (λ some_. let h = life-in p.first w (w + n) b (omega arith) e in omega arith);
       born_once = λ i h il. omega (arith, born_is i il h, life_le p.first h ((slot_facts s i).version + live (slot_facts s i)));
       failed_once = λ i h il b lt. let a = born_life i il h b in failed_is i il h ∙ life-in p.first h (slot_facts s i).version a.0 lt a.1;
       not_failed = λ i h il le. failed_is i il h ∙ life-high p.first h (slot_facts s i).version le;

@@ -1,5 +1,5 @@
 -- Each link is at home once all seats have ended, with what it took.
-use Rattle.std.proofs.Common.{◌≡◌, ℕ, ◌+◌, ◌<◌, Bool, ⊎_elim, eqb, List, [], refl, sym, ap, ◌∙◌, arith}
+use Rattle.std.proofs.Common.{◌≡◌, ℕ, ◌+◌, ◌<◌, Bool, false, ⊎_elim, eqb, List, [], refl, sym, ap, ◌∙◌, arith}
 use mathlib.Core.Logic.{dite}
 use mathlib.Core.Option.{Option, some, none, some-injective, some-ne-none}
 use native.Mathlib.Decide.{ℕ_discrete}
@@ -12,14 +12,15 @@ use Rattle.sock_model.specs.declared.home.Home.TheVariants.{Empty, Link, Message
 use Rattle.sock_model.specs.declared.chain.Entry.{Entry}
 use Rattle.sock_model.specs.declared.chain.Right.{Right}
 use Rattle.sock_model.specs.declared.view.View.{View}
-use Rattle.sock_model.specs.Weights.{total}
+use Rattle.sock_model.specs.Weights.{total, is_linked, is_freer}
+use Rattle.sock_model.specs.SlotRows.{marks_of}
 use Rattle.sock_model.specs.Reads.{took_of, link_at, rights_on, hands_of, carries, tokens}
 use Rattle.sock_model.specs.Seats.{IsBare}
 use Rattle.sock_steps.proofs.HandSteps.{link_value}
 use Rattle.sock_steps.proofs.Reseat.{closing_law}
 use Rattle.sock_rule.specs.OnTable.{OnTable}
 use Rattle.sock_rule.specs.Closing.{LinkTook}
-use Rattle.sock_rule.proofs.Closes.{others, none_flat, only_one}
+use Rattle.sock_rule.proofs.Closes.{others, counts, none_flat, only_one}
 use Rattle.sock_rule.proofs.Reached.{label_of}
 
 -- a home that took something is a link's
@@ -30,7 +31,7 @@ took_there (some (Message l b)) t n e = absurd (some-ne-none (t, n) (sym e))
 took_there (some (Link k a b d)) t n e = let q : (a, b) ≡ (t, n) = some-injective (a, b) (t, n) e in (k, d, (λ i. some (Link k (q i).0 (q i).1 d)))
 
 -- the home of link k, with what its link took
-pub record AtHome {S : Type 0} (shows : S → Home) (p : Plan) (s : State S View) (log : List Entry) (k : ℕ) : Type 0 where
+pub record AtHome {S : Type 0} (shows : S → Home) (p : Plan) (s : State S View) (v : View) (log : List Entry) (k : ℕ) : Type 0 where
   pub value : S
   pub took : List ℕ
   pub next : ℕ
@@ -38,6 +39,8 @@ pub record AtHome {S : Type 0} (shows : S → Home) (p : Plan) (s : State S View
   pub there : get_elem? s.homes (p.requests + k) ≡ some (some value)
   pub shown_is : shows value ≡ Link k took next done
   pub took_is : LinkTook p log s.words k took
+  -- it isn't finished while a life that was given it is to end
+  pub unfinished : (i h : ℕ) → i < p.slots → 0 < marks_of (is_linked h k) i v → marks_of (is_freer h) i v ≡ 0 → done ≡ false
 
 module _ {S : Type 0} {shows : S → Home} {p : Plan} (s : State S View) (t : OnTable shows p s) (id : ℕ) (v : View) (here : get_elem? s.views id ≡ some v) (all : v.share ≡ p.seats) (bare : IsBare v) where
   same_view : (j : ℕ) (u : View) → get_elem? s.views j ≡ some u → j ≡ id → v ≡ u
@@ -58,7 +61,7 @@ module _ {S : Type 0} {shows : S → Home} {p : Plan} (s : State S View) (t : On
       by_slot none e = ⊎_elim (λ y. y) (λ h. absurd (let z = no_hands k in omega arith)) (t.rule.lawful.homes.outside k kl e)
       by_slot (some j) e = let i = t.rule.lawful.homes.idle k j kl e (no_rights k) in let h = took_there (link_at shows p s.homes k) i.0 i.1 i.2 in (Link h.0 i.0 i.1 h.1, h.2)
 
-  pub links_back : (k : ℕ) → k < p.links → AtHome shows p s t.rule.lawful.log k
+  pub links_back : (k : ℕ) → k < p.links → AtHome shows p s v t.rule.lawful.log k
   links_back k kl = let x = link_there k kl in let own = t.rule.lawful.homes.own k x.0 kl x.1 in
       let at : link_at shows p s.homes k ≡ some (Link k own.took own.next own.done) = x.1 ∙ ap some own.is in
       let y = link_value shows (get_elem? s.homes (p.requests + k)) k own.took own.next own.done at in record {
@@ -68,6 +71,7 @@ module _ {S : Type 0} {shows : S → Home} {p : Plan} (s : State S View) (t : On
         done = own.done;
         there = y.1;
         shown_is = y.2;
+        unfinished = λ i h il given unended. own.«open» i (t.rule.lawful.in_slots.alone i h k record { life = record { inside = il; given = omega (arith, counts s t id v here all (is_linked h k) i) }; unended = counts s t id v here all (is_freer h) i ∙ unended });
         took_is = record {
           kept = t.rule.lawful.kept k;
           fifo = λ apart. closing_law shows p s t.rule.lawful apart (λ i e g. label_of t.rule.lawful t.labelled i e g) k kl (no_rights k) own.took own.next (ap took_of at);

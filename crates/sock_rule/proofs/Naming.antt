@@ -1,11 +1,12 @@
 -- Ids as words of names and of operations.
-use Rattle.std.proofs.Common.{◌≡◌, ◌≢◌, ℕ, ◌+◌, ◌-◌, ◌/◌, ◌%◌, ◌<◌, inl, inr, Bool, true, false, cond, eqb, refl, sym, subst, arith}
+use Rattle.std.proofs.Common.{◌≡◌, ◌≢◌, ℕ, List, ◌+◌, ◌-◌, ◌/◌, ◌%◌, ◌<◌, inl, inr, Bool, true, false, cond, eqb, refl, sym, subst, arith}
 use mathlib.Core.Option.{none}
 use Rattle.atomic_table.specs.Table.{Me, step, Allows}
 use Rattle.sock_words.specs.declared.plain.Plan.{Plan}
 use Rattle.sock_words.specs.Words.{socket_id_version, socket_id_slot}
 use Rattle.sock_model.specs.declared.home.Home.{Home}
 use Rattle.sock_model.specs.declared.view.View.{View}
+use Rattle.sock_model.specs.declared.view.StoredWord.{StoredWord}
 use Rattle.sock_model.specs.Weights.{is_known}
 use Rattle.sock_model.specs.SlotRows.{marks_of}
 use Rattle.atomic_table.specs.Seated.{TableId}
@@ -47,10 +48,10 @@ module _ {S : Type 0} (shows : S → Home) (q p : Plan) (slots id : ℕ) (me : M
   finds_open_on n low = subst (λ (r : Plan). Allows (OnTable shows r) slots id me (open_word p n) (λ n. n) (find_told (step slots (open_word p n) 0 0 none) me)) (sym key) (finds_open shows p slots id me mine some_ n low)
 
 -- a seat stays one of the table, whatever it found
-pub found_seat : {S : Type 0} (z : TableId) (p : Plan) (s t : Seat S View) (x word : ℕ) → IsSeat z p s → t.table_id ≡ s.table_id → t.me ≡ (found_at x word s.me.0, s.me.1) → IsSeat z p t
-found_seat z p s t x word is same view = let a = kept word (eqb word 0) (eqb word 18446744073709551615) in still_seat z p s t (found_at x word s.me.0, s.me.1) is same view a.0 (sym a.1)
+pub found_seat : {S : Type 0} (z : TableId) (p : Plan) (s t : Seat S View) (x word : ℕ) → IsSeat z p s → t.table_id ≡ s.table_id → (all : List StoredWord) → t.me ≡ (found_at x word all s.me.0, s.me.1) → IsSeat z p t
+found_seat z p s t x word is same all view = let a = kept word (eqb word 0) (eqb word 18446744073709551615) in still_seat z p s t (found_at x word all s.me.0, s.me.1) is same view a.0 (sym a.1)
   where
-    kept : (word : ℕ) (b d : Bool) → ((cond b s.me.0 (cond d (finding x word s.me.0) (finding x word (met ((word - 1) % 4294967296) ((word - 1) / 4294967296) s.me.0)))).plan ≡ s.me.0.plan) × ((cond b s.me.0 (cond d (finding x word s.me.0) (finding x word (met ((word - 1) % 4294967296) ((word - 1) / 4294967296) s.me.0)))).share ≡ s.me.0.share)
+    kept : (word : ℕ) (b d : Bool) → ((cond b s.me.0 (cond d (finding x word all s.me.0) (finding x word all (met ((word - 1) % 4294967296) ((word - 1) / 4294967296) s.me.0)))).plan ≡ s.me.0.plan) × ((cond b s.me.0 (cond d (finding x word all s.me.0) (finding x word all (met ((word - 1) % 4294967296) ((word - 1) / 4294967296) s.me.0)))).share ≡ s.me.0.share)
     kept word true d = (refl, refl)
     kept word false true = (refl, refl)
     kept word false false = (refl, refl)

@@ -1,5 +1,6 @@
 -- A new table meets the rule, and so does one of which a seat was split in two or two were joined.
-use Rattle.std.proofs.Common.{◌≡◌, ℕ, zero, suc, ◌+◌, ◌-◌, ◌*◌, ◌<◌, ◌≤◌, ◌⊎◌, inl, inr, ⊎_elim, List, [], ◌∷◌, ◌++◌, length-append, map, false, set, refl, sym, ap, ◌∙◌, subst, arith}
+use Rattle.std.proofs.Common.{◌≡◌, ℕ, zero, suc, ◌+◌, ◌-◌, ◌*◌, ◌<◌, ◌≤◌, ◌⊎◌, inl, inr, ⊎_elim, List, [], ◌∷◌, ◌++◌, length-append, map, false, get_or, set, refl, sym, ap, ◌∙◌, subst, arith}
+use Rattle.std.proofs.lemmas.Bool.{cases_lt}
 use Rattle.std.proofs.lemmas.List.{length-map}
 use mathlib.Core.Option.{Option, some, some-injective, some-ne-none}
 use lib.ListN.{get_elem?}
@@ -48,16 +49,25 @@ opens {S} shows p ws xs new = let hs : List (Option S) = map some xs in let v : 
     ap (λ h. as_link (shown shows h)) (at_map some xs (p.requests + k) y.0 y.1) ∙ ap (λ (h : Home). as_link (some h)) y.2 in
     let r : Rule shows p record { words = ws; homes = map some xs; views = first_view p ∷ [] } = opening_rule shows p ws (map some xs) new.some_seats new.few_seats (opening_law shows p ws (map some xs) new.unused new.fits new.first_low new.requests new.places at) in
     record {
-      rule = aside_rule {s = record { words = ws; homes = map some xs; views = first_view p ∷ [] }} 0 v refl r refl p.seats [];
+      rule = aside_rule {s = record { words = ws; homes = map some xs; views = first_view p ∷ [] }} 0 v refl r refl p.seats [] [];
       housed = length-map xs some ∙ new.homes;
       shares = omega arith;
       listed = λ id u e. subst (λ (z : View). lists_of z ≤ z.share) (one_view (opener p) u id e) new.some_seats;
       idle = λ id u e none_. let a = ap (λ (z : View). z.share) (one_view (opener p) u id e) in let b = new.some_seats in absurd (omega arith);
-      settled = record { codes = λ i il. omega (arith, new.unused.codes i il); present = λ r rl even. some_there xs r (omega (arith, new.homes)) };
+      stored = [];
+      put = λ x w. omega arith;
+      met = λ id u e n h g. absurd (some-ne-none h (sym (subst (λ (z : View). get_elem? z.histories n ≡ some h) (sym (one_view (opener p) u id e)) g)));
+      settled = record { names = new_names; codes = λ i il. omega (arith, new.unused.codes i il); present = λ r rl even. some_there xs r (omega (arith, new.homes)) };
       labelled = λ id u e. subst (Labelled p) (one_view (opener p) u id e) record { entries = λ n l f i x g. no_entries n l f i x g; claimed = λ i c f. absurd (some-ne-none c (sym f)) };
       found_was = λ id u e n x g. absurd (some-ne-none x (sym (subst (λ (z : View). get_elem? z.finds n ≡ some x) (sym (one_view (opener p) u id e)) g)));
     }
   where
+    new_names : (x : ℕ) → 6 * p.slots ≤ x → x < 6 * p.slots + p.names + p.operations → get_or ws x 0 ≡ 0
+    new_names x high low = ⊎_elim
+        (λ below. subst (λ (y : ℕ). get_or ws y 0 ≡ 0) (omega arith) (new.unused.names (x - 6 * p.slots) (omega arith)))
+        (λ above. subst (λ (y : ℕ). get_or ws y 0 ≡ 0) (omega arith) (new.unused.opens (x - (6 * p.slots + p.names)) (omega arith)))
+        (cases_lt x (6 * p.slots + p.names))
+
     no_entries : (n : ℕ) (l : List Entry) → get_elem? ([] ∷ []) n ≡ some l → (i : ℕ) (e : Entry) → get_elem? l i ≡ some e → e.heading.place < 8 * p.operations
     no_entries zero l e i x f = absurd (some-ne-none x (sym (ap (λ (y : List Entry). get_elem? y i) (some-injective [] l e) ∙ f)))
     no_entries (suc n) l e i x f = absurd (some-ne-none l (sym e))
@@ -68,11 +78,14 @@ opens {S} shows p ws xs new = let hs : List (Option S) = map some xs in let v : 
 
 module _ {S : Type 0} (shows : S → Home) (p : Plan) (id : ℕ) (v : View) (mine : v.plan ≡ p) where
   -- what holds beside the rule once a seat is added that found nothing
-  adds_seat : (s : State S View) (t : OnTable shows p s) → get_elem? s.views id ≡ some v → (left right : View) → 0 < left.share → left.finds ≡ v.finds → left.stores ≡ v.stores → lists_of left ≤ left.share → left.share + right.share ≡ v.share
-      → lists_of right ≤ right.share → (right.share ≡ 0 → IsIdle right) → right.finds ≡ [] → (Labelled p v → Labelled p left) → Labelled p right → Rule shows p record { words = s.words; homes = s.homes; views = set s.views id left ++ right ∷ [] }
+  adds_seat : (s : State S View) (t : OnTable shows p s) → get_elem? s.views id ≡ some v → (left right : View) → 0 < left.share → ◌≡◌ {A = List StoredWord × List (List StoredWord)} (left.finds, left.histories) (v.finds, v.histories) → left.stores ≡ v.stores → lists_of left ≤ left.share → left.share + right.share ≡ v.share
+      → lists_of right ≤ right.share → (right.share ≡ 0 → IsIdle right) → ◌≡◌ {A = List StoredWord × (List (List StoredWord) × List (List StoredWord))} (right.finds, (right.histories, right.stores)) ([], ([], [] ∷ [])) → (Labelled p v → Labelled p left) → Labelled p right → Rule shows p record { words = s.words; homes = s.homes; views = set s.views id left ++ right ∷ [] }
       → OnTable shows p record { words = s.words; homes = s.homes; views = set s.views id left ++ right ∷ [] }
   adds_seat s t here left right some_left finds stores fits sum fits_too idle_too none_found labels labels_too r = let first : List View = set s.views id left in
-      let more : (x w : ℕ) → total (put_in x w) s.views ≤ total (put_in x w) (set s.views id left ++ right ∷ []) = λ x w. omega (arith, total-append (put_in x w) first (right ∷ []), total-set (put_in x w) s.views id v left here, ap (total (total (is_put x w))) stores) in
+      let finds_stay : left.finds ≡ v.finds = ap (λ (q : List StoredWord × List (List StoredWord)). q.0) finds in let met_stay : left.histories ≡ v.histories = ap (λ (q : List StoredWord × List (List StoredWord)). q.1) finds in
+      let no_finds : right.finds ≡ [] = ap (λ (q : List StoredWord × (List (List StoredWord) × List (List StoredWord))). q.0) none_found in let no_met : right.histories ≡ [] = ap (λ (q : List StoredWord × (List (List StoredWord) × List (List StoredWord))). q.1.0) none_found in
+      let no_stores : right.stores ≡ [] ∷ [] = ap (λ (q : List StoredWord × (List (List StoredWord) × List (List StoredWord))). q.1.1) none_found in
+      let more : (x w : ℕ) → total (put_in x w) s.views ≡ total (put_in x w) (set s.views id left ++ right ∷ []) = λ x w. omega (arith, total-append (put_in x w) first (right ∷ []), total-set (put_in x w) s.views id v left here, ap (total (total (is_put x w))) stores, ap (total (total (is_put x w))) no_stores) in
       record {
         rule = r;
         housed = t.housed;
@@ -80,18 +93,23 @@ module _ {S : Type 0} (shows : S → Home) (p : Plan) (id : ℕ) (v : View) (min
         listed = λ j u g. ⊎_elim (λ a. ⊎_elim (λ y. subst (λ (z : View). lists_of z ≤ z.share) y.1 fits) (λ y. t.listed j u y.1) (at_set s.views id j left u a)) (λ e. subst (λ (z : View). lists_of z ≤ z.share) e fits_too) (at_snoc first right u j g);
         idle = λ j u g none_. ⊎_elim (λ a. ⊎_elim (λ y. absurd (omega (arith, ap share_of y.1))) (λ y. t.idle j u y.1 none_) (at_set s.views id j left u a))
             (λ e. subst IsIdle e (idle_too (ap share_of e ∙ none_))) (at_snoc first right u j g);
+        stored = t.stored;
+        put = λ x w. t.put x w ∙ more x w;
         settled = t.settled;
+        met = λ j u g n h e. ⊎_elim
+            (λ a. ⊎_elim (λ y. t.met id v here n h (subst (λ (l : List (List StoredWord)). get_elem? l n ≡ some h) met_stay (subst (λ (z : View). get_elem? z.histories n ≡ some h) (sym y.1) e))) (λ y. t.met j u y.1 n h e) (at_set s.views id j left u a))
+            (λ y. absurd (some-ne-none h (sym (subst (λ (l : List (List StoredWord)). get_elem? l n ≡ some h) no_met (subst (λ (z : View). get_elem? z.histories n ≡ some h) (sym y) e))))) (at_snoc first right u j g);
         labelled = λ j u g. ⊎_elim (λ a. ⊎_elim (λ y. subst (Labelled p) y.1 (labels (t.labelled id v here))) (λ y. t.labelled j u y.1) (at_set s.views id j left u a)) (λ e. subst (Labelled p) e labels_too) (at_snoc first right u j g);
         found_was = λ j u g n x e. ⊎_elim
-            (λ a. ⊎_elim (λ y. omega (arith, more x.place x.word, t.found_was id v here n x (subst (λ (l : List StoredWord). get_elem? l n ≡ some x) finds (subst (λ (z : View). get_elem? z.finds n ≡ some x) (sym y.1) e)))) (λ y. omega (arith, more x.place x.word, t.found_was j u y.1 n x e)) (at_set s.views id j left u a))
-            (λ y. absurd (some-ne-none x (sym (subst (λ (l : List StoredWord). get_elem? l n ≡ some x) none_found (subst (λ (z : View). get_elem? z.finds n ≡ some x) (sym y) e))))) (at_snoc first right u j g);
+            (λ a. ⊎_elim (λ y. omega (arith, more x.place x.word, t.found_was id v here n x (subst (λ (l : List StoredWord). get_elem? l n ≡ some x) finds_stay (subst (λ (z : View). get_elem? z.finds n ≡ some x) (sym y.1) e)))) (λ y. omega (arith, more x.place x.word, t.found_was j u y.1 n x e)) (at_set s.views id j left u a))
+            (λ y. absurd (some-ne-none x (sym (subst (λ (l : List StoredWord). get_elem? l n ≡ some x) no_finds (subst (λ (z : View). get_elem? z.finds n ≡ some x) (sym y) e))))) (at_snoc first right u j g);
       }
 
   -- a seat is split off
   pub gives : MayGive v → Splits (OnTable shows p) id v (giving v) (given v)
   gives may s t here = let v' : View = record v { share = v.share - 1 } in let s' : State S View = record { words = s.words; homes = s.homes; views = set s.views id (record v { share = v.share - 1 }) } in
       let less = less_by lists_of share_of 1 s.views id v t.listed here (omega (arith, may.more)) in
-      let r' : Rule shows p record { words = s.words; homes = s.homes; views = set s.views id (record v { share = v.share - 1 }) } = aside_rule id v here t.rule mine (v.share - 1) v.finds in
+      let r' : Rule shows p record { words = s.words; homes = s.homes; views = set s.views id (record v { share = v.share - 1 }) } = aside_rule id v here t.rule mine (v.share - 1) v.finds v.histories in
       let two = splitting_rule r' id v' (set_at s.views id v' (at_length s.views id v here)) mine v.passes [] (v.spare - 1) 0 (λ k. omega arith) (omega (arith, may.spare)) (let a = t.shares in omega (arith, total-set lists_of s.views id v v' here)) in
       let is : newcomer p [] 0 ≡ newcomer v.plan [] 0 = ap (λ (q : Plan). newcomer q [] 0) (sym mine) in
       let r : Rule shows p record { words = s.words; homes = s.homes; views = set s.views id (giving v) ++ given v ∷ [] } =
@@ -114,7 +132,7 @@ module _ {S : Type 0} (shows : S → Home) (p : Plan) (id : ℕ) (v : View) (min
   pub takes : 0 < v.share → (other : ℕ) (w : View) → IsDone p w → Joins (OnTable shows p) id v other w (joined v w) spent
   takes some_ other w done s t here ne there = let both : View = joined v w in let first : List View = set s.views id (joined v w) in
       let its : get_elem? s.views other ≡ some w = ⊎_elim (λ y. absurd (ne y.0)) (λ y. y.1) (at_set s.views id other both w there) in
-      let more : (x y : ℕ) → total (put_in x y) s.views ≤ total (put_in x y) (set (set s.views id (joined v w)) other spent) = λ x y.
+      let more : (x y : ℕ) → total (put_in x y) s.views ≡ total (put_in x y) (set (set s.views id (joined v w)) other spent) = λ x y.
       omega (arith, total-set (put_in x y) s.views id v both here, total-set (put_in x y) first other w spent there, total-append (total (is_put x y)) v.stores w.stores) in
       record {
         rule = joining_rule t.rule id other v w here mine ne there done.bare done.unheld;
@@ -124,7 +142,12 @@ module _ {S : Type 0} (shows : S → Home) (p : Plan) (id : ℕ) (v : View) (min
             (λ y. ⊎_elim (λ q. subst (λ (z : View). lists_of z ≤ z.share) q.1 (omega (arith, length-append v.lists w.lists, t.listed id v here, t.listed other w its))) (λ q. t.listed j u q.1) (at_set s.views id j both u y.1)) (at_set first other j spent u g);
         idle = λ j u g none_. ⊎_elim (λ y. subst IsIdle y.1 record { marks = refl; lists = refl; finds = refl; stores = λ x y. refl; claims = refl; loose = refl; rights = refl; hands = refl })
             (λ y. ⊎_elim (λ q. absurd (omega (arith, ap share_of q.1))) (λ q. t.idle j u q.1 none_) (at_set s.views id j both u y.1)) (at_set first other j spent u g);
+        stored = t.stored;
+        put = λ x y. t.put x y ∙ more x y;
         settled = t.settled;
+        met = λ j u g n h e. ⊎_elim (λ y. absurd (some-ne-none h (sym (subst (λ (z : View). get_elem? z.histories n ≡ some h) (sym y.1) e))))
+            (λ y. ⊎_elim (λ q. ⊎_elim (λ a. t.met id v here n h a) (λ a. t.met other w its a.0 h a.1) (at_append v.histories w.histories n h (subst (λ (z : View). get_elem? z.histories n ≡ some h) (sym q.1) e)))
+            (λ q. t.met j u q.1 n h e) (at_set s.views id j both u y.1)) (at_set first other j spent u g);
         labelled = λ j u g. ⊎_elim (λ y. subst (Labelled p) y.1 record { entries = λ n l e. absurd (some-ne-none l (sym e)); claimed = λ i c e. absurd (some-ne-none c (sym e)) })
             (λ y. ⊎_elim (λ q. subst (Labelled p) q.1 (joins (t.labelled id v here) (t.labelled other w its))) (λ q. t.labelled j u q.1) (at_set s.views id j both u y.1)) (at_set first other j spent u g);
         found_was = λ j u g n x e. ⊎_elim (λ y. absurd (some-ne-none x (sym (subst (λ (z : View). get_elem? z.finds n ≡ some x) (sym y.1) e))))

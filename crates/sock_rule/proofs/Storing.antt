@@ -1,5 +1,5 @@
 -- S1 to S7 are allowed to a seat whose view meets their condition.
-use Rattle.std.proofs.Common.{◌≡◌, ◌≢◌, ℕ, ◌+◌, ◌-◌, ◌*◌, ◌/◌, ◌%◌, ◌<◌, ◌≤◌, ◌⊎◌, [], cond, eqb, eq-eqb, ne_eqb, get_or, set, refl, sym, ap, ◌∙◌, subst, arith}
+use Rattle.std.proofs.Common.{◌≡◌, ◌≢◌, ℕ, ◌+◌, ◌-◌, ◌*◌, ◌/◌, ◌%◌, ◌<◌, ◌≤◌, ◌⊎◌, [], ◌∷◌, cond, eqb, eq-eqb, ne_eqb, get_or, set, refl, sym, ap, ◌∙◌, subst, arith}
 use mathlib.Core.Logic.{dite}
 use mathlib.Core.Option.{none, some}
 use native.Mathlib.Decide.{ℕ_discrete}
@@ -31,7 +31,7 @@ use Rattle.sock_rule.specs.Rows.{NOTHING, finding, put_at}
 use Rattle.sock_rule.specs.Plays.{link_told, meet_told, meet_last_told, reset_told, wipe_told, code_told, read_told, store_told, find_told, find_name_told}
 use Rattle.sock_rule.proofs.Beside.{SameShare, beside}
 use Rattle.sock_rule.proofs.Settling.{slot_settled, name_settled, code_settled, load_settled}
-use Rattle.sock_rule.proofs.Finds.{was_put, wrote_more, finds_beside}
+use Rattle.sock_rule.proofs.Finds.{was_put, finds_beside, puts_beside, found_history, stored_history}
 
 -- the link of a life that a seat holds, and of one that it ended, is one of the table
 module _ {S : Type 0} {shows : S → Home} {p : Plan} (s : State S View) (t : OnTable shows p s) (id : ℕ) (u : View) (here : get_elem? s.views id ≡ some u) (i : ℕ) (inside : i < p.slots) where
@@ -167,31 +167,31 @@ module _ {S : Type 0} (shows : S → Home) (p : Plan) (slots id : ℕ) (me : Me 
   pub stores_name : (n word : ℕ) → n < p.names → word ≢ 0 → (word - 1) % 4294967296 < p.slots → 0 < marks_of (is_known ((word - 1) / 4294967296)) ((word - 1) % 4294967296) v
       → Allows (OnTable shows p) slots id me (name_word p n) (λ _. word) (λ _. store_told (step slots (name_word p n) word 0 none) me word)
   stores_name n word low some_word inside known s t long here fits = (
-    put_at (name_word p n) word v,
+    put_at (name_word p n) word (record { place = name_word p n; word = word } ∷ t.stored) v,
     keeps,
     tt,
-    beside t id v (put_at (name_word p n) word v) here some_ (set s.words (name_word p n) word) s.homes refl record { share = refl; lists = refl; finds = refl; stores = λ x y. wrote_more (name_word p n) word x y v; labels = λ x. x } (name_settled t.settled _ _ (omega arith) (omega arith))
+    puts_beside t id v here some_ mine (set s.words (name_word p n) word) (name_word p n) word (name_settled t.settled _ _ (omega arith) (omega arith) (omega (arith, t.rule.lawful.references.sized)))
         (store_name_note_rule t.rule id v here mine n low word some_word inside known),
-    refl,
+    record { all = record { place = name_word p n; word = word } ∷ t.stored; view = refl; history = stored_history t id v here (name_word p n) word },
   )
 
   -- S6 into the word of an operation
   pub stores_open : (n word i : ℕ) → n < p.operations → word ≢ 0 → i < p.slots → (word ≡ NOTHING) ⊎ (((word - 1) % 4294967296 ≡ i) × (0 < marks_of (is_known ((word - 1) / 4294967296)) i v))
       → Allows (OnTable shows p) slots id me (open_word p n) (λ _. word) (λ _. store_told (step slots (open_word p n) word 0 none) me word)
   stores_open n word i low some_word inside how s t long here fits = (
-    put_at (open_word p n) word v,
+    put_at (open_word p n) word (record { place = open_word p n; word = word } ∷ t.stored) v,
     keeps,
     tt,
-    beside t id v (put_at (open_word p n) word v) here some_ (set s.words (open_word p n) word) s.homes refl record { share = refl; lists = refl; finds = refl; stores = λ x y. wrote_more (open_word p n) word x y v; labels = λ x. x } (name_settled t.settled _ _ (omega arith) (omega arith))
+    puts_beside t id v here some_ mine (set s.words (open_word p n) word) (open_word p n) word (name_settled t.settled _ _ (omega arith) (omega arith) (omega (arith, t.rule.lawful.references.sized)))
         (store_open_note_rule t.rule id v here mine n low word i some_word inside how),
-    refl,
+    record { all = record { place = open_word p n; word = word } ∷ t.stored; view = refl; history = stored_history t id v here (open_word p n) word },
   )
 
   -- S7 at a place whose word, other than 0, is the id of a life that was born or says that there is none, and was stored there
-  finds_at : (x : ℕ) → Lasting p x → x < 6 * p.slots + p.names + p.operations
+  finds_at : (x : ℕ) → Lasting p x → 6 * p.slots ≤ x → x < 6 * p.slots + p.names + p.operations
       → ((s : State S View) → OnTable shows p s → get_or s.words x 0 ≢ NOTHING → Names p s (get_or s.words x 0)) → ((s : State S View) → OnTable shows p s → Stores s x)
       → Allows (OnTable shows p) slots id me x (λ n. n) (find_told (step slots x 0 0 none) me)
-  finds_at x last low names stores s t long here fits = let w : ℕ = get_or s.words x 0 in let i : ℕ = (w - 1) % 4294967296 in let h : ℕ = (w - 1) / 4294967296 in
+  finds_at x last high low names stores s t long here fits = let w : ℕ = get_or s.words x 0 in let i : ℕ = (w - 1) % 4294967296 in let h : ℕ = (w - 1) / 4294967296 in
       let fresh : get_or s.words x 0 ≢ NOTHING → get_or s.words x 0 ≢ 0 → (get_or s.words x 0 - 1) % 4294967296 < me.0.plan.slots = λ n z. subst (λ (q : Plan). (get_or s.words x 0 - 1) % 4294967296 < q.slots) (sym mine) (names s t n z).0 in
       let stays : (k : ℕ) → get_elem? me.0.found k ≡ some x → get_or s.words x 0 ≢ 0 = λ k e. (t.rule.found_words id v here k x e).1 in
       let quiet : SameShare p v v = record { share = refl; lists = refl; finds = refl; stores = λ y z. omega arith; labels = λ x. x } in
@@ -202,33 +202,33 @@ module _ {S : Type 0} (shows : S → Home) (p : Plan) (slots id : ℕ) (me : Me 
         keeps,
         tt,
         beside t id v v here some_ (set s.words x w) s.homes refl quiet (load_settled t.settled x) read,
-        (ap (λ b. (cond b v (cond (eqb w 18446744073709551615) (finding x w v) (finding x w (met i h v))), me.1)) (sym (eq-eqb w 0 zero_)), (λ z n. fresh n z), stays),
+        (record { all = t.stored; view = ap (λ b. (cond b v (cond (eqb w 18446744073709551615) (finding x w t.stored v) (finding x w t.stored (met i h v))), me.1)) (sym (eq-eqb w 0 zero_)); history = found_history t id v here x high low }, (λ z n. fresh n z), stays),
       ))
       (λ some_word. let was : 0 < total (put_in x w) s.views = omega (arith, stores s t some_word, was_put x w some_word s.views) in
       let there : get_or (set s.words x (get_or s.words x 0)) x 0 ≢ 0 = λ z. some_word (sym (ap (λ ws. get_or ws x 0) (set-get_or s.words x 0)) ∙ z) in
       dite (ℕ_discrete (get_or s.words x 0) 18446744073709551615)
       (λ nothing. (
-        finding x w v,
+        finding x w t.stored v,
         keeps,
         tt,
         finds_beside t id v (noting x v) here some_ mine (set s.words x w) x w was record { share = refl; lists = refl; finds = refl; stores = λ y z. omega arith; labels = λ x. x } (load_settled t.settled _)
             (step_notes s.views id v v (set s.words x w) s.homes here mine x last there read),
-        (ap (λ b. (cond b (finding x w v) (finding x w (met i h v)), me.1)) (sym (eq-eqb w 18446744073709551615 nothing)) ∙ ap (λ b. (cond b v (cond (eqb w 18446744073709551615) (finding x w v) (finding x w (met i h v))), me.1)) (sym (ne_eqb w 0 some_word)), (λ z n. fresh n z), stays),
+        (record { all = t.stored; view = ap (λ b. (cond b (finding x w t.stored v) (finding x w t.stored (met i h v)), me.1)) (sym (eq-eqb w 18446744073709551615 nothing)) ∙ ap (λ b. (cond b v (cond (eqb w 18446744073709551615) (finding x w t.stored v) (finding x w t.stored (met i h v))), me.1)) (sym (ne_eqb w 0 some_word)); history = found_history t id v here x high low }, (λ z n. fresh n z), stays),
       ))
       (λ an_id. let its = names s t an_id some_word in (
-        finding x w (met i h v),
+        finding x w t.stored (met i h v),
         keeps,
         tt,
         finds_beside t id v (noting x (met i h v)) here some_ mine (set s.words x w) x w was record { share = refl; lists = refl; finds = refl; stores = λ y z. omega arith; labels = λ x. x } (load_settled t.settled _)
             (find_note_rule t.rule id v here mine i its.0 x last h low its.1 some_word),
-        (ap (λ b. (cond b (finding x w v) (finding x w (met i h v)), me.1)) (sym (ne_eqb w 18446744073709551615 an_id)) ∙ ap (λ b. (cond b v (cond (eqb w 18446744073709551615) (finding x w v) (finding x w (met i h v))), me.1)) (sym (ne_eqb w 0 some_word)), (λ z n. fresh n z), stays),
+        (record { all = t.stored; view = ap (λ b. (cond b (finding x w t.stored v) (finding x w t.stored (met i h v)), me.1)) (sym (ne_eqb w 18446744073709551615 an_id)) ∙ ap (λ b. (cond b v (cond (eqb w 18446744073709551615) (finding x w t.stored v) (finding x w t.stored (met i h v))), me.1)) (sym (ne_eqb w 0 some_word)); history = found_history t id v here x high low }, (λ z n. fresh n z), stays),
       )))
 
   -- S7 of a name
   pub finds_name : (n : ℕ) → n < p.names → Allows (OnTable shows p) slots id me (name_word p n) (λ n. n) (find_name_told (step slots (name_word p n) 0 0 none) me)
-  finds_name n low s t long here fits = let a = finds_at (name_word p n) (of_name n low refl) (omega arith) (λ s t other. t.rule.lawful.references.named.names n low) (λ s t. t.rule.lawful.references.named.names_by n low) s t long here fits in
+  finds_name n low s t long here fits = let a = finds_at (name_word p n) (of_name n low refl) (omega arith) (omega arith) (λ s t other. t.rule.lawful.references.named.names n low) (λ s t. t.rule.lawful.references.named.names_by n low) s t long here fits in
       (a.0, a.1, a.2, a.3, (a.4, λ z. subst (λ (q : Plan). (get_or s.words (name_word p n) 0 - 1) % 4294967296 < q.slots) (sym mine) (t.rule.lawful.references.named.names n low z).0))
 
   -- S7 of the word of an operation
   pub finds_open : (n : ℕ) → n < p.operations → Allows (OnTable shows p) slots id me (open_word p n) (λ n. n) (find_told (step slots (open_word p n) 0 0 none) me)
-  finds_open n low = finds_at (open_word p n) (of_open n low refl) (omega arith) (λ s t other. t.rule.lawful.references.named.opens n low other) (λ s t. t.rule.lawful.references.named.opens_by n low)
+  finds_open n low = finds_at (open_word p n) (of_open n low refl) (omega arith) (omega arith) (λ s t other. t.rule.lawful.references.named.opens n low other) (λ s t. t.rule.lawful.references.named.opens_by n low)

@@ -9,11 +9,11 @@ use Rattle.sock_model.specs.Authors.{pick}
 use Rattle.sock_model.specs.Entries.{on}
 use Rattle.sock_model.specs.Fifo.{IsFifo}
 use Rattle.sock_model.specs.declared.view.StoredWord.{StoredWord}
-use Rattle.sock_model.specs.Weights.{is_claimed, is_any_coding, is_zero, is_tried, is_known, is_born, is_saw, is_failer, is_freer, is_coded, is_stored, is_told, is_linked, is_met}
+use Rattle.sock_model.specs.Weights.{total, is_claimed, is_any_coding, is_zero, is_tried, is_known, is_born, is_saw, is_failer, is_freer, is_coded, is_stored, is_told, is_linked, is_met}
 use Rattle.sock_model.specs.Layout.{ref_word, request_word, place_word}
 use Rattle.sock_model.specs.Slots.{version_of, nref_of}
 use Rattle.sock_model.specs.SlotRows.{marks_of}
-use Rattle.sock_rule.specs.OnTable.{put_in}
+use Rattle.sock_rule.specs.OnTable.{is_put, put_in, Follows}
 
 -- between two calls a seat has nothing but references, rights and notes
 pub record IsAtRest (p : Plan) (v : View) : Type 0 where
@@ -26,9 +26,15 @@ pub record IsAtRest (p : Plan) (v : View) : Type 0 where
 pub record Closing (p : Plan) (v : View) (words : List ℕ) : Type 0 where
   -- what was found at a name or an operation was stored there
   pub found_was : (n : ℕ) (x : StoredWord) → get_elem? v.finds n ≡ some x → 0 < put_in x.place x.word v
+  -- all that was stored there has one order, which goes on behind what was met at each find and each store
+  pub stored : List StoredWord
+  pub put : (x w : ℕ) → total (is_put x w) stored ≡ put_in x w v
+  pub met : (n : ℕ) (h : List StoredWord) → get_elem? v.histories n ≡ some h → Follows stored h
   -- each word of a slot has an even version, and one reference where it is live, else none
   pub even : (i : ℕ) → i < p.slots → version_of (slice_index words (ref_word i)) % 2 ≡ 0
   pub one_or_none : (i : ℕ) → i < p.slots → nref_of (slice_index words (ref_word i)) ≤ 1
+  -- and that is so where the word has the version of a life that was made
+  pub one_where_live : (i : ℕ) → i < p.slots → nref_of (slice_index words (ref_word i)) ≡ marks_of (is_born (version_of (slice_index words (ref_word i)))) i v
   -- a life was made once
   pub born_once : (i h : ℕ) → i < p.slots → marks_of (is_born h) i v ≤ 1
   -- and then it was failed once, by a seat that stored its code, where the slot has a later version, and else not

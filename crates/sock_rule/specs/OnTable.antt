@@ -1,5 +1,5 @@
 -- The rule of a table that threads share: the rule of the sockets, and what the views keep beside it.
-use Rattle.std.specs.Prelude.{◌≡◌, ℕ, ◌+◌, ◌*◌, ◌%◌, true, ◌<◌, ◌≤◌, List, [], length, slice_index}
+use Rattle.std.specs.Prelude.{◌≡◌, ℕ, ◌+◌, ◌*◌, ◌%◌, true, ◌<◌, ◌≤◌, List, [], ◌++◌, length, slice_index}
 use mathlib.Core.Option.{Option, some}
 use lib.ListN.{get_elem?}
 use Rattle.atomic_table.specs.Table.{State}
@@ -10,6 +10,7 @@ use Rattle.sock_model.specs.declared.chain.Entry.{Entry}
 use Rattle.sock_model.specs.declared.view.View.{View}
 use Rattle.sock_model.specs.declared.view.StoredWord.{StoredWord}
 use Rattle.sock_model.specs.Weights.{total, pair}
+use Rattle.sock_model.specs.Marks.{latest}
 use Rattle.sock_model.specs.Layout.{code_word, request_word}
 use Rattle.sock_model.specs.Seats.{first_view}
 use Rattle.sock_model.specs.Rule.{lists_of, Rule}
@@ -39,9 +40,15 @@ pub record IsIdle (v : View) : Type 0 where
 abbrev pub FindsWere : List View → View → Type 0
 FindsWere views v = (n : ℕ) (x : StoredWord) → get_elem? v.finds n ≡ some x → 0 < total (put_in x.place x.word) views
 
+-- what was stored later stands before what was stored earlier
+abbrev pub Follows : List StoredWord → List StoredWord → Type 0
+Follows all before = (more : List StoredWord) × (all ≡ more ++ before)
+
 -- each code fits 16 bits, and a request that isn't taken has its home there: a seat that claims one takes its home with it, gives it back with the message in it, takes it
 -- with the message, and gives it back where it frees the request
-pub record Settled {S : Type 0} (p : Plan) (ws : List ℕ) (hs : List (Option S)) : Type 0 where
+pub record Settled {S : Type 0} (p : Plan) (stored : List StoredWord) (ws : List ℕ) (hs : List (Option S)) : Type 0 where
+  -- the word of a name or of an operation is what was stored there last
+  pub names : (x : ℕ) → 6 * p.slots ≤ x → x < 6 * p.slots + p.names + p.operations → slice_index ws x ≡ latest x stored
   pub codes : (i : ℕ) → i < p.slots → slice_index ws (code_word i) < 65536
   pub present : (r : ℕ) → r < p.requests → slice_index ws (request_word p r) % 2 ≡ 0 → (y : S) × (get_elem? hs r ≡ some (some y))
 
@@ -66,7 +73,12 @@ module _ {S : Type 0} (shows : S → Home) where
     -- one that stands for none has nothing but passes
     pub idle : (id : ℕ) (v : View) → get_elem? s.views id ≡ some v → v.share ≡ 0 → IsIdle v
     -- codes and the homes of requests
-    pub settled : Settled p s.words s.homes
+    -- all that was stored at names and operations, the latest first: what the seats stored, and nothing else
+    pub stored : List StoredWord
+    pub put : (x w : ℕ) → total (is_put x w) stored ≡ total (put_in x w) s.views
+    pub settled : Settled p stored s.words s.homes
+    -- which goes on behind what each seat met
+    pub met : (id : ℕ) (v : View) → get_elem? s.views id ≡ some v → (n : ℕ) (h : List StoredWord) → get_elem? v.histories n ≡ some h → Follows stored h
     -- labels
     pub labelled : (id : ℕ) (v : View) → get_elem? s.views id ≡ some v → Labelled p v
     -- what was found was stored

@@ -11,7 +11,7 @@ use Rattle.sock_model.specs.Layout.{tag_word, ref_word, link_word, head_word, co
 use Rattle.sock_model.specs.Slots.{version_of, nref_of}
 use Rattle.sock_model.specs.SlotRows.{marks_of, knows, claimed, gave_birth, added, back, subbed, failed, recycled, freed, looked, linked, staged, coded, told_code, met_link}
 use Rattle.sock_model.specs.ChainRows.{with_hand, without_hand, spent_hand}
-use Rattle.sock_rule.specs.Rows.{NOTHING, put_at, found_at}
+use Rattle.sock_rule.specs.Rows.{NOTHING, PutAt, FoundAt}
 
 -- what a seat knows of the reference word of a slot that it finds
 pub record WordFits (i found : ℕ) (v : View) : Type 0 where
@@ -100,11 +100,11 @@ module _ {S : Type 0} where
 
   -- S6
   abbrev pub store_told : Step S → Me S View → ℕ → Me S View → Type 0
-  store_told st m stored n = Becomes m n (put_at st.word stored m.0)
+  store_told st m stored n = PutAt st.word stored m n
 
   -- S7: an id that is found names a slot of the table, and a word that was found other than 0 is so still
   abbrev pub find_told : Step S → Me S View → ℕ → Me S View → Type 0
-  find_told st m found n = Becomes m n (found_at st.word found m.0) × (found ≢ 0 → found ≢ NOTHING → (found - 1) % 4294967296 < m.0.plan.slots) × ((k : ℕ) → get_elem? m.0.found k ≡ some st.word → found ≢ 0)
+  find_told st m found n = FoundAt st.word found m n × (found ≢ 0 → found ≢ NOTHING → (found - 1) % 4294967296 < m.0.plan.slots) × ((k : ℕ) → get_elem? m.0.found k ≡ some st.word → found ≢ 0)
 
   -- S7 of a name: what stands there, other than 0, is one more than the id of a life
   abbrev pub find_name_told : Step S → Me S View → ℕ → Me S View → Type 0

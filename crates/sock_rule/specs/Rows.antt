@@ -1,6 +1,12 @@
 -- What a step on a table notes beside what the rows of the sockets say.
-use Rattle.std.specs.Prelude.{ℕ, ◌-◌, ◌/◌, ◌%◌, ◌==◌, cond, ◌∷◌}
+use Rattle.std.specs.Prelude.{◌≡◌, ℕ, ◌-◌, ◌/◌, ◌%◌, ◌==◌, cond, List, ◌∷◌}
+use mathlib.Core.Option.{some}
+use lib.ListN.{get_elem?}
+use Rattle.atomic_table.specs.Table.{Me}
 use Rattle.sock_model.specs.declared.view.View.{View}
+use Rattle.sock_model.specs.declared.view.StoredWord.{StoredWord}
+use Rattle.sock_model.specs.Marks.{latest}
+use Rattle.sock_rule.specs.OnTable.{Follows}
 use Rattle.sock_model.specs.SlotRows.{met, wrote}
 use Rattle.sock_model.specs.Rule.{noting}
 
@@ -8,14 +14,30 @@ use Rattle.sock_model.specs.Rule.{noting}
 abbrev pub NOTHING : ℕ
 NOTHING = 18446744073709551615
 
+-- of all that was stored by then, the word is the last for the place x, and behind it stands all that this seat had met before
+pub record IsHistory (x word : ℕ) (v : View) (all : List StoredWord) : Type 0 where
+  pub last : latest x all ≡ word
+  pub later : (n : ℕ) (h : List StoredWord) → get_elem? v.histories n ≡ some h → Follows all h
+
 -- this word other than 0 was found at the place x
-abbrev pub finding : ℕ → ℕ → View → View
-finding x word v = record (noting x v) { finds = record { place = x; word = word } ∷ v.finds }
+abbrev pub finding : ℕ → ℕ → List StoredWord → View → View
+finding x word all v = record (noting x v) { finds = record { place = x; word = word } ∷ v.finds; histories = all ∷ v.histories }
 
 -- S7: the id that a word names is known then
-abbrev pub found_at : ℕ → ℕ → View → View
-found_at x word v = cond (word == 0) v (cond (word == 18446744073709551615) (finding x word v) (finding x word (met ((word - 1) % 4294967296) ((word - 1) / 4294967296) v)))
+abbrev pub found_at : ℕ → ℕ → List StoredWord → View → View
+found_at x word all v = cond (word == 0) v (cond (word == 18446744073709551615) (finding x word all v) (finding x word all (met ((word - 1) % 4294967296) ((word - 1) / 4294967296) v)))
 
 -- S6: the word stands there, and stays other than 0
-abbrev pub put_at : ℕ → ℕ → View → View
-put_at x word v = noting x (wrote x word v)
+abbrev pub put_at : ℕ → ℕ → List StoredWord → View → View
+put_at x word all v = record (noting x (wrote x word v)) { histories = all ∷ v.histories }
+
+-- what S7 leaves, and S6, with all that was stored by then
+pub record FoundAt {S : Type 0} (x word : ℕ) (m n : Me S View) : Type 0 where
+  pub all : List StoredWord
+  pub view : n ≡ (found_at x word all m.0, m.1)
+  pub history : IsHistory x word m.0 all
+
+pub record PutAt {S : Type 0} (x word : ℕ) (m n : Me S View) : Type 0 where
+  pub all : List StoredWord
+  pub view : n ≡ (put_at x word all m.0, m.1)
+  pub history : IsHistory x word m.0 all

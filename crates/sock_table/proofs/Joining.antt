@@ -55,6 +55,9 @@ module _ {S : Type 0} where
   abbrev pub finds_in : Seat S View → List StoredWord
   finds_in s = s.me.0.finds
 
+  abbrev pub histories_in : Seat S View → List (List StoredWord)
+  histories_in s = s.me.0.histories
+
   abbrev pub stores_in : Seat S View → List (List StoredWord)
   stores_in s = s.me.0.stores
 
@@ -72,6 +75,7 @@ module _ {S : Type 0} where
     pub seat_ok : IsDoneSeat z p seat
     pub marks : flat_map marks_in rest ++ seat.me.0.marks ≡ flat_map marks_in all
     pub finds : flat_map finds_in rest ++ seat.me.0.finds ≡ flat_map finds_in all
+    pub histories : flat_map histories_in rest ++ seat.me.0.histories ≡ flat_map histories_in all
     pub stores : flat_map stores_in rest ++ seat.me.0.stores ≡ flat_map stores_in all
     pub lists : flat_map lists_in rest ++ seat.me.0.lists ≡ flat_map lists_in all
     pub found : flat_map found_in rest ++ seat.me.0.found ≡ flat_map found_in all
@@ -83,6 +87,7 @@ module _ {S : Type 0} where
     seat_ok = k.1;
     marks = sym (ap (flat_map marks_in) e ∙ flat_last marks_in rest x);
     finds = sym (ap (flat_map finds_in) e ∙ flat_last finds_in rest x);
+    histories = sym (ap (flat_map histories_in) e ∙ flat_last histories_in rest x);
     stores = sym (ap (flat_map stores_in) e ∙ flat_last stores_in rest x);
     lists = sym (ap (flat_map lists_in) e ∙ flat_last lists_in rest x);
     found = sym (ap (flat_map found_in) e ∙ flat_last found_in rest x);
@@ -98,6 +103,7 @@ module _ {S : Type 0} where
     seat_ok = record { seat = is; slots = ap (λ (m : Me S View). m.1) view ∙ q.slots; done = subst (IsDone p) (sym v) (both_done p earlier.me.0 seat.me.0 q.done o.done); rest = subst (IsAtRest p) (sym v) (both_rest p earlier.me.0 seat.me.0 q.rest o.rest) };
     marks = ap (λ (y : View). flat_map marks_in rest' ++ y.marks) v ∙ (sym (append_assoc (flat_map marks_in rest') earlier.me.0.marks seat.me.0.marks) ∙ (ap (λ l. l ++ seat.me.0.marks) (sym (ap (flat_map marks_in) e ∙ flat_last marks_in rest' earlier)) ∙ j.marks));
     finds = ap (λ (y : View). flat_map finds_in rest' ++ y.finds) v ∙ (sym (append_assoc (flat_map finds_in rest') earlier.me.0.finds seat.me.0.finds) ∙ (ap (λ l. l ++ seat.me.0.finds) (sym (ap (flat_map finds_in) e ∙ flat_last finds_in rest' earlier)) ∙ j.finds));
+    histories = ap (λ (y : View). flat_map histories_in rest' ++ y.histories) v ∙ (sym (append_assoc (flat_map histories_in rest') earlier.me.0.histories seat.me.0.histories) ∙ (ap (λ l. l ++ seat.me.0.histories) (sym (ap (flat_map histories_in) e ∙ flat_last histories_in rest' earlier)) ∙ j.histories));
     stores = ap (λ (y : View). flat_map stores_in rest' ++ y.stores) v ∙ (sym (append_assoc (flat_map stores_in rest') earlier.me.0.stores seat.me.0.stores) ∙ (ap (λ l. l ++ seat.me.0.stores) (sym (ap (flat_map stores_in) e ∙ flat_last stores_in rest' earlier)) ∙ j.stores));
     lists = ap (λ (y : View). flat_map lists_in rest' ++ y.lists) v ∙ (sym (append_assoc (flat_map lists_in rest') earlier.me.0.lists seat.me.0.lists) ∙ (ap (λ l. l ++ seat.me.0.lists) (sym (ap (flat_map lists_in) e ∙ flat_last lists_in rest' earlier)) ∙ j.lists));
     found = ap (λ (y : View). flat_map found_in rest' ++ y.found) v ∙ (sym (append_assoc (flat_map found_in rest') earlier.me.0.found seat.me.0.found) ∙ (ap (λ l. l ++ seat.me.0.found) (sym (ap (flat_map found_in) e ∙ flat_last found_in rest' earlier)) ∙ j.found));

@@ -28,7 +28,7 @@ use Rattle.sock_rule.specs.Seated.{IsDone}
 use Rattle.sock_rule.specs.Closing.{IsAtRest, Closing, LinkTook}
 use Rattle.sock_rule.proofs.Closes.{ordered, ordered_log, closing}
 use Rattle.sock_table.specs.Closed.{WordsAre, AreLinks, OutsOf, OutBack, ClosedBy}
-use Rattle.sock_table.proofs.Joining.{marks_in, finds_in, stores_in, lists_in, found_in}
+use Rattle.sock_table.proofs.Joining.{marks_in, finds_in, histories_in, stores_in, lists_in, found_in}
 
 set_false : (l : List Bool) (k : ℕ) → get_or (set l k false) k false ≡ false
 set_false [] k = refl
@@ -91,6 +91,10 @@ abbrev bytes : Home → List ℕ
 bytes (home.Link k took next done) = took
 bytes _ = []
 
+abbrev is_done : Home → Bool
+is_done (home.Link k took next done) = done
+is_done _ = false
+
 abbrev shows_link : Home → ℕ
 shows_link (home.Link k took next done) = 1
 shows_link _ = 0
@@ -105,13 +109,13 @@ module _ {O : Type 0} {g : Ghosts O} (q p : Plan) (id : ℕ) (v : View) (ws : Li
   abbrev pub rule_at : OnTable (shows {O = O} {g = g}) p f.0
   rule_at = subst (λ (r : Plan). OnTable (shows {O = O} {g = g}) r f.0) key f.1.0
 
-  back : (k : ℕ) → k < p.links → AtHome (shows {O = O} {g = g}) p f.0 rule_at.rule.lawful.log k
+  back : (k : ℕ) → k < p.links → AtHome (shows {O = O} {g = g}) p f.0 v rule_at.rule.lawful.log k
   back k kl = links_back f.0 rule_at id v f.1.1 all done.bare k kl
 
   pub are_links : AreLinks p.requests p.links xs
   are_links k kl = let b = back k kl in by_value xs (p.requests + k) k b.next b.took b.done b.value (f.4 (p.requests + k) b.value b.there) b.shown_is
 
-  pub out_back : (log : List Entry) → log ≡ rule_at.rule.lawful.log → (outs : List O) → OutsOf p.requests p.links outs xs → (k : ℕ) → k < p.links → OutBack g.state p log ws outs k
+  pub out_back : (log : List Entry) → log ≡ rule_at.rule.lawful.log → (outs : List O) → OutsOf p.requests p.links outs xs → (k : ℕ) → k < p.links → OutBack g.state p v log ws outs k
   out_back log same outs of k kl = let b = back k kl in let a = of k kl in let e : b.value ≡ Link a.0 = some-injective b.value (Link a.0) (sym (f.4 (p.requests + k) b.value b.there) ∙ a.2) in
       let s : shows (Link a.0) ≡ home.Link k b.took b.next b.done = ap shows (sym e) ∙ b.shown_is in record {
         out = a.0.out;
@@ -119,17 +123,19 @@ module _ {O : Type 0} {g : Ghosts O} (q p : Plan) (id : ℕ) (v : View) (ws : Li
         own = ap number s;
         took = b.took;
         tells = subst (λ (l : List ℕ). ForSome (g.state a.0.out).took (λ y. y ≡ l)) (ap bytes s) a.0.tells;
+        unfinished = λ i h il given unended. ap is_done s ∙ b.unfinished i h il given unended;
         took_is = subst (λ (l : List Entry). LinkTook p l ws k b.took) (sym same) (subst (λ (y : List ℕ). LinkTook p rule_at.rule.lawful.log y k b.took) f.2 b.took_is);
       }
 
   pub closes : (seats : List (Seat (SockHome O g) View)) (places : List PlaceWord) (vs : List Vref) (outs : List O) → IsAtRest p v
-      → v.marks ≡ flat_map marks_in seats → v.finds ≡ flat_map finds_in seats → v.stores ≡ flat_map stores_in seats → v.lists ≡ flat_map lists_in seats → v.found ≡ flat_map found_in seats
+      → v.marks ≡ flat_map marks_in seats → v.finds ≡ flat_map finds_in seats → v.histories ≡ flat_map histories_in seats → v.stores ≡ flat_map stores_in seats → v.lists ≡ flat_map lists_in seats → v.found ≡ flat_map found_in seats
       → WordsAre (λ (x : Vref). x.0) ref_word p.slots vs ws → WordsAre (λ (x : PlaceWord). x.0) (place_word p) (8 * p.operations) places ws → OutsOf p.requests p.links outs xs → ClosedBy g.state p seats places vs outs
-  closes seats places vs outs rest m n k l d read placed of = record {
+  closes seats places vs outs rest m n h k l d read placed of = record {
     view = v;
     words = ws;
     marks = m;
     finds = n;
+    histories = h;
     stores = k;
     lists = l;
     found = d;

@@ -1,5 +1,5 @@
 -- The seats that are handed in at the end, and what the table's last words say of them.
-use Rattle.std.specs.Prelude.{◌≡◌, ℕ, ◌+◌, ◌*◌, ◌<◌, List, [], ◌∷◌}
+use Rattle.std.specs.Prelude.{◌≡◌, ℕ, ◌+◌, ◌*◌, ◌<◌, false, List, [], ◌∷◌}
 use Rattle.std.specs.List.{flat_map}
 use Rattle.atomic_table.specs.Seated.{TableId}
 use Rattle.atomic_table.specs.declared.shared.Seat.{Seat}
@@ -7,6 +7,8 @@ use Rattle.sock_words.specs.declared.plain.Plan.{Plan}
 use Rattle.sock_words.specs.declared.vref.Vref.{Vref}
 use Rattle.sock_words.specs.declared.place_word.PlaceWord.{PlaceWord}
 use Rattle.sock_model.specs.declared.view.View.{View}
+use Rattle.sock_model.specs.Weights.{is_linked, is_freer}
+use Rattle.sock_model.specs.SlotRows.{marks_of}
 use Rattle.sock_model.specs.Layout.{ref_word, place_word}
 use Rattle.sock_rule.specs.Seated.{IsSeat, IsDone}
 use Rattle.sock_rule.specs.Closing.{IsAtRest, Closing, Ordered, LinkTook}
@@ -45,13 +47,15 @@ abbrev pub OutsOf : {O : Type 0} {g : Ghosts O} → ℕ → ℕ → List O → L
 OutsOf {O} {g} requests n outs homes = (k : ℕ) → k < n → (h : LinkHome O g) × (get_elem? outs k ≡ some h.out) × (get_elem? homes (requests + k) ≡ some (Link h))
 
 -- the writing half of link k comes back, the one that was handed in for it, with what it took
-pub record OutBack {O : Type 0} (state : O → OutState) (p : Plan) (log : List Entry) (words : List ℕ) (outs : List O) (k : ℕ) : Type 0 where
+pub record OutBack {O : Type 0} (state : O → OutState) (p : Plan) (v : View) (log : List Entry) (words : List ℕ) (outs : List O) (k : ℕ) : Type 0 where
   pub out : O
   pub there : get_elem? outs k ≡ some out
   pub own : (state out).link ≡ k
   pub took : List ℕ
   pub tells : ForSome (state out).took (λ bytes. bytes ≡ took)
   pub took_is : LinkTook p log words k took
+  -- it isn't finished where the life that it was given hasn't ended
+  pub unfinished : (i h : ℕ) → i < p.slots → 0 < marks_of (is_linked h k) i v → marks_of (is_freer h) i v ≡ 0 → (state out).finished ≡ false
 
 -- what the words and the notes of all seats, those of each in its place, say
 pub record ClosedBy {O S : Type 0} (state : O → OutState) (p : Plan) (seats : List (Seat S View)) (places : List PlaceWord) (vrefs : List Vref) (outs : List O) : Type 0 where
@@ -59,6 +63,8 @@ pub record ClosedBy {O S : Type 0} (state : O → OutState) (p : Plan) (seats : 
   pub words : List ℕ
   pub marks : view.marks ≡ flat_map (λ (s : Seat S View). s.me.0.marks) seats
   pub finds : view.finds ≡ flat_map (λ (s : Seat S View). s.me.0.finds) seats
+  -- what each seat met at its finds and stores is the end of one order of all that was stored (`closing.stored`)
+  pub histories : view.histories ≡ flat_map (λ (s : Seat S View). s.me.0.histories) seats
   pub stores : view.stores ≡ flat_map (λ (s : Seat S View). s.me.0.stores) seats
   -- the lists of accepted messages: those of each seat in its place, each in its own order
   pub lists : view.lists ≡ flat_map (λ (s : Seat S View). s.me.0.lists) seats
@@ -69,4 +75,4 @@ pub record ClosedBy {O S : Type 0} (state : O → OutState) (p : Plan) (seats : 
   pub each : WordsAre (λ (x : Vref). x.0) ref_word p.slots vrefs words
   pub placed : WordsAre (λ (x : PlaceWord). x.0) (place_word p) (8 * p.operations) places words
   -- one half for each link
-  pub outs_back : (k : ℕ) → k < p.links → OutBack state p ordered.log words outs k
+  pub outs_back : (k : ℕ) → k < p.links → OutBack state p view ordered.log words outs k

@@ -38,6 +38,7 @@ pub record Made (i id k : ℕ) (v w : View) : Type 0 where
   -- and nothing was found or stored
   pub found : w.found ≡ v.found
   pub finds : w.finds ≡ v.finds
+  pub histories : w.histories ≡ v.histories
   pub stores : (x n : ℕ) → put_in x n w ≡ put_in x n v
 
 -- the tags of the first n slots were found taken, and nothing else changed
@@ -53,4 +54,5 @@ pub record Created (id k : ℕ) (v w : View) : Type 0 where
   pub elsewhere : (j : ℕ) → socket_id_slot id < j → about j w.marks ≡ about j v.marks
   pub found : w.found ≡ v.found
   pub finds : w.finds ≡ v.finds
+  pub histories : w.histories ≡ v.histories
   pub stores : (x n : ℕ) → put_in x n w ≡ put_in x n v

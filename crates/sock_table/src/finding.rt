@@ -2,7 +2,7 @@
 ghost use Rattle.std.specs.Prelude.{◌≡◌, ◌+◌, ◌<◌};
 ghost use Rattle.std.specs.Option.{ForSome};
 ghost use Rattle.sock_model.specs.Layout.{name_word, open_word};
-ghost use Rattle.sock_rule.specs.Rows.{put_at};
+ghost use Rattle.sock_rule.specs.Rows.{PutAt};
 ghost use Rattle.sock_rule.specs.Seated.{IsSeat};
 ghost use Rattle.sock_table.specs.Refs.{IsBetween, SameTokens, Knows};
 ghost use Rattle.sock_table.specs.Named.{Found, NotedBy, NotedAs};
@@ -28,14 +28,15 @@ impl<O: Out> SockTable<O> {
         requires name { name < self.now.rule.plan.names }
         requires known { Knows self.now.rule.plan seat.old.me.0 id.0 }
         ensures seat { IsSeat self.now.rule.table.shared.table_id self.now.rule.plan seat.new }
-        ensures published { seat.new.me ≡ (put_at (name_word self.now.rule.plan name) (id.0 + 1) seat.old.me.0, seat.old.me.1) }
+        ensures published { PutAt (name_word self.now.rule.plan name) (id.0 + 1) seat.old.me seat.new.me }
         ensures between { IsBetween self.now.rule.plan seat.old.me.0 → IsBetween self.now.rule.plan seat.new.me.0 }
         ensures same { SameTokens self.now.rule.plan seat.old.me.0 seat.new.me.0 }
     {
         self.rule.store_name(seat, name, id);
     }
 
-    /// The id that the name has at this call's one step. `None` only where none was published for it.
+    /// The id that the name has at this call's one step: the last that was published for it, of all that was by then. All that
+    /// this seat met before stands behind it, so no earlier one is answered. `None` only where none was published.
     pub fn find(&self, seat: &mut SockSeat<O>, name: u16) -> Option<SocketId>
         requires seat { IsSeat self.now.rule.table.shared.table_id self.now.rule.plan seat.old }
         requires name { name < self.now.rule.plan.names }
@@ -63,7 +64,7 @@ impl<O: Out> SockTable<O> {
         requires operation { operation < self.now.rule.plan.operations }
         requires known { ForSome id (λ i. Knows self.now.rule.plan seat.old.me.0 i.0) }
         ensures seat { IsSeat self.now.rule.table.shared.table_id self.now.rule.plan seat.new }
-        ensures noted { seat.new.me ≡ (NotedBy self.now.rule.plan operation id seat.old.me.0, seat.old.me.1) }
+        ensures noted { NotedBy self.now.rule.plan operation id seat.old.me seat.new.me }
         ensures between { IsBetween self.now.rule.plan seat.old.me.0 → IsBetween self.now.rule.plan seat.new.me.0 }
         ensures same { SameTokens self.now.rule.plan seat.old.me.0 seat.new.me.0 }
     {

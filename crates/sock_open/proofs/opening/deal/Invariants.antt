@@ -1,4 +1,4 @@
-use Rattle.std.proofs.Common.{◌≡◌, ◌+◌, ◌-◌, ◌≤◌, ℕ, length, reverse}
+use Rattle.std.proofs.Common.{◌≡◌, ◌+◌, ◌≤◌, ℕ, length, reverse}
 use Rattle.std.specs.Vec.{vec_len, vec_capacity}
 use Rattle.sock_model.specs.Weights.{total}
 use Rattle.sock_open.specs.Opening.{MayBegin}

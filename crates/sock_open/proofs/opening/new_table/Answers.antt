@@ -1,4 +1,4 @@
-use Rattle.std.proofs.Common.{rules, ◌≡◌, ◌≤◌, ◌<◌, ◌+◌, ℕ, arith, length, refl, sym, ap, ◌∙◌, subst, List}
+use Rattle.std.proofs.Common.{ℕ, sym, subst, List}
 use Rattle.sock_open.specs.Opening.{AreNewWords}
 use Rattle.sock_table.specs.Closed.{AreLinks, OutsOf}
 use Rattle.sock_open.proofs.Words.{is_new, halves_same, halves_links}

@@ -1,6 +1,5 @@
-use Rattle.std.proofs.Common.{◌≡◌, ◌≢◌, ◌+◌, ◌-◌, ◌<◌, ◌≤◌, ℕ, [], ◌∷◌, length, length-set, length-append, get_or, arith, refl, sym, ap, ◌∙◌, subst}
+use Rattle.std.proofs.Common.{◌+◌, [], ◌∷◌, length, length-set, length-append, arith, sym, ap, ◌∙◌, subst}
 use mathlib.Core.Option.{some}
-use lib.ListN.{get_elem?}
 use Rattle.atomic_table.proofs.Lists.{set_else}
 use Rattle.sock_table.specs.Closed.{OutsOf}
 use Rattle.sock_table.proofs.Lasts.{one_out, is_link}

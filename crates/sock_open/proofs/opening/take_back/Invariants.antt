@@ -1,4 +1,4 @@
-use Rattle.std.proofs.Common.{◌≡◌, ◌+◌, ◌-◌, ◌≤◌, ◌<◌, ℕ, length}
+use Rattle.std.proofs.Common.{◌≡◌, ◌+◌, ◌-◌, ◌≤◌, ℕ, length}
 use lib.ListN.{get_elem?}
 use Rattle.std.specs.Vec.{vec_len, vec_capacity}
 use Rattle.sock_table.specs.Closed.{OutsOf}

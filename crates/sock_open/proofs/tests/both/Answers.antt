@@ -1,4 +1,4 @@
-use Rattle.std.proofs.Common.{List, ◌≡◌, ◌∷◌, subst, Some}
+use Rattle.std.proofs.Common.{subst, Some}
 use Rattle.sock_open.specs.Made.{PassesFrom}
 use Rattle.sock_open.proofs.Racing.{pass_popped}
 use Rattle.sock_open.proofs.tests.both.Goals as goal

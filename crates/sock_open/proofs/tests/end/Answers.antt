@@ -1,10 +1,8 @@
-use Rattle.std.proofs.Common.{ℕ, ◌≡◌, ◌+◌, ◌<◌, refl, sym, ap, ◌∙◌, subst, arith}
-use Rattle.sock_model.specs.declared.marks.Mark.TheVariants.{Hold}
+use Rattle.std.proofs.Common.{ℕ, ◌<◌, sym, ap, ◌∙◌, subst, arith}
 use Rattle.sock_words.specs.declared.socket_id.SocketId.{SocketId}
-use Rattle.sock_words.specs.Words.{socket_id_version, socket_id_slot}
-use Rattle.sock_table.specs.Refs.{Knows, GaveBack}
-use Rattle.sock_table.specs.Answers.{Holds, Held, LinkOf, is_freed}
-use Rattle.sock_open.proofs.Testing.{done_between, kept_done, may_address, gone_same, visited, failed_notes, no_notes, holds_it, known_by, one_ref}
+use Rattle.sock_words.specs.Words.{socket_id_slot}
+use Rattle.sock_table.specs.Answers.{Holds, Held}
+use Rattle.sock_open.proofs.Testing.{done_between, kept_done, may_address, gone_same, visited, failed_notes, no_notes, holds_it, one_ref}
 use Rattle.sock_open.proofs.Racing.{linked_notes, then_notes}
 use Rattle.sock_open.proofs.tests.end.Goals as goal
 

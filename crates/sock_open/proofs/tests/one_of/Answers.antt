@@ -1,4 +1,4 @@
-use Rattle.std.proofs.Common.{List, ◌∷◌, subst, Some, None}
+use Rattle.std.proofs.Common.{subst, Some}
 use Rattle.sock_open.specs.Made.{AreNewSeats}
 use Rattle.sock_open.proofs.Racing.{popped, new_share}
 use Rattle.sock_open.proofs.Making.{new_done}

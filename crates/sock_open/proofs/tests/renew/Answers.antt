@@ -1,4 +1,4 @@
-use Rattle.std.proofs.Common.{◌≡◌, sym, ◌∙◌, subst}
+use Rattle.std.proofs.Common.{sym, ◌∙◌, subst}
 use Rattle.sock_table.specs.Passes.{IsPass}
 use Rattle.sock_open.proofs.Testing.{done_between, kept_done}
 use Rattle.sock_open.proofs.tests.renew.Goals as goal

@@ -1,4 +1,3 @@
-use Rattle.std.proofs.Common.{◌≡◌, ◌∙◌}
 use Rattle.sock_open.proofs.Testing.{done_between, kept_done}
 use Rattle.sock_open.proofs.Racing.{stored_done, stored_known, told_known}
 use Rattle.sock_open.proofs.tests.tell.Goals as goal

@@ -3,18 +3,13 @@ use Rattle.sock_words.specs.declared.plain.Plan.{Plan}
 use Rattle.sock_core.specs.Machines.{MachineState, IsMachine}
 use Rattle.sock_core.specs.Steps.{HasNoStep}
 use Rattle.sock_core.specs.Runs.{Ticked}
-use Rattle.sock_core.specs.Driving.{Leaves, IsPlain, TickedFirst}
-use Rattle.sock_core.proofs.Advancing.{is_sized, told_plan, told_ticks, told_keeps, told_leaves, no_step_rests, idle_ticks, idle_first}
-use Rattle.sock_core.proofs.Endings.{first_ticked}
+use Rattle.sock_core.specs.Driving.{Leaves}
+use Rattle.sock_core.proofs.Advancing.{is_sized, told_plan, told_ticks, told_keeps, told_leaves, no_step_rests, idle_ticks}
 use Rattle.sock_core.proofs.Fitting.{step_fits}
 use Rattle.sock_core.proofs.machine.Machine.advance.Goals as goal
 
 pub returns-in_default-clause-tick : goal.returns-in_default-clause-tick
 returns-in_default-clause-tick g c = idle_ticks c.args.self.now c.args.seat (no_step_rests c.args.self.now c.args.seat (subst (λ (m : MachineState). HasNoStep m c.args.seat) c.self.view_is c.in_default.ensures.none))
-
-pub returns-in_default-clause-first : goal.returns-in_default-clause-first
-returns-in_default-clause-first g c = λ zero plain.
-    idle_first c.args.self.now (no_step_rests c.args.self.now 0 (subst (λ (i : ℕ). HasNoStep c.args.self.now i) zero (subst (λ (m : MachineState). HasNoStep m c.args.seat) c.self.view_is c.in_default.ensures.none))) plain
 
 pub step-requires-clause-fits : goal.step-requires-clause-fits
 step-requires-clause-fits g c = step_fits c.self.inside.tables (is_sized c.self.inside.tables _ c.self.invariant.0) c.self.invariant.0.sound c.args.seat c.in-Some.step c.in-Some.ensures.some
@@ -38,10 +33,6 @@ returns-clause-tick g c = subst (λ (m : MachineState). Ticked m c.step.new.self
 pub returns-clause-left : goal.returns-clause-left
 returns-clause-left g c = subst (λ (m : MachineState). Leaves c.in_ok-tick.tick m c.step.new.self) c.self.view_is
     (told_leaves c.self.inside.tables c.step.new.self _ c.args.seat c.in-Some.step c.in_ok-tick.tick c.self.invariant.0 c.in-Some.ensures.some c.in_ok-tick.ensures.ok)
-
-pub returns-clause-first : goal.returns-clause-first
-returns-clause-first g c = subst (λ (m : MachineState). c.args.seat ≡ 0 → IsPlain m → TickedFirst m c.step.new.self) c.self.view_is
-    (first_ticked c.self.inside.tables c.step.new.self _ c.args.seat c.in-Some.step c.in_ok-tick.tick c.self.invariant.0 c.in-Some.ensures.some c.in_ok-tick.ensures.ok)
 
 pub returns-clause-many : goal.returns-clause-many
 returns-clause-many g c = (told_keeps c.self.inside.tables c.step.new.self _ c.args.seat c.in-Some.step c.in_ok-tick.tick c.self.invariant.0 c.in-Some.ensures.some c.in_ok-tick.ensures.ok).seats_are

@@ -26,24 +26,24 @@ start-requires-clause-few_opens g c = few_opens c.args.script.now c.requires.scr
 
 pub returns-clause-plan : goal.returns-clause-plan
 returns-clause-plan g c = plan_made c.args.script.now c.in-Ok.wanted.plan _ c.in-Ok.wanted.opens.items c.in_ok-machine.machine c.in-Ok.ensures.plan c.in-Ok.ensures.clients c.in-Ok.ensures.opens
-    c.in_ok-machine.ensures.core c.in_ok-machine.ensures.plan c.in_ok-machine.ensures.opens c.in_ok-machine.ensures.agrees c.set_up.result c.set_up.ensures.ok
+    c.in_ok-machine.ensures.core c.in_ok-machine.ensures.plan c.in_ok-machine.ensures.opens c.in_ok-machine.ensures.agrees c.run_first.new.self c.run_first.ensures.ran
 
 pub returns-clause-opens : goal.returns-clause-opens
 returns-clause-opens g c = opens_made c.args.script.now c.in-Ok.wanted.plan _ c.in-Ok.wanted.opens.items c.in_ok-machine.machine c.in-Ok.ensures.plan c.in-Ok.ensures.clients c.in-Ok.ensures.opens
-    c.in_ok-machine.ensures.core c.in_ok-machine.ensures.plan c.in_ok-machine.ensures.opens c.in_ok-machine.ensures.agrees c.set_up.result c.set_up.ensures.ok
+    c.in_ok-machine.ensures.core c.in_ok-machine.ensures.plan c.in_ok-machine.ensures.opens c.in_ok-machine.ensures.agrees c.run_first.new.self c.run_first.ensures.ran
 
 pub returns-clause-agrees : goal.returns-clause-agrees
 returns-clause-agrees g c = agrees_made c.args.script.now c.in-Ok.wanted.plan _ c.in-Ok.wanted.opens.items c.in_ok-machine.machine c.in-Ok.ensures.plan c.in-Ok.ensures.clients c.in-Ok.ensures.opens
-    c.in_ok-machine.ensures.core c.in_ok-machine.ensures.plan c.in_ok-machine.ensures.opens c.in_ok-machine.ensures.agrees c.set_up.result c.set_up.ensures.ok
+    c.in_ok-machine.ensures.core c.in_ok-machine.ensures.plan c.in_ok-machine.ensures.opens c.in_ok-machine.ensures.agrees c.run_first.new.self c.run_first.ensures.ran
 
 pub returns-clause-core : goal.returns-clause-core
 returns-clause-core g c = core_made c.args.script.now c.in-Ok.wanted.plan _ c.in-Ok.wanted.opens.items c.in_ok-machine.machine c.in-Ok.ensures.plan c.in-Ok.ensures.clients c.in-Ok.ensures.opens
-    c.in_ok-machine.ensures.core c.in_ok-machine.ensures.plan c.in_ok-machine.ensures.opens c.in_ok-machine.ensures.agrees c.set_up.result c.set_up.ensures.ok
+    c.in_ok-machine.ensures.core c.in_ok-machine.ensures.plan c.in_ok-machine.ensures.opens c.in_ok-machine.ensures.agrees c.run_first.new.self c.run_first.ensures.ran
 
 pub returns-clause-rest : goal.returns-clause-rest
 returns-clause-rest g c = rest_made c.args.script.now c.in-Ok.wanted.plan _ c.in-Ok.wanted.opens.items c.in_ok-machine.machine c.in-Ok.ensures.plan c.in-Ok.ensures.clients c.in-Ok.ensures.opens
-    c.in_ok-machine.ensures.core c.in_ok-machine.ensures.plan c.in_ok-machine.ensures.opens c.in_ok-machine.ensures.agrees c.set_up.result c.set_up.ensures.ok
+    c.in_ok-machine.ensures.core c.in_ok-machine.ensures.plan c.in_ok-machine.ensures.opens c.in_ok-machine.ensures.agrees c.run_first.new.self c.run_first.ensures.ran
 
 pub returns-clause-outs : goal.returns-clause-outs
 returns-clause-outs g c = prompt_made c.args.script.now c.in-Ok.wanted.plan _ c.in-Ok.wanted.opens.items c.in_ok-machine.machine c.in-Ok.ensures.plan c.in-Ok.ensures.clients c.in-Ok.ensures.opens
-    c.in_ok-machine.ensures.core c.in_ok-machine.ensures.plan c.in_ok-machine.ensures.opens c.in_ok-machine.ensures.agrees c.set_up.result c.set_up.ensures.ok c.in_ok-machine.ensures.outs
+    c.in_ok-machine.ensures.core c.in_ok-machine.ensures.plan c.in_ok-machine.ensures.opens c.in_ok-machine.ensures.agrees c.run_first.new.self c.run_first.ensures.ran c.in_ok-machine.ensures.outs

@@ -7,6 +7,7 @@ use Rattle.sock_io.specs.Link.{end_of}
 use Rattle.seat_points.specs.Points.{after_word}
 use Rattle.sock_core.specs.Seats.{seat_program}
 use Rattle.seat_points.specs.Steps.{step_of}
+use Rattle.sock_core.proofs.Advancing.{room_for}
 use Rattle.sock_core.proofs.Stepping.{written, makes_along, goes, no_letters, same_sizes, outs_in}
 use Rattle.sock_core.proofs.table.Table.make_call.Goals as goal
 
@@ -29,3 +30,10 @@ returns-clause-made g c =
         },
       );
     })
+
+pub follow-requires : goal.follow-requires
+follow-requires g c = record {
+  room = room_for _ _ (seat_data c.args.place.now) (around c.sizes-sizes.result (seat_data c.args.place.now)) c.next-next.result c.step_word-found.result _ _ c.self.view_is c.requires.room
+      (c.next-next.ensures.program (around c.sizes-sizes.result (seat_data c.args.place.now)) refl
+      ∙ same_sizes c.sizes-sizes.result (sizes_of c.self.inside.plan) (seat_data c.args.place.now) (λ x. after_word x c.step_word-found.result) c.sizes-sizes.ensures);
+}

@@ -1,5 +1,10 @@
-use Rattle.std.proofs.Common.{◌≢◌}
+use Rattle.std.proofs.Common.{◌≢◌, sym, subst, ⊎_elim}
 use Rattle.sock_io.specs.declared.link.Ready.TheVariants as asks
+use Rattle.seat_points.specs.declared.point.Step.{Step}
+use Rattle.seat_points.specs.declared.point.Step.TheVariants as firsts
+use Rattle.sock_core.specs.Seats.{seat_data}
+use Rattle.sock_core.specs.Steps.{IsNext}
+use Rattle.sock_core.proofs.Advancing.{only_calls}
 use Rattle.sock_core.proofs.Tellings.{call_moved, call_waited, letter_moved, message_moved, link_moved, home_moved, put_moved, ready_moved, ready_waited}
 use Rattle.sock_core.proofs.table.Table.step.Goals as goal
 
@@ -38,3 +43,23 @@ returns-in-Now g c = ready_moved c.kind-kind.result c.requires.next c.kind-kind.
 
 pub returns-in-Failed : goal.returns-in-Failed
 returns-in-Failed g c = ready_moved c.kind-kind.result c.requires.next c.kind-kind.ensures c.in-AskReady.link asks.Failed failed_not c.in-AskReady.is (rw c.in-Failed.is at (c.ask_ready.ensures c.args.seat))
+
+pub take_message-requires-clause-room : goal.take_message-requires-clause-room
+take_message-requires-clause-room g c = ⊎_elim (λ room. room)
+    (λ plain. absurd (only_calls c.args.self.now (seat_data c.args.place.now) (firsts.TakeMessage c.in-TakeMessage.request) (subst (λ (step : Step). IsNext c.args.self.now (seat_data c.args.place.now) step) c.in-TakeMessage.is c.requires.next) plain)) c.requires.room
+
+pub take_home-requires-clause-room : goal.take_home-requires-clause-room
+take_home-requires-clause-room g c = ⊎_elim (λ room. room)
+    (λ plain. absurd (only_calls c.args.self.now (seat_data c.args.place.now) (firsts.TakeHome c.in-TakeHome.link) (subst (λ (step : Step). IsNext c.args.self.now (seat_data c.args.place.now) step) c.in-TakeHome.is c.requires.next) plain)) c.requires.room
+
+pub put_home-requires-clause-room : goal.put_home-requires-clause-room
+put_home-requires-clause-room g c = ⊎_elim (λ room. room)
+    (λ plain. absurd (only_calls c.args.self.now (seat_data c.args.place.now) (firsts.PutHome c.in-PutHome.link c.in-PutHome.places) (subst (λ (step : Step). IsNext c.args.self.now (seat_data c.args.place.now) step) c.in-PutHome.is c.requires.next) plain)) c.requires.room
+
+pub put_bytes-requires-clause-room : goal.put_bytes-requires-clause-room
+put_bytes-requires-clause-room g c = ⊎_elim (λ room. room)
+    (λ plain. absurd (only_calls c.args.self.now (seat_data c.args.place.now) (firsts.PutBytes c.in-PutBytes.link c.in-PutBytes.field-1) (subst (λ (step : Step). IsNext c.args.self.now (seat_data c.args.place.now) step) c.in-PutBytes.is c.requires.next) plain)) c.requires.room
+
+pub ask_ready-requires-clause-room : goal.ask_ready-requires-clause-room
+ask_ready-requires-clause-room g c = ⊎_elim (λ room. room)
+    (λ plain. absurd (only_calls c.args.self.now (seat_data c.args.place.now) (firsts.AskReady c.in-AskReady.link) (subst (λ (step : Step). IsNext c.args.self.now (seat_data c.args.place.now) step) c.in-AskReady.is c.requires.next) plain)) c.requires.room

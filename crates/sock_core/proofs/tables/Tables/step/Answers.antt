@@ -1,4 +1,4 @@
-use Rattle.std.proofs.Common.{refl, arith, ap, ◌∙◌, subst, sym, List}
+use Rattle.std.proofs.Common.{refl, arith, rules, ap, ◌∙◌, subst, sym, inl, List}
 use Rattle.sock_core.specs.declared.seat.Seat.{Seat}
 use Rattle.sock_core.specs.Seats.{SeatData}
 use Rattle.sock_core.specs.Steps.{StepFits}
@@ -32,3 +32,6 @@ pub returns-clause-ok : goal.returns-clause-ok
 returns-clause-ok g c =
     let y : Seat = record c.index_mut-place.result.now { held = c.reserve.new.self } in
     told_along c.self.view_is (told_here c.self.inside.table c.self.inside.seats.items c.self.inside.opens.items c.args.seat c.from.result c.from.ensures c.index_mut-place.result.now y c.index_mut-place.ensures.value (data_is c.index_mut-place.result.now y refl c.reserve.ensures.items refl refl refl refl) c.args.step (next_in c.self.view_is c.requires.next) c.step.new.place c.step.ensures)
+
+pub step-requires-clause-room : goal.step-requires-clause-room
+step-requires-clause-room g c = inl (search rules)

@@ -21,4 +21,4 @@ pub returns-clause-stays : goal.returns-clause-stays
 returns-clause-stays g c = c.load.ensures.2.2
 
 pub returns-clause-seat : goal.returns-clause-seat
-returns-clause-seat g c = found_seat _ _ c.args.seat.now c.load.new.seat _ c.load.result c.requires.seat c.load.ensures.0 c.load.ensures.2.0
+returns-clause-seat g c = found_seat _ _ c.args.seat.now c.load.new.seat _ c.load.result c.requires.seat c.load.ensures.0 _ c.load.ensures.2.0.view

@@ -15,4 +15,4 @@ pub returns-clause-view : goal.returns-clause-view
 returns-clause-view g c = c.store.ensures.2
 
 pub returns-clause-seat : goal.returns-clause-seat
-returns-clause-seat g c = still_seat _ _ c.args.seat.now c.store.new.seat _ c.requires.seat c.store.ensures.0 c.store.ensures.2 refl refl
+returns-clause-seat g c = still_seat _ _ c.args.seat.now c.store.new.seat _ c.requires.seat c.store.ensures.0 c.store.ensures.2.view refl refl

@@ -3,9 +3,11 @@ use Rattle.sock_model.specs.Layout.{open_word}
 use Rattle.sock_table.proofs.Naming.{read_nothing, read_id, id_between, id_same, id_known, nothing_between}
 use Rattle.sock_table.proofs.table.SockTable.noted.Goals as goal
 
+pub returns-then-word-clause-noted : goal.returns-then-word-clause-noted
+returns-then-word-clause-noted g c = read_nothing (open_word c.args.self.now.rule.plan c.args.operation) c.load_open-word.result c.args.seat.now.me c.load_open-word.new.seat.me c.load_open-word.ensures.view c.if-word.true
+
 pub returns-then-word-clause-between : goal.returns-then-word-clause-between
-returns-then-word-clause-between g c = nothing_between c.args.self.now.rule.plan (open_word c.args.self.now.rule.plan c.args.operation) _ c.args.seat.now.me.0 c.load_open-word.new.seat.me.0
-    (read_nothing (open_word c.args.self.now.rule.plan c.args.operation) c.load_open-word.result c.args.seat.now.me c.load_open-word.new.seat.me c.load_open-word.ensures.view c.if-word.true)
+returns-then-word-clause-between g c = nothing_between c.args.self.now.rule.plan (open_word c.args.self.now.rule.plan c.args.operation) _ _ c.args.seat.now.me.0 c.load_open-word.new.seat.me.0 (returns-then-word-clause-noted g c).view
 
 pub returns-else-word-clause-noted : goal.returns-else-word-clause-noted
 returns-else-word-clause-noted g c = let a = c.load_open-word.ensures.inside c.if-word-eq0.false c.if-word.false in

@@ -1,0 +1,4 @@
+pub mod Asked
+pub mod Meaning
+pub mod Errors
+pub mod Responses

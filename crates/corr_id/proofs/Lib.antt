@@ -1,0 +1,12 @@
+pub mod Fresh
+pub mod Ruling
+pub mod Steps
+pub mod Seats
+pub mod Becoming
+pub mod Doing
+pub mod Measures
+pub mod Stepping
+pub mod Joins
+pub mod Closes
+pub mod Ending
+pub mod Beginning

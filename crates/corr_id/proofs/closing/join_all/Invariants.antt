@@ -1,0 +1,8 @@
+use Rattle.corr_id.proofs.Joins.{Joined}
+use Rattle.corr_id.proofs.closing.join_all.Given as goal
+
+abbrev pub invariant-loop-earlier : goal.invariant-loop-earlier
+invariant-loop-earlier g l = Joined l.table.table.shared.table_id l.fn.seats.items l.seats.items l.seat
+
+abbrev pub decreases-loop-earlier : goal.decreases-loop-earlier
+decreases-loop-earlier g l = goal.left-loop-earlier g l

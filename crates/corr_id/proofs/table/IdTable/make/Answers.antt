@@ -1,0 +1,30 @@
+use Rattle.std.proofs.Common.{arith, ap, sym, ◌∙◌, subst, ℕ, ◌≡◌, ◌<◌, ◌+◌, ◌*◌, ◌%◌, [], ◌∷◌}
+use Rattle.corr_core.specs.Word.{parts}
+use Rattle.corr_core.specs.declared.marks.Hand.TheVariants.{Empty, Full}
+use Rattle.corr_core.specs.declared.marks.Token.TheVariants.{Claimed}
+use Rattle.corr_core.specs.declared.marks.Note.TheVariants.{Made}
+use Rattle.corr_id.specs.Calls.{Became, one}
+use Rattle.corr_id.proofs.Becoming.{became_both}
+use Rattle.corr_id.proofs.table.IdTable.make.Goals as goal
+
+pub unreachable-requires : goal.unreachable-requires
+unreachable-requires g c = c.in_default.not-None (c.move_call-found.ensures.moved (Claimed (parts c.read_first.result).first Empty) c.read_first.ensures.read.tokens).0
+
+pub make_id-requires-clause-seat : goal.make_id-requires-clause-seat
+make_id-requires-clause-seat g c = let m = c.move_call-found.ensures.moved (Claimed (parts c.read_first.result).first Empty) c.read_first.ensures.read.tokens in
+    (c.move_call-found.ensures.seat.0 ∙ (c.read_first.ensures.seat.0 ∙ c.requires.seat.0), subst (λ (n : ℕ). 0 < n) (sym (m.1.share ∙ c.read_first.ensures.read.share)) c.requires.seat.1)
+
+pub make_id-requires-clause-claim : goal.make_id-requires-clause-claim
+make_id-requires-clause-claim g c = let m = c.move_call-found.ensures.moved (Claimed (parts c.read_first.result).first Empty) c.read_first.ensures.read.tokens in
+    let first : (parts c.word.result).first ≡ (parts c.read_first.result).first = ap (λ (y : ℕ). (parts y).first) c.word.ensures ∙ (c.pack-word.ensures.parts.first_is ∙ (c.first-first.ensures ∙ ap (λ (y : ℕ). (parts y).first) c.from_word.ensures)) in
+    (c.args.content, m.1.tokens ∙ ap (λ (y : ℕ). Claimed y (Full c.args.content) ∷ []) (sym first))
+
+pub returns-clause-made : goal.returns-clause-made
+returns-clause-made g c = let m = c.move_call-found.ensures.moved (Claimed (parts c.read_first.result).first Empty) c.read_first.ensures.read.tokens in
+    let to : (parts c.word.result).first ≡ c.first-first.result = ap (λ (y : ℕ). (parts y).first) c.word.ensures ∙ c.pack-word.ensures.parts.first_is in
+    let first : (parts c.word.result).first ≡ (parts c.read_first.result).first = to ∙ (c.first-first.ensures ∙ ap (λ (y : ℕ). (parts y).first) c.from_word.ensures) in
+    let r : (parts c.word.result).range ≡ c.args.range = ap (λ (y : ℕ). (parts y).range) c.word.ensures ∙ c.pack-word.ensures.parts.range_is in
+    let has = m.1.tokens ∙ ap (λ (y : ℕ). Claimed y (Full c.args.content) ∷ []) (sym first) in
+    let small = c.first-first.type_inv in
+    let low : (parts c.word.result).first ≡ (c.args.at * 4294967296 + c.first-first.result) % 4294967296 = to ∙ (let k : c.first-first.result ≡ (c.args.at * 4294967296 + c.first-first.result) % 4294967296 = omega arith in k) in
+    subst (λ l. Became c.args.at c.args.seat.now.me.0 c.make_id.new.seat.me.0 [] l) (λ z. one c.args.at (Made (low z) (r z) c.args.content)) (became_both c.args.at (became_both c.args.at c.read_first.ensures.read m.1) (c.make_id.ensures.made c.args.content has))

@@ -1,0 +1,48 @@
+use Rattle.std.proofs.Common.{ℕ, ◌≡◌, ap, sym, refl, ◌∙◌, subst, arith}
+use Rattle.corr_core.specs.Word.{parts}
+use Rattle.corr_id.specs.Calls.{slot_of, version_of}
+use Rattle.corr_id.specs.Posts.{IsTimely}
+use Rattle.corr_id.proofs.Doing.{found_noted, found_grows, became_grows, quiet_none, quiet_more, queued_did, error_is, was_two}
+use Rattle.corr_id.proofs.table.IdTable.post.Goals as goal
+
+pub tries-init : goal.tries-init
+tries-init g c = let at = slot_of c.args.id in let u = c.args.seat.now.me.0 in let w = c.load_id_word-found.new.seat.me.0 in let saw = c.load_id_word-found.ensures.saw in record {
+  can_go = tt;
+  is_finite = tt;
+  same_table = c.load_id_word-found.ensures.seat.0;
+  same_id = c.load_id_word-found.ensures.seat.1;
+  same_slots = c.load_id_word-found.ensures.seat.2;
+  quiet = quiet_more at u u w _ (quiet_none u) saw refl;
+  found = found_noted at c.load_id_word-found.result u w saw;
+}
+
+pub returns-then-now-found-clause-posted : goal.returns-then-now-found-clause-posted
+returns-then-now-found-clause-posted g c =
+    let at = slot_of c.args.id in let u = c.args.seat.now.me.0 in let v = c.tries.seat.me.0 in let w = c.queue_id-now.new.seat.me.0 in let n = c.tries.found in
+    let b = c.queue_id-now.ensures.won c.if-now-found.true in let is = c.from_word-word.ensures in let has = c.lacks_id.ensures.has c.if-lacks_id.false in
+    let first : (parts n).first ≡ version_of c.args.id = ap (λ (y : ℕ). (parts y).first) (sym is) ∙ has.0 in
+    let two : (parts n).state ≡ 2 = ap (λ (y : ℕ). (parts y).state) (sym is) ∙ was_two (parts c.from_word-word.result.0).state has.1 (λ e. c.if-state-eq-OPEN.false (c.state.ensures ∙ e)) in
+    let room : (parts n).second ≡ 0 = ap (λ (y : ℕ). (parts y).second) (sym is) ∙ (sym c.second.ensures ∙ c.if-second-ne0.false) in (
+      queued_did at u v w (parts n).first (version_of c.args.id) c.error_bits-error.result _ c.tries.invariant.quiet b first (error_is c.args.attempt c.error_bits-error.result c.args.code c.error_bits-error.ensures.2),
+      (
+        n,
+        (
+          found_grows at n v w (became_grows at v w _ _ b) c.tries.invariant.found,
+          (first, omega arith),
+          two,
+          room,
+          subst (λ (y : ℕ). IsTimely c.args.attempt (parts y).attempt) is (c.is_stale.ensures.timely c.if-is_stale.false),
+        ),
+      ),
+    )
+
+pub tries-preserved : goal.tries-preserved
+tries-preserved g c = let at = slot_of c.args.id in let u = c.args.seat.now.me.0 in let v = c.tries.seat.me.0 in let w = c.queue_id-now.new.seat.me.0 in let b = c.queue_id-now.ensures.lost c.if-now-found.false in record {
+  can_go = tt;
+  is_finite = tt;
+  same_table = c.queue_id-now.ensures.seat.0 ∙ c.tries.invariant.same_table;
+  same_id = c.queue_id-now.ensures.seat.1 ∙ c.tries.invariant.same_id;
+  same_slots = c.queue_id-now.ensures.seat.2 ∙ c.tries.invariant.same_slots;
+  quiet = quiet_more at u v w _ c.tries.invariant.quiet b refl;
+  found = found_noted at c.queue_id-now.result v w b;
+}

@@ -1,0 +1,49 @@
+-- The rule of the table, and what an unlocking exchange tells.
+use Rattle.std.specs.Prelude.{◌≡◌, ◌≢◌, ℕ, ◌<◌, ◌≤◌, ◌⊎◌}
+use Rattle.std.specs.Prelude.{Option as Maybe}
+use Rattle.atomic_table.specs.Table.{State, Me, Step}
+use Rattle.corr_core.specs.Word.{Parts, parts, attempt_of}
+use Rattle.corr_core.specs.Law.{Each, total, only}
+use Rattle.corr_core.specs.declared.marks.Plan.{Plan}
+use Rattle.corr_core.specs.declared.marks.Hand.TheVariants.{Full}
+use Rattle.corr_core.specs.declared.marks.Token.{Token}
+use Rattle.corr_core.specs.declared.marks.Token.TheVariants.{Claimed, Locked, Leaving}
+use Rattle.corr_core.specs.declared.marks.Note.TheVariants.{Saw}
+use Rattle.corr_core.specs.declared.marks.Kept.{Kept}
+use Rattle.corr_core.specs.declared.marks.View.{View}
+use Rattle.id_rule.specs.Lawful.{id_word, local, Lawful, with_token, with_note}
+use Rattle.id_rule.specs.Plays.{Becomes, has_token, Longer, popped_view, advanced_view, found_view}
+
+-- a word of this place
+abbrev pub is_place : ℕ → Kept → ℕ
+is_place x k = only x k.place
+
+-- the error is for this attempt, or for the whole call
+abbrev pub IsFresh : ℕ → ℕ → Type 0
+IsFresh attempt e = (attempt_of e ≡ 7) ⊎ (attempt_of e ≡ attempt)
+
+module _ {C : Type 0} where
+  -- the errors behind those that the lock's holder noted are for the current attempt or for the whole call
+  abbrev pub FreshBehind : Parts → Token C → Type 0
+  FreshBehind w (Claimed f h) = Unit {0}
+  FreshBehind w (Locked f rg at c o s h) = (o ≡ 0 → w.oldest ≢ 0 → IsFresh w.attempt w.oldest) × (s ≡ 0 → w.second ≢ 0 → IsFresh w.attempt w.second)
+  FreshBehind w Leaving = Unit {0}
+
+  -- the rule of the ids, with that
+  pub record Ruled (p : Plan) (s : State (Maybe C) (View C)) : Type 0 where
+    pub lawful : Lawful p s
+    pub fresh : (i : ℕ) → i < p.slots → Each (FreshBehind (local s i).word) (local s i).tokens
+
+  -- I7: a word is never 0
+  abbrev pub see_told : Step (Maybe C) → Me (Maybe C) (View C) → ℕ → Me (Maybe C) (View C) → Type 0
+  see_told st m found n = (i : ℕ) → st.word ≡ id_word i → Becomes m n (with_note i (Saw found) m.0) × (1 ≤ (parts found).first)
+
+  -- I5: the word found is noted; where another one was expected, the errors in it are now noted
+  abbrev pub unlock_told : Step (Maybe C) → Me (Maybe C) (View C) → ℕ → Me (Maybe C) (View C) → Type 0
+  unlock_told st m found n = (i f rg at o s : ℕ) (c : C) → st.word ≡ id_word i → has_token i (Locked f rg at c o s (Full c)) m
+      → (found ≡ st.first → Becomes m n (advanced_view i f (parts st.first).attempt (parts st.second).attempt (popped_view i f rg (parts st.second).attempt c (parts found).oldest (parts found).second (with_note i (Saw found) m.0))))
+      × (found ≢ st.first → Becomes m n (with_token i (Locked f rg at c (parts found).oldest (parts found).second (Full c)) m.0) × Longer f rg at o s (parts found) × FreshBehind (parts found) (Locked f rg at c o s (Full c)))
+
+  -- T2: where the seat stored or found a word before, there is one
+  abbrev pub load_told : Step (Maybe C) → Me (Maybe C) (View C) → ℕ → Me (Maybe C) (View C) → Type 0
+  load_told st m found n = Becomes m n (found_view st.word found m.0) × (0 < total (is_place st.word) m.0.kept → found ≢ 0)

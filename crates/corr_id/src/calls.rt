@@ -1,0 +1,249 @@
+// Ids that are made, locked and ended.
+ghost use Rattle.std.specs.Prelude.{◌≡◌, ◌+◌, ◌*◌, ◌<◌, ◌≤◌, ◌⊎◌, ℕ, [], ◌∷◌, true, false, IfOk, IfErr};
+ghost use Rattle.corr_core.specs.Word.{parts};
+ghost use Rattle.corr_core.specs.Law.{LAST, total, is_tried};
+ghost use Rattle.corr_core.specs.declared.marks.Hand.TheVariants.{Empty, Full};
+ghost use Rattle.corr_core.specs.declared.marks.Token.TheVariants.{Locked};
+ghost use Rattle.corr_core.specs.declared.marks.Note.TheVariants.{Made, Ended};
+ghost use Rattle.id_rule.specs.Lawful.{notes_of};
+ghost use Rattle.id_rule.specs.Plays.{LockFits};
+ghost use Rattle.corr_id.specs.Seats.{Sits, Stays};
+ghost use Rattle.corr_id.specs.Calls.{Became, one, slot_of, version_of, Claims, Locks, GotLock, Quiet, Did, MadeAs, OutOf, LacksId, Found};
+
+use crate::table::{IdSeat, IdTable};
+use sock_words::IdWord;
+use std::sync::Wait;
+
+/// There was no free slot. The content comes back.
+#[derive(Drop)]
+pub struct IdFull<C> {
+    pub content: C,
+}
+
+/// The range has ended, or the word found has another one, or there is no such slot, and then it is 0.
+#[derive(Clone, Copy, Debug, PartialEq, Eq)]
+pub struct IdGone {
+    pub found: u64,
+}
+
+/// An id that a seat has locked, with its content. It must be spent by an unlocking or an end. The word is the one that the seat
+/// last found or left.
+pub struct IdLock<C> {
+    pub content: C,
+    pub slot: u16,
+    pub word: IdWord,
+    pub ghost fits: { LockFits (parts word.0) },
+    pub ghost is_locked: { (parts word.0).state ≡ 2 },
+    pub ghost in_order: { (parts word.0).oldest ≡ 0 → (parts word.0).second ≡ 0 },
+}
+
+impl<C> IdLock<C> {
+    /// The content.
+    pub fn content(&self) -> &C
+        ensures { result.now ≡ self.now.content }
+    {
+        &self.content
+    }
+
+    /// The id.
+    pub fn id(&self) -> u64
+        ensures { result ≡ self.now.slot * 4294967296 + (parts self.now.word.0).first }
+    {
+        u64::from(self.slot) * 4_294_967_296 + u64::from(self.word.first())
+    }
+
+    /// The current attempt, counted from 0.
+    pub fn attempt(&self) -> u8
+        ensures { result ≡ (parts self.now.word.0).attempt }
+    {
+        self.word.attempt()
+    }
+
+    /// How many versions the id has.
+    pub fn range(&self) -> u8
+        ensures { result ≡ (parts self.now.word.0).range }
+    {
+        self.word.range()
+    }
+}
+
+impl<C> IdTable<C> {
+    // The claimed slot gets a range with this content.
+    fn make(&self, seat: &mut IdSeat<C>, at: u16, range: u8, content: C) -> u64
+        requires seat { Sits self.now.table.shared.table_id seat.old }
+        requires slot { at < self.now.table.shared.key.slots }
+        requires range { (2 ≤ range) × (range ≤ 8) }
+        requires claim { Claims at seat.old.me.0 0 Empty }
+        ensures seat { Stays seat.old seat.new }
+        ensures id { (1 ≤ version_of result) × (version_of result ≤ LAST) × (slot_of result ≡ at) }
+        ensures made { Became at seat.old.me.0 seat.new.me.0 [] (one at (Made (version_of result) range content)) }
+    {
+        let first = IdWord::from_word(self.read_first(seat, at)).first();
+        let found = self.move_call(seat, at, Some(content));
+        let None = found else {
+            unreachable!();
+        };
+        let word = IdWord::pack(first, IdWord::OPEN, range, 0, 0, 0);
+        self.make_id(seat, at, word.word());
+        at as u64 * 4_294_967_296 + first as u64
+    }
+
+    /// A new id of 2 to 8 versions, open and at attempt 0 (`bthread_id_create_ranged`). There is no room only where each slot was
+    /// found taken.
+    pub fn create(&self, seat: &mut IdSeat<C>, range: u8, content: C) -> Result<u64, IdFull<C>>
+        requires seat { Sits self.now.table.shared.table_id seat.old }
+        requires range { (2 ≤ range) × (range ≤ 8) }
+        ensures seat { Stays seat.old seat.new }
+        ensures made { IfOk result (λ id. MadeAs seat.old.me.0 seat.new.me.0 self.now.plan.slots id range content) }
+        ensures full { IfErr result (λ e. (e.content ≡ content) × Quiet seat.old.me.0 seat.new.me.0 × ((i : ℕ) → i < self.now.plan.slots → 0 < total is_tried (notes_of i seat.new.me.0.notes))) }
+    {
+        let slots = self.plan.slots;
+        let mut at = 0;
+        while at < slots {
+            if self.claim_id(seat, at) == 0 {
+                return Ok(self.make(seat, at, range, content));
+            }
+            at += 1;
+        }
+        Err(IdFull { content })
+    }
+
+    // K2 once the id is locked.
+    pub(crate) fn take_call(&self, seat: &mut IdSeat<C>, at: u16, word: IdWord) -> IdLock<C>
+        requires seat { Sits self.now.table.shared.table_id seat.old }
+        requires slot { at < self.now.table.shared.key.slots }
+        requires fits { LockFits (parts word.0) × ((parts word.0).state ≡ 2) × ((parts word.0).oldest ≡ 0 → (parts word.0).second ≡ 0) }
+        requires lock { (c : C) × Locks at seat.old.me.0 (parts word.0) c (Full c) }
+        ensures seat { Stays seat.old seat.new }
+        ensures fields { (result.slot ≡ at) × (result.word ≡ word) }
+        ensures taken { (c : C) → Locks at seat.old.me.0 (parts word.0) c (Full c) → (result.content ≡ c) × Became at seat.old.me.0 seat.new.me.0 (Locked (parts word.0).first (parts word.0).range (parts word.0).attempt c (parts word.0).oldest (parts word.0).second Empty ∷ []) [] }
+    {
+        let found = self.move_call(seat, at, None);
+        let Some(content) = found else {
+            unreachable!();
+        };
+        IdLock {
+            content,
+            slot: at,
+            word,
+        }
+    }
+
+    /// Locks an id, by itself or by an attempt's version, once it is open (`bthread_id_lock`). It is gone exactly where the word
+    /// read has ended or has another range.
+    pub fn lock<R: Wait>(
+        &self,
+        rt: &R,
+        seat: &mut IdSeat<C>,
+        version: u64,
+    ) -> Result<IdLock<C>, IdGone>
+        requires seat { Sits self.now.table.shared.table_id seat.old }
+        ensures seat { Stays seat.old seat.new }
+        ensures locked { IfOk result (λ k. (k.slot ≡ slot_of version) × ((word : ℕ) × GotLock k.slot seat.old.me.0 seat.new.me.0 word (parts k.word.0) k.content)) }
+        ensures of_range { IfOk result (λ k. ((parts k.word.0).first ≤ version_of version) × (version_of version < (parts k.word.0).first + (parts k.word.0).range)) }
+        ensures gone { IfErr result (λ e. Quiet seat.old.me.0 seat.new.me.0 × (((self.now.plan.slots ≤ slot_of version) × (e.found ≡ 0)) ⊎ (Found (slot_of version) e.found seat.new.me.0 × OutOf (parts e.found) (version_of version)))) }
+    {
+        let slot = version / 4_294_967_296;
+        if slot >= self.plan.slots as u64 {
+            return Err(IdGone { found: 0 });
+        }
+        let at = slot as u16;
+        let own = version % 4_294_967_296;
+        'looks: for _ in rt.forever() {
+            let found = self.load_id_word(seat, at);
+            let word = IdWord::from_word(found);
+            if is_out_of(word, own) {
+                return Err(IdGone { found });
+            }
+            if word.state() != IdWord::OPEN {
+                continue;
+            }
+            if let Ok(lock) = self.try_lock(seat, at, found) {
+                return Ok(lock);
+            }
+        }
+        unreachable!()
+    }
+
+    // I3 of a word that was found open, and K2; else the word that was found now.
+    pub(crate) fn try_lock(
+        &self,
+        seat: &mut IdSeat<C>,
+        at: u16,
+        from: u64,
+    ) -> Result<IdLock<C>, u64>
+        requires seat { Sits self.now.table.shared.table_id seat.old }
+        requires slot { at < self.now.table.shared.key.slots }
+        requires from { ((parts from).state ≡ 1) × Found at from seat.old.me.0 }
+        ensures seat { Stays seat.old seat.new }
+        ensures locked { IfOk result (λ k. (k.slot ≡ at) × GotLock at seat.old.me.0 seat.new.me.0 from (parts k.word.0) k.content) }
+        ensures lost { IfErr result (λ found. Quiet seat.old.me.0 seat.new.me.0 × Found at found seat.new.me.0) }
+    {
+        let next = corr_core::lock_id(from, IdWord::from_word(from)).next;
+        let found = self.lock_id(seat, at, from, next);
+        if found != from {
+            return Err(found);
+        }
+        Ok(self.take_call(seat, at, IdWord::from_word(next)))
+    }
+
+    /// The range of the lock ends, with the errors that are queued (`bthread_id_unlock_and_destroy`). The content comes back.
+    pub fn destroy(&self, seat: &mut IdSeat<C>, lock: IdLock<C>) -> C
+        requires seat { Sits self.now.table.shared.table_id seat.old }
+        requires lock { (lock.slot < self.now.plan.slots) × Locks lock.slot seat.old.me.0 (parts lock.word.0) lock.content Empty }
+        ensures seat { Stays seat.old seat.new }
+        ensures content { result ≡ lock.content }
+        ensures ended { Became lock.slot seat.old.me.0 seat.new.me.0 [] (one lock.slot (Ended (parts lock.word.0).first)) }
+    {
+        let IdLock {
+            content,
+            slot,
+            word,
+        } = lock;
+        let first = word.first() + word.range() as u32;
+        let next = IdWord::pack(first, IdWord::FREE, 1, 0, 0, 0);
+        self.end_id(seat, slot, word, next.word());
+        if first <= 67_108_848 {
+            self.free_id(seat, slot);
+        }
+        content
+    }
+
+    /// Waits until the id has ended, or finds that it never was (`bthread_id_join`).
+    pub fn join<R: Wait>(&self, rt: &R, seat: &mut IdSeat<C>, id: u64)
+        requires seat { Sits self.now.table.shared.table_id seat.old }
+        ensures seat { Stays seat.old seat.new }
+        ensures quiet { Quiet seat.old.me.0 seat.new.me.0 }
+        ensures gone { (self.now.plan.slots ≤ slot_of id) ⊎ ((word : ℕ) × Found (slot_of id) word seat.new.me.0 × LacksId (parts word) (version_of id)) }
+    {
+        let slot = id / 4_294_967_296;
+        if slot >= self.plan.slots as u64 {
+            return;
+        }
+        let at = slot as u16;
+        let own = id % 4_294_967_296;
+        'looks: for _ in rt.forever() {
+            if lacks_id(IdWord::from_word(self.load_id_word(seat, at)), own) {
+                return;
+            }
+        }
+    }
+}
+
+// Whether the word is free, or has another range than the version's.
+fn is_out_of(word: IdWord, version: u64) -> bool
+    ensures out { result ≡ true → OutOf (parts word.0) version }
+    ensures within { result ≡ false → ((parts word.0).first ≤ version) × (version < (parts word.0).first + (parts word.0).range) }
+{
+    let first = u64::from(word.first());
+    word.state() == IdWord::FREE || version < first || version >= first + u64::from(word.range())
+}
+
+// Whether the word doesn't have the range of this first version.
+pub(crate) fn lacks_id(word: IdWord, first: u64) -> bool
+    ensures lacks { result ≡ true → LacksId (parts word.0) first }
+    ensures has { result ≡ false → ((parts word.0).first ≡ first) × (((parts word.0).state ≡ 1) ⊎ ((parts word.0).state ≡ 2)) }
+{
+    let state = word.state();
+    u64::from(word.first()) != first || (state != IdWord::OPEN && state != IdWord::LOCKED)
+}

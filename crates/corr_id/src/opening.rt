@@ -1,0 +1,67 @@
+// A new table with its seats.
+ghost use Rattle.std.specs.Prelude.{◌≡◌, ◌+◌, ◌<◌, ◌≤◌, [], length, vec_len, vec_capacity, IfOk};
+ghost use Rattle.id_rule.specs.Lawful.{first_view, Unused};
+ghost use Rattle.corr_id.specs.Opening.{AreNew};
+
+use crate::table::{IdSeat, IdTable};
+use corr_core::Plan;
+use sock_words::IdWord;
+use std::alloc::{AllocError, Global};
+
+impl<C> IdTable<C> {
+    /// A table of so many id slots, for the calls among so many operations, and its seats. The slots are at most 4,096 and so
+    /// are the operations, and the seats are from 1 to 64.
+    pub fn new(
+        alloc: Global,
+        slots: u16,
+        operations: u16,
+        seats: u16,
+    ) -> Result<(IdTable<C>, Vec<IdSeat<C>>), AllocError>
+        requires slots { slots ≤ 4096 }
+        requires operations { operations ≤ 4096 }
+        requires seats { (1 ≤ seats) × (seats ≤ 64) }
+        ensures plan { IfOk result (λ t. t.0.plan ≡ record { slots = slots; operations = operations + 1; seats = seats }) }
+        ensures seats { IfOk result (λ t. AreNew t.0.table.shared.table_id t.1.items × (length t.1.items ≡ seats)) }
+    {
+        // The words of one more operation are there so that seats can be split where there is nothing else.
+        let plan = Plan {
+            slots,
+            operations: operations + 1,
+            seats,
+        };
+        let words = new_words(alloc, plan)?;
+        let mut dealt = Vec::with_capacity(alloc, seats as usize)?;
+        let (table, first) = IdTable::open(alloc, plan, &words)?;
+        table.deal(first, &mut dealt);
+        Ok((table, dealt))
+    }
+
+    // The seats, split off the first one.
+    fn deal(&self, mut first: IdSeat<C>, seats: &mut Vec<IdSeat<C>>)
+        requires first { (first.table_id ≡ self.now.table.shared.table_id) × (first.me ≡ (first_view self.now.plan, [])) }
+        requires words { 0 < self.now.table.shared.table_id.words }
+        requires some { 1 ≤ self.now.plan.seats }
+        requires room { (seats.old.items ≡ []) × (vec_len seats.old ≡ 0) × (vec_capacity seats.old ≡ self.now.plan.seats) }
+        ensures { AreNew self.now.table.shared.table_id seats.new.items × (length seats.new.items ≡ self.now.plan.seats) }
+    {
+        for _ in 1..self.plan.seats {
+            let seat = self.seat_out(&mut first);
+            seats.push_reserved(seat);
+        }
+        seats.push_reserved(first);
+    }
+}
+
+// The words of a table before any step.
+fn new_words(alloc: Global, plan: Plan) -> Result<Vec<u64>, AllocError>
+    ensures { IfOk result (λ words. Unused plan words.items) }
+{
+    let slots = plan.slots as usize;
+    let count = 2 * slots + 2 * plan.operations as usize;
+    let mut words = vec![in alloc; 0u64; count]?;
+    let free = IdWord::pack(1, IdWord::FREE, 1, 0, 0, 0);
+    for i in 0..slots {
+        words[2 * i + 1] = free.word();
+    }
+    Ok(words)
+}

@@ -1,0 +1,114 @@
+// The words of the calls among the operations.
+ghost use Rattle.std.specs.Prelude.{◌≡◌, ◌≢◌, ◌+◌, ◌*◌, ◌<◌, ◌≤◌, false, true, IfNone, IfSome, IsSome};
+ghost use Rattle.sock_words.specs.Words.{at_word as packed_at};
+ghost use Rattle.corr_core.specs.Law.{total};
+ghost use Rattle.id_rule.specs.Lawful.{call_word, at_word, with_kept};
+ghost use Rattle.corr_id.specs.Ruled.{is_place};
+ghost use Rattle.corr_id.specs.Seats.{Sits, Stays};
+ghost use Rattle.corr_id.specs.Calls.{slot_of, version_of, Quiet, Found};
+
+use crate::plays::{Load, Store};
+use crate::table::{IdSeat, IdTable};
+use sock_words::AtWord;
+
+impl<C> IdTable<C> {
+    /// Stores the id of a call, by its operation, where others find it. The id isn't 0.
+    pub fn note(&self, seat: &mut IdSeat<C>, operation: u16, id: u64)
+        requires seat { Sits self.now.table.shared.table_id seat.old }
+        requires operation { operation < self.now.plan.operations }
+        requires some { id ≢ 0 }
+        ensures seat { Stays seat.old seat.new }
+        ensures stored { seat.new.me.0 ≡ with_kept (call_word self.now.plan operation) true id seat.old.me.0 }
+    {
+        let word = 2 * self.plan.slots as usize + 2 * operation as usize;
+        self.store_word(seat, word, id);
+    }
+
+    /// The id of a call, by its operation: `None` only where none was there. Where this seat noted one, or was answered one, it
+    /// is there.
+    pub fn noted(&self, seat: &mut IdSeat<C>, operation: u16) -> Option<u64>
+        requires seat { Sits self.now.table.shared.table_id seat.old }
+        requires operation { operation < self.now.plan.operations }
+        ensures seat { Stays seat.old seat.new }
+        ensures found { IfSome result (λ id. (id ≢ 0) × (seat.new.me.0 ≡ with_kept (call_word self.now.plan operation) false id seat.old.me.0)) }
+        ensures none { IfNone result (seat.new.me.0 ≡ seat.old.me.0) }
+        ensures never_none { 0 < total (is_place (call_word self.now.plan operation)) seat.old.me.0.kept → IsSome result }
+    {
+        let word = 2 * self.plan.slots as usize + 2 * operation as usize;
+        self.load_word(seat, word)
+    }
+
+    /// Stores on which link the last attempt of a call is, by its operation. The id's slot and first version fit an `AtWord`,
+    /// the link is 0 to 65,534, and the attempt is at most 6.
+    pub fn set_at(&self, seat: &mut IdSeat<C>, operation: u16, id: u64, link: u16, attempt: u8)
+        requires seat { Sits self.now.table.shared.table_id seat.old }
+        requires operation { operation < self.now.plan.operations }
+        requires id { (slot_of id < 65536) × (version_of id < 67108864) }
+        requires link { link < 65535 }
+        requires attempt { attempt ≤ 6 }
+        ensures seat { Stays seat.old seat.new }
+        ensures stored { seat.new.me.0 ≡ with_kept (at_word self.now.plan operation) true (packed_at (version_of id) (slot_of id) link attempt) seat.old.me.0 }
+    {
+        let word = 2 * self.plan.slots as usize + 2 * operation as usize + 1;
+        let slot = (id / 4_294_967_296) as u16;
+        let first = (id % 4_294_967_296) as u32;
+        let at = AtWord::pack(first, slot, link, attempt);
+        self.store_word(seat, word, at.word());
+    }
+
+    /// Where the last attempt of a call is, by its operation: `None` only where nothing was stored. Where this seat stored it, or
+    /// was answered it, it is there.
+    pub fn at(&self, seat: &mut IdSeat<C>, operation: u16) -> Option<AtWord>
+        requires seat { Sits self.now.table.shared.table_id seat.old }
+        requires operation { operation < self.now.plan.operations }
+        ensures seat { Stays seat.old seat.new }
+        ensures found { IfSome result (λ a. (a.0 ≢ 0) × (seat.new.me.0 ≡ with_kept (at_word self.now.plan operation) false a.0 seat.old.me.0)) }
+        ensures none { IfNone result (seat.new.me.0 ≡ seat.old.me.0) }
+        ensures never_none { 0 < total (is_place (at_word self.now.plan operation)) seat.old.me.0.kept → IsSome result }
+    {
+        let word = 2 * self.plan.slots as usize + 2 * operation as usize + 1;
+        match self.load_word(seat, word) {
+            Some(found) => Some(AtWord::from_word(found)),
+            None => None,
+        }
+    }
+
+    /// The word of a version's slot: 0 exactly where there is no such slot.
+    pub fn word(&self, seat: &mut IdSeat<C>, version: u64) -> u64
+        requires seat { Sits self.now.table.shared.table_id seat.old }
+        ensures seat { Stays seat.old seat.new }
+        ensures quiet { Quiet seat.old.me.0 seat.new.me.0 }
+        ensures found { slot_of version < self.now.plan.slots → Found (slot_of version) result seat.new.me.0 × (0 < result) }
+        ensures no_slot { self.now.plan.slots ≤ slot_of version → result ≡ 0 }
+    {
+        let slot = version / 4_294_967_296;
+        if slot >= self.plan.slots as u64 {
+            return 0;
+        }
+        self.load_id_word(seat, slot as u16)
+    }
+
+    // T1.
+    fn store_word(&self, seat: &mut IdSeat<C>, word: usize, value: u64)
+        requires seat { Sits self.now.table.shared.table_id seat.old }
+        requires place { (2 * self.now.plan.slots ≤ word) × (word < 2 * self.now.plan.slots + 2 * self.now.plan.operations) }
+        requires some { value ≢ 0 }
+        ensures seat { Stays seat.old seat.new }
+        ensures stored { seat.new.me.0 ≡ with_kept word true value seat.old.me.0 }
+    {
+        self.table.shared.store::<Store>(seat, word, value);
+    }
+
+    // T2: nothing where the word is 0.
+    fn load_word(&self, seat: &mut IdSeat<C>, word: usize) -> Option<u64>
+        requires seat { Sits self.now.table.shared.table_id seat.old }
+        requires place { (2 * self.now.plan.slots ≤ word) × (word < 2 * self.now.plan.slots + 2 * self.now.plan.operations) }
+        ensures seat { Stays seat.old seat.new }
+        ensures found { IfSome result (λ n. (n ≢ 0) × (seat.new.me.0 ≡ with_kept word false n seat.old.me.0)) }
+        ensures none { IfNone result (seat.new.me.0 ≡ seat.old.me.0) }
+        ensures never_none { 0 < total (is_place word) seat.old.me.0.kept → IsSome result }
+    {
+        let found = self.table.shared.load::<Load>(seat, word);
+        if found == 0 { None } else { Some(found) }
+    }
+}
