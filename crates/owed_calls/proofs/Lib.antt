@@ -27,3 +27,4 @@ pub mod OwingRuns
 pub mod OwingEnding
 pub mod Beginning
 pub mod Ended
+pub mod WholeOwing
