@@ -28,3 +28,4 @@ pub mod OwingEnding
 pub mod Beginning
 pub mod Ended
 pub mod WholeOwing
+pub mod Owed

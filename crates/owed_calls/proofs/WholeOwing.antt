@@ -27,7 +27,7 @@ use Rattle.sock_runs.proofs.Quiets.{run_seats}
 use Rattle.sock_runs.proofs.ThroughSends.{through_end}
 use Rattle.sock_runs.proofs.ThroughCalls.{through_next}
 use Rattle.sock_runs.proofs.Recorded.{Recorded}
-use Rattle.sock_runs.proofs.LinksRecorded.{Gives, gives_passes, gives_opens, gives_follow, Stored, Stores, Linked}
+use Rattle.sock_runs.proofs.LinksRecorded.{Gives, gives_passes, gives_opens, gives_follow, Stored, Stores, Linked, run_linked}
 use Rattle.sock_runs.proofs.LinksOpening.{OpensLink}
 use Rattle.sock_runs.proofs.LinksStay.{IsGiven}
 use Rattle.sock_runs.proofs.ReaderSeats.{AtReader, run_reader}
@@ -155,7 +155,7 @@ module _ (p : Plan) (q : IdPlan) (narrow : q.slots ≤ 65536) (same : q.operatio
     many₁ : length c₁.seats ≡ 32 + length os
     many₁ = run_seats p c₀ m₁ ∙ parts.many
 
-    many₂ : length c₂.seats ≡ 32 + length os
+    pub many₂ : length c₂.seats ≡ 32 + length os
     many₂ = run_seats p c₁ m₂ ∙ many₁
 
     many₃ : length c₃.seats ≡ 32 + length os
@@ -167,8 +167,11 @@ module _ (p : Plan) (q : IdPlan) (narrow : q.slots ≤ 65536) (same : q.operatio
     pub many₆ : length c₆.seats ≡ 32 + length os
     many₆ = run_seats p c₅ m₄ ∙ many₅
 
-    abbrev final : List ℕ
-    final = c₆.words
+    -- each life that was given a link stands in the word of its `open`, or is stored there next
+    pub linked_at_end : Linked p (OpensLink os) c₀ v₀ → ((seat : SeatState) → get_elem? c₂.seats 0 ≡ some seat → seat.program ≡ Rest) → Linked p (OpensLink os) c₆ v₆
+    linked_at_end l rests = run_linked p go (OpensLink os) Q c₅ v₅ m₄ parts.s₅ parts.a₄ parts.f₄ parts.r₅ (linked_on p (OpensLink os) (run p c₃ m₃) v₅ (run_linked p go (OpensLink os) Q c₃ v₂ m₃ parts.s₃ parts.a₃ parts.f₃ parts.r₃
+        (linked_ending p (OpensLink os) os c₂ v₂ (run_linked p go (OpensLink os) Q c₁ v₁ m₂ parts.s₁ parts.a₂ parts.f₂ parts.r₁ (run_linked p go (OpensLink os) Q c₀ v₀ m₁ parts.s₀ parts.a₁ parts.f₁ parts.r₀ l)) rests)))
+
 
     module _ (slots : (k s : ℕ) → life_of p os c₆.words k ≡ Some s → socket_id_slot s < p.slots) (links : (k s : ℕ) → life_of p os c₆.words k ≡ Some s → k < 65535) where
       abbrev Reach : Core → List View → Type 0
