@@ -2,7 +2,7 @@
 use Rattle.std.proofs.Common.{◌≡◌, ◌≢◌, ℕ, zero, suc, ◌+◌, ◌-◌, ◌<◌, ◌≤◌, ◌⊎◌, inl, inr, ⊎_elim, true, List, [], ◌∷◌, ◌++◌, length, length-append, replicate, get_or, Option, Some, None, refl, sym, ap, ◌∙◌, subst, arith}
 use Rattle.std.specs.List.{AllByRecursion}
 use Rattle.std.proofs.lemmas.List.{length-map, length-replicate}
-use mathlib.Core.Option as core
+use mathlib.Core.Option.{Option as Maybe}
 use mathlib.Core.Option.{none, some, some-ne-none, some-injective}
 use lib.ListN.{get_elem?}
 use Rattle.sock_words.specs.Words.{socket_id_slot}
@@ -162,7 +162,7 @@ module _ (script : List Item) (are : AreTasks (plan_of script) (all_tasks script
   opened_at : (k s : ℕ) → life_of p os c₆.words k ≡ Some s → (o : ℕ) × (get_elem? os k ≡ some o) × (id_of (get_or c₆.words (open_word p o) 0) ≡ Some s)
   opened_at k s lives = by_open (get_elem? os k) refl lives
     where
-      by_open : (x : core.Option ℕ) → get_elem? os k ≡ x → elim x as (λ x. Option ℕ) [ none ↦ None | some o ↦ id_of (get_or c₆.words (open_word p o) 0) ] ≡ Some s → (o : ℕ) × (get_elem? os k ≡ some o) × (id_of (get_or c₆.words (open_word p o) 0) ≡ Some s)
+      by_open : (x : Maybe ℕ) → get_elem? os k ≡ x → elim x as (λ x. Option ℕ) [ none ↦ None | some o ↦ id_of (get_or c₆.words (open_word p o) 0) ] ≡ Some s → (o : ℕ) × (get_elem? os k ≡ some o) × (id_of (get_or c₆.words (open_word p o) 0) ≡ Some s)
       by_open none at e = absurd (let z : None ≡ Some s = e in cc)
       by_open (some o) at e = (o, at, e)
 
