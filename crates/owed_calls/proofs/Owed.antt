@@ -1,9 +1,9 @@
 -- The run of a script ends with no seat that has a step left, and with the life of each link past.
-use Rattle.std.proofs.Common.{◌≡◌, ◌≢◌, ℕ, zero, suc, ◌+◌, ◌-◌, ◌<◌, ◌≤◌, ◌⊎◌, inl, inr, ⊎_elim, true, List, [], ◌∷◌, ◌++◌, length, length-append, replicate, get_or, Option, Some, None, refl, sym, ap, ◌∙◌, subst, arith}
+use Rattle.std.proofs.Common.{◌≡◌, ◌≢◌, ℕ, zero, suc, ◌+◌, ◌-◌, ◌<◌, ◌≤◌, ◌⊎◌, ⊎_elim, true, List, [], ◌∷◌, ◌++◌, length, length-append, replicate, get_or, Option, Some, None, refl, sym, ap, ◌∙◌, subst, arith}
 use Rattle.std.specs.List.{AllByRecursion}
 use Rattle.std.proofs.lemmas.List.{length-map, length-replicate}
 use mathlib.Core.Option.{Option as Maybe}
-use mathlib.Core.Option.{none, some, some-ne-none, some-injective}
+use mathlib.Core.Option.{none, some, some-injective}
 use lib.ListN.{get_elem?}
 use Rattle.sock_words.specs.Words.{socket_id_slot}
 use Rattle.sock_words.specs.declared.plain.Plan.{Plan}
@@ -14,9 +14,8 @@ use Rattle.sock_model.specs.Layout.{open_word}
 use Rattle.corr_core.specs.declared.marks.Plan.{Plan as IdPlan}
 use Rattle.id_rule.specs.Lawful as ids
 use Rattle.sock_programs.specs.declared.task.Task.{Task}
-use Rattle.sock_programs.specs.Heads.{Head, Exit}
-use Rattle.sock_programs.specs.Programs.{Program, Rest, Round}
-use Rattle.sock_programs.specs.Tasks.{tasks, opens, calls, plan_of, id_plan_of}
+use Rattle.sock_programs.specs.Programs.{Program, Rest}
+use Rattle.sock_programs.specs.Tasks.{opens, calls, plan_of, id_plan_of}
 use Rattle.sock_programs.specs.Clients.{client_from}
 use Rattle.sock_programs.specs.Cores.{Core, SeatState, resolved, next_step}
 use Rattle.sock_programs.specs.Ticks.{Moment, quiet, run, AreAnswered, IsPrompt, waits}
@@ -29,12 +28,12 @@ use Rattle.sock_runs.proofs.Along.{run_sound, seat_rests, place_inside}
 use Rattle.sock_runs.proofs.Records.{next_stores}
 use Rattle.sock_runs.proofs.Recorded.{Recorded}
 use Rattle.sock_runs.proofs.Rested.{IsPast}
-use Rattle.sock_runs.proofs.Waiting.{StandsAside, still_settles}
+use Rattle.sock_runs.proofs.Waiting.{still_settles}
 use Rattle.sock_runs.proofs.ReaderSeats.{AtReader}
 use Rattle.sock_runs.proofs.OpensStay.{readers_begin}
 use Rattle.sock_runs.proofs.LinksRecorded.{Linked}
 use Rattle.sock_runs.proofs.LinksOpening.{OpensLink, OwnsLink, script_owns, others_give, beginning_linked}
-use Rattle.sock_runs.proofs.Whole.{AreFittingIn, Begins, IsOwed, IsListed, views_played, views_closed, set_up_answered, end_answered, set_up_sound, rested_ahead, rested_idle, closing_sound, closed_sound, ended_ahead, recorded_opened, recorded_set_up, recorded_closing, recorded_closed}
+use Rattle.sock_runs.proofs.Whole.{AreFittingIn, Begins, IsOwed, IsListed, views_closed, set_up_answered, end_answered, set_up_sound, rested_ahead, rested_idle, closing_sound, closed_sound, ended_ahead, recorded_opened, recorded_set_up, recorded_closing, recorded_closed}
 use Rattle.id_runs.specs.Held.{IdView}
 use Rattle.id_runs.specs.Goes.{SoundIds}
 use Rattle.owed_calls.specs.Owing.{Owing}

@@ -1,18 +1,14 @@
 -- Over a whole run, of setup, schedule and rounds, ending, and rounds again, what is owed is kept, and each life has the link of its `open`.
-use Rattle.std.proofs.Common.{◌≡◌, ◌≢◌, ℕ, ◌+◌, ◌-◌, ◌*◌, ◌<◌, ◌≤◌, ◌⊎◌, inl, inr, ⊎_elim, true, false, cond, ne_eqb, List, [], ◌∷◌, length, length-set, get_or, Option, Some, None, refl, sym, ap, ◌∙◌, subst, arith}
+use Rattle.std.proofs.Common.{◌≡◌, ◌≢◌, ℕ, ◌+◌, ◌-◌, ◌*◌, ◌<◌, ◌≤◌, ◌⊎◌, inl, inr, ⊎_elim, cond, ne_eqb, List, [], ◌∷◌, length, length-set, get_or, Option, Some, None, refl, sym, ap, ◌∙◌, subst, arith}
 use mathlib.Core.Logic.{dite}
 use native.Mathlib.Decide.{ℕ_discrete}
-use mathlib.Core.Option as core
-use mathlib.Core.Option.{none, some, some-ne-none, some-injective}
+use mathlib.Core.Option.{none, some, some-ne-none}
 use lib.ListN.{get_elem?}
 use Rattle.atomic_table.proofs.Lists.{at_set, set_else}
 use Rattle.sock_words.specs.Words.{socket_id, socket_id_slot}
 use Rattle.sock_words.specs.declared.plain.Plan.{Plan}
 use Rattle.sock_model.specs.declared.view.View.{View}
 use Rattle.sock_model.specs.Layout.{open_word}
-use Rattle.sock_model.specs.Weights.{is_linked}
-use Rattle.sock_model.specs.Slots.{count, live}
-use Rattle.sock_model.specs.References.{slot_facts}
 use Rattle.corr_core.specs.declared.marks.Plan.{Plan as IdPlan}
 use Rattle.sock_programs.specs.Programs.{Rest, NO_SOCKET}
 use Rattle.sock_programs.specs.Clients.{ending_of}
@@ -34,7 +30,7 @@ use Rattle.sock_runs.proofs.ReaderSeats.{AtReader, run_reader}
 use Rattle.owed_calls.specs.Owing.{Owing}
 use Rattle.owed_calls.specs.Sound.{SoundOwing}
 use Rattle.owed_calls.specs.Lives.{id_of, life_of, AreSaying}
-use Rattle.owed_calls.proofs.OwingRuns.{Reaches, AllReaders, id_by, reach_back, run_owing}
+use Rattle.owed_calls.proofs.OwingRuns.{Reaches, id_by, reach_back, run_owing}
 use Rattle.owed_calls.proofs.OwingEnding.{owing_ending, owing_on}
 
 -- ## The ending
@@ -171,7 +167,6 @@ module _ (p : Plan) (q : IdPlan) (narrow : q.slots ≤ 65536) (same : q.operatio
     pub linked_at_end : Linked p (OpensLink os) c₀ v₀ → ((seat : SeatState) → get_elem? c₂.seats 0 ≡ some seat → seat.program ≡ Rest) → Linked p (OpensLink os) c₆ v₆
     linked_at_end l rests = run_linked p go (OpensLink os) Q c₅ v₅ m₄ parts.s₅ parts.a₄ parts.f₄ parts.r₅ (linked_on p (OpensLink os) (run p c₃ m₃) v₅ (run_linked p go (OpensLink os) Q c₃ v₂ m₃ parts.s₃ parts.a₃ parts.f₃ parts.r₃
         (linked_ending p (OpensLink os) os c₂ v₂ (run_linked p go (OpensLink os) Q c₁ v₁ m₂ parts.s₁ parts.a₂ parts.f₂ parts.r₁ (run_linked p go (OpensLink os) Q c₀ v₀ m₁ parts.s₀ parts.a₁ parts.f₁ parts.r₀ l)) rests)))
-
 
     module _ (slots : (k s : ℕ) → life_of p os c₆.words k ≡ Some s → socket_id_slot s < p.slots) (links : (k s : ℕ) → life_of p os c₆.words k ≡ Some s → k < 65535) where
       abbrev Reach : Core → List View → Type 0
