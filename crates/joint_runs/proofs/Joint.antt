@@ -1,22 +1,15 @@
 -- What the table of the sockets relies on of steps aside of it, the rule of the ids gives.
-use Rattle.std.proofs.Common.{◌≡◌, ℕ, zero, suc, ◌+◌, ◌<◌, ◌≤◌, Bool, List, length, refl, sym, ap, ◌∙◌, subst, arith}
-use mathlib.Core.Option.{Option, none, some, some-injective, some-ne-none}
+use Rattle.std.proofs.Common.{◌≡◌, ℕ, ◌≤◌, List, length, refl, arith}
+use mathlib.Core.Option.{Option, none, some}
 use lib.ListN.{get_elem?}
 use Rattle.sock_words.specs.declared.plain.Plan.{Plan}
 use Rattle.sock_model.specs.declared.view.View.{View}
-use Rattle.corr_core.specs.Word.{parts}
 use Rattle.corr_core.specs.declared.marks.Plan.{Plan as IdPlan}
-use Rattle.corr_core.specs.declared.marks.Hand.TheVariants.{Full}
-use Rattle.corr_core.specs.declared.marks.Token.TheVariants.{Locked}
-use Rattle.sock_programs.specs.Asides.{Step, Found, ClaimId, PutCall, MakeId, StoreCall, LoadCall, StoreAt, LoadAt, LoadIdWord, LockId, PostId, UnlockId, EndId, FreeId, TakeCall, TakeBytes, Taking}
-use Rattle.sock_programs.specs.Posts.{advance_of}
+use Rattle.sock_programs.specs.Asides.{Step, Found, ClaimId, PutCall, MakeId, StoreCall, LoadCall, StoreAt, LoadAt, LoadIdWord, LockId, PostId, UnlockId, EndId, FreeId, TakeCall, TakeBytes}
 use Rattle.sock_programs.specs.Programs.{Program, Do, Say, Sent, Rest, TakeMessage, TakeHome, PutHome, PutBytes, AskReady, Write, Aside, Round, Keep, Retries}
-use Rattle.sock_programs.specs.Cores.{Core, SeatState}
-use Rattle.sock_programs.specs.Beside.{found_in}
-use Rattle.sock_programs.specs.Sends.{block}
-use Rattle.sock_programs.specs.Rounds.{round}
-use Rattle.sock_programs.specs.Ticks.{Answer, Moment, IsAnswered, taken, ticked}
-use Rattle.sock_runs.specs.Fits.{FitsFound, FitsMore}
+use Rattle.sock_programs.specs.Cores.{Core}
+use Rattle.sock_programs.specs.Ticks.{Moment, IsAnswered, taken, ticked}
+use Rattle.sock_runs.specs.Fits.{FitsFound}
 use Rattle.sock_runs.specs.Sound.{Sound, FitsBeside, IsFitting, first_step, views_after}
 use Rattle.sock_runs.proofs.LinkTicks.{RetriesGo}
 use Rattle.sock_runs.proofs.Ticks.{sound_ticks}
@@ -47,7 +40,7 @@ fits_found p q u (TakeBytes k room) found may f = tt
 
 module _ (p : Plan) (q : IdPlan) (narrow : q.slots ≤ 65536) (same : q.operations ≡ p.operations) (c : Core) (us : List IdView) (ids : SoundIds p q c us) (m : Moment) where
   -- the first step of a round is one that the view allows
-  goes_first : (u : IdView) (program : Program) → IdGoesOn p q u program → IdGoesOn p q u (first_step program)
+  pub goes_first : (u : IdView) (program : Program) → IdGoesOn p q u program → IdGoesOn p q u (first_step program)
   goes_first u (Write w after) g = block_goes p q narrow u w after g
   goes_first u (Round head next) g = ids_round p q u head next g
   goes_first u (Do call next) g = g
@@ -79,7 +72,7 @@ module _ (p : Plan) (q : IdPlan) (narrow : q.slots ≤ 65536) (same : q.operatio
   beside u at (Keep r next) g = tt
   beside u at (Retries requests after) g = tt
 
-  view_at : {A B : Type 0} (l : List A) (n : List B) (i : ℕ) (a : A) → length n ≡ length l → get_elem? l i ≡ some a → (x : Option B) → get_elem? n i ≡ x → (b : B) × (get_elem? n i ≡ some b)
+  pub view_at : {A B : Type 0} (l : List A) (n : List B) (i : ℕ) (a : A) → length n ≡ length l → get_elem? l i ≡ some a → (x : Option B) → get_elem? n i ≡ x → (b : B) × (get_elem? n i ≡ some b)
   view_at l n i a e at none is = absurd (Rattle.sock_runs.proofs.Cases.beside l n i a e at is)
   view_at l n i a e at (some b) is = (b, is)
 
