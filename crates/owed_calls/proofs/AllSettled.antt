@@ -1,26 +1,24 @@
 -- Where each seat is at rest or waits and the run is ending, each range has ended, and nobody waits but for the word of an `open`.
-use Rattle.std.proofs.Common.{◌≡◌, ◌≢◌, ℕ, zero, suc, ◌<◌, ◌≤◌, ◌⊎◌, inl, inr, ⊎_elim, ◌==◌, ◌&&◌, not, Bool, true, false, eqb, eqb-true, eq-eqb, List, [], ◌∷◌, Option, Some, length, get_or, refl, sym, ap, ◌∙◌, subst, arith}
+use Rattle.std.proofs.Common.{◌≡◌, ◌≢◌, ℕ, zero, suc, ◌<◌, ◌≤◌, ◌⊎◌, inl, inr, ⊎_elim, ◌==◌, ◌&&◌, not, Bool, true, false, eqb-true, eq-eqb, List, [], ◌∷◌, Option, Some, length, get_or, refl, sym, ap, ◌∙◌, subst, arith}
 use Rattle.std.proofs.lemmas.Bool.{true≢false}
 use Rattle.std.specs.Prelude.{None}
 use mathlib.Core.Option.{some, some-ne-none, some-injective}
 use lib.ListN.{get_elem?}
-use Rattle.std.specs.List.{flat_map}
 use Rattle.sock_words.specs.declared.plain.Plan.{Plan}
 use Rattle.sock_model.specs.Layout.{open_word}
-use Rattle.corr_core.specs.Word.{Parts, parts}
-use Rattle.corr_core.specs.Law.{Births, Stands, vacant, retired, claimed, opened, locked, leaving}
+use Rattle.corr_core.specs.Word.{Parts}
+use Rattle.corr_core.specs.Law.{Stands, vacant, retired, claimed, opened, locked, leaving}
 use Rattle.corr_core.specs.declared.marks.Plan.{Plan as IdPlan}
-use Rattle.id_rule.specs.Lawful.{local, tokens_in}
-use Rattle.sock_programs.specs.declared.task.Asked.{Asked}
+use Rattle.id_rule.specs.Lawful.{local}
 use Rattle.sock_programs.specs.Asides.{Nothing, Bytes, NoMore, AtEnd, Closed, Broken, call_id, id_slot, id_first}
-use Rattle.sock_programs.specs.Heads.{Head, Exit, Sought, First, Version, Posts, Unlocks, Decides, Locks, Joins, Opens, Reads, Discards}
+use Rattle.sock_programs.specs.Heads.{Head, Exit, Sought, First, Version, Locks, Joins, Opens, Reads, Discards}
 use Rattle.sock_programs.specs.Programs.{Program, Rest, Round}
-use Rattle.sock_programs.specs.Posts.{is_first, has_version, is_sought}
+use Rattle.sock_programs.specs.Posts.{is_first, is_sought}
 use Rattle.sock_programs.specs.Cores.{Core, SeatState}
 use Rattle.sock_programs.specs.Ticks.{Answer, Unasked, OfPut, OfReady, OfTake, waits_in, is_nothing}
 use Rattle.id_runs.specs.Held.{IdView, id_state}
 use Rattle.id_runs.specs.Goes.{IdGoesOn, SoundIds}
-use Rattle.owed_calls.specs.Owing.{Duty, Free, Owing, InList, DutyTo, Among}
+use Rattle.owed_calls.specs.Owing.{Free, Owing, InList, DutyTo, Among}
 use Rattle.owed_calls.specs.Owes.{OwesOn}
 use Rattle.owed_calls.specs.Sound.{id_word_of, Owed, by_seat, by_retry, by_reader, Failed, SoundOwing, AllRest, retry_tokens}
 use Rattle.owed_calls.specs.Settled.{IsAtRest, WaitsAside, WaitsForOpen, OpensKnown}

@@ -1,12 +1,10 @@
 -- What each seat owes as a run begins: nothing, and each link has its reader.
-use Rattle.std.proofs.Common.{◌≡◌, ℕ, zero, suc, ◌+◌, ◌-◌, ◌<◌, ◌≤◌, ◌⊎◌, inl, inr, ⊎_elim, Bool, true, false, List, [], ◌∷◌, ◌++◌, map, length, length-append, replicate, get_or, Option, Some, None, refl, sym, ap, ◌∙◌, subst, arith}
+use Rattle.std.proofs.Common.{◌≡◌, ℕ, zero, suc, ◌+◌, ◌-◌, ◌<◌, ◌≤◌, ◌⊎◌, inl, inr, ⊎_elim, Bool, false, List, [], ◌∷◌, ◌++◌, length, length-append, replicate, Option, Some, refl, sym, ap, ◌∙◌, subst, arith}
 use Rattle.std.proofs.lemmas.List.{length-map, length-replicate}
-use mathlib.Core.Option as core
 use mathlib.Core.Option.{none, some, some-ne-none, some-injective}
 use lib.ListN.{get_elem?}
 use Rattle.sock_words.specs.declared.plain.Plan.{Plan}
 use Rattle.sock_model.specs.declared.chain.Heading.{Heading}
-use Rattle.sock_model.specs.declared.home.Home.{Home}
 use Rattle.sock_model.specs.declared.home.Home.TheVariants.{Link, Message}
 use Rattle.corr_core.specs.declared.marks.Plan.{Plan as IdPlan}
 use Rattle.id_rule.specs.Lawful as ids
@@ -18,10 +16,9 @@ use Rattle.sock_programs.specs.Readers.{reader}
 use Rattle.sock_programs.specs.Cores.{Core, SeatState, waiting_at, resolved, next_step}
 use Rattle.sock_programs.specs.Scripts.{sizes_of, programs, new_links, opening_homes, opening_calls, beginning, readers_from, all_programs}
 use Rattle.sock_runs.proofs.Opening.{mapped}
-use Rattle.owed_calls.specs.Owing.{Duty, Free, Trying, Owing, with_keeps}
+use Rattle.owed_calls.specs.Owing.{Free, Trying, Owing, with_keeps}
 use Rattle.owed_calls.specs.Owes.{OwesOn}
 use Rattle.owed_calls.specs.Sound.{SoundOwing}
-use Rattle.owed_calls.specs.Lives.{id_of, life_of}
 use Rattle.owed_calls.proofs.Posts.{same_further}
 use Rattle.owed_calls.proofs.Opening.{begins_law}
 use Rattle.owed_calls.proofs.Clients.{client_goes, no_link}
@@ -126,21 +123,23 @@ module _ (life : ℕ → Option ℕ) where
     -- at the beginning of a run, whose ids are unused and which has enough lists of retries
     pub owing_begins : (p : Plan) (q : IdPlan) (clients : List (List Task)) (os : List ℕ) → length os ≡ many → length clients ≤ 32 → 32 + many ≤ q.seats → ids.Unused q (opening_calls q p.links).words
         → ((k s : ℕ) → life k ≡ Some s → k < many) → (us : List Owing) × SoundOwing q life calls (beginning p q (all_programs (programs (sizes_of p q) clients) (readers_from calls 0 os))) us
-    owing_begins p q clients os are few room unused alive = let xs : List Program = all_programs (programs (sizes_of p q) clients) (readers_from calls 0 os) in let made = collect xs Begun (each_begins p q clients os are few) in
-        (made.0, record {
-          each = made.1 ∙ sym (length-map xs (λ (program : Program). record { program = next_step (resolved [] program); hand = [] }));
-          law = begins_law q life calls start made.0 record {
-            words = unused;
-            room = (let e = made.1 in let l = length-replicate q.seats none_kept in omega (arith, e, l, many_programs, room));
-            bare = λ j u at. let b = back made.0 made.1 made.2 j u at in (b.1.duty, b.1.knows, b.1.dead);
-            waits = none_waits q.seats;
-            letters = no_letters p;
-            tied = λ j k ks u at e. (back made.0 made.1 made.2 j u at).1.tied k ks e;
-            readers = λ k s lives. let low = alive k s lives in let x = at_place xs (32 + k) (omega (arith, low, many_programs)) in let u = made.2 (32 + k) x.0 x.1 in let r = u.2.reads k refl in (32 + k, u.0, u.1, r.0, r.1);
-          };
-          seats = λ j seat u at_seat at. let a = mapped (λ (program : Program). record { program = next_step (resolved [] program); hand = [] }) xs j seat at_seat in let b = made.2 j a.0 a.1 in
-              subst (λ (s : SeatState). OwesOn life u s.program) a.2 (subst (λ w. OwesOn life w (next_step (resolved [] a.0))) (some-injective b.0 u (sym b.1 ∙ at)) b.2.goes);
-        })
+    owing_begins p q clients os are few room unused alive = let xs : List Program = all_programs (programs (sizes_of p q) clients) (readers_from calls 0 os) in let made = collect xs Begun (each_begins p q clients os are few) in (
+      made.0,
+      record {
+        each = made.1 ∙ sym (length-map xs (λ (program : Program). record { program = next_step (resolved [] program); hand = [] }));
+        law = begins_law q life calls start made.0 record {
+          words = unused;
+          room = (let e = made.1 in let l = length-replicate q.seats none_kept in omega (arith, e, l, many_programs, room));
+          bare = λ j u at. let b = back made.0 made.1 made.2 j u at in (b.1.duty, b.1.knows, b.1.dead);
+          waits = none_waits q.seats;
+          letters = no_letters p;
+          tied = λ j k ks u at e. (back made.0 made.1 made.2 j u at).1.tied k ks e;
+          readers = λ k s lives. let low = alive k s lives in let x = at_place xs (32 + k) (omega (arith, low, many_programs)) in let u = made.2 (32 + k) x.0 x.1 in let r = u.2.reads k refl in (32 + k, u.0, u.1, r.0, r.1);
+        };
+        seats = λ j seat u at_seat at. let a = mapped (λ (program : Program). record { program = next_step (resolved [] program); hand = [] }) xs j seat at_seat in let b = made.2 j a.0 a.1 in
+            subst (λ (s : SeatState). OwesOn life u s.program) a.2 (subst (λ w. OwesOn life w (next_step (resolved [] a.0))) (some-injective b.0 u (sym b.1 ∙ at)) b.2.goes);
+      },
+    )
       where
         start : Core
         start = beginning p q (all_programs (programs (sizes_of p q) clients) (readers_from calls 0 os))

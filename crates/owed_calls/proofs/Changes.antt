@@ -99,7 +99,7 @@ module _ (q : IdPlan) (life : ℕ → Option ℕ) (calls : List ℕ) (c c' : Cor
       token_back : (id n j : ℕ) → Token c' (set us i v) id n j → ((j ≡ i) × Among id n (duty_tokens v.duty)) ⊎ ((Token c us id n j) × ((j ≡ i → Among id n (retry_tokens (waiting_at c.calls.waiting i)))))
       token_back id n j t = ⊎_elim
           (λ b. ⊎_elim (λ a. inl (b.0, a)) (λ a. inr ((i_token id n j b.0 a), (λ e. subst (λ x. Among id n (retry_tokens (waiting_at c.calls.waiting x))) b.0 a)))
-              (among_split id n (duty_tokens v.duty) (retry_tokens (waiting_at c.calls.waiting j)) (subst (λ (w : Owing). Among id n (duty_tokens w.duty ++ retry_tokens (waiting_at c.calls.waiting j))) (sym b.1) (there t.2))))
+          (among_split id n (duty_tokens v.duty) (retry_tokens (waiting_at c.calls.waiting j)) (subst (λ (w : Owing). Among id n (duty_tokens w.duty ++ retry_tokens (waiting_at c.calls.waiting j))) (sym b.1) (there t.2))))
           (λ b. inr ((t.0, b.1, there t.2), (λ e. absurd (b.0 e))))
           (at_set us i j v t.0 t.1)
         where

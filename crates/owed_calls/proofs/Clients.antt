@@ -51,23 +51,44 @@ module _ (life : ℕ → Option ℕ) where
 
   open_goes : (u : Owing) (more i o name k : ℕ) (next : Program) → Goes u next → Goes u (open_from more i o name k next)
   open_goes u zero i o name k next goes = (tt, λ _ _. (u, stays refl, (tt, λ _ _. (u, stays refl, (tt, λ _ _. (u, stays refl, (tt, λ _ _. (u, stays refl, goes))))))))
-  open_goes u (suc more) i o name k next goes = (tt, λ found _. (u, stays refl, way life u (found == 0) (make_socket o name k i next) (open_from more (i + 1) o name k next)
-      (λ _. (tt, λ _ _. (u, stays refl, (tt, λ _ _. (u, stays refl, (tt, λ _ _. (u, stays refl, (tt, λ _ _. (u, stays refl, (tt, λ _ _. (u, stays refl, (tt, λ _ _. (u, stays refl, goes)))))))))))))
-      (λ _. open_goes u more (i + 1) o name k next goes)))
+  open_goes u (suc more) i o name k next goes = (
+    tt,
+    λ found _. (
+      u,
+      stays refl,
+      way life u (found == 0) (make_socket o name k i next) (open_from more (i + 1) o name k next)
+          (λ _. (tt, λ _ _. (u, stays refl, (tt, λ _ _. (u, stays refl, (tt, λ _ _. (u, stays refl, (tt, λ _ _. (u, stays refl, (tt, λ _ _. (u, stays refl, (tt, λ _ _. (u, stays refl, goes)))))))))))))
+          (λ _. open_goes u more (i + 1) o name k next goes),
+    ),
+  )
 
   reach_goes : (u : Owing) (name : ℕ) (unopened : Program) (held : ℕ → Program) (gone : ℕ → Program) → Goes u unopened → ((id : ℕ) → Goes u (held id)) → ((found : ℕ) → Goes u (gone found)) → Goes u (reach name unopened held gone)
   reach_goes u name unopened held gone none_ one others = (tt, λ word _. (u, stays refl, way life u (word == 0) unopened (address (word - 1) (held (word - 1)) gone) (λ _. none_) (λ _. address_goes life u (word - 1) (held (word - 1)) gone (one (word - 1)) others)))
 
   claim_goes : (u : Owing) (more r o id : ℕ) (bytes : List ℕ) (next : Program) → IsClient u → Clearly next → Goes u (claim_from more r o id bytes next)
   claim_goes u zero r o id bytes next c goes = release_goes life u (socket_id_slot id) (λ _. Say o outcomes.Full next) (λ _. goes u c)
-  claim_goes u (suc more) r o id bytes next c goes = (tt, λ found _. (u, stays refl, way life u (found % 2 == 0) (accept id r (found / 2) (heading_of o) bytes (release (socket_id_slot id) (λ _. Sent o next))) (claim_from more (r + 1) o id bytes next)
-      (λ _. accept_goes life u id r (found / 2) (heading_of o) bytes (release (socket_id_slot id) (λ _. Sent o next)) c.0 (λ z. absurd (z refl)) (λ v f. release_goes life v (socket_id_slot id) (λ _. Sent o next) (λ _. goes v (client_on u v c f))))
-      (λ _. claim_goes u more (r + 1) o id bytes next c goes)))
+  claim_goes u (suc more) r o id bytes next c goes = (
+    tt,
+    λ found _. (
+      u,
+      stays refl,
+      way life u (found % 2 == 0) (accept id r (found / 2) (heading_of o) bytes (release (socket_id_slot id) (λ _. Sent o next))) (claim_from more (r + 1) o id bytes next)
+          (λ _. accept_goes life u id r (found / 2) (heading_of o) bytes (release (socket_id_slot id) (λ _. Sent o next)) c.0 (λ z. absurd (z refl)) (λ v f. release_goes life v (socket_id_slot id) (λ _. Sent o next) (λ _. goes v (client_on u v c f))))
+          (λ _. claim_goes u more (r + 1) o id bytes next c goes),
+    ),
+  )
 
   send_goes : (u : Owing) (requests o name : ℕ) (bytes : List ℕ) (next : Program) → IsClient u → Clearly next → Goes u (send requests o name bytes next)
   send_goes u requests o name bytes next c goes = reach_goes u name (Say o outcomes.Unopened next) (λ id. start requests o id bytes next) (λ found. Say o (outcomes.Gone (record { 0 = found })) next) (goes u c)
-      (λ id. (tt, λ found _. (u, stays refl, way life u (vref_version found % 2 == 0) (claim_from requests 0 o id bytes next) (release (socket_id_slot id) (λ _. Say o (outcomes.Gone (record { 0 = found })) next))
-      (λ _. claim_goes u requests 0 o id bytes next c goes) (λ _. release_goes life u (socket_id_slot id) (λ _. Say o (outcomes.Gone (record { 0 = found })) next) (λ _. goes u c)))))
+      (λ id. (
+        tt,
+        λ found _. (
+          u,
+          stays refl,
+          way life u (vref_version found % 2 == 0) (claim_from requests 0 o id bytes next) (release (socket_id_slot id) (λ _. Say o (outcomes.Gone (record { 0 = found })) next))
+              (λ _. claim_goes u requests 0 o id bytes next c goes) (λ _. release_goes life u (socket_id_slot id) (λ _. Say o (outcomes.Gone (record { 0 = found })) next) (λ _. goes u c)),
+        ),
+      ))
       (λ found. goes u c)
 
   fail_goes : (u : Owing) (o name code : ℕ) (next : Program) → Goes u next → Goes u (fail o name code next)
@@ -122,9 +143,16 @@ module _ (life : ℕ → Option ℕ) where
   -- seat 0 at the ending
   pub ending_goes : (os : List ℕ) (u : Owing) → IsCalm u → u.keeps ≡ false → Goes u (ending_of os)
   ending_goes [] u c keeps = (c.0, c.1, keeps, no_link life u c.2)
-  ending_goes (o ∷ os) u c keeps = let goes = ending_goes os u c keeps in (tt, λ word _. (u, stays refl, way life u (word == 0) (ending_of os) (cond (word == NO_SOCKET) (ending_of os)
-      (address (word - 1) (set_failed (word - 1) 1014 (λ _. release (socket_id_slot (word - 1)) (λ _. ending_of os))) (λ _. ending_of os)))
-      (λ _. goes)
-      (λ _. way life u (word == NO_SOCKET) (ending_of os) (address (word - 1) (set_failed (word - 1) 1014 (λ _. release (socket_id_slot (word - 1)) (λ _. ending_of os))) (λ _. ending_of os))
-      (λ _. goes) (λ _. address_goes life u (word - 1) (set_failed (word - 1) 1014 (λ _. release (socket_id_slot (word - 1)) (λ _. ending_of os))) (λ _. ending_of os)
-      (set_failed_goes life u (word - 1) 1014 (λ _. release (socket_id_slot (word - 1)) (λ _. ending_of os)) (λ _. release_goes life u (socket_id_slot (word - 1)) (λ _. ending_of os) (λ _. goes))) (λ _. goes)))))
+  ending_goes (o ∷ os) u c keeps = let goes = ending_goes os u c keeps in (
+    tt,
+    λ word _. (
+      u,
+      stays refl,
+      way life u (word == 0) (ending_of os) (cond (word == NO_SOCKET) (ending_of os)
+          (address (word - 1) (set_failed (word - 1) 1014 (λ _. release (socket_id_slot (word - 1)) (λ _. ending_of os))) (λ _. ending_of os)))
+          (λ _. goes)
+          (λ _. way life u (word == NO_SOCKET) (ending_of os) (address (word - 1) (set_failed (word - 1) 1014 (λ _. release (socket_id_slot (word - 1)) (λ _. ending_of os))) (λ _. ending_of os))
+          (λ _. goes) (λ _. address_goes life u (word - 1) (set_failed (word - 1) 1014 (λ _. release (socket_id_slot (word - 1)) (λ _. ending_of os))) (λ _. ending_of os)
+          (set_failed_goes life u (word - 1) 1014 (λ _. release (socket_id_slot (word - 1)) (λ _. ending_of os)) (λ _. release_goes life u (socket_id_slot (word - 1)) (λ _. ending_of os) (λ _. goes))) (λ _. goes))),
+    ),
+  )

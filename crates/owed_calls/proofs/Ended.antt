@@ -1,19 +1,17 @@
 -- Where a run with calls has ended no seat has a step left, and the life of each link is past.
-use Rattle.std.proofs.Common.{◌≡◌, ◌≢◌, ℕ, zero, suc, ◌+◌, ◌-◌, ◌<◌, ◌≤◌, ◌⊎◌, inl, inr, ⊎_elim, ◌==◌, Bool, true, false, cond, ne_eqb, List, [], ◌∷◌, length, get_or, Option, Some, None, refl, sym, ap, ◌∙◌, subst, arith}
+use Rattle.std.proofs.Common.{◌≡◌, ◌≢◌, ℕ, zero, suc, ◌+◌, ◌-◌, ◌<◌, ◌⊎◌, inl, inr, ⊎_elim, Bool, true, false, cond, ne_eqb, List, [], ◌∷◌, length, get_or, Option, Some, None, refl, sym, ap, ◌∙◌, subst, arith}
 use Rattle.std.specs.Prelude.{Option as Maybe}
-use mathlib.Core.Option as core
-use mathlib.Core.Option.{none, some, some-ne-none, some-injective}
+use mathlib.Core.Option.{none, some, some-ne-none}
 use lib.ListN.{get_elem?}
-use Rattle.sock_words.specs.Words.{socket_id_version, socket_id_slot, vref_version}
 use Rattle.sock_words.specs.declared.kind.Kind.{Kind}
 use Rattle.sock_words.specs.declared.plain.Plan.{Plan}
 use Rattle.sock_model.specs.declared.view.View.{View}
-use Rattle.sock_model.specs.Layout.{ref_word, open_word}
+use Rattle.sock_model.specs.Layout.{open_word}
 use Rattle.corr_core.specs.declared.marks.Plan.{Plan as IdPlan}
-use Rattle.sock_programs.specs.Heads.{Head, Exit, Opens}
-use Rattle.sock_programs.specs.Programs.{Program, Rest, Round, NO_SOCKET}
-use Rattle.sock_programs.specs.Cores.{Core, SeatState}
-use Rattle.sock_programs.specs.Ticks.{Moment, IsPrompt, waits, waits_at, waits_in}
+use Rattle.sock_programs.specs.Heads.{Opens}
+use Rattle.sock_programs.specs.Programs.{Round, NO_SOCKET}
+use Rattle.sock_programs.specs.Cores.{Core}
+use Rattle.sock_programs.specs.Ticks.{Moment, IsPrompt, waits, waits_at}
 use Rattle.sock_programs.specs.Runs.{kind_in, IsSettled}
 use Rattle.sock_programs.specs.Runs as runs
 use Rattle.sock_runs.specs.Sound.{Sound, IsAhead}

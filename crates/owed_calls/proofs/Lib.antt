@@ -27,3 +27,5 @@ pub mod OwingRuns
 pub mod OwingEnding
 pub mod Beginning
 pub mod Ended
+pub mod WholeOwing
+pub mod Owed

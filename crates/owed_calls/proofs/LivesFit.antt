@@ -1,10 +1,9 @@
 -- What the rule of the sockets says of a step is what those who owe rely on, where the ids of the links' lives are as the words of their `open`s say.
-use Rattle.std.proofs.Common.{◌≡◌, ◌≢◌, ℕ, ◌+◌, ◌%◌, ◌<◌, ◌≤◌, Bool, true, false, take, get_or, List, [], ◌∷◌, ◌++◌, Option, Some, refl, sym, ap, ◌∙◌, subst, arith}
+use Rattle.std.proofs.Common.{◌≡◌, ◌≢◌, ℕ, ◌%◌, ◌<◌, Bool, true, false, take, get_or, List, [], ◌∷◌, ◌++◌, Option, Some, sym, ap, ◌∙◌, subst, arith}
 use mathlib.Core.Option.{some, some-ne-none, some-injective}
 use lib.ListN.{get_elem?}
 use Rattle.sock_words.specs.Words.{socket_id_version, socket_id_slot, vref_version}
 use Rattle.sock_words.specs.declared.plain.Plan.{Plan}
-use Rattle.sock_model.specs.declared.chain.Heading.{Heading}
 use Rattle.sock_model.specs.declared.chain.Right.{Right}
 use Rattle.sock_model.specs.declared.home.Home.{Home}
 use Rattle.sock_model.specs.declared.home.Home.TheVariants.{Link, Message}
@@ -14,13 +13,12 @@ use Rattle.sock_model.specs.Layout.{ref_word}
 use Rattle.sock_model.specs.Weights.{is_born}
 use Rattle.sock_model.specs.Slots.{count}
 use Rattle.sock_model.specs.References.{slot_facts}
-use Rattle.sock_programs.specs.Calls.{Call, AddRef, SetOdd, LookWord}
-use Rattle.sock_programs.specs.Cores.{Core, SeatState, word_of, word_after, found_at, words_after, first_of}
+use Rattle.sock_programs.specs.Calls.{Call, SetOdd}
+use Rattle.sock_programs.specs.Cores.{Core, word_of, word_after, found_at, words_after, first_of}
 use Rattle.sock_runs.specs.May.{May}
 use Rattle.sock_runs.specs.Sound.{state, Sound, AreInHand, AreHeld, IsOfRight}
 use Rattle.sock_runs.proofs.Versions.{versions_on, odd_past, other_past, look_holds}
 use Rattle.owed_calls.specs.Owing.{Owing, FindsCall}
-use Rattle.owed_calls.specs.Sound.{FailedIn}
 use Rattle.owed_calls.specs.Fits.{CallFits, HoldsNoMessage}
 
 -- what a seat has in hand are links

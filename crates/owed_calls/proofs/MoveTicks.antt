@@ -1,5 +1,5 @@
 -- A tick in which a message or a link is taken out of its home, or the link in hand is asked, keeps what is owed.
-use Rattle.std.proofs.Common.{◌≡◌, ◌≢◌, ℕ, zero, suc, ◌+◌, ◌<◌, ◌≤◌, ◌⊎◌, inl, inr, ⊎_elim, Bool, true, false, List, [], ◌∷◌, ◌++◌, Option, Some, None, length, set, refl, sym, ap, ◌∙◌, subst, arith}
+use Rattle.std.proofs.Common.{◌≡◌, ℕ, inl, inr, ⊎_elim, List, Option, set, refl, sym, subst}
 use Rattle.std.specs.List.{AllByRecursion}
 use mathlib.Core.Logic.{dite}
 use native.Mathlib.Decide.{ℕ_discrete}
@@ -13,12 +13,12 @@ use Rattle.sock_model.specs.declared.home.Home.TheVariants.{Message}
 use Rattle.corr_core.specs.declared.marks.Plan.{Plan as IdPlan}
 use Rattle.sock_programs.specs.Programs.{Program, TakeMessage}
 use Rattle.sock_programs.specs.Cores.{Core, SeatState, waiting_at, with_seat}
-use Rattle.owed_calls.specs.Owing.{Owing, Among, DutyTo, duty_tokens, with_known, KnowsOwner}
-use Rattle.owed_calls.specs.Owes.{Further, OwesOn}
-use Rattle.owed_calls.specs.Sound.{Past, Stored, OwingLaw, SoundOwing, by_seat, by_reader}
+use Rattle.owed_calls.specs.Owing.{Owing, with_known}
+use Rattle.owed_calls.specs.Owes.{OwesOn}
+use Rattle.owed_calls.specs.Sound.{Past, SoundOwing, by_seat, by_reader}
 use Rattle.owed_calls.proofs.Posts.{same_further, known_further}
 use Rattle.owed_calls.proofs.Changes.{set_at, past_on}
-use Rattle.owed_calls.proofs.Quiet.{Marks, marked, same_marks, stored_with}
+use Rattle.owed_calls.proofs.Quiet.{marked, same_marks, stored_with}
 use Rattle.owed_calls.proofs.Seats.{Few}
 use Rattle.owed_calls.proofs.Ticks.{After, follows}
 

@@ -1,5 +1,5 @@
 -- What is owed as the ending begins, and once the run is ending.
-use Rattle.std.proofs.Common.{◌≡◌, ◌≢◌, ℕ, ◌+◌, ◌<◌, ◌≤◌, ⊎_elim, inl, inr, true, false, List, [], ◌∷◌, Option, set, refl, sym, ap, ◌∙◌, subst, arith}
+use Rattle.std.proofs.Common.{◌≡◌, ℕ, List, [], ◌∷◌, Option, refl, sym, subst, arith}
 use Rattle.std.specs.List.{AllByRecursion}
 use mathlib.Core.Option.{some}
 use lib.ListN.{get_elem?}
@@ -8,13 +8,13 @@ use Rattle.corr_core.specs.declared.marks.Plan.{Plan as IdPlan}
 use Rattle.sock_programs.specs.Heads.{Retry}
 use Rattle.sock_programs.specs.Programs.{Rest}
 use Rattle.sock_programs.specs.Clients.{ending_of}
-use Rattle.sock_programs.specs.Cores.{Core, SeatState, waiting_at, with_seat}
+use Rattle.sock_programs.specs.Cores.{Core, SeatState, with_seat}
 use Rattle.sock_programs.specs.Scripts.{is_ending}
 use Rattle.owed_calls.specs.Owing.{Duty, Free, Trying, Linked, Looking, Telling, Owing}
 use Rattle.owed_calls.specs.Owes.{OwesOn}
 use Rattle.owed_calls.specs.Sound.{Owed, by_seat, by_retry, by_reader, Stored, OwingLaw, SoundOwing}
 use Rattle.owed_calls.proofs.Seats.{Few}
-use Rattle.owed_calls.proofs.Ticks.{After, follows}
+use Rattle.owed_calls.proofs.Ticks.{follows}
 use Rattle.owed_calls.proofs.Clients.{ending_goes}
 
 module _ (q : IdPlan) (life : ℕ → Option ℕ) (calls : List ℕ) (c : Core) (us : List Owing) (sound : SoundOwing q life calls c us) where

@@ -1,8 +1,7 @@
 -- Over a run what is owed is kept, where the lives of links are those that the words of their `open`s name at its end.
-use Rattle.std.proofs.Common.{◌≡◌, ◌≢◌, ℕ, zero, suc, ◌+◌, ◌-◌, ◌*◌, ◌/◌, ◌%◌, ◌<◌, ◌≤◌, ◌==◌, Bool, true, false, cond, eqb, eqb-true, eq-eqb, ne_eqb, List, [], ◌∷◌, length, get_or, Option, Some, None, refl, sym, ap, ◌∙◌, subst, arith}
+use Rattle.std.proofs.Common.{◌≡◌, ◌≢◌, ℕ, zero, suc, ◌+◌, ◌-◌, ◌<◌, ◌≤◌, ◌==◌, Bool, true, false, cond, eqb, eq-eqb, ne_eqb, List, [], ◌∷◌, length, get_or, Option, Some, None, refl, sym, ap, ◌∙◌, subst, arith}
 use Rattle.std.proofs.lemmas.Bool.{true≢false}
-use mathlib.Core.Option as core
-use mathlib.Core.Option.{none, some, some-ne-none, some-injective}
+use mathlib.Core.Option.{none, some, some-ne-none}
 use lib.ListN.{get_elem?}
 use Rattle.sock_words.specs.Words.{socket_id, socket_id_version, socket_id_slot}
 use Rattle.sock_words.specs.declared.plain.Plan.{Plan}
@@ -14,7 +13,6 @@ use Rattle.sock_model.specs.References.{slot_facts}
 use Rattle.corr_core.specs.declared.marks.Plan.{Plan as IdPlan}
 use Rattle.sock_programs.specs.Calls.{Call, SetOdd, FindLink, LoadOpen}
 use Rattle.sock_programs.specs.Asides.{Step, Found, StoreAt, TakeBytes}
-use Rattle.sock_programs.specs.Heads.{Head, Exit}
 use Rattle.sock_programs.specs.Programs.{Program, Do, Say, Sent, Rest, TakeMessage, TakeHome, PutHome, PutBytes, AskReady, Write, Aside, Round, Keep, Retries, NO_SOCKET}
 use Rattle.sock_programs.specs.Cores.{Core, SeatState, word_of, found_at}
 use Rattle.sock_programs.specs.Ticks.{Answer, Moment, ticked, run, AreAnswered}
@@ -39,7 +37,7 @@ use Rattle.id_runs.specs.Goes.{SoundIds}
 use Rattle.id_runs.specs.Held.{IdView}
 use Rattle.owed_calls.specs.Owing.{Owing, FindsCall, IsLifeOf}
 use Rattle.owed_calls.specs.Sound.{SoundOwing}
-use Rattle.owed_calls.specs.Fits.{StepFits, IsFittingOwing}
+use Rattle.owed_calls.specs.Fits.{StepFits}
 use Rattle.owed_calls.specs.Lives.{id_of, life_of, OthersFit, IsSaying, AreSaying}
 use Rattle.owed_calls.proofs.LivesFit.{holds_links, lives_fit}
 use Rattle.owed_calls.proofs.OwingTicks.{owing_ticks}

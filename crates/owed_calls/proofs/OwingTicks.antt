@@ -1,10 +1,9 @@
 -- A tick of any seat keeps what is owed, where both tables, the script and the links say what they should.
-use Rattle.std.proofs.Common.{◌≡◌, ◌≢◌, ℕ, zero, suc, ◌+◌, ◌-◌, ◌*◌, ◌<◌, ◌≤◌, ◌⊎◌, inl, inr, ⊎_elim, Bool, true, false, cond, eqb, List, [], ◌∷◌, ◌++◌, Some, None, length, set, get_or, get_or-set_other, refl, sym, ap, ◌∙◌, subst, arith}
+use Rattle.std.proofs.Common.{◌≡◌, ◌≢◌, ℕ, zero, suc, ◌<◌, ◌≤◌, inl, inr, ⊎_elim, Bool, true, false, List, [], ◌∷◌, ◌++◌, Some, length, set, get_or, get_or-set_other, refl, sym, ap, ◌∙◌, subst, arith}
 use Rattle.std.specs.Prelude.{Option as Maybe}
 use Rattle.std.specs.List.{AllByRecursion}
 use mathlib.Core.Logic.{dite}
 use native.Mathlib.Decide.{ℕ_discrete}
-use mathlib.Core.Option as core
 use mathlib.Core.Option.{Option, none, some, some-ne-none, some-injective}
 use lib.ListN.{get_elem?}
 use Rattle.atomic_table.proofs.Lists.{at_set}
@@ -19,16 +18,16 @@ use Rattle.sock_model.specs.Reads.{letter_of, shown, message, link_home}
 use Rattle.corr_core.specs.Word.{parts}
 use Rattle.corr_core.specs.declared.marks.Plan.{Plan as IdPlan}
 use Rattle.id_rule.specs.Lawful as ids
-use Rattle.sock_programs.specs.Calls.{Call, ClaimSlot, GiveBirth, AddRef, SubRef, SetOdd, Recycle, FreeSlot, StoreLink, LoadLink, ResetHead, WipeCode, StoreCode, StoreName, LoadName, StoreOpen, LoadOpen, TakeLink, FinishLink, PutLink, LookWord, FindLink, LoadCode, ClaimRequest, PutMessage, Unconnect, SwapHead, Connect, EmptyHead, ReadNext, TurnNext, FreeRequest, StorePlace, DropPlace}
+use Rattle.sock_programs.specs.Calls.{Call, TakeLink, PutLink, PutMessage}
 use Rattle.sock_programs.specs.Asides.{Step, Found, ClaimId, PutCall, MakeId, StoreCall, LoadCall, StoreAt, LoadAt, LoadIdWord, LockId, PostId, UnlockId, EndId, FreeId, TakeCall, TakeBytes, Taking, Bytes, Nothing, NoMore, AtEnd, Closed, Broken, id_slot}
 use Rattle.sock_programs.specs.Programs.{Program, Do, Say, Sent, Rest, TakeMessage, TakeHome, PutHome, PutBytes, AskReady, Write, Aside, Round, Keep, Retries}
 use Rattle.sock_programs.specs.Posts.{advance_of}
 use Rattle.sock_programs.specs.Sends.{block}
 use Rattle.sock_programs.specs.Rounds.{round}
-use Rattle.sock_programs.specs.Cores.{Calls, Core, SeatState, word_of, word_after, found_at, words_after, homes_after, lies_at, first_of, others_of, link_place, waiting_at, with_seat, stepped}
+use Rattle.sock_programs.specs.Cores.{Calls, Core, SeatState, homes_after, lies_at, first_of, others_of, link_place, waiting_at, with_seat, stepped}
 use Rattle.sock_programs.specs.Beside.{taking_in, at_last, more_given, found_in, calls_after}
 use Rattle.sock_programs.specs.Ticks.{Answer, Unasked, OfPut, OfReady, OfTake, Moment, fed, with_places, onto_first, taken, with_message, with_link, with_put, with_ready, with_found, step_with, tick_with, ticked}
-use Rattle.id_runs.specs.Held.{IdView, id_state, MayId}
+use Rattle.id_runs.specs.Held.{IdView, MayId}
 use Rattle.id_runs.specs.Goes.{FindsId, IdGoesOn, SoundIds}
 use Rattle.id_runs.specs.Goes as goes
 use Rattle.id_runs.proofs.Steps.{finds_ids}
@@ -38,12 +37,12 @@ use Rattle.owed_calls.specs.Owing.{Owing, FindsUnlock, MayOwe, Linked, takes, cl
 use Rattle.owed_calls.specs.Owes.{OwesOn}
 use Rattle.owed_calls.specs.Sound.{id_word_of, at_of, Past, Failed, OwingLaw, SoundOwing}
 use Rattle.owed_calls.specs.Fits.{CallFits, HoldsNoMessage, StepFits, IsFittingOwing}
-use Rattle.owed_calls.proofs.Quiet.{SockFits, Marks, marked, same_marks, dead_marks}
+use Rattle.owed_calls.proofs.Quiet.{marked, dead_marks}
 use Rattle.owed_calls.proofs.Seats.{Few}
-use Rattle.owed_calls.proofs.Ticks.{After, follows, call_ticks}
+use Rattle.owed_calls.proofs.Ticks.{follows, call_ticks}
 use Rattle.owed_calls.proofs.Beside.{Behind}
 use Rattle.owed_calls.proofs.AsideTicks.{look_ticks, lock_ticks, post_ticks, unlock_ticks, end_ticks, make_ticks}
-use Rattle.owed_calls.proofs.AtTicks.{store_ticks, load_ticks, other_ticks}
+use Rattle.owed_calls.proofs.AtTicks.{store_ticks, load_ticks}
 use Rattle.owed_calls.proofs.MoveTicks.{same_ticks, out_of_home, message_ticks}
 use Rattle.owed_calls.proofs.Finds.{lock_finds, unlock_finds}
 use Rattle.owed_calls.proofs.IdFacts.{few_of, free_there, lock_low, lock_few, lock_two, lock_longer}
@@ -133,8 +132,12 @@ module _ (p : Plan) (q : IdPlan) (narrow : q.slots ≤ 65536) (same : q.operatio
 
     -- an attempt that is linked is of an id of the table
     linked_slot : (id n k : ℕ) → u.duty ≡ Linked id n k → id_slot id < q.slots
-    linked_slot id n k is = ⊎_elim (λ e. e.0) (λ a. a.0) (sound.law.current id n i (u, at, Rattle.owed_calls.proofs.Changes.among_left id n (Rattle.owed_calls.specs.Owing.duty_tokens u.duty) (Rattle.owed_calls.specs.Sound.retry_tokens (waiting_at c.calls.waiting i))
-        (subst (λ (d : Rattle.owed_calls.specs.Owing.Duty). Rattle.owed_calls.specs.Owing.Among id n (Rattle.owed_calls.specs.Owing.duty_tokens d)) (sym is) (inl (refl, refl)))))
+    linked_slot id n k is = ⊎_elim (λ e. e.0) (λ a. a.0) (sound.law.current id n i (
+      u,
+      at,
+      Rattle.owed_calls.proofs.Changes.among_left id n (Rattle.owed_calls.specs.Owing.duty_tokens u.duty) (Rattle.owed_calls.specs.Sound.retry_tokens (waiting_at c.calls.waiting i))
+          (subst (λ (d : Rattle.owed_calls.specs.Owing.Duty). Rattle.owed_calls.specs.Owing.Among id n (Rattle.owed_calls.specs.Owing.duty_tokens d)) (sym is) (inl (refl, refl))),
+    ))
 
     takes_some : (k room : ℕ) (next : Taking → Program) → OwesOn life u (Aside (TakeBytes k room) next) → (found : Taking) → (found ≡ Closed → Failed life c k) → Goes (TakeBytes k room) found next
     takes_some k room next g found closed = by_move (g.1 found tt).0 (g.1 found tt).1 (g.1 found tt).2
@@ -155,8 +158,8 @@ module _ (p : Plan) (q : IdPlan) (narrow : q.slots ≤ 65536) (same : q.operatio
         let two = lock_two q c.calls vs known.rule i w at_view real s may.0 m.0 m.1 m.2 m.3 m.4 m.5 m.6 from m.7 in
         let longer = lock_longer q c.calls vs known.rule i w at_view real s may.0 m.0 m.1 m.2 m.3 m.4 m.5 m.6 from m.7 finds in
         let f : FindsUnlock from advance (get_or c.calls.words (ids.id_word s) 0) = dite (ℕ_discrete (get_or c.calls.words (ids.id_word s) 0) from)
-            (λ hit. unlock_finds q life calls c us i u sound.law at s from may.0 (ap parts (sym hit)) low (omega (arith, two)) (get_or c.calls.words (ids.id_word s) 0) advance g.0 small (λ _. longer))
-            (λ miss. (low, small, (λ _. longer), λ hit. absurd (miss hit))) in
+        (λ hit. unlock_finds q life calls c us i u sound.law at s from may.0 (ap parts (sym hit)) low (omega (arith, two)) (get_or c.calls.words (ids.id_word s) 0) advance g.0 small (λ _. longer))
+        (λ miss. (low, small, (λ _. longer), λ hit. absurd (miss hit))) in
         unlock_ticks q narrow life calls c us sound i seat u at_seat at sized few s may.0 from advance next g f two
 
     on_ids : (step : Step) (next : Found step → Program) (answer : Answer) → OwesOn life u (Aside step next) → MayId p q w step → StepFits p q life calls c seat u answer (Aside step next)

@@ -166,10 +166,14 @@ module _ (life : ℕ → Option ℕ) where
   posts_goes u id e from k at goes = (
     subst (λ x. KnowsError u x e) (sym (ap (call_id (id_slot id)) at.2 ∙ id_back id)) at.1,
     λ found _. pick (owing.Posting (id_slot id) found (eqb found from) u) (eqb found from) (cond (eqb (parts from).state 1) (k (HasLocked (packed (posted_word (parts from) e)))) (k WasQueued)) (judged id e found k)
-        (λ hit. (freed u, posts_off (id_slot id) found (eqb found from) u id e refl at.0 (λ _. hit), way (freed u) (eqb (parts from).state 1) (k (HasLocked (packed (posted_word (parts from) e)))) (k WasQueued)
-        (λ one. let is : parts (packed (posted_word (parts from) e)) ≡ locked_word (parts from) = locked_parts from e (eqb-true (parts from).state 1 one) in
-        goes (HasLocked (packed (posted_word (parts from) e))) (freed u) (refl, ap (λ (w : Parts). w.first) is ∙ at.2, ap (is_stale e) is ∙ at.3))
-        (λ _. goes WasQueued (freed u) refl)))
+        (λ hit. (
+          freed u,
+          posts_off (id_slot id) found (eqb found from) u id e refl at.0 (λ _. hit),
+          way (freed u) (eqb (parts from).state 1) (k (HasLocked (packed (posted_word (parts from) e)))) (k WasQueued)
+              (λ one. let is : parts (packed (posted_word (parts from) e)) ≡ locked_word (parts from) = locked_parts from e (eqb-true (parts from).state 1 one) in
+              goes (HasLocked (packed (posted_word (parts from) e))) (freed u) (refl, ap (λ (w : Parts). w.first) is ∙ at.2, ap (is_stale e) is ∙ at.3))
+              (λ _. goes WasQueued (freed u) refl),
+        ))
         (λ _. judged_goes u id e found (eqb found from) k at.0 at.1 goes),
   )
 
@@ -193,9 +197,13 @@ module _ (life : ℕ → Option ℕ) where
 
   unlocked_goes : (u : Owing) (r : Retry) (k : Deciding → Program) → u.keeps ≡ true → ((exit : Deciding) (v : Owing) → Further (freed u) v → OwesOn life v (k exit)) → (exit : Unlocking) (v : Owing) → LeavesUnlocks life r.id r.attempt exit u v → OwesOn life v (unlocked r k exit)
   unlocked_goes u r k keeps goes (IsOpen w) v l = (l.0.duty, l.0.keeps ∙ keeps, l.1, goes GoesOn (freed v) (free_further (with_duty (Trying r.id r.attempt) u) v l.0))
-  unlocked_goes u r k keeps goes (HasNext w e) v l = (l.0.duty, l.0.keeps ∙ keeps, l.3,
-      decide_goes (freed v) r.id w e k tt (inl l.1, whole_fresh (eqb (attempt_of e) 7) (eqb (attempt_of e) (parts w).attempt) (eq-eqb (attempt_of e) 7 l.1), l.2) (inl (l.0.keeps ∙ keeps))
-      (λ exit x f. goes exit x (then_further (freed u) (freed v) x (free_further (with_duty (Trying r.id r.attempt) u) v l.0) f)))
+  unlocked_goes u r k keeps goes (HasNext w e) v l = (
+    l.0.duty,
+    l.0.keeps ∙ keeps,
+    l.3,
+    decide_goes (freed v) r.id w e k tt (inl l.1, whole_fresh (eqb (attempt_of e) 7) (eqb (attempt_of e) (parts w).attempt) (eq-eqb (attempt_of e) 7 l.1), l.2) (inl (l.0.keeps ∙ keeps))
+        (λ exit x f. goes exit x (then_further (freed u) (freed v) x (free_further (with_duty (Trying r.id r.attempt) u) v l.0) f)),
+  )
 
   pub decides_goes : (u : Owing) (id : ℕ) (asked : Asked) (w e : ℕ) (k : Deciding → Program) → AtOwe life u (Decides id asked w e) → ((exit : Deciding) (v : Owing) → Further (freed u) v → OwesOn life v (k exit)) → OwesOn life u (round (Decides id asked w e) k)
   decides_goes u id asked w e k at goes = way u (ends_call (parts w) e) (end_id (id_slot id) (k (HasEnded asked.operation (code_of e))))
@@ -203,9 +211,17 @@ module _ (life : ℕ → Option ℕ) where
       (λ _. ends_goes u id w e (k (HasEnded asked.operation (code_of e))) at.0 (goes (HasEnded asked.operation (code_of e)) (freed u) (same_further (freed u))))
       (λ on. let some_ : eqb (attempt_of e) 7 ≡ false = or_none (eqb (attempt_of e) 7) (is_final (code_of e) || eqb ((parts w).attempt + 2) (parts w).range) on in let free = free_duty some_ u.duty refl at.0 in
       let here : call_id (id_slot id) (parts w).first ≡ id = ap (call_id (id_slot id)) at.1.2 ∙ id_back id in
-      let now : attempt_of e ≡ (parts w).attempt = eqb-true (attempt_of e) (parts w).attempt (current_of (eqb (attempt_of e) 7) (eqb (attempt_of e) (parts w).attempt) at.1.1 some_) in
-      (tt, λ _ _. (u, refl, ((free, subst (λ x. Among x (parts w).attempt u.knows) (sym here) (subst (λ n. Among id n u.knows) now (known some_ at.1.0))),
-      λ exit v l. unlocked_goes u (record { id = id; attempt = (parts w).attempt + 1 }) k (keeps on at.2) goes exit v (subst (λ x. LeavesUnlocks life x ((parts w).attempt + 1) exit u v) here l)))))
+      let now : attempt_of e ≡ (parts w).attempt = eqb-true (attempt_of e) (parts w).attempt (current_of (eqb (attempt_of e) 7) (eqb (attempt_of e) (parts w).attempt) at.1.1 some_) in (
+        tt,
+        λ _ _. (
+          u,
+          refl,
+          (
+            (free, subst (λ x. Among x (parts w).attempt u.knows) (sym here) (subst (λ n. Among id n u.knows) now (known some_ at.1.0))),
+            λ exit v l. unlocked_goes u (record { id = id; attempt = (parts w).attempt + 1 }) k (keeps on at.2) goes exit v (subst (λ x. LeavesUnlocks life x ((parts w).attempt + 1) exit u v) here l),
+          ),
+        ),
+      ))
     where
       free_duty : eqb (attempt_of e) 7 ≡ false → (d : Duty) → u.duty ≡ d → MayDecide id w e d → u.duty ≡ Free
       free_duty some_ Free is m = is
@@ -267,10 +283,19 @@ module _ (life : ℕ → Option ℕ) where
 
   pub unlocks_goes : (u : Owing) (i from : ℕ) (advance : Bool) (k : Unlocking → Program) → AtOwe life u (Unlocks i from advance)
       → ((exit : Unlocking) (v : Owing) → LeavesUnlocks life (call_id i (parts from).first) ((parts from).attempt + advance_of advance) exit u v → OwesOn life v (k exit)) → OwesOn life u (round (Unlocks i from advance) k)
-  unlocks_goes u i from advance k at goes = (may_unlock u i from advance at, λ found f. pick (λ (v : Owing). v ≡ cond (eqb found from) (unlocked_by i from advance u) u) (eqb found from) (popped i (parts from).oldest after k) (Round (Unlocks i found advance) k)
-      (λ hit. (unlocked_by i from advance u, sym (ap (λ b. cond b (unlocked_by i from advance u) u) hit), pops f (eqb-true found from hit) (eqb (parts from).oldest 0) refl))
-      (λ miss. let same = f.2 (not_equal found from miss) in (u, sym (ap (λ b. cond b (unlocked_by i from advance u) u) miss), (at_found u i from found advance same.0 same.1 at,
-      λ exit v l. goes exit v (subst (λ x. LeavesUnlocks life (call_id i x) ((parts from).attempt + advance_of advance) exit u v) same.0 (subst (λ x. LeavesUnlocks life (call_id i (parts found).first) (x + advance_of advance) exit u v) same.1 l))))))
+  unlocks_goes u i from advance k at goes = (
+    may_unlock u i from advance at,
+    λ found f. pick (λ (v : Owing). v ≡ cond (eqb found from) (unlocked_by i from advance u) u) (eqb found from) (popped i (parts from).oldest after k) (Round (Unlocks i found advance) k)
+        (λ hit. (unlocked_by i from advance u, sym (ap (λ b. cond b (unlocked_by i from advance u) u) hit), pops f (eqb-true found from hit) (eqb (parts from).oldest 0) refl))
+        (λ miss. let same = f.2 (not_equal found from miss) in (
+          u,
+          sym (ap (λ b. cond b (unlocked_by i from advance u) u) miss),
+          (
+            at_found u i from found advance same.0 same.1 at,
+            λ exit v l. goes exit v (subst (λ x. LeavesUnlocks life (call_id i x) ((parts from).attempt + advance_of advance) exit u v) same.0 (subst (λ x. LeavesUnlocks life (call_id i (parts found).first) (x + advance_of advance) exit u v) same.1 l)),
+          ),
+        )),
+  )
     where
       after : ℕ
       after = packed (unlocked_word (parts from) (advance_of advance))
@@ -297,12 +322,13 @@ module _ (life : ℕ → Option ℕ) where
 
       again : (parts (packed (unlocked_word (parts from) (advance_of advance)))) ≡ unlocked_word (parts from) (advance_of advance) → OwesOn life (unlocked_by i from advance u) (Round (Unlocks i (packed (unlocked_word (parts from) (advance_of advance))) false) k)
       again is = let f : (parts (packed (unlocked_word (parts from) (advance_of advance)))).first ≡ (parts from).first = ap (λ (w : Parts). w.first) is in
-          let a : (parts (packed (unlocked_word (parts from) (advance_of advance)))).attempt ≡ (parts from).attempt + advance_of advance = ap (λ (w : Parts). w.attempt) is in
-          (further.duty ∙ ap (λ x. Trying (call_id i x) ((parts from).attempt + advance_of advance)) (sym f) ∙ ap (λ x. Trying (call_id i (parts (packed (unlocked_word (parts from) (advance_of advance)))).first) x) (sym a),
-          λ exit v l. goes exit v (further_unlocks (call_id i (parts from).first) ((parts from).attempt + advance_of advance) u (unlocked_by i from advance u) further exit v
-          (subst (λ x. LeavesUnlocks life (call_id i (parts from).first) x exit (unlocked_by i from advance u) v) (plus_none ((parts from).attempt + advance_of advance))
-          (subst (λ x. LeavesUnlocks life (call_id i x) ((parts from).attempt + advance_of advance + 0) exit (unlocked_by i from advance u) v) f
-          (subst (λ x. LeavesUnlocks life (call_id i (parts (packed (unlocked_word (parts from) (advance_of advance)))).first) (x + 0) exit (unlocked_by i from advance u) v) a l)))))
+          let a : (parts (packed (unlocked_word (parts from) (advance_of advance)))).attempt ≡ (parts from).attempt + advance_of advance = ap (λ (w : Parts). w.attempt) is in (
+            further.duty ∙ ap (λ x. Trying (call_id i x) ((parts from).attempt + advance_of advance)) (sym f) ∙ ap (λ x. Trying (call_id i (parts (packed (unlocked_word (parts from) (advance_of advance)))).first) x) (sym a),
+            λ exit v l. goes exit v (further_unlocks (call_id i (parts from).first) ((parts from).attempt + advance_of advance) u (unlocked_by i from advance u) further exit v
+                (subst (λ x. LeavesUnlocks life (call_id i (parts from).first) x exit (unlocked_by i from advance u) v) (plus_none ((parts from).attempt + advance_of advance))
+                (subst (λ x. LeavesUnlocks life (call_id i x) ((parts from).attempt + advance_of advance + 0) exit (unlocked_by i from advance u) v) f
+                (subst (λ x. LeavesUnlocks life (call_id i (parts (packed (unlocked_word (parts from) (advance_of advance)))).first) (x + 0) exit (unlocked_by i from advance u) v) a l)))),
+          )
         where
           plus_none : (m : ℕ) → m + 0 ≡ m
           plus_none m = omega arith
@@ -320,5 +346,9 @@ module _ (life : ℕ → Option ℕ) where
       pops f same true is = goes (IsOpen after) (unlocked_by i from advance u) (further, f.1)
       pops f same false is = way (unlocked_by i from advance u) (is_stale (parts from).oldest (parts after)) (Round (Unlocks i after false) k) (k (HasNext after (parts from).oldest))
           (λ _. again (word_after f.1))
-          (λ fresh. goes (HasNext after (parts from).oldest) (unlocked_by i from advance u) (further, next (subst (FindsUnlock from advance) same f) (not_equal (parts from).oldest 0 is) fresh,
-          ap (λ (w : Parts). w.first) (word_after f.1) ∙ sym (slot_first i (parts from).first f.0), f.1))
+          (λ fresh. goes (HasNext after (parts from).oldest) (unlocked_by i from advance u) (
+            further,
+            next (subst (FindsUnlock from advance) same f) (not_equal (parts from).oldest 0 is) fresh,
+            ap (λ (w : Parts). w.first) (word_after f.1) ∙ sym (slot_first i (parts from).first f.0),
+            f.1,
+          ))

@@ -102,11 +102,25 @@ module _ (life : ℕ → Option ℕ) where
 
   -- the life of its link is set failed, or isn't there any more
   fails_goes : (k s code : ℕ) (os : List ℕ) (u : Owing) (last : Program) → life k ≡ Some s → IsReading k os u → Later k os last → Goes u (address s (set_failed s code (λ _. release (socket_id_slot s) (λ _. last))) (λ _. last))
-  fails_goes k s code os u last has r goes = (tt, λ found _. pick life (CallMove life (AddRef s) found u) (eqb (vref_version found) (socket_id_version s)) (set_failed s code (λ _. release (socket_id_slot s) (λ _. last))) (release (socket_id_slot s) (λ _. last))
-      (λ _. (u, stays refl, (tt, λ word _. (with_dead u, fails k s refl r.link has refl, way life (with_dead u) (eqb (vref_version word % 2) 0)
-      (Do (StoreCode (socket_id_slot s) (socket_id_version s) code) (λ _. Do (SubRef (socket_id_slot s)) (λ _. release (socket_id_slot s) (λ _. last)))) (release (socket_id_slot s) (λ _. last))
-      (λ _. (tt, λ _ _. (with_dead u, stays refl, (tt, λ _ _. (with_dead u, stays refl, back))))) (λ _. back)))))
-      (λ other. (with_dead u, gone k s refl r.link has (not_equal (vref_version found) (socket_id_version s) other) refl, back)))
+  fails_goes k s code os u last has r goes = (
+    tt,
+    λ found _. pick life (CallMove life (AddRef s) found u) (eqb (vref_version found) (socket_id_version s)) (set_failed s code (λ _. release (socket_id_slot s) (λ _. last))) (release (socket_id_slot s) (λ _. last))
+        (λ _. (
+          u,
+          stays refl,
+          (
+            tt,
+            λ word _. (
+              with_dead u,
+              fails k s refl r.link has refl,
+              way life (with_dead u) (eqb (vref_version word % 2) 0)
+                  (Do (StoreCode (socket_id_slot s) (socket_id_version s) code) (λ _. Do (SubRef (socket_id_slot s)) (λ _. release (socket_id_slot s) (λ _. last)))) (release (socket_id_slot s) (λ _. last))
+                  (λ _. (tt, λ _ _. (with_dead u, stays refl, (tt, λ _ _. (with_dead u, stays refl, back))))) (λ _. back),
+            ),
+          ),
+        ))
+        (λ other. (with_dead u, gone k s refl r.link has (not_equal (vref_version found) (socket_id_version s) other) refl, back)),
+  )
     where
       back : Goes (with_dead u) (release (socket_id_slot s) (λ _. last))
       back = release_goes life (with_dead u) (socket_id_slot s) (λ _. last) (λ _. goes (with_dead u) (dead_past k os u r))

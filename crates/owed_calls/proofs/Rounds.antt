@@ -34,8 +34,12 @@ module _ (life : ℕ → Option ℕ) where
   locking_goes u i sought found won k may goes = let M : Owing → Type 0 = owing.Posting i found won u in
       pick life (owing.Posting i found won u) (not (is_sought sought (parts found))) (k (NotThere found)) (cond (eqb (parts found).state 1) (Round (Locks i sought (Some found)) k) (Round (Locks i sought None) k))
       (λ not_. (freed u, not_there i found won u sought may not_, goes (NotThere found) (freed u) refl))
-      (λ here. (u, owing.posts_on refl, way life u (eqb (parts found).state 1) (Round (Locks i sought (Some found)) k) (Round (Locks i sought None) k)
-      (λ one. ((may, (not_true (is_sought sought (parts found)) here, eqb-true (parts found).state 1 one)), goes)) (λ _. ((may, tt), goes))))
+      (λ here. (
+        u,
+        owing.posts_on refl,
+        way life u (eqb (parts found).state 1) (Round (Locks i sought (Some found)) k) (Round (Locks i sought None) k)
+            (λ one. ((may, (not_true (is_sought sought (parts found)) here, eqb-true (parts found).state 1 one)), goes)) (λ _. ((may, tt), goes)),
+      ))
 
   got_range : (u : Owing) (i from found : ℕ) (sought : Sought) → MaySeek i sought u.duty → is_sought sought (parts from) ≡ true → (parts from).state ≡ 1 → FindsOwe u (LockId i from) found → found ≡ from → FoundRange i (packed (posted_word (parts from) 0)) u.duty
   got_range u i from found sought may sought_ one f same = by_duty u.duty refl may
@@ -53,9 +57,12 @@ module _ (life : ℕ → Option ℕ) where
 
   locks_goes : (u : Owing) (i : ℕ) (sought : Sought) (from : Option ℕ) (k : Locking → Program) → AtOwe life u (Locks i sought from) → ((exit : Locking) (v : Owing) → LeavesLocks life i exit u v → OwesOn life v (k exit)) → OwesOn life u (round (Locks i sought from) k)
   locks_goes u i sought None k at goes = (tt, λ found f. locking_goes u i sought found false k at.0 goes)
-  locks_goes u i sought (Some from) k at goes = (tt, λ found f. pick life (owing.Posting i found false u) (eqb found from) (k (Has (packed (posted_word (parts from) 0)))) (locking i sought found k)
-      (λ hit. (u, owing.posts_on refl, goes (Has (packed (posted_word (parts from) 0))) u (refl, got_range u i from found sought at.0 at.1.0 at.1.1 f (eqb-true found from hit))))
-      (λ _. locking_goes u i sought found false k at.0 goes))
+  locks_goes u i sought (Some from) k at goes = (
+    tt,
+    λ found f. pick life (owing.Posting i found false u) (eqb found from) (k (Has (packed (posted_word (parts from) 0)))) (locking i sought found k)
+        (λ hit. (u, owing.posts_on refl, goes (Has (packed (posted_word (parts from) 0))) u (refl, got_range u i from found sought at.0 at.1.0 at.1.1 f (eqb-true found from hit))))
+        (λ _. locking_goes u i sought found false k at.0 goes),
+  )
 
   -- ## Waiting and reading
 
@@ -63,13 +70,19 @@ module _ (life : ℕ → Option ℕ) where
   joins_goes u id k at goes = (tt, λ found _. (u, owing.posts_on refl, way life u (is_first (id_first id) (parts found)) (Round (Joins id) k) (k found) (λ _. (at, goes)) (λ _. goes found u refl)))
 
   opens_goes : (u : Owing) (o : ℕ) (k : ℕ → Program) → AtOwe life u (Opens o) → ((exit : ℕ) (v : Owing) → LeavesOpens life exit u v → OwesOn life v (k exit)) → OwesOn life u (round (Opens o) k)
-  opens_goes u o k at goes = (tt, λ word f. pick life (owing.CallMove life (LoadOpen o) word u) (eqb word 0) (Round (Opens o) k) (k word)
-      (λ _. (u, owing.stays refl, (at, goes)))
-      (λ some_. named word (subst (λ (l : List ℕ). IsLifeOf life l word) at.0.1 (f (Rattle.owed_calls.proofs.Posts.not_equal word 0 some_))) (eqb word NO_SOCKET) refl))
+  opens_goes u o k at goes = (
+    tt,
+    λ word f. pick life (owing.CallMove life (LoadOpen o) word u) (eqb word 0) (Round (Opens o) k) (k word)
+        (λ _. (u, owing.stays refl, (at, goes)))
+        (λ some_. named word (subst (λ (l : List ℕ). IsLifeOf life l word) at.0.1 (f (Rattle.owed_calls.proofs.Posts.not_equal word 0 some_))) (eqb word NO_SOCKET) refl),
+  )
     where
       named : (word : ℕ) → life at.0.0 ≡ cond (eqb word NO_SOCKET) None (Some (word - 1)) → (b : Bool) → eqb word NO_SOCKET ≡ b → (v : Owing) × owing.CallMove life (LoadOpen o) word u v × OwesOn life v (k word)
-      named word is true nb = (with_left [] u, owing.unused at.0.0 o refl at.0.1 (is ∙ ap (λ b. cond b None (Some (word - 1))) nb) refl,
-          goes word (with_left [] u) ((λ l ls e. subst (λ x. life x ≡ cond (eqb word NO_SOCKET) None (Some (word - 1))) (head_of l ls e) is), sym (ap (λ b. cond b (with_left [] u) u) nb)))
+      named word is true nb = (
+        with_left [] u,
+        owing.unused at.0.0 o refl at.0.1 (is ∙ ap (λ b. cond b None (Some (word - 1))) nb) refl,
+        goes word (with_left [] u) ((λ l ls e. subst (λ x. life x ≡ cond (eqb word NO_SOCKET) None (Some (word - 1))) (head_of l ls e) is), sym (ap (λ b. cond b (with_left [] u) u) nb)),
+      )
         where
           head_of : (l : ℕ) (ls : List ℕ) → u.link ≡ l ∷ ls → at.0.0 ≡ l
           head_of l ls e = let z : at.0.0 ∷ [] ≡ l ∷ ls = sym at.0.1 ∙ e in cc
@@ -100,8 +113,12 @@ module _ (life : ℕ → Option ℕ) where
   EndsReading r u k = (exit : Ended) (v : Owing) → LeavesOwe life (Reads r) exit u v → OwesOn life v (k exit)
 
   took_goes : (u : Owing) (r : Reading) (k : Ended → Program) → AtOwe life u (Reads r) → EndsReading r u k → (t : Taking) → (v : Owing) × owing.Taken r.link t u v × OwesOn life v (took r k t)
-  took_goes u r k at goes (Bytes bytes) = let s = streams.stream (r.rest ++ bytes) in (u, owing.takes refl, responses_goes r.ids u s.frames r.kept (λ kept. read_on (record { ids = r.ids; link = r.link; id = r.id; rest = r.rest; total = r.total + length bytes; kept = kept }) (r.rest ++ bytes) s.ending k) at.0
-      (λ kept. by_ending (record { ids = r.ids; link = r.link; id = r.id; rest = r.rest; total = r.total + length bytes; kept = kept }) (r.rest ++ bytes) s.ending refl refl))
+  took_goes u r k at goes (Bytes bytes) = let s = streams.stream (r.rest ++ bytes) in (
+    u,
+    owing.takes refl,
+    responses_goes r.ids u s.frames r.kept (λ kept. read_on (record { ids = r.ids; link = r.link; id = r.id; rest = r.rest; total = r.total + length bytes; kept = kept }) (r.rest ++ bytes) s.ending k) at.0
+        (λ kept. by_ending (record { ids = r.ids; link = r.link; id = r.id; rest = r.rest; total = r.total + length bytes; kept = kept }) (r.rest ++ bytes) s.ending refl refl),
+  )
     where
       by_ending : (r' : Reading) (bytes : List ℕ) (s : streams.Ending) → r'.link ≡ r.link → r'.id ≡ r.id → OwesOn life u (read_on r' bytes s k)
       by_ending r' bytes (streams.Rest n) l i = let x : Reading = record r' { rest = last_of n bytes } in way life u (nat_lt r'.total LIMIT) (Round (Reads x) k) (k (how_ended 1014 false false x))

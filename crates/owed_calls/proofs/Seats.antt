@@ -127,9 +127,12 @@ module _ (q : IdPlan) (life : ℕ → Option ℕ) (calls : List ℕ) (c : Core) 
       (resolves next (ws ++ r ∷ []) (set us i (freed u)) (freed u) (keeps_it ws r us u law at g.0 g.1) (set_at us i u (freed u) at) g.3 (few_more ws r few g.2))
   resolves (Retries requests after) [] us u law at g few = twice us (with_keeps g.1 u) (still_waiting [] after) (next_step (resolved [] after))
       (resolves after [] (set us i (with_keeps g.1 u)) (with_keeps g.1 u) (flags_it g.1 [] us u law at g.0 (λ _. refl)) (set_at us i u (with_keeps g.1 u) at) (g.2 u (same_further u)) tt)
-  resolves (Retries requests after) (r ∷ ws) us u law at g few = let keeps : u.keeps ≡ true = some_kept r ws us u law at in (with_duty (Trying r.id r.attempt) u, takes_it r ws us u law at g.0 keeps,
-      retry_goes life (with_duty (Trying r.id r.attempt) u) requests r.id r.attempt (Retries requests after) refl keeps few.0
-      (λ v f. let a : Further u v = from_freed u v g.0 f in (a.duty ∙ g.0, g.1, λ w h. g.2 w (then_further u v w a h))))
+  resolves (Retries requests after) (r ∷ ws) us u law at g few = let keeps : u.keeps ≡ true = some_kept r ws us u law at in (
+    with_duty (Trying r.id r.attempt) u,
+    takes_it r ws us u law at g.0 keeps,
+    retry_goes life (with_duty (Trying r.id r.attempt) u) requests r.id r.attempt (Retries requests after) refl keeps few.0
+        (λ v f. let a : Further u v = from_freed u v g.0 f in (a.duty ∙ g.0, g.1, λ w h. g.2 w (then_further u v w a h))),
+  )
   resolves (Do call next) ws us u law at g few = as_it_is ws us u (Do call next) law at g
   resolves Rest ws us u law at g few = as_it_is ws us u Rest law at g
   resolves (TakeMessage r next) ws us u law at g few = as_it_is ws us u (TakeMessage r next) law at g

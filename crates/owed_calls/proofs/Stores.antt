@@ -79,9 +79,9 @@ module _ (q : IdPlan) (narrow : q.slots ≤ 65536) (life : ℕ → Option ℕ) (
         let some_ : at_of q c o ≢ 0 = λ z. not_none (id_first j) (id_slot j) l m (sym word ∙ z) in
         let same : j ≡ id = sym (id_of_at j l m slot lowl m8) ∙ ap (λ x. call_id (at_word_slot x) (at_word_first x)) (sym word) ∙ names some_ in
         let now : m ≡ n = ⊎_elim (λ e. absurd (let z = e.1 in let y = a.1 in let x : (id_word_of c (id_slot id)).first ≡ id_first id = ap (λ k. (id_word_of c (id_slot k)).first) (sym same) ∙ y ∙ ap id_first same in let w : ⊥ = omega (arith, z, x) in w))
-            (λ b. sym a.3 ∙ ap (λ k. (id_word_of c (id_slot k)).attempt) same ∙ b.3) (law.current id n i token) in
+        (λ b. sym a.3 ∙ ap (λ k. (id_word_of c (id_slot k)).attempt) same ∙ b.3) (law.current id n i token) in
         let p : Past us j m = subst (λ x. Past us x m) (ap (λ x. call_id (at_word_slot x) (at_word_first x)) word ∙ id_of_at j l m slot lowl m8)
-            (subst (λ x. Past us (call_id (at_word_slot (at_of q c o)) (at_word_first (at_of q c o))) x) (ap at_word_attempt word ∙ back_attempt (id_first j) (id_slot j) l m slot lowl m8) (law.ats o low some_)) in
+        (subst (λ x. Past us (call_id (at_word_slot (at_of q c o)) (at_word_first (at_of q c o))) x) (ap at_word_attempt word ∙ back_attempt (id_first j) (id_slot j) l m slot lowl m8) (law.ats o low some_)) in
         law.coming id n i token (subst (λ x. Past us x n) same (subst (λ x. Past us j x) now p))
 
     still_is : (j m : ℕ) → IsAt q Stored' j m → IsAt q c j m
@@ -104,8 +104,14 @@ module _ (q : IdPlan) (narrow : q.slots ≤ 65536) (life : ℕ → Option ℕ) (
     still_stored Free x = tt
     still_stored (Trying j m) x = tt
     still_stored (Linked j m l) x = tt
-    still_stored (Looking j m l r) x = (x.0, x.1, past_still j m x.2, λ a. dite (ℕ_discrete r o)
-        (λ here. absurd (no_other j m l (still_is j m a) (ap (at_of q c) (sym here) ∙ x.3 (still_is j m a)) x.4)) (λ ne. at_else r ne ∙ x.3 (still_is j m a)), x.4)
+    still_stored (Looking j m l r) x = (
+      x.0,
+      x.1,
+      past_still j m x.2,
+      λ a. dite (ℕ_discrete r o)
+          (λ here. absurd (no_other j m l (still_is j m a) (ap (at_of q c) (sym here) ∙ x.3 (still_is j m a)) x.4)) (λ ne. at_else r ne ∙ x.3 (still_is j m a)),
+      x.4,
+    )
     still_stored (Telling j m) x = tt
 
     pub stores_keep : id_slot id < q.slots → OwingLaw q life calls Stored' (set us i v)

@@ -35,27 +35,29 @@ module _ (q : IdPlan) (life : ℕ → Option ℕ) (calls : List ℕ) (c : Core) 
       let ss : List SeatState = set c.seats i seat' in
       let os : List (std.Option Outcome) = said (resolved (waiting_at a.waiting i) program) c.outcomes in
       let start : OwingLaw q life calls (record { words = ws; homes = hs; seats = ss; outcomes = os; calls = record a { waiting = set a.waiting i (waiting_at a.waiting i) } }) (set (set us i v) i v) =
-          rewaits q life calls B (set us i v) i v law at_v ss os (waiting_at a.waiting i) v record {
-            tokens = λ id n x. x;
-            distinct = law.distinct i v at_v;
-            duty = λ id n o. inl o;
-            retry = λ id n x. inr x;
-            knows = refl;
-            link = refl;
-            left = refl;
-            dead = refl;
-            own = law.stored i v at_v;
-            kept = λ k. law.kept i v at_v k;
-          } in
-      let r = resolves q life calls B i ss os program (waiting_at a.waiting i) (set us i v) v (subst (OwingLaw q life calls (record { words = ws; homes = hs; seats = ss; outcomes = os; calls = record a { waiting = set a.waiting i (waiting_at a.waiting i) } })) (set_twice us i v v) start) at_v g few in
-      (set (set us i v) i r.0, record {
-        each = length-set (set us i v) i r.0 ∙ length-set us i v ∙ sound.each ∙ sym (length-set c.seats i seat');
-        law = r.1;
-        seats = λ j s w at_s at_w. ⊎_elim
-            (λ b. ⊎_elim (λ d. subst (λ (x : SeatState). OwesOn life w x.program) b.1 (subst (λ (x : Owing). OwesOn life x (next_step (resolved (waiting_at a.waiting i) program))) d.1 r.2)) (λ d. absurd (d.0 b.0)) (at_set (set us i v) i j r.0 w at_w))
-            (λ b. ⊎_elim (λ d. absurd (b.0 d.0)) (λ d. ⊎_elim (λ e. absurd (b.0 e.0)) (λ e. sound.seats j s w b.1 e.1) (at_set us i j v w d.1)) (at_set (set us i v) i j r.0 w at_w))
-            (at_set c.seats i j seat' s at_s);
-      })
+      rewaits q life calls B (set us i v) i v law at_v ss os (waiting_at a.waiting i) v record {
+        tokens = λ id n x. x;
+        distinct = law.distinct i v at_v;
+        duty = λ id n o. inl o;
+        retry = λ id n x. inr x;
+        knows = refl;
+        link = refl;
+        left = refl;
+        dead = refl;
+        own = law.stored i v at_v;
+        kept = λ k. law.kept i v at_v k;
+      } in
+      let r = resolves q life calls B i ss os program (waiting_at a.waiting i) (set us i v) v (subst (OwingLaw q life calls (record { words = ws; homes = hs; seats = ss; outcomes = os; calls = record a { waiting = set a.waiting i (waiting_at a.waiting i) } })) (set_twice us i v v) start) at_v g few in (
+        set (set us i v) i r.0,
+        record {
+          each = length-set (set us i v) i r.0 ∙ length-set us i v ∙ sound.each ∙ sym (length-set c.seats i seat');
+          law = r.1;
+          seats = λ j s w at_s at_w. ⊎_elim
+              (λ b. ⊎_elim (λ d. subst (λ (x : SeatState). OwesOn life w x.program) b.1 (subst (λ (x : Owing). OwesOn life x (next_step (resolved (waiting_at a.waiting i) program))) d.1 r.2)) (λ d. absurd (d.0 b.0)) (at_set (set us i v) i j r.0 w at_w))
+              (λ b. ⊎_elim (λ d. absurd (b.0 d.0)) (λ d. ⊎_elim (λ e. absurd (b.0 e.0)) (λ e. sound.seats j s w b.1 e.1) (at_set us i j v w d.1)) (at_set (set us i v) i j r.0 w at_w))
+              (at_set c.seats i j seat' s at_s);
+        },
+      )
 
   -- a tick in which the seat makes a step on the sockets
   pub call_ticks : (p : Plan) (call : Call) (next : ℕ → Program) → OwesOn life u (Do call next) → FindsCall life u call (found_at c.words (word_of p call)) → AllByRecursion Few (waiting_at c.calls.waiting i)

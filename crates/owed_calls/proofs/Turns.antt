@@ -48,9 +48,11 @@ module _ (q : IdPlan) (narrow : q.slots ≤ 65536) (life : ℕ → Option ℕ) (
 
     pub new_tokens : (j m : ℕ) → Among j m (duty_tokens v.duty) → Among j m (duty_tokens u.duty) ⊎ (IsAt q (There x) j m × ((l : ℕ) → Token c us j m l → ⊥) × (Past us j m → ⊥))
     new_tokens j m a = let b : Among j m (duty_tokens (Trying (call_id s (id_word_of c s).first) n)) = subst (λ (d : Duty). Among j m (duty_tokens d)) duty a in
-        ⊎_elim (λ e. inr (subst (λ k. IsAt q (There x) k m) e.0 (subst (λ k. IsAt q (There x) (call_id s (id_word_of c s).first) k) e.1 is_at),
-        (λ l t. no_token l (subst (λ k. Token c us k n l) (sym e.0) (subst (λ k. Token c us j k l) (sym e.1) t))),
-        (λ p. no_past (subst (λ k. Past us k n) (sym e.0) (subst (λ k. Past us j k) (sym e.1) p))))) (λ z. absurd z) b
+        ⊎_elim (λ e. inr (
+          subst (λ k. IsAt q (There x) k m) e.0 (subst (λ k. IsAt q (There x) (call_id s (id_word_of c s).first) k) e.1 is_at),
+          (λ l t. no_token l (subst (λ k. Token c us k n l) (sym e.0) (subst (λ k. Token c us j k l) (sym e.1) t))),
+          (λ p. no_past (subst (λ k. Past us k n) (sym e.0) (subst (λ k. Past us j k) (sym e.1) p))),
+        )) (λ z. absurd z) b
 
     pub new_distinct : Distinct (duty_tokens v.duty ++ retry_tokens (waiting_at c.calls.waiting i))
     new_distinct = subst (λ (d : Duty). Distinct (duty_tokens d ++ retry_tokens (waiting_at c.calls.waiting i))) (sym duty)
@@ -228,25 +230,25 @@ module _ (q : IdPlan) (narrow : q.slots ≤ 65536) (life : ℕ → Option ℕ) (
 
     pub unlocks_keep : OwingLaw q life calls (There x) (set us i (unlocked_by s from advance u))
     unlocks_keep = let v : Owing = unlocked_by s from advance u in let r = error_rest (call_id s (parts from).first) (parts from).oldest base in let b = base_rest advance in let tok = v_tokens advance may (unlocked_by s from advance u) v_duty x_attempt in
-      worded q life calls c us i u law at (record c.calls { words = set c.calls.words (ids.id_word s) x }) refl ss os (unlocked_by s from advance u) s (parts x) record {
-        word = word_set q life calls c us i u law at sized ss os s inside x;
-        ats = ats_set q life calls c us i u law at sized ss os s inside x;
-        forward = inr (x_first, λ some_. (x_state, (let z = x_attempt in let y = ap (λ (y : Parts). y.attempt) is_from in omega (arith, z, y))));
-        tokens_on = λ j m l t e a. inr (x_first, x_state, tokens_on advance may x_attempt j m l t e a);
-        opens = λ j m e f st a. inr (subst (DutyTo j m) (sym v_duty) (sym (only_id j (parts from).first e (sym f ∙ x_first ∙ ap (λ (y : Parts). y.first) (sym is_from))), sym x_attempt ∙ a));
-        errors = λ j l e f st. subst (λ (y : Parts). ErrorPast (set us i (unlocked_by s from advance u)) j y.oldest × ErrorPast (set us i (unlocked_by s from advance u)) j y.second) (sym is)
-            ((λ some_. ⊎_elim (λ w. inl w) (λ p. inr (past_on q life calls c c us i u (unlocked_by s from advance u) law at v_knows j (attempt_of (parts from).second) p)) (second_past j l e f some_)), (λ some_. absurd (some_ refl)));
-        owes = λ j m l o o' d. absurd (nothing_open advance may j m o d);
-        knows = v_knows;
-        learns = λ j m a. ⊎_elim (λ k. inl (i, u, at, subst (Among j m) b.4 k)) (λ p. inl p) (error_learns (call_id s (parts from).first) (parts from).oldest base oldest_past j m a);
-        tokens = tok.0;
-        distinct = tok.1;
-        link = r.0 ∙ b.0;
-        left = r.1 ∙ b.1;
-        dead = r.2 ∙ b.2;
-        keeps = r.3 ∙ b.3;
-        own = subst (Stored q calls (There x) (set us i (unlocked_by s from advance u))) (sym v_duty) tt;
-      }
+        worded q life calls c us i u law at (record c.calls { words = set c.calls.words (ids.id_word s) x }) refl ss os (unlocked_by s from advance u) s (parts x) record {
+          word = word_set q life calls c us i u law at sized ss os s inside x;
+          ats = ats_set q life calls c us i u law at sized ss os s inside x;
+          forward = inr (x_first, λ some_. (x_state, (let z = x_attempt in let y = ap (λ (y : Parts). y.attempt) is_from in omega (arith, z, y))));
+          tokens_on = λ j m l t e a. inr (x_first, x_state, tokens_on advance may x_attempt j m l t e a);
+          opens = λ j m e f st a. inr (subst (DutyTo j m) (sym v_duty) (sym (only_id j (parts from).first e (sym f ∙ x_first ∙ ap (λ (y : Parts). y.first) (sym is_from))), sym x_attempt ∙ a));
+          errors = λ j l e f st. subst (λ (y : Parts). ErrorPast (set us i (unlocked_by s from advance u)) j y.oldest × ErrorPast (set us i (unlocked_by s from advance u)) j y.second) (sym is)
+              ((λ some_. ⊎_elim (λ w. inl w) (λ p. inr (past_on q life calls c c us i u (unlocked_by s from advance u) law at v_knows j (attempt_of (parts from).second) p)) (second_past j l e f some_)), (λ some_. absurd (some_ refl)));
+          owes = λ j m l o o' d. absurd (nothing_open advance may j m o d);
+          knows = v_knows;
+          learns = λ j m a. ⊎_elim (λ k. inl (i, u, at, subst (Among j m) b.4 k)) (λ p. inl p) (error_learns (call_id s (parts from).first) (parts from).oldest base oldest_past j m a);
+          tokens = tok.0;
+          distinct = tok.1;
+          link = r.0 ∙ b.0;
+          left = r.1 ∙ b.1;
+          dead = r.2 ∙ b.2;
+          keeps = r.3 ∙ b.3;
+          own = subst (Stored q calls (There x) (set us i (unlocked_by s from advance u))) (sym v_duty) tt;
+        }
       where
         v_knows : (j m : ℕ) → Among j m u.knows → Among j m (unlocked_by s from advance u).knows
         v_knows j m k = error_knows (call_id s (parts from).first) (parts from).oldest base j m (subst (Among j m) (sym (base_rest advance).4) k)

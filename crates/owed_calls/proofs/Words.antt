@@ -53,8 +53,11 @@ module _ (q : IdPlan) (life : ℕ → Option ℕ) (calls : List ℕ) (c : Core) 
 
     ended : (id : ℕ) → HasEnded q c id → HasEnded q Then id
     ended id e = ⊎_elim (λ same. (e.0, subst (λ (x : Parts). id_first id < x.first) (sym same) e.1))
-        (λ b. (e.0, subst (λ (x : Parts). id_first id < x.first) (sym b.1) (let low : id_first id < (id_word_of c s).first = subst (λ j. id_first id < (id_word_of c j).first) b.0 e.1 in
-        ⊎_elim (λ f. omega (arith, low, f)) (λ f. let z = f.0 in omega (arith, low, z)) m.forward))) (m.word (id_slot id) e.0)
+        (λ b. (
+          e.0,
+          subst (λ (x : Parts). id_first id < x.first) (sym b.1) (let low : id_first id < (id_word_of c s).first = subst (λ j. id_first id < (id_word_of c j).first) b.0 e.1 in
+              ⊎_elim (λ f. omega (arith, low, f)) (λ f. let z = f.0 in omega (arith, low, z)) m.forward),
+        )) (m.word (id_slot id) e.0)
 
     was : (id n : ℕ) → WasAt q c id n → HasEnded q Then id ⊎ WasAt q Then id n
     was id n x = ⊎_elim (λ same. inr (x.0, ap (λ (y : Parts). y.first) same ∙ x.1, subst (λ (y : Parts). 0 < y.state) (sym same) x.2, subst (λ (y : Parts). n ≤ y.attempt) (sym same) x.3))

@@ -1,5 +1,5 @@
 -- What the table of the sockets, the script and the answers of links say of a step, so that what is owed is kept.
-use Rattle.std.specs.Prelude.{ℕ, ◌≡◌, ◌≢◌, ◌%◌, ◌<◌, List, [], ◌∷◌, Option, Some}
+use Rattle.std.specs.Prelude.{ℕ, ◌≡◌, ◌≢◌, ◌%◌, List, [], ◌∷◌, Option, Some}
 use mathlib.Core.Option as core
 use lib.ListN.{get_elem?}
 use Rattle.sock_words.specs.declared.plain.Plan.{Plan}
@@ -9,7 +9,7 @@ use Rattle.sock_model.specs.declared.home.Home.{Home}
 use Rattle.sock_model.specs.declared.home.Home.TheVariants.{Message}
 use Rattle.corr_core.specs.declared.marks.Plan.{Plan as IdPlan}
 use Rattle.sock_programs.specs.Calls.{Call, AddRef, SetOdd, LookWord}
-use Rattle.sock_programs.specs.Asides.{StoreAt, TakeBytes, Closed, call_id, id_slot}
+use Rattle.sock_programs.specs.Asides.{StoreAt, TakeBytes, Closed, call_id}
 use Rattle.sock_programs.specs.Programs.{Program, Do, PutHome, Aside}
 use Rattle.sock_programs.specs.Cores.{Core, SeatState, word_of, word_after, found_at, words_after, first_of}
 use Rattle.sock_programs.specs.Ticks.{Answer, Moment, taken}

@@ -1,7 +1,7 @@
 -- Which notes of links a step makes: each stays, and a life's link is noted by its birth alone.
 use Rattle.std.proofs.Common.{◌≡◌, ℕ, ◌-◌, ◌+◌, ◌%◌, ◌<◌, ◌≤◌, ◌==◌, ◌⊎◌, inl, inr, cond, nat_lt, List, ◌∷◌, refl, sym, ap, arith}
 use mathlib.Core.Logic.{dite}
-use mathlib.Core.Option.{Option, some, none, some-ne-none}
+use mathlib.Core.Option.{none, some-ne-none}
 use native.Mathlib.Decide.{ℕ_discrete}
 use Rattle.sock_words.specs.Words.{socket_id_version, socket_id_slot, vref_version}
 use Rattle.sock_words.specs.declared.plain.Plan.{Plan}
@@ -140,7 +140,7 @@ module _ (p : Plan) (v : View) (found : ℕ) (hand : Hand) where
     pub birth_links : (i k : ℕ) (j : ℕ) → ((j ≡ i) × (h ≡ version_of found) × (l ≡ k)) ⊎ (marks_of (is_linked h l) j (row p (GiveBirth i k) found hand v) ≤ marks_of (is_linked h l) j v)
     birth_links i k j = let g : ℕ = version_of found in let left : List SlotMark = without_at i (is_stage 3 k) v.marks in
         let far : is_linked h l (Linked g k) ≡ 0 → marks_of (is_linked h l) j (row p (GiveBirth i k) found hand v) ≤ marks_of (is_linked h l) j v =
-            λ none_. plus i (Known g) (at i (Born g) ∷ at i (Linked g k) ∷ left) refl (plus i (Born g) (at i (Linked g k) ∷ left) refl (plus i (Linked g k) left none_ (minus i (is_stage 3 k)))) j in
+        λ none_. plus i (Known g) (at i (Born g) ∷ at i (Linked g k) ∷ left) refl (plus i (Born g) (at i (Linked g k) ∷ left) refl (plus i (Linked g k) left none_ (minus i (is_stage 3 k)))) j in
         dite (ℕ_discrete h g)
         (λ same. dite (ℕ_discrete l k)
         (λ is. dite (ℕ_discrete j i) (λ here. inl (here, same, is))

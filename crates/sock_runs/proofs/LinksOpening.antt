@@ -1,10 +1,9 @@
 -- Each client stores a life in the word of the `open` of its link, so each life of a run stands there from the beginning on; and a life's link stays noted.
-use Rattle.std.proofs.Common.{◌≡◌, ℕ, zero, suc, ◌+◌, ◌-◌, ◌<◌, ◌≤◌, ◌==◌, Bool, true, false, cond, List, [], ◌∷◌, ◌++◌, set, refl, sym, ap, ◌∙◌, subst, inl, inr, ⊎_elim, arith}
-use Rattle.std.proofs.lemmas.Bool.{true≢false}
+use Rattle.std.proofs.Common.{◌≡◌, ℕ, zero, suc, ◌+◌, ◌==◌, Bool, true, false, cond, List, [], ◌∷◌, ◌++◌, refl, sym, ap, ◌∙◌, subst, ⊎_elim, arith}
 use Rattle.std.specs.Prelude as std
 use Rattle.std.specs.Prelude.{None, Some, option_map}
 use Rattle.std.specs.List.{AllByRecursion, filter_map, cons_option}
-use mathlib.Core.Option.{none, some, some-injective, some-ne-none}
+use mathlib.Core.Option.{some, some-injective, some-ne-none}
 use lib.ListN.{get_elem?}
 use Rattle.sock_words.specs.Words.{socket_id_slot}
 use Rattle.sock_words.specs.declared.plain.Plan.{Plan}
@@ -20,7 +19,7 @@ use Rattle.sock_programs.specs.declared.task.Op.{Op}
 use Rattle.sock_programs.specs.declared.task.Op.TheVariants as ops
 use Rattle.sock_programs.specs.declared.task.Task.{Task}
 use Rattle.sock_programs.specs.declared.task.Sizes.{Sizes}
-use Rattle.sock_programs.specs.Programs.{Program, Rest, open_from, make_socket, no_socket}
+use Rattle.sock_programs.specs.Programs.{Program, Rest, open_from, make_socket}
 use Rattle.sock_programs.specs.Tasks.{Numbered, numbered_from, numbered, of_client, op_of, task_of, tasks, opens}
 use Rattle.sock_programs.specs.Clients.{HeldLife, held_under, without_name, give_back, drop_of, operation, client_from}
 use Rattle.sock_programs.specs.Readers.{reader}
@@ -28,7 +27,7 @@ use Rattle.sock_programs.specs.Cores.{SeatState, resolved, next_step}
 use Rattle.sock_programs.specs.Scripts.{sizes_of, beginning, programs, readers_from}
 use Rattle.sock_runs.proofs.Ends.{none_has}
 use Rattle.sock_runs.proofs.Through.{through_release, through_fail, through_hold, through_drop}
-use Rattle.sock_runs.proofs.ThroughSends.{through_send, through_end}
+use Rattle.sock_runs.proofs.ThroughSends.{through_send}
 use Rattle.sock_runs.proofs.ThroughCalls.{through_call, through_expire, through_join, through_reader, through_next}
 use Rattle.sock_runs.proofs.Opening.{mapped, appended}
 use Rattle.sock_runs.proofs.LinksRecorded.{Gives, gives_passes, gives_opens, gives_follow, Linked}

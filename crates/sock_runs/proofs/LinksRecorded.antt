@@ -1,5 +1,5 @@
 -- Over every run each life stands in the word of its own link's `open`, or is what its maker stores there next.
-use Rattle.std.proofs.Common.{◌≡◌, ◌≢◌, ℕ, ◌+◌, ◌<◌, ◌≤◌, ◌⊎◌, Bool, true, false, List, [], ◌∷◌, length, get_or, set, get_or-set_other, get_or-set_same, refl, sym, ap, ◌∙◌, subst, inl, inr, ⊎_elim, arith}
+use Rattle.std.proofs.Common.{◌≡◌, ◌≢◌, ℕ, ◌+◌, ◌<◌, ◌≤◌, ◌⊎◌, true, List, [], ◌∷◌, length, get_or, set, get_or-set_other, get_or-set_same, refl, sym, ap, ◌∙◌, subst, inl, inr, ⊎_elim, arith}
 use Rattle.std.proofs.lemmas.Bool.{true≢false}
 use mathlib.Core.Logic.{dite}
 use mathlib.Core.Option.{Option, some, none, some-injective, some-ne-none}
@@ -22,7 +22,7 @@ use Rattle.sock_model.specs.References.{slot_facts}
 use Rattle.sock_steps.proofs.Places.{counts}
 use Rattle.sock_programs.specs.Calls.{Call, GiveBirth, StoreOpen}
 use Rattle.sock_programs.specs.Asides.{Found}
-use Rattle.sock_programs.specs.Heads.{Exit, Retry}
+use Rattle.sock_programs.specs.Heads.{Exit}
 use Rattle.sock_programs.specs.Programs.{Program, Do, Say, Sent, Rest, TakeMessage, TakeHome, PutHome, PutBytes, AskReady, Write, Aside, Round, Keep, Retries}
 use Rattle.sock_programs.specs.Cores.{Calls, Core, SeatState, word_of, word_after, found_at, words_after, homes_after, hand_after, resolved, next_step, waiting_at, with_seat, stepped}
 use Rattle.sock_programs.specs.Ticks.{Moment, ticked, run, IsAnswered, AreAnswered}
@@ -196,12 +196,22 @@ module _ (p : Plan) (own : ℕ → ℕ → Type 0) (Q : ℕ → ℕ → Type 0) 
 
         settle : (k id : ℕ) → Stored p own c k id ⊎ Stores own c k id → Holds k id
         settle k id (inl y) = let far : y.operation ≢ o = (λ e. true≢false (sym (ap (r.left i) e ∙ left) ∙ r.once y.operation y.inside (λ z. let q : id + 1 ≡ 0 = sym y.word ∙ z in omega (arith, q)) i)) in
-            inl record { operation = y.operation; mine = y.mine; inside = y.inside; word = subst (λ z. get_or (words_after c.words (word_of p z) (word_after z (found_at c.words (word_of p z)))) (open_word p y.operation) 0 ≡ get_or c.words (open_word p y.operation) 0) (sym made)
-            (get_or-set_other c.words (open_word p o) (open_word p y.operation) x 0 (λ e. far (omega (arith, e)))) ∙ y.word }
+            inl record {
+              operation = y.operation;
+              mine = y.mine;
+              inside = y.inside;
+              word = subst (λ z. get_or (words_after c.words (word_of p z) (word_after z (found_at c.words (word_of p z)))) (open_word p y.operation) 0 ≡ get_or c.words (open_word p y.operation) 0) (sym made)
+                  (get_or-set_other c.words (open_word p o) (open_word p y.operation) x 0 (λ e. far (omega (arith, e)))) ∙ y.word;
+            }
         settle k id (inr y) = dite (ℕ_discrete y.place i)
             (λ e. let same : (o, x) ≡ (y.operation, id + 1) = some-injective (o, x) (y.operation, id + 1) (sym (ap stores made) ∙ its_next y.seat (y.operation, id + 1) (ap (get_elem? c.seats) (sym e) ∙ y.there) y.next) in
-            inl record { operation = o; mine = subst (own k) (ap (λ (z : ℕ × ℕ). z.0) (sym same)) y.mine; inside = fits; word = subst (λ z. get_or (words_after c.words (word_of p z) (word_after z (found_at c.words (word_of p z)))) (open_word p o) 0 ≡ x) (sym made)
-            (get_or-set_same c.words (open_word p o) x 0 (let f = fits in omega (arith, f, sized))) ∙ ap (λ (z : ℕ × ℕ). z.1) same })
+            inl record {
+              operation = o;
+              mine = subst (own k) (ap (λ (z : ℕ × ℕ). z.0) (sym same)) y.mine;
+              inside = fits;
+              word = subst (λ z. get_or (words_after c.words (word_of p z) (word_after z (found_at c.words (word_of p z)))) (open_word p o) 0 ≡ x) (sym made)
+                  (get_or-set_same c.words (open_word p o) x 0 (let f = fits in omega (arith, f, sized))) ∙ ap (λ (z : ℕ × ℕ). z.1) same;
+            })
             (λ far. inr (far_stores k id y far))
 
   -- a step that is none on a word of the sockets

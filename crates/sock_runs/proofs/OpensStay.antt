@@ -1,9 +1,9 @@
 -- The word of an `open` stays once it is stored; and how the seats of the readers begin.
-use Rattle.std.proofs.Common.{◌≡◌, ◌≢◌, ℕ, zero, suc, ◌+◌, ◌-◌, ◌<◌, ◌≤◌, inl, Bool, true, false, List, [], ◌∷◌, ◌++◌, length, replicate, get_or, set, get_or-set_other, refl, sym, ap, ◌∙◌, subst, arith}
+use Rattle.std.proofs.Common.{◌≡◌, ◌≢◌, ℕ, zero, suc, ◌+◌, ◌-◌, ◌<◌, ◌≤◌, inl, List, [], ◌∷◌, ◌++◌, length, replicate, get_or, get_or-set_other, refl, sym, ap, ◌∙◌, subst, arith}
 use Rattle.std.proofs.lemmas.Bool.{true≢false}
 use Rattle.std.proofs.lemmas.List.{length-replicate}
 use mathlib.Core.Logic.{dite}
-use mathlib.Core.Option.{none, some, some-injective, some-ne-none}
+use mathlib.Core.Option.{some, some-injective, some-ne-none}
 use native.Mathlib.Decide.{ℕ_discrete}
 use lib.ListN.{get_elem?}
 use Rattle.sock_words.specs.declared.plain.Plan.{Plan}
@@ -17,7 +17,7 @@ use Rattle.sock_programs.specs.Cores.{Core, SeatState, resolved, next_step, step
 use Rattle.sock_programs.specs.Ticks.{Moment, ticked, run, IsAnswered, AreAnswered}
 use Rattle.sock_programs.specs.Scripts.{beginning, readers_from, all_programs}
 use Rattle.sock_runs.specs.May.{May}
-use Rattle.sock_runs.specs.Sound.{Sound, first_step, IsFitting, AreFitting, views_after, views_along}
+use Rattle.sock_runs.specs.Sound.{Sound, first_step, IsFitting, AreFitting, views_after}
 use Rattle.sock_runs.proofs.Records.{Records, opens_same}
 use Rattle.sock_runs.proofs.Recorded.{Recorded, recorded_ticks}
 use Rattle.sock_runs.proofs.Through.{records_passes, records_opens, records_follow}

@@ -1,9 +1,9 @@
 -- The reader of a link waits for the word of its own `open`, and once that is stored it never loads one again.
-use Rattle.std.proofs.Common.{◌≡◌, ◌≢◌, ℕ, zero, suc, ◌+◌, ◌-◌, ◌<◌, ◌≤◌, ◌⊎◌, inl, inr, ⊎_elim, ◌==◌, Bool, true, false, cond, eqb, eqb-true, eq-eqb, nat_lt, List, [], ◌∷◌, ◌++◌, map, length, replicate, get_or, set, get_or-set_other, get_or-set_same, refl, sym, ap, ◌∙◌, subst, arith}
+use Rattle.std.proofs.Common.{◌≡◌, ◌≢◌, ℕ, ◌-◌, ◌<◌, ◌⊎◌, inl, inr, ⊎_elim, ◌==◌, Bool, true, false, cond, eq-eqb, nat_lt, List, [], ◌∷◌, length, get_or, set, get_or-set_other, get_or-set_same, refl, sym, ap, ◌∙◌, subst, arith}
 use Rattle.std.proofs.lemmas.Bool.{true≢false}
 use Rattle.std.specs.Prelude.{IsTrue}
 use mathlib.Core.Logic.{dite}
-use mathlib.Core.Option.{Option, some, none, some-injective, some-ne-none}
+use mathlib.Core.Option.{Option, some, none, some-ne-none}
 use native.Mathlib.Decide.{ℕ_discrete}
 use lib.ListN.{get_elem?}
 use Rattle.atomic_table.proofs.Lists.{at_set}
@@ -11,11 +11,9 @@ use Rattle.sock_words.specs.declared.plain.Plan.{Plan}
 use Rattle.sock_io.specs.declared.link.Put.{Put}
 use Rattle.sock_io.specs.declared.link.Ready.{Ready}
 use Rattle.sock_model.specs.declared.chain.Heading.{Heading}
-use Rattle.sock_model.specs.declared.chain.Right.{Right}
 use Rattle.sock_model.specs.declared.home.Home.{Home}
 use Rattle.sock_model.specs.declared.view.View.{View}
 use Rattle.sock_model.specs.Layout.{open_word}
-use Rattle.corr_core.specs.declared.marks.Plan.{Plan as IdPlan}
 use Rattle.sock_programs.specs.Calls.{Call, LoadOpen, StoreOpen}
 use Rattle.sock_programs.specs.Asides.{Found}
 use Rattle.sock_programs.specs.Heads.{Head, Exit, Opens, Reads}
@@ -23,11 +21,9 @@ use Rattle.sock_programs.specs.Programs.{Program, Do, Say, Sent, Rest, TakeMessa
 use Rattle.sock_programs.specs.Readers.{read, reader}
 use Rattle.sock_programs.specs.Cores.{Calls, Core, SeatState, word_of, word_after, found_at, words_after, hand_after, resolved, next_step, waiting_at, with_seat, stepped}
 use Rattle.sock_programs.specs.Ticks.{Moment, ticked, run, IsAnswered, AreAnswered}
-use Rattle.sock_programs.specs.Scripts.{beginning, readers_from, all_programs}
 use Rattle.sock_runs.specs.May.{May, Knows}
-use Rattle.sock_runs.specs.Sound.{Sound, first_step, IsFitting, AreFitting, views_after, views_along}
+use Rattle.sock_runs.specs.Sound.{Sound, first_step, IsFitting, AreFitting, views_after}
 use Rattle.sock_runs.proofs.Records.{stores, loads, awaits, opens_same}
-use Rattle.sock_runs.proofs.Notes.{bears}
 use Rattle.sock_runs.proofs.Through.{Passes, Follows, comes_follows}
 use Rattle.sock_runs.proofs.ThroughCalls.{through_reading, through_head, through_next}
 use Rattle.sock_runs.proofs.Cases.{ComesNext, tick_keeps_marks}
@@ -168,13 +164,17 @@ module _ (p : Plan) (calls : List ℕ) (j n o : ℕ) (inside : o < p.operations)
             by_word : (b : Bool) → (get_or c.words (open_word p o) 0 == 0) ≡ b → (next_step (resolved (waiting_at c.calls.waiting m.seat) (cond b (reader calls n o) (behind (get_or c.words (open_word p o) 0)))) ≡ reader calls n o)
                 ⊎ ((word' (LoadOpen o) ≢ 0) × NoOpens (next_step (resolved (waiting_at c.calls.waiting m.seat) (cond b (reader calls n o) (behind (get_or c.words (open_word p o) 0))))))
             by_word true e = inl refl
-            by_word false e = inr (stays_stored p c v o inside sound.lawful.references.sized (LoadOpen o) may (λ z. true≢false (sym (eq-eqb (get_or c.words (open_word p o) 0) 0 z) ∙ e)),
-                next_none (waiting_at c.calls.waiting m.seat) (behind (get_or c.words (open_word p o) 0)) (through_reading NoOpens no_opens_passes tt calls n (get_or c.words (open_word p o) 0)))
+            by_word false e = inr (
+              stays_stored p c v o inside sound.lawful.references.sized (LoadOpen o) may (λ z. true≢false (sym (eq-eqb (get_or c.words (open_word p o) 0) 0 z) ∙ e)),
+              next_none (waiting_at c.calls.waiting m.seat) (behind (get_or c.words (open_word p o) 0)) (through_reading NoOpens no_opens_passes tt calls n (get_or c.words (open_word p o) 0)),
+            )
 
         own : (seat.program ≡ reader calls n o) ⊎ ((get_or c.words (open_word p o) 0 ≢ 0) × NoOpens seat.program) → G call next
         own (inl e) = let x = load_is call next seat.program e is in subst (λ y. G y next) (sym x.0) (subst (λ f. G (LoadOpen o) f) (sym x.1) (loaded (subst (May p v) x.0 may)))
-        own (inr x) = inr (stays_stored p c v o inside sound.lawful.references.sized call may x.0,
-            next_none (waiting_at c.calls.waiting m.seat) (next (found_at c.words (word_of p call))) (behind_none call next (subst NoOpens is (first_none seat.program x.1)) (found_at c.words (word_of p call))))
+        own (inr x) = inr (
+          stays_stored p c v o inside sound.lawful.references.sized call may x.0,
+          next_none (waiting_at c.calls.waiting m.seat) (next (found_at c.words (word_of p call))) (behind_none call next (subst NoOpens is (first_none seat.program x.1)) (found_at c.words (word_of p call))),
+        )
 
     on_other : (seat : SeatState) (program : Program) (hand : List Home) (hs : List (Option Home)) (a : Calls) → get_elem? c.seats m.seat ≡ some seat → ComesNext p (first_step seat.program) program → AtReader p calls j n o (with_seat m.seat program hand c.words hs (record c { calls = a }))
     on_other seat program hand hs a at_seat comes s at = ⊎_elim

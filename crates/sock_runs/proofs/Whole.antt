@@ -14,7 +14,7 @@ use Rattle.sock_model.specs.declared.view.View.{View}
 use Rattle.sock_programs.specs.declared.task.Op.{Op}
 use Rattle.sock_programs.specs.declared.task.Task.{Task}
 use Rattle.sock_programs.specs.Tasks.{Numbered, numbered, of_client, op_of, task_of, tasks, opens, calls, plan_of, id_plan_of}
-use Rattle.sock_programs.specs.Programs.{Program, Rest}
+use Rattle.sock_programs.specs.Programs.{Rest}
 use Rattle.sock_programs.specs.Clients.{ending_of}
 use Rattle.sock_programs.specs.Cores.{Core}
 use Rattle.sock_programs.specs.Ticks.{Moment, quiet, run, AreAnswered}
@@ -191,17 +191,24 @@ module _ (script : List Item) (are : AreTasks (plan_of script) (all_tasks script
   pub ended_idle : IsAtRest core 0
   ended_idle = subst (λ c. IsAtRest c 0) (sym is.is_end) (run_rests p is.ended is.final 0 is.is_over)
 
-  recorded : Recorded p (IsListed script) rested (views_played script turns core is vs)
-  recorded = run_recorded p go (IsListed script) (set_up script is.setup) (views_along p (opened script) vs (replicate is.setup (quiet 0))) moments set_up_sound is.answered fitting.of_played
-      (run_recorded p go (IsListed script) (opened script) vs (replicate is.setup (quiet 0)) begins.sound set_up_answered fitting.of_setup
-      (let clients_first : List Program = programs (sizes_of (plan_of script) (id_plan_of script)) (all_tasks script) in
-      beginning_recorded p (all_tasks script) are (id_plan_of script) (replicate (32 - length (programs (sizes_of (plan_of script) (id_plan_of script)) (all_tasks script))) Rest ++ readers_from (calls script) 0 (opens script))
-      (others_still (32 - length (programs (sizes_of (plan_of script) (id_plan_of script)) (all_tasks script))) (calls script) (opens script) 0) (IsListed script) (own_listed script are) vs begins.blank))
+  -- ## What is recorded
 
-  recorded_closed : Recorded p (IsListed script) is.ended (views_closed script turns core is vs)
+  pub recorded_opened : Recorded p (IsListed script) (opened script) vs
+  recorded_opened = beginning_recorded p (all_tasks script) are (id_plan_of script) (replicate (32 - length (programs (sizes_of (plan_of script) (id_plan_of script)) (all_tasks script))) Rest ++ readers_from (calls script) 0 (opens script))
+      (others_still (32 - length (programs (sizes_of (plan_of script) (id_plan_of script)) (all_tasks script))) (calls script) (opens script) 0) (IsListed script) (own_listed script are) vs begins.blank
+
+  pub recorded_set_up : Recorded p (IsListed script) (set_up script is.setup) (views_along p (opened script) vs (replicate is.setup (quiet 0)))
+  recorded_set_up = run_recorded p go (IsListed script) (opened script) vs (replicate is.setup (quiet 0)) begins.sound set_up_answered fitting.of_setup recorded_opened
+
+  recorded : Recorded p (IsListed script) rested (views_played script turns core is vs)
+  recorded = run_recorded p go (IsListed script) (set_up script is.setup) (views_along p (opened script) vs (replicate is.setup (quiet 0))) moments set_up_sound is.answered fitting.of_played recorded_set_up
+
+  pub recorded_closing : Recorded p (IsListed script) closing (views_played script turns core is vs)
+  recorded_closing = recorded_ending p (opens script) (IsListed script) rested (views_played script turns core is vs) recorded (λ seat at. seat_rests rested rested_ahead 0 rested_idle seat at)
+
+  pub recorded_closed : Recorded p (IsListed script) is.ended (views_closed script turns core is vs)
   recorded_closed = subst (λ c. Recorded p (IsListed script) c (views_closed script turns core is vs)) (sym is.is_ended) (recorded_on p (IsListed script) closed (views_closed script turns core is vs)
-      (run_recorded p go (IsListed script) closing (views_played script turns core is vs) (replicate is.last (quiet 0)) closing_sound end_answered fitting.of_closing
-      (recorded_ending p (opens script) (IsListed script) rested (views_played script turns core is vs) recorded (λ seat at. seat_rests rested rested_ahead 0 rested_idle seat at))))
+      (run_recorded p go (IsListed script) closing (views_played script turns core is vs) (replicate is.last (quiet 0)) closing_sound end_answered fitting.of_closing recorded_closing))
 
   -- each life that was made stands in the word of an `open`
   pub recorded_end : Recorded p (IsListed script) core (views_ended script turns core is vs)
