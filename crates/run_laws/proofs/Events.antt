@@ -224,7 +224,7 @@ module _ (p : Plan) (c : Core) (views : List View) (stopped : ℕ → Bool) (m :
         may.1
 
     accept_both : (j own : ℕ) → May p v (SwapHead j own) → NeedsBoth p (broken_at c m) (world_of p c views stopped) (accept_event m.seat (found (SwapHead j own)) v.claims)
-    accept_both j own may = let x = may.1.0 in let holds = x.holds in let some_ = holds.held in subst (λ cs. NeedsBoth p (broken_at c m) (world_of p c views stopped) (accept_event m.seat (found (SwapHead j own)) cs)) (sym x.claims) (
+    accept_both j own may = let x = may.1 in let holds = x.holds in let some_ = holds.held in subst (λ cs. NeedsBoth p (broken_at c m) (world_of p c views stopped) (accept_event m.seat (found (SwapHead j own)) cs)) (sym x.claims) (
       life_at j x.life,
       has_link j x.life x.claim.link (holder_lives p (state c views) kept.sound.lawful.references m.seat v j x.life x.claim.link here x.holds).life,
       omega (arith, some_, own_holds views m.seat v here (life_at j x.life)),

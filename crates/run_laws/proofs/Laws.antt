@@ -76,7 +76,7 @@ some_step p v full i (SetOdd j) found may = some_if (eqb (vref_version found % 2
 some_step p v full i (Recycle j from) found may = some_if (eqb found from) (End (life_at j (vref_version from - 1))) Nothing tt tt
 some_step p v full i (LookWord id) found may = some_if (eqb (vref_version found % 2) 0) Nothing (stop_event v.rights) tt (some_stop v.rights)
 some_step p v full i (ClaimRequest id q) found may = some_if (eqb (found % 2) 0) (world.Claim q) Nothing tt tt
-some_step p v full i (SwapHead j own) found may = let x = may.1.0 in subst (λ cs. IsSome (accept_event i found cs)) (sym x.claims) (full x.claim [] x.claims x.is_filled)
+some_step p v full i (SwapHead j own) found may = let x = may.1 in subst (λ cs. IsSome (accept_event i found cs)) (sym x.claims) (full x.claim [] x.claims x.is_filled)
 some_step p v full i _ found may = tt
 
 some_put : (k : ℕ) (bytes : List ℕ) (answer : Put) → IsSome (put_event k bytes answer)

@@ -168,7 +168,7 @@ module _ (old fresh : List Event) (c : ℕ) (t : Task) (given : (i h k : ℕ) �
   pub ends_swap : (p : Plan) (v : View) (i own found : ℕ) (hand : Hand) (trace : List Entry) → IsReadied t trace → May p v (SwapHead i own) → AreClaims old trace v.claims → trace_of c t.number old ≡ trace
       → (before made : List chain.Entry) → v.lists ≡ made ∷ [] → EndsIn old c t before made (swapped trace)
       → (new : List chain.Entry) × ((row p (SwapHead i own) found hand v).lists ≡ new ∷ []) × EndsIn fresh c t before new true
-  ends_swap p v i own found hand trace ready may was is before made lists ends = let x = may.1.0 in let claim : Claim = x.claim in
+  ends_swap p v i own found hand trace ready may was is before made lists ends = let x = may.1 in let claim : Claim = x.claim in
       let l = swapped_lists p v i own found hand claim x.claims in let e : chain.Entry = entry_of claim l.0 in
       let first : swapped trace ≡ false = ap swapped ready.trace_is ∙ ready.first in
       let none_ : made ≡ before = subst (EndsIn old c t before made) first ends in
