@@ -8,5 +8,3 @@ pub mod Breaks
 pub mod InTime
 pub mod Full
 pub mod Events
-pub mod Begins
-pub mod Laws

@@ -1,4 +1,3 @@
 pub mod Late
 pub mod World
 pub mod Seen
-pub mod Laws

@@ -1,4 +1,1 @@
 pub mod Stories
-pub mod Explains
-pub mod Causes
-pub mod Kept
