@@ -13,6 +13,7 @@ use Rattle.sock_programs.specs.Tasks.{plan_of}
 use Rattle.sock_runs.specs.Sound.{views_along}
 use Rattle.run_laws.specs.World.{IsNew}
 use Rattle.run_laws.specs.Seen.{AreEvents, none_stopped, stopped_along, world_of}
+use Rattle.run_laws.specs.Happening.{Happen}
 use Rattle.run_laws.specs.Late.{PutsInTime}
 
 -- the views of all seats before the first tick
@@ -22,11 +23,6 @@ opened_views script = opening_views (plan_of script) (all_tasks script)
 -- the ticks of a run up to where no client has a step left: its setup, those of its schedule, and its rounds
 abbrev pub ticks_of : {script : List Item} {turns : List Turn} {end_ : Core} → IsRunOf script turns end_ → List Moment
 ticks_of r = replicate r.setup (quiet 0) ++ (r.scheduled ++ r.later)
-
--- these ticks, one after another: each is its event of the plain model or none, and before and behind each the laws of lives hold
-pub record Happen (p : Plan) (c : Core) (views : List View) (stopped : ℕ → Bool) (ticks : List Moment) : Type 0 where
-  pub events : AreEvents p c views stopped ticks
-  pub lives : (n : ℕ) → PlainLaw p.slots (plain (views_along p c views (take n ticks)))
 
 pub record KeepsLaws {script : List Item} {turns : List Turn} {end_ : Core} (r : IsRunOf script turns end_) : Type 0 where
   -- before the first tick nothing lives, and nothing was accepted, taken or stopped

@@ -8,3 +8,4 @@ pub mod Breaks
 pub mod InTime
 pub mod Full
 pub mod Events
+pub mod Keeps

@@ -1,3 +1,4 @@
 pub mod Late
 pub mod World
 pub mod Seen
+pub mod Happening

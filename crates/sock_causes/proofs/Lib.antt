@@ -3,3 +3,10 @@ pub mod Members
 pub mod Names
 pub mod Added
 pub mod Used
+pub mod Errors
+pub mod Pieces
+pub mod Sending
+pub mod Broken
+pub mod Calling
+pub mod Closings
+pub mod Clients

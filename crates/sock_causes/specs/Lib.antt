@@ -1,1 +1,3 @@
 pub mod Stories
+pub mod Explains
+pub mod Causes
