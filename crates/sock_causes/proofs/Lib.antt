@@ -10,3 +10,9 @@ pub mod Broken
 pub mod Calling
 pub mod Closings
 pub mod Clients
+pub mod Means
+pub mod Accepting
+pub mod Holding
+pub mod Seats
+pub mod Tasks
+pub mod Events

@@ -1,3 +1,4 @@
 pub mod Stories
 pub mod Explains
 pub mod Causes
+pub mod Kept
