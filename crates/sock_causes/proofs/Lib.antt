@@ -16,3 +16,5 @@ pub mod Holding
 pub mod Seats
 pub mod Tasks
 pub mod Events
+pub mod Cases
+pub mod AtWork

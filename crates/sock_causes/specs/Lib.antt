@@ -2,3 +2,4 @@ pub mod Stories
 pub mod Explains
 pub mod Causes
 pub mod Kept
+pub mod Losses
