@@ -18,3 +18,4 @@ pub mod Tasks
 pub mod Events
 pub mod Cases
 pub mod AtWork
+pub mod Ticks
