@@ -19,3 +19,9 @@ pub mod Events
 pub mod Cases
 pub mod AtWork
 pub mod Ticks
+pub mod Begin
+pub mod Runs
+pub mod Final
+pub mod Lives
+pub mod Fails
+pub mod Whys

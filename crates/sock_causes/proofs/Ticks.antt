@@ -240,7 +240,7 @@ asks_ready (Round head n) k next e = absurd (subst IsOfLoop e (loop_begins head 
 
 -- ## Calls at home
 
-abbrev AreSpoken : List (List Task) → Calls → Type 0
+abbrev pub AreSpoken : List (List Task) → Calls → Type 0
 AreSpoken clients a = (n : ℕ) (asked : Asked) → call_at (get_elem? a.homes n) ≡ some asked → IsSpoken clients asked.operation
 
 home_is : (x : Option (Option (std.Option Asked))) (asked : Asked) → call_at x ≡ some asked → x ≡ some (some (std.Some asked))
@@ -324,7 +324,8 @@ module _ (p : Plan) (clients : List (List Task)) (are : AreTasks p clients) (ove
       own = after_say p (IsSpoken clients) over es' broken' i tasks (sorted_of p clients are i tasks asks) (λ t m spoken. spoken i t (tasks, asks, m) refl) w way trace waits program c.outcomes done todo
           (all_of (λ (t : Task). t.number < length c.outcomes) todo (λ t m. let b = (all_in (TaskFits p) tasks t (fits_of p clients are i tasks asks) (subst (In t) (sym s.all) (undo_in done todo t m))).0 in omega (arith, story.sized, b))) s
 
-      reseated : Good p clients broken' es' → ((f : Mark → ℕ) → IsNote f → ((n : ℕ) → f (Failer n) ≡ 0) → (j : ℕ) → count f (slot_facts (state c vs) j) ≡ marked f j es → count f (slot_facts (state c' vs') j) ≡ marked f j es')
+      -- what has to be shown of it
+      pub reseated : Good p clients broken' es' → ((f : Mark → ℕ) → IsNote f → ((n : ℕ) → f (Failer n) ≡ 0) → (j : ℕ) → count f (slot_facts (state c vs) j) ≡ marked f j es → count f (slot_facts (state c' vs') j) ≡ marked f j es')
           → ((j : ℕ) → j < p.slots → (h : ℕ) → marked (is_failer h) j es' ≤ count (is_failer h) (slot_facts (state c' vs') j))
           → ((j : ℕ) → j < p.slots → (h : ℕ) → 0 < count (is_failer h) (slot_facts (state c' vs') j) → WasFailed broken' es' j h)
           → ((n : ℕ) → n < p.names → std.slice_index ws (name_word p n) ≡ last_name n es') → ((e : Event) → In e es' → StaysUsed p ws e.entry) → AreSpoken clients a → Story p clients over c' vs' es' broken'
@@ -350,7 +351,7 @@ module _ (p : Plan) (clients : List (List Task)) (are : AreTasks p clients) (ove
       }
 
     -- a move or a put of seat i, or a step aside
-    moved : (a : Calls) → AreSpoken clients a → (way : Way) (trace : List Entry) (done : List Done) (todo : List Task) (program next : Program) (hand : List Home) (hs : List (Option Home)) (rights : List Right) (broken' : List ℕ) → Within broken broken'
+    pub moved : (a : Calls) → AreSpoken clients a → (way : Way) (trace : List Entry) (done : List Done) (todo : List Task) (program next : Program) (hand : List Home) (hs : List (Option Home)) (rights : List Right) (broken' : List ℕ) → Within broken broken'
         → ExplainsBy p.slots p.requests (IsSpoken clients) way broken' done trace todo next
         → At es broken way trace done todo program v → Story p clients over (with_seat i next hand c.words hs (record c { calls = a })) (set vs i (with_rights v rights)) es broken'
     moved a spoken way trace done todo program next hand hs rights broken' within explains s = let w : View = with_rights v rights in
