@@ -1,5 +1,6 @@
 -- What a step makes of the claim and of the accepted messages of its seat.
 use Rattle.std.proofs.Common.{◌≡◌, ◌≢◌, ℕ, ◌+◌, ◌-◌, ◌%◌, Bool, true, false, cond, eq-eqb, nat_lt, List, [], ◌∷◌, ◌++◌, inr, sym, refl, ap, ◌∙◌, subst}
+use Rattle.std.specs.List.{AllByRecursion}
 use Rattle.std.proofs.lemmas.Bool.{true≢false}
 use Rattle.sock_words.specs.Words.{socket_id_version, socket_id_slot}
 use Rattle.sock_words.specs.declared.plain.Plan.{Plan}
@@ -168,12 +169,17 @@ call_append (x ∷ xs) e is = by_first (is_of_send x) (call_append xs e is)
     by_first true h = ap (λ l. x ∷ l) h
     by_first false h = h
 
+all_append : (P : chain.Entry → Type 0) (xs : List chain.Entry) (y : chain.Entry) → AllByRecursion P xs → P y → AllByRecursion P (xs ++ y ∷ [])
+all_append P [] y a b = (b, tt)
+all_append P (x ∷ xs) y a b = (a.0, all_append P xs y a.1 b)
+
 -- the exchange appends the message of a call
-pub beside_swap : (p : Plan) (calls : ℕ → Type 0) (es : List Event) (v : View) (i own found : ℕ) (hand : Hand) (trace : List Entry) → IsCallReadied calls trace → May p v (SwapHead i own) → AreClaims es trace v.claims
+pub beside_swap : (p : Plan) (calls : ℕ → Type 0) (es : List Event) (v : View) (i own found : ℕ) (hand : Hand) (trace : List Entry) (ready : IsCallReadied calls trace) → May p v (SwapHead i own) → AreClaims es trace v.claims
     → (made : List chain.Entry) → v.lists ≡ made ∷ [] → (new : List chain.Entry) × ((row p (SwapHead i own) found hand v).lists ≡ new ∷ []) × (of_sends new ≡ of_sends made)
+    × ((P : chain.Entry → Type 0) → ((e : chain.Entry) → e.heading ≡ ready.heading → P e) → AllByRecursion P made → AllByRecursion P new)
 beside_swap p calls es v i own found hand trace ready may was made lists = let x = may.1 in let claim : Claim = x.claim in let l = swapped_lists p v i own found hand claim x.claims in let e : chain.Entry = entry_of claim l.0 in
     let y = was.marked claim ready.id ready.request ready.found ready.words.1 ready.words.0 ready.heading ready.bytes ready.before x.claims ready.trace_is ready.free in
-    (made ++ e ∷ [], l.1 ∙ ap (λ ls. more ls e) lists, call_append made e (ap (λ (h : Heading). no_parts h.parts) y.1 ∙ some_parts ready.heading.parts ready.parts))
+    (made ++ e ∷ [], l.1 ∙ ap (λ ls. more ls e) lists, call_append made e (ap (λ (h : Heading). no_parts h.parts) y.1 ∙ some_parts ready.heading.parts ready.parts), λ P one all. all_append P made e all (one e y.1))
   where
     no_parts : List ℕ → Bool
     no_parts [] = true
@@ -200,6 +206,7 @@ module _ (old fresh : List Event) (c : ℕ) (t : Task) (given : (i h k : ℕ) �
   pub ends_swap : (p : Plan) (v : View) (i own found : ℕ) (hand : Hand) (trace : List Entry) → IsReadied t trace → May p v (SwapHead i own) → AreClaims old trace v.claims → trace_of c t.number old ≡ trace
       → (before made : List chain.Entry) → v.lists ≡ made ∷ [] → EndsIn old c t before (of_sends made) (swapped trace)
       → (new : List chain.Entry) × ((row p (SwapHead i own) found hand v).lists ≡ new ∷ []) × EndsIn fresh c t before (of_sends new) true
+      × ((P : chain.Entry → Type 0) → ((e : chain.Entry) → is_of_send e ≡ true → P e) → AllByRecursion P made → AllByRecursion P new)
   ends_swap p v i own found hand trace ready may was is before made lists ends = let x = may.1 in let claim : Claim = x.claim in
       let l = swapped_lists p v i own found hand claim x.claims in let e : chain.Entry = entry_of claim l.0 in
       let first : swapped trace ≡ false = ap swapped ready.trace_is ∙ ready.first in
@@ -219,6 +226,7 @@ module _ (old fresh : List Event) (c : ℕ) (t : Task) (given : (i h k : ℕ) �
             link = given (socket_id_slot ready.id) (socket_id_version ready.id) claim.link y.0;
           },
         ),
+        λ P one all. all_append P made e all (one e (ap is_sent y.1)),
       )
     where
       is_sent : Heading → Bool

@@ -184,6 +184,7 @@ module _ (p : Plan) (calls : ℕ → Type 0) where
         made = [];
         lists = fresh;
         are_made = none_made seat t;
+        of_calls = tt;
       }))))
     where
       first_ : SeatStory p calls false [] [] (said (resolved [] r) os) seat t (next_step (resolved [] r)) v → SeatStory p calls false [] [] (fold Says os (r ∷ qs)) seat t (next_step (resolved [] r)) v
@@ -212,6 +213,7 @@ module _ (p : Plan) (calls : ℕ → Type 0) where
               made = a.made;
               lists = a.lists;
               are_made = a.are_made;
+              of_calls = a.of_calls;
             };
           }
 

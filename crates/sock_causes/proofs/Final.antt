@@ -25,7 +25,7 @@ use Rattle.sock_runs.specs.Sound.{state, Sound, AllRest}
 use Rattle.sock_causes.specs.Stories.{Entry, Event, In, trace_of}
 use Rattle.sock_causes.specs.Explains.{Way, Done, Explained, Tells, swapped}
 use Rattle.sock_causes.specs.Causes.{Asks}
-use Rattle.sock_causes.specs.Kept.{of_sends, IsSpoken, undo, AreKept, IsOfTask, EndsIn, AreMade, AreMadeNow, SeatAt, Story}
+use Rattle.sock_causes.specs.Kept.{IsOfCall, of_sends, IsSpoken, undo, AreKept, IsOfTask, EndsIn, AreMade, AreMadeNow, SeatAt, Story}
 use Rattle.sock_causes.proofs.Members.{all_in, all_of, get_within}
 use Rattle.sock_causes.proofs.Seats.{Less, undo_before, undo_done, from_undo}
 use Rattle.sock_causes.proofs.Tasks.{sorted_of, same_some}
@@ -194,7 +194,8 @@ module _ (p : Plan) (clients : List (List Task)) (are : AreTasks p clients) (ove
   pub record Sends (i : ℕ) (v : View) : Type 0 where
     pub made : List chain.Entry
     pub lists : v.lists ≡ made ∷ []
-    -- those of sends
+    -- those of calls, and those of sends
+    pub of_calls : AllByRecursion (IsOfCall (IsSpoken clients)) made
     pub are_messages : AllByRecursion (IsMessage i) (of_sends made)
     pub sorted : EachBefore Sooner (of_sends made)
     pub each_sent : (t : Task) → Asks clients i t → slice_get c.outcomes t.number ≡ Some None → (e : chain.Entry) × In e (of_sends made) × IsOfTask es i t e
@@ -209,6 +210,7 @@ module _ (p : Plan) (clients : List (List Task)) (are : AreTasks p clients) (ove
           let falls : Falls done = undo_falls done [] (subst (EachBefore Less) all (sorted_of p clients are i tasks e)) in record {
             made = s.made;
             lists = s.lists;
+            of_calls = s.of_calls;
             are_messages = all_of (IsMessage i) (of_sends s.made) (λ x m. let y = all_in (IsOfDone p.slots p.requests es c.outcomes i done) (of_sends s.made) x (made_done p.slots p.requests es c.outcomes i done (of_sends s.made) s.kept are_made) m in record {
               task = y.member.task;
               asks = (tasks, e, subst (In y.member.task) (sym all) (undo_done done [] y.member y.is));

@@ -25,3 +25,5 @@ pub mod Final
 pub mod Lives
 pub mod Fails
 pub mod Whys
+pub mod Delivered
+pub mod Senders

@@ -125,6 +125,7 @@ module _ (p : Plan) (clients : List (List Task)) (are : AreTasks p clients) wher
       made = y.at.made;
       lists = y.at.lists;
       are_made = y.at.are_made;
+      of_calls = y.at.of_calls;
     };
   }
 
@@ -173,6 +174,7 @@ module _ (p : Plan) (clients : List (List Task)) (are : AreTasks p clients) wher
     made = s.made;
     lists = s.lists;
     are_made = subst (λ ts. AreMadeNow es 0 y.done ts (of_sends s.made)) none_ s.are_made;
+    of_calls = s.of_calls;
   }
 
   -- seat 0 closes the sockets of these `open`s

@@ -20,7 +20,7 @@ use Rattle.sock_programs.specs.Cores.{resolved, said, next_step}
 use Rattle.sock_causes.specs.Stories.{Entry, Event, In, trace_of, trace_now, told_of, added_by, marked}
 use Rattle.sock_causes.specs.Explains.{Way, Own, Beside, Closing, IsTasked, IsBare, Done, Explained, Tells, Explains, ExplainsBy, holds, swapped, step}
 use Rattle.sock_causes.specs.Causes.{WasGiven}
-use Rattle.sock_causes.specs.Kept.{of_sends, IsTraced, undo, AreKept, IsOfTask, EndsIn, AreMade, AreMadeNow, AreClaims, SeatAt, SeatStory}
+use Rattle.sock_causes.specs.Kept.{IsOfCall, of_sends, IsTraced, undo, AreKept, IsOfTask, EndsIn, AreMade, AreMadeNow, AreClaims, SeatAt, SeatStory}
 use Rattle.sock_causes.proofs.Members.{all_in, all_of, get_set_here, get_set_else, trace_here, trace_client, trace_number, trace_none}
 use Rattle.sock_causes.proofs.Sending.{Within}
 use Rattle.sock_causes.proofs.Broken.{explains_more}
@@ -139,6 +139,7 @@ module _ (p : Plan) (calls : ℕ → Type 0) (over : Bool) (es : List Event) (br
           made = s.made;
           lists = s.lists;
           are_made = made_next es c (d ∷ done) ts (of_sends s.made) none_ s.are_made;
+          of_calls = s.of_calls;
         }
 
   -- something is said of a call, which is none of the tasks
@@ -160,6 +161,7 @@ module _ (p : Plan) (calls : ℕ → Type 0) (over : Bool) (es : List Event) (br
     made = s.made;
     lists = s.lists;
     are_made = s.are_made;
+    of_calls = s.of_calls;
   }
 
   -- the same tasks by another program
@@ -180,6 +182,7 @@ module _ (p : Plan) (calls : ℕ → Type 0) (over : Bool) (es : List Event) (br
     made = s.made;
     lists = s.lists;
     are_made = s.are_made;
+    of_calls = s.of_calls;
   }
 
   -- from a place between operations on
@@ -201,6 +204,7 @@ module _ (p : Plan) (calls : ℕ → Type 0) (over : Bool) (es : List Event) (br
     made = s.made;
     lists = s.lists;
     are_made = s.are_made;
+    of_calls = s.of_calls;
   }
 
   tasked_open : (w : Way) → IsTasked w → w ≡ Closing → ⊥
@@ -330,6 +334,7 @@ module _ (p : Plan) (calls : ℕ → Type 0) (over : Bool) (es : List Event) (br
     made = s.made;
     lists = s.lists;
     are_made = s.are_made;
+    of_calls = s.of_calls;
   }
   seat_else c d ne (n ∷ ns) entry tasks way trace done todo program v os' same s = let e : Event = record { client = c; number = n.number; entry = entry } in
       let now : trace_now d todo (e ∷ es) ≡ trace_now d todo es = unchanged todo in
@@ -349,6 +354,7 @@ module _ (p : Plan) (calls : ℕ → Type 0) (over : Bool) (es : List Event) (br
         made = s.made;
         lists = s.lists;
         are_made = made_now_same es (e ∷ es) d (given_more e es) done todo (of_sends s.made) past_same now s.are_made;
+        of_calls = s.of_calls;
       }
     where
       unchanged : (todo : List Task) → trace_now d todo ((record { client = c; number = n.number; entry = entry }) ∷ es) ≡ trace_now d todo es
@@ -374,6 +380,7 @@ module _ (p : Plan) (calls : ℕ → Type 0) (over : Bool) (es : List Event) (br
     made = s.made;
     lists = lists ∙ s.lists;
     are_made = s.are_made;
+    of_calls = s.of_calls;
   }
 
 -- a step of this client
@@ -402,6 +409,7 @@ module _ (p : Plan) (calls : ℕ → Type 0) (over : Bool) (es : List Event) (br
     made = s.made;
     lists = lists ∙ s.lists;
     are_made = s.are_made;
+    of_calls = s.of_calls;
   }
 
   -- where it closes sockets
@@ -422,13 +430,14 @@ module _ (p : Plan) (calls : ℕ → Type 0) (over : Bool) (es : List Event) (br
     made = s.made;
     lists = lists ∙ s.lists;
     are_made = s.are_made;
+    of_calls = s.of_calls;
   }
 
   -- beside the tasks
   pub seat_beside : (todo : List Task) → SeatAt p calls over es broken os c tasks Beside trace done todo (Do call next) v → ((i h : ℕ) → holds i h (step call found ∷ trace) ≤ marks_of (is_hold h) i w) → ((i h : ℕ) → call ≡ FindLink i h → WasGiven es i h found)
-      → AreClaims es (step call found ∷ trace) w.claims → (made : List chain.Entry) → w.lists ≡ made ∷ [] → AreMadeNow es c done todo (of_sends made)
+      → AreClaims es (step call found ∷ trace) w.claims → (made : List chain.Entry) → w.lists ≡ made ∷ [] → AreMadeNow es c done todo (of_sends made) → AllByRecursion (IsOfCall calls) made
       → SeatAt p calls over es broken os c tasks Beside (step call found ∷ trace) done todo (next found) w
-  seat_beside todo s holding given claims made lists are = record {
+  seat_beside todo s holding given claims made lists are of_calls = record {
     set_up = s.set_up;
     closes = λ e. absurd (cc);
     traced = s.traced;
@@ -444,6 +453,7 @@ module _ (p : Plan) (calls : ℕ → Type 0) (over : Bool) (es : List Event) (br
     made = made;
     lists = lists;
     are_made = are;
+    of_calls = of_calls;
   }
 
   module _ (t : Task) (ts : List Task) (s : SeatAt p calls over es broken os c tasks Own trace done (t ∷ ts) (Do call next) v) where
@@ -457,9 +467,9 @@ module _ (p : Plan) (calls : ℕ → Type 0) (over : Bool) (es : List Event) (br
         (λ x m. trace_number c x.task.number this_event es (λ q. let a = (all_in (λ (z : Done). AllByRecursion (Less z.task) (t ∷ ts)) done x before m).0 in omega arith))
 
     pub seat_step : ((i h : ℕ) → holds i h (step call found ∷ trace) ≤ marks_of (is_hold h) i w) → ((i h : ℕ) → call ≡ FindLink i h → WasGiven es i h found) → AreClaims (this_event ∷ es) (step call found ∷ trace) w.claims
-        → (made : List chain.Entry) → w.lists ≡ made ∷ [] → (before : List chain.Entry) → EndsIn (this_event ∷ es) c t before (of_sends made) (swapped (step call found ∷ trace)) → AreMade es c done before
+        → (made : List chain.Entry) → w.lists ≡ made ∷ [] → (before : List chain.Entry) → EndsIn (this_event ∷ es) c t before (of_sends made) (swapped (step call found ∷ trace)) → AreMade es c done before → AllByRecursion (IsOfCall calls) made
         → SeatAt p calls over (this_event ∷ es) broken os c tasks Own (step call found ∷ trace) done (t ∷ ts) (next found) w
-    seat_step holding given claims made lists before ends are = let sorted : EachBefore Less (undo done (t ∷ ts)) = subst (EachBefore Less) s.all order in let later = (undo_todo Less done (t ∷ ts) sorted).0 in
+    seat_step holding given claims made lists before ends are of_calls = let sorted : EachBefore Less (undo done (t ∷ ts)) = subst (EachBefore Less) s.all order in let later = (undo_todo Less done (t ∷ ts) sorted).0 in
         let here = trace_here c t.number this_event es refl refl in let now : step call found ∷ trace ≡ trace_of c t.number (this_event ∷ es) = ap (λ l. step call found ∷ l) s.traced ∙ sym here in record {
           set_up = s.set_up;
           closes = λ e. absurd (cc);
@@ -476,4 +486,5 @@ module _ (p : Plan) (calls : ℕ → Type 0) (over : Bool) (es : List Event) (br
           made = made;
           lists = lists;
           are_made = (before, subst (λ z. EndsIn (this_event ∷ es) c t before (of_sends made) (swapped z)) now ends, made_same es (this_event ∷ es) c (given_more this_event es) done before done_same are);
+          of_calls = of_calls;
         }

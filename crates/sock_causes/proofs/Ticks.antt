@@ -2,6 +2,7 @@
 use Rattle.std.proofs.Common.{◌≡◌, ◌≢◌, ℕ, zero, suc, ◌+◌, ◌%◌, ◌<◌, ◌⊎◌, Bool, true, false, List, [], ◌∷◌, ◌++◌, length, set, length-set, inl, inr, ⊎_elim, sym, refl, ap, ◌∙◌, subst, cond, arith}
 use Rattle.std.specs.Prelude.{Some, None, slice_get}
 use Rattle.std.specs.Prelude as std
+use Rattle.std.specs.List.{AllByRecursion}
 use mathlib.Core.Option.{Option, some, none, some-ne-none}
 use lib.ListN.{get_elem?}
 use Rattle.atomic_table.proofs.Lists.{at_set, set_again}
@@ -12,6 +13,7 @@ use Rattle.sock_io.specs.declared.link.Put.TheVariants as puts
 use Rattle.sock_io.specs.declared.link.Ready.{Ready}
 use Rattle.sock_io.specs.declared.link.Ready.TheVariants as asks
 use Rattle.sock_model.specs.declared.chain.Entry as chain
+use Rattle.sock_model.specs.declared.chain.Heading.{Heading}
 use Rattle.sock_model.specs.declared.home.Home.{Home}
 use Rattle.sock_model.specs.declared.marks.Mark.{Mark}
 use Rattle.sock_model.specs.declared.view.View.{View}
@@ -40,7 +42,7 @@ use mathlib.Core.List.{cons-ne-nil}
 use native.Mathlib.Decide.{ℕ_discrete}
 use Rattle.std.specs.Prelude.{nat_le, ◌||◌}
 use Rattle.std.proofs.Common.{◌≤◌, eqb, eq-eqb}
-use Rattle.std.proofs.lemmas.Bool.{le-leb}
+use Rattle.std.proofs.lemmas.Bool.{le-leb, true≢false}
 use Rattle.sock_programs.specs.Cores.{Calls, resolved, waiting_at, Core, SeatState, word_of, word_after, words_after, hand_after, homes_after, found_at, lies_at, link_place, others_of, first_of, next_step, with_seat, stepped}
 use Rattle.sock_programs.specs.Ticks.{OfPut, OfReady, Moment, IsAnswered, fed, with_places, onto_first, taken, asked_link, is_refusal, broken_at, ticked}
 use Rattle.sock_programs.specs.Drops.{call_in, Makes}
@@ -53,7 +55,7 @@ use Rattle.sock_causes.specs.Stories.{Entry, Event, In, trace_of, told_of, store
 use Rattle.sock_causes.specs.Explains.{Way, Own, Beside, Closing, FitsBeside, FitsClosing, FailsAttempt, PutsCall, TakesCall, ExplainsBy, Fits, Done, IsPlain, Explains, swapped, holds, step, broken_put, broken_ready}
 use Rattle.sock_causes.specs.Causes.{Means, Good, WasGiven, IsLost, WasFailed, OddAt}
 use Rattle.sock_causes.specs.Losses.{lost_of, lost_by, may_close, closed_at, lost_at}
-use Rattle.sock_causes.specs.Kept.{of_sends, MayClose, IsSpoken, EndsIn, AreMade, AreMadeNow, SeatAt, SeatStory, StaysUsed, Story, IsReady}
+use Rattle.sock_causes.specs.Kept.{IsOfCall, of_sends, MayClose, IsSpoken, EndsIn, AreMade, AreMadeNow, SeatAt, SeatStory, StaysUsed, Story, IsReady}
 use Rattle.sock_causes.proofs.Added.{IsNote, born_note, failer_note, linked_note, tried_note, row_adds}
 use Rattle.sock_causes.proofs.Names.{name_stays}
 use Rattle.sock_causes.proofs.Used.{word_stays}
@@ -444,17 +446,19 @@ module _ (p : Plan) (clients : List (List Task)) (are : AreTasks p clients) (ove
         pub before : List chain.Entry
         pub ends : EndsIn fresh i t before (of_sends made) (swapped (step act (found_at c.words (word_of p act)) ∷ trace))
         pub others_ : AreMade es i done before
+        pub of_calls : AllByRecursion (IsOfCall (IsSpoken clients)) made
 
       lists_own : (t : Task) (ts : List Task) (fresh : List Event) → ((j h k : ℕ) → WasGiven es j h k → WasGiven fresh j h k) → ((x : Entry) → In x (trace_of i t.number es) → In x (trace_of i t.number fresh))
           → (call : Call) (next : ℕ → Program) → May p v call → At es broken Own trace done (t ∷ ts) (Do call next) v → Lists t fresh call
       lists_own t ts fresh given has (SwapHead j own) next may s = let x = ends_swap es fresh i t given has p v j own (found_at c.words (word_of p (SwapHead j own))) (hand_at p c.words c.homes (SwapHead j own)) trace
-          s.explains.0 may s.claims (sym s.traced) s.are_made.0 s.made s.lists (subst (λ z. EndsIn es i t s.are_made.0 (of_sends s.made) (swapped z)) (sym s.traced) s.are_made.1) in record { made = x.0; lists = x.1; before = s.are_made.0; ends = x.2; others_ = s.are_made.2 }
+          s.explains.0 may s.claims (sym s.traced) s.are_made.0 s.made s.lists (subst (λ z. EndsIn es i t s.are_made.0 (of_sends s.made) (swapped z)) (sym s.traced) s.are_made.1) in record { made = x.0; lists = x.1; before = s.are_made.0; ends = x.2; others_ = s.are_made.2; of_calls = x.3 (IsOfCall (IsSpoken clients)) (λ e is no_. absurd (true≢false (sym is ∙ no_))) s.of_calls }
       lists_own t ts fresh given has call next may s = record {
         made = s.made;
         lists = row_lists p v (found_at c.words (word_of p call)) (hand_at p c.words c.homes call) call tt ∙ s.lists;
         before = s.are_made.0;
         ends = ends_still es fresh i t given has call s.are_made.0 (of_sends s.made) (swapped trace) tt (subst (λ z. EndsIn es i t s.are_made.0 (of_sends s.made) (swapped z)) (sym s.traced) s.are_made.1);
         others_ = s.are_made.2;
+        of_calls = s.of_calls;
       }
 
       seat_own : (todo : List Task) → At es broken Own trace done todo (Do call next) v → (trace' : List Entry) × At (told_of i todo (step call found) es) broken Own trace' done todo (next found) w
@@ -465,7 +469,7 @@ module _ (p : Plan) (clients : List (List Task)) (are : AreTasks p clients) (ove
             step call found ∷ trace,
             seat_step p (IsSpoken clients) over es broken broken (λ k m. m) c.outcomes i tasks (sorted_of p clients are i tasks asks) trace done call next v w found t ts s
                 (holding_now s.holding) given_now (claims_row p es (e ∷ es) (given_more e es) trace v found hand call may (claim_given (e ∷ es) (given_more e es)) s.claims)
-                l.made l.lists l.before l.ends l.others_,
+                l.made l.lists l.before l.ends l.others_ l.of_calls,
           )
 
       grown_failed : (todo : List Task) (j h : ℕ) → WasFailed broken es j h → WasFailed broken (told_of i todo (step call found) es) j h
@@ -504,11 +508,12 @@ module _ (p : Plan) (clients : List (List Task)) (are : AreTasks p clients) (ove
         pub made : List chain.Entry
         pub lists : (row p act (found_at c.words (word_of p act)) (hand_at p c.words c.homes act) v).lists ≡ made ∷ []
         pub made_now : AreMadeNow es i done todo (of_sends made)
+        pub of_calls : AllByRecursion (IsOfCall (IsSpoken clients)) made
 
       made_beside : (todo : List Task) (call : Call) (next : ℕ → Program) → May p v call → At es broken Beside trace done todo (Do call next) v → Made todo call
       made_beside todo (SwapHead j own) next may s = let x = beside_swap p (IsSpoken clients) es v j own (found_at c.words (word_of p (SwapHead j own))) (hand_at p c.words c.homes (SwapHead j own)) trace s.explains.0 may s.claims s.made s.lists in
-          record { made = x.0; lists = x.1; made_now = subst (AreMadeNow es i done todo) (sym x.2) s.are_made }
-      made_beside todo call next may s = record { made = s.made; lists = row_lists p v (found_at c.words (word_of p call)) (hand_at p c.words c.homes call) call tt ∙ s.lists; made_now = s.are_made }
+          record { made = x.0; lists = x.1; made_now = subst (AreMadeNow es i done todo) (sym x.2) s.are_made; of_calls = x.3 (IsOfCall (IsSpoken clients)) (λ e same no_. subst (λ (h : Heading). IsSpoken clients h.operation) (sym same) s.explains.0.of_call) s.of_calls }
+      made_beside todo call next may s = record { made = s.made; lists = row_lists p v (found_at c.words (word_of p call)) (hand_at p c.words c.homes call) call tt ∙ s.lists; made_now = s.are_made; of_calls = s.of_calls }
 
       -- the life that a writer sets failed has the link that failed
       attempt_lost : (todo : List Task) → At es broken Beside trace done todo (Do call next) v → (j h : ℕ) → call ≡ SetOdd j → vref_version found ≡ h → vref_version found % 2 ≡ 0 → IsLost broken es j h
@@ -522,7 +527,7 @@ module _ (p : Plan) (clients : List (List Task)) (are : AreTasks p clients) (ove
       beside_story todo s = let m = made_beside todo call next may s in
           aside_story Beside (step call found ∷ trace) todo broken (λ k n. n) (beside_later (IsSpoken clients) broken trace call s.explains.0) (attempt_lost todo s)
           (seat_beside p (IsSpoken clients) over es broken broken (λ k n. n) c.outcomes i tasks (sorted_of p clients are i tasks asks) trace done call next v w found todo s
-          (holding_now s.holding) given_now (claims_row p es es (λ j h k g. g) trace v found hand call may (claim_given es (λ j h k g. g)) s.claims) m.made m.lists m.made_now)
+          (holding_now s.holding) given_now (claims_row p es es (λ j h k g. g) trace v found hand call may (claim_given es (λ j h k g. g)) s.claims) m.made m.lists m.made_now m.of_calls)
 
       -- ## Closing sockets
 

@@ -86,6 +86,10 @@ is_of_send e = elim e.heading.parts as (λ l. Bool) [ [] ↦ true | x ∷ xs ↦
 abbrev pub of_sends : List chain.Entry → List chain.Entry
 of_sends es = filter is_of_send es
 
+-- a message that isn't a send's is a call's
+abbrev pub IsOfCall : (ℕ → Type 0) → chain.Entry → Type 0
+IsOfCall calls e = is_of_send e ≡ false → calls e.heading.operation
+
 -- the steps of the task in hand, where its program is at work, are those of the story; beside the tasks none was made for the next task
 abbrev pub IsTraced : Way → List Entry → ℕ → List Task → List Event → Type 0
 IsTraced Own trace c todo es = trace ≡ trace_now c todo es
@@ -123,6 +127,7 @@ pub record SeatAt (p : Plan) (calls : ℕ → Type 0) (over : Bool) (es : List E
   pub made : List chain.Entry
   pub lists : v.lists ≡ made ∷ []
   pub are_made : AreMadeNow es c done todo (of_sends made)
+  pub of_calls : AllByRecursion (IsOfCall calls) made
 
 pub record SeatStory (p : Plan) (calls : ℕ → Type 0) (over : Bool) (es : List Event) (broken : List ℕ) (outcomes : List (Option Outcome)) (c : ℕ) (tasks : List Task) (program : Program) (v : View) : Type 0 where
   pub way : Way
