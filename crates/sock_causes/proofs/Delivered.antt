@@ -117,7 +117,7 @@ module _ (p : Plan) (c : Core) (views : List View) (o : Lawful (λ home. home) p
   no_claims q = gather_nil (claims_of q) views (λ i v g. ap (λ l. filter (λ (x : Claim). eqb x.request q) l) (quiet i v g).claims)
 
   -- every entry has its place
-  places_all : (k : ℕ) → k < p.links → o.places k ≡ length (on k o.log)
+  pub places_all : (k : ℕ) → k < p.links → o.places k ≡ length (on k o.log)
   places_all k kl = let a = all_placed o.chains o.delivered k kl (no_rights k) in a.1 ∙ a.0
 
   -- where a link dropped a message, its life was failed

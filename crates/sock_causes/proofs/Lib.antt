@@ -27,3 +27,5 @@ pub mod Fails
 pub mod Whys
 pub mod Delivered
 pub mod Senders
+pub mod Messages
+pub mod Told

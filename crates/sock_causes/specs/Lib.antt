@@ -3,3 +3,4 @@ pub mod Explains
 pub mod Causes
 pub mod Kept
 pub mod Losses
+pub mod TaskCauses
