@@ -93,7 +93,7 @@ module _ (p : Plan) (made : List Entry) (held : List HeldLife) (passes : List �
       looks : {w : View} → Has (made ∷ []) (socket_id_slot socket) (Hold (socket_id_version socket) ∷ []) held passes [] w → GoesOn p w (Do (LookWord socket) (λ found.
           cond (eqb (vref_version found % 2) 0) (claims_from p.requests 0 socket (heading_for asked id n) (frame_of asked id n) (post id 3001 n (release (socket_id_slot socket) (λ _. next))) (release (socket_id_slot socket) (λ _. next))) (post id 1009 n (release (socket_id_slot socket) (λ _. next)))))
       looks {w} c = let i : ℕ = socket_id_slot socket in (
-        (knows.0, inl c.quiet.rights),
+        (knows.0, inl c.quiet.rights, first (Hold (socket_id_version socket)) c (is_hold (socket_id_version socket)) (of_hold (socket_id_version socket)) (only-same (socket_id_version socket))),
         λ found hand f. let d = noted c (Saw (vref_version found)) (λ g o. o.saw (vref_version found)) in let rest : Program = release (socket_id_slot socket) (λ _. next) in
             let yes : Program = claims_from p.requests 0 socket (heading_for asked id n) (frame_of asked id n) (post id 3001 n (release (socket_id_slot socket) (λ _. next))) (release (socket_id_slot socket) (λ _. next)) in let no : Program = post id 1009 n (release (socket_id_slot socket) (λ _. next)) in
             subst (λ rs. GoesOn p (by_right rs (looked_clean (socket_id_slot socket) found w) (looked (socket_id_slot socket) found w)) (cond (eqb (vref_version found % 2) 0) yes no)) (sym c.quiet.rights)

@@ -265,7 +265,7 @@ module _ (p : Plan) (made : List Entry) {held : List HeldLife} {passes : List �
 
   start_goes : (id : ℕ) {v : View} → socket_id_slot id < p.slots → Has (made ∷ []) (socket_id_slot id) (Hold (socket_id_version id) ∷ []) held passes [] v → GoesOn p v (start p.requests o id bytes next)
   start_goes id {v} inside a = let i : ℕ = socket_id_slot id in (
-    (inside, inl a.quiet.rights),
+    (inside, inl a.quiet.rights, first (Hold (socket_id_version id)) a (is_hold (socket_id_version id)) (of_hold (socket_id_version id)) (only-same (socket_id_version id))),
     λ found hand f. let b = noted a (Saw (vref_version found)) (λ g o. o.saw (vref_version found)) in let gone : Program = release i (λ _. Say o (Gone (record { 0 = found })) next) in
         subst (λ rs. GoesOn p (by_right rs (looked_clean i found v) (looked i found v)) (cond (eqb (vref_version found % 2) 0) (claim_from p.requests 0 o id bytes next) gone)) (sym a.quiet.rights)
         (cond_both (eqb (vref_version found % 2) 0) (claim_from p.requests 0 o id bytes next) gone (GoesOn p (looked i found v)) (λ _. claim_from_goes p.requests 0 id (omega arith) inside b)

@@ -37,9 +37,9 @@ module _ (q : IdPlan) (narrow : q.slots ≤ 65536) (life : ℕ → Option ℕ) (
   lock_ticks from next g one f = let r = g.1 Word f in follows q life calls c us sound i seat u at_seat at (next Word) seat.hand c.words c.homes (calls_after (LockId s from) Word c.calls) r.0
       (lock_keeps q narrow life calls c us i u sound.law at sized c.seats c.outcomes s inside Word refl from r.0 one r.1) r.2 few
 
-  pub post_ticks : (from e : ℕ) (next : ℕ → Program) → OwesOn life u (Aside (PostId s from e) next) → (parts from).first < 4294967296 → e < 32768 → ((parts from).state ≡ 1) ⊎ ((parts from).state ≡ 2) → Goes (PostId s from e) Word next
-  post_ticks from e next g low small states = let r = g.1 Word tt in follows q life calls c us sound i seat u at_seat at (next Word) seat.hand c.words c.homes (calls_after (PostId s from e) Word c.calls) r.0
-      (post_keeps q narrow life calls c us i u sound.law at sized c.seats c.outcomes s inside Word refl from e r.0 low small states g.0 r.1) r.2 few
+  pub post_ticks : (from e : ℕ) (next : ℕ → Program) → OwesOn life u (Aside (PostId s from e) next) → e < 32768 → ((parts from).state ≡ 1) ⊎ ((parts from).state ≡ 2) → Goes (PostId s from e) Word next
+  post_ticks from e next g small states = let r = g.1 Word tt in follows q life calls c us sound i seat u at_seat at (next Word) seat.hand c.words c.homes (calls_after (PostId s from e) Word c.calls) r.0
+      (post_keeps q narrow life calls c us i u sound.law at sized c.seats c.outcomes s inside Word refl from e r.0 small states g.0 r.1) r.2 few
 
   pub unlock_ticks : (from : ℕ) (advance : Bool) (next : ℕ → Program) → OwesOn life u (Aside (UnlockId s from advance) next) → FindsUnlock from advance Word → (parts from).state ≡ 2 → Goes (UnlockId s from advance) Word next
   unlock_ticks from advance next g f two = let r = g.1 Word f in follows q life calls c us sound i seat u at_seat at (next Word) seat.hand c.words c.homes (calls_after (UnlockId s from advance) Word c.calls) r.0

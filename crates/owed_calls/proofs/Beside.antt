@@ -91,8 +91,8 @@ module _ (q : IdPlan) (narrow : q.slots ≤ 65536) (life : ℕ → Option ℕ) (
         by_hit false e = posting_keeps q life calls c us i u law at sized ss os s inside found (stays_so q life calls c us i u law at sized ss os s inside found is_word) found false v is_word (λ e. let z : false ≡ true = e in absurd cc) m
 
     -- I4
-    pub post_keeps : (from e : ℕ) (v : Owing) → (parts from).first < 4294967296 → e < 32768 → ((parts from).state ≡ 1) ⊎ ((parts from).state ≡ 2) → MayOwe u (PostId s from e) → Posting s found (eqb found from) u v → OwingLaw q life calls (Behind (calls_after (PostId s from e) found c.calls)) (set us i v)
-    post_keeps from e v low small states knows m = by_hit (eqb found from) refl m
+    pub post_keeps : (from e : ℕ) (v : Owing) → e < 32768 → ((parts from).state ≡ 1) ⊎ ((parts from).state ≡ 2) → MayOwe u (PostId s from e) → Posting s found (eqb found from) u v → OwingLaw q life calls (Behind (calls_after (PostId s from e) found c.calls)) (set us i v)
+    post_keeps from e v small states knows m = by_hit (eqb found from) refl m
       where
         by_hit : (b : Bool) → eqb found from ≡ b → Posting s found b u v → OwingLaw q life calls (Behind (record c.calls { words = set c.calls.words (ids.id_word s) (cond b (packed (posted_word (parts from) e)) found) })) (set us i v)
         by_hit false n m = posting_keeps q life calls c us i u law at sized ss os s inside found (stays_so q life calls c us i u law at sized ss os s inside found is_word) found false v is_word (λ e. let z : false ≡ true = e in absurd cc) m

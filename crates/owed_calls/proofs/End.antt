@@ -23,7 +23,7 @@ beside (x ∷ xs) [] j a e at = absurd (let z : ⊥ = omega (arith, e) in z)
 beside (x ∷ xs) (y ∷ ys) zero a e at = (y, refl)
 beside (x ∷ xs) (y ∷ ys) (suc j) a e at = beside xs ys j a (omega (arith, e)) at
 
-none_held : (i : ℕ) (us : List IdView) → ((j : ℕ) (u : IdView) → get_elem? us j ≡ some u → u.tokens ≡ []) → flat_map (tokens_in i) us ≡ []
+pub none_held : (i : ℕ) (us : List IdView) → ((j : ℕ) (u : IdView) → get_elem? us j ≡ some u → u.tokens ≡ []) → flat_map (tokens_in i) us ≡ []
 none_held i [] all = refl
 none_held i (u ∷ us) all = ap₂ (λ x y. x ++ y) (ap (tokens_of i) (all zero u refl)) (none_held i us (λ j. all (suc j)))
 

@@ -19,3 +19,7 @@ pub mod AsideTicks
 pub mod AtTicks
 pub mod Finds
 pub mod MoveTicks
+pub mod IdFacts
+pub mod OwingTicks
+pub mod AllSettled
+pub mod LivesFit

@@ -220,6 +220,6 @@ module _ (life : ℕ → Option ℕ) where
       (λ _. post_with_goes life u id (error_of 1008 7) (λ how. posted id (error_of 1008 7) (Say o (expire_outcome how) next) how) (own_post u id (error_of 1008 7) c.0) (inl refl)
       (λ how v l. posted_goes life u id (error_of 1008 7) (Say o (expire_outcome how) next) c.1 (inl refl) (λ x f. goes x (from_freed u x c.0 f)) how v l))))
 
-  pub join_goes : (u : Owing) (o t : ℕ) (next : Program) → Follows u next → Goes u (join o t next)
-  join_goes u o t next goes = (tt, λ id _. (u, refl, way life u (eqb id 0) (Say o outcomes.NotBegun next) (Round (Joins id) (λ _. Say o outcomes.Joined next))
-      (λ _. goes u (same_further u)) (λ _. (tt, λ _ v l. subst (λ x. OwesOn life x next) (sym l) (goes u (same_further u))))))
+  pub join_goes : (u : Owing) (o t : ℕ) (next : Program) → (u.duty ≡ Free) × (u.keeps ≡ false) → u.left ≡ [] → Follows u next → Goes u (join o t next)
+  join_goes u o t next idle left goes = (tt, λ id _. (u, refl, way life u (eqb id 0) (Say o outcomes.NotBegun next) (Round (Joins id) (λ _. Say o outcomes.Joined next))
+      (λ _. goes u (same_further u)) (λ _. ((idle, left), λ _ v l. subst (λ x. OwesOn life x next) (sym l) (goes u (same_further u))))))

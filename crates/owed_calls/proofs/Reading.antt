@@ -1,5 +1,5 @@
 -- The reader of a link does what it owes.
-use Rattle.std.proofs.Common.{◌≡◌, ℕ, ◌+◌, ◌-◌, ◌%◌, ◌<◌, ◌&&◌, ◌||◌, inl, inr, Bool, true, false, cond, eqb, nat_lt, List, [], ◌∷◌, Option, Some, None, length, refl, sym, ◌∙◌, subst, arith}
+use Rattle.std.proofs.Common.{◌≡◌, ℕ, ◌+◌, ◌-◌, ◌%◌, ◌<◌, ◌&&◌, ◌||◌, inl, inr, Bool, true, false, cond, eqb, nat_lt, List, [], ◌∷◌, Option, Some, None, length, refl, sym, ap, ◌∙◌, subst, arith}
 use Rattle.sock_words.specs.Words.{socket_id_slot, socket_id_version, vref_version, at_word_first, at_word_slot, at_word_link, at_word_attempt}
 use Rattle.corr_core.specs.Word.{parts, error_of, code_of, attempt_of}
 use Rattle.brpc_model.specs.Frame.{Frame}
@@ -88,7 +88,7 @@ module _ (life : ℕ → Option ℕ) where
 
   thrown_goes : (how : Ended) (k : ℕ) → Later k [] (thrown_away how)
   thrown_goes how k u p = way life u (how.fault && nat_lt how.reading.total LIMIT) (Round (Discards how.reading.link how.reading.total) (λ _. Rest)) Rest
-      (λ _. (tt, λ _ v l. subst (λ x. OwesOn life x Rest) (sym l) (p.duty, p.left, p.keeps))) (λ _. (p.duty, p.left, p.keeps))
+      (λ _. (tt, λ _ v l. subst (λ x. OwesOn life x Rest) (sym l) (p.duty, p.left, p.keeps, λ j s e lives. p.dead))) (λ _. (p.duty, p.left, p.keeps, λ j s e lives. p.dead))
 
   -- the reader of link k, with these calls to come upon
   pub record IsReading (k : ℕ) (os : List ℕ) (u : Owing) : Type 0 where
@@ -127,10 +127,13 @@ module _ (life : ℕ → Option ℕ) where
       by_closed false f = fails_goes k s how.code calls v (last_posts calls how k) has (record { duty = f.duty ∙ r.duty; keeps = f.keeps ∙ r.keeps; link = f.link ∙ r.link; left = f.left ∙ r.left }) posts
 
   pub reader_goes : (calls : List ℕ) (k o : ℕ) (u : Owing) → IsReading k calls u → Goes u (reader calls k o)
-  reader_goes calls k o u r = ((k, r.link), λ word v l. by_word word v (eqb word NO_SOCKET) (l.0 k [] r.link) l.1)
+  reader_goes calls k o u r = (((k, r.link), (r.duty, r.keeps)), λ word v l. by_word word v (eqb word NO_SOCKET) (l.0 k [] r.link) l.1)
     where
       by_word : (word : ℕ) (v : Owing) (b : Bool) → life k ≡ cond b None (Some (word - 1)) → v ≡ cond b (with_left [] u) u
           → Goes v (cond b Rest (Round (Reads (record { ids = length calls; link = k; id = word - 1; rest = []; total = 0; kept = [] })) (read calls)))
-      by_word word v true has is = subst (λ x. Goes x Rest) (sym is) (r.duty, refl, r.keeps)
+      by_word word v true has is = subst (λ x. Goes x Rest) (sym is) (r.duty, refl, r.keeps, λ j s e lives. absurd (none_there j s e lives))
+        where
+          none_there : (j s : ℕ) → u.link ≡ j ∷ [] → life j ≡ Some s → ⊥
+          none_there j s e lives = let z : k ∷ [] ≡ j ∷ [] = sym r.link ∙ e in let y : k ≡ j = cc in let x : None ≡ Some s = sym has ∙ (ap life y ∙ lives) in cc
       by_word word v false has is = subst (λ x. Goes x (Round (Reads (record { ids = length calls; link = k; id = word - 1; rest = []; total = 0; kept = [] })) (read calls))) (sym is)
           ((r.duty, r.link, has), λ how x e. read_goes k (word - 1) calls how u x has r e.0 e.1 e.2 e.3)

@@ -59,24 +59,24 @@ module _ (life : ℕ → Option ℕ) where
 
   -- ## Waiting and reading
 
-  joins_goes : (u : Owing) (id : ℕ) (k : ℕ → Program) → ((exit : ℕ) (v : Owing) → v ≡ u → OwesOn life v (k exit)) → OwesOn life u (round (Joins id) k)
-  joins_goes u id k goes = (tt, λ found _. (u, owing.posts_on refl, way life u (is_first (id_first id) (parts found)) (Round (Joins id) k) (k found) (λ _. (tt, goes)) (λ _. goes found u refl)))
+  joins_goes : (u : Owing) (id : ℕ) (k : ℕ → Program) → AtOwe life u (Joins id) → ((exit : ℕ) (v : Owing) → v ≡ u → OwesOn life v (k exit)) → OwesOn life u (round (Joins id) k)
+  joins_goes u id k at goes = (tt, λ found _. (u, owing.posts_on refl, way life u (is_first (id_first id) (parts found)) (Round (Joins id) k) (k found) (λ _. (at, goes)) (λ _. goes found u refl)))
 
   opens_goes : (u : Owing) (o : ℕ) (k : ℕ → Program) → AtOwe life u (Opens o) → ((exit : ℕ) (v : Owing) → LeavesOpens life exit u v → OwesOn life v (k exit)) → OwesOn life u (round (Opens o) k)
   opens_goes u o k at goes = (tt, λ word f. pick life (owing.CallMove life (LoadOpen o) word u) (eqb word 0) (Round (Opens o) k) (k word)
       (λ _. (u, owing.stays refl, (at, goes)))
-      (λ some_. named word (subst (λ (l : List ℕ). IsLifeOf life l word) at.1 (f (Rattle.owed_calls.proofs.Posts.not_equal word 0 some_))) (eqb word NO_SOCKET) refl))
+      (λ some_. named word (subst (λ (l : List ℕ). IsLifeOf life l word) at.0.1 (f (Rattle.owed_calls.proofs.Posts.not_equal word 0 some_))) (eqb word NO_SOCKET) refl))
     where
-      named : (word : ℕ) → life at.0 ≡ cond (eqb word NO_SOCKET) None (Some (word - 1)) → (b : Bool) → eqb word NO_SOCKET ≡ b → (v : Owing) × owing.CallMove life (LoadOpen o) word u v × OwesOn life v (k word)
-      named word is true nb = (with_left [] u, owing.unused at.0 o refl at.1 (is ∙ ap (λ b. cond b None (Some (word - 1))) nb) refl,
+      named : (word : ℕ) → life at.0.0 ≡ cond (eqb word NO_SOCKET) None (Some (word - 1)) → (b : Bool) → eqb word NO_SOCKET ≡ b → (v : Owing) × owing.CallMove life (LoadOpen o) word u v × OwesOn life v (k word)
+      named word is true nb = (with_left [] u, owing.unused at.0.0 o refl at.0.1 (is ∙ ap (λ b. cond b None (Some (word - 1))) nb) refl,
           goes word (with_left [] u) ((λ l ls e. subst (λ x. life x ≡ cond (eqb word NO_SOCKET) None (Some (word - 1))) (head_of l ls e) is), sym (ap (λ b. cond b (with_left [] u) u) nb)))
         where
-          head_of : (l : ℕ) (ls : List ℕ) → u.link ≡ l ∷ ls → at.0 ≡ l
-          head_of l ls e = let z : at.0 ∷ [] ≡ l ∷ ls = sym at.1 ∙ e in cc
+          head_of : (l : ℕ) (ls : List ℕ) → u.link ≡ l ∷ ls → at.0.0 ≡ l
+          head_of l ls e = let z : at.0.0 ∷ [] ≡ l ∷ ls = sym at.0.1 ∙ e in cc
       named word is false nb = (u, owing.stays refl, goes word u ((λ l ls e. subst (λ x. life x ≡ cond (eqb word NO_SOCKET) None (Some (word - 1))) (head_of l ls e) is), sym (ap (λ b. cond b (with_left [] u) u) nb)))
         where
-          head_of : (l : ℕ) (ls : List ℕ) → u.link ≡ l ∷ ls → at.0 ≡ l
-          head_of l ls e = let z : at.0 ∷ [] ≡ l ∷ ls = sym at.1 ∙ e in cc
+          head_of : (l : ℕ) (ls : List ℕ) → u.link ≡ l ∷ ls → at.0.0 ≡ l
+          head_of l ls e = let z : at.0.0 ∷ [] ≡ l ∷ ls = sym at.0.1 ∙ e in cc
 
   pub answer_goes : (u : Owing) (frame : Frame) (first : ℕ) (next : Program) → u.duty ≡ Free → OwesOn life u next → OwesOn life u (answer frame first next)
   answer_goes u frame first next free goes = (tt, λ asked _. (u, refl, end_goes life u (slot_in frame) (Say asked.operation (ending_of (call_id (slot_in frame) first) frame) next) free goes))
@@ -131,7 +131,7 @@ module _ (life : ℕ → Option ℕ) where
       at_head b a = a
   owes_round u (Decides id asked word e) k g = decides_goes life u id asked word e k g.0 g.1
   owes_round u (Locks i sought from) k g = locks_goes u i sought from k g.0 g.1
-  owes_round u (Joins id) k g = joins_goes u id k g.1
+  owes_round u (Joins id) k g = joins_goes u id k g.0 g.1
   owes_round u (Opens o) k g = opens_goes u o k g.0 g.1
   owes_round u (Reads r) k g = (tt, λ t f. took_goes u r k g.0 g.1 t)
   owes_round u (Discards l total) k g = (tt, λ t f. (u, owing.takes refl, discarded_goes u l total k g.1 t))

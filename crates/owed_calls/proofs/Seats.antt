@@ -103,6 +103,14 @@ module _ (q : IdPlan) (life : ℕ → Option ℕ) (calls : List ℕ) (c : Core) 
         kept = none_;
       }
 
+  -- who has a retry that waits may keep some
+  some_kept : (r : Retry) (ws : List Retry) (us : List Owing) (u : Owing) → OwingLaw q life calls (W (r ∷ ws)) us → get_elem? us i ≡ some u → u.keeps ≡ true
+  some_kept r ws us u law at = by_flag u.keeps refl
+    where
+      by_flag : (b : Bool) → u.keeps ≡ b → u.keeps ≡ true
+      by_flag true e = e
+      by_flag false e = let z : r ∷ ws ≡ [] = sym (waits_here (r ∷ ws) us u law at) ∙ law.kept i u at e in absurd cc
+
   abbrev pub Seated : List Retry → List Owing → Program → Type 0
   Seated ws us x = (v : Owing) × OwingLaw q life calls (W ws) (set us i v) × OwesOn life v x
 
@@ -117,11 +125,11 @@ module _ (q : IdPlan) (life : ℕ → Option ℕ) (calls : List ℕ) (c : Core) 
   resolves (Sent o next) ws us u law at g few = resolves next ws us u law at g few
   resolves (Keep r next) ws us u law at g few = twice us (freed u) (still_waiting (ws ++ r ∷ []) next) (next_step (resolved (ws ++ r ∷ []) next))
       (resolves next (ws ++ r ∷ []) (set us i (freed u)) (freed u) (keeps_it ws r us u law at g.0 g.1) (set_at us i u (freed u) at) g.3 (few_more ws r few g.2))
-  resolves (Retries requests after) [] us u law at g few = twice us (with_keeps g.2 u) (still_waiting [] after) (next_step (resolved [] after))
-      (resolves after [] (set us i (with_keeps g.2 u)) (with_keeps g.2 u) (flags_it g.2 [] us u law at g.0 (λ _. refl)) (set_at us i u (with_keeps g.2 u) at) (g.3 u (same_further u)) tt)
-  resolves (Retries requests after) (r ∷ ws) us u law at g few = (with_duty (Trying r.id r.attempt) u, takes_it r ws us u law at g.0 g.1,
-      retry_goes life (with_duty (Trying r.id r.attempt) u) requests r.id r.attempt (Retries requests after) refl g.1 few.0
-      (λ v f. let a : Further u v = from_freed u v g.0 f in (a.duty ∙ g.0, a.keeps ∙ g.1, g.2, λ w h. g.3 w (then_further u v w a h))))
+  resolves (Retries requests after) [] us u law at g few = twice us (with_keeps g.1 u) (still_waiting [] after) (next_step (resolved [] after))
+      (resolves after [] (set us i (with_keeps g.1 u)) (with_keeps g.1 u) (flags_it g.1 [] us u law at g.0 (λ _. refl)) (set_at us i u (with_keeps g.1 u) at) (g.2 u (same_further u)) tt)
+  resolves (Retries requests after) (r ∷ ws) us u law at g few = let keeps : u.keeps ≡ true = some_kept r ws us u law at in (with_duty (Trying r.id r.attempt) u, takes_it r ws us u law at g.0 keeps,
+      retry_goes life (with_duty (Trying r.id r.attempt) u) requests r.id r.attempt (Retries requests after) refl keeps few.0
+      (λ v f. let a : Further u v = from_freed u v g.0 f in (a.duty ∙ g.0, g.1, λ w h. g.2 w (then_further u v w a h))))
   resolves (Do call next) ws us u law at g few = as_it_is ws us u (Do call next) law at g
   resolves Rest ws us u law at g few = as_it_is ws us u Rest law at g
   resolves (TakeMessage r next) ws us u law at g few = as_it_is ws us u (TakeMessage r next) law at g

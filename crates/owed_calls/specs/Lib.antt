@@ -1,3 +1,5 @@
 pub mod Owing
 pub mod Owes
 pub mod Sound
+pub mod Fits
+pub mod Settled

@@ -5,7 +5,7 @@ use Rattle.sock_io.specs.declared.link.Ready.{Ready}
 use Rattle.sock_model.specs.declared.chain.Heading.{Heading}
 use Rattle.corr_core.specs.Word.{parts, attempt_of}
 use Rattle.sock_programs.specs.Asides.{Found, call_id, id_slot, id_first}
-use Rattle.sock_programs.specs.Heads.{Head, Exit, Sought, First, Posts, Unlocks, Decides, Locks, Opens, Reads, Posting, HasLocked, Unlocking, IsOpen, HasNext, Locking, NotThere, Has}
+use Rattle.sock_programs.specs.Heads.{Head, Exit, Sought, First, Posts, Unlocks, Decides, Locks, Joins, Opens, Reads, Posting, HasLocked, Unlocking, IsOpen, HasNext, Locking, NotThere, Has}
 use Rattle.sock_programs.specs.Programs.{Program, Do, Say, Sent, Rest, TakeMessage, TakeHome, PutHome, PutBytes, AskReady, Write, Aside, Round, Keep, Retries, NO_SOCKET}
 use Rattle.sock_programs.specs.Posts.{advance_of, is_stale, is_sought, ends_call, is_final}
 use Rattle.sock_programs.specs.Writings.{Writing, Puts, Waits}
@@ -22,6 +22,10 @@ pub record Further (u v : Owing) : Type 0 where
 
 abbrev pub IsFree : Owing → Type 0
 IsFree u = u.duty ≡ Free
+
+-- whoever waits for others keeps no retry meanwhile
+abbrev pub IsIdle : Owing → Type 0
+IsIdle u = (u.duty ≡ Free) × (u.keeps ≡ false)
 
 abbrev pub KnowsWriting : Owing → Writing → Type 0
 KnowsWriting u (Puts h now heading left taken asked) = KnowsOwner u heading
@@ -69,7 +73,8 @@ module _ (life : ℕ → Option ℕ) where
   AtOwe u (Unlocks i w false) = u.duty ≡ Trying (call_id i (parts w).first) (parts w).attempt
   AtOwe u (Decides id asked w e) = MayDecide id w e u.duty × IsDue u id w e × MayAdvance u w e
   AtOwe u (Locks i sought w) = MaySeek i sought u.duty × IsSoughtWord sought w
-  AtOwe u (Opens o) = (k : ℕ) × (u.link ≡ k ∷ [])
+  AtOwe u (Joins id) = IsIdle u × (u.left ≡ [])
+  AtOwe u (Opens o) = ((k : ℕ) × (u.link ≡ k ∷ [])) × IsIdle u
   AtOwe u (Reads r) = IsFree u × (u.link ≡ r.link ∷ []) × (life r.link ≡ Some r.id)
   AtOwe u other = Unit {0}
 
@@ -98,11 +103,15 @@ module _ (life : ℕ → Option ℕ) where
   LeavesOwe (Decides id asked w e) exit u v = Further (freed u) v
   LeavesOwe other exit u v = v ≡ u
 
+  -- a reader ends where it found that the life of its link is failed, if there is one
+  abbrev pub FoundFailed : Owing → Type 0
+  FoundFailed u = (k s : ℕ) → u.link ≡ k ∷ [] → life k ≡ Some s → u.dead ≡ true
+
   abbrev pub OwesOn : Owing → Program → Type 0
   OwesOn u (Do call next) = MayCall u call × ((found : ℕ) → FindsCall life u call found → (v : Owing) × CallMove life call found u v × OwesOn v (next found))
   OwesOn u (Say o outcome next) = OwesOn u next
   OwesOn u (Sent o next) = OwesOn u next
-  OwesOn u Rest = IsFree u × (u.left ≡ []) × (u.keeps ≡ false)
+  OwesOn u Rest = IsFree u × (u.left ≡ []) × (u.keeps ≡ false) × FoundFailed u
   OwesOn u (TakeMessage r next) = (heading : Heading) (bytes : List ℕ) (v : Owing) → Further u v → KnowsOwner v heading → OwesOn v (next heading bytes)
   OwesOn u (TakeHome k next) = (n : ℕ) → OwesOn u (next n)
   OwesOn u (PutHome k n after) = OwesOn u after
@@ -112,4 +121,4 @@ module _ (life : ℕ → Option ℕ) where
   OwesOn u (Aside step next) = MayOwe u step × ((found : Found step) → FindsOwe u step found → (v : Owing) × AsideMove step found u v × OwesOn v (next found))
   OwesOn u (Round head next) = AtOwe u head × ((exit : Exit head) (v : Owing) → LeavesOwe head exit u v → OwesOn v (next exit))
   OwesOn u (Keep r next) = (u.duty ≡ Trying r.id r.attempt) × (u.keeps ≡ true) × (r.attempt ≤ 6) × OwesOn (freed u) next
-  OwesOn u (Retries requests after) = IsFree u × (u.keeps ≡ true) × (b : Bool) × ((v : Owing) → Further u v → OwesOn (with_keeps b v) after)
+  OwesOn u (Retries requests after) = IsFree u × (b : Bool) × ((v : Owing) → Further u v → OwesOn (with_keeps b v) after)

@@ -63,9 +63,12 @@ WasAt q c id n = (id_slot id < q.slots) × ((id_word_of c (id_slot id)).first �
 abbrev pub ErrorPast : List Owing → ℕ → ℕ → Type 0
 ErrorPast us id e = e ≢ 0 → (attempt_of e ≡ 7) ⊎ Past us id (attempt_of e)
 
--- the life of a link isn't live
+-- the version of a link's life is past
+abbrev pub FailedIn : (ℕ → Option ℕ) → List ℕ → ℕ → Type 0
+FailedIn life ws k = (s : ℕ) → life k ≡ Some s → socket_id_version s < vref_version (slice_index ws (ref_word (socket_id_slot s)))
+
 abbrev pub Failed : (ℕ → Option ℕ) → Core → ℕ → Type 0
-Failed life c k = (s : ℕ) → life k ≡ Some s → vref_version (slice_index c.words (ref_word (socket_id_slot s))) ≢ socket_id_version s
+Failed life c k = FailedIn life c.words k
 
 abbrev pub IsOpen : Core → ℕ → ℕ → Type 0
 IsOpen c id n = ((id_word_of c (id_slot id)).first ≡ id_first id) × ((id_word_of c (id_slot id)).state ≡ 1) × ((id_word_of c (id_slot id)).attempt ≡ n)

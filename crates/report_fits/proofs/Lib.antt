@@ -13,7 +13,10 @@ pub mod Callless
 pub mod Causes
 pub mod Fitting
 pub mod Places
+pub mod CallLines
+pub mod Frames
 pub mod Reading
+pub mod Called
 pub mod Sizes
 pub mod Alternating
 pub mod Tasks

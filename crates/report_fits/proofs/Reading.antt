@@ -10,6 +10,7 @@ use Rattle.brpc_model.specs.Lines.{line_item, item_of, is_text_byte, shape_in, a
 use Rattle.brpc_model.specs.Places.{at_its_place, is_misplaced, is_too_many, is_unpaired}
 use Rattle.brpc_model.specs.Script.{Faulty, script_of, with_line, one_more, said_behind, items, whole, fault_at, says, is_lost, may_hang}
 use Rattle.brpc_model.proofs.Growing.{items_some, items_none}
+use Rattle.report_fits.proofs.CallLines.{CallInRange, call_range}
 
 -- ## The numbers of a line
 
@@ -21,6 +22,7 @@ InRange (First v) = (v ≤ 4294967292) × (v % 2 ≡ 0)
 InRange (Open name shape) = nat_lt 0 shape.piece ≡ true
 InRange (Send name bytes) = (1 ≤ length bytes) × (length bytes ≤ 65536)
 InRange (Fail name code) = (1500 ≤ code) × (code ≤ 1999)
+InRange (Call call) = CallInRange call
 InRange other = Unit {0}
 
 abbrev ReadsRange : Reads Item → Type 0
@@ -132,7 +134,7 @@ call_reads : (args : List (List ℕ)) → ReadsRange (call_item args)
 call_reads [] = tt
 call_reads (names ∷ []) = tt
 call_reads (names ∷ method ∷ []) = tt
-call_reads (names ∷ method ∷ payload ∷ options) = of_one (λ call. Call call) (call_in names method payload options) (λ c. Unit {0}) (anything (call_in names method payload options)) (λ c t. tt)
+call_reads (names ∷ method ∷ payload ∷ options) = of_one (λ call. Call call) (call_in names method payload options) CallInRange (call_range names method payload options) (λ c h. h)
 
 target_in_reads : (make : ℕ → ℕ → Item) (parts : List (List ℕ)) → ((c i : ℕ) → InRange (make c i)) → ReadsRange (target_in make parts)
 target_in_reads make [] h = tt

@@ -12,7 +12,7 @@ use Rattle.sock_programs.specs.declared.task.Op.{Op}
 use Rattle.sock_programs.specs.declared.task.Op.TheVariants as ops
 use Rattle.sock_programs.specs.declared.task.Task.{Task}
 use Rattle.sock_programs.specs.declared.task.Asked.{Asked}
-use Rattle.sock_programs.specs.Attempts.{name_of}
+use Rattle.sock_programs.specs.Attempts.{name_of, frame_of}
 use Rattle.sock_programs.specs.Cores.{Core}
 use Rattle.sock_programs.specs.Runs.{from_to}
 use Rattle.sock_programs.specs.Scripts.{took_at_home}
@@ -25,6 +25,8 @@ pub record AskedFits (p : Plan) (asked : Asked) : Type 0 where
   pub names : (n : ℕ) → name_of asked n < p.names
   pub range_low : 2 ≤ asked.range
   pub range_high : asked.range ≤ 8
+  -- and each of its frames has so many bytes at most
+  pub short : (id n : ℕ) → length (frame_of asked id n) ≤ 131072
 
 abbrev pub OpFits : Plan → Op → Type 0
 OpFits p (ops.Open n k) = (n < p.names) × (k < p.links)

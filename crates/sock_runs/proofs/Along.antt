@@ -1,5 +1,5 @@
 -- Runs of any length keep all seats sound, and a seat of a run never has an outcome to say before its next step.
-use Rattle.std.proofs.Common.{◌≡◌, ℕ, zero, suc, ◌<◌, Bool, true, false, List, [], ◌∷◌, ◌++◌, length, map, set, refl, sym, ap, ◌∙◌, subst, ⊎_elim, arith}
+use Rattle.std.proofs.Common.{◌≡◌, ℕ, zero, suc, ◌<◌, true, List, [], ◌∷◌, ◌++◌, length, map, set, refl, sym, ap, ◌∙◌, subst, ⊎_elim, arith}
 use Rattle.std.proofs.lemmas.Bool.{true≢false}
 use Rattle.std.proofs.lemmas.Option.{none-some}
 use Rattle.std.specs.Prelude as std
@@ -17,7 +17,7 @@ use Rattle.sock_model.specs.Reads.{message, link_home}
 use Rattle.sock_model.specs.declared.view.View.{View}
 use Rattle.sock_programs.specs.Calls.{kind_of}
 use Rattle.sock_programs.specs.Programs.{Program, Do, Say, Sent, Rest, TakeMessage, TakeHome, PutHome, PutBytes, AskReady, Write, Aside, Round, Keep, Retries}
-use Rattle.sock_programs.specs.Heads.{Head, Exit, Retry}
+use Rattle.sock_programs.specs.Heads.{Retry}
 use Rattle.sock_programs.specs.Asides.{Step, Found, kind_aside}
 use Rattle.sock_programs.specs.Beside.{found_in, calls_after}
 use Rattle.sock_programs.specs.Rounds.{round, kind_of_round}

@@ -18,7 +18,7 @@ use Rattle.sock_model.specs.Reads.{letter_of, shown, message, link_home}
 use Rattle.sock_programs.specs.Writings.{Writing, Puts, Waits, Empties, Walks}
 use Rattle.sock_programs.specs.Calls.{Call}
 use Rattle.sock_programs.specs.Programs.{Program, Do, Say, Sent, Rest, TakeMessage, TakeHome, PutHome, PutBytes, AskReady, Write, Aside, Round, Keep, Retries}
-use Rattle.sock_programs.specs.Asides.{Step, Found, TakeBytes, Taking}
+use Rattle.sock_programs.specs.Asides.{Step, Found}
 use Rattle.sock_programs.specs.Heads.{Head, Exit, Posts, Unlocks, Decides, Locks, Joins, Opens, Reads, Discards}
 use Rattle.sock_programs.specs.Rounds.{round}
 use Rattle.sock_programs.specs.Beside.{found_in, calls_after}

@@ -1,5 +1,5 @@
 -- Each client accepts few messages, whatever the order of ticks, so that the place of each fits its word; and the ticket of a message is below that of an idle head.
-use Rattle.std.proofs.Common.{◌≡◌, ℕ, suc, ◌-◌, ◌<◌, ◌≤◌, false, nat_lt, List, [], ◌∷◌, length, length-set, set, refl, sym, ap, subst, ⊎_elim, arith}
+use Rattle.std.proofs.Common.{◌≡◌, ℕ, suc, ◌-◌, ◌<◌, ◌≤◌, false, nat_lt, List, ◌∷◌, length, length-set, set, refl, sym, ap, subst, ⊎_elim, arith}
 use Rattle.std.proofs.lemmas.Bool.{true≢false}
 use mathlib.Core.Option.{some}
 use lib.ListN.{get_elem?}
@@ -33,16 +33,14 @@ use Rattle.sock_steps.proofs.Positions.{few_log, on_shorter}
 use Rattle.sock_steps.proofs.Walked.{writes_left}
 use Rattle.sock_programs.specs.Calls.{Call, ClaimSlot, GiveBirth, AddRef, SubRef, SetOdd, Recycle, FreeSlot, StoreLink, LoadLink, ResetHead, WipeCode, StoreCode, StoreName, LoadName, StoreOpen, LoadOpen, TakeLink, FinishLink, PutLink, SwapHead}
 use Rattle.sock_programs.specs.Cores.{Core, word_of, found_at}
-use Rattle.sock_programs.specs.Ticks.{Moment, IsAnswered, AreAnswered, ticked}
+use Rattle.sock_programs.specs.Ticks.{Moment, IsAnswered}
 use Rattle.sock_runs.specs.Rows.{row, hand_at, is_id, by_claim, exchanged}
 use Rattle.sock_runs.specs.May.{May}
-use Rattle.sock_runs.specs.Sound.{Sound, AreFew, MOST_PLACES, views_after, views_along, IsFitting, AreFitting}
+use Rattle.sock_runs.specs.Sound.{Sound, AreFew, MOST_PLACES, views_after, IsFitting}
 use Rattle.sock_runs.proofs.Leaves.{sending_same, is_exchange, own_lists}
 use Rattle.sock_runs.proofs.Rounds.{begins_round}
 use Rattle.sock_runs.proofs.Passes.{goes_round}
-use Rattle.sock_runs.proofs.LinkTicks.{RetriesGo}
 use Rattle.sock_runs.proofs.Cases.{tick_keeps_marks}
-use Rattle.sock_runs.proofs.Ticks.{sound_ticks}
 
 -- ## What each step leaves
 

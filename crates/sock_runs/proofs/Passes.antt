@@ -1,23 +1,21 @@
 -- What stands aside of the sockets passes: whatever its steps find that is as the rule of the ids says, the view allows what follows.
 use Rattle.std.proofs.Common.{◌≡◌, ◌≢◌, ℕ, zero, suc, ◌+◌, ◌-◌, ◌*◌, ◌/◌, ◌%◌, ◌<◌, ◌≤◌, ◌==◌, ◌&&◌, ◌||◌, not, Bool, true, false, List, [], ◌∷◌, ◌++◌, length, refl, sym, ap, ◌∙◌, subst, arith, cond, eqb, eqb-true, eq-eqb, ne_eqb, nat_lt, Some, None}
-use Rattle.std.specs.Prelude.{Option}
 use Rattle.sock_words.specs.declared.plain.Plan.{Plan}
 use Rattle.sock_model.specs.declared.chain.Heading.{Heading}
 use Rattle.sock_model.specs.declared.view.View.{View}
 use Rattle.corr_core.specs.Word.{Parts, parts, posted_word, locked_word, unlocked_word, code_of, error_of}
 use Rattle.brpc_model.specs.Frame.{Frame}
 use Rattle.brpc_model.specs.Stream as streams
-use Rattle.sock_programs.specs.declared.task.Asked.{Asked}
 use Rattle.sock_programs.specs.Asides.{Step, Found, Taking, Bytes, Nothing, NoMore, AtEnd, Closed, Broken, TakeCall, EndId, FreeId, LoadIdWord, id_slot, id_first}
 use Rattle.sock_programs.specs.Heads.{Head, Exit, Retry, Sought, Version, Reading, Posts, Unlocks, Decides, Locks, Joins, Opens, Reads, Discards, Posting, WasGone, WasStale, WasCrowded, WasQueued, HasLocked, Unlocking, IsOpen, HasNext, Deciding, HasEnded, GoesOn as OpenAgain, Locking, NotThere, Has, Ended}
-use Rattle.sock_programs.specs.Programs.{Program, Do, Say, Aside, Round, Keep}
+use Rattle.sock_programs.specs.Programs.{Program, Say, Aside, Round}
 use Rattle.sock_programs.specs.Posts.{packed, advance_of, is_first, is_sought, is_stale, is_full, judged, post_with, post, posted, popped, end_id, ends_call, is_final, decide, decided, unlocked, locking}
 use Rattle.sock_programs.specs.Readers.{answer, answered, responses, read_on, took, last_of, slot_in, version_in, has_response, ending_of, LIMIT}
 use Rattle.sock_programs.specs.Rounds.{round}
 use Rattle.sock_programs.specs.Sends.{tell_drop}
 use Rattle.sock_runs.specs.Rows.{found_id}
 use Rattle.sock_runs.specs.May.{FindsId}
-use Rattle.sock_runs.specs.Fits.{FitsMore, FitsWord, FitsTaken, FitsFound, FitsHead, FitsPosting, FitsUnlocking, FitsLocking, FitsEnded, FitsExit, FitsRetry}
+use Rattle.sock_runs.specs.Fits.{FitsMore, FitsWord, FitsTaken, FitsPosting, FitsUnlocking, FitsLocking, FitsEnded, FitsRetry}
 use Rattle.sock_runs.specs.GoesOn.{GoesOn}
 
 -- ## Words
@@ -34,7 +32,7 @@ fits_packed w f r o s = omega (arith, f, packed_attempt w r (omega (arith, f, r)
 locked_fits : (from : ℕ) → FitsWord from → FitsWord (packed (locked_word (parts from)))
 locked_fits from f = fits_packed (locked_word (parts from)) (omega (arith, f)) (omega arith) (omega arith) (omega arith)
 
-posted_fits : (from e : ℕ) → (parts from).state ≡ 1 → FitsWord from → FitsWord (packed (posted_word (parts from) e))
+pub posted_fits : (from e : ℕ) → (parts from).state ≡ 1 → FitsWord from → FitsWord (packed (posted_word (parts from) e))
 posted_fits from e one f = subst (λ b. FitsWord (packed (cond b (locked_word (parts from)) record { first = (parts from).first; state = 2; range = (parts from).range; attempt = (parts from).attempt; oldest = cond (eqb (parts from).oldest 0) e (parts from).oldest; second = cond (eqb (parts from).oldest 0) 0 e })))
     (sym (eq-eqb (parts from).state 1 one)) (locked_fits from f)
 
@@ -46,7 +44,7 @@ none_cond : (b : Bool) → cond b 0 0 < 32768
 none_cond true = omega arith
 none_cond false = omega arith
 
-got_fits : (from : ℕ) → FitsWord from → FitsWord (packed (posted_word (parts from) 0))
+pub got_fits : (from : ℕ) → FitsWord from → FitsWord (packed (posted_word (parts from) 0))
 got_fits from f = by_state (eqb (parts from).state 1)
   where
     by_state : (b : Bool) → FitsWord (packed (cond b (locked_word (parts from)) record { first = (parts from).first; state = 2; range = (parts from).range; attempt = (parts from).attempt; oldest = cond (eqb (parts from).oldest 0) 0 (parts from).oldest; second = cond (eqb (parts from).oldest 0) 0 0 }))
@@ -54,7 +52,7 @@ got_fits from f = by_state (eqb (parts from).state 1)
     by_state false = fits_packed record { first = (parts from).first; state = 2; range = (parts from).range; attempt = (parts from).attempt; oldest = cond (eqb (parts from).oldest 0) 0 (parts from).oldest; second = cond (eqb (parts from).oldest 0) 0 0 }
         (omega (arith, f)) (omega arith) (small_cond (eqb (parts from).oldest 0) (parts from).oldest (omega arith)) (none_cond (eqb (parts from).oldest 0))
 
-unlocked_fits : (from more : ℕ) → FitsMore more from → FitsWord (packed (unlocked_word (parts from) more))
+pub unlocked_fits : (from more : ℕ) → FitsMore more from → FitsWord (packed (unlocked_word (parts from) more))
 unlocked_fits from more f = fits_packed (unlocked_word (parts from) more) (omega (arith, f)) (omega arith) (omega arith) (omega arith)
 
 -- ## Ways

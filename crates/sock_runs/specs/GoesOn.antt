@@ -8,7 +8,7 @@ use Rattle.sock_model.specs.declared.chain.Right.{Right}
 use Rattle.sock_model.specs.declared.marks.SlotMark.{SlotMark}
 use Rattle.sock_model.specs.declared.view.View.{View}
 use Rattle.sock_model.specs.declared.view.Hand.{Hand}
-use Rattle.sock_model.specs.Weights.{is_ref, is_probe, is_hold, is_zero, is_any_coding, is_claimed, is_recycled}
+use Rattle.sock_model.specs.Weights.{is_ref, is_zero, is_any_coding, is_claimed, is_recycled}
 use Rattle.sock_model.specs.SlotRows.{marks_of}
 use Rattle.sock_programs.specs.Programs.{Program, Do, Say, Sent, Rest, TakeMessage, TakeHome, PutHome, PutBytes, AskReady, Write, Aside, Round, Keep, Retries, LAST_VERSION}
 use Rattle.sock_programs.specs.Ticks.{FitsPut}

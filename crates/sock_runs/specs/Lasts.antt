@@ -1,5 +1,6 @@
 -- How many ticks are left at most, where each link that is asked answers in time.
-use Rattle.std.specs.Prelude.{ℕ, zero, suc, ◌≡◌, ◌≢◌, ◌+◌, ◌-◌, ◌*◌, ◌≤◌, ◌==◌, Bool, true, false, if◌then◌else◌, List, [], ◌∷◌, length, nat_lt, slice_index, Some, None}
+use Rattle.std.specs.Prelude.{ℕ, zero, suc, ◌≡◌, ◌≢◌, ◌+◌, ◌-◌, ◌*◌, ◌<◌, ◌≤◌, ◌⊎◌, ◌==◌, ◌&&◌, Bool, true, false, if◌then◌else◌, List, [], ◌∷◌, length, nat_lt, slice_index, Some, None}
+use Rattle.std.specs.Prelude as std
 use mathlib.Core.Option.{Option, some}
 use lib.ListN.{get_elem?}
 use Rattle.sock_words.specs.Words.{socket_id_version, socket_id_slot}
@@ -25,17 +26,21 @@ use Rattle.sock_programs.specs.Writings.{Holder, Writing, Puts, Waits, Empties, 
 use Rattle.sock_programs.specs.Programs.{Program, Do, Say, Sent, Rest, TakeMessage, TakeHome, PutHome, PutBytes, AskReady, Write, Aside, Round, Keep, Retries}
 use Rattle.corr_core.specs.Word.{Parts, parts}
 use Rattle.id_rule.specs.Lawful.{id_word}
-use Rattle.sock_programs.specs.Asides.{Step, Found, MakeId, LockId, PostId, UnlockId, EndId, id_slot}
+use Rattle.sock_programs.specs.Asides.{Step, Found, MakeId, StoreAt, LoadIdWord, LockId, PostId, UnlockId, EndId, id_slot}
+use Rattle.sock_programs.specs.Beside.{found_in}
+use Rattle.sock_programs.specs.Posts.{advance_of}
 use Rattle.sock_programs.specs.Heads.{Head, Exit, Retry, Posts, Unlocks, Decides, Locks, Joins, Opens, Reads, Discards, Unlocking, IsOpen, HasNext}
 use Rattle.sock_programs.specs.Readers.{LIMIT}
 use Rattle.sock_runs.specs.Fits.{FitsFound, FitsExit}
-use Rattle.sock_programs.specs.Ticks.{FitsPut}
+use Rattle.sock_programs.specs.Ticks.{Answer, Moment, FitsPut, taken, ticked}
 use Rattle.sock_runs.specs.Rows.{row, took_message, link_away, link_home_again, took_bytes}
 use Rattle.sock_runs.specs.May.{Finds}
+use Rattle.sock_runs.specs.Sound.{first_step}
 
 -- ## Errors of calls
 
--- whoever expects a word of an id and finds another one makes at most so many steps more for that
+-- whoever comes to expect a word of an id pays so much, and has it back where the word is the one that is there: so who finds another one
+-- makes at most so many steps more for that
 abbrev pub STALE : ℕ
 STALE = 2
 
@@ -45,7 +50,7 @@ CHANGE = 1 + 64 * STALE
 
 -- a call out of its home is decided on: it ends, or it goes home again and its id is unlocked
 abbrev pub DECISION : ℕ
-DECISION = CHANGE + 1
+DECISION = STALE + CHANGE + 1
 
 -- an error that is queued is taken out once, by an exchange, and decided on
 abbrev pub ERROR : ℕ
@@ -121,15 +126,15 @@ FRAME = 2 * CHANGE + 3
 
 -- what an attempt of a call costs at most, over a table of so many requests: as a retry its lock, its message, which may be dropped, and its own post
 abbrev pub attempt_cost : ℕ → ℕ
-attempt_cost requests = requests + weight 131072 + 2 * POST + 2 * CHANGE + 100
+attempt_cost requests = requests + weight 131072 + 2 * POST + 3 * CHANGE + 100
 
 -- from the head of a loop up to what follows it, but for what the words of the ids are counted for. A reading goes on with each byte.
 abbrev pub round_cost : Head → ℕ
-round_cost (Posts id e w) = CHANGE + ERROR
-round_cost (Unlocks i w advance) = CHANGE
+round_cost (Posts id e w) = STALE + CHANGE + ERROR
+round_cost (Unlocks i w advance) = STALE + CHANGE
 round_cost (Decides id asked w e) = DECISION
 round_cost (Locks i sought None) = CHANGE + 1
-round_cost (Locks i sought (Some w)) = CHANGE
+round_cost (Locks i sought (Some w)) = STALE + CHANGE
 round_cost (Joins id) = 1
 round_cost (Opens o) = 1
 round_cost (Reads r) = (LIMIT - r.total) * (1 + FRAME) + length r.rest * FRAME + 1
@@ -141,20 +146,20 @@ advance_gain p advance = if advance then attempt_cost p.requests else 0
 abbrev pub popped_gain : ℕ → ℕ
 popped_gain from = if (parts from).oldest == 0 then 0 else ERROR
 
--- what a step costs by what it found: whoever changes an id word pays for all that expect it, for the attempts of a new call, and for an error that it queues
+-- what a step costs by what it found: whoever changes an id word pays for all that expect it and gives up what it came with, and pays for the
+-- attempts of a new call, and for an error that it queues. An at word could be an id word beyond the slots.
 abbrev pub aside_cost : Plan → (step : Step) → Found step → ℕ
 aside_cost p (MakeId i range) found = CHANGE + (range - 2) * attempt_cost p.requests
-aside_cost p (LockId i from) found = if found == from then CHANGE else 1
-aside_cost p (PostId i from e) found = if found == from then (if (parts from).state == 1 then CHANGE else CHANGE + ERROR) else 1
-aside_cost p (UnlockId i from advance) found = if found == from then CHANGE else 1
+aside_cost p (LockId i from) found = if found == from then STALE + CHANGE else 1
+aside_cost p (PostId i from e) found = if found == from then (if (parts from).state == 1 then STALE + CHANGE else STALE + CHANGE + ERROR) else 1
+aside_cost p (UnlockId i from advance) found = if found == from then STALE + CHANGE else 1
 aside_cost p (EndId i) found = CHANGE
+aside_cost p (StoreAt o w) found = CHANGE
 aside_cost p other found = 1
 
--- and what was counted for it: another word than the one expected, an error that was queued, an attempt that the call had left
+-- and what was counted for it: an error that was queued, an attempt that the call had left
 abbrev pub aside_gain : Plan → (step : Step) → Found step → ℕ
-aside_gain p (LockId i from) found = if found == from then 0 else STALE
-aside_gain p (PostId i from e) found = if found == from then 0 else STALE
-aside_gain p (UnlockId i from advance) found = if found == from then popped_gain from + advance_gain p advance else STALE
+aside_gain p (UnlockId i from advance) found = if found == from then popped_gain from + advance_gain p advance else 0
 aside_gain p other found = 0
 
 -- by how much more the loop may be left
@@ -177,9 +182,29 @@ abbrev pub expects : Program → List (ℕ × ℕ)
 expects (Round head next) = expected head
 expects other = []
 
--- where another one is there by now
+-- whoever is at such a head paid for that
+abbrev pub arriving : Program → ℕ
+arriving program = total (λ (x : ℕ × ℕ). STALE) (expects program)
+
+-- and counts for so much where another word is there by now
 abbrev pub stale_cost : List ℕ → ℕ × ℕ → ℕ
 stale_cost words x = if slice_index words (id_word x.0) == x.1 then 0 else STALE
+
+-- the word of an id slot of which the step shows that it is there
+abbrev pub left_word : (step : Step) → Found step → std.Option (ℕ × ℕ)
+left_word (LoadIdWord i) found = Some (i, found)
+left_word (LockId i from) found = if found == from then None else Some (i, found)
+left_word (PostId i from e) found = if found == from then None else Some (i, found)
+left_word (UnlockId i from advance) found = if found == from then None else Some (i, found)
+left_word other found = None
+
+-- who goes on from such a word to a head that expects it has back what it paid there
+abbrev pub fresh_at : ℕ × ℕ → ℕ × ℕ → ℕ
+fresh_at y x = if (x.0 == y.0) && (x.1 == y.1) then STALE else 0
+
+abbrev pub fresh : std.Option (ℕ × ℕ) → Program → ℕ
+fresh None program = 0
+fresh (Some y) program = total (fresh_at y) (expects program)
 
 -- an id that isn't free has so many attempts left, and so many errors queued
 abbrev pub queued_errors : Parts → ℕ
@@ -208,7 +233,8 @@ LastsFor p v (TakeHome k next) n = (m : ℕ) × (m + 1 ≤ n) × ((places : ℕ)
 LastsFor p v (PutHome k places after) n = (m : ℕ) × (m + 1 ≤ n) × LastsFor p (link_home_again v) after m
 LastsFor p v (PutBytes k asked bytes next) n = (answer : Put) → FitsPut asked bytes answer → (m : ℕ) × (m + 1 ≤ n) × LastsFor p (took_bytes answer v) (next answer) m
 LastsFor p v (AskReady k next) n = (answer : Ready) → answer ≢ NotYet → (m : ℕ) × (m + 1 ≤ n) × LastsFor p v (next answer) m
-LastsFor p v (Aside step next) n = (found : Found step) → FitsFound p step found → (m : ℕ) × (m + aside_cost p step found ≤ n + aside_gain p step found) × LastsFor p v (next found) m
+LastsFor p v (Aside step next) n = (found : Found step) → FitsFound p step found → (m : ℕ) × (m + aside_cost p step found ≤ n + aside_gain p step found + fresh (left_word step found) (next found)) × LastsFor p v (next found) m
+LastsFor p v (Round (Opens o) next) n = (m : ℕ) × (round_cost (Opens o) + m ≤ n) × ((word : ℕ) (u : View) → LastsFor p u (next word) m)
 LastsFor p v (Round head next) n = (m : ℕ) × (round_cost head + m ≤ n) × ((exit : Exit head) → FitsExit head exit → LastsFor p v (next exit) (m + exit_gain p head exit))
 LastsFor p v (Keep r next) n = (m : ℕ) × (m + attempt_cost p.requests ≤ n) × LastsFor p v next m
 LastsFor p v (Retries requests after) n = (u : View) → LastsFor p u after n
@@ -217,12 +243,40 @@ LastsFor p v (Write w after) n = (m : ℕ) × (loop_cost v w + m ≤ n) × ((u :
 -- ## All seats
 
 pub record Lasts (p : Plan) (c : Core) (views : List View) (n : ℕ) : Type 0 where
-  -- how many steps each seat has left at most
+  -- how many steps each seat has left at most, but for what it paid where it is at a head that expects a word
   pub numbers : List ℕ
   pub each : length numbers ≡ length c.seats
-  pub seats : (i : ℕ) (seat : SeatState) (v : View) (k : ℕ) → get_elem? c.seats i ≡ some seat → get_elem? views i ≡ some v → get_elem? numbers i ≡ some k → LastsFor p v seat.program k
+  pub seats : (i : ℕ) (seat : SeatState) (v : View) (k : ℕ) → get_elem? c.seats i ≡ some seat → get_elem? views i ≡ some v → get_elem? numbers i ≡ some k → LastsFor p v seat.program (k + arriving seat.program)
   -- with the messages at home, what is left of walks, and what is left of ids and retries
   pub sum : total (λ (k : ℕ). k) numbers + (total home_weight c.homes + total (λ (v : View). total (walk_left (accepted views)) v.rights) views + calls_left p c) ≤ n
+
+-- ## What the rule of the ids gives
+
+-- the id slot is one of the table
+abbrev pub IsSlot : Core → ℕ → Type 0
+IsSlot c i = (i < c.calls.plan.slots) × (id_word i < length c.calls.words)
+
+-- a call has from one to seven attempts; a word that is tried is that of an open id, or, where an error is queued or a lock is given back, of
+-- one with room
+abbrev pub IsCountedStep : Core → Step → Type 0
+IsCountedStep c (MakeId i range) = IsSlot c i × (2 ≤ range) × (range ≤ 8)
+IsCountedStep c (LockId i from) = IsSlot c i × ((parts from).state ≡ 1)
+IsCountedStep c (PostId i from e) = IsSlot c i × (e < 32768) × (((parts from).state ≡ 1) ⊎ (((parts from).state ≡ 2) × ((parts from).second ≡ 0)))
+IsCountedStep c (UnlockId i from advance) = IsSlot c i × (0 < (parts from).state) × ((parts from).attempt + advance_of advance + 2 ≤ (parts from).range)
+IsCountedStep c (EndId i) = IsSlot c i
+IsCountedStep c other = Unit {0}
+
+-- a step aside finds something
+abbrev pub IsCountedAt : Core → Answer → Program → Type 0
+IsCountedAt c answer (Aside step next) = ((found : Found step) × (found_in step c.calls (taken answer) ≡ some found)) × IsCountedStep c step
+IsCountedAt c answer other = Unit {0}
+
+abbrev pub IsCounted : Core → Moment → Type 0
+IsCounted c m = (seat : SeatState) → get_elem? c.seats m.seat ≡ some seat → IsCountedAt c m.answer (first_step seat.program)
+
+abbrev pub AreCounted : Plan → Core → List Moment → Type 0
+AreCounted p c [] = Unit {0}
+AreCounted p c (m ∷ ms) = IsCounted c m × AreCounted p (ticked p c m) ms
 
 -- no run has more ticks that move
 abbrev pub MOST_TICKS : ℕ

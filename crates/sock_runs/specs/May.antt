@@ -15,7 +15,6 @@ use Rattle.sock_model.specs.Entries.{slot_of, generation_of}
 use Rattle.sock_model.specs.Memory.{IDLE}
 use Rattle.sock_model.specs.Links.{HoldsLink}
 use Rattle.sock_model.specs.Conditions.{MayExchange, MayEmpty, MayTurn, MayPlace, MayDrop}
-use Rattle.sock_model.specs.Rule.{MOST_ACCEPTED}
 use Rattle.sock_programs.specs.Calls.{Call, ClaimSlot, GiveBirth, AddRef, SubRef, SetOdd, Recycle, FreeSlot, StoreLink, LoadLink, ResetHead, WipeCode, StoreCode, StoreName, LoadName, StoreOpen, LoadOpen, TakeLink, FinishLink, PutLink, LookWord, FindLink, LoadCode, ClaimRequest, PutMessage, Unconnect, SwapHead, Connect, EmptyHead, ReadNext, TurnNext, FreeRequest, StorePlace, DropPlace}
 use Rattle.sock_programs.specs.Programs.{NO_SOCKET, LAST_VERSION, LAST_GENERATION}
 use Rattle.sock_runs.specs.Rows.{is_id}
@@ -94,7 +93,7 @@ May p v (LoadOpen o) = o < p.operations
 May p v (TakeLink k) = MayTake p v k
 May p v (FinishLink k) = (k < p.links) × HasInHand v k × (v.rights ≡ [])
 May p v (PutLink k) = (k < p.links) × HasInHand v k × (v.rights ≡ [])
-May p v (LookWord id) = (socket_id_slot id < p.slots) × MayLook p v id
+May p v (LookWord id) = (socket_id_slot id < p.slots) × MayLook p v id × (0 < marks_of (is_hold (socket_id_version id)) (socket_id_slot id) v)
 May p v (FindLink i h) = HoldsLife p v i h
 May p v (LoadCode i h) = HoldsLife p v i h
 May p v (ClaimRequest id q) = (q < p.requests) × HoldsLife p v (socket_id_slot id) (socket_id_version id) × (v.claims ≡ [])

@@ -26,10 +26,9 @@ use Rattle.sock_programs.specs.Programs.{Program, Do, TakeMessage, TakeHome, Put
 use Rattle.sock_programs.specs.Sends.{block}
 use Rattle.sock_programs.specs.Rounds.{round}
 use Rattle.sock_programs.specs.Asides.{Found}
-use Rattle.sock_programs.specs.Heads.{Retry}
 use Rattle.sock_programs.specs.Beside.{found_in}
 use Rattle.sock_runs.specs.Fits.{FitsFound, FitsRetry}
-use Rattle.sock_programs.specs.Cores.{Core, SeatState, word_of, found_at, link_place, next_step, waiting_at}
+use Rattle.sock_programs.specs.Cores.{Core, SeatState, word_of, found_at, link_place, waiting_at}
 use Rattle.sock_programs.specs.Ticks.{Answer, OfPut, Moment, ticked, taken}
 use Rattle.sock_runs.specs.Rows.{row, hand_at, took_message, link_away, link_home_again, took_bytes}
 use Rattle.sock_runs.specs.GoesOn.{GoesOn}

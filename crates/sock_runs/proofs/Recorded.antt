@@ -18,18 +18,21 @@ use Rattle.sock_model.specs.Slots.{count}
 use Rattle.sock_model.specs.References.{slot_facts}
 use Rattle.sock_steps.proofs.Places.{counts}
 use Rattle.sock_programs.specs.Calls.{Call, GiveBirth, StoreOpen}
-use Rattle.sock_programs.specs.Programs.{Program, Do}
-use Rattle.sock_programs.specs.Cores.{Core, SeatState, word_of, word_after, found_at, words_after, homes_after, hand_after, next_step, with_seat, stepped}
+use Rattle.sock_programs.specs.Programs.{Program, Do, Say, Sent, Rest, TakeMessage, TakeHome, PutHome, PutBytes, AskReady, Write, Aside, Round, Keep, Retries}
+use Rattle.sock_programs.specs.Cores.{Calls, Core, SeatState, word_of, word_after, found_at, words_after, homes_after, hand_after, resolved, next_step, waiting_at, with_seat, stepped}
 use Rattle.sock_programs.specs.Ticks.{Moment, ticked, run, IsAnswered, AreAnswered}
 use Rattle.sock_runs.specs.Rows.{row, hand_at}
 use Rattle.sock_runs.specs.May.{May}
-use Rattle.sock_runs.specs.Sound.{state, Sound, first_step, views_after, views_along}
+use Rattle.sock_runs.specs.Sound.{state, Sound, first_step, IsFitting, AreFitting, views_after, views_along}
 use Rattle.sock_runs.proofs.Along.{place_inside}
 use Rattle.sock_runs.proofs.Notes.{bears, births_only, birth_notes}
 use Rattle.sock_runs.proofs.Records.{stores, next_stores, but, Records, next_stored, first_stored, opens_same}
-use Rattle.sock_runs.proofs.Through.{records_passes, records_follow, next_follows, comes_follows, through_first}
+use Rattle.sock_runs.proofs.Through.{records_passes, records_opens, records_follow, comes_follows}
+use Rattle.sock_runs.proofs.ThroughCalls.{through_first, through_next}
 use Rattle.sock_runs.proofs.Cases.{ComesNext, with_rights, tick_keeps_marks}
 use Rattle.sock_runs.proofs.Rounds.{begins_round}
+use Rattle.sock_runs.proofs.Passes.{goes_round}
+use Rattle.sock_runs.proofs.LinkTicks.{RetriesGo}
 use Rattle.sock_runs.proofs.Ticks.{sound_ticks}
 
 -- the id stands in the word of operation o, in which no seat stores any more
@@ -46,15 +49,17 @@ pub record IsPending (c : Core) (id : ℕ) : Type 0 where
   pub operation : ℕ
   pub next : next_stores seat.program ≡ some (operation, id + 1)
 
-abbrev pub Stands : Plan → (ℕ → Type 0) → Core → (ℕ → ℕ → Bool) → ℕ → Type 0
-Stands p Q c left id = ((o : ℕ) × Q o × IsRecorded p c left o id) ⊎ IsPending c id
+abbrev pub Stands : Plan → (ℕ → ℕ → Type 0) → Core → (ℕ → ℕ → Bool) → ℕ → Type 0
+Stands p Q c left id = ((j o : ℕ) × Q j o × IsRecorded p c left o id) ⊎ IsPending c id
 
 -- each seat has operations of its own left, all of which meet Q
-pub record Recorded (p : Plan) (Q : ℕ → Type 0) (c : Core) (vs : List View) : Type 0 where
+pub record Recorded (p : Plan) (Q : ℕ → ℕ → Type 0) (c : Core) (vs : List View) : Type 0 where
   pub left : ℕ → ℕ → Bool
-  pub among : (j o : ℕ) → left j o ≡ true → Q o
+  pub among : (j o : ℕ) → left j o ≡ true → Q j o
   pub apart : (j k o : ℕ) → left j o ≡ true → left k o ≡ true → j ≡ k
   pub records : (j : ℕ) (seat : SeatState) → get_elem? c.seats j ≡ some seat → Records (left j) seat.program
+  -- a word that was stored isn't stored again
+  pub once : (o : ℕ) → o < p.operations → get_or c.words (open_word p o) 0 ≢ 0 → (j : ℕ) → left j o ≡ false
   pub lives : (i h : ℕ) → i < p.slots → 0 < count (is_born h) (slot_facts (state c vs) i) → Stands p Q c left (socket_id h i)
 
 pub either_bool : (b : Bool) → (b ≡ true) ⊎ (b ≡ false)
@@ -65,6 +70,13 @@ first_true : (a b : Bool) → (a && b) ≡ true → a ≡ true
 first_true true b e = refl
 first_true false b e = e
 
+but_more : (o : ℕ) (left more : ℕ → Bool) → ((x : ℕ) → left x ≡ true → more x ≡ true) → (x : ℕ) → but o left x ≡ true → but o more x ≡ true
+but_more o left more up x e = both (left x) (more x) (not (x == o)) (up x) e
+  where
+    both : (a b n : Bool) → (a ≡ true → b ≡ true) → (a && n) ≡ true → (b && n) ≡ true
+    both true b n f e = ap (λ y. y && n) (f refl) ∙ e
+    both false b n f e = absurd (true≢false (sym e))
+
 but_none : (o : ℕ) (left : ℕ → Bool) → but o left o ≡ false
 but_none o left = ap (λ b. left o && not b) (eq-eqb o o refl) ∙ and_false (left o)
   where
@@ -72,13 +84,40 @@ but_none o left = ap (λ b. left o && not b) (eq-eqb o o refl) ∙ and_false (le
     and_false true = refl
     and_false false = refl
 
+-- a program may as well have more operations left
+pub records_more : (program : Program) (left more : ℕ → Bool) → ((o : ℕ) → left o ≡ true → more o ≡ true) → Records left program → Records more program
+records_more (Do (GiveBirth i k) next) left more up r = λ found. ((r found).0, records_more (next found) left more up (r found).1)
+records_more (Do (StoreOpen o w) next) left more up r = (up o r.0, λ found. records_more (next found) (but o left) (but o more) (λ x e. but_more o left more up x e) (r.1 found))
+records_more (Do call next) left more up r = λ found. records_more (next found) left more up (r found)
+records_more (Say o outcome next) left more up r = records_more next left more up r
+records_more (Sent o next) left more up r = records_more next left more up r
+records_more Rest left more up r = tt
+records_more (TakeMessage q next) left more up r = λ heading bytes. records_more (next heading bytes) left more up (r heading bytes)
+records_more (TakeHome k next) left more up r = λ places. records_more (next places) left more up (r places)
+records_more (PutHome k n after) left more up r = records_more after left more up r
+records_more (PutBytes k asked bytes next) left more up r = λ answer. records_more (next answer) left more up (r answer)
+records_more (AskReady k next) left more up r = λ answer. records_more (next answer) left more up (r answer)
+records_more (Write w after) left more up r = records_more after left more up r
+records_more (Aside step next) left more up r = λ found. records_more (next found) left more up (r found)
+records_more (Round head next) left more up r = λ exit. records_more (next exit) left more up (r exit)
+records_more (Keep x next) left more up r = records_more next left more up r
+records_more (Retries requests after) left more up r = records_more after left more up r
+
+-- the programs that store nothing and make no life
+abbrev pub nothing : ℕ → Bool
+nothing _ = false
+
+-- a seat that has no operation left is such a program
+pub records_nothing : (p : Plan) (Q : ℕ → ℕ → Type 0) (c : Core) (vs : List View) → Recorded p Q c vs → (j : ℕ) → ((o : ℕ) → Q j o → ⊥) → (seat : SeatState) → get_elem? c.seats j ≡ some seat → Records nothing seat.program
+records_nothing p Q c vs r j none_ seat at = records_more seat.program (r.left j) nothing (λ o e. absurd (none_ o (r.among j o e))) (r.records j seat at)
+
 -- a step that stores nothing and makes no life goes on as it may
 pub plain_next : (left : ℕ → Bool) (call : Call) (next : ℕ → Program) → stores call ≡ none → bears call ≡ none → Records left (Do call next) → (found : ℕ) → Records left (next found)
 plain_next left (GiveBirth i k) next s b r found = absurd (some-ne-none i b)
 plain_next left (StoreOpen o w) next s b r found = absurd (some-ne-none (o, w) s)
 plain_next left call next s b r found = r found
 
-module _ (p : Plan) (Q : ℕ → Type 0) (c : Core) (vs : List View) (i : ℕ) (r : Recorded p Q c vs) (seat : SeatState) (v : View) (call : Call) (next : ℕ → Program)
+module _ (p : Plan) (Q : ℕ → ℕ → Type 0) (c : Core) (vs : List View) (i : ℕ) (r : Recorded p Q c vs) (seat : SeatState) (v : View) (call : Call) (next : ℕ → Program)
     (at_seat : get_elem? c.seats i ≡ some seat) (at_view : get_elem? vs i ≡ some v) (is : first_step seat.program ≡ Do call next) (may : May p v call) where
   abbrev found : ℕ
   found = found_at c.words (word_of p call)
@@ -90,10 +129,10 @@ module _ (p : Plan) (Q : ℕ → Type 0) (c : Core) (vs : List View) (i : ℕ) (
   after = stepped p i seat call next c
 
   abbrev seat' : SeatState
-  seat' = record { program = next_step (next (found_at c.words (word_of p call))); hand = hand_after p call c.homes seat.hand }
+  seat' = record { program = next_step (resolved (waiting_at c.calls.waiting i) (next (found_at c.words (word_of p call)))); hand = hand_after p call c.homes seat.hand }
 
   mine : Records (r.left i) (Do call next)
-  mine = subst (Records (r.left i)) is (through_first (Records (r.left i)) (records_passes (r.left i)) (records_follow (r.left i)) seat.program (r.records i seat at_seat))
+  mine = subst (Records (r.left i)) is (through_first (Records (r.left i)) (records_passes (r.left i)) (records_opens (r.left i)) (records_follow (r.left i)) seat.program (r.records i seat at_seat))
 
   -- the other seats are as they were
   stays : (j : ℕ) (s : SeatState) → j ≢ i → get_elem? c.seats j ≡ some s → get_elem? after.seats j ≡ some s
@@ -111,7 +150,7 @@ module _ (p : Plan) (Q : ℕ → Type 0) (c : Core) (vs : List View) (i : ℕ) (
   module _ (none_ : stores call ≡ none) where
     -- what stood there stands there
     carry : (id : ℕ) → Stands p Q c r.left id → Stands p Q after r.left id
-    carry id (inl (o, q, x)) = inl (o, q, record { inside = x.inside; word = opens_same p c.words v o x.inside call may none_ ∙ x.word; spent = x.spent })
+    carry id (inl (j, o, q, x)) = inl (j, o, q, record { inside = x.inside; word = opens_same p c.words v o x.inside call may none_ ∙ x.word; spent = x.spent })
     carry id (inr x) = dite (ℕ_discrete x.place i)
         (λ e. absurd (some-ne-none (x.operation, id + 1) (sym (its_next x.seat (x.operation, id + 1) (ap (get_elem? c.seats) (sym e) ∙ x.there) x.next) ∙ none_)))
         (λ far. inr record { place = x.place; seat = x.seat; there = stays x.place x.seat far x.there; operation = x.operation; next = x.next })
@@ -121,7 +160,8 @@ module _ (p : Plan) (Q : ℕ → Type 0) (c : Core) (vs : List View) (i : ℕ) (
       left = r.left;
       among = r.among;
       apart = r.apart;
-      records = λ j s at. ⊎_elim (λ a. subst (λ (x : SeatState). Records (r.left j) x.program) a.1 (subst (λ k. Records (r.left k) seat'.program) (sym a.0) (next_follows (Records (r.left i)) (records_follow (r.left i)) (next found) goes))) (λ a. r.records j s a.1) (at_set c.seats i j seat' s at);
+      records = λ j s at. ⊎_elim (λ a. subst (λ (x : SeatState). Records (r.left j) x.program) a.1 (subst (λ k. Records (r.left k) seat'.program) (sym a.0) (through_next (Records (r.left i)) (records_passes (r.left i)) (records_follow (r.left i)) (waiting_at c.calls.waiting i) (next found) goes))) (λ a. r.records j s a.1) (at_set c.seats i j seat' s at);
+      once = λ o inside some_ j. r.once o inside (λ z. some_ (opens_same p c.words v o inside call may none_ ∙ z)) j;
       lives = lives;
     }
 
@@ -132,7 +172,7 @@ module _ (p : Plan) (Q : ℕ → Type 0) (c : Core) (vs : List View) (i : ℕ) (
     pub birth_step : (n k : ℕ) → call ≡ GiveBirth n k → Recorded p Q after (set vs i w)
     birth_step n k made = let m = subst (λ x. Records (r.left i) (Do x next)) made mine found in
         keep m.1 (λ j h inside born. ⊎_elim
-        (λ a. inr record { place = i; seat = seat'; there = here; operation = m.0.0; next = next_stored (next found) (m.0.0, socket_id h j + 1) (m.0.1 ∙ (λ q. some (m.0.0, socket_id (sym a.1 q) (sym a.0 q) + 1))) })
+        (λ a. inr record { place = i; seat = seat'; there = here; operation = m.0.0; next = next_stored (waiting_at c.calls.waiting i) (next found) (m.0.0, socket_id h j + 1) (m.0.1 ∙ (λ q. some (m.0.0, socket_id (sym a.1 q) (sym a.0 q) + 1))) })
         (λ less. carry (socket_id h j) (r.lives j h inside (omega (arith, born, born_after j h, less))))
         (subst (λ x. ((j ≡ n) × (h ≡ vref_version found)) ⊎ (marks_of (is_born h) j (row p x found (hand_at p c.words c.homes call) v) ≤ marks_of (is_born h) j v)) (sym made) (birth_notes p v found (hand_at p c.words c.homes call) h n k j)))
 
@@ -175,14 +215,15 @@ module _ (p : Plan) (Q : ℕ → Type 0) (c : Core) (vs : List View) (i : ℕ) (
         (λ far. ⊎_elim (λ yes. absurd (far (r.apart j i o (left_less j o yes) now.0))) (λ no_. no_) (either_bool (left' j o)))
 
     settle : (id : ℕ) → Stands p Q c r.left id → Stands p Q after left' id
-    settle id (inl (n, q, y)) = let far : n ≢ o = λ e. true≢false (sym (ap (r.left i) e ∙ now.0) ∙ y.spent i) in inl (
+    settle id (inl (j₀, n, q, y)) = let far : n ≢ o = λ e. true≢false (sym (ap (r.left i) e ∙ now.0) ∙ y.spent i) in inl (
+      j₀,
       n,
       q,
       record { inside = y.inside; word = word_else n far ∙ y.word; spent = λ j. ⊎_elim (λ yes. absurd (true≢false (sym (left_less j n yes) ∙ y.spent j))) (λ no_. no_) (either_bool (left' j n)) },
     )
     settle id (inr y) = dite (ℕ_discrete y.place i)
         (λ e. let same : (o, x) ≡ (y.operation, id + 1) = some-injective (o, x) (y.operation, id + 1) (sym (ap stores made) ∙ its_next y.seat (y.operation, id + 1) (ap (get_elem? c.seats) (sym e) ∙ y.there) y.next) in
-        inl (o, r.among i o now.0, record { inside = fits; word = word_here ∙ ap (λ (z : ℕ × ℕ). z.1) same; spent = spent_here }))
+        inl (i, o, r.among i o now.0, record { inside = fits; word = word_here ∙ ap (λ (z : ℕ × ℕ). z.1) same; spent = spent_here }))
         (λ far. inr record { place = y.place; seat = y.seat; there = stays y.place y.seat far y.there; operation = y.operation; next = y.next })
 
     pub store_step : Recorded p Q after (set vs i w)
@@ -191,8 +232,11 @@ module _ (p : Plan) (Q : ℕ → Type 0) (c : Core) (vs : List View) (i : ℕ) (
       among = λ j n e. r.among j n (left_less j n e);
       apart = λ j k n a b. r.apart j k n (left_less j n a) (left_less k n b);
       records = λ j s at. ⊎_elim
-          (λ a. subst (λ (y : SeatState). Records (left' j) y.program) a.1 (subst (λ k. Records (left' k) seat'.program) (sym a.0) (subst (λ l. Records l seat'.program) (sym left_here) (next_follows (Records (but o (r.left i))) (records_follow (but o (r.left i))) (next found) (now.1 found)))))
+          (λ a. subst (λ (y : SeatState). Records (left' j) y.program) a.1 (subst (λ k. Records (left' k) seat'.program) (sym a.0) (subst (λ l. Records l seat'.program) (sym left_here) (through_next (Records (but o (r.left i))) (records_passes (but o (r.left i))) (records_follow (but o (r.left i))) (waiting_at c.calls.waiting i) (next found) (now.1 found)))))
           (λ a. subst (λ l. Records l s.program) (sym (left_else j a.0)) (r.records j s a.1)) (at_set c.seats i j seat' s at);
+      once = λ n inside some_ j. dite (ℕ_discrete n o)
+          (λ e. ap (left' j) e ∙ spent_here j)
+          (λ far. ⊎_elim (λ yes. absurd (true≢false (sym (left_less j n yes) ∙ r.once n inside (λ z. some_ (word_else n far ∙ z)) j))) (λ no_. no_) (either_bool (left' j n)));
       lives = λ j h inside born. settle (socket_id h j) (r.lives j h inside (omega (arith, born, born_after j h, births_only p v found (hand_at p c.words c.homes call) h call (ap bears made) j)));
     }
 
@@ -202,40 +246,41 @@ stores_none p (Do call next) q comes = absurd comes
 stores_none p _ q comes = refl
 
 -- such a step leaves what is recorded
-module _ (p : Plan) (Q : ℕ → Type 0) (c : Core) (vs : List View) (i : ℕ) (r : Recorded p Q c vs) (seat : SeatState) (v : View) (program : Program) (rights : List Right) (hand : List Home) (hs : List (Option Home))
+module _ (p : Plan) (Q : ℕ → ℕ → Type 0) (c : Core) (vs : List View) (i : ℕ) (r : Recorded p Q c vs) (seat : SeatState) (v : View) (program : Program) (rights : List Right) (hand : List Home) (hs : List (Option Home)) (a : Calls)
     (at_seat : get_elem? c.seats i ≡ some seat) (at_view : get_elem? vs i ≡ some v) (comes : ComesNext p (first_step seat.program) program) where
   abbrev still_seat : SeatState
-  still_seat = record { program = next_step program; hand = hand }
+  still_seat = record { program = next_step (resolved (waiting_at a.waiting i) program); hand = hand }
 
-  still_born : (j h : ℕ) → count (is_born h) (slot_facts (state (with_seat i program hand c.words hs c) (set vs i (with_rights v rights))) j) + marks_of (is_born h) j v ≡ count (is_born h) (slot_facts (state c vs) j) + marks_of (is_born h) j v
+  still_born : (j h : ℕ) → count (is_born h) (slot_facts (state (with_seat i program hand c.words hs (record c { calls = a })) (set vs i (with_rights v rights))) j) + marks_of (is_born h) j v ≡ count (is_born h) (slot_facts (state c vs) j) + marks_of (is_born h) j v
   still_born j h = counts (state c vs) i v (with_rights v rights) at_view c.words hs (is_born h) j
 
   still_records : Records (r.left i) program
   still_records = comes_follows (Records (r.left i)) (records_follow (r.left i)) p (first_step seat.program) program comes
-      (through_first (Records (r.left i)) (records_passes (r.left i)) (records_follow (r.left i)) seat.program (r.records i seat at_seat))
+      (through_first (Records (r.left i)) (records_passes (r.left i)) (records_opens (r.left i)) (records_follow (r.left i)) seat.program (r.records i seat at_seat))
 
-  still_stands : (id : ℕ) → Stands p Q c r.left id → Stands p Q (with_seat i program hand c.words hs c) r.left id
-  still_stands id (inl (o, q, x)) = inl (o, q, record { inside = x.inside; word = x.word; spent = x.spent })
+  still_stands : (id : ℕ) → Stands p Q c r.left id → Stands p Q (with_seat i program hand c.words hs (record c { calls = a })) r.left id
+  still_stands id (inl (j, o, q, x)) = inl (j, o, q, record { inside = x.inside; word = x.word; spent = x.spent })
   still_stands id (inr x) = dite (ℕ_discrete x.place i)
       (λ e. let same : x.seat ≡ seat = some-injective x.seat seat (sym x.there ∙ (ap (get_elem? c.seats) e ∙ at_seat)) in
       absurd (some-ne-none (x.operation, id + 1) (sym x.next ∙ (ap (λ (y : SeatState). next_stores y.program) same ∙ stores_none p seat.program program comes))))
       (λ far. inr record { place = x.place; seat = x.seat; there = set_else c.seats i x.place still_seat far ∙ x.there; operation = x.operation; next = x.next })
 
-  pub still_recorded : Recorded p Q (with_seat i program hand c.words hs c) (set vs i (with_rights v rights))
+  pub still_recorded : Recorded p Q (with_seat i program hand c.words hs (record c { calls = a })) (set vs i (with_rights v rights))
   still_recorded = record {
     left = r.left;
     among = r.among;
     apart = r.apart;
     records = λ j s at. ⊎_elim
-        (λ a. subst (λ (x : SeatState). Records (r.left j) x.program) a.1 (subst (λ k. Records (r.left k) still_seat.program) (sym a.0) (next_follows (Records (r.left i)) (records_follow (r.left i)) program still_records)))
-        (λ a. r.records j s a.1) (at_set c.seats i j still_seat s at);
+        (λ x. subst (λ (y : SeatState). Records (r.left j) y.program) x.1 (subst (λ k. Records (r.left k) still_seat.program) (sym x.0) (through_next (Records (r.left i)) (records_passes (r.left i)) (records_follow (r.left i)) (waiting_at a.waiting i) program still_records)))
+        (λ x. r.records j s x.1) (at_set c.seats i j still_seat s at);
+    once = λ o inside some_ j. r.once o inside some_ j;
     lives = λ j h inside born. still_stands (socket_id h j) (r.lives j h inside (omega (arith, born, still_born j h)));
   }
 
-recorded_ticks : (p : Plan) (Q : ℕ → Type 0) (c : Core) (vs : List View) (m : Moment) → Sound p c vs → IsAnswered c m → Recorded p Q c vs → Recorded p Q (ticked p c m) (views_after p c vs m)
-recorded_ticks p Q c vs m sound answered r = tick_keeps_marks p c vs m sound answered (begins_round p) (Recorded p Q) r
+pub recorded_ticks : (p : Plan) (Q : ℕ → ℕ → Type 0) (c : Core) (vs : List View) (m : Moment) → Sound p c vs → IsAnswered c m → IsFitting p c m → Recorded p Q c vs → Recorded p Q (ticked p c m) (views_after p c vs m)
+recorded_ticks p Q c vs m sound answered fitting r = tick_keeps_marks p c vs m sound answered fitting (begins_round p) (goes_round p) (Recorded p Q) r
     (λ seat v call next at_seat at_view is goes. by_call seat v call next at_seat at_view is goes.0)
-    (λ seat v program rights hand hs at_seat at_view comes. still_recorded p Q c vs m.seat r seat v program rights hand hs at_seat at_view comes)
+    (λ seat v program rights hand hs a at_seat at_view comes. still_recorded p Q c vs m.seat r seat v program rights hand hs a at_seat at_view comes)
   where
     by_call : (seat : SeatState) (v : View) (call : Call) (next : ℕ → Program) → get_elem? c.seats m.seat ≡ some seat → get_elem? vs m.seat ≡ some v → first_step seat.program ≡ Do call next → May p v call
         → Recorded p Q (stepped p m.seat seat call next c) (set vs m.seat (row p call (found_at c.words (word_of p call)) (hand_at p c.words c.homes call) v))
@@ -243,6 +288,7 @@ recorded_ticks p Q c vs m sound answered r = tick_keeps_marks p c vs m sound ans
     by_call seat v (StoreOpen o x) next at_seat at_view is may = store_step p Q c vs m.seat r seat v (StoreOpen o x) next at_seat at_view is may sound o x refl
     by_call seat v call next at_seat at_view is may = plain_step p Q c vs m.seat r seat v call next at_seat at_view is may refl refl
 
-pub run_recorded : (p : Plan) (Q : ℕ → Type 0) (c : Core) (vs : List View) (moments : List Moment) → Sound p c vs → AreAnswered p c moments → Recorded p Q c vs → Recorded p Q (run p c moments) (views_along p c vs moments)
-run_recorded p Q c vs [] sound answered r = r
-run_recorded p Q c vs (m ∷ ms) sound answered r = run_recorded p Q (ticked p c m) (views_after p c vs m) ms (sound_ticks p c vs m sound answered.0) answered.1 (recorded_ticks p Q c vs m sound answered.0 r)
+pub run_recorded : (p : Plan) → RetriesGo p → (Q : ℕ → ℕ → Type 0) (c : Core) (vs : List View) (moments : List Moment) → Sound p c vs → AreAnswered p c moments → AreFitting p c moments → Recorded p Q c vs → Recorded p Q (run p c moments) (views_along p c vs moments)
+run_recorded p go Q c vs [] sound answered fitting r = r
+run_recorded p go Q c vs (m ∷ ms) sound answered fitting r = run_recorded p go Q (ticked p c m) (views_after p c vs m) ms (sound_ticks p go c vs m sound answered.0 fitting.0) answered.1 fitting.1
+    (recorded_ticks p Q c vs m sound answered.0 fitting.0 r)

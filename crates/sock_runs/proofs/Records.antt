@@ -11,8 +11,10 @@ use Rattle.sock_programs.specs.Calls.{Call, ClaimSlot, GiveBirth, AddRef, SubRef
 use Rattle.sock_io.specs.declared.link.Put.{Put}
 use Rattle.sock_io.specs.declared.link.Ready.{Ready}
 use Rattle.sock_model.specs.declared.chain.Heading.{Heading}
-use Rattle.sock_programs.specs.Programs.{Program, Do, Say, Sent, Rest, TakeMessage, TakeHome, PutHome, PutBytes, AskReady, Write}
-use Rattle.sock_programs.specs.Cores.{word_of, word_after, found_at, words_after, next_step}
+use Rattle.sock_programs.specs.Asides.{Found}
+use Rattle.sock_programs.specs.Heads.{Head, Exit, Retry, Opens}
+use Rattle.sock_programs.specs.Programs.{Program, Do, Say, Sent, Rest, TakeMessage, TakeHome, PutHome, PutBytes, AskReady, Write, Aside, Round, Keep, Retries}
+use Rattle.sock_programs.specs.Cores.{word_of, word_after, found_at, words_after, next_step, resolved}
 use Rattle.sock_runs.specs.May.{May}
 use Rattle.sock_runs.specs.Sound.{first_step}
 
@@ -26,6 +28,15 @@ stores _ = none
 abbrev pub next_stores : Program → Option (ℕ × ℕ)
 next_stores (Do call next) = stores call
 next_stores _ = none
+
+-- the `open` whose word a step loads, and for which a loop waits
+abbrev pub loads : Call → Option ℕ
+loads (LoadOpen o) = some o
+loads _ = none
+
+abbrev pub awaits : Head → Option ℕ
+awaits (Opens o) = some o
+awaits _ = none
 
 -- the operations of `left` but this one
 abbrev pub but : ℕ → (ℕ → Bool) → ℕ → Bool
@@ -45,15 +56,23 @@ Records left (PutHome k n after) = Records left after
 Records left (PutBytes k asked bytes next) = (answer : Put) → Records left (next answer)
 Records left (AskReady k next) = (answer : Ready) → Records left (next answer)
 Records left (Write w after) = Records left after
+Records left (Aside step next) = (found : Found step) → Records left (next found)
+Records left (Round head next) = (exit : Exit head) → Records left (next exit)
+Records left (Keep r next) = Records left next
+Records left (Retries requests after) = Records left after
 
-pub next_stored : (program : Program) (x : ℕ × ℕ) → next_stores program ≡ some x → next_stores (next_step program) ≡ some x
-next_stored (Say o outcome next) x e = absurd (some-ne-none x (sym e))
-next_stored (Sent o next) x e = absurd (some-ne-none x (sym e))
-next_stored _ x e = e
+pub next_stored : (ws : List Retry) (program : Program) (x : ℕ × ℕ) → next_stores program ≡ some x → next_stores (next_step (resolved ws program)) ≡ some x
+next_stored ws (Say o outcome next) x e = absurd (some-ne-none x (sym e))
+next_stored ws (Sent o next) x e = absurd (some-ne-none x (sym e))
+next_stored ws (Keep r next) x e = absurd (some-ne-none x (sym e))
+next_stored ws (Retries requests after) x e = absurd (some-ne-none x (sym e))
+next_stored ws (Do call next) x e = e
+next_stored ws _ x e = absurd (some-ne-none x (sym e))
 
 -- who stores next isn't at the head of a loop
 pub first_stored : (program : Program) (x : ℕ × ℕ) → next_stores program ≡ some x → next_stores (first_step program) ≡ some x
 first_stored (Write w after) x e = absurd (some-ne-none x (sym e))
+first_stored (Round head next) x e = absurd (some-ne-none x (sym e))
 first_stored _ x e = e
 
 -- ## Words of operations

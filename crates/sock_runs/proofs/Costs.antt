@@ -1,5 +1,5 @@
 -- What a round of whoever writes a link costs: from the head of a loop its first step is one of those that are left at most.
-use Rattle.std.proofs.Common.{◌≡◌, ◌≢◌, ℕ, ◌+◌, ◌-◌, ◌*◌, ◌%◌, ◌==◌, ◌<◌, ◌≤◌, Bool, true, false, List, [], ◌∷◌, length, take, drop, refl, sym, ap, ◌∙◌, subst, arith, cond, eqb, leb, ltb, eq-eqb, eqb-true, lt-ltb, ltb-true, leb-false}
+use Rattle.std.proofs.Common.{◌≡◌, ◌≢◌, ℕ, ◌+◌, ◌-◌, ◌*◌, ◌%◌, ◌==◌, ◌<◌, ◌≤◌, Bool, true, false, List, [], ◌∷◌, length, drop, refl, sym, ap, ◌∙◌, subst, arith, cond, eqb, leb, ltb, eq-eqb, eqb-true, lt-ltb, ltb-true, leb-false}
 use Rattle.std.proofs.lemmas.Bool.{true≢false}
 use Rattle.std.proofs.lemmas.List.{length-drop}
 use Rattle.sock_words.specs.declared.plain.Plan.{Plan}
@@ -19,8 +19,10 @@ use Rattle.sock_model.specs.SlotRows.{marks_of, back, looked}
 use Rattle.sock_model.specs.ChainRows.{with_right}
 use Rattle.sock_programs.specs.Calls.{Call, LookWord, LoadCode, SetOdd, SubRef, StoreCode, StorePlace, DropPlace, EmptyHead, ReadNext, TurnNext, FreeRequest}
 use Rattle.sock_programs.specs.Writings.{Holder, Writing, Puts, Waits, Empties, Walks}
-use Rattle.sock_programs.specs.Programs.{Program, Do, Say, Sent, Rest, TakeMessage, TakeHome, PutHome, PutBytes, AskReady, Write, LAST_GENERATION, set_failed}
-use Rattle.sock_programs.specs.Sends.{freed, one_more, passed, placed, dropped, put_answered, block, first_put}
+use Rattle.sock_programs.specs.Programs.{Program, Do, Say, Sent, TakeMessage, TakeHome, PutBytes, Write, LAST_GENERATION, set_failed}
+use Rattle.sock_programs.specs.Sends.{freed, one_more, passed, passed_telling, tell_drop, placed, dropped, put_answered, block, first_put}
+use Rattle.sock_programs.specs.Parts.{part}
+use Rattle.sock_programs.specs.Posts.{post}
 use Rattle.sock_programs.specs.Ticks.{FitsPut}
 use Rattle.sock_programs.specs.Cores.{next_step}
 use Rattle.sock_steps.proofs.Quiet.{either_way}
@@ -29,23 +31,11 @@ use Rattle.slot_laws.proofs.Numbers.{only-same}
 use Rattle.sock_runs.specs.Rows.{row, by_right, looked_clean, took_message, link_home_again, link_away, took_bytes}
 use Rattle.sock_runs.specs.May.{IsOfHeld, FindsFailed}
 use Rattle.sock_runs.specs.Writes.{At}
-use Rattle.sock_runs.specs.Lasts.{weight, cost, saw_failed, asking_cost, failing_cost, waiting_cost, loop_cost, LastsFor}
+use Rattle.sock_runs.specs.Lasts.{POST, weight, cost, saw_failed, asking_cost, failing_cost, waiting_cost, loop_cost, LastsFor}
 use Rattle.sock_runs.proofs.Leaves.{right_way}
+use Rattle.sock_runs.proofs.IdCosts.{lasts_more, post_lasts}
 
 -- ## Numbers
-
--- who has at most so many steps left has at most more
-pub lasts_more : (p : Plan) (v : View) (program : Program) (m n : ℕ) → m ≤ n → LastsFor p v program m → LastsFor p v program n
-lasts_more p v (Do call next) m n le l = let a = l.1 in (l.0, omega (arith, le, a), l.2)
-lasts_more p v (Say o outcome next) m n le l = lasts_more p v next m n le l
-lasts_more p v (Sent o next) m n le l = lasts_more p v next m n le l
-lasts_more p v Rest m n le l = tt
-lasts_more p v (TakeMessage q next) m n le l = λ heading bytes some_. let a = l heading bytes some_ in let b = a.1 in (a.0, omega (arith, le, b), a.2)
-lasts_more p v (TakeHome k next) m n le l = let a = l.1 in (l.0, omega (arith, le, a), l.2)
-lasts_more p v (PutHome k places after) m n le l = let a = l.1 in (l.0, omega (arith, le, a), l.2)
-lasts_more p v (PutBytes k asked bytes next) m n le l = λ answer fits. let a = l answer fits in let b = a.1 in (a.0, omega (arith, le, b), a.2)
-lasts_more p v (AskReady k next) m n le l = λ answer prompt. let a = l answer prompt in let b = a.1 in (a.0, omega (arith, le, b), a.2)
-lasts_more p v (Write w after) m n le l = let a = l.1 in (l.0, omega (arith, le, a), l.2)
 
 -- what is said takes no step
 pub lasts_next : (p : Plan) (v : View) (program : Program) (n : ℕ) → LastsFor p v program n → LastsFor p v (next_step program) n
@@ -198,20 +188,37 @@ module _ (p : Plan) (after : Program) (m : ℕ) (follows : Lasting p after m) wh
   freed_lasts now next n l = either_lasts p next (Do (FreeRequest (slot_of now) (generation_of now)) (λ _. next)) (1 + n) (eqb (generation_of now) LAST_GENERATION) (lasting_more p next n (1 + n) (omega arith) l)
       (λ u. (n, omega arith, λ found hand f. l (row p (FreeRequest (slot_of now) (generation_of now)) found hand u)))
 
+  -- where what is told costs so much
+  telling_lasts : (h : Holder) (now : ℕ) (tells : Program → Program) (t : ℕ) → ((x : Program) (n : ℕ) → Lasting p x n → Lasting p (tells x) (t + n)) → Lasting p (passed_telling h now tells after) (5 + t + m)
+  telling_lasts h now tells t told = let next_of : ℕ → Program = λ next. TakeMessage (slot_of next) (λ heading bytes. Write (Puts h next heading bytes 0 false) after) in
+      either_lasts p (freed now (tells (Write (Empties h) after))) (Do (ReadNext (slot_of now)) (λ next. freed now (tells (next_of next)))) (5 + t + m) (eqb now h.last)
+      (lasting_more p (freed now (tells (Write (Empties h) after))) (1 + (t + (4 + m))) (5 + t + m) (omega arith) (freed_lasts now (tells (Write (Empties h) after)) (t + (4 + m)) (told (Write (Empties h) after) (4 + m) (λ u. heads_lasts u (Empties h) (4 + m) (omega arith)))))
+      (λ u. (
+        4 + t + m,
+        omega arith,
+        λ next hand f. lasting_more p (freed now (tells (next_of next))) (1 + (t + (1 + m))) (4 + t + m) (omega arith) (freed_lasts now (tells (next_of next)) (t + (1 + m)) (told (next_of next) (1 + m) (takes_next h next (slot_of next)))) (row p (ReadNext (slot_of now)) next hand u),
+      ))
+
   passed_lasts : (h : Holder) (now : ℕ) → Lasting p (passed h now after) (5 + m)
-  passed_lasts h now = let next_of : ℕ → Program = λ next. TakeMessage (slot_of next) (λ heading bytes. Write (Puts h next heading bytes 0 false) after) in
-      either_lasts p (freed now (Write (Empties h) after)) (Do (ReadNext (slot_of now)) (λ next. freed now (next_of next))) (5 + m) (eqb now h.last)
-      (lasting_more p (freed now (Write (Empties h) after)) (1 + (4 + m)) (5 + m) (omega arith) (freed_lasts now (Write (Empties h) after) (4 + m) (λ u. heads_lasts u (Empties h) (4 + m) (omega arith))))
-      (λ u. (4 + m, omega arith, λ next hand f. lasting_more p (freed now (next_of next)) (1 + (1 + m)) (4 + m) (omega arith) (freed_lasts now (next_of next) (1 + m) (takes_next h next (slot_of next))) (row p (ReadNext (slot_of now)) next hand u)))
+  passed_lasts h now = lasting_more p (passed h now after) (5 + 0 + m) (5 + m) (omega arith) (telling_lasts h now (λ x. x) 0 (λ x n l. lasting_more p x n (0 + n) (omega arith) l))
 
   placed_lasts : (h : Holder) (now : ℕ) (heading : Heading) → Lasting p (placed h now heading after) (6 + m)
   placed_lasts h now heading u = (5 + m, omega arith, λ found hand f. passed_lasts (one_more h) now (row p (StorePlace heading.place h.link h.places) found hand u))
 
-  dropped_lasts : (h : Holder) (now : ℕ) (heading : Heading) → Lasting p (dropped h now heading after) (7 + m)
+  -- a message is dropped, and its call is told
+  tell_lasts : (heading : Heading) (code : ℕ) (x : Program) (n : ℕ) → Lasting p x n → Lasting p (tell_drop heading code x) (POST + n)
+  tell_lasts heading code x n l = let c : ℕ = cond (eqb code 0) 1009 code in
+      either_lasts p x (post heading.owner c heading.attempt x) (POST + n) (eqb heading.owner 0) (lasting_more p x n (POST + n) (omega arith) l) (λ u. post_lasts p u heading.owner c heading.attempt x n (POST + n) (l u) (omega arith))
+
+  dropped_lasts : (h : Holder) (now : ℕ) (heading : Heading) → Lasting p (dropped h now heading after) (7 + POST + m)
   dropped_lasts h now heading u = (
-    6 + m,
+    6 + POST + m,
     omega arith,
-    λ code hand f. (5 + m, omega arith, λ found hand' g. passed_lasts (one_more h) now (row p (DropPlace heading.place h.link h.places) found hand' (row p (LoadCode (socket_id_slot h.id) (socket_id_version h.id)) code hand u))),
+    λ code hand f. (
+      5 + POST + m,
+      omega arith,
+      λ found hand' g. telling_lasts (one_more h) now (tell_drop heading code) POST (tell_lasts heading code) (row p (DropPlace heading.place h.link h.places) found hand' (row p (LoadCode (socket_id_slot h.id) (socket_id_version h.id)) code hand u)),
+    ),
   )
 
   -- ## The first look
@@ -231,7 +238,7 @@ module _ (p : Plan) (after : Program) (m : ℕ) (follows : Lasting p after m) wh
 
     first_put_lasts : Lasting p (first_put h now heading bytes after) (weight (length bytes) + 5 + m)
     first_put_lasts = let n : ℕ = weight (length bytes) + 4 + m in
-        let puts_first : Program = PutBytes h.link false (take (8192 - 0 % 8192) bytes) (put_answered h now heading bytes 0 after) in
+        let puts_first : Program = PutBytes h.link false (part heading.parts bytes 0) (put_answered h now heading bytes 0 after) in
         let looks_again : Program = Write (Puts h now heading bytes 0 false) after in
         does p (LookWord h.id) (λ found. cond (vref_version found % 2 == 0) puts_first looks_again) n (weight (length bytes) + 5 + m) (omega arith)
         (λ found. either_lasts p puts_first looks_again n (vref_version found % 2 == 0)
@@ -255,13 +262,13 @@ module _ (p : Plan) (after : Program) (m : ℕ) (follows : Lasting p after m) wh
     saw_is u saw = lt-ltb 0 (marks_of (is_saw (its_life + 1)) its_slot u) saw
 
     -- the link failed
-    refused_lasts : (u : View) → 0 < marks_of (is_hold its_life) its_slot u → LastsFor p u (set_failed h.id 1009 (λ _. Write (Puts h now heading left taken false) after)) (14 * length left + 23 + m)
-    refused_lasts u holds = lasts_more p u (set_failed h.id 1009 (λ _. Write (Puts h now heading left taken false) after)) (14 * length left + 20 + m + 3) (14 * length left + 23 + m) (omega arith)
-        (failed_lasts p h.id 1009 (Write (Puts h now heading left taken false) after) (14 * length left + 20 + m)
-        (λ w saw. heads_lasts w (Puts h now heading left taken false) (14 * length left + 20 + m) (omega (arith, ap failing_cost (saw_is w saw)))) u holds)
+    refused_lasts : (u : View) → 0 < marks_of (is_hold its_life) its_slot u → LastsFor p u (set_failed h.id 1009 (λ _. Write (Puts h now heading left taken false) after)) (14 * length left + 23 + POST + m)
+    refused_lasts u holds = lasts_more p u (set_failed h.id 1009 (λ _. Write (Puts h now heading left taken false) after)) (14 * length left + 20 + POST + m + 3) (14 * length left + 23 + POST + m) (omega arith)
+        (failed_lasts p h.id 1009 (Write (Puts h now heading left taken false) after) (14 * length left + 20 + POST + m)
+        (λ w saw. heads_lasts w (Puts h now heading left taken false) (14 * length left + 20 + POST + m) (omega (arith, ap failing_cost (saw_is w saw)))) u holds)
 
     -- a put is answered, where at most so much was left
-    answers : (u : View) → 0 < marks_of (is_hold its_life) its_slot u → (asked : Bool) (bytes : List ℕ) (answer : Put) → FitsPut asked bytes answer → (n : ℕ) → n ≡ 14 * length left + asking_cost asked + 26 + m
+    answers : (u : View) → 0 < marks_of (is_hold its_life) its_slot u → (asked : Bool) (bytes : List ℕ) (answer : Put) → FitsPut asked bytes answer → (n : ℕ) → n ≡ 14 * length left + asking_cost asked + 26 + POST + m
         → LastsFor p (took_bytes answer u) (put_answered h now heading left taken after answer) n
     answers u holds asked bytes (puts.Took k) fits n is = branch (leb (length left) k) refl
       where
@@ -270,7 +277,7 @@ module _ (p : Plan) (after : Program) (m : ℕ) (follows : Lasting p after m) wh
         branch false all = heads_lasts (took_bytes (puts.Took k) u) (Puts h now heading (drop k left) (taken + k) false) n
             (omega (arith, is, fits.0, leb-false (length left) k all, length-drop k left, failing_few (saw_failed (took_bytes (puts.Took k) u) h)))
     answers u holds asked bytes puts.Again fits n is = heads_lasts u (Waits h now heading left taken) n (omega (arith, is, ap asking_cost fits, waiting_few (saw_failed u h)))
-    answers u holds asked bytes puts.Failed fits n is = lasts_more p u (set_failed h.id 1009 (λ _. Write (Puts h now heading left taken false) after)) (14 * length left + 23 + m) n (omega (arith, is)) (refused_lasts u holds)
+    answers u holds asked bytes puts.Failed fits n is = lasts_more p u (set_failed h.id 1009 (λ _. Write (Puts h now heading left taken false) after)) (14 * length left + 23 + POST + m) n (omega (arith, is)) (refused_lasts u holds)
 
     look_holds : (v : View) (found : ℕ) → 0 < marks_of (is_hold its_life) its_slot v → 0 < marks_of (is_hold its_life) its_slot (by_right v.rights (looked_clean its_slot found v) (looked its_slot found v))
     look_holds v found holds = let more : 0 < marks_of (is_hold its_life) its_slot (looked its_slot found v) = omega (arith, holds, hold_more its_life its_slot (Saw (vref_version found)) v.marks) in
@@ -285,25 +292,25 @@ module _ (p : Plan) (after : Program) (m : ℕ) (follows : Lasting p after m) wh
     puts_round v asked holds n le = (n - 1, omega (arith, le), λ found hand f. branch (saw_failed v h) refl found f (eqb (vref_version found % 2) 0) refl)
       where
         branch : (saw : Bool) → saw_failed v h ≡ saw → (found : ℕ) → IsOfHeld v its_slot found × FindsFailed v its_slot found → (b : Bool) → eqb (vref_version found % 2) 0 ≡ b → LastsFor p (by_right v.rights (looked_clean its_slot found v) (looked its_slot found v))
-            (cond b (PutBytes h.link asked (take (8192 - taken % 8192) left) (put_answered h now heading left taken after)) (dropped h now heading after)) (n - 1)
-        branch saw saw_is found f false odd = lasting_more p (dropped h now heading after) (7 + m) (n - 1) (omega (arith, le)) (dropped_lasts h now heading) (by_right v.rights (looked_clean its_slot found v) (looked its_slot found v))
+            (cond b (PutBytes h.link asked (part heading.parts left taken) (put_answered h now heading left taken after)) (dropped h now heading after)) (n - 1)
+        branch saw saw_is found f false odd = lasting_more p (dropped h now heading after) (7 + POST + m) (n - 1) (omega (arith, le)) (dropped_lasts h now heading) (by_right v.rights (looked_clean its_slot found v) (looked its_slot found v))
         branch true saw_is found f true even = absurd (saw_odd v found f holds saw_is even)
         branch false saw_is found f true even = λ answer fits. (
-          14 * length left + asking_cost asked + 26 + m,
+          14 * length left + asking_cost asked + 26 + POST + m,
           omega (arith, le, ap failing_cost saw_is),
-          answers (by_right v.rights (looked_clean its_slot found v) (looked its_slot found v)) (look_holds v found holds) asked (take (8192 - taken % 8192) left) answer fits (14 * length left + asking_cost asked + 26 + m) refl,
+          answers (by_right v.rights (looked_clean its_slot found v) (looked its_slot found v)) (look_holds v found holds) asked (part heading.parts left taken) answer fits (14 * length left + asking_cost asked + 26 + POST + m) refl,
         )
 
     waits_round : (v : View) → 0 < marks_of (is_hold its_life) its_slot v → (n : ℕ) → loop_cost v (Waits h now heading left taken) + m ≤ n → LastsFor p v (block (Waits h now heading left taken) after) n
     waits_round v holds n le asks.Now prompt = (n - 1, omega (arith, le), heads_lasts v (Puts h now heading left taken true) (n - 1) (now_few (saw_failed v h) refl))
       where
-        now_few : (b : Bool) → saw_failed v h ≡ b → 14 * length left + 0 + failing_cost (saw_failed v h) + 8 + m ≤ n - 1
+        now_few : (b : Bool) → saw_failed v h ≡ b → 14 * length left + 0 + failing_cost (saw_failed v h) + 8 + POST + m ≤ n - 1
         now_few true is = omega (arith, le, ap failing_cost is, ap waiting_cost is)
         now_few false is = omega (arith, le, ap failing_cost is, ap waiting_cost is)
     waits_round v holds n le asks.NotYet prompt = absurd (prompt refl)
-    waits_round v holds n le asks.Failed prompt = (14 * length left + 23 + m, few (saw_failed v h) refl, refused_lasts v holds)
+    waits_round v holds n le asks.Failed prompt = (14 * length left + 23 + POST + m, few (saw_failed v h) refl, refused_lasts v holds)
       where
-        few : (b : Bool) → saw_failed v h ≡ b → 14 * length left + 23 + m + 1 ≤ n
+        few : (b : Bool) → saw_failed v h ≡ b → 14 * length left + 23 + POST + m + 1 ≤ n
         few true is = omega (arith, le, ap waiting_cost is)
         few false is = omega (arith, le, ap waiting_cost is)
 

@@ -1,5 +1,5 @@
 -- The ending sets each life failed that stands in the word of one of its operations.
-use Rattle.std.proofs.Common.{◌≡◌, ◌≢◌, ℕ, zero, suc, ◌+◌, ◌-◌, ◌*◌, ◌%◌, ◌<◌, ◌⊎◌, ◌==◌, Bool, false, cond, eq-eqb, ne_eqb, bit_or, List, [], ◌∷◌, length, get_or, set, get_or-set_same, refl, sym, ap, ◌∙◌, subst, inl, inr, ⊎_elim, arith}
+use Rattle.std.proofs.Common.{◌≡◌, ◌≢◌, ℕ, zero, suc, ◌+◌, ◌-◌, ◌*◌, ◌%◌, ◌<◌, ◌⊎◌, ◌==◌, cond, eq-eqb, ne_eqb, bit_or, List, [], ◌∷◌, length, get_or, set, get_or-set_same, refl, sym, ap, ◌∙◌, subst, inl, inr, ⊎_elim, arith}
 use Rattle.std.proofs.lemmas.Bool.{true≢false}
 use mathlib.Core.Logic.{dite}
 use mathlib.Core.Option.{Option, some, none, some-injective, some-ne-none}
@@ -23,21 +23,27 @@ use Rattle.sock_programs.specs.Calls.{Call, GiveBirth, AddRef, SetOdd, StoreOpen
 use Rattle.sock_io.specs.declared.link.Put.{Put}
 use Rattle.sock_io.specs.declared.link.Ready.{Ready}
 use Rattle.sock_model.specs.declared.chain.Heading.{Heading}
-use Rattle.sock_programs.specs.Programs.{Program, Do, Say, Sent, Rest, TakeMessage, TakeHome, PutHome, PutBytes, AskReady, Write, NO_SOCKET, address, set_failed, release}
+use Rattle.sock_programs.specs.Asides.{Found}
+use Rattle.sock_programs.specs.Heads.{Exit, Retry}
+use Rattle.sock_programs.specs.Programs.{Program, Do, Say, Sent, Rest, TakeMessage, TakeHome, PutHome, PutBytes, AskReady, Write, Aside, Round, Keep, Retries, NO_SOCKET, address, set_failed, release}
 use Rattle.sock_programs.specs.Clients.{ending_of}
-use Rattle.sock_programs.specs.Cores.{Core, SeatState, word_of, word_after, found_at, words_after, homes_after, hand_after, next_step, stepped, with_seat}
+use Rattle.sock_programs.specs.Cores.{Calls, Core, SeatState, word_of, word_after, found_at, words_after, homes_after, hand_after, resolved, next_step, waiting_at, stepped, with_seat}
 use Rattle.sock_programs.specs.Ticks.{Moment, ticked, run, IsAnswered, AreAnswered}
 use Rattle.sock_runs.specs.Rows.{row, hand_at}
 use Rattle.sock_runs.specs.GoesOn.{GoesOn}
-use Rattle.sock_runs.specs.Sound.{state, Sound, first_step, AllRest, AllFailed, views_after, views_along}
+use Rattle.sock_runs.specs.Sound.{state, Sound, first_step, IsFitting, AreFitting, AllFailed, views_after, views_along}
 use Rattle.sock_runs.proofs.Along.{place_inside}
 use Rattle.sock_runs.proofs.Bounds.{law, lives_le}
 use Rattle.sock_runs.proofs.Notes.{bears, births_only, failers_stay}
 use Rattle.sock_runs.proofs.Records.{stores, next_stores, Records, opens_same}
-use Rattle.sock_runs.proofs.Recorded.{Recorded, plain_next}
-use Rattle.sock_runs.proofs.Through.{Passes, Follows, records_passes, records_follow, next_follows, comes_follows, through_first, through_end}
+use Rattle.sock_runs.proofs.Recorded.{Recorded, nothing, plain_next}
+use Rattle.sock_runs.proofs.Through.{Passes, PassesOpens, Follows, records_passes, records_opens, records_follow, comes_follows}
+use Rattle.sock_runs.proofs.ThroughSends.{through_end}
+use Rattle.sock_runs.proofs.ThroughCalls.{through_first, through_next}
 use Rattle.sock_runs.proofs.Cases.{ComesNext, with_rights, tick_keeps_marks}
 use Rattle.sock_runs.proofs.Rounds.{begins_round}
+use Rattle.sock_runs.proofs.Passes.{goes_round}
+use Rattle.sock_runs.proofs.LinkTicks.{RetriesGo}
 use Rattle.sock_runs.proofs.Ticks.{sound_ticks}
 
 -- ## Programs
@@ -57,6 +63,10 @@ Fails o w (PutHome k n after) = Fails o w after
 Fails o w (PutBytes k asked bytes next) = (answer : Put) → Fails o w (next answer)
 Fails o w (AskReady k next) = (answer : Ready) → Fails o w (next answer)
 Fails o w (Write writing after) = Fails o w after
+Fails o w (Aside step next) = (found : Found step) → Fails o w (next found)
+Fails o w (Round head next) = (exit : Exit head) → Fails o w (next exit)
+Fails o w (Keep r next) = Fails o w next
+Fails o w (Retries requests after) = Fails o w after
 
 fails_on : (o w : ℕ) (call : Call) (next : ℕ → Program) → ((found : ℕ) → Fails o w (next found)) → Fails o w (Do call next)
 fails_on o w (LoadOpen n) next f = λ found e. f found
@@ -66,7 +76,7 @@ fails_on o w call next f = f
 
 fails_passes : (o w : ℕ) → Passes (Fails o w)
 fails_passes o w = record {
-  step = λ call next s b f. fails_on o w call next f;
+  step = λ call next s b l f. fails_on o w call next f;
   say = λ n outcome next f. f;
   sent = λ n next f. f;
   message = λ q next f. f;
@@ -75,7 +85,14 @@ fails_passes o w = record {
   put = λ k asked bytes next f. f;
   ask = λ k next f. f;
   write = λ writing after f. f;
+  aside = λ step next f. f;
+  round = λ head l next f. f;
+  keep = λ r next f. f;
+  retries = λ requests after f. f;
 }
+
+fails_opens : (o w : ℕ) → PassesOpens (Fails o w)
+fails_opens o w = record { load = λ n next f found e. f found; wait = λ n next f. f }
 
 fails_follow : (o w : ℕ) → Follows (Fails o w)
 fails_follow o w = record {
@@ -87,13 +104,17 @@ fails_follow o w = record {
   put = λ k asked bytes next f. f;
   ask = λ k next f. f;
   write = λ writing after f. f;
+  aside = λ step next f. f;
+  round = λ head next f. f;
+  keep = λ r next f. f;
+  retries = λ requests after f. f;
 }
 
-next_fails : (o w : ℕ) (program : Program) → Fails o w program → Fails o w (next_step program)
-next_fails o w program f = next_follows (Fails o w) (fails_follow o w) program f
+next_fails : (o w : ℕ) (ws : List Retry) (program : Program) → Fails o w program → Fails o w (next_step (resolved ws program))
+next_fails o w ws program f = through_next (Fails o w) (fails_passes o w) (fails_follow o w) ws program f
 
 first_fails : (o w : ℕ) (program : Program) → Fails o w program → Fails o w (first_step program)
-first_fails o w program f = through_first (Fails o w) (fails_passes o w) (fails_follow o w) program f
+first_fails o w program f = through_first (Fails o w) (fails_passes o w) (fails_opens o w) (fails_follow o w) program f
 
 -- whoever finds another version than that of the life leaves it, and else holds it
 fails_held : (o w id : ℕ) (held gone : Program) → id + 1 ≡ w → Fails o w held → (found : ℕ)
@@ -113,11 +134,7 @@ fails_ended o w some_ socket next word is = let id : ℕ = word - 1 in let held 
 fails_ending : (o w : ℕ) → 0 < w → w ≢ NO_SOCKET → (os : List ℕ) (n : ℕ) → get_elem? os n ≡ some o → Fails o w (ending_of os)
 fails_ending o w some_ socket [] n at = absurd (some-ne-none o (sym at))
 fails_ending o w some_ socket (m ∷ os) zero at = λ word is. fails_ended o w some_ socket (ending_of os) word (is (some-injective m o at))
-fails_ending o w some_ socket (m ∷ os) (suc n) at = through_end (Fails o w) (fails_passes o w) m (ending_of os) (fails_ending o w some_ socket os n at)
-
--- the programs that store nothing and make no life
-abbrev pub nothing : ℕ → Bool
-nothing _ = false
+fails_ending o w some_ socket (m ∷ os) (suc n) at = through_end (Fails o w) (fails_passes o w) (fails_opens o w) m (ending_of os) (fails_ending o w some_ socket os n at)
 
 stores_nothing : (program : Program) → Records nothing program → next_stores program ≡ none
 stores_nothing (Do (StoreOpen o w) next) r = absurd (true≢false (sym r.0))
@@ -165,10 +182,10 @@ module _ (p : Plan) (n : ℕ) (c : Core) (vs : List View) (i : ℕ) (sound : Sou
   after = stepped p i seat call next c
 
   abbrev seat' : SeatState
-  seat' = record { program = next_step (next (found_at c.words (word_of p call))); hand = hand_after p call c.homes seat.hand }
+  seat' = record { program = next_step (resolved (waiting_at c.calls.waiting i) (next (found_at c.words (word_of p call)))); hand = hand_after p call c.homes seat.hand }
 
   mine : Records nothing (Do call next)
-  mine = subst (Records nothing) is (through_first (Records nothing) (records_passes nothing) (records_follow nothing) seat.program (r.quiet i seat at_seat))
+  mine = subst (Records nothing) is (through_first (Records nothing) (records_passes nothing) (records_opens nothing) (records_follow nothing) seat.program (r.quiet i seat at_seat))
 
   still : (stores call ≡ none) × (bears call ≡ none)
   still = is_still call next mine
@@ -212,7 +229,7 @@ module _ (p : Plan) (n : ℕ) (c : Core) (vs : List View) (i : ℕ) (sound : Sou
 
   pub closing_step : Closing p n after (set vs i w)
   closing_step = record {
-    quiet = λ j s at. ⊎_elim (λ a. subst (λ (x : SeatState). Records nothing x.program) a.1 (next_follows (Records nothing) (records_follow nothing) (next found) (plain_next nothing call next still.0 still.1 mine found))) (λ a. r.quiet j s a.1) (at_set c.seats i j seat' s at);
+    quiet = λ j s at. ⊎_elim (λ a. subst (λ (x : SeatState). Records nothing x.program) a.1 (through_next (Records nothing) (records_passes nothing) (records_follow nothing) (waiting_at c.calls.waiting i) (next found) (plain_next nothing call next still.0 still.1 mine found))) (λ a. r.quiet j s a.1) (at_set c.seats i j seat' s at);
     failing = λ j h inside born. let before = born_before j h born in ⊎_elim (λ a. inl (failed_after j h a)) (λ x. going j h inside before x) (r.failing j h inside before);
   }
     where
@@ -227,20 +244,20 @@ module _ (p : Plan) (n : ℕ) (c : Core) (vs : List View) (i : ℕ) (sound : Sou
             word = word';
             seat = seat';
             there = ap (get_elem? after.seats) e ∙ set_here c.seats i seat' (place_inside c.seats i seat at_seat);
-            fails = next_fails x.operation (socket_id h j + 1) (next found) g;
+            fails = next_fails x.operation (socket_id h j + 1) (waiting_at c.calls.waiting i) (next found) g;
           }) (step_fails j h x.operation inside born x.word f))
           (λ far. inr record { operation = x.operation; inside = x.inside; word = word'; seat = x.seat; there = set_else c.seats i n seat' far ∙ x.there; fails = x.fails })
 
 -- a step that is none on a word leaves it so
-module _ (p : Plan) (n : ℕ) (c : Core) (vs : List View) (i : ℕ) (r : Closing p n c vs) (seat : SeatState) (v : View) (program : Program) (rights : List Right) (hand : List Home) (hs : List (Option Home))
+module _ (p : Plan) (n : ℕ) (c : Core) (vs : List View) (i : ℕ) (r : Closing p n c vs) (seat : SeatState) (v : View) (program : Program) (rights : List Right) (hand : List Home) (hs : List (Option Home)) (a : Calls)
     (at_seat : get_elem? c.seats i ≡ some seat) (at_view : get_elem? vs i ≡ some v) (comes : ComesNext p (first_step seat.program) program) where
   abbrev still_seat : SeatState
-  still_seat = record { program = next_step program; hand = hand }
+  still_seat = record { program = next_step (resolved (waiting_at a.waiting i) program); hand = hand }
 
-  still_moved : (f : Mark → ℕ) (j : ℕ) → count f (slot_facts (state (with_seat i program hand c.words hs c) (set vs i (with_rights v rights))) j) + marks_of f j v ≡ count f (slot_facts (state c vs) j) + marks_of f j v
+  still_moved : (f : Mark → ℕ) (j : ℕ) → count f (slot_facts (state (with_seat i program hand c.words hs (record c { calls = a })) (set vs i (with_rights v rights))) j) + marks_of f j v ≡ count f (slot_facts (state c vs) j) + marks_of f j v
   still_moved f j = counts (state c vs) i v (with_rights v rights) at_view c.words hs f j
 
-  still_fails : (j h : ℕ) → WillFail p c n (socket_id h j + 1) → WillFail p (with_seat i program hand c.words hs c) n (socket_id h j + 1)
+  still_fails : (j h : ℕ) → WillFail p c n (socket_id h j + 1) → WillFail p (with_seat i program hand c.words hs (record c { calls = a })) n (socket_id h j + 1)
   still_fails j h x = dite (ℕ_discrete n i)
       (λ e. let same : x.seat ≡ seat = some-injective x.seat seat (sym x.there ∙ (ap (get_elem? c.seats) e ∙ at_seat)) in
       record {
@@ -249,58 +266,60 @@ module _ (p : Plan) (n : ℕ) (c : Core) (vs : List View) (i : ℕ) (r : Closing
         word = x.word;
         seat = still_seat;
         there = ap (get_elem? (set c.seats i still_seat)) e ∙ set_here c.seats i still_seat (place_inside c.seats i seat at_seat);
-        fails = next_fails x.operation (socket_id h j + 1) program (comes_follows (Fails x.operation (socket_id h j + 1)) (fails_follow x.operation (socket_id h j + 1)) p (first_step seat.program) program comes
+        fails = next_fails x.operation (socket_id h j + 1) (waiting_at a.waiting i) program (comes_follows (Fails x.operation (socket_id h j + 1)) (fails_follow x.operation (socket_id h j + 1)) p (first_step seat.program) program comes
             (subst (λ (y : SeatState). Fails x.operation (socket_id h j + 1) (first_step y.program)) same (first_fails x.operation (socket_id h j + 1) x.seat.program x.fails)));
       })
       (λ far. record { operation = x.operation; inside = x.inside; word = x.word; seat = x.seat; there = set_else c.seats i n still_seat far ∙ x.there; fails = x.fails })
 
-  pub closing_still : Closing p n (with_seat i program hand c.words hs c) (set vs i (with_rights v rights))
+  pub closing_still : Closing p n (with_seat i program hand c.words hs (record c { calls = a })) (set vs i (with_rights v rights))
   closing_still = record {
-    quiet = λ j s at. ⊎_elim (λ a. subst (λ (x : SeatState). Records nothing x.program) a.1 (next_follows (Records nothing) (records_follow nothing) program (comes_follows (Records nothing) (records_follow nothing) p (first_step seat.program) program comes
-        (through_first (Records nothing) (records_passes nothing) (records_follow nothing) seat.program (r.quiet i seat at_seat))))) (λ a. r.quiet j s a.1) (at_set c.seats i j still_seat s at);
-    failing = λ j h inside born. ⊎_elim (λ a. inl (omega (arith, a, still_moved (is_failer h) j))) (λ x. inr (still_fails j h x)) (r.failing j h inside (omega (arith, born, still_moved (is_born h) j)));
+    quiet = λ j s at. ⊎_elim (λ y. subst (λ (x : SeatState). Records nothing x.program) y.1 (through_next (Records nothing) (records_passes nothing) (records_follow nothing) (waiting_at a.waiting i) program (comes_follows (Records nothing) (records_follow nothing) p (first_step seat.program) program comes
+        (through_first (Records nothing) (records_passes nothing) (records_opens nothing) (records_follow nothing) seat.program (r.quiet i seat at_seat))))) (λ y. r.quiet j s y.1) (at_set c.seats i j still_seat s at);
+    failing = λ j h inside born. ⊎_elim (λ y. inl (omega (arith, y, still_moved (is_failer h) j))) (λ x. inr (still_fails j h x)) (r.failing j h inside (omega (arith, born, still_moved (is_born h) j)));
   }
 
-closing_ticks : (p : Plan) (n : ℕ) (c : Core) (vs : List View) (m : Moment) → Sound p c vs → IsAnswered c m → Closing p n c vs → Closing p n (ticked p c m) (views_after p c vs m)
-closing_ticks p n c vs m sound answered r = tick_keeps_marks p c vs m sound answered (begins_round p) (λ d ws. Sound p d ws → Closing p n d ws) (λ _. r)
+closing_ticks : (p : Plan) → RetriesGo p → (n : ℕ) (c : Core) (vs : List View) (m : Moment) → Sound p c vs → IsAnswered c m → IsFitting p c m → Closing p n c vs → Closing p n (ticked p c m) (views_after p c vs m)
+closing_ticks p go n c vs m sound answered fitting r = tick_keeps_marks p c vs m sound answered fitting (begins_round p) (goes_round p) (λ d ws. Sound p d ws → Closing p n d ws) (λ _. r)
     (λ seat v call next at_seat at_view is goes sound_after. closing_step p n c vs m.seat sound r seat v call next at_seat at_view is goes sound_after)
-    (λ seat v program rights hand hs at_seat at_view comes _. closing_still p n c vs m.seat r seat v program rights hand hs at_seat at_view comes) (sound_ticks p c vs m sound answered)
+    (λ seat v program rights hand hs a at_seat at_view comes _. closing_still p n c vs m.seat r seat v program rights hand hs a at_seat at_view comes) (sound_ticks p go c vs m sound answered fitting)
 
-pub run_closing : (p : Plan) (n : ℕ) (c : Core) (vs : List View) (moments : List Moment) → Sound p c vs → AreAnswered p c moments → Closing p n c vs → Closing p n (run p c moments) (views_along p c vs moments)
-run_closing p n c vs [] sound answered r = r
-run_closing p n c vs (m ∷ ms) sound answered r = run_closing p n (ticked p c m) (views_after p c vs m) ms (sound_ticks p c vs m sound answered.0) answered.1 (closing_ticks p n c vs m sound answered.0 r)
+pub run_closing : (p : Plan) → RetriesGo p → (n : ℕ) (c : Core) (vs : List View) (moments : List Moment) → Sound p c vs → AreAnswered p c moments → AreFitting p c moments → Closing p n c vs → Closing p n (run p c moments) (views_along p c vs moments)
+run_closing p go n c vs [] sound answered fitting r = r
+run_closing p go n c vs (m ∷ ms) sound answered fitting r = run_closing p go n (ticked p c m) (views_after p c vs m) ms (sound_ticks p go c vs m sound answered.0 fitting.0) answered.1 fitting.1
+    (closing_ticks p go n c vs m sound answered.0 fitting.0 r)
 
--- where no seat has anything left to do, every life was failed
-pub closed_failed : (p : Plan) (n : ℕ) (c : Core) (vs : List View) → Closing p n c vs → AllRest c → AllFailed p c vs
-closed_failed p n c vs r rests i h inside born = ⊎_elim (λ failed. failed) (λ x. absurd (subst (Fails x.operation (socket_id h i + 1)) (rests n x.seat x.there) x.fails)) (r.failing i h inside born)
+-- where the seat that makes the ending has nothing left to do, every life was failed, wherever the others stand
+pub closed_failed : (p : Plan) (n : ℕ) (c : Core) (vs : List View) → Closing p n c vs → ((seat : SeatState) → get_elem? c.seats n ≡ some seat → seat.program ≡ Rest) → AllFailed p c vs
+closed_failed p n c vs r rests i h inside born = ⊎_elim (λ failed. failed) (λ x. absurd (subst (Fails x.operation (socket_id h i + 1)) (rests x.seat x.there) x.fails)) (r.failing i h inside born)
 
 -- ## How it begins
 
-records_ending : (os : List ℕ) → Records nothing (ending_of os)
+pub records_ending : (os : List ℕ) → Records nothing (ending_of os)
 records_ending [] = tt
-records_ending (o ∷ os) = through_end (Records nothing) (records_passes nothing) o (ending_of os) (records_ending os)
+records_ending (o ∷ os) = through_end (Records nothing) (records_passes nothing) (records_opens nothing) o (ending_of os) (records_ending os)
 
--- a core in which nothing is left to do, and in which each life stands in the word of one of the operations of the ending
-pub closing_begins : (p : Plan) (os : List ℕ) (c : Core) (vs : List View) → Sound p c vs → Recorded p (λ o. (n : ℕ) × (get_elem? os n ≡ some o)) c vs → AllRest c → 0 < length c.seats
-    → Closing p 0 (with_seat 0 (ending_of os) [] c.words c.homes c) vs
-closing_begins p os c vs sound r rests some_ = record {
-  quiet = λ j s at. ⊎_elim (λ a. subst (λ (x : SeatState). Records nothing x.program) a.1 (next_follows (Records nothing) (records_follow nothing) (ending_of os) (records_ending os)))
-      (λ a. subst (Records nothing) (sym (rests j s a.1)) tt) (at_set c.seats 0 j seat s at);
+-- a core in which no seat makes a life or stores in the word of an operation any more, also one that waits, and in which each life stands in the word of
+-- one of the operations of the ending
+pub closing_begins : (p : Plan) (os : List ℕ) (Q : ℕ → ℕ → Type 0) → ((j o : ℕ) → Q j o → (n : ℕ) × (get_elem? os n ≡ some o)) → (c : Core) (vs : List View) → Sound p c vs → Recorded p Q c vs
+    → ((j : ℕ) (seat : SeatState) → get_elem? c.seats j ≡ some seat → Records nothing seat.program) → 0 < length c.seats → Closing p 0 (with_seat 0 (ending_of os) [] c.words c.homes c) vs
+closing_begins p os Q listed c vs sound r quiet some_ = record {
+  quiet = λ j s at. ⊎_elim (λ a. subst (λ (x : SeatState). Records nothing x.program) a.1 (through_next (Records nothing) (records_passes nothing) (records_follow nothing) (waiting_at c.calls.waiting 0) (ending_of os) (records_ending os)))
+      (λ a. quiet j s a.1) (at_set c.seats 0 j seat s at);
   failing = λ i h inside born. ⊎_elim
-      (λ x. let recorded = x.2 in inr record {
-        operation = x.0;
+      (λ x. let recorded = x.3 in let there = listed x.0 x.1 x.2 in inr record {
+        operation = x.1;
         inside = recorded.inside;
         word = recorded.word;
         seat = seat;
         there = set_here c.seats 0 seat some_;
-        fails = next_fails x.0 (socket_id h i + 1) (ending_of os) (fails_ending x.0 (socket_id h i + 1) (omega arith) (low i h inside born) os x.1.0 x.1.1);
+        fails = next_fails x.1 (socket_id h i + 1) (waiting_at c.calls.waiting 0) (ending_of os) (fails_ending x.1 (socket_id h i + 1) (omega arith) (low i h inside born) os there.0 there.1);
       })
-      (λ x. absurd (some-ne-none (x.operation, socket_id h i + 1) (sym x.next ∙ ap next_stores (rests x.place x.seat x.there))))
+      (λ x. absurd (some-ne-none (x.operation, socket_id h i + 1) (sym x.next ∙ stores_nothing x.seat.program (quiet x.place x.seat x.there))))
       (r.lives i h inside born);
 }
   where
     seat : SeatState
-    seat = record { program = next_step (ending_of os); hand = [] }
+    seat = record { program = next_step (resolved (waiting_at c.calls.waiting 0) (ending_of os)); hand = [] }
 
     low : (i h : ℕ) → i < p.slots → 0 < count (is_born h) (slot_facts (state c vs) i) → socket_id h i + 1 ≢ NO_SOCKET
     low i h inside born e = let l = law p (state c vs) sound.lawful.references i inside in let t = life_is p.first h ((slot_facts (state c vs) i).version + live (slot_facts (state c vs) i)) (omega (arith, born, l.born h)) in

@@ -1,5 +1,5 @@
 -- The programs of clients store each life in the word of an `open` of their own, so each life of a run is recorded from the beginning on.
-use Rattle.std.proofs.Common.{◌≡◌, ℕ, zero, suc, ◌+◌, ◌<◌, ◌==◌, ◌&&◌, ◌||◌, not, Bool, true, false, eqb-true, eq-eqb, ne_eqb, List, [], ◌∷◌, ◌++◌, map, refl, sym, ap, ◌∙◌, subst, arith}
+use Rattle.std.proofs.Common.{◌≡◌, ℕ, zero, suc, ◌+◌, ◌<◌, ◌==◌, ◌&&◌, ◌||◌, not, Bool, true, false, eqb-true, eq-eqb, ne_eqb, List, [], ◌∷◌, ◌++◌, map, length, replicate, ◌≤◌, ◌⊎◌, inl, inr, ⊎_elim, refl, sym, ap, ◌∙◌, subst, arith, ◌-◌, ◌*◌, get_or}
 use Rattle.std.proofs.lemmas.Bool.{true≢false}
 use Rattle.std.specs.Prelude as std
 use Rattle.std.specs.Prelude.{None, Some}
@@ -19,15 +19,21 @@ use Rattle.sock_programs.specs.declared.task.Op.{Op}
 use Rattle.sock_programs.specs.declared.task.Op.TheVariants as ops
 use Rattle.sock_programs.specs.declared.task.Task.{Task}
 use Rattle.sock_programs.specs.declared.task.Sizes.{Sizes}
-use Rattle.sock_programs.specs.Programs.{Program, open_from, make_socket, no_socket}
+use Rattle.sock_programs.specs.Programs.{Program, Rest, open_from, make_socket, no_socket}
 use Rattle.sock_programs.specs.Clients.{HeldLife, held_under, without_name, give_back, drop_of, operation, client_from}
-use Rattle.sock_programs.specs.Cores.{SeatState, next_step}
-use Rattle.sock_programs.specs.Scripts.{sizes_of, beginning, programs}
+use Rattle.sock_programs.specs.Cores.{SeatState, resolved, next_step}
+use Rattle.sock_programs.specs.Scripts.{free_slots, opening_words, sizes_of, beginning, programs, readers_from}
+use Rattle.sock_model.specs.Layout.{all_words, open_word}
+use Rattle.corr_core.specs.declared.marks.Plan.{Plan as IdPlan}
 use Rattle.sock_programs.specs.Told.{HaveOwnLinks, Differ, AreTasks}
+use Rattle.sock_runs.proofs.Along.{place_inside}
 use Rattle.sock_runs.proofs.Ends.{none_has}
+use Rattle.sock_programs.specs.Readers.{reader}
 use Rattle.sock_runs.proofs.Records.{but, Records}
-use Rattle.sock_runs.proofs.Recorded.{Recorded}
-use Rattle.sock_runs.proofs.Through.{records_passes, records_follow, next_follows, through_release, through_fail, through_hold, through_drop, through_send}
+use Rattle.sock_runs.proofs.Recorded.{Recorded, nothing, records_more}
+use Rattle.sock_runs.proofs.Through.{records_passes, records_opens, records_follow, through_release, through_fail, through_hold, through_drop}
+use Rattle.sock_runs.proofs.ThroughSends.{through_send}
+use Rattle.sock_runs.proofs.ThroughCalls.{through_call, through_expire, through_join, through_reader, through_next}
 
 -- ## The operations of a client
 
@@ -62,6 +68,9 @@ records_operation : (left : ℕ → Bool) (sizes : Sizes) (held : List HeldLife)
     → (is_opening op ≡ false → (h : List HeldLife) → Records left (next h)) → Records left (operation sizes held o next op)
 records_operation left sizes held o next (ops.Open name k) mine opened other = records_open left o name k (mine refl) (next held) (opened refl held) sizes.slots 0
 records_operation left sizes held o next (ops.Send name bytes) mine opened other = through_send (Records left) (records_passes left) sizes.requests o name bytes (next held) (other refl held)
+records_operation left sizes held o next (ops.Call asked) mine opened other = through_call (Records left) (records_passes left) sizes.requests sizes.ids asked (next held) (other refl held)
+records_operation left sizes held o next (ops.Expire t) mine opened other = through_expire (Records left) (records_passes left) o t (next held) (other refl held)
+records_operation left sizes held o next (ops.Join t) mine opened other = through_join (Records left) (records_passes left) o t (next held) (other refl held)
 records_operation left sizes held o next (ops.Hold name) mine opened other = through_hold (Records left) (records_passes left) o name (λ id. next (held ++ (record { name = name; id = id }) ∷ [])) (next held) (λ id. other refl (held ++ (record { name = name; id = id }) ∷ [])) (other refl held)
 records_operation left sizes held o next (ops.Drop name) mine opened other = records_drop left o (held_under name held) _ (other refl (without_name name held))
 records_operation left sizes held o next (ops.Fail name code) mine opened other = through_fail (Records left) (records_passes left) o name code (next held) (other refl held)
@@ -120,11 +129,34 @@ mapped f [] i b at = absurd (some-ne-none b (sym at))
 mapped f (x ∷ xs) zero b at = (x, refl, some-injective (f x) b at)
 mapped f (x ∷ xs) (suc i) b at = mapped f xs i b at
 
+pub appended : {A : Type 0} (xs ys : List A) (j : ℕ) (a : A) → get_elem? (xs ++ ys) j ≡ some a → (get_elem? xs j ≡ some a) ⊎ ((k : ℕ) × (get_elem? ys k ≡ some a))
+appended [] ys j a at = inr (j, at)
+appended (x ∷ xs) ys zero a at = inl at
+appended (x ∷ xs) ys (suc j) a at = appended xs ys j a at
+
 -- a task with that number is an `open` of the client
 opener : (ts : List Task) (o : ℕ) (P : Task → Type 0) → AllByRecursion P ts → opens_in ts o ≡ true → (t : Task) × P t × (t.number ≡ o)
 opener [] o P all there = absurd (true≢false (sym there))
 opener (t ∷ ts) o P all there = or_cases (is_opening t.op && (t.number == o)) (opens_in ts o) ((t : Task) × P t × (t.number ≡ o))
     (λ here. (t, all.0, eqb-true t.number o (second_true (is_opening t.op) (t.number == o) here))) (λ more. opener ts o P all.1 more) there
+
+all_same : (n i x : ℕ) → get_or (replicate n x) i x ≡ x
+all_same zero i x = refl
+all_same (suc n) zero x = refl
+all_same (suc n) (suc i) x = all_same n i x
+
+past_zeros : (n : ℕ) (l : List ℕ) (i : ℕ) → length l ≤ i → get_or (l ++ replicate n 0) i 0 ≡ 0
+past_zeros n [] i high = all_same n i 0
+past_zeros n (x ∷ xs) zero high = absurd (let z : ⊥ = omega (arith, high) in z)
+past_zeros n (x ∷ xs) (suc i) high = past_zeros n xs i (omega (arith, high))
+
+many_slots : (first n : ℕ) → length (free_slots first n) ≡ 6 * n
+many_slots first zero = refl
+many_slots first (suc n) = let m = many_slots first n in omega (arith, m)
+
+-- no word of an operation is stored at the beginning
+unstored : (p : Plan) (o : ℕ) → get_or (opening_words p) (open_word p o) 0 ≡ 0
+unstored p o = past_zeros (all_words p - 6 * p.slots) (free_slots p.first p.slots) (open_word p o) (let m = many_slots p.first p.slots in omega (arith, m))
 
 module _ (p : Plan) (clients : List (List Task)) (are : AreTasks p clients) where
   -- the operations of which client j stores the words
@@ -147,16 +179,35 @@ module _ (p : Plan) (clients : List (List Task)) (are : AreTasks p clients) wher
   apart : (j k o : ℕ) → own_opens j o ≡ true → own_opens k o ≡ true → j ≡ k
   apart j k o a b = dite (ℕ_discrete j k) (λ e. e) (λ far. dite (dec_le j k) (λ le. absurd (never_both j k o (omega arith) a b)) (λ gt. absurd (never_both k j o (omega arith) b a)))
 
-  -- no life is made before the first step
-  pub beginning_recorded : (Q : ℕ → Type 0) → ((j o : ℕ) → own_opens j o ≡ true → Q o) → (vs : List View) → ((j : ℕ) (v : View) → get_elem? vs j ≡ some v → v.marks ≡ []) → Recorded p Q (beginning p (programs (sizes_of p) clients)) vs
-  beginning_recorded Q among vs blank = record {
+  -- no life is made before the first step; behind the clients' seats stand some that make none
+  pub beginning_recorded : (q : IdPlan) (others : List Program) → ((k : ℕ) (x : Program) → get_elem? others k ≡ some x → Records nothing x) → (Q : ℕ → ℕ → Type 0) → ((j o : ℕ) → own_opens j o ≡ true → Q j o)
+      → (vs : List View) → ((j : ℕ) (v : View) → get_elem? vs j ≡ some v → v.marks ≡ []) → Recorded p Q (beginning p q (programs (sizes_of p q) clients ++ others)) vs
+  beginning_recorded q others still Q among vs blank = record {
     left = own_opens;
     among = among;
     apart = apart;
-    records = λ j seat at. let a = mapped (λ (program : Program). record { program = next_step program; hand = [] }) (programs (sizes_of p) clients) j seat at in
-        let b = mapped (client_from (sizes_of p) []) clients j a.0 a.1 in
-        subst (λ (s : SeatState). Records (own_opens j) s.program) a.2 (next_follows (Records (own_opens j)) (records_follow (own_opens j)) a.0 (subst (Records (own_opens j)) b.2
-        (records_client (sizes_of p) b.0 [] (own_opens j) (λ o there. ap (λ q. elim q as (λ q. Bool) [ none ↦ false | some ts ↦ opens_in ts o ]) b.1 ∙ there)
-        (all_at (EachBefore (λ (a b : Task). (a.number < b.number) × HaveOwnLinks a.op b.op)) clients j b.0 are.in_order b.1))));
+    records = λ j seat at. let a = mapped (λ (program : Program). record { program = next_step (resolved [] program); hand = [] }) (programs (sizes_of p q) clients ++ others) j seat at in
+        subst (λ (s : SeatState). Records (own_opens j) s.program) a.2 (through_next (Records (own_opens j)) (records_passes (own_opens j)) (records_follow (own_opens j)) [] a.0 (⊎_elim
+        (λ mine. let b = mapped (client_from (sizes_of p q) []) clients j a.0 mine in subst (Records (own_opens j)) b.2
+        (records_client (sizes_of p q) b.0 [] (own_opens j) (λ o there. ap (λ q. elim q as (λ q. Bool) [ none ↦ false | some ts ↦ opens_in ts o ]) b.1 ∙ there)
+        (all_at (EachBefore (λ (a b : Task). (a.number < b.number) × HaveOwnLinks a.op b.op)) clients j b.0 are.in_order b.1)))
+        (λ other. records_more a.0 nothing (own_opens j) (λ o e. absurd (true≢false (sym e))) (still other.0 a.0 other.1))
+        (appended (programs (sizes_of p q) clients) others j a.0 a.1)));
+    once = λ o inside some_ j. absurd (some_ (unstored p o));
     lives = λ i h inside born. let none_ = none_has (is_born h) i vs (λ j v at. ap (λ l. total (is_born h) (about i l)) (blank j v at)) in absurd (omega (arith, born, none_));
   }
+
+  -- a seat that is no client's opens nothing
+  pub others_own_none : (j o : ℕ) → length clients ≤ j → own_opens j o ≡ true → ⊥
+  others_own_none j o high there = let x = own_is j o there in omega (arith, place_inside clients j x.0 x.1)
+
+-- neither a reader nor a seat that has nothing to do makes a life
+readers_still : (calls os : List ℕ) (k i : ℕ) (x : Program) → get_elem? (readers_from calls k os) i ≡ some x → Records nothing x
+readers_still calls [] k i x at = absurd (some-ne-none x (sym at))
+readers_still calls (o ∷ os) k zero x at = subst (Records nothing) (some-injective (reader calls k o) x at) (through_reader (Records nothing) (records_passes nothing) (records_opens nothing) tt calls k o)
+readers_still calls (o ∷ os) k (suc i) x at = readers_still calls os (k + 1) i x at
+
+pub others_still : (n : ℕ) (calls os : List ℕ) (k i : ℕ) (x : Program) → get_elem? (replicate n Rest ++ readers_from calls k os) i ≡ some x → Records nothing x
+others_still zero calls os k i x at = readers_still calls os k i x at
+others_still (suc n) calls os k zero x at = subst (Records nothing) (some-injective Rest x at) tt
+others_still (suc n) calls os k (suc i) x at = others_still n calls os k i x at

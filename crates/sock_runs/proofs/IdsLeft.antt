@@ -1,14 +1,14 @@
 -- What is counted for ids falls by what a step on an id word gains, and rises by what it costs at most.
-use Rattle.std.proofs.Common.{◌≡◌, ◌≢◌, ℕ, zero, suc, ◌+◌, ◌-◌, ◌*◌, ◌<◌, ◌≤◌, Bool, true, false, List, [], ◌∷◌, length, set, refl, sym, ap, ap₂, ◌∙◌, subst, arith, cond, eqb, eq-eqb, eqb-true, get_or-set_same, get_or-set_other}
+use Rattle.std.proofs.Common.{◌≡◌, ◌≢◌, ℕ, zero, suc, ◌+◌, ◌-◌, ◌*◌, ◌<◌, ◌≤◌, Bool, true, false, List, [], ◌∷◌, length, set, refl, sym, ap, ap₂, ◌∙◌, subst, arith, cond, eqb, eqb-true, get_or-set_same, get_or-set_other}
 use mathlib.Core.Logic.{dite}
 use native.Mathlib.Decide.{ℕ_discrete}
-use Rattle.std.specs.Prelude.{slice_index}
-use lib.ListN.{get_or}
+use Rattle.std.specs.Prelude.{slice_index, Some}
 use Rattle.sock_model.specs.Weights.{total}
 use Rattle.corr_core.specs.Word.{Parts, parts, made_word, locked_word, posted_word, unlocked_word, free_word}
 use Rattle.id_rule.specs.Lawful.{id_word}
-use Rattle.sock_programs.specs.Heads.{Head, Exit}
-use Rattle.sock_programs.specs.Programs.{Program}
+use Rattle.sock_programs.specs.Asides.{id_slot}
+use Rattle.sock_programs.specs.Heads.{Head, Posts, Unlocks, Locks}
+use Rattle.sock_programs.specs.Programs.{Program, Round}
 use Rattle.sock_programs.specs.Cores.{SeatState}
 use Rattle.sock_runs.specs.Lasts.{STALE, ERROR, attempt_cost, expected, expects, stale_cost, queued_errors, id_left, ids_left}
 
@@ -22,13 +22,13 @@ one_stale : (words : List ℕ) (x : ℕ × ℕ) → total (stale_cost words) (x 
 one_stale words x = let small = stale_small (eqb (slice_index words (id_word x.0)) x.1) in omega (arith, small)
 
 head_stale : (words : List ℕ) (head : Head) → total (stale_cost words) (expected head) ≤ STALE
-head_stale words (Rattle.sock_programs.specs.Heads.Posts id e w) = one_stale words (Rattle.sock_programs.specs.Asides.id_slot id, w)
-head_stale words (Rattle.sock_programs.specs.Heads.Unlocks i w advance) = one_stale words (i, w)
-head_stale words (Rattle.sock_programs.specs.Heads.Locks i sought (Rattle.std.specs.Prelude.Some w)) = one_stale words (i, w)
+head_stale words (Posts id e w) = one_stale words (id_slot id, w)
+head_stale words (Unlocks i w advance) = one_stale words (i, w)
+head_stale words (Locks i sought (Some w)) = one_stale words (i, w)
 head_stale words _ = omega arith
 
 seat_stale : (words : List ℕ) (program : Program) → total (stale_cost words) (expects program) ≤ STALE
-seat_stale words (Rattle.sock_programs.specs.Programs.Round head next) = head_stale words head
+seat_stale words (Round head next) = head_stale words head
 seat_stale words _ = omega arith
 
 -- whatever the words are, each seat counts for at most this

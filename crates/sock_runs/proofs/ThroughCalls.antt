@@ -1,0 +1,169 @@
+-- What holds behind a call, a retry, an `expire`, a `join` or a reading holds before it, and what a seat's program meets it meets with the retries that wait.
+use Rattle.std.proofs.Common.{ℕ, zero, suc, ◌+◌, ◌-◌, ◌/◌, ◌%◌, ◌==◌, ◌&&◌, nat_lt, false, cond, List, [], ◌∷◌, ◌++◌, length, refl}
+use Rattle.std.specs.Prelude.{None}
+use Rattle.sock_words.specs.Words.{socket_id_version, socket_id_slot, vref_version, at_word, at_word_first, at_word_slot, at_word_link, at_word_attempt}
+use Rattle.sock_words.specs.declared.outcome.Outcome.TheVariants.{Unopened, Joined, NotBegun}
+use Rattle.sock_steps.proofs.Quiet.{either_way}
+use Rattle.sock_model.specs.declared.chain.Heading.{Heading}
+use Rattle.corr_core.specs.Word.{parts, error_of}
+use Rattle.brpc_model.specs.Frame.{Frame}
+use Rattle.sock_programs.specs.declared.task.Asked.{Asked}
+use Rattle.sock_programs.specs.Calls.{LookWord, FindLink, ClaimRequest, LoadName}
+use Rattle.sock_programs.specs.Asides.{ClaimId, PutCall, MakeId, StoreCall, LoadCall, StoreAt, LoadAt, TakeCall, call_id, id_slot, id_first}
+use Rattle.sock_programs.specs.Heads.{Head, Exit, First, Posts, Unlocks, Decides, Locks, Joins, Opens, Reads, Discards, Retry, Posting, WasGone, WasStale, WasCrowded, WasQueued, HasLocked, Unlocking, IsOpen, HasNext, Locking, NotThere, Has, Ended}
+use Rattle.sock_programs.specs.Programs.{Program, Do, Say, Sent, Rest, TakeMessage, TakeHome, PutHome, PutBytes, AskReady, Write, Aside, Round, Keep, Retries, NO_SOCKET, release, address}
+use Rattle.sock_programs.specs.Posts.{WHOLE, post, posted, decided}
+use Rattle.sock_programs.specs.Attempts.{claims_from, name_of, frame_of, heading_for, attempt, begin_call, claim_id, call, tried_again, retry_locked, retry, expire_outcome, expire, join}
+use Rattle.sock_programs.specs.Readers.{LIMIT, kept_for, ends_with, posted_last, post_each, thrown_away, read, reader}
+use Rattle.sock_programs.specs.Rounds.{round}
+use Rattle.sock_programs.specs.Cores.{resolved, next_step}
+use Rattle.sock_runs.specs.Sound.{first_step}
+use Rattle.sock_runs.proofs.Through.{Passes, PassesOpens, Follows, next_follows, through_release, through_address, through_set_failed}
+use Rattle.sock_runs.proofs.ThroughLoops.{through_post, through_post_with, through_posted, through_decide, through_decided, through_answer, through_opens, through_round}
+use Rattle.sock_runs.proofs.ThroughSends.{through_accept, through_block}
+
+module _ (G : Program → Type 0) (g : Passes G) where
+  -- ## Attempts
+
+  through_claims : (more q id : ℕ) (heading : Heading) (bytes : List ℕ) (full accepted : Program) → G full → G accepted → G (claims_from more q id heading bytes full accepted)
+  through_claims zero q id heading bytes full accepted none_ after = none_
+  through_claims (suc more) q id heading bytes full accepted none_ after = g.step (ClaimRequest id q) _ refl refl refl (λ found. either_way (found % 2 == 0) _ _ G
+      (through_accept G g id q (found / 2) heading bytes accepted after) (through_claims more (q + 1) id heading bytes full accepted none_ after))
+
+  -- the bytes of the frame play no part
+  through_tries : (requests o socket id n : ℕ) (heading : Heading) (bytes : List ℕ) (next : Program) → G next
+      → G (address socket (Do (FindLink (socket_id_slot socket) (socket_id_version socket)) (λ k. Aside (StoreAt o (at_word (id_first id) (id_slot id) k n)) (λ _. Do (LookWord socket) (λ found.
+      cond (vref_version found % 2 == 0) (claims_from requests 0 socket heading bytes (post id 3001 n (release (socket_id_slot socket) (λ _. next))) (release (socket_id_slot socket) (λ _. next)))
+      (post id 1009 n (release (socket_id_slot socket) (λ _. next))))))) (λ _. post id 1009 n next))
+  through_tries requests o socket id n heading bytes next after = let rest : Program = release (socket_id_slot socket) (λ _. next) in let goes : G (release (socket_id_slot socket) (λ _. next)) = through_release G g (socket_id_slot socket) (λ _. next) (λ _. after) in
+      through_address G g socket _ (λ _. post id 1009 n next)
+      (g.step (FindLink (socket_id_slot socket) (socket_id_version socket)) _ refl refl refl (λ k. g.aside (StoreAt o (at_word (id_first id) (id_slot id) k n)) _ (λ _. g.step (LookWord socket) _ refl refl refl (λ found.
+      either_way (vref_version found % 2 == 0) _ _ G
+      (through_claims requests 0 socket heading bytes (post id 3001 n (release (socket_id_slot socket) (λ _. next))) (release (socket_id_slot socket) (λ _. next)) (through_post G g id 3001 n (release (socket_id_slot socket) (λ _. next)) goes) goes)
+      (through_post G g id 1009 n (release (socket_id_slot socket) (λ _. next)) goes)))))
+      (λ _. through_post G g id 1009 n next after)
+
+  through_attempt : (requests : ℕ) (asked : Asked) (id n socket : ℕ) (next : Program) → G next → G (attempt requests asked id n socket next)
+  through_attempt requests asked id n socket next after = through_tries requests asked.operation socket id n (heading_for asked id n) (frame_of asked id n) next after
+
+  -- ## Operations on calls
+
+  through_begin_call : (requests socket i : ℕ) (asked : Asked) (next : Program) → G next → G (begin_call requests socket i asked next)
+  through_begin_call requests socket i asked next after = g.aside (PutCall i asked) _ (λ _. g.aside (MakeId i asked.range) _ (λ found. g.aside (StoreCall asked.operation (call_id i (parts found).first)) _ (λ _.
+      through_attempt requests asked (call_id i (parts found).first) 0 socket next after)))
+
+  through_claim_id : (more i requests socket : ℕ) (asked : Asked) (next : Program) → G next → G (claim_id more i requests socket asked next)
+  through_claim_id zero i requests socket asked next after = after
+  through_claim_id (suc more) i requests socket asked next after = g.aside (ClaimId i) _ (λ found. either_way (found == 0) _ _ G
+      (through_begin_call requests socket i asked next after) (through_claim_id more (i + 1) requests socket asked next after))
+
+  pub through_call : (requests ids : ℕ) (asked : Asked) (next : Program) → G next → G (call requests ids asked next)
+  through_call requests ids asked next after = g.step (LoadName (name_of asked 0)) _ refl refl refl (λ word. either_way (word == 0) _ _ G
+      (g.say asked.operation Unopened next after) (through_claim_id ids 0 requests (word - 1) asked next after))
+
+  through_tried : (requests id n : ℕ) (asked : Asked) (next : Program) → G next → (exit : Unlocking) → G (tried_again requests id n asked next exit)
+  through_tried requests id n asked next after (IsOpen w) = g.step (LoadName (name_of asked n)) _ refl refl refl (λ word. either_way (word == 0) _ _ G
+      (through_post G g id 1009 n next after) (through_attempt requests asked id n (word - 1) next after))
+  through_tried requests id n asked next after (HasNext w e) = through_decide G g id w e (decided id next) (through_decided G g id next after)
+
+  through_retry_locked : (requests id n : ℕ) (next : Program) → G next → (exit : Locking) → G (retry_locked requests id n next exit)
+  through_retry_locked requests id n next after (NotThere w) = after
+  through_retry_locked requests id n next after (Has w) = g.aside (TakeCall (id_slot id)) _ (λ asked. g.aside (PutCall (id_slot id) asked) _ (λ _.
+      g.round (Unlocks (id_slot id) w false) refl (tried_again requests id n asked next) (through_tried requests id n asked next after)))
+
+  pub through_retry : (requests id n : ℕ) (next : Program) → G next → G (retry requests id n next)
+  through_retry requests id n next after = g.round (Locks (id_slot id) (First (id_first id)) None) refl (retry_locked requests id n next) (through_retry_locked requests id n next after)
+
+  pub through_expire : (o t : ℕ) (next : Program) → G next → G (expire o t next)
+  through_expire o t next after = g.aside (LoadCall t) _ (λ id. either_way (id == 0) _ _ G (g.say o NotBegun next after)
+      (through_post_with G g id (error_of 1008 WHOLE) (λ how. posted id (error_of 1008 WHOLE) (Say o (expire_outcome how) next) how)
+      (λ how. through_posted G g id (error_of 1008 WHOLE) (Say o (expire_outcome how) next) (g.say o (expire_outcome how) next after) how)))
+
+  pub through_join : (o t : ℕ) (next : Program) → G next → G (join o t next)
+  through_join o t next after = g.aside (LoadCall t) _ (λ id. either_way (id == 0) _ _ G (g.say o NotBegun next after) (g.round (Joins id) refl (λ _. Say o Joined next) (λ _. g.say o Joined next after)))
+
+  -- ## Readers
+
+  through_ends_with : (id e word : ℕ) (kept : List Frame) (next : Program) → G next → G (ends_with id e word kept next)
+  through_ends_with id e word [] next after = through_decide G g id word e (decided id next) (through_decided G g id next after)
+  through_ends_with id e word (f ∷ fs) next after = through_answer G g f (id_first id) next after
+
+  through_posted_last : (id e : ℕ) (kept : List Frame) (next : Program) → G next → (exit : Posting) → G (posted_last id e kept next exit)
+  through_posted_last id e kept next after (HasLocked word) = through_ends_with id e word (kept_for id (parts word).range kept) next after
+  through_posted_last id e kept next after WasGone = after
+  through_posted_last id e kept next after WasStale = after
+  through_posted_last id e kept next after (WasCrowded a b) = after
+  through_posted_last id e kept next after WasQueued = after
+
+  through_post_each : (os : List ℕ) (k c : ℕ) (kept : List Frame) (next : Program) → G next → G (post_each os k c kept next)
+  through_post_each [] k c kept next after = after
+  through_post_each (o ∷ os) k c kept next after = g.aside (LoadAt o) _ (λ w. let more = through_post_each os k c kept next after in either_way (w == 0) _ _ G more (either_way (at_word_link w == k) _ _ G
+      (through_post_with G g (call_id (at_word_slot w) (at_word_first w)) (error_of c (at_word_attempt w)) (posted_last (call_id (at_word_slot w) (at_word_first w)) (error_of c (at_word_attempt w)) kept (post_each os k c kept next))
+      (through_posted_last (call_id (at_word_slot w) (at_word_first w)) (error_of c (at_word_attempt w)) kept (post_each os k c kept next) more)) more))
+
+  through_thrown_away : G Rest → (how : Ended) → G (thrown_away how)
+  through_thrown_away rests how = either_way (how.fault && nat_lt how.reading.total LIMIT) _ _ G (g.round (Discards how.reading.link how.reading.total) refl (λ _. Rest) (λ _. rests)) rests
+
+  through_read : G Rest → (calls : List ℕ) (how : Ended) → G (read calls how)
+  through_read rests calls how = let last = through_post_each calls how.reading.link how.code how.reading.kept (thrown_away how) (through_thrown_away rests how) in either_way how.closed _ _ G last
+      (through_address G g how.reading.id _ _ (through_set_failed G g how.reading.id how.code _ (λ _. through_release G g (socket_id_slot how.reading.id) _ (λ _. last))) (λ _. last))
+
+  -- behind the word of its `open`
+  pub through_reading : G Rest → (calls : List ℕ) (k word : ℕ) → G (cond (word == NO_SOCKET) Rest (Round (Reads (record { ids = length calls; link = k; id = word - 1; rest = []; total = 0; kept = [] })) (read calls)))
+  through_reading rests calls k word = either_way (word == NO_SOCKET) _ _ G rests (g.round (Reads (record { ids = length calls; link = k; id = word - 1; rest = []; total = 0; kept = [] })) refl (read calls) (through_read rests calls))
+
+  pub through_reader : PassesOpens G → G Rest → (calls : List ℕ) (k o : ℕ) → G (reader calls k o)
+  through_reader w rests calls k o = w.wait o _ (λ word. through_reading rests calls k word)
+
+  -- ## Seats
+
+  first_round : (head : Head) (next : Exit head → Program) → ((o : ℕ) → (exits : ℕ → Program) → G (Round (Opens o) exits) → G (round (Opens o) exits)) → Follows G → G (Round head next) → G (round head next)
+  first_round (Opens o) next opened f x = opened o next x
+  first_round (Posts id e w) next opened f x = through_round G g (Posts id e w) refl next (f.round (Posts id e w) next x)
+  first_round (Unlocks i w advance) next opened f x = through_round G g (Unlocks i w advance) refl next (f.round (Unlocks i w advance) next x)
+  first_round (Decides id asked w e) next opened f x = through_round G g (Decides id asked w e) refl next (f.round (Decides id asked w e) next x)
+  first_round (Locks i sought w) next opened f x = through_round G g (Locks i sought w) refl next (f.round (Locks i sought w) next x)
+  first_round (Joins id) next opened f x = through_round G g (Joins id) refl next (f.round (Joins id) next x)
+  first_round (Reads r) next opened f x = through_round G g (Reads r) refl next (f.round (Reads r) next x)
+  first_round (Discards l total) next opened f x = through_round G g (Discards l total) refl next (f.round (Discards l total) next x)
+
+  -- the first step of a round, where the seat is at the head of a loop; of one that waits for an `open` it has to be said
+  pub through_head : ((o : ℕ) → (exits : ℕ → Program) → G (Round (Opens o) exits) → G (round (Opens o) exits)) → Follows G → (program : Program) → G program → G (first_step program)
+  through_head opened f (Write w after) x = through_block G g w after (f.write w after x)
+  through_head opened f (Round head next) x = first_round head next opened f x
+  through_head opened f (Do call next) x = x
+  through_head opened f (Say o outcome next) x = x
+  through_head opened f (Sent o next) x = x
+  through_head opened f Rest x = x
+  through_head opened f (TakeMessage q next) x = x
+  through_head opened f (TakeHome k next) x = x
+  through_head opened f (PutHome k n after) x = x
+  through_head opened f (PutBytes k asked bytes next) x = x
+  through_head opened f (AskReady k next) x = x
+  through_head opened f (Aside step next) x = x
+  through_head opened f (Keep r next) x = x
+  through_head opened f (Retries requests after) x = x
+
+  pub through_first : PassesOpens G → Follows G → (program : Program) → G program → G (first_step program)
+  through_first w f program x = through_head (λ o exits y. through_opens G g w o exits (f.round (Opens o) exits y)) f program x
+
+  -- whatever retries wait
+  pub through_resolved : Follows G → (ws : List Retry) (program : Program) → G program → G (resolved ws program)
+  through_resolved f ws (Say o outcome next) x = g.say o outcome (resolved ws next) (through_resolved f ws next (f.said o outcome next x))
+  through_resolved f ws (Sent o next) x = g.sent o (resolved ws next) (through_resolved f ws next (f.sent o next x))
+  through_resolved f ws (Keep r next) x = through_resolved f (ws ++ r ∷ []) next (f.keep r next x)
+  through_resolved f [] (Retries requests after) x = through_resolved f [] after (f.retries requests after x)
+  through_resolved f (r ∷ ws) (Retries requests after) x = through_retry requests r.id r.attempt (Retries requests after) x
+  through_resolved f ws (Do call next) x = x
+  through_resolved f ws Rest x = x
+  through_resolved f ws (TakeMessage q next) x = x
+  through_resolved f ws (TakeHome k next) x = x
+  through_resolved f ws (PutHome k n after) x = x
+  through_resolved f ws (PutBytes k asked bytes next) x = x
+  through_resolved f ws (AskReady k next) x = x
+  through_resolved f ws (Write w after) x = x
+  through_resolved f ws (Aside step next) x = x
+  through_resolved f ws (Round head next) x = x
+
+  pub through_next : Follows G → (ws : List Retry) (program : Program) → G program → G (next_step (resolved ws program))
+  through_next f ws program x = next_follows G f (resolved ws program) (through_resolved f ws program x)
