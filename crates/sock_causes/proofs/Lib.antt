@@ -29,3 +29,5 @@ pub mod Delivered
 pub mod Senders
 pub mod Messages
 pub mod Told
+pub mod Openings
+pub mod Scripts

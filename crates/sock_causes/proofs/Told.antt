@@ -21,8 +21,6 @@ use Rattle.slot_laws.proofs.Numbers.{life_le}
 use Rattle.sock_programs.specs.declared.task.Task.{Task}
 use Rattle.sock_programs.specs.Calls.{Call, SubRef, Recycle, ClaimRequest, LoadName}
 use Rattle.sock_programs.specs.Cores.{Core}
-use Rattle.sock_programs.specs.Ticks.{Moment}
-use Rattle.sock_programs.specs.Drops.{MadeIn, AreDropsTold}
 use Rattle.sock_programs.specs.declared.task.Op.{Op}
 use Rattle.sock_programs.specs.declared.task.Op.TheVariants as ops
 use Rattle.sock_programs.specs.Told.{AreTasks, IsOpen, Accepted, Order, StandsAt, IsTask, Became, Made, IsFail, IsSent, InOwnOrder}
@@ -32,7 +30,7 @@ use Rattle.sock_causes.specs.Stories.{Event, In, trace_of}
 use Rattle.sock_causes.specs.Explains.{step, Because, Explained, WonRecycling, GaveBackOnly}
 use Rattle.sock_causes.specs.Causes.{Asks, WasGiven}
 use Rattle.sock_causes.specs.Kept.{is_of_send, IsSpoken, StaysUsed, Story}
-use Rattle.sock_causes.specs.TaskCauses.{ToldTasks}
+use Rattle.sock_causes.specs.TaskCauses.{ToldTasks, DropsMade}
 use Rattle.std.specs.List.{filter}
 use Rattle.std.specs.Prelude.{cond}
 use Rattle.std.proofs.Common.{suc, [], ◌∷◌}
@@ -196,9 +194,9 @@ module _ (p : Plan) (clients : List (List Task)) (are : AreTasks p clients) (ove
 
   -- ## Drops
 
-  -- where each step of the story was made by the setup, or in these ticks
-  module _ (from : Core) (ms : List Moment) (steps : (e : Event) → In e es → (e.client ≡ 0) ⊎ MadeIn p clients from ms e.client e.number e.entry.call e.entry.found) where
-    made_step : (i o : ℕ) → (i ≡ 0 → ⊥) → (call : Call) (found : ℕ) → In (step call found) (trace_of i o es) → MadeIn p clients from ms i o call found
+  -- where of each step of the story but the setup's this holds
+  module _ (Shown : ℕ → ℕ → Call → ℕ → Type 0) (steps : (e : Event) → In e es → (e.client ≡ 0) ⊎ Shown e.client e.number e.entry.call e.entry.found) where
+    made_step : (i o : ℕ) → (i ≡ 0 → ⊥) → (call : Call) (found : ℕ) → In (step call found) (trace_of i o es) → Shown i o call found
     made_step i o later call found m = ⊎_elim (λ z. absurd (later z)) (λ x. x) (steps (event i o call found) (from_trace i o es (step call found) m))
 
     -- the setup has no drops
@@ -210,7 +208,7 @@ module _ (p : Plan) (clients : List (List Task)) (are : AreTasks p clients) (ove
         subst (λ (z : Op). Because p.slots p.requests fin.before (trace_of i t.number es) z o) is (subst (Explained p.slots p.requests fin.before (trace_of i t.number es) t.op) q fin.explained).0
 
     -- each drop was answered by what its own steps did
-    pub drops_told : AreDropsTold p clients c.outcomes from ms
+    pub drops_told : DropsMade clients c.outcomes Shown
     drops_told = record {
       freed = λ i t n is op became. let asks = asks_of p clients c.outcomes broken orders es world i t is in let x = because i t asks (ops.Drop n) Freed op became in let w : WonRecycling (trace_of i t.number es) = x.1 in
           (w.0, w.1, made_step i t.number (drops_later i n t asks op) (Recycle w.0 w.1) w.1 w.2);

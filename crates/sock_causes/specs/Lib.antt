@@ -4,3 +4,4 @@ pub mod Causes
 pub mod Kept
 pub mod Losses
 pub mod TaskCauses
+pub mod PlainTasks

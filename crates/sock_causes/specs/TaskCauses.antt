@@ -1,8 +1,12 @@
 -- Why each `open`, `send`, `hold`, `drop` and `fail` has its outcome, in runs with calls too. Of the outcomes of `call`, `expire` and `join` nothing is said here.
-use Rattle.std.specs.Prelude.{ℕ, ◌≡◌, ◌≢◌, ◌<◌, ◌≤◌, ◌⊎◌, List, length, Option, Contains}
+use Rattle.std.specs.Prelude.{ℕ, ◌-◌, ◌%◌, ◌≡◌, ◌≢◌, ◌<◌, ◌≤◌, ◌⊎◌, List, length, Option, Contains}
 use Rattle.std.specs.List.{AllByRecursion}
 use Rattle.sock_words.specs.declared.plain.Plan.{Plan}
+use Rattle.sock_words.specs.Words.{vref_version, vref_nref}
 use Rattle.sock_words.specs.declared.outcome.Outcome.{Outcome}
+use Rattle.sock_words.specs.declared.outcome.Outcome.TheVariants.{Freed, Kept}
+use Rattle.sock_programs.specs.declared.task.Op.TheVariants as ops
+use Rattle.sock_programs.specs.Calls.{Call, SubRef, Recycle}
 use Rattle.brpc_model.specs.Order.{EachBefore}
 use Rattle.sock_programs.specs.declared.task.Task.{Task}
 use Rattle.sock_programs.specs.Told.{Accepted, Order, StandsAt, IsTask, Became, Made, IsFail, IsSent, InOwnOrder, Why}
@@ -30,3 +34,9 @@ pub record ToldTasks (clients : List (List Task)) (outcomes : List (Option Outco
   pub own_order : (k : ℕ) → k < p.links → EachBefore (InOwnOrder clients outcomes) (orders k).accepted
   -- and messages are dropped only where the link's life was failed
   pub dropped : (k : ℕ) → k < p.links → (orders k).placed < length (orders k).accepted → Contains lost k ⊎ ((fail : ℕ) × Contains fails (fail, k))
+
+-- each `drop` that was answered `freed` recycled its slot, and each that was answered `kept` gave its reference back and recycled none, in steps of which this holds
+pub record DropsMade (clients : List (List Task)) (outcomes : List (Option Outcome)) (Made : ℕ → ℕ → Call → ℕ → Type 0) : Type 0 where
+  pub freed : (i : ℕ) (t : Task) (n : ℕ) → IsTask clients outcomes i t → t.op ≡ ops.Drop n → Became clients outcomes t.number Freed → (slot from : ℕ) × Made i t.number (Recycle slot from) from
+  pub kept : (i : ℕ) (t : Task) (n : ℕ) → IsTask clients outcomes i t → t.op ≡ ops.Drop n → Became clients outcomes t.number Kept → (slot found : ℕ) × Made i t.number (SubRef slot) found
+      × ((((vref_version found % 2 ≡ 1) × (vref_nref found ≡ 1)) → ⊥) ⊎ ((other : ℕ) × Made i t.number (Recycle slot (found - 1)) other × (other ≢ found - 1)))
