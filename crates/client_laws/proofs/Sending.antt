@@ -20,10 +20,8 @@ use Rattle.sock_model.specs.SlotRows.{marks_of, looked, met_link}
 use Rattle.sock_model.specs.ChainRows.{with_claim, entry_of, more, queued, righted, new_right, without_loose, taken_right}
 use Rattle.sock_model.specs.Entries.{ticket_of, slot_of}
 use Rattle.sock_model.specs.Memory.{IDLE}
-use Rattle.sock_model.specs.Rule.{MOST_ACCEPTED}
 use Rattle.sock_programs.specs.Calls.{Connect}
-use Rattle.sock_programs.specs.Writings.{Puts}
-use Rattle.sock_programs.specs.Programs.{Program, Do, Say, Sent, TakeMessage, TakeHome, Write, release}
+use Rattle.sock_programs.specs.Programs.{Program, Do, Say, Sent, TakeMessage, TakeHome, release}
 use Rattle.sock_programs.specs.Sends.{write_link, first_put, heading_of, accept, claim_from, start, send}
 use Rattle.sock_programs.specs.Clients.{HeldLife}
 use Rattle.sock_runs.proofs.Rounds.{first_goes}
@@ -215,18 +213,18 @@ module _ (p : Plan) (made : List Entry) {held : List HeldLife} {passes : List �
             (
               inside,
               record {
-                  claim = c₃;
-                  claims = refl;
-                  is_filled = refl;
-                  is_ready = refl;
-                  own_is = refl;
-                  request_in = in_table;
-                  life = h;
-                  holds = record { inside = inside; held = first (Hold h) a (is_hold h) (of_hold h) (only-same h); met = met };
-                  made = made;
-                  taken_in = [];
-                  lists = a.lists_are;
-                },
+                claim = c₃;
+                claims = refl;
+                is_filled = refl;
+                is_ready = refl;
+                own_is = refl;
+                request_in = in_table;
+                life = h;
+                holds = record { inside = inside; held = first (Hold h) a (is_hold h) (of_hold h) (only-same h); met = met };
+                made = made;
+                taken_in = [];
+                lists = a.lists_are;
+              },
             ),
             λ found hand f. exchange_branch a c₃ met in_table (ltb found IDLE) found hand.took hand.next,
           ),

@@ -23,3 +23,5 @@ pub mod IdFacts
 pub mod OwingTicks
 pub mod AllSettled
 pub mod LivesFit
+pub mod OwingRuns
+pub mod OwingEnding

@@ -39,6 +39,7 @@ pub mod Recorded
 pub mod Closing
 pub mod Opening
 pub mod Quiets
+pub mod Bounded
 pub mod Whole
 pub mod Rested
 pub mod Versions

@@ -1,8 +1,8 @@
 -- Each life that was made stands in the word of an operation up to the end, also behind the ending; where all is at rest and none of these words is of a live life, every life was failed.
-use Rattle.std.proofs.Common.{◌≡◌, ◌≢◌, ℕ, ◌+◌, ◌-◌, ◌*◌, ◌<◌, ◌⊎◌, true, false, List, [], ◌∷◌, get_or, refl, sym, ap, ◌∙◌, subst, inl, inr, ⊎_elim, arith}
+use Rattle.std.proofs.Common.{◌≡◌, ◌≢◌, ℕ, ◌+◌, ◌*◌, ◌<◌, List, [], get_or, sym, ap, ◌∙◌, subst, inl, inr, ⊎_elim, arith}
 use Rattle.std.proofs.lemmas.Bool.{true≢false}
 use mathlib.Core.Logic.{dite}
-use mathlib.Core.Option.{some, none, some-injective, some-ne-none}
+use mathlib.Core.Option.{some, some-ne-none}
 use native.Mathlib.Decide.{ℕ_discrete}
 use lib.ListN.{get_elem?}
 use Rattle.atomic_table.proofs.Lists.{at_set, set_else}
@@ -10,11 +10,11 @@ use Rattle.sock_words.specs.Words.{socket_id, socket_id_version, socket_id_slot,
 use Rattle.sock_words.specs.declared.plain.Plan.{Plan}
 use Rattle.sock_model.specs.declared.view.View.{View}
 use Rattle.sock_model.specs.Layout.{ref_word, open_word}
-use Rattle.sock_model.specs.Weights.{is_born, is_failer}
+use Rattle.sock_model.specs.Weights.{is_failer}
 use Rattle.sock_model.specs.Slots.{count, live}
 use Rattle.sock_model.specs.References.{slot_facts}
 use Rattle.slot_laws.proofs.Numbers.{life_is, life-in}
-use Rattle.sock_programs.specs.Programs.{Program, Rest, NO_SOCKET}
+use Rattle.sock_programs.specs.Programs.{Rest, NO_SOCKET}
 use Rattle.sock_programs.specs.Clients.{ending_of}
 use Rattle.sock_programs.specs.Cores.{Core, SeatState, resolved, next_step, waiting_at, with_seat}
 use Rattle.sock_programs.specs.Scripts.{is_ending}

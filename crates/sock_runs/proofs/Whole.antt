@@ -1,12 +1,9 @@
 -- A whole run of a script: all seats are sound from its first tick to its last, and behind the ending no life is alive, where each client ends.
-use Rattle.std.proofs.Common.{◌≡◌, ℕ, zero, suc, ◌+◌, ◌-◌, ◌<◌, ◌≤◌, ◌==◌, ⊎_elim, inl, inr, Bool, true, false, cond, eqb-true, List, [], ◌∷◌, ◌++◌, length, length-append, replicate, refl, sym, ap, ◌∙◌, subst, arith}
+use Rattle.std.proofs.Common.{◌≡◌, ℕ, zero, suc, ◌+◌, ◌-◌, ◌<◌, ◌≤◌, ◌==◌, Bool, true, false, cond, eqb-true, List, [], ◌∷◌, ◌++◌, length, replicate, refl, sym, ap, ◌∙◌, subst, arith}
 use Rattle.std.specs.Prelude as std
 use Rattle.std.specs.Prelude.{None, Some, option_map}
 use Rattle.std.specs.List.{filter_map, cons_option}
 use Rattle.std.proofs.lemmas.Bool.{true≢false}
-use Rattle.std.proofs.lemmas.List.{length-map}
-use mathlib.Core.Logic.{dite}
-use native.Mathlib.Decide.{ℕ_discrete, dec_le}
 use mathlib.Core.Option.{some, some-injective, some-ne-none}
 use lib.ListN.{get_elem?}
 use Rattle.sock_words.specs.declared.plain.Plan.{Plan}
@@ -18,8 +15,8 @@ use Rattle.sock_programs.specs.declared.task.Op.{Op}
 use Rattle.sock_programs.specs.declared.task.Task.{Task}
 use Rattle.sock_programs.specs.Tasks.{Numbered, numbered, of_client, op_of, task_of, tasks, opens, calls, plan_of, id_plan_of}
 use Rattle.sock_programs.specs.Programs.{Program, Rest}
-use Rattle.sock_programs.specs.Clients.{client_from, ending_of}
-use Rattle.sock_programs.specs.Cores.{Core, SeatState, next_step, resolved}
+use Rattle.sock_programs.specs.Clients.{ending_of}
+use Rattle.sock_programs.specs.Cores.{Core}
 use Rattle.sock_programs.specs.Ticks.{Moment, quiet, run, AreAnswered}
 use Rattle.sock_programs.specs.Runs.{IsAtRest, IsSettled}
 use Rattle.sock_programs.specs.Scripts.{sizes_of, programs, readers_from, all_programs, tasks_from, all_tasks, opened, ending, is_ending, set_up, played, IsRunWithCalls}
@@ -29,10 +26,9 @@ use Rattle.sock_runs.proofs.HandTicks.{AtHome}
 use Rattle.sock_runs.proofs.LinkTicks.{RetriesGo}
 use Rattle.sock_runs.proofs.Along.{run_sound, seat_ahead, seat_rests, place_inside, run_ahead, beginning_ahead, settled_rests}
 use Rattle.sock_runs.proofs.Unasked.{quiet_answered}
-use Rattle.sock_runs.proofs.Quiets.{run_seats, run_rests}
+use Rattle.sock_runs.proofs.Quiets.{run_rests}
 use Rattle.sock_runs.proofs.Ends.{all_ended, is_over, none_alive, links_home}
-use Rattle.sock_runs.proofs.Records.{Records}
-use Rattle.sock_runs.proofs.Recorded.{Recorded, nothing, records_nothing, run_recorded}
+use Rattle.sock_runs.proofs.Recorded.{Recorded, run_recorded}
 use Rattle.sock_runs.proofs.Rested.{IsPast, recorded_ending, recorded_on, rested_failed}
 use Rattle.sock_runs.proofs.Opening.{opens_in, or_cases, own_opens, own_is, beginning_recorded, others_still}
 
