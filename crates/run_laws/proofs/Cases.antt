@@ -11,12 +11,12 @@ use Rattle.sock_model.specs.declared.view.View.{View}
 use Rattle.sock_model.specs.Messages.{Letter}
 use Rattle.sock_model.specs.Reads.{message, link_home}
 use Rattle.sock_programs.specs.Calls.{Call}
-use Rattle.sock_programs.specs.Writings.{Writing, Puts, Waits, Empties, Walks}
+use Rattle.sock_programs.specs.Writings.{Puts, Waits, Empties, Walks}
 use Rattle.std.specs.Prelude.{true, false, if◌then◌else◌, ◌+◌, None, Some}
 use Rattle.sock_programs.specs.Programs.{Program, Do, Say, Sent, Rest, TakeMessage, TakeHome, PutHome, PutBytes, AskReady, Write, Aside, Round, Keep, Retries}
 use Rattle.corr_core.specs.Word.{parts, code_of}
 use Rattle.sock_programs.specs.Asides.{Step, Found, PutCall, id_slot}
-use Rattle.sock_programs.specs.Heads.{Head, Exit, HasEnded, Posts, Unlocks, Decides, Locks, Joins, Opens, Reads, Discards}
+use Rattle.sock_programs.specs.Heads.{HasEnded, Posts, Unlocks, Decides, Locks, Joins, Opens, Reads, Discards}
 use Rattle.sock_programs.specs.Posts.{ends_call, end_id, unlocked}
 use Rattle.sock_programs.specs.Beside.{found_in, calls_after}
 use Rattle.sock_programs.specs.Cores.{Core, SeatState, word_of, found_at, lies_at, first_of, others_of, link_place, with_seat, stepped}

@@ -1,9 +1,5 @@
 -- Ticks keep the laws, whatever their order and what links answer.
-use Rattle.std.proofs.Common.{◌≡◌, ◌≢◌, ℕ, zero, suc, ◌-◌, ◌%◌, inl, ⊎_elim, Bool, true, false, cond, eqb, nat_lt, List, [], ◌∷◌, ◌++◌, take, replicate, sym, ap, ◌∙◌, subst, arith}
-use Rattle.std.proofs.lemmas.List.Sums.{fold-append}
-use mathlib.Core.Option.{some, some-ne-none}
-use lib.ListN.{get_elem?}
-use Rattle.chain_laws.proofs.Lists.{at_length, at_some}
+use Rattle.std.proofs.Common.{◌≡◌, ◌≢◌, ℕ, zero, suc, ◌-◌, ◌%◌, ⊎_elim, Bool, true, false, cond, eqb, nat_lt, List, [], ◌∷◌, take, sym, subst}
 use Rattle.sock_words.specs.declared.plain.Plan.{Plan}
 use Rattle.sock_words.specs.Words.{socket_id_version, vref_version}
 use Rattle.sock_io.specs.declared.link.Put.{Put}
@@ -19,18 +15,17 @@ use Rattle.sock_model.specs.SlotRows.{marks_of}
 use Rattle.sock_model.specs.Plain.{life_at, PlainLaw, plain}
 use Rattle.sock_model.specs.Weights.{is_probe}
 use Rattle.sock_programs.specs.Calls.{Call, AddRef, SubRef, SetOdd, Recycle, LookWord, ClaimRequest, SwapHead}
-use Rattle.sock_programs.specs.Programs.{Program}
-use Rattle.sock_programs.specs.Cores.{Core, SeatState, next_step, word_of, found_at}
-use Rattle.sock_programs.specs.Ticks.{Moment, quiet, IsAnswered, AreAnswered, ticked, run}
+use Rattle.sock_programs.specs.Cores.{Core, word_of, found_at}
+use Rattle.sock_programs.specs.Ticks.{Moment, ticked, run}
 use Rattle.sock_runs.specs.May.{May, even_version}
-use Rattle.sock_runs.specs.Sound.{Sound, AllRest, state, views_after, views_along}
+use Rattle.sock_runs.specs.Sound.{state, views_after, views_along}
 use Rattle.plain_laws.specs.Events.{life_of}
 use Rattle.plain_laws.proofs.Laws.{plain_law}
 use Rattle.message_laws.specs.Messages.{Has, IsIn}
 use Rattle.message_laws.specs.Standing.{messages}
 use Rattle.run_laws.specs.World.{Event, Nothing, Hold, Drop, Fail, End, Accept, Take, Stop, Place, Dropped, of_messages, stopped_after}
 use Rattle.run_laws.specs.World as world
-use Rattle.run_laws.specs.Seen.{accept_event, stop_event, step_event, put_event, ready_event, event_at, AreEvents, none_stopped, stopped_along}
+use Rattle.run_laws.specs.Seen.{accept_event, stop_event, step_event, put_event, ready_event, event_at, AreEvents, stopped_along}
 use Rattle.run_laws.specs.Happening.{Happen}
 use Rattle.run_laws.proofs.Cases.{tick_does}
 use Rattle.run_laws.proofs.Kept.{IsGiven, AreGiven, Kept}

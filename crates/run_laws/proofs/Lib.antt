@@ -9,3 +9,5 @@ pub mod InTime
 pub mod Full
 pub mod Events
 pub mod Keeps
+pub mod Begins
+pub mod Laws

@@ -2,3 +2,4 @@ pub mod Late
 pub mod World
 pub mod Seen
 pub mod Happening
+pub mod Laws
