@@ -45,9 +45,20 @@ module _ (slots requests : ℕ) (calls : ℕ → Type 0) (done : List Done) (tod
   recycle_goes broken trace next k i from = (
     tt,
     λ found. split (eqb found from) (Do (LoadLink i (vref_version from + 1)) (λ l. Do (TakeLink l) (λ _. Do (FinishLink l) (λ _. Do (PutLink l) (λ _. if nat_le (vref_version from + 1) LAST_VERSION then Do (FreeSlot i) (λ _. next true) else next true))))) (next false)
-        (Goes broken (step (Rattle.sock_programs.specs.Calls.Recycle i from) found ∷ trace))
-        (tt, λ l. (tt, λ a. (tt, λ b. (tt, λ c. split (nat_le (vref_version from + 1) LAST_VERSION) (Do (FreeSlot i) (λ _. next true)) (next true) (Goes broken (step (PutLink l) c ∷ step (FinishLink l) b ∷ step (TakeLink l) a ∷ step (LoadLink i (vref_version from + 1)) l ∷ step (Rattle.sock_programs.specs.Calls.Recycle i from) found ∷ trace))
-        (tt, λ d. k true _) (k true _)))))
+        (Goes broken (step (Rattle.sock_programs.specs.Calls.Recycle i from) found ∷ trace)) (
+          tt,
+          λ l. (
+            tt,
+            λ a. (
+              tt,
+              λ b. (
+                tt,
+                λ c. split (nat_le (vref_version from + 1) LAST_VERSION) (Do (FreeSlot i) (λ _. next true)) (next true) (Goes broken (step (PutLink l) c ∷ step (FinishLink l) b ∷ step (TakeLink l) a ∷ step (LoadLink i (vref_version from + 1)) l ∷ step (Rattle.sock_programs.specs.Calls.Recycle i from) found ∷ trace))
+                    (tt, λ d. k true _) (k true _),
+              ),
+            ),
+          ),
+        )
         (k false _),
   )
 
