@@ -1,6 +1,8 @@
 ghost use Rattle.std.specs.Prelude.{◌≡◌, ◌≤◌, ◌<◌, ◌+◌, ◌*◌, ◌/◌, ◌%◌, ◌==◌, ℕ};
 ghost use Rattle.corr_core.specs.Word.{error_of, code_of, attempt_of};
 
+use crate::call_id::AttemptNumber;
+
 /// The attempt that stands for the whole call.
 const WHOLE: u16 = 7;
 
@@ -10,17 +12,16 @@ pub struct IdError(u16);
 
 impl IdError {
     /// An error of one attempt.
-    pub fn of_attempt(code: u16, attempt: u8) -> Self
-        requires code { code ≤ 4095 }
-        requires attempt { attempt ≤ 6 }
-        ensures { result.0 ≡ error_of code attempt }
+    pub fn of_attempt(code: u16, attempt: AttemptNumber) -> Self
+        requires { code ≤ 4095 }
+        ensures { result.0 ≡ error_of code attempt.value }
     {
-        IdError(code * 8 + u16::from(attempt))
+        IdError(code * 8 + u16::from(attempt.value))
     }
 
     /// An error of the whole call.
     pub fn of_call(code: u16) -> Self
-        requires code { code ≤ 4095 }
+        requires { code ≤ 4095 }
         ensures { result.0 ≡ error_of code 7 }
     {
         IdError(code * 8 + WHOLE)

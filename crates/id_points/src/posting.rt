@@ -5,6 +5,7 @@ ghost use Rattle.sock_programs.specs.Programs.{Program};
 ghost use Rattle.sock_programs.specs.Posts.{judged, packed, is_first, is_stale};
 ghost use Rattle.id_points.specs.Turns.{post_on};
 
+use crate::call_id::CallId;
 use crate::error::IdError;
 use sock_words::IdWord;
 
@@ -41,10 +42,10 @@ pub(crate) fn is_stale(error: IdError, word: IdWord) -> bool
 
 /// What is done about an error for an id by the word found (`bthread_id_error`): an ended range, another attempt and a
 /// third error refuse it, in this order.
-pub fn judge(id: u64, error: IdError, found: IdWord) -> PostTurn
-    ensures { (k : Posting → Program) → post_on id error.0 k result ≡ judged id error.0 found.0 k }
+pub fn judge(id: CallId, error: IdError, found: IdWord) -> PostTurn
+    ensures { (k : Posting → Program) → post_on id.number error.0 k result ≡ judged id.number error.0 found.0 k }
 {
-    if !is_there((id % 0x1_0000_0000) as u32, found) {
+    if !is_there(id.first(), found) {
         PostTurn::Gone
     } else if is_stale(error, found) {
         PostTurn::Stale
@@ -74,10 +75,10 @@ pub(crate) fn locked(word: IdWord) -> IdWord
 }
 
 /// How the post of an error goes on behind its exchange from this word, which found that one.
-pub fn post_behind(id: u64, error: IdError, from: IdWord, found: IdWord) -> PostTurn
-    ensures { (k : Posting → Program) → post_on id error.0 k result ≡
+pub fn post_behind(id: CallId, error: IdError, from: IdWord, found: IdWord) -> PostTurn
+    ensures { (k : Posting → Program) → post_on id.number error.0 k result ≡
         (if found.0 == from.0 then (if (parts from.0).state == 1 then k (HasLocked (packed (posted_word (parts from.0) error.0))) else k WasQueued)
-        else judged id error.0 found.0 k) }
+        else judged id.number error.0 found.0 k) }
 {
     if found != from {
         judge(id, error, found)

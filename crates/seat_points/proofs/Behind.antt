@@ -20,7 +20,8 @@ use Rattle.seat_points.specs.declared.point.SendStep.TheVariants as sends
 use Rattle.seat_points.specs.declared.point.Writer.{Writer}
 use Rattle.seat_points.specs.declared.point.Current.{Current}
 use Rattle.seat_points.specs.declared.point.WriteStep.TheVariants as writes
-use Rattle.seat_points.specs.Points.{Around, open_program, seek_program, release_program, send_program, write_program, then_program, gone_then, has_life, after_word, after_put, with_put}
+use Rattle.call_points.specs.Steps.{after_word}
+use Rattle.seat_points.specs.Points.{Around, open_program, seek_program, release_program, send_program, write_program, then_program, gone_then, has_life, after_put, with_put}
 
 -- a claimed slot gets its link, and then its head
 pub links : (a : Around) (g : Opening) (i found : ℕ) → open_program a g (opens.ResetHead i) ≡ after_word (open_program a g (opens.StoreLink i)) found

@@ -1,8 +1,9 @@
 -- What the next step of a point tells of the point.
-use Rattle.std.proofs.Common.{◌≡◌, refl, ℕ, ◌<◌, ◌≤◌, Bool, List, Option, Some, None, subst}
+use Rattle.std.proofs.Common.{◌≡◌, refl, ℕ, ◌<◌, ◌≤◌, Bool, true, false, if◌then◌else◌, List, Option, Some, None, subst}
 use Rattle.sock_words.specs.declared.outcome.Outcome.{Outcome}
 use Rattle.sock_programs.specs.declared.task.Sizes.{Sizes}
 use Rattle.sock_programs.specs.Calls as calls
+use Rattle.sock_programs.specs.Asides as asides
 use Rattle.sock_programs.specs.Cores.{said, next_step}
 use Rattle.sock_runs.specs.Sound.{AllowsWord}
 use Rattle.seat_points.specs.declared.point.OpenStep.TheVariants as opens
@@ -12,10 +13,24 @@ use Rattle.seat_points.specs.declared.point.FailStep.TheVariants as fails
 use Rattle.seat_points.specs.declared.point.ReleaseStep.TheVariants as releases
 use Rattle.seat_points.specs.declared.point.SendStep.TheVariants as sends
 use Rattle.seat_points.specs.declared.point.WriteStep.TheVariants as writes
+use Rattle.sock_words.specs.declared.id_word.IdWord.{IdWord}
+use Rattle.sock_programs.specs.Programs.{Program}
+use Rattle.call_points.specs.declared.deciding.OnCall.{OnCall}
+use Rattle.call_points.specs.declared.deciding.DecideStep.TheVariants as decides
+use Rattle.call_points.specs.declared.posting.PostStep.TheVariants as posts
+use Rattle.call_points.specs.declared.locking.LockStep.TheVariants as locks
+use Rattle.seat_points.specs.declared.point.Sending.{Sending}
+use Rattle.seat_points.specs.declared.point.Author.{Author}
+use Rattle.seat_points.specs.declared.point.Author.TheVariants as authors
+use Rattle.seat_points.specs.declared.point.After.{After}
+use Rattle.seat_points.specs.declared.point.CallStep.TheVariants as begins
+use Rattle.seat_points.specs.declared.point.AttemptStep.TheVariants as attempts
+use Rattle.seat_points.specs.declared.point.RetryStep.TheVariants as retries
+use Rattle.seat_points.specs.declared.point.JoinStep.TheVariants as joins
 use Rattle.seat_points.specs.declared.point.Point.{Point}
 use Rattle.seat_points.specs.declared.point.Point.TheVariants as points
-use Rattle.seat_points.specs.Points.{Around, point_program, link_at, link_left, MayFind, IsWithin, GoesByWord, TakesMessage, TakesLink, PutsHome, PutsPiece, Asks}
-use Rattle.seat_points.specs.Steps.{First, OfCall, OfMessage, OfLink, OfHome, OfPut, OfReady, first_in}
+use Rattle.seat_points.specs.Points.{Around, point_program, look_program, link_at, link_left, MayFind, IsWithin, GoesByWord, TakesCall, TakesMessage, TakesLink, PutsHome, PutsPiece, Asks}
+use Rattle.seat_points.specs.Steps.{First, OfCall, OfAside, OfMessage, OfLink, OfHome, OfPut, OfReady, first_of, first_in}
 
 -- the link in hand without a right before and behind a step
 abbrev pub HandOver : calls.Call → Option ℕ → Option ℕ → Type 0
@@ -35,15 +50,31 @@ FitsSizes sizes other = Unit {0}
 abbrev HasNone : Point → Type 0
 HasNone p = (link_at p ≡ None) × (link_left p ≡ None)
 
+abbrev AsideFacts : asides.Step → Point → Type 0
+AsideFacts (asides.TakeCall i) p = TakesCall p × HasNone p
+AsideFacts other p = GoesByWord p × HasNone p
+
 abbrev Facts : Option First → Point → Type 0
 Facts None p = Unit {0}
 Facts (Some (OfCall call)) p = GoesByWord p × HandOver call (link_at p) (link_left p) × ((found : ℕ) → AllowsWord call found → MayFind p found)
     × ((sizes : Sizes) → sizes.requests ≤ 4096 → FitsSizes sizes call → IsWithin sizes p)
+Facts (Some (OfAside step)) p = AsideFacts step p
 Facts (Some (OfMessage q)) p = TakesMessage p × HasNone p
 Facts (Some (OfLink k)) p = TakesLink p × HasNone p
 Facts (Some (OfHome k n)) p = PutsHome p × HasNone p
 Facts (Some (OfPut k asked bytes)) p = PutsPiece p × HasNone p
 Facts (Some (OfReady k)) p = Asks p × HasNone p
+
+-- the first look is that of a `send`
+look_facts : (a : Around) (s : Sending) (author : Author) → Facts (first_in (look_program a author s.id.0)) (points.Send s sends.Look)
+look_facts a s (authors.Send o) = (tt, (refl, refl), (λ found h. tt), (λ sizes few fits. (few, tt)))
+look_facts a s (authors.Attempt t) = tt
+
+-- a call that is decided on ends, or goes home again
+judge_facts : (c : OnCall) (after : After) (w : IdWord) (ends : Bool) (x y : Program) → Facts (first_of x) (points.Decide c after (decides.Judge w)) → Facts (first_of y) (points.Decide c after (decides.Judge w))
+    → Facts (first_of (if ends then x else y)) (points.Decide c after (decides.Judge w))
+judge_facts c after w true x y f g = f
+judge_facts c after w false x y f g = g
 
 facts : (a : Around) (p : Point) → Facts (first_in (point_program a p)) p
 facts a points.Rest = tt
@@ -73,7 +104,7 @@ facts a (points.Release i t (releases.TakeLink w k)) = (tt, (refl, refl), (λ fo
 facts a (points.Release i t (releases.FinishLink w k)) = (tt, (refl, refl), (λ found h. tt), (λ sizes few fits. tt))
 facts a (points.Release i t (releases.PutLink w k)) = (tt, (refl, refl), (λ found h. tt), (λ sizes few fits. tt))
 facts a (points.Release i t releases.FreeSlot) = (tt, (refl, refl), (λ found h. tt), (λ sizes few fits. tt))
-facts a (points.Send s sends.Look) = (tt, (refl, refl), (λ found h. tt), (λ sizes few fits. (few, tt)))
+facts a (points.Send s sends.Look) = look_facts a s s.author
 facts a (points.Send s (sends.Claim q)) = (tt, (refl, refl), (λ found h. h), (λ sizes few fits. (few, fits)))
 facts a (points.Send s (sends.PutMessage q own)) = (tt, (refl, refl), (λ found h. tt), (λ sizes few fits. (few, tt)))
 facts a (points.Send s (sends.Unconnect q own)) = (tt, (refl, refl), (λ found h. tt), (λ sizes few fits. (few, tt)))
@@ -91,9 +122,9 @@ facts a (points.Write w (writes.StoreCode m)) = (tt, (refl, refl), (λ found h. 
 facts a (points.Write w (writes.GiveBack m)) = (tt, (refl, refl), (λ found h. tt), (λ sizes few fits. tt))
 facts a (points.Write w (writes.StorePlace m)) = (tt, (refl, refl), (λ found h. tt), (λ sizes few fits. fits))
 facts a (points.Write w (writes.LoadCode m)) = (tt, (refl, refl), (λ found h. tt), (λ sizes few fits. tt))
-facts a (points.Write w (writes.DropPlace m)) = (tt, (refl, refl), (λ found h. tt), (λ sizes few fits. fits))
-facts a (points.Write w (writes.ReadNext now)) = (tt, (refl, refl), (λ found h. tt), (λ sizes few fits. tt))
-facts a (points.Write w (writes.Free now next)) = (tt, (refl, refl), (λ found h. tt), (λ sizes few fits. tt))
+facts a (points.Write w (writes.DropPlace m n)) = (tt, (refl, refl), (λ found h. tt), (λ sizes few fits. fits))
+facts a (points.Write w (writes.ReadNext now c)) = (tt, (refl, refl), (λ found h. tt), (λ sizes few fits. tt))
+facts a (points.Write w (writes.Free now next c)) = (tt, (refl, refl), (λ found h. tt), (λ sizes few fits. tt))
 facts a (points.Write w (writes.TakeMessage next)) = (tt, (refl, refl))
 facts a (points.Write w writes.PutHome) = (tt, (refl, refl))
 facts a (points.Write w writes.EmptyHead) = (tt, (refl, refl), (λ found h. tt), (λ sizes few fits. tt))
@@ -101,6 +132,30 @@ facts a (points.Write w (writes.TakeHome found)) = (tt, (refl, refl))
 facts a (points.Write w (writes.Walk top at after)) = (tt, (refl, refl), (λ found h. tt), (λ sizes few fits. tt))
 facts a (points.Write w (writes.Turn top at after before)) = (tt, (refl, refl), (λ found h. tt), (λ sizes few fits. tt))
 facts a (points.Write w (writes.TakeFirst top at)) = (tt, (refl, refl))
+facts a (points.Call begins.LoadName) = (tt, (refl, refl), (λ found h. tt), (λ sizes few fits. tt))
+facts a (points.Call (begins.ClaimId i socket)) = (tt, (refl, refl))
+facts a (points.Call (begins.PutCall i socket)) = (tt, (refl, refl))
+facts a (points.Call (begins.MakeId i socket)) = (tt, (refl, refl))
+facts a (points.Call (begins.StoreCall id socket)) = (tt, (refl, refl))
+facts a (points.Attempt t socket attempts.AddRef) = (tt, (refl, refl), (λ found h. tt), (λ sizes few fits. few))
+facts a (points.Attempt t socket attempts.FindLink) = (tt, (refl, refl), (λ found h. tt), (λ sizes few fits. few))
+facts a (points.Attempt t socket (attempts.StoreAt k)) = (tt, (refl, refl))
+facts a (points.Attempt t socket attempts.Look) = (tt, (refl, refl), (λ found h. tt), (λ sizes few fits. few))
+facts a (points.Post c after posts.Load) = (tt, (refl, refl))
+facts a (points.Post c after (posts.Exchange from)) = (tt, (refl, refl))
+facts a (points.Decide c after (decides.Take w)) = (tt, (refl, refl))
+facts a (points.Decide c after (decides.Judge w)) = judge_facts c after w _ _ _ (tt, (refl, refl)) (tt, (refl, refl))
+facts a (points.Decide c after (decides.Free o)) = (tt, (refl, refl))
+facts a (points.Decide c after (decides.Unlock from advance n)) = (tt, (refl, refl))
+facts a (points.Retry r (retries.Lock locks.Read)) = (tt, (refl, refl))
+facts a (points.Retry r (retries.Lock (locks.Exchange from))) = (tt, (refl, refl))
+facts a (points.Retry r (retries.TakeCall w)) = (tt, (refl, refl))
+facts a (points.Retry r (retries.PutCall w)) = (tt, (refl, refl))
+facts a (points.Retry r (retries.Unlock w)) = (tt, (refl, refl))
+facts a (points.Retry r retries.LoadName) = (tt, (refl, refl), (λ found h. tt), (λ sizes few fits. tt))
+facts a (points.Expire o t) = (tt, (refl, refl))
+facts a (points.Join o (joins.LoadCall t)) = (tt, (refl, refl))
+facts a (points.Join o (joins.Wait id)) = (tt, (refl, refl))
 
 module _ (a : Around) (p : Point) where
   facts_at : (first : First) → first_in (point_program a p) ≡ Some first → Facts (Some first) p
@@ -186,8 +241,8 @@ ahead a (points.Write w (writes.GiveBack m)) = (refl, λ os. refl)
 ahead a (points.Write w (writes.StorePlace m)) = (refl, λ os. refl)
 ahead a (points.Write w (writes.LoadCode m)) = (refl, λ os. refl)
 ahead a (points.Write w (writes.DropPlace m)) = (refl, λ os. refl)
-ahead a (points.Write w (writes.ReadNext now)) = (refl, λ os. refl)
-ahead a (points.Write w (writes.Free now next)) = (refl, λ os. refl)
+ahead a (points.Write w (writes.ReadNext now c)) = (refl, λ os. refl)
+ahead a (points.Write w (writes.Free now next c)) = (refl, λ os. refl)
 ahead a (points.Write w (writes.TakeMessage next)) = (refl, λ os. refl)
 ahead a (points.Write w writes.PutHome) = (refl, λ os. refl)
 ahead a (points.Write w writes.EmptyHead) = (refl, λ os. refl)

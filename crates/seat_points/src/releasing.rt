@@ -1,8 +1,10 @@
 ghost use Rattle.std.specs.Prelude.{◌≡◌, None, if◌then◌else◌};
 ghost use Rattle.sock_programs.specs.Programs.{fail_outcome};
-ghost use Rattle.seat_points.specs.Points.{Around, release_program, next_program, then_program, after_word, MayFindIn, link_behind, link_left};
+ghost use Rattle.call_points.specs.Steps.{after_word};
+ghost use Rattle.seat_points.specs.Points.{Around, release_program, next_program, then_program, MayFindIn, link_behind, link_left};
 
-use crate::point::{Next, Point, ReleaseStep, Then};
+use crate::asking::{EFAILEDSOCKET, posting};
+use crate::point::{After, Next, Point, ReleaseStep, Then};
 use sock_words::{Outcome, Vref};
 
 /// The last version that a slot may be given again with.
@@ -21,6 +23,7 @@ impl Then {
             Then::Sent { operation } => Next::Sent(operation),
             Then::Dropped { operation } => Next::Said(operation, dropped_outcome(freed)),
             Then::GaveBack => Next::GaveBack,
+            Then::Unreached(attempt) => posting(attempt.error(EFAILEDSOCKET), After::Attempt(None)),
             Then::Ended => Next::Ended,
         }
     }
