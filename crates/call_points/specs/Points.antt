@@ -7,6 +7,7 @@ use Rattle.sock_programs.specs.Heads.{Retry, Sought, Posts, Unlocks, Decides, Lo
 use Rattle.sock_programs.specs.Posts.{decide, end_id, ends_call, post_with, unlocked}
 use Rattle.sock_programs.specs.Programs.{Program, Aside, Round, Keep}
 use Rattle.sock_programs.specs.declared.task.Asked.{Asked}
+use Rattle.id_points.specs.Ids.{id_of, number_of}
 use Rattle.id_points.specs.Turns.{sought_as, word_of}
 use Rattle.call_points.specs.declared.deciding.OnCall.{OnCall}
 use Rattle.call_points.specs.declared.deciding.DecideStep.{DecideStep}
@@ -35,8 +36,8 @@ end_on i k (Some step) = end_program i k step
 -- ## Posts
 
 abbrev pub post_program : OnCall → (Posting → Program) → PostStep → Program
-post_program c k posts.Load = post_with c.id.number c.error.0 k
-post_program c k (posts.Exchange from) = Round (Posts c.id.number c.error.0 from.0) k
+post_program c k posts.Load = post_with (id_of c.id) c.error.0 k
+post_program c k (posts.Exchange from) = Round (Posts (id_of c.id) c.error.0 from.0) k
 
 -- ## Locks
 
@@ -48,20 +49,20 @@ lock_program l k (locks.Exchange from) = Round (Locks l.slot (sought_as l.sought
 
 -- the retry of this attempt
 abbrev pub retry_of : OnCall → ℕ → Retry
-retry_of c n = record { id = c.id.number; attempt = n }
+retry_of c n = record { id = id_of c.id; attempt = n }
 
 abbrev pub decide_program : OnCall → Asked → (Deciding → Program) → DecideStep → Program
-decide_program c asked k (decides.Take word) = decide c.id.number word.0 c.error.0 k
-decide_program c asked k (decides.Judge word) = Round (Decides c.id.number asked word.0 c.error.0) k
-decide_program c asked k (decides.Free o) = Aside (FreeId (id_slot c.id.number)) (λ _. k (HasEnded o (code_of c.error.0)))
-decide_program c asked k (decides.Unlock from advance n) = Round (Unlocks (id_slot c.id.number) from.0 advance) (unlocked (retry_of c n.value) k)
+decide_program c asked k (decides.Take word) = decide (id_of c.id) word.0 c.error.0 k
+decide_program c asked k (decides.Judge word) = Round (Decides (id_of c.id) asked word.0 c.error.0) k
+decide_program c asked k (decides.Free o) = Aside (FreeId (id_slot (id_of c.id))) (λ _. k (HasEnded o (code_of c.error.0)))
+decide_program c asked k (decides.Unlock from advance n) = Round (Unlocks (id_slot (id_of c.id)) from.0 advance) (unlocked (retry_of c (number_of n)) k)
 
 -- behind a step
 abbrev pub decide_on : Asked → (Deciding → Program) → OnCall → DecideNext → Program
 decide_on asked k c (nexts.Step step) = decide_program c asked k step
 decide_on asked k c (nexts.Ended o) = k (HasEnded o (code_of c.error.0))
-decide_on asked k c (nexts.Kept n) = Keep (retry_of c n.value) (k GoesOn)
-decide_on asked k c (nexts.KeptWith n word e) = Keep (retry_of c n.value) (decide c.id.number word.0 e.0 k)
+decide_on asked k c (nexts.Kept n) = Keep (retry_of c (number_of n)) (k GoesOn)
+decide_on asked k c (nexts.KeptWith n word e) = Keep (retry_of c (number_of n)) (decide (id_of c.id) word.0 e.0 k)
 
 -- a word that a seat has from an exchange of its own
 abbrev pub MayStand : DecideStep → Type 0

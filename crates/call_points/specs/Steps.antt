@@ -6,6 +6,7 @@ use Rattle.sock_programs.specs.Programs.{Program, Do, Write, Aside, Round, Rest}
 use Rattle.sock_programs.specs.Sends.{block}
 use Rattle.sock_programs.specs.Rounds.{round}
 use Rattle.sock_programs.specs.declared.task.Asked.{Asked}
+use Rattle.id_points.specs.Ids.{id_of}
 use Rattle.call_points.specs.declared.aside.Aside as code
 
 -- with this call in hand
@@ -13,7 +14,7 @@ abbrev pub step_of : Asked → code.Aside → Step
 step_of asked (code.TheVariants.ClaimId i) = asides.ClaimId i
 step_of asked (code.TheVariants.PutCall i) = asides.PutCall i asked
 step_of asked (code.TheVariants.MakeId i range) = asides.MakeId i range
-step_of asked (code.TheVariants.StoreCall o id) = asides.StoreCall o id.number
+step_of asked (code.TheVariants.StoreCall o id) = asides.StoreCall o (id_of id)
 step_of asked (code.TheVariants.LoadCall o) = asides.LoadCall o
 step_of asked (code.TheVariants.StoreAt o w) = asides.StoreAt o w.0
 step_of asked (code.TheVariants.LoadAt o) = asides.LoadAt o

@@ -81,9 +81,7 @@ impl OnCall {
                 }
             }
             DecideStep::Judge(word) => {
-                let attempt = AttemptNumber {
-                    value: word.attempt() + 1,
-                };
+                let attempt = AttemptNumber::new(word.attempt() + 1);
                 DecideNext::Step(DecideStep::Unlock(word, true, attempt))
             }
             DecideStep::Free(done) => DecideNext::Ended(done),

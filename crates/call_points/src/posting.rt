@@ -2,6 +2,7 @@ ghost use Rattle.std.specs.Prelude.{◌≡◌, ℕ, Some};
 ghost use Rattle.sock_programs.specs.Heads.{Posting};
 ghost use Rattle.sock_programs.specs.Programs.{Program};
 ghost use Rattle.sock_programs.specs.declared.task.Asked.{Asked};
+ghost use Rattle.id_points.specs.Ids.{id_of};
 ghost use Rattle.id_points.specs.Turns.{post_on};
 ghost use Rattle.call_points.specs.Steps.{step_of, aside_in, after_word};
 ghost use Rattle.call_points.specs.Points.{post_program};
@@ -34,7 +35,7 @@ impl OnCall {
 
     /// How a post goes on behind its step, which found this word.
     pub fn post_next(self, step: PostStep, found: u64) -> PostTurn
-        ensures { (k : Posting → Program) → post_on self.id.number self.error.0 k result ≡ after_word (post_program self k step) found }
+        ensures { (k : Posting → Program) → post_on (id_of self.id) self.error.0 k result ≡ after_word (post_program self k step) found }
     {
         let found = IdWord::from_word(found);
         match step {

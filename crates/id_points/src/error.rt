@@ -1,4 +1,5 @@
 ghost use Rattle.std.specs.Prelude.{◌≡◌, ◌≤◌, ◌<◌, ◌+◌, ◌*◌, ◌/◌, ◌%◌, ◌==◌, ℕ};
+ghost use Rattle.id_points.specs.Ids.{number_of};
 ghost use Rattle.corr_core.specs.Word.{error_of, code_of, attempt_of};
 
 use crate::call_id::AttemptNumber;
@@ -14,9 +15,9 @@ impl IdError {
     /// An error of one attempt.
     pub fn of_attempt(code: u16, attempt: AttemptNumber) -> Self
         requires { code ≤ 4095 }
-        ensures { result.0 ≡ error_of code attempt.value }
+        ensures { result.0 ≡ error_of code (number_of attempt) }
     {
-        IdError(code * 8 + u16::from(attempt.value))
+        IdError(code * 8 + u16::from(attempt.get()))
     }
 
     /// An error of the whole call.

@@ -3,6 +3,7 @@ ghost use Rattle.corr_core.specs.Word.{parts, posted_word};
 ghost use Rattle.sock_programs.specs.Heads.{Posting, HasLocked, WasQueued};
 ghost use Rattle.sock_programs.specs.Programs.{Program};
 ghost use Rattle.sock_programs.specs.Posts.{judged, packed, is_first, is_stale};
+ghost use Rattle.id_points.specs.Ids.{id_of};
 ghost use Rattle.id_points.specs.Turns.{post_on};
 
 use crate::call_id::CallId;
@@ -43,7 +44,7 @@ pub(crate) fn is_stale(error: IdError, word: IdWord) -> bool
 /// What is done about an error for an id by the word found (`bthread_id_error`): an ended range, another attempt and a
 /// third error refuse it, in this order.
 pub fn judge(id: CallId, error: IdError, found: IdWord) -> PostTurn
-    ensures { (k : Posting → Program) → post_on id.number error.0 k result ≡ judged id.number error.0 found.0 k }
+    ensures { (k : Posting → Program) → post_on (id_of id) error.0 k result ≡ judged (id_of id) error.0 found.0 k }
 {
     if !is_there(id.first(), found) {
         PostTurn::Gone
@@ -76,9 +77,9 @@ pub(crate) fn locked(word: IdWord) -> IdWord
 
 /// How the post of an error goes on behind its exchange from this word, which found that one.
 pub fn post_behind(id: CallId, error: IdError, from: IdWord, found: IdWord) -> PostTurn
-    ensures { (k : Posting → Program) → post_on id.number error.0 k result ≡
+    ensures { (k : Posting → Program) → post_on (id_of id) error.0 k result ≡
         (if found.0 == from.0 then (if (parts from.0).state == 1 then k (HasLocked (packed (posted_word (parts from.0) error.0))) else k WasQueued)
-        else judged id.number error.0 found.0 k) }
+        else judged (id_of id) error.0 found.0 k) }
 {
     if found != from {
         judge(id, error, found)

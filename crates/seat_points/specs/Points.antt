@@ -38,7 +38,7 @@ use Rattle.seat_points.specs.declared.point.Then.TheVariants as thens
 use Rattle.seat_points.specs.declared.point.ReleaseStep.{ReleaseStep}
 use Rattle.seat_points.specs.declared.point.ReleaseStep.TheVariants as releases
 use Rattle.corr_core.specs.Word.{parts}
-use Rattle.id_points.specs.declared.call_id.CallId.{CallId}
+use Rattle.id_points.specs.Ids.{id_of, number_of}
 use Rattle.id_points.specs.declared.locking.Sought.TheVariants.{First}
 use Rattle.call_points.specs.Points.{post_program, decide_program, lock_program}
 use Rattle.call_points.specs.Points as decides
@@ -97,11 +97,11 @@ parts_by (authors.Attempt t) parts = parts
 
 abbrev pub place_by : Author → ℕ
 place_by (authors.Send o) = 8 * o
-place_by (authors.Attempt t) = 8 * t.operation + t.number.value
+place_by (authors.Attempt t) = 8 * t.operation + (number_of t.number)
 
 abbrev pub heading_by : Author → List ℕ → Heading
 heading_by (authors.Send o) parts = heading_of o
-heading_by (authors.Attempt t) parts = record { client = 0; operation = t.operation; attempt = t.number.value; place = 8 * t.operation + t.number.value; owner = t.id.number; parts = parts }
+heading_by (authors.Attempt t) parts = record { client = 0; operation = t.operation; attempt = (number_of t.number); place = 8 * t.operation + (number_of t.number); owner = (id_of t.id); parts = parts }
 
 -- what follows the release of a life that was set failed, where this word was found
 abbrev pub failed_then : Option ℕ → ℕ → Then
@@ -122,7 +122,7 @@ has_life other word = not (word == 0)
 
 -- whoever locks the id of a retry's call
 abbrev pub locker_of : Retrying → Locker
-locker_of r = record { slot = id_slot r.attempt.id.number; sought = First (id_first r.attempt.id.number) }
+locker_of r = record { slot = id_slot r.attemp(id_of t.id); sought = First (id_first r.attemp(id_of t.id)) }
 
 -- whoever writes, as the programs have it
 abbrev pub holder_of : Holder → heads.Holder
@@ -140,7 +140,7 @@ module _ (a : Around) where
   then_program (thens.Full o) freed = Say o Full client_on
   then_program (thens.Sent o) freed = Sent o client_on
   then_program thens.GaveBack freed = client_on
-  then_program (thens.Unreached t) freed = post t.id.number 1009 t.number.value client_on
+  then_program (thens.Unreached t) freed = post (id_of t.id) 1009 (number_of t.number) client_on
   then_program thens.Ended freed = a.ends
 
   -- ## Releasing
@@ -189,7 +189,7 @@ module _ (a : Around) where
   -- where each request was found taken
   abbrev pub full_program : Author → ℕ → Program
   full_program (authors.Send o) id = release (socket_id_slot id) (then_program (thens.Full o))
-  full_program (authors.Attempt t) id = post t.id.number 3001 t.number.value (release (socket_id_slot id) (then_program thens.GaveBack))
+  full_program (authors.Attempt t) id = post (id_of t.id) 3001 (number_of t.number) (release (socket_id_slot id) (then_program thens.GaveBack))
 
   abbrev pub connect_program : Sending → ℕ → ℕ → Program
   connect_program s q before = Do (calls.Connect q before) (λ _. sent_program s.author s.id.0)
@@ -251,7 +251,7 @@ module _ (a : Around) where
     -- the call whose message was dropped is told, and then follows this
     abbrev pub told : Option OnCall → Program → Program
     told None next = next
-    told (Some c) next = post_program c (posted c.id.number c.error.0 next) calls_posts.Load
+    told (Some c) next = post_program c (posted (id_of c.id) c.error.0 next) calls_posts.Load
 
     -- what is told of a message that is dropped with this code
     abbrev pub tell : Author → ℕ → Program → Program
@@ -374,8 +374,8 @@ module _ (a : Around) where
 
   -- behind a post, by how it ended
   abbrev pub posted_program : OnCall → After → Posting → Program
-  posted_program c (afters.Expire o) how = posted c.id.number c.error.0 (Say o (expire_outcome how) client_on) how
-  posted_program c after how = posted c.id.number c.error.0 (after_program after) how
+  posted_program c (afters.Expire o) how = posted (id_of c.id) c.error.0 (Say o (expire_outcome how) client_on) how
+  posted_program c after how = posted (id_of c.id) c.error.0 (after_program after) how
 
   -- ## Attempts
 
@@ -384,10 +384,10 @@ module _ (a : Around) where
   start_program t socket = Do (calls.LookWord socket.0) (λ found.
       if vref_version found % 2 == 0
       then claims_program (record { author = authors.Attempt t; id = socket }) a.sizes.requests 0
-      else post t.id.number 1009 t.number.value (release (socket_id_slot socket.0) (then_program thens.GaveBack)))
+      else post (id_of t.id) 1009 (number_of t.number) (release (socket_id_slot socket.0) (then_program thens.GaveBack)))
 
   abbrev pub at_program : Attempt → SocketId → ℕ → Program
-  at_program t socket k = Aside (asides.StoreAt t.operation (at_word (id_first t.id.number) (id_slot t.id.number) k t.number.value)) (λ _. start_program t socket)
+  at_program t socket k = Aside (asides.StoreAt t.operation (at_word (id_first (id_of t.id)) (id_slot (id_of t.id)) k (number_of t.number))) (λ _. start_program t socket)
 
   abbrev pub find_program : Attempt → SocketId → Program
   find_program t socket = Do (calls.FindLink (socket_id_slot socket.0) (socket_id_version socket.0)) (λ k. at_program t socket k)
@@ -409,26 +409,26 @@ module _ (a : Around) where
       if found == 0 then begin_call a.sizes.requests socket.0 i a.asked client_on else claim_id (a.sizes.ids - (i + 1)) (i + 1) a.sizes.requests socket.0 a.asked client_on)
   call_program (begins.PutCall i socket) = begin_call a.sizes.requests socket.0 i a.asked client_on
   call_program (begins.MakeId i socket) = make_program socket.0 i
-  call_program (begins.StoreCall id socket) = Aside (asides.StoreCall a.asked.operation id.number) (λ _. attempt a.sizes.requests a.asked id.number 0 socket.0 client_on)
+  call_program (begins.StoreCall id socket) = Aside (asides.StoreCall a.asked.operation (id_of id)) (λ _. attempt a.sizes.requests a.asked (id_of id) 0 socket.0 client_on)
 
   -- ## Retries
 
   -- the lock is given back, and then the word of the name is loaded
   abbrev pub unlock_again : Retrying → ℕ → Program
-  unlock_again r w = Round (Unlocks (id_slot r.attempt.id.number) w false) (tried_again a.sizes.requests r.attempt.id.number r.attempt.number.value a.asked client_on)
+  unlock_again r w = Round (Unlocks (id_slot r.attemp(id_of t.id)) w false) (tried_again a.sizes.requests r.attemp(id_of t.id) r.attemp(number_of t.number) a.asked client_on)
 
   abbrev pub retry_program : Retrying → RetryStep → Program
-  retry_program r (retries.Lock at) = lock_program (locker_of r) (retry_locked a.sizes.requests r.attempt.id.number r.attempt.number.value client_on) at
-  retry_program r (retries.TakeCall w) = retry_locked a.sizes.requests r.attempt.id.number r.attempt.number.value client_on (Has w.0)
-  retry_program r (retries.PutCall w) = Aside (asides.PutCall (id_slot r.attempt.id.number) a.asked) (λ _. unlock_again r w.0)
+  retry_program r (retries.Lock at) = lock_program (locker_of r) (retry_locked a.sizes.requests r.attemp(id_of t.id) r.attemp(number_of t.number) client_on) at
+  retry_program r (retries.TakeCall w) = retry_locked a.sizes.requests r.attemp(id_of t.id) r.attemp(number_of t.number) client_on (Has w.0)
+  retry_program r (retries.PutCall w) = Aside (asides.PutCall (id_slot r.attemp(id_of t.id)) a.asked) (λ _. unlock_again r w.0)
   retry_program r (retries.Unlock w) = unlock_again r w.0
-  retry_program r retries.LoadName = tried_again a.sizes.requests r.attempt.id.number r.attempt.number.value a.asked client_on (IsOpen 0)
+  retry_program r retries.LoadName = tried_again a.sizes.requests r.attemp(id_of t.id) r.attemp(number_of t.number) a.asked client_on (IsOpen 0)
 
   -- ## Waiting for an end
 
   abbrev pub join_program : ℕ → JoinStep → Program
   join_program o (joins.LoadCall t) = join o t client_on
-  join_program o (joins.Wait id) = Round (Joins id.number) (λ _. Say o Joined client_on)
+  join_program o (joins.Wait id) = Round (Joins (id_of id)) (λ _. Say o Joined client_on)
 
   -- ## Points
 
@@ -444,7 +444,7 @@ module _ (a : Around) where
   point_program (points.Call at) = call_program at
   point_program (points.Attempt t socket at) = attempt_program t socket at
   point_program (points.Post c after at) = post_program c (posted_program c after) at
-  point_program (points.Decide c after at) = decide_program c a.asked (decided c.id.number (after_program after)) at
+  point_program (points.Decide c after at) = decide_program c a.asked (decided (id_of c.id) (after_program after)) at
   point_program (points.Retry r at) = retry_program r at
   point_program (points.Expire o t) = expire o t client_on
   point_program (points.Join o at) = join_program o at
@@ -457,9 +457,9 @@ module _ (a : Around) where
   next_program (nexts.Held o name id) = Say o Held (a.goes_on (a.held ++ (record { name = name; id = id.0 }) ∷ []))
   next_program nexts.GaveBack = client_on
   next_program nexts.Ended = a.ends
-  next_program (nexts.CallEnded o id c after) = Say o (CallFailed id.number c) (after_program after)
-  next_program (nexts.Kept id n after) = Keep (record { id = id.number; attempt = n.value }) (after_program after)
-  next_program (nexts.KeptWith c n word after) = Keep (record { id = c.id.number; attempt = n.value }) (decide c.id.number word.0 c.error.0 (decided c.id.number (after_program after)))
+  next_program (nexts.CallEnded o id c after) = Say o (CallFailed (id_of id) c) (after_program after)
+  next_program (nexts.Kept id n after) = Keep (record { id = id_of id; attempt = number_of n }) (after_program after)
+  next_program (nexts.KeptWith c n word after) = Keep (record { id = (id_of c.id); attempt = number_of n }) (decide (id_of c.id) word.0 c.error.0 (decided (id_of c.id) (after_program after)))
 
 -- ## What follows a step
 
@@ -473,7 +473,7 @@ with_asked asked a = record a { asked = asked }
 
 -- the seat makes the message of its first attempt behind this step
 abbrev pub framed : Point → Around → Around
-framed (points.Call (begins.StoreCall id socket)) a = with_frame id.number 0 a
+framed (points.Call (begins.StoreCall id socket)) a = with_frame (id_of id) 0 a
 framed other a = a
 
 -- with the message of this author
@@ -518,12 +518,12 @@ with_put other a = a
 
 -- a call is taken out of its home; a retry makes its message then
 abbrev pub taken_with : Point → Asked → Around → Around
-taken_with (points.Retry r at) asked a = with_frame r.attempt.id.number r.attempt.number.value (with_asked asked a)
+taken_with (points.Retry r at) asked a = with_frame r.attemp(id_of t.id) r.attemp(number_of t.number) (with_asked asked a)
 taken_with other asked a = with_asked asked a
 
 -- the name of a retry's attempt
 abbrev pub IsNextName : Asked → Point → ℕ → Type 0
-IsNextName asked (points.Retry r at) name = name ≡ name_of asked r.attempt.number.value
+IsNextName asked (points.Retry r at) name = name ≡ name_of asked r.attemp(number_of t.number)
 IsNextName asked other name = Unit {0}
 
 -- ## Links in hand
@@ -668,14 +668,14 @@ IsRefused other = Unit {0}
 -- the message in hand is that of this attempt of the call in hand
 pub record IsFramed (a : Around) (t : Attempt) : Type 0 where
   pub operation : t.operation ≡ a.asked.operation
-  pub message : a.message ≡ frame_of a.asked t.id.number t.number.value
-  pub parts : a.parts ≡ parts_of a.asked t.id.number t.number.value
+  pub message : a.message ≡ frame_of a.asked (id_of t.id) (number_of t.number)
+  pub parts : a.parts ≡ parts_of a.asked (id_of t.id) (number_of t.number)
 
 -- a retry that has taken its call has its message too, and knows its name
 abbrev pub HasRetry : Around → Retrying → RetryStep → Type 0
 HasRetry a r (retries.Lock at) = Unit {0}
 HasRetry a r (retries.TakeCall w) = Unit {0}
-HasRetry a r other = IsFramed a r.attempt × (r.name ≡ name_of a.asked r.attempt.number.value)
+HasRetry a r other = IsFramed a r.attempt × (r.name ≡ name_of a.asked r.attemp(number_of t.number))
 
 abbrev pub HasInHand : Around → Point → Type 0
 HasInHand a (points.Retry r at) = HasRetry a r at

@@ -6,6 +6,7 @@ ghost use Rattle.sock_programs.specs.Posts.{posted, decided};
 ghost use Rattle.sock_programs.specs.Programs.{Program};
 ghost use Rattle.id_points.specs.Turns.{post_on};
 ghost use Rattle.call_points.specs.Points.{decide_on};
+ghost use Rattle.id_points.specs.Ids.{id_of, number_of};
 ghost use Rattle.seat_points.specs.Points.{Around, after_program, posted_program, IsRefused, next_program, tell, told, link_behind};
 
 use crate::point::{After, Attempt, Author, Next, Point, ReleaseStep, Then};
@@ -35,7 +36,7 @@ impl Attempt {
     pub fn error(self, code: u16) -> OnCall
         requires { code ≤ 4095 }
         ensures id { result.id ≡ self.id }
-        ensures error { result.error.0 ≡ error_of code self.number.value }
+        ensures error { result.error.0 ≡ error_of code (number_of self.number) }
     {
         OnCall {
             id: self.id,
@@ -54,7 +55,7 @@ impl Author {
         match self {
             Author::Send(_) => None,
             Author::Attempt(attempt) => {
-                if attempt.id.number == 0 {
+                if attempt.id.number() == 0 {
                     None
                 } else if code == 0 {
                     Some(attempt.error(EFAILEDSOCKET))
@@ -93,7 +94,7 @@ impl After {
 
     /// How it goes on behind the step of a post.
     pub fn posted(self, error: OnCall, turn: PostTurn) -> Next
-        ensures program { (a : Around) → next_program a result ≡ post_on error.id.number error.error.0 (posted_program a error self) turn }
+        ensures program { (a : Around) → next_program a result ≡ post_on (id_of error.id) error.error.0 (posted_program a error self) turn }
         ensures hand { link_behind result ≡ None }
     {
         match turn {
@@ -109,7 +110,7 @@ impl After {
 
     /// How it goes on behind the step of a decision.
     pub fn decided(self, error: OnCall, next: DecideNext) -> Next
-        ensures program { (a : Around) → next_program a result ≡ decide_on a.asked (decided error.id.number (after_program a self)) error next }
+        ensures program { (a : Around) → next_program a result ≡ decide_on a.asked (decided (id_of error.id) (after_program a self)) error next }
         ensures hand { link_behind result ≡ None }
     {
         match next {

@@ -82,7 +82,7 @@ impl CallStep {
                 let attempt = Attempt {
                     operation: calling.operation,
                     id,
-                    number: AttemptNumber { value: 0 },
+                    number: AttemptNumber::new(0),
                 };
                 Next::Point(Point::Attempt(attempt, socket, AttemptStep::AddRef))
             }
@@ -110,7 +110,7 @@ impl AttemptStep {
             AttemptStep::FindLink => Step::Call(Call::FindLink(socket)),
             AttemptStep::StoreAt(link) => {
                 let id = attempt.id;
-                let word = AtWord::pack(id.first(), id.slot(), link, attempt.number.value);
+                let word = AtWord::pack(id.first(), id.slot(), link, attempt.number.get());
                 Step::Aside(Aside::StoreAt(attempt.operation, word))
             }
             AttemptStep::Look => Step::Call(Call::LookWord(socket)),

@@ -4,6 +4,7 @@ ghost use Rattle.sock_programs.specs.Attempts.{retry_locked, tried_again, expire
 ghost use Rattle.id_points.specs.Turns.{lock_on, unlock_on, sought_as};
 ghost use Rattle.call_points.specs.Steps.{after_word, after_call};
 ghost use Rattle.sock_programs.specs.declared.task.Asked.{Asked};
+ghost use Rattle.id_points.specs.Ids.{id_of, number_of};
 ghost use Rattle.seat_points.specs.Points.{Around, client_on, locker_of, retry_program, join_program, next_program, with_asked, with_frame, HasRetry, MayLock, RetriesByWord, MayFindId, MayFindJoined, link_behind};
 ghost use Rattle.seat_points.specs.Steps.{first_in, step_as};
 
@@ -53,7 +54,7 @@ impl Retrying {
 
     /// How a retry goes on behind a step on the way to its lock.
     fn locked(self, turn: LockTurn) -> Next
-        ensures program { (a : Around) → next_program a result ≡ lock_on (locker_of self).slot (sought_as (locker_of self).sought) (retry_locked a.sizes.requests self.attempt.id.number self.attempt.number.value (client_on a)) turn }
+        ensures program { (a : Around) → next_program a result ≡ lock_on (locker_of self).slot (sought_as (locker_of self).sought) (retry_locked a.sizes.requests (id_of self.attempt.id) (number_of self.attempt.number) (client_on a)) turn }
         ensures hand { link_behind result ≡ None }
     {
         match turn {
@@ -66,7 +67,7 @@ impl Retrying {
 
     /// How it goes on behind the giving back of its lock; an error that was queued is decided on.
     fn unlocked(self, turn: UnlockTurn) -> Next
-        ensures program { (a : Around) → next_program a result ≡ unlock_on (id_slot self.attempt.id.number) (tried_again a.sizes.requests self.attempt.id.number self.attempt.number.value a.asked (client_on a)) turn }
+        ensures program { (a : Around) → next_program a result ≡ unlock_on (id_slot (id_of self.attempt.id)) (tried_again a.sizes.requests (id_of self.attempt.id) (number_of self.attempt.number) a.asked (client_on a)) turn }
         ensures hand { link_behind result ≡ None }
     {
         match turn {
@@ -117,7 +118,7 @@ impl Retrying {
 
     /// How it goes on with its call in hand, which is that of this operation, and this is the name of the attempt.
     pub fn with_call(self, word: IdWord, operation: u16, name: u16) -> Next
-        ensures program { (a : Around) (asked : Asked) → next_program (with_frame self.attempt.id.number self.attempt.number.value (with_asked asked a)) result ≡ after_call (retry_program a self (RetryStep.TakeCall word)) asked }
+        ensures program { (a : Around) (asked : Asked) → next_program (with_frame (id_of self.attempt.id) (number_of self.attempt.number) (with_asked asked a)) result ≡ after_call (retry_program a self (RetryStep.TakeCall word)) asked }
         ensures hand { link_behind result ≡ None }
     {
         let retrying = Retrying {

@@ -30,7 +30,7 @@ impl Author {
         match self {
             Author::Send(operation) => 8 * u32::from(operation),
             Author::Attempt(attempt) => {
-                8 * u32::from(attempt.operation) + u32::from(attempt.number.value)
+                8 * u32::from(attempt.operation) + u32::from(attempt.number.get())
             }
         }
     }
