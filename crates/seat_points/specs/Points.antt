@@ -1,5 +1,5 @@
 -- What a seat has still to do, by the point at which it stands: the programs of the operations from each of their steps on.
-use Rattle.std.specs.Prelude.{ℕ, ◌+◌, ◌-◌, ◌*◌, ◌/◌, ◌%◌, ◌==◌, ◌||◌, not, ◌<◌, ◌≤◌, Bool, true, false, nat_lt, nat_le, if◌then◌else◌, List, [], ◌∷◌, ◌++◌, length, drop, Option, Some, None}
+use Rattle.std.specs.Prelude.{ℕ, ◌≡◌, ◌+◌, ◌-◌, ◌*◌, ◌/◌, ◌%◌, ◌==◌, ◌||◌, not, ◌<◌, ◌≤◌, Bool, true, false, nat_lt, nat_le, if◌then◌else◌, List, [], ◌∷◌, ◌++◌, length, drop, Option, Some, None}
 use Rattle.sock_words.specs.Words.{socket_id, socket_id_version, socket_id_slot, vref_version, at_word}
 use Rattle.sock_words.specs.declared.socket_id.SocketId.{SocketId}
 use Rattle.sock_words.specs.declared.ticket.Ticket.{Ticket}
@@ -37,7 +37,7 @@ use Rattle.seat_points.specs.declared.point.Then.{Then}
 use Rattle.seat_points.specs.declared.point.Then.TheVariants as thens
 use Rattle.seat_points.specs.declared.point.ReleaseStep.{ReleaseStep}
 use Rattle.seat_points.specs.declared.point.ReleaseStep.TheVariants as releases
-use Rattle.corr_core.specs.Word.{parts}
+use Rattle.corr_core.specs.Word.{parts, error_of}
 use Rattle.id_points.specs.Ids.{id_of, number_of}
 use Rattle.id_points.specs.declared.locking.Sought.TheVariants.{First}
 use Rattle.call_points.specs.Points.{post_program, decide_program, lock_program}
@@ -122,11 +122,29 @@ has_life other word = not (word == 0)
 
 -- whoever locks the id of a retry's call
 abbrev pub locker_of : Retrying → Locker
-locker_of r = record { slot = id_slot r.attemp(id_of t.id); sought = First (id_first r.attemp(id_of t.id)) }
+locker_of r = record { slot = id_slot (id_of r.attempt.id); sought = First (id_first (id_of r.attempt.id)) }
 
 -- whoever writes, as the programs have it
 abbrev pub holder_of : Holder → heads.Holder
 holder_of h = record { id = h.id.0; link = h.link; last = h.last.0; places = h.places }
+
+-- an error of an attempt
+abbrev pub error_by : Attempt → ℕ → OnCall
+error_by t code_ = record { id = t.id; error = record { 0 = error_of code_ (number_of t.number) } }
+
+-- behind a message that was accepted the life is given back
+abbrev pub sent_then : Author → Then
+sent_then (authors.Send o) = thens.Sent o
+sent_then (authors.Attempt t) = thens.GaveBack
+
+-- the call whose message was dropped is told, and then follows this
+abbrev pub told : Option OnCall → Program → Program
+told None next = next
+told (Some c) next = post_program c (posted (id_of c.id) c.error.0 next) calls_posts.Load
+
+-- what is told of a message that is dropped with this code
+abbrev pub tell : Author → List ℕ → ℕ → Program → Program
+tell author parts c next = tell_drop (heading_by author parts) c next
 
 module _ (a : Around) where
   abbrev pub client_on : Program
@@ -177,11 +195,6 @@ module _ (a : Around) where
   fail_program f (fails.GiveBack found) = Do (calls.SubRef (socket_id_slot f.id.0)) (λ _. failed_program f found.0)
 
   -- ## Sending
-
-  -- behind a message that was accepted: the life is given back
-  abbrev pub sent_then : Author → Then
-  sent_then (authors.Send o) = thens.Sent o
-  sent_then (authors.Attempt t) = thens.GaveBack
 
   abbrev pub sent_program : Author → ℕ → Program
   sent_program author id = release (socket_id_slot id) (then_program (sent_then author))
@@ -248,17 +261,8 @@ module _ (a : Around) where
     abbrev pub give_program : Current → Program
     give_program c = Do (calls.SubRef (socket_id_slot w.holder.id.0)) (λ _. puts_program c false)
 
-    -- the call whose message was dropped is told, and then follows this
-    abbrev pub told : Option OnCall → Program → Program
-    told None next = next
-    told (Some c) next = post_program c (posted (id_of c.id) c.error.0 next) calls_posts.Load
-
-    -- what is told of a message that is dropped with this code
-    abbrev pub tell : Author → ℕ → Program → Program
-    tell author c next = tell_drop (heading_by author a.left_parts) c next
-
     abbrev pub drop_program : Current → ℕ → Program
-    drop_program c n = Do (calls.DropPlace (place_by c.author) w.holder.link w.holder.places) (λ _. passed_telling (one_more (holder_of w.holder)) c.ticket.0 (tell c.author n) written_program)
+    drop_program c n = Do (calls.DropPlace (place_by c.author) w.holder.link w.holder.places) (λ _. passed_telling (one_more (holder_of w.holder)) c.ticket.0 (tell c.author a.left_parts n) written_program)
 
     -- a message is taken, with which the holder goes on
     abbrev pub next_message : heads.Holder → ℕ → Program
@@ -270,8 +274,8 @@ module _ (a : Around) where
     freed_program (Some next) = next_message (holder_of w.holder) next.0
 
     -- and first the call of a dropped message is told
-    abbrev pub told_program : Option OnCall → Option Ticket → Program
-    told_program c next = told c (freed_program next)
+    abbrev pub behind_drop : Option OnCall → Option Ticket → Program
+    behind_drop c next = told c (freed_program next)
 
     abbrev pub taken_again : ℕ → Program
     taken_again found = TakeHome w.holder.link (λ places. Write (heads.Walks (record (holder_of w.holder) { places = places }) found found 0) written_program)
@@ -294,7 +298,7 @@ module _ (a : Around) where
     write_program (writes.LoadCode c) = Do (calls.LoadCode (socket_id_slot w.holder.id.0) (socket_id_version w.holder.id.0)) (λ n. drop_program c n)
     write_program (writes.DropPlace c n) = drop_program c n
     write_program (writes.ReadNext now c) = Do (calls.ReadNext (slot_of now.0)) (λ next. freed now.0 (told c (next_message (holder_of w.holder) next)))
-    write_program (writes.Free now next c) = Do (calls.FreeRequest (slot_of now.0) (generation_of now.0)) (λ _. told_program c next)
+    write_program (writes.Free now next c) = Do (calls.FreeRequest (slot_of now.0) (generation_of now.0)) (λ _. behind_drop c next)
     write_program (writes.TakeMessage next) = next_message (holder_of w.holder) next.0
     write_program writes.PutHome = Write (heads.Empties (holder_of w.holder)) written_program
     write_program writes.EmptyHead = Do (calls.EmptyHead (socket_id_slot w.holder.id.0) w.holder.last.0) (λ found. if found == w.holder.last.0 then written_program else taken_again found)
@@ -415,14 +419,14 @@ module _ (a : Around) where
 
   -- the lock is given back, and then the word of the name is loaded
   abbrev pub unlock_again : Retrying → ℕ → Program
-  unlock_again r w = Round (Unlocks (id_slot r.attemp(id_of t.id)) w false) (tried_again a.sizes.requests r.attemp(id_of t.id) r.attemp(number_of t.number) a.asked client_on)
+  unlock_again r w = Round (Unlocks (id_slot (id_of r.attempt.id)) w false) (tried_again a.sizes.requests (id_of r.attempt.id) (number_of r.attempt.number) a.asked client_on)
 
   abbrev pub retry_program : Retrying → RetryStep → Program
-  retry_program r (retries.Lock at) = lock_program (locker_of r) (retry_locked a.sizes.requests r.attemp(id_of t.id) r.attemp(number_of t.number) client_on) at
-  retry_program r (retries.TakeCall w) = retry_locked a.sizes.requests r.attemp(id_of t.id) r.attemp(number_of t.number) client_on (Has w.0)
-  retry_program r (retries.PutCall w) = Aside (asides.PutCall (id_slot r.attemp(id_of t.id)) a.asked) (λ _. unlock_again r w.0)
+  retry_program r (retries.Lock at) = lock_program (locker_of r) (retry_locked a.sizes.requests (id_of r.attempt.id) (number_of r.attempt.number) client_on) at
+  retry_program r (retries.TakeCall w) = retry_locked a.sizes.requests (id_of r.attempt.id) (number_of r.attempt.number) client_on (Has w.0)
+  retry_program r (retries.PutCall w) = Aside (asides.PutCall (id_slot (id_of r.attempt.id)) a.asked) (λ _. unlock_again r w.0)
   retry_program r (retries.Unlock w) = unlock_again r w.0
-  retry_program r retries.LoadName = tried_again a.sizes.requests r.attemp(id_of t.id) r.attemp(number_of t.number) a.asked client_on (IsOpen 0)
+  retry_program r retries.LoadName = tried_again a.sizes.requests (id_of r.attempt.id) (number_of r.attempt.number) a.asked client_on (IsOpen 0)
 
   -- ## Waiting for an end
 
@@ -518,12 +522,12 @@ with_put other a = a
 
 -- a call is taken out of its home; a retry makes its message then
 abbrev pub taken_with : Point → Asked → Around → Around
-taken_with (points.Retry r at) asked a = with_frame r.attemp(id_of t.id) r.attemp(number_of t.number) (with_asked asked a)
+taken_with (points.Retry r at) asked a = with_frame (id_of r.attempt.id) (number_of r.attempt.number) (with_asked asked a)
 taken_with other asked a = with_asked asked a
 
 -- the name of a retry's attempt
 abbrev pub IsNextName : Asked → Point → ℕ → Type 0
-IsNextName asked (points.Retry r at) name = name ≡ name_of asked r.attemp(number_of t.number)
+IsNextName asked (points.Retry r at) name = name ≡ name_of asked (number_of r.attempt.number)
 IsNextName asked other name = Unit {0}
 
 -- ## Links in hand
@@ -675,7 +679,7 @@ pub record IsFramed (a : Around) (t : Attempt) : Type 0 where
 abbrev pub HasRetry : Around → Retrying → RetryStep → Type 0
 HasRetry a r (retries.Lock at) = Unit {0}
 HasRetry a r (retries.TakeCall w) = Unit {0}
-HasRetry a r other = IsFramed a r.attempt × (r.name ≡ name_of a.asked r.attemp(number_of t.number))
+HasRetry a r other = IsFramed a r.attempt × (r.name ≡ name_of a.asked (number_of r.attempt.number))
 
 abbrev pub HasInHand : Around → Point → Type 0
 HasInHand a (points.Retry r at) = HasRetry a r at

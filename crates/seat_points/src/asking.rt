@@ -1,13 +1,12 @@
-ghost use Rattle.std.specs.Prelude.{◌≡◌, ◌≤◌, ℕ, None, Some, if◌then◌else◌};
-ghost use Rattle.corr_core.specs.Word.{error_of};
+ghost use Rattle.std.specs.Prelude.{◌≡◌, ◌≤◌, ℕ, List, None, Some, if◌then◌else◌};
 ghost use Rattle.sock_programs.specs.Heads.{Posting};
 ghost use Rattle.sock_programs.specs.Attempts.{expire_outcome};
 ghost use Rattle.sock_programs.specs.Posts.{posted, decided};
 ghost use Rattle.sock_programs.specs.Programs.{Program};
 ghost use Rattle.id_points.specs.Turns.{post_on};
 ghost use Rattle.call_points.specs.Points.{decide_on};
-ghost use Rattle.id_points.specs.Ids.{id_of, number_of};
-ghost use Rattle.seat_points.specs.Points.{Around, after_program, posted_program, IsRefused, next_program, tell, told, link_behind};
+ghost use Rattle.id_points.specs.Ids.{id_of};
+ghost use Rattle.seat_points.specs.Points.{Around, after_program, error_by, posted_program, IsRefused, next_program, tell, told, link_behind};
 
 use crate::point::{After, Attempt, Author, Next, Point, ReleaseStep, Then};
 use crate::releasing::releasing;
@@ -35,8 +34,7 @@ impl Attempt {
     /// An error of this attempt.
     pub fn error(self, code: u16) -> OnCall
         requires { code ≤ 4095 }
-        ensures id { result.id ≡ self.id }
-        ensures error { result.error.0 ≡ error_of code (number_of self.number) }
+        ensures { result ≡ error_by self code }
     {
         OnCall {
             id: self.id,
@@ -50,7 +48,7 @@ impl Author {
     /// is none of a call.
     pub fn told(self, code: u16) -> Option<OnCall>
         requires code { code ≤ 4095 }
-        ensures { (a : Around) (next : Program) → told a result next ≡ tell a self code next }
+        ensures { (parts : List ℕ) (next : Program) → told result next ≡ tell self parts code next }
     {
         match self {
             Author::Send(_) => None,

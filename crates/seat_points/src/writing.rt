@@ -1,9 +1,9 @@
-ghost use Rattle.std.specs.Prelude.{◌≡◌, ◌+◌, ◌<◌, ℕ, List, None, Some, Bool, false};
+ghost use Rattle.std.specs.Prelude.{◌≡◌, ◌+◌, ◌<◌, ◌≤◌, ℕ, List, None, Some, Bool, false};
 ghost use Rattle.sock_model.specs.Entries.{slot_of, generation_of};
 ghost use Rattle.sock_programs.specs.Sends.{one_more, freed, passed_telling};
 ghost use Rattle.sock_io.specs.declared.link.Put.{Put};
 ghost use Rattle.call_points.specs.Steps.{after_word};
-ghost use Rattle.seat_points.specs.Points.{Around, point_program, write_program, written_program, holder_of, next_message, told, told_program, tell, after_program, freed_program, taken_again, next_program, after_message, after_link, after_put, after_ready, with_message, with_put, is_whole, HasPlaceLeft, MayFindWriting, TellsCode, WritesByWord, link_behind};
+ghost use Rattle.seat_points.specs.Points.{Around, point_program, write_program, written_program, holder_of, next_message, told, behind_drop, freed_program, taken_again, next_program, after_message, after_link, after_put, after_ready, with_message, with_put, is_whole, HasPlaceLeft, MayFindWriting, TellsCode, WritesByWord, link_behind};
 ghost use Rattle.seat_points.specs.Steps.{first_in, step_as};
 
 use crate::asking::{EFAILEDSOCKET, posting};
@@ -200,7 +200,7 @@ impl Writer {
     }
 
     /// What follows once the request of this ticket needn't be given back: the next message, or the head.
-    fn freed(self, next: Option<Ticket>) -> Next
+    pub fn freed(self, next: Option<Ticket>) -> Next
         ensures program { (a : Around) → next_program a result ≡ freed_program a self next }
         ensures hand { link_behind result ≡ None }
     {
@@ -212,7 +212,7 @@ impl Writer {
 
     /// The call of a dropped message is told, if it is one of a call, and then the next message follows, or the head.
     fn tells(self, next: Option<Ticket>, told: Option<OnCall>) -> Next
-        ensures program { (a : Around) → next_program a result ≡ told_program a self told next }
+        ensures program { (a : Around) → next_program a result ≡ behind_drop a self told next }
         ensures hand { link_behind result ≡ None }
     {
         match told {
@@ -223,7 +223,7 @@ impl Writer {
 
     /// The request of this ticket is given back, but for one of the last generation.
     fn gives_back(self, now: Ticket, next: Option<Ticket>, told: Option<OnCall>) -> Next
-        ensures program { (a : Around) → next_program a result ≡ freed now.0 (told_program a self told next) }
+        ensures program { (a : Around) → next_program a result ≡ freed now.0 (behind_drop a self told next) }
         ensures hand { link_behind result ≡ None }
     {
         if generation(now) == LAST_GENERATION {
@@ -234,9 +234,9 @@ impl Writer {
     }
 
     /// The message of this ticket has its place, and this call is to be told that it was dropped.
-    fn passed(self, now: Ticket, told: Option<OnCall>) -> Next
+    fn passed(self, now: Ticket, call: Option<OnCall>) -> Next
         requires { self.holder.places < 4294967295 }
-        ensures program { (a : Around) → next_program a result ≡ passed_telling (one_more (holder_of self.holder)) now.0 (told a self told) (written_program a self) }
+        ensures program { (a : Around) → next_program a result ≡ passed_telling (one_more (holder_of self.holder)) now.0 (told call) (written_program a self) }
         ensures hand { link_behind result ≡ None }
     {
         let writer = Writer {
@@ -244,9 +244,9 @@ impl Writer {
             ..self
         };
         if now == writer.holder.last {
-            writer.gives_back(now, None, told)
+            writer.gives_back(now, None, call)
         } else {
-            writer.to(WriteStep::ReadNext(now, told))
+            writer.to(WriteStep::ReadNext(now, call))
         }
     }
 
