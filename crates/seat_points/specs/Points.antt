@@ -1,5 +1,5 @@
 -- What a seat has still to do, by the point at which it stands: the programs of the operations from each of their steps on.
-use Rattle.std.specs.Prelude.{ℕ, ◌≡◌, ◌+◌, ◌-◌, ◌*◌, ◌/◌, ◌%◌, ◌==◌, ◌||◌, not, ◌<◌, ◌≤◌, Bool, true, false, nat_lt, nat_le, if◌then◌else◌, List, [], ◌∷◌, ◌++◌, length, drop, Option, Some, None}
+use Rattle.std.specs.Prelude.{ℕ, ◌≡◌, IsTrue, ◌+◌, ◌-◌, ◌*◌, ◌/◌, ◌%◌, ◌==◌, ◌||◌, not, ◌<◌, ◌≤◌, Bool, true, false, nat_lt, nat_le, if◌then◌else◌, List, [], ◌∷◌, ◌++◌, length, drop, Option, Some, None}
 use Rattle.sock_words.specs.Words.{socket_id, socket_id_version, socket_id_slot, vref_version, at_word}
 use Rattle.sock_words.specs.declared.socket_id.SocketId.{SocketId}
 use Rattle.sock_words.specs.declared.ticket.Ticket.{Ticket}
@@ -99,9 +99,20 @@ abbrev pub place_by : Author → ℕ
 place_by (authors.Send o) = 8 * o
 place_by (authors.Attempt t) = 8 * t.operation + (number_of t.number)
 
+abbrev pub operation_by : Author → ℕ
+operation_by (authors.Send o) = o
+operation_by (authors.Attempt t) = t.operation
+
+abbrev pub attempt_by : Author → ℕ
+attempt_by (authors.Send o) = 0
+attempt_by (authors.Attempt t) = number_of t.number
+
+abbrev pub owner_by : Author → ℕ
+owner_by (authors.Send o) = 0
+owner_by (authors.Attempt t) = id_of t.id
+
 abbrev pub heading_by : Author → List ℕ → Heading
-heading_by (authors.Send o) parts = heading_of o
-heading_by (authors.Attempt t) parts = record { client = 0; operation = t.operation; attempt = (number_of t.number); place = 8 * t.operation + (number_of t.number); owner = (id_of t.id); parts = parts }
+heading_by author ps = record { client = 0; operation = operation_by author; attempt = attempt_by author; place = place_by author; owner = owner_by author; parts = parts_by author ps }
 
 -- what follows the release of a life that was set failed, where this word was found
 abbrev pub failed_then : Option ℕ → ℕ → Then
@@ -418,14 +429,14 @@ module _ (a : Around) where
   -- ## Retries
 
   -- the lock is given back, and then the word of the name is loaded
-  abbrev pub unlock_again : Retrying → ℕ → Program
-  unlock_again r w = Round (Unlocks (id_slot (id_of r.attempt.id)) w false) (tried_again a.sizes.requests (id_of r.attempt.id) (number_of r.attempt.number) a.asked client_on)
+  abbrev pub unlock_again : Retrying → ℕ → Bool → Program
+  unlock_again r w advance = Round (Unlocks (id_slot (id_of r.attempt.id)) w advance) (tried_again a.sizes.requests (id_of r.attempt.id) (number_of r.attempt.number) a.asked client_on)
 
   abbrev pub retry_program : Retrying → RetryStep → Program
   retry_program r (retries.Lock at) = lock_program (locker_of r) (retry_locked a.sizes.requests (id_of r.attempt.id) (number_of r.attempt.number) client_on) at
   retry_program r (retries.TakeCall w) = retry_locked a.sizes.requests (id_of r.attempt.id) (number_of r.attempt.number) client_on (Has w.0)
-  retry_program r (retries.PutCall w) = Aside (asides.PutCall (id_slot (id_of r.attempt.id)) a.asked) (λ _. unlock_again r w.0)
-  retry_program r (retries.Unlock w) = unlock_again r w.0
+  retry_program r (retries.PutCall w) = Aside (asides.PutCall (id_slot (id_of r.attempt.id)) a.asked) (λ _. unlock_again r w.0 false)
+  retry_program r (retries.Unlock w advance) = unlock_again r w.0 advance
   retry_program r retries.LoadName = tried_again a.sizes.requests (id_of r.attempt.id) (number_of r.attempt.number) a.asked client_on (IsOpen 0)
 
   -- ## Waiting for an end
@@ -598,6 +609,7 @@ MayFindAt other found = Unit {0}
 -- a lock is tried from an open word alone, and an advance has an attempt left
 abbrev pub MayLock : RetryStep → Type 0
 MayLock (retries.Lock at) = decides.IsOpen at
+MayLock (retries.Unlock w advance) = IsTrue advance → (parts w.0).attempt < 7
 MayLock other = Unit {0}
 
 abbrev pub IsWithin : Sizes → Point → Type 0

@@ -284,8 +284,8 @@ pub enum RetryStep {
     TakeCall(IdWord),
     /// goes home again,
     PutCall(IdWord),
-    /// and the lock is given back from this word.
-    Unlock(IdWord),
+    /// and the lock is given back from this word, with an advance or without.
+    Unlock(IdWord, bool),
     /// The word of the attempt's name is loaded.
     LoadName,
 }

@@ -47,7 +47,9 @@ impl Retrying {
             RetryStep::Lock(at) => Step::Aside(self.locker().step(at)),
             RetryStep::TakeCall(_) => Step::Aside(Aside::TakeCall(slot)),
             RetryStep::PutCall(_) => Step::Aside(Aside::PutCall(slot)),
-            RetryStep::Unlock(from) => Step::Aside(Aside::UnlockId(slot, from, false)),
+            RetryStep::Unlock(from, advance) => {
+                Step::Aside(Aside::UnlockId(slot, from, advance))
+            }
             RetryStep::LoadName => Step::Call(Call::LoadName(self.name)),
         }
     }
@@ -83,7 +85,7 @@ impl Retrying {
                     DecideStep::Take(word),
                 ))
             }
-            UnlockTurn::Again(from, _) => self.to(RetryStep::Unlock(from)),
+            UnlockTurn::Again(from, advance) => self.to(RetryStep::Unlock(from, advance)),
         }
     }
 
@@ -97,9 +99,9 @@ impl Retrying {
         match step {
             RetryStep::Lock(at) => self.locked(self.locker().next(at, found)),
             RetryStep::TakeCall(_) => Next::GaveBack,
-            RetryStep::PutCall(word) => self.to(RetryStep::Unlock(word)),
-            RetryStep::Unlock(from) => {
-                self.unlocked(unlock_behind(from, false, IdWord::from_word(found)))
+            RetryStep::PutCall(word) => self.to(RetryStep::Unlock(word, false)),
+            RetryStep::Unlock(from, advance) => {
+                self.unlocked(unlock_behind(from, advance, IdWord::from_word(found)))
             }
             RetryStep::LoadName => {
                 if found == 0 {
