@@ -1,5 +1,5 @@
 -- Steps aside of the sockets, and attempts with their message in hand.
-use Rattle.std.proofs.Common.{◌≡◌, ℕ, Option, Some, None, option_map, refl, ap}
+use Rattle.std.proofs.Common.{◌≡◌, ℕ, Option, Some, None, option_map, refl, ap, subst}
 use Rattle.sock_words.specs.declared.socket_id.SocketId.{SocketId}
 use Rattle.sock_programs.specs.Asides.{Step}
 use Rattle.sock_programs.specs.Attempts.{attempt}
@@ -9,7 +9,7 @@ use Rattle.id_points.specs.Ids.{id_of, number_of}
 use Rattle.call_points.specs.Steps.{aside_of, aside_in}
 use Rattle.seat_points.specs.declared.point.Attempt.{Attempt}
 use Rattle.seat_points.specs.declared.point.AttemptStep.TheVariants as attempts
-use Rattle.seat_points.specs.Points.{Around, IsFramed, attempt_program, client_on}
+use Rattle.seat_points.specs.Points.{Around, IsFramed, attempt_program, client_on, with_frame}
 use Rattle.seat_points.specs.Steps.{First, OfAside, first_of, first_in}
 
 of_aside : (p : Program) (s : Step) → aside_of p ≡ Some s → first_of p ≡ Some (OfAside s)
@@ -49,3 +49,11 @@ in_aside (Retries requests after) s e = absurd (cc)
 pub attempts_as : (a : Around) (t : Attempt) (socket : SocketId) → IsFramed a t →
     attempt_program a t socket attempts.AddRef ≡ attempt a.sizes.requests a.asked (id_of t.id) (number_of t.number) socket.0 (client_on a)
 attempts_as a t socket f = rw (f.message, f.parts, f.operation) refl
+
+-- the message of the first attempt is made behind the word of its call
+pub begins_as : (a : Around) (t : Attempt) (socket : SocketId) → t.operation ≡ a.asked.operation → number_of t.number ≡ 0 →
+    attempt_program (with_frame (id_of t.id) 0 a) t socket attempts.AddRef ≡ attempt a.sizes.requests a.asked (id_of t.id) 0 socket.0 (client_on a)
+begins_as a t socket o n =
+    let f : IsFramed (with_frame (id_of t.id) (number_of t.number) a) t = record { operation = o; message = refl; parts = refl } in
+    let P : ℕ → Type 0 = λ k. attempt_program (with_frame (id_of t.id) k a) t socket attempts.AddRef ≡ attempt a.sizes.requests a.asked (id_of t.id) k socket.0 (client_on a) in
+    subst P n (attempts_as (with_frame (id_of t.id) (number_of t.number) a) t socket f)

@@ -70,10 +70,10 @@ Facts (Some (OfHome k n)) p = PutsHome p × HasNone p
 Facts (Some (OfPut k asked bytes)) p = PutsPiece p × HasNone p
 Facts (Some (OfReady k)) p = Asks p × HasNone p
 
--- the first look is that of a `send`
+-- the look of a `send` and that of an attempt
 look_facts : (a : Around) (s : Sending) (author : Author) → Facts (first_in (look_program a author s.id.0)) (points.Send s sends.Look)
 look_facts a s (authors.Send o) = (tt, (refl, refl), (λ found h. tt), (λ sizes few fits. (few, tt)))
-look_facts a s (authors.Attempt t) = tt
+look_facts a s (authors.Attempt t) = (tt, (refl, refl), (λ found h. tt), (λ sizes few fits. (few, tt)))
 
 -- a call that is decided on ends, or goes home again
 judge_facts : (c : OnCall) (after : After) (w : IdWord) (ends : Bool) (x y : Program) → Facts (first_of x) (points.Decide c after (decides.Judge w)) → Facts (first_of y) (points.Decide c after (decides.Judge w))
@@ -142,10 +142,9 @@ facts a (points.Call (begins.ClaimId i socket)) = (tt, (refl, refl))
 facts a (points.Call (begins.PutCall i socket)) = (tt, (refl, refl))
 facts a (points.Call (begins.MakeId i socket)) = (tt, (refl, refl))
 facts a (points.Call (begins.StoreCall id socket)) = (tt, (refl, refl))
-facts a (points.Attempt t socket attempts.AddRef) = (tt, (refl, refl), (λ found h. tt), (λ sizes few fits. few))
-facts a (points.Attempt t socket attempts.FindLink) = (tt, (refl, refl), (λ found h. tt), (λ sizes few fits. few))
+facts a (points.Attempt t socket attempts.AddRef) = (tt, (refl, refl), (λ found h. tt), (λ sizes few fits. tt))
+facts a (points.Attempt t socket attempts.FindLink) = (tt, (refl, refl), (λ found h. tt), (λ sizes few fits. tt))
 facts a (points.Attempt t socket (attempts.StoreAt k)) = (tt, (refl, refl))
-facts a (points.Attempt t socket attempts.Look) = (tt, (refl, refl), (λ found h. tt), (λ sizes few fits. few))
 facts a (points.Post c after posts.Load) = (tt, (refl, refl))
 facts a (points.Post c after (posts.Exchange from)) = (tt, (refl, refl))
 facts a (points.Decide c after (decides.Take w)) = (tt, (refl, refl))
@@ -267,7 +266,6 @@ ahead a (points.Call (begins.StoreCall id socket)) = (refl, λ os. refl)
 ahead a (points.Attempt t socket attempts.AddRef) = (refl, λ os. refl)
 ahead a (points.Attempt t socket attempts.FindLink) = (refl, λ os. refl)
 ahead a (points.Attempt t socket (attempts.StoreAt k)) = (refl, λ os. refl)
-ahead a (points.Attempt t socket attempts.Look) = (refl, λ os. refl)
 ahead a (points.Post c after posts.Load) = (refl, λ os. refl)
 ahead a (points.Post c after (posts.Exchange from)) = (refl, λ os. refl)
 ahead a (points.Decide c after (decides.Take w)) = (refl, λ os. refl)

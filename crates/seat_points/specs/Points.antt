@@ -3,6 +3,7 @@ use Rattle.std.specs.Prelude.{ℕ, ◌≡◌, IsTrue, ◌+◌, ◌-◌, ◌*◌,
 use Rattle.sock_words.specs.Words.{socket_id, socket_id_version, socket_id_slot, vref_version, at_word}
 use Rattle.sock_words.specs.declared.socket_id.SocketId.{SocketId}
 use Rattle.sock_words.specs.declared.ticket.Ticket.{Ticket}
+use Rattle.sock_words.specs.declared.outcome.Outcome.{Outcome}
 use Rattle.sock_words.specs.declared.outcome.Outcome.TheVariants.{Opened, SlotsFull, Unopened, Gone, Full, Held, Freed, Kept, CallFailed, Expired, NotBegun, Joined}
 use Rattle.sock_io.specs.declared.link.Put.{Put}
 use Rattle.sock_io.specs.declared.link.Put.TheVariants as puts
@@ -35,6 +36,8 @@ use Rattle.seat_points.specs.declared.point.FailStep.{FailStep}
 use Rattle.seat_points.specs.declared.point.FailStep.TheVariants as fails
 use Rattle.seat_points.specs.declared.point.Then.{Then}
 use Rattle.seat_points.specs.declared.point.Then.TheVariants as thens
+use Rattle.seat_points.specs.declared.point.Released.{Released}
+use Rattle.seat_points.specs.declared.point.Released.TheVariants as turns
 use Rattle.seat_points.specs.declared.point.ReleaseStep.{ReleaseStep}
 use Rattle.seat_points.specs.declared.point.ReleaseStep.TheVariants as releases
 use Rattle.corr_core.specs.Word.{parts, error_of}
@@ -157,6 +160,34 @@ told (Some c) next = post_program c (posted (id_of c.id) c.error.0 next) calls_p
 abbrev pub tell : Author → List ℕ → ℕ → Program → Program
 tell author parts c next = tell_drop (heading_by author parts) c next
 
+-- ## Releasing: what follows is told whether the slot was recycled
+
+abbrev pub free_on : ℕ → (Bool → Program) → Program
+free_on i k = Do (calls.FreeSlot i) (λ _. k true)
+
+abbrev pub put_on : ℕ → (Bool → Program) → ℕ → ℕ → Program
+put_on i k w l = Do (calls.PutLink l) (λ _. if nat_le w LAST_VERSION then free_on i k else k true)
+
+abbrev pub finish_on : ℕ → (Bool → Program) → ℕ → ℕ → Program
+finish_on i k w l = Do (calls.FinishLink l) (λ _. put_on i k w l)
+
+abbrev pub take_on : ℕ → (Bool → Program) → ℕ → ℕ → Program
+take_on i k w l = Do (calls.TakeLink l) (λ _. finish_on i k w l)
+
+abbrev pub release_on : ℕ → (Bool → Program) → ReleaseStep → Program
+release_on i k releases.SubRef = release i k
+release_on i k (releases.Recycle from) = recycle i from.0 k
+release_on i k (releases.LoadLink w) = Do (calls.LoadLink i w) (λ l. take_on i k w l)
+release_on i k (releases.TakeLink w l) = take_on i k w l
+release_on i k (releases.FinishLink w l) = finish_on i k w l
+release_on i k (releases.PutLink w l) = put_on i k w l
+release_on i k releases.FreeSlot = free_on i k
+
+-- behind a step of it
+abbrev pub released_on : ℕ → (Bool → Program) → Released → Program
+released_on i k (turns.Step at) = release_on i k at
+released_on i k (turns.Done freed) = k freed
+
 module _ (a : Around) where
   abbrev pub client_on : Program
   client_on = a.goes_on a.held
@@ -174,26 +205,8 @@ module _ (a : Around) where
 
   -- ## Releasing
 
-  abbrev pub free_program : ℕ → Then → Program
-  free_program i t = Do (calls.FreeSlot i) (λ _. then_program t true)
-
-  abbrev pub put_program : ℕ → Then → ℕ → ℕ → Program
-  put_program i t w k = Do (calls.PutLink k) (λ _. if nat_le w LAST_VERSION then free_program i t else then_program t true)
-
-  abbrev pub finish_program : ℕ → Then → ℕ → ℕ → Program
-  finish_program i t w k = Do (calls.FinishLink k) (λ _. put_program i t w k)
-
-  abbrev pub take_program : ℕ → Then → ℕ → ℕ → Program
-  take_program i t w k = Do (calls.TakeLink k) (λ _. finish_program i t w k)
-
   abbrev pub release_program : ℕ → Then → ReleaseStep → Program
-  release_program i t releases.SubRef = release i (then_program t)
-  release_program i t (releases.Recycle from) = recycle i from.0 (then_program t)
-  release_program i t (releases.LoadLink w) = Do (calls.LoadLink i w) (λ k. take_program i t w k)
-  release_program i t (releases.TakeLink w k) = take_program i t w k
-  release_program i t (releases.FinishLink w k) = finish_program i t w k
-  release_program i t (releases.PutLink w k) = put_program i t w k
-  release_program i t releases.FreeSlot = free_program i t
+  release_program i t = release_on i (then_program t)
 
   -- ## Failing
 
@@ -233,10 +246,18 @@ module _ (a : Around) where
   abbrev pub claims_program : Sending → ℕ → ℕ → Program
   claims_program s more q = claims_from more q s.id.0 (heading_by s.author a.parts) a.message (full_program s.author s.id.0) (sent_program s.author s.id.0)
 
-  -- the first look of a `send`
+  -- where the life was found failed
+  abbrev pub failed_look : Author → ℕ → ℕ → Program
+  failed_look (authors.Send o) id found = release (socket_id_slot id) (then_program (thens.Gone o (record { 0 = found })))
+  failed_look (authors.Attempt t) id found = post (id_of t.id) 1009 (number_of t.number) (release (socket_id_slot id) (then_program thens.GaveBack))
+
+  -- the life is held, and its word is looked at
   abbrev pub look_program : Author → ℕ → Program
   look_program (authors.Send o) id = start a.sizes.requests o id a.message client_on
-  look_program (authors.Attempt t) id = Rest
+  look_program (authors.Attempt t) id = Do (calls.LookWord id) (λ found.
+      if vref_version found % 2 == 0
+      then claims_from a.sizes.requests 0 id (heading_by (authors.Attempt t) a.parts) a.message (full_program (authors.Attempt t) id) (sent_program (authors.Attempt t) id)
+      else failed_look (authors.Attempt t) id found)
 
   abbrev pub send_program : Sending → SendStep → Program
   send_program s sends.Look = look_program s.author s.id.0
@@ -387,6 +408,11 @@ module _ (a : Around) where
   after_program (afters.Expire o) = Say o Expired client_on
   after_program (afters.Drop w next) = freed_program w next
 
+  -- behind one that was refused or queued; an `expire` tells so
+  abbrev pub refused_program : After → Outcome → Program
+  refused_program (afters.Expire o) outcome = Say o outcome client_on
+  refused_program after outcome = after_program after
+
   -- behind a post, by how it ended
   abbrev pub posted_program : OnCall → After → Posting → Program
   posted_program c (afters.Expire o) how = posted (id_of c.id) c.error.0 (Say o (expire_outcome how) client_on) how
@@ -394,15 +420,8 @@ module _ (a : Around) where
 
   -- ## Attempts
 
-  -- the life is held, and its word is looked at
-  abbrev pub start_program : Attempt → SocketId → Program
-  start_program t socket = Do (calls.LookWord socket.0) (λ found.
-      if vref_version found % 2 == 0
-      then claims_program (record { author = authors.Attempt t; id = socket }) a.sizes.requests 0
-      else post (id_of t.id) 1009 (number_of t.number) (release (socket_id_slot socket.0) (then_program thens.GaveBack)))
-
   abbrev pub at_program : Attempt → SocketId → ℕ → Program
-  at_program t socket k = Aside (asides.StoreAt t.operation (at_word (id_first (id_of t.id)) (id_slot (id_of t.id)) k (number_of t.number))) (λ _. start_program t socket)
+  at_program t socket k = Aside (asides.StoreAt t.operation (at_word (id_first (id_of t.id)) (id_slot (id_of t.id)) k (number_of t.number))) (λ _. look_program (authors.Attempt t) socket.0)
 
   abbrev pub find_program : Attempt → SocketId → Program
   find_program t socket = Do (calls.FindLink (socket_id_slot socket.0) (socket_id_version socket.0)) (λ k. at_program t socket k)
@@ -411,7 +430,6 @@ module _ (a : Around) where
   attempt_program t socket attempts.AddRef = address socket.0 (find_program t socket) (λ found. then_program (thens.Unreached t) false)
   attempt_program t socket attempts.FindLink = find_program t socket
   attempt_program t socket (attempts.StoreAt k) = at_program t socket k
-  attempt_program t socket attempts.Look = start_program t socket
 
   -- ## Calls
 
@@ -543,12 +561,21 @@ IsNextName asked other name = Unit {0}
 
 -- ## Links in hand
 
+-- the link in hand at a release, and behind a step of one
+abbrev pub release_link : ReleaseStep → Option ℕ
+release_link (releases.FinishLink w k) = Some k
+release_link (releases.PutLink w k) = Some k
+release_link other = None
+
+abbrev pub released_link : Released → Option ℕ
+released_link (turns.Step at) = release_link at
+released_link (turns.Done freed) = None
+
 -- the link in hand without a right to write it, at a point
 abbrev pub link_at : Point → Option ℕ
 link_at (points.Open g opens.FinishLink) = Some g.link
 link_at (points.Open g opens.PutLink) = Some g.link
-link_at (points.Release i t (releases.FinishLink w k)) = Some k
-link_at (points.Release i t (releases.PutLink w k)) = Some k
+link_at (points.Release i t at) = release_link at
 link_at other = None
 
 -- and behind a step
@@ -556,12 +583,17 @@ abbrev pub link_behind : Next → Option ℕ
 link_behind (nexts.Point point) = link_at point
 link_behind other = None
 
+-- and behind the next step of a release
+abbrev pub release_left : ReleaseStep → Option ℕ
+release_left (releases.TakeLink w k) = Some k
+release_left (releases.FinishLink w k) = Some k
+release_left other = None
+
 -- and behind the next step of a point
 abbrev pub link_left : Point → Option ℕ
 link_left (points.Open g opens.TakeLink) = Some g.link
 link_left (points.Open g opens.FinishLink) = Some g.link
-link_left (points.Release i t (releases.TakeLink w k)) = Some k
-link_left (points.Release i t (releases.FinishLink w k)) = Some k
+link_left (points.Release i t at) = release_left at
 link_left other = None
 
 -- ## What a table has
@@ -616,7 +648,6 @@ abbrev pub IsWithin : Sizes → Point → Type 0
 IsWithin sizes (points.Open g at) = IsOneOf sizes.slots at
 IsWithin sizes (points.Send s at) = (sizes.requests ≤ 4096) × IsOneOfRequests sizes.requests at
 IsWithin sizes (points.Write w at) = HasPlaceLeft w at
-IsWithin sizes (points.Attempt t socket at) = sizes.requests ≤ 4096
 IsWithin sizes other = Unit {0}
 
 -- the code of a dropped message fits an error

@@ -6,7 +6,7 @@ ghost use Rattle.sock_programs.specs.Programs.{Program};
 ghost use Rattle.id_points.specs.Turns.{post_on};
 ghost use Rattle.call_points.specs.Points.{decide_on};
 ghost use Rattle.id_points.specs.Ids.{id_of};
-ghost use Rattle.seat_points.specs.Points.{Around, after_program, error_by, posted_program, IsRefused, next_program, tell, told, link_behind};
+ghost use Rattle.seat_points.specs.Points.{Around, after_program, error_by, refused_program, posted_program, IsRefused, next_program, tell, told, link_behind};
 
 use crate::point::{After, Attempt, Author, Next, Point, ReleaseStep, Then};
 use crate::releasing::releasing;
@@ -28,6 +28,13 @@ pub fn posting(error: OnCall, after: After) -> Next
     ensures { result ≡ Next.Point (Point.Post error after PostStep.Load) }
 {
     Next::Point(Point::Post(error, after, PostStep::Load))
+}
+
+/// An error is decided on, at this step.
+pub fn deciding(error: OnCall, after: After, step: DecideStep) -> Next
+    ensures { result ≡ Next.Point (Point.Decide error after step) }
+{
+    Next::Point(Point::Decide(error, after, step))
 }
 
 impl Attempt {
@@ -79,15 +86,25 @@ impl After {
         }
     }
 
-    /// How it goes on where a post was refused or queued; an `expire` tells so.
+    /// How it goes on where a post has no lock; an `expire` tells so.
+    fn without_lock(self, outcome: Outcome) -> Next
+        ensures program { (a : Around) → next_program a result ≡ refused_program a self outcome }
+        ensures hand { link_behind result ≡ None }
+    {
+        match self {
+            After::Attempt(None) => Next::GaveBack,
+            After::Attempt(Some(slot)) => releasing(slot, Then::GaveBack, ReleaseStep::SubRef),
+            After::Expire(operation) => Next::Said(operation, outcome),
+            After::Drop(writer, next) => writer.freed(next),
+        }
+    }
+
+    /// How it goes on where a post was refused or queued, which has this outcome for an `expire`.
     fn refused(self, outcome: Outcome) -> Next
         ensures program { (a : Around) (c : OnCall) (how : Posting) → IsRefused how → outcome ≡ expire_outcome how → next_program a result ≡ posted_program a c self how }
         ensures hand { link_behind result ≡ None }
     {
-        match self {
-            After::Expire(operation) => Next::Said(operation, outcome),
-            _ => self.next(),
-        }
+        self.without_lock(outcome)
     }
 
     /// How it goes on behind the step of a post.

@@ -4,10 +4,9 @@ ghost use Rattle.call_points.specs.Steps.{after_word};
 ghost use Rattle.seat_points.specs.Points.{Around, client_on, call_program, attempt_program, next_program, framed, IsOneOfIds, IsCalling, HasLink, MayFindAt, link_behind};
 ghost use Rattle.seat_points.specs.Steps.{first_in, step_as};
 
-use crate::asking::{EFAILEDSOCKET, posting};
 use crate::call::Call;
 use crate::point::{
-    After, Attempt, AttemptStep, Author, CallStep, Next, Point, ReleaseStep, Sending, Step, Then,
+    Attempt, AttemptStep, Author, CallStep, Next, Point, ReleaseStep, SendStep, Sending, Step, Then,
 };
 use crate::releasing::releasing;
 use call_points::Aside;
@@ -84,7 +83,7 @@ impl CallStep {
                     id,
                     number: AttemptNumber::new(0),
                 };
-                Next::Point(Point::Attempt(attempt, socket, AttemptStep::AddRef))
+                attempt.to(socket, AttemptStep::AddRef)
             }
         }
     }
@@ -92,10 +91,21 @@ impl CallStep {
 
 impl Attempt {
     /// An attempt over this socket comes to this step.
-    fn to(self, socket: SocketId, step: AttemptStep) -> Next
+    pub fn to(self, socket: SocketId, step: AttemptStep) -> Next
         ensures { result ≡ Next.Point (Point.Attempt self socket step) }
     {
         Next::Point(Point::Attempt(self, socket, step))
+    }
+
+    /// It has told where it goes, and looks at the word of its socket.
+    fn looks(self, socket: SocketId) -> Next
+        ensures { result ≡ Next.Point (Point.Send (record { author = Author.Attempt self; id = socket }) SendStep.Look) }
+    {
+        let sending = Sending {
+            author: Author::Attempt(self),
+            id: socket,
+        };
+        sending.to(SendStep::Look)
     }
 }
 
@@ -113,37 +123,30 @@ impl AttemptStep {
                 let word = AtWord::pack(id.first(), id.slot(), link, attempt.number.get());
                 Step::Aside(Aside::StoreAt(attempt.operation, word))
             }
-            AttemptStep::Look => Step::Call(Call::LookWord(socket)),
         }
     }
 
-    /// How an attempt goes on, over a table of so many requests, by the word that its step found.
-    pub fn next(self, attempt: Attempt, socket: SocketId, requests: u16, found: u64) -> Next
+    /// How an attempt goes on by the word that its step found.
+    pub fn next(self, attempt: Attempt, socket: SocketId, found: u64) -> Next
         requires { MayFindAt self found }
-        ensures program { (a : Around) → a.sizes.requests ≡ requests → next_program a result ≡ after_word (attempt_program a attempt socket self) found }
+        ensures program { (a : Around) → next_program a result ≡ after_word (attempt_program a attempt socket self) found }
         ensures hand { link_behind result ≡ None }
     {
-        let word = Vref::from_word(found);
         match self {
-            AttemptStep::AddRef if word.version() == socket.version() => attempt.to(socket, AttemptStep::FindLink),
-            AttemptStep::AddRef => releasing(
-                socket.slot(),
-                Then::Unreached(attempt),
-                ReleaseStep::SubRef,
-            ),
-            AttemptStep::FindLink => attempt.to(socket, AttemptStep::StoreAt(found as u16)),
-            AttemptStep::StoreAt(_) => attempt.to(socket, AttemptStep::Look),
-            AttemptStep::Look if word.is_failed() => posting(
-                attempt.error(EFAILEDSOCKET),
-                After::Attempt(Some(socket.slot())),
-            ),
-            AttemptStep::Look => {
-                let sending = Sending {
-                    author: Author::Attempt(attempt),
-                    id: socket,
-                };
-                sending.try_request(requests, 0)
+            AttemptStep::AddRef => {
+                let word = Vref::from_word(found);
+                if word.version() == socket.version() {
+                    attempt.to(socket, AttemptStep::FindLink)
+                } else {
+                    releasing(
+                        socket.slot(),
+                        Then::Unreached(attempt),
+                        ReleaseStep::SubRef,
+                    )
+                }
             }
+            AttemptStep::FindLink => attempt.to(socket, AttemptStep::StoreAt(found as u16)),
+            AttemptStep::StoreAt(_) => attempt.looks(socket),
         }
     }
 }

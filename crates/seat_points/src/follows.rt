@@ -3,6 +3,7 @@ ghost use Rattle.call_points.specs.Steps.{after_word, after_call};
 ghost use Rattle.sock_programs.specs.declared.task.Asked.{Asked};
 ghost use Rattle.seat_points.specs.Points.{Around, point_program, next_program, after_message, after_link, after_home, after_put, after_ready, with_message, with_put, is_whole, IsWithin, IsWithinIds, MayFindAside, HasLinkAt, TellsCodeAt, IsCalling, HasInHand, IsNextName, framed, taken_with, TakesCall, MayFind, GoesByWord, TakesMessage, TakesLink, PutsHome, PutsPiece, Asks, link_behind, link_left};
 
+use crate::asking::deciding;
 use crate::calling::Calling;
 use crate::point::{Author, Next, Point, RetryStep, SendStep, WriteStep};
 use crate::retrying::expiring;
@@ -33,9 +34,7 @@ impl Point {
             Point::Send(sending, step) => sending.next(sizes.requests, step, found),
             Point::Write(writer, step) => writer.next(step, found),
             Point::Call(step) => step.next(calling, sizes.ids, found),
-            Point::Attempt(attempt, socket, step) => {
-                step.next(attempt, socket, sizes.requests, found)
-            }
+            Point::Attempt(attempt, socket, step) => step.next(attempt, socket, found),
             Point::Post(error, after, step) => after.posted(error, error.post_next(step, found)),
             Point::Decide(error, after, step) => {
                 after.decided(error, error.decide_next(step, calling.operation, found))
@@ -73,7 +72,8 @@ impl Point {
     {
         match self {
             Point::Decide(error, after, DecideStep::Take(word)) => {
-                Next::Point(Point::Decide(error, after, error.with_call(word)))
+                let step = error.with_call(word);
+                deciding(error, after, step)
             }
             Point::Retry(retrying, RetryStep::TakeCall(word)) => {
                 retrying.with_call(word, operation, name)

@@ -141,6 +141,14 @@ pub enum ReleaseStep {
     FreeSlot,
 }
 
+/// How a release goes on behind a step.
+#[derive(Clone, Copy)]
+pub enum Released {
+    Step(ReleaseStep),
+    /// It is done, and recycled the slot or didn't.
+    Done(bool),
+}
+
 /// A `send`, or an attempt of a call, that holds the life of this id.
 #[derive(Clone, Copy)]
 pub struct Sending {
@@ -151,7 +159,7 @@ pub struct Sending {
 /// Where a `send` or an attempt that holds a life stands, by the step that comes next.
 #[derive(Clone, Copy)]
 pub enum SendStep {
-    /// The life's word is looked at by a `send`.
+    /// The life's word is looked at.
     Look,
     /// This request is tried.
     Claim(u16),
@@ -262,17 +270,15 @@ pub enum CallStep {
     StoreCall(CallId, SocketId),
 }
 
-/// Where an attempt stands up to its message.
+/// Where an attempt stands up to its look at the life's word.
 #[derive(Clone, Copy)]
 pub enum AttemptStep {
     /// A reference to the life of its socket is added,
     AddRef,
     /// its link is found,
     FindLink,
-    /// told in the at word of the call,
+    /// and told in the at word of the call.
     StoreAt(u16),
-    /// and the life's word is looked at.
-    Look,
 }
 
 /// Where a retry stands up to its attempt.

@@ -108,11 +108,7 @@ impl Retrying {
                     posting(self.attempt.error(EFAILEDSOCKET), After::Attempt(None))
                 } else {
                     let socket = SocketId::from_word(found - 1);
-                    Next::Point(Point::Attempt(
-                        self.attempt,
-                        socket,
-                        AttemptStep::AddRef,
-                    ))
+                    self.attempt.to(socket, AttemptStep::AddRef)
                 }
             }
         }

@@ -1,10 +1,10 @@
 ghost use Rattle.std.specs.Prelude.{◌≡◌, ◌-◌, ◌≤◌, ℕ, List, None, Some};
 ghost use Rattle.sock_words.specs.Words.{socket_id_slot};
 ghost use Rattle.call_points.specs.Steps.{after_word};
-ghost use Rattle.seat_points.specs.Points.{Around, client_on, place_by, claims_program, full_program, sent_then, point_program, send_program, first_program, next_program, after_message, with_message, IsOneOfRequests, MayFindOf, SendsByWord, link_at, link_behind};
+ghost use Rattle.seat_points.specs.Points.{Around, client_on, place_by, claims_program, full_program, failed_look, look_program, sent_then, point_program, send_program, first_program, next_program, after_message, with_message, IsOneOfRequests, MayFindOf, SendsByWord, link_at, link_behind};
 ghost use Rattle.seat_points.specs.Steps.{first_in, step_as};
 
-use crate::asking::{EREQUESTS, posting};
+use crate::asking::{EFAILEDSOCKET, EREQUESTS, posting};
 use crate::call::Call;
 use crate::point::{
     After, Author, Current, Holder, Next, Point, ReleaseStep, SendStep, Sending, Step, Then, WriteStep, Writer,
@@ -90,18 +90,33 @@ impl Sending {
         }
     }
 
-    /// Where a `send` goes on behind its look.
-    fn looked(self, operation: u16, requests: u16, found: Vref) -> Next
-        requires { self.author ≡ Author.Send operation }
-        ensures program { (a : Around) → a.sizes.requests ≡ requests → next_program a result ≡ after_word (send_program a self SendStep.Look) found.0 }
+    /// Its life was found failed, by this word.
+    fn refused(self, found: Vref) -> Next
+        ensures program { (a : Around) → next_program a result ≡ failed_look a self.author self.id.0 found.0 }
+        ensures hand { link_behind result ≡ None }
+    {
+        let slot = self.id.slot();
+        match self.author {
+            Author::Send(operation) => {
+                releasing(
+                    slot,
+                    Then::Gone { operation, found },
+                    ReleaseStep::SubRef,
+                )
+            }
+            Author::Attempt(attempt) => {
+                posting(attempt.error(EFAILEDSOCKET), After::Attempt(Some(slot)))
+            }
+        }
+    }
+
+    /// Where it goes on behind its look.
+    fn looked(self, requests: u16, found: Vref) -> Next
+        ensures program { (a : Around) → a.sizes.requests ≡ requests → next_program a result ≡ after_word (look_program a self.author self.id.0) found.0 }
         ensures hand { link_behind result ≡ None }
     {
         if found.is_failed() {
-            releasing(
-                self.id.slot(),
-                Then::Gone { operation, found },
-                ReleaseStep::SubRef,
-            )
+            self.refused(found)
         } else {
             self.try_request(requests, 0)
         }
@@ -136,12 +151,7 @@ impl Sending {
         ensures hand { link_behind result ≡ None }
     {
         match step {
-            SendStep::Look => match self.author {
-                Author::Send(operation) => {
-                    self.looked(operation, requests, Vref::from_word(found))
-                }
-                Author::Attempt(_) => Next::Point(Point::Rest),
-            },
+            SendStep::Look => self.looked(requests, Vref::from_word(found)),
             SendStep::Claim(request) => {
                 if found % 2 == 0 {
                     let own = Ticket::pack(false, found / 2, request);

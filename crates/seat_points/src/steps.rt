@@ -1,6 +1,7 @@
-ghost use Rattle.std.specs.Prelude.{◌≡◌, ◌+◌, option_map, Some, None};
+ghost use Rattle.std.specs.Prelude.{◌≡◌, ◌+◌, Bool, option_map, Some, None};
 ghost use Rattle.sock_words.specs.Words.{socket_id};
-ghost use Rattle.seat_points.specs.Points.{Around, open_program, seek_program, fail_program, release_program, point_program, IsCalling, HasInHand, HasLinkAt};
+ghost use Rattle.sock_programs.specs.Programs.{Program};
+ghost use Rattle.seat_points.specs.Points.{Around, open_program, seek_program, fail_program, release_on, point_program, IsCalling, HasInHand, HasLinkAt};
 ghost use Rattle.seat_points.specs.Steps.{OfCall, step_of, first_in, step_as, kind_of_first};
 
 use crate::call::Call;
@@ -78,8 +79,8 @@ impl Failing {
 
 impl ReleaseStep {
     /// The next step of a release.
-    fn call(self, slot: u32) -> Call
-        ensures { (a : Around) (t : _) → first_in (release_program a slot t self) ≡ Some (OfCall (step_of result)) }
+    pub fn call(self, slot: u32) -> Call
+        ensures { (k : Bool → Program) → first_in (release_on slot k self) ≡ Some (OfCall (step_of result)) }
     {
         match self {
             ReleaseStep::SubRef => Call::SubRef(slot),

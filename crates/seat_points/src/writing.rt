@@ -1,4 +1,4 @@
-ghost use Rattle.std.specs.Prelude.{◌≡◌, ◌+◌, ◌<◌, ◌≤◌, ℕ, List, None, Some, Bool, false};
+ghost use Rattle.std.specs.Prelude.{◌≡◌, ◌==◌, ◌+◌, ◌<◌, ◌≤◌, ℕ, List, None, Some, Bool, false};
 ghost use Rattle.sock_model.specs.Entries.{slot_of, generation_of};
 ghost use Rattle.sock_programs.specs.Sends.{one_more, freed, passed_telling};
 ghost use Rattle.sock_io.specs.declared.link.Put.{Put};
@@ -233,17 +233,33 @@ impl Writer {
         }
     }
 
+    /// One place more was given.
+    fn placed(self) -> Writer
+        requires { self.holder.places < 4294967295 }
+        ensures author { result.author ≡ self.author }
+        ensures holder { holder_of result.holder ≡ one_more (holder_of self.holder) }
+    {
+        Writer {
+            holder: self.holder.one_more(),
+            ..self
+        }
+    }
+
+    /// Whether the message of this ticket is the last that it has to write.
+    fn is_last(self, now: Ticket) -> bool
+        ensures { result ≡ (now.0 == self.holder.last.0) }
+    {
+        now == self.holder.last
+    }
+
     /// The message of this ticket has its place, and this call is to be told that it was dropped.
     fn passed(self, now: Ticket, call: Option<OnCall>) -> Next
         requires { self.holder.places < 4294967295 }
         ensures program { (a : Around) → next_program a result ≡ passed_telling (one_more (holder_of self.holder)) now.0 (told call) (written_program a self) }
         ensures hand { link_behind result ≡ None }
     {
-        let writer = Writer {
-            holder: self.holder.one_more(),
-            ..self
-        };
-        if now == writer.holder.last {
+        let writer = self.placed();
+        if self.is_last(now) {
             writer.gives_back(now, None, call)
         } else {
             writer.to(WriteStep::ReadNext(now, call))
