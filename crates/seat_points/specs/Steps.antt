@@ -3,15 +3,18 @@ use Rattle.std.specs.Prelude.{ℕ, ◌*◌, Bool, List, Option, Some, None}
 use Rattle.sock_words.specs.declared.kind.Kind.{Kind}
 use Rattle.sock_words.specs.declared.kind.Kind.TheVariants.{L1, L2, M2, W1, W2}
 use Rattle.sock_words.specs.Words.{socket_id_version, socket_id_slot}
-use Rattle.sock_message.specs.Pieces.{piece}
+use Rattle.sock_programs.specs.Parts.{part}
+use Rattle.sock_programs.specs.Asides as asides
+use Rattle.sock_programs.specs.Rounds.{round}
+use Rattle.call_points.specs.Steps as aside_steps
 use Rattle.sock_programs.specs.Calls as calls
-use Rattle.sock_programs.specs.Programs.{Program, Do, TakeMessage, TakeHome, PutHome, PutBytes, AskReady, Write}
-use Rattle.sock_programs.specs.Sends.{block, heading_of}
+use Rattle.sock_programs.specs.Programs.{Program, Do, TakeMessage, TakeHome, PutHome, PutBytes, AskReady, Write, Aside, Round}
+use Rattle.sock_programs.specs.Sends.{block}
 use Rattle.seat_points.specs.declared.call.Call.{Call}
 use Rattle.seat_points.specs.declared.call.Call.TheVariants as steps
 use Rattle.seat_points.specs.declared.point.Step.{Step}
 use Rattle.seat_points.specs.declared.point.Step.TheVariants as firsts
-use Rattle.seat_points.specs.Points.{Around}
+use Rattle.seat_points.specs.Points.{Around, heading_by, parts_by}
 
 abbrev pub step_of : Call → calls.Call
 step_of (steps.ClaimSlot i) = calls.ClaimSlot i
@@ -44,12 +47,13 @@ step_of (steps.EmptyHead i last) = calls.EmptyHead i last.0
 step_of (steps.ReadNext q) = calls.ReadNext q
 step_of (steps.TurnNext q value) = calls.TurnNext q value.0
 step_of (steps.FreeRequest q g) = calls.FreeRequest q g
-step_of (steps.StorePlace o k n) = calls.StorePlace (8 * o) k n
-step_of (steps.DropPlace o k n) = calls.DropPlace (8 * o) k n
+step_of (steps.StorePlace l k n) = calls.StorePlace l k n
+step_of (steps.DropPlace l k n) = calls.DropPlace l k n
 
--- the first step of a program: one on a word, or one of whoever writes a link
+-- the first step of a program: one on a word, one aside of the sockets, or one of whoever writes a link
 pub data First : Type 0 where
   OfCall : calls.Call → First
+  OfAside : asides.Step → First
   OfMessage : ℕ → First
   OfLink : ℕ → First
   OfHome : ℕ → ℕ → First
@@ -58,6 +62,7 @@ pub data First : Type 0 where
 
 abbrev pub first_of : Program → Option First
 first_of (Do call next) = Some (OfCall call)
+first_of (Aside step next) = Some (OfAside step)
 first_of (TakeMessage q next) = Some (OfMessage q)
 first_of (TakeHome k next) = Some (OfLink k)
 first_of (PutHome k n after) = Some (OfHome k n)
@@ -68,21 +73,24 @@ first_of other = None
 -- at the head of a loop it is that of the next round
 abbrev pub first_in : Program → Option First
 first_in (Write w after) = first_of (block w after)
+first_in (Round head next) = first_of (round head next)
 first_in other = first_of other
 
 -- a step of the machine as that
 abbrev pub step_as : Around → Step → First
 step_as a (firsts.Call call) = OfCall (step_of call)
-step_as a (firsts.PutMessage q o) = OfCall (calls.PutMessage q (heading_of o) a.message)
+step_as a (firsts.Aside step) = OfAside (aside_steps.step_of a.asked step)
+step_as a (firsts.PutMessage q author) = OfCall (calls.PutMessage q (heading_by author a.parts) a.message)
 step_as a (firsts.TakeMessage q) = OfMessage q
 step_as a (firsts.TakeHome k) = OfLink k
 step_as a (firsts.PutHome k n) = OfHome k n
-step_as a (firsts.PutBytes k asked) = OfPut k asked (piece a.left a.taken)
+step_as a (firsts.PutBytes k asked author) = OfPut k asked (part (parts_by author a.left_parts) a.left a.taken)
 step_as a (firsts.AskReady k) = OfReady k
 
 -- its kind
 abbrev pub kind_of_first : First → Kind
 kind_of_first (OfCall call) = calls.kind_of call
+kind_of_first (OfAside step) = asides.kind_aside step
 kind_of_first (OfMessage q) = M2
 kind_of_first (OfLink k) = L1
 kind_of_first (OfHome k n) = L2

@@ -71,12 +71,12 @@ pub enum Call {
     TurnNext(u16, Ticket),
     /// A request's word becomes the generation after this one, not taken.
     FreeRequest(u16, u64),
-    /// The place word of the message of this operation: the link, the position; and of one that is dropped.
-    StorePlace(u16, u16, u32),
-    DropPlace(u16, u16, u32),
+    /// The place word of a message, by its number: the link, the position; and of one that is dropped.
+    StorePlace(u32, u16, u32),
+    DropPlace(u32, u16, u32),
 }
 
-/// Where the word of a request stands, its next word, and the first place word of an operation.
+/// Where the word of a request stands, its next word, and a place word.
 fn request_place(plan: &Plan, request: u16) -> usize
     ensures { result ≡ request_word plan.now request }
 {
@@ -90,12 +90,12 @@ fn next_place(plan: &Plan, request: u16) -> usize
     open + plan.operations as usize + plan.requests as usize + request as usize
 }
 
-fn message_place(plan: &Plan, operation: u16) -> usize
-    ensures { result ≡ place_word plan.now (8 * operation) }
+fn message_place(plan: &Plan, place: u32) -> usize
+    ensures { result ≡ place_word plan.now place }
 {
     let open = 6 * plan.slots as usize + plan.names as usize;
     let next = open + plan.operations as usize + plan.requests as usize;
-    next + plan.requests as usize + 8 * operation as usize
+    next + plan.requests as usize + place as usize
 }
 
 impl Call {
@@ -168,8 +168,8 @@ impl Call {
             | Call::Connect(request, _)
             | Call::ReadNext(request)
             | Call::TurnNext(request, _) => Some(next_place(plan, request)),
-            Call::StorePlace(operation, _, _) | Call::DropPlace(operation, _, _) => {
-                Some(message_place(plan, operation))
+            Call::StorePlace(place, _, _) | Call::DropPlace(place, _, _) => {
+                Some(message_place(plan, place))
             }
         }
     }

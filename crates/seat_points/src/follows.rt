@@ -1,17 +1,28 @@
 ghost use Rattle.std.specs.Prelude.{◌≡◌, ℕ, List, None, Bool};
-ghost use Rattle.seat_points.specs.Points.{Around, point_program, next_program, after_word, after_message, after_link, after_home, after_put, after_ready, with_message, with_put, is_whole, IsWithin, MayFind, GoesByWord, TakesMessage, TakesLink, PutsHome, PutsPiece, Asks, link_behind, link_left};
+ghost use Rattle.call_points.specs.Steps.{after_word, after_call};
+ghost use Rattle.sock_programs.specs.declared.task.Asked.{Asked};
+ghost use Rattle.seat_points.specs.Points.{Around, point_program, next_program, after_message, after_link, after_home, after_put, after_ready, with_message, with_put, is_whole, IsWithin, IsWithinIds, MayFindAside, HasLinkAt, TellsCodeAt, IsCalling, HasInHand, IsNextName, framed, taken_with, TakesCall, MayFind, GoesByWord, TakesMessage, TakesLink, PutsHome, PutsPiece, Asks, link_behind, link_left};
 
-use crate::point::{Next, Point, SendStep, WriteStep};
+use crate::asking::deciding;
+use crate::calling::Calling;
+use crate::point::{Author, Next, Point, RetryStep, SendStep, WriteStep};
+use crate::retrying::expiring;
+use call_points::DecideStep;
 use sock_io::{Put, Ready};
 use sock_programs::Sizes;
 
 impl Point {
-    /// Where a seat goes on, over a table of these sizes, by the word that its step found; 0 where it was none on a word.
-    pub fn next(self, sizes: Sizes, found: u64) -> Next
+    /// Where a seat goes on, over a table of these sizes and with this call in hand, by the word that its step found; 0 where
+    /// it was none on a word.
+    pub fn next(self, sizes: Sizes, calling: Calling, found: u64) -> Next
         requires within { IsWithin sizes self }
+        requires ids { IsWithinIds sizes self }
         requires word { MayFind self found }
+        requires aside { MayFindAside self found }
+        requires link { HasLinkAt self }
+        requires told { TellsCodeAt self }
         requires step { GoesByWord self }
-        ensures program { (a : Around) → a.sizes ≡ sizes → next_program a result ≡ after_word (point_program a self) found }
+        ensures program { (a : Around) → a.sizes ≡ sizes → IsCalling a calling → HasInHand a self → next_program (framed self a) result ≡ after_word (point_program a self) found }
         ensures hand { link_behind result ≡ link_left self }
     {
         match self {
@@ -22,22 +33,50 @@ impl Point {
             Point::Release(slot, follows, step) => step.next(slot, follows, found),
             Point::Send(sending, step) => sending.next(sizes.requests, step, found),
             Point::Write(writer, step) => writer.next(step, found),
+            Point::Call(step) => step.next(calling, sizes.ids, found),
+            Point::Attempt(attempt, socket, step) => step.next(attempt, socket, found),
+            Point::Post(error, after, step) => after.posted(error, error.post_next(step, found)),
+            Point::Decide(error, after, step) => {
+                after.decided(error, error.decide_next(step, calling.operation, found))
+            }
+            Point::Retry(retrying, step) => retrying.next(step, found),
+            Point::Expire(operation, _) => expiring(operation, found),
+            Point::Join(operation, step) => step.next(operation, found),
         }
     }
 
-    /// Where it goes on with the message of this operation in hand.
-    pub fn with_message(self, operation: u16) -> Next
+    /// Where it goes on with the message of this author in hand.
+    pub fn with_message(self, author: Author) -> Next
         requires step { TakesMessage self }
-        ensures program { (a : Around) (bytes : List ℕ) → next_program (with_message bytes a) result ≡ after_message (point_program a self) operation bytes }
+        ensures program { (a : Around) (parts bytes : List ℕ) → next_program (with_message parts bytes a) result ≡ after_message (point_program a self) author parts bytes }
         ensures hand { link_behind result ≡ None }
     {
         match self {
             Point::Send(sending, SendStep::TakeMessage(_, own, link, places)) => {
-                sending.writes(own, link, places, operation)
+                sending.writes(own, link, places, author)
             }
-            Point::Write(writer, WriteStep::TakeMessage(next)) => writer.writes(next, operation),
+            Point::Write(writer, WriteStep::TakeMessage(next)) => writer.writes(next, author),
             Point::Write(writer, WriteStep::TakeFirst(top, at)) => {
-                writer.up_to(top).writes(at, operation)
+                writer.up_to(top).writes(at, author)
+            }
+            _ => Next::Ended,
+        }
+    }
+
+    /// Where it goes on with a call in hand that it took out of its home: that of this operation, of which this is the name of
+    /// its next attempt.
+    pub fn with_call(self, operation: u16, name: u16) -> Next
+        requires step { TakesCall self }
+        ensures program { (a : Around) (asked : Asked) → asked.operation ≡ operation → IsNextName asked self name → next_program (taken_with self asked a) result ≡ after_call (point_program a self) asked }
+        ensures hand { link_behind result ≡ None }
+    {
+        match self {
+            Point::Decide(error, after, DecideStep::Take(word)) => {
+                let step = error.with_call(word);
+                deciding(error, after, step)
+            }
+            Point::Retry(retrying, RetryStep::TakeCall(word)) => {
+                retrying.with_call(word, operation, name)
             }
             _ => Next::Ended,
         }

@@ -1,18 +1,22 @@
 //! Where a seat stands in its program, its next step from there, and where it goes on by what that step found.
 #![tactic(auto)]
 
+pub mod asking;
 pub mod call;
+pub mod calling;
 pub mod follows;
 pub mod opening;
 pub mod point;
 pub mod releasing;
+pub mod retrying;
 pub mod seeking;
 pub mod sending;
 pub mod steps;
 pub mod writing;
 
 pub use call::Call;
+pub use calling::Calling;
 pub use point::{
-    Aim, Current, FailStep, Failing, Holder, Next, OpenStep, Opening, Point, ReleaseStep, SeekStep,
+    After, Aim, Attempt, AttemptStep, Author, CallStep, Current, FailStep, Failing, Holder, JoinStep, Next, OpenStep, Opening, Point, ReleaseStep, Released, RetryStep, Retrying, SeekStep,
     SendStep, Sending, Step, Then, WriteStep, Writer,
 };

@@ -1,6 +1,7 @@
 ghost use Rattle.std.specs.Prelude.{◌≡◌, ◌-◌, None};
 ghost use Rattle.sock_programs.specs.Programs.{open_from};
-ghost use Rattle.seat_points.specs.Points.{Around, client_on, open_program, point_program, next_program, after_word, link_at, link_behind, link_left, IsOneOf};
+ghost use Rattle.call_points.specs.Steps.{after_word};
+ghost use Rattle.seat_points.specs.Points.{Around, client_on, open_program, point_program, next_program, link_at, link_behind, link_left, IsOneOf};
 
 use crate::point::{Next, OpenStep, Opening, Point};
 use sock_words::{Outcome, Vref};

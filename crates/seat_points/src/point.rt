@@ -1,5 +1,24 @@
 use crate::call::Call;
-use sock_words::{Outcome, SocketId, Ticket, Vref};
+use call_points::{Aside, DecideStep, LockStep, OnCall, PostStep};
+use id_points::{AttemptNumber, CallId};
+use sock_words::{IdWord, Outcome, SocketId, Ticket, Vref};
+
+/// An attempt of a call: the number of its operation, its id, and the number of the attempt, counted from 0.
+#[derive(Clone, Copy)]
+pub struct Attempt {
+    pub operation: u16,
+    pub id: CallId,
+    pub number: AttemptNumber,
+}
+
+/// Who wrote a message.
+#[derive(Clone, Copy)]
+pub enum Author {
+    /// The operation `send` of this number.
+    Send(u16),
+    /// An attempt of a call.
+    Attempt(Attempt),
+}
 
 /// What an `open` is about: its number in the script, and the numbers of its name and its link.
 #[derive(Clone, Copy)]
@@ -97,8 +116,10 @@ pub enum Then {
     Full { operation: u16 },
     /// The message of the operation `send` was accepted.
     Sent { operation: u16 },
-    /// A client gave back what it held.
+    /// A client goes on: it gave back what it held, or the life over which an attempt went.
     GaveBack,
+    /// An attempt found another version than that of its socket.
+    Unreached(Attempt),
     /// The ending of an `open` is done.
     Ended,
 }
@@ -120,14 +141,22 @@ pub enum ReleaseStep {
     FreeSlot,
 }
 
-/// A `send` that holds the life of this id.
+/// How a release goes on behind a step.
+#[derive(Clone, Copy)]
+pub enum Released {
+    Step(ReleaseStep),
+    /// It is done, and recycled the slot or didn't.
+    Done(bool),
+}
+
+/// A `send`, or an attempt of a call, that holds the life of this id.
 #[derive(Clone, Copy)]
 pub struct Sending {
-    pub operation: u16,
+    pub author: Author,
     pub id: SocketId,
 }
 
-/// Where a `send` that holds a life stands, by the step that comes next.
+/// Where a `send` or an attempt that holds a life stands, by the step that comes next.
 #[derive(Clone, Copy)]
 pub enum SendStep {
     /// The life's word is looked at.
@@ -160,18 +189,18 @@ pub struct Holder {
     pub places: u32,
 }
 
-/// A `send` that writes its link.
+/// Whoever writes its link, and whose message it began with.
 #[derive(Clone, Copy)]
 pub struct Writer {
-    pub operation: u16,
+    pub author: Author,
     pub holder: Holder,
 }
 
-/// The message in hand: its ticket, and the operation that sent it.
+/// The message in hand: its ticket, and who sent it.
 #[derive(Clone, Copy)]
 pub struct Current {
     pub ticket: Ticket,
-    pub operation: u16,
+    pub author: Author,
 }
 
 /// Where whoever writes a link stands, by the step that comes next.
@@ -192,11 +221,13 @@ pub enum WriteStep {
     StorePlace(Current),
     /// The life failed: the message is dropped, behind a load of the error code.
     LoadCode(Current),
-    DropPlace(Current),
-    /// The message of this ticket has its place and isn't the last: its next word is read.
-    ReadNext(Ticket),
-    /// Its request is given back; then the message of the next ticket follows, if it wasn't the last one.
-    Free(Ticket, Option<Ticket>),
+    DropPlace(Current, u16),
+    /// The message of this ticket has its place and isn't the last: its next word is read. The call of a dropped message is
+    /// told of it later.
+    ReadNext(Ticket, Option<OnCall>),
+    /// Its request is given back; then the call is told, and the message of the next ticket follows, if it wasn't the last
+    /// one.
+    Free(Ticket, Option<Ticket>, Option<OnCall>),
     /// The message of this ticket is taken out of its home.
     TakeMessage(Ticket),
     /// All have their places: the link goes home,
@@ -213,6 +244,72 @@ pub enum WriteStep {
     TakeFirst(Ticket, Ticket),
 }
 
+/// What a client does behind the post of an error, and behind what it decided on it.
+#[derive(Clone, Copy)]
+pub enum After {
+    /// Behind an attempt that wasn't written: it gives back the life of this slot, if it holds one, and goes on.
+    Attempt(Option<u32>),
+    /// Behind the operation `expire` of this number.
+    Expire(u16),
+    /// Behind a dropped message: whoever writes goes on with the message of the next ticket, or with the head.
+    Drop(Writer, Option<Ticket>),
+}
+
+/// Where a `call` stands up to its first attempt; its id slot, and its socket.
+#[derive(Clone, Copy)]
+pub enum CallStep {
+    /// The word of its first name is loaded.
+    LoadName,
+    /// This id slot is tried,
+    ClaimId(u16, SocketId),
+    /// the call goes into its home,
+    PutCall(u16, SocketId),
+    /// its id is made,
+    MakeId(u16, SocketId),
+    /// and told in the word of the operation.
+    StoreCall(CallId, SocketId),
+}
+
+/// Where an attempt stands up to its look at the life's word.
+#[derive(Clone, Copy)]
+pub enum AttemptStep {
+    /// A reference to the life of its socket is added,
+    AddRef,
+    /// its link is found,
+    FindLink,
+    /// and told in the at word of the call.
+    StoreAt(u16),
+}
+
+/// Where a retry stands up to its attempt.
+#[derive(Clone, Copy)]
+pub enum RetryStep {
+    /// The call's id is to be locked.
+    Lock(LockStep),
+    /// It has this word: the call is taken out of its home,
+    TakeCall(IdWord),
+    /// goes home again,
+    PutCall(IdWord),
+    /// and the lock is given back from this word, with an advance or without.
+    Unlock(IdWord, bool),
+    /// The word of the attempt's name is loaded.
+    LoadName,
+}
+
+/// A retry: the call's id, the attempt that is to be tried, and the number of the name to which it goes, once it is known.
+#[derive(Clone, Copy)]
+pub struct Retrying {
+    pub attempt: Attempt,
+    pub name: u16,
+}
+
+/// Where a `join` stands: the word of the call is loaded, or the end of this id is waited for.
+#[derive(Clone, Copy)]
+pub enum JoinStep {
+    LoadCall(u16),
+    Wait(CallId),
+}
+
 /// Where a seat stands in its program.
 #[derive(Clone, Copy)]
 pub enum Point {
@@ -225,6 +322,17 @@ pub enum Point {
     Release(u32, Then, ReleaseStep),
     Send(Sending, SendStep),
     Write(Writer, WriteStep),
+    /// The call in hand is begun.
+    Call(CallStep),
+    /// An attempt over the socket with this id.
+    Attempt(Attempt, SocketId, AttemptStep),
+    Post(OnCall, After, PostStep),
+    Decide(OnCall, After, DecideStep),
+    Retry(Retrying, RetryStep),
+    /// The operation `expire` of this number, of the call of the second one.
+    Expire(u16, u16),
+    /// The operation `join` of this number.
+    Join(u16, JoinStep),
 }
 
 /// The next step of a seat.
@@ -232,16 +340,19 @@ pub enum Point {
 pub enum Step {
     /// One on a word, or a move that tells nothing.
     Call(Call),
-    /// The message of the seat into the home of this request, for this operation.
-    PutMessage(u16, u16),
+    /// One aside of the table of the sockets.
+    Aside(Aside),
+    /// The message of the seat into the home of this request, for its author.
+    PutMessage(u16, Author),
     /// The message of this request is taken out of its home.
     TakeMessage(u16),
     /// This link is taken out of its home by whoever writes it,
     TakeHome(u16),
     /// and goes home with so many places.
     PutHome(u16, u32),
-    /// What is next of the message in hand is put into this link, which has answered or not since its last put that it takes more.
-    PutBytes(u16, bool),
+    /// What is next of the message in hand, of this author, is put into this link, which has answered or not since its last
+    /// put that it takes more.
+    PutBytes(u16, bool, Author),
     /// This link is asked whether it takes more.
     AskReady(u16),
 }
@@ -257,8 +368,14 @@ pub enum Next {
     Sent(u16),
     /// The operation `hold` of this number holds this life, under a name.
     Held(u16, u16, SocketId),
-    /// What the client held is given back.
+    /// The client goes on.
     GaveBack,
     /// The ending of an `open` is done.
     Ended,
+    /// The call of this operation and id ended with this code.
+    CallEnded(u16, CallId, u16, After),
+    /// A retry is kept: this attempt of the call with this id,
+    Kept(CallId, AttemptNumber, After),
+    /// and first this error is decided on, by the word of the locked id.
+    KeptWith(OnCall, AttemptNumber, IdWord, After),
 }

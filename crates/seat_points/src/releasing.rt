@@ -1,8 +1,10 @@
-ghost use Rattle.std.specs.Prelude.{◌≡◌, None, if◌then◌else◌};
-ghost use Rattle.sock_programs.specs.Programs.{fail_outcome};
-ghost use Rattle.seat_points.specs.Points.{Around, release_program, next_program, then_program, after_word, MayFindIn, link_behind, link_left};
+ghost use Rattle.std.specs.Prelude.{◌≡◌, None, ℕ, Bool, if◌then◌else◌};
+ghost use Rattle.sock_programs.specs.Programs.{Program, fail_outcome};
+ghost use Rattle.call_points.specs.Steps.{after_word};
+ghost use Rattle.seat_points.specs.Points.{Around, release_on, released_on, release_program, next_program, then_program, MayFindIn, release_left, released_link, link_behind, link_left};
 
-use crate::point::{Next, Point, ReleaseStep, Then};
+use crate::asking::{EFAILEDSOCKET, posting};
+use crate::point::{After, Next, Point, Released, ReleaseStep, Then};
 use sock_words::{Outcome, Vref};
 
 /// The last version that a slot may be given again with.
@@ -21,6 +23,7 @@ impl Then {
             Then::Sent { operation } => Next::Sent(operation),
             Then::Dropped { operation } => Next::Said(operation, dropped_outcome(freed)),
             Then::GaveBack => Next::GaveBack,
+            Then::Unreached(attempt) => posting(attempt.error(EFAILEDSOCKET), After::Attempt(None)),
             Then::Ended => Next::Ended,
         }
     }
@@ -52,49 +55,57 @@ pub fn releasing(slot: u32, follows: Then, step: ReleaseStep) -> Next
 }
 
 impl ReleaseStep {
-    /// Where the release of a slot goes on, by the word that its step found.
-    pub fn next(self, slot: u32, follows: Then, found: u64) -> Next
+    /// How the release of a slot goes on by the word that its step found.
+    pub fn behind(self, found: u64) -> Released
         requires { MayFindIn self found }
-        ensures program { (a : Around) → next_program a result ≡ after_word (release_program a slot follows self) found }
-        ensures hand { link_behind result ≡ link_left (Point.Release slot follows self) }
+        ensures program { (i : ℕ) (k : Bool → Program) → released_on i k result ≡ after_word (release_on i k self) found }
+        ensures hand { released_link result ≡ release_left self }
     {
         match self {
             ReleaseStep::SubRef => {
                 let word = Vref::from_word(found);
                 if word.is_failed() && word.nref() == 1 {
-                    releasing(
-                        slot,
-                        follows,
-                        ReleaseStep::Recycle(Vref::from_word(found - 1)),
-                    )
+                    Released::Step(ReleaseStep::Recycle(Vref::from_word(found - 1)))
                 } else {
-                    follows.next(false)
+                    Released::Done(false)
                 }
             }
             ReleaseStep::Recycle(from) => {
                 if found == from.word() {
-                    releasing(slot, follows, ReleaseStep::LoadLink(from.version() + 1))
+                    Released::Step(ReleaseStep::LoadLink(from.version() + 1))
                 } else {
-                    follows.next(false)
+                    Released::Done(false)
                 }
             }
             ReleaseStep::LoadLink(version) => {
-                releasing(slot, follows, ReleaseStep::TakeLink(version, found as u16))
+                Released::Step(ReleaseStep::TakeLink(version, found as u16))
             }
             ReleaseStep::TakeLink(version, link) => {
-                releasing(slot, follows, ReleaseStep::FinishLink(version, link))
+                Released::Step(ReleaseStep::FinishLink(version, link))
             }
             ReleaseStep::FinishLink(version, link) => {
-                releasing(slot, follows, ReleaseStep::PutLink(version, link))
+                Released::Step(ReleaseStep::PutLink(version, link))
             }
             ReleaseStep::PutLink(version, _) => {
                 if version <= LAST_VERSION {
-                    releasing(slot, follows, ReleaseStep::FreeSlot)
+                    Released::Step(ReleaseStep::FreeSlot)
                 } else {
-                    follows.next(true)
+                    Released::Done(true)
                 }
             }
-            ReleaseStep::FreeSlot => follows.next(true),
+            ReleaseStep::FreeSlot => Released::Done(true),
+        }
+    }
+
+    /// Where the release of a slot goes on, and what follows it, by the word that its step found.
+    pub fn next(self, slot: u32, follows: Then, found: u64) -> Next
+        requires { MayFindIn self found }
+        ensures program { (a : Around) → next_program a result ≡ after_word (release_program a slot follows self) found }
+        ensures hand { link_behind result ≡ link_left (Point.Release slot follows self) }
+    {
+        match self.behind(found) {
+            Released::Step(step) => releasing(slot, follows, step),
+            Released::Done(freed) => follows.next(freed),
         }
     }
 }

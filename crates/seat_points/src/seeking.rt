@@ -1,9 +1,10 @@
 ghost use Rattle.std.specs.Prelude.{◌≡◌, None};
 ghost use Rattle.sock_words.specs.Words.{socket_id_slot};
-ghost use Rattle.seat_points.specs.Points.{Around, seek_program, fail_program, failed_then, gone_then, has_life, unopened_program, reached_program, next_program, after_word, link_behind};
+ghost use Rattle.call_points.specs.Steps.{after_word};
+ghost use Rattle.seat_points.specs.Points.{Around, seek_program, fail_program, failed_then, gone_then, has_life, unopened_program, reached_program, next_program, link_behind};
 
 use crate::point::{
-    Aim, FailStep, Failing, Next, Point, ReleaseStep, SeekStep, SendStep, Sending, Then,
+    Aim, Author, FailStep, Failing, Next, Point, ReleaseStep, SeekStep, SendStep, Sending, Then,
 };
 use crate::releasing::releasing;
 use crate::steps::NO_SOCKET;
@@ -82,7 +83,8 @@ impl Aim {
         match self {
             Aim::Hold { operation, name } => Next::Held(operation, name, id),
             Aim::Send { operation, .. } => {
-                Next::Point(Point::Send(Sending { operation, id }, SendStep::Look))
+                let author = Author::Send(operation);
+                Next::Point(Point::Send(Sending { author, id }, SendStep::Look))
             }
             Aim::Fail {
                 operation,

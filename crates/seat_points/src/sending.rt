@@ -1,25 +1,50 @@
 ghost use Rattle.std.specs.Prelude.{◌≡◌, ◌-◌, ◌≤◌, ℕ, List, None, Some};
 ghost use Rattle.sock_words.specs.Words.{socket_id_slot};
-ghost use Rattle.sock_programs.specs.Sends.{claim_from};
-ghost use Rattle.seat_points.specs.Points.{Around, client_on, point_program, send_program, first_program, next_program, after_word, after_message, with_message, IsOneOfRequests, MayFindOf, SendsByWord, link_at, link_behind};
+ghost use Rattle.call_points.specs.Steps.{after_word};
+ghost use Rattle.seat_points.specs.Points.{Around, client_on, place_by, claims_program, full_program, failed_look, look_program, sent_then, point_program, send_program, first_program, next_program, after_message, with_message, IsOneOfRequests, MayFindOf, SendsByWord, link_at, link_behind};
 ghost use Rattle.seat_points.specs.Steps.{first_in, step_as};
 
+use crate::asking::{EFAILEDSOCKET, EREQUESTS, posting};
 use crate::call::Call;
 use crate::point::{
-    Current, Holder, Next, Point, ReleaseStep, SendStep, Sending, Step, Then, WriteStep, Writer,
+    After, Author, Current, Holder, Next, Point, ReleaseStep, SendStep, Sending, Step, Then, WriteStep, Writer,
 };
 use crate::releasing::releasing;
 use sock_words::{Ticket, Vref};
 
+impl Author {
+    /// What follows the release of the life behind its message, which was accepted.
+    pub fn sent(self) -> Then
+        ensures { result ≡ sent_then self }
+    {
+        match self {
+            Author::Send(operation) => Then::Sent { operation },
+            Author::Attempt(_) => Then::GaveBack,
+        }
+    }
+
+    /// The number of its place word: of a `send` the first of the operation's eight, of an attempt that of its number.
+    pub fn place(self) -> u32
+        ensures { result ≡ place_by self }
+    {
+        match self {
+            Author::Send(operation) => 8 * u32::from(operation),
+            Author::Attempt(attempt) => {
+                8 * u32::from(attempt.operation) + u32::from(attempt.number.get())
+            }
+        }
+    }
+}
+
 impl Sending {
-    /// A `send` that comes to this step.
+    /// It comes to this step.
     pub fn to(self, step: SendStep) -> Next
         ensures { result ≡ Next.Point (Point.Send self step) }
     {
         Next::Point(Point::Send(self, step))
     }
 
-    /// The next step of a `send` that holds a life.
+    /// Its next step.
     pub fn step(self, step: SendStep) -> Step
         ensures { (a : Around) → first_in (send_program a self step) ≡ Some (step_as a result) }
     {
@@ -27,7 +52,7 @@ impl Sending {
         match step {
             SendStep::Look => Step::Call(Call::LookWord(self.id)),
             SendStep::Claim(request) => Step::Call(Call::ClaimRequest(self.id, request)),
-            SendStep::PutMessage(request, _) => Step::PutMessage(request, self.operation),
+            SendStep::PutMessage(request, _) => Step::PutMessage(request, self.author),
             SendStep::Unconnect(request, _) => Step::Call(Call::Unconnect(request)),
             SendStep::SwapHead(_, own) => Step::Call(Call::SwapHead(slot, own)),
             SendStep::Connect(request, before) => Step::Call(Call::Connect(request, before)),
@@ -37,35 +62,61 @@ impl Sending {
         }
     }
 
-    /// A `send` that has come to this of so many requests.
-    fn try_request(self, requests: u16, request: u16) -> Next
-        ensures program { (a : Around) → a.sizes.requests ≡ requests → next_program a result ≡ claim_from (requests - request) request self.operation self.id.0 a.message (client_on a) }
+    /// It has come to this of so many requests.
+    pub fn try_request(self, requests: u16, request: u16) -> Next
+        ensures program { (a : Around) → a.sizes.requests ≡ requests → next_program a result ≡ claims_program a self (requests - request) request }
         ensures hand { link_behind result ≡ None }
     {
         if request < requests {
             self.to(SendStep::Claim(request))
         } else {
-            let operation = self.operation;
-            releasing(
-                self.id.slot(),
-                Then::Full { operation },
-                ReleaseStep::SubRef,
-            )
+            self.full()
         }
     }
 
-    /// Where a `send` goes on behind its look.
+    /// Each request was found taken.
+    fn full(self) -> Next
+        ensures program { (a : Around) → next_program a result ≡ full_program a self.author self.id.0 }
+        ensures hand { link_behind result ≡ None }
+    {
+        let slot = self.id.slot();
+        match self.author {
+            Author::Send(operation) => {
+                releasing(slot, Then::Full { operation }, ReleaseStep::SubRef)
+            }
+            Author::Attempt(attempt) => {
+                posting(attempt.error(EREQUESTS), After::Attempt(Some(slot)))
+            }
+        }
+    }
+
+    /// Its life was found failed, by this word.
+    fn refused(self, found: Vref) -> Next
+        ensures program { (a : Around) → next_program a result ≡ failed_look a self.author self.id.0 found.0 }
+        ensures hand { link_behind result ≡ None }
+    {
+        let slot = self.id.slot();
+        match self.author {
+            Author::Send(operation) => {
+                releasing(
+                    slot,
+                    Then::Gone { operation, found },
+                    ReleaseStep::SubRef,
+                )
+            }
+            Author::Attempt(attempt) => {
+                posting(attempt.error(EFAILEDSOCKET), After::Attempt(Some(slot)))
+            }
+        }
+    }
+
+    /// Where it goes on behind its look.
     fn looked(self, requests: u16, found: Vref) -> Next
-        ensures program { (a : Around) → a.sizes.requests ≡ requests → next_program a result ≡ after_word (send_program a self SendStep.Look) found.0 }
+        ensures program { (a : Around) → a.sizes.requests ≡ requests → next_program a result ≡ after_word (look_program a self.author self.id.0) found.0 }
         ensures hand { link_behind result ≡ None }
     {
         if found.is_failed() {
-            let operation = self.operation;
-            releasing(
-                self.id.slot(),
-                Then::Gone { operation, found },
-                ReleaseStep::SubRef,
-            )
+            self.refused(found)
         } else {
             self.try_request(requests, 0)
         }
@@ -85,17 +136,12 @@ impl Sending {
 
     /// Behind the message, which was accepted.
     fn sent(self) -> Next
-        ensures { result ≡ Next.Point (Point.Release (socket_id_slot self.id.0) (Then.Sent self.operation) ReleaseStep.SubRef) }
+        ensures { result ≡ Next.Point (Point.Release (socket_id_slot self.id.0) (sent_then self.author) ReleaseStep.SubRef) }
     {
-        let operation = self.operation;
-        releasing(
-            self.id.slot(),
-            Then::Sent { operation },
-            ReleaseStep::SubRef,
-        )
+        releasing(self.id.slot(), self.author.sent(), ReleaseStep::SubRef)
     }
 
-    /// Where a `send` goes on, over a table of so many requests, by the word that its step found.
+    /// Where it goes on, over a table of so many requests, by the word that its step found.
     pub fn next(self, requests: u16, step: SendStep, found: u64) -> Next
         requires few { requests ≤ 4096 }
         requires within { IsOneOfRequests requests step }
@@ -127,13 +173,13 @@ impl Sending {
         }
     }
 
-    /// It found an idle head, and has the message of this ticket and operation in hand, and the link.
-    pub fn writes(self, own: Ticket, link: u16, places: u32, operation: u16) -> Next
-        ensures program { (a : Around) (request : ℕ) (bytes : List ℕ) → next_program (with_message bytes a) result ≡ after_message (first_program a self request own.0 link places) operation bytes }
+    /// It found an idle head, and has the message of this ticket and author in hand, and the link.
+    pub fn writes(self, own: Ticket, link: u16, places: u32, author: Author) -> Next
+        ensures program { (a : Around) (request : ℕ) (parts bytes : List ℕ) → next_program (with_message parts bytes a) result ≡ after_message (first_program a self request own.0 link places) author parts bytes }
         ensures hand { link_behind result ≡ None }
     {
         let writer = Writer {
-            operation: self.operation,
+            author: self.author,
             holder: Holder {
                 id: self.id,
                 link,
@@ -143,7 +189,7 @@ impl Sending {
         };
         let current = Current {
             ticket: own,
-            operation,
+            author,
         };
         writer.to(WriteStep::FirstLook(current))
     }

@@ -1,10 +1,13 @@
-ghost use Rattle.std.specs.Prelude.{◌≡◌, ◌+◌, option_map, Some, None};
+ghost use Rattle.std.specs.Prelude.{◌≡◌, ◌+◌, Bool, option_map, Some, None};
 ghost use Rattle.sock_words.specs.Words.{socket_id};
-ghost use Rattle.seat_points.specs.Points.{Around, open_program, seek_program, fail_program, release_program, point_program};
+ghost use Rattle.sock_programs.specs.Programs.{Program};
+ghost use Rattle.seat_points.specs.Points.{Around, open_program, seek_program, fail_program, release_on, point_program, IsCalling, HasInHand, HasLinkAt};
 ghost use Rattle.seat_points.specs.Steps.{OfCall, step_of, first_in, step_as, kind_of_first};
 
 use crate::call::Call;
+use crate::calling::Calling;
 use crate::point::{Aim, FailStep, Failing, OpenStep, Opening, Point, ReleaseStep, SeekStep, Step};
+use call_points::Aside;
 use sock_words::{Kind, SocketId};
 
 /// The word of an `open` that got no slot.
@@ -76,8 +79,8 @@ impl Failing {
 
 impl ReleaseStep {
     /// The next step of a release.
-    fn call(self, slot: u32) -> Call
-        ensures { (a : Around) (t : _) → first_in (release_program a slot t self) ≡ Some (OfCall (step_of result)) }
+    pub fn call(self, slot: u32) -> Call
+        ensures { (k : Bool → Program) → first_in (release_on slot k self) ≡ Some (OfCall (step_of result)) }
     {
         match self {
             ReleaseStep::SubRef => Call::SubRef(slot),
@@ -92,9 +95,10 @@ impl ReleaseStep {
 }
 
 impl Point {
-    /// The next step, if there is one.
-    pub fn step(self) -> Option<Step>
-        ensures { (a : Around) → option_map (step_as a) result ≡ first_in (point_program a self) }
+    /// The next step, if there is one, with this call in hand.
+    pub fn step(self, calling: Calling) -> Option<Step>
+        requires { HasLinkAt self }
+        ensures { (a : Around) → IsCalling a calling → HasInHand a self → option_map (step_as a) result ≡ first_in (point_program a self) }
     {
         match self {
             Point::Rest => None,
@@ -104,6 +108,13 @@ impl Point {
             Point::Release(slot, _, step) => Some(Step::Call(step.call(slot))),
             Point::Send(sending, step) => Some(sending.step(step)),
             Point::Write(writer, step) => Some(writer.step(step)),
+            Point::Call(step) => Some(step.step(calling)),
+            Point::Attempt(attempt, socket, step) => Some(step.step(attempt, socket)),
+            Point::Post(error, _, step) => Some(Step::Aside(error.post_step(step))),
+            Point::Decide(error, _, step) => Some(Step::Aside(error.decide_step(step))),
+            Point::Retry(retrying, step) => Some(retrying.step(step)),
+            Point::Expire(_, call) => Some(Step::Aside(Aside::LoadCall(call))),
+            Point::Join(_, step) => Some(step.step()),
         }
     }
 }
@@ -115,11 +126,12 @@ impl Step {
     {
         match self {
             Step::Call(call) => call.kind(),
+            Step::Aside(aside) => aside.kind(),
             Step::PutMessage(_, _) => Kind::M1,
             Step::TakeMessage(_) => Kind::M2,
             Step::TakeHome(_) => Kind::L1,
             Step::PutHome(_, _) => Kind::L2,
-            Step::PutBytes(_, _) => Kind::W1,
+            Step::PutBytes(_, _, _) => Kind::W1,
             Step::AskReady(_) => Kind::W2,
         }
     }

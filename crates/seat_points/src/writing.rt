@@ -1,18 +1,20 @@
-ghost use Rattle.std.specs.Prelude.{◌≡◌, ◌+◌, ◌<◌, ℕ, List, None, Some, Bool, false};
+ghost use Rattle.std.specs.Prelude.{◌≡◌, ◌==◌, ◌+◌, ◌<◌, ◌≤◌, ℕ, List, None, Some, Bool, false};
 ghost use Rattle.sock_model.specs.Entries.{slot_of, generation_of};
-ghost use Rattle.sock_programs.specs.Sends.{one_more, freed, passed};
+ghost use Rattle.sock_programs.specs.Sends.{one_more, freed, passed_telling};
 ghost use Rattle.sock_io.specs.declared.link.Put.{Put};
-ghost use Rattle.seat_points.specs.Points.{Around, point_program, write_program, written_program, holder_of, next_message, freed_program, taken_again, next_program, after_word, after_message, after_link, after_put, after_ready, with_message, with_put, is_whole, HasPlaceLeft, WritesByWord, link_behind};
+ghost use Rattle.call_points.specs.Steps.{after_word};
+ghost use Rattle.seat_points.specs.Points.{Around, point_program, write_program, written_program, holder_of, next_message, told, behind_drop, freed_program, taken_again, next_program, after_message, after_link, after_put, after_ready, with_message, with_put, is_whole, HasPlaceLeft, MayFindWriting, TellsCode, WritesByWord, link_behind};
 ghost use Rattle.seat_points.specs.Steps.{first_in, step_as};
 
+use crate::asking::{EFAILEDSOCKET, posting};
 use crate::call::Call;
-use crate::point::{Current, Holder, Next, Point, ReleaseStep, Step, Then, WriteStep, Writer};
+use crate::point::{
+    After, Author, Current, Holder, Next, Point, ReleaseStep, Step, WriteStep, Writer,
+};
 use crate::releasing::releasing;
+use call_points::OnCall;
 use sock_io::{Put, Ready};
 use sock_words::{Ticket, Vref};
-
-/// The code of a socket whose link failed, bRPC's `EFAILEDSOCKET`.
-const EFAILEDSOCKET: u16 = 1009;
 
 /// The next word of a request that isn't connected yet.
 const UNCONNECTED: u64 = u64::MAX;
@@ -84,17 +86,17 @@ impl Writer {
         Next::Point(Point::Write(self, step))
     }
 
-    /// It has the message of this ticket and operation in hand.
-    pub fn writes(self, ticket: Ticket, operation: u16) -> Next
-        ensures program { (a : Around) (bytes : List ℕ) → next_program (with_message bytes a) result ≡ after_message (next_message a self (holder_of self.holder) ticket.0) operation bytes }
+    /// It has the message of this ticket and author in hand.
+    pub fn writes(self, ticket: Ticket, author: Author) -> Next
+        ensures program { (a : Around) (parts bytes : List ℕ) → next_program (with_message parts bytes a) result ≡ after_message (next_message a self (holder_of self.holder) ticket.0) author parts bytes }
         ensures hand { link_behind result ≡ None }
     {
-        self.to(WriteStep::Look(Current { ticket, operation }, false))
+        self.to(WriteStep::Look(Current { ticket, author }, false))
     }
 
     /// It has noted the messages up to this ticket.
     pub fn up_to(self, top: Ticket) -> Writer
-        ensures operation { result.operation ≡ self.operation }
+        ensures author { result.author ≡ self.author }
         ensures holder { result.holder ≡ record self.holder { last = top } }
     {
         Writer {
@@ -133,7 +135,7 @@ impl Writer {
         } = self.holder;
         match step {
             WriteStep::FirstLook(_) | WriteStep::Look(_, _) => Step::Call(Call::LookWord(id)),
-            WriteStep::Put(_, asked) => Step::PutBytes(link, asked),
+            WriteStep::Put(current, asked) => Step::PutBytes(link, asked, current.author),
             WriteStep::Ask(_) => Step::AskReady(link),
             WriteStep::SetOdd(_) => Step::Call(Call::SetOdd(id.slot())),
             WriteStep::StoreCode(_) => {
@@ -141,14 +143,14 @@ impl Writer {
             }
             WriteStep::GiveBack(_) => Step::Call(Call::SubRef(id.slot())),
             WriteStep::StorePlace(current) => {
-                Step::Call(Call::StorePlace(current.operation, link, places))
+                Step::Call(Call::StorePlace(current.author.place(), link, places))
             }
             WriteStep::LoadCode(_) => Step::Call(Call::LoadCode(id)),
-            WriteStep::DropPlace(current) => {
-                Step::Call(Call::DropPlace(current.operation, link, places))
+            WriteStep::DropPlace(current, _) => {
+                Step::Call(Call::DropPlace(current.author.place(), link, places))
             }
-            WriteStep::ReadNext(now) => Step::Call(Call::ReadNext(request_of(now))),
-            WriteStep::Free(now, _) => {
+            WriteStep::ReadNext(now, _) => Step::Call(Call::ReadNext(request_of(now))),
+            WriteStep::Free(now, _, _) => {
                 Step::Call(Call::FreeRequest(request_of(now), generation(now)))
             }
             WriteStep::TakeMessage(next) => Step::TakeMessage(request_of(next)),
@@ -198,7 +200,7 @@ impl Writer {
     }
 
     /// What follows once the request of this ticket needn't be given back: the next message, or the head.
-    fn freed(self, next: Option<Ticket>) -> Next
+    pub fn freed(self, next: Option<Ticket>) -> Next
         ensures program { (a : Around) → next_program a result ≡ freed_program a self next }
         ensures hand { link_behind result ≡ None }
     {
@@ -208,33 +210,70 @@ impl Writer {
         }
     }
 
-    /// The request of this ticket is given back, but for one of the last generation.
-    fn gives_back(self, now: Ticket, next: Option<Ticket>) -> Next
-        ensures program { (a : Around) → next_program a result ≡ freed now.0 (freed_program a self next) }
+    /// The call of a dropped message is told, if it is one of a call, and then the next message follows, or the head.
+    fn tells(self, next: Option<Ticket>, told: Option<OnCall>) -> Next
+        ensures program { (a : Around) → next_program a result ≡ behind_drop a self told next }
         ensures hand { link_behind result ≡ None }
     {
-        if generation(now) == LAST_GENERATION {
-            self.freed(next)
-        } else {
-            self.to(WriteStep::Free(now, next))
+        match told {
+            Some(error) => posting(error, After::Drop(self, next)),
+            None => self.freed(next),
         }
     }
 
-    /// The message of this ticket has its place.
-    fn passed(self, now: Ticket) -> Next
-        requires { self.holder.places < 4294967295 }
-        ensures program { (a : Around) → next_program a result ≡ passed (one_more (holder_of self.holder)) now.0 (written_program a self) }
+    /// The request of this ticket is given back, but for one of the last generation.
+    fn gives_back(self, now: Ticket, next: Option<Ticket>, told: Option<OnCall>) -> Next
+        ensures program { (a : Around) → next_program a result ≡ freed now.0 (behind_drop a self told next) }
         ensures hand { link_behind result ≡ None }
     {
-        let writer = Writer {
+        if generation(now) == LAST_GENERATION {
+            self.tells(next, told)
+        } else {
+            self.to(WriteStep::Free(now, next, told))
+        }
+    }
+
+    /// One place more was given.
+    fn placed(self) -> Writer
+        requires { self.holder.places < 4294967295 }
+        ensures author { result.author ≡ self.author }
+        ensures holder { holder_of result.holder ≡ one_more (holder_of self.holder) }
+    {
+        Writer {
             holder: self.holder.one_more(),
             ..self
-        };
-        if now == writer.holder.last {
-            writer.gives_back(now, None)
-        } else {
-            writer.to(WriteStep::ReadNext(now))
         }
+    }
+
+    /// Whether the message of this ticket is the last that it has to write.
+    fn is_last(self, now: Ticket) -> bool
+        ensures { result ≡ (now.0 == self.holder.last.0) }
+    {
+        now == self.holder.last
+    }
+
+    /// The message of this ticket has its place, and this call is to be told that it was dropped.
+    fn passed(self, now: Ticket, call: Option<OnCall>) -> Next
+        requires { self.holder.places < 4294967295 }
+        ensures program { (a : Around) → next_program a result ≡ passed_telling (one_more (holder_of self.holder)) now.0 (told call) (written_program a self) }
+        ensures hand { link_behind result ≡ None }
+    {
+        let writer = self.placed();
+        if self.is_last(now) {
+            writer.gives_back(now, None, call)
+        } else {
+            writer.to(WriteStep::ReadNext(now, call))
+        }
+    }
+
+    /// What follows the place of a message that was dropped with this code.
+    fn dropped(self, current: Current, code: u16) -> Next
+        requires places { self.holder.places < 4294967295 }
+        requires code { code ≤ 4095 }
+        ensures program { (a : Around) (found : ℕ) → next_program a result ≡ after_word (write_program a self (WriteStep.DropPlace current code)) found }
+        ensures hand { link_behind result ≡ None }
+    {
+        self.passed(current.ticket, current.author.told(code))
     }
 
     /// What follows a try of the head: where it is idle now all is written, and else a newer ticket was found there.
@@ -243,10 +282,9 @@ impl Writer {
         ensures hand { link_behind result ≡ None }
     {
         if found == self.holder.last {
-            let operation = self.operation;
             releasing(
                 self.holder.id.slot(),
-                Then::Sent { operation },
+                self.author.sent(),
                 ReleaseStep::SubRef,
             )
         } else {
@@ -281,6 +319,8 @@ impl Writer {
     /// Where whoever writes goes on by the word that its step found.
     pub fn next(self, step: WriteStep, found: u64) -> Next
         requires room { HasPlaceLeft self step }
+        requires word { MayFindWriting step found }
+        requires told { TellsCode step }
         requires by_word { WritesByWord step }
         ensures program { (a : Around) → next_program a result ≡ after_word (write_program a self step) found }
         ensures hand { link_behind result ≡ None }
@@ -291,12 +331,13 @@ impl Writer {
             WriteStep::SetOdd(current) => self.failed(current, Vref::from_word(found)),
             WriteStep::StoreCode(current) => self.to(WriteStep::GiveBack(current)),
             WriteStep::GiveBack(current) => self.to(WriteStep::Look(current, false)),
-            WriteStep::LoadCode(current) => self.to(WriteStep::DropPlace(current)),
-            WriteStep::StorePlace(current) | WriteStep::DropPlace(current) => {
-                self.passed(current.ticket)
+            WriteStep::LoadCode(current) => self.to(WriteStep::DropPlace(current, found as u16)),
+            WriteStep::StorePlace(current) => self.passed(current.ticket, None),
+            WriteStep::DropPlace(current, code) => self.dropped(current, code),
+            WriteStep::ReadNext(now, told) => {
+                self.gives_back(now, Some(Ticket::from_word(found)), told)
             }
-            WriteStep::ReadNext(now) => self.gives_back(now, Some(Ticket::from_word(found))),
-            WriteStep::Free(_, next) => self.freed(next),
+            WriteStep::Free(_, next, told) => self.tells(next, told),
             WriteStep::EmptyHead => self.emptied(Ticket::from_word(found)),
             WriteStep::Walk(top, at, after) => self.walked(top, at, after, found),
             WriteStep::Turn(top, at, _, before) => self.turned(top, at, before),

@@ -1,5 +1,15 @@
-use Rattle.seat_points.proofs.Behind.{recycles}
+use Rattle.std.proofs.Common.{◌∙◌}
+use Rattle.seat_points.specs.Points.{then_program}
 use Rattle.seat_points.proofs.point.ReleaseStep.next.Goals as goal
 
-pub returns-then-found-word-clause-program : goal.returns-then-found-word-clause-program
-returns-then-found-word-clause-program c a = rw (c.releasing-then-found-word.ensures, c.in-Recycle.is, c.version.ensures) (recycles a c.args.slot c.args.follows c.in-Recycle.from c.args.found cc)
+pub returns-in-Step-clause-program : goal.returns-in-Step-clause-program
+returns-in-Step-clause-program c a = rw c.releasing.ensures (c.in-Step.ensures.program c.args.slot (then_program a c.args.follows))
+
+pub returns-in-Step-clause-hand : goal.returns-in-Step-clause-hand
+returns-in-Step-clause-hand c = rw c.releasing.ensures c.in-Step.ensures.hand
+
+pub returns-in-Done-clause-program : goal.returns-in-Done-clause-program
+returns-in-Done-clause-program c a = c.next.ensures.program a ∙ c.in-Done.ensures.program c.args.slot (then_program a c.args.follows)
+
+pub returns-in-Done-clause-hand : goal.returns-in-Done-clause-hand
+returns-in-Done-clause-hand c = c.next.ensures.hand ∙ c.in-Done.ensures.hand

@@ -1,0 +1,15 @@
+//! Where a seat stands with a call id: which step it makes next on the table of the ids, and how it goes on behind it. What
+//! a seat does behind all that is its own; here it is any program.
+#![tactic(auto)]
+
+pub mod aside;
+pub mod deciding;
+pub mod ending;
+pub mod posting;
+pub mod locking;
+
+pub use aside::Aside;
+pub use deciding::{DecideNext, DecideStep, OnCall};
+pub use ending::EndStep;
+pub use locking::{LockStep, Locker};
+pub use posting::PostStep;

@@ -1,0 +1,52 @@
+ghost use Rattle.std.specs.Prelude.{◌≡◌, ℕ, Some};
+ghost use Rattle.corr_core.specs.Word.{parts};
+ghost use Rattle.sock_programs.specs.Heads.{Locking};
+ghost use Rattle.sock_programs.specs.Programs.{Program};
+ghost use Rattle.sock_programs.specs.declared.task.Asked.{Asked};
+ghost use Rattle.id_points.specs.Turns.{lock_on, sought_as};
+ghost use Rattle.call_points.specs.Steps.{step_of, aside_in, after_word};
+ghost use Rattle.call_points.specs.Points.{lock_program, IsOpen};
+
+use crate::aside::Aside;
+use id_points::{LockTurn, Sought, lock_behind, lock_by};
+use sock_words::IdWord;
+
+/// Whoever is on the way to a lock: the id slot, and what is sought there.
+#[derive(Clone, Copy, Debug, PartialEq, Eq)]
+pub struct Locker {
+    pub slot: u16,
+    pub sought: Sought,
+}
+
+/// Where the way to a lock stands.
+#[derive(Clone, Copy, Debug, PartialEq, Eq)]
+pub enum LockStep {
+    /// The id's word is read.
+    Read,
+    /// The exchange from this open word is tried.
+    Exchange(IdWord),
+}
+
+impl Locker {
+    /// The next step on the way.
+    pub fn step(self, step: LockStep) -> Aside
+        ensures { (asked : Asked) (k : Locking → Program) → Some (step_of asked result) ≡ aside_in (lock_program self k step) }
+    {
+        match step {
+            LockStep::Read => Aside::LoadIdWord(self.slot),
+            LockStep::Exchange(from) => Aside::LockId(self.slot, from),
+        }
+    }
+
+    /// How it goes on behind its step, which found this word.
+    pub fn next(self, step: LockStep, found: u64) -> LockTurn
+        requires { IsOpen step }
+        ensures { (k : Locking → Program) → lock_on self.slot (sought_as self.sought) k result ≡ after_word (lock_program self k step) found }
+    {
+        let found = IdWord::from_word(found);
+        match step {
+            LockStep::Read => lock_by(self.sought, found),
+            LockStep::Exchange(from) => lock_behind(self.sought, from, found),
+        }
+    }
+}

@@ -1,0 +1,46 @@
+ghost use Rattle.std.specs.Prelude.{◌≡◌, ℕ, Some};
+ghost use Rattle.sock_programs.specs.Heads.{Posting};
+ghost use Rattle.sock_programs.specs.Programs.{Program};
+ghost use Rattle.sock_programs.specs.declared.task.Asked.{Asked};
+ghost use Rattle.id_points.specs.Ids.{id_of};
+ghost use Rattle.id_points.specs.Turns.{post_on};
+ghost use Rattle.call_points.specs.Steps.{step_of, aside_in, after_word};
+ghost use Rattle.call_points.specs.Points.{post_program};
+
+use crate::aside::Aside;
+use crate::deciding::OnCall;
+use id_points::{PostTurn, judge, post_behind};
+use sock_words::IdWord;
+
+/// Where the post of an error stands.
+#[derive(Clone, Copy, Debug, PartialEq, Eq)]
+pub enum PostStep {
+    /// The id's word is read.
+    Load,
+    /// The exchange from this word is tried.
+    Exchange(IdWord),
+}
+
+impl OnCall {
+    /// The next step of a post.
+    pub fn post_step(self, step: PostStep) -> Aside
+        ensures { (asked : Asked) (k : Posting → Program) → Some (step_of asked result) ≡ aside_in (post_program self k step) }
+    {
+        let slot = self.id.slot();
+        match step {
+            PostStep::Load => Aside::LoadIdWord(slot),
+            PostStep::Exchange(from) => Aside::PostId(slot, from, self.error),
+        }
+    }
+
+    /// How a post goes on behind its step, which found this word.
+    pub fn post_next(self, step: PostStep, found: u64) -> PostTurn
+        ensures { (k : Posting → Program) → post_on (id_of self.id) self.error.0 k result ≡ after_word (post_program self k step) found }
+    {
+        let found = IdWord::from_word(found);
+        match step {
+            PostStep::Load => judge(self.id, self.error, found),
+            PostStep::Exchange(from) => post_behind(self.id, self.error, from, found),
+        }
+    }
+}

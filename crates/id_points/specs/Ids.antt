@@ -1,0 +1,11 @@
+-- What the ids of calls and the numbers of attempts stand for.
+use Rattle.std.specs.Prelude.{ℕ, ◌%◌}
+use Rattle.sock_programs.specs.Asides.{call_id}
+use Rattle.id_points.specs.declared.call_id.CallId.{CallId}
+use Rattle.id_points.specs.declared.call_id.AttemptNumber.{AttemptNumber}
+
+abbrev pub id_of : CallId → ℕ
+id_of id = call_id id.slot (id.first % 67108864)
+
+abbrev pub number_of : AttemptNumber → ℕ
+number_of n = n.0 % 8

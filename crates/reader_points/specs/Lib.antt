@@ -1,0 +1,4 @@
+pub mod Points
+pub mod Steps
+pub mod Cuts
+pub mod Kept

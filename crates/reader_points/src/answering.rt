@@ -1,0 +1,39 @@
+ghost use Rattle.std.specs.Prelude.{◌≡◌};
+ghost use Rattle.sock_programs.specs.declared.task.Asked.{Asked};
+ghost use Rattle.call_points.specs.Steps.{after_word, after_call};
+ghost use Rattle.id_points.specs.Ids.{id_of};
+ghost use Rattle.reader_points.specs.Points.{Around, answer_program, next_program, with_asked, AnswersByWord};
+
+use crate::point::{AnswerStep, Behind, ReadNext, ReadPoint};
+use call_points::EndStep;
+use id_points::CallId;
+
+impl AnswerStep {
+    /// How the end of the call with this id goes on with the call in hand, which is that of this operation.
+    pub fn with_call(behind: Behind, id: CallId, operation: u16) -> ReadNext
+        ensures { (a : Around) (asked : Asked) → asked.operation ≡ operation → next_program (with_asked asked a) result ≡ after_call (answer_program a behind (id_of id) AnswerStep.Take) asked }
+    {
+        ReadNext::Point(ReadPoint::Answer(
+            behind,
+            id,
+            AnswerStep::End(operation, EndStep::End),
+        ))
+    }
+
+    /// How it goes on by the word that its step found.
+    pub fn next(self, behind: Behind, id: CallId, found: u64) -> ReadNext
+        requires { AnswersByWord self }
+        ensures { (a : Around) → next_program a result ≡ after_word (answer_program a behind (id_of id) self) found }
+    {
+        match self {
+            AnswerStep::Take => ReadNext::Point(ReadPoint::Rest),
+            AnswerStep::End(operation, step) => match step.next(found) {
+                Some(step) => {
+                    let next = AnswerStep::End(operation, step);
+                    ReadNext::Point(ReadPoint::Answer(behind, id, next))
+                }
+                None => ReadNext::Answered(operation, id, behind),
+            },
+        }
+    }
+}

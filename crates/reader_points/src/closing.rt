@@ -1,0 +1,69 @@
+ghost use Rattle.std.specs.Prelude.{◌≡◌, ◌≤◌, length};
+ghost use Rattle.call_points.specs.Steps.{after_word};
+ghost use Rattle.reader_points.specs.Points.{Around, next_program, close_program, posts_program, point_program, MayFindClosing};
+
+use crate::point::{CloseStep, Closing, LIMIT, ReadNext, ReadPoint};
+use seat_points::{ReleaseStep, Released};
+use sock_words::Vref;
+
+impl Closing {
+    /// Its socket's failing comes to this step.
+    fn to(self, step: CloseStep) -> ReadNext
+        ensures { result ≡ ReadNext.Point (ReadPoint.Close self step) }
+    {
+        ReadNext::Point(ReadPoint::Close(self, step))
+    }
+
+    /// Where it goes on among these calls: at the next one, or behind the last; behind a frame fault what comes is thrown
+    /// away.
+    pub fn posts(self, calls: &[u16]) -> ReadPoint
+        requires { length calls.now ≤ 4096 }
+        ensures { (a : Around) → a.calls ≡ calls.now → point_program a result ≡ posts_program a self }
+    {
+        let next = self.next as usize;
+        let reader = self.reader;
+        if next < calls.len() {
+            let behind = Closing {
+                next: self.next + 1,
+                ..self
+            };
+            ReadPoint::Load(behind, calls[next])
+        } else if self.fault && reader.total.get() < LIMIT {
+            ReadPoint::Discard(reader.link, reader.total)
+        } else {
+            ReadPoint::Rest
+        }
+    }
+}
+
+impl CloseStep {
+    /// How the failing of the reader's socket goes on by the word that its step found.
+    pub fn next(self, closing: Closing, found: u64) -> ReadNext
+        requires { MayFindClosing self found }
+        ensures { (a : Around) → next_program a result ≡ after_word (close_program a closing self) found }
+    {
+        let word = Vref::from_word(found);
+        match self {
+            CloseStep::AddRef => {
+                if word.version() == closing.reader.socket.version() {
+                    closing.to(CloseStep::SetOdd)
+                } else {
+                    closing.to(CloseStep::Release(ReleaseStep::SubRef))
+                }
+            }
+            CloseStep::SetOdd => {
+                if word.is_failed() {
+                    closing.to(CloseStep::Release(ReleaseStep::SubRef))
+                } else {
+                    closing.to(CloseStep::StoreCode)
+                }
+            }
+            CloseStep::StoreCode => closing.to(CloseStep::GiveBack),
+            CloseStep::GiveBack => closing.to(CloseStep::Release(ReleaseStep::SubRef)),
+            CloseStep::Release(step) => match step.behind(found) {
+                Released::Step(step) => closing.to(CloseStep::Release(step)),
+                Released::Done(_) => ReadNext::Posts(closing),
+            },
+        }
+    }
+}

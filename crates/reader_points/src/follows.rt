@@ -1,0 +1,74 @@
+ghost use Rattle.std.specs.Prelude.{◌≡◌, ◌≤◌, length, ℕ};
+ghost use Rattle.sock_programs.specs.declared.task.Asked.{Asked};
+ghost use Rattle.call_points.specs.Steps.{after_word, after_call};
+ghost use Rattle.reader_points.specs.Points.{Around, next_program, point_program, with_asked, HasInHand, GoesByWord, TakesCall, MayFind, IsWithin};
+
+use crate::point::{AnswerStep, ByteCount, ReadNext, ReadPoint, Reader};
+use call_points::DecideStep;
+use sock_words::SocketId;
+
+/// The word of an `open` that got no slot.
+const NO_SOCKET: u64 = u64::MAX;
+
+/// How the reader of a link goes on by the word of the `open` of its link and operation.
+fn opened(link: u16, operation: u16, found: u64) -> ReadNext
+    ensures { (a : Around) → HasInHand a (ReadPoint.Open link operation) → next_program a result ≡ after_word (point_program a (ReadPoint.Open link operation)) found }
+{
+    if found == 0 {
+        ReadNext::Point(ReadPoint::Open(link, operation))
+    } else if found == NO_SOCKET {
+        ReadNext::Point(ReadPoint::Rest)
+    } else {
+        let reader = Reader {
+            link,
+            socket: SocketId::from_word(found - 1),
+            total: ByteCount::NONE,
+        };
+        reader.to_take()
+    }
+}
+
+impl ReadPoint {
+    /// How a reader goes on by the word that its step found; the call in hand is that of this operation.
+    pub fn next(self, operation: u16, found: u64) -> ReadNext
+        requires within { IsWithin self }
+        requires word { MayFind self found }
+        requires step { GoesByWord self }
+        ensures { (a : Around) → a.asked.operation ≡ operation → HasInHand a self → next_program a result ≡ after_word (point_program a self) found }
+    {
+        match self {
+            ReadPoint::Open(link, operation) => opened(link, operation, found),
+            ReadPoint::Lock(reader, locker, step) => {
+                reader.locked(locker, locker.next(step, found))
+            }
+            ReadPoint::Answer(behind, id, step) => step.next(behind, id, found),
+            ReadPoint::Close(closing, step) => step.next(closing, found),
+            ReadPoint::Load(closing, _) => closing.loaded(found),
+            ReadPoint::Post(closing, error, step) => {
+                closing.posted(error, error.post_next(step, found))
+            }
+            ReadPoint::Decide(closing, error, step) => {
+                closing.decided(error, error.decide_next(step, operation, found))
+            }
+            ReadPoint::Rest | ReadPoint::Take(_) | ReadPoint::Discard(_, _) => {
+                ReadNext::Point(ReadPoint::Rest)
+            }
+        }
+    }
+
+    /// How it goes on with a call in hand that it took out of its home, which is that of this operation.
+    pub fn with_call(self, operation: u16) -> ReadNext
+        requires { TakesCall self }
+        ensures { (a : Around) (asked : Asked) → asked.operation ≡ operation → next_program (with_asked asked a) result ≡ after_call (point_program a self) asked }
+    {
+        match self {
+            ReadPoint::Answer(behind, id, AnswerStep::Take) => {
+                AnswerStep::with_call(behind, id, operation)
+            }
+            ReadPoint::Decide(closing, error, DecideStep::Take(word)) => {
+                ReadNext::Point(ReadPoint::Decide(closing, error, error.with_call(word)))
+            }
+            _ => ReadNext::Point(ReadPoint::Rest),
+        }
+    }
+}

@@ -1,0 +1,56 @@
+ghost use Rattle.std.specs.Prelude.{◌≡◌, ◌<◌, ◌+◌, ◌∷◌, ◌==◌, ◌&&◌, ℕ, List, [], nat_lt, map, get_or, IfSome, IfNone};
+ghost use Rattle.sock_programs.specs.Asides.{id_slot};
+ghost use Rattle.sock_programs.specs.Readers.{slot_in, kept_for};
+ghost use Rattle.brpc_model.specs.Frame as model;
+ghost use Rattle.prpc_frame.specs.Meaning.{frame_of};
+ghost use Rattle.id_points.specs.Ids.{id_of};
+ghost use Rattle.reader_points.specs.Kept.{IsFirstKept, is_kept_of};
+ghost use Rattle.corr_core.specs.Word.{parts};
+ghost use Rattle.reader_points.specs.Points.{Around, next_program, point_program, with_frame};
+
+use crate::point::{AnswerStep, Behind, Closing, ReadNext, ReadPoint};
+use call_points::{DecideStep, OnCall};
+use id_points::CallId;
+use prpc_frame::Frame;
+use sock_words::IdWord;
+
+/// Whether a response is one of a version of the id behind its first, whose range has so many.
+fn is_of(frame: &Frame, id: CallId, range: u8) -> bool
+    ensures { result ≡ is_kept_of (id_of id) range (frame_of frame.now) }
+{
+    let version = frame.meta.correlation_id;
+    let first = id.number();
+    version / 0x1_0000_0000 == u64::from(id.slot()) && first < version && version < first + u64::from(range)
+}
+
+/// Which of the kept responses ends the call with this id, whose range has so many versions: the first one of these.
+pub fn first_kept(kept: &[Frame], id: CallId, range: u8) -> Option<usize>
+    ensures none { IfNone result (kept_for (id_of id) range (map frame_of kept.now) ≡ []) }
+    ensures some { IfSome result (λ i. IsFirstKept (id_of id) range kept.now i) }
+{
+    let mut i = 0;
+    while i < kept.len() {
+        if is_of(&kept[i], id, range) {
+            return Some(i);
+        }
+        i += 1;
+    }
+    None
+}
+
+impl Closing {
+    /// Where the id of an error is locked and has this word, a kept response ends its call,
+    pub fn answers(self, error: OnCall, word: IdWord) -> ReadPoint
+        ensures { (a : Around) (f : model.Frame) (fs : List model.Frame) → slot_in f ≡ id_slot (id_of error.id) → kept_for (id_of error.id) (parts word.0).range a.kept ≡ f ∷ fs
+            → point_program (with_frame f a) result ≡ next_program a (ReadNext.Locked self error word) }
+    {
+        ReadPoint::Answer(Behind::Posts(self), error.id, AnswerStep::Take)
+    }
+
+    /// or, where none was kept, the error is decided on.
+    pub fn decides(self, error: OnCall, word: IdWord) -> ReadPoint
+        ensures { (a : Around) → kept_for (id_of error.id) (parts word.0).range a.kept ≡ [] → point_program a result ≡ next_program a (ReadNext.Locked self error word) }
+    {
+        ReadPoint::Decide(self, error, DecideStep::Take(word))
+    }
+}

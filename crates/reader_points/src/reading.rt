@@ -1,0 +1,106 @@
+ghost use Rattle.std.specs.Prelude.{◌≡◌, ◌≤◌};
+ghost use Rattle.sock_programs.specs.Asides.{Taking};
+ghost use Rattle.sock_programs.specs.Readers.{answered};
+ghost use Rattle.id_points.specs.Turns.{lock_on, sought_as};
+ghost use Rattle.reader_points.specs.Points.{Around, point_program, next_program, frames_behind, with_taking, IsTaken, IsLocker, FitsRoom, MayTake};
+ghost use Rattle.reader_points.specs.Steps.{after_taking};
+
+use crate::point::{
+    AnswerStep, Behind, ByteCount, CloseStep, Closing, LIMIT, ReadNext, ReadPoint, Reader, Taken,
+};
+use call_points::{LockStep, Locker};
+use id_points::{CallId, LockTurn, Sought, is_early};
+
+impl Reader {
+    /// Its reading has ended, by a frame fault or not.
+    pub fn closing(self, fault: bool) -> Closing
+        ensures { result ≡ record { reader = self; fault = fault; next = 0 } }
+    {
+        Closing {
+            reader: self,
+            fault,
+            next: 0,
+        }
+    }
+
+    /// It comes to its next take.
+    pub fn to_take(self) -> ReadNext
+        ensures { result ≡ ReadNext.Point (ReadPoint.Take self) }
+    {
+        ReadNext::Point(ReadPoint::Take(self))
+    }
+
+    /// How it goes on by what a take found.
+    fn taken(self, taken: Taken) -> ReadNext
+        requires { FitsRoom self.total taken }
+        ensures { (a : Around) (taking : Taking) → IsTaken taken taking → next_program (with_taking taking a) result ≡ after_taking (point_program a (ReadPoint.Take self)) taking }
+    {
+        match taken {
+            Taken::Bytes(count) => ReadNext::Frames(Reader {
+                total: self.total.plus(count),
+                ..self
+            }),
+            Taken::Nothing => self.to_take(),
+            Taken::Over => {
+                ReadNext::Point(ReadPoint::Close(self.closing(false), CloseStep::AddRef))
+            }
+            Taken::Closed => ReadNext::Posts(self.closing(false)),
+        }
+    }
+
+    /// How it goes on behind a step on the way to the lock of its response.
+    pub fn locked(self, locker: Locker, turn: LockTurn) -> ReadNext
+        ensures { (a : Around) → IsLocker a.frame locker → next_program a result ≡ lock_on locker.slot (sought_as locker.sought) (answered a.frame a.kept (frames_behind a self)) turn }
+    {
+        match turn {
+            LockTurn::NotThere(found) => match locker.sought {
+                Sought::Version(version) if is_early(version, found) => ReadNext::Early(self),
+                _ => ReadNext::Frames(self),
+            },
+            LockTurn::Has(word) => {
+                let id = CallId::pack(locker.slot, word.first());
+                let behind = Behind::Frames(self);
+                ReadNext::Point(ReadPoint::Answer(behind, id, AnswerStep::Take))
+            }
+            LockTurn::Again(None) => {
+                ReadNext::Point(ReadPoint::Lock(self, locker, LockStep::Read))
+            }
+            LockTurn::Again(Some(from)) => {
+                ReadNext::Point(ReadPoint::Lock(self, locker, LockStep::Exchange(from)))
+            }
+        }
+    }
+}
+
+/// How the throwing away goes on by what a take of this link found, over which so many bytes came before.
+fn discarded(link: u16, total: ByteCount, taken: Taken) -> ReadNext
+    requires { FitsRoom total taken }
+    ensures { (a : Around) (taking : Taking) → IsTaken taken taking → next_program (with_taking taking a) result ≡ after_taking (point_program a (ReadPoint.Discard link total)) taking }
+{
+    match taken {
+        Taken::Bytes(count) => {
+            let total = total.plus(count);
+            if total.get() < LIMIT {
+                ReadNext::Point(ReadPoint::Discard(link, total))
+            } else {
+                ReadNext::Point(ReadPoint::Rest)
+            }
+        }
+        Taken::Nothing => ReadNext::Point(ReadPoint::Discard(link, total)),
+        Taken::Over | Taken::Closed => ReadNext::Point(ReadPoint::Rest),
+    }
+}
+
+impl ReadPoint {
+    /// How a reader goes on by what its take found.
+    pub fn taken(self, taken: Taken) -> ReadNext
+        requires { MayTake self taken }
+        ensures { (a : Around) (taking : Taking) → IsTaken taken taking → next_program (with_taking taking a) result ≡ after_taking (point_program a self) taking }
+    {
+        match self {
+            ReadPoint::Take(reader) => reader.taken(taken),
+            ReadPoint::Discard(link, total) => discarded(link, total, taken),
+            _ => ReadNext::Point(ReadPoint::Rest),
+        }
+    }
+}

@@ -1,0 +1,77 @@
+ghost use Rattle.std.specs.Prelude.{◌≡◌, option_map, Some, ℕ};
+ghost use Rattle.sock_programs.specs.declared.task.Asked.{Asked};
+ghost use Rattle.id_points.specs.Ids.{id_of};
+ghost use Rattle.call_points.specs.Steps.{aside_in};
+ghost use Rattle.call_points.specs.Steps as asides;
+ghost use Rattle.seat_points.specs.Steps.{OfCall, step_of, first_in};
+ghost use Rattle.reader_points.specs.Points.{Around, close_program, answer_program, point_program, code_by, room};
+ghost use Rattle.reader_points.specs.Steps.{step_as};
+
+use crate::point::{AnswerStep, Behind, ByteCount, CloseStep, Closing, ELOGOFF, ERESPONSE, ReadPoint, ReadStep};
+use call_points::Aside;
+use id_points::CallId;
+use seat_points::Call;
+
+impl Closing {
+    /// The code with which the reading ends.
+    pub fn code(self) -> u16
+        ensures code { result ≡ code_by self.fault }
+    {
+        if self.fault { ERESPONSE } else { ELOGOFF }
+    }
+}
+
+impl CloseStep {
+    /// The next step of the failing of a reader's socket.
+    fn call(self, closing: Closing) -> Call
+        ensures { (a : Around) → first_in (close_program a closing self) ≡ Some (OfCall (step_of result)) }
+    {
+        let id = closing.reader.socket;
+        match self {
+            CloseStep::AddRef => Call::AddRef(id),
+            CloseStep::SetOdd => Call::SetOdd(id.slot()),
+            CloseStep::StoreCode => Call::StoreCode(id.slot(), id.version(), closing.code()),
+            CloseStep::GiveBack => Call::SubRef(id.slot()),
+            CloseStep::Release(step) => step.call(id.slot()),
+        }
+    }
+}
+
+impl AnswerStep {
+    /// The next step of the end of the call with this id by a response.
+    fn aside(self, id: CallId) -> Aside
+        ensures { (a : Around) (b : Behind) → Some (asides.step_of a.asked result) ≡ aside_in (answer_program a b (id_of id) self) }
+    {
+        match self {
+            AnswerStep::Take => Aside::TakeCall(id.slot()),
+            AnswerStep::End(_, step) => step.step(id.slot()),
+        }
+    }
+}
+
+impl ReadPoint {
+    /// The next step, if there is one.
+    pub fn step(self) -> Option<ReadStep>
+        ensures { (a : Around) → option_map (step_as a.asked) result ≡ first_in (point_program a self) }
+    {
+        match self {
+            ReadPoint::Rest => None,
+            ReadPoint::Open(_, operation) => Some(ReadStep::Call(Call::LoadOpen(operation))),
+            ReadPoint::Take(reader) => taking(reader.link, reader.total),
+            ReadPoint::Lock(_, locker, step) => Some(ReadStep::Aside(locker.step(step))),
+            ReadPoint::Answer(_, id, step) => Some(ReadStep::Aside(step.aside(id))),
+            ReadPoint::Close(closing, step) => Some(ReadStep::Call(step.call(closing))),
+            ReadPoint::Load(_, operation) => Some(ReadStep::Aside(Aside::LoadAt(operation))),
+            ReadPoint::Post(_, error, step) => Some(ReadStep::Aside(error.post_step(step))),
+            ReadPoint::Decide(_, error, step) => Some(ReadStep::Aside(error.decide_step(step))),
+            ReadPoint::Discard(link, total) => taking(link, total),
+        }
+    }
+}
+
+/// Bytes are taken from this link, over which so many came.
+fn taking(link: u16, total: ByteCount) -> Option<ReadStep>
+    ensures { result ≡ Some (ReadStep.Aside (Aside.TakeBytes link (room total))) }
+{
+    Some(ReadStep::Aside(Aside::TakeBytes(link, total.room())))
+}
