@@ -7,7 +7,7 @@ use Rattle.sock_words.specs.Words.{vref_version}
 use Rattle.sock_words.specs.declared.outcome.Outcome.{Outcome}
 use Rattle.sock_words.specs.declared.outcome.Outcome.TheVariants.{Opened, SlotsFull, Unopened, Gone, Placed, Dropped, Full, Held, Freed, Kept, NotHeld, Failed, Already}
 use Rattle.sock_words.specs.declared.place_word.PlaceWord.{PlaceWord}
-use Rattle.brpc_model.specs.Items.{Item, Open, Send, Fail, Hold, Drop, Shape, is_open, sought_name}
+use Rattle.brpc_model.specs.Items.{Item, Open, Send, Call, Expire, Join, Fail, Hold, Drop, Shape, is_open, sought_name}
 use Rattle.brpc_model.specs.Operations.{Operation, operations, link_names, slots, requests}
 use Rattle.brpc_model.specs.Places.{names}
 use Rattle.brpc_model.specs.Link.{LinkEnd}
@@ -20,7 +20,7 @@ use Rattle.brpc_model.specs.Outcomes.{FoundFailed as RunFoundFailed, AfterHold a
 use Rattle.sock_programs.specs.declared.task.Op.{Op}
 use Rattle.sock_programs.specs.declared.task.Op.TheVariants as ops
 use Rattle.sock_programs.specs.Cores.{Core}
-use Rattle.sock_programs.specs.Tasks.{name_number, op_of, plan_of}
+use Rattle.sock_programs.specs.Tasks.{Numbered, numbered, name_number, op_of, plan_of}
 use Rattle.sock_programs.specs.Scripts.{is_later, is_callless, all_tasks, Reports}
 use Rattle.sock_programs.specs.Told.{Told, Accepted, IsTask, Made, Why, OpensNone, FoundNone, FoundFailed, WasFailed, AfterHold, HasLife, EachOpened, IsFail, all_accepted}
 use Rattle.report_fits.specs.Ends.{AreEnds}
@@ -29,8 +29,8 @@ use Rattle.report_fits.proofs.Lists.{Has, within, some_is, contains_from, has_fr
 use Rattle.report_fits.proofs.Counting.{but, but_other, one_less, HasPlace, places, passing, passing_length, passing_pass, passing_apart, Passes, passes_at, tally_all, count_tally}
 use Rattle.report_fits.proofs.Names.{same_name}
 use Rattle.report_fits.proofs.Numbering.{link_at, are_from}
-use Rattle.report_fits.proofs.TaskLemmas.{task_is, operation_task, open_asks, hold_asks, fail_asks, mentions_open, mentions_send, mentions_hold, mentions_drop, mentions_fail, named_at}
-use Rattle.report_fits.proofs.Callless.{not_later, asked_at}
+use Rattle.report_fits.proofs.TaskLemmas.{numbers_at, asks_at, asked_at, task_is, operation_task, open_asks, hold_asks, fail_asks, mentions_open, mentions_send, mentions_hold, mentions_drop, mentions_fail, named_at}
+use Rattle.report_fits.proofs.Callless.{not_later}
 use Rattle.report_fits.proofs.Reported.{is_said, outcome_told, told_outcome, SaidOrPlaced, said_or_placed}
 use Rattle.report_fits.proofs.Sends as sends
 use Rattle.report_fits.proofs.Lines as lines
@@ -41,14 +41,14 @@ use Rattle.report_fits.proofs.Lines as lines
 abbrev Seeks : Op → ℕ → Type 0
 Seeks op n = ((c : ℕ) × (op ≡ ops.Fail n c)) ⊎ ((op ≡ ops.Hold n) ⊎ ((bytes : List ℕ) × (op ≡ ops.Send n bytes)))
 
-seeks_by : (ns : List (List ℕ)) (link : ℕ) (item : Item) (name : List ℕ) (op : Op) → is_later item ≡ false → op_of ns link item ≡ Some op → sought_name item ≡ Some name → Seeks op (name_number ns name)
-seeks_by ns link (Fail nm code) name op l e f =
-    inl (code, sym (some_is (ops.Fail (name_number ns nm) code) op e) ∙ ap (λ x. ops.Fail (name_number ns x) code) (some_is nm name f))
-seeks_by ns link (Hold nm) name op l e f =
-    inr (inl (sym (some_is (ops.Hold (name_number ns nm)) op e) ∙ ap (λ x. ops.Hold (name_number ns x)) (some_is nm name f)))
-seeks_by ns link (Send nm bytes) name op l e f =
-    inr (inr (bytes, sym (some_is (ops.Send (name_number ns nm) bytes) op e) ∙ ap (λ x. ops.Send (name_number ns x) bytes) (some_is nm name f)))
-seeks_by ns link other name op l e f = absurd (cc)
+seeks_by : (all : List Numbered) (ns : List (List ℕ)) (x : Numbered) (item : Item) (name : List ℕ) (op : Op) → is_later item ≡ false → op_of all ns x item ≡ Some op → sought_name item ≡ Some name → Seeks op (name_number ns name)
+seeks_by all ns x (Fail nm code) name op l e f =
+    inl (code, sym (some_is (ops.Fail (name_number ns nm) code) op e) ∙ ap (λ z. ops.Fail (name_number ns z) code) (some_is nm name f))
+seeks_by all ns x (Hold nm) name op l e f =
+    inr (inl (sym (some_is (ops.Hold (name_number ns nm)) op e) ∙ ap (λ z. ops.Hold (name_number ns z)) (some_is nm name f)))
+seeks_by all ns x (Send nm bytes) name op l e f =
+    inr (inr (bytes, sym (some_is (ops.Send (name_number ns nm) bytes) op e) ∙ ap (λ z. ops.Send (name_number ns z) bytes) (some_is nm name f)))
+seeks_by all ns x other name op l e f = absurd (cc)
 
 module _ (script : List Item) (core : Core) (broken : List ℕ) (report : Report) (took : List (List ℕ)) (ends : List LinkEnd) (callless : is_callless script ≡ true) (limits : KeepsLimits script) (long : length core.outcomes ≡ length (operations script))
     (tells : Told (all_tasks script) core.outcomes (plan_of script) core broken) (reports : Reports script core took report) (given : AreEnds script core broken ends) where
@@ -66,15 +66,15 @@ module _ (script : List Item) (core : Core) (broken : List ℕ) (report : Report
   link i = link_at (operations script) i
 
   abbrev pub Asked : ℕ → Operation → Type 0
-  Asked i q = (op : Op) × (op_of Names (link i) q.item ≡ Some op)
+  Asked i q = (op : Op) × (asks_at script i q ≡ Some op)
 
   pub asked : (i : ℕ) (q : Operation) → IsOperation run_of i q → Asked i q
-  asked i q e = asked_at script callless i q e
+  asked i q e = asked_at script i q e
 
   abbrev pub TaskAt : ℕ → ℕ → Op → Type 0
   TaskAt c i op = IsTask (all_tasks script) core.outcomes c (record { number = i; op = op })
 
-  pub task_at : (i : ℕ) (q : Operation) (e : IsOperation run_of i q) (op : Op) → op_of Names (link i) q.item ≡ Some op → TaskAt q.client i op
+  pub task_at : (i : ℕ) (q : Operation) (e : IsOperation run_of i q) (op : Op) → asks_at script i q ≡ Some op → TaskAt q.client i op
   task_at i q e op f = operation_task script core.outcomes i q op e f
 
   abbrev pub Words : List PlaceWord
@@ -93,17 +93,14 @@ module _ (script : List Item) (core : Core) (broken : List ℕ) (report : Report
   abbrev pub WhyAt : ℕ → ℕ → Op → Outcome → Type 0
   WhyAt c i op o = Why (all_tasks script) core.outcomes (plan_of script) tells.fails broken tells.orders c i op o
 
-  pub why_at : (i : ℕ) (q : Operation) (e : IsOperation run_of i q) (op : Op) → op_of Names (link i) q.item ≡ Some op → (o : Outcome) → slice_get core.outcomes i ≡ Some (Some o) → WhyAt q.client i op o
+  pub why_at : (i : ℕ) (q : Operation) (e : IsOperation run_of i q) (op : Op) → asks_at script i q ≡ Some op → (o : Outcome) → slice_get core.outcomes i ≡ Some (Some o) → WhyAt q.client i op o
   why_at i q e op f o b = tells.why q.client (record { number = i; op = op }) o (task_at i q e op f) b
 
   -- ## Lives
 
   opened_is : (c o : ℕ) (op : Op) (slot version l : ℕ) → WhyAt c o op (Opened slot version l) → (n : ℕ) × (op ≡ ops.Open n l)
   opened_is c o (ops.Open n k) slot version l w = (n, ap (ops.Open n) (sym w.0))
-  opened_is c o (ops.Send n bytes) slot version l w = absurd w
-  opened_is c o (ops.Hold n) slot version l w = absurd w
-  opened_is c o (ops.Drop n) slot version l w = absurd w
-  opened_is c o (ops.Fail n code) slot version l w = absurd w
+  opened_is c o other slot version l w = absurd w
 
   -- the operation that made a life
   pub record OpenedAt (j slot version k : ℕ) : Type 0 where
@@ -117,7 +114,7 @@ module _ (script : List Item) (core : Core) (broken : List ℕ) (report : Report
     pub mentions : Has (names script) name
     pub is : IsTask (all_tasks script) core.outcomes operation.client (record { number = j; op = ops.Open (name_number (names script) name) k })
 
-  opened_by_open : (j slot version k n : ℕ) (q : Operation) (name : List ℕ) (shape : Shape) → IsOperation run_of j q → q.item ≡ Open name shape → n ≡ name_number Names name → k ≡ link j → op_of Names (link j) q.item ≡ Some (ops.Open n k) → OpenedAt j slot version k
+  opened_by_open : (j slot version k n : ℕ) (q : Operation) (name : List ℕ) (shape : Shape) → IsOperation run_of j q → q.item ≡ Open name shape → n ≡ name_number Names name → k ≡ link j → asks_at script j q ≡ Some (ops.Open n k) → OpenedAt j slot version k
   opened_by_open j slot version k n q name shape there item number its asks = record {
     operation = q;
     there = there;
@@ -130,12 +127,12 @@ module _ (script : List Item) (core : Core) (broken : List ℕ) (report : Report
     is = task_at j q there (ops.Open (name_number Names name) k) (asks ∙ ap (λ n. Some (ops.Open n k)) number);
   }
 
-  opened_by_task : (j slot version k n : ℕ) (q : Operation) → IsOperation run_of j q → op_of Names (link j) q.item ≡ Some (ops.Open n k) → OpenedAt j slot version k
+  opened_by_task : (j slot version k n : ℕ) (q : Operation) → IsOperation run_of j q → asks_at script j q ≡ Some (ops.Open n k) → OpenedAt j slot version k
   opened_by_task j slot version k n q there asks =
-      let m = open_asks Names (link j) q.item n k asks in
+      let m = open_asks (numbered script) Names (numbers_at script j q) q.item n k asks in
       opened_by_open j slot version k n q m.0 m.1 there m.2 m.3 m.4 asks
 
-  opened_by_operation : (j slot version k : ℕ) (q : Operation) (op : Op) → IsOperation run_of j q → op_of Names (link j) q.item ≡ Some op → slice_get core.outcomes j ≡ Some (Some (Opened slot version k)) → OpenedAt j slot version k
+  opened_by_operation : (j slot version k : ℕ) (q : Operation) (op : Op) → IsOperation run_of j q → asks_at script j q ≡ Some op → slice_get core.outcomes j ≡ Some (Some (Opened slot version k)) → OpenedAt j slot version k
   opened_by_operation j slot version k q op there asks b =
       let o = opened_is q.client j op slot version k (why_at j q there op asks (Opened slot version k) b) in
       opened_by_task j slot version k o.0 q there (asks ∙ ap Some o.1)
@@ -155,8 +152,8 @@ module _ (script : List Item) (core : Core) (broken : List ℕ) (report : Report
       let w = opened_at m.task.number slot version k m.became in
       let t = task_is script core.outcomes m.client m.task m.is in
       let same : t.operation ≡ w.operation = some_is t.operation w.operation (sym t.there ∙ w.there) in
-      let asks : op_of Names (link m.task.number) (Open w.name w.shape) ≡ Some (ops.Open n k) =
-      ap (op_of Names (link m.task.number)) (sym w.item ∙ ap (λ (x : Operation). x.item) (sym same)) ∙ t.asks ∙ ap Some m.op in
+      let asks : op_of (numbered script) Names (numbers_at script m.task.number t.operation) (Open w.name w.shape) ≡ Some (ops.Open n k) =
+      ap (op_of (numbered script) Names (numbers_at script m.task.number t.operation)) (sym w.item ∙ ap (λ (x : Operation). x.item) (sym same)) ∙ t.asks ∙ ap Some m.op in
       let both : ops.Open (name_number Names w.name) (link m.task.number) ≡ ops.Open n k = some_is _ (ops.Open n k) asks in
       (w, cc)
 
@@ -183,7 +180,7 @@ module _ (script : List Item) (core : Core) (broken : List ℕ) (report : Report
       let same : w.name ≡ name = some_is w.name name (sym w.named ∙ opens.4) in
       let numbers : name_number Names w.name ≡ n = ap (name_number Names) same ∙ sym is.0 in
       let P : ℕ → Type 0 = λ x. TaskAt x j (ops.Open (name_number Names w.name) k) in
-      none (ops.Open (name_number Names w.name) k) (subst P (own w.operation w.there) w.is) k slot version (ap (λ x. ops.Open x k) numbers) b
+      none (ops.Open (name_number Names w.name) k) (subst P (own w.operation w.there) w.is) k slot version (ap (λ z. ops.Open z k) numbers) b
 
   operation_is : (j : ℕ) (p q : Operation) → IsOperation run_of j p → IsOperation run_of j q → p ≡ q
   operation_is j p q e f = some_is p q (sym e ∙ f)
@@ -196,7 +193,7 @@ module _ (script : List Item) (core : Core) (broken : List ℕ) (report : Report
         λ own less. (
           λ opens. opens_not n name is j c (owner c own) (λ op t. (found.own (record { number = j; op = op }) t less).0) opens,
           λ sought. (
-              let s = seeks_by Names (link j) q.item name a.0 (not_later script callless q.item (are_from 0 1 script j q there).there) a.1 sought in
+              let s = seeks_by (numbered script) Names (numbers_at script j q) q.item name a.0 (not_later script callless q.item (are_from 0 1 script j q there).there) a.1 sought in
               let P : ℕ → Type 0 = λ x. TaskAt x j a.0 in
               reported j Unopened ((found.own (record { number = j; op = a.0 }) (subst P own (task_at j q there a.0 a.1)) less).1 (by_number s))
               ),
@@ -244,9 +241,9 @@ module _ (script : List Item) (core : Core) (broken : List ℕ) (report : Report
   -- ## Holds and drops
 
   -- what the task of a `hold` is
-  hold_at : (h n : ℕ) (r : Operation) (name : List ℕ) (op : Op) → IsOperation run_of h r → op_of Names (link h) r.item ≡ Some op → op ≡ ops.Hold n → IsNumberOf n name → r.item ≡ Hold name
+  hold_at : (h n : ℕ) (r : Operation) (name : List ℕ) (op : Op) → IsOperation run_of h r → asks_at script h r ≡ Some op → op ≡ ops.Hold n → IsNumberOf n name → r.item ≡ Hold name
   hold_at h n r name op there asks e is =
-      let w = hold_asks Names (link h) r.item n (asks ∙ ap Some e) in
+      let w = hold_asks (numbered script) Names (numbers_at script h r) r.item n (asks ∙ ap Some e) in
       let mentions : Has Names w.0 = mentions_hold script h r there w.0 w.1 in
       w.1 ∙ ap Hold (same_name Names w.0 name mentions is.1 (sym w.2 ∙ is.0))
 
@@ -263,7 +260,7 @@ module _ (script : List Item) (core : Core) (broken : List ℕ) (report : Report
           own = t.own;
           same = hold_at h n t.operation name a.hold.op t.there t.asks a.op is;
           last = λ j r low high there own same. (
-              let asks : op_of Names (link j) r.item ≡ Some (ops.Hold n) = ap (op_of Names (link j)) same ∙ ap (λ x. Some (ops.Hold x)) (sym is.0) in
+              let asks : asks_at script j r ≡ Some (ops.Hold n) = ap (op_of (numbered script) Names (numbers_at script j r)) same ∙ ap (λ x. Some (ops.Hold x)) (sym is.0) in
               let R : ℕ → Type 0 = λ x. TaskAt x j (ops.Hold n) in
               a.last (record { number = j; op = ops.Hold n }) (subst R own (task_at j r there (ops.Hold n) asks)) low high refl
               );
@@ -302,7 +299,7 @@ module _ (script : List Item) (core : Core) (broken : List ℕ) (report : Report
       let w = all_at (IsFail (all_tasks script) core.outcomes) tells.fails f tells.are (has_from tells.fails f h) in
       let t = task_is script core.outcomes w.client w.task w.is in
       let there : slice_get (operations script) f.0 ≡ Some t.operation = ap (slice_get (operations script)) (sym w.numbered) ∙ t.there in
-      let a = fail_asks Names (link w.task.number) t.operation.item w.name w.code (t.asks ∙ ap Some w.op) in
+      let a = fail_asks (numbered script) Names (numbers_at script w.task.number t.operation) t.operation.item w.name w.code (t.asks ∙ ap Some w.op) in
       let life = w.life in
       record {
         operation = t.operation;
@@ -422,7 +419,7 @@ module _ (script : List Item) (core : Core) (broken : List ℕ) (report : Report
 
   -- ## Any operation
 
-  cause_of : (i : ℕ) (q : Operation) (item : Item) (op : Op) (o : Outcome) → IsOperation run_of i q → q.item ≡ item → op_of Names (link i) item ≡ Some op → slice_get core.outcomes i ≡ Some (Some o) → WhyAt q.client i op o →
+  cause_of : (i : ℕ) (q : Operation) (item : Item) (op : Op) (o : Outcome) → IsOperation run_of i q → q.item ≡ item → op_of (numbered script) Names (numbers_at script i q) item ≡ Some op → slice_get core.outcomes i ≡ Some (Some o) → WhyAt q.client i op o →
       Cause run_of i q item o
   cause_of i q (Open name shape) op o there e asks b w =
       let P : Op → Type 0 = λ x. WhyAt q.client i x o in
@@ -439,6 +436,9 @@ module _ (script : List Item) (core : Core) (broken : List ℕ) (report : Report
   cause_of i q (Fail name code) op o there e asks b w =
       let P : Op → Type 0 = λ x. WhyAt q.client i x o in
       fail_cause i (name_number Names name) code q name o there e (refl, mentions_fail script i q there name code e) (subst P (sym (some_is (ops.Fail (name_number Names name) code) op asks)) w)
+  cause_of i q (Call call) op o there e asks b w = absurd (let later : true ≡ false = ap is_later (sym e) ∙ not_later script callless q.item (are_from 0 1 script i q there).there in cc)
+  cause_of i q (Expire client number) op o there e asks b w = absurd (let later : true ≡ false = ap is_later (sym e) ∙ not_later script callless q.item (are_from 0 1 script i q there).there in cc)
+  cause_of i q (Join client number) op o there e asks b w = absurd (let later : true ≡ false = ap is_later (sym e) ∙ not_later script callless q.item (are_from 0 1 script i q there).there in cc)
   cause_of i q other op o there e asks b w = absurd (cc)
 
   -- an operation of which nothing was said is a send whose message was accepted

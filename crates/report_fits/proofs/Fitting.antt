@@ -22,7 +22,7 @@ use Rattle.brpc_model.specs.Complete.{Completeness, FitsWhole, IsUntroubled, Sen
 use Rattle.sock_programs.specs.declared.task.Op.{Op}
 use Rattle.sock_programs.specs.declared.task.Op.TheVariants as ops
 use Rattle.sock_programs.specs.Cores.{Core}
-use Rattle.sock_programs.specs.Tasks.{name_number, op_of, plan_of}
+use Rattle.sock_programs.specs.Tasks.{numbered, name_number, op_of, plan_of}
 use Rattle.sock_programs.specs.Scripts.{is_later, is_callless, all_tasks, place_words, Reports}
 use Rattle.sock_programs.specs.Told.{Told, Made, Accepted, WasFailed, InOwnOrder as InTaskOrder}
 use Rattle.report_fits.specs.Ends.{AreEnds, AreTold}
@@ -31,6 +31,7 @@ use Rattle.report_fits.proofs.Lists.{Has, within, some_is, contains_from, has_fr
 use Rattle.report_fits.proofs.Flat.{flat_before}
 use Rattle.report_fits.proofs.Counting.{HasPlace, places, passing, passing_length, passing_pass, passing_apart, Passes, passes_at, count_tally}
 use Rattle.report_fits.proofs.Numbering.{link_at, are_from}
+use Rattle.report_fits.proofs.TaskLemmas.{numbers_at, asks_at}
 use Rattle.report_fits.proofs.Callless.{not_later}
 use Rattle.report_fits.proofs.Reported.{is_said, outcomes_length, untold_outcome, SaidOrPlaced}
 use Rattle.report_fits.proofs.Orders as orders
@@ -115,10 +116,7 @@ module _ (script : List Item) (core : Core) (broken : List ℕ) (report : Report
 
   fail_why : (c i : ℕ) (op : Op) → causes.WhyAt script core broken report took ends callless limits long tells reports given c i op Failed → (k : ℕ) × Contains tells.fails (i, k)
   fail_why c i (ops.Fail n code) w = w
-  fail_why c i (ops.Open n k) w = absurd w
-  fail_why c i (ops.Send n bytes) w = absurd w
-  fail_why c i (ops.Hold n) w = absurd w
-  fail_why c i (ops.Drop n) w = absurd w
+  fail_why c i other w = absurd w
 
   operation_at : (i : ℕ) (o : Outcome) → slice_get core.outcomes i ≡ Some (Some o) → (q : Operation) × IsOperation run i q
   operation_at i o e = within (operations script) i (omega (arith, slice_get_within core.outcomes i (Some o) e, long))
@@ -472,7 +470,7 @@ module _ (script : List Item) (core : Core) (broken : List ℕ) (report : Report
       by_case : SaidOrPlaced (place_words (plan_of script) core.words) core.outcomes i o → SendDone run i q name o
       by_case (inl b) =
           let n = name_number (names script) name in
-          let asks : op_of (names script) (link_at (operations script) i) q.item ≡ Some (ops.Send n bytes) = ap (op_of (names script) (link_at (operations script) i)) item in
+          let asks : asks_at script i q ≡ Some (ops.Send n bytes) = ap (op_of (numbered script) (names script) (numbers_at script i q)) item in
           let why = causes.why_at script core broken report took ends callless limits long tells reports given i q there (ops.Send n bytes) asks o b in
           let P : Item → Type 0 = λ x. Cause run i q x o in
           said_done calm i n q name bytes o there item b why (subst P item (causes.cause_at script core broken report took ends callless limits long tells reports given i q o there has))

@@ -12,8 +12,7 @@ use Rattle.sock_programs.specs.Scripts.{is_callless, all_tasks, place_words}
 use Rattle.sock_programs.specs.Told.{Told, Accepted, StandsAt}
 use Rattle.report_fits.specs.Limits.{KeepsLimits}
 use Rattle.report_fits.proofs.Lists.{within, some_is}
-use Rattle.report_fits.proofs.TaskLemmas.{operation_task}
-use Rattle.report_fits.proofs.Callless.{asked_at}
+use Rattle.report_fits.proofs.TaskLemmas.{asked_at, operation_task}
 use Rattle.report_fits.proofs.Orders as orders
 use Rattle.report_fits.proofs.Sends as sends
 
@@ -29,7 +28,7 @@ pub has_each : (script : List Item) (core : Core) (broken : List ℕ) → is_cal
     length core.outcomes ≡ length (operations script) → HasEachOutcome (place_words (plan_of script) core.words) core.outcomes
 has_each script core broken callless limits tells long i none_ =
     let q = within (operations script) i (omega (arith, slice_get_within core.outcomes i None none_, long)) in
-    let a = asked_at script callless i q.0 q.1 in
+    let a = asked_at script i q.0 q.1 in
     by_told (tells.told q.0.client (record { number = i; op = a.0 }) (operation_task script core.outcomes i q.0 a.0 q.1 a.1))
   where
     by_told : ((o : Outcome) × (slice_get core.outcomes i ≡ Some (Some o))) ⊎ ((k p : ℕ) × (a : Accepted) × (k < length (link_names script)) × StandsAt tells.orders k p a × (a.operation ≡ i)) →

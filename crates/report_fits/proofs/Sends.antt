@@ -8,7 +8,7 @@ use Rattle.brpc_model.specs.Order.{EachBefore}
 use Rattle.brpc_model.specs.Places.{names}
 use Rattle.sock_programs.specs.Cores.{Core}
 use Rattle.sock_programs.specs.Runs.{from_to}
-use Rattle.sock_programs.specs.Tasks.{name_number, plan_of}
+use Rattle.sock_programs.specs.Tasks.{name_number, numbered, plan_of}
 use Rattle.sock_programs.specs.Scripts.{all_tasks}
 use Rattle.sock_programs.specs.Told.{Told, Made, IsSent, Accepted, StandsAt, all_accepted}
 use Rattle.report_fits.specs.Limits.{KeepsLimits}
@@ -16,7 +16,7 @@ use Rattle.report_fits.proofs.Lists.{Has, some_is, all_from, all_at, before_from
 use Rattle.report_fits.proofs.Flat.{flat_has, flat_before, flat_length, from_to_at, from_to_length}
 use Rattle.report_fits.proofs.Counting.{tally, but, but_other, one_less, HasPlace, places, passes_at, tally_all, count_tally}
 use Rattle.report_fits.proofs.Numbering.{link_at, behind_item}
-use Rattle.report_fits.proofs.TaskLemmas.{task_is, send_asks, mentions_send}
+use Rattle.report_fits.proofs.TaskLemmas.{numbers_at, task_is, send_asks, mentions_send}
 
 -- ## Sends of a script
 
@@ -89,7 +89,7 @@ module _ (script : List Item) (core : Core) (broken : List ℕ) (limits : KeepsL
       let w = all_at (IsSent (all_tasks script) core.outcomes k) (tells.orders k).accepted a (tells.sent k low) (i, at) in
       let t = task_is script core.outcomes w.client w.task w.is in
       let there : slice_get (operations script) a.operation ≡ Some t.operation = ap (slice_get (operations script)) (sym w.numbered) ∙ t.there in
-      let s = send_asks (names script) (link_at (operations script) w.task.number) t.operation.item w.name a.bytes (t.asks ∙ ap Some w.op) in
+      let s = send_asks (numbered script) (names script) (numbers_at script w.task.number t.operation) t.operation.item w.name a.bytes (t.asks ∙ ap Some w.op) in
       record {
         operation = t.operation;
         there = there;
