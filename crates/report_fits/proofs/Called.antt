@@ -22,7 +22,7 @@ mapped_within ns (x ∷ xs) all zero inside = number_within ns x (all x (has_fir
 mapped_within ns (x ∷ xs) all (suc i) inside = mapped_within ns xs (λ y h. all y (has_later x xs y h)) i (omega (arith, inside))
 
 -- an attempt goes to the first name or to the second
-inside_names : (n k : ℕ) → 1 ≤ k → k ≤ 2 → cond (eqb k 1) 0 (n % 2) < k
+pub inside_names : (n k : ℕ) → 1 ≤ k → k ≤ 2 → cond (eqb k 1) 0 (n % 2) < k
 inside_names n k some_ few = by_one (eqb k 1) refl
   where
     by_one : (b : Bool) → eqb k 1 ≡ b → cond b 0 (n % 2) < k

@@ -20,3 +20,8 @@ pub mod Called
 pub mod Sizes
 pub mod Alternating
 pub mod Tasks
+pub mod LabelOrders
+pub mod Targets
+pub mod LabelCounts
+pub mod Known
+pub mod LabelLines
