@@ -1,5 +1,5 @@
 -- A script that was read and what is told of its run: its calls, the names of their attempts, and the messages that links accepted.
-use Rattle.std.proofs.Common.{◌≡◌, ◌≢◌, ℕ, zero, suc, ◌+◌, ◌*◌, ◌%◌, ◌<◌, ◌≤◌, ◌⊎◌, inl, inr, Bool, true, false, cond, eqb, if◌then◌else◌, nat_le, List, [], ◌∷◌, length, map, flat_map, slice_get, option_and_then, Option, Some, None, Contains, refl, ap, sym, ◌∙◌, subst, arith}
+use Rattle.std.proofs.Common.{◌≡◌, ◌≢◌, ℕ, zero, suc, ◌+◌, ◌*◌, ◌%◌, ◌<◌, ◌≤◌, ◌==◌, ◌⊎◌, inl, inr, Bool, true, false, cond, eqb, if◌then◌else◌, nat_le, List, [], ◌∷◌, length, map, flat_map, slice_get, option_and_then, Option, Some, None, Contains, refl, ap, sym, ◌∙◌, subst, arith}
 use Rattle.std.specs.Prelude.{slice_index}
 use Rattle.std.proofs.lemmas.List.{length-map}
 use Rattle.std.proofs.lemmas.Bool.Decides.{nat_tests}
@@ -75,6 +75,13 @@ attempt_name script call range there o n =
       mentions = mentioned_has script (Call call) w.0 there (i, w.1);
     }
 
+-- the first attempt goes to the first name
+pub first_number : (ns : List (List ℕ)) (o : ℕ) (call : CallLine) (name : List ℕ) → slice_get call.names 0 ≡ Some name → name_of (asked_of ns o call) 0 ≡ name_number ns name
+first_number ns o call name e = elim (length (map (name_number ns) call.names) == 1) as (λ b. slice_index (map (name_number ns) call.names) (if b then 0 else 0 % 2) ≡ name_number ns name) [
+  | true ↦ index_at ns call.names 0 name e
+  | false ↦ index_at ns call.names 0 name e
+]
+
 -- an attempt that the call may have goes to its name
 pub attempt_named : (script : List Item) (o n : ℕ) (q : Operation) (call : CallLine) (name : List ℕ) → slice_get (operations script) o ≡ Some q → q.item ≡ Call call → n ≤ call.retry → call_name call n ≡ Some name →
     label_name script (record { operation = o; attempt = n }) ≡ Some name
@@ -121,6 +128,9 @@ module _ (s : Known) where
 
   pub call_attempt : (i : ℕ) (q : Operation) (call : CallLine) → IsOp i q → q.item ≡ Call call → (n : ℕ) → NameOf s.script call i n
   call_attempt i q call there item n = attempt_name s.script call (call_range i q call there item) (in_script i q there (Call call) item) i n
+
+  pub mentions_call : (i : ℕ) (q : Operation) (call : CallLine) → IsOp i q → q.item ≡ Call call → (name : List ℕ) → Has call.names name → Has Names name
+  mentions_call i q call there item name h = mentioned_has s.script (Call call) name (in_script i q there (Call call) item) h
 
   pub call_op : (i : ℕ) (q : Operation) (call : CallLine) → q.item ≡ Call call → asks_at s.script i q ≡ Some (ops.Call (asked_of Names i call))
   call_op i q call item = ap (op_of (numbered s.script) Names (numbers_at s.script i q)) item

@@ -25,3 +25,4 @@ pub mod Targets
 pub mod LabelCounts
 pub mod Known
 pub mod LabelLines
+pub mod Lives
