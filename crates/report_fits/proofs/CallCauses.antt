@@ -345,14 +345,17 @@ module _ (g : Given) where
   abbrev pub WasAccepted : ℕ → Type 0
   WasAccepted i = (k p : ℕ) × lives.TIsAt g i 0 k p
 
+  abbrev TStandsOn : ℕ → ℕ → ℕ → Type 0
+  TStandsOn o n k = (p : ℕ) × lives.TIsAt g o n k p
+
   pub was_accepted : (i : ℕ) (q : Operation) → IsOp i q → slice_get Outcomes i ≡ Some None → WasAccepted i
   was_accepted i q there none_ =
       let a = lives.asked g i q there in
       by_told (g.run.tells.told q.client (record { number = i; op = a.0 }) (lives.task_at g i q there a.0 a.1))
     where
-      by_told : ((o : Outcome) × (slice_get Outcomes i ≡ Some (Some o))) ⊎ ((k p : ℕ) × lives.TIsAt g i 0 k p) → WasAccepted i
+      by_told : ((o : Outcome) × (slice_get Outcomes i ≡ Some (Some o))) ⊎ ((k : ℕ) × TStandsOn i 0 k) → WasAccepted i
       by_told (inl w) = absurd (let same : None ≡ Some w.0 = some_is None (Some w.0) (sym none_ ∙ w.1) in cc)
-      by_told (inr w) = w
+      by_told (inr w) = (w.0, w.1.0, w.1.1)
 
   -- which a send of the script made
   pub was_sent : (i : ℕ) (q : Operation) → IsOp i q → slice_get Outcomes i ≡ Some None → WasAccepted i → (name bytes : List ℕ) × (q.item ≡ Send name bytes)

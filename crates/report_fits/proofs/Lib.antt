@@ -26,3 +26,4 @@ pub mod LabelCounts
 pub mod Known
 pub mod LabelLines
 pub mod Lives
+pub mod CallCauses
