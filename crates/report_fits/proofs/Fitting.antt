@@ -40,40 +40,40 @@ use Rattle.report_fits.proofs.Lines as lines
 use Rattle.report_fits.proofs.Causes as causes
 
 -- what follows from both of what is said of a value, if there is one
-if_some_both : {A : Type 0} (P Q R : A → Type 0) → ((x : A) → P x → Q x → R x) → (o : Option A) → IfSome o P → IfSome o Q → IfSome o R
+pub if_some_both : {A : Type 0} (P Q R : A → Type 0) → ((x : A) → P x → Q x → R x) → (o : Option A) → IfSome o P → IfSome o Q → IfSome o R
 if_some_both P Q R f None g h = tt
 if_some_both P Q R f (Some x) g h = f x g h
 
 -- ## Two lists side by side
 
-at_zip : {A B : Type 0} (xs : List A) (ys : List B) (j : ℕ) (w : A × B) → slice_get (zip xs ys) j ≡ Some w → (slice_get xs j ≡ Some w.0) × (slice_get ys j ≡ Some w.1)
+pub at_zip : {A B : Type 0} (xs : List A) (ys : List B) (j : ℕ) (w : A × B) → slice_get (zip xs ys) j ≡ Some w → (slice_get xs j ≡ Some w.0) × (slice_get ys j ≡ Some w.1)
 at_zip [] ys j w e = absurd (cc)
 at_zip (x ∷ xs) [] j w e = absurd (cc)
 at_zip {A = A} {B = B} (x ∷ xs) (y ∷ ys) zero w e = let same = some_is (x, y) w e in (ap (λ (v : A × B). Some v.0) same, ap (λ (v : A × B). Some v.1) same)
 at_zip (x ∷ xs) (y ∷ ys) (suc j) w e = at_zip xs ys j w e
 
-zip_at : {A B : Type 0} (xs : List A) (ys : List B) (j : ℕ) (x : A) (y : B) → slice_get xs j ≡ Some x → slice_get ys j ≡ Some y → slice_get (zip xs ys) j ≡ Some (x, y)
+pub zip_at : {A B : Type 0} (xs : List A) (ys : List B) (j : ℕ) (x : A) (y : B) → slice_get xs j ≡ Some x → slice_get ys j ≡ Some y → slice_get (zip xs ys) j ≡ Some (x, y)
 zip_at [] ys j x y e f = absurd (cc)
 zip_at (a ∷ xs) [] j x y e f = absurd (cc)
 zip_at (a ∷ xs) (b ∷ ys) zero x y e f = let s = some_is a x e in let t = some_is b y f in ap (λ v. Some (v, b)) s ∙ ap (λ v. Some (x, v)) t
 zip_at (a ∷ xs) (b ∷ ys) (suc j) x y e f = zip_at xs ys j x y e f
 
-passes_some : {A : Type 0} (p : A → Bool) (o : Option A) → passes_at p o ≡ true → (x : A) × (o ≡ Some x) × (p x ≡ true)
+pub passes_some : {A : Type 0} (p : A → Bool) (o : Option A) → passes_at p o ≡ true → (x : A) × (o ≡ Some x) × (p x ≡ true)
 passes_some p None e = absurd (cc)
 passes_some p (Some x) e = (x, refl, e)
 
 -- ## Fails
 
-failed_parts : (name n : List ℕ) (code : ℕ) (o : Outcome) → is_fail_of name (Fail n code) o ≡ true → (n ≡ name) × (o ≡ Failed)
+pub failed_parts : (name n : List ℕ) (code : ℕ) (o : Outcome) → is_fail_of name (Fail n code) o ≡ true → (n ≡ name) × (o ≡ Failed)
 failed_parts name n code Failed e = ((bytes_eq-Decides n name).0 e, refl)
 failed_parts name n code other e = absurd (cc)
 
-fail_parts : (name : List ℕ) (item : Item) (o : Outcome) → is_fail_of name item o ≡ true → (code : ℕ) × (item ≡ Fail name code) × (o ≡ Failed)
+pub fail_parts : (name : List ℕ) (item : Item) (o : Outcome) → is_fail_of name item o ≡ true → (code : ℕ) × (item ≡ Fail name code) × (o ≡ Failed)
 fail_parts name (Fail n code) o e = let w = failed_parts name n code o e in (code, ap (λ x. Fail x code) w.0, w.1)
 fail_parts name other o e = absurd (cc)
 
 -- no two pairs have the same second
-pairs_once : (fails : List (ℕ × ℕ)) → EachBefore (λ (f g : ℕ × ℕ). (f.0 ≢ g.0) × (f.1 ≢ g.1)) fails → (x y k : ℕ) → Contains fails (x, k) → Contains fails (y, k) → x ≡ y
+pub pairs_once : (fails : List (ℕ × ℕ)) → EachBefore (λ (f g : ℕ × ℕ). (f.0 ≢ g.0) × (f.1 ≢ g.1)) fails → (x y k : ℕ) → Contains fails (x, k) → Contains fails (y, k) → x ≡ y
 pairs_once fails once x y k a b =
     let f = has_from fails (x, k) a in
     let g = has_from fails (y, k) b in

@@ -27,3 +27,4 @@ pub mod Known
 pub mod LabelLines
 pub mod Lives
 pub mod CallCauses
+pub mod CallFits

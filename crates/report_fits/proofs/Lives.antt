@@ -293,7 +293,7 @@ module _ (g : Given) where
     | inr (inr (inr w)) ↦ TakeFailed w
   ]
 
-  failing_by : (counts runs : ℕ → Type 0) (k : ℕ) (e : EndOf k) → ((f : ℕ) → counts f → runs f) → TFailingBy counts k → FailingBy run_of runs e.end
+  pub failing_by : (counts runs : ℕ → Type 0) (k : ℕ) (e : EndOf k) → ((f : ℕ) → counts f → runs f) → TFailingBy counts k → FailingBy run_of runs e.end
   failing_by counts runs k e map_ w = elim w [
     | inl f ↦ let Q : ℕ → Type 0 = λ x. Contains g.run.fixed.fails (f.0, x) in ByFail f.0 (map_ f.0 f.2) (subst Q (sym e.is.numbered) f.1)
     | inr (inl b) ↦ PutFailed (e.is.failed b)
