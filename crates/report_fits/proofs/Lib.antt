@@ -28,3 +28,4 @@ pub mod LabelLines
 pub mod Lives
 pub mod CallCauses
 pub mod CallFits
+pub mod CallPlaces
