@@ -29,3 +29,4 @@ pub mod Lives
 pub mod CallCauses
 pub mod CallFits
 pub mod CallPlaces
+pub mod AsCalls
