@@ -37,7 +37,7 @@ use Rattle.report_fits.proofs.Flat.{map_at, at_map, map_length, map_map}
 use Rattle.report_fits.proofs.Numbering.{are_from}
 use Rattle.report_fits.proofs.TaskLemmas.{IsTaskOf, numbers_at, task_is, call_asks, expire_asks}
 use Rattle.report_fits.proofs.Callless.{not_later}
-use Rattle.report_fits.proofs.CallPlaces.{script_fits, script_places}
+use Rattle.report_fits.proofs.Places.{script_fits, script_places}
 
 nothing_there : {A : Type 0} (x : A) → Contains [] x → ⊥
 nothing_there x h = has_none x (has_from [] x h)

@@ -39,11 +39,11 @@ use Rattle.report_fits.proofs.Numbering.{link_at, are_from}
 use Rattle.report_fits.proofs.TaskLemmas.{numbers_at, asks_at, asked_at, task_is, operation_task, tasks_length, open_asks, hold_asks, fail_asks, expire_asks, join_asks, mentions_open, mentions_send, mentions_hold, mentions_drop, mentions_fail, named_at}
 use Rattle.report_fits.proofs.Reported.{is_said, outcome_told, told_outcome, SaidOrPlaced, said_or_placed}
 use Rattle.report_fits.proofs.Targets as targets
-use Rattle.report_fits.proofs.LabelOrders.{label_of}
+use Rattle.report_fits.proofs.Orders.{label_of}
 use Rattle.report_fits.proofs.Known.{first_number, attempt_named}
 use Rattle.report_fits.proofs.Known as known
-use Rattle.report_fits.proofs.LabelLines.{Given}
-use Rattle.report_fits.proofs.LabelLines as lines
+use Rattle.report_fits.proofs.Lines.{Given}
+use Rattle.report_fits.proofs.Lines as lines
 
 -- ## Operations that seek
 
