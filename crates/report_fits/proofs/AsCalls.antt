@@ -1,13 +1,13 @@
 -- A script without calls: what is told of its run is what is told of a run with calls, in which none comes. So its report fits.
-use Rattle.std.proofs.Common.{◌≡◌, ◌≢◌, ℕ, zero, suc, ◌+◌, ◌*◌, ◌<◌, ◌≤◌, ◌%◌, ◌⊎◌, inl, inr, Bool, true, false, nat_le, List, [], ◌∷◌, ◌++◌, length, map, flat_map, take, drop, sum_by, slice_get, slice_index, Option, Some, None, Ok, Contains, refl, ap, sym, ◌∙◌, subst, arith}
+use Rattle.std.proofs.Common.{◌≡◌, ◌≢◌, ℕ, ◌*◌, ◌<◌, ◌%◌, ◌⊎◌, inl, inr, true, false, nat_le, List, [], ◌∷◌, ◌++◌, length, map, flat_map, take, drop, sum_by, slice_get, slice_index, Some, Ok, Contains, refl, ap, sym, ◌∙◌, subst, arith}
 use Rattle.std.proofs.lemmas.List.{take-map, drop-map}
 use Rattle.std.proofs.lemmas.List.Sums.{sum_by-cons}
 use Rattle.std.specs.List.{AllByRecursion}
 use Rattle.sock_words.specs.Words.{vref_version}
 use Rattle.sock_words.specs.declared.outcome.Outcome.{Outcome}
 use Rattle.sock_words.specs.declared.outcome.Outcome.TheVariants.{Opened, SlotsFull, Unopened, Gone, Full, Held, Freed, Kept, NotHeld, Failed, Already}
-use Rattle.brpc_model.specs.Items.{Item, Call, Expire, Join}
-use Rattle.brpc_model.specs.Operations.{Operation, operations, link_names}
+use Rattle.brpc_model.specs.Items.{Item}
+use Rattle.brpc_model.specs.Operations.{operations, link_names}
 use Rattle.brpc_model.specs.Order.{EachBefore, IsCut}
 use Rattle.brpc_model.specs.Places.{names}
 use Rattle.brpc_model.specs.Script.{script_of}
@@ -15,7 +15,7 @@ use Rattle.brpc_model.specs.Link.{LinkEnd}
 use Rattle.brpc_model.specs.Report.{Report, report_text}
 use Rattle.brpc_model.specs.Run.{nothing_late}
 use Rattle.brpc_model.specs.PlaceWords.{ArePlaces, HasEachOutcome}
-use Rattle.brpc_model.specs.Complete.{FitsWhole, IsUntroubled}
+use Rattle.brpc_model.specs.Complete.{FitsWhole}
 use Rattle.sock_model.specs.Layout.{place_word}
 use Rattle.sock_model.specs.Deliveries.{place_value}
 use Rattle.sock_programs.specs.declared.task.Asked.{Asked}
@@ -32,7 +32,7 @@ use Rattle.sock_programs.specs.ToldCalls.{Accepted, Order, Fixed, ToldCalls, Are
 use Rattle.sock_programs.specs.ToldCalls as told
 use Rattle.report_fits.specs.Calm.{IsCalm}
 use Rattle.report_fits.specs.Ends.{AreEnds, AreEndsOf, AreTold}
-use Rattle.report_fits.proofs.Lists.{Has, has_from, has_none, all_from, all_at, before_from, before_at}
+use Rattle.report_fits.proofs.Lists.{has_from, has_none, all_from, all_at, before_from, before_at}
 use Rattle.report_fits.proofs.Flat.{map_at, at_map, map_length, map_map}
 use Rattle.report_fits.proofs.Numbering.{are_from}
 use Rattle.report_fits.proofs.TaskLemmas.{IsTaskOf, numbers_at, task_is, call_asks, expire_asks}

@@ -1,23 +1,20 @@
 -- Why each operation of a script has its outcome, as a report has to say it: sends, calls, `expire` and `join`.
-use Rattle.std.proofs.Common.{◌≡◌, ◌≢◌, ℕ, zero, suc, ◌+◌, ◌<◌, ◌≤◌, ◌%◌, ◌*◌, ◌⊎◌, inl, inr, Bool, true, false, if◌then◌else◌, nat_le, List, [], length, slice_get, Option, Some, None, Contains, refl, ap, sym, ◌∙◌, subst, arith}
+use Rattle.std.proofs.Common.{◌≡◌, ◌≢◌, ℕ, ◌+◌, ◌<◌, ◌≤◌, ◌*◌, ◌⊎◌, inl, inr, Bool, true, false, if◌then◌else◌, nat_le, List, length, slice_get, Option, Some, None, Contains, refl, ap, sym, ◌∙◌, subst, arith}
 use Rattle.std.proofs.lemmas.Bool.Decides.{nat_tests}
 use Rattle.std.proofs.lemmas.Option.{slice_get_within}
 use Rattle.std.specs.Prelude.{pos}
 use Rattle.sock_words.specs.Words.{vref_version}
 use Rattle.sock_words.specs.declared.outcome.Outcome.{Outcome}
 use Rattle.sock_words.specs.declared.outcome.Outcome.TheVariants.{Unopened, Gone, Placed, Dropped, Full, Answered, Peer, CallFailed, Failed, Expired, Queued, Late, Crowded, Joined, NotBegun}
-use Rattle.sock_words.specs.declared.place_word.PlaceWord.{PlaceWord}
-use Rattle.brpc_model.specs.Items.{Item, Open, Send, Call, Expire, Join, Fail, Hold, Drop, CallLine, is_open, attempts_of, call_name}
-use Rattle.brpc_model.specs.Operations.{Operation, Label, operations, clients, link_names, requests, name_of as label_name}
+use Rattle.brpc_model.specs.Items.{Item, Open, Send, Call, Expire, Join, Fail, Hold, Drop, CallLine, is_open, attempts_of}
+use Rattle.brpc_model.specs.Operations.{Operation, Label, operations, clients, link_names}
 use Rattle.brpc_model.specs.Places.{names}
 use Rattle.brpc_model.specs.Frame.{Frame}
-use Rattle.brpc_model.specs.Link.{LinkEnd}
-use Rattle.brpc_model.specs.Report.{LinkLine}
 use Rattle.brpc_model.specs.PlaceWords.{word_at, outcome_by_word}
 use Rattle.brpc_model.specs.Attempts.{attempt, IsTried, MayBeOn, EndedWith, WhyLost, WhyAgain, WasDropped, FoundNoSocket, FoundNoRequest, IsAnsweredBy, IsResponse, HasCode, FailedBy, IsExpiredWith, IsFailedWith}
 use Rattle.brpc_model.specs.Attempts as attempts
 use Rattle.brpc_model.specs.Run.{IsOperation, HasOutcome, BecameSocket, StandsAt, IsUnordered, GaveFrame}
-use Rattle.brpc_model.specs.Causes.{HasFault, ReadingEnded, Early, AtClosed, AtSilence, FailingBy, Failing, OfLink, MayFindNone, MayBeFull}
+use Rattle.brpc_model.specs.Causes.{HasFault, ReadingEnded, Early, AtClosed, AtSilence, Failing, OfLink, MayBeFull}
 use Rattle.brpc_model.specs.Outcomes.{SendCause, CallCause, ExpireCause, JoinCause, HasBegun, MayNotHaveBegun, IsTarget, Cause}
 use Rattle.sock_programs.specs.declared.task.Op.{Op}
 use Rattle.sock_programs.specs.declared.task.Op.TheVariants as ops
@@ -29,10 +26,10 @@ use Rattle.sock_programs.specs.Scripts.{all_tasks}
 use Rattle.sock_programs.specs.Told.{IsTask, Made}
 use Rattle.sock_programs.specs.ToldCalls as told
 use Rattle.sock_programs.specs.ToldCalls.{Accepted, all_accepted, label}
-use Rattle.report_fits.proofs.Lists.{Has, within, some_is, contains_from, has_from}
+use Rattle.report_fits.proofs.Lists.{Has, some_is, has_from}
 use Rattle.report_fits.proofs.Names.{same_name}
 use Rattle.report_fits.proofs.Numbering.{are_from}
-use Rattle.report_fits.proofs.TaskLemmas.{numbers_at, asks_at, task_is, tasks_length, fail_asks, expire_asks, mentions_send, mentions_hold, mentions_drop, mentions_fail}
+use Rattle.report_fits.proofs.TaskLemmas.{numbers_at, task_is, tasks_length, fail_asks, expire_asks, mentions_send, mentions_hold, mentions_drop, mentions_fail}
 use Rattle.report_fits.proofs.Reported.{SaidOrPlaced}
 use Rattle.report_fits.proofs.Targets as targets
 use Rattle.report_fits.proofs.Orders.{label_of}

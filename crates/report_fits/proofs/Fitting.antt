@@ -7,16 +7,16 @@ use Rattle.std.proofs.lemmas.Slice.Eq.{bytes_eq-Decides}
 use Rattle.std.specs.List.{AllByRecursion}
 use Rattle.sock_words.specs.declared.outcome.Outcome.{Outcome}
 use Rattle.sock_words.specs.declared.outcome.Outcome.TheVariants.{Opened, Unopened, Gone, Full, Placed, Dropped, Failed, Expired}
-use Rattle.brpc_model.specs.Items.{Item, Send, Call, Expire, Fail, CallLine, sought_name, name_at}
+use Rattle.brpc_model.specs.Items.{Item, Send, Call, Expire, Fail, CallLine, sought_name}
 use Rattle.brpc_model.specs.Operations.{Operation, Label, operations, link_names, name_of as label_name}
 use Rattle.brpc_model.specs.Places.{names}
 use Rattle.brpc_model.specs.Messages.{id_at, shown_id}
 use Rattle.brpc_model.specs.Link.{LinkEnd}
-use Rattle.brpc_model.specs.Report.{LinkLine, Report, report_text}
+use Rattle.brpc_model.specs.Report.{LinkLine, report_text}
 use Rattle.brpc_model.specs.PlaceWords.{word_at, outcome_by_word, took_at}
-use Rattle.brpc_model.specs.Run.{Run, Lateness, IsOperation, HasOutcome, IsLinkOf, BecameSocket, AreGiven, StandsIn}
+use Rattle.brpc_model.specs.Run.{Run, IsOperation, HasOutcome, IsLinkOf, BecameSocket, AreGiven, StandsIn}
 use Rattle.brpc_model.specs.Order.{EachBefore, TookInOrder, InOwnOrder}
-use Rattle.brpc_model.specs.Causes.{AreFails, FailingBy}
+use Rattle.brpc_model.specs.Causes.{AreFails}
 use Rattle.brpc_model.specs.Attempts.{attempt}
 use Rattle.brpc_model.specs.Outcomes.{SendCause, Cause}
 use Rattle.brpc_model.specs.Fits.{FitsLink, FitsOnce, FitsRun, IsMade, Shows, AreApart, count_outcomes, is_fail_of, is_open_of}
@@ -29,10 +29,9 @@ use Rattle.sock_programs.specs.Told.{Made}
 use Rattle.sock_programs.specs.ToldCalls as told
 use Rattle.sock_programs.specs.ToldCalls.{Accepted, label as number_of_label}
 use Rattle.report_fits.specs.Calm.{IsCalm}
-use Rattle.report_fits.proofs.Lists.{Has, within, some_is, contains_from, has_from, all_from, all_at, all_map, before_from, before_at}
+use Rattle.report_fits.proofs.Lists.{within, some_is, contains_from, has_from, all_from, all_at, all_map, before_from, before_at}
 use Rattle.report_fits.proofs.Flat.{flat_before}
 use Rattle.report_fits.proofs.Counting.{HasPlace, places, passing, passing_length, passing_pass, passing_apart, Passes, passes_at, count_tally}
-use Rattle.report_fits.proofs.Numbering.{are_from}
 use Rattle.report_fits.proofs.TaskLemmas.{numbers_at, asks_at}
 use Rattle.report_fits.proofs.Reported.{is_said, outcomes_length, untold_outcome, SaidOrPlaced}
 use Rattle.report_fits.proofs.Orders as orders

@@ -1,5 +1,5 @@
 -- A script that was read and what is told of its run: its calls, the names of their attempts, and the messages that links accepted.
-use Rattle.std.proofs.Common.{◌≡◌, ◌≢◌, ℕ, zero, suc, ◌+◌, ◌*◌, ◌%◌, ◌<◌, ◌≤◌, ◌==◌, ◌⊎◌, inl, inr, Bool, true, false, cond, eqb, if◌then◌else◌, nat_le, List, [], ◌∷◌, length, map, flat_map, slice_get, option_and_then, Option, Some, None, Contains, refl, ap, sym, ◌∙◌, subst, arith}
+use Rattle.std.proofs.Common.{◌≡◌, ◌≢◌, ℕ, zero, suc, ◌+◌, ◌*◌, ◌%◌, ◌<◌, ◌≤◌, ◌==◌, ◌⊎◌, inl, inr, Bool, true, false, cond, eqb, if◌then◌else◌, nat_le, List, [], ◌∷◌, length, map, flat_map, slice_get, option_and_then, Option, Some, None, refl, ap, sym, ◌∙◌, subst, arith}
 use Rattle.std.specs.Prelude.{slice_index}
 use Rattle.std.proofs.lemmas.List.{length-map}
 use Rattle.std.proofs.lemmas.Bool.Decides.{nat_tests}
@@ -7,13 +7,12 @@ use Rattle.std.proofs.lemmas.Option.{slice_get_within}
 use Rattle.std.specs.List.{AllByRecursion}
 use Rattle.sock_words.specs.declared.outcome.Outcome.{Outcome}
 use Rattle.brpc_model.specs.Items.{Item, Send, Call, CallLine, attempts_of, call_name, name_at}
-use Rattle.brpc_model.specs.Operations.{Operation, Label, operations, link_names, attempts, name_of as label_name}
+use Rattle.brpc_model.specs.Operations.{Operation, operations, link_names, attempts, name_of as label_name}
 use Rattle.brpc_model.specs.Frame.{frame_bytes}
 use Rattle.brpc_model.specs.Messages.{request_frame, shown_id}
 use Rattle.brpc_model.specs.Order.{EachBefore}
 use Rattle.brpc_model.specs.Places.{names}
 use Rattle.sock_programs.specs.declared.task.Asked.{Asked}
-use Rattle.sock_programs.specs.declared.task.Op.{Op}
 use Rattle.sock_programs.specs.declared.task.Op.TheVariants as ops
 use Rattle.sock_programs.specs.declared.task.Task.{Task}
 use Rattle.sock_programs.specs.Attempts.{name_of, frame_of}
@@ -21,7 +20,7 @@ use Rattle.sock_programs.specs.Cores.{Core}
 use Rattle.sock_programs.specs.Runs.{from_to}
 use Rattle.sock_programs.specs.Tasks.{name_number, numbered, asked_of, op_of, plan_of}
 use Rattle.sock_programs.specs.Scripts.{all_tasks}
-use Rattle.sock_programs.specs.Told.{IsTask, Became, Made}
+use Rattle.sock_programs.specs.Told.{IsTask, Made}
 use Rattle.sock_programs.specs.ToldCalls.{Accepted, Order, StandsAt, Fixed, ToldCalls, IsSent, OfSend, OfCall, StandsOn, all_accepted, label}
 use Rattle.report_fits.specs.Limits.{KeepsLimits}
 use Rattle.report_fits.proofs.Lists.{Has, within, some_is, all_from, all_at, before_from}

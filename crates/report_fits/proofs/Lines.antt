@@ -1,15 +1,14 @@
 -- The lines of a report are those of the orders of the links.
-use Rattle.std.proofs.Common.{◌≡◌, ℕ, ◌+◌, ◌<◌, ◌≤◌, ◌*◌, Bool, if◌then◌else◌, nat_le, List, [], ◌++◌, length, take, drop, map, flat_map, sum_by, slice_get, slice_index_or, unwrap_or, option_map, option_and_then, inl, inr, Option, Some, ap, sym, ◌∙◌, subst, arith}
+use Rattle.std.proofs.Common.{◌≡◌, ℕ, ◌+◌, ◌<◌, ◌≤◌, Bool, if◌then◌else◌, nat_le, List, [], ◌++◌, length, take, drop, map, flat_map, sum_by, slice_get, slice_index_or, unwrap_or, option_map, option_and_then, inl, inr, Option, Some, ap, sym, ◌∙◌, subst, arith}
 use Rattle.std.proofs.lemmas.List.{take-map, drop-map}
 use Rattle.std.proofs.lemmas.Option.{slice_get_within}
 use Rattle.sock_words.specs.declared.outcome.Outcome.{Outcome}
 use Rattle.sock_words.specs.declared.outcome.Outcome.TheVariants.{Placed, Dropped}
 use Rattle.sock_words.specs.declared.place_word.PlaceWord.{PlaceWord}
 use Rattle.sock_words.specs.Words.{IsPlaceWord, place_word_link, place_word_position}
-use Rattle.brpc_model.specs.Items.{Item, Send, Call}
-use Rattle.brpc_model.specs.Operations.{Operation, Label, operations, link_names}
-use Rattle.brpc_model.specs.Frame.{frame_bytes}
-use Rattle.brpc_model.specs.Messages.{message, written, id_at, shown_id, request_frame}
+use Rattle.brpc_model.specs.Items.{Call}
+use Rattle.brpc_model.specs.Operations.{Operation, Label, link_names}
+use Rattle.brpc_model.specs.Messages.{message, written, id_at, shown_id}
 use Rattle.brpc_model.specs.Link.{LinkEnd}
 use Rattle.brpc_model.specs.Order.{IsCut}
 use Rattle.brpc_model.specs.Report.{LinkLine, Report}

@@ -1,33 +1,26 @@
 -- The lives of a run with calls: what is told of names and sockets, as a report has to say it.
-use Rattle.std.proofs.Common.{◌≡◌, ◌≢◌, ℕ, zero, suc, ◌+◌, ◌<◌, ◌≤◌, ◌%◌, ◌*◌, ◌⊎◌, inl, inr, Bool, true, false, if◌then◌else◌, nat_le, List, [], length, count_by, slice_get, Option, Some, None, Contains, refl, ap, sym, ◌∙◌, subst, arith}
-use Rattle.std.proofs.lemmas.Bool.Decides.{nat_tests}
+use Rattle.std.proofs.Common.{◌≡◌, ◌≢◌, ℕ, ◌<◌, ◌≤◌, ◌%◌, ◌⊎◌, inl, inr, Bool, true, List, length, count_by, slice_get, Some, Contains, refl, ap, sym, ◌∙◌, subst, arith}
 use Rattle.std.proofs.lemmas.Option.{slice_get_within}
 use Rattle.std.specs.List.{AllByRecursion}
-use Rattle.std.specs.Prelude.{pos}
 use Rattle.sock_words.specs.Words.{vref_version}
 use Rattle.sock_words.specs.declared.outcome.Outcome.{Outcome}
-use Rattle.sock_words.specs.declared.outcome.Outcome.TheVariants.{Opened, SlotsFull, Unopened, Gone, Placed, Dropped, Full, Answered, Peer, CallFailed, Held, Freed, Kept, NotHeld, Failed, Already, Expired, Queued, Late, Crowded, Joined, NotBegun}
+use Rattle.sock_words.specs.declared.outcome.Outcome.TheVariants.{Opened, SlotsFull, Unopened, Gone, Held, Freed, Kept, NotHeld, Failed, Already}
 use Rattle.sock_words.specs.declared.place_word.PlaceWord.{PlaceWord}
-use Rattle.brpc_model.specs.Items.{Item, Open, Send, Call, Expire, Join, Fail, Hold, Drop, CallLine, Shape, is_open, is_call, sought_name, attempts_of}
-use Rattle.brpc_model.specs.Operations.{Operation, operations, clients, link_names, slots, requests, name_of as label_name}
+use Rattle.brpc_model.specs.Items.{Item, Open, Send, Call, Fail, Hold, Shape, is_open, sought_name}
+use Rattle.brpc_model.specs.Operations.{Operation, operations, link_names, slots, requests}
 use Rattle.brpc_model.specs.Places.{names}
 use Rattle.brpc_model.specs.Frame.{Frame}
 use Rattle.brpc_model.specs.Link.{LinkEnd}
-use Rattle.brpc_model.specs.Report.{Report}
-use Rattle.brpc_model.specs.PlaceWords.{word_at, outcome_by_word}
-use Rattle.brpc_model.specs.Attempts.{attempt}
-use Rattle.brpc_model.specs.Attempts as attempts
-use Rattle.brpc_model.specs.Run.{Run, Story, Lateness, IsOperation, HasOutcome, IsLinkOf, BecameSocket, HasSocket, StandsAt, IsUnordered, GaveFrame}
-use Rattle.brpc_model.specs.Causes.{HasFault, EndedEarly, GaveItsEnd, GaveAFault, GaveTheMost, TakeFailed, ReadingEnded, Early, AtClosed, AtSilence, FailingBy, PutFailed, WasFailed as ByFail, ReadEarly, BornLate, FailingFor, Failing, OfLink, MayFindNone, MayBeFull, Opens, IsNoLater}
-use Rattle.brpc_model.specs.Outcomes.{FoundFailed as RunFoundFailed, AfterHold as RunAfterHold, OpenCause, SendCause, HoldCause, FailCause, DropCause, CallCause, ExpireCause, JoinCause, HasBegun as RunHasBegun, MayNotHaveBegun as RunMayNotHaveBegun, IsTarget as RunIsTarget, Cause, EachSlotOpened}
+use Rattle.brpc_model.specs.Run.{Run, Story, Lateness, IsOperation, HasOutcome, IsLinkOf, BecameSocket, HasSocket}
+use Rattle.brpc_model.specs.Causes.{HasFault, EndedEarly, GaveItsEnd, GaveAFault, GaveTheMost, TakeFailed, FailingBy, PutFailed, WasFailed as ByFail, ReadEarly, BornLate, FailingFor, Failing, OfLink, MayFindNone, Opens, IsNoLater}
+use Rattle.brpc_model.specs.Outcomes.{FoundFailed as RunFoundFailed, AfterHold as RunAfterHold, OpenCause, HoldCause, FailCause, DropCause, EachSlotOpened}
 use Rattle.sock_programs.specs.declared.task.Op.{Op}
 use Rattle.sock_programs.specs.declared.task.Op.TheVariants as ops
 use Rattle.sock_programs.specs.declared.task.Task.{Task}
 use Rattle.sock_programs.specs.declared.task.Asked.{Asked}
-use Rattle.sock_programs.specs.Attempts.{name_of}
 use Rattle.sock_programs.specs.Cores.{Core}
-use Rattle.sock_programs.specs.Tasks.{Numbered, numbered, name_number, number_of, asked_of, op_of, plan_of}
-use Rattle.sock_programs.specs.Scripts.{all_tasks, place_words}
+use Rattle.sock_programs.specs.Tasks.{Numbered, numbered, name_number, asked_of, op_of, plan_of}
+use Rattle.sock_programs.specs.Scripts.{all_tasks}
 use Rattle.sock_programs.specs.Told.{IsTask, Made, OpensNone, AfterHold, HasLife, EachOpened, IsFail}
 use Rattle.sock_programs.specs.ToldCalls as told
 use Rattle.sock_programs.specs.ToldCalls.{Accepted, Fixed, all_accepted, label}
@@ -35,11 +28,9 @@ use Rattle.report_fits.specs.Ends.{IsEndOf}
 use Rattle.report_fits.proofs.Lists.{Has, within, some_is, contains_from, has_from, all_at, all_map}
 use Rattle.report_fits.proofs.Counting.{but, but_other, one_less, HasPlace, places, passing, passing_length, passing_pass, passing_apart, Passes, passes_at, tally_all, count_tally}
 use Rattle.report_fits.proofs.Names.{same_name}
-use Rattle.report_fits.proofs.Numbering.{link_at, are_from}
-use Rattle.report_fits.proofs.TaskLemmas.{numbers_at, asks_at, asked_at, task_is, operation_task, tasks_length, open_asks, hold_asks, fail_asks, expire_asks, join_asks, mentions_open, mentions_send, mentions_hold, mentions_drop, mentions_fail, named_at}
+use Rattle.report_fits.proofs.Numbering.{link_at}
+use Rattle.report_fits.proofs.TaskLemmas.{numbers_at, asks_at, asked_at, task_is, operation_task, open_asks, hold_asks, fail_asks, mentions_open, mentions_hold, mentions_fail, named_at}
 use Rattle.report_fits.proofs.Reported.{is_said, outcome_told, told_outcome, SaidOrPlaced, said_or_placed}
-use Rattle.report_fits.proofs.Targets as targets
-use Rattle.report_fits.proofs.Orders.{label_of}
 use Rattle.report_fits.proofs.Known.{first_number, attempt_named}
 use Rattle.report_fits.proofs.Known as known
 use Rattle.report_fits.proofs.Lines.{Given}

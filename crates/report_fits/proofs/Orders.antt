@@ -4,7 +4,7 @@ use Rattle.std.proofs.lemmas.Bool.Decides.{nat_tests}
 use Rattle.std.proofs.lemmas.Option.{slice_get_within, slice_get_past}
 use Rattle.sock_words.specs.declared.plain.Plan.{Plan}
 use Rattle.sock_words.specs.declared.place_word.PlaceWord.{PlaceWord}
-use Rattle.sock_words.specs.Words.{no_place, HasPosition, IsPlaceWord, place_word_dropped}
+use Rattle.sock_words.specs.Words.{no_place, HasPosition, IsPlaceWord}
 use Rattle.brpc_model.specs.Operations.{Label}
 use Rattle.brpc_model.specs.Report.{LinkLine}
 use Rattle.brpc_model.specs.PlaceWords.{word_at, word_of, StandsAt as Stands, IsOrder, is_placed, IsLineOf, ArePlaces}

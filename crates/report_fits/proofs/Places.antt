@@ -1,5 +1,5 @@
 -- What a run with calls leaves can be printed, and its report fits, where its script was read.
-use Rattle.std.proofs.Common.{◌≡◌, ℕ, ◌+◌, ◌<◌, ◌≤◌, ◌*◌, ◌⊎◌, inl, inr, List, length, slice_get, Option, Some, None, Ok, sym, ◌∙◌, subst, arith}
+use Rattle.std.proofs.Common.{◌≡◌, ℕ, ◌≤◌, ◌*◌, ◌⊎◌, inl, inr, List, length, slice_get, Some, None, Ok, sym, ◌∙◌, subst, arith}
 use Rattle.std.proofs.lemmas.Option.{slice_get_within}
 use Rattle.sock_words.specs.Words.{HasPosition}
 use Rattle.sock_words.specs.declared.outcome.Outcome.{Outcome}
@@ -24,7 +24,6 @@ use Rattle.report_fits.proofs.Targets.{are_there}
 use Rattle.report_fits.proofs.Orders as orders
 use Rattle.report_fits.proofs.Known.{Known}
 use Rattle.report_fits.proofs.Known as known
-use Rattle.report_fits.proofs.Lines.{Given}
 use Rattle.report_fits.proofs.Fitting.{fits}
 
 module _ (s : Known) where

@@ -1,12 +1,12 @@
 -- The calls that `expire` and `join` name: each stands in the script, and by client and number it is one operation.
-use Rattle.std.proofs.Common.{◌≡◌, ◌≢◌, ℕ, zero, suc, ◌+◌, ◌<◌, ◌≤◌, ◌==◌, ◌&&◌, ◌||◌, ◌⊎◌, inl, inr, Bool, true, false, not, cond, if◌then◌else◌, List, [], ◌∷◌, fold, filter_map, position, length, nat_lt, slice_get, Option, Some, None, Ok, Err, refl, ap, sym, ◌∙◌, subst, arith}
+use Rattle.std.proofs.Common.{◌≡◌, ℕ, zero, suc, ◌+◌, ◌<◌, ◌≤◌, ◌==◌, ◌&&◌, ◌||◌, ◌⊎◌, inl, inr, Bool, true, false, not, cond, if◌then◌else◌, List, [], ◌∷◌, fold, position, length, nat_lt, slice_get, Option, Some, None, Ok, Err, refl, ap, sym, ◌∙◌, subst, arith}
 use Rattle.std.proofs.lemmas.Bool.Decides.{nat_tests}
 use Rattle.std.specs.List.{list_any, position_or_len}
 use Rattle.std.specs.Str.Lines.{lines}
 use Rattle.brpc_model.specs.Items.{Item, Expire, Join, is_open, is_call}
 use Rattle.brpc_model.specs.Operations.{Operation, operations_from, operations}
 use Rattle.brpc_model.specs.Script.{Faulty, items, with_line, whole, fault_at, says, is_lost, may_hang, is_the_call, script_of}
-use Rattle.sock_programs.specs.Tasks.{Numbered, numbered, numbered_from, number_of}
+use Rattle.sock_programs.specs.Tasks.{numbered, numbered_from, number_of}
 use Rattle.report_fits.proofs.Lists.{Has, has_first, has_later, has_none, some_is, filter_map_has}
 use Rattle.report_fits.proofs.Numbering.{behind_item}
 
@@ -177,9 +177,12 @@ none_passes test xs x e h = elim (test x) as (λ b. test x ≡ b → b ≡ false
 none_lost : (said : List (Option Item)) (script : List Item) (o : Option ℕ) → position (says (is_lost (items said))) said ≡ o → fault_at o 10 (fault_at (position (says (may_hang (items said))) said) 11 (Ok (items said))) ≡ Ok script →
     (items said ≡ script) × AreThere (items said)
 none_lost said script (Some place) p e = absurd (cc)
-none_lost said script None p e = (kept (position (says (may_hang (items said))) said) e, λ item h.
-    let w = filter_map_has (λ (i : Option Item). i) said item h in
-    sym (ap (says (is_lost (items said))) w.2) ∙ none_passes (says (is_lost (items said))) said w.0 p w.1)
+none_lost said script None p e = (
+  kept (position (says (may_hang (items said))) said) e,
+  λ item h.
+      let w = filter_map_has (λ (i : Option Item). i) said item h in
+      sym (ap (says (is_lost (items said))) w.2) ∙ none_passes (says (is_lost (items said))) said w.0 p w.1,
+)
   where
     kept : (o : Option ℕ) → fault_at o 11 (Ok (items said)) ≡ Ok script → items said ≡ script
     kept (Some place) f = absurd (cc)
