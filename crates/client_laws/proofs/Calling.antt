@@ -1,5 +1,5 @@
 -- The program of a call is allowed, as far as the sockets go: its attempt addresses a life, and its message is accepted and written as that of a send is.
-use Rattle.std.proofs.Common.{◌≡◌, ◌≢◌, ℕ, zero, suc, ◌+◌, ◌*◌, ◌-◌, ◌/◌, ◌%◌, ◌<◌, ◌≤◌, Bool, true, false, List, [], ◌∷◌, ◌++◌, length, refl, sym, ap, subst, inl, inr, arith, cond, eqb, Option, Some, None}
+use Rattle.std.proofs.Common.{◌≡◌, ◌≢◌, ℕ, zero, suc, ◌+◌, ◌*◌, ◌-◌, ◌/◌, ◌%◌, ◌<◌, ◌≤◌, Bool, true, false, List, [], ◌∷◌, ◌++◌, length, refl, sym, subst, inl, inr, arith, cond, eqb}
 use mathlib.Core.List.{cons-ne-nil}
 use Rattle.sock_words.specs.declared.plain.Plan.{Plan}
 use Rattle.sock_words.specs.Words.{socket_id_version, socket_id_slot, vref_version, at_word}
@@ -9,14 +9,13 @@ use Rattle.sock_model.specs.declared.chain.Heading.{Heading}
 use Rattle.sock_model.specs.declared.marks.Mark.TheVariants.{Hold, Saw, Met}
 use Rattle.sock_model.specs.declared.view.View.{View}
 use Rattle.sock_model.specs.Weights.{is_hold, is_met}
-use Rattle.sock_model.specs.SlotRows.{marks_of, looked, met_link}
+use Rattle.sock_model.specs.SlotRows.{looked, met_link}
 use Rattle.sock_model.specs.ChainRows.{with_claim}
-use Rattle.sock_model.specs.Rule.{MOST_ACCEPTED}
 use Rattle.slot_laws.proofs.Numbers.{only-same}
 use Rattle.corr_core.specs.Word.{parts}
 use Rattle.sock_programs.specs.declared.task.Asked.{Asked}
-use Rattle.sock_programs.specs.Asides.{StoreAt, PutCall, MakeId, StoreCall, ClaimId, call_id, id_first, id_slot}
-use Rattle.sock_programs.specs.Programs.{Program, Do, Say, Aside, address, release}
+use Rattle.sock_programs.specs.Asides.{StoreAt, call_id, id_first, id_slot}
+use Rattle.sock_programs.specs.Programs.{Program, Do, Say, Aside, release}
 use Rattle.sock_programs.specs.Calls.{FindLink, LookWord}
 use Rattle.sock_programs.specs.Sends.{accept}
 use Rattle.sock_programs.specs.Clients.{HeldLife}
@@ -30,7 +29,7 @@ use Rattle.sock_runs.specs.Rows.{by_right, looked_clean, new_claim}
 use Rattle.sock_runs.specs.May.{Knows}
 use Rattle.sock_runs.specs.GoesOn.{GoesOn}
 use Rattle.sock_runs.proofs.Passes.{post_goes, way}
-use Rattle.sock_runs.specs.Has.{Has, OfTokens}
+use Rattle.sock_runs.specs.Has.{Has}
 use Rattle.client_laws.proofs.Has.{about_top, at_slot, of_hold}
 use Rattle.client_laws.proofs.Steps.{noted, first, loads_name}
 use Rattle.client_laws.proofs.Sending.{accept_goes}
@@ -93,7 +92,7 @@ module _ (p : Plan) (made : List Entry) (held : List HeldLife) (passes : List �
       looks : {w : View} → Has (made ∷ []) (socket_id_slot socket) (Hold (socket_id_version socket) ∷ []) held passes [] w → GoesOn p w (Do (LookWord socket) (λ found.
           cond (eqb (vref_version found % 2) 0) (claims_from p.requests 0 socket (heading_for asked id n) (frame_of asked id n) (post id 3001 n (release (socket_id_slot socket) (λ _. next))) (release (socket_id_slot socket) (λ _. next))) (post id 1009 n (release (socket_id_slot socket) (λ _. next)))))
       looks {w} c = let i : ℕ = socket_id_slot socket in (
-        (knows.0, inl c.quiet.rights),
+        (knows.0, inl c.quiet.rights, first (Hold (socket_id_version socket)) c (is_hold (socket_id_version socket)) (of_hold (socket_id_version socket)) (only-same (socket_id_version socket))),
         λ found hand f. let d = noted c (Saw (vref_version found)) (λ g o. o.saw (vref_version found)) in let rest : Program = release (socket_id_slot socket) (λ _. next) in
             let yes : Program = claims_from p.requests 0 socket (heading_for asked id n) (frame_of asked id n) (post id 3001 n (release (socket_id_slot socket) (λ _. next))) (release (socket_id_slot socket) (λ _. next)) in let no : Program = post id 1009 n (release (socket_id_slot socket) (λ _. next)) in
             subst (λ rs. GoesOn p (by_right rs (looked_clean (socket_id_slot socket) found w) (looked (socket_id_slot socket) found w)) (cond (eqb (vref_version found % 2) 0) yes no)) (sym c.quiet.rights)

@@ -8,7 +8,7 @@ use native.Mathlib.Decide.{ℕ_discrete}
 use Rattle.sock_words.specs.Words.{socket_id_version, socket_id_slot}
 use Rattle.sock_model.specs.declared.chain.Entry.{Entry}
 use Rattle.sock_model.specs.declared.marks.Mark.{Mark}
-use Rattle.sock_model.specs.declared.marks.Mark.TheVariants.{Recycling, Hold, Tried, Known, Born, Saw, Failer, Stored, Told, Freer, Linked, Met}
+use Rattle.sock_model.specs.declared.marks.Mark.TheVariants.{Recycling, Hold}
 use Rattle.sock_model.specs.declared.marks.SlotMark.{SlotMark}
 use Rattle.sock_model.specs.declared.view.View.{View}
 use Rattle.sock_model.specs.declared.view.Hand.{Hand}
@@ -18,7 +18,7 @@ use Rattle.sock_model.specs.SlotRows.{marks_of}
 use Rattle.sock_programs.specs.Programs.{LAST_VERSION}
 use Rattle.sock_programs.specs.Clients.{HeldLife}
 use Rattle.sock_runs.specs.GoesOn.{HasNothing}
-use Rattle.sock_runs.specs.Has.{IsQuiet, OfTokens, Idle, holds, Has}
+use Rattle.sock_runs.specs.Has.{IsQuiet, OfTokens, holds, Has}
 use Rattle.sock_runs.specs.May.{KeepsRights}
 use Rattle.slot_laws.proofs.Sums.{total_mono, about-here, about-other}
 use Rattle.slot_laws.proofs.Numbers.{only-else}

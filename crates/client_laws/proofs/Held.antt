@@ -15,7 +15,6 @@ use Rattle.sock_programs.specs.Clients.{HeldLife, held_under, without_name}
 use Rattle.slot_laws.proofs.Numbers.{only-at, only-else}
 use Rattle.sock_runs.specs.Has.{holds}
 
-
 -- the life's slot is one of the table
 abbrev pub IsInTable : Plan → HeldLife → Type 0
 IsInTable p h = socket_id_slot h.id < p.slots

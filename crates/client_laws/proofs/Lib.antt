@@ -7,3 +7,12 @@ pub mod Calling
 pub mod Retrying
 pub mod Clients
 pub mod Reading
+pub mod Beginning
+pub mod Passes
+pub mod Opens
+pub mod Whole
+pub mod OpCosts
+pub mod ReaderCosts
+pub mod Few
+pub mod Lasting
+pub mod Fresh

@@ -1,18 +1,16 @@
 -- A reader is allowed.
-use Rattle.std.proofs.Common.{◌≡◌, ◌≢◌, ℕ, zero, suc, ◌+◌, ◌-◌, ◌*◌, ◌%◌, ◌/◌, ◌<◌, ◌≤◌, ◌&&◌, Bool, true, false, cond, eqb, nat_lt, ne_eqb, List, [], ◌∷◌, length, refl, sym, ap, ◌∙◌, subst, inr, arith}
+use Rattle.std.proofs.Common.{ℕ, ◌-◌, ◌<◌, ◌&&◌, false, cond, eqb, nat_lt, ne_eqb, List, [], ◌∷◌, length, refl, sym, subst, arith}
 use Rattle.sock_words.specs.declared.plain.Plan.{Plan}
-use Rattle.sock_words.specs.Words.{socket_id_slot, socket_id_version, at_word_first, at_word_slot, at_word_link, at_word_attempt}
+use Rattle.sock_words.specs.Words.{socket_id_slot, at_word_first, at_word_slot, at_word_link, at_word_attempt}
 use Rattle.sock_model.specs.declared.chain.Entry.{Entry}
-use Rattle.sock_model.specs.declared.marks.Mark.TheVariants.{Hold}
 use Rattle.sock_model.specs.declared.view.View.{View}
 use Rattle.corr_core.specs.Word.{parts, error_of}
 use Rattle.brpc_model.specs.Frame.{Frame}
-use Rattle.sock_programs.specs.Clients.{HeldLife}
-use Rattle.sock_programs.specs.Asides.{LoadAt, call_id, id_slot, id_first}
-use Rattle.sock_programs.specs.Heads.{Reading, Opens, Reads, Discards, Posting, WasGone, WasStale, WasCrowded, WasQueued, HasLocked, Ended}
-use Rattle.sock_programs.specs.Programs.{Program, Do, Say, Rest, Aside, Round, NO_SOCKET, address, release, set_failed}
-use Rattle.sock_programs.specs.Posts.{post_with, decide, decided, end_id}
-use Rattle.sock_programs.specs.Readers.{LIMIT, slot_in, ending_of, answer, kept_for, ends_with, posted_last, post_each, thrown_away, read, reader}
+use Rattle.sock_programs.specs.Asides.{call_id, id_first}
+use Rattle.sock_programs.specs.Heads.{Reads, Discards, Posting, WasGone, WasStale, WasCrowded, WasQueued, HasLocked, Ended}
+use Rattle.sock_programs.specs.Programs.{Program, Rest, Round, NO_SOCKET, address, release, set_failed}
+use Rattle.sock_programs.specs.Posts.{post_with, decided}
+use Rattle.sock_programs.specs.Readers.{LIMIT, kept_for, ends_with, posted_last, post_each, thrown_away, read, reader}
 use Rattle.sock_runs.specs.May.{Knows}
 use Rattle.sock_runs.specs.Fits.{FitsPosting, FitsEnded}
 use Rattle.sock_runs.specs.GoesOn.{GoesOn}
@@ -20,7 +18,7 @@ use Rattle.sock_runs.specs.Has.{Has}
 use Rattle.sock_runs.proofs.Passes.{way, decide_goes, decided_goes, post_with_goes, answer_goes}
 use Rattle.client_laws.proofs.Has.{at_slot, has_nothing}
 use Rattle.client_laws.proofs.Steps.{ends_branch}
-use Rattle.client_laws.proofs.Parts.{Ready, release_goes, address_goes}
+use Rattle.client_laws.proofs.Parts.{Ready, address_goes}
 use Rattle.client_laws.proofs.Clients.{fails_held}
 
 module _ (p : Plan) where

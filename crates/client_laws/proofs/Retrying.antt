@@ -1,12 +1,10 @@
 -- A retry that waits is allowed from what a seat has between its operations.
-use Rattle.std.proofs.Common.{◌≡◌, ◌≢◌, ℕ, ◌+◌, ◌*◌, ◌-◌, ◌<◌, ◌≤◌, Bool, List, [], ◌∷◌, length, refl, sym, ap, subst, arith, Some, None}
+use Rattle.std.proofs.Common.{ℕ, ◌-◌, ◌≤◌, List, [], ◌∷◌, length, sym, subst, arith}
 use Rattle.sock_words.specs.declared.plain.Plan.{Plan}
-use Rattle.sock_words.specs.Words.{socket_id_slot}
 use Rattle.sock_model.specs.declared.chain.Entry.{Entry}
 use Rattle.sock_model.specs.declared.view.View.{View}
 use Rattle.brpc_model.specs.Spelling.{meta_bytes}
 use Rattle.sock_programs.specs.declared.task.Asked.{Asked}
-use Rattle.sock_programs.specs.Asides.{id_slot}
 use Rattle.sock_programs.specs.Heads.{Retry, Unlocking, IsOpen, HasNext, Locking, NotThere, Has as HasLock}
 use Rattle.sock_programs.specs.Programs.{Program, Retries}
 use Rattle.sock_programs.specs.Clients.{HeldLife}

@@ -20,10 +20,8 @@ use Rattle.sock_model.specs.SlotRows.{marks_of, looked, met_link}
 use Rattle.sock_model.specs.ChainRows.{with_claim, entry_of, more, queued, righted, new_right, without_loose, taken_right}
 use Rattle.sock_model.specs.Entries.{ticket_of, slot_of}
 use Rattle.sock_model.specs.Memory.{IDLE}
-use Rattle.sock_model.specs.Rule.{MOST_ACCEPTED}
 use Rattle.sock_programs.specs.Calls.{Connect}
-use Rattle.sock_programs.specs.Writings.{Puts}
-use Rattle.sock_programs.specs.Programs.{Program, Do, Say, Sent, TakeMessage, TakeHome, Write, release}
+use Rattle.sock_programs.specs.Programs.{Program, Do, Say, Sent, TakeMessage, TakeHome, release}
 use Rattle.sock_programs.specs.Sends.{write_link, first_put, heading_of, accept, claim_from, start, send}
 use Rattle.sock_programs.specs.Clients.{HeldLife}
 use Rattle.sock_runs.proofs.Rounds.{first_goes}
@@ -215,18 +213,18 @@ module _ (p : Plan) (made : List Entry) {held : List HeldLife} {passes : List �
             (
               inside,
               record {
-                  claim = c₃;
-                  claims = refl;
-                  is_filled = refl;
-                  is_ready = refl;
-                  own_is = refl;
-                  request_in = in_table;
-                  life = h;
-                  holds = record { inside = inside; held = first (Hold h) a (is_hold h) (of_hold h) (only-same h); met = met };
-                  made = made;
-                  taken_in = [];
-                  lists = a.lists_are;
-                },
+                claim = c₃;
+                claims = refl;
+                is_filled = refl;
+                is_ready = refl;
+                own_is = refl;
+                request_in = in_table;
+                life = h;
+                holds = record { inside = inside; held = first (Hold h) a (is_hold h) (of_hold h) (only-same h); met = met };
+                made = made;
+                taken_in = [];
+                lists = a.lists_are;
+              },
             ),
             λ found hand f. exchange_branch a c₃ met in_table (ltb found IDLE) found hand.took hand.next,
           ),
@@ -265,7 +263,7 @@ module _ (p : Plan) (made : List Entry) {held : List HeldLife} {passes : List �
 
   start_goes : (id : ℕ) {v : View} → socket_id_slot id < p.slots → Has (made ∷ []) (socket_id_slot id) (Hold (socket_id_version id) ∷ []) held passes [] v → GoesOn p v (start p.requests o id bytes next)
   start_goes id {v} inside a = let i : ℕ = socket_id_slot id in (
-    (inside, inl a.quiet.rights),
+    (inside, inl a.quiet.rights, first (Hold (socket_id_version id)) a (is_hold (socket_id_version id)) (of_hold (socket_id_version id)) (only-same (socket_id_version id))),
     λ found hand f. let b = noted a (Saw (vref_version found)) (λ g o. o.saw (vref_version found)) in let gone : Program = release i (λ _. Say o (Gone (record { 0 = found })) next) in
         subst (λ rs. GoesOn p (by_right rs (looked_clean i found v) (looked i found v)) (cond (eqb (vref_version found % 2) 0) (claim_from p.requests 0 o id bytes next) gone)) (sym a.quiet.rights)
         (cond_both (eqb (vref_version found % 2) 0) (claim_from p.requests 0 o id bytes next) gone (GoesOn p (looked i found v)) (λ _. claim_from_goes p.requests 0 id (omega arith) inside b)

@@ -1,5 +1,5 @@
--- What each seat has as a run begins: a client the passes of the links that it opens, and seat 0 besides those that nobody opens.
-use Rattle.std.specs.Prelude.{ℕ, ◌-◌, List, [], ◌∷◌, ◌++◌, length, map}
+-- What each seat has as a run begins: a client the passes of the links that it opens, seat 0 besides those that nobody opens, and a reader none.
+use Rattle.std.specs.Prelude.{ℕ, ◌-◌, List, [], ◌∷◌, ◌++◌, length, map, replicate}
 use Rattle.sock_words.specs.declared.plain.Plan.{Plan}
 use Rattle.sock_model.specs.declared.view.View.{View}
 use Rattle.sock_model.specs.Marks.{without_pass}
@@ -35,3 +35,7 @@ client_view p ts = newcomer p (links_of ts) 0
 abbrev pub opening_views : Plan → List (List Task) → List View
 opening_views p [] = []
 opening_views p (ts ∷ clients) = newcomer p (without_passes (links_of_all clients) (below p.links)) (511 - length clients) ∷ map (client_view p) clients
+
+-- behind the seats of the clients stand those of so many readers, from seat 32 on, which have no tasks
+abbrev pub all_seats : List (List Task) → ℕ → List (List Task)
+all_seats clients readers = clients ++ (replicate (32 - length clients) [] ++ replicate readers [])

@@ -1,5 +1,5 @@
 -- The rule of the ids allows whole clients, and the ending.
-use Rattle.std.proofs.Common.{◌≡◌, ℕ, zero, suc, ◌+◌, ◌-◌, ◌/◌, ◌%◌, ◌<◌, ◌≤◌, ◌==◌, Bool, true, false, cond, eqb, List, [], ◌∷◌, ◌++◌, Option, Some, None, refl, sym, ap, ◌∙◌, subst, arith}
+use Rattle.std.proofs.Common.{◌≡◌, ℕ, zero, suc, ◌+◌, ◌-◌, ◌/◌, ◌%◌, ◌<◌, ◌≤◌, ◌==◌, cond, List, [], ◌∷◌, ◌++◌, Option, Some, None, refl, arith}
 use Rattle.std.specs.List.{AllByRecursion}
 use Rattle.sock_words.specs.declared.plain.Plan.{Plan}
 use Rattle.sock_words.specs.declared.outcome.Outcome.TheVariants as outcomes
@@ -8,7 +8,7 @@ use Rattle.corr_core.specs.declared.marks.Plan.{Plan as IdPlan}
 use Rattle.sock_programs.specs.declared.task.Op.{Op}
 use Rattle.sock_programs.specs.declared.task.Op.TheVariants as ops
 use Rattle.sock_programs.specs.declared.task.Task.{Task}
-use Rattle.sock_programs.specs.Programs.{Program, Do, Say, Sent, Rest, NO_SOCKET, release, address, reach, set_failed, no_socket, make_socket, open_from, fail_outcome, fail, hold, drop_held, end_open}
+use Rattle.sock_programs.specs.Programs.{Program, Say, Sent, NO_SOCKET, release, address, reach, set_failed, make_socket, open_from, fail_outcome, fail}
 use Rattle.sock_programs.specs.Sends.{accept, heading_of, claim_from, start, send}
 use Rattle.sock_programs.specs.Clients.{HeldLife, held_under, without_name, give_back, drop_of, operation, client_from, ending_of}
 use Rattle.sock_programs.specs.Scripts.{sizes_of}
@@ -35,7 +35,7 @@ module _ (p : Plan) (q : IdPlan) (narrow : q.slots ≤ 65536) (same : q.operatio
   claim_goes : (u : IdView) (more r o id : ℕ) (bytes : List ℕ) (next : Program) → IsFree u → Follows next → Goes u (claim_from more r o id bytes next)
   claim_goes u zero r o id bytes next free goes = release_goes p q narrow u (socket_id_slot id) (λ _. Say o outcomes.Full next) (λ _. goes u free)
   claim_goes u (suc more) r o id bytes next free goes = λ found _. way p q u (found % 2 == 0) (accept id r (found / 2) (heading_of o) bytes (release (socket_id_slot id) (λ _. Sent o next))) (claim_from more (r + 1) o id bytes next)
-      (λ _. accept_goes p q narrow u id r (found / 2) (heading_of o) bytes (release (socket_id_slot id) (λ _. Sent o next)) free (λ v f. release_goes p q narrow v (socket_id_slot id) (λ _. Sent o next) (λ _. goes v f)))
+      (λ _. accept_goes p q narrow u id r (found / 2) (heading_of o) bytes (release (socket_id_slot id) (λ _. Sent o next)) free (λ z. absurd (z refl)) (λ v f. release_goes p q narrow v (socket_id_slot id) (λ _. Sent o next) (λ _. goes v f)))
       (λ _. claim_goes u more (r + 1) o id bytes next free goes)
 
   send_goes : (u : IdView) (requests o name : ℕ) (bytes : List ℕ) (next : Program) → IsFree u → Follows next → Goes u (send requests o name bytes next)
@@ -44,9 +44,9 @@ module _ (p : Plan) (q : IdPlan) (narrow : q.slots ≤ 65536) (same : q.operatio
       (λ _. claim_goes u requests 0 o id bytes next free goes) (λ _. release_goes p q narrow u (socket_id_slot id) (λ _. Say o (outcomes.Gone (record { 0 = found })) next) (λ _. goes u free)))
       (λ found. goes u free)
 
-  fail_goes : (u : IdView) (o name code : ℕ) (next : Program) → Goes u next → Goes u (fail o name code next)
-  fail_goes u o name code next goes = reach_goes u name (Say o outcomes.Unopened next) (λ id. set_failed id code (λ found. release (socket_id_slot id) (λ _. Say o (fail_outcome found) next))) (λ found. Say o (outcomes.Gone (record { 0 = found })) next) goes
-      (λ id. set_failed_goes p q narrow u id code (λ found. release (socket_id_slot id) (λ _. Say o (fail_outcome found) next)) (λ found. release_goes p q narrow u (socket_id_slot id) (λ _. Say o (fail_outcome found) next) (λ _. goes)))
+  fail_goes : (u : IdView) (o name code : ℕ) → code < 4096 → (next : Program) → Goes u next → Goes u (fail o name code next)
+  fail_goes u o name code small next goes = reach_goes u name (Say o outcomes.Unopened next) (λ id. set_failed id code (λ found. release (socket_id_slot id) (λ _. Say o (fail_outcome found) next))) (λ found. Say o (outcomes.Gone (record { 0 = found })) next) goes
+      (λ id. set_failed_goes p q narrow u id code small (λ found. release (socket_id_slot id) (λ _. Say o (fail_outcome found) next)) (λ found. release_goes p q narrow u (socket_id_slot id) (λ _. Say o (fail_outcome found) next) (λ _. goes)))
       (λ found. goes)
 
   drop_goes : (u : IdView) (o : ℕ) (h : Option ℕ) (next : Program) → Goes u next → Goes u (drop_of o h next)
@@ -62,7 +62,7 @@ module _ (p : Plan) (q : IdPlan) (narrow : q.slots ≤ 65536) (same : q.operatio
   operation_goes held o next (ops.Hold name) fits goes u free = reach_goes u name (Say o outcomes.Unopened (next held)) (λ id. Say o outcomes.Held (next (held ++ (record { name = name; id = id }) ∷ []))) (λ found. Say o (outcomes.Gone (record { 0 = found })) (next held)) (goes held u free)
       (λ id. goes (held ++ (record { name = name; id = id }) ∷ []) u free) (λ found. goes held u free)
   operation_goes held o next (ops.Drop name) fits goes u free = drop_goes u o (held_under name held) (next (without_name name held)) (goes (without_name name held) u free)
-  operation_goes held o next (ops.Fail name code) fits goes u free = fail_goes u o name code (next held) (goes held u free)
+  operation_goes held o next (ops.Fail name code) fits goes u free = fail_goes u o name code fits.2 (next held) (goes held u free)
 
   give_back_goes : (held : List HeldLife) → Follows (give_back held)
   give_back_goes [] u free = free
@@ -79,5 +79,5 @@ module _ (p : Plan) (q : IdPlan) (narrow : q.slots ≤ 65536) (same : q.operatio
       (λ _. way p q u (word == NO_SOCKET) (ending_of os) (address (word - 1) (set_failed (word - 1) 1014 (λ _. release (socket_id_slot (word - 1)) (λ _. ending_of os))) (λ _. ending_of os))
       (λ _. ending_goes os u free)
       (λ _. address_goes p q narrow u (word - 1) (set_failed (word - 1) 1014 (λ _. release (socket_id_slot (word - 1)) (λ _. ending_of os))) (λ _. ending_of os)
-      (set_failed_goes p q narrow u (word - 1) 1014 (λ _. release (socket_id_slot (word - 1)) (λ _. ending_of os)) (λ _. release_goes p q narrow u (socket_id_slot (word - 1)) (λ _. ending_of os) (λ _. ending_goes os u free)))
+      (set_failed_goes p q narrow u (word - 1) 1014 (omega arith) (λ _. release (socket_id_slot (word - 1)) (λ _. ending_of os)) (λ _. release_goes p q narrow u (socket_id_slot (word - 1)) (λ _. ending_of os) (λ _. ending_goes os u free)))
       (λ _. ending_goes os u free)))

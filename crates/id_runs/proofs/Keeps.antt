@@ -1,9 +1,9 @@
 -- Each step aside of the sockets keeps the rule of the table of ids.
-use Rattle.std.proofs.Common.{◌≡◌, ◌≢◌, ℕ, zero, suc, ◌+◌, ◌-◌, ◌*◌, ◌/◌, ◌%◌, ◌^◌, ◌<◌, ◌≤◌, ◌⊎◌, inl, inr, ⊎_elim, Bool, true, false, cond, eqb, eqb-true, eq-eqb, ne_eqb, List, [], ◌∷◌, ◌++◌, Some, None, length, get_or, set, get_or-set_same, refl, sym, ap, ◌∙◌, subst, arith}
+use Rattle.std.proofs.Common.{◌≡◌, ◌≢◌, ℕ, ◌+◌, ◌*◌, ◌<◌, ◌≤◌, ◌⊎◌, ⊎_elim, Bool, true, false, cond, eqb, eq-eqb, ne_eqb, List, [], ◌∷◌, Some, None, get_or, set, refl, sym, ap, ◌∙◌, subst, arith}
 use Rattle.std.specs.Prelude.{Option as Maybe}
 use Rattle.std.specs.List.{flat_map}
 use mathlib.Core.Logic.{dite}
-use mathlib.Core.Option.{Option, none, some, some-injective, some-ne-none}
+use mathlib.Core.Option.{some}
 use native.Mathlib.Decide.{ℕ_discrete}
 use lib.ListN.{get_elem?}
 use lib.Seq.{set-get_or}
@@ -11,7 +11,7 @@ use Rattle.atomic_table.specs.Table.{State, Me, keeps, stepped}
 use Rattle.atomic_table.proofs.Lists.{set_here, set_else}
 use Rattle.sock_words.specs.declared.plain.Plan.{Plan}
 use Rattle.corr_core.specs.Word.{Parts, parts, made_word, locked_word, posted_word, unlocked_word, free_word}
-use Rattle.corr_core.specs.Law.{LAST, Local, HomeIs, Holds, SlotLaw}
+use Rattle.corr_core.specs.Law.{Local, HomeIs, SlotLaw}
 use Rattle.corr_core.specs.declared.marks.Plan.{Plan as IdPlan}
 use Rattle.corr_core.specs.declared.marks.Hand.{Hand}
 use Rattle.corr_core.specs.declared.marks.Hand.TheVariants.{Empty, Out, Full}
@@ -19,20 +19,19 @@ use Rattle.corr_core.specs.declared.marks.Token.{Token}
 use Rattle.corr_core.specs.declared.marks.Token.TheVariants.{Claimed, Locked, Leaving}
 use Rattle.corr_core.specs.declared.marks.Note.{Note}
 use Rattle.corr_core.specs.declared.marks.Note.TheVariants.{Made, Queued, Attempt, Saw}
-use Rattle.corr_core.specs.declared.marks.View.{View}
-use Rattle.corr_core.proofs.Notes.{Inserted, at_length}
-use Rattle.corr_core.proofs.Slots.{queued_word, open_word, popped_word, reclaims, makes, claim_home, is_lock}
+use Rattle.corr_core.proofs.Notes.{at_length}
+use Rattle.corr_core.proofs.Slots.{queued_word, open_word, popped_word, reclaims, makes, claim_home}
 use Rattle.id_rule.specs.Lawful.{tag_word, id_word, call_word, at_word, all_words, tokens_in, notes_in, local, Lawful, with_token, no_token, with_note}
 use Rattle.id_rule.specs.Plays.{hand_of, with_hand, value_of, claimed_view, locked_view, popped_view, advanced_view, ended_view, found_view, IsHome, LockFits, Longer}
-use Rattle.id_rule.proofs.Frames.{Aside, token_here, drop_here, note_here, aside_token, aside_drop, aside_note, aside_both, own_tokens}
+use Rattle.id_rule.proofs.Frames.{token_here, drop_here, note_here, aside_token, aside_drop, aside_note, aside_both, own_tokens}
 use Rattle.id_rule.proofs.Allowed as allowed
 use Rattle.id_rule.proofs.Kept as kept
 use Rattle.sock_programs.specs.declared.task.Asked.{Asked}
-use Rattle.sock_programs.specs.Asides.{Step, Found, ClaimId, PutCall, MakeId, StoreCall, LoadCall, StoreAt, LoadAt, LoadIdWord, LockId, PostId, UnlockId, EndId, FreeId, TakeCall, TakeBytes, Taking, Bytes}
+use Rattle.sock_programs.specs.Asides.{ClaimId, PutCall, MakeId, LockId, PostId, UnlockId, EndId, FreeId, TakeCall}
 use Rattle.sock_programs.specs.Posts.{packed, advance_of}
 use Rattle.sock_programs.specs.Cores.{Calls}
-use Rattle.sock_programs.specs.Beside.{calls_after, more_given}
-use Rattle.id_runs.specs.Held.{IdView, id_state, by_token, made_by, unlocked_by, ended_by, locked_by, id_row, HasOne, HasCallAt, MayPut, MayId}
+use Rattle.sock_programs.specs.Beside.{calls_after}
+use Rattle.id_runs.specs.Held.{IdView, id_state, by_token, made_by, unlocked_by, ended_by, locked_by, id_row, HasOne, HasCallAt, MayPut}
 
 -- ## Words
 

@@ -2,6 +2,8 @@ pub mod Keeps
 pub mod Steps
 pub mod Loops
 pub mod Programs
+pub mod Owners
 pub mod Ticks
 pub mod Reading
 pub mod Clients
+pub mod Opening

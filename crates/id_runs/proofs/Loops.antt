@@ -9,20 +9,19 @@ use Rattle.corr_core.specs.declared.marks.Hand.TheVariants.{Empty, Full}
 use Rattle.corr_core.specs.declared.marks.Token.{Token}
 use Rattle.corr_core.specs.declared.marks.Token.TheVariants.{Locked, Leaving}
 use Rattle.corr_core.specs.declared.marks.Note.TheVariants.{Queued, Saw, Attempt, Ended}
-use Rattle.id_rule.specs.Lawful.{tokens_of, tokens_in, without, with_token, no_token, with_note}
-use Rattle.id_rule.specs.Plays.{with_hand, Longer, popped_view, advanced_view, ended_view}
+use Rattle.id_rule.specs.Lawful.{tokens_of, without, with_token, no_token, with_note}
+use Rattle.id_rule.specs.Plays.{with_hand, Longer, popped_view, advanced_view}
 use Rattle.brpc_model.specs.Frame.{Frame}
 use Rattle.brpc_model.specs.Stream as streams
 use Rattle.sock_programs.specs.declared.task.Asked.{Asked}
-use Rattle.sock_programs.specs.Asides.{Step, Found, PutCall, LoadIdWord, LockId, PostId, UnlockId, EndId, FreeId, TakeCall, TakeBytes, Taking, Bytes, Nothing, NoMore, AtEnd, Closed, Broken, id_slot, id_first, call_id}
+use Rattle.sock_programs.specs.Asides.{PutCall, FreeId, Taking, Bytes, Nothing, NoMore, AtEnd, Closed, Broken, id_slot, id_first, call_id}
 use Rattle.sock_programs.specs.Heads.{Head, Exit, Retry, Sought, First, Version, Reading, Posts, Unlocks, Decides, Locks, Joins, Opens, Reads, Discards, Posting, WasGone, WasStale, WasCrowded, WasQueued, HasLocked, Unlocking, IsOpen, HasNext, Deciding, HasEnded, GoesOn, Locking, NotThere, Has, Ended as Over}
-use Rattle.sock_programs.specs.Programs.{Program, Do, Say, Aside, Round, Keep}
+use Rattle.sock_programs.specs.Programs.{Program, Say, Aside, Round}
 use Rattle.sock_programs.specs.Posts.{packed, advance_of, is_first, is_sought, is_stale, is_full, judged, posted, post_with, post, popped, end_id, ends_call, decide, decided, unlocked, locking}
 use Rattle.sock_programs.specs.Readers.{answer, answered, responses, read_on, took, discarded, last_of, slot_in, version_in, has_response, ending_of, is_early, ended_by as how_ended, LIMIT}
 use Rattle.sock_programs.specs.Rounds.{round}
-use Rattle.sock_programs.specs.Told.{AskedFits}
-use Rattle.id_runs.specs.Held.{IdView, one, by_token, unlocked_by, ended_by, locked_by, id_row, HasOne, MayId}
-use Rattle.id_runs.specs.Goes.{EndsReading, HasRoom, IsIdWord, FindsCall, FindsId, IsError, IsPostable, IsLocked, IsTaken, IsFree, AtHead, LeavesPost, LeavesUnlock, LeavesLock, Leaves, FitsRetryId, IdGoesOn}
+use Rattle.id_runs.specs.Held.{IdView, one, by_token, unlocked_by, ended_by, locked_by, HasOne}
+use Rattle.id_runs.specs.Goes.{EndsReading, HasRoom, IsIdWord, IsError, IsPostable, IsLocked, IsFree, AtHead, LeavesPost, LeavesUnlock, LeavesLock, FitsRetryId, IdGoesOn}
 use Rattle.id_runs.proofs.Keeps.{parts_packed}
 
 -- ## One token

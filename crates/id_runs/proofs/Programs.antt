@@ -4,7 +4,6 @@ use Rattle.std.specs.Prelude.{Option}
 use Rattle.std.specs.List.{AllByRecursion}
 use Rattle.sock_words.specs.Words.{socket_id_version, socket_id_slot, vref_version, vref_nref, at_word, at_word_slot, at_word_first}
 use Rattle.sock_words.specs.declared.plain.Plan.{Plan}
-use Rattle.sock_words.specs.declared.outcome.Outcome.{Outcome}
 use Rattle.sock_words.specs.declared.outcome.Outcome.TheVariants as outcomes
 use Rattle.sock_io.specs.declared.link.Put.{Put}
 use Rattle.sock_io.specs.declared.link.Put.TheVariants as puts
@@ -13,29 +12,27 @@ use Rattle.sock_io.specs.declared.link.Ready.TheVariants as asks
 use Rattle.sock_model.specs.declared.chain.Heading.{Heading}
 use Rattle.sock_model.specs.Entries.{generation_of, slot_of, ticket_of}
 use Rattle.sock_model.specs.Memory.{IDLE, UNCONNECTED}
-use Rattle.corr_core.specs.Word.{Parts, parts, error_of}
-use Rattle.corr_core.specs.Law.{LAST}
+use Rattle.corr_core.specs.Word.{parts, error_of}
 use Rattle.corr_core.specs.declared.marks.Plan.{Plan as IdPlan}
 use Rattle.corr_core.specs.declared.marks.Hand.TheVariants.{Empty, Full}
 use Rattle.corr_core.specs.declared.marks.Token.{Token}
 use Rattle.corr_core.specs.declared.marks.Token.TheVariants.{Claimed, Locked}
 use Rattle.corr_core.specs.declared.marks.Note.TheVariants.{Tried, Made}
-use Rattle.id_rule.specs.Lawful.{call_word, at_word as at_place, with_token, no_token, with_note, with_kept, without}
+use Rattle.id_rule.specs.Lawful.{call_word, at_word as at_place, with_token, no_token, with_note, with_kept}
 use Rattle.id_rule.specs.Plays.{with_hand, found_view}
-use Rattle.brpc_model.specs.Frame.{Frame}
 use Rattle.sock_programs.specs.Parts.{part}
 use Rattle.sock_programs.specs.declared.task.Asked.{Asked}
 use Rattle.sock_programs.specs.Calls.{SubRef, AddRef, SetOdd, StoreCode, Recycle, LoadLink, TakeLink, FinishLink, PutLink, FreeSlot, LoadName, FreeRequest, ReadNext, DropPlace, LoadCode, ClaimRequest}
-use Rattle.sock_programs.specs.Asides.{Step, Found, ClaimId, PutCall, MakeId, StoreCall, LoadCall, StoreAt, LoadAt, TakeCall, call_id, id_slot, id_first}
-use Rattle.sock_programs.specs.Heads.{Head, Exit, Retry, First, Version, Reading, Unlocks, Locks, Joins, Opens, Reads, Discards, Posting, WasGone, WasStale, WasCrowded, WasQueued, HasLocked, Unlocking, IsOpen, HasNext, Deciding, HasEnded, GoesOn, Locking, NotThere, Has, Ended}
-use Rattle.sock_programs.specs.Programs.{Program, Do, Say, Sent, Rest, TakeMessage, TakeHome, PutHome, PutBytes, AskReady, Write, Aside, Round, Keep, Retries, LAST_VERSION, LAST_GENERATION, NO_SOCKET, recycle, release, address, reach, set_failed}
-use Rattle.sock_programs.specs.Posts.{WHOLE, post, post_with, posted, decide, decided}
+use Rattle.sock_programs.specs.Asides.{PutCall, MakeId, StoreCall, StoreAt, call_id, id_slot, id_first}
+use Rattle.sock_programs.specs.Heads.{Retry, Unlocks, Joins, Unlocking, IsOpen, HasNext, Deciding, HasEnded, GoesOn, Locking, NotThere, Has}
+use Rattle.sock_programs.specs.Programs.{Program, Do, Say, TakeMessage, TakeHome, PutBytes, Write, Aside, Round, LAST_VERSION, LAST_GENERATION, recycle, release, address, set_failed}
+use Rattle.sock_programs.specs.Posts.{post, post_with, posted, decided}
 use Rattle.sock_programs.specs.Writings.{Holder, Writing, Puts, Waits, Empties, Walks}
-use Rattle.sock_programs.specs.Sends.{freed, one_more, passed_telling, tell_drop, placed, dropped, link_failed, put_answered, ready_answered, block, accept, write_link, first_put}
-use Rattle.sock_programs.specs.Attempts.{claims_from, name_of, frame_of, heading_for, attempt, begin_call, claim_id, call, tried_again, retry_locked, retry, expire_outcome, expire, join}
+use Rattle.sock_programs.specs.Sends.{freed, one_more, passed_telling, tell_drop, placed, dropped, put_answered, ready_answered, block, accept, write_link}
+use Rattle.sock_programs.specs.Attempts.{claims_from, frame_of, heading_for, attempt, begin_call, claim_id, call, tried_again, retry_locked, retry, expire_outcome, expire, join}
 use Rattle.sock_programs.specs.Told.{AskedFits}
-use Rattle.id_runs.specs.Held.{AtFits, IdView, one, by_token, made_by, id_row, HasOne, MayId}
-use Rattle.id_runs.specs.Goes.{FitsSock, FitsOwner, FitsWriting, FindsId, IsLocked, IsFree, IsError, LeavesPost, LeavesUnlock, LeavesLock, FitsRetryId, IdGoesOn}
+use Rattle.id_runs.specs.Held.{AtFits, IdView, one, by_token, made_by}
+use Rattle.id_runs.specs.Goes.{FitsOwner, IsFree, IsError, LeavesUnlock, LeavesLock, FitsRetryId, IdGoesOn}
 use Rattle.id_runs.proofs.Loops.{tokens_one, without_one, has_one, other_one, none_left, first_one, not_equal, way, both_ways, decide_goes, posted_goes, post_with_goes, post_goes}
 
 module _ (p : Plan) (q : IdPlan) (narrow : q.slots ≤ 65536) where
@@ -57,9 +54,9 @@ module _ (p : Plan) (q : IdPlan) (narrow : q.slots ≤ 65536) where
   pub address_goes : (u : IdView) (id : ℕ) (held : Program) (gone : ℕ → Program) → Goes u held → ((found : ℕ) → Goes u (gone found)) → Goes u (address id held gone)
   address_goes u id held gone goes others = λ found _. way p q u (vref_version found == socket_id_version id) held (release (socket_id_slot id) (λ _. gone found)) (λ _. goes) (λ _. release_goes u (socket_id_slot id) (λ _. gone found) (λ _. others found))
 
-  pub set_failed_goes : (u : IdView) (id code : ℕ) (next : ℕ → Program) → ((found : ℕ) → Goes u (next found)) → Goes u (set_failed id code next)
-  set_failed_goes u id code next goes = λ found _. way p q u (vref_version found % 2 == 0)
-      (Do (StoreCode (socket_id_slot id) (socket_id_version id) code) (λ _. Do (SubRef (socket_id_slot id)) (λ _. next found))) (next found) (λ _. λ _ _ _ _. goes found) (λ _. goes found)
+  pub set_failed_goes : (u : IdView) (id code : ℕ) → code < 4096 → (next : ℕ → Program) → ((found : ℕ) → Goes u (next found)) → Goes u (set_failed id code next)
+  set_failed_goes u id code small next goes = λ found _. way p q u (vref_version found % 2 == 0)
+      (Do (StoreCode (socket_id_slot id) (socket_id_version id) code) (λ _. Do (SubRef (socket_id_slot id)) (λ _. next found))) (next found) (λ _. (small, λ _. λ _ _. goes found)) (λ _. goes found)
 
   -- ## Writing
 
@@ -91,7 +88,7 @@ module _ (p : Plan) (q : IdPlan) (narrow : q.slots ≤ 65536) where
   put_goes u h now heading left taken after free owner goes (puts.Took n) = way p q u (nat_le (length left) n) (placed h now heading after) (Write (Puts h now heading (Rattle.std.specs.Prelude.drop n left) (taken + n) false) after)
       (λ _. λ _ _. passed_goes u (one_more h) now (λ x. x) after free (λ x goes. goes u free) goes) (λ _. (free, owner, goes))
   put_goes u h now heading left taken after free owner goes puts.Again = (free, owner, goes)
-  put_goes u h now heading left taken after free owner goes puts.Failed = set_failed_goes u h.id 1009 (λ _. Write (Puts h now heading left taken false) after) (λ _. (free, owner, goes))
+  put_goes u h now heading left taken after free owner goes puts.Failed = set_failed_goes u h.id 1009 (omega arith) (λ _. Write (Puts h now heading left taken false) after) (λ _. (free, owner, goes))
 
   pub block_goes : (u : IdView) (w : Writing) (after : Program) → Goes u (Write w after) → Goes u (block w after)
   block_goes u (Puts h now heading left taken asked) after g = λ found _. way p q u (vref_version found % 2 == 0) (PutBytes h.link asked (part heading.parts left taken) (put_answered h now heading left taken after)) (dropped h now heading after)
@@ -102,7 +99,7 @@ module _ (p : Plan) (q : IdPlan) (narrow : q.slots ≤ 65536) where
       ready_goes : (answer : Ready) → Goes u (ready_answered h now heading left taken after answer)
       ready_goes asks.Now = g
       ready_goes asks.NotYet = g
-      ready_goes asks.Failed = set_failed_goes u h.id 1009 (λ _. Write (Puts h now heading left taken false) after) (λ _. g)
+      ready_goes asks.Failed = set_failed_goes u h.id 1009 (omega arith) (λ _. Write (Puts h now heading left taken false) after) (λ _. g)
   block_goes u (Empties h) after g = λ found _. way p q u (found == h.last) after (TakeHome h.link (λ places. Write (Walks (record h { places = places }) found found 0) after)) (λ _. g.2 u g.0) (λ _. λ places. g)
   block_goes u (Walks h top at after) then_ g = λ found _. way p q u (found == UNCONNECTED) (Write (Walks h top at after) then_)
       (Do (Rattle.sock_programs.specs.Calls.TurnNext (slot_of at) after) (λ _. cond (found == h.last) (TakeMessage (slot_of at) (λ heading bytes. Write (Puts (record h { last = top }) at heading bytes 0 false) then_)) (Write (Walks h top found at) then_)))
@@ -116,13 +113,13 @@ module _ (p : Plan) (q : IdPlan) (narrow : q.slots ≤ 65536) where
       λ found _. way p q u (vref_version found % 2 == 0) (PutBytes k false (part heading.parts bytes 0) (put_answered h own heading bytes 0 after)) (Write (Puts h own heading bytes 0 false) after)
       (λ _. put_goes u h own heading bytes 0 after free owner goes) (λ _. (free, owner, goes))
 
-  pub accept_goes : (u : IdView) (id r g : ℕ) (heading : Heading) (bytes : List ℕ) (after : Program) → IsFree u → Follows after → Goes u (accept id r g heading bytes after)
-  accept_goes u id r g heading bytes after free goes = λ _ _ _ _. λ found _. way p q u (nat_lt found IDLE) (Do (Rattle.sock_programs.specs.Calls.Connect r found) (λ _. after)) (write_link id r (ticket_of r g) after) (λ _. λ _ _. goes u free) (λ _. write_goes u id r (ticket_of r g) after free goes)
+  pub accept_goes : (u : IdView) (id r g : ℕ) (heading : Heading) (bytes : List ℕ) (after : Program) → IsFree u → FitsOwner q heading → Follows after → Goes u (accept id r g heading bytes after)
+  accept_goes u id r g heading bytes after free owner goes = (owner, λ _. λ _ _. λ found _. way p q u (nat_lt found IDLE) (Do (Rattle.sock_programs.specs.Calls.Connect r found) (λ _. after)) (write_link id r (ticket_of r g) after) (λ _. λ _ _. goes u free) (λ _. write_goes u id r (ticket_of r g) after free goes))
 
-  pub claims_goes : (u : IdView) (more r id : ℕ) (heading : Heading) (bytes : List ℕ) (full accepted : Program) → IsFree u → Goes u full → Follows accepted → Goes u (claims_from more r id heading bytes full accepted)
-  claims_goes u zero r id heading bytes full accepted free none_ goes = none_
-  claims_goes u (suc more) r id heading bytes full accepted free none_ goes = λ found _. way p q u (found % 2 == 0) (accept id r (found / 2) heading bytes accepted) (claims_from more (r + 1) id heading bytes full accepted)
-      (λ _. accept_goes u id r (found / 2) heading bytes accepted free goes) (λ _. claims_goes u more (r + 1) id heading bytes full accepted free none_ goes)
+  pub claims_goes : (u : IdView) (more r id : ℕ) (heading : Heading) (bytes : List ℕ) (full accepted : Program) → IsFree u → FitsOwner q heading → Goes u full → Follows accepted → Goes u (claims_from more r id heading bytes full accepted)
+  claims_goes u zero r id heading bytes full accepted free owner none_ goes = none_
+  claims_goes u (suc more) r id heading bytes full accepted free owner none_ goes = λ found _. way p q u (found % 2 == 0) (accept id r (found / 2) heading bytes accepted) (claims_from more (r + 1) id heading bytes full accepted)
+      (λ _. accept_goes u id r (found / 2) heading bytes accepted free owner goes) (λ _. claims_goes u more (r + 1) id heading bytes full accepted free owner none_ goes)
 
   at_fits : (id k n : ℕ) → id_slot id < q.slots → k < 65535 → n ≤ 6 → AtFits q (at_word (id_first id) (id_slot id) k n)
   at_fits id k n inside link few = subst (λ x. x < q.slots) (sym (slot_back (id_slot id) (id_first id) k n (omega (arith, inside, narrow)) (omega arith) link few)) inside
@@ -136,10 +133,13 @@ module _ (p : Plan) (q : IdPlan) (narrow : q.slots ≤ 65536) where
       address_goes u socket (Do (Rattle.sock_programs.specs.Calls.FindLink (socket_id_slot socket) (socket_id_version socket)) (λ k. Aside (StoreAt asked.operation (at_word (id_first id) (id_slot id) k n)) (λ _. Do (Rattle.sock_programs.specs.Calls.LookWord socket) (λ found.
       cond (eqb (vref_version found % 2) 0) (claims_from requests 0 socket (heading_for asked id n) (frame_of asked id n) (post id 3001 n (release (socket_id_slot socket) (λ _. next))) (release (socket_id_slot socket) (λ _. next))) (post id 1009 n (release (socket_id_slot socket) (λ _. next)))))))
       (λ _. post id 1009 n next)
-      (λ k link. ((operation, (λ z. omega (arith, z)), at_fits id k n inside link few), λ _ c _. λ found _. let v : IdView = with_kept (at_place q asked.operation) true (at_word (id_first id) (id_slot id) k n) u in
-      way p q v (eqb (vref_version found % 2) 0) (claims_from requests 0 socket (heading_for asked id n) (frame_of asked id n) (post id 3001 n (release (socket_id_slot socket) (λ _. next))) (release (socket_id_slot socket) (λ _. next))) (post id 1009 n (release (socket_id_slot socket) (λ _. next)))
-      (λ _. claims_goes v requests 0 socket (heading_for asked id n) (frame_of asked id n) (post id 3001 n (release (socket_id_slot socket) (λ _. next))) (release (socket_id_slot socket) (λ _. next)) free (posts v 3001 free (omega arith) (omega arith)) (λ w free'. release_goes w (socket_id_slot socket) (λ _. next) (λ _. goes w free')))
-      (λ _. posts v 1009 free (omega arith) (omega arith))))
+      (λ k link. (
+        (operation, (λ z. omega (arith, z)), at_fits id k n inside link few),
+        λ _ c _. λ found _. let v : IdView = with_kept (at_place q asked.operation) true (at_word (id_first id) (id_slot id) k n) u in
+            way p q v (eqb (vref_version found % 2) 0) (claims_from requests 0 socket (heading_for asked id n) (frame_of asked id n) (post id 3001 n (release (socket_id_slot socket) (λ _. next))) (release (socket_id_slot socket) (λ _. next))) (post id 1009 n (release (socket_id_slot socket) (λ _. next)))
+            (λ _. claims_goes v requests 0 socket (heading_for asked id n) (frame_of asked id n) (post id 3001 n (release (socket_id_slot socket) (λ _. next))) (release (socket_id_slot socket) (λ _. next)) free (λ _. (inside, few)) (posts v 3001 free (omega arith) (omega arith)) (λ w free'. release_goes w (socket_id_slot socket) (λ _. next) (λ _. goes w free')))
+            (λ _. posts v 1009 free (omega arith) (omega arith)),
+      ))
       (λ found. post_goes p q u id 1009 n next free inside (omega arith) (omega arith) (omega (arith, few)) goes)
     where
       posts : (v : IdView) (code : ℕ) → IsFree v → 0 < code → code < 4096 → Goes v (post id code n (release (socket_id_slot socket) (λ _. next)))
@@ -163,9 +163,10 @@ module _ (p : Plan) (q : IdPlan) (narrow : q.slots ≤ 65536) where
         makes v now = let has = has_one i (Claimed 0 (Full asked)) v now in let operation = fits.operation in (
           (inside, (0, asked, has), fits.range_low, fits.range_high),
           λ found c f. subst (λ ts. Goes (by_token ts (made_by i asked.range found v) v) (Aside (StoreCall asked.operation (call_id i (parts found).first)) (λ _. attempt requests asked (call_id i (parts found).first) 0 socket next))) (sym has)
-              (let w : IdView = with_note i (Made (parts found).first asked.range asked) (no_token i v) in let free : w.tokens ≡ [] = none_left i (Claimed 0 (Full asked)) v now in
-              ((omega (arith, operation, same), (let some_ = f.0 in λ z. omega (arith, z, some_)), subst (λ n. n < q.slots) (sym (in_slot i (parts found).first f.1)) inside),
-              λ _ d _. attempt_goes (with_kept (call_word q asked.operation) true (call_id i (parts found).first) w) requests asked (call_id i (parts found).first) 0 socket next free (omega (arith, operation, same)) (subst (λ n. n < q.slots) (sym (in_slot i (parts found).first f.1)) inside) (omega arith) goes)),
+              (let w : IdView = with_note i (Made (parts found).first asked.range asked) (no_token i v) in let free : w.tokens ≡ [] = none_left i (Claimed 0 (Full asked)) v now in (
+                (omega (arith, operation, same), (let some_ = f.0 in λ z. omega (arith, z, some_)), subst (λ n. n < q.slots) (sym (in_slot i (parts found).first f.1)) inside),
+                λ _ d _. attempt_goes (with_kept (call_word q asked.operation) true (call_id i (parts found).first) w) requests asked (call_id i (parts found).first) 0 socket next free (omega (arith, operation, same)) (subst (λ n. n < q.slots) (sym (in_slot i (parts found).first f.1)) inside) (omega arith) goes,
+              )),
         )
 
     claim_goes : (u : IdView) (more i requests socket : ℕ) (asked : Asked) (next : Program) → IsFree u → i + more ≤ q.slots → AskedFits p asked → Follows next → Goes u (claim_id more i requests socket asked next)

@@ -1,17 +1,17 @@
 -- The rule of the ids allows a reader.
-use Rattle.std.proofs.Common.{◌≡◌, ◌≢◌, ℕ, zero, suc, ◌+◌, ◌-◌, ◌*◌, ◌/◌, ◌%◌, ◌<◌, ◌≤◌, ◌==◌, ◌&&◌, Bool, true, false, cond, eqb, eqb-true, nat_lt, List, [], ◌∷◌, None, length, refl, sym, ap, ◌∙◌, subst, arith}
-use Rattle.std.specs.List.{AllByRecursion, filter}
+use Rattle.std.proofs.Common.{◌≡◌, ℕ, ◌+◌, ◌-◌, ◌<◌, ◌≤◌, ◌&&◌, Bool, true, false, cond, eqb, eqb-true, nat_lt, List, [], ◌∷◌, length, refl, sym, subst, arith}
+use Rattle.std.specs.List.{AllByRecursion}
 use Rattle.sock_words.specs.declared.plain.Plan.{Plan}
 use Rattle.sock_words.specs.Words.{socket_id_slot, at_word_first, at_word_slot, at_word_link, at_word_attempt}
 use Rattle.corr_core.specs.Word.{parts, error_of}
 use Rattle.corr_core.specs.declared.marks.Plan.{Plan as IdPlan}
 use Rattle.brpc_model.specs.Frame.{Frame}
 use Rattle.id_rule.specs.Lawful.{at_word as at_place, with_kept}
-use Rattle.sock_programs.specs.Asides.{LoadAt, call_id, id_slot, id_first}
-use Rattle.sock_programs.specs.Heads.{Reading, Opens, Reads, Discards, Posting, WasGone, WasStale, WasCrowded, WasQueued, HasLocked, Deciding, HasEnded, GoesOn, Ended}
-use Rattle.sock_programs.specs.Programs.{Program, Do, Rest, Aside, Round, NO_SOCKET, address, release, set_failed}
-use Rattle.sock_programs.specs.Posts.{post_with, decide, decided}
-use Rattle.sock_programs.specs.Readers.{LIMIT, slot_in, answer, kept_for, ends_with, posted_last, post_each, thrown_away, read, reader}
+use Rattle.sock_programs.specs.Asides.{call_id, id_slot, id_first}
+use Rattle.sock_programs.specs.Heads.{Reads, Discards, Posting, WasGone, WasStale, WasCrowded, WasQueued, HasLocked, Deciding, HasEnded, GoesOn, Ended}
+use Rattle.sock_programs.specs.Programs.{Program, Rest, Round, NO_SOCKET, address, release, set_failed}
+use Rattle.sock_programs.specs.Posts.{post_with, decided}
+use Rattle.sock_programs.specs.Readers.{LIMIT, slot_in, kept_for, ends_with, posted_last, post_each, thrown_away, read, reader}
 use Rattle.id_runs.specs.Held.{IdView}
 use Rattle.id_runs.specs.Goes.{IsLocked, IsFree, IsCode, EndsReading, LeavesPost, IdGoesOn}
 use Rattle.id_runs.proofs.Loops.{not_equal, way, both_ways, decide_goes, answer_goes, post_with_goes}
@@ -73,11 +73,14 @@ module _ (p : Plan) (q : IdPlan) (narrow : q.slots ≤ 65536) where
       (address how.reading.id (set_failed how.reading.id how.code (λ _. release (socket_id_slot how.reading.id) (λ _. post_each calls how.reading.link how.code how.reading.kept (thrown_away how)))) (λ _. post_each calls how.reading.link how.code how.reading.kept (thrown_away how)))
       (λ _. goes u ends.0)
       (λ _. address_goes p q narrow u how.reading.id (set_failed how.reading.id how.code (λ _. release (socket_id_slot how.reading.id) (λ _. post_each calls how.reading.link how.code how.reading.kept (thrown_away how)))) (λ _. post_each calls how.reading.link how.code how.reading.kept (thrown_away how))
-      (set_failed_goes p q narrow u how.reading.id how.code (λ _. release (socket_id_slot how.reading.id) (λ _. post_each calls how.reading.link how.code how.reading.kept (thrown_away how)))
+      (set_failed_goes p q narrow u how.reading.id how.code ends.1.1 (λ _. release (socket_id_slot how.reading.id) (λ _. post_each calls how.reading.link how.code how.reading.kept (thrown_away how)))
       (λ _. release_goes p q narrow u (socket_id_slot how.reading.id) (λ _. post_each calls how.reading.link how.code how.reading.kept (thrown_away how)) (λ _. goes u ends.0)))
       (λ _. goes u ends.0))
 
   -- a reader of a script that has an id slot for each of its calls
   pub reader_goes : (calls : List ℕ) → AllByRecursion (λ o. o < q.operations) calls → length calls ≡ q.slots → (k o : ℕ) → Follows (reader calls k o)
-  reader_goes calls all slots k o u free = (free, λ word v f. way p q v (eqb word NO_SOCKET) Rest (Round (Reads (record { ids = length calls; link = k; id = word - 1; rest = []; total = 0; kept = [] })) (read calls)) (λ _. f)
-      (λ _. ((f, slots), λ how w ends. read_goes calls all how w ends)))
+  reader_goes calls all slots k o u free = (
+    free,
+    λ word v f. way p q v (eqb word NO_SOCKET) Rest (Round (Reads (record { ids = length calls; link = k; id = word - 1; rest = []; total = 0; kept = [] })) (read calls)) (λ _. f)
+        (λ _. ((f, slots), λ how w ends. read_goes calls all how w ends)),
+  )

@@ -1,25 +1,23 @@
 -- Any step aside of the sockets that a view allows keeps the rule of the ids, and finds what it may find.
-use Rattle.std.proofs.Common.{◌≡◌, ◌≢◌, ℕ, ◌+◌, ◌*◌, ◌<◌, ◌≤◌, ⊎_elim, Bool, true, false, cond, eqb, List, [], ◌∷◌, ◌++◌, Some, None, length, get_or, set, refl, sym, ap, ◌∙◌, subst, arith}
+use Rattle.std.proofs.Common.{◌≡◌, ◌≢◌, ℕ, ◌<◌, ◌≤◌, List, [], Some, None, get_or, set, refl, sym, ap, ◌∙◌, subst, arith}
 use Rattle.std.specs.Prelude.{Option as Maybe}
-use Rattle.std.specs.List.{flat_map}
 use mathlib.Core.Option.{Option, none, some, some-injective, some-ne-none}
 use lib.ListN.{get_elem?}
 use Rattle.sock_words.specs.declared.plain.Plan.{Plan}
-use Rattle.corr_core.specs.Word.{Parts, parts}
-use Rattle.corr_core.specs.Law.{LAST, Local, SlotLaw, Stands, vacant, retired, claimed, opened, locked, leaving}
+use Rattle.corr_core.specs.Word.{parts}
+use Rattle.corr_core.specs.Law.{Stands, vacant, retired, claimed, opened, locked, leaving}
 use Rattle.corr_core.specs.declared.marks.Plan.{Plan as IdPlan}
 use Rattle.corr_core.specs.declared.marks.Hand.TheVariants.{Full}
 use Rattle.corr_core.specs.declared.marks.Token.TheVariants.{Locked}
-use Rattle.corr_core.proofs.Slots.{is_lock}
 use Rattle.id_rule.specs.Lawful.{tag_word, id_word, call_word, at_word, local, Lawful}
-use Rattle.id_rule.specs.Plays.{Longer}
+use Rattle.id_rule.specs.Plays.{Longer, IsHome, value_of}
 use Rattle.id_rule.proofs.Allowed as allowed
 use Rattle.sock_programs.specs.declared.task.Asked.{Asked}
 use Rattle.sock_programs.specs.Asides.{Step, Found, ClaimId, PutCall, MakeId, StoreCall, LoadCall, StoreAt, LoadAt, LoadIdWord, LockId, PostId, UnlockId, EndId, FreeId, TakeCall, TakeBytes, Taking, Bytes}
 use Rattle.sock_programs.specs.Cores.{Calls}
 use Rattle.sock_programs.specs.Beside.{found_in, calls_after, more_given, call_at}
 use Rattle.sock_programs.specs.Told.{AskedFits}
-use Rattle.id_runs.specs.Held.{CallFits, AtFits, StoredFit, IdView, id_state, id_row, HasOne, MayId}
+use Rattle.id_runs.specs.Held.{CallFits, AtFits, StoredFit, IdView, id_state, id_row, HasOne, HasCallAt, MayId}
 use Rattle.id_runs.specs.Goes.{HasRoom, IsIdWord, FindsId}
 use Rattle.id_runs.proofs.Keeps as steps
 
@@ -43,14 +41,26 @@ module _ (p : Plan) (q : IdPlan) (a : Calls) (plan : a.plan ≡ q) (us : List Id
   keeps_ids (ClaimId i) t found e may = by_found (ClaimId i) (get_or a.words (tag_word i) 0) found e (no_call, steps.claims p q a us law k u at real i may)
   keeps_ids (PutCall i asked) t found e may = by_found (PutCall i asked) (get_or a.words (tag_word i) 0) found e (no_call, steps.puts p q a us law k u at real i may.0 asked may.1)
   keeps_ids (MakeId i range) t found e may = by_found (MakeId i range) (get_or a.words (id_word i) 0) found e (no_call, steps.makes_id p q a us law k u at real i may.0 range may.1.0 may.1.1 may.1.2 may.2 may.3)
-  keeps_ids (StoreCall o id) t found e may = (no_call, subst (λ (r : IdPlan). Lawful q (id_state (record a { words = set a.words (call_word r o) id }) (set us k (id_row q (StoreCall o id) found no_call u)))) (sym plan)
-      (steps.stores p q a us law k u at real (call_word q o) id (let z = may.0 in omega arith) (let z = may.0 in omega arith) may.1))
-  keeps_ids (LoadCall o) t found e may = by_found (LoadCall o) (get_or a.words (call_word a.plan o) 0) found e (no_call, subst (λ (r : IdPlan). Lawful q (id_state a (set us k (Rattle.id_rule.specs.Plays.found_view (call_word q o) (get_or a.words (call_word r o) 0) u)))) (sym plan)
-      (steps.finds p q a us law k u at real (call_word q o) (omega (arith, may)) (omega (arith, may))))
-  keeps_ids (StoreAt o w) t found e may = (no_call, subst (λ (r : IdPlan). Lawful q (id_state (record a { words = set a.words (at_word r o) w }) (set us k (id_row q (StoreAt o w) found no_call u)))) (sym plan)
-      (steps.stores p q a us law k u at real (at_word q o) w (let z = may.0 in omega arith) (let z = may.0 in omega arith) may.1))
-  keeps_ids (LoadAt o) t found e may = by_found (LoadAt o) (get_or a.words (at_word a.plan o) 0) found e (no_call, subst (λ (r : IdPlan). Lawful q (id_state a (set us k (Rattle.id_rule.specs.Plays.found_view (at_word q o) (get_or a.words (at_word r o) 0) u)))) (sym plan)
-      (steps.finds p q a us law k u at real (at_word q o) (omega (arith, may)) (omega (arith, may))))
+  keeps_ids (StoreCall o id) t found e may = (
+    no_call,
+    subst (λ (r : IdPlan). Lawful q (id_state (record a { words = set a.words (call_word r o) id }) (set us k (id_row q (StoreCall o id) found no_call u)))) (sym plan)
+        (steps.stores p q a us law k u at real (call_word q o) id (let z = may.0 in omega arith) (let z = may.0 in omega arith) may.1),
+  )
+  keeps_ids (LoadCall o) t found e may = by_found (LoadCall o) (get_or a.words (call_word a.plan o) 0) found e (
+    no_call,
+    subst (λ (r : IdPlan). Lawful q (id_state a (set us k (Rattle.id_rule.specs.Plays.found_view (call_word q o) (get_or a.words (call_word r o) 0) u)))) (sym plan)
+        (steps.finds p q a us law k u at real (call_word q o) (omega (arith, may)) (omega (arith, may))),
+  )
+  keeps_ids (StoreAt o w) t found e may = (
+    no_call,
+    subst (λ (r : IdPlan). Lawful q (id_state (record a { words = set a.words (at_word r o) w }) (set us k (id_row q (StoreAt o w) found no_call u)))) (sym plan)
+        (steps.stores p q a us law k u at real (at_word q o) w (let z = may.0 in omega arith) (let z = may.0 in omega arith) may.1),
+  )
+  keeps_ids (LoadAt o) t found e may = by_found (LoadAt o) (get_or a.words (at_word a.plan o) 0) found e (
+    no_call,
+    subst (λ (r : IdPlan). Lawful q (id_state a (set us k (Rattle.id_rule.specs.Plays.found_view (at_word q o) (get_or a.words (at_word r o) 0) u)))) (sym plan)
+        (steps.finds p q a us law k u at real (at_word q o) (omega (arith, may)) (omega (arith, may))),
+  )
   keeps_ids (LoadIdWord i) t found e may = by_found (LoadIdWord i) (get_or a.words (id_word i) 0) found e (no_call, steps.sees p q a us law k u at real i may)
   keeps_ids (LockId i from) t found e may = by_found (LockId i from) (get_or a.words (id_word i) 0) found e (steps.locks p q a us law k u at real i may.0 from may.1)
   keeps_ids (PostId i from e₁) t found e may = by_found (PostId i from e₁) (get_or a.words (id_word i) 0) found e (steps.posts p q a us law k u at real i may.0 from e₁ may.1 may.2 may.3)
@@ -103,6 +113,10 @@ module _ (p : Plan) (q : IdPlan) (a : Calls) (plan : a.plan ≡ q) (us : List Id
   home_there : (i : ℕ) → i < q.slots → (f rg att x y : ℕ) (c : Asked) → HasOne i (Locked f rg att c x y (Full c)) u → get_elem? a.homes i ≡ some (some (Some c))
   home_there i inside f rg att x y c has = (allowed.known q k (u, []) i inside real (id_state a us) law at f rg att x y c has).home
 
+  -- a call is at home where the view says so
+  pub call_there : (i : ℕ) → i < q.slots → HasCallAt i u → (c : Asked) × (get_elem? a.homes i ≡ some (some (Some c)))
+  call_there i inside may = (may.1, (allowed.takes_law q k (u, []) i inside real (id_state a us) law at may.0 may.2 (subst IsHome (sym may.3) tt)).0 ∙ ap (λ h. some (some (value_of h))) may.3)
+
   called : (x : Option (Option (Maybe Asked))) (asked : Asked) → call_at x ≡ some asked → x ≡ some (some (Some asked))
   called none asked e = absurd (some-ne-none asked (sym e))
   called (some none) asked e = absurd (some-ne-none asked (sym e))
@@ -123,6 +137,9 @@ module _ (p : Plan) (q : IdPlan) (a : Calls) (plan : a.plan ≡ q) (us : List Id
   finds_ids stored fits (UnlockId i from advance) t found e may = λ f rg att x y c has. subst (λ n. Longer f rg att (parts n).oldest (parts n).second (parts n)) (some-injective (get_or a.words (id_word i) 0) found e) (longer_there i may.0 f rg att x y c has)
   finds_ids stored fits (EndId i) t found e may = tt
   finds_ids stored fits (FreeId i) t found e may = tt
-  finds_ids stored fits (TakeCall i) t found e may = let there = called (get_elem? a.homes i) found e in (fits i found there, λ f rg att x y c has.
-      let same : some (Some c) ≡ some (Some found) = some-injective (some (Some c)) (some (Some found)) (sym (home_there i may.0 f rg att x y c has) ∙ there) in let z : Some c ≡ Some found = some-injective (Some c) (Some found) same in cc)
+  finds_ids stored fits (TakeCall i) t found e may = let there = called (get_elem? a.homes i) found e in (
+    fits i found there,
+    λ f rg att x y c has.
+        let same : some (Some c) ≡ some (Some found) = some-injective (some (Some c)) (some (Some found)) (sym (home_there i may.0 f rg att x y c has) ∙ there) in let z : Some c ≡ Some found = some-injective (Some c) (Some found) same in cc,
+  )
   finds_ids stored fits (TakeBytes l room) t found e may = tt

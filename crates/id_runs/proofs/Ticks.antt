@@ -1,6 +1,5 @@
 -- A tick of any seat keeps the rule of the ids, and what each seat may do with them.
-use Rattle.std.proofs.Common.{◌≡◌, ◌≢◌, ℕ, zero, suc, ◌+◌, ◌-◌, ◌*◌, ◌<◌, ◌≤◌, ⊎_elim, Bool, true, false, cond, eqb, leb, List, [], ◌∷◌, ◌++◌, Some, None, length, length-set, get_or, get_or-set_same, get_or-set_other, set, refl, sym, ap, ◌∙◌, subst, arith}
-use Rattle.std.specs.Prelude.{Option as Maybe}
+use Rattle.std.proofs.Common.{◌≡◌, ◌≢◌, ℕ, zero, suc, ◌+◌, ◌*◌, ◌<◌, ◌≤◌, ⊎_elim, Bool, true, false, cond, eqb, leb, List, [], ◌∷◌, ◌++◌, Some, None, length, length-set, get_or, get_or-set_same, get_or-set_other, set, refl, sym, ap, ◌∙◌, subst, arith}
 use mathlib.Core.Logic.{dite}
 use native.Mathlib.Decide.{ℕ_discrete}
 use Rattle.std.specs.List.{AllByRecursion}
@@ -21,27 +20,27 @@ use Rattle.corr_core.specs.declared.marks.Plan.{Plan as IdPlan}
 use Rattle.corr_core.specs.declared.marks.Hand.TheVariants as hands
 use Rattle.corr_core.specs.declared.marks.Token.{Token}
 use Rattle.corr_core.specs.declared.marks.Token.TheVariants.{Claimed, Locked, Leaving}
-use Rattle.corr_core.specs.declared.marks.Note.TheVariants.{Tried, Queued, Saw, Attempt, Made, Ended}
+use Rattle.corr_core.specs.declared.marks.Note.TheVariants.{Tried, Queued, Saw, Attempt}
 use Rattle.id_rule.specs.Lawful.{Lawful, all_words, tag_word, id_word, call_word, at_word, tokens_in, with_token, no_token, with_note}
-use Rattle.id_rule.specs.Plays.{popped_view, advanced_view, ended_view, found_view, claimed_view, with_hand}
+use Rattle.id_rule.specs.Plays.{popped_view, advanced_view, with_hand}
 use Rattle.sock_programs.specs.declared.task.Asked.{Asked}
 use Rattle.sock_programs.specs.Asides.{Step, Found, ClaimId, PutCall, MakeId, StoreCall, LoadCall, StoreAt, LoadAt, LoadIdWord, LockId, PostId, UnlockId, EndId, FreeId, TakeCall, TakeBytes, Taking, Bytes}
-use Rattle.sock_programs.specs.Heads.{Head, Exit, Retry}
+use Rattle.sock_programs.specs.Heads.{Retry}
 use Rattle.sock_programs.specs.Programs.{Program, Do, Say, Sent, Rest, TakeMessage, TakeHome, PutHome, PutBytes, AskReady, Write, Aside, Round, Keep, Retries}
 use Rattle.sock_programs.specs.Posts.{packed, advance_of}
 use Rattle.sock_programs.specs.Sends.{block}
 use Rattle.sock_programs.specs.Rounds.{round}
-use Rattle.sock_programs.specs.Attempts.{retry}
 use Rattle.sock_programs.specs.Cores.{Calls, Core, SeatState, word_of, found_at, words_after, word_after, homes_after, hand_after, lies_at, first_of, others_of, link_place, resolved, still_waiting, waiting_at, next_step, with_seat}
-use Rattle.sock_programs.specs.Beside.{found_in, calls_after, more_given}
+use Rattle.sock_programs.specs.Beside.{found_in, calls_after}
 use Rattle.sock_programs.specs.Ticks.{Answer, Unasked, OfPut, OfReady, OfTake, Moment, fed, with_places, onto_first, taken, with_message, with_link, with_put, with_ready, with_found, step_with, tick_with, ticked}
 use Rattle.sock_programs.specs.Told.{AskedFits}
 use Rattle.id_runs.specs.Held.{CallFits, AtFits, StoredFit, IdView, id_state, by_token, made_by, unlocked_by, ended_by, locked_by, id_row, MayId}
-use Rattle.id_runs.specs.Goes.{FitsOwner, IsFree, FitsRetryId, FindsId, IdGoesOn, SoundIds, FitsFirst, IsFittingIds}
+use Rattle.id_runs.specs.Goes.{IsFree, FitsRetryId, FindsId, IdGoesOn, HandFits, HomesFit, CodesFit, SoundIds, FitsFirst, IsFittingIds}
 use Rattle.id_runs.specs.Goes as goes
 use Rattle.id_runs.proofs.Steps.{keeps_ids, finds_ids}
 use Rattle.id_runs.proofs.Loops.{ids_round}
 use Rattle.id_runs.proofs.Programs.{block_goes, retry_goes}
+use Rattle.id_runs.proofs.Owners.{home_set, first_fits, others_fit, lies_fit, onto_fits, fed_fits, places_fit, steps_on, hand_fits, homes_fit, codes_fit}
 
 -- ## Shares stay
 
@@ -93,7 +92,7 @@ row_share q (TakeBytes k room) found c u = refl
 
 -- ## Retries that wait
 
-fits_set : {A : Type 0} (P : List A → Type 0) (ws : List (List A)) (i : ℕ) (x : List A) → P x → ((j : ℕ) → P (get_or ws j [])) → (j : ℕ) → P (get_or (set ws i x) j [])
+pub fits_set : {A : Type 0} (P : List A → Type 0) (ws : List (List A)) (i : ℕ) (x : List A) → P x → ((j : ℕ) → P (get_or ws j [])) → (j : ℕ) → P (get_or (set ws i x) j [])
 fits_set P [] i x px all j = all j
 fits_set P (w ∷ ws) zero x px all zero = px
 fits_set P (w ∷ ws) zero x px all (suc j) = all (suc j)
@@ -105,7 +104,7 @@ all_more P [] r all one = (one, tt)
 all_more P (w ∷ ws) r all one = (all.0, all_more P ws r all.1 one)
 
 module _ (p : Plan) (q : IdPlan) (narrow : q.slots ≤ 65536) (same : q.operations ≡ p.operations) where
-  resolved_goes : (u : IdView) (ws : List Retry) (program : Program) → AllByRecursion (FitsRetryId q) ws → IdGoesOn p q u program → IdGoesOn p q u (next_step (resolved ws program))
+  pub resolved_goes : (u : IdView) (ws : List Retry) (program : Program) → AllByRecursion (FitsRetryId q) ws → IdGoesOn p q u program → IdGoesOn p q u (next_step (resolved ws program))
   resolved_goes u ws (Say o outcome next) all g = resolved_goes u ws next all g
   resolved_goes u ws (Sent o next) all g = resolved_goes u ws next all g
   resolved_goes u ws (Keep r next) all g = resolved_goes u (ws ++ r ∷ []) next (all_more (FitsRetryId q) ws r all g.0) g.1
@@ -122,7 +121,7 @@ module _ (p : Plan) (q : IdPlan) (narrow : q.slots ≤ 65536) (same : q.operatio
   resolved_goes u ws (Aside step next) all g = g
   resolved_goes u ws (Round head next) all g = g
 
-  still_fit : (u : IdView) (ws : List Retry) (program : Program) → AllByRecursion (FitsRetryId q) ws → IdGoesOn p q u program → AllByRecursion (FitsRetryId q) (still_waiting ws program)
+  pub still_fit : (u : IdView) (ws : List Retry) (program : Program) → AllByRecursion (FitsRetryId q) ws → IdGoesOn p q u program → AllByRecursion (FitsRetryId q) (still_waiting ws program)
   still_fit u ws (Say o outcome next) all g = still_fit u ws next all g
   still_fit u ws (Sent o next) all g = still_fit u ws next all g
   still_fit u ws (Keep r next) all g = still_fit u (ws ++ r ∷ []) next (all_more (FitsRetryId q) ws r all g.0) g.1
@@ -143,9 +142,9 @@ module _ (p : Plan) (q : IdPlan) (narrow : q.slots ≤ 65536) (same : q.operatio
 
   module _ (c : Core) (us : List IdView) (sound : SoundIds p q c us) (i : ℕ) (seat : SeatState) (u : IdView) (at_seat : get_elem? c.seats i ≡ some seat) (at_view : get_elem? us i ≡ some u) where
     -- seat i has this program, and its view is w
-    reseats : (a : Calls) (program : Program) (hand : List Home) (ws : List ℕ) (hs : List (Option Home)) (w : IdView) → a.plan ≡ q → a.waiting ≡ c.calls.waiting → Lawful q (id_state a (set us i w)) → w.share ≡ u.share
+    reseats : (a : Calls) (program : Program) (hand : List Home) (ws : List ℕ) (hs : List (Option Home)) (w : IdView) → HandFits q hand → CodesFit p ws → HomesFit q hs → a.plan ≡ q → a.waiting ≡ c.calls.waiting → Lawful q (id_state a (set us i w)) → w.share ≡ u.share
         → ((j : ℕ) (asked : Asked) → get_elem? a.homes j ≡ some (some (Some asked)) → AskedFits p asked) → StoredFit q a → IdGoesOn p q w program → SoundIds p q (with_seat i program hand ws hs (record c { calls = a })) (set us i w)
-    reseats a program hand ws hs w plan kept rule share homes stored go =
+    reseats a program hand ws hs w hand_fit codes owners plan kept rule share homes stored go =
         let fit : AllByRecursion (FitsRetryId q) (waiting_at a.waiting i) = subst (λ (x : List (List Retry)). AllByRecursion (FitsRetryId q) (waiting_at x i)) (sym kept) (sound.waiting i) in
         let seat' : SeatState = record { program = next_step (resolved (waiting_at a.waiting i) program); hand = hand } in
         let fresh : IdGoesOn p q w seat'.program = resolved_goes w (waiting_at a.waiting i) program fit go in record {
@@ -156,6 +155,9 @@ module _ (p : Plan) (q : IdPlan) (narrow : q.slots ≤ 65536) (same : q.operatio
           homes = homes;
           called = stored.0;
           placed = stored.1;
+          owners = owners;
+          codes = codes;
+          in_hand = λ j s' e. ⊎_elim (λ b. subst (λ (x : SeatState). HandFits q x.hand) b.1 hand_fit) (λ b. sound.in_hand j s' b.1) (at_set c.seats i j seat' s' e);
           waiting = fits_set (AllByRecursion (FitsRetryId q)) a.waiting i (still_waiting (waiting_at a.waiting i) program) (still_fit w (waiting_at a.waiting i) program fit go)
               (subst (λ (x : List (List Retry)). (j : ℕ) → AllByRecursion (FitsRetryId q) (waiting_at x j)) (sym kept) sound.waiting);
           seats = λ j s' v at_s at_v. ⊎_elim
@@ -168,11 +170,14 @@ module _ (p : Plan) (q : IdPlan) (narrow : q.slots ≤ 65536) (same : q.operatio
     abbrev pub After : Core → Type 0
     After c' = (us' : List IdView) × SoundIds p q c' us'
 
-    on_sockets : (program : Program) (hand : List Home) (ws : List ℕ) (hs : List (Option Home)) → IdGoesOn p q u program → After (with_seat i program hand ws hs c)
-    on_sockets program hand ws hs go = (set us i u, reseats c.calls program hand ws hs u sound.plan refl (subst (λ vs. Lawful q (id_state c.calls vs)) (sym (set_again us i u at_view)) sound.rule) refl sound.homes (sound.called, sound.placed) go)
+    on_sockets : (program : Program) (hand : List Home) (ws : List ℕ) (hs : List (Option Home)) → HandFits q hand → CodesFit p ws → HomesFit q hs → IdGoesOn p q u program → After (with_seat i program hand ws hs c)
+    on_sockets program hand ws hs hand_fit codes owners go = (set us i u, reseats c.calls program hand ws hs u hand_fit codes owners sound.plan refl (subst (λ vs. Lawful q (id_state c.calls vs)) (sym (set_again us i u at_view)) sound.rule) refl sound.homes (sound.called, sound.placed) go)
 
     before : After c
     before = (us, sound)
+
+    held : HandFits q seat.hand
+    held = sound.in_hand i seat at_seat
 
     calls_homes : (step : Step) (found : Found step) → MayId p q u step → (j : ℕ) (asked : Asked) → get_elem? (calls_after step found c.calls).homes j ≡ some (some (Some asked)) → AskedFits p asked
     calls_homes (PutCall k b) found may j asked e = ⊎_elim (λ x. let z : Some b ≡ Some asked = some-injective (Some b) (Some asked) x.1 in let w : b ≡ asked = cc in subst (AskedFits p) w may.2) (λ x. sound.homes j asked x.1) (at_set c.calls.homes k j (some (Some b)) (some (Some asked)) e)
@@ -256,9 +261,11 @@ module _ (p : Plan) (q : IdPlan) (narrow : q.slots ≤ 65536) (same : q.operatio
 
     on_ids : (step : Step) (next : Found step → Program) (t : Option Taking) → IdGoesOn p q u (Aside step next) → (x : Option (Found step)) → found_in step c.calls t ≡ x → After (with_found p i seat c step x next)
     on_ids step next t go none is = before
-    on_ids step next t go (some found) is = let r = keeps_ids p q c.calls sound.plan us sound.rule i u at_view (sound.real i u at_view) step t found is go.0 in let w : IdView = id_row q step found r.0 u in let k = calls_plan step found in
-        (set us i w, reseats (calls_after step found c.calls) (next found) seat.hand c.words c.homes (id_row q step found r.0 u) (k.0 ∙ sound.plan) k.1 r.1 (row_share q step found r.0 u) (calls_homes step found go.0) (calls_stored step found go.0)
-        (go.1 found r.0 (finds_ids p q c.calls sound.plan us sound.rule i u at_view (sound.real i u at_view) (sound.called, sound.placed) sound.homes step t found is go.0)))
+    on_ids step next t go (some found) is = let r = keeps_ids p q c.calls sound.plan us sound.rule i u at_view (sound.real i u at_view) step t found is go.0 in let w : IdView = id_row q step found r.0 u in let k = calls_plan step found in (
+      set us i w,
+      reseats (calls_after step found c.calls) (next found) seat.hand c.words c.homes (id_row q step found r.0 u) held sound.codes sound.owners (k.0 ∙ sound.plan) k.1 r.1 (row_share q step found r.0 u) (calls_homes step found go.0) (calls_stored step found go.0)
+          (go.1 found r.0 (finds_ids p q c.calls sound.plan us sound.rule i u at_view (sound.real i u at_view) (sound.called, sound.placed) sound.homes step t found is go.0)),
+    )
 
     message_there : (x : Option (Option Home)) (letter : Letter) → letter_of (shown (λ (home : Home). home) x) ≡ some letter → x ≡ some (some (Message letter.0 letter.1))
     message_there none letter e = absurd (some-ne-none letter (sym e))
@@ -267,31 +274,35 @@ module _ (p : Plan) (q : IdPlan) (narrow : q.slots ≤ 65536) (same : q.operatio
     message_there (some (some (Link k took next done))) letter e = absurd (some-ne-none letter (sym e))
     message_there (some (some (Message l cs))) letter e = ap (λ (z : Letter). some (some (Message z.0 z.1))) (some-injective (l, cs) letter e)
 
-    by_letter : (r : ℕ) (next : Heading → List ℕ → Program) → IdGoesOn p q u (TakeMessage r next) → FitsFirst p q c (TakeMessage r next) → (x : Option Letter) → message (λ (h : Home). h) c.homes r ≡ x → After (with_message p i seat c r x (λ letter. next letter.0 letter.1))
-    by_letter r next go fits none is = before
-    by_letter r next go fits (some letter) is = on_sockets (next letter.0 letter.1) seat.hand c.words (set c.homes r none) (go letter.0 letter.1 (fits letter.0 letter.1 (message_there (get_elem? c.homes r) letter is)))
+    by_letter : (r : ℕ) (next : Heading → List ℕ → Program) → IdGoesOn p q u (TakeMessage r next) → (x : Option Letter) → message (λ (h : Home). h) c.homes r ≡ x → After (with_message p i seat c r x (λ letter. next letter.0 letter.1))
+    by_letter r next go none is = before
+    by_letter r next go (some letter) is = on_sockets (next letter.0 letter.1) seat.hand c.words (set c.homes r none) held sound.codes (home_set q c.homes r none (λ y e. absurd (some-ne-none y (sym e))) sound.owners)
+        (go letter.0 letter.1 (sound.owners r (Message letter.0 letter.1) (message_there (get_elem? c.homes r) letter is)))
 
     by_link : (k : ℕ) (next : ℕ → Program) → IdGoesOn p q u (TakeHome k next) → (x : Option (List ℕ × ℕ)) → After (with_link p i seat c k x next)
     by_link k next go none = before
-    by_link k next go (some home) = on_sockets (next home.1) (lies_at c.homes (link_place p k) ++ seat.hand) c.words (set c.homes (link_place p k) none) (go home.1)
+    by_link k next go (some home) = on_sockets (next home.1) (lies_at c.homes (link_place p k) ++ seat.hand) c.words (set c.homes (link_place p k) none) (lies_fit q c.homes (link_place p k) seat.hand sound.owners held) sound.codes (home_set q c.homes (link_place p k) none (λ y e. absurd (some-ne-none y (sym e))) sound.owners) (go home.1)
 
     by_put : (bytes : List ℕ) (next : Put → Program) → ((answer : Put) → IdGoesOn p q u (next answer)) → (answer : Answer) → After (with_put p i seat c bytes answer next)
-    by_put bytes next go (OfPut answer) = on_sockets (next answer) (onto_first (fed bytes answer) seat.hand) c.words c.homes (go answer)
+    by_put bytes next go (OfPut answer) = on_sockets (next answer) (onto_first (fed bytes answer) seat.hand) c.words c.homes (onto_fits q (fed bytes answer) (fed_fits q bytes answer) seat.hand held) sound.codes sound.owners (go answer)
     by_put bytes next go Unasked = before
     by_put bytes next go (OfReady r) = before
     by_put bytes next go (OfTake t) = before
 
     by_ready : (next : Ready → Program) → ((answer : Ready) → IdGoesOn p q u (next answer)) → (answer : Answer) → After (with_ready p i seat c answer next)
-    by_ready next go (OfReady answer) = on_sockets (next answer) seat.hand c.words c.homes (go answer)
+    by_ready next go (OfReady answer) = on_sockets (next answer) seat.hand c.words c.homes held sound.codes sound.owners (go answer)
     by_ready next go Unasked = before
     by_ready next go (OfPut a) = before
     by_ready next go (OfTake t) = before
 
-    first_step : (answer : Answer) (program : Program) → IdGoesOn p q u program → FitsFirst p q c program → After (step_with p i seat c answer program)
-    first_step answer (Do call next) go fits = on_sockets (next (found_at c.words (word_of p call))) (hand_after p call c.homes seat.hand) (words_after c.words (word_of p call) (word_after call (found_at c.words (word_of p call)))) (homes_after p call seat.hand c.homes) (go (found_at c.words (word_of p call)) fits)
-    first_step answer (TakeMessage r next) go fits = by_letter r next go fits (message (λ (h : Home). h) c.homes r) refl
+    first_step : (answer : Answer) (program : Program) → IdGoesOn p q u program → FitsFirst p c program → After (step_with p i seat c answer program)
+    first_step answer (Do call next) go fits = let found : ℕ = found_at c.words (word_of p call) in let may = steps_on p q u call next go in
+        on_sockets (next found) (hand_after p call c.homes seat.hand) (words_after c.words (word_of p call) (word_after call found)) (homes_after p call seat.hand c.homes)
+        (hand_fits p q call c.homes seat.hand sound.owners held) (codes_fit p q call may.0 c.words sound.codes) (homes_fit p q call may.0 c.homes seat.hand sound.owners held) (may.1 found fits)
+    first_step answer (TakeMessage r next) go fits = by_letter r next go (message (λ (h : Home). h) c.homes r) refl
     first_step answer (TakeHome k next) go fits = by_link k next go (link_home (λ (h : Home). h) p c.homes k)
-    first_step answer (PutHome k n after) go fits = on_sockets after (others_of seat.hand) c.words (set c.homes (link_place p k) (first_of (onto_first (with_places n) seat.hand))) go
+    first_step answer (PutHome k n after) go fits = on_sockets after (others_of seat.hand) c.words (set c.homes (link_place p k) (first_of (onto_first (with_places n) seat.hand))) (others_fit q seat.hand held) sound.codes
+        (home_set q c.homes (link_place p k) (first_of (onto_first (with_places n) seat.hand)) (first_fits q (onto_first (with_places n) seat.hand) (onto_fits q (with_places n) (places_fit q n) seat.hand held)) sound.owners) go
     first_step answer (PutBytes k asked bytes next) go fits = by_put bytes next go answer
     first_step answer (AskReady k next) go fits = by_ready next go answer
     first_step answer (Aside step next) go fits = on_ids step next (taken answer) go (found_in step c.calls (taken answer)) refl
@@ -303,7 +314,7 @@ module _ (p : Plan) (q : IdPlan) (narrow : q.slots ≤ 65536) (same : q.operatio
     first_step answer (Keep r next) go fits = before
     first_step answer (Retries requests after) go fits = before
 
-    any_step : (answer : Answer) (program : Program) → IdGoesOn p q u program → FitsFirst p q c (goes.first_of program) → After (tick_with p i seat c answer program)
+    any_step : (answer : Answer) (program : Program) → IdGoesOn p q u program → FitsFirst p c (goes.first_of program) → After (tick_with p i seat c answer program)
     any_step answer (Write w after) go fits = first_step answer (block w after) (block_goes p q narrow u w after go) fits
     any_step answer (Round head next) go fits = first_step answer (round head next) (ids_round p q u head next go) fits
     any_step answer (Do call next) go fits = first_step answer (Do call next) go fits
@@ -327,7 +338,7 @@ module _ (p : Plan) (q : IdPlan) (narrow : q.slots ≤ 65536) (same : q.operatio
   beside (x ∷ xs) (y ∷ ys) (suc i) a e at none_ = beside xs ys i a (omega (arith, e)) at none_
 
   -- a tick of any seat keeps the ids sound, where the words of the sockets are as they should be
-  pub ids_ticks : (c : Core) (us : List IdView) (m : Moment) → SoundIds p q c us → IsFittingIds p q c m → (us' : List IdView) × SoundIds p q (ticked p c m) us'
+  pub ids_ticks : (c : Core) (us : List IdView) (m : Moment) → SoundIds p q c us → IsFittingIds p c m → (us' : List IdView) × SoundIds p q (ticked p c m) us'
   ids_ticks c us m sound fitting = by_seat (get_elem? c.seats m.seat) refl
     where
       by_view : (seat : SeatState) → get_elem? c.seats m.seat ≡ some seat → (x : Option IdView) → get_elem? us m.seat ≡ x → (us' : List IdView) × SoundIds p q (tick_with p m.seat seat c m.answer seat.program) us'

@@ -1,23 +1,22 @@
 -- A program that the rule of the ids allows from a view on, and all seats with their views.
-use Rattle.std.specs.Prelude.{ℕ, ◌≡◌, ◌≢◌, ◌+◌, ◌<◌, ◌≤◌, ◌⊎◌, Bool, true, false, List, [], ◌∷◌, length, slice_index, Option, Some, None}
-use Rattle.std.specs.Prelude as std
+use Rattle.std.specs.Prelude.{ℕ, ◌≡◌, ◌≢◌, ◌+◌, ◌<◌, ◌≤◌, ◌⊎◌, List, [], length, slice_index, Option, Some, None}
 use mathlib.Core.Option as core
 use lib.ListN.{get_elem?}
 use Rattle.sock_words.specs.declared.plain.Plan.{Plan}
 use Rattle.sock_io.specs.declared.link.Put.{Put}
 use Rattle.sock_io.specs.declared.link.Ready.{Ready}
 use Rattle.sock_model.specs.declared.chain.Heading.{Heading}
-use Rattle.corr_core.specs.Word.{Parts, parts, code_of, attempt_of}
+use Rattle.corr_core.specs.Word.{Parts, parts}
 use Rattle.corr_core.specs.declared.marks.Plan.{Plan as IdPlan}
 use Rattle.corr_core.specs.declared.marks.Hand.TheVariants.{Empty, Full}
 use Rattle.corr_core.specs.declared.marks.Token.TheVariants.{Locked}
 use Rattle.id_rule.specs.Lawful.{Lawful, call_word, at_word}
-use Rattle.id_rule.specs.Plays.{LockFits, Longer}
+use Rattle.id_rule.specs.Plays.{Longer}
 use Rattle.sock_programs.specs.declared.task.Asked.{Asked}
-use Rattle.sock_programs.specs.Calls.{Call, FindLink, LoadCode}
+use Rattle.sock_programs.specs.Calls.{Call, FindLink, LoadCode, StoreCode, PutMessage}
 use Rattle.sock_programs.specs.Writings.{Writing, Puts, Waits}
-use Rattle.sock_programs.specs.Asides.{Step, LoadCall, LoadAt, MakeId, LoadIdWord, LockId, PostId, UnlockId, TakeCall, Found, id_slot, id_first}
-use Rattle.sock_programs.specs.Heads.{Head, Exit, Retry, Reading, Posts, Unlocks, Decides, Locks, Joins, Opens, Reads, Discards, Posting, HasLocked, Unlocking, IsOpen, HasNext, Locking, NotThere, Has, Ended}
+use Rattle.sock_programs.specs.Asides.{Step, LoadCall, LoadAt, MakeId, LoadIdWord, LockId, PostId, UnlockId, TakeCall, Found, id_slot}
+use Rattle.sock_programs.specs.Heads.{Head, Exit, Retry, Posts, Unlocks, Decides, Locks, Joins, Opens, Reads, Discards, Posting, HasLocked, Unlocking, IsOpen, HasNext, Locking, NotThere, Has, Ended}
 use Rattle.sock_programs.specs.Programs.{Program, Do, Say, Sent, Rest, TakeMessage, TakeHome, PutHome, PutBytes, AskReady, Write, Aside, Round, Keep, Retries}
 use Rattle.sock_programs.specs.Posts.{advance_of}
 use Rattle.std.specs.List.{AllByRecursion}
@@ -25,7 +24,9 @@ use Rattle.sock_programs.specs.Cores.{Core, SeatState, word_of, found_at, waitin
 use Rattle.sock_programs.specs.Sends.{block}
 use Rattle.sock_programs.specs.Rounds.{round}
 use Rattle.sock_programs.specs.Ticks.{Moment}
+use Rattle.sock_model.specs.declared.home.Home.{Home}
 use Rattle.sock_model.specs.declared.home.Home.TheVariants.{Message}
+use Rattle.sock_model.specs.Layout.{code_word}
 use Rattle.sock_programs.specs.Told.{AskedFits}
 use Rattle.id_runs.specs.Held.{IdView, id_state, one, HasOne, CallFits, AtFits, MayId, id_row}
 
@@ -40,6 +41,20 @@ FitsSock other found = Unit {0}
 -- the owner of a message is none, or an id of the table
 abbrev pub FitsOwner : IdPlan → Heading → Type 0
 FitsOwner q heading = heading.owner ≢ 0 → (id_slot heading.owner < q.slots) × (heading.attempt ≤ 6)
+
+abbrev pub FitsHome : IdPlan → Home → Type 0
+FitsHome q (Message heading bytes) = FitsOwner q heading
+FitsHome q other = Unit {0}
+
+abbrev pub HandFits : IdPlan → List Home → Type 0
+HandFits q hand = AllByRecursion (FitsHome q) hand
+
+abbrev pub HomesFit : IdPlan → List (core.Option Home) → Type 0
+HomesFit q homes = (i : ℕ) (x : Home) → get_elem? homes i ≡ core.some (core.some x) → FitsHome q x
+
+-- each life's code is an error's
+abbrev pub CodesFit : Plan → List ℕ → Type 0
+CodesFit p words = (i : ℕ) → i < p.slots → slice_index words (code_word i) < 4096
 
 abbrev pub FitsWriting : IdPlan → Writing → Type 0
 FitsWriting q (Puts h now heading left taken asked) = FitsOwner q heading
@@ -153,6 +168,8 @@ abbrev pub FitsRetryId : IdPlan → Retry → Type 0
 FitsRetryId q r = (id_slot r.id < q.slots) × (r.attempt ≤ 6)
 
 abbrev pub IdGoesOn : Plan → IdPlan → IdView → Program → Type 0
+IdGoesOn p q u (Do (StoreCode i h c) next) = (c < 4096) × ((found : ℕ) → IdGoesOn p q u (next found))
+IdGoesOn p q u (Do (PutMessage r heading bytes) next) = FitsOwner q heading × ((found : ℕ) → IdGoesOn p q u (next found))
 IdGoesOn p q u (Do call next) = (found : ℕ) → FitsSock call found → IdGoesOn p q u (next found)
 IdGoesOn p q u (Say o outcome next) = IdGoesOn p q u next
 IdGoesOn p q u (Sent o next) = IdGoesOn p q u next
@@ -181,6 +198,10 @@ pub record SoundIds (p : Plan) (q : IdPlan) (c : Core) (us : List IdView) : Type
   -- a word of a call that was stored names an id of the table, and so does an at word
   pub called : (o : ℕ) → o < q.operations → slice_index c.calls.words (call_word q o) ≢ 0 → CallFits q (slice_index c.calls.words (call_word q o))
   pub placed : (o : ℕ) → o < q.operations → slice_index c.calls.words (at_word q o) ≢ 0 → AtFits q (slice_index c.calls.words (at_word q o))
+  -- the messages at home and in hand are those of ids of the table, and the codes are those of errors
+  pub owners : HomesFit q c.homes
+  pub in_hand : (i : ℕ) (seat : SeatState) → get_elem? c.seats i ≡ core.some seat → HandFits q seat.hand
+  pub codes : CodesFit p c.words
   -- a retry that waits is one of an id of the table
   pub waiting : (i : ℕ) → AllByRecursion (FitsRetryId q) (waiting_at c.calls.waiting i)
   pub seats : (i : ℕ) (seat : SeatState) (u : IdView) → get_elem? c.seats i ≡ core.some seat → get_elem? us i ≡ core.some u → IdGoesOn p q u seat.program
@@ -192,10 +213,9 @@ first_of (Write w after) = block w after
 first_of (Round head next) = round head next
 first_of other = other
 
-abbrev pub FitsFirst : Plan → IdPlan → Core → Program → Type 0
-FitsFirst p q c (Do call next) = FitsSock call (found_at c.words (word_of p call))
-FitsFirst p q c (TakeMessage r next) = (heading : Heading) (bytes : List ℕ) → get_elem? c.homes r ≡ core.some (core.some (Message heading bytes)) → FitsOwner q heading
-FitsFirst p q c other = Unit {0}
+abbrev pub FitsFirst : Plan → Core → Program → Type 0
+FitsFirst p c (Do call next) = FitsSock call (found_at c.words (word_of p call))
+FitsFirst p c other = Unit {0}
 
-abbrev pub IsFittingIds : Plan → IdPlan → Core → Moment → Type 0
-IsFittingIds p q c m = (seat : SeatState) → get_elem? c.seats m.seat ≡ core.some seat → FitsFirst p q c (first_of seat.program)
+abbrev pub IsFittingIds : Plan → Core → Moment → Type 0
+IsFittingIds p c m = (seat : SeatState) → get_elem? c.seats m.seat ≡ core.some seat → FitsFirst p c (first_of seat.program)

@@ -1,28 +1,23 @@
 -- What a seat has of the id slots: one token at most; what each step does to it, what it has to be before, and what the step may find.
 use Rattle.std.specs.Prelude.{ℕ, ◌≡◌, ◌≢◌, ◌+◌, ◌-◌, ◌*◌, ◌<◌, ◌≤◌, ◌⊎◌, ◌==◌, Bool, true, false, if◌then◌else◌, nat_le, List, [], ◌∷◌, slice_index, Some, None}
 use Rattle.std.specs.Prelude as std
-use mathlib.Core.Option.{Option, none, some}
-use lib.ListN.{get_elem?}
 use Rattle.atomic_table.specs.Table.{State}
 use Rattle.sock_words.specs.declared.plain.Plan.{Plan}
-use Rattle.corr_core.specs.Word.{Parts, parts, made_word, posted_word, unlocked_word}
-use Rattle.corr_core.specs.Law.{LAST, Begins}
+use Rattle.corr_core.specs.Word.{parts}
 use Rattle.corr_core.specs.declared.marks.Plan.{Plan as IdPlan}
-use Rattle.corr_core.specs.declared.marks.Hand.{Hand}
 use Rattle.corr_core.specs.declared.marks.Hand.TheVariants.{Empty, Full}
 use Rattle.corr_core.specs.declared.marks.Token.{Token}
 use Rattle.corr_core.specs.declared.marks.Token.TheVariants.{Claimed, Locked, Leaving}
 use Rattle.corr_core.specs.declared.marks.Note.TheVariants.{Made, Queued, Saw}
 use Rattle.corr_core.specs.declared.marks.Held.{Held}
 use Rattle.corr_core.specs.declared.marks.View.{View}
-use Rattle.id_rule.specs.Lawful.{call_word, at_word, tokens_in, tokens_of, with_token, no_token, with_note, with_kept}
-use Rattle.id_rule.specs.Plays.{hand_of, with_hand, claimed_view, locked_view, popped_view, advanced_view, ended_view, found_view, LockFits, Longer}
+use Rattle.id_rule.specs.Lawful.{call_word, at_word, tokens_in, with_token, no_token, with_note, with_kept}
+use Rattle.id_rule.specs.Plays.{hand_of, with_hand, claimed_view, locked_view, popped_view, advanced_view, ended_view, found_view, Longer}
 use Rattle.sock_programs.specs.declared.task.Asked.{Asked}
 use Rattle.sock_words.specs.Words.{at_word_slot, at_word_first}
 use Rattle.sock_programs.specs.Asides.{call_id, id_slot, Step, ClaimId, PutCall, MakeId, StoreCall, LoadCall, StoreAt, LoadAt, LoadIdWord, LockId, PostId, UnlockId, EndId, FreeId, TakeCall, TakeBytes, Found}
 use Rattle.sock_programs.specs.Posts.{advance_of}
 use Rattle.sock_programs.specs.Cores.{Calls}
-use Rattle.sock_programs.specs.Beside.{call_at}
 use Rattle.sock_programs.specs.Told.{AskedFits}
 
 -- a seat's view of the ids

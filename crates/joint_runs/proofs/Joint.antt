@@ -1,24 +1,33 @@
--- What the table of the sockets relies on of steps aside of it, the rule of the ids gives.
-use Rattle.std.proofs.Common.{◌≡◌, ℕ, ◌≤◌, List, length, refl, arith}
+-- What each of the two tables relies on of the other, the other's rule gives.
+use Rattle.std.proofs.Common.{◌≡◌, ℕ, ◌<◌, ◌≤◌, List, length, refl, sym, ap, subst, arith}
 use mathlib.Core.Option.{Option, none, some}
 use lib.ListN.{get_elem?}
 use Rattle.sock_words.specs.declared.plain.Plan.{Plan}
 use Rattle.sock_model.specs.declared.view.View.{View}
 use Rattle.corr_core.specs.declared.marks.Plan.{Plan as IdPlan}
 use Rattle.sock_programs.specs.Asides.{Step, Found, ClaimId, PutCall, MakeId, StoreCall, LoadCall, StoreAt, LoadAt, LoadIdWord, LockId, PostId, UnlockId, EndId, FreeId, TakeCall, TakeBytes}
+use Rattle.sock_programs.specs.Calls.{Call, FindLink, LoadCode}
 use Rattle.sock_programs.specs.Programs.{Program, Do, Say, Sent, Rest, TakeMessage, TakeHome, PutHome, PutBytes, AskReady, Write, Aside, Round, Keep, Retries}
-use Rattle.sock_programs.specs.Cores.{Core}
-use Rattle.sock_programs.specs.Ticks.{Moment, IsAnswered, taken, ticked}
+use Rattle.sock_programs.specs.Cores.{Core, word_of, found_at}
+use Rattle.sock_programs.specs.Beside.{found_in, call_at, at_last}
+use Rattle.sock_programs.specs.Sends.{block}
+use Rattle.sock_programs.specs.Rounds.{round}
+use Rattle.sock_programs.specs.Ticks.{Answer, Moment, IsAnswer, IsAnswered, taken}
 use Rattle.sock_runs.specs.Fits.{FitsFound}
-use Rattle.sock_runs.specs.Sound.{Sound, FitsBeside, IsFitting, first_step, views_after}
-use Rattle.sock_runs.proofs.LinkTicks.{RetriesGo}
-use Rattle.sock_runs.proofs.Ticks.{sound_ticks}
+use Rattle.sock_runs.specs.May.{May}
+use Rattle.sock_runs.specs.GoesOn.{GoesOn}
+use Rattle.sock_runs.specs.Sound.{state, Sound, FitsBeside, IsFitting, first_step}
+use Rattle.sock_runs.specs.Lasts.{IsSlot, IsCountedStep, IsCountedAt, IsCounted}
+use Rattle.sock_runs.proofs.Cases as cases
+use Rattle.sock_runs.proofs.Founds.{finds}
+use Rattle.sock_runs.proofs.Rounds.{begins_round}
+use Rattle.sock_runs.proofs.Passes.{goes_round}
 use Rattle.id_runs.specs.Held.{IdView, MayId}
-use Rattle.id_runs.specs.Goes.{FindsId, IdGoesOn, SoundIds, IsFittingIds}
-use Rattle.id_runs.proofs.Steps.{finds_ids}
+use Rattle.id_runs.specs.Goes.{FindsId, IdGoesOn, SoundIds, FitsSock, FitsFirst, IsFittingIds}
+use Rattle.id_runs.specs.Goes as goes
+use Rattle.id_runs.proofs.Steps.{finds_ids, call_there}
 use Rattle.id_runs.proofs.Loops.{ids_round}
 use Rattle.id_runs.proofs.Programs.{block_goes}
-use Rattle.id_runs.proofs.Ticks.{ids_ticks}
 
 -- what a step may find by the rule of the ids fits
 fits_found : (p : Plan) (q : IdPlan) (u : IdView) (step : Step) (found : Found step) → MayId p q u step → FindsId p q u step found → FitsFound p step found
@@ -38,9 +47,17 @@ fits_found p q u (EndId i) found may f = tt
 fits_found p q u (FreeId i) found may f = tt
 fits_found p q u (TakeBytes k room) found may f = tt
 
-module _ (p : Plan) (q : IdPlan) (narrow : q.slots ≤ 65536) (same : q.operations ≡ p.operations) (c : Core) (us : List IdView) (ids : SoundIds p q c us) (m : Moment) where
+-- each seat has its view
+view_at : {A B : Type 0} (l : List A) (n : List B) (i : ℕ) (a : A) → length n ≡ length l → get_elem? l i ≡ some a → (b : B) × (get_elem? n i ≡ some b)
+view_at {A} {B} l n i a e at = by_view (get_elem? n i) refl
+  where
+    by_view : (x : Option B) → get_elem? n i ≡ x → (b : B) × (get_elem? n i ≡ some b)
+    by_view none is = absurd (cases.beside l n i a e at is)
+    by_view (some b) is = (b, is)
+
+module _ (p : Plan) (q : IdPlan) (narrow : q.slots ≤ 65536) (c : Core) (us : List IdView) (ids : SoundIds p q c us) (m : Moment) where
   -- the first step of a round is one that the view allows
-  pub goes_first : (u : IdView) (program : Program) → IdGoesOn p q u program → IdGoesOn p q u (first_step program)
+  goes_first : (u : IdView) (program : Program) → IdGoesOn p q u program → IdGoesOn p q u (first_step program)
   goes_first u (Write w after) g = block_goes p q narrow u w after g
   goes_first u (Round head next) g = ids_round p q u head next g
   goes_first u (Do call next) g = g
@@ -72,15 +89,81 @@ module _ (p : Plan) (q : IdPlan) (narrow : q.slots ≤ 65536) (same : q.operatio
   beside u at (Keep r next) g = tt
   beside u at (Retries requests after) g = tt
 
-  pub view_at : {A B : Type 0} (l : List A) (n : List B) (i : ℕ) (a : A) → length n ≡ length l → get_elem? l i ≡ some a → (x : Option B) → get_elem? n i ≡ x → (b : B) × (get_elem? n i ≡ some b)
-  view_at l n i a e at none is = absurd (Rattle.sock_runs.proofs.Cases.beside l n i a e at is)
-  view_at l n i a e at (some b) is = (b, is)
-
   -- what steps aside find is as the table of the sockets relies on
   pub is_fitting : IsFitting p c m
-  is_fitting seat at = let v = view_at c.seats us m.seat seat ids.each at (get_elem? us m.seat) refl in beside v.0 v.1 (first_step seat.program) (goes_first v.0 seat.program (ids.seats m.seat seat v.0 at v.1))
+  is_fitting seat at = let v = view_at c.seats us m.seat seat ids.each at in beside v.0 v.1 (first_step seat.program) (goes_first v.0 seat.program (ids.seats m.seat seat v.0 at v.1))
 
--- both tables are sound behind a tick: of the sockets' table the ids rely on the numbers of links, the codes and the owners of messages
-pub both_ticks : (p : Plan) (q : IdPlan) → q.slots ≤ 65536 → q.operations ≡ p.operations → RetriesGo p → (c : Core) (vs : List View) (us : List IdView) (m : Moment) → Sound p c vs → SoundIds p q c us → IsAnswered c m → IsFittingIds p q c m
-    → Sound p (ticked p c m) (views_after p c vs m) × ((us' : List IdView) × SoundIds p q (ticked p c m) us')
-both_ticks p q narrow same retries_go c vs us m sound ids answered fitting = (sound_ticks p retries_go c vs m sound answered (is_fitting p q narrow same c us ids m), ids_ticks p q narrow same c us m ids fitting)
+  -- ## What is counted
+
+  is_slot : (i : ℕ) → i < q.slots → IsSlot c i
+  is_slot i inside = (subst (λ (r : IdPlan). i < r.slots) (sym ids.plan) inside, (let sized = ids.rule.sized in omega (arith, sized, inside)))
+
+  counted_step : (u : IdView) (step : Step) → MayId p q u step → IsCountedStep c step
+  counted_step u (MakeId i range) may = (is_slot i may.0, may.2, may.3)
+  counted_step u (LockId i from) may = (is_slot i may.0, may.1)
+  counted_step u (PostId i from e) may = (is_slot i may.0, may.3, may.1)
+  counted_step u (UnlockId i from advance) may = let m = may.1 in let longer = m.7 in let a = longer.range_is in let b = longer.attempt_is in let s = longer.state_is in let room = m.8 in (is_slot i may.0, omega (arith, s), omega (arith, a, b, room))
+  counted_step u (EndId i) may = is_slot i may.0
+  counted_step u _ may = tt
+
+  -- the step finds something
+  finds_some : (u : IdView) → get_elem? us m.seat ≡ some u → (step : Step) (next : Found step → Program) → MayId p q u step → IsAnswer (Aside step next) m.answer → (found : Found step) × (found_in step c.calls (taken m.answer) ≡ some found)
+  finds_some u at (TakeCall i) next may a = let t = call_there p q c.calls ids.plan us ids.rule m.seat u at (ids.real m.seat u at) i may.0 may.1 in (t.0, ap call_at t.1)
+  finds_some u at (TakeBytes k room) next may a = (at_last c.calls.ending a.0, ap (λ (x : Answer). found_in (TakeBytes k room) c.calls (taken x)) a.1)
+  finds_some u at (ClaimId i) next may a = (_, refl)
+  finds_some u at (PutCall i asked) next may a = (_, refl)
+  finds_some u at (MakeId i range) next may a = (_, refl)
+  finds_some u at (StoreCall o id) next may a = (_, refl)
+  finds_some u at (LoadCall o) next may a = (_, refl)
+  finds_some u at (StoreAt o w) next may a = (_, refl)
+  finds_some u at (LoadAt o) next may a = (_, refl)
+  finds_some u at (LoadIdWord i) next may a = (_, refl)
+  finds_some u at (LockId i from) next may a = (_, refl)
+  finds_some u at (PostId i from e) next may a = (_, refl)
+  finds_some u at (UnlockId i from advance) next may a = (_, refl)
+  finds_some u at (EndId i) next may a = (_, refl)
+  finds_some u at (FreeId i) next may a = (_, refl)
+
+  counted : (u : IdView) → get_elem? us m.seat ≡ some u → (program : Program) → IdGoesOn p q u program → IsAnswer program m.answer → IsCountedAt c m.answer program
+  counted u at (Aside step next) g a = (finds_some u at step next g.0 a, counted_step u step g.0)
+  counted u at (Do call next) g a = tt
+  counted u at (Say o outcome next) g a = tt
+  counted u at (Sent o next) g a = tt
+  counted u at Rest g a = tt
+  counted u at (TakeMessage r next) g a = tt
+  counted u at (TakeHome k next) g a = tt
+  counted u at (PutHome k n after) g a = tt
+  counted u at (PutBytes k asked bytes next) g a = tt
+  counted u at (AskReady k next) g a = tt
+  counted u at (Write w after) g a = tt
+  counted u at (Round head next) g a = tt
+  counted u at (Keep r next) g a = tt
+  counted u at (Retries requests after) g a = tt
+
+  -- each step aside finds something, and what it is to change it may change
+  pub is_counted : IsAnswered c m → IsCounted c m
+  is_counted answered seat at = let v = view_at c.seats us m.seat seat ids.each at in
+      counted v.0 v.1 (first_step seat.program) (goes_first v.0 seat.program (ids.seats m.seat seat v.0 at v.1)) (cases.answer_begins seat.program m.answer (answered seat at))
+
+-- ## What the ids rely on
+
+module _ (p : Plan) (q : IdPlan) (c : Core) (vs : List View) (us : List IdView) (sound : Sound p c vs) (ids : SoundIds p q c us) (m : Moment) where
+  fits_call : (v : View) → get_elem? vs m.seat ≡ some v → (call : Call) → May p v call → FitsSock call (found_at c.words (word_of p call))
+  fits_call v at (FindLink i h) may = let f = finds p (state c vs) sound.lawful m.seat v at sound.limits.slots (FindLink i h) may in let low = f.0 in let links = sound.limits.links in omega (arith, low, links)
+  fits_call v at (LoadCode i h) may = ids.codes i may.0
+  fits_call v at _ may = tt
+
+  fits_step : (v : View) → get_elem? vs m.seat ≡ some v → (program : Program) → GoesOn p v program → FitsFirst p c program
+  fits_step v at (Do call next) g = fits_call v at call g.0
+  fits_step v at _ g = tt
+
+  fits_first : (v : View) → get_elem? vs m.seat ≡ some v → (program : Program) → GoesOn p v (first_step program) → FitsFirst p c (goes.first_of program)
+  fits_first v at (Write w after) g = fits_step v at (block w after) g
+  fits_first v at (Round head next) g = fits_step v at (round head next) g
+  fits_first v at (Do call next) g = fits_step v at (Do call next) g
+  fits_first v at _ g = tt
+
+  -- the numbers of links and the codes that steps on the sockets find are as the ids rely on
+  pub is_fitting_ids : IsFittingIds p c m
+  is_fitting_ids seat at = let v = view_at c.seats vs m.seat seat sound.each at in
+      fits_first v.0 v.1 seat.program (cases.goes_first p v.0 (begins_round p v.0) (goes_round p v.0) seat.program (sound.seats m.seat seat v.0 at v.1).goes_on)

@@ -1,2 +1,5 @@
 pub mod Joint
-pub mod Counted
+pub mod Both
+pub mod Starts
+pub mod Runs
+pub mod Made

@@ -98,7 +98,7 @@ module _ (p : Plan) (c : Core) (views : List View) (o : Lawful (λ (home : Home)
         (nothing c' (row p (ClaimRequest id q) (found (ClaimRequest id q)) (hand (ClaimRequest id q)) v) lists stands (λ r rl. ap (λ l. slice_index l (request_word p r)) b.0 ∙ claims_odd p c.words o.references.sized q may.0 id odd r)))
 
     swaps : (j own : ℕ) → Behind (SwapHead j own) → May p v (SwapHead j own) → IsStep (SwapHead j own)
-    swaps j own b may = let x = may.1.0 in let in_head : Bool = ltb (slice_index c.words (head_word j)) IDLE in
+    swaps j own b may = let x = may.1 in let in_head : Bool = ltb (slice_index c.words (head_word j)) IDLE in
         subst (λ (w : View). IsEvent p c views (event_of (SwapHead j own) (found (SwapHead j own)) v) c' (set views i w)) (sym (swap_row p c views o i v at j own x))
         (subst (λ (e : Event). IsEvent p c views e c' (set views i (after p c views o i v at j own x (ltb (slice_index c.words (head_word j)) IDLE)))) (sym (ap (accept_event (slice_index c.words (head_word j))) x.claims)) record {
           may = accept_may p c views o i v at j own may.0 x;

@@ -158,5 +158,6 @@ module _ (q : IdPlan) (life : ℕ → Option ℕ) (calls : List ℕ) (c c' : Cor
             (λ ne. (r.0, r.1, set_beside us i r.0 v r.1 ne r.2, r.3, r.4));
         dead = λ j k w e l d. ⊎_elim (λ b. ch.dead k (ap (λ (x : Owing). x.link) b.1 ∙ l) (ap (λ (x : Owing). x.dead) b.1 ∙ d)) (λ b. ch.failed k (law.dead j k w b.1 l d)) (at_set us i j v w e);
         stored = λ j w e. ⊎_elim (λ b. subst (λ (x : Owing). Stored q calls c' (set us i v) x.duty) b.1 ch.own) (λ b. ch.others j w b.0 b.1 (law.stored j w b.1)) (at_set us i j v w e);
+        tied = λ j k ks w e l. ⊎_elim (λ b. b.0 ∙ law.tied i k ks u at (sym ch.link ∙ (ap (λ (x : Owing). x.link) b.1 ∙ l))) (λ b. law.tied j k ks w b.1 l) (at_set us i j v w e);
         kept = λ j w e k. ⊎_elim (λ b. same_waits j ∙ ap (waiting_at c.calls.waiting) b.0 ∙ law.kept i u at (ch.keeps (ap (λ (x : Owing). x.keeps) b.1 ∙ k))) (λ b. same_waits j ∙ law.kept j w b.1 k) (at_set us i j v w e);
       }

@@ -22,3 +22,6 @@ pub mod MoveTicks
 pub mod IdFacts
 pub mod OwingTicks
 pub mod AllSettled
+pub mod LivesFit
+pub mod OwingRuns
+pub mod OwingEnding

@@ -1,5 +1,5 @@
 -- What each seat owes holds where nothing has been done yet.
-use Rattle.std.proofs.Common.{◌≡◌, ℕ, ◌≤◌, inr, true, false, List, [], ◌∷◌, ◌++◌, Option, Some, length, sym, ap, ◌∙◌, subst, arith}
+use Rattle.std.proofs.Common.{◌≡◌, ℕ, ◌+◌, ◌≤◌, inr, true, false, List, [], ◌∷◌, ◌++◌, Option, Some, length, sym, ap, ◌∙◌, subst, arith}
 use mathlib.Core.Option.{some}
 use lib.ListN.{get_elem?}
 use Rattle.sock_model.specs.declared.chain.Heading.{Heading}
@@ -19,6 +19,7 @@ pub record Begins (q : IdPlan) (life : ℕ → Option ℕ) (calls : List ℕ) (c
   pub bare : (j : ℕ) (u : Owing) → get_elem? us j ≡ some u → (u.duty ≡ Free) × (u.knows ≡ []) × (u.dead ≡ false)
   pub waits : (j : ℕ) → waiting_at c.calls.waiting j ≡ []
   pub letters : (r : ℕ) (heading : Heading) (bytes : List ℕ) → get_elem? c.homes r ≡ some (some (Message heading bytes)) → ⊥
+  pub tied : (j k : ℕ) (ks : List ℕ) (u : Owing) → get_elem? us j ≡ some u → u.link ≡ k ∷ ks → j ≡ 32 + k
   pub readers : (k s : ℕ) → life k ≡ Some s → (j : ℕ) × (u : Owing) × (get_elem? us j ≡ some u) × (u.link ≡ k ∷ []) × (u.left ≡ calls)
 
 pub begins_law : (q : IdPlan) (life : ℕ → Option ℕ) (calls : List ℕ) (c : Core) (us : List Owing) → Begins q life calls c us → OwingLaw q life calls c us
@@ -36,6 +37,7 @@ begins_law q life calls c us b = record {
   readers = λ k s e. let r = b.readers k s e in (r.0, r.1, r.2, r.3, inr r.4);
   dead = λ j k u at l d. let z : true ≡ false = sym d ∙ (b.bare j u at).2 in absurd cc;
   stored = λ j u at. subst (Stored q calls c us) (sym (b.bare j u at).0) tt;
+  tied = b.tied;
   kept = λ j u at k. b.waits j;
 }
   where

@@ -105,12 +105,12 @@ module _ (q : IdPlan) (life : ℕ → Option ℕ) (calls : List ℕ) (c : Core) 
 
   -- ## The moves
 
-  -- what the table of the sockets says of a step: a life that isn't live stays so, and a set odd, or a word of another version, is one of such a life;
+  -- what the table of the sockets says of a step: a life whose version is past stays so, and a reader that sets its life odd, or finds a word of another version, finds it past;
   -- a life that the seat looks at is held, so that an even version is its own; and messages at home are those of before, or the one that is put there
   pub record SockFits (call : Call) (found : ℕ) : Type 0 where
     pub failed : (k : ℕ) → Failed life c k → Failed life (record { words = ws; homes = hs; seats = ss; outcomes = os; calls = c.calls }) k
-    pub odd : (k s : ℕ) → call ≡ SetOdd (socket_id_slot s) → life k ≡ Some s → Failed life (record { words = ws; homes = hs; seats = ss; outcomes = os; calls = c.calls }) k
-    pub other : (k s : ℕ) → call ≡ AddRef s → life k ≡ Some s → vref_version found ≢ socket_id_version s → Failed life (record { words = ws; homes = hs; seats = ss; outcomes = os; calls = c.calls }) k
+    pub odd : (k s : ℕ) → call ≡ SetOdd (socket_id_slot s) → u.link ≡ k ∷ [] → life k ≡ Some s → Failed life (record { words = ws; homes = hs; seats = ss; outcomes = os; calls = c.calls }) k
+    pub other : (k s : ℕ) → call ≡ AddRef s → u.link ≡ k ∷ [] → life k ≡ Some s → vref_version found ≢ socket_id_version s → Failed life (record { words = ws; homes = hs; seats = ss; outcomes = os; calls = c.calls }) k
     pub live : (k s : ℕ) → call ≡ LookWord s → life k ≡ Some s → vref_version found % 2 ≡ 0 → Failed life c k → ⊥
     pub letters : (r : ℕ) (heading : Heading) (bytes : List ℕ) → get_elem? hs r ≡ some (some (Message heading bytes)) → heading.owner ≢ 0 → Past us heading.owner heading.attempt × (heading.attempt ≤ 6)
 
@@ -257,6 +257,6 @@ module _ (q : IdPlan) (life : ℕ → Option ℕ) (calls : List ℕ) (c : Core) 
       (λ j m inside o' d. by_seat i (with_duty (Linked id n found) u) (set_at us i u (with_duty (Linked id n found) u) at) (subst (DutyTo j m) is d)) tt))
   call_moves call found v fits (looks id n k o s is_call lives is even e) = subst (λ x. OwingLaw q life calls (record { words = ws; homes = hs; seats = ss; outcomes = os; calls = c.calls }) (set us i x)) (sym e) (marked (freed u) (duty_marks fits.failed fits.letters Free (λ j m a. absurd a) (tail fits.failed fits.letters)
       (watched fits.failed fits.letters id n k o s is lives (fits.live k s is_call lives even)) tt))
-  call_moves call found v fits (fails k s is_call linked lives e) = subst (λ x. OwingLaw q life calls (record { words = ws; homes = hs; seats = ss; outcomes = os; calls = c.calls }) (set us i x)) (sym e) (marked (with_dead u) (dead_marks fits.failed fits.letters k linked (fits.odd k s is_call lives)))
-  call_moves call found v fits (gone k s is_call linked lives ne e) = subst (λ x. OwingLaw q life calls (record { words = ws; homes = hs; seats = ss; outcomes = os; calls = c.calls }) (set us i x)) (sym e) (marked (with_dead u) (dead_marks fits.failed fits.letters k linked (fits.other k s is_call lives ne)))
+  call_moves call found v fits (fails k s is_call linked lives e) = subst (λ x. OwingLaw q life calls (record { words = ws; homes = hs; seats = ss; outcomes = os; calls = c.calls }) (set us i x)) (sym e) (marked (with_dead u) (dead_marks fits.failed fits.letters k linked (fits.odd k s is_call linked lives)))
+  call_moves call found v fits (gone k s is_call linked lives ne e) = subst (λ x. OwingLaw q life calls (record { words = ws; homes = hs; seats = ss; outcomes = os; calls = c.calls }) (set us i x)) (sym e) (marked (with_dead u) (dead_marks fits.failed fits.letters k linked (fits.other k s is_call linked lives ne)))
   call_moves call found v fits (unused k o is_call linked none_ e) = subst (λ x. OwingLaw q life calls (record { words = ws; homes = hs; seats = ss; outcomes = os; calls = c.calls }) (set us i x)) (sym e) (marked (with_left [] u) (unused_marks fits.failed fits.letters k linked none_))

@@ -99,5 +99,6 @@ module _ (q : IdPlan) (life : ℕ → Option ℕ) (calls : List ℕ) (c : Core) 
           (λ ne. (r.0, r.1, set_beside us i r.0 v r.1 ne r.2, r.3, r.4));
       dead = λ j k w e l d. ⊎_elim (λ b. law.dead i k u at (sym m.link ∙ ap (λ (x : Owing). x.link) b.1 ∙ l) (sym m.dead ∙ ap (λ (x : Owing). x.dead) b.1 ∙ d)) (λ b. law.dead j k w b.1 l d) (at_set us i j v w e);
       stored = λ j w e. ⊎_elim (λ b. subst (λ (x : Owing). Stored q calls Waits (set us i v) x.duty) b.1 (stored_to v.duty m.own)) (λ b. stored_to w.duty (law.stored j w b.1)) (at_set us i j v w e);
+      tied = λ j k ks w e l. ⊎_elim (λ b. b.0 ∙ law.tied i k ks u at (sym m.link ∙ (ap (λ (x : Owing). x.link) b.1 ∙ l))) (λ b. law.tied j k ks w b.1 l) (at_set us i j v w e);
       kept = λ j w e k. ⊎_elim (λ b. ap (waiting_at (set c.calls.waiting i ws)) b.0 ∙ here ∙ m.kept (ap (λ (x : Owing). x.keeps) b.1 ∙ k)) (λ b. else_ j b.0 ∙ law.kept j w b.1 k) (at_set us i j v w e);
     }

@@ -1,5 +1,5 @@
 -- What the table of the sockets, the script and the answers of links say of a step, so that what is owed is kept.
-use Rattle.std.specs.Prelude.{ℕ, ◌≡◌, ◌≢◌, ◌%◌, ◌<◌, List, Option, Some}
+use Rattle.std.specs.Prelude.{ℕ, ◌≡◌, ◌≢◌, ◌%◌, ◌<◌, List, [], ◌∷◌, Option, Some}
 use mathlib.Core.Option as core
 use lib.ListN.{get_elem?}
 use Rattle.sock_words.specs.declared.plain.Plan.{Plan}
@@ -24,12 +24,12 @@ module _ (p : Plan) (life : ℕ → Option ℕ) (c : Core) (u : Owing) (call : C
   abbrev pub words' : List ℕ
   words' = words_after c.words (word_of p call) (word_after call (found_at c.words (word_of p call)))
 
-  -- a life that isn't live stays so, a set odd and a word of another version are of a life that isn't, and of a life that a seat looks at an even version is its own
+  -- what is past stays so; a reader that sets its life odd, or that finds another version, finds it past; and a life at which a seat looks is held, so that an even version is its own
   pub record CallFits : Type 0 where
     pub finds : FindsCall life u call found
     pub failed : (k : ℕ) → FailedIn life c.words k → FailedIn life words' k
-    pub odd : (k s : ℕ) → call ≡ SetOdd (socket_id_slot s) → life k ≡ Some s → FailedIn life words' k
-    pub other : (k s : ℕ) → call ≡ AddRef s → life k ≡ Some s → vref_version found ≢ socket_id_version s → FailedIn life words' k
+    pub odd : (k s : ℕ) → call ≡ SetOdd (socket_id_slot s) → u.link ≡ k ∷ [] → life k ≡ Some s → FailedIn life words' k
+    pub other : (k s : ℕ) → call ≡ AddRef s → u.link ≡ k ∷ [] → life k ≡ Some s → vref_version found ≢ socket_id_version s → FailedIn life words' k
     pub live : (k s : ℕ) → call ≡ LookWord s → life k ≡ Some s → vref_version found % 2 ≡ 0 → FailedIn life c.words k → ⊥
 
 -- what goes home from a hand is no message

@@ -3,3 +3,4 @@ pub mod Owes
 pub mod Sound
 pub mod Fits
 pub mod Settled
+pub mod Lives

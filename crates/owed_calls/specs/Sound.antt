@@ -1,5 +1,5 @@
 -- All seats, with what each owes: each open id is owed its end by somebody.
-use Rattle.std.specs.Prelude.{ℕ, ◌≡◌, ◌≢◌, ◌<◌, ◌≤◌, ◌⊎◌, true, false, List, [], ◌∷◌, ◌++◌, length, slice_index, Option, Some}
+use Rattle.std.specs.Prelude.{ℕ, ◌≡◌, ◌≢◌, ◌+◌, ◌<◌, ◌≤◌, ◌⊎◌, true, false, List, [], ◌∷◌, ◌++◌, length, slice_index, Option, Some}
 use mathlib.Core.Option as core
 use lib.ListN.{get_elem?}
 use Rattle.sock_words.specs.Words.{socket_id_version, socket_id_slot, vref_version, at_word, at_word_first, at_word_slot, at_word_attempt}
@@ -63,9 +63,9 @@ WasAt q c id n = (id_slot id < q.slots) × ((id_word_of c (id_slot id)).first �
 abbrev pub ErrorPast : List Owing → ℕ → ℕ → Type 0
 ErrorPast us id e = e ≢ 0 → (attempt_of e ≡ 7) ⊎ Past us id (attempt_of e)
 
--- the life of a link isn't live
+-- the version of a link's life is past
 abbrev pub FailedIn : (ℕ → Option ℕ) → List ℕ → ℕ → Type 0
-FailedIn life ws k = (s : ℕ) → life k ≡ Some s → vref_version (slice_index ws (ref_word (socket_id_slot s))) ≢ socket_id_version s
+FailedIn life ws k = (s : ℕ) → life k ≡ Some s → socket_id_version s < vref_version (slice_index ws (ref_word (socket_id_slot s)))
 
 abbrev pub Failed : (ℕ → Option ℕ) → Core → ℕ → Type 0
 Failed life c k = FailedIn life c.words k
@@ -98,6 +98,8 @@ pub record OwingLaw (q : IdPlan) (life : ℕ → Option ℕ) (calls : List ℕ) 
   pub readers : (k s : ℕ) → life k ≡ Some s → (j : ℕ) × (u : Owing) × (get_elem? us j ≡ core.some u) × (u.link ≡ k ∷ []) × ((u.dead ≡ true) ⊎ (u.left ≡ calls))
   pub dead : (j k : ℕ) (u : Owing) → get_elem? us j ≡ core.some u → u.link ≡ k ∷ [] → u.dead ≡ true → Failed life c k
   pub stored : (j : ℕ) (u : Owing) → get_elem? us j ≡ core.some u → Stored q calls c us u.duty
+  -- the reader of link k has seat 32 + k
+  pub tied : (j k : ℕ) (ks : List ℕ) (u : Owing) → get_elem? us j ≡ core.some u → u.link ≡ k ∷ ks → j ≡ 32 + k
   -- only who may keep retries keeps some
   pub kept : (j : ℕ) (u : Owing) → get_elem? us j ≡ core.some u → u.keeps ≡ false → waiting_at c.calls.waiting j ≡ []
 

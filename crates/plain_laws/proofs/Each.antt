@@ -18,20 +18,23 @@ use Rattle.sock_model.specs.Reads.{message, link_home}
 use Rattle.sock_model.specs.Lawful.{Lawful}
 use Rattle.sock_model.specs.Plain.{Event, Nothing, Becomes, Leads, plain}
 use Rattle.sock_programs.specs.Calls.{Call, ClaimSlot, GiveBirth, AddRef, SubRef, SetOdd, Recycle, FreeSlot, StoreLink, LoadLink, ResetHead, WipeCode, StoreCode, StoreName, LoadName, StoreOpen, LoadOpen, TakeLink, FinishLink, PutLink}
-use Rattle.sock_programs.specs.Programs.{Program, Do, TakeMessage, TakeHome, PutHome, PutBytes, Write}
+use Rattle.sock_programs.specs.Programs.{Program, Do, TakeMessage, TakeHome, PutHome, PutBytes, Write, Round}
+use Rattle.sock_programs.specs.Rounds.{round}
 use Rattle.sock_programs.specs.Cores.{Core, SeatState, word_of, found_at}
 use Rattle.sock_programs.specs.Sends.{block}
-use Rattle.sock_programs.specs.Ticks.{Answer, Unasked, OfPut, OfReady, Moment, AreAnswered, ticked}
+use Rattle.sock_programs.specs.Ticks.{Answer, Unasked, OfPut, OfReady, OfTake, Moment, AreAnswered, ticked}
 use Rattle.sock_runs.specs.Rows.{row, hand_at, is_id, found_id, took_message, link_away, link_home_again, took_bytes}
 use Rattle.sock_runs.specs.May.{May}
 use Rattle.sock_runs.specs.GoesOn.{GoesOn}
-use Rattle.sock_runs.specs.Sound.{Sound, state, first_step, views_with_message, views_with_link, views_with_put, views_with, views_of, views_after, views_along}
+use Rattle.sock_runs.specs.Sound.{Sound, state, first_step, views_with_message, views_with_link, views_with_put, views_with, views_of, views_after, views_along, AreFitting}
 use Rattle.sock_steps.proofs.Quiet.{either_way}
 use Rattle.plain_laws.specs.Events.{event_of, next_event, event_at, events_of}
 use Rattle.sock_model.specs.declared.marks.Mark.TheVariants as mark
 use Rattle.sock_model.specs.Marks.{at}
 use Rattle.sock_runs.proofs.Leaves.{sending_marks}
 use Rattle.sock_runs.proofs.Rounds.{begins_round}
+use Rattle.sock_runs.proofs.Passes.{goes_round}
+use Rattle.sock_runs.proofs.LinkTicks.{RetriesGo}
 use Rattle.sock_runs.proofs.Ticks.{sound_ticks}
 use Rattle.sock_runs.proofs.Cases.{with_rights, right_rights, put_rights}
 use Rattle.plain_laws.proofs.Grown.{Same, same_marks, silent_more}
@@ -88,6 +91,7 @@ module _ (p : Plan) (c : Core) (views : List View) (sound : Sound p c views) (m 
   of_put v here (OfPut answer) = moved v (took_bytes answer v) here (put_rights v answer)
   of_put v here Unasked = (tt, refl)
   of_put v here (OfReady answer) = (tt, refl)
+  of_put v here (OfTake answer) = (tt, refl)
 
   of_first : (program : Program) (v : View) → get_elem? views m.seat ≡ some v → GoesOn p v program → Becomes (plain views) (next_event p m.seat program c.words v) (plain (views_with p m.seat c views v m.answer program))
   of_first (Do call next) v here goes = each_step (λ (home : Home). home) p (state c views) sound.lawful m.seat v here call (hand_at p c.words c.homes call) goes.0
@@ -99,6 +103,7 @@ module _ (p : Plan) (c : Core) (views : List View) (sound : Sound p c views) (m 
 
   of_program : (program : Program) (v : View) → get_elem? views m.seat ≡ some v → GoesOn p v program → Becomes (plain views) (next_event p m.seat (first_step program) c.words v) (plain (views_of p m.seat c views v m.answer program))
   of_program (Write w after) v here goes = of_first (block w after) v here (begins_round p v w after goes)
+  of_program (Round head next) v here goes = of_first (round head next) v here (goes_round p v head next goes)
   of_program program v here goes = of_first program v here goes
 
   of_view : (seat : SeatState) → get_elem? c.seats m.seat ≡ some seat → (o : Option View) → get_elem? views m.seat ≡ o
@@ -117,6 +122,6 @@ module _ (p : Plan) (c : Core) (views : List View) (sound : Sound p c views) (m 
   each_tick = of_seat (get_elem? c.seats m.seat) refl
 
 -- and each run of ticks is their events one after another
-pub each_run : (p : Plan) (moments : List Moment) (c : Core) (views : List View) → Sound p c views → AreAnswered p c moments → Leads (plain views) (events_of p c views moments) (plain (views_along p c views moments))
-each_run p [] c views sound answered = refl
-each_run p (m ∷ moments) c views sound answered = (plain (views_after p c views m), each_tick p c views sound m, each_run p moments (ticked p c m) (views_after p c views m) (sound_ticks p c views m sound answered.0) answered.1)
+pub each_run : (p : Plan) → RetriesGo p → (moments : List Moment) (c : Core) (views : List View) → Sound p c views → AreAnswered p c moments → AreFitting p c moments → Leads (plain views) (events_of p c views moments) (plain (views_along p c views moments))
+each_run p retries_go [] c views sound answered fitting = refl
+each_run p retries_go (m ∷ moments) c views sound answered fitting = (plain (views_after p c views m), each_tick p c views sound m, each_run p retries_go moments (ticked p c m) (views_after p c views m) (sound_ticks p retries_go c views m sound answered.0 fitting.0) answered.1 fitting.1)

@@ -23,10 +23,13 @@ use Rattle.sock_model.specs.Reads.{message, link_home}
 use Rattle.sock_model.specs.Lawful.{Lawful}
 use Rattle.sock_model.specs.Rule.{Lasting, Rule}
 use Rattle.sock_programs.specs.Calls.{Call, ClaimSlot, GiveBirth, AddRef, SubRef, SetOdd, Recycle, FreeSlot, StoreLink, LoadLink, ResetHead, WipeCode, StoreCode, StoreName, LoadName, StoreOpen, LoadOpen, TakeLink, FinishLink, PutLink, LookWord, FindLink, LoadCode, ClaimRequest, PutMessage, Unconnect, SwapHead, Connect, EmptyHead, ReadNext, TurnNext, FreeRequest, StorePlace, DropPlace}
-use Rattle.sock_programs.specs.Programs.{Program, Do, TakeMessage, TakeHome, PutHome, PutBytes, AskReady, Write}
+use Rattle.sock_programs.specs.Programs.{Program, Do, TakeMessage, TakeHome, PutHome, PutBytes, AskReady, Write, Aside, Round}
+use Rattle.sock_programs.specs.Asides.{Step, Found}
+use Rattle.sock_programs.specs.Beside.{found_in}
+use Rattle.sock_programs.specs.Rounds.{round}
 use Rattle.sock_programs.specs.Sends.{block}
 use Rattle.sock_programs.specs.Cores.{Core, SeatState, word_of, word_after, words_after, homes_after, found_at, lies_at, first_of, others_of, link_place, with_seat}
-use Rattle.sock_programs.specs.Ticks.{Answer, Unasked, OfPut, OfReady, Moment, fed, with_places, onto_first, with_message, with_link, with_put, with_ready, step_with, tick_with, ticked}
+use Rattle.sock_programs.specs.Ticks.{Answer, Unasked, OfPut, OfReady, OfTake, Moment, fed, with_places, onto_first, taken, with_message, with_link, with_put, with_ready, with_found, step_with, tick_with, ticked}
 use Rattle.sock_runs.specs.Rows.{row, hand_at, by_claim, exchanged, took_message, link_away, link_home_again, took_bytes}
 use Rattle.sock_runs.specs.May.{May}
 use Rattle.sock_runs.specs.GoesOn.{GoesOn}
@@ -34,8 +37,9 @@ use Rattle.sock_runs.specs.Sound.{Sound, state, views_with_message, views_with_l
 use Rattle.sock_steps.proofs.Quiet.{either_way}
 use Rattle.sock_runs.proofs.Leaves.{sending_same}
 use Rattle.sock_runs.proofs.Rounds.{begins_round}
+use Rattle.sock_runs.proofs.Passes.{goes_round}
 use Rattle.sock_runs.proofs.Cases.{beside, with_rights, right_rights, put_rights}
-use Rattle.sock_runs.proofs.Few.{row_same}
+use Rattle.sock_runs.proofs.Few.{row_same, IsShorter}
 use Rattle.sock_steps.proofs.RuleFrame.{accept_rule, Lasts, lasts_all, lasts_set, lasting_in, still_rule, same_rule}
 
 row_plan : (p : Plan) (call : Call) (found : ℕ) (hand : Hand) (v : View) → (row p call found hand v).plan ≡ v.plan
@@ -112,11 +116,17 @@ module _ (p : Plan) (c : Core) (views : List View) (sound : Sound p c views) (m 
   put_lasts seat bytes (OfPut answer) next = lasts_all p c.words
   put_lasts seat bytes Unasked next = lasts_all p c.words
   put_lasts seat bytes (OfReady answer) next = lasts_all p c.words
+  put_lasts seat bytes (OfTake answer) next = lasts_all p c.words
 
   ready_lasts : (seat : SeatState) (answer : Answer) (next : Ready → Program) → Lasts p c.words (with_ready p m.seat seat c answer next).words
   ready_lasts seat (OfReady answer) next = lasts_all p c.words
   ready_lasts seat Unasked next = lasts_all p c.words
   ready_lasts seat (OfPut answer) next = lasts_all p c.words
+  ready_lasts seat (OfTake answer) next = lasts_all p c.words
+
+  aside_lasts : (seat : SeatState) (step : Step) (x : Option (Found step)) (next : Found step → Program) → Lasts p c.words (with_found p m.seat seat c step x next).words
+  aside_lasts seat step none next = lasts_all p c.words
+  aside_lasts seat step (some found) next = lasts_all p c.words
 
   first_lasts : (seat : SeatState) (program : Program) (v : View) → GoesOn p v program → Lasts p c.words (step_with p m.seat seat c m.answer program).words
   first_lasts seat (Do call next) v goes = call_lasts p c.words sound.lawful.references.sized v call goes.0
@@ -124,10 +134,12 @@ module _ (p : Plan) (c : Core) (views : List View) (sound : Sound p c views) (m 
   first_lasts seat (TakeHome k next) v goes = home_lasts seat k (link_home (λ (home : Home). home) p c.homes k) next
   first_lasts seat (PutBytes k asked bytes next) v goes = put_lasts seat bytes m.answer next
   first_lasts seat (AskReady k next) v goes = ready_lasts seat m.answer next
+  first_lasts seat (Aside step next) v goes = aside_lasts seat step (found_in step c.calls (taken m.answer)) next
   first_lasts seat _ v goes = lasts_all p c.words
 
   program_lasts : (seat : SeatState) (program : Program) (v : View) → GoesOn p v program → Lasts p c.words (tick_with p m.seat seat c m.answer program).words
   program_lasts seat (Write w after) v goes = first_lasts seat (block w after) v (begins_round p v w after goes)
+  program_lasts seat (Round head next) v goes = first_lasts seat (round head next) v (goes_round p v head next goes)
   program_lasts seat program v goes = first_lasts seat program v goes
 
   view_lasts : (seat : SeatState) → get_elem? c.seats m.seat ≡ some seat → (o : Option View) → get_elem? views m.seat ≡ o → Lasts p c.words (tick_with p m.seat seat c m.answer seat.program).words
@@ -145,7 +157,8 @@ module _ (p : Plan) (c : Core) (views : List View) (sound : Sound p c views) (m 
 abbrev pub OfTable : Plan → List View → Type 0
 OfTable p views = (id : ℕ) (v : View) → get_elem? views id ≡ some v → v.plan ≡ p
 
-module _ (p : Plan) (c : Core) (views : List View) (sound : Sound p c views) (all : OfTable p views) (r : Rule (λ (home : Home). home) p (state c views)) (m : Moment) where
+module _ (p : Plan) (c : Core) (views : List View) (sound : Sound p c views) (all : OfTable p views) (r : Rule (λ (home : Home). home) p (state c views))
+    (shorter : (j : ℕ) (v : View) → get_elem? views j ≡ some v → IsShorter v) (m : Moment) where
   abbrev i : ℕ
   i = m.seat
 
@@ -156,13 +169,13 @@ module _ (p : Plan) (c : Core) (views : List View) (sound : Sound p c views) (al
   row_rule : (v : View) → get_elem? views i ≡ some v → (hand : List Home) (call : Call) → May p v call
       → Lawful (λ (home : Home). home) p record { words = words_after c.words (word_of p call) (word_after call (found_at c.words (word_of p call))); homes = homes_after p call hand c.homes; views = set views i (row p call (found_at c.words (word_of p call)) (hand_at p c.words c.homes call) v) }
       → Rule (λ (home : Home). home) p record { words = words_after c.words (word_of p call) (word_after call (found_at c.words (word_of p call))); homes = homes_after p call hand c.homes; views = set views i (row p call (found_at c.words (word_of p call)) (hand_at p c.words c.homes call) v) }
-  row_rule v here hand (SwapHead j own) may law = let x = may.1.0 in let found : ℕ = get_or c.words (head_word j) 0 in let took : Hand = hand_at p c.words c.homes (SwapHead j own) in
+  row_rule v here hand (SwapHead j own) may law = let x = may.1 in let found : ℕ = get_or c.words (head_word j) 0 in let took : Hand = hand_at p c.words c.homes (SwapHead j own) in
       let P : View → Type 0 = λ w. Lawful (λ (home : Home). home) p record { words = set c.words (head_word j) own; homes = c.homes; views = set views i w } → Rule (λ (home : Home). home) p record { words = set c.words (head_word j) own; homes = c.homes; views = set views i w } in
       let low = may.0 in let apart : Lasting p (head_word j) → own ≢ 0 = λ l. let a = (lasting_in p (head_word j) l).0 in absurd (omega arith) in
       subst (λ cs. P (by_claim cs (exchanged found took v) v)) (sym x.claims)
       (either_way (nat_lt found IDLE) (queued v x.claim found) (righted v x.claim found took.took took.next) P
-      (accept_rule r i v here (all i v here) (queued v x.claim found) (head_word j) own x.made x.taken_in (entry_of x.claim found) refl refl x.lists refl may.1.1 apart)
-      (accept_rule r i v here (all i v here) (righted v x.claim found took.took took.next) (head_word j) own x.made x.taken_in (entry_of x.claim (found - IDLE)) refl refl x.lists refl may.1.1 apart)) law
+      (accept_rule r i v here (all i v here) (queued v x.claim found) (head_word j) own x.made x.taken_in (entry_of x.claim found) refl refl x.lists refl (shorter i v here x.made x.taken_in x.lists) apart)
+      (accept_rule r i v here (all i v here) (righted v x.claim found took.took took.next) (head_word j) own x.made x.taken_in (entry_of x.claim (found - IDLE)) refl refl x.lists refl (shorter i v here x.made x.taken_in x.lists) apart)) law
   row_rule v here hand call may law = same_rule r i v here (all i v here) (row p call (found_at c.words (word_of p call)) (hand_at p c.words c.homes call) v) (words_after c.words (word_of p call) (word_after call (found_at c.words (word_of p call)))) (homes_after p call hand c.homes)
       (row_same p call (found_at c.words (word_of p call)) (hand_at p c.words c.homes call) v refl) (call_lasts p c.words r.lawful.references.sized v call may) law
 
@@ -189,11 +202,17 @@ module _ (p : Plan) (c : Core) (views : List View) (sound : Sound p c views) (al
   of_put seat v here bytes (OfPut answer) next law = moved v (took_bytes answer v) (next answer) (onto_first (fed bytes answer) seat.hand) c.homes here (put_rights v answer) law
   of_put seat v here bytes Unasked next law = (r, all)
   of_put seat v here bytes (OfReady answer) next law = (r, all)
+  of_put seat v here bytes (OfTake answer) next law = (r, all)
 
   of_ready : (seat : SeatState) (answer : Answer) (next : Ready → Program) → Kept (with_ready p i seat c answer next) views
   of_ready seat (OfReady answer) next law = (r, all)
   of_ready seat Unasked next law = (r, all)
   of_ready seat (OfPut answer) next law = (r, all)
+  of_ready seat (OfTake answer) next law = (r, all)
+
+  of_aside : (seat : SeatState) (step : Step) (x : Option (Found step)) (next : Found step → Program) → Kept (with_found p i seat c step x next) views
+  of_aside seat step none next law = (r, all)
+  of_aside seat step (some found) next law = (r, all)
 
   of_first : (seat : SeatState) (program : Program) (v : View) → get_elem? views i ≡ some v → GoesOn p v program → Kept (step_with p i seat c m.answer program) (views_with p i c views v m.answer program)
   of_first seat (Do call next) v here goes law = let found : ℕ = found_at c.words (word_of p call) in let w : View = row p call (found_at c.words (word_of p call)) (hand_at p c.words c.homes call) v in
@@ -204,10 +223,12 @@ module _ (p : Plan) (c : Core) (views : List View) (sound : Sound p c views) (al
       moved v (link_home_again v) after (others_of seat.hand) (set c.homes (link_place p k) (first_of (onto_first (with_places n) seat.hand))) here (right_rights v v.rights (λ r. record r { at_home = true })) law
   of_first seat (PutBytes k asked bytes next) v here goes law = of_put seat v here bytes m.answer next law
   of_first seat (AskReady k next) v here goes law = of_ready seat m.answer next law
+  of_first seat (Aside step next) v here goes law = of_aside seat step (found_in step c.calls (taken m.answer)) next law
   of_first seat _ v here goes law = (r, all)
 
   of_program : (seat : SeatState) (program : Program) (v : View) → get_elem? views i ≡ some v → GoesOn p v program → Kept (tick_with p i seat c m.answer program) (views_of p i c views v m.answer program)
   of_program seat (Write w after) v here goes law = of_first seat (block w after) v here (begins_round p v w after goes) law
+  of_program seat (Round head next) v here goes law = of_first seat (round head next) v here (goes_round p v head next goes) law
   of_program seat program v here goes law = of_first seat program v here goes law
 
   of_view : (seat : SeatState) → get_elem? c.seats i ≡ some seat → (o : Option View) → get_elem? views i ≡ o
@@ -221,6 +242,6 @@ module _ (p : Plan) (c : Core) (views : List View) (sound : Sound p c views) (al
   of_seat none at law = (r, all)
   of_seat (some seat) at law = of_view seat at (get_elem? views i) refl law
 
-  -- a tick keeps the whole rule, where it keeps what is lawful
+  -- a tick keeps the whole rule, where it keeps what is lawful and each seat may accept one message more
   pub tick_rule : Lawful (λ (home : Home). home) p (state (ticked p c m) (views_after p c views m)) → Rule (λ (home : Home). home) p (state (ticked p c m) (views_after p c views m)) × OfTable p (views_after p c views m)
   tick_rule law = of_seat (get_elem? c.seats m.seat) refl law

@@ -27,9 +27,15 @@ use Rattle.slot_laws.proofs.Numbers.{live_le}
 use Rattle.sock_steps.proofs.Places.{own_count}
 use Rattle.sock_programs.specs.Calls.{Call, SetOdd, LookWord, LoadCode}
 use Rattle.sock_programs.specs.Writings.{Puts, Waits, Empties, Walks}
-use Rattle.sock_programs.specs.Programs.{Program, Do, Say, Sent, Rest, TakeMessage, TakeHome, PutHome, PutBytes, AskReady, Write}
-use Rattle.sock_programs.specs.Cores.{Core, SeatState, word_of, word_after, words_after, homes_after, hand_after, found_at, next_step, with_seat, stepped, lies_at, first_of, others_of, link_place}
-use Rattle.sock_programs.specs.Ticks.{Moment, IsAnswered, fed, with_places, onto_first, ticked}
+use Rattle.sock_programs.specs.Programs.{Program, Do, Say, Sent, Rest, TakeMessage, TakeHome, PutHome, PutBytes, AskReady, Write, Aside, Round, Keep, Retries}
+use Rattle.corr_core.specs.Word.{parts, code_of}
+use Rattle.sock_programs.specs.Asides.{PutCall, id_slot}
+use Rattle.sock_programs.specs.Heads.{HasEnded, Posts, Unlocks, Decides, Locks, Joins, Opens, Reads, Discards}
+use Rattle.sock_programs.specs.Posts.{ends_call, end_id, unlocked}
+use Rattle.sock_programs.specs.Beside.{calls_after}
+use Rattle.std.specs.Prelude.{if◌then◌else◌, Bool, true, false, ◌+◌, Some, None}
+use Rattle.sock_programs.specs.Cores.{Calls, Core, SeatState, resolved, waiting_at, word_of, word_after, words_after, homes_after, hand_after, found_at, next_step, with_seat, stepped, lies_at, first_of, others_of, link_place}
+use Rattle.sock_programs.specs.Ticks.{Moment, fed, with_places, onto_first, ticked}
 use Rattle.sock_runs.specs.Rows.{row, hand_at, took_message, link_away, link_home_again, took_bytes}
 use Rattle.sock_runs.specs.May.{May}
 use Rattle.sock_runs.specs.GoesOn.{GoesOn}
@@ -41,10 +47,10 @@ use Rattle.sock_causes.proofs.Added.{failer_note, linked_note, row_adds}
 use Rattle.run_laws.specs.World.{Event, Stop, stopped_after}
 use Rattle.run_laws.specs.Seen.{event_at}
 use Rattle.run_laws.specs.Late.{next_at, PutsInto, LooksLive, Looks, FailsSocket}
-use Rattle.run_laws.proofs.Modes.{Mode, Unknown, Live, Fed, Dead, Asks, Broken, mode_behind, put_mode, ready_mode, Guarded, next_guarded}
+use Rattle.run_laws.proofs.Modes.{Mode, Unknown, Live, Fed, Dead, Asks, Broken, mode_behind, put_mode, ready_mode, Guarded, come_guarded}
 use Rattle.run_laws.proofs.Lives.{live_unfailed, even_is, link_is, failed_stays}
 use Rattle.run_laws.proofs.Cases.{IsStill, tick_does}
-use Rattle.run_laws.proofs.Kept.{Kept, mode, mode_guarded}
+use Rattle.run_laws.proofs.Kept.{IsGiven, Kept, mode, mode_guarded}
 use Rattle.run_laws.proofs.Stops.{link_of, no_right, not_stopped, same_more, fails_even}
 
 -- seat s is at a put into link k
@@ -72,6 +78,10 @@ guarded_put m k (TakeHome q next) g puts = absurd puts
 guarded_put m k (PutHome q n after) g puts = absurd puts
 guarded_put m k (AskReady q next) g puts = absurd puts
 guarded_put m k (Write w after) g puts = absurd puts
+guarded_put m k (Aside s next) g puts = absurd puts
+guarded_put m k (Round head next) g puts = absurd puts
+guarded_put m k (Keep r next) g puts = absurd puts
+guarded_put m k (Retries requests after) g puts = absurd puts
 
 pub first_put : (k : ℕ) (program : Program) → PutsInto k program → first_step program ≡ program
 first_put k (PutBytes l asked bytes next) puts = refl
@@ -84,6 +94,10 @@ first_put k (TakeHome q next) puts = absurd puts
 first_put k (PutHome q n after) puts = absurd puts
 first_put k (AskReady q next) puts = absurd puts
 first_put k (Write w after) puts = absurd puts
+first_put k (Aside s next) puts = absurd puts
+first_put k (Round head next) puts = absurd puts
+first_put k (Keep r next) puts = absurd puts
+first_put k (Retries requests after) puts = absurd puts
 
 -- a step that puts is that of a seat at a put
 pub put_first : (k : ℕ) (program : Program) → PutsInto k (first_step program) → PutsInto k program
@@ -100,6 +114,23 @@ put_first k (Write (Puts h now heading left taken asked) after) puts = absurd pu
 put_first k (Write (Waits h now heading left taken) after) puts = absurd puts
 put_first k (Write (Empties h) after) puts = absurd puts
 put_first k (Write (Walks h top at after) then_) puts = absurd puts
+put_first k (Aside s next) puts = absurd puts
+put_first k (Keep r next) puts = absurd puts
+put_first k (Retries requests after) puts = absurd puts
+put_first k (Round (Posts id e w) next) puts = absurd puts
+put_first k (Round (Unlocks i w advance) next) puts = absurd puts
+put_first k (Round (Decides id asked w e) next) puts = by_end (ends_call (parts w) e) puts
+  where
+    by_end : (b : Bool) → PutsInto k (if b then end_id (id_slot id) (next (HasEnded asked.operation (code_of e)))
+        else Aside (PutCall (id_slot id) asked) (λ _. Round (Unlocks (id_slot id) w true) (unlocked (record { id = id; attempt = (parts w).attempt + 1 }) next))) → ⊥
+    by_end true h = h
+    by_end false h = h
+put_first k (Round (Locks i sought None) next) puts = absurd puts
+put_first k (Round (Locks i sought (Some w)) next) puts = absurd puts
+put_first k (Round (Joins id) next) puts = absurd puts
+put_first k (Round (Opens o) next) puts = absurd puts
+put_first k (Round (Reads r) next) puts = absurd puts
+put_first k (Round (Discards l total) next) puts = absurd puts
 
 still_none : (k : ℕ) (program : Program) → IsStill program → PutsInto k program → ⊥
 still_none k (PutBytes l asked bytes next) still puts = still
@@ -121,6 +152,10 @@ put_right_of p w k (TakeHome q next) puts goes = absurd puts
 put_right_of p w k (PutHome q n after) puts goes = absurd puts
 put_right_of p w k (AskReady q next) puts goes = absurd puts
 put_right_of p w k (Write a after) puts goes = absurd puts
+put_right_of p w k (Aside s next) puts goes = absurd puts
+put_right_of p w k (Round head next) puts goes = absurd puts
+put_right_of p w k (Keep r next) puts goes = absurd puts
+put_right_of p w k (Retries requests after) puts goes = absurd puts
 
 pub unknown_live : (j : ℕ) → Unknown ≡ Live j → ⊥
 unknown_live j e = cc
@@ -154,7 +189,11 @@ ready_live i asks.Failed j e = cc
 
 -- ## A tick
 
-module _ (p : Plan) (c : Core) (views : List View) (stopped : ℕ → Bool) (m : Moment) (kept : Kept p c views stopped) (answered : IsAnswered c m) where
+module _ (p : Plan) (c : Core) (views : List View) (stopped : ℕ → Bool) (m : Moment) (kept : Kept p c views stopped) (answered : IsGiven p c m) where
+  -- the program to which the seat comes
+  abbrev come : Calls → Program → Program
+  come a program = next_step (resolved (waiting_at a.waiting m.seat) program)
+
   pub next_is : (seat : SeatState) → get_elem? c.seats m.seat ≡ some seat → next_at c m ≡ first_step seat.program
   next_is seat at = ap (λ (o : Option SeatState). elim o as (λ o. Program) [ none ↦ Rest | some seat ↦ first_step seat.program ]) at
 
@@ -163,14 +202,17 @@ module _ (p : Plan) (c : Core) (views : List View) (stopped : ℕ → Bool) (m :
   Comes d = (k s : ℕ) → AtPut k s d → ((m.seat ≢ s) × AtPut k s c) ⊎ Arrived p c views stopped m k s
 
   -- where the seat of the tick is at no put behind it
-  comes_else : (program : Program) (hand : List Home) (ws : List ℕ) (hs : List (Option Home)) → ((k : ℕ) → PutsInto k (next_step program) → Arrived p c views stopped m k m.seat) → Comes (with_seat m.seat program hand ws hs c)
-  comes_else program hand ws hs own k s put = ⊎_elim
+  comes_else : (a : Calls) (program : Program) (hand : List Home) (ws : List ℕ) (hs : List (Option Home)) → ((k : ℕ) → PutsInto k (come a program) → Arrived p c views stopped m k m.seat) → Comes (with_seat m.seat program hand ws hs (record c { calls = a }))
+  comes_else a program hand ws hs own k s put = ⊎_elim
       (λ r. inr (subst (Arrived p c views stopped m k) (sym r.0) (own k (subst (λ (y : SeatState). PutsInto k y.program) (sym r.1) put.2))))
       (λ r. inl ((λ e. r.0 (sym e)), (put.0, r.1, put.2)))
-      (at_set c.seats m.seat s (record { program = next_step program; hand = hand }) put.0 put.1)
+      (at_set c.seats m.seat s (record { program = come a program; hand = hand }) put.0 put.1)
+
+  comes_with : (a : Calls) (program : Program) (hand : List Home) (ws : List ℕ) (hs : List (Option Home)) (n : Mode) → Guarded n program → ((j : ℕ) → n ≡ Live j → ⊥) → Comes (with_seat m.seat program hand ws hs (record c { calls = a }))
+  comes_with a program hand ws hs n g never = comes_else a program hand ws hs (λ k puts. let x = guarded_put n k (come a program) (come_guarded n (waiting_at a.waiting m.seat) program g) puts in absurd (never x.0 x.1))
 
   comes_never : (program : Program) (hand : List Home) (ws : List ℕ) (hs : List (Option Home)) (n : Mode) → Guarded n program → ((j : ℕ) → n ≡ Live j → ⊥) → Comes (with_seat m.seat program hand ws hs c)
-  comes_never program hand ws hs n g never = comes_else program hand ws hs (λ k puts. let x = guarded_put n k (next_step program) (next_guarded n program g) puts in absurd (never x.0 x.1))
+  comes_never program hand ws hs n g never = comes_with c.calls program hand ws hs n g never
 
   comes_same : (k s : ℕ) → AtPut k s c → m.seat ≢ s → ((m.seat ≢ s) × AtPut k s c) ⊎ Arrived p c views stopped m k s
   comes_same k s put ne = inl (ne, put)
@@ -199,12 +241,12 @@ module _ (p : Plan) (c : Core) (views : List View) (stopped : ℕ → Bool) (m :
   -- a step on a word
   comes_step : (seat : SeatState) (v : View) (call : Call) (next : ℕ → Program) (at_seat : get_elem? c.seats m.seat ≡ some seat) (here : get_elem? views m.seat ≡ some v) (is : first_step seat.program ≡ Do call next) → May p v call
       → (sound : Sound p (stepped p m.seat seat call next c) (set views m.seat (row p call (found_at c.words (word_of p call)) (hand_at p c.words c.homes call) v)))
-      → ((k : ℕ) → PutsInto k (next_step (next (found_at c.words (word_of p call)))) → (q : Right) × ((row p call (found_at c.words (word_of p call)) (hand_at p c.words c.homes call) v).rights ≡ q ∷ []) × (q.link ≡ k))
-      → (k : ℕ) → PutsInto k (next_step (next (found_at c.words (word_of p call)))) → Arrived p c views stopped m k m.seat
+      → ((k : ℕ) → PutsInto k (come c.calls (next (found_at c.words (word_of p call)))) → (q : Right) × ((row p call (found_at c.words (word_of p call)) (hand_at p c.words c.homes call) v).rights ≡ q ∷ []) × (q.link ≡ k))
+      → (k : ℕ) → PutsInto k (come c.calls (next (found_at c.words (word_of p call)))) → Arrived p c views stopped m k m.seat
   comes_step seat v call next at_seat here is may sound right k puts =
       let found : ℕ = found_at c.words (word_of p call) in let g = (mode_guarded p c views stopped kept m.seat seat v at_seat here (Do call next) is).1 found in
       let n : Mode = mode_behind (mode p c views stopped kept m.seat seat v at_seat here) call found in
-      let x = guarded_put n k (next_step (next found)) (next_guarded n (next found) g) puts in let y = live_look (mode p c views stopped kept m.seat seat v at_seat here) call found x.0 x.1 in
+      let x = guarded_put n k (come c.calls (next found)) (come_guarded n (waiting_at c.calls.waiting m.seat) (next found) g) puts in let y = live_look (mode p c views stopped kept m.seat seat v at_seat here) call found x.0 x.1 in
       by_look call y.0 y.1 is may sound y.2 (right k puts)
     where
       by_look : (call : Call) (id : ℕ) → call ≡ LookWord id → (is : first_step seat.program ≡ Do call next) → May p v call
@@ -216,15 +258,15 @@ module _ (p : Plan) (c : Core) (views : List View) (stopped : ℕ → Bool) (m :
 
   -- whoever is at a put behind a tick was there before, or came to it by this tick
   pub comes_tick : Comes (ticked p c m)
-  comes_tick = tick_does p c views m kept.sound answered (λ e d us. Sound p d us → Comes d)
+  comes_tick = tick_does p c views m kept.sound answered.0 (λ e d us. Sound p d us → Comes d)
       (λ none_ sound k s put. comes_same k s put (λ e. some-ne-none put.0 (sym put.1 ∙ (ap (get_elem? c.seats) (sym e) ∙ none_))))
       (λ seat at_seat still sound k s put. comes_same k s put (λ e. let same : seat ≡ put.0 = some-injective seat put.0 (sym at_seat ∙ (ap (get_elem? c.seats) e ∙ put.1)) in
       let puts : PutsInto k seat.program = subst (λ (y : SeatState). PutsInto k y.program) (sym same) put.2 in still_none k seat.program (subst IsStill (first_put k seat.program puts) still) puts))
-      (λ seat v call next at_seat here is goes sound. comes_else (next (found_at c.words (word_of p call))) (hand_after p call c.homes seat.hand) (words_after c.words (word_of p call) (word_after call (found_at c.words (word_of p call)))) (homes_after p call seat.hand c.homes)
+      (λ seat v call next at_seat here is goes sound. comes_else c.calls (next (found_at c.words (word_of p call))) (hand_after p call c.homes seat.hand) (words_after c.words (word_of p call) (word_after call (found_at c.words (word_of p call)))) (homes_after p call seat.hand c.homes)
       (λ k puts. comes_step seat v call next at_seat here is goes.0 sound
       (λ l puts'. let found : ℕ = found_at c.words (word_of p call) in let w : View = row p call found (hand_at p c.words c.homes call) v in
-      put_right_of p w l (next_step (next found)) puts'
-      (sound.seats m.seat (record { program = next_step (next found); hand = hand_after p call c.homes seat.hand }) w (set_here c.seats m.seat (record { program = next_step (next found); hand = hand_after p call c.homes seat.hand }) (at_length c.seats m.seat seat at_seat))
+      put_right_of p w l (come c.calls (next found)) puts'
+      (sound.seats m.seat (record { program = come c.calls (next found); hand = hand_after p call c.homes seat.hand }) w (set_here c.seats m.seat (record { program = come c.calls (next found); hand = hand_after p call c.homes seat.hand }) (at_length c.seats m.seat seat at_seat))
       (set_here views m.seat w (at_length views m.seat v here))).goes_on) k puts))
       (λ seat v q next heading bytes at_seat here is goes sound. let g = mode_guarded p c views stopped kept m.seat seat v at_seat here (TakeMessage q next) is in
       comes_never (next heading bytes) seat.hand c.words (set c.homes q none) Unknown (g.1 heading bytes) unknown_live)
@@ -236,12 +278,14 @@ module _ (p : Plan) (c : Core) (views : List View) (stopped : ℕ → Bool) (m :
       comes_never (next answer) (onto_first (fed bytes answer) seat.hand) c.words c.homes (put_mode g.0 answer) (g.2 answer) (put_live g.0 answer))
       (λ seat v k next answer at_seat here is goes answer_is sound. let g = mode_guarded p c views stopped kept m.seat seat v at_seat here (AskReady k next) is in
       comes_never (next answer) seat.hand c.words c.homes (ready_mode g.0 answer) (g.2 answer) (ready_live g.0 answer))
-      (sound_ticks p c views m kept.sound answered)
+      (λ seat v s next found at_seat here is goes sound. let g = mode_guarded p c views stopped kept m.seat seat v at_seat here (Aside s next) is in
+      comes_with (calls_after s found c.calls) (next found) seat.hand c.words c.homes Unknown (g.1 found) unknown_live)
+      (sound_ticks p kept.retries_go c views m kept.sound answered.0 answered.1)
 
   -- ## Links that are gone
 
   failed_tick : (k : ℕ) → Failed p (state c views) k → Failed p (state (ticked p c m) (views_after p c views m)) k
-  failed_tick k f = tick_does p c views m kept.sound answered (λ e d us. Failed p (state d us) k) (λ none_. f) (λ seat at_seat still. f)
+  failed_tick k f = tick_does p c views m kept.sound answered.0 (λ e d us. Failed p (state d us) k) (λ none_. f) (λ seat at_seat still. f)
       (λ seat v call next at_seat here is goes. let found : ℕ = found_at c.words (word_of p call) in let hand : Hand = hand_at p c.words c.homes call in
       failed_stays (state c views) (words_after c.words (word_of p call) (word_after call found)) (homes_after p call seat.hand c.homes) m.seat v (row p call found hand v) here p k
       (λ j h. omega (arith, row_adds (is_failer h) (failer_note h) j p call found hand v)) (λ j h. omega (arith, row_adds (is_linked h k) (linked_note h k) j p call found hand v)) f)
@@ -250,6 +294,7 @@ module _ (p : Plan) (c : Core) (views : List View) (stopped : ℕ → Bool) (m :
       (λ seat v l n after at_seat here is goes. stays_with v (link_home_again v) here c.words (set c.homes (link_place p l) (first_of (onto_first (with_places n) seat.hand))) (right_rights v v.rights (λ r. record r { at_home = true })))
       (λ seat v l asked bytes next answer at_seat here is goes answer_is fits. stays_with v (took_bytes answer v) here c.words c.homes (put_rights v answer))
       (λ seat v l next answer at_seat here is goes answer_is. f)
+      (λ seat v s next found at_seat here is goes. f)
     where
       stays_with : (v w : View) → get_elem? views m.seat ≡ some v → (ws : List ℕ) (hs : List (Option Home)) → (rights : List Right) × (w ≡ with_rights v rights) → Failed p (record { words = ws; homes = hs; views = set views m.seat w }) k
       stays_with v w here ws hs x = let e : w.marks ≡ v.marks = ap (λ (u : View). u.marks) x.1 in
@@ -290,7 +335,7 @@ module _ (p : Plan) (c : Core) (views : List View) (stopped : ℕ → Bool) (m :
     odd_step seat v call next at_seat here is may sound fails = absurd fails
 
     pub odd_tick : FailsSocket c.words k (next_at c m) → Failed p (state (ticked p c m) (views_after p c views m)) k
-    odd_tick fails = tick_does p c views m kept.sound answered (λ e d us. Sound p d us → Failed p (state d us) k)
+    odd_tick fails = tick_does p c views m kept.sound answered.0 (λ e d us. Sound p d us → Failed p (state d us) k)
         (λ none_ sound. absurd (nothing_fails Rest (ap (λ (o : Option SeatState). elim o as (λ o. Program) [ none ↦ Rest | some seat ↦ first_step seat.program ]) none_) (λ x. x) fails))
         (λ seat at_seat still sound. absurd (still_fails (first_step seat.program) still (subst (FailsSocket c.words k) (next_is seat at_seat) fails)))
         (λ seat v call next at_seat here is goes sound. odd_step seat v call next at_seat here is goes.0 sound (subst (FailsSocket c.words k) (next_is seat at_seat ∙ is) fails))
@@ -299,4 +344,5 @@ module _ (p : Plan) (c : Core) (views : List View) (stopped : ℕ → Bool) (m :
         (λ seat v l n after at_seat here is goes sound. absurd (nothing_fails (PutHome l n after) (next_is seat at_seat ∙ is) (λ x. x) fails))
         (λ seat v l asked bytes next answer at_seat here is goes answer_is fits sound. absurd (nothing_fails (PutBytes l asked bytes next) (next_is seat at_seat ∙ is) (λ x. x) fails))
         (λ seat v l next answer at_seat here is goes answer_is sound. absurd (nothing_fails (AskReady l next) (next_is seat at_seat ∙ is) (λ x. x) fails))
-        (sound_ticks p c views m kept.sound answered)
+        (λ seat v s next found at_seat here is goes sound. absurd (nothing_fails (Aside s next) (next_is seat at_seat ∙ is) (λ x. x) fails))
+        (sound_ticks p kept.retries_go c views m kept.sound answered.0 answered.1)

@@ -1,7 +1,9 @@
 -- How a run begins: nothing lives, nothing was accepted or taken, and each seat keeps to its program.
 use Rattle.std.proofs.Common.{◌≡◌, ℕ, zero, suc, ◌<◌, List, [], ◌∷◌, ◌++◌, map, get_or, refl, sym, ap, ◌∙◌, subst, arith}
 use Rattle.std.proofs.lemmas.Bool.{true≢false}
-use Rattle.std.specs.List.{flat_map}
+use Rattle.std.specs.List.{flat_map, AllByRecursion}
+use Rattle.sock_runs.proofs.LinkTicks.{RetriesGo}
+use Rattle.std.proofs.Common.{◌+◌, ◌-◌, length, replicate}
 use mathlib.Core.Option.{some, some-injective, some-ne-none}
 use lib.ListN.{get_elem?}
 use Rattle.sock_words.specs.declared.plain.Plan.{Plan}
@@ -16,10 +18,11 @@ use Rattle.sock_model.specs.Seats.{newcomer}
 use Rattle.sock_model.specs.SlotRows.{marks_of}
 use Rattle.sock_model.specs.Weights.{total, is_born, is_failer, is_freer, is_hold, is_linked}
 use Rattle.sock_programs.specs.declared.task.Task.{Task}
-use Rattle.sock_programs.specs.Clients.{client_from}
-use Rattle.sock_programs.specs.Programs.{Program}
-use Rattle.sock_programs.specs.Cores.{Core, SeatState, next_step}
-use Rattle.sock_programs.specs.Scripts.{beginning, programs, sizes_of, opening_homes}
+use Rattle.sock_programs.specs.declared.task.Sizes.{Sizes}
+use Rattle.corr_core.specs.declared.marks.Plan.{Plan as IdPlan}
+use Rattle.sock_programs.specs.Programs.{Program, Rest}
+use Rattle.sock_programs.specs.Cores.{Core, SeatState, resolved, next_step}
+use Rattle.sock_programs.specs.Scripts.{beginning, programs, readers_from, all_programs, opening_homes}
 use Rattle.sock_runs.specs.Sound.{Sound}
 use Rattle.sock_runs.proofs.Opening.{mapped}
 use Rattle.client_laws.specs.Openings.{client_view, opening_views}
@@ -27,7 +30,7 @@ use Rattle.client_laws.proofs.Beginning.{beyond, at_home}
 use Rattle.message_laws.specs.Standing.{Stand, accepted_by, hands_on, by_rights, by_home, stand}
 use Rattle.run_laws.specs.World.{IsNew}
 use Rattle.run_laws.specs.Seen.{none_stopped, world_of}
-use Rattle.run_laws.proofs.Modes.{Unknown, Guarded, client_guarded, next_guarded}
+use Rattle.run_laws.proofs.Modes.{Unknown, Guarded, client_guarded, reader_guarded, come_guarded}
 use Rattle.run_laws.proofs.Kept.{Kept}
 use Rattle.run_laws.proofs.Arrives.{AtPut, guarded_put, unknown_live}
 use Rattle.run_laws.proofs.Full.{AreFull, none_full}
@@ -72,14 +75,42 @@ holds_none f j (v ∷ views) (suc seat) bare = holds_none f j views seat (tails 
 accepts_none : (v : View) → IsBare v → accepted_by v ≡ []
 accepts_none v bare = ap (λ ls. flat_map (λ (es : List Entry). es) ls) bare.lists
 
+-- ## The programs
+
+all_at : {A : Type 0} (P : A → Type 0) (xs : List A) (i : ℕ) (x : A) → AllByRecursion P xs → get_elem? xs i ≡ some x → P x
+all_at P [] i x h e = absurd (some-ne-none x (sym e))
+all_at P (y ∷ ys) zero x h e = subst P (some-injective y x e) h.0
+all_at P (y ∷ ys) (suc i) x h e = all_at P ys i x h.1 e
+
+all_append : {A : Type 0} (P : A → Type 0) (xs ys : List A) → AllByRecursion P xs → AllByRecursion P ys → AllByRecursion P (xs ++ ys)
+all_append P [] ys a b = b
+all_append P (x ∷ xs) ys a b = (a.0, all_append P xs ys a.1 b)
+
+clients_guarded : (sizes : Sizes) (clients : List (List Task)) → AllByRecursion (Guarded Unknown) (programs sizes clients)
+clients_guarded sizes [] = tt
+clients_guarded sizes (ts ∷ clients) = (client_guarded sizes [] ts, clients_guarded sizes clients)
+
+rests_guarded : (n : ℕ) → AllByRecursion (Guarded Unknown) (replicate n Rest)
+rests_guarded zero = tt
+rests_guarded (suc n) = (tt, rests_guarded n)
+
+readers_guarded : (calls : List ℕ) (k : ℕ) (os : List ℕ) → AllByRecursion (Guarded Unknown) (readers_from calls k os)
+readers_guarded calls k [] = tt
+readers_guarded calls k (o ∷ os) = (reader_guarded calls k o, readers_guarded calls (k + 1) os)
+
+-- each seat's program keeps to it
+pub all_guarded : (sizes : Sizes) (clients : List (List Task)) (calls os : List ℕ) → AllByRecursion (Guarded Unknown) (all_programs (programs sizes clients) (readers_from calls 0 os))
+all_guarded sizes clients calls os = all_append (Guarded Unknown) (programs sizes clients) (replicate (32 - length (programs sizes clients)) Rest ++ readers_from calls 0 os) (clients_guarded sizes clients)
+    (all_append (Guarded Unknown) (replicate (32 - length (programs sizes clients)) Rest) (readers_from calls 0 os) (rests_guarded (32 - length (programs sizes clients))) (readers_guarded calls 0 os))
+
 -- ## The beginning
 
-module _ (p : Plan) (clients : List (List Task)) where
+module _ (p : Plan) (q : IdPlan) (qs : List Program) (clients : List (List Task)) where
   abbrev views : List View
   views = opening_views p clients
 
   abbrev core : Core
-  core = beginning p (programs (sizes_of p) clients)
+  core = beginning p q qs
 
   bare : AreBare views
   bare = opening_bare p clients
@@ -106,16 +137,16 @@ module _ (p : Plan) (clients : List (List Task)) where
     stopped = λ k. refl;
   }
 
-  begins_guarded : (i : ℕ) (seat : SeatState) → get_elem? core.seats i ≡ some seat → Guarded Unknown seat.program
-  begins_guarded i seat at = let x = mapped (λ (program : Program). record { program = next_step program; hand = [] }) (programs (sizes_of p) clients) i seat at in
-      let y = mapped (client_from (sizes_of p) []) clients i x.0 x.1 in
-      subst (λ (s : SeatState). Guarded Unknown s.program) x.2 (next_guarded Unknown x.0 (subst (Guarded Unknown) y.2 (client_guarded (sizes_of p) [] y.0)))
+  begins_guarded : AllByRecursion (Guarded Unknown) qs → (i : ℕ) (seat : SeatState) → get_elem? core.seats i ≡ some seat → Guarded Unknown seat.program
+  begins_guarded guarded i seat at = let x = mapped (λ (program : Program). record { program = next_step (resolved [] program); hand = [] }) qs i seat at in
+      subst (λ (s : SeatState). Guarded Unknown s.program) x.2 (come_guarded Unknown [] x.0 (all_at (Guarded Unknown) qs i x.0 guarded x.1))
 
-  pub begins_kept : Sound p core views → Kept p core views none_stopped
-  begins_kept sound = record {
+  pub begins_kept : AllByRecursion (Guarded Unknown) qs → RetriesGo p → Sound p core views → Kept p core views none_stopped
+  begins_kept guarded go sound = record {
     sound = sound;
+    retries_go = go;
     modes = λ i. Unknown;
-    guarded = begins_guarded;
+    guarded = begins_guarded guarded;
     fits = λ i v at r one. tt;
     stops = λ k e. absurd (true≢false (sym e));
   }
@@ -127,5 +158,5 @@ module _ (p : Plan) (clients : List (List Task)) where
   none_accepted = gathers_none accepted_by views bare accepts_none
 
   -- no seat is at a put
-  pub none_puts : (k s : ℕ) → AtPut k s core → ⊥
-  none_puts k s put = let x = guarded_put Unknown k put.0.program (begins_guarded s put.0 put.1) put.2 in unknown_live x.0 x.1
+  pub none_puts : AllByRecursion (Guarded Unknown) qs → (k s : ℕ) → AtPut k s core → ⊥
+  none_puts guarded k s put = let x = guarded_put Unknown k put.0.program (begins_guarded guarded s put.0 put.1) put.2 in unknown_live x.0 x.1

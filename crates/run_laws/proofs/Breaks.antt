@@ -1,6 +1,10 @@
 -- A link that answers that it failed is stopped, and its seat is at no put then.
 use Rattle.std.proofs.Common.{◌≡◌, ℕ, zero, suc, ◌⊎◌, inl, inr, ⊎_elim, Bool, true, false, cond, eq-eqb, List, [], ◌∷◌, refl, sym, ap, ◌∙◌, subst, arith}
-use Rattle.std.specs.Prelude.{Contains}
+use Rattle.corr_core.specs.Word.{parts, code_of}
+use Rattle.sock_programs.specs.Asides.{PutCall, id_slot}
+use Rattle.sock_programs.specs.Heads.{HasEnded, Posts, Unlocks, Decides, Locks, Joins, Opens, Reads, Discards}
+use Rattle.sock_programs.specs.Posts.{ends_call, end_id, unlocked}
+use Rattle.std.specs.Prelude.{Contains, if◌then◌else◌, ◌+◌, Some, None}
 use mathlib.Core.Option.{Option, none, some}
 use lib.ListN.{get_elem?}
 use Rattle.sock_words.specs.declared.plain.Plan.{Plan}
@@ -13,9 +17,9 @@ use Rattle.sock_model.specs.declared.view.View.{View}
 use Rattle.chain_laws.proofs.Lists.{at_length, at_some}
 use Rattle.sock_programs.specs.Calls.{Call, SetOdd}
 use Rattle.sock_programs.specs.Writings.{Puts, Waits, Empties, Walks}
-use Rattle.sock_programs.specs.Programs.{Program, Do, Say, Sent, Rest, TakeMessage, TakeHome, PutHome, PutBytes, AskReady, Write}
+use Rattle.sock_programs.specs.Programs.{Program, Do, Say, Sent, Rest, TakeMessage, TakeHome, PutHome, PutBytes, AskReady, Write, Aside, Round, Keep, Retries}
 use Rattle.sock_programs.specs.Cores.{Core, SeatState}
-use Rattle.sock_programs.specs.Ticks.{OfPut, OfReady, Moment, IsAnswered, ticked, asked_link, is_refusal, broken_at}
+use Rattle.sock_programs.specs.Ticks.{OfPut, OfReady, Moment, ticked, asked_link, is_refusal, broken_at}
 use Rattle.sock_runs.specs.Sound.{first_step, state, views_after}
 use Rattle.sock_runs.specs.GoesOn.{GoesOn}
 use Rattle.run_laws.specs.World.{Stop, stopped_after}
@@ -23,7 +27,7 @@ use Rattle.run_laws.specs.Seen.{put_event, ready_event, event_at}
 use Rattle.run_laws.specs.Late.{Looks, LooksLive, Fails, FailsSocket, next_at}
 use Rattle.run_laws.proofs.Lives.{one_writer}
 use Rattle.run_laws.proofs.Cases.{IsStill, tick_does}
-use Rattle.run_laws.proofs.Kept.{Kept}
+use Rattle.run_laws.proofs.Kept.{IsGiven, Kept}
 use Rattle.run_laws.proofs.Arrives.{AtPut, IsGone, put_right_of, next_is, odd_tick}
 
 contains_one : (l k : ℕ) → Contains (l ∷ []) k → l ≡ k
@@ -48,6 +52,23 @@ asked_first (TakeHome k next) = refl
 asked_first (PutHome k n after) = refl
 asked_first (PutBytes k asked bytes next) = refl
 asked_first (AskReady k next) = refl
+asked_first (Aside s next) = refl
+asked_first (Keep r next) = refl
+asked_first (Retries requests after) = refl
+asked_first (Round (Posts id e w) next) = refl
+asked_first (Round (Unlocks i w advance) next) = refl
+asked_first (Round (Decides id asked w e) next) = by_end (ends_call (parts w) e)
+  where
+    by_end : (b : Bool) → asked_link (if b then end_id (id_slot id) (next (HasEnded asked.operation (code_of e)))
+        else Aside (PutCall (id_slot id) asked) (λ _. Round (Unlocks (id_slot id) w true) (unlocked (record { id = id; attempt = (parts w).attempt + 1 }) next))) ≡ []
+    by_end true = refl
+    by_end false = refl
+asked_first (Round (Locks i sought None) next) = refl
+asked_first (Round (Locks i sought (Some w)) next) = refl
+asked_first (Round (Joins id) next) = refl
+asked_first (Round (Opens o) next) = refl
+asked_first (Round (Reads r) next) = refl
+asked_first (Round (Discards l total) next) = refl
 
 still_asks : (program : Program) → IsStill program → asked_link program ≡ []
 still_asks (PutBytes k asked bytes next) still = absurd still
@@ -70,9 +91,13 @@ asked_right p v k Rest goes true there = absurd (contains_none true k there)
 asked_right p v k (TakeMessage q next) goes true there = absurd (contains_none true k there)
 asked_right p v k (TakeHome q next) goes true there = absurd (contains_none true k there)
 asked_right p v k (PutHome q n after) goes true there = absurd (contains_none true k there)
+asked_right p v k (Aside s next) goes true there = absurd (contains_none true k there)
+asked_right p v k (Round head next) goes true there = absurd (contains_none true k there)
+asked_right p v k (Keep r next) goes true there = absurd (contains_none true k there)
+asked_right p v k (Retries requests after) goes true there = absurd (contains_none true k there)
 asked_right p v k _ goes false there = absurd (contains_none false k there)
 
-module _ (p : Plan) (c : Core) (views : List View) (stopped : ℕ → Bool) (m : Moment) (kept : Kept p c views stopped) (answered : IsAnswered c m) (k : ℕ) where
+module _ (p : Plan) (c : Core) (views : List View) (stopped : ℕ → Bool) (m : Moment) (kept : Kept p c views stopped) (answered : IsGiven p c m) (k : ℕ) where
   abbrev broken_by : Option SeatState → List ℕ
   broken_by o = cond (is_refusal m.answer) (elim o as (λ o. List ℕ) [ none ↦ [] | some seat ↦ asked_link seat.program ]) []
 
@@ -96,7 +121,7 @@ module _ (p : Plan) (c : Core) (views : List View) (stopped : ℕ → Bool) (m :
   ready_stops l asks.Failed there = stops_here l (contains_one l k there)
 
   pub break_stops : Contains (broken_at c m) k → stopped_after (event_at p c views m) stopped k ≡ true
-  break_stops there = tick_does p c views m kept.sound answered (λ e d us. stopped_after e stopped k ≡ true)
+  break_stops there = tick_does p c views m kept.sound answered.0 (λ e d us. stopped_after e stopped k ≡ true)
       (λ none_. absurd (contains_none (is_refusal m.answer) k (subst (λ o. Contains (broken_by o) k) none_ there)))
       (λ seat at_seat still. absurd (silent seat (first_step seat.program) at_seat refl (still_asks (first_step seat.program) still) there))
       (λ seat v call next at_seat here is goes. absurd (silent seat (Do call next) at_seat is refl there))
@@ -105,6 +130,7 @@ module _ (p : Plan) (c : Core) (views : List View) (stopped : ℕ → Bool) (m :
       (λ seat v l n after at_seat here is goes. absurd (silent seat (PutHome l n after) at_seat is refl there))
       (λ seat v l asked bytes next answer at_seat here is goes answer_is fits. put_stops l bytes answer (subst (λ a. Contains (cond (is_refusal a) (l ∷ []) []) k) answer_is (broken_is seat (PutBytes l asked bytes next) at_seat is there)))
       (λ seat v l next answer at_seat here is goes answer_is. ready_stops l answer (subst (λ a. Contains (cond (is_refusal a) (l ∷ []) []) k) answer_is (broken_is seat (AskReady l next) at_seat is there)))
+      (λ seat v s next found at_seat here is goes. absurd (silent seat (Aside s next) at_seat is refl there))
 
   -- behind a tick that fails the link or its socket it is gone
   pub fails_gone : Fails c m k → IsGone p (ticked p c m) (views_after p c views m) (stopped_after (event_at p c views m) stopped) k
@@ -142,6 +168,7 @@ module _ (p : Plan) (c : Core) (views : List View) (stopped : ℕ → Bool) (m :
         where
           first_still : (program : Program) → IsStill program → first_step program ≡ program
           first_still (Write w after) still = absurd still
+          first_still (Round head next) still = absurd still
           first_still _ still = refl
 
       view_at : (i : ℕ) (x : SeatState) → get_elem? c.seats i ≡ some x → (v : View) × (get_elem? views i ≡ some v)

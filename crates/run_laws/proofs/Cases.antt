@@ -11,15 +11,22 @@ use Rattle.sock_model.specs.declared.view.View.{View}
 use Rattle.sock_model.specs.Messages.{Letter}
 use Rattle.sock_model.specs.Reads.{message, link_home}
 use Rattle.sock_programs.specs.Calls.{Call}
-use Rattle.sock_programs.specs.Writings.{Writing, Puts, Waits, Empties, Walks}
-use Rattle.sock_programs.specs.Programs.{Program, Do, Say, Sent, Rest, TakeMessage, TakeHome, PutHome, PutBytes, AskReady, Write}
+use Rattle.sock_programs.specs.Writings.{Puts, Waits, Empties, Walks}
+use Rattle.std.specs.Prelude.{true, false, if◌then◌else◌, ◌+◌, None, Some}
+use Rattle.sock_programs.specs.Programs.{Program, Do, Say, Sent, Rest, TakeMessage, TakeHome, PutHome, PutBytes, AskReady, Write, Aside, Round, Keep, Retries}
+use Rattle.corr_core.specs.Word.{parts, code_of}
+use Rattle.sock_programs.specs.Asides.{Step, Found, PutCall, id_slot}
+use Rattle.sock_programs.specs.Heads.{HasEnded, Posts, Unlocks, Decides, Locks, Joins, Opens, Reads, Discards}
+use Rattle.sock_programs.specs.Posts.{ends_call, end_id, unlocked}
+use Rattle.sock_programs.specs.Beside.{found_in, calls_after}
 use Rattle.sock_programs.specs.Cores.{Core, SeatState, word_of, found_at, lies_at, first_of, others_of, link_place, with_seat, stepped}
-use Rattle.sock_programs.specs.Ticks.{Answer, OfPut, OfReady, Moment, FitsPut, IsAnswer, IsAnswered, fed, with_places, onto_first, with_message, with_link, step_with, tick_with, ticked}
+use Rattle.sock_programs.specs.Ticks.{Answer, OfPut, OfReady, Moment, FitsPut, IsAnswer, IsAnswered, fed, with_places, onto_first, with_message, with_link, taken, with_found, step_with, tick_with, ticked}
 use Rattle.sock_runs.specs.Rows.{row, hand_at, took_message, link_away, link_home_again, took_bytes}
 use Rattle.sock_runs.specs.GoesOn.{GoesOn}
 use Rattle.sock_runs.specs.Sound.{Sound, first_step, views_with_message, views_with_link, views_with, views_of, views_after}
 use Rattle.sock_runs.proofs.Cases.{beside, answer_begins, goes_first}
 use Rattle.sock_runs.proofs.Rounds.{begins_round}
+use Rattle.sock_runs.proofs.Passes.{goes_round}
 use Rattle.run_laws.specs.World.{Event, Nothing}
 use Rattle.run_laws.specs.Seen.{step_event, put_event, ready_event, next_event, event_at}
 
@@ -30,23 +37,48 @@ IsStill (TakeHome k next) = Unit {0}
 IsStill (Say o outcome next) = Unit {0}
 IsStill (Sent o next) = Unit {0}
 IsStill Rest = Unit {0}
+IsStill (Aside step next) = Unit {0}
+IsStill (Keep r next) = Unit {0}
+IsStill (Retries requests after) = Unit {0}
 IsStill other = ⊥
 
 -- the first step of a seat is at no head of a loop
-first_write : (program : Program) (w : Writing) (after : Program) → first_step program ≡ Write w after → ⊥
-first_write (Write (Puts h now heading left taken asked) next) w after e = cc
-first_write (Write (Waits h now heading left taken) next) w after e = cc
-first_write (Write (Empties h) next) w after e = cc
-first_write (Write (Walks h top at later) next) w after e = cc
-first_write (Do call next) w after e = cc
-first_write (Say o outcome next) w after e = cc
-first_write (Sent o next) w after e = cc
-first_write Rest w after e = cc
-first_write (TakeMessage q next) w after e = cc
-first_write (TakeHome k next) w after e = cc
-first_write (PutHome k n next) w after e = cc
-first_write (PutBytes k asked bytes next) w after e = cc
-first_write (AskReady k next) w after e = cc
+abbrev IsHead : Program → Type 0
+IsHead (Write w after) = Unit {0}
+IsHead (Round head next) = Unit {0}
+IsHead other = ⊥
+
+first_head : (program : Program) → IsHead (first_step program) → ⊥
+first_head (Write (Puts h now heading left taken asked) next) e = e
+first_head (Write (Waits h now heading left taken) next) e = e
+first_head (Write (Empties h) next) e = e
+first_head (Write (Walks h top at later) next) e = e
+first_head (Do call next) e = e
+first_head (Say o outcome next) e = e
+first_head (Sent o next) e = e
+first_head Rest e = e
+first_head (TakeMessage q next) e = e
+first_head (TakeHome k next) e = e
+first_head (PutHome k n next) e = e
+first_head (PutBytes k asked bytes next) e = e
+first_head (AskReady k next) e = e
+first_head (Aside s next) e = e
+first_head (Keep r next) e = e
+first_head (Retries requests after) e = e
+first_head (Round (Posts id e w) next) h = h
+first_head (Round (Unlocks i w advance) next) h = h
+first_head (Round (Decides id asked w e) next) h = by_end (ends_call (parts w) e) h
+  where
+    by_end : (b : Bool) → IsHead (if b then end_id (id_slot id) (next (HasEnded asked.operation (code_of e)))
+        else Aside (PutCall (id_slot id) asked) (λ _. Round (Unlocks (id_slot id) w true) (unlocked (record { id = id; attempt = (parts w).attempt + 1 }) next))) → ⊥
+    by_end true h = h
+    by_end false h = h
+first_head (Round (Locks i sought None) next) h = h
+first_head (Round (Locks i sought (Some w)) next) h = h
+first_head (Round (Joins id) next) h = h
+first_head (Round (Opens o) next) h = h
+first_head (Round (Reads r) next) h = h
+first_head (Round (Discards k total) next) h = h
 
 module _ (p : Plan) (c : Core) (vs : List View) (m : Moment) (sound : Sound p c vs) (answered : IsAnswered c m) (P : Event → Core → List View → Type 0)
     (nobody : get_elem? c.seats m.seat ≡ none → P Nothing c vs) (still : (seat : SeatState) → get_elem? c.seats m.seat ≡ some seat → IsStill (first_step seat.program) → P Nothing c vs) where
@@ -62,6 +94,10 @@ module _ (p : Plan) (c : Core) (vs : List View) (m : Moment) (sound : Sound p c 
   from_first seat v (PutHome k n after) x = x
   from_first seat v (PutBytes k asked bytes next) x = x
   from_first seat v (AskReady k next) x = x
+  from_first seat v (Aside step next) x = x
+  from_first seat v (Round head next) x = x
+  from_first seat v (Keep r next) x = x
+  from_first seat v (Retries requests after) x = x
 
   by_view : (seat : SeatState) → ((v : View) → get_elem? vs m.seat ≡ some v → P (next_event p m.seat c.words v m.answer (first_step seat.program)) (tick_with p m.seat seat c m.answer seat.program) (views_of p m.seat c vs v m.answer seat.program))
       → (get_elem? vs m.seat ≡ none → ⊥) → (q : Option View) → get_elem? vs m.seat ≡ q
@@ -96,7 +132,9 @@ module _ (p : Plan) (c : Core) (vs : List View) (m : Moment) (sound : Sound p c 
       → P (put_event k bytes answer) (with_seat m.seat (next answer) (onto_first (fed bytes answer) seat.hand) c.words c.homes c) (set vs m.seat (took_bytes answer v)))
       (ready : (seat : SeatState) (v : View) (k : ℕ) (next : Ready → Program) (answer : Ready) → get_elem? c.seats m.seat ≡ some seat → get_elem? vs m.seat ≡ some v
       → first_step seat.program ≡ AskReady k next → GoesOn p v (AskReady k next) → m.answer ≡ OfReady answer
-      → P (ready_event k answer) (with_seat m.seat (next answer) seat.hand c.words c.homes c) vs) where
+      → P (ready_event k answer) (with_seat m.seat (next answer) seat.hand c.words c.homes c) vs)
+      (aside : (seat : SeatState) (v : View) (s : Step) (next : Found s → Program) (found : Found s) → get_elem? c.seats m.seat ≡ some seat → get_elem? vs m.seat ≡ some v → first_step seat.program ≡ Aside s next → GoesOn p v (Aside s next)
+      → P Nothing (with_seat m.seat (next found) seat.hand c.words c.homes (record c { calls = calls_after s found c.calls })) vs) where
     by_first : (seat : SeatState) (v : View) → get_elem? c.seats m.seat ≡ some seat → get_elem? vs m.seat ≡ some v → (program : Program) → first_step seat.program ≡ program → GoesOn p v program
         → IsAnswer program m.answer → P (next_event p m.seat c.words v m.answer program) (step_with p m.seat seat c m.answer program) (views_with p m.seat c vs v m.answer program)
     by_first seat v at_seat at_view (Do call next) e g a = step seat v call next at_seat at_view e g
@@ -119,9 +157,17 @@ module _ (p : Plan) (c : Core) (vs : List View) (m : Moment) (sound : Sound p c 
     by_first seat v at_seat at_view (Say o outcome next) e g a = still seat at_seat (subst IsStill (sym e) tt)
     by_first seat v at_seat at_view (Sent o next) e g a = still seat at_seat (subst IsStill (sym e) tt)
     by_first seat v at_seat at_view Rest e g a = still seat at_seat (subst IsStill (sym e) tt)
-    by_first seat v at_seat at_view (Write w after) e g a = absurd (first_write seat.program w after e)
+    by_first seat v at_seat at_view (Keep r next) e g a = still seat at_seat (subst IsStill (sym e) tt)
+    by_first seat v at_seat at_view (Retries requests after) e g a = still seat at_seat (subst IsStill (sym e) tt)
+    by_first seat v at_seat at_view (Aside s next) e g a = by_found (found_in s c.calls (taken m.answer))
+      where
+        by_found : (x : Option (Found s)) → P Nothing (with_found p m.seat seat c s x next) vs
+        by_found none = still seat at_seat (subst IsStill (sym e) tt)
+        by_found (some found) = aside seat v s next found at_seat at_view e g
+    by_first seat v at_seat at_view (Write w after) e g a = absurd (first_head seat.program (subst IsHead (sym e) tt))
+    by_first seat v at_seat at_view (Round head next) e g a = absurd (first_head seat.program (subst IsHead (sym e) tt))
 
     pub tick_does : P (event_at p c vs m) (ticked p c m) (views_after p c vs m)
     tick_does = by_seat (λ seat at_seat none_. beside c.seats vs m.seat seat sound.each at_seat none_)
         (λ seat v at_seat at_view. from_first seat v seat.program (by_first seat v at_seat at_view (first_step seat.program) refl
-        (goes_first p v (begins_round p v) seat.program (sound.seats m.seat seat v at_seat at_view).goes_on) (answer_begins seat.program m.answer (answered seat at_seat)))) (get_elem? c.seats m.seat) refl
+        (goes_first p v (begins_round p v) (goes_round p v) seat.program (sound.seats m.seat seat v at_seat at_view).goes_on) (answer_begins seat.program m.answer (answered seat at_seat)))) (get_elem? c.seats m.seat) refl

@@ -30,7 +30,7 @@ use Rattle.sock_steps.proofs.Places.{holder_lives, claimed_unborn, own_count}
 use Rattle.sock_programs.specs.Calls.{Call, GiveBirth, ClaimSlot, AddRef, SubRef, SetOdd, Recycle, LookWord, ClaimRequest, SwapHead, StorePlace, DropPlace}
 use Rattle.sock_programs.specs.Programs.{Program, Do, PutBytes, AskReady}
 use Rattle.sock_programs.specs.Cores.{Core, SeatState, word_of, found_at, with_seat, stepped, lies_at, first_of, others_of, link_place}
-use Rattle.sock_programs.specs.Ticks.{OfPut, OfReady, Moment, IsAnswered, FitsPut, fed, with_places, onto_first, ticked, asked_link, is_refusal, broken_at}
+use Rattle.sock_programs.specs.Ticks.{OfPut, OfReady, Moment, FitsPut, fed, with_places, onto_first, ticked, asked_link, is_refusal, broken_at}
 use Rattle.sock_runs.specs.Rows.{row, hand_at, took_message, link_away, link_home_again, took_bytes}
 use Rattle.sock_runs.specs.May.{May, even_version}
 use Rattle.sock_runs.specs.Writes.{MayPut}
@@ -55,7 +55,7 @@ use Rattle.run_laws.specs.Seen.{accept_event, stop_event, step_event, put_event,
 use Rattle.run_laws.proofs.Modes.{Mode, Comes}
 use Rattle.run_laws.proofs.Lives.{odd_failed}
 use Rattle.run_laws.proofs.Cases.{tick_does}
-use Rattle.run_laws.proofs.Kept.{FitsRight, Kept, mode, mode_guarded, mode_fits}
+use Rattle.run_laws.proofs.Kept.{FitsRight, IsGiven, Kept, mode, mode_guarded, mode_fits}
 use Rattle.run_laws.proofs.Stops.{live}
 use Rattle.run_laws.proofs.Breaks.{asked_first}
 use Rattle.run_laws.proofs.Full.{cut_off}
@@ -175,7 +175,7 @@ step_links i _ found v links l k = omega arith
 
 -- ## A tick
 
-module _ (p : Plan) (c : Core) (views : List View) (stopped : ℕ → Bool) (m : Moment) (kept : Kept p c views stopped) (answered : IsAnswered c m)
+module _ (p : Plan) (c : Core) (views : List View) (stopped : ℕ → Bool) (m : Moment) (kept : Kept p c views stopped) (answered : IsGiven p c m)
     (some_bytes : (e : Entry) → messages.Has (standing.messages p c views).accepted e → e.bytes ≢ []) where
   abbrev old : World
   old = world_of p c views stopped
@@ -224,7 +224,7 @@ module _ (p : Plan) (c : Core) (views : List View) (stopped : ℕ → Bool) (m :
         may.1
 
     accept_both : (j own : ℕ) → May p v (SwapHead j own) → NeedsBoth p (broken_at c m) (world_of p c views stopped) (accept_event m.seat (found (SwapHead j own)) v.claims)
-    accept_both j own may = let x = may.1.0 in let holds = x.holds in let some_ = holds.held in subst (λ cs. NeedsBoth p (broken_at c m) (world_of p c views stopped) (accept_event m.seat (found (SwapHead j own)) cs)) (sym x.claims) (
+    accept_both j own may = let x = may.1 in let holds = x.holds in let some_ = holds.held in subst (λ cs. NeedsBoth p (broken_at c m) (world_of p c views stopped) (accept_event m.seat (found (SwapHead j own)) cs)) (sym x.claims) (
       life_at j x.life,
       has_link j x.life x.claim.link (holder_lives p (state c views) kept.sound.lawful.references m.seat v j x.life x.claim.link here x.holds).life,
       omega (arith, some_, own_holds views m.seat v here (life_at j x.life)),
@@ -329,7 +329,7 @@ module _ (p : Plan) (c : Core) (views : List View) (stopped : ℕ → Bool) (m :
 
   -- each tick is its event
   pub each_tick : IsTick (event_at p c views m) (ticked p c m) (views_after p c views m)
-  each_tick = tick_does p c views m kept.sound answered IsTick (λ none_. nothing) (λ seat at_seat still. nothing)
+  each_tick = tick_does p c views m kept.sound answered.0 IsTick (λ none_. nothing) (λ seat at_seat still. nothing)
       (λ seat v call next at_seat here is goes. step_tick seat v at_seat here call next is goes.0)
       (λ seat v q next heading bytes at_seat here is goes. let d : Core = with_seat m.seat (next heading bytes) seat.hand c.words (set c.homes q none) c in
       move_tick seat v at_seat here d (took_message heading bytes v) (right_rights v v.rights (λ r. taken_right r heading bytes)) (takes_letter p c views kept.sound.lawful m.seat v here d refl q heading bytes refl goes.0))
@@ -339,3 +339,4 @@ module _ (p : Plan) (c : Core) (views : List View) (stopped : ℕ → Bool) (m :
       move_tick seat v at_seat here d (link_home_again v) (right_rights v v.rights (λ r. record r { at_home = true })) (comes_home p c views kept.sound.lawful m.seat v here d refl k goes.0 (first_of (onto_first (with_places n) seat.hand)) refl goes.1))
       (λ seat v k asked bytes next answer at_seat here is goes answer_is fits. put_tick seat v at_seat here k asked bytes next is goes.0 answer answer_is fits)
       (λ seat v k next answer at_seat here is goes answer_is. ready_tick seat v at_seat here k next is answer answer_is)
+      (λ seat v s next found at_seat here is goes. nothing)

@@ -120,6 +120,7 @@ module _ (p : Plan) (c : Core) (views : List View) (m : Moment) (sound : Sound p
       (λ seat v k n after at_seat here is goes. moved v _ here (right_rights v v.rights (λ r. record r { at_home = true })))
       (λ seat v k asked bytes next answer at_seat here is goes answer_is fits. moved v _ here (put_rights v answer))
       (λ seat v k next answer at_seat here is goes answer_is. full)
+      (λ seat v s next found at_seat here is goes. full)
 
 -- ## Orders
 

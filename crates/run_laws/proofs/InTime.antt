@@ -10,13 +10,13 @@ use Rattle.sock_model.specs.declared.view.View.{View}
 use Rattle.chain_laws.proofs.Lists.{at_length, at_some}
 use Rattle.sock_programs.specs.Programs.{Program, Rest}
 use Rattle.sock_programs.specs.Cores.{Core, SeatState}
-use Rattle.sock_programs.specs.Ticks.{Moment, AreAnswered, ticked, broken_at}
+use Rattle.sock_programs.specs.Ticks.{Moment, ticked, broken_at}
 use Rattle.sock_runs.specs.Sound.{first_step, state, views_after}
 use Rattle.run_laws.specs.World.{stopped_after}
 use Rattle.run_laws.specs.Seen.{event_at}
 use Rattle.run_laws.specs.Late.{PutsInto, LooksLive, Puts, Looks, Fails, before, PutAt, FailAt, LookBefore, PutsInTime}
 use Rattle.run_laws.proofs.Lives.{one_writer}
-use Rattle.run_laws.proofs.Kept.{Kept}
+use Rattle.run_laws.proofs.Kept.{AreGiven, Kept}
 use Rattle.run_laws.proofs.Stops.{kept_tick}
 use Rattle.run_laws.proofs.Arrives.{AtPut, IsGone, put_first, put_right_of, comes_tick, gone_tick}
 use Rattle.run_laws.proofs.Breaks.{fails_gone, look_fails_none, break_alone}
@@ -39,7 +39,7 @@ module _ (p : Plan) (k : ℕ) where
       view_at : (i : ℕ) (x : SeatState) → get_elem? c.seats i ≡ some x → (v : View) × (get_elem? views i ≡ some v)
       view_at i x at = at_some views i (let low = at_length c.seats i x at in omega (arith, kept.sound.each))
 
-  look_fails : (c : Core) (views : List View) (stopped : ℕ → Bool) (m : Moment) → Kept p c views stopped → AreAnswered p c (m ∷ []) → Looks c m k → Fails c m k → ⊥
+  look_fails : (c : Core) (views : List View) (stopped : ℕ → Bool) (m : Moment) → Kept p c views stopped → AreGiven p c (m ∷ []) → Looks c m k → Fails c m k → ⊥
   look_fails c views stopped m kept answered looks fails = by_seat (get_elem? c.seats m.seat) refl
     where
       by_seat : (o : Option SeatState) → get_elem? c.seats m.seat ≡ o → ⊥
@@ -47,13 +47,13 @@ module _ (p : Plan) (k : ℕ) where
       by_seat (some seat) e = look_fails_none p c views stopped m kept answered.0 k seat e looks fails
 
   -- what a run keeps, it keeps before each tick
-  kept_at : (ms : List Moment) (c : Core) (views : List View) (stopped : ℕ → Bool) → Kept p c views stopped → AreAnswered p c ms → (n : ℕ) → (us : List View) × (s : ℕ → Bool) × Kept p (before p c ms n) us s
+  kept_at : (ms : List Moment) (c : Core) (views : List View) (stopped : ℕ → Bool) → Kept p c views stopped → AreGiven p c ms → (n : ℕ) → (us : List View) × (s : ℕ → Bool) × Kept p (before p c ms n) us s
   kept_at ms c views stopped kept answered zero = (views, stopped, kept)
   kept_at [] c views stopped kept answered (suc n) = (views, stopped, kept)
   kept_at (a ∷ ms) c views stopped kept answered (suc n) = kept_at ms (ticked p c a) (views_after p c views a) (stopped_after (event_at p c views a) stopped) (kept_tick p c views stopped a kept answered.0) answered.1 n
 
   -- a seat at a put was there from the beginning on, without a tick of its own, or came there by a look
-  origin : (ms : List Moment) (c : Core) (views : List View) (stopped : ℕ → Bool) → Kept p c views stopped → AreAnswered p c ms → (s n : ℕ) → AtPut k s (before p c ms n)
+  origin : (ms : List Moment) (c : Core) (views : List View) (stopped : ℕ → Bool) → Kept p c views stopped → AreGiven p c ms → (s n : ℕ) → AtPut k s (before p c ms n)
       → (AtPut k s c × ((i : ℕ) (m : Moment) → i < n → get_elem? ms i ≡ some m → m.seat ≢ s)) ⊎ LookBefore p c ms k n s
   origin ms c views stopped kept answered s zero put = inl (put, λ i m low. absurd (omega arith))
   origin [] c views stopped kept answered s (suc n) put = inl (put, λ i m low e. absurd (some-ne-none m (sym e)))
@@ -94,7 +94,7 @@ module _ (p : Plan) (k : ℕ) where
       later l (suc i) m late low e = l.last i m (omega arith) (omega arith) e
 
   -- where the link is gone, a seat at a put was there before each tick
-  gone_put : (ms : List Moment) (c : Core) (views : List View) (stopped : ℕ → Bool) → Kept p c views stopped → AreAnswered p c ms → IsGone p c views stopped k → (s n : ℕ) → AtPut k s (before p c ms n)
+  gone_put : (ms : List Moment) (c : Core) (views : List View) (stopped : ℕ → Bool) → Kept p c views stopped → AreGiven p c ms → IsGone p c views stopped k → (s n : ℕ) → AtPut k s (before p c ms n)
       → (i : ℕ) → i ≤ n → AtPut k s (before p c ms i) × ((m : Moment) → i < n → get_elem? ms i ≡ some m → m.seat ≢ s)
   gone_put ms c views stopped kept answered gone s zero put zero low = (put, λ m less. absurd (omega arith))
   gone_put ms c views stopped kept answered gone s zero put (suc i) low = absurd (omega arith)
@@ -108,12 +108,12 @@ module _ (p : Plan) (k : ℕ) where
       (x.0, λ m less e. x.1 m (omega arith) e)
 
   -- and at most one put goes out
-  one_less : (ms : List Moment) (c : Core) (views : List View) (stopped : ℕ → Bool) → Kept p c views stopped → AreAnswered p c ms → IsGone p c views stopped k → (n j : ℕ) (m d : Moment) → PutAt p c ms k n m → PutAt p c ms k j d → n < j → ⊥
+  one_less : (ms : List Moment) (c : Core) (views : List View) (stopped : ℕ → Bool) → Kept p c views stopped → AreGiven p c ms → IsGone p c views stopped k → (n j : ℕ) (m d : Moment) → PutAt p c ms k n m → PutAt p c ms k j d → n < j → ⊥
   one_less ms c views stopped kept answered gone n j m d a b less =
       let g = gone_put ms c views stopped kept answered gone d.seat j (puts_at (before p c ms j) d k b.1) n (omega arith) in let x = kept_at ms c views stopped kept answered n in
       g.1 m less a.0 (one_put (before p c ms n) x.0 x.1 x.2 m.seat d.seat (puts_at (before p c ms n) m k a.1) g.0)
 
-  one_gone : (ms : List Moment) (c : Core) (views : List View) (stopped : ℕ → Bool) → Kept p c views stopped → AreAnswered p c ms → IsGone p c views stopped k → (n j : ℕ) (m d : Moment) → PutAt p c ms k n m → PutAt p c ms k j d → n ≡ j
+  one_gone : (ms : List Moment) (c : Core) (views : List View) (stopped : ℕ → Bool) → Kept p c views stopped → AreGiven p c ms → IsGone p c views stopped k → (n j : ℕ) (m d : Moment) → PutAt p c ms k n m → PutAt p c ms k j d → n ≡ j
   one_gone ms c views stopped kept answered gone n j m d a b = dite (ℕ_discrete n j) (λ e. e) (λ ne. dite (dec_le (suc n) j)
       (λ less. absurd (one_less ms c views stopped kept answered gone n j m d a b less))
       (λ more. absurd (one_less ms c views stopped kept answered gone j n d m b a (omega (arith, ne, more)))))
@@ -121,7 +121,7 @@ module _ (p : Plan) (k : ℕ) where
   -- ## Behind the tick that fails the link or its socket
 
   -- who puts behind it was at the put before it
-  early_put : (ms : List Moment) (c : Core) (views : List View) (stopped : ℕ → Bool) → Kept p c views stopped → AreAnswered p c ms → (f n : ℕ) (a m : Moment) → FailAt p c ms k f a → PutAt p c ms k n m → f < n → AtPut k m.seat (before p c ms f)
+  early_put : (ms : List Moment) (c : Core) (views : List View) (stopped : ℕ → Bool) → Kept p c views stopped → AreGiven p c ms → (f n : ℕ) (a m : Moment) → FailAt p c ms k f a → PutAt p c ms k n m → f < n → AtPut k m.seat (before p c ms f)
   early_put [] c views stopped kept answered f n a m fail put less = absurd (some-ne-none a (sym fail.0))
   early_put (b ∷ ms) c views stopped kept answered f zero a m fail put less = absurd (omega arith)
   early_put (b ∷ ms) c views stopped kept answered (suc f) (suc n) a m fail put less =
@@ -132,7 +132,7 @@ module _ (p : Plan) (k : ℕ) where
       m.seat n (puts_at (before p (ticked p c b) ms n) m k put.1) 0 (omega arith) in
       ⊎_elim (λ y. y.1) (λ z. absurd (look_fails c views stopped b kept (answered.0, tt) z.1 fails)) (comes_tick p c views stopped b kept answered.0 k m.seat x.0)
 
-  one_behind : (ms : List Moment) (c : Core) (views : List View) (stopped : ℕ → Bool) → Kept p c views stopped → AreAnswered p c ms → (f n j : ℕ) (a m d : Moment) → FailAt p c ms k f a → PutAt p c ms k n m → PutAt p c ms k j d → f < n → f < j → n ≡ j
+  one_behind : (ms : List Moment) (c : Core) (views : List View) (stopped : ℕ → Bool) → Kept p c views stopped → AreGiven p c ms → (f n j : ℕ) (a m d : Moment) → FailAt p c ms k f a → PutAt p c ms k n m → PutAt p c ms k j d → f < n → f < j → n ≡ j
   one_behind [] c views stopped kept answered f n j a m d fail put other less low = absurd (some-ne-none a (sym fail.0))
   one_behind (b ∷ ms) c views stopped kept answered f zero j a m d fail put other less low = absurd (omega arith)
   one_behind (b ∷ ms) c views stopped kept answered f (suc n) zero a m d fail put other less low = absurd (omega arith)
@@ -142,7 +142,7 @@ module _ (p : Plan) (k : ℕ) where
       let fails : Fails c b k = subst (λ z. Fails c z k) (sym (some-injective b a fail.0)) fail.1 in
       ap suc (one_gone ms (ticked p c b) (views_after p c views b) (stopped_after (event_at p c views b) stopped) (kept_tick p c views stopped b kept answered.0) answered.1 (fails_gone p c views stopped b kept answered.0 k fails) n j m d put other)
 
-  none_behind : (ms : List Moment) (c : Core) (views : List View) (stopped : ℕ → Bool) → Kept p c views stopped → AreAnswered p c ms → (f n : ℕ) (a m : Moment) → get_elem? ms f ≡ some a → Contains (broken_at (before p c ms f) a) k → PutAt p c ms k n m → f < n → ⊥
+  none_behind : (ms : List Moment) (c : Core) (views : List View) (stopped : ℕ → Bool) → Kept p c views stopped → AreGiven p c ms → (f n : ℕ) (a m : Moment) → get_elem? ms f ≡ some a → Contains (broken_at (before p c ms f) a) k → PutAt p c ms k n m → f < n → ⊥
   none_behind [] c views stopped kept answered f n a m at broken put less = absurd (some-ne-none a (sym at))
   none_behind (b ∷ ms) c views stopped kept answered f zero a m at broken put less = absurd (omega arith)
   none_behind (b ∷ ms) c views stopped kept answered (suc f) (suc n) a m at broken put less =
@@ -154,7 +154,7 @@ module _ (p : Plan) (k : ℕ) where
       ⊎_elim (λ y. y.0 (break_alone p c views stopped b kept answered.0 k m.seat there y.1)) (λ z. look_fails c views stopped b kept (answered.0, tt) z.1 (inr there)) (comes_tick p c views stopped b kept answered.0 k m.seat x.0)
 
 -- where a run begins with no seat at a put
-pub in_time : (p : Plan) (c : Core) (views : List View) (stopped : ℕ → Bool) (ms : List Moment) → Kept p c views stopped → AreAnswered p c ms → ((k s : ℕ) → AtPut k s c → ⊥) → PutsInTime p c ms
+pub in_time : (p : Plan) (c : Core) (views : List View) (stopped : ℕ → Bool) (ms : List Moment) → Kept p c views stopped → AreGiven p c ms → ((k s : ℕ) → AtPut k s c → ⊥) → PutsInTime p c ms
 in_time p c views stopped ms kept answered none_ = record {
   looked = λ k n m put. ⊎_elim (λ x. absurd (none_ k m.seat x.0)) (λ l. l) (origin p k ms c views stopped kept answered m.seat n (puts_at (before p c ms n) m k put.1));
   early = λ k f n a m fail put less. ⊎_elim (λ x. absurd (none_ k m.seat x.0)) (λ l. l) (origin p k ms c views stopped kept answered m.seat f (early_put p k ms c views stopped kept answered f n a m fail put less));

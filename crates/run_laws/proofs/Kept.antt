@@ -11,11 +11,13 @@ use Rattle.sock_model.specs.declared.home.Home.{Home}
 use Rattle.sock_model.specs.declared.view.View.{View}
 use Rattle.sock_model.specs.Links.{HoldsLink, Failed}
 use Rattle.sock_programs.specs.Writings.{Writing, Puts, Waits, Empties, Walks}
-use Rattle.sock_programs.specs.Programs.{Program, Do, Say, Sent, Rest, TakeMessage, TakeHome, PutHome, PutBytes, AskReady, Write}
-use Rattle.sock_programs.specs.Cores.{Core, SeatState, next_step, with_seat}
+use Rattle.sock_programs.specs.Programs.{Program, Do, Say, Sent, Rest, TakeMessage, TakeHome, PutHome, PutBytes, AskReady, Write, Aside, Round, Keep, Retries}
+use Rattle.sock_programs.specs.Cores.{Calls, Core, SeatState, resolved, waiting_at, next_step, with_seat}
 use Rattle.sock_runs.specs.GoesOn.{GoesOn}
-use Rattle.sock_runs.specs.Sound.{Sound, first_step, state}
-use Rattle.run_laws.proofs.Modes.{Mode, Unknown, Live, Fed, Dead, Asks, Broken, IsWhole, Guarded, first_mode, first_guarded, next_guarded, round_mode}
+use Rattle.sock_programs.specs.Ticks.{Moment, IsAnswered, ticked}
+use Rattle.sock_runs.specs.Sound.{Sound, first_step, state, IsFitting}
+use Rattle.sock_runs.proofs.LinkTicks.{RetriesGo}
+use Rattle.run_laws.proofs.Modes.{Mode, Unknown, Live, Fed, Dead, Asks, Broken, IsWhole, Guarded, first_mode, first_guarded, come_guarded, round_mode}
 
 -- the seat holds a life in slot i whose link is k
 abbrev pub HoldsAt : Plan → View → ℕ → ℕ → Type 0
@@ -44,8 +46,18 @@ pub record IsBroken (views : List View) (modes : ℕ → Mode) (k : ℕ) : Type 
   pub one : view.rights ≡ right ∷ []
   pub link : right.link ≡ k
 
+-- a tick that is answered, and in which what steps aside of the sockets find is as it should be
+abbrev pub IsGiven : Plan → Core → Moment → Type 0
+IsGiven p c m = IsAnswered c m × IsFitting p c m
+
+abbrev pub AreGiven : Plan → Core → List Moment → Type 0
+AreGiven p c [] = Unit {0}
+AreGiven p c (m ∷ ms) = IsGiven p c m × AreGiven p (ticked p c m) ms
+
 pub record Kept (p : Plan) (c : Core) (views : List View) (stopped : ℕ → Bool) : Type 0 where
   pub sound : Sound p c views
+  -- each retry may be tried
+  pub retries_go : RetriesGo p
   pub modes : ℕ → Mode
   pub guarded : (i : ℕ) (seat : SeatState) → get_elem? c.seats i ≡ some seat → Guarded (modes i) seat.program
   pub fits : (i : ℕ) (v : View) → get_elem? views i ≡ some v → Fits p v stopped (modes i)
@@ -65,6 +77,10 @@ first_broken m i (TakeHome k next) g e = e
 first_broken m i (PutHome k n after) g e = e
 first_broken m i (PutBytes k asked bytes next) g e = e
 first_broken m i (AskReady k next) g e = e
+first_broken m i (Aside step next) g e = e
+first_broken m i (Round head next) g e = absurd (subst IsWhole e g.0)
+first_broken m i (Keep r next) g e = e
+first_broken m i (Retries requests after) g e = e
 
 round_fits : (p : Plan) (v : View) (stopped : ℕ → Bool) (w : Writing) (after : Program) → GoesOn p v (Write w after) → Fits p v stopped (round_mode w)
 round_fits p v stopped (Puts h now heading left taken asked) after goes r one = tt
@@ -88,6 +104,10 @@ first_fits p v stopped m (TakeHome k next) goes fits = fits
 first_fits p v stopped m (PutHome k n after) goes fits = fits
 first_fits p v stopped m (PutBytes k asked bytes next) goes fits = fits
 first_fits p v stopped m (AskReady k next) goes fits = fits
+first_fits p v stopped m (Aside step next) goes fits = fits
+first_fits p v stopped m (Round head next) goes fits = λ r one. tt
+first_fits p v stopped m (Keep r next) goes fits = fits
+first_fits p v stopped m (Retries requests after) goes fits = fits
 
 -- ## A step of seat i
 
@@ -114,9 +134,9 @@ module _ (p : Plan) (c : Core) (views : List View) (stopped : ℕ → Bool) (kep
   pub not_broken : IsWhole mode → (s : ℕ) → kept.modes i ≡ Broken s → ⊥
   not_broken whole s e = subst IsWhole (first_broken (kept.modes i) s seat.program (kept.guarded i seat at_seat) e) whole
 
-  module _ (w : View) (m' : Mode) (program : Program) (hand : List Home) (ws : List ℕ) (hs : List (Option Home)) (stopped' : ℕ → Bool) where
+  module _ (a : Calls) (w : View) (m' : Mode) (program : Program) (hand : List Home) (ws : List ℕ) (hs : List (Option Home)) (stopped' : ℕ → Bool) where
     abbrev after : Core
-    after = with_seat i program hand ws hs c
+    after = with_seat i program hand ws hs (record c { calls = a })
 
     abbrev views' : List View
     views' = set views i w
@@ -142,11 +162,12 @@ module _ (p : Plan) (c : Core) (views : List View) (stopped : ℕ → Bool) (kep
         → ((k : ℕ) → stopped' k ≡ true → Failed p (state after views') k ⊎ IsBroken views' modes' k) → Kept p after views' stopped'
     steps sound guarded fits others stops = record {
       sound = sound;
+      retries_go = kept.retries_go;
       modes = modes';
       guarded = λ x s e. ⊎_elim
-          (λ r. subst (λ y. Guarded (modes' y) s.program) (sym r.0) (subst (λ (y : Mode). Guarded y s.program) (sym (mode_here i m' kept.modes)) (subst (λ (y : SeatState). Guarded m' y.program) r.1 (next_guarded m' program guarded))))
+          (λ r. subst (λ y. Guarded (modes' y) s.program) (sym r.0) (subst (λ (y : Mode). Guarded y s.program) (sym (mode_here i m' kept.modes)) (subst (λ (y : SeatState). Guarded m' y.program) r.1 (come_guarded m' (waiting_at a.waiting i) program guarded))))
           (λ r. subst (λ (y : Mode). Guarded y s.program) (sym (mode_else i x m' kept.modes r.0)) (kept.guarded x s r.1))
-          (at_set c.seats i x (record { program = next_step program; hand = hand }) s e);
+          (at_set c.seats i x (record { program = next_step (resolved (waiting_at a.waiting i) program); hand = hand }) s e);
       fits = λ x u e. ⊎_elim
           (λ r. subst (λ y. Fits p u stopped' (modes' y)) (sym r.0) (subst (Fits p u stopped') (sym (mode_here i m' kept.modes)) (subst (λ (y : View). Fits p y stopped' m') r.1 fits)))
           (λ r. subst (Fits p u stopped') (sym (mode_else i x m' kept.modes r.0)) (others x u r.0 r.1 (kept.fits x u r.1)))

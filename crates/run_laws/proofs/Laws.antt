@@ -1,210 +1,142 @@
 -- Each run of a script keeps the laws.
-use Rattle.std.proofs.Common.{◌≡◌, ◌≢◌, ℕ, zero, suc, ◌-◌, ◌%◌, inl, ⊎_elim, Bool, true, false, cond, eqb, nat_lt, List, [], ◌∷◌, ◌++◌, take, replicate, sym, ap, ◌∙◌, subst, arith}
-use Rattle.std.proofs.lemmas.List.Sums.{fold-append}
+use Rattle.std.proofs.Common.{◌≡◌, ℕ, zero, suc, inl, inr, ⊎_elim, Bool, List, [], ◌∷◌, ◌++◌, length, replicate, sym, ap, ◌∙◌, subst, arith}
+use Rattle.std.specs.List.{AllByRecursion}
 use mathlib.Core.Option.{some, some-ne-none}
 use lib.ListN.{get_elem?}
 use Rattle.atomic_table.proofs.Lists.{at_set}
 use Rattle.chain_laws.proofs.Lists.{at_length, at_some}
 use Rattle.sock_words.specs.declared.plain.Plan.{Plan}
-use Rattle.sock_words.specs.Words.{socket_id_version, vref_version}
-use Rattle.sock_io.specs.declared.link.Put.{Put}
-use Rattle.sock_io.specs.declared.link.Put.TheVariants as puts
-use Rattle.sock_io.specs.declared.link.Ready.{Ready}
-use Rattle.sock_io.specs.declared.link.Ready.TheVariants as asks
 use Rattle.brpc_model.specs.Items.{Item}
 use Rattle.brpc_model.specs.Operations.{Turn}
-use Rattle.sock_model.specs.declared.chain.Claim.{Claim}
-use Rattle.sock_model.specs.declared.chain.Entry.{Entry}
-use Rattle.sock_model.specs.declared.chain.Right.{Right}
-use Rattle.sock_model.specs.declared.home.Home.{Home}
 use Rattle.sock_model.specs.declared.view.View.{View}
-use Rattle.sock_model.specs.SlotRows.{marks_of}
-use Rattle.sock_model.specs.Plain.{life_at, PlainLaw, plain}
-use Rattle.sock_model.specs.Weights.{is_probe}
-use Rattle.sock_programs.specs.Calls.{Call, AddRef, SubRef, SetOdd, Recycle, LookWord, ClaimRequest, SwapHead}
-use Rattle.sock_programs.specs.Programs.{Program}
+use Rattle.sock_programs.specs.Programs.{Program, Rest}
 use Rattle.sock_programs.specs.Clients.{ending_of}
-use Rattle.sock_programs.specs.Cores.{Core, SeatState, next_step, word_of, found_at}
-use Rattle.sock_programs.specs.Ticks.{Moment, quiet, IsAnswered, AreAnswered, ticked, run}
-use Rattle.sock_programs.specs.Tasks.{plan_of, opens}
+use Rattle.sock_programs.specs.Cores.{Core, SeatState, resolved, waiting_at, next_step}
+use Rattle.sock_programs.specs.Ticks.{Moment, quiet, AreAnswered, ticked, run}
+use Rattle.sock_programs.specs.Tasks.{plan_of, id_plan_of, opens, calls}
 use Rattle.sock_programs.specs.Told.{AreTasks}
-use Rattle.sock_programs.specs.Scripts.{IsRunOf, all_tasks, opened, ending, played}
-use Rattle.sock_runs.specs.May.{May, even_version}
-use Rattle.sock_runs.specs.Sound.{Sound, AllRest, state, views_after, views_along}
-use Rattle.sock_runs.proofs.Whole.{Begins, set_up_answered, end_answered, all_rest}
-use Rattle.plain_laws.specs.Events.{life_of}
-use Rattle.plain_laws.proofs.Laws.{plain_law}
-use Rattle.message_laws.specs.Messages.{Has, IsIn}
-use Rattle.message_laws.specs.Standing.{messages}
-use Rattle.run_laws.specs.World.{Event, Nothing, Hold, Drop, Fail, End, Accept, Take, Stop, Place, Dropped, of_messages, stopped_after}
-use Rattle.run_laws.specs.World as world
-use Rattle.run_laws.specs.Seen.{accept_event, stop_event, step_event, put_event, ready_event, event_at, AreEvents, none_stopped, stopped_along}
-use Rattle.run_laws.specs.Laws.{Happen, KeepsLaws, opened_views, ticks_of}
-use Rattle.run_laws.proofs.Modes.{Mode, Unknown, Broken, Guarded, next_guarded, ending_guarded}
-use Rattle.run_laws.proofs.Cases.{tick_does}
-use Rattle.run_laws.proofs.Kept.{FitsRight, Fits, IsBroken, Kept, mode_at, mode_else}
-use Rattle.run_laws.proofs.Stops.{kept_tick}
-use Rattle.run_laws.proofs.Full.{AreFull, full_tick}
-use Rattle.run_laws.proofs.Events.{each_tick}
+use Rattle.sock_programs.specs.Scripts.{IsRunWithCalls, all_tasks, opened, set_up, played, is_ending, sizes_of, programs, readers_from, all_programs}
+use Rattle.sock_runs.specs.Sound.{Sound, AreFitting}
+use Rattle.sock_runs.proofs.LinkTicks.{RetriesGo}
+use Rattle.sock_runs.proofs.Along.{seat_rests}
+use Rattle.sock_runs.proofs.Whole.{Begins, AreFittingIn, closing_of, set_up_answered, end_answered, rested_ahead, rested_idle, closing_sound, closed_sound}
+use Rattle.client_laws.specs.Openings.{all_seats}
+use Rattle.run_laws.specs.Seen.{none_stopped}
+use Rattle.run_laws.specs.Laws.{KeepsLaws, opened_views, views_set, views_played, views_closed, stopped_set, stopped_played, stopped_closed}
+use Rattle.run_laws.proofs.Modes.{Mode, Unknown, Broken, Guarded, come_guarded, ending_guarded}
+use Rattle.run_laws.proofs.Kept.{AreGiven, FitsRight, Fits, IsBroken, Kept, mode_at, mode_else}
+use Rattle.run_laws.proofs.Keeps.{Runs, each_run, happen}
 use Rattle.run_laws.proofs.InTime.{in_time}
-use Rattle.run_laws.proofs.Begins.{new_world, begins_kept, begins_full, none_accepted, none_puts}
+use Rattle.run_laws.proofs.Begins.{all_guarded, new_world, begins_kept, begins_full, none_accepted, none_puts}
 
--- ## What runs keep
+given_of : (p : Plan) (ms : List Moment) (c : Core) → AreAnswered p c ms → AreFitting p c ms → AreGiven p c ms
+given_of p [] c answered fitting = tt
+given_of p (m ∷ ms) c answered fitting = ((answered.0, fitting.0), given_of p ms (ticked p c m) answered.1 fitting.1)
 
-pub record Runs (p : Plan) (c : Core) (views : List View) (stopped : ℕ → Bool) : Type 0 where
-  pub kept : Kept p c views stopped
-  pub full : AreFull views
-  pub some_bytes : (e : Entry) → Has (messages p c views).accepted e → e.bytes ≢ []
+given_on : (p : Plan) (c : Core) (xs ys : List Moment) → AreGiven p c xs → AreGiven p (run p c xs) ys → AreGiven p c (xs ++ ys)
+given_on p c [] ys h k = k
+given_on p c (m ∷ xs) ys h k = (h.0, given_on p (ticked p c m) xs ys h.1 k)
 
--- a message that a link accepts has some byte
-abbrev IsSome : Event → Type 0
-IsSome (Accept e seat) = e.bytes ≢ []
-IsSome other = Unit {0}
+-- seat 0, which is at rest, begins the ending
+module _ (p : Plan) (c : Core) (views : List View) (stopped : ℕ → Bool) (os : List ℕ) (kept : Kept p c views stopped) (rests : (seat : SeatState) → get_elem? c.seats 0 ≡ some seat → seat.program ≡ Rest) where
+  abbrev closing : Core
+  closing = Rattle.sock_programs.specs.Cores.with_seat 0 (ending_of os) [] c.words c.homes c
 
-some_if : (b : Bool) (x y : Event) → IsSome x → IsSome y → IsSome (cond b x y)
-some_if true x y p q = p
-some_if false x y p q = q
+  closing_fits : (i : ℕ) (v : View) → get_elem? views i ≡ some v → Fits p v stopped (mode_at 0 Unknown kept.modes i)
+  closing_fits zero v at r one = tt
+  closing_fits (suc i) v at r one = subst (λ y. FitsRight p v stopped y r) (sym (mode_else 0 (suc i) Unknown kept.modes (λ e. omega (arith, e)))) (kept.fits (suc i) v at r one)
 
-some_stop : (rs : List Right) → IsSome (stop_event rs)
-some_stop [] = tt
-some_stop (r ∷ rs) = tt
+  not_first : (k : ℕ) (b : IsBroken views kept.modes k) → b.seat ≡ 0 → ⊥
+  not_first k b e = let x = at_some c.seats b.seat (let low = at_length views b.seat b.view b.there in omega (arith, kept.sound.each)) in
+      let rest : x.0.program ≡ Rest = rests x.0 (subst (λ n. get_elem? c.seats n ≡ some x.0) e x.1) in
+      subst (λ (y : Program). Guarded (Broken b.slot) y) rest (subst (λ (y : Mode). Guarded y x.0.program) b.mode (kept.guarded b.seat x.0 x.1))
 
-some_step : (p : Plan) (v : View) → ((c : Claim) (cs : List Claim) → v.claims ≡ c ∷ cs → c.filled ≡ true → c.bytes ≢ []) → (i : ℕ) (call : Call) (found : ℕ) → May p v call → IsSome (step_event i call found v)
-some_step p v full i (AddRef id) found may = some_if (eqb (vref_version found) (socket_id_version id)) (Hold (life_of id) i) Nothing tt tt
-some_step p v full i (SubRef j) found may = some_if (nat_lt 0 (marks_of is_probe j v)) Nothing (Drop (life_at j (even_version found)) i) tt tt
-some_step p v full i (SetOdd j) found may = some_if (eqb (vref_version found % 2) 0) (Fail (life_at j (vref_version found)) i) Nothing tt tt
-some_step p v full i (Recycle j from) found may = some_if (eqb found from) (End (life_at j (vref_version from - 1))) Nothing tt tt
-some_step p v full i (LookWord id) found may = some_if (eqb (vref_version found % 2) 0) Nothing (stop_event v.rights) tt (some_stop v.rights)
-some_step p v full i (ClaimRequest id q) found may = some_if (eqb (found % 2) 0) (world.Claim q) Nothing tt tt
-some_step p v full i (SwapHead j own) found may = let x = may.1.0 in subst (λ cs. IsSome (accept_event i found cs)) (sym x.claims) (full x.claim [] x.claims x.is_filled)
-some_step p v full i _ found may = tt
+  still_broken : (k : ℕ) (b : IsBroken views kept.modes k) → IsBroken views (mode_at 0 Unknown kept.modes) k
+  still_broken k b = record { seat = b.seat; view = b.view; right = b.right; slot = b.slot; there = b.there; mode = mode_else 0 b.seat Unknown kept.modes (not_first k b) ∙ b.mode; one = b.one; link = b.link }
 
-some_put : (k : ℕ) (bytes : List ℕ) (answer : Put) → IsSome (put_event k bytes answer)
-some_put k bytes (puts.Took n) = tt
-some_put k bytes puts.Again = tt
-some_put k bytes puts.Failed = tt
-
-some_ready : (k : ℕ) (answer : Ready) → IsSome (ready_event k answer)
-some_ready k asks.Now = tt
-some_ready k asks.NotYet = tt
-some_ready k asks.Failed = tt
-
-module _ (p : Plan) (c : Core) (views : List View) (stopped : ℕ → Bool) (m : Moment) (runs : Runs p c views stopped) (answered : IsAnswered c m) where
-  some_event : IsSome (event_at p c views m)
-  some_event = tick_does p c views m runs.kept.sound answered (λ e d us. IsSome e) (λ none_. tt) (λ seat at_seat still. tt)
-      (λ seat v call next at_seat here is goes. some_step p v (runs.full m.seat v here) m.seat call (found_at c.words (word_of p call)) goes.0)
-      (λ seat v q next heading bytes at_seat here is goes. tt) (λ seat v k next n at_seat here is goes. tt) (λ seat v k n after at_seat here is goes. tt)
-      (λ seat v k asked bytes next answer at_seat here is goes answer_is fits. some_put k bytes answer) (λ seat v k next answer at_seat here is goes answer_is. some_ready k answer)
-
-  is_some : (e : Event) → IsSome e → (d : Entry) → IsIn (messages p c views) (of_messages e) d → d.bytes ≢ []
-  is_some (Accept e seat) some_ d is = ⊎_elim (λ has. runs.some_bytes d has) (λ same. subst (λ (x : Entry). x.bytes ≢ []) (sym same) some_) is
-  is_some Nothing some_ d is = runs.some_bytes d is
-  is_some (world.Birth l k) some_ d is = runs.some_bytes d is
-  is_some (Hold l seat) some_ d is = runs.some_bytes d is
-  is_some (Drop l seat) some_ d is = runs.some_bytes d is
-  is_some (Fail l seat) some_ d is = runs.some_bytes d is
-  is_some (End l) some_ d is = runs.some_bytes d is
-  is_some (world.Claim r) some_ d is = runs.some_bytes d is
-  is_some (Take k bytes) some_ d is = runs.some_bytes d is
-  is_some (Stop k) some_ d is = runs.some_bytes d is
-  is_some (Place k) some_ d is = runs.some_bytes d is
-  is_some (Dropped k) some_ d is = runs.some_bytes d is
-  is_some (world.Free r) some_ d is = runs.some_bytes d is
-
-  runs_tick : Runs p (ticked p c m) (views_after p c views m) (stopped_after (event_at p c views m) stopped)
-  runs_tick = record {
-    kept = kept_tick p c views stopped m runs.kept answered;
-    full = full_tick p c views m runs.kept.sound answered runs.full;
-    some_bytes = λ e has. is_some (event_at p c views m) some_event e (((each_tick p c views stopped m runs.kept answered runs.some_bytes).messages.accepted e).1 has);
+  pub closing_kept : Sound p (Rattle.sock_programs.specs.Cores.with_seat 0 (ending_of os) [] c.words c.homes c) views → Kept p (Rattle.sock_programs.specs.Cores.with_seat 0 (ending_of os) [] c.words c.homes c) views stopped
+  closing_kept sound = record {
+    sound = sound;
+    retries_go = kept.retries_go;
+    modes = mode_at 0 Unknown kept.modes;
+    guarded = λ i seat e. ⊎_elim
+        (λ r. subst (λ y. Guarded (mode_at 0 Unknown kept.modes y) seat.program) (sym r.0) (subst (λ (y : SeatState). Guarded Unknown y.program) r.1 (come_guarded Unknown (waiting_at c.calls.waiting 0) (ending_of os) (ending_guarded os))))
+        (λ r. subst (λ (y : Mode). Guarded y seat.program) (sym (mode_else 0 i Unknown kept.modes r.0)) (kept.guarded i seat r.1))
+        (at_set c.seats 0 i (record { program = next_step (resolved (waiting_at c.calls.waiting 0) (ending_of os)); hand = [] }) seat e);
+    fits = λ i v at r one. closing_fits i v at r one;
+    stops = λ k e. ⊎_elim (λ f. inl f) (λ b. inr (still_broken k b)) (kept.stops k e);
   }
 
--- each tick of a run is its event, and all of this holds behind them
-pub each_run : (p : Plan) (ms : List Moment) (c : Core) (views : List View) (stopped : ℕ → Bool) → Runs p c views stopped → AreAnswered p c ms → AreEvents p c views stopped ms × Runs p (run p c ms) (views_along p c views ms) (stopped_along p c views stopped ms)
-each_run p [] c views stopped runs answered = (tt, runs)
-each_run p (m ∷ ms) c views stopped runs answered = let rest = each_run p ms (ticked p c m) (views_after p c views m) (stopped_after (event_at p c views m) stopped) (runs_tick p c views stopped m runs answered.0) answered.1 in
-    ((each_tick p c views stopped m runs.kept answered.0 runs.some_bytes, rest.0), rest.1)
-
-lives_along : (p : Plan) (ms : List Moment) (c : Core) (views : List View) (stopped : ℕ → Bool) → Runs p c views stopped → AreAnswered p c ms → (n : ℕ) → PlainLaw p.slots (plain (views_along p c views (take n ms)))
-lives_along p ms c views stopped runs answered zero = plain_law (λ (home : Home). home) p (state c views) runs.kept.sound.lawful
-lives_along p [] c views stopped runs answered (suc n) = plain_law (λ (home : Home). home) p (state c views) runs.kept.sound.lawful
-lives_along p (m ∷ ms) c views stopped runs answered (suc n) = lives_along p ms (ticked p c m) (views_after p c views m) (stopped_after (event_at p c views m) stopped) (runs_tick p c views stopped m runs answered.0) answered.1 n
-
-happen : (p : Plan) (ms : List Moment) (c : Core) (views : List View) (stopped : ℕ → Bool) → Runs p c views stopped → AreAnswered p c ms → Happen p c views stopped ms
-happen p ms c views stopped runs answered = record { events = (each_run p ms c views stopped runs answered).0; lives = lives_along p ms c views stopped runs answered }
-
-answered_on : (p : Plan) (c : Core) (xs ys : List Moment) → AreAnswered p c xs → AreAnswered p (run p c xs) ys → AreAnswered p c (xs ++ ys)
-answered_on p c [] ys h k = k
-answered_on p c (m ∷ xs) ys h k = (h.0, answered_on p (ticked p c m) xs ys h.1 k)
+-- behind the ending the run is ending, which changes nothing else
+ending_runs : (p : Plan) (c : Core) (views : List View) (stopped : ℕ → Bool) → Sound p (is_ending c) views → Runs p c views stopped → Runs p (is_ending c) views stopped
+ending_runs p c views stopped sound runs = let kept = runs.kept in record {
+  kept = record { sound = sound; retries_go = kept.retries_go; modes = kept.modes; guarded = kept.guarded; fits = kept.fits; stops = kept.stops };
+  full = runs.full;
+  some_bytes = runs.some_bytes;
+}
 
 -- ## The run of a script
 
-module _ (script : List Item) (are : AreTasks (plan_of script) (all_tasks script)) (begins : Begins script (opened_views script)) (turns : List Turn) (end_ : Core) (is : IsRunOf script turns end_) where
+module _ (script : List Item) (are : AreTasks (plan_of script) (all_tasks script)) (begins : Begins script (opened_views script)) (go : RetriesGo (plan_of script)) (turns : List Turn) (end_ : Core) (is : IsRunWithCalls script turns end_)
+    (fitting : AreFittingIn script turns end_ is) where
   abbrev p : Plan
   p = plan_of script
 
   abbrev vs : List View
   vs = opened_views script
 
-  abbrev ticks : List Moment
-  ticks = ticks_of is
+  abbrev all_are : List Program
+  all_are = all_programs (programs (sizes_of (plan_of script) (id_plan_of script)) (all_tasks script)) (readers_from (calls script) 0 (opens script))
+
+  guarded : AllByRecursion (Guarded Unknown) (all_programs (programs (sizes_of (plan_of script) (id_plan_of script)) (all_tasks script)) (readers_from (calls script) 0 (opens script)))
+  guarded = all_guarded (sizes_of (plan_of script) (id_plan_of script)) (all_tasks script) (calls script) (opens script)
 
   first : Runs p (opened script) vs none_stopped
   first = record {
-    kept = begins_kept p (all_tasks script) begins.sound;
-    full = begins_full p (all_tasks script);
-    some_bytes = λ e has. let z = sym (ap (λ es. get_elem? es has.0) (none_accepted p (all_tasks script))) ∙ has.1 in absurd (some-ne-none e (sym z));
+    kept = begins_kept p (id_plan_of script) all_are (all_seats (all_tasks script) (length (opens script))) guarded go begins.sound;
+    full = begins_full p (id_plan_of script) all_are (all_seats (all_tasks script) (length (opens script)));
+    some_bytes = λ e has. let z = sym (ap (λ es. get_elem? es has.0) (none_accepted p (id_plan_of script) all_are (all_seats (all_tasks script) (length (opens script))))) ∙ has.1 in absurd (some-ne-none e (sym z));
   }
 
-  answered : AreAnswered p (opened script) ticks
-  answered = answered_on p (opened script) (replicate is.setup (quiet 0)) (is.scheduled ++ is.later) (set_up_answered script are vs begins turns end_ is) is.answered
+  set_up_given : AreGiven p (opened script) (replicate is.setup (quiet 0))
+  set_up_given = given_of p (replicate is.setup (quiet 0)) (opened script) (set_up_answered script are vs begins go turns end_ is fitting) fitting.of_setup
 
-  went : AreEvents p (opened script) vs none_stopped ticks × Runs p (run p (opened script) ticks) (views_along p (opened script) vs ticks) (stopped_along p (opened script) vs none_stopped ticks)
-  went = each_run p ticks (opened script) vs none_stopped first answered
+  behind_setup : Runs p (set_up script is.setup) (views_set is) (stopped_set is)
+  behind_setup = (each_run p (replicate is.setup (quiet 0)) (opened script) vs none_stopped first set_up_given).1
 
-  -- behind these ticks no client has a step left
-  rested : run p (opened script) ticks ≡ played script is.setup (is.scheduled ++ is.later)
-  rested = fold-append (ticked p) (opened script) (replicate is.setup (quiet 0)) (is.scheduled ++ is.later)
+  played_given : AreGiven p (set_up script is.setup) (is.scheduled ++ is.later)
+  played_given = given_of p (is.scheduled ++ is.later) (set_up script is.setup) is.answered fitting.of_played
 
-  all_rested : AllRest (run p (opened script) ticks)
-  all_rested = subst AllRest (sym rested) (all_rest script are vs begins turns end_ is)
-
-  closing_sound : Sound p (ending script (run p (opened script) ticks)) (views_along p (opened script) vs ticks)
-  closing_sound = begins.ends (run p (opened script) ticks) (views_along p (opened script) vs ticks) went.1.kept.sound all_rested
-
-  closing_answered : AreAnswered p (ending script (run p (opened script) ticks)) (replicate is.last (quiet 0))
-  closing_answered = subst (λ c. AreAnswered p (ending script c) (replicate is.last (quiet 0))) (sym rested) (end_answered script are vs begins turns end_ is)
+  behind_played : Runs p (played script is.setup (is.scheduled ++ is.later)) (views_played is) (stopped_played is)
+  behind_played = (each_run p (is.scheduled ++ is.later) (set_up script is.setup) (views_set is) (stopped_set is) behind_setup played_given).1
 
   -- what is kept where seat 0 begins the ending
-  closing : Runs p (ending script (run p (opened script) ticks)) (views_along p (opened script) vs ticks) (stopped_along p (opened script) vs none_stopped ticks)
-  closing = let kept = went.1.kept in let c : Core = run p (opened script) ticks in record {
-    kept = record {
-      sound = closing_sound;
-      modes = mode_at 0 Unknown kept.modes;
-      guarded = λ i seat e. ⊎_elim
-          (λ r. subst (λ y. Guarded (mode_at 0 Unknown kept.modes y) seat.program) (sym r.0) (subst (λ (y : SeatState). Guarded Unknown y.program) r.1 (next_guarded Unknown (ending_of (opens script)) (ending_guarded (opens script)))))
-          (λ r. subst (λ (y : Mode). Guarded y seat.program) (sym (mode_else 0 i Unknown kept.modes r.0)) (kept.guarded i seat r.1))
-          (at_set c.seats 0 i (record { program = next_step (ending_of (opens script)); hand = [] }) seat e);
-      fits = λ i v at r one. closing_fits i v at r one;
-      stops = λ k e. ⊎_elim (λ f. inl f) (λ b. absurd (none_broken k b)) (kept.stops k e);
-    };
-    full = went.1.full;
-    some_bytes = went.1.some_bytes;
+  at_closing : Runs p (closing_of script turns end_ is) (views_played is) (stopped_played is)
+  at_closing = let c : Core = played script is.setup (is.scheduled ++ is.later) in record {
+    kept = closing_kept p c (views_played is) (stopped_played is) (opens script) behind_played.kept
+        (λ seat at. seat_rests c (rested_ahead script are vs begins go turns end_ is fitting) 0 (rested_idle script are vs begins go turns end_ is fitting) seat at) (closing_sound script are vs begins go turns end_ is fitting);
+    full = behind_played.full;
+    some_bytes = behind_played.some_bytes;
   }
-    where
-      closing_fits : (i : ℕ) (v : View) → get_elem? (views_along p (opened script) vs ticks) i ≡ some v → Fits p v (stopped_along p (opened script) vs none_stopped ticks) (mode_at 0 Unknown went.1.kept.modes i)
-      closing_fits zero v at r one = tt
-      closing_fits (suc i) v at r one = subst (λ y. FitsRight p v (stopped_along p (opened script) vs none_stopped ticks) y r) (sym (mode_else 0 (suc i) Unknown went.1.kept.modes (λ e. omega (arith, e)))) (went.1.kept.fits (suc i) v at r one)
 
-      none_broken : (k : ℕ) → IsBroken (views_along p (opened script) vs ticks) went.1.kept.modes k → ⊥
-      none_broken k b = let kept = went.1.kept in let c : Core = run p (opened script) ticks in
-          let x = at_some c.seats b.seat (let low = at_length (views_along p (opened script) vs ticks) b.seat b.view b.there in omega (arith, kept.sound.each)) in
-          subst (λ (y : Program). Guarded (Broken b.slot) y) (all_rested b.seat x.0 x.1) (subst (λ (y : Mode). Guarded y x.0.program) b.mode (kept.guarded b.seat x.0 x.1))
+  closing_given : AreGiven p (closing_of script turns end_ is) (replicate is.last (quiet 0))
+  closing_given = given_of p (replicate is.last (quiet 0)) (closing_of script turns end_ is) (end_answered script are vs begins go turns end_ is fitting) fitting.of_closing
+
+  -- and where it has made it
+  at_ended : Runs p is.ended (views_closed is) (stopped_closed is)
+  at_ended = let c : Core = run p (closing_of script turns end_ is) (replicate is.last (quiet 0)) in
+      let r = (each_run p (replicate is.last (quiet 0)) (closing_of script turns end_ is) (views_played is) (stopped_played is) at_closing closing_given).1 in
+      subst (λ d. Runs (plan_of script) d (views_closed is) (stopped_closed is)) (sym is.is_ended)
+      (ending_runs p c (views_closed is) (stopped_closed is) (subst (λ d. Sound (plan_of script) d (views_closed is)) is.is_ended (closed_sound script are vs begins go turns end_ is fitting)) r)
 
   -- the run keeps the laws
   pub keeps_laws : KeepsLaws is
   keeps_laws = record {
-    begins = new_world p (all_tasks script);
-    ticks = happen p ticks (opened script) vs none_stopped first answered;
-    ending = happen p (replicate is.last (quiet 0)) (ending script (run p (opened script) ticks)) (views_along p (opened script) vs ticks) (stopped_along p (opened script) vs none_stopped ticks) closing closing_answered;
-    in_time = in_time p (opened script) vs none_stopped ticks first.kept answered (none_puts p (all_tasks script));
+    begins = new_world p (id_plan_of script) all_are (all_seats (all_tasks script) (length (opens script)));
+    set_up_ticks = happen p (replicate is.setup (quiet 0)) (opened script) vs none_stopped first set_up_given;
+    played_ticks = happen p (is.scheduled ++ is.later) (set_up script is.setup) (views_set is) (stopped_set is) behind_setup played_given;
+    ending_ticks = happen p (replicate is.last (quiet 0)) (closing_of script turns end_ is) (views_played is) (stopped_played is) at_closing closing_given;
+    final_ticks = happen p is.final is.ended (views_closed is) (stopped_closed is) at_ended (given_of p is.final is.ended is.answered_again fitting.of_final);
+    in_time = in_time p (opened script) vs none_stopped (replicate is.setup (quiet 0) ++ (is.scheduled ++ is.later)) first.kept (given_on p (opened script) (replicate is.setup (quiet 0)) (is.scheduled ++ is.later) set_up_given played_given)
+        (none_puts p (id_plan_of script) all_are (all_seats (all_tasks script) (length (opens script))) guarded);
   }

@@ -8,5 +8,6 @@ pub mod Breaks
 pub mod InTime
 pub mod Full
 pub mod Events
+pub mod Keeps
 pub mod Begins
 pub mod Laws

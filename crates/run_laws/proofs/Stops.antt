@@ -33,9 +33,10 @@ use Rattle.slot_laws.proofs.Numbers.{only-same}
 use Rattle.chain_laws.proofs.Lists.{at_length}
 use Rattle.sock_steps.proofs.Places.{own_count, holder_lives}
 use Rattle.sock_programs.specs.Calls.{Call, AddRef, SubRef, SetOdd, Recycle, LookWord, LoadCode, ClaimRequest, SwapHead, StorePlace, DropPlace}
-use Rattle.sock_programs.specs.Programs.{Program, Do, TakeMessage, TakeHome, PutHome, PutBytes, AskReady}
-use Rattle.sock_programs.specs.Cores.{Core, SeatState, word_of, word_after, words_after, homes_after, hand_after, found_at, lies_at, first_of, others_of, link_place, with_seat, stepped}
-use Rattle.sock_programs.specs.Ticks.{Moment, IsAnswered, fed, with_places, onto_first, ticked}
+use Rattle.sock_programs.specs.Programs.{Program, Do, TakeMessage, TakeHome, PutHome, PutBytes, AskReady, Aside}
+use Rattle.sock_programs.specs.Beside.{calls_after}
+use Rattle.sock_programs.specs.Cores.{Calls, Core, SeatState, word_of, word_after, words_after, homes_after, hand_after, found_at, lies_at, first_of, others_of, link_place, with_seat, stepped}
+use Rattle.sock_programs.specs.Ticks.{Moment, fed, with_places, onto_first, ticked}
 use Rattle.sock_runs.specs.Rows.{row, hand_at, by_right, looked_clean, took_message, link_away, link_home_again, took_bytes}
 use Rattle.sock_runs.specs.May.{May}
 use Rattle.sock_runs.specs.Writes.{Writes, MayPut}
@@ -52,7 +53,7 @@ use Rattle.run_laws.specs.Seen.{accept_event, stop_event, step_event, put_event,
 use Rattle.run_laws.proofs.Modes.{Mode, Unknown, Live, Fed, Dead, Asks, Broken, IsWhole, IsOfSlot, Comes, looked_mode, mode_behind, put_mode, ready_mode, Guarded}
 use Rattle.run_laws.proofs.Lives.{one_writer, live_unfailed, odd_failed, even_is, more_count, failed_stays}
 use Rattle.run_laws.proofs.Cases.{tick_does}
-use Rattle.run_laws.proofs.Kept.{HoldsAt, FitsRight, Fits, IsBroken, Kept, first_broken, mode_at, mode_here, mode, mode_guarded, mode_fits, not_broken, broken_else, steps}
+use Rattle.run_laws.proofs.Kept.{HoldsAt, FitsRight, Fits, IsBroken, IsGiven, Kept, first_broken, mode_at, mode_here, mode, mode_guarded, mode_fits, not_broken, broken_else, steps}
 
 -- ## Small facts
 
@@ -116,11 +117,11 @@ module _ (p : Plan) (c : Core) (views : List View) (stopped : ℕ → Bool) (kep
   abbrev m : Mode
   m = mode p c views stopped kept i seat v at_seat here
 
-  module _ (w : View) (m' : Mode) (program : Program) (hand : List Home) (ws : List ℕ) (hs : List (Option Home))
+  module _ (a : Calls) (w : View) (m' : Mode) (program : Program) (hand : List Home) (ws : List ℕ) (hs : List (Option Home))
       (fails : (j h : ℕ) → marks_of (is_failer h) j v ≤ marks_of (is_failer h) j w) (links : (k j h : ℕ) → marks_of (is_linked h k) j v ≤ marks_of (is_linked h k) j w)
-      (sound : Sound p (with_seat i program hand ws hs c) (set views i w)) (guarded : Guarded m' program) where
+      (sound : Sound p (with_seat i program hand ws hs (record c { calls = a })) (set views i w)) (guarded : Guarded m' program) where
     abbrev after : Core
-    after = with_seat i program hand ws hs c
+    after = with_seat i program hand ws hs (record c { calls = a })
 
     abbrev Behind : ℕ → Type 0
     Behind k = Failed p (state after (set views i w)) k ⊎ IsBroken (set views i w) (mode_at i m' kept.modes) k
@@ -131,13 +132,13 @@ module _ (p : Plan) (c : Core) (views : List View) (stopped : ℕ → Bool) (kep
     -- what stopped before is still so, where the seat isn't to set its life failed
     stays_behind : IsWhole m → (k : ℕ) → stopped k ≡ true → Behind k
     stays_behind whole k e = ⊎_elim (λ f. inl (stays k f))
-        (λ b. inr (broken_else p c views stopped kept i seat v at_seat here w m' program hand ws hs stopped k b
+        (λ b. inr (broken_else p c views stopped kept i seat v at_seat here a w m' program hand ws hs stopped k b
         (λ same. not_broken p c views stopped kept i seat v at_seat here whole b.slot (ap kept.modes (sym same) ∙ b.mode))))
         (kept.stops k e)
 
     -- a step that stops nothing
-    calm : IsWhole m → Fits p w stopped m' → Kept p (with_seat i program hand ws hs c) (set views i w) stopped
-    calm whole fits = steps p c views stopped kept i seat v at_seat here w m' program hand ws hs stopped sound guarded fits (λ x u ne there f. f) (stays_behind whole)
+    calm : IsWhole m → Fits p w stopped m' → Kept p (with_seat i program hand ws hs (record c { calls = a })) (set views i w) stopped
+    calm whole fits = steps p c views stopped kept i seat v at_seat here a w m' program hand ws hs stopped sound guarded fits (λ x u ne there f. f) (stays_behind whole)
 
     -- a step that stops the link that the seat writes
     module _ (r : Right) (one : v.rights ≡ r ∷ []) where
@@ -158,8 +159,8 @@ module _ (p : Plan) (c : Core) (views : List View) (stopped : ℕ → Bool) (kep
           by_mode (Asks s) f = f
           by_mode (Broken s) f = f
 
-      stopping : IsWhole m → Fits p w stopped' m' → Behind r.link → Kept p (with_seat i program hand ws hs c) (set views i w) stopped'
-      stopping whole fits now = steps p c views stopped kept i seat v at_seat here w m' program hand ws hs stopped' sound guarded fits
+      stopping : IsWhole m → Fits p w stopped' m' → Behind r.link → Kept p (with_seat i program hand ws hs (record c { calls = a })) (set views i w) stopped'
+      stopping whole fits now = steps p c views stopped kept i seat v at_seat here a w m' program hand ws hs stopped' sound guarded fits
           (λ x u ne there f q mine. other_right x u ne there q mine (kept.modes x) (f q mine))
           (λ k e. dite (ℕ_discrete k r.link) (λ same. subst Behind (sym same) now)
           (λ n. stays_behind whole k (sym (ap (λ b. cond b true (stopped k)) (ne_eqb k r.link n)) ∙ e)))
@@ -186,13 +187,13 @@ module _ (p : Plan) (c : Core) (views : List View) (stopped : ℕ → Bool) (kep
     KeptWith s = Kept p (stepped p i seat call next c) (set views i (row_of call)) s
 
     calm_step : IsWhole m → Fits p (row_of call) stopped (mode_behind m call (found call)) → KeptWith stopped
-    calm_step whole fits = calm (row_of call) (mode_behind m call (found call)) (next (found call)) (hand_after p call c.homes seat.hand) (words_after c.words (word_of p call) (word_after call (found call))) (homes_after p call seat.hand c.homes)
+    calm_step whole fits = calm c.calls (row_of call) (mode_behind m call (found call)) (next (found call)) (hand_after p call c.homes seat.hand) (words_after c.words (word_of p call) (word_after call (found call))) (homes_after p call seat.hand c.homes)
         fails_more links_more sound (behind.1 (found call)) whole fits
 
     stopping_step : (r : Right) (one : v.rights ≡ r ∷ []) → IsWhole m → Fits p (row_of call) (stopped_after (Stop r.link) stopped) (mode_behind m call (found call)) → Failed p (state c views) r.link → KeptWith (stopped_after (Stop r.link) stopped)
-    stopping_step r one whole fits f = stopping (row_of call) (mode_behind m call (found call)) (next (found call)) (hand_after p call c.homes seat.hand) (words_after c.words (word_of p call) (word_after call (found call))) (homes_after p call seat.hand c.homes)
+    stopping_step r one whole fits f = stopping c.calls (row_of call) (mode_behind m call (found call)) (next (found call)) (hand_after p call c.homes seat.hand) (words_after c.words (word_of p call) (word_after call (found call))) (homes_after p call seat.hand c.homes)
         fails_more links_more sound (behind.1 (found call)) r one whole fits
-        (inl (stays (row_of call) (mode_behind m call (found call)) (next (found call)) (hand_after p call c.homes seat.hand) (words_after c.words (word_of p call) (word_after call (found call))) (homes_after p call seat.hand c.homes)
+        (inl (stays c.calls (row_of call) (mode_behind m call (found call)) (next (found call)) (hand_after p call c.homes seat.hand) (words_after c.words (word_of p call) (word_after call (found call))) (homes_after p call seat.hand c.homes)
         fails_more links_more sound (behind.1 (found call)) r.link f))
 
     -- any step but these
@@ -319,12 +320,12 @@ module _ (p : Plan) (c : Core) (views : List View) (stopped : ℕ → Bool) (kep
         let at_slot : b.slot ≡ j = subst (IsOfSlot j) broken (behind (SetOdd j) next is may sound).0 in
         let x : HoldsAt p v b.slot b.right.link = subst (λ n. FitsRight p v stopped n b.right) broken (mode_fits p c views stopped kept i seat v at_seat here b.right mine) in
         inl (subst (Failed p (state odd_core (set views i odd_view))) b.link (own_failed b.right mine x.0 (subst (λ z. HoldsLink p v z x.0 b.right.link) at_slot x.1))))
-        (λ ne. inr (broken_else p c views stopped kept i seat v at_seat here odd_view Unknown (next odd_word) (hand_after p (SetOdd j) c.homes seat.hand) (words_after c.words (word_of p (SetOdd j)) (word_after (SetOdd j) odd_word)) (homes_after p (SetOdd j) seat.hand c.homes) stopped k b ne)))
+        (λ ne. inr (broken_else p c views stopped kept i seat v at_seat here c.calls odd_view Unknown (next odd_word) (hand_after p (SetOdd j) c.homes seat.hand) (words_after c.words (word_of p (SetOdd j)) (word_after (SetOdd j) odd_word)) (homes_after p (SetOdd j) seat.hand c.homes) stopped k b ne)))
         (kept.stops k e)
 
     odd_kept : KeptWith (SetOdd j) next is may sound (stopped_after (step_event i (SetOdd j) odd_word v) stopped)
     odd_kept = subst (KeptWith (SetOdd j) next is may sound) (sym (stops_none stopped i (SetOdd j) odd_word v refl))
-        (steps p c views stopped kept i seat v at_seat here odd_view Unknown (next odd_word) (hand_after p (SetOdd j) c.homes seat.hand) (words_after c.words (word_of p (SetOdd j)) (word_after (SetOdd j) odd_word)) (homes_after p (SetOdd j) seat.hand c.homes) stopped
+        (steps p c views stopped kept i seat v at_seat here c.calls odd_view Unknown (next odd_word) (hand_after p (SetOdd j) c.homes seat.hand) (words_after c.words (word_of p (SetOdd j)) (word_after (SetOdd j) odd_word)) (homes_after p (SetOdd j) seat.hand c.homes) stopped
         sound ((behind (SetOdd j) next is may sound).1 odd_word) (λ r one. tt) (λ x u ne at_x f. f) odd_stops)
 
   -- ## The code of a life
@@ -360,12 +361,12 @@ module _ (p : Plan) (c : Core) (views : List View) (stopped : ℕ → Bool) (kep
   module _ (rights : List Right) (program first : Program) (hand : List Home) (hs : List (Option Home)) (sound : Sound p (with_seat i program hand c.words hs c) (set views i (with_rights v rights))) where
     -- a step that changes nothing but the rights of the seat, and stops nothing
     move_kept : (m' : Mode) → Guarded m' program → IsWhole m → Fits p (with_rights v rights) stopped m' → Kept p (with_seat i program hand c.words hs c) (set views i (with_rights v rights)) stopped
-    move_kept m' guarded whole fits = calm (with_rights v rights) m' program hand c.words hs (λ j h. same_more (is_failer h) j v (with_rights v rights) refl) (λ k j h. same_more (is_linked h k) j v (with_rights v rights) refl) sound guarded whole fits
+    move_kept m' guarded whole fits = calm c.calls (with_rights v rights) m' program hand c.words hs (λ j h. same_more (is_failer h) j v (with_rights v rights) refl) (λ k j h. same_more (is_linked h k) j v (with_rights v rights) refl) sound guarded whole fits
 
     -- and one in which the link answers that it failed
     break_kept : (slot : ℕ) (r : Right) (one : v.rights ≡ r ∷ []) → rights ≡ v.rights → Guarded (Broken slot) program → IsWhole m → HoldsAt p v slot r.link
         → Kept p (with_seat i program hand c.words hs c) (set views i (with_rights v rights)) (stopped_after (Stop r.link) stopped)
-    break_kept slot r one same guarded whole holds = stopping (with_rights v rights) (Broken slot) program hand c.words hs (λ j h. same_more (is_failer h) j v (with_rights v rights) refl) (λ k j h. same_more (is_linked h k) j v (with_rights v rights) refl)
+    break_kept slot r one same guarded whole holds = stopping c.calls (with_rights v rights) (Broken slot) program hand c.words hs (λ j h. same_more (is_failer h) j v (with_rights v rights) refl) (λ k j h. same_more (is_linked h k) j v (with_rights v rights) refl)
         sound guarded r one whole
         (λ q is_q. let link : q.link ≡ r.link = ap (λ (x : Right). x.link) (heads_same q r (sym is_q ∙ (same ∙ one))) in (
           holds.0,
@@ -425,8 +426,8 @@ module _ (p : Plan) (c : Core) (views : List View) (stopped : ℕ → Bool) (kep
 
 -- ## Ticks
 
-pub kept_tick : (p : Plan) (c : Core) (views : List View) (stopped : ℕ → Bool) (m : Moment) → Kept p c views stopped → IsAnswered c m → Kept p (ticked p c m) (views_after p c views m) (stopped_after (event_at p c views m) stopped)
-kept_tick p c views stopped m kept answered = tick_does p c views m kept.sound answered (λ e d us. Sound p d us → Kept p d us (stopped_after e stopped)) (λ none_ sound. kept) (λ seat at_seat still sound. kept)
+pub kept_tick : (p : Plan) (c : Core) (views : List View) (stopped : ℕ → Bool) (m : Moment) → Kept p c views stopped → IsGiven p c m → Kept p (ticked p c m) (views_after p c views m) (stopped_after (event_at p c views m) stopped)
+kept_tick p c views stopped m kept answered = tick_does p c views m kept.sound answered.0 (λ e d us. Sound p d us → Kept p d us (stopped_after e stopped)) (λ none_ sound. kept) (λ seat at_seat still sound. kept)
     (λ seat v call next at_seat at_view is goes sound. step_kept p c views stopped kept m.seat seat v at_seat at_view call next is goes.0 sound)
     (λ seat v q next heading bytes at_seat at_view is goes. let g = mode_guarded p c views stopped kept m.seat seat v at_seat at_view (TakeMessage q next) is in
     moves p c views stopped kept m.seat seat v at_seat at_view (next heading bytes) seat.hand (set c.homes q none) (took_message heading bytes v) (right_rights v v.rights (λ r. taken_right r heading bytes)) (g.1 heading bytes) g.0)
@@ -438,4 +439,9 @@ kept_tick p c views stopped m kept answered = tick_does p c views m kept.sound a
     (λ seat v k next answer at_seat at_view is goes answer_is.
     subst (λ us. Sound p (with_seat m.seat (next answer) seat.hand c.words c.homes c) us → Kept p (with_seat m.seat (next answer) seat.hand c.words c.homes c) us (stopped_after (ready_event k answer) stopped)) (set_again views m.seat v at_view)
     (ready_kept p c views stopped kept m.seat seat v at_seat at_view k next is goes.0 answer seat.hand c.homes))
-    (sound_ticks p c views m kept.sound answered)
+    (λ seat v s next found at_seat at_view is goes. let g = mode_guarded p c views stopped kept m.seat seat v at_seat at_view (Aside s next) is in
+    let d : Core = with_seat m.seat (next found) seat.hand c.words c.homes (record c { calls = calls_after s found c.calls }) in
+    subst (λ us. Sound p d us → Kept p d us stopped) (set_again views m.seat v at_view)
+    (λ sound. calm p c views stopped kept m.seat seat v at_seat at_view (calls_after s found c.calls) v Unknown (next found) seat.hand c.words c.homes (λ j h. same_more (is_failer h) j v v refl) (λ k j h. same_more (is_linked h k) j v v refl)
+    sound (g.1 found) g.0 (λ r one. tt)))
+    (sound_ticks p kept.retries_go c views m kept.sound answered.0 answered.1)

@@ -1,39 +1,55 @@
 -- What holds of each run of a script, whatever its schedule and its links: each tick is an event of the plain model, and behind a failure at most one put goes out.
-use Rattle.std.specs.Prelude.{ℕ, Bool, List, ◌++◌, take, replicate}
+use Rattle.std.specs.Prelude.{ℕ, Bool, List, ◌++◌, length, replicate}
 use Rattle.brpc_model.specs.Items.{Item}
 use Rattle.brpc_model.specs.Operations.{Turn}
-use Rattle.sock_words.specs.declared.plain.Plan.{Plan}
-use Rattle.sock_model.specs.Plain.{PlainLaw, plain}
 use Rattle.sock_model.specs.declared.view.View.{View}
-use Rattle.client_laws.specs.Openings.{opening_views}
+use Rattle.client_laws.specs.Openings.{opening_views, all_seats}
 use Rattle.sock_programs.specs.Cores.{Core}
-use Rattle.sock_programs.specs.Ticks.{Moment, quiet, run}
-use Rattle.sock_programs.specs.Scripts.{IsRunOf, all_tasks, opened, ending}
-use Rattle.sock_programs.specs.Tasks.{plan_of}
+use Rattle.sock_programs.specs.Ticks.{quiet}
+use Rattle.sock_programs.specs.Scripts.{IsRunWithCalls, all_tasks, opened, ending, set_up, played}
+use Rattle.sock_programs.specs.Tasks.{opens, plan_of}
 use Rattle.sock_runs.specs.Sound.{views_along}
 use Rattle.run_laws.specs.World.{IsNew}
-use Rattle.run_laws.specs.Seen.{AreEvents, none_stopped, stopped_along, world_of}
+use Rattle.run_laws.specs.Seen.{none_stopped, stopped_along, world_of}
+use Rattle.run_laws.specs.Happening.{Happen}
 use Rattle.run_laws.specs.Late.{PutsInTime}
 
 -- the views of all seats before the first tick
 abbrev pub opened_views : List Item → List View
-opened_views script = opening_views (plan_of script) (all_tasks script)
+opened_views script = opening_views (plan_of script) (all_seats (all_tasks script) (length (opens script)))
 
--- the ticks of a run up to where no client has a step left: its setup, those of its schedule, and its rounds
-abbrev pub ticks_of : {script : List Item} {turns : List Turn} {end_ : Core} → IsRunOf script turns end_ → List Moment
-ticks_of r = replicate r.setup (quiet 0) ++ (r.scheduled ++ r.later)
+-- behind the setup, before the ending, and where seat 0 has made the ending: the views of all seats, and the links that are stopped
+module _ {script : List Item} {turns : List Turn} {end_ : Core} (r : IsRunWithCalls script turns end_) where
+  abbrev pub views_set : List View
+  views_set = views_along (plan_of script) (opened script) (opened_views script) (replicate r.setup (quiet 0))
 
--- these ticks, one after another: each is its event of the plain model or none, and before and behind each the laws of lives hold
-pub record Happen (p : Plan) (c : Core) (views : List View) (stopped : ℕ → Bool) (ticks : List Moment) : Type 0 where
-  pub events : AreEvents p c views stopped ticks
-  pub lives : (n : ℕ) → PlainLaw p.slots (plain (views_along p c views (take n ticks)))
+  abbrev pub views_played : List View
+  views_played = views_along (plan_of script) (set_up script r.setup) (views_along (plan_of script) (opened script) (opened_views script) (replicate r.setup (quiet 0))) (r.scheduled ++ r.later)
 
-pub record KeepsLaws {script : List Item} {turns : List Turn} {end_ : Core} (r : IsRunOf script turns end_) : Type 0 where
+  abbrev pub views_closed : List View
+  views_closed = views_along (plan_of script) (ending script (played script r.setup (r.scheduled ++ r.later)))
+      (views_along (plan_of script) (set_up script r.setup) (views_along (plan_of script) (opened script) (opened_views script) (replicate r.setup (quiet 0))) (r.scheduled ++ r.later)) (replicate r.last (quiet 0))
+
+  abbrev pub stopped_set : ℕ → Bool
+  stopped_set = stopped_along (plan_of script) (opened script) (opened_views script) none_stopped (replicate r.setup (quiet 0))
+
+  abbrev pub stopped_played : ℕ → Bool
+  stopped_played = stopped_along (plan_of script) (set_up script r.setup) (views_along (plan_of script) (opened script) (opened_views script) (replicate r.setup (quiet 0)))
+      (stopped_along (plan_of script) (opened script) (opened_views script) none_stopped (replicate r.setup (quiet 0))) (r.scheduled ++ r.later)
+
+  abbrev pub stopped_closed : ℕ → Bool
+  stopped_closed = stopped_along (plan_of script) (ending script (played script r.setup (r.scheduled ++ r.later)))
+      (views_along (plan_of script) (set_up script r.setup) (views_along (plan_of script) (opened script) (opened_views script) (replicate r.setup (quiet 0))) (r.scheduled ++ r.later))
+      (stopped_along (plan_of script) (set_up script r.setup) (views_along (plan_of script) (opened script) (opened_views script) (replicate r.setup (quiet 0)))
+      (stopped_along (plan_of script) (opened script) (opened_views script) none_stopped (replicate r.setup (quiet 0))) (r.scheduled ++ r.later)) (replicate r.last (quiet 0))
+
+pub record KeepsLaws {script : List Item} {turns : List Turn} {end_ : Core} (r : IsRunWithCalls script turns end_) : Type 0 where
   -- before the first tick nothing lives, and nothing was accepted, taken or stopped
   pub begins : IsNew (plan_of script) (world_of (plan_of script) (opened script) (opened_views script) none_stopped)
-  -- the ticks up to where no client has a step left, and those of the ending behind them
-  pub ticks : Happen (plan_of script) (opened script) (opened_views script) none_stopped (ticks_of r)
-  pub ending : Happen (plan_of script) (ending script (run (plan_of script) (opened script) (ticks_of r))) (views_along (plan_of script) (opened script) (opened_views script) (ticks_of r))
-      (stopped_along (plan_of script) (opened script) (opened_views script) none_stopped (ticks_of r)) (replicate r.last (quiet 0))
-  -- each put comes directly behind a look that found the socket live, and behind a failure at most one goes out
-  pub in_time : PutsInTime (plan_of script) (opened script) (ticks_of r)
+  -- the ticks of the setup, those of the schedule and the rounds behind it, those of the ending, and the rounds behind that
+  pub set_up_ticks : Happen (plan_of script) (opened script) (opened_views script) none_stopped (replicate r.setup (quiet 0))
+  pub played_ticks : Happen (plan_of script) (set_up script r.setup) (views_set r) (stopped_set r) (r.scheduled ++ r.later)
+  pub ending_ticks : Happen (plan_of script) (ending script (played script r.setup (r.scheduled ++ r.later))) (views_played r) (stopped_played r) (replicate r.last (quiet 0))
+  pub final_ticks : Happen (plan_of script) r.ended (views_closed r) (stopped_closed r) r.final
+  -- before the ending each put comes directly behind a look that found the socket live, and behind a failure at most one goes out
+  pub in_time : PutsInTime (plan_of script) (opened script) (replicate r.setup (quiet 0) ++ (r.scheduled ++ r.later))

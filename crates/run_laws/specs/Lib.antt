@@ -1,4 +1,5 @@
 pub mod Late
 pub mod World
 pub mod Seen
+pub mod Happening
 pub mod Laws

@@ -1,5 +1,6 @@
 -- What a step makes of the claim and of the accepted messages of its seat.
-use Rattle.std.proofs.Common.{◌≡◌, ℕ, ◌+◌, ◌-◌, ◌%◌, Bool, true, false, cond, eq-eqb, nat_lt, List, [], ◌∷◌, ◌++◌, inr, sym, refl, ap, ◌∙◌, subst}
+use Rattle.std.proofs.Common.{◌≡◌, ◌≢◌, ℕ, ◌+◌, ◌-◌, ◌%◌, Bool, true, false, cond, eq-eqb, nat_lt, List, [], ◌∷◌, ◌++◌, inr, sym, refl, ap, ◌∙◌, subst}
+use Rattle.std.specs.List.{AllByRecursion}
 use Rattle.std.proofs.lemmas.Bool.{true≢false}
 use Rattle.sock_words.specs.Words.{socket_id_version, socket_id_slot}
 use Rattle.sock_words.specs.declared.plain.Plan.{Plan}
@@ -20,9 +21,9 @@ use Rattle.sock_runs.specs.Rows.{row, is_id, by_claim, exchanged, new_claim, fil
 use Rattle.sock_runs.specs.May.{May}
 use Rattle.sock_runs.proofs.Leaves.{own_lists}
 use Rattle.sock_causes.specs.Stories.{Entry, Event, In, trace_of}
-use Rattle.sock_causes.specs.Explains.{IsReadied, swaps, swapped, step}
+use Rattle.sock_causes.specs.Explains.{IsCallReadied, IsReadied, swaps, swapped, step}
 use Rattle.sock_causes.specs.Causes.{WasGiven}
-use Rattle.sock_causes.specs.Kept.{EndsIn, IsFor, AreClaims}
+use Rattle.sock_causes.specs.Kept.{is_of_send, of_sends, EndsIn, IsFor, AreClaims}
 use Rattle.sock_causes.proofs.Tests.{split}
 
 -- ## Steps but the exchange of a head
@@ -143,6 +144,51 @@ module _ (p : Plan) (old fresh : List Event) (given : (i h k : ℕ) → WasGiven
 
 -- ## The exchange
 
+swapped_lists : (p : Plan) (v : View) (i own found : ℕ) (hand : Hand) (claim : Claim) → v.claims ≡ claim ∷ [] → (n : ℕ) × ((row p (SwapHead i own) found hand v).lists ≡ more v.lists (entry_of claim n))
+swapped_lists p v i own found hand claim one = let a : (row p (SwapHead i own) found hand v).lists ≡ (exchanged found hand v claim).lists = ap (λ cs. (by_claim cs (exchanged found hand v) v).lists) one in
+    by (nat_lt found IDLE) a
+  where
+    by : (b : Bool) → (row p (SwapHead i own) found hand v).lists ≡ (cond b (queued v claim found) (righted v claim found hand.took hand.next)).lists → (n : ℕ) × ((row p (SwapHead i own) found hand v).lists ≡ more v.lists (entry_of claim n))
+    by true e = (found, e)
+    by false e = (found - IDLE, e)
+
+-- a message more, of a send or of a call
+sent_append : (made : List chain.Entry) (e : chain.Entry) → is_of_send e ≡ true → of_sends (made ++ e ∷ []) ≡ of_sends made ++ e ∷ []
+sent_append [] e is = ap (λ b. cond {A = List chain.Entry} b (e ∷ []) []) is
+sent_append (x ∷ xs) e is = by_first (is_of_send x) (sent_append xs e is)
+  where
+    by_first : (b : Bool) → of_sends (xs ++ e ∷ []) ≡ of_sends xs ++ e ∷ [] → cond b (x ∷ of_sends (xs ++ e ∷ [])) (of_sends (xs ++ e ∷ [])) ≡ cond b (x ∷ of_sends xs) (of_sends xs) ++ e ∷ []
+    by_first true h = ap (λ l. x ∷ l) h
+    by_first false h = h
+
+call_append : (made : List chain.Entry) (e : chain.Entry) → is_of_send e ≡ false → of_sends (made ++ e ∷ []) ≡ of_sends made
+call_append [] e is = ap (λ b. cond {A = List chain.Entry} b (e ∷ []) []) is
+call_append (x ∷ xs) e is = by_first (is_of_send x) (call_append xs e is)
+  where
+    by_first : (b : Bool) → of_sends (xs ++ e ∷ []) ≡ of_sends xs → cond b (x ∷ of_sends (xs ++ e ∷ [])) (of_sends (xs ++ e ∷ [])) ≡ cond b (x ∷ of_sends xs) (of_sends xs)
+    by_first true h = ap (λ l. x ∷ l) h
+    by_first false h = h
+
+all_append : (P : chain.Entry → Type 0) (xs : List chain.Entry) (y : chain.Entry) → AllByRecursion P xs → P y → AllByRecursion P (xs ++ y ∷ [])
+all_append P [] y a b = (b, tt)
+all_append P (x ∷ xs) y a b = (a.0, all_append P xs y a.1 b)
+
+-- the exchange appends the message of a call
+pub beside_swap : (p : Plan) (calls : ℕ → Type 0) (es : List Event) (v : View) (i own found : ℕ) (hand : Hand) (trace : List Entry) (ready : IsCallReadied calls trace) → May p v (SwapHead i own) → AreClaims es trace v.claims
+    → (made : List chain.Entry) → v.lists ≡ made ∷ [] → (new : List chain.Entry) × ((row p (SwapHead i own) found hand v).lists ≡ new ∷ []) × (of_sends new ≡ of_sends made)
+    × ((P : chain.Entry → Type 0) → ((e : chain.Entry) → e.heading ≡ ready.heading → P e) → AllByRecursion P made → AllByRecursion P new)
+beside_swap p calls es v i own found hand trace ready may was made lists = let x = may.1 in let claim : Claim = x.claim in let l = swapped_lists p v i own found hand claim x.claims in let e : chain.Entry = entry_of claim l.0 in
+    let y = was.marked claim ready.id ready.request ready.found ready.words.1 ready.words.0 ready.heading ready.bytes ready.before x.claims ready.trace_is ready.free in
+    (made ++ e ∷ [], l.1 ∙ ap (λ ls. more ls e) lists, call_append made e (ap (λ (h : Heading). no_parts h.parts) y.1 ∙ some_parts ready.heading.parts ready.parts), λ P one all. all_append P made e all (one e y.1))
+  where
+    no_parts : List ℕ → Bool
+    no_parts [] = true
+    no_parts (x ∷ xs) = false
+
+    some_parts : (l : List ℕ) → l ≢ [] → no_parts l ≡ false
+    some_parts [] ne = absurd (ne refl)
+    some_parts (x ∷ xs) ne = refl
+
 module _ (old fresh : List Event) (c : ℕ) (t : Task) (given : (i h k : ℕ) → WasGiven old i h k → WasGiven fresh i h k) (has : (x : Entry) → In x (trace_of c t.number old) → In x (trace_of c t.number fresh)) where
   ends_more : (before made : List chain.Entry) (b : Bool) → EndsIn old c t before made b → EndsIn fresh c t before made b
   ends_more before made true x = (
@@ -156,28 +202,21 @@ module _ (old fresh : List Event) (c : ℕ) (t : Task) (given : (i h k : ℕ) �
   pub ends_still : (call : Call) (before made : List chain.Entry) (b : Bool) → IsNoSwap call → EndsIn old c t before made b → EndsIn fresh c t before made (swaps call b)
   ends_still call before made b still x = subst (EndsIn fresh c t before made) (sym (no_swap call b still)) (ends_more before made b x)
 
-  swapped_lists : (p : Plan) (v : View) (i own found : ℕ) (hand : Hand) (claim : Claim) → v.claims ≡ claim ∷ [] → (n : ℕ) × ((row p (SwapHead i own) found hand v).lists ≡ more v.lists (entry_of claim n))
-  swapped_lists p v i own found hand claim one = let a : (row p (SwapHead i own) found hand v).lists ≡ (exchanged found hand v claim).lists = ap (λ cs. (by_claim cs (exchanged found hand v) v).lists) one in
-      by (nat_lt found IDLE) a
-    where
-      by : (b : Bool) → (row p (SwapHead i own) found hand v).lists ≡ (cond b (queued v claim found) (righted v claim found hand.took hand.next)).lists → (n : ℕ) × ((row p (SwapHead i own) found hand v).lists ≡ more v.lists (entry_of claim n))
-      by true e = (found, e)
-      by false e = (found - IDLE, e)
-
   -- the exchange appends the message of the claim
   pub ends_swap : (p : Plan) (v : View) (i own found : ℕ) (hand : Hand) (trace : List Entry) → IsReadied t trace → May p v (SwapHead i own) → AreClaims old trace v.claims → trace_of c t.number old ≡ trace
-      → (before made : List chain.Entry) → v.lists ≡ made ∷ [] → EndsIn old c t before made (swapped trace)
-      → (new : List chain.Entry) × ((row p (SwapHead i own) found hand v).lists ≡ new ∷ []) × EndsIn fresh c t before new true
-  ends_swap p v i own found hand trace ready may was is before made lists ends = let x = may.1.0 in let claim : Claim = x.claim in
+      → (before made : List chain.Entry) → v.lists ≡ made ∷ [] → EndsIn old c t before (of_sends made) (swapped trace)
+      → (new : List chain.Entry) × ((row p (SwapHead i own) found hand v).lists ≡ new ∷ []) × EndsIn fresh c t before (of_sends new) true
+      × ((P : chain.Entry → Type 0) → ((e : chain.Entry) → is_of_send e ≡ true → P e) → AllByRecursion P made → AllByRecursion P new)
+  ends_swap p v i own found hand trace ready may was is before made lists ends = let x = may.1 in let claim : Claim = x.claim in
       let l = swapped_lists p v i own found hand claim x.claims in let e : chain.Entry = entry_of claim l.0 in
       let first : swapped trace ≡ false = ap swapped ready.trace_is ∙ ready.first in
-      let none_ : made ≡ before = subst (EndsIn old c t before made) first ends in
+      let none_ : of_sends made ≡ before = subst (EndsIn old c t before (of_sends made)) first ends in
       let y = was.marked claim ready.id ready.request ready.found ready.words.1 ready.words.0 (heading_of t.number) ready.bytes ready.before x.claims ready.trace_is ready.free in (
-        before ++ e ∷ [],
-        l.1 ∙ ap (λ ls. more ls e) (lists ∙ ap (λ m. m ∷ []) none_),
+        made ++ e ∷ [],
+        l.1 ∙ ap (λ ls. more ls e) lists,
         (
           e,
-          refl,
+          sent_append made e (ap is_sent y.1) ∙ ap (λ m. m ++ e ∷ []) none_,
           record {
             heading = y.1;
             name = ready.name;
@@ -187,4 +226,8 @@ module _ (old fresh : List Event) (c : ℕ) (t : Task) (given : (i h k : ℕ) �
             link = given (socket_id_slot ready.id) (socket_id_version ready.id) claim.link y.0;
           },
         ),
+        λ P one all. all_append P made e all (one e (ap is_sent y.1)),
       )
+    where
+      is_sent : Heading → Bool
+      is_sent h = elim h.parts as (λ l. Bool) [ [] ↦ true | x ∷ xs ↦ false ]

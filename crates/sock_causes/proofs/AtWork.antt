@@ -12,37 +12,77 @@ use Rattle.sock_programs.specs.declared.task.Op.TheVariants as ops
 use Rattle.sock_programs.specs.declared.task.Task.{Task}
 use Rattle.sock_programs.specs.Calls.{Call, LookWord, ReadNext}
 use Rattle.sock_programs.specs.Writings.{Puts, Waits, Empties, Walks}
-use Rattle.sock_programs.specs.Programs.{Program, Do, Say, Sent, Rest, TakeMessage, TakeHome, PutHome, PutBytes, AskReady, Write}
+use Rattle.sock_programs.specs.Programs.{Program, Do, Say, Sent, Rest, TakeMessage, TakeHome, PutHome, PutBytes, AskReady, Write, Aside, Round, Keep, Retries}
+use Rattle.corr_core.specs.Word.{parts, code_of}
+use Rattle.sock_programs.specs.Asides.{PutCall, id_slot}
+use Rattle.sock_programs.specs.Heads.{Head, Exit, HasEnded, Posts, Unlocks, Decides, Locks, Joins, Opens, Reads, Discards}
+use Rattle.sock_programs.specs.Posts.{ends_call, end_id, unlocked}
+use Rattle.sock_programs.specs.Rounds.{round}
+use Rattle.std.specs.Prelude.{Bool, true, false, if◌then◌else◌, ◌+◌}
 use Rattle.sock_programs.specs.Cores.{Core, SeatState}
 use Rattle.sock_programs.specs.Drops.{call_in, next_call, IsAt}
 use Rattle.sock_programs.specs.Told.{AreTasks}
 use Rattle.sock_model.specs.Entries.{slot_of}
 use Rattle.sock_runs.specs.Sound.{first_step}
 use Rattle.sock_causes.specs.Stories.{Entry, Event, In, trace_of}
-use Rattle.sock_causes.specs.Explains.{Done, Explained, IsSend}
+use Rattle.sock_causes.specs.Explains.{Way, Own, IsLoopOf, Explains, Done, Explained, IsSend}
 use Rattle.sock_causes.specs.Kept.{AreKept, SeatAt, undo}
 use Rattle.sock_causes.proofs.Members.{all_in, contains_in}
 use Rattle.sock_causes.proofs.Seats.{Less, undo_todo, from_undo}
 use Rattle.sock_causes.proofs.Tasks.{sorted_of, same_some}
 
 -- the next step on a word is the first of the next round
-call_is : (program : Program) (call : Call) (next : ℕ → Program) → first_step program ≡ Do call next → call_in program ≡ Some call
-call_is (Do c n) call next e = let q : c ≡ call = cc in ap (λ x. Some x) q
-call_is (Write (Puts h now heading left taken asked) after) call next e = let q : LookWord h.id ≡ call = cc in ap (λ x. Some x) q
-call_is (Write (Waits h now heading left taken) after) call next e = absurd (cc)
-call_is (Write (Empties h) after) call next e = absurd (cc)
-call_is (Write (Walks h top at after) then_) call next e = let q : ReadNext (slot_of at) ≡ call = cc in ap (λ x. Some x) q
-call_is (Say o outcome more) call next e = absurd (cc)
-call_is (Sent o more) call next e = absurd (cc)
-call_is Rest call next e = absurd (cc)
-call_is (TakeMessage q n) call next e = absurd (cc)
-call_is (TakeHome k n) call next e = absurd (cc)
-call_is (PutHome k n after) call next e = absurd (cc)
-call_is (PutBytes k a b n) call next e = absurd (cc)
-call_is (AskReady k n) call next e = absurd (cc)
+-- a program of the tasks waits for no `open`
+abbrev IsOwnLoop : Program → Type 0
+IsOwnLoop (Round head next) = IsLoopOf Own head
+IsOwnLoop other = Unit {0}
 
-pub next_is : (c : Core) (i : ℕ) (seat : SeatState) (call : Call) (next : ℕ → Program) → get_elem? c.seats i ≡ core.some seat → first_step seat.program ≡ Do call next → next_call c i ≡ Some call
-next_is c i seat call next at does = ap (λ o. elim o as (λ o. Option Call) [ core.none ↦ None | core.some x ↦ call_in x.program ]) at ∙ call_is seat.program call next does
+own_loop : (slots requests : ℕ) (calls : ℕ → Type 0) (broken : List ℕ) (done : List Done) (trace : List Entry) (todo : List Task) (program : Program) → Explains slots requests calls broken done trace todo program → IsOwnLoop program
+own_loop slots requests calls broken done trace todo (Round head next) x = x.0.0
+own_loop slots requests calls broken done trace todo _ x = tt
+
+abbrev IsAside : Program → Type 0
+IsAside (Aside s next) = Unit {0}
+IsAside other = ⊥
+
+aside_begins : (head : Head) (next : Exit head → Program) → IsLoopOf Own head → IsAside (round head next)
+aside_begins (Posts id e w) next is = tt
+aside_begins (Unlocks i w advance) next is = tt
+aside_begins (Decides id asked w e) next is = by_end (ends_call (parts w) e)
+  where
+    by_end : (b : Bool) → IsAside (if b then end_id (id_slot id) (next (HasEnded asked.operation (code_of e)))
+        else Aside (PutCall (id_slot id) asked) (λ _. Round (Unlocks (id_slot id) w true) (unlocked (record { id = id; attempt = (parts w).attempt + 1 }) next)))
+    by_end true = tt
+    by_end false = tt
+aside_begins (Locks i sought None) next is = tt
+aside_begins (Locks i sought (Some w)) next is = tt
+aside_begins (Joins id) next is = tt
+aside_begins (Opens o) next is = absurd is
+aside_begins (Reads r) next is = tt
+aside_begins (Discards k total) next is = tt
+
+call_is : (program : Program) (call : Call) (next : ℕ → Program) → IsOwnLoop program → first_step program ≡ Do call next → call_in program ≡ Some call
+call_is (Do c n) call next is e = let q : c ≡ call = cc in ap (λ x. Some x) q
+call_is (Write (Puts h now heading left taken asked) after) call next is e = let q : LookWord h.id ≡ call = cc in ap (λ x. Some x) q
+call_is (Write (Waits h now heading left taken) after) call next is e = absurd (cc)
+call_is (Write (Empties h) after) call next is e = absurd (cc)
+call_is (Write (Walks h top at after) then_) call next is e = let q : ReadNext (slot_of at) ≡ call = cc in ap (λ x. Some x) q
+call_is (Say o outcome more) call next is e = absurd (cc)
+call_is (Sent o more) call next is e = absurd (cc)
+call_is Rest call next is e = absurd (cc)
+call_is (TakeMessage q n) call next is e = absurd (cc)
+call_is (TakeHome k n) call next is e = absurd (cc)
+call_is (PutHome k n after) call next is e = absurd (cc)
+call_is (PutBytes k a b n) call next is e = absurd (cc)
+call_is (AskReady k n) call next is e = absurd (cc)
+call_is (Aside s n) call next is e = absurd (cc)
+call_is (Keep r n) call next is e = absurd (cc)
+call_is (Retries n after) call next is e = absurd (cc)
+call_is (Round head n) call next is e = absurd (subst IsAside e (aside_begins head n is))
+
+pub next_is : (slots requests : ℕ) (calls : ℕ → Type 0) (broken : List ℕ) (done : List Done) (trace : List Entry) (todo : List Task) (c : Core) (i : ℕ) (seat : SeatState) (call : Call) (next : ℕ → Program) → Explains slots requests calls broken done trace todo seat.program
+    → get_elem? c.seats i ≡ core.some seat → first_step seat.program ≡ Do call next → next_call c i ≡ Some call
+next_is slots requests calls broken done trace todo c i seat call next x at does = ap (λ o. elim o as (λ o. Option Call) [ core.none ↦ None | core.some x ↦ call_in x.program ]) at ∙ call_is seat.program call next (own_loop slots requests calls broken done trace todo seat.program x) does
 
 -- of a task that is done something was said, or it is a `send`
 none_send : (slots requests : ℕ) (ds : List Done) (trace : List Entry) (op : Op) (o : Option Outcome) → o ≡ None → Explained slots requests ds trace op o → IsSend op
@@ -61,9 +101,12 @@ send_is (ops.Open n k) s = absurd s
 send_is (ops.Hold n) s = absurd s
 send_is (ops.Drop n) s = absurd s
 send_is (ops.Fail n code) s = absurd s
+send_is (ops.Call asked) s = absurd s
+send_is (ops.Expire t) s = absurd s
+send_is (ops.Join t) s = absurd s
 
-module _ (p : Plan) (clients : List (List Task)) (are : AreTasks p clients) (c : Core) (es : List Event) (broken : List ℕ) (i : ℕ) (tasks : List Task) (asks : slice_get clients i ≡ Some tasks)
-    (done : List Done) (t : Task) (ts : List Task) (program : Program) (v : View) (s : SeatAt p es broken c.outcomes i tasks done (t ∷ ts) program v) where
+module _ (p : Plan) (clients : List (List Task)) (are : AreTasks p clients) (calls : ℕ → Type 0) (over : Bool) (c : Core) (es : List Event) (broken : List ℕ) (i : ℕ) (tasks : List Task) (asks : slice_get clients i ≡ Some tasks)
+    (way : Way) (trace : List Entry) (done : List Done) (t : Task) (ts : List Task) (program : Program) (v : View) (s : SeatAt p calls over es broken c.outcomes i tasks way trace done (t ∷ ts) program v) where
   earlier_said : (u : Task) → In u (undo done (t ∷ ts)) → u.number < t.number → ((outcome : Outcome) × (slice_get c.outcomes u.number ≡ Some (Some outcome))) ⊎ ((n : ℕ) × (bytes : List ℕ) × (u.op ≡ ops.Send n bytes))
   earlier_said u m less = ⊎_elim
       (λ x. let d : Done = x.0 in by d.outcome d refl x.1 x.2)

@@ -1,5 +1,5 @@
 -- At the beginning the story is empty.
-use Rattle.std.proofs.Common.{◌≡◌, ◌≢◌, ℕ, zero, suc, true, false, ◌+◌, ◌-◌, ◌*◌, ◌<◌, ◌≤◌, List, [], ◌∷◌, ◌++◌, map, length, get_or, replicate, sym, refl, ap, ◌∙◌, subst, arith}
+use Rattle.std.proofs.Common.{◌≡◌, ◌≢◌, ℕ, zero, suc, false, inl, inr, ◌+◌, ◌-◌, ◌*◌, ◌<◌, ◌≤◌, List, [], ◌∷◌, ◌++◌, map, length, get_or, replicate, sym, refl, ap, ◌∙◌, subst, arith}
 use Rattle.std.specs.Prelude.{Option, Some, None, fold, slice_get}
 use Rattle.std.specs.List.{AllByRecursion}
 use mathlib.Core.Option.{some, some-injective, some-ne-none}
@@ -12,28 +12,27 @@ use Rattle.sock_words.specs.declared.outcome.Outcome.{Outcome}
 use Rattle.sock_model.specs.declared.marks.Mark.{Mark}
 use Rattle.sock_model.specs.declared.marks.Mark.TheVariants.{Claimed}
 use Rattle.sock_model.specs.declared.view.View.{View}
-use Rattle.sock_model.specs.Weights.{is_hold, is_busy, is_claimed, is_born, is_failer, is_linked, is_tried}
+use Rattle.sock_model.specs.Weights.{is_busy, is_claimed, is_born, is_failer, is_linked, is_tried}
 use Rattle.sock_model.specs.Layout.{tag_word, ref_word, all_words}
 use Rattle.sock_model.specs.Slots.{SlotFacts, SlotLaw, live, count}
 use Rattle.sock_model.specs.References.{slot_facts}
-use Rattle.sock_model.specs.SlotRows.{marks_of}
 use Rattle.slot_laws.proofs.Sums.{tally_mono}
 use Rattle.slot_laws.proofs.Numbers.{live-free, life-none}
 use Rattle.sock_programs.specs.declared.task.Task.{Task}
-use Rattle.sock_programs.specs.declared.task.Sizes.{Sizes}
+use Rattle.sock_programs.specs.declared.task.Asked.{Asked}
+use Rattle.corr_core.specs.declared.marks.Plan.{Plan as IdPlan}
+use Rattle.sock_programs.specs.Beside.{call_at}
 use Rattle.sock_programs.specs.Programs.{Program}
-use Rattle.sock_programs.specs.Clients.{client_from}
-use Rattle.sock_programs.specs.Cores.{Core, SeatState, said, next_step}
-use Rattle.sock_programs.specs.Scripts.{free_slots, sizes_of, programs, beginning}
-use Rattle.sock_programs.specs.Told.{AreTasks, TaskFits, Differ, alternate}
+use Rattle.sock_programs.specs.Cores.{Core, SeatState, resolved, said, next_step}
+use Rattle.sock_programs.specs.Scripts.{free_slots, beginning}
+use Rattle.sock_programs.specs.Told.{AreTasks, TaskFits, Differ}
 use Rattle.sock_runs.specs.Sound.{state, Sound}
 use Rattle.sock_causes.specs.Stories.{In, trace_now}
-use Rattle.sock_causes.specs.Explains.{Done, Explains, holds}
-use Rattle.sock_causes.specs.Kept.{undo, AreClaims, AreMadeNow, SeatStory, Story, IsReady}
-use Rattle.sock_causes.proofs.Clients.{client_explains}
+use Rattle.sock_causes.specs.Explains.{Way, Own, Beside, Closing, Done, ExplainsBy}
+use Rattle.sock_causes.specs.Kept.{undo, IsTraced, MayClose, IsSpoken, AreMadeNow, SeatStory, Story, IsReady}
 use Rattle.sock_causes.proofs.Members.{all_in, all_of}
 use Rattle.sock_causes.proofs.Seats.{Less, length_said, said_else, no_claims, after_say, undo_in, undo_done}
-use Rattle.sock_causes.proofs.Ticks.{next_ready}
+use Rattle.sock_causes.proofs.Ticks.{come_ready}
 use Rattle.sock_causes.proofs.Tasks.{Apart, InOrder, before_weaker}
 
 -- ## The words
@@ -86,11 +85,11 @@ module _ (first : ℕ) (l : SlotFacts) (law : SlotLaw first (live l) l) (tag : l
 -- ## The outcomes
 
 abbrev Says : List (Option Outcome) → Program → List (Option Outcome)
-Says os program = said program os
+Says os program = said (resolved [] program) os
 
 length_all : (qs : List Program) (os : List (Option Outcome)) → length (fold Says os qs) ≡ length os
 length_all [] os = refl
-length_all (q ∷ qs) os = length_all qs (said q os) ∙ length_said q os
+length_all (q ∷ qs) os = length_all qs (said (resolved [] q) os) ∙ length_said (resolved [] q) os
 
 abbrev no_outcome : Option Outcome
 no_outcome = None
@@ -104,105 +103,158 @@ blank_at zero j l = absurd (omega arith)
 blank_at (suc n) zero l = refl
 blank_at (suc n) (suc j) l = blank_at n j (omega arith)
 
-module _ (p : Plan) (well : (ts : List Task) → Type 0) (explained : (ts : List Task) → well ts → Explains p.slots p.requests [] [] [] ts (client_from (sizes_of p) [] ts)) where
-  abbrev all_programs : List (List Task) → List Program
-  all_programs cs = programs (sizes_of p) cs
+-- ## The programs
 
-  abbrev first_program : List Task → Program
-  first_program ts = client_from (sizes_of p) [] ts
+-- a program that explains these tasks from its first step on; whoever closes sockets has a seat that may
+pub record IsExplained (p : Plan) (calls : ℕ → Type 0) (seat : ℕ) (ts : List Task) (q : Program) : Type 0 where
+  pub way : Way
+  pub closes : way ≡ Closing → MayClose seat
+  pub explains : ExplainsBy p.slots p.requests calls way [] [] [] ts q
+
+-- those of the seats from this one on
+abbrev pub AreExplained : Plan → (ℕ → Type 0) → ℕ → List (List Task) → List Program → Type 0
+AreExplained p calls seat [] [] = Unit {0}
+AreExplained p calls seat (ts ∷ cs) (q ∷ qs) = IsExplained p calls seat ts q × AreExplained p calls (suc seat) cs qs
+AreExplained p calls seat cs qs = ⊥
+
+module _ (p : Plan) (calls : ℕ → Type 0) where
+  abbrev NoneOf : ℕ → List Task → Type 0
+  NoneOf j ts = AllByRecursion (λ (t : Task). t.number ≢ j) ts
+
+  said_one : (seat : ℕ) (ts : List Task) (q : Program) → IsExplained p calls seat ts q → (os : List (Option Outcome)) (j : ℕ) → (calls j → ⊥) → NoneOf j ts → slice_get (said (resolved [] q) os) j ≡ slice_get os j
+  said_one seat ts q x os j never h = said_else p.slots p.requests calls x.way [] q [] [] [] ts os j x.explains never h
 
   -- those of other clients stay
-  outcome_stays : (cs : List (List Task)) → AllByRecursion well cs → (os : List (Option Outcome)) (j : ℕ) → AllByRecursion (AllByRecursion (λ (t : Task). t.number ≢ j)) cs → slice_get (fold Says os (all_programs cs)) j ≡ slice_get os j
-  outcome_stays [] w os j h = refl
-  outcome_stays (c ∷ cs) w os j h = outcome_stays cs w.1 (said (first_program c) os) j h.1 ∙ said_else p.slots p.requests (first_program c) [] [] [] c os j (explained c w.0) h.0
+  outcome_stays : (seat : ℕ) (cs : List (List Task)) (qs : List Program) → AreExplained p calls seat cs qs → (os : List (Option Outcome)) (j : ℕ) → (calls j → ⊥) → AllByRecursion (NoneOf j) cs → slice_get (fold Says os qs) j ≡ slice_get os j
+  outcome_stays seat [] [] x os j never h = refl
+  outcome_stays seat [] (q ∷ qs) x os j never h = absurd x
+  outcome_stays seat (c ∷ cs) [] x os j never h = absurd x
+  outcome_stays seat (c ∷ cs) (q ∷ qs) x os j never h = outcome_stays (suc seat) cs qs x.1 (said (resolved [] q) os) j never h.1 ∙ said_one seat c q x.0 os j never h.0
 
   -- no task has an outcome yet
   abbrev AreBlank : List (Option Outcome) → List Task → Type 0
   AreBlank os ts = AllByRecursion (λ (t : Task). slice_get os t.number ≡ Some None) ts
 
-  blank_stays : (t : List Task) (us : List Task) (os : List (Option Outcome)) → well t → AllByRecursion (λ (x : Task). AllByRecursion (Differ x) us) t → AreBlank os us → AreBlank (said (first_program t) os) us
-  blank_stays t us os w apart blank = all_of (λ (u : Task). slice_get (said (first_program t) os) u.number ≡ Some None) us (λ u m. said_else p.slots p.requests (first_program t) [] [] [] t os u.number (explained t w)
+  -- none of these tasks is a call
+  abbrev AreTold : List Task → Type 0
+  AreTold ts = AllByRecursion (λ (t : Task). calls t.number → ⊥) ts
+
+  blank_stays : (seat : ℕ) (t : List Task) (q : Program) (us : List Task) (os : List (Option Outcome)) → IsExplained p calls seat t q → AreTold us → AllByRecursion (λ (x : Task). AllByRecursion (Differ x) us) t → AreBlank os us → AreBlank (said (resolved [] q) os) us
+  blank_stays seat t q us os x told apart blank = all_of (λ (u : Task). slice_get (said (resolved [] q) os) u.number ≡ Some None) us (λ u m. said_one seat t q x os u.number (all_in (λ (u : Task). calls u.number → ⊥) us u told m)
       (all_of (λ (x : Task). x.number ≢ u.number) t (λ x n. (all_in (Differ x) us u (all_in (λ (x : Task). AllByRecursion (Differ x) us) t x apart n) m).0))
       ∙ all_in (λ (u : Task). slice_get os u.number ≡ Some None) us u blank m)
 
-  seats_begin : (cs : List (List Task)) → AllByRecursion well cs → EachBefore Apart cs → AllByRecursion (EachBefore Less) cs → (os : List (Option Outcome)) → AllByRecursion (AllByRecursion (λ (t : Task). t.number < length os)) cs → AllByRecursion (AreBlank os) cs
-      → (c i : ℕ) (ts : List Task) (v : View) → v.lists ≡ [] ∷ [] → slice_get cs i ≡ Some ts → SeatStory p [] [] (fold Says os (all_programs cs)) c ts (next_step (first_program ts)) v
-  seats_begin [] w apart sorted os fit blank c i ts v fresh e = absurd (cc)
-  seats_begin (t ∷ cs) w apart sorted os fit blank c (suc i) ts v fresh e = let os' : List (Option Outcome) = said (first_program t) os in
-      seats_begin cs w.1 apart.1 sorted.1 os' (subst (λ n. AllByRecursion (AllByRecursion (λ (t : Task). t.number < n)) cs) (sym (length_said (first_program t) os)) fit.1)
-      (all_of (AreBlank os') cs (λ us m. blank_stays t us os w.0 (all_in (Apart t) cs us apart.0 m) (all_in (AreBlank os) cs us blank.1 m))) c i ts v fresh e
-  seats_begin (t ∷ cs) w apart sorted os fit blank c zero ts v fresh e = let q : t ≡ ts = cc in
-      subst (λ us. SeatStory p [] [] (fold Says os (all_programs (t ∷ cs))) c us (next_step (first_program us)) v) q (first_ (after_say p [] [] c t sorted.0 v (first_program t) os [] t fit.0 record {
+  nothing : (c : ℕ) (todo : List Task) → [] ≡ trace_now c todo []
+  nothing c [] = refl
+  nothing c (t ∷ ts) = refl
+
+  traced_at : (w : Way) (c : ℕ) (todo : List Task) → IsTraced w [] c todo []
+  traced_at Own c todo = nothing c todo
+  traced_at Beside c todo = sym (nothing c todo)
+  traced_at Closing c todo = (refl, sym (nothing c todo))
+
+  none_made : (c : ℕ) (todo : List Task) → AreMadeNow [] c [] todo []
+  none_made c [] = refl
+  none_made c (t ∷ ts) = ([], refl, refl)
+
+  seats_begin : (seat : ℕ) (cs : List (List Task)) (qs : List Program) → AreExplained p calls seat cs qs → AllByRecursion AreTold cs → EachBefore Apart cs → AllByRecursion (EachBefore Less) cs → (os : List (Option Outcome)) → AllByRecursion (AllByRecursion (λ (t : Task). t.number < length os)) cs
+      → AllByRecursion (AreBlank os) cs → (i : ℕ) (ts : List Task) (q : Program) (v : View) → v.lists ≡ [] ∷ [] → slice_get cs i ≡ Some ts → get_elem? qs i ≡ some q → SeatStory p calls false [] [] (fold Says os qs) (seat + i) ts (next_step (resolved [] q)) v
+  seats_begin seat [] qs x told apart sorted os fit blank i ts q v fresh e f = absurd (cc)
+  seats_begin seat (t ∷ cs) [] x told apart sorted os fit blank i ts q v fresh e f = absurd x
+  seats_begin seat (t ∷ cs) (r ∷ qs) x told apart sorted os fit blank (suc i) ts q v fresh e f = let os' : List (Option Outcome) = said (resolved [] r) os in
+      subst (λ n. SeatStory p calls false [] [] (fold Says os' qs) n ts (next_step (resolved [] q)) v) (let a : suc seat + i ≡ seat + suc i = omega arith in a)
+      (seats_begin (suc seat) cs qs x.1 told.1 apart.1 sorted.1 os' (subst (λ n. AllByRecursion (AllByRecursion (λ (t : Task). t.number < n)) cs) (sym (length_said (resolved [] r) os)) fit.1)
+      (all_of (AreBlank os') cs (λ us m. blank_stays seat t r us os x.0 (all_in AreTold cs us told.1 m) (all_in (Apart t) cs us apart.0 m) (all_in (AreBlank os) cs us blank.1 m))) i ts q v fresh e f)
+  seats_begin seat (t ∷ cs) (r ∷ qs) x told apart sorted os fit blank zero ts q v fresh e f = let same : t ≡ ts = cc in let one : r ≡ q = some-injective r q f in
+      subst (λ n. SeatStory p calls false [] [] (fold Says os (r ∷ qs)) n ts (next_step (resolved [] q)) v) (let a : seat ≡ seat + 0 = omega arith in a)
+      (subst (λ us. SeatStory p calls false [] [] (fold Says os (r ∷ qs)) seat us (next_step (resolved [] q)) v) same (subst (λ z. SeatStory p calls false [] [] (fold Says os (r ∷ qs)) seat t (next_step (resolved [] z)) v) one
+      (first_ (after_say p calls false [] [] seat t sorted.0 (λ u m. all_in (λ (u : Task). calls u.number → ⊥) t u told.0 m) v x.0.way [] [] r os [] t fit.0 record {
+        set_up = λ e zero_. absurd (cc);
+        closes = x.0.closes;
+        traced = traced_at x.0.way seat t;
         all = refl;
         became = tt;
         unsaid = blank.0;
         kept = tt;
         past = λ x m. absurd m;
-        explains = subst (λ z. Explains p.slots p.requests [] [] z t (first_program t)) (nothing t) (explained t w.0);
-        holding = λ i h. subst (λ z. holds i h z ≤ marks_of (is_hold h) i v) (nothing t) (omega arith);
-        claims = subst (λ z. AreClaims [] z v.claims) (nothing t) (no_claims [] v.claims);
+        explains = x.0.explains;
+        holding = λ i h. omega arith;
+        linked = λ i h k m. absurd m;
+        claims = no_claims [] v.claims;
         made = [];
         lists = fresh;
-        are_made = none_made t;
-      }))
+        are_made = none_made seat t;
+        of_calls = tt;
+      }))))
     where
-      nothing : (todo : List Task) → [] ≡ trace_now c todo []
-      nothing [] = refl
-      nothing (t ∷ ts) = refl
-
-      none_made : (todo : List Task) → AreMadeNow [] c [] todo []
-      none_made [] = refl
-      none_made (t ∷ ts) = ([], refl, refl)
-
-      first_ : SeatStory p [] [] (said (first_program t) os) c t (next_step (first_program t)) v → SeatStory p [] [] (fold Says os (all_programs (t ∷ cs))) c t (next_step (first_program t)) v
-      first_ s = let a = s.2 in let os' : List (Option Outcome) = said (first_program t) os in
-          let stays : (x : Task) → In x (undo s.0 s.1) → slice_get (fold Says os' (all_programs cs)) x.number ≡ slice_get os' x.number = λ x m.
-          outcome_stays cs w.1 os' x.number (all_of (AllByRecursion (λ (u : Task). u.number ≢ x.number)) cs (λ us n. all_of (λ (u : Task). u.number ≢ x.number) us (λ u k r.
-          (all_in (Differ x) us u (all_in (λ (x : Task). AllByRecursion (Differ x) us) t x (all_in (Apart t) cs us apart.0 n) (subst (In x) (sym a.all) m)) k).0 (sym r)))) in (
-            s.0,
-            s.1,
-            record {
+      first_ : SeatStory p calls false [] [] (said (resolved [] r) os) seat t (next_step (resolved [] r)) v → SeatStory p calls false [] [] (fold Says os (r ∷ qs)) seat t (next_step (resolved [] r)) v
+      first_ s = let a = s.at in let os' : List (Option Outcome) = said (resolved [] r) os in
+          let stays : (y : Task) → In y (undo s.done s.todo) → slice_get (fold Says os' qs) y.number ≡ slice_get os' y.number = λ y m.
+          outcome_stays (suc seat) cs qs x.1 os' y.number (all_in (λ (u : Task). calls u.number → ⊥) t y told.0 (subst (In y) (sym a.all) m))
+          (all_of (AllByRecursion (λ (u : Task). u.number ≢ y.number)) cs (λ us n. all_of (λ (u : Task). u.number ≢ y.number) us (λ u k r.
+          (all_in (Differ y) us u (all_in (λ (y : Task). AllByRecursion (Differ y) us) t y (all_in (Apart t) cs us apart.0 n) (subst (In y) (sym a.all) m)) k).0 (sym r)))) in record {
+            way = s.way;
+            trace = s.trace;
+            done = s.done;
+            todo = s.todo;
+            at = record {
+              set_up = a.set_up;
+              closes = a.closes;
+              traced = a.traced;
               all = a.all;
-              became = all_of (λ (d : Done). slice_get (fold Says os' (all_programs cs)) d.task.number ≡ Some d.outcome) s.0 (λ d m. stays d.task (undo_done s.0 s.1 d m) ∙ all_in (λ (d : Done). slice_get os' d.task.number ≡ Some d.outcome) s.0 d a.became m);
-              unsaid = all_of (λ (u : Task). slice_get (fold Says os' (all_programs cs)) u.number ≡ Some None) s.1 (λ u m. stays u (undo_in s.0 s.1 u m) ∙ all_in (λ (u : Task). slice_get os' u.number ≡ Some None) s.1 u a.unsaid m);
+              became = all_of (λ (d : Done). slice_get (fold Says os' qs) d.task.number ≡ Some d.outcome) s.done (λ d m. stays d.task (undo_done s.done s.todo d m) ∙ all_in (λ (d : Done). slice_get os' d.task.number ≡ Some d.outcome) s.done d a.became m);
+              unsaid = all_of (λ (u : Task). slice_get (fold Says os' qs) u.number ≡ Some None) s.todo (λ u m. stays u (undo_in s.done s.todo u m) ∙ all_in (λ (u : Task). slice_get os' u.number ≡ Some None) s.todo u a.unsaid m);
               kept = a.kept;
               past = a.past;
               explains = a.explains;
               holding = a.holding;
+              linked = a.linked;
               claims = a.claims;
               made = a.made;
               lists = a.lists;
               are_made = a.are_made;
-            },
-          )
+              of_calls = a.of_calls;
+            };
+          }
 
-seat_is : (sizes : Sizes) (cs : List (List Task)) (i : ℕ) (ts : List Task) (seat : SeatState) → slice_get cs i ≡ Some ts
-    → get_elem? (map (λ (program : Program). record { program = next_step program; hand = [] }) (programs sizes cs)) i ≡ some seat → next_step (client_from sizes [] ts) ≡ seat.program
-seat_is sizes [] i ts seat e f = absurd (cc)
-seat_is sizes (c ∷ cs) zero ts seat e f = let q : c ≡ ts = cc in ap (λ us. next_step (client_from sizes [] us)) (sym q) ∙ ap (λ (s : SeatState). s.program) (some-injective (record { program = next_step (client_from sizes [] c); hand = [] }) seat f)
-seat_is sizes (c ∷ cs) (suc i) ts seat e f = seat_is sizes cs i ts seat e f
-
-ready_at : (qs : List Program) (i : ℕ) (seat : SeatState) → get_elem? (map (λ (program : Program). record { program = next_step program; hand = [] }) qs) i ≡ some seat → IsReady seat.program
-ready_at [] i seat e = absurd (some-ne-none seat (sym e))
-ready_at (q ∷ qs) zero seat e = subst (λ (s : SeatState). IsReady s.program) (some-injective (record { program = next_step q; hand = [] }) seat e) (next_ready q)
-ready_at (q ∷ qs) (suc i) seat e = ready_at qs i seat e
+program_at : (qs : List Program) (i : ℕ) (seat : SeatState) → get_elem? (map (λ (program : Program). record { program = next_step (resolved [] program); hand = [] }) qs) i ≡ some seat → (q : Program) × (get_elem? qs i ≡ some q) × (next_step (resolved [] q) ≡ seat.program)
+program_at [] i seat e = absurd (some-ne-none seat (sym e))
+program_at (q ∷ qs) zero seat e = (q, refl, ap (λ (s : SeatState). s.program) (some-injective (record { program = next_step (resolved [] q); hand = [] }) seat e))
+program_at (q ∷ qs) (suc i) seat e = program_at qs i seat e
 
 each_mapped : {A B : Type 0} (f : A → B) (xs : List A) → length (map f xs) ≡ length xs
 each_mapped f [] = refl
 each_mapped f (x ∷ xs) = ap suc (each_mapped f xs)
 
-module _ (p : Plan) (clients : List (List Task)) (are : AreTasks p clients) (vs : List View) (fresh : (i : ℕ) (v : View) → get_elem? vs i ≡ some v → v.lists ≡ [] ∷ []) where
+as_many : (p : Plan) (calls : ℕ → Type 0) (seat : ℕ) (cs : List (List Task)) (qs : List Program) → AreExplained p calls seat cs qs → length qs ≡ length cs
+as_many p calls seat [] [] x = refl
+as_many p calls seat [] (q ∷ qs) x = absurd x
+as_many p calls seat (c ∷ cs) [] x = absurd x
+as_many p calls seat (c ∷ cs) (q ∷ qs) x = ap suc (as_many p calls (suc seat) cs qs x.1)
+
+abbrev none_asked : Option Asked
+none_asked = None
+
+-- no call is at home
+no_call : (n i : ℕ) (asked : Asked) → call_at (get_elem? (replicate n (some none_asked)) i) ≡ some asked → ⊥
+no_call zero i asked e = some-ne-none asked (sym e)
+no_call (suc n) zero asked e = some-ne-none asked (sym e)
+no_call (suc n) (suc i) asked e = no_call n i asked e
+
+module _ (p : Plan) (q : IdPlan) (clients : List (List Task)) (are : AreTasks p clients) (qs : List Program) (explained : AreExplained p (IsSpoken clients) 0 clients qs) (vs : List View) (fresh : (i : ℕ) (v : View) → get_elem? vs i ≡ some v → v.lists ≡ [] ∷ []) where
   abbrev start : Core
-  start = beginning p (programs (sizes_of p) clients)
+  start = beginning p q qs
 
   abbrev none_ : List (Option Outcome)
   none_ = replicate p.operations no_outcome
 
-  abbrev Alternates : List Task → Type 0
-  Alternates ts = (n : ℕ) → alternate n false ts ≡ true
-
-  each_alternates : AllByRecursion Alternates clients
-  each_alternates = all_of Alternates clients (λ ts m n. all_in (λ (us : List Task). alternate n false us ≡ true) clients ts (are.alternating n) m)
+  each_told : AllByRecursion (AllByRecursion (λ (t : Task). IsSpoken clients t.number → ⊥)) clients
+  each_told = all_of (AllByRecursion (λ (t : Task). IsSpoken clients t.number → ⊥)) clients (λ ts m. all_of (λ (t : Task). IsSpoken clients t.number → ⊥) ts (λ t n spoken. let d = get_of_in clients ts m in spoken d.0 t (ts, d.1, n) refl))
+    where
+      get_of_in : (xs : List (List Task)) (x : List Task) → In x xs → (n : ℕ) × (slice_get xs n ≡ Some x)
+      get_of_in [] x m = absurd m
+      get_of_in (y ∷ ys) x (inl e) = (0, ap (λ (z : List Task). Some z) (sym e))
+      get_of_in (y ∷ ys) x (inr m) = let t = get_of_in ys x m in (suc t.0, t.1)
 
   each_sorted : AllByRecursion (EachBefore Less) clients
   each_sorted = all_of (EachBefore Less) clients (λ ts m. before_weaker InOrder Less (λ a b h. h.0) ts (all_in (EachBefore InOrder) clients ts are.in_order m))
@@ -216,20 +268,23 @@ module _ (p : Plan) (clients : List (List Task)) (are : AreTasks p clients) (vs 
       blank_at p.operations t.number (all_in (TaskFits p) ts t (all_in (AllByRecursion (TaskFits p)) clients ts are.fit m) n).0))
 
   -- the story with which a run begins
-  pub start_story : Sound p start vs → Story p clients start vs [] []
+  pub start_story : Sound p start vs → Story p clients false start vs [] []
   start_story sound = record {
-    sized = length_all (programs (sizes_of p) clients) none_ ∙ length_same p.operations no_outcome;
-    each = each_mapped _ (programs (sizes_of p) clients) ∙ each_mapped (client_from (sizes_of p) []) clients;
-    ready = λ i seat e. ready_at (programs (sizes_of p) clients) i seat e;
+    sized = length_all qs none_ ∙ length_same p.operations no_outcome;
+    each = each_mapped _ qs ∙ as_many p (IsSpoken clients) 0 clients qs explained;
+    ready = λ i seat e. let x = program_at qs i seat e in subst IsReady x.2 (come_ready [] x.0);
     good = tt;
     births = λ j l h. unborn p.first (slot_facts (state start vs) j) (sound.lawful.references.slots j l) (tag_at p.first p.slots j _ l) (version j l) h;
     links = λ j l h k. unlinked p.first (slot_facts (state start vs) j) (sound.lawful.references.slots j l) (tag_at p.first p.slots j _ l) (version j l) h k;
-    fails = λ j l h. unfailed p.first (slot_facts (state start vs) j) (sound.lawful.references.slots j l) (tag_at p.first p.slots j _ l) (version j l) h;
+    fails = λ j l h. omega arith;
+    lost = λ j l h some_. let z = unfailed p.first (slot_facts (state start vs) j) (sound.lawful.references.slots j l) (tag_at p.first p.slots j _ l) (version j l) h in absurd (omega (arith, z, some_));
     tries = λ j l. untried p.first (slot_facts (state start vs) j) (sound.lawful.references.slots j l) (tag_at p.first p.slots j _ l) (version j l);
     named = λ n l. name_at p.first p.slots (all_words p - 6 * p.slots) n;
     used = λ e m. absurd m;
-    seats = λ i ts seat v e f g. subst (λ q. SeatStory p [] [] start.outcomes i ts q v) (seat_is (sizes_of p) clients i ts seat e f)
-        (seats_begin p Alternates (λ us w. client_explains p.slots p.requests us w []) clients each_alternates are.differ each_sorted none_ each_fits each_blank i i ts v (fresh i v g) e);
+    spoken = λ i asked e. absurd (no_call q.slots i asked e);
+    seats = λ i ts seat v e f g. let x = program_at qs i seat f in subst (λ z. SeatStory p (IsSpoken clients) false [] [] start.outcomes i ts z v) x.2
+        (subst (λ n. SeatStory p (IsSpoken clients) false [] [] start.outcomes n ts (next_step (resolved [] x.0)) v) (let a : 0 + i ≡ i = omega arith in a)
+        (seats_begin p (IsSpoken clients) 0 clients qs explained each_told are.differ each_sorted none_ each_fits each_blank i ts x.0 v (fresh i v g) e x.1));
   }
     where
       version : (j : ℕ) → j < p.slots → (slot_facts (state start vs) j).version ≡ p.first

@@ -10,15 +10,18 @@ use Rattle.sock_words.specs.declared.outcome.Outcome.TheVariants.{Opened, SlotsF
 use Rattle.sock_programs.specs.declared.task.Op.{Op}
 use Rattle.sock_programs.specs.declared.task.Op.TheVariants as ops
 use Rattle.sock_programs.specs.declared.task.Task.{Task}
+use Rattle.sock_programs.specs.declared.task.Sizes.{Sizes}
 use Rattle.sock_programs.specs.Calls.{ClaimSlot, AddRef, SubRef, SetOdd, StoreCode, LoadName}
 use Rattle.sock_programs.specs.Programs.{Program, Do, Say, release, open_from, make_socket, set_failed, fail, fail_outcome, hold}
 use Rattle.sock_programs.specs.Clients.{HeldLife, held_under, without_name, give_back, drop_of, operation, client_from}
 use Rattle.sock_programs.specs.Told.{goes_well, in_hand_behind, alternate}
 use Rattle.sock_causes.specs.Stories.{Entry, In}
-use Rattle.sock_causes.specs.Explains.{Done, LastHold, Because, Explains, Tells, Grew, swapped, step}
+use Rattle.sock_causes.specs.Explains.{Own, Beside, ExplainsBy, is_plain, plain_tasks, Done, LastHold, Because, Explains, Tells, Grew, swapped, step}
 use Rattle.sock_causes.proofs.Tests.{split_eq, both_left, both_right, none_of}
 use Rattle.sock_causes.proofs.Pieces.{grew_on, mute_grew, release_goes, release_tells, reach_goes, release_ends}
 use Rattle.sock_causes.proofs.Sending.{send_goes}
+use Rattle.sock_causes.proofs.Calling.{call_goes, expire_goes, join_goes}
+use Rattle.std.proofs.lemmas.Bool.{true≢false}
 
 -- ## What is held
 
@@ -63,11 +66,11 @@ less_here n (x ∷ hs) = let ih = less_here n hs in dite (ℕ_discrete x.name n)
 
 -- ## One operation
 
-give_back_ends : (slots requests : ℕ) (broken : List ℕ) (done : List Done) (hs : List HeldLife) → Explains slots requests broken done [] [] (give_back hs)
-give_back_ends slots requests broken done [] = refl
-give_back_ends slots requests broken done (h ∷ hs) = release_ends slots requests broken done [] (λ _. give_back hs) (λ b. give_back_ends slots requests broken done hs) (socket_id_slot h.id)
+give_back_ends : (slots requests : ℕ) (calls : ℕ → Type 0) (broken : List ℕ) (done : List Done) (hs : List HeldLife) → Explains slots requests calls broken done [] [] (give_back hs)
+give_back_ends slots requests calls broken done [] = refl
+give_back_ends slots requests calls broken done (h ∷ hs) = release_ends slots requests calls broken done [] (λ _. give_back hs) (λ b. give_back_ends slots requests calls broken done hs) (socket_id_slot h.id)
 
-module _ (slots requests : ℕ) (broken : List ℕ) (done : List Done) (number : ℕ) (ts : List Task) where
+module _ (slots requests : ℕ) (calls : ℕ → Type 0) (broken : List ℕ) (done : List Done) (number : ℕ) (ts : List Task) where
   abbrev task : Op → Task
   task op = record { number = number; op = op }
 
@@ -75,18 +78,18 @@ module _ (slots requests : ℕ) (broken : List ℕ) (done : List Done) (number :
   behind op outcome = (record { task = task op; outcome = outcome }) ∷ done
 
   abbrev Goes : Op → List Entry → Program → Type 0
-  Goes op trace program = Explains slots requests broken done trace (task op ∷ ts) program
+  Goes op trace program = Explains slots requests calls broken done trace (task op ∷ ts) program
 
   -- what follows explains itself behind each outcome
   abbrev Next : Op → Program → Type 0
-  Next op next = (outcome : Outcome) → Explains slots requests broken (behind op (Some outcome)) [] ts next
+  Next op next = (outcome : Outcome) → Explains slots requests calls broken (behind op (Some outcome)) [] ts next
 
   open_goes : (name k : ℕ) (next : Program) → Next (ops.Open name k) next
       → (more i : ℕ) (trace : List Entry) → i + more ≡ slots → ((j : ℕ) → j < i → (found : ℕ) × In (step (ClaimSlot j) found) trace × (found ≢ 0)) → swapped trace ≡ false
       → ((outcome : Option Outcome) → AllByRecursion (Tells (ops.Open name k) outcome) trace)
       → Goes (ops.Open name k) trace (open_from more i number name k next)
   open_goes name k next then_ zero i trace e claims first tells =
-      (tt, λ a. (tt, λ b. (tt, λ c. (tt, λ d. (refl, ((λ j l. let x = claims j (omega arith) in (x.0, inr (inr (inr (inr x.1))), x.2)), first), (tt, (tt, (tt, (tt, tells (Some SlotsFull))))), then_ SlotsFull)))))
+      (tt, λ a. (tt, λ b. (tt, λ c. (tt, λ d. inl (refl, ((λ j l. let x = claims j (omega arith) in (x.0, inr (inr (inr (inr x.1))), x.2)), first), (tt, (tt, (tt, (tt, tells (Some SlotsFull))))), then_ SlotsFull)))))
   open_goes name k next then_ (suc more) i trace e claims first tells = (
     tt,
     λ found. split_eq found 0 (make_socket number name k i next) (open_from more (i + 1) number name k next)
@@ -104,7 +107,7 @@ module _ (slots requests : ℕ) (broken : List ℕ) (done : List Done) (number :
                   λ d. (
                     (k, i, word, refl, inr (inl refl), refl),
                     λ x. let made : Outcome = Opened i (vref_version word) k in
-                        (refl, ((refl, word, x, inr (inr (inl refl)), refl, inl refl), first), (tt, (tt, (refl, (tt, (tt, (tt, (tt, tells (Some made)))))))), then_ made),
+                        inl (refl, ((refl, word, x, inr (inr (inl refl)), refl, inl refl), first), (tt, (tt, (refl, (tt, (tt, (tt, (tt, tells (Some made)))))))), then_ made),
                   ),
                 ),
               ),
@@ -117,19 +120,19 @@ module _ (slots requests : ℕ) (broken : List ℕ) (done : List Done) (number :
   )
 
   fail_goes : (name code : ℕ) (next : Program) → Next (ops.Fail name code) next → Goes (ops.Fail name code) [] (fail number name code next)
-  fail_goes name code next then_ = reach_goes slots requests broken done (task (ops.Fail name code)) ts name (Say number Unopened next)
+  fail_goes name code next then_ = reach_goes slots requests calls broken done (task (ops.Fail name code)) ts name (Say number Unopened next)
       (λ id. set_failed id code (λ found. release (socket_id_slot id) (λ _. Say number (fail_outcome found) next)))
       (λ found. Say number (Gone (record { 0 = found })) next)
-      (refl, (inl refl, refl), (tt, tt), then_ Unopened)
+      (inl (refl, (inl refl, refl), (tt, tt), then_ Unopened))
       held
-      (λ id found tr ne grew. (refl, ((id, grew.has (step (LoadName name) (id + 1)) (inr (inl refl)), grew.has (step (AddRef id) found) (inl refl), ne), grew.swap), grew.tells (Some (Gone (record { 0 = found }))) (tt, (tt, tt)), then_ (Gone (record { 0 = found }))))
+      (λ id found tr ne grew. inl (refl, ((id, grew.has (step (LoadName name) (id + 1)) (inr (inl refl)), grew.has (step (AddRef id) found) (inl refl), ne), grew.swap), grew.tells (Some (Gone (record { 0 = found }))) (tt, (tt, tt)), then_ (Gone (record { 0 = found }))))
     where
       trace3 : ℕ → ℕ → ℕ → List Entry
       trace3 id f found = step (SetOdd (socket_id_slot id)) found ∷ step (AddRef id) f ∷ step (LoadName name) (id + 1) ∷ []
 
       says : (id f found : ℕ) (tr : List Entry) → Grew (ops.Fail name code) (trace3 id f found) tr → Goes (ops.Fail name code) tr (Say number (fail_outcome found) next)
       says id f found tr grew = let at = grew.has (step (SetOdd (socket_id_slot id)) found) (inl refl) in
-          let P : Outcome → Type 0 = λ o. Because slots requests done tr (ops.Fail name code) o in (
+          let P : Outcome → Type 0 = λ o. Because slots requests done tr (ops.Fail name code) o in inl (
             refl,
             (split_eq (vref_version found % 2) 0 Failed (Already (record { 0 = found })) P (λ even. (socket_id_slot id, found, at, even)) (λ odd. (socket_id_slot id, at, omega arith)), grew.swap),
             grew.tells (Some (fail_outcome found)) (refl, (tt, (tt, tt))),
@@ -148,14 +151,14 @@ module _ (slots requests : ℕ) (broken : List ℕ) (done : List Done) (number :
                 tt,
                 λ b. let one : List Entry = step (StoreCode i v code) a ∷ trace3 id f found in let two : List Entry = step (SubRef i) b ∷ one in
                     let g = grew_on (ops.Fail name code) (trace3 id f found) one two (mute_grew (ops.Fail name code) (trace3 id f found) (StoreCode i v code) a tt) (mute_grew (ops.Fail name code) one (SubRef i) b tt) in
-                    release_goes slots requests broken done (task (ops.Fail name code)) ts two (λ _. Say number (fail_outcome found) next)
+                    release_goes slots requests calls broken done (task (ops.Fail name code)) ts two (λ _. Say number (fail_outcome found) next)
                     (λ _ tr more. says id f found tr (grew_on (ops.Fail name code) (trace3 id f found) two tr g more)) i,
               ),
             ))
-            (λ odd. release_goes slots requests broken done (task (ops.Fail name code)) ts (trace3 id f found) (λ _. Say number (fail_outcome found) next) (λ _ tr g. says id f found tr g) i),
+            (λ odd. release_goes slots requests calls broken done (task (ops.Fail name code)) ts (trace3 id f found) (λ _. Say number (fail_outcome found) next) (λ _ tr g. says id f found tr g) i),
       )
 
-module _ (slots requests : ℕ) (done : List Done) (number : ℕ) (ts : List Task) (b : ℕ → Bool) (held : List HeldLife) (wells : (n : ℕ) → HeldAt n done held (b n)) (slots_next : List HeldLife → Program) where
+module _ (slots requests : ℕ) (calls : ℕ → Type 0) (done : List Done) (number : ℕ) (ts : List Task) (b : ℕ → Bool) (held : List HeldLife) (wells : (n : ℕ) → HeldAt n done held (b n)) (slots_next : List HeldLife → Program) where
   abbrev task_of : Op → Task
   task_of op = record { number = number; op = op }
 
@@ -165,7 +168,7 @@ module _ (slots requests : ℕ) (done : List Done) (number : ℕ) (ts : List Tas
   -- what follows explains itself behind each outcome that goes with what is held
   abbrev Follows : Op → Type 0
   Follows op = (outcome : Option Outcome) (broken : List ℕ) (held' : List HeldLife) → ((n : ℕ) → HeldAt n (done_with op outcome) held' (in_hand_behind n op (b n)))
-      → Explains slots requests broken (done_with op outcome) [] ts (slots_next held')
+      → Explains slots requests calls broken (done_with op outcome) [] ts (slots_next held')
 
   unheld_wells : (name : ℕ) (outcome : Outcome) → b name ≡ false → outcome ≢ Held → (n : ℕ) → HeldAt n (done_with (ops.Hold name) (Some outcome)) held (in_hand_behind n (ops.Hold name) (b n))
   unheld_wells name outcome free ne n = split_eq name n true (b n) (HeldAt n (done_with (ops.Hold name) (Some outcome)) held)
@@ -184,13 +187,13 @@ module _ (slots requests : ℕ) (done : List Done) (number : ℕ) (ts : List Tas
 
   module _ (broken : List ℕ) where
     hold_goes : (name : ℕ) → b name ≡ false → Follows (ops.Hold name)
-        → Explains slots requests broken done [] (task_of (ops.Hold name) ∷ ts) (hold number name (λ id. slots_next (held ++ (record { name = name; id = id }) ∷ [])) (slots_next held))
-    hold_goes name free follows = reach_goes slots requests broken done (task_of (ops.Hold name)) ts name (Say number Unopened (slots_next held))
+        → Explains slots requests calls broken done [] (task_of (ops.Hold name) ∷ ts) (hold number name (λ id. slots_next (held ++ (record { name = name; id = id }) ∷ [])) (slots_next held))
+    hold_goes name free follows = reach_goes slots requests calls broken done (task_of (ops.Hold name)) ts name (Say number Unopened (slots_next held))
         (λ id. Say number Held (slots_next (held ++ (record { name = name; id = id }) ∷ [])))
         (λ found. Say number (Gone (record { 0 = found })) (slots_next held))
-        (refl, (inl refl, refl), (tt, tt), follows (Some Unopened) broken held (unheld_wells name Unopened free (λ q. absurd (cc))))
-        (λ id found e. (refl, ((id, inr (inl refl)), refl), (tt, (tt, tt)), follows (Some Held) broken (held ++ (record { name = name; id = id }) ∷ []) (held_wells name id free)))
-        (λ id found tr ne grew. (
+        (inl (refl, (inl refl, refl), (tt, tt), follows (Some Unopened) broken held (unheld_wells name Unopened free (λ q. absurd (cc)))))
+        (λ id found e. inl (refl, ((id, inr (inl refl)), refl), (tt, (tt, tt)), follows (Some Held) broken (held ++ (record { name = name; id = id }) ∷ []) (held_wells name id free)))
+        (λ id found tr ne grew. inl (
           refl,
           ((id, grew.has (step (LoadName name) (id + 1)) (inr (inl refl)), grew.has (step (AddRef id) found) (inl refl), ne), grew.swap),
           grew.tells (Some (Gone (record { 0 = found }))) (tt, (tt, tt)),
@@ -198,39 +201,76 @@ module _ (slots requests : ℕ) (done : List Done) (number : ℕ) (ts : List Tas
         ))
 
     drop_goes : (name : ℕ) → b name ≡ true → Follows (ops.Drop name)
-        → Explains slots requests broken done [] (task_of (ops.Drop name) ∷ ts) (drop_of number (held_under name held) (slots_next (without_name name held)))
+        → Explains slots requests calls broken done [] (task_of (ops.Drop name) ∷ ts) (drop_of number (held_under name held) (slots_next (without_name name held)))
     drop_goes name there follows = ⊎_elim
-        (λ w. subst (λ z. Explains slots requests broken done [] (task_of (ops.Drop name) ∷ ts) (drop_of number z (slots_next (without_name name held)))) (sym w.1)
-        (refl, (w.0, refl), tt, follows (Some NotHeld) broken (without_name name held) (drop_wells name NotHeld)))
-        (λ w. subst (λ z. Explains slots requests broken done [] (task_of (ops.Drop name) ∷ ts) (drop_of number z (slots_next (without_name name held)))) (sym w.1.1)
-        (release_tells slots requests broken done (task_of (ops.Drop name)) ts (λ freed. Say number (if freed then Freed else Kept) (slots_next (without_name name held)))
-        (λ tr grew won. (refl, ((w.0, won), grew.swap), grew.tells (Some Freed) tt, follows (Some Freed) broken (without_name name held) (drop_wells name Freed)))
-        (λ tr grew gave none_. (refl, ((w.0, gave, none_), grew.swap), grew.tells (Some Kept) tt, follows (Some Kept) broken (without_name name held) (drop_wells name Kept)))
+        (λ w. subst (λ z. Explains slots requests calls broken done [] (task_of (ops.Drop name) ∷ ts) (drop_of number z (slots_next (without_name name held)))) (sym w.1)
+        (inl (refl, (w.0, refl), tt, follows (Some NotHeld) broken (without_name name held) (drop_wells name NotHeld))))
+        (λ w. subst (λ z. Explains slots requests calls broken done [] (task_of (ops.Drop name) ∷ ts) (drop_of number z (slots_next (without_name name held)))) (sym w.1.1)
+        (release_tells slots requests calls broken done (task_of (ops.Drop name)) ts (λ freed. Say number (if freed then Freed else Kept) (slots_next (without_name name held)))
+        (λ tr grew won. inl (refl, ((w.0, won), grew.swap), grew.tells (Some Freed) tt, follows (Some Freed) broken (without_name name held) (drop_wells name Freed)))
+        (λ tr grew gave none_. inl (refl, ((w.0, gave, none_), grew.swap), grew.tells (Some Kept) tt, follows (Some Kept) broken (without_name name held) (drop_wells name Kept)))
         (socket_id_slot w.1.0)))
         (subst (HeldAt name done held) there (wells name))
 
     -- an operation that may come here
-    operation_goes : (op : Op) → ((n : ℕ) → goes_well n op (b n) ≡ true) → Follows op → Explains slots requests broken done [] (task_of op ∷ ts) (operation (record { slots = slots; requests = requests }) held number slots_next op)
-    operation_goes (ops.Open name k) well follows = open_goes slots requests broken done number ts name k (slots_next held)
+    operation_goes : (ids : ℕ) (op : Op) → is_plain op ≡ true → ((n : ℕ) → goes_well n op (b n) ≡ true) → Follows op → Explains slots requests calls broken done [] (task_of op ∷ ts) (operation (record { slots = slots; requests = requests; ids = ids }) held number slots_next op)
+    operation_goes ids (ops.Open name k) plain well follows = open_goes slots requests calls broken done number ts name k (slots_next held)
         (λ outcome. follows (Some outcome) broken held (λ n. held_skip n (record { task = task_of (ops.Open name k); outcome = Some outcome }) done held (b n) (λ q. absurd (cc)) (wells n)))
         slots 0 [] (omega arith) (λ j l. absurd (omega arith)) refl (λ o. tt)
-    operation_goes (ops.Send name bytes) well follows = send_goes slots requests done (task_of (ops.Send name bytes)) ts name bytes refl (slots_next held)
+    operation_goes ids (ops.Send name bytes) plain well follows = send_goes slots requests calls done (task_of (ops.Send name bytes)) ts name bytes refl (slots_next held)
         (λ outcome others. follows outcome others held (λ n. held_skip n (record { task = task_of (ops.Send name bytes); outcome = outcome }) done held (b n) (λ q. absurd (cc)) (wells n))) broken
-    operation_goes (ops.Hold name) well follows = hold_goes name (none_of (b name) (subst (λ z. cond z (not (b name)) true ≡ true) (eq-eqb name name refl) (well name))) follows
-    operation_goes (ops.Drop name) well follows = drop_goes name (subst (λ z. cond z (b name) true ≡ true) (eq-eqb name name refl) (well name)) follows
-    operation_goes (ops.Fail name code) well follows = fail_goes slots requests broken done number ts name code (slots_next held)
+    operation_goes ids (ops.Hold name) plain well follows = hold_goes name (none_of (b name) (subst (λ z. cond z (not (b name)) true ≡ true) (eq-eqb name name refl) (well name))) follows
+    operation_goes ids (ops.Drop name) plain well follows = drop_goes name (subst (λ z. cond z (b name) true ≡ true) (eq-eqb name name refl) (well name)) follows
+    operation_goes ids (ops.Fail name code) plain well follows = fail_goes slots requests calls broken done number ts name code (slots_next held)
         (λ outcome. follows (Some outcome) broken held (λ n. held_skip n (record { task = task_of (ops.Fail name code); outcome = Some outcome }) done held (b n) (λ q. absurd (cc)) (wells n)))
+    operation_goes ids (ops.Call asked) plain well follows = absurd (true≢false (sym plain))
+    operation_goes ids (ops.Expire t) plain well follows = absurd (true≢false (sym plain))
+    operation_goes ids (ops.Join t) plain well follows = absurd (true≢false (sym plain))
 
 -- ## All operations
 
-explains_from : (slots requests : ℕ) (ts : List Task) (done : List Done) (held : List HeldLife) (b : ℕ → Bool) → ((n : ℕ) → HeldAt n done held (b n)) → ((n : ℕ) → alternate n (b n) ts ≡ true)
-    → (broken : List ℕ) → Explains slots requests broken done [] ts (client_from (record { slots = slots; requests = requests }) held ts)
-explains_from slots requests [] done held b wells alt broken = give_back_ends slots requests broken done held
-explains_from slots requests (t ∷ ts) done held b wells alt broken = operation_goes slots requests done t.number ts b held wells (λ held'. client_from (record { slots = slots; requests = requests }) held' ts) broken t.op
-    (λ n. both_left (goes_well n t.op (b n)) (alternate n (in_hand_behind n t.op (b n)) ts) (alt n))
-    (λ outcome others held' wells'. explains_from slots requests ts (record { task = t; outcome = outcome } ∷ done) held' (λ n. in_hand_behind n t.op (b n)) wells'
-    (λ n. both_right (goes_well n t.op (b n)) (alternate n (in_hand_behind n t.op (b n)) ts) (alt n)) others)
+-- what a task says of calls
+abbrev pub SaysOf : (ℕ → Type 0) → ℕ → Op → Type 0
+SaysOf calls o (ops.Call asked) = calls asked.operation
+SaysOf calls o (ops.Expire t) = calls o
+SaysOf calls o (ops.Join t) = calls o
+SaysOf calls o other = Unit {0}
 
--- the program of a client whose holds and drops alternate explains each outcome that it says
-pub client_explains : (slots requests : ℕ) (ts : List Task) → ((n : ℕ) → alternate n false ts ≡ true) → (broken : List ℕ) → Explains slots requests broken [] [] ts (client_from (record { slots = slots; requests = requests }) [] ts)
-client_explains slots requests ts alt broken = explains_from slots requests ts [] [] (λ n. false) (λ n. refl) alt broken
+module _ (slots requests ids : ℕ) (calls : ℕ → Type 0) where
+  abbrev sizes : Sizes
+  sizes = record { slots = slots; requests = requests; ids = ids }
+
+  -- where the tasks go on, they do so behind an operation on calls
+  from_beside : (ts : List Task) (held : List HeldLife) (broken : List ℕ) (done : List Done) (todo : List Task) → ExplainsBy slots requests calls Own broken done [] todo (client_from sizes held ts)
+      → (trace : List Entry) → ExplainsBy slots requests calls Beside broken done trace todo (client_from sizes held ts)
+  from_beside [] held broken done todo x trace = (tt, x.1)
+  from_beside (t ∷ ts) held broken done todo x trace = (tt, x.1)
+
+  explains_from : (ts : List Task) (done : List Done) (held : List HeldLife) (b : ℕ → Bool) → ((n : ℕ) → HeldAt n done held (b n)) → ((n : ℕ) → alternate n (b n) ts ≡ true) → AllByRecursion (λ (t : Task). SaysOf calls t.number t.op) ts
+      → (broken : List ℕ) → Explains slots requests calls broken done [] (plain_tasks ts) (client_from sizes held ts)
+  explains_from [] done held b wells alt says broken = (refl, (Own, tt, give_back_ends slots requests calls broken done held))
+  explains_from (t ∷ ts) done held b wells alt says broken = by_op t.op (λ n. both_left (goes_well n t.op (b n)) (alternate n (in_hand_behind n t.op (b n)) ts) (alt n)) says.0
+      (λ outcome others held' wells'. explains_from ts (record { task = t; outcome = outcome } ∷ done) held' (λ n. in_hand_behind n t.op (b n)) wells' (λ n. both_right (goes_well n t.op (b n)) (alternate n (in_hand_behind n t.op (b n)) ts) (alt n)) says.1 others)
+      (λ same others. explains_from ts done held (λ n. in_hand_behind n t.op (b n)) (λ n. subst (HeldAt n done held) (sym (same n)) (wells n)) (λ n. both_right (goes_well n t.op (b n)) (alternate n (in_hand_behind n t.op (b n)) ts) (alt n)) says.1 others)
+    where
+      -- an operation of the tasks, and one on calls
+      by_op : (op : Op) → ((n : ℕ) → goes_well n op (b n) ≡ true) → SaysOf calls t.number op
+          → ((outcome : Option Outcome) (others : List ℕ) (held' : List HeldLife) → ((n : ℕ) → HeldAt n (record { task = record { number = t.number; op = op }; outcome = outcome } ∷ done) held' (in_hand_behind n op (b n)))
+          → Explains slots requests calls others (record { task = record { number = t.number; op = op }; outcome = outcome } ∷ done) [] (plain_tasks ts) (client_from sizes held' ts))
+          → (((n : ℕ) → in_hand_behind n op (b n) ≡ b n) → (others : List ℕ) → Explains slots requests calls others done [] (plain_tasks ts) (client_from sizes held ts))
+          → Explains slots requests calls broken done [] (plain_tasks (record { number = t.number; op = op } ∷ ts)) (client_from sizes held (record { number = t.number; op = op } ∷ ts))
+      by_op (ops.Open name k) well is follows skips = (refl, (Own, tt, operation_goes slots requests calls done t.number (plain_tasks ts) b held wells (λ held'. client_from sizes held' ts) broken ids (ops.Open name k) refl well follows))
+      by_op (ops.Send name bytes) well is follows skips = (refl, (Own, tt, operation_goes slots requests calls done t.number (plain_tasks ts) b held wells (λ held'. client_from sizes held' ts) broken ids (ops.Send name bytes) refl well follows))
+      by_op (ops.Hold name) well is follows skips = (refl, (Own, tt, operation_goes slots requests calls done t.number (plain_tasks ts) b held wells (λ held'. client_from sizes held' ts) broken ids (ops.Hold name) refl well follows))
+      by_op (ops.Drop name) well is follows skips = (refl, (Own, tt, operation_goes slots requests calls done t.number (plain_tasks ts) b held wells (λ held'. client_from sizes held' ts) broken ids (ops.Drop name) refl well follows))
+      by_op (ops.Fail name code) well is follows skips = (refl, (Own, tt, operation_goes slots requests calls done t.number (plain_tasks ts) b held wells (λ held'. client_from sizes held' ts) broken ids (ops.Fail name code) refl well follows))
+      by_op (ops.Call asked) well is follows skips = let next : Program = client_from sizes held ts in
+          (refl, (Beside, tt, call_goes slots requests calls done (plain_tasks ts) next broken (λ others within tr. from_beside ts held others done (plain_tasks ts) (skips (λ n. refl) others) tr) requests ids asked is []))
+      by_op (ops.Expire o) well is follows skips = let next : Program = client_from sizes held ts in
+          (refl, (Beside, tt, expire_goes slots requests calls done (plain_tasks ts) next broken (λ others within tr. from_beside ts held others done (plain_tasks ts) (skips (λ n. refl) others) tr) t.number o is []))
+      by_op (ops.Join o) well is follows skips = let next : Program = client_from sizes held ts in
+          (refl, (Beside, tt, join_goes slots requests calls done (plain_tasks ts) next broken (λ others within tr. from_beside ts held others done (plain_tasks ts) (skips (λ n. refl) others) tr) t.number o is []))
+
+  -- the program of a client whose holds and drops alternate explains each outcome that it says of a task, and else speaks of calls
+  pub client_explains : (ts : List Task) → ((n : ℕ) → alternate n false ts ≡ true) → AllByRecursion (λ (t : Task). SaysOf calls t.number t.op) ts → (broken : List ℕ) → Explains slots requests calls broken [] [] (plain_tasks ts) (client_from sizes [] ts)
+  client_explains ts alt says broken = explains_from ts [] [] (λ n. false) (λ n. refl) alt says broken

@@ -93,7 +93,7 @@ birth_added c o (ClaimSlot i) found j h p = let a = neither (eqb i j) (eqb found
 birth_added c o (SetOdd i) found j h p = let a = neither (eqb i j) (eqb (vref_version found % 2) 0) in absurd (omega arith)
 birth_added c o _ found j h p = absurd (omega arith)
 
-fail_added : (c o : ℕ) (call : Call) (found j h : ℕ) → 0 < adds (is_failer h) j call found → (call ≡ SetOdd j) × (vref_version found ≡ h) × (vref_version found % 2 ≡ 0)
+pub fail_added : (c o : ℕ) (call : Call) (found j h : ℕ) → 0 < adds (is_failer h) j call found → (call ≡ SetOdd j) × (vref_version found ≡ h) × (vref_version found % 2 ≡ 0)
 fail_added c o (SetOdd i) found j h p = let t = test_of i j (cond (eqb (vref_version found % 2) 0) (is_failer h (Failer (vref_version found))) 0) p in let u = test_of (vref_version found % 2) 0 (is_failer h (Failer (vref_version found))) t.1 in
     (ap SetOdd t.0, only_is h (vref_version found) u.1, u.0)
 fail_added c o (ClaimSlot i) found j h p = let a = neither (eqb i j) (eqb found 0) in absurd (omega arith)

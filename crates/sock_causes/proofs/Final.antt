@@ -3,11 +3,9 @@ use Rattle.std.proofs.Common.{◌≡◌, ℕ, zero, suc, ◌<◌, ◌⊎◌, Boo
 use Rattle.std.proofs.lemmas.Bool.{true≢false}
 use Rattle.std.specs.Prelude.{Option, Some, None, slice_get}
 use Rattle.std.specs.List.{AllByRecursion}
-use mathlib.Core.Option.{some, some-injective, some-ne-none}
-use mathlib.Core.Option as core
+use mathlib.Core.Option.{some, some-ne-none}
 use lib.ListN.{get_elem?}
 use Rattle.brpc_model.specs.Order.{EachBefore}
-use Rattle.sock_words.specs.declared.kind.Kind.{Kind}
 use Rattle.sock_words.specs.declared.plain.Plan.{Plan}
 use Rattle.sock_words.specs.declared.outcome.Outcome.{Outcome}
 use Rattle.sock_model.specs.declared.chain.Heading.{Heading}
@@ -19,16 +17,15 @@ use Rattle.sock_model.specs.Slots.{count}
 use Rattle.sock_model.specs.References.{slot_facts}
 use Rattle.sock_model.specs.SlotRows.{marks_of}
 use Rattle.sock_programs.specs.declared.task.Task.{Task}
-use Rattle.sock_programs.specs.Programs.{Program, Do, Say, Sent, Rest, TakeMessage, TakeHome, PutHome, PutBytes, AskReady, Write}
+use Rattle.sock_programs.specs.Programs.{Rest}
 use Rattle.sock_programs.specs.Cores.{Core, SeatState}
-use Rattle.sock_programs.specs.Runs.{kind_in, next_kind, IsSettled}
 use Rattle.sock_programs.specs.Told.{AreTasks}
 use Rattle.sock_runs.specs.GoesOn.{GoesOn, HasNothing}
-use Rattle.sock_runs.specs.Sound.{state, Sound}
-use Rattle.sock_causes.specs.Stories.{Event, In, trace_of}
-use Rattle.sock_causes.specs.Explains.{Done, Explained, Tells, swapped}
+use Rattle.sock_runs.specs.Sound.{state, Sound, AllRest}
+use Rattle.sock_causes.specs.Stories.{Entry, Event, In, trace_of}
+use Rattle.sock_causes.specs.Explains.{Way, Done, Explained, Tells, swapped}
 use Rattle.sock_causes.specs.Causes.{Asks}
-use Rattle.sock_causes.specs.Kept.{undo, AreKept, IsOfTask, EndsIn, AreMade, AreMadeNow, SeatAt, Story, IsReady}
+use Rattle.sock_causes.specs.Kept.{IsOfCall, of_sends, IsSpoken, undo, AreKept, IsOfTask, EndsIn, AreMade, AreMadeNow, SeatAt, Story}
 use Rattle.sock_causes.proofs.Members.{all_in, all_of, get_within}
 use Rattle.sock_causes.proofs.Seats.{Less, undo_before, undo_done, from_undo}
 use Rattle.sock_causes.proofs.Tasks.{sorted_of, same_some}
@@ -87,19 +84,6 @@ pub at_within : {A : Type 0} (xs : List A) (i : ℕ) (x : A) → get_elem? xs i 
 at_within [] i x e = absurd (some-ne-none x (sym e))
 at_within (y ∷ ys) zero x e = omega arith
 at_within (y ∷ ys) (suc i) x e = omega (arith, at_within ys i x e)
-
--- a program that has said its outcomes and has no step left
-at_end : (program : Program) → IsReady program → kind_in program ≡ None → program ≡ Rest
-at_end (Do call next) ready e = absurd (cc)
-at_end (Say o outcome more) ready e = absurd ready
-at_end (Sent o more) ready e = absurd ready
-at_end Rest ready e = refl
-at_end (TakeMessage q next) ready e = absurd (cc)
-at_end (TakeHome k next) ready e = absurd (cc)
-at_end (PutHome k n after) ready e = absurd (cc)
-at_end (PutBytes k asked bytes next) ready e = absurd (cc)
-at_end (AskReady k next) ready e = absurd (cc)
-at_end (Write w after) ready e = absurd (cc)
 
 nothing_claimed : (j : ℕ) (vs : List View) → ((k : ℕ) (v : View) → get_elem? vs k ≡ some v → marks_of is_claimed j v ≡ 0) → tally is_claimed (map (λ (v : View). about j v.marks) vs) ≡ 0
 nothing_claimed j [] h = refl
@@ -176,10 +160,9 @@ module _ (slots requests : ℕ) (es : List Event) (outcomes : List (Option Outco
           let a : y.heading.operation ≡ z.member.task.number = ap (λ (h : Heading). h.operation) z.of_task.heading in let b : x.0.heading.operation ≡ d.task.number = ap (λ (h : Heading). h.operation) x.2.heading in omega (arith, l, a, b))))
       by h false x = subst (EachBefore Sooner) (sym x) h
 
-module _ (p : Plan) (clients : List (List Task)) (are : AreTasks p clients) (c : Core) (vs : List View) (es : List Event) (broken : List ℕ) (sound : Sound p c vs) (story : Story p clients c vs es broken) (settled : IsSettled c) where
+module _ (p : Plan) (clients : List (List Task)) (are : AreTasks p clients) (over : Bool) (c : Core) (vs : List View) (es : List Event) (broken : List ℕ) (sound : Sound p c vs) (story : Story p clients over c vs es broken) (settled : AllRest c) where
   pub rests : (i : ℕ) (seat : SeatState) → get_elem? c.seats i ≡ some seat → seat.program ≡ Rest
-  rests i seat e = let a : next_kind c i ≡ kind_in seat.program = ap (λ o. elim o as (λ o. Option Kind) [ core.none ↦ None | some x ↦ kind_in x.program ]) e in
-      at_end seat.program (story.ready i seat e) (sym a ∙ settled i (at_within c.seats i seat e))
+  rests i seat e = settled i seat e
 
   -- nobody claims a slot
   pub idle : (j : ℕ) → count is_claimed (slot_facts (state c vs) j) ≡ 0
@@ -190,10 +173,10 @@ module _ (p : Plan) (clients : List (List Task)) (are : AreTasks p clients) (c :
   pub final : (i : ℕ) (t : Task) → Asks clients i t → Final p.slots p.requests clients es c.outcomes i t
   final i t asks = let tasks = asks.0 in let inside = get_within clients i tasks asks.1 in
       let seat = at_there c.seats i (omega (arith, story.each)) in let v = at_there vs i (omega (arith, story.each, sound.each)) in
-      let s = story.seats i tasks seat.0 v.0 asks.1 seat.1 v.1 in of_seat tasks asks.1 asks.2 s.0 s.1 (subst (λ q. SeatAt p es broken c.outcomes i tasks s.0 s.1 q v.0) (rests i seat.0 seat.1) s.2)
+      let s = story.seats i tasks seat.0 v.0 asks.1 seat.1 v.1 in of_seat tasks asks.1 asks.2 s.way s.trace s.done s.todo (subst (λ q. SeatAt p (IsSpoken clients) over es broken c.outcomes i tasks s.way s.trace s.done s.todo q v.0) (rests i seat.0 seat.1) s.at)
     where
-      of_seat : {v : View} (tasks : List Task) → slice_get clients i ≡ Some tasks → In t tasks → (done : List Done) (todo : List Task) → SeatAt p es broken c.outcomes i tasks done todo Rest v → Final p.slots p.requests clients es c.outcomes i t
-      of_seat tasks e m done todo s = let all : tasks ≡ undo done [] = s.all ∙ ap (undo done) s.explains in
+      of_seat : {v : View} (tasks : List Task) → slice_get clients i ≡ Some tasks → In t tasks → (way : Way) (trace : List Entry) (done : List Done) (todo : List Task) → SeatAt p (IsSpoken clients) over es broken c.outcomes i tasks way trace done todo Rest v → Final p.slots p.requests clients es c.outcomes i t
+      of_seat tasks e m way trace done todo s = let all : tasks ≡ undo done [] = s.all ∙ ap (undo done) s.explains in
           let find : (u : Task) → In u tasks → (x : Done) × In x done × (x.task ≡ u) = λ u n. ⊎_elim (λ h. h) (λ h. absurd h) (from_undo done [] u (subst (In u) all n)) in
           let d = find t m in subst (Final p.slots p.requests clients es c.outcomes i) d.2
           (final_done p.slots p.requests clients es c.outcomes i done s.kept (undo_falls done [] (subst (EachBefore Less) all (sorted_of p clients are i tasks e)))
@@ -211,28 +194,31 @@ module _ (p : Plan) (clients : List (List Task)) (are : AreTasks p clients) (c :
   pub record Sends (i : ℕ) (v : View) : Type 0 where
     pub made : List chain.Entry
     pub lists : v.lists ≡ made ∷ []
-    pub are_messages : AllByRecursion (IsMessage i) made
-    pub sorted : EachBefore Sooner made
-    pub each_sent : (t : Task) → Asks clients i t → slice_get c.outcomes t.number ≡ Some None → (e : chain.Entry) × In e made × IsOfTask es i t e
+    -- those of calls, and those of sends
+    pub of_calls : AllByRecursion (IsOfCall (IsSpoken clients)) made
+    pub are_messages : AllByRecursion (IsMessage i) (of_sends made)
+    pub sorted : EachBefore Sooner (of_sends made)
+    pub each_sent : (t : Task) → Asks clients i t → slice_get c.outcomes t.number ≡ Some None → (e : chain.Entry) × In e (of_sends made) × IsOfTask es i t e
 
   pub sends : (i : ℕ) (v : View) → get_elem? vs i ≡ some v → Sends i v
   sends i v here = let seat = at_there c.seats i (omega (arith, at_within vs i v here, sound.each)) in let a = get_of c.seats clients i seat.0 story.each seat.1 in
-      let s = story.seats i a.0 seat.0 v a.1 seat.1 here in of_seat a.0 a.1 s.0 s.1 (subst (λ q. SeatAt p es broken c.outcomes i a.0 s.0 s.1 q v) (rests i seat.0 seat.1) s.2)
+      let s = story.seats i a.0 seat.0 v a.1 seat.1 here in of_seat a.0 a.1 s.way s.trace s.done s.todo (subst (λ q. SeatAt p (IsSpoken clients) over es broken c.outcomes i a.0 s.way s.trace s.done s.todo q v) (rests i seat.0 seat.1) s.at)
     where
-      of_seat : (tasks : List Task) → slice_get clients i ≡ Some tasks → (done : List Done) (todo : List Task) → SeatAt p es broken c.outcomes i tasks done todo Rest v → Sends i v
-      of_seat tasks e done todo s = let all : tasks ≡ undo done [] = s.all ∙ ap (undo done) s.explains in
-          let are_made : AreMade es i done s.made = subst (λ ts. AreMadeNow es i done ts s.made) s.explains s.are_made in
+      of_seat : (tasks : List Task) → slice_get clients i ≡ Some tasks → (way : Way) (trace : List Entry) (done : List Done) (todo : List Task) → SeatAt p (IsSpoken clients) over es broken c.outcomes i tasks way trace done todo Rest v → Sends i v
+      of_seat tasks e way trace done todo s = let all : tasks ≡ undo done [] = s.all ∙ ap (undo done) s.explains in
+          let are_made : AreMade es i done (of_sends s.made) = subst (λ ts. AreMadeNow es i done ts (of_sends s.made)) s.explains s.are_made in
           let falls : Falls done = undo_falls done [] (subst (EachBefore Less) all (sorted_of p clients are i tasks e)) in record {
             made = s.made;
             lists = s.lists;
-            are_messages = all_of (IsMessage i) s.made (λ x m. let y = all_in (IsOfDone p.slots p.requests es c.outcomes i done) s.made x (made_done p.slots p.requests es c.outcomes i done s.made s.kept are_made) m in record {
+            of_calls = s.of_calls;
+            are_messages = all_of (IsMessage i) (of_sends s.made) (λ x m. let y = all_in (IsOfDone p.slots p.requests es c.outcomes i done) (of_sends s.made) x (made_done p.slots p.requests es c.outcomes i done (of_sends s.made) s.kept are_made) m in record {
               task = y.member.task;
               asks = (tasks, e, subst (In y.member.task) (sym all) (undo_done done [] y.member y.is));
               untold = all_in (λ (z : Done). slice_get c.outcomes z.task.number ≡ Some z.outcome) done y.member s.became y.is ∙ ap (λ o. Some o) y.untold;
               of_task = y.of_task;
             });
-            sorted = made_sorted p.slots p.requests es c.outcomes i done s.made s.kept falls are_made;
+            sorted = made_sorted p.slots p.requests es c.outcomes i done (of_sends s.made) s.kept falls are_made;
             each_sent = λ t asks untold. let m : In t (undo done []) = subst (In t) (all) (subst (In t) (same_some (slice_get clients i) asks.0 tasks asks.1 e) asks.2) in
                 ⊎_elim (λ h. let o : h.0.outcome ≡ None = one_said (slice_get c.outcomes t.number) h.0.outcome None (subst (λ (z : Task). slice_get c.outcomes z.number ≡ Some h.0.outcome) h.2 (all_in (λ (z : Done). slice_get c.outcomes z.task.number ≡ Some z.outcome) done h.0 s.became h.1)) untold in
-                let y = done_made p.slots p.requests es c.outcomes i done s.made s.kept are_made h.0 h.1 o in (y.0, y.1, subst (λ (z : Task). IsOfTask es i z y.0) h.2 y.2)) (λ h. absurd h) (from_undo done [] t m);
+                let y = done_made p.slots p.requests es c.outcomes i done (of_sends s.made) s.kept are_made h.0 h.1 o in (y.0, y.1, subst (λ (z : Task). IsOfTask es i z y.0) h.2 y.2)) (λ h. absurd h) (from_undo done [] t m);
           }

@@ -122,7 +122,7 @@ module _ (p : Plan) (clients : List (List Task)) (outcomes : List (Option Outcom
     pub op : task.op ≡ ops.Fail name code
     pub load : In (event c o (LoadName name) (id + 1)) es
     pub slot : i ≡ socket_id_slot id
-    pub odd : OddAt s i (socket_id_version id) found
+    pub odd : OddAt broken s i (socket_id_version id) found
     -- no step for the operation before it did so
     pub first : (j word : ℕ) → In (step (SetOdd j) word) (trace_of c o s) → ⊥
 
@@ -135,7 +135,7 @@ module _ (p : Plan) (clients : List (List Task)) (outcomes : List (Option Outcom
     pub link : ℕ
     pub refused : In link broken
     pub slot : i ≡ socket_id_slot id
-    pub odd : OddAt s i (socket_id_version id) found
+    pub odd : OddAt broken s i (socket_id_version id) found
     pub given : WasGiven es i (socket_id_version id) link
 
   pub odd_means : (s : List Event) (c o i found : ℕ) → (cause : Cause p clients broken s (event c o (SetOdd i) found)) → ((x : Event) → In x s → In x es) → FailsLife cause.task.op (trace_of c o s) i → OddMeans s c o i found cause.task
@@ -156,7 +156,7 @@ module _ (p : Plan) (clients : List (List Task)) (outcomes : List (Option Outcom
       }
 
   -- more steps, and a life is still made with its link
-  given_later : (xs ys : List Event) → ((x : Event) → In x xs → In x ys) → (j h k : ℕ) → WasGiven xs j h k → WasGiven ys j h k
+  pub given_later : (xs ys : List Event) → ((x : Event) → In x xs → In x ys) → (j h k : ℕ) → WasGiven xs j h k → WasGiven ys j h k
   given_later xs ys part j h k given = let g = marked_given xs j h k given in given_by ys g.0 g.1 g.2 j h k (part (event g.0 g.1 (GiveBirth j k) g.2) g.3) g.4
 
   pub link_means : (s : List Event) (c o i found : ℕ) → (cause : Cause p clients broken s (event c o (SetOdd i) found)) → ((x : Event) → In x s → In x es) → FailsLink cause.task broken (trace_of c o s) i → LinkMeans s i found cause.task

@@ -1,36 +1,24 @@
--- The messages that links accepted are those of the tasks, where no seat has a step left.
-use Rattle.std.proofs.Common.{◌≡◌, ◌≢◌, ℕ, zero, suc, ◌<◌, ◌≤◌, ◌||◌, true, false, List, [], ◌∷◌, map, length, inl, inr, eqb, ne_eqb, sym, refl, ap, ◌∙◌, subst, arith}
-use Rattle.std.specs.List.{AllByRecursion, IsDistinct, list_any}
-use Rattle.std.proofs.lemmas.List.{length-map}
-use Rattle.std.proofs.lemmas.Map.Steps.{length-le_from_distinct_below}
-use mathlib.Core.Logic.{dite}
+-- The messages that links accepted are those of the tasks and of calls, where no seat has anything left to do.
+use Rattle.std.proofs.Common.{◌≡◌, ℕ, zero, suc, ◌<◌, true, false, List, [], ◌∷◌, inl, inr, sym, ap, ◌∙◌, subst, arith}
+use Rattle.std.specs.List.{filter}
+use Rattle.std.specs.Prelude.{Bool, ◌⊎◌, cond}
+use Rattle.std.proofs.lemmas.Bool.{true≢false}
 use mathlib.Core.Option.{some, some-injective, some-ne-none}
-use native.Mathlib.Decide.{ℕ_discrete, dec_le}
 use lib.ListN.{get_elem?}
 use Rattle.brpc_model.specs.Order.{EachBefore}
 use Rattle.sock_words.specs.declared.plain.Plan.{Plan}
 use Rattle.sock_model.specs.declared.chain.Entry.{Entry}
 use Rattle.sock_model.specs.declared.chain.Heading.{Heading}
 use Rattle.sock_model.specs.declared.view.View.{View}
-use Rattle.sock_model.specs.Entries.{on}
-use Rattle.sock_model.specs.Lawful.{Lawful}
-use Rattle.chain_laws.proofs.Lists.{Distinct, distinct_filter}
-use Rattle.chain_laws.proofs.Frames.{in_log}
-use Rattle.sock_programs.specs.declared.task.Op.TheVariants as ops
 use Rattle.sock_programs.specs.declared.task.Task.{Task}
-use Rattle.sock_programs.specs.Sends.{heading_of}
 use Rattle.sock_programs.specs.Cores.{Core}
-use Rattle.sock_programs.specs.Runs.{IsSettled}
-use Rattle.sock_programs.specs.Told.{AreTasks, OpFits, TaskFits}
-use Rattle.sock_runs.specs.Sound.{state, Sound}
+use Rattle.sock_programs.specs.Told.{AreTasks}
+use Rattle.sock_runs.specs.Sound.{Sound, AllRest}
 use Rattle.sock_causes.specs.Stories.{Event, In}
-use Rattle.sock_causes.specs.Kept.{Story}
+use Rattle.sock_causes.specs.Kept.{is_of_send, of_sends, IsOfCall, IsSpoken, Story}
 use Rattle.sock_causes.proofs.Members.{all_in}
-use Rattle.sock_causes.proofs.Tasks.{one_task, fits_of}
-use Rattle.sock_causes.proofs.Delivered.{AreSends}
-use Rattle.sock_causes.proofs.Senders.{HasSent, sent_in, EachMade, each_of, apart_of}
+use Rattle.sock_causes.proofs.Senders.{HasSent, sent_in, EachMade}
 use Rattle.sock_causes.proofs.Final.{IsMessage, Sends, sends, Sooner}
-use Rattle.sock_causes.proofs.Endings.{AreLeft}
 
 -- ## Lists
 
@@ -51,97 +39,66 @@ module _ {A : Type 0} where
   before_at R (x ∷ xs) zero (suc n) a b h g k l = subst (λ z. R z b) (some-injective x a g) (all_in (R x) xs b h.0 (in_of_at xs n b k))
   before_at R (x ∷ xs) (suc m) (suc n) a b h g k l = before_at R xs m n a b h.1 g k (omega arith)
 
-  -- as many elements as numbers below n, where their numbers are apart and below n
-  module _ (f : A → ℕ) where
-    apart_all : (k : ℕ) (xs : List A) → ((j : ℕ) (b : A) → get_elem? xs j ≡ some b → k ≢ f b) → AllByRecursion (λ y. eqb k y ≡ false) (map f xs)
-    apart_all k [] h = tt
-    apart_all k (x ∷ xs) h = (ne_eqb k (f x) (h 0 x refl), apart_all k xs (λ j b e. h (suc j) b e))
+  -- what a filter keeps
+  module _ (f : A → Bool) where
+    cond_in : (b : Bool) (x y : A) (ys : List A) → b ≡ true → (x ≡ y) ⊎ In x ys → In x (cond b (y ∷ ys) ys)
+    cond_in true x y ys e m = m
+    cond_in false x y ys e m = absurd (true≢false (sym e))
 
-    keys_apart : (xs : List A) → Distinct f xs → IsDistinct eqb (map f xs)
-    unfolding IsDistinct
-    keys_apart [] d = tt
-    keys_apart (x ∷ xs) d = (apart_all (f x) xs (λ j b e same. let q = d 0 (suc j) x b refl e same in absurd (omega arith)), keys_apart xs (λ i j a b g h same. let q = d (suc i) (suc j) a b g h same in omega arith))
+    skip_in : (b : Bool) (x y : A) (ys : List A) → In x ys → In x (cond b (y ∷ ys) ys)
+    skip_in true x y ys m = inr m
+    skip_in false x y ys m = m
 
-    keys_below : (n : ℕ) (xs : List A) → ((j : ℕ) (b : A) → get_elem? xs j ≡ some b → f b < n) → (q : ℕ) → list_any (eqb q) (map f xs) ≡ true → q < n
-    keys_below n [] h q e = absurd (cc)
-    keys_below n (x ∷ xs) h q e = dite (ℕ_discrete q (f x)) (λ same. let l = h 0 x refl in omega arith)
-        (λ far. keys_below n xs (λ j b g. h (suc j) b g) q (sym (ap (λ b. b || list_any (eqb q) (map f xs)) (ne_eqb q (f x) far)) ∙ e))
+    pub filter_has : (xs : List A) (n : ℕ) (x : A) → get_elem? xs n ≡ some x → f x ≡ true → In x (filter f xs)
+    filter_has [] n x e is = absurd (some-ne-none x (sym e))
+    filter_has (y ∷ ys) zero x e is = let same : y ≡ x = some-injective y x e in cond_in (f y) x y (filter f ys) (ap f same ∙ is) (inl (sym same))
+    filter_has (y ∷ ys) (suc n) x e is = skip_in (f y) x y (filter f ys) (filter_has ys n x e is)
 
-    pub few_of : (n : ℕ) (xs : List A) → Distinct f xs → ((j : ℕ) (b : A) → get_elem? xs j ≡ some b → f b < n) → length xs ≤ n
-    few_of n xs d h = omega (arith, length-map xs f, length-le_from_distinct_below (map f xs) n (keys_apart xs d) (λ q e. keys_below n xs h q e))
+    tail_before : (R : A → A → Type 0) (b : Bool) (x : A) (xs : List A) → EachBefore R (cond b (x ∷ xs) xs) → EachBefore R xs
+    tail_before R true x xs h = h.1
+    tail_before R false x xs h = h
 
--- ## Behind a settled core
+    first_before : (R : A → A → Type 0) (b : Bool) (x y : A) (xs : List A) → b ≡ true → EachBefore R (cond b (x ∷ xs) xs) → In y xs → R x y
+    first_before R true x y xs e h m = all_in (R x) xs y h.0 m
+    first_before R false x y xs e h m = absurd (true≢false (sym e))
 
-module _ (p : Plan) (clients : List (List Task)) (are : AreTasks p clients) (c : Core) (vs : List View) (es : List Event) (broken : List ℕ) (sound : Sound p c vs) (story : Story p clients c vs es broken) (settled : IsSettled c) where
+    -- of two elements that it keeps, the first stands before the other
+    pub filtered_before : (R : A → A → Type 0) (xs : List A) (m n : ℕ) (a b : A) → EachBefore R (filter f xs) → get_elem? xs m ≡ some a → get_elem? xs n ≡ some b → f a ≡ true → f b ≡ true → m < n → R a b
+    filtered_before R [] m n a b h g k p q l = absurd (some-ne-none a (sym g))
+    filtered_before R (x ∷ xs) m zero a b h g k p q l = absurd (omega arith)
+    filtered_before R (x ∷ xs) zero (suc n) a b h g k p q l = let same : x ≡ a = some-injective x a g in subst (λ z. R z b) same (first_before R (f x) x b (filter f xs) (ap f same ∙ p) h (filter_has xs n b k q))
+    filtered_before R (x ∷ xs) (suc m) (suc n) a b h g k p q l = filtered_before R xs m n a b (tail_before R (f x) x (filter f xs) h) g k p q (omega arith)
+
+-- ## Where no seat has anything left to do
+
+module _ (p : Plan) (clients : List (List Task)) (are : AreTasks p clients) (over : Bool) (c : Core) (vs : List View) (es : List Event) (broken : List ℕ) (sound : Sound p c vs) (story : Story p clients over c vs es broken) (settled : AllRest c) where
   abbrev pub Message : ℕ → Entry → Type 0
-  Message i e = IsMessage p clients are c vs es broken sound story settled i e
+  Message i e = IsMessage p clients are over c vs es broken sound story settled i e
 
   abbrev pub SendsOf : ℕ → View → Type 0
-  SendsOf i v = Sends p clients are c vs es broken sound story settled i v
+  SendsOf i v = Sends p clients are over c vs es broken sound story settled i v
 
   sends_of : (i : ℕ) (v : View) → get_elem? vs i ≡ some v → SendsOf i v
-  sends_of i v at = sends p clients are c vs es broken sound story settled i v at
+  sends_of i v at = sends p clients are over c vs es broken sound story settled i v at
 
   pub number_of : (i : ℕ) (e : Entry) (x : Message i e) → e.heading.operation ≡ x.task.number
   number_of i e x = ap (λ (h : Heading). h.operation) x.of_task.heading
 
-  pub fits : (i : ℕ) (e : Entry) (x : Message i e) → TaskFits p x.task
-  fits i e x = all_in (TaskFits p) x.asks.0 x.task (fits_of p clients are i x.asks.0 x.asks.1) x.asks.2
+  pub each_made : EachMade vs
+  each_made i u at = let s = sends_of i u at in (s.made, s.lists)
 
-  -- a core that has the same accepted messages
-  module _ (d : Core) (ws : List View) (o : Lawful (λ home. home) p (state d ws)) (left : AreLeft p c vs d ws) where
-    pub each_made : EachMade ws
-    each_made i u at = let l = left.lists i u at in let s = sends_of i l.0 l.1 in (s.made, l.2 ∙ s.lists)
+  stands_in : (i n : ℕ) (e : Entry) (h : HasSent vs i n e) → get_elem? (sends_of i h.view h.here).made n ≡ some e
+  stands_in i n e h = sent_in vs i n e h.view (sends_of i h.view h.here).made h h.here (sends_of i h.view h.here).lists
 
-    -- of an entry of seat i, what that seat sent
-    pub record Spot (i n : ℕ) (e : Entry) : Type 0 where
-      pub view : View
-      pub here : get_elem? vs i ≡ some view
-      pub of_seat : SendsOf i view
-      pub stands : get_elem? of_seat.made n ≡ some e
+  -- a message of a send is a task's
+  pub message_of : (i n : ℕ) (e : Entry) → HasSent vs i n e → is_of_send e ≡ true → Message i e
+  message_of i n e h is = let s = sends_of i h.view h.here in all_in (Message i) (of_sends s.made) e s.are_messages (filter_has is_of_send s.made n e (stands_in i n e h) is)
 
-    pub spot : (i n : ℕ) (e : Entry) → HasSent ws i n e → Spot i n e
-    spot i n e h = let l = left.lists i h.view h.here in let s = sends_of i l.0 l.1 in record {
-      view = l.0;
-      here = l.1;
-      of_seat = s;
-      stands = sent_in ws i n e h.view s.made h h.here (l.2 ∙ s.lists);
-    }
+  -- and any other a call's
+  pub call_of : (i n : ℕ) (e : Entry) → HasSent vs i n e → is_of_send e ≡ false → IsSpoken clients e.heading.operation
+  call_of i n e h is = let s = sends_of i h.view h.here in all_in (IsOfCall (IsSpoken clients)) s.made e s.of_calls (in_of_at s.made n e (stands_in i n e h)) is
 
-    pub message_of : (i n : ℕ) (e : Entry) → HasSent ws i n e → Message i e
-    message_of i n e h = let s = spot i n e h in all_in (Message i) s.of_seat.made e s.of_seat.are_messages (in_of_at s.of_seat.made n e s.stands)
-
-    -- of two messages of one seat, the earlier one is that of the earlier operation
-    pub sooner : (i m n : ℕ) (a b : Entry) → HasSent ws i m a → HasSent ws i n b → m < n → Sooner a b
-    sooner i m n a b g h l = let v = left.lists i g.view g.here in let s = sends_of i v.0 v.1 in
-        before_at Sooner s.made m n a b s.sorted (sent_in ws i m a g.view s.made g g.here (v.2 ∙ s.lists)) (sent_in ws i n b g.view s.made h g.here (v.2 ∙ s.lists)) l
-
-    -- an operation sent one message
-    pub one_message : (i j m n : ℕ) (a b : Entry) → HasSent ws i m a → HasSent ws j n b → a.heading.operation ≡ b.heading.operation → (i ≡ j) × (m ≡ n)
-    one_message i j m n a b g h same = let x = message_of i m a g in let y = message_of j n b h in
-        let t = one_task p clients are i j x.task y.task x.asks y.asks (sym (number_of i a x) ∙ (same ∙ number_of j b y)) in
-        let there : HasSent ws i n b = subst (λ z. HasSent ws z n b) (sym t.0) h in (
-          t.0,
-          dite (ℕ_discrete m n) (λ e. e) (λ ne. absurd (dite (dec_le m n)
-              (λ le. let l = sooner i m n a b g there (omega arith) in omega (arith, l, same))
-              (λ gt. let l = sooner i n m b a there g (omega arith) in omega (arith, l, same)))),
-        )
-
-    pub log_apart : Distinct (λ (e : Entry). e.heading.operation) o.log
-    log_apart = apart_of p d ws o each_made (λ (e : Entry). e.heading.operation) one_message
-
-    -- each entry of the log is the message of some seat
-    pub sent_by : (q : ℕ) (e : Entry) → get_elem? o.log q ≡ some e → (i n : ℕ) × HasSent ws i n e
-    sent_by q e g = each_of p d ws o each_made (λ (x : Entry). (i n : ℕ) × HasSent ws i n x) (λ i n e h. (i, n, h)) q e g
-
-    bytes_some : (e : Entry) (t : Task) (name : ℕ) → t.op ≡ ops.Send name e.bytes → OpFits p t.op → e.bytes ≢ []
-    bytes_some e t name is fit = (subst (OpFits p) is fit).1
-
-    pub log_sends : AreSends p o.log
-    log_sends q e g = let s = sent_by q e g in let x = message_of s.0 s.1 e s.2 in let f = fits s.0 e x in let n = number_of s.0 e x in
-        (x.of_task.heading ∙ ap heading_of (sym n), omega (arith, f.0, n), bytes_some e x.task x.of_task.name x.of_task.op f.1)
-
-    -- so many entries at most
-    pub chain_few : (k : ℕ) → length (on k o.log) ≤ p.operations
-    chain_few k = few_of (λ (e : Entry). e.heading.operation) p.operations (on k o.log) (distinct_filter (λ (e : Entry). e.heading.operation) (λ (e : Entry). eqb e.link k) o.log log_apart)
-        (λ j e g. let x = in_log o.chains k j e g in (log_sends x.0 e x.1).1)
+  -- of two messages of one seat, the earlier one is that of the earlier operation
+  pub sooner : (i m n : ℕ) (a b : Entry) → HasSent vs i m a → HasSent vs i n b → is_of_send a ≡ true → is_of_send b ≡ true → m < n → Sooner a b
+  sooner i m n a b g h p q l = let s = sends_of i g.view g.here in
+      filtered_before is_of_send Sooner s.made m n a b s.sorted (stands_in i m a g) (sent_in vs i n b g.view s.made h g.here s.lists) p q l

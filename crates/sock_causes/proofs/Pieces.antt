@@ -32,10 +32,10 @@ mute_grew op trace (SetOdd i) found mute = absurd mute
 mute_grew op trace (SwapHead i own) found mute = absurd mute
 mute_grew op trace _ found mute = record { has = λ x m. inr m; swap = refl; tells = λ o h. (tt, h) }
 
-module _ (slots requests : ℕ) (broken : List ℕ) (done : List Done) where
+module _ (slots requests : ℕ) (calls : ℕ → Type 0) (broken : List ℕ) (done : List Done) where
   module _ (t : Task) (ts : List Task) where
     abbrev Goes : List Entry → Program → Type 0
-    Goes trace program = Explains slots requests broken done trace (t ∷ ts) program
+    Goes trace program = Explains slots requests calls broken done trace (t ∷ ts) program
 
     abbrev Follows : List Entry → (Bool → Program) → Type 0
     Follows trace next = (b : Bool) (tr : List Entry) → Grew t.op trace tr → Goes tr (next b)
@@ -130,7 +130,7 @@ module _ (slots requests : ℕ) (broken : List ℕ) (done : List Done) where
         )
 
   abbrev Ends : List Entry → Program → Type 0
-  Ends trace program = Explains slots requests broken done trace [] program
+  Ends trace program = Explains slots requests calls broken done trace [] program
 
   -- behind the last task
   pub recycle_ends : (trace : List Entry) (next : Bool → Program) → ((b : Bool) → Ends trace (next b)) → (i from : ℕ) → Ends trace (recycle i from next)

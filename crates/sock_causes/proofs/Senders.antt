@@ -12,7 +12,7 @@ use Rattle.sock_model.specs.declared.view.View.{View}
 use Rattle.sock_model.specs.Entries.{on}
 use Rattle.sock_model.specs.Authors.{pick}
 use Rattle.sock_model.specs.Lawful.{Lawful}
-use Rattle.chain_laws.proofs.Lists.{Distinct, at_length, at_some, filter_at, filter_in}
+use Rattle.chain_laws.proofs.Lists.{at_length, at_some, filter_at, filter_in}
 use Rattle.chain_laws.proofs.Frames.{in_log}
 use Rattle.sock_programs.specs.Cores.{Core}
 use Rattle.sock_programs.specs.Told.{Accepted, StandsAt}
@@ -174,9 +174,9 @@ module _ (p : Plan) (c : Core) (views : List View) (o : Lawful (λ home. home) p
     pub each_of : (P : Entry → Type 0) → ((i n : ℕ) (e : Entry) → HasSent views i n e → P e) → (q : ℕ) (e : Entry) → get_elem? o.log q ≡ some e → P e
     each_of P h q e g = let x = listed q e g in h x.seat x.place e x.has
 
-    -- numbers that differ over all lists differ over the log
-    pub apart_of : (f : Entry → ℕ) → ((i j m n : ℕ) (d e : Entry) → HasSent views i m d → HasSent views j n e → f d ≡ f e → (i ≡ j) × (m ≡ n)) → Distinct f o.log
-    apart_of f h q r d e gd ge same = let x = listed q d gd in let y = listed r e ge in let t = h x.seat y.seat x.place y.place d e x.has y.has same in
+    -- where two entries of lists that stand so to one another are one, those of the log are
+    pub apart_by : (S : Entry → Entry → Type 0) → ((i j m n : ℕ) (d e : Entry) → HasSent views i m d → HasSent views j n e → S d e → (i ≡ j) × (m ≡ n)) → (q r : ℕ) (d e : Entry) → get_elem? o.log q ≡ some d → get_elem? o.log r ≡ some e → S d e → q ≡ r
+    apart_by S h q r d e gd ge same = let x = listed q d gd in let y = listed r e ge in let t = h x.seat y.seat x.place y.place d e x.has y.has same in
         dite (ℕ_discrete q r) (λ z. z) (λ ne. absurd (dite (dec_le q r)
         (λ le. let l = listed_before q r d e x y (omega arith) t.0 in omega (arith, l, t.1))
         (λ gt. let l = listed_before r q e d y x (omega arith) (sym t.0) in omega (arith, l, t.1))))

@@ -22,11 +22,12 @@ use Rattle.sock_programs.specs.declared.task.Task.{Task}
 use Rattle.sock_programs.specs.Calls.{Call, AddRef, SubRef, SetOdd, StoreCode, LoadName, LookWord, FindLink, LoadCode, ClaimRequest, PutMessage, Unconnect, SwapHead, Connect, EmptyHead, ReadNext, TurnNext, FreeRequest, StorePlace, DropPlace}
 use Rattle.sock_programs.specs.Writings.{Holder, Writing, Puts, Waits, Empties, Walks}
 use Rattle.sock_programs.specs.Programs.{Program, Do, Say, Sent, TakeMessage, TakeHome, PutBytes, Write, LAST_GENERATION, release}
-use Rattle.sock_programs.specs.Sends.{freed, one_more, passed, placed, dropped, link_failed, put_answered, ready_answered, block, first_put, write_link, heading_of, accept, claim_from, start, send}
+use Rattle.sock_programs.specs.Sends.{freed, one_more, passed_telling, tell_drop, placed, dropped, link_failed, put_answered, ready_answered, block, first_put, write_link, heading_of, accept, claim_from, start, send}
 use Rattle.sock_runs.specs.Writes.{holder_of}
 use Rattle.sock_causes.specs.Stories.{Entry, In}
-use Rattle.sock_causes.specs.Explains.{Done, Explains, Explained, Tells, TellsFail, Grew, IsWriterOf, holds, holds_behind, swapped, step, broken_put, broken_ready}
+use Rattle.sock_causes.specs.Explains.{Own, Done, Explains, Explained, Tells, TellsFail, Grew, IsWriterOf, holds, holds_behind, swapped, step, broken_put, broken_ready}
 use Rattle.sock_causes.proofs.Tests.{split, split_eq}
+use Rattle.sock_causes.proofs.Errors.{tell_goes}
 use Rattle.sock_causes.proofs.Pieces.{IsMute, grew_same, grew_on, mute_grew, release_goes, reach_goes}
 
 -- ## References
@@ -57,9 +58,9 @@ add_holds id found n e = let h : ℕ = socket_id_version id in let weight : ℕ 
 abbrev pub Within : List ℕ → List ℕ → Type 0
 Within xs ys = (k : ℕ) → In k xs → In k ys
 
-module _ (slots requests : ℕ) (done : List Done) (t : Task) (ts : List Task) where
+module _ (slots requests : ℕ) (calls : ℕ → Type 0) (done : List Done) (t : Task) (ts : List Task) where
   abbrev Goes : List ℕ → List Entry → Program → Type 0
-  Goes broken trace program = Explains slots requests broken done trace (t ∷ ts) program
+  Goes broken trace program = Explains slots requests calls broken done trace (t ∷ ts) program
 
   -- ## Writing
 
@@ -88,12 +89,12 @@ module _ (slots requests : ℕ) (done : List Done) (t : Task) (ts : List Task) w
     freed_goes h bs now next k tr a = split (eqb (generation_of now) LAST_GENERATION) next (Do (FreeRequest (slot_of now) (generation_of now)) (λ _. next)) (Goes bs tr) (k tr a)
         (tt, λ found. k (step (FreeRequest (slot_of now) (generation_of now)) found ∷ tr) (mute_at h bs tr (FreeRequest (slot_of now) (generation_of now)) found tt refl a))
 
-    passed_goes : (h : Holder) (bs : List ℕ) (now : ℕ) → Anywhere h bs (passed h now after)
-    passed_goes h bs now tr a = split (eqb now h.last) (freed now (Write (Empties h) after)) (Do (ReadNext (slot_of now)) (λ next. freed now (TakeMessage (slot_of next) (λ heading bytes. Write (Puts h next heading bytes 0 false) after)))) (Goes bs tr)
-        (freed_goes h bs now (Write (Empties h) after) (λ tr a. again (Empties h) bs tr a) tr a) (
+    passed_goes : (h : Holder) (bs : List ℕ) (now : ℕ) (tells : Program → Program) → ((tr : List Entry) (q : Program) → Goes bs tr q → Goes bs tr (tells q)) → Anywhere h bs (passed_telling h now tells after)
+    passed_goes h bs now tells k tr a = split (eqb now h.last) (freed now (tells (Write (Empties h) after))) (Do (ReadNext (slot_of now)) (λ next. freed now (tells (TakeMessage (slot_of next) (λ heading bytes. Write (Puts h next heading bytes 0 false) after))))) (Goes bs tr)
+        (freed_goes h bs now (tells (Write (Empties h) after)) (λ tr a. k tr (Write (Empties h) after) (again (Empties h) bs tr a)) tr a) (
           tt,
-          λ next. freed_goes h bs now (TakeMessage (slot_of next) (λ heading bytes. Write (Puts h next heading bytes 0 false) after))
-              (λ tr a heading bytes. again (Puts h next heading bytes 0 false) bs tr a)
+          λ next. freed_goes h bs now (tells (TakeMessage (slot_of next) (λ heading bytes. Write (Puts h next heading bytes 0 false) after)))
+              (λ tr a. k tr (TakeMessage (slot_of next) (λ heading bytes. Write (Puts h next heading bytes 0 false) after)) (λ heading bytes. again (Puts h next heading bytes 0 false) bs tr a))
               (step (ReadNext (slot_of now)) next ∷ tr) (mute_at h bs tr (ReadNext (slot_of now)) next tt refl a),
         )
 
@@ -105,7 +106,7 @@ module _ (slots requests : ℕ) (done : List Done) (t : Task) (ts : List Task) w
     placed_goes h bs now heading tr a = (
       tt,
       λ found. let s : Call = StorePlace heading.place h.link h.places in
-          passed_goes (one_more h) bs now (step s found ∷ tr) (one_more_at h bs (step s found ∷ tr) (mute_at h bs tr s found tt refl a)),
+          passed_goes (one_more h) bs now (λ q. q) (λ tr q g. g) (step s found ∷ tr) (one_more_at h bs (step s found ∷ tr) (mute_at h bs tr s found tt refl a)),
     )
 
     dropped_goes : (h : Holder) (bs : List ℕ) (now : ℕ) (heading : Heading) → Anywhere h bs (dropped h now heading after)
@@ -113,7 +114,7 @@ module _ (slots requests : ℕ) (done : List Done) (t : Task) (ts : List Task) w
       tt,
       λ code. (
         tt,
-        λ found. passed_goes (one_more h) bs now (step s found ∷ step l code ∷ tr)
+        λ found. passed_goes (one_more h) bs now (tell_drop heading code) (λ tr q g. tell_goes slots requests calls Own bs done tr (t ∷ ts) heading code q g) (step s found ∷ step l code ∷ tr)
             (one_more_at h bs (step s found ∷ step l code ∷ tr) (mute_at h bs (step l code ∷ tr) s found tt refl (mute_at h bs tr l code tt refl a))),
       ),
     )
@@ -222,14 +223,14 @@ module _ (slots requests : ℕ) (done : List Done) (t : Task) (ts : List Task) w
 
     -- what follows explains itself behind each outcome, whichever links failed
     abbrev pub Follows : Type 0
-    Follows = (outcome : Option Outcome) (broken : List ℕ) → Explains slots requests broken (done_with outcome) [] ts next
+    Follows = (outcome : Option Outcome) (broken : List ℕ) → Explains slots requests calls broken (done_with outcome) [] ts next
 
     says : Follows → (broken : List ℕ) (tr : List Entry) (outcome : Outcome) → Explained slots requests done tr (ops.Send name bytes) (Some outcome) → AllByRecursion (Tells t.op (Some outcome)) tr → Goes broken tr (Say t.number outcome next)
-    says follows broken tr outcome why tells = (refl, subst (λ z. Explained slots requests done tr z (Some outcome)) (sym op) why, tells, follows (Some outcome) broken)
+    says follows broken tr outcome why tells = inl (refl, subst (λ z. Explained slots requests done tr z (Some outcome)) (sym op) why, tells, follows (Some outcome) broken)
 
     -- behind the exchange the reference is given back
     accepted_goes : Follows → (id : ℕ) (broken : List ℕ) (tr : List Entry) → swapped tr ≡ true → AllByRecursion (Tells t.op None) tr → Goes broken tr (release (socket_id_slot id) (λ _. Sent t.number next))
-    accepted_goes follows id broken tr swap tells = release_goes slots requests broken done t ts tr (λ _. Sent t.number next)
+    accepted_goes follows id broken tr swap tells = release_goes slots requests calls broken done t ts tr (λ _. Sent t.number next)
         (λ b longer g. (refl, subst (λ z. Explained slots requests done longer z None) (sym op) (tt, g.swap ∙ swap), g.tells None tells, follows None broken)) (socket_id_slot id)
 
     -- the operation holds the life of the id that it found, and sent nothing yet
@@ -269,7 +270,7 @@ module _ (slots requests : ℕ) (done : List Done) (t : Task) (ts : List Task) w
     WereTaken q tr = (j : ℕ) → j < q → (id found : ℕ) × In (step (ClaimRequest id j) found) tr × (found % 2 ≡ 1)
 
     claim_goes : Follows → (more q id : ℕ) (broken : List ℕ) (tr : List Entry) → q + more ≡ requests → IsHere id tr → WereTaken q tr → Goes broken tr (claim_from more q t.number id bytes next)
-    claim_goes follows zero q id broken tr e a taken = release_goes slots requests broken done t ts tr (λ _. Say t.number Full next)
+    claim_goes follows zero q id broken tr e a taken = release_goes slots requests calls broken done t ts tr (λ _. Say t.number Full next)
         (λ b longer g. says follows broken longer Full
         (((id, g.has (step (LoadName name) (id + 1)) a.load), λ j l. let x = taken j (omega arith) in (x.0, x.1, g.has (step (ClaimRequest x.0 j) x.1) x.2, x.3)), g.swap ∙ a.first) (g.tells (Some Full) (a.tells (Some Full)))) (socket_id_slot id)
     claim_goes follows (suc more) q id broken tr e a taken = (
@@ -289,7 +290,7 @@ module _ (slots requests : ℕ) (done : List Done) (t : Task) (ts : List Task) w
           λ word. let one : List Entry = step (LookWord id) word ∷ tr in
               split_eq (vref_version word % 2) 0 (claim_from requests 0 t.number id bytes next) (release (socket_id_slot id) (λ _. Say t.number (Gone (record { 0 = word })) next)) (Goes broken one)
               (λ even. claim_goes follows requests 0 id broken one (omega arith) (mute_here id tr (LookWord id) word tt refl a) (λ j l. absurd (omega arith)))
-              (λ odd. release_goes slots requests broken done t ts one (λ _. Say t.number (Gone (record { 0 = word })) next)
+              (λ odd. release_goes slots requests calls broken done t ts one (λ _. Say t.number (Gone (record { 0 = word })) next)
               (λ b longer g. says follows broken longer (Gone (record { 0 = word }))
               (inr (id, g.has (step (LoadName name) (id + 1)) (inr (inr (inl refl))), g.has (step (LookWord id) word) (inl refl), omega arith), g.swap) (g.tells (Some (Gone (record { 0 = word }))) (tt, (tt, (tt, tt)))))
               (socket_id_slot id)),
@@ -297,7 +298,7 @@ module _ (slots requests : ℕ) (done : List Done) (t : Task) (ts : List Task) w
 
     -- a `send` explains its outcome
     pub send_goes : Follows → (broken : List ℕ) → Goes broken [] (send requests t.number name bytes next)
-    send_goes follows broken = reach_goes slots requests broken done t ts name (Say t.number Unopened next) (λ id. start requests t.number id bytes next) (λ found. Say t.number (Gone (record { 0 = found })) next)
+    send_goes follows broken = reach_goes slots requests calls broken done t ts name (Say t.number Unopened next) (λ id. start requests t.number id bytes next) (λ found. Say t.number (Gone (record { 0 = found })) next)
         (says follows broken (step (LoadName name) 0 ∷ []) Unopened (inl refl, refl) (tt, tt))
         (λ id found e. start_goes follows id found broken e)
         (λ id found tr ne g. says follows broken tr (Gone (record { 0 = found }))

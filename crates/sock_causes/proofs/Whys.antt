@@ -22,7 +22,7 @@ use Rattle.sock_causes.proofs.Members.{all_in, in_contains, from_trace}
 use Rattle.sock_causes.proofs.Events.{event, in_marked, try_adds, marked_birth, marked_fail, BeforeIn, cause_of, Comes, compare, last_zero, last_some}
 use Rattle.sock_causes.proofs.Accepting.{no_swap}
 use Rattle.sock_causes.proofs.Final.{Falls, one_said}
-use Rattle.sock_causes.proofs.Lives.{World, task_of, asks_of, birth_made, birth_means, named_life, made_event, odd_means, odd_life, fail_says}
+use Rattle.sock_causes.proofs.Lives.{World, task_of, asks_of, birth_made, birth_means, named_life, one_life, given_made, given_later, made_event, odd_means, odd_life, fail_says}
 use Rattle.sock_causes.proofs.Fails.{Gathered}
 use Rattle.sock_causes.proofs.Tasks.{one_task, setup_opens}
 
@@ -33,6 +33,9 @@ name_of (ops.Send n bytes) = n
 name_of (ops.Hold n) = n
 name_of (ops.Drop n) = n
 name_of (ops.Fail n code) = n
+name_of (ops.Call asked) = 0
+name_of (ops.Expire t) = 0
+name_of (ops.Join t) = 0
 
 one_some : (o : Option Outcome) (x y : Outcome) → o ≡ Some x → o ≡ Some y → x ≡ y
 one_some o x y e f = cc
@@ -171,9 +174,11 @@ module _ (p : Plan) (clients : List (List Task)) (outcomes : List (Option Outcom
   -- ## A life that was failed
 
   -- who failed a life before a step of a task that failed none
-  failed_by : (c : ℕ) (t : Task) (a : Asks clients c t) (call : Call) (found : ℕ) (b : BeforeIn p clients broken es (event c t.number call found)) (i h n k : ℕ) → WasFailed b.story i h → Made clients outcomes n k i h → (world.final c t a).outcome ≢ Some Failed
+  failed_by : (c : ℕ) (t : Task) (a : Asks clients c t) (call : Call) (found : ℕ) (b : BeforeIn p clients broken es (event c t.number call found)) (i h n k : ℕ) → WasFailed broken b.story i h → Made clients outcomes n k i h → (world.final c t a).outcome ≢ Some Failed
       → Told.WasFailed clients outcomes g.fails broken c t.number k
-  failed_by c t a call found b i h n k was made ne = let y = marked_fail b.story i h was in let e : Event = event y.client y.number (SetOdd i) y.found in
+  failed_by c t a call found b i h n k (inr lost) made ne = let g = given_made p clients outcomes broken orders es world i h lost.0 (given_later p clients outcomes broken orders es world b.story es b.part i h lost.0 lost.2) in
+      let same : k ≡ lost.0 = (one_life p clients outcomes broken orders es world n g.0 k lost.0 i h made g.1).1 in inr (in_contains broken k (subst (λ z. In z broken) (sym same) lost.1))
+  failed_by c t a call found b i h n k (inl was) made ne = let y = marked_fail b.story i h was in let e : Event = event y.client y.number (SetOdd i) y.found in
       let m : In e es = b.part e y.is in ⊎_elim
       (λ there. inl (
         y.number,
@@ -319,6 +324,9 @@ module _ (p : Plan) (clients : List (List Task)) (outcomes : List (Option Outcom
     why_each (ops.Hold n) o = why_hold n o
     why_each (ops.Drop n) o = why_drop n o
     why_each (ops.Fail n code) o = why_fail n code o
+    why_each (ops.Call asked) o = λ op e b. absurd b
+    why_each (ops.Expire t) o = λ op e b. absurd b
+    why_each (ops.Join t) o = λ op e b. absurd b
 
     -- the outcome of a task has its cause
     pub why_told : (o : Outcome) → Became clients outcomes t.number o → Why clients outcomes p g.fails broken orders c t.number t.op o

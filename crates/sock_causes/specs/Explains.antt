@@ -1,6 +1,6 @@
 -- A program that says an outcome of each task in order, or has its message accepted, each explained by the steps that were made for it.
 use Rattle.std.specs.Prelude.{ℕ, ◌+◌, ◌-◌, ◌%◌, ◌==◌, ◌≡◌, ◌≢◌, ◌<◌, ◌⊎◌, Bool, true, false, if◌then◌else◌, List, [], ◌∷◌, Option, Some, None}
-use Rattle.std.specs.List.{AllByRecursion}
+use Rattle.std.specs.List.{AllByRecursion, filter}
 use Rattle.sock_words.specs.Words.{socket_id, socket_id_version, socket_id_slot, vref_version, vref_nref}
 use Rattle.sock_words.specs.declared.outcome.Outcome.{Outcome}
 use Rattle.sock_words.specs.declared.outcome.Outcome.TheVariants.{Opened, SlotsFull, Unopened, Gone, Full, Held, Freed, Kept, NotHeld, Failed, Already}
@@ -15,7 +15,9 @@ use Rattle.sock_programs.specs.declared.task.Op.{Op}
 use Rattle.sock_programs.specs.declared.task.Op.TheVariants as ops
 use Rattle.sock_programs.specs.declared.task.Task.{Task}
 use Rattle.sock_programs.specs.Calls.{Call, ClaimSlot, GiveBirth, AddRef, SubRef, SetOdd, Recycle, StoreName, LoadName, LookWord, FindLink, ClaimRequest, PutMessage, Unconnect, SwapHead}
-use Rattle.sock_programs.specs.Programs.{Program, Do, Say, Sent, Rest, fail_outcome, TakeMessage, TakeHome, PutHome, PutBytes, AskReady, Write}
+use Rattle.sock_programs.specs.Programs.{Program, Do, Say, Sent, Rest, fail_outcome, TakeMessage, TakeHome, PutHome, PutBytes, AskReady, Write, Aside, Round, Keep, Retries}
+use Rattle.sock_programs.specs.Asides.{Step, Found, PutCall, TakeCall}
+use Rattle.sock_programs.specs.Heads.{Head, Exit, Opens, Decides, Deciding, HasEnded}
 use Rattle.sock_programs.specs.Sends.{heading_of}
 use Rattle.sock_runs.specs.Writes.{holder_of}
 use Rattle.sock_causes.specs.Stories.{Entry, In}
@@ -189,24 +191,141 @@ abbrev pub broken_ready : ℕ → Ready → List ℕ → List ℕ
 broken_ready k asks.Failed broken = k ∷ broken
 broken_ready k other broken = broken
 
-module _ (slots requests : ℕ) where
-  -- behind the tasks done and the steps made for the task in hand, and where these links failed, the program says an outcome of each task in order
-  abbrev pub Explains : List ℕ → List Done → List Entry → List Task → Program → Type 0
-  Explains broken done trace [] (Do call next) = IsPlain call × ((found : ℕ) → Explains broken done trace [] (next found))
-  Explains broken done trace (t ∷ ts) (Do call next) = Fits t broken trace call × ((found : ℕ) → Explains broken done (step call found ∷ trace) (t ∷ ts) (next found))
-  Explains broken done trace [] (Say o outcome more) = ⊥
-  Explains broken done trace (t ∷ ts) (Say o outcome more) = (o ≡ t.number) × Explained slots requests done trace t.op (Some outcome) × AllByRecursion (Tells t.op (Some outcome)) trace
-      × Explains broken (record { task = t; outcome = Some outcome } ∷ done) [] ts more
-  Explains broken done trace [] (Sent o more) = ⊥
-  Explains broken done trace (t ∷ ts) (Sent o more) = (o ≡ t.number) × Explained slots requests done trace t.op None × AllByRecursion (Tells t.op None) trace
-      × Explains broken (record { task = t; outcome = None } ∷ done) [] ts more
-  Explains broken done trace todo Rest = todo ≡ []
-  Explains broken done trace todo (TakeMessage q next) = (heading : Heading) (bytes : List ℕ) → Explains broken done trace todo (next heading bytes)
-  Explains broken done trace todo (TakeHome k next) = (places : ℕ) → Explains broken done trace todo (next places)
-  Explains broken done trace todo (PutHome k n after) = Explains broken done trace todo after
-  Explains broken done trace todo (PutBytes k asked bytes next) = (answer : Put) → Explains (broken_put k answer broken) done trace todo (next answer)
-  Explains broken done trace todo (AskReady k next) = (answer : Ready) → Explains (broken_ready k answer broken) done trace todo (next answer)
-  Explains broken done trace [] (Write w after) = ⊥
+-- ## Calls
+
+-- what is said of calls is no task's that is explained here: those of `call`, `expire` and `join` are left out
+abbrev pub is_plain : Op → Bool
+is_plain (ops.Call asked) = false
+is_plain (ops.Expire t) = false
+is_plain (ops.Join t) = false
+is_plain other = true
+
+abbrev pub plain_tasks : List Task → List Task
+plain_tasks ts = filter (λ (t : Task). is_plain t.op) ts
+
+-- how a seat stands to its tasks: its steps are made for the task in hand; or beside them, for an attempt of a call; or they close sockets, as
+-- those of readers and of the ending do
+pub data Way : Type 0 where
+  Own : Way
+  Beside : Way
+  Closing : Way
+
+-- an attempt of a call holds the life of this id, and found that its link is k
+pub record IsAttemptOn (trace : List Entry) (id k : ℕ) : Type 0 where
+  pub link : In (step (FindLink (socket_id_slot id) (socket_id_version id)) k) trace
+  pub holds : 0 < holds (socket_id_slot id) (socket_id_version id) trace
+
+-- and the link answered that it failed
+abbrev pub FailsAttempt : List ℕ → List Entry → ℕ → Type 0
+FailsAttempt broken trace i = (id k : ℕ) × IsAttemptOn trace id k × (i ≡ socket_id_slot id) × In k broken
+
+-- a seat that gives back what it holds, or closes sockets, makes no life, stores no name and accepts no message
+abbrev pub FitsClosing : Call → Type 0
+FitsClosing (ClaimSlot i) = ⊥
+FitsClosing (GiveBirth i k) = ⊥
+FitsClosing (StoreName n w) = ⊥
+FitsClosing (SwapHead i own) = ⊥
+FitsClosing other = Unit {0}
+
+-- the tasks' operations come behind retries, or an attempt of a call does
+abbrev pub IsTasked : Way → Type 0
+IsTasked Closing = ⊥
+IsTasked other = Unit {0}
+
+-- a word of an `open` is waited for by whoever closes sockets only
+abbrev pub IsClosing : Way → Type 0
+IsClosing Closing = Unit {0}
+IsClosing other = ⊥
+
+abbrev pub IsLoopOf : Way → Head → Type 0
+IsLoopOf w (Opens o) = IsClosing w
+IsLoopOf w head = Unit {0}
+
+-- no step is made for the next task yet
+abbrev pub IsBare : Way → List Entry → Type 0
+IsBare Own trace = trace ≡ []
+IsBare other trace = Unit {0}
+
+-- these operations are calls
+module _ (calls : ℕ → Type 0) where
+  -- an attempt claimed a request, put its message there and marked the request's next word; the message has parts, as no message of a `send` has
+  pub record IsCallReadied (trace : List Entry) : Type 0 where
+    pub id : ℕ
+    pub request : ℕ
+    pub heading : Heading
+    pub bytes : List ℕ
+    pub words : ℕ × ℕ
+    pub found : ℕ
+    pub before : List Entry
+    pub trace_is : trace ≡ step (Unconnect request) words.0 ∷ step (PutMessage request heading bytes) words.1 ∷ step (ClaimRequest id request) found ∷ before
+    pub free : found % 2 ≡ 0
+    pub parts : heading.parts ≢ []
+    pub of_call : calls heading.operation
+
+  abbrev pub FitsBeside : List ℕ → List Entry → Call → Type 0
+  FitsBeside broken trace (ClaimSlot i) = ⊥
+  FitsBeside broken trace (GiveBirth i k) = ⊥
+  FitsBeside broken trace (StoreName n w) = ⊥
+  FitsBeside broken trace (SetOdd i) = FailsAttempt broken trace i
+  FitsBeside broken trace (SwapHead i own) = IsCallReadied trace
+  FitsBeside broken trace other = Unit {0}
+
+  -- what goes into the home of a call, and what is found there, is one of these
+  abbrev pub PutsCall : Step → Type 0
+  PutsCall (PutCall i asked) = calls asked.operation
+  PutsCall other = Unit {0}
+
+  abbrev pub TakesCall : (step : Step) → Found step → Type 0
+  TakesCall (TakeCall i) asked = calls asked.operation
+  TakesCall other found = Unit {0}
+
+  abbrev pub DecidesCall : Head → Type 0
+  DecidesCall (Decides id asked w e) = calls asked.operation
+  DecidesCall other = Unit {0}
+
+  abbrev pub EndedCall : Deciding → Type 0
+  EndedCall (HasEnded o c) = calls o
+  EndedCall other = Unit {0}
+
+  abbrev pub EndsCall : (head : Head) → Exit head → Type 0
+  EndsCall (Decides id asked w e) exit = EndedCall exit
+  EndsCall head exit = Unit {0}
+
+module _ (slots requests : ℕ) (calls : ℕ → Type 0) where
+  -- behind the tasks done and the steps made, and where these links failed, the program says an outcome of each task in order, and of calls besides
+  abbrev pub ExplainsBy : Way → List ℕ → List Done → List Entry → List Task → Program → Type 0
+  ExplainsBy Own broken done trace [] (Do call next) = IsPlain call × ((found : ℕ) → ExplainsBy Own broken done trace [] (next found))
+  ExplainsBy Own broken done trace (t ∷ ts) (Do call next) = Fits t broken trace call × ((found : ℕ) → ExplainsBy Own broken done (step call found ∷ trace) (t ∷ ts) (next found))
+  ExplainsBy Beside broken done trace todo (Do call next) = FitsBeside calls broken trace call × ((found : ℕ) → ExplainsBy Beside broken done (step call found ∷ trace) todo (next found))
+  ExplainsBy Closing broken done trace todo (Do call next) = FitsClosing call × ((found : ℕ) → ExplainsBy Closing broken done trace todo (next found))
+  ExplainsBy Own broken done trace [] (Say o outcome more) = calls o × ExplainsBy Own broken done trace [] more
+  ExplainsBy Own broken done trace (t ∷ ts) (Say o outcome more) = ((o ≡ t.number) × Explained slots requests done trace t.op (Some outcome) × AllByRecursion (Tells t.op (Some outcome)) trace
+      × ExplainsBy Own broken (record { task = t; outcome = Some outcome } ∷ done) [] ts more) ⊎ (calls o × ExplainsBy Own broken done trace (t ∷ ts) more)
+  ExplainsBy Beside broken done trace todo (Say o outcome more) = calls o × ExplainsBy Beside broken done trace todo more
+  ExplainsBy Closing broken done trace todo (Say o outcome more) = calls o × ExplainsBy Closing broken done trace todo more
+  ExplainsBy Own broken done trace [] (Sent o more) = ⊥
+  ExplainsBy Own broken done trace (t ∷ ts) (Sent o more) = (o ≡ t.number) × Explained slots requests done trace t.op None × AllByRecursion (Tells t.op None) trace
+      × ExplainsBy Own broken (record { task = t; outcome = None } ∷ done) [] ts more
+  ExplainsBy Beside broken done trace todo (Sent o more) = ⊥
+  ExplainsBy Closing broken done trace todo (Sent o more) = ⊥
+  ExplainsBy w broken done trace todo Rest = todo ≡ []
+  ExplainsBy w broken done trace todo (TakeMessage q next) = (heading : Heading) (bytes : List ℕ) → ExplainsBy w broken done trace todo (next heading bytes)
+  ExplainsBy w broken done trace todo (TakeHome k next) = (places : ℕ) → ExplainsBy w broken done trace todo (next places)
+  ExplainsBy w broken done trace todo (PutHome k n after) = ExplainsBy w broken done trace todo after
+  ExplainsBy w broken done trace todo (PutBytes k asked bytes next) = (answer : Put) → ExplainsBy w (broken_put k answer broken) done trace todo (next answer)
+  ExplainsBy w broken done trace todo (AskReady k next) = (answer : Ready) → ExplainsBy w (broken_ready k answer broken) done trace todo (next answer)
+  ExplainsBy Own broken done trace [] (Write v after) = ⊥
   -- whoever writes makes steps that tell no outcome, and links may fail meanwhile
-  Explains broken done trace (t ∷ ts) (Write w after) = IsWriterOf t trace (holder_of w).id (holder_of w).link
-      × ((longer : List Entry) (others : List ℕ) → Grew t.op trace longer → ((k : ℕ) → In k broken → In k others) → Explains others done longer (t ∷ ts) after)
+  ExplainsBy Own broken done trace (t ∷ ts) (Write v after) = IsWriterOf t trace (holder_of v).id (holder_of v).link
+      × ((longer : List Entry) (others : List ℕ) → Grew t.op trace longer → ((k : ℕ) → In k broken → In k others) → ExplainsBy Own others done longer (t ∷ ts) after)
+  ExplainsBy Beside broken done trace todo (Write v after) = IsAttemptOn trace (holder_of v).id (holder_of v).link
+      × ((longer : List Entry) (others : List ℕ) → ((k : ℕ) → In k broken → In k others) → ExplainsBy Beside others done longer todo after)
+  ExplainsBy Closing broken done trace todo (Write v after) = ⊥
+  -- steps aside of the sockets tell no outcome of a task
+  ExplainsBy w broken done trace todo (Aside s next) = PutsCall calls s × ((found : Found s) → TakesCall calls s found → ExplainsBy w broken done trace todo (next found))
+  ExplainsBy w broken done trace todo (Round head next) = (IsLoopOf w head × DecidesCall calls head) × ((exit : Exit head) → EndsCall calls head exit → ExplainsBy w broken done trace todo (next exit))
+  ExplainsBy w broken done trace todo (Keep r next) = ExplainsBy w broken done trace todo next
+  ExplainsBy w broken done trace todo (Retries n after) = IsBare w trace × ((w' : Way) × IsTasked w' × ExplainsBy w' broken done [] todo after)
+
+  abbrev pub Explains : List ℕ → List Done → List Entry → List Task → Program → Type 0
+  Explains broken done trace todo program = ExplainsBy Own broken done trace todo program

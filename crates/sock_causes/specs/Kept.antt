@@ -1,6 +1,6 @@
 -- What the steps of a run keep: a story that explains all outcomes so far, tied to the words and to the marks of the seats.
-use Rattle.std.specs.Prelude.{ℕ, ◌+◌, ◌%◌, ◌≡◌, ◌<◌, ◌≤◌, Bool, true, false, List, [], ◌∷◌, ◌++◌, length, slice_get, slice_index, Option, Some, None}
-use Rattle.std.specs.List.{AllByRecursion}
+use Rattle.std.specs.Prelude.{ℕ, ◌+◌, ◌%◌, ◌≡◌, ◌≢◌, ◌<◌, ◌≤◌, ◌⊎◌, Bool, true, false, List, [], ◌∷◌, ◌++◌, length, slice_get, slice_index, Option, Some, None}
+use Rattle.std.specs.List.{AllByRecursion, filter}
 use mathlib.Core.Option as core
 use lib.ListN.{get_elem?}
 use Rattle.sock_words.specs.declared.plain.Plan.{Plan}
@@ -15,16 +15,18 @@ use Rattle.sock_model.specs.Layout.{name_word, request_word}
 use Rattle.sock_model.specs.Slots.{count}
 use Rattle.sock_model.specs.References.{slot_facts}
 use Rattle.sock_model.specs.SlotRows.{marks_of}
-use Rattle.sock_programs.specs.Calls.{ClaimRequest, PutMessage, Unconnect, LoadName}
+use Rattle.sock_programs.specs.declared.task.Asked.{Asked}
+use Rattle.sock_programs.specs.Beside.{call_at}
+use Rattle.sock_programs.specs.Calls.{ClaimRequest, PutMessage, Unconnect, LoadName, FindLink}
 use Rattle.sock_programs.specs.declared.task.Op.TheVariants as ops
 use Rattle.sock_programs.specs.declared.task.Task.{Task}
-use Rattle.sock_programs.specs.Programs.{Program, Say, Sent}
+use Rattle.sock_programs.specs.Programs.{Program, Say, Sent, Keep, Retries}
 use Rattle.sock_programs.specs.Sends.{heading_of}
 use Rattle.sock_programs.specs.Cores.{Core, SeatState}
 use Rattle.sock_runs.specs.Sound.{state}
 use Rattle.sock_causes.specs.Stories.{Entry, Event, In, trace_of, trace_now, last_name, marked}
-use Rattle.sock_causes.specs.Explains.{Done, Explained, Tells, Explains, holds, swapped, step}
-use Rattle.sock_causes.specs.Causes.{Good, WasGiven}
+use Rattle.sock_causes.specs.Explains.{Way, Own, Beside, Closing, Done, Explained, Tells, ExplainsBy, holds, swapped, step}
+use Rattle.sock_causes.specs.Causes.{Asks, Good, WasGiven, WasFailed}
 
 -- the tasks done, the latest first, before those still to do
 abbrev pub undo : List Done → List Task → List Task
@@ -77,8 +79,32 @@ pub record AreClaims (es : List Event) (trace : List Entry) (claims : List Claim
 
 -- ## Seats
 
--- client c, whose tasks these are, has done some, and its program does the others
-pub record SeatAt (p : Plan) (es : List Event) (broken : List ℕ) (outcomes : List (Option Outcome)) (c : ℕ) (tasks : List Task) (done : List Done) (todo : List Task) (program : Program) (v : View) : Type 0 where
+-- messages of sends; those of calls have parts
+abbrev pub is_of_send : chain.Entry → Bool
+is_of_send e = elim e.heading.parts as (λ l. Bool) [ [] ↦ true | x ∷ xs ↦ false ]
+
+abbrev pub of_sends : List chain.Entry → List chain.Entry
+of_sends es = filter is_of_send es
+
+-- a message that isn't a send's is a call's
+abbrev pub IsOfCall : (ℕ → Type 0) → chain.Entry → Type 0
+IsOfCall calls e = is_of_send e ≡ false → calls e.heading.operation
+
+-- the steps of the task in hand, where its program is at work, are those of the story; beside the tasks none was made for the next task
+abbrev pub IsTraced : Way → List Entry → ℕ → List Task → List Event → Type 0
+IsTraced Own trace c todo es = trace ≡ trace_now c todo es
+IsTraced Beside trace c todo es = trace_now c todo es ≡ []
+IsTraced Closing trace c todo es = (trace ≡ []) × (trace_now c todo es ≡ [])
+
+-- seat 0 ends the run, and readers' seats begin at 32
+abbrev pub MayClose : ℕ → Type 0
+MayClose c = (c ≡ 0) ⊎ (32 ≤ c)
+
+-- client c, whose tasks these are, has done some, and its program does the others; the setup is over or not
+pub record SeatAt (p : Plan) (calls : ℕ → Type 0) (over : Bool) (es : List Event) (broken : List ℕ) (outcomes : List (Option Outcome)) (c : ℕ) (tasks : List Task) (way : Way) (trace : List Entry) (done : List Done) (todo : List Task) (program : Program) (v : View) : Type 0 where
+  pub set_up : over ≡ true → c ≡ 0 → todo ≡ []
+  pub closes : way ≡ Closing → MayClose c
+  pub traced : IsTraced way trace c todo es
   -- its tasks are those done and those to do
   pub all : tasks ≡ undo done todo
   -- those done have their outcomes
@@ -90,23 +116,32 @@ pub record SeatAt (p : Plan) (es : List Event) (broken : List ℕ) (outcomes : L
   -- it made no step for the tasks behind the first
   pub past : (e : Event) → In e es → e.client ≡ c → AllByRecursion (λ (t : Task). e.number ≤ t.number) todo
   -- and its program explains the others
-  pub explains : Explains p.slots p.requests broken done (trace_now c todo es) todo program
+  pub explains : ExplainsBy p.slots p.requests calls way broken done trace todo program
   -- it holds what it took references to
-  pub holding : (i h : ℕ) → holds i h (trace_now c todo es) ≤ marks_of (is_hold h) i v
+  pub holding : (i h : ℕ) → holds i h trace ≤ marks_of (is_hold h) i v
+  -- the links that it found are those with which the lives were made
+  pub linked : (i h k : ℕ) → In (step (FindLink i h) k) trace → WasGiven es i h k
   -- its claim is for its message
-  pub claims : AreClaims es (trace_now c todo es) v.claims
-  -- and its accepted messages are those of its tasks
+  pub claims : AreClaims es trace v.claims
+  -- and its accepted messages are those of its tasks, and of calls
   pub made : List chain.Entry
   pub lists : v.lists ≡ made ∷ []
-  pub are_made : AreMadeNow es c done todo made
+  pub are_made : AreMadeNow es c done todo (of_sends made)
+  pub of_calls : AllByRecursion (IsOfCall calls) made
 
-abbrev pub SeatStory : Plan → List Event → List ℕ → List (Option Outcome) → ℕ → List Task → Program → View → Type 0
-SeatStory p es broken outcomes c tasks program v = (done : List Done) × (todo : List Task) × SeatAt p es broken outcomes c tasks done todo program v
+pub record SeatStory (p : Plan) (calls : ℕ → Type 0) (over : Bool) (es : List Event) (broken : List ℕ) (outcomes : List (Option Outcome)) (c : ℕ) (tasks : List Task) (program : Program) (v : View) : Type 0 where
+  pub way : Way
+  pub trace : List Entry
+  pub done : List Done
+  pub todo : List Task
+  pub at : SeatAt p calls over es broken outcomes c tasks way trace done todo program v
 
 -- its outcomes are said
 abbrev pub IsReady : Program → Type 0
 IsReady (Say o outcome more) = ⊥
 IsReady (Sent o more) = ⊥
+IsReady (Keep r more) = ⊥
+IsReady (Retries n more) = ⊥
 IsReady other = Unit {0}
 
 -- a request that a step found claimed, its word isn't 0 since
@@ -116,7 +151,12 @@ StaysUsed p ws e = elim e.call as (λ c. Type 0) [
   | _ ↦ Unit {0}
 ]
 
-pub record Story (p : Plan) (clients : List (List Task)) (c : Core) (views : List View) (es : List Event) (broken : List ℕ) : Type 0 where
+-- no client has a task with this number: it is that of a call, or of what is done with one
+abbrev pub IsSpoken : List (List Task) → ℕ → Type 0
+IsSpoken clients o = (d : ℕ) (t : Task) → Asks clients d t → t.number ≢ o
+
+-- of the tasks of all clients but those on calls; the setup is over or not, and these links failed, or their sockets were closed
+pub record Story (p : Plan) (clients : List (List Task)) (over : Bool) (c : Core) (views : List View) (es : List Event) (broken : List ℕ) : Type 0 where
   -- each operation has its place among the outcomes
   pub sized : length c.outcomes ≡ p.operations
   -- each client is a seat
@@ -128,12 +168,16 @@ pub record Story (p : Plan) (clients : List (List Task)) (c : Core) (views : Lis
   -- the marks that stay are those of the story
   pub births : (j : ℕ) → j < p.slots → (h : ℕ) → count (is_born h) (slot_facts (state c views) j) ≡ marked (is_born h) j es
   pub links : (j : ℕ) → j < p.slots → (h k : ℕ) → count (is_linked h k) (slot_facts (state c views) j) ≡ marked (is_linked h k) j es
-  pub fails : (j : ℕ) → j < p.slots → (h : ℕ) → count (is_failer h) (slot_facts (state c views) j) ≡ marked (is_failer h) j es
+  pub fails : (j : ℕ) → j < p.slots → (h : ℕ) → marked (is_failer h) j es ≤ count (is_failer h) (slot_facts (state c views) j)
+  -- a life that was failed was so by an operation, or its link failed
+  pub lost : (j : ℕ) → j < p.slots → (h : ℕ) → 0 < count (is_failer h) (slot_facts (state c views) j) → WasFailed broken es j h
   pub tries : (j : ℕ) → j < p.slots → count is_tried (slot_facts (state c views) j) ≡ marked is_tried j es
   -- the words of names are those of the story
   pub named : (n : ℕ) → n < p.names → slice_index c.words (name_word p n) ≡ last_name n es
   -- and requests that were found claimed were used
   pub used : (e : Event) → In e es → StaysUsed p c.words e.entry
+  -- the calls at home are none of these tasks
+  pub spoken : (i : ℕ) (asked : Asked) → call_at (get_elem? c.calls.homes i) ≡ core.some asked → IsSpoken clients asked.operation
   -- each client did its tasks so far
   pub seats : (i : ℕ) (tasks : List Task) (seat : SeatState) (v : View) → slice_get clients i ≡ Some tasks → get_elem? c.seats i ≡ core.some seat → get_elem? views i ≡ core.some v
-      → SeatStory p es broken c.outcomes i tasks seat.program v
+      → SeatStory p (IsSpoken clients) over es broken c.outcomes i tasks seat.program v

@@ -19,7 +19,7 @@ use Rattle.sock_programs.specs.Scripts.{took_at_home}
 
 -- ## Tasks that a table may be asked for
 
--- the numbers of a task are those of the table, a message has from 1 to 65,536 bytes, and a code isn't 0
+-- the numbers of a task are those of the table, a message has from 1 to 65,536 bytes, and a code is from 1 to 4,095
 pub record AskedFits (p : Plan) (asked : Asked) : Type 0 where
   pub operation : asked.operation < p.operations
   pub names : (n : ℕ) → name_of asked n < p.names
@@ -36,7 +36,7 @@ OpFits p (ops.Expire t) = t < p.operations
 OpFits p (ops.Join t) = t < p.operations
 OpFits p (ops.Hold n) = n < p.names
 OpFits p (ops.Drop n) = n < p.names
-OpFits p (ops.Fail n c) = (n < p.names) × (c ≢ 0)
+OpFits p (ops.Fail n c) = (n < p.names) × (c ≢ 0) × (c < 4096)
 
 abbrev pub TaskFits : Plan → Task → Type 0
 TaskFits p t = (t.number < p.operations) × OpFits p t.op

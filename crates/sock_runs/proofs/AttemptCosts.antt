@@ -17,7 +17,7 @@ use Rattle.sock_programs.specs.Sends.{write_link, accept}
 use Rattle.sock_programs.specs.Attempts.{claims_from, name_of, frame_of, heading_for, attempt, tried_again, retry_locked, retry}
 use Rattle.sock_programs.specs.Told.{AskedFits}
 use Rattle.sock_runs.specs.Rows.{row, link_away}
-use Rattle.sock_runs.specs.Lasts.{LastsFor, STALE, CHANGE, ERROR, POST, weight, attempt_cost, unlocking_gain}
+use Rattle.sock_runs.specs.Lasts.{LastsFor, STALE, CHANGE, ERROR, POST, ACCEPT, weight, attempt_cost, unlocking_gain}
 use Rattle.sock_runs.proofs.IdCosts.{lasts_more, post_lasts, decide_lasts}
 use Rattle.sock_runs.proofs.Costs.{Lasting, lasting_more, either_lasts, does, takes_first}
 
@@ -69,23 +69,23 @@ module _ (p : Plan) where
     λ link hand f. (6 + m, omega arith, λ places. takes_first p after m k (record { id = id; link = link; last = own; places = places }) own q (link_away (row p (FindLink (socket_id_slot id) (socket_id_version id)) link hand v))),
   )
 
-  pub accept_lasts : (id q g : ℕ) (heading : Heading) (bytes : List ℕ) (after : Program) (m : ℕ) → Lasting p after m → Lasting p (accept id q g heading bytes after) (weight (length bytes) + 13 + m)
+  pub accept_lasts : (id q g : ℕ) (heading : Heading) (bytes : List ℕ) (after : Program) (m : ℕ) → Lasting p after m → Lasting p (accept id q g heading bytes after) (weight (length bytes) + (13 + ACCEPT) + m)
   accept_lasts id q g heading bytes after m k = let own : ℕ = ticket_of q g in
       let swapped : ℕ → Program = λ found. cond (nat_lt found IDLE) (Do (Connect q found) (λ _. after)) (write_link id q own after) in
-      does p (PutMessage q heading bytes) (λ _. Do (Unconnect q) (λ _. Do (SwapHead (socket_id_slot id) own) swapped)) (12 + m) (weight (length bytes) + 13 + m) (omega arith)
-      (λ a. does p (Unconnect q) (λ _. Do (SwapHead (socket_id_slot id) own) swapped) (11 + m) (12 + m) (omega arith)
-      (λ b. does p (SwapHead (socket_id_slot id) own) swapped (8 + m) (11 + m) (omega arith)
+      does p (PutMessage q heading bytes) (λ _. Do (Unconnect q) (λ _. Do (SwapHead (socket_id_slot id) own) swapped)) (12 + ACCEPT + m) (weight (length bytes) + (13 + ACCEPT) + m) (omega arith)
+      (λ a. does p (Unconnect q) (λ _. Do (SwapHead (socket_id_slot id) own) swapped) (11 + ACCEPT + m) (12 + ACCEPT + m) (omega arith)
+      (λ b. does p (SwapHead (socket_id_slot id) own) swapped (8 + m) (11 + ACCEPT + m) (omega arith)
       (λ found. either_lasts p (Do (Connect q found) (λ _. after)) (write_link id q own after) (8 + m) (nat_lt found IDLE) (does p (Connect q found) (λ _. after) m (8 + m) (omega arith) (λ c. k)) (write_lasts id q own after m k))))
 
   -- the first free request is claimed, whether or not there is one
   pub claims_lasts : (heading : Heading) (bytes : List ℕ) (full accepted : Program) (m : ℕ) → Lasting p full m → Lasting p accepted m → (left q id : ℕ)
-      → Lasting p (claims_from left q id heading bytes full accepted) (left + (weight (length bytes) + 13 + m))
-  claims_lasts heading bytes full accepted m f a zero q id v = lasting_more p full m (0 + (weight (length bytes) + 13 + m)) (omega arith) f v
-  claims_lasts heading bytes full accepted m f a (suc left) q id v = let n : ℕ = left + (weight (length bytes) + 13 + m) in (
-    left + (weight (length bytes) + 13 + m),
+      → Lasting p (claims_from left q id heading bytes full accepted) (left + (weight (length bytes) + (13 + ACCEPT) + m))
+  claims_lasts heading bytes full accepted m f a zero q id v = lasting_more p full m (0 + (weight (length bytes) + (13 + ACCEPT) + m)) (omega arith) f v
+  claims_lasts heading bytes full accepted m f a (suc left) q id v = let n : ℕ = left + (weight (length bytes) + (13 + ACCEPT) + m) in (
+    left + (weight (length bytes) + (13 + ACCEPT) + m),
     omega arith,
     λ found hand g. either_lasts p (accept id q (found / 2) heading bytes accepted) (claims_from left (q + 1) id heading bytes full accepted) n (found % 2 == 0)
-        (lasting_more p (accept id q (found / 2) heading bytes accepted) (weight (length bytes) + 13 + m) n (omega arith) (accept_lasts id q (found / 2) heading bytes accepted m a))
+        (lasting_more p (accept id q (found / 2) heading bytes accepted) (weight (length bytes) + (13 + ACCEPT) + m) n (omega arith) (accept_lasts id q (found / 2) heading bytes accepted m a))
         (claims_lasts heading bytes full accepted m f a left (q + 1) id) (row p (ClaimRequest id q) found hand v),
   )
 
@@ -105,39 +105,39 @@ module _ (p : Plan) where
     refused_lasts : (code : ℕ) → Lasting p (post id code n (release (socket_id_slot socket) (λ _. next))) (POST + (7 + m))
     refused_lasts code v = post_lasts p v id code n (release (socket_id_slot socket) (λ _. next)) (7 + m) (POST + (7 + m)) (lets_go_lasts v) (omega arith)
 
-    looked_lasts : (found : ℕ) → Lasting p (cond (vref_version found % 2 == 0) (claims_from requests 0 socket heading bytes (refused 3001) lets_go) (refused 1009)) (requests + (weight 131072 + 13 + (POST + (7 + m))))
-    looked_lasts found = either_lasts p (claims_from requests 0 socket heading bytes (refused 3001) lets_go) (refused 1009) (requests + (weight 131072 + 13 + (POST + (7 + m)))) (vref_version found % 2 == 0)
-        (lasting_more p (claims_from requests 0 socket heading bytes (refused 3001) lets_go) (requests + (weight (length bytes) + 13 + (POST + (7 + m)))) (requests + (weight 131072 + 13 + (POST + (7 + m)))) (omega (arith, short))
+    looked_lasts : (found : ℕ) → Lasting p (cond (vref_version found % 2 == 0) (claims_from requests 0 socket heading bytes (refused 3001) lets_go) (refused 1009)) (requests + (weight 131072 + (13 + ACCEPT) + (POST + (7 + m))))
+    looked_lasts found = either_lasts p (claims_from requests 0 socket heading bytes (refused 3001) lets_go) (refused 1009) (requests + (weight 131072 + (13 + ACCEPT) + (POST + (7 + m)))) (vref_version found % 2 == 0)
+        (lasting_more p (claims_from requests 0 socket heading bytes (refused 3001) lets_go) (requests + (weight (length bytes) + (13 + ACCEPT) + (POST + (7 + m)))) (requests + (weight 131072 + (13 + ACCEPT) + (POST + (7 + m)))) (omega (arith, short))
         (claims_lasts heading bytes (refused 3001) lets_go (POST + (7 + m)) (refused_lasts 3001) (lasting_more p lets_go (7 + m) (POST + (7 + m)) (omega arith) lets_go_lasts) requests 0 socket))
-        (lasting_more p (refused 1009) (POST + (7 + m)) (requests + (weight 131072 + 13 + (POST + (7 + m)))) (omega arith) (refused_lasts 1009))
+        (lasting_more p (refused 1009) (POST + (7 + m)) (requests + (weight 131072 + (13 + ACCEPT) + (POST + (7 + m)))) (omega arith) (refused_lasts 1009))
 
     held_lasts : Lasting p (Do (FindLink (socket_id_slot socket) (socket_id_version socket)) (λ k. Aside (StoreAt o (at_word first slot k n)) (λ _. Do (LookWord socket) (λ found.
         cond (vref_version found % 2 == 0) (claims_from requests 0 socket heading bytes (refused 3001) lets_go) (refused 1009)))))
-        (requests + (weight 131072 + (POST + (CHANGE + (22 + m)))))
+        (requests + (weight 131072 + (POST + (CHANGE + (22 + ACCEPT + m)))))
     held_lasts = let looks : Program = Do (LookWord socket) (λ found. cond (vref_version found % 2 == 0) (claims_from requests 0 socket heading bytes (refused 3001) lets_go) (refused 1009)) in
-        does p (FindLink (socket_id_slot socket) (socket_id_version socket)) (λ k. Aside (StoreAt o (at_word first slot k n)) (λ _. looks)) (requests + (weight 131072 + (POST + (CHANGE + (21 + m))))) (requests + (weight 131072 + (POST + (CHANGE + (22 + m))))) (omega arith)
+        does p (FindLink (socket_id_slot socket) (socket_id_version socket)) (λ k. Aside (StoreAt o (at_word first slot k n)) (λ _. looks)) (requests + (weight 131072 + (POST + (CHANGE + (21 + ACCEPT + m))))) (requests + (weight 131072 + (POST + (CHANGE + (22 + ACCEPT + m))))) (omega arith)
         (λ k u _ _. (
-          requests + (weight 131072 + (POST + (21 + m))),
+          requests + (weight 131072 + (POST + (21 + ACCEPT + m))),
           omega arith,
-          does p (LookWord socket) (λ found. cond (vref_version found % 2 == 0) (claims_from requests 0 socket heading bytes (refused 3001) lets_go) (refused 1009)) (requests + (weight 131072 + 13 + (POST + (7 + m)))) (requests + (weight 131072 + (POST + (21 + m)))) (omega arith)
+          does p (LookWord socket) (λ found. cond (vref_version found % 2 == 0) (claims_from requests 0 socket heading bytes (refused 3001) lets_go) (refused 1009)) (requests + (weight 131072 + (13 + ACCEPT) + (POST + (7 + m)))) (requests + (weight 131072 + (POST + (21 + ACCEPT + m)))) (omega arith)
               looked_lasts u,
         ))
 
     over_lasts : Lasting p (address socket (Do (FindLink (socket_id_slot socket) (socket_id_version socket)) (λ k. Aside (StoreAt o (at_word first slot k n)) (λ _. Do (LookWord socket) (λ found.
-        cond (vref_version found % 2 == 0) (claims_from requests 0 socket heading bytes (refused 3001) lets_go) (refused 1009))))) (λ _. post id 1009 n next)) (requests + weight 131072 + POST + CHANGE + 23 + m)
+        cond (vref_version found % 2 == 0) (claims_from requests 0 socket heading bytes (refused 3001) lets_go) (refused 1009))))) (λ _. post id 1009 n next)) (requests + weight 131072 + POST + CHANGE + 23 + ACCEPT + m)
     over_lasts = let held : Program = Do (FindLink (socket_id_slot socket) (socket_id_version socket)) (λ k. Aside (StoreAt o (at_word first slot k n)) (λ _. Do (LookWord socket) (λ found.
         cond (vref_version found % 2 == 0) (claims_from requests 0 socket heading bytes (refused 3001) lets_go) (refused 1009)))) in
-        lasting_more p (address socket held (λ _. post id 1009 n next)) (1 + (requests + (weight 131072 + (POST + (CHANGE + (22 + m)))))) (requests + weight 131072 + POST + CHANGE + 23 + m) (omega arith)
-        (address_lasts socket held (λ _. post id 1009 n next) (requests + (weight 131072 + (POST + (CHANGE + (22 + m))))) (POST + m) (omega arith) held_lasts (λ found v. post_lasts p v id 1009 n next m (POST + m) (l v) (omega arith)))
+        lasting_more p (address socket held (λ _. post id 1009 n next)) (1 + (requests + (weight 131072 + (POST + (CHANGE + (22 + ACCEPT + m)))))) (requests + weight 131072 + POST + CHANGE + 23 + ACCEPT + m) (omega arith)
+        (address_lasts socket held (λ _. post id 1009 n next) (requests + (weight 131072 + (POST + (CHANGE + (22 + ACCEPT + m))))) (POST + m) (omega arith) held_lasts (λ found v. post_lasts p v id 1009 n next m (POST + m) (l v) (omega arith)))
 
-  pub attempt_lasts : (asked : Asked) (id n socket : ℕ) (next : Program) (m : ℕ) → length (frame_of asked id n) ≤ 131072 → Lasting p next m → Lasting p (attempt p.requests asked id n socket next) (p.requests + weight 131072 + POST + CHANGE + 23 + m)
+  pub attempt_lasts : (asked : Asked) (id n socket : ℕ) (next : Program) (m : ℕ) → length (frame_of asked id n) ≤ 131072 → Lasting p next m → Lasting p (attempt p.requests asked id n socket next) (p.requests + weight 131072 + POST + CHANGE + 23 + ACCEPT + m)
   attempt_lasts asked id n socket next m short l = over_lasts p.requests asked.operation (id_first id) (id_slot id) id n socket (heading_for asked id n) (frame_of asked id n) short next m l
 
   -- ## A retry
 
   module _ (id n : ℕ) (next : Program) (m : ℕ) (l : Lasting p next m) where
     abbrev its_cost : ℕ
-    its_cost = p.requests + weight 131072 + POST + CHANGE + 23 + m
+    its_cost = p.requests + weight 131072 + POST + CHANGE + 23 + ACCEPT + m
 
     next_lasts : (v : View) (exit : Deciding) → LastsFor p v (decided id next exit) (m + 0)
     next_lasts v (HasEnded o code) = lasts_more p v next m (m + 0) (omega arith) (l v)

@@ -37,7 +37,7 @@ use Rattle.sock_runs.proofs.Bounds.{law, lives_le}
 use Rattle.sock_runs.proofs.Notes.{bears, births_only, failers_stay}
 use Rattle.sock_runs.proofs.Records.{stores, next_stores, Records, opens_same}
 use Rattle.sock_runs.proofs.Recorded.{Recorded, nothing, plain_next}
-use Rattle.sock_runs.proofs.Through.{Passes, Follows, records_passes, records_follow, comes_follows}
+use Rattle.sock_runs.proofs.Through.{Passes, PassesOpens, Follows, records_passes, records_opens, records_follow, comes_follows}
 use Rattle.sock_runs.proofs.ThroughSends.{through_end}
 use Rattle.sock_runs.proofs.ThroughCalls.{through_first, through_next}
 use Rattle.sock_runs.proofs.Cases.{ComesNext, with_rights, tick_keeps_marks}
@@ -76,7 +76,7 @@ fails_on o w call next f = f
 
 fails_passes : (o w : ℕ) → Passes (Fails o w)
 fails_passes o w = record {
-  step = λ call next s b f. fails_on o w call next f;
+  step = λ call next s b l f. fails_on o w call next f;
   say = λ n outcome next f. f;
   sent = λ n next f. f;
   message = λ q next f. f;
@@ -86,10 +86,13 @@ fails_passes o w = record {
   ask = λ k next f. f;
   write = λ writing after f. f;
   aside = λ step next f. f;
-  round = λ head next f. f;
+  round = λ head l next f. f;
   keep = λ r next f. f;
   retries = λ requests after f. f;
 }
+
+fails_opens : (o w : ℕ) → PassesOpens (Fails o w)
+fails_opens o w = record { load = λ n next f found e. f found; wait = λ n next f. f }
 
 fails_follow : (o w : ℕ) → Follows (Fails o w)
 fails_follow o w = record {
@@ -111,7 +114,7 @@ next_fails : (o w : ℕ) (ws : List Retry) (program : Program) → Fails o w pro
 next_fails o w ws program f = through_next (Fails o w) (fails_passes o w) (fails_follow o w) ws program f
 
 first_fails : (o w : ℕ) (program : Program) → Fails o w program → Fails o w (first_step program)
-first_fails o w program f = through_first (Fails o w) (fails_passes o w) (fails_follow o w) program f
+first_fails o w program f = through_first (Fails o w) (fails_passes o w) (fails_opens o w) (fails_follow o w) program f
 
 -- whoever finds another version than that of the life leaves it, and else holds it
 fails_held : (o w id : ℕ) (held gone : Program) → id + 1 ≡ w → Fails o w held → (found : ℕ)
@@ -131,7 +134,7 @@ fails_ended o w some_ socket next word is = let id : ℕ = word - 1 in let held 
 fails_ending : (o w : ℕ) → 0 < w → w ≢ NO_SOCKET → (os : List ℕ) (n : ℕ) → get_elem? os n ≡ some o → Fails o w (ending_of os)
 fails_ending o w some_ socket [] n at = absurd (some-ne-none o (sym at))
 fails_ending o w some_ socket (m ∷ os) zero at = λ word is. fails_ended o w some_ socket (ending_of os) word (is (some-injective m o at))
-fails_ending o w some_ socket (m ∷ os) (suc n) at = through_end (Fails o w) (fails_passes o w) m (ending_of os) (fails_ending o w some_ socket os n at)
+fails_ending o w some_ socket (m ∷ os) (suc n) at = through_end (Fails o w) (fails_passes o w) (fails_opens o w) m (ending_of os) (fails_ending o w some_ socket os n at)
 
 stores_nothing : (program : Program) → Records nothing program → next_stores program ≡ none
 stores_nothing (Do (StoreOpen o w) next) r = absurd (true≢false (sym r.0))
@@ -182,7 +185,7 @@ module _ (p : Plan) (n : ℕ) (c : Core) (vs : List View) (i : ℕ) (sound : Sou
   seat' = record { program = next_step (resolved (waiting_at c.calls.waiting i) (next (found_at c.words (word_of p call)))); hand = hand_after p call c.homes seat.hand }
 
   mine : Records nothing (Do call next)
-  mine = subst (Records nothing) is (through_first (Records nothing) (records_passes nothing) (records_follow nothing) seat.program (r.quiet i seat at_seat))
+  mine = subst (Records nothing) is (through_first (Records nothing) (records_passes nothing) (records_opens nothing) (records_follow nothing) seat.program (r.quiet i seat at_seat))
 
   still : (stores call ≡ none) × (bears call ≡ none)
   still = is_still call next mine
@@ -271,7 +274,7 @@ module _ (p : Plan) (n : ℕ) (c : Core) (vs : List View) (i : ℕ) (r : Closing
   pub closing_still : Closing p n (with_seat i program hand c.words hs (record c { calls = a })) (set vs i (with_rights v rights))
   closing_still = record {
     quiet = λ j s at. ⊎_elim (λ y. subst (λ (x : SeatState). Records nothing x.program) y.1 (through_next (Records nothing) (records_passes nothing) (records_follow nothing) (waiting_at a.waiting i) program (comes_follows (Records nothing) (records_follow nothing) p (first_step seat.program) program comes
-        (through_first (Records nothing) (records_passes nothing) (records_follow nothing) seat.program (r.quiet i seat at_seat))))) (λ y. r.quiet j s y.1) (at_set c.seats i j still_seat s at);
+        (through_first (Records nothing) (records_passes nothing) (records_opens nothing) (records_follow nothing) seat.program (r.quiet i seat at_seat))))) (λ y. r.quiet j s y.1) (at_set c.seats i j still_seat s at);
     failing = λ j h inside born. ⊎_elim (λ y. inl (omega (arith, y, still_moved (is_failer h) j))) (λ x. inr (still_fails j h x)) (r.failing j h inside (omega (arith, born, still_moved (is_born h) j)));
   }
 
@@ -293,7 +296,7 @@ closed_failed p n c vs r rests i h inside born = ⊎_elim (λ failed. failed) (�
 
 pub records_ending : (os : List ℕ) → Records nothing (ending_of os)
 records_ending [] = tt
-records_ending (o ∷ os) = through_end (Records nothing) (records_passes nothing) o (ending_of os) (records_ending os)
+records_ending (o ∷ os) = through_end (Records nothing) (records_passes nothing) (records_opens nothing) o (ending_of os) (records_ending os)
 
 -- a core in which no seat makes a life or stores in the word of an operation any more, also one that waits, and in which each life stands in the word of
 -- one of the operations of the ending

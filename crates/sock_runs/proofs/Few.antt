@@ -22,7 +22,7 @@ use Rattle.sock_model.specs.ChainRows.{with_hand, spent_hand, entry_of, more, qu
 use Rattle.sock_model.specs.Lawful.{Lawful}
 use Rattle.sock_model.specs.Rule.{MOST_ACCEPTED, AreShort, lists_of}
 use Rattle.sock_words.specs.Words.{socket_id_version, socket_id_slot}
-use Rattle.slot_laws.proofs.Sums.{total_bound}
+use Rattle.slot_laws.proofs.Sums.{term_le, total_bound}
 use Rattle.chain_laws.proofs.Frames.{in_size}
 use Rattle.chain_laws.proofs.Heads.{held_of}
 use Rattle.chain_laws.proofs.Lists.{nth_some}
@@ -37,6 +37,7 @@ use Rattle.sock_programs.specs.Ticks.{Moment, IsAnswered}
 use Rattle.sock_runs.specs.Rows.{row, hand_at, is_id, by_claim, exchanged}
 use Rattle.sock_runs.specs.May.{May}
 use Rattle.sock_runs.specs.Sound.{Sound, AreFew, MOST_PLACES, views_after, IsFitting}
+use Rattle.sock_runs.specs.Lasts.{Lasts, MOST_PAID}
 use Rattle.sock_runs.proofs.Leaves.{sending_same, is_exchange, own_lists}
 use Rattle.sock_runs.proofs.Rounds.{begins_round}
 use Rattle.sock_runs.proofs.Passes.{goes_round}
@@ -103,6 +104,14 @@ few_ticks p c vs m sound answered fitting shorter few = tick_keeps_marks p c vs 
     (λ seat v call next at_seat at_view is goes. few_set vs m.seat (row p call (found_at c.words (word_of p call)) (hand_at p c.words c.homes call) v) few
     (few_row p v call (found_at c.words (word_of p call)) (hand_at p c.words c.homes call) goes.0 (shorter m.seat v at_view) (few.short m.seat v at_view)))
     (λ seat v program rights hand hs a at_seat at_view comes. few_set vs m.seat (record v { rights = rights }) few (few.short m.seat v at_view))
+
+-- where so few ticks are left, each seat may accept one message more
+pub lasts_shorter : (p : Plan) (c : Core) (vs : List View) (n : ℕ) → Lasts p c vs n → n < MOST_PAID → (i : ℕ) (v : View) → get_elem? vs i ≡ some v → IsShorter v
+lasts_shorter p c vs n lasts small i v at made taken_in lists = let paid = lasts.sum in
+    omega (arith, paid, small, term_le (λ (u : View). total (λ (l : List Entry). length l) u.lists) vs i v at, ap (total (λ (l : List Entry). length l)) lists)
+
+pub few_lasts : (p : Plan) (c : Core) (vs : List View) (m : Moment) (n : ℕ) → Sound p c vs → IsAnswered c m → IsFitting p c m → Lasts p c vs n → n < MOST_PAID → AreFew vs → AreFew (views_after p c vs m)
+few_lasts p c vs m n sound answered fitting lasts small few = few_ticks p c vs m sound answered fitting (lasts_shorter p c vs n lasts small) few
 
 -- ## Numbers that fit their words
 

@@ -49,7 +49,7 @@ module _ (p : Plan) (v : View) where
   -- ## Posting
 
   -- by a word that is there
-  judged_lasts : (id e found : ℕ) (k : Posting → Program) (m n : ℕ) → Leave FitsPosting k m → CHANGE + ERROR + m + 1 ≤ n
+  pub judged_lasts : (id e found : ℕ) (k : Posting → Program) (m n : ℕ) → Leave FitsPosting k m → CHANGE + ERROR + m + 1 ≤ n
       → (x : ℕ) × (x + 1 ≤ n + fresh (Some (id_slot id, found)) (judged id e found k)) × LastsFor p v (judged id e found k) x
   judged_lasts id e found k m n leave room = by_word (not (is_first (id_first id) (parts found))) (is_stale e (parts found)) (is_full (parts found))
     where
@@ -159,7 +159,7 @@ module _ (p : Plan) (v : View) where
 
   -- ## A post
 
-  posted_lasts : (id e : ℕ) (next : Program) (m : ℕ) → LastsFor p v next m → Leave FitsPosting (posted id e next) (ERROR + m)
+  pub posted_lasts : (id e : ℕ) (next : Program) (m : ℕ) → LastsFor p v next m → Leave FitsPosting (posted id e next) (ERROR + m)
   posted_lasts id e next m l (HasLocked word) f = decide_lasts id word e (decided id next) m (ERROR + m + 0) decided_last (omega arith)
     where
       decided_last : (exit : Deciding) → LastsFor p v (decided id next exit) (m + 0)

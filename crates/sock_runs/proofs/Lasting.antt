@@ -1,5 +1,5 @@
 -- Each step of a seat on the sockets leaves fewer; and so does one aside, where what it costs is less than what was counted for it.
-use Rattle.std.proofs.Common.{◌≡◌, ◌≢◌, ℕ, zero, suc, ◌+◌, ◌-◌, ◌*◌, ◌<◌, ◌≤◌, ◌⊎◌, Bool, true, false, List, [], ◌∷◌, ◌++◌, length, length-set, set, refl, sym, ap, ap₂, ◌∙◌, subst, inl, inr, ⊎_elim, arith, cond, eqb, lt-ltb, le-ltb, eq-eqb, lt_of_not-le}
+use Rattle.std.proofs.Common.{◌≡◌, ◌≢◌, ℕ, zero, suc, ◌+◌, ◌-◌, ◌*◌, ◌<◌, ◌≤◌, ◌⊎◌, Bool, true, false, List, [], ◌∷◌, ◌++◌, length, length-append, length-set, set, refl, sym, ap, ap₂, ◌∙◌, subst, inl, inr, ⊎_elim, arith, cond, eqb, lt-ltb, le-ltb, eq-eqb, lt_of_not-le}
 use Rattle.std.proofs.lemmas.Bool.{true≢false}
 use Rattle.std.proofs.lemmas.Option.{none-some}
 use Rattle.std.specs.Prelude as std
@@ -49,7 +49,7 @@ use Rattle.sock_runs.specs.Rows.{row, hand_at, as_hand, by_claim, exchanged, too
 use Rattle.sock_runs.specs.May.{May, Finds}
 use Rattle.sock_runs.specs.GoesOn.{GoesOn}
 use Rattle.sock_runs.specs.Sound.{state, Sound, views_with_message, views_with_link, views_with, views_of}
-use Rattle.sock_runs.specs.Lasts.{STALE, CHANGE, home_weight, accepted, walk_left, expects, arriving, stale_cost, fresh, id_left, ids_left, LastsFor, Lasts}
+use Rattle.sock_runs.specs.Lasts.{STALE, CHANGE, home_weight, accepted, walk_left, ACCEPT, entries, walks_left, expects, arriving, stale_cost, fresh, id_left, ids_left, LastsFor, Lasts}
 use Rattle.sock_runs.proofs.Founds.{finds}
 use Rattle.sock_runs.proofs.ChainTicks.{held_link_is, has_one}
 use Rattle.sock_runs.proofs.Leaves.{is_exchange}
@@ -129,9 +129,9 @@ loud_sum y q b' m b S' S H W W' k I I' settles stale walk less = omega (arith, s
 
 -- ## A seat moves
 
--- what is left of all walks
+-- what is left of all walks, with what was paid for accepted messages
 abbrev pub walks : List View → ℕ
-walks vs = total (λ (v : View). total (walk_left (accepted vs)) v.rights) vs
+walks vs = walks_left vs
 
 abbrev same : ℕ → ℕ
 same k = k
@@ -141,9 +141,16 @@ accepted_stays : (vs : List View) (i : ℕ) (v w : View) → get_elem? vs i ≡ 
 accepted_stays vs i v w at lists k = let f : View → ℕ = λ u. total (λ (l : List Entry). length (on k l)) u.lists in
     omega (arith, total-set f vs i v w at, ap (total (λ (l : List Entry). length (on k l))) lists)
 
-walks_with : (vs : List View) (i : ℕ) (v w : View) → get_elem? vs i ≡ some v → w.lists ≡ v.lists → walks (set vs i w) + total (walk_left (accepted vs)) v.rights ≡ walks vs + total (walk_left (accepted vs)) w.rights
-walks_with vs i v w at lists = subst (λ (c : ℕ → ℕ). total (λ (u : View). total (walk_left c) u.rights) (set vs i w) + total (walk_left (accepted vs)) v.rights ≡ walks vs + total (walk_left (accepted vs)) w.rights)
+entries_stay : (vs : List View) (i : ℕ) (v w : View) → get_elem? vs i ≡ some v → w.lists ≡ v.lists → entries (set vs i w) ≡ entries vs
+entries_stay vs i v w at lists = omega (arith, total-set (λ (u : View). total (λ (l : List Entry). length l) u.lists) vs i v w at, ap (total (λ (l : List Entry). length l)) lists)
+
+rights_with : (vs : List View) (i : ℕ) (v w : View) → get_elem? vs i ≡ some v → w.lists ≡ v.lists
+    → total (λ (u : View). total (walk_left (accepted (set vs i w))) u.rights) (set vs i w) + total (walk_left (accepted vs)) v.rights ≡ total (λ (u : View). total (walk_left (accepted vs)) u.rights) vs + total (walk_left (accepted vs)) w.rights
+rights_with vs i v w at lists = subst (λ (c : ℕ → ℕ). total (λ (u : View). total (walk_left c) u.rights) (set vs i w) + total (walk_left (accepted vs)) v.rights ≡ total (λ (u : View). total (walk_left (accepted vs)) u.rights) vs + total (walk_left (accepted vs)) w.rights)
     (sym (λ j k. accepted_stays vs i v w at lists k j)) (total-set (λ (u : View). total (walk_left (accepted vs)) u.rights) vs i v w at)
+
+walks_with : (vs : List View) (i : ℕ) (v w : View) → get_elem? vs i ≡ some v → w.lists ≡ v.lists → walks (set vs i w) + total (walk_left (accepted vs)) v.rights ≡ walks vs + total (walk_left (accepted vs)) w.rights
+walks_with vs i v w at lists = omega (arith, rights_with vs i v w at lists, entries_stay vs i v w at lists)
 
 -- fewer are left of the core and the views
 abbrev pub Fewer : Plan → ℕ → Core → List View → Type 0
@@ -275,12 +282,27 @@ module _ (p : Plan) (c : Core) (vs : List View) (n : ℕ) (lasts : Lasts p c vs 
     one_right = let o = sound.lawful in let x = may.1 in
         omega (arith, all_rights x.claim.link vs, few_rights o.chains x.claim.link (link_in (λ home. home) p (state c vs) o i j own v at_view x))
 
-    walks_after : (w : View) (e : Entry) → e.link ≡ may.1.claim.link → w.lists ≡ more v.lists e → total (walk_left (accepted (set vs i w))) w.rights ≡ total (walk_left (accepted (set vs i w))) v.rights
-        → walks (set vs i w) ≤ walks vs + 2
-    walks_after w e is lists rights = let after : ℕ → ℕ = accepted (set vs i w) in
+    -- one message more was accepted
+    entries_after : (w : View) (e : Entry) → w.lists ≡ more v.lists e → entries (set vs i w) ≡ entries vs + 1
+    entries_after w e lists = let x = may.1 in
+        omega (
+          arith,
+          total-set (λ (u : View). total (λ (l : List Entry). length l) u.lists) vs i v w at_view,
+          ap (total (λ (l : List Entry). length l)) (lists ∙ ap (λ (l : List (List Entry)). more l e) x.lists),
+          ap (total (λ (l : List Entry). length l)) x.lists,
+          length-append x.made (e ∷ []),
+        )
+
+    rights_after : (w : View) (e : Entry) → e.link ≡ may.1.claim.link → w.lists ≡ more v.lists e → total (walk_left (accepted (set vs i w))) w.rights ≡ total (walk_left (accepted (set vs i w))) v.rights
+        → total (λ (u : View). total (walk_left (accepted (set vs i w))) u.rights) (set vs i w) ≤ total (λ (u : View). total (walk_left (accepted vs)) u.rights) vs + 2
+    rights_after w e is lists rights = let after : ℕ → ℕ = accepted (set vs i w) in
         omega (arith, total-set (λ (u : View). total (walk_left after) u.rights) vs i v w at_view, rights, all_more (accepted vs) after may.1.claim.link (counts_after e w is lists) vs, one_right)
 
-    busy_after : walks (set vs i (queued v may.1.claim (slice_index c.words (head_word j)))) ≤ walks vs + 2
+    walks_after : (w : View) (e : Entry) → e.link ≡ may.1.claim.link → w.lists ≡ more v.lists e → total (walk_left (accepted (set vs i w))) w.rights ≡ total (walk_left (accepted (set vs i w))) v.rights
+        → walks (set vs i w) ≤ walks vs + (2 + ACCEPT)
+    walks_after w e is lists rights = omega (arith, rights_after w e is lists rights, entries_after w e lists)
+
+    busy_after : walks (set vs i (queued v may.1.claim (slice_index c.words (head_word j)))) ≤ walks vs + (2 + ACCEPT)
     busy_after = let x = may.1 in let n : ℕ = slice_index c.words (head_word j) in walks_after (queued v x.claim n) (entry_of x.claim n) refl refl refl
 
     hand_is : (q : ℕ) (sent : List ℕ) (places : ℕ) → slice_index c.words (link_word j) ≡ q → link_home (λ home. home) p c.homes q ≡ some (sent, places) → hand_at p c.words c.homes (SwapHead j own) ≡ record { link = q; took = sent; next = places }
@@ -293,18 +315,18 @@ module _ (p : Plan) (c : Core) (vs : List View) (n : ℕ) (lasts : Lasts p c vs 
         omega (arith, all, counts_after (entry_of x.claim (n - IDLE)) w refl refl x.claim.link, only-same x.claim.link, accepted_count (λ (u : View). u.lists) vs sound.lawful.log sound.lawful.authors x.claim.link)
 
     idle_after : IDLE ≤ slice_index c.words (head_word j)
-        → walks (set vs i (righted v may.1.claim (slice_index c.words (head_word j)) (hand_at p c.words c.homes (SwapHead j own)).took (hand_at p c.words c.homes (SwapHead j own)).next)) ≤ walks vs + 2
+        → walks (set vs i (righted v may.1.claim (slice_index c.words (head_word j)) (hand_at p c.words c.homes (SwapHead j own)).took (hand_at p c.words c.homes (SwapHead j own)).next)) ≤ walks vs + (2 + ACCEPT)
     idle_after idle = let o = sound.lawful in let x = may.1 in let n : ℕ = slice_index c.words (head_word j) in let a = idle_home (λ home. home) p (state c vs) o i j own v at_view x idle in
         let is : slice_index c.words (link_word j) ≡ x.claim.link = held_link_is p (state c vs) o i v at_view j x.life (x.holds.inside, x.holds.held) x.claim.link x.holds.met in
-        subst (λ (z : Hand). walks (set vs i (righted v x.claim n z.took z.next)) ≤ walks vs + 2) (sym (hand_is x.claim.link a.0 a.1 is a.2))
+        subst (λ (z : Hand). walks (set vs i (righted v x.claim n z.took z.next)) ≤ walks vs + (2 + ACCEPT)) (sym (hand_is x.claim.link a.0 a.1 is a.2))
         (walks_after (righted v x.claim n a.0 a.1) (entry_of x.claim (n - IDLE)) refl refl (omega (arith, none_left a.0 a.1 a.3)))
 
-    swapped : walks (set vs i (row p (SwapHead j own) (slice_index c.words (head_word j)) (hand_at p c.words c.homes (SwapHead j own)) v)) ≤ walks vs + 2
+    swapped : walks (set vs i (row p (SwapHead j own) (slice_index c.words (head_word j)) (hand_at p c.words c.homes (SwapHead j own)) v)) ≤ walks vs + (2 + ACCEPT)
     swapped = let x = may.1 in let n : ℕ = slice_index c.words (head_word j) in let g : Hand = hand_at p c.words c.homes (SwapHead j own) in
-        subst (λ cs. walks (set vs i (by_claim cs (exchanged n g v) v)) ≤ walks vs + 2) (sym x.claims)
+        subst (λ cs. walks (set vs i (by_claim cs (exchanged n g v) v)) ≤ walks vs + (2 + ACCEPT)) (sym x.claims)
         (dite (dec_le IDLE n)
-        (λ idle. subst (λ b. walks (set vs i (cond b (queued v x.claim n) (righted v x.claim n g.took g.next))) ≤ walks vs + 2) (sym (le-ltb n IDLE idle)) (idle_after idle))
-        (λ busy. subst (λ b. walks (set vs i (cond b (queued v x.claim n) (righted v x.claim n g.took g.next))) ≤ walks vs + 2) (sym (lt-ltb n IDLE (lt_of_not-le busy))) busy_after))
+        (λ idle. subst (λ b. walks (set vs i (cond b (queued v x.claim n) (righted v x.claim n g.took g.next))) ≤ walks vs + (2 + ACCEPT)) (sym (le-ltb n IDLE idle)) (idle_after idle))
+        (λ busy. subst (λ b. walks (set vs i (cond b (queued v x.claim n) (righted v x.claim n g.took g.next))) ≤ walks vs + (2 + ACCEPT)) (sym (lt-ltb n IDLE (lt_of_not-le busy))) busy_after))
 
     exchange_steps : (next : ℕ → Program) → GoesOn p v (Do (SwapHead j own) next) → LastsFor p v (Do (SwapHead j own) next) k
         → Fewer p n (stepped p i seat (SwapHead j own) next c) (set vs i (row p (SwapHead j own) (slice_index c.words (head_word j)) (hand_at p c.words c.homes (SwapHead j own)) v))

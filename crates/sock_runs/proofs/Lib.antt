@@ -39,5 +39,14 @@ pub mod Recorded
 pub mod Closing
 pub mod Opening
 pub mod Quiets
+pub mod Bounded
 pub mod Whole
 pub mod Rested
+pub mod Versions
+pub mod ReaderSeats
+pub mod OpensStay
+pub mod LinkNotes
+pub mod LinksRecorded
+pub mod LinksOpening
+pub mod LinksStay
+pub mod WillStore

@@ -1,5 +1,5 @@
 -- The programs of clients store each life in the word of an `open` of their own, so each life of a run is recorded from the beginning on.
-use Rattle.std.proofs.Common.{◌≡◌, ℕ, zero, suc, ◌+◌, ◌<◌, ◌==◌, ◌&&◌, ◌||◌, not, Bool, true, false, eqb-true, eq-eqb, ne_eqb, List, [], ◌∷◌, ◌++◌, map, length, replicate, ◌≤◌, ◌⊎◌, inl, inr, ⊎_elim, refl, sym, ap, ◌∙◌, subst, arith}
+use Rattle.std.proofs.Common.{◌≡◌, ℕ, zero, suc, ◌+◌, ◌<◌, ◌==◌, ◌&&◌, ◌||◌, not, Bool, true, false, eqb-true, eq-eqb, ne_eqb, List, [], ◌∷◌, ◌++◌, map, length, replicate, ◌≤◌, ◌⊎◌, inl, inr, ⊎_elim, refl, sym, ap, ◌∙◌, subst, arith, ◌-◌, ◌*◌, get_or}
 use Rattle.std.proofs.lemmas.Bool.{true≢false}
 use Rattle.std.specs.Prelude as std
 use Rattle.std.specs.Prelude.{None, Some}
@@ -22,7 +22,8 @@ use Rattle.sock_programs.specs.declared.task.Sizes.{Sizes}
 use Rattle.sock_programs.specs.Programs.{Program, Rest, open_from, make_socket, no_socket}
 use Rattle.sock_programs.specs.Clients.{HeldLife, held_under, without_name, give_back, drop_of, operation, client_from}
 use Rattle.sock_programs.specs.Cores.{SeatState, resolved, next_step}
-use Rattle.sock_programs.specs.Scripts.{sizes_of, beginning, programs, readers_from}
+use Rattle.sock_programs.specs.Scripts.{free_slots, opening_words, sizes_of, beginning, programs, readers_from}
+use Rattle.sock_model.specs.Layout.{all_words, open_word}
 use Rattle.corr_core.specs.declared.marks.Plan.{Plan as IdPlan}
 use Rattle.sock_programs.specs.Told.{HaveOwnLinks, Differ, AreTasks}
 use Rattle.sock_runs.proofs.Along.{place_inside}
@@ -30,7 +31,7 @@ use Rattle.sock_runs.proofs.Ends.{none_has}
 use Rattle.sock_programs.specs.Readers.{reader}
 use Rattle.sock_runs.proofs.Records.{but, Records}
 use Rattle.sock_runs.proofs.Recorded.{Recorded, nothing, records_more}
-use Rattle.sock_runs.proofs.Through.{records_passes, records_follow, through_release, through_fail, through_hold, through_drop}
+use Rattle.sock_runs.proofs.Through.{records_passes, records_opens, records_follow, through_release, through_fail, through_hold, through_drop}
 use Rattle.sock_runs.proofs.ThroughSends.{through_send}
 use Rattle.sock_runs.proofs.ThroughCalls.{through_call, through_expire, through_join, through_reader, through_next}
 
@@ -128,7 +129,7 @@ mapped f [] i b at = absurd (some-ne-none b (sym at))
 mapped f (x ∷ xs) zero b at = (x, refl, some-injective (f x) b at)
 mapped f (x ∷ xs) (suc i) b at = mapped f xs i b at
 
-appended : {A : Type 0} (xs ys : List A) (j : ℕ) (a : A) → get_elem? (xs ++ ys) j ≡ some a → (get_elem? xs j ≡ some a) ⊎ ((k : ℕ) × (get_elem? ys k ≡ some a))
+pub appended : {A : Type 0} (xs ys : List A) (j : ℕ) (a : A) → get_elem? (xs ++ ys) j ≡ some a → (get_elem? xs j ≡ some a) ⊎ ((k : ℕ) × (get_elem? ys k ≡ some a))
 appended [] ys j a at = inr (j, at)
 appended (x ∷ xs) ys zero a at = inl at
 appended (x ∷ xs) ys (suc j) a at = appended xs ys j a at
@@ -138,6 +139,24 @@ opener : (ts : List Task) (o : ℕ) (P : Task → Type 0) → AllByRecursion P t
 opener [] o P all there = absurd (true≢false (sym there))
 opener (t ∷ ts) o P all there = or_cases (is_opening t.op && (t.number == o)) (opens_in ts o) ((t : Task) × P t × (t.number ≡ o))
     (λ here. (t, all.0, eqb-true t.number o (second_true (is_opening t.op) (t.number == o) here))) (λ more. opener ts o P all.1 more) there
+
+all_same : (n i x : ℕ) → get_or (replicate n x) i x ≡ x
+all_same zero i x = refl
+all_same (suc n) zero x = refl
+all_same (suc n) (suc i) x = all_same n i x
+
+past_zeros : (n : ℕ) (l : List ℕ) (i : ℕ) → length l ≤ i → get_or (l ++ replicate n 0) i 0 ≡ 0
+past_zeros n [] i high = all_same n i 0
+past_zeros n (x ∷ xs) zero high = absurd (let z : ⊥ = omega (arith, high) in z)
+past_zeros n (x ∷ xs) (suc i) high = past_zeros n xs i (omega (arith, high))
+
+many_slots : (first n : ℕ) → length (free_slots first n) ≡ 6 * n
+many_slots first zero = refl
+many_slots first (suc n) = let m = many_slots first n in omega (arith, m)
+
+-- no word of an operation is stored at the beginning
+unstored : (p : Plan) (o : ℕ) → get_or (opening_words p) (open_word p o) 0 ≡ 0
+unstored p o = past_zeros (all_words p - 6 * p.slots) (free_slots p.first p.slots) (open_word p o) (let m = many_slots p.first p.slots in omega (arith, m))
 
 module _ (p : Plan) (clients : List (List Task)) (are : AreTasks p clients) where
   -- the operations of which client j stores the words
@@ -174,6 +193,7 @@ module _ (p : Plan) (clients : List (List Task)) (are : AreTasks p clients) wher
         (all_at (EachBefore (λ (a b : Task). (a.number < b.number) × HaveOwnLinks a.op b.op)) clients j b.0 are.in_order b.1)))
         (λ other. records_more a.0 nothing (own_opens j) (λ o e. absurd (true≢false (sym e))) (still other.0 a.0 other.1))
         (appended (programs (sizes_of p q) clients) others j a.0 a.1)));
+    once = λ o inside some_ j. absurd (some_ (unstored p o));
     lives = λ i h inside born. let none_ = none_has (is_born h) i vs (λ j v at. ap (λ l. total (is_born h) (about i l)) (blank j v at)) in absurd (omega (arith, born, none_));
   }
 
@@ -184,7 +204,7 @@ module _ (p : Plan) (clients : List (List Task)) (are : AreTasks p clients) wher
 -- neither a reader nor a seat that has nothing to do makes a life
 readers_still : (calls os : List ℕ) (k i : ℕ) (x : Program) → get_elem? (readers_from calls k os) i ≡ some x → Records nothing x
 readers_still calls [] k i x at = absurd (some-ne-none x (sym at))
-readers_still calls (o ∷ os) k zero x at = subst (Records nothing) (some-injective (reader calls k o) x at) (through_reader (Records nothing) (records_passes nothing) tt calls k o)
+readers_still calls (o ∷ os) k zero x at = subst (Records nothing) (some-injective (reader calls k o) x at) (through_reader (Records nothing) (records_passes nothing) (records_opens nothing) tt calls k o)
 readers_still calls (o ∷ os) k (suc i) x at = readers_still calls os (k + 1) i x at
 
 pub others_still : (n : ℕ) (calls os : List ℕ) (k i : ℕ) (x : Program) → get_elem? (replicate n Rest ++ readers_from calls k os) i ≡ some x → Records nothing x

@@ -39,7 +39,7 @@ frames_few bytes = few_up_to (suc (length bytes)) 0 bytes
 -- ## Readings
 
 module _ (p : Plan) (v : View) where
-  answer_lasts : (frame : Frame) (first : ℕ) (next : Program) (m : ℕ) → LastsFor p v next m → LastsFor p v (answer frame first next) (CHANGE + 2 + m)
+  pub answer_lasts : (frame : Frame) (first : ℕ) (next : Program) (m : ℕ) → LastsFor p v next m → LastsFor p v (answer frame first next) (CHANGE + 2 + m)
   answer_lasts frame first next m l = λ asked fits. (
     CHANGE + 1 + m,
     omega arith,

@@ -27,7 +27,7 @@ use Rattle.sock_runs.specs.Sound.{state, Sound, first_step, IsFitting, AreFittin
 use Rattle.sock_runs.proofs.Along.{place_inside}
 use Rattle.sock_runs.proofs.Notes.{bears, births_only, birth_notes}
 use Rattle.sock_runs.proofs.Records.{stores, next_stores, but, Records, next_stored, first_stored, opens_same}
-use Rattle.sock_runs.proofs.Through.{records_passes, records_follow, comes_follows}
+use Rattle.sock_runs.proofs.Through.{records_passes, records_opens, records_follow, comes_follows}
 use Rattle.sock_runs.proofs.ThroughCalls.{through_first, through_next}
 use Rattle.sock_runs.proofs.Cases.{ComesNext, with_rights, tick_keeps_marks}
 use Rattle.sock_runs.proofs.Rounds.{begins_round}
@@ -58,6 +58,8 @@ pub record Recorded (p : Plan) (Q : ℕ → ℕ → Type 0) (c : Core) (vs : Lis
   pub among : (j o : ℕ) → left j o ≡ true → Q j o
   pub apart : (j k o : ℕ) → left j o ≡ true → left k o ≡ true → j ≡ k
   pub records : (j : ℕ) (seat : SeatState) → get_elem? c.seats j ≡ some seat → Records (left j) seat.program
+  -- a word that was stored isn't stored again
+  pub once : (o : ℕ) → o < p.operations → get_or c.words (open_word p o) 0 ≢ 0 → (j : ℕ) → left j o ≡ false
   pub lives : (i h : ℕ) → i < p.slots → 0 < count (is_born h) (slot_facts (state c vs) i) → Stands p Q c left (socket_id h i)
 
 pub either_bool : (b : Bool) → (b ≡ true) ⊎ (b ≡ false)
@@ -130,7 +132,7 @@ module _ (p : Plan) (Q : ℕ → ℕ → Type 0) (c : Core) (vs : List View) (i 
   seat' = record { program = next_step (resolved (waiting_at c.calls.waiting i) (next (found_at c.words (word_of p call)))); hand = hand_after p call c.homes seat.hand }
 
   mine : Records (r.left i) (Do call next)
-  mine = subst (Records (r.left i)) is (through_first (Records (r.left i)) (records_passes (r.left i)) (records_follow (r.left i)) seat.program (r.records i seat at_seat))
+  mine = subst (Records (r.left i)) is (through_first (Records (r.left i)) (records_passes (r.left i)) (records_opens (r.left i)) (records_follow (r.left i)) seat.program (r.records i seat at_seat))
 
   -- the other seats are as they were
   stays : (j : ℕ) (s : SeatState) → j ≢ i → get_elem? c.seats j ≡ some s → get_elem? after.seats j ≡ some s
@@ -159,6 +161,7 @@ module _ (p : Plan) (Q : ℕ → ℕ → Type 0) (c : Core) (vs : List View) (i 
       among = r.among;
       apart = r.apart;
       records = λ j s at. ⊎_elim (λ a. subst (λ (x : SeatState). Records (r.left j) x.program) a.1 (subst (λ k. Records (r.left k) seat'.program) (sym a.0) (through_next (Records (r.left i)) (records_passes (r.left i)) (records_follow (r.left i)) (waiting_at c.calls.waiting i) (next found) goes))) (λ a. r.records j s a.1) (at_set c.seats i j seat' s at);
+      once = λ o inside some_ j. r.once o inside (λ z. some_ (opens_same p c.words v o inside call may none_ ∙ z)) j;
       lives = lives;
     }
 
@@ -231,6 +234,9 @@ module _ (p : Plan) (Q : ℕ → ℕ → Type 0) (c : Core) (vs : List View) (i 
       records = λ j s at. ⊎_elim
           (λ a. subst (λ (y : SeatState). Records (left' j) y.program) a.1 (subst (λ k. Records (left' k) seat'.program) (sym a.0) (subst (λ l. Records l seat'.program) (sym left_here) (through_next (Records (but o (r.left i))) (records_passes (but o (r.left i))) (records_follow (but o (r.left i))) (waiting_at c.calls.waiting i) (next found) (now.1 found)))))
           (λ a. subst (λ l. Records l s.program) (sym (left_else j a.0)) (r.records j s a.1)) (at_set c.seats i j seat' s at);
+      once = λ n inside some_ j. dite (ℕ_discrete n o)
+          (λ e. ap (left' j) e ∙ spent_here j)
+          (λ far. ⊎_elim (λ yes. absurd (true≢false (sym (left_less j n yes) ∙ r.once n inside (λ z. some_ (word_else n far ∙ z)) j))) (λ no_. no_) (either_bool (left' j n)));
       lives = λ j h inside born. settle (socket_id h j) (r.lives j h inside (omega (arith, born, born_after j h, births_only p v found (hand_at p c.words c.homes call) h call (ap bears made) j)));
     }
 
@@ -250,7 +256,7 @@ module _ (p : Plan) (Q : ℕ → ℕ → Type 0) (c : Core) (vs : List View) (i 
 
   still_records : Records (r.left i) program
   still_records = comes_follows (Records (r.left i)) (records_follow (r.left i)) p (first_step seat.program) program comes
-      (through_first (Records (r.left i)) (records_passes (r.left i)) (records_follow (r.left i)) seat.program (r.records i seat at_seat))
+      (through_first (Records (r.left i)) (records_passes (r.left i)) (records_opens (r.left i)) (records_follow (r.left i)) seat.program (r.records i seat at_seat))
 
   still_stands : (id : ℕ) → Stands p Q c r.left id → Stands p Q (with_seat i program hand c.words hs (record c { calls = a })) r.left id
   still_stands id (inl (j, o, q, x)) = inl (j, o, q, record { inside = x.inside; word = x.word; spent = x.spent })
@@ -267,10 +273,11 @@ module _ (p : Plan) (Q : ℕ → ℕ → Type 0) (c : Core) (vs : List View) (i 
     records = λ j s at. ⊎_elim
         (λ x. subst (λ (y : SeatState). Records (r.left j) y.program) x.1 (subst (λ k. Records (r.left k) still_seat.program) (sym x.0) (through_next (Records (r.left i)) (records_passes (r.left i)) (records_follow (r.left i)) (waiting_at a.waiting i) program still_records)))
         (λ x. r.records j s x.1) (at_set c.seats i j still_seat s at);
+    once = λ o inside some_ j. r.once o inside some_ j;
     lives = λ j h inside born. still_stands (socket_id h j) (r.lives j h inside (omega (arith, born, still_born j h)));
   }
 
-recorded_ticks : (p : Plan) (Q : ℕ → ℕ → Type 0) (c : Core) (vs : List View) (m : Moment) → Sound p c vs → IsAnswered c m → IsFitting p c m → Recorded p Q c vs → Recorded p Q (ticked p c m) (views_after p c vs m)
+pub recorded_ticks : (p : Plan) (Q : ℕ → ℕ → Type 0) (c : Core) (vs : List View) (m : Moment) → Sound p c vs → IsAnswered c m → IsFitting p c m → Recorded p Q c vs → Recorded p Q (ticked p c m) (views_after p c vs m)
 recorded_ticks p Q c vs m sound answered fitting r = tick_keeps_marks p c vs m sound answered fitting (begins_round p) (goes_round p) (Recorded p Q) r
     (λ seat v call next at_seat at_view is goes. by_call seat v call next at_seat at_view is goes.0)
     (λ seat v program rights hand hs a at_seat at_view comes. still_recorded p Q c vs m.seat r seat v program rights hand hs a at_seat at_view comes)

@@ -12,7 +12,7 @@ use Rattle.sock_io.specs.declared.link.Put.{Put}
 use Rattle.sock_io.specs.declared.link.Ready.{Ready}
 use Rattle.sock_model.specs.declared.chain.Heading.{Heading}
 use Rattle.sock_programs.specs.Asides.{Found}
-use Rattle.sock_programs.specs.Heads.{Exit, Retry}
+use Rattle.sock_programs.specs.Heads.{Head, Exit, Retry, Opens}
 use Rattle.sock_programs.specs.Programs.{Program, Do, Say, Sent, Rest, TakeMessage, TakeHome, PutHome, PutBytes, AskReady, Write, Aside, Round, Keep, Retries}
 use Rattle.sock_programs.specs.Cores.{word_of, word_after, found_at, words_after, next_step, resolved}
 use Rattle.sock_runs.specs.May.{May}
@@ -28,6 +28,15 @@ stores _ = none
 abbrev pub next_stores : Program → Option (ℕ × ℕ)
 next_stores (Do call next) = stores call
 next_stores _ = none
+
+-- the `open` whose word a step loads, and for which a loop waits
+abbrev pub loads : Call → Option ℕ
+loads (LoadOpen o) = some o
+loads _ = none
+
+abbrev pub awaits : Head → Option ℕ
+awaits (Opens o) = some o
+awaits _ = none
 
 -- the operations of `left` but this one
 abbrev pub but : ℕ → (ℕ → Bool) → ℕ → Bool

@@ -40,6 +40,7 @@ recorded_ending p os Q c vs r rests = record {
       (λ a. subst (λ (x : SeatState). Records (r.left j) x.program) a.1 (through_next (Records (r.left j)) (records_passes (r.left j)) (records_follow (r.left j)) (waiting_at c.calls.waiting 0) (ending_of os)
       (records_more (ending_of os) nothing (r.left j) (λ o e. absurd (true≢false (sym e))) (records_ending os))))
       (λ a. r.records j s a.1) (at_set c.seats 0 j seat s at);
+  once = λ o inside some_ j. r.once o inside some_ j;
   lives = λ i h inside born. stays (socket_id h i) (r.lives i h inside born);
 }
   where
@@ -54,7 +55,7 @@ recorded_ending p os Q c vs r rests = record {
 
 -- the run is ending, which changes nothing of it
 pub recorded_on : (p : Plan) (Q : ℕ → ℕ → Type 0) (c : Core) (vs : List View) → Recorded p Q c vs → Recorded p Q (is_ending c) vs
-recorded_on p Q c vs r = record { left = r.left; among = r.among; apart = r.apart; records = r.records; lives = λ i h inside born. stays (socket_id h i) (r.lives i h inside born) }
+recorded_on p Q c vs r = record { left = r.left; among = r.among; apart = r.apart; records = r.records; once = λ o inside some_ j. r.once o inside some_ j; lives = λ i h inside born. stays (socket_id h i) (r.lives i h inside born) }
   where
     stays : (id : ℕ) → Stands p Q c r.left id → Stands p Q (is_ending c) r.left id
     stays id (inl (j, o, q, x)) = inl (j, o, q, record { inside = x.inside; word = x.word; spent = x.spent })

@@ -475,7 +475,7 @@ module _ (p : Plan) (after : Program) (h : Holder) (now : ℕ) (heading : Headin
 
   puts_round : (v : View) (r : Right) (asked : Bool) → IsHolder p v h r → HasMessage p r now heading left taken → Follows p v after → GoesOn p v (block (Puts h now heading left taken asked) after)
   puts_round v r asked a m follows = let i : ℕ = socket_id_slot h.id in (
-    (a.holds.inside, inr (r, a.one, life_of_link a)),
+    (a.holds.inside, inr (r, a.one, life_of_link a), a.holds.held),
     λ found hand f. let b : Bool = eqb (vref_version found % 2) 0 in let same : even_version found ≡ socket_id_version h.id = f.0 (socket_id_version h.id) a.holds.held in
         by_one p v r (looked_clean i found v) (looked i found v) (cond b (PutBytes h.link asked (take (room_of_part heading.parts taken) left) (put_answered h now heading left taken after)) (dropped h now heading after)) a.one
         (look_branch v r asked a m follows b (vref_version found) (λ e. omega (arith, same, not_equal (vref_version found % 2) 0 (sym e)))),
@@ -484,7 +484,7 @@ module _ (p : Plan) (after : Program) (h : Holder) (now : ℕ) (heading : Headin
   -- the first look comes before the loop
   pub first_goes : taken ≡ 0 → (v : View) (r : Right) → IsHolder p v h r → HasMessage p r now heading left taken → Follows p v after → GoesOn p v (first_put h now heading left after)
   first_goes none_ v r a m follows = let i : ℕ = socket_id_slot h.id in (
-    (a.holds.inside, inr (r, a.one, life_of_link a)),
+    (a.holds.inside, inr (r, a.one, life_of_link a), a.holds.held),
     λ found hand f. let b : Bool = eqb (vref_version found % 2) 0 in
         by_one p v r (looked_clean i found v) (looked i found v) (cond b (PutBytes h.link false (take (room_of_part heading.parts 0) left) (put_answered h now heading left 0 after)) (Write (Puts h now heading left 0 false) after)) a.one
         (first_branch b (vref_version found)),

@@ -9,19 +9,19 @@ use Rattle.sock_io.specs.declared.link.Put.{Put}
 use Rattle.sock_io.specs.declared.link.Ready.{Ready}
 use Rattle.sock_model.specs.declared.chain.Heading.{Heading}
 use Rattle.sock_steps.proofs.Quiet.{either_way}
-use Rattle.sock_programs.specs.Calls.{Call, GiveBirth, StoreOpen, AddRef, SubRef, SetOdd, Recycle, FreeSlot, LoadLink, StoreCode, LoadName, TakeLink, FinishLink, PutLink}
+use Rattle.sock_programs.specs.Calls.{Call, GiveBirth, StoreOpen, AddRef, SubRef, SetOdd, Recycle, FreeSlot, LoadLink, StoreCode, LoadName, LoadOpen, TakeLink, FinishLink, PutLink}
 use Rattle.sock_programs.specs.Writings.{Writing}
 use Rattle.sock_programs.specs.Asides.{Step, Found}
-use Rattle.sock_programs.specs.Heads.{Head, Exit, Retry}
+use Rattle.sock_programs.specs.Heads.{Head, Exit, Retry, Opens}
 use Rattle.sock_programs.specs.Programs.{Program, Do, Say, Sent, Rest, TakeMessage, TakeHome, PutHome, PutBytes, AskReady, Write, Aside, Round, Keep, Retries, LAST_VERSION, recycle, release, address, reach, set_failed, fail, fail_outcome, hold, drop_held}
 use Rattle.sock_programs.specs.Cores.{next_step}
 use Rattle.sock_runs.proofs.Cases.{ComesNext}
 use Rattle.sock_runs.proofs.Notes.{bears}
-use Rattle.sock_runs.proofs.Records.{stores, Records}
+use Rattle.sock_runs.proofs.Records.{stores, loads, awaits, Records}
 
--- a step that makes no life and stores in the word of no operation keeps it, and so do what is said, what stands aside of the sockets, and all that whoever writes a link does
+-- a step that makes no life, and neither stores in the word of an operation nor loads one, keeps it, and so do what is said, what stands aside of the sockets, and all that whoever writes a link does
 pub record Passes (G : Program → Type 0) : Type 0 where
-  pub step : (call : Call) (next : ℕ → Program) → stores call ≡ none → bears call ≡ none → ((found : ℕ) → G (next found)) → G (Do call next)
+  pub step : (call : Call) (next : ℕ → Program) → stores call ≡ none → bears call ≡ none → loads call ≡ none → ((found : ℕ) → G (next found)) → G (Do call next)
   pub say : (o : ℕ) (outcome : Outcome) (next : Program) → G next → G (Say o outcome next)
   pub sent : (o : ℕ) (next : Program) → G next → G (Sent o next)
   pub message : (q : ℕ) (next : Heading → List ℕ → Program) → ((heading : Heading) (bytes : List ℕ) → G (next heading bytes)) → G (TakeMessage q next)
@@ -31,9 +31,14 @@ pub record Passes (G : Program → Type 0) : Type 0 where
   pub ask : (k : ℕ) (next : Ready → Program) → ((answer : Ready) → G (next answer)) → G (AskReady k next)
   pub write : (w : Writing) (after : Program) → G after → G (Write w after)
   pub aside : (step : Step) (next : Found step → Program) → ((found : Found step) → G (next found)) → G (Aside step next)
-  pub round : (head : Head) (next : Exit head → Program) → ((exit : Exit head) → G (next exit)) → G (Round head next)
+  pub round : (head : Head) → awaits head ≡ none → (next : Exit head → Program) → ((exit : Exit head) → G (next exit)) → G (Round head next)
   pub keep : (r : Retry) (next : Program) → G next → G (Keep r next)
   pub retries : (requests : ℕ) (after : Program) → G after → G (Retries requests after)
+
+-- nor does the load of the word of an `open`, or a loop that waits for it, make a difference
+pub record PassesOpens (G : Program → Type 0) : Type 0 where
+  pub load : (o : ℕ) (next : ℕ → Program) → ((found : ℕ) → G (next found)) → G (Do (LoadOpen o) next)
+  pub wait : (o : ℕ) (next : ℕ → Program) → ((exit : ℕ) → G (next exit)) → G (Round (Opens o) next)
 
 -- and what holds before each of them holds behind it
 pub record Follows (G : Program → Type 0) : Type 0 where
@@ -53,7 +58,7 @@ pub record Follows (G : Program → Type 0) : Type 0 where
 -- so does what a program stores, of whatever operations
 pub records_passes : (left : ℕ → Bool) → Passes (Records left)
 records_passes left = record {
-  step = λ call next s b r. plain left call next s b r;
+  step = λ call next s b l r. plain left call next s b r;
   say = λ o outcome next r. r;
   sent = λ o next r. r;
   message = λ q next r. r;
@@ -63,7 +68,7 @@ records_passes left = record {
   ask = λ k next r. r;
   write = λ w after r. r;
   aside = λ step next r. r;
-  round = λ head next r. r;
+  round = λ head l next r. r;
   keep = λ r next x. x;
   retries = λ requests after r. r;
 }
@@ -72,6 +77,9 @@ records_passes left = record {
     plain left (GiveBirth i k) next s b r = absurd (some-ne-none i b)
     plain left (StoreOpen o w) next s b r = absurd (some-ne-none (o, w) s)
     plain left call next s b r = r
+
+pub records_opens : (left : ℕ → Bool) → PassesOpens (Records left)
+records_opens left = record { load = λ o next r. r; wait = λ o next r. r }
 
 pub records_follow : (left : ℕ → Bool) → Follows (Records left)
 records_follow left = record {
@@ -115,23 +123,23 @@ module _ (G : Program → Type 0) (f : Follows G) where
 
 module _ (G : Program → Type 0) (g : Passes G) where
   pub through_recycle : (i from : ℕ) (next : Bool → Program) → ((b : Bool) → G (next b)) → G (recycle i from next)
-  through_recycle i from next after = g.step (Recycle i from) _ refl refl (λ found. either_way (found == from) _ _ G
-      (g.step (LoadLink i (vref_version from + 1)) _ refl refl (λ k. g.step (TakeLink k) _ refl refl (λ _. g.step (FinishLink k) _ refl refl (λ _. g.step (PutLink k) _ refl refl (λ _.
-      either_way (nat_le (vref_version from + 1) LAST_VERSION) _ _ G (g.step (FreeSlot i) _ refl refl (λ _. after true)) (after true))))))
+  through_recycle i from next after = g.step (Recycle i from) _ refl refl refl (λ found. either_way (found == from) _ _ G
+      (g.step (LoadLink i (vref_version from + 1)) _ refl refl refl (λ k. g.step (TakeLink k) _ refl refl refl (λ _. g.step (FinishLink k) _ refl refl refl (λ _. g.step (PutLink k) _ refl refl refl (λ _.
+      either_way (nat_le (vref_version from + 1) LAST_VERSION) _ _ G (g.step (FreeSlot i) _ refl refl refl (λ _. after true)) (after true))))))
       (after false))
 
   pub through_release : (i : ℕ) (next : Bool → Program) → ((b : Bool) → G (next b)) → G (release i next)
-  through_release i next after = g.step (SubRef i) _ refl refl (λ found. either_way ((vref_version found % 2 == 1) && (vref_nref found == 1)) _ _ G (through_recycle i (found - 1) next after) (after false))
+  through_release i next after = g.step (SubRef i) _ refl refl refl (λ found. either_way ((vref_version found % 2 == 1) && (vref_nref found == 1)) _ _ G (through_recycle i (found - 1) next after) (after false))
 
   pub through_address : (id : ℕ) (held : Program) (gone : ℕ → Program) → G held → ((found : ℕ) → G (gone found)) → G (address id held gone)
-  through_address id held gone h after = g.step (AddRef id) _ refl refl (λ found. either_way (vref_version found == socket_id_version id) _ _ G h (through_release (socket_id_slot id) (λ _. gone found) (λ _. after found)))
+  through_address id held gone h after = g.step (AddRef id) _ refl refl refl (λ found. either_way (vref_version found == socket_id_version id) _ _ G h (through_release (socket_id_slot id) (λ _. gone found) (λ _. after found)))
 
   pub through_reach : (name : ℕ) (unopened : Program) (held gone : ℕ → Program) → G unopened → ((id : ℕ) → G (held id)) → ((found : ℕ) → G (gone found)) → G (reach name unopened held gone)
-  through_reach name unopened held gone u h after = g.step (LoadName name) _ refl refl (λ word. either_way (word == 0) _ _ G u (through_address (word - 1) (held (word - 1)) gone (h (word - 1)) after))
+  through_reach name unopened held gone u h after = g.step (LoadName name) _ refl refl refl (λ word. either_way (word == 0) _ _ G u (through_address (word - 1) (held (word - 1)) gone (h (word - 1)) after))
 
   pub through_set_failed : (id code : ℕ) (next : ℕ → Program) → ((found : ℕ) → G (next found)) → G (set_failed id code next)
-  through_set_failed id code next after = g.step (SetOdd (socket_id_slot id)) _ refl refl (λ found. either_way (vref_version found % 2 == 0) _ _ G
-      (g.step (StoreCode (socket_id_slot id) (socket_id_version id) code) _ refl refl (λ _. g.step (SubRef (socket_id_slot id)) _ refl refl (λ _. after found))) (after found))
+  through_set_failed id code next after = g.step (SetOdd (socket_id_slot id)) _ refl refl refl (λ found. either_way (vref_version found % 2 == 0) _ _ G
+      (g.step (StoreCode (socket_id_slot id) (socket_id_version id) code) _ refl refl refl (λ _. g.step (SubRef (socket_id_slot id)) _ refl refl refl (λ _. after found))) (after found))
 
   pub through_fail : (o name code : ℕ) (next : Program) → G next → G (fail o name code next)
   through_fail o name code next after = through_reach name _ _ _ (g.say o _ next after)

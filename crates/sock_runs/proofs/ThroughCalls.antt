@@ -10,15 +10,16 @@ use Rattle.brpc_model.specs.Frame.{Frame}
 use Rattle.sock_programs.specs.declared.task.Asked.{Asked}
 use Rattle.sock_programs.specs.Calls.{LookWord, FindLink, ClaimRequest, LoadName}
 use Rattle.sock_programs.specs.Asides.{ClaimId, PutCall, MakeId, StoreCall, LoadCall, StoreAt, LoadAt, TakeCall, call_id, id_slot, id_first}
-use Rattle.sock_programs.specs.Heads.{First, Unlocks, Locks, Joins, Opens, Reads, Discards, Retry, Posting, WasGone, WasStale, WasCrowded, WasQueued, HasLocked, Unlocking, IsOpen, HasNext, Locking, NotThere, Has, Ended}
+use Rattle.sock_programs.specs.Heads.{Head, Exit, First, Posts, Unlocks, Decides, Locks, Joins, Opens, Reads, Discards, Retry, Posting, WasGone, WasStale, WasCrowded, WasQueued, HasLocked, Unlocking, IsOpen, HasNext, Locking, NotThere, Has, Ended}
 use Rattle.sock_programs.specs.Programs.{Program, Do, Say, Sent, Rest, TakeMessage, TakeHome, PutHome, PutBytes, AskReady, Write, Aside, Round, Keep, Retries, NO_SOCKET, release, address}
 use Rattle.sock_programs.specs.Posts.{WHOLE, post, posted, decided}
 use Rattle.sock_programs.specs.Attempts.{claims_from, name_of, frame_of, heading_for, attempt, begin_call, claim_id, call, tried_again, retry_locked, retry, expire_outcome, expire, join}
 use Rattle.sock_programs.specs.Readers.{LIMIT, kept_for, ends_with, posted_last, post_each, thrown_away, read, reader}
+use Rattle.sock_programs.specs.Rounds.{round}
 use Rattle.sock_programs.specs.Cores.{resolved, next_step}
 use Rattle.sock_runs.specs.Sound.{first_step}
-use Rattle.sock_runs.proofs.Through.{Passes, Follows, next_follows, through_release, through_address, through_set_failed}
-use Rattle.sock_runs.proofs.ThroughLoops.{through_post, through_post_with, through_posted, through_decide, through_decided, through_answer, through_round}
+use Rattle.sock_runs.proofs.Through.{Passes, PassesOpens, Follows, next_follows, through_release, through_address, through_set_failed}
+use Rattle.sock_runs.proofs.ThroughLoops.{through_post, through_post_with, through_posted, through_decide, through_decided, through_answer, through_opens, through_round}
 use Rattle.sock_runs.proofs.ThroughSends.{through_accept, through_block}
 
 module _ (G : Program → Type 0) (g : Passes G) where
@@ -26,7 +27,7 @@ module _ (G : Program → Type 0) (g : Passes G) where
 
   through_claims : (more q id : ℕ) (heading : Heading) (bytes : List ℕ) (full accepted : Program) → G full → G accepted → G (claims_from more q id heading bytes full accepted)
   through_claims zero q id heading bytes full accepted none_ after = none_
-  through_claims (suc more) q id heading bytes full accepted none_ after = g.step (ClaimRequest id q) _ refl refl (λ found. either_way (found % 2 == 0) _ _ G
+  through_claims (suc more) q id heading bytes full accepted none_ after = g.step (ClaimRequest id q) _ refl refl refl (λ found. either_way (found % 2 == 0) _ _ G
       (through_accept G g id q (found / 2) heading bytes accepted after) (through_claims more (q + 1) id heading bytes full accepted none_ after))
 
   -- the bytes of the frame play no part
@@ -36,7 +37,7 @@ module _ (G : Program → Type 0) (g : Passes G) where
       (post id 1009 n (release (socket_id_slot socket) (λ _. next))))))) (λ _. post id 1009 n next))
   through_tries requests o socket id n heading bytes next after = let rest : Program = release (socket_id_slot socket) (λ _. next) in let goes : G (release (socket_id_slot socket) (λ _. next)) = through_release G g (socket_id_slot socket) (λ _. next) (λ _. after) in
       through_address G g socket _ (λ _. post id 1009 n next)
-      (g.step (FindLink (socket_id_slot socket) (socket_id_version socket)) _ refl refl (λ k. g.aside (StoreAt o (at_word (id_first id) (id_slot id) k n)) _ (λ _. g.step (LookWord socket) _ refl refl (λ found.
+      (g.step (FindLink (socket_id_slot socket) (socket_id_version socket)) _ refl refl refl (λ k. g.aside (StoreAt o (at_word (id_first id) (id_slot id) k n)) _ (λ _. g.step (LookWord socket) _ refl refl refl (λ found.
       either_way (vref_version found % 2 == 0) _ _ G
       (through_claims requests 0 socket heading bytes (post id 3001 n (release (socket_id_slot socket) (λ _. next))) (release (socket_id_slot socket) (λ _. next)) (through_post G g id 3001 n (release (socket_id_slot socket) (λ _. next)) goes) goes)
       (through_post G g id 1009 n (release (socket_id_slot socket) (λ _. next)) goes)))))
@@ -57,21 +58,21 @@ module _ (G : Program → Type 0) (g : Passes G) where
       (through_begin_call requests socket i asked next after) (through_claim_id more (i + 1) requests socket asked next after))
 
   pub through_call : (requests ids : ℕ) (asked : Asked) (next : Program) → G next → G (call requests ids asked next)
-  through_call requests ids asked next after = g.step (LoadName (name_of asked 0)) _ refl refl (λ word. either_way (word == 0) _ _ G
+  through_call requests ids asked next after = g.step (LoadName (name_of asked 0)) _ refl refl refl (λ word. either_way (word == 0) _ _ G
       (g.say asked.operation Unopened next after) (through_claim_id ids 0 requests (word - 1) asked next after))
 
   through_tried : (requests id n : ℕ) (asked : Asked) (next : Program) → G next → (exit : Unlocking) → G (tried_again requests id n asked next exit)
-  through_tried requests id n asked next after (IsOpen w) = g.step (LoadName (name_of asked n)) _ refl refl (λ word. either_way (word == 0) _ _ G
+  through_tried requests id n asked next after (IsOpen w) = g.step (LoadName (name_of asked n)) _ refl refl refl (λ word. either_way (word == 0) _ _ G
       (through_post G g id 1009 n next after) (through_attempt requests asked id n (word - 1) next after))
   through_tried requests id n asked next after (HasNext w e) = through_decide G g id w e (decided id next) (through_decided G g id next after)
 
   through_retry_locked : (requests id n : ℕ) (next : Program) → G next → (exit : Locking) → G (retry_locked requests id n next exit)
   through_retry_locked requests id n next after (NotThere w) = after
   through_retry_locked requests id n next after (Has w) = g.aside (TakeCall (id_slot id)) _ (λ asked. g.aside (PutCall (id_slot id) asked) _ (λ _.
-      g.round (Unlocks (id_slot id) w false) (tried_again requests id n asked next) (through_tried requests id n asked next after)))
+      g.round (Unlocks (id_slot id) w false) refl (tried_again requests id n asked next) (through_tried requests id n asked next after)))
 
   pub through_retry : (requests id n : ℕ) (next : Program) → G next → G (retry requests id n next)
-  through_retry requests id n next after = g.round (Locks (id_slot id) (First (id_first id)) None) (retry_locked requests id n next) (through_retry_locked requests id n next after)
+  through_retry requests id n next after = g.round (Locks (id_slot id) (First (id_first id)) None) refl (retry_locked requests id n next) (through_retry_locked requests id n next after)
 
   pub through_expire : (o t : ℕ) (next : Program) → G next → G (expire o t next)
   through_expire o t next after = g.aside (LoadCall t) _ (λ id. either_way (id == 0) _ _ G (g.say o NotBegun next after)
@@ -79,7 +80,7 @@ module _ (G : Program → Type 0) (g : Passes G) where
       (λ how. through_posted G g id (error_of 1008 WHOLE) (Say o (expire_outcome how) next) (g.say o (expire_outcome how) next after) how)))
 
   pub through_join : (o t : ℕ) (next : Program) → G next → G (join o t next)
-  through_join o t next after = g.aside (LoadCall t) _ (λ id. either_way (id == 0) _ _ G (g.say o NotBegun next after) (g.round (Joins id) (λ _. Say o Joined next) (λ _. g.say o Joined next after)))
+  through_join o t next after = g.aside (LoadCall t) _ (λ id. either_way (id == 0) _ _ G (g.say o NotBegun next after) (g.round (Joins id) refl (λ _. Say o Joined next) (λ _. g.say o Joined next after)))
 
   -- ## Readers
 
@@ -101,33 +102,50 @@ module _ (G : Program → Type 0) (g : Passes G) where
       (through_posted_last (call_id (at_word_slot w) (at_word_first w)) (error_of c (at_word_attempt w)) kept (post_each os k c kept next) more)) more))
 
   through_thrown_away : G Rest → (how : Ended) → G (thrown_away how)
-  through_thrown_away rests how = either_way (how.fault && nat_lt how.reading.total LIMIT) _ _ G (g.round (Discards how.reading.link how.reading.total) (λ _. Rest) (λ _. rests)) rests
+  through_thrown_away rests how = either_way (how.fault && nat_lt how.reading.total LIMIT) _ _ G (g.round (Discards how.reading.link how.reading.total) refl (λ _. Rest) (λ _. rests)) rests
 
   through_read : G Rest → (calls : List ℕ) (how : Ended) → G (read calls how)
   through_read rests calls how = let last = through_post_each calls how.reading.link how.code how.reading.kept (thrown_away how) (through_thrown_away rests how) in either_way how.closed _ _ G last
       (through_address G g how.reading.id _ _ (through_set_failed G g how.reading.id how.code _ (λ _. through_release G g (socket_id_slot how.reading.id) _ (λ _. last))) (λ _. last))
 
-  pub through_reader : G Rest → (calls : List ℕ) (k o : ℕ) → G (reader calls k o)
-  through_reader rests calls k o = g.round (Opens o) _ (λ word. either_way (word == NO_SOCKET) _ _ G rests (g.round (Reads (record { ids = length calls; link = k; id = word - 1; rest = []; total = 0; kept = [] })) (read calls) (through_read rests calls)))
+  -- behind the word of its `open`
+  pub through_reading : G Rest → (calls : List ℕ) (k word : ℕ) → G (cond (word == NO_SOCKET) Rest (Round (Reads (record { ids = length calls; link = k; id = word - 1; rest = []; total = 0; kept = [] })) (read calls)))
+  through_reading rests calls k word = either_way (word == NO_SOCKET) _ _ G rests (g.round (Reads (record { ids = length calls; link = k; id = word - 1; rest = []; total = 0; kept = [] })) refl (read calls) (through_read rests calls))
+
+  pub through_reader : PassesOpens G → G Rest → (calls : List ℕ) (k o : ℕ) → G (reader calls k o)
+  through_reader w rests calls k o = w.wait o _ (λ word. through_reading rests calls k word)
 
   -- ## Seats
 
-  -- the first step of a round, where the seat is at the head of a loop
-  pub through_first : Follows G → (program : Program) → G program → G (first_step program)
-  through_first f (Write w after) x = through_block G g w after (f.write w after x)
-  through_first f (Round head next) x = through_round G g head next (f.round head next x)
-  through_first f (Do call next) x = x
-  through_first f (Say o outcome next) x = x
-  through_first f (Sent o next) x = x
-  through_first f Rest x = x
-  through_first f (TakeMessage q next) x = x
-  through_first f (TakeHome k next) x = x
-  through_first f (PutHome k n after) x = x
-  through_first f (PutBytes k asked bytes next) x = x
-  through_first f (AskReady k next) x = x
-  through_first f (Aside step next) x = x
-  through_first f (Keep r next) x = x
-  through_first f (Retries requests after) x = x
+  first_round : (head : Head) (next : Exit head → Program) → ((o : ℕ) → (exits : ℕ → Program) → G (Round (Opens o) exits) → G (round (Opens o) exits)) → Follows G → G (Round head next) → G (round head next)
+  first_round (Opens o) next opened f x = opened o next x
+  first_round (Posts id e w) next opened f x = through_round G g (Posts id e w) refl next (f.round (Posts id e w) next x)
+  first_round (Unlocks i w advance) next opened f x = through_round G g (Unlocks i w advance) refl next (f.round (Unlocks i w advance) next x)
+  first_round (Decides id asked w e) next opened f x = through_round G g (Decides id asked w e) refl next (f.round (Decides id asked w e) next x)
+  first_round (Locks i sought w) next opened f x = through_round G g (Locks i sought w) refl next (f.round (Locks i sought w) next x)
+  first_round (Joins id) next opened f x = through_round G g (Joins id) refl next (f.round (Joins id) next x)
+  first_round (Reads r) next opened f x = through_round G g (Reads r) refl next (f.round (Reads r) next x)
+  first_round (Discards l total) next opened f x = through_round G g (Discards l total) refl next (f.round (Discards l total) next x)
+
+  -- the first step of a round, where the seat is at the head of a loop; of one that waits for an `open` it has to be said
+  pub through_head : ((o : ℕ) → (exits : ℕ → Program) → G (Round (Opens o) exits) → G (round (Opens o) exits)) → Follows G → (program : Program) → G program → G (first_step program)
+  through_head opened f (Write w after) x = through_block G g w after (f.write w after x)
+  through_head opened f (Round head next) x = first_round head next opened f x
+  through_head opened f (Do call next) x = x
+  through_head opened f (Say o outcome next) x = x
+  through_head opened f (Sent o next) x = x
+  through_head opened f Rest x = x
+  through_head opened f (TakeMessage q next) x = x
+  through_head opened f (TakeHome k next) x = x
+  through_head opened f (PutHome k n after) x = x
+  through_head opened f (PutBytes k asked bytes next) x = x
+  through_head opened f (AskReady k next) x = x
+  through_head opened f (Aside step next) x = x
+  through_head opened f (Keep r next) x = x
+  through_head opened f (Retries requests after) x = x
+
+  pub through_first : PassesOpens G → Follows G → (program : Program) → G program → G (first_step program)
+  through_first w f program x = through_head (λ o exits y. through_opens G g w o exits (f.round (Opens o) exits y)) f program x
 
   -- whatever retries wait
   pub through_resolved : Follows G → (ws : List Retry) (program : Program) → G program → G (resolved ws program)

@@ -1,21 +1,22 @@
 -- What holds behind a loop aside of the sockets, however it is left, holds before it, and behind a post or a decision.
-use Rattle.std.proofs.Common.{ℕ, ◌+◌, ◌==◌, ◌&&◌, not, nat_lt, nat_le, Bool, true, false, cond, List, [], ◌∷◌, ◌++◌, length, refl}
+use Rattle.std.proofs.Common.{◌≡◌, ℕ, ◌+◌, ◌==◌, ◌&&◌, not, nat_lt, nat_le, Bool, true, false, cond, List, [], ◌∷◌, ◌++◌, length, refl}
 use Rattle.std.specs.Prelude.{Option, Some, None}
 use Rattle.sock_words.specs.declared.outcome.Outcome.TheVariants.{CallFailed}
+use mathlib.Core.Option.{none, some-ne-none}
 use Rattle.sock_steps.proofs.Quiet.{either_way}
 use Rattle.corr_core.specs.Word.{parts, posted_word, unlocked_word, code_of, error_of}
 use Rattle.corr_core.specs.Law.{LAST}
 use Rattle.brpc_model.specs.Frame.{Frame}
 use Rattle.brpc_model.specs.Stream as streams
 use Rattle.sock_programs.specs.declared.task.Asked.{Asked}
-use Rattle.sock_programs.specs.Calls.{LoadOpen}
 use Rattle.sock_programs.specs.Asides.{PutCall, LoadIdWord, LockId, PostId, UnlockId, EndId, FreeId, TakeCall, TakeBytes, Taking, Bytes, Nothing, NoMore, AtEnd, Closed, Broken, call_id, id_slot, id_first}
 use Rattle.sock_programs.specs.Heads.{Head, Exit, Retry, Sought, Version, Reading, Posts, Unlocks, Decides, Locks, Joins, Opens, Reads, Discards, Posting, WasGone, WasStale, WasCrowded, WasQueued, HasLocked, Unlocking, IsOpen, HasNext, Deciding, HasEnded, GoesOn, Locking, NotThere, Has, Ended}
 use Rattle.sock_programs.specs.Programs.{Program, Say}
 use Rattle.sock_programs.specs.Posts.{packed, advance_of, is_first, is_sought, is_stale, is_full, judged, posts_round, post_with, posted, post, popped, unlocks_round, ends_call, end_id, decide, decided, unlocked, decides_round, locking, locks_round, joins_round}
 use Rattle.sock_programs.specs.Readers.{LIMIT, ending_of, slot_in, version_in, has_response, is_early, answer, answered, responses, last_of, ended_by, read_on, took, room_of, discarded, opens_round}
 use Rattle.sock_programs.specs.Rounds.{round}
-use Rattle.sock_runs.proofs.Through.{Passes}
+use Rattle.sock_runs.proofs.Records.{awaits}
+use Rattle.sock_runs.proofs.Through.{Passes, PassesOpens}
 
 module _ (G : Program → Type 0) (g : Passes G) where
   -- ## Errors
@@ -23,7 +24,7 @@ module _ (G : Program → Type 0) (g : Passes G) where
   through_judged : (id e found : ℕ) (k : Posting → Program) → ((x : Posting) → G (k x)) → G (judged id e found k)
   through_judged id e found k after = either_way (not (is_first (id_first id) (parts found))) _ _ G (after WasGone)
       (either_way (is_stale e (parts found)) _ _ G (after WasStale)
-      (either_way (is_full (parts found)) _ _ G (after (WasCrowded (code_of (parts found).oldest) (code_of (parts found).second))) (g.round (Posts id e found) k after)))
+      (either_way (is_full (parts found)) _ _ G (after (WasCrowded (code_of (parts found).oldest) (code_of (parts found).second))) (g.round (Posts id e found) refl k after)))
 
   through_posts : (id e from : ℕ) (k : Posting → Program) → ((x : Posting) → G (k x)) → G (posts_round id e from k)
   through_posts id e from k after = g.aside (PostId (id_slot id) from e) _ (λ found. either_way (found == from) _ _ G
@@ -35,17 +36,17 @@ module _ (G : Program → Type 0) (g : Passes G) where
   -- ## Locks given back, and decisions
 
   through_popped : (i oldest word : ℕ) (k : Unlocking → Program) → ((x : Unlocking) → G (k x)) → G (popped i oldest word k)
-  through_popped i oldest word k after = either_way (oldest == 0) _ _ G (after (IsOpen word)) (either_way (is_stale oldest (parts word)) _ _ G (g.round (Unlocks i word false) k after) (after (HasNext word oldest)))
+  through_popped i oldest word k after = either_way (oldest == 0) _ _ G (after (IsOpen word)) (either_way (is_stale oldest (parts word)) _ _ G (g.round (Unlocks i word false) refl k after) (after (HasNext word oldest)))
 
   through_unlocks : (i from : ℕ) (advance : Bool) (k : Unlocking → Program) → ((x : Unlocking) → G (k x)) → G (unlocks_round i from advance k)
   through_unlocks i from advance k after = g.aside (UnlockId i from advance) _ (λ found. either_way (found == from) _ _ G
-      (through_popped i (parts from).oldest (packed (unlocked_word (parts from) (advance_of advance))) k after) (g.round (Unlocks i found advance) k after))
+      (through_popped i (parts from).oldest (packed (unlocked_word (parts from) (advance_of advance))) k after) (g.round (Unlocks i found advance) refl k after))
 
   pub through_end_id : (i : ℕ) (next : Program) → G next → G (end_id i next)
   through_end_id i next after = g.aside (EndId i) _ (λ found. either_way (nat_le ((parts found).first + (parts found).range) LAST) _ _ G (g.aside (FreeId i) _ (λ _. after)) after)
 
   pub through_decide : (id word e : ℕ) (k : Deciding → Program) → ((x : Deciding) → G (k x)) → G (decide id word e k)
-  through_decide id word e k after = g.aside (TakeCall (id_slot id)) _ (λ asked. g.round (Decides id asked word e) k after)
+  through_decide id word e k after = g.aside (TakeCall (id_slot id)) _ (λ asked. g.round (Decides id asked word e) refl k after)
 
   through_unlocked : (r : Retry) (k : Deciding → Program) → ((x : Deciding) → G (k x)) → (exit : Unlocking) → G (unlocked r k exit)
   through_unlocked r k after (IsOpen word) = g.keep r (k GoesOn) (after GoesOn)
@@ -54,7 +55,7 @@ module _ (G : Program → Type 0) (g : Passes G) where
   through_decides : (id : ℕ) (asked : Asked) (word e : ℕ) (k : Deciding → Program) → ((x : Deciding) → G (k x)) → G (decides_round id asked word e k)
   through_decides id asked word e k after = let r : Retry = record { id = id; attempt = (parts word).attempt + 1 } in either_way (ends_call (parts word) e) _ _ G
       (through_end_id (id_slot id) (k (HasEnded asked.operation (code_of e))) (after (HasEnded asked.operation (code_of e))))
-      (g.aside (PutCall (id_slot id) asked) _ (λ _. g.round (Unlocks (id_slot id) word true) (unlocked (record { id = id; attempt = (parts word).attempt + 1 }) k) (through_unlocked (record { id = id; attempt = (parts word).attempt + 1 }) k after)))
+      (g.aside (PutCall (id_slot id) asked) _ (λ _. g.round (Unlocks (id_slot id) word true) refl (unlocked (record { id = id; attempt = (parts word).attempt + 1 }) k) (through_unlocked (record { id = id; attempt = (parts word).attempt + 1 }) k after)))
 
   pub through_decided : (id : ℕ) (next : Program) → G next → (exit : Deciding) → G (decided id next exit)
   through_decided id next after (HasEnded o c) = g.say o (CallFailed id c) next after
@@ -74,17 +75,17 @@ module _ (G : Program → Type 0) (g : Passes G) where
 
   through_locking : (i : ℕ) (sought : Sought) (found : ℕ) (k : Locking → Program) → ((x : Locking) → G (k x)) → G (locking i sought found k)
   through_locking i sought found k after = either_way (not (is_sought sought (parts found))) _ _ G (after (NotThere found))
-      (either_way ((parts found).state == 1) _ _ G (g.round (Locks i sought (Some found)) k after) (g.round (Locks i sought None) k after))
+      (either_way ((parts found).state == 1) _ _ G (g.round (Locks i sought (Some found)) refl k after) (g.round (Locks i sought None) refl k after))
 
   through_locks : (i : ℕ) (sought : Sought) (word : Option ℕ) (k : Locking → Program) → ((x : Locking) → G (k x)) → G (locks_round i sought word k)
   through_locks i sought None k after = g.aside (LoadIdWord i) _ (λ found. through_locking i sought found k after)
   through_locks i sought (Some from) k after = g.aside (LockId i from) _ (λ found. either_way (found == from) _ _ G (after (Has (packed (posted_word (parts from) 0)))) (through_locking i sought found k after))
 
   through_joins : (id : ℕ) (k : ℕ → Program) → ((x : ℕ) → G (k x)) → G (joins_round id k)
-  through_joins id k after = g.aside (LoadIdWord (id_slot id)) _ (λ found. either_way (is_first (id_first id) (parts found)) _ _ G (g.round (Joins id) k after) (after found))
+  through_joins id k after = g.aside (LoadIdWord (id_slot id)) _ (λ found. either_way (is_first (id_first id) (parts found)) _ _ G (g.round (Joins id) refl k after) (after found))
 
-  through_opens : (o : ℕ) (k : ℕ → Program) → ((x : ℕ) → G (k x)) → G (opens_round o k)
-  through_opens o k after = g.step (LoadOpen o) _ refl refl (λ word. either_way (word == 0) _ _ G (g.round (Opens o) k after) (after word))
+  pub through_opens : PassesOpens G → (o : ℕ) (k : ℕ → Program) → ((x : ℕ) → G (k x)) → G (opens_round o k)
+  through_opens w o k after = w.load o _ (λ word. either_way (word == 0) _ _ G (w.wait o k after) (after word))
 
   -- ## Reading
 
@@ -99,38 +100,38 @@ module _ (G : Program → Type 0) (g : Passes G) where
   through_responses : (ids : ℕ) (frames kept : List Frame) (k : List Frame → Program) → ((x : List Frame) → G (k x)) → G (responses ids frames kept k)
   through_responses ids [] kept k after = after kept
   through_responses ids (f ∷ fs) kept k after = either_way (has_response f.meta.response && nat_lt (slot_in f) ids) _ _ G
-      (g.round (Locks (slot_in f) (Version (version_in f)) None) (answered f kept (λ kept'. responses ids fs kept' k)) (through_answered f kept (λ kept'. responses ids fs kept' k) (λ kept'. through_responses ids fs kept' k after)))
+      (g.round (Locks (slot_in f) (Version (version_in f)) None) refl (answered f kept (λ kept'. responses ids fs kept' k)) (through_answered f kept (λ kept'. responses ids fs kept' k) (λ kept'. through_responses ids fs kept' k after)))
       (through_responses ids fs kept k after)
 
   through_read_on : (r : Reading) (bytes : List ℕ) (s : streams.Ending) (k : Ended → Program) → ((x : Ended) → G (k x)) → G (read_on r bytes s k)
-  through_read_on r bytes (streams.Rest n) k after = either_way (nat_lt r.total LIMIT) _ _ G (g.round (Reads (record r { rest = last_of n bytes })) k after) (after (ended_by 1014 false false (record r { rest = last_of n bytes })))
+  through_read_on r bytes (streams.Rest n) k after = either_way (nat_lt r.total LIMIT) _ _ G (g.round (Reads (record r { rest = last_of n bytes })) refl k after) (after (ended_by 1014 false false (record r { rest = last_of n bytes })))
   through_read_on r bytes (streams.Fault at fault) k after = after (ended_by 2002 false true r)
 
   through_took : (r : Reading) (k : Ended → Program) → ((x : Ended) → G (k x)) → (t : Taking) → G (took r k t)
   through_took r k after (Bytes bytes) = let s = streams.stream (r.rest ++ bytes) in
       through_responses r.ids s.frames r.kept (λ kept. read_on (record { ids = r.ids; link = r.link; id = r.id; rest = r.rest; total = r.total + length bytes; kept = kept }) (r.rest ++ bytes) s.ending k)
       (λ kept. through_read_on (record { ids = r.ids; link = r.link; id = r.id; rest = r.rest; total = r.total + length bytes; kept = kept }) (r.rest ++ bytes) s.ending k after)
-  through_took r k after Nothing = g.round (Reads r) k after
+  through_took r k after Nothing = g.round (Reads r) refl k after
   through_took r k after NoMore = after (ended_by 1014 false false r)
   through_took r k after AtEnd = after (ended_by 1014 false false r)
   through_took r k after Closed = after (ended_by 1014 true false r)
   through_took r k after Broken = after (ended_by 1014 false false r)
 
   through_discarded : (l total : ℕ) (k : ℕ → Program) → ((x : ℕ) → G (k x)) → (t : Taking) → G (discarded l total k t)
-  through_discarded l total k after (Bytes bytes) = either_way (nat_lt (total + length bytes) LIMIT) _ _ G (g.round (Discards l (total + length bytes)) k after) (after (total + length bytes))
-  through_discarded l total k after Nothing = g.round (Discards l total) k after
+  through_discarded l total k after (Bytes bytes) = either_way (nat_lt (total + length bytes) LIMIT) _ _ G (g.round (Discards l (total + length bytes)) refl k after) (after (total + length bytes))
+  through_discarded l total k after Nothing = g.round (Discards l total) refl k after
   through_discarded l total k after NoMore = after total
   through_discarded l total k after AtEnd = after total
   through_discarded l total k after Closed = after total
   through_discarded l total k after Broken = after total
 
-  -- one round of each loop
-  pub through_round : (head : Head) (k : Exit head → Program) → ((x : Exit head) → G (k x)) → G (round head k)
-  through_round (Posts id e w) k after = through_posts id e w k after
-  through_round (Unlocks i w advance) k after = through_unlocks i w advance k after
-  through_round (Decides id asked w e) k after = through_decides id asked w e k after
-  through_round (Locks i sought w) k after = through_locks i sought w k after
-  through_round (Joins id) k after = through_joins id k after
-  through_round (Opens o) k after = through_opens o k after
-  through_round (Reads r) k after = g.aside (TakeBytes r.link (room_of r.total)) (took r k) (through_took r k after)
-  through_round (Discards l total) k after = g.aside (TakeBytes l (room_of total)) (discarded l total k) (through_discarded l total k after)
+  -- one round of each loop but that which waits for an `open`
+  pub through_round : (head : Head) → awaits head ≡ none → (k : Exit head → Program) → ((x : Exit head) → G (k x)) → G (round head k)
+  through_round (Posts id e w) l' k after = through_posts id e w k after
+  through_round (Unlocks i w advance) l' k after = through_unlocks i w advance k after
+  through_round (Decides id asked w e) l' k after = through_decides id asked w e k after
+  through_round (Locks i sought w) l' k after = through_locks i sought w k after
+  through_round (Joins id) l' k after = through_joins id k after
+  through_round (Opens o) l' k after = absurd (some-ne-none o l')
+  through_round (Reads r) l' k after = g.aside (TakeBytes r.link (room_of r.total)) (took r k) (through_took r k after)
+  through_round (Discards l total) l' k after = g.aside (TakeBytes l (room_of total)) (discarded l total k) (through_discarded l total k after)

@@ -70,6 +70,14 @@ abbrev pub home_weight : Option Home → ℕ
 home_weight (some (Message heading bytes)) = weight (length bytes)
 home_weight other = 0
 
+-- whoever has a message accepted pays so much for good, so that no more are accepted than that
+abbrev pub ACCEPT : ℕ
+ACCEPT = 16777216
+
+-- how many messages were accepted in all
+abbrev pub entries : List View → ℕ
+entries views = total (λ (v : View). total (λ (l : List Entry). length l) v.lists) views
+
 -- how many messages link k accepted, by the lists of all seats
 abbrev pub accepted : List View → ℕ → ℕ
 accepted views k = total (λ (v : View). total (λ (l : List Entry). length (on k l)) v.lists) views
@@ -82,13 +90,17 @@ is_turning other = 0
 abbrev pub walk_left : (ℕ → ℕ) → Right → ℕ
 walk_left counts r = 2 * (counts r.link - (r.noted + r.turned)) - is_turning r.stage
 
+-- what is left of all walks, with what was paid for messages that were accepted
+abbrev pub walks_left : List View → ℕ
+walks_left views = total (λ (v : View). total (walk_left (accepted views)) v.rights) views + ACCEPT * entries views
+
 -- ## Programs
 
 -- who puts a message into its home is charged for whoever writes it, and who has it accepted for whoever walks to it; a turn of a next word
 -- is paid by what is left of the walk
 abbrev pub cost : Call → ℕ
 cost (PutMessage q heading bytes) = 1 + weight (length bytes)
-cost (SwapHead i own) = 3
+cost (SwapHead i own) = 3 + ACCEPT
 cost (TurnNext q value) = 0
 cost other = 1
 
@@ -126,7 +138,7 @@ FRAME = 2 * CHANGE + 3
 
 -- what an attempt of a call costs at most, over a table of so many requests: as a retry its lock, its message, which may be dropped, and its own post
 abbrev pub attempt_cost : ℕ → ℕ
-attempt_cost requests = requests + weight 131072 + 2 * POST + 3 * CHANGE + 100
+attempt_cost requests = requests + weight 131072 + 2 * POST + 3 * CHANGE + 100 + ACCEPT
 
 -- from the head of a loop up to what follows it, but for what the words of the ids are counted for. A reading goes on with each byte.
 abbrev pub round_cost : Head → ℕ
@@ -247,8 +259,8 @@ pub record Lasts (p : Plan) (c : Core) (views : List View) (n : ℕ) : Type 0 wh
   pub numbers : List ℕ
   pub each : length numbers ≡ length c.seats
   pub seats : (i : ℕ) (seat : SeatState) (v : View) (k : ℕ) → get_elem? c.seats i ≡ some seat → get_elem? views i ≡ some v → get_elem? numbers i ≡ some k → LastsFor p v seat.program (k + arriving seat.program)
-  -- with the messages at home, what is left of walks, and what is left of ids and retries
-  pub sum : total (λ (k : ℕ). k) numbers + (total home_weight c.homes + total (λ (v : View). total (walk_left (accepted views)) v.rights) views + calls_left p c) ≤ n
+  -- with the messages at home, what is left of walks and was paid for accepted messages, and what is left of ids and retries
+  pub sum : total (λ (k : ℕ). k) numbers + (total home_weight c.homes + walks_left views + calls_left p c) ≤ n
 
 -- ## What the rule of the ids gives
 
@@ -281,3 +293,7 @@ AreCounted p c (m ∷ ms) = IsCounted c m × AreCounted p (ticked p c m) ms
 -- no run has more ticks that move
 abbrev pub MOST_TICKS : ℕ
 MOST_TICKS = 281474976710656
+
+-- where fewer are left, so few messages are accepted that the place of each fits its word
+abbrev pub MOST_PAID : ℕ
+MOST_PAID = 562949953421312

@@ -1,0 +1,150 @@
+-- Whatever a seat does on the sockets, messages stay those of ids of the table, and codes below 4,096.
+use Rattle.std.proofs.Common.{◌≡◌, ◌≢◌, ℕ, ◌+◌, ◌*◌, ◌<◌, ◌≤◌, ⊎_elim, List, [], ◌∷◌, ◌++◌, length, length-set, get_or, get_or-set_same, get_or-set_other, set, refl, sym, subst, arith}
+use Rattle.std.proofs.lemmas.List.{get_or_past}
+use mathlib.Core.Logic.{dite}
+use mathlib.Core.Option.{Option, none, some, some-injective, some-ne-none}
+use native.Mathlib.Decide.{ℕ_discrete, dec_le}
+use lib.ListN.{get_elem?}
+use Rattle.atomic_table.proofs.Lists.{at_set}
+use Rattle.sock_words.specs.declared.plain.Plan.{Plan}
+use Rattle.sock_io.specs.declared.link.Put.{Put}
+use Rattle.sock_io.specs.declared.link.Put.TheVariants as puts
+use Rattle.sock_model.specs.declared.home.Home.{Home}
+use Rattle.sock_model.specs.declared.home.Home.TheVariants.{Empty, Link, Message}
+use Rattle.sock_model.specs.Layout.{tag_word, code_word, name_word, open_word, request_word, next_word, place_word}
+use Rattle.corr_core.specs.declared.marks.Plan.{Plan as IdPlan}
+use Rattle.sock_programs.specs.Calls.{Call, ClaimSlot, GiveBirth, AddRef, SubRef, SetOdd, Recycle, FreeSlot, StoreLink, LoadLink, ResetHead, WipeCode, StoreCode, StoreName, LoadName, StoreOpen, LoadOpen, TakeLink, FinishLink, PutLink, LookWord, FindLink, LoadCode, ClaimRequest, PutMessage, Unconnect, SwapHead, Connect, EmptyHead, ReadNext, TurnNext, FreeRequest, StorePlace, DropPlace}
+use Rattle.sock_programs.specs.Programs.{Program, Do}
+use Rattle.sock_programs.specs.Cores.{word_of, found_at, words_after, word_after, homes_after, hand_after, lies_at, first_of, others_of, finished, link_place}
+use Rattle.sock_programs.specs.Ticks.{fed, with_places, onto_first}
+use Rattle.id_runs.specs.Held.{IdView}
+use Rattle.id_runs.specs.Goes.{FitsSock, FitsOwner, FitsHome, HandFits, HomesFit, CodesFit, IdGoesOn}
+
+-- ## What is in hand, and at home
+
+module _ (q : IdPlan) where
+  pub home_set : (hs : List (Option Home)) (i : ℕ) (x : Option Home) → ((y : Home) → x ≡ some y → FitsHome q y) → HomesFit q hs → HomesFit q (set hs i x)
+  home_set hs i x new fit j y at = ⊎_elim (λ a. new y a.1) (λ a. fit j y a.1) (at_set hs i j x (some y) at)
+
+  pub first_fits : (hand : List Home) → HandFits q hand → (y : Home) → first_of hand ≡ some y → FitsHome q y
+  first_fits [] fit y e = absurd (some-ne-none y (sym e))
+  first_fits (x ∷ xs) fit y e = subst (FitsHome q) (some-injective x y e) fit.0
+
+  pub others_fit : (hand : List Home) → HandFits q hand → HandFits q (others_of hand)
+  others_fit [] fit = tt
+  others_fit (x ∷ xs) fit = fit.1
+
+  pub lies_fit : (hs : List (Option Home)) (i : ℕ) (hand : List Home) → HomesFit q hs → HandFits q hand → HandFits q (lies_at hs i ++ hand)
+  lies_fit hs i hand homes fit = by_home (get_elem? hs i) refl
+    where
+      by_home : (x : Option (Option Home)) → get_elem? hs i ≡ x
+          → HandFits q ((elim x as (λ o. List Home) [ none ↦ [] | some y ↦ elim y as (λ o. List Home) [ none ↦ [] | some z ↦ z ∷ [] ] ]) ++ hand)
+      by_home none e = fit
+      by_home (some none) e = fit
+      by_home (some (some z)) e = (homes i z e, fit)
+
+  pub onto_fits : (change : Home → Home) → ((x : Home) → FitsHome q x → FitsHome q (change x)) → (hand : List Home) → HandFits q hand → HandFits q (onto_first change hand)
+  onto_fits change same [] fit = tt
+  onto_fits change same (x ∷ xs) fit = (same x fit.0, fit.1)
+
+  pub fed_fits : (bytes : List ℕ) (answer : Put) (x : Home) → FitsHome q x → FitsHome q (fed bytes answer x)
+  fed_fits bytes (puts.Took n) (Link k took next done) fit = tt
+  fed_fits bytes (puts.Took n) Empty fit = fit
+  fed_fits bytes (puts.Took n) (Message heading l) fit = fit
+  fed_fits bytes puts.Again x fit = fit
+  fed_fits bytes puts.Failed x fit = fit
+
+  pub places_fit : (n : ℕ) (x : Home) → FitsHome q x → FitsHome q (with_places n x)
+  places_fit n (Link k took next done) fit = tt
+  places_fit n Empty fit = fit
+  places_fit n (Message heading l) fit = fit
+
+  finished_fits : (x : Home) → FitsHome q x → FitsHome q (finished x)
+  finished_fits (Link k took next done) fit = tt
+  finished_fits Empty fit = fit
+  finished_fits (Message heading l) fit = fit
+
+  finishes : (hs : List (Option Home)) (p : Plan) (k : ℕ) (hand : List Home) → HandFits q hand → HandFits q (hand_after p (FinishLink k) hs hand)
+  finishes hs p k [] fit = tt
+  finishes hs p k (x ∷ xs) fit = (finished_fits x fit.0, fit.1)
+
+-- ## A step
+
+-- what a view says of a step on the sockets
+abbrev pub MaySock : IdPlan → Call → Type 0
+MaySock q (StoreCode i h c) = c < 4096
+MaySock q (PutMessage r heading bytes) = FitsOwner q heading
+MaySock q other = Unit {0}
+
+module _ (p : Plan) (q : IdPlan) where
+  pub steps_on : (u : IdView) (call : Call) (next : ℕ → Program) → IdGoesOn p q u (Do call next) → MaySock q call × ((found : ℕ) → FitsSock call found → IdGoesOn p q u (next found))
+  steps_on u (StoreCode i h c) next g = (g.0, λ found _. g.1 found)
+  steps_on u (PutMessage r heading bytes) next g = (g.0, λ found _. g.1 found)
+  steps_on u _ next g = (tt, g)
+
+  pub hand_fits : (call : Call) (hs : List (Option Home)) (hand : List Home) → HomesFit q hs → HandFits q hand → HandFits q (hand_after p call hs hand)
+  hand_fits (TakeLink k) hs hand homes fit = lies_fit q hs (link_place p k) hand homes fit
+  hand_fits (PutLink k) hs hand homes fit = others_fit q hand fit
+  hand_fits (FinishLink k) hs hand homes fit = finishes q hs p k hand fit
+  hand_fits _ hs hand homes fit = fit
+
+  pub homes_fit : (call : Call) → MaySock q call → (hs : List (Option Home)) (hand : List Home) → HomesFit q hs → HandFits q hand → HomesFit q (homes_after p call hand hs)
+  homes_fit (TakeLink k) may hs hand homes fit = home_set q hs (link_place p k) none (λ y e. absurd (some-ne-none y (sym e))) homes
+  homes_fit (PutLink k) may hs hand homes fit = home_set q hs (link_place p k) (first_of hand) (first_fits q hand fit) homes
+  homes_fit (PutMessage r heading bytes) may hs hand homes fit = home_set q hs r (some (Message heading bytes)) (λ y e. subst (FitsHome q) (some-injective (Message heading bytes) y e) may) homes
+  homes_fit _ may hs hand homes fit = homes
+
+-- ## Codes
+
+module _ (p : Plan) where
+  code_set : (ws : List ℕ) (x w : ℕ) → CodesFit p ws → ((i : ℕ) → i < p.slots → x ≡ code_word i → w < 4096) → CodesFit p (set ws x w)
+  code_set ws x w fit new i inside = dite (ℕ_discrete x (code_word i))
+      (λ e. dite (dec_le (length ws) x) (λ past. let none_ : get_or (set ws x w) (code_word i) 0 ≡ 0 = get_or_past (set ws x w) (code_word i) 0 (omega (arith, past, e, length-set ws x w)) in omega (arith, none_))
+      (λ n. let here : get_or (set ws x w) x 0 ≡ w = get_or-set_same ws x w 0 (omega arith) in subst (λ y. get_or (set ws x w) y 0 < 4096) e (subst (λ y. y < 4096) (sym here) (new i inside e))))
+      (λ n. subst (λ y. y < 4096) (sym (get_or-set_other ws x (code_word i) w 0 (λ e. n (sym e)))) (fit i inside))
+
+  -- a word of a slot that is no code
+  of_slot : (ws : List ℕ) (j c w : ℕ) → c < 6 → c ≢ 4 → CodesFit p ws → CodesFit p (set ws (6 * j + c) w)
+  of_slot ws j c w low other fit = code_set ws (6 * j + c) w fit (λ i inside e. absurd (other (omega (arith, low, e))))
+
+  -- and a word behind those of the slots
+  behind : (ws : List ℕ) (x w : ℕ) → 6 * p.slots ≤ x → CodesFit p ws → CodesFit p (set ws x w)
+  behind ws x w past fit = code_set ws x w fit (λ i inside e. absurd (omega (arith, inside, e, past)))
+
+  tagged : (ws : List ℕ) (j w : ℕ) → CodesFit p ws → CodesFit p (set ws (tag_word j) w)
+  tagged ws j w fit = subst (λ x. CodesFit p (set ws x w)) (omega arith) (of_slot ws j 0 w (omega arith) (λ e. omega (arith, e)) fit)
+
+  pub codes_fit : (q : IdPlan) (call : Call) → MaySock q call → (ws : List ℕ) → CodesFit p ws → CodesFit p (words_after ws (word_of p call) (word_after call (found_at ws (word_of p call))))
+  codes_fit q (ClaimSlot i) may ws fit = tagged ws i (word_after (ClaimSlot i) (found_at ws (word_of p (ClaimSlot i)))) fit
+  codes_fit q (FreeSlot i) may ws fit = tagged ws i (word_after (FreeSlot i) (found_at ws (word_of p (FreeSlot i)))) fit
+  codes_fit q (GiveBirth i k) may ws fit = of_slot ws i 1 (word_after (GiveBirth i k) (found_at ws (word_of p (GiveBirth i k)))) (omega arith) (λ e. omega (arith, e)) fit
+  codes_fit q (AddRef id) may ws fit = of_slot ws _ 1 (word_after (AddRef id) (found_at ws (word_of p (AddRef id)))) (omega arith) (λ e. omega (arith, e)) fit
+  codes_fit q (SubRef i) may ws fit = of_slot ws i 1 (word_after (SubRef i) (found_at ws (word_of p (SubRef i)))) (omega arith) (λ e. omega (arith, e)) fit
+  codes_fit q (SetOdd i) may ws fit = of_slot ws i 1 (word_after (SetOdd i) (found_at ws (word_of p (SetOdd i)))) (omega arith) (λ e. omega (arith, e)) fit
+  codes_fit q (Recycle i from) may ws fit = of_slot ws i 1 (word_after (Recycle i from) (found_at ws (word_of p (Recycle i from)))) (omega arith) (λ e. omega (arith, e)) fit
+  codes_fit q (LookWord id) may ws fit = of_slot ws _ 1 (word_after (LookWord id) (found_at ws (word_of p (LookWord id)))) (omega arith) (λ e. omega (arith, e)) fit
+  codes_fit q (StoreLink i k) may ws fit = of_slot ws i 2 k (omega arith) (λ e. omega (arith, e)) fit
+  codes_fit q (LoadLink i w) may ws fit = of_slot ws i 2 (word_after (LoadLink i w) (found_at ws (word_of p (LoadLink i w)))) (omega arith) (λ e. omega (arith, e)) fit
+  codes_fit q (FindLink i h) may ws fit = of_slot ws i 2 (word_after (FindLink i h) (found_at ws (word_of p (FindLink i h)))) (omega arith) (λ e. omega (arith, e)) fit
+  codes_fit q (ResetHead i k) may ws fit = of_slot ws i 3 (word_after (ResetHead i k) (found_at ws (word_of p (ResetHead i k)))) (omega arith) (λ e. omega (arith, e)) fit
+  codes_fit q (SwapHead i own) may ws fit = of_slot ws i 3 own (omega arith) (λ e. omega (arith, e)) fit
+  codes_fit q (EmptyHead i last) may ws fit = of_slot ws i 3 (word_after (EmptyHead i last) (found_at ws (word_of p (EmptyHead i last)))) (omega arith) (λ e. omega (arith, e)) fit
+  codes_fit q (WipeCode i k) may ws fit = code_set ws (code_word i) 0 fit (λ j inside e. omega arith)
+  codes_fit q (StoreCode i h c) may ws fit = code_set ws (code_word i) c fit (λ j inside e. may)
+  codes_fit q (LoadCode i h) may ws fit = code_set ws (code_word i) (get_or ws (code_word i) 0) fit (λ j inside e. subst (λ x. get_or ws x 0 < 4096) (sym e) (fit j inside))
+  codes_fit q (StoreName n w) may ws fit = behind ws (name_word p n) w (omega arith) fit
+  codes_fit q (LoadName n) may ws fit = behind ws (name_word p n) (get_or ws (name_word p n) 0) (omega arith) fit
+  codes_fit q (StoreOpen o w) may ws fit = behind ws (open_word p o) w (omega arith) fit
+  codes_fit q (LoadOpen o) may ws fit = behind ws (open_word p o) (get_or ws (open_word p o) 0) (omega arith) fit
+  codes_fit q (ClaimRequest id r) may ws fit = behind ws (request_word p r) (word_after (ClaimRequest id r) (found_at ws (word_of p (ClaimRequest id r)))) (omega arith) fit
+  codes_fit q (FreeRequest r g) may ws fit = behind ws (request_word p r) (word_after (FreeRequest r g) (found_at ws (word_of p (FreeRequest r g)))) (omega arith) fit
+  codes_fit q (Unconnect r) may ws fit = behind ws (next_word p r) (word_after (Unconnect r) (found_at ws (word_of p (Unconnect r)))) (omega arith) fit
+  codes_fit q (Connect r before) may ws fit = behind ws (next_word p r) before (omega arith) fit
+  codes_fit q (ReadNext r) may ws fit = behind ws (next_word p r) (get_or ws (next_word p r) 0) (omega arith) fit
+  codes_fit q (TurnNext r value) may ws fit = behind ws (next_word p r) value (omega arith) fit
+  codes_fit q (StorePlace l k n) may ws fit = behind ws (place_word p l) (word_after (StorePlace l k n) (found_at ws (word_of p (StorePlace l k n)))) (omega arith) fit
+  codes_fit q (DropPlace l k n) may ws fit = behind ws (place_word p l) (word_after (DropPlace l k n) (found_at ws (word_of p (DropPlace l k n)))) (omega arith) fit
+  codes_fit q (TakeLink k) may ws fit = fit
+  codes_fit q (FinishLink k) may ws fit = fit
+  codes_fit q (PutLink k) may ws fit = fit
+  codes_fit q (PutMessage r heading bytes) may ws fit = fit

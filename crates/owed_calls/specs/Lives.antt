@@ -1,0 +1,41 @@
+-- The lives of links, by the words of their `open`s at the end of a run; and what a run says of a tick beside its two tables.
+use Rattle.std.specs.Prelude.{ℕ, ◌≡◌, ◌≢◌, ◌+◌, ◌-◌, ◌<◌, ◌==◌, if◌then◌else◌, List, [], ◌∷◌, length, slice_index, Option, Some, None}
+use mathlib.Core.Option as core
+use lib.ListN.{get_elem?}
+use Rattle.sock_words.specs.Words.{socket_id, at_word_first, at_word_slot}
+use Rattle.sock_words.specs.declared.plain.Plan.{Plan}
+use Rattle.sock_model.specs.declared.view.View.{View}
+use Rattle.sock_model.specs.Layout.{open_word}
+use Rattle.corr_core.specs.declared.marks.Plan.{Plan as IdPlan}
+use Rattle.sock_programs.specs.Asides.{StoreAt, TakeBytes, Closed, call_id}
+use Rattle.sock_programs.specs.Programs.{Program, Aside, NO_SOCKET}
+use Rattle.sock_programs.specs.Cores.{Core, SeatState}
+use Rattle.sock_programs.specs.Ticks.{Answer, Moment, taken, ticked}
+use Rattle.id_runs.specs.Held.{IdView}
+use Rattle.id_runs.specs.Goes.{SoundIds}
+use Rattle.id_runs.specs.Goes as goes
+use Rattle.owed_calls.specs.Owing.{Linked, Owing, InList}
+use Rattle.owed_calls.specs.Sound.{at_of, FailedIn, SoundOwing}
+
+-- the socket that a word of an `open` names
+abbrev pub id_of : ℕ → Option ℕ
+id_of w = if w == 0 then None else if w == NO_SOCKET then None else Some (w - 1)
+
+-- the `open`s stand in order of their links
+abbrev pub life_of : Plan → List ℕ → List ℕ → ℕ → Option ℕ
+life_of p os ws k = elim (get_elem? os k) as (λ o. Option ℕ) [ core.none ↦ None | core.some o ↦ id_of (slice_index ws (open_word p o)) ]
+
+module _ (q : IdPlan) (life : ℕ → Option ℕ) (calls : List ℕ) (c : Core) where
+  -- the at word of an operation names no other id than its call's, and a link answers that it is closed only where its life is past
+  abbrev pub OthersFit : Owing → Answer → Program → Type 0
+  OthersFit u answer (Aside (StoreAt o w) next) = InList o calls × ((id n k : ℕ) → u.duty ≡ Linked id n k → at_of q c o ≢ 0 → call_id (at_word_slot (at_of q c o)) (at_word_first (at_of q c o)) ≡ id)
+  OthersFit u answer (Aside (TakeBytes k room) next) = taken answer ≡ core.some Closed → FailedIn life c.words k
+  OthersFit u answer other = Unit {0}
+
+  abbrev pub IsSaying : Moment → Type 0
+  IsSaying m = (us : List Owing) → SoundOwing q life calls c us → (seat : SeatState) (u : Owing) → get_elem? c.seats m.seat ≡ core.some seat → get_elem? us m.seat ≡ core.some u → OthersFit u m.answer (goes.first_of seat.program)
+
+-- at each of these ticks the ids are sound, and so it is said
+abbrev pub AreSaying : Plan → IdPlan → (ℕ → Option ℕ) → List ℕ → Core → List Moment → Type 0
+AreSaying p q life calls c [] = Unit {0}
+AreSaying p q life calls c (m ∷ ms) = ((ws : List IdView) × SoundIds p q c ws) × IsSaying q life calls c m × AreSaying p q life calls (ticked p c m) ms
