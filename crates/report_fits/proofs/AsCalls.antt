@@ -264,7 +264,7 @@ module _ (script : List Item) (core : Core) (broken : List ℕ) (callless : is_c
   pub is_calm : IsCalm script core.outcomes fixed_of
   is_calm = record {
     none_early = λ k h. nothing_there k h;
-    none_late = λ o h. nothing_there o h;
+    none_late = λ o op name bytes there item h. nothing_there o h;
     no_late_link = λ k h. nothing_there k h;
     calls = λ i op call name outcome there item became first served unexpired. absurd (let later : true ≡ false = ap is_later (sym item) ∙ not_later script callless op.item (are_from 0 1 script i op there).there in cc);
   }

@@ -478,7 +478,7 @@ module _ (g : Given) where
     where
       by_cause : lives.TFailingBy g (lives.TIsNoLater g q.client i) w.link ⊎ Contains g.run.fixed.late i → ⊥
       by_cause (inl f) = unfailed calm owes (lives.TIsNoLater g q.client i) w.link (causes.life_low g n w.link w.slot w.version w.made) f
-      by_cause (inr late) = owes.none_late i late
+      by_cause (inr late) = owes.none_late i q name bytes there item late
   said_done calm owes i n q name bytes Full there item b w cause = absurd (omega (arith, cause.1.1, cause.1.0, calm.few_attempts))
   said_done calm owes i n q name bytes other there item b w cause = absurd w
 

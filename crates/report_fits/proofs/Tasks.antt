@@ -38,6 +38,9 @@ module _ (script : List Item) where
   fail_code : (name : List ℕ) (code : ℕ) → AllByRecursion InRange script → Has script (Fail name code) → code ≢ 0
   fail_code name code range h e = let w = all_at InRange script (Fail name code) range h in absurd (omega (arith, w.0, e))
 
+  small_code : (name : List ℕ) (code : ℕ) → AllByRecursion InRange script → Has script (Fail name code) → code < 4096
+  small_code name code range h = let w = all_at InRange script (Fail name code) range h in omega (arith, w.1)
+
   sent_bytes : (name bytes : List ℕ) → AllByRecursion InRange script → Has script (Send name bytes) → (bytes ≢ []) × (length bytes ≤ 65536)
   sent_bytes name bytes range h = let w = all_at InRange script (Send name bytes) range h in (λ e. absurd (omega (arith, w.0, ap length e)), w.1)
 
@@ -65,7 +68,8 @@ module _ (script : List Item) where
       let w = fail_asks (numbered script) (names script) (numbers_at script i q) q.item n code e in
       let mentions = mentions_fail script i q there w.0 code w.1 in
       let P : Item → Type 0 = λ x. Has script x in
-      (omega (arith, w.2, number_within (names script) w.0 mentions), fail_code w.0 code range (subst P w.1 (are_from 0 1 script i q there).there))
+      let has = subst P w.1 (are_from 0 1 script i q there).there in
+      (omega (arith, w.2, number_within (names script) w.0 mentions), fail_code w.0 code range has, small_code w.0 code range has)
   op_fits range i q there (ops.Call asked) e =
       let w = call_asks (numbered script) (names script) (numbers_at script i q) q.item asked e in
       let P : Item → Type 0 = λ x. Has script x in
