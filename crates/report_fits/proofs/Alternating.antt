@@ -91,9 +91,9 @@ client_drops other name held c = absurd (cc)
 abbrev pub Numbers : List (List ℕ) → ℕ → List ℕ → Type 0
 Numbers ns n name = (nm : List ℕ) → Has ns nm → (name_number ns nm == n) ≡ bytes_eq nm name
 
-module _ (ns : List (List ℕ)) (n : ℕ) (name : List ℕ) (numbers : Numbers ns n name) where
+module _ (all : List Numbered) (ns : List (List ℕ)) (n : ℕ) (name : List ℕ) (numbers : Numbers ns n name) where
   task_step : (item : Item) (before : List Item) (x : Numbered) (held : Bool) (rest : List Task) → x.op.item ≡ item → IsPlaced before item → ((nm : List ℕ) → Has (mentioned item) nm → Has ns nm) → is_operation item ≡ true →
-      held ≡ is_held before name → alternate n (held_behind name held item) rest ≡ true → alternate n held (cons_option (option_map (λ (op : Op). record { number = x.number; op = op }) (op_of ns x.link item)) rest) ≡ true
+      held ≡ is_held before name → alternate n (held_behind name held item) rest ≡ true → alternate n held (cons_option (option_map (λ (op : Op). record { number = x.number; op = op }) (op_of all ns x item)) rest) ≡ true
   task_step (Open nm shape) before x held rest e g known o h again = again
   task_step (Fail nm code) before x held rest e g known o h again = again
   task_step (Hold nm) before x held rest e g known o h again =
@@ -110,7 +110,7 @@ module _ (ns : List (List ℕ)) (n : ℕ) (name : List ℕ) (numbers : Numbers n
 
   -- the tasks of client c among these operations
   abbrev tasks_among : ℕ → ℕ → ℕ → List Operation → List Task
-  tasks_among c place link ops = filter_map (task_of ns) (of_client c (numbered_from place link ops))
+  tasks_among c place link ops = filter_map (task_of all ns) (of_client c (numbered_from place link ops))
 
   -- whether the name is held, where these items are the current client's
   abbrev HeldAt : ℕ → ℕ → List Item → Bool → Type 0
@@ -144,9 +144,9 @@ module _ (ns : List (List ℕ)) (n : ℕ) (name : List ℕ) (numbers : Numbers n
       let op : Operation = record { client = client; number = number; item = item } in
       let x : Numbered = record { number = place; link = link; op = op } in
       let kept = of_client c (numbered_from (place + 1) (if is_open item then link + 1 else link) later) in
-      elim (client == c) as (λ b. (client == c) ≡ b → alternate n held (filter_map (task_of ns) (cond b (x ∷ kept) kept)) ≡ true) [
+      elim (client == c) as (λ b. (client == c) ≡ b → alternate n held (filter_map (task_of all ns) (cond b (x ∷ kept) kept)) ≡ true) [
         | true ↦ λ t. let this : client ≡ c = grind (arith, nat_tests) in
-            task_step item before x held (filter_map (task_of ns) kept) refl g known o (h.0 (sym this)) (again (held_behind name held item) (this_client c client before item held this h))
+            task_step item before x held (filter_map (task_of all ns) kept) refl g known o (h.0 (sym this)) (again (held_behind name held item) (this_client c client before item held this h))
         | false ↦ λ t. let other : client ≢ c = grind (arith, nat_tests) in again held (other_client c client before item held other h)
       ] refl
 

@@ -1,17 +1,15 @@
 -- What a call of a script asks for is what a table of ids may be asked for.
-use Rattle.std.proofs.Common.{◌≡◌, ℕ, zero, suc, ◌+◌, ◌%◌, ◌<◌, ◌≤◌, ◌==◌, Bool, true, false, cond, eqb, eqb-true, List, [], ◌∷◌, length, map, refl, ap, sym, ◌∙◌, subst, arith}
+use Rattle.std.proofs.Common.{◌≡◌, ℕ, zero, suc, ◌%◌, ◌<◌, ◌≤◌, Bool, true, false, cond, eqb, List, [], ◌∷◌, length, map, refl, sym, subst, arith}
 use Rattle.std.proofs.lemmas.List.{length-map}
 use Rattle.std.specs.Prelude.{slice_index}
 use Rattle.std.specs.List.{AllByRecursion}
-use Rattle.brpc_model.specs.Items.{Item, CallLine, Call, mentioned}
+use Rattle.brpc_model.specs.Items.{Item, CallLine, Call}
 use Rattle.brpc_model.specs.Operations.{operations}
 use Rattle.brpc_model.specs.Places.{names}
 use Rattle.sock_programs.specs.Tasks.{name_number, asked_of, plan_of}
-use Rattle.sock_programs.specs.Attempts.{name_of}
 use Rattle.sock_programs.specs.Told.{AskedFits}
 use Rattle.report_fits.proofs.Lists.{Has, all_at, has_first, has_later}
 use Rattle.report_fits.proofs.Names.{number_within, mentioned_has}
-use Rattle.report_fits.proofs.CallLines.{CallInRange}
 use Rattle.report_fits.proofs.Frames.{frame_short}
 use Rattle.report_fits.proofs.Reading.{InRange}
 
@@ -22,7 +20,7 @@ mapped_within ns (x ∷ xs) all zero inside = number_within ns x (all x (has_fir
 mapped_within ns (x ∷ xs) all (suc i) inside = mapped_within ns xs (λ y h. all y (has_later x xs y h)) i (omega (arith, inside))
 
 -- an attempt goes to the first name or to the second
-inside_names : (n k : ℕ) → 1 ≤ k → k ≤ 2 → cond (eqb k 1) 0 (n % 2) < k
+pub inside_names : (n k : ℕ) → 1 ≤ k → k ≤ 2 → cond (eqb k 1) 0 (n % 2) < k
 inside_names n k some_ few = by_one (eqb k 1) refl
   where
     by_one : (b : Bool) → eqb k 1 ≡ b → cond b 0 (n % 2) < k

@@ -1,477 +1,385 @@
--- Why each operation of a script without calls has its outcome, as a report has to say it.
-use Rattle.std.proofs.Common.{◌≡◌, ◌≢◌, ℕ, ◌<◌, ◌≤◌, ◌%◌, ◌*◌, ◌⊎◌, inl, inr, Bool, true, false, if◌then◌else◌, nat_le, List, [], length, count_by, slice_get, Some, None, Contains, refl, ap, sym, ◌∙◌, subst, arith}
+-- Why each operation of a script has its outcome, as a report has to say it: sends, calls, `expire` and `join`.
+use Rattle.std.proofs.Common.{◌≡◌, ◌≢◌, ℕ, ◌+◌, ◌<◌, ◌≤◌, ◌*◌, ◌⊎◌, inl, inr, Bool, true, false, if◌then◌else◌, nat_le, List, length, slice_get, Option, Some, None, Contains, refl, ap, sym, ◌∙◌, subst, arith}
 use Rattle.std.proofs.lemmas.Bool.Decides.{nat_tests}
 use Rattle.std.proofs.lemmas.Option.{slice_get_within}
-use Rattle.std.specs.List.{AllByRecursion}
+use Rattle.std.specs.Prelude.{pos}
 use Rattle.sock_words.specs.Words.{vref_version}
 use Rattle.sock_words.specs.declared.outcome.Outcome.{Outcome}
-use Rattle.sock_words.specs.declared.outcome.Outcome.TheVariants.{Opened, SlotsFull, Unopened, Gone, Placed, Dropped, Full, Held, Freed, Kept, NotHeld, Failed, Already}
-use Rattle.sock_words.specs.declared.place_word.PlaceWord.{PlaceWord}
-use Rattle.brpc_model.specs.Items.{Item, Open, Send, Fail, Hold, Drop, Shape, is_open, sought_name}
-use Rattle.brpc_model.specs.Operations.{Operation, operations, link_names, slots, requests}
+use Rattle.sock_words.specs.declared.outcome.Outcome.TheVariants.{Unopened, Gone, Placed, Dropped, Full, Answered, Peer, CallFailed, Failed, Expired, Queued, Late, Crowded, Joined, NotBegun}
+use Rattle.brpc_model.specs.Items.{Item, Open, Send, Call, Expire, Join, Fail, Hold, Drop, CallLine, is_open, attempts_of}
+use Rattle.brpc_model.specs.Operations.{Operation, Label, operations, clients, link_names}
 use Rattle.brpc_model.specs.Places.{names}
-use Rattle.brpc_model.specs.Link.{LinkEnd}
-use Rattle.brpc_model.specs.Report.{Report}
+use Rattle.brpc_model.specs.Frame.{Frame}
 use Rattle.brpc_model.specs.PlaceWords.{word_at, outcome_by_word}
-use Rattle.brpc_model.specs.Attempts.{attempt}
-use Rattle.brpc_model.specs.Run.{Run, Story, nothing_late, IsOperation, HasOutcome, IsLinkOf, BecameSocket, HasSocket, StandsAt}
-use Rattle.brpc_model.specs.Causes.{FailingBy, PutFailed, WasFailed as ByFail, FailingFor, MayFindNone, MayBeFull, Opens, IsNoLater}
-use Rattle.brpc_model.specs.Outcomes.{FoundFailed as RunFoundFailed, AfterHold as RunAfterHold, OpenCause, SendCause, HoldCause, FailCause, DropCause, Cause, EachSlotOpened}
+use Rattle.brpc_model.specs.Attempts.{attempt, IsTried, MayBeOn, EndedWith, WhyLost, WhyAgain, WasDropped, FoundNoSocket, FoundNoRequest, IsAnsweredBy, IsResponse, HasCode, FailedBy, IsExpiredWith, IsFailedWith}
+use Rattle.brpc_model.specs.Attempts as attempts
+use Rattle.brpc_model.specs.Run.{IsOperation, HasOutcome, BecameSocket, StandsAt, IsUnordered, GaveFrame}
+use Rattle.brpc_model.specs.Causes.{HasFault, ReadingEnded, Early, AtClosed, AtSilence, Failing, OfLink, MayBeFull}
+use Rattle.brpc_model.specs.Outcomes.{SendCause, CallCause, ExpireCause, JoinCause, HasBegun, MayNotHaveBegun, IsTarget, Cause}
 use Rattle.sock_programs.specs.declared.task.Op.{Op}
 use Rattle.sock_programs.specs.declared.task.Op.TheVariants as ops
-use Rattle.sock_programs.specs.Cores.{Core}
-use Rattle.sock_programs.specs.Tasks.{name_number, op_of, plan_of}
-use Rattle.sock_programs.specs.Scripts.{is_later, is_callless, all_tasks, Reports}
-use Rattle.sock_programs.specs.Told.{Told, Accepted, IsTask, Made, Why, OpensNone, FoundNone, FoundFailed, WasFailed, AfterHold, HasLife, EachOpened, IsFail, all_accepted}
-use Rattle.report_fits.specs.Ends.{AreEnds}
-use Rattle.report_fits.specs.Limits.{KeepsLimits}
-use Rattle.report_fits.proofs.Lists.{Has, within, some_is, contains_from, has_from, all_at, all_map}
-use Rattle.report_fits.proofs.Counting.{but, but_other, one_less, HasPlace, places, passing, passing_length, passing_pass, passing_apart, Passes, passes_at, tally_all, count_tally}
+use Rattle.sock_programs.specs.declared.task.Task.{Task}
+use Rattle.sock_programs.specs.declared.task.Asked.{Asked}
+use Rattle.sock_programs.specs.Attempts.{name_of}
+use Rattle.sock_programs.specs.Tasks.{numbered, name_number, number_of, asked_of, op_of, plan_of}
+use Rattle.sock_programs.specs.Scripts.{all_tasks}
+use Rattle.sock_programs.specs.Told.{IsTask, Made}
+use Rattle.sock_programs.specs.ToldCalls as told
+use Rattle.sock_programs.specs.ToldCalls.{Accepted, all_accepted, label}
+use Rattle.report_fits.proofs.Lists.{Has, some_is, has_from}
 use Rattle.report_fits.proofs.Names.{same_name}
-use Rattle.report_fits.proofs.Numbering.{link_at, are_from}
-use Rattle.report_fits.proofs.TaskLemmas.{task_is, operation_task, open_asks, hold_asks, fail_asks, mentions_open, mentions_send, mentions_hold, mentions_drop, mentions_fail, named_at}
-use Rattle.report_fits.proofs.Callless.{not_later, asked_at}
-use Rattle.report_fits.proofs.Reported.{is_said, outcome_told, told_outcome, SaidOrPlaced, said_or_placed}
-use Rattle.report_fits.proofs.Sends as sends
+use Rattle.report_fits.proofs.Numbering.{are_from}
+use Rattle.report_fits.proofs.TaskLemmas.{numbers_at, task_is, tasks_length, fail_asks, expire_asks, mentions_send, mentions_hold, mentions_drop, mentions_fail}
+use Rattle.report_fits.proofs.Reported.{SaidOrPlaced}
+use Rattle.report_fits.proofs.Targets as targets
+use Rattle.report_fits.proofs.Orders.{label_of}
+use Rattle.report_fits.proofs.Known.{first_number, attempt_named}
+use Rattle.report_fits.proofs.Known as known
+use Rattle.report_fits.proofs.Lines.{Given}
 use Rattle.report_fits.proofs.Lines as lines
+use Rattle.report_fits.proofs.Lives as lives
 
--- ## Operations that seek
+is_label : (a : Accepted) (o n : ℕ) → a.operation ≡ o → a.attempt ≡ n → label_of a ≡ attempt o n
+is_label a o n e f = ap (λ (x : ℕ). let l : Label = record { operation = x; attempt = a.attempt } in l) e ∙ ap (λ (x : ℕ). let l : Label = record { operation = o; attempt = x } in l) f
 
--- an operation that seeks a name is a `fail`, a `hold` or a `send` of it
-abbrev Seeks : Op → ℕ → Type 0
-Seeks op n = ((c : ℕ) × (op ≡ ops.Fail n c)) ⊎ ((op ≡ ops.Hold n) ⊎ ((bytes : List ℕ) × (op ≡ ops.Send n bytes)))
+module _ (g : Given) where
+  abbrev Run_ : Rattle.brpc_model.specs.Run.Run
+  Run_ = lives.run_of g
 
-seeks_by : (ns : List (List ℕ)) (link : ℕ) (item : Item) (name : List ℕ) (op : Op) → is_later item ≡ false → op_of ns link item ≡ Some op → sought_name item ≡ Some name → Seeks op (name_number ns name)
-seeks_by ns link (Fail nm code) name op l e f =
-    inl (code, sym (some_is (ops.Fail (name_number ns nm) code) op e) ∙ ap (λ x. ops.Fail (name_number ns x) code) (some_is nm name f))
-seeks_by ns link (Hold nm) name op l e f =
-    inr (inl (sym (some_is (ops.Hold (name_number ns nm)) op e) ∙ ap (λ x. ops.Hold (name_number ns x)) (some_is nm name f)))
-seeks_by ns link (Send nm bytes) name op l e f =
-    inr (inr (bytes, sym (some_is (ops.Send (name_number ns nm) bytes) op e) ∙ ap (λ x. ops.Send (name_number ns x) bytes) (some_is nm name f)))
-seeks_by ns link other name op l e f = absurd (cc)
+  abbrev Links : ℕ
+  Links = length (link_names g.run.script)
 
-module _ (script : List Item) (core : Core) (broken : List ℕ) (report : Report) (took : List (List ℕ)) (ends : List LinkEnd) (callless : is_callless script ≡ true) (limits : KeepsLimits script) (long : length core.outcomes ≡ length (operations script))
-    (tells : Told (all_tasks script) core.outcomes (plan_of script) core broken) (reports : Reports script core took report) (given : AreEnds script core broken ends) where
-  abbrev pub story_of : Story
-  story_of = record { fails = tells.fails; gave = λ k. []; last = λ i. 0 }
+  abbrev Names : List (List ℕ)
+  Names = names g.run.script
 
-  -- the run that is reported
-  abbrev pub run_of : Run
-  run_of = record { script = script; report = report; ends = ends; late = nothing_late; story = story_of }
+  abbrev Outcomes : List (Option Outcome)
+  Outcomes = g.run.core.outcomes
 
-  abbrev pub Names : List (List ℕ)
-  Names = names script
+  abbrev IsOp : ℕ → Operation → Type 0
+  IsOp i q = slice_get (operations g.run.script) i ≡ Some q
 
-  abbrev pub link : ℕ → ℕ
-  link i = link_at (operations script) i
+  abbrev Stands : ℕ → ℕ → Accepted → Type 0
+  Stands k i a = known.Stands g.run k i a
 
-  abbrev pub Asked : ℕ → Operation → Type 0
-  Asked i q = (op : Op) × (op_of Names (link i) q.item ≡ Some op)
+  -- ## Where attempts stand
 
-  pub asked : (i : ℕ) (q : Operation) → IsOperation run_of i q → Asked i q
-  asked i q e = asked_at script callless i q e
+  -- a message stands in the line of its link
+  pub stands_at : (o n k p : ℕ) → lives.TIsAt g o n k p → StandsAt Run_ (attempt o n) k p
+  stands_at o n k p w =
+      let l = lines.line_at g k w.0 in
+      (l.0, l.1, lines.place_at g k p l.0 w.1 l.1 w.2 ∙ ap Some (is_label w.1 o n w.3 w.4))
 
-  abbrev pub TaskAt : ℕ → ℕ → Op → Type 0
-  TaskAt c i op = IsTask (all_tasks script) core.outcomes c (record { number = i; op = op })
+  pub at_stand : (o n k p : ℕ) → StandsAt Run_ (attempt o n) k p → lives.TIsAt g o n k p
+  at_stand o n k p w =
+      let a = lines.at_place g k p w.0 (attempt o n) w.1 w.2 in
+      (lines.line_low g k w.0 w.1, a.0, a.1, ap (λ (l : Label). l.operation) a.2, ap (λ (l : Label). l.attempt) a.2)
 
-  pub task_at : (i : ℕ) (q : Operation) (e : IsOperation run_of i q) (op : Op) → op_of Names (link i) q.item ≡ Some op → TaskAt q.client i op
-  task_at i q e op f = operation_task script core.outcomes i q op e f
+  unordered : (o n : ℕ) → lives.TIsOut g o n → IsUnordered Run_ (attempt o n)
+  unordered o n out k p w = out k (p, at_stand o n k p w)
 
-  abbrev pub Words : List PlaceWord
-  Words = lines.Words script core broken report took limits tells reports
+  dropped : (o n : ℕ) → lives.TIsDropped g o n → attempts.IsDropped Run_ (attempt o n)
+  dropped o n w =
+      let s = stands_at o n w.0 w.1 w.2 in
+      (w.0, w.1, s.0, s.1, s.2, omega (arith, w.3, lines.placed_is g w.0 s.0 s.1))
 
-  -- what is reported was said, but of messages that were accepted
-  pub became : (i : ℕ) (o : Outcome) → is_said o ≡ true → HasOutcome run_of i o → slice_get core.outcomes i ≡ Some (Some o)
-  became i o s e = outcome_told Words core.outcomes i o s (ap (λ os. slice_get os i) (sym reports.outcomes) ∙ e)
+  placed_back : (o n : ℕ) → attempts.IsPlaced Run_ (attempt o n) → lives.TIsPlaced g o n
+  placed_back o n w = (w.0, w.1, at_stand o n w.0 w.1 (w.2, w.3, w.4), omega (arith, w.5, lines.placed_is g w.0 w.2 w.3))
 
-  pub reported : (i : ℕ) (o : Outcome) → slice_get core.outcomes i ≡ Some (Some o) → HasOutcome run_of i o
-  reported i o e = ap (λ os. slice_get os i) reports.outcomes ∙ told_outcome Words core.outcomes i o e
+  -- each request was taken, and this attempt is one more
+  full : (o n : ℕ) (q : Operation) → IsOp o q → n < attempts_of q.item → lives.TIsOut g o n → lives.TWasFull g → MayBeFull Run_
+  full o n q there counts out many = (omega (arith, many, lines.lines_sum g), omega (arith, many, known.fewer g.run o n q there counts out))
 
-  pub said_or_placed_at : (i : ℕ) (o : Outcome) → HasOutcome run_of i o → SaidOrPlaced Words core.outcomes i o
-  said_or_placed_at i o e = said_or_placed Words core.outcomes i o (ap (λ os. slice_get os i) (sym reports.outcomes) ∙ e)
+  -- a link that dropped a message was failing
+  pub dropped_failing : (k : ℕ) → k < Links → (g.run.orders k).placed < length (g.run.orders k).accepted → Failing Run_ k
+  dropped_failing k low fewer = lives.is_failing g k low (g.run.tells.dropped k low fewer)
 
-  abbrev pub WhyAt : ℕ → ℕ → Op → Outcome → Type 0
-  WhyAt c i op o = Why (all_tasks script) core.outcomes (plan_of script) tells.fails broken tells.orders c i op o
-
-  pub why_at : (i : ℕ) (q : Operation) (e : IsOperation run_of i q) (op : Op) → op_of Names (link i) q.item ≡ Some op → (o : Outcome) → slice_get core.outcomes i ≡ Some (Some o) → WhyAt q.client i op o
-  why_at i q e op f o b = tells.why q.client (record { number = i; op = op }) o (task_at i q e op f) b
-
-  -- ## Lives
-
-  opened_is : (c o : ℕ) (op : Op) (slot version l : ℕ) → WhyAt c o op (Opened slot version l) → (n : ℕ) × (op ≡ ops.Open n l)
-  opened_is c o (ops.Open n k) slot version l w = (n, ap (ops.Open n) (sym w.0))
-  opened_is c o (ops.Send n bytes) slot version l w = absurd w
-  opened_is c o (ops.Hold n) slot version l w = absurd w
-  opened_is c o (ops.Drop n) slot version l w = absurd w
-  opened_is c o (ops.Fail n code) slot version l w = absurd w
-
-  -- the operation that made a life
-  pub record OpenedAt (j slot version k : ℕ) : Type 0 where
-    pub operation : Operation
-    pub there : slice_get (operations script) j ≡ Some operation
-    pub name : List ℕ
-    pub shape : Shape
-    pub item : operation.item ≡ Open name shape
-    pub its : k ≡ link_at (operations script) j
-    pub named : slice_get (link_names script) k ≡ Some name
-    pub mentions : Has (names script) name
-    pub is : IsTask (all_tasks script) core.outcomes operation.client (record { number = j; op = ops.Open (name_number (names script) name) k })
-
-  opened_by_open : (j slot version k n : ℕ) (q : Operation) (name : List ℕ) (shape : Shape) → IsOperation run_of j q → q.item ≡ Open name shape → n ≡ name_number Names name → k ≡ link j → op_of Names (link j) q.item ≡ Some (ops.Open n k) → OpenedAt j slot version k
-  opened_by_open j slot version k n q name shape there item number its asks = record {
-    operation = q;
-    there = there;
-    name = name;
-    shape = shape;
-    item = item;
-    its = its;
-    named = ap (slice_get (link_names script)) its ∙ named_at script j q name shape there item;
-    mentions = mentions_open script j q there name shape item;
-    is = task_at j q there (ops.Open (name_number Names name) k) (asks ∙ ap (λ n. Some (ops.Open n k)) number);
-  }
-
-  opened_by_task : (j slot version k n : ℕ) (q : Operation) → IsOperation run_of j q → op_of Names (link j) q.item ≡ Some (ops.Open n k) → OpenedAt j slot version k
-  opened_by_task j slot version k n q there asks =
-      let m = open_asks Names (link j) q.item n k asks in
-      opened_by_open j slot version k n q m.0 m.1 there m.2 m.3 m.4 asks
-
-  opened_by_operation : (j slot version k : ℕ) (q : Operation) (op : Op) → IsOperation run_of j q → op_of Names (link j) q.item ≡ Some op → slice_get core.outcomes j ≡ Some (Some (Opened slot version k)) → OpenedAt j slot version k
-  opened_by_operation j slot version k q op there asks b =
-      let o = opened_is q.client j op slot version k (why_at j q there op asks (Opened slot version k) b) in
-      opened_by_task j slot version k o.0 q there (asks ∙ ap Some o.1)
-
-  pub opened_at : (j slot version k : ℕ) → slice_get core.outcomes j ≡ Some (Some (Opened slot version k)) → OpenedAt j slot version k
-  opened_at j slot version k b =
-      let w = within (operations script) j (omega (arith, slice_get_within core.outcomes j (Some (Opened slot version k)) b, long)) in
-      let a = asked j w.0 w.1 in
-      opened_by_operation j slot version k w.0 a.0 w.1 a.1 b
-
-  abbrev pub Makes : ℕ → ℕ → ℕ → ℕ → Type 0
-  Makes n k slot version = Made (all_tasks script) core.outcomes n k slot version
-
-  -- the operation that made it is known by the life
-  pub maker : (n k slot version : ℕ) (m : Makes n k slot version) → (w : OpenedAt m.task.number slot version k) × (n ≡ name_number Names w.name)
-  maker n k slot version m =
-      let w = opened_at m.task.number slot version k m.became in
-      let t = task_is script core.outcomes m.client m.task m.is in
-      let same : t.operation ≡ w.operation = some_is t.operation w.operation (sym t.there ∙ w.there) in
-      let asks : op_of Names (link m.task.number) (Open w.name w.shape) ≡ Some (ops.Open n k) =
-      ap (op_of Names (link m.task.number)) (sym w.item ∙ ap (λ (x : Operation). x.item) (sym same)) ∙ t.asks ∙ ap Some m.op in
-      let both : ops.Open (name_number Names w.name) (link m.task.number) ≡ ops.Open n k = some_is _ (ops.Open n k) asks in
-      (w, cc)
-
-  -- the name is one that the script mentions, with this number
-  abbrev pub IsNumberOf : ℕ → List ℕ → Type 0
-  IsNumberOf n name = (n ≡ name_number (names script) name) × Has (names script) name
-
-  pub link_of : (n k slot version : ℕ) (name : List ℕ) → IsNumberOf n name → (m : Makes n k slot version) → IsLinkOf run_of k name
-  link_of n k slot version name is m =
-      let w = maker n k slot version m in
-      let same : w.0.name ≡ name = same_name Names w.0.name name w.0.mentions is.1 (sym w.1 ∙ is.0) in
-      w.0.named ∙ ap Some same
-
-  -- ## Names without a socket
-
-  opens_not : (n : ℕ) (name : List ℕ) → IsNumberOf n name → (j c : ℕ) → ((q : Operation) → IsOperation run_of j q → q.client ≡ c) →
-      ((op : Op) → TaskAt c j op → OpensNone (all_tasks script) core.outcomes n (record { number = j; op = op })) → Opens run_of j name → ⊥
-  opens_not n name is j c own none opens =
-      let slot = opens.0 in
-      let version = opens.1 in
-      let k = opens.2 in
-      let b = became j (Opened slot version k) refl opens.3 in
-      let w = opened_at j slot version k b in
-      let same : w.name ≡ name = some_is w.name name (sym w.named ∙ opens.4) in
-      let numbers : name_number Names w.name ≡ n = ap (name_number Names) same ∙ sym is.0 in
-      let P : ℕ → Type 0 = λ x. TaskAt x j (ops.Open (name_number Names w.name) k) in
-      none (ops.Open (name_number Names w.name) k) (subst P (own w.operation w.there) w.is) k slot version (ap (λ x. ops.Open x k) numbers) b
-
-  operation_is : (j : ℕ) (p q : Operation) → IsOperation run_of j p → IsOperation run_of j q → p ≡ q
-  operation_is j p q e f = some_is p q (sym e ∙ f)
-
-  find_none : (c o n : ℕ) (name : List ℕ) → IsNumberOf n name → FoundNone (all_tasks script) core.outcomes c o n → MayFindNone run_of c o name
-  find_none c o n name is found j q there =
-      let owner : (d : ℕ) → q.client ≡ d → (p : Operation) → IsOperation run_of j p → p.client ≡ d = λ d e p f. ap (λ (x : Operation). x.client) (operation_is j p q f there) ∙ e in
-      let a = asked j q there in (
-        λ z opens. opens_not n name is j 0 (owner 0 z) (λ op t. found.setup (record { number = j; op = op }) t) opens,
-        λ own less. (
-          λ opens. opens_not n name is j c (owner c own) (λ op t. (found.own (record { number = j; op = op }) t less).0) opens,
-          λ sought. (
-              let s = seeks_by Names (link j) q.item name a.0 (not_later script callless q.item (are_from 0 1 script j q there).there) a.1 sought in
-              let P : ℕ → Type 0 = λ x. TaskAt x j a.0 in
-              reported j Unopened ((found.own (record { number = j; op = a.0 }) (subst P own (task_at j q there a.0 a.1)) less).1 (by_number s))
-              ),
-        ),
-      )
-    where
-      by_number : {op : Op} → Seeks op (name_number Names name) → Seeks op n
-      by_number (inl w) = inl (w.0, w.1 ∙ ap (λ m. ops.Fail m w.0) (sym is.0))
-      by_number (inr (inl e)) = inr (inl (e ∙ ap ops.Hold (sym is.0)))
-      by_number (inr (inr w)) = inr (inr (w.0, w.1 ∙ ap (λ m. ops.Send m w.0) (sym is.0)))
-
-  -- ## Lives that were failed
-
-  -- link k as it was given back
-  pub end_at : (k : ℕ) → k < length (link_names script) → (e : LinkEnd) × Contains ends e × (e.link ≡ k) × (Contains broken k → 0 < e.put_faults)
-  end_at k low =
-      let w = within ends k (omega (arith, low, given.as_many)) in
-      let is = given.each k w.0 w.1 in
-      (w.0, contains_from ends w.0 (k, w.1), is.numbered, is.failed)
-
-  -- a cause of this run by which the link was failing for an operation
-  failing_by : (i k : ℕ) (q : Operation) (e : LinkEnd) → IsOperation run_of i q → e.link ≡ k → (Contains broken k → 0 < e.put_faults) → WasFailed (all_tasks script) core.outcomes tells.fails broken q.client i k → FailingBy run_of (IsNoLater run_of i) e
-  failing_by i k q e there same broke (inl f) =
-      let Q : ℕ → Type 0 = λ k. Contains tells.fails (f.0, k) in
-      ByFail f.0
-      (λ p r at_i at_f own. (
-      let a = asked f.0 r at_f in
-      let client : r.client ≡ q.client = sym own ∙ ap (λ (x : Operation). x.client) (operation_is i p q at_i there) in
-      let R : ℕ → Type 0 = λ x. TaskAt x f.0 a.0 in
-      f.2 (record { number = f.0; op = a.0 }) (subst R client (task_at f.0 r at_f a.0 a.1)) refl
-      ))
-      (subst Q (sym same) f.1)
-  failing_by i k q e there same broke (inr b) = PutFailed (broke b)
-
-  found_failed : (i n : ℕ) (q : Operation) (name : List ℕ) (P : ℕ → Type 0) → IsOperation run_of i q → IsNumberOf n name → FoundFailed (all_tasks script) core.outcomes tells.fails broken q.client i n P → RunFoundFailed run_of i name P
-  found_failed i n q name P there is f =
-      let named = link_of n f.link f.slot f.version name is f.made in
-      let e = end_at f.link (slice_get_within (link_names script) f.link name named) in
-      let failing : FailingFor run_of i f.link = (e.0, e.1, e.2, failing_by i f.link q e.0 there e.2 e.3 f.failed) in
-      (f.link, f.made.task.number, f.slot, f.version, reported f.made.task.number (Opened f.slot f.version f.link) f.made.became, named, f.holds, inl failing)
-
-  has_socket : (n : ℕ) (name : List ℕ) → IsNumberOf n name → HasLife (all_tasks script) core.outcomes n → HasSocket run_of name
-  has_socket n name is w = (w.0, link_of n w.0 w.1 w.2 name is w.3, (w.3.task.number, w.1, w.2, reported w.3.task.number (Opened w.1 w.2 w.0) w.3.became))
-
-  -- ## Holds and drops
-
-  -- what the task of a `hold` is
-  hold_at : (h n : ℕ) (r : Operation) (name : List ℕ) (op : Op) → IsOperation run_of h r → op_of Names (link h) r.item ≡ Some op → op ≡ ops.Hold n → IsNumberOf n name → r.item ≡ Hold name
-  hold_at h n r name op there asks e is =
-      let w = hold_asks Names (link h) r.item n (asks ∙ ap Some e) in
-      let mentions : Has Names w.0 = mentions_hold script h r there w.0 w.1 in
-      w.1 ∙ ap Hold (same_name Names w.0 name mentions is.1 (sym w.2 ∙ is.0))
-
-  after_hold : (i n : ℕ) (q : Operation) (name : List ℕ) (P : Outcome → Type 0) → IsNumberOf n name → AfterHold (all_tasks script) core.outcomes q.client i n P → RunAfterHold run_of i q name P
-  after_hold i n q name P is a =
-      let h = a.hold.number in
-      let t = task_is script core.outcomes q.client a.hold a.is in (
-        h,
-        a.outcome,
-        record {
-          before = a.before;
-          hold = t.operation;
-          there = t.there;
-          own = t.own;
-          same = hold_at h n t.operation name a.hold.op t.there t.asks a.op is;
-          last = λ j r low high there own same. (
-              let asks : op_of Names (link j) r.item ≡ Some (ops.Hold n) = ap (op_of Names (link j)) same ∙ ap (λ x. Some (ops.Hold x)) (sym is.0) in
-              let R : ℕ → Type 0 = λ x. TaskAt x j (ops.Hold n) in
-              a.last (record { number = j; op = ops.Hold n }) (subst R own (task_at j r there (ops.Hold n) asks)) low high refl
-              );
-        },
-        reported h a.outcome a.became,
-        a.holds,
-      )
-
-  -- ## The causes
-
-  hold_cause : (i n : ℕ) (q : Operation) (name : List ℕ) (o : Outcome) → IsOperation run_of i q → IsNumberOf n name → WhyAt q.client i (ops.Hold n) o → HoldCause run_of i q name o
-  hold_cause i n q name Unopened there is w = find_none q.client i n name is w
-  hold_cause i n q name (Gone found) there is w = found_failed i n q name (λ version. vref_version found.0 ≢ version) there is w
-  hold_cause i n q name Held there is w = has_socket n name is w
-  hold_cause i n q name other there is w = absurd w
-
-  drop_cause : (i n : ℕ) (q : Operation) (name : List ℕ) (o : Outcome) → IsNumberOf n name → WhyAt q.client i (ops.Drop n) o → DropCause run_of i q name o
-  drop_cause i n q name NotHeld is w = after_hold i n q name (λ outcome. outcome ≢ Held) is w
-  drop_cause i n q name Freed is w = after_hold i n q name (λ outcome. outcome ≡ Held) is w
-  drop_cause i n q name Kept is w = after_hold i n q name (λ outcome. outcome ≡ Held) is w
-  drop_cause i n q name other is w = absurd w
-
-  -- a `fail` that was answered `failed`: the operation, and the link that it failed
-  pub record FailedAt (i k : ℕ) : Type 0 where
-    pub operation : Operation
-    pub there : slice_get (operations script) i ≡ Some operation
-    pub name : List ℕ
-    pub code : ℕ
-    pub item : operation.item ≡ Fail name code
-    pub named : IsLinkOf run_of k name
-    pub opened : BecameSocket run_of k
-    pub failed : slice_get core.outcomes i ≡ Some (Some Failed)
-
-  pub failed_at : (f : ℕ × ℕ) → Contains tells.fails f → FailedAt f.0 f.1
-  failed_at f h =
-      let w = all_at (IsFail (all_tasks script) core.outcomes) tells.fails f tells.are (has_from tells.fails f h) in
-      let t = task_is script core.outcomes w.client w.task w.is in
-      let there : slice_get (operations script) f.0 ≡ Some t.operation = ap (slice_get (operations script)) (sym w.numbered) ∙ t.there in
-      let a = fail_asks Names (link w.task.number) t.operation.item w.name w.code (t.asks ∙ ap Some w.op) in
-      let life = w.life in
-      record {
-        operation = t.operation;
-        there = there;
-        name = a.0;
-        code = w.code;
-        item = a.1;
-        named = link_of w.name f.1 w.slot w.version a.0 (a.2, mentions_fail script f.0 t.operation there a.0 w.code a.1) life;
-        opened = (life.task.number, w.slot, w.version, reported life.task.number (Opened w.slot w.version f.1) life.became);
-        failed = w.became;
-      }
-
-  failed_cause : (i k : ℕ) (q : Operation) (name : List ℕ) (code : ℕ) → IsOperation run_of i q → q.item ≡ Fail name code → Contains tells.fails (i, k) → HasSocket run_of name
-  failed_cause i k q name code there item h =
-      let w = failed_at (i, k) h in
-      let same : Fail w.name w.code ≡ Fail name code = sym w.item ∙ ap (λ (x : Operation). x.item) (operation_is i w.operation q w.there there) ∙ item in
-      let name_is : w.name ≡ name = cc in
-      (k, w.named ∙ ap Some name_is, w.opened)
-
-  fail_cause : (i n code : ℕ) (q : Operation) (name : List ℕ) (o : Outcome) → IsOperation run_of i q → q.item ≡ Fail name code → IsNumberOf n name → WhyAt q.client i (ops.Fail n code) o → FailCause run_of i q name o
-  fail_cause i n code q name Unopened there item is w = find_none q.client i n name is w
-  fail_cause i n code q name (Gone found) there item is w = found_failed i n q name (λ version. vref_version found.0 ≢ version) there is w
-  fail_cause i n code q name (Already found) there item is w = found_failed i n q name (λ version. vref_version found.0 % 2 ≡ 1) there is w
-  fail_cause i n code q name Failed there item is w = failed_cause i w.0 q name code there item w.1
-  fail_cause i n code q name other there item is w = absurd w
-
-  -- ## No slot
-
-  each_opened : EachOpened (all_tasks script) core.outcomes (plan_of script) → EachSlotOpened run_of
-  each_opened each slot low = let w = each slot low in (w.3.task.number, w.2, w.1, reported w.3.task.number (Opened slot w.2 w.1) w.3.became)
-
-  abbrev is_open_at : ℕ → Bool
-  is_open_at j = passes_at (λ (op : Operation). is_open op.item) (slice_get (operations script) j)
-
-  abbrev OpenedSlot : ℕ → ℕ → Type 0
-  OpenedSlot slot j = (version k : ℕ) × (slice_get core.outcomes j ≡ Some (Some (Opened slot version k)))
-
-  one_slot : (x y j : ℕ) → x ≢ y → OpenedSlot x j → OpenedSlot y j → ⊥
-  one_slot x y j apart v w =
-      let same : Some (Opened x v.0 v.1) ≡ Some (Opened y w.0 w.1) = some_is (Some (Opened x v.0 v.1)) (Some (Opened y w.0 w.1)) (sym v.2 ∙ w.2) in
-      let slot : x ≡ y = cc in
-      apart slot
-
-  open_place : (i j : ℕ) (slot version k : ℕ) → slice_get core.outcomes i ≡ Some (Some SlotsFull) → slice_get core.outcomes j ≡ Some (Some (Opened slot version k)) →
-      HasPlace OpenedSlot (but is_open_at i) (length (operations script)) slot
-  open_place i j slot version k full b =
-      let w = opened_at j slot version k b in
-      let other : j ≢ i = λ e. let same : Some (Opened slot version k) ≡ Some SlotsFull = some_is (Some (Opened slot version k)) (Some SlotsFull) (sym b ∙ ap (slice_get core.outcomes) e ∙ full) in absurd (cc) in
-      let opens : is_open_at j ≡ true = ap (passes_at (λ (op : Operation). is_open op.item)) w.there ∙ ap is_open w.item in
-      (j, slice_get_within (operations script) j w.operation w.there, but_other is_open_at i j other ∙ opens, (version, k, b))
-
-  -- where each slot was opened and one `open` more was made, there are more opens than slots
-  more_opens : (i : ℕ) (q : Operation) → IsOperation run_of i q → is_open q.item ≡ true → slice_get core.outcomes i ≡ Some (Some SlotsFull) → EachOpened (all_tasks script) core.outcomes (plan_of script) →
-      slots script < count_by (λ (op : Operation). is_open op.item) (operations script)
-  more_opens i q there o full each =
-      let always : ℕ → Bool = λ j. true in
-      let n = length (operations script) in
-      let here : is_open_at i ≡ true = ap (passes_at (λ (op : Operation). is_open op.item)) there ∙ o in
-      let low : i < n = slice_get_within (operations script) i q there in
-      let slots_ = passing always (slots script) in
-      let have : AllByRecursion (HasPlace OpenedSlot (but is_open_at i) n) slots_ = all_map (Passes always (slots script)) (HasPlace OpenedSlot (but is_open_at i) n)
-      (λ slot w. (let m = each slot w.0 in open_place i m.3.task.number slot m.2 m.1 full m.3.became)) slots_ (passing_pass always (slots script)) in
-      omega (
-        arith,
-        places OpenedSlot (λ (x y : ℕ). x ≢ y) n one_slot slots_ (but is_open_at i) (passing_apart always (slots script)) have,
-        passing_length always (slots script),
-        tally_all (slots script),
-        one_less is_open_at i n low here,
-        count_tally (λ (op : Operation). is_open op.item) (operations script),
-      )
-
-  open_cause : (i n k : ℕ) (q : Operation) (o : Outcome) → IsOperation run_of i q → is_open q.item ≡ true → k ≡ link i → slice_get core.outcomes i ≡ Some (Some o) → WhyAt q.client i (ops.Open n k) o → OpenCause run_of i o
-  open_cause i n k q (Opened slot version l) there o its b w = (w.0 ∙ its, w.1, w.2, w.3)
-  open_cause i n k q SlotsFull there o its b w = (each_opened w, more_opens i q there o b w)
-  open_cause i n k q other there o its b w = absurd w
+  -- a life has one of the script's links
+  pub life_low : (n k slot version : ℕ) → Made (all_tasks g.run.script) Outcomes n k slot version → k < Links
+  life_low n k slot version m = let w = lives.opened_at g m.task.number slot version k m.became in slice_get_within (link_names g.run.script) k w.name w.named
 
   -- ## Sends
 
-  abbrev Stands : ℕ → ℕ → Accepted → Type 0
-  Stands k i a = lines.Stands script core broken report took limits tells reports k i a
+  placed_cause : (o k p : ℕ) (q : Operation) (name : List ℕ) → lives.TIsAt g o 0 k p → (b : Bool) → nat_le (g.run.orders k).placed p ≡ b → SendCause Run_ o q name (if b then Dropped k p else Placed k p)
+  placed_cause o k p q name w true e =
+      let inside = slice_get_within (g.run.orders k).accepted p w.1 w.2 in
+      let fewer : (g.run.orders k).placed < length (g.run.orders k).accepted = grind (arith, nat_tests, e, inside) in
+      (stands_at o 0 k p w, dropped_failing k w.0 fewer)
+  placed_cause o k p q name w false e = stands_at o 0 k p w
 
-  -- a message stands in the line of its link
-  pub stands_at : (k p : ℕ) (a : Accepted) → k < length (link_names script) → Stands k p a → StandsAt run_of (attempt a.operation 0) k p
-  stands_at k p a low at =
-      let l = lines.line_at script core broken report took limits tells reports k low in
-      (l.0, l.1, lines.place_at script core broken report took limits tells reports k p l.0 a l.1 at)
+  -- a send of which something is said was accepted by no link
+  pub send_out : (i : ℕ) (q : Operation) (name bytes : List ℕ) (o : Outcome) → IsOp i q → q.item ≡ Send name bytes → slice_get Outcomes i ≡ Some (Some o) → lives.TIsOut g i 0
+  send_out i q name bytes o there item b k w =
+      let s = known.sent_at g.run k w.0 w.1.1 w.1.0 w.1.2 in
+      let whose : s.operation ≡ q = some_is s.operation q (sym s.there ∙ ap (slice_get (operations g.run.script)) w.1.3 ∙ there) in
+      elim (s.kind) [
+        | inl x ↦ absurd (let same : None ≡ Some o = some_is None (Some o) (sym x.3 ∙ ap (slice_get Outcomes) w.1.3 ∙ b) in cc)
+        | inr x ↦ absurd (let same : Call x.call ≡ Send name bytes = sym x.item ∙ ap (λ (y : Operation). y.item) whose ∙ item in cc)
+      ]
 
-  -- a link that dropped a message was failing
-  pub dropped_failing : (k : ℕ) → k < length (link_names script) → (tells.orders k).placed < length (tells.orders k).accepted → (e : LinkEnd) → Contains ends e → e.link ≡ k → (Contains broken k → 0 < e.put_faults) → FailingBy run_of (λ i. Unit {0}) e
-  dropped_failing k low fewer e there same broke = by_cause (tells.dropped k low fewer)
-    where
-      by_cause : Contains broken k ⊎ ((fail : ℕ) × Contains tells.fails (fail, k)) → FailingBy run_of (λ i. Unit {0}) e
-      by_cause (inl b) = PutFailed (broke b)
-      by_cause (inr f) = let Q : ℕ → Type 0 = λ k. Contains tells.fails (f.0, k) in ByFail f.0 tt (subst Q (sym same) f.1)
+  send_cause : (i n : ℕ) (bytes : List ℕ) (q : Operation) (name : List ℕ) (o : Outcome) → IsOp i q → q.item ≡ Send name bytes → lives.IsNumberOf g n name → slice_get Outcomes i ≡ Some (Some o) → lives.WhyAt g q.client i (ops.Send n bytes) o → SendCause Run_ i q name o
+  send_cause i n bytes q name Unopened there item is b w = lives.find_none g q.client i n name is w
+  send_cause i n bytes q name (Gone found) there item is b w = lives.found_failed g i n q name (λ version. vref_version found.0 ≢ version) there is w
+  send_cause i n bytes q name Full there item is b w =
+      let one : 0 < attempts_of q.item = omega (arith, ap attempts_of item) in
+      (lives.has_socket g n name is w.0, full i 0 q there one (send_out i q name bytes Full there item b) w.1)
+  send_cause i n bytes q name other there item is b w = absurd w
 
-  placed_cause : (k p : ℕ) (q : Operation) (name : List ℕ) (a : Accepted) → k < length (link_names script) → Stands k p a → (b : Bool) → nat_le (tells.orders k).placed p ≡ b → SendCause run_of a.operation q name (if b then Dropped k p else Placed k p)
-  placed_cause k p q name a low at true e =
-      let w = end_at k low in
-      let fewer : (tells.orders k).placed < length (tells.orders k).accepted = grind (arith, nat_tests, e, slice_get_within (tells.orders k).accepted p a at) in
-      (stands_at k p a low at, (w.0, w.1, w.2, dropped_failing k low fewer w.0 w.1 w.2 w.3))
-  placed_cause k p q name a low at false e = stands_at k p a low at
+  -- ## Attempts of calls
 
-  -- each request was taken, and this send is one more
-  full : (i : ℕ) (q : Operation) (name bytes : List ℕ) → IsOperation run_of i q → q.item ≡ Send name bytes → slice_get core.outcomes i ≡ Some (Some Full) → requests script ≤ all_accepted (length (link_names script)) tells.orders → MayBeFull run_of
-  full i q name bytes there item b many =
-      let told : slice_get core.outcomes i ≡ Some None → ⊥ = λ e. let same : Some Full ≡ None = some_is (Some Full) None (sym b ∙ e) in absurd (cc) in (
-        omega (arith, many, lines.lines_sum script core broken report took limits tells reports),
-        omega (arith, many, sends.fewer script core broken limits tells i q name bytes there item told),
+  -- why an attempt found no live socket, or lost it
+  lost : (i n : ℕ) (q : Operation) (call : CallLine) → IsOp i q → q.item ≡ Call call → n ≤ call.retry → lives.TWhyLost g q.client i n (name_of (asked_of Names i call) n) → WhyLost Run_ (attempt i n)
+  lost i n q call there item low w =
+      let a = known.call_attempt g.run i q call there item n in
+      let named = attempt_named g.run.script i n q call a.name there item low a.named in
+      elim w [
+        | told.WasFailing k slot version made failing ↦
+            let link = lives.link_of g (name_of (asked_of Names i call) n) k slot version a.name (a.number, a.mentions) made in
+            attempts.WasFailing k (named ∙ sym link) (lives.is_failing g k (life_low (name_of (asked_of Names i call) n) k slot version made) failing)
+        | told.RunEnding h ↦ attempts.RunEnding h
+        | told.WasUnopened some_ client m first few behind found ↦
+            attempts.WasUnopened a.name named some_ client m first (omega (arith, few, tasks_length g.run.script 0 (clients g.run.script + 1)))
+            (λ op at own. behind (sym own ∙ ap (λ (x : Operation). x.client) (lives.operation_is g i op q at there)))
+            (lives.find_none g client m (name_of (asked_of Names i call) n) a.name (a.number, a.mentions) found)
+      ]
+
+  again : (i n : ℕ) (q : Operation) (call : CallLine) → IsOp i q → q.item ≡ Call call → n ≤ call.retry → lives.TWhyAgain g q.client i n (name_of (asked_of Names i call) n) → WhyAgain Run_ (attempt i n)
+  again i n q call there item low w = elim w [
+    | told.AfterDrop d ↦ WasDropped (dropped i n d)
+    | told.AfterLoss out why ↦ FoundNoSocket (unordered i n out) (lost i n q call there item low why)
+    | told.AfterFull out many ↦ let counts : n < attempts_of q.item = omega (arith, low, ap attempts_of item) in FoundNoRequest (unordered i n out) (full i n q there counts out many)
+  ]
+
+  pub tried : (i : ℕ) (q : Operation) (call : CallLine) → IsOp i q → q.item ≡ Call call → IsTried Run_ i call
+  tried i q call there item =
+      let last_low = known.last_low g.run i q call there item in
+      let asked = asked_of Names i call in
+      let h = g.run.tells.again q.client (record { number = i; op = ops.Call asked }) asked (known.call_task g.run i q call there item) refl in
+      (last_low, λ n less. again i n q call there item (omega (arith, less, last_low)) (h.1 n less))
+
+  -- ## Responses
+
+  gave_frame : (k n : ℕ) (frame : Frame) → lives.TGave g k n frame → GaveFrame Run_ k n frame
+  gave_frame k n frame w = let e = lives.end_at g k w.0 in ((e.end, e.there, e.is.numbered), w.1)
+
+  frame_gave : (k n : ℕ) (frame : Frame) → GaveFrame Run_ k n frame → lives.TGave g k n frame
+  frame_gave k n frame w =
+      let h = has_from g.ends w.0.0 w.0.1 in
+      let is = g.given.each h.0 w.0.0 h.1 in
+      let same : h.0 ≡ k = sym is.numbered ∙ w.0.2 in
+      (omega (arith, same, slice_get_within g.ends h.0 w.0.0 h.1, g.given.as_many), w.1)
+
+  abbrev TIsAnsweredBy : Asked → ℕ → (Frame → Type 0) → Type 0
+  TIsAnsweredBy asked id P = told.IsAnsweredBy (plan_of g.run.script) (all_tasks g.run.script) Outcomes g.run.fixed g.run.gave g.run.orders asked id P
+
+  answered_by : (i id : ℕ) (call : CallLine) (P : Frame → Type 0) → TIsAnsweredBy (asked_of Names i call) id P → IsAnsweredBy Run_ call id P
+  answered_by i id call P w = let frame = w.2 in let high = w.4.2 in
+      (w.0, w.1, frame, gave_frame w.0 w.1 frame w.3, (w.4.0, w.4.1, omega (arith, high)), w.5)
+
+  -- ## Calls that failed
+
+  may_be_on : (i n k : ℕ) (q : Operation) (call : CallLine) → IsOp i q → q.item ≡ Call call → n ≤ call.retry → lives.TMayBeOn g i n (name_of (asked_of Names i call) n) k → MayBeOn Run_ (attempt i n) k
+  may_be_on i n k q call there item low w =
+      let a = known.call_attempt g.run i q call there item n in
+      let m = w.2 in
+      let link = lives.link_of g (name_of (asked_of Names i call) n) k w.0 w.1 a.name (a.number, a.mentions) m in (
+        (m.task.number, w.0, w.1, lives.reported g m.task.number (Rattle.sock_words.specs.declared.outcome.Outcome.TheVariants.Opened w.0 w.1 k) m.became),
+        attempt_named g.run.script i n q call a.name there item low a.named ∙ sym link,
+        λ l p at. w.3 l (p, at_stand i n l p at),
       )
 
-  send_cause : (i n : ℕ) (bytes : List ℕ) (q : Operation) (name : List ℕ) (o : Outcome) → IsOperation run_of i q → q.item ≡ Send name bytes → IsNumberOf n name → slice_get core.outcomes i ≡ Some (Some o) → WhyAt q.client i (ops.Send n bytes) o →
-      SendCause run_of i q name o
-  send_cause i n bytes q name Unopened there item is b w = find_none q.client i n name is w
-  send_cause i n bytes q name (Gone found) there item is b w = found_failed i n q name (λ version. vref_version found.0 ≢ version) there is w
-  send_cause i n bytes q name Full there item is b w = (has_socket n name is w.0, full i q name bytes there item b w.1)
-  send_cause i n bytes q name other there item is b w = absurd w
+  reading_ended : (k : ℕ) → k < Links → Contains g.run.fixed.early k ⊎ (Contains g.run.fixed.closed k ⊎ Contains g.run.fixed.silent k) → OfLink Run_ (ReadingEnded Run_) k
+  reading_ended k low w = lives.of_link g (ReadingEnded Run_) k low (λ e. elim w [
+    | inl early ↦ Early (lives.ended_early g k e early)
+    | inr (inl closed) ↦ AtClosed (e.is.closed closed)
+    | inr (inr silent) ↦ let P : ℕ → Type 0 = λ x. Contains g.run.fixed.silent x in AtSilence (subst P (sym e.is.numbered) silent)
+  ])
+
+  ended_with : (i n id k : ℕ) (q : Operation) (call : CallLine) → IsOp i q → q.item ≡ Call call → n ≤ call.retry → lives.TEndedWith g (asked_of Names i call) i n (name_of (asked_of Names i call) n) id k → EndedWith Run_ (attempt i n) call id k
+  ended_with i n id k q call there item low w =
+      let k_low = life_low (name_of (asked_of Names i call) n) k w.on.0 w.on.1 w.on.2 in
+      record {
+        on = may_be_on i n k q call there item low w.on;
+        ended = reading_ended k k_low w.ended;
+        lost = by_loss k_low w.lost;
+        unanswered = λ m frame gave response. (
+            let high = response.2 in
+            let h = w.unanswered m frame (frame_gave k m frame gave) (response.0, response.1, omega (arith, high)) in
+            (λ placed. h.0 (placed_back i n placed), h.1)
+            );
+      }
+    where
+      by_loss : k < Links → lives.TIsFailing g k ⊎ (((p : ℕ) × lives.TIsAt g i n k p) ⊎ (lives.TIsOut g i n × lives.TWasFull g)) → Failing Run_ k ⊎ (((p : ℕ) × StandsAt Run_ (attempt i n) k p) ⊎ (IsUnordered Run_ (attempt i n) × MayBeFull Run_))
+      by_loss k_low (inl f) = inl (lives.is_failing g k k_low f)
+      by_loss k_low (inr (inl s)) = inr (inl (s.0, stands_at i n k s.0 s.1))
+      by_loss k_low (inr (inr u)) = let counts : n < attempts_of q.item = omega (arith, low, ap attempts_of item) in inr (inr (unordered i n u.0, full i n q there counts u.0 u.1))
+
+  -- the call that an `expire` or a `join` names is operation t
+  pub its_target : (client number t : ℕ) → targets.IsTarget g.run.script client number t → IsTarget Run_ client number t
+  its_target client number t w = (w.call, w.there, w.own, w.number)
+
+  abbrev TIsExpiredWith : ℕ → Outcome → Type 0
+  TIsExpiredWith i o = (client : ℕ) × (t : Task) × IsTask (all_tasks g.run.script) Outcomes client t × (t.op ≡ ops.Expire i) × (slice_get Outcomes t.number ≡ Some (Some o))
+
+  expired_with : (i : ℕ) (q : Operation) (o : Outcome) → IsOp i q → TIsExpiredWith i o → IsExpiredWith Run_ i o
+  expired_with i q o there w =
+      let t = task_is g.run.script Outcomes w.0 w.1 w.2 in
+      let m = expire_asks (numbered g.run.script) Names (numbers_at g.run.script w.1.number t.operation) t.operation.item i (t.asks ∙ ap Some w.3) in
+      let P : Item → Type 0 = λ x. Has g.run.script x in
+      let target = targets.expired g.run.script g.run.targets m.0 m.1 (subst P m.2 (are_from 0 1 g.run.script w.1.number t.operation t.there).there) in
+      let is : IsOp i target.call = ap (slice_get (operations g.run.script)) m.3 ∙ target.there in
+      let item : t.operation.item ≡ Expire target.call.client target.call.number = m.2 ∙ ap (λ c. Expire c m.1) (sym target.own) ∙ ap (Expire target.call.client) (sym target.number) in
+      (target.call, t.operation, w.1.number, is, t.there, item, lives.reported g w.1.number o w.4)
+
+  abbrev TIsFailedWith : ℕ → ℕ → Type 0
+  TIsFailedWith name code = (client : ℕ) × (t : Task) × IsTask (all_tasks g.run.script) Outcomes client t × (t.op ≡ ops.Fail name code) × (slice_get Outcomes t.number ≡ Some (Some Failed))
+
+  failed_with : (i n code : ℕ) (q : Operation) (call : CallLine) → IsOp i q → q.item ≡ Call call → n ≤ call.retry → TIsFailedWith (name_of (asked_of Names i call) n) code → IsFailedWith Run_ (attempt i n) code
+  failed_with i n code q call there item low w =
+      let a = known.call_attempt g.run i q call there item n in
+      let t = task_is g.run.script Outcomes w.0 w.1 w.2 in
+      let m = fail_asks (numbered g.run.script) Names (numbers_at g.run.script w.1.number t.operation) t.operation.item (name_of (asked_of Names i call) n) code (t.asks ∙ ap Some w.3) in
+      let mentions = mentions_fail g.run.script w.1.number t.operation t.there m.0 code m.1 in
+      let same : m.0 ≡ a.name = same_name Names m.0 a.name mentions a.mentions (sym m.2 ∙ a.number) in
+      let named = attempt_named g.run.script i n q call a.name there item low a.named in
+      (w.1.number, m.0, t.operation, t.there, m.1, named ∙ ap Some (sym same), lives.reported g w.1.number Failed w.4)
+
+  failed_by : (i n id code : ℕ) (q : Operation) (call : CallLine) → IsOp i q → q.item ≡ Call call → n ≤ call.retry → lives.TFailedBy g q.client i (asked_of Names i call) id code n → FailedBy Run_ i call id code (attempt i n)
+  failed_by i n id code q call there item low w = elim w [
+    | told.ByExpiry is (inl x) ↦ attempts.ByExpiry is (inl (expired_with i q Expired there x))
+    | told.ByExpiry is (inr x) ↦ attempts.ByExpiry is (inr (expired_with i q Queued there x))
+    | told.ByCompression is x ↦ attempts.ByCompression is (answered_by i id call (λ frame. frame.meta.compress_type ≢ pos 0) x)
+    | told.ByFrameFault is k on fault ↦ attempts.ByFrameFault is k (may_be_on i n k q call there item low on)
+        (lives.of_link g (λ e. HasFault (g.run.gave e.link)) k (life_low (name_of (asked_of Names i call) n) k on.0 on.1 on.2) (λ e. let P : ℕ → Type 0 = λ x. HasFault (g.run.gave x) in subst P (sym e.is.numbered) fault))
+    | told.ByEnd is k x ↦ attempts.ByEnd is k (ended_with i n id k q call there item low x)
+    | told.BySocket is no_more (inl out) x ↦ attempts.BySocket is (omega (arith, no_more)) (inl (unordered i n out)) (lost i n q call there item low x)
+    | told.BySocket is no_more (inr d) x ↦ attempts.BySocket is (omega (arith, no_more)) (inr (dropped i n d)) (lost i n q call there item low x)
+    | told.ByRequests is no_more out many ↦ let counts : n < attempts_of q.item = omega (arith, low, ap attempts_of item) in attempts.ByRequests is (omega (arith, no_more)) (unordered i n out) (full i n q there counts out many)
+    | told.ByFail from to no_more d x ↦ attempts.ByFail from to (omega (arith, no_more)) (dropped i n d) (failed_with i n code q call there item low x)
+  ]
+
+  call_cause : (i : ℕ) (q : Operation) (call : CallLine) (o : Outcome) → IsOp i q → q.item ≡ Call call → lives.WhyAt g q.client i (ops.Call (asked_of Names i call)) o → CallCause Run_ i q call o
+  call_cause i q call Unopened there item w = λ name e.
+      let a = known.call_attempt g.run i q call there item 0 in
+      let number : name_of (asked_of Names i call) 0 ≡ name_number Names name = first_number Names i call name (sym e) in
+      let mentions : Has Names name = known.mentions_call g.run i q call there item name (0, sym e) in
+      lives.find_none g q.client i (name_of (asked_of Names i call) 0) name (number, mentions) w
+  call_cause i q call (Answered id payload attachment) there item w = answered_by i id call (λ (frame : Frame). HasCode (pos 0) frame × (frame.payload ≡ payload) × (frame.attachment ≡ attachment)) w
+  call_cause i q call (Peer id code) there item w = (answered_by i id call (HasCode code) w.0, w.1)
+  call_cause i q call (CallFailed id code) there item w = failed_by i (lives.last g i) id code q call there item (known.last_low g.run i q call there item) w
+  call_cause i q call other there item w = absurd w
+
+  -- ## What is said of another call
+
+  abbrev THasBegun : ℕ → ℕ → ℕ → Type 0
+  THasBegun c o t = told.HasBegun (plan_of g.run.script) (all_tasks g.run.script) Outcomes g.run.fixed g.run.gave g.run.orders c o t
+
+  abbrev TMayNotHaveBegun : ℕ → ℕ → ℕ → Type 0
+  TMayNotHaveBegun c o t = told.MayNotHaveBegun (plan_of g.run.script) (all_tasks g.run.script) Outcomes g.run.fixed g.run.gave g.run.orders c o t
+
+  has_begun : (i client number t : ℕ) (q : Operation) → targets.IsTarget g.run.script client number t → THasBegun q.client i t → HasBegun Run_ i q client number
+  has_begun i client number t q target w =
+      let of_task = task_is g.run.script Outcomes w.0 w.1 w.2 in
+      let whose : of_task.operation ≡ target.call = some_is of_task.operation target.call (sym of_task.there ∙ ap (slice_get (operations g.run.script)) w.3 ∙ target.there) in
+      let same : w.0 ≡ client = sym of_task.own ∙ ap (λ (x : Operation). x.client) whose ∙ target.own in
+      (t, its_target client number t target, λ has. w.4 (lives.became g t Unopened refl has), λ own. w.5 (same ∙ own))
+
+  not_begun : (i client number : ℕ) (q : Operation) → TMayNotHaveBegun q.client i (number_of (numbered g.run.script) client number) → MayNotHaveBegun Run_ i q client number
+  not_begun i client number q w t target own less =
+      let place = targets.target_is g.run.script client number t target.0 target.1 target.2 target.3 in
+      let a = lives.asked g t target.0 target.1 in
+      let P : ℕ → Type 0 = λ c. lives.TaskAt g c t a.0 in
+      let task = subst P (target.2 ∙ own) (lives.task_at g t target.0 target.1 a.0 a.1) in
+      let Q : ℕ → Type 0 = λ x. slice_get Outcomes x ≡ Some (Some Unopened) in
+      lives.reported g t Unopened (subst Q place (w (record { number = t; op = a.0 }) task (sym place) (omega (arith, less, place))))
+
+  expire_cause : (i client number : ℕ) (q : Operation) (o : Outcome) → targets.IsTarget g.run.script client number (number_of (numbered g.run.script) client number) → lives.WhyAt g q.client i (ops.Expire (number_of (numbered g.run.script) client number)) o →
+      ExpireCause Run_ i q client number o
+  expire_cause i client number q Expired target w = let t = number_of (numbered g.run.script) client number in (t, w.0, its_target client number t target, lives.reported g t (CallFailed w.0 1008) w.1)
+  expire_cause i client number q Queued target w = has_begun i client number (number_of (numbered g.run.script) client number) q target w
+  expire_cause i client number q Late target w = has_begun i client number (number_of (numbered g.run.script) client number) q target w
+  expire_cause i client number q (Crowded a b) target w = (has_begun i client number (number_of (numbered g.run.script) client number) q target w.0, w.1, w.2)
+  expire_cause i client number q NotBegun target w = not_begun i client number q w
+  expire_cause i client number q other target w = absurd w
+
+  join_cause : (i client number : ℕ) (q : Operation) (o : Outcome) → targets.IsTarget g.run.script client number (number_of (numbered g.run.script) client number) → lives.WhyAt g q.client i (ops.Join (number_of (numbered g.run.script) client number)) o →
+      JoinCause Run_ i q client number o
+  join_cause i client number q Joined target w = has_begun i client number (number_of (numbered g.run.script) client number) q target w
+  join_cause i client number q NotBegun target w = not_begun i client number q w
+  join_cause i client number q other target w = absurd w
 
   -- ## Any operation
 
-  cause_of : (i : ℕ) (q : Operation) (item : Item) (op : Op) (o : Outcome) → IsOperation run_of i q → q.item ≡ item → op_of Names (link i) item ≡ Some op → slice_get core.outcomes i ≡ Some (Some o) → WhyAt q.client i op o →
-      Cause run_of i q item o
+  cause_of : (i : ℕ) (q : Operation) (item : Item) (op : Op) (o : Outcome) → IsOp i q → q.item ≡ item → op_of (numbered g.run.script) Names (numbers_at g.run.script i q) item ≡ Some op → slice_get Outcomes i ≡ Some (Some o) → lives.WhyAt g q.client i op o → Cause Run_ i q item o
   cause_of i q (Open name shape) op o there e asks b w =
-      let P : Op → Type 0 = λ x. WhyAt q.client i x o in
-      open_cause i (name_number Names name) (link i) q o there (ap is_open e) refl b (subst P (sym (some_is (ops.Open (name_number Names name) (link i)) op asks)) w)
+      let P : Op → Type 0 = λ x. lives.WhyAt g q.client i x o in
+      lives.open_cause g i (name_number Names name) (lives.link g i) q o there (ap is_open e) refl b (subst P (sym (some_is (ops.Open (name_number Names name) (lives.link g i)) op asks)) w)
   cause_of i q (Send name bytes) op o there e asks b w =
-      let P : Op → Type 0 = λ x. WhyAt q.client i x o in
-      send_cause i (name_number Names name) bytes q name o there e (refl, mentions_send script i q there name bytes e) b (subst P (sym (some_is (ops.Send (name_number Names name) bytes) op asks)) w)
+      let P : Op → Type 0 = λ x. lives.WhyAt g q.client i x o in
+      send_cause i (name_number Names name) bytes q name o there e (refl, mentions_send g.run.script i q there name bytes e) b (subst P (sym (some_is (ops.Send (name_number Names name) bytes) op asks)) w)
+  cause_of i q (Call call) op o there e asks b w =
+      let P : Op → Type 0 = λ x. lives.WhyAt g q.client i x o in
+      call_cause i q call o there e (subst P (sym (some_is (ops.Call (asked_of Names i call)) op asks)) w)
+  cause_of i q (Expire client number) op o there e asks b w =
+      let P : Op → Type 0 = λ x. lives.WhyAt g q.client i x o in
+      expire_cause i client number q o (targets.expired g.run.script g.run.targets client number (known.in_script g.run i q there (Expire client number) e))
+      (subst P (sym (some_is (ops.Expire (number_of (numbered g.run.script) client number)) op asks)) w)
+  cause_of i q (Join client number) op o there e asks b w =
+      let P : Op → Type 0 = λ x. lives.WhyAt g q.client i x o in
+      join_cause i client number q o (targets.joined g.run.script g.run.targets client number (known.in_script g.run i q there (Join client number) e))
+      (subst P (sym (some_is (ops.Join (number_of (numbered g.run.script) client number)) op asks)) w)
   cause_of i q (Hold name) op o there e asks b w =
-      let P : Op → Type 0 = λ x. WhyAt q.client i x o in
-      hold_cause i (name_number Names name) q name o there (refl, mentions_hold script i q there name e) (subst P (sym (some_is (ops.Hold (name_number Names name)) op asks)) w)
+      let P : Op → Type 0 = λ x. lives.WhyAt g q.client i x o in
+      lives.hold_cause g i (name_number Names name) q name o there (refl, mentions_hold g.run.script i q there name e) (subst P (sym (some_is (ops.Hold (name_number Names name)) op asks)) w)
   cause_of i q (Drop name) op o there e asks b w =
-      let P : Op → Type 0 = λ x. WhyAt q.client i x o in
-      drop_cause i (name_number Names name) q name o (refl, mentions_drop script i q there name e) (subst P (sym (some_is (ops.Drop (name_number Names name)) op asks)) w)
+      let P : Op → Type 0 = λ x. lives.WhyAt g q.client i x o in
+      lives.drop_cause g i (name_number Names name) q name o (refl, mentions_drop g.run.script i q there name e) (subst P (sym (some_is (ops.Drop (name_number Names name)) op asks)) w)
   cause_of i q (Fail name code) op o there e asks b w =
-      let P : Op → Type 0 = λ x. WhyAt q.client i x o in
-      fail_cause i (name_number Names name) code q name o there e (refl, mentions_fail script i q there name code e) (subst P (sym (some_is (ops.Fail (name_number Names name) code) op asks)) w)
+      let P : Op → Type 0 = λ x. lives.WhyAt g q.client i x o in
+      lives.fail_cause g i (name_number Names name) code q name o there e (refl, mentions_fail g.run.script i q there name code e) (subst P (sym (some_is (ops.Fail (name_number Names name) code) op asks)) w)
   cause_of i q other op o there e asks b w = absurd (cc)
 
   -- an operation of which nothing was said is a send whose message was accepted
   abbrev pub WasAccepted : ℕ → Type 0
-  WasAccepted i = (k p : ℕ) × (a : Accepted) × (k < length (link_names script)) × Stands k p a × (a.operation ≡ i)
+  WasAccepted i = (k p : ℕ) × lives.TIsAt g i 0 k p
 
-  pub was_accepted : (i : ℕ) (q : Operation) → IsOperation run_of i q → slice_get core.outcomes i ≡ Some None → WasAccepted i
+  abbrev TStandsOn : ℕ → ℕ → ℕ → Type 0
+  TStandsOn o n k = (p : ℕ) × lives.TIsAt g o n k p
+
+  pub was_accepted : (i : ℕ) (q : Operation) → IsOp i q → slice_get Outcomes i ≡ Some None → WasAccepted i
   was_accepted i q there none_ =
-      let a = asked i q there in
-      by_told (tells.told q.client (record { number = i; op = a.0 }) (task_at i q there a.0 a.1))
+      let a = lives.asked g i q there in
+      by_told (g.run.tells.told q.client (record { number = i; op = a.0 }) (lives.task_at g i q there a.0 a.1))
     where
-      by_told : ((o : Outcome) × (slice_get core.outcomes i ≡ Some (Some o))) ⊎ WasAccepted i → WasAccepted i
+      by_told : ((o : Outcome) × (slice_get Outcomes i ≡ Some (Some o))) ⊎ ((k : ℕ) × TStandsOn i 0 k) → WasAccepted i
       by_told (inl w) = absurd (let same : None ≡ Some w.0 = some_is None (Some w.0) (sym none_ ∙ w.1) in cc)
-      by_told (inr w) = w
+      by_told (inr w) = (w.0, w.1.0, w.1.1)
 
-  accepted_cause : (i : ℕ) (q : Operation) (o : Outcome) → IsOperation run_of i q → o ≡ outcome_by_word (word_at Words (8 * i)) → WasAccepted i → Cause run_of i q q.item o
-  accepted_cause i q o there is w =
-      let k = w.0 in
-      let p = w.1 in
-      let a = w.2 in
-      let s = sends.sent_at script core broken limits tells k p a w.3 w.4 in
-      let same : s.operation ≡ q = some_is s.operation q (sym s.there ∙ ap (slice_get (operations script)) w.5 ∙ there) in
-      let item : q.item ≡ Send s.name a.bytes = ap (λ (x : Operation). x.item) (sym same) ∙ s.item in
-      let outcome : (if nat_le (tells.orders k).placed p then Dropped k p else Placed k p) ≡ o =
-      sym (lines.outcome_at script core broken report took limits tells reports k p a w.3 w.4) ∙ ap (λ n. outcome_by_word (word_at Words (8 * n))) w.5 ∙ sym is in
-      let P : ℕ → Type 0 = λ n. SendCause run_of n q s.name (if nat_le (tells.orders k).placed p then Dropped k p else Placed k p) in
-      let Q : Outcome → Type 0 = λ x. SendCause run_of i q s.name x in
-      let R : Item → Type 0 = λ x. Cause run_of i q x o in
-      subst R (sym item) (subst Q outcome (subst P w.5 (placed_cause k p q s.name a w.3 w.4 (nat_le (tells.orders k).placed p) refl)))
+  -- which a send of the script made
+  pub was_sent : (i : ℕ) (q : Operation) → IsOp i q → slice_get Outcomes i ≡ Some None → WasAccepted i → (name bytes : List ℕ) × (q.item ≡ Send name bytes)
+  was_sent i q there none_ w =
+      let s = known.sent_at g.run w.0 w.1 w.2.1 w.2.0 w.2.2 in
+      let whose : s.operation ≡ q = some_is s.operation q (sym s.there ∙ ap (slice_get (operations g.run.script)) w.2.3 ∙ there) in
+      elim (s.kind) [
+        | inl x ↦ (x.0, w.2.1.bytes, ap (λ (y : Operation). y.item) (sym whose) ∙ x.1)
+        | inr x ↦ absurd (let same : None ≡ Some x.outcome = some_is None (Some x.outcome) (sym none_ ∙ ap (slice_get Outcomes) (sym w.2.3) ∙ x.became) in cc)
+      ]
 
-  pub cause_at : (i : ℕ) (q : Operation) (o : Outcome) → IsOperation run_of i q → HasOutcome run_of i o → Cause run_of i q q.item o
-  cause_at i q o there has = by_case (said_or_placed_at i o has)
+  pub accepted_outcome : (i : ℕ) (w : WasAccepted i) → outcome_by_word (word_at (lives.Words g) (8 * i)) ≡ (if nat_le (g.run.orders w.0).placed w.1 then Dropped w.0 w.1 else Placed w.0 w.1)
+  accepted_outcome i w =
+      let same : 8 * i ≡ label w.2.1 = omega (arith, w.2.3, w.2.4) in
+      ap (λ n. outcome_by_word (word_at (lives.Words g) n)) same ∙ lines.outcome_at g w.0 w.1 w.2.1 w.2.0 w.2.2
+
+  accepted_cause : (i : ℕ) (q : Operation) (o : Outcome) → IsOp i q → slice_get Outcomes i ≡ Some None → o ≡ outcome_by_word (word_at (lives.Words g) (8 * i)) → WasAccepted i → Cause Run_ i q q.item o
+  accepted_cause i q o there none_ is w =
+      let s = was_sent i q there none_ w in
+      let outcome = sym (accepted_outcome i w) ∙ sym is in
+      let Q : Outcome → Type 0 = λ x. SendCause Run_ i q s.0 x in
+      let R : Item → Type 0 = λ x. Cause Run_ i q x o in
+      subst R (sym s.2) (subst Q outcome (placed_cause i w.0 w.1 q s.0 w.2 (nat_le (g.run.orders w.0).placed w.1) refl))
+
+  pub cause_at : (i : ℕ) (q : Operation) (o : Outcome) → IsOperation Run_ i q → HasOutcome Run_ i o → Cause Run_ i q q.item o
+  cause_at i q o there has = by_case (lives.said_or_placed_at g i o has)
     where
-      by_case : SaidOrPlaced Words core.outcomes i o → Cause run_of i q q.item o
-      by_case (inl b) = let a = asked i q there in cause_of i q q.item a.0 o there refl a.1 b (why_at i q there a.0 a.1 o b)
-      by_case (inr w) = accepted_cause i q o there w.1 (was_accepted i q there w.0)
+      by_case : SaidOrPlaced (lives.Words g) Outcomes i o → Cause Run_ i q q.item o
+      by_case (inl b) = let a = lives.asked g i q there in cause_of i q q.item a.0 o there refl a.1 b (lives.why_at g i q there a.0 a.1 o b)
+      by_case (inr w) = accepted_cause i q o there w.0 w.1 (was_accepted i q there w.0)

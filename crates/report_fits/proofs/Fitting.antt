@@ -1,41 +1,44 @@
--- A run of a script without calls, as it is reported, fits.
-use Rattle.std.proofs.Common.{◌≡◌, ◌≢◌, ℕ, zero, suc, ◌*◌, ◌<◌, ◌≤◌, ◌⊎◌, inl, inr, Bool, true, false, if◌then◌else◌, List, [], ◌∷◌, length, flat_map, zip, slice_get, nat_lt, nat_le, bytes_eq, option_and_then, Option, Some, None, IfSome, Contains, refl, ap, sym, ◌∙◌, subst, arith}
+-- A run of a script, as it is reported, fits: what is told of it gives what a report has to say.
+use Rattle.std.proofs.Common.{◌≡◌, ◌≢◌, ℕ, zero, suc, ◌+◌, ◌*◌, ◌<◌, ◌≤◌, ◌⊎◌, inl, inr, Bool, true, false, if◌then◌else◌, List, [], ◌∷◌, length, flat_map, zip, slice_get, nat_lt, nat_le, bytes_eq, option_and_then, Option, Some, None, IfSome, Contains, refl, ap, sym, ◌∙◌, subst, arith}
+use Rattle.std.specs.Prelude.{IsSome}
 use Rattle.std.proofs.lemmas.Bool.Decides.{nat_tests}
 use Rattle.std.proofs.lemmas.Option.{slice_get_within}
 use Rattle.std.proofs.lemmas.Slice.Eq.{bytes_eq-Decides}
 use Rattle.std.specs.List.{AllByRecursion}
 use Rattle.sock_words.specs.declared.outcome.Outcome.{Outcome}
-use Rattle.sock_words.specs.declared.outcome.Outcome.TheVariants.{Opened, Unopened, Gone, Full, Placed, Dropped, Failed}
-use Rattle.brpc_model.specs.Items.{Item, Send, Call, Expire, Fail, CallLine, sought_name, name_at}
-use Rattle.brpc_model.specs.Operations.{Operation, Label, operations, link_names, name_of}
+use Rattle.sock_words.specs.declared.outcome.Outcome.TheVariants.{Opened, Unopened, Gone, Full, Placed, Dropped, Failed, Expired}
+use Rattle.brpc_model.specs.Items.{Item, Send, Call, Expire, Fail, CallLine, sought_name}
+use Rattle.brpc_model.specs.Operations.{Operation, Label, operations, link_names, name_of as label_name}
 use Rattle.brpc_model.specs.Places.{names}
+use Rattle.brpc_model.specs.Messages.{id_at, shown_id}
 use Rattle.brpc_model.specs.Link.{LinkEnd}
-use Rattle.brpc_model.specs.Report.{LinkLine, Report, report_text}
+use Rattle.brpc_model.specs.Report.{LinkLine, report_text}
 use Rattle.brpc_model.specs.PlaceWords.{word_at, outcome_by_word, took_at}
-use Rattle.brpc_model.specs.Run.{Run, nothing_late, IsOperation, HasOutcome, IsLinkOf, BecameSocket, AreGiven, StandsIn}
+use Rattle.brpc_model.specs.Run.{Run, IsOperation, HasOutcome, IsLinkOf, BecameSocket, AreGiven, StandsIn}
 use Rattle.brpc_model.specs.Order.{EachBefore, TookInOrder, InOwnOrder}
 use Rattle.brpc_model.specs.Causes.{AreFails}
 use Rattle.brpc_model.specs.Attempts.{attempt}
 use Rattle.brpc_model.specs.Outcomes.{SendCause, Cause}
-use Rattle.brpc_model.specs.Fits.{FitsLink, FitsOnce, FitsRun, IsMade, Shows, count_outcomes, is_fail_of, is_open_of}
-use Rattle.brpc_model.specs.Complete.{Completeness, FitsWhole, IsUntroubled, SendDone}
+use Rattle.brpc_model.specs.Fits.{FitsLink, FitsOnce, FitsRun, IsMade, Shows, AreApart, count_outcomes, is_fail_of, is_open_of}
+use Rattle.brpc_model.specs.Complete.{Completeness, FitsWhole, IsUntroubled, IsServed, SendDone, CallDone}
 use Rattle.sock_programs.specs.declared.task.Op.{Op}
 use Rattle.sock_programs.specs.declared.task.Op.TheVariants as ops
-use Rattle.sock_programs.specs.Cores.{Core}
-use Rattle.sock_programs.specs.Tasks.{name_number, op_of, plan_of}
-use Rattle.sock_programs.specs.Scripts.{is_later, is_callless, all_tasks, place_words, Reports}
-use Rattle.sock_programs.specs.Told.{Told, Made, Accepted, WasFailed, InOwnOrder as InTaskOrder}
-use Rattle.report_fits.specs.Ends.{AreEnds, AreTold}
-use Rattle.report_fits.specs.Limits.{KeepsLimits}
-use Rattle.report_fits.proofs.Lists.{Has, within, some_is, contains_from, has_from, all_from, all_at, all_map, before_from, before_at}
+use Rattle.sock_programs.specs.Tasks.{name_number, numbered, number_of, asked_of, op_of, plan_of}
+use Rattle.sock_programs.specs.Scripts.{all_tasks, place_words}
+use Rattle.sock_programs.specs.Told.{Made}
+use Rattle.sock_programs.specs.ToldCalls as told
+use Rattle.sock_programs.specs.ToldCalls.{Accepted, label as number_of_label}
+use Rattle.report_fits.specs.Calm.{IsCalm}
+use Rattle.report_fits.proofs.Lists.{within, some_is, contains_from, has_from, all_from, all_at, all_map, before_from, before_at}
 use Rattle.report_fits.proofs.Flat.{flat_before}
 use Rattle.report_fits.proofs.Counting.{HasPlace, places, passing, passing_length, passing_pass, passing_apart, Passes, passes_at, count_tally}
-use Rattle.report_fits.proofs.Numbering.{link_at, are_from}
-use Rattle.report_fits.proofs.Callless.{not_later}
+use Rattle.report_fits.proofs.TaskLemmas.{numbers_at, asks_at}
 use Rattle.report_fits.proofs.Reported.{is_said, outcomes_length, untold_outcome, SaidOrPlaced}
 use Rattle.report_fits.proofs.Orders as orders
-use Rattle.report_fits.proofs.Sends as sends
+use Rattle.report_fits.proofs.Known as known
+use Rattle.report_fits.proofs.Lines.{Given}
 use Rattle.report_fits.proofs.Lines as lines
+use Rattle.report_fits.proofs.Lives as lives
 use Rattle.report_fits.proofs.Causes as causes
 
 -- what follows from both of what is said of a value, if there is one
@@ -86,74 +89,83 @@ pairs_once fails once x y k a b =
       ] refl
     ] refl
 
-module _ (script : List Item) (core : Core) (broken : List ℕ) (report : Report) (took : List (List ℕ)) (ends : List LinkEnd) (callless : is_callless script ≡ true) (limits : KeepsLimits script) (long : length core.outcomes ≡ length (operations script))
-    (tells : Told (all_tasks script) core.outcomes (plan_of script) core broken) (reports : Reports script core took report) (are_told : AreTold ends took) (given : AreEnds script core broken ends) where
+-- ## Outcomes that show an id
+
+-- an outcome that shows an id was said
+id_said : (o : Outcome) (id : ℕ) → shown_id o ≡ Some id → is_said o ≡ true
+id_said (Placed k i) id e = absurd (cc)
+id_said (Dropped k i) id e = absurd (cc)
+id_said other id e = refl
+
+id_shown : (os : List Outcome) (i id : ℕ) (o : Option Outcome) → slice_get os i ≡ o → id_at os i ≡ Some id → (x : Outcome) × (slice_get os i ≡ Some x) × (shown_id x ≡ Some id)
+id_shown os i id None e f = absurd (let none_ : None ≡ Some id = ap (λ (o : Option Outcome). option_and_then shown_id o) (sym e) ∙ f in cc)
+id_shown os i id (Some x) e f = (x, e, ap (λ (o : Option Outcome). option_and_then shown_id o) (sym e) ∙ f)
+
+shows : (placed k p : ℕ) → Shows placed k p (if nat_le placed p then Dropped k p else Placed k p)
+shows placed k p = elim (nat_le placed p) as (λ b. nat_le placed p ≡ b → Shows placed k p (if b then Dropped k p else Placed k p)) [
+  | true ↦ λ t. (λ less. absurd (grind (arith, nat_tests)), λ more. refl)
+  | false ↦ λ t. (λ less. refl, λ more. absurd (grind (arith, nat_tests)))
+] refl
+
+module _ (g : Given) where
   abbrev run : Run
-  run = causes.run_of script core broken report took ends callless limits long tells reports given
+  run = lives.run_of g
 
-  reported : (i : ℕ) (o : Outcome) → slice_get core.outcomes i ≡ Some (Some o) → HasOutcome run i o
-  reported = causes.reported script core broken report took ends callless limits long tells reports given
+  abbrev Names : List (List ℕ)
+  Names = names g.run.script
 
-  became : (i : ℕ) (o : Outcome) → is_said o ≡ true → HasOutcome run i o → slice_get core.outcomes i ≡ Some (Some o)
-  became = causes.became script core broken report took ends callless limits long tells reports given
+  abbrev Outcomes : List (Option Outcome)
+  Outcomes = g.run.core.outcomes
 
-  failed_at : (f : ℕ × ℕ) → Contains tells.fails f → causes.FailedAt script core broken report took ends callless limits long tells reports given f.0 f.1
-  failed_at = causes.failed_at script core broken report took ends callless limits long tells reports given
+  reported : (i : ℕ) (o : Outcome) → slice_get g.run.core.outcomes i ≡ Some (Some o) → HasOutcome run i o
+  reported = lives.reported g
 
-  -- ## No call
+  became : (i : ℕ) (o : Outcome) → is_said o ≡ true → HasOutcome run i o → slice_get g.run.core.outcomes i ≡ Some (Some o)
+  became = lives.became g
 
-  not_later_at : (i : ℕ) (q : Operation) → IsOperation run i q → is_later q.item ≡ false
-  not_later_at i q e = not_later script callless q.item (are_from 0 1 script i q e).there
-
-  no_call : (i : ℕ) (q : Operation) (call : CallLine) → IsOperation run i q → q.item ≡ Call call → ⊥
-  no_call i q call e f = let later : true ≡ false = ap is_later (sym f) ∙ not_later_at i q e in absurd (cc)
-
-  no_expire : (i : ℕ) (q : Operation) (client number : ℕ) → IsOperation run i q → q.item ≡ Expire client number → ⊥
-  no_expire i q client number e f = let later : true ≡ false = ap is_later (sym f) ∙ not_later_at i q e in absurd (cc)
+  failed_at : (f : ℕ × ℕ) → Contains g.run.fixed.fails f → lives.FailedAt g f.0 f.1
+  failed_at = lives.failed_at g
 
   -- ## Fails
 
-  fail_why : (c i : ℕ) (op : Op) → causes.WhyAt script core broken report took ends callless limits long tells reports given c i op Failed → (k : ℕ) × Contains tells.fails (i, k)
+  fail_why : (c i : ℕ) (op : Op) → lives.WhyAt g c i op Failed → (k : ℕ) × Contains g.run.fixed.fails (i, k)
   fail_why c i (ops.Fail n code) w = w
-  fail_why c i (ops.Open n k) w = absurd w
-  fail_why c i (ops.Send n bytes) w = absurd w
-  fail_why c i (ops.Hold n) w = absurd w
-  fail_why c i (ops.Drop n) w = absurd w
+  fail_why c i other w = absurd w
 
-  operation_at : (i : ℕ) (o : Outcome) → slice_get core.outcomes i ≡ Some (Some o) → (q : Operation) × IsOperation run i q
-  operation_at i o e = within (operations script) i (omega (arith, slice_get_within core.outcomes i (Some o) e, long))
+  operation_at : (i : ℕ) (o : Outcome) → slice_get g.run.core.outcomes i ≡ Some (Some o) → (q : Operation) × IsOperation run i q
+  operation_at i o e = within (operations g.run.script) i (omega (arith, slice_get_within g.run.core.outcomes i (Some o) e, g.run.long))
 
-  each_fail : (i : ℕ) → HasOutcome run i Failed → (k : ℕ) × Contains tells.fails (i, k)
+  each_fail : (i : ℕ) → HasOutcome run i Failed → (k : ℕ) × Contains g.run.fixed.fails (i, k)
   each_fail i has =
       let b = became i Failed refl has in
       let q = operation_at i Failed b in
-      let a = causes.asked script core broken report took ends callless limits long tells reports given i q.0 q.1 in
-      fail_why q.0.client i a.0 (causes.why_at script core broken report took ends callless limits long tells reports given i q.0 q.1 a.0 a.1 Failed b)
+      let a = lives.asked g i q.0 q.1 in
+      fail_why q.0.client i a.0 (lives.why_at g i q.0 q.1 a.0 a.1 Failed b)
 
   are_fails : AreFails run
   are_fails = record {
-    answered = all_from (λ (f : ℕ × ℕ). HasOutcome run f.0 Failed) tells.fails (λ f h. reported f.0 Failed (failed_at f (contains_from tells.fails f h)).failed);
-    named = all_from (λ (f : ℕ × ℕ). (op : Operation) × IsOperation run f.0 op × (sought_name op.item ≡ slice_get (link_names script) f.1)) tells.fails
-        (λ f h. let w = failed_at f (contains_from tells.fails f h) in (w.operation, w.there, ap sought_name w.item ∙ sym w.named));
-    lived = all_from (λ (f : ℕ × ℕ). BecameSocket run f.1) tells.fails (λ f h. (failed_at f (contains_from tells.fails f h)).opened);
+    answered = all_from (λ (f : ℕ × ℕ). HasOutcome run f.0 Failed) g.run.fixed.fails (λ f h. reported f.0 Failed (failed_at f (contains_from g.run.fixed.fails f h)).failed);
+    named = all_from (λ (f : ℕ × ℕ). (op : Operation) × IsOperation run f.0 op × (sought_name op.item ≡ slice_get (link_names g.run.script) f.1)) g.run.fixed.fails
+        (λ f h. let w = failed_at f (contains_from g.run.fixed.fails f h) in (w.operation, w.there, ap sought_name w.item ∙ sym w.named));
+    lived = all_from (λ (f : ℕ × ℕ). BecameSocket run f.1) g.run.fixed.fails (λ f h. (failed_at f (contains_from g.run.fixed.fails f h)).opened);
     each = each_fail;
-    once = tells.once;
+    once = g.run.tells.once;
   }
 
   -- ## As many fails of a name as lives
 
   abbrev Pairs : List (Operation × Outcome)
-  Pairs = zip (operations script) report.outcomes
+  Pairs = zip (operations g.run.script) g.report.outcomes
 
   -- the life of a link was failed by this `fail`
   abbrev FailedIts : ℕ → ℕ → Type 0
-  FailedIts i j = (k : ℕ) × Contains tells.fails (i, k) × (k ≡ causes.link script core broken report took ends callless limits long tells reports given j)
+  FailedIts i j = (k : ℕ) × Contains g.run.fixed.fails (i, k) × (k ≡ lives.link g j)
 
   own_life : (x y j : ℕ) → x ≢ y → FailedIts x j → FailedIts y j → ⊥
   own_life x y j apart v w =
       let same : v.0 ≡ w.0 = v.2 ∙ sym w.2 in
-      let P : ℕ → Type 0 = λ k. Contains tells.fails (x, k) in
-      apart (pairs_once tells.fails tells.once x y w.0 (subst P same v.1) w.1)
+      let P : ℕ → Type 0 = λ k. Contains g.run.fixed.fails (x, k) in
+      apart (pairs_once g.run.fixed.fails g.run.tells.once x y w.0 (subst P same v.1) w.1)
 
   abbrev is_fail_at : List ℕ → ℕ → Bool
   is_fail_at name j = passes_at (λ (x : Operation × Outcome). is_fail_of name x.0.item x.1) (slice_get Pairs j)
@@ -162,27 +174,27 @@ module _ (script : List Item) (core : Core) (broken : List ℕ) (report : Report
   is_open_at name j = passes_at (λ (x : Operation × Outcome). is_open_of name x.0.item x.1) (slice_get Pairs j)
 
   abbrev OpenedAt : ℕ → ℕ → ℕ → ℕ → Type 0
-  OpenedAt j slot version k = causes.OpenedAt script core broken report took ends callless limits long tells reports given j slot version k
+  OpenedAt j slot version k = lives.OpenedAt g j slot version k
 
   abbrev FailedAt : ℕ → ℕ → Type 0
-  FailedAt i k = causes.FailedAt script core broken report took ends callless limits long tells reports given i k
+  FailedAt i k = lives.FailedAt g i k
 
   open_place : (name : List ℕ) (j slot version k : ℕ) → HasOutcome run j (Opened slot version k) → (o : OpenedAt j slot version k) → o.name ≡ name → (j < length Pairs) × (is_open_at name j ≡ true)
   open_place name j slot version k has o same =
       let opened : Outcome = Opened slot version k in
-      let at : slice_get Pairs j ≡ Some (o.operation, opened) = zip_at (operations script) report.outcomes j o.operation opened o.there has in
+      let at : slice_get Pairs j ≡ Some (o.operation, opened) = zip_at (operations g.run.script) g.report.outcomes j o.operation opened o.there has in
       let test : Option (Operation × Outcome) → Bool = passes_at (λ (x : Operation × Outcome). is_open_of name x.0.item x.1) in
       let by_item : is_open_of name o.operation.item opened ≡ bytes_eq o.name name = ap (λ item. is_open_of name item opened) o.item in
       let tested : is_open_at name j ≡ is_open_of name o.operation.item opened = ap test at in
       (slice_get_within Pairs j (o.operation, opened) at, tested ∙ by_item ∙ (bytes_eq-Decides o.name name).1 same)
 
-  life_place : (name : List ℕ) (i j slot version k : ℕ) → Contains tells.fails (i, k) → IsLinkOf run k name → HasOutcome run j (Opened slot version k) → HasPlace FailedIts (is_open_at name) (length Pairs) i
+  life_place : (name : List ℕ) (i j slot version k : ℕ) → Contains g.run.fixed.fails (i, k) → IsLinkOf run k name → HasOutcome run j (Opened slot version k) → HasPlace FailedIts (is_open_at name) (length Pairs) i
   life_place name i j slot version k failed named has =
-      let o = causes.opened_at script core broken report took ends callless limits long tells reports given j slot version k (became j (Opened slot version k) refl has) in
+      let o = lives.opened_at g j slot version k (became j (Opened slot version k) refl has) in
       let w = open_place name j slot version k has o (some_is o.name name (sym o.named ∙ named)) in
       (j, w.0, w.1, (k, failed, o.its))
 
-  failed_place : (name : List ℕ) (i k code : ℕ) (q : Operation) → IsOperation run i q → q.item ≡ Fail name code → Contains tells.fails (i, k) → (w : FailedAt i k) → HasPlace FailedIts (is_open_at name) (length Pairs) i
+  failed_place : (name : List ℕ) (i k code : ℕ) (q : Operation) → IsOperation run i q → q.item ≡ Fail name code → Contains g.run.fixed.fails (i, k) → (w : FailedAt i k) → HasPlace FailedIts (is_open_at name) (length Pairs) i
   failed_place name i k code q there item failed w =
       let whose : w.operation ≡ q = some_is w.operation q (sym w.there ∙ there) in
       let same : Fail w.name w.code ≡ Fail name code = sym w.item ∙ ap (λ (x : Operation). x.item) whose ∙ item in
@@ -192,7 +204,7 @@ module _ (script : List Item) (core : Core) (broken : List ℕ) (report : Report
   fail_place : (name : List ℕ) (i : ℕ) → is_fail_at name i ≡ true → HasPlace FailedIts (is_open_at name) (length Pairs) i
   fail_place name i e =
       let x = passes_some (λ (x : Operation × Outcome). is_fail_of name x.0.item x.1) (slice_get Pairs i) e in
-      let z = at_zip (operations script) report.outcomes i x.0 x.1 in
+      let z = at_zip (operations g.run.script) g.report.outcomes i x.0 x.1 in
       let parts = fail_parts name x.0.0.item x.0.1 x.2 in
       let has : HasOutcome run i Failed = z.1 ∙ ap Some parts.2 in
       let pair = each_fail i has in
@@ -214,13 +226,13 @@ module _ (script : List Item) (core : Core) (broken : List ℕ) (report : Report
   -- ## One life
 
   abbrev MadeAt : ℕ → ℕ → ℕ → ℕ → Type 0
-  MadeAt n k slot version = Made (all_tasks script) core.outcomes n k slot version
+  MadeAt n k slot version = Made (all_tasks g.run.script) g.run.core.outcomes n k slot version
 
   made_at : (i slot version k : ℕ) → HasOutcome run i (Opened slot version k) → (n : ℕ) × (m : MadeAt n k slot version) × (m.task.number ≡ i)
   made_at i slot version k has =
       let b = became i (Opened slot version k) refl has in
-      let w = causes.opened_at script core broken report took ends callless limits long tells reports given i slot version k b in
-      let n = name_number (names script) w.name in
+      let w = lives.opened_at g i slot version k b in
+      let n = name_number (names g.run.script) w.name in
       let m : MadeAt n k slot version = record { client = w.operation.client; task = record { number = i; op = ops.Open n k }; is = w.is; op = refl; became = b } in
       (n, m, refl)
 
@@ -228,175 +240,198 @@ module _ (script : List Item) (core : Core) (broken : List ℕ) (report : Report
   one_life i j slot version k l e f =
       let a = made_at i slot version k e in
       let b = made_at j slot version l f in
-      sym a.2 ∙ tells.lives a.0 k b.0 l slot version a.1 b.1 ∙ b.2
+      sym a.2 ∙ g.run.tells.lives a.0 k b.0 l slot version a.1 b.1 ∙ b.2
 
   -- ## One link
 
   abbrev Links : ℕ
-  Links = length (link_names script)
+  Links = length (link_names g.run.script)
 
   abbrev Stands : ℕ → ℕ → Accepted → Type 0
-  Stands k i a = lines.Stands script core broken report took limits tells reports k i a
+  Stands k i a = lines.Stands g k i a
 
   abbrev IsLine : ℕ → LinkLine → Type 0
-  IsLine k line = slice_get report.links k ≡ Some line
+  IsLine k line = slice_get g.report.links k ≡ Some line
 
   line_low : (k : ℕ) (line : LinkLine) → IsLine k line → k < Links
-  line_low = lines.line_low script core broken report took limits tells reports
+  line_low = lines.line_low g
 
   at_place : (k i : ℕ) (line : LinkLine) (label : Label) → IsLine k line → slice_get line.order i ≡ Some label → (a : Accepted) × Stands k i a × (orders.label_of a ≡ label)
-  at_place = lines.at_place script core broken report took limits tells reports
+  at_place = lines.at_place g
 
-  abbrev SentAt : ℕ → Accepted → Type 0
-  SentAt k a = sends.SentAt script core broken limits tells k a
-
-  sent_at : (k i : ℕ) (a : Accepted) → k < Links → Stands k i a → SentAt k a
-  sent_at = sends.sent_at script core broken limits tells
-
-  lived_by : (k : ℕ) (a : Accepted) → SentAt k a → BecameSocket run k
+  lived_by : (k : ℕ) (a : Accepted) → known.SentAt g.run k a → BecameSocket run k
   lived_by k a s = (s.life.task.number, s.slot, s.version, reported s.life.task.number (Opened s.slot s.version k) s.life.became)
 
   lived : (k : ℕ) (line : LinkLine) → IsLine k line → 0 < length line.order → BecameSocket run k
   lived k line e some_ =
       let l = within line.order 0 some_ in
       let w = at_place k 0 line l.0 e l.1 in
-      lived_by k w.0 (sent_at k 0 w.0 (line_low k line e) w.1)
+      lived_by k w.0 (known.sent_at g.run k 0 w.0 (line_low k line e) w.1)
 
-  -- each message goes to a name of the link's socket, and is no attempt of a call
+  -- each message goes to a name of the link's socket; an attempt of a call was made, and the call has an id
   abbrev Named : ℕ → Label → Type 0
-  Named k label = (name_of script label ≡ slice_get (link_names script) k) × IsMade run label
+  Named k label = (label_name g.run.script label ≡ slice_get (link_names g.run.script) k) × IsMade run label
 
-  named_at : (k : ℕ) (a : Accepted) → SentAt k a → Named k (orders.label_of a)
-  named_at k a s = (
-    ap (λ (o : Option Operation). option_and_then (λ (op : Operation). name_at op.item 0) o) s.there ∙ ap (λ item. name_at item 0) s.item
-        ∙ sym (causes.link_of script core broken report took ends callless limits long tells reports given s.number k s.slot s.version s.name (s.number_is, s.mentions) s.life),
-    λ op call there item. absurd (no_call a.operation op call there item),
-  )
+  made_by : (k : ℕ) (a : Accepted) → known.SentAt g.run k a → IsMade run (orders.label_of a)
+  made_by k a s op call there item =
+      let whose : s.operation ≡ op = some_is s.operation op (sym s.there ∙ there) in
+      elim (s.kind) [
+        | inl x ↦ absurd (let same : Send x.0 a.bytes ≡ Call call = sym x.1 ∙ ap (λ (y : Operation). y.item) whose ∙ item in cc)
+        | inr x ↦
+            let id : id_at g.report.outcomes a.operation ≡ Some x.id = ap (λ (o : Option Outcome). option_and_then shown_id o) (reported a.operation x.outcome x.became) ∙ x.shows in
+            let P : Option ℕ → Type 0 = λ o. IsSome o in
+            (subst P (sym id) refl, x.made)
+      ]
+
+  named_at : (k : ℕ) (a : Accepted) → known.SentAt g.run k a → Named k (orders.label_of a)
+  named_at k a s = (s.named ∙ sym (lives.link_of g s.number k s.slot s.version s.name (s.number_is, s.mentions) s.life), made_by k a s)
 
   named : (k : ℕ) (line : LinkLine) → IsLine k line → AllByRecursion (Named k) line.order
   named k line e = all_from (Named k) line.order (λ label h. (
       let w = at_place k h.0 line label e h.1 in
       let P : Label → Type 0 = λ x. Named k x in
-      subst P w.2 (named_at k w.0 (sent_at k h.0 w.0 (line_low k line e) w.1))
+      subst P w.2 (named_at k w.0 (known.sent_at g.run k h.0 w.0 (line_low k line e) w.1))
       ))
 
   abbrev InOrder : Accepted → Accepted → Type 0
-  InOrder a b = InTaskOrder (all_tasks script) core.outcomes a b
+  InOrder a b = told.InOwnOrder (plan_of g.run.script) (all_tasks g.run.script) g.run.core.outcomes g.run.fixed g.run.gave g.run.orders a b
 
   in_own_order : (a b : Accepted) → InOrder a b → InOwnOrder run (orders.label_of a) (orders.label_of b)
   in_own_order a b h p q at_a at_b own first second =
-      let v = causes.asked script core broken report took ends callless limits long tells reports given a.operation p at_a in
-      let w = causes.asked script core broken report took ends callless limits long tells reports given b.operation q at_b in
-      let t = causes.task_at script core broken report took ends callless limits long tells reports given a.operation p at_a v.0 v.1 in
-      let u = causes.task_at script core broken report took ends callless limits long tells reports given b.operation q at_b w.0 w.1 in
-      let P : ℕ → Type 0 = λ c. causes.TaskAt script core broken report took ends callless limits long tells reports given c b.operation w.0 in
-      h p.client (record { number = a.operation; op = v.0 }) (record { number = b.operation; op = w.0 }) t (subst P (sym own) u) refl refl
+      let v = lives.asked g a.operation p at_a in
+      let w = lives.asked g b.operation q at_b in
+      let t = lives.task_at g a.operation p at_a v.0 v.1 in
+      let u = lives.task_at g b.operation q at_b w.0 w.1 in
+      let P : ℕ → Type 0 = λ c. lives.TaskAt g c b.operation w.0 in
+      h p.client (record { number = a.operation; op = v.0 }) (record { number = b.operation; op = w.0 }) t (subst P (sym own) u) refl refl first second
 
   own_order : (k : ℕ) (line : LinkLine) → IsLine k line → EachBefore (InOwnOrder run) line.order
-  own_order k line e = before_from (InOwnOrder run) line.order (λ i j x y less f g. (
+  own_order k line e = before_from (InOwnOrder run) line.order (λ i j x y less f at. (
       let v = at_place k i line x e f in
-      let w = at_place k j line y e g in
+      let w = at_place k j line y e at in
       let P : Label → Label → Type 0 = λ l m. InOwnOrder run l m in
       let Q : Label → Type 0 = λ m. InOwnOrder run x m in
       let R : Label → Type 0 = λ l. InOwnOrder run l (orders.label_of w.0) in
-      subst Q w.2 (subst R v.2 (in_own_order v.0 w.0 (before_at InOrder (tells.orders k).accepted (tells.own_order k (line_low k line e)) i j v.0 w.0 less v.1 w.1)))
+      subst Q w.2 (subst R v.2 (in_own_order v.0 w.0 (before_at InOrder (g.run.orders k).accepted (g.run.tells.own_order k (line_low k line e)) i j v.0 w.0 less v.1 w.1)))
       ))
 
-  placed_is : (k : ℕ) (line : LinkLine) → IsLine k line → line.placed ≡ (tells.orders k).placed
-  placed_is = lines.placed_is script core broken report took limits tells reports
+  placed_is : (k : ℕ) (line : LinkLine) → IsLine k line → line.placed ≡ (g.run.orders k).placed
+  placed_is = lines.placed_is g
 
   -- ## The outcome of a send
 
-  shows : (placed k p : ℕ) → Shows placed k p (if nat_le placed p then Dropped k p else Placed k p)
-  shows placed k p = elim (nat_le placed p) as (λ b. nat_le placed p ≡ b → Shows placed k p (if b then Dropped k p else Placed k p)) [
-    | true ↦ λ t. (λ less. absurd (grind (arith, nat_tests)), λ more. refl)
-    | false ↦ λ t. (λ less. refl, λ more. absurd (grind (arith, nat_tests)))
-  ] refl
+  -- of a send that was accepted nothing is said
+  untold : (i k p : ℕ) (op : Operation) (name bytes : List ℕ) → IsOperation run i op → op.item ≡ Send name bytes → lives.TIsAt g i 0 k p → slice_get Outcomes i ≡ Some None
+  untold i k p op name bytes there item w =
+      let s = known.sent_at g.run k p w.1 w.0 w.2 in
+      let whose : s.operation ≡ op = some_is s.operation op (sym s.there ∙ ap (slice_get (operations g.run.script)) w.3 ∙ there) in
+      elim (s.kind) [
+        | inl x ↦ ap (slice_get Outcomes) (sym w.3) ∙ x.3
+        | inr x ↦ absurd (let same : Call x.call ≡ Send name bytes = sym x.item ∙ ap (λ (y : Operation). y.item) whose ∙ item in cc)
+      ]
 
-  -- what is reported of an operation whose message stands at a place
-  reported_place : (k p : ℕ) (a : Accepted) → k < Links → Stands k p a → HasOutcome run a.operation (if nat_le (tells.orders k).placed p then Dropped k p else Placed k p)
-  reported_place k p a low at =
-      let s = sent_at k p a low at in
-      ap (λ os. slice_get os a.operation) reports.outcomes
-      ∙ untold_outcome (place_words (plan_of script) core.words) core.outcomes a.operation s.untold
-      ∙ ap Some (lines.outcome_at script core broken report took limits tells reports k p a low at)
-
-  shown : (k : ℕ) (line : LinkLine) → IsLine k line → (p i : ℕ) → StandsIn line (attempt i 0) p → (outcome : Outcome) × HasOutcome run i outcome × Shows line.placed k p outcome
-  shown k line e p i f =
-      let w = at_place k p line (attempt i 0) e f in
-      let same : w.0.operation ≡ i = ap (λ (l : Label). l.operation) w.2 in
-      let placed = (tells.orders k).placed in
+  shown : (k : ℕ) (line : LinkLine) → IsLine k line → (p i : ℕ) (op : Operation) (name bytes : List ℕ) → StandsIn line (attempt i 0) p → IsOperation run i op → op.item ≡ Send name bytes → (outcome : Outcome) × HasOutcome run i outcome × Shows line.placed k p outcome
+  shown k line e p i op name bytes f there item =
+      let w = causes.at_stand g i 0 k p (line, e, f) in
+      let placed = (g.run.orders k).placed in
       let outcome : Outcome = if nat_le placed p then Dropped k p else Placed k p in
-      let P : ℕ → Type 0 = λ n. HasOutcome run n outcome in
-      let Q : ℕ → Type 0 = λ n. Shows n k p outcome in
-      (outcome, subst P same (reported_place k p w.0 (line_low k line e) w.1), subst Q (sym (placed_is k line e)) (shows placed k p))
+      let Q : ℕ → Type 0 = λ n. Shows n k p outcome in (
+        outcome,
+        ap (λ os. slice_get os i) g.reports.outcomes ∙ untold_outcome (lives.Words g) Outcomes i (untold i k p op name bytes there item w) ∙ ap Some (causes.accepted_outcome g i (k, p, w)),
+        subst Q (sym (lines.placed_is g k line e)) (shows placed k p),
+      )
 
   abbrev taken_of : ℕ → List ℕ
-  taken_of k = lines.took_of script core broken report took limits tells reports k
+  taken_of k = lines.took_of g k
 
   -- where a link tells what it took, this is reported, and lies at its home
-  told_by : (k : ℕ) (line : LinkLine) → IsLine k line → (bytes : List ℕ) → took_at took k ≡ bytes → bytes ≡ taken_of k → (line.took ≡ bytes) × TookInOrder run line
+  told_by : (k : ℕ) (line : LinkLine) → IsLine k line → (bytes : List ℕ) → took_at g.took k ≡ bytes → bytes ≡ taken_of k → (line.took ≡ bytes) × TookInOrder run line
   told_by k line e bytes says holds =
-      let reported_is : line.took ≡ bytes = lines.took_is script core broken report took limits tells reports k line e ∙ says in
-      (reported_is, lines.took_in_order script core broken report took limits tells reports report.outcomes k line e (reported_is ∙ holds))
+      let reported_is : line.took ≡ bytes = lines.took_is g k line e ∙ says in
+      (reported_is, lines.took_in_order g k line e (reported_is ∙ holds))
 
   fits_link : (k : ℕ) (line : LinkLine) → IsLine k line → FitsLink run k line
   fits_link k line e =
       let low = line_low k line e in
-      let w = within ends k (omega (arith, low, given.as_many)) in
-      let is = given.each k w.0 w.1 in
-      let there = contains_from ends w.0 (k, w.1) in
-      let count = lines.line_length script core broken report took limits tells reports k line e in
+      let w = lives.end_at g k low in
+      let told_ = within g.ends k (omega (arith, low, g.given.as_many)) in
+      let is = g.given.each k told_.0 told_.1 in
+      let end : lives.EndOf g k = record { end = told_.0; there = contains_from g.ends told_.0 (k, told_.1); is = is } in
+      let count = lines.line_length g k line e in
       record {
-        end = w.0;
-        given = there;
+        end = told_.0;
+        given = contains_from g.ends told_.0 (k, told_.1);
         numbered = is.numbered;
-        told = if_some_both (λ bytes. took_at took k ≡ bytes) (λ bytes. bytes ≡ taken_of k) (λ bytes. (line.took ≡ bytes) × TookInOrder run line) (λ bytes says holds. told_by k line e bytes says holds) w.0.took (are_told k w.0 w.1) is.took;
-        within = omega (arith, count, placed_is k line e, tells.are_orders.within k low);
-        fails = λ h. causes.dropped_failing script core broken report took ends callless limits long tells reports given k low (omega (arith, h, count, placed_is k line e)) w.0 there is.numbered is.failed;
+        told = if_some_both (λ bytes. took_at g.took k ≡ bytes) (λ bytes. bytes ≡ taken_of k) (λ bytes. (line.took ≡ bytes) × TookInOrder run line) (λ bytes says holds. told_by k line e bytes says holds) told_.0.took (g.told k told_.0 told_.1) is.took;
+        within = omega (arith, count, lines.placed_is g k line e, g.run.tells.are_orders.within k low);
+        fails = λ h. lives.failing_by g (λ f. Unit {0}) (λ f. Unit {0}) k end (λ f x. x) (g.run.tells.dropped k low (omega (arith, h, count, lines.placed_is g k line e)));
         own_order = own_order k line e;
         lived = lived k line e;
         named = named k line e;
-        shown = λ p i op name bytes f there item. shown k line e p i f;
+        shown = shown k line e;
       }
 
   -- ## No label twice
 
   differ : (k l i j : ℕ) (m n : LinkLine) (a b : Label) → IsLine k m → IsLine l n → slice_get m.order i ≡ Some a → slice_get n.order j ≡ Some b → ((k ≡ l) × (i ≡ j) → ⊥) → a ≢ b
-  differ k l i j m n a b e f g h other same =
-      let v = at_place k i m a e g in
-      let w = at_place l j n b f h in
-      let operation : v.0.operation ≡ w.0.operation = ap (λ (x : Label). x.operation) (v.2 ∙ same ∙ sym w.2) in
-      other (tells.are_orders.apart k l i j v.0 w.0 (line_low k m e) (line_low l n f) v.1 w.1 operation)
+  differ k l i j m n a b e f at bt other same =
+      let v = at_place k i m a e at in
+      let w = at_place l j n b f bt in
+      let number : number_of_label v.0 ≡ number_of_label w.0 = ap (λ (x : Label). 8 * x.operation + x.attempt) (v.2 ∙ same ∙ sym w.2) in
+      other (g.run.tells.are_orders.apart k l i j v.0 w.0 (line_low k m e) (line_low l n f) v.1 w.1 number)
 
-  labels_once : EachBefore (λ (a b : Label). a ≢ b) (flat_map (λ (line : LinkLine). line.order) report.links)
+  labels_once : EachBefore (λ (a b : Label). a ≢ b) (flat_map (λ (line : LinkLine). line.order) g.report.links)
   labels_once =
       let Apart : Label → Label → Type 0 = λ a b. a ≢ b in
-      flat_before Apart (λ (line : LinkLine). line.order) report.links
-      (λ k line e. before_from Apart line.order (λ i j a b less f g. differ k k i j line line a b e e f g (λ same. omega (arith, less, same.1))))
-      (λ k l i j m n a b less e f g h. differ k l i j m n a b e f g h (λ same. omega (arith, less, same.0)))
+      flat_before Apart (λ (line : LinkLine). line.order) g.report.links
+      (λ k line e. before_from Apart line.order (λ i j a b less f at. differ k k i j line line a b e e f at (λ same. omega (arith, less, same.1))))
+      (λ k l i j m n a b less e f at bt. differ k l i j m n a b e f at bt (λ same. omega (arith, less, same.0)))
+
+  -- ## No version twice, and no call expired twice
+
+  versions : (i j id other : ℕ) (p q : Operation) (a b : CallLine) → IsOperation run i p → IsOperation run j q → p.item ≡ Call a → q.item ≡ Call b → id_at g.report.outcomes i ≡ Some id → id_at g.report.outcomes j ≡ Some other → i ≢ j → AreApart a id b other
+  versions i j id other p q a b at_i at_j item_i item_j id_i id_j apart =
+      let x = id_shown g.report.outcomes i id (slice_get g.report.outcomes i) refl id_i in
+      let y = id_shown g.report.outcomes j other (slice_get g.report.outcomes j) refl id_j in
+      by_case (g.run.tells.versions p.client q.client (record { number = i; op = ops.Call (asked_of Names i a) }) (record { number = j; op = ops.Call (asked_of Names j b) }) (asked_of Names i a) (asked_of Names j b) x.0 y.0 id other
+      (known.call_task g.run i p a at_i item_i) (known.call_task g.run j q b at_j item_j) refl refl (became i x.0 (id_said x.0 id x.2) x.1) (became j y.0 (id_said y.0 other y.2) y.1) x.2 y.2 apart)
+    where
+      by_case : (id + (a.retry + 2) ≤ other) ⊎ (other + (b.retry + 2) ≤ id) → AreApart a id b other
+      by_case (inl h) = inl (omega (arith, h))
+      by_case (inr h) = inr (omega (arith, h))
+
+  expire_asks_ : (i client number : ℕ) (p : Operation) → p.item ≡ Expire client number → asks_at g.run.script i p ≡ Some (ops.Expire (number_of (numbered g.run.script) client number))
+  expire_asks_ i client number p item = ap (op_of (numbered g.run.script) Names (numbers_at g.run.script i p)) item
+
+  expiries : (i j client number : ℕ) (p q : Operation) → IsOperation run i p → IsOperation run j q → p.item ≡ Expire client number → q.item ≡ Expire client number → HasOutcome run i Expired → HasOutcome run j Expired → i ≡ j
+  expiries i j client number p q at_i at_j item_i item_j has_i has_j =
+      let t = number_of (numbered g.run.script) client number in
+      g.run.tells.expired_once p.client q.client (record { number = i; op = ops.Expire t }) (record { number = j; op = ops.Expire t }) t
+      (lives.task_at g i p at_i (ops.Expire t) (expire_asks_ i client number p item_i)) (lives.task_at g j q at_j (ops.Expire t) (expire_asks_ j client number q item_j)) refl refl
+      (became i Expired refl has_i) (became j Expired refl has_j)
 
   -- ## The whole
 
   fits_once : FitsOnce run
-  fits_once = record {
-    labels = labels_once;
-    lives = one_life;
-    versions = λ i j id id' p q a b e f g h x y z. absurd (no_call i p a e g);
-    expiries = λ i j client number p q e f g h x y. absurd (no_expire i p client number e g);
-    fails = few_fails;
-  }
+  fits_once = record { labels = labels_once; lives = one_life; versions = versions; expiries = expiries; fails = few_fails }
+
+  abbrev GivenBy : LinkEnd → Type 0
+  GivenBy e = (length (g.run.gave e.link) ≡ e.gave_count) × IfSome e.gave (λ bytes. bytes ≡ g.run.gave e.link)
 
   are_given : AreGiven run
-  are_given = all_from (λ (e : LinkEnd). (0 ≡ e.gave_count) × IfSome e.gave (λ bytes. bytes ≡ [])) ends (λ e h. (sym (given.each h.0 e h.1).gave_none, (given.each h.0 e h.1).gave))
+  are_given = all_from GivenBy g.ends (λ e h. (
+      let is = g.given.each h.0 e h.1 in
+      let P : ℕ → Type 0 = λ x. (length (g.run.gave x) ≡ e.gave_count) × IfSome e.gave (λ bytes. bytes ≡ g.run.gave x) in
+      subst P (sym is.numbered) (is.counted, is.gives)
+      ))
 
   pub fits_run : FitsRun run
   fits_run = record {
-    one_each = ap length reports.outcomes ∙ outcomes_length (place_words (plan_of script) core.words) 0 core.outcomes ∙ long;
-    causes = causes.cause_at script core broken report took ends callless limits long tells reports given;
-    line_each = reports.line_each;
+    one_each = ap length g.reports.outcomes ∙ outcomes_length (place_words (plan_of g.run.script) g.run.core.words) 0 g.run.core.outcomes ∙ g.run.long;
+    causes = causes.cause_at g;
+    line_each = g.reports.line_each;
     links = fits_link;
-    tried = λ i op call e f. absurd (no_call i op call e f);
+    tried = causes.tried g;
     once = fits_once;
     given = are_given;
     fails = are_fails;
@@ -404,88 +439,91 @@ module _ (script : List Item) (core : Core) (broken : List ℕ) (report : Report
 
   -- ## Where nothing went wrong
 
+  abbrev Calm : Type 0
+  Calm = IsCalm g.run.script g.run.core.outcomes g.run.fixed
+
   -- no link failed
-  none_broken : IsUntroubled script ends → (k : ℕ) → k < Links → Contains broken k → ⊥
+  none_broken : IsUntroubled g.run.script g.ends → (k : ℕ) → k < Links → Contains g.run.fixed.broken k → ⊥
   none_broken calm k low b =
-      let e = causes.end_at script core broken report took ends callless limits long tells reports given k low in
-      let put = all_at (λ (x : LinkEnd). (x.put_faults ≡ 0) × (x.take_faults ≡ 0)) ends e.0 calm.put (has_from ends e.0 e.1) in
-      omega (arith, put.0, e.3 b)
+      let e = lives.end_at g k low in
+      let put = all_at (λ (x : LinkEnd). (x.put_faults ≡ 0) × (x.take_faults ≡ 0)) g.ends e.end calm.put (has_from g.ends e.end e.there) in
+      omega (arith, put.0, e.is.failed b)
 
   -- and no life was failed
-  none_failed : IsUntroubled script ends → (f : ℕ × ℕ) → Contains tells.fails f → ⊥
+  none_failed : IsUntroubled g.run.script g.ends → (f : ℕ × ℕ) → Contains g.run.fixed.fails f → ⊥
   none_failed calm f h =
       let w = failed_at f h in
-      let P : Item → Type 0 = λ x. Has script x in
-      calm.no_fail w.name w.code (contains_from script (Fail w.name w.code) (subst P w.item (are_from 0 1 script f.0 w.operation w.there).there))
+      calm.no_fail w.name w.code (contains_from g.run.script (Fail w.name w.code) (known.in_script g.run f.0 w.operation w.there (Fail w.name w.code) w.item))
 
-  all_placed : IsUntroubled script ends → (k p : ℕ) (a : Accepted) → k < Links → Stands k p a → p < (tells.orders k).placed
-  all_placed calm k p a low at =
-      let inside = slice_get_within (tells.orders k).accepted p a at in
-      elim (nat_lt p (tells.orders k).placed) as (λ b. nat_lt p (tells.orders k).placed ≡ b → p < (tells.orders k).placed) [
+  unfailed : IsUntroubled g.run.script g.ends → Calm → (counts : ℕ → Type 0) (k : ℕ) → k < Links → lives.TFailingBy g counts k → ⊥
+  unfailed calm owes counts k low w = elim w [
+    | inl f ↦ none_failed calm (f.0, k) f.1
+    | inr (inl b) ↦ none_broken calm k low b
+    | inr (inr (inl early)) ↦ owes.none_early k early
+    | inr (inr (inr late)) ↦ owes.no_late_link k late
+  ]
+
+  all_placed : IsUntroubled g.run.script g.ends → Calm → (k p : ℕ) (a : Accepted) → k < Links → Stands k p a → p < (g.run.orders k).placed
+  all_placed calm owes k p a low at =
+      let inside = slice_get_within (g.run.orders k).accepted p a at in
+      elim (nat_lt p (g.run.orders k).placed) as (λ b. nat_lt p (g.run.orders k).placed ≡ b → p < (g.run.orders k).placed) [
         | true ↦ λ t. grind (arith, nat_tests)
-        | false ↦ λ t. absurd (dropped (tells.dropped k low (grind (arith, nat_tests, inside))))
+        | false ↦ λ t. absurd (unfailed calm owes (λ f. Unit {0}) k low (g.run.tells.dropped k low (grind (arith, nat_tests, inside))))
       ] refl
+
+  said_done : IsUntroubled g.run.script g.ends → Calm → (i n : ℕ) (q : Operation) (name bytes : List ℕ) (o : Outcome) → IsOperation run i q → q.item ≡ Send name bytes → slice_get g.run.core.outcomes i ≡ Some (Some o) → lives.WhyAt g q.client i (ops.Send n bytes) o →
+      SendCause run i q name o → SendDone run i q name o
+  said_done calm owes i n q name bytes Unopened there item b w cause = inr (refl, cause)
+  said_done calm owes i n q name bytes (Gone found) there item b w cause = absurd (by_cause w.failed)
     where
-      dropped : Contains broken k ⊎ ((fail : ℕ) × Contains tells.fails (fail, k)) → ⊥
-      dropped (inl b) = none_broken calm k low b
-      dropped (inr f) = none_failed calm (f.0, k) f.1
+      by_cause : lives.TFailingBy g (lives.TIsNoLater g q.client i) w.link ⊎ Contains g.run.fixed.late i → ⊥
+      by_cause (inl f) = unfailed calm owes (lives.TIsNoLater g q.client i) w.link (causes.life_low g n w.link w.slot w.version w.made) f
+      by_cause (inr late) = owes.none_late i q name bytes there item late
+  said_done calm owes i n q name bytes Full there item b w cause = absurd (omega (arith, cause.1.1, cause.1.0, calm.few_attempts))
+  said_done calm owes i n q name bytes other there item b w cause = absurd w
 
-  unfailed : IsUntroubled script ends → (c i k : ℕ) → k < Links → WasFailed (all_tasks script) core.outcomes tells.fails broken c i k → ⊥
-  unfailed calm c i k low (inl f) = none_failed calm (f.0, k) f.1
-  unfailed calm c i k low (inr b) = none_broken calm k low b
-
-  -- a life has one of the script's links
-  life_low : (n k slot version : ℕ) → MadeAt n k slot version → k < Links
-  life_low n k slot version m =
-      let w = causes.opened_at script core broken report took ends callless limits long tells reports given m.task.number slot version k m.became in
-      slice_get_within (link_names script) k w.name w.named
-
-  abbrev SendWhy : ℕ → ℕ → ℕ → List ℕ → Outcome → Type 0
-  SendWhy c i n bytes o = causes.WhyAt script core broken report took ends callless limits long tells reports given c i (ops.Send n bytes) o
-
-  said_done : IsUntroubled script ends → (i n : ℕ) (q : Operation) (name bytes : List ℕ) (o : Outcome) → IsOperation run i q → q.item ≡ Send name bytes → slice_get core.outcomes i ≡ Some (Some o) → SendWhy q.client i n bytes o → SendCause run i q name o →
-      SendDone run i q name o
-  said_done calm i n q name bytes Unopened there item b w cause = inr (refl, cause)
-  said_done calm i n q name bytes (Gone found) there item b w cause = absurd (unfailed calm q.client i w.link (life_low n w.link w.slot w.version w.made) w.failed)
-  said_done calm i n q name bytes Full there item b w cause =
-      let told : slice_get core.outcomes i ≡ Some None → ⊥ = λ e. let same : Some Full ≡ None = some_is (Some Full) None (sym b ∙ e) in absurd (cc) in
-      absurd (omega (arith, w.1, sends.fewer script core broken limits tells i q name bytes there item told, calm.few_attempts))
-  said_done calm i n q name bytes other there item b w cause = absurd w
-
-  placed_done : IsUntroubled script ends → (i : ℕ) (q : Operation) (name : List ℕ) (o : Outcome) → o ≡ outcome_by_word (word_at (place_words (plan_of script) core.words) (8 * i)) → causes.WasAccepted script core broken report took ends callless limits long tells reports given i → SendDone run i q name o
-  placed_done calm i q name o is w =
+  placed_done : IsUntroubled g.run.script g.ends → Calm → (i : ℕ) (q : Operation) (name : List ℕ) (o : Outcome) → o ≡ outcome_by_word (word_at (lives.Words g) (8 * i)) → causes.WasAccepted g i → SendDone run i q name o
+  placed_done calm owes i q name o is w =
       let k = w.0 in
       let p = w.1 in
-      let placed = all_placed calm k p w.2 w.3 w.4 in
-      let first : nat_le (tells.orders k).placed p ≡ false = grind (arith, nat_tests, placed) in
-      inl (
-        k,
-        p,
-        is ∙ ap (λ n. outcome_by_word (word_at (place_words (plan_of script) core.words) (8 * n))) (sym w.5)
-            ∙ lines.outcome_at script core broken report took limits tells reports k p w.2 w.3 w.4
-            ∙ ap (λ b. if b then Dropped k p else Placed k p) first,
-      )
+      let placed = all_placed calm owes k p w.2.1 w.2.0 w.2.2 in
+      let first : nat_le (g.run.orders k).placed p ≡ false = grind (arith, nat_tests, placed) in
+      inl (k, p, is ∙ causes.accepted_outcome g i w ∙ ap (λ b. if b then Dropped k p else Placed k p) first)
 
-  send_done : IsUntroubled script ends → (i : ℕ) (q : Operation) (name bytes : List ℕ) (o : Outcome) → IsOperation run i q → q.item ≡ Send name bytes → HasOutcome run i o → SendDone run i q name o
-  send_done calm i q name bytes o there item has = by_case (causes.said_or_placed_at script core broken report took ends callless limits long tells reports given i o has)
+  send_done : IsUntroubled g.run.script g.ends → Calm → (i : ℕ) (q : Operation) (name bytes : List ℕ) (o : Outcome) → IsOperation run i q → q.item ≡ Send name bytes → HasOutcome run i o → SendDone run i q name o
+  send_done calm owes i q name bytes o there item has = by_case (lives.said_or_placed_at g i o has)
     where
-      by_case : SaidOrPlaced (place_words (plan_of script) core.words) core.outcomes i o → SendDone run i q name o
+      by_case : SaidOrPlaced (lives.Words g) g.run.core.outcomes i o → SendDone run i q name o
       by_case (inl b) =
-          let n = name_number (names script) name in
-          let asks : op_of (names script) (link_at (operations script) i) q.item ≡ Some (ops.Send n bytes) = ap (op_of (names script) (link_at (operations script) i)) item in
-          let why = causes.why_at script core broken report took ends callless limits long tells reports given i q there (ops.Send n bytes) asks o b in
+          let n = name_number (names g.run.script) name in
+          let asks : asks_at g.run.script i q ≡ Some (ops.Send n bytes) = ap (op_of (numbered g.run.script) Names (numbers_at g.run.script i q)) item in
+          let why = lives.why_at g i q there (ops.Send n bytes) asks o b in
           let P : Item → Type 0 = λ x. Cause run i q x o in
-          said_done calm i n q name bytes o there item b why (subst P item (causes.cause_at script core broken report took ends callless limits long tells reports given i q o there has))
-      by_case (inr w) = placed_done calm i q name o w.1 (causes.was_accepted script core broken report took ends callless limits long tells reports given i q there w.0)
+          said_done calm owes i n q name bytes o there item b why (subst P item (causes.cause_at g i q o there has))
+      by_case (inr w) = placed_done calm owes i q name o w.1 (causes.was_accepted g i q there w.0)
 
-  pub complete : Completeness run
-  complete calm = record {
-    sends = λ i op name bytes o there item has. send_done calm i op name bytes o there item has;
-    calls = λ i op call name o e f h x y z. absurd (no_call i op call e f);
+  call_done : Calm → (i : ℕ) (q : Operation) (call : CallLine) (name : List ℕ) (o : Outcome) → IsOperation run i q → q.item ≡ Call call → HasOutcome run i o → slice_get call.names 0 ≡ Some name → IsServed g.run.script name →
+      (Contains g.run.script (Expire q.client q.number) → ⊥) → CallDone run i q call name o
+  call_done owes i q call name o there item has first served unexpired = by_case (lives.said_or_placed_at g i o has)
+    where
+      by_case : SaidOrPlaced (lives.Words g) g.run.core.outcomes i o → CallDone run i q call name o
+      by_case (inl b) = elim (owes.calls i q call name o there item b first served unexpired) [
+        | inl reply ↦ inl reply
+        | inr none_ ↦
+            let P : Item → Type 0 = λ x. Cause run i q x o in
+            let Q : Outcome → Type 0 = λ x. Cause run i q (Call call) x in
+            inr (none_, subst Q none_ (subst P item (causes.cause_at g i q o there has)) name (sym first))
+      ]
+      by_case (inr w) =
+          let s = causes.was_sent g i q there w.0 (causes.was_accepted g i q there w.0) in
+          absurd (let same : Send s.0 s.1 ≡ Call call = sym s.2 ∙ item in cc)
+
+  pub complete : (IsUntroubled g.run.script g.ends → Calm) → Completeness run
+  complete owes calm = record {
+    sends = λ i op name bytes o there item has. send_done calm (owes calm) i op name bytes o there item has;
+    calls = λ i op call name o there item has first served unexpired. call_done (owes calm) i op call name o there item has first served unexpired;
   }
 
--- the report of a run of which this is told fits the script and the links, and is complete
-pub fits : (script : List Item) (core : Core) (broken : List ℕ) (report : Report) (took : List (List ℕ)) (ends : List LinkEnd) → is_callless script ≡ true → KeepsLimits script → Told (all_tasks script) core.outcomes (plan_of script) core broken →
-    length core.outcomes ≡ length (operations script) → Reports script core took report → AreTold ends took → AreEnds script core broken ends → FitsWhole script (report_text script report) ends nothing_late
-fits script core broken report took ends callless limits tells long reports are_told given =
-    (report, causes.story_of script core broken report took ends callless limits long tells reports given, refl, (fits_run script core broken report took ends callless limits long tells reports are_told given, complete script core broken report took ends callless limits long tells reports are_told given))
+-- the report of a run of which this is told fits the script and the links, and where nothing went wrong it is complete
+pub fits : (g : Given) → (IsUntroubled g.run.script g.ends → IsCalm g.run.script g.run.core.outcomes g.run.fixed) → FitsWhole g.run.script (report_text g.run.script g.report) g.ends (lives.late_of g)
+fits g owes = (g.report, lives.story_of g, refl, (fits_run g, complete g owes))

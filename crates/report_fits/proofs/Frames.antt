@@ -3,7 +3,6 @@ use Rattle.std.proofs.Common.{ℕ, zero, suc, ◌+◌, ◌*◌, ◌/◌, ◌%◌
 use Rattle.std.specs.Prelude.{pos}
 use Rattle.std.specs.Int.{w32, to_be_bytes}
 use Rattle.brpc_model.specs.Wire.{varint_up_to, varint_bytes}
-use Rattle.brpc_model.specs.Meta.{Meta}
 use Rattle.brpc_model.specs.Spelling.{number_field, bytes_field, request_bytes, where_not_0, meta_bytes}
 use Rattle.brpc_model.specs.Frame.{magic, framed}
 use Rattle.sock_programs.specs.declared.task.Asked.{Asked}

@@ -4,7 +4,7 @@ use Rattle.std.proofs.lemmas.Bool.Decides.{nat_tests}
 use Rattle.std.proofs.lemmas.Option.{slice_get_within, slice_get_past}
 use Rattle.sock_words.specs.declared.plain.Plan.{Plan}
 use Rattle.sock_words.specs.declared.place_word.PlaceWord.{PlaceWord}
-use Rattle.sock_words.specs.Words.{no_place, HasPosition, IsPlaceWord, place_word_dropped}
+use Rattle.sock_words.specs.Words.{no_place, HasPosition, IsPlaceWord}
 use Rattle.brpc_model.specs.Operations.{Label}
 use Rattle.brpc_model.specs.Report.{LinkLine}
 use Rattle.brpc_model.specs.PlaceWords.{word_at, word_of, StandsAt as Stands, IsOrder, is_placed, IsLineOf, ArePlaces}
@@ -13,20 +13,20 @@ use Rattle.sock_model.specs.Deliveries.{place_value}
 use Rattle.sock_programs.specs.Cores.{Core}
 use Rattle.sock_programs.specs.Runs.{from_to}
 use Rattle.sock_programs.specs.Scripts.{place_words}
-use Rattle.sock_programs.specs.Told.{Accepted, Order, AreOrders, StandsAt}
+use Rattle.sock_programs.specs.ToldCalls.{Accepted, Order, AreOrders, StandsAt, label as number_of}
 use Rattle.report_fits.proofs.Lists.{within, some_is}
 use Rattle.report_fits.proofs.Flat.{same_places, map_at, at_map, map_length, from_to_at, from_to_length, count_first}
 use Rattle.report_fits.proofs.PlaceValues.{is_place}
 
 -- ## The word of a number
 
-pub word_here : (p : Plan) (ws : List ℕ) (n : ℕ) → n < 8 * p.operations → word_at (place_words p ws) n ≡ slice_index ws (place_word p n)
+word_here : (p : Plan) (ws : List ℕ) (n : ℕ) → n < 8 * p.operations → word_at (place_words p ws) n ≡ slice_index ws (place_word p n)
 word_here p ws n low =
     let f : ℕ → PlaceWord = λ l. record { 0 = slice_index ws (place_word p l) } in
     let at : slice_get (map f (from_to 0 (8 * p.operations))) n ≡ Some (f n) = map_at f (from_to 0 (8 * p.operations)) n n (from_to_at 0 (8 * p.operations) n low ∙ ap Some (let same : 0 + n ≡ n = omega arith in same)) in
     ap (λ (o : Option PlaceWord). unwrap_or (option_map (λ (word : PlaceWord). word.0) o) no_place) at
 
-pub word_beyond : (p : Plan) (ws : List ℕ) (n : ℕ) → 8 * p.operations ≤ n → word_at (place_words p ws) n ≡ no_place
+word_beyond : (p : Plan) (ws : List ℕ) (n : ℕ) → 8 * p.operations ≤ n → word_at (place_words p ws) n ≡ no_place
 word_beyond p ws n high =
     let f : ℕ → PlaceWord = λ l. record { 0 = slice_index ws (place_word p l) } in
     let long : length (map f (from_to 0 (8 * p.operations))) ≤ n = omega (arith, high, map_length f (from_to 0 (8 * p.operations)), from_to_length 0 (8 * p.operations)) in
@@ -36,48 +36,43 @@ word_beyond p ws n high =
 
 -- the label of a message that was accepted
 abbrev pub label_of : Accepted → Label
-label_of a = record { operation = a.operation; attempt = 0 }
+label_of a = record { operation = a.operation; attempt = a.attempt }
 
 -- a label of this number is that of the message
-label_is : (label : Label) (operation : ℕ) → label.attempt < 8 → 8 * label.operation + label.attempt ≡ 8 * operation → record { operation = operation; attempt = 0 } ≡ label
-label_is label operation low e =
-    let same : operation ≡ label.operation = omega (arith, low, e) in
-    let first : 0 ≡ label.attempt = omega (arith, low, e) in
-    ap (λ (n : ℕ). let l : Label = record { operation = n; attempt = 0 } in l) same ∙ ap (λ (n : ℕ). let l : Label = record { operation = label.operation; attempt = n } in l) first
+label_is : (label : Label) (a : Accepted) → label.attempt < 8 → a.attempt < 8 → 8 * label.operation + label.attempt ≡ number_of a → label_of a ≡ label
+label_is label a low few e =
+    let operation : a.operation ≡ label.operation = omega (arith, low, few, e) in
+    let attempt : a.attempt ≡ label.attempt = omega (arith, low, few, e) in
+    ap (λ (n : ℕ). let l : Label = record { operation = n; attempt = a.attempt } in l) operation ∙ ap (λ (n : ℕ). let l : Label = record { operation = label.operation; attempt = n } in l) attempt
 
 -- ## Orders
 
 module _ (p : Plan) (c : Core) (orders : ℕ → Order) (are : AreOrders p c orders) (links : p.links ≤ 65536)
-    (inside : (k i : ℕ) (a : Accepted) → k < p.links → StandsAt orders k i a → (i < 4294967295) × (a.operation < p.operations)) where
+    (inside : (k i : ℕ) (a : Accepted) → k < p.links → StandsAt orders k i a → (i < 4294967295) × (a.operation < p.operations) × (a.attempt < 8)) where
   abbrev Words : List PlaceWord
   Words = place_words p c.words
 
   -- the word of a message that was accepted
-  pub word_is : (k i : ℕ) (a : Accepted) → k < p.links → StandsAt orders k i a → word_at Words (8 * a.operation) ≡ place_value (nat_le (orders k).placed i) k i
+  pub word_is : (k i : ℕ) (a : Accepted) → k < p.links → StandsAt orders k i a → word_at Words (number_of a) ≡ place_value (nat_le (orders k).placed i) k i
   word_is k i a low at =
       let few = inside k i a low at in
-      word_here p c.words (8 * a.operation) (omega (arith, few.1)) ∙ are.written k i a low at
+      word_here p c.words (number_of a) (omega (arith, few.1, few.2)) ∙ are.written k i a low at
 
-  pub parts : (k i : ℕ) (a : Accepted) → k < p.links → StandsAt orders k i a → IsPlaceWord (word_at Words (8 * a.operation)) (nat_le (orders k).placed i) k i
+  pub parts : (k i : ℕ) (a : Accepted) → k < p.links → StandsAt orders k i a → IsPlaceWord (word_at Words (number_of a)) (nat_le (orders k).placed i) k i
   parts k i a low at =
       let few = inside k i a low at in
       let P : ℕ → Type 0 = λ w. IsPlaceWord w (nat_le (orders k).placed i) k i in
       subst P (sym (word_is k i a low at)) (is_place (nat_le (orders k).placed i) k i (omega (arith, low, links)) few.0)
 
-  label_word : (a : Accepted) → word_of Words (label_of a) ≡ word_at Words (8 * a.operation)
-  label_word a = let same : 8 * a.operation + 0 ≡ 8 * a.operation = omega arith in ap (word_at Words) same
-
   -- its label stands there
   pub stands : (k i : ℕ) (a : Accepted) → k < p.links → StandsAt orders k i a → Stands Words (label_of a) k i
   stands k i a low at =
-      let w = parts k i a low at in
-      let P : ℕ → Type 0 = λ x. IsPlaceWord x (nat_le (orders k).placed i) k i in
-      let v = subst P (sym (label_word a)) w in
-      record { attempt = omega arith; told = record { accepted = v.has_position; link_is = v.link_is; position_is = v.position_is } }
+      let v = parts k i a low at in
+      record { attempt = (inside k i a low at).2; told = record { accepted = v.has_position; link_is = v.link_is; position_is = v.position_is } }
 
   -- a word that tells a position is that of a message
   abbrev pub IsAccepted : ℕ → Type 0
-  IsAccepted n = (k i : ℕ) × (a : Accepted) × (k < p.links) × StandsAt orders k i a × (n ≡ 8 * a.operation)
+  IsAccepted n = (k i : ℕ) × (a : Accepted) × (k < p.links) × StandsAt orders k i a × (n ≡ number_of a)
 
   pub none_or_accepted : (n : ℕ) → (word_at Words n ≡ no_place) ⊎ IsAccepted n
   none_or_accepted n = elim (nat_le (8 * p.operations) n) as (λ b. nat_le (8 * p.operations) n ≡ b → (word_at Words n ≡ no_place) ⊎ IsAccepted n) [
@@ -101,7 +96,7 @@ module _ (p : Plan) (c : Core) (orders : ℕ → Order) (are : AreOrders p c ord
   stands_back label k i h =
       let w = accepted_at (8 * label.operation + label.attempt) h.told.accepted in
       let v = parts w.0 w.1 w.2 w.3 w.4 in
-      let same : word_of Words label ≡ word_at Words (8 * w.2.operation) = ap (word_at Words) w.5 in
+      let same : word_of Words label ≡ word_at Words (number_of w.2) = ap (word_at Words) w.5 in
       let P : ℕ → Type 0 = λ x. IsPlaceWord x (nat_le (orders w.0).placed w.1) w.0 w.1 in
       let u = subst P (sym same) v in
       let link : w.0 ≡ k = sym u.link_is ∙ h.told.link_is in
@@ -109,7 +104,7 @@ module _ (p : Plan) (c : Core) (orders : ℕ → Order) (are : AreOrders p c ord
       let Q : ℕ → Type 0 = λ x. (x < p.links) × StandsAt orders x w.1 w.2 in
       let R : ℕ → Type 0 = λ x. StandsAt orders k x w.2 in
       let there = subst Q link (w.3, w.4) in
-      (there.0, w.2, subst R position there.1, label_is label w.2.operation h.attempt w.5)
+      (there.0, w.2, subst R position there.1, label_is label w.2 h.attempt (inside w.0 w.1 w.2 w.3 w.4).2 w.5)
 
   -- ## The line of a link
 
@@ -135,7 +130,7 @@ module _ (p : Plan) (c : Core) (orders : ℕ → Order) (are : AreOrders p c ord
   placed_at k low i label e =
       let w = at_map label_of (orders k).accepted i label e in
       let v = parts k i w.0 low w.1 in
-      ap (is_placed Words) (sym w.2) ∙ ap (λ x. not (place_word_dropped x)) (label_word w.0) ∙ ap not v.dropped_is
+      ap (is_placed Words) (sym w.2) ∙ ap not v.dropped_is
 
   pub placed_is : (k : ℕ) (bytes : List ℕ) (line : LinkLine) → k < p.links → IsLineOf Words k bytes line → line.placed ≡ (orders k).placed
   placed_is k bytes line low h =

@@ -13,15 +13,17 @@ use Rattle.brpc_model.specs.Script.{script_of}
 use Rattle.sock_programs.specs.declared.task.Op.{Op}
 use Rattle.sock_programs.specs.declared.task.Op.TheVariants as ops
 use Rattle.sock_programs.specs.declared.task.Task.{Task}
+use Rattle.sock_programs.specs.declared.task.Asked.{Asked}
 use Rattle.sock_programs.specs.Tasks.{Numbered, numbered, of_client, op_of, task_of, tasks, name_number, plan_of}
 use Rattle.sock_programs.specs.Scripts.{all_tasks}
-use Rattle.sock_programs.specs.Told.{OpFits, TaskFits, HaveOwnLinks, Differ, IsOpen, alternate, AreTasks}
+use Rattle.sock_programs.specs.Told.{AskedFits, OpFits, TaskFits, HaveOwnLinks, Differ, IsOpen, alternate, AreTasks}
 use Rattle.report_fits.proofs.Lists.{Has, some_is, all_from, all_at, before_from, before_filter, before_filter_map, filter_short, filter_map_short}
 use Rattle.report_fits.proofs.Names.{number_at, number_within, mentioned_has}
 use Rattle.report_fits.proofs.Numbering.{link_at, is_numbered, are_from, link_later, numbered_length}
-use Rattle.report_fits.proofs.TaskLemmas.{tasks_length, of_tasks, IsTaskOf, has_task, map_is, open_asks, send_asks, hold_asks, drop_asks, fail_asks, mentions_open, mentions_send, mentions_hold, mentions_drop, mentions_fail, named_at}
+use Rattle.report_fits.proofs.TaskLemmas.{tasks_length, of_tasks, IsTaskOf, numbers_at, asks_at, has_task, map_is, open_asks, send_asks, call_asks, expire_asks, join_asks, hold_asks, drop_asks, fail_asks, target_low, mentions_open, mentions_send, mentions_hold, mentions_drop, mentions_fail, named_at}
 use Rattle.report_fits.proofs.Reading.{InRange, ArePlaced, are_placed}
 use Rattle.report_fits.proofs.Sizes.{is_counted, operation_count}
+use Rattle.report_fits.proofs.Called.{called_fits}
 use Rattle.report_fits.proofs.Alternating.{setup_opens, Numbers, alternates, Untouched, untouched}
 
 -- ## Each client's tasks
@@ -36,34 +38,51 @@ module _ (script : List Item) where
   fail_code : (name : List ℕ) (code : ℕ) → AllByRecursion InRange script → Has script (Fail name code) → code ≢ 0
   fail_code name code range h e = let w = all_at InRange script (Fail name code) range h in absurd (omega (arith, w.0, e))
 
+  small_code : (name : List ℕ) (code : ℕ) → AllByRecursion InRange script → Has script (Fail name code) → code < 4096
+  small_code name code range h = let w = all_at InRange script (Fail name code) range h in omega (arith, w.1)
+
   sent_bytes : (name bytes : List ℕ) → AllByRecursion InRange script → Has script (Send name bytes) → (bytes ≢ []) × (length bytes ≤ 65536)
   sent_bytes name bytes range h = let w = all_at InRange script (Send name bytes) range h in (λ e. absurd (omega (arith, w.0, ap length e)), w.1)
 
-  op_fits : AllByRecursion InRange script → (i : ℕ) (q : Operation) → slice_get (operations script) i ≡ Some q → (op : Op) → op_of (names script) (link_at (operations script) i) q.item ≡ Some op → OpFits (plan_of script) op
+  op_fits : AllByRecursion InRange script → (i : ℕ) (q : Operation) → slice_get (operations script) i ≡ Some q → (op : Op) → asks_at script i q ≡ Some op → OpFits (plan_of script) op
   op_fits range i q there (ops.Open n k) e =
-      let w = open_asks (names script) (link_at (operations script) i) q.item n k e in
+      let w = open_asks (numbered script) (names script) (numbers_at script i q) q.item n k e in
       let mentions = mentions_open script i q there w.0 w.1 w.2 in
       let named = named_at script i q w.0 w.1 there w.2 in
       (omega (arith, w.3, number_within (names script) w.0 mentions), omega (arith, w.4, slice_get_within (link_names script) (link_at (operations script) i) w.0 named))
   op_fits range i q there (ops.Send n bytes) e =
-      let w = send_asks (names script) (link_at (operations script) i) q.item n bytes e in
+      let w = send_asks (numbered script) (names script) (numbers_at script i q) q.item n bytes e in
       let mentions = mentions_send script i q there w.0 bytes w.1 in
       let P : Item → Type 0 = λ x. Has script x in
       let sent = sent_bytes w.0 bytes range (subst P w.1 (are_from 0 1 script i q there).there) in
       (omega (arith, w.2, number_within (names script) w.0 mentions), sent.0, sent.1)
   op_fits range i q there (ops.Hold n) e =
-      let w = hold_asks (names script) (link_at (operations script) i) q.item n e in
+      let w = hold_asks (numbered script) (names script) (numbers_at script i q) q.item n e in
       let mentions = mentions_hold script i q there w.0 w.1 in
       omega (arith, w.2, number_within (names script) w.0 mentions)
   op_fits range i q there (ops.Drop n) e =
-      let w = drop_asks (names script) (link_at (operations script) i) q.item n e in
+      let w = drop_asks (numbered script) (names script) (numbers_at script i q) q.item n e in
       let mentions = mentions_drop script i q there w.0 w.1 in
       omega (arith, w.2, number_within (names script) w.0 mentions)
   op_fits range i q there (ops.Fail n code) e =
-      let w = fail_asks (names script) (link_at (operations script) i) q.item n code e in
+      let w = fail_asks (numbered script) (names script) (numbers_at script i q) q.item n code e in
       let mentions = mentions_fail script i q there w.0 code w.1 in
       let P : Item → Type 0 = λ x. Has script x in
-      (omega (arith, w.2, number_within (names script) w.0 mentions), fail_code w.0 code range (subst P w.1 (are_from 0 1 script i q there).there))
+      let has = subst P w.1 (are_from 0 1 script i q there).there in
+      (omega (arith, w.2, number_within (names script) w.0 mentions), fail_code w.0 code range has, small_code w.0 code range has)
+  op_fits range i q there (ops.Call asked) e =
+      let w = call_asks (numbered script) (names script) (numbers_at script i q) q.item asked e in
+      let P : Item → Type 0 = λ x. Has script x in
+      let Q : Asked → Type 0 = λ x. AskedFits (plan_of script) x in
+      subst Q (sym w.2) (called_fits script range w.0 (subst P w.1 (are_from 0 1 script i q there).there) i (slice_get_within (operations script) i q there))
+  op_fits range i q there (ops.Expire t) e =
+      let w = expire_asks (numbered script) (names script) (numbers_at script i q) q.item t e in
+      let inside = slice_get_within (operations script) i q there in
+      omega (arith, w.3, target_low script w.0 w.1 (omega (arith, inside)))
+  op_fits range i q there (ops.Join t) e =
+      let w = join_asks (numbered script) (names script) (numbers_at script i q) q.item t e in
+      let inside = slice_get_within (operations script) i q there in
+      omega (arith, w.3, target_low script w.0 w.1 (omega (arith, inside)))
 
   tasks_fit : AllByRecursion InRange script → (c : ℕ) → AllByRecursion (TaskFits (plan_of script)) (tasks script c)
   tasks_fit range c = all_from (TaskFits (plan_of script)) (tasks script c) (λ t h.
@@ -88,19 +107,19 @@ module _ (script : List Item) where
   abbrev InOrder : Task → Task → Type 0
   InOrder a b = (a.number < b.number) × HaveOwnLinks a.op b.op
 
-  in_order : (x y : Numbered) (a b : Task) → Ascend x y → task_of (names script) x ≡ Some a → task_of (names script) y ≡ Some b → InOrder a b
+  in_order : (x y : Numbered) (a b : Task) → Ascend x y → task_of (numbered script) (names script) x ≡ Some a → task_of (numbered script) (names script) y ≡ Some b → InOrder a b
   in_order x y a b h e f =
-      let v = map_is (op_of (names script) x.link x.op.item) x.number a e in
-      let w = map_is (op_of (names script) y.link y.op.item) y.number b f in (
+      let v = map_is (op_of (numbered script) (names script) x x.op.item) x.number a e in
+      let w = map_is (op_of (numbered script) (names script) y y.op.item) y.number b f in (
         omega (arith, h.0, v.0, w.0),
         own_links a.op b.op (λ n k m l is_a is_b same.
-            let p = open_asks (names script) x.link x.op.item n k (v.1 ∙ ap Some is_a) in
-            let q = open_asks (names script) y.link y.op.item m l (w.1 ∙ ap Some is_b) in
+            let p = open_asks (numbered script) (names script) x x.op.item n k (v.1 ∙ ap Some is_a) in
+            let q = open_asks (numbered script) (names script) y y.op.item m l (w.1 ∙ ap Some is_b) in
             absurd (omega (arith, h.1 (ap is_open p.2), p.4, q.4, same))),
       )
 
   tasks_in_order : (c : ℕ) → EachBefore InOrder (tasks script c)
-  tasks_in_order c = before_filter_map Ascend InOrder (task_of (names script)) in_order (of_client c (numbered script))
+  tasks_in_order c = before_filter_map Ascend InOrder (task_of (numbered script) (names script)) in_order (of_client c (numbered script))
       (before_filter Ascend (λ (x : Numbered). x.op.client == c) (numbered script) ascending)
 
   -- ## Two clients' tasks
@@ -122,8 +141,8 @@ module _ (script : List Item) where
       apart (sym v.own ∙ ap (λ (x : Operation). x.client) same ∙ w.own) in (
         other,
         own_links t.op u.op (λ n k m l is_t is_u e.
-            let p = open_asks (names script) (link_at (operations script) t.number) v.operation.item n k (v.asks ∙ ap Some is_t) in
-            let q = open_asks (names script) (link_at (operations script) u.number) w.operation.item m l (w.asks ∙ ap Some is_u) in
+            let p = open_asks (numbered script) (names script) (numbers_at script t.number v.operation) v.operation.item n k (v.asks ∙ ap Some is_t) in
+            let q = open_asks (numbered script) (names script) (numbers_at script u.number w.operation) w.operation.item m l (w.asks ∙ ap Some is_u) in
             other (same_link t.number u.number v.operation w.operation v.there w.there (ap is_open p.2) (ap is_open q.2) (sym p.4 ∙ e ∙ q.4))),
       )
 
@@ -138,9 +157,9 @@ module _ (script : List Item) where
 
   -- ## The setup
 
-  opens_only : (ns : List (List ℕ)) (link : ℕ) (item : Item) (op : Op) → is_open item ≡ true → op_of ns link item ≡ Some op → IsOpen op
-  opens_only ns link (Open name shape) op o e = subst IsOpen (some_is (ops.Open (name_number ns name) link) op e) tt
-  opens_only ns link other op o e = absurd (cc)
+  opens_only : (all : List Numbered) (ns : List (List ℕ)) (x : Numbered) (item : Item) (op : Op) → is_open item ≡ true → op_of all ns x item ≡ Some op → IsOpen op
+  opens_only all ns x (Open name shape) op o e = subst IsOpen (some_is (ops.Open (name_number ns name) x.link) op e) tt
+  opens_only all ns x other op o e = absurd (cc)
 
   setup_is : ArePlaced [] script → (ts : List Task) → slice_get (all_tasks script) 0 ≡ Some ts → AllByRecursion (λ (t : Task). IsOpen t.op) ts
   setup_is placed ts e =
@@ -148,7 +167,7 @@ module _ (script : List Item) where
       let P : List Task → Type 0 = λ xs. AllByRecursion (λ (t : Task). IsOpen t.op) xs in
       subst P w.1 (all_from (λ (t : Task). IsOpen t.op) (tasks script 0) (λ t h.
       let v = has_task script 0 t h in
-      opens_only (names script) (link_at (operations script) t.number) v.operation.item t.op
+      opens_only (numbered script) (names script) (numbers_at script t.number v.operation) v.operation.item t.op
       (setup_opens script [] 0 1 (λ z. refl) placed t.number v.operation v.there v.own) v.asks))
 
   -- ## Holds and drops
@@ -157,12 +176,12 @@ module _ (script : List Item) where
   abbrev IsNobodys : ℕ → Type 0
   IsNobodys n = (nm : List ℕ) → Has (names script) nm → name_number (names script) nm ≢ n
 
-  untouched_op : (n i : ℕ) (q : Operation) → slice_get (operations script) i ≡ Some q → IsNobodys n → (op : Op) → op_of (names script) (link_at (operations script) i) q.item ≡ Some op → Untouched n op
+  untouched_op : (n i : ℕ) (q : Operation) → slice_get (operations script) i ≡ Some q → IsNobodys n → (op : Op) → asks_at script i q ≡ Some op → Untouched n op
   untouched_op n i q there none (ops.Hold m) e =
-      let w = hold_asks (names script) (link_at (operations script) i) q.item m e in
+      let w = hold_asks (numbered script) (names script) (numbers_at script i q) q.item m e in
       λ same. none w.0 (mentions_hold script i q there w.0 w.1) (sym w.2 ∙ same)
   untouched_op n i q there none (ops.Drop m) e =
-      let w = drop_asks (names script) (link_at (operations script) i) q.item m e in
+      let w = drop_asks (numbered script) (names script) (numbers_at script i q) q.item m e in
       λ same. none w.0 (mentions_drop script i q there w.0 w.1) (sym w.2 ∙ same)
   untouched_op n i q there none other e = tt
 
@@ -183,7 +202,7 @@ module _ (script : List Item) where
   by_name : ArePlaced [] script → (n c : ℕ) (o : Option (List ℕ)) → slice_get (names script) n ≡ o → alternate n false (tasks script c) ≡ true
   by_name placed n c None e = nobody n c (λ nm h same. let here : Some nm ≡ None = sym (number_at (names script) nm h) ∙ ap (slice_get (names script)) same ∙ e in absurd (cc))
   by_name placed n c (Some name) e = elim (cases_eq (name_number (names script) name) n) [
-    | inl own ↦ alternates (names script) n name (numbers n name e own) script [] c 0 1 0 0 false mentioned_names placed (λ z. refl, λ z. refl)
+    | inl own ↦ alternates (numbered script) (names script) n name (numbers n name e own) script [] c 0 1 0 0 false mentioned_names placed (λ z. refl, λ z. refl)
     | inr other ↦ nobody n c (λ nm h same. other (
         let is : nm ≡ name = some_is nm name (sym (number_at (names script) nm h) ∙ ap (slice_get (names script)) same ∙ e) in
         ap (name_number (names script)) (sym is) ∙ same
@@ -199,7 +218,7 @@ module _ (script : List Item) where
   few_tasks few c = omega (
     arith,
     few,
-    filter_map_short (task_of (names script)) (of_client c (numbered script)),
+    filter_map_short (task_of (numbered script) (names script)) (of_client c (numbered script)),
     filter_short (λ (x : Numbered). x.op.client == c) (numbered script),
     numbered_length 0 0 (operations script),
   )

@@ -1,13 +1,15 @@
--- The links of a script without calls, as they are given back.
-use Rattle.std.specs.Prelude.{ℕ, ◌≡◌, ◌<◌, List, [], length, slice_get, slice_index_or, Some, IfSome, Contains}
+-- The links of a script, as they are given back.
+use Rattle.std.specs.Prelude.{ℕ, ◌≡◌, ◌<◌, ◌≤◌, ◌⊎◌, true, IsTrue, List, [], length, slice_get, slice_index_or, Some, IfSome, Contains}
 use Rattle.sock_words.specs.declared.plain.Plan.{Plan}
 use Rattle.brpc_model.specs.Items.{Item}
 use Rattle.brpc_model.specs.Operations.{link_names}
 use Rattle.brpc_model.specs.Link.{LinkEnd}
 use Rattle.brpc_model.specs.PlaceWords.{took_at}
+use Rattle.brpc_model.specs.Causes.{HasFault, reading_limit}
 use Rattle.sock_programs.specs.Cores.{Core}
 use Rattle.sock_programs.specs.Tasks.{plan_of}
 use Rattle.sock_programs.specs.Scripts.{took_at_home}
+use Rattle.sock_programs.specs.ToldCalls.{Fixed}
 
 -- link k, as a run that ended in this core gave it back: as far as it tells, it took what lies at its home, and gave nothing;
 -- where it answered that it failed, its count of faults shows it
@@ -26,3 +28,25 @@ pub record AreEnds (script : List Item) (core : Core) (broken : List ℕ) (ends 
 -- what is said of each link that tells what it took is what it tells
 abbrev pub AreTold : List LinkEnd → List (List ℕ) → Type 0
 AreTold ends took = (k : ℕ) (e : LinkEnd) → slice_get ends k ≡ Some e → IfSome e.took (λ bytes. took_at took k ≡ bytes)
+
+-- ## With calls
+
+-- what its end shows of a reading that ended early
+abbrev pub EndsEarly : List ℕ → LinkEnd → Type 0
+EndsEarly gave e = IsTrue e.gave_end ⊎ (HasFault gave ⊎ ((reading_limit ≤ e.gave_count) ⊎ (0 < e.take_faults)))
+
+-- link k, as a run that ended in this core gave it back: as far as it tells, it took what lies at its home, and gave what the run has of it;
+-- where it failed, or its reading ended in one of these ways, it shows so
+pub record IsEndOf (p : Plan) (core : Core) (fixed : Fixed) (gave : ℕ → List ℕ) (k : ℕ) (e : LinkEnd) : Type 0 where
+  pub numbered : e.link ≡ k
+  pub took : IfSome e.took (λ bytes. bytes ≡ slice_index_or (took_at_home p core.homes) k [])
+  pub counted : length (gave k) ≡ e.gave_count
+  pub gives : IfSome e.gave (λ bytes. bytes ≡ gave k)
+  pub failed : Contains fixed.broken k → 0 < e.put_faults
+  pub early : Contains fixed.early k → EndsEarly (gave k) e
+  pub closed : Contains fixed.closed k → e.closed ≡ Some true
+
+-- each link of the script was given back, in the order of their numbers
+pub record AreEndsOf (script : List Item) (core : Core) (fixed : Fixed) (gave : ℕ → List ℕ) (ends : List LinkEnd) : Type 0 where
+  pub as_many : length ends ≡ length (link_names script)
+  pub each : (k : ℕ) (e : LinkEnd) → slice_get ends k ≡ Some e → IsEndOf (plan_of script) core fixed gave k e

@@ -111,8 +111,11 @@ module _ (p : Plan) (c : Core) (m : Moment) where
   still_by none at is = absurd (true≢false (sym is))
   still_by (some seat) at is = stays p m.seat seat c seat.program m.answer is ∙ ap (λ seats. record c { seats = seats }) (set_again c.seats m.seat seat at)
 
+pub still : (p : Plan) (c : Core) (m : Moment) → waits p c m ≡ true → ticked p c m ≡ c
+still p c m is = still_by p c m (get_elem? c.seats m.seat) refl is
+
 pub waits_still : (p : Plan) (c : Core) (vs : List View) (m : Moment) → Sound p c vs → IsAhead c → IsAnswered c m → waits p c m ≡ true → ticked p c m ≡ c
-waits_still p c vs m sound ahead answered is = still_by p c m (get_elem? c.seats m.seat) refl is
+waits_still p c vs m sound ahead answered is = still p c m is
 
 -- ## An entry for which a walk waits is loose
 

@@ -1,5 +1,1 @@
-pub mod Lengths
-pub mod Starts
-pub mod Runs
 pub mod OneRun
-pub mod Unasked

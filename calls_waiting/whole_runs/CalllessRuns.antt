@@ -20,9 +20,7 @@ use Rattle.sock_runs.proofs.Whole.{end_over, all_homes}
 use Rattle.sock_causes.proofs.Scripts.{run_told, run_drops}
 use Rattle.client_laws.proofs.Fresh.{opening_fresh}
 use Rattle.report_fits.specs.Ends.{AreEnds, AreTold}
-use Rattle.report_fits.proofs.Fitting.{fits}
-use Rattle.report_fits.proofs.Places.{are_places, has_each}
-use Rattle.report_fits.proofs.Sizes.{keeps_limits}
+use Rattle.report_fits.proofs.AsCalls.{fits, places}
 use Rattle.report_fits.proofs.Tasks.{tasks_of_script}
 use Rattle.whole_runs.proofs.Lengths.{ended_length}
 use Rattle.whole_runs.proofs.Starts.{views_of, begins}
@@ -37,12 +35,11 @@ module _ (bytes : List ℕ) (script : List Item) (reads : script_of bytes ≡ Ok
 
   -- each outcome of the report has its cause, and each link that tells what it took took what its lines say
   pub run_fits : is_callless script ≡ true → (report : Report) (took : List (List ℕ)) → Reports script core took report → (ends : List LinkEnd) → AreTold ends took → AreEnds script core (broken_of run) ends → FitsWhole script (report_text script report) ends nothing_late
-  run_fits callless report took reports ends are_told given = fits script core (broken_of run) report took ends callless (keeps_limits bytes script reads) told (ended_length script turns core run) reports are_told given
+  run_fits callless report took reports ends are_told given = fits bytes script reads core (broken_of run) report took ends callless told (ended_length script turns core run) reports are_told given
 
   -- what the place words tell are places, and each operation has an outcome that was said, or one of these
   pub run_places : is_callless script ≡ true → ArePlaces (place_words (plan_of script) core.words) × HasEachOutcome (place_words (plan_of script) core.words) core.outcomes
-  run_places callless = let limits = keeps_limits bytes script reads in let sized = ended_length script turns core run in
-      (are_places script core (broken_of run) callless limits told sized, has_each script core (broken_of run) callless limits told sized)
+  run_places callless = places bytes script reads core (broken_of run) callless told (ended_length script turns core run)
 
   -- and behind the ending nobody refers to any slot, and each slot is free unless its versions are used up
   pub run_is_over : (i : ℕ) → i < (plan_of script).slots → IsOver core.words i

@@ -1,0 +1,41 @@
+-- What the links of a run with calls answered, by either half.
+use Rattle.std.specs.Prelude.{ℕ, List, [], ◌∷◌, ◌++◌, map}
+use mathlib.Core.Option.{Option, some, none}
+use lib.ListN.{get_elem?}
+use Rattle.sock_words.specs.declared.plain.Plan.{Plan}
+use Rattle.brpc_model.specs.Items.{Item}
+use Rattle.brpc_model.specs.Operations.{Turn}
+use Rattle.sock_programs.specs.Writings.{Waits}
+use Rattle.sock_programs.specs.Asides.{TakeBytes}
+use Rattle.sock_programs.specs.Heads.{Reads, Discards}
+use Rattle.sock_programs.specs.Programs.{Program, PutBytes, AskReady, Write, Aside, Round}
+use Rattle.sock_programs.specs.Cores.{Core}
+use Rattle.sock_programs.specs.Ticks.{Answer, Moment, ticked}
+use Rattle.sock_programs.specs.Tasks.{plan_of}
+use Rattle.sock_programs.specs.Scripts.{IsRunWithCalls, set_up}
+
+-- the link that the next step asks, if it asks one: to take bytes, whether it takes more, or for bytes
+abbrev pub asked : Program → List ℕ
+asked (PutBytes k put bytes next) = k ∷ []
+asked (AskReady k next) = k ∷ []
+asked (Write (Waits h now heading left taken) after) = h.link ∷ []
+asked (Aside (TakeBytes k room) next) = k ∷ []
+asked (Round (Reads r) next) = r.link ∷ []
+asked (Round (Discards k total) next) = k ∷ []
+asked other = []
+
+-- what the link answered that a tick asked, if it asked one
+abbrev pub told_at : Core → Moment → List Answer
+told_at c m = elim (get_elem? c.seats m.seat) as (λ o. List Answer) [ none ↦ [] | some seat ↦ map (λ (k : ℕ). m.answer) (asked seat.program) ]
+
+-- and in these ticks, one after another
+abbrev pub told_in : Plan → Core → List Moment → List Answer
+told_in p c [] = []
+told_in p c (m ∷ ms) = told_at c m ++ told_in p (ticked p c m) ms
+
+-- what the links answered in the run before its ending, and behind it
+abbrev pub before_ending : {script : List Item} {turns : List Turn} {end_ : Core} → IsRunWithCalls script turns end_ → List Answer
+before_ending {script} r = told_in (plan_of script) (set_up script r.setup) (r.scheduled ++ r.later)
+
+abbrev pub behind_ending : {script : List Item} {turns : List Turn} {end_ : Core} → IsRunWithCalls script turns end_ → List Answer
+behind_ending {script} r = told_in (plan_of script) r.ended r.final
