@@ -1,5 +1,5 @@
-ghost use Rattle.std.specs.Prelude.{◌≡◌, ◌≤◌, ◌+◌, min, if◌then◌else◌};
-ghost use Rattle.reader_points.specs.Points.{count_of, code_by, room};
+ghost use Rattle.std.specs.Prelude.{◌≡◌, ◌≤◌, ◌+◌, nat_lt};
+ghost use Rattle.reader_points.specs.Points.{count_of, room};
 
 use call_points::{Aside, DecideStep, EndStep, LockStep, Locker, OnCall, PostStep};
 use id_points::{AttemptNumber, CallId};
@@ -30,6 +30,13 @@ impl ByteCount {
         ensures few { result ≤ 16777216 }
     {
         self.0.min(LIMIT)
+    }
+
+    /// Whether more bytes may be taken.
+    pub fn is_below_limit(self) -> bool
+        ensures { result ≡ nat_lt (count_of self) 16777216 }
+    {
+        self.get() < LIMIT
     }
 
     /// How many bytes may be taken next.
