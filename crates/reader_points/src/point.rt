@@ -17,7 +17,7 @@ pub const ELOGOFF: u16 = 1014;
 pub const ERESPONSE: u16 = 2002;
 
 /// How many bytes came over a link, at most `LIMIT`.
-#[derive(Clone, Copy, Debug, PartialEq, Eq)]
+#[derive(Clone, Copy)]
 pub struct ByteCount(u32);
 
 impl ByteCount {
@@ -56,7 +56,7 @@ impl ByteCount {
 }
 
 /// The reader of a link: the link, its socket, and how many bytes came.
-#[derive(Clone, Copy, Debug, PartialEq, Eq)]
+#[derive(Clone, Copy)]
 pub struct Reader {
     pub link: u16,
     pub socket: SocketId,
@@ -64,7 +64,7 @@ pub struct Reader {
 }
 
 /// A reading that has ended, by a frame fault or not, and how many of the calls were looked at.
-#[derive(Clone, Copy, Debug, PartialEq, Eq)]
+#[derive(Clone, Copy)]
 pub struct Closing {
     pub reader: Reader,
     pub fault: bool,
@@ -72,7 +72,7 @@ pub struct Closing {
 }
 
 /// What follows the end of a call by a response.
-#[derive(Clone, Copy, Debug, PartialEq, Eq)]
+#[derive(Clone, Copy)]
 pub enum Behind {
     /// The next frame,
     Frames(Reader),
@@ -81,7 +81,7 @@ pub enum Behind {
 }
 
 /// Where the end of a call by a response stands.
-#[derive(Clone, Copy, Debug, PartialEq, Eq)]
+#[derive(Clone, Copy)]
 pub enum AnswerStep {
     /// The call is taken out of its home,
     Take,
@@ -137,7 +137,7 @@ pub enum ReadStep {
 }
 
 /// What a take found.
-#[derive(Clone, Copy, Debug, PartialEq, Eq)]
+#[derive(Clone, Copy)]
 pub enum Taken {
     /// So many bytes.
     Bytes(u32),
