@@ -1,6 +1,5 @@
 -- A reader goes through the frames of the bytes that it has in hand.
-use Rattle.std.proofs.Common.{Option, None, nat_lt, append_assoc, ◌≡◌, ℕ, zero, suc, ◌+◌, ◌-◌, ◌<◌, ◌≤◌, Bool, true, false, ◌&&◌, List, [], ◌∷◌, ◌++◌, length, drop, All, refl, ap, sym, ◌∙◌, arith}
-use Rattle.std.proofs.lemmas.Bool.Decides.{nat_tests}
+use Rattle.std.proofs.Common.{Option, None, nat_lt, append_assoc, ◌≡◌, ℕ, zero, suc, ◌+◌, ◌-◌, ◌≤◌, Bool, true, false, ◌&&◌, List, [], ◌∷◌, ◌++◌, length, drop, All, refl, ap, sym, ◌∙◌, arith}
 use Rattle.std.proofs.Math.Path.{fun_ext}
 use Rattle.std.proofs.lemmas.List.{drop-drop}
 use Rattle.brpc_model.specs.Frame.{Frame, FrameFault, Judged, NoneYet, Faulty, Begins, judged}
@@ -113,16 +112,12 @@ module _ (a : Around) (r : Reader) (old new : List ℕ) (fs : List Frame) (cut :
       ∙ read_same a r old new a.kept (Rest (length new)) (Rest (length new)) left (refl, omega arith)
 
   -- no more is whole: bytes are taken below the limit
-  pub takes_more : judged new ≡ NoneYet → count_of r.total < LIMIT → frames_program a r old a.kept ≡ point_program (with_held new a) (points.Take r)
-  takes_more e few =
-      let below : nat_lt (count_of r.total) LIMIT ≡ true = grind (arith, nat_tests, few) in
-      rest_behind e ∙ rw (below, last_all new) refl
+  pub takes_more : judged new ≡ NoneYet → nat_lt (count_of r.total) LIMIT ≡ true → frames_program a r old a.kept ≡ point_program (with_held new a) (points.Take r)
+  takes_more e few = rest_behind e ∙ rw (few, last_all new) refl
 
   -- and at the limit the reading has ended
-  pub takes_none : judged new ≡ NoneYet → LIMIT ≤ count_of r.total → frames_program a r old a.kept ≡ point_program (with_held new a) (points.Close (record { reader = r; fault = false; next = 0 }) closes.AddRef)
-  takes_none e few =
-      let above : nat_lt (count_of r.total) LIMIT ≡ false = grind (arith, nat_tests, few) in
-      rest_behind e ∙ rw (above, last_all new) refl
+  pub takes_none : judged new ≡ NoneYet → nat_lt (count_of r.total) LIMIT ≡ false → frames_program a r old a.kept ≡ point_program (with_held new a) (points.Close (record { reader = r; fault = false; next = 0 }) closes.AddRef)
+  takes_none e many = rest_behind e ∙ rw (many, last_all new) refl
 
   -- so it has behind a fault
   pub ends_in_fault : (f : FrameFault) → judged new ≡ Faulty f → frames_program a r old a.kept ≡ point_program (with_held new a) (points.Close (record { reader = r; fault = true; next = 0 }) closes.AddRef)

@@ -1,1 +1,5 @@
 pub mod Frames
+pub mod Taking
+pub mod Cutting
+pub mod Going
+pub mod Keeping

@@ -15,6 +15,6 @@ pub record IsFirstKept (id range : ℕ) (kept : List Frame) (i : ℕ) : Type 0 w
   pub frame : Frame
   pub others : List model.Frame
   pub within : i < length kept
-  pub is : (d : Frame) → get_or kept i d ≡ frame
+  pub is : get_or kept i frame ≡ frame
   pub slot : slot_in (frame_of frame) ≡ id_slot id
   pub first : kept_for id range (map frame_of kept) ≡ frame_of frame ∷ others

@@ -8,18 +8,20 @@ use crate::point::{AnswerStep, Behind, ReadNext, ReadPoint};
 use call_points::EndStep;
 use id_points::CallId;
 
-impl AnswerStep {
+impl Behind {
     /// How the end of the call with this id goes on with the call in hand, which is that of this operation.
-    pub fn with_call(behind: Behind, id: CallId, operation: u16) -> ReadNext
-        ensures { (a : Around) (asked : Asked) → asked.operation ≡ operation → next_program (with_asked asked a) result ≡ after_call (answer_program a behind (id_of id) AnswerStep.Take) asked }
+    pub fn with_call(self, id: CallId, operation: u16) -> ReadNext
+        ensures { (a : Around) (asked : Asked) → asked.operation ≡ operation → next_program (with_asked asked a) result ≡ after_call (answer_program a self (id_of id) AnswerStep.Take) asked }
     {
         ReadNext::Point(ReadPoint::Answer(
-            behind,
+            self,
             id,
             AnswerStep::End(operation, EndStep::End),
         ))
     }
+}
 
+impl AnswerStep {
     /// How it goes on by the word that its step found.
     pub fn next(self, behind: Behind, id: CallId, found: u64) -> ReadNext
         requires { AnswersByWord self }

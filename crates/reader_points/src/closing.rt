@@ -2,7 +2,7 @@ ghost use Rattle.std.specs.Prelude.{◌≡◌, ◌≤◌, length};
 ghost use Rattle.call_points.specs.Steps.{after_word};
 ghost use Rattle.reader_points.specs.Points.{Around, next_program, close_program, posts_program, point_program, MayFindClosing};
 
-use crate::point::{CloseStep, Closing, LIMIT, ReadNext, ReadPoint};
+use crate::point::{CloseStep, Closing, ReadNext, ReadPoint};
 use seat_points::{ReleaseStep, Released};
 use sock_words::Vref;
 
@@ -28,7 +28,7 @@ impl Closing {
                 ..self
             };
             ReadPoint::Load(behind, calls[next])
-        } else if self.fault && reader.total.get() < LIMIT {
+        } else if self.fault && reader.total.is_below_limit() {
             ReadPoint::Discard(reader.link, reader.total)
         } else {
             ReadPoint::Rest

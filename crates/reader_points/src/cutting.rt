@@ -1,9 +1,9 @@
-ghost use Rattle.std.specs.Prelude.{◌≡◌, ◌<◌, ◌≤◌, None, OnOk, IfSome, IfNone, true, false};
+ghost use Rattle.std.specs.Prelude.{◌≡◌, nat_lt, None, OnOk, IfSome, IfNone, true, false};
 ghost use Rattle.prpc_frame.specs.Meaning.{frame_of};
 ghost use Rattle.reader_points.specs.Points.{count_of, IsLocker};
 ghost use Rattle.reader_points.specs.Cuts.{GoesOnBehind, is_asked};
 
-use crate::point::{CloseStep, LIMIT, ReadPoint, Reader};
+use crate::point::{CloseStep, ReadPoint, Reader};
 use call_points::{LockStep, Locker};
 use id_points::Sought;
 use io_buf::NoMemory;
@@ -46,10 +46,10 @@ impl Reader {
 
     /// No more is whole: bytes are taken below the limit, and at the limit the reading has ended.
     fn takes_more(self) -> Cut
-        ensures below { count_of self.total < 16777216 → result ≡ record { frame = None; point = ReadPoint.Take self } }
-        ensures at_limit { 16777216 ≤ count_of self.total → result ≡ record { frame = None; point = ReadPoint.Close (record { reader = self; fault = false; next = 0 }) CloseStep.AddRef } }
+        ensures below { nat_lt (count_of self.total) 16777216 ≡ true → result ≡ record { frame = None; point = ReadPoint.Take self } }
+        ensures at_limit { nat_lt (count_of self.total) 16777216 ≡ false → result ≡ record { frame = None; point = ReadPoint.Close (record { reader = self; fault = false; next = 0 }) CloseStep.AddRef } }
     {
-        if self.total.get() < LIMIT {
+        if self.total.is_below_limit() {
             Cut {
                 frame: None,
                 point: ReadPoint::Take(self),
@@ -66,14 +66,15 @@ impl Reader {
     {
         loop {
             match cutter.next() {
-                Ok(Some(frame)) => {
-                    if let Some(locker) = locker_of(&frame, ids) {
+                Ok(Some(frame)) => match locker_of(&frame, ids) {
+                    Some(locker) => {
                         return Ok(Cut {
                             frame: Some(frame),
                             point: ReadPoint::Lock(self, locker, LockStep::Read),
                         });
                     }
-                }
+                    None => {}
+                },
                 Ok(None) => return Ok(self.takes_more()),
                 Err(NextFault::Frame(_)) => return Ok(self.fails(true)),
                 Err(NextFault::NoMemory) => return Err(NoMemory),

@@ -63,7 +63,7 @@ impl ReadPoint {
     {
         match self {
             ReadPoint::Answer(behind, id, AnswerStep::Take) => {
-                AnswerStep::with_call(behind, id, operation)
+                behind.with_call(id, operation)
             }
             ReadPoint::Decide(closing, error, DecideStep::Take(word)) => {
                 ReadNext::Point(ReadPoint::Decide(closing, error, error.with_call(word)))

@@ -1,5 +1,5 @@
-ghost use Rattle.std.specs.Prelude.{◌≡◌, ◌≤◌, ◌+◌, min, if◌then◌else◌};
-ghost use Rattle.reader_points.specs.Points.{count_of, code_by, room};
+ghost use Rattle.std.specs.Prelude.{◌≡◌, ◌≤◌, ◌+◌, nat_lt};
+ghost use Rattle.reader_points.specs.Points.{count_of, room};
 
 use call_points::{Aside, DecideStep, EndStep, LockStep, Locker, OnCall, PostStep};
 use id_points::{AttemptNumber, CallId};
@@ -17,7 +17,7 @@ pub const ELOGOFF: u16 = 1014;
 pub const ERESPONSE: u16 = 2002;
 
 /// How many bytes came over a link, at most `LIMIT`.
-#[derive(Clone, Copy, Debug, PartialEq, Eq)]
+#[derive(Clone, Copy)]
 pub struct ByteCount(u32);
 
 impl ByteCount {
@@ -30,6 +30,13 @@ impl ByteCount {
         ensures few { result ≤ 16777216 }
     {
         self.0.min(LIMIT)
+    }
+
+    /// Whether more bytes may be taken.
+    pub fn is_below_limit(self) -> bool
+        ensures { result ≡ nat_lt (count_of self) 16777216 }
+    {
+        self.get() < LIMIT
     }
 
     /// How many bytes may be taken next.
@@ -49,7 +56,7 @@ impl ByteCount {
 }
 
 /// The reader of a link: the link, its socket, and how many bytes came.
-#[derive(Clone, Copy, Debug, PartialEq, Eq)]
+#[derive(Clone, Copy)]
 pub struct Reader {
     pub link: u16,
     pub socket: SocketId,
@@ -57,7 +64,7 @@ pub struct Reader {
 }
 
 /// A reading that has ended, by a frame fault or not, and how many of the calls were looked at.
-#[derive(Clone, Copy, Debug, PartialEq, Eq)]
+#[derive(Clone, Copy)]
 pub struct Closing {
     pub reader: Reader,
     pub fault: bool,
@@ -65,7 +72,7 @@ pub struct Closing {
 }
 
 /// What follows the end of a call by a response.
-#[derive(Clone, Copy, Debug, PartialEq, Eq)]
+#[derive(Clone, Copy)]
 pub enum Behind {
     /// The next frame,
     Frames(Reader),
@@ -74,7 +81,7 @@ pub enum Behind {
 }
 
 /// Where the end of a call by a response stands.
-#[derive(Clone, Copy, Debug, PartialEq, Eq)]
+#[derive(Clone, Copy)]
 pub enum AnswerStep {
     /// The call is taken out of its home,
     Take,
@@ -130,7 +137,7 @@ pub enum ReadStep {
 }
 
 /// What a take found.
-#[derive(Clone, Copy, Debug, PartialEq, Eq)]
+#[derive(Clone, Copy)]
 pub enum Taken {
     /// So many bytes.
     Bytes(u32),

@@ -1,4 +1,4 @@
-ghost use Rattle.std.specs.Prelude.{◌≡◌, ◌+◌, ◌-◌, ◌≤◌, ℕ};
+ghost use Rattle.std.specs.Prelude.{◌==◌, ◌&&◌, not, ◌≡◌, ◌+◌, ◌-◌, ◌≤◌, ℕ};
 ghost use Rattle.sock_words.specs.Words.{at_word_link, at_word_slot, at_word_first, at_word_attempt};
 ghost use Rattle.corr_core.specs.Word.{error_of};
 ghost use Rattle.sock_programs.specs.Asides.{call_id};
@@ -35,16 +35,23 @@ fn error_at(word: AtWord, code: u16) -> OnCall
 }
 
 impl Closing {
+    /// Whether an at word names the reader's link.
+    fn is_named(self, word: AtWord) -> bool
+        ensures { result ≡ (not (word.0 == 0) && (at_word_link word.0 == self.reader.link)) }
+    {
+        word.word() != 0 && link_of(word) == self.reader.link
+    }
+
     /// How it goes on by the at word of a call: where this names the link, its error is posted.
     pub fn loaded(self, found: u64) -> ReadNext
         ensures { (a : Around) (operation : ℕ) → next_program a result ≡ after_word (load_program a self operation) found }
     {
         let word = AtWord::from_word(found);
-        if found == 0 || link_of(word) != self.reader.link {
-            ReadNext::Posts(self)
-        } else {
+        if self.is_named(word) {
             let error = error_at(word, self.code());
             ReadNext::Point(ReadPoint::Post(self, error, PostStep::Load))
+        } else {
+            ReadNext::Posts(self)
         }
     }
 

@@ -1,15 +1,20 @@
-ghost use Rattle.std.specs.Prelude.{◌≡◌, ◌≤◌};
+ghost use Rattle.std.specs.Prelude.{◌≡◌, false};
 ghost use Rattle.sock_programs.specs.Asides.{Taking};
-ghost use Rattle.sock_programs.specs.Readers.{answered};
+ghost use Rattle.brpc_model.specs.Frame.{Frame};
+ghost use Rattle.sock_programs.specs.Readers.{answered, is_early, version_in};
+ghost use Rattle.corr_core.specs.Word.{parts};
+ghost use Rattle.sock_programs.specs.Asides.{call_id, id_slot};
+ghost use Rattle.id_points.specs.Ids.{id_of};
 ghost use Rattle.id_points.specs.Turns.{lock_on, sought_as};
 ghost use Rattle.reader_points.specs.Points.{Around, point_program, next_program, frames_behind, with_taking, IsTaken, IsLocker, FitsRoom, MayTake};
 ghost use Rattle.reader_points.specs.Steps.{after_taking};
 
 use crate::point::{
-    AnswerStep, Behind, ByteCount, CloseStep, Closing, LIMIT, ReadNext, ReadPoint, Reader, Taken,
+    AnswerStep, Behind, ByteCount, CloseStep, Closing, ReadNext, ReadPoint, Reader, Taken,
 };
 use call_points::{LockStep, Locker};
 use id_points::{CallId, LockTurn, Sought, is_early};
+use sock_words::IdWord;
 
 impl Reader {
     /// Its reading has ended, by a frame fault or not.
@@ -53,12 +58,15 @@ impl Reader {
         ensures { (a : Around) → IsLocker a.frame locker → next_program a result ≡ lock_on locker.slot (sought_as locker.sought) (answered a.frame a.kept (frames_behind a self)) turn }
     {
         match turn {
-            LockTurn::NotThere(found) => match locker.sought {
-                Sought::Version(version) if is_early(version, found) => ReadNext::Early(self),
-                _ => ReadNext::Frames(self),
-            },
+            LockTurn::NotThere(found) => {
+                if comes_early(locker, found) {
+                    ReadNext::Early(self)
+                } else {
+                    ReadNext::Frames(self)
+                }
+            }
             LockTurn::Has(word) => {
-                let id = CallId::pack(locker.slot, word.first());
+                let id = id_at(locker.slot, word);
                 let behind = Behind::Frames(self);
                 ReadNext::Point(ReadPoint::Answer(behind, id, AnswerStep::Take))
             }
@@ -72,6 +80,24 @@ impl Reader {
     }
 }
 
+/// The id of the range that this slot has by this word.
+fn id_at(slot: u16, word: IdWord) -> CallId
+    ensures id { id_of result ≡ call_id slot (parts word.0).first }
+    ensures slot { id_slot (id_of result) ≡ slot }
+{
+    CallId::pack(slot, word.first())
+}
+
+/// Whether the response that this locker is for came before its range was made, by the word of its slot.
+fn comes_early(locker: Locker, found: IdWord) -> bool
+    ensures { (frame : Frame) → IsLocker frame locker → result ≡ is_early (version_in frame) found.0 }
+{
+    match locker.sought {
+        Sought::Version(version) => is_early(version, found),
+        Sought::First(_) => false,
+    }
+}
+
 /// How the throwing away goes on by what a take of this link found, over which so many bytes came before.
 fn discarded(link: u16, total: ByteCount, taken: Taken) -> ReadNext
     requires { FitsRoom total taken }
@@ -80,14 +106,15 @@ fn discarded(link: u16, total: ByteCount, taken: Taken) -> ReadNext
     match taken {
         Taken::Bytes(count) => {
             let total = total.plus(count);
-            if total.get() < LIMIT {
+            if total.is_below_limit() {
                 ReadNext::Point(ReadPoint::Discard(link, total))
             } else {
                 ReadNext::Point(ReadPoint::Rest)
             }
         }
         Taken::Nothing => ReadNext::Point(ReadPoint::Discard(link, total)),
-        Taken::Over | Taken::Closed => ReadNext::Point(ReadPoint::Rest),
+        Taken::Over => ReadNext::Point(ReadPoint::Rest),
+        Taken::Closed => ReadNext::Point(ReadPoint::Rest),
     }
 }
 

@@ -102,7 +102,7 @@ sends_claims (suc more) q o id bytes next =
     let full = release (socket_id_slot id) (λ _. Say o Full next) in
     let sent = release (socket_id_slot id) (λ _. Sent o next) in
     ap (λ g. let p : Program = Do (ClaimRequest id q) g in p) (fun_ext (λ found.
-        ap (λ p. let r : Program = if found % 2 == 0 then accept id q (found / 2) (heading_of o) bytes sent else p in r) (sends_claims more (q + 1) o id bytes next)))
+    ap (λ p. let r : Program = if found % 2 == 0 then accept id q (found / 2) (heading_of o) bytes sent else p in r) (sends_claims more (q + 1) o id bytes next)))
 
 -- behind a look that found the life live, the first request is tried
 looks_live : (a : Around) (author : Author) (id : SocketId) (found : ℕ) → (vref_version found % 2 == 0) ≡ true →

@@ -119,7 +119,11 @@ impl After {
             PostTurn::Locked(word) => {
                 Next::Point(Point::Decide(error, self, DecideStep::Take(word)))
             }
-            PostTurn::Again(from) => Next::Point(Point::Post(error, self, PostStep::Exchange(from))),
+            PostTurn::Again(from) => Next::Point(Point::Post(
+                error,
+                self,
+                PostStep::Exchange(from),
+            )),
         }
     }
 

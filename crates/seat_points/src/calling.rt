@@ -138,11 +138,7 @@ impl AttemptStep {
                 if word.version() == socket.version() {
                     attempt.to(socket, AttemptStep::FindLink)
                 } else {
-                    releasing(
-                        socket.slot(),
-                        Then::Unreached(attempt),
-                        ReleaseStep::SubRef,
-                    )
+                    releasing(socket.slot(), Then::Unreached(attempt), ReleaseStep::SubRef)
                 }
             }
             AttemptStep::FindLink => attempt.to(socket, AttemptStep::StoreAt(found as u16)),

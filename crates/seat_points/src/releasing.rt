@@ -4,7 +4,7 @@ ghost use Rattle.call_points.specs.Steps.{after_word};
 ghost use Rattle.seat_points.specs.Points.{Around, release_on, released_on, release_program, next_program, then_program, MayFindIn, release_left, released_link, link_behind, link_left};
 
 use crate::asking::{EFAILEDSOCKET, posting};
-use crate::point::{After, Next, Point, Released, ReleaseStep, Then};
+use crate::point::{After, Next, Point, ReleaseStep, Released, Then};
 use sock_words::{Outcome, Vref};
 
 /// The last version that a slot may be given again with.

@@ -10,13 +10,9 @@ ghost use Rattle.seat_points.specs.Steps.{first_in, step_as};
 
 use crate::asking::{EFAILEDSOCKET, ERPCTIMEDOUT, posting};
 use crate::call::Call;
-use crate::point::{
-    After, Attempt, AttemptStep, JoinStep, Next, Point, RetryStep, Retrying, Step,
-};
+use crate::point::{After, Attempt, AttemptStep, JoinStep, Next, Point, RetryStep, Retrying, Step};
 use call_points::{Aside, DecideStep, LockStep, Locker, OnCall};
-use id_points::{
-    CallId, IdError, LockTurn, Sought, UnlockTurn, is_awaited, unlock_behind,
-};
+use id_points::{CallId, IdError, LockTurn, Sought, UnlockTurn, is_awaited, unlock_behind};
 use sock_words::{IdWord, Outcome, SocketId};
 
 impl Retrying {
@@ -79,11 +75,7 @@ impl Retrying {
                     id: self.attempt.id,
                     error,
                 };
-                Next::Point(Point::Decide(
-                    queued,
-                    After::Attempt(None),
-                    DecideStep::Take(word),
-                ))
+                Next::Point(Point::Decide(queued, After::Attempt(None), DecideStep::Take(word)))
             }
             UnlockTurn::Again(from, advance) => self.to(RetryStep::Unlock(from, advance)),
         }

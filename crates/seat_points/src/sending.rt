@@ -7,7 +7,8 @@ ghost use Rattle.seat_points.specs.Steps.{first_in, step_as};
 use crate::asking::{EFAILEDSOCKET, EREQUESTS, posting};
 use crate::call::Call;
 use crate::point::{
-    After, Author, Current, Holder, Next, Point, ReleaseStep, SendStep, Sending, Step, Then, WriteStep, Writer,
+    After, Author, Current, Holder, Next, Point, ReleaseStep, SendStep, Sending, Step, Then,
+    WriteStep, Writer,
 };
 use crate::releasing::releasing;
 use sock_words::{Ticket, Vref};
@@ -98,11 +99,7 @@ impl Sending {
         let slot = self.id.slot();
         match self.author {
             Author::Send(operation) => {
-                releasing(
-                    slot,
-                    Then::Gone { operation, found },
-                    ReleaseStep::SubRef,
-                )
+                releasing(slot, Then::Gone { operation, found }, ReleaseStep::SubRef)
             }
             Author::Attempt(attempt) => {
                 posting(attempt.error(EFAILEDSOCKET), After::Attempt(Some(slot)))

@@ -15,3 +15,6 @@ returns-in-Decide-clause-program c a sizes calling hand =
 pub returns-in-Expire-clause-program : goal.returns-in-Expire-clause-program
 returns-in-Expire-clause-program c a sizes calling hand =
     rw c.in-Expire.is (c.expiring.ensures.program a c.in-Expire.field-1)
+
+pub returns-in-Release-clause-program : goal.returns-in-Release-clause-program
+returns-in-Release-clause-program c a sizes calling hand = rw c.in-Release.is (c.next-in-Release.ensures.program a)
