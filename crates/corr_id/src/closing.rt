@@ -65,11 +65,7 @@ fn empty_homes<S: Drop>(table: &mut Closed<S, Global>)
 impl<C: Drop> IdTable<C> {
     /// The last words of the slots. The seats are all that the table has but those that were taken in, and none holds a lock.
     /// Where memory is wanting all is untouched.
-    pub fn close(
-        self,
-        alloc: Global,
-        seats: Vec<IdSeat<C>>,
-    ) -> Result<Vec<IdWord>, IdNotClosed<C>>
+    pub fn close(self, alloc: Global, seats: Vec<IdSeat<C>>) -> Result<Vec<IdWord>, IdNotClosed<C>>
         requires seats { AllOf self.table.shared.table_id seats.items }
         requires all { total (λ s. s.me.0.share) seats.items ≡ self.plan.seats }
         requires some { (1 ≤ self.plan.seats) × (1 ≤ self.plan.operations) }

@@ -55,12 +55,7 @@ impl<C> IdTable<C> {
     }
 
     // K1 and K2: the home gets this value, and the answer is what it had.
-    pub(crate) fn move_call(
-        &self,
-        seat: &mut IdSeat<C>,
-        at: u16,
-        value: Option<C>,
-    ) -> Option<C>
+    pub(crate) fn move_call(&self, seat: &mut IdSeat<C>, at: u16, value: Option<C>) -> Option<C>
         requires seat { Sits self.now.table.shared.table_id seat.old }
         requires slot { at < self.now.table.shared.key.slots }
         requires may { MayMove at seat.old.me.0 value }

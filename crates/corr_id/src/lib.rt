@@ -9,10 +9,10 @@ mod opening;
 mod plays;
 mod posts;
 mod table;
-mod unlocks;
-mod words;
 #[cfg(test)]
 mod tests;
+mod unlocks;
+mod words;
 
 pub use calls::{IdFull, IdGone, IdLock};
 pub use closing::IdNotClosed;

@@ -86,5 +86,9 @@ fn attempt_in(error: u16) -> Option<u8>
     ensures one { IfSome result (λ n. n ≢ 7) }
 {
     let attempt = error % 8;
-    if attempt == 7 { None } else { Some(attempt as u8) }
+    if attempt == 7 {
+        None
+    } else {
+        Some(attempt as u8)
+    }
 }

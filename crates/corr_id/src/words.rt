@@ -40,14 +40,7 @@ impl<C> IdTable<C> {
 
     /// Stores on which link the last attempt of a call is, by its operation. The id's slot and first version fit an `AtWord`,
     /// the link is 0 to 65,534, and the attempt is at most 6.
-    pub fn set_at(
-        &self,
-        seat: &mut IdSeat<C>,
-        operation: u16,
-        id: u64,
-        link: u16,
-        attempt: u8,
-    )
+    pub fn set_at(&self, seat: &mut IdSeat<C>, operation: u16, id: u64, link: u16, attempt: u8)
         requires seat { Sits self.now.table.shared.table_id seat.old }
         requires operation { operation < self.now.plan.operations }
         requires id { (slot_of id < 65536) × (version_of id < 67108864) }
