@@ -13,6 +13,7 @@ use sock_words::IdWord;
 use std::alloc::Global;
 
 /// There was no memory. All is untouched.
+#[derive(Drop)]
 pub struct IdNotClosed<C> {
     pub table: IdTable<C>,
     pub seats: Vec<IdSeat<C>>,
