@@ -67,8 +67,9 @@ fn post_own<R: Wait + Abort>(
     match answer {
         Posted::Queued => (lock, Own::Queued),
         Posted::Crowded { first, second } => (lock, Own::Crowded(first, second)),
-        Posted::Gone { .. } | Posted::Stale { .. } => (lock, Own::Other),
-        Posted::Locked(_) => panic!(rt; "locked twice"),
+        Posted::Gone { found: _found } => (lock, Own::Other),
+        Posted::Stale { current: _current } => (lock, Own::Other),
+        Posted::Locked(_other) => panic!(rt; "locked twice"),
     }
 }
 
@@ -82,7 +83,8 @@ fn two_errors_are_kept(rt: HostRuntime) {
         panic!(&rt; "no seat");
     };
     assert!(&rt; matches!(table.create(&mut seat, 2, 7), Ok(1)));
-    let Ok(lock) = table.lock(&rt, &mut seat, 1) else {
+    let first = table.lock(&rt, &mut seat, 1);
+    let Ok(lock) = first else {
         panic!(&rt; "not locked");
     };
     assert!(&rt; lock.id() == 1 && *lock.content() == 7 && lock.attempt() == 0 && lock.range() == 2);
@@ -102,8 +104,11 @@ fn two_errors_are_kept(rt: HostRuntime) {
     };
     assert!(&rt; code == 1500 && attempt.is_none());
     let _ = table.destroy(&mut seat, lock);
-    let gone = table.lock(&rt, &mut seat, 2);
-    assert!(&rt; matches!(gone, Err(IdGone { found }) if IdWord::from_word(found).first() == 3));
+    let past = table.lock(&rt, &mut seat, 2);
+    let Err(IdGone { found }) = past else {
+        panic!(&rt; "locked again");
+    };
+    assert_eq!(&rt; IdWord::from_word(found).first(), 3);
     assert!(&rt; matches!(table.create(&mut seat, 2, 7), Ok(3)));
 }
 
@@ -128,7 +133,11 @@ fn end<R: Wait + Abort>(rt: &R, table: &Table, seat: &mut Seat, lock: IdLock<u8>
     let (lock, _) = post_own(rt, table, seat, lock, 1500);
     match table.unlock(seat, lock, false) {
         Unlocked::Open => false,
-        Unlocked::Next { lock: next, .. } => {
+        Unlocked::Next {
+            lock: next,
+            code: _code,
+            attempt: _attempt,
+        } => {
             let _ = table.destroy(seat, next);
             true
         }
