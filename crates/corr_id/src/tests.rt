@@ -1,4 +1,4 @@
-ghost use Rattle.std.specs.Prelude.{◌≡◌, ◌≢◌, ◌<◌, ℕ, [], IfSome};
+ghost use Rattle.std.specs.Prelude.{◌≡◌, ◌≢◌, ◌<◌, ◌≤◌, ℕ, [], IfSome};
 ghost use Rattle.corr_core.specs.Word.{parts};
 ghost use Rattle.corr_core.specs.declared.marks.Hand.TheVariants.{Empty};
 ghost use Rattle.id_rule.specs.Lawful.{tokens_in};
