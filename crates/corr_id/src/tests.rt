@@ -87,7 +87,9 @@ fn two_errors_are_kept(rt: HostRuntime) {
     let Ok(lock) = first else {
         panic!(&rt; "not locked");
     };
-    assert!(&rt; lock.id() == 1 && *lock.content() == 7 && lock.attempt() == 0 && lock.range() == 2);
+    assert!(&rt;
+        lock.id() == 1 && *lock.content() == 7 && lock.attempt() == 0 && lock.range() == 2
+    );
     let (lock, first) = post_own(&rt, &table, &mut seat, lock, 1500);
     let (lock, second) = post_own(&rt, &table, &mut seat, lock, 1501);
     let (lock, third) = post_own(&rt, &table, &mut seat, lock, 1502);
@@ -177,9 +179,13 @@ fn threads_end_each_id_once(rt: HostRuntime) {
     };
     let shared = &table;
     let host = &rt;
-    let all = thread::map_vec(&rt, seats, &|seat: Seat| -> u32
-        requires { Sits shared.now.table.shared.table_id seat × IsFree seat.me.0 }
-    { work(host, shared, seat, 12_500) });
+    let all = thread::map_vec(
+        &rt,
+        seats,
+        &|seat: Seat| -> u32
+            requires { Sits shared.now.table.shared.table_id seat × IsFree seat.me.0 }
+        { work(host, shared, seat, 12_500) },
+    );
     let Ok(counts) = all else {
         panic!(&rt; "no memory");
     };
@@ -187,7 +193,11 @@ fn threads_end_each_id_once(rt: HostRuntime) {
     for count in counts {
         total = total.wrapping_add(count);
     }
-    let ended = ended_in(&table, &mut main, 0).wrapping_add(ended_in(&table, &mut main, 4_294_967_296));
+    let ended = ended_in(&table, &mut main, 0).wrapping_add(ended_in(
+        &table,
+        &mut main,
+        4_294_967_296,
+    ));
     assert_eq!(&rt; total, ended);
     assert!(&rt; 0 < total);
 }
