@@ -177,14 +177,16 @@ unbuilt_exactly command words input out links status (PrintsInput named back pri
     (λ e. absurd (not_ten_ended printed.ended status printed.numbered e), λ differs. absurd (never_false (subst (λ (x : Command). is_built_command x ≡ false) (sym alike) differs)))
 unbuilt_exactly command words input out links status (Replays named replayed) asked =
     let one : Some Replay ≡ Some command = sym named ∙ asked in
-    let alike : Replay ≡ command = cc in
-    (λ e. let came = (unbuilt_script_exactly _ input out links status replayed).0 e in inr (subst RunsScript alike tt, (replayed.bytes, replayed.came, came.0, came.1)),
-    λ differs. absurd (never_false (subst (λ (x : Command). is_built_command x ≡ false) (sym alike) differs)))
+    let alike : Replay ≡ command = cc in (
+      λ e. let came = (unbuilt_script_exactly _ input out links status replayed).0 e in inr (subst RunsScript alike tt, (replayed.bytes, replayed.came, came.0, came.1)),
+      λ differs. absurd (never_false (subst (λ (x : Command). is_built_command x ≡ false) (sym alike) differs)),
+    )
 unbuilt_exactly command words input out links status (Simulates seed named replayed) asked =
     let one : Some (Sim seed) ≡ Some command = sym named ∙ asked in
-    let alike : Sim seed ≡ command = cc in
-    (λ e. let came = (unbuilt_script_exactly _ input out links status replayed).0 e in inr (subst RunsScript alike tt, (replayed.bytes, replayed.came, came.0, came.1)),
-    λ differs. absurd (never_false (subst (λ (x : Command). is_built_command x ≡ false) (sym alike) differs)))
+    let alike : Sim seed ≡ command = cc in (
+      λ e. let came = (unbuilt_script_exactly _ input out links status replayed).0 e in inr (subst RunsScript alike tt, (replayed.bytes, replayed.came, came.0, came.1)),
+      λ differs. absurd (never_false (subst (λ (x : Command). is_built_command x ≡ false) (sym alike) differs)),
+    )
 
 -- ## Status 0
 
