@@ -1,5 +1,5 @@
 -- What a step makes of the links, as they would be given back.
-use Rattle.std.proofs.Common.{◌≡◌, ◌≢◌, refl, ℕ, zero, suc, ◌<◌, ◌⊎◌, inr, ⊎_elim, Bool, true, false, List, [], ◌∷◌, ◌++◌, ◌≤◌, ◌==◌, Option, cond, map, filter, eq-eqb, neq-eqb, length, slice_set, Some, ap, sym, ◌∙◌, arith, subst}
+use Rattle.std.proofs.Common.{◌≡◌, ◌≢◌, refl, ℕ, zero, suc, ◌<◌, ◌⊎◌, inr, ⊎_elim, Bool, true, false, List, [], ◌∷◌, ◌++◌, ◌≤◌, ◌==◌, Option, cond, map, filter, eq-eqb, ne_eqb, length, slice_set, Some, ap, sym, ◌∙◌, arith, subst}
 use Rattle.std.proofs.lemmas.List.{get_or-set_same, get_or-set_other}
 use Rattle.std.proofs.lemmas.List.Elements.{Contains-push_cases}
 use Rattle.std.proofs.lemmas.Option.{get_or_from_slice_get, same_Some}
@@ -221,7 +221,7 @@ module _ (old fresh : MachineState) (i : ℕ) (c : Core) (seat : SeatState) (the
           ∙ ap (λ (l : List HalfAnswer). l ++ []) half_is
 
       heard_other : (j : ℕ) → (j ≡ k → ⊥) → heard_at c (record { seat = i; answer = answer }) j ≡ []
-      heard_other j differ = sym (heard_is answer j) ∙ ap (λ (ks : List ℕ). map (λ (n : ℕ). answer) (filter (λ (n : ℕ). n == j) ks)) asks ∙ ap (λ (b : Bool). map (λ (n : ℕ). answer) (cond b (k ∷ []) [])) (neq-eqb k j (λ e. differ (sym e)))
+      heard_other j differ = sym (heard_is answer j) ∙ ap (λ (ks : List ℕ). map (λ (n : ℕ). answer) (filter (λ (n : ℕ). n == j) ks)) asks ∙ ap (λ (b : Bool). map (λ (n : ℕ). answer) (cond b (k ∷ []) [])) (ne_eqb k j (λ e. differ (sym e)))
 
   -- the links tell what they answered
   pub made_told : (first : First) (answer : Answer) → Made (table_of old) (table_of fresh) i seat.program seat' first answer → first_in seat.program ≡ Some first → LinksTell old fresh (heard_at c (record { seat = i; answer = answer }))
