@@ -1,7 +1,7 @@
 -- What the answers say together: 2 comes exactly where the words ask for no command, 10 exactly where they ask for one that isn't
 -- built or a script comes that isn't; with 0 no write failed; and where nothing stands in the way of a report, only it and want of
 -- memory come.
-use Rattle.std.proofs.Common.{◌≡◌, ◌≢◌, ℕ, ◌<◌, ◌≤◌, ◌⊎◌, inl, inr, true, false, List, ◌++◌, length, Option, Some, None, Result, Ok, Err, ap, sym, ◌∙◌, subst, arith, length-append, append-nil}
+use Rattle.std.proofs.Common.{◌≡◌, ◌≢◌, ℕ, ◌<◌, ◌≤◌, ◌⊎◌, inl, inr, true, false, List, [], ◌∷◌, ◌++◌, map, refl, length, Option, Some, None, Result, Ok, Err, ap, sym, ◌∙◌, subst, arith, length-append, append-nil}
 use Rattle.std.specs.Io.KnownBytes.{Consumes}
 use Rattle.brpc_model.specs.Commands.{Command, Replay, Sim, Gen, Frames, command_of}
 use Rattle.brpc_model.specs.Items.{Item}
@@ -13,10 +13,12 @@ use Rattle.frame_print.specs.declared.print.StreamEnd.{StreamEnd}
 use Rattle.frame_print.specs.declared.print.StreamEnd.TheVariants as end_
 use Rattle.frame_print.specs.declared.print.PrintFault.{PrintFault}
 use Rattle.frame_print.specs.declared.print.PrintFault.TheVariants as fault_
+use Rattle.sock_io.specs.Link.{InState, end_of}
+use Rattle.sock_io.specs.Shape.{ShapedState, shaped_out}
 use Rattle.brpc_eng.specs.Built.{is_built_script}
 use Rattle.brpc_eng.proofs.Statuses.{unbuilt_script_exactly}
 use Rattle.brpc_eng.specs.Streams.{script_limit, IsAtEnd}
-use Rattle.brpc_eng.specs.Answers.{HaveRisen, StandStill, edges_of, Input, Output, Links, TextWritten, Ran, Reported, MemoryRanOut, OpenFailed, FaultWritten, Replayed, RanScript, FaultyScript, SourceFailed, TooLong, NoMemory, ScriptNotBuilt, Answers, NoCommand, CommandNotBuilt, Generated, Generates, PrintsInput, Replays, Simulates, is_built_command, frames_status, FramesPrinted}
+use Rattle.brpc_eng.specs.Answers.{HaveRisen, StandStill, AllTell, edges_of, Input, Output, Links, TextWritten, Ran, Reported, MemoryRanOut, OpenFailed, FaultWritten, Replayed, RanScript, FaultyScript, SourceFailed, TooLong, NoMemory, ScriptNotBuilt, Answers, NoCommand, CommandNotBuilt, Generated, Generates, PrintsInput, Replays, Simulates, is_built_command, frames_status, FramesPrinted}
 
 -- ## Status 2
 
@@ -228,6 +230,13 @@ no_write_failed words input out links status (Generates seed clients count named
 no_write_failed words input out links status (PrintsInput named back printed) e = still_ended input out printed.printed.bytes printed.ended status printed.numbered printed.printed.ended e
 no_write_failed words input out links status (Replays named replayed) e = still_replayed _ input out links replayed.bytes status replayed.replayed e
 no_write_failed words input out links status (Simulates seed named replayed) e = still_replayed _ input out links replayed.bytes status replayed.replayed e
+
+-- ## One text
+
+-- the links in memory tell all that they took and answered: so over them no other text is possible than the one that is written
+pub memory_tells : {E : Type 0} (out : E → ShapedState) (inn : E → InState) (es : List E) → AllTell (map (λ (e : E). end_of (shaped_out (out e)) (inn e)) es)
+memory_tells out inn [] = tt
+memory_tells out inn (e ∷ es) = ((refl, refl), memory_tells out inn es)
 
 -- ## The statuses of `frames`
 

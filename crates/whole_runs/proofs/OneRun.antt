@@ -27,10 +27,10 @@ use Rattle.sock_runs.proofs.Unasked.{settled_at}
 -- ## Lists
 
 -- lists with a first element that are equal
-same_first : {A : Type 0} (x y : A) (xs ys : List A) → x ∷ xs ≡ y ∷ ys → x ≡ y
+pub same_first : {A : Type 0} (x y : A) (xs ys : List A) → x ∷ xs ≡ y ∷ ys → x ≡ y
 same_first x y xs ys e = cc
 
-same_others : {A : Type 0} (x y : A) (xs ys : List A) → x ∷ xs ≡ y ∷ ys → xs ≡ ys
+pub same_others : {A : Type 0} (x y : A) (xs ys : List A) → x ∷ xs ≡ y ∷ ys → xs ≡ ys
 same_others x y xs ys e = cc
 
 -- lists that begin with as many of one thing are equal in both parts
@@ -43,7 +43,7 @@ same_parts {A} (k ∷ ks) a b s t e =
 -- ## A tick depends on the answer only where a link is asked
 
 module _ (p : Plan) (i : ℕ) (seat : SeatState) (c : Core) (a b : Answer) where
-  same_step : (program : Program) → map (λ (k : ℕ). a) (asked_link program) ≡ map (λ (k : ℕ). b) (asked_link program) → tick_with p i seat c a program ≡ tick_with p i seat c b program
+  pub same_step : (program : Program) → map (λ (k : ℕ). a) (asked_link program) ≡ map (λ (k : ℕ). b) (asked_link program) → tick_with p i seat c a program ≡ tick_with p i seat c b program
   same_step (PutBytes k asked bytes next) e = ap (λ (x : Answer). tick_with p i seat c x (PutBytes k asked bytes next)) (same_first a b [] [] e)
   same_step (AskReady k next) e = ap (λ (x : Answer). tick_with p i seat c x (AskReady k next)) (same_first a b [] [] e)
   same_step (Write (Waits h now heading left taken) after) e = ap (λ (x : Answer). tick_with p i seat c x (Write (Waits h now heading left taken) after)) (same_first a b [] [] e)
@@ -59,7 +59,7 @@ module _ (p : Plan) (i : ℕ) (seat : SeatState) (c : Core) (a b : Answer) where
   same_step (PutHome k n after) e = refl
 
   -- nor does it depend on it whether the seat waits
-  same_waits : (program : Program) → map (λ (k : ℕ). a) (asked_link program) ≡ map (λ (k : ℕ). b) (asked_link program) → waits_at p c a program ≡ waits_at p c b program
+  pub same_waits : (program : Program) → map (λ (k : ℕ). a) (asked_link program) ≡ map (λ (k : ℕ). b) (asked_link program) → waits_at p c a program ≡ waits_at p c b program
   same_waits (Write (Waits h now heading left taken) after) e = ap (λ (x : Answer). waits_at p c x (Write (Waits h now heading left taken) after)) (same_first a b [] [] e)
   same_waits (Write (Puts h now heading left taken asked) after) e = refl
   same_waits (Write (Empties h) after) e = refl
@@ -107,7 +107,7 @@ first_alike p c m n ms ns s t same e =
 
 -- ## Ticks of seats
 
-ran_on : (p : Plan) (c : Core) (xs ys : List Moment) → run p c (xs ++ ys) ≡ run p (run p c xs) ys
+pub ran_on : (p : Plan) (c : Core) (xs ys : List Moment) → run p c (xs ++ ys) ≡ run p (run p c xs) ys
 ran_on p c xs ys = fold-append (ticked p) c xs ys
 
 answers_on : (p : Plan) (c : Core) (xs ys : List Moment) → answers_in p c (xs ++ ys) ≡ answers_in p c xs ++ answers_in p (run p c xs) ys
@@ -191,7 +191,7 @@ rests_by p i c a none h = refl
 rests_by p i c a (some seat) h = rests_at p i seat c a seat.program h
 
 -- a tick of a seat that has no step left changes nothing
-rests : (p : Plan) (c : Core) (m : Moment) → IsAtRest c m.seat → ticked p c m ≡ c
+pub rests : (p : Plan) (c : Core) (m : Moment) → IsAtRest c m.seat → ticked p c m ≡ c
 rests p c m h = rests_by p m.seat c m.answer (get_elem? c.seats m.seat) h
 
 stays : (p : Plan) (i n : ℕ) (c : Core) → IsAtRest c i → run p c (replicate n (quiet i)) ≡ c
@@ -199,14 +199,14 @@ stays p i zero c h = refl
 stays p i (suc n) c h = ap (λ (d : Core). run p d (replicate n (quiet i))) (rests p c (quiet i) h) ∙ stays p i n c h
 
 -- ticks of one seat, until it has no step left
-one_rest : (p : Plan) (i n m : ℕ) (c : Core) → IsAtRest (run p c (replicate n (quiet i))) i → IsAtRest (run p c (replicate m (quiet i))) i → run p c (replicate n (quiet i)) ≡ run p c (replicate m (quiet i))
+pub one_rest : (p : Plan) (i n m : ℕ) (c : Core) → IsAtRest (run p c (replicate n (quiet i))) i → IsAtRest (run p c (replicate m (quiet i))) i → run p c (replicate n (quiet i)) ≡ run p c (replicate m (quiet i))
 one_rest p i zero m c h k = sym (stays p i m c h)
 one_rest p i (suc n) zero c h k = stays p i (suc n) c k
 one_rest p i (suc n) (suc m) c h k = one_rest p i n m (ticked p c (quiet i)) h k
 
 -- ## Rounds, until no seat has a step left
 
-all_still : (p : Plan) (moments : List Moment) (c : Core) → IsSettled c → run p c moments ≡ c
+pub all_still : (p : Plan) (moments : List Moment) (c : Core) → IsSettled c → run p c moments ≡ c
 all_still p [] c h = refl
 all_still p (m ∷ ms) c h = ap (λ (d : Core). run p d ms) (rests p c m (settled_at c h m.seat)) ∙ all_still p ms c h
 
@@ -214,7 +214,7 @@ more_rounds : (n m k : ℕ) → rounds (n + m) k ≡ rounds n k ++ rounds m k
 more_rounds zero m k = ap (λ x. rounds x k) (let e : 0 + m ≡ m = omega arith in e)
 more_rounds (suc n) m k = ap (λ x. rounds x k) (let e : suc n + m ≡ suc (n + m) = omega arith in e) ∙ ap (λ x. from_to 1 k ++ x) (more_rounds n m k) ∙ sym (append_assoc (from_to 1 k) (rounds n k) (rounds m k))
 
-either_way : (n m k : ℕ) → rounds n k ++ rounds m k ≡ rounds m k ++ rounds n k
+pub either_way : (n m k : ℕ) → rounds n k ++ rounds m k ≡ rounds m k ++ rounds n k
 either_way n m k = sym (more_rounds n m k) ∙ ap (λ x. rounds x k) (let e : n + m ≡ m + n = omega arith in e) ∙ more_rounds m n k
 
 -- the one ticks go on as the others do, each up to where no seat has a step left
