@@ -76,6 +76,9 @@ pub ran_reported : (turns : List Turn) (bytes : List ℕ) (script : List Item) (
 ran_reported turns bytes script text text' out links status reads callless ran t wrote =
     answer.Reported text'
     (λ q. let is = ran q in subst (λ x. FitsWhole script x links.ends nothing_late) (sym (t ∙ is.is_text)) (run_fits bytes script reads turns is.core is.run callless is.report is.took is.reports links.ends is.told is.ends_are))
-    (λ q. let is : IsRunText script turns text' links.ends = subst (λ x. IsRunText script turns x links.ends) (sym t) (ran q) in
-    (is, run_drops_told bytes script reads turns is.core is.run, λ other ends run took same. same_text turns script other text' ends links.ends run is took same,
-    λ tell other run. told_text turns script other text' links.ends tell run is)) wrote
+    (λ q. let is : IsRunText script turns text' links.ends = subst (λ x. IsRunText script turns x links.ends) (sym t) (ran q) in (
+      is,
+      run_drops_told bytes script reads turns is.core is.run,
+      λ other ends run took same. same_text turns script other text' ends links.ends run is took same,
+      λ tell other run. told_text turns script other text' links.ends tell run is,
+    )) wrote

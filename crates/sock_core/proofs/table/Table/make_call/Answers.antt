@@ -34,6 +34,6 @@ returns-clause-made g c =
 pub follow-requires : goal.follow-requires
 follow-requires g c = record {
   room = room_for _ _ (seat_data c.args.place.now) (around c.sizes-sizes.result (seat_data c.args.place.now)) c.next-next.result c.step_word-found.result _ _ c.self.view_is c.requires.room
-    (c.next-next.ensures.program (around c.sizes-sizes.result (seat_data c.args.place.now)) refl
-    ∙ same_sizes c.sizes-sizes.result (sizes_of c.self.inside.plan) (seat_data c.args.place.now) (λ x. after_word x c.step_word-found.result) c.sizes-sizes.ensures);
+      (c.next-next.ensures.program (around c.sizes-sizes.result (seat_data c.args.place.now)) refl
+      ∙ same_sizes c.sizes-sizes.result (sizes_of c.self.inside.plan) (seat_data c.args.place.now) (λ x. after_word x c.step_word-found.result) c.sizes-sizes.ensures);
 }

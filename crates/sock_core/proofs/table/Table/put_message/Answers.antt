@@ -32,6 +32,6 @@ returns g c seat =
 pub follow-requires : goal.follow-requires
 follow-requires g c = record {
   room = room_for _ _ (seat_data c.args.place.now) (around c.sizes-sizes.result (record (seat_data c.args.place.now) { message = c.put_message.new.message })) c.next-next.result 0 _ _ c.self.view_is c.requires.room
-    (message_put c.sizes-sizes.result (sizes_of c.self.inside.plan) (seat_data c.args.place.now) c.put_message.new.message c.next-next.result c.args.request (heading_of c.args.operation) (bytes_of c.args.place.now.message) c.sizes-sizes.ensures
-    (next_along (seat_data c.args.place.now) (firsts.PutMessage c.args.request c.args.operation) c.self.view_is c.requires.next) c.next-next.ensures.program);
+      (message_put c.sizes-sizes.result (sizes_of c.self.inside.plan) (seat_data c.args.place.now) c.put_message.new.message c.next-next.result c.args.request (heading_of c.args.operation) (bytes_of c.args.place.now.message) c.sizes-sizes.ensures
+      (next_along (seat_data c.args.place.now) (firsts.PutMessage c.args.request c.args.operation) c.self.view_is c.requires.next) c.next-next.ensures.program);
 }
