@@ -1,6 +1,7 @@
--- What the answers say together: 2 comes exactly where the words ask for no command, and where nothing stands in the way
--- of a report, only it and want of memory come.
-use Rattle.std.proofs.Common.{◌≡◌, ◌≢◌, ℕ, ◌<◌, ◌≤◌, ◌⊎◌, inl, inr, true, false, List, ◌++◌, length, Option, Some, None, Result, Ok, Err, ap, sym, ◌∙◌, subst, arith, length-append, append-nil}
+-- What the answers say together: 2 comes exactly where the words ask for no command, 10 exactly where they ask for one that isn't
+-- built or a script comes that isn't; with 0 no write failed; and where nothing stands in the way of a report, only it and want of
+-- memory come.
+use Rattle.std.proofs.Common.{◌≡◌, ◌≢◌, ℕ, ◌<◌, ◌≤◌, ◌⊎◌, inl, inr, true, false, List, [], ◌∷◌, ◌++◌, map, refl, length, Option, Some, None, Result, Ok, Err, ap, sym, ◌∙◌, subst, arith, length-append, append-nil}
 use Rattle.std.specs.Io.KnownBytes.{Consumes}
 use Rattle.brpc_model.specs.Commands.{Command, Replay, Sim, Gen, Frames, command_of}
 use Rattle.brpc_model.specs.Items.{Item}
@@ -12,9 +13,12 @@ use Rattle.frame_print.specs.declared.print.StreamEnd.{StreamEnd}
 use Rattle.frame_print.specs.declared.print.StreamEnd.TheVariants as end_
 use Rattle.frame_print.specs.declared.print.PrintFault.{PrintFault}
 use Rattle.frame_print.specs.declared.print.PrintFault.TheVariants as fault_
+use Rattle.sock_io.specs.Link.{InState, end_of}
+use Rattle.sock_io.specs.Shape.{ShapedState, shaped_out}
 use Rattle.brpc_eng.specs.Built.{is_built_script}
+use Rattle.brpc_eng.proofs.Statuses.{unbuilt_script_exactly}
 use Rattle.brpc_eng.specs.Streams.{script_limit, IsAtEnd}
-use Rattle.brpc_eng.specs.Answers.{HaveRisen, Input, Output, Links, TextWritten, Ran, Reported, MemoryRanOut, OpenFailed, FaultWritten, Replayed, RanScript, FaultyScript, SourceFailed, TooLong, NoMemory, ScriptNotBuilt, Answers, NoCommand, CommandNotBuilt, Generated, Generates, PrintsInput, Replays, Simulates, is_built_command, frames_status, FramesPrinted}
+use Rattle.brpc_eng.specs.Answers.{HaveRisen, StandStill, AllTell, edges_of, Input, Output, Links, TextWritten, Ran, Reported, MemoryRanOut, OpenFailed, FaultWritten, Replayed, RanScript, FaultyScript, SourceFailed, TooLong, NoMemory, ScriptNotBuilt, Answers, NoCommand, CommandNotBuilt, Generated, Generates, PrintsInput, Replays, Simulates, is_built_command, frames_status, FramesPrinted}
 
 -- ## Status 2
 
@@ -133,6 +137,106 @@ report_comes script given words input out links status command (Replays named re
 report_comes script given words input out links status command (Simulates seed named replayed) asked runs told few is built calm =
     let P : Option (List ℕ) → Type 0 = λ x. Consumes x input.left replayed.bytes in
     calm_replayed _ script given input out links replayed.bytes status calm (subst P told replayed.came) few is built replayed.replayed
+
+-- ## Status 10
+
+not_ten_made : (seed clients count : ℕ) (out : Output) (status : ℕ) → Generated seed clients count out status → status ≢ 10
+not_ten_made seed clients count out status (inl (inl w)) = λ e. absurd (omega (arith, e, w.0))
+not_ten_made seed clients count out status (inl (inr w)) = λ e. absurd (omega (arith, e, w.0))
+not_ten_made seed clients count out status (inr w) = λ e. absurd (omega (arith, e, w.0))
+
+not_ten_ended : (ended : Result StreamEnd PrintFault) (status : ℕ) → status ≡ frames_status ended → status ≢ 10
+not_ten_ended (Ok end_.Rest) status s = λ e. absurd (omega (arith, e, s))
+not_ten_ended (Ok end_.Fault) status s = λ e. absurd (omega (arith, e, s))
+not_ten_ended (Err fault_.Source) status s = λ e. absurd (omega (arith, e, s))
+not_ten_ended (Err fault_.Sink) status s = λ e. absurd (omega (arith, e, s))
+not_ten_ended (Err fault_.TooLong) status s = λ e. absurd (omega (arith, e, s))
+not_ten_ended (Err fault_.NoMemory) status s = λ e. absurd (omega (arith, e, s))
+
+never_false : true ≡ false → ⊥
+never_false e = cc
+
+-- a script came whole that isn't built
+abbrev pub CameUnbuilt : Input → Type 0
+CameUnbuilt input = (bytes : List ℕ) × Consumes input.given input.left bytes × IsAtEnd input.left × ((script : List Item) × (script_of bytes ≡ Ok script) × (is_built_script script ≡ false))
+
+-- 10 comes exactly where the command isn't built, or it runs a script, and one came that isn't built (`unbuilt_script_exactly` has what
+-- else may end such a run: a failed source, too many bytes, or want of memory)
+pub unbuilt_exactly : (command : Command) (words : List (List ℕ)) (input : Input) (out : Output) (links : Links) (status : ℕ) → Answers words input out links status → command_of words ≡ Some command →
+    (status ≡ 10 → (is_built_command command ≡ false) ⊎ (RunsScript command × CameUnbuilt input)) × (is_built_command command ≡ false → status ≡ 10)
+unbuilt_exactly command words input out links status (NoCommand s none same back wrote) asked = absurd (cc)
+unbuilt_exactly command words input out links status (CommandNotBuilt s other named differs same back wrote) asked =
+    let one : Some other ≡ Some command = sym named ∙ asked in
+    let alike : other ≡ command = cc in
+    (λ e. inl (subst (λ (x : Command). is_built_command x ≡ false) alike differs), λ e. s)
+unbuilt_exactly command words input out links status (Generates seed clients count named same back made) asked =
+    let one : Some (Gen seed clients count) ≡ Some command = sym named ∙ asked in
+    let alike : Gen seed clients count ≡ command = cc in
+    (λ e. absurd (not_ten_made seed clients count out status made e), λ differs. absurd (never_false (subst (λ (x : Command). is_built_command x ≡ false) (sym alike) differs)))
+unbuilt_exactly command words input out links status (PrintsInput named back printed) asked =
+    let one : Some Frames ≡ Some command = sym named ∙ asked in
+    let alike : Frames ≡ command = cc in
+    (λ e. absurd (not_ten_ended printed.ended status printed.numbered e), λ differs. absurd (never_false (subst (λ (x : Command). is_built_command x ≡ false) (sym alike) differs)))
+unbuilt_exactly command words input out links status (Replays named replayed) asked =
+    let one : Some Replay ≡ Some command = sym named ∙ asked in
+    let alike : Replay ≡ command = cc in (
+      λ e. let came = (unbuilt_script_exactly _ input out links status replayed).0 e in inr (subst RunsScript alike tt, (replayed.bytes, replayed.came, came.0, came.1)),
+      λ differs. absurd (never_false (subst (λ (x : Command). is_built_command x ≡ false) (sym alike) differs)),
+    )
+unbuilt_exactly command words input out links status (Simulates seed named replayed) asked =
+    let one : Some (Sim seed) ≡ Some command = sym named ∙ asked in
+    let alike : Sim seed ≡ command = cc in (
+      λ e. let came = (unbuilt_script_exactly _ input out links status replayed).0 e in inr (subst RunsScript alike tt, (replayed.bytes, replayed.came, came.0, came.1)),
+      λ differs. absurd (never_false (subst (λ (x : Command). is_built_command x ≡ false) (sym alike) differs)),
+    )
+
+-- ## Status 0
+
+still_written : (out : Output) (text : List ℕ) (status : ℕ) → TextWritten out text status → status ≡ 0 → StandStill out.faults
+still_written out text status (inl w) e = w.1.1
+still_written out text status (inr w) e = absurd (omega (arith, e, w.0))
+
+still_ran : (turns : List Turn) (script : List Item) (out : Output) (links : Links) (status : ℕ) → Ran turns script out links status → status ≡ 0 → StandStill out.faults
+still_ran turns script out links status (Reported text fits of_run wrote) e = still_written out text status wrote e
+still_ran turns script out links status (MemoryRanOut s wrote) e = wrote.1
+still_ran turns script out links status (OpenFailed s rose back wrote) e = wrote.1
+
+still_faulty : (out : Output) (line kind status : ℕ) → FaultWritten out line kind status → status ≡ 0 → StandStill out.faults
+still_faulty out line kind status (inl w) e = absurd (omega (arith, e, w.0))
+still_faulty out line kind status (inr w) e = w.1.1
+
+still_replayed : (turns : List Item → List Turn) (input : Input) (out : Output) (links : Links) (bytes : List ℕ) (status : ℕ) → Replayed turns input out links bytes status → status ≡ 0 → StandStill out.faults
+still_replayed turns input out links bytes status (RanScript end script is built opened ran) e = still_ran (turns script) script out links status ran e
+still_replayed turns input out links bytes status (FaultyScript end line kind is back wrote) e = still_faulty out line kind status wrote e
+still_replayed turns input out links bytes status (SourceFailed s rose back wrote) e = wrote.1
+still_replayed turns input out links bytes status (TooLong s long back wrote) e = wrote.1
+still_replayed turns input out links bytes status (NoMemory s back wrote) e = wrote.1
+still_replayed turns input out links bytes status (ScriptNotBuilt s end script is built back wrote) e = absurd (omega (arith, e, s))
+
+still_ended : (input : Input) (out : Output) (bytes : List ℕ) (ended : Result StreamEnd PrintFault) (status : ℕ) → status ≡ frames_status ended → EndsAs (edges_of input out) bytes ended → status ≡ 0 → StandStill out.faults
+still_ended input out bytes (Ok end_.Rest) status s h e = h.kept
+still_ended input out bytes (Ok end_.Fault) status s h e = absurd (omega (arith, e, s))
+still_ended input out bytes (Err fault_.Source) status s h e = absurd (omega (arith, e, s))
+still_ended input out bytes (Err fault_.Sink) status s h e = absurd (omega (arith, e, s))
+still_ended input out bytes (Err fault_.TooLong) status s h e = absurd (omega (arith, e, s))
+still_ended input out bytes (Err fault_.NoMemory) status s h e = absurd (omega (arith, e, s))
+
+-- with 0 the sink's count stands still
+pub no_write_failed : (words : List (List ℕ)) (input : Input) (out : Output) (links : Links) (status : ℕ) → Answers words input out links status → status ≡ 0 → StandStill out.faults
+no_write_failed words input out links status (NoCommand s none same back wrote) e = absurd (omega (arith, e, s))
+no_write_failed words input out links status (CommandNotBuilt s other named differs same back wrote) e = absurd (omega (arith, e, s))
+no_write_failed words input out links status (Generates seed clients count named same back (inl w)) e = still_written out _ status w e
+no_write_failed words input out links status (Generates seed clients count named same back (inr w)) e = w.1.1
+no_write_failed words input out links status (PrintsInput named back printed) e = still_ended input out printed.printed.bytes printed.ended status printed.numbered printed.printed.ended e
+no_write_failed words input out links status (Replays named replayed) e = still_replayed _ input out links replayed.bytes status replayed.replayed e
+no_write_failed words input out links status (Simulates seed named replayed) e = still_replayed _ input out links replayed.bytes status replayed.replayed e
+
+-- ## One text
+
+-- the links in memory tell all that they took and answered: so over them no other text is possible than the one that is written
+pub memory_tells : {E : Type 0} (out : E → ShapedState) (inn : E → InState) (es : List E) → AllTell (map (λ (e : E). end_of (shaped_out (out e)) (inn e)) es)
+memory_tells out inn [] = tt
+memory_tells out inn (e ∷ es) = ((refl, refl), memory_tells out inn es)
 
 -- ## The statuses of `frames`
 

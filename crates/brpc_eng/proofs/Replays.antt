@@ -1,5 +1,5 @@
 -- How `replay` ends, by what its calls say.
-use Rattle.std.proofs.Common.{◌≡◌, ℕ, ◌≤◌, inl, Bool, true, false, List, [], length, Some, Vec, Ok, Err, refl, ap, ap₂, sym, ◌∙◌, subst, arith, option_map, map, not, ◌&&◌, ◌||◌, ◌∷◌}
+use Rattle.std.proofs.Common.{◌≡◌, ◌≢◌, ℕ, ◌≤◌, inl, Bool, true, false, List, [], length, Some, Vec, Result, Ok, Err, refl, ap, ap₂, sym, ◌∙◌, subst, arith, option_map, map, not, ◌&&◌, ◌||◌, ◌∷◌}
 use Rattle.std.specs.List.{list_any}
 use Rattle.std.specs.declared.alloc.Global.{Global}
 use Rattle.brpc_model.specs.Items.{Item}
@@ -14,6 +14,11 @@ use Rattle.brpc_eng.specs.Built.{is_built_script, is_other_end}
 use Rattle.brpc_eng.specs.Command.{meaning}
 use Rattle.brpc_eng.specs.Streams.{script_limit, ReadWhole}
 use Rattle.brpc_eng.specs.Answers as answer
+use Rattle.frame_print.specs.Printed.{Edges, PrintsFrames}
+use Rattle.frame_print.specs.declared.print.StreamEnd.{StreamEnd}
+use Rattle.frame_print.specs.declared.print.StreamEnd.TheVariants as end_
+use Rattle.frame_print.specs.declared.print.PrintFault.{PrintFault}
+use Rattle.frame_print.specs.declared.print.PrintFault.TheVariants as fault_
 
 -- ## A script that was read
 
@@ -102,3 +107,15 @@ and_left false b e = e
 -- a script that is built has no call
 pub built_callless : (script : List Item) → is_built_script script ≡ true → is_callless script ≡ true
 built_callless script = and_left (is_callless script) (not (list_any is_other_end script))
+
+-- only where that is answered a read failed
+not_source : (ended : Result StreamEnd PrintFault) → answer.frames_status ended ≢ 4 → ended ≢ Err fault_.Source
+not_source (Ok end_.Rest) other e = cc
+not_source (Ok end_.Fault) other e = cc
+not_source (Err fault_.Source) other e = other refl
+not_source (Err fault_.Sink) other e = cc
+not_source (Err fault_.TooLong) other e = cc
+not_source (Err fault_.NoMemory) other e = cc
+
+pub reads_still : (edges : Edges) (ended : Result StreamEnd PrintFault) (status : ℕ) → status ≡ answer.frames_status ended → PrintsFrames edges ended → status ≢ 4 → edges.read_faults_now ≡ edges.read_faults
+reads_still edges ended status is printed other = printed.reads (not_source ended (λ e. other (is ∙ e)))

@@ -1,12 +1,22 @@
 -- The report of a run fits the script, and is the only one of a run in which the links answered the same.
-use Rattle.std.proofs.Common.{◌≡◌, ℕ, true, false, ◌⊎◌, ⊎_elim, List, Ok, sym, ◌∙◌, subst}
+use Rattle.std.proofs.Common.{◌≡◌, ℕ, zero, suc, ◌<◌, ◌≤◌, true, false, ◌⊎◌, ⊎_elim, List, [], ◌∷◌, length, Option, Some, None, IfSome, Ok, ap, sym, ◌∙◌, subst, arith}
+use Rattle.std.specs.Prelude.{slice_get, is_some}
+use Rattle.std.specs.List.{AllByRecursion}
+use Rattle.std.proofs.lemmas.Option.{slice_get_within, same_Some}
+use native.Mathlib.Decide.{dec_lt}
+use mathlib.Core.Logic.{dite}
 use Rattle.brpc_model.specs.Items.{Item}
 use Rattle.brpc_model.specs.Operations.{Turn}
 use Rattle.brpc_model.specs.Script.{script_of}
-use Rattle.brpc_model.specs.Link.{LinkEnd}
+use Rattle.brpc_model.specs.Link.{LinkEnd, HalfAnswer}
+use Rattle.brpc_model.specs.PlaceWords.{took_at, IsLineOf}
 use Rattle.brpc_model.specs.Run.{nothing_late}
 use Rattle.brpc_model.specs.Complete.{FitsWhole}
-use Rattle.sock_programs.specs.Scripts.{is_callless, has_send, answers_of, Reports}
+use Rattle.sock_programs.specs.Scripts.{is_callless, has_send, answers_of, place_words, Reports}
+use Rattle.sock_programs.specs.Tasks.{plan_of}
+use Rattle.report_fits.proofs.Lists.{within}
+use Rattle.whole_runs.specs.Heard.{as_told, heard_of}
+use Rattle.whole_runs.proofs.HeardRuns.{one_text_told}
 use Rattle.whole_runs.proofs.Runs.{run_fits, run_drops_told}
 use Rattle.whole_runs.proofs.OneRun.{one_text}
 use Rattle.whole_runs.proofs.Unasked.{only_text}
@@ -21,6 +31,44 @@ same_text turns script a b xs ys r s took same =
     (λ none. only_text script turns r.core s.core r.report s.report s.took r.run s.run reports s.reports none)
     (λ answers. one_text script turns r.core s.core r.report s.report s.took r.run s.run reports s.reports answers) same ∙ sym s.is_text)
 
+-- ## Links that tell all
+
+all_at : {A : Type 0} (P : A → Type 0) (xs : List A) (k : ℕ) (x : A) → AllByRecursion P xs → slice_get xs k ≡ Some x → P x
+all_at P [] k x all at = absurd (cc)
+all_at P (y ∷ ys) zero x all at = subst P (same_Some y x at) all.0
+all_at P (y ∷ ys) (suc k) x all at = all_at P ys k x all.1 at
+
+one_told : {A : Type 0} (told : Option A) (x y : A) → is_some told ≡ true → IfSome told (λ said. x ≡ said) → IfSome told (λ said. y ≡ said) → x ≡ y
+one_told None x y tells h k = absurd (cc)
+one_told (Some said) x y tells h k = h ∙ sym k
+
+module _ (turns : List Turn) (script : List Item) (a b : List ℕ) (ends : List LinkEnd) (tell : answer.AllTell ends) (r : IsRunText script turns a ends) (s : IsRunText script turns b ends) where
+  same_took : (k : ℕ) → k < length ends → took_at r.took k ≡ took_at s.took k
+  same_took k inside = let e = within ends k inside in let tells = all_at (λ (x : LinkEnd). (is_some x.took ≡ true) × (is_some x.answers ≡ true)) ends k e.0 tell e.1 in
+      one_told e.0.took (took_at r.took k) (took_at s.took k) tells.0 (r.told k e.0 e.1) (s.told k e.0 e.1)
+
+  same_answers : (k : ℕ) → as_told (heard_of r.run k) ≡ as_told (heard_of s.run k)
+  same_answers k = dite (dec_lt k (length ends))
+      (λ inside. let e = within ends k inside in let tells = all_at (λ (x : LinkEnd). (is_some x.took ≡ true) × (is_some x.answers ≡ true)) ends k e.0 tell e.1 in
+      one_told e.0.answers (as_told (heard_of r.run k)) (as_told (heard_of s.run k)) tells.1 (turned e.0.answers _ (r.heard.each k e.0 e.1)) (turned e.0.answers _ (s.heard.each k e.0 e.1)))
+      (λ past. ap as_told (r.heard.none_beyond k (omega (arith, past)) ∙ sym (s.heard.none_beyond k (omega (arith, past)))))
+    where
+      turned : (told : Option (List HalfAnswer)) (x : List HalfAnswer) → IfSome told (λ said. said ≡ x) → IfSome told (λ said. x ≡ said)
+      turned None x h = tt
+      turned (Some said) x h = sym h
+
+  reports : Reports script r.core s.took r.report
+  reports = record {
+    outcomes = r.reports.outcomes;
+    line_each = r.reports.line_each;
+    links = λ k line at. let inside = slice_get_within r.report.links k line at in let each = r.reports.line_each in let many = r.ends_are.as_many in
+        subst (λ (bytes : List ℕ). IsLineOf (place_words (plan_of script) r.core.words) k bytes line) (same_took k (omega (arith, inside, each, many))) (r.reports.links k line at);
+  }
+
+  -- there is one text
+  pub told_text : a ≡ b
+  told_text = r.is_text ∙ one_text_told script turns r.core s.core r.report s.report s.took r.run s.run reports s.reports same_answers ∙ sym s.is_text
+
 -- with what the calls say of the values that they were handed
 pub ran_reported : (turns : List Turn) (bytes : List ℕ) (script : List Item) (text text' : List ℕ) (out : answer.Output) (links : answer.Links) (status : ℕ) →
     script_of bytes ≡ Ok script → is_callless script ≡ true → (links.prompt ≡ true → IsRunText script turns text links.ends) → text' ≡ text → answer.TextWritten out text' status →
@@ -28,5 +76,9 @@ pub ran_reported : (turns : List Turn) (bytes : List ℕ) (script : List Item) (
 ran_reported turns bytes script text text' out links status reads callless ran t wrote =
     answer.Reported text'
     (λ q. let is = ran q in subst (λ x. FitsWhole script x links.ends nothing_late) (sym (t ∙ is.is_text)) (run_fits bytes script reads turns is.core is.run callless is.report is.took is.reports links.ends is.told is.ends_are))
-    (λ q. let is : IsRunText script turns text' links.ends = subst (λ x. IsRunText script turns x links.ends) (sym t) (ran q) in
-    (is, run_drops_told bytes script reads turns is.core is.run, λ other ends run took same. same_text turns script other text' ends links.ends run is took same)) wrote
+    (λ q. let is : IsRunText script turns text' links.ends = subst (λ x. IsRunText script turns x links.ends) (sym t) (ran q) in (
+      is,
+      run_drops_told bytes script reads turns is.core is.run,
+      λ other ends run took same. same_text turns script other text' ends links.ends run is took same,
+      λ tell other run. told_text turns script other text' links.ends tell run is,
+    )) wrote

@@ -1,6 +1,7 @@
 -- The answers of the program: the status, its cause, and what is written with it.
-use Rattle.std.specs.Prelude.{ℕ, ◌≡◌, ◌≢◌, ◌<◌, ◌≤◌, ◌+◌, ◌⊎◌, ◌++◌, Bool, true, false, List, [], length, codes, decimal, Option, Some, None, Result, Ok, Err}
+use Rattle.std.specs.Prelude.{ℕ, ◌≡◌, ◌≢◌, ◌<◌, ◌≤◌, ◌+◌, ◌⊎◌, ◌++◌, Bool, true, false, List, [], length, codes, decimal, is_some, Option, Some, None, Result, Ok, Err}
 use Rattle.std.specs.Io.KnownBytes.{Appends, Consumes}
+use Rattle.std.specs.List.{AllByRecursion}
 use Rattle.brpc_model.specs.Commands.{Command, Replay, Sim, Gen, Frames, command_of, usage_text}
 use Rattle.brpc_model.specs.ScriptText.{script_text}
 use Rattle.brpc_model.specs.Drawn.{generated}
@@ -100,12 +101,18 @@ fault_text line kind = codes "script fault line " ++ decimal line ++ codes " kin
 abbrev pub IsReport : Links → List Item → List ℕ → Type 0
 IsReport links script text = links.prompt ≡ true → FitsWhole script text links.ends nothing_late
 
+-- links that tell all that they took and answered
+abbrev pub AllTell : List LinkEnd → Type 0
+AllTell ends = AllByRecursion (λ (e : LinkEnd). (is_some e.took ≡ true) × (is_some e.answers ≡ true)) ends
+
 -- and it is that of a run by these lines of a schedule: the setup first, then the ticks of these lines, then rounds until no client has a step
 -- left, then the ending; each `drop` was answered `freed` or `kept` by what its own steps did; and no other text is that of a run in which the
--- links answered the same, as they do where none is asked, and of which the same is said of what they took
+-- links answered the same, as they do where none is asked, and of which the same is said of what they took; where the links given back
+-- tell all that they took and answered, no other text is possible
 abbrev pub IsTextOfRun : Links → List Item → List Turn → List ℕ → Type 0
 IsTextOfRun links script turns text = links.prompt ≡ true → (is : IsRunText script turns text links.ends) × DropsTold is.run
     × ((other : List ℕ) (ends : List LinkEnd) (run : IsRunText script turns other ends) → run.took ≡ is.took → (has_send script ≡ false) ⊎ (answers_of run.run ≡ answers_of is.run) → other ≡ text)
+    × (AllTell links.ends → (other : List ℕ) → IsRunText script turns other links.ends → other ≡ text)
 
 -- the text was written, or the sink failed behind a beginning of it
 abbrev pub TextWritten : Output → List ℕ → ℕ → Type 0

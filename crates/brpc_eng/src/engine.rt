@@ -1,5 +1,4 @@
-ghost use Rattle.std.specs.Prelude.{◌≡◌, Some, [], map, string_bytes};
-ghost use Rattle.brpc_model.specs.Commands.{Frames, command_of};
+ghost use Rattle.std.specs.Prelude.{◌≡◌, [], map, string_bytes};
 ghost use Rattle.brpc_eng.specs.Answers.{Answers, CountsStand};
 ghost use Rattle.brpc_eng.specs.Status.{number_of};
 
@@ -50,7 +49,7 @@ pub fn brpc<R, S: Source, K: Sink, L: Linker, G: Gate>(
         (record { before = K.contents out.old; now = K.contents out.new; faults = record { before = K.faults out.old; now = K.faults out.new } })
         (record { prompt = L.prompt links.old; asked = L.asked links.new; ends = L.back links.new; faults = record { before = L.faults links.old; now = L.faults links.new } })
         result }
-    ensures counts { (command_of (map string_bytes words.now) ≡ Some Frames → ⊥) → CountsStand
+    ensures counts { CountsStand
         (record { before = S.faults source.old; now = S.faults source.new })
         (record { before = L.faults links.old; now = L.faults links.new })
         result }
@@ -73,7 +72,7 @@ fn answer<S: Source, K: Sink, L: Linker>(
         (record { before = K.contents out.old; now = K.contents out.new; faults = record { before = K.faults out.old; now = K.faults out.new } })
         (record { prompt = L.prompt links.old; asked = L.asked links.new; ends = L.back links.new; faults = record { before = L.faults links.old; now = L.faults links.new } })
         (number_of result) }
-    ensures counts { (command_of (map string_bytes words.now) ≡ Some Frames → ⊥) → CountsStand
+    ensures counts { CountsStand
         (record { before = S.faults source.old; now = S.faults source.new })
         (record { before = L.faults links.old; now = L.faults links.new })
         (number_of result) }

@@ -1,4 +1,4 @@
-ghost use Rattle.std.specs.Prelude.{◌≡◌};
+ghost use Rattle.std.specs.Prelude.{◌≡◌, ◌≢◌};
 ghost use Rattle.brpc_eng.specs.Status.{number_of};
 ghost use Rattle.brpc_eng.specs.Answers.{FramesPrinted, frames_status};
 
@@ -9,10 +9,11 @@ use std::alloc::Global;
 
 /// Prints the frames of the input.
 pub fn frames<S: Source, K: Sink>(alloc: Global, source: &mut S, out: &mut K) -> Status
-    ensures { FramesPrinted
+    ensures printed { FramesPrinted
         (record { given = S.left source.old; left = S.left source.new; faults = record { before = S.faults source.old; now = S.faults source.new } })
         (record { before = K.contents out.old; now = K.contents out.new; faults = record { before = K.faults out.old; now = K.faults out.new } })
         (number_of result) }
+    ensures source { number_of result ≢ 4 → S.faults source.new ≡ S.faults source.old }
 {
     status_of(print_frames(alloc, source, out))
 }

@@ -1,5 +1,5 @@
 -- The seats at the end, joined from the last to the first.
-use Rattle.std.proofs.Common.{◌≡◌, ℕ, ◌+◌, List, [], ◌∷◌, ◌++◌, append_assoc, append-nil, sym, ap, ◌∙◌, subst, arith}
+use Rattle.std.proofs.Common.{◌≡◌, ℕ, ◌+◌, List, [], ◌∷◌, ◌++◌, append_assoc, append-nil, sym, ap, ◌∙◌, subst, arith, refl, cond, eq-eqb, length}
 use Rattle.std.specs.Prelude.{Option as Maybe}
 use Rattle.std.specs.List.{flat_map}
 use Rattle.atomic_table.specs.Seated.{TableId}
@@ -9,7 +9,9 @@ use Rattle.corr_core.specs.Law.{total, Each}
 use Rattle.corr_core.specs.declared.marks.Noted.{Noted}
 use Rattle.corr_core.specs.declared.marks.Kept.{Kept}
 use Rattle.corr_core.specs.declared.marks.View.{View}
-use Rattle.id_rule.specs.Lawful.{joined}
+use Rattle.corr_core.specs.declared.marks.Held.{Held}
+use Rattle.id_rule.specs.Lawful.{joined, tokens_in, tokens_of}
+use Rattle.corr_id.specs.Seats.{IsFree}
 use Rattle.corr_id.specs.Closed.{AllOf}
 
 each_snoc : {A : Type 0} (P : A → Type 0) (xs : List A) (x : A) → Each P (xs ++ x ∷ []) → Each P xs × P x
@@ -36,13 +38,13 @@ module _ {C : Type 0} where
 
   pub record Joined (z : TableId) (all rest : List (Seat (Maybe C) (View C))) (seat : Seat (Maybe C) (View C)) : Type 0 where
     pub rest_ok : AllOf z rest
-    pub seat_ok : (seat.table_id ≡ z) × (seat.me.1 ≡ []) × (seat.me.0.tokens ≡ [])
+    pub seat_ok : (seat.table_id ≡ z) × (seat.me.1 ≡ []) × IsFree seat.me.0
     pub notes : flat_map notes_of_seat rest ++ seat.me.0.notes ≡ flat_map notes_of_seat all
     pub kept : flat_map kept_of_seat rest ++ seat.me.0.kept ≡ flat_map kept_of_seat all
     pub share : total share_of_seat rest + seat.me.0.share ≡ total share_of_seat all
 
   pub first : (z : TableId) (all rest : List (Seat (Maybe C) (View C))) (x : Seat (Maybe C) (View C)) → all ≡ rest ++ x ∷ [] → AllOf z all → Joined z all rest x
-  first z all rest x e h = let k = each_snoc (λ (s : Seat (Maybe C) (View C)). (s.table_id ≡ z) × (s.me.1 ≡ []) × (s.me.0.tokens ≡ [])) rest x (subst (AllOf z) e h) in record {
+  first z all rest x e h = let k = each_snoc (λ (s : Seat (Maybe C) (View C)). (s.table_id ≡ z) × (s.me.1 ≡ []) × IsFree s.me.0) rest x (subst (AllOf z) e h) in record {
     rest_ok = k.0;
     seat_ok = k.1;
     notes = sym (ap (flat_map notes_of_seat) e ∙ flat_last notes_of_seat rest x);
@@ -52,10 +54,10 @@ module _ {C : Type 0} where
 
   pub next : (z : TableId) (all rest rest' : List (Seat (Maybe C) (View C))) (seat earlier w : Seat (Maybe C) (View C)) → Joined z all rest seat → rest ≡ rest' ++ earlier ∷ [] → w.table_id ≡ earlier.table_id → w.me ≡ (joined earlier.me.0 seat.me.0, earlier.me.1) → Joined z all rest' w
   next z all rest rest' seat earlier w j e same view =
-      let k = each_snoc (λ (s : Seat (Maybe C) (View C)). (s.table_id ≡ z) × (s.me.1 ≡ []) × (s.me.0.tokens ≡ [])) rest' earlier (subst (AllOf z) e j.rest_ok) in
+      let k = each_snoc (λ (s : Seat (Maybe C) (View C)). (s.table_id ≡ z) × (s.me.1 ≡ []) × IsFree s.me.0) rest' earlier (subst (AllOf z) e j.rest_ok) in
       let v : w.me.0 ≡ joined earlier.me.0 seat.me.0 = ap (λ (m : Me (Maybe C) (View C)). m.0) view in record {
         rest_ok = k.0;
-        seat_ok = (same ∙ k.1.0, ap (λ (m : Me (Maybe C) (View C)). m.1) view ∙ k.1.1, ap (λ (y : View C). y.tokens) v ∙ k.1.2);
+        seat_ok = (same ∙ k.1.0, ap (λ (m : Me (Maybe C) (View C)). m.1) view ∙ k.1.1, (λ i. ap (tokens_in i) v ∙ k.1.2 i));
         notes = ap (λ (y : View C). flat_map notes_of_seat rest' ++ y.notes) v ∙ (sym (append_assoc (flat_map notes_of_seat rest') earlier.me.0.notes seat.me.0.notes) ∙ (ap (λ l. l ++ seat.me.0.notes) (sym (ap (flat_map notes_of_seat) e ∙ flat_last notes_of_seat rest' earlier)) ∙ j.notes));
         kept = ap (λ (y : View C). flat_map kept_of_seat rest' ++ y.kept) v ∙ (sym (append_assoc (flat_map kept_of_seat rest') earlier.me.0.kept seat.me.0.kept) ∙ (ap (λ l. l ++ seat.me.0.kept) (sym (ap (flat_map kept_of_seat) e ∙ flat_last kept_of_seat rest' earlier)) ∙ j.kept));
         share = let a = ap (λ (y : View C). y.share) v in let b = ap (total share_of_seat) e ∙ total_last share_of_seat rest' earlier in let c = j.share in omega arith;
@@ -63,4 +65,12 @@ module _ {C : Type 0} where
 
   -- the seat that is popped is one of the table
   pub last_ok : (z : TableId) (all rest rest' : List (Seat (Maybe C) (View C))) (seat earlier : Seat (Maybe C) (View C)) → Joined z all rest seat → rest ≡ rest' ++ earlier ∷ [] → earlier.table_id ≡ z
-  last_ok z all rest rest' seat earlier j e = (each_snoc (λ (s : Seat (Maybe C) (View C)). (s.table_id ≡ z) × (s.me.1 ≡ []) × (s.me.0.tokens ≡ [])) rest' earlier (subst (AllOf z) e j.rest_ok)).1.0
+  last_ok z all rest rest' seat earlier j e = (each_snoc (λ (s : Seat (Maybe C) (View C)). (s.table_id ≡ z) × (s.me.1 ≡ []) × IsFree s.me.0) rest' earlier (subst (AllOf z) e j.rest_ok)).1.0
+
+-- who has nothing of any slot has no token
+pub free_tokens : {C : Type 0} (v : View C) → IsFree v → v.tokens ≡ []
+free_tokens {C} v h = none_of v.tokens h
+  where
+    none_of : (ts : List (Held C)) → ((j : ℕ) → tokens_of j ts ≡ []) → ts ≡ []
+    none_of [] k = refl
+    none_of (t ∷ ts) k = let here : t.token ∷ tokens_of t.slot ts ≡ [] = ap (λ b. cond b (t.token ∷ tokens_of t.slot ts) (tokens_of t.slot ts)) (sym (eq-eqb t.slot t.slot refl)) ∙ k t.slot in let e = ap length here in absurd (omega arith)

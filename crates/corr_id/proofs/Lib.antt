@@ -10,3 +10,4 @@ pub mod Joins
 pub mod Closes
 pub mod Ending
 pub mod Beginning
+pub mod Testing

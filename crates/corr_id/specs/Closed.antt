@@ -6,10 +6,11 @@ use Rattle.atomic_table.specs.declared.shared.Seat.{Seat}
 use Rattle.sock_words.specs.declared.id_word.IdWord.{IdWord}
 use Rattle.corr_core.specs.declared.marks.View.{View}
 use Rattle.id_rule.specs.Lawful.{id_word}
+use Rattle.corr_id.specs.Seats.{IsFree}
 
 -- each is of this table, and holds no slot and no lock
 abbrev pub AllOf : {C : Type 0} → TableId → List (Seat (Option C) (View C)) → Type 0
-AllOf z = Each (λ s. (s.table_id ≡ z) × (s.me.1 ≡ []) × (s.me.0.tokens ≡ []))
+AllOf z = Each (λ s. (s.table_id ≡ z) × (s.me.1 ≡ []) × IsFree s.me.0)
 
 -- the first n are the id words of their slots
 abbrev pub AreIdWords : ℕ → List IdWord → List ℕ → Type 0

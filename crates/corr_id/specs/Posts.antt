@@ -1,5 +1,5 @@
 -- What a post says, by its answer.
-use Rattle.std.specs.Prelude.{◌≡◌, ◌≢◌, ℕ, ◌≤◌, ◌⊎◌, Some, None}
+use Rattle.std.specs.Prelude.{◌≡◌, ◌≢◌, ℕ, ◌<◌, ◌≤◌, ◌⊎◌, Some, None}
 use Rattle.std.specs.Prelude.{Option as Maybe}
 use Rattle.corr_core.specs.Word.{parts, code_of}
 use Rattle.corr_core.specs.declared.marks.Note.TheVariants.{Queued}
@@ -29,8 +29,8 @@ module _ {C : Type 0} (slots : ℕ) (u w : View C) (id code : ℕ) (attempt : Ma
       Found (slot_of id) word w × HasId (parts word) (version_of id) × ((parts word).state ≡ 2) × ((parts word).second ≢ 0) × IsTimely attempt (parts word).attempt × (code_of (parts word).oldest ≡ first) × (code_of (parts word).second ≡ second)
 
   abbrev pub PostOk : Posted C → Type 0
-  PostOk (HasLock k) = (k.slot ≡ slot_of id) × ((parts k.word.0).first ≡ version_of id) × IsTimely attempt (parts k.word.0).attempt × ((word : ℕ) × GotLock k.slot u w word (parts k.word.0) k.content)
+  PostOk (HasLock k) = (k.slot ≡ slot_of id) × (k.slot < slots) × ((parts k.word.0).first ≡ version_of id) × IsTimely attempt (parts k.word.0).attempt × ((word : ℕ) × GotLock k.slot u w word (parts k.word.0) k.content)
   PostOk IsQueued = Did (slot_of id) u w (tokens_in (slot_of id) u) (one (slot_of id) (Queued (version_of id) (error_in code attempt))) × ((word : ℕ) × WasQueued word)
-  PostOk (Gone found) = Quiet u w × ((slots ≤ slot_of id) ⊎ (Found (slot_of id) found w × LacksId (parts found) (version_of id)))
+  PostOk (Gone found) = Quiet u w × (((slots ≤ slot_of id) × (found ≡ 0)) ⊎ (Found (slot_of id) found w × LacksId (parts found) (version_of id)))
   PostOk (Stale current) = Quiet u w × IsStale attempt current × ((word : ℕ) × Found (slot_of id) word w × HasId (parts word) (version_of id) × ((parts word).attempt ≡ current))
   PostOk (Crowded first second) = Quiet u w × ((word : ℕ) × WasCrowded first second word)

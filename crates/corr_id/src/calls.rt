@@ -140,6 +140,7 @@ impl<C> IdTable<C> {
         requires seat { Sits self.now.table.shared.table_id seat.old }
         ensures seat { Stays seat.old seat.new }
         ensures locked { IfOk result (λ k. (k.slot ≡ slot_of version) × ((word : ℕ) × GotLock k.slot seat.old.me.0 seat.new.me.0 word (parts k.word.0) k.content)) }
+        ensures inside { IfOk result (λ k. k.slot < self.now.plan.slots) }
         ensures of_range { IfOk result (λ k. ((parts k.word.0).first ≤ version_of version) × (version_of version < (parts k.word.0).first + (parts k.word.0).range)) }
         ensures gone { IfErr result (λ e. Quiet seat.old.me.0 seat.new.me.0 × (((self.now.plan.slots ≤ slot_of version) × (e.found ≡ 0)) ⊎ (Found (slot_of version) e.found seat.new.me.0 × OutOf (parts e.found) (version_of version)))) }
     {

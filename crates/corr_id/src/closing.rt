@@ -6,6 +6,7 @@ ghost use Rattle.corr_core.specs.Law.{total};
 ghost use Rattle.id_rule.specs.Lawful.{all_words};
 ghost use Rattle.corr_id.specs.Closed.{AllOf, AreIdWords};
 ghost use Rattle.corr_id.specs.Closing.{Closing};
+ghost use Rattle.corr_id.specs.Seats.{IsFree};
 
 use crate::table::{IdSeat, IdTable};
 use atomic_table::Closed;
@@ -13,6 +14,7 @@ use sock_words::IdWord;
 use std::alloc::Global;
 
 /// There was no memory. All is untouched.
+#[derive(Drop)]
 pub struct IdNotClosed<C> {
     pub table: IdTable<C>,
     pub seats: Vec<IdSeat<C>>,
@@ -22,7 +24,7 @@ pub struct IdNotClosed<C> {
 fn join_all<C>(table: &IdTable<C>, mut seats: Vec<IdSeat<C>>) -> IdSeat<C>
     requires seats { AllOf table.now.table.shared.table_id seats.items }
     requires words { (0 < table.now.table.shared.table_id.words) × (1 ≤ total (λ s. s.me.0.share) seats.items) }
-    ensures seat { (result.table_id ≡ table.now.table.shared.table_id) × (result.me.0.tokens ≡ []) }
+    ensures seat { (result.table_id ≡ table.now.table.shared.table_id) × IsFree result.me.0 }
     ensures lists { (result.me.0.notes ≡ flat_map (λ s. s.me.0.notes) seats.items) × (result.me.0.kept ≡ flat_map (λ s. s.me.0.kept) seats.items) × (result.me.0.share ≡ total (λ s. s.me.0.share) seats.items) }
 {
     let Some(mut seat) = seats.pop() else {

@@ -17,11 +17,11 @@ pub enum Posted<C> {
     /// It was locked, and the error waits behind those that were queued.
     Queued,
     /// It has ended or never was: the word that was found, 0 where there is no such slot.
-    Gone(u64),
+    Gone { found: u64 },
     /// Another attempt is current, this one.
-    Stale(u8),
+    Stale { current: u8 },
     /// It was locked with two errors queued, of these codes.
-    Crowded(u16, u16),
+    Crowded { first: u16, second: u16 },
 }
 
 impl<C> IdTable<C> {
@@ -44,7 +44,7 @@ impl<C> IdTable<C> {
     {
         let slot = id / 4_294_967_296;
         if slot >= self.plan.slots as u64 {
-            return Posted::Gone(0);
+            return Posted::Gone { found: 0 };
         }
         let at = slot as u16;
         let own = id % 4_294_967_296;
@@ -53,10 +53,12 @@ impl<C> IdTable<C> {
         'tries: for _ in rt.forever() {
             let word = IdWord::from_word(found);
             if lacks_id(word, own) {
-                return Posted::Gone(found);
+                return Posted::Gone { found };
             }
             if is_stale(word, attempt) {
-                return Posted::Stale(word.attempt());
+                return Posted::Stale {
+                    current: word.attempt(),
+                };
             }
             if word.state() == IdWord::OPEN {
                 match self.try_lock(seat, at, found) {
@@ -64,7 +66,10 @@ impl<C> IdTable<C> {
                     Err(now) => found = now,
                 }
             } else if word.second() != 0 {
-                return Posted::Crowded(word.oldest() / 8, word.second() / 8);
+                return Posted::Crowded {
+                    first: word.oldest() / 8,
+                    second: word.second() / 8,
+                };
             } else {
                 let next = queued(word, code, attempt);
                 let now = self.queue_id(seat, at, found, next, error);

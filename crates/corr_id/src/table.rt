@@ -1,6 +1,7 @@
 // The table of words and homes, and its seats.
 ghost use Rattle.std.specs.Prelude.{◌≡◌, ◌<◌, ◌≤◌, [], IfOk};
 ghost use Rattle.id_rule.specs.Lawful.{all_words, first_view, Unused, joined, lighter, newcomer};
+ghost use Rattle.corr_id.specs.Seats.{IsFree};
 
 use crate::plays::{Rule, SeatOut, TakeIn};
 use atomic_table::{Seat, Table};
@@ -11,6 +12,7 @@ use std::alloc::{AllocError, Global};
 pub type IdSeat<C> = Seat<Option<C>, View<C>>;
 
 /// The call ids that threads share, each with a content while it isn't ended.
+#[derive(Drop)]
 pub struct IdTable<C> {
     pub table: Table<Option<C>, View<C>, Plan, Rule, Global>,
     pub plan: Plan,
@@ -37,7 +39,7 @@ impl<C> IdTable<C> {
     /// Joins two seats. The seat `from` has no lock; what it has noted is added to what `seat` has.
     pub fn take_in(&self, seat: &mut IdSeat<C>, from: IdSeat<C>)
         requires seat { seat.old.table_id ≡ self.now.table.shared.table_id }
-        requires from { (from.table_id ≡ self.now.table.shared.table_id) × (from.me.1 ≡ []) × (from.me.0.tokens ≡ []) }
+        requires from { (from.table_id ≡ self.now.table.shared.table_id) × (from.me.1 ≡ []) × IsFree from.me.0 }
         requires words { 0 < self.now.table.shared.table_id.words }
         ensures seat { (seat.new.table_id ≡ seat.old.table_id) × (seat.new.id ≡ seat.old.id) }
         ensures view { seat.new.me ≡ (joined seat.old.me.0 from.me.0, seat.old.me.1) }

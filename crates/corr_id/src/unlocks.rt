@@ -16,7 +16,11 @@ pub enum Unlocked<C> {
     Open,
     /// It is still locked, for the oldest error that was queued for the current attempt or for the whole call (`None`): its code
     /// and its attempt.
-    Next(IdLock<C>, u16, Option<u8>),
+    Next {
+        lock: IdLock<C>,
+        code: u16,
+        attempt: Option<u8>,
+    },
 }
 
 impl<C> IdTable<C> {
@@ -55,7 +59,11 @@ impl<C> IdTable<C> {
             step = false;
             if !is_thrown_away(oldest, from) {
                 let lock = self.take_call(seat, slot, IdWord::from_word(from));
-                return Unlocked::Next(lock, oldest / 8, attempt_in(oldest));
+                return Unlocked::Next {
+                    lock,
+                    code: oldest / 8,
+                    attempt: attempt_in(oldest),
+                };
             }
         }
     }

@@ -36,13 +36,14 @@ lines_written : (bytes held : List ℕ) (o p : Option (List ℕ)) → (x : CutPr
 lines_written bytes held o p x e = let P : Stream → Type 0 = λ s. Appends o p (lines_of s) in subst P (sym (stream_rest bytes held x.frames x.cut e)) x.wrote
 
 pub ends_rest : (e : Edges) (bytes held : List ℕ) (p : Option (List ℕ)) → length bytes ≤ frames_limit → IsAtEnd e.left → CutPrinted bytes e.before held p → judged held ≡ NoneYet →
-    Appends p e.now (ending_line (Rest (length held))) → PrintedRest e bytes
-ends_rest e bytes held p few end x waiting w = record {
+    Appends p e.now (ending_line (Rest (length held))) → e.write_faults_now ≡ e.write_faults → PrintedRest e bytes
+ends_rest e bytes held p few end x waiting w kept = record {
   few = few;
   end = end;
   ending = is_rest bytes held x.frames x.cut waiting;
   wrote = let P : Stream → Type 0 = λ s. Appends e.before e.now (text_of s) in
       subst P (sym (stream_rest bytes held x.frames x.cut waiting)) (Appends-append e.before p e.now (flat_map frame_line x.frames) (ending_line (Rest (length held))) x.wrote w);
+  kept = kept;
 }
 
 pub ends_unwritten : (e : Edges) (bytes held : List ℕ) (p : Option (List ℕ)) (faults : ℕ) → length bytes ≤ frames_limit → IsAtEnd e.left → CutPrinted bytes e.before held p → judged held ≡ NoneYet →
@@ -162,7 +163,7 @@ judged_ends e bytes new fs (Err fault_.NoMemory) few lost x j = record { few = f
 
 at_rest : (e : Edges) (bytes held : List ℕ) (p : Option (List ℕ)) (faults : ℕ) (r : Result StreamEnd PrintFault) → length bytes ≤ frames_limit → IsAtEnd e.left → CutPrinted bytes e.before held p →
     judged held ≡ NoneYet → faults ≡ e.write_faults → RestPrinted p e.now faults e.write_faults_now (length held) r → EndsAs e bytes r
-at_rest e bytes held p faults (Ok end_.Rest) few end x waiting kept w = ends_rest e bytes held p few end x waiting w
+at_rest e bytes held p faults (Ok end_.Rest) few end x waiting kept w = ends_rest e bytes held p few end x waiting w.0 (w.1 ∙ kept)
 at_rest e bytes held p faults (Ok end_.Fault) few end x waiting kept w = absurd w
 at_rest e bytes held p faults (Err fault_.Source) few end x waiting kept w = absurd w
 at_rest e bytes held p faults (Err fault_.Sink) few end x waiting kept w = ends_unwritten e bytes held p faults few end x waiting w.0 kept w.1

@@ -65,7 +65,7 @@ EndsStopped old new other result = result ≡ Err other
 
 -- the line of a rest of so many bytes was written, or the sink failed behind a beginning of it
 abbrev pub RestPrinted : Option (List ℕ) → Option (List ℕ) → ℕ → ℕ → ℕ → Result StreamEnd PrintFault → Type 0
-RestPrinted before now faults faults_now len (Ok end_.Rest) = Appends before now (ending_line (Rest len))
+RestPrinted before now faults faults_now len (Ok end_.Rest) = Appends before now (ending_line (Rest len)) × (faults_now ≡ faults)
 RestPrinted before now faults faults_now len (Ok end_.Fault) = ⊥
 RestPrinted before now faults faults_now len (Err fault_.Sink) = WrotePart before now (ending_line (Rest len)) × Rose faults faults_now
 RestPrinted before now faults faults_now len (Err other) = ⊥

@@ -1,5 +1,5 @@
 -- What is left behind by printing the frames of a source's bytes, by how it ended.
-use Rattle.std.specs.Prelude.{ℕ, ◌≡◌, ◌≤◌, ◌+◌, ◌⊎◌, List, length, take, flat_map, Option, Result, Ok, Err}
+use Rattle.std.specs.Prelude.{ℕ, ◌≡◌, ◌≢◌, ◌≤◌, ◌+◌, ◌⊎◌, List, length, take, flat_map, Option, Result, Ok, Err}
 use Rattle.std.specs.Io.KnownBytes.{Appends, Consumes, IsAtEnd}
 use Rattle.brpc_model.specs.Stream.{Ending, Rest, Fault, stream}
 use Rattle.brpc_model.specs.FramesText.{frame_line, frames_text}
@@ -57,12 +57,13 @@ IsFaulty (Fault start fault) = Unit {0}
 
 -- ## How it ended
 
--- the source is at its end, and so is the stream, in a rest; the whole text was written
+-- the source is at its end, and so is the stream, in a rest; the whole text was written, and no write failed
 pub record PrintedRest (edges : Edges) (bytes : List ℕ) : Type 0 where
   pub few : length bytes ≤ frames_limit
   pub end : IsAtEnd edges.left
   pub ending : IsRest (stream bytes).ending
   pub wrote : WroteAll edges (frames_text bytes)
+  pub kept : edges.write_faults_now ≡ edges.write_faults
 
 -- the stream has a fault; the whole text was written, or the sink failed behind a beginning of it
 pub record PrintedFault (edges : Edges) (bytes : List ℕ) : Type 0 where
@@ -103,8 +104,9 @@ EndsAs edges bytes (Err fault_.Sink) = SinkFailed edges bytes
 EndsAs edges bytes (Err fault_.TooLong) = TooLong edges bytes
 EndsAs edges bytes (Err fault_.NoMemory) = NoMemory edges bytes
 
--- these bytes came, and it ended so
+-- these bytes came, and it ended so; a read failed only where that is answered
 pub record PrintsFrames (edges : Edges) (result : Result StreamEnd PrintFault) : Type 0 where
   pub bytes : List ℕ
   pub came : Consumes edges.given edges.left bytes
   pub ended : EndsAs edges bytes result
+  pub reads : result ≢ Err fault_.Source → edges.read_faults_now ≡ edges.read_faults

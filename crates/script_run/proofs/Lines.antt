@@ -27,7 +27,9 @@ use Rattle.sock_core.specs.Machines.{MachineState, core_with}
 use Rattle.sock_core.specs.Runs.{ShowFaults}
 use Rattle.script_run.specs.Played.{IsPlayable, HasPlayed, HasTurns}
 use Rattle.script_run.proofs.Seated.{many_with}
-use Rattle.script_run.proofs.Ticking.{ran_on, beyond, stays, stays_unasked, stays_unbroken, stays_prompt, seats_stay, run_rests}
+use Rattle.script_run.proofs.Ticking.{ran_on, beyond, stays, stays_unasked, stays_unbroken, stays_prompt, seats_stay, run_rests, rests_unheard}
+use Rattle.whole_runs.specs.Heard.{heard_in}
+use Rattle.sock_core.proofs.Joining.{tells_as, rests_heard}
 use Rattle.script_run.proofs.Playing.{as_played, then_played, none_played, shown_none}
 
 -- ## Ticks of one seat
@@ -97,6 +99,8 @@ module _ (old new : MachineState) (i n : ℕ) (playable : IsPlayable old) (h : H
           agrees = t.agrees;
           core = t.core ∙ run_rests old.plan n c 65535 t.moments highest (t.are ∙ ap (λ j. replicate n j) same) ∙ sym (stays old.plan n c i rest);
           broken = subst (ShowFaults new) (sym (stays_unbroken old.plan n c i rest)) (shown_none new);
+          told = tells_as old new (heard_in old.plan c t.moments) (heard_in old.plan c (replicate n (quiet i)))
+              (λ k. rests_unheard old.plan n c 65535 t.moments highest (t.are ∙ ap (λ j. replicate n j) same) k ∙ sym (rests_heard old.plan c i rest n k)) t.told;
         };
   }
 

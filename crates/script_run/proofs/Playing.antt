@@ -18,7 +18,10 @@ use Rattle.sock_core.specs.declared.machine.Tick.TheVariants.{Idle}
 use Rattle.sock_core.specs.Links.{LinksData, Taken, Agrees}
 use Rattle.sock_core.specs.Machines.{MachineState, core_with}
 use Rattle.sock_core.specs.Steps.{SameLink}
-use Rattle.sock_core.specs.Runs.{SameLinks, SameTable, ShowFaults, Ticked, Led}
+use Rattle.whole_runs.specs.Heard.{heard_at, heard_in}
+use Rattle.whole_runs.proofs.HeardRuns.{heard_on}
+use Rattle.sock_core.specs.Runs.{SameLinks, SameTable, ShowFaults, LinksTell, Ticked, Led}
+use Rattle.sock_core.proofs.Joining.{tells_none, tells_as, tells_join, rest_heard, rests_heard}
 use Rattle.script_run.specs.Given.{AreUntouched, AreNumbered}
 use Rattle.script_run.specs.Played.{IsPlayable, PlayedWith, HasPlayed}
 use Rattle.script_run.proofs.Numbering.{numbered_of}
@@ -101,7 +104,7 @@ module _ (Ticks : Core → List Moment → Type 0) (m : MachineState) where
     table = record { plan = refl; opens = refl };
     links = same_links m;
     seats = refl;
-    played = λ took agrees. record { moments = []; are = h (core_with m took); answered = tt; prompt = λ p. tt; later = took; agrees = agrees; core = refl; broken = shown_none m };
+    played = λ took agrees. record { moments = []; are = h (core_with m took); answered = tt; prompt = λ p. tt; later = took; agrees = agrees; core = refl; broken = shown_none m; told = tells_none m m refl _ (λ k. refl) };
   }
 
 module _ (old new : MachineState) (seat : ℕ) (tick : Tick) (h : Ticked old new seat tick) where
@@ -122,6 +125,7 @@ module _ (old new : MachineState) (seat : ℕ) (tick : Tick) (h : Ticked old new
       agrees = t.agrees;
       core = t.core;
       broken = subst (ShowFaults new) (sym (append-nil (broken_at (core_with old took) t.moment))) t.broken;
+      told = tells_as old new (heard_at (core_with old took) t.moment) (heard_in old.plan (core_with old took) (t.moment ∷ [])) (λ k. sym (append-nil (heard_at (core_with old took) t.moment k))) t.told;
     };
   }
 
@@ -143,6 +147,7 @@ idle_played old new seat n h = record {
         agrees = t.agrees;
         core = t.core ∙ rests old.plan c t.moment t.is ∙ sym (stays old.plan n c seat rest);
         broken = subst (ShowFaults new) (sym (stays_unbroken old.plan n c seat rest)) (shown_none new);
+        told = tells_as old new (heard_at c t.moment) (heard_in old.plan c (replicate n (quiet seat))) (λ k. rest_heard c t.moment t.is k ∙ sym (rests_heard old.plan c seat rest n k)) t.told;
       };
 }
 
@@ -154,7 +159,7 @@ led_played old new seat kind h = record {
   links = h.1;
   seats = let t = h.2 (told_by old.links) (agrees_told old.links) in seats_ticked old new (told_by old.links) t.later t.moments t.core;
   played = λ took agrees. let t = h.2 took agrees in
-      record { moments = t.moments; are = t.leads; answered = t.answered; prompt = t.prompt; later = t.later; agrees = t.agrees; core = t.core; broken = t.broken };
+      record { moments = t.moments; are = t.leads; answered = t.answered; prompt = t.prompt; later = t.later; agrees = t.agrees; core = t.core; broken = t.broken; told = t.told };
 }
 
 -- the same ticks, said otherwise
@@ -164,7 +169,7 @@ as_played S T old new change h = record {
   links = h.links;
   seats = h.seats;
   played = λ took agrees. let t = h.played took agrees in
-      record { moments = t.moments; are = change took t.moments t.are; answered = t.answered; prompt = t.prompt; later = t.later; agrees = t.agrees; core = t.core; broken = t.broken };
+      record { moments = t.moments; are = change took t.moments t.are; answered = t.answered; prompt = t.prompt; later = t.later; agrees = t.agrees; core = t.core; broken = t.broken; told = t.told };
 }
 
 module _ (S T U : Core → List Moment → Type 0) (a b c : MachineState) (h : HasPlayed S a b) (k : HasPlayed T b c)
@@ -187,6 +192,9 @@ module _ (S T U : Core → List Moment → Type 0) (a b c : MachineState) (h : H
         broken = subst (ShowFaults c) (sym (broken_on p start f.moments g.moments))
             (shown_both c (broken_in p start f.moments) (broken_in p (run p start f.moments) g.moments) (shown_later b c (broken_in p start f.moments) k.links f.broken)
             (subst (λ d. ShowFaults c (broken_in p d g.moments)) f.core (subst (λ q. ShowFaults c (broken_in q mid g.moments)) plan g.broken)));
+        told = tells_as a c (λ i. heard_in p start f.moments i ++ heard_in p (run p start f.moments) g.moments i) (heard_in p start (f.moments ++ g.moments)) (λ i. sym (heard_on p start f.moments g.moments i))
+            (tells_join a b c (heard_in p start f.moments) (heard_in p (run p start f.moments) g.moments) h.links k.links f.told
+            (subst (λ d. LinksTell b c (heard_in p d g.moments)) f.core (subst (λ q. LinksTell b c (heard_in q mid g.moments)) plan g.told)));
       }
 
   -- ticks, and then others

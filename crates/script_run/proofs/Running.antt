@@ -1,5 +1,5 @@
 -- A run, from the setup to the end, and its text.
-use Rattle.std.proofs.Common.{◌≡◌, ℕ, zero, suc, ◌+◌, ◌-◌, ◌<◌, List, [], ◌∷◌, ◌++◌, map, length, replicate, slice_get, Option, Some, IfSome, Result, Ok, Err, OnOk, IfOk, IsOk, true, ap, sym, subst, refl, ◌∙◌, arith}
+use Rattle.std.proofs.Common.{◌≡◌, ℕ, zero, suc, ◌+◌, ◌-◌, ◌<◌, ◌≤◌, List, [], ◌∷◌, ◌++◌, map, length, replicate, slice_get, Option, Some, None, IfSome, Result, Ok, Err, OnOk, IfOk, IsOk, true, ap, sym, subst, refl, ◌∙◌, arith}
 use Rattle.std.proofs.lemmas.List.{length-map}
 use Rattle.std.proofs.lemmas.Option.{slice_get_within}
 use mathlib.Core.Option as core
@@ -8,11 +8,14 @@ use Rattle.sock_words.specs.declared.plain.Plan.{Plan}
 use Rattle.sock_words.specs.declared.outcome.Outcome.{Outcome}
 use Rattle.sock_words.specs.declared.place_word.PlaceWord.{PlaceWord}
 use Rattle.brpc_model.specs.Items.{Item}
-use Rattle.brpc_model.specs.Link.{LinkEnd}
+use Rattle.brpc_model.specs.Link.{LinkEnd, HalfAnswer}
 use Rattle.brpc_model.specs.Script.{script_of}
 use Rattle.brpc_model.specs.Operations.{Turn, clients, link_names, operations}
 use Rattle.brpc_model.specs.PlaceWords.{ArePlaces, HasEachOutcome, IsReportText}
-use Rattle.sock_io.specs.Link.{OutState}
+use Rattle.sock_io.specs.Link.{OutState, more_told}
+use Rattle.whole_runs.specs.Heard.{as_told, heard_in, heard_of}
+use Rattle.whole_runs.proofs.HeardRuns.{heard_on}
+use Rattle.sock_core.proofs.Joining.{tells_as, tells_join}
 use Rattle.sock_model.specs.declared.home.Home.TheVariants.{Link}
 use Rattle.report_fits.specs.Ends.{IsEnd, AreEnds, AreTold}
 use Rattle.report_fits.proofs.Lists.{within}
@@ -28,9 +31,9 @@ use Rattle.sock_programs.specs.Tasks.{plan_of}
 use Rattle.sock_core.specs.Finish.{told_from}
 use Rattle.sock_core.specs.Links.{ArePrompt}
 use Rattle.sock_core.specs.Machines.{MachineState, core_with, ending_by}
-use Rattle.sock_core.specs.Runs.{SameLinks, ShowFaults, SettledWith, Settled}
+use Rattle.sock_core.specs.Runs.{SameLinks, ShowFaults, LinksTell, SettledWith, Settled}
 use Rattle.script_run.specs.Given.{IsUntouched, AreUntouched}
-use Rattle.script_run.specs.Played.{IsMade, IsPlayable, PlayedWith, HasPlayed, HasRun, IsRunText}
+use Rattle.script_run.specs.Played.{IsMade, IsPlayable, PlayedWith, HasPlayed, HasRun, AreHeard, IsRunText}
 use Rattle.report_fits.proofs.Tasks.{tasks_of_script}
 use Rattle.run_laws.proofs.Laws.{keeps_laws}
 use Rattle.whole_runs.proofs.Starts.{begins}
@@ -139,10 +142,16 @@ module _ (script : List Item) (turns : List Turn) (start mid end_ : MachineState
       (shown_later mid end_ (broken_in p (set_up script n) now) settled.1 (subst (λ c. ShowFaults mid (broken_in p c now)) made.setup.1 (subst (λ q. ShowFaults mid (broken_in q c0 now)) made.plan first.broken)))
       (subst (λ c. ShowFaults end_ (broken_in p c later)) middle (subst (λ q. ShowFaults end_ (broken_in q (core_with mid first.later) later)) plan rest.broken)))
 
-  pub has_run : HasRun script turns end_
-  has_run = record { took = rest.later; agrees = rest.agrees; run = run_of; broken = broken }
+  told : LinksTell start end_ (heard_in p (set_up script n) (now ++ later))
+  told = tells_as start end_ (λ k. heard_in p (set_up script n) now k ++ heard_in p (run p (set_up script n) now) later k) (heard_in p (set_up script n) (now ++ later)) (λ k. sym (heard_on p (set_up script n) now later k))
+      (tells_join start mid end_ (heard_in p (set_up script n) now) (heard_in p (run p (set_up script n) now) later) played.links settled.1
+      (subst (λ c. LinksTell start mid (heard_in p c now)) made.setup.1 (subst (λ q. LinksTell start mid (heard_in q c0 now)) made.plan first.told))
+      (subst (λ c. LinksTell mid end_ (heard_in p c later)) middle (subst (λ q. LinksTell mid end_ (heard_in q (core_with mid first.later) later)) plan rest.told)))
 
-pub run_answered : {E : Type 0} (script : List Item) (turns : List Turn) (start mid end_ : MachineState) (r : Result (Unit {0}) E) → IsMade script start → HasPlayed (λ c. Scheduled start.plan c turns) start mid → OnOk r (Settled mid end_) → OnOk r (ArePrompt start.links → HasRun script turns end_)
+  pub has_run : HasRun script turns start end_
+  has_run = record { took = rest.later; agrees = rest.agrees; run = run_of; broken = broken; told = told }
+
+pub run_answered : {E : Type 0} (script : List Item) (turns : List Turn) (start mid end_ : MachineState) (r : Result (Unit {0}) E) → IsMade script start → HasPlayed (λ c. Scheduled start.plan c turns) start mid → OnOk r (Settled mid end_) → OnOk r (ArePrompt start.links → HasRun script turns start end_)
 run_answered script turns start mid end_ (Ok done) made played settled = has_run script turns start mid end_ made played settled
 run_answered script turns start mid end_ (Err e) made played settled = tt
 
@@ -157,8 +166,13 @@ untouched_at number [] k e h at = absurd (cc)
 untouched_at number (x ∷ ends) zero e h at = let is : x ≡ e = cc in subst (λ (y : LinkEnd). IsUntouched (number + 0) y) is (subst (λ (m : ℕ). IsUntouched m x) (let s : number ≡ number + 0 = omega arith in s) h.0)
 untouched_at number (x ∷ ends) (suc k) e h at = subst (λ (m : ℕ). IsUntouched m e) (let s : (number + 1) + k ≡ number + suc k = omega arith in s) (untouched_at (number + 1) ends k e h.1 at)
 
+-- a link that had answered nothing tells what it answered since
+told_from_none : (told : Option (List HalfAnswer)) (more : List HalfAnswer) → IfSome told (λ answers. answers ≡ []) → IfSome (more_told told more) (λ answers. answers ≡ more)
+told_from_none None more none_ = tt
+told_from_none (Some answers) more none_ = ap (λ (l : List HalfAnswer). l ++ more) none_
+
 module _ (bytes : List ℕ) (script : List Item) (turns : List Turn) (start m : MachineState) (reads : script_of bytes ≡ Ok script) (callless : is_callless script ≡ true)
-    (untouched : AreUntouched 0 start.ends) (many : length start.ends ≡ length (link_names script)) (same : SameLinks start m) (ran : HasRun script turns m) (plan : m.plan ≡ plan_of script)
+    (untouched : AreUntouched 0 start.ends) (many : length start.ends ≡ length (link_names script)) (same : SameLinks start m) (ran : HasRun script turns start m) (plan : m.plan ≡ plan_of script)
     (outs : map (λ (o : OutState). o.took) m.links.outs ≡ map (λ (e : LinkEnd). e.took) m.ends) (letters : length m.letters ≡ m.plan.requests) where
   abbrev end_core : Core
   end_core = core_with m ran.took
@@ -180,6 +194,17 @@ module _ (bytes : List ℕ) (script : List Item) (turns : List Turn) (start m : 
         gave = subst (λ o. IfSome o (λ bytes. bytes ≡ [])) (sym stays.gave) was.gave;
         failed = λ has. ran.broken k e has at;
       }
+
+  heard_each : (k : ℕ) (e : LinkEnd) → slice_get m.ends k ≡ Some e → IfSome e.answers (λ answers. answers ≡ as_told (heard_of ran.run k))
+  heard_each k e at =
+      let inside = slice_get_within m.ends k e at in
+      let as_many = same.as_many in
+      let before = within start.ends k (omega (arith, inside, as_many)) in
+      let was = untouched_at 0 start.ends k before.0 untouched before.1 in
+      subst (λ o. IfSome o (λ answers. answers ≡ as_told (heard_of ran.run k))) (sym (ran.told.each k before.0 e before.1 at)) (told_from_none before.0.answers (as_told (heard_of ran.run k)) was.answers)
+
+  are_heard : AreHeard m.ends (heard_of ran.run)
+  are_heard = record { each = heard_each; none_beyond = λ k past. ran.told.none_beyond k (let as_many = same.as_many in omega (arith, as_many, past)) }
 
   ends_are : AreEnds script end_core (broken_of ran.run) m.ends
   ends_are = record { as_many = same.as_many ∙ many; each = end_is }
@@ -203,6 +228,7 @@ module _ (bytes : List ℕ) (script : List Item) (turns : List Turn) (start m : 
         reports = report.told;
         is_text = report.is_text;
         ends_are = subst (AreEnds script end_core (broken_of ran.run)) (sym ends_same) ends_are;
+        heard = subst (λ (es : List LinkEnd). AreHeard es (heard_of ran.run)) (sym ends_same) are_heard;
       }
 
 -- where it was played to its end
@@ -210,7 +236,7 @@ pub text_answered : {T E F P : Type 0} (items : T → List ℕ) (r : Result T E)
     script_of bytes ≡ Ok script → is_callless script ≡ true → IsMade script start → AreUntouched 0 start.ends → length start.ends ≡ length (link_names script) → SameLinks start m →
     map (λ (o : OutState). o.took) m.links.outs ≡ map (λ (e : LinkEnd). e.took) m.ends → length m.letters ≡ m.plan.requests →
     outcomes ≡ told_from 0 m.outcomes → words ≡ place_words m.plan m.words → ends ≡ m.ends → back ≡ ends →
-    (IsOk r → IsOk q) → (P → ArePrompt start.links) → OnOk q (ArePrompt start.links → HasRun script turns m) → OnOk q (m.plan ≡ start.plan) →
+    (IsOk r → IsOk q) → (P → ArePrompt start.links) → OnOk q (ArePrompt start.links → HasRun script turns start m) → OnOk q (m.plan ≡ start.plan) →
     IfOk r (λ t. (os : List (Option Outcome)) → length os ≡ length (operations script) → outcomes ≡ told_from 0 os → ArePlaces words → HasEachOutcome words os → (took : List (List ℕ)) × AreTold ends took × IsReportText script os words took (items t)) →
     IfOk r (λ t. P → IsRunText script turns (items t) back)
 text_answered items (Err e) q bytes script turns start m outcomes words ends back reads callless made untouched many same outs letters outcomes_are words_are ends_same back_is played prompt ran sized told = tt

@@ -14,6 +14,8 @@ use Rattle.sock_io.specs.declared.link.Ready.{Ready}
 use Rattle.sock_programs.specs.Programs.{Program, Do, Say, Sent, Rest, TakeMessage, TakeHome, PutHome, PutBytes, AskReady, Write}
 use Rattle.sock_programs.specs.Sends.{block}
 use Rattle.sock_programs.specs.Cores.{Core, SeatState}
+use Rattle.whole_runs.specs.Heard.{heard_in}
+use Rattle.sock_core.proofs.Joining.{rest_heard}
 use Rattle.sock_programs.specs.Ticks.{Answer, OfPut, OfReady, Moment, quiet, seats_of, tick_with, step_with, with_message, with_link, with_put, with_ready, ticked, run, IsAnswer, IsAnswered, AreAnswered, IsPrompt, broken_at, broken_in, waits, waits_at}
 use Rattle.sock_programs.specs.Runs.{next_kind, kind_in, IsAtRest}
 
@@ -172,6 +174,16 @@ beyond_in (s ∷ ss) (suc i) h = beyond_in ss i (omega arith)
 
 pub beyond : (c : Core) (i : ℕ) → length c.seats ≤ i → IsAtRest c i
 beyond c i h = ap (λ (o : core.Option SeatState). elim o as (λ o. Option Kind) [ core.none ↦ None | core.some seat ↦ kind_in seat.program ]) (beyond_in c.seats i h)
+
+-- nothing is heard of a link in ticks of a seat that has no step left
+pub rests_unheard : (p : Plan) (n : ℕ) (c : Core) (i : ℕ) (moments : List Moment) → IsAtRest c i → seats_of moments ≡ replicate n i → (k : ℕ) → heard_in p c moments k ≡ []
+rests_unheard p n c i [] rest e k = refl
+rests_unheard p zero c i (m ∷ ms) rest e k = absurd (cc)
+rests_unheard p (suc n) c i (m ∷ ms) rest e k =
+    let now : m.seat ≡ i = cc in
+    let later : seats_of ms ≡ replicate n i = cc in
+    let here = subst (IsAtRest c) (sym now) rest in
+    ap (λ (l : List Answer). l ++ heard_in p (ticked p c m) ms k) (rest_heard c m here k) ∙ ap (λ d. heard_in p d ms k) (rests p c m here) ∙ rests_unheard p n c i ms rest later k
 
 -- ticks of a seat that has no step left, whatever is answered in them
 pub run_rests : (p : Plan) (n : ℕ) (c : Core) (i : ℕ) (moments : List Moment) → IsAtRest c i → seats_of moments ≡ replicate n i → run p c moments ≡ c

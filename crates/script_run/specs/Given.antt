@@ -8,7 +8,7 @@ use Rattle.brpc_model.specs.Link.{LinkEnd}
 use Rattle.sock_io.specs.declared.link.LinkSpec.{LinkSpec}
 use Rattle.sock_io.specs.declared.link.Mode.TheVariants as mode
 
--- the link of this number took and gave nothing, and did not fail
+-- the link of this number took, gave and answered nothing, and did not fail
 pub record IsUntouched (number : ℕ) (e : LinkEnd) : Type 0 where
   pub link : e.link ≡ number
   pub took : IfSome e.took (λ bytes. bytes ≡ [])
@@ -17,6 +17,7 @@ pub record IsUntouched (number : ℕ) (e : LinkEnd) : Type 0 where
   pub gave_count : e.gave_count ≡ 0
   pub take_faults : e.take_faults ≡ 0
   pub gave_end : e.gave_end ≡ false
+  pub answers : IfSome e.answers (λ answers. answers ≡ [])
 
 -- these links, of which the first has this number, are untouched
 abbrev pub AreUntouched : ℕ → List LinkEnd → Type 0

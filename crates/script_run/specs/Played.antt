@@ -1,5 +1,5 @@
 -- The lines by which a script is run, the ticks that they make, and the text of a run.
-use Rattle.std.specs.Prelude.{ℕ, ◌≡◌, ◌≤◌, length, List, [], Option, Some, None}
+use Rattle.std.specs.Prelude.{ℕ, ◌≡◌, ◌≤◌, length, slice_get, List, [], Option, Some, None, IfSome}
 use Rattle.std.specs.List.{AllByRecursion}
 use Rattle.sock_words.specs.declared.plain.Plan.{Plan}
 use Rattle.brpc_model.specs.Items.{Item}
@@ -7,7 +7,7 @@ use Rattle.brpc_model.specs.Link.{LinkEnd}
 use Rattle.brpc_model.specs.Operations.{Turn, schedule}
 use Rattle.brpc_model.specs.Report.{Report, report_text}
 use Rattle.sock_programs.specs.Cores.{Core}
-use Rattle.sock_programs.specs.Ticks.{Moment, run, AreAnswered, IsPrompt, broken_in}
+use Rattle.sock_programs.specs.Ticks.{Answer, Moment, run, AreAnswered, IsPrompt, broken_in}
 use Rattle.sock_programs.specs.Runs.{IsAtRest, Turns}
 use Rattle.sock_programs.specs.Scripts.{IsRunOf, Reports, broken_of, set_up, drawn_turns}
 use Rattle.sock_programs.specs.Tasks.{plan_of, opens}
@@ -15,7 +15,8 @@ use Rattle.report_fits.specs.Ends.{AreEnds, AreTold}
 use Rattle.run_laws.specs.Laws.{KeepsLaws}
 use Rattle.sock_core.specs.Links.{Taken, Agrees, ArePrompt}
 use Rattle.sock_core.specs.Machines.{MachineState, core_with}
-use Rattle.sock_core.specs.Runs.{SameTable, SameLinks, ShowFaults}
+use Rattle.whole_runs.specs.Heard.{as_told, heard_in, heard_of}
+use Rattle.sock_core.specs.Runs.{SameTable, SameLinks, ShowFaults, LinksTell}
 use Rattle.script_run.specs.declared.schedule.Schedule.{Schedule}
 use Rattle.script_run.specs.declared.schedule.Schedule.TheVariants.{Own, Drawn}
 
@@ -51,6 +52,7 @@ pub record PlayedWith (Ticks : Core → List Moment → Type 0) (old new : Machi
   pub agrees : Agrees new.links later
   pub core : core_with new later ≡ run old.plan (core_with old took) moments
   pub broken : ShowFaults new (broken_in old.plan (core_with old took) moments)
+  pub told : LinksTell old new (heard_in old.plan (core_with old took) moments)
 
 pub record HasPlayed (Ticks : Core → List Moment → Type 0) (old new : MachineState) : Type 0 where
   pub table : SameTable old new
@@ -65,12 +67,18 @@ HasTurns p (Some turn) c moments = Turns p c turn moments
 
 -- ## Runs
 
--- the machine was played to the end of a run, from behind the setup, over links that are always ready in time
-pub record HasRun (script : List Item) (turns : List Turn) (m : MachineState) : Type 0 where
+-- the machine was played from behind the setup to the end of a run, over links that are always ready in time
+pub record HasRun (script : List Item) (turns : List Turn) (start m : MachineState) : Type 0 where
   pub took : Taken
   pub agrees : Agrees m.links took
   pub run : IsRunOf script turns (core_with m took)
   pub broken : ShowFaults m (broken_of run)
+  pub told : LinksTell start m (heard_of run)
+
+-- each link that tells what it answered tells what it answered in the run, and no other link was asked
+pub record AreHeard (ends : List LinkEnd) (heard : ℕ → List Answer) : Type 0 where
+  pub each : (k : ℕ) (e : LinkEnd) → slice_get ends k ≡ Some e → IfSome e.answers (λ answers. answers ≡ as_told (heard k))
+  pub none_beyond : (k : ℕ) → length ends ≤ k → heard k ≡ []
 
 -- the text reports a run of the script by these lines, over the links that were given back
 pub record IsRunText (script : List Item) (turns : List Turn) (text : List ℕ) (ends : List LinkEnd) : Type 0 where
@@ -85,3 +93,4 @@ pub record IsRunText (script : List Item) (turns : List Turn) (text : List ℕ) 
   pub reports : Reports script core took report
   pub is_text : text ≡ report_text script report
   pub ends_are : AreEnds script core (broken_of run) ends
+  pub heard : AreHeard ends (heard_of run)

@@ -193,7 +193,7 @@ fn play<L: Linker>(
 ) -> Result<(), NoMemory>
     requires script { (bytes : List ℕ) × (script_of bytes ≡ Ok script.now) }
     requires made { IsMade script.now machine.old }
-    ensures run { OnOk result (ArePrompt machine.old.links → HasRun script.now (turns_of script.now schedule) machine.new) }
+    ensures run { OnOk result (ArePrompt machine.old.links → HasRun script.now (turns_of script.now schedule) machine.old machine.new) }
     ensures plan { OnOk result (machine.new.plan ≡ machine.old.plan) }
     ensures ends { SameLinks machine.old machine.new }
     ensures links { links.new ≡ links.old }

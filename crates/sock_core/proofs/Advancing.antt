@@ -39,11 +39,11 @@ use Rattle.sock_core.specs.Steps.{IsSized, IsNext, NextIs, HasNoStep, OutsAfter,
 use Rattle.sock_core.specs.Telling.{TickTold, Tells, WaitsOn, is_waiting}
 use Rattle.sock_core.specs.Runs.{Ticked, TickedWith, TickIs, WaitsFor}
 use Rattle.sock_core.specs.Driving.{LeavesFewer, LeavesAsMany, Leaves, AsksNone, IsPlain, TickedFirst}
-use Rattle.sock_core.proofs.Answering.{made_links, made_prompt, made_broken}
+use Rattle.sock_core.proofs.Answering.{made_links, made_prompt, made_broken, made_told}
 use Rattle.sock_core.proofs.Changes.{seat_at}
 use Rattle.sock_core.proofs.FirstSteps.{same_some}
 use Rattle.sock_core.proofs.Fitting.{paced_prop, step_may}
-use Rattle.sock_core.proofs.Joining.{same_table_none, same_links_none, show_faults_none, rests, rest_answered}
+use Rattle.sock_core.proofs.Joining.{same_table_none, same_links_none, show_faults_none, rests, rest_answered, rest_heard, tells_none}
 use Rattle.sock_core.proofs.Keeping.{same_plan, step_keeps, paced_keeps}
 use Rattle.sock_core.proofs.Sounds.{AsksUnfinished, asks_unfinished}
 use Rattle.sock_core.proofs.Ticked.{IsCall, step_core, step_quiet}
@@ -218,6 +218,7 @@ module _ (m fresh : MachineState) (room i : ℕ) (step : Step) (tick : Tick) (is
     agrees = s.agrees;
     core = s.core;
     broken = made_broken m fresh i (core_with m took) (seat_state m.plan m.links took i w.seat) (own_at took) w.seat' first answer w.told.makes.is next unfinished;
+    told = made_told m fresh i (core_with m took) (seat_state m.plan m.links took i w.seat) (own_at took) w.seat' first answer w.told.makes.is next;
   }
 
   -- it is a tick
@@ -368,6 +369,7 @@ idle_ticks m i rest = (
     agrees = agrees;
     core = sym (rests m.plan (core_with m took) (quiet i) (rest took));
     broken = show_faults_none m;
+    told = tells_none m m refl _ (rest_heard (core_with m took) (quiet i) (rest took));
   },
 )
 

@@ -1,5 +1,5 @@
 -- What a step makes of the links, as they would be given back.
-use Rattle.std.proofs.Common.{◌≡◌, ◌≢◌, refl, ℕ, zero, suc, ◌<◌, ◌⊎◌, inr, ⊎_elim, Bool, true, false, List, [], ◌∷◌, length, slice_set, Some, ap, sym, ◌∙◌, arith, subst}
+use Rattle.std.proofs.Common.{◌≡◌, ◌≢◌, refl, ℕ, zero, suc, ◌<◌, ◌⊎◌, inr, ⊎_elim, Bool, true, false, List, [], ◌∷◌, ◌++◌, ◌≤◌, ◌==◌, Option, cond, map, filter, eq-eqb, ne_eqb, length, slice_set, Some, ap, sym, ◌∙◌, arith, subst}
 use Rattle.std.proofs.lemmas.List.{get_or-set_same, get_or-set_other}
 use Rattle.std.proofs.lemmas.List.Elements.{Contains-push_cases}
 use Rattle.std.proofs.lemmas.Option.{get_or_from_slice_get, same_Some}
@@ -11,12 +11,13 @@ use Rattle.atomic_table.proofs.Lists.{at_set}
 use Rattle.sock_runs.proofs.Along.{place_inside}
 use mathlib.Core.Option as core
 use lib.ListN.{get_elem?}
-use Rattle.brpc_model.specs.Link.{LinkEnd}
+use Rattle.brpc_model.specs.Link.{LinkEnd, HalfAnswer}
 use Rattle.sock_io.specs.declared.link.Put.{Put}
 use Rattle.sock_io.specs.declared.link.Put.TheVariants as puts
 use Rattle.sock_io.specs.declared.link.Ready.{Ready}
 use Rattle.sock_io.specs.declared.link.Ready.TheVariants as asks
-use Rattle.sock_io.specs.Link.{OutState, PutStep, ReadyStep}
+use Rattle.sock_io.specs.Link.{OutState, PutStep, ReadyStep, of_put, of_ready, more_told}
+use Rattle.whole_runs.specs.Heard.{half_of, as_told, heard_at}
 use Rattle.sock_io.specs.Causes.{Rose}
 use Rattle.sock_programs.specs.Calls as calls
 use Rattle.sock_programs.specs.Writings.{Puts, Waits, Empties, Walks}
@@ -29,9 +30,9 @@ use Rattle.sock_core.specs.Seats.{SeatData}
 use Rattle.sock_core.specs.Links.{LinksData, ArePrompt, is_done}
 use Rattle.sock_core.specs.Machines.{MachineState, table_of}
 use Rattle.sock_core.specs.Steps.{SameLink, OutsAfter, Made, LinkAsked}
-use Rattle.sock_core.specs.Runs.{SameLinks, ShowFaults}
+use Rattle.sock_core.specs.Runs.{SameLinks, ShowFaults, LinksTell}
 use Rattle.sock_core.proofs.FirstSteps.{same_some}
-use Rattle.sock_core.proofs.Joining.{same_link_none, show_faults_none}
+use Rattle.sock_core.proofs.Joining.{same_link_none, show_faults_none, more_none, tells_none}
 use Rattle.sock_core.proofs.Sounds.{AsksUnfinished}
 
 -- ## Prompt links
@@ -62,6 +63,21 @@ links_kept old fresh ends prompt = record {
 behind_is : (es : List LinkEnd) (k : ℕ) (b e : LinkEnd) → k < length es → slice_get (slice_set es k b) k ≡ Some e → b ≡ e
 behind_is es k b e inside at = sym (get_or-set_same es k b e inside) ∙ get_or_from_slice_get (slice_set es k b) k e e at
 
+rest_at : (xs : List LinkEnd) (x : LinkEnd) (n : ℕ) (b : LinkEnd) → slice_get (x ∷ xs) (suc n) ≡ Some b → slice_get xs n ≡ Some b
+rest_at xs x n b g = g
+
+first_is : (es : List LinkEnd) (n : ℕ) (a b : LinkEnd) → get_elem? es n ≡ core.some a → slice_get es n ≡ Some b → a ≡ b
+first_is [] n a b e f = cc
+first_is (x ∷ xs) zero a b e f = cc
+first_is (x ∷ xs) (suc n) a b e f = first_is xs n a b e (rest_at xs x n b f)
+
+get_set_other : (es : List LinkEnd) (k j : ℕ) (b : LinkEnd) → (j ≡ k → ⊥) → slice_get (slice_set es k b) j ≡ slice_get es j
+get_set_other [] k j b differ = refl
+get_set_other (x ∷ xs) zero zero b differ = absurd (differ refl)
+get_set_other (x ∷ xs) zero (suc j) b differ = refl
+get_set_other (x ∷ xs) (suc k) zero b differ = refl
+get_set_other (x ∷ xs) (suc k) (suc j) b differ = get_set_other xs k j b (λ e. differ (ap suc e))
+
 links_set : (old fresh : MachineState) (k : ℕ) (before behind : LinkEnd) → get_elem? old.ends k ≡ core.some before → fresh.ends ≡ slice_set old.ends k behind → SameLink before behind → (ArePrompt old.links → ArePrompt fresh.links) → SameLinks old fresh
 links_set old fresh k before behind at ends same prompt = record {
   as_many = ap length ends ∙ length-set old.ends k behind;
@@ -73,14 +89,6 @@ links_set old fresh k before behind at ends same prompt = record {
       (λ differ. subst (SameLink x) (sym (get_or_from_slice_get old.ends j x y there) ∙ sym (get_or-set_other old.ends k j behind y differ) ∙ get_or_from_slice_get (slice_set old.ends k behind) j y y also') (same_link_none x));
   prompt = prompt;
 }
-  where
-    first_is : (es : List LinkEnd) (n : ℕ) (a b : LinkEnd) → get_elem? es n ≡ core.some a → slice_get es n ≡ Some b → a ≡ b
-    first_is [] n a b e f = cc
-    first_is (x ∷ xs) zero a b e f = cc
-    first_is (x ∷ xs) (suc n) a b e f = first_is xs n a b e (rest_at xs x n f)
-      where
-        rest_at : (xs : List LinkEnd) (x : LinkEnd) (n : ℕ) → slice_get (x ∷ xs) (suc n) ≡ Some b → slice_get xs n ≡ Some b
-        rest_at xs x n g = g
 
 module _ (old fresh : MachineState) (i : ℕ) (of : Program) (seat' : SeatData) where
   asked_links : {k : ℕ} {next : Program} {HasAnswered : OutState → OutState → Type 0} → LinkAsked (table_of old) (table_of fresh) i of seat' k next HasAnswered →
@@ -127,21 +135,21 @@ module _ (old fresh : MachineState) (i : ℕ) (of : Program) (seat' : SeatData) 
 
 -- the link that is asked is that of the first step
 abbrev IsAsked : First → List ℕ → Type 0
-IsAsked (kinds.OfPut k asked bytes) ks = (ks ≡ []) ⊎ (ks ≡ k ∷ [])
-IsAsked (kinds.OfReady k) ks = (ks ≡ []) ⊎ (ks ≡ k ∷ [])
-IsAsked other ks = Unit {0}
+IsAsked (kinds.OfPut k asked bytes) ks = ks ≡ k ∷ []
+IsAsked (kinds.OfReady k) ks = ks ≡ k ∷ []
+IsAsked other ks = ks ≡ []
 
 asks_first : (program : Program) (first : First) → first_in program ≡ Some first → IsAsked first (asked_link program)
-asks_first (PutBytes k asked bytes next) first e = subst (λ (f : First). IsAsked f (k ∷ [])) (same_some e) (inr refl)
-asks_first (AskReady k next) first e = subst (λ (f : First). IsAsked f (k ∷ [])) (same_some e) (inr refl)
-asks_first (Write (Waits h now heading left taken) after) first e = subst (λ (f : First). IsAsked f (h.link ∷ [])) (same_some e) (inr refl)
-asks_first (Write (Puts h now heading left taken asked) after) first e = subst (λ (f : First). IsAsked f []) (same_some e) tt
-asks_first (Write (Walks h top place after) then_) first e = subst (λ (f : First). IsAsked f []) (same_some e) tt
-asks_first (Write (Empties h) after) first e = subst (λ (f : First). IsAsked f []) (same_some e) tt
-asks_first (Do call next) first e = subst (λ (f : First). IsAsked f []) (same_some e) tt
-asks_first (TakeMessage q next) first e = subst (λ (f : First). IsAsked f []) (same_some e) tt
-asks_first (TakeHome k next) first e = subst (λ (f : First). IsAsked f []) (same_some e) tt
-asks_first (PutHome k n after) first e = subst (λ (f : First). IsAsked f []) (same_some e) tt
+asks_first (PutBytes k asked bytes next) first e = subst (λ (f : First). IsAsked f (k ∷ [])) (same_some e) refl
+asks_first (AskReady k next) first e = subst (λ (f : First). IsAsked f (k ∷ [])) (same_some e) refl
+asks_first (Write (Waits h now heading left taken) after) first e = subst (λ (f : First). IsAsked f (h.link ∷ [])) (same_some e) refl
+asks_first (Write (Puts h now heading left taken asked) after) first e = subst (λ (f : First). IsAsked f []) (same_some e) refl
+asks_first (Write (Walks h top place after) then_) first e = subst (λ (f : First). IsAsked f []) (same_some e) refl
+asks_first (Write (Empties h) after) first e = subst (λ (f : First). IsAsked f []) (same_some e) refl
+asks_first (Do call next) first e = subst (λ (f : First). IsAsked f []) (same_some e) refl
+asks_first (TakeMessage q next) first e = subst (λ (f : First). IsAsked f []) (same_some e) refl
+asks_first (TakeHome k next) first e = subst (λ (f : First). IsAsked f []) (same_some e) refl
+asks_first (PutHome k n after) first e = subst (λ (f : First). IsAsked f []) (same_some e) refl
 asks_first (Say o outcome next) first e = cc
 asks_first (Sent o next) first e = cc
 asks_first Rest first e = cc
@@ -158,14 +166,14 @@ module _ (old fresh : MachineState) (i : ℕ) (c : Core) (seat : SeatState) (the
   put_broken k asked bytes (puts.Took n) next w first done = none_broken
   put_broken k asked bytes puts.Again next w first done = none_broken
   put_broken k asked bytes puts.Failed next w first done = let a = w.asked in
-      at_seat (λ s. asked_link s.program) (fault_shown old fresh i seat.program seat' w (a.answered.failed refl (done_at old fresh i seat.program seat' k a.out a.at done)) (asked_link seat.program) (asks_first seat.program (kinds.OfPut k asked bytes) first))
+      at_seat (λ s. asked_link s.program) (fault_shown old fresh i seat.program seat' w (a.answered.failed refl (done_at old fresh i seat.program seat' k a.out a.at done)) (asked_link seat.program) (inr (asks_first seat.program (kinds.OfPut k asked bytes) first)))
 
   ready_broken : (k : ℕ) (ready : Ready) (next : Program) → LinkAsked (table_of old) (table_of fresh) i seat.program seat' k next (λ out out'. ReadyStep out out' ready) →
       first_in seat.program ≡ Some (kinds.OfReady k) → is_done old.links k ≡ false → ShowFaults fresh (broken_at c (record { seat = i; answer = OfReady ready }))
   ready_broken k asks.Now next w first done = none_broken
   ready_broken k asks.NotYet next w first done = none_broken
   ready_broken k asks.Failed next w first done = let a = w.asked in
-      at_seat (λ s. asked_link s.program) (fault_shown old fresh i seat.program seat' w (a.answered.failed refl (done_at old fresh i seat.program seat' k a.out a.at done)) (asked_link seat.program) (asks_first seat.program (kinds.OfReady k) first))
+      at_seat (λ s. asked_link s.program) (fault_shown old fresh i seat.program seat' w (a.answered.failed refl (done_at old fresh i seat.program seat' k a.out a.at done)) (asked_link seat.program) (inr (asks_first seat.program (kinds.OfReady k) first)))
 
   unasked : (answer : Answer) → answer ≡ Unasked → ShowFaults fresh (broken_at c (record { seat = i; answer = answer }))
   unasked answer e = subst (λ (a : Answer). ShowFaults fresh (broken_at c (record { seat = i; answer = a }))) (sym e) none_broken
@@ -179,3 +187,49 @@ module _ (old fresh : MachineState) (i : ℕ) (c : Core) (seat : SeatState) (the
   made_broken (OfHome k n) answer w first open_ = unasked answer w.0
   made_broken (kinds.OfPut k asked bytes) answer w first open_ = subst (λ (a : Answer). ShowFaults fresh (broken_at c (record { seat = i; answer = a }))) (sym w.1) (put_broken k asked bytes w.0 _ w.2 first open_)
   made_broken (kinds.OfReady k) answer w first open_ = subst (λ (a : Answer). ShowFaults fresh (broken_at c (record { seat = i; answer = a }))) (sym w.1) (ready_broken k w.0 _ w.2 first open_)
+
+  -- ## What links answered
+
+  heard_is : (answer : Answer) (k : ℕ) → map (λ (j : ℕ). answer) (filter (λ (j : ℕ). j == k) (asked_link seat.program)) ≡ heard_at c (record { seat = i; answer = answer }) k
+  heard_is answer k = ap (λ (o : core.Option SeatState). elim o as (λ x. List Answer) [ core.none ↦ [] | core.some s ↦ map (λ (j : ℕ). answer) (filter (λ (j : ℕ). j == k) (asked_link s.program)) ]) (sym there)
+
+  -- where none is asked
+  told_none : (answer : Answer) → asked_link seat.program ≡ [] → fresh.ends ≡ old.ends → LinksTell old fresh (heard_at c (record { seat = i; answer = answer }))
+  told_none answer none_ ends = tells_none old fresh ends (heard_at c (record { seat = i; answer = answer }))
+      (λ k. sym (heard_is answer k) ∙ ap (λ (ks : List ℕ). map (λ (j : ℕ). answer) (filter (λ (j : ℕ). j == k) ks)) none_)
+
+  -- where one is asked
+  told_asked : (k : ℕ) (answer : Answer) (half : HalfAnswer) (next : Program) (HasAnswered : OutState → OutState → Type 0) → LinkAsked (table_of old) (table_of fresh) i seat.program seat' k next HasAnswered →
+      ((out out' : OutState) → HasAnswered out out' → out'.answers ≡ more_told out.answers (half ∷ [])) → half_of answer ≡ half ∷ [] → asked_link seat.program ≡ k ∷ [] → LinksTell old fresh (heard_at c (record { seat = i; answer = answer }))
+  told_asked k answer half next HasAnswered w tells half_is asks = let a = w.asked in record {
+    each = λ j x y at also. let also' : slice_get (slice_set old.ends k a.behind) j ≡ Some y = ap (λ (es : List LinkEnd). slice_get es j) (sym a.ends_are) ∙ also in dite (ℕ_discrete j k)
+        (λ e. let inside = place_inside old.ends k a.before a.end_at in
+        let y_is : a.behind ≡ y = behind_is old.ends k a.behind y inside (subst (λ n. slice_get (slice_set old.ends k a.behind) n ≡ Some y) e also') in
+        let x_is : a.before ≡ x = first_is old.ends k a.before x a.end_at (subst (λ n. slice_get old.ends n ≡ Some x) e at) in
+        ap (λ (z : LinkEnd). z.answers) (sym y_is) ∙ a.told ∙ tells a.out a.out' a.answered
+        ∙ ap (λ (o : Option (List HalfAnswer)). more_told o (half ∷ [])) (sym a.told_before ∙ ap (λ (z : LinkEnd). z.answers) x_is)
+        ∙ ap (more_told x.answers) (sym (heard_one j e)))
+        (λ differ. ap (λ (z : LinkEnd). z.answers) (same_Some y x (sym also' ∙ other_there j differ ∙ at)) ∙ sym (more_none x.answers) ∙ ap (λ (l : List Answer). more_told x.answers (as_told l)) (sym (heard_other j differ)));
+    none_beyond = λ j past. heard_other j (λ e. let inside = place_inside old.ends k a.before a.end_at in omega (arith, inside, past, e));
+  }
+    where
+      other_there : (j : ℕ) → (j ≡ k → ⊥) → slice_get (slice_set old.ends k w.asked.behind) j ≡ slice_get old.ends j
+      other_there j differ = get_set_other old.ends k j w.asked.behind differ
+
+      heard_one : (j : ℕ) → j ≡ k → as_told (heard_at c (record { seat = i; answer = answer }) j) ≡ half ∷ []
+      heard_one j e = ap as_told (sym (heard_is answer j) ∙ ap (λ (ks : List ℕ). map (λ (n : ℕ). answer) (filter (λ (n : ℕ). n == j) ks)) asks ∙ ap (λ (b : Bool). map (λ (n : ℕ). answer) (cond b (k ∷ []) [])) (eq-eqb k j (sym e)))
+          ∙ ap (λ (l : List HalfAnswer). l ++ []) half_is
+
+      heard_other : (j : ℕ) → (j ≡ k → ⊥) → heard_at c (record { seat = i; answer = answer }) j ≡ []
+      heard_other j differ = sym (heard_is answer j) ∙ ap (λ (ks : List ℕ). map (λ (n : ℕ). answer) (filter (λ (n : ℕ). n == j) ks)) asks ∙ ap (λ (b : Bool). map (λ (n : ℕ). answer) (cond b (k ∷ []) [])) (ne_eqb k j (λ e. differ (sym e)))
+
+  -- the links tell what they answered
+  pub made_told : (first : First) (answer : Answer) → Made (table_of old) (table_of fresh) i seat.program seat' first answer → first_in seat.program ≡ Some first → LinksTell old fresh (heard_at c (record { seat = i; answer = answer }))
+  made_told (OfCall call) answer w first = told_none answer (asks_first seat.program (OfCall call) first) w.1.ends
+  made_told (OfMessage q) answer w first = told_none answer (asks_first seat.program (OfMessage q) first) w.1.ends
+  made_told (OfLink k) answer w first = told_none answer (asks_first seat.program (OfLink k) first) w.1.ends
+  made_told (OfHome k n) answer w first = told_none answer (asks_first seat.program (OfHome k n) first) w.1.ends
+  made_told (kinds.OfPut k asked bytes) answer w first =
+      told_asked k answer (of_put w.0) _ _ w.2 (λ out out' step. step.answers) (ap half_of w.1) (asks_first seat.program (kinds.OfPut k asked bytes) first)
+  made_told (kinds.OfReady k) answer w first =
+      told_asked k answer (of_ready w.0) _ _ w.2 (λ out out' step. step.answers) (ap half_of w.1) (asks_first seat.program (kinds.OfReady k) first)

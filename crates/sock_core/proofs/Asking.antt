@@ -18,7 +18,7 @@ same_link out out' inn s = record { link = s.link; gave = refl; gave_count = ref
 
 -- a writing half that is ended is given back as it was
 pub end_kept : (out out' : OutState) (inn : InState) → FinishStep out out' → end_of out' inn ≡ end_of out inn
-end_kept out out' inn h = λ k. record { link = h.same.link k; took = h.took k; put_faults = h.faults k; gave = inn.gave_bytes; gave_count = inn.gave; take_faults = inn.faults; gave_end = inn.gave_end; closed = inn.closed }
+end_kept out out' inn h = λ k. record { link = h.same.link k; took = h.took k; put_faults = h.faults k; gave = inn.gave_bytes; gave_count = inn.gave; take_faults = inn.faults; gave_end = inn.gave_end; closed = inn.closed; answers = h.answers k }
 
 module _ {A : Type 0} (f : A → OutState) (items : List A) (j k : ℕ) (x : A) (there : j ≡ k) (inside : k < length items) (is : x ≡ slice_index_or items j x) where
   at_place : get_elem? items j ≡ some (slice_index_or items j x)
@@ -31,9 +31,9 @@ pub outs_set : {A : Type 0} (f : A → OutState) (items : List A) (j k : ℕ) (y
 outs_set f items j k y there = map-set f items j y ∙ ap (λ i. slice_set (map f items) i (f y)) there
 
 module _ {A : Type 0} (f : A → OutState) (e : A → LinkEnd) (items : List A) (j k : ℕ) (x y : A) (there : j ≡ k) (inside : k < length items) (is : x ≡ slice_index_or items j x) where
-  pub asked : (HasAnswered : OutState → OutState → Type 0) → HasAnswered (f (slice_index_or items j x)) (f y) → SameLink (e (slice_index_or items j x)) (e y) → (e y).put_faults ≡ (f y).faults →
+  pub asked : (HasAnswered : OutState → OutState → Type 0) → HasAnswered (f (slice_index_or items j x)) (f y) → SameLink (e (slice_index_or items j x)) (e y) → (e y).put_faults ≡ (f y).faults → ((a : A) → (e a).answers ≡ (f a).answers) →
       AskedAt (map f items) (map f (slice_set items j y)) (map e items) (map e (slice_set items j y)) k HasAnswered
-  asked HasAnswered h same faults = record {
+  asked HasAnswered h same faults told = record {
     out = f (slice_index_or items j x);
     at = out_at f items j k x there inside is;
     out' = f y;
@@ -45,6 +45,8 @@ module _ {A : Type 0} (f : A → OutState) (e : A → LinkEnd) (items : List A) 
     ends_are = map-set e items j y ∙ ap (λ i. slice_set (map e items) i (e y)) there;
     same = same;
     faults = faults;
+    told_before = told (slice_index_or items j x);
+    told = told y;
   }
 
 -- what lies at a place is known

@@ -1,5 +1,5 @@
 -- Runs of a machine, one behind another; and more ticks of a seat that has no step left.
-use Rattle.std.proofs.Common.{◌≡◌, ℕ, zero, suc, ◌+◌, List, [], ◌∷◌, ◌++◌, length, get_or, replicate, refl, sym, ap, ◌∙◌, subst, ⊎_elim, append-nil, append_assoc, arith}
+use Rattle.std.proofs.Common.{◌≡◌, ℕ, zero, suc, ◌+◌, List, [], ◌∷◌, ◌++◌, ◌==◌, map, filter, length, get_or, replicate, refl, sym, ap, ◌∙◌, subst, ⊎_elim, append-nil, append_assoc, arith}
 use Rattle.std.proofs.lemmas.List.Sums.{fold-append}
 use Rattle.std.proofs.lemmas.List.Elements.{Contains-append_cases}
 use Rattle.std.proofs.lemmas.Option.{none-some, same_Some, slice_get_within, slice_get-get_or}
@@ -10,11 +10,13 @@ use mathlib.Core.Option.{Option, some, none}
 use lib.ListN.{get_elem?}
 use Rattle.sock_words.specs.declared.kind.Kind.{Kind}
 use Rattle.sock_words.specs.declared.plain.Plan.{Plan}
-use Rattle.brpc_model.specs.Link.{LinkEnd}
-use Rattle.sock_io.specs.Link.{OutState}
+use Rattle.brpc_model.specs.Link.{LinkEnd, HalfAnswer}
+use Rattle.sock_io.specs.Link.{OutState, more_told}
+use Rattle.whole_runs.specs.Heard.{as_told, heard_at, heard_in}
+use Rattle.whole_runs.proofs.HeardRuns.{told_append, heard_on}
 use Rattle.sock_programs.specs.Programs.{Program, Say, Sent, Rest}
 use Rattle.sock_programs.specs.Cores.{Core, SeatState}
-use Rattle.sock_programs.specs.Ticks.{Answer, Unasked, Moment, quiet, seats_of, tick_with, ticked, run, IsAnswer, IsAnswered, AreAnswered, IsPrompt, broken_at, broken_in}
+use Rattle.sock_programs.specs.Ticks.{Answer, Unasked, Moment, quiet, seats_of, tick_with, ticked, run, IsAnswer, IsAnswered, AreAnswered, IsPrompt, asked_link, broken_at, broken_in}
 use Rattle.sock_programs.specs.Runs.{kind_in, IsAtRest}
 use Rattle.sock_core.specs.declared.machine.Tick.{Tick}
 use Rattle.sock_core.specs.declared.machine.Tick.TheVariants as ticks
@@ -22,7 +24,7 @@ use Rattle.sock_core.specs.Seats.{SeatData}
 use Rattle.sock_core.specs.Links.{LinksData, Taken, Agrees, ArePrompt}
 use Rattle.sock_core.specs.Steps.{SameLink}
 use Rattle.sock_core.specs.Machines.{MachineState, core_with, seats_with}
-use Rattle.sock_core.specs.Runs.{SameTable, SameLinks, ShowFaults, Ticked, TickedWith, Ran, RanWith}
+use Rattle.sock_core.specs.Runs.{SameTable, SameLinks, ShowFaults, LinksTell, Ticked, TickedWith, Ran, RanWith}
 
 -- ## The table and its links
 
@@ -72,6 +74,45 @@ show_faults_later b c broken shown same k e has at =
 pub show_faults_join : (m : MachineState) (xs ys : List ℕ) → ShowFaults m xs → ShowFaults m ys → ShowFaults m (xs ++ ys)
 show_faults_join m xs ys first second k e has at = ⊎_elim (λ h. first k e h at) (λ h. second k e h at) (Contains-append_cases xs ys k has)
 
+-- ## What links answered
+
+pub more_none : (told : std.Option (List HalfAnswer)) → more_told told [] ≡ told
+more_none None = refl
+more_none (Some answers) = ap Some (append-nil answers)
+
+more_twice : (told : std.Option (List HalfAnswer)) (xs ys : List HalfAnswer) → more_told (more_told told xs) ys ≡ more_told told (xs ++ ys)
+more_twice None xs ys = refl
+more_twice (Some answers) xs ys = ap Some (append_assoc answers xs ys)
+
+pub tells_none : (a b : MachineState) → b.ends ≡ a.ends → (heard : ℕ → List Answer) → ((k : ℕ) → heard k ≡ []) → LinksTell a b heard
+tells_none a b same heard none_ = record {
+  each = λ k x y at also. let is : x ≡ y = same_Some x y (sym at ∙ ap (λ (es : List LinkEnd). slice_get es k) (sym same) ∙ also) in
+      ap (λ (e : LinkEnd). e.answers) (sym is) ∙ sym (more_none x.answers) ∙ ap (λ (xs : List Answer). more_told x.answers (as_told xs)) (sym (none_ k));
+  none_beyond = λ k past. none_ k;
+}
+
+pub tells_join : (a b c : MachineState) (first second : ℕ → List Answer) → SameLinks a b → SameLinks b c → LinksTell a b first → LinksTell b c second → LinksTell a c (λ k. first k ++ second k)
+tells_join a b c first second same after f g = record {
+  each = λ k x z at also. let y = stood_before b.ends c.ends k z after.as_many also in
+      g.each k y.0 z y.1 also ∙ ap (λ (o : std.Option (List HalfAnswer)). more_told o (as_told (second k))) (f.each k x y.0 at y.1)
+      ∙ more_twice x.answers (as_told (first k)) (as_told (second k)) ∙ ap (more_told x.answers) (sym (told_append (first k) (second k)));
+  none_beyond = λ k past. ap (λ (l : List Answer). l ++ second k) (f.none_beyond k past) ∙ g.none_beyond k (let many = same.as_many in omega (arith, many, past));
+}
+
+-- the links stand as they stood
+pub tells_on : (a b c : MachineState) (heard : ℕ → List Answer) → c.ends ≡ b.ends → LinksTell a b heard → LinksTell a c heard
+tells_on a b c heard same t = record {
+  each = λ k x y at also. t.each k x y at (ap (λ (es : List LinkEnd). slice_get es k) (sym same) ∙ also);
+  none_beyond = t.none_beyond;
+}
+
+-- the same answers, said otherwise
+pub tells_as : (a b : MachineState) (heard said : ℕ → List Answer) → ((k : ℕ) → heard k ≡ said k) → LinksTell a b heard → LinksTell a b said
+tells_as a b heard said same t = record {
+  each = λ k x y at also. t.each k x y at also ∙ ap (λ (l : List Answer). more_told x.answers (as_told l)) (same k);
+  none_beyond = λ k past. sym (same k) ∙ t.none_beyond k past;
+}
+
 -- ## Ticks, one behind another
 
 pub seats_append : (xs ys : List Moment) → seats_of (xs ++ ys) ≡ seats_of xs ++ seats_of ys
@@ -103,9 +144,10 @@ pub record Follows (old new : MachineState) (took : Taken) (moments : List Momen
   pub agrees : Agrees new.links later
   pub core : core_with new later ≡ run old.plan (core_with old took) moments
   pub broken : ShowFaults new (broken_in old.plan (core_with old took) moments)
+  pub told : LinksTell old new (heard_in old.plan (core_with old took) moments)
 
 pub follows_none : (m : MachineState) (took : Taken) → Agrees m.links took → Follows m m took []
-follows_none m took agrees = record { answered = tt; prompt = λ h. tt; later = took; agrees = agrees; core = refl; broken = show_faults_none m }
+follows_none m took agrees = record { answered = tt; prompt = λ h. tt; later = took; agrees = agrees; core = refl; broken = show_faults_none m; told = tells_none m m refl _ (λ k. refl) }
 
 pub follows_one : (a b : MachineState) (i : ℕ) (tick : Tick) (took : Taken) (t : TickedWith a b i tick took) → Follows a b took (t.moment ∷ [])
 follows_one a b i tick took t = record {
@@ -115,6 +157,7 @@ follows_one a b i tick took t = record {
   agrees = t.agrees;
   core = t.core;
   broken = subst (ShowFaults b) (sym (append-nil (broken_at (core_with a took) t.moment))) t.broken;
+  told = tells_as a b _ _ (λ k. sym (append-nil (heard_at (core_with a took) t.moment k))) t.told;
 }
 
 module _ (a b c : MachineState) (took : Taken) (xs ys : List Moment) (table : SameTable a b) (links : SameLinks a b) (after : SameLinks b c) (f : Follows a b took xs) (g : Follows b c f.later ys) where
@@ -134,15 +177,17 @@ module _ (a b c : MachineState) (took : Taken) (xs ys : List Moment) (table : Sa
     core = moved (λ p d. core_with c g.later ≡ run p d ys) g.core ∙ sym (run_append a.plan start xs ys);
     broken = subst (ShowFaults c) (sym (broken_append a.plan start xs ys))
         (show_faults_join c (broken_in a.plan start xs) (broken_in a.plan (run a.plan start xs) ys) (show_faults_later b c (broken_in a.plan start xs) f.broken after) (moved (λ p d. ShowFaults c (broken_in p d ys)) g.broken));
+    told = tells_as a c (λ k. heard_in a.plan start xs k ++ heard_in a.plan (run a.plan start xs) ys k) (heard_in a.plan start (xs ++ ys)) (λ k. sym (heard_on a.plan start xs ys k))
+        (tells_join a b c (heard_in a.plan start xs) (heard_in a.plan (run a.plan start xs) ys) links after f.told (moved (λ p d. LinksTell b c (heard_in p d ys)) g.told));
   }
 
 -- ## Runs, one behind another
 
 ran_with : (a b : MachineState) (seats : List ℕ) (took : Taken) (moments : List Moment) → seats_of moments ≡ seats → Follows a b took moments → RanWith a b seats took
-ran_with a b seats took moments are f = record { moments = moments; are_of = are; answered = f.answered; prompt = f.prompt; later = f.later; agrees = f.agrees; core = f.core; broken = f.broken }
+ran_with a b seats took moments are f = record { moments = moments; are_of = are; answered = f.answered; prompt = f.prompt; later = f.later; agrees = f.agrees; core = f.core; broken = f.broken; told = f.told }
 
 abbrev pub ran_follows : (a b : MachineState) (seats : List ℕ) (took : Taken) (r : RanWith a b seats took) → Follows a b took r.moments
-ran_follows a b seats took r = record { answered = r.answered; prompt = r.prompt; later = r.later; agrees = r.agrees; core = r.core; broken = r.broken }
+ran_follows a b seats took r = record { answered = r.answered; prompt = r.prompt; later = r.later; agrees = r.agrees; core = r.core; broken = r.broken; told = r.told }
 
 pub ran_none : (m : MachineState) → Ran m m []
 ran_none m = (same_table_none m, same_links_none m, λ took agrees. ran_with m m [] took [] refl (follows_none m took agrees))
@@ -197,11 +242,31 @@ asks_none _ rest = absurd (none-some _ (sym rest))
 pub rest_answered : (c : Core) (i : ℕ) → IsAtRest c i → IsAnswered c (quiet i)
 rest_answered c i rest seat at = asks_none seat.program (ap (λ (o : Option SeatState). elim o as (λ o. std.Option Kind) [ none ↦ None | some s ↦ kind_in s.program ]) (sym at) ∙ rest)
 
+rest_heard_by : (k : ℕ) (answer : Answer) (program : Program) → kind_in program ≡ None → map (λ (j : ℕ). answer) (filter (λ (j : ℕ). j == k) (asked_link program)) ≡ []
+rest_heard_by k answer Rest rest = refl
+rest_heard_by k answer (Say o outcome next) rest = refl
+rest_heard_by k answer (Sent o next) rest = refl
+rest_heard_by k answer _ rest = absurd (none-some _ (sym rest))
+
+rest_heard_in : (k : ℕ) (answer : Answer) (q : Option SeatState) → elim q as (λ o. std.Option Kind) [ none ↦ None | some seat ↦ kind_in seat.program ] ≡ None
+    → elim q as (λ o. List Answer) [ none ↦ [] | some seat ↦ map (λ (j : ℕ). answer) (filter (λ (j : ℕ). j == k) (asked_link seat.program)) ] ≡ []
+rest_heard_in k answer none rest = refl
+rest_heard_in k answer (some seat) rest = rest_heard_by k answer seat.program rest
+
+-- so nothing is heard of a link
+pub rest_heard : (c : Core) (m : Moment) → IsAtRest c m.seat → (k : ℕ) → heard_at c m k ≡ []
+rest_heard c m rest k = rest_heard_in k m.answer (get_elem? c.seats m.seat) rest
+
 -- nor do so many of them
 module _ (p : Plan) (c : Core) (i : ℕ) (rest : IsAtRest c i) where
   pub rests_on : (n : ℕ) → run p c (replicate n (quiet i)) ≡ c
   rests_on zero = refl
   rests_on (suc n) = ap (λ (d : Core). run p d (replicate n (quiet i))) (rests p c (quiet i) rest) ∙ rests_on n
+
+  pub rests_heard : (n k : ℕ) → heard_in p c (replicate n (quiet i)) k ≡ []
+  rests_heard zero k = refl
+  rests_heard (suc n) k = ap (λ (l : List Answer). l ++ heard_in p (ticked p c (quiet i)) (replicate n (quiet i)) k) (rest_heard c (quiet i) rest k)
+      ∙ ap (λ (d : Core). heard_in p d (replicate n (quiet i)) k) (rests p c (quiet i) rest) ∙ rests_heard n k
 
   rests_answered : (n : ℕ) → AreAnswered p c (replicate n (quiet i))
   rests_answered zero = tt
@@ -227,6 +292,7 @@ follows_rest m took i n agrees rest = record {
   agrees = agrees;
   core = sym (rests_on m.plan (core_with m took) i rest n);
   broken = subst (ShowFaults m) (sym (quiet_broken m.plan (core_with m took) n i)) (show_faults_none m);
+  told = tells_none m m refl _ (rests_heard m.plan (core_with m took) i rest n);
 }
 
 -- more ticks of a seat that has no step left leave all as it is
@@ -269,7 +335,7 @@ idle_core : (a b : MachineState) (i : ℕ) (took : Taken) (t : TickedWith a b i 
 idle_core a b i took t = t.core ∙ rests a.plan (core_with a took) t.moment t.is
 
 pub follows_idle : (a b : MachineState) (i : ℕ) (took : Taken) → TickedWith a b i ticks.Idle took → Follows a b took []
-follows_idle a b i took t = record { answered = tt; prompt = λ h. tt; later = t.later; agrees = t.agrees; core = idle_core a b i took t; broken = show_faults_none b }
+follows_idle a b i took t = record { answered = tt; prompt = λ h. tt; later = t.later; agrees = t.agrees; core = idle_core a b i took t; broken = show_faults_none b; told = tells_as a b _ _ (rest_heard (core_with a took) t.moment t.is) t.told }
 
 pub idle_rests : (a b : MachineState) (i : ℕ) → Ticked a b i ticks.Idle → (took : Taken) → IsAtRest (core_with b took) i
 idle_rests a b i t took =

@@ -86,6 +86,7 @@ module _ (a b c : MachineState) (i : ℕ) (kind : Kind) where
       agrees = f.agrees;
       core = f.core;
       broken = f.broken;
+      told = f.told;
     }
 
     passed_with : (k : Kind) → k ≢ kind → TickedWith b c i (ticks.Moved k) r.follows.later → PassedWith a c i kind took

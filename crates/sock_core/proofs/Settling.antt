@@ -28,7 +28,7 @@ use Rattle.sock_core.specs.Links.{LinksData, Taken, Agrees, ArePrompt}
 use Rattle.sock_core.specs.Steps.{SameLink}
 use Rattle.sock_core.specs.Machines.{MachineState, core_with, seats_with, ending_by}
 use Rattle.sock_core.specs.Runs.{SameLinks, Ticked, Ran, RanWith, PlayedOn, RanFirst, Settled, SettledWith}
-use Rattle.sock_core.proofs.Joining.{same_links_join, same_link_none, show_faults_later, ran_join, ran_more}
+use Rattle.sock_core.proofs.Joining.{same_links_join, same_link_none, show_faults_later, tells_on, ran_join, ran_more}
 
 -- ## Rounds
 
@@ -127,7 +127,7 @@ beyond (seat ∷ seats) zero past = absurd (omega (arith, past))
 beyond (seat ∷ seats) (suc i) past = beyond seats i (omega (arith, past))
 
 module _ (a b c d : MachineState) (played : PlayedOn a b) (seats_are : length b.seats ≡ b.plan.seats) (rest : (took : Taken) → IsAtRest (core_with b took) 0)
-    (plan : c.plan ≡ b.plan) (links : c.links ≡ b.links) (ends : c.ends ≡ b.ends) (begins : (took : Taken) → core_with c took ≡ ending_by b.opens (core_with b took)) (first : RanFirst c d) where
+    (plan : c.plan ≡ b.plan) (links : c.links ≡ b.links) (ends : c.ends ≡ b.ends) (begins : (took : Taken) → core_with c took ≡ ending_by b.opens (core_with b took)) (first : RanFirst c d) (last_ends : d.ends ≡ c.ends) where
   -- behind the rounds each seat is at rest
   each_rests : ArePrompt a.links → (took : Taken) → Agrees b.links took → (i : ℕ) → IsAtRest (core_with b took) i
   each_rests prompt took agrees zero = rest took
@@ -184,6 +184,7 @@ module _ (a b c d : MachineState) (played : PlayedOn a b) (seats_are : length b.
       core = (first.core r.later agreed).1 ∙ ap (λ (p : Plan). run p (core_with c r.later) (replicate first.steps (quiet 0))) plans ∙ ap (λ (x : Core). run a.plan x (replicate first.steps (quiet 0))) begun;
       ended = ended;
       broken = show_faults_later b d _ r.broken (same_links_join b c d same_links first.same.1);
+      told = tells_on a b d _ (last_ends ∙ ends) r.told;
     }
 
   pub settles : Settled a d

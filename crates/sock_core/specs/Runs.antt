@@ -1,5 +1,5 @@
 -- What ticks and whole runs of a machine make of its core.
-use Rattle.std.specs.Prelude.{ℕ, ◌≡◌, ◌-◌, ◌<◌, true, false, List, length, slice_get, replicate, Some, Contains}
+use Rattle.std.specs.Prelude.{ℕ, ◌≡◌, ◌-◌, ◌<◌, ◌≤◌, true, false, List, [], length, slice_get, replicate, Some, Contains}
 use Rattle.std.specs.List.{AllByRecursion}
 use lib.ListN.{get_elem?}
 use mathlib.Core.Option as core
@@ -9,8 +9,10 @@ use Rattle.brpc_model.specs.Link.{LinkEnd}
 use Rattle.sock_programs.specs.Writings as heads
 use Rattle.sock_programs.specs.Programs.{Program, Write}
 use Rattle.sock_programs.specs.Cores.{Core, SeatState}
-use Rattle.sock_programs.specs.Ticks.{Moment, quiet, seats_of, ticked, run, waits, IsAnswered, AreAnswered, IsPrompt, broken_at, broken_in}
+use Rattle.sock_programs.specs.Ticks.{Answer, Moment, quiet, seats_of, ticked, run, waits, IsAnswered, AreAnswered, IsPrompt, broken_at, broken_in}
 use Rattle.sock_programs.specs.Runs.{IsAtRest, IsSettled, LeadsUpTo, next_kind, rounds}
+use Rattle.sock_io.specs.Link.{more_told}
+use Rattle.whole_runs.specs.Heard.{as_told, heard_at, heard_in}
 use Rattle.sock_core.specs.declared.machine.On.{On}
 use Rattle.sock_core.specs.declared.machine.On.TheVariants as on
 use Rattle.sock_core.specs.declared.machine.Tick.{Tick}
@@ -29,6 +31,11 @@ pub record SameLinks (old new : MachineState) : Type 0 where
 -- of each of these links the count of faults shows that it failed
 abbrev pub ShowFaults : MachineState → List ℕ → Type 0
 ShowFaults m broken = (k : ℕ) (e : LinkEnd) → Contains broken k → slice_get m.ends k ≡ Some e → 0 < e.put_faults
+
+-- each link tells these answers behind those that it told before, and no other link was asked
+pub record LinksTell (old new : MachineState) (heard : ℕ → List Answer) : Type 0 where
+  pub each : (k : ℕ) (a b : LinkEnd) → slice_get old.ends k ≡ Some a → slice_get new.ends k ≡ Some b → b.answers ≡ more_told a.answers (as_told (heard k))
+  pub none_beyond : (k : ℕ) → length old.ends ≤ k → heard k ≡ []
 
 -- the size of the table, and what the ending goes over
 pub record SameTable (old new : MachineState) : Type 0 where
@@ -64,6 +71,7 @@ pub record TickedWith (old new : MachineState) (seat : ℕ) (tick : Tick) (took 
   pub agrees : Agrees new.links later
   pub core : core_with new later ≡ ticked old.plan (core_with old took) moment
   pub broken : ShowFaults new (broken_at (core_with old took) moment)
+  pub told : LinksTell old new (heard_at (core_with old took) moment)
 
 abbrev pub Ticked : MachineState → MachineState → ℕ → Tick → Type 0
 Ticked old new seat tick = SameTable old new × SameLinks old new × ((took : Taken) → Agrees old.links took → TickedWith old new seat tick took)
@@ -80,6 +88,7 @@ pub record RanWith (old new : MachineState) (seats : List ℕ) (took : Taken) : 
   pub agrees : Agrees new.links later
   pub core : core_with new later ≡ run old.plan (core_with old took) moments
   pub broken : ShowFaults new (broken_in old.plan (core_with old took) moments)
+  pub told : LinksTell old new (heard_in old.plan (core_with old took) moments)
 
 abbrev pub Ran : MachineState → MachineState → List ℕ → Type 0
 Ran old new seats = SameTable old new × SameLinks old new × ((took : Taken) → Agrees old.links took → RanWith old new seats took)
@@ -94,6 +103,7 @@ pub record LedWith (old new : MachineState) (seat : ℕ) (kind : Kind) (took : T
   pub agrees : Agrees new.links later
   pub core : core_with new later ≡ run old.plan (core_with old took) moments
   pub broken : ShowFaults new (broken_in old.plan (core_with old took) moments)
+  pub told : LinksTell old new (heard_in old.plan (core_with old took) moments)
 
 abbrev pub Led : MachineState → MachineState → ℕ → Kind → Type 0
 Led old new seat kind = SameTable old new × SameLinks old new × ((took : Taken) → Agrees old.links took → LedWith old new seat kind took)
@@ -125,6 +135,7 @@ pub record SettledWith (old new : MachineState) (took : Taken) : Type 0 where
   pub core : core_with new later ≡ run old.plan (ending_by old.opens (run old.plan (core_with old took) moments)) (replicate last (quiet 0))
   pub ended : ArePrompt old.links → IsSettled (core_with new later)
   pub broken : ShowFaults new (broken_in old.plan (core_with old took) moments)
+  pub told : LinksTell old new (heard_in old.plan (core_with old took) moments)
 
 abbrev pub Settled : MachineState → MachineState → Type 0
 Settled old new = (new.plan ≡ old.plan) × SameLinks old new × ((took : Taken) → Agrees old.links took → SettledWith old new took)

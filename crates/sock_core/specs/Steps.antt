@@ -48,6 +48,8 @@ pub record AskedAt (outs outs' : List OutState) (ends ends' : List LinkEnd) (k :
   pub ends_are : ends' ≡ slice_set ends k behind
   pub same : SameLink before behind
   pub faults : behind.put_faults ≡ out'.faults
+  pub told_before : before.answers ≡ out.answers
+  pub told : behind.answers ≡ out'.answers
 
 -- what is left of a message behind a put, and how many bytes of it the link took
 abbrev pub left_behind : Put → List ℕ → List ℕ

@@ -1,6 +1,7 @@
 pub mod Causes
 pub mod Edge
 pub mod Link
+pub mod Answered
 pub mod Linker
 pub mod Memory
 pub mod Peer

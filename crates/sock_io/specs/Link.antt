@@ -1,5 +1,5 @@
 -- The halves of a link, by what they took and gave.
-use Rattle.std.specs.Prelude.{ℕ, ◌≡◌, ◌≢◌, ◌+◌, ◌<◌, ◌≤◌, Bool, true, false, List, [], length, take, Option, IfSome, option_map}
+use Rattle.std.specs.Prelude.{ℕ, ◌≡◌, ◌≢◌, ◌+◌, ◌<◌, ◌≤◌, Bool, true, false, List, [], ◌∷◌, ◌++◌, length, take, Option, IfSome, option_map}
 use Rattle.std.specs.Io.KnownBytes.{append_known}
 use Rattle.sock_io.specs.declared.link.Put.{Put}
 use Rattle.sock_io.specs.declared.link.Put.TheVariants as put
@@ -7,7 +7,7 @@ use Rattle.sock_io.specs.declared.link.Ready.{Ready}
 use Rattle.sock_io.specs.declared.link.Ready.TheVariants as ready
 use Rattle.sock_io.specs.declared.link.Take.{Take}
 use Rattle.sock_io.specs.declared.link.Take.TheVariants as take_
-use Rattle.brpc_model.specs.Link.{LinkEnd}
+use Rattle.brpc_model.specs.Link.{LinkEnd, HalfAnswer, PutTook, PutAgain, PutFailed, ReadyNow, ReadyNotYet, ReadyFailed}
 use Rattle.sock_io.specs.Causes.{Rose}
 
 -- a writing half
@@ -30,6 +30,8 @@ pub record OutState : Type 0 where
   pub steady : Bool
   -- whether it takes each piece whole until it is finished
   pub whole : Bool
+  -- all that it answered, in order, where it tells that
+  pub answers : Option (List HalfAnswer)
 
 -- a reading half
 pub record InState : Type 0 where
@@ -50,6 +52,21 @@ taken_of piece (put.Took n) = take n piece
 taken_of piece put.Again = []
 taken_of piece put.Failed = []
 
+-- what a put answered, and what the question whether it takes more
+abbrev pub of_put : Put → HalfAnswer
+of_put (put.Took n) = PutTook n
+of_put put.Again = PutAgain
+of_put put.Failed = PutFailed
+
+abbrev pub of_ready : Ready → HalfAnswer
+of_ready ready.Now = ReadyNow
+of_ready ready.NotYet = ReadyNotYet
+of_ready ready.Failed = ReadyFailed
+
+-- with these answers behind those before, where they are told
+abbrev pub more_told : Option (List HalfAnswer) → List HalfAnswer → Option (List HalfAnswer)
+more_told told more = option_map (λ answers. answers ++ more) told
+
 -- a put that takes anything takes at least a byte of the piece and at most all
 abbrev pub IsPutCount : List ℕ → Put → Type 0
 IsPutCount piece (put.Took n) = (0 < n) × (n ≤ length piece)
@@ -69,6 +86,7 @@ pub record SameKind (old new : OutState) : Type 0 where
 pub record PutStep (old new : OutState) (piece : List ℕ) (result : Put) : Type 0 where
   pub count : IsPutCount piece result
   pub took : new.took ≡ append_known old.took (taken_of piece result)
+  pub answers : new.answers ≡ more_told old.answers (of_put result ∷ [])
   pub same : SameOut old new
   pub kind : SameKind old new
   pub finished : new.finished ≡ old.finished
@@ -82,6 +100,7 @@ pub record PutStep (old new : OutState) (piece : List ℕ) (result : Put) : Type
 
 pub record ReadyStep (old new : OutState) (result : Ready) : Type 0 where
   pub took : new.took ≡ old.took
+  pub answers : new.answers ≡ more_told old.answers (of_ready result ∷ [])
   pub same : SameOut old new
   pub kind : SameKind old new
   pub finished : new.finished ≡ old.finished
@@ -98,6 +117,7 @@ pub record ReadyStep (old new : OutState) (result : Ready) : Type 0 where
 
 pub record FinishStep (old new : OutState) : Type 0 where
   pub took : new.took ≡ old.took
+  pub answers : new.answers ≡ old.answers
   pub same : SameOut old new
   pub kind : SameKind old new
   pub faults : new.faults ≡ old.faults
@@ -127,9 +147,10 @@ pub record TakeStep (old new : InState) (room : List ℕ) (result : Take) : Type
   pub failed : result ≡ take_.Failed → Rose old.faults new.faults
   pub kept : result ≢ take_.Failed → new.faults ≡ old.faults
 
--- halves that took and gave nothing so far
+-- halves that took, gave and answered nothing so far
 pub record IsUnused (out : OutState) (inn : InState) : Type 0 where
   pub took : IfSome out.took (λ bytes. bytes ≡ [])
+  pub answers : IfSome out.answers (λ answers. answers ≡ [])
   pub put_faults : out.faults ≡ 0
   pub finished : out.finished ≡ false
   pub gave : inn.gave ≡ 0
@@ -137,10 +158,11 @@ pub record IsUnused (out : OutState) (inn : InState) : Type 0 where
   pub gave_end : inn.gave_end ≡ false
   pub take_faults : inn.faults ≡ 0
 
--- a link that was opened just now: it has this number, it took and gave nothing, and it wasn't found closed
+-- a link that was opened just now: it has this number, it took, gave and answered nothing, and it wasn't found closed
 pub record IsFresh (out : OutState) (inn : InState) (number : ℕ) : Type 0 where
   pub link : out.link ≡ number
   pub took : IfSome out.took (λ bytes. bytes ≡ [])
+  pub answers : IfSome out.answers (λ answers. answers ≡ [])
   pub put_faults : out.faults ≡ 0
   pub finished : out.finished ≡ false
   pub gave : inn.gave ≡ 0
@@ -151,7 +173,7 @@ pub record IsFresh (out : OutState) (inn : InState) (number : ℕ) : Type 0 wher
 
 -- the link that these halves are, as it is given back
 abbrev pub end_of : OutState → InState → LinkEnd
-end_of out inn = record { link = out.link; took = out.took; put_faults = out.faults; gave = inn.gave_bytes; gave_count = inn.gave; take_faults = inn.faults; gave_end = inn.gave_end; closed = inn.closed }
+end_of out inn = record { link = out.link; took = out.took; put_faults = out.faults; gave = inn.gave_bytes; gave_count = inn.gave; take_faults = inn.faults; gave_end = inn.gave_end; closed = inn.closed; answers = out.answers }
 
 -- a connection that was accepted, as it was given back: what it took, and what it gave, where it tells these bytes; how
 -- many bytes it gave; how often its halves failed; and whether its reading half answered `End`

@@ -20,7 +20,7 @@ pub record SinkLinkerState : Type 0 where
 
 -- a writing half in memory that was not used yet
 abbrev pub new_mem_out : ℕ → OutState
-new_mem_out link = record { link = link; took = None; faults = 0; finished = false; clear = true; prompt = true; again = false; steady = true; whole = true }
+new_mem_out link = record { link = link; took = None; faults = 0; finished = false; clear = true; prompt = true; again = false; steady = true; whole = true; answers = None }
 
 -- the shape that is asked for: the linker's own failing put stands in where none is
 abbrev pub shape_of : LinkSpec → (fail_put : ℕ) → Shape
@@ -32,4 +32,4 @@ plain_shape = record { piece = 4294967295; again = 0; fail = 0 }
 
 -- a half of this shape over memory that took nothing yet
 abbrev pub new_half : ℕ → Shape → ShapedState
-new_half link shape = record { inner = new_mem_out link; shape = shape; puts = 0; paused = false; taken = []; faults = 0 }
+new_half link shape = record { inner = new_mem_out link; shape = shape; puts = 0; paused = false; taken = []; faults = 0; answers = [] }

@@ -4,6 +4,7 @@ use Rattle.sock_io.specs.declared.shape.Shape.{Shape}
 use Rattle.sock_io.specs.declared.link.Put.{Put}
 use Rattle.sock_io.specs.declared.link.Put.TheVariants as put
 use Rattle.sock_io.specs.Causes.{next_number}
+use Rattle.brpc_model.specs.Link.{HalfAnswer}
 use Rattle.sock_io.specs.Link.{OutState}
 
 -- put `fail` and all later ones fail, where it is asked for
@@ -38,7 +39,7 @@ pub record FollowsShape (shape : Shape) (number : ℕ) (after_again : Bool) (roo
   pub again : 0 < room → fails_at shape number ≡ false → pauses_at shape number ≡ true → after_again ≡ false → result ≡ put.Again
 
 -- a half with a shape: the half inside, how many puts were made, whether the last one answered `Again`, all that it
--- took, and its count of faults
+-- took, its count of faults, and all that it answered
 pub record ShapedState : Type 0 where
   pub inner : OutState
   pub shape : Shape
@@ -46,7 +47,8 @@ pub record ShapedState : Type 0 where
   pub paused : Bool
   pub taken : List ℕ
   pub faults : ℕ
+  pub answers : List HalfAnswer
 
 -- such a half as a writing half: the next put isn't `Again` where neither its number nor the half inside asks for it
 abbrev pub shaped_out : ShapedState → OutState
-shaped_out s = record { link = s.inner.link; took = Some s.taken; faults = s.faults; finished = s.inner.finished; clear = not (pauses_at s.shape (next_number s.puts) && not s.paused) && s.inner.clear; prompt = s.inner.prompt; again = s.paused; steady = false; whole = false }
+shaped_out s = record { link = s.inner.link; took = Some s.taken; faults = s.faults; finished = s.inner.finished; clear = not (pauses_at s.shape (next_number s.puts) && not s.paused) && s.inner.clear; prompt = s.inner.prompt; again = s.paused; steady = false; whole = false; answers = Some s.answers }

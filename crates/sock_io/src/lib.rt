@@ -1,6 +1,7 @@
 //! What reaches the outside: sources, sinks, links and gates, and those in memory.
 #![tactic(auto)]
 
+mod answered;
 mod counts;
 mod ending;
 mod link;
@@ -16,6 +17,7 @@ mod stream;
 mod tests;
 mod writing;
 
+pub use answered::Answered;
 pub use ending::Ending;
 pub use link::{
     Ends, Gate, In, LinkSpec, Linker, Mode, OpenFault, OpenGate, Out, Peer, Put, Ready, Served,

@@ -51,7 +51,7 @@ pub enum Take {
 /// It has a count of faults that never falls: it rises where a call answers `Failed`, and stands still at every other
 /// answer. A count that stands at its last value, 2^64 - 1, counts as risen.
 pub trait Out: Drop {
-    /// Which link it is, what it took, its count of faults, and whether it was finished.
+    /// Which link it is, what it took and answered, its count of faults, and whether it was finished.
     ghost state: { Self → OutState };
 
     /// Takes a part of the piece, from its front: 1 byte at least, or nothing at `Again` and `Failed`.

@@ -21,7 +21,7 @@ pub struct MemOut {
 impl MemOut {
     /// The writing half of the link of this number. For linkers.
     pub fn new(link: u16) -> Self
-        ensures { ⟦<MemOut as Out>⟧.state result ≡ record { link = link; took = None; faults = 0; finished = false; clear = true; prompt = true; again = false; steady = true; whole = true } }
+        ensures { ⟦<MemOut as Out>⟧.state result ≡ record { link = link; took = None; faults = 0; finished = false; clear = true; prompt = true; again = false; steady = true; whole = true; answers = None } }
     {
         MemOut {
             link,
@@ -31,7 +31,7 @@ impl MemOut {
 }
 
 impl Out for MemOut {
-    ghost state = { λ o. record { link = o.link; took = None; faults = 0; finished = o.finished; clear = true; prompt = true; again = false; steady = true; whole = true } };
+    ghost state = { λ o. record { link = o.link; took = None; faults = 0; finished = o.finished; clear = true; prompt = true; again = false; steady = true; whole = true; answers = None } };
 
     fn put(&mut self, piece: &[u8]) -> Put {
         if self.finished {

@@ -1,20 +1,23 @@
 ghost use Rattle.sock_io.specs.declared.shaped.TheConstants.{TAKEN_ROOM};
-ghost use Rattle.std.specs.Prelude.{◌≡◌, ℕ, ◌-◌, ◌<◌, false, true, IfOk, [], length};
+ghost use Rattle.std.specs.Prelude.{◌≡◌, ℕ, ◌-◌, ◌<◌, ◌++◌, ◌∷◌, false, true, IfOk, [], length};
 ghost use Rattle.sock_io.specs.Causes.{next_number};
-ghost use Rattle.sock_io.specs.Link.{PutStep, ReadyStep, FinishStep, SameKind};
+ghost use Rattle.sock_io.specs.Answered.{half_answer};
+ghost use Rattle.sock_io.specs.Link.{PutStep, ReadyStep, FinishStep, SameKind, of_put, of_ready};
 ghost use Rattle.sock_io.specs.Shape.{FollowsShape, answer_at, shaped_out};
 
+use crate::answered::Answered;
 use crate::counts::{next_call, risen};
 use crate::link::{Out, Put, Ready};
 use crate::shape::{Shape, does_fail, does_pause};
 use crate::stream::NoMemory;
+use ghosts::Ghosts;
 use std::alloc::Global;
 use std::marker::Model;
 
 /// How many bytes a link may take: the room that it reserves when it is made.
 pub const TAKEN_ROOM: usize = 2_097_152;
 
-/// A writing half that behaves as its shape says and keeps all that it took.
+/// A writing half that behaves as its shape says, keeps all that it took, and tells all that it answered.
 ///
 /// A put takes at most `piece` bytes. Where `again` is N, a put whose number N divides answers `Again`, unless the put
 /// before it did. Where `fail` is N, put N and all later ones fail, and that goes before `Again`. A put that finds the
@@ -28,16 +31,19 @@ pub struct Shaped<O: Out> {
     paused: bool,
     faults: u64,
     finished: bool,
+    /// All that it answered, for the proofs.
+    answers: Ghosts<Answered>,
 }
 
 impl<O: Out> Model for Shaped<O> {
     ghost use Rattle.sock_io.specs.declared.shaped.TheConstants.{TAKEN_ROOM};
-    ghost use Rattle.std.specs.Prelude.{◌≡◌, ◌<◌, ◌≤◌, true, vec_capacity, vec_len};
+    ghost use Rattle.std.specs.Prelude.{◌≡◌, ◌<◌, ◌≤◌, true, map, vec_capacity, vec_len};
+    ghost use Rattle.sock_io.specs.Answered.{half_answer};
     ghost use Rattle.sock_io.specs.Shape.{ShapedState};
 
     ghost Value = { ShapedState };
 
-    ghost view = { λ s. record { inner = O.state s.inner; shape = s.shape; puts = s.puts; paused = s.paused; taken = s.taken.items; faults = s.faults } };
+    ghost view = { λ s. record { inner = O.state s.inner; shape = s.shape; puts = s.puts; paused = s.paused; taken = s.taken.items; faults = s.faults; answers = map half_answer s.answers.list } };
 
     ghost invariant = { λ s. (0 < s.shape.piece) × (TAKEN_ROOM ≤ vec_capacity s.taken) × (vec_len s.taken ≤ TAKEN_ROOM) × ((O.state s.inner).finished ≡ s.finished) × ((O.state s.inner).steady ≡ true) };
 }
@@ -49,7 +55,7 @@ impl<O: Out> Shaped<O> {
         requires piece { 0 < shape.piece }
         requires open { (O.state inner).finished ≡ false }
         requires steady { (O.state inner).steady ≡ true }
-        ensures { IfOk result (λ s. s ≡ record { inner = O.state inner; shape = shape; puts = 0; paused = false; taken = []; faults = 0 }) }
+        ensures { IfOk result (λ s. s ≡ record { inner = O.state inner; shape = shape; puts = 0; paused = false; taken = []; faults = 0; answers = [] }) }
     {
         match Vec::with_capacity(alloc, TAKEN_ROOM) {
             Ok(taken) => Ok(Shaped {
@@ -60,6 +66,7 @@ impl<O: Out> Shaped<O> {
                 paused: false,
                 faults: 0,
                 finished: false,
+                answers: Ghosts::of(&0u8),
             }),
             Err(_) => Err(NoMemory),
         }
@@ -73,17 +80,17 @@ impl<O: Out> Shaped<O> {
     }
 }
 
-impl<O: Out> Out for Shaped<O> {
-    ghost state = { shaped_out };
-
-    fn put(&mut self, piece: &[u8]) -> Put
+impl<O: Out> Shaped<O> {
+    /// Puts, and leaves it to the caller to note what it answers.
+    fn answer_put(&mut self, piece: &[u8]) -> Put
         requires { 0 < length piece.now }
-        ensures step { PutStep (shaped_out self.old) (shaped_out self.new) piece.now result }
+        ensures step { PutStep (shaped_out self.old) (shaped_out (record self.new { answers = self.old.answers ++ of_put result ∷ [] })) piece.now result }
         ensures law { self.old.inner.finished ≡ false → FollowsShape self.old.shape (next_number self.old.puts) self.old.paused (TAKEN_ROOM - length self.old.taken) piece.now result }
         ensures exact { self.old.inner.finished ≡ false → self.old.inner.whole ≡ true → result ≡ answer_at self.old.shape (next_number self.old.puts) self.old.paused (TAKEN_ROOM - length self.old.taken) piece.now }
         ensures puts { self.new.puts ≡ next_number self.old.puts }
         ensures shape { self.new.shape ≡ self.old.shape }
         ensures inner { SameKind self.old.inner self.new.inner }
+        ensures answers { self.new.answers ≡ self.old.answers }
     {
         self.puts = next_call(self.puts);
         let paused = self.paused;
@@ -117,11 +124,13 @@ impl<O: Out> Out for Shaped<O> {
         }
     }
 
-    fn ready(&mut self) -> Ready
-        ensures step { ReadyStep (shaped_out self.old) (shaped_out self.new) result }
+    /// Asks, and leaves it to the caller to note what it answers.
+    fn answer_ready(&mut self) -> Ready
+        ensures step { ReadyStep (shaped_out self.old) (shaped_out (record self.new { answers = self.old.answers ++ of_ready result ∷ [] })) result }
         ensures shape { self.new.shape ≡ self.old.shape }
         ensures inner { SameKind self.old.inner self.new.inner }
         ensures puts { self.new.puts ≡ self.old.puts }
+        ensures answers { self.new.answers ≡ self.old.answers }
     {
         if self.finished {
             return Ready::Failed;
@@ -134,6 +143,44 @@ impl<O: Out> Out for Shaped<O> {
                 Ready::Failed
             }
         }
+    }
+
+    /// Notes an answer.
+    fn note(&mut self, answer: Answered)
+        ensures { self.new ≡ record self.old { answers = self.old.answers ++ half_answer answer ∷ [] } }
+    {
+        let before: Ghosts<Answered> = Ghosts::of(&self.answers);
+        let with = (before, answer);
+        self.answers = Ghosts::of(&with);
+    }
+}
+
+impl<O: Out> Out for Shaped<O> {
+    ghost state = { shaped_out };
+
+    fn put(&mut self, piece: &[u8]) -> Put
+        requires { 0 < length piece.now }
+        ensures step { PutStep (shaped_out self.old) (shaped_out self.new) piece.now result }
+        ensures law { self.old.inner.finished ≡ false → FollowsShape self.old.shape (next_number self.old.puts) self.old.paused (TAKEN_ROOM - length self.old.taken) piece.now result }
+        ensures exact { self.old.inner.finished ≡ false → self.old.inner.whole ≡ true → result ≡ answer_at self.old.shape (next_number self.old.puts) self.old.paused (TAKEN_ROOM - length self.old.taken) piece.now }
+        ensures puts { self.new.puts ≡ next_number self.old.puts }
+        ensures shape { self.new.shape ≡ self.old.shape }
+        ensures inner { SameKind self.old.inner self.new.inner }
+    {
+        let answer = self.answer_put(piece);
+        self.note(Answered::Put(answer));
+        answer
+    }
+
+    fn ready(&mut self) -> Ready
+        ensures step { ReadyStep (shaped_out self.old) (shaped_out self.new) result }
+        ensures shape { self.new.shape ≡ self.old.shape }
+        ensures inner { SameKind self.old.inner self.new.inner }
+        ensures puts { self.new.puts ≡ self.old.puts }
+    {
+        let answer = self.answer_ready();
+        self.note(Answered::Ready(answer));
+        answer
     }
 
     fn finish(&mut self)

@@ -14,7 +14,10 @@ pub returns-in-Gen-clause-answers : goal.returns-in-Gen-clause-answers
 returns-in-Gen-clause-answers g c = drawn_command _ _ _ _ _ c.in-Some.command c.in-Gen.draw c.in-Some.ensures c.in-Gen.is refl (c.requires.asked, c.requires.back) c.print_generated.ensures
 
 pub returns-in-Frames-clause-answers : goal.returns-in-Frames-clause-answers
-returns-in-Frames-clause-answers g c = frames_command _ _ _ _ _ c.in-Some.command c.in-Some.ensures c.in-Frames.is (c.requires.asked, c.requires.back) c.frames.ensures
+returns-in-Frames-clause-answers g c = frames_command _ _ _ _ _ c.in-Some.command c.in-Some.ensures c.in-Frames.is (c.requires.asked, c.requires.back) c.frames.ensures.printed
+
+pub returns-in-Frames-clause-counts : goal.returns-in-Frames-clause-counts
+returns-in-Frames-clause-counts g c = record { source_still = c.frames.ensures.source; linker_still = λ other. refl }
 
 pub returns-in-Sim-clause-answers : goal.returns-in-Sim-clause-answers
 returns-in-Sim-clause-answers g c =

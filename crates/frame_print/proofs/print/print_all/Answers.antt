@@ -31,6 +31,7 @@ returns-in-Err g c =
       bytes = i.whole;
       came = consumes_kept _ _ _ i.whole i.came c.in-Err.ensures.bytes;
       ended = ends_source _ i.whole c.loop-read.cutter few i.printed i.waiting _ i.reads c.in-Err.ensures.cause.failed;
+      reads = λ other. absurd (other refl);
     }
 
 pub returns-then-count-eq0 : goal.returns-then-count-eq0
@@ -42,6 +43,7 @@ returns-then-count-eq0 g c =
       bytes = i.whole;
       came = consumes_end _ _ _ i.whole c.read.new.room c.in-Ok.count i.came c.in-Ok.ensures.bytes.0 c.if-count-eq0.true;
       ended = ends_at_rest _ i.whole c.loop-read.cutter _ _ c.held_len.result _ few (c.in-Ok.ensures.bytes.1 c.if-count-eq0.true room) i.printed i.waiting c.held_len.ensures i.writes c.end_in_rest.ensures;
+      reads = λ other. c.in-Ok.ensures.cause.kept ∙ i.reads;
     }
 
 pub returns-then-read-eq-FRAMES_LIMIT : goal.returns-then-read-eq-FRAMES_LIMIT
@@ -56,6 +58,7 @@ returns-then-read-eq-FRAMES_LIMIT g c =
       bytes = i.whole ++ piece;
       came = consumes_append _ _ _ i.whole piece i.came c.in-Ok.ensures.bytes.0;
       ended = ends_long _ i.whole c.loop-read.cutter piece all one i.printed i.waiting;
+      reads = λ other. c.in-Ok.ensures.cause.kept ∙ i.reads;
     }
 
 pub returns-then-is_err : goal.returns-then-is_err
@@ -69,6 +72,7 @@ returns-then-is_err g c =
       bytes = i.whole ++ piece;
       came = consumes_append _ _ _ i.whole piece i.came c.in-Ok.ensures.bytes.0;
       ended = ends_unfed _ i.whole c.loop-read.cutter piece few i.printed;
+      reads = λ other. c.in-Ok.ensures.cause.kept ∙ i.reads;
     }
 
 pub returns-in-Err-print_whole : goal.returns-in-Err-print_whole
@@ -83,6 +87,7 @@ returns-in-Err-print_whole g c =
       bytes = i.whole ++ piece;
       came = consumes_append _ _ _ i.whole piece i.came c.in-Ok.ensures.bytes.0;
       ended = ends_in_cut _ (i.whole ++ piece) c.feed.new.self c.print_whole.new.cutter c.end_stopped.new.cutter _ _ c.in-Err-print_whole.stopped c.end_stopped.result few fed i.writes c.in-Err-print_whole.ensures.cuts c.end_stopped.ensures;
+      reads = λ other. c.in-Ok.ensures.cause.kept ∙ i.reads;
     }
 
 pub overflow_sub-read-in-Some : goal.overflow_sub-read-in-Some
@@ -112,6 +117,7 @@ returns-in-Some g c =
       bytes = i.whole ++ piece;
       came = consumes_append _ _ _ i.whole piece i.came c.in-Ok.ensures.bytes.0;
       ended = ends_fault _ (i.whole ++ piece) c.print_whole.new.cutter _ _ _ meant.0 c.print_fault.result few printed meant.2 start (cut.2 ∙ i.writes) (c.print_fault.ensures meant.0 meant.1);
+      reads = λ other. c.in-Ok.ensures.cause.kept ∙ i.reads;
     }
 
 pub loop-read-preserved : goal.loop-read-preserved
