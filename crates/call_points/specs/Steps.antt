@@ -5,7 +5,7 @@ use Rattle.sock_programs.specs.Asides.{Step, Found}
 use Rattle.sock_programs.specs.Programs.{Program, Do, Write, Aside, Round, Rest}
 use Rattle.sock_programs.specs.Sends.{block}
 use Rattle.sock_programs.specs.Rounds.{round}
-use Rattle.sock_programs.specs.declared.task.Asked.{Asked}
+use Rattle.sock_message.specs.Asked.{Asked}
 use Rattle.id_points.specs.Ids.{id_of}
 use Rattle.call_points.specs.declared.aside.Aside as code
 

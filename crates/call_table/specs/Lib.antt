@@ -1,4 +1,2 @@
-pub mod Asked
-pub mod Meaning
 pub mod Errors
 pub mod Responses

@@ -3,12 +3,12 @@ ghost use Rattle.brpc_model.specs.Frame.{IsFrame, Begins, judged};
 ghost use Rattle.brpc_model.specs.Spelling.{meta_bytes};
 ghost use Rattle.rpc_meta.specs.Meaning.{meaning};
 ghost use Rattle.rpc_meta.specs.Writing.{HasPart};
-ghost use Rattle.call_table.specs.Asked.{meta_with, request_of, frame_of, head_of};
-ghost use Rattle.call_table.specs.Meaning.{asked};
+ghost use Rattle.io_buf.specs.Buffer.{block_sizes};
+ghost use Rattle.sock_message.specs.Asked.{meta_with, request_of, frame_of, head_of};
 
-use crate::calls::Call;
 use prpc_frame::{BlockPool, IoBuf, NoMemory, RpcMeta, encode};
 use rpc_meta::{MetaBytes, RequestMeta};
+use sock_message::Call;
 use std::alloc::Global;
 
 /// The frame of an attempt of the call with this id (brpc's baidu_std.md). The attempt, counted from 0, is at most 6, and its
@@ -25,11 +25,11 @@ pub fn issue(
 ) -> Result<IoBuf, NoMemory>
     requires attempt { attempt ≤ 6 }
     requires id { id + 8 ≤ 2 ^ 64 }
-    ensures bytes { IfOk result (λ b. b.items ≡ frame_of (asked call.now) id attempt) }
-    ensures frame { IfOk result (λ b. IsFrame b.items (request_of (asked call.now) id attempt)) }
+    ensures bytes { IfOk result (λ b. b.items ≡ frame_of call.now id attempt) }
+    ensures frame { IfOk result (λ b. IsFrame b.items (request_of call.now id attempt)) }
     // It is taken for this frame and for no other, whatever stands behind it.
-    ensures only { IfOk result (λ b. (more : List ℕ) → judged (b.items ++ more) ≡ Begins (request_of (asked call.now) id attempt) (length b.items - 12)) }
-    ensures pieces { IfOk result (λ b. b.sizes ≡ head_of (asked call.now) id attempt ∷ call.now.payload.sizes ++ call.now.attachment.sizes) }
+    ensures only { IfOk result (λ b. (more : List ℕ) → judged (b.items ++ more) ≡ Begins (request_of call.now id attempt) (length b.items - 12)) }
+    ensures pieces { IfOk result (λ b. b.sizes ≡ head_of call.now id attempt ∷ block_sizes (length call.now.payload) ++ block_sizes (length call.now.attachment)) }
 {
     let meta = request_meta(alloc, call, id + u64::from(attempt) + 1)?;
     encode(alloc, pool, &meta, &call.payload, &call.attachment)
@@ -37,8 +37,8 @@ pub fn issue(
 
 // The meta of the call's request under this correlation id.
 fn request_meta(alloc: Global, call: &Call, correlation_id: u64) -> Result<RpcMeta, NoMemory>
-    ensures says { IfOk result (λ m. meaning m ≡ meta_with (asked call.now) correlation_id) }
-    ensures sized { IfOk result (λ m. m.attachment_size ≡ pos (length call.now.attachment.items)) }
+    ensures says { IfOk result (λ m. meaning m ≡ meta_with call.now correlation_id) }
+    ensures sized { IfOk result (λ m. m.attachment_size ≡ pos (length call.now.attachment)) }
     ensures part { IfOk result (λ m. HasPart (meaning m)) }
     ensures short { IfOk result (λ m. length (meta_bytes (meaning m)) < 512) }
 {

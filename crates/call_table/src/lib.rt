@@ -2,7 +2,6 @@
 //! a response ends a call.
 #![tactic(auto)]
 
-mod calls;
 mod errors;
 mod issuing;
 mod responses;
@@ -10,8 +9,8 @@ mod responses;
 mod tests;
 mod versions;
 
-pub use calls::Call;
 pub use errors::{Decision, on_error};
 pub use issuing::issue;
+pub use sock_message::Call;
 pub use responses::{Ending, on_response};
 pub use versions::{has_version, is_early};

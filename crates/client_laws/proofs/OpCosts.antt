@@ -11,14 +11,14 @@ use Rattle.corr_core.specs.declared.marks.Plan.{Plan as IdPlan}
 use Rattle.sock_programs.specs.declared.task.Op.{Op}
 use Rattle.sock_programs.specs.declared.task.Op.TheVariants as ops
 use Rattle.sock_programs.specs.declared.task.Task.{Task}
-use Rattle.sock_programs.specs.declared.task.Asked.{Asked}
+use Rattle.sock_message.specs.Asked.{Asked, name_of}
 use Rattle.sock_programs.specs.Calls.{ClaimSlot, GiveBirth, StoreLink, ResetHead, WipeCode, StoreName, LoadName, StoreOpen, LoadOpen, LookWord, ClaimRequest}
 use Rattle.sock_programs.specs.Asides.{call_id}
 use Rattle.sock_programs.specs.Heads.{Joins}
 use Rattle.sock_programs.specs.Programs.{Program, Do, Say, Sent, Round, NO_SOCKET, release, address, reach, set_failed, no_socket, make_socket, open_from, fail_outcome, fail, hold, end_open}
 use Rattle.sock_programs.specs.Posts.{WHOLE, post_with, posted}
 use Rattle.sock_programs.specs.Sends.{heading_of, accept, claim_from, start, send}
-use Rattle.sock_programs.specs.Attempts.{name_of, begin_call, claim_id, call, expire_outcome, expire, join}
+use Rattle.sock_programs.specs.Attempts.{begin_call, claim_id, call, expire_outcome, expire, join}
 use Rattle.sock_programs.specs.Clients.{HeldLife, held_under, without_name, give_back, drop_of, operation, client_from, ending_of}
 use Rattle.sock_programs.specs.Scripts.{sizes_of}
 use Rattle.sock_programs.specs.Told.{AskedFits, OpFits, TaskFits}

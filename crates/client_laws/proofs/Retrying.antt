@@ -4,12 +4,12 @@ use Rattle.sock_words.specs.declared.plain.Plan.{Plan}
 use Rattle.sock_model.specs.declared.chain.Entry.{Entry}
 use Rattle.sock_model.specs.declared.view.View.{View}
 use Rattle.brpc_model.specs.Spelling.{meta_bytes}
-use Rattle.sock_programs.specs.declared.task.Asked.{Asked}
+use Rattle.sock_message.specs.Asked.{Asked, name_of, meta_of}
 use Rattle.sock_programs.specs.Heads.{Retry, Unlocking, IsOpen, HasNext, Locking, NotThere, Has as HasLock}
 use Rattle.sock_programs.specs.Programs.{Program, Retries}
 use Rattle.sock_programs.specs.Clients.{HeldLife}
 use Rattle.sock_programs.specs.Posts.{post, decided}
-use Rattle.sock_programs.specs.Attempts.{name_of, meta_of, attempt, tried_again, retry_locked, retry}
+use Rattle.sock_programs.specs.Attempts.{attempt, tried_again, retry_locked, retry}
 use Rattle.sock_programs.specs.Told.{AskedFits}
 use Rattle.sock_runs.specs.Has.{Has}
 use Rattle.sock_runs.specs.Fits.{FitsRetry, FitsUnlocking, FitsLocking}

@@ -21,7 +21,7 @@ use Rattle.corr_core.specs.declared.marks.Note.TheVariants.{Tried, Made}
 use Rattle.id_rule.specs.Lawful.{call_word, at_word as at_place, with_token, no_token, with_note, with_kept}
 use Rattle.id_rule.specs.Plays.{with_hand, found_view}
 use Rattle.sock_programs.specs.Parts.{part}
-use Rattle.sock_programs.specs.declared.task.Asked.{Asked}
+use Rattle.sock_message.specs.Asked.{Asked, frame_of}
 use Rattle.sock_programs.specs.Calls.{SubRef, AddRef, SetOdd, StoreCode, Recycle, LoadLink, TakeLink, FinishLink, PutLink, FreeSlot, LoadName, FreeRequest, ReadNext, DropPlace, LoadCode, ClaimRequest}
 use Rattle.sock_programs.specs.Asides.{PutCall, MakeId, StoreCall, StoreAt, call_id, id_slot, id_first}
 use Rattle.sock_programs.specs.Heads.{Retry, Unlocks, Joins, Unlocking, IsOpen, HasNext, Deciding, HasEnded, GoesOn, Locking, NotThere, Has}
@@ -29,7 +29,7 @@ use Rattle.sock_programs.specs.Programs.{Program, Do, Say, TakeMessage, TakeHome
 use Rattle.sock_programs.specs.Posts.{post, post_with, posted, decided}
 use Rattle.sock_programs.specs.Writings.{Holder, Writing, Puts, Waits, Empties, Walks}
 use Rattle.sock_programs.specs.Sends.{freed, one_more, passed_telling, tell_drop, placed, dropped, put_answered, ready_answered, block, accept, write_link}
-use Rattle.sock_programs.specs.Attempts.{claims_from, frame_of, heading_for, attempt, begin_call, claim_id, call, tried_again, retry_locked, retry, expire_outcome, expire, join}
+use Rattle.sock_programs.specs.Attempts.{claims_from, heading_for, attempt, begin_call, claim_id, call, tried_again, retry_locked, retry, expire_outcome, expire, join}
 use Rattle.sock_programs.specs.Told.{AskedFits}
 use Rattle.id_runs.specs.Held.{AtFits, IdView, one, by_token, made_by}
 use Rattle.id_runs.specs.Goes.{FitsOwner, IsFree, IsError, LeavesUnlock, LeavesLock, FitsRetryId, IdGoesOn}

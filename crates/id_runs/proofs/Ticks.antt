@@ -23,7 +23,7 @@ use Rattle.corr_core.specs.declared.marks.Token.TheVariants.{Claimed, Locked, Le
 use Rattle.corr_core.specs.declared.marks.Note.TheVariants.{Tried, Queued, Saw, Attempt}
 use Rattle.id_rule.specs.Lawful.{Lawful, all_words, tag_word, id_word, call_word, at_word, tokens_in, with_token, no_token, with_note}
 use Rattle.id_rule.specs.Plays.{popped_view, advanced_view, with_hand}
-use Rattle.sock_programs.specs.declared.task.Asked.{Asked}
+use Rattle.sock_message.specs.Asked.{Asked}
 use Rattle.sock_programs.specs.Asides.{Step, Found, ClaimId, PutCall, MakeId, StoreCall, LoadCall, StoreAt, LoadAt, LoadIdWord, LockId, PostId, UnlockId, EndId, FreeId, TakeCall, TakeBytes, Taking, Bytes}
 use Rattle.sock_programs.specs.Heads.{Retry}
 use Rattle.sock_programs.specs.Programs.{Program, Do, Say, Sent, Rest, TakeMessage, TakeHome, PutHome, PutBytes, AskReady, Write, Aside, Round, Keep, Retries}

@@ -12,7 +12,7 @@ use Rattle.corr_core.specs.declared.marks.Hand.TheVariants.{Empty, Full}
 use Rattle.corr_core.specs.declared.marks.Token.TheVariants.{Locked}
 use Rattle.id_rule.specs.Lawful.{Lawful, call_word, at_word}
 use Rattle.id_rule.specs.Plays.{Longer}
-use Rattle.sock_programs.specs.declared.task.Asked.{Asked}
+use Rattle.sock_message.specs.Asked.{Asked}
 use Rattle.sock_programs.specs.Calls.{Call, FindLink, LoadCode, StoreCode, PutMessage}
 use Rattle.sock_programs.specs.Writings.{Writing, Puts, Waits}
 use Rattle.sock_programs.specs.Asides.{Step, LoadCall, LoadAt, MakeId, LoadIdWord, LockId, PostId, UnlockId, TakeCall, Found, id_slot}

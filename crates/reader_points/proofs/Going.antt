@@ -3,7 +3,7 @@ use Rattle.std.proofs.Common.{◌≢◌, ◌≡◌, ℕ, ◌+◌, ◌%◌, ◌==
 use Rattle.std.proofs.lemmas.Bool.Decides.{nat_tests}
 use Rattle.sock_words.specs.Words.{socket_id_slot, socket_id_version, vref_version, at_word_link, at_word_slot, at_word_first, at_word_attempt}
 use Rattle.corr_core.specs.Word.{error_of}
-use Rattle.sock_programs.specs.declared.task.Asked.{Asked}
+use Rattle.sock_message.specs.Asked.{Asked}
 use Rattle.sock_programs.specs.Asides.{TakeCall, call_id, id_slot}
 use Rattle.sock_programs.specs.Programs.{Program, Aside, Say}
 use Rattle.sock_programs.specs.Posts.{end_id, post_with}

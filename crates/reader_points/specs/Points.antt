@@ -7,7 +7,7 @@ use Rattle.corr_core.specs.Word.{parts, error_of}
 use Rattle.brpc_model.specs.Frame.{Frame}
 use Rattle.brpc_model.specs.Stream.{Ending, stream}
 use Rattle.brpc_model.specs.Stream as streams
-use Rattle.sock_programs.specs.declared.task.Asked.{Asked}
+use Rattle.sock_message.specs.Asked.{Asked}
 use Rattle.sock_programs.specs.Asides.{Taking, Bytes, Nothing, NoMore, AtEnd, Closed, Broken, LoadAt, TakeBytes, TakeCall, call_id, id_slot, id_first}
 use Rattle.sock_programs.specs.Calls as calls
 use Rattle.sock_programs.specs.Heads.{Reading, Ended, Opens, Reads, Discards, Version, Posting}

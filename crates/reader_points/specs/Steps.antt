@@ -4,7 +4,7 @@ use Rattle.sock_programs.specs.Asides as asides
 use Rattle.sock_programs.specs.Asides.{Found, Taking}
 use Rattle.sock_programs.specs.Programs.{Program, Aside, Round, Rest}
 use Rattle.sock_programs.specs.Rounds.{round}
-use Rattle.sock_programs.specs.declared.task.Asked.{Asked}
+use Rattle.sock_message.specs.Asked.{Asked}
 use Rattle.call_points.specs.Steps as aside_steps
 use Rattle.seat_points.specs.Steps.{First, OfCall, OfAside, step_of}
 use Rattle.reader_points.specs.declared.point.ReadStep.{ReadStep}

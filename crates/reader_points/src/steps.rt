@@ -1,5 +1,5 @@
 ghost use Rattle.std.specs.Prelude.{◌≡◌, option_map, Some, ℕ};
-ghost use Rattle.sock_programs.specs.declared.task.Asked.{Asked};
+ghost use Rattle.sock_message.specs.Asked.{Asked};
 ghost use Rattle.id_points.specs.Ids.{id_of};
 ghost use Rattle.call_points.specs.Steps.{aside_in};
 ghost use Rattle.call_points.specs.Steps as asides;

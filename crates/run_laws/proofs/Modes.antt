@@ -30,13 +30,13 @@ use Rattle.brpc_model.specs.Frame.{Frame}
 use Rattle.brpc_model.specs.Stream as streams
 use Rattle.sock_words.specs.Words.{at_word, at_word_slot, at_word_first, at_word_link, at_word_attempt}
 use Rattle.sock_words.specs.declared.outcome.Outcome.TheVariants.{NotBegun, Joined}
-use Rattle.sock_programs.specs.declared.task.Asked.{Asked}
+use Rattle.sock_message.specs.Asked.{Asked, frame_of}
 use Rattle.sock_programs.specs.Asides.{Found, FreeId, PutCall, StoreAt, Taking, Bytes, Nothing, NoMore, AtEnd, Closed, id_slot, id_first, call_id}
 use Rattle.sock_programs.specs.Asides as taking
 use Rattle.sock_programs.specs.Heads.{Head, Exit, Retry, Sought, Version, Reading, Ended, Posts, Unlocks, Decides, Locks, Joins, Opens, Reads, Discards, Posting, WasGone, WasStale, WasCrowded, WasQueued, HasLocked, Unlocking, IsOpen, HasNext, Deciding, HasEnded, Locking, NotThere}
 use Rattle.sock_programs.specs.Heads.{GoesOn as OpenAgain, Has as HasLock}
 use Rattle.sock_programs.specs.Posts.{WHOLE, packed, advance_of, is_first, is_stale, is_full, is_sought, judged, post, post_with, posted, popped, ends_call, end_id, decide, decided, unlocked, locking}
-use Rattle.sock_programs.specs.Attempts.{claims_from, frame_of, heading_for, attempt, begin_call, claim_id, call, tried_again, retry_locked, retry, expire_outcome, expire, join}
+use Rattle.sock_programs.specs.Attempts.{claims_from, heading_for, attempt, begin_call, claim_id, call, tried_again, retry_locked, retry, expire_outcome, expire, join}
 use Rattle.sock_programs.specs.Readers.{LIMIT, slot_in, version_in, is_early, answer, answered, has_response, responses, last_of, ended_by, read_on, took, discarded, kept_for, ends_with, posted_last, post_each, thrown_away, read, reader}
 use Rattle.sock_programs.specs.Readers.{ending_of as ending_by}
 use Rattle.sock_programs.specs.Rounds.{round}

@@ -12,12 +12,12 @@ use Rattle.sock_model.specs.Entries.{slot_of, generation_of}
 use Rattle.sock_model.specs.Memory.{IDLE}
 use Rattle.sock_model.specs.declared.chain.Heading.{Heading}
 use Rattle.sock_programs.specs.Parts.{part}
-use Rattle.sock_programs.specs.declared.task.Asked.{Asked}
+use Rattle.sock_message.specs.Asked.{Asked, name_of, frame_of, parts_of}
 use Rattle.sock_programs.specs.Asides as asides
 use Rattle.sock_programs.specs.Asides.{id_slot, id_first, call_id}
 use Rattle.sock_programs.specs.Heads.{Posting, HasLocked, Deciding, Unlocking, IsOpen, HasNext, Has, Joins, Unlocks}
 use Rattle.sock_programs.specs.Posts.{post, posted, decide, decided}
-use Rattle.sock_programs.specs.Attempts.{claims_from, name_of, frame_of, parts_of, attempt, begin_call, claim_id, call, retry_locked, tried_again, expire_outcome, expire, join}
+use Rattle.sock_programs.specs.Attempts.{claims_from, attempt, begin_call, claim_id, call, retry_locked, tried_again, expire_outcome, expire, join}
 use Rattle.sock_programs.specs.declared.task.Sizes.{Sizes}
 use Rattle.sock_programs.specs.Calls as calls
 use Rattle.sock_programs.specs.Writings as heads

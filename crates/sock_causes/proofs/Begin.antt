@@ -19,7 +19,7 @@ use Rattle.sock_model.specs.References.{slot_facts}
 use Rattle.slot_laws.proofs.Sums.{tally_mono}
 use Rattle.slot_laws.proofs.Numbers.{live-free, life-none}
 use Rattle.sock_programs.specs.declared.task.Task.{Task}
-use Rattle.sock_programs.specs.declared.task.Asked.{Asked}
+use Rattle.sock_message.specs.Asked.{Asked}
 use Rattle.corr_core.specs.declared.marks.Plan.{Plan as IdPlan}
 use Rattle.sock_programs.specs.Beside.{call_at}
 use Rattle.sock_programs.specs.Programs.{Program}

@@ -12,7 +12,7 @@ use Rattle.sock_io.specs.declared.link.Ready.TheVariants as asks
 use Rattle.sock_model.specs.declared.chain.Heading.{Heading}
 use Rattle.sock_model.specs.Entries.{ticket_of, slot_of, generation_of}
 use Rattle.sock_model.specs.Memory.{IDLE, UNCONNECTED}
-use Rattle.sock_programs.specs.declared.task.Asked.{Asked}
+use Rattle.sock_message.specs.Asked.{Asked, name_of, frame_of}
 use Rattle.sock_programs.specs.declared.task.Task.{Task}
 use Rattle.sock_programs.specs.Calls.{Call, LoadName, AddRef, SubRef, SetOdd, StoreCode, LookWord, FindLink, LoadLink, LoadCode, TakeLink, FinishLink, PutLink, FreeSlot, ClaimRequest, PutMessage, Unconnect, SwapHead, Connect, EmptyHead, ReadNext, TurnNext, FreeRequest, StorePlace, DropPlace}
 use Rattle.sock_programs.specs.Asides.{StoreAt, id_slot, id_first, call_id}
@@ -22,7 +22,7 @@ use Rattle.sock_programs.specs.Writings.{Holder, Writing, Puts, Waits, Empties, 
 use Rattle.sock_programs.specs.Programs.{Program, Do, Say, TakeMessage, TakeHome, PutBytes, Write, Aside, Round, LAST_VERSION, LAST_GENERATION, recycle, release}
 use Rattle.sock_programs.specs.Posts.{WHOLE, post, post_with, posted, decided}
 use Rattle.sock_programs.specs.Sends.{freed, one_more, passed_telling, tell_drop, placed, dropped, link_failed, put_answered, ready_answered, block, first_put, write_link, accept}
-use Rattle.sock_programs.specs.Attempts.{name_of, claims_from, frame_of, heading_for, attempt, begin_call, claim_id, call, tried_again, retry_locked, retry, expire_outcome, expire, join}
+use Rattle.sock_programs.specs.Attempts.{claims_from, heading_for, attempt, begin_call, claim_id, call, tried_again, retry_locked, retry, expire_outcome, expire, join}
 use Rattle.sock_runs.specs.Writes.{holder_of}
 use Rattle.sock_causes.specs.Stories.{Entry, In}
 use Rattle.sock_causes.specs.Explains.{Beside, Done, ExplainsBy, IsAttemptOn, holds, step, broken_put, broken_ready}

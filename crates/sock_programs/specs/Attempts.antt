@@ -7,7 +7,7 @@ use Rattle.corr_core.specs.Word.{parts, error_of}
 use Rattle.brpc_model.specs.Frame.{Frame, frame_bytes}
 use Rattle.brpc_model.specs.Meta.{Meta}
 use Rattle.sock_model.specs.declared.chain.Heading.{Heading}
-use Rattle.sock_programs.specs.declared.task.Asked.{Asked}
+use Rattle.sock_message.specs.Asked.{Asked, name_of, frame_of, parts_of}
 use Rattle.sock_programs.specs.Calls.{LookWord, FindLink, ClaimRequest, LoadName}
 use Rattle.sock_programs.specs.Asides.{ClaimId, PutCall, MakeId, StoreCall, LoadCall, StoreAt, LoadIdWord, TakeCall, call_id, id_slot, id_first}
 use Rattle.sock_programs.specs.Heads.{First, Unlocks, Locks, Joins, Posting, WasGone, WasStale, WasCrowded, WasQueued, HasLocked, Unlocking, IsOpen, HasNext, Locking, NotThere, Has}
@@ -24,27 +24,6 @@ claims_from (suc more) q id heading bytes full accepted = Do (ClaimRequest id q)
     if found % 2 == 0 then accept id q (found / 2) heading bytes accepted else claims_from more (q + 1) id heading bytes full accepted)
 
 -- ## Attempts
-
--- the number of the name to which an attempt goes
-abbrev pub name_of : Asked → ℕ → ℕ
-name_of asked n = slice_index asked.names (if length asked.names == 1 then 0 else n % 2)
-
--- the frame of an attempt of the call with this id
-abbrev pub meta_of : Asked → ℕ → ℕ → Meta
-meta_of asked id n = record {
-  request = Some (record { service = asked.service; method = asked.method; log_id = None });
-  response = None;
-  compress_type = pos 0;
-  correlation_id = id + n + 1;
-  attachment_size = pos (length asked.attachment);
-}
-
-abbrev pub frame_of : Asked → ℕ → ℕ → List ℕ
-frame_of asked id n = frame_bytes (record { meta = meta_of asked id n; payload = asked.payload; attachment = asked.attachment })
-
--- the lengths of its parts
-abbrev pub parts_of : Asked → ℕ → ℕ → List ℕ
-parts_of asked id n = (length (frame_of asked id n) - (length asked.payload + length asked.attachment)) ∷ length asked.payload ∷ length asked.attachment ∷ []
 
 -- what stands with its message: it is put by the parts of its frame, the header with the meta before the payload and the attachment
 abbrev pub heading_for : Asked → ℕ → ℕ → Heading

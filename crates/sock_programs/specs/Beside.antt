@@ -6,7 +6,7 @@ use lib.ListN.{get_elem?}
 use Rattle.corr_core.specs.Word.{Parts, parts, made_word, posted_word, unlocked_word, free_word}
 use Rattle.corr_core.specs.declared.marks.Plan.{Plan as IdPlan}
 use Rattle.id_rule.specs.Lawful.{tag_word, id_word, call_word, at_word}
-use Rattle.sock_programs.specs.declared.task.Asked.{Asked}
+use Rattle.sock_message.specs.Asked.{Asked}
 use Rattle.sock_programs.specs.Asides.{Step, ClaimId, PutCall, MakeId, StoreCall, LoadCall, StoreAt, LoadAt, LoadIdWord, LockId, PostId, UnlockId, EndId, FreeId, TakeCall, TakeBytes, Found, Taking, Bytes, Nothing, NoMore}
 use Rattle.sock_programs.specs.Posts.{packed, advance_of}
 use Rattle.sock_programs.specs.Cores.{Calls}

@@ -15,7 +15,7 @@ use Rattle.sock_words.specs.Words.{socket_id_slot, vref_version}
 use Rattle.sock_programs.specs.Programs.{Program, Do, Say, Sent, Keep, Retries}
 use Rattle.sock_programs.specs.Heads.{Retry}
 use Rattle.sock_programs.specs.Attempts.{retry}
-use Rattle.sock_programs.specs.declared.task.Asked.{Asked}
+use Rattle.sock_message.specs.Asked.{Asked}
 use Rattle.corr_core.specs.declared.marks.Plan.{Plan as IdPlan}
 
 -- a seat: what it has still to do, and the links that it has in hand, the latest first

@@ -2,7 +2,7 @@
 use Rattle.std.specs.Prelude.{ℕ, Bool, List, Option}
 use Rattle.sock_words.specs.declared.outcome.Outcome.{Outcome}
 use Rattle.brpc_model.specs.Frame.{Frame}
-use Rattle.sock_programs.specs.declared.task.Asked.{Asked}
+use Rattle.sock_message.specs.Asked.{Asked}
 
 -- what is sought in an id slot: the range with this first version, or the one that has this version behind its first
 pub data Sought : Type 0 where

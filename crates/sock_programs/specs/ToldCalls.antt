@@ -12,12 +12,11 @@ use Rattle.brpc_model.specs.Messages.{shown_id}
 use Rattle.brpc_model.specs.Stream.{stream, Fault}
 use Rattle.sock_model.specs.Layout.{place_word}
 use Rattle.sock_model.specs.Deliveries.{place_value}
-use Rattle.sock_programs.specs.declared.task.Asked.{Asked}
+use Rattle.sock_message.specs.Asked.{Asked, name_of, frame_of}
 use Rattle.sock_programs.specs.declared.task.Op.{Op}
 use Rattle.sock_programs.specs.declared.task.Op.TheVariants as ops
 use Rattle.sock_programs.specs.declared.task.Task.{Task}
 use Rattle.sock_programs.specs.Cores.{Core}
-use Rattle.sock_programs.specs.Attempts.{name_of, frame_of}
 use Rattle.sock_programs.specs.Runs.{from_to}
 use Rattle.sock_programs.specs.Scripts.{took_at_home}
 use Rattle.sock_programs.specs.Told.{IsTask, Became, Made, OpensNone, IsNoLater, AfterHold, HasLife, EachOpened, IsFail}

@@ -3,4 +3,5 @@
 
 pub mod task;
 
-pub use task::{Asked, Op, Sizes, Task};
+pub use sock_message::Call;
+pub use task::{Op, Sizes, Task};

@@ -1,16 +1,4 @@
-use sock_message::Message;
-
-/// A call as it lies in its home: the number of its operation, the numbers of its one or two names, what is asked of whom, and how many versions its id has.
-#[derive(Drop)]
-pub struct Asked {
-    pub operation: u16,
-    pub names: [u16; 0],
-    pub service: [u8; 0],
-    pub method: [u8; 0],
-    pub payload: [u8; 0],
-    pub attachment: [u8; 0],
-    pub range: u8,
-}
+use sock_message::{Call, Message};
 
 /// An operation of a client, with numbers in place of the names and links of its script.
 #[derive(Drop)]
@@ -20,7 +8,7 @@ pub enum Op {
     /// `send`: the name's number, the message.
     Send(u16, Message),
     /// `call`: what is asked.
-    Call(Asked),
+    Call(Call),
     /// `expire`, and `join`: the number of the call's operation.
     Expire(u16),
     Join(u16),

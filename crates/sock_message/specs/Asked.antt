@@ -27,7 +27,7 @@ meta_with asked correlation_id = record {
   attachment_size = pos (length asked.attachment);
 }
 
--- the frame of an attempt of the call with this id
+-- the frame of an attempt of the call with this id, counted from 0: its correlation id is the id, the attempt's number and 1 together
 abbrev pub meta_of : Asked → ℕ → ℕ → Meta
 meta_of asked id n = meta_with asked (id + n + 1)
 

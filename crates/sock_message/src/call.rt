@@ -1,0 +1,60 @@
+ghost use Rattle.std.specs.Prelude.{◌≡◌};
+
+use io_buf::IoBuf;
+use std::marker::Model;
+
+/// A call, as its client asks for it (bRPC's bthread_id.md). It is handed from thread to thread with the lock of its id.
+/// Contracts see what is asked.
+#[derive(Drop)]
+pub struct Call {
+    /// The number of its operation in the script.
+    pub operation: u16,
+    /// The numbers of the names to which its attempts go in turn: one, or two.
+    pub names: Vec<u16>,
+    /// The service's name, at most 64 bytes.
+    pub service: Vec<u8>,
+    /// The method's name, at most 64 bytes.
+    pub method: Vec<u8>,
+    /// In blocks of 8,192 bytes from its start, as its attachment.
+    pub payload: IoBuf,
+    /// At most 65,280 bytes together with the payload.
+    pub attachment: IoBuf,
+    /// How many versions its id has: one for the whole call and one for each attempt, 2 to 8.
+    pub range: u8,
+}
+
+impl Model for Call {
+    ghost use Rattle.sock_message.specs.Asked.{Asked};
+    ghost use Rattle.sock_message.specs.Inside.{KeepsLimits, LiesInBlocks};
+
+    ghost Value = { Asked };
+
+    ghost view = { λ c. record {
+      operation = c.operation;
+      names = c.names.items;
+      service = c.service.items;
+      method = c.method.items;
+      payload = c.payload.items;
+      attachment = c.attachment.items;
+      range = c.range;
+    } };
+
+    ghost invariant = { λ c. KeepsLimits (record { operation = c.operation; names = c.names.items; service = c.service.items; method = c.method.items; payload = c.payload.items; attachment = c.attachment.items; range = c.range }) × LiesInBlocks c.payload × LiesInBlocks c.attachment };
+}
+
+impl Call {
+    ghost use Rattle.sock_message.specs.Asked.{name_of};
+    ghost use Rattle.sock_message.specs.Inside.{KeepsLimits};
+
+    /// The number of the name to which an attempt goes, which is counted from 0: of two names they take turns.
+    pub fn name(&self, attempt: u8) -> u16
+        ensures { result ≡ name_of self.now attempt }
+        ensures limits { KeepsLimits self.now }
+    {
+        if self.names.len() == 1 || attempt % 2 == 0 {
+            self.names[0]
+        } else {
+            self.names[1]
+        }
+    }
+}
