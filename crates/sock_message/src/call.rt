@@ -48,7 +48,7 @@ impl Call {
 
     /// The number of the name to which an attempt goes, which is counted from 0: of two names they take turns.
     pub fn name(&self, attempt: u8) -> u16
-        ensures { result ≡ name_of self.now attempt }
+        ensures name { result ≡ name_of self.now attempt }
         ensures limits { KeepsLimits self.now }
     {
         if self.names.len() == 1 || attempt % 2 == 0 {
