@@ -1,15 +1,13 @@
 -- The programs on calls: a call with its first attempt, a retry, `expire`, `join`.
-use Rattle.std.specs.Prelude.{ℕ, zero, suc, ◌+◌, ◌-◌, ◌*◌, ◌/◌, ◌%◌, ◌==◌, List, [], ◌∷◌, length, slice_index, slice_index_or, pos, Option, Some, None, nat_lt, false, if◌then◌else◌}
+use Rattle.std.specs.Prelude.{ℕ, zero, suc, ◌+◌, ◌-◌, ◌*◌, ◌/◌, ◌%◌, ◌==◌, List, None, false, if◌then◌else◌}
 use Rattle.sock_words.specs.Words.{socket_id_version, socket_id_slot, vref_version, at_word}
 use Rattle.sock_words.specs.declared.outcome.Outcome.{Outcome}
 use Rattle.sock_words.specs.declared.outcome.Outcome.TheVariants.{Unopened, Expired, Queued, Late, Crowded, Joined, NotBegun}
 use Rattle.corr_core.specs.Word.{parts, error_of}
-use Rattle.brpc_model.specs.Frame.{Frame, frame_bytes}
-use Rattle.brpc_model.specs.Meta.{Meta}
 use Rattle.sock_model.specs.declared.chain.Heading.{Heading}
 use Rattle.sock_message.specs.Asked.{Asked, name_of, frame_of, parts_of}
 use Rattle.sock_programs.specs.Calls.{LookWord, FindLink, ClaimRequest, LoadName}
-use Rattle.sock_programs.specs.Asides.{ClaimId, PutCall, MakeId, StoreCall, LoadCall, StoreAt, LoadIdWord, TakeCall, call_id, id_slot, id_first}
+use Rattle.sock_programs.specs.Asides.{ClaimId, PutCall, MakeId, StoreCall, LoadCall, StoreAt, TakeCall, call_id, id_slot, id_first}
 use Rattle.sock_programs.specs.Heads.{First, Unlocks, Locks, Joins, Posting, WasGone, WasStale, WasCrowded, WasQueued, HasLocked, Unlocking, IsOpen, HasNext, Locking, NotThere, Has}
 use Rattle.sock_programs.specs.Programs.{Program, Do, Say, Aside, Round, address, release}
 use Rattle.sock_programs.specs.Posts.{WHOLE, post, post_with, posted, decide, decided}

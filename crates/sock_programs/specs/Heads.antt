@@ -1,6 +1,5 @@
 -- The heads of loops on ids and at reading halves, and how each loop ends.
 use Rattle.std.specs.Prelude.{ℕ, Bool, List, Option}
-use Rattle.sock_words.specs.declared.outcome.Outcome.{Outcome}
 use Rattle.brpc_model.specs.Frame.{Frame}
 use Rattle.sock_message.specs.Asked.{Asked}
 

@@ -1,5 +1,5 @@
 -- The program of the reader of a link.
-use Rattle.std.specs.Prelude.{ℕ, ◌+◌, ◌-◌, ◌/◌, ◌%◌, ◌==◌, ◌&&◌, not, Bool, true, false, List, [], ◌∷◌, ◌++◌, length, drop, filter, nat_lt, nat_le, min, if◌then◌else◌, ℤ, pos, zero, suc, Option, Some, None}
+use Rattle.std.specs.Prelude.{ℕ, ◌+◌, ◌-◌, ◌==◌, ◌&&◌, Bool, true, false, List, [], ◌∷◌, ◌++◌, length, drop, filter, nat_lt, nat_le, min, if◌then◌else◌, ℤ, pos, zero, Option, Some, None}
 use Rattle.sock_words.specs.Words.{socket_id_slot, at_word_first, at_word_slot, at_word_link, at_word_attempt}
 use Rattle.sock_words.specs.declared.outcome.Outcome.{Outcome}
 use Rattle.sock_words.specs.declared.outcome.Outcome.TheVariants.{Answered, Peer, CallFailed}
@@ -7,12 +7,11 @@ use Rattle.corr_core.specs.Word.{parts, error_of}
 use Rattle.brpc_model.specs.Meta.{ResponseMeta}
 use Rattle.brpc_model.specs.Frame.{Frame}
 use Rattle.brpc_model.specs.Stream as streams
-use Rattle.sock_message.specs.Asked.{Asked}
 use Rattle.sock_programs.specs.Calls.{LoadOpen}
-use Rattle.sock_programs.specs.Asides.{LoadAt, TakeCall, TakeBytes, Taking, Bytes, Nothing, NoMore, AtEnd, Closed, Broken, call_id, id_slot, id_first}
-use Rattle.sock_programs.specs.Heads.{Sought, Version, Reading, Locks, Opens, Reads, Discards, Posting, HasLocked, Locking, NotThere, Has, Ended}
+use Rattle.sock_programs.specs.Asides.{LoadAt, TakeCall, TakeBytes, Taking, Bytes, Nothing, Closed, call_id, id_slot, id_first}
+use Rattle.sock_programs.specs.Heads.{Version, Reading, Locks, Opens, Reads, Discards, Posting, HasLocked, Locking, NotThere, Has, Ended}
 use Rattle.sock_programs.specs.Programs.{Program, Do, Say, Rest, Aside, Round, NO_SOCKET, address, release, set_failed}
-use Rattle.sock_programs.specs.Posts.{post_with, posted, decided, decide, end_id, has_version}
+use Rattle.sock_programs.specs.Posts.{post_with, decided, decide, end_id}
 
 -- ## Responses
 

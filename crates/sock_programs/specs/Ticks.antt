@@ -18,9 +18,8 @@ use Rattle.sock_model.specs.Messages.{Letter}
 use Rattle.sock_model.specs.Reads.{message, link_home}
 use Rattle.sock_programs.specs.Writings as heads
 use Rattle.sock_programs.specs.Programs.{Program, Do, TakeMessage, TakeHome, PutHome, PutBytes, AskReady, Write, Aside, Round}
-use Rattle.sock_message.specs.Asked.{Asked}
 use Rattle.sock_programs.specs.Asides.{Step, Found, TakeBytes, Taking, Bytes, Nothing, id_slot, id_first}
-use Rattle.sock_programs.specs.Heads.{Head, Exit, Locks, Joins, Opens, Reads, Discards}
+use Rattle.sock_programs.specs.Heads.{Head, Locks, Joins, Opens, Reads, Discards}
 use Rattle.sock_programs.specs.Posts.{is_first, is_sought}
 use Rattle.sock_programs.specs.Readers.{room_of}
 use Rattle.sock_programs.specs.Rounds.{round}
