@@ -139,7 +139,7 @@ module _ (p : Plan) (q : IdPlan) (narrow : q.slots ≤ 65536) (same : q.operatio
           (subst (λ (d : Rattle.owed_calls.specs.Owing.Duty). Rattle.owed_calls.specs.Owing.Among id n (Rattle.owed_calls.specs.Owing.duty_tokens d)) (sym is) (inl (refl, refl))),
     ))
 
-    takes_some : (k room : ℕ) (next : Taking → Program) → OwesOn life u (Aside (TakeBytes k room) next) → (found : Taking) → (found ≡ Closed → Failed life c k) → Goes (TakeBytes k room) found next
+    takes_some : (k room : ℕ) (next : Taking → Program) → OwesOn life u (Aside (TakeBytes k room) next) → (found : Taking) → (found ≡ Closed → u.link ≡ k ∷ [] → Failed life c k) → Goes (TakeBytes k room) found next
     takes_some k room next g found closed = by_move (g.1 found tt).0 (g.1 found tt).1 (g.1 found tt).2
       where
         by_move : (v : Owing) → Taken k found u v → OwesOn life v (next found) → Goes (TakeBytes k room) found next
@@ -148,7 +148,7 @@ module _ (p : Plan) (q : IdPlan) (narrow : q.slots ≤ 65536) (same : q.operatio
             (follows q life calls c us sound i seat u at_seat at (next found) seat.hand c.words c.homes c.calls v
             (subst (λ x. OwingLaw q life calls (record { words = c.words; homes = c.homes; seats = c.seats; outcomes = c.outcomes; calls = c.calls }) (set us i x)) (sym e)
             (marked q life calls c us i u sound.law at c.words c.homes c.seats c.outcomes (Rattle.owed_calls.specs.Owing.with_dead u)
-            (dead_marks q life calls c us i u sound.law at c.words c.homes c.seats c.outcomes (λ l f. f) (λ r heading bytes x some_. sound.law.letters r heading bytes x some_) k linked (closed is)))) go few)
+            (dead_marks q life calls c us i u sound.law at c.words c.homes c.seats c.outcomes (λ l f. f) (λ r heading bytes x some_. sound.law.letters r heading bytes x some_) k linked (closed is linked)))) go few)
 
     unlocks_some : (s from : ℕ) (advance : Bool) (next : ℕ → Program) → OwesOn life u (Aside (UnlockId s from advance) next) → MayId p q w (UnlockId s from advance) → FindsId p q w (UnlockId s from advance) (get_or c.calls.words (ids.id_word s) 0)
         → Goes (UnlockId s from advance) (get_or c.calls.words (ids.id_word s) 0) next

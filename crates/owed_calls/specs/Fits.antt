@@ -37,12 +37,12 @@ abbrev pub HoldsNoMessage : List Home → Type 0
 HoldsNoMessage hand = (heading : Heading) (bytes : List ℕ) → first_of hand ≡ core.some (Message heading bytes) → ⊥
 
 module _ (p : Plan) (q : IdPlan) (life : ℕ → Option ℕ) (calls : List ℕ) (c : Core) (seat : SeatState) (u : Owing) (answer : Answer) where
-  -- the at word is one of the script's calls, and names no other id; a link answers that it is closed only where its life isn't live
+  -- the at word is one of the script's calls, and names no other id; a link answers its reader that it is closed only where its life isn't live
   abbrev pub StepFits : Program → Type 0
   StepFits (Do call next) = CallFits p life c u call × HoldsNoMessage seat.hand
   StepFits (PutHome k n after) = HoldsNoMessage seat.hand
   StepFits (Aside (StoreAt o w) next) = InList o calls × ((id n k : ℕ) → u.duty ≡ Linked id n k → at_of q c o ≢ 0 → call_id (at_word_slot (at_of q c o)) (at_word_first (at_of q c o)) ≡ id)
-  StepFits (Aside (TakeBytes k room) next) = taken answer ≡ core.some Closed → FailedIn life c.words k
+  StepFits (Aside (TakeBytes k room) next) = taken answer ≡ core.some Closed → u.link ≡ k ∷ [] → FailedIn life c.words k
   StepFits other = Unit {0}
 
 -- at a tick of a seat with these marks

@@ -25,10 +25,10 @@ abbrev pub life_of : Plan → List ℕ → List ℕ → ℕ → Option ℕ
 life_of p os ws k = elim (get_elem? os k) as (λ o. Option ℕ) [ core.none ↦ None | core.some o ↦ id_of (slice_index ws (open_word p o)) ]
 
 module _ (q : IdPlan) (life : ℕ → Option ℕ) (calls : List ℕ) (c : Core) where
-  -- the at word of an operation names no other id than its call's, and a link answers that it is closed only where its life is past
+  -- the at word of an operation names no other id than its call's, and a link answers its reader that it is closed only where its life is past
   abbrev pub OthersFit : Owing → Answer → Program → Type 0
   OthersFit u answer (Aside (StoreAt o w) next) = InList o calls × ((id n k : ℕ) → u.duty ≡ Linked id n k → at_of q c o ≢ 0 → call_id (at_word_slot (at_of q c o)) (at_word_first (at_of q c o)) ≡ id)
-  OthersFit u answer (Aside (TakeBytes k room) next) = taken answer ≡ core.some Closed → FailedIn life c.words k
+  OthersFit u answer (Aside (TakeBytes k room) next) = taken answer ≡ core.some Closed → u.link ≡ k ∷ [] → FailedIn life c.words k
   OthersFit u answer other = Unit {0}
 
   abbrev pub IsSaying : Moment → Type 0
