@@ -29,3 +29,6 @@ pub mod Beginning
 pub mod Ended
 pub mod WholeOwing
 pub mod Owed
+pub mod EndsStill
+pub mod OpensStored
+pub mod WordsGiven
