@@ -32,3 +32,5 @@ pub mod Owed
 pub mod EndsStill
 pub mod OpensStored
 pub mod WordsGiven
+pub mod ClosedPast
+pub mod Saying

@@ -9,7 +9,7 @@ use lib.ListN.{get_elem?}
 use Rattle.atomic_table.proofs.Lists.{at_set}
 use Rattle.sock_words.specs.declared.plain.Plan.{Plan}
 use Rattle.brpc_model.specs.Items.{Item, Open, is_open}
-use Rattle.brpc_model.specs.Operations.{Operation, operations, clients}
+use Rattle.brpc_model.specs.Operations.{operations}
 use Rattle.brpc_model.specs.Places.{names}
 use Rattle.sock_model.specs.Layout.{open_word}
 use Rattle.sock_programs.specs.declared.task.Op.{Op}
@@ -23,7 +23,7 @@ use Rattle.sock_programs.specs.Scripts.{all_tasks}
 use Rattle.sock_runs.proofs.Opening.{is_opening, opens_in}
 use Rattle.report_fits.proofs.Lists.{Has, filter_map_has, has_from, some_is}
 use Rattle.report_fits.proofs.Numbering.{is_numbered}
-use Rattle.report_fits.proofs.TaskLemmas.{asked_at, operation_task}
+use Rattle.report_fits.proofs.TaskLemmas.{numbers_at, asked_at, operation_task}
 
 -- the two ways to look up a place
 pub at_place : {A : Type 0} (l : List A) (i : ℕ) (a : A) → slice_get l i ≡ Some a → get_elem? l i ≡ some a
@@ -67,10 +67,9 @@ opener_of script n o at =
     let is = of_open (is_open w.0.op.item) w.0.number o w.2 in
     let of_number = is_numbered 0 0 (operations script) w.1.0 w.0 w.1.1 in
     let place : w.1.0 ≡ o = (let number = of_number.number in let same = is.1 in omega (arith, number, same)) in
-    let q : Operation = w.0.op in
     let there : slice_get (operations script) o ≡ Some w.0.op = ap (slice_get (operations script)) (sym place) ∙ of_number.op in
     let a = asked_at script o w.0.op there in
-    let opening : is_opening a.0 ≡ true = asks_open (numbered script) (names script) _ w.0.op.item a.0 is.0 a.1 in
+    let opening : is_opening a.0 ≡ true = asks_open (numbered script) (names script) (numbers_at script o w.0.op) w.0.op.item a.0 is.0 a.1 in
     let t = operation_task script [] o w.0.op a.0 there a.1 in
     let h = has_from t.0 (record { number = o; op = a.0 }) t.2 in
     record { place = w.0.op.client; tasks = t.0; there = at_place (all_tasks script) w.0.op.client t.0 t.1; opening = has_open t.0 (record { number = o; op = a.0 }) opening h.0 h.1 }

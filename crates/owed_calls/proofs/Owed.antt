@@ -53,13 +53,8 @@ pub record IsKnown (script : List Item) : Type 0 where
   pub in_script : (k o : ℕ) → get_elem? (opens script) k ≡ some o → o < (plan_of script).operations
   pub unused : ids.Unused (id_plan_of script) (opening_calls (id_plan_of script) (plan_of script).links).words
 
--- of a run: at each tick the ids are sound, at words and closed links are as they should be, each seat is at rest or waits at the end while the run is ending, and a client at
--- rest has made its `open`s
-pub record IsSaid (script : List Item) (turns : List Turn) (core : Core) (is : IsRunWithCalls script turns core) : Type 0 where
-  pub says_setup : AreSaying (plan_of script) (id_plan_of script) (life_of (plan_of script) (opens script) core.words) (calls script) (opened script) (replicate is.setup (quiet 0))
-  pub says_played : AreSaying (plan_of script) (id_plan_of script) (life_of (plan_of script) (opens script) core.words) (calls script) (set_up script is.setup) (is.scheduled ++ is.later)
-  pub says_closing : AreSaying (plan_of script) (id_plan_of script) (life_of (plan_of script) (opens script) core.words) (calls script) (ending script (played script is.setup (is.scheduled ++ is.later))) (replicate is.last (quiet 0))
-  pub says_final : AreSaying (plan_of script) (id_plan_of script) (life_of (plan_of script) (opens script) core.words) (calls script) is.ended is.final
+-- of its end: the ids are sound, each seat is at rest or waits while the run is ending, and a client at rest has made its `open`s
+pub record IsAtEnd (script : List Item) (core : Core) : Type 0 where
   pub ids_end : (ws : List IdView) × SoundIds (plan_of script) (id_plan_of script) core ws
   pub still : (i : ℕ) → i < length core.seats → runs.IsAtRest core i ⊎ ((m : Moment) × (m.seat ≡ i) × IsPrompt m × (waits (plan_of script) core m ≡ true))
   pub flag : core.calls.ending ≡ true
@@ -72,43 +67,47 @@ tasks_own script client (suc n) = (script_owns script client, tasks_own script (
 some_place : (l : List ℕ) (k : ℕ) (o : ℕ) → get_elem? l k ≡ some o → k < length l
 some_place l k o at = place_inside l k o at
 
+-- how many seats there are
+pub opened_seats : (script : List Item) → length (all_tasks script) ≤ 32 → length (opened script).seats ≡ 32 + length (opens script)
+opened_seats script few = let first : List Program = programs (sizes_of (plan_of script) (id_plan_of script)) (all_tasks script) in let l : length first ≡ length (all_tasks script) = length-map (all_tasks script) (client_from (sizes_of (plan_of script) (id_plan_of script)) []) in
+    let made : Program → SeatState = λ program. record { program = next_step (resolved [] program); hand = [] } in let s = length-map (all_programs first (readers_from (calls script) 0 (opens script))) made in
+    let a = length-append first (replicate (32 - length first) Rest ++ readers_from (calls script) 0 (opens script)) in let b = length-append (replicate (32 - length first) Rest) (readers_from (calls script) 0 (opens script)) in
+    let r = length-replicate (32 - length first) Rest in let m = many_readers 0 (opens script) in omega (arith, s, a, b, r, l, m, few)
+  where
+    many_readers : (k : ℕ) (l : List ℕ) → length (readers_from (calls script) k l) ≡ length l
+    many_readers k [] = refl
+    many_readers k (o ∷ l) = let e = many_readers (k + 1) l in omega (arith, e)
+
 module _ (script : List Item) (are : AreTasks (plan_of script) (all_tasks script)) (vs : List View) (begins : Begins script vs) (go : RetriesGo (plan_of script)) (turns : List Turn) (core : Core) (is : IsRunWithCalls script turns core)
-    (fitting : AreFittingIn script turns core is) (known : IsKnown script) (said : IsSaid script turns core is) where
-  abbrev p : Plan
+    (fitting : AreFittingIn script turns core is) (known : IsKnown script) (end_ : IsAtEnd script core) where
+  abbrev pub p : Plan
   p = plan_of script
 
-  abbrev q : IdPlan
+  abbrev pub q : IdPlan
   q = id_plan_of script
 
-  abbrev os : List ℕ
+  abbrev pub os : List ℕ
   os = opens script
 
-  abbrev m₁ : List Moment
+  abbrev pub m₁ : List Moment
   m₁ = replicate is.setup (quiet 0)
 
-  abbrev m₃ : List Moment
+  abbrev pub m₃ : List Moment
   m₃ = replicate is.last (quiet 0)
 
-  abbrev c₅ : Core
+  abbrev pub c₅ : Core
   c₅ = is_ending (run (plan_of script) (ending script (played script is.setup (is.scheduled ++ is.later))) (replicate is.last (quiet 0)))
 
-  abbrev c₆ : Core
+  abbrev pub c₆ : Core
   c₆ = run (plan_of script) c₅ is.final
 
-  core_is : core ≡ c₆
+  pub core_is : core ≡ c₆
   core_is = is.is_end ∙ ap (λ d. run (plan_of script) d is.final) is.is_ended
 
-  many_seats : length (opened script).seats ≡ 32 + length (opens script)
-  many_seats = let first : List Program = programs (sizes_of (plan_of script) (id_plan_of script)) (all_tasks script) in let l : length first ≡ length (all_tasks script) = length-map (all_tasks script) (client_from (sizes_of (plan_of script) (id_plan_of script)) []) in
-      let made : Program → SeatState = λ program. record { program = next_step (resolved [] program); hand = [] } in let s = length-map (all_programs first (readers_from (calls script) 0 (opens script))) made in
-      let a = length-append first (replicate (32 - length first) Rest ++ readers_from (calls script) 0 (opens script)) in let b = length-append (replicate (32 - length first) Rest) (readers_from (calls script) 0 (opens script)) in
-      let r = length-replicate (32 - length first) Rest in let m = many_readers 0 (opens script) in omega (arith, s, a, b, r, l, m, known.few)
-    where
-      many_readers : (k : ℕ) (l : List ℕ) → length (readers_from (calls script) k l) ≡ length l
-      many_readers k [] = refl
-      many_readers k (o ∷ l) = let e = many_readers (k + 1) l in omega (arith, e)
+  pub many_seats : length (opened script).seats ≡ 32 + length (opens script)
+  many_seats = opened_seats script known.few
 
-  parts : Parts p q known.narrow refl (calls script) os known.in_script go (IsListed script) (opened script) vs m₁ (is.scheduled ++ is.later) m₃ is.final
+  pub parts : Parts p q known.narrow refl (calls script) os known.in_script go (IsListed script) (opened script) vs m₁ (is.scheduled ++ is.later) m₃ is.final
   parts = record {
     s₀ = begins.sound;
     s₁ = set_up_sound script are vs begins go turns core is fitting;
@@ -130,17 +129,17 @@ module _ (script : List Item) (are : AreTasks (plan_of script) (all_tasks script
     many = many_seats;
   }
 
-  abbrev v₆ : List View
+  abbrev pub v₆ : List View
   v₆ = views_along (plan_of script) c₅ (views_closed script turns core is vs) is.final
 
-  sound₆ : Sound p c₆ v₆
+  pub sound₆ : Sound p c₆ v₆
   sound₆ = run_sound p go c₅ (views_closed script turns core is vs) is.final parts.s₅ parts.a₄ parts.f₄
 
-  ahead₆ : IsAhead c₆
+  pub ahead₆ : IsAhead c₆
   ahead₆ = subst IsAhead core_is (ended_ahead script are vs begins go turns core is fitting)
 
-  still₆ : (i : ℕ) → i < length c₆.seats → runs.IsAtRest c₆ i ⊎ ((m : Moment) × (m.seat ≡ i) × IsPrompt m × (waits p c₆ m ≡ true))
-  still₆ = subst (λ d. (i : ℕ) → i < length d.seats → runs.IsAtRest d i ⊎ ((m : Moment) × (m.seat ≡ i) × IsPrompt m × (waits (plan_of script) d m ≡ true))) core_is said.still
+  pub still₆ : (i : ℕ) → i < length c₆.seats → runs.IsAtRest c₆ i ⊎ ((m : Moment) × (m.seat ≡ i) × IsPrompt m × (waits p c₆ m ≡ true))
+  still₆ = subst (λ d. (i : ℕ) → i < length d.seats → runs.IsAtRest d i ⊎ ((m : Moment) × (m.seat ≡ i) × IsPrompt m × (waits (plan_of script) d m ≡ true))) core_is end_.still
 
   -- seat 0 is at rest before the ending
   rest₀ : (seat : SeatState) → get_elem? (played script is.setup (is.scheduled ++ is.later)).seats 0 ≡ some seat → seat.program ≡ Rest
@@ -165,7 +164,7 @@ module _ (script : List Item) (are : AreTasks (plan_of script) (all_tasks script
       by_open none at e = absurd (let z : None ≡ Some s = e in cc)
       by_open (some o) at e = (o, at, e)
 
-  slots₆ : (k s : ℕ) → life_of p os c₆.words k ≡ Some s → socket_id_slot s < p.slots
+  pub slots₆ : (k s : ℕ) → life_of p os c₆.words k ≡ Some s → socket_id_slot s < p.slots
   slots₆ k s lives = let x = opened_at k s lives in let named = id_is (get_or c₆.words (open_word p x.0) 0) s x.2 in let is_word = named.0 in
       let n = (sound₆.lawful.references.named.opens x.0 (known.in_script k x.0 x.1) named.1 (λ z. omega (arith, is_word, z))).0 in
       subst (λ y. socket_id_slot y < (plan_of script).slots) (let z : s + 1 - 1 ≡ s = omega arith in z) (subst (λ y. socket_id_slot (y - 1) < (plan_of script).slots) is_word n)
@@ -173,10 +172,10 @@ module _ (script : List Item) (are : AreTasks (plan_of script) (all_tasks script
   alive : (k s : ℕ) → life_of p os c₆.words k ≡ Some s → k < length os
   alive k s lives = let x = opened_at k s lives in some_place os k x.0 x.1
 
-  links₆ : (k s : ℕ) → life_of p os c₆.words k ≡ Some s → k < 65535
+  pub links₆ : (k s : ℕ) → life_of p os c₆.words k ≡ Some s → k < 65535
   links₆ k s lives = let a = alive k s lives in let few = sound₆.limits.links in let many = known.as_many in omega (arith, a, few, many)
 
-  reach₆ : Reaches p q known.narrow refl (calls script) os c₆.words known.in_script slots₆ links₆ c₆ v₆
+  pub reach₆ : Reaches p q known.narrow refl (calls script) os c₆.words known.in_script slots₆ links₆ c₆ v₆
   reach₆ = record { stays = λ o inside some_. refl; given = links_stand p os c₆ v₆ sound₆ linked₆ none_stores }
 
   begun : (us : List Owing) × SoundOwing q (life_of p os c₆.words) (calls script) (opened script) us
@@ -189,34 +188,32 @@ module _ (script : List Item) (are : AreTasks (plan_of script) (all_tasks script
       some_first [] low = absurd (let z : ⊥ = omega (arith, low) in z)
       some_first (x ∷ xs) low = (x, refl)
 
-  -- of the words at the end
-  said_by : (c : Core) (ms : List Moment) → AreSaying p q (life_of p os core.words) (calls script) c ms → AreSaying p q (life_of p os c₆.words) (calls script) c ms
-  said_by c ms says = subst (λ (d : Core). AreSaying (plan_of script) (id_plan_of script) (life_of (plan_of script) (opens script) d.words) (calls script) c ms) core_is says
+  pub ids₆ : (ws : List IdView) × SoundIds p q c₆ ws
+  ids₆ = subst (λ d. (ws : List IdView) × SoundIds (plan_of script) (id_plan_of script) d ws) core_is end_.ids_end
 
-  owed₆ : (us : List Owing) × SoundOwing q (life_of p os c₆.words) (calls script) c₆ us
-  owed₆ = owed_at_end p q known.narrow refl (calls script) os known.in_script go (IsListed script) (opened script) vs m₁ (is.scheduled ++ is.later) m₃ is.final parts slots₆ links₆ reach₆
-      (said_by (opened script) m₁ said.says_setup) (said_by (set_up script is.setup) (is.scheduled ++ is.later) said.says_played) (said_by (ending script (played script is.setup (is.scheduled ++ is.later))) m₃ said.says_closing)
-      (said_by c₅ is.final (subst (λ d. AreSaying (plan_of script) (id_plan_of script) (life_of (plan_of script) (opens script) core.words) (calls script) d is.final) is.is_ended said.says_final))
-      first_seat.0 first_seat.1 (rest₀ first_seat.0 first_seat.1) begun.0 begun.1
+  pub flag₆ : c₆.calls.ending ≡ true
+  flag₆ = ap (λ (d : Core). d.calls.ending) (sym core_is) ∙ end_.flag
 
-  ids₆ : (ws : List IdView) × SoundIds p q c₆ ws
-  ids₆ = subst (λ d. (ws : List IdView) × SoundIds (plan_of script) (id_plan_of script) d ws) core_is said.ids_end
+  pub stored₆ : (n o : ℕ) → get_elem? os n ≡ some o → ((i : ℕ) → i < 32 → i < length c₆.seats → settled.IsAtRest c₆ i) → get_or c₆.words (open_word p o) 0 ≢ 0
+  stored₆ = subst (λ d. (n o : ℕ) → get_elem? (opens script) n ≡ some o → ((i : ℕ) → i < 32 → i < length d.seats → settled.IsAtRest d i) → get_or d.words (open_word (plan_of script) o) 0 ≢ 0) core_is end_.stored
 
-  flag₆ : c₆.calls.ending ≡ true
-  flag₆ = ap (λ (d : Core). d.calls.ending) (sym core_is) ∙ said.flag
+  -- where at each tick it is said what those who owe rely on
+  module _ (says₁ : AreSaying p q (life_of p os c₆.words) (calls script) (opened script) m₁) (says₂ : AreSaying p q (life_of p os c₆.words) (calls script) (set_up script is.setup) (is.scheduled ++ is.later))
+      (says₃ : AreSaying p q (life_of p os c₆.words) (calls script) (ending script (played script is.setup (is.scheduled ++ is.later))) m₃) (says₄ : AreSaying p q (life_of p os c₆.words) (calls script) c₅ is.final) where
+    pub owed₆ : (us : List Owing) × SoundOwing q (life_of p os c₆.words) (calls script) c₆ us
+    owed₆ = owed_at_end p q known.narrow refl (calls script) os known.in_script go (IsListed script) (opened script) vs m₁ (is.scheduled ++ is.later) m₃ is.final parts slots₆ links₆ reach₆
+        says₁ says₂ says₃ says₄
+        first_seat.0 first_seat.1 (rest₀ first_seat.0 first_seat.1) begun.0 begun.1
 
-  stored₆ : (n o : ℕ) → get_elem? os n ≡ some o → ((i : ℕ) → i < 32 → i < length c₆.seats → settled.IsAtRest c₆ i) → get_or c₆.words (open_word p o) 0 ≢ 0
-  stored₆ = subst (λ d. (n o : ℕ) → get_elem? (opens script) n ≡ some o → ((i : ℕ) → i < 32 → i < length d.seats → settled.IsAtRest d i) → get_or d.words (open_word (plan_of script) o) 0 ≢ 0) core_is said.stored
+    -- who owes a call ends it
+    pub is_owed : IsOwed script turns core is
+    is_owed = record {
+      after = subst runs.IsSettled (sym core_is) (is_settled p q (calls script) os known.in_script c₆ v₆ sound₆ ahead₆ flag₆ still₆ owed₆.0 owed₆.1 ids₆.0 ids₆.1 readers_end many_end stored₆);
+      past = λ o n at. subst (λ d. IsPast (plan_of script) d o) (sym core_is) (lives_past p q (calls script) os known.in_script c₆ v₆ sound₆ ahead₆ flag₆ still₆ owed₆.0 owed₆.1 ids₆.0 ids₆.1 readers_end many_end stored₆ o n at);
+    }
+      where
+        readers_end : (n o : ℕ) → get_elem? os n ≡ some o → AtReader p (calls script) (32 + n) n o c₆
+        readers_end = readers₆ p q known.narrow refl (calls script) os known.in_script go (IsListed script) (opened script) vs m₁ (is.scheduled ++ is.later) m₃ is.final parts
 
-  -- who owes a call ends it
-  pub is_owed : IsOwed script turns core is
-  is_owed = record {
-    after = subst runs.IsSettled (sym core_is) (is_settled p q (calls script) os known.in_script c₆ v₆ sound₆ ahead₆ flag₆ still₆ owed₆.0 owed₆.1 ids₆.0 ids₆.1 readers_end many_end stored₆);
-    past = λ o n at. subst (λ d. IsPast (plan_of script) d o) (sym core_is) (lives_past p q (calls script) os known.in_script c₆ v₆ sound₆ ahead₆ flag₆ still₆ owed₆.0 owed₆.1 ids₆.0 ids₆.1 readers_end many_end stored₆ o n at);
-  }
-    where
-      readers_end : (n o : ℕ) → get_elem? os n ≡ some o → AtReader p (calls script) (32 + n) n o c₆
-      readers_end = readers₆ p q known.narrow refl (calls script) os known.in_script go (IsListed script) (opened script) vs m₁ (is.scheduled ++ is.later) m₃ is.final parts
-
-      many_end : length c₆.seats ≡ 32 + length os
-      many_end = many₆ p q known.narrow refl (calls script) os known.in_script go (IsListed script) (opened script) vs m₁ (is.scheduled ++ is.later) m₃ is.final parts
+        many_end : length c₆.seats ≡ 32 + length os
+        many_end = many₆ p q known.narrow refl (calls script) os known.in_script go (IsListed script) (opened script) vs m₁ (is.scheduled ++ is.later) m₃ is.final parts

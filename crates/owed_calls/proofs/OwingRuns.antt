@@ -49,7 +49,7 @@ at_some [] k low = absurd (let z : ⊥ = omega (arith, low) in z)
 at_some (x ∷ xs) zero low = (x, refl)
 at_some (x ∷ xs) (suc k) low = at_some xs k (omega (arith, low))
 
-same_first : (program : Program) → goes.first_of program ≡ first_step program
+pub same_first : (program : Program) → goes.first_of program ≡ first_step program
 same_first (Write w after) = refl
 same_first (Round head next) = refl
 same_first (Do call next) = refl
@@ -83,7 +83,7 @@ module _ (p : Plan) (q : IdPlan) (narrow : q.slots ≤ 65536) (same : q.operatio
   abbrev life : ℕ → Option ℕ
   life = life_of p os final
 
-  life_is : (k o : ℕ) → get_elem? os k ≡ some o → life k ≡ id_of (get_or final (open_word p o) 0)
+  pub life_is : (k o : ℕ) → get_elem? os k ≡ some o → life k ≡ id_of (get_or final (open_word p o) 0)
   life_is k o at = ap (λ x. elim x as (λ x. Option ℕ) [ none ↦ None | some o ↦ id_of (get_or final (open_word p o) 0) ]) at
 
   -- what this core says of the end of the run: words of `open`s stay, and each life has the link that it was given
@@ -97,7 +97,7 @@ module _ (p : Plan) (q : IdPlan) (narrow : q.slots ≤ 65536) (same : q.operatio
   module _ (c : Core) (vs : List View) (sound : Sound p c vs) (reach : Reaches c vs) (readers : AllReaders c) (many : length c.seats ≡ 32 + length os) (us : List Owing) (owing : SoundOwing q life calls c us)
       (i : ℕ) (seat : SeatState) (u : Owing) (v : View) (at_seat : get_elem? c.seats i ≡ some seat) (at : get_elem? us i ≡ some u) (at_view : get_elem? vs i ≡ some v) where
     -- the `open` of the link of a reader, which is at this seat
-    own_open : (k : ℕ) (ks : List ℕ) → u.link ≡ k ∷ ks → (o : ℕ) × (get_elem? os k ≡ some o) × AtReader p calls i k o c
+    pub own_open : (k : ℕ) (ks : List ℕ) → u.link ≡ k ∷ ks → (o : ℕ) × (get_elem? os k ≡ some o) × AtReader p calls i k o c
     own_open k ks linked = let j = owing.law.tied i k ks u at linked in let o = at_some os k (omega (arith, many, j, place_inside c.seats i seat at_seat)) in
         (o.0, o.1, subst (λ x. AtReader p calls x k o.0 c) (sym j) (readers k o.0 o.1))
 

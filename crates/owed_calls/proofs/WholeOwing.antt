@@ -132,32 +132,32 @@ module _ (p : Plan) (q : IdPlan) (narrow : q.slots ≤ 65536) (same : q.operatio
 
   module _ (parts : Parts) where
     -- the readers at each part
-    readers₁ : (n o : ℕ) → get_elem? os n ≡ some o → AtReader p calls (32 + n) n o c₁
+    pub readers₁ : (n o : ℕ) → get_elem? os n ≡ some o → AtReader p calls (32 + n) n o c₁
     readers₁ n o at = run_reader p calls (32 + n) n o (in_os n o at) go c₀ v₀ m₁ parts.s₀ parts.a₁ parts.f₁ (parts.readers n o at)
 
-    readers₂ : (n o : ℕ) → get_elem? os n ≡ some o → AtReader p calls (32 + n) n o c₂
+    pub readers₂ : (n o : ℕ) → get_elem? os n ≡ some o → AtReader p calls (32 + n) n o c₂
     readers₂ n o at = run_reader p calls (32 + n) n o (in_os n o at) go c₁ v₁ m₂ parts.s₁ parts.a₂ parts.f₂ (readers₁ n o at)
 
-    readers₃ : (n o : ℕ) → get_elem? os n ≡ some o → AtReader p calls (32 + n) n o c₃
+    pub readers₃ : (n o : ℕ) → get_elem? os n ≡ some o → AtReader p calls (32 + n) n o c₃
     readers₃ n o at seat there = ⊎_elim (λ a. absurd (let place = a.0 in let z : ⊥ = omega (arith, place) in z)) (λ a. readers₂ n o at seat a.1)
         (at_set c₂.seats 0 (32 + n) (record { program = next_step (resolved (waiting_at c₂.calls.waiting 0) (ending_of os)); hand = [] }) seat there)
 
-    readers₅ : (n o : ℕ) → get_elem? os n ≡ some o → AtReader p calls (32 + n) n o c₅
+    pub readers₅ : (n o : ℕ) → get_elem? os n ≡ some o → AtReader p calls (32 + n) n o c₅
     readers₅ n o at = run_reader p calls (32 + n) n o (in_os n o at) go c₃ v₂ m₃ parts.s₃ parts.a₃ parts.f₃ (readers₃ n o at)
 
     pub readers₆ : (n o : ℕ) → get_elem? os n ≡ some o → AtReader p calls (32 + n) n o c₆
     readers₆ n o at = run_reader p calls (32 + n) n o (in_os n o at) go c₅ v₅ m₄ parts.s₅ parts.a₄ parts.f₄ (readers₅ n o at)
 
-    many₁ : length c₁.seats ≡ 32 + length os
+    pub many₁ : length c₁.seats ≡ 32 + length os
     many₁ = run_seats p c₀ m₁ ∙ parts.many
 
     pub many₂ : length c₂.seats ≡ 32 + length os
     many₂ = run_seats p c₁ m₂ ∙ many₁
 
-    many₃ : length c₃.seats ≡ 32 + length os
+    pub many₃ : length c₃.seats ≡ 32 + length os
     many₃ = length-set c₂.seats 0 (record { program = next_step (resolved (waiting_at c₂.calls.waiting 0) (ending_of os)); hand = [] }) ∙ many₂
 
-    many₅ : length c₅.seats ≡ 32 + length os
+    pub many₅ : length c₅.seats ≡ 32 + length os
     many₅ = run_seats p c₃ m₃ ∙ many₃
 
     pub many₆ : length c₆.seats ≡ 32 + length os
@@ -169,23 +169,23 @@ module _ (p : Plan) (q : IdPlan) (narrow : q.slots ≤ 65536) (same : q.operatio
         (linked_ending p (OpensLink os) os c₂ v₂ (run_linked p go (OpensLink os) Q c₁ v₁ m₂ parts.s₁ parts.a₂ parts.f₂ parts.r₁ (run_linked p go (OpensLink os) Q c₀ v₀ m₁ parts.s₀ parts.a₁ parts.f₁ parts.r₀ l)) rests)))
 
     module _ (slots : (k s : ℕ) → life_of p os c₆.words k ≡ Some s → socket_id_slot s < p.slots) (links : (k s : ℕ) → life_of p os c₆.words k ≡ Some s → k < 65535) where
-      abbrev Reach : Core → List View → Type 0
+      abbrev pub Reach : Core → List View → Type 0
       Reach c vs = Reaches p q narrow same calls os c₆.words in_os slots links c vs
 
       module _ (reach : Reaches p q narrow same calls os c₆.words in_os slots links c₆ v₆) where
-        reach₅ : Reach c₅ v₅
+        pub reach₅ : Reach c₅ v₅
         reach₅ = reach_back p q narrow same calls os c₆.words in_os slots links go Q c₅ v₅ m₄ parts.s₅ parts.a₄ parts.f₄ parts.r₅ reach
 
-        reach₄ : Reach (run p c₃ m₃) v₅
+        pub reach₄ : Reach (run p c₃ m₃) v₅
         reach₄ = record { stays = reach₅.stays; given = reach₅.given }
 
-        reach₃ : Reach c₃ v₂
+        pub reach₃ : Reach c₃ v₂
         reach₃ = reach_back p q narrow same calls os c₆.words in_os slots links go Q c₃ v₂ m₃ parts.s₃ parts.a₃ parts.f₃ parts.r₃ reach₄
 
-        reach₂ : Reach c₂ v₂
+        pub reach₂ : Reach c₂ v₂
         reach₂ = record { stays = reach₃.stays; given = reach₃.given }
 
-        reach₁ : Reach c₁ v₁
+        pub reach₁ : Reach c₁ v₁
         reach₁ = reach_back p q narrow same calls os c₆.words in_os slots links go Q c₁ v₁ m₂ parts.s₁ parts.a₂ parts.f₂ parts.r₁ reach₂
 
         -- what is owed at the end

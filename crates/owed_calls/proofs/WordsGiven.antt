@@ -26,7 +26,7 @@ use Rattle.sock_model.specs.References.{slot_facts}
 use Rattle.corr_core.specs.declared.marks.Plan.{Plan as IdPlan}
 use Rattle.slot_laws.proofs.Sums.{about-here}
 use Rattle.slot_laws.proofs.Numbers.{pair-same}
-use Rattle.sock_steps.proofs.Places.{counts}
+use Rattle.sock_steps.proofs.Places.{counts, own_count}
 use Rattle.sock_steps.proofs.Quiet.{either_way}
 use Rattle.sock_programs.specs.declared.task.Op.{Op}
 use Rattle.sock_programs.specs.declared.task.Op.TheVariants as ops
@@ -62,24 +62,41 @@ use Rattle.sock_runs.proofs.Ticks.{sound_ticks}
 
 -- ## Programs
 
--- in the word of an `open` the program stores each life that it makes, at once, and else only that there is none
+-- in the word of an `open` the program stores each life that it makes, at once, and else only that there is none; here it has just made this life of this link
+abbrev pub NamesBehind : (ℕ → ℕ → Type 0) → Option (ℕ × ℕ) → Program → Type 0
+NamesBehind own none (Do (GiveBirth i k) next) = (found : ℕ) → NamesBehind own (some (k, socket_id (vref_version found) i)) (next found)
+NamesBehind own none (Do (StoreOpen o w) next) = (w ≡ NO_SOCKET) × ((found : ℕ) → NamesBehind own none (next found))
+NamesBehind own none (Do call next) = (found : ℕ) → NamesBehind own none (next found)
+NamesBehind own none (Say o outcome next) = NamesBehind own none next
+NamesBehind own none (Sent o next) = NamesBehind own none next
+NamesBehind own none Rest = Unit {0}
+NamesBehind own none (TakeMessage k next) = (heading : Heading) (bytes : List ℕ) → NamesBehind own none (next heading bytes)
+NamesBehind own none (TakeHome k next) = (places : ℕ) → NamesBehind own none (next places)
+NamesBehind own none (PutHome k n after) = NamesBehind own none after
+NamesBehind own none (PutBytes k asked bytes next) = (answer : Put) → NamesBehind own none (next answer)
+NamesBehind own none (AskReady k next) = (answer : Ready) → NamesBehind own none (next answer)
+NamesBehind own none (Write w after) = NamesBehind own none after
+NamesBehind own none (Aside step next) = (found : Found step) → NamesBehind own none (next found)
+NamesBehind own none (Round head next) = (exit : Exit head) → NamesBehind own none (next exit)
+NamesBehind own none (Keep r next) = NamesBehind own none next
+NamesBehind own none (Retries requests after) = NamesBehind own none after
+NamesBehind own (some x) (Do (StoreOpen o w) next) = own x.0 o × (w ≡ x.1 + 1) × ((found : ℕ) → NamesBehind own none (next found))
+NamesBehind own (some x) other = ⊥
+
 abbrev pub Names : (ℕ → ℕ → Type 0) → Program → Type 0
-Names own (Do (GiveBirth i k) next) = (found : ℕ) → (o : ℕ) × (after : ℕ → Program) × own k o × (next found ≡ Do (StoreOpen o (socket_id (vref_version found) i + 1)) after) × ((x : ℕ) → Names own (after x))
-Names own (Do (StoreOpen o w) next) = (w ≡ NO_SOCKET) × ((found : ℕ) → Names own (next found))
-Names own (Do call next) = (found : ℕ) → Names own (next found)
-Names own (Say o outcome next) = Names own next
-Names own (Sent o next) = Names own next
-Names own Rest = Unit {0}
-Names own (TakeMessage k next) = (heading : Heading) (bytes : List ℕ) → Names own (next heading bytes)
-Names own (TakeHome k next) = (places : ℕ) → Names own (next places)
-Names own (PutHome k n after) = Names own after
-Names own (PutBytes k asked bytes next) = (answer : Put) → Names own (next answer)
-Names own (AskReady k next) = (answer : Ready) → Names own (next answer)
-Names own (Write w after) = Names own after
-Names own (Aside step next) = (found : Found step) → Names own (next found)
-Names own (Round head next) = (exit : Exit head) → Names own (next exit)
-Names own (Keep r next) = Names own next
-Names own (Retries requests after) = Names own after
+Names own program = NamesBehind own none program
+
+-- what a program that has just made a life stores next
+record StoresNew (own : ℕ → ℕ → Type 0) (x : ℕ × ℕ) (program : Program) : Type 0 where
+  operation : ℕ
+  after : ℕ → Program
+  mine : own x.0 operation
+  stores : program ≡ Do (StoreOpen operation (x.1 + 1)) after
+  goes : (found : ℕ) → Names own (after found)
+
+stores_new : (own : ℕ → ℕ → Type 0) (x : ℕ × ℕ) (program : Program) → NamesBehind own (some x) program → StoresNew own x program
+stores_new own x (Do (StoreOpen o w) next) n = record { operation = o; after = next; mine = n.0; stores = ap (λ y. Do (StoreOpen o y) next) n.1; goes = n.2 }
+stores_new own x other n = absurd n
 
 module _ (own : ℕ → ℕ → Type 0) where
   abbrev G : Program → Type 0
@@ -129,7 +146,7 @@ module _ (own : ℕ → ℕ → Type 0) where
   names_open : (more i o name k : ℕ) (next : Program) → own k o → G next → G (open_from more i o name k next)
   names_open zero i o name k next mine after = λ _ _ _. (refl, λ _. after)
   names_open (suc more) i o name k next mine after = λ found. either_way (found == 0) (make_socket o name k i next) (open_from more (i + 1) o name k next) (Names own)
-      (λ _ _ _ word. (o, _, mine, refl, λ _ _. after)) (names_open more (i + 1) o name k next mine after)
+      (λ _ _ _ word. (mine, refl, λ _ _. after)) (names_open more (i + 1) o name k next mine after)
 
   names_back : (held : List HeldLife) → G (give_back held)
   names_back [] = tt
@@ -256,17 +273,17 @@ module _ (p : Plan) (own : ℕ → ℕ → Type 0) (c : Core) (vs : List View) (
     plain_step none_ no_birth = with_next (inl (behind call next none_ no_birth (mine (not_new none_ (n.programs i seat at_seat))) found)) (old_words none_)
       where
         behind : (call : Call) (next : ℕ → Program) → stores call ≡ none → bears call ≡ none → Names own (Do call next) → (found : ℕ) → Names own (next found)
-        behind (GiveBirth a b) next s e r found = absurd (some-ne-none a e)
-        behind (StoreOpen o x) next s e r found = absurd (some-ne-none (o, x) s)
-        behind call next s e r found = r found
+        behind (GiveBirth a b) next s e r n = absurd (some-ne-none a e)
+        behind (StoreOpen o x) next s e r n = absurd (some-ne-none (o, x) s)
+        behind call next s e r n = r n
 
     pub birth_step : (a k : ℕ) → call ≡ GiveBirth a k → Named p own after (set vs i w)
-    birth_step a k made = let g = subst (λ x. Names own (Do x next)) made (mine (not_new (ap stores made) (n.programs i seat at_seat))) found in
+    birth_step a k made = let g = stores_new own (k, socket_id (vref_version found) a) (next found) (subst (λ x. Names own (Do x next)) made (mine (not_new (ap stores made) (n.programs i seat at_seat))) found) in
         with_next (inr record {
-          operation = g.0; link = k; slot = a; version = vref_version found; after = g.1; inside = (subst (May p v) made may).0; mine = g.2;
-          stores = ap (λ x. next_step (resolved (waiting_at c.calls.waiting i) x)) g.3;
+          operation = g.operation; link = k; slot = a; version = vref_version found; after = g.after; inside = (subst (May p v) made may).0; mine = g.mine;
+          stores = ap (λ x. next_step (resolved (waiting_at c.calls.waiting i) x)) g.stores;
           given = born;
-          goes = g.4;
+          goes = g.goes;
         }) (old_words (ap stores made))
       where
         -- the new life's link is noted
@@ -278,7 +295,7 @@ module _ (p : Plan) (own : ℕ → ℕ → Type 0) (c : Core) (vs : List View) (
 
         born : IsGiven after (set vs i w) a (vref_version found) k
         born = let moved = counts (state c vs) i v w at_view (words_after c.words (word_of p call) (word_after call (found_at c.words (word_of p call)))) (homes_after p call seat.hand c.homes) (is_linked (vref_version found) k) a in
-            omega (arith, noted, moved, links_stay p v (found_at c.words (word_of p call)) (hand_at p c.words c.homes call) (vref_version found) k call a)
+            omega (arith, noted, moved, own_count (state c vs) i v at_view (is_linked (vref_version found) k) a)
 
     pub store_step : (o x : ℕ) → call ≡ StoreOpen o x → Named p own after (set vs i w)
     store_step o x made = ⊎_elim
