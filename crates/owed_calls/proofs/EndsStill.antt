@@ -182,7 +182,7 @@ from_to_at a zero k low = absurd (let z : ⊥ = omega (arith, low) in z)
 from_to_at a (suc n) zero low = ap some (let z : a ≡ a + 0 = omega arith in z)
 from_to_at a (suc n) (suc k) low = from_to_at (a + 1) n k (omega (arith, low)) ∙ ap some (let z : a + 1 + k ≡ a + suc k = omega arith in z)
 
-in_first : {A : Type 0} (xs ys : List A) (k : ℕ) (a : A) → get_elem? xs k ≡ some a → get_elem? (xs ++ ys) k ≡ some a
+pub in_first : {A : Type 0} (xs ys : List A) (k : ℕ) (a : A) → get_elem? xs k ≡ some a → get_elem? (xs ++ ys) k ≡ some a
 in_first [] ys k a at = absurd (some-ne-none a (sym at))
 in_first (x ∷ xs) ys zero a at = at
 in_first (x ∷ xs) ys (suc k) a at = in_first xs ys k a at

@@ -1,6 +1,6 @@
 -- In a run of a script each call is ended by whoever owes it, where a link answers that it is closed only where its writing half is finished.
-use Rattle.std.proofs.Common.{◌≡◌, ◌≢◌, ℕ, zero, suc, ◌+◌, ◌-◌, ◌<◌, ◌≤◌, ◌⊎◌, inl, inr, ⊎_elim, Bool, true, false, cond, List, [], ◌∷◌, ◌++◌, length, length-append, replicate, get_or, slice_get, Option, Some, None, refl, sym, ap, ◌∙◌, subst, arith}
-use Rattle.std.proofs.lemmas.List.{length-map, length-replicate}
+use Rattle.std.proofs.Common.{◌≡◌, ◌≢◌, ℕ, zero, suc, ◌+◌, ◌-◌, ◌<◌, ◌≤◌, ◌⊎◌, inl, inr, ⊎_elim, Bool, true, false, cond, List, [], ◌∷◌, ◌++◌, length, length-set, set, replicate, get_or, slice_get, Option, Some, None, refl, sym, ap, ◌∙◌, subst, arith}
+use Rattle.std.proofs.lemmas.List.{length-map}
 use Rattle.std.specs.List.{AllByRecursion}
 use mathlib.Core.Logic.{dite}
 use native.Mathlib.Decide.{ℕ_discrete, dec_le}
@@ -8,6 +8,8 @@ use mathlib.Core.Option.{Option as Maybe}
 use mathlib.Core.Option.{none, some, some-injective, some-ne-none}
 use lib.ListN.{get_elem?}
 use Rattle.atomic_table.proofs.Lists.{at_set, set_else}
+use Rattle.sock_words.specs.declared.kind.Kind.{Kind}
+use Rattle.sock_words.specs.Words.{socket_id_slot}
 use Rattle.sock_words.specs.declared.plain.Plan.{Plan}
 use Rattle.brpc_model.specs.Items.{Item, is_open}
 use Rattle.brpc_model.specs.Operations.{Turn, operations, clients, link_names}
@@ -19,7 +21,7 @@ use Rattle.sock_programs.specs.Programs.{Program, Do, Rest, Aside}
 use Rattle.sock_programs.specs.Tasks.{Numbered, numbered, opens, calls, plan_of, id_plan_of}
 use Rattle.sock_programs.specs.Clients.{client_from, ending_of}
 use Rattle.sock_programs.specs.Cores.{Core, SeatState, resolved, next_step, waiting_at, with_seat}
-use Rattle.sock_programs.specs.Ticks.{Answer, Unasked, Moment, quiet, run, taken, IsPrompt, waits, AreAnswered}
+use Rattle.sock_programs.specs.Ticks.{Answer, Unasked, Moment, quiet, ticked, run, IsPrompt, waits, AreAnswered}
 use Rattle.sock_programs.specs.Runs as runs
 use Rattle.sock_programs.specs.Runs.{kind_in}
 use Rattle.sock_programs.specs.Scripts.{sizes_of, programs, readers_from, all_programs, all_tasks, opened, ending, is_ending, set_up, played, IsRunWithCalls}
@@ -27,12 +29,14 @@ use Rattle.sock_runs.specs.Sound.{Sound, views_along}
 use Rattle.sock_runs.proofs.LinkTicks.{RetriesGo}
 use Rattle.sock_runs.proofs.Along.{seat_rests, place_inside}
 use Rattle.sock_runs.proofs.Quiets.{run_seats, run_rests}
-use Rattle.sock_runs.proofs.Opening.{opens_in}
-use Rattle.sock_runs.proofs.Through.{through_fail}
+use Rattle.sock_runs.proofs.Records.{stores}
+use Rattle.sock_runs.proofs.Through.{Passes, Follows}
 use Rattle.sock_runs.proofs.ThroughCalls.{through_next}
-use Rattle.sock_runs.proofs.WillStore.{WillStore, IsToStore, will_passes, will_follow, will_client, run_stores, rested_stored}
+use Rattle.sock_programs.specs.Calls.{Call, StoreOpen}
+use Rattle.id_runs.specs.Goes as goes
+use Rattle.sock_runs.proofs.WillStore.{WillStore, IsToStore, will_client, run_stores, rested_stored}
 use Rattle.sock_runs.proofs.LinksOpening.{OpensLink}
-use Rattle.sock_runs.proofs.Whole.{AreFittingIn, Begins, IsOwed, IsListed, views_closed, set_up_answered, end_answered, set_up_sound, played_sound, closing_sound, closed_sound, rested_ahead, rested_idle, ended_idle}
+use Rattle.sock_runs.proofs.Whole.{AreFittingIn, Begins, IsOwed, IsListed, views_closed, set_up_answered, end_answered, set_up_sound, closing_sound, closed_sound, views_played, rested_ahead, rested_idle, ended_idle}
 use Rattle.id_runs.proofs.Opening.{unused}
 use Rattle.client_laws.proofs.Beginning as clients_begin
 use Rattle.client_laws.proofs.Retrying.{retries_go}
@@ -40,15 +44,17 @@ use Rattle.joint_runs.proofs.Both.{AreBoth}
 use Rattle.joint_runs.proofs.Runs.{AreMade, first_views, begins, IsSoundRun, are_fitting_in, joint_runs}
 use Rattle.report_fits.proofs.Lists.{Has, some_is, filter_map_has, before_from, before_at, before_filter_map}
 use Rattle.report_fits.proofs.Numbering.{is_numbered}
-use Rattle.owed_calls.specs.Settled as settled
+use Rattle.report_fits.proofs.TaskLemmas.{tasks_length}
+use Rattle.chain_laws.proofs.Lists.{at_some}
+use Rattle.owed_calls.specs.Sound.{id_word_of}
 use Rattle.owed_calls.specs.Lives.{life_of, AreSaying, ClosesAt, ClosesInTime, ClosesInRun, AreKept}
-use Rattle.owed_calls.proofs.EndsStill.{run_ending, all_still, one_of_still, run_parts, second_part, in_round, rest_at, mapped_at}
+use Rattle.owed_calls.proofs.EndsStill.{run_ending, all_still, one_of_still, run_parts, second_part, in_first, in_round, rest_at, mapped_at}
 use Rattle.owed_calls.proofs.OpensStored.{opener_of, place_at}
 use Rattle.owed_calls.proofs.WordsGiven.{Named, names_others, beginning_named, named_ending, named_on, run_named}
 use Rattle.owed_calls.proofs.OwingRuns.{Reaches}
 use Rattle.owed_calls.proofs.WholeOwing as whole
 use Rattle.owed_calls.proofs.Saying.{says_along}
-use Rattle.owed_calls.proofs.Owed.{IsKnown, IsAtEnd, tasks_own}
+use Rattle.owed_calls.proofs.Owed.{IsKnown, IsAtEnd, tasks_own, opened_seats}
 use Rattle.owed_calls.proofs.Owed as owed
 use Rattle.brpc_model.specs.Order.{EachBefore}
 
@@ -89,14 +95,59 @@ opens_apart script k l o at_k at_l = dite (ℕ_discrete k l) (λ e. e)
     before : (i j : ℕ) → i < j → get_elem? (opens script) i ≡ some o → get_elem? (opens script) j ≡ some o → o < o
     before i j less at_i at_j = before_at (λ (m n : ℕ). m < n) (opens script) increasing i j o o less (place_at (opens script) i o at_i) (place_at (opens script) j o at_j)
 
+-- the at words of a run
+pub record KeepsInRun (script : List Item) (turns : List Turn) (core : Core) (is : IsRunWithCalls script turns core) : Type 0 where
+  pub of_setup : AreKept (plan_of script) (id_plan_of script) (calls script) (opened script) (replicate is.setup (quiet 0))
+  pub of_played : AreKept (plan_of script) (id_plan_of script) (calls script) (set_up script is.setup) (is.scheduled ++ is.later)
+  pub of_closing : AreKept (plan_of script) (id_plan_of script) (calls script) (ending script (played script is.setup (is.scheduled ++ is.later))) (replicate is.last (quiet 0))
+  pub of_final : AreKept (plan_of script) (id_plan_of script) (calls script) is.ended is.final
+
 -- ticks that ask no link close none
+quiet_at : (p : Plan) (c : Core) (program : Program) → ClosesAt p c Unasked program
+quiet_at p c (Aside (TakeBytes k room) next) = λ e. absurd (some-ne-none Closed (sym e))
+quiet_at p c program = tt
+
 quiet_closes : (p : Plan) (c : Core) (n : ℕ) → ClosesInTime p c (replicate n (quiet 0))
 quiet_closes p c zero = tt
-quiet_closes p c (suc n) = ((λ seat at. by_program c _), quiet_closes p _ n)
+quiet_closes p c (suc n) = ((λ seat at. quiet_at p c (goes.first_of seat.program)), quiet_closes p (ticked p c (quiet 0)) n)
+
+-- what a program is to store it is to store whatever is said before
+will_passes : (o : ℕ) → Passes (WillStore o)
+will_passes o = record {
+  step = λ call next s b l r. plain call next s r;
+  say = λ n outcome next r. r;
+  sent = λ n next r. r;
+  message = λ r next x. x;
+  home = λ k next r. r;
+  puts_home = λ k n after r. r;
+  put = λ k asked bytes next r. r;
+  ask = λ k next r. r;
+  write = λ w after r. r;
+  aside = λ step next r. r;
+  round = λ head l next r. r;
+  keep = λ r next x. x;
+  retries = λ requests after r. r;
+}
   where
-    by_program : (c : Core) (program : Program) → ClosesAt p c Unasked program
-    by_program c (Aside (TakeBytes k room) next) = λ e. absurd (some-ne-none Closed (sym e))
-    by_program c program = tt
+    plain : (call : Call) (next : ℕ → Program) → stores call ≡ none → ((found : ℕ) → WillStore o (next found)) → WillStore o (Do call next)
+    plain (StoreOpen n w) next s r = absurd (some-ne-none (n, w) s)
+    plain call next s r = r
+
+will_follow : (o : ℕ) → Follows (WillStore o)
+will_follow o = record {
+  said = λ n outcome next r. r;
+  sent = λ n next r. r;
+  message = λ r next x. x;
+  home = λ k next r. r;
+  puts_home = λ k n after r. r;
+  put = λ k asked bytes next r. r;
+  ask = λ k next r. r;
+  write = λ w after r. r;
+  aside = λ step next r. r;
+  round = λ head next r. r;
+  keep = λ r next x. x;
+  retries = λ requests after r. r;
+}
 
 module _ (script : List Item) (made : AreMade script) (turns : List Turn) (core : Core) (is : IsRunWithCalls script turns core) where
   abbrev p : Plan
@@ -125,6 +176,10 @@ module _ (script : List Item) (made : AreMade script) (turns : List Turn) (core 
 
   -- ## The end
 
+  -- seat 0 as it begins the ending
+  abbrev first_of_ending : SeatState
+  first_of_ending = let c = played script is.setup (is.scheduled ++ is.later) in record { program = next_step (resolved (waiting_at c.calls.waiting 0) (ending_of (opens script))); hand = [] }
+
   flag : core.calls.ending ≡ true
   flag = ap (λ (d : Core). d.calls.ending) is.is_end ∙ run_ending (plan_of script) is.ended is.final ∙ ap (λ (d : Core). d.calls.ending) is.is_ended
 
@@ -139,12 +194,172 @@ module _ (script : List Item) (made : AreMade script) (turns : List Turn) (core 
 
   many : length core.seats ≡ 32 + length (link_names script)
   many = ap (λ (d : Core). length d.seats) is.is_end ∙ run_seats (plan_of script) is.ended is.final ∙ ap (λ (d : Core). length d.seats) is.is_ended ∙ run_seats (plan_of script) (ending script (played script is.setup (is.scheduled ++ is.later))) (replicate is.last (quiet 0))
-      ∙ Rattle.std.proofs.Common.length-set (played script is.setup (is.scheduled ++ is.later)).seats 0 _ ∙ run_seats (plan_of script) (set_up script is.setup) (is.scheduled ++ is.later) ∙ run_seats (plan_of script) (opened script) (replicate is.setup (quiet 0))
-      ∙ (let m = owed.many_seats script made.are vs (begins script made) go turns core is fitting known end_none in let a = known.as_many in omega (arith, m, a))
-    where
-      end_none : IsAtEnd script core
-      end_none = ?
+      ∙ length-set (played script is.setup (is.scheduled ++ is.later)).seats 0 first_of_ending ∙ run_seats (plan_of script) (set_up script is.setup) (is.scheduled ++ is.later) ∙ run_seats (plan_of script) (opened script) (replicate is.setup (quiet 0))
+      ∙ (let m = opened_seats script made.few_clients in let a = known.as_many in omega (arith, m, a))
 
   -- a seat between the clients and the readers has nothing to do
   rests_between : (i : ℕ) → clients script < i → i < 32 → runs.IsAtRest core i
-  rests_between i low high = ?
+  rests_between i low high = subst (λ d. runs.IsAtRest d i) (sym is.is_end) (run_rests (plan_of script) is.ended is.final i (subst (λ d. runs.IsAtRest d i) (sym is.is_ended) closed))
+    where
+      first : List Program
+      first = programs (sizes_of (plan_of script) (id_plan_of script)) (all_tasks script)
+
+      at_first : runs.IsAtRest (opened script) i
+      at_first = let l = length-map (all_tasks script) (client_from (sizes_of (plan_of script) (id_plan_of script)) []) in let t = tasks_length script 0 (clients script + 1) in
+          ap (λ (o : Maybe SeatState). elim o as (λ o. Option Kind) [ none ↦ None | some s ↦ kind_in s.program ])
+          (mapped_at (λ (program : Program). record { program = next_step (resolved [] program); hand = [] }) (all_programs first (readers_from (calls script) 0 (opens script))) i Rest
+          (rest_at first (readers_from (calls script) 0 (opens script)) (32 - length first) i (omega (arith, l, t, low)) (omega (arith, l, t, low, high))))
+
+      rested : runs.IsAtRest (played script is.setup (is.scheduled ++ is.later)) i
+      rested = run_rests (plan_of script) (set_up script is.setup) (is.scheduled ++ is.later) i (run_rests (plan_of script) (opened script) (replicate is.setup (quiet 0)) i at_first)
+
+      closing : runs.IsAtRest (ending script (played script is.setup (is.scheduled ++ is.later))) i
+      closing = ap (λ (o : Maybe SeatState). elim o as (λ o. Option Kind) [ none ↦ None | some s ↦ kind_in s.program ]) (set_else (played script is.setup (is.scheduled ++ is.later)).seats 0 i first_of_ending (λ e. let z : ⊥ = omega (arith, e, low) in z)) ∙ rested
+
+      closed : runs.IsAtRest (is_ending (run (plan_of script) (ending script (played script is.setup (is.scheduled ++ is.later))) (replicate is.last (quiet 0)))) i
+      closed = run_rests (plan_of script) (ending script (played script is.setup (is.scheduled ++ is.later))) (replicate is.last (quiet 0)) i closing
+
+  still : (i : ℕ) → i < length core.seats → runs.IsAtRest core i ⊎ ((m : Moment) × (m.seat ≡ i) × IsPrompt m × (waits (plan_of script) core m ≡ true))
+  still i inside = dite (ℕ_discrete i 0)
+      (λ e. inl (subst (runs.IsAtRest core) (sym e) (ended_idle script made.are vs (begins script made) go turns core is fitting)))
+      (λ some_. dite (dec_le i (clients script)) (λ client. by_round (inl (omega (arith, some_), client)))
+      (λ no_. dite (dec_le 32 i) (λ reader. by_round (inr (reader, (let m = many in omega (arith, inside, m))))) (λ between. inl (rests_between i (omega (arith, no_)) (omega (arith, between))))))
+    where
+      by_round : ((0 < i) × (i ≤ clients script)) ⊎ ((32 ≤ i) × (i < 32 + length (link_names script))) → runs.IsAtRest core i ⊎ ((m : Moment) × (m.seat ≡ i) × IsPrompt m × (waits (plan_of script) core m ≡ true))
+      by_round h = let s = is.settles_again in let n = in_round (clients script) (length (link_names script)) i h in
+          subst (λ d. runs.IsAtRest d i ⊎ ((m : Moment) × (m.seat ≡ i) × IsPrompt m × (waits (plan_of script) d m ≡ true))) (sym core_still)
+          (one_of_still (plan_of script) before_last s.last s.still prompt_last n.0 i (ap (λ (l : List ℕ). get_elem? l n.0) s.one_more ∙ n.1))
+
+  -- ## The words of `open`s
+
+  first_there : (l : List SeatState) (a b : SeatState) → get_elem? (set l 0 a) 0 ≡ some b → (x : SeatState) × (get_elem? l 0 ≡ some x)
+  first_there [] a b e = absurd (some-ne-none b (sym e))
+  first_there (x ∷ xs) a b e = (x, refl)
+
+  to_store : (n o : ℕ) → get_elem? (opens script) n ≡ some o → (j : ℕ) × (j < 32) × IsToStore (plan_of script) j o core
+  to_store n o at = let x = opener_of script n o at in let inside = known.in_script n o at in
+      let first = programs (sizes_of (plan_of script) (id_plan_of script)) (all_tasks script) in
+      let t₀ : IsToStore (plan_of script) x.place o (opened script) = inr (λ seat there. subst (λ (s : SeatState). WillStore o s.program)
+      (some-injective (record { program = next_step (resolved [] (client_from (sizes_of (plan_of script) (id_plan_of script)) [] x.tasks)); hand = [] }) seat
+      (sym (mapped_at (λ (program : Program). record { program = next_step (resolved [] program); hand = [] }) (all_programs first (readers_from (calls script) 0 (opens script))) x.place (client_from (sizes_of (plan_of script) (id_plan_of script)) [] x.tasks)
+      (in_first first (replicate (32 - length first) Rest ++ readers_from (calls script) 0 (opens script)) x.place (client_from (sizes_of (plan_of script) (id_plan_of script)) [] x.tasks) (mapped_at (client_from (sizes_of (plan_of script) (id_plan_of script)) []) (all_tasks script) x.place x.tasks x.there))) ∙ there))
+      (through_next (WillStore o) (will_passes o) (will_follow o) [] (client_from (sizes_of (plan_of script) (id_plan_of script)) [] x.tasks) (will_client o (sizes_of (plan_of script) (id_plan_of script)) x.tasks [] x.opening))) in
+      let t₁ = run_stores (plan_of script) x.place o inside go (opened script) vs (replicate is.setup (quiet 0)) start.sound (set_up_answered script made.are vs start go turns core is fitting) fitting.of_setup t₀ in
+      let t₂ = run_stores (plan_of script) x.place o inside go (set_up script is.setup) (views_along (plan_of script) (opened script) vs (replicate is.setup (quiet 0))) (is.scheduled ++ is.later) (set_up_sound script made.are vs start go turns core is fitting) is.answered fitting.of_played t₁ in
+      let t₃ = at_ending x.place o t₂ in
+      let t₅ = run_stores (plan_of script) x.place o inside go (ending script (played script is.setup (is.scheduled ++ is.later))) (views_played script turns core is vs) (replicate is.last (quiet 0)) (closing_sound script made.are vs start go turns core is fitting)
+      (end_answered script made.are vs start go turns core is fitting) fitting.of_closing t₃ in
+      let t₆ = run_stores (plan_of script) x.place o inside go is.ended (views_closed script turns core is vs) is.final (closed_sound script made.are vs start go turns core is fitting) is.answered_again fitting.of_final
+      (subst (IsToStore (plan_of script) x.place o) (sym is.is_ended) (on x.place o (run (plan_of script) (ending script (played script is.setup (is.scheduled ++ is.later))) (replicate is.last (quiet 0))) t₅)) in
+      (x.place, (let low = place_inside (all_tasks script) x.place x.tasks x.there in let few = made.few_clients in omega (arith, low, few)), subst (IsToStore (plan_of script) x.place o) (sym is.is_end) t₆)
+    where
+      start : Begins script vs
+      start = begins script made
+
+      on : (j o : ℕ) (c : Core) → IsToStore (plan_of script) j o c → IsToStore (plan_of script) j o (is_ending c)
+      on j o c (inl some_) = inl some_
+      on j o c (inr will) = inr will
+
+      at_ending : (j o : ℕ) → IsToStore (plan_of script) j o (played script is.setup (is.scheduled ++ is.later)) → IsToStore (plan_of script) j o (ending script (played script is.setup (is.scheduled ++ is.later)))
+      at_ending j o (inl some_) = inl some_
+      at_ending j o (inr will) = inr (λ s at. ⊎_elim
+          (λ a. let old = first_there (played script is.setup (is.scheduled ++ is.later)).seats first_of_ending s (subst (λ n. get_elem? (set (played script is.setup (is.scheduled ++ is.later)).seats 0 first_of_ending) n ≡ some s) a.0 at) in
+          absurd (subst (WillStore o) (seat_rests (played script is.setup (is.scheduled ++ is.later)) (rested_ahead script made.are vs start go turns core is fitting) 0 (rested_idle script made.are vs start go turns core is fitting) old.0 old.1)
+          (will old.0 (ap (get_elem? (played script is.setup (is.scheduled ++ is.later)).seats) a.0 ∙ old.1))))
+          (λ a. will s a.1) (at_set (played script is.setup (is.scheduled ++ is.later)).seats 0 j first_of_ending s at))
+
+  end_ : IsAtEnd script core
+  end_ = record {
+    ids_end = (let over = sound_run.over in over.id_views, let over = sound_run.over in over.ids);
+    still = still;
+    flag = flag;
+    stored = λ n o at rests. let x = to_store n o at in let m = many in let seat = at_some core.seats x.0 (let low = x.1 in omega (arith, low, m)) in
+        rested_stored (plan_of script) x.0 o (known.in_script n o at) core seat.0 seat.1 (rests x.0 x.1 (let low = x.1 in omega (arith, low, m)) seat.0 seat.1) x.2;
+  }
+
+  -- ## What is said
+
+  abbrev M₁ : List Moment
+  M₁ = replicate is.setup (quiet 0)
+
+  abbrev M₃ : List Moment
+  M₃ = replicate is.last (quiet 0)
+
+  abbrev C₃ : Core
+  C₃ = ending script (played script is.setup (is.scheduled ++ is.later))
+
+  abbrev C₅ : Core
+  C₅ = is_ending (run (plan_of script) (ending script (played script is.setup (is.scheduled ++ is.later))) (replicate is.last (quiet 0)))
+
+  abbrev P : whole.Parts p q known.narrow refl (calls script) os known.in_script go (IsListed script) (opened script) vs M₁ (is.scheduled ++ is.later) M₃ is.final
+  P = owed.parts script made.are vs (begins script made) go turns core is fitting known end_
+
+  abbrev V₁ : List View
+  V₁ = views_along (plan_of script) (opened script) vs (replicate is.setup (quiet 0))
+
+  abbrev V₂ : List View
+  V₂ = views_along (plan_of script) (set_up script is.setup) (views_along (plan_of script) (opened script) vs (replicate is.setup (quiet 0))) (is.scheduled ++ is.later)
+
+  abbrev V₅ : List View
+  V₅ = views_closed script turns core is vs
+
+  named₀ : Named p (OpensLink os) (opened script) vs
+  named₀ = let first = programs (sizes_of (plan_of script) (id_plan_of script)) (all_tasks script) in
+      beginning_named p (OpensLink os) q (all_tasks script) (replicate (32 - length first) Rest ++ readers_from (calls script) 0 os) (tasks_own script 0 (clients script + 1)) (names_others (OpensLink os) (32 - length first) (calls script) os 0) vs
+      (λ o inside. (let u = clients_begin.unused (plan_of script) in u.opens) o inside)
+
+  named₁ : Named p (OpensLink os) (set_up script is.setup) V₁
+  named₁ = let parts = P in run_named p go (OpensLink os) (opened script) vs M₁ parts.s₀ parts.a₁ parts.f₁ named₀
+
+  named₃ : Named p (OpensLink os) C₃ V₂
+  named₃ = let parts = P in named_ending p (OpensLink os) os (played script is.setup (is.scheduled ++ is.later)) V₂ (run_named p go (OpensLink os) (set_up script is.setup) V₁ (is.scheduled ++ is.later) parts.s₁ parts.a₂ parts.f₂ named₁)
+
+  named₅ : Named p (OpensLink os) C₅ V₅
+  named₅ = let parts = P in named_on p (OpensLink os) (run p C₃ M₃) V₅ (run_named p go (OpensLink os) C₃ V₂ M₃ parts.s₃ parts.a₃ parts.f₃ named₃)
+
+  abbrev final_words : List ℕ
+  final_words = (run (plan_of script) C₅ is.final).words
+
+  slots₆ : (k s : ℕ) → life_of p os final_words k ≡ Some s → socket_id_slot s < p.slots
+  slots₆ = owed.slots₆ script made.are vs (begins script made) go turns core is fitting known end_
+
+  links₆ : (k s : ℕ) → life_of p os final_words k ≡ Some s → k < 65535
+  links₆ = owed.links₆ script made.are vs (begins script made) go turns core is fitting known end_
+
+  reach₆ : Reaches p q known.narrow refl (calls script) os final_words known.in_script slots₆ links₆ (run p C₅ is.final) (views_along p C₅ V₅ is.final)
+  reach₆ = owed.reach₆ script made.are vs (begins script made) go turns core is fitting known end_
+
+  module _ (closes : ClosesInRun script turns core is) (kept : KeepsInRun script turns core is) where
+    abbrev Says : Core → List Moment → Type 0
+    Says c ms = AreSaying p q (life_of p os final_words) (calls script) c ms
+
+    as_many : length os ≡ p.links
+    as_many = known.as_many
+
+    says₁ : Says (opened script) M₁
+    says₁ = let parts = P in let s = sound_run in says_along p q known.narrow refl (calls script) os final_words known.in_script slots₆ links₆ (opens_apart script) as_many go (IsListed script) (opened script) vs M₁ parts.s₀ parts.a₁ parts.f₁ parts.r₀ parts.readers parts.many named₀
+        s.setup (quiet_closes p (opened script) is.setup) kept.of_setup (whole.reach₁ p q known.narrow refl (calls script) os known.in_script go (IsListed script) (opened script) vs M₁ (is.scheduled ++ is.later) M₃ is.final P slots₆ links₆ reach₆)
+
+    says₂ : Says (set_up script is.setup) (is.scheduled ++ is.later)
+    says₂ = let parts = P in let s = sound_run in says_along p q known.narrow refl (calls script) os final_words known.in_script slots₆ links₆ (opens_apart script) as_many go (IsListed script) (set_up script is.setup) V₁ (is.scheduled ++ is.later) parts.s₁ parts.a₂ parts.f₂ parts.r₁
+        (whole.readers₁ p q known.narrow refl (calls script) os known.in_script go (IsListed script) (opened script) vs M₁ (is.scheduled ++ is.later) M₃ is.final P) (whole.many₁ p q known.narrow refl (calls script) os known.in_script go (IsListed script) (opened script) vs M₁ (is.scheduled ++ is.later) M₃ is.final P) named₁
+        s.clients closes.played kept.of_played (whole.reach₂ p q known.narrow refl (calls script) os known.in_script go (IsListed script) (opened script) vs M₁ (is.scheduled ++ is.later) M₃ is.final P slots₆ links₆ reach₆)
+
+    says₃ : Says C₃ M₃
+    says₃ = let parts = P in let s = sound_run in says_along p q known.narrow refl (calls script) os final_words known.in_script slots₆ links₆ (opens_apart script) as_many go (IsListed script) C₃ V₂ M₃ parts.s₃ parts.a₃ parts.f₃ parts.r₃
+        (whole.readers₃ p q known.narrow refl (calls script) os known.in_script go (IsListed script) (opened script) vs M₁ (is.scheduled ++ is.later) M₃ is.final P) (whole.many₃ p q known.narrow refl (calls script) os known.in_script go (IsListed script) (opened script) vs M₁ (is.scheduled ++ is.later) M₃ is.final P) named₃
+        s.closing (quiet_closes p C₃ is.last) kept.of_closing (whole.reach₄ p q known.narrow refl (calls script) os known.in_script go (IsListed script) (opened script) vs M₁ (is.scheduled ++ is.later) M₃ is.final P slots₆ links₆ reach₆)
+
+    says₄ : Says C₅ is.final
+    says₄ = let parts = P in let s = sound_run in says_along p q known.narrow refl (calls script) os final_words known.in_script slots₆ links₆ (opens_apart script) as_many go (IsListed script) C₅ V₅ is.final parts.s₅ parts.a₄ parts.f₄ parts.r₅
+        (whole.readers₅ p q known.narrow refl (calls script) os known.in_script go (IsListed script) (opened script) vs M₁ (is.scheduled ++ is.later) M₃ is.final P) (whole.many₅ p q known.narrow refl (calls script) os known.in_script go (IsListed script) (opened script) vs M₁ (is.scheduled ++ is.later) M₃ is.final P) named₅
+        (subst (λ d. AreBoth (plan_of script) (id_plan_of script) d (views_closed script turns core is vs) is.final) is.is_ended s.final) (subst (λ d. ClosesInTime (plan_of script) d is.final) is.is_ended closes.final)
+        (subst (λ d. AreKept (plan_of script) (id_plan_of script) (calls script) d is.final) is.is_ended kept.of_final) reach₆
+
+    -- whoever owes a call ends it
+    pub run_owed_kept : IsOwed script turns core is
+    run_owed_kept = owed.is_owed script made.are vs (begins script made) go turns core is fitting known end_ says₁ says₂ says₃ says₄
+
+    -- and no id range is left open
+    pub run_ranges_kept : (i : ℕ) → i < q.slots → (id_word_of core i).state ≡ 0
+    run_ranges_kept = owed.ranges_end script made.are vs (begins script made) go turns core is fitting known end_ says₁ says₂ says₃ says₄

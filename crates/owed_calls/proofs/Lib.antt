@@ -34,3 +34,7 @@ pub mod OpensStored
 pub mod WordsGiven
 pub mod ClosedPast
 pub mod Saying
+pub mod Known
+pub mod OwnsLoops
+pub mod OwnsSends
+pub mod OwnsCalls

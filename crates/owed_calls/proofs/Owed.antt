@@ -37,13 +37,13 @@ use Rattle.sock_runs.proofs.Whole.{AreFittingIn, Begins, IsOwed, IsListed, views
 use Rattle.id_runs.specs.Held.{IdView}
 use Rattle.id_runs.specs.Goes.{SoundIds}
 use Rattle.owed_calls.specs.Owing.{Owing}
-use Rattle.owed_calls.specs.Sound.{SoundOwing}
+use Rattle.owed_calls.specs.Sound.{id_word_of, SoundOwing}
 use Rattle.owed_calls.specs.Lives.{id_of, life_of, AreSaying}
 use Rattle.owed_calls.specs.Settled as settled
 use Rattle.owed_calls.proofs.OwingRuns.{Reaches, id_is}
 use Rattle.owed_calls.proofs.WholeOwing.{Parts, readers₆, many₂, many₆, linked_at_end, links_stand, owed_at_end}
 use Rattle.owed_calls.proofs.Beginning.{owing_begins}
-use Rattle.owed_calls.proofs.Ended.{is_settled, lives_past}
+use Rattle.owed_calls.proofs.Ended.{is_settled, lives_past, all_ranges_ended}
 
 -- what a script is known to be: it has few clients and calls, and an operation for each `open` of a link; and its ids begin unused
 pub record IsKnown (script : List Item) : Type 0 where
@@ -60,7 +60,7 @@ pub record IsAtEnd (script : List Item) (core : Core) : Type 0 where
   pub flag : core.calls.ending ≡ true
   pub stored : (n o : ℕ) → get_elem? (opens script) n ≡ some o → ((i : ℕ) → i < 32 → i < length core.seats → settled.IsAtRest core i) → get_or core.words (open_word (plan_of script) o) 0 ≢ 0
 
-tasks_own : (script : List Item) (client n : ℕ) → AllByRecursion (AllByRecursion (λ (t : Task). OwnsLink (OpensLink (opens script)) t.number t.op)) (tasks_from script client n)
+pub tasks_own : (script : List Item) (client n : ℕ) → AllByRecursion (AllByRecursion (λ (t : Task). OwnsLink (OpensLink (opens script)) t.number t.op)) (tasks_from script client n)
 tasks_own script client zero = tt
 tasks_own script client (suc n) = (script_owns script client, tasks_own script (client + 1) n)
 
@@ -205,15 +205,19 @@ module _ (script : List Item) (are : AreTasks (plan_of script) (all_tasks script
         says₁ says₂ says₃ says₄
         first_seat.0 first_seat.1 (rest₀ first_seat.0 first_seat.1) begun.0 begun.1
 
+    readers_end : (n o : ℕ) → get_elem? os n ≡ some o → AtReader p (calls script) (32 + n) n o c₆
+    readers_end = readers₆ p q known.narrow refl (calls script) os known.in_script go (IsListed script) (opened script) vs m₁ (is.scheduled ++ is.later) m₃ is.final parts
+
+    many_end : length c₆.seats ≡ 32 + length os
+    many_end = many₆ p q known.narrow refl (calls script) os known.in_script go (IsListed script) (opened script) vs m₁ (is.scheduled ++ is.later) m₃ is.final parts
+
     -- who owes a call ends it
     pub is_owed : IsOwed script turns core is
     is_owed = record {
       after = subst runs.IsSettled (sym core_is) (is_settled p q (calls script) os known.in_script c₆ v₆ sound₆ ahead₆ flag₆ still₆ owed₆.0 owed₆.1 ids₆.0 ids₆.1 readers_end many_end stored₆);
       past = λ o n at. subst (λ d. IsPast (plan_of script) d o) (sym core_is) (lives_past p q (calls script) os known.in_script c₆ v₆ sound₆ ahead₆ flag₆ still₆ owed₆.0 owed₆.1 ids₆.0 ids₆.1 readers_end many_end stored₆ o n at);
     }
-      where
-        readers_end : (n o : ℕ) → get_elem? os n ≡ some o → AtReader p (calls script) (32 + n) n o c₆
-        readers_end = readers₆ p q known.narrow refl (calls script) os known.in_script go (IsListed script) (opened script) vs m₁ (is.scheduled ++ is.later) m₃ is.final parts
 
-        many_end : length c₆.seats ≡ 32 + length os
-        many_end = many₆ p q known.narrow refl (calls script) os known.in_script go (IsListed script) (opened script) vs m₁ (is.scheduled ++ is.later) m₃ is.final parts
+    -- and each id range has ended
+    pub ranges_end : (i : ℕ) → i < q.slots → (id_word_of core i).state ≡ 0
+    ranges_end i inside = ap (λ (d : Core). (id_word_of d i).state) core_is ∙ all_ranges_ended p q (calls script) os known.in_script c₆ v₆ sound₆ ahead₆ flag₆ still₆ owed₆.0 owed₆.1 ids₆.0 ids₆.1 readers_end many_end i inside

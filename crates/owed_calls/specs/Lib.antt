@@ -4,3 +4,4 @@ pub mod Sound
 pub mod Fits
 pub mod Settled
 pub mod Lives
+pub mod Owns

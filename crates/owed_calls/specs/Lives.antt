@@ -1,5 +1,5 @@
 -- The lives of links, by the words of their `open`s at the end of a run; and what a run says of a tick beside its two tables.
-use Rattle.std.specs.Prelude.{ℕ, ◌≡◌, ◌≢◌, ◌-◌, ◌⊎◌, ◌==◌, true, if◌then◌else◌, List, [], ◌∷◌, slice_index, Option, Some, None}
+use Rattle.std.specs.Prelude.{ℕ, ◌≡◌, ◌≢◌, ◌-◌, ◌⊎◌, ◌==◌, true, if◌then◌else◌, List, [], ◌∷◌, ◌++◌, slice_index, Option, Some, None}
 use mathlib.Core.Option as core
 use lib.ListN.{get_elem?}
 use Rattle.sock_words.specs.Words.{at_word_first, at_word_slot}
@@ -8,6 +8,10 @@ use Rattle.sock_model.specs.declared.home.Home.TheVariants.{Link}
 use Rattle.sock_words.specs.declared.plain.Plan.{Plan}
 use Rattle.sock_model.specs.Layout.{open_word}
 use Rattle.corr_core.specs.declared.marks.Plan.{Plan as IdPlan}
+use Rattle.brpc_model.specs.Items.{Item}
+use Rattle.brpc_model.specs.Operations.{Turn}
+use Rattle.sock_programs.specs.Tasks.{plan_of}
+use Rattle.sock_programs.specs.Scripts.{set_up, IsRunWithCalls}
 use Rattle.sock_programs.specs.Asides.{StoreAt, TakeBytes, Closed, call_id}
 use Rattle.sock_programs.specs.Programs.{Program, Aside, NO_SOCKET}
 use Rattle.sock_programs.specs.Cores.{Core, SeatState, link_place}
@@ -61,6 +65,11 @@ ClosesAt p c answer other = Unit {0}
 abbrev pub ClosesInTime : Plan → Core → List Moment → Type 0
 ClosesInTime p c [] = Unit {0}
 ClosesInTime p c (m ∷ ms) = ((seat : SeatState) → get_elem? c.seats m.seat ≡ core.some seat → ClosesAt p c m.answer (goes.first_of seat.program)) × ClosesInTime p (ticked p c m) ms
+
+-- the setup and the ending ask no link
+pub record ClosesInRun (script : List Item) (turns : List Turn) (core : Core) (is : IsRunWithCalls script turns core) : Type 0 where
+  pub played : ClosesInTime (plan_of script) (set_up script is.setup) (is.scheduled ++ is.later)
+  pub final : ClosesInTime (plan_of script) is.ended is.final
 
 -- an at word that is stored is a call's, and names the id that it named before, if it named one
 abbrev pub KeepsAt : IdPlan → List ℕ → Core → Program → Type 0
