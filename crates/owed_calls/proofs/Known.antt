@@ -327,6 +327,7 @@ module _ (script : List Item) (made : AreMade script) (turns : List Turn) (core 
   links₆ = owed.links₆ script made.are vs (begins script made) go turns core is fitting known end_
 
   reach₆ : Reaches p q known.narrow refl (calls script) os final_words known.in_script slots₆ links₆ (run p C₅ is.final) (views_along p C₅ V₅ is.final)
+  unfolding slots₆ links₆
   reach₆ = owed.reach₆ script made.are vs (begins script made) go turns core is fitting known end_
 
   module _ (closes : ClosesInRun script turns core is) (kept : KeepsInRun script turns core is) where

@@ -34,7 +34,7 @@ use Rattle.owed_calls.proofs.OwnsSends.{release_goes, address_goes, set_failed_g
 
 -- of more calls with ids
 later_on : (has more : ℕ → ℕ) (mine : ℕ → Bool) (program : Program) → Grows has more → Later has mine program → Later more mine program
-later_on has more mine program g r = λ most h b. r most (grows_on has more most g h) b
+later_on has more mine program g r = record { goes = λ most h b. r.goes most (grows_on has more most g h) b }
 
 module _ (has : ℕ → ℕ) (mine : ℕ → Bool) where
   abbrev G : Program → Type 0
@@ -43,10 +43,10 @@ module _ (has : ℕ → ℕ) (mine : ℕ → Bool) where
   -- ## Attempts
 
   step_fits : (c : Call) (next : ℕ → Program) → ((found : ℕ) → FitsSock c found → G (next found)) → G (Do c next)
-  step_fits c next r = λ more g b found fits most h. r found fits most (grows_on has more most g h) Other
+  step_fits c next r = record { goes = λ more g b found fits most h. (r found fits).goes most (grows_on has more most g h) Other }
 
   stores : (o w : ℕ) (next : ℕ → Program) → IsOwnAt has o w → ((found : ℕ) → G (next found)) → G (Aside (StoreAt o w) next)
-  stores o w next own r = λ more g b. ((own.0, own.1, own.2, id_grows has more g o own.0 own.3, own.4, own.5, own.6), λ found most h _. r found most (grows_on has more most g h) Other)
+  stores o w next own r = record { goes = λ more g b. ((own.0, own.1, own.2, id_grows has more g o own.0 own.3, own.4, own.5, own.6), λ found most h _. (r found).goes most (grows_on has more most g h) Other) }
 
   claims_goes : (more q id : ℕ) (heading : Heading) (bytes : List ℕ) (full accepted : Program) → G full → G accepted → G (claims_from more q id heading bytes full accepted)
   claims_goes zero q id heading bytes full accepted none_ after = none_
@@ -80,7 +80,7 @@ begin_goes has mine requests socket i asked next here after more g = (inl refl, 
     tries end (grows_on has last end (grows_on has most last (grows_on has more most g h) h₂) h₃) (call_id i (parts found).first) (id_grows last end h₃ asked.operation (call_id i (parts found).first) (finds asked refl)))))
   where
     tries : (end : ℕ → ℕ) → Grows has end → (id : ℕ) → IsIdOf end asked.operation id → Owns end (but asked.operation mine) Other (attempt requests asked id 0 socket next)
-    tries end g id own = attempt_goes end (but asked.operation mine) requests asked id 0 socket next (omega arith) own (later_on has end (but asked.operation mine) next g after) end (grows_same end) Other
+    tries end g id own = (attempt_goes end (but asked.operation mine) requests asked id 0 socket next (omega arith) own (later_on has end (but asked.operation mine) next g after)).goes end (grows_same end) Other
 
 -- ## A retry
 
@@ -92,7 +92,7 @@ locked_goes has mine requests id n next few after (Has w) = λ more g f is. (tt,
     subst (IsIdOf last asked.operation) (ap (call_id (id_slot id)) is ∙ id_back id) own)))
   where
     unlocks : (last : ℕ → ℕ) → Grows has last → (asked : Asked) (w : ℕ) → IsIdOf last asked.operation id → Owns last mine Other (Round (Unlocks (id_slot id) w false) (tried_again requests id n asked next))
-    unlocks last g asked w own = unlocks_again last mine (id_slot id) w false (tried_again requests id n asked next) (tried_goes last mine requests id n asked next few own (later_on has last mine next g after)) last (grows_same last) Other
+    unlocks last g asked w own = (unlocks_again last mine (id_slot id) w false (tried_again requests id n asked next) (tried_goes last mine requests id n asked next few own (later_on has last mine next g after))).goes last (grows_same last) Other
 
 module _ (has : ℕ → ℕ) (mine : ℕ → Bool) where
   abbrev G₂ : Program → Type 0
@@ -100,11 +100,11 @@ module _ (has : ℕ → ℕ) (mine : ℕ → Bool) where
 
   claim_goes : (more i requests socket : ℕ) (asked : Asked) (next : Program) → mine asked.operation ≡ true → G₂ next → Later has (but asked.operation mine) next → G₂ (claim_id more i requests socket asked next)
   claim_goes zero i requests socket asked next here after made = after
-  claim_goes (suc more) i requests socket asked next here after made = λ now g b. (tt, λ found most h _. by_hit (found == 0) most (grows_on has now most g h))
+  claim_goes (suc more) i requests socket asked next here after made = record { goes = λ now g b. (tt, λ found most h _. by_hit (found == 0) most (grows_on has now most g h)) }
     where
       by_hit : (hit : Bool) (most : ℕ → ℕ) → Grows has most → Owns most mine (cond hit (HasClaimed i) Other) (cond hit (begin_call requests socket i asked next) (claim_id more (i + 1) requests socket asked next))
       by_hit true most h = begin_goes has mine requests socket i asked next here made most h
-      by_hit false most h = claim_goes more (i + 1) requests socket asked next here after made most h Other
+      by_hit false most h = (claim_goes more (i + 1) requests socket asked next here after made).goes most h Other
 
   pub call_goes : (requests ids : ℕ) (asked : Asked) (next : Program) → mine asked.operation ≡ true → G₂ next → Later has (but asked.operation mine) next → G₂ (call requests ids asked next)
   call_goes requests ids asked next here after made = step has mine (LoadName (name_of asked 0)) _ (λ word. either_way (word == 0) _ _ G₂ (say has mine asked.operation Unopened next after) (claim_goes ids 0 requests (word - 1) asked next here after made))
@@ -119,20 +119,20 @@ module _ (has : ℕ → ℕ) (mine : ℕ → Bool) where
       (post_with_goes has mine id (error_of 1008 WHOLE) (λ how. posted id (error_of 1008 WHOLE) (Say o (expire_outcome how) next) how) (by_how id)))
     where
       by_how : (id : ℕ) (how : Posting) → AfterPost has mine (id_slot id) (λ how. posted id (error_of 1008 WHOLE) (Say o (expire_outcome how) next) how) how
-      by_how id (HasLocked w) = posted_goes has mine id (error_of 1008 WHOLE) (Say o (expire_outcome (HasLocked w)) next) after (HasLocked w)
-      by_how id WasGone = after
-      by_how id WasStale = after
-      by_how id (WasCrowded x y) = after
-      by_how id WasQueued = after
+      by_how id (HasLocked w) = posted_goes has mine id (error_of 1008 WHOLE) (Say o (expire_outcome (HasLocked w)) next) (say has mine o (expire_outcome (HasLocked w)) next after) (HasLocked w)
+      by_how id WasGone = say has mine o (expire_outcome WasGone) next after
+      by_how id WasStale = say has mine o (expire_outcome WasStale) next after
+      by_how id (WasCrowded x y) = say has mine o (expire_outcome (WasCrowded x y)) next after
+      by_how id WasQueued = say has mine o (expire_outcome WasQueued) next after
 
   join_goes : (o t : ℕ) (next : Program) → G₂ next → G₂ (join o t next)
-  join_goes o t next after = aside has mine (LoadCall t) tt _ (λ id. either_way (id == 0) _ _ G₂ (say has mine o NotBegun next after) (joins_again has mine id (λ _. Say o Joined next) (λ _. after)))
+  join_goes o t next after = aside has mine (LoadCall t) tt _ (λ id. either_way (id == 0) _ _ G₂ (say has mine o NotBegun next after) (joins_again has mine id (λ _. Say o Joined next) (λ _. say has mine o Joined next after)))
 
   -- ## Readers
 
   ends_goes : (id e word : ℕ) (kept : List Frame) (next : Program) → G₂ next → Locked has mine (id_slot id) (ends_with id e word kept next)
   ends_goes id e word [] next after = decide_goes has mine id word e (decided id next) (decided_goes has mine id next after)
-  ends_goes id e word (f ∷ fs) next after = λ more g x. answer_goes has mine f (id_first id) next after more g (HasLock (id_slot id) x)
+  ends_goes id e word (f ∷ fs) next after = λ more g x. (answer_goes has mine f (id_first id) next after).goes more g (HasLock (id_slot id) x)
 
   last_goes : (id e : ℕ) (kept : List Frame) (next : Program) → G₂ next → (exit : Posting) → AfterPost has mine (id_slot id) (posted_last id e kept next) exit
   last_goes id e kept next after (HasLocked word) = ends_goes id e word (kept_for id (parts word).range kept) next after
@@ -148,7 +148,7 @@ module _ (has : ℕ → ℕ) (mine : ℕ → Bool) where
       (last_goes (call_id (at_word_slot w) (at_word_first w)) (error_of c (at_word_attempt w)) kept (post_each os k c kept next) more)) more))
 
   rests : G₂ Rest
-  rests more g b = tt
+  rests = record { goes = λ more g b. tt }
 
   thrown_goes : (how : Ended) → G₂ (thrown_away how)
   thrown_goes how = either_way (how.fault && nat_lt how.reading.total LIMIT) _ _ G₂ (discards_again has mine how.reading.link how.reading.total (λ _. Rest) (λ _. rests)) rests
@@ -169,9 +169,9 @@ module _ (has : ℕ → ℕ) (mine : ℕ → Bool) where
   -- ## Clients
 
   open_goes : (more i o name k : ℕ) (next : Program) → G₂ next → G₂ (open_from more i o name k next)
-  open_goes zero i o name k next after = step has mine (TakeLink k) _ (λ _. step has mine (FinishLink k) _ (λ _. step has mine (PutLink k) _ (λ _. step has mine (StoreOpen o NO_SOCKET) _ (λ _. after))))
+  open_goes zero i o name k next after = step has mine (TakeLink k) _ (λ _. step has mine (FinishLink k) _ (λ _. step has mine (PutLink k) _ (λ _. step has mine (StoreOpen o NO_SOCKET) _ (λ _. say has mine o _ next after))))
   open_goes (suc more) i o name k next after = step has mine (ClaimSlot i) _ (λ found. either_way (found == 0) (make_socket o name k i next) (open_from more (i + 1) o name k next) G₂
-      (step has mine (StoreLink i k) _ (λ _. step has mine (ResetHead i k) _ (λ _. step has mine (WipeCode i k) _ (λ _. step has mine (GiveBirth i k) _ (λ word. step has mine (StoreOpen o _) _ (λ _. step has mine (StoreName name _) _ (λ _. after)))))))
+      (step has mine (StoreLink i k) _ (λ _. step has mine (ResetHead i k) _ (λ _. step has mine (WipeCode i k) _ (λ _. step has mine (GiveBirth i k) _ (λ word. step has mine (StoreOpen o _) _ (λ _. step has mine (StoreName name _) _ (λ _. say has mine o _ next after)))))))
       (open_goes more (i + 1) o name k next after))
 
   back_goes : (held : List HeldLife) → G₂ (give_back held)
@@ -179,7 +179,7 @@ module _ (has : ℕ → ℕ) (mine : ℕ → Bool) where
   back_goes (h ∷ hs) = release_goes has mine (socket_id_slot h.id) (λ _. give_back hs) (λ _. back_goes hs)
 
   dropping_goes : (o : ℕ) (id : std.Option ℕ) (next : Program) → G₂ next → G₂ (drop_of o id next)
-  dropping_goes o None next after = after
+  dropping_goes o None next after = say has mine o _ next after
   dropping_goes o (Some id) next after = drop_goes has mine o id next after
 
 -- the call of a task is that of its own operation
@@ -228,9 +228,9 @@ calls_later n R less (t ∷ ts) all o there = or_cases (is_calling t.op && (t.nu
 -- a client makes the calls of its tasks, each once
 pub client_goes : (has : ℕ → ℕ) (sizes : Sizes) (ts : List Task) (held : List HeldLife) (mine : ℕ → Bool) → ((o : ℕ) → calls_in ts o ≡ true → mine o ≡ true) → AllByRecursion (λ (t : Task). CallsOwn t.number t.op) ts
     → EachBefore (λ (a b : Task). (a.number < b.number) × HaveOwnLinks a.op b.op) ts → Later has mine (client_from sizes held ts)
-client_goes has sizes [] held mine all own order = back_goes has mine held
-client_goes has sizes (t ∷ ts) held mine all own order = operation_goes has mine sizes held t.number (λ h. client_from sizes h ts) t.op own.0
+client_goes has sizes [] held mine all own order = retries has mine sizes.requests (give_back held) (back_goes has mine held)
+client_goes has sizes (t ∷ ts) held mine all own order = retries has mine sizes.requests (operation sizes held t.number (λ h. client_from sizes h ts) t.op) (operation_goes has mine sizes held t.number (λ h. client_from sizes h ts) t.op own.0
     (λ calling. all t.number (or_first (is_calling t.op && (t.number == t.number)) (calls_in ts t.number) (both_true (is_calling t.op) (t.number == t.number) calling (eq-eqb t.number t.number refl))))
     (λ h. client_goes has sizes ts h mine (λ o there. all o (or_second (is_calling t.op && (t.number == o)) (calls_in ts o) there)) own.1 order.1)
     (λ calling h. client_goes has sizes ts h (but t.number mine) (λ o there. both_true (mine o) (not (o == t.number)) (all o (or_second (is_calling t.op && (t.number == o)) (calls_in ts o) there))
-    (ap not (ne_eqb o t.number (λ e. let less = calls_later t.number (λ (b : Task). (t.number < b.number) × HaveOwnLinks t.op b.op) (λ b x. x.0) ts order.0 o there in let z : ⊥ = omega (arith, less, e) in z)))) own.1 order.1)
+    (ap not (ne_eqb o t.number (λ e. let less = calls_later t.number (λ (b : Task). (t.number < b.number) × HaveOwnLinks t.op b.op) (λ b x. x.0) ts order.0 o there in let z : ⊥ = omega (arith, less, e) in z)))) own.1 order.1))

@@ -77,7 +77,7 @@ owns_grows has more g left b (Write w after) r = λ most h. r most (grows_on has
 owns_grows has more g left b (Aside step next) r = (may_grows has more g left b step r.0, λ found most h. r.1 found most (grows_on has more most g h))
 owns_grows has more g left b (Round head next) r = (at_grows has more g b head r.0, λ exit most h. r.1 exit most (grows_on has more most g h))
 owns_grows has more g left b (Keep q next) r = (r.0, owns_grows has more g left b next r.1)
-owns_grows has more g left b (Retries requests after) r = owns_grows has more g left b after r
+owns_grows has more g left b (Retries requests after) r = owns_grows has more g left Other after r
 
 -- ## Whatever the latest step was
 
@@ -117,47 +117,47 @@ owns_any has left b (Round (Opens o) next) r = r
 owns_any has left b (Round (Reads x) next) r = r
 owns_any has left b (Round (Discards k total) next) r = r
 owns_any has left b (Keep q next) r = (r.0, owns_any has left b next r.1)
-owns_any has left b (Retries requests after) r = owns_any has left b after r
+owns_any has left b (Retries requests after) r = r
 
 module _ (has : ℕ → ℕ) (left : ℕ → Bool) where
   -- from now on, whatever the seat's latest step was; and behind a lock of this slot
-  abbrev pub Later : Program → Type 0
-  Later program = (more : ℕ → ℕ) → Grows has more → (b : Behind) → Owns more left b program
+  pub record Later (program : Program) : Type 0 where
+    pub goes : (more : ℕ → ℕ) → Grows has more → (b : Behind) → Owns more left b program
 
   abbrev pub Locked : ℕ → Program → Type 0
   Locked i program = (more : ℕ → ℕ) → Grows has more → (f : ℕ) → Owns more left (HasLock i f) program
 
   pub later : (program : Program) → Owns has left Other program → Later program
-  later program r = λ more g b. owns_any more left b program (owns_grows has more g left Other program r)
+  later program r = record { goes = λ more g b. owns_any more left b program (owns_grows has more g left Other program r) }
 
   -- ## Steps
 
   pub step : (call : Call) (next : ℕ → Program) → ((found : ℕ) → Later (next found)) → Later (Do call next)
-  step call next r = λ more g b found fits most h. r found most (grows_on has more most g h) Other
+  step call next r = λ more g b found fits most h. (r found).goes most (grows_on has more most g h) Other
 
   pub say : (o : ℕ) (outcome : Outcome) (next : Program) → Later next → Later (Say o outcome next)
-  say o outcome next r = r
+  say o outcome next r = record { goes = λ more g b. r.goes more g b }
 
   pub sent : (o : ℕ) (next : Program) → Later next → Later (Sent o next)
-  sent o next r = r
+  sent o next r = record { goes = λ more g b. r.goes more g b }
 
   pub message : (q : ℕ) (next : Heading → List ℕ → Program) → ((heading : Heading) (bytes : List ℕ) → Later (next heading bytes)) → Later (TakeMessage q next)
-  message q next r = λ more g b heading bytes most h. r heading bytes most (grows_on has more most g h) Other
+  message q next r = λ more g b heading bytes most h. (r heading bytes).goes most (grows_on has more most g h) Other
 
   pub home : (k : ℕ) (next : ℕ → Program) → ((n : ℕ) → Later (next n)) → Later (TakeHome k next)
-  home k next r = λ more g b n most h. r n most (grows_on has more most g h) Other
+  home k next r = λ more g b n most h. (r n).goes most (grows_on has more most g h) Other
 
   pub puts_home : (k n : ℕ) (after : Program) → Later after → Later (PutHome k n after)
-  puts_home k n after r = λ more g b most h. r most (grows_on has more most g h) Other
+  puts_home k n after r = λ more g b most h. r.goes most (grows_on has more most g h) Other
 
   pub put : (k : ℕ) (asked : Bool) (bytes : List ℕ) (next : Put → Program) → ((answer : Put) → Later (next answer)) → Later (PutBytes k asked bytes next)
-  put k asked bytes next r = λ more g b answer most h. r answer most (grows_on has more most g h) Other
+  put k asked bytes next r = λ more g b answer most h. (r answer).goes most (grows_on has more most g h) Other
 
   pub ask : (k : ℕ) (next : Ready → Program) → ((answer : Ready) → Later (next answer)) → Later (AskReady k next)
-  ask k next r = λ more g b answer most h. r answer most (grows_on has more most g h) Other
+  ask k next r = λ more g b answer most h. (r answer).goes most (grows_on has more most g h) Other
 
   pub write : (w : Writing) (after : Program) → Later after → Later (Write w after)
-  write w after r = λ more g b most h. r most (grows_on has more most g h) Other
+  write w after r = λ more g b most h. r.goes most (grows_on has more most g h) Other
 
   -- a step aside that stores nothing of a call's own
   abbrev pub IsPlain : Step → Type 0
@@ -170,24 +170,24 @@ module _ (has : ℕ → ℕ) (left : ℕ → Bool) where
   aside (PutCall i asked) p next r = absurd p
   aside (MakeId i range) p next r = absurd p
   aside (StoreAt o w) p next r = absurd p
-  aside (ClaimId i) p next r = λ more g b. (tt, λ found most h _. r found most (grows_on has more most g h) (behind (ClaimId i) found b))
-  aside (StoreCall o id) p next r = λ more g b. (tt, λ found most h _. r found most (grows_on has more most g h) Other)
-  aside (LoadCall o) p next r = λ more g b. (tt, λ found most h _. r found most (grows_on has more most g h) Other)
-  aside (LoadAt o) p next r = λ more g b. (tt, λ found most h _. r found most (grows_on has more most g h) Other)
-  aside (LoadIdWord i) p next r = λ more g b. (tt, λ found most h _. r found most (grows_on has more most g h) Other)
-  aside (LockId i from) p next r = λ more g b. (tt, λ found most h _. r found most (grows_on has more most g h) (behind (LockId i from) found b))
-  aside (PostId i from e) p next r = λ more g b. (tt, λ found most h _. r found most (grows_on has more most g h) (behind (PostId i from e) found b))
-  aside (UnlockId i from advance) p next r = λ more g b. (tt, λ found most h _. r found most (grows_on has more most g h) (behind (UnlockId i from advance) found b))
-  aside (EndId i) p next r = λ more g b. (tt, λ found most h _. r found most (grows_on has more most g h) Other)
-  aside (FreeId i) p next r = λ more g b. (tt, λ found most h _. r found most (grows_on has more most g h) Other)
-  aside (TakeCall i) p next r = λ more g b. (tt, λ found most h _. r found most (grows_on has more most g h) (behind (TakeCall i) found b))
-  aside (TakeBytes k room) p next r = λ more g b. (tt, λ found most h _. r found most (grows_on has more most g h) Other)
+  aside (ClaimId i) p next r = record { goes = λ more g b. (tt, λ found most h _. (r found).goes most (grows_on has more most g h) (behind (ClaimId i) found b)) }
+  aside (StoreCall o id) p next r = record { goes = λ more g b. (tt, λ found most h _. (r found).goes most (grows_on has more most g h) Other) }
+  aside (LoadCall o) p next r = record { goes = λ more g b. (tt, λ found most h _. (r found).goes most (grows_on has more most g h) Other) }
+  aside (LoadAt o) p next r = record { goes = λ more g b. (tt, λ found most h _. (r found).goes most (grows_on has more most g h) Other) }
+  aside (LoadIdWord i) p next r = record { goes = λ more g b. (tt, λ found most h _. (r found).goes most (grows_on has more most g h) Other) }
+  aside (LockId i from) p next r = record { goes = λ more g b. (tt, λ found most h _. (r found).goes most (grows_on has more most g h) (behind (LockId i from) found b)) }
+  aside (PostId i from e) p next r = record { goes = λ more g b. (tt, λ found most h _. (r found).goes most (grows_on has more most g h) (behind (PostId i from e) found b)) }
+  aside (UnlockId i from advance) p next r = record { goes = λ more g b. (tt, λ found most h _. (r found).goes most (grows_on has more most g h) (behind (UnlockId i from advance) found b)) }
+  aside (EndId i) p next r = record { goes = λ more g b. (tt, λ found most h _. (r found).goes most (grows_on has more most g h) Other) }
+  aside (FreeId i) p next r = record { goes = λ more g b. (tt, λ found most h _. (r found).goes most (grows_on has more most g h) Other) }
+  aside (TakeCall i) p next r = record { goes = λ more g b. (tt, λ found most h _. (r found).goes most (grows_on has more most g h) (behind (TakeCall i) found b)) }
+  aside (TakeBytes k room) p next r = record { goes = λ more g b. (tt, λ found most h _. (r found).goes most (grows_on has more most g h) Other) }
 
   pub keep : (r : Retry) (next : Program) → r.attempt < 64 → Later next → Later (Keep r next)
-  keep r next few x = λ more g b. (few, x more g b)
+  keep r next few x = record { goes = λ more g b. (few, x.goes more g b) }
 
   pub retries : (requests : ℕ) (after : Program) → Later after → Later (Retries requests after)
-  retries requests after r = r
+  retries requests after r = record { goes = λ more g b. r.goes more g Other }
 
   -- ## Errors
 
@@ -197,14 +197,14 @@ module _ (has : ℕ → ℕ) (left : ℕ → Bool) where
   AfterPost i k other = Later (k other)
 
   posts_again : (id e found : ℕ) (k : Posting → Program) → ((x : Posting) → AfterPost (id_slot id) k x) → Later (Round (Posts id e found) k)
-  posts_again id e found k after = λ more g b. (tt, λ exit most h f _. by_exit exit most (grows_on has more most g h) f)
+  posts_again id e found k after = record { goes = λ more g b. (tt, λ exit most h f _. by_exit exit most (grows_on has more most g h) f) }
     where
       by_exit : (exit : Posting) (most : ℕ → ℕ) → Grows has most → (f : ℕ) → Owns most left (behind_head (Posts id e found) f exit) (k exit)
       by_exit (HasLocked w) most h f = after (HasLocked w) most h f
-      by_exit WasGone most h f = after WasGone most h Other
-      by_exit WasStale most h f = after WasStale most h Other
-      by_exit (WasCrowded x y) most h f = after (WasCrowded x y) most h Other
-      by_exit WasQueued most h f = after WasQueued most h Other
+      by_exit WasGone most h f = (after WasGone).goes most h Other
+      by_exit WasStale most h f = (after WasStale).goes most h Other
+      by_exit (WasCrowded x y) most h f = (after (WasCrowded x y)).goes most h Other
+      by_exit WasQueued most h f = (after WasQueued).goes most h Other
 
   judged_goes : (id e found : ℕ) (k : Posting → Program) → ((x : Posting) → AfterPost (id_slot id) k x) → Later (judged id e found k)
   judged_goes id e found k after = either_way (not (is_first (id_first id) (parts found))) _ _ Later (after WasGone)
@@ -212,12 +212,12 @@ module _ (has : ℕ → ℕ) (left : ℕ → Bool) where
       (either_way (is_full (parts found)) _ _ Later (after (WasCrowded (code_of (parts found).oldest) (code_of (parts found).second))) (posts_again id e found k after)))
 
   posts_goes : (id e from : ℕ) (k : Posting → Program) → ((x : Posting) → AfterPost (id_slot id) k x) → Later (posts_round id e from k)
-  posts_goes id e from k after = λ more g b. (tt, λ found most h _. by_hit (found == from) ((parts from).state == 1) found most (grows_on has more most g h))
+  posts_goes id e from k after = record { goes = λ more g b. (tt, λ found most h _. by_hit (found == from) ((parts from).state == 1) found most (grows_on has more most g h)) }
     where
       by_hit : (hit one : Bool) (found : ℕ) (most : ℕ → ℕ) → Grows has most → Owns most left (cond hit (cond one (HasLock (id_slot id) (parts found).first) Other) Other) (cond hit (cond one (k (HasLocked (packed (posted_word (parts from) e)))) (k WasQueued)) (judged id e found k))
       by_hit true true found most h = after (HasLocked (packed (posted_word (parts from) e))) most h (parts found).first
-      by_hit true false found most h = after WasQueued most h Other
-      by_hit false one found most h = judged_goes id e found k after most h Other
+      by_hit true false found most h = (after WasQueued).goes most h Other
+      by_hit false one found most h = (judged_goes id e found k after).goes most h Other
 
   pub post_with_goes : (id e : ℕ) (k : Posting → Program) → ((x : Posting) → AfterPost (id_slot id) k x) → Later (post_with id e k)
   post_with_goes id e k after = aside (LoadIdWord (id_slot id)) tt _ (λ found. judged_goes id e found k after)
@@ -229,19 +229,19 @@ module _ (has : ℕ → ℕ) (left : ℕ → Bool) where
   AfterUnlock i k other = Later (k other)
 
   pub unlocks_again : (i w : ℕ) (advance : Bool) (k : Unlocking → Program) → ((x : Unlocking) → AfterUnlock i k x) → Later (Round (Unlocks i w advance) k)
-  unlocks_again i w advance k after = λ more g b. (tt, λ exit most h f _. by_exit exit most (grows_on has more most g h) f)
+  unlocks_again i w advance k after = record { goes = λ more g b. (tt, λ exit most h f _. by_exit exit most (grows_on has more most g h) f) }
     where
       by_exit : (exit : Unlocking) (most : ℕ → ℕ) → Grows has most → (f : ℕ) → Owns most left (behind_head (Unlocks i w advance) f exit) (k exit)
       by_exit (HasNext x e) most h f = after (HasNext x e) most h f
-      by_exit (IsOpen x) most h f = after (IsOpen x) most h Other
+      by_exit (IsOpen x) most h f = (after (IsOpen x)).goes most h Other
 
   popped_goes : (i oldest word : ℕ) (k : Unlocking → Program) → ((x : Unlocking) → AfterUnlock i k x) → Locked i (popped i oldest word k)
-  popped_goes i oldest word k after = λ more g f. either_way (oldest == 0) _ _ (Owns more left (HasLock i f)) (after (IsOpen word) more g (HasLock i f))
-      (either_way (is_stale oldest (parts word)) _ _ (Owns more left (HasLock i f)) (unlocks_again i word false k after more g (HasLock i f)) (after (HasNext word oldest) more g f))
+  popped_goes i oldest word k after = λ more g f. either_way (oldest == 0) _ _ (Owns more left (HasLock i f)) ((after (IsOpen word)).goes more g (HasLock i f))
+      (either_way (is_stale oldest (parts word)) _ _ (Owns more left (HasLock i f)) ((unlocks_again i word false k after).goes more g (HasLock i f)) (after (HasNext word oldest) more g f))
 
   unlocks_goes : (i from : ℕ) (advance : Bool) (k : Unlocking → Program) → ((x : Unlocking) → AfterUnlock i k x) → Later (unlocks_round i from advance k)
-  unlocks_goes i from advance k after = λ more g b. (tt, λ found most h _. let hs = grows_on has more most g h in either_way (found == from) _ _ (Owns most left (HasLock i (parts found).first))
-      (popped_goes i (parts from).oldest (packed (unlocked_word (parts from) (advance_of advance))) k after most hs (parts found).first) (unlocks_again i found advance k after most hs (HasLock i (parts found).first)))
+  unlocks_goes i from advance k after = record { goes = λ more g b. (tt, λ found most h _. let hs = grows_on has more most g h in either_way (found == from) _ _ (Owns most left (HasLock i (parts found).first))
+      (popped_goes i (parts from).oldest (packed (unlocked_word (parts from) (advance_of advance))) k after most hs (parts found).first) ((unlocks_again i found advance k after).goes most hs (HasLock i (parts found).first))) }
 
   pub end_id_goes : (i : ℕ) (next : Program) → Later next → Later (end_id i next)
   end_id_goes i next after = aside (EndId i) tt _ (λ found. either_way (nat_le ((parts found).first + (parts found).range) LAST) _ _ Later (aside (FreeId i) tt _ (λ _. after)) after)
@@ -249,7 +249,7 @@ module _ (has : ℕ → ℕ) (left : ℕ → Bool) where
   -- whoever has the lock takes the call out, which is that of the range
   pub decide_goes : (id word e : ℕ) (k : Deciding → Program) → ((x : Deciding) → Later (k x)) → Locked (id_slot id) (decide id word e k)
   decide_goes id word e k after = λ more g f. (tt, λ asked most h finds. subst (λ b. Owns most left b (Round (Decides id asked word e) k)) (sym (ap (λ b. cond b (HasTaken (id_slot id) f) Other) (eq-eqb (id_slot id) (id_slot id) refl)))
-      ((f, refl, finds f refl), λ exit last h₂ x _. after exit last (grows_on has most last (grows_on has more most g h) h₂) Other))
+      ((f, refl, finds f refl), λ exit last h₂ x _. (after exit).goes last (grows_on has most last (grows_on has more most g h) h₂) Other))
 
   unlocked_goes : (i : ℕ) (r : Retry) (k : Deciding → Program) → id_slot r.id ≡ i → r.attempt < 64 → ((x : Deciding) → Later (k x)) → (exit : Unlocking) → AfterUnlock i (unlocked r k) exit
   unlocked_goes i r k slot few after (IsOpen word) = keep r (k GoesOn) few (after GoesOn)
@@ -257,12 +257,12 @@ module _ (has : ℕ → ℕ) (left : ℕ → Bool) where
 
   decides_goes : (more : ℕ → ℕ) → Grows has more → (id : ℕ) (asked : Asked) (word e : ℕ) (k : Deciding → Program) → ((x : Deciding) → Later (k x)) → (f : ℕ) → IsIdOf more asked.operation (call_id (id_slot id) f) → Owns more left (HasTaken (id_slot id) f) (decides_round id asked word e k)
   decides_goes more g id asked word e k after f own = either_way (ends_call (parts word) e) _ _ (Owns more left (HasTaken (id_slot id) f))
-      (end_id_goes (id_slot id) (k (HasEnded asked.operation (code_of e))) (after (HasEnded asked.operation (code_of e))) more g (HasTaken (id_slot id) f))
-      (inr (f, refl, own), λ found most h _. unlocks_again (id_slot id) word true (unlocked (record { id = id; attempt = (parts word).attempt + 1 }) k)
-      (unlocked_goes (id_slot id) (record { id = id; attempt = (parts word).attempt + 1 }) k refl (omega arith) after) most (grows_on has more most g h) Other)
+      ((end_id_goes (id_slot id) (k (HasEnded asked.operation (code_of e))) (after (HasEnded asked.operation (code_of e)))).goes more g (HasTaken (id_slot id) f))
+      (inr (f, refl, own), λ found most h _. (unlocks_again (id_slot id) word true (unlocked (record { id = id; attempt = (parts word).attempt + 1 }) k)
+      (unlocked_goes (id_slot id) (record { id = id; attempt = (parts word).attempt + 1 }) k refl (omega arith) after)).goes most (grows_on has more most g h) Other)
 
   pub decided_goes : (id : ℕ) (next : Program) → Later next → (exit : Deciding) → Later (decided id next exit)
-  decided_goes id next after (HasEnded o c) = after
+  decided_goes id next after (HasEnded o c) = say o (CallFailed id c) next after
   decided_goes id next after GoesOn = after
 
   pub posted_goes : (id e : ℕ) (next : Program) → Later next → (exit : Posting) → AfterPost (id_slot id) (posted id e next) exit
@@ -282,11 +282,11 @@ module _ (has : ℕ → ℕ) (left : ℕ → Bool) where
   AfterLock i sought k other = Later (k other)
 
   pub locks_again : (i : ℕ) (sought : Sought) (w : Option ℕ) (k : Locking → Program) → IsOfSought sought w → ((x : Locking) → AfterLock i sought k x) → Later (Round (Locks i sought w) k)
-  locks_again i sought w k is after = λ more g b. (is, λ exit most h f l. by_exit exit most (grows_on has more most g h) f l)
+  locks_again i sought w k is after = record { goes = λ more g b. (is, λ exit most h f l. by_exit exit most (grows_on has more most g h) f l) }
     where
       by_exit : (exit : Locking) (most : ℕ → ℕ) → Grows has most → (f : ℕ) → LeavesLock sought f exit → Owns most left (behind_head (Locks i sought w) f exit) (k exit)
       by_exit (Has x) most h f l = after (Has x) most h f l
-      by_exit (NotThere x) most h f l = after (NotThere x) most h Other
+      by_exit (NotThere x) most h f l = (after (NotThere x)).goes most h Other
 
   sought_is : (sought : Sought) (found : ℕ) → is_sought sought (parts found) ≡ true → IsOfSought sought (Some found)
   sought_is (First x) found e = eqb-true (parts found).first x (first_true ((parts found).first == x) (not ((parts found).state == 0)) e)
@@ -309,7 +309,7 @@ module _ (has : ℕ → ℕ) (left : ℕ → Bool) where
 
   locks_goes : (i : ℕ) (sought : Sought) (word : Option ℕ) (k : Locking → Program) → IsOfSought sought word → ((x : Locking) → AfterLock i sought k x) → Later (locks_round i sought word k)
   locks_goes i sought None k is after = aside (LoadIdWord i) tt _ (λ found. locking_goes i sought found k after)
-  locks_goes i sought (Some from) k is after = λ more g b. (tt, λ found most h _. by_hit (found == from) found refl most (grows_on has more most g h))
+  locks_goes i sought (Some from) k is after = record { goes = λ more g b. (tt, λ found most h _. by_hit (found == from) found refl most (grows_on has more most g h)) }
     where
       leaves : (s : Sought) (found w : ℕ) → found ≡ from → IsOfSought s (Some from) → LeavesLock s (parts found).first (Has w)
       leaves (First x) found w e is = ap (λ n. (parts n).first) e ∙ is
@@ -317,36 +317,36 @@ module _ (has : ℕ → ℕ) (left : ℕ → Bool) where
 
       by_hit : (hit : Bool) (found : ℕ) → (found == from) ≡ hit → (most : ℕ → ℕ) → Grows has most → Owns most left (cond hit (HasLock i (parts found).first) Other) (cond hit (k (Has (packed (posted_word (parts from) 0)))) (locking i sought found k))
       by_hit true found e most h = after (Has (packed (posted_word (parts from) 0))) most h (parts found).first (leaves sought found (packed (posted_word (parts from) 0)) (eqb-true found from e) is)
-      by_hit false found e most h = locking_goes i sought found k after most h Other
+      by_hit false found e most h = (locking_goes i sought found k after).goes most h Other
 
   -- ## Plain loops
 
   pub joins_again : (id : ℕ) (k : ℕ → Program) → ((x : ℕ) → Later (k x)) → Later (Round (Joins id) k)
-  joins_again id k after = λ more g b. (tt, λ exit most h f _. after exit most (grows_on has more most g h) Other)
+  joins_again id k after = record { goes = λ more g b. (tt, λ exit most h f _. (after exit).goes most (grows_on has more most g h) Other) }
 
   joins_goes : (id : ℕ) (k : ℕ → Program) → ((x : ℕ) → Later (k x)) → Later (joins_round id k)
   joins_goes id k after = aside (LoadIdWord (id_slot id)) tt _ (λ found. either_way (is_first (id_first id) (parts found)) _ _ Later (joins_again id k after) (after found))
 
   pub opens_again : (o : ℕ) (k : ℕ → Program) → ((x : ℕ) → Later (k x)) → Later (Round (Opens o) k)
-  opens_again o k after = λ more g b. (tt, λ exit most h f _. after exit most (grows_on has more most g h) Other)
+  opens_again o k after = record { goes = λ more g b. (tt, λ exit most h f _. (after exit).goes most (grows_on has more most g h) Other) }
 
   opens_goes : (o : ℕ) (k : ℕ → Program) → ((x : ℕ) → Later (k x)) → Later (opens_round o k)
   opens_goes o k after = step (LoadOpen o) _ (λ word. either_way (word == 0) _ _ Later (opens_again o k after) (after word))
 
   pub reads_again : (r : Reading) (k : Ended → Program) → ((x : Ended) → Later (k x)) → Later (Round (Reads r) k)
-  reads_again r k after = λ more g b. (tt, λ exit most h f _. after exit most (grows_on has more most g h) Other)
+  reads_again r k after = record { goes = λ more g b. (tt, λ exit most h f _. (after exit).goes most (grows_on has more most g h) Other) }
 
   pub discards_again : (l total : ℕ) (k : ℕ → Program) → ((x : ℕ) → Later (k x)) → Later (Round (Discards l total) k)
-  discards_again l total k after = λ more g b. (tt, λ exit most h f _. after exit most (grows_on has more most g h) Other)
+  discards_again l total k after = record { goes = λ more g b. (tt, λ exit most h f _. (after exit).goes most (grows_on has more most g h) Other) }
 
   -- ## Reading
 
   pub answer_goes : (frame : Frame) (first : ℕ) (next : Program) → Later next → Later (answer frame first next)
-  answer_goes frame first next after = aside (TakeCall (slot_in frame)) tt _ (λ asked. end_id_goes (slot_in frame) (Say asked.operation (ending_of (call_id (slot_in frame) first) frame) next) after)
+  answer_goes frame first next after = aside (TakeCall (slot_in frame)) tt _ (λ asked. end_id_goes (slot_in frame) (Say asked.operation (ending_of (call_id (slot_in frame) first) frame) next) (say asked.operation (ending_of (call_id (slot_in frame) first) frame) next after))
 
   answered_goes : (frame : Frame) (kept : List Frame) (k : List Frame → Program) → ((x : List Frame) → Later (k x)) → (exit : Locking) → AfterLock (slot_in frame) (Version (version_in frame)) (answered frame kept k) exit
   answered_goes frame kept k after (NotThere found) = after (cond (is_early (version_in frame) found) (kept ++ frame ∷ []) kept)
-  answered_goes frame kept k after (Has word) = λ more g f _. answer_goes frame (parts word).first (k kept) (after kept) more g (HasLock (slot_in frame) f)
+  answered_goes frame kept k after (Has word) = λ more g f _. (answer_goes frame (parts word).first (k kept) (after kept)).goes more g (HasLock (slot_in frame) f)
 
   responses_goes : (ids : ℕ) (frames kept : List Frame) (k : List Frame → Program) → ((x : List Frame) → Later (k x)) → Later (responses ids frames kept k)
   responses_goes ids [] kept k after = after kept
@@ -379,26 +379,26 @@ module _ (has : ℕ → ℕ) (left : ℕ → Bool) where
 -- ## One round of each loop
 
 pub owns_round : (has : ℕ → ℕ) (left : ℕ → Bool) (b : Behind) (head : Head) (k : Exit head → Program) → Owns has left b (Round head k) → Owns has left b (round head k)
-owns_round has left b (Posts id e w) k r = posts_goes has left id e w k by_exit has (grows_same has) b
+owns_round has left b (Posts id e w) k r = (posts_goes has left id e w k by_exit).goes has (grows_same has) b
   where
     by_exit : (x : Posting) → AfterPost has left (id_slot id) k x
     by_exit (HasLocked x) = λ more g f. r.1 (HasLocked x) more g f tt
-    by_exit WasGone = λ more g c. owns_any more left c (k WasGone) (r.1 WasGone more g 0 tt)
-    by_exit WasStale = λ more g c. owns_any more left c (k WasStale) (r.1 WasStale more g 0 tt)
-    by_exit (WasCrowded x y) = λ more g c. owns_any more left c (k (WasCrowded x y)) (r.1 (WasCrowded x y) more g 0 tt)
-    by_exit WasQueued = λ more g c. owns_any more left c (k WasQueued) (r.1 WasQueued more g 0 tt)
-owns_round has left b (Unlocks i w advance) k r = unlocks_goes has left i w advance k by_exit has (grows_same has) b
+    by_exit WasGone = record { goes = λ more g c. owns_any more left c (k WasGone) (r.1 WasGone more g 0 tt) }
+    by_exit WasStale = record { goes = λ more g c. owns_any more left c (k WasStale) (r.1 WasStale more g 0 tt) }
+    by_exit (WasCrowded x y) = record { goes = λ more g c. owns_any more left c (k (WasCrowded x y)) (r.1 (WasCrowded x y) more g 0 tt) }
+    by_exit WasQueued = record { goes = λ more g c. owns_any more left c (k WasQueued) (r.1 WasQueued more g 0 tt) }
+owns_round has left b (Unlocks i w advance) k r = (unlocks_goes has left i w advance k by_exit).goes has (grows_same has) b
   where
     by_exit : (x : Unlocking) → AfterUnlock has left i k x
     by_exit (HasNext x e) = λ more g f. r.1 (HasNext x e) more g f tt
-    by_exit (IsOpen x) = λ more g c. owns_any more left c (k (IsOpen x)) (r.1 (IsOpen x) more g 0 tt)
+    by_exit (IsOpen x) = record { goes = λ more g c. owns_any more left c (k (IsOpen x)) (r.1 (IsOpen x) more g 0 tt) }
 owns_round has left b (Decides id asked w e) k r = let a = r.0 in subst (λ c. Owns has left c (decides_round id asked w e k)) (sym a.1)
-    (decides_goes has left has (grows_same has) id asked w e k (λ x more g c. owns_any more left c (k x) (r.1 x more g 0 tt)) a.0 a.2)
-owns_round has left b (Locks i sought w) k r = locks_goes has left i sought w k r.0 by_exit has (grows_same has) b
+    (decides_goes has left has (grows_same has) id asked w e k (λ x. record { goes = λ more g c. owns_any more left c (k x) (r.1 x more g 0 tt) }) a.0 a.2)
+owns_round has left b (Locks i sought w) k r = (locks_goes has left i sought w k r.0 by_exit).goes has (grows_same has) b
   where
     by_exit : (x : Locking) → AfterLock has left i sought k x
     by_exit (Has x) = λ more g f l. r.1 (Has x) more g f l
-    by_exit (NotThere x) = λ more g c. owns_any more left c (k (NotThere x)) (r.1 (NotThere x) more g (first_of sought) (none_left sought x))
+    by_exit (NotThere x) = record { goes = λ more g c. owns_any more left c (k (NotThere x)) (r.1 (NotThere x) more g (first_of sought) (none_left sought x)) }
       where
         first_of : Sought → ℕ
         first_of (First y) = y
@@ -407,7 +407,7 @@ owns_round has left b (Locks i sought w) k r = locks_goes has left i sought w k 
         none_left : (s : Sought) (x : ℕ) → LeavesLock s (first_of s) (NotThere x)
         none_left (First y) x = tt
         none_left (Version v) x = tt
-owns_round has left b (Joins id) k r = joins_goes has left id k (λ x more g c. owns_any more left c (k x) (r.1 x more g 0 tt)) has (grows_same has) b
-owns_round has left b (Opens o) k r = opens_goes has left o k (λ x more g c. owns_any more left c (k x) (r.1 x more g 0 tt)) has (grows_same has) b
-owns_round has left b (Reads r') k r = aside has left (TakeBytes r'.link (room_of r'.total)) tt (took r' k) (took_goes has left r' k (λ x more g c. owns_any more left c (k x) (r.1 x more g 0 tt))) has (grows_same has) b
-owns_round has left b (Discards l total) k r = aside has left (TakeBytes l (room_of total)) tt (discarded l total k) (discarded_goes has left l total k (λ x more g c. owns_any more left c (k x) (r.1 x more g 0 tt))) has (grows_same has) b
+owns_round has left b (Joins id) k r = (joins_goes has left id k (λ x. record { goes = λ more g c. owns_any more left c (k x) (r.1 x more g 0 tt) })).goes has (grows_same has) b
+owns_round has left b (Opens o) k r = (opens_goes has left o k (λ x. record { goes = λ more g c. owns_any more left c (k x) (r.1 x more g 0 tt) })).goes has (grows_same has) b
+owns_round has left b (Reads r') k r = (aside has left (TakeBytes r'.link (room_of r'.total)) tt (took r' k) (took_goes has left r' k (λ x. record { goes = λ more g c. owns_any more left c (k x) (r.1 x more g 0 tt) }))).goes has (grows_same has) b
+owns_round has left b (Discards l total) k r = (aside has left (TakeBytes l (room_of total)) tt (discarded l total k) (discarded_goes has left l total k (λ x. record { goes = λ more g c. owns_any more left c (k x) (r.1 x more g 0 tt) }))).goes has (grows_same has) b

@@ -129,7 +129,7 @@ Owns has left b (Write w after) = (more : ℕ → ℕ) → Grows has more → Ow
 Owns has left b (Aside step next) = MayOwn has left b step × ((found : Found step) (more : ℕ → ℕ) → Grows has more → FindsOwn more b step found → Owns more (left_behind step b left) (behind step found b) (next found))
 Owns has left b (Round head next) = AtOwn has b head × ((exit : Exit head) (more : ℕ → ℕ) → Grows has more → (f : ℕ) → LeavesOwn head f exit → Owns more left (behind_head head f exit) (next exit))
 Owns has left b (Keep r next) = (r.attempt < 64) × Owns has left b next
-Owns has left b (Retries requests after) = Owns has left b after
+Owns has left b (Retries requests after) = Owns has left Other after
 
 -- ## All seats
 
