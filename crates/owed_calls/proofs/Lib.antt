@@ -38,3 +38,4 @@ pub mod Known
 pub mod OwnsLoops
 pub mod OwnsSends
 pub mod OwnsCalls
+pub mod OwnsSteps

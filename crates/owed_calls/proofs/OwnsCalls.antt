@@ -100,11 +100,11 @@ module _ (has : ℕ → ℕ) (mine : ℕ → Bool) where
 
   claim_goes : (more i requests socket : ℕ) (asked : Asked) (next : Program) → mine asked.operation ≡ true → G₂ next → Later has (but asked.operation mine) next → G₂ (claim_id more i requests socket asked next)
   claim_goes zero i requests socket asked next here after made = after
-  claim_goes (suc more) i requests socket asked next here after made = record { goes = λ now g b. (tt, λ found most h _. by_hit (found == 0) most (grows_on has now most g h)) }
+  claim_goes (suc more) i requests socket asked next here after made = record { goes = λ now g b. (tt, λ found most h _. by_hit (claim_goes more (i + 1) requests socket asked next here after made) (found == 0) most (grows_on has now most g h)) }
     where
-      by_hit : (hit : Bool) (most : ℕ → ℕ) → Grows has most → Owns most mine (cond hit (HasClaimed i) Other) (cond hit (begin_call requests socket i asked next) (claim_id more (i + 1) requests socket asked next))
-      by_hit true most h = begin_goes has mine requests socket i asked next here made most h
-      by_hit false most h = (claim_goes more (i + 1) requests socket asked next here after made).goes most h Other
+      by_hit : G₂ (claim_id more (i + 1) requests socket asked next) → (hit : Bool) (most : ℕ → ℕ) → Grows has most → Owns most mine (cond hit (HasClaimed i) Other) (cond hit (begin_call requests socket i asked next) (claim_id more (i + 1) requests socket asked next))
+      by_hit others true most h = begin_goes has mine requests socket i asked next here made most h
+      by_hit others false most h = others.goes most h Other
 
   pub call_goes : (requests ids : ℕ) (asked : Asked) (next : Program) → mine asked.operation ≡ true → G₂ next → Later has (but asked.operation mine) next → G₂ (call requests ids asked next)
   call_goes requests ids asked next here after made = step has mine (LoadName (name_of asked 0)) _ (λ word. either_way (word == 0) _ _ G₂ (say has mine asked.operation Unopened next after) (claim_goes ids 0 requests (word - 1) asked next here after made))

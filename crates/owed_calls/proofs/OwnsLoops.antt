@@ -133,7 +133,7 @@ module _ (has : ℕ → ℕ) (left : ℕ → Bool) where
   -- ## Steps
 
   pub step : (call : Call) (next : ℕ → Program) → ((found : ℕ) → Later (next found)) → Later (Do call next)
-  step call next r = λ more g b found fits most h. (r found).goes most (grows_on has more most g h) Other
+  step call next r = record { goes = λ more g b found fits most h. (r found).goes most (grows_on has more most g h) Other }
 
   pub say : (o : ℕ) (outcome : Outcome) (next : Program) → Later next → Later (Say o outcome next)
   say o outcome next r = record { goes = λ more g b. r.goes more g b }
@@ -142,22 +142,22 @@ module _ (has : ℕ → ℕ) (left : ℕ → Bool) where
   sent o next r = record { goes = λ more g b. r.goes more g b }
 
   pub message : (q : ℕ) (next : Heading → List ℕ → Program) → ((heading : Heading) (bytes : List ℕ) → Later (next heading bytes)) → Later (TakeMessage q next)
-  message q next r = λ more g b heading bytes most h. (r heading bytes).goes most (grows_on has more most g h) Other
+  message q next r = record { goes = λ more g b heading bytes most h. (r heading bytes).goes most (grows_on has more most g h) Other }
 
   pub home : (k : ℕ) (next : ℕ → Program) → ((n : ℕ) → Later (next n)) → Later (TakeHome k next)
-  home k next r = λ more g b n most h. (r n).goes most (grows_on has more most g h) Other
+  home k next r = record { goes = λ more g b n most h. (r n).goes most (grows_on has more most g h) Other }
 
   pub puts_home : (k n : ℕ) (after : Program) → Later after → Later (PutHome k n after)
-  puts_home k n after r = λ more g b most h. r.goes most (grows_on has more most g h) Other
+  puts_home k n after r = record { goes = λ more g b most h. r.goes most (grows_on has more most g h) Other }
 
   pub put : (k : ℕ) (asked : Bool) (bytes : List ℕ) (next : Put → Program) → ((answer : Put) → Later (next answer)) → Later (PutBytes k asked bytes next)
-  put k asked bytes next r = λ more g b answer most h. (r answer).goes most (grows_on has more most g h) Other
+  put k asked bytes next r = record { goes = λ more g b answer most h. (r answer).goes most (grows_on has more most g h) Other }
 
   pub ask : (k : ℕ) (next : Ready → Program) → ((answer : Ready) → Later (next answer)) → Later (AskReady k next)
-  ask k next r = λ more g b answer most h. (r answer).goes most (grows_on has more most g h) Other
+  ask k next r = record { goes = λ more g b answer most h. (r answer).goes most (grows_on has more most g h) Other }
 
   pub write : (w : Writing) (after : Program) → Later after → Later (Write w after)
-  write w after r = λ more g b most h. r.goes most (grows_on has more most g h) Other
+  write w after r = record { goes = λ more g b most h. r.goes most (grows_on has more most g h) Other }
 
   -- a step aside that stores nothing of a call's own
   abbrev pub IsPlain : Step → Type 0
