@@ -39,3 +39,5 @@ pub mod OwnsLoops
 pub mod OwnsSends
 pub mod OwnsCalls
 pub mod OwnsSteps
+pub mod OwnsTicks
+pub mod OwnsRuns

@@ -54,8 +54,8 @@ unlocked_parts w more few = let is = parts_packed (unlocked_word (parts w) more)
     below false = omega arith
 
     above : (b : Bool) → cond b 1 2 ≡ 0 → ⊥
-    above true e = let z : 1 ≡ 0 = e in omega (arith, z)
-    above false e = let z : 2 ≡ 0 = e in omega (arith, z)
+    above true e = omega (arith, e)
+    above false e = omega (arith, e)
 
 -- ## Two seats
 
