@@ -25,7 +25,7 @@ use Rattle.sock_programs.specs.Ticks.{Answer, Unasked, Moment, quiet, ticked, ru
 use Rattle.sock_programs.specs.Runs as runs
 use Rattle.sock_programs.specs.Runs.{kind_in}
 use Rattle.sock_programs.specs.Scripts.{sizes_of, programs, readers_from, all_programs, all_tasks, opened, ending, is_ending, set_up, played, IsRunWithCalls}
-use Rattle.sock_runs.specs.Sound.{Sound, views_along}
+use Rattle.sock_runs.specs.Sound.{Sound, AllRest, views_along}
 use Rattle.sock_runs.proofs.LinkTicks.{RetriesGo}
 use Rattle.sock_runs.proofs.Along.{seat_rests, place_inside}
 use Rattle.sock_runs.proofs.Quiets.{run_seats, run_rests}
@@ -36,17 +36,20 @@ use Rattle.sock_programs.specs.Calls.{Call, StoreOpen}
 use Rattle.id_runs.specs.Goes as goes
 use Rattle.sock_runs.proofs.WillStore.{WillStore, IsToStore, will_client, run_stores, rested_stored}
 use Rattle.sock_runs.proofs.LinksOpening.{OpensLink}
-use Rattle.sock_runs.proofs.Whole.{AreFittingIn, Begins, IsOwed, IsListed, views_closed, set_up_answered, end_answered, set_up_sound, closing_sound, closed_sound, views_played, rested_ahead, rested_idle, ended_idle}
+use Rattle.sock_runs.proofs.Whole.{AreFittingIn, Begins, IsOwed, IsListed, views_closed, set_up_answered, end_answered, set_up_sound, closing_sound, closed_sound, views_played, rested_ahead, rested_idle, ended_idle, end_rests}
 use Rattle.id_runs.proofs.Opening.{unused}
 use Rattle.client_laws.proofs.Beginning as clients_begin
 use Rattle.client_laws.proofs.Retrying.{retries_go}
-use Rattle.joint_runs.proofs.Both.{AreBoth}
+use Rattle.joint_runs.proofs.Both.{AreBoth, behind_both}
 use Rattle.joint_runs.proofs.Runs.{AreMade, first_views, begins, IsSoundRun, are_fitting_in, joint_runs}
 use Rattle.report_fits.proofs.Lists.{Has, some_is, filter_map_has, before_from, before_at, before_filter_map}
 use Rattle.report_fits.proofs.Numbering.{is_numbered}
 use Rattle.report_fits.proofs.TaskLemmas.{tasks_length}
 use Rattle.chain_laws.proofs.Lists.{at_some}
-use Rattle.owed_calls.specs.Sound.{id_word_of}
+use Rattle.owed_calls.specs.Owing.{Owing}
+use Rattle.owed_calls.specs.Sound.{id_word_of, SoundOwing}
+use Rattle.owed_calls.specs.Owns.{Owned}
+use Rattle.owed_calls.proofs.OwnsRuns.{first_left, none_yet, owned_begins, kept_along, owned_ending, owned_on}
 use Rattle.owed_calls.specs.Lives.{life_of, AreSaying, ClosesAt, ClosesInTime, ClosesInRun, AreKept}
 use Rattle.owed_calls.proofs.EndsStill.{run_ending, all_still, one_of_still, run_parts, second_part, in_first, in_round, rest_at, mapped_at}
 use Rattle.owed_calls.proofs.OpensStored.{opener_of, place_at}
@@ -357,10 +360,63 @@ module _ (script : List Item) (made : AreMade script) (turns : List Turn) (core 
         (subst (λ d. AreBoth (plan_of script) (id_plan_of script) d (views_closed script turns core is vs) is.final) is.is_ended s.final) (subst (λ d. ClosesInTime (plan_of script) d is.final) is.is_ended closes.final)
         (subst (λ d. AreKept (plan_of script) (id_plan_of script) (calls script) d is.final) is.is_ended kept.of_final) reach₆
 
-    -- whoever owes a call ends it
-    pub run_owed_kept : IsOwed script turns core is
-    run_owed_kept = owed.is_owed script made.are vs (begins script made) go turns core is fitting known end_ says₁ says₂ says₃ says₄
+    owed_kept : IsOwed script turns core is
+    owed_kept = owed.is_owed script made.are vs (begins script made) go turns core is fitting known end_ says₁ says₂ says₃ says₄
 
-    -- and no id range is left open
-    pub run_ranges_kept : (i : ℕ) → i < q.slots → (id_word_of core i).state ≡ 0
-    run_ranges_kept = owed.ranges_end script made.are vs (begins script made) go turns core is fitting known end_ says₁ says₂ says₃ says₄
+    ranges_kept : (i : ℕ) → i < q.slots → (id_word_of core i).state ≡ 0
+    ranges_kept = owed.ranges_end script made.are vs (begins script made) go turns core is fitting known end_ says₁ says₂ says₃ says₄
+
+    owing_kept : (us : List Owing) × SoundOwing q (life_of p os core.words) (calls script) core us
+    owing_kept = owed.owing_end script made.are vs (begins script made) go turns core is fitting known end_ says₁ says₂ says₃ says₄
+
+  -- ## At words
+
+  abbrev A₁ : AreKept p q (calls script) (opened script) M₁ × ((more : ℕ → ℕ) × (others : ℕ → ℕ → Bool) × Owned q (calls script) (set_up script is.setup) more others)
+  A₁ = let s = sound_run in kept_along p q known.narrow (calls script) (opened script) vs M₁ s.setup none_yet (first_left script) (owned_begins script made)
+
+  abbrev A₂ : AreKept p q (calls script) (set_up script is.setup) (is.scheduled ++ is.later) × ((more : ℕ → ℕ) × (others : ℕ → ℕ → Bool) × Owned q (calls script) (played script is.setup (is.scheduled ++ is.later)) more others)
+  A₂ = let s = sound_run in let a = A₁.1 in kept_along p q known.narrow (calls script) (set_up script is.setup) V₁ (is.scheduled ++ is.later) s.clients a.0 a.1 a.2
+
+  owned₃ : (more : ℕ → ℕ) × (others : ℕ → ℕ → Bool) × Owned q (calls script) C₃ more others
+  owned₃ = let s = sound_run in let a = A₂.1 in let both = behind_both p q (set_up script is.setup) V₁ (is.scheduled ++ is.later) s.clients in
+      let seat = at_some (played script is.setup (is.scheduled ++ is.later)).seats 0 (let m = many_played in omega (arith, m)) in
+      owned_ending p q known.narrow (calls script) (played script is.setup (is.scheduled ++ is.later)) both.id_views both.ids os a.0 a.1 a.2 seat.0 seat.1
+    where
+      many_played : length (played script is.setup (is.scheduled ++ is.later)).seats ≡ 32 + length os
+      many_played = run_seats (plan_of script) (set_up script is.setup) (is.scheduled ++ is.later) ∙ run_seats (plan_of script) (opened script) (replicate is.setup (quiet 0)) ∙ opened_seats script made.few_clients
+
+  abbrev A₃ : AreKept p q (calls script) C₃ M₃ × ((more : ℕ → ℕ) × (others : ℕ → ℕ → Bool) × Owned q (calls script) (run p C₃ M₃) more others)
+  A₃ = let s = sound_run in let a = owned₃ in kept_along p q known.narrow (calls script) C₃ V₂ M₃ s.closing a.0 a.1 a.2
+
+  final_kept : AreKept p q (calls script) C₅ is.final
+  final_kept = let s = sound_run in let a = A₃.1 in let both = behind_both p q C₃ V₂ M₃ s.closing in
+      (kept_along p q known.narrow (calls script) C₅ V₅ is.final (subst (λ d. AreBoth (plan_of script) (id_plan_of script) d (views_closed script turns core is vs) is.final) is.is_ended s.final) a.0 a.1
+      (owned_on p q known.narrow (calls script) (run p C₃ M₃) both.id_views both.ids a.0 a.1 a.2)).0
+
+  -- at each tick of a run an at word keeps the id that it named
+  pub run_keeps : KeepsInRun script turns core is
+  run_keeps = record {
+    of_setup = A₁.0;
+    of_played = A₂.0;
+    of_closing = A₃.0;
+    of_final = subst (λ d. AreKept (plan_of script) (id_plan_of script) (calls script) d is.final) (sym is.is_ended) final_kept;
+  }
+
+  -- ## The end of a run
+
+  module _ (closes : ClosesInRun script turns core is) where
+    -- whoever owes a call ends it: no seat has a step left, and the life of each link is past
+    pub run_owed_of : IsOwed script turns core is
+    run_owed_of = owed_kept closes run_keeps
+
+    -- no id range is left open
+    pub run_all_ended : (i : ℕ) → i < (id_plan_of script).slots → (id_word_of core i).state ≡ 0
+    run_all_ended = ranges_kept closes run_keeps
+
+    -- no seat has anything left to do
+    pub run_all_rest : AllRest core
+    run_all_rest = end_rests script made.are vs (begins script made) go turns core is fitting (owed_kept closes run_keeps)
+
+    -- and what each seat owes then is sound
+    pub run_owing_end : (us : List Owing) × SoundOwing (id_plan_of script) (life_of (plan_of script) (opens script) core.words) (calls script) core us
+    run_owing_end = owing_kept closes run_keeps

@@ -221,3 +221,7 @@ module _ (script : List Item) (are : AreTasks (plan_of script) (all_tasks script
     -- and each id range has ended
     pub ranges_end : (i : ℕ) → i < q.slots → (id_word_of core i).state ≡ 0
     ranges_end i inside = ap (λ (d : Core). (id_word_of d i).state) core_is ∙ all_ranges_ended p q (calls script) os known.in_script c₆ v₆ sound₆ ahead₆ flag₆ still₆ owed₆.0 owed₆.1 ids₆.0 ids₆.1 readers_end many_end i inside
+
+    -- what each seat owes then, which is nothing
+    pub owing_end : (us : List Owing) × SoundOwing q (life_of p os core.words) (calls script) core us
+    owing_end = subst (λ (d : Core). (us : List Owing) × SoundOwing (id_plan_of script) (life_of (plan_of script) (opens script) d.words) (calls script) d us) (sym core_is) owed₆

@@ -102,7 +102,7 @@ module _ (p : Plan) (q : IdPlan) (narrow : q.slots ≤ 65536) (calls : List ℕ)
 
   -- at each tick, and behind them
   pub kept_along : (c : Core) (vs : List View) (ms : List Moment) → AreBoth p q c vs ms → (has : ℕ → ℕ) (left : ℕ → ℕ → Bool) → Owned q calls c has left → AreKept p q calls c ms × ((more : ℕ → ℕ) × (others : ℕ → ℕ → Bool) × Owned q calls (run p c ms) more others)
-  kept_along c vs [] both has left owned = (tt, has, left, owned)
+  kept_along c vs [] both has left owned = (tt, (has, left, owned))
   kept_along c vs (m ∷ ms) both has left owned = let n = owns_ticks p q narrow calls c both.0.id_views both.0.ids has left owned m both.1.fitting_ids in let r = kept_along (ticked p c m) _ ms both.2 n.0 n.1 n.3 in
       ((λ seat at. keeps_at c both.0.id_views both.0.ids has left owned m.seat seat at, r.0), r.1)
 
@@ -202,6 +202,9 @@ module _ (script : List Item) where
   goes_others mine (suc n) os k zero x e = subst (Owns none_yet mine Other) (some-injective Rest x e) tt
   goes_others mine (suc n) os k (suc i) x e = goes_others mine n os k i x e
 
+  abbrev first : List Program
+  first = programs (sizes_of (plan_of script) (id_plan_of script)) (all_tasks script)
+
   -- no call has an id as a run begins
   pub owned_begins : AreMade script → Owned (id_plan_of script) (calls script) (opened script) none_yet first_left
   owned_begins made = record {
@@ -215,9 +218,6 @@ module _ (script : List Item) where
         subst (λ (s : SeatState). (b : Behind) × Owns none_yet (first_left j) b s.program × IsTrueOf (opened script) b s.program) x.2 (r.0, r.1, true_of (opened script) r.0 (next_step (resolved [] x.0)) r.2);
   }
     where
-      abbrev first : List Program
-      first = programs (sizes_of (plan_of script) (id_plan_of script)) (all_tasks script)
-
       begins : (j : ℕ) (x : Program) → get_elem? (all_programs (programs (sizes_of (plan_of script) (id_plan_of script)) (all_tasks script)) (readers_from (calls script) 0 (opens script))) j ≡ some x → Owns none_yet (first_left j) Other x
       begins j x at = ⊎_elim
           (λ a. let y = mapped (client_from (sizes_of (plan_of script) (id_plan_of script)) []) (all_tasks script) j x a in let are = made.are in

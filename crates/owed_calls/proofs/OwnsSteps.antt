@@ -53,7 +53,7 @@ unlocked_parts w more few = let is = parts_packed (unlocked_word (parts w) more)
     below true = omega arith
     below false = omega arith
 
-    above : (b : Bool) → cond b 1 2 ≡ 0 → ⊥
+    above : (b : Bool) → cond {A = ℕ} b 1 2 ≡ 0 → ⊥
     above true e = omega (arith, e)
     above false e = omega (arith, e)
 

@@ -382,17 +382,17 @@ module _ (p : Plan) (q : IdPlan) (narrow : q.slots ≤ 65536) (calls : List ℕ)
       now_home = ⊎_elim (λ e. subst (λ y. IsTrue (Then p q c ws ids (calls_after (PutCall m asked) found c.calls)) (put_behind m asked y)) (sym e) here) (λ x. subst (λ y. IsTrue (Then p q c ws ids (calls_after (PutCall m asked) found c.calls)) (put_behind m asked y)) (sym x.1) tt) g.0
 
       own : (id_word_of c m).state ≢ 0 → IsIdOf has asked.operation (call_id m (id_word_of c m).first)
-      own some_ = ⊎_elim (λ e. absurd (some_ (subst (λ y. IsTrueOf c y (Aside (PutCall m asked) next)) e true_ refl)))
-          (λ x. let f = (subst (λ y. IsTrueOf c y (Aside (PutCall m asked) next)) x.1 true_ refl).0 in subst (λ y. IsIdOf has asked.operation (call_id m y)) (sym f) x.2) g.0
+      own some_ = ⊎_elim (λ e. let y : IsTrueOf c (HasClaimed m) (Aside (PutCall m asked) next) = subst (λ y. IsTrueOf c y (Aside (PutCall m asked) next)) e true_ in absurd (some_ (y refl)))
+          (λ x. let z : IsTrueOf c (HasTaken m x.0) (Aside (PutCall m asked) next) = subst (λ y. IsTrueOf c y (Aside (PutCall m asked) next)) x.1 true_ in let f = (z refl).0 in subst (λ y. IsIdOf has asked.operation (call_id m y)) (sym f) x.2) g.0
 
       homes : (n : ℕ) → n < q.slots → (x : Asked) → get_elem? (set c.calls.homes m (some (std.Some asked))) n ≡ some (some (std.Some x)) → (id_word_of c n).state ≢ 0 → IsIdOf has x.operation (call_id n (id_word_of c n).first)
       homes n inside x e some_ = dite (ℕ_discrete n m)
           (λ same. let is_asked : x ≡ asked = same_call x asked (sym e ∙ ap (get_elem? (set c.calls.homes m (some (std.Some asked)))) same ∙ here) in
           subst (λ (y : Asked). IsIdOf has y.operation (call_id n (id_word_of c n).first)) (sym is_asked) (subst (λ y. IsIdOf has asked.operation (call_id y (id_word_of c y).first)) (sym same) (own (subst (λ y. (id_word_of c y).state ≢ 0) same some_))))
           (λ far. kept_home (PutCall m asked) next found t is may n inside (slot_keeps (PutCall m asked) found t is may n inside far) x e some_)
-  on_ids (MakeId m range) next found t is may b g true_ = makes m range next found t is may b g.0.0 g.0.1 g.0.2 (λ more grows finds. g.1 found more grows finds) (subst (λ y. IsTrueOf c y (Aside (MakeId m range) next)) g.0.1 true_ refl)
-  on_ids (StoreCall o id) next found t is may b g true_ = settle (StoreCall o id) next found t is may Other (g.1 found has (grows_same has) tt) tt (all_homes (StoreCall o id) next found t is may (λ n e. e))
-      (kept_ats (StoreCall o id) next found t is may (λ x inside. subst (λ (r : IdPlan). get_or (set c.calls.words (call_word r o) id) (at_word q x) 0 ≡ get_or c.calls.words (at_word q x) 0) (sym ids.plan) (other_at (call_word q o) id x (λ e. omega (arith, e)))))
+  on_ids (MakeId m range) next found t is may b g true_ = makes m range next found t is may b g.0.0 g.0.1 g.0.2 (λ more grows finds. g.1 found more grows finds) (let y : IsTrueOf c (HasPut m g.0.0) (Aside (MakeId m range) next) = subst (λ y. IsTrueOf c y (Aside (MakeId m range) next)) g.0.1 true_ in y refl)
+  on_ids (StoreCall x y) next found t is may b g true_ = settle (StoreCall x y) next found t is may Other (g.1 found has (grows_same has) tt) tt (all_homes (StoreCall x y) next found t is may (λ n e. e))
+      (kept_ats (StoreCall x y) next found t is may (λ n inside. subst (λ (r : IdPlan). get_or (set c.calls.words (call_word r x) y) (at_word q n) 0 ≡ get_or c.calls.words (at_word q n) 0) (sym ids.plan) (other_at (call_word q x) y n (λ e. omega (arith, e)))))
   on_ids (LoadCall o) next found t is may b g true_ = settle (LoadCall o) next found t is may Other (g.1 found has (grows_same has) tt) tt (all_homes (LoadCall o) next found t is may (λ n e. e)) (kept_ats (LoadCall o) next found t is may (λ x inside. refl))
   on_ids (StoreAt o w) next found t is may b g true_ = settle (StoreAt o w) next found t is may Other (g.1 found has (grows_same has) tt) tt (all_homes (StoreAt o w) next found t is may (λ n e. e))
       (subst (λ (r : IdPlan). (x : ℕ) → x < q.operations → get_or (set c.calls.words (at_word r o) w) (at_word q x) 0 ≢ 0 → IsIdOf has x (call_id (at_word_slot (get_or (set c.calls.words (at_word r o) w) (at_word q x) 0)) (at_word_first (get_or (set c.calls.words (at_word r o) w) (at_word q x) 0)))) (sym ids.plan) ats)
@@ -427,20 +427,17 @@ module _ (p : Plan) (q : IdPlan) (narrow : q.slots ≤ 65536) (calls : List ℕ)
       (all_homes (UnlockId m from advance) next found t is may (λ n e. e)) (kept_ats (UnlockId m from advance) next found t is may (λ o inside. low_at (id_word m) (cond (found == from) (packed (unlocked_word (parts from) (advance_of advance))) found) o (let low = may.0 in omega (arith, low))))
   on_ids (EndId m) next found t is may b g true_ = settle (EndId m) next found t is may Other (g.1 found has (grows_same has) tt) tt homes (kept_ats (EndId m) next found t is may (λ o inside. low_at (id_word m) (packed (free_word ((parts found).first + (parts found).range))) o (let low = may.0 in omega (arith, low))))
     where
-      abbrev Freed : Core
-      Freed = Then p q c ws ids (calls_after (EndId m) found c.calls)
-
-      free : (n : ℕ) → n ≡ m → (id_word_of Freed n).state ≡ 0
-      free n same = ap (λ y. (id_word_of Freed y).state) same ∙ ap (λ y. (parts y).state) (get_or-set_same c.calls.words (id_word m) (packed (free_word ((parts found).first + (parts found).range))) 0 (word_inside p q c ws ids m may.0))
+      free : (n : ℕ) → n ≡ m → (id_word_of (Then p q c ws ids (calls_after (EndId m) found c.calls)) n).state ≡ 0
+      free n same = ap (λ y. (id_word_of (Then p q c ws ids (calls_after (EndId m) found c.calls)) y).state) same ∙ ap (λ y. (parts y).state) (get_or-set_same c.calls.words (id_word m) (packed (free_word ((parts found).first + (parts found).range))) 0 (word_inside p q c ws ids m may.0))
           ∙ ap (λ (y : Parts). y.state) (parts_packed (free_word ((parts found).first + (parts found).range)) (omega arith) (omega arith) (omega arith) (omega arith) (omega arith) (omega arith))
 
-      homes : (n : ℕ) → n < q.slots → (x : Asked) → get_elem? c.calls.homes n ≡ some (some (std.Some x)) → (id_word_of Freed n).state ≢ 0 → IsIdOf has x.operation (call_id n (id_word_of Freed n).first)
+      homes : (n : ℕ) → n < q.slots → (x : Asked) → get_elem? c.calls.homes n ≡ some (some (std.Some x)) → (id_word_of (Then p q c ws ids (calls_after (EndId m) found c.calls)) n).state ≢ 0 → IsIdOf has x.operation (call_id n (id_word_of (Then p q c ws ids (calls_after (EndId m) found c.calls)) n).first)
       homes n inside x e some_ = dite (ℕ_discrete n m) (λ same. absurd (some_ (free n same))) (λ far. kept_home (EndId m) next found t is may n inside (slot_keeps (EndId m) found t is may n inside far) x e some_)
   on_ids (FreeId m) next found t is may b g true_ = settle (FreeId m) next found t is may Other (g.1 found has (grows_same has) tt) tt (all_homes (FreeId m) next found t is may (λ n e. e)) (kept_ats (FreeId m) next found t is may (λ o inside. low_at (tag_word m) 0 o (let low = may.0 in omega (arith, low))))
   on_ids (TakeCall m) next found t is may b g true_ = settle (TakeCall m) next found t is may (taken_behind m b) (g.1 found has (grows_same has) own) (taken b true_) homes (kept_ats (TakeCall m) next found t is may (λ o inside. refl))
     where
       own : (f : ℕ) → b ≡ HasLock m f → IsIdOf has found.operation (call_id m f)
-      own f e = let x = subst (λ y. IsTrueOf c y (Aside (TakeCall m) next)) e true_ refl in subst (λ y. IsIdOf has found.operation (call_id m y)) x.0 (owned.homes m may.0 found (called (get_elem? c.calls.homes m) found is) x.1)
+      own f e = let z : IsTrueOf c (HasLock m f) (Aside (TakeCall m) next) = subst (λ y. IsTrueOf c y (Aside (TakeCall m) next)) e true_ in let x = z refl in subst (λ y. IsIdOf has found.operation (call_id m y)) x.0 (owned.homes m may.0 found (called (get_elem? c.calls.homes m) found is) x.1)
 
       locked : (j f : ℕ) (e : Bool) → (j == m) ≡ e → (j ≡ m → IsTrue c (HasLock j f)) → IsTrue c (cond e (HasTaken j f) Other)
       locked j f false e x = tt
@@ -524,7 +521,7 @@ module _ (p : Plan) (q : IdPlan) (narrow : q.slots ≤ 65536) (calls : List ℕ)
   -- the first step of a round
   round_true : (head : Head) (next : Exit head → Program) (b : Behind) → Owns has (left i) b (Round head next) → IsTrueOf c b (Round head next) → (d : Behind) × Owns has (left i) d (round head next) × IsTrueOf c d (round head next)
   round_true (Decides id asked w e) next b g true_ = let r = owns_round has (left i) b (Decides id asked w e) next g in (b, r, subst (λ y. IsTrueOf c y (round (Decides id asked w e) next)) (sym g.0.1)
-      (either_way (ends_call (parts w) e) _ _ (IsTrueOf c (HasTaken (id_slot id) g.0.0)) tt (λ _. subst (λ y. IsTrueOf c y (Round (Decides id asked w e) next)) g.0.1 true_ refl)))
+      (either_way (ends_call (parts w) e) _ _ (IsTrueOf c (HasTaken (id_slot id) g.0.0)) tt (λ _. let z : IsTrueOf c (HasTaken (id_slot id) g.0.0) (Round (Decides id asked w e) next) = subst (λ y. IsTrueOf c y (Round (Decides id asked w e) next)) g.0.1 true_ in z refl)))
   round_true (Posts id e w) next b g true_ = (Other, owns_round has (left i) Other (Posts id e w) next g, tt)
   round_true (Unlocks j w advance) next b g true_ = (Other, owns_round has (left i) Other (Unlocks j w advance) next g, tt)
   round_true (Locks j sought w) next b g true_ = (Other, owns_round has (left i) Other (Locks j sought w) next g, tt)
