@@ -372,7 +372,7 @@ module _ (script : List Item) (made : AreMade script) (turns : List Turn) (core 
   -- ## At words
 
   abbrev A₁ : AreKept p q (calls script) (opened script) M₁ × ((more : ℕ → ℕ) × (others : ℕ → ℕ → Bool) × Owned q (calls script) (set_up script is.setup) more others)
-  A₁ = let s = sound_run in kept_along p q known.narrow (calls script) (opened script) vs M₁ s.setup none_yet (first_left script) (owned_begins script made)
+  A₁ = let s = sound_run in kept_along p q known.narrow (calls script) (opened script) vs M₁ s.setup (none_yet script) (first_left script) (owned_begins script made)
 
   abbrev A₂ : AreKept p q (calls script) (set_up script is.setup) (is.scheduled ++ is.later) × ((more : ℕ → ℕ) × (others : ℕ → ℕ → Bool) × Owned q (calls script) (played script is.setup (is.scheduled ++ is.later)) more others)
   A₂ = let s = sound_run in let a = A₁.1 in kept_along p q known.narrow (calls script) (set_up script is.setup) V₁ (is.scheduled ++ is.later) s.clients a.0 a.1 a.2
