@@ -1,5 +1,5 @@
 -- In a run of a script each call is ended by whoever owes it, where a link answers that it is closed only where its writing half is finished.
-use Rattle.std.proofs.Common.{◌≡◌, ◌≢◌, ℕ, zero, suc, ◌+◌, ◌-◌, ◌<◌, ◌≤◌, ◌⊎◌, inl, inr, ⊎_elim, Bool, true, false, cond, List, [], ◌∷◌, ◌++◌, length, length-set, set, replicate, get_or, slice_get, Option, Some, None, refl, sym, ap, ◌∙◌, subst, arith}
+use Rattle.std.proofs.Common.{◌≡◌, ℕ, zero, suc, ◌+◌, ◌-◌, ◌<◌, ◌≤◌, ◌⊎◌, inl, inr, ⊎_elim, Bool, true, false, cond, List, [], ◌∷◌, ◌++◌, length, length-set, set, replicate, Option, Some, None, refl, sym, ap, ◌∙◌, subst, arith}
 use Rattle.std.proofs.lemmas.List.{length-map}
 use Rattle.std.specs.List.{AllByRecursion}
 use mathlib.Core.Logic.{dite}
@@ -14,18 +14,17 @@ use Rattle.sock_words.specs.declared.plain.Plan.{Plan}
 use Rattle.brpc_model.specs.Items.{Item, is_open}
 use Rattle.brpc_model.specs.Operations.{Turn, operations, clients, link_names}
 use Rattle.sock_model.specs.declared.view.View.{View}
-use Rattle.sock_model.specs.Layout.{open_word}
 use Rattle.corr_core.specs.declared.marks.Plan.{Plan as IdPlan}
-use Rattle.sock_programs.specs.Asides.{Step, Found, TakeBytes, Closed}
+use Rattle.sock_programs.specs.Asides.{TakeBytes, Closed}
 use Rattle.sock_programs.specs.Programs.{Program, Do, Rest, Aside}
 use Rattle.sock_programs.specs.Tasks.{Numbered, numbered, opens, calls, plan_of, id_plan_of}
 use Rattle.sock_programs.specs.Clients.{client_from, ending_of}
-use Rattle.sock_programs.specs.Cores.{Core, SeatState, resolved, next_step, waiting_at, with_seat}
-use Rattle.sock_programs.specs.Ticks.{Answer, Unasked, Moment, quiet, ticked, run, IsPrompt, waits, AreAnswered}
+use Rattle.sock_programs.specs.Cores.{Core, SeatState, resolved, next_step, waiting_at}
+use Rattle.sock_programs.specs.Ticks.{Unasked, Moment, quiet, ticked, run, IsPrompt, waits}
 use Rattle.sock_programs.specs.Runs as runs
 use Rattle.sock_programs.specs.Runs.{kind_in}
 use Rattle.sock_programs.specs.Scripts.{sizes_of, programs, readers_from, all_programs, all_tasks, opened, ending, is_ending, set_up, played, IsRunWithCalls}
-use Rattle.sock_runs.specs.Sound.{Sound, AllRest, views_along}
+use Rattle.sock_runs.specs.Sound.{AllRest, views_along}
 use Rattle.sock_runs.proofs.LinkTicks.{RetriesGo}
 use Rattle.sock_runs.proofs.Along.{seat_rests, place_inside}
 use Rattle.sock_runs.proofs.Quiets.{run_seats, run_rests}
@@ -42,7 +41,7 @@ use Rattle.client_laws.proofs.Beginning as clients_begin
 use Rattle.client_laws.proofs.Retrying.{retries_go}
 use Rattle.joint_runs.proofs.Both.{AreBoth, behind_both}
 use Rattle.joint_runs.proofs.Runs.{AreMade, first_views, begins, IsSoundRun, are_fitting_in, joint_runs}
-use Rattle.report_fits.proofs.Lists.{Has, some_is, filter_map_has, before_from, before_at, before_filter_map}
+use Rattle.report_fits.proofs.Lists.{some_is, before_from, before_at, before_filter_map}
 use Rattle.report_fits.proofs.Numbering.{is_numbered}
 use Rattle.report_fits.proofs.TaskLemmas.{tasks_length}
 use Rattle.chain_laws.proofs.Lists.{at_some}

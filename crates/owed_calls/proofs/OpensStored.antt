@@ -1,27 +1,17 @@
 -- Each `open` of a script is one of a client's tasks, and where the clients are at rest its word is stored.
-use Rattle.std.proofs.Common.{◌≡◌, ◌≢◌, ℕ, zero, suc, ◌+◌, ◌<◌, ◌≤◌, ◌⊎◌, inl, inr, ⊎_elim, ◌==◌, ◌&&◌, ◌||◌, Bool, true, false, cond, eq-eqb, List, [], ◌∷◌, ◌++◌, length, get_or, slice_get, Option, Some, None, refl, sym, ap, ◌∙◌, subst, arith}
+use Rattle.std.proofs.Common.{◌≡◌, ℕ, zero, suc, ◌==◌, ◌&&◌, ◌||◌, Bool, true, false, cond, eq-eqb, List, [], ◌∷◌, slice_get, Some, None, refl, sym, ap, ◌∙◌, arith}
 use Rattle.std.proofs.lemmas.Bool.{true≢false}
-use mathlib.Core.Logic.{dite}
-use native.Mathlib.Decide.{ℕ_discrete}
-use mathlib.Core.Option.{Option as Maybe}
-use mathlib.Core.Option.{none, some, some-injective, some-ne-none}
+use mathlib.Core.Option.{some, some-injective, some-ne-none}
 use lib.ListN.{get_elem?}
-use Rattle.atomic_table.proofs.Lists.{at_set}
-use Rattle.sock_words.specs.declared.plain.Plan.{Plan}
 use Rattle.brpc_model.specs.Items.{Item, Open, is_open}
 use Rattle.brpc_model.specs.Operations.{operations}
 use Rattle.brpc_model.specs.Places.{names}
-use Rattle.sock_model.specs.Layout.{open_word}
 use Rattle.sock_programs.specs.declared.task.Op.{Op}
-use Rattle.sock_programs.specs.declared.task.Op.TheVariants as ops
 use Rattle.sock_programs.specs.declared.task.Task.{Task}
-use Rattle.sock_programs.specs.Programs.{Program, Rest}
 use Rattle.sock_programs.specs.Tasks.{Numbered, numbered, op_of, opens}
-use Rattle.sock_programs.specs.Clients.{client_from}
-use Rattle.sock_programs.specs.Cores.{Core, SeatState, resolved, next_step}
 use Rattle.sock_programs.specs.Scripts.{all_tasks}
 use Rattle.sock_runs.proofs.Opening.{is_opening, opens_in}
-use Rattle.report_fits.proofs.Lists.{Has, filter_map_has, has_from, some_is}
+use Rattle.report_fits.proofs.Lists.{filter_map_has, has_from, some_is}
 use Rattle.report_fits.proofs.Numbering.{is_numbered}
 use Rattle.report_fits.proofs.TaskLemmas.{numbers_at, asked_at, operation_task}
 

@@ -1,5 +1,5 @@
 -- Programs of clients, of readers and of the ending: each makes its calls once, and stores at words and homes of an operation's own id alone.
-use Rattle.std.proofs.Common.{◌≡◌, ◌≢◌, ℕ, zero, suc, ◌+◌, ◌-◌, ◌*◌, ◌/◌, ◌%◌, ◌<◌, ◌≤◌, ◌⊎◌, inl, inr, ⊎_elim, ◌==◌, ◌&&◌, ◌||◌, not, nat_lt, Bool, true, false, cond, eq-eqb, ne_eqb, eqb-true, List, [], ◌∷◌, ◌++◌, length, refl, sym, ap, ◌∙◌, subst, arith}
+use Rattle.std.proofs.Common.{◌≡◌, ℕ, zero, suc, ◌+◌, ◌-◌, ◌/◌, ◌%◌, ◌<◌, inl, inr, ◌==◌, ◌&&◌, ◌||◌, not, nat_lt, Bool, true, false, cond, eq-eqb, ne_eqb, eqb-true, List, [], ◌∷◌, ◌++◌, length, refl, sym, ap, ◌∙◌, subst, arith}
 use Rattle.std.proofs.lemmas.Bool.{true≢false}
 use Rattle.std.specs.Prelude as std
 use Rattle.std.specs.Prelude.{None, Some}
@@ -17,9 +17,9 @@ use Rattle.sock_programs.specs.declared.task.Op.TheVariants as ops
 use Rattle.sock_programs.specs.declared.task.Task.{Task}
 use Rattle.sock_programs.specs.declared.task.Sizes.{Sizes}
 use Rattle.sock_programs.specs.Calls.{Call, ClaimSlot, GiveBirth, StoreLink, ResetHead, WipeCode, StoreName, StoreOpen, TakeLink, FinishLink, PutLink, LookWord, FindLink, ClaimRequest, LoadName}
-use Rattle.sock_programs.specs.Asides.{Step, Found, ClaimId, PutCall, MakeId, StoreCall, LoadCall, StoreAt, LoadAt, TakeCall, call_id, id_slot, id_first}
-use Rattle.sock_programs.specs.Heads.{Retry, First, Unlocks, Locks, Joins, Opens, Reads, Discards, Reading, Posting, WasGone, WasStale, WasCrowded, WasQueued, HasLocked, Unlocking, IsOpen, HasNext, Locking, NotThere, Has, Ended}
-use Rattle.sock_programs.specs.Programs.{Program, Do, Say, Rest, Aside, Round, Retries, NO_SOCKET, release, address, open_from, make_socket}
+use Rattle.sock_programs.specs.Asides.{PutCall, LoadCall, StoreAt, LoadAt, call_id, id_slot, id_first}
+use Rattle.sock_programs.specs.Heads.{First, Unlocks, Posting, WasGone, WasStale, WasCrowded, WasQueued, HasLocked, Unlocking, IsOpen, HasNext, Locking, NotThere, Has, Ended}
+use Rattle.sock_programs.specs.Programs.{Program, Do, Say, Rest, Aside, Round, NO_SOCKET, release, address, open_from, make_socket}
 use Rattle.sock_programs.specs.Posts.{WHOLE, post, posted, decided}
 use Rattle.sock_programs.specs.Attempts.{claims_from, heading_for, attempt, begin_call, claim_id, call, tried_again, retry_locked, retry, expire_outcome, expire, join}
 use Rattle.sock_programs.specs.Readers.{LIMIT, kept_for, ends_with, posted_last, post_each, thrown_away, read, reader}
@@ -27,7 +27,7 @@ use Rattle.sock_programs.specs.Clients.{HeldLife, held_under, without_name, give
 use Rattle.sock_programs.specs.Told.{HaveOwnLinks}
 use Rattle.sock_runs.proofs.Opening.{or_cases, second_true}
 use Rattle.id_runs.specs.Goes.{FitsSock}
-use Rattle.owed_calls.specs.Owns.{Behind, Other, HasClaimed, HasPut, HasLock, HasTaken, Grows, IsIdOf, IsOwnAt, but, Owns}
+use Rattle.owed_calls.specs.Owns.{Other, HasClaimed, HasLock, HasTaken, Grows, IsIdOf, IsOwnAt, but, Owns}
 use Rattle.owed_calls.proofs.Posts.{id_back}
 use Rattle.owed_calls.proofs.OwnsLoops.{Later, Locked, AfterPost, AfterUnlock, AfterLock, grows_on, grows_same, id_grows, step, say, aside, retries, post_with_goes, unlocks_again, decide_goes, decided_goes, posted_goes, post_goes, locks_again, joins_again, opens_again, reads_again, discards_again, answer_goes}
 use Rattle.owed_calls.proofs.OwnsSends.{release_goes, address_goes, set_failed_goes, fail_goes, hold_goes, drop_goes, accept_goes, send_goes, end_goes}
@@ -76,8 +76,17 @@ module _ (has : ℕ → ℕ) (mine : ℕ → Bool) where
 -- ## A call
 
 begin_goes : (has : ℕ → ℕ) (mine : ℕ → Bool) (requests socket i : ℕ) (asked : Asked) (next : Program) → mine asked.operation ≡ true → Later has (but asked.operation mine) next → (more : ℕ → ℕ) → Grows has more → Owns more mine (HasClaimed i) (begin_call requests socket i asked next)
-begin_goes has mine requests socket i asked next here after more g = (inl refl, λ _ most h _. ((asked, refl, here), λ found last h₂ finds. (tt, λ _ end h₃ _.
-    tries end (grows_on has last end (grows_on has most last (grows_on has more most g h) h₂) h₃) (call_id i (parts found).first) (id_grows last end h₃ asked.operation (call_id i (parts found).first) (finds asked refl)))))
+begin_goes has mine requests socket i asked next here after more g = (
+  inl refl,
+  λ _ most h _. (
+    (asked, refl, here),
+    λ found last h₂ finds. (
+      tt,
+      λ _ end h₃ _.
+          tries end (grows_on has last end (grows_on has most last (grows_on has more most g h) h₂) h₃) (call_id i (parts found).first) (id_grows last end h₃ asked.operation (call_id i (parts found).first) (finds asked refl)),
+    ),
+  ),
+)
   where
     tries : (end : ℕ → ℕ) → Grows has end → (id : ℕ) → IsIdOf end asked.operation id → Owns end (but asked.operation mine) Other (attempt requests asked id 0 socket next)
     tries end g id own = (attempt_goes end (but asked.operation mine) requests asked id 0 socket next (omega arith) own (later_on has end (but asked.operation mine) next g after)).goes end (grows_same end) Other
@@ -86,10 +95,15 @@ begin_goes has mine requests socket i asked next here after more g = (inl refl, 
 
 locked_goes : (has : ℕ → ℕ) (mine : ℕ → Bool) (requests id n : ℕ) (next : Program) → n < 64 → Later has mine next → (exit : Locking) → AfterLock has mine (id_slot id) (First (id_first id)) (retry_locked requests id n next) exit
 locked_goes has mine requests id n next few after (NotThere w) = after
-locked_goes has mine requests id n next few after (Has w) = λ more g f is. (tt, λ asked most h finds. subst (λ b. Owns most mine b (Aside (PutCall (id_slot id) asked) (λ _. Round (Unlocks (id_slot id) w false) (tried_again requests id n asked next))))
-    (sym (ap (λ b. cond b (HasTaken (id_slot id) f) Other) (eq-eqb (id_slot id) (id_slot id) refl)))
-    (inr (f, refl, finds f refl), λ _ last h₂ _. unlocks last (grows_on has most last (grows_on has more most g h) h₂) asked w (let own = id_grows most last h₂ asked.operation (call_id (id_slot id) f) (finds f refl) in
-    subst (IsIdOf last asked.operation) (ap (call_id (id_slot id)) is ∙ id_back id) own)))
+locked_goes has mine requests id n next few after (Has w) = λ more g f is. (
+  tt,
+  λ asked most h finds. subst (λ b. Owns most mine b (Aside (PutCall (id_slot id) asked) (λ _. Round (Unlocks (id_slot id) w false) (tried_again requests id n asked next))))
+      (sym (ap (λ b. cond b (HasTaken (id_slot id) f) Other) (eq-eqb (id_slot id) (id_slot id) refl))) (
+        inr (f, refl, finds f refl),
+        λ _ last h₂ _. unlocks last (grows_on has most last (grows_on has more most g h) h₂) asked w (let own = id_grows most last h₂ asked.operation (call_id (id_slot id) f) (finds f refl) in
+            subst (IsIdOf last asked.operation) (ap (call_id (id_slot id)) is ∙ id_back id) own),
+      ),
+)
   where
     unlocks : (last : ℕ → ℕ) → Grows has last → (asked : Asked) (w : ℕ) → IsIdOf last asked.operation id → Owns last mine Other (Round (Unlocks (id_slot id) w false) (tried_again requests id n asked next))
     unlocks last g asked w own = (unlocks_again last mine (id_slot id) w false (tried_again requests id n asked next) (tried_goes last mine requests id n asked next few own (later_on has last mine next g after))).goes last (grows_same last) Other

@@ -1,6 +1,5 @@
 -- Programs that store at words and homes of an operation's own id alone: what holds behind a step, or behind a loop aside of the sockets, holds before it.
-use Rattle.std.proofs.Common.{◌≡◌, ◌≢◌, ℕ, ◌+◌, ◌*◌, ◌<◌, ◌≤◌, ◌⊎◌, inl, inr, ⊎_elim, ◌==◌, ◌&&◌, not, nat_lt, nat_le, Bool, true, false, cond, eqb-true, eq-eqb, List, [], ◌∷◌, ◌++◌, length, refl, sym, ap, ◌∙◌, subst, arith}
-use Rattle.std.proofs.lemmas.Bool.{true≢false}
+use Rattle.std.proofs.Common.{◌≡◌, ℕ, ◌+◌, ◌<◌, inl, inr, ⊎_elim, ◌==◌, ◌&&◌, not, nat_lt, nat_le, Bool, true, false, cond, eqb-true, eq-eqb, List, [], ◌∷◌, ◌++◌, length, refl, sym, ap, ◌∙◌, subst, arith}
 use Rattle.std.specs.Prelude.{Option, Some, None}
 use Rattle.sock_words.specs.declared.outcome.Outcome.{Outcome}
 use Rattle.sock_words.specs.declared.outcome.Outcome.TheVariants.{CallFailed}
@@ -21,8 +20,7 @@ use Rattle.sock_programs.specs.Writings.{Writing}
 use Rattle.sock_programs.specs.Posts.{packed, advance_of, is_first, is_sought, is_stale, is_full, judged, posts_round, post_with, posted, post, popped, unlocks_round, ends_call, end_id, decide, decided, unlocked, decides_round, locking, locks_round, joins_round}
 use Rattle.sock_programs.specs.Readers.{LIMIT, ending_of, slot_in, version_in, has_response, is_early, answer, answered, responses, last_of, ended_by, read_on, took, room_of, discarded, opens_round}
 use Rattle.sock_programs.specs.Rounds.{round}
-use Rattle.id_runs.specs.Goes.{FitsSock}
-use Rattle.owed_calls.specs.Owns.{Behind, Other, HasClaimed, HasPut, HasLock, HasTaken, Grows, IsIdOf, IsOwnAt, MayOwn, FindsOwn, left_behind, taken_behind, behind, IsOfSought, AtOwn, LeavesLock, LeavesOwn, behind_head, Owns}
+use Rattle.owed_calls.specs.Owns.{Behind, Other, HasClaimed, HasPut, HasLock, HasTaken, Grows, IsIdOf, MayOwn, taken_behind, behind, IsOfSought, AtOwn, LeavesLock, behind_head, Owns}
 
 -- ## More calls with ids
 
@@ -240,16 +238,24 @@ module _ (has : ℕ → ℕ) (left : ℕ → Bool) where
       (either_way (is_stale oldest (parts word)) _ _ (Owns more left (HasLock i f)) ((unlocks_again i word false k after).goes more g (HasLock i f)) (after (HasNext word oldest) more g f))
 
   unlocks_goes : (i from : ℕ) (advance : Bool) (k : Unlocking → Program) → ((x : Unlocking) → AfterUnlock i k x) → Later (unlocks_round i from advance k)
-  unlocks_goes i from advance k after = record { goes = λ more g b. (tt, λ found most h _. let hs = grows_on has more most g h in either_way (found == from) _ _ (Owns most left (HasLock i (parts found).first))
-      (popped_goes i (parts from).oldest (packed (unlocked_word (parts from) (advance_of advance))) k after most hs (parts found).first) ((unlocks_again i found advance k after).goes most hs (HasLock i (parts found).first))) }
+  unlocks_goes i from advance k after = record {
+    goes = λ more g b. (
+      tt,
+      λ found most h _. let hs = grows_on has more most g h in either_way (found == from) _ _ (Owns most left (HasLock i (parts found).first))
+          (popped_goes i (parts from).oldest (packed (unlocked_word (parts from) (advance_of advance))) k after most hs (parts found).first) ((unlocks_again i found advance k after).goes most hs (HasLock i (parts found).first)),
+    );
+  }
 
   pub end_id_goes : (i : ℕ) (next : Program) → Later next → Later (end_id i next)
   end_id_goes i next after = aside (EndId i) tt _ (λ found. either_way (nat_le ((parts found).first + (parts found).range) LAST) _ _ Later (aside (FreeId i) tt _ (λ _. after)) after)
 
   -- whoever has the lock takes the call out, which is that of the range
   pub decide_goes : (id word e : ℕ) (k : Deciding → Program) → ((x : Deciding) → Later (k x)) → Locked (id_slot id) (decide id word e k)
-  decide_goes id word e k after = λ more g f. (tt, λ asked most h finds. subst (λ b. Owns most left b (Round (Decides id asked word e) k)) (sym (ap (λ b. cond b (HasTaken (id_slot id) f) Other) (eq-eqb (id_slot id) (id_slot id) refl)))
-      ((f, refl, finds f refl), λ exit last h₂ x _. (after exit).goes last (grows_on has most last (grows_on has more most g h) h₂) Other))
+  decide_goes id word e k after = λ more g f. (
+    tt,
+    λ asked most h finds. subst (λ b. Owns most left b (Round (Decides id asked word e) k)) (sym (ap (λ b. cond b (HasTaken (id_slot id) f) Other) (eq-eqb (id_slot id) (id_slot id) refl)))
+        ((f, refl, finds f refl), λ exit last h₂ x _. (after exit).goes last (grows_on has most last (grows_on has more most g h) h₂) Other),
+  )
 
   unlocked_goes : (i : ℕ) (r : Retry) (k : Deciding → Program) → id_slot r.id ≡ i → r.attempt < 64 → ((x : Deciding) → Later (k x)) → (exit : Unlocking) → AfterUnlock i (unlocked r k) exit
   unlocked_goes i r k slot few after (IsOpen word) = keep r (k GoesOn) few (after GoesOn)
@@ -257,9 +263,11 @@ module _ (has : ℕ → ℕ) (left : ℕ → Bool) where
 
   decides_goes : (more : ℕ → ℕ) → Grows has more → (id : ℕ) (asked : Asked) (word e : ℕ) (k : Deciding → Program) → ((x : Deciding) → Later (k x)) → (f : ℕ) → IsIdOf more asked.operation (call_id (id_slot id) f) → Owns more left (HasTaken (id_slot id) f) (decides_round id asked word e k)
   decides_goes more g id asked word e k after f own = either_way (ends_call (parts word) e) _ _ (Owns more left (HasTaken (id_slot id) f))
-      ((end_id_goes (id_slot id) (k (HasEnded asked.operation (code_of e))) (after (HasEnded asked.operation (code_of e)))).goes more g (HasTaken (id_slot id) f))
-      (inr (f, refl, own), λ found most h _. (unlocks_again (id_slot id) word true (unlocked (record { id = id; attempt = (parts word).attempt + 1 }) k)
-      (unlocked_goes (id_slot id) (record { id = id; attempt = (parts word).attempt + 1 }) k refl (omega arith) after)).goes most (grows_on has more most g h) Other)
+      ((end_id_goes (id_slot id) (k (HasEnded asked.operation (code_of e))) (after (HasEnded asked.operation (code_of e)))).goes more g (HasTaken (id_slot id) f)) (
+        inr (f, refl, own),
+        λ found most h _. (unlocks_again (id_slot id) word true (unlocked (record { id = id; attempt = (parts word).attempt + 1 }) k)
+            (unlocked_goes (id_slot id) (record { id = id; attempt = (parts word).attempt + 1 }) k refl (omega arith) after)).goes most (grows_on has more most g h) Other,
+      )
 
   pub decided_goes : (id : ℕ) (next : Program) → Later next → (exit : Deciding) → Later (decided id next exit)
   decided_goes id next after (HasEnded o c) = say o (CallFailed id c) next after

@@ -1,11 +1,10 @@
 -- Over a whole run each operation's call has one id, so an at word keeps the id that it named.
-use Rattle.std.proofs.Common.{◌≡◌, ◌≢◌, ℕ, zero, suc, ◌+◌, ◌-◌, ◌*◌, ◌<◌, ◌≤◌, ◌⊎◌, inl, inr, ⊎_elim, ◌==◌, ◌&&◌, Bool, true, false, cond, eqb-true, List, [], ◌∷◌, ◌++◌, length, replicate, get_or, slice_get, Option, Some, None, refl, sym, ap, ◌∙◌, subst, arith}
+use Rattle.std.proofs.Common.{◌≡◌, ℕ, zero, suc, ◌+◌, ◌-◌, ◌<◌, ◌≤◌, inl, inr, ⊎_elim, ◌==◌, ◌&&◌, Bool, true, false, cond, eqb-true, List, [], ◌∷◌, ◌++◌, length, replicate, slice_get, Some, None, refl, sym, ap, ◌∙◌, subst, arith}
 use Rattle.std.proofs.lemmas.Bool.{true≢false}
 use Rattle.std.specs.List.{AllByRecursion}
 use mathlib.Core.Option.{Option as Maybe}
 use mathlib.Core.Option.{none, some, some-injective, some-ne-none}
 use lib.ListN.{get_elem?}
-use Rattle.sock_words.specs.Words.{at_word_first, at_word_slot}
 use Rattle.sock_words.specs.declared.plain.Plan.{Plan}
 use Rattle.brpc_model.specs.Items.{Item, is_call}
 use Rattle.brpc_model.specs.Operations.{operations, clients}
@@ -17,7 +16,7 @@ use Rattle.corr_core.specs.declared.marks.Plan.{Plan as IdPlan}
 use Rattle.sock_programs.specs.declared.task.Op.{Op}
 use Rattle.sock_programs.specs.declared.task.Op.TheVariants as ops
 use Rattle.sock_programs.specs.declared.task.Task.{Task}
-use Rattle.sock_programs.specs.Asides.{Step, Found, StoreAt, call_id, id_slot}
+use Rattle.sock_programs.specs.Asides.{StoreAt}
 use Rattle.sock_programs.specs.Programs.{Program, Do, Say, Sent, Rest, TakeMessage, TakeHome, PutHome, PutBytes, AskReady, Write, Aside, Round, Keep, Retries}
 use Rattle.sock_programs.specs.Tasks.{Numbered, numbered, calls, opens, tasks, plan_of, id_plan_of}
 use Rattle.sock_programs.specs.Clients.{client_from, ending_of}
@@ -25,7 +24,7 @@ use Rattle.sock_programs.specs.Readers.{reader}
 use Rattle.sock_programs.specs.Told.{HaveOwnLinks}
 use Rattle.sock_programs.specs.Cores.{Core, SeatState, resolved, next_step, with_seat}
 use Rattle.sock_programs.specs.Ticks.{Moment, ticked, run}
-use Rattle.sock_programs.specs.Scripts.{sizes_of, programs, readers_from, all_programs, beginning, opened, tasks_from, all_tasks, is_ending}
+use Rattle.sock_programs.specs.Scripts.{sizes_of, programs, readers_from, all_programs, opened, tasks_from, all_tasks, is_ending}
 use Rattle.sock_runs.proofs.Opening.{mapped, appended, or_cases, second_true}
 use Rattle.id_runs.specs.Held.{IdView}
 use Rattle.id_runs.specs.Goes.{IdGoesOn, SoundIds}
@@ -39,14 +38,13 @@ use Rattle.report_fits.proofs.Lists.{Has, has_later, some_is, all_from, has_filt
 use Rattle.report_fits.proofs.Numbering.{link_at, numbered_at}
 use Rattle.report_fits.proofs.TaskLemmas.{IsTaskOf, has_task, of_tasks, call_asks, numbers_at}
 use Rattle.owed_calls.specs.Owing.{InList}
-use Rattle.owed_calls.specs.Sound.{id_word_of, at_of}
 use Rattle.owed_calls.specs.Lives.{KeepsAt, AreKept}
-use Rattle.owed_calls.specs.Owns.{Behind, Other, Grows, IsIdOf, Owns, IsTrueOf, Owned}
+use Rattle.owed_calls.specs.Owns.{Behind, Other, Owns, IsTrueOf, Owned}
 use Rattle.owed_calls.proofs.OpensStored.{place_at}
 use Rattle.owed_calls.proofs.OwnsLoops.{grows_same, owns_any, owns_round}
 use Rattle.owed_calls.proofs.OwnsSends.{block_goes}
 use Rattle.owed_calls.proofs.OwnsCalls.{CallsOwn, is_calling, calls_in, client_goes, reader_goes, ending_goes}
-use Rattle.owed_calls.proofs.OwnsTicks.{Same, own_at, resolved_owns, true_of, true_on, on_sockets, owns_ticks}
+use Rattle.owed_calls.proofs.OwnsTicks.{own_at, resolved_owns, true_of, true_on, on_sockets, owns_ticks}
 
 -- ## Along ticks
 

@@ -1,5 +1,5 @@
 -- A tick of any seat keeps which id the call of each operation has, and that at words and homes are of those.
-use Rattle.std.proofs.Common.{◌≡◌, ◌≢◌, ℕ, zero, suc, ◌+◌, ◌-◌, ◌*◌, ◌<◌, ◌≤◌, ◌⊎◌, inl, inr, ⊎_elim, ◌==◌, ◌&&◌, not, Bool, true, false, cond, eqb, eq-eqb, eqb-true, ne_eqb, List, [], ◌∷◌, ◌++◌, length, get_or, set, get_or-set_other, get_or-set_same, refl, sym, ap, ◌∙◌, subst, arith}
+use Rattle.std.proofs.Common.{◌≡◌, ◌≢◌, ℕ, zero, suc, ◌+◌, ◌*◌, ◌<◌, ◌≤◌, ⊎_elim, ◌==◌, ◌&&◌, not, Bool, true, false, cond, eq-eqb, eqb-true, ne_eqb, List, [], ◌∷◌, ◌++◌, length, get_or, set, get_or-set_other, get_or-set_same, refl, sym, ap, ◌∙◌, subst, arith}
 use Rattle.std.proofs.lemmas.Bool.{true≢false}
 use Rattle.std.specs.Prelude as std
 use Rattle.std.specs.List.{AllByRecursion}
@@ -22,7 +22,6 @@ use Rattle.corr_core.specs.declared.marks.Token.TheVariants.{Locked}
 use Rattle.corr_core.specs.declared.marks.Hand.TheVariants.{Empty}
 use Rattle.id_rule.specs.Lawful.{tag_word, id_word, call_word, at_word, tokens_of}
 use Rattle.sock_message.specs.Asked.{Asked}
-use Rattle.sock_programs.specs.Calls.{Call}
 use Rattle.sock_programs.specs.Asides.{Step, Found, ClaimId, PutCall, MakeId, StoreCall, LoadCall, StoreAt, LoadAt, LoadIdWord, LockId, PostId, UnlockId, EndId, FreeId, TakeCall, TakeBytes, Taking, Bytes, Nothing, NoMore, AtEnd, Closed, Broken, call_id, id_slot, id_first}
 use Rattle.sock_steps.proofs.Quiet.{either_way}
 use Rattle.sock_programs.specs.Heads.{Head, Exit, Retry, Posts, Unlocks, Decides, Locks, Joins, Opens, Reads, Discards}
@@ -33,7 +32,7 @@ use Rattle.sock_programs.specs.Rounds.{round}
 use Rattle.sock_programs.specs.Beside.{found_in, calls_after, call_at, more_given}
 use Rattle.sock_programs.specs.Cores.{Calls, Core, SeatState, word_of, found_at, resolved, next_step, waiting_at, with_seat}
 use Rattle.sock_programs.specs.Ticks.{Answer, Unasked, OfPut, OfReady, OfTake, Moment, taken, with_message, with_link, with_put, with_ready, with_found, step_with, tick_with, ticked}
-use Rattle.id_runs.specs.Held.{IdView, id_state, one, HasOne, MayId}
+use Rattle.id_runs.specs.Held.{IdView, one, HasOne, MayId}
 use Rattle.id_runs.specs.Goes.{FitsRetryId, FindsId, IsTaken, IdGoesOn, SoundIds, FitsFirst, IsFittingIds}
 use Rattle.id_runs.specs.Goes as goes
 use Rattle.id_runs.proofs.Keeps.{parts_packed}
@@ -42,13 +41,12 @@ use Rattle.id_runs.proofs.Loops.{ids_round}
 use Rattle.id_runs.proofs.Programs as idprograms
 use Rattle.owed_calls.specs.Owing.{InList}
 use Rattle.owed_calls.specs.Sound.{id_word_of, at_of}
-use Rattle.owed_calls.specs.Owns.{Behind, Other, HasClaimed, HasPut, HasLock, HasTaken, Grows, IsIdOf, IsOwnAt, but, MayOwn, FindsOwn, left_behind, taken_behind, put_behind, behind, Owns, IsTrue, IsTrueOf, Owned}
-use Rattle.owed_calls.proofs.Stores.{not_none}
+use Rattle.owed_calls.specs.Owns.{Behind, Other, HasClaimed, HasPut, HasLock, HasTaken, Grows, IsIdOf, IsOwnAt, but, FindsOwn, left_behind, taken_behind, put_behind, behind, Owns, IsTrue, IsTrueOf, Owned}
 use Rattle.owed_calls.proofs.Posts.{id_back}
-use Rattle.owed_calls.proofs.OwnsLoops.{Later, later, grows_same, id_grows, owns_grows, owns_any, owns_round}
+use Rattle.owed_calls.proofs.OwnsLoops.{later, grows_same, id_grows, owns_grows, owns_any, owns_round}
 use Rattle.owed_calls.proofs.OwnsSends.{block_goes}
 use Rattle.owed_calls.proofs.OwnsCalls.{retry_goes}
-use Rattle.owed_calls.proofs.OwnsSteps.{posted_parts, unlocked_parts, one_seat, free_tag, home_inside, word_inside, Then, Keeps, Acts, step_keeps, acts_token}
+use Rattle.owed_calls.proofs.OwnsSteps.{one_seat, free_tag, home_inside, word_inside, Then, Keeps, Acts, step_keeps, acts_token}
 
 -- ## Behind what is said
 
@@ -187,14 +185,19 @@ module _ (p : Plan) (q : IdPlan) (narrow : q.slots ≤ 65536) (calls : List ℕ)
 
   -- a step that none of the ids sees
   pub on_sockets : (b : Behind) (program : Program) (hand : List Home) (words : List ℕ) (homes : List (Option Home)) → Owns has (left i) b program → IsTrue c b → After (with_seat i program hand words homes c)
-  on_sockets b program hand words homes owns t = (has, left, grows_same has, record {
-    inside = owned.inside;
-    once = owned.once;
-    apart = owned.apart;
-    ats = owned.ats;
-    homes = owned.homes;
-    seats = goes_on c.calls program hand words homes refl has left (grows_same has) (λ j far. refl) b owns (now_true b t) (λ n inside j v at_v far x h. record { first = refl; none_ = λ z. z; some_ = λ z. z; home = refl });
-  })
+  on_sockets b program hand words homes owns t = (
+    has,
+    left,
+    grows_same has,
+    record {
+      inside = owned.inside;
+      once = owned.once;
+      apart = owned.apart;
+      ats = owned.ats;
+      homes = owned.homes;
+      seats = goes_on c.calls program hand words homes refl has left (grows_same has) (λ j far. refl) b owns (now_true b t) (λ n inside j v at_v far x h. record { first = refl; none_ = λ z. z; some_ = λ z. z; home = refl });
+    },
+  )
     where
       now_true : (b : Behind) → IsTrue c b → IsTrue (with_seat i program hand words homes c) b
       now_true Other t = tt
@@ -231,15 +234,20 @@ module _ (p : Plan) (q : IdPlan) (narrow : q.slots ≤ 65536) (calls : List ℕ)
 
     -- where no operation has an id more
     settle : (b : Behind) → Owns has (left i) b (next found) → IsTrue D b → Homes has → Ats has → After (with_seat i (next found) seat.hand c.words c.homes (record c { calls = calls_after step found c.calls }))
-    settle b owns true_ homes ats = (has, left, grows_same has, record {
-      inside = owned.inside;
-      once = owned.once;
-      apart = owned.apart;
-      ats = ats;
-      homes = homes;
-      seats = goes_on a' (next found) seat.hand c.words c.homes (waits_same step found) has left (grows_same has) (λ j far. refl) b owns (now_true b true_)
-          (λ n inside j v at_v far x h. let k = stays n inside j v at_v far x h in record { first = k.first; none_ = k.none_; some_ = k.some_; home = k.home });
-    })
+    settle b owns true_ homes ats = (
+      has,
+      left,
+      grows_same has,
+      record {
+        inside = owned.inside;
+        once = owned.once;
+        apart = owned.apart;
+        ats = ats;
+        homes = homes;
+        seats = goes_on a' (next found) seat.hand c.words c.homes (waits_same step found) has left (grows_same has) (λ j far. refl) b owns (now_true b true_)
+            (λ n inside j v at_v far x h. let k = stays n inside j v at_v far x h in record { first = k.first; none_ = k.none_; some_ = k.some_; home = k.home });
+      },
+    )
       where
         now_true : (b : Behind) → IsTrue D b → IsTrue (with_seat i (next found) seat.hand c.words c.homes (record c { calls = calls_after step found c.calls })) b
         now_true Other t = tt
@@ -351,19 +359,24 @@ module _ (p : Plan) (q : IdPlan) (narrow : q.slots ≤ 65536) (calls : List ℕ)
         (kept_home (MakeId m range) next found t is may n inside (slot_keeps (MakeId m range) found t is may n inside far) x e some_))
 
     makes : Goes (MakeId m range) found (next found)
-    makes = (more, others, grows, record {
-      inside = λ x some_. dite (ℕ_discrete x asked.operation)
-          (λ e. let w = more_here in subst (λ y. (id_slot (more y) < q.slots) × InList y calls) (sym e) (subst (λ y. id_slot y < q.slots) (sym w) (let slot : id_slot (call_id m (parts found).first) ≡ m = (let high = found_is.1 in omega (arith, high)) in let inside = may.0 in omega (arith, slot, inside)), (owned.once i asked.operation mine).1))
-          (λ far. let w = more_else x far in let old = owned.inside x (λ z. some_ (w ∙ z)) in (subst (λ y. id_slot y < q.slots) (sym w) old.0, old.1));
-      once = λ j x e. let l = left_still j x e in let old = owned.once j x l.0 in (more_else x (not_made j x e) ∙ old.0, old.1);
-      apart = λ j k x e f. owned.apart j k x (left_still j x e).0 (left_still k x f).0;
-      ats = λ x inside some_. let e = low_at (id_word m) (packed (made_word (parts found).first range)) x (let n = may.0 in omega (arith, n)) in
-          subst (λ w. IsIdOf more x (call_id (at_word_slot w) (at_word_first w))) (sym e) (id_grows has more grows x (call_id (at_word_slot (at_of q c x)) (at_word_first (at_of q c x))) (owned.ats x inside (λ z. some_ (e ∙ z))));
-      homes = homes_made;
-      seats = goes_on (calls_after (MakeId m range) found c.calls) (next found) seat.hand c.words c.homes refl more others grows others_else Other (subst (λ (f : ℕ → Bool). Owns more f Other (next found)) (sym others_here)
-          (subst (λ y. Owns more (left_behind (MakeId m range) y (left i)) Other (next found)) put (goes more grows (λ x e. let z : HasPut m asked ≡ HasPut m x = sym put ∙ e in let same : asked ≡ x = cc in subst (λ (y : Asked). IsIdOf more y.operation (call_id m (parts found).first)) same made)))) tt
-          (λ n inside j v at_v far x h. let k = stays (MakeId m range) next found t is may n inside j v at_v far x h in record { first = k.first; none_ = k.none_; some_ = k.some_; home = k.home });
-    })
+    makes = (
+      more,
+      others,
+      grows,
+      record {
+        inside = λ x some_. dite (ℕ_discrete x asked.operation)
+            (λ e. let w = more_here in subst (λ y. (id_slot (more y) < q.slots) × InList y calls) (sym e) (subst (λ y. id_slot y < q.slots) (sym w) (let slot : id_slot (call_id m (parts found).first) ≡ m = (let high = found_is.1 in omega (arith, high)) in let inside = may.0 in omega (arith, slot, inside)), (owned.once i asked.operation mine).1))
+            (λ far. let w = more_else x far in let old = owned.inside x (λ z. some_ (w ∙ z)) in (subst (λ y. id_slot y < q.slots) (sym w) old.0, old.1));
+        once = λ j x e. let l = left_still j x e in let old = owned.once j x l.0 in (more_else x (not_made j x e) ∙ old.0, old.1);
+        apart = λ j k x e f. owned.apart j k x (left_still j x e).0 (left_still k x f).0;
+        ats = λ x inside some_. let e = low_at (id_word m) (packed (made_word (parts found).first range)) x (let n = may.0 in omega (arith, n)) in
+            subst (λ w. IsIdOf more x (call_id (at_word_slot w) (at_word_first w))) (sym e) (id_grows has more grows x (call_id (at_word_slot (at_of q c x)) (at_word_first (at_of q c x))) (owned.ats x inside (λ z. some_ (e ∙ z))));
+        homes = homes_made;
+        seats = goes_on (calls_after (MakeId m range) found c.calls) (next found) seat.hand c.words c.homes refl more others grows others_else Other (subst (λ (f : ℕ → Bool). Owns more f Other (next found)) (sym others_here)
+            (subst (λ y. Owns more (left_behind (MakeId m range) y (left i)) Other (next found)) put (goes more grows (λ x e. let z : HasPut m asked ≡ HasPut m x = sym put ∙ e in let same : asked ≡ x = cc in subst (λ (y : Asked). IsIdOf more y.operation (call_id m (parts found).first)) same made)))) tt
+            (λ n inside j v at_v far x h. let k = stays (MakeId m range) next found t is may n inside j v at_v far x h in record { first = k.first; none_ = k.none_; some_ = k.some_; home = k.home });
+      },
+    )
 
   -- ## Each step
 
@@ -520,8 +533,12 @@ module _ (p : Plan) (q : IdPlan) (narrow : q.slots ≤ 65536) (calls : List ℕ)
 
   -- the first step of a round
   round_true : (head : Head) (next : Exit head → Program) (b : Behind) → Owns has (left i) b (Round head next) → IsTrueOf c b (Round head next) → (d : Behind) × Owns has (left i) d (round head next) × IsTrueOf c d (round head next)
-  round_true (Decides id asked w e) next b g true_ = let r = owns_round has (left i) b (Decides id asked w e) next g in (b, r, subst (λ y. IsTrueOf c y (round (Decides id asked w e) next)) (sym g.0.1)
-      (either_way (ends_call (parts w) e) _ _ (IsTrueOf c (HasTaken (id_slot id) g.0.0)) tt (λ _. let z : IsTrueOf c (HasTaken (id_slot id) g.0.0) (Round (Decides id asked w e) next) = subst (λ y. IsTrueOf c y (Round (Decides id asked w e) next)) g.0.1 true_ in z refl)))
+  round_true (Decides id asked w e) next b g true_ = let r = owns_round has (left i) b (Decides id asked w e) next g in (
+    b,
+    r,
+    subst (λ y. IsTrueOf c y (round (Decides id asked w e) next)) (sym g.0.1)
+        (either_way (ends_call (parts w) e) _ _ (IsTrueOf c (HasTaken (id_slot id) g.0.0)) tt (λ _. let z : IsTrueOf c (HasTaken (id_slot id) g.0.0) (Round (Decides id asked w e) next) = subst (λ y. IsTrueOf c y (Round (Decides id asked w e) next)) g.0.1 true_ in z refl)),
+  )
   round_true (Posts id e w) next b g true_ = (Other, owns_round has (left i) Other (Posts id e w) next g, tt)
   round_true (Unlocks j w advance) next b g true_ = (Other, owns_round has (left i) Other (Unlocks j w advance) next g, tt)
   round_true (Locks j sought w) next b g true_ = (Other, owns_round has (left i) Other (Locks j sought w) next g, tt)

@@ -1,17 +1,17 @@
 -- Along a run, what those who owe rely on is said at each tick: the ids are sound, an at word keeps its id, and a link answers its reader that it is closed only where its life is past.
-use Rattle.std.proofs.Common.{◌≡◌, ◌≢◌, ℕ, zero, suc, ◌+◌, ◌-◌, ◌<◌, ◌≤◌, ⊎_elim, inl, inr, List, [], ◌∷◌, length, get_or, Option, Some, refl, sym, ap, ◌∙◌, subst, arith}
-use mathlib.Core.Option.{none, some, some-injective, some-ne-none}
+use Rattle.std.proofs.Common.{◌≡◌, ◌≢◌, ℕ, zero, suc, ◌+◌, ◌<◌, ◌≤◌, ⊎_elim, inl, List, [], ◌∷◌, length, get_or, Option, Some, refl, sym, ap, ◌∙◌, subst, arith}
+use mathlib.Core.Option.{some, some-ne-none}
 use lib.ListN.{get_elem?}
-use Rattle.sock_words.specs.Words.{socket_id_slot, at_word, at_word_first, at_word_slot}
+use Rattle.sock_words.specs.Words.{socket_id_slot, at_word_first, at_word_slot}
 use Rattle.sock_words.specs.declared.plain.Plan.{Plan}
 use Rattle.sock_model.specs.declared.view.View.{View}
 use Rattle.sock_model.specs.Layout.{open_word}
 use Rattle.corr_core.specs.declared.marks.Plan.{Plan as IdPlan}
-use Rattle.sock_programs.specs.Asides.{Step, Found, StoreAt, TakeBytes, Closed, call_id, id_slot, id_first}
+use Rattle.sock_programs.specs.Asides.{Step, Found, StoreAt, TakeBytes, call_id, id_slot}
 use Rattle.sock_programs.specs.Programs.{Program, Do, Say, Sent, Rest, TakeMessage, TakeHome, PutHome, PutBytes, AskReady, Write, Aside, Round, Keep, Retries}
 use Rattle.sock_programs.specs.Readers.{reader}
 use Rattle.sock_programs.specs.Cores.{Core, SeatState, waiting_at}
-use Rattle.sock_programs.specs.Ticks.{Answer, Moment, taken, ticked, run, AreAnswered}
+use Rattle.sock_programs.specs.Ticks.{Answer, Moment, ticked, run, AreAnswered}
 use Rattle.sock_runs.specs.Sound.{Sound, AreFitting, first_step, views_after, views_along}
 use Rattle.sock_runs.proofs.LinkTicks.{RetriesGo}
 use Rattle.sock_runs.proofs.Along.{place_inside}
@@ -21,11 +21,11 @@ use Rattle.sock_runs.proofs.Recorded.{Recorded, recorded_ticks}
 use Rattle.sock_runs.proofs.ReaderSeats.{AtReader, run_reader}
 use Rattle.sock_runs.proofs.LinksOpening.{OpensLink}
 use Rattle.id_runs.specs.Goes as goes
-use Rattle.joint_runs.proofs.Both.{BothSound, AreBoth}
+use Rattle.joint_runs.proofs.Both.{AreBoth}
 use Rattle.owed_calls.specs.Owing.{Duty, Linked, Owing, Among, duty_tokens}
 use Rattle.owed_calls.specs.Owes.{OwesOn}
-use Rattle.owed_calls.specs.Sound.{at_of, retry_tokens, FailedIn, SoundOwing}
-use Rattle.owed_calls.specs.Lives.{life_of, OthersFit, IsSaying, AreSaying, IsFinished, ClosesAt, ClosesInTime, KeepsAt, AreKept}
+use Rattle.owed_calls.specs.Sound.{retry_tokens, FailedIn, SoundOwing}
+use Rattle.owed_calls.specs.Lives.{life_of, OthersFit, AreSaying, IsFinished, ClosesAt, ClosesInTime, KeepsAt, AreKept}
 use Rattle.owed_calls.proofs.Changes.{among_left}
 use Rattle.owed_calls.proofs.Stores.{id_of_at}
 use Rattle.owed_calls.proofs.Rounds.{owes_round}

@@ -1,5 +1,5 @@
 -- Over every run the word of a link's `open` names a life that was given this link.
-use Rattle.std.proofs.Common.{◌≡◌, ◌≢◌, ℕ, zero, suc, ◌+◌, ◌-◌, ◌*◌, ◌<◌, ◌≤◌, ◌⊎◌, inl, inr, ⊎_elim, ◌==◌, List, [], ◌∷◌, ◌++◌, length, get_or, set, get_or-set_other, get_or-set_same, refl, sym, ap, ◌∙◌, subst, arith}
+use Rattle.std.proofs.Common.{◌≡◌, ◌≢◌, ℕ, zero, suc, ◌+◌, ◌<◌, ◌⊎◌, inl, inr, ⊎_elim, ◌==◌, List, [], ◌∷◌, ◌++◌, length, get_or, set, get_or-set_other, get_or-set_same, refl, sym, ap, ◌∙◌, subst, arith}
 use Rattle.std.specs.Prelude as std
 use Rattle.std.specs.Prelude.{None, Some}
 use Rattle.std.specs.List.{AllByRecursion}
@@ -7,7 +7,7 @@ use mathlib.Core.Logic.{dite}
 use mathlib.Core.Option.{Option, some, none, some-injective, some-ne-none}
 use native.Mathlib.Decide.{ℕ_discrete}
 use lib.ListN.{get_elem?}
-use Rattle.atomic_table.proofs.Lists.{at_set, set_here, set_else}
+use Rattle.atomic_table.proofs.Lists.{at_set}
 use Rattle.sock_words.specs.Words.{socket_id, socket_id_slot, vref_version}
 use Rattle.sock_words.specs.declared.plain.Plan.{Plan}
 use Rattle.sock_io.specs.declared.link.Put.{Put}
@@ -21,8 +21,7 @@ use Rattle.sock_model.specs.Marks.{at, without_at}
 use Rattle.sock_model.specs.Weights.{total, is_linked, is_stage}
 use Rattle.sock_model.specs.Layout.{all_words, open_word}
 use Rattle.sock_model.specs.SlotRows.{marks_of}
-use Rattle.sock_model.specs.Slots.{count, version_of}
-use Rattle.sock_model.specs.References.{slot_facts}
+use Rattle.sock_model.specs.Slots.{version_of}
 use Rattle.corr_core.specs.declared.marks.Plan.{Plan as IdPlan}
 use Rattle.slot_laws.proofs.Sums.{about-here}
 use Rattle.slot_laws.proofs.Numbers.{pair-same}
@@ -44,7 +43,6 @@ use Rattle.sock_programs.specs.Scripts.{sizes_of, beginning, programs, readers_f
 use Rattle.sock_runs.specs.Rows.{row, hand_at}
 use Rattle.sock_runs.specs.May.{May}
 use Rattle.sock_runs.specs.Sound.{state, Sound, first_step, IsFitting, AreFitting, views_after, views_along}
-use Rattle.sock_runs.proofs.Along.{place_inside}
 use Rattle.sock_runs.proofs.Notes.{bears}
 use Rattle.sock_runs.proofs.LinkNotes.{links_stay}
 use Rattle.sock_runs.proofs.LinksStay.{IsGiven}
@@ -280,7 +278,13 @@ module _ (p : Plan) (own : ℕ → ℕ → Type 0) (c : Core) (vs : List View) (
     pub birth_step : (a k : ℕ) → call ≡ GiveBirth a k → Named p own after (set vs i w)
     birth_step a k made = let g = stores_new own (k, socket_id (vref_version found) a) (next found) (subst (λ x. Names own (Do x next)) made (mine (not_new (ap stores made) (n.programs i seat at_seat))) found) in
         with_next (inr record {
-          operation = g.operation; link = k; slot = a; version = vref_version found; after = g.after; inside = (subst (May p v) made may).0; mine = g.mine;
+          operation = g.operation;
+          link = k;
+          slot = a;
+          version = vref_version found;
+          after = g.after;
+          inside = (subst (May p v) made may).0;
+          mine = g.mine;
           stores = ap (λ x. next_step (resolved (waiting_at c.calls.waiting i) x)) g.stores;
           given = born;
           goes = g.goes;
@@ -290,8 +294,13 @@ module _ (p : Plan) (own : ℕ → ℕ → Type 0) (c : Core) (vs : List View) (
         noted : 0 < marks_of (is_linked (vref_version found) k) a w
         noted = subst (λ (x : Call). 0 < marks_of (is_linked (vref_version found) k) a (row p x found (hand_at p c.words c.homes call) v)) (sym made)
             (let h : ℕ = version_of found in let left = without_at a (is_stage 3 k) v.marks in
-            omega (arith, ap (total (is_linked h k)) (about-here a (Known h) (at a (Born h) ∷ at a (Linked h k) ∷ left)), ap (total (is_linked h k)) (about-here a (Born h) (at a (Linked h k) ∷ left)),
-            ap (total (is_linked h k)) (about-here a (Linked h k) left), pair-same h k))
+            omega (
+              arith,
+              ap (total (is_linked h k)) (about-here a (Known h) (at a (Born h) ∷ at a (Linked h k) ∷ left)),
+              ap (total (is_linked h k)) (about-here a (Born h) (at a (Linked h k) ∷ left)),
+              ap (total (is_linked h k)) (about-here a (Linked h k) left),
+              pair-same h k,
+            ))
 
         born : IsGiven after (set vs i w) a (vref_version found) k
         born = let moved = counts (state c vs) i v w at_view (words_after c.words (word_of p call) (word_after call (found_at c.words (word_of p call)))) (homes_after p call seat.hand c.homes) (is_linked (vref_version found) k) a in
