@@ -215,7 +215,7 @@ module _ (X : Type 0) (f : X → Program → List ℕ) (hears : Hears X f) where
       let y = rest (λ x. subst (λ (d : Core). said_in (f x) p d later ++ s x ≡ said_in (f x) p (run p c now') later' ++ t x) first.0 (first.1 x)) in
       (ap (run p c) is ∙ ran_on p c now later ∙ ap (λ (d : Core). run p d later) first.0 ∙ y.0 ∙ sym (ran_on p c now' later') ∙ sym (ap (run p c) is'), y.1)
 
-  in_parts : (p : Plan) (c : Core) (xs now later ys now' later' : List Moment) (s t : X → List Answer) → xs ≡ now ++ later → ys ≡ now' ++ later' → SaidSame p c xs ys s t
+  pub in_parts : (p : Plan) (c : Core) (xs now later ys now' later' : List Moment) (s t : X → List Answer) → xs ≡ now ++ later → ys ≡ now' ++ later' → SaidSame p c xs ys s t
       → SaidSame p c now now' (λ x. said_in (f x) p (run p c now) later ++ s x) (λ x. said_in (f x) p (run p c now') later' ++ t x)
   in_parts p c xs now later ys now' later' s t is is' e x = sym (two_parts (f x) p c xs now later (s x) is) ∙ e x ∙ two_parts (f x) p c ys now' later' (t x) is'
 

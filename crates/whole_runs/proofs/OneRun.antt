@@ -181,6 +181,16 @@ module _ (script : List Item) where
 
 -- ## The run
 
+-- from one core seat 0 makes one ending
+pub one_ending : (script : List Item) (turns : List Turn) (a b : Core) (h : IsRunWithCalls script turns a) (k : IsRunWithCalls script turns b) → played script h.setup (h.scheduled ++ h.later) ≡ played script k.setup (k.scheduled ++ k.later) → h.ended ≡ k.ended
+one_ending script turns a b h k same =
+    let q : Plan = plan_of script in
+    let c : Core = played script k.setup (k.scheduled ++ k.later) in
+    let start = h.is_ended ∙ ap (λ (d : Core). is_ending (run q (ending script d) (replicate h.last (quiet 0)))) same in
+    start
+    ∙ ap is_ending (one_rest q 0 h.last k.last (ending script c) (subst (λ (d : Core). IsAtRest d 0) start h.is_over) (subst (λ (d : Core). IsAtRest d 0) k.is_ended k.is_over))
+    ∙ sym k.is_ended
+
 module _ (script : List Item) (turns : List Turn) (a b : Core) (h : IsRunWithCalls script turns a) (k : IsRunWithCalls script turns b) (same : before_ending h ≡ before_ending k) (same_behind : behind_ending h ≡ behind_ending k) where
   abbrev q : Plan
   q = plan_of script
@@ -218,12 +228,7 @@ module _ (script : List Item) (turns : List Turn) (a b : Core) (h : IsRunWithCal
       ∙ sym other_way
 
   same_ended : h.ended ≡ k.ended
-  same_ended =
-      let c : Core = played script k.setup (k.scheduled ++ k.later) in
-      let start = h.is_ended ∙ ap (λ (d : Core). is_ending (run q (ending script d) (replicate h.last (quiet 0)))) same_played in
-      start
-      ∙ ap is_ending (one_rest q 0 h.last k.last (ending script c) (subst (λ (d : Core). IsAtRest d 0) start h.is_over) (subst (λ (d : Core). IsAtRest d 0) k.is_ended k.is_over))
-      ∙ sym k.is_ended
+  same_ended = one_ending script turns a b h k same_played
 
   pub one_run : a ≡ b
   one_run = h.is_end ∙ ap (λ (c : Core). run q c h.final) same_ended
