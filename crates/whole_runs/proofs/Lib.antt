@@ -1,3 +1,5 @@
 pub mod Alike
 pub mod OneRun
 pub mod HeardRuns
+pub mod Starts
+pub mod Lengths

@@ -1,3 +1,4 @@
 pub mod Answers
 pub mod Heard
 pub mod Rounds
+pub mod Sizes
