@@ -25,24 +25,18 @@ use Rattle.sock_programs.specs.Beside.{found_in, calls_after, with_word, more_gi
 use Rattle.sock_programs.specs.Rounds.{round}
 use Rattle.sock_programs.specs.Sends.{block}
 use Rattle.sock_programs.specs.Tasks.{opens, calls, plan_of, id_plan_of}
-use Rattle.sock_programs.specs.Programs.{Program, Say, Sent, Do, TakeMessage, TakeHome, PutHome, PutBytes, AskReady, Write, Aside, Round}
+use Rattle.sock_programs.specs.Programs.{Program, Do, TakeMessage, TakeHome, PutHome, PutBytes, AskReady, Write, Aside, Round}
 use Rattle.sock_programs.specs.Clients.{ending_of}
 use Rattle.sock_programs.specs.Cores.{Calls, Core, SeatState, word_of, word_after, found_at, words_after, hand_after, homes_after, first_of, others_of, lies_at, link_place, said, resolved, still_waiting, next_step, waiting_at, with_seat}
 use Rattle.sock_programs.specs.Ticks.{Answer, OfPut, OfReady, Moment, quiet, fed, with_places, onto_first, taken, with_message, with_link, with_put, with_ready, with_found, step_with, tick_with, ticked, run}
 use Rattle.sock_programs.specs.Scripts.{sizes_of, programs, readers_from, all_programs, all_tasks, opened, ending, is_ending, set_up, played, IsRunWithCalls}
+use Rattle.sock_causes.proofs.Seats.{length_said}
 use Rattle.client_laws.proofs.Beginning.{unused, length_homes}
 use Rattle.client_laws.proofs.Lasting.{length_all}
 use Rattle.id_runs.proofs.Opening as ids
 use Rattle.joint_runs.proofs.Runs.{AreMade}
 use Rattle.whole_runs.specs.Sizes.{IsSized}
 use Rattle.whole_runs.proofs.Starts.{made}
-
---TEMP
-length_said : (q : Program) (os : List (std.Option Outcome)) → length (said q os) ≡ length os
-length_said (Say o outcome more) os = length_said more (std.slice_set os o (Some outcome)) ∙ length-set os o (Some outcome)
-length_said (Sent o more) os = length_said more os
-length_said _ os = refl
---TEMPEND
 
 -- the lists of d are as long as those of c
 record AsLong (c d : Core) : Type 0 where

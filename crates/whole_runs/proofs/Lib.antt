@@ -3,3 +3,4 @@ pub mod OneRun
 pub mod HeardRuns
 pub mod Starts
 pub mod Lengths
+pub mod Runs
