@@ -39,16 +39,16 @@ use Rattle.whole_runs.specs.Sizes.{IsSized}
 use Rattle.whole_runs.proofs.Starts.{made}
 
 -- the lists of d are as long as those of c
-record AsLong (c d : Core) : Type 0 where
-  words : length d.words ≡ length c.words
-  homes : length d.homes ≡ length c.homes
-  seats : length d.seats ≡ length c.seats
-  outcomes : length d.outcomes ≡ length c.outcomes
-  plan : d.calls.plan ≡ c.calls.plan
-  id_words : length d.calls.words ≡ length c.calls.words
-  id_homes : length d.calls.homes ≡ length c.calls.homes
-  waiting : length d.calls.waiting ≡ length c.calls.waiting
-  gave : length d.calls.gave ≡ length c.calls.gave
+pub record AsLong (c d : Core) : Type 0 where
+  pub words : length d.words ≡ length c.words
+  pub homes : length d.homes ≡ length c.homes
+  pub seats : length d.seats ≡ length c.seats
+  pub outcomes : length d.outcomes ≡ length c.outcomes
+  pub plan : d.calls.plan ≡ c.calls.plan
+  pub id_words : length d.calls.words ≡ length c.calls.words
+  pub id_homes : length d.calls.homes ≡ length c.calls.homes
+  pub waiting : length d.calls.waiting ≡ length c.calls.waiting
+  pub gave : length d.calls.gave ≡ length c.calls.gave
 
 same_long : (c : Core) → AsLong c c
 same_long c = record { words = refl; homes = refl; seats = refl; outcomes = refl; plan = refl; id_words = refl; id_homes = refl; waiting = refl; gave = refl }
@@ -170,7 +170,7 @@ module _ (p : Plan) (i : ℕ) (seat : SeatState) (c : Core) where
   tick_with_long answer (Round head next) = step_long answer (round head next)
   tick_with_long answer program = step_long answer program
 
-tick_long : (p : Plan) (m : Moment) (c : Core) → AsLong c (ticked p c m)
+pub tick_long : (p : Plan) (m : Moment) (c : Core) → AsLong c (ticked p c m)
 tick_long p m c = by_seat (get_elem? c.seats m.seat)
   where
     by_seat : (o : Option SeatState) → AsLong c (elim o as (λ o. Core) [ none ↦ c | some seat ↦ tick_with p m.seat seat c m.answer seat.program ])
@@ -230,16 +230,25 @@ ending_sized script c s = long_sized (plan_of script) (id_plan_of script) c (end
 pub is_ending_sized : (p : Plan) (q : IdPlan) (c : Core) → IsSized p q c → IsSized p q (is_ending c)
 is_ending_sized p q c s = record { words = s.words; homes = s.homes; seats = s.seats; outcomes = s.outcomes; plan = s.plan; id_words = s.id_words; id_homes = s.id_homes; waiting = s.waiting; gave = s.gave }
 
--- and the one in which it ends
-pub ended_sized : (bytes : List ℕ) (script : List Item) → script_of bytes ≡ Ok script → (turns : List Turn) (core : Core) → IsRunWithCalls script turns core → IsSized (plan_of script) (id_plan_of script) core
-ended_sized bytes script reads turns core r =
+-- each core with which a part of the run begins, and the one in which it ends
+pub record AreSized (script : List Item) (turns : List Turn) (core : Core) (r : IsRunWithCalls script turns core) : Type 0 where
+  pub opened : IsSized (plan_of script) (id_plan_of script) (opened script)
+  pub set_up : IsSized (plan_of script) (id_plan_of script) (set_up script r.setup)
+  pub played : IsSized (plan_of script) (id_plan_of script) (played script r.setup (r.scheduled ++ r.later))
+  pub ended : IsSized (plan_of script) (id_plan_of script) r.ended
+  pub over : IsSized (plan_of script) (id_plan_of script) core
+
+pub run_sizes : (bytes : List ℕ) (script : List Item) → script_of bytes ≡ Ok script → (turns : List Turn) (core : Core) (r : IsRunWithCalls script turns core) → AreSized script turns core r
+run_sizes bytes script reads turns core r =
     let p : Plan = plan_of script in
     let q : IdPlan = id_plan_of script in
     let c : Core = played script r.setup (r.scheduled ++ r.later) in
-    let before : IsSized p q c = run_sized p q (set_up script r.setup) (r.scheduled ++ r.later) (run_sized p q (opened script) (replicate r.setup (quiet 0)) (opened_sized bytes script reads)) in
-    let over : IsSized p q r.ended = subst (IsSized p q) (sym r.is_ended) (is_ending_sized p q (run p (ending script c) (replicate r.last (quiet 0))) (run_sized p q (ending script c) (replicate r.last (quiet 0)) (ending_sized script c before))) in
-    subst (IsSized p q) (sym r.is_end) (run_sized p q r.ended r.final over)
+    let first : IsSized p q (opened script) = opened_sized bytes script reads in
+    let begun : IsSized p q (set_up script r.setup) = run_sized p q (opened script) (replicate r.setup (quiet 0)) first in
+    let before : IsSized p q c = run_sized p q (set_up script r.setup) (r.scheduled ++ r.later) begun in
+    let closed : IsSized p q r.ended = subst (IsSized p q) (sym r.is_ended) (is_ending_sized p q (run p (ending script c) (replicate r.last (quiet 0))) (run_sized p q (ending script c) (replicate r.last (quiet 0)) (ending_sized script c before))) in
+    record { opened = first; set_up = begun; played = before; ended = closed; over = subst (IsSized p q) (sym r.is_end) (run_sized p q r.ended r.final closed) }
 
 -- a run of a script that was read ends with a place for the outcome of each operation
 pub ended_length : (bytes : List ℕ) (script : List Item) → script_of bytes ≡ Ok script → (turns : List Turn) (core : Core) → IsRunWithCalls script turns core → length core.outcomes ≡ length (operations script)
-ended_length bytes script reads turns core r = (ended_sized bytes script reads turns core r).outcomes
+ended_length bytes script reads turns core r = (run_sizes bytes script reads turns core r).over.outcomes

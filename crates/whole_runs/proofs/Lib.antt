@@ -3,4 +3,5 @@ pub mod OneRun
 pub mod HeardRuns
 pub mod Starts
 pub mod Lengths
+pub mod Gave
 pub mod Runs
