@@ -9,7 +9,6 @@ use Rattle.std.specs.Prelude.{None}
 use mathlib.Core.Option.{Option, some, none}
 use mathlib.Core.List.{cons-ne-nil}
 use lib.ListN.{get_elem?}
-use Rattle.sock_words.specs.declared.kind.Kind.{Kind}
 use Rattle.sock_words.specs.declared.plain.Plan.{Plan}
 use Rattle.sock_words.specs.KindText.{kind_text}
 use Rattle.corr_core.specs.Word.{parts, code_of}
@@ -24,7 +23,7 @@ use Rattle.sock_programs.specs.Cores.{Core, SeatState}
 use Rattle.sock_programs.specs.Ticks.{Answer, Moment, seats_of, step_with, tick_with, ticked, run, waits_at, waits}
 use Rattle.sock_programs.specs.Runs.{IsAtRest, LeadsUpTo, Turns, Scheduled}
 use Rattle.sock_programs.specs.Tasks.{plan_of}
-use Rattle.sock_programs.specs.Scripts.{AreStill, round_of}
+use Rattle.sock_programs.specs.Scripts.{AreStill}
 use Rattle.whole_runs.specs.Answers.{asked, said_at, said_in}
 use Rattle.whole_runs.specs.Rounds.{SettlesAfter}
 
@@ -100,6 +99,10 @@ module _ (p : Plan) (i : ℕ) (seat : SeatState) (c : Core) (a b : Answer) where
 
 pub ran_on : (p : Plan) (c : Core) (xs ys : List Moment) → run p c (xs ++ ys) ≡ run p (run p c xs) ys
 ran_on p c xs ys = fold-append (ticked p) c xs ys
+
+pub seats_on : (xs ys : List Moment) → seats_of (xs ++ ys) ≡ seats_of xs ++ seats_of ys
+seats_on [] ys = refl
+seats_on (x ∷ xs) ys = ap (λ (l : List ℕ). x.seat ∷ l) (seats_on xs ys)
 
 pub said_on : (asks : Program → List ℕ) (p : Plan) (c : Core) (xs ys : List Moment) → said_in asks p c (xs ++ ys) ≡ said_in asks p c xs ++ said_in asks p (run p c xs) ys
 said_on asks p c [] ys = refl

@@ -1,8 +1,9 @@
 -- What a run has of what a link gave is what its reading half answered, one take after another.
-use Rattle.std.proofs.Common.{◌≡◌, ◌≢◌, ℕ, zero, suc, ◌+◌, ◌<◌, ◌==◌, Bool, true, false, cond, eqb-true, List, [], ◌∷◌, ◌++◌, length, length-set, map, filter, replicate, get_or-set_same, get_or-set_other, flat_map, refl, sym, ap, ◌∙◌, subst, append-nil, append_assoc, arith, if◌then◌else◌}
+use Rattle.std.proofs.Common.{◌≡◌, ℕ, zero, suc, ◌+◌, ◌<◌, ◌==◌, Bool, true, false, cond, eqb-true, List, [], ◌∷◌, ◌++◌, length, map, filter, replicate, get_or-set_same, get_or-set_other, refl, sym, ap, ◌∙◌, subst, append-nil, append_assoc, arith, if◌then◌else◌}
 use Rattle.std.proofs.lemmas.Bool.{eqb-false}
 use Rattle.std.proofs.lemmas.List.{get_or-replicate}
 use Rattle.std.proofs.lemmas.List.Concat.{flat_map-append}
+use Rattle.std.specs.List.{AllByRecursion}
 use Rattle.std.specs.Prelude as std
 use Rattle.std.specs.Prelude.{slice_index_or, Ok}
 use mathlib.Core.Option.{Option, none, some}
@@ -21,14 +22,15 @@ use Rattle.sock_programs.specs.Beside.{at_last, found_in, calls_after, more_give
 use Rattle.sock_programs.specs.Heads.{Posts, Unlocks, Decides, Locks, Joins, Opens, Reads, Discards, HasEnded}
 use Rattle.sock_programs.specs.Posts.{ends_call, end_id, unlocked}
 use Rattle.sock_programs.specs.Writings.{Puts, Waits, Empties, Walks}
-use Rattle.sock_programs.specs.Programs.{Program, Do, Say, Sent, Rest, TakeMessage, TakeHome, PutHome, PutBytes, AskReady, Write, Aside, Round, Keep, Retries}
+use Rattle.sock_programs.specs.Programs.{Program, TakeMessage, TakeHome, PutBytes, AskReady, Write, Aside, Round}
 use Rattle.sock_programs.specs.Cores.{Core, SeatState}
 use Rattle.sock_programs.specs.Ticks.{Answer, Unasked, OfPut, OfReady, OfTake, Moment, quiet, taken, with_message, with_link, with_put, with_ready, with_found, step_with, tick_with, ticked, run}
 use Rattle.sock_programs.specs.Tasks.{plan_of}
-use Rattle.sock_programs.specs.Scripts.{opened, ending, is_ending, set_up, played, IsRunWithCalls}
+use Rattle.sock_programs.specs.Scripts.{opened, ending, set_up, played, IsRunWithCalls}
 use Rattle.sock_runs.specs.Sound.{first_step}
-use Rattle.whole_runs.specs.Heard.{take_of, as_taken, taken_link, taken_at, taken_in, heard_takes, bytes_of, given_by}
-use Rattle.whole_runs.proofs.Lengths.{AsLong, tick_long, run_sizes}
+use Rattle.whole_runs.specs.Heard.{take_of, as_taken, taken_link, taken_at, taken_in, heard_takes, answers_of, bytes_of, given_by, IsOfLink}
+use Rattle.whole_runs.proofs.HeardRuns.{same_takings}
+use Rattle.whole_runs.proofs.Lengths.{tick_long, run_sizes}
 
 -- ## A tick
 
@@ -221,3 +223,9 @@ gave_heard bytes script reads turns core r k low =
     let over : gave k r.ended ≡ bytes_in (taken_in p c₁ (r.scheduled ++ r.later) k) = ap (gave k) r.is_ended ∙ quiet_gave k p (ending script c₂) r.last (omega (arith, low, long₂)) ∙ clients in
     ap (gave k) r.is_end ∙ run_gave k p r.ended r.final (omega (arith, low, long₃)) ∙ ap (λ (l : List ℕ). l ++ bytes_in (taken_in p r.ended r.final k)) over
     ∙ sym (bytes_on (taken_in p c₁ (r.scheduled ++ r.later) k) (taken_in p r.ended r.final k))
+
+-- so takes of it that were answered the same, but for their bytes, in runs that have the same bytes of it, found the same
+pub same_takes : (bytes : List ℕ) (script : List Item) → script_of bytes ≡ Ok script → (turns : List Turn) (a b : Core) (h : IsRunWithCalls script turns a) (k : IsRunWithCalls script turns b) (j : ℕ) → j < (plan_of script).links →
+    AllByRecursion IsOfLink (heard_takes h j) → AllByRecursion IsOfLink (heard_takes k j) → answers_of (heard_takes h j) ≡ answers_of (heard_takes k j) → slice_index_or a.calls.gave j [] ≡ slice_index_or b.calls.gave j [] → heard_takes h j ≡ heard_takes k j
+same_takes bytes script reads turns a b h k j low own own' same given =
+    same_takings (heard_takes h j) (heard_takes k j) own own' same (sym (gave_heard bytes script reads turns a h j low) ∙ given ∙ gave_heard bytes script reads turns b k j low)

@@ -1,5 +1,5 @@
 -- Two runs of a script with calls by the same lines of a schedule end in one core, where each half of each of its links answered the same.
-use Rattle.std.proofs.Common.{◌≡◌, ℕ, ◌⊎◌, inl, inr, Bool, cond, ◌==◌, eq-eqb, List, [], ◌∷◌, ◌++◌, length, take, drop, map, filter, flat_map, replicate, ap, sym, subst, refl, ◌∙◌, append-nil}
+use Rattle.std.proofs.Common.{◌≡◌, ℕ, ◌⊎◌, inl, inr, Bool, cond, ◌==◌, eq-eqb, List, [], ◌∷◌, ◌++◌, length, take, drop, map, filter, flat_map, ap, sym, subst, refl, ◌∙◌, append-nil}
 use Rattle.std.proofs.Math.Seq.{take-append_seam, drop-append_seam}
 use Rattle.std.proofs.lemmas.List.Concat.{flat_map-append}
 use Rattle.std.specs.List.{AllByRecursion}
@@ -13,7 +13,6 @@ use Rattle.sock_io.specs.declared.link.Ready.{Ready}
 use Rattle.sock_io.specs.declared.link.Ready.TheVariants as asks
 use Rattle.sock_io.specs.Link.{of_put, of_ready}
 use Rattle.brpc_model.specs.Items.{Item}
-use Rattle.brpc_model.specs.Link.{HalfAnswer}
 use Rattle.brpc_model.specs.Operations.{Turn}
 use Rattle.brpc_model.specs.Report.{Report, report_text}
 use Rattle.brpc_model.proofs.Unique.{only_report}
@@ -26,8 +25,8 @@ use Rattle.sock_programs.specs.Ticks.{Answer, Unasked, OfPut, OfReady, OfTake, M
 use Rattle.sock_programs.specs.Runs.{Scheduled}
 use Rattle.sock_programs.specs.Tasks.{plan_of}
 use Rattle.sock_programs.specs.Scripts.{IsRunWithCalls, set_up, opened, played, place_words, Reports}
-use Rattle.whole_runs.specs.Answers.{asked, said_at, said_in}
-use Rattle.whole_runs.specs.Heard.{half_of, as_told, take_of, as_taken, taken_link, heard_in, taken_in, heard_of, taken_of, heard_takes, TakeAnswer, answer_of, bytes_of, answers_of, given_by, IsOfLink}
+use Rattle.whole_runs.specs.Answers.{said_at, said_in}
+use Rattle.whole_runs.specs.Heard.{half_of, as_told, take_of, as_taken, taken_link, heard_in, taken_in, heard_of, taken_of, heard_takes, answer_of, bytes_of, answers_of, given_by, IsOfLink}
 use Rattle.whole_runs.specs.Rounds.{StopsFirst, SettlesAfter}
 use Rattle.whole_runs.proofs.Alike.{Hears, same_first, same_others, said_on, SaidSame, EndAlike, in_parts, then_alike, one_schedule, one_settling}
 use Rattle.whole_runs.proofs.OneRun.{one_rest, one_ending}

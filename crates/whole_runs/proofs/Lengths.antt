@@ -1,5 +1,5 @@
 -- A run keeps its tables as long as they are, and as many places for outcomes as there are operations.
-use Rattle.std.proofs.Common.{◌≡◌, ℕ, zero, suc, ◌+◌, Bool, List, [], ◌∷◌, ◌++◌, length, length-set, replicate, refl, sym, ap, ◌∙◌, subst, arith}
+use Rattle.std.proofs.Common.{◌≡◌, ℕ, ◌+◌, List, [], ◌∷◌, ◌++◌, length, length-set, replicate, refl, sym, ap, ◌∙◌, subst, arith}
 use Rattle.std.specs.Prelude as std
 use Rattle.std.specs.Prelude.{None, Some, Ok}
 use Rattle.std.specs.List.{fold}
@@ -34,7 +34,6 @@ use Rattle.sock_causes.proofs.Seats.{length_said}
 use Rattle.client_laws.proofs.Beginning.{unused, length_homes}
 use Rattle.client_laws.proofs.Lasting.{length_all}
 use Rattle.id_runs.proofs.Opening as ids
-use Rattle.joint_runs.proofs.Runs.{AreMade}
 use Rattle.whole_runs.specs.Sizes.{IsSized}
 use Rattle.whole_runs.proofs.Starts.{made}
 

@@ -1,5 +1,5 @@
 -- Two runs of a script with calls by the same lines of a schedule end in one core, where its links answered the same, one answer after another, before the ending and behind it.
-use Rattle.std.proofs.Common.{◌≡◌, ℕ, zero, suc, ◌+◌, ◌⊎◌, inl, inr, Bool, true, List, [], ◌∷◌, ◌++◌, map, replicate, ap, sym, subst, refl, ◌∙◌, append_assoc, append-nil, arith}
+use Rattle.std.proofs.Common.{◌≡◌, ℕ, zero, suc, ◌+◌, ◌⊎◌, inl, inr, true, List, [], ◌∷◌, ◌++◌, map, replicate, ap, sym, subst, refl, ◌∙◌, append_assoc, append-nil, arith}
 use Rattle.std.proofs.lemmas.Option.{none-some}
 use Rattle.std.specs.List.{AllByRecursion}
 use Rattle.std.specs.Prelude as std
@@ -22,7 +22,7 @@ use Rattle.sock_programs.specs.Scripts.{IsRunWithCalls, Settles, AreStill, round
 use Rattle.sock_runs.proofs.Waiting.{still}
 use Rattle.report_fits.proofs.Lists.{Has, all_at, all_from}
 use Rattle.whole_runs.specs.Answers.{asked, told_at, told_in, before_ending, behind_ending}
-use Rattle.whole_runs.proofs.Alike.{Hears, same_first, same_others, ran_on, said_on, alike, EndAlike, one_schedule}
+use Rattle.whole_runs.proofs.Alike.{Hears, same_first, same_others, ran_on, seats_on, said_on, alike, EndAlike, one_schedule}
 
 -- ## All links as one
 
@@ -150,10 +150,6 @@ module _ (script : List Item) where
   within_rounds : (n : ℕ) → AllByRecursion (Has (round_of script)) (rounds_of n script)
   within_rounds zero = tt
   within_rounds (suc n) = within_append (round_of script) (round_of script) (rounds_of n script) (all_from (Has (round_of script)) (round_of script) (λ i h. h)) (within_rounds n)
-
-  seats_on : (xs ys : List Moment) → seats_of (xs ++ ys) ≡ seats_of xs ++ seats_of ys
-  seats_on [] ys = refl
-  seats_on (x ∷ xs) ys = ap (λ (l : List ℕ). x.seat ∷ l) (seats_on xs ys)
 
   abbrev p : Plan
   p = plan_of script

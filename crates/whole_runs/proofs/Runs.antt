@@ -1,5 +1,5 @@
 -- Whatever its schedule: the report of the run of a script that was read fits the script, and in the end all is over.
-use Rattle.std.proofs.Common.{◌≡◌, ℕ, ◌<◌, ◌≤◌, inl, inr, ⊎_elim, true, false, IsTrue, List, [], length, slice_get, Option, Some, Ok, Contains, sym, ap, ◌∙◌, subst, arith}
+use Rattle.std.proofs.Common.{◌≡◌, ℕ, ◌<◌, inl, inr, false, List, [], length, Option, Ok, Contains, subst, arith}
 use Rattle.std.proofs.lemmas.List.{nil_from_length}
 use Rattle.brpc_model.specs.Items.{Item}
 use Rattle.brpc_model.specs.Operations.{Turn, link_names}
