@@ -28,7 +28,7 @@ use Rattle.sock_programs.specs.Ticks.{Answer, Unasked, OfPut, OfReady, OfTake, M
 use Rattle.sock_programs.specs.Tasks.{plan_of}
 use Rattle.sock_programs.specs.Scripts.{opened, ending, set_up, played, IsRunWithCalls}
 use Rattle.sock_runs.specs.Sound.{first_step}
-use Rattle.whole_runs.specs.Heard.{take_of, as_taken, taken_link, taken_at, taken_in, heard_takes, answers_of, bytes_of, given_by, IsOfLink}
+use Rattle.whole_runs.specs.Heard.{take_of, as_taken, taken_link, taken_at, taken_in, heard_takes, take_answers, bytes_found, given_by, IsOfLink}
 use Rattle.whole_runs.proofs.HeardRuns.{same_takings}
 use Rattle.whole_runs.proofs.Lengths.{tick_long, run_sizes}
 
@@ -70,12 +70,12 @@ abbrev bytes_in : List Answer → List ℕ
 bytes_in answers = given_by (as_taken answers)
 
 bytes_on : (xs ys : List Answer) → bytes_in (xs ++ ys) ≡ bytes_in xs ++ bytes_in ys
-bytes_on xs ys = ap given_by (flat_map-append take_of xs ys) ∙ flat_map-append bytes_of (as_taken xs) (as_taken ys)
+bytes_on xs ys = ap given_by (flat_map-append take_of xs ys) ∙ flat_map-append bytes_found (as_taken xs) (as_taken ys)
 
 -- an answer without bytes, however often it is counted
 no_bytes : (a : Answer) → given_by (take_of a) ≡ [] → (ks : List ℕ) → bytes_in (map (λ (k : ℕ). a) ks) ≡ []
 no_bytes a e [] = refl
-no_bytes a e (k ∷ ks) = flat_map-append bytes_of (take_of a) (as_taken (map (λ (k : ℕ). a) ks)) ∙ ap (λ (l : List ℕ). l ++ bytes_in (map (λ (k : ℕ). a) ks)) e ∙ no_bytes a e ks
+no_bytes a e (k ∷ ks) = flat_map-append bytes_found (take_of a) (as_taken (map (λ (k : ℕ). a) ks)) ∙ ap (λ (l : List ℕ). l ++ bytes_in (map (λ (k : ℕ). a) ks)) e ∙ no_bytes a e ks
 
 module _ (k : ℕ) where
   abbrev gave : Core → List ℕ
@@ -226,6 +226,6 @@ gave_heard bytes script reads turns core r k low =
 
 -- so takes of it that were answered the same, but for their bytes, in runs that have the same bytes of it, found the same
 pub same_takes : (bytes : List ℕ) (script : List Item) → script_of bytes ≡ Ok script → (turns : List Turn) (a b : Core) (h : IsRunWithCalls script turns a) (k : IsRunWithCalls script turns b) (j : ℕ) → j < (plan_of script).links →
-    AllByRecursion IsOfLink (heard_takes h j) → AllByRecursion IsOfLink (heard_takes k j) → answers_of (heard_takes h j) ≡ answers_of (heard_takes k j) → slice_index_or a.calls.gave j [] ≡ slice_index_or b.calls.gave j [] → heard_takes h j ≡ heard_takes k j
+    AllByRecursion IsOfLink (heard_takes h j) → AllByRecursion IsOfLink (heard_takes k j) → take_answers (heard_takes h j) ≡ take_answers (heard_takes k j) → slice_index_or a.calls.gave j [] ≡ slice_index_or b.calls.gave j [] → heard_takes h j ≡ heard_takes k j
 same_takes bytes script reads turns a b h k j low own own' same given =
     same_takings (heard_takes h j) (heard_takes k j) own own' same (sym (gave_heard bytes script reads turns a h j low) ∙ given ∙ gave_heard bytes script reads turns b k j low)

@@ -26,7 +26,7 @@ use Rattle.sock_programs.specs.Runs.{Scheduled}
 use Rattle.sock_programs.specs.Tasks.{plan_of}
 use Rattle.sock_programs.specs.Scripts.{IsRunWithCalls, set_up, opened, played, place_words, Reports}
 use Rattle.whole_runs.specs.Answers.{said_at, said_in}
-use Rattle.whole_runs.specs.Heard.{half_of, as_told, take_of, as_taken, taken_link, heard_in, taken_in, heard_of, taken_of, heard_takes, answer_of, bytes_of, answers_of, given_by, IsOfLink}
+use Rattle.whole_runs.specs.Heard.{half_of, as_told, take_of, as_taken, taken_link, heard_in, taken_in, heard_of, taken_of, heard_takes, answer_of, bytes_found, take_answers, given_by, IsOfLink}
 use Rattle.whole_runs.specs.Rounds.{StopsFirst, SettlesAfter}
 use Rattle.whole_runs.proofs.Alike.{Hears, same_first, same_others, said_on, SaidSame, EndAlike, in_parts, then_alike, one_schedule, one_settling}
 use Rattle.whole_runs.proofs.OneRun.{one_rest, one_ending}
@@ -284,7 +284,7 @@ answer_word AtEnd h = (_, refl)
 answer_word Closed h = (_, refl)
 answer_word Broken h = (_, refl)
 
-as_long : (x y : Taking) → IsOfLink x → IsOfLink y → answer_of x ≡ answer_of y → length (bytes_of x) ≡ length (bytes_of y)
+as_long : (x y : Taking) → IsOfLink x → IsOfLink y → answer_of x ≡ answer_of y → length (bytes_found x) ≡ length (bytes_found y)
 as_long (Bytes x) (Bytes y) h k e = cc
 as_long (Bytes x) NoMore h k e = absurd k
 as_long (Bytes x) other h k e = absurd (cc)
@@ -292,7 +292,7 @@ as_long NoMore y h k e = absurd h
 as_long x (Bytes y) h k e = absurd (cc)
 as_long x y h k e = refl
 
-same_taking : (x y : Taking) → IsOfLink x → IsOfLink y → answer_of x ≡ answer_of y → bytes_of x ≡ bytes_of y → x ≡ y
+same_taking : (x y : Taking) → IsOfLink x → IsOfLink y → answer_of x ≡ answer_of y → bytes_found x ≡ bytes_found y → x ≡ y
 same_taking NoMore y h k e f = absurd h
 same_taking x NoMore h k e f = absurd k
 same_taking (Bytes x) (Bytes y) h k e f = ap Bytes f
@@ -303,13 +303,13 @@ same_taking Broken Broken h k e f = refl
 same_taking x y h k e f = absurd (cc)
 
 -- takes that were answered the same, and gave the same bytes, found the same
-pub same_takings : (xs ys : List Taking) → AllByRecursion IsOfLink xs → AllByRecursion IsOfLink ys → answers_of xs ≡ answers_of ys → given_by xs ≡ given_by ys → xs ≡ ys
+pub same_takings : (xs ys : List Taking) → AllByRecursion IsOfLink xs → AllByRecursion IsOfLink ys → take_answers xs ≡ take_answers ys → given_by xs ≡ given_by ys → xs ≡ ys
 same_takings [] [] h k e f = refl
-same_takings [] (y ∷ ys) h k e f = absurd (no_word answer_of y (answers_of ys) (answer_word y k.0) (sym e))
-same_takings (x ∷ xs) [] h k e f = absurd (no_word answer_of x (answers_of xs) (answer_word x h.0) e)
+same_takings [] (y ∷ ys) h k e f = absurd (no_word answer_of y (take_answers ys) (answer_word y k.0) (sym e))
+same_takings (x ∷ xs) [] h k e f = absurd (no_word answer_of x (take_answers xs) (answer_word x h.0) e)
 same_takings (x ∷ xs) (y ∷ ys) h k e f =
-    let parts = word_parts answer_of x y (answers_of xs) (answers_of ys) (answer_word x h.0) (answer_word y k.0) e in
-    let long : length (bytes_of x) ≡ length (bytes_of y) = as_long x y h.0 k.0 parts.0 in
-    let front : bytes_of x ≡ bytes_of y = sym (take-append_seam (bytes_of x) (given_by xs)) ∙ ap (take (length (bytes_of x))) f ∙ ap (λ (n : ℕ). take n (bytes_of y ++ given_by ys)) long ∙ take-append_seam (bytes_of y) (given_by ys) in
-    let later : given_by xs ≡ given_by ys = sym (drop-append_seam (bytes_of x) (given_by xs)) ∙ ap (drop (length (bytes_of x))) f ∙ ap (λ (n : ℕ). drop n (bytes_of y ++ given_by ys)) long ∙ drop-append_seam (bytes_of y) (given_by ys) in
+    let parts = word_parts answer_of x y (take_answers xs) (take_answers ys) (answer_word x h.0) (answer_word y k.0) e in
+    let long : length (bytes_found x) ≡ length (bytes_found y) = as_long x y h.0 k.0 parts.0 in
+    let front : bytes_found x ≡ bytes_found y = sym (take-append_seam (bytes_found x) (given_by xs)) ∙ ap (take (length (bytes_found x))) f ∙ ap (λ (n : ℕ). take n (bytes_found y ++ given_by ys)) long ∙ take-append_seam (bytes_found y) (given_by ys) in
+    let later : given_by xs ≡ given_by ys = sym (drop-append_seam (bytes_found x) (given_by xs)) ∙ ap (drop (length (bytes_found x))) f ∙ ap (λ (n : ℕ). drop n (bytes_found y ++ given_by ys)) long ∙ drop-append_seam (bytes_found y) (given_by ys) in
     ap (λ (z : Taking). z ∷ xs) (same_taking x y h.0 k.0 parts.0 front) ∙ ap (λ (l : List Taking). y ∷ l) (same_takings xs ys h.1 k.1 parts.1 later)

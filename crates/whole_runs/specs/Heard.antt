@@ -71,34 +71,36 @@ heard_takes r k = as_taken (taken_of r k)
 
 -- ## As a reading half tells them
 
--- that a take gave so many bytes, that nothing was there, or the end, that the link was closed, or that it failed
+-- what a reading half answered to a take: that it gave so many bytes, none so far, or its end, that it was closed, or that it failed
 pub data TakeAnswer : Type 0 where
-  TookBytes : ℕ → TakeAnswer
-  FoundNone : TakeAnswer
-  FoundEnd : TakeAnswer
-  FoundClosed : TakeAnswer
+  TakeTook : ℕ → TakeAnswer
+  TakeEmpty : TakeAnswer
+  TakeEnd : TakeAnswer
+  TakeClosed : TakeAnswer
   TakeFailed : TakeAnswer
 
--- a reading half never answers that no more will come: the run knows that by itself
+-- no reading half answers that no more will come: the run knows that by itself
 abbrev pub answer_of : Taking → List TakeAnswer
-answer_of (Bytes bytes) = TookBytes (length bytes) ∷ []
-answer_of Nothing = FoundNone ∷ []
+answer_of (Bytes bytes) = TakeTook (length bytes) ∷ []
+answer_of Nothing = TakeEmpty ∷ []
 answer_of NoMore = []
-answer_of AtEnd = FoundEnd ∷ []
-answer_of Closed = FoundClosed ∷ []
+answer_of AtEnd = TakeEnd ∷ []
+answer_of Closed = TakeClosed ∷ []
 answer_of Broken = TakeFailed ∷ []
 
-abbrev pub bytes_of : Taking → List ℕ
-bytes_of (Bytes bytes) = bytes
-bytes_of other = []
+-- the bytes that it gave
+abbrev pub bytes_found : Taking → List ℕ
+bytes_found (Bytes bytes) = bytes
+bytes_found other = []
 
 -- the answers without the bytes, and the bytes
-abbrev pub answers_of : List Taking → List TakeAnswer
-answers_of takings = flat_map answer_of takings
+abbrev pub take_answers : List Taking → List TakeAnswer
+take_answers takings = flat_map answer_of takings
 
 abbrev pub given_by : List Taking → List ℕ
-given_by takings = flat_map bytes_of takings
+given_by takings = flat_map bytes_found takings
 
+-- what a reading half can answer
 abbrev pub IsOfLink : Taking → Type 0
 IsOfLink NoMore = ⊥
 IsOfLink other = Unit {0}
