@@ -241,19 +241,19 @@ module _ (script : List Item) (made : AreMade script) (turns : List Turn) (core 
   to_store : (n o : ℕ) → get_elem? (opens script) n ≡ some o → (j : ℕ) × (j < 32) × IsToStore (plan_of script) j o core
   to_store n o at = let x = opener_of script n o at in let inside = known.in_script n o at in
       let first = programs (sizes_of (plan_of script) (id_plan_of script)) (all_tasks script) in
-      let t₀ : IsToStore (plan_of script) x.place o (opened script) = inr (λ seat there. subst (λ (s : SeatState). WillStore o s.program)
+      let at_first : IsToStore (plan_of script) x.place o (opened script) = inr (λ seat there. subst (λ (s : SeatState). WillStore o s.program)
       (some-injective (record { program = next_step (resolved [] (client_from (sizes_of (plan_of script) (id_plan_of script)) [] x.tasks)); hand = [] }) seat
       (sym (mapped_at (λ (program : Program). record { program = next_step (resolved [] program); hand = [] }) (all_programs first (readers_from (calls script) 0 (opens script))) x.place (client_from (sizes_of (plan_of script) (id_plan_of script)) [] x.tasks)
       (in_first first (replicate (32 - length first) Rest ++ readers_from (calls script) 0 (opens script)) x.place (client_from (sizes_of (plan_of script) (id_plan_of script)) [] x.tasks) (mapped_at (client_from (sizes_of (plan_of script) (id_plan_of script)) []) (all_tasks script) x.place x.tasks x.there))) ∙ there))
       (through_next (WillStore o) (will_passes o) (will_follow o) [] (client_from (sizes_of (plan_of script) (id_plan_of script)) [] x.tasks) (will_client o (sizes_of (plan_of script) (id_plan_of script)) x.tasks [] x.opening))) in
-      let t₁ = run_stores (plan_of script) x.place o inside go (opened script) vs (replicate is.setup (quiet 0)) start.sound (set_up_answered script made.are vs start go turns core is fitting) fitting.of_setup t₀ in
-      let t₂ = run_stores (plan_of script) x.place o inside go (set_up script is.setup) (views_along (plan_of script) (opened script) vs (replicate is.setup (quiet 0))) (is.scheduled ++ is.later) (set_up_sound script made.are vs start go turns core is fitting) is.answered fitting.of_played t₁ in
-      let t₃ = at_ending x.place o t₂ in
-      let t₅ = run_stores (plan_of script) x.place o inside go (ending script (played script is.setup (is.scheduled ++ is.later))) (views_played script turns core is vs) (replicate is.last (quiet 0)) (closing_sound script made.are vs start go turns core is fitting)
-      (end_answered script made.are vs start go turns core is fitting) fitting.of_closing t₃ in
-      let t₆ = run_stores (plan_of script) x.place o inside go is.ended (views_closed script turns core is vs) is.final (closed_sound script made.are vs start go turns core is fitting) is.answered_again fitting.of_final
-      (subst (IsToStore (plan_of script) x.place o) (sym is.is_ended) (on x.place o (run (plan_of script) (ending script (played script is.setup (is.scheduled ++ is.later))) (replicate is.last (quiet 0))) t₅)) in
-      (x.place, (let low = place_inside (all_tasks script) x.place x.tasks x.there in let few = made.few_clients in omega (arith, low, few)), subst (IsToStore (plan_of script) x.place o) (sym is.is_end) t₆)
+      let at_set_up = run_stores (plan_of script) x.place o inside go (opened script) vs (replicate is.setup (quiet 0)) start.sound (set_up_answered script made.are vs start go turns core is fitting) fitting.of_setup at_first in
+      let at_rest = run_stores (plan_of script) x.place o inside go (set_up script is.setup) (views_along (plan_of script) (opened script) vs (replicate is.setup (quiet 0))) (is.scheduled ++ is.later) (set_up_sound script made.are vs start go turns core is fitting) is.answered fitting.of_played at_set_up in
+      let at_begun = at_ending x.place o at_rest in
+      let at_told = run_stores (plan_of script) x.place o inside go (ending script (played script is.setup (is.scheduled ++ is.later))) (views_played script turns core is vs) (replicate is.last (quiet 0)) (closing_sound script made.are vs start go turns core is fitting)
+      (end_answered script made.are vs start go turns core is fitting) fitting.of_closing at_begun in
+      let at_end = run_stores (plan_of script) x.place o inside go is.ended (views_closed script turns core is vs) is.final (closed_sound script made.are vs start go turns core is fitting) is.answered_again fitting.of_final
+      (subst (IsToStore (plan_of script) x.place o) (sym is.is_ended) (on x.place o (run (plan_of script) (ending script (played script is.setup (is.scheduled ++ is.later))) (replicate is.last (quiet 0))) at_told)) in
+      (x.place, (let low = place_inside (all_tasks script) x.place x.tasks x.there in let few = made.few_clients in omega (arith, low, few)), subst (IsToStore (plan_of script) x.place o) (sym is.is_end) at_end)
     where
       start : Begins script vs
       start = begins script made
@@ -281,56 +281,56 @@ module _ (script : List Item) (made : AreMade script) (turns : List Turn) (core 
 
   -- ## What is said
 
-  abbrev M₁ : List Moment
-  M₁ = replicate is.setup (quiet 0)
+  abbrev setup_ticks : List Moment
+  setup_ticks = replicate is.setup (quiet 0)
 
-  abbrev M₃ : List Moment
-  M₃ = replicate is.last (quiet 0)
+  abbrev ending_ticks : List Moment
+  ending_ticks = replicate is.last (quiet 0)
 
-  abbrev C₃ : Core
-  C₃ = ending script (played script is.setup (is.scheduled ++ is.later))
+  abbrev begun_ending : Core
+  begun_ending = ending script (played script is.setup (is.scheduled ++ is.later))
 
-  abbrev C₅ : Core
-  C₅ = is_ending (run (plan_of script) (ending script (played script is.setup (is.scheduled ++ is.later))) (replicate is.last (quiet 0)))
+  abbrev told_core : Core
+  told_core = is_ending (run (plan_of script) (ending script (played script is.setup (is.scheduled ++ is.later))) (replicate is.last (quiet 0)))
 
-  abbrev P : whole.Parts p q known.narrow refl (calls script) os known.in_script go (IsListed script) (opened script) vs M₁ (is.scheduled ++ is.later) M₃ is.final
-  P = owed.parts script made.are vs (begins script made) go turns core is fitting known end_
+  abbrev all_parts : whole.Parts p q known.narrow refl (calls script) os known.in_script go (IsListed script) (opened script) vs setup_ticks (is.scheduled ++ is.later) ending_ticks is.final
+  all_parts = owed.parts script made.are vs (begins script made) go turns core is fitting known end_
 
-  abbrev V₁ : List View
-  V₁ = views_along (plan_of script) (opened script) vs (replicate is.setup (quiet 0))
+  abbrev views_set_up : List View
+  views_set_up = views_along (plan_of script) (opened script) vs (replicate is.setup (quiet 0))
 
-  abbrev V₂ : List View
-  V₂ = views_along (plan_of script) (set_up script is.setup) (views_along (plan_of script) (opened script) vs (replicate is.setup (quiet 0))) (is.scheduled ++ is.later)
+  abbrev views_rested : List View
+  views_rested = views_along (plan_of script) (set_up script is.setup) (views_along (plan_of script) (opened script) vs (replicate is.setup (quiet 0))) (is.scheduled ++ is.later)
 
-  abbrev V₅ : List View
-  V₅ = views_closed script turns core is vs
+  abbrev views_told : List View
+  views_told = views_closed script turns core is vs
 
-  named₀ : Named p (OpensLink os) (opened script) vs
-  named₀ = let first = programs (sizes_of (plan_of script) (id_plan_of script)) (all_tasks script) in
+  named_opened : Named p (OpensLink os) (opened script) vs
+  named_opened = let first = programs (sizes_of (plan_of script) (id_plan_of script)) (all_tasks script) in
       beginning_named p (OpensLink os) q (all_tasks script) (replicate (32 - length first) Rest ++ readers_from (calls script) 0 os) (tasks_own script 0 (clients script + 1)) (names_others (OpensLink os) (32 - length first) (calls script) os 0) vs
       (λ o inside. (let u = clients_begin.unused (plan_of script) in u.opens) o inside)
 
-  named₁ : Named p (OpensLink os) (set_up script is.setup) V₁
-  named₁ = let parts = P in run_named p go (OpensLink os) (opened script) vs M₁ parts.s₀ parts.a₁ parts.f₁ named₀
+  named_set_up : Named p (OpensLink os) (set_up script is.setup) views_set_up
+  named_set_up = let parts = all_parts in run_named p go (OpensLink os) (opened script) vs setup_ticks parts.s₀ parts.a₁ parts.f₁ named_opened
 
-  named₃ : Named p (OpensLink os) C₃ V₂
-  named₃ = let parts = P in named_ending p (OpensLink os) os (played script is.setup (is.scheduled ++ is.later)) V₂ (run_named p go (OpensLink os) (set_up script is.setup) V₁ (is.scheduled ++ is.later) parts.s₁ parts.a₂ parts.f₂ named₁)
+  named_ending_begun : Named p (OpensLink os) begun_ending views_rested
+  named_ending_begun = let parts = all_parts in named_ending p (OpensLink os) os (played script is.setup (is.scheduled ++ is.later)) views_rested (run_named p go (OpensLink os) (set_up script is.setup) views_set_up (is.scheduled ++ is.later) parts.s₁ parts.a₂ parts.f₂ named_set_up)
 
-  named₅ : Named p (OpensLink os) C₅ V₅
-  named₅ = let parts = P in named_on p (OpensLink os) (run p C₃ M₃) V₅ (run_named p go (OpensLink os) C₃ V₂ M₃ parts.s₃ parts.a₃ parts.f₃ named₃)
+  named_told : Named p (OpensLink os) told_core views_told
+  named_told = let parts = all_parts in named_on p (OpensLink os) (run p begun_ending ending_ticks) views_told (run_named p go (OpensLink os) begun_ending views_rested ending_ticks parts.s₃ parts.a₃ parts.f₃ named_ending_begun)
 
   abbrev final_words : List ℕ
-  final_words = (run (plan_of script) C₅ is.final).words
+  final_words = (run (plan_of script) told_core is.final).words
 
-  slots₆ : (k s : ℕ) → life_of p os final_words k ≡ Some s → socket_id_slot s < p.slots
-  slots₆ = owed.slots₆ script made.are vs (begins script made) go turns core is fitting known end_
+  slots_end : (k s : ℕ) → life_of p os final_words k ≡ Some s → socket_id_slot s < p.slots
+  slots_end = owed.slots₆ script made.are vs (begins script made) go turns core is fitting known end_
 
-  links₆ : (k s : ℕ) → life_of p os final_words k ≡ Some s → k < 65535
-  links₆ = owed.links₆ script made.are vs (begins script made) go turns core is fitting known end_
+  links_end : (k s : ℕ) → life_of p os final_words k ≡ Some s → k < 65535
+  links_end = owed.links₆ script made.are vs (begins script made) go turns core is fitting known end_
 
-  reach₆ : Reaches p q known.narrow refl (calls script) os final_words known.in_script slots₆ links₆ (run p C₅ is.final) (views_along p C₅ V₅ is.final)
-  unfolding slots₆ links₆
-  reach₆ = owed.reach₆ script made.are vs (begins script made) go turns core is fitting known end_
+  reach_end : Reaches p q known.narrow refl (calls script) os final_words known.in_script slots_end links_end (run p told_core is.final) (views_along p told_core views_told is.final)
+  unfolding slots_end links_end
+  reach_end = owed.reach₆ script made.are vs (begins script made) go turns core is fitting known end_
 
   module _ (closes : ClosesInRun script turns core is) (kept : KeepsInRun script turns core is) where
     abbrev Says : Core → List Moment → Type 0
@@ -339,65 +339,65 @@ module _ (script : List Item) (made : AreMade script) (turns : List Turn) (core 
     as_many : length os ≡ p.links
     as_many = known.as_many
 
-    says₁ : Says (opened script) M₁
-    says₁ = let parts = P in let s = sound_run in says_along p q known.narrow refl (calls script) os final_words known.in_script slots₆ links₆ (opens_apart script) as_many go (IsListed script) (opened script) vs M₁ parts.s₀ parts.a₁ parts.f₁ parts.r₀ parts.readers parts.many named₀
-        s.setup (quiet_closes p (opened script) is.setup) kept.of_setup (whole.reach₁ p q known.narrow refl (calls script) os known.in_script go (IsListed script) (opened script) vs M₁ (is.scheduled ++ is.later) M₃ is.final P slots₆ links₆ reach₆)
+    says_setup : Says (opened script) setup_ticks
+    says_setup = let parts = all_parts in let s = sound_run in says_along p q known.narrow refl (calls script) os final_words known.in_script slots_end links_end (opens_apart script) as_many go (IsListed script) (opened script) vs setup_ticks parts.s₀ parts.a₁ parts.f₁ parts.r₀ parts.readers parts.many named_opened
+        s.setup (quiet_closes p (opened script) is.setup) kept.of_setup (whole.reach₁ p q known.narrow refl (calls script) os known.in_script go (IsListed script) (opened script) vs setup_ticks (is.scheduled ++ is.later) ending_ticks is.final all_parts slots_end links_end reach_end)
 
-    says₂ : Says (set_up script is.setup) (is.scheduled ++ is.later)
-    says₂ = let parts = P in let s = sound_run in says_along p q known.narrow refl (calls script) os final_words known.in_script slots₆ links₆ (opens_apart script) as_many go (IsListed script) (set_up script is.setup) V₁ (is.scheduled ++ is.later) parts.s₁ parts.a₂ parts.f₂ parts.r₁
-        (whole.readers₁ p q known.narrow refl (calls script) os known.in_script go (IsListed script) (opened script) vs M₁ (is.scheduled ++ is.later) M₃ is.final P) (whole.many₁ p q known.narrow refl (calls script) os known.in_script go (IsListed script) (opened script) vs M₁ (is.scheduled ++ is.later) M₃ is.final P) named₁
-        s.clients closes.played kept.of_played (whole.reach₂ p q known.narrow refl (calls script) os known.in_script go (IsListed script) (opened script) vs M₁ (is.scheduled ++ is.later) M₃ is.final P slots₆ links₆ reach₆)
+    says_clients : Says (set_up script is.setup) (is.scheduled ++ is.later)
+    says_clients = let parts = all_parts in let s = sound_run in says_along p q known.narrow refl (calls script) os final_words known.in_script slots_end links_end (opens_apart script) as_many go (IsListed script) (set_up script is.setup) views_set_up (is.scheduled ++ is.later) parts.s₁ parts.a₂ parts.f₂ parts.r₁
+        (whole.readers₁ p q known.narrow refl (calls script) os known.in_script go (IsListed script) (opened script) vs setup_ticks (is.scheduled ++ is.later) ending_ticks is.final all_parts) (whole.many₁ p q known.narrow refl (calls script) os known.in_script go (IsListed script) (opened script) vs setup_ticks (is.scheduled ++ is.later) ending_ticks is.final all_parts) named_set_up
+        s.clients closes.played kept.of_played (whole.reach₂ p q known.narrow refl (calls script) os known.in_script go (IsListed script) (opened script) vs setup_ticks (is.scheduled ++ is.later) ending_ticks is.final all_parts slots_end links_end reach_end)
 
-    says₃ : Says C₃ M₃
-    says₃ = let parts = P in let s = sound_run in says_along p q known.narrow refl (calls script) os final_words known.in_script slots₆ links₆ (opens_apart script) as_many go (IsListed script) C₃ V₂ M₃ parts.s₃ parts.a₃ parts.f₃ parts.r₃
-        (whole.readers₃ p q known.narrow refl (calls script) os known.in_script go (IsListed script) (opened script) vs M₁ (is.scheduled ++ is.later) M₃ is.final P) (whole.many₃ p q known.narrow refl (calls script) os known.in_script go (IsListed script) (opened script) vs M₁ (is.scheduled ++ is.later) M₃ is.final P) named₃
-        s.closing (quiet_closes p C₃ is.last) kept.of_closing (whole.reach₄ p q known.narrow refl (calls script) os known.in_script go (IsListed script) (opened script) vs M₁ (is.scheduled ++ is.later) M₃ is.final P slots₆ links₆ reach₆)
+    says_ending : Says begun_ending ending_ticks
+    says_ending = let parts = all_parts in let s = sound_run in says_along p q known.narrow refl (calls script) os final_words known.in_script slots_end links_end (opens_apart script) as_many go (IsListed script) begun_ending views_rested ending_ticks parts.s₃ parts.a₃ parts.f₃ parts.r₃
+        (whole.readers₃ p q known.narrow refl (calls script) os known.in_script go (IsListed script) (opened script) vs setup_ticks (is.scheduled ++ is.later) ending_ticks is.final all_parts) (whole.many₃ p q known.narrow refl (calls script) os known.in_script go (IsListed script) (opened script) vs setup_ticks (is.scheduled ++ is.later) ending_ticks is.final all_parts) named_ending_begun
+        s.closing (quiet_closes p begun_ending is.last) kept.of_closing (whole.reach₄ p q known.narrow refl (calls script) os known.in_script go (IsListed script) (opened script) vs setup_ticks (is.scheduled ++ is.later) ending_ticks is.final all_parts slots_end links_end reach_end)
 
-    says₄ : Says C₅ is.final
-    says₄ = let parts = P in let s = sound_run in says_along p q known.narrow refl (calls script) os final_words known.in_script slots₆ links₆ (opens_apart script) as_many go (IsListed script) C₅ V₅ is.final parts.s₅ parts.a₄ parts.f₄ parts.r₅
-        (whole.readers₅ p q known.narrow refl (calls script) os known.in_script go (IsListed script) (opened script) vs M₁ (is.scheduled ++ is.later) M₃ is.final P) (whole.many₅ p q known.narrow refl (calls script) os known.in_script go (IsListed script) (opened script) vs M₁ (is.scheduled ++ is.later) M₃ is.final P) named₅
+    says_final : Says told_core is.final
+    says_final = let parts = all_parts in let s = sound_run in says_along p q known.narrow refl (calls script) os final_words known.in_script slots_end links_end (opens_apart script) as_many go (IsListed script) told_core views_told is.final parts.s₅ parts.a₄ parts.f₄ parts.r₅
+        (whole.readers₅ p q known.narrow refl (calls script) os known.in_script go (IsListed script) (opened script) vs setup_ticks (is.scheduled ++ is.later) ending_ticks is.final all_parts) (whole.many₅ p q known.narrow refl (calls script) os known.in_script go (IsListed script) (opened script) vs setup_ticks (is.scheduled ++ is.later) ending_ticks is.final all_parts) named_told
         (subst (λ d. AreBoth (plan_of script) (id_plan_of script) d (views_closed script turns core is vs) is.final) is.is_ended s.final) (subst (λ d. ClosesInTime (plan_of script) d is.final) is.is_ended closes.final)
-        (subst (λ d. AreKept (plan_of script) (id_plan_of script) (calls script) d is.final) is.is_ended kept.of_final) reach₆
+        (subst (λ d. AreKept (plan_of script) (id_plan_of script) (calls script) d is.final) is.is_ended kept.of_final) reach_end
 
     owed_kept : IsOwed script turns core is
-    owed_kept = owed.is_owed script made.are vs (begins script made) go turns core is fitting known end_ says₁ says₂ says₃ says₄
+    owed_kept = owed.is_owed script made.are vs (begins script made) go turns core is fitting known end_ says_setup says_clients says_ending says_final
 
     ranges_kept : (i : ℕ) → i < q.slots → (id_word_of core i).state ≡ 0
-    ranges_kept = owed.ranges_end script made.are vs (begins script made) go turns core is fitting known end_ says₁ says₂ says₃ says₄
+    ranges_kept = owed.ranges_end script made.are vs (begins script made) go turns core is fitting known end_ says_setup says_clients says_ending says_final
 
     owing_kept : (us : List Owing) × SoundOwing q (life_of p os core.words) (calls script) core us
-    owing_kept = owed.owing_end script made.are vs (begins script made) go turns core is fitting known end_ says₁ says₂ says₃ says₄
+    owing_kept = owed.owing_end script made.are vs (begins script made) go turns core is fitting known end_ says_setup says_clients says_ending says_final
 
   -- ## At words
 
-  abbrev A₁ : AreKept p q (calls script) (opened script) M₁ × ((more : ℕ → ℕ) × (others : ℕ → ℕ → Bool) × Owned q (calls script) (set_up script is.setup) more others)
-  A₁ = let s = sound_run in kept_along p q known.narrow (calls script) (opened script) vs M₁ s.setup (none_yet script) (first_left script) (owned_begins script made)
+  abbrev setup_kept : AreKept p q (calls script) (opened script) setup_ticks × ((more : ℕ → ℕ) × (others : ℕ → ℕ → Bool) × Owned q (calls script) (set_up script is.setup) more others)
+  setup_kept = let s = sound_run in kept_along p q known.narrow (calls script) (opened script) vs setup_ticks s.setup (none_yet script) (first_left script) (owned_begins script made)
 
-  abbrev A₂ : AreKept p q (calls script) (set_up script is.setup) (is.scheduled ++ is.later) × ((more : ℕ → ℕ) × (others : ℕ → ℕ → Bool) × Owned q (calls script) (played script is.setup (is.scheduled ++ is.later)) more others)
-  A₂ = let s = sound_run in let a = A₁.1 in kept_along p q known.narrow (calls script) (set_up script is.setup) V₁ (is.scheduled ++ is.later) s.clients a.0 a.1 a.2
+  abbrev clients_kept : AreKept p q (calls script) (set_up script is.setup) (is.scheduled ++ is.later) × ((more : ℕ → ℕ) × (others : ℕ → ℕ → Bool) × Owned q (calls script) (played script is.setup (is.scheduled ++ is.later)) more others)
+  clients_kept = let s = sound_run in let a = setup_kept.1 in kept_along p q known.narrow (calls script) (set_up script is.setup) views_set_up (is.scheduled ++ is.later) s.clients a.0 a.1 a.2
 
-  owned₃ : (more : ℕ → ℕ) × (others : ℕ → ℕ → Bool) × Owned q (calls script) C₃ more others
-  owned₃ = let s = sound_run in let a = A₂.1 in let both = behind_both p q (set_up script is.setup) V₁ (is.scheduled ++ is.later) s.clients in
+  owned_begun : (more : ℕ → ℕ) × (others : ℕ → ℕ → Bool) × Owned q (calls script) begun_ending more others
+  owned_begun = let s = sound_run in let a = clients_kept.1 in let both = behind_both p q (set_up script is.setup) views_set_up (is.scheduled ++ is.later) s.clients in
       let seat = at_some (played script is.setup (is.scheduled ++ is.later)).seats 0 (let m = many_played in omega (arith, m)) in
       owned_ending p q known.narrow (calls script) (played script is.setup (is.scheduled ++ is.later)) both.id_views both.ids os a.0 a.1 a.2 seat.0 seat.1
     where
       many_played : length (played script is.setup (is.scheduled ++ is.later)).seats ≡ 32 + length os
       many_played = run_seats (plan_of script) (set_up script is.setup) (is.scheduled ++ is.later) ∙ run_seats (plan_of script) (opened script) (replicate is.setup (quiet 0)) ∙ opened_seats script made.few_clients
 
-  abbrev A₃ : AreKept p q (calls script) C₃ M₃ × ((more : ℕ → ℕ) × (others : ℕ → ℕ → Bool) × Owned q (calls script) (run p C₃ M₃) more others)
-  A₃ = let s = sound_run in let a = owned₃ in kept_along p q known.narrow (calls script) C₃ V₂ M₃ s.closing a.0 a.1 a.2
+  abbrev ending_kept : AreKept p q (calls script) begun_ending ending_ticks × ((more : ℕ → ℕ) × (others : ℕ → ℕ → Bool) × Owned q (calls script) (run p begun_ending ending_ticks) more others)
+  ending_kept = let s = sound_run in let a = owned_begun in kept_along p q known.narrow (calls script) begun_ending views_rested ending_ticks s.closing a.0 a.1 a.2
 
-  final_kept : AreKept p q (calls script) C₅ is.final
-  final_kept = let s = sound_run in let a = A₃.1 in let both = behind_both p q C₃ V₂ M₃ s.closing in
-      (kept_along p q known.narrow (calls script) C₅ V₅ is.final (subst (λ d. AreBoth (plan_of script) (id_plan_of script) d (views_closed script turns core is vs) is.final) is.is_ended s.final) a.0 a.1
-      (owned_on p q known.narrow (calls script) (run p C₃ M₃) both.id_views both.ids a.0 a.1 a.2)).0
+  final_kept : AreKept p q (calls script) told_core is.final
+  final_kept = let s = sound_run in let a = ending_kept.1 in let both = behind_both p q begun_ending views_rested ending_ticks s.closing in
+      (kept_along p q known.narrow (calls script) told_core views_told is.final (subst (λ d. AreBoth (plan_of script) (id_plan_of script) d (views_closed script turns core is vs) is.final) is.is_ended s.final) a.0 a.1
+      (owned_on p q known.narrow (calls script) (run p begun_ending ending_ticks) both.id_views both.ids a.0 a.1 a.2)).0
 
   -- at each tick of a run an at word keeps the id that it named
   pub run_keeps : KeepsInRun script turns core is
   run_keeps = record {
-    of_setup = A₁.0;
-    of_played = A₂.0;
-    of_closing = A₃.0;
+    of_setup = setup_kept.0;
+    of_played = clients_kept.0;
+    of_closing = ending_kept.0;
     of_final = subst (λ d. AreKept (plan_of script) (id_plan_of script) (calls script) d is.final) (sym is.is_ended) final_kept;
   }
 

@@ -109,27 +109,27 @@ locked_goes has mine requests id n next few after (Has w) = λ more g f is. (
     unlocks last g asked w own = (unlocks_again last mine (id_slot id) w false (tried_again requests id n asked next) (tried_goes last mine requests id n asked next few own (later_on has last mine next g after))).goes last (grows_same last) Other
 
 module _ (has : ℕ → ℕ) (mine : ℕ → Bool) where
-  abbrev G₂ : Program → Type 0
-  G₂ = Later has mine
+  abbrev Goes : Program → Type 0
+  Goes = Later has mine
 
-  claim_goes : (more i requests socket : ℕ) (asked : Asked) (next : Program) → mine asked.operation ≡ true → G₂ next → Later has (but asked.operation mine) next → G₂ (claim_id more i requests socket asked next)
+  claim_goes : (more i requests socket : ℕ) (asked : Asked) (next : Program) → mine asked.operation ≡ true → Goes next → Later has (but asked.operation mine) next → Goes (claim_id more i requests socket asked next)
   claim_goes zero i requests socket asked next here after made = after
   claim_goes (suc more) i requests socket asked next here after made = record { goes = λ now g b. (tt, λ found most h _. by_hit (claim_goes more (i + 1) requests socket asked next here after made) (found == 0) most (grows_on has now most g h)) }
     where
-      by_hit : G₂ (claim_id more (i + 1) requests socket asked next) → (hit : Bool) (most : ℕ → ℕ) → Grows has most → Owns most mine (cond hit (HasClaimed i) Other) (cond hit (begin_call requests socket i asked next) (claim_id more (i + 1) requests socket asked next))
+      by_hit : Goes (claim_id more (i + 1) requests socket asked next) → (hit : Bool) (most : ℕ → ℕ) → Grows has most → Owns most mine (cond hit (HasClaimed i) Other) (cond hit (begin_call requests socket i asked next) (claim_id more (i + 1) requests socket asked next))
       by_hit others true most h = begin_goes has mine requests socket i asked next here made most h
       by_hit others false most h = others.goes most h Other
 
-  pub call_goes : (requests ids : ℕ) (asked : Asked) (next : Program) → mine asked.operation ≡ true → G₂ next → Later has (but asked.operation mine) next → G₂ (call requests ids asked next)
-  call_goes requests ids asked next here after made = step has mine (LoadName (name_of asked 0)) _ (λ word. either_way (word == 0) _ _ G₂ (say has mine asked.operation Unopened next after) (claim_goes ids 0 requests (word - 1) asked next here after made))
+  pub call_goes : (requests ids : ℕ) (asked : Asked) (next : Program) → mine asked.operation ≡ true → Goes next → Later has (but asked.operation mine) next → Goes (call requests ids asked next)
+  call_goes requests ids asked next here after made = step has mine (LoadName (name_of asked 0)) _ (λ word. either_way (word == 0) _ _ Goes (say has mine asked.operation Unopened next after) (claim_goes ids 0 requests (word - 1) asked next here after made))
 
-  pub retry_goes : (requests id n : ℕ) (next : Program) → n < 64 → G₂ next → G₂ (retry requests id n next)
+  pub retry_goes : (requests id n : ℕ) (next : Program) → n < 64 → Goes next → Goes (retry requests id n next)
   retry_goes requests id n next few after = locks_again has mine (id_slot id) (First (id_first id)) None (retry_locked requests id n next) tt (locked_goes has mine requests id n next few after)
 
   -- ## Other operations on calls
 
-  expire_goes : (o t : ℕ) (next : Program) → G₂ next → G₂ (expire o t next)
-  expire_goes o t next after = aside has mine (LoadCall t) tt _ (λ id. either_way (id == 0) _ _ G₂ (say has mine o NotBegun next after)
+  expire_goes : (o t : ℕ) (next : Program) → Goes next → Goes (expire o t next)
+  expire_goes o t next after = aside has mine (LoadCall t) tt _ (λ id. either_way (id == 0) _ _ Goes (say has mine o NotBegun next after)
       (post_with_goes has mine id (error_of 1008 WHOLE) (λ how. posted id (error_of 1008 WHOLE) (Say o (expire_outcome how) next) how) (by_how id)))
     where
       by_how : (id : ℕ) (how : Posting) → AfterPost has mine (id_slot id) (λ how. posted id (error_of 1008 WHOLE) (Say o (expire_outcome how) next) how) how
@@ -139,60 +139,60 @@ module _ (has : ℕ → ℕ) (mine : ℕ → Bool) where
       by_how id (WasCrowded x y) = say has mine o (expire_outcome (WasCrowded x y)) next after
       by_how id WasQueued = say has mine o (expire_outcome WasQueued) next after
 
-  join_goes : (o t : ℕ) (next : Program) → G₂ next → G₂ (join o t next)
-  join_goes o t next after = aside has mine (LoadCall t) tt _ (λ id. either_way (id == 0) _ _ G₂ (say has mine o NotBegun next after) (joins_again has mine id (λ _. Say o Joined next) (λ _. say has mine o Joined next after)))
+  join_goes : (o t : ℕ) (next : Program) → Goes next → Goes (join o t next)
+  join_goes o t next after = aside has mine (LoadCall t) tt _ (λ id. either_way (id == 0) _ _ Goes (say has mine o NotBegun next after) (joins_again has mine id (λ _. Say o Joined next) (λ _. say has mine o Joined next after)))
 
   -- ## Readers
 
-  ends_goes : (id e word : ℕ) (kept : List Frame) (next : Program) → G₂ next → Locked has mine (id_slot id) (ends_with id e word kept next)
+  ends_goes : (id e word : ℕ) (kept : List Frame) (next : Program) → Goes next → Locked has mine (id_slot id) (ends_with id e word kept next)
   ends_goes id e word [] next after = decide_goes has mine id word e (decided id next) (decided_goes has mine id next after)
   ends_goes id e word (f ∷ fs) next after = λ more g x. (answer_goes has mine f (id_first id) next after).goes more g (HasLock (id_slot id) x)
 
-  last_goes : (id e : ℕ) (kept : List Frame) (next : Program) → G₂ next → (exit : Posting) → AfterPost has mine (id_slot id) (posted_last id e kept next) exit
+  last_goes : (id e : ℕ) (kept : List Frame) (next : Program) → Goes next → (exit : Posting) → AfterPost has mine (id_slot id) (posted_last id e kept next) exit
   last_goes id e kept next after (HasLocked word) = ends_goes id e word (kept_for id (parts word).range kept) next after
   last_goes id e kept next after WasGone = after
   last_goes id e kept next after WasStale = after
   last_goes id e kept next after (WasCrowded x y) = after
   last_goes id e kept next after WasQueued = after
 
-  each_goes : (os : List ℕ) (k c : ℕ) (kept : List Frame) (next : Program) → G₂ next → G₂ (post_each os k c kept next)
+  each_goes : (os : List ℕ) (k c : ℕ) (kept : List Frame) (next : Program) → Goes next → Goes (post_each os k c kept next)
   each_goes [] k c kept next after = after
-  each_goes (o ∷ os) k c kept next after = aside has mine (LoadAt o) tt _ (λ w. let more = each_goes os k c kept next after in either_way (w == 0) _ _ G₂ more (either_way (at_word_link w == k) _ _ G₂
+  each_goes (o ∷ os) k c kept next after = aside has mine (LoadAt o) tt _ (λ w. let more = each_goes os k c kept next after in either_way (w == 0) _ _ Goes more (either_way (at_word_link w == k) _ _ Goes
       (post_with_goes has mine (call_id (at_word_slot w) (at_word_first w)) (error_of c (at_word_attempt w)) (posted_last (call_id (at_word_slot w) (at_word_first w)) (error_of c (at_word_attempt w)) kept (post_each os k c kept next))
       (last_goes (call_id (at_word_slot w) (at_word_first w)) (error_of c (at_word_attempt w)) kept (post_each os k c kept next) more)) more))
 
-  rests : G₂ Rest
+  rests : Goes Rest
   rests = record { goes = λ more g b. tt }
 
-  thrown_goes : (how : Ended) → G₂ (thrown_away how)
-  thrown_goes how = either_way (how.fault && nat_lt how.reading.total LIMIT) _ _ G₂ (discards_again has mine how.reading.link how.reading.total (λ _. Rest) (λ _. rests)) rests
+  thrown_goes : (how : Ended) → Goes (thrown_away how)
+  thrown_goes how = either_way (how.fault && nat_lt how.reading.total LIMIT) _ _ Goes (discards_again has mine how.reading.link how.reading.total (λ _. Rest) (λ _. rests)) rests
 
-  read_goes : (calls : List ℕ) (how : Ended) → G₂ (read calls how)
-  read_goes calls how = let last = each_goes calls how.reading.link how.code how.reading.kept (thrown_away how) (thrown_goes how) in either_way how.closed _ _ G₂ last
+  read_goes : (calls : List ℕ) (how : Ended) → Goes (read calls how)
+  read_goes calls how = let last = each_goes calls how.reading.link how.code how.reading.kept (thrown_away how) (thrown_goes how) in either_way how.closed _ _ Goes last
       (address_goes has mine how.reading.id _ _ (set_failed_goes has mine how.reading.id how.code _ (λ _. release_goes has mine (socket_id_slot how.reading.id) _ (λ _. last))) (λ _. last))
 
-  pub reader_goes : (calls : List ℕ) (k o : ℕ) → G₂ (reader calls k o)
-  reader_goes calls k o = opens_again has mine o _ (λ word. either_way (word == NO_SOCKET) _ _ G₂ rests (reads_again has mine (record { ids = length calls; link = k; id = word - 1; rest = []; total = 0; kept = [] }) (read calls) (read_goes calls)))
+  pub reader_goes : (calls : List ℕ) (k o : ℕ) → Goes (reader calls k o)
+  reader_goes calls k o = opens_again has mine o _ (λ word. either_way (word == NO_SOCKET) _ _ Goes rests (reads_again has mine (record { ids = length calls; link = k; id = word - 1; rest = []; total = 0; kept = [] }) (read calls) (read_goes calls)))
 
   -- ## The ending
 
-  pub ending_goes : (os : List ℕ) → G₂ (ending_of os)
+  pub ending_goes : (os : List ℕ) → Goes (ending_of os)
   ending_goes [] = rests
   ending_goes (o ∷ os) = end_goes has mine o (ending_of os) (ending_goes os)
 
   -- ## Clients
 
-  open_goes : (more i o name k : ℕ) (next : Program) → G₂ next → G₂ (open_from more i o name k next)
+  open_goes : (more i o name k : ℕ) (next : Program) → Goes next → Goes (open_from more i o name k next)
   open_goes zero i o name k next after = step has mine (TakeLink k) _ (λ _. step has mine (FinishLink k) _ (λ _. step has mine (PutLink k) _ (λ _. step has mine (StoreOpen o NO_SOCKET) _ (λ _. say has mine o _ next after))))
-  open_goes (suc more) i o name k next after = step has mine (ClaimSlot i) _ (λ found. either_way (found == 0) (make_socket o name k i next) (open_from more (i + 1) o name k next) G₂
+  open_goes (suc more) i o name k next after = step has mine (ClaimSlot i) _ (λ found. either_way (found == 0) (make_socket o name k i next) (open_from more (i + 1) o name k next) Goes
       (step has mine (StoreLink i k) _ (λ _. step has mine (ResetHead i k) _ (λ _. step has mine (WipeCode i k) _ (λ _. step has mine (GiveBirth i k) _ (λ word. step has mine (StoreOpen o _) _ (λ _. step has mine (StoreName name _) _ (λ _. say has mine o _ next after)))))))
       (open_goes more (i + 1) o name k next after))
 
-  back_goes : (held : List HeldLife) → G₂ (give_back held)
+  back_goes : (held : List HeldLife) → Goes (give_back held)
   back_goes [] = rests
   back_goes (h ∷ hs) = release_goes has mine (socket_id_slot h.id) (λ _. give_back hs) (λ _. back_goes hs)
 
-  dropping_goes : (o : ℕ) (id : std.Option ℕ) (next : Program) → G₂ next → G₂ (drop_of o id next)
+  dropping_goes : (o : ℕ) (id : std.Option ℕ) (next : Program) → Goes next → Goes (drop_of o id next)
   dropping_goes o None next after = say has mine o _ next after
   dropping_goes o (Some id) next after = drop_goes has mine o id next after
 

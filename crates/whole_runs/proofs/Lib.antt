@@ -6,3 +6,4 @@ pub mod Starts
 pub mod Lengths
 pub mod Gave
 pub mod Runs
+pub mod Ended
