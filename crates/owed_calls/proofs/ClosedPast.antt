@@ -24,16 +24,11 @@ use Rattle.sock_programs.specs.Cores.{Core, SeatState, link_place}
 use Rattle.sock_runs.specs.Sound.{state, Sound, AreInHand, AreHeld, IsOfRight}
 use Rattle.sock_runs.proofs.Bounds.{law}
 use Rattle.sock_runs.proofs.LinksOpening.{OpensLink}
+use Rattle.owed_calls.proofs.EndsStill.{view_of}
 use Rattle.owed_calls.specs.Lives.{InHand, IsFinished}
 use Rattle.owed_calls.proofs.WordsGiven.{Named}
 
 -- ## In hand
-
-view_of : {A B : Type 0} (l : List A) (m : List B) → (b : ℕ) → (a : A) → get_elem? l b ≡ some a → length m ≡ length l → (v : B) × (get_elem? m b ≡ some v)
-view_of [] m j a at e = absurd (some-ne-none a (sym at))
-view_of (x ∷ xs) [] j a at e = absurd (let z : ⊥ = omega (arith, e) in z)
-view_of (x ∷ xs) (y ∷ ys) zero a at e = (y, refl)
-view_of (x ∷ xs) (y ∷ ys) (suc j) a at e = view_of xs ys j a at (omega (arith, e))
 
 -- what is in hand without a right the view has there
 in_hands : (k : ℕ) (took : List ℕ) (next : ℕ) (hand : List Home) (hands : List Hand) → AreInHand hand hands → InHand (Link k took next true) hand → 0 < total (carries k) hands

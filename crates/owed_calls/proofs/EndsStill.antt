@@ -193,6 +193,18 @@ pub in_round : (clients links i : ℕ) → ((0 < i) × (i ≤ clients)) ⊎ ((32
 in_round clients links i (inl h) = let first = h.0 in let last = h.1 in (i - 1, in_first (from_to 1 clients) (from_to 32 links) (i - 1) i (from_to_at 1 clients (i - 1) (omega (arith, first, last)) ∙ ap some (let z : 1 + (i - 1) ≡ i = omega (arith, first) in z)))
 in_round clients links i (inr h) = let first = h.0 in let last = h.1 in in_second (from_to 1 clients) (from_to 32 links) (i - 32) i (from_to_at 32 links (i - 32) (omega (arith, first, last)) ∙ ap some (let z : 32 + (i - 32) ≡ i = omega (arith, first) in z))
 
+-- of two lists of one length each place of one is a place of the other
+pub view_of : {A B : Type 0} (l : List A) (m : List B) (j : ℕ) (a : A) → get_elem? l j ≡ some a → length m ≡ length l → (v : B) × (get_elem? m j ≡ some v)
+view_of [] m j a at e = absurd (some-ne-none a (sym at))
+view_of (x ∷ xs) [] j a at e = absurd (let z : ⊥ = omega (arith, e) in z)
+view_of (x ∷ xs) (y ∷ ys) zero a at e = (y, refl)
+view_of (x ∷ xs) (y ∷ ys) (suc j) a at e = view_of xs ys j a at (omega (arith, e))
+
+pub all_at : {A : Type 0} (P : A → Type 0) (l : List A) (i : ℕ) (a : A) → AllByRecursion P l → get_elem? l i ≡ some a → P a
+all_at P [] i a all e = absurd (some-ne-none a (sym e))
+all_at P (x ∷ xs) zero a all e = subst P (some-injective x a e) all.0
+all_at P (x ∷ xs) (suc i) a all e = all_at P xs i a all.1 e
+
 -- ## Seats between the clients and the readers
 
 pub rest_at : (xs ys : List Program) (n i : ℕ) → length xs ≤ i → i < length xs + n → get_elem? (xs ++ (replicate n Rest ++ ys)) i ≡ some Rest

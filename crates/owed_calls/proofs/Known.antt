@@ -50,7 +50,7 @@ use Rattle.owed_calls.specs.Sound.{id_word_of, SoundOwing}
 use Rattle.owed_calls.specs.Owns.{Owned}
 use Rattle.owed_calls.proofs.OwnsRuns.{first_left, none_yet, owned_begins, kept_along, owned_ending, owned_on}
 use Rattle.owed_calls.specs.Lives.{life_of, AreSaying, ClosesAt, ClosesInTime, ClosesInRun, AreKept}
-use Rattle.owed_calls.proofs.EndsStill.{run_ending, all_still, one_of_still, run_parts, second_part, in_first, in_round, rest_at, mapped_at}
+use Rattle.owed_calls.proofs.EndsStill.{all_at, run_ending, all_still, one_of_still, run_parts, second_part, in_first, in_round, rest_at, mapped_at}
 use Rattle.owed_calls.proofs.OpensStored.{opener_of, place_at}
 use Rattle.owed_calls.proofs.WordsGiven.{Named, names_others, beginning_named, named_ending, named_on, run_named}
 use Rattle.owed_calls.proofs.OwingRuns.{Reaches}
@@ -61,11 +61,6 @@ use Rattle.owed_calls.proofs.Owed as owed
 use Rattle.brpc_model.specs.Order.{EachBefore}
 
 -- ## Scripts
-
-all_at : (P : ℕ → Type 0) (l : List ℕ) (i : ℕ) (o : ℕ) → AllByRecursion P l → get_elem? l i ≡ some o → P o
-all_at P [] i o all e = absurd (some-ne-none o (sym e))
-all_at P (x ∷ xs) zero o all e = subst P (some-injective x o e) all.0
-all_at P (x ∷ xs) (suc i) o all e = all_at P xs i o all.1 e
 
 -- a script whose tables are made for it is as it has to be known
 pub known_of : (script : List Item) → AreMade script → IsKnown script

@@ -37,6 +37,7 @@ use Rattle.joint_runs.proofs.Runs.{AreMade}
 use Rattle.report_fits.proofs.Lists.{Has, has_later, some_is, all_from, has_filter_map}
 use Rattle.report_fits.proofs.Numbering.{link_at, numbered_at}
 use Rattle.report_fits.proofs.TaskLemmas.{IsTaskOf, has_task, of_tasks, call_asks, numbers_at}
+use Rattle.owed_calls.proofs.EndsStill.{all_at, view_of}
 use Rattle.owed_calls.specs.Owing.{InList}
 use Rattle.owed_calls.specs.Lives.{KeepsAt, AreKept}
 use Rattle.owed_calls.specs.Owns.{Behind, Other, Owns, IsTrueOf, Owned}
@@ -47,12 +48,6 @@ use Rattle.owed_calls.proofs.OwnsCalls.{CallsOwn, is_calling, calls_in, client_g
 use Rattle.owed_calls.proofs.OwnsTicks.{own_at, resolved_owns, true_of, true_on, on_sockets, owns_ticks}
 
 -- ## Along ticks
-
-view_of : (l : List SeatState) (n : List IdView) (j : ℕ) (a : SeatState) → length n ≡ length l → get_elem? l j ≡ some a → (v : IdView) × (get_elem? n j ≡ some v)
-view_of [] n j a e at = absurd (some-ne-none a (sym at))
-view_of (x ∷ xs) [] j a e at = absurd (let z : ⊥ = omega (arith, e) in z)
-view_of (x ∷ xs) (y ∷ ys) zero a e at = (y, refl)
-view_of (x ∷ xs) (y ∷ ys) (suc j) a e at = view_of xs ys j a (omega (arith, e)) at
 
 -- the first step of a round
 owns_first : (has : ℕ → ℕ) (mine : ℕ → Bool) (b : Behind) (program : Program) → Owns has mine b program → (d : Behind) × Owns has mine d (goes.first_of program)
@@ -90,7 +85,7 @@ ids_first p q narrow u (Retries requests after) g = g
 module _ (p : Plan) (q : IdPlan) (narrow : q.slots ≤ 65536) (calls : List ℕ) where
   -- whoever stores an at word stores one of the id that it named
   keeps_at : (c : Core) (ws : List IdView) → SoundIds p q c ws → (has : ℕ → ℕ) (left : ℕ → ℕ → Bool) → Owned q calls c has left → (j : ℕ) (seat : SeatState) → get_elem? c.seats j ≡ some seat → KeepsAt q calls c (goes.first_of seat.program)
-  keeps_at c ws ids has left owned j seat at = let o = owned.seats j seat at in let f = owns_first has (left j) o.0 seat.program o.1 in let v = view_of c.seats ws j seat ids.each at in
+  keeps_at c ws ids has left owned j seat at = let o = owned.seats j seat at in let f = owns_first has (left j) o.0 seat.program o.1 in let v = view_of c.seats ws j seat at ids.each in
       by_program (goes.first_of seat.program) f.0 f.1 v.0 (ids_first p q narrow v.0 seat.program (ids.seats j seat v.0 at v.1))
     where
       by_program : (program : Program) (b : Behind) → Owns has (left j) b program → (u : IdView) → IdGoesOn p q u program → KeepsAt q calls c program
@@ -107,7 +102,7 @@ module _ (p : Plan) (q : IdPlan) (narrow : q.slots ≤ 65536) (calls : List ℕ)
   -- seat 0 begins the ending
   pub owned_ending : (c : Core) (ws : List IdView) → SoundIds p q c ws → (os : List ℕ) (has : ℕ → ℕ) (left : ℕ → ℕ → Bool) → Owned q calls c has left → (seat : SeatState) → get_elem? c.seats 0 ≡ some seat
       → (more : ℕ → ℕ) × (others : ℕ → ℕ → Bool) × Owned q calls (with_seat 0 (ending_of os) [] c.words c.homes c) more others
-  owned_ending c ws ids os has left owned seat at = let v = view_of c.seats ws 0 seat ids.each at in let a = on_sockets p q narrow calls c ws ids has left owned 0 seat v.0 at v.1 Other (ending_of os) [] c.words c.homes ((ending_goes has (left 0) os).goes has (grows_same has) Other) tt in
+  owned_ending c ws ids os has left owned seat at = let v = view_of c.seats ws 0 seat at ids.each in let a = on_sockets p q narrow calls c ws ids has left owned 0 seat v.0 at v.1 Other (ending_of os) [] c.words c.homes ((ending_goes has (left 0) os).goes has (grows_same has) Other) tt in
       (a.0, a.1, a.3)
 
   pub owned_on : (c : Core) (ws : List IdView) → SoundIds p q c ws → (has : ℕ → ℕ) (left : ℕ → ℕ → Bool) → Owned q calls c has left → Owned q calls (is_ending c) has left
@@ -117,7 +112,7 @@ module _ (p : Plan) (q : IdPlan) (narrow : q.slots ≤ 65536) (calls : List ℕ)
     apart = owned.apart;
     ats = owned.ats;
     homes = owned.homes;
-    seats = λ j seat at. let o = owned.seats j seat at in let v = view_of c.seats ws j seat ids.each at in
+    seats = λ j seat at. let o = owned.seats j seat at in let v = view_of c.seats ws j seat at ids.each in
         (o.0, o.1, true_on p q c (is_ending c) ws ids v.0 (λ n inside t h. record { first = refl; none_ = λ z. z; some_ = λ z. z; home = refl }) o.0 seat.program (ids.seats j seat v.0 at v.1) o.2);
   }
 
@@ -184,11 +179,6 @@ module _ (script : List Item) where
   one_caller : (j k o : ℕ) → IsCaller j o → IsCaller k o → j ≡ k
   one_caller j k o a b = let x = a.of in let y = b.of in let same = some_is x.operation y.operation (sym x.there ∙ ap (slice_get (operations script)) (a.number ∙ sym b.number) ∙ y.there) in
       sym x.own ∙ ap (λ (z : Rattle.brpc_model.specs.Operations.Operation). z.client) same ∙ y.own
-
-  all_at : {A : Type 0} (P : A → Type 0) (l : List A) (i : ℕ) (a : A) → AllByRecursion P l → get_elem? l i ≡ some a → P a
-  all_at P [] i a all e = absurd (some-ne-none a (sym e))
-  all_at P (x ∷ xs) zero a all e = subst P (some-injective x a e) all.0
-  all_at P (x ∷ xs) (suc i) a all e = all_at P xs i a all.1 e
 
   abbrev pub none_yet : ℕ → ℕ
   none_yet o = 0

@@ -39,6 +39,7 @@ use Rattle.id_runs.proofs.Keeps.{parts_packed}
 use Rattle.id_runs.proofs.Steps.{finds_ids}
 use Rattle.id_runs.proofs.Loops.{ids_round}
 use Rattle.id_runs.proofs.Programs as idprograms
+use Rattle.owed_calls.proofs.EndsStill.{view_of}
 use Rattle.owed_calls.specs.Owing.{InList}
 use Rattle.owed_calls.specs.Sound.{id_word_of, at_of}
 use Rattle.owed_calls.specs.Owns.{Behind, Other, HasClaimed, HasPut, HasLock, HasTaken, Grows, IsIdOf, IsOwnAt, but, FindsOwn, left_behind, taken_behind, put_behind, behind, Owns, IsTrue, IsTrueOf, Owned}
@@ -162,12 +163,6 @@ module _ (p : Plan) (q : IdPlan) (narrow : q.slots ≤ 65536) (calls : List ℕ)
   waits_same (FreeId m) found = refl
   waits_same (TakeCall m) found = refl
 
-  beside : (l : List SeatState) (m : List IdView) (j : ℕ) (a : SeatState) → length m ≡ length l → get_elem? l j ≡ some a → (v : IdView) × (get_elem? m j ≡ some v)
-  beside [] m j a e at = absurd (some-ne-none a (sym at))
-  beside (x ∷ xs) [] j a e at = absurd (let z : ⊥ = omega (arith, e) in z)
-  beside (x ∷ xs) (y ∷ ys) zero a e at = (y, refl)
-  beside (x ∷ xs) (y ∷ ys) (suc j) a e at = beside xs ys j a (omega (arith, e)) at
-
   -- seat i goes on with this program, and the slots that other seats have are as they were
   module _ (a : Calls) (program : Program) (hand : List Home) (words : List ℕ) (homes : List (Option Home)) (waits : a.waiting ≡ c.calls.waiting) where
     abbrev Now : Core
@@ -179,7 +174,7 @@ module _ (p : Plan) (q : IdPlan) (narrow : q.slots ≤ 65536) (calls : List ℕ)
         (λ x. let r = resolved_owns Now more (others i) (waiting_at a.waiting i) (subst (λ (l : List (List Retry)). AllByRecursion (λ (x : Retry). x.attempt < 64) (waiting_at l i)) (sym waits) few) b program owns true_ in
         subst (λ (y : SeatState). (d : Behind) × Owns more (others j) d y.program × IsTrueOf Now d y.program) x.1 (subst (λ k. (d : Behind) × Owns more (others k) d (next_step (resolved (waiting_at a.waiting i) program)) × IsTrueOf Now d (next_step (resolved (waiting_at a.waiting i) program))) (sym x.0)
         (r.0, r.1, true_of Now r.0 (next_step (resolved (waiting_at a.waiting i) program)) r.2)))
-        (λ x. let o = owned.seats j s x.1 in let v = beside c.seats ws j s ids.each x.1 in
+        (λ x. let o = owned.seats j s x.1 in let v = view_of c.seats ws j s x.1 ids.each in
         (o.0, subst (λ m. Owns more m o.0 s.program) (sym (same j x.0)) (owns_grows has more grows (left j) o.0 s.program o.1), true_on p q c Now ws ids v.0 (λ n inside t h. stays n inside j v.0 v.1 x.0 t h) o.0 s.program (ids.seats j s v.0 x.1 v.1) o.2))
         (at_set c.seats i j (record { program = next_step (resolved (waiting_at a.waiting i) program); hand = hand }) s at_s)
 
@@ -568,13 +563,7 @@ pub owns_ticks : (p : Plan) (q : IdPlan) → q.slots ≤ 65536 → (calls : List
     → (more : ℕ → ℕ) × (others : ℕ → ℕ → Bool) × Grows has more × Owned q calls (ticked p c m) more others
 owns_ticks p q narrow calls c ws ids has left owned m fitting = by_seat (get_elem? c.seats m.seat) refl
   where
-    beside' : (l : List SeatState) (n : List IdView) (j : ℕ) (a : SeatState) → length n ≡ length l → get_elem? l j ≡ some a → (v : IdView) × (get_elem? n j ≡ some v)
-    beside' [] n j a e at = absurd (some-ne-none a (sym at))
-    beside' (x ∷ xs) [] j a e at = absurd (let z : ⊥ = omega (arith, e) in z)
-    beside' (x ∷ xs) (y ∷ ys) zero a e at = (y, refl)
-    beside' (x ∷ xs) (y ∷ ys) (suc j) a e at = beside' xs ys j a (omega (arith, e)) at
-
     by_seat : (x : Option SeatState) → get_elem? c.seats m.seat ≡ x → (more : ℕ → ℕ) × (others : ℕ → ℕ → Bool) × Grows has more × Owned q calls (elim x as (λ o. Core) [ none ↦ c | some seat ↦ tick_with p m.seat seat c m.answer seat.program ]) more others
     by_seat none e = (has, left, grows_same has, owned)
-    by_seat (some seat) e = let v = beside' c.seats ws m.seat seat ids.each e in let o = owned.seats m.seat seat e in
+    by_seat (some seat) e = let v = view_of c.seats ws m.seat seat e ids.each in let o = owned.seats m.seat seat e in
         any_step p q narrow calls c ws ids has left owned m.seat seat v.0 e v.1 m.answer seat.program o.0 o.1 o.2 (ids.seats m.seat seat v.0 e v.1) (fitting seat e)

@@ -22,6 +22,7 @@ use Rattle.sock_runs.proofs.ReaderSeats.{AtReader, run_reader}
 use Rattle.sock_runs.proofs.LinksOpening.{OpensLink}
 use Rattle.id_runs.specs.Goes as goes
 use Rattle.joint_runs.proofs.Both.{AreBoth}
+use Rattle.owed_calls.proofs.EndsStill.{view_of}
 use Rattle.owed_calls.specs.Owing.{Duty, Linked, Owing, Among, duty_tokens}
 use Rattle.owed_calls.specs.Owes.{OwesOn}
 use Rattle.owed_calls.specs.Sound.{retry_tokens, FailedIn, SoundOwing}
@@ -97,12 +98,6 @@ module _ (p : Plan) (q : IdPlan) (narrow : q.slots ≤ 65536) (same : q.operatio
 
     pub others_fit : ClosesAt p c answer (goes.first_of seat.program) → KeepsAt q calls c (goes.first_of seat.program) → OthersFit q life calls c u answer (goes.first_of seat.program)
     others_fit closes keeps = by_program (goes.first_of seat.program) refl closes keeps
-
-  view_of : (l : List SeatState) (m : List View) (j : ℕ) (a : SeatState) → get_elem? l j ≡ some a → length m ≡ length l → (v : View) × (get_elem? m j ≡ some v)
-  view_of [] m j a at e = absurd (some-ne-none a (sym at))
-  view_of (x ∷ xs) [] j a at e = absurd (let z : ⊥ = omega (arith, e) in z)
-  view_of (x ∷ xs) (y ∷ ys) zero a at e = (y, refl)
-  view_of (x ∷ xs) (y ∷ ys) (suc j) a at e = view_of xs ys j a at (omega (arith, e))
 
   module _ (go : RetriesGo p) (Q : ℕ → ℕ → Type 0) where
     pub says_along : (c : Core) (vs : List View) (ms : List Moment) → Sound p c vs → AreAnswered p c ms → AreFitting p c ms → Recorded p Q c vs → AllReaders c → length c.seats ≡ 32 + length os → Named p (OpensLink os) c vs → AreBoth p q c vs ms → ClosesInTime p c ms → AreKept p q calls c ms

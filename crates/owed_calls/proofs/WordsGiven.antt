@@ -40,6 +40,7 @@ use Rattle.sock_programs.specs.Readers.{reader}
 use Rattle.sock_programs.specs.Cores.{Calls, Core, SeatState, word_of, word_after, found_at, words_after, homes_after, hand_after, resolved, next_step, waiting_at, with_seat, stepped}
 use Rattle.sock_programs.specs.Ticks.{Moment, ticked, run, IsAnswered, AreAnswered}
 use Rattle.sock_programs.specs.Scripts.{sizes_of, beginning, programs, readers_from, is_ending}
+use Rattle.owed_calls.proofs.EndsStill.{all_at}
 use Rattle.sock_runs.specs.Rows.{row, hand_at}
 use Rattle.sock_runs.specs.May.{May}
 use Rattle.sock_runs.specs.Sound.{state, Sound, first_step, IsFitting, AreFitting, views_after, views_along}
@@ -373,11 +374,6 @@ run_named p go own c vs [] sound answered fitting n = n
 run_named p go own c vs (m ∷ ms) sound answered fitting n = run_named p go own (ticked p c m) (views_after p c vs m) ms (sound_ticks p go c vs m sound answered.0 fitting.0) answered.1 fitting.1 (named_ticks p own c vs m sound answered.0 fitting.0 n)
 
 -- ## The beginning, and the ending
-
-all_at : {A : Type 0} (P : A → Type 0) (l : List A) (i : ℕ) (a : A) → AllByRecursion P l → get_elem? l i ≡ some a → P a
-all_at P [] i a all e = absurd (some-ne-none a (sym e))
-all_at P (x ∷ xs) zero a all e = subst P (some-injective x a e) all.0
-all_at P (x ∷ xs) (suc i) a all e = all_at P xs i a all.1 e
 
 -- no word of an `open` is stored before the first step
 pub beginning_named : (p : Plan) (own : ℕ → ℕ → Type 0) (q : IdPlan) (clients : List (List Task)) (others : List Program) → AllByRecursion (AllByRecursion (λ (t : Task). OwnsLink own t.number t.op)) clients → ((k : ℕ) (x : Program) → get_elem? others k ≡ some x → Names own x)
