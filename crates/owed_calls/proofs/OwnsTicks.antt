@@ -1,5 +1,5 @@
 -- A tick of any seat keeps which id the call of each operation has, and that at words and homes are of those.
-use Rattle.std.proofs.Common.{◌≡◌, ◌≢◌, ℕ, zero, suc, ◌+◌, ◌*◌, ◌<◌, ◌≤◌, ⊎_elim, ◌==◌, ◌&&◌, not, Bool, true, false, cond, eq-eqb, eqb-true, ne_eqb, List, [], ◌∷◌, ◌++◌, length, get_or, set, get_or-set_other, get_or-set_same, refl, sym, ap, ◌∙◌, subst, arith}
+use Rattle.std.proofs.Common.{◌≡◌, ◌≢◌, ℕ, ◌+◌, ◌*◌, ◌<◌, ◌≤◌, ⊎_elim, ◌==◌, ◌&&◌, not, Bool, true, false, cond, eq-eqb, eqb-true, ne_eqb, List, [], ◌∷◌, ◌++◌, get_or, set, get_or-set_other, get_or-set_same, refl, sym, ap, ◌∙◌, subst, arith}
 use Rattle.std.proofs.lemmas.Bool.{true≢false}
 use Rattle.std.specs.Prelude as std
 use Rattle.std.specs.List.{AllByRecursion}
