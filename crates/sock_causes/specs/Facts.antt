@@ -1,6 +1,6 @@
 -- What a run with calls fixes besides its outcomes: the links that failed, the operations and links of its ending, and each call's last attempt.
-use Rattle.std.specs.Prelude.{ℕ, ◌+◌, ◌==◌, ◌&&◌, ◌≡◌, ◌≢◌, ◌<◌, ◌≤◌, ◌⊎◌, Bool, true, false, not, if◌then◌else◌, List, [], ◌∷◌, ◌++◌, length, replicate, slice_get, slice_index, Option, Some, None, Contains, sum_by}
-use Rattle.std.specs.List.{AllByRecursion, filter, list_any}
+use Rattle.std.specs.Prelude.{ℕ, ◌+◌, ◌==◌, ◌&&◌, ◌≡◌, ◌≢◌, ◌<◌, ◌≤◌, ◌⊎◌, Bool, true, false, if◌then◌else◌, List, [], ◌∷◌, ◌++◌, map, flat_map, length, replicate, slice_get, slice_index, Option, Some, None, sum_by}
+use Rattle.std.specs.List.{AllByRecursion, filter}
 use mathlib.Core.Option.{none, some}
 use lib.ListN.{get_elem?}
 use Rattle.sock_words.specs.declared.plain.Plan.{Plan}
@@ -11,26 +11,22 @@ use Rattle.brpc_model.specs.Order.{EachBefore}
 use Rattle.corr_core.specs.Word.{parts}
 use Rattle.id_rule.specs.Lawful.{id_word}
 use Rattle.sock_message.specs.Asked.{Asked, name_of}
-use Rattle.sock_programs.specs.declared.task.Op.{Op}
 use Rattle.sock_programs.specs.declared.task.Op.TheVariants as ops
 use Rattle.sock_programs.specs.declared.task.Task.{Task}
 use Rattle.sock_programs.specs.Asides.{PutCall}
-use Rattle.sock_programs.specs.Attempts as attempts
 use Rattle.sock_programs.specs.Beside.{call_at}
 use Rattle.sock_programs.specs.Calls.{Call, GiveBirth}
 use Rattle.sock_programs.specs.Drops.{call_in}
-use Rattle.sock_programs.specs.Heads.{Head, Decides, Unlocks}
+use Rattle.sock_programs.specs.Heads.{Decides, Unlocks}
 use Rattle.sock_programs.specs.Posts.{ends_call}
 use Rattle.sock_programs.specs.Programs.{Program, Aside, Round}
 use Rattle.sock_programs.specs.Cores.{Calls, Core}
-use Rattle.sock_programs.specs.Runs.{from_to}
-use Rattle.sock_programs.specs.Ticks.{Moment, quiet, ticked, run, broken_in}
-use Rattle.sock_programs.specs.Tasks.{calls, plan_of}
+use Rattle.sock_programs.specs.Ticks.{Moment, quiet, ticked, broken_in}
+use Rattle.sock_programs.specs.Tasks.{plan_of}
 use Rattle.sock_programs.specs.Told.{IsTask, Became, Made, IsFail}
-use Rattle.sock_programs.specs.Scripts.{opened, ending, set_up, played, IsRunWithCalls}
-use Rattle.sock_programs.specs.ToldCalls as told
+use Rattle.sock_programs.specs.Scripts.{all_tasks, opened, ending, set_up, played, IsRunWithCalls}
 use Rattle.sock_programs.specs.ToldCalls.{Order, Fixed, AreOrders, StandsOn, Why, WhyAgain, IsSent, InOwnOrder, IsFailing}
-use Rattle.sock_causes.specs.Explains.{is_plain}
+use Rattle.sock_causes.specs.Explains.{is_plain, plain_tasks}
 use Rattle.sock_causes.specs.Losses.{closed_at}
 
 -- ## What a tick shows
@@ -107,13 +103,16 @@ module _ (script : List Item) (turns : List Turn) (end_ : Core) (is : IsRunWithC
   abbrev pub is_told : Core → ℕ → Bool
   is_told c o = elim (slice_get c.outcomes o) as (λ x. Bool) [ None ↦ false | Some x ↦ elim x as (λ y. Bool) [ None ↦ false | Some outcome ↦ true ] ]
 
-  -- an operation but a call that had its outcome while the run was ending
+  -- an operation that had its outcome while the run was ending
   abbrev pub is_said_late : ℕ → Bool
-  is_said_late o = is_untold before_ending o && (is_told end_ o && not (list_any (λ n. n == o) (calls script)))
+  is_said_late o = is_untold before_ending o && is_told end_ o
 
-  -- the operations that had a step while the run was ending: those whose outcome was said then, and the calls of which an attempt was begun or ended then
+  abbrev pub numbers_of : List Task → List ℕ
+  numbers_of ts = map (λ (t : Task). t.number) (plain_tasks ts)
+
+  -- the operations that had a step while the run was ending: those that aren't on calls and had their outcome then, and the calls of which an attempt was begun or ended then
   abbrev pub late_of_run : List ℕ
-  late_of_run = filter is_said_late (from_to 0 (plan_of script).operations) ++ shown_in put_at (plan_of script) is.ended is.final
+  late_of_run = filter is_said_late (flat_map numbers_of (all_tasks script)) ++ shown_in put_at (plan_of script) is.ended is.final
 
   -- the number of the last attempt of a call: so often its attempt was advanced
   abbrev pub last_attempt : ℕ → ℕ
