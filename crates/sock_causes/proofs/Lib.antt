@@ -32,4 +32,6 @@ pub mod Senders
 pub mod Messages
 pub mod Told
 pub mod Openings
+pub mod Lifted
 pub mod Scripts
+pub mod Plain

@@ -148,10 +148,10 @@ module _ (script : List Item) (are : AreTasks (plan_of script) (all_tasks script
   in_right k [] ys m = m
   in_right k (x ∷ xs) ys m = inr (in_right k xs ys m)
 
-  abbrev lost_one : List ℕ
+  abbrev pub lost_one : List ℕ
   lost_one = lost_in (plan_of script) (opened script) (replicate is.setup (quiet 0))
 
-  abbrev lost_two : List ℕ
+  abbrev pub lost_two : List ℕ
   lost_two = lost_in (plan_of script) (set_up script is.setup) (is.scheduled ++ is.later)
 
   abbrev lost_three : List ℕ
@@ -182,14 +182,14 @@ module _ (script : List Item) (are : AreTasks (plan_of script) (all_tasks script
 
   -- ## What was done before the ending
 
-  abbrev lost_before : List ℕ
+  abbrev pub lost_before : List ℕ
   lost_before = lost_one ++ lost_two
 
   before_within : (k : ℕ) → In k played_told.after.lost → In k lost_before
   unfolding first
   before_within k m = ⊎_elim (λ a. ⊎_elim (λ z. absurd z) (λ z. in_left k lost_one lost_two z) (set_up_told.0.losses k (subst (In k) over.2 a))) (λ a. in_right k lost_one lost_two a) (played_told.losses k m)
 
-  abbrev late : ℕ → Type 0
+  abbrev pub late : ℕ → Type 0
   late o = is_said_late script turns core is o ≡ true
 
   closing_said : (o : ℕ) → IsSaidOf (before_ending script turns core is).outcomes o → IsSaidOf (closing_of script turns core is).outcomes o

@@ -5,12 +5,14 @@ use mathlib.Core.Option.{none, some}
 use lib.ListN.{get_elem?}
 use Rattle.sock_words.specs.declared.plain.Plan.{Plan}
 use Rattle.sock_words.specs.declared.outcome.Outcome.{Outcome}
+use Rattle.sock_words.specs.declared.outcome.Outcome.TheVariants.{Unopened}
 use Rattle.brpc_model.specs.Items.{Item}
 use Rattle.brpc_model.specs.Operations.{Turn}
 use Rattle.brpc_model.specs.Order.{EachBefore}
 use Rattle.corr_core.specs.Word.{parts}
 use Rattle.id_rule.specs.Lawful.{id_word}
 use Rattle.sock_message.specs.Asked.{Asked, name_of}
+use Rattle.sock_programs.specs.declared.task.Op.{Op}
 use Rattle.sock_programs.specs.declared.task.Op.TheVariants as ops
 use Rattle.sock_programs.specs.declared.task.Task.{Task}
 use Rattle.sock_programs.specs.Asides.{PutCall}
@@ -120,6 +122,19 @@ module _ (script : List Item) (turns : List Turn) (end_ : Core) (is : IsRunWithC
 
 -- ## What is told
 
+-- the first name that an operation looks for
+abbrev pub Seeks : ℕ → Op → Type 0
+Seeks n (ops.Fail m code) = m ≡ n
+Seeks n (ops.Hold m) = m ≡ n
+Seeks n (ops.Send m bytes) = m ≡ n
+Seeks n (ops.Call asked) = name_of asked 0 ≡ n
+Seeks n other = ⊥
+
+-- where an operation found a name without a socket, a call of the same client before it found so too
+abbrev pub CallsFoundNone : List (List Task) → List (Option Outcome) → Type 0
+CallsFoundNone clients outcomes = (c : ℕ) (t u : Task) (asked : Asked) (n : ℕ) → IsTask clients outcomes c t → IsTask clients outcomes c u → Seeks n t.op → Became clients outcomes t.number Unopened → u.number < t.number
+    → u.op ≡ ops.Call asked → name_of asked 0 ≡ n → Became clients outcomes u.number Unopened
+
 -- why each `open`, `send`, `hold`, `drop` and `fail` has its outcome, what links accepted and took, and why attempts of calls were followed by others:
 -- all that is told of a run with calls but why calls ended, and what was found of them by `expire` and `join`
 pub record ToldSends (p : Plan) (clients : List (List Task)) (outcomes : List (Option Outcome)) (fixed : Fixed) (gave : ℕ → List ℕ) (orders : ℕ → Order) (last : ℕ → ℕ) (c : Core) : Type 0 where
@@ -134,3 +149,11 @@ pub record ToldSends (p : Plan) (clients : List (List Task)) (outcomes : List (O
   pub sent : (k : ℕ) → k < p.links → AllByRecursion (IsSent p clients outcomes fixed gave orders last k) (orders k).accepted
   pub own_order : (k : ℕ) → k < p.links → EachBefore (InOwnOrder p clients outcomes fixed gave orders) (orders k).accepted
   pub dropped : (k : ℕ) → k < p.links → (orders k).placed < length (orders k).accepted → IsFailing p clients outcomes fixed gave orders k
+
+-- the parts of it on tasks that aren't on calls, but for the orders
+pub record ToldPlain (p : Plan) (clients : List (List Task)) (outcomes : List (Option Outcome)) (fixed : Fixed) (gave : ℕ → List ℕ) (orders : ℕ → Order) (last : ℕ → ℕ) : Type 0 where
+  pub told : (client : ℕ) (t : Task) → IsTask clients outcomes client t → is_plain t.op ≡ true → ((outcome : Outcome) × Became clients outcomes t.number outcome) ⊎ ((k : ℕ) × StandsOn p clients outcomes fixed gave orders t.number 0 k)
+  pub are : AllByRecursion (IsFail clients outcomes) fixed.fails
+  pub once : EachBefore (λ (f g : ℕ × ℕ). (f.0 ≢ g.0) × (f.1 ≢ g.1)) fixed.fails
+  pub lives : (n k m l slot version : ℕ) (a : Made clients outcomes n k slot version) (b : Made clients outcomes m l slot version) → a.task.number ≡ b.task.number
+  pub why : (client : ℕ) (t : Task) (outcome : Outcome) → IsTask clients outcomes client t → is_plain t.op ≡ true → Became clients outcomes t.number outcome → Why p clients outcomes fixed gave orders last client t.number t.op outcome
