@@ -69,9 +69,9 @@ decide_goes t id w e k first goes = λ asked _. (Idle, inr refl, (first, λ exit
 pub end_goes : (t : Trial) (i : ℕ) (next : Program) → Labels Idle next → Labels t (end_id i next)
 end_goes t i next goes = λ found _. (Idle, inr refl, way Idle (leb ((parts found).first + (parts found).range) LAST) (Aside (FreeId i) (λ _. next)) next (λ _. λ _ _. (Idle, inr refl, goes)) (λ _. goes))
 
-unlocked_goes : (r : Retry) (k : Deciding → Program) → ((exit : Deciding) → Labels Idle (k exit)) → (exit : Unlocking) → ((w e : ℕ) → exit ≡ HasNext w e → (parts w).first ≡ id_first r.id) → (t : Trial) → t ≡ Tries r.id r.attempt → Labels t (unlocked r k exit)
-unlocked_goes r k goes (IsOpen w) first t is = (is, goes GoesOn)
-unlocked_goes r k goes (HasNext w e) first t is = (is, decide_goes Idle r.id w e k (first w e refl) goes)
+unlocked_goes : (r : Retry) (k : Deciding → Program) → ((exit : Deciding) → Labels Idle (k exit)) → (exit : Unlocking) → r.attempt ≤ 6 → ((w e : ℕ) → exit ≡ HasNext w e → (parts w).first ≡ id_first r.id) → (t : Trial) → t ≡ Tries r.id r.attempt → Labels t (unlocked r k exit)
+unlocked_goes r k goes (IsOpen w) few first t is = (is, few, goes GoesOn)
+unlocked_goes r k goes (HasNext w e) few first t is = (is, few, decide_goes Idle r.id w e k (first w e refl) goes)
 
 decides_goes : (t : Trial) (id : ℕ) (asked : Asked) (w e : ℕ) (k : Deciding → Program) → (parts w).first ≡ id_first id → ((exit : Deciding) → Labels Idle (k exit)) → Labels t (round (Decides id asked w e) k)
 decides_goes t id asked w e k first goes = way t (ends_call (parts w) e) (end_id (id_slot id) (k (HasEnded asked.operation (code_of e))))
@@ -82,13 +82,13 @@ decides_goes t id asked w e k first goes = way t (ends_call (parts w) e) (end_id
       inr refl,
       (
         tt,
-        λ exit l. unlocked_goes (record { id = id; attempt = (parts w).attempt + 1 }) k goes exit (λ x y is. next_first exit x y is l ∙ first) (Tries (call_id (id_slot id) (parts w).first) ((parts w).attempt + 1))
+        λ exit l. unlocked_goes (record { id = id; attempt = (parts w).attempt + 1 }) k goes exit l.0 (λ x y is. next_first exit x y is l.1 ∙ first) (Tries (call_id (id_slot id) (parts w).first) ((parts w).attempt + 1))
             (ap (λ x. Tries x ((parts w).attempt + 1)) (ap (call_id (id_slot id)) first ∙ id_back id)),
       ),
     ))
   where
-    next_first : (exit : Unlocking) (x y : ℕ) → exit ≡ HasNext x y → LeavesLabel (Unlocks (id_slot id) w true) exit → (parts x).first ≡ (parts w).first
-    next_first exit x y is l = subst (LeavesLabel (Unlocks (id_slot id) w true)) is l
+    next_first : (exit : Unlocking) (x y : ℕ) → exit ≡ HasNext x y → Rattle.label_runs.specs.Labels.LeavesUnlock (parts w).first exit → (parts x).first ≡ (parts w).first
+    next_first exit x y is l = subst (Rattle.label_runs.specs.Labels.LeavesUnlock (parts w).first) is l
 
 pub decided_goes : (id : ℕ) (next : Program) → Labels Idle next → (exit : Deciding) → Labels Idle (decided id next exit)
 decided_goes id next goes (HasEnded o c) = goes
@@ -136,10 +136,10 @@ module _ (t : Trial) (i from : ℕ) (advance : Bool) (k : Unlocking → Program)
   pops : (low : (parts from).attempt + advance_of advance ≤ 6) → Labels (unlocks_trial i from advance t) (popped i (parts from).oldest after k)
   pops low = let first : (parts after).first ≡ (parts from).first = ap (λ (w : Parts). w.first) (word_after from advance low) in
       way (unlocks_trial i from advance t) (eqb (parts from).oldest 0) (k (IsOpen after)) (cond (is_stale (parts from).oldest (parts after)) (Round (Unlocks i after false) k) (k (HasNext after (parts from).oldest)))
-      (λ _. goes (IsOpen after) tt)
+      (λ _. goes (IsOpen after) (low, tt))
       (λ _. way (unlocks_trial i from advance t) (is_stale (parts from).oldest (parts after)) (Round (Unlocks i after false) k) (k (HasNext after (parts from).oldest))
-      (λ _. (tt, λ exit l. goes exit (first_as (parts after).first (parts from).first first exit l)))
-      (λ _. goes (HasNext after (parts from).oldest) first))
+      (λ _. (tt, λ exit l. goes exit (low, first_as (parts after).first (parts from).first first exit l.1)))
+      (λ _. goes (HasNext after (parts from).oldest) (low, first)))
 
   unlocks_goes : Labels t (round (Unlocks i from advance) k)
   unlocks_goes = λ found f. by found f (eqb found from) refl
@@ -150,7 +150,7 @@ module _ (t : Trial) (i from : ℕ) (advance : Bool) (k : Unlocking → Program)
       by found f false miss = let same = f.2 (not_equal found from miss) in (
         t,
         miss_is advance found miss,
-        (tt, λ exit l. subst (λ x. Labels x (k exit)) (found_is advance found same.0 same.1) (goes exit (first_as (parts found).first (parts from).first same.0 exit l))),
+        (tt, λ exit l. subst (λ x. Labels x (k exit)) (found_is advance found same.0 same.1) (goes exit (f.1, first_as (parts found).first (parts from).first same.0 exit l.1))),
       )
 
 -- ## Locks

@@ -199,7 +199,7 @@ module _ (requests id n : ℕ) (next : Program) (few : n ≤ 6) (goes : Labels I
 
   locked_goes : (exit : Locking) → LeavesLock (First (id_first id)) exit → Labels (Rattle.label_runs.specs.Labels.locked_trial exit (Tries id n)) (retry_locked requests id n next exit)
   locked_goes (NotThere w) l = goes
-  locked_goes (Has w) l = λ asked _. (Tries id n, inl refl, λ _ _. (Tries id n, inl refl, (tt, λ exit m. tried_goes asked exit (λ x e is. next_first exit x e is m ∙ l))))
+  locked_goes (Has w) l = λ asked _. (Tries id n, inl refl, λ _ _. (Tries id n, inl refl, (tt, λ exit m. tried_goes asked exit (λ x e is. next_first exit x e is m.1 ∙ l))))
     where
       next_first : (exit : Unlocking) (x e : ℕ) → exit ≡ HasNext x e → LeavesUnlock (parts w).first exit → (parts x).first ≡ (parts w).first
       next_first exit x e is m = subst (LeavesUnlock (parts w).first) is m

@@ -96,7 +96,7 @@ LeavesLock sought exit = Unit {0}
 
 abbrev pub LeavesLabel : (head : Head) → Exit head → Type 0
 LeavesLabel (Posts id e w) exit = LeavesPost id exit
-LeavesLabel (Unlocks i w advance) exit = LeavesUnlock (parts w).first exit
+LeavesLabel (Unlocks i w advance) exit = ((parts w).attempt + advance_of advance ≤ 6) × LeavesUnlock (parts w).first exit
 LeavesLabel (Locks i sought w) exit = LeavesLock sought exit
 LeavesLabel other exit = Unit {0}
 
@@ -116,5 +116,5 @@ Labels t (AskReady k next) = (answer : Ready) → Labels Idle (next answer)
 Labels t (Write w after) = Labels Idle after
 Labels t (Aside step next) = (found : Found step) → FindsLabel step found → (u : Trial) × AsideMove step found t u × Labels u (next found)
 Labels t (Round head next) = AtLabel head × ((exit : Exit head) → LeavesLabel head exit → Labels (trial_behind head exit t) (next exit))
-Labels t (Keep r next) = (t ≡ Tries r.id r.attempt) × Labels Idle next
+Labels t (Keep r next) = (t ≡ Tries r.id r.attempt) × (r.attempt ≤ 6) × Labels Idle next
 Labels t (Retries requests after) = Labels Idle after

@@ -1,0 +1,2 @@
+-- Sums over lists of which one element changes.
+use Rattle.std.proofs.Common.{◌≡◌}
