@@ -1,2 +1,80 @@
--- How often an attempt of a call stands with seats, retries, claims and accepted messages.
-use Rattle.std.specs.Prelude.{ℕ}
+-- How often an attempt of a call stands with seats, with retries, in claims and among accepted messages: once at most.
+use Rattle.std.specs.Prelude.{ℕ, ◌≡◌, ◌≢◌, ◌+◌, ◌*◌, ◌<◌, ◌≤◌, ◌⊎◌, ◌==◌, if◌then◌else◌, List, [], ◌∷◌, length, slice_index}
+use Rattle.std.specs.List.{AllByRecursion}
+use mathlib.Core.Option.{some}
+use lib.ListN.{get_elem?}
+use Rattle.sock_model.specs.declared.chain.Claim.{Claim}
+use Rattle.sock_model.specs.declared.chain.Entry.{Entry}
+use Rattle.sock_model.specs.declared.chain.Heading.{Heading}
+use Rattle.sock_model.specs.declared.view.View.{View}
+use Rattle.sock_model.specs.Weights.{total}
+use Rattle.corr_core.specs.Word.{Parts, parts}
+use Rattle.corr_core.specs.declared.marks.Plan.{Plan as IdPlan}
+use Rattle.id_rule.specs.Lawful.{id_word}
+use Rattle.sock_programs.specs.Asides.{id_slot, id_first}
+use Rattle.sock_programs.specs.Heads.{Retry}
+use Rattle.sock_programs.specs.Cores.{Core, SeatState}
+use Rattle.label_runs.specs.Labels.{Trial, Idle, Tries, Sends, Labels}
+
+-- 1 where these are attempt n of the call with this id
+abbrev pub pair_of : ℕ → ℕ → ℕ → ℕ → ℕ
+pair_of id n i m = if i == id then (if m == n then 1 else 0) else 0
+
+abbrev pub of_trial : ℕ → ℕ → Trial → ℕ
+of_trial id n Idle = 0
+of_trial id n (Tries i m) = pair_of id n i m
+of_trial id n (Sends o i m) = pair_of id n i m
+
+abbrev pub of_retry : ℕ → ℕ → Retry → ℕ
+of_retry id n r = pair_of id n r.id r.attempt
+
+-- a message of a call is that of an attempt
+abbrev pub of_heading : ℕ → ℕ → Heading → ℕ
+of_heading id n h = if h.owner == 0 then 0 else pair_of id n h.owner h.attempt
+
+abbrev pub of_claim : ℕ → ℕ → Claim → ℕ
+of_claim id n x = of_heading id n x.heading
+
+abbrev pub of_entry : ℕ → ℕ → Entry → ℕ
+of_entry id n e = of_heading id n e.heading
+
+abbrev pub of_view : ℕ → ℕ → View → ℕ
+of_view id n v = total (of_claim id n) v.claims + total (total (of_entry id n)) v.lists
+
+-- with the seats, the retries that wait, the claims, and the accepted messages
+abbrev pub times_of : ℕ → ℕ → Core → List View → List Trial → ℕ
+times_of id n c vs ts = total (of_trial id n) ts + (total (total (of_retry id n)) c.calls.waiting + total (of_view id n) vs)
+
+-- ## What was made
+
+abbrev pub word_of_id : List ℕ → ℕ → Parts
+word_of_id ws i = parts (slice_index ws (id_word i))
+
+-- the range of this id has ended, or it has come to this attempt
+abbrev pub WasMade : IdPlan → List ℕ → ℕ → ℕ → Type 0
+WasMade q ws id n = (id_slot id < q.slots) × ((id_first id < (word_of_id ws (id_slot id)).first)
+    ⊎ (((word_of_id ws (id_slot id)).first ≡ id_first id) × (0 < (word_of_id ws (id_slot id)).state) × (n ≤ (word_of_id ws (id_slot id)).attempt)))
+
+-- ## The law
+
+-- each operation's call has one id
+module _ (ids : ℕ → ℕ) where
+  -- the heading of a call's message has the id of its operation's call, and the number of its place word tells its attempt
+  abbrev pub HeadFits : Heading → Type 0
+  HeadFits h = h.owner ≢ 0 → (ids h.operation ≡ h.owner) × (h.place ≡ 8 * h.operation + h.attempt) × (h.attempt ≤ 6)
+
+  abbrev pub ViewFits : View → Type 0
+  ViewFits v = AllByRecursion (λ (x : Claim). HeadFits x.heading) v.claims × AllByRecursion (AllByRecursion (λ (e : Entry). HeadFits e.heading)) v.lists
+
+  abbrev pub TrialFits : Trial → Type 0
+  TrialFits (Sends o id n) = (ids o ≡ id) × (n ≤ 6)
+  TrialFits other = Unit {0}
+
+  pub record LabelLaw (q : IdPlan) (c : Core) (vs : List View) (ts : List Trial) : Type 0 where
+    pub once : (id n : ℕ) → times_of id n c vs ts ≤ 1
+    -- none stands anywhere before it is made
+    pub made : (id n : ℕ) → 0 < times_of id n c vs ts → WasMade q c.calls.words id n
+    pub views : (j : ℕ) (v : View) → get_elem? vs j ≡ some v → ViewFits v
+    pub trials : (j : ℕ) (t : Trial) → get_elem? ts j ≡ some t → TrialFits t
+    pub each : length ts ≡ length c.seats
+    pub programs : (j : ℕ) (seat : SeatState) (t : Trial) → get_elem? c.seats j ≡ some seat → get_elem? ts j ≡ some t → Labels t seat.program

@@ -1,2 +1,0 @@
--- Sums over lists of which one element changes.
-use Rattle.std.proofs.Common.{◌≡◌}
