@@ -11,9 +11,16 @@ use Rattle.sock_model.specs.Weights.{total}
 use Rattle.corr_core.specs.Word.{Parts, parts}
 use Rattle.corr_core.specs.declared.marks.Plan.{Plan as IdPlan}
 use Rattle.id_rule.specs.Lawful.{id_word}
-use Rattle.sock_programs.specs.Asides.{id_slot, id_first}
+use Rattle.sock_programs.specs.Asides.{StoreAt, id_slot, id_first}
 use Rattle.sock_programs.specs.Heads.{Retry}
 use Rattle.sock_programs.specs.Cores.{Core, SeatState}
+use Rattle.sock_words.specs.declared.plain.Plan.{Plan}
+use Rattle.sock_words.specs.Words.{at_word}
+use Rattle.sock_programs.specs.Programs.{Program, Aside}
+use Rattle.sock_programs.specs.Ticks.{Moment, ticked}
+use Rattle.sock_runs.specs.Sound.{first_step}
+use Rattle.id_runs.specs.Held.{IdView}
+use Rattle.id_runs.specs.Goes.{SoundIds, IsFittingIds}
 use Rattle.label_runs.specs.Labels.{Trial, Idle, Tries, Sends, Labels}
 
 -- 1 where these are attempt n of the call with this id
@@ -78,3 +85,13 @@ module _ (ids : ℕ → ℕ) where
     pub trials : (j : ℕ) (t : Trial) → get_elem? ts j ≡ some t → TrialFits t
     pub each : length ts ≡ length c.seats
     pub programs : (j : ℕ) (seat : SeatState) (t : Trial) → get_elem? c.seats j ≡ some seat → get_elem? ts j ≡ some t → Labels t seat.program
+
+  -- where a tick stores an at word, it is one of the operation's own call
+  abbrev pub StoresOwn : Core → Moment → Type 0
+  StoresOwn c m = (seat : SeatState) (o w : ℕ) (next : ℕ → Program) → get_elem? c.seats m.seat ≡ some seat → first_step seat.program ≡ Aside (StoreAt o w) next
+      → (id n k : ℕ) → w ≡ at_word (id_first id) (id_slot id) k n → k < 65535 → n ≤ 6 → ids o ≡ id
+
+  -- at each of these ticks the table of the ids is sound, what steps on sockets find is as it relies on, and at words are the operations' own
+  abbrev pub AreLabelled : Plan → IdPlan → Core → List Moment → Type 0
+  AreLabelled p q c [] = Unit {0}
+  AreLabelled p q c (m ∷ ms) = ((us : List IdView) × SoundIds p q c us) × IsFittingIds p c m × StoresOwn c m × AreLabelled p q (ticked p c m) ms

@@ -1,0 +1,2 @@
+-- Each tick keeps the law of attempts.
+use Rattle.std.proofs.Common.{◌≡◌}
