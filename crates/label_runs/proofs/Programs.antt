@@ -1,5 +1,5 @@
 -- The programs of clients, readers and the ending keep to their attempts.
-use Rattle.std.proofs.Common.{◌≡◌, ◌≢◌, ℕ, zero, suc, ◌+◌, ◌-◌, ◌*◌, ◌/◌, ◌%◌, ◌<◌, ◌≤◌, ◌==◌, ◌&&◌, inl, inr, Bool, true, false, cond, eqb, leb, nat_lt, nat_le, List, [], ◌∷◌, ◌++◌, Option, Some, None, length, drop, refl, sym, ap, ◌∙◌, subst, arith}
+use Rattle.std.proofs.Common.{◌≡◌, ◌≢◌, ℕ, zero, suc, ◌+◌, ◌-◌, ◌*◌, ◌/◌, ◌%◌, ◌<◌, ◌≤◌, ◌⊎◌, ◌==◌, ◌&&◌, inl, inr, Bool, true, false, cond, eqb, leb, nat_lt, nat_le, List, [], ◌∷◌, ◌++◌, Option, Some, None, length, drop, refl, sym, ap, ◌∙◌, subst, arith}
 use Rattle.brpc_model.specs.Frame.{Frame}
 use Rattle.sock_words.specs.Words.{socket_id_slot, socket_id_version, vref_version, vref_nref, at_word, at_word_first, at_word_slot, at_word_link, at_word_attempt}
 use Rattle.sock_words.specs.declared.outcome.Outcome.TheVariants as outcomes
@@ -27,7 +27,7 @@ use Rattle.sock_programs.specs.Programs.{Program, Do, Say, Sent, Rest, TakeMessa
 use Rattle.sock_programs.specs.Readers.{slot_in, kept_for, ends_with, posted_last, post_each, thrown_away, read, reader, LIMIT}
 use Rattle.sock_programs.specs.Sends.{freed as given_back, one_more, passed_telling, tell_drop, placed, dropped, link_failed, put_answered, ready_answered, block, first_put, accept, write_link, heading_of, claim_from, start, send}
 use Rattle.sock_programs.specs.Writings.{Holder, Writing, Puts, Waits, Empties, Walks}
-use Rattle.label_runs.specs.Labels.{Trial, Idle, Tries, Sends, MayPut, Labels, LeavesLabel, LeavesLock, LeavesUnlock}
+use Rattle.label_runs.specs.Labels.{Trial, Idle, Tries, Sends, IsOfTrial, MayPut, Labels, LeavesLabel, LeavesLock, LeavesUnlock}
 use Rattle.label_runs.proofs.Loops.{id_back, way, post_with_goes, posted_goes, post_goes, decide_goes, decided_goes, answer_goes}
 
 -- ## Parts on sockets
@@ -125,7 +125,7 @@ accept_goes t id q g heading bytes after may goes = (may, λ _ _. (Idle, inl ref
   way Idle (nat_lt found IDLE) (Do (Connect q found) (λ _. after)) (write_link id q (ticket_of q g) after) (λ _. (tt, λ _ _. (Idle, inl refl, goes))) (λ _. write_goes id q (ticket_of q g) after goes),
 ))))))
 
-claims_goes : (t : Trial) (more q id : ℕ) (heading : Heading) (bytes : List ℕ) (full accepted : Program) → (heading.owner ≢ 0 → Rattle.label_runs.specs.Labels.IsOfTrial t heading) → Labels t full → Labels Idle accepted → Labels t (claims_from more q id heading bytes full accepted)
+claims_goes : (t : Trial) (more q id : ℕ) (heading : Heading) (bytes : List ℕ) (full accepted : Program) → ((heading.owner ≡ 0) × (heading.parts ≡ [])) ⊎ IsOfTrial t heading → Labels t full → Labels Idle accepted → Labels t (claims_from more q id heading bytes full accepted)
 claims_goes t zero q id heading bytes full accepted may none_ goes = none_
 claims_goes t (suc more) q id heading bytes full accepted may none_ goes = (tt, λ found _. (
   t,
@@ -143,7 +143,7 @@ module _ (requests : ℕ) (asked : Asked) (id n socket : ℕ) (next : Program) (
   full_goes : (t : Trial) → Labels t (post id 3001 n (release (socket_id_slot socket) (λ _. next)))
   full_goes t = post_goes t id 3001 n (release (socket_id_slot socket) (λ _. next)) (release_goes Idle (socket_id_slot socket) (λ _. next) (λ _. goes))
 
-  looks_goes : (heading : Heading) (bytes : List ℕ) → (heading.owner ≢ 0 → Rattle.label_runs.specs.Labels.IsOfTrial (Sends asked.operation id n) heading) → Labels (Sends asked.operation id n) (Do (LookWord socket) (λ found. cond (eqb (vref_version found % 2) 0)
+  looks_goes : (heading : Heading) (bytes : List ℕ) → ((heading.owner ≡ 0) × (heading.parts ≡ [])) ⊎ IsOfTrial (Sends asked.operation id n) heading → Labels (Sends asked.operation id n) (Do (LookWord socket) (λ found. cond (eqb (vref_version found % 2) 0)
       (claims_from requests 0 socket heading bytes (post id 3001 n (release (socket_id_slot socket) (λ _. next))) (release (socket_id_slot socket) (λ _. next))) (post id 1009 n (release (socket_id_slot socket) (λ _. next)))))
   looks_goes heading bytes may = (tt, λ found _. (
     Sends asked.operation id n,
@@ -159,7 +159,7 @@ module _ (requests : ℕ) (asked : Asked) (id n socket : ℕ) (next : Program) (
   attempt_goes = address_goes (Tries id n) socket (Do (FindLink (socket_id_slot socket) (socket_id_version socket)) (λ k. Aside (StoreAt asked.operation (at_word (id_first id) (id_slot id) k n)) (λ _. Do (LookWord socket) (λ found. cond (eqb (vref_version found % 2) 0)
       (claims_from requests 0 socket (heading_for asked id n) (frame_of asked id n) (post id 3001 n (release (socket_id_slot socket) (λ _. next))) (release (socket_id_slot socket) (λ _. next))) (post id 1009 n (release (socket_id_slot socket) (λ _. next)))))))
       (λ _. post id 1009 n next)
-      (tt, λ k low. (Tries id n, inl refl, λ _ _. (Sends asked.operation id n, inr (id, n, k, refl, refl, low, few, refl), looks_goes (heading_for asked id n) (frame_of asked id n) (λ _. (refl, refl, refl, refl)))))
+      (tt, λ k low. (Tries id n, inl refl, λ _ _. (Sends asked.operation id n, inr (id, n, k, refl, refl, low, few, refl), looks_goes (heading_for asked id n) (frame_of asked id n) (inr (refl, refl, refl, refl)))))
       (λ _. post_goes (Tries id n) id 1009 n next goes)
 
 -- ## Calls
@@ -244,7 +244,7 @@ claim_from_goes (suc more) q o id bytes next goes = (tt, λ found _. (
   Idle,
   inl refl,
   way Idle (found % 2 == 0) (accept id q (found / 2) (heading_of o) bytes (release (socket_id_slot id) (λ _. Sent o next))) (claim_from more (q + 1) o id bytes next)
-      (λ _. accept_goes Idle id q (found / 2) (heading_of o) bytes (release (socket_id_slot id) (λ _. Sent o next)) (λ some_. absurd (some_ refl)) (release_goes Idle (socket_id_slot id) (λ _. Sent o next) (λ _. goes)))
+      (λ _. accept_goes Idle id q (found / 2) (heading_of o) bytes (release (socket_id_slot id) (λ _. Sent o next)) (inl (refl, refl)) (release_goes Idle (socket_id_slot id) (λ _. Sent o next) (λ _. goes)))
       (λ _. claim_from_goes more (q + 1) o id bytes next goes),
 ))
 

@@ -1,5 +1,5 @@
 -- Which attempts of calls a seat may still have accepted: each is made by one exchange, and its message is put into a request once at most.
-use Rattle.std.specs.Prelude.{ℕ, ◌≡◌, ◌≢◌, ◌+◌, ◌*◌, ◌<◌, ◌≤◌, ◌⊎◌, ◌==◌, Bool, true, false, if◌then◌else◌, List, Option, Some, None}
+use Rattle.std.specs.Prelude.{ℕ, ◌≡◌, ◌≢◌, ◌+◌, ◌*◌, ◌<◌, ◌≤◌, ◌⊎◌, ◌==◌, Bool, true, false, if◌then◌else◌, List, [], Option, Some, None}
 use Rattle.sock_io.specs.declared.link.Put.{Put}
 use Rattle.sock_io.specs.declared.link.Ready.{Ready}
 use Rattle.sock_model.specs.declared.chain.Heading.{Heading}
@@ -18,13 +18,13 @@ pub data Trial : Type 0 where
   Tries : ℕ → ℕ → Trial
   Sends : ℕ → ℕ → ℕ → Trial
 
--- the heading of a message is that of the attempt
+-- the heading of a message is that of the attempt; that of a `send` has no owner and no parts
 abbrev pub IsOfTrial : Trial → Heading → Type 0
 IsOfTrial (Sends o id n) heading = (heading.owner ≡ id) × (heading.attempt ≡ n) × (heading.operation ≡ o) × (heading.place ≡ 8 * o + n)
 IsOfTrial other heading = ⊥
 
 abbrev pub MayPut : Trial → Call → Type 0
-MayPut t (PutMessage q heading bytes) = heading.owner ≢ 0 → IsOfTrial t heading
+MayPut t (PutMessage q heading bytes) = ((heading.owner ≡ 0) × (heading.parts ≡ [])) ⊎ IsOfTrial t heading
 MayPut t other = Unit {0}
 
 -- behind it the claim has the attempt

@@ -31,7 +31,7 @@ use Rattle.sock_programs.specs.Heads.{Retry}
 use Rattle.sock_programs.specs.Programs.{Program, Do, Say, Sent, Rest, TakeMessage, TakeHome, PutHome, PutBytes, AskReady, Write, Aside, Round, Keep, Retries}
 use Rattle.sock_programs.specs.Cores.{Calls, Core, SeatState, word_of, found_at, words_after, word_after, homes_after, hand_after, lies_at, first_of, others_of, link_place, resolved, still_waiting, waiting_at, next_step, with_seat, stepped}
 use Rattle.sock_programs.specs.Ticks.{Moment, IsAnswered, OfPut, OfReady, FitsPut, fed, with_places, onto_first, taken, ticked}
-use Rattle.sock_runs.specs.GoesOn.{GoesOn}
+use Rattle.sock_runs.specs.May.{May}
 use Rattle.sock_runs.specs.Rows.{row, hand_at, took_message, link_away, link_home_again, took_bytes}
 use Rattle.sock_runs.specs.Sound.{Sound, first_step, views_after}
 use Rattle.sock_runs.proofs.Cases.{with_rights, right_rights, put_rights}
@@ -204,9 +204,9 @@ kept_fits ids t u (inr e) f = subst (TrialFits ids) (sym e) tt
 
 -- ## A tick
 
-module _ (p : Plan) (q : IdPlan) (narrow : q.slots ≤ 65536) (ids : ℕ → ℕ) (c : Core) (vs : List View) (ts : List Trial) (law : LabelLaw ids q c vs ts) (us : List IdView) (real_ids : SoundIds p q c us) where
+module _ (p : Plan) (q : IdPlan) (narrow : q.slots ≤ 65536) (ids : ℕ → ℕ) (c : Core) (vs : List View) (ts : List Trial) (law : LabelLaw ids p q c vs ts) (us : List IdView) (real_ids : SoundIds p q c us) where
   abbrev pub After : Core → List View → Type 0
-  After c' vs' = (ts' : List Trial) × LabelLaw ids q c' vs' ts'
+  After c' vs' = (ts' : List Trial) × LabelLaw ids p q c' vs' ts'
 
   abbrev Times : ℕ → ℕ → ℕ
   Times id n = times_of id n c vs ts
@@ -218,7 +218,7 @@ module _ (p : Plan) (q : IdPlan) (narrow : q.slots ≤ 65536) (ids : ℕ → ℕ
       pub kept : a.waiting ≡ c.calls.waiting
       pub words : (id n : ℕ) → WasMade q c.calls.words id n → WasMade q a.words id n
       pub fits : TrialFits ids u
-      pub view : ViewFits ids w
+      pub view : ViewFits ids p w
       pub new : ℕ → ℕ → ℕ
       pub fewer : (id n : ℕ) → of_trial id n u + of_view id n w ≤ of_trial id n t + of_view id n v + new id n
       pub fresh : (id n : ℕ) → 0 < new id n → (new id n ≤ 1) × (times_of id n c vs ts ≡ 0) × WasMade q a.words id n
@@ -244,7 +244,7 @@ module _ (p : Plan) (q : IdPlan) (narrow : q.slots ≤ 65536) (ids : ℕ → ℕ
         once = λ id n. dite (ℕ_discrete (g.new id n) 0) (λ z. let b = bound id n in let o = law.once id n in omega (arith, b, z, o))
             (λ ne. let b = bound id n in let f = g.fresh id n (omega (arith, ne)) in let one = f.0 in let none_ = f.1 in omega (arith, b, one, none_));
         made = λ id n some_. dite (ℕ_discrete (g.new id n) 0) (λ z. let b = bound id n in g.words id n (law.made id n (omega (arith, b, z, some_)))) (λ ne. (g.fresh id n (omega (arith, ne))).2);
-        views = λ j y e. ⊎_elim (λ b. subst (ViewFits ids) b.1 g.view) (λ b. law.views j y b.1) (at_set vs i j w y e);
+        views = λ j y e. ⊎_elim (λ b. subst (ViewFits ids p) b.1 g.view) (λ b. law.views j y b.1) (at_set vs i j w y e);
         trials = λ j y e. ⊎_elim (λ b. subst (TrialFits ids) b.1 (r.fits g.fits)) (λ b. law.trials j y b.1) (at_set ts i j r.trial y e);
         each = length-set ts i r.trial ∙ (law.each ∙ sym (length-set c.seats i next_seat));
         programs = λ j s' y es et. ⊎_elim
@@ -252,7 +252,7 @@ module _ (p : Plan) (q : IdPlan) (narrow : q.slots ≤ 65536) (ids : ℕ → ℕ
             (λ b. ⊎_elim (λ d. absurd (b.0 d.0)) (λ d. law.programs j s' y b.1 d.1) (at_set ts i j r.trial y et)) (at_set c.seats i j next_seat s' es);
       })
 
-    fits_view : ViewFits ids v
+    fits_view : ViewFits ids p v
     fits_view = law.views i v at_view
 
     fits_trial : TrialFits ids t
@@ -265,7 +265,7 @@ module _ (p : Plan) (q : IdPlan) (narrow : q.slots ≤ 65536) (ids : ℕ → ℕ
       kept = refl;
       words = λ id n m. m;
       fits = tt;
-      view = rights_fit v ids fits_view w rights e;
+      view = rights_fit v ids p fits_view w rights e;
       new = λ id n. 0;
       fewer = λ id n. (let a = rights_count v id n w rights e in omega (arith, a));
       fresh = λ id n z. absurd (omega (arith, z));
@@ -273,23 +273,25 @@ module _ (p : Plan) (q : IdPlan) (narrow : q.slots ≤ 65536) (ids : ℕ → ℕ
 
     -- a message of a call takes the attempt with it
     put_count : (id n : ℕ) (call : Call) → Rattle.label_runs.specs.Labels.MayPut t call → of_trial id n (put_behind t call) + put_of v id n call ≤ of_trial id n t
-    put_count id n (PutMessage r heading bytes) may = by (eqb heading.owner 0) refl
+    put_count id n (PutMessage r heading bytes) may = ⊎_elim
+        (λ none_. (let z : cond (eqb heading.owner 0) 0 (pair_of id n heading.owner heading.attempt) ≡ 0 = ap (λ b. cond b 0 (pair_of id n heading.owner heading.attempt)) (eq-eqb heading.owner 0 none_.0) in omega (arith, z)))
+        (λ h. by (eqb heading.owner 0) (as_trial t h)) may
       where
         as_trial : (t : Trial) → IsOfTrial t heading → pair_of id n heading.owner heading.attempt ≤ of_trial id n t
         as_trial (Sends o j m) h = let z : pair_of id n heading.owner heading.attempt ≡ pair_of id n j m = ap (λ x. pair_of id n x heading.attempt) h.0 ∙ ap (pair_of id n j) h.1 in omega (arith, z)
         as_trial Idle h = absurd h
         as_trial (Tries j m) h = absurd h
 
-        by : (b : Bool) → eqb heading.owner 0 ≡ b → 0 + cond b 0 (pair_of id n heading.owner heading.attempt) ≤ of_trial id n t
-        by true e = omega arith
-        by false e = let a = as_trial t (may (λ z. let y : true ≡ false = sym (eq-eqb heading.owner 0 z) ∙ e in cc)) in omega (arith, a)
+        by : (b : Bool) → pair_of id n heading.owner heading.attempt ≤ of_trial id n t → 0 + cond b 0 (pair_of id n heading.owner heading.attempt) ≤ of_trial id n t
+        by true a = omega arith
+        by false a = omega (arith, a)
     put_count id n _ may = omega arith
 
-    put_fits : (call : Call) → Rattle.label_runs.specs.Labels.MayPut t call → PutsFit v ids fits_view call
-    put_fits (PutMessage r heading bytes) may = λ some_. of_t t (may some_) fits_trial
+    put_fits : (call : Call) → Rattle.label_runs.specs.Labels.MayPut t call → PutsFit v ids p fits_view call
+    put_fits (PutMessage r heading bytes) may = ⊎_elim (λ none_. inl none_) (λ h. inr (of_t t h fits_trial)) may
       where
-        of_t : (t : Trial) → IsOfTrial t heading → TrialFits ids t → (ids heading.operation ≡ heading.owner) × (heading.place ≡ 8 * heading.operation + heading.attempt) × (heading.attempt ≤ 6)
-        of_t (Sends o j m) h f = (ap ids h.2 ∙ f.0 ∙ sym h.0, (let x = h.3 in let y = h.2 in let z = h.1 in omega (arith, x, y, z)), (let z = h.1 in let few = f.1 in omega (arith, z, few)))
+        of_t : (t : Trial) → IsOfTrial t heading → TrialFits ids t → (heading.owner ≢ 0) × (ids heading.operation ≡ heading.owner) × (heading.place ≡ 8 * heading.operation + heading.attempt) × (heading.attempt ≤ 6)
+        of_t (Sends o j m) h f = ((λ z. f.1 (sym h.0 ∙ z)), ap ids h.2 ∙ f.0 ∙ sym h.0, (let x = h.3 in let y = h.2 in let z = h.1 in omega (arith, x, y, z)), (let z = h.1 in let few = f.2 in omega (arith, z, few)))
         of_t Idle h f = absurd h
         of_t (Tries j m) h f = absurd h
     put_fits _ may = tt
@@ -299,15 +301,15 @@ module _ (p : Plan) (q : IdPlan) (narrow : q.slots ≤ 65536) (ids : ℕ → ℕ
     behind_fits _ = fits_trial
 
     -- a step on the sockets
-    steps : (call : Call) (next : ℕ → Program) → Labels t (Do call next) → FitsSock call (found_at c.words (word_of p call)) → After (stepped p i seat call next c) (set vs i (row p call (found_at c.words (word_of p call)) (hand_at p c.words c.homes call) v))
-    steps call next g fits = let found : ℕ = found_at c.words (word_of p call) in let u = g.1 (found_at c.words (word_of p call)) fits in
+    steps : (call : Call) (next : ℕ → Program) → May p v call → Labels t (Do call next) → FitsSock call (found_at c.words (word_of p call)) → After (stepped p i seat call next c) (set vs i (row p call (found_at c.words (word_of p call)) (hand_at p c.words c.homes call) v))
+    steps call next may g fits = let found : ℕ = found_at c.words (word_of p call) in let u = g.1 (found_at c.words (word_of p call)) fits in
         goes_on c.calls (next (found_at c.words (word_of p call))) (hand_after p call c.homes seat.hand) (words_after c.words (word_of p call) (word_after call (found_at c.words (word_of p call)))) (homes_after p call seat.hand c.homes) u.0
         (row p call (found_at c.words (word_of p call)) (hand_at p c.words c.homes call) v) record {
           labels = u.2;
           kept = refl;
           words = λ id n m. m;
           fits = kept_fits ids (put_behind t call) u.0 u.1 (behind_fits call);
-          view = row_fits v ids fits_view p (found_at c.words (word_of p call)) (hand_at p c.words c.homes call) call (put_fits call g.0);
+          view = row_fits v ids p fits_view (found_at c.words (word_of p call)) (hand_at p c.words c.homes call) call may (put_fits call g.0);
           new = λ id n. 0;
           fewer = λ id n. (let a = row_count v id n p (found_at c.words (word_of p call)) (hand_at p c.words c.homes call) call in let b = put_count id n call g.0 in let d = kept_count id n (put_behind t call) u.0 u.1 in omega (arith, a, b, d));
           fresh = λ id n z. absurd (omega (arith, z));
@@ -360,15 +362,15 @@ module _ (p : Plan) (q : IdPlan) (narrow : q.slots ≤ 65536) (ids : ℕ → ℕ
               );
             })
 
-      stored_ends : (o w : ℕ) (next : ℕ → Program) (found : ℕ) (answer : Option Taking) (is : found_in (StoreAt o w) c.calls answer ≡ some found) (may : MayId p q u (StoreAt o w)) → ((id n k : ℕ) → w ≡ at_word (id_first id) (id_slot id) k n → k < 65535 → n ≤ 6 → ids o ≡ id)
+      stored_ends : (o w : ℕ) (next : ℕ → Program) (found : ℕ) (answer : Option Taking) (is : found_in (StoreAt o w) c.calls answer ≡ some found) (may : MayId p q u (StoreAt o w)) → ((id n k : ℕ) → w ≡ at_word (id_first id) (id_slot id) k n → k < 65535 → n ≤ 6 → (ids o ≡ id) × (id ≢ 0))
           → (x : Trial) → Storing o w t x → Labels x (next found) → After (with_seat i (next found) seat.hand c.words c.homes (record c { calls = calls_after (StoreAt o w) found c.calls })) vs
       stored_ends o w next found answer is may own x (inl e) g = keeps (StoreAt o w) next found answer is may x (inr e) g
       stored_ends o w next found answer is may own x (inr s) g = still (StoreAt o w) next found answer is may x g
-          (subst (TrialFits ids) (sym s.7) (own s.0 s.1 s.2 s.4 s.5 s.6, s.6)) (λ id n. (let a : of_trial id n x ≡ pair_of id n s.0 s.1 = ap (of_trial id n) s.7 in let b : of_trial id n t ≡ pair_of id n s.0 s.1 = ap (of_trial id n) s.3 in omega (arith, a, b)))
+          (subst (TrialFits ids) (sym s.7) (let y = own s.0 s.1 s.2 s.4 s.5 s.6 in (y.0, y.1, s.6))) (λ id n. (let a : of_trial id n x ≡ pair_of id n s.0 s.1 = ap (of_trial id n) s.7 in let b : of_trial id n t ≡ pair_of id n s.0 s.1 = ap (of_trial id n) s.3 in omega (arith, a, b)))
 
       -- each step aside
       asides : (step : Step) (next : Found step → Program) (found : Found step) (answer : Option Taking) (is : found_in step c.calls answer ≡ some found) (may : MayId p q u step) → Labels t (Aside step next)
-          → ((o w : ℕ) (e : step ≡ StoreAt o w) → (id n k : ℕ) → w ≡ at_word (id_first id) (id_slot id) k n → k < 65535 → n ≤ 6 → ids o ≡ id)
+          → ((o w : ℕ) (e : step ≡ StoreAt o w) → (id n k : ℕ) → w ≡ at_word (id_first id) (id_slot id) k n → k < 65535 → n ≤ 6 → (ids o ≡ id) × (id ≢ 0))
           → After (with_seat i (next found) seat.hand c.words c.homes (record c { calls = calls_after step found c.calls })) vs
       asides (MakeId k range) next found answer is may g own = let x = g found tt in let f = finds (MakeId k range) next found answer is may in let m = makes_new p q c us real_ids i u at k range found is may f in
           makes (MakeId k range) next found answer is may (call_id k (parts found).first) 0 (subst (λ y. Labels y (next found)) x.1 x.2) m.0 (m.1 0)
@@ -410,7 +412,7 @@ module _ (p : Plan) (q : IdPlan) (narrow : q.slots ≤ 65536) (ids : ℕ → ℕ
 
     pub label_ticks : After (ticked p c m) (views_after p c vs m)
     label_ticks = tick_cases p c vs m sound answered After (ts, law)
-        (λ seat v call next at here is goes. let t = trial_of seat at in steps m.seat seat v t.0 at here t.1 call next (first_as seat at (Do call next) is) (fits_as p c seat.program call next is (fitting seat at)))
+        (λ seat v call next at here is goes. let t = trial_of seat at in steps m.seat seat v t.0 at here t.1 call next goes.0 (first_as seat at (Do call next) is) (fits_as p c seat.program call next is (fitting seat at)))
         (λ seat v r next heading bytes at here is goes. let t = trial_of seat at in let w = right_rights v v.rights (λ x. taken_right x heading bytes) in
         moves m.seat seat v t.0 at here t.1 (next heading bytes) seat.hand (set c.homes r none) (took_message heading bytes v) w.0 w.1 (first_as seat at (TakeMessage r next) is heading bytes))
         (λ seat v k next n at here is goes. let t = trial_of seat at in let w = right_rights v v.rights (λ x. record x { at_home = false }) in
@@ -424,6 +426,6 @@ module _ (p : Plan) (q : IdPlan) (narrow : q.slots ≤ 65536) (ids : ℕ → ℕ
         (λ seat v s next found at here is goes found_is. let t = trial_of seat at in let u = view_of seat at in
         asides m.seat seat v t.0 at here t.1 u.0 u.1 s next found (taken m.answer) found_is (may_as seat at (Aside s next) is).0 (first_as seat at (Aside s next) is) (stored_own seat at s next is))
       where
-        stored_own : (seat : SeatState) → get_elem? c.seats m.seat ≡ some seat → (s : Step) (next : Found s → Program) → first_step seat.program ≡ Aside s next → (o w : ℕ) → s ≡ StoreAt o w → (id n k : ℕ) → w ≡ at_word (id_first id) (id_slot id) k n → k < 65535 → n ≤ 6 → ids o ≡ id
+        stored_own : (seat : SeatState) → get_elem? c.seats m.seat ≡ some seat → (s : Step) (next : Found s → Program) → first_step seat.program ≡ Aside s next → (o w : ℕ) → s ≡ StoreAt o w → (id n k : ℕ) → w ≡ at_word (id_first id) (id_slot id) k n → k < 65535 → n ≤ 6 → (ids o ≡ id) × (id ≢ 0)
         stored_own seat at (StoreAt o' w') next is o w e = λ id n k x low few. own seat o w next at (is ∙ (let a : o' ≡ o = cc in let b : w' ≡ w = cc in λ z. Aside (StoreAt (a z) (b z)) next)) id n k x low few
         stored_own seat at _ next is o w e = absurd (cc)

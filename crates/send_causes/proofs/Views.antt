@@ -1,5 +1,5 @@
 -- What each step on the sockets does to the claims and accepted messages of its seat.
-use Rattle.std.proofs.Common.{◌≡◌, ◌≢◌, ℕ, ◌+◌, ◌-◌, ◌%◌, ◌≤◌, ◌==◌, Bool, true, false, cond, eqb, nat_lt, List, [], ◌∷◌, ◌++◌, refl, sym, ap, ◌∙◌, subst, arith}
+use Rattle.std.proofs.Common.{◌≡◌, ◌≢◌, ℕ, ◌+◌, ◌-◌, ◌%◌, ◌≤◌, ◌==◌, Bool, true, false, cond, eqb, nat_lt, inl, List, [], ◌∷◌, ◌++◌, refl, sym, ap, ◌∙◌, subst, arith}
 use Rattle.std.specs.List.{AllByRecursion}
 use Rattle.std.proofs.lemmas.Bool.{true≢false}
 use Rattle.sock_words.specs.declared.plain.Plan.{Plan}
@@ -18,10 +18,11 @@ use Rattle.sock_model.specs.Weights.{total, only}
 use Rattle.slot_laws.proofs.Sums.{total-append}
 use Rattle.sock_programs.specs.Calls.{Call, ClaimSlot, GiveBirth, AddRef, SubRef, SetOdd, Recycle, FreeSlot, StoreLink, LoadLink, ResetHead, WipeCode, StoreCode, StoreName, LoadName, StoreOpen, LoadOpen, TakeLink, FinishLink, PutLink, LookWord, FindLink, LoadCode, ClaimRequest, PutMessage, Unconnect, SwapHead, Connect, EmptyHead, ReadNext, TurnNext, FreeRequest, StorePlace, DropPlace}
 use Rattle.sock_runs.specs.Rows.{row, is_id, by_claim, exchanged, new_claim, filled_claim, ready_claim, looked_clean, emptied, read_next, turned_next, freed_next, placed_next, dropped_next}
+use Rattle.sock_runs.specs.May.{May}
 use Rattle.sock_runs.proofs.Cases.{with_rights}
 use Rattle.sock_runs.proofs.Leaves.{claim_way, right_way}
 use Rattle.sock_causes.proofs.Tests.{split}
-use Rattle.send_causes.specs.Counts.{of_heading, of_claim, of_entry, of_view, HeadFits, ViewFits}
+use Rattle.send_causes.specs.Counts.{of_heading, of_claim, of_entry, of_view, HeadFits, ClaimFits, EntryFits, ViewFits}
 
 -- a step on claims or accepted messages
 abbrev is_claiming : Call → Bool
@@ -127,43 +128,46 @@ module _ (v : View) where
 
   -- ## Headings
 
-  module _ (ids : ℕ → ℕ) (fits : ViewFits ids v) where
+  module _ (ids : ℕ → ℕ) (p : Plan) (fits : ViewFits ids p v) where
     abbrev Fits : View → Type 0
-    Fits u = ViewFits ids u
+    Fits u = ViewFits ids p u
 
     same_fits : (u : View) → Same u → Fits u
-    same_fits u s = (subst (AllByRecursion (λ (x : Claim). HeadFits ids x.heading)) (sym s.0) fits.0, subst (AllByRecursion (AllByRecursion (λ (e : Entry). HeadFits ids e.heading))) (sym s.1) fits.1)
+    same_fits u s = (subst (AllByRecursion (ClaimFits ids p)) (sym s.0) fits.0, subst (AllByRecursion (AllByRecursion (EntryFits ids p))) (sym s.1) fits.1)
 
-    all_more : (l : List Entry) (e : Entry) → AllByRecursion (λ (e : Entry). HeadFits ids e.heading) l → HeadFits ids e.heading → AllByRecursion (λ (e : Entry). HeadFits ids e.heading) (l ++ e ∷ [])
+    all_more : (l : List Entry) (e : Entry) → AllByRecursion (EntryFits ids p) l → EntryFits ids p e → AllByRecursion (EntryFits ids p) (l ++ e ∷ [])
     all_more [] e all one = (one, tt)
     all_more (x ∷ l) e all one = (all.0, all_more l e all.1 one)
 
-    more_fits : (ls : List (List Entry)) (e : Entry) → AllByRecursion (AllByRecursion (λ (e : Entry). HeadFits ids e.heading)) ls → HeadFits ids e.heading → AllByRecursion (AllByRecursion (λ (e : Entry). HeadFits ids e.heading)) (more ls e)
+    more_fits : (ls : List (List Entry)) (e : Entry) → AllByRecursion (AllByRecursion (EntryFits ids p)) ls → EntryFits ids p e → AllByRecursion (AllByRecursion (EntryFits ids p)) (more ls e)
     more_fits [] e all one = tt
     more_fits (l ∷ ls) e all one = (all_more l e all.0 one, all.1)
 
-    first_fits : (cs : List Claim) (x : Claim) (xs : List Claim) → v.claims ≡ cs → cs ≡ x ∷ xs → HeadFits ids x.heading
-    first_fits cs x xs e is = (subst (AllByRecursion (λ (x : Claim). HeadFits ids x.heading)) (e ∙ is) fits.0).0
+    first_fits : (cs : List Claim) (x : Claim) (xs : List Claim) → v.claims ≡ cs → cs ≡ x ∷ xs → ClaimFits ids p x
+    first_fits cs x xs e is = (subst (AllByRecursion (ClaimFits ids p)) (e ∙ is) fits.0).0
 
     ready_fits : (cs : List Claim) → v.claims ≡ cs → Fits (by_claim cs (λ c. with_claim v (ready_claim c)) v)
     ready_fits [] e = fits
     ready_fits (x ∷ cs) e = ((first_fits (x ∷ cs) x cs e refl, tt), fits.1)
 
-    swap_fits : (found : ℕ) (hand : Hand) (cs : List Claim) → v.claims ≡ cs → Fits (by_claim cs (exchanged found hand v) v)
-    swap_fits found hand [] e = fits
-    swap_fits found hand (x ∷ cs) e = let one = first_fits (x ∷ cs) x cs e refl in
-        split (nat_lt found IDLE) (queued v x found) (righted v x found hand.took hand.next) Fits (tt, more_fits v.lists (entry_of x found) fits.1 one) (tt, more_fits v.lists (entry_of x (found - IDLE)) fits.1 one)
+    swap_fits : (found : ℕ) (hand : Hand) (cs : List Claim) → v.claims ≡ cs → ((x : Claim) (xs : List Claim) → cs ≡ x ∷ xs → x.filled ≡ true) → Fits (by_claim cs (exchanged found hand v) v)
+    swap_fits found hand [] e filled = fits
+    swap_fits found hand (x ∷ cs) e filled = let one = first_fits (x ∷ cs) x cs e refl in let body = one.1 (filled x cs refl) in
+        split (nat_lt found IDLE) (queued v x found) (righted v x found hand.took hand.next) Fits (tt, more_fits v.lists (entry_of x found) fits.1 (one.0, body)) (tt, more_fits v.lists (entry_of x (found - IDLE)) fits.1 (one.0, body))
 
     abbrev pub PutsFit : Call → Type 0
     PutsFit (PutMessage q heading bytes) = HeadFits ids heading
     PutsFit other = Unit {0}
 
-    pub row_fits : (p : Plan) (found : ℕ) (hand : Hand) (call : Call) → PutsFit call → ViewFits ids (row p call found hand v)
-    row_fits p found hand (ClaimRequest i q) h = split (found % 2 == 0) _ v Fits (((λ some_. absurd (some_ refl)), tt), fits.1) fits
-    row_fits p found hand (PutMessage q heading bytes) h = claim_way Fits v.claims (λ c. with_claim v (filled_claim c heading bytes)) v fits (λ c. ((h, tt), fits.1))
-    row_fits p found hand (Unconnect q) h = ready_fits v.claims refl
-    row_fits p found hand (SwapHead i own) h = swap_fits found hand v.claims refl
-    row_fits p found hand call h = same_fits (row p call found hand v) (row_same p found hand call refl)
+    filled_of : (i own : ℕ) → May p v (SwapHead i own) → (x : Claim) (xs : List Claim) → v.claims ≡ x ∷ xs → x.filled ≡ true
+    filled_of i own may x xs e = let m = may.1 in let same : m.claim ∷ [] ≡ x ∷ xs = sym m.claims ∙ e in let one : m.claim ≡ x = cc in ap (λ (c : Claim). c.filled) (sym one) ∙ m.is_filled
 
-    pub rights_fit : (u : View) (rights : List Right) → u ≡ with_rights v rights → ViewFits ids u
-    rights_fit u rights e = subst (ViewFits ids) (sym e) fits
+    pub row_fits : (found : ℕ) (hand : Hand) (call : Call) → May p v call → PutsFit call → ViewFits ids p (row p call found hand v)
+    row_fits found hand (ClaimRequest i q) may h = split (found % 2 == 0) _ v Fits (((inl (refl, refl), λ e. absurd (true≢false (sym e))), tt), fits.1) fits
+    row_fits found hand (PutMessage q heading bytes) may h = claim_way Fits v.claims (λ c. with_claim v (filled_claim c heading bytes)) v fits (λ c. (((h, λ _. (may.2, may.3)), tt), fits.1))
+    row_fits found hand (Unconnect q) may h = ready_fits v.claims refl
+    row_fits found hand (SwapHead i own) may h = swap_fits found hand v.claims refl (filled_of i own may)
+    row_fits found hand call may h = same_fits (row p call found hand v) (row_same p found hand call refl)
+
+    pub rights_fit : (u : View) (rights : List Right) → u ≡ with_rights v rights → ViewFits ids p u
+    rights_fit u rights e = subst (ViewFits ids p) (sym e) fits

@@ -1,5 +1,5 @@
 -- How often an attempt of a call stands with seats, with retries, in claims and among accepted messages: once at most.
-use Rattle.std.specs.Prelude.{ℕ, ◌≡◌, ◌≢◌, ◌+◌, ◌*◌, ◌<◌, ◌≤◌, ◌⊎◌, ◌==◌, if◌then◌else◌, List, [], ◌∷◌, length, slice_index}
+use Rattle.std.specs.Prelude.{ℕ, ◌≡◌, ◌≢◌, ◌+◌, ◌*◌, ◌<◌, ◌≤◌, ◌⊎◌, ◌==◌, true, if◌then◌else◌, List, [], ◌∷◌, length, slice_index}
 use Rattle.std.specs.List.{AllByRecursion}
 use mathlib.Core.Option.{some}
 use lib.ListN.{get_elem?}
@@ -66,22 +66,31 @@ WasMade q ws id n = (id_slot id < q.slots) × ((id_first id < (word_of_id ws (id
 
 -- each operation's call has one id
 module _ (ids : ℕ → ℕ) where
-  -- the heading of a call's message has the id of its operation's call, and the number of its place word tells its attempt
+  -- the heading of a call's message has the id of its operation's call, and the number of its place word tells its attempt; that of a `send` has no owner
   abbrev pub HeadFits : Heading → Type 0
-  HeadFits h = h.owner ≢ 0 → (ids h.operation ≡ h.owner) × (h.place ≡ 8 * h.operation + h.attempt) × (h.attempt ≤ 6)
+  HeadFits h = ((h.owner ≡ 0) × (h.parts ≡ [])) ⊎ ((h.owner ≢ 0) × (ids h.operation ≡ h.owner) × (h.place ≡ 8 * h.operation + h.attempt) × (h.attempt ≤ 6))
 
-  abbrev pub ViewFits : View → Type 0
-  ViewFits v = AllByRecursion (λ (x : Claim). HeadFits x.heading) v.claims × AllByRecursion (AllByRecursion (λ (e : Entry). HeadFits e.heading)) v.lists
+  abbrev pub BodyFits : Plan → Heading → List ℕ → Type 0
+  BodyFits p h bytes = (h.place < 8 * p.operations) × (bytes ≢ [])
+
+  abbrev pub ClaimFits : Plan → Claim → Type 0
+  ClaimFits p x = HeadFits x.heading × (x.filled ≡ true → BodyFits p x.heading x.bytes)
+
+  abbrev pub EntryFits : Plan → Entry → Type 0
+  EntryFits p e = HeadFits e.heading × BodyFits p e.heading e.bytes
+
+  abbrev pub ViewFits : Plan → View → Type 0
+  ViewFits p v = AllByRecursion (ClaimFits p) v.claims × AllByRecursion (AllByRecursion (EntryFits p)) v.lists
 
   abbrev pub TrialFits : Trial → Type 0
-  TrialFits (Sends o id n) = (ids o ≡ id) × (n ≤ 6)
+  TrialFits (Sends o id n) = (ids o ≡ id) × (id ≢ 0) × (n ≤ 6)
   TrialFits other = Unit {0}
 
-  pub record LabelLaw (q : IdPlan) (c : Core) (vs : List View) (ts : List Trial) : Type 0 where
+  pub record LabelLaw (p : Plan) (q : IdPlan) (c : Core) (vs : List View) (ts : List Trial) : Type 0 where
     pub once : (id n : ℕ) → times_of id n c vs ts ≤ 1
     -- none stands anywhere before it is made
     pub made : (id n : ℕ) → 0 < times_of id n c vs ts → WasMade q c.calls.words id n
-    pub views : (j : ℕ) (v : View) → get_elem? vs j ≡ some v → ViewFits v
+    pub views : (j : ℕ) (v : View) → get_elem? vs j ≡ some v → ViewFits p v
     pub trials : (j : ℕ) (t : Trial) → get_elem? ts j ≡ some t → TrialFits t
     pub each : length ts ≡ length c.seats
     pub programs : (j : ℕ) (seat : SeatState) (t : Trial) → get_elem? c.seats j ≡ some seat → get_elem? ts j ≡ some t → Labels t seat.program
@@ -89,7 +98,7 @@ module _ (ids : ℕ → ℕ) where
   -- where a tick stores an at word, it is one of the operation's own call
   abbrev pub StoresOwn : Core → Moment → Type 0
   StoresOwn c m = (seat : SeatState) (o w : ℕ) (next : ℕ → Program) → get_elem? c.seats m.seat ≡ some seat → first_step seat.program ≡ Aside (StoreAt o w) next
-      → (id n k : ℕ) → w ≡ at_word (id_first id) (id_slot id) k n → k < 65535 → n ≤ 6 → ids o ≡ id
+      → (id n k : ℕ) → w ≡ at_word (id_first id) (id_slot id) k n → k < 65535 → n ≤ 6 → (ids o ≡ id) × (id ≢ 0)
 
   -- at each of these ticks the table of the ids is sound, what steps on sockets find is as it relies on, and at words are the operations' own
   abbrev pub AreLabelled : Plan → IdPlan → Core → List Moment → Type 0
