@@ -1,7 +1,7 @@
 -- What is told of the tasks but those on calls, in words of all tasks of a script.
-use Rattle.std.proofs.Common.{◌≡◌, ◌≢◌, ℕ, zero, suc, ◌+◌, ◌-◌, ◌%◌, ◌<◌, ◌≤◌, ◌⊎◌, ◌&&◌, Bool, true, false, cond, List, [], ◌∷◌, ◌++◌, length, map, flat_map, filter, replicate, inl, inr, ⊎_elim, refl, sym, ap, ◌∙◌, subst, arith}
+use Rattle.std.proofs.Common.{◌≡◌, ◌≢◌, ℕ, zero, suc, ◌-◌, ◌%◌, ◌⊎◌, Bool, true, false, cond, List, [], ◌∷◌, ◌++◌, length, map, filter, replicate, inl, inr, ⊎_elim, refl, sym, ap, ◌∙◌, subst}
 use Rattle.std.proofs.lemmas.Bool.{true≢false}
-use Rattle.std.specs.Prelude.{Option, Some, None, slice_get, Contains}
+use Rattle.std.specs.Prelude.{Option, Some, slice_get, Contains}
 use Rattle.std.specs.List.{AllByRecursion}
 use Rattle.sock_words.specs.Words.{vref_version}
 use Rattle.sock_words.specs.declared.plain.Plan.{Plan}
@@ -13,7 +13,7 @@ use Rattle.sock_programs.specs.declared.task.Op.TheVariants as ops
 use Rattle.sock_programs.specs.declared.task.Task.{Task}
 use Rattle.sock_programs.specs.Told.{AreTasks, IsTask, Became, Made, OpensNone, IsNoLater, AfterHold, HasLife, EachOpened, IsFail}
 use Rattle.sock_programs.specs.Told as plain
-use Rattle.sock_programs.specs.ToldCalls.{Accepted, Order, Fixed, StandsOn, Seeks, FoundNone, FoundFailed, MayFail, Why}
+use Rattle.sock_programs.specs.ToldCalls.{Order, Fixed, StandsOn, Seeks, FoundNone, FoundFailed, MayFail, Why}
 use Rattle.sock_causes.specs.Causes.{Asks}
 use Rattle.sock_causes.specs.Explains.{is_plain, plain_tasks}
 use Rattle.sock_causes.specs.Facts.{CallsFoundNone}
@@ -23,7 +23,6 @@ use Rattle.sock_causes.specs.Stories.{In}
 use Rattle.sock_causes.specs.TaskCauses as causes
 use Rattle.sock_causes.specs.TaskCauses.{ToldTasks}
 use Rattle.sock_causes.proofs.Members.{all_in, all_of, in_contains, contains_in}
-use Rattle.sock_causes.proofs.Messages.{filter_has}
 use Rattle.sock_causes.proofs.Tasks.{one_task}
 
 -- ## Tasks of seats and tasks of clients

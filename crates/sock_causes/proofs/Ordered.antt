@@ -1,7 +1,7 @@
 -- The orders of the links are those that the place words and the links at home show, where no two accepted messages have one place word.
 use Rattle.std.proofs.Common.{◌≡◌, ◌≢◌, ℕ, zero, suc, ◌+◌, ◌*◌, ◌<◌, Bool, List, [], ◌∷◌, ◌++◌, length, take, drop, map, flat_map, eqb, get_or, append-nil, inl, inr, ⊎_elim, refl, sym, ap, ◌∙◌, subst, arith}
 use Rattle.std.proofs.lemmas.List.{length-map}
-use Rattle.std.specs.Prelude.{Some, slice_get, slice_index}
+use Rattle.std.specs.Prelude.{slice_index}
 use mathlib.Core.Option.{Option, some, none, some-injective, some-ne-none}
 use lib.ListN.{get_elem?}
 use Rattle.brpc_model.specs.Order.{IsCut}
@@ -24,7 +24,7 @@ use Rattle.chain_laws.proofs.Settles.{shown_as}
 use Rattle.sock_programs.specs.Cores.{Core, link_place, lies_at}
 use Rattle.sock_programs.specs.Runs.{from_to}
 use Rattle.sock_programs.specs.Scripts.{taken_by, took_at_home}
-use Rattle.sock_programs.specs.ToldCalls.{Accepted, Order, bytes_of, label, IsTaken, AreOrders}
+use Rattle.sock_programs.specs.ToldCalls.{Accepted, bytes_of, label, IsTaken, AreOrders}
 use Rattle.sock_runs.specs.Sound.{state}
 use Rattle.sock_runs.proofs.HandTicks.{AtHome}
 use Rattle.sock_causes.proofs.Delivered.{accepted_of, accepted_at, accepted_there, orders_of, AreQuiet, places_all}

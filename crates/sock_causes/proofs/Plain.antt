@@ -1,6 +1,6 @@
 -- A whole run with calls tells why each of its tasks but those on calls has its outcome, in words of all tasks, and which links and operations were late.
-use Rattle.std.proofs.Common.{◌≡◌, ℕ, zero, suc, ◌+◌, ◌⊎◌, true, List, [], ◌∷◌, ◌++◌, length, map, flat_map, replicate, inl, inr, ⊎_elim, refl, sym, ap, ◌∙◌, subst}
-use Rattle.std.specs.Prelude.{Option, Some, slice_get, Contains}
+use Rattle.std.proofs.Common.{◌≡◌, ℕ, zero, suc, ◌⊎◌, true, List, [], ◌∷◌, ◌++◌, length, map, flat_map, replicate, inl, inr, ⊎_elim, refl, sym, ap, subst}
+use Rattle.std.specs.Prelude.{Some, slice_get, Contains}
 use mathlib.Core.Option.{some}
 use lib.ListN.{get_elem?}
 use Rattle.sock_words.specs.declared.plain.Plan.{Plan}
@@ -11,13 +11,13 @@ use Rattle.sock_programs.specs.declared.task.Task.{Task}
 use Rattle.sock_programs.specs.Cores.{Core}
 use Rattle.sock_programs.specs.Ticks.{Moment, quiet, ticked, broken_in}
 use Rattle.sock_programs.specs.Tasks.{opens, plan_of}
-use Rattle.sock_programs.specs.Scripts.{all_tasks, opened, ending, set_up, IsRunWithCalls}
+use Rattle.sock_programs.specs.Scripts.{all_tasks, opened, set_up, IsRunWithCalls}
 use Rattle.sock_programs.specs.Told.{AreTasks, IsTask}
 use Rattle.sock_programs.specs.ToldCalls.{Order, Fixed}
 use Rattle.sock_runs.proofs.LinkTicks.{RetriesGo}
 use Rattle.sock_runs.proofs.Whole.{Begins, AreFittingIn, IsOwed}
 use Rattle.sock_causes.specs.Explains.{is_plain, plain_tasks}
-use Rattle.sock_causes.specs.Facts.{shown_in, before_ending, broken_of_run, closed_before_ending, late_links_of_run, late_of_run, is_said_late, numbers_of, CallsFoundNone, ToldPlain}
+use Rattle.sock_causes.specs.Facts.{shown_in, broken_of_run, closed_before_ending, late_links_of_run, late_of_run, is_said_late, numbers_of, CallsFoundNone, ToldPlain}
 use Rattle.sock_causes.specs.Losses.{closed_at, lost_in}
 use Rattle.sock_causes.specs.PlainTasks.{told_tasks_of}
 use Rattle.sock_causes.specs.Stories.{In}

@@ -88,7 +88,7 @@ module _ (script : List Item) (are : AreTasks (plan_of script) (all_tasks script
   abbrev cs : List (List Task)
   cs = told_tasks_of script
 
-  seats : AreTasks (plan_of script) (told_tasks_of script)
+  pub seats : AreTasks (plan_of script) (told_tasks_of script)
   seats = are_seats (plan_of script) (all_tasks script) are (length (opens script))
 
   first : IsStoried (plan_of script) (told_tasks_of script) seats false (opened script) vs
@@ -113,7 +113,7 @@ module _ (script : List Item) (are : AreTasks (plan_of script) (all_tasks script
   played_told = seats_run (plan_of script) (told_tasks_of script) seats go (is.scheduled ++ is.later) (set_up script is.setup) views_set is.answered fitting.of_played over.0
 
   -- seat 0 begins the ending
-  closing_told : IsStoried (plan_of script) (told_tasks_of script) seats true (closing_of script turns core is) (views_played script turns core is vs)
+  pub closing_told : IsStoried (plan_of script) (told_tasks_of script) seats true (closing_of script turns core is) (views_played script turns core is vs)
   closing_told = let t = played_told.after in let c : Core = played script is.setup (is.scheduled ++ is.later) in
       let seat = at_there c.seats 0 (omega (arith, t.story.each, seats.some_)) in let v = at_there (views_played script turns core is vs) 0 (omega (arith, t.sound.each, t.story.each, seats.some_)) in record {
         events = t.events;
@@ -127,7 +127,7 @@ module _ (script : List Item) (are : AreTasks (plan_of script) (all_tasks script
   closed_told = seats_run (plan_of script) (told_tasks_of script) seats go (replicate is.last (quiet 0)) (closing_of script turns core is) (views_played script turns core is vs) (end_answered script are vs begins go turns core is fitting) fitting.of_closing closing_told
 
   -- and has made it
-  ended_told : IsStoried (plan_of script) (told_tasks_of script) seats true is.ended (views_closed script turns core is vs)
+  pub ended_told : IsStoried (plan_of script) (told_tasks_of script) seats true is.ended (views_closed script turns core is vs)
   ended_told = let t = closed_told.after in record {
     events = t.events;
     lost = t.lost;
@@ -136,7 +136,7 @@ module _ (script : List Item) (are : AreTasks (plan_of script) (all_tasks script
         (is_ending_story (plan_of script) (told_tasks_of script) seats (run (plan_of script) (closing_of script turns core is) (replicate is.last (quiet 0))) (views_closed script turns core is vs) t.events t.lost t.story);
   }
 
-  final_told : Goes (plan_of script) (told_tasks_of script) seats true is.final is.ended (views_closed script turns core is vs) ended_told
+  pub final_told : Goes (plan_of script) (told_tasks_of script) seats true is.final is.ended (views_closed script turns core is vs) ended_told
   final_told = seats_run (plan_of script) (told_tasks_of script) seats go is.final is.ended (views_closed script turns core is vs) is.answered_again fitting.of_final ended_told
 
   in_left : (k : ℕ) (xs ys : List ℕ) → In k xs → In k (xs ++ ys)
@@ -222,7 +222,7 @@ module _ (script : List Item) (are : AreTasks (plan_of script) (all_tasks script
   }
 
   module _ (owed : IsOwed script turns core is) where
-    story_end : Story (plan_of script) (told_tasks_of script) true core (views_ended script turns core is vs) final_told.after.events final_told.after.lost
+    pub story_end : Story (plan_of script) (told_tasks_of script) true core (views_ended script turns core is vs) final_told.after.events final_told.after.lost
     story_end = subst (λ c. Story (plan_of script) (told_tasks_of script) true c (views_ended script turns core is vs) final_told.after.events final_told.after.lost) (sym is.is_end) final_told.after.story
 
     -- what the links accepted, and how many messages each took whole

@@ -57,7 +57,7 @@ module _ (p : Plan) (clients : List (List Task)) (are : AreTasks p clients) (ove
   abbrev orders : ℕ → Order
   orders = orders_of p c vs sound.lawful
 
-  quiet : AreQuiet vs
+  pub quiet : AreQuiet vs
   quiet i v at = let seat = at_there c.seats i (omega (arith, at_within vs i v at, sound.each)) in
       let n : HasNothing v = subst (GoesOn p v) (settled i seat.0 seat.1) (sound.seats i seat.0 v seat.1 at).goes_on in n.quiet
 

@@ -1,0 +1,163 @@
+-- A whole run keeps the law of attempts.
+use Rattle.std.proofs.Common.{◌≡◌, ℕ, zero, suc, ◌+◌, ◌-◌, ◌<◌, ◌≤◌, ◌⊎◌, inl, inr, ⊎_elim, List, [], ◌∷◌, ◌++◌, length, map, replicate, refl, sym, ap, ◌∙◌, subst, arith}
+use Rattle.std.specs.List.{AllByRecursion}
+use Rattle.std.proofs.lemmas.List.{length-map}
+use mathlib.Core.Option.{some, some-injective, some-ne-none}
+use lib.ListN.{get_elem?}
+use Rattle.atomic_table.proofs.Lists.{set_again}
+use Rattle.sock_words.specs.declared.plain.Plan.{Plan}
+use Rattle.sock_model.specs.declared.chain.Claim.{Claim}
+use Rattle.sock_model.specs.declared.chain.Entry.{Entry}
+use Rattle.sock_model.specs.declared.view.View.{View}
+use Rattle.sock_model.specs.Weights.{total}
+use Rattle.brpc_model.specs.Items.{Item}
+use Rattle.brpc_model.specs.Operations.{Turn, clients}
+use Rattle.corr_core.specs.declared.marks.Plan.{Plan as IdPlan}
+use Rattle.id_runs.specs.Held.{IdView}
+use Rattle.id_runs.specs.Goes.{SoundIds}
+use Rattle.sock_programs.specs.declared.task.Sizes.{Sizes}
+use Rattle.sock_programs.specs.declared.task.Task.{Task}
+use Rattle.sock_programs.specs.Programs.{Program, Do, Say, Sent, Rest, TakeMessage, TakeHome, PutHome, PutBytes, AskReady, Write, Aside, Round, Keep, Retries}
+use Rattle.sock_programs.specs.Heads.{Retry}
+use Rattle.sock_programs.specs.Clients.{client_from, ending_of}
+use Rattle.sock_programs.specs.Readers.{reader}
+use Rattle.sock_programs.specs.Cores.{Core, SeatState, resolved, next_step, with_seat}
+use Rattle.sock_programs.specs.Ticks.{Moment, AreAnswered, quiet, ticked, run}
+use Rattle.sock_programs.specs.Tasks.{opens, calls, plan_of, id_plan_of}
+use Rattle.sock_programs.specs.Scripts.{sizes_of, programs, readers_from, all_programs, all_tasks, beginning, opened, set_up, ending, is_ending, played, IsRunWithCalls}
+use Rattle.sock_programs.specs.Told.{AreTasks}
+use Rattle.sock_runs.specs.Sound.{Sound, AreFitting, views_after, views_along}
+use Rattle.sock_runs.proofs.LinkTicks.{RetriesGo}
+use Rattle.sock_runs.proofs.Ticks.{sound_ticks}
+use Rattle.sock_runs.proofs.Opening.{mapped, appended}
+use Rattle.sock_runs.proofs.Along.{seat_rests}
+use Rattle.sock_runs.proofs.Whole.{Begins, AreFittingIn, closing_of, rested_of, views_played, views_closed, views_ended, set_up_answered, end_answered, set_up_sound, closing_sound, closed_sound, rested_ahead, rested_idle}
+use Rattle.label_runs.specs.Labels.{Trial, Idle, Labels}
+use Rattle.label_runs.proofs.Programs.{client_goes, ending_goes, reader_goes}
+use Rattle.sock_causes.proofs.Ticks.{elem_there}
+use Rattle.send_causes.specs.Counts.{of_trial, of_retry, of_view, times_of, WasMade, ClaimFits, EntryFits, ViewFits, LabelLaw, AreLabelled}
+use Rattle.send_causes.proofs.Ticks.{moves, label_ticks}
+
+module _ (p : Plan) (q : IdPlan) (narrow : q.slots ≤ 65536) (ids : ℕ → ℕ) where
+  abbrev pub Lawful_ : Core → List View → Type 0
+  Lawful_ c vs = (ts : List Trial) × LabelLaw ids p q c vs ts
+
+  -- so do ticks one after another
+  pub run_labels : RetriesGo p → (ms : List Moment) (c : Core) (vs : List View) → Sound p c vs → AreAnswered p c ms → AreFitting p c ms → AreLabelled ids p q c ms → Lawful_ c vs → Lawful_ (run p c ms) (views_along p c vs ms)
+  run_labels go [] c vs sound answered fitting are law = law
+  run_labels go (m ∷ ms) c vs sound answered fitting are law = run_labels go ms (ticked p c m) (views_after p c vs m) (sound_ticks p go c vs m sound answered.0 fitting.0) answered.1 fitting.1 are.3
+      (label_ticks p q narrow ids c vs law.0 law.1 are.0.0 are.0.1 sound m answered.0 are.1 are.2)
+
+  pub behind_ids : (ms : List Moment) (c : Core) → AreLabelled ids p q c ms → (us : List IdView) × SoundIds p q (run p c ms) us
+  behind_ids [] c are = are
+  behind_ids (m ∷ ms) c are = behind_ids ms (ticked p c m) are.3
+
+  -- ## How a run begins
+
+  idle_stays : (x : Program) → Labels Idle x → Labels Idle (next_step (resolved [] x))
+  idle_stays (Say o outcome next) g = idle_stays next g
+  idle_stays (Sent o next) g = idle_stays next g
+  idle_stays (Keep r next) g = absurd (let e = g.0 in cc)
+  idle_stays (Retries n after) g = idle_stays after g
+  idle_stays (Do call next) g = g
+  idle_stays Rest g = g
+  idle_stays (TakeMessage r next) g = g
+  idle_stays (TakeHome k next) g = g
+  idle_stays (PutHome k n after) g = g
+  idle_stays (PutBytes k asked bytes next) g = g
+  idle_stays (AskReady k next) g = g
+  idle_stays (Write w after) g = g
+  idle_stays (Aside step next) g = g
+  idle_stays (Round head next) g = g
+
+  total_none : {A : Type 0} (g : A → ℕ) (l : List A) → ((i : ℕ) (a : A) → get_elem? l i ≡ some a → g a ≡ 0) → total g l ≡ 0
+  total_none g [] all = refl
+  total_none g (x ∷ l) all = omega (arith, all 0 x refl, total_none g l (λ i a e. all (suc i) a e))
+
+  none_waits : (id n m : ℕ) → total (total (of_retry id n)) (replicate m []) ≡ 0
+  none_waits id n zero = refl
+  none_waits id n (suc m) = omega (arith, none_waits id n m)
+
+  all_idle : (xs : List Program) (i : ℕ) (t : Trial) → get_elem? (map (λ (x : Program). Idle) xs) i ≡ some t → t ≡ Idle
+  all_idle xs i t e = sym (mapped (λ (x : Program). Idle) xs i t e).2
+
+  -- a view without claims, and with one list, so far empty
+  abbrev pub IsBare : View → Type 0
+  IsBare v = (v.claims ≡ []) × (v.lists ≡ [] ∷ [])
+
+  bare_count : (id n : ℕ) (v : View) → IsBare v → of_view id n v ≡ 0
+  bare_count id n v bare = let a : total (Rattle.send_causes.specs.Counts.of_claim id n) v.claims ≡ 0 = ap (total (Rattle.send_causes.specs.Counts.of_claim id n)) bare.0 in
+      let b : total (total (Rattle.send_causes.specs.Counts.of_entry id n)) v.lists ≡ 0 = ap (total (total (Rattle.send_causes.specs.Counts.of_entry id n))) bare.1 in omega (arith, a, b)
+
+  begins_labels : (xs : List Program) → ((i : ℕ) (x : Program) → get_elem? xs i ≡ some x → Labels Idle x) → (vs : List View) → ((i : ℕ) (v : View) → get_elem? vs i ≡ some v → IsBare v) → Lawful_ (beginning p q xs) vs
+  begins_labels xs goes vs bare = (map (λ (x : Program). Idle) xs, record {
+    once = λ id n. let z = none_at id n in omega (arith, z);
+    made = λ id n some_. absurd (let z = none_at id n in omega (arith, z, some_));
+    views = λ j v e. let b = bare j v e in (subst (AllByRecursion (ClaimFits ids p)) (sym b.0) tt, subst (AllByRecursion (AllByRecursion (EntryFits ids p))) (sym b.1) (tt, tt));
+    trials = λ j t e. subst (Rattle.send_causes.specs.Counts.TrialFits ids) (sym (all_idle xs j t e)) tt;
+    each = length-map xs (λ (x : Program). Idle) ∙ sym (length-map xs (λ (x : Program). record { program = next_step (resolved [] x); hand = [] }));
+    programs = λ j seat t es et. let x = mapped (λ (x : Program). record { program = next_step (resolved [] x); hand = [] }) xs j seat es in
+        subst (λ (s : SeatState). Labels t s.program) x.2 (subst (λ y. Labels y (next_step (resolved [] x.0))) (sym (all_idle xs j t et)) (idle_stays x.0 (goes j x.0 x.1)));
+  })
+    where
+      none_at : (id n : ℕ) → times_of id n (beginning p q xs) vs (map (λ (x : Program). Idle) xs) ≡ 0
+      none_at id n = let a = total_none (of_trial id n) (map (λ (x : Program). Idle) xs) (λ i t e. ap (of_trial id n) (all_idle xs i t e)) in let b = none_waits id n q.seats in
+          let d = total_none (of_view id n) vs (λ i v e. bare_count id n v (bare i v e)) in omega (arith, a, b, d)
+
+clients_go : (sizes : Sizes) (cs : List (List Task)) (i : ℕ) (x : Program) → get_elem? (programs sizes cs) i ≡ some x → Labels Idle x
+clients_go sizes cs i x e = let t = mapped (client_from sizes []) cs i x e in subst (Labels Idle) t.2 (client_goes sizes [] t.0)
+
+readers_go : (calls os : List ℕ) (k i : ℕ) (x : Program) → get_elem? (readers_from calls k os) i ≡ some x → Labels Idle x
+readers_go calls [] k i x at = absurd (some-ne-none x (sym at))
+readers_go calls (o ∷ os) k zero x at = subst (Labels Idle) (some-injective (reader calls k o) x at) (reader_goes calls k o)
+readers_go calls (o ∷ os) k (suc i) x at = readers_go calls os (k + 1) i x at
+
+others_go : (n : ℕ) (calls os : List ℕ) (k i : ℕ) (x : Program) → get_elem? (replicate n Rest ++ readers_from calls k os) i ≡ some x → Labels Idle x
+others_go zero calls os k i x at = readers_go calls os k i x at
+others_go (suc n) calls os k zero x at = subst (Labels Idle) (some-injective Rest x at) tt
+others_go (suc n) calls os k (suc i) x at = others_go n calls os k i x at
+
+pub programs_go : (sizes : Sizes) (cs : List (List Task)) (calls os : List ℕ) (i : ℕ) (x : Program) → get_elem? (all_programs (programs sizes cs) (readers_from calls 0 os)) i ≡ some x → Labels Idle x
+programs_go sizes cs calls os i x e = ⊎_elim (λ a. clients_go sizes cs i x a) (λ b. others_go (32 - length (programs sizes cs)) calls os 0 b.0 x b.1) (appended (programs sizes cs) (replicate (32 - length (programs sizes cs)) Rest ++ readers_from calls 0 os) i x e)
+
+-- at words are the operations' own in all of a run
+pub record AreLabelledIn (ids : ℕ → ℕ) (script : List Item) (turns : List Turn) (core : Core) (is : IsRunWithCalls script turns core) : Type 0 where
+  pub of_setup : AreLabelled ids (plan_of script) (id_plan_of script) (opened script) (replicate is.setup (quiet 0))
+  pub of_played : AreLabelled ids (plan_of script) (id_plan_of script) (set_up script is.setup) (is.scheduled ++ is.later)
+  pub of_closing : AreLabelled ids (plan_of script) (id_plan_of script) (closing_of script turns core is) (replicate is.last (quiet 0))
+  pub of_final : AreLabelled ids (plan_of script) (id_plan_of script) is.ended is.final
+
+module _ (script : List Item) (are : AreTasks (plan_of script) (all_tasks script)) (vs : List View) (begins : Begins script vs) (go : RetriesGo (plan_of script)) (turns : List Turn) (core : Core) (is : IsRunWithCalls script turns core)
+    (fitting : AreFittingIn script turns core is) (narrow : (id_plan_of script).slots ≤ 65536) (bare : (i : ℕ) (v : View) → get_elem? vs i ≡ some v → (v.claims ≡ []) × (v.lists ≡ [] ∷ [])) (ids : ℕ → ℕ) (labelled : AreLabelledIn ids script turns core is) where
+  abbrev Law : Core → List View → Type 0
+  Law c ws = (ts : List Trial) × LabelLaw ids (plan_of script) (id_plan_of script) c ws ts
+
+  first : Law (opened script) vs
+  first = begins_labels (plan_of script) (id_plan_of script) narrow ids (all_programs (programs (sizes_of (plan_of script) (id_plan_of script)) (all_tasks script)) (readers_from (calls script) 0 (opens script)))
+      (programs_go (sizes_of (plan_of script) (id_plan_of script)) (all_tasks script) (calls script) (opens script)) vs bare
+
+  set_up_law : Law (set_up script is.setup) (views_along (plan_of script) (opened script) vs (replicate is.setup (quiet 0)))
+  set_up_law = run_labels (plan_of script) (id_plan_of script) narrow ids go (replicate is.setup (quiet 0)) (opened script) vs begins.sound (set_up_answered script are vs begins go turns core is fitting) fitting.of_setup labelled.of_setup first
+
+  played_law : Law (rested_of script turns core is) (views_played script turns core is vs)
+  played_law = run_labels (plan_of script) (id_plan_of script) narrow ids go (is.scheduled ++ is.later) (set_up script is.setup) (views_along (plan_of script) (opened script) vs (replicate is.setup (quiet 0)))
+      (set_up_sound script are vs begins go turns core is fitting) is.answered fitting.of_played labelled.of_played set_up_law
+
+  -- seat 0 begins the ending
+  closing_law : Law (closing_of script turns core is) (views_played script turns core is vs)
+  closing_law = by_view (rested_of script turns core is) (views_played script turns core is vs) played_law (behind_ids (plan_of script) (id_plan_of script) narrow ids (is.scheduled ++ is.later) (set_up script is.setup) labelled.of_played)
+      (closing_sound script are vs begins go turns core is fitting)
+    where
+      at_zero : (c : Core) (ws : List View) (law : Law c ws) (us : (us : List IdView) × SoundIds (plan_of script) (id_plan_of script) c us) (seat : SeatState) (v : View) → get_elem? c.seats 0 ≡ some seat → get_elem? ws 0 ≡ some v → Law (ending script c) ws
+      at_zero c ws law us seat v at here = let t = elem_there c.seats law.0 0 seat law.1.each at in
+          subst (λ xs. Law (ending script c) xs) (set_again ws 0 v here) (moves (plan_of script) (id_plan_of script) narrow ids c ws law.0 law.1 us.0 us.1 0 seat v t.0 at here t.1 (ending_of (opens script)) [] c.homes v v.rights refl (ending_goes (opens script)))
+
+      by_view : (c : Core) (ws : List View) → Law c ws → ((us : List IdView) × SoundIds (plan_of script) (id_plan_of script) c us) → Sound (plan_of script) (ending script c) ws → Law (ending script c) ws
+      by_view c ws law us sound = by_seat (get_elem? c.seats 0) refl
+        where
+          by_seat : (x : mathlib.Core.Option.Option SeatState) → get_elem? c.seats 0 ≡ x → Law (ending script c) ws
+          by_seat mathlib.Core.Option.none e = absurd (cc)
+          by_seat (some seat) e = at_zero c ws law us seat _ e _
+
+  end_law : Law core (views_ended script turns core is vs)
+  end_law = closing_law
