@@ -1,3 +1,5 @@
 pub mod Words
 pub mod Views
 pub mod Ticks
+pub mod Runs
+pub mod Apart

@@ -2,6 +2,7 @@
 use Rattle.std.proofs.Common.{◌≡◌, ℕ, zero, suc, ◌+◌, ◌-◌, ◌<◌, ◌≤◌, ◌⊎◌, inl, inr, ⊎_elim, List, [], ◌∷◌, ◌++◌, length, map, replicate, refl, sym, ap, ◌∙◌, subst, arith}
 use Rattle.std.specs.List.{AllByRecursion}
 use Rattle.std.proofs.lemmas.List.{length-map}
+use Rattle.std.proofs.Common.{length-set}
 use mathlib.Core.Option.{some, some-injective, some-ne-none}
 use lib.ListN.{get_elem?}
 use Rattle.atomic_table.proofs.Lists.{set_again}
@@ -34,8 +35,11 @@ use Rattle.sock_runs.proofs.Along.{seat_rests}
 use Rattle.sock_runs.proofs.Whole.{Begins, AreFittingIn, closing_of, rested_of, views_played, views_closed, views_ended, set_up_answered, end_answered, set_up_sound, closing_sound, closed_sound, rested_ahead, rested_idle}
 use Rattle.label_runs.specs.Labels.{Trial, Idle, Labels}
 use Rattle.label_runs.proofs.Programs.{client_goes, ending_goes, reader_goes}
+use Rattle.sock_causes.specs.PlainTasks.{told_tasks_of}
+use Rattle.sock_causes.proofs.Final.{at_there}
+use Rattle.sock_causes.proofs.Scripts.{seats, closing_told}
 use Rattle.sock_causes.proofs.Ticks.{elem_there}
-use Rattle.send_causes.specs.Counts.{of_trial, of_retry, of_view, times_of, WasMade, ClaimFits, EntryFits, ViewFits, LabelLaw, AreLabelled}
+use Rattle.send_causes.specs.Counts.{of_trial, of_retry, of_claim, of_entry, of_view, times_of, ClaimFits, EntryFits, TrialFits, LabelLaw, AreLabelled}
 use Rattle.send_causes.proofs.Ticks.{moves, label_ticks}
 
 module _ (p : Plan) (q : IdPlan) (narrow : q.slots ≤ 65536) (ids : ℕ → ℕ) where
@@ -86,15 +90,15 @@ module _ (p : Plan) (q : IdPlan) (narrow : q.slots ≤ 65536) (ids : ℕ → ℕ
   IsBare v = (v.claims ≡ []) × (v.lists ≡ [] ∷ [])
 
   bare_count : (id n : ℕ) (v : View) → IsBare v → of_view id n v ≡ 0
-  bare_count id n v bare = let a : total (Rattle.send_causes.specs.Counts.of_claim id n) v.claims ≡ 0 = ap (total (Rattle.send_causes.specs.Counts.of_claim id n)) bare.0 in
-      let b : total (total (Rattle.send_causes.specs.Counts.of_entry id n)) v.lists ≡ 0 = ap (total (total (Rattle.send_causes.specs.Counts.of_entry id n))) bare.1 in omega (arith, a, b)
+  bare_count id n v bare = let a : total (of_claim id n) v.claims ≡ 0 = ap (total (of_claim id n)) bare.0 in
+      let b : total (total (of_entry id n)) v.lists ≡ 0 = ap (total (total (of_entry id n))) bare.1 in omega (arith, a, b)
 
   begins_labels : (xs : List Program) → ((i : ℕ) (x : Program) → get_elem? xs i ≡ some x → Labels Idle x) → (vs : List View) → ((i : ℕ) (v : View) → get_elem? vs i ≡ some v → IsBare v) → Lawful_ (beginning p q xs) vs
   begins_labels xs goes vs bare = (map (λ (x : Program). Idle) xs, record {
     once = λ id n. let z = none_at id n in omega (arith, z);
     made = λ id n some_. absurd (let z = none_at id n in omega (arith, z, some_));
     views = λ j v e. let b = bare j v e in (subst (AllByRecursion (ClaimFits ids p)) (sym b.0) tt, subst (AllByRecursion (AllByRecursion (EntryFits ids p))) (sym b.1) (tt, tt));
-    trials = λ j t e. subst (Rattle.send_causes.specs.Counts.TrialFits ids) (sym (all_idle xs j t e)) tt;
+    trials = λ j t e. subst (TrialFits ids) (sym (all_idle xs j t e)) tt;
     each = length-map xs (λ (x : Program). Idle) ∙ sym (length-map xs (λ (x : Program). record { program = next_step (resolved [] x); hand = [] }));
     programs = λ j seat t es et. let x = mapped (λ (x : Program). record { program = next_step (resolved [] x); hand = [] }) xs j seat es in
         subst (λ (s : SeatState). Labels t s.program) x.2 (subst (λ y. Labels y (next_step (resolved [] x.0))) (sym (all_idle xs j t et)) (idle_stays x.0 (goes j x.0 x.1)));
@@ -143,21 +147,33 @@ module _ (script : List Item) (are : AreTasks (plan_of script) (all_tasks script
   played_law = run_labels (plan_of script) (id_plan_of script) narrow ids go (is.scheduled ++ is.later) (set_up script is.setup) (views_along (plan_of script) (opened script) vs (replicate is.setup (quiet 0)))
       (set_up_sound script are vs begins go turns core is fitting) is.answered fitting.of_played labelled.of_played set_up_law
 
+  fresh : (i : ℕ) (v : View) → get_elem? vs i ≡ some v → v.lists ≡ [] ∷ []
+  fresh i v e = (bare i v e).1
+
   -- seat 0 begins the ending
   closing_law : Law (closing_of script turns core is) (views_played script turns core is vs)
-  closing_law = by_view (rested_of script turns core is) (views_played script turns core is vs) played_law (behind_ids (plan_of script) (id_plan_of script) narrow ids (is.scheduled ++ is.later) (set_up script is.setup) labelled.of_played)
-      (closing_sound script are vs begins go turns core is fitting)
-    where
-      at_zero : (c : Core) (ws : List View) (law : Law c ws) (us : (us : List IdView) × SoundIds (plan_of script) (id_plan_of script) c us) (seat : SeatState) (v : View) → get_elem? c.seats 0 ≡ some seat → get_elem? ws 0 ≡ some v → Law (ending script c) ws
-      at_zero c ws law us seat v at here = let t = elem_there c.seats law.0 0 seat law.1.each at in
-          subst (λ xs. Law (ending script c) xs) (set_again ws 0 v here) (moves (plan_of script) (id_plan_of script) narrow ids c ws law.0 law.1 us.0 us.1 0 seat v t.0 at here t.1 (ending_of (opens script)) [] c.homes v v.rights refl (ending_goes (opens script)))
+  closing_law = let c : Core = rested_of script turns core is in let ws : List View = views_played script turns core is vs in
+      let long : length (closing_of script turns core is).seats ≡ length (told_tasks_of script) = (closing_told script are vs begins fresh go turns core is fitting).story.each in
+      let some_ = (seats script are vs begins fresh go turns core is fitting).some_ in
+      let same : length (closing_of script turns core is).seats ≡ length (rested_of script turns core is).seats = length-set (rested_of script turns core is).seats 0 _ in
+      let beside = (closing_sound script are vs begins go turns core is fitting).each in
+      let seat = at_there (rested_of script turns core is).seats 0 (omega (arith, long, some_, same)) in let v = at_there (views_played script turns core is vs) 0 (omega (arith, beside, long, some_)) in
+      let law = played_law in let us = behind_ids (plan_of script) (id_plan_of script) narrow ids (is.scheduled ++ is.later) (set_up script is.setup) labelled.of_played in
+      let t = elem_there (rested_of script turns core is).seats law.0 0 seat.0 law.1.each seat.1 in
+      subst (λ xs. Law (closing_of script turns core is) xs) (set_again (views_played script turns core is vs) 0 v.0 v.1)
+      (moves (plan_of script) (id_plan_of script) narrow ids (rested_of script turns core is) (views_played script turns core is vs) law.0 law.1 us.0 us.1 0 seat.0 v.0 t.0 seat.1 v.1 t.1 (ending_of (opens script)) [] (rested_of script turns core is).homes v.0 v.0.rights refl
+      (ending_goes (opens script)))
 
-      by_view : (c : Core) (ws : List View) → Law c ws → ((us : List IdView) × SoundIds (plan_of script) (id_plan_of script) c us) → Sound (plan_of script) (ending script c) ws → Law (ending script c) ws
-      by_view c ws law us sound = by_seat (get_elem? c.seats 0) refl
-        where
-          by_seat : (x : mathlib.Core.Option.Option SeatState) → get_elem? c.seats 0 ≡ x → Law (ending script c) ws
-          by_seat mathlib.Core.Option.none e = absurd (cc)
-          by_seat (some seat) e = at_zero c ws law us seat _ e _
+  on_law : (c : Core) (ws : List View) → Law c ws → Law (is_ending c) ws
+  on_law c ws law = (law.0, record { once = law.1.once; made = law.1.made; views = law.1.views; trials = law.1.trials; each = law.1.each; programs = law.1.programs })
 
-  end_law : Law core (views_ended script turns core is vs)
-  end_law = closing_law
+  closed_law : Law is.ended (views_closed script turns core is vs)
+  closed_law = subst (λ c. Law c (views_closed script turns core is vs)) (sym is.is_ended)
+      (on_law (run (plan_of script) (closing_of script turns core is) (replicate is.last (quiet 0))) (views_closed script turns core is vs)
+      (run_labels (plan_of script) (id_plan_of script) narrow ids go (replicate is.last (quiet 0)) (closing_of script turns core is) (views_played script turns core is vs) (closing_sound script are vs begins go turns core is fitting)
+      (end_answered script are vs begins go turns core is fitting) fitting.of_closing labelled.of_closing closing_law))
+
+  -- at the end each attempt stands in one place at most
+  pub end_law : Law core (views_ended script turns core is vs)
+  end_law = subst (λ c. Law c (views_ended script turns core is vs)) (sym is.is_end)
+      (run_labels (plan_of script) (id_plan_of script) narrow ids go is.final is.ended (views_closed script turns core is vs) (closed_sound script are vs begins go turns core is fitting) is.answered_again fitting.of_final labelled.of_final closed_law)

@@ -259,7 +259,7 @@ module _ (p : Plan) (q : IdPlan) (narrow : q.slots ≤ 65536) (ids : ℕ → ℕ
     fits_trial = law.trials i t at_trial
 
     -- a move of the seat that is no step on words
-    moves : (x : Program) (hand : List Home) (hs : List (Option Home)) (w : View) (rights : List Right) → w ≡ with_rights v rights → Labels Idle x → After (with_seat i x hand c.words hs (record c { calls = c.calls })) (set vs i w)
+    pub moves : (x : Program) (hand : List Home) (hs : List (Option Home)) (w : View) (rights : List Right) → w ≡ with_rights v rights → Labels Idle x → After (with_seat i x hand c.words hs (record c { calls = c.calls })) (set vs i w)
     moves x hand hs w rights e g = goes_on c.calls x hand c.words hs Idle w record {
       labels = g;
       kept = refl;
