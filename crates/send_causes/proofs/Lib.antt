@@ -3,3 +3,4 @@ pub mod Views
 pub mod Ticks
 pub mod Runs
 pub mod Apart
+pub mod Whole
