@@ -1,5 +1,5 @@
 -- No two accepted messages have one place word, so the orders of the links are those that words and links show.
-use Rattle.std.proofs.Common.{◌≡◌, ◌≢◌, ℕ, zero, suc, ◌+◌, ◌*◌, ◌<◌, ◌≤◌, ◌⊎◌, inl, inr, ⊎_elim, Bool, true, false, cond, eqb, eq-eqb, ne_eqb, List, [], ◌∷◌, ◌++◌, refl, sym, ap, ◌∙◌, subst, arith}
+use Rattle.std.proofs.Common.{◌≡◌, ◌≢◌, ℕ, zero, suc, ◌+◌, ◌*◌, ◌<◌, ◌≤◌, ◌⊎◌, inl, inr, ⊎_elim, Bool, true, false, cond, eqb, eq-eqb, ne_eqb, List, [], ◌∷◌, refl, sym, ap, ◌∙◌, subst, arith}
 use Rattle.std.proofs.lemmas.Bool.{true≢false}
 use Rattle.std.specs.List.{AllByRecursion}
 use mathlib.Core.Logic.{dite}
@@ -9,23 +9,19 @@ use lib.ListN.{get_elem?}
 use Rattle.sock_words.specs.declared.plain.Plan.{Plan}
 use Rattle.sock_model.specs.declared.chain.Entry.{Entry}
 use Rattle.sock_model.specs.declared.chain.Heading.{Heading}
-use Rattle.sock_model.specs.declared.home.Home.{Home}
 use Rattle.sock_model.specs.declared.view.View.{View}
-use Rattle.sock_model.specs.Lawful.{Lawful}
 use Rattle.sock_model.specs.Weights.{total}
 use Rattle.chain_laws.proofs.Lists.{Distinct}
 use Rattle.slot_laws.proofs.Sums.{term_le}
 use Rattle.corr_core.specs.declared.marks.Plan.{Plan as IdPlan}
-use Rattle.sock_programs.specs.declared.task.Op.{Op}
 use Rattle.sock_programs.specs.declared.task.Task.{Task}
 use Rattle.sock_programs.specs.Cores.{Core}
 use Rattle.sock_programs.specs.Told.{AreTasks}
 use Rattle.sock_programs.specs.ToldCalls.{AreOrders}
 use Rattle.sock_runs.specs.Sound.{Sound, AllRest}
 use Rattle.sock_runs.proofs.HandTicks.{AtHome}
-use Rattle.sock_causes.specs.Causes.{Asks}
 use Rattle.sock_causes.specs.Kept.{is_of_send, IsSpoken, Story}
-use Rattle.sock_causes.specs.Stories.{Event, In}
+use Rattle.sock_causes.specs.Stories.{Event}
 use Rattle.sock_causes.proofs.Delivered.{orders_of, AreQuiet}
 use Rattle.sock_causes.proofs.Final.{IsMessage}
 use Rattle.sock_causes.proofs.Members.{all_in}
@@ -34,7 +30,7 @@ use Rattle.sock_causes.proofs.Ordered.{IsLabelled, delivered}
 use Rattle.sock_causes.proofs.Senders.{HasSent, sent_in, each_of, apart_by}
 use Rattle.sock_causes.proofs.Tasks.{one_task}
 use Rattle.label_runs.specs.Labels.{Trial}
-use Rattle.send_causes.specs.Counts.{pair_of, of_trial, of_retry, of_heading, of_claim, of_entry, of_view, times_of, HeadFits, BodyFits, EntryFits, LabelLaw}
+use Rattle.send_causes.specs.Counts.{pair_of, of_heading, of_entry, of_view, EntryFits, LabelLaw}
 
 -- two places of a list count twice
 total_two : {A : Type 0} (g : A → ℕ) (l : List A) (m n : ℕ) (a b : A) → get_elem? l m ≡ some a → get_elem? l n ≡ some b → m ≢ n → g a + g b ≤ total g l

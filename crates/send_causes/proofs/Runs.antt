@@ -1,5 +1,5 @@
 -- A whole run keeps the law of attempts.
-use Rattle.std.proofs.Common.{◌≡◌, ℕ, zero, suc, ◌+◌, ◌-◌, ◌<◌, ◌≤◌, ◌⊎◌, inl, inr, ⊎_elim, List, [], ◌∷◌, ◌++◌, length, map, replicate, refl, sym, ap, ◌∙◌, subst, arith}
+use Rattle.std.proofs.Common.{◌≡◌, ℕ, zero, suc, ◌+◌, ◌-◌, ◌≤◌, ⊎_elim, List, [], ◌∷◌, ◌++◌, length, map, replicate, refl, sym, ap, ◌∙◌, subst, arith}
 use Rattle.std.specs.List.{AllByRecursion}
 use Rattle.std.proofs.lemmas.List.{length-map}
 use Rattle.std.proofs.Common.{length-set}
@@ -7,32 +7,28 @@ use mathlib.Core.Option.{some, some-injective, some-ne-none}
 use lib.ListN.{get_elem?}
 use Rattle.atomic_table.proofs.Lists.{set_again}
 use Rattle.sock_words.specs.declared.plain.Plan.{Plan}
-use Rattle.sock_model.specs.declared.chain.Claim.{Claim}
-use Rattle.sock_model.specs.declared.chain.Entry.{Entry}
 use Rattle.sock_model.specs.declared.view.View.{View}
 use Rattle.sock_model.specs.Weights.{total}
 use Rattle.brpc_model.specs.Items.{Item}
-use Rattle.brpc_model.specs.Operations.{Turn, clients}
+use Rattle.brpc_model.specs.Operations.{Turn}
 use Rattle.corr_core.specs.declared.marks.Plan.{Plan as IdPlan}
 use Rattle.id_runs.specs.Held.{IdView}
 use Rattle.id_runs.specs.Goes.{SoundIds}
 use Rattle.sock_programs.specs.declared.task.Sizes.{Sizes}
 use Rattle.sock_programs.specs.declared.task.Task.{Task}
 use Rattle.sock_programs.specs.Programs.{Program, Do, Say, Sent, Rest, TakeMessage, TakeHome, PutHome, PutBytes, AskReady, Write, Aside, Round, Keep, Retries}
-use Rattle.sock_programs.specs.Heads.{Retry}
 use Rattle.sock_programs.specs.Clients.{client_from, ending_of}
 use Rattle.sock_programs.specs.Readers.{reader}
-use Rattle.sock_programs.specs.Cores.{Core, SeatState, resolved, next_step, with_seat}
+use Rattle.sock_programs.specs.Cores.{Core, SeatState, resolved, next_step}
 use Rattle.sock_programs.specs.Ticks.{Moment, AreAnswered, quiet, ticked, run}
 use Rattle.sock_programs.specs.Tasks.{opens, calls, plan_of, id_plan_of}
-use Rattle.sock_programs.specs.Scripts.{sizes_of, programs, readers_from, all_programs, all_tasks, beginning, opened, set_up, ending, is_ending, played, IsRunWithCalls}
+use Rattle.sock_programs.specs.Scripts.{sizes_of, programs, readers_from, all_programs, all_tasks, beginning, opened, set_up, is_ending, IsRunWithCalls}
 use Rattle.sock_programs.specs.Told.{AreTasks}
 use Rattle.sock_runs.specs.Sound.{Sound, AreFitting, views_after, views_along}
 use Rattle.sock_runs.proofs.LinkTicks.{RetriesGo}
 use Rattle.sock_runs.proofs.Ticks.{sound_ticks}
 use Rattle.sock_runs.proofs.Opening.{mapped, appended}
-use Rattle.sock_runs.proofs.Along.{seat_rests}
-use Rattle.sock_runs.proofs.Whole.{Begins, AreFittingIn, closing_of, rested_of, views_played, views_closed, views_ended, set_up_answered, end_answered, set_up_sound, closing_sound, closed_sound, rested_ahead, rested_idle}
+use Rattle.sock_runs.proofs.Whole.{Begins, AreFittingIn, closing_of, rested_of, views_played, views_closed, views_ended, set_up_answered, end_answered, set_up_sound, closing_sound, closed_sound}
 use Rattle.label_runs.specs.Labels.{Trial, Idle, Labels}
 use Rattle.label_runs.proofs.Programs.{client_goes, ending_goes, reader_goes}
 use Rattle.sock_causes.specs.PlainTasks.{told_tasks_of}

@@ -1,23 +1,22 @@
 -- What each step on the sockets does to the claims and accepted messages of its seat.
-use Rattle.std.proofs.Common.{◌≡◌, ◌≢◌, ℕ, ◌+◌, ◌-◌, ◌%◌, ◌≤◌, ◌==◌, Bool, true, false, cond, eqb, nat_lt, inl, List, [], ◌∷◌, ◌++◌, refl, sym, ap, ◌∙◌, subst, arith}
+use Rattle.std.proofs.Common.{◌≡◌, ℕ, ◌+◌, ◌-◌, ◌%◌, ◌≤◌, ◌==◌, Bool, true, false, nat_lt, inl, List, [], ◌∷◌, ◌++◌, refl, sym, ap, ◌∙◌, subst, arith}
 use Rattle.std.specs.List.{AllByRecursion}
 use Rattle.std.proofs.lemmas.Bool.{true≢false}
 use Rattle.sock_words.specs.declared.plain.Plan.{Plan}
-use Rattle.sock_words.specs.Words.{socket_id_slot, socket_id_version, vref_version}
+use Rattle.sock_words.specs.Words.{socket_id_slot, vref_version}
 use Rattle.sock_model.specs.declared.chain.Claim.{Claim}
 use Rattle.sock_model.specs.declared.chain.Entry.{Entry}
-use Rattle.sock_model.specs.declared.chain.Heading.{Heading}
 use Rattle.sock_model.specs.declared.chain.Right.{Right}
 use Rattle.sock_model.specs.declared.chain.Stage.{Stage}
-use Rattle.sock_model.specs.declared.chain.Stage.TheVariants.{Writes, Placed, Passes, Walks, Turns}
+use Rattle.sock_model.specs.declared.chain.Stage.TheVariants.{Writes, Placed, Walks, Turns}
 use Rattle.sock_model.specs.declared.view.View.{View}
 use Rattle.sock_model.specs.declared.view.Hand.{Hand}
-use Rattle.sock_model.specs.ChainRows.{with_claim, entry_of, more, queued, righted, with_right, without_right}
+use Rattle.sock_model.specs.ChainRows.{with_claim, entry_of, more, queued, righted}
 use Rattle.sock_model.specs.Memory.{IDLE, UNCONNECTED}
 use Rattle.sock_model.specs.Weights.{total, only}
 use Rattle.slot_laws.proofs.Sums.{total-append}
 use Rattle.sock_programs.specs.Calls.{Call, ClaimSlot, GiveBirth, AddRef, SubRef, SetOdd, Recycle, FreeSlot, StoreLink, LoadLink, ResetHead, WipeCode, StoreCode, StoreName, LoadName, StoreOpen, LoadOpen, TakeLink, FinishLink, PutLink, LookWord, FindLink, LoadCode, ClaimRequest, PutMessage, Unconnect, SwapHead, Connect, EmptyHead, ReadNext, TurnNext, FreeRequest, StorePlace, DropPlace}
-use Rattle.sock_runs.specs.Rows.{row, is_id, by_claim, exchanged, new_claim, filled_claim, ready_claim, looked_clean, emptied, read_next, turned_next, freed_next, placed_next, dropped_next}
+use Rattle.sock_runs.specs.Rows.{row, is_id, by_claim, exchanged, filled_claim, ready_claim, looked_clean, emptied, read_next, turned_next, freed_next, placed_next, dropped_next}
 use Rattle.sock_runs.specs.May.{May}
 use Rattle.sock_runs.proofs.Cases.{with_rights}
 use Rattle.sock_runs.proofs.Leaves.{claim_way, right_way}

@@ -1,5 +1,5 @@
 -- A step aside leaves made what was made: an id word only goes forward.
-use Rattle.std.proofs.Common.{◌≡◌, ◌≢◌, ℕ, ◌+◌, ◌-◌, ◌*◌, ◌<◌, ◌≤◌, ◌⊎◌, inl, inr, ⊎_elim, Bool, true, false, cond, eqb, eqb-true, eq-eqb, List, [], ◌∷◌, length, set, get_or, get_or-set_same, get_or-set_other, refl, sym, ap, ◌∙◌, subst, arith}
+use Rattle.std.proofs.Common.{◌≡◌, ◌≢◌, ℕ, ◌+◌, ◌<◌, ◌≤◌, ◌⊎◌, inl, inr, ⊎_elim, Bool, true, false, cond, eqb, eqb-true, eq-eqb, List, [], ◌∷◌, length, set, get_or, get_or-set_same, get_or-set_other, refl, sym, ap, ◌∙◌, subst, arith}
 use mathlib.Core.Logic.{dite}
 use native.Mathlib.Decide.{ℕ_discrete}
 use mathlib.Core.Option.{Option, some, some-injective}
@@ -11,17 +11,16 @@ use Rattle.corr_core.specs.declared.marks.Plan.{Plan as IdPlan}
 use Rattle.corr_core.specs.declared.marks.Hand.{Hand}
 use Rattle.corr_core.specs.declared.marks.Hand.TheVariants.{Full}
 use Rattle.corr_core.specs.declared.marks.Token.TheVariants.{Claimed, Locked}
-use Rattle.id_rule.specs.Lawful.{Lawful, local, id_word, tag_word, call_word, at_word, all_words}
+use Rattle.id_rule.specs.Lawful.{local, id_word, tag_word, call_word, at_word, all_words}
 use Rattle.id_rule.specs.Plays.{Longer}
 use Rattle.id_rule.proofs.Allowed as allowed
 use Rattle.id_runs.specs.Held.{IdView, id_state, HasOne, MayId}
-use Rattle.id_runs.specs.Goes.{SoundIds, FindsId, FindsLonger}
+use Rattle.id_runs.specs.Goes.{SoundIds, FindsId}
 use Rattle.id_runs.proofs.Keeps.{parts_packed}
-use Rattle.id_runs.proofs.Steps.{finds_ids}
 use Rattle.sock_message.specs.Asked.{Asked}
 use Rattle.sock_programs.specs.Asides.{Step, Found, ClaimId, PutCall, MakeId, StoreCall, LoadCall, StoreAt, LoadAt, LoadIdWord, LockId, PostId, UnlockId, EndId, FreeId, TakeCall, TakeBytes, Taking, Bytes, call_id, id_slot, id_first}
 use Rattle.sock_programs.specs.Beside.{found_in, calls_after}
-use Rattle.sock_programs.specs.Cores.{Calls, Core}
+use Rattle.sock_programs.specs.Cores.{Core}
 use Rattle.sock_programs.specs.Posts.{packed, advance_of}
 use Rattle.label_runs.specs.Labels.{FindsLabel}
 use Rattle.send_causes.specs.Counts.{word_of_id, WasMade}
