@@ -14,6 +14,7 @@ use Rattle.sock_model.specs.Weights.{total}
 use Rattle.chain_laws.proofs.Lists.{Distinct}
 use Rattle.slot_laws.proofs.Sums.{term_le}
 use Rattle.corr_core.specs.declared.marks.Plan.{Plan as IdPlan}
+use Rattle.sock_message.specs.Asked.{Asked}
 use Rattle.sock_programs.specs.declared.task.Task.{Task}
 use Rattle.sock_programs.specs.Cores.{Core}
 use Rattle.sock_programs.specs.Told.{AreTasks}
@@ -30,7 +31,7 @@ use Rattle.sock_causes.proofs.Ordered.{IsLabelled, delivered}
 use Rattle.sock_causes.proofs.Senders.{HasSent, sent_in, each_of, apart_by}
 use Rattle.sock_causes.proofs.Tasks.{one_task}
 use Rattle.label_runs.specs.Labels.{Trial}
-use Rattle.send_causes.specs.Counts.{pair_of, of_heading, of_entry, of_view, EntryFits, LabelLaw}
+use Rattle.send_causes.specs.Counts.{pair_of, of_heading, of_entry, of_view, IsOfCall, EntryFits, LabelLaw}
 
 -- two places of a list count twice
 total_two : {A : Type 0} (g : A → ℕ) (l : List A) (m n : ℕ) (a b : A) → get_elem? l m ≡ some a → get_elem? l n ≡ some b → m ≢ n → g a + g b ≤ total g l
@@ -43,16 +44,16 @@ total_two g (e ∷ l) (suc m) (suc n) a b x y ne = let t = total_two g l m n a b
 pair_self : (id n i m : ℕ) → i ≡ id → m ≡ n → pair_of id n i m ≡ 1
 pair_self id n i m e f = ap (λ b. cond b (cond (eqb m n) 1 0) 0) (eq-eqb i id e) ∙ ap (λ b. cond b 1 0) (eq-eqb m n f)
 
-module _ (p : Plan) (q : IdPlan) (ids : ℕ → ℕ) (clients : List (List Task)) (are : AreTasks p clients) (c : Core) (vs : List View) (es : List Event) (lost : List ℕ) (sound : Sound p c vs) (story : Story p clients true c vs es lost) (settled : AllRest c)
-    (ts : List Trial) (law : LabelLaw ids p q c vs ts) where
+module _ (p : Plan) (q : IdPlan) (is_call : Asked → Type 0) (ids : ℕ → ℕ) (clients : List (List Task)) (are : AreTasks p clients) (c : Core) (vs : List View) (es : List Event) (lost : List ℕ) (sound : Sound p c vs) (story : Story p clients true c vs es lost) (settled : AllRest c)
+    (ts : List Trial) (law : LabelLaw is_call ids p q c vs ts) where
   Sent : ℕ → ℕ → Entry → Type 0
   Sent i n e = HasSent vs i n e
 
-  fits : (i n : ℕ) (e : Entry) → HasSent vs i n e → EntryFits ids p e
-  fits i n e h = let all = (law.views i h.view h.here).1 in all_in (EntryFits ids p) h.made e (subst (AllByRecursion (AllByRecursion (EntryFits ids p))) h.lists all).0 (in_of_at h.made n e h.stands)
+  fits : (i n : ℕ) (e : Entry) → HasSent vs i n e → EntryFits is_call ids p e
+  fits i n e h = let all = (law.views i h.view h.here).1 in all_in (EntryFits is_call ids p) h.made e (subst (AllByRecursion (AllByRecursion (EntryFits is_call ids p))) h.lists all).0 (in_of_at h.made n e h.stands)
 
-  -- a message of a call has its owner
-  of_call_fits : (i n : ℕ) (e : Entry) → HasSent vs i n e → is_of_send e ≡ false → (e.heading.owner ≢ 0) × (ids e.heading.operation ≡ e.heading.owner) × (e.heading.place ≡ 8 * e.heading.operation + e.heading.attempt) × (e.heading.attempt ≤ 6)
+  -- a message that isn't a send's is the frame of an attempt of its call
+  pub of_call_fits : (i n : ℕ) (e : Entry) → HasSent vs i n e → is_of_send e ≡ false → IsOfCall is_call ids e.heading e.bytes
   of_call_fits i n e h not_ = ⊎_elim
       (λ none_. let z : is_of_send e ≡ true = ap (λ l. elim l as (λ l. Bool) [ [] ↦ true | x ∷ xs ↦ false ]) none_.1 in absurd (true≢false (sym z ∙ not_)))
       (λ x. x) (fits i n e h).0
@@ -110,10 +111,10 @@ module _ (p : Plan) (q : IdPlan) (ids : ℕ → ℕ) (clients : List (List Task)
       (λ ne. absurd (let two = total_two (of_view id att) vs i j h.view k.view h.here k.here ne in let a = here_once i m d h id att in let b = here_once j n e k id att in
       let most_a = view_most i m d h id att in let most_b = view_most j n e k id att in let once = law.once id att in omega (arith, two, a, b, most_a, most_b, once, one_d, one_e)))
     where
-      f : (d.heading.owner ≢ 0) × (ids d.heading.operation ≡ d.heading.owner) × (d.heading.place ≡ 8 * d.heading.operation + d.heading.attempt) × (d.heading.attempt ≤ 6)
+      f : IsOfCall is_call ids d.heading d.bytes
       f = of_call_fits i m d h sd
 
-      g : (e.heading.owner ≢ 0) × (ids e.heading.operation ≡ e.heading.owner) × (e.heading.place ≡ 8 * e.heading.operation + e.heading.attempt) × (e.heading.attempt ≤ 6)
+      g : IsOfCall is_call ids e.heading e.bytes
       g = of_call_fits j n e k se
 
       id : ℕ

@@ -14,6 +14,13 @@ use Rattle.brpc_model.specs.Operations.{Turn}
 use Rattle.corr_core.specs.declared.marks.Plan.{Plan as IdPlan}
 use Rattle.id_runs.specs.Held.{IdView}
 use Rattle.id_runs.specs.Goes.{SoundIds}
+use Rattle.sock_message.specs.Asked.{Asked}
+use Rattle.sock_programs.specs.Beside.{call_at}
+use Rattle.sock_programs.specs.declared.task.Op.{Op}
+use Rattle.sock_programs.specs.declared.task.Op.TheVariants as ops
+use Rattle.sock_causes.specs.Stories.{In}
+use Rattle.sock_causes.proofs.Members.{all_of}
+use Rattle.send_causes.proofs.Ticks.{none_asked}
 use Rattle.sock_programs.specs.declared.task.Sizes.{Sizes}
 use Rattle.sock_programs.specs.declared.task.Task.{Task}
 use Rattle.sock_programs.specs.Programs.{Program, Do, Say, Sent, Rest, TakeMessage, TakeHome, PutHome, PutBytes, AskReady, Write, Aside, Round, Keep, Retries}
@@ -30,7 +37,7 @@ use Rattle.sock_runs.proofs.Ticks.{sound_ticks}
 use Rattle.sock_runs.proofs.Opening.{mapped, appended}
 use Rattle.sock_runs.proofs.Whole.{Begins, AreFittingIn, closing_of, rested_of, views_played, views_closed, views_ended, set_up_answered, end_answered, set_up_sound, closing_sound, closed_sound}
 use Rattle.label_runs.specs.Labels.{Trial, Idle, Labels}
-use Rattle.label_runs.proofs.Programs.{client_goes, ending_goes, reader_goes}
+use Rattle.label_runs.proofs.Programs.{OpCalls, client_goes, ending_goes, reader_goes}
 use Rattle.sock_causes.specs.PlainTasks.{told_tasks_of}
 use Rattle.sock_causes.proofs.Final.{at_there}
 use Rattle.sock_causes.proofs.Scripts.{seats, closing_told}
@@ -38,15 +45,15 @@ use Rattle.sock_causes.proofs.Ticks.{elem_there}
 use Rattle.send_causes.specs.Counts.{of_trial, of_retry, of_claim, of_entry, of_view, times_of, ClaimFits, EntryFits, TrialFits, LabelLaw, AreLabelled}
 use Rattle.send_causes.proofs.Ticks.{moves, label_ticks}
 
-module _ (p : Plan) (q : IdPlan) (narrow : q.slots ≤ 65536) (ids : ℕ → ℕ) where
+module _ (p : Plan) (q : IdPlan) (narrow : q.slots ≤ 65536) (is_call : Asked → Type 0) (ids : ℕ → ℕ) where
   abbrev pub Lawful_ : Core → List View → Type 0
-  Lawful_ c vs = (ts : List Trial) × LabelLaw ids p q c vs ts
+  Lawful_ c vs = (ts : List Trial) × LabelLaw is_call ids p q c vs ts
 
   -- so do ticks one after another
   pub run_labels : RetriesGo p → (ms : List Moment) (c : Core) (vs : List View) → Sound p c vs → AreAnswered p c ms → AreFitting p c ms → AreLabelled ids p q c ms → Lawful_ c vs → Lawful_ (run p c ms) (views_along p c vs ms)
   run_labels go [] c vs sound answered fitting are law = law
   run_labels go (m ∷ ms) c vs sound answered fitting are law = run_labels go ms (ticked p c m) (views_after p c vs m) (sound_ticks p go c vs m sound answered.0 fitting.0) answered.1 fitting.1 are.3
-      (label_ticks p q narrow ids c vs law.0 law.1 are.0.0 are.0.1 sound m answered.0 are.1 are.2)
+      (label_ticks p q narrow is_call ids c vs law.0 law.1 are.0.0 are.0.1 sound m answered.0 are.1 are.2)
 
   pub behind_ids : (ms : List Moment) (c : Core) → AreLabelled ids p q c ms → (us : List IdView) × SoundIds p q (run p c ms) us
   behind_ids [] c are = are
@@ -54,7 +61,7 @@ module _ (p : Plan) (q : IdPlan) (narrow : q.slots ≤ 65536) (ids : ℕ → ℕ
 
   -- ## How a run begins
 
-  idle_stays : (x : Program) → Labels Idle x → Labels Idle (next_step (resolved [] x))
+  idle_stays : (x : Program) → Labels is_call Idle x → Labels is_call Idle (next_step (resolved [] x))
   idle_stays (Say o outcome next) g = idle_stays next g
   idle_stays (Sent o next) g = idle_stays next g
   idle_stays (Keep r next) g = absurd (let e = g.0 in cc)
@@ -89,36 +96,42 @@ module _ (p : Plan) (q : IdPlan) (narrow : q.slots ≤ 65536) (ids : ℕ → ℕ
   bare_count id n v bare = let a : total (of_claim id n) v.claims ≡ 0 = ap (total (of_claim id n)) bare.0 in
       let b : total (total (of_entry id n)) v.lists ≡ 0 = ap (total (total (of_entry id n))) bare.1 in omega (arith, a, b)
 
-  begins_labels : (xs : List Program) → ((i : ℕ) (x : Program) → get_elem? xs i ≡ some x → Labels Idle x) → (vs : List View) → ((i : ℕ) (v : View) → get_elem? vs i ≡ some v → IsBare v) → Lawful_ (beginning p q xs) vs
+  none_home : (n k : ℕ) (asked : Asked) → call_at (get_elem? (replicate n (some none_asked)) k) ≡ some asked → ⊥
+  none_home zero k asked e = some-ne-none asked (sym e)
+  none_home (suc n) zero asked e = some-ne-none asked (sym e)
+  none_home (suc n) (suc k) asked e = none_home n k asked e
+
+  begins_labels : (xs : List Program) → ((i : ℕ) (x : Program) → get_elem? xs i ≡ some x → Labels is_call Idle x) → (vs : List View) → ((i : ℕ) (v : View) → get_elem? vs i ≡ some v → IsBare v) → Lawful_ (beginning p q xs) vs
   begins_labels xs goes vs bare = (map (λ (x : Program). Idle) xs, record {
     once = λ id n. let z = none_at id n in omega (arith, z);
     made = λ id n some_. absurd (let z = none_at id n in omega (arith, z, some_));
-    views = λ j v e. let b = bare j v e in (subst (AllByRecursion (ClaimFits ids p)) (sym b.0) tt, subst (AllByRecursion (AllByRecursion (EntryFits ids p))) (sym b.1) (tt, tt));
+    views = λ j v e. let b = bare j v e in (subst (AllByRecursion (ClaimFits is_call ids p)) (sym b.0) tt, subst (AllByRecursion (AllByRecursion (EntryFits is_call ids p))) (sym b.1) (tt, tt));
     trials = λ j t e. subst (TrialFits ids) (sym (all_idle xs j t e)) tt;
+    calls = λ k asked e. absurd (none_home q.slots k asked e);
     each = length-map xs (λ (x : Program). Idle) ∙ sym (length-map xs (λ (x : Program). record { program = next_step (resolved [] x); hand = [] }));
     programs = λ j seat t es et. let x = mapped (λ (x : Program). record { program = next_step (resolved [] x); hand = [] }) xs j seat es in
-        subst (λ (s : SeatState). Labels t s.program) x.2 (subst (λ y. Labels y (next_step (resolved [] x.0))) (sym (all_idle xs j t et)) (idle_stays x.0 (goes j x.0 x.1)));
+        subst (λ (s : SeatState). Labels is_call t s.program) x.2 (subst (λ y. Labels is_call y (next_step (resolved [] x.0))) (sym (all_idle xs j t et)) (idle_stays x.0 (goes j x.0 x.1)));
   })
     where
       none_at : (id n : ℕ) → times_of id n (beginning p q xs) vs (map (λ (x : Program). Idle) xs) ≡ 0
       none_at id n = let a = total_none (of_trial id n) (map (λ (x : Program). Idle) xs) (λ i t e. ap (of_trial id n) (all_idle xs i t e)) in let b = none_waits id n q.seats in
           let d = total_none (of_view id n) vs (λ i v e. bare_count id n v (bare i v e)) in omega (arith, a, b, d)
 
-clients_go : (sizes : Sizes) (cs : List (List Task)) (i : ℕ) (x : Program) → get_elem? (programs sizes cs) i ≡ some x → Labels Idle x
-clients_go sizes cs i x e = let t = mapped (client_from sizes []) cs i x e in subst (Labels Idle) t.2 (client_goes sizes [] t.0)
+clients_go : (is_call : Asked → Type 0) (sizes : Sizes) (cs : List (List Task)) → ((i : ℕ) (ts : List Task) → get_elem? cs i ≡ some ts → AllByRecursion (λ (t : Task). OpCalls is_call t.op) ts) → (i : ℕ) (x : Program) → get_elem? (programs sizes cs) i ≡ some x → Labels is_call Idle x
+clients_go is_call sizes cs asks i x e = let t = mapped (client_from sizes []) cs i x e in subst (Labels is_call Idle) t.2 (client_goes is_call sizes [] t.0 (asks i t.0 t.1))
 
-readers_go : (calls os : List ℕ) (k i : ℕ) (x : Program) → get_elem? (readers_from calls k os) i ≡ some x → Labels Idle x
-readers_go calls [] k i x at = absurd (some-ne-none x (sym at))
-readers_go calls (o ∷ os) k zero x at = subst (Labels Idle) (some-injective (reader calls k o) x at) (reader_goes calls k o)
-readers_go calls (o ∷ os) k (suc i) x at = readers_go calls os (k + 1) i x at
+readers_go : (is_call : Asked → Type 0) (calls os : List ℕ) (k i : ℕ) (x : Program) → get_elem? (readers_from calls k os) i ≡ some x → Labels is_call Idle x
+readers_go is_call calls [] k i x at = absurd (some-ne-none x (sym at))
+readers_go is_call calls (o ∷ os) k zero x at = subst (Labels is_call Idle) (some-injective (reader calls k o) x at) (reader_goes is_call calls k o)
+readers_go is_call calls (o ∷ os) k (suc i) x at = readers_go is_call calls os (k + 1) i x at
 
-others_go : (n : ℕ) (calls os : List ℕ) (k i : ℕ) (x : Program) → get_elem? (replicate n Rest ++ readers_from calls k os) i ≡ some x → Labels Idle x
-others_go zero calls os k i x at = readers_go calls os k i x at
-others_go (suc n) calls os k zero x at = subst (Labels Idle) (some-injective Rest x at) tt
-others_go (suc n) calls os k (suc i) x at = others_go n calls os k i x at
+others_go : (is_call : Asked → Type 0) (n : ℕ) (calls os : List ℕ) (k i : ℕ) (x : Program) → get_elem? (replicate n Rest ++ readers_from calls k os) i ≡ some x → Labels is_call Idle x
+others_go is_call zero calls os k i x at = readers_go is_call calls os k i x at
+others_go is_call (suc n) calls os k zero x at = subst (Labels is_call Idle) (some-injective Rest x at) tt
+others_go is_call (suc n) calls os k (suc i) x at = others_go is_call n calls os k i x at
 
-pub programs_go : (sizes : Sizes) (cs : List (List Task)) (calls os : List ℕ) (i : ℕ) (x : Program) → get_elem? (all_programs (programs sizes cs) (readers_from calls 0 os)) i ≡ some x → Labels Idle x
-programs_go sizes cs calls os i x e = ⊎_elim (λ a. clients_go sizes cs i x a) (λ b. others_go (32 - length (programs sizes cs)) calls os 0 b.0 x b.1) (appended (programs sizes cs) (replicate (32 - length (programs sizes cs)) Rest ++ readers_from calls 0 os) i x e)
+pub programs_go : (is_call : Asked → Type 0) (sizes : Sizes) (cs : List (List Task)) → ((i : ℕ) (ts : List Task) → get_elem? cs i ≡ some ts → AllByRecursion (λ (t : Task). OpCalls is_call t.op) ts) → (calls os : List ℕ) (i : ℕ) (x : Program) → get_elem? (all_programs (programs sizes cs) (readers_from calls 0 os)) i ≡ some x → Labels is_call Idle x
+programs_go is_call sizes cs asks calls os i x e = ⊎_elim (λ a. clients_go is_call sizes cs asks i x a) (λ b. others_go is_call (32 - length (programs sizes cs)) calls os 0 b.0 x b.1) (appended (programs sizes cs) (replicate (32 - length (programs sizes cs)) Rest ++ readers_from calls 0 os) i x e)
 
 -- at words are the operations' own in all of a run
 pub record AreLabelledIn (ids : ℕ → ℕ) (script : List Item) (turns : List Turn) (core : Core) (is : IsRunWithCalls script turns core) : Type 0 where
@@ -127,20 +140,40 @@ pub record AreLabelledIn (ids : ℕ → ℕ) (script : List Item) (turns : List 
   pub of_closing : AreLabelled ids (plan_of script) (id_plan_of script) (closing_of script turns core is) (replicate is.last (quiet 0))
   pub of_final : AreLabelled ids (plan_of script) (id_plan_of script) is.ended is.final
 
+-- a task of the script asks for this call
+abbrev pub IsCallOf : List Item → Asked → Type 0
+IsCallOf script asked = (i : ℕ) × (ts : List Task) × (t : Task) × (get_elem? (all_tasks script) i ≡ some ts) × In t ts × (t.op ≡ ops.Call asked)
+
+asked_by : (script : List Item) (i : ℕ) (ts : List Task) → get_elem? (all_tasks script) i ≡ some ts → AllByRecursion (λ (t : Task). OpCalls (IsCallOf script) t.op) ts
+asked_by script i ts at = all_of (λ (t : Task). OpCalls (IsCallOf script) t.op) ts of_task
+  where
+    of_task : (t : Task) → In t ts → OpCalls (IsCallOf script) t.op
+    of_task t m = of_op t.op refl
+      where
+        of_op : (o : Op) → t.op ≡ o → OpCalls (IsCallOf script) o
+        of_op (ops.Call asked) is = (i, ts, t, at, m, is)
+        of_op (ops.Open n k) is = tt
+        of_op (ops.Send n bytes) is = tt
+        of_op (ops.Expire u) is = tt
+        of_op (ops.Join u) is = tt
+        of_op (ops.Hold n) is = tt
+        of_op (ops.Drop n) is = tt
+        of_op (ops.Fail n c) is = tt
+
 module _ (script : List Item) (are : AreTasks (plan_of script) (all_tasks script)) (vs : List View) (begins : Begins script vs) (go : RetriesGo (plan_of script)) (turns : List Turn) (core : Core) (is : IsRunWithCalls script turns core)
     (fitting : AreFittingIn script turns core is) (narrow : (id_plan_of script).slots ≤ 65536) (bare : (i : ℕ) (v : View) → get_elem? vs i ≡ some v → (v.claims ≡ []) × (v.lists ≡ [] ∷ [])) (ids : ℕ → ℕ) (labelled : AreLabelledIn ids script turns core is) where
   abbrev Law : Core → List View → Type 0
-  Law c ws = (ts : List Trial) × LabelLaw ids (plan_of script) (id_plan_of script) c ws ts
+  Law c ws = (ts : List Trial) × LabelLaw (IsCallOf script) ids (plan_of script) (id_plan_of script) c ws ts
 
   first : Law (opened script) vs
-  first = begins_labels (plan_of script) (id_plan_of script) narrow ids (all_programs (programs (sizes_of (plan_of script) (id_plan_of script)) (all_tasks script)) (readers_from (calls script) 0 (opens script)))
-      (programs_go (sizes_of (plan_of script) (id_plan_of script)) (all_tasks script) (calls script) (opens script)) vs bare
+  first = begins_labels (plan_of script) (id_plan_of script) narrow (IsCallOf script) ids (all_programs (programs (sizes_of (plan_of script) (id_plan_of script)) (all_tasks script)) (readers_from (calls script) 0 (opens script)))
+      (programs_go (IsCallOf script) (sizes_of (plan_of script) (id_plan_of script)) (all_tasks script) (asked_by script) (calls script) (opens script)) vs bare
 
   set_up_law : Law (set_up script is.setup) (views_along (plan_of script) (opened script) vs (replicate is.setup (quiet 0)))
-  set_up_law = run_labels (plan_of script) (id_plan_of script) narrow ids go (replicate is.setup (quiet 0)) (opened script) vs begins.sound (set_up_answered script are vs begins go turns core is fitting) fitting.of_setup labelled.of_setup first
+  set_up_law = run_labels (plan_of script) (id_plan_of script) narrow (IsCallOf script) ids go (replicate is.setup (quiet 0)) (opened script) vs begins.sound (set_up_answered script are vs begins go turns core is fitting) fitting.of_setup labelled.of_setup first
 
   played_law : Law (rested_of script turns core is) (views_played script turns core is vs)
-  played_law = run_labels (plan_of script) (id_plan_of script) narrow ids go (is.scheduled ++ is.later) (set_up script is.setup) (views_along (plan_of script) (opened script) vs (replicate is.setup (quiet 0)))
+  played_law = run_labels (plan_of script) (id_plan_of script) narrow (IsCallOf script) ids go (is.scheduled ++ is.later) (set_up script is.setup) (views_along (plan_of script) (opened script) vs (replicate is.setup (quiet 0)))
       (set_up_sound script are vs begins go turns core is fitting) is.answered fitting.of_played labelled.of_played set_up_law
 
   fresh : (i : ℕ) (v : View) → get_elem? vs i ≡ some v → v.lists ≡ [] ∷ []
@@ -154,22 +187,22 @@ module _ (script : List Item) (are : AreTasks (plan_of script) (all_tasks script
       let same : length (closing_of script turns core is).seats ≡ length (rested_of script turns core is).seats = length-set (rested_of script turns core is).seats 0 _ in
       let beside = (closing_sound script are vs begins go turns core is fitting).each in
       let seat = at_there (rested_of script turns core is).seats 0 (omega (arith, long, some_, same)) in let v = at_there (views_played script turns core is vs) 0 (omega (arith, beside, long, some_)) in
-      let law = played_law in let us = behind_ids (plan_of script) (id_plan_of script) narrow ids (is.scheduled ++ is.later) (set_up script is.setup) labelled.of_played in
+      let law = played_law in let us = behind_ids (plan_of script) (id_plan_of script) narrow (IsCallOf script) ids (is.scheduled ++ is.later) (set_up script is.setup) labelled.of_played in
       let t = elem_there (rested_of script turns core is).seats law.0 0 seat.0 law.1.each seat.1 in
       subst (λ xs. Law (closing_of script turns core is) xs) (set_again (views_played script turns core is vs) 0 v.0 v.1)
-      (moves (plan_of script) (id_plan_of script) narrow ids (rested_of script turns core is) (views_played script turns core is vs) law.0 law.1 us.0 us.1 0 seat.0 v.0 t.0 seat.1 v.1 t.1 (ending_of (opens script)) [] (rested_of script turns core is).homes v.0 v.0.rights refl
-      (ending_goes (opens script)))
+      (moves (plan_of script) (id_plan_of script) narrow (IsCallOf script) ids (rested_of script turns core is) (views_played script turns core is vs) law.0 law.1 us.0 us.1 0 seat.0 v.0 t.0 seat.1 v.1 t.1 (ending_of (opens script)) [] (rested_of script turns core is).homes v.0 v.0.rights refl
+      (ending_goes (IsCallOf script) (opens script)))
 
   on_law : (c : Core) (ws : List View) → Law c ws → Law (is_ending c) ws
-  on_law c ws law = (law.0, record { once = law.1.once; made = law.1.made; views = law.1.views; trials = law.1.trials; each = law.1.each; programs = law.1.programs })
+  on_law c ws law = (law.0, record { once = law.1.once; made = law.1.made; views = law.1.views; trials = law.1.trials; calls = law.1.calls; each = law.1.each; programs = law.1.programs })
 
   closed_law : Law is.ended (views_closed script turns core is vs)
   closed_law = subst (λ c. Law c (views_closed script turns core is vs)) (sym is.is_ended)
       (on_law (run (plan_of script) (closing_of script turns core is) (replicate is.last (quiet 0))) (views_closed script turns core is vs)
-      (run_labels (plan_of script) (id_plan_of script) narrow ids go (replicate is.last (quiet 0)) (closing_of script turns core is) (views_played script turns core is vs) (closing_sound script are vs begins go turns core is fitting)
+      (run_labels (plan_of script) (id_plan_of script) narrow (IsCallOf script) ids go (replicate is.last (quiet 0)) (closing_of script turns core is) (views_played script turns core is vs) (closing_sound script are vs begins go turns core is fitting)
       (end_answered script are vs begins go turns core is fitting) fitting.of_closing labelled.of_closing closing_law))
 
   -- at the end each attempt stands in one place at most
   pub end_law : Law core (views_ended script turns core is vs)
   end_law = subst (λ c. Law c (views_ended script turns core is vs)) (sym is.is_end)
-      (run_labels (plan_of script) (id_plan_of script) narrow ids go is.final is.ended (views_closed script turns core is vs) (closed_sound script are vs begins go turns core is fitting) is.answered_again fitting.of_final labelled.of_final closed_law)
+      (run_labels (plan_of script) (id_plan_of script) narrow (IsCallOf script) ids go is.final is.ended (views_closed script turns core is vs) (closed_sound script are vs begins go turns core is fitting) is.answered_again fitting.of_final labelled.of_final closed_law)

@@ -1,14 +1,16 @@
 -- Each tick keeps the law of attempts: none stands in two places, and none before it is made.
 use Rattle.std.proofs.Common.{◌≡◌, ◌≢◌, ℕ, zero, suc, ◌+◌, ◌*◌, ◌<◌, ◌≤◌, inl, inr, ⊎_elim, Bool, true, false, cond, eqb, eqb-true, eq-eqb, List, [], ◌∷◌, ◌++◌, length-set, get_or, set, refl, sym, ap, ◌∙◌, subst, arith}
 use Rattle.std.specs.List.{AllByRecursion}
+use Rattle.std.specs.Prelude as std
 use mathlib.Core.Logic.{dite}
 use native.Mathlib.Decide.{ℕ_discrete}
-use mathlib.Core.Option.{Option, some, none}
+use mathlib.Core.Option.{Option, some, none, some-injective, some-ne-none}
 use lib.ListN.{get_elem?}
 use Rattle.atomic_table.proofs.Lists.{at_set, set_again}
 use Rattle.sock_words.specs.declared.plain.Plan.{Plan}
 use Rattle.sock_words.specs.Words.{at_word}
 use Rattle.sock_model.specs.declared.chain.Right.{Right}
+use Rattle.sock_model.specs.declared.chain.Heading.{Heading}
 use Rattle.sock_model.specs.declared.home.Home.{Home}
 use Rattle.sock_model.specs.declared.view.View.{View}
 use Rattle.sock_model.specs.Weights.{total}
@@ -22,7 +24,8 @@ use Rattle.id_runs.proofs.Steps.{finds_ids}
 use Rattle.id_runs.proofs.Loops.{ids_round}
 use Rattle.id_runs.proofs.Programs as id_programs
 use Rattle.sock_programs.specs.Asides.{Step, Found, ClaimId, PutCall, MakeId, StoreCall, LoadCall, StoreAt, LoadAt, LoadIdWord, LockId, PostId, UnlockId, EndId, FreeId, TakeCall, TakeBytes, Taking, Bytes, call_id, id_slot, id_first}
-use Rattle.sock_programs.specs.Beside.{found_in, calls_after}
+use Rattle.sock_message.specs.Asked.{Asked, frame_of}
+use Rattle.sock_programs.specs.Beside.{found_in, calls_after, call_at, more_given}
 use Rattle.sock_programs.specs.Calls.{Call, PutMessage}
 use Rattle.sock_programs.specs.Heads.{Retry}
 use Rattle.sock_programs.specs.Programs.{Program, Do, Say, Sent, Rest, TakeMessage, TakeHome, PutHome, PutBytes, AskReady, Write, Aside, Round, Keep, Retries}
@@ -38,7 +41,7 @@ use Rattle.sock_model.specs.ChainRows.{taken_right}
 use Rattle.label_runs.specs.Labels.{Trial, Idle, Tries, Sends, IsOfTrial, put_behind, Kept, AsideMove, Storing, unlocked_trial, FindsLabel, Labels}
 use Rattle.label_runs.proofs.Loops.{labels_round}
 use Rattle.label_runs.proofs.Programs.{block_goes, retry_goes}
-use Rattle.send_causes.specs.Counts.{pair_of, of_trial, of_retry, of_view, times_of, WasMade, ViewFits, TrialFits, LabelLaw, StoresOwn}
+use Rattle.send_causes.specs.Counts.{pair_of, of_trial, of_retry, of_view, times_of, WasMade, ViewFits, TrialFits, IsOfCall, LabelLaw, StoresOwn}
 use Rattle.send_causes.proofs.Words.{made_on, finds_label, words_forward, makes_new, advances_new}
 use Rattle.send_causes.proofs.Views.{put_of, row_count, rights_count, PutsFit, row_fits, rights_fit}
 
@@ -81,59 +84,59 @@ few_of : (q : IdPlan) (ws : List Retry) → AllByRecursion (FitsRetryId q) ws �
 few_of q [] all = tt
 few_of q (w ∷ ws) all = (all.0.1, few_of q ws all.1)
 
-record Resolved (ids : ℕ → ℕ) (t : Trial) (ws : List Retry) (x : Program) : Type 0 where
+record Resolved (is_call : Asked → Type 0) (ids : ℕ → ℕ) (t : Trial) (ws : List Retry) (x : Program) : Type 0 where
   pub trial : Trial
-  pub labels : Labels trial (next_step (resolved ws x))
+  pub labels : Labels is_call trial (next_step (resolved ws x))
   pub fewer : (id n : ℕ) → of_trial id n trial + total (of_retry id n) (still_waiting ws x) ≤ of_trial id n t + total (of_retry id n) ws
   pub fits : TrialFits ids t → TrialFits ids trial
 
-stays : (ids : ℕ → ℕ) (t : Trial) (ws : List Retry) (x : Program) → Labels t (next_step (resolved ws x)) → still_waiting ws x ≡ ws → Resolved ids t ws x
-stays ids t ws x g e = record { trial = t; labels = g; fewer = λ id n. (let z : total (of_retry id n) (still_waiting ws x) ≡ total (of_retry id n) ws = ap (total (of_retry id n)) e in omega (arith, z)); fits = λ f. f }
+stays : (is_call : Asked → Type 0) (ids : ℕ → ℕ) (t : Trial) (ws : List Retry) (x : Program) → Labels is_call t (next_step (resolved ws x)) → still_waiting ws x ≡ ws → Resolved is_call ids t ws x
+stays is_call ids t ws x g e = record { trial = t; labels = g; fewer = λ id n. (let z : total (of_retry id n) (still_waiting ws x) ≡ total (of_retry id n) ws = ap (total (of_retry id n)) e in omega (arith, z)); fits = λ f. f }
 
-resolves : (ids : ℕ → ℕ) (t : Trial) (ws : List Retry) (x : Program) → AreFew ws → Labels t x → Resolved ids t ws x
-resolves ids t ws (Say o outcome next) few g = let r = resolves ids t ws next few g in record { trial = r.trial; labels = r.labels; fewer = r.fewer; fits = r.fits }
-resolves ids t ws (Sent o next) few g = let r = resolves ids t ws next few g in record { trial = r.trial; labels = r.labels; fewer = r.fewer; fits = r.fits }
-resolves ids t ws (Keep k next) few g = let r = resolves ids Idle (ws ++ k ∷ []) next (few_more ws k few g.1) g.2 in record {
+resolves : (is_call : Asked → Type 0) (ids : ℕ → ℕ) (t : Trial) (ws : List Retry) (x : Program) → AreFew ws → Labels is_call t x → Resolved is_call ids t ws x
+resolves is_call ids t ws (Say o outcome next) few g = let r = resolves is_call ids t ws next few g in record { trial = r.trial; labels = r.labels; fewer = r.fewer; fits = r.fits }
+resolves is_call ids t ws (Sent o next) few g = let r = resolves is_call ids t ws next few g in record { trial = r.trial; labels = r.labels; fewer = r.fewer; fits = r.fits }
+resolves is_call ids t ws (Keep k next) few g = let r = resolves is_call ids Idle (ws ++ k ∷ []) next (few_more ws k few g.1) g.2 in record {
   trial = r.trial;
   labels = r.labels;
   fewer = λ id n. (let a = r.fewer id n in let b : total (of_retry id n) (ws ++ k ∷ []) ≡ total (of_retry id n) ws + (of_retry id n k + 0) = total-append (of_retry id n) ws (k ∷ []) in let e : of_trial id n t ≡ of_retry id n k = ap (of_trial id n) g.0 in omega (arith, a, b, e));
   fits = λ f. r.fits tt;
 }
-resolves ids t [] (Retries requests after) few g = let r = resolves ids Idle [] after tt g in record { trial = r.trial; labels = r.labels; fewer = λ id n. (let a = r.fewer id n in omega (arith, a)); fits = λ f. r.fits tt }
-resolves ids t (k ∷ ws) (Retries requests after) few g = record {
+resolves is_call ids t [] (Retries requests after) few g = let r = resolves is_call ids Idle [] after tt g in record { trial = r.trial; labels = r.labels; fewer = λ id n. (let a = r.fewer id n in omega (arith, a)); fits = λ f. r.fits tt }
+resolves is_call ids t (k ∷ ws) (Retries requests after) few g = record {
   trial = Tries k.id k.attempt;
-  labels = retry_goes requests k.id k.attempt (Retries requests after) few.0 g;
+  labels = retry_goes is_call requests k.id k.attempt (Retries requests after) few.0 g;
   fewer = λ id n. omega arith;
   fits = λ f. tt;
 }
-resolves ids t ws (Do call next) few g = stays ids t ws (Do call next) g refl
-resolves ids t ws Rest few g = stays ids t ws Rest g refl
-resolves ids t ws (TakeMessage q next) few g = stays ids t ws (TakeMessage q next) g refl
-resolves ids t ws (TakeHome k next) few g = stays ids t ws (TakeHome k next) g refl
-resolves ids t ws (PutHome k n after) few g = stays ids t ws (PutHome k n after) g refl
-resolves ids t ws (PutBytes k asked bytes next) few g = stays ids t ws (PutBytes k asked bytes next) g refl
-resolves ids t ws (AskReady k next) few g = stays ids t ws (AskReady k next) g refl
-resolves ids t ws (Write w after) few g = stays ids t ws (Write w after) g refl
-resolves ids t ws (Aside step next) few g = stays ids t ws (Aside step next) g refl
-resolves ids t ws (Round head next) few g = stays ids t ws (Round head next) g refl
+resolves is_call ids t ws (Do call next) few g = stays is_call ids t ws (Do call next) g refl
+resolves is_call ids t ws Rest few g = stays is_call ids t ws Rest g refl
+resolves is_call ids t ws (TakeMessage q next) few g = stays is_call ids t ws (TakeMessage q next) g refl
+resolves is_call ids t ws (TakeHome k next) few g = stays is_call ids t ws (TakeHome k next) g refl
+resolves is_call ids t ws (PutHome k n after) few g = stays is_call ids t ws (PutHome k n after) g refl
+resolves is_call ids t ws (PutBytes k asked bytes next) few g = stays is_call ids t ws (PutBytes k asked bytes next) g refl
+resolves is_call ids t ws (AskReady k next) few g = stays is_call ids t ws (AskReady k next) g refl
+resolves is_call ids t ws (Write w after) few g = stays is_call ids t ws (Write w after) g refl
+resolves is_call ids t ws (Aside step next) few g = stays is_call ids t ws (Aside step next) g refl
+resolves is_call ids t ws (Round head next) few g = stays is_call ids t ws (Round head next) g refl
 
 -- ## First steps
 
-labels_first : (t : Trial) (program : Program) → Labels t program → Labels t (first_step program)
-labels_first t (Write w after) g = block_goes t w after g
-labels_first t (Round head next) g = labels_round t head next g
-labels_first t (Do call next) g = g
-labels_first t (Say o outcome next) g = g
-labels_first t (Sent o next) g = g
-labels_first t Rest g = g
-labels_first t (TakeMessage q next) g = g
-labels_first t (TakeHome k next) g = g
-labels_first t (PutHome k n after) g = g
-labels_first t (PutBytes k asked bytes next) g = g
-labels_first t (AskReady k next) g = g
-labels_first t (Aside step next) g = g
-labels_first t (Keep r next) g = g
-labels_first t (Retries requests after) g = g
+labels_first : (is_call : Asked → Type 0) (t : Trial) (program : Program) → Labels is_call t program → Labels is_call t (first_step program)
+labels_first is_call t (Write w after) g = block_goes is_call t w after g
+labels_first is_call t (Round head next) g = labels_round is_call t head next g
+labels_first is_call t (Do call next) g = g
+labels_first is_call t (Say o outcome next) g = g
+labels_first is_call t (Sent o next) g = g
+labels_first is_call t Rest g = g
+labels_first is_call t (TakeMessage q next) g = g
+labels_first is_call t (TakeHome k next) g = g
+labels_first is_call t (PutHome k n after) g = g
+labels_first is_call t (PutBytes k asked bytes next) g = g
+labels_first is_call t (AskReady k next) g = g
+labels_first is_call t (Aside step next) g = g
+labels_first is_call t (Keep r next) g = g
+labels_first is_call t (Retries requests after) g = g
 
 ids_first : (p : Plan) (q : IdPlan) → q.slots ≤ 65536 → (u : IdView) (program : Program) → IdGoesOn p q u program → IdGoesOn p q u (first_step program)
 ids_first p q narrow u (Write w after) g = id_programs.block_goes p q narrow u w after g
@@ -171,6 +174,44 @@ fits_as p c program call next e f = by program e f
     by (Keep r k) e f = subst (FitsFirst p c) e f
     by (Retries n k) e f = subst (FitsFirst p c) e f
 
+-- ## Calls at home
+
+abbrev pub AreCalls : (Asked → Type 0) → Calls → Type 0
+AreCalls is_call a = (k : ℕ) (asked : Asked) → call_at (get_elem? a.homes k) ≡ some asked → is_call asked
+
+abbrev PutsCall : (Asked → Type 0) → Step → Type 0
+PutsCall is_call (PutCall i asked) = is_call asked
+PutsCall is_call other = Unit {0}
+
+home_is : (x : Option (Option (std.Option Asked))) (asked : Asked) → call_at x ≡ some asked → x ≡ some (some (std.Some asked))
+home_is none asked e = absurd (some-ne-none asked (sym e))
+home_is (some none) asked e = absurd (some-ne-none asked (sym e))
+home_is (some (some std.None)) asked e = absurd (some-ne-none asked (sym e))
+home_is (some (some (std.Some a))) asked e = ap (λ (z : Asked). some (some (std.Some z))) (some-injective a asked e)
+
+one_asked : (a b : Asked) → some (std.Some a) ≡ some (std.Some b) → a ≡ b
+one_asked a b e = cc
+
+abbrev pub none_asked : std.Option Asked
+none_asked = std.None
+
+no_asked : (a : Asked) → some none_asked ≡ some (std.Some a) → ⊥
+no_asked a e = cc
+
+calls_given : (is_call : Asked → Type 0) (k : ℕ) (t : Taking) (a : Calls) → AreCalls is_call a → AreCalls is_call (more_given k t a)
+calls_given is_call k (Bytes bytes) a h = h
+calls_given is_call k _ a h = h
+
+calls_behind : (is_call : Asked → Type 0) (x : Step) (found : Found x) (a : Calls) → PutsCall is_call x → AreCalls is_call a → AreCalls is_call (calls_after x found a)
+calls_behind is_call (PutCall i asked) found a puts h = λ n other at. ⊎_elim
+    (λ r. subst is_call (one_asked asked other r.1) puts) (λ r. h n other (ap call_at r.1))
+    (at_set a.homes i n (some (std.Some asked)) (some (std.Some other)) (home_is (get_elem? (set a.homes i (some (std.Some asked))) n) other at))
+calls_behind is_call (TakeCall i) found a puts h = λ n other at. ⊎_elim
+    (λ r. absurd (no_asked other r.1)) (λ r. h n other (ap call_at r.1))
+    (at_set a.homes i n (some std.None) (some (std.Some other)) (home_is (get_elem? (set a.homes i (some std.None)) n) other at))
+calls_behind is_call (TakeBytes k room) found a puts h = calls_given is_call k found a h
+calls_behind is_call _ found a puts h = h
+
 -- ## Retries that wait
 
 calls_waiting : (step : Step) (found : Found step) (a : Calls) → (calls_after step found a).waiting ≡ a.waiting
@@ -201,9 +242,9 @@ kept_fits ids t u (inr e) f = subst (TrialFits ids) (sym e) tt
 
 -- ## A tick
 
-module _ (p : Plan) (q : IdPlan) (narrow : q.slots ≤ 65536) (ids : ℕ → ℕ) (c : Core) (vs : List View) (ts : List Trial) (law : LabelLaw ids p q c vs ts) (us : List IdView) (real_ids : SoundIds p q c us) where
+module _ (p : Plan) (q : IdPlan) (narrow : q.slots ≤ 65536) (is_call : Asked → Type 0) (ids : ℕ → ℕ) (c : Core) (vs : List View) (ts : List Trial) (law : LabelLaw is_call ids p q c vs ts) (us : List IdView) (real_ids : SoundIds p q c us) where
   abbrev pub After : Core → List View → Type 0
-  After c' vs' = (ts' : List Trial) × LabelLaw ids p q c' vs' ts'
+  After c' vs' = (ts' : List Trial) × LabelLaw is_call ids p q c' vs' ts'
 
   abbrev Times : ℕ → ℕ → ℕ
   Times id n = times_of id n c vs ts
@@ -211,11 +252,12 @@ module _ (p : Plan) (q : IdPlan) (narrow : q.slots ≤ 65536) (ids : ℕ → ℕ
   module _ (i : ℕ) (seat : SeatState) (v : View) (t : Trial) (at_seat : get_elem? c.seats i ≡ some seat) (at_view : get_elem? vs i ≡ some v) (at_trial : get_elem? ts i ≡ some t) where
     -- the seat goes on with this program, trial and view; these attempts are made by the step
     record Goes (a : Calls) (x : Program) (u : Trial) (w : View) : Type 0 where
-      pub labels : Labels u x
+      pub labels : Labels is_call u x
       pub kept : a.waiting ≡ c.calls.waiting
       pub words : (id n : ℕ) → WasMade q c.calls.words id n → WasMade q a.words id n
       pub fits : TrialFits ids u
-      pub view : ViewFits ids p w
+      pub view : ViewFits is_call ids p w
+      pub calls : AreCalls is_call a
       pub new : ℕ → ℕ → ℕ
       pub fewer : (id n : ℕ) → of_trial id n u + of_view id n w ≤ of_trial id n t + of_view id n v + new id n
       pub fresh : (id n : ℕ) → 0 < new id n → (new id n ≤ 1) × (times_of id n c vs ts ≡ 0) × WasMade q a.words id n
@@ -224,8 +266,8 @@ module _ (p : Plan) (q : IdPlan) (narrow : q.slots ≤ 65536) (ids : ℕ → ℕ
       few : AreFew (waiting_at a.waiting i)
       few = few_of q (waiting_at a.waiting i) (subst (λ (l : List (List Retry)). AllByRecursion (FitsRetryId q) (waiting_at l i)) (sym g.kept) (real_ids.waiting i))
 
-      abbrev r : Resolved ids u (waiting_at a.waiting i) x
-      r = resolves ids u (waiting_at a.waiting i) x few g.labels
+      abbrev r : Resolved is_call ids u (waiting_at a.waiting i) x
+      r = resolves is_call ids u (waiting_at a.waiting i) x few g.labels
 
       abbrev next_seat : SeatState
       next_seat = record { program = next_step (resolved (waiting_at a.waiting i) x); hand = hand }
@@ -241,41 +283,43 @@ module _ (p : Plan) (q : IdPlan) (narrow : q.slots ≤ 65536) (ids : ℕ → ℕ
         once = λ id n. dite (ℕ_discrete (g.new id n) 0) (λ z. let b = bound id n in let o = law.once id n in omega (arith, b, z, o))
             (λ ne. let b = bound id n in let f = g.fresh id n (omega (arith, ne)) in let one = f.0 in let none_ = f.1 in omega (arith, b, one, none_));
         made = λ id n some_. dite (ℕ_discrete (g.new id n) 0) (λ z. let b = bound id n in g.words id n (law.made id n (omega (arith, b, z, some_)))) (λ ne. (g.fresh id n (omega (arith, ne))).2);
-        views = λ j y e. ⊎_elim (λ b. subst (ViewFits ids p) b.1 g.view) (λ b. law.views j y b.1) (at_set vs i j w y e);
+        views = λ j y e. ⊎_elim (λ b. subst (ViewFits is_call ids p) b.1 g.view) (λ b. law.views j y b.1) (at_set vs i j w y e);
         trials = λ j y e. ⊎_elim (λ b. subst (TrialFits ids) b.1 (r.fits g.fits)) (λ b. law.trials j y b.1) (at_set ts i j r.trial y e);
+        calls = g.calls;
         each = length-set ts i r.trial ∙ (law.each ∙ sym (length-set c.seats i next_seat));
         programs = λ j s' y es et. ⊎_elim
-            (λ b. ⊎_elim (λ d. subst (λ (z : SeatState). Labels y z.program) b.1 (subst (λ z. Labels z next_seat.program) d.1 r.labels)) (λ d. absurd (d.0 b.0)) (at_set ts i j r.trial y et))
+            (λ b. ⊎_elim (λ d. subst (λ (z : SeatState). Labels is_call y z.program) b.1 (subst (λ z. Labels is_call z next_seat.program) d.1 r.labels)) (λ d. absurd (d.0 b.0)) (at_set ts i j r.trial y et))
             (λ b. ⊎_elim (λ d. absurd (b.0 d.0)) (λ d. law.programs j s' y b.1 d.1) (at_set ts i j r.trial y et)) (at_set c.seats i j next_seat s' es);
       })
 
-    fits_view : ViewFits ids p v
+    fits_view : ViewFits is_call ids p v
     fits_view = law.views i v at_view
 
     fits_trial : TrialFits ids t
     fits_trial = law.trials i t at_trial
 
     -- a move of the seat that is no step on words
-    pub moves : (x : Program) (hand : List Home) (hs : List (Option Home)) (w : View) (rights : List Right) → w ≡ with_rights v rights → Labels Idle x → After (with_seat i x hand c.words hs (record c { calls = c.calls })) (set vs i w)
+    pub moves : (x : Program) (hand : List Home) (hs : List (Option Home)) (w : View) (rights : List Right) → w ≡ with_rights v rights → Labels is_call Idle x → After (with_seat i x hand c.words hs (record c { calls = c.calls })) (set vs i w)
     moves x hand hs w rights e g = goes_on c.calls x hand c.words hs Idle w record {
       labels = g;
       kept = refl;
       words = λ id n m. m;
       fits = tt;
-      view = rights_fit v ids p fits_view w rights e;
+      calls = law.calls;
+      view = rights_fit v is_call ids p fits_view w rights e;
       new = λ id n. 0;
       fewer = λ id n. (let a = rights_count v id n w rights e in omega (arith, a));
       fresh = λ id n z. absurd (omega (arith, z));
     }
 
     -- a message of a call takes the attempt with it
-    put_count : (id n : ℕ) (call : Call) → Rattle.label_runs.specs.Labels.MayPut t call → of_trial id n (put_behind t call) + put_of v id n call ≤ of_trial id n t
+    put_count : (id n : ℕ) (call : Call) → Rattle.label_runs.specs.Labels.MayPut is_call t call → of_trial id n (put_behind t call) + put_of v id n call ≤ of_trial id n t
     put_count id n (PutMessage r heading bytes) may = ⊎_elim
         (λ none_. (let z : cond (eqb heading.owner 0) 0 (pair_of id n heading.owner heading.attempt) ≡ 0 = ap (λ b. cond b 0 (pair_of id n heading.owner heading.attempt)) (eq-eqb heading.owner 0 none_.0) in omega (arith, z)))
         (λ h. by (eqb heading.owner 0) (as_trial t h)) may
       where
-        as_trial : (t : Trial) → IsOfTrial t heading → pair_of id n heading.owner heading.attempt ≤ of_trial id n t
-        as_trial (Sends o j m) h = let z : pair_of id n heading.owner heading.attempt ≡ pair_of id n j m = ap (λ x. pair_of id n x heading.attempt) h.0 ∙ ap (pair_of id n j) h.1 in omega (arith, z)
+        as_trial : (t : Trial) → IsOfTrial is_call t heading bytes → pair_of id n heading.owner heading.attempt ≤ of_trial id n t
+        as_trial (Sends o j m) h = let z : pair_of id n heading.owner heading.attempt ≡ pair_of id n j m = ap (λ (x : Heading). pair_of id n x.owner x.attempt) h.3 in omega (arith, z)
         as_trial Idle h = absurd h
         as_trial (Tries j m) h = absurd h
 
@@ -284,11 +328,21 @@ module _ (p : Plan) (q : IdPlan) (narrow : q.slots ≤ 65536) (ids : ℕ → ℕ
         by false a = omega (arith, a)
     put_count id n _ may = omega arith
 
-    put_fits : (call : Call) → Rattle.label_runs.specs.Labels.MayPut t call → PutsFit v ids p fits_view call
+    put_fits : (call : Call) → Rattle.label_runs.specs.Labels.MayPut is_call t call → PutsFit v is_call ids p fits_view call
     put_fits (PutMessage r heading bytes) may = ⊎_elim (λ none_. inl none_) (λ h. inr (of_t t h fits_trial)) may
       where
-        of_t : (t : Trial) → IsOfTrial t heading → TrialFits ids t → (heading.owner ≢ 0) × (ids heading.operation ≡ heading.owner) × (heading.place ≡ 8 * heading.operation + heading.attempt) × (heading.attempt ≤ 6)
-        of_t (Sends o j m) h f = ((λ z. f.1 (sym h.0 ∙ z)), ap ids h.2 ∙ f.0 ∙ sym h.0, (let x = h.3 in let y = h.2 in let z = h.1 in omega (arith, x, y, z)), (let z = h.1 in let few = f.2 in omega (arith, z, few)))
+        of_t : (t : Trial) → IsOfTrial is_call t heading bytes → TrialFits ids t → IsOfCall is_call ids heading bytes
+        of_t (Sends o j m) h f = let owner : heading.owner ≡ j = ap (λ (x : Heading). x.owner) h.3 in let attempt : heading.attempt ≡ m = ap (λ (x : Heading). x.attempt) h.3 in
+            let operation : heading.operation ≡ h.0.operation = ap (λ (x : Heading). x.operation) h.3 in let place : heading.place ≡ 8 * h.0.operation + m = ap (λ (x : Heading). x.place) h.3 in (
+              (λ z. f.1 (sym owner ∙ z)),
+              ap ids (operation ∙ h.2) ∙ (f.0 ∙ sym owner),
+              omega (arith, place, operation, attempt),
+              (let few = f.2 in omega (arith, attempt, few)),
+              (h.0, h.1, sym operation, h.4 ∙ frames h.0 j heading.owner m heading.attempt (sym owner) (sym attempt)),
+            )
+          where
+            frames : (asked : Asked) (x y m n : ℕ) → x ≡ y → m ≡ n → frame_of asked x m ≡ frame_of asked y n
+            frames asked x y m n e f = ap (λ z. frame_of asked z m) e ∙ ap (frame_of asked y) f
         of_t Idle h f = absurd h
         of_t (Tries j m) h f = absurd h
     put_fits _ may = tt
@@ -298,7 +352,7 @@ module _ (p : Plan) (q : IdPlan) (narrow : q.slots ≤ 65536) (ids : ℕ → ℕ
     behind_fits _ = fits_trial
 
     -- a step on the sockets
-    steps : (call : Call) (next : ℕ → Program) → May p v call → Labels t (Do call next) → FitsSock call (found_at c.words (word_of p call)) → After (stepped p i seat call next c) (set vs i (row p call (found_at c.words (word_of p call)) (hand_at p c.words c.homes call) v))
+    steps : (call : Call) (next : ℕ → Program) → May p v call → Labels is_call t (Do call next) → FitsSock call (found_at c.words (word_of p call)) → After (stepped p i seat call next c) (set vs i (row p call (found_at c.words (word_of p call)) (hand_at p c.words c.homes call) v))
     steps call next may g fits = let found : ℕ = found_at c.words (word_of p call) in let u = g.1 (found_at c.words (word_of p call)) fits in
         goes_on c.calls (next (found_at c.words (word_of p call))) (hand_after p call c.homes seat.hand) (words_after c.words (word_of p call) (word_after call (found_at c.words (word_of p call)))) (homes_after p call seat.hand c.homes) u.0
         (row p call (found_at c.words (word_of p call)) (hand_at p c.words c.homes call) v) record {
@@ -306,7 +360,8 @@ module _ (p : Plan) (q : IdPlan) (narrow : q.slots ≤ 65536) (ids : ℕ → ℕ
           kept = refl;
           words = λ id n m. m;
           fits = kept_fits ids (put_behind t call) u.0 u.1 (behind_fits call);
-          view = row_fits v ids p fits_view (found_at c.words (word_of p call)) (hand_at p c.words c.homes call) call may (put_fits call g.0);
+          calls = law.calls;
+          view = row_fits v is_call ids p fits_view (found_at c.words (word_of p call)) (hand_at p c.words c.homes call) call may (put_fits call g.0);
           new = λ id n. 0;
           fewer = λ id n. (let a = row_count v id n p (found_at c.words (word_of p call)) (hand_at p c.words c.homes call) call in let b = put_count id n call g.0 in let d = kept_count id n (put_behind t call) u.0 u.1 in omega (arith, a, b, d));
           fresh = λ id n z. absurd (omega (arith, z));
@@ -314,7 +369,7 @@ module _ (p : Plan) (q : IdPlan) (narrow : q.slots ≤ 65536) (ids : ℕ → ℕ
 
     module _ (u : IdView) (at : get_elem? us i ≡ some u) where
       -- a step aside
-      module _ (step : Step) (next : Found step → Program) (found : Found step) (answer : Option Taking) (is : found_in step c.calls answer ≡ some found) (may : MayId p q u step) where
+      module _ (step : Step) (next : Found step → Program) (found : Found step) (answer : Option Taking) (is : found_in step c.calls answer ≡ some found) (may : MayId p q u step) (puts : PutsCall is_call step) where
         finds : FindsId p q u step found
         finds = finds_ids p q c.calls real_ids.plan us real_ids.rule i u at (real_ids.real i u at) (real_ids.called, real_ids.placed) real_ids.homes step answer found is may
 
@@ -325,30 +380,32 @@ module _ (p : Plan) (q : IdPlan) (narrow : q.slots ≤ 65536) (ids : ℕ → ℕ
         Ends = After (with_seat i (next found) seat.hand c.words c.homes (record c { calls = calls_after step found c.calls })) vs
 
         -- the attempt of the seat stays, or is given up
-        still : (w : Trial) → Labels w (next found) → TrialFits ids w → ((id n : ℕ) → of_trial id n w ≤ of_trial id n t) → Ends
+        still : (w : Trial) → Labels is_call w (next found) → TrialFits ids w → ((id n : ℕ) → of_trial id n w ≤ of_trial id n t) → Ends
         still w g fits fewer = subst (λ xs. After (with_seat i (next found) seat.hand c.words c.homes (record c { calls = calls_after step found c.calls })) xs) (set_again vs i v at_view)
             (goes_on (calls_after step found c.calls) (next found) seat.hand c.words c.homes w v record {
               labels = g;
               kept = calls_waiting step found c.calls;
               words = words_on;
               fits = fits;
+              calls = calls_behind is_call step found c.calls puts law.calls;
               view = fits_view;
               new = λ id n. 0;
               fewer = λ id n. (let a = fewer id n in omega (arith, a));
               fresh = λ id n z. absurd (omega (arith, z));
             })
 
-        keeps : (w : Trial) → Kept t w → Labels w (next found) → Ends
+        keeps : (w : Trial) → Kept t w → Labels is_call w (next found) → Ends
         keeps w k g = still w g (kept_fits ids t w k fits_trial) (λ id n. kept_count id n t w k)
 
         -- a new attempt
-        makes : (id₀ n₀ : ℕ) → Labels (Tries id₀ n₀) (next found) → WasMade q (calls_after step found c.calls).words id₀ n₀ → (WasMade q c.calls.words id₀ n₀ → ⊥) → Ends
+        makes : (id₀ n₀ : ℕ) → Labels is_call (Tries id₀ n₀) (next found) → WasMade q (calls_after step found c.calls).words id₀ n₀ → (WasMade q c.calls.words id₀ n₀ → ⊥) → Ends
         makes id₀ n₀ g made unmade = subst (λ xs. After (with_seat i (next found) seat.hand c.words c.homes (record c { calls = calls_after step found c.calls })) xs) (set_again vs i v at_view)
             (goes_on (calls_after step found c.calls) (next found) seat.hand c.words c.homes (Tries id₀ n₀) v record {
               labels = g;
               kept = calls_waiting step found c.calls;
               words = words_on;
               fits = tt;
+              calls = calls_behind is_call step found c.calls puts law.calls;
               view = fits_view;
               new = λ id n. pair_of id n id₀ n₀;
               fewer = λ id n. omega arith;
@@ -360,38 +417,38 @@ module _ (p : Plan) (q : IdPlan) (narrow : q.slots ≤ 65536) (ids : ℕ → ℕ
             })
 
       stored_ends : (o w : ℕ) (next : ℕ → Program) (found : ℕ) (answer : Option Taking) (is : found_in (StoreAt o w) c.calls answer ≡ some found) (may : MayId p q u (StoreAt o w)) → ((id n k : ℕ) → w ≡ at_word (id_first id) (id_slot id) k n → k < 65535 → n ≤ 6 → (ids o ≡ id) × (id ≢ 0))
-          → (x : Trial) → Storing o w t x → Labels x (next found) → After (with_seat i (next found) seat.hand c.words c.homes (record c { calls = calls_after (StoreAt o w) found c.calls })) vs
-      stored_ends o w next found answer is may own x (inl e) g = keeps (StoreAt o w) next found answer is may x (inr e) g
-      stored_ends o w next found answer is may own x (inr s) g = still (StoreAt o w) next found answer is may x g
+          → (x : Trial) → Storing o w t x → Labels is_call x (next found) → After (with_seat i (next found) seat.hand c.words c.homes (record c { calls = calls_after (StoreAt o w) found c.calls })) vs
+      stored_ends o w next found answer is may own x (inl e) g = keeps (StoreAt o w) next found answer is may tt x (inr e) g
+      stored_ends o w next found answer is may own x (inr s) g = still (StoreAt o w) next found answer is may tt x g
           (subst (TrialFits ids) (sym s.7) (let y = own s.0 s.1 s.2 s.4 s.5 s.6 in (y.0, y.1, s.6))) (λ id n. (let a : of_trial id n x ≡ pair_of id n s.0 s.1 = ap (of_trial id n) s.7 in let b : of_trial id n t ≡ pair_of id n s.0 s.1 = ap (of_trial id n) s.3 in omega (arith, a, b)))
 
       -- each step aside
-      asides : (step : Step) (next : Found step → Program) (found : Found step) (answer : Option Taking) (is : found_in step c.calls answer ≡ some found) (may : MayId p q u step) → Labels t (Aside step next)
+      asides : (step : Step) (next : Found step → Program) (found : Found step) (answer : Option Taking) (is : found_in step c.calls answer ≡ some found) (may : MayId p q u step) → Labels is_call t (Aside step next)
           → ((o w : ℕ) (e : step ≡ StoreAt o w) → (id n k : ℕ) → w ≡ at_word (id_first id) (id_slot id) k n → k < 65535 → n ≤ 6 → (ids o ≡ id) × (id ≢ 0))
           → After (with_seat i (next found) seat.hand c.words c.homes (record c { calls = calls_after step found c.calls })) vs
-      asides (MakeId k range) next found answer is may g own = let x = g found tt in let f = finds (MakeId k range) next found answer is may in let m = makes_new p q c us real_ids i u at k range found is may f in
-          makes (MakeId k range) next found answer is may (call_id k (parts found).first) 0 (subst (λ y. Labels y (next found)) x.1 x.2) m.0 (m.1 0)
+      asides (MakeId k range) next found answer is may g own = let x = g found tt in let f = finds (MakeId k range) next found answer is may tt in let m = makes_new p q c us real_ids i u at k range found is may f in
+          makes (MakeId k range) next found answer is may tt (call_id k (parts found).first) 0 (subst (λ y. Labels is_call y (next found)) x.1 x.2) m.0 (m.1 0)
       asides (StoreAt o w) next found answer is may g own = let x = g found tt in stored_ends o w next found answer is may (own o w refl) x.0 x.1 x.2
-      asides (UnlockId k from false) next found answer is may g own = let l = finds_label p q c us real_ids i u at (UnlockId k from false) found may (finds (UnlockId k from false) next found answer is may) in let x = g found l in
-          keeps (UnlockId k from false) next found answer is may x.0 (inl x.1) x.2
-      asides (UnlockId k from true) next found answer is may g own = let l = finds_label p q c us real_ids i u at (UnlockId k from true) found may (finds (UnlockId k from true) next found answer is may) in let x = g found l in by (eqb found from) refl x.0 x.1 x.2
+      asides (UnlockId k from false) next found answer is may g own = let l = finds_label p q c us real_ids i u at (UnlockId k from false) found may (finds (UnlockId k from false) next found answer is may tt) in let x = g found l in
+          keeps (UnlockId k from false) next found answer is may tt x.0 (inl x.1) x.2
+      asides (UnlockId k from true) next found answer is may g own = let l = finds_label p q c us real_ids i u at (UnlockId k from true) found may (finds (UnlockId k from true) next found answer is may tt) in let x = g found l in by (eqb found from) refl x.0 x.1 x.2
         where
-          by : (b : Bool) → eqb found from ≡ b → (y : Trial) → y ≡ unlocked_trial k from true found t → Labels y (next found) → After (with_seat i (next found) seat.hand c.words c.homes (record c { calls = calls_after (UnlockId k from true) found c.calls })) vs
-          by true hit y e h = let m = advances_new p q c us real_ids i u at k from found is (eqb-true found from hit) may (finds_label p q c us real_ids i u at (UnlockId k from true) found may (finds (UnlockId k from true) next found answer is may)) in
-              makes (UnlockId k from true) next found answer is may (call_id k (parts from).first) ((parts from).attempt + 1) (subst (λ z. Labels z (next found)) (e ∙ ap (λ b. cond b (Tries (call_id k (parts from).first) ((parts from).attempt + 1)) t) hit) h) m.0 m.1
-          by false miss y e h = keeps (UnlockId k from true) next found answer is may y (inl (e ∙ ap (λ b. cond b (Tries (call_id k (parts from).first) ((parts from).attempt + 1)) t) miss)) h
-      asides (ClaimId k) next found answer is may g own = let x = g found tt in keeps (ClaimId k) next found answer is may x.0 x.1 x.2
-      asides (PutCall k asked) next found answer is may g own = let x = g found tt in keeps (PutCall k asked) next found answer is may x.0 x.1 x.2
-      asides (StoreCall o id) next found answer is may g own = let x = g found tt in keeps (StoreCall o id) next found answer is may x.0 x.1 x.2
-      asides (LoadCall o) next found answer is may g own = let x = g found tt in keeps (LoadCall o) next found answer is may x.0 x.1 x.2
-      asides (LoadAt o) next found answer is may g own = let x = g found tt in keeps (LoadAt o) next found answer is may x.0 x.1 x.2
-      asides (LoadIdWord k) next found answer is may g own = let x = g found tt in keeps (LoadIdWord k) next found answer is may x.0 x.1 x.2
-      asides (LockId k from) next found answer is may g own = let x = g found tt in keeps (LockId k from) next found answer is may x.0 x.1 x.2
-      asides (PostId k from e) next found answer is may g own = let x = g found tt in keeps (PostId k from e) next found answer is may x.0 x.1 x.2
-      asides (EndId k) next found answer is may g own = let x = g found tt in keeps (EndId k) next found answer is may x.0 x.1 x.2
-      asides (FreeId k) next found answer is may g own = let x = g found tt in keeps (FreeId k) next found answer is may x.0 x.1 x.2
-      asides (TakeCall k) next found answer is may g own = let x = g found tt in keeps (TakeCall k) next found answer is may x.0 x.1 x.2
-      asides (TakeBytes k room) next found answer is may g own = let x = g found tt in keeps (TakeBytes k room) next found answer is may x.0 x.1 x.2
+          by : (b : Bool) → eqb found from ≡ b → (y : Trial) → y ≡ unlocked_trial k from true found t → Labels is_call y (next found) → After (with_seat i (next found) seat.hand c.words c.homes (record c { calls = calls_after (UnlockId k from true) found c.calls })) vs
+          by true hit y e h = let m = advances_new p q c us real_ids i u at k from found is (eqb-true found from hit) may (finds_label p q c us real_ids i u at (UnlockId k from true) found may (finds (UnlockId k from true) next found answer is may tt)) in
+              makes (UnlockId k from true) next found answer is may tt (call_id k (parts from).first) ((parts from).attempt + 1) (subst (λ z. Labels is_call z (next found)) (e ∙ ap (λ b. cond b (Tries (call_id k (parts from).first) ((parts from).attempt + 1)) t) hit) h) m.0 m.1
+          by false miss y e h = keeps (UnlockId k from true) next found answer is may tt y (inl (e ∙ ap (λ b. cond b (Tries (call_id k (parts from).first) ((parts from).attempt + 1)) t) miss)) h
+      asides (ClaimId k) next found answer is may g own = let x = g found tt in keeps (ClaimId k) next found answer is may tt x.0 x.1 x.2
+      asides (PutCall k asked) next found answer is may g own = let x = g found tt in keeps (PutCall k asked) next found answer is may x.1.1 x.0 x.1.0 x.2
+      asides (StoreCall o id) next found answer is may g own = let x = g found tt in keeps (StoreCall o id) next found answer is may tt x.0 x.1 x.2
+      asides (LoadCall o) next found answer is may g own = let x = g found tt in keeps (LoadCall o) next found answer is may tt x.0 x.1 x.2
+      asides (LoadAt o) next found answer is may g own = let x = g found tt in keeps (LoadAt o) next found answer is may tt x.0 x.1 x.2
+      asides (LoadIdWord k) next found answer is may g own = let x = g found tt in keeps (LoadIdWord k) next found answer is may tt x.0 x.1 x.2
+      asides (LockId k from) next found answer is may g own = let x = g found tt in keeps (LockId k from) next found answer is may tt x.0 x.1 x.2
+      asides (PostId k from e) next found answer is may g own = let x = g found tt in keeps (PostId k from e) next found answer is may tt x.0 x.1 x.2
+      asides (EndId k) next found answer is may g own = let x = g found tt in keeps (EndId k) next found answer is may tt x.0 x.1 x.2
+      asides (FreeId k) next found answer is may g own = let x = g found tt in keeps (FreeId k) next found answer is may tt x.0 x.1 x.2
+      asides (TakeCall k) next found answer is may g own = let x = g found (law.calls k found is) in keeps (TakeCall k) next found answer is may tt x.0 x.1 x.2
+      asides (TakeBytes k room) next found answer is may g own = let x = g found tt in keeps (TakeBytes k room) next found answer is may tt x.0 x.1 x.2
 
   -- a tick of any seat
   module _ (sound : Sound p c vs) (m : Moment) (answered : IsAnswered c m) (fitting : IsFittingIds p c m) (own : StoresOwn ids c m) where
@@ -401,8 +458,8 @@ module _ (p : Plan) (q : IdPlan) (narrow : q.slots ≤ 65536) (ids : ℕ → ℕ
     view_of : (seat : SeatState) → get_elem? c.seats m.seat ≡ some seat → (u : IdView) × (get_elem? us m.seat ≡ some u)
     view_of seat at = elem_there c.seats us m.seat seat real_ids.each at
 
-    first_as : (seat : SeatState) (at : get_elem? c.seats m.seat ≡ some seat) (x : Program) → first_step seat.program ≡ x → Labels (trial_of seat at).0 x
-    first_as seat at x is = let t = trial_of seat at in subst (Labels t.0) is (labels_first t.0 seat.program (law.programs m.seat seat t.0 at t.1))
+    first_as : (seat : SeatState) (at : get_elem? c.seats m.seat ≡ some seat) (x : Program) → first_step seat.program ≡ x → Labels is_call (trial_of seat at).0 x
+    first_as seat at x is = let t = trial_of seat at in subst (Labels is_call t.0) is (labels_first is_call t.0 seat.program (law.programs m.seat seat t.0 at t.1))
 
     may_as : (seat : SeatState) (at : get_elem? c.seats m.seat ≡ some seat) (x : Program) → first_step seat.program ≡ x → IdGoesOn p q (view_of seat at).0 x
     may_as seat at x is = let u = view_of seat at in subst (IdGoesOn p q u.0) is (ids_first p q narrow u.0 seat.program (real_ids.seats m.seat seat u.0 at u.1))

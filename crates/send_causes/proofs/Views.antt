@@ -15,6 +15,7 @@ use Rattle.sock_model.specs.ChainRows.{with_claim, entry_of, more, queued, right
 use Rattle.sock_model.specs.Memory.{IDLE, UNCONNECTED}
 use Rattle.sock_model.specs.Weights.{total, only}
 use Rattle.slot_laws.proofs.Sums.{total-append}
+use Rattle.sock_message.specs.Asked.{Asked}
 use Rattle.sock_programs.specs.Calls.{Call, ClaimSlot, GiveBirth, AddRef, SubRef, SetOdd, Recycle, FreeSlot, StoreLink, LoadLink, ResetHead, WipeCode, StoreCode, StoreName, LoadName, StoreOpen, LoadOpen, TakeLink, FinishLink, PutLink, LookWord, FindLink, LoadCode, ClaimRequest, PutMessage, Unconnect, SwapHead, Connect, EmptyHead, ReadNext, TurnNext, FreeRequest, StorePlace, DropPlace}
 use Rattle.sock_runs.specs.Rows.{row, is_id, by_claim, exchanged, filled_claim, ready_claim, looked_clean, emptied, read_next, turned_next, freed_next, placed_next, dropped_next}
 use Rattle.sock_runs.specs.May.{May}
@@ -127,23 +128,23 @@ module _ (v : View) where
 
   -- ## Headings
 
-  module _ (ids : ℕ → ℕ) (p : Plan) (fits : ViewFits ids p v) where
+  module _ (is_call : Asked → Type 0) (ids : ℕ → ℕ) (p : Plan) (fits : ViewFits is_call ids p v) where
     abbrev Fits : View → Type 0
-    Fits u = ViewFits ids p u
+    Fits u = ViewFits is_call ids p u
 
     same_fits : (u : View) → Same u → Fits u
-    same_fits u s = (subst (AllByRecursion (ClaimFits ids p)) (sym s.0) fits.0, subst (AllByRecursion (AllByRecursion (EntryFits ids p))) (sym s.1) fits.1)
+    same_fits u s = (subst (AllByRecursion (ClaimFits is_call ids p)) (sym s.0) fits.0, subst (AllByRecursion (AllByRecursion (EntryFits is_call ids p))) (sym s.1) fits.1)
 
-    all_more : (l : List Entry) (e : Entry) → AllByRecursion (EntryFits ids p) l → EntryFits ids p e → AllByRecursion (EntryFits ids p) (l ++ e ∷ [])
+    all_more : (l : List Entry) (e : Entry) → AllByRecursion (EntryFits is_call ids p) l → EntryFits is_call ids p e → AllByRecursion (EntryFits is_call ids p) (l ++ e ∷ [])
     all_more [] e all one = (one, tt)
     all_more (x ∷ l) e all one = (all.0, all_more l e all.1 one)
 
-    more_fits : (ls : List (List Entry)) (e : Entry) → AllByRecursion (AllByRecursion (EntryFits ids p)) ls → EntryFits ids p e → AllByRecursion (AllByRecursion (EntryFits ids p)) (more ls e)
+    more_fits : (ls : List (List Entry)) (e : Entry) → AllByRecursion (AllByRecursion (EntryFits is_call ids p)) ls → EntryFits is_call ids p e → AllByRecursion (AllByRecursion (EntryFits is_call ids p)) (more ls e)
     more_fits [] e all one = tt
     more_fits (l ∷ ls) e all one = (all_more l e all.0 one, all.1)
 
-    first_fits : (cs : List Claim) (x : Claim) (xs : List Claim) → v.claims ≡ cs → cs ≡ x ∷ xs → ClaimFits ids p x
-    first_fits cs x xs e is = (subst (AllByRecursion (ClaimFits ids p)) (e ∙ is) fits.0).0
+    first_fits : (cs : List Claim) (x : Claim) (xs : List Claim) → v.claims ≡ cs → cs ≡ x ∷ xs → ClaimFits is_call ids p x
+    first_fits cs x xs e is = (subst (AllByRecursion (ClaimFits is_call ids p)) (e ∙ is) fits.0).0
 
     ready_fits : (cs : List Claim) → v.claims ≡ cs → Fits (by_claim cs (λ c. with_claim v (ready_claim c)) v)
     ready_fits [] e = fits
@@ -155,18 +156,18 @@ module _ (v : View) where
         split (nat_lt found IDLE) (queued v x found) (righted v x found hand.took hand.next) Fits (tt, more_fits v.lists (entry_of x found) fits.1 (one.0, body)) (tt, more_fits v.lists (entry_of x (found - IDLE)) fits.1 (one.0, body))
 
     abbrev pub PutsFit : Call → Type 0
-    PutsFit (PutMessage q heading bytes) = HeadFits ids heading
+    PutsFit (PutMessage q heading bytes) = HeadFits is_call ids heading bytes
     PutsFit other = Unit {0}
 
     filled_of : (i own : ℕ) → May p v (SwapHead i own) → (x : Claim) (xs : List Claim) → v.claims ≡ x ∷ xs → x.filled ≡ true
     filled_of i own may x xs e = let m = may.1 in let same : m.claim ∷ [] ≡ x ∷ xs = sym m.claims ∙ e in let one : m.claim ≡ x = cc in ap (λ (c : Claim). c.filled) (sym one) ∙ m.is_filled
 
-    pub row_fits : (found : ℕ) (hand : Hand) (call : Call) → May p v call → PutsFit call → ViewFits ids p (row p call found hand v)
+    pub row_fits : (found : ℕ) (hand : Hand) (call : Call) → May p v call → PutsFit call → ViewFits is_call ids p (row p call found hand v)
     row_fits found hand (ClaimRequest i q) may h = split (found % 2 == 0) _ v Fits (((inl (refl, refl), λ e. absurd (true≢false (sym e))), tt), fits.1) fits
     row_fits found hand (PutMessage q heading bytes) may h = claim_way Fits v.claims (λ c. with_claim v (filled_claim c heading bytes)) v fits (λ c. (((h, λ _. (may.2, may.3)), tt), fits.1))
     row_fits found hand (Unconnect q) may h = ready_fits v.claims refl
     row_fits found hand (SwapHead i own) may h = swap_fits found hand v.claims refl (filled_of i own may)
     row_fits found hand call may h = same_fits (row p call found hand v) (row_same p found hand call refl)
 
-    pub rights_fit : (u : View) (rights : List Right) → u ≡ with_rights v rights → ViewFits ids p u
-    rights_fit u rights e = subst (ViewFits ids p) (sym e) fits
+    pub rights_fit : (u : View) (rights : List Right) → u ≡ with_rights v rights → ViewFits is_call ids p u
+    rights_fit u rights e = subst (ViewFits is_call ids p) (sym e) fits

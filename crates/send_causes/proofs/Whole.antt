@@ -19,7 +19,7 @@ use Rattle.sock_causes.specs.PlainTasks.{told_tasks_of}
 use Rattle.sock_causes.proofs.Delivered.{AreQuiet}
 use Rattle.sock_causes.proofs.Final.{at_there, at_within}
 use Rattle.sock_causes.proofs.Scripts.{seats, final_told, story_end, orders}
-use Rattle.send_causes.proofs.Runs.{AreLabelledIn, end_law}
+use Rattle.send_causes.proofs.Runs.{AreLabelledIn, IsCallOf, end_law}
 use Rattle.send_causes.proofs.Apart as apart
 
 -- no seat writes a link where none has anything left to do
@@ -34,7 +34,7 @@ module _ (script : List Item) (are : AreTasks (plan_of script) (all_tasks script
   pub run_orders : AreOrders (plan_of script) core (orders script are vs begins fresh go turns core is fitting owed)
   run_orders = let law = end_law script are vs begins go turns core is fitting narrow (λ i v e. (bare i v e, fresh i v e)) ids labelled in
       let sound = ended_sound script are vs begins go turns core is fitting in let rests = end_rests script are vs begins go turns core is fitting owed in
-      apart.are_orders (plan_of script) (id_plan_of script) ids (told_tasks_of script) (seats script are vs begins fresh go turns core is fitting) core (views_ended script turns core is vs)
+      apart.are_orders (plan_of script) (id_plan_of script) (IsCallOf script) ids (told_tasks_of script) (seats script are vs begins fresh go turns core is fitting) core (views_ended script turns core is vs)
       (final_told script are vs begins fresh go turns core is fitting).after.events (final_told script are vs begins fresh go turns core is fitting).after.lost sound
       (story_end script are vs begins fresh go turns core is fitting owed) rests law.0 law.1
       (quiet_there (plan_of script) core (views_ended script turns core is vs) sound rests) (all_homes script are vs begins go turns core is fitting owed)

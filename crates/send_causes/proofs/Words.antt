@@ -25,6 +25,9 @@ use Rattle.sock_programs.specs.Posts.{packed, advance_of}
 use Rattle.label_runs.specs.Labels.{FindsLabel}
 use Rattle.send_causes.specs.Counts.{word_of_id, WasMade}
 
+abbrev pub AnyCall : Asked → Type 0
+AnyCall asked = Unit {0}
+
 -- an id word only goes forward
 abbrev pub Forward : Parts → Parts → Type 0
 Forward w w' = (w.first < w'.first) ⊎ ((w'.first ≡ w.first) × (0 < w.state → (0 < w'.state) × (w.attempt ≤ w'.attempt)))
@@ -97,7 +100,7 @@ module _ (p : Plan) (q : IdPlan) (c : Core) (us : List IdView) (ids : SoundIds p
       (allowed.own q i (u, []) s inside real (id_state c.calls us) ids.rule at (Claimed seen (Full x)) has)
 
   -- what an unlocking relies on
-  pub finds_label : (step : Step) (found : Found step) → MayId p q u step → FindsId p q u step found → FindsLabel step found
+  pub finds_label : (step : Step) (found : Found step) → MayId p q u step → FindsId p q u step found → FindsLabel AnyCall step found
   finds_label (UnlockId s from advance) found may f = let m = may.1 in let rg : ℕ = m.1 in let has = m.6 in let longer : Longer m.0 m.1 m.2 m.3 m.4 (parts from) = m.7 in let room = m.8 in
       let r = allowed.known q i (u, []) s may.0 real (id_state c.calls us) ids.rule at m.0 m.1 m.2 m.3 m.4 m.5 has in let low = r.live.low in
       (
@@ -198,7 +201,7 @@ module _ (p : Plan) (q : IdPlan) (c : Core) (us : List IdView) (ids : SoundIds p
           )
 
   -- an advance makes the next attempt, and it wasn't made before
-  pub advances_new : (k from found : ℕ) → some (Word k) ≡ some found → found ≡ from → MayId p q u (UnlockId k from true) → FindsLabel (UnlockId k from true) found
+  pub advances_new : (k from found : ℕ) → some (Word k) ≡ some found → found ≡ from → MayId p q u (UnlockId k from true) → FindsLabel AnyCall (UnlockId k from true) found
       → WasMade q (calls_after (UnlockId k from true) found c.calls).words (call_id k (parts from).first) ((parts from).attempt + 1) × (WasMade q c.calls.words (call_id k (parts from).first) ((parts from).attempt + 1) → ⊥)
   advances_new k from found is same may l = by (sym (some-injective (Word k) found is ∙ same)) found same
     where

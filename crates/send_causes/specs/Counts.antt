@@ -12,6 +12,8 @@ use Rattle.corr_core.specs.Word.{Parts, parts}
 use Rattle.corr_core.specs.declared.marks.Plan.{Plan as IdPlan}
 use Rattle.id_rule.specs.Lawful.{id_word}
 use Rattle.sock_programs.specs.Asides.{StoreAt, id_slot, id_first}
+use Rattle.sock_message.specs.Asked.{Asked, frame_of}
+use Rattle.sock_programs.specs.Beside.{call_at}
 use Rattle.sock_programs.specs.Heads.{Retry}
 use Rattle.sock_programs.specs.Cores.{Core, SeatState}
 use Rattle.sock_words.specs.declared.plain.Plan.{Plan}
@@ -66,34 +68,9 @@ WasMade q ws id n = (id_slot id < q.slots) × ((id_first id < (word_of_id ws (id
 
 -- each operation's call has one id
 module _ (ids : ℕ → ℕ) where
-  -- the heading of a call's message has the id of its operation's call, and the number of its place word tells its attempt; that of a `send` has no owner
-  abbrev pub HeadFits : Heading → Type 0
-  HeadFits h = ((h.owner ≡ 0) × (h.parts ≡ [])) ⊎ ((h.owner ≢ 0) × (ids h.operation ≡ h.owner) × (h.place ≡ 8 * h.operation + h.attempt) × (h.attempt ≤ 6))
-
-  abbrev pub BodyFits : Plan → Heading → List ℕ → Type 0
-  BodyFits p h bytes = (h.place < 8 * p.operations) × (bytes ≢ [])
-
-  abbrev pub ClaimFits : Plan → Claim → Type 0
-  ClaimFits p x = HeadFits x.heading × (x.filled ≡ true → BodyFits p x.heading x.bytes)
-
-  abbrev pub EntryFits : Plan → Entry → Type 0
-  EntryFits p e = HeadFits e.heading × BodyFits p e.heading e.bytes
-
-  abbrev pub ViewFits : Plan → View → Type 0
-  ViewFits p v = AllByRecursion (ClaimFits p) v.claims × AllByRecursion (AllByRecursion (EntryFits p)) v.lists
-
   abbrev pub TrialFits : Trial → Type 0
   TrialFits (Sends o id n) = (ids o ≡ id) × (id ≢ 0) × (n ≤ 6)
   TrialFits other = Unit {0}
-
-  pub record LabelLaw (p : Plan) (q : IdPlan) (c : Core) (vs : List View) (ts : List Trial) : Type 0 where
-    pub once : (id n : ℕ) → times_of id n c vs ts ≤ 1
-    -- none stands anywhere before it is made
-    pub made : (id n : ℕ) → 0 < times_of id n c vs ts → WasMade q c.calls.words id n
-    pub views : (j : ℕ) (v : View) → get_elem? vs j ≡ some v → ViewFits p v
-    pub trials : (j : ℕ) (t : Trial) → get_elem? ts j ≡ some t → TrialFits t
-    pub each : length ts ≡ length c.seats
-    pub programs : (j : ℕ) (seat : SeatState) (t : Trial) → get_elem? c.seats j ≡ some seat → get_elem? ts j ≡ some t → Labels t seat.program
 
   -- where a tick stores an at word, it is one of the operation's own call
   abbrev pub StoresOwn : Core → Moment → Type 0
@@ -104,3 +81,37 @@ module _ (ids : ℕ → ℕ) where
   abbrev pub AreLabelled : Plan → IdPlan → Core → List Moment → Type 0
   AreLabelled p q c [] = (us : List IdView) × SoundIds p q c us
   AreLabelled p q c (m ∷ ms) = ((us : List IdView) × SoundIds p q c us) × IsFittingIds p c m × StoresOwn c m × AreLabelled p q (ticked p c m) ms
+
+-- and these are the calls
+module _ (is_call : Asked → Type 0) (ids : ℕ → ℕ) where
+  -- a call's message is the frame of one of its attempts: its owner is the id of the operation's call, and the number of its place word tells its attempt
+  abbrev pub IsOfCall : Heading → List ℕ → Type 0
+  IsOfCall h bytes = (h.owner ≢ 0) × (ids h.operation ≡ h.owner) × (h.place ≡ 8 * h.operation + h.attempt) × (h.attempt ≤ 6)
+      × ((asked : Asked) × is_call asked × (asked.operation ≡ h.operation) × (bytes ≡ frame_of asked h.owner h.attempt))
+
+  -- that of a `send` has no owner
+  abbrev pub HeadFits : Heading → List ℕ → Type 0
+  HeadFits h bytes = ((h.owner ≡ 0) × (h.parts ≡ [])) ⊎ IsOfCall h bytes
+
+  abbrev pub BodyFits : Plan → Heading → List ℕ → Type 0
+  BodyFits p h bytes = (h.place < 8 * p.operations) × (bytes ≢ [])
+
+  abbrev pub ClaimFits : Plan → Claim → Type 0
+  ClaimFits p x = HeadFits x.heading x.bytes × (x.filled ≡ true → BodyFits p x.heading x.bytes)
+
+  abbrev pub EntryFits : Plan → Entry → Type 0
+  EntryFits p e = HeadFits e.heading e.bytes × BodyFits p e.heading e.bytes
+
+  abbrev pub ViewFits : Plan → View → Type 0
+  ViewFits p v = AllByRecursion (ClaimFits p) v.claims × AllByRecursion (AllByRecursion (EntryFits p)) v.lists
+
+  pub record LabelLaw (p : Plan) (q : IdPlan) (c : Core) (vs : List View) (ts : List Trial) : Type 0 where
+    pub once : (id n : ℕ) → times_of id n c vs ts ≤ 1
+    -- none stands anywhere before it is made
+    pub made : (id n : ℕ) → 0 < times_of id n c vs ts → WasMade q c.calls.words id n
+    pub views : (j : ℕ) (v : View) → get_elem? vs j ≡ some v → ViewFits p v
+    pub trials : (j : ℕ) (t : Trial) → get_elem? ts j ≡ some t → TrialFits ids t
+    -- the calls at home are these
+    pub calls : (k : ℕ) (asked : Asked) → call_at (get_elem? c.calls.homes k) ≡ some asked → is_call asked
+    pub each : length ts ≡ length c.seats
+    pub programs : (j : ℕ) (seat : SeatState) (t : Trial) → get_elem? c.seats j ≡ some seat → get_elem? ts j ≡ some t → Labels is_call t seat.program
