@@ -56,12 +56,15 @@ module _ (is_call : Asked → Type 0) where
     address_goes id held gone goes others = (tt, λ found _. (t, inl refl, way is_call t (vref_version found == socket_id_version id) held (release (socket_id_slot id) (λ _. gone found)) (λ _. goes) (λ _. release_goes (socket_id_slot id) (λ _. gone found) (λ _. others found))))
 
     set_failed_goes : (id code : ℕ) (next : ℕ → Program) → ((found : ℕ) → Labels is_call t (next found)) → Labels is_call t (set_failed id code next)
-    set_failed_goes id code next goes = (tt, λ found _. (
-      t,
-      inl refl,
-      way is_call t (vref_version found % 2 == 0) (Do (StoreCode (socket_id_slot id) (socket_id_version id) code) (λ _. Do (SubRef (socket_id_slot id)) (λ _. next found))) (next found)
-          (λ _. (tt, λ _ _. (t, inl refl, (tt, λ _ _. (t, inl refl, goes found))))) (λ _. goes found),
-    ))
+    set_failed_goes id code next goes = (
+      tt,
+      λ found _. (
+        t,
+        inl refl,
+        way is_call t (vref_version found % 2 == 0) (Do (StoreCode (socket_id_slot id) (socket_id_version id) code) (λ _. Do (SubRef (socket_id_slot id)) (λ _. next found))) (next found)
+            (λ _. (tt, λ _ _. (t, inl refl, (tt, λ _ _. (t, inl refl, goes found))))) (λ _. goes found),
+      ),
+    )
 
   -- ## Writing
 
@@ -84,13 +87,16 @@ module _ (is_call : Asked → Type 0) where
   put_goes h now heading left taken after goes puts.Failed = set_failed_goes Idle h.id 1009 (λ _. Write (Puts h now heading left taken false) after) (λ _. goes)
 
   pub block_goes : (t : Trial) (w : Writing) (after : Program) → Labels is_call t (Write w after) → Labels is_call t (block w after)
-  block_goes t (Puts h now heading left taken asked) after g = (tt, λ found _. (
-    Idle,
-    inr refl,
-    way is_call Idle (vref_version found % 2 == 0) (PutBytes h.link asked (part heading.parts left taken) (put_answered h now heading left taken after)) (dropped h now heading after)
-        (λ _. put_goes h now heading left taken after g)
-        (λ _. (tt, λ code _. (Idle, inl refl, (tt, λ _ _. (Idle, inl refl, passed_goes (one_more h) now (tell_drop heading code) after (λ x goes. tell_goes heading code x goes) g))))),
-  ))
+  block_goes t (Puts h now heading left taken asked) after g = (
+    tt,
+    λ found _. (
+      Idle,
+      inr refl,
+      way is_call Idle (vref_version found % 2 == 0) (PutBytes h.link asked (part heading.parts left taken) (put_answered h now heading left taken after)) (dropped h now heading after)
+          (λ _. put_goes h now heading left taken after g)
+          (λ _. (tt, λ code _. (Idle, inl refl, (tt, λ _ _. (Idle, inl refl, passed_goes (one_more h) now (tell_drop heading code) after (λ x goes. tell_goes heading code x goes) g))))),
+    ),
+  )
   block_goes t (Waits h now heading left taken) after g = ready_goes
     where
       ready_goes : (answer : Ready) → Labels is_call Idle (ready_answered h now heading left taken after answer)
@@ -98,22 +104,28 @@ module _ (is_call : Asked → Type 0) where
       ready_goes asks.NotYet = g
       ready_goes asks.Failed = set_failed_goes Idle h.id 1009 (λ _. Write (Puts h now heading left taken false) after) (λ _. g)
   block_goes t (Empties h) after g = (tt, λ found _. (Idle, inr refl, way is_call Idle (found == h.last) after (TakeHome h.link (λ places. Write (Walks (record h { places = places }) found found 0) after)) (λ _. g) (λ _. λ places. g)))
-  block_goes t (Walks h top at after) then_ g = (tt, λ found _. (
-    Idle,
-    inr refl,
-    way is_call Idle (found == UNCONNECTED) (Write (Walks h top at after) then_)
-        (Do (TurnNext (slot_of at) after) (λ _. cond (found == h.last) (TakeMessage (slot_of at) (λ heading bytes. Write (Puts (record h { last = top }) at heading bytes 0 false) then_)) (Write (Walks h top found at) then_)))
-        (λ _. g)
-        (λ _. (tt, λ _ _. (Idle, inl refl, way is_call Idle (found == h.last) (TakeMessage (slot_of at) (λ heading bytes. Write (Puts (record h { last = top }) at heading bytes 0 false) then_)) (Write (Walks h top found at) then_) (λ _. λ heading bytes. g) (λ _. g)))),
-  ))
+  block_goes t (Walks h top at after) then_ g = (
+    tt,
+    λ found _. (
+      Idle,
+      inr refl,
+      way is_call Idle (found == UNCONNECTED) (Write (Walks h top at after) then_)
+          (Do (TurnNext (slot_of at) after) (λ _. cond (found == h.last) (TakeMessage (slot_of at) (λ heading bytes. Write (Puts (record h { last = top }) at heading bytes 0 false) then_)) (Write (Walks h top found at) then_)))
+          (λ _. g)
+          (λ _. (tt, λ _ _. (Idle, inl refl, way is_call Idle (found == h.last) (TakeMessage (slot_of at) (λ heading bytes. Write (Puts (record h { last = top }) at heading bytes 0 false) then_)) (Write (Walks h top found at) then_) (λ _. λ heading bytes. g) (λ _. g)))),
+    ),
+  )
 
   first_goes : (h : Holder) (now : ℕ) (heading : Heading) (bytes : List ℕ) (after : Program) → Labels is_call Idle after → Labels is_call Idle (first_put h now heading bytes after)
-  first_goes h now heading bytes after g = (tt, λ found _. (
-    Idle,
-    inl refl,
-    way is_call Idle (vref_version found % 2 == 0) (PutBytes h.link false (part heading.parts bytes 0) (put_answered h now heading bytes 0 after)) (Write (Puts h now heading bytes 0 false) after)
-        (λ _. put_goes h now heading bytes 0 after g) (λ _. g),
-  ))
+  first_goes h now heading bytes after g = (
+    tt,
+    λ found _. (
+      Idle,
+      inl refl,
+      way is_call Idle (vref_version found % 2 == 0) (PutBytes h.link false (part heading.parts bytes 0) (put_answered h now heading bytes 0 after)) (Write (Puts h now heading bytes 0 false) after)
+          (λ _. put_goes h now heading bytes 0 after g) (λ _. g),
+    ),
+  )
 
   write_goes : (id q own : ℕ) (after : Program) → Labels is_call Idle after → Labels is_call Idle (write_link id q own after)
   write_goes id q own after g = (tt, λ k _. (Idle, inl refl, λ places. λ heading bytes. first_goes (record { id = id; link = k; last = own; places = places }) own heading bytes after g))
@@ -121,20 +133,40 @@ module _ (is_call : Asked → Type 0) where
   -- ## Messages
 
   accept_goes : (t : Trial) (id q g : ℕ) (heading : Heading) (bytes : List ℕ) (after : Program) → MayPut is_call t (Rattle.sock_programs.specs.Calls.PutMessage q heading bytes) → Labels is_call Idle after → Labels is_call t (accept id q g heading bytes after)
-  accept_goes t id q g heading bytes after may goes = (may, λ _ _. (Idle, inl refl, (tt, λ _ _. (Idle, inl refl, (tt, λ found _. (
-    Idle,
-    inl refl,
-    way is_call Idle (nat_lt found IDLE) (Do (Connect q found) (λ _. after)) (write_link id q (ticket_of q g) after) (λ _. (tt, λ _ _. (Idle, inl refl, goes))) (λ _. write_goes id q (ticket_of q g) after goes),
-  ))))))
+  accept_goes t id q g heading bytes after may goes = (
+    may,
+    λ _ _. (
+      Idle,
+      inl refl,
+      (
+        tt,
+        λ _ _. (
+          Idle,
+          inl refl,
+          (
+            tt,
+            λ found _. (
+              Idle,
+              inl refl,
+              way is_call Idle (nat_lt found IDLE) (Do (Connect q found) (λ _. after)) (write_link id q (ticket_of q g) after) (λ _. (tt, λ _ _. (Idle, inl refl, goes))) (λ _. write_goes id q (ticket_of q g) after goes),
+            ),
+          ),
+        ),
+      ),
+    ),
+  )
 
   claims_goes : (t : Trial) (more q id : ℕ) (heading : Heading) (bytes : List ℕ) (full accepted : Program) → ((heading.owner ≡ 0) × (heading.parts ≡ [])) ⊎ IsOfTrial is_call t heading bytes → Labels is_call t full → Labels is_call Idle accepted → Labels is_call t (claims_from more q id heading bytes full accepted)
   claims_goes t zero q id heading bytes full accepted may none_ goes = none_
-  claims_goes t (suc more) q id heading bytes full accepted may none_ goes = (tt, λ found _. (
-    t,
-    inl refl,
-    way is_call t (found % 2 == 0) (accept id q (found / 2) heading bytes accepted) (claims_from more (q + 1) id heading bytes full accepted)
-        (λ _. accept_goes t id q (found / 2) heading bytes accepted may goes) (λ _. claims_goes t more (q + 1) id heading bytes full accepted may none_ goes),
-  ))
+  claims_goes t (suc more) q id heading bytes full accepted may none_ goes = (
+    tt,
+    λ found _. (
+      t,
+      inl refl,
+      way is_call t (found % 2 == 0) (accept id q (found / 2) heading bytes accepted) (claims_from more (q + 1) id heading bytes full accepted)
+          (λ _. accept_goes t id q (found / 2) heading bytes accepted may goes) (λ _. claims_goes t more (q + 1) id heading bytes full accepted may none_ goes),
+    ),
+  )
 
   -- ## Attempts
 
@@ -147,15 +179,18 @@ module _ (is_call : Asked → Type 0) where
 
     looks_goes : (heading : Heading) (bytes : List ℕ) → ((heading.owner ≡ 0) × (heading.parts ≡ [])) ⊎ IsOfTrial is_call (Sends asked.operation id n) heading bytes → Labels is_call (Sends asked.operation id n) (Do (LookWord socket) (λ found. cond (eqb (vref_version found % 2) 0)
         (claims_from requests 0 socket heading bytes (post id 3001 n (release (socket_id_slot socket) (λ _. next))) (release (socket_id_slot socket) (λ _. next))) (post id 1009 n (release (socket_id_slot socket) (λ _. next)))))
-    looks_goes heading bytes may = (tt, λ found _. (
-      Sends asked.operation id n,
-      inl refl,
-      way is_call (Sends asked.operation id n) (eqb (vref_version found % 2) 0) (claims_from requests 0 socket heading bytes (post id 3001 n (release (socket_id_slot socket) (λ _. next))) (release (socket_id_slot socket) (λ _. next)))
-          (post id 1009 n (release (socket_id_slot socket) (λ _. next)))
-          (λ _. claims_goes (Sends asked.operation id n) requests 0 socket heading bytes (post id 3001 n (release (socket_id_slot socket) (λ _. next))) (release (socket_id_slot socket) (λ _. next)) may
-          (full_goes (Sends asked.operation id n)) (release_goes Idle (socket_id_slot socket) (λ _. next) (λ _. goes)))
-          (λ _. back_goes (Sends asked.operation id n)),
-    ))
+    looks_goes heading bytes may = (
+      tt,
+      λ found _. (
+        Sends asked.operation id n,
+        inl refl,
+        way is_call (Sends asked.operation id n) (eqb (vref_version found % 2) 0) (claims_from requests 0 socket heading bytes (post id 3001 n (release (socket_id_slot socket) (λ _. next))) (release (socket_id_slot socket) (λ _. next)))
+            (post id 1009 n (release (socket_id_slot socket) (λ _. next)))
+            (λ _. claims_goes (Sends asked.operation id n) requests 0 socket heading bytes (post id 3001 n (release (socket_id_slot socket) (λ _. next))) (release (socket_id_slot socket) (λ _. next)) may
+            (full_goes (Sends asked.operation id n)) (release_goes Idle (socket_id_slot socket) (λ _. next) (λ _. goes)))
+            (λ _. back_goes (Sends asked.operation id n)),
+      ),
+    )
 
     pub attempt_goes : Labels is_call (Tries id n) (attempt requests asked id n socket next)
     attempt_goes = address_goes (Tries id n) socket (Do (FindLink (socket_id_slot socket) (socket_id_version socket)) (λ k. Aside (StoreAt asked.operation (at_word (id_first id) (id_slot id) k n)) (λ _. Do (LookWord socket) (λ found. cond (eqb (vref_version found % 2) 0)
@@ -167,11 +202,15 @@ module _ (is_call : Asked → Type 0) where
   -- ## Calls
 
   begin_goes : (requests socket i : ℕ) (asked : Asked) → is_call asked → (next : Program) → Labels is_call Idle next → Labels is_call Idle (begin_call requests socket i asked next)
-  begin_goes requests socket i asked called next goes = λ _ _. (Idle, (inl refl, called), λ found _. (
-    Tries (call_id i (parts found).first) 0,
-    refl,
-    λ _ _. (Tries (call_id i (parts found).first) 0, inl refl, attempt_goes requests asked called (call_id i (parts found).first) 0 socket next (omega arith) goes),
-  ))
+  begin_goes requests socket i asked called next goes = λ _ _. (
+    Idle,
+    (inl refl, called),
+    λ found _. (
+      Tries (call_id i (parts found).first) 0,
+      refl,
+      λ _ _. (Tries (call_id i (parts found).first) 0, inl refl, attempt_goes requests asked called (call_id i (parts found).first) 0 socket next (omega arith) goes),
+    ),
+  )
 
   claim_goes : (more i requests socket : ℕ) (asked : Asked) → is_call asked → (next : Program) → Labels is_call Idle next → Labels is_call Idle (claim_id more i requests socket asked next)
   claim_goes zero i requests socket asked called next goes = goes
@@ -182,21 +221,27 @@ module _ (is_call : Asked → Type 0) where
   )
 
   call_goes : (requests ids : ℕ) (asked : Asked) → is_call asked → (next : Program) → Labels is_call Idle next → Labels is_call Idle (call requests ids asked next)
-  call_goes requests ids asked called next goes = (tt, λ word _. (
-    Idle,
-    inl refl,
-    way is_call Idle (eqb word 0) (Say asked.operation outcomes.Unopened next) (claim_id ids 0 requests (word - 1) asked next) (λ _. goes) (λ _. claim_goes ids 0 requests (word - 1) asked called next goes),
-  ))
+  call_goes requests ids asked called next goes = (
+    tt,
+    λ word _. (
+      Idle,
+      inl refl,
+      way is_call Idle (eqb word 0) (Say asked.operation outcomes.Unopened next) (claim_id ids 0 requests (word - 1) asked next) (λ _. goes) (λ _. claim_goes ids 0 requests (word - 1) asked called next goes),
+    ),
+  )
 
   -- ## Retries
 
   module _ (requests id n : ℕ) (next : Program) (few : n ≤ 6) (goes : Labels is_call Idle next) where
     tried_goes : (asked : Asked) → is_call asked → (exit : Unlocking) → ((w e : ℕ) → exit ≡ HasNext w e → (parts w).first ≡ id_first id) → Labels is_call (Tries id n) (tried_again requests id n asked next exit)
-    tried_goes asked called (IsOpen w) first = (tt, λ word _. (
-      Tries id n,
-      inl refl,
-      way is_call (Tries id n) (eqb word 0) (post id 1009 n next) (attempt requests asked id n (word - 1) next) (λ _. post_goes is_call (Tries id n) id 1009 n next goes) (λ _. attempt_goes requests asked called id n (word - 1) next few goes),
-    ))
+    tried_goes asked called (IsOpen w) first = (
+      tt,
+      λ word _. (
+        Tries id n,
+        inl refl,
+        way is_call (Tries id n) (eqb word 0) (post id 1009 n next) (attempt requests asked id n (word - 1) next) (λ _. post_goes is_call (Tries id n) id 1009 n next goes) (λ _. attempt_goes requests asked called id n (word - 1) next few goes),
+      ),
+    )
     tried_goes asked called (HasNext w e) first = decide_goes is_call (Tries id n) id w e (decided id next) (first w e refl) (decided_goes is_call id next goes)
 
     locked_goes : (exit : Locking) → LeavesLock (First (id_first id)) exit → Labels is_call (Rattle.label_runs.specs.Labels.locked_trial exit (Tries id n)) (retry_locked requests id n next exit)
@@ -229,35 +274,44 @@ module _ (is_call : Asked → Type 0) where
 
   open_goes : (more i o name k : ℕ) (next : Program) → Labels is_call Idle next → Labels is_call Idle (open_from more i o name k next)
   open_goes zero i o name k next goes = (tt, λ _ _. (Idle, inl refl, (tt, λ _ _. (Idle, inl refl, (tt, λ _ _. (Idle, inl refl, (tt, λ _ _. (Idle, inl refl, goes))))))))
-  open_goes (suc more) i o name k next goes = (tt, λ found _. (
-    Idle,
-    inl refl,
-    way is_call Idle (found == 0) (make_socket o name k i next) (open_from more (i + 1) o name k next)
-        (λ _. (tt, λ _ _. (Idle, inl refl, (tt, λ _ _. (Idle, inl refl, (tt, λ _ _. (Idle, inl refl, (tt, λ _ _. (Idle, inl refl, (tt, λ _ _. (Idle, inl refl, (tt, λ _ _. (Idle, inl refl, goes)))))))))))))
-        (λ _. open_goes more (i + 1) o name k next goes),
-  ))
+  open_goes (suc more) i o name k next goes = (
+    tt,
+    λ found _. (
+      Idle,
+      inl refl,
+      way is_call Idle (found == 0) (make_socket o name k i next) (open_from more (i + 1) o name k next)
+          (λ _. (tt, λ _ _. (Idle, inl refl, (tt, λ _ _. (Idle, inl refl, (tt, λ _ _. (Idle, inl refl, (tt, λ _ _. (Idle, inl refl, (tt, λ _ _. (Idle, inl refl, (tt, λ _ _. (Idle, inl refl, goes)))))))))))))
+          (λ _. open_goes more (i + 1) o name k next goes),
+    ),
+  )
 
   reach_goes : (name : ℕ) (unopened : Program) (held gone : ℕ → Program) → Labels is_call Idle unopened → ((id : ℕ) → Labels is_call Idle (held id)) → ((found : ℕ) → Labels is_call Idle (gone found)) → Labels is_call Idle (reach name unopened held gone)
   reach_goes name unopened held gone none_ one others = (tt, λ word _. (Idle, inl refl, way is_call Idle (word == 0) unopened (address (word - 1) (held (word - 1)) gone) (λ _. none_) (λ _. address_goes Idle (word - 1) (held (word - 1)) gone (one (word - 1)) others)))
 
   claim_from_goes : (more q o id : ℕ) (bytes : List ℕ) (next : Program) → Labels is_call Idle next → Labels is_call Idle (claim_from more q o id bytes next)
   claim_from_goes zero q o id bytes next goes = release_goes Idle (socket_id_slot id) (λ _. Say o outcomes.Full next) (λ _. goes)
-  claim_from_goes (suc more) q o id bytes next goes = (tt, λ found _. (
-    Idle,
-    inl refl,
-    way is_call Idle (found % 2 == 0) (accept id q (found / 2) (heading_of o) bytes (release (socket_id_slot id) (λ _. Sent o next))) (claim_from more (q + 1) o id bytes next)
-        (λ _. accept_goes Idle id q (found / 2) (heading_of o) bytes (release (socket_id_slot id) (λ _. Sent o next)) (inl (refl, refl)) (release_goes Idle (socket_id_slot id) (λ _. Sent o next) (λ _. goes)))
-        (λ _. claim_from_goes more (q + 1) o id bytes next goes),
-  ))
+  claim_from_goes (suc more) q o id bytes next goes = (
+    tt,
+    λ found _. (
+      Idle,
+      inl refl,
+      way is_call Idle (found % 2 == 0) (accept id q (found / 2) (heading_of o) bytes (release (socket_id_slot id) (λ _. Sent o next))) (claim_from more (q + 1) o id bytes next)
+          (λ _. accept_goes Idle id q (found / 2) (heading_of o) bytes (release (socket_id_slot id) (λ _. Sent o next)) (inl (refl, refl)) (release_goes Idle (socket_id_slot id) (λ _. Sent o next) (λ _. goes)))
+          (λ _. claim_from_goes more (q + 1) o id bytes next goes),
+    ),
+  )
 
   send_goes : (requests o name : ℕ) (bytes : List ℕ) (next : Program) → Labels is_call Idle next → Labels is_call Idle (send requests o name bytes next)
   send_goes requests o name bytes next goes = reach_goes name (Say o outcomes.Unopened next) (λ id. start requests o id bytes next) (λ found. Say o (outcomes.Gone (record { 0 = found })) next) goes
-      (λ id. (tt, λ found _. (
-        Idle,
-        inl refl,
-        way is_call Idle (vref_version found % 2 == 0) (claim_from requests 0 o id bytes next) (release (socket_id_slot id) (λ _. Say o (outcomes.Gone (record { 0 = found })) next))
-            (λ _. claim_from_goes requests 0 o id bytes next goes) (λ _. release_goes Idle (socket_id_slot id) (λ _. Say o (outcomes.Gone (record { 0 = found })) next) (λ _. goes)),
-      )))
+      (λ id. (
+        tt,
+        λ found _. (
+          Idle,
+          inl refl,
+          way is_call Idle (vref_version found % 2 == 0) (claim_from requests 0 o id bytes next) (release (socket_id_slot id) (λ _. Say o (outcomes.Gone (record { 0 = found })) next))
+              (λ _. claim_from_goes requests 0 o id bytes next goes) (λ _. release_goes Idle (socket_id_slot id) (λ _. Say o (outcomes.Gone (record { 0 = found })) next) (λ _. goes)),
+        ),
+      ))
       (λ found. goes)
 
   fail_goes : (o name code : ℕ) (next : Program) → Labels is_call Idle next → Labels is_call Idle (fail o name code next)
@@ -297,15 +351,18 @@ module _ (is_call : Asked → Type 0) where
 
   pub ending_goes : (os : List ℕ) → Labels is_call Idle (ending_of os)
   ending_goes [] = tt
-  ending_goes (o ∷ os) = (tt, λ word _. (
-    Idle,
-    inl refl,
-    way is_call Idle (word == 0) (ending_of os) (cond (word == NO_SOCKET) (ending_of os) (address (word - 1) (set_failed (word - 1) 1014 (λ _. release (socket_id_slot (word - 1)) (λ _. ending_of os))) (λ _. ending_of os)))
-        (λ _. ending_goes os)
-        (λ _. way is_call Idle (word == NO_SOCKET) (ending_of os) (address (word - 1) (set_failed (word - 1) 1014 (λ _. release (socket_id_slot (word - 1)) (λ _. ending_of os))) (λ _. ending_of os)) (λ _. ending_goes os)
-        (λ _. address_goes Idle (word - 1) (set_failed (word - 1) 1014 (λ _. release (socket_id_slot (word - 1)) (λ _. ending_of os))) (λ _. ending_of os)
-        (set_failed_goes Idle (word - 1) 1014 (λ _. release (socket_id_slot (word - 1)) (λ _. ending_of os)) (λ _. release_goes Idle (socket_id_slot (word - 1)) (λ _. ending_of os) (λ _. ending_goes os))) (λ _. ending_goes os))),
-  ))
+  ending_goes (o ∷ os) = (
+    tt,
+    λ word _. (
+      Idle,
+      inl refl,
+      way is_call Idle (word == 0) (ending_of os) (cond (word == NO_SOCKET) (ending_of os) (address (word - 1) (set_failed (word - 1) 1014 (λ _. release (socket_id_slot (word - 1)) (λ _. ending_of os))) (λ _. ending_of os)))
+          (λ _. ending_goes os)
+          (λ _. way is_call Idle (word == NO_SOCKET) (ending_of os) (address (word - 1) (set_failed (word - 1) 1014 (λ _. release (socket_id_slot (word - 1)) (λ _. ending_of os))) (λ _. ending_of os)) (λ _. ending_goes os)
+          (λ _. address_goes Idle (word - 1) (set_failed (word - 1) 1014 (λ _. release (socket_id_slot (word - 1)) (λ _. ending_of os))) (λ _. ending_of os)
+          (set_failed_goes Idle (word - 1) 1014 (λ _. release (socket_id_slot (word - 1)) (λ _. ending_of os)) (λ _. release_goes Idle (socket_id_slot (word - 1)) (λ _. ending_of os) (λ _. ending_goes os))) (λ _. ending_goes os))),
+    ),
+  )
 
   -- ## Readers
 

@@ -14,13 +14,14 @@ use Rattle.sock_model.specs.Weights.{total}
 use Rattle.chain_laws.proofs.Lists.{Distinct}
 use Rattle.slot_laws.proofs.Sums.{term_le}
 use Rattle.corr_core.specs.declared.marks.Plan.{Plan as IdPlan}
-use Rattle.sock_message.specs.Asked.{Asked}
+use Rattle.sock_message.specs.Asked.{Asked, frame_of}
 use Rattle.sock_programs.specs.declared.task.Task.{Task}
 use Rattle.sock_programs.specs.Cores.{Core}
 use Rattle.sock_programs.specs.Told.{AreTasks}
-use Rattle.sock_programs.specs.ToldCalls.{AreOrders}
+use Rattle.sock_programs.specs.ToldCalls.{Accepted, AreOrders}
 use Rattle.sock_runs.specs.Sound.{Sound, AllRest}
 use Rattle.sock_runs.proofs.HandTicks.{AtHome}
+use Rattle.sock_causes.specs.Causes.{Asks}
 use Rattle.sock_causes.specs.Kept.{is_of_send, IsSpoken, Story}
 use Rattle.sock_causes.specs.Stories.{Event}
 use Rattle.sock_causes.proofs.Delivered.{orders_of, AreQuiet}
@@ -28,7 +29,7 @@ use Rattle.sock_causes.proofs.Final.{IsMessage}
 use Rattle.sock_causes.proofs.Members.{all_in}
 use Rattle.sock_causes.proofs.Messages.{in_of_at, number_of, each_made, message_of, call_of, sooner}
 use Rattle.sock_causes.proofs.Ordered.{IsLabelled, delivered}
-use Rattle.sock_causes.proofs.Senders.{HasSent, sent_in, each_of, apart_by}
+use Rattle.sock_causes.proofs.Senders.{HasSent, sent_in, each_of, apart_by, all_sent}
 use Rattle.sock_causes.proofs.Tasks.{one_task}
 use Rattle.label_runs.specs.Labels.{Trial}
 use Rattle.send_causes.specs.Counts.{pair_of, of_heading, of_entry, of_view, IsOfCall, EntryFits, LabelLaw}
@@ -86,10 +87,12 @@ module _ (p : Plan) (q : IdPlan) (is_call : Asked → Type 0) (ids : ℕ → ℕ
   sends_apart i j m n d e h k sd se same =
       let a = send_place i m d h sd in let b = send_place j n e k se in let x = message i m d h sd in let y = message j n e k se in let op : d.heading.operation ≡ e.heading.operation = omega (arith, a, b, same) in
       let one = one_task p clients are i j x.task y.task x.asks y.asks (sym (send_number i m d h sd) ∙ (op ∙ send_number j n e k se)) in
-      let k' : HasSent vs i n e = subst (λ z. HasSent vs z n e) (sym one.0) k in
-      (one.0, dite (ℕ_discrete m n) (λ z. z) (λ ne. absurd (dite (dec_le m n)
-      (λ le. let s = sooner p clients are true c vs es lost sound story settled i m n d e h k' sd se (omega (arith, le, ne)) in omega (arith, s, op))
-      (λ gt. let s = sooner p clients are true c vs es lost sound story settled i n m e d k' h se sd (omega (arith, gt)) in omega (arith, s, op)))))
+      let k' : HasSent vs i n e = subst (λ z. HasSent vs z n e) (sym one.0) k in (
+        one.0,
+        dite (ℕ_discrete m n) (λ z. z) (λ ne. absurd (dite (dec_le m n)
+            (λ le. let s = sooner p clients are true c vs es lost sound story settled i m n d e h k' sd se (omega (arith, le, ne)) in omega (arith, s, op))
+            (λ gt. let s = sooner p clients are true c vs es lost sound story settled i n m e d k' h se sd (omega (arith, gt)) in omega (arith, s, op)))),
+      )
 
   -- a call's operation is no task's
   kinds_apart : (i j m n : ℕ) (d e : Entry) (h : HasSent vs i m d) (k : HasSent vs j n e) → is_of_send d ≡ true → is_of_send e ≡ false → d.heading.place ≡ e.heading.place → ⊥
@@ -162,3 +165,11 @@ module _ (p : Plan) (q : IdPlan) (is_call : Asked → Type 0) (ids : ℕ → ℕ
   -- the orders of the links are those that words and links show
   pub are_orders : AreQuiet vs → ((k : ℕ) → k < p.links → AtHome p c.homes k) → AreOrders p c (orders_of p c vs sound.lawful)
   are_orders quiet at_home = delivered p c vs sound.lawful quiet at_home all_labelled places_apart
+
+  -- each accepted message is the frame of an attempt of one of the calls, or that of a task
+  pub all_kinds : (k : ℕ) → AllByRecursion (λ (a : Accepted). ((asked : Asked) × is_call asked × (asked.operation ≡ a.operation) × (a.attempt ≤ 6) × (a.bytes ≡ frame_of asked (ids a.operation) a.attempt)) ⊎ ((d : ℕ) × (t : Task) × Asks clients d t × (t.number ≡ a.operation)))
+      (orders_of p c vs sound.lawful k).accepted
+  all_kinds k = all_sent p c vs sound.lawful (each_made p clients are true c vs es lost sound story settled)
+      (λ (a : Accepted). ((asked : Asked) × is_call asked × (asked.operation ≡ a.operation) × (a.attempt ≤ 6) × (a.bytes ≡ frame_of asked (ids a.operation) a.attempt)) ⊎ ((d : ℕ) × (t : Task) × Asks clients d t × (t.number ≡ a.operation))) k
+      (λ i n e h link. ⊎_elim (λ is. let x = message i n e h is in inr (i, x.task, x.asks, sym (send_number i n e h is)))
+      (λ not_. let f = of_call_fits i n e h not_ in let w = f.4 in inl (w.0, w.1, w.2, f.3, w.3 ∙ ap (λ z. frame_of w.0 z e.heading.attempt) (sym f.1))) (either_bool (is_of_send e)))

@@ -10,7 +10,7 @@ use Rattle.sock_words.specs.declared.plain.Plan.{Plan}
 use Rattle.sock_model.specs.declared.view.View.{View}
 use Rattle.sock_model.specs.Weights.{total}
 use Rattle.brpc_model.specs.Items.{Item}
-use Rattle.brpc_model.specs.Operations.{Turn}
+use Rattle.brpc_model.specs.Operations.{Turn, clients}
 use Rattle.corr_core.specs.declared.marks.Plan.{Plan as IdPlan}
 use Rattle.id_runs.specs.Held.{IdView}
 use Rattle.id_runs.specs.Goes.{SoundIds}
@@ -19,7 +19,8 @@ use Rattle.sock_programs.specs.Beside.{call_at}
 use Rattle.sock_programs.specs.declared.task.Op.{Op}
 use Rattle.sock_programs.specs.declared.task.Op.TheVariants as ops
 use Rattle.sock_causes.specs.Stories.{In}
-use Rattle.sock_causes.proofs.Members.{all_of}
+use Rattle.sock_causes.proofs.Members.{all_in, all_of}
+use Rattle.sock_causes.proofs.Messages.{in_of_at}
 use Rattle.send_causes.proofs.Ticks.{none_asked}
 use Rattle.sock_programs.specs.declared.task.Sizes.{Sizes}
 use Rattle.sock_programs.specs.declared.task.Task.{Task}
@@ -38,9 +39,9 @@ use Rattle.sock_runs.proofs.Opening.{mapped, appended}
 use Rattle.sock_runs.proofs.Whole.{Begins, AreFittingIn, closing_of, rested_of, views_played, views_closed, views_ended, set_up_answered, end_answered, set_up_sound, closing_sound, closed_sound}
 use Rattle.label_runs.specs.Labels.{Trial, Idle, Labels}
 use Rattle.label_runs.proofs.Programs.{OpCalls, client_goes, ending_goes, reader_goes}
-use Rattle.sock_causes.specs.PlainTasks.{told_tasks_of}
+use Rattle.sock_causes.specs.PlainTasks.{told_tasks_of, OwnsCall}
 use Rattle.sock_causes.proofs.Final.{at_there}
-use Rattle.sock_causes.proofs.Scripts.{seats, closing_told}
+use Rattle.sock_causes.proofs.Scripts.{own_from, seats, closing_told}
 use Rattle.sock_causes.proofs.Ticks.{elem_there}
 use Rattle.send_causes.specs.Counts.{of_trial, of_retry, of_claim, of_entry, of_view, times_of, ClaimFits, EntryFits, TrialFits, LabelLaw, AreLabelled}
 use Rattle.send_causes.proofs.Ticks.{moves, label_ticks}
@@ -102,16 +103,19 @@ module _ (p : Plan) (q : IdPlan) (narrow : q.slots ≤ 65536) (is_call : Asked �
   none_home (suc n) (suc k) asked e = none_home n k asked e
 
   begins_labels : (xs : List Program) → ((i : ℕ) (x : Program) → get_elem? xs i ≡ some x → Labels is_call Idle x) → (vs : List View) → ((i : ℕ) (v : View) → get_elem? vs i ≡ some v → IsBare v) → Lawful_ (beginning p q xs) vs
-  begins_labels xs goes vs bare = (map (λ (x : Program). Idle) xs, record {
-    once = λ id n. let z = none_at id n in omega (arith, z);
-    made = λ id n some_. absurd (let z = none_at id n in omega (arith, z, some_));
-    views = λ j v e. let b = bare j v e in (subst (AllByRecursion (ClaimFits is_call ids p)) (sym b.0) tt, subst (AllByRecursion (AllByRecursion (EntryFits is_call ids p))) (sym b.1) (tt, tt));
-    trials = λ j t e. subst (TrialFits ids) (sym (all_idle xs j t e)) tt;
-    calls = λ k asked e. absurd (none_home q.slots k asked e);
-    each = length-map xs (λ (x : Program). Idle) ∙ sym (length-map xs (λ (x : Program). record { program = next_step (resolved [] x); hand = [] }));
-    programs = λ j seat t es et. let x = mapped (λ (x : Program). record { program = next_step (resolved [] x); hand = [] }) xs j seat es in
-        subst (λ (s : SeatState). Labels is_call t s.program) x.2 (subst (λ y. Labels is_call y (next_step (resolved [] x.0))) (sym (all_idle xs j t et)) (idle_stays x.0 (goes j x.0 x.1)));
-  })
+  begins_labels xs goes vs bare = (
+    map (λ (x : Program). Idle) xs,
+    record {
+      once = λ id n. let z = none_at id n in omega (arith, z);
+      made = λ id n some_. absurd (let z = none_at id n in omega (arith, z, some_));
+      views = λ j v e. let b = bare j v e in (subst (AllByRecursion (ClaimFits is_call ids p)) (sym b.0) tt, subst (AllByRecursion (AllByRecursion (EntryFits is_call ids p))) (sym b.1) (tt, tt));
+      trials = λ j t e. subst (TrialFits ids) (sym (all_idle xs j t e)) tt;
+      calls = λ k asked e. absurd (none_home q.slots k asked e);
+      each = length-map xs (λ (x : Program). Idle) ∙ sym (length-map xs (λ (x : Program). record { program = next_step (resolved [] x); hand = [] }));
+      programs = λ j seat t es et. let x = mapped (λ (x : Program). record { program = next_step (resolved [] x); hand = [] }) xs j seat es in
+          subst (λ (s : SeatState). Labels is_call t s.program) x.2 (subst (λ y. Labels is_call y (next_step (resolved [] x.0))) (sym (all_idle xs j t et)) (idle_stays x.0 (goes j x.0 x.1)));
+    },
+  )
     where
       none_at : (id n : ℕ) → times_of id n (beginning p q xs) vs (map (λ (x : Program). Idle) xs) ≡ 0
       none_at id n = let a = total_none (of_trial id n) (map (λ (x : Program). Idle) xs) (λ i t e. ap (of_trial id n) (all_idle xs i t e)) in let b = none_waits id n q.seats in
@@ -142,7 +146,7 @@ pub record AreLabelledIn (ids : ℕ → ℕ) (script : List Item) (turns : List 
 
 -- a task of the script asks for this call
 abbrev pub IsCallOf : List Item → Asked → Type 0
-IsCallOf script asked = (i : ℕ) × (ts : List Task) × (t : Task) × (get_elem? (all_tasks script) i ≡ some ts) × In t ts × (t.op ≡ ops.Call asked)
+IsCallOf script asked = (i : ℕ) × (ts : List Task) × (t : Task) × (get_elem? (all_tasks script) i ≡ some ts) × In t ts × (t.op ≡ ops.Call asked) × (asked.operation ≡ t.number)
 
 asked_by : (script : List Item) (i : ℕ) (ts : List Task) → get_elem? (all_tasks script) i ≡ some ts → AllByRecursion (λ (t : Task). OpCalls (IsCallOf script) t.op) ts
 asked_by script i ts at = all_of (λ (t : Task). OpCalls (IsCallOf script) t.op) ts of_task
@@ -151,7 +155,7 @@ asked_by script i ts at = all_of (λ (t : Task). OpCalls (IsCallOf script) t.op)
     of_task t m = of_op t.op refl
       where
         of_op : (o : Op) → t.op ≡ o → OpCalls (IsCallOf script) o
-        of_op (ops.Call asked) is = (i, ts, t, at, m, is)
+        of_op (ops.Call asked) is = (i, ts, t, at, m, is, subst (OwnsCall t.number) is (all_in (λ (u : Task). OwnsCall u.number u.op) ts t (all_in (AllByRecursion (λ (u : Task). OwnsCall u.number u.op)) (all_tasks script) ts (own_from script 0 (clients script + 1)) (in_of_at (all_tasks script) i ts at)) m))
         of_op (ops.Open n k) is = tt
         of_op (ops.Send n bytes) is = tt
         of_op (ops.Expire u) is = tt

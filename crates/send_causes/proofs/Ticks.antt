@@ -279,18 +279,21 @@ module _ (p : Plan) (q : IdPlan) (narrow : q.slots ≤ 65536) (is_call : Asked �
           let five = r.fewer id n in let six = g.fewer id n in omega (arith, one, two, three, four, five, six)
 
       goes_on : After (with_seat i x hand ws hs (record c { calls = a })) (set vs i w)
-      goes_on = (set ts i r.trial, record {
-        once = λ id n. dite (ℕ_discrete (g.new id n) 0) (λ z. let b = bound id n in let o = law.once id n in omega (arith, b, z, o))
-            (λ ne. let b = bound id n in let f = g.fresh id n (omega (arith, ne)) in let one = f.0 in let none_ = f.1 in omega (arith, b, one, none_));
-        made = λ id n some_. dite (ℕ_discrete (g.new id n) 0) (λ z. let b = bound id n in g.words id n (law.made id n (omega (arith, b, z, some_)))) (λ ne. (g.fresh id n (omega (arith, ne))).2);
-        views = λ j y e. ⊎_elim (λ b. subst (ViewFits is_call ids p) b.1 g.view) (λ b. law.views j y b.1) (at_set vs i j w y e);
-        trials = λ j y e. ⊎_elim (λ b. subst (TrialFits ids) b.1 (r.fits g.fits)) (λ b. law.trials j y b.1) (at_set ts i j r.trial y e);
-        calls = g.calls;
-        each = length-set ts i r.trial ∙ (law.each ∙ sym (length-set c.seats i next_seat));
-        programs = λ j s' y es et. ⊎_elim
-            (λ b. ⊎_elim (λ d. subst (λ (z : SeatState). Labels is_call y z.program) b.1 (subst (λ z. Labels is_call z next_seat.program) d.1 r.labels)) (λ d. absurd (d.0 b.0)) (at_set ts i j r.trial y et))
-            (λ b. ⊎_elim (λ d. absurd (b.0 d.0)) (λ d. law.programs j s' y b.1 d.1) (at_set ts i j r.trial y et)) (at_set c.seats i j next_seat s' es);
-      })
+      goes_on = (
+        set ts i r.trial,
+        record {
+          once = λ id n. dite (ℕ_discrete (g.new id n) 0) (λ z. let b = bound id n in let o = law.once id n in omega (arith, b, z, o))
+              (λ ne. let b = bound id n in let f = g.fresh id n (omega (arith, ne)) in let one = f.0 in let none_ = f.1 in omega (arith, b, one, none_));
+          made = λ id n some_. dite (ℕ_discrete (g.new id n) 0) (λ z. let b = bound id n in g.words id n (law.made id n (omega (arith, b, z, some_)))) (λ ne. (g.fresh id n (omega (arith, ne))).2);
+          views = λ j y e. ⊎_elim (λ b. subst (ViewFits is_call ids p) b.1 g.view) (λ b. law.views j y b.1) (at_set vs i j w y e);
+          trials = λ j y e. ⊎_elim (λ b. subst (TrialFits ids) b.1 (r.fits g.fits)) (λ b. law.trials j y b.1) (at_set ts i j r.trial y e);
+          calls = g.calls;
+          each = length-set ts i r.trial ∙ (law.each ∙ sym (length-set c.seats i next_seat));
+          programs = λ j s' y es et. ⊎_elim
+              (λ b. ⊎_elim (λ d. subst (λ (z : SeatState). Labels is_call y z.program) b.1 (subst (λ z. Labels is_call z next_seat.program) d.1 r.labels)) (λ d. absurd (d.0 b.0)) (at_set ts i j r.trial y et))
+              (λ b. ⊎_elim (λ d. absurd (b.0 d.0)) (λ d. law.programs j s' y b.1 d.1) (at_set ts i j r.trial y et)) (at_set c.seats i j next_seat s' es);
+        },
+      )
 
     fits_view : ViewFits is_call ids p v
     fits_view = law.views i v at_view

@@ -102,8 +102,7 @@ module _ (p : Plan) (q : IdPlan) (c : Core) (us : List IdView) (ids : SoundIds p
   -- what an unlocking relies on
   pub finds_label : (step : Step) (found : Found step) → MayId p q u step → FindsId p q u step found → FindsLabel AnyCall step found
   finds_label (UnlockId s from advance) found may f = let m = may.1 in let rg : ℕ = m.1 in let has = m.6 in let longer : Longer m.0 m.1 m.2 m.3 m.4 (parts from) = m.7 in let room = m.8 in
-      let r = allowed.known q i (u, []) s may.0 real (id_state c.calls us) ids.rule at m.0 m.1 m.2 m.3 m.4 m.5 has in let low = r.live.low in
-      (
+      let r = allowed.known q i (u, []) s may.0 real (id_state c.calls us) ids.rule at m.0 m.1 m.2 m.3 m.4 m.5 has in let low = r.live.low in (
         omega (arith, low, r.first_is, longer.first_is),
         (let high : (parts from).range ≤ 8 = omega arith in omega (arith, room, high, longer.range_is, longer.attempt_is)),
         λ _. let l = f m.0 m.1 m.2 m.3 m.4 m.5 has in (sym l.first_is ∙ longer.first_is, sym l.attempt_is ∙ longer.attempt_is),
@@ -187,7 +186,7 @@ module _ (p : Plan) (q : IdPlan) (c : Core) (us : List IdView) (ids : SoundIds p
           → WasMade q (set c.calls.words (id_word k) (packed (made_word (parts found).first range))) (call_id k (parts found).first) 0 × ((m : ℕ) → WasMade q c.calls.words (call_id k (parts found).first) m → ⊥)
       by found e small = let id : ℕ = call_id k (parts found).first in let slot : id_slot (call_id k (parts found).first) ≡ k = omega (arith, small) in let first : id_first (call_id k (parts found).first) ≡ (parts found).first = omega (arith, small) in
           let inside : k < q.slots = may.0 in let new_word : parts (get_or (set c.calls.words (id_word k) (packed (made_word (parts found).first range))) (id_word k) 0) ≡ made_word (parts found).first range
-              = ap parts (get_or-set_same c.calls.words (id_word k) (packed (made_word (parts found).first range)) 0 (omega (arith, sized, inside))) ∙ made_is (parts found).first range may.2 may.3 in (
+          = ap parts (get_or-set_same c.calls.words (id_word k) (packed (made_word (parts found).first range)) 0 (omega (arith, sized, inside))) ∙ made_is (parts found).first range may.2 may.3 in (
             (
               subst (λ x. x < q.slots) (sym slot) inside,
               inr (subst (λ x. ((word_of_id (set c.calls.words (id_word k) (packed (made_word (parts found).first range))) x).first ≡ id_first (call_id k (parts found).first))
@@ -211,7 +210,7 @@ module _ (p : Plan) (q : IdPlan) (c : Core) (us : List IdView) (ids : SoundIds p
           let slot : id_slot (call_id k (parts from).first) ≡ k = omega (arith, low) in let first : id_first (call_id k (parts from).first) ≡ (parts from).first = omega (arith, low) in
           let ws : List ℕ = set c.calls.words (id_word k) (cond (eqb found from) (packed (unlocked_word (parts from) 1)) found) in
           let new_word : parts (get_or (set c.calls.words (id_word k) (cond (eqb found from) (packed (unlocked_word (parts from) 1)) found)) (id_word k) 0) ≡ unlocked_word (parts from) 1
-              = ap parts (get_or-set_same c.calls.words (id_word k) (cond (eqb found from) (packed (unlocked_word (parts from) 1)) found) 0 (omega (arith, sized, inside)) ∙ ap (λ b. cond b (packed (unlocked_word (parts from) 1)) found) (eq-eqb found from same)) ∙ unlocked_is from true few in
+          = ap parts (get_or-set_same c.calls.words (id_word k) (cond (eqb found from) (packed (unlocked_word (parts from) 1)) found) 0 (omega (arith, sized, inside)) ∙ ap (λ b. cond b (packed (unlocked_word (parts from) 1)) found) (eq-eqb found from same)) ∙ unlocked_is from true few in
           let some_more = state_some (eqb (parts from).oldest 0) in (
             (
               subst (λ x. x < q.slots) (sym slot) inside,

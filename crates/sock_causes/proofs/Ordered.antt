@@ -29,7 +29,6 @@ use Rattle.sock_runs.specs.Sound.{state}
 use Rattle.sock_runs.proofs.HandTicks.{AtHome}
 use Rattle.sock_causes.proofs.Delivered.{accepted_of, accepted_at, accepted_there, orders_of, AreQuiet, places_all}
 
-
 -- the first n messages, one after another
 whole_of : (es : List Entry) (n : ℕ) → whole es n ≡ flat_map bytes_of (take n (map accepted_of es))
 whole_of [] zero = refl

@@ -63,7 +63,7 @@ own_all : (all : List Numbered) (ns : List (List ℕ)) (l : List Numbered) → A
 own_all all ns [] = tt
 own_all all ns (n ∷ l) = own_call all ns n n.op.item (filter_map (task_of all ns) l) (own_all all ns l)
 
-own_from : (script : List Item) (client n : ℕ) → AllByRecursion (AllByRecursion (λ (t : Task). OwnsCall t.number t.op)) (tasks_from script client n)
+pub own_from : (script : List Item) (client n : ℕ) → AllByRecursion (AllByRecursion (λ (t : Task). OwnsCall t.number t.op)) (tasks_from script client n)
 own_from script client zero = tt
 own_from script client (suc n) = (own_all (numbered script) (names script) (of_client client (numbered script)), own_from script (client + 1) n)
 
