@@ -28,16 +28,16 @@ use Rattle.chain_laws.proofs.Totals.{log_full}
 use Rattle.sock_steps.proofs.Maps.{gather_nil}
 use Rattle.sock_programs.specs.Cores.{Core}
 use Rattle.sock_programs.specs.Runs.{from_to}
-use Rattle.sock_programs.specs.Told.{Accepted, Order, all_accepted}
+use Rattle.sock_programs.specs.ToldCalls.{Accepted, Order, all_accepted}
 use Rattle.sock_runs.specs.Has.{IsQuiet}
 use Rattle.sock_runs.specs.Sound.{state}
 
 -- ## Messages as a link accepted them
 
 abbrev pub accepted_of : Entry → Accepted
-accepted_of e = record { operation = e.heading.operation; bytes = e.bytes }
+accepted_of e = record { operation = e.heading.operation; attempt = e.heading.attempt; bytes = e.bytes }
 
-accepted_at : (es : List Entry) (i : ℕ) (a : Accepted) → slice_get (map accepted_of es) i ≡ Some a → (e : Entry) × (get_elem? es i ≡ some e) × (accepted_of e ≡ a)
+pub accepted_at : (es : List Entry) (i : ℕ) (a : Accepted) → slice_get (map accepted_of es) i ≡ Some a → (e : Entry) × (get_elem? es i ≡ some e) × (accepted_of e ≡ a)
 accepted_at [] i a h = absurd (none-some a h)
 accepted_at (e ∷ es) zero a h = (e, refl, same_Some (accepted_of e) a h)
 accepted_at (e ∷ es) (suc i) a h = accepted_at es i a h
@@ -110,7 +110,7 @@ abbrev pub AreQuiet : List View → Type 0
 AreQuiet views = (i : ℕ) (v : View) → get_elem? views i ≡ some v → IsQuiet v
 
 module _ (p : Plan) (c : Core) (views : List View) (o : Lawful (λ home. home) p (state c views)) (quiet : AreQuiet views) where
-  no_rights : (k : ℕ) → (tokens views).rights k ≡ []
+  pub no_rights : (k : ℕ) → (tokens views).rights k ≡ []
   no_rights k = gather_nil (rights_on k) views (λ i v g. ap (λ l. filter (λ (x : Right). eqb x.link k) l) (quiet i v g).rights)
 
   no_claims : (q : ℕ) → (tokens views).claims q ≡ []

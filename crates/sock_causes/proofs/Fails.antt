@@ -10,7 +10,8 @@ use Rattle.sock_words.specs.declared.outcome.Outcome.{Outcome}
 use Rattle.sock_programs.specs.declared.task.Op.TheVariants as ops
 use Rattle.sock_programs.specs.declared.task.Task.{Task}
 use Rattle.sock_programs.specs.Calls.{Call, SetOdd}
-use Rattle.sock_programs.specs.Told.{Order, Made}
+use Rattle.sock_programs.specs.Told.{Made}
+use Rattle.sock_programs.specs.ToldCalls.{Order}
 use Rattle.sock_causes.specs.Stories.{Event, In, trace_of}
 use Rattle.sock_causes.specs.Explains.{FailsLife, FailsLink, step}
 use Rattle.sock_causes.specs.Causes.{Asks, Cause, Good}
@@ -54,7 +55,7 @@ module _ (p : Plan) (clients : List (List Task)) (outcomes : List (Option Outcom
 
   added : (c o i found : ℕ) (xs : List Event) → (cause : Cause p clients broken xs (event c o (SetOdd i) found)) → FailsLife cause.task.op (trace_of c o xs) i → ((x : Event) → In x (event c o (SetOdd i) found ∷ xs) → In x es) → vref_version found % 2 ≡ 0 → Gathered xs → Gathered (event c o (SetOdd i) found ∷ xs)
   added c o i found xs cause life part even g = let e : Event = event c o (SetOdd i) found in
-      let m = odd_means p clients outcomes broken orders es world xs c o i found cause (λ x n. part x (inr n)) life in let l = odd_life p clients outcomes broken orders es world xs c o i found cause.task m even in
+      let m = odd_means p clients outcomes broken orders es world broken xs c o i found cause (λ x n. part x (inr n)) life in let l = odd_life p clients outcomes broken orders es world broken xs c o i found cause.task m even in
       let new_fail : Fail (e ∷ xs) (o, l.0) = record { client = c; slot = i; found = found; is = inl refl; even = even; name = m.name; code = m.code; task = cause.task; asks = cause.is; numbered = cause.numbered; op = m.op; life = l.1 } in
       let number_apart : (f : ℕ × ℕ) → In f g.fails → o ≢ f.0 = λ f n q. let y = g.are f n in let same = (one_task p clients world.are c y.client cause.task y.task cause.is y.asks (cause.numbered ∙ (q ∙ sym y.numbered))).0 in
       m.first y.slot y.found (subst (λ z. In (step (SetOdd y.slot) y.found) (trace_of c z xs)) (sym q) (subst (λ z. In (step (SetOdd y.slot) y.found) (trace_of z f.0 xs)) (sym same) (to_trace xs (event y.client f.0 (SetOdd y.slot) y.found) y.is))) in record {
@@ -81,7 +82,7 @@ module _ (p : Plan) (clients : List (List Task)) (outcomes : List (Option Outcom
   refused : (c o i found : ℕ) (xs : List Event) → (cause : Cause p clients broken xs (event c o (SetOdd i) found)) → FailsLink cause.task broken (trace_of c o xs) i → ((x : Event) → In x (event c o (SetOdd i) found ∷ xs) → In x es) → vref_version found % 2 ≡ 0
       → Gathered xs → Gathered (event c o (SetOdd i) found ∷ xs)
   refused c o i found xs cause link part even g = let e : Event = event c o (SetOdd i) found in
-      let m = link_means p clients outcomes broken orders es world xs c o i found cause (λ x n. part x (inr n)) link in
+      let m = link_means p clients outcomes broken orders es world broken xs c o i found cause (λ x n. part x (inr n)) link in
       let l = given_made p clients outcomes broken orders es world i (socket_id_version m.id) m.link m.given in
       let version : vref_version found ≡ socket_id_version m.id = m.odd.0 even in record {
         fails = g.fails;

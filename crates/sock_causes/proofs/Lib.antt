@@ -21,13 +21,17 @@ pub mod AtWork
 pub mod Ticks
 pub mod Begin
 pub mod Runs
+pub mod Outcomes
 pub mod Final
 pub mod Lives
 pub mod Fails
 pub mod Whys
 pub mod Delivered
+pub mod Ordered
 pub mod Senders
 pub mod Messages
 pub mod Told
 pub mod Openings
+pub mod Lifted
 pub mod Scripts
+pub mod Plain

@@ -10,7 +10,8 @@ use Rattle.sock_programs.specs.declared.task.Op.TheVariants as ops
 use Rattle.sock_programs.specs.declared.task.Task.{Task}
 use Rattle.sock_programs.specs.Calls.{GiveBirth, AddRef, SetOdd, StoreName, LoadName, FindLink, ClaimRequest}
 use Rattle.sock_programs.specs.Programs.{fail_outcome}
-use Rattle.sock_programs.specs.Told.{AreTasks, Order, IsTask, Made, IsFail, all_accepted}
+use Rattle.sock_programs.specs.Told.{AreTasks, IsTask, Made, IsFail}
+use Rattle.sock_programs.specs.ToldCalls.{Order, all_accepted}
 use Rattle.sock_causes.specs.Stories.{Entry, Event, In, trace_of, last_name, added_by, marked}
 use Rattle.sock_causes.specs.Explains.{Because, Explained, Tells, TellsFail, FailsLife, FailsLink, holds, step}
 use Rattle.sock_causes.specs.Causes.{Asks, OddAt, WasGiven, Cause, Good}
@@ -115,31 +116,31 @@ module _ (p : Plan) (clients : List (List Task)) (outcomes : List (Option Outcom
     pub life : Made clients outcomes name f.1 slot (vref_version found)
 
   -- what a step of a `fail` that sets a life failed means, behind the part s of the story
-  pub record OddMeans (s : List Event) (c o i found : ℕ) (task : Task) : Type 0 where
+  pub record OddMeans (few : List ℕ) (s : List Event) (c o i found : ℕ) (task : Task) : Type 0 where
     pub name : ℕ
     pub code : ℕ
     pub id : ℕ
     pub op : task.op ≡ ops.Fail name code
     pub load : In (event c o (LoadName name) (id + 1)) es
     pub slot : i ≡ socket_id_slot id
-    pub odd : OddAt broken s i (socket_id_version id) found
+    pub odd : OddAt few s i (socket_id_version id) found
     -- no step for the operation before it did so
     pub first : (j word : ℕ) → In (step (SetOdd j) word) (trace_of c o s) → ⊥
 
-  -- and what that of a `send` means, whose link failed
-  pub record LinkMeans (s : List Event) (i found : ℕ) (task : Task) : Type 0 where
+  -- and what that of a `send` means, whose link is one of these, which failed
+  pub record LinkMeans (few : List ℕ) (s : List Event) (i found : ℕ) (task : Task) : Type 0 where
     pub name : ℕ
     pub bytes : List ℕ
     pub op : task.op ≡ ops.Send name bytes
     pub id : ℕ
     pub link : ℕ
-    pub refused : In link broken
+    pub refused : In link few
     pub slot : i ≡ socket_id_slot id
-    pub odd : OddAt broken s i (socket_id_version id) found
+    pub odd : OddAt few s i (socket_id_version id) found
     pub given : WasGiven es i (socket_id_version id) link
 
-  pub odd_means : (s : List Event) (c o i found : ℕ) → (cause : Cause p clients broken s (event c o (SetOdd i) found)) → ((x : Event) → In x s → In x es) → FailsLife cause.task.op (trace_of c o s) i → OddMeans s c o i found cause.task
-  odd_means s c o i found cause part f = let n : ℕ = f.0 in let id : ℕ = f.2 in let word : ℕ = f.3 in
+  pub odd_means : (few : List ℕ) (s : List Event) (c o i found : ℕ) → (cause : Cause p clients few s (event c o (SetOdd i) found)) → ((x : Event) → In x s → In x es) → FailsLife cause.task.op (trace_of c o s) i → OddMeans few s c o i found cause.task
+  odd_means few s c o i found cause part f = let n : ℕ = f.0 in let id : ℕ = f.2 in let word : ℕ = f.3 in
       let tr : List Entry = step (AddRef id) word ∷ step (LoadName n) (id + 1) ∷ [] in
       let load : In (event c o (LoadName n) (id + 1)) s = from_trace c o s (step (LoadName n) (id + 1)) (subst (In (step (LoadName n) (id + 1))) (sym f.5) (inr (inl refl))) in
       let held : 0 < holds i (socket_id_version id) (trace_of c o s) = subst (λ z. 0 < holds z (socket_id_version id) (trace_of c o s)) (sym f.7)
@@ -159,8 +160,8 @@ module _ (p : Plan) (clients : List (List Task)) (outcomes : List (Option Outcom
   pub given_later : (xs ys : List Event) → ((x : Event) → In x xs → In x ys) → (j h k : ℕ) → WasGiven xs j h k → WasGiven ys j h k
   given_later xs ys part j h k given = let g = marked_given xs j h k given in given_by ys g.0 g.1 g.2 j h k (part (event g.0 g.1 (GiveBirth j k) g.2) g.3) g.4
 
-  pub link_means : (s : List Event) (c o i found : ℕ) → (cause : Cause p clients broken s (event c o (SetOdd i) found)) → ((x : Event) → In x s → In x es) → FailsLink cause.task broken (trace_of c o s) i → LinkMeans s i found cause.task
-  link_means s c o i found cause part f = let id : ℕ = f.0 in let k : ℕ = f.1 in let w = f.2 in
+  pub link_means : (few : List ℕ) (s : List Event) (c o i found : ℕ) → (cause : Cause p clients few s (event c o (SetOdd i) found)) → ((x : Event) → In x s → In x es) → FailsLink cause.task few (trace_of c o s) i → LinkMeans few s i found cause.task
+  link_means few s c o i found cause part f = let id : ℕ = f.0 in let k : ℕ = f.1 in let w = f.2 in
       let find : In (event c o (FindLink (socket_id_slot id) (socket_id_version id)) k) es = part (event c o (FindLink (socket_id_slot id) (socket_id_version id)) k) (from_trace c o s (step (FindLink (socket_id_slot id) (socket_id_version id)) k) w.link) in
       let b = before (event c o (FindLink (socket_id_slot id) (socket_id_version id)) k) find in record {
         name = w.name;
@@ -175,8 +176,8 @@ module _ (p : Plan) (clients : List (List Task)) (outcomes : List (Option Outcom
       }
 
   -- the life that such a step failed, where it found it live
-  pub odd_life : (s : List Event) (c o i found : ℕ) (task : Task) → (m : OddMeans s c o i found task) → vref_version found % 2 ≡ 0 → (k : ℕ) × Made clients outcomes m.name k i (vref_version found)
-  odd_life s c o i found task m even = let l = named_life c o m.name m.id m.load in
+  pub odd_life : (few : List ℕ) (s : List Event) (c o i found : ℕ) (task : Task) → (m : OddMeans few s c o i found task) → vref_version found % 2 ≡ 0 → (k : ℕ) × Made clients outcomes m.name k i (vref_version found)
+  odd_life few s c o i found task m even = let l = named_life c o m.name m.id m.load in
       (l.0, subst (λ z. Made clients outcomes m.name l.0 i z) (sym (m.odd.0 even)) (subst (λ z. Made clients outcomes m.name l.0 z (socket_id_version m.id)) (sym m.slot) l.1))
 
   -- a step that failed a life is of a task that was answered so

@@ -67,35 +67,37 @@ module _ (p : Plan) (clients : List (List Task)) (are : AreTasks p clients) wher
   pub record Goes (over : Bool) (moments : List Moment) (c : Core) (views : List View) (t : IsStoried over c views) : Type 0 where
     pub after : IsStoried over (run p c moments) (views_along p c views moments)
     pub losses : (k : ℕ) → In k after.lost → In k t.lost ⊎ In k (lost_in p c moments)
+    pub kept : (e : Event) → In e t.events → In e after.events
     pub made : (e : Event) → In e after.events → In e t.events ⊎ MadeIn p clients c moments e.client e.number e.entry.call e.entry.found
 
   module _ (retries_go : RetriesGo p) where
     -- a tick, and those behind it
     then_goes : (over : Bool) (x : Moment) (xs : List Moment) (c : Core) (views : List View) (t : IsStoried over c views) (next : IsStoried over (ticked p c x) (views_after p c views x))
-        → ((k : ℕ) → In k next.lost → In k t.lost ⊎ In k (lost_at c x)) → ((e : Event) → In e next.events → In e t.events ⊎ MadeIn p clients c (x ∷ xs) e.client e.number e.entry.call e.entry.found)
+        → ((k : ℕ) → In k next.lost → In k t.lost ⊎ In k (lost_at c x)) → ((e : Event) → In e t.events → In e next.events) → ((e : Event) → In e next.events → In e t.events ⊎ MadeIn p clients c (x ∷ xs) e.client e.number e.entry.call e.entry.found)
         → Goes over xs (ticked p c x) (views_after p c views x) next → Goes over (x ∷ xs) c views t
-    then_goes over x xs c views t next losses made r = record {
+    then_goes over x xs c views t next losses kept made r = record {
       after = r.after;
       losses = λ k m. ⊎_elim (λ n. ⊎_elim (λ o. inl o) (λ o. inr (in_left k (lost_at c x) (lost_in p (ticked p c x) xs) o)) (losses k n)) (λ n. inr (in_right k (lost_at c x) (lost_in p (ticked p c x) xs) n)) (r.losses k m);
+      kept = λ e m. r.kept e (kept e m);
       made = λ e m. ⊎_elim (λ n. made e n) (λ n. inr (inr n)) (r.made e m);
     }
 
     -- ticks of all seats, once the setup is over
     pub seats_run : (moments : List Moment) (c : Core) (views : List View) → AreAnswered p c moments → AreFitting p c moments → (t : IsStoried true c views) → Goes true moments c views t
-    seats_run [] c views answered fitting t = record { after = t; losses = λ k m. inl m; made = λ e m. inl m }
+    seats_run [] c views answered fitting t = record { after = t; losses = λ k m. inl m; kept = λ e m. m; made = λ e m. inl m }
     seats_run (x ∷ xs) c views answered fitting t = let g = tick_story p clients are true c views t.events t.lost t.sound t.story x answered.0 (inl refl) in
         let next : IsStoried true (ticked p c x) (views_after p c views x) = record { events = g.events; lost = g.lost; sound = sound_ticks p retries_go c views x t.sound answered.0 fitting.0; story = g.told } in
-        then_goes true x xs c views t next g.losses (λ e m. ⊎_elim (λ o. inl o) (λ o. inr (inl o.1)) (g.fresh e m)) (seats_run xs (ticked p c x) (views_after p c views x) answered.1 fitting.1 next)
+        then_goes true x xs c views t next g.losses g.kept (λ e m. ⊎_elim (λ o. inl o) (λ o. inr (inl o.1)) (g.fresh e m)) (seats_run xs (ticked p c x) (views_after p c views x) answered.1 fitting.1 next)
 
     -- ticks of the setup alone
     pub setup_runs : (n : ℕ) (c : Core) (views : List View) → AreAnswered p c (replicate n (quiet 0)) → AreFitting p c (replicate n (quiet 0)) → (t : IsStoried false c views) → ((e : Event) → In e t.events → e.client ≡ 0)
         → (g : Goes false (replicate n (quiet 0)) c views t) × ((e : Event) → In e g.after.events → e.client ≡ 0)
     unfolding then_goes
-    setup_runs zero c views answered fitting t alone = (record { after = t; losses = λ k m. inl m; made = λ e m. inl m }, alone)
+    setup_runs zero c views answered fitting t alone = (record { after = t; losses = λ k m. inl m; kept = λ e m. m; made = λ e m. inl m }, alone)
     setup_runs (suc n) c views answered fitting t alone = let x : Moment = quiet 0 in let g = tick_story p clients are false c views t.events t.lost t.sound t.story (quiet 0) answered.0 (inr (refl, alone)) in
         let next : IsStoried false (ticked p c (quiet 0)) (views_after p c views (quiet 0)) = record { events = g.events; lost = g.lost; sound = sound_ticks p retries_go c views (quiet 0) t.sound answered.0 fitting.0; story = g.told } in
         let r = setup_runs n (ticked p c (quiet 0)) (views_after p c views (quiet 0)) answered.1 fitting.1 next (λ e m. ⊎_elim (λ o. alone e o) (λ o. o.0) (g.fresh e m)) in
-        (then_goes false (quiet 0) (replicate n (quiet 0)) c views t next g.losses (λ e m. ⊎_elim (λ o. inl o) (λ o. inr (inl o.1)) (g.fresh e m)) r.0, r.1)
+        (then_goes false (quiet 0) (replicate n (quiet 0)) c views t next g.losses g.kept (λ e m. ⊎_elim (λ o. inl o) (λ o. inr (inl o.1)) (g.fresh e m)) r.0, r.1)
 
   -- ## Where the setup is over
 

@@ -15,7 +15,7 @@ use Rattle.sock_model.specs.Lawful.{Lawful}
 use Rattle.chain_laws.proofs.Lists.{at_length, at_some, filter_at, filter_in}
 use Rattle.chain_laws.proofs.Frames.{in_log}
 use Rattle.sock_programs.specs.Cores.{Core}
-use Rattle.sock_programs.specs.Told.{Accepted, StandsAt}
+use Rattle.sock_programs.specs.ToldCalls.{Accepted, StandsAt}
 use Rattle.sock_runs.specs.Sound.{state}
 use Rattle.sock_causes.proofs.Delivered.{accepted_of, accepted_there, orders_of}
 

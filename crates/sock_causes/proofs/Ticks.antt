@@ -554,18 +554,23 @@ module _ (p : Plan) (clients : List (List Task)) (are : AreTasks p clients) (ove
 
 -- ## Ticks
 
+still_told : (i : ℕ) (todo : List Task) (entry : Entry) (es : List Event) (e : Event) → In e es → In e (told_of i todo entry es)
+still_told i [] entry es e n = n
+still_told i (t ∷ ts) entry es e n = inr n
+
 module _ (p : Plan) (clients : List (List Task)) (are : AreTasks p clients) (over : Bool) (c : Core) (vs : List View) (es : List Event) (broken : List ℕ) (sound : Sound p c vs) (story : Story p clients over c vs es broken)
     (m : Moment) (answered : IsAnswered c m) (moves : MayMove over es m.seat) where
   -- a step of the moment's seat, made in this tick
   abbrev pub IsNew : Event → Type 0
   IsNew e = (e.client ≡ m.seat) × Makes p clients c m e.client e.number e.entry.call e.entry.found
 
-  -- behind the tick the story holds of the core and the views, each new step was made in it by the moment's seat, and each link that was lost since was so in the tick
+  -- behind the tick the story holds of the core and the views, with all that it had, each new step was made in it by the moment's seat, and each link that was lost since was so in the tick
   pub record Goes (d : Core) (us : List View) : Type 0 where
     pub events : List Event
     pub lost : List ℕ
     pub told : Story p clients over d us events lost
     pub fresh : (e : Event) → In e events → In e es ⊎ IsNew e
+    pub kept : (e : Event) → In e es → In e events
     pub losses : (k : ℕ) → In k lost → In k broken ⊎ In k (lost_at c m)
 
   in_left : (k : ℕ) (xs ys : List ℕ) → In k xs → In k (xs ++ ys)
@@ -677,11 +682,12 @@ module _ (p : Plan) (clients : List (List Task)) (are : AreTasks p clients) (ove
     told = subst (λ u. Story p clients over (with_seat m.seat next hand c.words hs (record c { calls = a })) (set vs m.seat u) es broken') (sym rights.1)
         (moved p clients are over c vs es broken sound story m.seat seat v t.tasks at here t.asks_ a spoken t.way t.trace t.done t.todo seat.program next hand hs rights.0 broken' within x t.told);
     fresh = λ e n. inl n;
+    kept = λ e n. n;
     losses = losses;
   }
 
   same_story : Goes c vs
-  same_story = record { events = es; lost = broken; told = story; fresh = λ e n. inl n; losses = λ k n. inl n }
+  same_story = record { events = es; lost = broken; told = story; fresh = λ e n. inl n; kept = λ e n. n; losses = λ k n. inl n }
 
   -- a step on a word
   goes_step : (seat : SeatState) (v : View) (call : Call) (next : ℕ → Program) → get_elem? c.seats m.seat ≡ some seat → get_elem? vs m.seat ≡ some v → first_step seat.program ≡ Do call next → May p v call → (tasks : List Task) → slice_get clients m.seat ≡ Some tasks
@@ -697,6 +703,7 @@ module _ (p : Plan) (clients : List (List Task)) (are : AreTasks p clients) (ove
         lost = broken;
         told = own_story p clients are over c vs es broken sound story m.seat seat v tasks at here asks_ call next may trace done moves todo s;
         fresh = new_step seat v call next at is tasks asks_ trace done todo old;
+        kept = λ e n. still_told m.seat todo (step call (found_at c.words (word_of p call))) es e n;
         losses = λ k n. inl n;
       }
       by_way Beside old s = record {
@@ -704,6 +711,7 @@ module _ (p : Plan) (clients : List (List Task)) (are : AreTasks p clients) (ove
         lost = broken;
         told = beside_story p clients are over c vs es broken sound story m.seat seat v tasks at here asks_ call next may trace done todo s;
         fresh = λ e n. inl n;
+        kept = λ e n. n;
         losses = λ k n. inl n;
       }
       by_way Closing old s = record {
@@ -711,6 +719,7 @@ module _ (p : Plan) (clients : List (List Task)) (are : AreTasks p clients) (ove
         lost = lost_of c.words call ++ broken;
         told = closing_story p clients are over c vs es broken sound story m.seat seat v tasks at here asks_ call next may trace done todo s;
         fresh = λ e n. inl n;
+        kept = λ e n. n;
         losses = λ k n. ⊎_elim (λ a. inr (closed_here seat call next at (closes_is m.seat (old.closes refl)) (none_or_odd p.slots p.requests (IsSpoken clients) done trace todo seat.program call next old.explains is) k a)) (λ a. inl a) (from_both k (lost_of c.words call) broken n);
       }
 

@@ -23,14 +23,15 @@ use Rattle.sock_programs.specs.Calls.{Call, SubRef, Recycle, ClaimRequest, LoadN
 use Rattle.sock_programs.specs.Cores.{Core}
 use Rattle.sock_programs.specs.declared.task.Op.{Op}
 use Rattle.sock_programs.specs.declared.task.Op.TheVariants as ops
-use Rattle.sock_programs.specs.Told.{AreTasks, IsOpen, Accepted, Order, StandsAt, IsTask, Became, Made, IsFail, IsSent, InOwnOrder}
+use Rattle.sock_programs.specs.Told.{AreTasks, IsOpen, IsTask, Became, Made, IsFail}
+use Rattle.sock_programs.specs.ToldCalls.{Accepted, Order, StandsAt}
 use Rattle.sock_runs.specs.GoesOn.{GoesOn, HasNothing}
 use Rattle.sock_runs.specs.Sound.{state, Sound, AllRest}
 use Rattle.sock_causes.specs.Stories.{Event, In, trace_of}
 use Rattle.sock_causes.specs.Explains.{step, Because, Explained, WonRecycling, GaveBackOnly}
 use Rattle.sock_causes.specs.Causes.{Asks, WasGiven}
 use Rattle.sock_causes.specs.Kept.{is_of_send, IsSpoken, StaysUsed, Story}
-use Rattle.sock_causes.specs.TaskCauses.{ToldTasks, DropsMade}
+use Rattle.sock_causes.specs.TaskCauses.{ToldTasks, DropsMade, IsSent, InOwnOrder}
 use Rattle.std.specs.List.{filter}
 use Rattle.std.specs.Prelude.{cond}
 use Rattle.std.proofs.Common.{suc, [], ◌∷◌}
@@ -42,20 +43,21 @@ use Rattle.sock_causes.proofs.Events.{event, marked_fail}
 use Rattle.sock_causes.proofs.Final.{Final, IsMessage, sends, at_there, at_within, idle, final}
 use Rattle.sock_causes.proofs.Lives.{World, task_of, asks_of, named_life, one_life, given_made, fail_is}
 use Rattle.sock_causes.proofs.Fails.{Gathered, gather}
-use Rattle.sock_causes.proofs.Whys.{why_told}
+use Rattle.sock_causes.proofs.Whys.{Timely, why_told}
 use Rattle.sock_causes.proofs.Delivered.{accepted_of, orders_of, AreQuiet, places_all, requests_used, dropped_failed}
 use Rattle.sock_causes.proofs.Senders.{HasSent, all_sent, each_before, sent_stands}
 use Rattle.sock_causes.proofs.Messages.{number_of, each_made, message_of, call_of, sooner}
 
 -- links that were lost are among these
-module _ (p : Plan) (clients : List (List Task)) (are : AreTasks p clients) (over : Bool) (c : Core) (vs : List View) (es : List Event) (failed broken : List ℕ) (within : Within failed broken) (sound : Sound p c vs) (story : Story p clients over c vs es failed) (settled : AllRest c) where
+module _ (p : Plan) (clients : List (List Task)) (are : AreTasks p clients) (over : Bool) (c : Core) (vs : List View) (es : List Event) (failed broken : List ℕ) (within : Within failed broken) (sound : Sound p c vs) (story : Story p clients over c vs es failed) (settled : AllRest c)
+    (few : List ℕ) (late : ℕ → Type 0) (timely : Timely p clients c.outcomes es few late) where
   law : (j : ℕ) → j < p.slots → SlotLaw p.first (live (slot_facts (state c vs) j)) (slot_facts (state c vs) j)
   law j l = sound.lawful.references.slots j l
 
   abbrev orders : ℕ → Order
   orders = orders_of p c vs sound.lawful
 
-  quiet : AreQuiet vs
+  pub quiet : AreQuiet vs
   quiet i v at = let seat = at_there c.seats i (omega (arith, at_within vs i v at, sound.each)) in
       let n : HasNothing v = subst (GoesOn p v) (settled i seat.0 seat.1) (sound.seats i seat.0 v seat.1 at).goes_on in n.quiet
 
@@ -99,11 +101,11 @@ module _ (p : Plan) (clients : List (List Task)) (are : AreTasks p clients) (ove
   numbered i e x = number_of p clients are over c vs es failed sound story settled i e x
 
   -- a task of which nothing is said had its message accepted
-  untold_stands : (i : ℕ) (t : Task) → Asks clients i t → slice_get c.outcomes t.number ≡ Some None → (k j : ℕ) × (a : Accepted) × (k < p.links) × StandsAt orders k j a × (a.operation ≡ t.number)
+  untold_stands : (i : ℕ) (t : Task) → Asks clients i t → slice_get c.outcomes t.number ≡ Some None → (k j : ℕ) × (a : Accepted) × (k < p.links) × StandsAt orders k j a × (a.operation ≡ t.number) × (a.attempt ≡ 0)
   untold_stands i t asks none_ = let inside = get_within clients i asks.0 asks.1 in let u = at_there vs i (omega (arith, story.each, sound.each, inside)) in
       let s = sends p clients are over c vs es failed sound story settled i u.0 u.1 in let x = s.each_sent t asks none_ in let n = kept_at is_of_send s.made x.0 x.1 in
       let h : HasSent vs i n.0 x.0 = record { view = u.0; here = u.1; made = s.made; lists = s.lists; stands = n.1 } in
-      let y = sent_stands p c vs sound.lawful i n.0 x.0 h in (x.0.link, y.1, accepted_of x.0, y.0, y.2, ap (λ (z : Heading). z.operation) x.2.heading)
+      let y = sent_stands p c vs sound.lawful i n.0 x.0 h in (x.0.link, y.1, accepted_of x.0, y.0, y.2, ap (λ (z : Heading). z.operation) x.2.heading, ap (λ (z : Heading). z.attempt) x.2.heading)
     where
       kept_at : (f : Entry → Bool) (xs : List Entry) (x : Entry) → In x (filter f xs) → (n : ℕ) × (get_elem? xs n ≡ some x)
       kept_at f [] x m = absurd m
@@ -114,10 +116,10 @@ module _ (p : Plan) (clients : List (List Task)) (are : AreTasks p clients) (ove
           by_test true later (inr m) = let t = later m in (suc t.0, t.1)
           by_test false later m = let t = later m in (suc t.0, t.1)
 
-  told_or_sent : (i : ℕ) (t : Task) → IsTask clients c.outcomes i t → ((outcome : Outcome) × Became clients c.outcomes t.number outcome) ⊎ ((k j : ℕ) × (a : Accepted) × (k < p.links) × StandsAt orders k j a × (a.operation ≡ t.number))
+  told_or_sent : (i : ℕ) (t : Task) → IsTask clients c.outcomes i t → ((outcome : Outcome) × Became clients c.outcomes t.number outcome) ⊎ ((k j : ℕ) × (a : Accepted) × (k < p.links) × StandsAt orders k j a × (a.operation ≡ t.number) × (a.attempt ≡ 0))
   told_or_sent i t is = let asks = asks_of p clients c.outcomes broken orders es world i t is in let f = each_final i t asks in by asks f.outcome f.became
     where
-      by : Asks clients i t → (x : Option Outcome) → slice_get c.outcomes t.number ≡ Some x → ((outcome : Outcome) × Became clients c.outcomes t.number outcome) ⊎ ((k j : ℕ) × (a : Accepted) × (k < p.links) × StandsAt orders k j a × (a.operation ≡ t.number))
+      by : Asks clients i t → (x : Option Outcome) → slice_get c.outcomes t.number ≡ Some x → ((outcome : Outcome) × Became clients c.outcomes t.number outcome) ⊎ ((k j : ℕ) × (a : Accepted) × (k < p.links) × StandsAt orders k j a × (a.operation ≡ t.number) × (a.attempt ≡ 0))
       by asks (Some outcome) e = inl (outcome, e)
       by asks None e = inr (untold_stands i t asks e)
 
@@ -133,6 +135,7 @@ module _ (p : Plan) (clients : List (List Task)) (are : AreTasks p clients) (ove
         numbered = sym (numbered i e x);
         name = t.name;
         op = t.op;
+        first = ap (λ (z : Heading). z.attempt) t.heading;
         slot = socket_id_slot t.id;
         version = socket_id_version t.id;
         life = subst (λ z. Made clients c.outcomes t.name z (socket_id_slot t.id) (socket_id_version t.id)) (same ∙ link) life.1;
@@ -177,16 +180,15 @@ module _ (p : Plan) (clients : List (List Task)) (are : AreTasks p clients) (ove
       (story.lost f.slot inside f.version f.failed)
 
   -- each task has its outcome or its message was accepted, each outcome its cause, and each message its link
-  pub told_tasks : ToldTasks clients c.outcomes p broken
+  pub told_tasks : ToldTasks clients c.outcomes p orders broken few late
   told_tasks = record {
-    orders = orders;
     within = λ k kl. omega (arith, sound.lawful.delivered.kept_fits k kl, places_all p c vs sound.lawful quiet k kl, length-map (on k sound.lawful.log) accepted_of);
     told = told_or_sent;
     fails = all_fails.fails;
     are = all_of (IsFail clients c.outcomes) all_fails.fails (λ f m. fail_is p clients c.outcomes broken orders es world f (all_fails.are f m));
     once = all_fails.once;
     lives = λ n k m l slot version a b. (one_life p clients c.outcomes broken orders es world n m k l slot version a b).0;
-    why = λ i t outcome is became. why_told p clients c.outcomes broken orders es world all_fails i t (asks_of p clients c.outcomes broken orders es world i t is) outcome became;
+    why = λ i t outcome is became. why_told p clients c.outcomes broken orders es world all_fails few late timely i t (asks_of p clients c.outcomes broken orders es world i t is) outcome became;
     sent = λ k kl. all_sent p c vs sound.lawful (each_made p clients are over c vs es failed sound story settled) (λ (a : Accepted). IsSent clients c.outcomes k a ⊎ IsSpoken clients a.operation) k (sent_or_call k);
     own_order = λ k kl. each_before p c vs sound.lawful (each_made p clients are over c vs es failed sound story settled) (InOwnOrder clients c.outcomes) k own_before other_before;
     dropped = λ k kl less. link_failed k (dropped_failed p c vs sound.lawful quiet k kl (omega (arith, less, length-map (on k sound.lawful.log) accepted_of)));

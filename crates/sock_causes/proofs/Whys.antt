@@ -14,16 +14,18 @@ use Rattle.sock_programs.specs.declared.task.Op.TheVariants as ops
 use Rattle.sock_programs.specs.declared.task.Task.{Task}
 use Rattle.sock_programs.specs.Calls.{Call, ClaimSlot, GiveBirth, AddRef, SetOdd, StoreName, LoadName, LookWord, ClaimRequest, SwapHead}
 use Rattle.sock_programs.specs.Told as Told
-use Rattle.sock_programs.specs.Told.{Order, IsOpen, IsTask, Became, Made, SeeksInVain, OpensNone, FoundNone, IsNoLater, FoundFailed, AfterHold, HasLife, EachOpened, Why}
+use Rattle.sock_programs.specs.Told.{IsOpen, IsTask, Became, Made, SeeksInVain, OpensNone, FoundNone, AfterHold, HasLife, EachOpened}
+use Rattle.sock_programs.specs.ToldCalls.{Order}
 use Rattle.sock_causes.specs.Stories.{Entry, Event, In, trace_of, last_name}
 use Rattle.sock_causes.specs.Explains.{Done, LastHold, Because, Explained, WasGone, WasOdd, IsReadied, FailsLife, swaps, swapped, step}
-use Rattle.sock_causes.specs.Causes.{Asks, WasFailed}
+use Rattle.sock_causes.specs.Causes.{Asks, WasFailed, Cause, Good}
+use Rattle.sock_causes.specs.TaskCauses.{FoundFailed, Why}
 use Rattle.sock_causes.proofs.Members.{all_in, in_contains, from_trace}
 use Rattle.sock_causes.proofs.Events.{event, in_marked, try_adds, marked_birth, marked_fail, BeforeIn, cause_of, Comes, compare, last_zero, last_some}
 use Rattle.sock_causes.proofs.Accepting.{no_swap}
 use Rattle.sock_causes.proofs.Final.{Falls, one_said}
-use Rattle.sock_causes.proofs.Lives.{World, task_of, asks_of, birth_made, birth_means, named_life, one_life, given_made, given_later, made_event, odd_means, odd_life, fail_says}
-use Rattle.sock_causes.proofs.Fails.{Gathered}
+use Rattle.sock_causes.proofs.Lives.{World, task_of, asks_of, birth_made, birth_means, named_life, one_life, given_made, given_later, made_event, odd_means, odd_life, link_means, fail_says}
+use Rattle.sock_causes.proofs.Fails.{Gathered, IsSender}
 use Rattle.sock_causes.proofs.Tasks.{one_task, setup_opens}
 
 -- the name that an operation has
@@ -98,7 +100,15 @@ seeks_send slots requests done tr n bytes (Some (Gone found)) b = ⊎_elim (λ x
 seeks_send slots requests done tr n bytes (Some Full) b = inr (inl b.0.0)
 seeks_send slots requests done tr n bytes (Some _) b = absurd b.0
 
-module _ (p : Plan) (clients : List (List Task)) (outcomes : List (Option Outcome)) (broken : List ℕ) (orders : ℕ → Order) (es : List Event) (world : World p clients outcomes broken orders es) (g : Gathered p clients outcomes broken orders es world es) where
+-- of all steps, each that a task made is one of these of the story so far, where these links were lost, or the task is a late one
+pub record Timely (p : Plan) (clients : List (List Task)) (outcomes : List (Option Outcome)) (es : List Event) (few : List ℕ) (late : ℕ → Type 0) : Type 0 where
+  pub story : List Event
+  pub good : Good p clients few story
+  pub part : (x : Event) → In x story → In x es
+  pub either : (c : ℕ) (t : Task) → Asks clients c t → (o : Outcome) → Became clients outcomes t.number o → (call : Call) (found : ℕ) → In (event c t.number call found) es → In (event c t.number call found) story ⊎ late t.number
+
+module _ (p : Plan) (clients : List (List Task)) (outcomes : List (Option Outcome)) (broken : List ℕ) (orders : ℕ → Order) (es : List Event) (world : World p clients outcomes broken orders es) (g : Gathered p clients outcomes broken orders es world es)
+    (few : List ℕ) (late : ℕ → Type 0) (timely : Timely p clients outcomes es few late) where
   before : (e : Event) → In e es → BeforeIn p clients broken es e
   before e m = cause_of p clients broken es world.good e m
 
@@ -140,7 +150,7 @@ module _ (p : Plan) (clients : List (List Task)) (outcomes : List (Option Outcom
 
       odd : (i found : ℕ) → In (event c u.number (SetOdd i) found) es → ⊥
       odd i found k = let q = before (event c u.number (SetOdd i) found) k in let same = task_is (SetOdd i) found q in ⊎_elim
-          (λ f. let x = odd_means p clients outcomes broken orders es world q.story c u.number i found q.cause q.part f in loaded x.name x.id (name_is q.cause.task (ops.Fail x.name x.code) same x.op) x.load)
+          (λ f. let x = odd_means p clients outcomes broken orders es world broken q.story c u.number i found q.cause q.part f in loaded x.name x.id (name_is q.cause.task (ops.Fail x.name x.code) same x.op) x.load)
           (λ f. let w = f.2 in let load : Entry = step (LoadName w.name) (f.0 + 1) in loaded w.name f.0 (name_is q.cause.task (ops.Send w.name w.bytes) same w.op) (q.part (event c u.number (LoadName w.name) (f.0 + 1)) (from_trace c u.number q.story load w.load)))
           q.cause.fits
 
@@ -174,12 +184,12 @@ module _ (p : Plan) (clients : List (List Task)) (outcomes : List (Option Outcom
   -- ## A life that was failed
 
   -- who failed a life before a step of a task that failed none
-  failed_by : (c : ℕ) (t : Task) (a : Asks clients c t) (call : Call) (found : ℕ) (b : BeforeIn p clients broken es (event c t.number call found)) (i h n k : ℕ) → WasFailed broken b.story i h → Made clients outcomes n k i h → (world.final c t a).outcome ≢ Some Failed
-      → Told.WasFailed clients outcomes g.fails broken c t.number k
-  failed_by c t a call found b i h n k (inr lost) made ne = let g = given_made p clients outcomes broken orders es world i h lost.0 (given_later p clients outcomes broken orders es world b.story es b.part i h lost.0 lost.2) in
-      let same : k ≡ lost.0 = (one_life p clients outcomes broken orders es world n g.0 k lost.0 i h made g.1).1 in inr (in_contains broken k (subst (λ z. In z broken) (sym same) lost.1))
+  failed_by : (c : ℕ) (t : Task) (a : Asks clients c t) (call : Call) (found : ℕ) (b : BeforeIn p clients few timely.story (event c t.number call found)) → (i h n k : ℕ) → WasFailed few b.story i h → Made clients outcomes n k i h → (world.final c t a).outcome ≢ Some Failed
+      → Told.WasFailed clients outcomes g.fails few c t.number k
+  failed_by c t a call found b i h n k (inr lost) made ne = let g = given_made p clients outcomes broken orders es world i h lost.0 (given_later p clients outcomes broken orders es world b.story es (λ x m. timely.part x (b.part x m)) i h lost.0 lost.2) in
+      let same : k ≡ lost.0 = (one_life p clients outcomes broken orders es world n g.0 k lost.0 i h made g.1).1 in inr (in_contains few k (subst (λ z. In z few) (sym same) lost.1))
   failed_by c t a call found b i h n k (inl was) made ne = let y = marked_fail b.story i h was in let e : Event = event y.client y.number (SetOdd i) y.found in
-      let m : In e es = b.part e y.is in ⊎_elim
+      let soon : In e timely.story = b.part e y.is in let m : In e es = timely.part e soon in ⊎_elim
       (λ there. inl (
         y.number,
         in_contains g.fails (y.number, k) there,
@@ -191,8 +201,26 @@ module _ (p : Plan) (clients : List (List Task)) (outcomes : List (Option Outcom
             (subst (λ z. In (event z t.number (SetOdd f.slot) f.found) es) who.0 (subst (λ z. In (event f.client z (SetOdd f.slot) f.found) es) r f.is)) f.even)))
             (λ far. omega (arith, le, far)),
       ))
-      (λ r. inr (in_contains broken k r.0))
+      (λ r. inr (in_contains few k (refused_in y.client y.number y.found soon (cause_of p clients few timely.story timely.good e soon) y.even y.version r.1)))
       (g.all y.client y.number i y.found m y.even n k (subst (λ z. Made clients outcomes n k i z) (sym y.version) made))
+    where
+      -- where a `send` set it failed, its link is one of those that failed
+      refused_in : (d o found : ℕ) → In (event d o (SetOdd i) found) timely.story → (x : BeforeIn p clients few timely.story (event d o (SetOdd i) found)) → vref_version found % 2 ≡ 0 → vref_version found ≡ h → IsSender p clients outcomes broken orders es world d o → In k few
+      refused_in d o found there x even version sends = ⊎_elim
+          (λ f. let q : ops.Send sends.3 sends.4 ≡ ops.Fail f.0 f.1 = sym sends.5 ∙ (ap (λ (z : Task). z.op) (one_task p clients world.are d d sends.0 x.cause.task sends.1 x.cause.is (sends.2 ∙ sym x.cause.numbered)).1 ∙ f.4) in absurd (cc))
+          (λ f. let l = link_means p clients outcomes broken orders es world few x.story d o i found x.cause (λ z m. timely.part z (x.part z m)) f in
+          let v : h ≡ socket_id_version l.id = sym version ∙ l.odd.0 even in
+          let other = given_made p clients outcomes broken orders es world i (socket_id_version l.id) l.link l.given in
+          let same : k ≡ l.link = (one_life p clients outcomes broken orders es world n other.0 k l.link i (socket_id_version l.id) (subst (λ z. Made clients outcomes n k i z) v made) other.1).1 in subst (λ z. In z few) (sym same) l.refused)
+          x.cause.fits
+
+  -- so a step of the task that was made in time tells why, or the task is late
+  found_by : (c : ℕ) (t : Task) (a : Asks clients c t) (o : Outcome) → (world.final c t a).outcome ≡ Some o → (call : Call) (found : ℕ) → In (event c t.number call found) es → (i h n k : ℕ)
+      → ((lost : List ℕ) (xs : List Event) → Cause p clients lost xs (event c t.number call found) → WasFailed lost xs i h) → Made clients outcomes n k i h → (world.final c t a).outcome ≢ Some Failed
+      → Told.WasFailed clients outcomes g.fails few c t.number k ⊎ late t.number
+  found_by c t a o is call found m i h n k why made ne = ⊎_elim
+      (λ soon. let b = cause_of p clients few timely.story timely.good (event c t.number call found) soon in inl (failed_by c t a call found b i h n k (why few b.story b.cause) made ne))
+      (λ l. inr l) (timely.either c t a o ((world.final c t a).became ∙ ap (λ (x : Option Outcome). Some x) is) call found m)
 
   -- ## Each outcome
 
@@ -201,22 +229,20 @@ module _ (p : Plan) (clients : List (List Task)) (outcomes : List (Option Outcom
       let y = marked_birth es i p.first (world.tried_born i l (in_marked is_tried i es (event c o (ClaimSlot i) x.0) m (try_adds c o i x.0 x.2))) in
       let made = birth_made p clients outcomes broken orders es world y.client y.number i y.link y.found y.is in (made.0, y.link, vref_version y.found, made.1)
 
-  gone : (c : ℕ) (t : Task) (a : Asks clients c t) (n found : ℕ) → WasGone n (trace_of c t.number es) found → (world.final c t a).outcome ≢ Some Failed → FoundFailed clients outcomes g.fails broken c t.number n (λ version. vref_version found ≢ version)
-  gone c t a n found x nf = let id : ℕ = x.0 in let life = named_life p clients outcomes broken orders es world c t.number n id (from_trace c t.number es (step (LoadName n) (id + 1)) x.1) in
-      let b = before (event c t.number (AddRef id) found) (from_trace c t.number es (step (AddRef id) found) x.2) in
+  gone : (c : ℕ) (t : Task) (a : Asks clients c t) (o : Outcome) → (world.final c t a).outcome ≡ Some o → (n found : ℕ) → WasGone n (trace_of c t.number es) found → (world.final c t a).outcome ≢ Some Failed → FoundFailed clients outcomes g.fails few late c t.number n (λ version. vref_version found ≢ version)
+  gone c t a o is n found x nf = let id : ℕ = x.0 in let life = named_life p clients outcomes broken orders es world c t.number n id (from_trace c t.number es (step (LoadName n) (id + 1)) x.1) in
       record {
         link = life.0;
         slot = socket_id_slot id;
         version = socket_id_version id;
         made = life.1;
         holds = x.3;
-        failed = failed_by c t a (AddRef id) found b (socket_id_slot id) (socket_id_version id) n life.0 (b.cause.means x.3) life.1 nf;
+        failed = found_by c t a o is (AddRef id) found (from_trace c t.number es (step (AddRef id) found) x.2) (socket_id_slot id) (socket_id_version id) n life.0 (λ lost xs cause. cause.means x.3) life.1 nf;
       }
 
   -- a life that was held was found to be failed
-  looked_odd : (c : ℕ) (t : Task) (a : Asks clients c t) (n found : ℕ) → WasOdd n (trace_of c t.number es) found → (world.final c t a).outcome ≢ Some Failed → FoundFailed clients outcomes g.fails broken c t.number n (λ version. vref_version found ≢ version)
-  looked_odd c t a n found x nf = let id : ℕ = x.0 in let life = named_life p clients outcomes broken orders es world c t.number n id (from_trace c t.number es (step (LoadName n) (id + 1)) x.1) in
-      let b = before (event c t.number (LookWord id) found) (from_trace c t.number es (step (LookWord id) found) x.2) in
+  looked_odd : (c : ℕ) (t : Task) (a : Asks clients c t) (o : Outcome) → (world.final c t a).outcome ≡ Some o → (n found : ℕ) → WasOdd n (trace_of c t.number es) found → (world.final c t a).outcome ≢ Some Failed → FoundFailed clients outcomes g.fails few late c t.number n (λ version. vref_version found ≢ version)
+  looked_odd c t a o is n found x nf = let id : ℕ = x.0 in let life = named_life p clients outcomes broken orders es world c t.number n id (from_trace c t.number es (step (LoadName n) (id + 1)) x.1) in
       let made = made_event p clients outcomes broken orders es world n life.0 (socket_id_slot id) (socket_id_version id) life.1 in
       let even = (birth_means p clients outcomes broken orders es world life.1.client life.1.task.number (socket_id_slot id) life.0 made.0 made.2).1 in
       let version = made.3 in
@@ -226,29 +252,38 @@ module _ (p : Plan) (clients : List (List Task)) (outcomes : List (Option Outcom
         version = socket_id_version id;
         made = life.1;
         holds = λ e. omega (arith, x.3, even, version, e);
-        failed = failed_by c t a (LookWord id) found b (socket_id_slot id) (socket_id_version id) n life.0 (b.cause.means b.cause.fits x.3) life.1 nf;
+        failed = found_by c t a o is (LookWord id) found (from_trace c t.number es (step (LookWord id) found) x.2) (socket_id_slot id) (socket_id_version id) n life.0 (λ lost xs cause. cause.means cause.fits x.3) life.1 nf;
       }
 
-  own_task : (c : ℕ) (t : Task) (a : Asks clients c t) (call : Call) (found : ℕ) (b : BeforeIn p clients broken es (event c t.number call found)) → b.cause.task ≡ t
-  own_task c t a call found b = (one_task p clients world.are c c b.cause.task t b.cause.is a b.cause.numbered).1
+  own_task : (c : ℕ) (t : Task) (a : Asks clients c t) (call : Call) (found : ℕ) (lost : List ℕ) (xs : List Event) (cause : Cause p clients lost xs (event c t.number call found)) → cause.task ≡ t
+  own_task c t a call found lost xs cause = (one_task p clients world.are c c cause.task t cause.is a cause.numbered).1
 
   -- a `fail` sets a life failed as such
-  fails_life : (c : ℕ) (t : Task) (a : Asks clients c t) (n code : ℕ) → t.op ≡ ops.Fail n code → (i found : ℕ) (b : BeforeIn p clients broken es (event c t.number (SetOdd i) found)) → FailsLife b.cause.task.op (trace_of c t.number b.story) i
-  fails_life c t a n code op i found b = ⊎_elim (λ f. f) (λ f. let q : ops.Send f.2.name f.2.bytes ≡ ops.Fail n code = sym f.2.op ∙ (ap (λ (z : Task). z.op) (own_task c t a (SetOdd i) found b) ∙ op) in absurd (cc)) b.cause.fits
+  fails_life : (c : ℕ) (t : Task) (a : Asks clients c t) (n code : ℕ) → t.op ≡ ops.Fail n code → (i found : ℕ) (lost : List ℕ) (xs : List Event) (cause : Cause p clients lost xs (event c t.number (SetOdd i) found)) → FailsLife cause.task.op (trace_of c t.number xs) i
+  fails_life c t a n code op i found lost xs cause = ⊎_elim (λ f. f) (λ f. let q : ops.Send f.2.name f.2.bytes ≡ ops.Fail n code = sym f.2.op ∙ (ap (λ (z : Task). z.op) (own_task c t a (SetOdd i) found lost xs cause) ∙ op) in absurd (cc)) cause.fits
 
-  already : (c : ℕ) (t : Task) (a : Asks clients c t) (n code : ℕ) → t.op ≡ ops.Fail n code → (i found : ℕ) → In (step (SetOdd i) found) (trace_of c t.number es) → vref_version found % 2 ≡ 1
-      → (world.final c t a).outcome ≢ Some Failed → FoundFailed clients outcomes g.fails broken c t.number n (λ version. vref_version found % 2 ≡ 1)
-  already c t a n code op i found set odd nf = let m = from_trace c t.number es (step (SetOdd i) found) set in let b = before (event c t.number (SetOdd i) found) m in
-      let x = odd_means p clients outcomes broken orders es world b.story c t.number i found b.cause b.part (fails_life c t a n code op i found b) in
-      let names : ops.Fail x.name x.code ≡ ops.Fail n code = sym x.op ∙ (ap (λ (z : Task). z.op) (own_task c t a (SetOdd i) found b) ∙ op) in let name : x.name ≡ n = cc in
+  -- a life that it set failed was so already, and who did so
+  already_by : (c : ℕ) (t : Task) (a : Asks clients c t) (n code : ℕ) → t.op ≡ ops.Fail n code → (i found : ℕ) (lost : List ℕ) (b : BeforeIn p clients lost es (event c t.number (SetOdd i) found)) → vref_version found % 2 ≡ 1
+      → ((h k : ℕ) → WasFailed lost b.story i h → Made clients outcomes n k i h → Told.WasFailed clients outcomes g.fails few c t.number k ⊎ late t.number) → FoundFailed clients outcomes g.fails few late c t.number n (λ version. vref_version found % 2 ≡ 1)
+  already_by c t a n code op i found lost b odd why =
+      let x = odd_means p clients outcomes broken orders es world lost b.story c t.number i found b.cause b.part (fails_life c t a n code op i found lost b.story b.cause) in
+      let names : ops.Fail x.name x.code ≡ ops.Fail n code = sym x.op ∙ (ap (λ (z : Task). z.op) (own_task c t a (SetOdd i) found lost b.story b.cause) ∙ op) in let name : x.name ≡ n = cc in
       let life = named_life p clients outcomes broken orders es world c t.number n x.id (subst (λ z. In (event c t.number (LoadName z) (x.id + 1)) es) name x.load) in
       let made : Made clients outcomes n life.0 i (socket_id_version x.id) = subst (λ z. Made clients outcomes n life.0 z (socket_id_version x.id)) (sym x.slot) life.1 in
-      record { link = life.0; slot = i; version = socket_id_version x.id; made = made; holds = odd; failed = failed_by c t a (SetOdd i) found b i (socket_id_version x.id) n life.0 (x.odd.1 odd) made nf }
+      record { link = life.0; slot = i; version = socket_id_version x.id; made = made; holds = odd; failed = why (socket_id_version x.id) life.0 (x.odd.1 odd) made }
+
+  already : (c : ℕ) (t : Task) (a : Asks clients c t) (o : Outcome) → (world.final c t a).outcome ≡ Some o → (n code : ℕ) → t.op ≡ ops.Fail n code → (i found : ℕ) → In (step (SetOdd i) found) (trace_of c t.number es) → vref_version found % 2 ≡ 1
+      → (world.final c t a).outcome ≢ Some Failed → FoundFailed clients outcomes g.fails few late c t.number n (λ version. vref_version found % 2 ≡ 1)
+  already c t a o is n code op i found set odd nf = let m = from_trace c t.number es (step (SetOdd i) found) set in ⊎_elim
+      (λ soon. let b = cause_of p clients few timely.story timely.good (event c t.number (SetOdd i) found) soon in
+      already_by c t a n code op i found few (record { story = b.story; good = b.good; cause = b.cause; part = λ x q. timely.part x (b.part x q) }) odd (λ h k was made. inl (failed_by c t a (SetOdd i) found b i h n k was made nf)))
+      (λ l. already_by c t a n code op i found broken (before (event c t.number (SetOdd i) found) m) odd (λ h k was made. inr l))
+      (timely.either c t a o ((world.final c t a).became ∙ ap (λ (x : Option Outcome). Some x) is) (SetOdd i) found m)
 
   failed : (c : ℕ) (t : Task) (a : Asks clients c t) (n code : ℕ) → t.op ≡ ops.Fail n code → (i found : ℕ) → In (step (SetOdd i) found) (trace_of c t.number es) → vref_version found % 2 ≡ 0 → (k : ℕ) × Contains g.fails (t.number, k)
   failed c t a n code op i found set even = let m = from_trace c t.number es (step (SetOdd i) found) set in let b = before (event c t.number (SetOdd i) found) m in
-      let x = odd_means p clients outcomes broken orders es world b.story c t.number i found b.cause b.part (fails_life c t a n code op i found b) in
-      let l = odd_life p clients outcomes broken orders es world b.story c t.number i found b.cause.task x even in (
+      let x = odd_means p clients outcomes broken orders es world broken b.story c t.number i found b.cause b.part (fails_life c t a n code op i found broken b.story b.cause) in
+      let l = odd_life p clients outcomes broken orders es world broken b.story c t.number i found b.cause.task x even in (
         l.0,
         in_contains g.fails (t.number, l.0) (⊎_elim (λ y. y)
             (λ y. let s = y.1 in let who = (one_task p clients world.are c c s.0 t s.1 a s.2).1 in let q : ops.Send s.3 s.4 ≡ ops.Fail n code = sym s.5 ∙ (ap (λ (z : Task). z.op) who ∙ op) in absurd (cc))
@@ -272,7 +307,7 @@ module _ (p : Plan) (clients : List (List Task)) (outcomes : List (Option Outcom
     outcome = (world.final c t a).outcome
 
     abbrev Holds : Op → Outcome → Type 0
-    Holds op o = t.op ≡ op → outcome ≡ Some o → Because p.slots p.requests (world.final c t a).before (trace_of c t.number es) op o → Why clients outcomes p g.fails broken orders c t.number op o
+    Holds op o = t.op ≡ op → outcome ≡ Some o → Because p.slots p.requests (world.final c t a).before (trace_of c t.number es) op o → Why clients outcomes p g.fails few late orders c t.number op o
 
     no_setup : (op : Op) → t.op ≡ op → (IsOpen op → ⊥) → c ≡ 0 → ⊥
     no_setup op e no_open z = no_open (subst IsOpen e (setup_opens p clients world.are t (subst (λ n. Asks clients n t) z a)))
@@ -295,20 +330,20 @@ module _ (p : Plan) (clients : List (List Task)) (outcomes : List (Option Outcom
 
     why_send : (n : ℕ) (bytes : List ℕ) (o : Outcome) → Holds (ops.Send n bytes) o
     why_send n bytes Unopened op e b = found_none c t a n (zero_load n b) (no_setup (ops.Send n bytes) op (λ x. x))
-    why_send n bytes (Gone found) op e b = let ne = not_failed (Gone found) e (λ q. absurd (cc)) in ⊎_elim (λ x. gone c t a n found.0 x ne) (λ x. looked_odd c t a n found.0 x ne) b
+    why_send n bytes (Gone found) op e b = let ne = not_failed (Gone found) e (λ q. absurd (cc)) in ⊎_elim (λ x. gone c t a (Gone found) e n found.0 x ne) (λ x. looked_odd c t a (Gone found) e n found.0 x ne) b
     why_send n bytes Full op e b = (has_life n b.0.0 b.0.1, world.full (λ q l. let x = b.1 q l in (c, t.number, x.0, x.1, from_trace c t.number es (step (ClaimRequest x.0 q) x.1) x.2, x.3)))
     why_send n bytes _ op e b = absurd b
 
     why_hold : (n : ℕ) (o : Outcome) → Holds (ops.Hold n) o
     why_hold n Unopened op e b = found_none c t a n (zero_load n b) (no_setup (ops.Hold n) op (λ x. x))
-    why_hold n (Gone found) op e b = gone c t a n found.0 b (not_failed (Gone found) e (λ q. absurd (cc)))
+    why_hold n (Gone found) op e b = gone c t a (Gone found) e n found.0 b (not_failed (Gone found) e (λ q. absurd (cc)))
     why_hold n Held op e b = has_life n b.0 b.1
     why_hold n _ op e b = absurd b
 
     why_fail : (n code : ℕ) (o : Outcome) → Holds (ops.Fail n code) o
     why_fail n code Unopened op e b = found_none c t a n (zero_load n b) (no_setup (ops.Fail n code) op (λ x. x))
-    why_fail n code (Gone found) op e b = gone c t a n found.0 b (not_failed (Gone found) e (λ q. absurd (cc)))
-    why_fail n code (Already found) op e b = already c t a n code op b.0 found.0 b.1 b.2 (not_failed (Already found) e (λ q. absurd (cc)))
+    why_fail n code (Gone found) op e b = gone c t a (Gone found) e n found.0 b (not_failed (Gone found) e (λ q. absurd (cc)))
+    why_fail n code (Already found) op e b = already c t a (Already found) e n code op b.0 found.0 b.1 b.2 (not_failed (Already found) e (λ q. absurd (cc)))
     why_fail n code Failed op e b = failed c t a n code op b.0 b.1 b.2 b.3
     why_fail n code _ op e b = absurd b
 
@@ -329,6 +364,6 @@ module _ (p : Plan) (clients : List (List Task)) (outcomes : List (Option Outcom
     why_each (ops.Join t) o = λ op e b. absurd b
 
     -- the outcome of a task has its cause
-    pub why_told : (o : Outcome) → Became clients outcomes t.number o → Why clients outcomes p g.fails broken orders c t.number t.op o
+    pub why_told : (o : Outcome) → Became clients outcomes t.number o → Why clients outcomes p g.fails few late orders c t.number t.op o
     why_told o became = let fin = world.final c t a in let q : fin.outcome ≡ Some o = one_said (slice_get outcomes t.number) fin.outcome (Some o) fin.became became in
         why_each t.op o refl q (subst (Explained p.slots p.requests fin.before (trace_of c t.number es) t.op) q fin.explained).0

@@ -5,3 +5,4 @@ pub mod Kept
 pub mod Losses
 pub mod TaskCauses
 pub mod PlainTasks
+pub mod Facts
