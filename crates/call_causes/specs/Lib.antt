@@ -1,0 +1,4 @@
+pub mod Lists
+pub mod Target
+pub mod Scenes
+pub mod Says
