@@ -1,5 +1,5 @@
 -- How the readings of a run's links ended, and which responses came before their call began.
-use Rattle.std.specs.Prelude.{ℕ, ◌+◌, ◌<◌, ◌==◌, ◌&&◌, ◌||◌, Bool, true, false, if◌then◌else◌, nat_le, nat_lt, List, [], ◌∷◌, ◌++◌, length, replicate, map, flat_map, drop, slice_index, slice_index_or}
+use Rattle.std.specs.Prelude.{ℕ, ◌+◌, ◌==◌, ◌&&◌, ◌||◌, Bool, true, false, if◌then◌else◌, nat_le, nat_lt, List, [], ◌∷◌, ◌++◌, length, replicate, flat_map, drop, slice_index, slice_index_or}
 use Rattle.std.specs.List.{filter, list_any}
 use mathlib.Core.Option.{none, some}
 use lib.ListN.{get_elem?}
@@ -9,7 +9,7 @@ use Rattle.brpc_model.specs.Operations.{Turn}
 use Rattle.brpc_model.specs.Frame.{Frame}
 use Rattle.brpc_model.specs.Stream.{Ending, Rest, Fault, stream}
 use Rattle.id_rule.specs.Lawful.{id_word}
-use Rattle.sock_programs.specs.Asides.{TakeBytes, Taking, Bytes, Nothing, NoMore, AtEnd, Closed, Broken}
+use Rattle.sock_programs.specs.Asides.{TakeBytes, Taking, NoMore, AtEnd, Closed, Broken}
 use Rattle.sock_programs.specs.Heads.{Reads, Discards}
 use Rattle.sock_programs.specs.Programs.{Program, Aside, Round}
 use Rattle.sock_programs.specs.Readers.{LIMIT, has_response, slot_in, version_in, is_early}

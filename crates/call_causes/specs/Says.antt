@@ -1,25 +1,25 @@
 -- Programs that say of calls only what has its cause in what happened so far.
-use Rattle.std.specs.Prelude.{ℕ, ◌≡◌, ◌≢◌, ◌+◌, ◌<◌, ◌⊎◌, Bool, true, false, List, [], ◌∷◌, ◌++◌, slice_get, Option, Some, None}
+use Rattle.std.specs.Prelude.{ℕ, ◌≡◌, ◌≢◌, ◌+◌, ◌<◌, ◌⊎◌, true, List, [], ◌∷◌, ◌++◌, slice_get, Option, Some, None}
 use Rattle.std.specs.List.{AllByRecursion}
 use Rattle.sock_words.specs.declared.plain.Plan.{Plan}
-use Rattle.sock_words.specs.declared.outcome.Outcome.{Outcome}
 use Rattle.sock_io.specs.declared.link.Put.{Put}
 use Rattle.sock_io.specs.declared.link.Ready.{Ready}
 use Rattle.sock_model.specs.declared.chain.Heading.{Heading}
 use Rattle.brpc_model.specs.Frame.{Frame}
 use Rattle.brpc_model.specs.Stream.{stream}
-use Rattle.corr_core.specs.Word.{Parts, parts, code_of}
+use Rattle.corr_core.specs.Word.{parts, code_of}
 use Rattle.corr_core.specs.declared.marks.Plan.{Plan as IdPlan}
 use Rattle.sock_message.specs.Asked.{Asked, name_of}
 use Rattle.sock_programs.specs.declared.task.Op.TheVariants as ops
 use Rattle.sock_programs.specs.declared.task.Task.{Task}
 use Rattle.sock_programs.specs.Calls.{Call, StoreName, LoadName, StoreCode, LoadCode}
 use Rattle.sock_programs.specs.Asides.{Step, ClaimId, PutCall, MakeId, StoreCall, LoadCall, LoadIdWord, LockId, PostId, UnlockId, EndId, FreeId, TakeCall, TakeBytes, Taking, Bytes, Found, call_id, id_slot, id_first}
-use Rattle.sock_programs.specs.Heads.{Head, Exit, Sought, First, Version, Posts, Unlocks, Decides, Locks, Joins, Opens, Reads, Discards, Posting, WasGone, WasStale, WasCrowded, WasQueued, HasLocked, Unlocking, IsOpen, HasNext, Deciding, HasEnded, GoesOn, Locking, NotThere, Has, Ended, Reading}
+use Rattle.sock_programs.specs.Heads.{Head, Exit, Sought, First, Version, Posts, Unlocks, Decides, Locks, Joins, Opens, Reads, Discards, Posting, WasCrowded, WasQueued, HasLocked, Unlocking, IsOpen, HasNext, Deciding, HasEnded, GoesOn, Locking, NotThere, Has, Reading}
 use Rattle.sock_programs.specs.Posts.{is_first, is_sought}
 use Rattle.sock_programs.specs.Programs.{Program, Do, Say, Sent, Rest, TakeMessage, TakeHome, PutHome, PutBytes, AskReady, Write, Aside, Round, Keep, Retries}
+use Rattle.id_runs.specs.Goes.{FitsOwner, FitsWriting}
 use Rattle.call_causes.specs.Lists.{given}
-use Rattle.call_causes.specs.Scenes.{Birth, Scene, In, Said, IsBorn, Came, IsOther, IsErrorCode, Named, Begun, HasBegunIn, CauseOf, WhyEnded, WhyOwn, NoneFound, AreTold, HasNoneOf, IsTaskOf, Later}
+use Rattle.call_causes.specs.Scenes.{Birth, Scene, Said, IsBorn, Came, IsOther, IsErrorCode, Named, Begun, HasBegunIn, CauseOf, WhyEnded, WhyOwn, AreTold, HasNoneOf, IsTaskOf, Later}
 
 -- ## Marks
 
@@ -90,9 +90,9 @@ SaidBy w (Sent o next) = SaidBy w next
 SaidBy w (Keep r next) = SaidBy w next
 SaidBy w other = Unit {0}
 
--- the errors of a word that was found have codes
+-- where two errors wait in a word that was found, they have codes
 abbrev pub HasCodes : ℕ → Type 0
-HasCodes word = ((parts word).oldest ≢ 0 → IsErrorCode (code_of (parts word).oldest)) × ((parts word).second ≢ 0 → IsErrorCode (code_of (parts word).second))
+HasCodes word = (parts word).second ≢ 0 → IsErrorCode (code_of (parts word).oldest) × IsErrorCode (code_of (parts word).second)
 
 -- the bytes' frames behind those of the rest are those that follow
 abbrev pub GoesFrom : List ℕ → List ℕ → Type 0
@@ -159,7 +159,7 @@ module _ (p : Plan) (q : IdPlan) (clients : List (List Task)) where
 
   abbrev pub IsSoughtIn : Sought → Option ℕ → Type 0
   IsSoughtIn sought None = Unit {0}
-  IsSoughtIn sought (Some word) = is_sought sought (parts word) ≡ true
+  IsSoughtIn sought (Some word) = (is_sought sought (parts word) ≡ true) × ((parts word).state ≡ 1)
 
   abbrev pub CameFrom : Scene → ℕ → Frame → Type 0
   CameFrom w k frame = (n : ℕ) × Came w k n frame
@@ -239,12 +239,12 @@ module _ (p : Plan) (q : IdPlan) (clients : List (List Task)) where
       ⊎ ((b : Birth) × (m.owes ≡ b ∷ []) × (o ≡ b.asked.operation) × IsBorn w b.id b.asked × WhyEnded p q clients w b outcome × SaysOn w (with_owed [] m) next)
   SaysOn w m (Sent o next) = (t : Task) × (ts : List Task) × (n : ℕ) × (bytes : List ℕ) × (m.todo ≡ t ∷ ts) × (o ≡ t.number) × (t.op ≡ ops.Send n bytes) × Named p q clients w n × IsFree m × SaysOn w (with_done t ts m) next
   SaysOn w m Rest = IsFree m × (m.todo ≡ [])
-  SaysOn w m (TakeMessage r next) = (heading : Heading) (bytes : List ℕ) (w' : Scene) → Later p q clients w w' → SaidBy w' (next heading bytes) → SaysOn w' m (next heading bytes)
+  SaysOn w m (TakeMessage r next) = (heading : Heading) (bytes : List ℕ) (w' : Scene) → FitsOwner q heading → Later p q clients w w' → SaidBy w' (next heading bytes) → SaysOn w' m (next heading bytes)
   SaysOn w m (TakeHome k next) = (n : ℕ) (w' : Scene) → Later p q clients w w' → SaidBy w' (next n) → SaysOn w' m (next n)
   SaysOn w m (PutHome k n after) = (w' : Scene) → Later p q clients w w' → SaidBy w' after → SaysOn w' m after
   SaysOn w m (PutBytes k asked bytes next) = (answer : Put) (w' : Scene) → Later p q clients w w' → SaidBy w' (next answer) → SaysOn w' m (next answer)
   SaysOn w m (AskReady k next) = (answer : Ready) (w' : Scene) → Later p q clients w w' → SaidBy w' (next answer) → SaysOn w' m (next answer)
-  SaysOn w m (Write v after) = IsFree m × ((w' : Scene) (m' : Mark) → Later p q clients w w' → SaidBy w' after → Again m m' → SaysOn w' m' after)
+  SaysOn w m (Write v after) = IsFree m × FitsWriting q v × ((w' : Scene) (m' : Mark) → Later p q clients w w' → SaidBy w' after → Again m m' → SaysOn w' m' after)
   SaysOn w m (Aside step next) = MayAside w m step × ((found : Found step) (w' : Scene) (m' : Mark) → Later p q clients w w' → SaidBy w' (next found) → Moves w' m step found m' → Shows w' step found × SaysOn w' m' (next found))
   SaysOn w m (Round head next) = AtHead w m head × ((exit : Exit head) (w' : Scene) (m' : Mark) → Later p q clients w w' → SaidBy w' (next exit) → Leaves' w' m head exit m' → Yields w' head exit × SaysOn w' m' (next exit))
   SaysOn w m (Keep r next) = SaysOn w m next

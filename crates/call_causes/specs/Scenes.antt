@@ -1,5 +1,5 @@
 -- What has happened so far that lasts, and what it tells of calls.
-use Rattle.std.specs.Prelude.{ℕ, ◌≡◌, ◌≢◌, ◌+◌, ◌<◌, ◌≤◌, ◌⊎◌, ◌∷◌, List, [], slice_get, slice_index, Option, Some, None, IsSome, ℤ, pos}
+use Rattle.std.specs.Prelude.{ℕ, ◌≡◌, ◌≢◌, ◌+◌, ◌<◌, ◌≤◌, ◌⊎◌, ◌∷◌, List, [], slice_get, slice_index, Some, IsSome, ℤ, pos}
 use Rattle.sock_words.specs.declared.plain.Plan.{Plan}
 use Rattle.sock_words.specs.declared.outcome.Outcome.{Outcome}
 use Rattle.sock_words.specs.declared.outcome.Outcome.TheVariants.{Opened, SlotsFull, Unopened, Answered, Peer, CallFailed, Expired, Queued, Late, Crowded, Joined, NotBegun}
