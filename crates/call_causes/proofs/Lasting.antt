@@ -1,5 +1,5 @@
 -- What is told of calls lasts.
-use Rattle.std.proofs.Common.{◌≡◌, ◌≢◌, ℕ, ◌<◌, ◌⊎◌, inl, inr, ⊎_elim, List, [], ◌∷◌, Some, None}
+use Rattle.std.proofs.Common.{◌≡◌, ◌≢◌, ℕ, inl, inr, ⊎_elim, List, [], ◌∷◌}
 use Rattle.std.specs.List.{AllByRecursion}
 use Rattle.sock_words.specs.declared.plain.Plan.{Plan}
 use Rattle.sock_words.specs.declared.outcome.Outcome.{Outcome}
@@ -27,6 +27,8 @@ module _ (p : Plan) (q : IdPlan) (clients : List (List Task)) where
     begun = λ o s. y.begun o (x.begun o s);
     born = λ id asked s. y.born id asked (x.born id asked s);
     came = λ k n frame s. y.came k n frame (x.came k n frame s);
+    claimed = λ i o s. y.claimed i o (x.claimed i o s);
+    room = y.room;
     apart = y.apart;
   }
 
@@ -67,7 +69,7 @@ module _ (p : Plan) (q : IdPlan) (clients : List (List Task)) where
     not_begun_on : (before : List Task) (t : ℕ) → HasNotBegunIn p q clients w before t → HasNotBegunIn p q clients w' before t
     not_begun_on before t h = λ task is e. l.said t outcomes.Unopened (h task is e)
 
-    own_on : (c : ℕ) (before : List Task) (op : Op) (x : Outcome) → WhyOwn p q clients w c before op x → WhyOwn p q clients w' c before op x
+    pub own_on : (c : ℕ) (before : List Task) (op : Op) (x : Outcome) → WhyOwn p q clients w c before op x → WhyOwn p q clients w' c before op x
     own_on c before (ops.Call asked) outcomes.Unopened y = none_found_on before (Rattle.sock_message.specs.Asked.name_of asked 0) y
     own_on c before (ops.Call asked) _ y = absurd y
     own_on c before (ops.Expire t) outcomes.Expired y = (y.0, l.said t (outcomes.CallFailed y.0 1008) y.1)

@@ -1,16 +1,15 @@
 -- The loops on ids say of calls only what has its cause.
 use Rattle.std.proofs.Common.{◌≡◌, ◌≢◌, ℕ, ◌+◌, ◌*◌, ◌/◌, ◌%◌, ◌<◌, ◌≤◌, ◌⊎◌, inl, inr, ⊎_elim, ◌&&◌, ◌||◌, not, Bool, true, false, cond, eqb, eqb-true, nat_lt, ltb-true, List, [], ◌∷◌, Option, Some, None, refl, sym, ap, ◌∙◌, subst, arith}
 use Rattle.sock_words.specs.declared.plain.Plan.{Plan}
-use Rattle.sock_words.specs.declared.outcome.Outcome.TheVariants as outcomes
-use Rattle.corr_core.specs.Word.{Parts, parts, locked_word, posted_word, unlocked_word, error_of, code_of}
+use Rattle.corr_core.specs.Word.{Parts, parts, locked_word, posted_word, unlocked_word, error_of, code_of, attempt_of}
 use Rattle.corr_core.specs.Law.{LAST}
 use Rattle.corr_core.specs.declared.marks.Plan.{Plan as IdPlan}
 use Rattle.sock_message.specs.Asked.{Asked}
 use Rattle.sock_programs.specs.declared.task.Task.{Task}
-use Rattle.sock_programs.specs.Asides.{PutCall, LoadIdWord, LockId, PostId, UnlockId, FreeId, call_id, id_slot, id_first}
+use Rattle.sock_programs.specs.Asides.{PutCall, LockId, PostId, UnlockId, FreeId, call_id, id_slot, id_first}
 use Rattle.sock_programs.specs.Heads.{Retry, Sought, First, Version, Posts, Unlocks, Decides, Locks, Joins, Posting, WasGone, WasStale, WasCrowded, WasQueued, HasLocked, Unlocking, IsOpen, HasNext, Deciding, HasEnded, GoesOn, Locking, NotThere, Has}
-use Rattle.sock_programs.specs.Programs.{Program, Say, Aside, Round}
-use Rattle.sock_programs.specs.Posts.{packed, advance_of, is_first, is_sought, is_stale, is_full, judged, posts_round, post_with, posted, post, popped, unlocks_round, end_id, ends_call, decide, unlocked, decides_round, decided, locking, locks_round, joins_round}
+use Rattle.sock_programs.specs.Programs.{Program, Aside, Round}
+use Rattle.sock_programs.specs.Posts.{packed, advance_of, is_first, is_sought, is_stale, is_full, judged, posts_round, post_with, posted, post, popped, unlocks_round, end_id, is_final, ends_call, decide, unlocked, decides_round, decided, locking, locks_round, joins_round}
 use Rattle.id_runs.proofs.Keeps.{parts_packed}
 use Rattle.id_runs.proofs.Loops.{not_equal}
 use Rattle.call_causes.specs.Scenes.{Birth, Scene, IsBorn, IsOther, CauseOf, of_expiry, of_other, FailedIn, by_expiry, by_other, Later}
@@ -33,6 +32,10 @@ and_right false b e = absurd (let z : false ≡ true = e in cc)
 
 not_zero : (n : ℕ) → not (eqb n 0) ≡ true → n ≢ 0
 not_zero n e same = let z : true ≡ false = sym e ∙ ap (λ k. not (eqb k 0)) same in cc
+
+pub or_left : (a b : Bool) → (a || b) ≡ false → a ≡ false
+or_left true b e = e
+or_left false b e = refl
 
 pub id_back : (id : ℕ) → call_id (id_slot id) (id_first id) ≡ id
 id_back id = omega arith
@@ -148,12 +151,12 @@ module _ (p : Plan) (q : IdPlan) (clients : List (List Task)) where
 
   regain : (w : Scene) (m : Mark) (s : Slot) (id e : ℕ) (exit : Deciding) (m' : Mark) → LeavesDecision p q clients w (with_slot s m) id e exit m' → LeavesDecision p q clients w m id e exit m'
   regain w m s id e (HasEnded o c) m' lv = lv
-  regain w m s id e GoesOn m' lv = record { slot = lv.slot; vacant = lv.vacant; is = lv.is }
+  regain w m s id e GoesOn m' lv = (record { slot = lv.0.slot; vacant = lv.0.vacant; is = lv.0.is }, lv.1)
 
   -- the error that was decided on was queued
-  queued : (w : Scene) (m : Mark) (id e x : ℕ) → CauseOf p q clients w id x → (exit : Deciding) (m' : Mark) → LeavesDecision p q clients w m id x exit m' → LeavesDecision p q clients w m id e exit m'
-  queued w m id e x cause (HasEnded o c) m' lv = (lv.0, lv.1, lv.2, lv.3, lv.4, lv.5, lv.6, ⊎_elim (λ same. inr (x, same, cause)) (λ y. inr y) lv.7)
-  queued w m id e x cause GoesOn m' lv = lv
+  queued : (w : Scene) (m : Mark) (id e x : ℕ) → attempt_of e ≢ 7 → CauseOf p q clients w id x → (exit : Deciding) (m' : Mark) → LeavesDecision p q clients w m id x exit m' → LeavesDecision p q clients w m id e exit m'
+  queued w m id e x part cause (HasEnded o c) m' lv = (lv.0, lv.1, lv.2, lv.3, lv.4, lv.5, lv.6, ⊎_elim (λ same. inr (part, x, same, cause)) (λ y. inr (part, y.1, y.2, y.3)) lv.7)
+  queued w m id e x part cause GoesOn m' lv = (lv.0, part)
 
   -- the call of a lock is taken out of its home, and decided on
   pub decide_says : (w : Scene) (m : Mark) (id word e : ℕ) (k : Deciding → Program) (range : ℕ) → m.slot ≡ Locked (id_slot id) (id_first id) range → m.owes ≡ [] → m.makes ≡ [] → Decided w m id e k → Says w m (decide id word e k)
@@ -175,34 +178,34 @@ module _ (p : Plan) (q : IdPlan) (clients : List (List Task)) where
       plain_way w m (ends_call (parts word) e) (end_id (id_slot id) (k (HasEnded asked.operation (code_of e)))) (Aside (PutCall (id_slot id) asked) (λ _. Round (Unlocks (id_slot id) word true) (unlocked r k)))
       (λ _. end_says w m (id_slot id) (id_first id) at.0.0 asked (k (HasEnded asked.operation (code_of e))) at.0.1 born at.2
       (λ v m' s vacant l said is. goes (HasEnded asked.operation (code_of e)) v m' l said (record { id = call_id (id_slot id) (id_first id); asked = asked }, s, vacant, is, id_back id, l.born (call_id (id_slot id) (id_first id)) asked born, refl, inl refl)))
-      (λ _. (
+      (λ more. (
         inr (id_first id, at.0.0, at.0.1, born),
         λ found v m' l s mv. (
             tt,
             subst (λ x. Says v x (Round (Unlocks (id_slot id) word true) (unlocked r k))) (sym mv) (
               ((id_first id, at.0.0, ap (put_in asked) at.0.1), at.2, at.3),
-              λ exit v' m'' l' s' lv. (tt, unlocked_says v l exit v' m'' l' s' lv),
+              λ exit v' m'' l' s' lv. (tt, unlocked_says (not_equal (attempt_of e) 7 (or_left (eqb (attempt_of e) 7) (is_final (code_of e) || eqb ((parts word).attempt + 2) (parts word).range) more)) v l exit v' m'' l' s' lv),
             ),
           ),
       ))
     where
-      unlocked_says : (v : Scene) → After w v → (exit : Unlocking) (v' : Scene) (m'' : Mark) → After v v' → SaidBy v' (unlocked (record { id = id; attempt = (parts word).attempt + 1 }) k exit) → LeavesUnlock p q clients v' (with_slot (put_in asked m.slot) m) (id_slot id) exit m''
+      unlocked_says : attempt_of e ≢ 7 → (v : Scene) → After w v → (exit : Unlocking) (v' : Scene) (m'' : Mark) → After v v' → SaidBy v' (unlocked (record { id = id; attempt = (parts word).attempt + 1 }) k exit) → LeavesUnlock p q clients v' (with_slot (put_in asked m.slot) m) (id_slot id) exit m''
           → Says v' m'' (unlocked (record { id = id; attempt = (parts word).attempt + 1 }) k exit)
-      unlocked_says v l (IsOpen x) v' m'' l' s' lv = goes GoesOn v' m'' (far p q clients w v v' l l') s' (record { slot = NoSlot; vacant = tt; is = lv })
-      unlocked_says v l (HasNext x e') v' m'' l' s' lv =
+      unlocked_says part v l (IsOpen x) v' m'' l' s' lv = goes GoesOn v' m'' (far p q clients w v v' l l') s' (record { slot = NoSlot; vacant = tt; is = lv }, part)
+      unlocked_says part v l (HasNext x e') v' m'' l' s' lv =
           let slot = ap (put_in asked) at.0.1 in
           let cause = subst (λ i. CauseOf p q clients v' i e') (id_back id) (lv.1 (id_first id) at.0.0 slot) in
           subst (λ y. Says v' y (decide id x e' k)) (sym lv.0) (decide_says v' (with_slot (put_in asked m.slot) m) id x e' k at.0.0 slot at.2 at.3
-          (λ exit u m3 l3 s3 lv3. goes exit u m3 (far p q clients w v u l (far p q clients v v' u l' l3)) s3 (queued u m id e e' (cause_on p q clients v' u l3 id e' cause) exit m3 (regain u m (put_in asked m.slot) id e' exit m3 lv3))))
+          (λ exit u m3 l3 s3 lv3. goes exit u m3 (far p q clients w v u l (far p q clients v v' u l' l3)) s3 (queued u m id e e' part (cause_on p q clients v' u l3 id e' cause) exit m3 (regain u m (put_in asked m.slot) id e' exit m3 lv3))))
 
-  -- why the call with the id failed, by the error that ended it
+  -- why the call with the id failed, by an error that has its cause, and by the error that ended it
+  pub failed_of : (w : Scene) (b : Birth) (id x : ℕ) → ((a c : Asked) → IsBorn w id a → IsBorn w id c → a ≡ c) → b.id ≡ id → IsBorn w b.id b.asked → CauseOf p q clients w id x → FailedIn p q clients w b.id b.asked (code_of x)
+  failed_of w b id x apart is born (of_expiry asked whole there expired) = by_expiry (ap code_of whole ∙ omega arith) (subst (λ a. Rattle.call_causes.specs.Scenes.IsExpired p q clients w a) (apart asked b.asked there (subst (λ i. IsBorn w i b.asked) is born)) expired)
+  failed_of w b id x apart is born (of_other other) = by_other other
+
   failed_by : (w : Scene) (b : Birth) (id e c : ℕ) → ((x y : Asked) → IsBorn w id x → IsBorn w id y → x ≡ y) → b.id ≡ id → IsBorn w b.id b.asked → FailedIn p q clients w b.id b.asked (code_of e) → EndsBy p q clients w id e c → FailedIn p q clients w b.id b.asked c
   failed_by w b id e c apart is born own (inl same) = subst (FailedIn p q clients w b.id b.asked) (sym same) own
-  failed_by w b id e c apart is born own (inr y) = by_cause y.0 y.1 y.2
-    where
-      by_cause : (x : ℕ) → c ≡ code_of x → CauseOf p q clients w id x → FailedIn p q clients w b.id b.asked c
-      by_cause x same (of_expiry asked whole there expired) = by_expiry (same ∙ ap code_of whole ∙ omega arith) (subst (λ a. Rattle.call_causes.specs.Scenes.IsExpired p q clients w a) (apart asked b.asked there (subst (λ i. IsBorn w i b.asked) is born)) expired)
-      by_cause x same (of_other other) = by_other (subst IsOther (sym same) other)
+  failed_by w b id e c apart is born own (inr y) = subst (FailedIn p q clients w b.id b.asked) (sym y.2) (failed_of w b id y.1 apart is born y.3)
 
   -- what follows a decision
   pub decided_says : (w : Scene) (m : Mark) (id e : ℕ) (next : Program) → m.owes ≡ []
@@ -215,7 +218,7 @@ module _ (p : Plan) (q : IdPlan) (clients : List (List Task)) where
     (sym lv.4, failed_by v b id e c (l.apart id) lv.4 lv.5 (own v b l s.1 lv.5 lv.4) lv.7),
     goes v (with_owed [] m') l s.1 (record { slot = lv.1; vacant = lv.2; is = ap (with_owed []) is ∙ ap (λ bs. with_owed bs (with_slot lv.1 m)) (sym owes) }),
   )
-  decided_says w m id e next owes own goes GoesOn v m' l s lv = goes v m' l s lv
+  decided_says w m id e next owes own goes GoesOn v m' l s lv = goes v m' l s lv.0
 
   -- what follows a post whoever made it
   pub posted_exits : (w : Scene) (m : Mark) (id e : ℕ) (next : Program) → IsFree m → IsOther (code_of e) → Follows w m next → Exits w m id e (posted id e next)
@@ -265,7 +268,7 @@ module _ (p : Plan) (q : IdPlan) (clients : List (List Task)) where
   locking_then w m i sought found k free goes = λ v l s. let two : Program = cond (eqb (parts found).state 1) (Round (Locks i sought (Some found)) k) (Round (Locks i sought None) k) in
       way v m (not (is_sought sought (parts found))) (k (NotThere found)) two s (λ _ s'. goes (NotThere found) v m l s' refl)
       (λ here _. plain_way v m (eqb (parts found).state 1) (Round (Locks i sought (Some found)) k) (Round (Locks i sought None) k)
-      (λ one. ((free, not_true (is_sought sought (parts found)) here, eqb-true (parts found).state 1 one), λ exit v' m' l' s' lv. (tt, goes exit v' m' (far p q clients w v v' l l') s' lv)))
+      (λ one. ((free, (not_true (is_sought sought (parts found)) here, eqb-true (parts found).state 1 one)), λ exit v' m' l' s' lv. (tt, goes exit v' m' (far p q clients w v v' l l') s' lv)))
       (λ _. ((free, tt), λ exit v' m' l' s' lv. (tt, goes exit v' m' (far p q clients w v v' l l') s' lv))))
 
   matches : (sought : Sought) (word : ℕ) → is_sought sought (parts word) ≡ true → MatchesRange p q clients sought (parts word).first (parts word).range

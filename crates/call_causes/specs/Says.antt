@@ -7,7 +7,7 @@ use Rattle.sock_io.specs.declared.link.Ready.{Ready}
 use Rattle.sock_model.specs.declared.chain.Heading.{Heading}
 use Rattle.brpc_model.specs.Frame.{Frame}
 use Rattle.brpc_model.specs.Stream.{stream}
-use Rattle.corr_core.specs.Word.{parts, code_of}
+use Rattle.corr_core.specs.Word.{parts, code_of, attempt_of}
 use Rattle.corr_core.specs.declared.marks.Plan.{Plan as IdPlan}
 use Rattle.sock_message.specs.Asked.{Asked, name_of}
 use Rattle.sock_programs.specs.declared.task.Op.TheVariants as ops
@@ -15,11 +15,11 @@ use Rattle.sock_programs.specs.declared.task.Task.{Task}
 use Rattle.sock_programs.specs.Calls.{Call, StoreName, LoadName, StoreCode, LoadCode}
 use Rattle.sock_programs.specs.Asides.{Step, ClaimId, PutCall, MakeId, StoreCall, LoadCall, LoadIdWord, LockId, PostId, UnlockId, EndId, FreeId, TakeCall, TakeBytes, Taking, Bytes, Found, call_id, id_slot, id_first}
 use Rattle.sock_programs.specs.Heads.{Head, Exit, Sought, First, Version, Posts, Unlocks, Decides, Locks, Joins, Opens, Reads, Discards, Posting, WasCrowded, WasQueued, HasLocked, Unlocking, IsOpen, HasNext, Deciding, HasEnded, GoesOn, Locking, NotThere, Has, Reading}
-use Rattle.sock_programs.specs.Posts.{is_first, is_sought}
+use Rattle.sock_programs.specs.Posts.{WHOLE, is_first, is_sought}
 use Rattle.sock_programs.specs.Programs.{Program, Do, Say, Sent, Rest, TakeMessage, TakeHome, PutHome, PutBytes, AskReady, Write, Aside, Round, Keep, Retries}
 use Rattle.id_runs.specs.Goes.{FitsOwner, FitsWriting}
 use Rattle.call_causes.specs.Lists.{given}
-use Rattle.call_causes.specs.Scenes.{Birth, Scene, Said, IsBorn, Came, IsOther, IsErrorCode, Named, Begun, HasBegunIn, CauseOf, WhyEnded, WhyOwn, AreTold, HasNoneOf, IsTaskOf, Later}
+use Rattle.call_causes.specs.Scenes.{Birth, Scene, Said, IsBorn, IsClaimed, Came, IsOther, IsErrorCode, Named, Begun, HasBegunIn, CauseOf, WhyEnded, WhyOwn, AreTold, HasNoneOf, IsTaskOf, Later}
 
 -- ## Marks
 
@@ -134,7 +134,7 @@ module _ (p : Plan) (q : IdPlan) (clients : List (List Task)) where
 
   -- what the step makes of the mark, and what it shows
   abbrev pub Moves : Scene → Mark → (step : Step) → Found step → Mark → Type 0
-  Moves w m (ClaimId i) found m' = (found ≡ 0 → m' ≡ with_slot (Claims i None) m) × (found ≢ 0 → m' ≡ m)
+  Moves w m (ClaimId i) found m' = (found ≡ 0 → m' ≡ with_slot (Claims i None) m) × (found ≢ 0 → (m' ≡ m) × ((t : Task) (ts : List Task) → m.todo ≡ t ∷ ts → (o : ℕ) × IsClaimed w i o × (o ≢ t.number)))
   Moves w m (PutCall i asked) found m' = m' ≡ with_slot (put_in asked m.slot) m
   Moves w m (MakeId i range) found m' = (asked : Asked) → m.slot ≡ Claims i (Some asked) → (m' ≡ with_made (record { id = call_id i (parts found).first; asked = asked } ∷ []) (with_slot NoSlot m)) × IsBorn w (call_id i (parts found).first) asked
   Moves w m (StoreCall o id) found m' = (t : Task) (ts : List Task) → m.todo ≡ t ∷ ts → (m' ≡ with_done t ts (with_made [] m)) × Begun p q clients w o
@@ -200,13 +200,13 @@ module _ (p : Plan) (q : IdPlan) (clients : List (List Task)) where
   LeavesUnlock w m i (IsOpen word) m' = m' ≡ with_slot NoSlot m
   LeavesUnlock w m i (HasNext word e) m' = (m' ≡ m) × ((f range : ℕ) → m.slot ≡ Locked i f range → CauseOf p q clients w (call_id i f) e)
 
-  -- the error that ended a call is this one, or one that was queued
+  -- the error that ended a call is this one, or, where this one isn't for the whole call, one that was queued
   abbrev pub EndsBy : Scene → ℕ → ℕ → ℕ → Type 0
-  EndsBy w id e c = (c ≡ code_of e) ⊎ ((x : ℕ) × (c ≡ code_of x) × CauseOf p q clients w id x)
+  EndsBy w id e c = (c ≡ code_of e) ⊎ ((attempt_of e ≢ WHOLE) × (x : ℕ) × (c ≡ code_of x) × CauseOf p q clients w id x)
 
   abbrev pub LeavesDecision : Scene → Mark → ℕ → ℕ → Deciding → Mark → Type 0
   LeavesDecision w m id e (HasEnded o c) m' = (b : Birth) × (s : Slot) × IsVacant s × (m' ≡ with_owed (b ∷ []) (with_slot s m)) × (b.id ≡ id) × IsBorn w b.id b.asked × (o ≡ b.asked.operation) × EndsBy w id e c
-  LeavesDecision w m id e GoesOn m' = Again m m'
+  LeavesDecision w m id e GoesOn m' = Again m m' × (attempt_of e ≢ WHOLE)
 
   abbrev pub LeavesLock : Mark → ℕ → Sought → Locking → Mark → Type 0
   LeavesLock m i sought (Has word) m' = (f range : ℕ) × (m' ≡ with_slot (Locked i f range) m) × ((parts word).first ≡ f) × MatchesRange sought f range

@@ -28,9 +28,15 @@ pub record Saying : Type 0 where
   pub number : ℕ
   pub outcome : Outcome
 
--- a core, the ids that were made so far, and what was said so far, each the latest first
+-- an id slot that was claimed for the call that is this operation
+pub record Claim : Type 0 where
+  pub slot : ℕ
+  pub operation : ℕ
+
+-- a core, the slots that were claimed so far, the ids that were made, and what was said, each the latest first
 pub record Scene : Type 0 where
   pub core : Core
+  pub claims : List Claim
   pub births : List Birth
   pub sayings : List Saying
 
@@ -44,6 +50,9 @@ Said w o x = In (record { number = o; outcome = x }) w.sayings
 
 abbrev pub IsBorn : Scene → ℕ → Asked → Type 0
 IsBorn w id asked = In (record { id = id; asked = asked }) w.births
+
+abbrev pub IsClaimed : Scene → ℕ → ℕ → Type 0
+IsClaimed w i o = In (record { slot = i; operation = o }) w.claims
 
 -- frame n of link k came
 abbrev pub Came : Scene → ℕ → ℕ → Frame → Type 0
@@ -167,11 +176,17 @@ module _ (p : Plan) (q : IdPlan) (clients : List (List Task)) where
 
   -- ## Later
 
-  -- what happened lasts; and an id is that of one call
+  -- where each id slot was claimed for another call than this one, there is no room for it
+  abbrev pub HasRoom : Scene → Type 0
+  HasRoom w = (c : ℕ) (t : Task) (asked : Asked) → IsTaskOf c t → t.op ≡ ops.Call asked → ((i : ℕ) → i < q.slots → (o : ℕ) × IsClaimed w i o × (o ≢ t.number)) → ⊥
+
+  -- what happened lasts; an id is that of one call, and there are as many id slots as calls
   pub record Later (w w' : Scene) : Type 0 where
     pub said : (o : ℕ) (x : Outcome) → Said w o x → Said w' o x
     pub named : (n : ℕ) → Named w n → Named w' n
     pub begun : (o : ℕ) → Begun w o → Begun w' o
     pub born : (id : ℕ) (asked : Asked) → IsBorn w id asked → IsBorn w' id asked
     pub came : (k n : ℕ) (frame : Frame) → Came w k n frame → Came w' k n frame
+    pub claimed : (i o : ℕ) → IsClaimed w i o → IsClaimed w' i o
+    pub room : HasRoom w'
     pub apart : (id : ℕ) (a b : Asked) → IsBorn w' id a → IsBorn w' id b → a ≡ b
