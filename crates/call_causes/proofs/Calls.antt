@@ -141,14 +141,18 @@ module _ (p : Plan) (q : IdPlan) (clients : List (List Task)) where
   claim_says : (w : Scene) (m : Mark) (requests socket : ℕ) (asked : Asked) (t : Task) (ts : List Task) (next : Program) → IsNext m t ts → IsFree m → t.op ≡ ops.Call asked → t.number ≡ asked.operation → Ends w (with_done t ts m) next
       → (more i : ℕ) → i + more ≡ q.slots → (v : Scene) → Later' w v → Named p q clients v (name_of asked 0) → Taken v i t → SaidBy v (claim_id more i requests socket asked next) → Tells v m (claim_id more i requests socket asked next)
   claim_says w m requests socket asked t ts next has free op own goes zero i all v l named taken s = absurd (l.room m.client t asked has.is op (λ j inside. taken j (omega (arith, all, inside))))
-  claim_says w m requests socket asked t ts next has free op own goes (suc more) i all v l named taken s = (free, λ found v2 m2 l2 s2 mv. (tt, by_found found v2 m2 l2 mv.0 mv.1 (eqb found 0) refl s2))
+  claim_says w m requests socket asked t ts next has free op own goes (suc more) i all v l named taken s = (
+    free,
+    λ found v2 m2 l2 s2 mv. (tt, by_found (λ v3 l3 n3 t3 s3. claim_says w m requests socket asked t ts next has free op own goes more (i + 1) (omega (arith, all)) v3 (far p q clients w v v3 l l3) n3 t3 s3) found v2 m2 l2 mv.0 mv.1 (eqb found 0) refl s2),
+  )
     where
-      by_found : (found : ℕ) (v2 : Scene) (m2 : Mark) → Later' v v2 → (found ≡ 0 → m2 ≡ with_slot (Claims i None) m) → (found ≢ 0 → (m2 ≡ m) × ((u : Task) (us : List Task) → m.todo ≡ u ∷ us → (o : ℕ) × IsClaimed v2 i o × (o ≢ u.number)))
+      by_found : ((v3 : Scene) → Later' v v3 → Named p q clients v3 (name_of asked 0) → Taken v3 (i + 1) t → SaidBy v3 (claim_id more (i + 1) requests socket asked next) → Tells v3 m (claim_id more (i + 1) requests socket asked next))
+          → (found : ℕ) (v2 : Scene) (m2 : Mark) → Later' v v2 → (found ≡ 0 → m2 ≡ with_slot (Claims i None) m) → (found ≢ 0 → (m2 ≡ m) × ((u : Task) (us : List Task) → m.todo ≡ u ∷ us → (o : ℕ) × IsClaimed v2 i o × (o ≢ u.number)))
           → (b : Bool) → eqb found 0 ≡ b → SaidBy v2 (cond b (begin_call requests socket i asked next) (claim_id more (i + 1) requests socket asked next)) → Tells v2 m2 (cond b (begin_call requests socket i asked next) (claim_id more (i + 1) requests socket asked next))
-      by_found found v2 m2 l2 one other true is s2 = subst (λ x. Tells v2 x (begin_call requests socket i asked next)) (sym (one (eqb-true found 0 is)))
+      by_found more_ found v2 m2 l2 one other true is s2 = subst (λ x. Tells v2 x (begin_call requests socket i asked next)) (sym (one (eqb-true found 0 is)))
           (begin_says v2 (with_slot (Claims i None) m) requests socket i asked t ts next refl has.todo op own free.1 free.2 (l2.named (name_of asked 0) named) (λ u m' l' s' a. goes u m' (far p q clients w v2 u (far p q clients w v v2 l l2) l') s' (record { slot = a.slot; vacant = a.vacant; is = a.is })))
-      by_found found v2 m2 l2 one other false is s2 = let y = other (not_equal found 0 is) in let z = y.1 t ts has.todo in
-          subst (λ x. Tells v2 x (claim_id more (i + 1) requests socket asked next)) (sym y.0) (claim_says w m requests socket asked t ts next has free op own goes more (i + 1) (omega (arith, all)) v2 (far p q clients w v v2 l l2) (l2.named (name_of asked 0) named)
+      by_found more_ found v2 m2 l2 one other false is s2 = let y = other (not_equal found 0 is) in let z = y.1 t ts has.todo in
+          subst (λ x. Tells v2 x (claim_id more (i + 1) requests socket asked next)) (sym y.0) (more_ v2 l2 (l2.named (name_of asked 0) named)
           (λ j low. dite (ℕ_discrete j i) (λ same. subst (λ k. (o : ℕ) × IsClaimed v2 k o × (o ≢ t.number)) (sym same) z) (λ ne. let x = taken j (omega (arith, low, ne)) in (x.0, l2.claimed j x.0 x.1, x.2))) s2)
 
   pub call_says : (w : Scene) (m : Mark) (requests : ℕ) (asked : Asked) (t : Task) (ts : List Task) (next : Program) → IsNext m t ts → IsFree m → m.client ≢ 0 → t.op ≡ ops.Call asked → t.number ≡ asked.operation → Ends w (with_done t ts m) next → Tells w m (call requests q.slots asked next)

@@ -162,6 +162,52 @@ module _ (p : Plan) (q : IdPlan) (clients : List (List Task)) where
       by_done u (inl same) = subst (IsTaskOf p q clients m.client) (sym same) (a.are t (inl refl))
       by_done u (inr there) = a.mine u there
 
-  -- what follows a mark that has these tasks to do, with any vacant slot
-  abbrev Goes : List Task → Program → Type 0
-  Goes ts x = (w : Scene) (m : Mark) → AreOf m ts → IsFree m → AllByRecursion (FitsTask m.client) ts → SaidBy w x → ((v : Scene) → Later' v w) → Tells w m x
+  slot_of : (m m' : Mark) (ts : List Task) → AreOf m ts → Again p q clients m m' → AreOf m' ts
+  slot_of m m' ts a b = subst (λ y. AreOf y ts) (sym b.is) (record { todo = a.todo; are = a.are; mine = a.mine })
+
+  free_of : (m m' : Mark) → IsFree m → Again p q clients m m' → IsFree m'
+  free_of m m' free b = subst IsFree (sym b.is) (b.vacant, free.1, free.2)
+
+  client_of : (m m' : Mark) (ts : List Task) → Again p q clients m m' → AllByRecursion (FitsTask m.client) ts → AllByRecursion (FitsTask m'.client) ts
+  client_of m m' ts b fits = subst (λ (y : Mark). AllByRecursion (FitsTask y.client) ts) (sym b.is) fits
+
+  operation_says : (held : List HeldLife) (next : List HeldLife → Program) (w : Scene) (m : Mark) (t : Task) (ts : List Task) (op : Op) → IsNext p q clients m t ts → IsFree m → t.op ≡ op → FitsOp t.number op → FitsClient m.client op
+      → ((hs : List HeldLife) → Ends w (with_done t ts m) (next hs)) → (v : Scene) → Later' w v → SaidBy v (operation (sizes_of p q) held t.number next op) → Tells v m (operation (sizes_of p q) held t.number next op)
+  operation_says held next w m t ts (ops.Open name k) has free op fits one goes v l s = open_says w m t ts has free name k op (next held) (goes held) p.slots 0 v l s
+  operation_says held next w m t ts (ops.Send name bytes) has free op fits one goes v l s = send_says v m t ts has free name bytes op (next held) (follows_later p q clients w v (with_done t ts m) (next held) l (goes held)) p.requests
+  operation_says held next w m t ts (ops.Call asked) has free op fits one goes v l s = call_says p q clients v m p.requests asked t ts (next held) has free one op fits (follows_later p q clients w v (with_done t ts m) (next held) l (goes held))
+  operation_says held next w m t ts (ops.Expire o) has free op fits one goes v l s = expire_says p q clients v m t ts o (next held) has free op fits (follows_later p q clients w v (with_done t ts m) (next held) l (goes held))
+  operation_says held next w m t ts (ops.Join o) has free op fits one goes v l s = join_says p q clients v m t ts o (next held) has free op fits (follows_later p q clients w v (with_done t ts m) (next held) l (goes held))
+  operation_says held next w m t ts (ops.Hold name) has free op fits one goes v l s = hold_says v m t ts has free name op (λ id. next (held ++ (record { name = name; id = id }) ∷ [])) (next held)
+      (λ id. follows_later p q clients w v (with_done t ts m) (next (held ++ (record { name = name; id = id }) ∷ [])) l (goes (held ++ (record { name = name; id = id }) ∷ []))) (follows_later p q clients w v (with_done t ts m) (next held) l (goes held))
+  operation_says held next w m t ts (ops.Drop name) has free op fits one goes v l s = drop_says w m t ts has free name op (held_under name held) (next (without_name name held)) (goes (without_name name held)) v l s
+  operation_says held next w m t ts (ops.Fail name code) has free op fits one goes v l s = fail_says v m t ts has free name code op fits (next held) (follows_later p q clients w v (with_done t ts m) (next held) l (goes held))
+
+  give_back_says : (held : List HeldLife) (w : Scene) (m : Mark) → IsFree m → m.todo ≡ [] → Tells w m (give_back held)
+  give_back_says [] w m free none_ = (free, none_)
+  give_back_says (h ∷ hs) w m free none_ = release_says p q clients w m (socket_id_slot h.id) (λ _. give_back hs) (λ _ v l s. give_back_says hs v m free none_)
+
+  pub client_says : (ts : List Task) (held : List HeldLife) (w : Scene) (m : Mark) → AreOf m ts → IsFree m → AllByRecursion (FitsTask m.client) ts → Tells w m (client_from (sizes_of p q) held ts)
+  client_says [] held w m are free fits = (free, λ v m' l s a. give_back_says held v m' (free_of m m' free a) (slot_of m m' [] are a).todo)
+  client_says (t ∷ ts) held w m are free fits = (
+    free,
+    λ v m' l s a. subst (λ y. Tells v y (operation (sizes_of p q) held t.number (λ held'. client_from (sizes_of p q) held' ts) t.op)) (sym a.is) (
+        let m1 : Mark = with_slot a.slot m in
+        let are1 : AreOf (with_slot a.slot m) (t ∷ ts) = record { todo = are.todo; are = are.are; mine = are.mine } in
+        operation_says held (λ held'. client_from (sizes_of p q) held' ts) w m1 t ts t.op (next_of m1 t ts are1) (a.vacant, free.1, free.2) refl fits.0.0 fits.0.1
+        (λ hs u m2 l2 _ a2. client_says ts hs u m2 (slot_of (with_done t ts m1) m2 ts (done_of m1 t ts are1) a2) (free_of (with_done t ts m1) m2 (a.vacant, free.1, free.2) a2) (client_of (with_done t ts m1) m2 ts a2 fits.1)) v l s
+      ),
+  )
+
+  pub ending_says : (os : List ℕ) (w : Scene) (m : Mark) → IsFree m → m.todo ≡ [] → Tells w m (ending_of os)
+  ending_says [] w m free none_ = (free, none_)
+  ending_says (o ∷ os) w m free none_ = (
+    tt,
+    λ word v l s _. let closes : Program = address (word - 1) (set_failed (word - 1) 1014 (λ _. release (socket_id_slot (word - 1)) (λ _. ending_of os))) (λ _. ending_of os) in
+        way p q clients v m (word == 0) (ending_of os) (cond (word == NO_SOCKET) (ending_of os) closes) s (λ _ _. ending_says os v m free none_)
+        (λ _ s'. way p q clients v m (word == NO_SOCKET) (ending_of os) closes s' (λ _ _. ending_says os v m free none_)
+        (λ _ _. address_says p q clients v m (word - 1) (set_failed (word - 1) 1014 (λ _. release (socket_id_slot (word - 1)) (λ _. ending_of os))) (λ _. ending_of os)
+        (λ v2 _ _. set_failed_says p q clients v2 m (word - 1) 1014 (inr (inl refl)) (λ _. release (socket_id_slot (word - 1)) (λ _. ending_of os))
+        (λ _ v3 _ _. release_says p q clients v3 m (socket_id_slot (word - 1)) (λ _. ending_of os) (λ _ v4 _ _. ending_says os v4 m free none_)))
+        (λ _ v2 _ _. ending_says os v2 m free none_))),
+  )

@@ -1,3 +1,5 @@
 pub mod Lasting
 pub mod Posts
 pub mod Programs
+pub mod Calls
+pub mod Clients
