@@ -101,9 +101,9 @@ module _ (p : Plan) (q : IdPlan) (clients : List (List Task)) where
     are_told_on c [] all = tt
     are_told_on c (t ∷ ts) all = (told_on c ts t all.0, are_told_on c ts all.1)
 
-    kept_on : (k : ℕ) (fs : List Frame) → AllByRecursion (CameFrom p q clients w k) fs → AllByRecursion (CameFrom p q clients w' k) fs
+    pub kept_on : (k : ℕ) (fs : List Frame) → AllByRecursion (CameFrom p q clients w k) fs → AllByRecursion (CameFrom p q clients w' k) fs
     kept_on k [] all = tt
-    kept_on k (f ∷ fs) all = ((all.0.0, l.came k all.0.0 f all.0.1), kept_on k fs all.1)
+    kept_on k (f ∷ fs) all = ((all.0.0, l.came k all.0.0 f all.0.1, all.0.2), kept_on k fs all.1)
 
     aside_on : (m : Mark) (step : Step) → MayAside p q clients w m step → MayAside p q clients w' m step
     aside_on m (PutCall i asked) may = ⊎_elim (λ x. inl x) (λ x. inr (x.0, x.1, x.2, l.born (call_id i x.0) asked x.3)) may

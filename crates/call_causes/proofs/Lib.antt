@@ -3,3 +3,5 @@ pub mod Posts
 pub mod Programs
 pub mod Calls
 pub mod Clients
+pub mod Streams
+pub mod Reading

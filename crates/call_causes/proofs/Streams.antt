@@ -18,11 +18,11 @@ prefix_append e (m ∷ ms) (x ∷ xs) ys room = ap (λ n. cond (e m x) (1 + n) 0
 prefix_short : (e : ℕ → ℕ → Bool) (ms xs : List ℕ) → common_prefix_len e ms xs ≤ length ms
 prefix_short e [] xs = omega arith
 prefix_short e (m ∷ ms) [] = omega arith
-prefix_short e (m ∷ ms) (x ∷ xs) = by_first (e m x)
+prefix_short e (m ∷ ms) (x ∷ xs) = by_first (prefix_short e ms xs) (e m x)
   where
-    by_first : (b : Bool) → cond b (1 + common_prefix_len e ms xs) 0 ≤ suc (length ms)
-    by_first true = let less = prefix_short e ms xs in omega (arith, less)
-    by_first false = omega arith
+    by_first : common_prefix_len e ms xs ≤ length ms → (b : Bool) → cond b (1 + common_prefix_len e ms xs) 0 ≤ suc (length ms)
+    by_first less true = omega (arith, less)
+    by_first less false = omega arith
 
 -- the eight cases by what they test
 abbrev judge : Bool → Bool → Judged → Judged → Judged → Bool → Bool → Bool → Judged → Judged
@@ -177,7 +177,7 @@ frames_follow (suc n) at xs ys r room is j f there = by_judged (judged xs) refl 
   where
     last_same : (body : ℕ) (g : Frame) → judged xs ≡ Begins g body → r ≤ length (drop (12 + body) xs) → last_of r xs ≡ last_of r (drop (12 + body) xs)
     last_same body g e low = let l : length (drop (12 + body) xs) ≡ length xs - (12 + body) = length-drop (12 + body) xs in let b = (begins_facts xs g body e).2 in
-        let k : length xs - r ≡ (length (drop (12 + body) xs) - r) + (12 + body) = omega (arith, l, b, low) in
+        let k : length xs - r ≡ (12 + body) + (length (drop (12 + body) xs) - r) = omega (arith, l, b, low) in
         ap (λ m. drop m xs) k ∙ sym (drop-drop (length (drop (12 + body) xs) - r) (12 + body) xs)
 
     by_judged : (x : Judged) → judged xs ≡ x → (goes_on at xs x (λ body. stream_up_to n (at + (12 + body)) (drop (12 + body) xs))).ending ≡ Rest r

@@ -17,6 +17,7 @@ use Rattle.sock_programs.specs.Asides.{Step, ClaimId, PutCall, MakeId, StoreCall
 use Rattle.sock_programs.specs.Heads.{Head, Exit, Sought, First, Version, Posts, Unlocks, Decides, Locks, Joins, Opens, Reads, Discards, Posting, WasCrowded, WasQueued, HasLocked, Unlocking, IsOpen, HasNext, Deciding, HasEnded, GoesOn, Locking, NotThere, Has, Reading}
 use Rattle.sock_programs.specs.Posts.{WHOLE, is_first, is_sought}
 use Rattle.sock_programs.specs.Programs.{Program, Do, Say, Sent, Rest, TakeMessage, TakeHome, PutHome, PutBytes, AskReady, Write, Aside, Round, Keep, Retries}
+use Rattle.sock_programs.specs.Readers.{has_response}
 use Rattle.id_runs.specs.Goes.{FitsOwner, FitsWriting}
 use Rattle.call_causes.specs.Lists.{given}
 use Rattle.call_causes.specs.Scenes.{Birth, Scene, Said, IsBorn, IsClaimed, Came, IsOther, IsErrorCode, Named, Begun, HasBegunIn, CauseOf, WhyEnded, WhyOwn, AreTold, HasNoneOf, IsTaskOf, Later}
@@ -161,8 +162,9 @@ module _ (p : Plan) (q : IdPlan) (clients : List (List Task)) where
   IsSoughtIn sought None = Unit {0}
   IsSoughtIn sought (Some word) = (is_sought sought (parts word) ≡ true) × ((parts word).state ≡ 1)
 
+  -- a response that link k gave
   abbrev pub CameFrom : Scene → ℕ → Frame → Type 0
-  CameFrom w k frame = (n : ℕ) × Came w k n frame
+  CameFrom w k frame = (n : ℕ) × Came w k n frame × (has_response frame.meta.response ≡ true)
 
   -- where a reader stands
   pub record IsReading (w : Scene) (m : Mark) (r : Reading) : Type 0 where
