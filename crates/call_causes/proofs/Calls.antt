@@ -1,11 +1,11 @@
 -- What calls, retries, `expire` and `join` say has its cause.
-use Rattle.std.proofs.Common.{◌≡◌, ◌≢◌, ℕ, zero, suc, ◌+◌, ◌-◌, ◌*◌, ◌/◌, ◌%◌, ◌<◌, ◌≤◌, ◌⊎◌, inl, inr, ⊎_elim, ◌==◌, ◌&&◌, Bool, true, false, cond, eqb, eqb-true, List, [], ◌∷◌, None, Some, length, refl, sym, ap, ◌∙◌, subst, arith}
+use Rattle.std.proofs.Common.{◌≡◌, ◌≢◌, ℕ, zero, suc, ◌+◌, ◌-◌, ◌<◌, ◌≤◌, inl, inr, ⊎_elim, Bool, true, false, cond, eqb, eqb-true, List, [], ◌∷◌, None, refl, sym, ap, ◌∙◌, subst, arith}
 use mathlib.Core.Logic.{dite}
 use native.Mathlib.Decide.{ℕ_discrete}
 use Rattle.sock_words.specs.declared.plain.Plan.{Plan}
 use Rattle.sock_words.specs.declared.outcome.Outcome.{Outcome}
 use Rattle.sock_words.specs.declared.outcome.Outcome.TheVariants as outcomes
-use Rattle.corr_core.specs.Word.{parts, error_of, code_of, attempt_of}
+use Rattle.corr_core.specs.Word.{parts, error_of}
 use Rattle.corr_core.specs.declared.marks.Plan.{Plan as IdPlan}
 use Rattle.sock_message.specs.Asked.{Asked, name_of}
 use Rattle.sock_programs.specs.declared.task.Op.{Op}
@@ -17,10 +17,10 @@ use Rattle.sock_programs.specs.Programs.{Program, Say, Aside, Round}
 use Rattle.sock_programs.specs.Posts.{post, post_with, posted, decide, decided}
 use Rattle.sock_programs.specs.Attempts.{attempt, begin_call, claim_id, call, tried_again, retry_locked, retry, expire_outcome, expire, join}
 use Rattle.id_runs.proofs.Loops.{not_equal}
-use Rattle.call_causes.specs.Scenes.{Birth, Scene, In, Said, IsBorn, IsErrorCode, IsOpened, SeeksName, IsClaimed, CauseOf, of_expiry, FailedIn, by_expiry, Named, Begun, IsTaskOf, HasNoneOf, NoneFound, HasBegunIn, HasNotBegunIn, WhyOwn, ToldOf, was_said, was_sent, was_begun, AreTold}
-use Rattle.call_causes.specs.Says.{Slot, NoSlot, Claims, Locked, Holds, Mark, with_slot, with_owed, with_made, with_done, IsVacant, IsFree, put_in, taken_out, SaidBy, NoneOfSetup, FindsDo, Again, LeavesPost, YieldsPost, LeavesUnlock, LeavesDecision, LeavesLock, SaysOn}
+use Rattle.call_causes.specs.Scenes.{Birth, Scene, In, Said, IsBorn, IsOpened, SeeksName, IsClaimed, CauseOf, of_expiry, by_expiry, Named, Begun, IsTaskOf, HasNoneOf, NoneFound, HasBegunIn, HasNotBegunIn, WhyOwn, ToldOf, was_said, was_sent, was_begun, AreTold}
+use Rattle.call_causes.specs.Says.{NoSlot, Claims, Locked, Mark, with_slot, with_owed, with_made, with_done, IsFree, put_in, SaidBy, NoneOfSetup, Again, LeavesUnlock, LeavesLock, SaysOn}
 use Rattle.call_causes.proofs.Lasting.{far, own_on}
-use Rattle.call_causes.proofs.Posts.{After, Then, Follows, way, again_same, follows_on, follows_later, id_back, failed_of, Exits, Decided, decide_says, decided_says, post_with_says, post_says}
+use Rattle.call_causes.proofs.Posts.{After, Follows, way, again_same, follows_on, id_back, failed_of, Exits, Decided, decide_says, decided_says, post_with_says, post_says}
 use Rattle.call_causes.proofs.Programs.{attempt_says}
 
 module _ (p : Plan) (q : IdPlan) (clients : List (List Task)) where
@@ -142,7 +142,7 @@ module _ (p : Plan) (q : IdPlan) (clients : List (List Task)) where
       → (more i : ℕ) → i + more ≡ q.slots → (v : Scene) → Later' w v → Named p q clients v (name_of asked 0) → Taken v i t → SaidBy v (claim_id more i requests socket asked next) → Tells v m (claim_id more i requests socket asked next)
   claim_says w m requests socket asked t ts next has free op own goes zero i all v l named taken s = absurd (l.room m.client t asked has.is op (λ j inside. taken j (omega (arith, all, inside))))
   claim_says w m requests socket asked t ts next has free op own goes (suc more) i all v l named taken s = (
-    free,
+    (free, t, ts, asked, has.todo, op, own, has.is),
     λ found v2 m2 l2 s2 mv. (tt, by_found (λ v3 l3 n3 t3 s3. claim_says w m requests socket asked t ts next has free op own goes more (i + 1) (omega (arith, all)) v3 (far p q clients w v v3 l l3) n3 t3 s3) found v2 m2 l2 mv.0 mv.1 (eqb found 0) refl s2),
   )
     where

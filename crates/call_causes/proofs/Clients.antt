@@ -1,5 +1,5 @@
 -- What whole clients say of calls has its cause, and the ending says nothing of them.
-use Rattle.std.proofs.Common.{◌≡◌, ◌≢◌, ℕ, zero, suc, ◌+◌, ◌-◌, ◌*◌, ◌/◌, ◌%◌, ◌<◌, ◌≤◌, ◌⊎◌, inl, inr, ◌==◌, Bool, true, false, cond, eqb, eqb-true, List, [], ◌∷◌, ◌++◌, Option, None, Some, refl, sym, ap, ◌∙◌, subst, arith}
+use Rattle.std.proofs.Common.{◌≡◌, ◌≢◌, ℕ, zero, suc, ◌+◌, ◌-◌, ◌/◌, ◌%◌, ◌≤◌, inl, inr, ◌==◌, Bool, true, false, cond, List, [], ◌∷◌, ◌++◌, Option, None, Some, refl, sym, subst, arith}
 use Rattle.std.specs.List.{AllByRecursion}
 use Rattle.sock_words.specs.Words.{socket_id, socket_id_slot, vref_version}
 use Rattle.sock_words.specs.declared.plain.Plan.{Plan}
@@ -14,7 +14,7 @@ use Rattle.sock_programs.specs.Sends.{accept, heading_of, claim_from, start, sen
 use Rattle.sock_programs.specs.Clients.{HeldLife, held_under, without_name, give_back, drop_of, operation, client_from, ending_of}
 use Rattle.sock_programs.specs.Scripts.{sizes_of}
 use Rattle.id_runs.proofs.Loops.{not_equal}
-use Rattle.call_causes.specs.Scenes.{Scene, In, IsOther, Named, IsTaskOf, WhyOwn}
+use Rattle.call_causes.specs.Scenes.{Scene, In, Named, IsTaskOf, WhyOwn}
 use Rattle.call_causes.specs.Says.{Mark, with_slot, with_done, IsFree, SaidBy, Again, SaysOn}
 use Rattle.call_causes.proofs.Lasting.{far}
 use Rattle.call_causes.proofs.Posts.{After, Follows, way, again_same, follows_later}

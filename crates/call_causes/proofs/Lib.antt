@@ -5,3 +5,4 @@ pub mod Calls
 pub mod Clients
 pub mod Streams
 pub mod Reading
+pub mod Rounds

@@ -1,5 +1,5 @@
 -- What readers say of calls has its cause: each response ends a call of whose versions it is, and each error that they post has one of their codes.
-use Rattle.std.proofs.Common.{◌≡◌, ◌≢◌, ℕ, zero, suc, ◌+◌, ◌-◌, ◌*◌, ◌/◌, ◌%◌, ◌<◌, ◌≤◌, ◌⊎◌, inl, inr, ⊎_elim, ◌==◌, ◌&&◌, Bool, true, false, cond, eqb, eqb-true, nat_lt, ltb-true, List, [], ◌∷◌, ◌++◌, slice_get, Option, None, Some, IsSome, length, ℤ, pos, negsuc, append_assoc, refl, sym, ap, ◌∙◌, subst, arith}
+use Rattle.std.proofs.Common.{◌≡◌, ℕ, zero, suc, ◌+◌, ◌-◌, ◌*◌, ◌<◌, ◌⊎◌, inl, inr, ◌&&◌, Bool, true, false, cond, eqb, eqb-true, nat_lt, ltb-true, List, [], ◌∷◌, ◌++◌, slice_get, Option, None, Some, IsSome, length, ℤ, pos, negsuc, append_assoc, refl, sym, ap, ◌∙◌, subst, arith}
 use Rattle.std.specs.List.{AllByRecursion}
 use Rattle.sock_words.specs.Words.{socket_id_slot, at_word_first, at_word_slot, at_word_link, at_word_attempt}
 use Rattle.sock_words.specs.declared.plain.Plan.{Plan}
@@ -11,16 +11,15 @@ use Rattle.corr_core.specs.declared.marks.Plan.{Plan as IdPlan}
 use Rattle.sock_message.specs.Asked.{Asked}
 use Rattle.sock_programs.specs.declared.task.Task.{Task}
 use Rattle.sock_programs.specs.Asides.{Taking, Bytes, Nothing, NoMore, AtEnd, Closed, Broken, call_id, id_slot, id_first}
-use Rattle.sock_programs.specs.Heads.{Version, Reading, Locks, Opens, Reads, Discards, Posting, WasGone, WasStale, WasCrowded, WasQueued, HasLocked, Locking, NotThere, Has, Ended}
+use Rattle.sock_programs.specs.Heads.{Version, Reading, Locks, Opens, Reads, Discards, WasGone, WasStale, WasCrowded, WasQueued, HasLocked, Locking, NotThere, Has, Ended}
 use Rattle.sock_programs.specs.Programs.{Program, Rest, Say, Round, NO_SOCKET, address, release, set_failed}
 use Rattle.sock_programs.specs.Posts.{post_with, decide, decided}
-use Rattle.sock_programs.specs.Readers.{LIMIT, by_code, outcome_by, ending_of, has_response, slot_in, version_in, is_early, answer, answered, responses, last_of, ended_by, read_on, took_bytes, took, room_of, reads_round, discarded, discards_round, opens_round, kept_for, ends_with, posted_last, post_each, thrown_away, read, reader}
-use Rattle.id_runs.proofs.Loops.{not_equal}
+use Rattle.sock_programs.specs.Readers.{LIMIT, by_code, outcome_by, ending_of, has_response, slot_in, version_in, is_early, answer, answered, responses, last_of, ended_by, read_on, took_bytes, took, reads_round, discarded, discards_round, opens_round, kept_for, ends_with, posted_last, post_each, thrown_away, read, reader}
 use Rattle.call_causes.specs.Lists.{given}
-use Rattle.call_causes.specs.Scenes.{Birth, Scene, In, Came, IsBorn, IsResponseTo, HasCode, IsOther, of_other, by_compression, by_other, WhyEnded}
+use Rattle.call_causes.specs.Scenes.{Birth, Scene, Came, IsResponseTo, IsOther, of_other, by_compression, by_other, WhyEnded}
 use Rattle.call_causes.specs.Says.{Slot, NoSlot, Locked, Mark, with_slot, with_owed, with_bytes, IsVacant, IsFree, taken_out, SaidBy, GoesFrom, CameFrom, IsReading, Again, LeavesLock, LeavesPost, YieldsPost, Leaves', SaysOn}
 use Rattle.call_causes.proofs.Lasting.{far, kept_on}
-use Rattle.call_causes.proofs.Posts.{After, Then, Follows, way, plain_way, and_left, and_right, again_same, then_on, follows_on, follows_later, then_follows, id_back, end_says, decide_says, decided_says, Exits, post_with_says}
+use Rattle.call_causes.proofs.Posts.{After, Then, Follows, way, plain_way, and_left, and_right, again_same, follows_on, end_says, decide_says, decided_says, Exits, post_with_says}
 use Rattle.call_causes.proofs.Programs.{release_says, address_says, set_failed_says, again_on}
 use Rattle.call_causes.proofs.Streams.{frames_follow}
 

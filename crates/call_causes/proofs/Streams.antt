@@ -4,7 +4,7 @@ use Rattle.std.specs.List.{common_prefix_len}
 use lib.Seq.{take-append-le, drop-append-le}
 use Rattle.brpc_model.specs.Meta.{Meta, MetaFault, read_meta}
 use Rattle.brpc_model.specs.Frame.{Frame, FrameFault, BadMagic, TooBig, MetaOver, Judged, NoneYet, Faulty, Begins, magic, high_first, matching, body_limit, with_attachment, body_judged, judged}
-use Rattle.brpc_model.specs.Stream.{Stream, Ending, Rest, Fault, with_frame, goes_on, stream_up_to, stream_from}
+use Rattle.brpc_model.specs.Stream.{Stream, Rest, Fault, goes_on, stream_up_to, stream_from}
 use Rattle.brpc_model.proofs.Streams.{stream_goes_on}
 use Rattle.sock_programs.specs.Readers.{last_of}
 

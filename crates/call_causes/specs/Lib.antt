@@ -2,3 +2,4 @@ pub mod Lists
 pub mod Target
 pub mod Scenes
 pub mod Says
+pub mod Stories

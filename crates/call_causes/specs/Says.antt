@@ -120,7 +120,7 @@ module _ (p : Plan) (q : IdPlan) (clients : List (List Task)) where
   -- ## Steps aside
 
   abbrev pub MayAside : Scene → Mark → Step → Type 0
-  MayAside w m (ClaimId i) = IsFree m
+  MayAside w m (ClaimId i) = IsFree m × (t : Task) × (ts : List Task) × (asked : Asked) × (m.todo ≡ t ∷ ts) × (t.op ≡ ops.Call asked) × (t.number ≡ asked.operation) × IsTaskOf p q clients m.client t
   MayAside w m (PutCall i asked) = (m.slot ≡ Claims i None) ⊎ ((f range : ℕ) × (m.slot ≡ Holds i f range asked) × IsBorn w (call_id i f) asked)
   MayAside w m (MakeId i range) = (asked : Asked) × (t : Task) × (ts : List Task) × (m.slot ≡ Claims i (Some asked)) × (range ≡ asked.range) × (m.todo ≡ t ∷ ts) × (t.op ≡ ops.Call asked) × (t.number ≡ asked.operation) × (m.makes ≡ []) × (m.owes ≡ [])
   MayAside w m (StoreCall o id) = (b : Birth) × (t : Task) × (ts : List Task) × (m.makes ≡ b ∷ []) × (m.todo ≡ t ∷ ts) × (t.op ≡ ops.Call b.asked) × (t.number ≡ b.asked.operation) × (o ≡ b.asked.operation) × (id ≡ b.id) × IsBorn w b.id b.asked × Named p q clients w (name_of b.asked 0)
