@@ -6,3 +6,4 @@ pub mod Clients
 pub mod Streams
 pub mod Reading
 pub mod Rounds
+pub mod Effects

@@ -1,5 +1,5 @@
 -- The story of a run as far as calls go: how what happened so far stands to the words, the homes and the marks of all seats.
-use Rattle.std.specs.Prelude.{ℕ, ◌≡◌, ◌≢◌, ◌+◌, ◌<◌, ◌≤◌, ◌⊎◌, List, [], ◌∷◌, length, slice_get, slice_index, slice_index_or, Option, Some, None}
+use Rattle.std.specs.Prelude.{ℕ, ◌==◌, if◌then◌else◌, ◌++◌, ◌≡◌, ◌≢◌, ◌+◌, ◌<◌, ◌≤◌, ◌⊎◌, List, [], ◌∷◌, length, slice_get, slice_index, slice_index_or, Option, Some, None}
 use Rattle.std.specs.List.{AllByRecursion}
 use mathlib.Core.Option as core
 use lib.ListN.{get_elem?}
@@ -12,11 +12,12 @@ use Rattle.id_rule.specs.Lawful.{tag_word, id_word, call_word}
 use Rattle.sock_message.specs.Asked.{Asked}
 use Rattle.sock_programs.specs.declared.task.Op.TheVariants as ops
 use Rattle.sock_programs.specs.declared.task.Task.{Task}
-use Rattle.sock_programs.specs.Asides.{call_id, id_slot, id_first}
+use Rattle.sock_programs.specs.Asides.{Step, ClaimId, PutCall, MakeId, StoreCall, LockId, PostId, UnlockId, EndId, FreeId, TakeCall, TakeBytes, Found, call_id, id_slot, id_first}
+use Rattle.sock_programs.specs.Beside.{calls_after}
 use Rattle.sock_programs.specs.Cores.{SeatState}
 use Rattle.call_causes.specs.Lists.{given}
-use Rattle.call_causes.specs.Scenes.{Birth, Claim, Scene, In, Said, IsBorn, IsOther, CauseOf, Begun, IsTaskOf, WhyEnded, AreTold, IsClaimed}
-use Rattle.call_causes.specs.Says.{Slot, NoSlot, Claims, Locked, Holds, Leaves, Mark, IsFree, SaysOn}
+use Rattle.call_causes.specs.Scenes.{Birth, Claim, Saying, Scene, In, Said, IsBorn, IsOther, CauseOf, Begun, IsTaskOf, WhyEnded, AreTold, IsClaimed}
+use Rattle.call_causes.specs.Says.{Slot, NoSlot, Claims, Locked, Holds, Leaves, Mark, with_slot, with_owed, with_made, with_done, put_in, taken_out, given_more, IsFree, SaysOn}
 
 abbrev pub At : List Mark → ℕ → Mark → Type 0
 At ms j m = get_elem? ms j ≡ core.some m
@@ -104,8 +105,8 @@ module _ (p : Plan) (q : IdPlan) (clients : List (List Task)) where
   ahead [] todo = todo
   ahead (b ∷ bs) todo = tasks_behind todo
 
-  abbrev pub IsUntold : Scene → ℕ → Type 0
-  IsUntold w o = slice_get w.core.outcomes o ≡ Some None
+  abbrev pub IsUntold : List (Option Outcome) → ℕ → Type 0
+  IsUntold os o = slice_get os o ≡ Some None
 
   -- the call of the id was begun by this seat, and its word is stored or is to be stored next
   abbrev pub IsBegunBy : Mark → Birth → Task → Type 0
@@ -114,7 +115,8 @@ module _ (p : Plan) (q : IdPlan) (clients : List (List Task)) where
   abbrev pub IsOwed : List Mark → Birth → Type 0
   IsOwed ms b = (j : ℕ) × (m : Mark) × At ms j m × (m.owes ≡ b ∷ [])
 
-  pub record TasksLaw (w : Scene) (ms : List Mark) : Type 0 where
+  -- with these outcomes, by what was said of them
+  pub record TasksLaw (w : Scene) (os : List (Option Outcome)) (ss : List Saying) (ms : List Mark) : Type 0 where
     pub client : (j : ℕ) (m : Mark) → At ms j m → m.client ≡ j
     pub placed : (j : ℕ) (m : Mark) → At ms j m → undo m.done m.todo ≡ slice_index_or clients j []
     pub told : (j : ℕ) (m : Mark) → At ms j m → AreTold p q clients w m.client m.done
@@ -123,11 +125,11 @@ module _ (p : Plan) (q : IdPlan) (clients : List (List Task)) where
     pub made : (j : ℕ) (m : Mark) (b : Birth) → At ms j m → m.makes ≡ b ∷ [] → In b w.births
     pub called : (o : ℕ) → o < q.operations → Begun p q clients w o → (b : Birth) × In b w.births × (b.id ≡ slice_index w.core.calls.words (call_word q o)) × (b.asked.operation ≡ o) × (j : ℕ) × (m : Mark) × (t : Task) × At ms j m × In t m.done × (t.op ≡ ops.Call b.asked) × (t.number ≡ o)
     -- what was said is there, and nothing else
-    pub said : (o : ℕ) (x : Outcome) → Said w o x → slice_get w.core.outcomes o ≡ Some (Some x)
-    pub outcomes : (o : ℕ) (x : Outcome) → slice_get w.core.outcomes o ≡ Some (Some x) → Said w o x
-    pub fresh : (j : ℕ) (m : Mark) (t : Task) → At ms j m → In t (ahead m.makes m.todo) → IsUntold w t.number
+    pub said : (o : ℕ) (x : Outcome) → In (record { number = o; outcome = x }) ss → slice_get os o ≡ Some (Some x)
+    pub outcomes : (o : ℕ) (x : Outcome) → slice_get os o ≡ Some (Some x) → In (record { number = o; outcome = x }) ss
+    pub fresh : (j : ℕ) (m : Mark) (t : Task) → At ms j m → In t (ahead m.makes m.todo) → IsUntold os t.number
     -- of a range that hasn't ended nothing is said, and of one that has its outcome, or a seat is to say it
-    pub untold : (b : Birth) → In b w.births → IsCurrent w b ⊎ IsOwed ms b → IsUntold w b.asked.operation
+    pub untold : (b : Birth) → In b w.births → IsCurrent w b ⊎ IsOwed ms b → IsUntold os b.asked.operation
     pub ended : (b : Birth) → In b w.births → HasPassed w b → ((x : Outcome) × Said w b.asked.operation x × WhyEnded p q clients w b x) ⊎ IsOwed ms b
     pub owed : (j : ℕ) (m : Mark) (b : Birth) → At ms j m → m.owes ≡ b ∷ [] → In b w.births × HasPassed w b
     pub owed_once : (j l : ℕ) (m n : Mark) (b : Birth) → At ms j m → At ms l n → m.owes ≡ b ∷ [] → n.owes ≡ b ∷ [] → j ≡ l
@@ -145,11 +147,65 @@ module _ (p : Plan) (q : IdPlan) (clients : List (List Task)) where
     pub bytes : (j k : ℕ) (m : Mark) → At ms j m → m.link ≡ k ∷ [] → given w.core k ≡ m.bytes
     pub tied : (j k : ℕ) (m : Mark) → At ms j m → m.link ≡ k ∷ [] → j ≡ 32 + k
 
+  -- ## What a step aside makes of them
+
+  -- the call that was put into the home of a claimed slot
+  abbrev pub put_of : Slot → List Asked
+  put_of (Claims i (Some asked)) = asked ∷ []
+  put_of other = []
+
+  abbrev pub born_by : ℕ → List Asked → List Birth
+  born_by id [] = []
+  born_by id (asked ∷ more) = (record { id = id; asked = asked }) ∷ []
+
+  abbrev pub ended_of : Slot → List Birth
+  ended_of (Holds i f range asked) = (record { id = call_id i f; asked = asked }) ∷ []
+  ended_of other = []
+
+  abbrev pub claimed_by : ℕ → List Task → List Claim
+  claimed_by i [] = []
+  claimed_by i (t ∷ ts) = (record { slot = i; operation = t.number }) ∷ []
+
+  abbrev pub stored_by : List Task → Mark → Mark
+  stored_by [] m = m
+  stored_by (t ∷ ts) m = with_done t ts (with_made [] m)
+
+  abbrev pub births_after : (step : Step) → Found step → Mark → List Birth → List Birth
+  births_after (MakeId i range) found m bs = born_by (call_id i (parts found).first) (put_of m.slot) ++ bs
+  births_after other found m bs = bs
+
+  abbrev pub claims_after : (step : Step) → Found step → Mark → List Claim → List Claim
+  claims_after (ClaimId i) found m cs = if found == 0 then claimed_by i m.todo ++ cs else cs
+  claims_after other found m cs = cs
+
+  abbrev pub mark_after : (step : Step) → Found step → Mark → Mark
+  mark_after (ClaimId i) found m = if found == 0 then with_slot (Claims i None) m else m
+  mark_after (PutCall i asked) found m = with_slot (put_in asked m.slot) m
+  mark_after (MakeId i range) found m = with_made (born_by (call_id i (parts found).first) (put_of m.slot)) (with_slot NoSlot m)
+  mark_after (StoreCall o id) found m = stored_by m.todo m
+  mark_after (LockId i from) found m = if found == from then with_slot (Locked i (parts from).first (parts from).range) m else m
+  mark_after (PostId i from e) found m = if found == from then (if (parts from).state == 1 then with_slot (Locked i (parts from).first (parts from).range) m else m) else m
+  mark_after (UnlockId i from advance) found m = if found == from then (if (parts from).oldest == 0 then with_slot NoSlot m else m) else m
+  mark_after (EndId i) found m = with_owed (ended_of m.slot) (with_slot (Leaves i) m)
+  mark_after (FreeId i) found m = with_slot NoSlot m
+  mark_after (TakeCall i) found m = with_slot (taken_out found m.slot) m
+  mark_after (TakeBytes k room) found m = given_more found m
+  mark_after other found m = m
+
+  -- w' is behind the step, which found this, as far as the table of ids, the links and what was said go
+  pub record IsBehind (w w' : Scene) (m : Mark) (step : Step) (found : Found step) : Type 0 where
+    pub words : w'.core.calls.words ≡ (calls_after step found w.core.calls).words
+    pub homes : w'.core.calls.homes ≡ (calls_after step found w.core.calls).homes
+    pub gave : w'.core.calls.gave ≡ (calls_after step found w.core.calls).gave
+    pub births : w'.births ≡ births_after step found m w.births
+    pub claims : w'.claims ≡ claims_after step found m w.claims
+    pub sayings : (s : Saying) → In s w.sayings → In s w'.sayings
+
   pub record CallStory (w : Scene) (ms : List Mark) : Type 0 where
     pub each : length ms ≡ length w.core.seats
     pub slots : SlotsLaw q w ms
     pub births : BirthsLaw w
-    pub tasks : TasksLaw w ms
+    pub tasks : TasksLaw w w.core.outcomes w.sayings ms
     pub claims : ClaimsLaw w ms
     pub reads : ReadsLaw w ms
     pub seats : (j : ℕ) (seat : SeatState) (m : Mark) → get_elem? w.core.seats j ≡ core.some seat → At ms j m → SaysOn p q clients w m seat.program
