@@ -7,3 +7,4 @@ pub mod Streams
 pub mod Reading
 pub mod Rounds
 pub mod Effects
+pub mod Slots

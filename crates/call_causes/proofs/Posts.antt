@@ -98,7 +98,7 @@ module _ (p : Plan) (q : IdPlan) (clients : List (List Task)) where
   post_with_says w m id e k free goes = (tt, λ found v m' l s mv. (tt, subst (λ x. Says v x (judged id e found k)) (sym mv.0) (judged_then w m id e found k free mv.1 goes v l s)))
 
   -- the first version of a word, and how many it has, are the same where an open id was locked
-  locked_parts : (from e : ℕ) → (parts from).state ≡ 1 → parts (packed (posted_word (parts from) e)) ≡ locked_word (parts from)
+  pub locked_parts : (from e : ℕ) → (parts from).state ≡ 1 → parts (packed (posted_word (parts from) e)) ≡ locked_word (parts from)
   locked_parts from e one = ap (λ x. parts (packed x)) (posted_is (eqb (parts from).state 1) (Rattle.std.proofs.Common.eq-eqb (parts from).state 1 one)) ∙ parts_packed (locked_word (parts from)) (omega arith) (omega arith) (omega arith) (omega arith) (omega arith) (omega arith)
     where
       posted_is : (b : Bool) → b ≡ true → cond b (locked_word (parts from)) record { first = (parts from).first; state = 2; range = (parts from).range; attempt = (parts from).attempt; oldest = cond (eqb (parts from).oldest 0) e (parts from).oldest; second = cond (eqb (parts from).oldest 0) 0 e } ≡ locked_word (parts from)

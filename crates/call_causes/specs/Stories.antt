@@ -12,8 +12,9 @@ use Rattle.id_rule.specs.Lawful.{tag_word, id_word, call_word}
 use Rattle.sock_message.specs.Asked.{Asked}
 use Rattle.sock_programs.specs.declared.task.Op.TheVariants as ops
 use Rattle.sock_programs.specs.declared.task.Task.{Task}
-use Rattle.sock_programs.specs.Asides.{Step, ClaimId, PutCall, MakeId, StoreCall, LockId, PostId, UnlockId, EndId, FreeId, TakeCall, TakeBytes, Found, call_id, id_slot, id_first}
+use Rattle.sock_programs.specs.Asides.{Step, ClaimId, PutCall, MakeId, StoreCall, LoadCall, StoreAt, LoadIdWord, LockId, PostId, UnlockId, EndId, FreeId, TakeCall, TakeBytes, Found, call_id, id_slot, id_first}
 use Rattle.sock_programs.specs.Beside.{calls_after}
+use Rattle.sock_programs.specs.Posts.{advance_of}
 use Rattle.sock_programs.specs.Cores.{SeatState}
 use Rattle.call_causes.specs.Lists.{given}
 use Rattle.call_causes.specs.Scenes.{Birth, Claim, Saying, Scene, In, Said, IsBorn, IsOther, CauseOf, Begun, IsTaskOf, WhyEnded, AreTold, IsClaimed}
@@ -200,6 +201,32 @@ module _ (p : Plan) (q : IdPlan) (clients : List (List Task)) where
     pub births : w'.births ≡ births_after step found m w.births
     pub claims : w'.claims ≡ claims_after step found m w.claims
     pub sayings : (s : Saying) → In s w.sayings → In s w'.sayings
+
+  -- ## What the rule of the ids says of a step
+
+  abbrev pub IsWordAt : Scene → ℕ → ℕ → Type 0
+  IsWordAt w i found = (i < q.slots) × (parts found ≡ word_at w i)
+
+  -- a slot with an id is taken, and a free one is free
+  abbrev pub IsTakenWith : Scene → ℕ → Type 0
+  IsTakenWith w i = (0 < (word_at w i).state → tag_at w i ≢ 0) × (tag_at w i ≡ 0 → (word_at w i).state ≡ 0)
+
+  abbrev pub KnowsStep : Scene → (step : Step) → Found step → Type 0
+  KnowsStep w (ClaimId i) found = (i < q.slots) × (found ≡ tag_at w i) × IsTakenWith w i
+  KnowsStep w (PutCall i asked) found = i < q.slots
+  KnowsStep w (MakeId i range) found = IsWordAt w i found × ((parts found).first ≤ 67108856) × (2 ≤ range) × (range ≤ 8)
+  KnowsStep w (StoreCall o id) found = (o < q.operations) × (id ≢ 0)
+  KnowsStep w (LoadCall o) found = (o < q.operations) × (found ≡ slice_index w.core.calls.words (call_word q o))
+  KnowsStep w (StoreAt o x) found = o < q.operations
+  KnowsStep w (LoadIdWord i) found = IsWordAt w i found × ((parts found).state < 3)
+  KnowsStep w (LockId i from) found = IsWordAt w i found × ((parts from).state ≡ 1) × IsTakenWith w i
+  KnowsStep w (PostId i from e) found = IsWordAt w i found × (((parts from).state ≡ 1) ⊎ (((parts from).state ≡ 2) × ((parts from).second ≡ 0))) × (e < 32768) × IsTakenWith w i
+  KnowsStep w (UnlockId i from advance) found = IsWordAt w i found × ((parts from).state ≡ 2) × ((parts from).attempt + advance_of advance ≤ 6)
+  KnowsStep w (EndId i) found = IsWordAt w i found
+  KnowsStep w (FreeId i) found = i < q.slots
+  KnowsStep w (TakeCall i) found = (i < q.slots) × LiesAt w i found
+  KnowsStep w (TakeBytes k room) found = k < length w.core.calls.gave
+  KnowsStep w other found = Unit {0}
 
   pub record CallStory (w : Scene) (ms : List Mark) : Type 0 where
     pub each : length ms ≡ length w.core.seats
