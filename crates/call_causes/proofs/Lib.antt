@@ -8,3 +8,5 @@ pub mod Reading
 pub mod Rounds
 pub mod Effects
 pub mod Slots
+pub mod SlotTicks
+pub mod Births

@@ -78,7 +78,7 @@ module _ (p : Plan) (q : IdPlan) (clients : List (List Task)) (w w' : Scene) (m 
   again i found inside is words homes = by_word i found inside words homes (ap (λ (y : Parts). y.first) is) (ap (λ (y : Parts). y.range) is) (ap (λ (y : Parts). y.state) is)
 
   -- an error more waits at a locked id
-  queued_parts : (from e : ℕ) → (parts from).state ≡ 2 → e < 32768 → ((parts (packed (posted_word (parts from) e))).first ≡ (parts from).first) × ((parts (packed (posted_word (parts from) e))).range ≡ (parts from).range) × ((parts (packed (posted_word (parts from) e))).state ≡ 2)
+  pub queued_parts : (from e : ℕ) → (parts from).state ≡ 2 → e < 32768 → ((parts (packed (posted_word (parts from) e))).first ≡ (parts from).first) × ((parts (packed (posted_word (parts from) e))).range ≡ (parts from).range) × ((parts (packed (posted_word (parts from) e))).state ≡ 2)
   queued_parts from e two few = by_state (eqb (parts from).state 1) refl
     where
       small : (b : Bool) → (cond b e (parts from).oldest < 32768) × (cond b 0 e < 32768)
