@@ -10,3 +10,4 @@ pub mod Effects
 pub mod Slots
 pub mod SlotTicks
 pub mod Births
+pub mod BirthTicks
