@@ -137,10 +137,6 @@ module _ (p : Plan) (q : IdPlan) (clients : List (List Task)) (w w' : Scene) (m 
 
     -- ## What lies at home
 
-    abbrev Puts : Step → ℕ → Asked → Type 0
-    Puts (PutCall i asked) k a = (i ≡ k) × (asked ≡ a)
-    Puts other k a = ⊥
-
     pub homes : ((k : ℕ) (a : Asked) → LiesAt w' k a → LiesAt w k a ⊎ (0 < (word_at w k).state → IsBorn w (call_id k (word_at w k).first) a)) → (k : ℕ) (a : Asked) → k < q.slots → 0 < (word_at w' k).state → LiesAt w' k a → IsBorn w' (call_id k (word_at w' k).first) a
     homes before k a inside live there = by_made made
       where
@@ -158,3 +154,4 @@ module _ (p : Plan) (q : IdPlan) (clients : List (List Task)) (w w' : Scene) (m 
             (λ here. let is : a ≡ asked = lies a (subst (λ n. LiesAt w' n a) (sym here) there) in
             subst (λ n. IsBorn w' (call_id n (word_at w' n).first) a) here (subst (λ n. IsBorn w' (call_id i n) a) (sym (ap (λ (x : Parts). x.first) word)) (subst (λ c. IsBorn w' (call_id i (word_at w i).first) c) (sym is) (subst (In (record { id = call_id i (word_at w i).first; asked = asked })) (sym same) (inl refl)))))
             (λ ne. let x = others k inside ne in kept (ap (λ (y : Parts). y.first) x.word) (subst (λ (y : Parts). 0 < y.state) x.word live))
+

@@ -11,3 +11,5 @@ pub mod Slots
 pub mod SlotTicks
 pub mod Births
 pub mod BirthTicks
+pub mod Laters
+pub mod Moving

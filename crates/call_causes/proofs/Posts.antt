@@ -90,7 +90,7 @@ module _ (p : Plan) (q : IdPlan) (clients : List (List Task)) where
       way v m (not (is_first (id_first id) (parts found))) (k WasGone) one_ s (λ _ s1. (goes WasGone v m l s1 (again_same m m free refl)).1)
       (λ here s1. way v m (is_stale e (parts found)) (k WasStale) two s1 (λ _ s2. (goes WasStale v m l s2 (again_same m m free refl)).1)
       (λ _ s2. way v m (is_full (parts found)) (k (WasCrowded (code_of (parts found).oldest) (code_of (parts found).second))) (Round (Posts id e found) k) s2
-      (λ full s3. let c = codes (not_zero (parts found).second (and_right (eqb (parts found).state 2) (not (eqb (parts found).second 0)) full)) in
+      (λ full s3. let c = codes (eqb-true (parts found).state 2 (and_left (eqb (parts found).state 2) (not (eqb (parts found).second 0)) full)) (not_zero (parts found).second (and_right (eqb (parts found).state 2) (not (eqb (parts found).second 0)) full)) in
       (goes (WasCrowded (code_of (parts found).oldest) (code_of (parts found).second)) v m l s3 (again_same m m free refl, c.0, c.1)).1)
       (λ _ _. ((free, not_true (is_first (id_first id) (parts found)) here), λ exit v' m' l' s' lv. goes exit v' m' (far p q clients w v v' l l') s' lv))))
 

@@ -93,7 +93,7 @@ SaidBy w other = Unit {0}
 
 -- where two errors wait in a word that was found, they have codes
 abbrev pub HasCodes : ℕ → Type 0
-HasCodes word = (parts word).second ≢ 0 → IsErrorCode (code_of (parts word).oldest) × IsErrorCode (code_of (parts word).second)
+HasCodes word = (parts word).state ≡ 2 → (parts word).second ≢ 0 → IsErrorCode (code_of (parts word).oldest) × IsErrorCode (code_of (parts word).second)
 
 -- the bytes' frames behind those of the rest are those that follow
 abbrev pub GoesFrom : List ℕ → List ℕ → Type 0

@@ -211,6 +211,10 @@ module _ (p : Plan) (q : IdPlan) (clients : List (List Task)) where
   abbrev pub IsTakenWith : Scene → ℕ → Type 0
   IsTakenWith w i = (0 < (word_at w i).state → tag_at w i ≢ 0) × (tag_at w i ≡ 0 → (word_at w i).state ≡ 0)
 
+  -- the second error waits behind the oldest
+  abbrev pub HasOldest : ℕ → Type 0
+  HasOldest found = 0 < (parts found).state → (parts found).oldest ≡ 0 → (parts found).second ≡ 0
+
   abbrev pub KnowsStep : Scene → (step : Step) → Found step → Type 0
   KnowsStep w (ClaimId i) found = (i < q.slots) × (found ≡ tag_at w i) × IsTakenWith w i
   KnowsStep w (PutCall i asked) found = i < q.slots
@@ -218,9 +222,9 @@ module _ (p : Plan) (q : IdPlan) (clients : List (List Task)) where
   KnowsStep w (StoreCall o id) found = (o < q.operations) × (id ≢ 0)
   KnowsStep w (LoadCall o) found = (o < q.operations) × (found ≡ slice_index w.core.calls.words (call_word q o))
   KnowsStep w (StoreAt o x) found = o < q.operations
-  KnowsStep w (LoadIdWord i) found = IsWordAt w i found × ((parts found).state < 3)
+  KnowsStep w (LoadIdWord i) found = IsWordAt w i found × HasOldest found
   KnowsStep w (LockId i from) found = IsWordAt w i found × ((parts from).state ≡ 1) × IsTakenWith w i
-  KnowsStep w (PostId i from e) found = IsWordAt w i found × (((parts from).state ≡ 1) ⊎ (((parts from).state ≡ 2) × ((parts from).second ≡ 0))) × (e < 32768) × IsTakenWith w i
+  KnowsStep w (PostId i from e) found = IsWordAt w i found × (((parts from).state ≡ 1) ⊎ (((parts from).state ≡ 2) × ((parts from).second ≡ 0))) × (e < 32768) × IsTakenWith w i × HasOldest found
   KnowsStep w (UnlockId i from advance) found = IsWordAt w i found × ((parts from).state ≡ 2) × ((parts from).attempt + advance_of advance ≤ 6)
   KnowsStep w (EndId i) found = IsWordAt w i found
   KnowsStep w (FreeId i) found = i < q.slots
