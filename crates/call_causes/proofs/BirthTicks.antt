@@ -20,7 +20,7 @@ use Rattle.call_causes.specs.Scenes.{Birth, Scene, In, IsBorn}
 use Rattle.call_causes.specs.Says.{Claims, Holds, Mark, MayAside}
 use Rattle.call_causes.specs.Stories.{word_at, LiesAt, SlotFits, HasPassed, IsCurrent, AreApart, AllApart, BirthsLaw, IsBehind, KnowsStep, put_of, born_by}
 use Rattle.call_causes.proofs.Effects.{SameAt, beside, word_is, lies_is}
-use Rattle.call_causes.proofs.Births.{Turn, keeps, ends, makes, IsMake, turn, there_still}
+use Rattle.call_causes.proofs.Births.{Turn, keeps, ends, makes, IsMake, IsEnd, turn, there_still}
 
 -- ## Ids apart
 
@@ -51,11 +51,11 @@ module _ (p : Plan) (q : IdPlan) (clients : List (List Task)) (w w' : Scene) (m 
   -- whether the step made an id
   pub data Made : Type 0 where
     no_more : w'.births ≡ w.births → ((k : ℕ) → IsMake step k → ⊥) → Made
-    one_more : (i : ℕ) (asked : Asked) → i < q.slots → m.slot ≡ Claims i (Some asked) → w'.births ≡ (record { id = call_id i (word_at w i).first; asked = asked }) ∷ w.births → (word_at w i).state ≡ 0 → word_at w' i ≡ made_word (word_at w i).first asked.range
+    one_more : (i : ℕ) (asked : Asked) → IsMake step i → i < q.slots → m.slot ≡ Claims i (Some asked) → w'.births ≡ (record { id = call_id i (word_at w i).first; asked = asked }) ∷ w.births → (word_at w i).state ≡ 0 → word_at w' i ≡ made_word (word_at w i).first asked.range
         → (2 ≤ asked.range) × (asked.range ≤ 8) → ((a : Asked) → LiesAt w' i a → a ≡ asked) → ((k : ℕ) → k < q.slots → i ≢ k → SameAt p q clients k w w') → Made
 
-  module _ (made : Made) (fresh : (c : Birth) (i : ℕ) (asked : Asked) → In c w.births → m.slot ≡ Claims i (Some asked) → asked.operation ≢ c.asked.operation) where
-    turns : (k : ℕ) → k < q.slots → Turn (IsMake step k) (word_at w k) (word_at w' k)
+  module _ (made : Made) (fresh : (c : Birth) (i : ℕ) (asked : Asked) → IsMake step i → In c w.births → m.slot ≡ Claims i (Some asked) → asked.operation ≢ c.asked.operation) where
+    turns : (k : ℕ) → k < q.slots → Turn (IsMake step k) (IsEnd step k) (word_at w k) (word_at w' k)
     turns k inside = turn p q clients w w' m plan sized fits step found b knows may k inside
 
     slot_of : (i first : ℕ) → first ≤ 67108856 → (id_slot (call_id i first) ≡ i) × (id_first (call_id i first) ≡ first)
@@ -65,14 +65,14 @@ module _ (p : Plan) (q : IdPlan) (clients : List (List Task)) (w w' : Scene) (m 
     IsFitting c = (id_slot c.id < q.slots) × (2 ≤ c.asked.range) × (c.asked.range ≤ 8) × (HasPassed w' c ⊎ IsCurrent w' c)
 
     old_fits : (c : Birth) → In c w.births → IsFitting c
-    old_fits c there = let x = law.born c there in (x.0, x.1, x.2, there_still p q clients w w' m plan sized fits (IsMake step (id_slot c.id)) c (turns (id_slot c.id) x.0) x.3)
+    old_fits c there = let x = law.born c there in (x.0, x.1, x.2, there_still p q clients w w' m plan sized fits (IsMake step (id_slot c.id)) (IsEnd step (id_slot c.id)) c (turns (id_slot c.id) x.0) x.3)
 
     pub born : (c : Birth) → In c w'.births → IsFitting c
     born c there = by_made made
       where
         by_made : Made → IsFitting c
         by_made (no_more same none_) = old_fits c (subst (In c) same there)
-        by_made (one_more i asked inside slot same free word range lies others) = by_place (subst (In c) same there)
+        by_made (one_more i asked is_make inside slot same free word range lies others) = by_place (subst (In c) same there)
           where
             by_place : In c ((record { id = call_id i (word_at w i).first; asked = asked }) ∷ w.births) → IsFitting c
             by_place (inl new) = let s = slot_of i (word_at w i).first (low i inside) in subst IsFitting (sym new) (
@@ -90,7 +90,7 @@ module _ (p : Plan) (q : IdPlan) (clients : List (List Task)) (w w' : Scene) (m 
       where
         by_made : Made → IsBorn w' id asked
         by_made (no_more same none_) = subst (In (record { id = id; asked = asked })) (sym same) there
-        by_made (one_more i a inside slot same free word range lies others) = subst (In (record { id = id; asked = asked })) (sym same) (inr there)
+        by_made (one_more i a is_make inside slot same free word range lies others) = subst (In (record { id = id; asked = asked })) (sym same) (inr there)
 
     pub alive : (k : ℕ) → k < q.slots → 0 < (word_at w' k).state → (asked : Asked) × IsBorn w' (call_id k (word_at w' k).first) asked
     alive k inside live = by_made made
@@ -98,14 +98,14 @@ module _ (p : Plan) (q : IdPlan) (clients : List (List Task)) (w w' : Scene) (m 
         kept : (word_at w' k).first ≡ (word_at w k).first → 0 < (word_at w k).state → (asked : Asked) × IsBorn w' (call_id k (word_at w' k).first) asked
         kept first before = let x = law.alive k inside before in (x.0, subst (λ n. IsBorn w' (call_id k n) x.0) (sym first) (born_still (call_id k (word_at w k).first) x.0 x.1))
 
-        by_turn : ((IsMake step k) → ⊥) → Turn (IsMake step k) (word_at w k) (word_at w' k) → (asked : Asked) × IsBorn w' (call_id k (word_at w' k).first) asked
+        by_turn : ((IsMake step k) → ⊥) → Turn (IsMake step k) (IsEnd step k) (word_at w k) (word_at w' k) → (asked : Asked) × IsBorn w' (call_id k (word_at w' k).first) asked
         by_turn none_ (keeps first range on back) = kept first (back live)
-        by_turn none_ (ends first over) = absurd (omega (arith, live, over))
+        by_turn none_ (ends it first over) = absurd (omega (arith, live, over))
         by_turn none_ (makes is free first one) = absurd (none_ is)
 
         by_made : Made → (asked : Asked) × IsBorn w' (call_id k (word_at w' k).first) asked
         by_made (no_more same none_) = by_turn (none_ k) (turns k inside)
-        by_made (one_more i asked low_ slot same free word range lies others) = dite (ℕ_discrete i k)
+        by_made (one_more i asked is_make low_ slot same free word range lies others) = dite (ℕ_discrete i k)
             (λ here. subst (λ n. (a : Asked) × IsBorn w' (call_id n (word_at w' n).first) a) here
             (asked, subst (λ n. IsBorn w' (call_id i n) asked) (sym (ap (λ (x : Parts). x.first) word)) (subst (In (record { id = call_id i (word_at w i).first; asked = asked })) (sym same) (inl refl))))
             (λ ne. let x = others k inside ne in kept (ap (λ (y : Parts). y.first) x.word) (subst (λ (y : Parts). 0 < y.state) x.word live))
@@ -115,7 +115,7 @@ module _ (p : Plan) (q : IdPlan) (clients : List (List Task)) (w w' : Scene) (m 
       where
         by_made : Made → AllApart w'.births
         by_made (no_more same none_) = subst AllApart (sym same) law.apart
-        by_made (one_more i asked inside slot same free word range lies others) = subst AllApart (sym same) (all_in (AreApart (record { id = call_id i (word_at w i).first; asked = asked })) w.births each, law.apart)
+        by_made (one_more i asked is_make inside slot same free word range lies others) = subst AllApart (sym same) (all_in (AreApart (record { id = call_id i (word_at w i).first; asked = asked })) w.births each, law.apart)
           where
             spaced : (c : Birth) → In c w.births → (call_id i (word_at w i).first + asked.range ≤ c.id) ⊎ (c.id + c.asked.range ≤ call_id i (word_at w i).first)
             spaced c there = let x = law.born c there in let own = low i inside in let other = low (id_slot c.id) x.0 in
@@ -133,7 +133,7 @@ module _ (p : Plan) (q : IdPlan) (clients : List (List Task)) (w w' : Scene) (m 
                     by_test Rattle.std.proofs.Common.false is = inr (let z = Rattle.std.proofs.Common.ltb-false x y is in omega (arith, z, ne))
 
             each : (c : Birth) → In c w.births → AreApart (record { id = call_id i (word_at w i).first; asked = asked }) c
-            each c there = (spaced c there, fresh c i asked there slot)
+            each c there = (spaced c there, fresh c i asked is_make there slot)
 
     -- ## What lies at home
 
@@ -143,14 +143,14 @@ module _ (p : Plan) (q : IdPlan) (clients : List (List Task)) (w w' : Scene) (m 
         kept : (word_at w' k).first ≡ (word_at w k).first → 0 < (word_at w k).state → IsBorn w' (call_id k (word_at w' k).first) a
         kept first now = subst (λ n. IsBorn w' (call_id k n) a) (sym first) (born_still (call_id k (word_at w k).first) a (⊎_elim (λ lies. law.homes k a inside now lies) (λ f. f now) (before k a there)))
 
-        by_turn : ((IsMake step k) → ⊥) → Turn (IsMake step k) (word_at w k) (word_at w' k) → IsBorn w' (call_id k (word_at w' k).first) a
+        by_turn : ((IsMake step k) → ⊥) → Turn (IsMake step k) (IsEnd step k) (word_at w k) (word_at w' k) → IsBorn w' (call_id k (word_at w' k).first) a
         by_turn none_ (keeps first range on back) = kept first (back live)
-        by_turn none_ (ends first over) = absurd (omega (arith, live, over))
+        by_turn none_ (ends it first over) = absurd (omega (arith, live, over))
         by_turn none_ (makes is free first one) = absurd (none_ is)
 
         by_made : Made → IsBorn w' (call_id k (word_at w' k).first) a
         by_made (no_more same none_) = by_turn (none_ k) (turns k inside)
-        by_made (one_more i asked low_ slot same free word range lies others) = dite (ℕ_discrete i k)
+        by_made (one_more i asked is_make low_ slot same free word range lies others) = dite (ℕ_discrete i k)
             (λ here. let is : a ≡ asked = lies a (subst (λ n. LiesAt w' n a) (sym here) there) in
             subst (λ n. IsBorn w' (call_id n (word_at w' n).first) a) here (subst (λ n. IsBorn w' (call_id i n) a) (sym (ap (λ (x : Parts). x.first) word)) (subst (λ c. IsBorn w' (call_id i (word_at w i).first) c) (sym is) (subst (In (record { id = call_id i (word_at w i).first; asked = asked })) (sym same) (inl refl)))))
             (λ ne. let x = others k inside ne in kept (ap (λ (y : Parts). y.first) x.word) (subst (λ (y : Parts). 0 < y.state) x.word live))

@@ -23,6 +23,7 @@ use Rattle.call_causes.specs.Says.{Claims, Holds, Mark, MayAside}
 use Rattle.call_causes.specs.Stories.{word_at, LiesAt, SlotFits, BirthsLaw, IsBehind, KnowsStep, put_of, born_by, claimed_by}
 use Rattle.call_causes.proofs.Streams.{frames_stay}
 use Rattle.call_causes.proofs.Effects.{SameAt, beside, word_is, lies_is}
+use Rattle.call_causes.proofs.Births.{IsMake}
 use Rattle.call_causes.proofs.BirthTicks.{Made, no_more, one_more, one_call, born, born_still, apart}
 
 in_behind : {A : Type 0} (x : A) (xs ys : List A) → In x ys → In x (xs ++ ys)
@@ -36,7 +37,7 @@ module _ (p : Plan) (q : IdPlan) (clients : List (List Task)) (w w' : Scene) (m 
   made_of (MakeId i range) found b knows may =
       let f = subst (SlotFits q w) may.3 fits in
       let word = word_is p q clients w w' m plan i knows.0.0 sized (packed (made_word (parts found).first range)) b.words ∙ parts_packed (made_word (parts found).first range) (omega arith) (let z = knows.2 in omega (arith, z)) knows.3 (omega arith) (omega arith) (omega arith) in
-      one_more i may.0 knows.0.0 may.3
+      one_more i may.0 refl knows.0.0 may.3
       (b.births ∙ (ap (λ s. born_by p q clients (call_id i (parts found).first) (put_of p q clients s) ++ w.births) may.3 ∙ ap (λ (y : Parts). (record { id = call_id i y.first; asked = may.0 }) ∷ w.births) knows.0.1))
       f.2 (word ∙ (ap (λ (y : Parts). made_word y.first range) knows.0.1 ∙ ap (made_word (word_at w i).first) may.4)) (subst (λ n. (2 ≤ n) × (n ≤ 8)) may.4 (knows.2, knows.3))
       (λ a lies. f.3 a (ap (λ hs. get_elem? hs i) (sym b.homes) ∙ lies)) (λ k inside ne. beside p q clients w w' m plan (MakeId i range) found b k inside ne)
@@ -185,7 +186,7 @@ module _ (p : Plan) (q : IdPlan) (clients : List (List Task)) (w w' : Scene) (m 
 
   -- no call is given up: there is room for each
   pub later : (step : Step) (found : Found step) (b : Behind step found) (knows : KnowsStep p q clients w step found) (may : MayAside p q clients w m step) → w'.core.words ≡ w.core.words → HasRoom p q clients w'
-      → ((c : Birth) (i : ℕ) (asked : Asked) → In c w.births → m.slot ≡ Claims i (Some asked) → asked.operation ≢ c.asked.operation) → Later p q clients w w'
+      → ((c : Birth) (i : ℕ) (asked : Asked) → IsMake step i → In c w.births → m.slot ≡ Claims i (Some asked) → asked.operation ≢ c.asked.operation) → Later p q clients w w'
   later step found b knows may words room fresh = let made = made_of step found b knows may in record {
     said = λ o x s. b.sayings (record { number = o; outcome = x }) s;
     named = λ n named e. named (ap (λ ws. get_or ws (Rattle.sock_model.specs.Layout.name_word p n) 0) (sym words) ∙ e);

@@ -13,3 +13,5 @@ pub mod Births
 pub mod BirthTicks
 pub mod Laters
 pub mod Moving
+pub mod Numbered
+pub mod Sayings
