@@ -15,3 +15,5 @@ pub mod Laters
 pub mod Moving
 pub mod Numbered
 pub mod Sayings
+pub mod SayingsOwed
+pub mod Chains

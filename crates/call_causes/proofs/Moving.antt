@@ -31,7 +31,7 @@ module _ (p : Plan) (q : IdPlan) (clients : List (List Task)) where
   in_done (d ∷ done) todo t (inl same) = in_todo done (d ∷ todo) t (inl same)
   in_done (d ∷ done) todo t (inr there) = in_done done (d ∷ todo) t there
 
-  listed : (cs : List (List Task)) (c : ℕ) (t : Task) → In t (get_or cs c []) → (ts : List Task) × (Rattle.std.specs.Prelude.slice_get cs c ≡ Some ts) × In t ts
+  pub listed : (cs : List (List Task)) (c : ℕ) (t : Task) → In t (get_or cs c []) → (ts : List Task) × (Rattle.std.specs.Prelude.slice_get cs c ≡ Some ts) × In t ts
   listed [] c t there = absurd there
   listed (ts ∷ cs) Rattle.std.proofs.Common.zero t there = (ts, refl, there)
   listed (ts ∷ cs) (Rattle.std.proofs.Common.suc c) t there = listed cs c t there
