@@ -109,7 +109,7 @@ module _ (p : Plan) (q : IdPlan) (clients : List (List Task)) (w w' : Scene) (m 
   touched (TakeBytes l room) found b knows may k low t = absurd t
 
   -- whether a step is made at the slot
-  tests : (step : Step) (k : ℕ) → Touches step k ⊎ (Touches step k → ⊥)
+  pub tests : (step : Step) (k : ℕ) → Touches step k ⊎ (Touches step k → ⊥)
   tests (ClaimId i) k = dite (ℕ_discrete i k) (λ e. inl e) (λ n. inr n)
   tests (PutCall i asked) k = dite (ℕ_discrete i k) (λ e. inl e) (λ n. inr n)
   tests (MakeId i range) k = dite (ℕ_discrete i k) (λ e. inl e) (λ n. inr n)

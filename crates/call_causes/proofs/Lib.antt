@@ -17,3 +17,4 @@ pub mod Numbered
 pub mod Sayings
 pub mod SayingsOwed
 pub mod Chains
+pub mod Errors

@@ -49,10 +49,10 @@ module _ (p : Plan) (q : IdPlan) (clients : List (List Task)) (numbered : AreNum
 
   -- of no other range that has not ended, or is owed its outcome, this was said
   other_range : (c : Birth) → In c w.births → IsCurrent w c ⊎ IsOwed p q clients (set ms j (with_owed [] m)) c → b.asked.operation ≢ c.asked.operation
-  other_range c there open same = ⊎_elim
+  other_range c there unended same = ⊎_elim
       (λ is. ⊎_elim
       (λ now. let z = subst (λ y. IsCurrent w y) is now in let one = z.0 in let two = (births.born b born.0).1 in let over = born.1 in omega (arith, one, two, over))
-      (λ owed. let y = before_at owed.0 owed.1 c owed.2 owed.3 in y.0 (law.owed_once owed.0 j owed.1 m b y.1 at (owed.3 ∙ ap (λ z. z ∷ []) is) owes)) open)
+      (λ owed. let y = before_at owed.0 owed.1 c owed.2 owed.3 in y.0 (law.owed_once owed.0 j owed.1 m b y.1 at (owed.3 ∙ ap (λ z. z ∷ []) is) owes)) unended)
       (λ apart. ⊎_elim (λ a. a.1 (sym same)) (λ a. a.1 same) apart) (two_of w.births births.apart c b there born.0)
 
   pub say_owed : TasksLaw p q clients w (set os b.asked.operation (Some x)) ((record { number = b.asked.operation; outcome = x }) ∷ ss) (set ms j (with_owed [] m))
@@ -68,7 +68,7 @@ module _ (p : Plan) (q : IdPlan) (clients : List (List Task)) (numbered : AreNum
     fresh = λ l n u there. at_either p q clients numbered w births os ss ms law j m at (λ l n. In u (ahead p q clients n.makes n.todo) → IsUntold p q clients (set os b.asked.operation (Some x)) u.number) (with_owed [] m)
         (λ here. got_other os b.asked.operation u.number (Some x) (other_task j m u at here) ∙ law.fresh j m u at here)
         (λ l n ne there here. got_other os b.asked.operation u.number (Some x) (other_task l n u there here) ∙ law.fresh l n u there here) l n there;
-    untold = λ c there open. got_other os b.asked.operation c.asked.operation (Some x) (other_range c there open) ∙ law.untold c there (⊎_elim (λ now. inl now) (λ owed. let y = before_at owed.0 owed.1 c owed.2 owed.3 in inr (owed.0, owed.1, y.1, owed.3)) open);
+    untold = λ c there unended. got_other os b.asked.operation c.asked.operation (Some x) (other_range c there unended) ∙ law.untold c there (⊎_elim (λ now. inl now) (λ owed. let y = before_at owed.0 owed.1 c owed.2 owed.3 in inr (owed.0, owed.1, y.1, owed.3)) unended);
     ended = λ c there passed. ⊎_elim (λ y. inl y) (λ owed. dite (ℕ_discrete owed.0 j)
         (λ here. let e : b ∷ [] ≡ c ∷ [] = sym owes ∙ (ap (λ (y : Mark). y.owes) (sym (same_mark owed.0 j owed.1 m owed.2 at here)) ∙ owed.3) in let is : b ≡ c = cc in
         inl (subst (λ y. (v : Outcome) × Said w y.asked.operation v × WhyEnded p q clients w y v) is (x, said_x, why)))
