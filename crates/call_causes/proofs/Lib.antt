@@ -18,3 +18,4 @@ pub mod Sayings
 pub mod SayingsOwed
 pub mod Chains
 pub mod Errors
+pub mod TaskTicks
