@@ -19,3 +19,4 @@ pub mod SayingsOwed
 pub mod Chains
 pub mod Errors
 pub mod TaskTicks
+pub mod TaskSteps
