@@ -137,11 +137,11 @@ module _ (p : Plan) (q : IdPlan) (clients : List (List Task)) (w w' : Scene) (m 
 
     -- ## What lies at home
 
-    pub homes : ((k : ℕ) (a : Asked) → LiesAt w' k a → LiesAt w k a ⊎ (0 < (word_at w k).state → IsBorn w (call_id k (word_at w k).first) a)) → (k : ℕ) (a : Asked) → k < q.slots → 0 < (word_at w' k).state → LiesAt w' k a → IsBorn w' (call_id k (word_at w' k).first) a
+    pub homes : ((k : ℕ) (a : Asked) → k < q.slots → LiesAt w' k a → LiesAt w k a ⊎ (0 < (word_at w k).state → IsBorn w (call_id k (word_at w k).first) a)) → (k : ℕ) (a : Asked) → k < q.slots → 0 < (word_at w' k).state → LiesAt w' k a → IsBorn w' (call_id k (word_at w' k).first) a
     homes before k a inside live there = by_made made
       where
         kept : (word_at w' k).first ≡ (word_at w k).first → 0 < (word_at w k).state → IsBorn w' (call_id k (word_at w' k).first) a
-        kept first now = subst (λ n. IsBorn w' (call_id k n) a) (sym first) (born_still (call_id k (word_at w k).first) a (⊎_elim (λ lies. law.homes k a inside now lies) (λ f. f now) (before k a there)))
+        kept first now = subst (λ n. IsBorn w' (call_id k n) a) (sym first) (born_still (call_id k (word_at w k).first) a (⊎_elim (λ lies. law.homes k a inside now lies) (λ f. f now) (before k a inside there)))
 
         by_turn : ((IsMake step k) → ⊥) → Turn (IsMake step k) (IsEnd step k) (word_at w k) (word_at w' k) → IsBorn w' (call_id k (word_at w' k).first) a
         by_turn none_ (keeps first range on back) = kept first (back live)

@@ -15,8 +15,8 @@ use Rattle.sock_programs.specs.Asides.{Step, ClaimId, PutCall, MakeId, StoreCall
 use Rattle.sock_programs.specs.Asides as asides
 use Rattle.call_causes.specs.Lists.{given}
 use Rattle.call_causes.specs.Scenes.{Birth, Claim, Saying, Scene, In, IsBorn, IsErrorCode, IsTaskOf, HasBegunIn, CauseOf, of_expiry, of_other, Begun, AreTold, Later}
-use Rattle.call_causes.specs.Says.{Slot, NoSlot, Claims, Locked, Holds, Leaves, Mark, with_slot, with_owed, with_made, with_done, IsFree, put_in, taken_out, given_more, HasCodes, MayAside, Moves}
-use Rattle.call_causes.specs.Stories.{At, word_at, LiesAt, SlotFits, IsCurrent, BirthsLaw, TasksLaw, ClaimsLaw, ReadsLaw, undo, IsBehind, KnowsStep, put_of, born_by, ended_of, stored_by, mark_after}
+use Rattle.call_causes.specs.Says.{Slot, NoSlot, Claims, Locked, Holds, Leaves, Mark, with_slot, with_owed, with_made, with_done, IsFree, put_in, taken_out, given_more, IsVacant, HasCodes, MayAside, Moves}
+use Rattle.call_causes.specs.Stories.{At, word_at, LiesAt, SlotFits, IsCurrent, BirthsLaw, TasksLaw, ClaimsLaw, ReadsLaw, undo, ahead, unclaimed, IsBehind, KnowsStep, put_of, born_by, ended_of, stored_by, mark_after}
 use Rattle.call_causes.proofs.Lasting.{cause_on, are_told_on}
 use Rattle.call_causes.proofs.Laters.{stored_is}
 
@@ -40,6 +40,14 @@ module _ (p : Plan) (q : IdPlan) (clients : List (List Task)) where
   error_code w id e (of_expiry asked is born x) = inl (ap code_of is ∙ omega arith)
   error_code w id e (of_other x) = inr x
 
+  -- for a seat that holds no id no slot was claimed
+  free_unclaimed : (s : Slot) (bs : List Birth) (todo : List Task) (t : Task) → IsVacant s → bs ≡ [] → In t todo → In t (unclaimed p q clients s bs todo)
+  free_unclaimed NoSlot bs todo t v is there = subst (λ xs. In t (ahead p q clients xs todo)) (sym is) there
+  free_unclaimed (Leaves i) bs todo t v is there = subst (λ xs. In t (ahead p q clients xs todo)) (sym is) there
+  free_unclaimed (Claims i c) bs todo t v is there = absurd v
+  free_unclaimed (Locked i f range) bs todo t v is there = absurd v
+  free_unclaimed (Holds i f range asked) bs todo t v is there = absurd v
+
 module _ (p : Plan) (q : IdPlan) (clients : List (List Task)) (w w' : Scene) (ms : List Mark) (os : List (Option Outcome)) (ss : List Saying) (j : ℕ) (m : Mark) (plan : w.core.calls.plan ≡ q) (sized : length w.core.calls.words ≡ all_words q) (fits : SlotFits q w m.slot)
     (law : BirthsLaw p q clients w) (low : (k : ℕ) → k < q.slots → (word_at w k).first ≤ 67108856) (at : At ms j m) (tasks : TasksLaw p q clients w os ss ms) (claims : ClaimsLaw p q clients w ms) (reads : ReadsLaw p q clients w ms) (l : Later p q clients w w') where
   pub task_at : (k : ℕ) (n : Mark) (t : Task) → At ms k n → In t n.done → IsTaskOf p q clients k t
@@ -60,7 +68,7 @@ module _ (p : Plan) (q : IdPlan) (clients : List (List Task)) (w w' : Scene) (ms
     (λ z. ap (λ c. cond c (with_slot (Claims i None) m) m) (eq-eqb found 0 z)),
     (λ ne. (
       ap (λ c. cond c (with_slot (Claims i None) m) m) (ne_eqb found 0 ne),
-      λ t ts todo. let x = claims.taken i knows.0 (λ e. ne (knows.1 ∙ e)) in (x.0, l.claimed i x.0 x.1, λ same. claims.free j m t ts at may.0 todo i (subst (λ n. In (record { slot = i; operation = n }) w.claims) same x.1)),
+      λ t ts todo. let x = claims.taken i knows.0 (λ e. ne (knows.1 ∙ e)) in (x.0, l.claimed i x.0 x.1, λ same. claims.free j m t at (free_unclaimed p q clients m.slot m.makes m.todo t may.0.0 may.0.2 (subst (In t) (sym todo) (inl refl))) i (subst (λ n. In (record { slot = i; operation = n }) w.claims) same x.1)),
     )),
   )
   moves (PutCall i asked) found b knows may = refl

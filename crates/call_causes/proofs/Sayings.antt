@@ -88,7 +88,7 @@ module _ (p : Plan) (q : IdPlan) (clients : List (List Task)) (numbered : AreNum
 
   -- ## The task that is to be done
 
-  module _ (t : Task) (ts : List Task) (todo : m.todo ≡ t ∷ ts) (owes : m.owes ≡ []) (makes : m.makes ≡ []) (told : ToldOf p q clients w m.client m.done t) where
+  module _ (t : Task) (ts : List Task) (todo : m.todo ≡ t ∷ ts) (owes : m.owes ≡ []) (makes : m.makes ≡ []) where
     abbrev m' : Mark
     m' = with_done t ts m
 
@@ -109,16 +109,16 @@ module _ (p : Plan) (q : IdPlan) (clients : List (List Task)) (numbered : AreNum
     other_ahead u there = in_all (λ (x : Task). t.number ≢ x.number) ts (subst AllDistinct todo (distinct_at j m at).0).0 u there
 
     -- nor has any call that was begun
-    other_call : (b : Birth) → In b w.births → t.number ≢ b.asked.operation
+    pub other_call : (b : Birth) → In b w.births → t.number ≢ b.asked.operation
     other_call b there same = let x = law.begun b there in ⊎_elim
         (λ done. other_task x.0 x.1 x.2 x.3 (inl done) (same ∙ sym x.4.1))
         (λ pending. let c = numbered.apart j x.0 t x.2 (is_todo j m t at is_here) (is_todo x.0 x.1 x.2 x.3 (subst (In x.2) (sym pending.1) (inl refl))) (same ∙ sym x.4.1) in
         let z : b ∷ [] ≡ [] = sym pending.2 ∙ (ap (λ (y : Mark). y.makes) (one_mark x.0 x.1 x.3 (sym c)) ∙ makes) in absurd cc) x.4.2
 
     -- the marks with one task more that is done
-    pub done_law : (os' : List (Option Outcome)) (ss' : List Saying) → ((o : ℕ) (x : Outcome) → In (record { number = o; outcome = x }) ss' → slice_get os' o ≡ Some (Some x)) → ((o : ℕ) (x : Outcome) → slice_get os' o ≡ Some (Some x) → In (record { number = o; outcome = x }) ss')
+    pub done_law : ToldOf p q clients w m.client m.done t → (os' : List (Option Outcome)) (ss' : List Saying) → ((o : ℕ) (x : Outcome) → In (record { number = o; outcome = x }) ss' → slice_get os' o ≡ Some (Some x)) → ((o : ℕ) (x : Outcome) → slice_get os' o ≡ Some (Some x) → In (record { number = o; outcome = x }) ss')
         → ((o : ℕ) → t.number ≢ o → slice_get os' o ≡ slice_get os o) → TasksLaw p q clients w os' ss' (set ms j (with_done t ts m))
-    done_law os' ss' said outcomes others = record {
+    done_law told os' ss' said outcomes others = record {
       client = at_either (λ l n. n.client ≡ l) (with_done t ts m) (law.client j m at) (λ l n ne there. law.client l n there);
       placed = at_either (λ l n. undo p q clients n.done n.todo ≡ get_or clients l []) (with_done t ts m) (ap (undo p q clients m.done) (sym todo) ∙ law.placed j m at) (λ l n ne there. law.placed l n there);
       told = at_either (λ l n. Rattle.call_causes.specs.Scenes.AreTold p q clients w n.client n.done) (with_done t ts m) (told, law.told j m at) (λ l n ne there. law.told l n there);
@@ -143,9 +143,9 @@ module _ (p : Plan) (q : IdPlan) (clients : List (List Task)) (numbered : AreNum
         before : (b : Birth) → IsOwed p q clients (set ms j (with_done t ts m)) b → IsOwed p q clients ms b
         before b owed = let x = before_at owed.0 owed.1 b owed.2 owed.3 in (owed.0, x.0, x.1, x.2)
 
-    pub say_own : (x : Outcome) → TasksLaw p q clients w (set os t.number (Some x)) ((record { number = t.number; outcome = x }) ∷ ss) (set ms j (with_done t ts m))
-    say_own x = done_law (set os t.number (Some x)) ((record { number = t.number; outcome = x }) ∷ ss) (said_more t.number x untold_here) (outcomes_more t.number x untold_here) (λ o ne. got_other os t.number o (Some x) ne)
+    pub say_own : ToldOf p q clients w m.client m.done t → (x : Outcome) → TasksLaw p q clients w (set os t.number (Some x)) ((record { number = t.number; outcome = x }) ∷ ss) (set ms j (with_done t ts m))
+    say_own told x = done_law told (set os t.number (Some x)) ((record { number = t.number; outcome = x }) ∷ ss) (said_more t.number x untold_here) (outcomes_more t.number x untold_here) (λ o ne. got_other os t.number o (Some x) ne)
 
     -- of a message that was accepted nothing is said
-    pub sent_own : TasksLaw p q clients w os ss (set ms j (with_done t ts m))
-    sent_own = done_law os ss law.said law.outcomes (λ o ne. refl)
+    pub sent_own : ToldOf p q clients w m.client m.done t → TasksLaw p q clients w os ss (set ms j (with_done t ts m))
+    sent_own told = done_law told os ss law.said law.outcomes (λ o ne. refl)

@@ -210,3 +210,80 @@ module _ (p : Plan) (q : IdPlan) (clients : List (List Task)) (numbered : AreNum
           let two = (births.born c there).1 in let other = (births.born (record { id = call_id i may.0; asked = may.2 }) may.4).1 in
           ⊎_elim (λ e. e) (λ z. absurd (⊎_elim (λ t. ⊎_elim (λ s. omega (arith, s, id, other)) (λ s. omega (arith, s, id, two)) t.0) (λ t. ⊎_elim (λ s. omega (arith, s, id, two)) (λ s. omega (arith, s, id, other)) t.0) z))
           (two_of w.births births.apart (record { id = call_id i may.0; asked = may.2 }) c may.4 there)
+
+  -- ## An id is made
+
+  module _ (i range : ℕ) (found : ℕ) (b : Behind (MakeId i range) found) (knows : KnowsStep p q clients w (MakeId i range) found) (may : MayAside p q clients w m (MakeId i range)) where
+    abbrev new : Birth
+    new = record { id = call_id i (parts found).first; asked = may.0 }
+
+    abbrev made_mark : Mark
+    made_mark = with_made (record { id = call_id i (parts found).first; asked = may.0 } ∷ []) (with_slot NoSlot m)
+
+    births_are : w'.births ≡ record { id = call_id i (parts found).first; asked = may.0 } ∷ w.births
+    births_are = b.births ∙ ap (λ s. born_by p q clients (call_id i (parts found).first) (put_of p q clients s) ++ w.births) may.3
+
+    slot_is : id_slot (call_id i (parts found).first) ≡ i
+    slot_is = let small = knows.1 in omega (arith, small)
+
+    first_is : id_first (call_id i (parts found).first) ≡ (parts found).first
+    first_is = let small = knows.1 in omega (arith, small)
+
+    word : word_at w' i ≡ made_word (parts found).first range
+    word = Rattle.call_causes.proofs.Effects.word_is p q clients w w' m plan i knows.0.0 sized (packed (made_word (parts found).first range)) b.words
+        ∙ Rattle.id_runs.proofs.Keeps.parts_packed (made_word (parts found).first range) (omega arith) (let z = knows.2 in omega (arith, z)) knows.3 (omega arith) (omega arith) (omega arith)
+
+    is_new : IsNew p q clients numbered w w' births os ss ms law j m at l made_mark (record { id = call_id i (parts found).first; asked = may.0 })
+    is_new = record {
+      task = may.1;
+      begun = (may.6, may.7, inr (may.2, may.5, refl));
+      untold = subst (IsUntold p q clients os) may.7 (law.fresh j m may.1 at (subst (λ bs. In may.1 (ahead p q clients bs m.todo)) (sym may.8) (subst (In may.1) (sym may.5) (inl refl))));
+      now = subst (λ n. ((word_at w' n).first ≡ id_first (call_id i (parts found).first)) × (0 < (word_at w' n).state) × ((word_at w' n).range ≡ may.0.range)) (sym slot_is)
+          (ap (λ (x : Parts). x.first) word ∙ sym first_is, subst (λ (x : Parts). 0 < x.state) (sym word) (omega arith), ap (λ (x : Parts). x.range) word ∙ may.4);
+      range = subst (λ n. 2 ≤ n) may.4 knows.2;
+    }
+
+    news : Changes made_mark
+    news = record {
+      client = refl;
+      placed = refl;
+      told = told_still (MakeId i range) found b knows may;
+      done = λ t x. x;
+      begun = λ c u _ x. (x.0, x.1, ⊎_elim (λ d. inl d) (λ y. absurd (let z : c ∷ [] ≡ [] = sym y.2 ∙ may.8 in cc)) x.2);
+      born = λ c x. ⊎_elim (λ same. inr (subst (IsNew p q clients numbered w w' births os ss ms law j m at l made_mark) (sym same) is_new)) (λ old. inl old) (subst (In c) births_are x);
+      made = λ c is. subst (In c) (sym births_are) (inl (let e : c ≡ record { id = call_id i (parts found).first; asked = may.0 } = cc in e));
+      called = λ o inside begun. let z = calls_same (MakeId i range) found b knows o inside (λ x. x) in inl ((λ e. begun (z ∙ e)), z);
+      fresh = λ u x. subst (λ bs. In u (ahead p q clients bs m.todo)) (sym may.8) (in_ahead p q clients (record { id = call_id i (parts found).first; asked = may.0 } ∷ []) m.todo u x);
+      owes = λ c is. inl is;
+      owed_still = λ c is. is;
+      passed = λ c there over. ⊎_elim (λ before. inl before) (λ x. absurd x.1) (passed_or (MakeId i range) found b knows may c there over);
+      current = current_still (MakeId i range) found b knows may;
+      passed_on = over_still (MakeId i range) found b knows may;
+    }
+
+  -- ## Each step
+
+  pub changes : (step : Step) (found : Found step) → Behind step found → KnowsStep p q clients w step found → MayAside p q clients w m step → Changes (mark_after p q clients step found m)
+  changes (ClaimId i) found b knows may = plain (ClaimId i) found b knows may (cond (eqb found 0) (with_slot (Claims i None) m) m) (like_cond m (with_slot (Claims i None) m) m (eqb found 0) (like_slot m (Claims i None)) (like_self m)) b.births (λ k x. x) (λ o x. x)
+  changes (PutCall i asked) found b knows may = let s : Slot = Rattle.call_causes.specs.Says.put_in asked m.slot in plain (PutCall i asked) found b knows may (with_slot s m) (like_slot m s) b.births (λ k x. x) (λ o x. x)
+  changes (MakeId i range) found b knows may = subst Changes (sym (ap (λ s. with_made (born_by p q clients (call_id i (parts found).first) (put_of p q clients s)) (with_slot NoSlot m)) may.3)) (news i range found b knows may)
+  changes (StoreCall o id) found b knows may = subst Changes (sym (ap (λ ts. stored_by p q clients ts m) may.4)) (stores o id found b knows may)
+  changes (LoadCall o) found b knows may = plain (LoadCall o) found b knows may m (like_self m) b.births (λ k x. x) (λ o x. x)
+  changes (StoreAt o x) found b knows may = plain (StoreAt o x) found b knows may m (like_self m) b.births (λ k x. x) (λ o x. x)
+  changes (LoadAt o) found b knows may = plain (LoadAt o) found b knows may m (like_self m) b.births (λ k x. x) (λ o x. x)
+  changes (LoadIdWord i) found b knows may = plain (LoadIdWord i) found b knows may m (like_self m) b.births (λ k x. x) (λ o x. x)
+  changes (LockId i from) found b knows may = let x : Mark = with_slot (Locked i (parts from).first (parts from).range) m in
+      plain (LockId i from) found b knows may (cond (eqb found from) x m) (like_cond m x m (eqb found from) (like_slot m (Locked i (parts from).first (parts from).range)) (like_self m)) b.births (λ k x. x) (λ o x. x)
+  changes (PostId i from e) found b knows may = let x : Mark = with_slot (Locked i (parts from).first (parts from).range) m in let y : Mark = cond (eqb (parts from).state 1) x m in
+      plain (PostId i from e) found b knows may (cond (eqb found from) y m) (like_cond m y m (eqb found from) (like_cond m x m (eqb (parts from).state 1) (like_slot m (Locked i (parts from).first (parts from).range)) (like_self m)) (like_self m)) b.births (λ k x. x) (λ o x. x)
+  changes (UnlockId i from advance) found b knows may = let x : Mark = with_slot NoSlot m in let y : Mark = cond (eqb (parts from).oldest 0) x m in
+      plain (UnlockId i from advance) found b knows may (cond (eqb found from) y m) (like_cond m y m (eqb found from) (like_cond m x m (eqb (parts from).oldest 0) (like_slot m NoSlot) (like_self m)) (like_self m)) b.births (λ k x. x) (λ o x. x)
+  changes (EndId i) found b knows may = subst Changes (sym (ap (λ s. with_owed (ended_of p q clients s) (with_slot (Leaves i) m)) may.3)) (finishes i found b knows may)
+  changes (FreeId i) found b knows may = plain (FreeId i) found b knows may (with_slot NoSlot m) (like_slot m NoSlot) b.births (λ k x. x) (λ o x. x)
+  changes (TakeCall i) found b knows may = let s : Slot = Rattle.call_causes.specs.Says.taken_out found m.slot in plain (TakeCall i) found b knows may (with_slot s m) (like_slot m s) b.births (λ k x. x) (λ o x. x)
+  changes (TakeBytes k room) (Bytes bytes) b knows may = plain (TakeBytes k room) (Bytes bytes) b knows may (Rattle.call_causes.specs.Says.with_bytes (m.bytes ++ bytes) m) (record { client = refl; done = refl; todo = refl; makes = refl; owes = refl }) b.births (λ k x. x) (λ o x. x)
+  changes (TakeBytes k room) asides.Nothing b knows may = plain (TakeBytes k room) asides.Nothing b knows may m (like_self m) b.births (λ k x. x) (λ o x. x)
+  changes (TakeBytes k room) asides.NoMore b knows may = plain (TakeBytes k room) asides.NoMore b knows may m (like_self m) b.births (λ k x. x) (λ o x. x)
+  changes (TakeBytes k room) asides.AtEnd b knows may = plain (TakeBytes k room) asides.AtEnd b knows may m (like_self m) b.births (λ k x. x) (λ o x. x)
+  changes (TakeBytes k room) asides.Closed b knows may = plain (TakeBytes k room) asides.Closed b knows may m (like_self m) b.births (λ k x. x) (λ o x. x)
+  changes (TakeBytes k room) asides.Broken b knows may = plain (TakeBytes k room) asides.Broken b knows may m (like_self m) b.births (λ k x. x) (λ o x. x)

@@ -18,7 +18,7 @@ use Rattle.sock_programs.specs.Posts.{advance_of}
 use Rattle.sock_programs.specs.Cores.{SeatState}
 use Rattle.call_causes.specs.Lists.{given}
 use Rattle.call_causes.specs.Scenes.{Birth, Claim, Saying, Scene, In, Said, IsBorn, IsOther, CauseOf, Begun, IsTaskOf, WhyEnded, AreTold, IsClaimed}
-use Rattle.call_causes.specs.Says.{Slot, NoSlot, Claims, Locked, Holds, Leaves, Mark, with_slot, with_owed, with_made, with_done, put_in, taken_out, given_more, IsFree, SaysOn}
+use Rattle.call_causes.specs.Says.{Slot, NoSlot, Claims, Locked, Holds, Leaves, Mark, with_slot, with_owed, with_made, with_done, put_in, taken_out, given_more, SaysOn}
 
 abbrev pub At : List Mark → ℕ → Mark → Type 0
 At ms j m = get_elem? ms j ≡ core.some m
@@ -137,12 +137,17 @@ module _ (p : Plan) (q : IdPlan) (clients : List (List Task)) where
 
   -- ## Claims and readings
 
+  -- the tasks for which no slot was claimed yet
+  abbrev pub unclaimed : Slot → List Birth → List Task → List Task
+  unclaimed (Claims i c) bs todo = tasks_behind todo
+  unclaimed other bs todo = ahead bs todo
+
   -- each slot that is taken was claimed for a call, and no call claims twice
   pub record ClaimsLaw (w : Scene) (ms : List Mark) : Type 0 where
     pub taken : (i : ℕ) → i < q.slots → tag_at w i ≢ 0 → (o : ℕ) × IsClaimed w i o
     pub calls : (c : Claim) → In c w.claims → (client : ℕ) × (t : Task) × (asked : Asked) × IsTaskOf p q clients client t × (t.op ≡ ops.Call asked) × (t.number ≡ c.operation)
     pub once : (a b : Claim) → In a w.claims → In b w.claims → a.operation ≡ b.operation → a ≡ b
-    pub free : (j : ℕ) (m : Mark) (t : Task) (ts : List Task) → At ms j m → IsFree m → m.todo ≡ t ∷ ts → (i : ℕ) → IsClaimed w i t.number → ⊥
+    pub free : (j : ℕ) (m : Mark) (t : Task) → At ms j m → In t (unclaimed m.slot m.makes m.todo) → (i : ℕ) → IsClaimed w i t.number → ⊥
 
   pub record ReadsLaw (w : Scene) (ms : List Mark) : Type 0 where
     pub bytes : (j k : ℕ) (m : Mark) → At ms j m → m.link ≡ k ∷ [] → given w.core k ≡ m.bytes
