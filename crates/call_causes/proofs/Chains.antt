@@ -31,7 +31,7 @@ sayings_of other ss = ss
 abbrev pub AreFewTries : List Retry → Type 0
 AreFewTries ws = AllByRecursion (λ (r : Retry). r.attempt ≤ 6) ws
 
-set_twice : {A : Type 0} (l : List A) (i : ℕ) (a b : A) → set (set l i a) i b ≡ set l i b
+pub set_twice : {A : Type 0} (l : List A) (i : ℕ) (a b : A) → set (set l i a) i b ≡ set l i b
 set_twice [] i a b = refl
 set_twice (x ∷ xs) zero a b = refl
 set_twice (x ∷ xs) (suc i) a b = ap (λ ys. x ∷ ys) (set_twice xs i a b)
@@ -56,25 +56,25 @@ KeepsFew (Keep r next) = (r.attempt ≤ 6) × KeepsFew next
 KeepsFew (Retries requests after) = KeepsFew after
 KeepsFew other = Unit {0}
 
-module _ (p : Plan) (q : IdPlan) (clients : List (List Task)) (numbered : AreNumbered p q clients) (w : Scene) (births : BirthsLaw p q clients w) (here : Later p q clients w w) (j : ℕ) where
-  -- what is said before the retries are tried is said with what follows
-  said_first : (ws : List Retry) (x : Program) → SaidBy w (resolved ws x) → SaidBy w x
-  said_first ws (Say o outcome next) s = (s.0, said_first ws next s.1)
-  said_first ws (Sent o next) s = said_first ws next s
-  said_first ws (Keep r next) s = said_first (ws ++ r ∷ []) next s
-  said_first [] (Retries requests after) s = tt
-  said_first (r ∷ ws) (Retries requests after) s = tt
-  said_first ws (Do call next) s = tt
-  said_first ws Rest s = tt
-  said_first ws (TakeMessage r next) s = tt
-  said_first ws (TakeHome k next) s = tt
-  said_first ws (PutHome k n after) s = tt
-  said_first ws (PutBytes k asked bytes next) s = tt
-  said_first ws (AskReady k next) s = tt
-  said_first ws (Write v after) s = tt
-  said_first ws (Aside step next) s = tt
-  said_first ws (Round head next) s = tt
+-- what is said before the retries are tried is said with what follows
+pub said_first : (w : Scene) (ws : List Retry) (x : Program) → SaidBy w (resolved ws x) → SaidBy w x
+said_first w ws (Say o outcome next) s = (s.0, said_first w ws next s.1)
+said_first w ws (Sent o next) s = said_first w ws next s
+said_first w ws (Keep r next) s = said_first w (ws ++ r ∷ []) next s
+said_first w [] (Retries requests after) s = tt
+said_first w (r ∷ ws) (Retries requests after) s = tt
+said_first w ws (Do call next) s = tt
+said_first w ws Rest s = tt
+said_first w ws (TakeMessage r next) s = tt
+said_first w ws (TakeHome k next) s = tt
+said_first w ws (PutHome k n after) s = tt
+said_first w ws (PutBytes k asked bytes next) s = tt
+said_first w ws (AskReady k next) s = tt
+said_first w ws (Write v after) s = tt
+said_first w ws (Aside step next) s = tt
+said_first w ws (Round head next) s = tt
 
+module _ (p : Plan) (q : IdPlan) (clients : List (List Task)) (numbered : AreNumbered p q clients) (w : Scene) (births : BirthsLaw p q clients w) (here : Later p q clients w w) (j : ℕ) where
   abbrev pub Behind : Mark → List (Option Outcome) → List Saying → List Mark → Program → Type 0
   Behind m os ss ms x = (m' : Mark) × IsKept m m' × TasksLaw p q clients w (said x os) (sayings_of x ss) (set ms j m') × SaysOn p q clients w m' (next_step x)
 
@@ -108,7 +108,7 @@ module _ (p : Plan) (q : IdPlan) (clients : List (List Task)) (numbered : AreNum
       behind ms m m1 os ss (resolved ws next) (record { client = refl; slot = refl; makes = refl; link = refl; bytes = refl })
       (chain next ws os ss (set ms j m1) m1 (put_at ms j m m1 at) (sent_own p q clients numbered w births os ss ms law j m at g.0 g.1 g.4 free.1 free.2 (was_sent g.2 g.3 g.6 g.7)) g.9 few keeps s)
   chain (Keep r next) ws os ss ms m at law g few keeps s = chain next (ws ++ r ∷ []) os ss ms m at law g (more_tries ws r few keeps.0) keeps.1 s
-  chain (Retries requests after) [] os ss ms m at law g few keeps s = chain after [] os ss ms m at law (g.1 w m here (said_first [] after s) (again_same p q clients m m g.0 refl)) tt keeps s
+  chain (Retries requests after) [] os ss ms m at law g few keeps s = chain after [] os ss ms m at law (g.1 w m here (said_first w [] after s) (again_same p q clients m m g.0 refl)) tt keeps s
   chain (Retries requests after) (r ∷ ws) os ss ms m at law g few keeps s = stays os ss ms m at law (retry requests r.id r.attempt (Retries requests after))
       (retry_says p q clients w m requests r (Retries requests after) g.0 few.0 (λ v m' l _ a. (subst IsFree (sym a.is) (a.vacant, g.0.1, g.0.2), λ v2 m2 l2 s2 a2. g.1 v2 m2 (far p q clients w v v2 l l2) s2 (again_on p q clients m m' m2 a a2))))
   chain (Do call next) ws os ss ms m at law g few keeps s = stays os ss ms m at law (Do call next) g

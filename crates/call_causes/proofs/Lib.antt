@@ -20,3 +20,4 @@ pub mod Chains
 pub mod Errors
 pub mod TaskTicks
 pub mod TaskSteps
+pub mod AsideTicks
