@@ -21,3 +21,4 @@ pub mod Errors
 pub mod TaskTicks
 pub mod TaskSteps
 pub mod AsideTicks
+pub mod SockTicks
