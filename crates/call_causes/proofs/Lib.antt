@@ -22,3 +22,4 @@ pub mod TaskTicks
 pub mod TaskSteps
 pub mod AsideTicks
 pub mod SockTicks
+pub mod End
