@@ -1,25 +1,19 @@
 -- The law of the ids that were made holds behind a step aside, as far as it speaks of no errors.
 use Rattle.std.proofs.Common.{◌≡◌, ◌≢◌, ℕ, ◌+◌, ◌*◌, ◌/◌, ◌%◌, ◌<◌, ◌≤◌, ◌⊎◌, inl, inr, ⊎_elim, List, [], ◌∷◌, ◌++◌, length, get_or, Option, None, Some, refl, sym, ap, ◌∙◌, subst, arith}
 use Rattle.std.specs.List.{AllByRecursion}
-use mathlib.Core.Option as core
-use mathlib.Core.Option.{some-injective}
 use mathlib.Core.Logic.{dite}
 use native.Mathlib.Decide.{ℕ_discrete}
-use lib.ListN.{get_elem?}
 use Rattle.sock_words.specs.declared.plain.Plan.{Plan}
-use Rattle.corr_core.specs.Word.{Parts, parts, made_word}
+use Rattle.corr_core.specs.Word.{Parts, made_word}
 use Rattle.corr_core.specs.declared.marks.Plan.{Plan as IdPlan}
-use Rattle.id_rule.specs.Lawful.{id_word, all_words}
+use Rattle.id_rule.specs.Lawful.{all_words}
 use Rattle.sock_message.specs.Asked.{Asked}
 use Rattle.sock_programs.specs.declared.task.Task.{Task}
-use Rattle.sock_programs.specs.Asides.{Step, ClaimId, PutCall, MakeId, StoreCall, LoadCall, StoreAt, LoadAt, LoadIdWord, LockId, PostId, UnlockId, EndId, FreeId, TakeCall, TakeBytes, Bytes, Found, call_id, id_slot, id_first}
-use Rattle.sock_programs.specs.Asides as asides
-use Rattle.sock_programs.specs.Posts.{packed}
-use Rattle.id_runs.proofs.Keeps.{parts_packed}
+use Rattle.sock_programs.specs.Asides.{Step, Found, call_id, id_slot, id_first}
 use Rattle.call_causes.specs.Scenes.{Birth, Scene, In, IsBorn}
-use Rattle.call_causes.specs.Says.{Claims, Holds, Mark, MayAside}
-use Rattle.call_causes.specs.Stories.{word_at, LiesAt, SlotFits, HasPassed, IsCurrent, AreApart, AllApart, BirthsLaw, IsBehind, KnowsStep, put_of, born_by}
-use Rattle.call_causes.proofs.Effects.{SameAt, beside, word_is, lies_is}
+use Rattle.call_causes.specs.Says.{Claims, Mark, MayAside}
+use Rattle.call_causes.specs.Stories.{word_at, LiesAt, SlotFits, HasPassed, IsCurrent, AreApart, AllApart, BirthsLaw, IsBehind, KnowsStep}
+use Rattle.call_causes.proofs.Effects.{SameAt}
 use Rattle.call_causes.proofs.Births.{Turn, keeps, ends, makes, IsMake, IsEnd, turn, there_still}
 
 -- ## Ids apart
@@ -154,4 +148,3 @@ module _ (p : Plan) (q : IdPlan) (clients : List (List Task)) (w w' : Scene) (m 
             (λ here. let is : a ≡ asked = lies a (subst (λ n. LiesAt w' n a) (sym here) there) in
             subst (λ n. IsBorn w' (call_id n (word_at w' n).first) a) here (subst (λ n. IsBorn w' (call_id i n) a) (sym (ap (λ (x : Parts). x.first) word)) (subst (λ c. IsBorn w' (call_id i (word_at w i).first) c) (sym is) (subst (In (record { id = call_id i (word_at w i).first; asked = asked })) (sym same) (inl refl)))))
             (λ ne. let x = others k inside ne in kept (ap (λ (y : Parts). y.first) x.word) (subst (λ (y : Parts). 0 < y.state) x.word live))
-

@@ -1,26 +1,20 @@
 -- Behind a step aside the ids that were made still are where they were, or have passed.
-use Rattle.std.proofs.Common.{◌≡◌, ◌≢◌, ℕ, ◌+◌, ◌*◌, ◌/◌, ◌%◌, ◌<◌, ◌≤◌, ◌⊎◌, inl, inr, ⊎_elim, Bool, true, false, cond, eqb, eqb-true, List, [], ◌∷◌, ◌++◌, length, get_or, set, Option, None, Some, refl, sym, ap, ◌∙◌, subst, arith}
-use Rattle.std.specs.List.{AllByRecursion}
-use mathlib.Core.Option as core
-use mathlib.Core.Option.{some-injective}
+use Rattle.std.proofs.Common.{◌≡◌, ℕ, ◌+◌, ◌<◌, ◌≤◌, ◌⊎◌, inl, inr, ⊎_elim, Bool, true, false, cond, eqb, eqb-true, List, length, get_or, set, refl, sym, ap, ◌∙◌, subst, arith}
 use mathlib.Core.Logic.{dite}
 use native.Mathlib.Decide.{ℕ_discrete}
-use lib.ListN.{get_elem?}
 use Rattle.sock_words.specs.declared.plain.Plan.{Plan}
-use Rattle.corr_core.specs.Word.{Parts, parts, made_word, locked_word, posted_word, unlocked_word, free_word}
+use Rattle.corr_core.specs.Word.{Parts, parts, made_word, posted_word, unlocked_word, free_word}
 use Rattle.corr_core.specs.declared.marks.Plan.{Plan as IdPlan}
-use Rattle.id_rule.specs.Lawful.{tag_word, id_word, all_words}
-use Rattle.sock_message.specs.Asked.{Asked}
+use Rattle.id_rule.specs.Lawful.{id_word, all_words}
 use Rattle.sock_programs.specs.declared.task.Task.{Task}
-use Rattle.sock_programs.specs.Asides.{Step, ClaimId, PutCall, MakeId, StoreCall, LoadCall, StoreAt, LoadAt, LoadIdWord, LockId, PostId, UnlockId, EndId, FreeId, TakeCall, TakeBytes, Bytes, Found, call_id, id_slot, id_first}
-use Rattle.sock_programs.specs.Asides as asides
+use Rattle.sock_programs.specs.Asides.{Step, ClaimId, PutCall, MakeId, StoreCall, LoadCall, StoreAt, LoadAt, LoadIdWord, LockId, PostId, UnlockId, EndId, FreeId, TakeCall, TakeBytes, Found, id_slot, id_first}
 use Rattle.sock_programs.specs.Posts.{packed, advance_of}
 use Rattle.id_runs.proofs.Keeps.{parts_packed}
-use Rattle.call_causes.specs.Scenes.{Birth, Scene, In, IsBorn}
-use Rattle.call_causes.specs.Says.{Slot, NoSlot, Claims, Locked, Holds, Leaves, Mark, with_slot, put_in, taken_out, MayAside}
-use Rattle.call_causes.specs.Stories.{word_at, tag_at, LiesAt, PutThere, SlotFits, HasPassed, IsCurrent, AreApart, AllApart, BirthsLaw, IsBehind, KnowsStep, put_of, born_by, births_after}
+use Rattle.call_causes.specs.Scenes.{Birth, Scene}
+use Rattle.call_causes.specs.Says.{Mark, MayAside}
+use Rattle.call_causes.specs.Stories.{word_at, SlotFits, HasPassed, IsCurrent, IsBehind, KnowsStep}
 use Rattle.call_causes.proofs.Posts.{locked_parts}
-use Rattle.call_causes.proofs.Effects.{Touches, SameAt, beside, word_is, word_stays, lies_is}
+use Rattle.call_causes.proofs.Effects.{Touches, beside, word_is, word_stays}
 use Rattle.call_causes.proofs.Slots.{queued_parts}
 
 -- how the word of a slot changes: the range stays, or the step ends it, or makes one
@@ -70,7 +64,7 @@ module _ (p : Plan) (q : IdPlan) (clients : List (List Task)) (w w' : Scene) (m 
       let free = (subst (SlotFits q w) may.3 fits).2 in
       let x = word_is p q clients w w' m plan i knows.0.0 sized (packed (made_word (parts found).first range)) b.words ∙ parts_packed (made_word (parts found).first range) (omega arith) (let z = knows.2 in omega (arith, z)) knows.3 (omega arith) (omega arith) (omega arith) in
       makes refl free (ap (λ (y : Parts). y.first) x ∙ ap (λ (y : Parts). y.first) knows.0.1) (ap (λ (y : Parts). y.state) x)
-    )
+      )
   touched (LockId i from) found b knows may k low t = subst (TurnAt (LockId i from)) t (by_found (eqb found from) refl b.words)
     where
       by_found : (c : Bool) → eqb found from ≡ c → w'.core.calls.words ≡ set w.core.calls.words (id_word i) (cond c (packed (posted_word (parts from) 0)) found) → TurnAt (LockId i from) i
@@ -98,7 +92,7 @@ module _ (p : Plan) (q : IdPlan) (clients : List (List Task)) (w w' : Scene) (m 
   touched (EndId i) found b knows may k low t = subst (TurnAt (EndId i)) t (
       let x = word_is p q clients w w' m plan i knows.0 sized (packed (free_word ((parts found).first + (parts found).range))) b.words ∙ parts_packed (free_word ((parts found).first + (parts found).range)) (omega arith) (omega arith) (omega arith) (omega arith) (omega arith) (omega arith) in
       ends refl (ap (λ (y : Parts). y.first) x ∙ ap (λ (y : Parts). y.first + y.range) knows.1) (ap (λ (y : Parts). y.state) x)
-    )
+      )
   touched (FreeId i) found b knows may k low t = subst (TurnAt (FreeId i)) t (same_turn (IsMake (FreeId i) i) (IsEnd (FreeId i) i) (word_at w i) (word_at w' i) (word_stays p q clients w w' m plan i knows sized 0 b.words))
   touched (TakeCall i) found b knows may k low t = words_turn (TakeCall i) k b.words
   touched (StoreCall o id) found b knows may k low t = absurd t

@@ -116,22 +116,22 @@ module _ (p : Plan) (q : IdPlan) (clients : List (List Task)) where
       let stores : ℕ → Program = λ found. Aside (StoreCall asked.operation (call_id i (parts found).first)) (λ _. tries found) in (
         inl slot,
         λ _ v m' l _ mv. (
-            tt,
-            subst (λ x. Tells v x (Aside (MakeId i asked.range) stores)) (sym mv) (
-              (asked, t, ts, ap (put_in asked) slot, refl, todo, op, own, makes, owes),
-              λ found v2 m2 l2 _ mv2. let y = mv2 asked (ap (put_in asked) slot) in let b : Birth = record { id = call_id i (parts found).first; asked = asked } in let f2 = far p q clients w v v2 l l2 in (
+          tt,
+          subst (λ x. Tells v x (Aside (MakeId i asked.range) stores)) (sym mv) (
+            (asked, t, ts, ap (put_in asked) slot, refl, todo, op, own, makes, owes),
+            λ found v2 m2 l2 _ mv2. let y = mv2 asked (ap (put_in asked) slot) in let b : Birth = record { id = call_id i (parts found).first; asked = asked } in let f2 = far p q clients w v v2 l l2 in (
+              tt,
+              subst (λ x. Tells v2 x (stores found)) (sym y.0) (
+                (b, t, ts, refl, todo, op, own, refl, refl, y.1, f2.named (name_of asked 0) named),
+                λ _ v3 m3 l3 _ mv3. let z = mv3 t ts todo in let f3 = far p q clients w v2 v3 f2 l3 in (
                   tt,
-                  subst (λ x. Tells v2 x (stores found)) (sym y.0) (
-                    (b, t, ts, refl, todo, op, own, refl, refl, y.1, f2.named (name_of asked 0) named),
-                    λ _ v3 m3 l3 _ mv3. let z = mv3 t ts todo in let f3 = far p q clients w v2 v3 f2 l3 in (
-                        tt,
-                        subst (λ x. Tells v3 x (tries found)) (sym z.0) (attempt_says p q clients v3 (with_made [] (with_slot NoSlot (with_done t ts m))) requests asked (call_id i (parts found).first) 0 socket next (tt, owes, refl) (omega arith)
-                            (λ u m' l' s a. goes u m' (far p q clients w v3 u f3 l') s (record { slot = a.slot; vacant = a.vacant; is = a.is ∙ ap (λ bs. with_made bs (with_slot a.slot (with_done t ts m))) (sym makes) }))),
-                      ),
-                  ),
+                  subst (λ x. Tells v3 x (tries found)) (sym z.0) (attempt_says p q clients v3 (with_made [] (with_slot NoSlot (with_done t ts m))) requests asked (call_id i (parts found).first) 0 socket next (tt, owes, refl) (omega arith)
+                      (λ u m' l' s a. goes u m' (far p q clients w v3 u f3 l') s (record { slot = a.slot; vacant = a.vacant; is = a.is ∙ ap (λ bs. with_made bs (with_slot a.slot (with_done t ts m))) (sym makes) }))),
                 ),
+              ),
             ),
           ),
+        ),
       )
 
   -- each of these id slots was claimed for another call
@@ -192,18 +192,18 @@ module _ (p : Plan) (q : IdPlan) (clients : List (List Task)) where
       subst (λ y. Tells v y (retry_locked requests id n next (Has x))) (sym lv.2) (
         (lv.0, lv.1, refl),
         λ asked v2 m2 l2 _ mv. (
-            tt,
-            subst (λ y. Tells v2 y (Aside (PutCall (id_slot id) asked) (λ _. unlocks asked))) (sym mv.0) (
-              inr (lv.0, lv.1, refl, (mv.1 lv.0 lv.1 refl).0),
-              λ _ v3 m3 l3 _ mv3. (
-                  tt,
-                  subst (λ y. Tells v3 y (unlocks asked)) (sym mv3) (
-                    ((lv.0, lv.1, refl), free.1, free.2),
-                    λ exit v4 m4 l4 s4 lv4. (tt, tried_says w m lv.0 lv.1 requests id n asked next lv.4 free.1 free.2 few goes exit v4 m4 (far p q clients w v3 v4 (far p q clients w v2 v3 (far p q clients w v v2 l l2) l3) l4) s4 lv4),
-                  ),
-                ),
+          tt,
+          subst (λ y. Tells v2 y (Aside (PutCall (id_slot id) asked) (λ _. unlocks asked))) (sym mv.0) (
+            inr (lv.0, lv.1, refl, (mv.1 lv.0 lv.1 refl).0),
+            λ _ v3 m3 l3 _ mv3. (
+              tt,
+              subst (λ y. Tells v3 y (unlocks asked)) (sym mv3) (
+                ((lv.0, lv.1, refl), free.1, free.2),
+                λ exit v4 m4 l4 s4 lv4. (tt, tried_says w m lv.0 lv.1 requests id n asked next lv.4 free.1 free.2 few goes exit v4 m4 (far p q clients w v3 v4 (far p q clients w v2 v3 (far p q clients w v v2 l l2) l3) l4) s4 lv4),
+              ),
             ),
           ),
+        ),
       )
 
   pub retry_says : (w : Scene) (m : Mark) (requests : ℕ) (r : Retry) (next : Program) → IsFree m → r.attempt ≤ 6 → Ends w m next → Tells w m (retry requests r.id r.attempt next)
@@ -216,12 +216,12 @@ module _ (p : Plan) (q : IdPlan) (clients : List (List Task)) where
       let k : ℕ → Posting → Program = λ id how. posted id (error_of 1008 7) (Say u.number (expire_outcome how) next) how in (
         tt,
         λ id v m' l s mv. (
-            tt,
-            subst (λ x. Tells v x (cond (eqb id 0) (Say u.number outcomes.NotBegun next) (post_with id (error_of 1008 7) (k id)))) (sym mv.0) (way p q clients v m (eqb id 0) (Say u.number outcomes.NotBegun next) (post_with id (error_of 1008 7) (k id)) s
-                (λ none_ s'. let y = mv.2 (eqb-true id 0 none_) in
-                own_at w m u ts outcomes.NotBegun next has.todo free goes v m l s'.1 (again_same p q clients m m free refl) (subst (λ o. WhyOwn p q clients v m.client m.done o outcomes.NotBegun) (sym op) (not_begun v m t targets has.mine y.0 y.1)))
-                (λ some_ _. let y = mv.1 (not_equal id 0 some_) in post_with_says p q clients v m id (error_of 1008 7) (k id) free (exits id v l y.0 y.1.0 y.1.1 y.1.2))),
-          ),
+          tt,
+          subst (λ x. Tells v x (cond (eqb id 0) (Say u.number outcomes.NotBegun next) (post_with id (error_of 1008 7) (k id)))) (sym mv.0) (way p q clients v m (eqb id 0) (Say u.number outcomes.NotBegun next) (post_with id (error_of 1008 7) (k id)) s
+              (λ none_ s'. let y = mv.2 (eqb-true id 0 none_) in
+              own_at w m u ts outcomes.NotBegun next has.todo free goes v m l s'.1 (again_same p q clients m m free refl) (subst (λ o. WhyOwn p q clients v m.client m.done o outcomes.NotBegun) (sym op) (not_begun v m t targets has.mine y.0 y.1)))
+              (λ some_ _. let y = mv.1 (not_equal id 0 some_) in post_with_says p q clients v m id (error_of 1008 7) (k id) free (exits id v l y.0 y.1.0 y.1.1 y.1.2))),
+        ),
       )
     where
       says : (x : Outcome) (v : Scene) (m' : Mark) → Later' w v → SaidBy v next → Again p q clients m m' → WhyOwn p q clients v m.client m.done (ops.Expire t) x → Tells v m' (Say u.number x next)
@@ -267,14 +267,17 @@ module _ (p : Plan) (q : IdPlan) (clients : List (List Task)) where
   join_says w m u ts t next has free op targets goes = (
     tt,
     λ id v m' l s mv. (
-        tt,
-        subst (λ x. Tells v x (cond (eqb id 0) (Say u.number outcomes.NotBegun next) (Round (Joins id) (λ _. Say u.number outcomes.Joined next)))) (sym mv.0) (way p q clients v m (eqb id 0) (Say u.number outcomes.NotBegun next) (Round (Joins id) (λ _. Say u.number outcomes.Joined next)) s
-            (λ none_ s'. let y = mv.2 (eqb-true id 0 none_) in
-            own_at w m u ts outcomes.NotBegun next has.todo free goes v m l s'.1 (again_same p q clients m m free refl) (subst (λ o. WhyOwn p q clients v m.client m.done o outcomes.NotBegun) (sym op) (not_begun v m t targets has.mine y.0 y.1)))
-            (λ some_ _. let y = mv.1 (not_equal id 0 some_) in (free, λ exit v2 m2 l2 s2 lv. (
+      tt,
+      subst (λ x. Tells v x (cond (eqb id 0) (Say u.number outcomes.NotBegun next) (Round (Joins id) (λ _. Say u.number outcomes.Joined next)))) (sym mv.0) (way p q clients v m (eqb id 0) (Say u.number outcomes.NotBegun next) (Round (Joins id) (λ _. Say u.number outcomes.Joined next)) s
+          (λ none_ s'. let y = mv.2 (eqb-true id 0 none_) in
+          own_at w m u ts outcomes.NotBegun next has.todo free goes v m l s'.1 (again_same p q clients m m free refl) (subst (λ o. WhyOwn p q clients v m.client m.done o outcomes.NotBegun) (sym op) (not_begun v m t targets has.mine y.0 y.1)))
+          (λ some_ _. let y = mv.1 (not_equal id 0 some_) in (
+            free,
+            λ exit v2 m2 l2 s2 lv. (
               tt,
               own_at w m u ts outcomes.Joined next has.todo free goes v2 m2 (far p q clients w v v2 l l2) s2.1 (again_same p q clients m m2 free lv)
                   (subst (λ o. WhyOwn p q clients v2 m.client m.done o outcomes.Joined) (sym op) (own_on p q clients v v2 l2 m.client m.done (ops.Join t) outcomes.Joined y.0)),
-            )))),
-      ),
+            ),
+          ))),
+    ),
   )

@@ -1,7 +1,6 @@
 -- What a program says before its next step: the laws of the tasks hold behind it, and the next step goes on from the mark that is left.
-use Rattle.std.proofs.Common.{◌≡◌, ◌≢◌, ℕ, zero, suc, ◌<◌, ◌≤◌, ◌⊎◌, inl, inr, ⊎_elim, List, [], ◌∷◌, ◌++◌, set, slice_get, Option, None, Some, refl, sym, ap, ◌∙◌, subst}
+use Rattle.std.proofs.Common.{◌≡◌, ℕ, zero, suc, ◌≤◌, ⊎_elim, List, [], ◌∷◌, ◌++◌, set, Option, Some, refl, sym, ap, ◌∙◌, subst}
 use Rattle.std.specs.List.{AllByRecursion}
-use lib.ListN.{get_elem?}
 use Rattle.atomic_table.proofs.Lists.{set_again}
 use Rattle.sock_words.specs.declared.plain.Plan.{Plan}
 use Rattle.sock_words.specs.declared.outcome.Outcome.{Outcome}
@@ -11,8 +10,8 @@ use Rattle.sock_programs.specs.Heads.{Retry}
 use Rattle.sock_programs.specs.Attempts.{retry}
 use Rattle.sock_programs.specs.Programs.{Program, Do, Say, Sent, Rest, TakeMessage, TakeHome, PutHome, PutBytes, AskReady, Write, Aside, Round, Keep, Retries}
 use Rattle.sock_programs.specs.Cores.{resolved, said, next_step}
-use Rattle.call_causes.specs.Scenes.{Birth, Saying, Scene, Said, Later, was_said, was_sent}
-use Rattle.call_causes.specs.Says.{Mark, with_done, with_owed, IsFree, SaidBy, Again, SaysOn}
+use Rattle.call_causes.specs.Scenes.{Saying, Scene, Said, Later, was_said, was_sent}
+use Rattle.call_causes.specs.Says.{Mark, with_done, with_owed, IsFree, SaidBy, SaysOn}
 use Rattle.call_causes.specs.Stories.{At, BirthsLaw, TasksLaw}
 use Rattle.call_causes.proofs.Lasting.{far}
 use Rattle.call_causes.proofs.Posts.{again_same}

@@ -70,16 +70,39 @@ module _ (p : Plan) (q : IdPlan) (clients : List (List Task)) where
     some_word version i e = omega (arith, e)
 
     open_says : (name k : ℕ) → t.op ≡ ops.Open name k → (next : Program) → Ends w (with_done t ts m) next → (more i : ℕ) (v : Scene) → Later' w v → SaidBy v (open_from more i t.number name k next) → Tells v m (open_from more i t.number name k next)
-    open_says name k op next goes zero i v l s = (tt, λ _ v2 l2 _ _. let f2 = far p q clients w v v2 l l2 in (tt, λ _ v3 l3 _ _. let f3 = far p q clients w v2 v3 f2 l3 in (tt, λ _ v4 l4 _ _. let f4 = far p q clients w v3 v4 f3 l4 in (
+    open_says name k op next goes zero i v l s = (
       tt,
-      λ _ v5 l5 s5 _. says (ops.Open name k) op outcomes.SlotsFull next goes v5 m (far p q clients w v4 v5 f4 l5) s5.1 self tt,
-    ))))
+      λ _ v2 l2 _ _. let f2 = far p q clients w v v2 l l2 in (
+        tt,
+        λ _ v3 l3 _ _. let f3 = far p q clients w v2 v3 f2 l3 in (
+          tt,
+          λ _ v4 l4 _ _. let f4 = far p q clients w v3 v4 f3 l4 in (
+            tt,
+            λ _ v5 l5 s5 _. says (ops.Open name k) op outcomes.SlotsFull next goes v5 m (far p q clients w v4 v5 f4 l5) s5.1 self tt,
+          ),
+        ),
+      ),
+    )
     open_says name k op next goes (suc more) i v l s = (
       tt,
       λ found v2 l2 s2 _. let f2 = far p q clients w v v2 l l2 in way p q clients v2 m (found == 0) (make_socket t.number name k i next) (open_from more (i + 1) t.number name k next) s2
-          (λ _ _. (tt, λ _ v3 l3 _ _. let f3 = far p q clients w v2 v3 f2 l3 in (tt, λ _ v4 l4 _ _. let f4 = far p q clients w v3 v4 f3 l4 in (tt, λ _ v5 l5 _ _. let f5 = far p q clients w v4 v5 f4 l5 in
-          (tt, λ born v6 l6 _ _. let f6 = far p q clients w v5 v6 f5 l6 in (tt, λ _ v7 l7 _ _. let f7 = far p q clients w v6 v7 f6 l7 in
-          (some_word (vref_version born) i, λ _ v8 l8 s8 named. says (ops.Open name k) op (outcomes.Opened i (vref_version born) k) next goes v8 m (far p q clients w v7 v8 f7 l8) s8.1 self named)))))))
+          (λ _ _. (
+            tt,
+            λ _ v3 l3 _ _. let f3 = far p q clients w v2 v3 f2 l3 in (
+              tt,
+              λ _ v4 l4 _ _. let f4 = far p q clients w v3 v4 f3 l4 in (
+                tt,
+                λ _ v5 l5 _ _. let f5 = far p q clients w v4 v5 f4 l5 in (
+                  tt,
+                  λ born v6 l6 _ _. let f6 = far p q clients w v5 v6 f5 l6 in (
+                    tt,
+                    λ _ v7 l7 _ _. let f7 = far p q clients w v6 v7 f6 l7 in
+                        (some_word (vref_version born) i, λ _ v8 l8 s8 named. says (ops.Open name k) op (outcomes.Opened i (vref_version born) k) next goes v8 m (far p q clients w v7 v8 f7 l8) s8.1 self named),
+                  ),
+                ),
+              ),
+            ),
+          ))
           (λ _ s'. open_says name k op next goes more (i + 1) v2 f2 s'),
     )
 
@@ -196,7 +219,7 @@ module _ (p : Plan) (q : IdPlan) (clients : List (List Task)) where
         let are1 : AreOf (with_slot a.slot m) (t ∷ ts) = record { todo = are.todo; are = are.are; mine = are.mine } in
         operation_says held (λ held'. client_from (sizes_of p q) held' ts) w m1 t ts t.op (next_of m1 t ts are1) (a.vacant, free.1, free.2) refl fits.0.0 fits.0.1
         (λ hs u m2 l2 _ a2. client_says ts hs u m2 (slot_of (with_done t ts m1) m2 ts (done_of m1 t ts are1) a2) (free_of (with_done t ts m1) m2 (a.vacant, free.1, free.2) a2) (client_of (with_done t ts m1) m2 ts a2 fits.1)) v l s
-      ),
+        ),
   )
 
   pub ending_says : (os : List ℕ) (w : Scene) (m : Mark) → IsFree m → m.todo ≡ [] → Tells w m (ending_of os)

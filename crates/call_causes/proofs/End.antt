@@ -1,6 +1,5 @@
 -- Where a run has ended: each task on calls has its outcome, each call that had an id ended by a cause, and no two calls share a version.
-use Rattle.std.proofs.Common.{◌≡◌, ◌≢◌, ℕ, zero, suc, ◌+◌, ◌<◌, ◌≤◌, ◌⊎◌, inl, inr, ⊎_elim, List, [], ◌∷◌, length, get_or, slice_get, slice_index_or, Option, None, Some, Contains, ℤ, pos, refl, sym, ap, ◌∙◌, subst, arith}
-use lib.ListN.{get_elem?}
+use Rattle.std.proofs.Common.{◌≡◌, ◌≢◌, ℕ, zero, suc, ◌+◌, ◌<◌, ◌≤◌, ◌⊎◌, inl, inr, ⊎_elim, List, [], ◌∷◌, length, get_or, slice_get, slice_index_or, None, Some, sym, ap, ◌∙◌, subst, arith}
 use Rattle.sock_words.specs.declared.plain.Plan.{Plan}
 use Rattle.sock_words.specs.declared.outcome.Outcome.{Outcome}
 use Rattle.sock_words.specs.declared.outcome.Outcome.TheVariants as outcomes
@@ -8,33 +7,32 @@ use Rattle.brpc_model.specs.Frame.{Frame}
 use Rattle.brpc_model.specs.Messages.{shown_id}
 use Rattle.corr_core.specs.declared.marks.Plan.{Plan as IdPlan}
 use Rattle.sock_message.specs.Asked.{Asked}
-use Rattle.sock_programs.specs.declared.task.Op.{Op}
 use Rattle.sock_programs.specs.declared.task.Op.TheVariants as ops
 use Rattle.sock_programs.specs.declared.task.Task.{Task}
 use Rattle.sock_programs.specs.Asides.{id_slot}
 use Rattle.sock_programs.specs.Told.{IsTask, Became}
-use Rattle.sock_programs.specs.ToldCalls.{Fixed, Order, IsAnsweredBy, HasCode}
+use Rattle.sock_programs.specs.ToldCalls.{Fixed, Order, IsAnsweredBy}
 use Rattle.call_causes.specs.Lists.{given}
 use Rattle.call_causes.specs.Target.{IsOnCalls}
-use Rattle.call_causes.specs.Scenes.{Birth, Scene, In, Said, IsAnsweredIn, WhyEnded, WhyOwn, ToldOf, was_said, was_sent, was_begun, AreTold}
+use Rattle.call_causes.specs.Scenes.{Birth, Scene, In, IsAnsweredIn, WhyEnded, WhyOwn, ToldOf, was_said, was_sent, was_begun, AreTold}
 use Rattle.call_causes.specs.Says.{Mark}
-use Rattle.call_causes.specs.Stories.{At, word_at, undo, AreApart, BirthsLaw, TasksLaw}
+use Rattle.call_causes.specs.Stories.{At, word_at, undo, BirthsLaw, TasksLaw}
 use Rattle.call_causes.proofs.BirthTicks.{two_of}
 
 -- ## Lists
 
-contains_in : {A : Type 0} (xs : List A) (x : A) (k : ℕ) → k < length xs → slice_index_or xs k x ≡ x → In x xs
+pub contains_in : {A : Type 0} (xs : List A) (x : A) (k : ℕ) → k < length xs → slice_index_or xs k x ≡ x → In x xs
 contains_in [] x k low is = absurd (omega (arith, low))
 contains_in (y ∷ ys) x zero low is = inl (sym is)
 contains_in (y ∷ ys) x (suc k) low is = inr (contains_in ys x k (omega (arith, low)) is)
 
-listed_or : {A : Type 0} (xs : List (List A)) (c : ℕ) (ys : List A) → slice_get xs c ≡ Some ys → get_or xs c [] ≡ ys
+pub listed_or : {A : Type 0} (xs : List (List A)) (c : ℕ) (ys : List A) → slice_get xs c ≡ Some ys → get_or xs c [] ≡ ys
 listed_or [] c ys is = absurd (let z : None ≡ Some ys = is in cc)
 listed_or (x ∷ xs) zero ys is = let e : x ≡ ys = cc in e
 listed_or (x ∷ xs) (suc c) ys is = listed_or xs c ys is
 
 module _ (p : Plan) (q : IdPlan) (clients : List (List Task)) where
-  undo_done : (done todo : List Task) (t : Task) → In t (undo p q clients done todo) → In t done ⊎ In t todo
+  pub undo_done : (done todo : List Task) (t : Task) → In t (undo p q clients done todo) → In t done ⊎ In t todo
   undo_done [] todo t there = inr there
   undo_done (d ∷ done) todo t there = ⊎_elim (λ x. inl (inr x)) (λ x. ⊎_elim (λ same. inl (inl same)) (λ y. inr y) x) (undo_done done (d ∷ todo) t there)
 
@@ -50,7 +48,7 @@ module _ (p : Plan) (q : IdPlan) (clients : List (List Task)) where
     abbrev Has : ℕ → Outcome → Type 0
     Has o x = Became clients w.core.outcomes o x
 
-    one_outcome : (o : ℕ) (x y : Outcome) → Has o x → Has o y → x ≡ y
+    pub one_outcome : (o : ℕ) (x y : Outcome) → Has o x → Has o y → x ≡ y
     one_outcome o x y a b = let z : Some (Some x) ≡ Some (Some y) = sym a ∙ b in cc
 
     -- each call that had an id ended by a cause
@@ -93,9 +91,12 @@ module _ (p : Plan) (q : IdPlan) (clients : List (List Task)) where
             let same_op : ops.Call a ≡ ops.Call asked = sym call ∙ op in
             let same : a ≡ asked = cc in
             let z = ended_call (record { id = id; asked = a }) born in
-            inr (id, subst (λ v. In (record { id = id; asked = v }) w.births) same born,
-            subst (λ v. WhyEnded p q clients w (record { id = id; asked = v }) x) same (subst (WhyEnded p q clients w (record { id = id; asked = a })) (one_outcome t.number z.0 x (subst (λ o. Has o z.0) (sym own) z.1) has) z.2),
-            own ∙ ap (λ (v : Asked). v.operation) same)
+            inr (
+              id,
+              subst (λ v. In (record { id = id; asked = v }) w.births) same born,
+              subst (λ v. WhyEnded p q clients w (record { id = id; asked = v }) x) same (subst (WhyEnded p q clients w (record { id = id; asked = a })) (one_outcome t.number z.0 x (subst (λ o. Has o z.0) (sym own) z.1) has) z.2),
+              own ∙ ap (λ (v : Asked). v.operation) same,
+            )
 
     -- the id that an outcome shows is that of the call
     shows_own : (b : Birth) (x : Outcome) (i : ℕ) → WhyEnded p q clients w b x → shown_id x ≡ Some i → b.id ≡ i

@@ -1,19 +1,14 @@
 -- Behind a step aside each error that waits has its cause.
-use Rattle.std.proofs.Common.{◌≡◌, ◌≢◌, ℕ, ◌+◌, ◌*◌, ◌<◌, ◌≤◌, ◌⊎◌, inl, inr, ⊎_elim, Bool, true, false, cond, eqb, eqb-true, List, [], ◌∷◌, length, get_or, set, Option, None, Some, refl, sym, ap, ◌∙◌, subst, arith}
-use mathlib.Core.Logic.{dite}
-use native.Mathlib.Decide.{ℕ_discrete}
-use lib.ListN.{get_elem?}
+use Rattle.std.proofs.Common.{◌≡◌, ◌≢◌, ℕ, ◌+◌, ◌<◌, ◌≤◌, ⊎_elim, Bool, true, false, cond, eqb, eqb-true, List, length, get_or, set, refl, sym, ap, ◌∙◌, subst, arith}
 use Rattle.sock_words.specs.declared.plain.Plan.{Plan}
 use Rattle.corr_core.specs.Word.{Parts, parts, made_word, locked_word, posted_word, unlocked_word, free_word}
 use Rattle.corr_core.specs.declared.marks.Plan.{Plan as IdPlan}
-use Rattle.id_rule.specs.Lawful.{tag_word, id_word, all_words}
-use Rattle.sock_message.specs.Asked.{Asked}
+use Rattle.id_rule.specs.Lawful.{id_word, all_words}
 use Rattle.sock_programs.specs.declared.task.Task.{Task}
 use Rattle.sock_programs.specs.Asides.{Step, ClaimId, PutCall, MakeId, StoreCall, LoadCall, StoreAt, LoadAt, LoadIdWord, LockId, PostId, UnlockId, EndId, FreeId, TakeCall, TakeBytes, Found, call_id}
 use Rattle.sock_programs.specs.Posts.{packed, advance_of}
 use Rattle.id_runs.proofs.Keeps.{parts_packed}
-use Rattle.id_runs.proofs.Loops.{not_equal}
-use Rattle.call_causes.specs.Scenes.{Birth, Scene, CauseOf, Later}
+use Rattle.call_causes.specs.Scenes.{Scene, CauseOf, Later}
 use Rattle.call_causes.specs.Says.{Mark, Shows}
 use Rattle.call_causes.specs.Stories.{word_at, SlotFits, BirthsLaw, IsBehind, KnowsStep}
 use Rattle.call_causes.proofs.Lasting.{cause_on}
@@ -68,7 +63,7 @@ module _ (p : Plan) (q : IdPlan) (clients : List (List Task)) where
     touched (MakeId i range) found b knows shows k low t = subst (λ n. HasCauses w' n (word_at w' n)) t (
         let x = word_is p q clients w w' m plan i knows.0.0 sized (packed (made_word (parts found).first range)) b.words ∙ parts_packed (made_word (parts found).first range) (omega arith) (let z = knows.2 in omega (arith, z)) knows.3 (omega arith) (omega arith) (omega arith) in
         subst (HasCauses w' i) (sym x) (no_errors w' i (made_word (parts found).first range) refl refl)
-      )
+        )
     touched (LockId i from) found b knows shows k low t = subst (λ n. HasCauses w' n (word_at w' n)) t (by_found (eqb found from) refl b.words)
       where
         by_found : (c : Bool) → eqb found from ≡ c → w'.core.calls.words ≡ set w.core.calls.words (id_word i) (cond c (packed (posted_word (parts from) 0)) found) → HasCauses w' i (word_at w' i)
@@ -90,7 +85,7 @@ module _ (p : Plan) (q : IdPlan) (clients : List (List Task)) where
     touched (EndId i) found b knows shows k low t = subst (λ n. HasCauses w' n (word_at w' n)) t (
         let x = word_is p q clients w w' m plan i knows.0 sized (packed (free_word ((parts found).first + (parts found).range))) b.words ∙ parts_packed (free_word ((parts found).first + (parts found).range)) (omega arith) (omega arith) (omega arith) (omega arith) (omega arith) (omega arith) in
         subst (HasCauses w' i) (sym x) (no_errors w' i (free_word ((parts found).first + (parts found).range)) refl refl)
-      )
+        )
     touched (FreeId i) found b knows shows k low t = subst (λ n. HasCauses w' n (word_at w' n)) t (subst (HasCauses w' i) (sym (word_stays p q clients w w' m plan i knows sized 0 b.words)) (before i knows))
     touched (TakeCall i) found b knows shows k low t = subst (HasCauses w' k) (sym (ap (λ ws. parts (get_or ws (id_word k) 0)) b.words)) (before k low)
     touched (StoreCall o id) found b knows shows k low t = absurd t

@@ -17,12 +17,11 @@ use Rattle.sock_programs.specs.Asides.{Step, ClaimId, PutCall, MakeId, StoreCall
 use Rattle.sock_programs.specs.Asides as asides
 use Rattle.sock_programs.specs.Posts.{packed, advance_of}
 use Rattle.id_runs.proofs.Keeps.{parts_packed}
-use Rattle.call_causes.specs.Lists.{given}
-use Rattle.call_causes.specs.Scenes.{Birth, Claim, Scene, In, IsBorn, IsClaimed, Came, Begun, HasRoom, Later}
+use Rattle.call_causes.specs.Scenes.{Birth, Scene, In, IsBorn, IsClaimed, Came, Begun, HasRoom, Later}
 use Rattle.call_causes.specs.Says.{Claims, Holds, Mark, MayAside}
 use Rattle.call_causes.specs.Stories.{word_at, LiesAt, SlotFits, BirthsLaw, IsBehind, KnowsStep, put_of, born_by, claimed_by}
 use Rattle.call_causes.proofs.Streams.{frames_stay}
-use Rattle.call_causes.proofs.Effects.{SameAt, beside, word_is, lies_is}
+use Rattle.call_causes.proofs.Effects.{beside, word_is, lies_is}
 use Rattle.call_causes.proofs.Births.{IsMake}
 use Rattle.call_causes.proofs.BirthTicks.{Made, no_more, one_more, one_call, born, born_still, apart}
 

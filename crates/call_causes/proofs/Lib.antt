@@ -23,3 +23,4 @@ pub mod TaskSteps
 pub mod AsideTicks
 pub mod SockTicks
 pub mod End
+pub mod Whys

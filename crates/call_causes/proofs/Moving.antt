@@ -1,22 +1,18 @@
 -- What a step aside makes of the mark of its seat, and what it shows, is as the laws say.
 use Rattle.std.proofs.Common.{◌≡◌, ◌≢◌, ℕ, ◌+◌, ◌*◌, ◌<◌, ◌≤◌, ◌⊎◌, inl, inr, ⊎_elim, Bool, true, false, cond, eqb, eq-eqb, ne_eqb, List, [], ◌∷◌, ◌++◌, length, get_or, set, get_or-set_same, Option, None, Some, refl, sym, ap, ◌∙◌, subst, arith}
-use mathlib.Core.Option as core
 use mathlib.Core.Option.{some-injective}
 use lib.ListN.{get_elem?}
 use Rattle.sock_words.specs.declared.plain.Plan.{Plan}
 use Rattle.sock_words.specs.declared.outcome.Outcome.{Outcome}
-use Rattle.corr_core.specs.Word.{Parts, parts, code_of, error_of}
+use Rattle.corr_core.specs.Word.{Parts, parts, code_of}
 use Rattle.corr_core.specs.declared.marks.Plan.{Plan as IdPlan}
-use Rattle.id_rule.specs.Lawful.{id_word, call_word, all_words}
-use Rattle.sock_message.specs.Asked.{Asked}
-use Rattle.sock_programs.specs.declared.task.Op.TheVariants as ops
+use Rattle.id_rule.specs.Lawful.{call_word, all_words}
 use Rattle.sock_programs.specs.declared.task.Task.{Task}
 use Rattle.sock_programs.specs.Asides.{Step, ClaimId, PutCall, MakeId, StoreCall, LoadCall, StoreAt, LoadAt, LoadIdWord, LockId, PostId, UnlockId, EndId, FreeId, TakeCall, TakeBytes, Bytes, Found, call_id, id_slot, id_first}
 use Rattle.sock_programs.specs.Asides as asides
-use Rattle.call_causes.specs.Lists.{given}
-use Rattle.call_causes.specs.Scenes.{Birth, Claim, Saying, Scene, In, IsBorn, IsErrorCode, IsTaskOf, HasBegunIn, CauseOf, of_expiry, of_other, Begun, AreTold, Later}
-use Rattle.call_causes.specs.Says.{Slot, NoSlot, Claims, Locked, Holds, Leaves, Mark, with_slot, with_owed, with_made, with_done, IsFree, put_in, taken_out, given_more, IsVacant, HasCodes, MayAside, Moves}
-use Rattle.call_causes.specs.Stories.{At, word_at, LiesAt, SlotFits, IsCurrent, BirthsLaw, TasksLaw, ClaimsLaw, ReadsLaw, undo, ahead, unclaimed, IsBehind, KnowsStep, put_of, born_by, ended_of, stored_by, mark_after}
+use Rattle.call_causes.specs.Scenes.{Birth, Saying, Scene, In, IsBorn, IsErrorCode, IsTaskOf, CauseOf, of_expiry, of_other, Later}
+use Rattle.call_causes.specs.Says.{Slot, NoSlot, Claims, Locked, Holds, Leaves, Mark, with_slot, with_owed, with_made, IsVacant, HasCodes, MayAside, Moves}
+use Rattle.call_causes.specs.Stories.{At, word_at, SlotFits, BirthsLaw, TasksLaw, ClaimsLaw, ReadsLaw, undo, ahead, unclaimed, IsBehind, KnowsStep, put_of, born_by, ended_of, stored_by, mark_after}
 use Rattle.call_causes.proofs.Lasting.{cause_on, are_told_on}
 use Rattle.call_causes.proofs.Laters.{stored_is}
 
@@ -81,7 +77,15 @@ module _ (p : Plan) (q : IdPlan) (clients : List (List Task)) (w w' : Scene) (ms
     refl,
     (λ some_. let c = tasks.called o knows.0 (λ e. some_ (knows.1 ∙ e)) in (
       (
-        c.4, c.6, c.0.id, c.0.asked, task_at c.4 c.5 c.6 c.7 c.8, c.9, c.10, c.3, l.born c.0.id c.0.asked c.1,
+        c.4,
+        c.6,
+        c.0.id,
+        c.0.asked,
+        task_at c.4 c.5 c.6 c.7 c.8,
+        c.9,
+        c.10,
+        c.3,
+        l.born c.0.id c.0.asked c.1,
         λ same. subst (λ (n : Mark). In c.6 n.done) (some-injective c.5 m (sym c.7 ∙ (ap (get_elem? ms) (same ∙ tasks.client j m at) ∙ at))) c.8,
       ),
       (c.0.asked, subst (λ n. IsBorn w' n c.0.asked) (c.2 ∙ sym knows.1) (l.born c.0.id c.0.asked c.1), c.3),

@@ -142,11 +142,11 @@ module _ (p : Plan) (q : IdPlan) (clients : List (List Task)) where
   end_says w m i f range asked next slot born owes goes = (
     (f, range, asked, slot, born, owes),
     λ found v m' l s mv. let is = mv f range asked slot in (
-        tt,
-        way v m' (Rattle.std.proofs.Common.leb ((parts found).first + (parts found).range) LAST) (Aside (FreeId i) (λ _. next)) next s
-            (λ _ _. (ap (λ (x : Mark). x.slot) is, λ _ v' m'' l' s' mv'. (tt, goes v' m'' NoSlot tt (far p q clients w v v' l l') s' (mv' ∙ ap (with_slot NoSlot) is))))
-            (λ _ s'. goes v m' (Leaves i) tt l s' is),
-      ),
+      tt,
+      way v m' (Rattle.std.proofs.Common.leb ((parts found).first + (parts found).range) LAST) (Aside (FreeId i) (λ _. next)) next s
+          (λ _ _. (ap (λ (x : Mark). x.slot) is, λ _ v' m'' l' s' mv'. (tt, goes v' m'' NoSlot tt (far p q clients w v v' l l') s' (mv' ∙ ap (with_slot NoSlot) is))))
+          (λ _ s'. goes v m' (Leaves i) tt l s' is),
+    ),
   )
 
   regain : (w : Scene) (m : Mark) (s : Slot) (id e : ℕ) (exit : Deciding) (m' : Mark) → LeavesDecision p q clients w (with_slot s m) id e exit m' → LeavesDecision p q clients w m id e exit m'
@@ -163,12 +163,12 @@ module _ (p : Plan) (q : IdPlan) (clients : List (List Task)) where
   decide_says w m id word e k range slot owes makes goes = (
     (id_first id, range, slot),
     λ asked v m' l s mv. (
-        tt,
-        subst (λ x. Says v x (Round (Decides id asked word e) k)) (sym mv.0) (
-          ((range, ap (taken_out asked) slot), subst (λ i. IsBorn v i asked) (id_back id) (mv.1 (id_first id) range slot).0, owes, makes),
-          λ exit v' m'' l' s' lv. (tt, goes exit v' m'' (far p q clients w v v' l l') s' (regain v' m (taken_out asked m.slot) id e exit m'' lv)),
-        ),
+      tt,
+      subst (λ x. Says v x (Round (Decides id asked word e) k)) (sym mv.0) (
+        ((range, ap (taken_out asked) slot), subst (λ i. IsBorn v i asked) (id_back id) (mv.1 (id_first id) range slot).0, owes, makes),
+        λ exit v' m'' l' s' lv. (tt, goes exit v' m'' (far p q clients w v v' l l') s' (regain v' m (taken_out asked m.slot) id e exit m'' lv)),
       ),
+    ),
   )
 
   pub decides_says : (w : Scene) (m : Mark) (id : ℕ) (asked : Asked) (word e : ℕ) (k : Deciding → Program) → AtHead p q clients w m (Decides id asked word e) → Decided w m id e k → Says w m (decides_round id asked word e k)
@@ -181,12 +181,12 @@ module _ (p : Plan) (q : IdPlan) (clients : List (List Task)) where
       (λ more. (
         inr (id_first id, at.0.0, at.0.1, born),
         λ found v m' l s mv. (
-            tt,
-            subst (λ x. Says v x (Round (Unlocks (id_slot id) word true) (unlocked r k))) (sym mv) (
-              ((id_first id, at.0.0, ap (put_in asked) at.0.1), at.2, at.3),
-              λ exit v' m'' l' s' lv. (tt, unlocked_says (not_equal (attempt_of e) 7 (or_left (eqb (attempt_of e) 7) (is_final (code_of e) || eqb ((parts word).attempt + 2) (parts word).range) more)) v l exit v' m'' l' s' lv),
-            ),
+          tt,
+          subst (λ x. Says v x (Round (Unlocks (id_slot id) word true) (unlocked r k))) (sym mv) (
+            ((id_first id, at.0.0, ap (put_in asked) at.0.1), at.2, at.3),
+            λ exit v' m'' l' s' lv. (tt, unlocked_says (not_equal (attempt_of e) 7 (or_left (eqb (attempt_of e) 7) (is_final (code_of e) || eqb ((parts word).attempt + 2) (parts word).range) more)) v l exit v' m'' l' s' lv),
           ),
+        ),
       ))
     where
       unlocked_says : attempt_of e ≢ 7 → (v : Scene) → After w v → (exit : Unlocking) (v' : Scene) (m'' : Mark) → After v v' → SaidBy v' (unlocked (record { id = id; attempt = (parts word).attempt + 1 }) k exit) → LeavesUnlock p q clients v' (with_slot (put_in asked m.slot) m) (id_slot id) exit m''
@@ -222,9 +222,12 @@ module _ (p : Plan) (q : IdPlan) (clients : List (List Task)) where
 
   -- what follows a post whoever made it
   pub posted_exits : (w : Scene) (m : Mark) (id e : ℕ) (next : Program) → IsFree m → IsOther (code_of e) → Follows w m next → Exits w m id e (posted id e next)
-  posted_exits w m id e next free other goes (HasLocked word) v m' l s lv = (tt, subst (λ x. Says v x (decide id word e (decided id next))) (sym lv.1)
-      (decide_says v (with_slot (Locked (id_slot id) (id_first id) lv.0) m) id word e (decided id next) lv.0 refl free.1 free.2
-      (decided_says v (with_slot (Locked (id_slot id) (id_first id) lv.0) m) id e next free.1 (λ u b _ _ _ _. by_other other) (follows_on w v m (Locked (id_slot id) (id_first id) lv.0) next l goes))))
+  posted_exits w m id e next free other goes (HasLocked word) v m' l s lv = (
+    tt,
+    subst (λ x. Says v x (decide id word e (decided id next))) (sym lv.1)
+        (decide_says v (with_slot (Locked (id_slot id) (id_first id) lv.0) m) id word e (decided id next) lv.0 refl free.1 free.2
+        (decided_says v (with_slot (Locked (id_slot id) (id_first id) lv.0) m) id e next free.1 (λ u b _ _ _ _. by_other other) (follows_on w v m (Locked (id_slot id) (id_first id) lv.0) next l goes))),
+  )
   posted_exits w m id e next free other goes WasGone v m' l s lv = (tt, goes v m' l s lv)
   posted_exits w m id e next free other goes WasStale v m' l s lv = (tt, goes v m' l s lv)
   posted_exits w m id e next free other goes (WasCrowded a b) v m' l s lv = (tt, goes v m' l s lv.0)
@@ -290,8 +293,8 @@ module _ (p : Plan) (q : IdPlan) (clients : List (List Task)) where
   joins_says w m id k free goes = (
     tt,
     λ found v m' l s mv. (
-        tt,
-        subst (λ x. Says v x (cond (is_first (id_first id) (parts found)) (Round (Joins id) k) (k found))) (sym mv.0) (way v m (is_first (id_first id) (parts found)) (Round (Joins id) k) (k found) s
-            (λ _ _. (free, λ exit v' m'' l' s' lv. (tt, subst (λ x. Says v' x (k exit)) (sym lv) (goes exit v' (far p q clients w v v' l l') s')))) (λ _ s'. goes found v l s')),
-      ),
+      tt,
+      subst (λ x. Says v x (cond (is_first (id_first id) (parts found)) (Round (Joins id) k) (k found))) (sym mv.0) (way v m (is_first (id_first id) (parts found)) (Round (Joins id) k) (k found) s
+          (λ _ _. (free, λ exit v' m'' l' s' lv. (tt, subst (λ x. Says v' x (k exit)) (sym lv) (goes exit v' (far p q clients w v v' l l') s')))) (λ _ s'. goes found v l s')),
+    ),
   )

@@ -49,9 +49,18 @@ module _ (p : Plan) (q : IdPlan) (clients : List (List Task)) where
         (Do (LoadLink i (vref_version from + 1)) (λ k. Do (TakeLink k) (λ _. Do (FinishLink k) (λ _. Do (PutLink k) (λ _. cond (leb (vref_version from + 1) LAST_VERSION) (Do (FreeSlot i) (λ _. next true)) (next true)))))) (next false) s
         (λ _ _. (
           tt,
-          λ k v2 l2 _ _. let f2 = far p q clients w v v2 l l2 in (tt, λ _ v3 l3 _ _. let f3 = far p q clients w v2 v3 f2 l3 in (tt, λ _ v4 l4 _ _. let f4 = far p q clients w v3 v4 f3 l4 in (tt, λ _ v5 l5 s5 _. let f5 = far p q clients w v4 v5 f4 l5 in
-              way p q clients v5 m (leb (vref_version from + 1) LAST_VERSION) (Do (FreeSlot i) (λ _. next true)) (next true) s5
-              (λ _ _. (tt, λ _ v6 l6 s6 _. goes true v6 (far p q clients w v5 v6 f5 l6) s6)) (λ _ s'. goes true v5 f5 s')))),
+          λ k v2 l2 _ _. let f2 = far p q clients w v v2 l l2 in (
+            tt,
+            λ _ v3 l3 _ _. let f3 = far p q clients w v2 v3 f2 l3 in (
+              tt,
+              λ _ v4 l4 _ _. let f4 = far p q clients w v3 v4 f3 l4 in (
+                tt,
+                λ _ v5 l5 s5 _. let f5 = far p q clients w v4 v5 f4 l5 in
+                    way p q clients v5 m (leb (vref_version from + 1) LAST_VERSION) (Do (FreeSlot i) (λ _. next true)) (next true) s5
+                    (λ _ _. (tt, λ _ v6 l6 s6 _. goes true v6 (far p q clients w v5 v6 f5 l6) s6)) (λ _ s'. goes true v5 f5 s'),
+              ),
+            ),
+          ),
         ))
         (λ _ s'. goes false v l s'),
   )
@@ -150,10 +159,13 @@ module _ (p : Plan) (q : IdPlan) (clients : List (List Task)) where
     λ found v l s _. way p q clients v m (found == UNCONNECTED) (Write (Walks h top at after) then_)
         (Do (TurnNext (slot_of at) after) (λ _. cond (found == h.last) (TakeMessage (slot_of at) (λ heading bytes. Write (Puts (record h { last = top }) at heading bytes 0 false) then_)) (Write (Walks h top found at) then_))) s
         (λ _ s'. writes_on w m then_ g.0 g.2 (Walks h top at after) tt v l s')
-        (λ _ _. (tt, λ _ v2 l2 s2 _. let f2 = far p q clients w v v2 l l2 in
-        way p q clients v2 m (found == h.last) (TakeMessage (slot_of at) (λ heading bytes. Write (Puts (record h { last = top }) at heading bytes 0 false) then_)) (Write (Walks h top found at) then_) s2
-        (λ _ _. λ heading bytes v3 fits l3 s3. writes_on w m then_ g.0 g.2 (Puts (record h { last = top }) at heading bytes 0 false) fits v3 (far p q clients w v2 v3 f2 l3) s3)
-        (λ _ s'. writes_on w m then_ g.0 g.2 (Walks h top found at) tt v2 f2 s'))),
+        (λ _ _. (
+          tt,
+          λ _ v2 l2 s2 _. let f2 = far p q clients w v v2 l l2 in
+              way p q clients v2 m (found == h.last) (TakeMessage (slot_of at) (λ heading bytes. Write (Puts (record h { last = top }) at heading bytes 0 false) then_)) (Write (Walks h top found at) then_) s2
+              (λ _ _. λ heading bytes v3 fits l3 s3. writes_on w m then_ g.0 g.2 (Puts (record h { last = top }) at heading bytes 0 false) fits v3 (far p q clients w v2 v3 f2 l3) s3)
+              (λ _ s'. writes_on w m then_ g.0 g.2 (Walks h top found at) tt v2 f2 s'),
+        )),
   )
 
   -- ## Attempts
@@ -162,21 +174,27 @@ module _ (p : Plan) (q : IdPlan) (clients : List (List Task)) where
   write_link_says w m id r own after free goes = (
     tt,
     λ k v l _ _. λ places v2 l2 _. λ heading bytes v3 fits l3 _. let h : Holder = record { id = id; link = k; last = own; places = places } in let f3 = far p q clients w v2 v3 (far p q clients w v v2 l l2) l3 in (
-        tt,
-        λ found v4 l4 s4 _. let f4 = far p q clients w v3 v4 f3 l4 in
-            way p q clients v4 m (vref_version found % 2 == 0) (PutBytes k false (part heading.parts bytes 0) (put_answered h own heading bytes 0 after)) (Write (Puts h own heading bytes 0 false) after) s4
-            (λ _ _. λ answer v5 l5 s5. put_then w m h own heading bytes 0 after free fits goes answer v5 (far p q clients w v4 v5 f4 l5) s5)
-            (λ _ s'. writes_on w m after free goes (Puts h own heading bytes 0 false) fits v4 f4 s'),
-      ),
+      tt,
+      λ found v4 l4 s4 _. let f4 = far p q clients w v3 v4 f3 l4 in
+          way p q clients v4 m (vref_version found % 2 == 0) (PutBytes k false (part heading.parts bytes 0) (put_answered h own heading bytes 0 after)) (Write (Puts h own heading bytes 0 false) after) s4
+          (λ _ _. λ answer v5 l5 s5. put_then w m h own heading bytes 0 after free fits goes answer v5 (far p q clients w v4 v5 f4 l5) s5)
+          (λ _ s'. writes_on w m after free goes (Puts h own heading bytes 0 false) fits v4 f4 s'),
+    ),
   )
 
   pub accept_says : (w : Scene) (m : Mark) (id r g : ℕ) (heading : Heading) (bytes : List ℕ) (after : Program) → IsFree m → Ends w m after → Tells w m (accept id r g heading bytes after)
   accept_says w m id r g heading bytes after free goes = (
     tt,
-    λ _ v l _ _. (tt, λ _ v2 l2 _ _. (tt, λ found v3 l3 s3 _. let f3 = far p q clients w v2 v3 (far p q clients w v v2 l l2) l3 in
-        way p q clients v3 m (nat_lt found IDLE) (Do (Connect r found) (λ _. after)) (write_link id r (ticket_of r g) after) s3
-        (λ _ _. (tt, λ _ v4 l4 s4 _. goes v4 m (far p q clients w v3 v4 f3 l4) s4 (again_same p q clients m m free refl)))
-        (λ _ _. write_link_says v3 m id r (ticket_of r g) after free (follows_later p q clients w v3 m after f3 goes)))),
+    λ _ v l _ _. (
+      tt,
+      λ _ v2 l2 _ _. (
+        tt,
+        λ found v3 l3 s3 _. let f3 = far p q clients w v2 v3 (far p q clients w v v2 l l2) l3 in
+            way p q clients v3 m (nat_lt found IDLE) (Do (Connect r found) (λ _. after)) (write_link id r (ticket_of r g) after) s3
+            (λ _ _. (tt, λ _ v4 l4 s4 _. goes v4 m (far p q clients w v3 v4 f3 l4) s4 (again_same p q clients m m free refl)))
+            (λ _ _. write_link_says v3 m id r (ticket_of r g) after free (follows_later p q clients w v3 m after f3 goes)),
+      ),
+    ),
   )
 
   claims_then : (w : Scene) (m : Mark) (more r id : ℕ) (heading : Heading) (bytes : List ℕ) (full accepted : Program) → IsFree m → Next w m full → Ends w m accepted → Next w m (claims_from more r id heading bytes full accepted)
@@ -198,15 +216,21 @@ module _ (p : Plan) (q : IdPlan) (clients : List (List Task)) where
       let freed_ : Program = release (socket_id_slot socket) (λ _. next) in
       let looked : ℕ → Program = λ found. cond (eqb (vref_version found % 2) 0) (claims_from requests 0 socket (heading_for asked id n) (frame_of asked id n) (post id 3001 n (release (socket_id_slot socket) (λ _. next))) (release (socket_id_slot socket) (λ _. next))) (post id 1009 n (release (socket_id_slot socket) (λ _. next))) in
       address_says w m socket (Do (FindLink (socket_id_slot socket) (socket_id_version socket)) (λ k. Aside (StoreAt asked.operation (at_word (id_first id) (id_slot id) k n)) (λ _. Do (LookWord socket) looked))) (λ _. post id 1009 n next)
-      (λ v l _. (tt, λ k v2 l2 _ _. (tt, λ _ v3 m3 l3 _ mv. (
+      (λ v l _. (
         tt,
-        subst (λ x. Tells v3 x (Do (LookWord socket) looked)) (sym mv) (
+        λ k v2 l2 _ _. (
           tt,
-          λ found v4 l4 s4 _. let f4 = far p q clients w v3 v4 (far p q clients w v2 v3 (far p q clients w v v2 l l2) l3) l4 in
-              way p q clients v4 m (eqb (vref_version found % 2) 0) (claims_from requests 0 socket (heading_for asked id n) (frame_of asked id n) (post id 3001 n (release (socket_id_slot socket) (λ _. next))) (release (socket_id_slot socket) (λ _. next))) (post id 1009 n (release (socket_id_slot socket) (λ _. next))) s4
-              (λ _ s'. claims_then w m requests 0 socket (heading_for asked id n) (frame_of asked id n) (post id 3001 n freed_) freed_ free
-              (λ u l' _. post_says p q clients u m id 3001 n freed_ free (inr (inr (inr (inl refl)))) (omega (arith, few)) (follows_later p q clients w u m freed_ l' (releases w m i next goes))) (releases w m i next goes) v4 f4 s')
-              (λ _ _. post_says p q clients v4 m id 1009 n freed_ free (inl refl) (omega (arith, few)) (follows_later p q clients w v4 m freed_ f4 (releases w m i next goes))),
+          λ _ v3 m3 l3 _ mv. (
+            tt,
+            subst (λ x. Tells v3 x (Do (LookWord socket) looked)) (sym mv) (
+              tt,
+              λ found v4 l4 s4 _. let f4 = far p q clients w v3 v4 (far p q clients w v2 v3 (far p q clients w v v2 l l2) l3) l4 in
+                  way p q clients v4 m (eqb (vref_version found % 2) 0) (claims_from requests 0 socket (heading_for asked id n) (frame_of asked id n) (post id 3001 n (release (socket_id_slot socket) (λ _. next))) (release (socket_id_slot socket) (λ _. next))) (post id 1009 n (release (socket_id_slot socket) (λ _. next))) s4
+                  (λ _ s'. claims_then w m requests 0 socket (heading_for asked id n) (frame_of asked id n) (post id 3001 n freed_) freed_ free
+                  (λ u l' _. post_says p q clients u m id 3001 n freed_ free (inr (inr (inr (inl refl)))) (omega (arith, few)) (follows_later p q clients w u m freed_ l' (releases w m i next goes))) (releases w m i next goes) v4 f4 s')
+                  (λ _ _. post_says p q clients v4 m id 1009 n freed_ free (inl refl) (omega (arith, few)) (follows_later p q clients w v4 m freed_ f4 (releases w m i next goes))),
+            ),
+          ),
         ),
-      ))))
+      ))
       (λ found v l _. post_says p q clients v m id 1009 n next free (inl refl) (omega (arith, few)) (follows_later p q clients w v m next l goes))

@@ -70,19 +70,19 @@ module _ (p : Plan) (q : IdPlan) (clients : List (List Task)) where
       let says : Asked → Program = λ asked. Say asked.operation (ending_of (call_id (slot_in frame) first) frame) next in (
         (first, range, slot),
         λ asked v m1 l s mv. let born = mv.1 first range slot in let b : Birth = record { id = call_id (slot_in frame) first; asked = asked } in (
-            tt,
-            subst (λ x. Tells v x (Rattle.sock_programs.specs.Posts.end_id (slot_in frame) (says asked))) (sym mv.0)
-                (end_says p q clients v (with_slot (taken_out asked m.slot) m) (slot_in frame) first range asked (says asked) (ap (taken_out asked) slot) born.0 owes
-                (λ v2 m2 t vacant l2 said is. inr (
-                  b,
-                  ap (λ (x : Mark). x.owes) is,
-                  refl,
-                  l2.born (call_id (slot_in frame) first) asked born.0,
-                  by_frame v2 k came.0 (call_id (slot_in frame) first) asked frame inside (l2.came k came.0 frame (l.came k came.0 frame came.1))
-                      (some_response frame.meta.response came.2, omega (arith, low), (let same = born.1 in omega (arith, high, same))) frame.meta.compress_type refl frame.meta.response refl,
-                  goes v2 (with_owed [] m2) (far p q clients w v v2 l l2) said.1 (record { slot = t; vacant = vacant; is = ap (with_owed []) is ∙ ap (λ bs. with_owed bs (with_slot t m)) (sym owes) }),
-                ))),
-          ),
+          tt,
+          subst (λ x. Tells v x (Rattle.sock_programs.specs.Posts.end_id (slot_in frame) (says asked))) (sym mv.0)
+              (end_says p q clients v (with_slot (taken_out asked m.slot) m) (slot_in frame) first range asked (says asked) (ap (taken_out asked) slot) born.0 owes
+              (λ v2 m2 t vacant l2 said is. inr (
+                b,
+                ap (λ (x : Mark). x.owes) is,
+                refl,
+                l2.born (call_id (slot_in frame) first) asked born.0,
+                by_frame v2 k came.0 (call_id (slot_in frame) first) asked frame inside (l2.came k came.0 frame (l.came k came.0 frame came.1))
+                    (some_response frame.meta.response came.2, omega (arith, low), (let same = born.1 in omega (arith, high, same))) frame.meta.compress_type refl frame.meta.response refl,
+                goes v2 (with_owed [] m2) (far p q clients w v v2 l l2) said.1 (record { slot = t; vacant = vacant; is = ap (with_owed []) is ∙ ap (λ bs. with_owed bs (with_slot t m)) (sym owes) }),
+              ))),
+        ),
       )
 
   -- ## The responses of a piece
@@ -130,11 +130,14 @@ module _ (p : Plan) (q : IdPlan) (clients : List (List Task)) where
   responses_at w ids link k inside [] kept m free goes v l came all s = goes kept v m l s (again_same p q clients m m free refl) all
   responses_at w ids link k inside (f ∷ fs) kept m free goes v l came all s = way p q clients v m (has_response f.meta.response && nat_lt (slot_in f) ids)
       (Round (Locks (slot_in f) (Version (version_in f)) None) (answered f kept (λ kept'. responses ids fs kept' k))) (responses ids fs kept k) s
-      (λ here _. ((free, tt), λ exit v2 m2 l2 s2 lv. (
-        tt,
-        answered_says w m ids link f fs kept k free inside (λ kept' m' free' a u l' came' all' s'. responses_at w ids link k inside fs kept' m' free' (kept_again w m m' link k a goes) u l' came' all' s')
-            v l (came.0.0, came.0.1, and_left (has_response f.meta.response) (nat_lt (slot_in f) ids) here) came.1 all exit v2 m2 l2 s2 lv,
-      )))
+      (λ here _. (
+        (free, tt),
+        λ exit v2 m2 l2 s2 lv. (
+          tt,
+          answered_says w m ids link f fs kept k free inside (λ kept' m' free' a u l' came' all' s'. responses_at w ids link k inside fs kept' m' free' (kept_again w m m' link k a goes) u l' came' all' s')
+              v l (came.0.0, came.0.1, and_left (has_response f.meta.response) (nat_lt (slot_in f) ids) here) came.1 all exit v2 m2 l2 s2 lv,
+        ),
+      ))
       (λ _ s'. responses_at w ids link k inside fs kept m free goes v l came.1 all s')
 
   -- ## Reading
@@ -253,8 +256,11 @@ module _ (p : Plan) (q : IdPlan) (clients : List (List Task)) where
         by_test false s here is later = later
 
     posted_exits : (w : Scene) (m : Mark) (id e : ℕ) (kept : List Frame) (next : Program) → IsFree m → IsOther (code_of e) → AreKept w link kept → Ends w m next → Exits p q clients w m id e (posted_last id e kept next)
-    posted_exits w m id e kept next free coded all goes (HasLocked word) v m' l s lv = (tt, subst (λ x. Tells v x (ends_with id e word (kept_for id (parts word).range kept) next)) (sym lv.1)
-        (kept_ends v (with_slot (Locked (id_slot id) (id_first id) lv.0) m) id e word lv.0 next refl free.1 free.2 lv.2 coded (follows_on p q clients w v m (Locked (id_slot id) (id_first id) lv.0) next l goes) kept (kept_on p q clients w v l link kept all)))
+    posted_exits w m id e kept next free coded all goes (HasLocked word) v m' l s lv = (
+      tt,
+      subst (λ x. Tells v x (ends_with id e word (kept_for id (parts word).range kept) next)) (sym lv.1)
+          (kept_ends v (with_slot (Locked (id_slot id) (id_first id) lv.0) m) id e word lv.0 next refl free.1 free.2 lv.2 coded (follows_on p q clients w v m (Locked (id_slot id) (id_first id) lv.0) next l goes) kept (kept_on p q clients w v l link kept all)),
+    )
     posted_exits w m id e kept next free coded all goes WasGone v m' l s lv = (tt, goes v m' l s lv)
     posted_exits w m id e kept next free coded all goes WasStale v m' l s lv = (tt, goes v m' l s lv)
     posted_exits w m id e kept next free coded all goes (WasCrowded a b) v m' l s lv = (tt, goes v m' l s lv.0)
@@ -320,21 +326,21 @@ module _ (p : Plan) (q : IdPlan) (clients : List (List Task)) where
   reader_says calls k o w m free none_ own empty inside = (
     free,
     λ word v m' l s lv. let r : Reading = record { ids = length calls; link = k; id = word - 1; rest = []; total = 0; kept = [] } in (
-        tt,
-        subst (λ x. Tells v x (cond (eqb word NO_SOCKET) Rest (Round (Reads r) (read calls)))) (sym lv) (plain_way p q clients v m (eqb word NO_SOCKET) Rest (Round (Reads r) (read calls)) (λ _. (free, none_))
-            (λ _. (
+      tt,
+      subst (λ x. Tells v x (cond (eqb word NO_SOCKET) Rest (Round (Reads r) (read calls)))) (sym lv) (plain_way p q clients v m (eqb word NO_SOCKET) Rest (Round (Reads r) (read calls)) (λ _. (free, none_))
+          (λ _. (
             (free, record { inside = inside; link = own; goes = (0, λ more n f there. subst (λ j. slice_get (streams.stream (m.bytes ++ more)).frames j ≡ Some f) (let z : n ≡ 0 + n = omega arith in z) (subst (λ l. slice_get (streams.stream (l ++ more)).frames n ≡ Some f) (sym empty) there)); kept = tt }),
             λ how v2 m2 l2 s2 lv2. (
-                tt,
-                read_says calls how v m2 v2 l2 (record {
-                  free = subst IsFree (sym lv2.3) (lv2.2, free.1, free.2);
-                  none_ = ap (λ (x : Mark). x.todo) lv2.3 ∙ none_;
-                  own = ap (λ (x : Mark). x.link) lv2.3 ∙ (own ∙ ap (λ n. n ∷ []) (sym lv2.4));
-                  inside = subst (λ n. n < p.links) (sym lv2.4) inside;
-                  code = lv2.7;
-                  kept = subst (λ n. AreKept v2 n how.reading.kept) (sym lv2.4) lv2.6;
-                }) s2,
-              ),
+              tt,
+              read_says calls how v m2 v2 l2 (record {
+                free = subst IsFree (sym lv2.3) (lv2.2, free.1, free.2);
+                none_ = ap (λ (x : Mark). x.todo) lv2.3 ∙ none_;
+                own = ap (λ (x : Mark). x.link) lv2.3 ∙ (own ∙ ap (λ n. n ∷ []) (sym lv2.4));
+                inside = subst (λ n. n < p.links) (sym lv2.4) inside;
+                code = lv2.7;
+                kept = subst (λ n. AreKept v2 n how.reading.kept) (sym lv2.4) lv2.6;
+              }) s2,
+            ),
           ))),
-      ),
+    ),
   )

@@ -1,5 +1,5 @@
 -- An outcome that is said, of the task that is to be done or of a range that has ended, keeps what the tasks and outcomes tell.
-use Rattle.std.proofs.Common.{◌≡◌, ◌≢◌, ℕ, zero, suc, ◌+◌, ◌<◌, ◌≤◌, ◌⊎◌, inl, inr, ⊎_elim, List, [], ◌∷◌, length, get_or, set, slice_get, Option, None, Some, refl, sym, ap, ◌∙◌, subst, arith}
+use Rattle.std.proofs.Common.{◌≡◌, ◌≢◌, ℕ, zero, suc, ◌⊎◌, inl, inr, ⊎_elim, List, [], ◌∷◌, get_or, set, slice_get, Option, None, Some, refl, sym, ap, ◌∙◌, subst, arith}
 use mathlib.Core.Option as core
 use mathlib.Core.Option.{some-injective}
 use mathlib.Core.Logic.{dite}
@@ -10,12 +10,10 @@ use Rattle.sock_words.specs.declared.plain.Plan.{Plan}
 use Rattle.sock_words.specs.declared.outcome.Outcome.{Outcome}
 use Rattle.corr_core.specs.declared.marks.Plan.{Plan as IdPlan}
 use Rattle.sock_programs.specs.declared.task.Task.{Task}
-use Rattle.sock_programs.specs.declared.task.Op.TheVariants as ops
-use Rattle.sock_programs.specs.Asides.{id_slot, id_first}
 use Rattle.call_causes.specs.Scenes.{Birth, Saying, Scene, In, Said, IsBorn, IsTaskOf, Named, WhyEnded, WhyOwn, ToldOf, was_said, was_sent}
-use Rattle.call_causes.specs.Says.{Mark, with_done, with_owed, IsFree}
-use Rattle.call_causes.specs.Stories.{At, word_at, HasPassed, IsCurrent, AreApart, BirthsLaw, undo, ahead, tasks_behind, IsUntold, IsBegunBy, IsOwed, TasksLaw}
-use Rattle.call_causes.proofs.BirthTicks.{in_all, two_of}
+use Rattle.call_causes.specs.Says.{Mark, with_done}
+use Rattle.call_causes.specs.Stories.{At, HasPassed, BirthsLaw, undo, ahead, IsUntold, IsBegunBy, IsOwed, TasksLaw}
+use Rattle.call_causes.proofs.BirthTicks.{in_all}
 use Rattle.call_causes.proofs.Numbered.{AllDistinct, AreNumbered, distinct_undo}
 use Rattle.call_causes.proofs.Moving.{in_todo, in_done, listed}
 

@@ -1,5 +1,5 @@
 -- The outcome of a call whose range a seat ended, once it is said, keeps what the tasks and outcomes tell.
-use Rattle.std.proofs.Common.{◌≡◌, ◌≢◌, ℕ, ◌+◌, ◌<◌, ◌≤◌, ◌⊎◌, inl, inr, ⊎_elim, List, [], ◌∷◌, get_or, set, slice_get, Option, None, Some, refl, sym, ap, ◌∙◌, subst, arith}
+use Rattle.std.proofs.Common.{◌≡◌, ◌≢◌, ℕ, ◌⊎◌, inl, inr, ⊎_elim, List, [], ◌∷◌, get_or, set, Option, Some, refl, sym, ap, ◌∙◌, subst, arith}
 use mathlib.Core.Option.{some-injective}
 use mathlib.Core.Logic.{dite}
 use native.Mathlib.Decide.{ℕ_discrete}
@@ -14,7 +14,7 @@ use Rattle.call_causes.specs.Says.{Mark, with_owed}
 use Rattle.call_causes.specs.Stories.{At, HasPassed, IsCurrent, BirthsLaw, undo, ahead, IsUntold, IsBegunBy, IsOwed, TasksLaw}
 use Rattle.call_causes.proofs.BirthTicks.{in_all, two_of}
 use Rattle.call_causes.proofs.Numbered.{AllDistinct, AreNumbered}
-use Rattle.call_causes.proofs.Sayings.{got_other, in_ahead, put_at, put_beside, is_done, is_todo, distinct_at, at_either, still_at, said_more, outcomes_more}
+use Rattle.call_causes.proofs.Sayings.{got_other, in_ahead, put_beside, is_done, is_todo, distinct_at, at_either, still_at, said_more, outcomes_more}
 
 module _ (p : Plan) (q : IdPlan) (clients : List (List Task)) (numbered : AreNumbered p q clients) (w : Scene) (births : BirthsLaw p q clients w) (os : List (Option Outcome)) (ss : List Saying) (ms : List Mark) (law : TasksLaw p q clients w os ss ms) (j : ℕ) (m : Mark) (at : At ms j m)
     (b : Birth) (owes : m.owes ≡ b ∷ []) (x : Outcome) (said_x : Said w b.asked.operation x) (why : WhyEnded p q clients w b x) where

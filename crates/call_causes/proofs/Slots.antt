@@ -5,9 +5,8 @@ use mathlib.Core.Option.{some-injective}
 use mathlib.Core.Logic.{dite}
 use native.Mathlib.Decide.{ℕ_discrete}
 use lib.ListN.{get_elem?}
-use Rattle.atomic_table.proofs.Lists.{at_set}
 use Rattle.sock_words.specs.declared.plain.Plan.{Plan}
-use Rattle.corr_core.specs.Word.{Parts, parts, made_word, locked_word, posted_word, unlocked_word, free_word}
+use Rattle.corr_core.specs.Word.{Parts, parts, locked_word, posted_word, unlocked_word, free_word}
 use Rattle.corr_core.specs.declared.marks.Plan.{Plan as IdPlan}
 use Rattle.id_rule.specs.Lawful.{tag_word, id_word, all_words}
 use Rattle.sock_message.specs.Asked.{Asked}
@@ -15,10 +14,9 @@ use Rattle.sock_programs.specs.declared.task.Task.{Task}
 use Rattle.sock_programs.specs.Asides.{Step, ClaimId, PutCall, MakeId, StoreCall, LoadCall, StoreAt, LoadAt, LoadIdWord, LockId, PostId, UnlockId, EndId, FreeId, TakeCall, TakeBytes, Taking, Bytes, Found}
 use Rattle.sock_programs.specs.Posts.{packed, advance_of}
 use Rattle.id_runs.proofs.Keeps.{parts_packed}
-use Rattle.id_runs.proofs.Loops.{not_equal}
 use Rattle.call_causes.specs.Scenes.{Scene}
-use Rattle.call_causes.specs.Says.{Slot, NoSlot, Claims, Locked, Holds, Leaves, Mark, with_slot, IsVacant, put_in, taken_out, MayAside}
-use Rattle.call_causes.specs.Stories.{At, word_at, tag_at, LiesAt, InSlot, PutThere, SlotFits, SlotsLaw, IsBehind, KnowsStep, mark_after, stored_by}
+use Rattle.call_causes.specs.Says.{Slot, NoSlot, Claims, Locked, Holds, Leaves, Mark, with_slot, put_in, taken_out, MayAside}
+use Rattle.call_causes.specs.Stories.{word_at, tag_at, LiesAt, InSlot, PutThere, SlotFits, IsBehind, KnowsStep, mark_after, stored_by}
 use Rattle.call_causes.proofs.Posts.{locked_parts}
 use Rattle.call_causes.proofs.Effects.{Touches, SameAt, beside, word_is, tag_stays, tag_is, word_stays, lies_is}
 
@@ -188,9 +186,12 @@ module _ (p : Plan) (q : IdPlan) (clients : List (List Task)) (w w' : Scene) (m 
 
   -- the own slot where neither its words nor its tag change
   put_own : (i : ℕ) (asked : Asked) (s : Slot) → Behind (PutCall i asked) 0 → (s ≡ Claims i None) ⊎ ((f range : ℕ) × (s ≡ Holds i f range asked)) → SlotFits q w s → SlotFits q w' (put_in asked s)
-  put_own i asked s b (inl is) f = let x = subst (SlotFits q w) is f in subst (λ y. SlotFits q w' (put_in asked y)) (sym is)
-      (x.0, (λ e. x.1 (ap (λ ws. Rattle.std.proofs.Common.get_or ws (tag_word i) 0) (sym b.words) ∙ e)), ap (λ ws. (parts (Rattle.std.proofs.Common.get_or ws (id_word i) 0)).state) b.words ∙ x.2,
-      λ a lies. let z = some-injective (Some asked) (Some a) (lies_is p q clients w w' m plan i (core.some (Some asked)) a b.homes lies) in let y : a ≡ asked = cc in y)
+  put_own i asked s b (inl is) f = let x = subst (SlotFits q w) is f in subst (λ y. SlotFits q w' (put_in asked y)) (sym is) (
+    x.0,
+    (λ e. x.1 (ap (λ ws. Rattle.std.proofs.Common.get_or ws (tag_word i) 0) (sym b.words) ∙ e)),
+    ap (λ ws. (parts (Rattle.std.proofs.Common.get_or ws (id_word i) 0)).state) b.words ∙ x.2,
+    λ a lies. let z = some-injective (Some asked) (Some a) (lies_is p q clients w w' m plan i (core.some (Some asked)) a b.homes lies) in let y : a ≡ asked = cc in y,
+  )
   put_own i asked s b (inr is) f = let x = subst (SlotFits q w) is.2 f in subst (λ y. SlotFits q w' (put_in asked y)) (sym is.2) (locked_still i is.0 is.1 b.words x)
     where
       locked_still : (i f range : ℕ) → w'.core.calls.words ≡ w.core.calls.words → SlotFits q w (Locked i f range) → SlotFits q w' (Locked i f range)

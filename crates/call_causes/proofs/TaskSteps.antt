@@ -1,5 +1,5 @@
 -- Each step aside changes its seat, the ids and the words of calls so that the laws of the tasks are kept.
-use Rattle.std.proofs.Common.{◌≡◌, ◌≢◌, ℕ, ◌+◌, ◌*◌, ◌/◌, ◌%◌, ◌<◌, ◌≤◌, ◌⊎◌, inl, inr, ⊎_elim, Bool, true, false, cond, eqb, List, [], ◌∷◌, ◌++◌, length, get_or, set, get_or-set_other, Option, None, Some, refl, sym, ap, ◌∙◌, subst, arith}
+use Rattle.std.proofs.Common.{◌≡◌, ◌≢◌, ℕ, ◌+◌, ◌<◌, ◌≤◌, ◌⊎◌, inl, inr, ⊎_elim, Bool, true, false, cond, eqb, List, [], ◌∷◌, ◌++◌, length, get_or, set, get_or-set_other, Option, None, refl, sym, ap, ◌∙◌, subst, arith}
 use mathlib.Core.Logic.{dite}
 use native.Mathlib.Decide.{ℕ_discrete}
 use Rattle.sock_words.specs.declared.plain.Plan.{Plan}
@@ -12,16 +12,16 @@ use Rattle.sock_programs.specs.declared.task.Task.{Task}
 use Rattle.sock_programs.specs.Asides.{Step, ClaimId, PutCall, MakeId, StoreCall, LoadCall, StoreAt, LoadAt, LoadIdWord, LockId, PostId, UnlockId, EndId, FreeId, TakeCall, TakeBytes, Bytes, Found, call_id, id_slot, id_first}
 use Rattle.sock_programs.specs.Asides as asides
 use Rattle.sock_programs.specs.Posts.{packed, advance_of}
-use Rattle.call_causes.specs.Scenes.{Birth, Saying, Scene, In, IsBorn, Begun, AreTold, was_begun, Later}
+use Rattle.call_causes.specs.Scenes.{Birth, Saying, Scene, In, AreTold, was_begun, Later}
 use Rattle.call_causes.specs.Says.{Slot, NoSlot, Claims, Locked, Holds, Leaves, Mark, with_slot, with_owed, with_made, with_done, MayAside}
-use Rattle.call_causes.specs.Stories.{At, word_at, SlotFits, HasPassed, IsCurrent, AreApart, BirthsLaw, undo, ahead, tasks_behind, IsUntold, IsBegunBy, TasksLaw, IsBehind, KnowsStep, put_of, born_by, ended_of, stored_by, mark_after}
+use Rattle.call_causes.specs.Stories.{At, word_at, SlotFits, HasPassed, IsCurrent, BirthsLaw, undo, ahead, tasks_behind, IsUntold, TasksLaw, IsBehind, KnowsStep, put_of, born_by, ended_of, stored_by, mark_after}
 use Rattle.call_causes.proofs.Lasting.{are_told_on}
 use Rattle.call_causes.proofs.Births.{Turn, keeps, ends, makes, IsMake, IsEnd, turn, current_before, passed_still}
 use Rattle.call_causes.proofs.BirthTicks.{two_of}
 use Rattle.call_causes.proofs.Laters.{stored_is}
 use Rattle.call_causes.proofs.Numbered.{AreNumbered}
 use Rattle.call_causes.proofs.Sayings.{in_ahead}
-use Rattle.call_causes.proofs.TaskTicks.{IsNew, IsStored, Change}
+use Rattle.call_causes.proofs.TaskTicks.{IsNew, Change}
 
 -- a step stores the word of this call
 abbrev IsStore : Step → ℕ → Type 0
