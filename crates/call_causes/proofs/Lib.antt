@@ -24,3 +24,4 @@ pub mod AsideTicks
 pub mod SockTicks
 pub mod End
 pub mod Whys
+pub mod Shown
