@@ -1,0 +1,5 @@
+pub mod Lists
+pub mod Target
+pub mod Scenes
+pub mod Says
+pub mod Stories

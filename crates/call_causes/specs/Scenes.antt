@@ -1,0 +1,192 @@
+-- What has happened so far that lasts, and what it tells of calls.
+use Rattle.std.specs.Prelude.{ℕ, ◌≡◌, ◌≢◌, ◌+◌, ◌<◌, ◌≤◌, ◌⊎◌, ◌∷◌, List, [], slice_get, slice_index, Some, IsSome, ℤ, pos}
+use Rattle.sock_words.specs.declared.plain.Plan.{Plan}
+use Rattle.sock_words.specs.declared.outcome.Outcome.{Outcome}
+use Rattle.sock_words.specs.declared.outcome.Outcome.TheVariants.{Opened, SlotsFull, Unopened, Answered, Peer, CallFailed, Expired, Queued, Late, Crowded, Joined, NotBegun}
+use Rattle.brpc_model.specs.Meta.{ResponseMeta}
+use Rattle.brpc_model.specs.Frame.{Frame}
+use Rattle.brpc_model.specs.Stream.{stream}
+use Rattle.corr_core.specs.Word.{error_of, code_of}
+use Rattle.corr_core.specs.declared.marks.Plan.{Plan as IdPlan}
+use Rattle.id_rule.specs.Lawful.{call_word}
+use Rattle.sock_model.specs.Layout.{name_word}
+use Rattle.sock_message.specs.Asked.{Asked, name_of}
+use Rattle.sock_programs.specs.declared.task.Op.{Op}
+use Rattle.sock_programs.specs.declared.task.Op.TheVariants as ops
+use Rattle.sock_programs.specs.declared.task.Task.{Task}
+use Rattle.sock_programs.specs.Posts.{WHOLE}
+use Rattle.sock_programs.specs.Cores.{Core}
+use Rattle.call_causes.specs.Lists.{given}
+
+-- the id of a call, which has the versions behind it, as many as the call's range less one
+pub record Birth : Type 0 where
+  pub id : ℕ
+  pub asked : Asked
+
+-- an outcome that was said of an operation
+pub record Saying : Type 0 where
+  pub number : ℕ
+  pub outcome : Outcome
+
+-- an id slot that was claimed for the call that is this operation
+pub record Claim : Type 0 where
+  pub slot : ℕ
+  pub operation : ℕ
+
+-- a core, the slots that were claimed so far, the ids that were made, and what was said, each the latest first
+pub record Scene : Type 0 where
+  pub core : Core
+  pub claims : List Claim
+  pub births : List Birth
+  pub sayings : List Saying
+
+-- x is one of the list
+abbrev pub In : {A : Type 0} → A → List A → Type 0
+In x [] = ⊥
+In x (y ∷ ys) = (x ≡ y) ⊎ In x ys
+
+abbrev pub Said : Scene → ℕ → Outcome → Type 0
+Said w o x = In (record { number = o; outcome = x }) w.sayings
+
+abbrev pub IsBorn : Scene → ℕ → Asked → Type 0
+IsBorn w id asked = In (record { id = id; asked = asked }) w.births
+
+abbrev pub IsClaimed : Scene → ℕ → ℕ → Type 0
+IsClaimed w i o = In (record { slot = i; operation = o }) w.claims
+
+-- frame n of link k came
+abbrev pub Came : Scene → ℕ → ℕ → Frame → Type 0
+Came w k n frame = slice_get (stream (given w.core k)).frames n ≡ Some frame
+
+-- it is the response of one of the versions of the call with this id
+abbrev pub IsResponseTo : ℕ → Asked → Frame → Type 0
+IsResponseTo id asked frame = IsSome frame.meta.response × (id < frame.meta.correlation_id) × (frame.meta.correlation_id < id + asked.range)
+
+abbrev pub HasCode : ℤ → Frame → Type 0
+HasCode code frame = (frame.meta.compress_type ≡ pos 0) × (r : ResponseMeta) × (frame.meta.response ≡ Some r) × (r.code ≡ code)
+
+-- a code of an error that isn't that of an `expire`
+abbrev pub IsOther : ℕ → Type 0
+IsOther code = (code ≡ 1009) ⊎ ((code ≡ 1014) ⊎ ((code ≡ 2002) ⊎ ((code ≡ 3001) ⊎ ((1500 ≤ code) × (code ≤ 1999)))))
+
+abbrev pub IsErrorCode : ℕ → Type 0
+IsErrorCode code = (code ≡ 1008) ⊎ IsOther code
+
+abbrev pub IsOpened : Outcome → Type 0
+IsOpened (Opened slot version k) = Unit {0}
+IsOpened other = ⊥
+
+-- the task looks for a socket of name n
+abbrev pub SeeksName : ℕ → Op → Type 0
+SeeksName n (ops.Fail m code) = m ≡ n
+SeeksName n (ops.Hold m) = m ≡ n
+SeeksName n (ops.Send m bytes) = m ≡ n
+SeeksName n (ops.Call asked) = name_of asked 0 ≡ n
+SeeksName n other = ⊥
+
+module _ (p : Plan) (q : IdPlan) (clients : List (List Task)) where
+  -- the name had a socket
+  abbrev pub Named : Scene → ℕ → Type 0
+  Named w n = slice_index w.core.words (name_word p n) ≢ 0
+
+  -- the word of the call was stored
+  abbrev pub Begun : Scene → ℕ → Type 0
+  Begun w o = slice_index w.core.calls.words (call_word q o) ≢ 0
+
+  abbrev pub IsTaskOf : ℕ → Task → Type 0
+  IsTaskOf c t = (ts : List Task) × (slice_get clients c ≡ Some ts) × In t ts
+
+  -- an `expire` of the call was told that it ended it, or that its error waits
+  abbrev pub IsExpired : Scene → Asked → Type 0
+  IsExpired w asked = (client : ℕ) × (t : Task) × IsTaskOf client t × (t.op ≡ ops.Expire asked.operation) × (Said w t.number Expired ⊎ Said w t.number Queued)
+
+  -- a frame that came is a response of the call with this id, and this holds of it
+  abbrev pub IsAnsweredIn : Scene → ℕ → Asked → (Frame → Type 0) → Type 0
+  IsAnsweredIn w id asked P = (k n : ℕ) × (frame : Frame) × (k < p.links) × Came w k n frame × IsResponseTo id asked frame × P frame
+
+  -- why an error of the id is there
+  pub data CauseOf (w : Scene) (id e : ℕ) : Type 0 where
+    of_expiry : (asked : Asked) → e ≡ error_of 1008 WHOLE → IsBorn w id asked → IsExpired w asked → CauseOf w id e
+    of_other : IsOther (code_of e) → CauseOf w id e
+
+  -- why the call with this id ended with the code
+  pub data FailedIn (w : Scene) (id : ℕ) (asked : Asked) (code : ℕ) : Type 0 where
+    by_expiry : code ≡ 1008 → IsExpired w asked → FailedIn w id asked code
+    by_compression : code ≡ 2002 → IsAnsweredIn w id asked (λ frame. frame.meta.compress_type ≢ pos 0) → FailedIn w id asked code
+    by_other : IsOther code → FailedIn w id asked code
+
+  -- why a call whose range has ended has its outcome
+  abbrev pub WhyEnded : Scene → Birth → Outcome → Type 0
+  WhyEnded w b (Answered id payload attachment) = (id ≡ b.id) × IsAnsweredIn w b.id b.asked (λ (frame : Frame). HasCode (pos 0) frame × (frame.payload ≡ payload) × (frame.attachment ≡ attachment))
+  WhyEnded w b (Peer id code) = (id ≡ b.id) × IsAnsweredIn w b.id b.asked (HasCode code) × (code ≢ pos 0)
+  WhyEnded w b (CallFailed id code) = (id ≡ b.id) × FailedIn w b.id b.asked code
+  WhyEnded w b other = ⊥
+
+  -- ## Tasks done
+
+  abbrev pub HasNoneOf : Scene → ℕ → Task → Type 0
+  HasNoneOf w n t = (k : ℕ) → t.op ≡ ops.Open n k → (x : Outcome) × Said w t.number x × (IsOpened x → ⊥)
+
+  -- no task of the setup gave the name a socket, and none of those before
+  pub record NoneFound (w : Scene) (before : List Task) (n : ℕ) : Type 0 where
+    pub setup : (t : Task) → IsTaskOf 0 t → HasNoneOf w n t
+    pub own : (t : Task) → In t before → HasNoneOf w n t × (SeeksName n t.op → Said w t.number Unopened)
+
+  -- the call that is operation t had begun; if it is of client c, among these tasks
+  abbrev pub HasBegunIn : Scene → ℕ → List Task → ℕ → Type 0
+  HasBegunIn w c before t = (client : ℕ) × (task : Task) × (id : ℕ) × (asked : Asked) × IsTaskOf client task × (task.op ≡ ops.Call asked) × (task.number ≡ t) × (asked.operation ≡ t) × IsBorn w id asked × (client ≡ c → In task before)
+
+  abbrev pub HasNotBegunIn : Scene → List Task → ℕ → Type 0
+  HasNotBegunIn w before t = (task : Task) → In task before → task.number ≡ t → Said w t Unopened
+
+  -- why a task of client c has its outcome, behind these tasks; of those that aren't on calls it is only said whether their name has a socket
+  abbrev pub WhyOwn : Scene → ℕ → List Task → Op → Outcome → Type 0
+  WhyOwn w c before (ops.Call asked) Unopened = NoneFound w before (name_of asked 0)
+  WhyOwn w c before (ops.Call asked) other = ⊥
+  WhyOwn w c before (ops.Expire t) Expired = (id : ℕ) × Said w t (CallFailed id 1008)
+  WhyOwn w c before (ops.Expire t) Queued = HasBegunIn w c before t
+  WhyOwn w c before (ops.Expire t) Late = HasBegunIn w c before t
+  WhyOwn w c before (ops.Expire t) (Crowded a b) = HasBegunIn w c before t × IsErrorCode a × IsErrorCode b
+  WhyOwn w c before (ops.Expire t) NotBegun = HasNotBegunIn w before t
+  WhyOwn w c before (ops.Expire t) other = ⊥
+  WhyOwn w c before (ops.Join t) Joined = HasBegunIn w c before t
+  WhyOwn w c before (ops.Join t) NotBegun = HasNotBegunIn w before t
+  WhyOwn w c before (ops.Join t) other = ⊥
+  WhyOwn w c before (ops.Open n k) (Opened slot version l) = Named w n
+  WhyOwn w c before (ops.Open n k) SlotsFull = Unit {0}
+  WhyOwn w c before (ops.Open n k) other = ⊥
+  WhyOwn w c before (ops.Send n bytes) Unopened = Unit {0}
+  WhyOwn w c before (ops.Send n bytes) other = Named w n
+  WhyOwn w c before (ops.Hold n) Unopened = Unit {0}
+  WhyOwn w c before (ops.Hold n) other = Named w n
+  WhyOwn w c before (ops.Fail n code) Unopened = Unit {0}
+  WhyOwn w c before (ops.Fail n code) other = Named w n
+  WhyOwn w c before (ops.Drop n) other = Unit {0}
+
+  -- what became of a task of client c that is done, behind these tasks
+  pub data ToldOf (w : Scene) (c : ℕ) (before : List Task) (t : Task) : Type 0 where
+    was_said : (x : Outcome) → Said w t.number x → WhyOwn w c before t.op x → ToldOf w c before t
+    was_sent : (n : ℕ) (bytes : List ℕ) → t.op ≡ ops.Send n bytes → Named w n → ToldOf w c before t
+    was_begun : (id : ℕ) (asked : Asked) → t.op ≡ ops.Call asked → t.number ≡ asked.operation → IsBorn w id asked → Begun w t.number → Named w (name_of asked 0) → ToldOf w c before t
+
+  -- the tasks done, the latest first
+  abbrev pub AreTold : Scene → ℕ → List Task → Type 0
+  AreTold w c [] = Unit {0}
+  AreTold w c (t ∷ ts) = ToldOf w c ts t × AreTold w c ts
+
+  -- ## Later
+
+  -- where each id slot was claimed for another call than this one, there is no room for it
+  abbrev pub HasRoom : Scene → Type 0
+  HasRoom w = (c : ℕ) (t : Task) (asked : Asked) → IsTaskOf c t → t.op ≡ ops.Call asked → ((i : ℕ) → i < q.slots → (o : ℕ) × IsClaimed w i o × (o ≢ t.number)) → ⊥
+
+  -- what happened lasts; an id is that of one call, and there are as many id slots as calls
+  pub record Later (w w' : Scene) : Type 0 where
+    pub said : (o : ℕ) (x : Outcome) → Said w o x → Said w' o x
+    pub named : (n : ℕ) → Named w n → Named w' n
+    pub begun : (o : ℕ) → Begun w o → Begun w' o
+    pub born : (id : ℕ) (asked : Asked) → IsBorn w id asked → IsBorn w' id asked
+    pub came : (k n : ℕ) (frame : Frame) → Came w k n frame → Came w' k n frame
+    pub claimed : (i o : ℕ) → IsClaimed w i o → IsClaimed w' i o
+    pub room : HasRoom w'
+    pub apart : (id : ℕ) (a b : Asked) → IsBorn w' id a → IsBorn w' id b → a ≡ b
