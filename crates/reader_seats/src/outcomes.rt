@@ -1,0 +1,50 @@
+ghost use Rattle.std.specs.Prelude.{◌≡◌, OnOk, Option, Some, slice_set};
+ghost use Rattle.prpc_frame.specs.Meaning.{frame_of};
+ghost use Rattle.sock_programs.specs.Readers.{ending_of};
+
+use io_buf::{IoBuf, NoMemory};
+use prpc_frame::Frame;
+use sock_words::{OutBytes, Outcome};
+use std::alloc::Global;
+
+/// The operation of this number has this outcome.
+pub fn tell(outcomes: &mut [Option<Outcome>], operation: u16, outcome: Outcome)
+    ensures { outcomes.new ≡ slice_set outcomes.old operation (Some outcome) }
+{
+    let place = usize::from(operation);
+    if place < outcomes.len() {
+        outcomes[place] = Some(outcome);
+    }
+}
+
+/// A copy of these bytes.
+fn copied(alloc: Global, bytes: &IoBuf) -> Result<OutBytes, NoMemory>
+    ensures { OnOk result (λ out. out ≡ bytes.now.items) }
+{
+    let mut copy = vec![in alloc; 0; bytes.len()]?;
+    bytes.copy_to(&mut copy);
+    Ok(OutBytes::new(copy))
+}
+
+/// The outcome that a response gives the call with this id.
+pub fn ending(alloc: Global, id: u64, frame: &Frame) -> Result<Outcome, NoMemory>
+    ensures { OnOk result (λ outcome. outcome ≡ ending_of id (frame_of frame.now)) }
+{
+    match &frame.meta.response {
+        Some(response) if frame.meta.compress_type == 0 => {
+            if response.code == 0 {
+                Ok(Outcome::Answered {
+                    id,
+                    payload: copied(alloc, &frame.payload)?,
+                    attachment: copied(alloc, &frame.attachment)?,
+                })
+            } else {
+                Ok(Outcome::Peer {
+                    id,
+                    code: response.code,
+                })
+            }
+        }
+        _ => Ok(Outcome::CallFailed { id, code: 2002 }),
+    }
+}
