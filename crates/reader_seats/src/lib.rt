@@ -3,6 +3,7 @@
 
 pub mod hand;
 pub mod outcomes;
+pub mod taking;
 pub mod seat;
 
 pub use outcomes::tell;

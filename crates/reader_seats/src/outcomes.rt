@@ -1,9 +1,12 @@
 ghost use Rattle.std.specs.Prelude.{◌≡◌, OnOk, Option, Some, slice_set};
 ghost use Rattle.prpc_frame.specs.Meaning.{frame_of};
 ghost use Rattle.sock_programs.specs.Readers.{ending_of};
+ghost use Rattle.id_points.specs.Ids.{id_of};
+ghost use Rattle.reader_points.specs.Points.{code_by};
 
 use io_buf::{IoBuf, NoMemory};
 use prpc_frame::Frame;
+use reader_points::{ERESPONSE, Lost};
 use sock_words::{OutBytes, Outcome};
 use std::alloc::Global;
 
@@ -45,6 +48,26 @@ pub fn ending(alloc: Global, id: u64, frame: &Frame) -> Result<Outcome, NoMemory
                 })
             }
         }
-        _ => Ok(Outcome::CallFailed { id, code: 2002 }),
+        _ => Ok(unread(id)),
+    }
+}
+
+/// The outcome of the call with this id where its response can't be read.
+pub fn unread(id: u64) -> Outcome
+    ensures { result ≡ Outcome.CallFailed id 2002 }
+{
+    Outcome::CallFailed {
+        id,
+        code: ERESPONSE,
+    }
+}
+
+/// The outcome of a call that ended with the error of its link.
+pub fn failed(lost: Lost) -> Outcome
+    ensures { result ≡ Outcome.CallFailed (id_of lost.id) (code_by lost.closing.fault) }
+{
+    Outcome::CallFailed {
+        id: lost.id.number(),
+        code: lost.closing.code(),
     }
 }
