@@ -29,29 +29,6 @@ use Rattle.reader_points.specs.declared.point.ReadPoint.TheVariants as points
 use Rattle.reader_points.specs.declared.point.ReadNext.TheVariants as nexts
 use Rattle.reader_points.specs.Points.{Around, code_by, error_in, posts_program, close_program, load_program, behind_program, said_program, answer_program, fail_program, told_program, ended_of, point_program, next_program, with_asked, with_kept}
 
--- ## Errors
-
--- an error's code
-code_back : (c k : ℕ) → code_of (error_of c (k % 8)) ≡ c
-code_back c k = omega arith
-
-or_true : (b : Bool) → (b || true) ≡ true
-or_true true = refl
-or_true false = refl
-
-ends_by : (b : Bool) (w : Parts) (e : ℕ) → code_of e ≡ code_by b → ends_call w e ≡ true
-ends_by true w e is = rw is (or_true (attempt_of e == 7))
-ends_by false w e is = rw is (or_true (attempt_of e == 7))
-
--- the error of a lost call ends it whatever attempts are left
-ends_lost : (l : Lost) (w : Parts) → ends_call w (error_in l) ≡ true
-ends_lost l w = ends_by l.closing.fault w (error_in l) (code_back (code_by l.closing.fault) l.attempt.0)
-
--- ## Ids
-
-whole_id : (id : ℕ) → call_id (id_slot id) (id_first id) ≡ id
-whole_id id = omega arith
-
 module _ (a : Around) where
   -- ## The end of a call by a response
 
@@ -108,33 +85,3 @@ module _ (a : Around) where
 
   pub loads_none : (c : Closing) (o w : ℕ) → (not (w == 0) && (at_word_link w == c.reader.link)) ≡ false → posts_program a c ≡ after_word (load_program a c o) w
   loads_none c o w e = not_named (w == 0) (at_word_link w == c.reader.link) (posts_program a c) (posts_to c (call_id (at_word_slot w) (at_word_first w)) (at_word_attempt w)) e
-
-  -- behind the last call
-  pub posts_last : (c : Closing) → length a.calls ≤ c.next → posts_program a c ≡ thrown_away (ended_of a c)
-  posts_last c past = let e : drop c.next a.calls ≡ [] = drop_of_length-le a.calls past in rw e refl
-
-  -- ## The end of a call by the error
-
-  -- whoever locked the id ends the call
-  judged_call : (l : Lost) (word : IdWord) (found o : ℕ) → a.asked.operation ≡ o → after_word (fail_program a l (fails.Judge word)) found ≡ word_behind (end_id (id_slot (id_of l.id)) (told_program a l o)) found
-  judged_call l word found o e =
-      let ends : ends_call (parts word.0) (error_in l) ≡ true = ends_lost l (parts word.0) in
-      rw ends
-      (ap (λ c. word_behind (end_id (id_slot (id_of l.id)) (Say a.asked.operation (CallFailed (id_of l.id) c) (posts_program a l.closing))) found) (code_back (code_by l.closing.fault) l.attempt.0)
-      ∙ ap (λ m. word_behind (end_id (id_slot (id_of l.id)) (told_program a l m)) found) e)
-
-  pub frees_call : (l : Lost) (word : IdWord) (found o : ℕ) → a.asked.operation ≡ o → nat_le ((parts found).first + (parts found).range) LAST ≡ true
-      → fail_program a l (fails.Free o) ≡ after_word (fail_program a l (fails.Judge word)) found
-  frees_call l word found o e more = sym (judged_call l word found o e ∙ rw more refl)
-
-  pub keeps_slot : (l : Lost) (word : IdWord) (found o : ℕ) → a.asked.operation ≡ o → nat_le ((parts found).first + (parts found).range) LAST ≡ false
-      → told_program a l o ≡ after_word (fail_program a l (fails.Judge word)) found
-  keeps_slot l word found o e last = sym (judged_call l word found o e ∙ rw last refl)
-
-  -- a response that is kept ends the call of a locked id, or none does
-  pub ends_kept : (l : Lost) (word : IdWord) (f : Frame) (fs : List Frame) → slot_in f ≡ id_slot (id_of l.id) → kept_for (id_of l.id) (parts word.0).range a.kept ≡ f ∷ fs
-      → answer_program (with_kept f a) (behinds.Posts l.closing) (id_of l.id) answers.Take ≡ next_program a (nexts.Locked l word)
-  ends_kept l word f fs slot e = rw e (answers_as (with_kept f a) (behinds.Posts l.closing) (id_of l.id) (id_first (id_of l.id)) (sym (whole_id (id_of l.id)) ∙ ap (λ i. call_id i (id_first (id_of l.id))) (sym slot)) (sym slot))
-
-  pub fails_next : (l : Lost) (word : IdWord) → kept_for (id_of l.id) (parts word.0).range a.kept ≡ [] → fail_program a l (fails.Take word) ≡ next_program a (nexts.Locked l word)
-  fails_next l word e = rw e refl

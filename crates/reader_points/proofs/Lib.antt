@@ -3,3 +3,4 @@ pub mod Taking
 pub mod CutFrames
 pub mod Going
 pub mod FirstKept
+pub mod StepKinds
