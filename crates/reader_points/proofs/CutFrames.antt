@@ -1,9 +1,9 @@
 -- What a reader cuts out of its bytes: one frame behind another, up to the first response, the rest or a fault.
-use Rattle.std.proofs.Common.{◌≡◌, ℕ, ◌+◌, Bool, true, false, nat_lt, List, [], ◌∷◌, ◌++◌, length, Option, Some, None, option_map, Ok, Err, refl, sym, subst, ap, ◌∙◌}
+use Rattle.std.proofs.Common.{◌≡◌, ℕ, ◌+◌, Bool, true, false, nat_lt, List, [], ◌∷◌, ◌++◌, Option, Some, None, option_map, refl}
 use Rattle.std.specs.List.{AllByRecursion}
 use Rattle.brpc_model.specs.Frame as model
 use Rattle.brpc_model.specs.Frame.{Judged, NoneYet, Faulty, judged}
-use Rattle.prpc_frame.specs.Answers.{Answers, Cuts}
+use Rattle.prpc_frame.specs.Answers.{Cuts}
 use Rattle.prpc_frame.specs.Cuts.{Cut}
 use Rattle.prpc_frame.specs.Meaning.{frame_of, fault_of, IsFault}
 use Rattle.prpc_frame.specs.declared.frame.Frame.{Frame}

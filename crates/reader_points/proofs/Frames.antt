@@ -1,14 +1,14 @@
 -- A reader goes through the frames of the bytes that it has in hand.
-use Rattle.std.proofs.Common.{length-drop, Option, None, nat_lt, append_assoc, ◌≡◌, ℕ, zero, suc, ◌+◌, ◌-◌, ◌≤◌, Bool, true, false, ◌&&◌, List, [], ◌∷◌, ◌++◌, length, drop, refl, ap, sym, ◌∙◌, arith}
+use Rattle.std.proofs.Common.{length-drop, None, nat_lt, append_assoc, ◌≡◌, ℕ, zero, suc, ◌+◌, ◌-◌, ◌≤◌, true, false, List, [], ◌∷◌, ◌++◌, length, drop, refl, ap, sym, ◌∙◌, arith}
 use Rattle.std.proofs.Math.Path.{fun_ext}
 use Rattle.std.specs.List.{AllByRecursion}
 use Rattle.std.proofs.lemmas.List.{drop-drop}
 use Rattle.brpc_model.specs.Frame.{Frame, FrameFault, Judged, NoneYet, Faulty, Begins, judged}
 use Rattle.brpc_model.specs.Stream.{Stream, Ending, Rest, Fault, goes_on, stream_up_to, stream_from, stream}
-use Rattle.prpc_frame.specs.Cuts.{behind, Cut}
+use Rattle.prpc_frame.specs.Cuts.{Cut}
 use Rattle.prpc_frame.proofs.Cuts.{stream_whole, stream_rest, stream_fault, frames_anywhere}
 use Rattle.sock_programs.specs.Asides.{Bytes}
-use Rattle.sock_programs.specs.Heads.{Reading, Ended, Locks, Version}
+use Rattle.sock_programs.specs.Heads.{Reading, Locks, Version}
 use Rattle.sock_programs.specs.Programs.{Program, Round}
 use Rattle.sock_programs.specs.Readers.{LIMIT, slot_in, version_in, answered, responses, read_on, read, last_of}
 use Rattle.call_points.specs.declared.locking.Locker.{Locker}

@@ -1,19 +1,14 @@
 -- Where a reader goes on behind a step on a word.
-use Rattle.std.proofs.Common.{◌≢◌, ◌≡◌, ◌≤◌, ℕ, ◌+◌, ◌%◌, ◌==◌, ◌&&◌, ◌||◌, not, nat_le, Bool, true, false, if◌then◌else◌, List, [], ◌∷◌, length, drop, refl, ap, sym, ◌∙◌, arith}
-use Rattle.std.proofs.Math.ListN.{drop_of_length-le}
+use Rattle.std.proofs.Common.{◌≢◌, ◌≡◌, ℕ, ◌+◌, ◌==◌, ◌&&◌, not, Bool, true, false, if◌then◌else◌, ◌∷◌, drop, refl, ap, sym, ◌∙◌, arith}
 use Rattle.std.proofs.lemmas.Bool.Decides.{nat_tests}
-use Rattle.sock_words.specs.Words.{socket_id_slot, socket_id_version, vref_version, at_word_link, at_word_slot, at_word_first, at_word_attempt}
-use Rattle.sock_words.specs.declared.id_word.IdWord.{IdWord}
-use Rattle.sock_words.specs.declared.outcome.Outcome.TheVariants.{CallFailed}
-use Rattle.corr_core.specs.Law.{LAST}
-use Rattle.corr_core.specs.Word.{Parts, parts, error_of, code_of, attempt_of}
-use Rattle.brpc_model.specs.Frame.{Frame}
+use Rattle.sock_words.specs.Words.{socket_id_version, vref_version, at_word_link, at_word_slot, at_word_first, at_word_attempt}
+use Rattle.corr_core.specs.Word.{error_of}
 use Rattle.sock_message.specs.Asked.{Asked}
-use Rattle.sock_programs.specs.Asides.{TakeCall, call_id, id_slot, id_first}
+use Rattle.sock_programs.specs.Asides.{TakeCall, call_id, id_slot}
 use Rattle.sock_programs.specs.Programs.{Program, Aside, Say}
-use Rattle.sock_programs.specs.Posts.{end_id, ends_call, post_with}
-use Rattle.sock_programs.specs.Readers.{answer, ending_of, slot_in, posted_last, kept_for, thrown_away}
-use Rattle.call_points.specs.Steps.{after_word, after_call, word_behind}
+use Rattle.sock_programs.specs.Posts.{end_id, post_with}
+use Rattle.sock_programs.specs.Readers.{answer, ending_of, slot_in, posted_last}
+use Rattle.call_points.specs.Steps.{after_word, after_call}
 use Rattle.call_points.specs.declared.ending.EndStep.TheVariants as ends
 use Rattle.call_points.specs.declared.posting.PostStep.TheVariants as posts
 use Rattle.id_points.specs.Ids.{id_of, number_of}
@@ -24,10 +19,8 @@ use Rattle.reader_points.specs.declared.point.AnswerStep.TheVariants as answers
 use Rattle.reader_points.specs.declared.point.CloseStep.TheVariants as closes
 use Rattle.reader_points.specs.declared.point.Closing.{Closing}
 use Rattle.reader_points.specs.declared.point.Lost.{Lost}
-use Rattle.reader_points.specs.declared.point.FailStep.TheVariants as fails
 use Rattle.reader_points.specs.declared.point.ReadPoint.TheVariants as points
-use Rattle.reader_points.specs.declared.point.ReadNext.TheVariants as nexts
-use Rattle.reader_points.specs.Points.{Around, code_by, error_in, posts_program, close_program, load_program, behind_program, said_program, answer_program, fail_program, told_program, ended_of, point_program, next_program, with_asked, with_kept}
+use Rattle.reader_points.specs.Points.{Around, code_by, posts_program, close_program, load_program, behind_program, said_program, answer_program, point_program, with_asked}
 
 module _ (a : Around) where
   -- ## The end of a call by a response

@@ -1,4 +1,4 @@
-ghost use Rattle.std.specs.Prelude.{◌≡◌, ◌↔◌, pos, IsTrue, OnOk, Some, slice_set};
+ghost use Rattle.std.specs.Prelude.{◌≡◌, ◌↔◌, pos, IsTrue, IfOk, Some, slice_set};
 ghost use Rattle.prpc_frame.specs.Meaning.{frame_of};
 ghost use Rattle.sock_programs.specs.Readers.{by_code, ending_of};
 ghost use Rattle.id_points.specs.Ids.{id_of};
@@ -22,7 +22,7 @@ pub fn tell(outcomes: &mut [Option<Outcome>], operation: u16, outcome: Outcome)
 
 /// A copy of these bytes.
 fn copied(alloc: Global, bytes: &IoBuf) -> Result<OutBytes, NoMemory>
-    ensures { OnOk result (λ out. out ≡ bytes.now.items) }
+    ensures { IfOk result (λ out. out ≡ bytes.now.items) }
 {
     let mut copy = vec![in alloc; 0; bytes.len()]?;
     bytes.copy_to(&mut copy);
@@ -38,7 +38,7 @@ fn is_zero(number: i32) -> bool
 
 /// The outcome that a frame with a response of this code gives the call with this id.
 fn ending_by(alloc: Global, id: u64, frame: &Frame, code: i32) -> Result<Outcome, NoMemory>
-    ensures { OnOk result (λ outcome. outcome ≡ by_code id (frame_of frame.now) code) }
+    ensures { IfOk result (λ outcome. outcome ≡ by_code id (frame_of frame.now) code) }
 {
     if is_zero(code) {
         Ok(Outcome::Answered {
@@ -53,7 +53,7 @@ fn ending_by(alloc: Global, id: u64, frame: &Frame, code: i32) -> Result<Outcome
 
 /// The outcome that a response gives the call with this id. It is copied.
 pub fn ending(alloc: Global, id: u64, frame: &Frame) -> Result<Outcome, NoMemory>
-    ensures { OnOk result (λ outcome. outcome ≡ ending_of id (frame_of frame.now)) }
+    ensures { IfOk result (λ outcome. outcome ≡ ending_of id (frame_of frame.now)) }
 {
     if !is_zero(frame.meta.compress_type) {
         return Ok(unread(id));

@@ -1,4 +1,4 @@
-use Rattle.std.proofs.Common.{◌≡◌, ◌==◌, ◌-◌, true, false, sym, refl, arith}
+use Rattle.std.proofs.Common.{◌≡◌, ◌==◌, false, sym, refl, arith}
 use Rattle.std.proofs.lemmas.Bool.Decides.{nat_tests}
 use Rattle.sock_programs.specs.Programs.{NO_SOCKET}
 use Rattle.reader_points.proofs.follows.opened.Goals as goal

@@ -1,4 +1,4 @@
-use Rattle.std.proofs.Common.{◌≡◌, ℕ, suc, ◌+◌, ◌∷◌, drop, get_or, sym, ap, ◌∙◌, arith, drop-cons}
+use Rattle.std.proofs.Common.{◌≡◌, suc, ◌+◌, ◌∷◌, drop, get_or, ap, ◌∙◌, arith, drop-cons}
 use Rattle.reader_points.proofs.Going.{loads_next}
 use Rattle.reader_points.proofs.point.Closing.posts.Goals as goal
 

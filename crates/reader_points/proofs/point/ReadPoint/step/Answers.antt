@@ -1,4 +1,4 @@
-use Rattle.std.proofs.Common.{Some, sym, refl, subst}
+use Rattle.std.proofs.Common.{Some, sym, subst}
 use Rattle.id_points.specs.Ids.{id_of}
 use Rattle.sock_programs.specs.Readers.{answered, posted_last}
 use Rattle.call_points.specs.Points.{lock_program, post_program}
@@ -37,7 +37,7 @@ returns-in-Lock-clause-kind c =
 
 pub returns-in-Answer-clause-kind : goal.returns-in-Answer-clause-kind
 returns-in-Answer-clause-kind c =
-    subst (GoesWith c.aside.result) (sym c.in-Answer.is) (answers_by nowhere c.in-Answer.field-0 c.in-Answer.id c.in-Answer.step c.aside.result (c.aside.ensures nowhere))
+    subst (GoesWith c.aside.result) (sym c.in-Answer.is) (answers_by nowhere c.in-Answer.field-0 c.in-Answer.id c.in-Answer.step c.aside.result (c.aside.ensures nowhere c.in-Answer.field-0))
 
 pub returns-in-Post-clause-kind : goal.returns-in-Post-clause-kind
 returns-in-Post-clause-kind c =

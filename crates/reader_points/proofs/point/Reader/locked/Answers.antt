@@ -20,4 +20,4 @@ returns-else-comes_early-clause-program c a is =
 pub returns-in-Has-clause-program : goal.returns-in-Has-clause-program
 returns-in-Has-clause-program c a is =
     rw c.in-Has.is (answers_as a (behinds.Frames c.args.self) (id_of c.id_at-id.result) (parts c.in-Has.word.0).first
-        (c.id_at-id.ensures.id ∙ ap (λ s. call_id s (parts c.in-Has.word.0).first) is.slot) (c.id_at-id.ensures.slot ∙ is.slot))
+    (c.id_at-id.ensures.id ∙ ap (λ s. call_id s (parts c.in-Has.word.0).first) is.slot) (c.id_at-id.ensures.slot ∙ is.slot))
