@@ -1,5 +1,6 @@
 -- A reader goes on behind a cut, at a locked id, and behind a take.
-use Rattle.std.proofs.Common.{◌≡◌, ℕ, ◌-◌, ◌≤◌, ◌<◌, ◌∷◌, min, nat_lt, Bool, true, false, List, [], length, map, take, get_or, Option, Some, None, refl, sym, ap, subst, ◌∙◌, arith}
+use Rattle.std.proofs.Common.{◌≡◌, ℕ, ◌-◌, ◌≤◌, ◌<◌, ◌∷◌, min, nat_lt, Bool, true, false, List, [], length, map, take, get_or, ◌++◌, Result, Ok, Err, Option, Some, None, refl, sym, ap, subst, ◌∙◌, arith}
+use Rattle.std.specs.Result.{OnOk}
 use Rattle.std.proofs.lemmas.List.{get_or-map}
 use Rattle.std.proofs.lemmas.Bool.Decides.{nat_tests}
 use Rattle.brpc_model.specs.Frame as model
@@ -21,7 +22,7 @@ use Rattle.reader_points.specs.declared.point.ReadNext.TheVariants as nexts
 use Rattle.reader_points.specs.declared.point.Lost.{Lost}
 use Rattle.reader_points.specs.Kept.{IsFirstKept}
 use Rattle.reader_points.specs.Cuts.{GoesOnBehind, with_cut}
-use Rattle.reader_points.specs.Points.{Around, NO_FRAME, count_of, room_at, frames_behind, point_program, next_program, with_held, with_kept, with_taking, HasInHand, TakesBytes}
+use Rattle.reader_points.specs.Points.{Around, NO_FRAME, count_of, room_at, frames_program, frames_behind, point_program, next_program, with_held, with_kept, with_taking, HasInHand, TakesBytes}
 use Rattle.reader_seats.specs.declared.hand.Hand.{Hand}
 use Rattle.reader_seats.specs.Hands.{frame_in, is_fresh, hand_of}
 use Rattle.reader_seats.specs.Readers.{ReaderData, around, reader_program, nothing_asked}
@@ -101,3 +102,16 @@ kept_goes calls old kept i range lost word point same is_range first ends =
     let at : get_or old.kept i NO_FRAME ≡ f = ap (λ k. get_or k i NO_FRAME) same ∙ kept_at kept i first.frame first.within first.is in
     let e : kept_for (id_of lost.id) (parts word.0).range old.kept ≡ f ∷ first.others = ap (λ k. kept_for (id_of lost.id) (parts word.0).range k) same ∙ ap (λ n. kept_for (id_of lost.id) n (map frame_of kept)) (sym is_range) ∙ first.first in
     ap (λ g. point_program (with_kept g a) point) at ∙ ends a word f first.others first.slot e
+
+-- ## Behind a step
+
+-- what holds on success
+pub on_ok : {T E : Type 0} (r : Result T E) {P Q : Type 0} → (P → Q) → OnOk r P → OnOk r Q
+on_ok (Ok x) f p = f p
+on_ok (Err e) f p = tt
+
+-- the response in hand was kept
+pub early_next : (calls : List ℕ) (old mid new : ReaderData) (r : Reader) → mid.held ≡ old.held → mid.kept ≡ old.kept ++ old.frame ∷ [] → reader_program calls new ≡ frames_behind (around calls mid) r mid.kept →
+    reader_program calls new ≡ next_program (around calls old) (nexts.Early r)
+early_next calls old mid new r held kept e =
+    e ∙ ap (λ h. frames_program (around calls old) r h mid.kept) held ∙ ap (λ k. frames_program (around calls old) r old.held k) kept

@@ -92,3 +92,9 @@ module _ (calls : List ℕ) (reader : ReaderData) (program : Program) (is : read
   -- behind an outcome that is said
   pub goes_behind : (o : ℕ) (outcome : Outcome) → GoesOn calls (Say o outcome program) reader os (slice_set os o (Some outcome))
   goes_behind o outcome = record { program = resolved_is; told = said_is (slice_set os o (Some outcome)); waiting = is_reached.none_kept }
+
+-- behind this outcome, which is the one that was told
+pub says : (calls : List ℕ) (reader : ReaderData) (program : Program) (os us : List (Option Outcome)) (o : ℕ) (x y : Outcome) → reader_program calls reader ≡ program → x ≡ y → us ≡ slice_set os o (Some x) → GoesOn calls (Say o y program) reader os us
+says calls reader program os us o x y is same told =
+    let f : us ≡ slice_set os o (Some y) = told ∙ ap (λ z. slice_set os o (Some z)) same in
+    subst (λ vs. GoesOn calls (Say o y program) reader os vs) (sym f) (goes_behind calls reader program is os o y)
