@@ -5,7 +5,6 @@ use Rattle.brpc_model.specs.Frame.{NoneYet, judged}
 use Rattle.sock_words.specs.declared.outcome.Outcome.{Outcome}
 use Rattle.sock_programs.specs.Asides.{Taking}
 use Rattle.sock_programs.specs.Beside.{at_last}
-use Rattle.sock_programs.specs.Programs.{Program}
 use Rattle.call_points.specs.Steps.{after_word}
 use Rattle.reader_points.specs.declared.point.ByteCount.{ByteCount}
 use Rattle.reader_points.specs.declared.point.Reader.{Reader}
@@ -68,15 +67,15 @@ pub took_goes : (calls : List ℕ) (old seen mid new : ReaderData) (r : Reader) 
     → OnOk result (GoesOn calls (next_program (around calls mid) next) new os us) → OnOk result (GoesOn calls (after_taking (reader_program calls seen) (at_last ending t)) new os us)
 took_goes calls old seen mid new r ending t next result os us v is fed program ok =
     let f : next_program (around calls mid) next ≡ after_taking (reader_program calls seen) (at_last ending t) =
-            ap (λ a. next_program a next) (fed_around calls old seen mid ending t v fed)
-            ∙ program (around calls old)
-            ∙ ap (λ p. after_taking (point_program (around calls old) p) (at_last ending t)) (sym is)
-            ∙ ap (λ s. after_taking (reader_program calls s) (at_last ending t)) v in
+    ap (λ a. next_program a next) (fed_around calls old seen mid ending t v fed)
+    ∙ program (around calls old)
+    ∙ ap (λ p. after_taking (point_program (around calls old) p) (at_last ending t)) (sym is)
+    ∙ ap (λ s. after_taking (reader_program calls s) (at_last ending t)) v in
     on_ok result (λ g. subst (λ p. GoesOn calls p new os us) f g) ok
 
 pub threw_goes : (calls : List ℕ) (old seen : ReaderData) (link : ℕ) (total : ByteCount) (point : ReadPoint) (t : Taking) (os : List (Option Outcome)) → old ≡ seen → old.point ≡ points.Discard link total
     → point_program (around calls old) point ≡ after_taking (point_program (around calls old) (points.Discard link total)) t → GoesOn calls (after_taking (reader_program calls seen) t) (moved old point) os os
 threw_goes calls old seen link total point t os v is program =
     let e : reader_program calls (moved old point) ≡ after_taking (reader_program calls seen) t =
-            program ∙ ap (λ p. after_taking (point_program (around calls old) p) t) (sym is) ∙ ap (λ s. after_taking (reader_program calls s) t) v in
+    program ∙ ap (λ p. after_taking (point_program (around calls old) p) t) (sym is) ∙ ap (λ s. after_taking (reader_program calls s) t) v in
     goes_to calls (moved old point) (after_taking (reader_program calls seen) t) e os

@@ -1,19 +1,17 @@
 -- A reader goes on behind a cut, at a locked id, and behind a take.
-use Rattle.std.proofs.Common.{◌≡◌, ℕ, ◌-◌, ◌≤◌, ◌<◌, ◌∷◌, min, nat_lt, Bool, true, false, List, [], length, map, take, get_or, ◌++◌, Result, Ok, Err, Option, Some, None, refl, sym, ap, subst, ◌∙◌, arith}
+use Rattle.std.proofs.Common.{◌≡◌, ℕ, ◌-◌, ◌≤◌, ◌<◌, ◌∷◌, min, nat_lt, Bool, true, false, List, [], length, map, get_or, ◌++◌, Result, Ok, Err, Option, Some, None, refl, sym, ap, subst, ◌∙◌, arith}
 use Rattle.std.specs.Result.{OnOk}
 use Rattle.std.proofs.lemmas.List.{get_or-map}
 use Rattle.std.proofs.lemmas.Bool.Decides.{nat_tests}
 use Rattle.brpc_model.specs.Frame as model
 use Rattle.prpc_frame.specs.Meaning.{frame_of}
 use Rattle.prpc_frame.specs.declared.frame.Frame.{Frame}
-use Rattle.sock_message.specs.Asked.{Asked}
 use Rattle.sock_words.specs.declared.id_word.IdWord.{IdWord}
 use Rattle.corr_core.specs.Word.{parts}
 use Rattle.id_points.specs.Ids.{id_of}
 use Rattle.sock_programs.specs.Asides.{Taking, Bytes, Nothing, NoMore, AtEnd, Closed, Broken, id_slot}
 use Rattle.sock_programs.specs.Readers.{LIMIT, slot_in, kept_for}
 use Rattle.sock_programs.specs.Beside.{at_last}
-use Rattle.sock_programs.specs.Programs.{Program}
 use Rattle.reader_points.specs.declared.cutting.Cut.{Cut}
 use Rattle.reader_points.specs.declared.point.Reader.{Reader}
 use Rattle.reader_points.specs.declared.point.ReadPoint.{ReadPoint}

@@ -26,7 +26,7 @@ use std::alloc::Global;
 use std::marker::Model;
 
 /// The seat of the reader of a link. It makes no step itself: whoever has the tables makes its next one, and tells it what
-/// that found. Contracts see where it stands and what it has in hand.
+/// that found. Where memory runs out it may only be dropped. Contracts see where it stands and what it has in hand.
 #[derive(Drop)]
 pub struct ReaderSeat {
     point: ReadPoint,

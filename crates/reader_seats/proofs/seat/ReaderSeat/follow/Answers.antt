@@ -1,4 +1,4 @@
-use Rattle.std.proofs.Common.{◌≡◌, true, [], sym, subst}
+use Rattle.std.proofs.Common.{[], sym, subst}
 use Rattle.reader_points.specs.Points.{HasNext}
 use Rattle.reader_seats.specs.Inside.{data_of}
 use Rattle.reader_seats.specs.Readers.{ReaderData, around}

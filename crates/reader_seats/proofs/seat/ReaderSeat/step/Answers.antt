@@ -1,5 +1,5 @@
-use Rattle.std.proofs.Common.{◌≡◌, ◌<◌, ◌≤◌, [], sym, subst}
-use Rattle.reader_points.specs.Points.{room_at, GoesBy, HasInHand}
+use Rattle.std.proofs.Common.{◌<◌, ◌≤◌, [], sym, subst}
+use Rattle.reader_points.specs.Points.{GoesBy}
 use Rattle.reader_seats.specs.Inside.{data_of}
 use Rattle.reader_seats.specs.Readers.{around}
 use Rattle.reader_seats.proofs.Follows.{some_room}
