@@ -1,7 +1,7 @@
 -- Where a reader goes on behind a step on a word.
-use Rattle.std.proofs.Common.{◌≢◌, ◌≡◌, ℕ, ◌+◌, ◌%◌, ◌==◌, ◌&&◌, not, Bool, true, false, if◌then◌else◌, List, [], ◌∷◌, drop, refl, ap, sym, ◌∙◌, arith}
+use Rattle.std.proofs.Common.{◌≢◌, ◌≡◌, ℕ, ◌+◌, ◌==◌, ◌&&◌, not, Bool, true, false, if◌then◌else◌, ◌∷◌, drop, refl, ap, sym, ◌∙◌, arith}
 use Rattle.std.proofs.lemmas.Bool.Decides.{nat_tests}
-use Rattle.sock_words.specs.Words.{socket_id_slot, socket_id_version, vref_version, at_word_link, at_word_slot, at_word_first, at_word_attempt}
+use Rattle.sock_words.specs.Words.{socket_id_version, vref_version, at_word_link, at_word_slot, at_word_first, at_word_attempt}
 use Rattle.corr_core.specs.Word.{error_of}
 use Rattle.sock_message.specs.Asked.{Asked}
 use Rattle.sock_programs.specs.Asides.{TakeCall, call_id, id_slot}
@@ -10,13 +10,17 @@ use Rattle.sock_programs.specs.Posts.{end_id, post_with}
 use Rattle.sock_programs.specs.Readers.{answer, ending_of, slot_in, posted_last}
 use Rattle.call_points.specs.Steps.{after_word, after_call}
 use Rattle.call_points.specs.declared.ending.EndStep.TheVariants as ends
+use Rattle.call_points.specs.declared.posting.PostStep.TheVariants as posts
+use Rattle.id_points.specs.Ids.{id_of, number_of}
 use Rattle.seat_points.specs.declared.point.ReleaseStep.TheVariants as releases
 use Rattle.reader_points.specs.declared.point.Behind.{Behind}
 use Rattle.reader_points.specs.declared.point.Behind.TheVariants as behinds
 use Rattle.reader_points.specs.declared.point.AnswerStep.TheVariants as answers
 use Rattle.reader_points.specs.declared.point.CloseStep.TheVariants as closes
 use Rattle.reader_points.specs.declared.point.Closing.{Closing}
-use Rattle.reader_points.specs.Points.{Around, code_by, posts_program, close_program, load_program, behind_program, said_program, answer_program, with_asked}
+use Rattle.reader_points.specs.declared.point.Lost.{Lost}
+use Rattle.reader_points.specs.declared.point.ReadPoint.TheVariants as points
+use Rattle.reader_points.specs.Points.{Around, code_by, posts_program, close_program, load_program, behind_program, said_program, answer_program, point_program, with_asked}
 
 module _ (a : Around) where
   -- ## The end of a call by a response
@@ -60,12 +64,17 @@ module _ (a : Around) where
   not_named false true p q e = absurd (cc)
   not_named false false p q e = refl
 
-  -- the error that is posted to the call of an at word
-  abbrev post_at : Closing → ℕ → Program
-  post_at c w = let id = call_id (at_word_slot w) (at_word_first w) in let e = error_of (code_by c.fault) (at_word_attempt w) in post_with id e (posted_last id e a.kept (posts_program a c))
+  -- the post to the call with this id of the error of its attempt n
+  abbrev posts_to : Closing → ℕ → ℕ → Program
+  posts_to c id n = let e = error_of (code_by c.fault) n in post_with id e (posted_last id e a.kept (posts_program a c))
 
-  pub loads_post : (c : Closing) (o w : ℕ) → (not (w == 0) && (at_word_link w == c.reader.link)) ≡ true → post_at c w ≡ after_word (load_program a c o) w
-  loads_post c o w e = named (w == 0) (at_word_link w == c.reader.link) (posts_program a c) (post_at c w) e
+  pub loads_post : (c : Closing) (l : Lost) (o w : ℕ) → l.closing ≡ c → id_of l.id ≡ call_id (at_word_slot w) (at_word_first w) → number_of l.attempt ≡ at_word_attempt w
+      → (not (w == 0) && (at_word_link w == c.reader.link)) ≡ true → point_program a (points.Post l posts.Load) ≡ after_word (load_program a c o) w
+  loads_post c l o w closing id attempt e =
+      ap (λ d. posts_to d (id_of l.id) (number_of l.attempt)) closing
+      ∙ ap (λ i. posts_to c i (number_of l.attempt)) id
+      ∙ ap (λ n. posts_to c (call_id (at_word_slot w) (at_word_first w)) n) attempt
+      ∙ named (w == 0) (at_word_link w == c.reader.link) (posts_program a c) (posts_to c (call_id (at_word_slot w) (at_word_first w)) (at_word_attempt w)) e
 
   pub loads_none : (c : Closing) (o w : ℕ) → (not (w == 0) && (at_word_link w == c.reader.link)) ≡ false → posts_program a c ≡ after_word (load_program a c o) w
-  loads_none c o w e = not_named (w == 0) (at_word_link w == c.reader.link) (posts_program a c) (post_at c w) e
+  loads_none c o w e = not_named (w == 0) (at_word_link w == c.reader.link) (posts_program a c) (posts_to c (call_id (at_word_slot w) (at_word_first w)) (at_word_attempt w)) e

@@ -1,18 +1,21 @@
 //! Where the reader of a link stands in its program: which step it makes next, and how it goes on behind it.
 #![tactic(auto)]
 
-pub mod point;
-pub mod steps;
-pub mod reading;
 pub mod answering;
 pub mod closing;
-pub mod posting;
-pub mod follows;
 pub mod cutting;
+pub mod failing;
+pub mod follows;
 pub mod keeping;
+pub mod point;
+pub mod posting;
+pub mod reading;
+pub mod steps;
 
 pub use cutting::Cut;
 pub use keeping::first_kept;
 pub use point::{
-    AnswerStep, Behind, ByteCount, CloseStep, Closing, ReadNext, ReadPoint, ReadStep, Reader, Taken,
+    AnswerStep, Behind, ByteCount, CloseStep, Closing, ERESPONSE, FailStep, Lost, ReadNext,
+    ReadPoint, ReadStep, Reader, Taken,
 };
+pub use reading::discarded;
