@@ -5,3 +5,4 @@ pub mod Starts
 pub mod Lengths
 pub mod Gave
 pub mod Runs
+pub mod Unjoined
