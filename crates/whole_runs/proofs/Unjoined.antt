@@ -1,6 +1,7 @@
 -- In a script that was read, where some link has no server, nobody waits for a call.
 use Rattle.std.proofs.Common.{◌≡◌, ℕ, ◌+◌, ⊎_elim, Bool, true, false, ◌||◌, not, cond, List, [], ◌∷◌, fold, position, Option, Some, None, Ok, Err, Contains, refl, ap, sym, ◌∙◌, subst}
 use Rattle.std.proofs.lemmas.Bool.{true≢false}
+use Rattle.std.proofs.lemmas.Iterator.Adapters.{position_from-zero}
 use Rattle.std.specs.List.{list_any, position_from}
 use Rattle.std.specs.Str.Lines.{lines}
 use Rattle.brpc_model.specs.Items.{Item, Shape, Open, Join}
@@ -11,11 +12,11 @@ use Rattle.report_fits.proofs.Reading.{two_faults}
 -- where no element is found that passes a test, none passes it
 none_passes : {A : Type 0} (test : A → Bool) (n : ℕ) (xs : List A) → position_from test n xs ≡ None → (x : A) → Has xs x → test x ≡ false
 none_passes test n [] e x h = absurd (has_none x h)
-none_passes {A} test n (y ∷ ys) e x h = by_first (test y) refl e
+none_passes {A} test n (y ∷ ys) e x h = by_first (test y) refl e (λ f later. none_passes test (n + 1) ys f x later)
   where
-    by_first : (b : Bool) → test y ≡ b → cond b (Some n) (position_from test (n + 1) ys) ≡ None → test x ≡ false
-    by_first true is f = absurd (cc)
-    by_first false is f = ⊎_elim (λ same. ap test (sym same) ∙ is) (λ later. none_passes test (n + 1) ys f x later) (has_cases y ys x h)
+    by_first : (b : Bool) → test y ≡ b → cond b (Some n) (position_from test (n + 1) ys) ≡ None → (position_from test (n + 1) ys ≡ None → Has ys x → test x ≡ false) → test x ≡ false
+    by_first true is f others = absurd (cc)
+    by_first false is f others = ⊎_elim (λ same. ap test (sym same) ∙ is) (λ later. others f later) (has_cases y ys x h)
 
 or_second : (a b : Bool) → b ≡ true → (a || b) ≡ true
 or_second true b e = refl
@@ -43,7 +44,7 @@ none_hangs (Ok said) script e item h =
     let hangs : Option ℕ = position (says (may_hang (items said))) said in
     let is : items said ≡ script = two_faults lost hangs script (items said) e in
     subst (λ (all : List Item). may_hang all item ≡ false) is
-    (none_passes (says (may_hang (items said))) 0 said (none_found lost hangs script (items said) e) (Some item) (said_by said item (subst (λ (all : List Item). Has all item) (sym is) h)))
+    (none_passes (says (may_hang (items said))) 0 said (sym (position_from-zero (says (may_hang (items said))) said) ∙ none_found lost hangs script (items said) e) (Some item) (said_by said item (subst (λ (all : List Item). Has all item) (sym is) h)))
 
 pub no_join : (bytes : List ℕ) (script : List Item) → script_of bytes ≡ Ok script → (name : List ℕ) (shape : Shape) → Contains script (Open name shape) → shape.serve ≡ false → (client number : ℕ) → Contains script (Join client number) → ⊥
 no_join bytes script reads name shape opened unserved client number joins =
