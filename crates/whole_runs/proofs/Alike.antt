@@ -1,6 +1,6 @@
 -- A tick depends on what was answered only where a half of a link was asked. So ticks of the same seats in which each asked half answered the same do the same: by the lines of a schedule, and in
 -- rounds up to the first one that moved nothing.
-use Rattle.std.proofs.Common.{◌≡◌, ◌≢◌, ℕ, zero, suc, ◌+◌, ◌⊎◌, inl, inr, Bool, true, false, List, [], ◌∷◌, ◌++◌, map, ap, sym, subst, refl, ◌∙◌, append_assoc, if◌then◌else◌}
+use Rattle.std.proofs.Common.{◌≡◌, ◌≢◌, ℕ, ◌+◌, ◌⊎◌, inl, inr, Bool, true, false, List, [], ◌∷◌, ◌++◌, map, ap, sym, subst, refl, ◌∙◌, append_assoc, if◌then◌else◌}
 use Rattle.std.proofs.lemmas.List.Sums.{fold-append}
 use Rattle.std.proofs.lemmas.Option.{none-some, same_Some}
 use Rattle.std.proofs.lemmas.Bool.{true≢false}
@@ -98,10 +98,6 @@ module _ (p : Plan) (i : ℕ) (seat : SeatState) (c : Core) (a b : Answer) where
 
 pub ran_on : (p : Plan) (c : Core) (xs ys : List Moment) → run p c (xs ++ ys) ≡ run p (run p c xs) ys
 ran_on p c xs ys = fold-append (ticked p) c xs ys
-
-pub seats_on : (xs ys : List Moment) → seats_of (xs ++ ys) ≡ seats_of xs ++ seats_of ys
-seats_on [] ys = refl
-seats_on (x ∷ xs) ys = ap (λ (l : List ℕ). x.seat ∷ l) (seats_on xs ys)
 
 pub said_on : (asks : Program → List ℕ) (p : Plan) (c : Core) (xs ys : List Moment) → said_in asks p c (xs ++ ys) ≡ said_in asks p c xs ++ said_in asks p (run p c xs) ys
 said_on asks p c [] ys = refl
@@ -271,10 +267,10 @@ module _ (X : Type 0) (f : X → Program → List ℕ) (hears : Hears X f) where
         let is = behind_round now later last in
         let is' = behind_round now' later' last' in
         let first = one_ticks p now now' c (λ x. said_in (f x) p (run p c now) (ticks_of later ++ last) ++ s x) (λ x. said_in (f x) p (run p c now') (ticks_of later' ++ last') ++ t x) (h.0 ∙ sym k.0)
-            (in_parts p c xs now (ticks_of later ++ last) ys now' (ticks_of later' ++ last') s t is is' e) in
+        (in_parts p c xs now (ticks_of later ++ last) ys now' (ticks_of later' ++ last') s t is is' e) in
         then_alike p c xs now (ticks_of later ++ last) ys now' (ticks_of later' ++ last') s t is is' first
         (λ same. rounds_alike later later' last last' (run p c now') s t (subst (λ (d : Core). EachMoves script d later) first.0 h.2) k.2 seats seats'
-            (subst (λ (d : Core). AreStill p (run p d (ticks_of later)) last) first.0 (still_behind p c now later last still)) (still_behind p c now' later' last' still') same)
+        (subst (λ (d : Core). AreStill p (run p d (ticks_of later)) last) first.0 (still_behind p c now later last still)) (still_behind p c now' later' last' still') same)
 
     pub one_settling : (c : Core) (xs ys : List Moment) (s t : X → List Answer) → Settles script c xs → Settles script c ys → SaidSame p c xs ys s t → EndAlike p c xs ys s t
     one_settling c xs ys s t h k e =

@@ -1,11 +1,9 @@
 -- Two runs of a script with calls by the same lines of a schedule end in one core, where its links answered the same, one answer after another, before the ending and behind it.
-use Rattle.std.proofs.Common.{◌≡◌, ℕ, zero, suc, ◌+◌, ◌⊎◌, inl, inr, true, List, [], ◌∷◌, ◌++◌, map, replicate, ap, sym, subst, refl, ◌∙◌, append_assoc, append-nil, arith}
+use Rattle.std.proofs.Common.{◌≡◌, ℕ, zero, suc, ◌⊎◌, inl, inr, List, [], ◌∷◌, ◌++◌, replicate, ap, sym, subst, refl, ◌∙◌, append-nil}
 use Rattle.std.proofs.lemmas.Option.{none-some}
-use Rattle.std.specs.List.{AllByRecursion}
 use Rattle.std.specs.Prelude as std
 use Rattle.std.specs.Prelude.{None}
 use mathlib.Core.Option.{Option, some, none}
-use mathlib.Core.List.{cons-ne-nil}
 use lib.ListN.{get_elem?}
 use Rattle.sock_words.specs.declared.kind.Kind.{Kind}
 use Rattle.sock_words.specs.declared.plain.Plan.{Plan}
@@ -15,11 +13,11 @@ use Rattle.brpc_model.specs.Report.{Report, report_text}
 use Rattle.brpc_model.proofs.Unique.{only_report}
 use Rattle.sock_programs.specs.Programs.{Program, Do, Say, Sent, Rest, TakeMessage, TakeHome, PutHome, PutBytes, AskReady, Write, Aside, Round, Keep, Retries}
 use Rattle.sock_programs.specs.Cores.{Core, SeatState}
-use Rattle.sock_programs.specs.Ticks.{Answer, Moment, quiet, seats_of, tick_with, ticked, run, waits}
+use Rattle.sock_programs.specs.Ticks.{Answer, Moment, quiet, tick_with, ticked, run}
 use Rattle.sock_programs.specs.Runs.{kind_in, IsAtRest, Scheduled}
 use Rattle.sock_programs.specs.Tasks.{plan_of}
 use Rattle.sock_programs.specs.Scripts.{IsRunWithCalls, Settles, set_up, opened, played, ending, is_ending, place_words, Reports}
-use Rattle.whole_runs.specs.Answers.{asked, told_at, told_in, before_ending, behind_ending}
+use Rattle.whole_runs.specs.Answers.{asked, told_in, before_ending, behind_ending}
 use Rattle.whole_runs.proofs.Alike.{Hears, ran_on, said_on, EndAlike, one_schedule, one_settling}
 
 -- ## All links as one
