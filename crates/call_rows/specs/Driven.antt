@@ -1,5 +1,5 @@
 -- A run computed: each tick with what its link answers in memory, by its shape and with the built-in server behind it.
-use Rattle.std.specs.Prelude.{ℕ, zero, suc, ◌+◌, ◌-◌, ◌*◌, ◌%◌, ◌==◌, ◌&&◌, ◌||◌, not, Bool, true, false, List, [], ◌∷◌, ◌++◌, length, take, drop, map, filter, flat_map, filter_map, slice_index_or, slice_set, min, nat_le, nat_lt, if◌then◌else◌, bytes_eq}
+use Rattle.std.specs.Prelude.{ℕ, zero, suc, ◌+◌, ◌-◌, ◌*◌, ◌%◌, ◌==◌, ◌&&◌, ◌||◌, not, Bool, true, false, List, [], ◌∷◌, ◌++◌, length, take, drop, map, filter, flat_map, slice_index_or, slice_set, min, nat_le, nat_lt, if◌then◌else◌, bytes_eq}
 use Rattle.std.specs.Prelude as std
 use mathlib.Core.Option.{Option, some, none}
 use lib.ListN.{get_elem?}
@@ -14,8 +14,8 @@ use Rattle.sock_model.specs.declared.home.Home.TheVariants.{Link}
 use Rattle.brpc_model.specs.Items.{Item, Shape, Open}
 use Rattle.brpc_model.specs.Stream as streams
 use Rattle.brpc_model.specs.Reply.{reply_frames}
-use Rattle.brpc_model.specs.Served.{given_for, opened_shape}
-use Rattle.brpc_model.specs.Operations.{Turn, Ticks, Until, clients, schedule, link_names}
+use Rattle.brpc_model.specs.Served.{given_for}
+use Rattle.brpc_model.specs.Operations.{Turn, Ticks, Until, clients, schedule, link_names, link_shapes}
 use Rattle.sock_programs.specs.Writings as heads
 use Rattle.sock_programs.specs.Asides.{Taking, Bytes, Nothing, AtEnd, Closed, TakeBytes}
 use Rattle.sock_programs.specs.Heads.{Reads, Discards}
@@ -155,12 +155,12 @@ module _ (shapes : List Shape) (p : Plan) where
 
 -- the kinds of the ticks of these seats behind the setup
 abbrev pub trace_of : List Item → List ℕ → List (List ℕ)
-trace_of script seats = let p = plan_of script in let shapes = filter_map opened_shape script in
+trace_of script seats = let p = plan_of script in let shapes = link_shapes script in
     traced shapes p seats (alone shapes p 200 0 (record { core = opened script; puts = map (λ (s : Shape). no_puts) shapes }))
 
 -- the core in which the run of a script ends behind ticks of these seats
 abbrev pub final_from : List Item → List ℕ → Core
-final_from script seats = let p = plan_of script in let shapes = filter_map opened_shape script in let order = from_to 1 (clients script) ++ from_to 32 (length (link_names script)) in
+final_from script seats = let p = plan_of script in let shapes = link_shapes script in let order = from_to 1 (clients script) ++ from_to 32 (length (link_names script)) in
     let w₀ : World = record { core = opened script; puts = map (λ (s : Shape). no_puts) shapes } in
     let w₁ = alone shapes p 200 0 w₀ in let w₂ = (ticks shapes p seats w₁).0 in let w₃ = rounds shapes p 300 order w₂ in
     let w₄ = alone shapes p 200 0 (record { core = ending script w₃.core; puts = w₃.puts }) in
@@ -168,7 +168,7 @@ final_from script seats = let p = plan_of script in let shapes = filter_map open
 
 -- the core in which the run of a script ends by its own schedule
 abbrev pub final : List Item → Core
-final script = let p = plan_of script in let shapes = filter_map opened_shape script in let order = from_to 1 (clients script) ++ from_to 32 (length (link_names script)) in
+final script = let p = plan_of script in let shapes = link_shapes script in let order = from_to 1 (clients script) ++ from_to 32 (length (link_names script)) in
     let w₀ : World = record { core = opened script; puts = map (λ (s : Shape). no_puts) shapes } in
     let w₁ = alone shapes p 200 0 w₀ in let w₂ = turns shapes p (schedule script) w₁ in let w₃ = rounds shapes p 200 order w₂ in
     let w₄ = alone shapes p 200 0 (record { core = ending script w₃.core; puts = w₃.puts }) in

@@ -70,10 +70,10 @@ never_nothing Unasked e = true≢false (sym e)
 never_nothing (OfPut x) e = true≢false (sym e)
 never_nothing (OfReady x) e = true≢false (sym e)
 
-module _ (p : Plan) (q : IdPlan) (life : ℕ → Option ℕ) (calls : List ℕ) (c : Core) (us : List Owing) (vs : List IdView) (sound : SoundOwing q life calls c us) (known : SoundIds p q c vs) (ending : c.calls.ending ≡ true)
-    (still : (i : ℕ) → i < length c.seats → IsAtRest c i ⊎ WaitsAside p c i) where
+-- where each seat is at rest or waits aside, also before the ending
+module _ (p : Plan) (q : IdPlan) (c : Core) (vs : List IdView) (known : SoundIds p q c vs) (still : (i : ℕ) → i < length c.seats → IsAtRest c i ⊎ WaitsAside p c i) where
   -- who waits at the head of a loop has no token
-  waits_free : (v : IdView) (head : Head) (next : Exit head → Program) (answer : Answer) → IdGoesOn p q v (Round head next) → waits_in p c.words c.calls answer head ≡ true → v.tokens ≡ []
+  pub waits_free : (v : IdView) (head : Head) (next : Exit head → Program) (answer : Answer) → IdGoesOn p q v (Round head next) → waits_in p c.words c.calls answer head ≡ true → v.tokens ≡ []
   waits_free v (Locks i sought w) next answer g is = g.0.0
   waits_free v (Joins id) next answer g is = g.0.0
   waits_free v (Opens o) next answer g is = g.0
@@ -81,14 +81,14 @@ module _ (p : Plan) (q : IdPlan) (life : ℕ → Option ℕ) (calls : List ℕ) 
   waits_free v (Discards k total) next answer g is = g.0
   waits_free v _ next answer g is = absurd (true≢false (sym is))
 
-  all_free : (j : ℕ) (v : IdView) → get_elem? vs j ≡ some v → v.tokens ≡ []
+  pub all_free : (j : ℕ) (v : IdView) → get_elem? vs j ≡ some v → v.tokens ≡ []
   all_free j v at = let s = beside vs c.seats j v (sym known.each) at in let g = known.seats j s.0 v s.1 at in ⊎_elim
       (λ rest. subst (IdGoesOn p q v) (rest s.0 s.1) g)
       (λ w. waits_free v w.2 w.3 w.4 (subst (IdGoesOn p q v) (ap (λ (x : SeatState). x.program) (some-injective s.0 w.0 (sym s.1 ∙ w.1)) ∙ w.5) g) w.6)
       (still j (inside_of c.seats j s.0 s.1))
 
   -- so no id is locked
-  not_locked : (i : ℕ) → i < q.slots → ((id_word_of c i).state ≡ 0) ⊎ ((id_word_of c i).state ≡ 1)
+  pub not_locked : (i : ℕ) → i < q.slots → ((id_word_of c i).state ≡ 0) ⊎ ((id_word_of c i).state ≡ 1)
   not_locked i inside = by_stands (known.rule.slots i inside).stands
     where
       by_stands : Stands ((known.rule.slots i inside).b) (local (id_state c.calls vs) i) → ((id_word_of c i).state ≡ 0) ⊎ ((id_word_of c i).state ≡ 1)
@@ -99,6 +99,8 @@ module _ (p : Plan) (q : IdPlan) (life : ℕ → Option ℕ) (calls : List ℕ) 
       by_stands (locked d x y h t s l z w v) = let e = sym (none_held i vs all_free) ∙ t in absurd cc
       by_stands (leaving t g s x h) = inl s
 
+module _ (p : Plan) (q : IdPlan) (life : ℕ → Option ℕ) (calls : List ℕ) (c : Core) (us : List Owing) (vs : List IdView) (sound : SoundOwing q life calls c us) (known : SoundIds p q c vs) (ending : c.calls.ending ≡ true)
+    (still : (i : ℕ) → i < length c.seats → IsAtRest c i ⊎ WaitsAside p c i) where
   -- who waits does so for the end of a range, or for the word of an `open`
   data Waits (i : ℕ) : Type 0 where
     joins : (seat : SeatState) (id : ℕ) (next : ℕ → Program) → get_elem? c.seats i ≡ some seat → seat.program ≡ Round (Joins id) next → is_first (id_first id) (id_word_of c (id_slot id)) ≡ true → Waits i
@@ -108,7 +110,7 @@ module _ (p : Plan) (q : IdPlan) (life : ℕ → Option ℕ) (calls : List ℕ) 
   by_head i seat (Joins id) next answer v at e g is = joins seat id next at e is
   by_head i seat (Opens o) next answer v at e g is = opens seat o next at e (eqb-true (get_or c.words (open_word p o) 0) 0 is)
   by_head i seat (Locks s sought None) next answer v at e g is = let w : Parts = id_word_of c s in let there = sought_there sought (id_word_of c s) (and_first (is_sought sought (id_word_of c s)) (not ((id_word_of c s).state == 1)) is) in
-      let taken = not_one (id_word_of c s).state (and_second (is_sought sought (id_word_of c s)) (not ((id_word_of c s).state == 1)) is) in absurd (⊎_elim there taken (not_locked s g.0.1))
+      let taken = not_one (id_word_of c s).state (and_second (is_sought sought (id_word_of c s)) (not ((id_word_of c s).state == 1)) is) in absurd (⊎_elim there taken (not_locked p q c vs known still s g.0.1))
   by_head i seat (Reads r) next answer v at e g is = absurd (never_nothing answer (sym (ap (λ b. is_nothing b answer) ending) ∙ is))
   by_head i seat (Discards k total) next answer v at e g is = absurd (never_nothing answer (sym (ap (λ b. is_nothing b answer) ending) ∙ is))
   by_head i seat _ next answer v at e g is = absurd (true≢false (sym is))
@@ -149,7 +151,7 @@ module _ (p : Plan) (q : IdPlan) (life : ℕ → Option ℕ) (calls : List ℕ) 
         (λ one. let low = (known.rule.slots i inside).first_low in let slot : id_slot (call_id i (id_word_of c i).first) ≡ i = slot_of_call i (id_word_of c i).first low in
         absurd (nobody (call_id i (id_word_of c i).first) (id_word_of c i).attempt (sound.law.owed (call_id i (id_word_of c i).first) (id_word_of c i).attempt (subst (λ x. x < q.slots) (sym slot) inside)
         (ap (λ x. (id_word_of c x).first) slot ∙ sym (first_of_call i (id_word_of c i).first low), ap (λ x. (id_word_of c x).state) slot ∙ one, ap (λ x. (id_word_of c x).attempt) slot))))
-        (not_locked i inside)
+        (not_locked p q c vs known still i inside)
 
     -- and nobody waits but for the word of an `open`
     pub waits_for_opens : (i : ℕ) → i < length c.seats → IsAtRest c i ⊎ WaitsForOpen p c i

@@ -229,7 +229,7 @@ module _ (P : List Item → Type 0) (more : (before : List Item) (item : Item) �
   all_lines (Ok said) (line ∷ lines) h = all_lines (one_more said (said_behind (items said) line)) lines (one_line said (said_behind (items said) line) h (said_placed (items said) line))
   all_lines (Err fault) (line ∷ lines) h = all_lines (Err fault) lines tt
 
-two_faults : (one two : Option ℕ) (script all : List Item) → fault_at one 10 (fault_at two 11 (Ok all)) ≡ Ok script → all ≡ script
+pub two_faults : (one two : Option ℕ) (script all : List Item) → fault_at one 10 (fault_at two 11 (Ok all)) ≡ Ok script → all ≡ script
 two_faults None None script all e = let f : Ok all ≡ Ok script = e in cc
 two_faults None (Some place) script all e = absurd (cc)
 two_faults (Some place) two script all e = absurd (cc)

@@ -18,7 +18,7 @@ same_link out out' inn s = record { link = s.link; gave = refl; gave_count = ref
 
 -- a writing half that is ended is given back as it was
 pub end_kept : (out out' : OutState) (inn : InState) → FinishStep out out' → end_of out' inn ≡ end_of out inn
-end_kept out out' inn h = λ k. record { link = h.same.link k; took = h.took k; put_faults = h.faults k; gave = inn.gave_bytes; gave_count = inn.gave; take_faults = inn.faults; gave_end = inn.gave_end; closed = inn.closed; answers = h.answers k }
+end_kept out out' inn h = λ k. record { link = h.same.link k; took = h.took k; put_faults = h.faults k; gave = inn.gave_bytes; gave_count = inn.gave; take_faults = inn.faults; gave_end = inn.gave_end; closed = inn.closed; answers = h.answers k; takes = inn.takes }
 
 module _ {A : Type 0} (f : A → OutState) (items : List A) (j k : ℕ) (x : A) (there : j ≡ k) (inside : k < length items) (is : x ≡ slice_index_or items j x) where
   at_place : get_elem? items j ≡ some (slice_index_or items j x)

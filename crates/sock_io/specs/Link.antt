@@ -1,5 +1,5 @@
 -- The halves of a link, by what they took and gave.
-use Rattle.std.specs.Prelude.{ℕ, ◌≡◌, ◌≢◌, ◌+◌, ◌<◌, ◌≤◌, Bool, true, false, List, [], ◌∷◌, ◌++◌, length, take, Option, IfSome, option_map}
+use Rattle.std.specs.Prelude.{ℕ, ◌≡◌, ◌≢◌, ◌+◌, ◌<◌, ◌≤◌, ◌⊎◌, Bool, true, false, List, [], ◌∷◌, ◌++◌, length, take, Option, Some, IfSome, option_map}
 use Rattle.std.specs.Io.KnownBytes.{append_known}
 use Rattle.sock_io.specs.declared.link.Put.{Put}
 use Rattle.sock_io.specs.declared.link.Put.TheVariants as put
@@ -7,7 +7,7 @@ use Rattle.sock_io.specs.declared.link.Ready.{Ready}
 use Rattle.sock_io.specs.declared.link.Ready.TheVariants as ready
 use Rattle.sock_io.specs.declared.link.Take.{Take}
 use Rattle.sock_io.specs.declared.link.Take.TheVariants as take_
-use Rattle.brpc_model.specs.Link.{LinkEnd, HalfAnswer, PutTook, PutAgain, PutFailed, ReadyNow, ReadyNotYet, ReadyFailed}
+use Rattle.brpc_model.specs.Link.{LinkEnd, HalfAnswer, PutTook, PutAgain, PutFailed, ReadyNow, ReadyNotYet, ReadyFailed, TakeAnswer, TakeTook, TakeEmpty, TakeEnd, TakeClosed, TakeFailed}
 use Rattle.sock_io.specs.Causes.{Rose}
 
 -- a writing half
@@ -45,6 +45,10 @@ pub record InState : Type 0 where
   pub faults : ℕ
   -- the bytes that it gave, where it tells them
   pub gave_bytes : Option (List ℕ)
+  -- all that it answered, in order, where it tells that
+  pub takes : Option (List TakeAnswer)
+  -- whether the other end closed its half, so that a take may answer `Closed`, where it tells
+  pub closing : Option Bool
 
 -- what a put took of the piece
 abbrev pub taken_of : List ℕ → Put → List ℕ
@@ -63,8 +67,16 @@ of_ready ready.Now = ReadyNow
 of_ready ready.NotYet = ReadyNotYet
 of_ready ready.Failed = ReadyFailed
 
+-- what a take answered
+abbrev pub of_take : Take → TakeAnswer
+of_take (take_.Took n) = TakeTook n
+of_take take_.Empty = TakeEmpty
+of_take take_.End = TakeEnd
+of_take take_.Closed = TakeClosed
+of_take take_.Failed = TakeFailed
+
 -- with these answers behind those before, where they are told
-abbrev pub more_told : Option (List HalfAnswer) → List HalfAnswer → Option (List HalfAnswer)
+abbrev pub more_told : {A : Type 0} → Option (List A) → List A → Option (List A)
 more_told told more = option_map (λ answers. answers ++ more) told
 
 -- a put that takes anything takes at least a byte of the piece and at most all
@@ -143,9 +155,18 @@ pub record TakeStep (old new : InState) (room : List ℕ) (result : Take) : Type
   pub bytes : new.gave_bytes ≡ append_known old.gave_bytes (given_of room result)
   pub end : (result ≡ take_.End → new.gave_end ≡ true) × (result ≢ take_.End → new.gave_end ≡ old.gave_end)
   pub closed : (result ≡ take_.Closed → new.closed ≡ option_map (λ _. true) old.closed) × (result ≢ take_.Closed → new.closed ≡ old.closed)
+  pub takes : new.takes ≡ more_told old.takes (of_take result ∷ [])
+  -- it answers `Closed` only where the other end closed its half, and taking doesn't make it do so
+  pub only_closing : result ≡ take_.Closed → old.closing ≢ Some false
+  pub closing : new.closing ≡ old.closing
   pub later : old.faults ≤ new.faults
   pub failed : result ≡ take_.Failed → Rose old.faults new.faults
   pub kept : result ≢ take_.Failed → new.faults ≡ old.faults
+
+-- what settling a link changes: where it was finished, the other end may close its half
+pub record SettleStep (out : OutState) (old new : InState) : Type 0 where
+  pub same : new ≡ record old { closing = new.closing }
+  pub closing : (new.closing ≡ old.closing) ⊎ ((out.finished ≡ true) × (new.closing ≡ option_map (λ _. true) old.closing))
 
 -- halves that took, gave and answered nothing so far
 pub record IsUnused (out : OutState) (inn : InState) : Type 0 where
@@ -156,9 +177,10 @@ pub record IsUnused (out : OutState) (inn : InState) : Type 0 where
   pub gave : inn.gave ≡ 0
   pub gave_bytes : IfSome inn.gave_bytes (λ bytes. bytes ≡ [])
   pub gave_end : inn.gave_end ≡ false
+  pub takes : IfSome inn.takes (λ takes. takes ≡ [])
   pub take_faults : inn.faults ≡ 0
 
--- a link that was opened just now: it has this number, it took, gave and answered nothing, and it wasn't found closed
+-- a link that was opened just now: it has this number, it took, gave and answered nothing, it wasn't found closed, and its other end didn't close its half
 pub record IsFresh (out : OutState) (inn : InState) (number : ℕ) : Type 0 where
   pub link : out.link ≡ number
   pub took : IfSome out.took (λ bytes. bytes ≡ [])
@@ -169,11 +191,13 @@ pub record IsFresh (out : OutState) (inn : InState) (number : ℕ) : Type 0 wher
   pub gave_bytes : IfSome inn.gave_bytes (λ bytes. bytes ≡ [])
   pub gave_end : inn.gave_end ≡ false
   pub closed : IfSome inn.closed (λ closed. closed ≡ false)
+  pub takes : IfSome inn.takes (λ takes. takes ≡ [])
+  pub closing : IfSome inn.closing (λ closing. closing ≡ false)
   pub take_faults : inn.faults ≡ 0
 
 -- the link that these halves are, as it is given back
 abbrev pub end_of : OutState → InState → LinkEnd
-end_of out inn = record { link = out.link; took = out.took; put_faults = out.faults; gave = inn.gave_bytes; gave_count = inn.gave; take_faults = inn.faults; gave_end = inn.gave_end; closed = inn.closed; answers = out.answers }
+end_of out inn = record { link = out.link; took = out.took; put_faults = out.faults; gave = inn.gave_bytes; gave_count = inn.gave; take_faults = inn.faults; gave_end = inn.gave_end; closed = inn.closed; answers = out.answers; takes = inn.takes }
 
 -- a connection that was accepted, as it was given back: what it took, and what it gave, where it tells these bytes; how
 -- many bytes it gave; how often its halves failed; and whether its reading half answered `End`

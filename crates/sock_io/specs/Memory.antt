@@ -1,9 +1,10 @@
 -- Sources, sinks and links in memory, by what callers see of them.
-use Rattle.std.specs.Prelude.{ℕ, List, [], ◌∷◌, length, min, Bool, false, Some}
+use Rattle.std.specs.Prelude.{ℕ, List, [], ◌∷◌, length, min, Bool, false, true, Some}
 use Rattle.sock_io.specs.declared.ending.Ending.{Ending}
 use Rattle.sock_io.specs.declared.ending.Ending.TheVariants as ending
 use Rattle.sock_io.specs.declared.link.Take.{Take}
 use Rattle.sock_io.specs.declared.link.Take.TheVariants as take_
+use Rattle.brpc_model.specs.Link.{TakeAnswer}
 use Rattle.sock_io.specs.Link.{InState}
 
 -- what a source will give, the numbers of its calls that fail, how many calls were made, and its count of faults
@@ -22,21 +23,28 @@ pub record SinkState : Type 0 where
   pub calls : ℕ
   pub faults : ℕ
 
--- a reading half: what it gave, what waits to be taken, what comes behind that, and whether it answered `End` or `Closed`
+-- a reading half: what it gave, what waits to be taken, what comes behind that, whether it answered `End` or `Closed`, and all that it answered
 pub record MemInState : Type 0 where
   pub given : List ℕ
   pub waiting : List ℕ
   pub ending : Ending
   pub gave_end : Bool
   pub closed : Bool
+  pub takes : List TakeAnswer
 
 -- a half to which nothing was given yet
 abbrev pub empty_in : Ending → MemInState
-empty_in ending = record { given = []; waiting = []; ending = ending; gave_end = false; closed = false }
+empty_in ending = record { given = []; waiting = []; ending = ending; gave_end = false; closed = false; takes = [] }
+
+-- the other end closed its half
+abbrev pub is_closing : Ending → Bool
+is_closing ending.Open = false
+is_closing ending.Ended = false
+is_closing ending.Closed = true
 
 -- such a half as a reading half, which never fails
 abbrev pub mem_in : MemInState → InState
-mem_in i = record { gave = length i.given; gave_end = i.gave_end; closed = Some i.closed; faults = 0; gave_bytes = Some i.given }
+mem_in i = record { gave = length i.given; gave_end = i.gave_end; closed = Some i.closed; faults = 0; gave_bytes = Some i.given; takes = Some i.takes; closing = Some (is_closing i.ending) }
 
 -- what a take answers: as many bytes as wait and the room takes; where none waits, what comes behind them
 abbrev pub take_answer : List ℕ → Ending → (room : ℕ) → Take

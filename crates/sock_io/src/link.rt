@@ -2,7 +2,7 @@ ghost use Rattle.std.specs.Prelude.{◌≡◌, ◌≢◌, ℕ, ◌+◌, ◌<◌,
 ghost use Rattle.std.specs.List.{AllByRecursion};
 ghost use Rattle.brpc_model.specs.Link.{LinkEnd};
 ghost use Rattle.sock_io.specs.Causes.{Rose};
-ghost use Rattle.sock_io.specs.Link.{OutState, InState, PutStep, ReadyStep, FinishStep, TakeStep, IsFresh, IsUnused, ConnectionEnd, end_of, connection_of};
+ghost use Rattle.sock_io.specs.Link.{OutState, InState, PutStep, ReadyStep, FinishStep, TakeStep, SettleStep, IsFresh, IsUnused, ConnectionEnd, end_of, connection_of};
 ghost use Rattle.sock_io.specs.Peer.{PeerState, ServeStep, IsNewPeer};
 
 use crate::stream::NoMemory;
@@ -75,7 +75,8 @@ pub trait Out: Drop {
 
 /// The reading half of a link. Its count of faults is as that of the writing half.
 pub trait In: Drop {
-    /// How many bytes it gave, which they are, whether it answered `End` or `Closed`, and its count of faults.
+    /// How many bytes it gave, which they are, all that it answered, whether its other end closed its half, and its count
+    /// of faults.
     ghost state: { Self → InState };
 
     /// Gives bytes into the front of the room.
@@ -202,11 +203,11 @@ pub trait Linker {
         ensures kept { (¬ IsErrOf result OpenFault.Failed) → faults self.new ≡ faults self.old };
 
     /// Has a link's other end in memory answer what the link took since the last call, and close its half once the
-    /// link was finished. Other kinds of link do nothing here. What is told of the halves stays as it is, also where
-    /// memory is short.
+    /// link was finished. Other kinds of link do nothing here. Besides that, what is told of the halves stays as it is,
+    /// also where memory is short.
     fn settle(&mut self, ends: &mut Ends<Self::O, Self::I, Self::P>) -> Result<(), NoMemory>
         ensures out { Self.O.state ends.new.out ≡ Self.O.state ends.old.out }
-        ensures inn { Self.I.state ends.new.inn ≡ Self.I.state ends.old.inn }
+        ensures inn { SettleStep (Self.O.state ends.old.out) (Self.I.state ends.old.inn) (Self.I.state ends.new.inn) }
         ensures err { OnErr result ((self.new ≡ self.old) × (ends.new ≡ ends.old)) }
         ensures asked { asked self.new ≡ asked self.old }
         ensures accepted { accepted self.new ≡ accepted self.old }

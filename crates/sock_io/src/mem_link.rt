@@ -1,5 +1,5 @@
-ghost use Rattle.std.specs.Prelude.{◌≡◌, ℕ, ◌<◌, ◌++◌, [], Some, Ok, None, false, true, OnErr, OnOk, drop, length, take};
-ghost use Rattle.sock_io.specs.Link.{TakeStep};
+ghost use Rattle.std.specs.Prelude.{◌≡◌, ℕ, ◌<◌, ◌++◌, ◌∷◌, [], Some, Ok, None, false, true, OnErr, OnOk, drop, length, take};
+ghost use Rattle.sock_io.specs.Link.{TakeStep, of_take};
 ghost use Rattle.sock_io.specs.Memory.{mem_in, empty_in, take_answer, closing};
 ghost use Rattle.sock_io.specs.Peer.{no_peer};
 
@@ -7,6 +7,7 @@ use crate::ending::Ending;
 use crate::link::{In, Out, Peer, Put, Ready, Served, Take};
 use crate::mem_source::{copy_front, from_place};
 use crate::stream::NoMemory;
+use ghosts::Ghosts;
 use std::alloc::Global;
 use std::marker::Model;
 
@@ -58,7 +59,8 @@ impl Out for MemOut {
     }
 }
 
-/// A reading half in memory: it gives what the other end gave, and then answers how that went on.
+/// A reading half in memory: it gives what the other end gave, and then answers how that went on. It tells all that it
+/// answered.
 #[derive(Drop)]
 pub struct MemIn {
     bytes: Vec<u8>,
@@ -66,15 +68,18 @@ pub struct MemIn {
     ending: Ending,
     gave_end: bool,
     closed: bool,
+    /// All that it answered, for the proofs.
+    takes: Ghosts<Take>,
 }
 
 impl Model for MemIn {
-    ghost use Rattle.std.specs.Prelude.{◌≤◌, drop, take, vec_len};
+    ghost use Rattle.std.specs.Prelude.{◌≤◌, drop, map, take, vec_len};
+    ghost use Rattle.sock_io.specs.Link.{of_take};
     ghost use Rattle.sock_io.specs.Memory.{MemInState};
 
     ghost Value = { MemInState };
 
-    ghost view = { λ i. record { given = take i.at i.bytes.items; waiting = drop i.at i.bytes.items; ending = i.ending; gave_end = i.gave_end; closed = i.closed } };
+    ghost view = { λ i. record { given = take i.at i.bytes.items; waiting = drop i.at i.bytes.items; ending = i.ending; gave_end = i.gave_end; closed = i.closed; takes = map of_take i.takes.list } };
 
     ghost invariant = { λ i. i.at ≤ vec_len i.bytes };
 }
@@ -90,6 +95,7 @@ impl MemIn {
             ending,
             gave_end: false,
             closed: false,
+            takes: Ghosts::of(&0u8),
         }
     }
 
@@ -122,17 +128,15 @@ impl MemIn {
             Ending::Ended => {}
         }
     }
-}
 
-impl In for MemIn {
-    ghost state = { mem_in };
-
-    fn take(&mut self, room: &mut [u8]) -> Take
+    /// Takes, and leaves it to the caller to note what it answers.
+    fn answer_take(&mut self, room: &mut [u8]) -> Take
         requires { 0 < length room.old }
-        ensures step { TakeStep (mem_in self.old) (mem_in self.new) room.new result }
+        ensures step { TakeStep (mem_in self.old) (mem_in (record self.new { takes = self.old.takes ++ of_take result ∷ [] })) room.new result }
         ensures answer { result ≡ take_answer self.old.waiting self.old.ending (length room.old) }
         ensures bytes { self.new.given ++ self.new.waiting ≡ self.old.given ++ self.old.waiting }
         ensures ending { self.new.ending ≡ self.old.ending }
+        ensures takes { self.new.takes ≡ self.old.takes }
     {
         let count = copy_front(from_place(&self.bytes, self.at), room);
         if count > 0 {
@@ -150,6 +154,31 @@ impl In for MemIn {
                 Take::Closed
             }
         }
+    }
+
+    /// Notes an answer.
+    fn note(&mut self, answer: Take)
+        ensures { self.new ≡ record self.old { takes = self.old.takes ++ of_take answer ∷ [] } }
+    {
+        let before: Ghosts<Take> = Ghosts::of(&self.takes);
+        let with = (before, answer);
+        self.takes = Ghosts::of(&with);
+    }
+}
+
+impl In for MemIn {
+    ghost state = { mem_in };
+
+    fn take(&mut self, room: &mut [u8]) -> Take
+        requires { 0 < length room.old }
+        ensures step { TakeStep (mem_in self.old) (mem_in self.new) room.new result }
+        ensures answer { result ≡ take_answer self.old.waiting self.old.ending (length room.old) }
+        ensures bytes { self.new.given ++ self.new.waiting ≡ self.old.given ++ self.old.waiting }
+        ensures ending { self.new.ending ≡ self.old.ending }
+    {
+        let answer = self.answer_take(room);
+        self.note(answer);
+        answer
     }
 }
 

@@ -169,26 +169,32 @@ pub record IsRunOf (script : List Item) (turns : List Turn) (end_ : Core) : Type
 abbrev pub round_of : List Item → List ℕ
 round_of script = from_to 1 (clients script) ++ from_to 32 (length (link_names script))
 
-abbrev pub rounds_of : ℕ → List Item → List ℕ
-rounds_of zero script = []
-rounds_of (suc n) script = round_of script ++ rounds_of n script
-
 -- no tick of these moves: each seat waits, or has no step left
 abbrev pub AreStill : Plan → Core → List Moment → Type 0
 AreStill p c [] = Unit {0}
 AreStill p c (m ∷ ms) = (IsAtRest c m.seat ⊎ (waits p c m ≡ true)) × AreStill p (ticked p c m) ms
 
--- rounds up to one that moved nothing
-pub record Settles (script : List Item) (c : Core) (moments : List Moment) : Type 0 where
-  pub more : ℕ
-  pub moved : List Moment
-  pub last : List Moment
-  pub all : moments ≡ moved ++ last
-  pub in_rounds : seats_of moved ≡ rounds_of more script
-  pub one_more : seats_of last ≡ round_of script
-  pub still : AreStill (plan_of script) (run (plan_of script) c moved) last
+-- these are rounds, one after another, and each moves something
+abbrev pub EachMoves : List Item → Core → List (List Moment) → Type 0
+EachMoves script c [] = Unit {0}
+EachMoves script c (now ∷ later) = (seats_of now ≡ round_of script) × (AreStill (plan_of script) c now → ⊥) × EachMoves script (run (plan_of script) c now) later
 
--- the core in which the run of a script ends by these lines of a schedule: rounds up to one that moved nothing, the ending, and such rounds again
+-- the ticks of rounds, one after another
+abbrev pub ticks_of : List (List Moment) → List Moment
+ticks_of parts = flat_map (λ part. part) parts
+
+-- rounds up to the first that moves nothing
+pub record Settles (script : List Item) (c : Core) (moments : List Moment) : Type 0 where
+  -- the rounds that move something
+  pub moving : List (List Moment)
+  pub each_moves : EachMoves script c moving
+  -- and the one that moves nothing
+  pub last : List Moment
+  pub one_more : seats_of last ≡ round_of script
+  pub still : AreStill (plan_of script) (run (plan_of script) c (ticks_of moving)) last
+  pub all : moments ≡ ticks_of moving ++ last
+
+-- the core in which the run of a script ends by these lines of a schedule: rounds up to the first that moves nothing, the ending, and such rounds again
 pub record IsRunWithCalls (script : List Item) (turns : List Turn) (end_ : Core) : Type 0 where
   pub setup : ℕ
   pub is_set_up : IsAtRest (set_up script setup) 0

@@ -18,7 +18,7 @@ use Rattle.sock_model.specs.Messages.{Letter}
 use Rattle.sock_model.specs.Reads.{message, link_home}
 use Rattle.sock_programs.specs.Writings as heads
 use Rattle.sock_programs.specs.Programs.{Program, Do, TakeMessage, TakeHome, PutHome, PutBytes, AskReady, Write, Aside, Round}
-use Rattle.sock_programs.specs.Asides.{Step, Found, TakeBytes, Taking, Bytes, Nothing, id_slot, id_first}
+use Rattle.sock_programs.specs.Asides.{Step, Found, TakeBytes, Taking, Bytes, Nothing, NoMore, id_slot, id_first}
 use Rattle.sock_programs.specs.Heads.{Head, Locks, Joins, Opens, Reads, Discards}
 use Rattle.sock_programs.specs.Posts.{is_first, is_sought}
 use Rattle.sock_programs.specs.Readers.{room_of}
@@ -131,9 +131,11 @@ FitsPut asked bytes (Took n) = (0 < n) × (n ≤ length bytes)
 FitsPut asked bytes Again = asked ≡ false
 FitsPut asked bytes other = Unit {0}
 
--- a take gives some bytes, as many as there is room for at most
+-- a take gives some bytes, as many as there is room for at most; that no more will come isn't answered: while the run is ending, it is what
+-- the run makes of `Nothing`
 abbrev pub FitsTake : ℕ → Taking → Type 0
 FitsTake room (Bytes bytes) = (0 < length bytes) × (length bytes ≤ room)
+FitsTake room NoMore = ⊥
 FitsTake room other = Unit {0}
 
 abbrev pub IsTaken : ℕ → Answer → Type 0

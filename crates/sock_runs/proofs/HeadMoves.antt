@@ -36,7 +36,7 @@ use Rattle.sock_runs.proofs.LinkTicks.{RetriesGo}
 use Rattle.sock_runs.proofs.Passes.{goes_round, posted_fits, got_fits, unlocked_fits}
 use Rattle.sock_runs.proofs.WalksLeft.{rights_few}
 use Rattle.sock_runs.proofs.IdCosts.{lasts_more, Falls, posts_fall, unlocks_fall, decides_lasts, locks_fall, tries_fall, joins_fall}
-use Rattle.sock_runs.proofs.ReadCosts.{reads_fall, discards_fall}
+use Rattle.sock_runs.proofs.ReadCosts.{FitsRoom, reads_fall, discards_fall}
 use Rattle.sock_runs.proofs.Lasting.{Fewer, found_steps, tick_moves}
 use Rattle.sock_runs.proofs.AsideMoves.{IsLate, any_moves}
 
@@ -57,13 +57,12 @@ moved false Closed off e = cc
 moved true Broken off e = cc
 moved false Broken off e = cc
 
-fits_last : (ending : Bool) (room : ℕ) (t : Taking) → FitsTake room t → FitsTake room (at_last ending t)
+fits_last : (ending : Bool) (room : ℕ) (t : Taking) → FitsTake room t → FitsRoom room (at_last ending t)
 fits_last true room Nothing fits = tt
 fits_last false room Nothing fits = tt
 fits_last true room (Bytes bytes) fits = fits
 fits_last false room (Bytes bytes) fits = fits
-fits_last true room NoMore fits = tt
-fits_last false room NoMore fits = tt
+fits_last ending room NoMore fits = absurd fits
 fits_last true room AtEnd fits = tt
 fits_last false room AtEnd fits = tt
 fits_last true room Closed fits = tt

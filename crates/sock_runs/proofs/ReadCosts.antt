@@ -9,10 +9,16 @@ use Rattle.sock_programs.specs.Asides.{TakeBytes, Taking, Bytes, Nothing, NoMore
 use Rattle.sock_programs.specs.Heads.{Version, Reading, Locks, Reads, Discards, Locking, NotThere, Has, Ended}
 use Rattle.sock_programs.specs.Programs.{Program, Say, Round}
 use Rattle.sock_programs.specs.Readers.{LIMIT, answer, answered, responses, read_on, took, took_bytes, last_of, ended_by, room_of, discarded, slot_in, version_in, has_response, ending_of, is_early}
-use Rattle.sock_programs.specs.Ticks.{FitsTake}
 use Rattle.sock_runs.specs.Fits.{FitsEnded}
 use Rattle.sock_runs.specs.Lasts.{LastsFor, CHANGE, FRAME}
 use Rattle.sock_runs.proofs.IdCosts.{lasts_more, end_lasts, Falls}
+
+-- ## Takes
+
+-- the bytes that are found are as many as there is room for at most
+abbrev pub FitsRoom : ℕ → Taking → Type 0
+FitsRoom room (Bytes bytes) = (0 < length bytes) × (length bytes ≤ room)
+FitsRoom room other = Unit {0}
 
 -- ## Streams
 
@@ -89,7 +95,7 @@ module _ (p : Plan) (v : View) where
       sums f t a is le = omega (arith, is, le, room, some_, few)
 
   -- a take that finds something, where it doesn't wait
-  pub reads_fall : (r : Reading) (k : Ended → Program) (n : ℕ) → LastsFor p v (Round (Reads r) k) n → (t : Taking) → FitsTake (room_of r.total) t → t ≢ Nothing → Falls p v (TakeBytes r.link (room_of r.total)) (took r k) n t
+  pub reads_fall : (r : Reading) (k : Ended → Program) (n : ℕ) → LastsFor p v (Round (Reads r) k) n → (t : Taking) → FitsRoom (room_of r.total) t → t ≢ Nothing → Falls p v (TakeBytes r.link (room_of r.total)) (took r k) n t
   reads_fall r k n l (Bytes bytes) fits moves = let few = fits.1 in let x = bytes_last r bytes k l.0 n l.2 l.1 fits.0 (omega (arith, few)) in let le = x.1 in (x.0, omega (arith, le), x.2)
   reads_fall r k n l Nothing fits moves = absurd (moves refl)
   reads_fall r k n l NoMore fits moves = let room = l.1 in (l.0 + 0, omega (arith, room), l.2 (ended_by 1014 false false r) (refl, λ z. absurd (omega (arith, z))))
@@ -97,7 +103,7 @@ module _ (p : Plan) (v : View) where
   reads_fall r k n l Closed fits moves = let room = l.1 in (l.0 + 0, omega (arith, room), l.2 (ended_by 1014 true false r) (refl, λ z. absurd (omega (arith, z))))
   reads_fall r k n l Broken fits moves = let room = l.1 in (l.0 + 0, omega (arith, room), l.2 (ended_by 1014 false false r) (refl, λ z. absurd (omega (arith, z))))
 
-  pub discards_fall : (j total : ℕ) (k : ℕ → Program) (n : ℕ) → LastsFor p v (Round (Discards j total) k) n → (t : Taking) → FitsTake (room_of total) t → t ≢ Nothing → Falls p v (TakeBytes j (room_of total)) (discarded j total k) n t
+  pub discards_fall : (j total : ℕ) (k : ℕ → Program) (n : ℕ) → LastsFor p v (Round (Discards j total) k) n → (t : Taking) → FitsRoom (room_of total) t → t ≢ Nothing → Falls p v (TakeBytes j (room_of total)) (discarded j total k) n t
   discards_fall j total k n l (Bytes bytes) fits moves = by_limit (nat_lt (total + length bytes) LIMIT) l.0 l.1 l.2
     where
       by_limit : (b : Bool) (m : ℕ) → LIMIT - total + 1 + m ≤ n → ((exit : ℕ) → Unit {0} → LastsFor p v (k exit) (m + 0))

@@ -1,6 +1,6 @@
 -- A tick depends on what was answered only where a half of a link was asked. So ticks of the same seats in which each asked half answered the same do the same: by the lines of a schedule, and in
 -- rounds up to the first one that moved nothing.
-use Rattle.std.proofs.Common.{◌≡◌, ◌≢◌, ℕ, zero, suc, ◌+◌, ◌⊎◌, inl, inr, Bool, true, false, List, [], ◌∷◌, ◌++◌, map, ap, sym, subst, refl, ◌∙◌, append_assoc, if◌then◌else◌}
+use Rattle.std.proofs.Common.{◌≡◌, ◌≢◌, ℕ, ◌+◌, ◌⊎◌, inl, inr, Bool, true, false, List, [], ◌∷◌, ◌++◌, map, ap, sym, subst, refl, ◌∙◌, append_assoc, if◌then◌else◌}
 use Rattle.std.proofs.lemmas.List.Sums.{fold-append}
 use Rattle.std.proofs.lemmas.Option.{none-some, same_Some}
 use Rattle.std.proofs.lemmas.Bool.{true≢false}
@@ -23,9 +23,8 @@ use Rattle.sock_programs.specs.Cores.{Core, SeatState}
 use Rattle.sock_programs.specs.Ticks.{Answer, Moment, seats_of, step_with, tick_with, ticked, run, waits_at, waits}
 use Rattle.sock_programs.specs.Runs.{IsAtRest, LeadsUpTo, Turns, Scheduled}
 use Rattle.sock_programs.specs.Tasks.{plan_of}
-use Rattle.sock_programs.specs.Scripts.{AreStill}
+use Rattle.sock_programs.specs.Scripts.{AreStill, EachMoves, Settles, ticks_of, round_of}
 use Rattle.whole_runs.specs.Answers.{asked, said_at, said_in}
-use Rattle.whole_runs.specs.Rounds.{SettlesAfter}
 
 -- ## Lists
 
@@ -99,10 +98,6 @@ module _ (p : Plan) (i : ℕ) (seat : SeatState) (c : Core) (a b : Answer) where
 
 pub ran_on : (p : Plan) (c : Core) (xs ys : List Moment) → run p c (xs ++ ys) ≡ run p (run p c xs) ys
 ran_on p c xs ys = fold-append (ticked p) c xs ys
-
-pub seats_on : (xs ys : List Moment) → seats_of (xs ++ ys) ≡ seats_of xs ++ seats_of ys
-seats_on [] ys = refl
-seats_on (x ∷ xs) ys = ap (λ (l : List ℕ). x.seat ∷ l) (seats_on xs ys)
 
 pub said_on : (asks : Program → List ℕ) (p : Plan) (c : Core) (xs ys : List Moment) → said_in asks p c (xs ++ ys) ≡ said_in asks p c xs ++ said_in asks p (run p c xs) ys
 said_on asks p c [] ys = refl
@@ -244,12 +239,41 @@ module _ (X : Type 0) (f : X → Program → List ℕ) (hears : Hears X f) where
       still_one seat wait (inl rest) = inl (subst (IsAtRest c) seat rest)
       still_one seat wait (inr waits_) = inr (sym wait ∙ waits_)
 
-  pub one_settling : (script : List Item) (n m : ℕ) (c : Core) (xs ys : List Moment) (s t : X → List Answer) → SettlesAfter script n c xs → SettlesAfter script m c ys → SaidSame (plan_of script) c xs ys s t → EndAlike (plan_of script) c xs ys s t
-  one_settling script zero zero c xs ys s t h k e = one_ticks (plan_of script) xs ys c s t (h.0 ∙ sym k.0) e
-  one_settling script zero (suc m) c xs ys s t h k e = let p : Plan = plan_of script in
-      absurd (k.4 (same_still p xs k.0 c s (λ x. said_in (f x) p (run p c k.0) k.1 ++ t x) (h.0 ∙ sym k.3) (λ x. e x ∙ two_parts (f x) p c ys k.0 k.1 (t x) k.2) h.1))
-  one_settling script (suc n) zero c xs ys s t h k e = let p : Plan = plan_of script in
-      absurd (h.4 (same_still p ys h.0 c t (λ x. said_in (f x) p (run p c h.0) h.1 ++ s x) (k.0 ∙ sym h.3) (λ x. sym (e x) ∙ two_parts (f x) p c xs h.0 h.1 (s x) h.2) k.1))
-  one_settling script (suc n) (suc m) c xs ys s t h k e = let p : Plan = plan_of script in
-      let now = one_ticks p h.0 k.0 c (λ x. said_in (f x) p (run p c h.0) h.1 ++ s x) (λ x. said_in (f x) p (run p c k.0) k.1 ++ t x) (h.3 ∙ sym k.3) (in_parts p c xs h.0 h.1 ys k.0 k.1 s t h.2 k.2 e) in
-      then_alike p c xs h.0 h.1 ys k.0 k.1 s t h.2 k.2 now (λ same. one_settling script n m (run p c k.0) h.1 k.1 s t (subst (λ (d : Core). SettlesAfter script n d h.1) now.0 h.5) k.5 same)
+  -- behind a round, the ticks of later rounds and these
+  behind_round : (now : List Moment) (later : List (List Moment)) (last : List Moment) → ticks_of (now ∷ later) ++ last ≡ now ++ (ticks_of later ++ last)
+  behind_round now later last = append_assoc now (ticks_of later) last
+
+  still_behind : (p : Plan) (c : Core) (now : List Moment) (later : List (List Moment)) (last : List Moment) → AreStill p (run p c (ticks_of (now ∷ later))) last → AreStill p (run p (run p c now) (ticks_of later)) last
+  still_behind p c now later last = subst (λ (d : Core). AreStill p d last) (ran_on p c now (ticks_of later))
+
+  module _ (script : List Item) where
+    abbrev p : Plan
+    p = plan_of script
+
+    -- a last round moves nothing, where another that was answered the same would move something
+    no_round : (c : Core) (last now later : List Moment) (s t : X → List Answer) → seats_of last ≡ round_of script → AreStill p c last → seats_of now ≡ round_of script → (AreStill p c now → ⊥) → SaidSame p c last (now ++ later) s t → ⊥
+    no_round c last now later s t seats still seats' moves e = moves (same_still p last now c s (λ x. said_in (f x) p (run p c now) later ++ t x) (seats ∙ sym seats') (λ x. e x ∙ two_parts (f x) p c (now ++ later) now later (t x) refl) still)
+
+    rounds_alike : (rounds rounds' : List (List Moment)) (last last' : List Moment) (c : Core) (s t : X → List Answer) → EachMoves script c rounds → EachMoves script c rounds' → seats_of last ≡ round_of script → seats_of last' ≡ round_of script →
+        AreStill p (run p c (ticks_of rounds)) last → AreStill p (run p c (ticks_of rounds')) last' → SaidSame p c (ticks_of rounds ++ last) (ticks_of rounds' ++ last') s t → EndAlike p c (ticks_of rounds ++ last) (ticks_of rounds' ++ last') s t
+    rounds_alike [] [] last last' c s t h k seats seats' still still' e = one_ticks p last last' c s t (seats ∙ sym seats') e
+    rounds_alike [] (now' ∷ later') last last' c s t h k seats seats' still still' e =
+        absurd (no_round c last now' (ticks_of later' ++ last') s t seats still k.0 k.1 (subst (λ (ys : List Moment). SaidSame p c last ys s t) (behind_round now' later' last') e))
+    rounds_alike (now ∷ later) [] last last' c s t h k seats seats' still still' e =
+        absurd (no_round c last' now (ticks_of later ++ last) t s seats' still' h.0 h.1 (λ x. sym (subst (λ (ys : List Moment). SaidSame p c ys last' s t) (behind_round now later last) e x)))
+    rounds_alike (now ∷ later) (now' ∷ later') last last' c s t h k seats seats' still still' e =
+        let xs = ticks_of (now ∷ later) ++ last in
+        let ys = ticks_of (now' ∷ later') ++ last' in
+        let is = behind_round now later last in
+        let is' = behind_round now' later' last' in
+        let first = one_ticks p now now' c (λ x. said_in (f x) p (run p c now) (ticks_of later ++ last) ++ s x) (λ x. said_in (f x) p (run p c now') (ticks_of later' ++ last') ++ t x) (h.0 ∙ sym k.0)
+        (in_parts p c xs now (ticks_of later ++ last) ys now' (ticks_of later' ++ last') s t is is' e) in
+        then_alike p c xs now (ticks_of later ++ last) ys now' (ticks_of later' ++ last') s t is is' first
+        (λ same. rounds_alike later later' last last' (run p c now') s t (subst (λ (d : Core). EachMoves script d later) first.0 h.2) k.2 seats seats'
+        (subst (λ (d : Core). AreStill p (run p d (ticks_of later)) last) first.0 (still_behind p c now later last still)) (still_behind p c now' later' last' still') same)
+
+    pub one_settling : (c : Core) (xs ys : List Moment) (s t : X → List Answer) → Settles script c xs → Settles script c ys → SaidSame p c xs ys s t → EndAlike p c xs ys s t
+    one_settling c xs ys s t h k e =
+        let same : SaidSame p c (ticks_of h.moving ++ h.last) (ticks_of k.moving ++ k.last) s t = λ x. sym (ap (λ (l : List Moment). said_in (f x) p c l ++ s x) h.all) ∙ e x ∙ ap (λ (l : List Moment). said_in (f x) p c l ++ t x) k.all in
+        let y = rounds_alike h.moving k.moving h.last k.last c s t h.each_moves k.each_moves h.one_more k.one_more h.still k.still same in
+        (ap (run p c) h.all ∙ y.0 ∙ sym (ap (run p c) k.all), y.1)

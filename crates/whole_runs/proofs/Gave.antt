@@ -3,7 +3,6 @@ use Rattle.std.proofs.Common.{◌≡◌, ℕ, zero, suc, ◌+◌, ◌<◌, ◌==
 use Rattle.std.proofs.lemmas.Bool.{eqb-false}
 use Rattle.std.proofs.lemmas.List.{get_or-replicate}
 use Rattle.std.proofs.lemmas.List.Concat.{flat_map-append}
-use Rattle.std.specs.List.{AllByRecursion}
 use Rattle.std.specs.Prelude as std
 use Rattle.std.specs.Prelude.{slice_index_or, Ok}
 use mathlib.Core.Option.{Option, none, some}
@@ -28,8 +27,8 @@ use Rattle.sock_programs.specs.Ticks.{Answer, Unasked, OfPut, OfReady, OfTake, M
 use Rattle.sock_programs.specs.Tasks.{plan_of}
 use Rattle.sock_programs.specs.Scripts.{opened, ending, set_up, played, IsRunWithCalls}
 use Rattle.sock_runs.specs.Sound.{first_step}
-use Rattle.whole_runs.specs.Heard.{take_of, as_taken, taken_link, taken_at, taken_in, heard_takes, take_answers, bytes_found, given_by, IsOfLink}
-use Rattle.whole_runs.proofs.HeardRuns.{same_takings}
+use Rattle.whole_runs.specs.Heard.{take_of, as_taken, taken_link, taken_at, taken_in, heard_takes, take_answers, bytes_found, given_by}
+use Rattle.whole_runs.proofs.HeardRuns.{same_heard_takes}
 use Rattle.whole_runs.proofs.Lengths.{tick_long, run_sizes}
 
 -- ## A tick
@@ -226,6 +225,6 @@ gave_heard bytes script reads turns core r k low =
 
 -- so takes of it that were answered the same, but for their bytes, in runs that have the same bytes of it, found the same
 pub same_takes : (bytes : List ℕ) (script : List Item) → script_of bytes ≡ Ok script → (turns : List Turn) (a b : Core) (h : IsRunWithCalls script turns a) (k : IsRunWithCalls script turns b) (j : ℕ) → j < (plan_of script).links →
-    AllByRecursion IsOfLink (heard_takes h j) → AllByRecursion IsOfLink (heard_takes k j) → take_answers (heard_takes h j) ≡ take_answers (heard_takes k j) → slice_index_or a.calls.gave j [] ≡ slice_index_or b.calls.gave j [] → heard_takes h j ≡ heard_takes k j
-same_takes bytes script reads turns a b h k j low own own' same given =
-    same_takings (heard_takes h j) (heard_takes k j) own own' same (sym (gave_heard bytes script reads turns a h j low) ∙ given ∙ gave_heard bytes script reads turns b k j low)
+    take_answers (heard_takes h j) ≡ take_answers (heard_takes k j) → slice_index_or a.calls.gave j [] ≡ slice_index_or b.calls.gave j [] → heard_takes h j ≡ heard_takes k j
+same_takes bytes script reads turns a b h k j low same given =
+    same_heard_takes script turns a b h k j same (sym (gave_heard bytes script reads turns a h j low) ∙ given ∙ gave_heard bytes script reads turns b k j low)

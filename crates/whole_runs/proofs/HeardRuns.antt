@@ -19,15 +19,15 @@ use Rattle.brpc_model.proofs.Unique.{only_report}
 use Rattle.sock_programs.specs.Writings.{Puts, Waits, Empties, Walks}
 use Rattle.sock_programs.specs.Asides.{TakeBytes, Taking, Bytes, Nothing, NoMore, AtEnd, Closed, Broken}
 use Rattle.sock_programs.specs.Heads.{Reads, Discards}
+use Rattle.sock_programs.specs.Readers.{room_of}
 use Rattle.sock_programs.specs.Programs.{Program, PutBytes, AskReady, Write, Aside, Round}
 use Rattle.sock_programs.specs.Cores.{Core, SeatState}
-use Rattle.sock_programs.specs.Ticks.{Answer, Unasked, OfPut, OfReady, OfTake, Moment, ticked, run, asked_link, IsAnswer, IsAnswered, AreAnswered}
+use Rattle.sock_programs.specs.Ticks.{Answer, Unasked, OfPut, OfReady, OfTake, Moment, ticked, run, asked_link, FitsTake, IsAnswer, IsAnswered, AreAnswered}
 use Rattle.sock_programs.specs.Runs.{Scheduled}
 use Rattle.sock_programs.specs.Tasks.{plan_of}
-use Rattle.sock_programs.specs.Scripts.{IsRunWithCalls, set_up, opened, played, place_words, Reports}
+use Rattle.sock_programs.specs.Scripts.{IsRunWithCalls, Settles, set_up, opened, played, place_words, Reports}
 use Rattle.whole_runs.specs.Answers.{said_at, said_in}
-use Rattle.whole_runs.specs.Heard.{half_of, as_told, take_of, as_taken, taken_link, heard_in, taken_in, heard_of, taken_of, heard_takes, answer_of, bytes_found, take_answers, given_by, IsOfLink}
-use Rattle.whole_runs.specs.Rounds.{StopsFirst, SettlesAfter}
+use Rattle.whole_runs.specs.Heard.{half_of, as_told, take_of, as_taken, taken_link, heard_in, taken_in, heard_of, taken_of, heard_takes, answer_of, bytes_found, take_answers, given_by}
 use Rattle.whole_runs.proofs.Alike.{Hears, same_first, same_others, said_on, SaidSame, EndAlike, in_parts, then_alike, one_schedule, one_settling}
 use Rattle.whole_runs.proofs.OneRun.{one_rest, one_ending}
 
@@ -62,8 +62,7 @@ hears other = inl refl
 
 -- ## The run
 
-module _ (script : List Item) (turns : List Turn) (a b : Core) (h : IsRunWithCalls script turns a) (k : IsRunWithCalls script turns b) (first : StopsFirst script turns a h) (first' : StopsFirst script turns b k)
-    (same : (j : ℕ) → heard_of h j ≡ heard_of k j) (same_taken : (j : ℕ) → taken_of h j ≡ taken_of k j) where
+module _ (script : List Item) (turns : List Turn) (a b : Core) (h : IsRunWithCalls script turns a) (k : IsRunWithCalls script turns b) (same : (j : ℕ) → heard_of h j ≡ heard_of k j) (same_taken : (j : ℕ) → taken_of h j ≡ taken_of k j) where
   abbrev q : Plan
   q = plan_of script
 
@@ -97,7 +96,7 @@ module _ (script : List Item) (turns : List Turn) (a b : Core) (h : IsRunWithCal
 
   to_ending : EndAlike Half hearing hears q begun (h.scheduled ++ h.later) (k.scheduled ++ k.later) (behind a h) (behind b k)
   to_ending = then_alike Half hearing hears q begun (h.scheduled ++ h.later) h.scheduled h.later (k.scheduled ++ k.later) k.scheduled k.later (behind a h) (behind b k) refl refl by_schedule
-      (λ e. one_settling Half hearing hears script first.rounds first'.rounds scheduled h.later k.later (behind a h) (behind b k) (subst (λ (c : Core). SettlesAfter script first.rounds c h.later) to_scheduled first.before) first'.before e)
+      (λ e. one_settling Half hearing hears script scheduled h.later k.later (behind a h) (behind b k) (subst (λ (c : Core). Settles script c h.later) to_scheduled h.settles) k.settles e)
 
   same_ended : h.ended ≡ k.ended
   same_ended = one_ending script turns a b h k (ap (λ (c : Core). run q c (h.scheduled ++ h.later)) same_setup ∙ to_ending.0)
@@ -107,7 +106,7 @@ module _ (script : List Item) (turns : List Turn) (a b : Core) (h : IsRunWithCal
 
   pub one_run_heard : a ≡ b
   one_run_heard = h.is_end ∙ ap (λ (c : Core). run q c h.final) same_ended
-      ∙ (one_settling Half hearing hears script first.rounds_again first'.rounds_again k.ended h.final k.final (λ x. []) (λ x. []) (subst (λ (c : Core). SettlesAfter script first.rounds_again c h.final) same_ended first.behind) first'.behind behind_ending).0
+      ∙ (one_settling Half hearing hears script k.ended h.final k.final (λ x. []) (λ x. []) (subst (λ (c : Core). Settles script c h.final) same_ended h.settles_again) k.settles_again behind_ending).0
       ∙ sym k.is_end
 
 -- ## More ticks
@@ -175,12 +174,25 @@ module _ (P : Answer → Type 0) (asks : Program → List ℕ) (one : (program :
   all_of script turns core r = let p : Plan = plan_of script in both P (said_in asks p (set_up script r.setup) (r.scheduled ++ r.later)) (said_in asks p r.ended r.final)
       (all_in p (set_up script r.setup) (r.scheduled ++ r.later) r.answered) (all_in p r.ended r.final r.answered_again)
 
+-- what a reading half can answer to a take
+abbrev IsOfLink : Taking → Type 0
+IsOfLink NoMore = ⊥
+IsOfLink other = Unit {0}
+
+of_link : (room : ℕ) (t : Taking) → FitsTake room t → IsOfLink t
+of_link room NoMore h = h
+of_link room (Bytes bytes) h = tt
+of_link room Nothing h = tt
+of_link room AtEnd h = tt
+of_link room Closed h = tt
+of_link room Broken h = tt
+
 -- an answer of a writing half, and one of a reading half
 abbrev IsHalf : Answer → Type 0
 IsHalf a = ((put : Put) × (a ≡ OfPut put)) ⊎ ((ready : Ready) × (a ≡ OfReady ready))
 
 abbrev IsTake : Answer → Type 0
-IsTake a = (taking : Taking) × (a ≡ OfTake taking)
+IsTake a = (taking : Taking) × (a ≡ OfTake taking) × IsOfLink taking
 
 halves : (k : ℕ) (program : Program) (a : Answer) → IsAnswer program a → AllByRecursion IsHalf (map (λ (j : ℕ). a) (filter (λ (j : ℕ). j == k) (asked_link program)))
 halves k (PutBytes j put bytes next) a h = all_one IsHalf (filter (λ (i : ℕ). i == k) (j ∷ [])) a (inl (h.0, h.1))
@@ -192,10 +204,10 @@ halves k (Write (Walks h top at after) then_) a answered = tt
 halves k other a h = tt
 
 takes : (k : ℕ) (program : Program) (a : Answer) → IsAnswer program a → AllByRecursion IsTake (map (λ (j : ℕ). a) (filter (λ (j : ℕ). j == k) (taken_link program)))
-takes k (Aside (TakeBytes j room) next) a h = all_one IsTake (filter (λ (i : ℕ). i == k) (j ∷ [])) a (h.0, h.1)
+takes k (Aside (TakeBytes j room) next) a h = all_one IsTake (filter (λ (i : ℕ). i == k) (j ∷ [])) a (h.0, h.1, of_link room h.0 h.2)
 takes k (Aside step next) a h = tt
-takes k (Round (Reads r) next) a h = all_one IsTake (filter (λ (i : ℕ). i == k) (r.link ∷ [])) a (h.0, h.1)
-takes k (Round (Discards j total) next) a h = all_one IsTake (filter (λ (i : ℕ). i == k) (j ∷ [])) a (h.0, h.1)
+takes k (Round (Reads r) next) a h = all_one IsTake (filter (λ (i : ℕ). i == k) (r.link ∷ [])) a (h.0, h.1, of_link (room_of r.total) h.0 h.2)
+takes k (Round (Discards j total) next) a h = all_one IsTake (filter (λ (i : ℕ). i == k) (j ∷ [])) a (h.0, h.1, of_link (room_of total) h.0 h.2)
 takes k (Round head next) a h = tt
 takes k other a h = tt
 
@@ -251,28 +263,28 @@ half_apart a (OfTake t) h k e = absurd (not_take t k)
 -- ## Those of a reading half
 
 take_word : (a : Answer) → IsTake a → IsWord take_of a
-take_word a (t, e) = (t, ap take_of e)
+take_word a (t, e, own_) = (t, ap take_of e)
 
 take_apart : (a b : Answer) → IsTake a → IsTake b → take_of a ≡ take_of b → a ≡ b
-take_apart a b (t, e) (u, f) same = e ∙ ap OfTake (same_first t u [] [] (sym (ap take_of e) ∙ same ∙ ap take_of f)) ∙ sym f
+take_apart a b (t, e, own_) (u, f, own_') same = e ∙ ap OfTake (same_first t u [] [] (sym (ap take_of e) ∙ same ∙ ap take_of f)) ∙ sym f
 
 -- ## As the links tell it
 
 -- runs of whose links the writing halves tell the same, and the reading halves, end in one core
-pub one_run_told : (script : List Item) (turns : List Turn) (a b : Core) (h : IsRunWithCalls script turns a) (k : IsRunWithCalls script turns b) → StopsFirst script turns a h → StopsFirst script turns b k →
+pub one_run_told : (script : List Item) (turns : List Turn) (a b : Core) (h : IsRunWithCalls script turns a) (k : IsRunWithCalls script turns b) →
     ((j : ℕ) → as_told (heard_of h j) ≡ as_told (heard_of k j)) → ((j : ℕ) → heard_takes h j ≡ heard_takes k j) → a ≡ b
-one_run_told script turns a b h k first first' same same_taken =
+one_run_told script turns a b h k same same_taken =
     let written : (j : ℕ) → Program → List ℕ = λ j program. filter (λ (i : ℕ). i == j) (asked_link program) in
     let read : (j : ℕ) → Program → List ℕ = λ j program. filter (λ (i : ℕ). i == j) (taken_link program) in
-    one_run_heard script turns a b h k first first'
+    one_run_heard script turns a b h k
     (λ j. same_words half_of IsHalf half_word half_apart (heard_of h j) (heard_of k j) (all_of IsHalf (written j) (halves j) script turns a h) (all_of IsHalf (written j) (halves j) script turns b k) (same j))
     (λ j. same_words take_of IsTake take_word take_apart (taken_of h j) (taken_of k j) (all_of IsTake (read j) (takes j) script turns a h) (all_of IsTake (read j) (takes j) script turns b k) (same_taken j))
 
 -- so they have one text, where the same is said of what the links took
-pub one_text_told : (script : List Item) (turns : List Turn) (a b : Core) (x y : Report) (took : List (List ℕ)) (r : IsRunWithCalls script turns a) (s : IsRunWithCalls script turns b) → StopsFirst script turns a r → StopsFirst script turns b s →
+pub one_text_told : (script : List Item) (turns : List Turn) (a b : Core) (x y : Report) (took : List (List ℕ)) (r : IsRunWithCalls script turns a) (s : IsRunWithCalls script turns b) →
     Reports script a took x → Reports script b took y → ((j : ℕ) → as_told (heard_of r j) ≡ as_told (heard_of s j)) → ((j : ℕ) → heard_takes r j ≡ heard_takes s j) → report_text script x ≡ report_text script y
-one_text_told script turns a b x y took r s first first' h k same same_taken = let p : Plan = plan_of script in
-    ap (report_text script) (only_report script a.outcomes (place_words p a.words) took x y h (subst (λ (c : Core). Reports script c took y) (sym (one_run_told script turns a b r s first first' same same_taken)) k))
+one_text_told script turns a b x y took r s h k same same_taken = let p : Plan = plan_of script in
+    ap (report_text script) (only_report script a.outcomes (place_words p a.words) took x y h (subst (λ (c : Core). Reports script c took y) (sym (one_run_told script turns a b r s same same_taken)) k))
 
 -- ## Takings by their answers and their bytes
 
@@ -303,7 +315,7 @@ same_taking Broken Broken h k e f = refl
 same_taking x y h k e f = absurd (cc)
 
 -- takes that were answered the same, and gave the same bytes, found the same
-pub same_takings : (xs ys : List Taking) → AllByRecursion IsOfLink xs → AllByRecursion IsOfLink ys → take_answers xs ≡ take_answers ys → given_by xs ≡ given_by ys → xs ≡ ys
+same_takings : (xs ys : List Taking) → AllByRecursion IsOfLink xs → AllByRecursion IsOfLink ys → take_answers xs ≡ take_answers ys → given_by xs ≡ given_by ys → xs ≡ ys
 same_takings [] [] h k e f = refl
 same_takings [] (y ∷ ys) h k e f = absurd (no_word answer_of y (take_answers ys) (answer_word y k.0) (sym e))
 same_takings (x ∷ xs) [] h k e f = absurd (no_word answer_of x (take_answers xs) (answer_word x h.0) e)
@@ -313,3 +325,16 @@ same_takings (x ∷ xs) (y ∷ ys) h k e f =
     let front : bytes_found x ≡ bytes_found y = sym (take-append_seam (bytes_found x) (given_by xs)) ∙ ap (take (length (bytes_found x))) f ∙ ap (λ (n : ℕ). take n (bytes_found y ++ given_by ys)) long ∙ take-append_seam (bytes_found y) (given_by ys) in
     let later : given_by xs ≡ given_by ys = sym (drop-append_seam (bytes_found x) (given_by xs)) ∙ ap (drop (length (bytes_found x))) f ∙ ap (λ (n : ℕ). drop n (bytes_found y ++ given_by ys)) long ∙ drop-append_seam (bytes_found y) (given_by ys) in
     ap (λ (z : Taking). z ∷ xs) (same_taking x y h.0 k.0 parts.0 front) ∙ ap (λ (l : List Taking). y ∷ l) (same_takings xs ys h.1 k.1 parts.1 later)
+
+-- what the reading half of a link answered in a run
+all_own : (answers : List Answer) → AllByRecursion IsTake answers → AllByRecursion IsOfLink (as_taken answers)
+all_own [] h = tt
+all_own (a ∷ answers) h = let own_ : AllByRecursion IsOfLink (h.0.0 ∷ as_taken answers) = (h.0.2, all_own answers h.1) in
+    subst (λ (l : List Taking). AllByRecursion IsOfLink (l ++ as_taken answers)) (sym (ap take_of h.0.1)) own_
+
+-- so takes of a link in two runs that were answered the same, and gave the same bytes, found the same
+pub same_heard_takes : (script : List Item) (turns : List Turn) (a b : Core) (h : IsRunWithCalls script turns a) (k : IsRunWithCalls script turns b) (j : ℕ) →
+    take_answers (heard_takes h j) ≡ take_answers (heard_takes k j) → given_by (heard_takes h j) ≡ given_by (heard_takes k j) → heard_takes h j ≡ heard_takes k j
+same_heard_takes script turns a b h k j =
+    let read : Program → List ℕ = λ program. filter (λ (i : ℕ). i == j) (taken_link program) in
+    same_takings (heard_takes h j) (heard_takes k j) (all_own (taken_of h j) (all_of IsTake read (takes j) script turns a h)) (all_own (taken_of k j) (all_of IsTake read (takes j) script turns b k))

@@ -1,9 +1,9 @@
 pub mod Alike
 pub mod OneRun
 pub mod HeardRuns
-pub mod Settling
 pub mod Starts
 pub mod Lengths
 pub mod Gave
 pub mod Runs
 pub mod Ended
+pub mod Unjoined

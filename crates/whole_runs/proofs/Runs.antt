@@ -1,14 +1,14 @@
 -- Whatever its schedule: the report of the run of a script that was read fits the script, and in the end all is over.
-use Rattle.std.proofs.Common.{◌≡◌, ℕ, ◌<◌, inl, inr, false, List, [], length, Option, Ok, Contains, subst, arith}
+use Rattle.std.proofs.Common.{◌≡◌, ℕ, zero, suc, ◌<◌, inl, inr, false, List, [], ◌∷◌, length, slice_get, Option, Some, Ok, Contains, refl, ap, ◌∙◌, subst, arith}
 use Rattle.std.proofs.lemmas.List.{nil_from_length}
-use Rattle.brpc_model.specs.Items.{Item}
-use Rattle.brpc_model.specs.Operations.{Turn, link_names}
+use Rattle.brpc_model.specs.Items.{Item, Shape, Open}
+use Rattle.brpc_model.specs.Operations.{Turn, link_names, link_shapes}
 use Rattle.brpc_model.specs.Script.{script_of}
 use Rattle.brpc_model.specs.Link.{LinkEnd}
 use Rattle.brpc_model.specs.Causes.{HasFault}
 use Rattle.brpc_model.specs.Report.{Report, report_text}
 use Rattle.brpc_model.specs.PlaceWords.{ArePlaces, HasEachOutcome}
-use Rattle.brpc_model.specs.Complete.{FitsWhole, IsUntroubled, IsServed}
+use Rattle.brpc_model.specs.Complete.{FitsWhole, IsUntroubled, IsSilentUnserved, IsServed}
 use Rattle.sock_programs.specs.Tasks.{opens, calls, plan_of, id_plan_of}
 use Rattle.sock_programs.specs.Cores.{Core}
 use Rattle.sock_programs.specs.Scripts.{IsRunWithCalls, Reports, all_tasks, place_words}
@@ -27,12 +27,12 @@ use Rattle.owed_calls.specs.Sound.{SoundOwing}
 use Rattle.owed_calls.proofs.End.{all_ended}
 use Rattle.report_fits.specs.Calm.{IsCalm}
 use Rattle.report_fits.specs.Ends.{AreEndsOf, AreTold, EndsEarly}
-use Rattle.report_fits.proofs.Lists.{within, all_at}
+use Rattle.report_fits.proofs.Lists.{Has, has_first, has_later, within, all_at, contains_from}
 use Rattle.report_fits.proofs.Places.{lateness, script_fits, script_places}
 use Rattle.report_fits.proofs.Sizes.{keeps_limits}
 use Rattle.report_fits.proofs.Tasks.{tasks_of_script}
 use Rattle.whole_runs.specs.Over.{IsAllOver}
-use Rattle.whole_runs.specs.Unserved.{IsUnserved, AreSilent, IsInTime}
+use Rattle.whole_runs.specs.Unserved.{IsUnserved, IsInTime}
 use Rattle.whole_runs.proofs.Lengths.{ended_length}
 use Rattle.whole_runs.proofs.Starts.{made, starts, fitting}
 
@@ -49,19 +49,29 @@ not_early gave e counted none_ open_ unfailed (inr (inl fault)) = no_fault (subs
 not_early gave e counted none_ open_ unfailed (inr (inr (inl most))) = omega (arith, most, none_)
 not_early gave e counted none_ open_ unfailed (inr (inr (inr failed))) = omega (arith, failed, unfailed)
 
+-- each link of a script was opened with a shape
+opened_with : (items : List Item) (k : ℕ) → k < length (link_names items) → (name : List ℕ) × (shape : Shape) × (slice_get (link_shapes items) k ≡ Some shape) × Has items (Open name shape)
+opened_with [] k low = absurd (omega (arith, low))
+opened_with (Open name shape ∷ items) zero low = (name, shape, refl, has_first (Open name shape) items)
+opened_with (Open name shape ∷ items) (suc k) low = let x = opened_with items k (omega (arith, low)) in (x.0, x.1, x.2, has_later (Open name shape) items (Open x.0 x.1) x.3)
+opened_with (item ∷ items) k low = let x = opened_with items k low in (x.0, x.1, x.2, has_later item items (Open x.0 x.1) x.3)
+
 not_served : (script : List Item) (name : List ℕ) → IsUnserved script → IsServed script name → ⊥
 not_served script name none_ (some_, all) = let no_server = (none_ name some_.0 some_.1).0 in let server = all some_.0 some_.1 in cc
 
 -- where nothing went wrong, nothing is owed besides of a script without a server but that nothing came late: its links gave nothing, and none of its calls is to be answered
 module _ (script : List Item) (core : Core) (fixed : Fixed) (gave : ℕ → List ℕ) (unserved : IsUnserved script) (inside : (k : ℕ) → Contains fixed.early k → k < length (link_names script)) where
-  pub is_calm : (ends : List LinkEnd) → AreEndsOf script core fixed gave ends → AreSilent ends → IsInTime script fixed → IsUntroubled script ends → IsCalm script core.outcomes fixed
-  is_calm ends given silent in_time untroubled = record {
+  pub is_calm : (ends : List LinkEnd) → AreEndsOf script core fixed gave ends → IsInTime script fixed → IsUntroubled script ends → IsCalm script core.outcomes fixed
+  is_calm ends given in_time untroubled = record {
     none_early = λ k early. (
         let many = given.as_many in
-        let at = within ends k (omega (arith, inside k early, many)) in
+        let low = inside k early in
+        let at = within ends k (omega (arith, low, many)) in
         let is = given.each k at.0 at.1 in
         let put = all_at (λ (e : LinkEnd). (e.put_faults ≡ 0) × (e.take_faults ≡ 0)) ends at.0 untroubled.put (k, at.1) in
-        let quiet = all_at (λ (e : LinkEnd). (e.gave_count ≡ 0) × (e.gave_end ≡ false)) ends at.0 silent (k, at.1) in
+        let shape = opened_with script k low in
+        let opened = ap (slice_get (link_shapes script)) is.numbered ∙ shape.2 in
+        let quiet = all_at (IsSilentUnserved script) ends at.0 untroubled.unserved (k, at.1) shape.1 opened (unserved shape.0 shape.1 (contains_from script (Open shape.0 shape.1) shape.3)).0 in
         not_early (gave k) at.0 is.counted quiet.0 quiet.1 put.1 (is.early early)
         );
     none_late = in_time.none_late;
@@ -84,8 +94,8 @@ module _ (bytes : List ℕ) (script : List Item) (reads : script_of bytes ≡ Ok
 
     -- so it is of a script without a server, where nothing came late
     pub unserved_fits : IsUnserved script → ((k : ℕ) → Contains fixed.early k → k < length (link_names script)) → (report : Report) (took : List (List ℕ)) (ends : List LinkEnd) → Reports script core took report → AreTold ends took → AreEndsOf script core fixed gave ends →
-        AreSilent ends → (IsUntroubled script ends → IsInTime script fixed) → FitsWhole script (report_text script report) ends (lateness fixed)
-    unserved_fits unserved inside report took ends reports told given silent in_time = run_fits report took ends reports told given (λ untroubled. is_calm script core fixed gave unserved inside ends given silent (in_time untroubled) untroubled)
+        (IsUntroubled script ends → IsInTime script fixed) → FitsWhole script (report_text script report) ends (lateness fixed)
+    unserved_fits unserved inside report took ends reports told given in_time = run_fits report took ends reports told given (λ untroubled. is_calm script core fixed gave unserved inside ends given (in_time untroubled) untroubled)
 
   -- ## The end
 

@@ -2,7 +2,7 @@
 use Rattle.std.specs.Prelude.{ℕ, ◌==◌, List, [], ◌∷◌, ◌++◌, length, filter, flat_map}
 use Rattle.sock_words.specs.declared.plain.Plan.{Plan}
 use Rattle.brpc_model.specs.Items.{Item}
-use Rattle.brpc_model.specs.Link.{HalfAnswer}
+use Rattle.brpc_model.specs.Link.{HalfAnswer, TakeAnswer, TakeTook, TakeEmpty, TakeEnd, TakeClosed, TakeFailed}
 use Rattle.brpc_model.specs.Operations.{Turn}
 use Rattle.sock_io.specs.Link.{of_put, of_ready}
 use Rattle.sock_programs.specs.Asides.{TakeBytes, Taking, Bytes, Nothing, NoMore, AtEnd, Closed, Broken}
@@ -71,15 +71,7 @@ heard_takes r k = as_taken (taken_of r k)
 
 -- ## As a reading half tells them
 
--- what a reading half answered to a take: that it gave so many bytes, none so far, or its end, that it was closed, or that it failed
-pub data TakeAnswer : Type 0 where
-  TakeTook : ℕ → TakeAnswer
-  TakeEmpty : TakeAnswer
-  TakeEnd : TakeAnswer
-  TakeClosed : TakeAnswer
-  TakeFailed : TakeAnswer
-
--- no reading half answers that no more will come: the run knows that by itself
+-- no reading half answers that no more will come: the run makes that out of `Nothing`
 abbrev pub answer_of : Taking → List TakeAnswer
 answer_of (Bytes bytes) = TakeTook (length bytes) ∷ []
 answer_of Nothing = TakeEmpty ∷ []
@@ -99,8 +91,3 @@ take_answers takings = flat_map answer_of takings
 
 abbrev pub given_by : List Taking → List ℕ
 given_by takings = flat_map bytes_found takings
-
--- what a reading half can answer
-abbrev pub IsOfLink : Taking → Type 0
-IsOfLink NoMore = ⊥
-IsOfLink other = Unit {0}

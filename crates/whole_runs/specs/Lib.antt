@@ -1,6 +1,5 @@
 pub mod Answers
 pub mod Heard
-pub mod Rounds
 pub mod Sizes
 pub mod Unserved
 pub mod Over

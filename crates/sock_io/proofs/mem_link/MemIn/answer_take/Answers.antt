@@ -1,7 +1,7 @@
 use Rattle.std.proofs.Common.{◌≡◌, ℕ, ◌+◌, ◌≤◌, ◌++◌, List, Some, length, take, drop, min, arith, rules, ap, sym, ◌∙◌}
 use Rattle.std.proofs.Math.Seq.{take-add}
 use Rattle.std.proofs.lemmas.Grind.{common_steps}
-use Rattle.sock_io.proofs.mem_link.MemInIn.take.Goals as goal
+use Rattle.sock_io.proofs.mem_link.MemIn.answer_take.Goals as goal
 
 -- what was given before, and then what this take gives
 given_more : (bytes given got : List ℕ) (at m : ℕ) → given ≡ take at bytes → got ≡ take m (drop at bytes) → take (at + m) bytes ≡ given ++ got
@@ -28,6 +28,9 @@ returns-then-count-gt0-clause-step c =
       bytes = ap Some (given_more bytes _ _ at m given got);
       end = search rules;
       closed = search rules;
+      takes = search rules;
+      only_closing = search rules;
+      closing = search rules;
       later = search rules;
       failed = search rules;
       kept = search rules;
