@@ -47,7 +47,7 @@ fn a_call_is_shared(rt: HostRuntime) -> Result<(), Fail> {
     let shared = call.share()?;
     assert!(rt; call.name(0) == 3 && shared.name(1) == 5 && shared.name(2) == 3);
     assert_eq!(rt; (shared.operation, shared.range), (9, 4));
-    assert!(rt; &*shared.method == b"Ping" && shared.payload.len() == 2);
+    assert!(rt; shared.method.as_slice() == b"Ping".as_slice() && shared.payload.len() == 2);
     is_send_and_sync(shared);
     Ok(())
 }
