@@ -1,5 +1,5 @@
 -- Which operation of the script `C.I` is, by where each client's operations begin.
-use Rattle.std.proofs.Common.{◌≡◌, ◌≢◌, ℕ, zero, suc, ◌+◌, ◌-◌, ◌<◌, ◌≤◌, ◌==◌, ◌&&◌, leb, ltb, Bool, true, false, cond, if◌then◌else◌, List, [], ◌∷◌, length, get_or, refl, ap, sym, ◌∙◌, subst, arith}
+use Rattle.std.proofs.Common.{◌≡◌, ◌≢◌, ℕ, zero, suc, ◌+◌, ◌-◌, ◌<◌, ◌≤◌, ◌==◌, ◌&&◌, Bool, true, false, cond, if◌then◌else◌, List, [], ◌∷◌, length, get_or, ◌⊎◌, inl, inr, refl, ap, sym, ◌∙◌, arith}
 use Rattle.std.proofs.lemmas.Bool.Decides.{nat_tests}
 use Rattle.std.specs.Prelude.{nat_le, nat_lt}
 use Rattle.brpc_model.specs.Items.{Item, Slots, Requests, First, Client, Sched, Tick, To, is_open}
@@ -124,3 +124,10 @@ behind_table [] client i h = refl
 behind_table (start ∷ []) client i h = refl
 behind_table (start ∷ finish ∷ more) zero i h = absurd (omega (arith, h))
 behind_table (start ∷ finish ∷ more) (suc client) i h = behind_table (finish ∷ more) client i (omega (arith, h))
+
+pub within_no : (start finish i : ℕ) → (i ≡ 0) ⊎ (finish - start < i) → within start 1 finish i ≡ 0
+within_no start finish i (inl none) = grind (arith, nat_tests, none)
+within_no start finish i (inr more) = grind (arith, nat_tests, more)
+
+pub within_some : (start finish i : ℕ) → 0 < i → i ≤ finish - start → within start 1 finish i ≡ start + (i - 1)
+within_some start finish i some few = grind (arith, nat_tests, some, few)
