@@ -153,9 +153,9 @@ numbers_by_sort sort c k number other items P a b d = b
 abbrev number_if : (Item → Bool) → Numbered → Option ℕ
 number_if sort n = if sort n.op.item then Some n.number else None
 
-cons_if : (b : Bool) (number : ℕ) (ms all ns : List ℕ) → ms ≡ all ns → (if b then number ∷ ms else ms) ≡ cons_option (if b then Some number else None) all ns
-cons_if true number ms all ns e = ap (λ l. number ∷ l) e
-cons_if false number ms all ns e = e
+cons_if : (b : Bool) (number : ℕ) (ms ns : List ℕ) → ms ≡ ns → (if b then number ∷ ms else ms) ≡ cons_option (if b then Some number else None) ns
+cons_if true number ms ns e = ap (λ l. number ∷ l) e
+cons_if false number ms ns e = e
 
 numbers_from : (sort : Item → Bool) (c k number link : ℕ) (items : List Item) → numbers_along sort number items ≡ filter_map (number_if sort) (numbered_from number link (operations_from c k items))
 numbers_from sort c k number link [] = refl
@@ -163,7 +163,7 @@ numbers_from sort c k number link (item ∷ items) =
     let link_ = if is_open item then link + 1 else link in
     numbers_by_sort sort c k number item items (λ along ops. along ≡ filter_map (number_if sort) (numbered_from number link ops))
     (numbers_from sort (c + 1) 1 number link items)
-    (cons_if (sort item) number (numbers_along sort (number + 1) items) (filter_map (number_if sort) (numbered_from (number + 1) link_ (operations_from c (k + 1) items))) (opens_from c (k + 1) (number + 1) link_ items))
+    (cons_if (sort item) number (numbers_along sort (number + 1) items) (filter_map (number_if sort) (numbered_from (number + 1) link_ (operations_from c (k + 1) items))) (numbers_from sort c (k + 1) (number + 1) link_ items))
     (numbers_from sort c k number link items)
 
 pub opens_are : (script : List Item) → numbers_along is_open 0 script ≡ opens script

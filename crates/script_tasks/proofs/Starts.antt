@@ -59,10 +59,10 @@ found_later s k s' k' (finish ∷ more) d i = refl
 
 -- an operation of another client, or of another number, isn't the one sought
 passed_over : (x : Numbered) (xs : List Numbered) (client i : ℕ) → x.op.client ≢ client → number_of (x ∷ xs) client i ≡ number_of xs client i
-passed_over x xs client i other = let no : (x.op.client == client) ≡ false = grind (arith, nat_tests, other) in ap (λ b. cond (cond b (x.op.number == i) false) x.number (number_of xs client i)) no
+passed_over x xs client i other = let no : (x.op.client == client) ≡ false = grind (arith, nat_tests, other) in ap (λ b. cond (b && (x.op.number == i)) x.number (number_of xs client i)) no
 
 own_or_later : (x : Numbered) (xs : List Numbered) (client i : ℕ) → x.op.client ≡ client → number_of (x ∷ xs) client i ≡ (if x.op.number == i then x.number else number_of xs client i)
-own_or_later x xs client i own = let yes : (x.op.client == client) ≡ true = grind (arith, nat_tests, own) in ap (λ b. cond (cond b (x.op.number == i) false) x.number (number_of xs client i)) yes
+own_or_later x xs client i own = let yes : (x.op.client == client) ≡ true = grind (arith, nat_tests, own) in ap (λ b. cond (b && (x.op.number == i)) x.number (number_of xs client i)) yes
 
 -- the operations of later clients are none of an earlier one
 none_before : (c k number link : ℕ) (items : List Item) (client i : ℕ) → client < c → number_of (numbered_from number link (operations_from c k items)) client i ≡ 0
@@ -75,36 +75,41 @@ none_before c k number link (item ∷ items) client i h =
     (passed_over x (numbered_from (number + 1) link_ (operations_from c (k + 1) items)) client i (λ e. omega (arith, h, e)) ∙ none_before c (k + 1) (number + 1) link_ items client i h)
     (none_before c k number link items client i h)
 
+-- where the next client begins
+next_client : (c k number link : ℕ) (items : List Item) (i : ℕ) →
+    ((d : ℕ) → number_of (numbered_from number link (operations_from (c + 1) 1 items)) (c + 1 + d) i ≡ found_from number 1 (ends_along number items) d i) →
+    (d : ℕ) → number_of (numbered_from number link (operations_from (c + 1) 1 items)) (c + d) i ≡ found_from number k (number ∷ ends_along number items) d i
+next_client c k number link items i again zero = none_before (c + 1) 1 number link items (c + 0) i (omega arith) ∙ sym (within_none number k i)
+next_client c k number link items i again (suc d) =
+    let same : c + suc d ≡ c + 1 + d = omega arith in
+    ap (λ client. number_of (numbered_from number link (operations_from (c + 1) 1 items)) client i) same ∙ again d ∙ found_first number (ends_along number items) d i
+
+-- where the client in hand has one more operation
+own_operation : (c k number link : ℕ) (item : Item) (items : List Item) (i : ℕ) →
+    ((d : ℕ) → number_of (numbered_from (number + 1) (if is_open item then link + 1 else link) (operations_from c (k + 1) items)) (c + d) i ≡ found_from (number + 1) (k + 1) (ends_along (number + 1) items) d i) →
+    (d : ℕ) → number_of (numbered_from number link ((record { client = c; number = k; item = item }) ∷ operations_from c (k + 1) items)) (c + d) i ≡ found_from number k (ends_along (number + 1) items) d i
+own_operation c k number link item items i again zero =
+    let e = ends_some (number + 1) items in
+    let own : c ≡ c + 0 = omega arith in
+    let x : Numbered = record { number = number; link = link; op = record { client = c; number = k; item = item } } in
+    let rest = numbered_from (number + 1) (if is_open item then link + 1 else link) (operations_from c (k + 1) items) in
+    own_or_later x rest (c + 0) i own
+    ∙ ap (λ n. if k == i then number else n) (again zero ∙ ap (λ ends. found_from (number + 1) (k + 1) ends zero i) e.2)
+    ∙ sym (within_next number k e.0 i e.3)
+    ∙ sym (ap (λ ends. found_from number k ends zero i) e.2)
+own_operation c k number link item items i again (suc d) =
+    let x : Numbered = record { number = number; link = link; op = record { client = c; number = k; item = item } } in
+    let rest = numbered_from (number + 1) (if is_open item then link + 1 else link) (operations_from c (k + 1) items) in
+    passed_over x rest (c + suc d) i (λ (e : c ≡ c + suc d). omega (arith, e)) ∙ again (suc d) ∙ found_later (number + 1) (k + 1) number k (ends_along (number + 1) items) d i
+
 found_is : (c k number link : ℕ) (items : List Item) (d i : ℕ) → number_of (numbered_from number link (operations_from c k items)) (c + d) i ≡ found_from number k (ends_along number items) d i
 found_is c k number link [] zero i = sym (within_none number k i)
 found_is c k number link [] (suc d) i = refl
 found_is c k number link (item ∷ items) d i =
-    let link_ = if is_open item then link + 1 else link in
     ends_by_sort c k number item items (λ ends ops. number_of (numbered_from number link ops) (c + d) i ≡ found_from number k ends d i)
-    (next_client d)
-    (own_operation link_ d)
+    (next_client c k number link items i (λ e. found_is (c + 1) 1 number link items e i) d)
+    (own_operation c k number link item items i (λ e. found_is c (k + 1) (number + 1) (if is_open item then link + 1 else link) items e i) d)
     (found_is c k number link items d i)
-  where
-    next_client : (d : ℕ) → number_of (numbered_from number link (operations_from (c + 1) 1 items)) (c + d) i ≡ found_from number k (number ∷ ends_along number items) d i
-    next_client zero = none_before (c + 1) 1 number link items (c + 0) i (omega arith) ∙ sym (within_none number k i)
-    next_client (suc d) =
-        let same : c + suc d ≡ c + 1 + d = omega arith in
-        ap (λ client. number_of (numbered_from number link (operations_from (c + 1) 1 items)) client i) same ∙ found_is (c + 1) 1 number link items d i ∙ found_first number (ends_along number items) d i
-
-    own_operation : (link_ d : ℕ) → number_of (record { number = number; link = link; op = record { client = c; number = k; item = item } } ∷ numbered_from (number + 1) link_ (operations_from c (k + 1) items)) (c + d) i ≡ found_from number k (ends_along (number + 1) items) d i
-    own_operation link_ zero =
-        let e = ends_some (number + 1) items in
-        let own : c ≡ c + 0 = omega arith in
-        let rest = numbered_from (number + 1) link_ (operations_from c (k + 1) items) in
-        own_or_later (record { number = number; link = link; op = record { client = c; number = k; item = item } }) rest (c + 0) i own
-        ∙ ap (λ n. if k == i then number else n) (found_is c (k + 1) (number + 1) link_ items zero i ∙ ap (λ ends. found_from (number + 1) (k + 1) ends zero i) e.2)
-        ∙ sym (within_next number k e.0 i e.3)
-        ∙ sym (ap (λ ends. found_from number k ends zero i) e.2)
-    own_operation link_ (suc d) =
-        let rest = numbered_from (number + 1) link_ (operations_from c (k + 1) items) in
-        passed_over (record { number = number; link = link; op = record { client = c; number = k; item = item } }) rest (c + suc d) i (λ (e : c ≡ c + suc d). omega (arith, e))
-        ∙ found_is c (k + 1) (number + 1) link_ items (suc d) i
-        ∙ found_later (number + 1) (k + 1) number k (ends_along (number + 1) items) d i
 
 pub knows_all : (script : List Item) → Knows (0 ∷ ends_along 0 script) (numbered script)
 knows_all script client i =
@@ -117,7 +122,9 @@ pub in_table : (starts : List ℕ) (client i : ℕ) → client + 1 < length star
 in_table [] client i h = absurd (omega (arith, h))
 in_table (start ∷ []) client i h = absurd (omega (arith, h))
 in_table (start ∷ finish ∷ more) zero i h = refl
-in_table (start ∷ finish ∷ more) (suc client) i h = in_table (finish ∷ more) client i (omega (arith, h))
+in_table (start ∷ finish ∷ more) (suc client) i h =
+    let next : suc client + 1 ≡ suc (client + 1) = omega arith in
+    in_table (finish ∷ more) client i (omega (arith, h)) ∙ ap (λ n. within (get_or (start ∷ finish ∷ more) (suc client) 0) 1 (get_or (start ∷ finish ∷ more) n 0) i) (sym next)
 
 pub behind_table : (starts : List ℕ) (client i : ℕ) → length starts ≤ client + 1 → operation_in starts client i ≡ 0
 behind_table [] client i h = refl
