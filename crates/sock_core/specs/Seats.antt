@@ -1,43 +1,78 @@
--- What a seat has still to do, and which link it has in hand.
+-- What a client's seat has still to do, and what it has in hand.
 use Rattle.std.specs.Prelude.{ℕ, List, [], map, Option, Some, None}
-use Rattle.sock_message.specs.Pieces.{OnItsWay}
+use Rattle.sock_message.specs.Asked.{Asked}
+use Rattle.message_parts.specs.Parcels.{ParcelData, OutgoingData}
 use Rattle.sock_programs.specs.declared.task.Task.{Task}
 use Rattle.sock_programs.specs.declared.task.Sizes.{Sizes}
+use Rattle.sock_programs.specs.Heads.{Retry}
 use Rattle.sock_programs.specs.Programs.{Program}
 use Rattle.sock_programs.specs.Clients.{HeldLife, client_from, ending_of}
+use Rattle.id_points.specs.Ids.{id_of, number_of}
 use Rattle.seat_points.specs.declared.point.Point.{Point}
 use Rattle.seat_points.specs.Points.{Around, point_program}
 use Rattle.sock_core.specs.declared.seat.Held.{Held}
+use Rattle.sock_core.specs.declared.seat.Kept.{Kept}
 use Rattle.sock_core.specs.declared.seat.Seat.{Seat}
 
 -- what is held, as the programs have it
 abbrev pub lives : List Held → List HeldLife
 lives hs = map (λ (h : Held). record { name = h.name; id = h.id.0 }) hs
 
--- a seat: the tasks behind the one that it is at, what it holds, the `open`s that it has still to end, where it stands, the message that it
--- is to send, and the one that it writes
+-- the retries that wait
+abbrev pub retries : List Kept → List Retry
+retries ks = map (λ (k : Kept). record { id = id_of k.id; attempt = number_of k.attempt }) ks
+
+-- a seat: the tasks behind the one that it is at, what it holds, the `open`s that it has still to end, where it stands, the retries that it
+-- keeps, the oldest first, the message that it is to send, the call in its hand, and the message that it writes
 pub record SeatData : Type 0 where
   pub tasks : List Task
   pub held : List HeldLife
   pub ending : List ℕ
   pub point : Point
-  pub message : Option (List ℕ)
-  pub out : Option OnItsWay
+  pub waiting : List Retry
+  pub message : Option ParcelData
+  pub call : Option Asked
+  pub out : Option OutgoingData
 
 abbrev pub seat_data : Seat → SeatData
-seat_data seat = record { tasks = seat.tasks.items; held = lives seat.held.items; ending = seat.ending.items; point = seat.point; message = seat.message; out = seat.out }
+seat_data seat = record {
+  tasks = seat.tasks.items;
+  held = lives seat.held.items;
+  ending = seat.ending.items;
+  point = seat.point;
+  waiting = retries seat.waiting.items;
+  message = seat.message;
+  call = seat.call;
+  out = seat.out;
+}
 
-abbrev pub bytes_of : Option (List ℕ) → List ℕ
+abbrev pub bytes_of : Option ParcelData → List ℕ
 bytes_of None = []
-bytes_of (Some bytes) = bytes
+bytes_of (Some parcel) = parcel.bytes
 
-abbrev pub left_of : Option OnItsWay → List ℕ
+abbrev pub parts_of : Option ParcelData → List ℕ
+parts_of None = []
+parts_of (Some parcel) = parcel.parts
+
+-- without a call in hand nothing is asked
+abbrev pub nothing_asked : Asked
+nothing_asked = record { operation = 0; names = []; service = []; method = []; payload = []; attachment = []; range = 0 }
+
+abbrev pub asked_of : Option Asked → Asked
+asked_of None = nothing_asked
+asked_of (Some asked) = asked
+
+abbrev pub left_of : Option OutgoingData → List ℕ
 left_of None = []
 left_of (Some out) = out.left
 
-abbrev pub taken_of : Option OnItsWay → ℕ
+abbrev pub taken_of : Option OutgoingData → ℕ
 taken_of None = 0
 taken_of (Some out) = out.taken
+
+abbrev pub left_parts_of : Option OutgoingData → List ℕ
+left_parts_of None = []
+left_parts_of (Some out) = out.parts
 
 module _ (sizes : Sizes) (seat : SeatData) where
   -- what stands round its point, over a table of these sizes
@@ -48,8 +83,11 @@ module _ (sizes : Sizes) (seat : SeatData) where
     ends = ending_of seat.ending;
     held = seat.held;
     message = bytes_of seat.message;
+    parts = parts_of seat.message;
+    asked = asked_of seat.call;
     left = left_of seat.out;
     taken = taken_of seat.out;
+    left_parts = left_parts_of seat.out;
   }
 
   -- the tasks behind the one that it is at
