@@ -1,12 +1,12 @@
 -- What a client's seat has still to do, and what it has in hand.
-use Rattle.std.specs.Prelude.{ℕ, List, [], map, Option, Some, None}
+use Rattle.std.specs.Prelude.{ℕ, Bool, if◌then◌else◌, List, [], map, Option, Some, None}
 use Rattle.sock_message.specs.Asked.{Asked}
 use Rattle.message_parts.specs.Parcels.{ParcelData, OutgoingData}
 use Rattle.sock_programs.specs.declared.task.Task.{Task}
 use Rattle.sock_programs.specs.declared.task.Sizes.{Sizes}
 use Rattle.sock_programs.specs.Heads.{Retry}
 use Rattle.sock_programs.specs.Programs.{Program}
-use Rattle.sock_programs.specs.Clients.{HeldLife, client_from, ending_of}
+use Rattle.sock_programs.specs.Clients.{HeldLife, client_from, give_back, ending_of}
 use Rattle.id_points.specs.Ids.{id_of, number_of}
 use Rattle.seat_points.specs.declared.point.Point.{Point}
 use Rattle.seat_points.specs.Points.{Around, point_program}
@@ -22,10 +22,12 @@ lives hs = map (λ (h : Held). record { name = h.name; id = h.id.0 }) hs
 abbrev pub retries : List Kept → List Retry
 retries ks = map (λ (k : Kept). record { id = id_of k.id; attempt = number_of k.attempt }) ks
 
--- a seat: the tasks behind the one that it is at, what it holds, the `open`s that it has still to end, where it stands, the retries that it
--- keeps, the oldest first, the message that it is to send, the call in its hand, and the message that it writes
+-- a seat: the tasks behind the one that it is at, whether it has none left and gives back what it holds, what it holds, the `open`s that it
+-- has still to end, where it stands, the retries that it keeps, the oldest first, the message that it is to send, the call in its hand, and
+-- the message that it writes
 pub record SeatData : Type 0 where
   pub tasks : List Task
+  pub leaving : Bool
   pub held : List HeldLife
   pub ending : List ℕ
   pub point : Point
@@ -37,6 +39,7 @@ pub record SeatData : Type 0 where
 abbrev pub seat_data : Seat → SeatData
 seat_data seat = record {
   tasks = seat.tasks.items;
+  leaving = seat.leaving;
   held = lives seat.held.items;
   ending = seat.ending.items;
   point = seat.point;
@@ -75,11 +78,15 @@ left_parts_of None = []
 left_parts_of (Some out) = out.parts
 
 module _ (sizes : Sizes) (seat : SeatData) where
+  -- how it goes on behind the task that it is at, by what it holds
+  abbrev pub goes_on : List HeldLife → Program
+  goes_on hs = if seat.leaving then give_back hs else client_from sizes hs seat.tasks
+
   -- what stands round its point, over a table of these sizes
   abbrev pub around : Around
   around = record {
     sizes = sizes;
-    goes_on = (λ hs. client_from sizes hs seat.tasks);
+    goes_on = goes_on;
     ends = ending_of seat.ending;
     held = seat.held;
     message = bytes_of seat.message;
@@ -90,9 +97,9 @@ module _ (sizes : Sizes) (seat : SeatData) where
     left_parts = left_parts_of seat.out;
   }
 
-  -- the tasks behind the one that it is at
+  -- so with what it holds now
   abbrev pub client_of : Program
-  client_of = client_from sizes seat.held seat.tasks
+  client_of = goes_on seat.held
 
   abbrev pub seat_program : Program
   seat_program = point_program around seat.point

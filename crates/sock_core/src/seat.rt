@@ -1,15 +1,26 @@
-ghost use Rattle.std.specs.Prelude.{◌≡◌, ◌+◌, ◌*◌, ◌<◌, ◌≤◌, ◌∷◌, ◌++◌, [], ℕ, List, Some, None, IfSome, IfNone, Option, option_map, filter, not, ◌==◌, length, slice_set, vec_len, vec_capacity};
+ghost use Rattle.std.specs.Prelude.{◌≡◌, ◌+◌, ◌*◌, ◌<◌, ◌≤◌, ◌∷◌, ◌++◌, [], ℕ, List, Some, None, IfSome, IfNone, OnOk, OnErr, Option, option_map, filter, not, ◌==◌, true, false, length, slice_set, vec_len, vec_capacity};
 ghost use Rattle.sock_words.specs.declared.outcome.Outcome.TheVariants.{NotHeld};
+ghost use Rattle.sock_programs.specs.Heads.{Retry};
 ghost use Rattle.sock_programs.specs.Programs.{Program, Say};
+ghost use Rattle.sock_programs.specs.Attempts.{retry};
 ghost use Rattle.sock_programs.specs.Clients.{HeldLife, held_under, without_name, give_back, operation, client_from, ending_of};
-ghost use Rattle.sock_programs.specs.Cores.{said, next_step};
-ghost use Rattle.seat_points.specs.Points.{Around, point_program, next_program};
-ghost use Rattle.sock_core.specs.Seats.{lives, bytes_of, seat_data, around, client_of, seat_program};
+ghost use Rattle.sock_programs.specs.Cores.{resolved, still_waiting, said, next_step};
+ghost use Rattle.id_points.specs.Ids.{id_of, number_of};
+ghost use Rattle.seat_points.specs.Points.{Around, client_on, point_program, next_program, IsCalling, HasInHand};
+ghost use Rattle.sock_core.specs.Seats.{lives, retries, bytes_of, parts_of, asked_of, seat_data, around, client_of, seat_program};
+ghost use Rattle.sock_core.specs.Following.{IsFlat, IsReady, KeepsOnly};
 
-use seat_points::{Aim, Next, Opening, Point, ReleaseStep, SeekStep, Then};
-use sock_message::{Message, Outgoing};
+use call_points::{DecideStep, LockStep};
+use id_points::{AttemptNumber, CallId};
+use message_parts::{OutgoingParcel, Parcel};
+use seat_points::{
+    After, Aim, Attempt, CallStep, Calling, JoinStep, Next, Opening, Point, ReleaseStep, RetryStep,
+    Retrying, SeekStep, Then,
+};
+use sock_message::{BlockPool, Call, NoMemory};
 use sock_programs::{Op, Sizes, Task};
 use sock_words::{Outcome, SocketId};
+use std::alloc::Global;
 use std::collections::VecDeque;
 
 /// A life that is held: the number of the name under which it was reached, and its id.
@@ -19,17 +30,49 @@ pub struct Held {
     pub id: SocketId,
 }
 
-/// A seat: the tasks behind the one that it is at, the lives that it holds, the `open`s that it has still to end, where it
-/// stands, the message that it is to send, and the one that it writes.
+/// A retry that is kept: the id of its call, and the attempt that is to be tried.
+#[derive(Clone, Copy, Debug, PartialEq, Eq)]
+pub struct Kept {
+    pub id: CallId,
+    pub attempt: AttemptNumber,
+}
+
+impl Kept {
+    /// Where a client tries it.
+    fn point(self) -> Point
+        ensures { (a : Around) → point_program a result ≡ retry a.sizes.requests (id_of self.id) (number_of self.attempt) (client_on a) }
+    {
+        // Its operation and its name are those of its call, once that is in hand.
+        let attempt = Attempt {
+            operation: 0,
+            id: self.id,
+            number: self.attempt,
+        };
+        Point::Retry(Retrying { attempt, name: 0 }, RetryStep::Lock(LockStep::Read))
+    }
+}
+
+/// The seat of a client.
 #[derive(Drop)]
 pub struct Seat {
+    /// The tasks behind the one that it is at.
     pub tasks: VecDeque<Task>,
+    /// Whether it has none left, and gives back what it holds.
+    pub leaving: bool,
     pub held: Vec<Held>,
+    /// The `open`s that it has still to end.
     pub ending: VecDeque<u16>,
     pub point: Point,
-    pub message: Option<Message>,
-    pub out: Option<Outgoing>,
+    /// The retries that wait, the oldest first.
+    pub waiting: VecDeque<Kept>,
+    /// What it is to send.
+    pub message: Option<Parcel>,
+    /// The call in its hand.
+    pub call: Option<Call>,
+    /// What it writes.
+    pub out: Option<OutgoingParcel>,
 }
+
 /// The operation of this number has this outcome.
 fn tell(outcomes: &mut [Option<Outcome>], operation: u16, outcome: Outcome)
     ensures { outcomes.new ≡ slice_set outcomes.old operation (Some outcome) }
@@ -71,15 +114,16 @@ fn take_held(held: &mut Vec<Held>, name: u16) -> Option<SocketId>
     id
 }
 
-/// Where a task begins, over a table of these sizes; nowhere where it is a `drop` of what isn't held. The message of a `send` comes
-/// into the seat's hand.
+/// Where a task begins, over a table of these sizes; nowhere where it is a `drop` of what isn't held. The message of a `send`
+/// and the call of a `call` come into the seat's hand.
 fn begin(
     held: &mut Vec<Held>,
-    message: &mut Option<Message>,
+    message: &mut Option<Parcel>,
+    call: &mut Option<Call>,
     sizes: Sizes,
     task: Task,
 ) -> Option<Point>
-    ensures some { IfSome result (λ point. (a : Around) → a.sizes ≡ sizes → a.held ≡ lives held.new.items → a.message ≡ bytes_of message.new →
+    ensures some { IfSome result (λ point. (a : Around) → a.sizes ≡ sizes → a.held ≡ lives held.new.items → a.message ≡ bytes_of message.new → a.asked ≡ asked_of call.new →
         point_program a point ≡ operation sizes (lives held.old.items) task.number a.goes_on task.op) }
     ensures none { IfNone result ((goes_on : List HeldLife → Program) →
         operation sizes (lives held.old.items) task.number goes_on task.op ≡ Say task.number NotHeld (goes_on (lives held.new.items))) }
@@ -98,9 +142,15 @@ fn begin(
             Some(opening.try_slot(sizes.slots, 0))
         }
         Op::Send(name, bytes) => {
-            *message = Some(bytes);
+            *message = Some(Parcel::of_message(bytes));
             Some(Point::Seek(Aim::Send { operation, name }, SeekStep::Load))
         }
+        Op::Call(asked) => {
+            *call = Some(asked);
+            Some(Point::Call(CallStep::LoadName))
+        }
+        Op::Expire(called) => Some(Point::Expire(operation, called)),
+        Op::Join(called) => Some(Point::Join(operation, JoinStep::LoadCall(called))),
         Op::Hold(name) => Some(Point::Seek(Aim::Hold { operation, name }, SeekStep::Load)),
         Op::Fail(name, code) => {
             let aim = Aim::Fail {
@@ -119,7 +169,7 @@ fn begin(
 
 /// Where a client goes on behind its last task: it gives back what it holds, the oldest first.
 fn give_back(held: &mut Vec<Held>) -> Point
-    ensures { (a : Around) → a.goes_on ≡ (λ hs. client_from a.sizes hs []) → a.held ≡ lives held.new.items → point_program a result ≡ give_back (lives held.old.items) }
+    ensures { (a : Around) → a.goes_on ≡ give_back → a.held ≡ lives held.new.items → point_program a result ≡ give_back (lives held.old.items) }
 {
     if held.is_empty() {
         return Point::Rest;
@@ -129,14 +179,52 @@ fn give_back(held: &mut Vec<Held>) -> Point
 }
 
 impl Seat {
-    /// The client goes on with its next task, over a table of these sizes. Outcomes that need no step are told.
-    pub fn go_on(&mut self, sizes: Sizes, outcomes: &mut [Option<Outcome>])
-        ensures program { seat_program sizes (seat_data self.new) ≡ next_step (client_of sizes (seat_data self.old)) }
-        ensures said { outcomes.new ≡ said (client_of sizes (seat_data self.old)) outcomes.old }
+    /// The seat of a client with these tasks, before it began.
+    pub fn new(alloc: Global, tasks: VecDeque<Task>) -> Seat
+        ensures { seat_data result ≡ record { tasks = tasks.items; leaving = false; held = []; ending = []; point = Point.Rest; waiting = []; message = None; call = None; out = None } }
+    {
+        Seat {
+            tasks,
+            leaving: false,
+            held: Vec::new(alloc),
+            ending: VecDeque::new(alloc),
+            point: Point::Rest,
+            waiting: VecDeque::new(alloc),
+            message: None,
+            call: None,
+            out: None,
+        }
+    }
+
+    /// What it knows of the call in its hand.
+    pub fn calling(&self) -> Calling
+        ensures { (sizes : Sizes) → IsCalling (around sizes (seat_data self.now)) result }
+    {
+        match &self.call {
+            Some(call) => Calling {
+                operation: call.operation,
+                name: call.name(0),
+                range: call.range,
+            },
+            None => Calling {
+                operation: 0,
+                name: 0,
+                range: 0,
+            },
+        }
+    }
+
+    /// The client goes on with its next task, over a table of these sizes, up to a step. Outcomes that need none are told.
+    fn next_task(&mut self, sizes: Sizes, outcomes: &mut [Option<Outcome>])
+        requires tasks { self.old.leaving ≡ false }
+        requires none { self.old.waiting.items ≡ [] }
+        ensures program { seat_program sizes (seat_data self.new) ≡ next_step (resolved [] (client_of sizes (seat_data self.old))) }
+        ensures waiting { self.new.waiting ≡ self.old.waiting }
+        ensures said { outcomes.new ≡ said (resolved [] (client_of sizes (seat_data self.old))) outcomes.old }
     {
         while let Some(task) = self.tasks.pop_front() {
             let number = task.number;
-            match begin(&mut self.held, &mut self.message, sizes, task) {
+            match begin(&mut self.held, &mut self.message, &mut self.call, sizes, task) {
                 Some(point) => {
                     self.point = point;
                     return;
@@ -144,12 +232,31 @@ impl Seat {
                 None => tell(outcomes, number, Outcome::NotHeld),
             }
         }
+        self.leaving = true;
         self.point = give_back(&mut self.held);
+    }
+
+    /// The client goes on, over a table of these sizes, up to a step: with the oldest retry that waits, or else with its next
+    /// task. Outcomes that need no step are told.
+    pub fn go_on(&mut self, sizes: Sizes, outcomes: &mut [Option<Outcome>])
+        ensures program { seat_program sizes (seat_data self.new) ≡ next_step (resolved (retries self.old.waiting.items) (client_of sizes (seat_data self.old))) }
+        ensures waiting { retries self.new.waiting.items ≡ still_waiting (retries self.old.waiting.items) (client_of sizes (seat_data self.old)) }
+        ensures said { outcomes.new ≡ said (resolved (retries self.old.waiting.items) (client_of sizes (seat_data self.old))) outcomes.old }
+    {
+        if self.leaving {
+            self.point = give_back(&mut self.held);
+            return;
+        }
+        match self.waiting.pop_front() {
+            Some(kept) => self.point = kept.point(),
+            None => self.next_task(sizes, outcomes),
+        }
     }
 
     /// The ending goes on with its next `open`.
     pub fn end_next(&mut self)
         ensures program { (sizes : Sizes) → seat_program sizes (seat_data self.new) ≡ next_step (ending_of self.old.ending.items) }
+        ensures waiting { self.new.waiting ≡ self.old.waiting }
         ensures said { (outcomes : List (Option Outcome)) → outcomes ≡ said (ending_of self.old.ending.items) outcomes }
     {
         self.point = match self.ending.pop_front() {
@@ -158,11 +265,13 @@ impl Seat {
         };
     }
 
-    /// The seat goes on behind a step.
-    pub fn follow(&mut self, sizes: Sizes, next: Next, outcomes: &mut [Option<Outcome>])
+    /// The seat goes on behind a step that ended no call and keeps no retry.
+    fn follow_flat(&mut self, sizes: Sizes, next: Next, outcomes: &mut [Option<Outcome>])
+        requires flat { IsFlat next }
         requires room { (o name : ℕ) (id : SocketId) → next ≡ Next.Held o name id → vec_len self.old.held < vec_capacity self.old.held }
-        ensures program { seat_program sizes (seat_data self.new) ≡ next_step (next_program (around sizes (seat_data self.old)) next) }
-        ensures said { outcomes.new ≡ said (next_program (around sizes (seat_data self.old)) next) outcomes.old }
+        ensures program { seat_program sizes (seat_data self.new) ≡ next_step (resolved (retries self.old.waiting.items) (next_program (around sizes (seat_data self.old)) next)) }
+        ensures waiting { retries self.new.waiting.items ≡ still_waiting (retries self.old.waiting.items) (next_program (around sizes (seat_data self.old)) next) }
+        ensures said { outcomes.new ≡ said (resolved (retries self.old.waiting.items) (next_program (around sizes (seat_data self.old)) next)) outcomes.old }
     {
         match next {
             Next::Point(point) => self.point = point,
@@ -178,6 +287,53 @@ impl Seat {
             }
             Next::GaveBack => self.go_on(sizes, outcomes),
             Next::Ended => self.end_next(),
+            Next::CallEnded(_, _, _, _) | Next::Kept(_, _, _) | Next::KeptWith(_, _, _, _) => {}
+        }
+    }
+
+    /// The seat goes on behind what it decided on an error.
+    fn follow_after(&mut self, sizes: Sizes, after: After, outcomes: &mut [Option<Outcome>])
+        ensures program { seat_program sizes (seat_data self.new) ≡ next_step (resolved (retries self.old.waiting.items) (after_program (around sizes (seat_data self.old)) after)) }
+        ensures waiting { retries self.new.waiting.items ≡ still_waiting (retries self.old.waiting.items) (after_program (around sizes (seat_data self.old)) after) }
+        ensures said { outcomes.new ≡ said (resolved (retries self.old.waiting.items) (after_program (around sizes (seat_data self.old)) after)) outcomes.old }
+    {
+        self.follow_flat(sizes, after.next(), outcomes);
+    }
+
+    /// A retry is kept, behind those that wait.
+    fn keep(&mut self, id: CallId, attempt: AttemptNumber)
+        requires { vec_len self.old.waiting < vec_capacity self.old.waiting }
+        ensures { KeepsOnly (seat_data self.old) (seat_data self.new) (record { id = id_of id; attempt = number_of attempt }) }
+    {
+        self.waiting.push_back_reserved(Kept { id, attempt });
+    }
+
+    /// The seat goes on behind a step.
+    pub fn follow(&mut self, sizes: Sizes, next: Next, outcomes: &mut [Option<Outcome>])
+        requires room { (o name : ℕ) (id : SocketId) → next ≡ Next.Held o name id → vec_len self.old.held < vec_capacity self.old.held }
+        requires more { IsFlat next ⊎ (vec_len self.old.waiting < vec_capacity self.old.waiting) }
+        ensures program { seat_program sizes (seat_data self.new) ≡ next_step (resolved (retries self.old.waiting.items) (next_program (around sizes (seat_data self.old)) next)) }
+        ensures waiting { retries self.new.waiting.items ≡ still_waiting (retries self.old.waiting.items) (next_program (around sizes (seat_data self.old)) next) }
+        ensures said { outcomes.new ≡ said (resolved (retries self.old.waiting.items) (next_program (around sizes (seat_data self.old)) next)) outcomes.old }
+    {
+        match next {
+            Next::CallEnded(operation, id, code, after) => {
+                let outcome = Outcome::CallFailed {
+                    id: id.number(),
+                    code,
+                };
+                tell(outcomes, operation, outcome);
+                self.follow_after(sizes, after, outcomes);
+            }
+            Next::Kept(id, attempt, after) => {
+                self.keep(id, attempt);
+                self.follow_after(sizes, after, outcomes);
+            }
+            Next::KeptWith(error, attempt, word, after) => {
+                self.keep(error.id, attempt);
+                self.point = Point::Decide(error, after, DecideStep::Take(word));
+            }
+            flat => self.follow_flat(sizes, flat, outcomes),
         }
     }
 }
