@@ -38,13 +38,13 @@ module _ (r : Reader) (ids : ℕ) (old : List ℕ) (fs : List model.Frame) (all 
       GoesOnBehind r ids old new (record { frame = Some f; point = points.Lock r l locks.Read })
   goes_locked new f l cut left asked is = record {
     program = λ a n. locks_next a r old new fs (frame_of f) cut left (rw n all) (rw n asked) l is;
-    hand = λ a. is;
+    hand = λ a. (refl, is);
   }
 
   goes_taking : (new : List ℕ) → Cut old fs new → IsLeft old new → judged new ≡ NoneYet → nat_lt (count_of r.total) LIMIT ≡ true → GoesOnBehind r ids old new (record { frame = None; point = points.Take r })
   goes_taking new cut left none few = record {
     program = λ a n. takes_more a r old new fs cut left (rw n all) none few;
-    hand = λ a. tt;
+    hand = λ a. (none, few);
   }
 
   goes_ended : (new : List ℕ) → Cut old fs new → IsLeft old new → judged new ≡ NoneYet → nat_lt (count_of r.total) LIMIT ≡ false →

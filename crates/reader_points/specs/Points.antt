@@ -1,29 +1,32 @@
 -- What the reader of a link has still to do, by the point at which it stands: its program from each of its steps on.
-use Rattle.std.specs.Prelude.{ℕ, ◌≡◌, ◌≤◌, ◌-◌, ◌+◌, ◌==◌, ◌&&◌, Bool, true, false, not, min, nat_lt, nat_le, if◌then◌else◌, List, [], ◌∷◌, ◌++◌, length, drop, Option, Some, None}
+use Rattle.std.specs.Prelude.{ℕ, ◌≡◌, ◌≤◌, ◌-◌, ◌+◌, ◌==◌, ◌&&◌, Bool, true, false, not, min, nat_lt, nat_le, if◌then◌else◌, List, [], ◌∷◌, ◌++◌, length, drop, Option, Some, None, pos}
 use Rattle.sock_words.specs.Words.{socket_id_slot, socket_id_version, vref_version, at_word_link, at_word_slot, at_word_first, at_word_attempt}
 use Rattle.sock_words.specs.declared.socket_id.SocketId.{SocketId}
 use Rattle.sock_words.specs.declared.outcome.Outcome.TheVariants.{CallFailed}
 use Rattle.corr_core.specs.Word.{parts, error_of}
-use Rattle.brpc_model.specs.Frame.{Frame}
+use Rattle.brpc_model.specs.Frame.{Frame, NoneYet, judged}
 use Rattle.brpc_model.specs.Stream.{Ending, stream}
 use Rattle.brpc_model.specs.Stream as streams
 use Rattle.sock_message.specs.Asked.{Asked}
-use Rattle.sock_programs.specs.Asides.{Taking, Bytes, Nothing, NoMore, AtEnd, Closed, Broken, LoadAt, TakeBytes, TakeCall, call_id, id_slot, id_first}
+use Rattle.sock_programs.specs.Asides.{Taking, Bytes, Nothing, NoMore, AtEnd, Closed, Broken, LoadAt, TakeCall, FreeId, call_id, id_slot}
 use Rattle.sock_programs.specs.Calls as calls
-use Rattle.sock_programs.specs.Heads.{Reading, Ended, Opens, Reads, Discards, Version, Posting}
-use Rattle.sock_programs.specs.Programs.{Program, Do, Say, Rest, Aside, Round, Keep, NO_SOCKET, address, release, set_failed}
+use Rattle.sock_programs.specs.Heads.{Reading, Ended, Opens, Reads, Discards, Deciding, Decides}
+use Rattle.sock_programs.specs.Programs.{Program, Do, Say, Rest, Aside, Round, NO_SOCKET, address, release, set_failed}
 use Rattle.sock_programs.specs.Posts.{post_with, decide, decided, end_id}
-use Rattle.sock_programs.specs.Readers.{LIMIT, ending_of, slot_in, version_in, answer, answered, responses, ended_by, read_on, read, kept_for, ends_with, posted_last, post_each, thrown_away, has_response}
-use Rattle.call_points.specs.Points.{end_program, post_program, decide_program, lock_program}
+use Rattle.sock_programs.specs.Readers.{LIMIT, ending_of, slot_in, version_in, answered, responses, ended_by, read_on, read, kept_for, ends_with, posted_last, post_each, thrown_away, room_of}
+use Rattle.call_points.specs.Points.{end_program, post_program, lock_program, IsOpen}
 use Rattle.call_points.specs.declared.deciding.OnCall.{OnCall}
 use Rattle.call_points.specs.declared.locking.Locker.{Locker}
-use Rattle.call_points.specs.Points as asked_points
+use Rattle.call_points.specs.declared.aside.Aside.TheVariants as asides
 use Rattle.id_points.specs.Ids.{id_of, number_of}
 use Rattle.id_points.specs.declared.locking.Sought.TheVariants as sought
-use Rattle.seat_points.specs.Points.{release_on, MayFindIn, DecidesByCall}
+use Rattle.seat_points.specs.Points.{release_on, MayFindIn}
 use Rattle.reader_points.specs.declared.point.ByteCount.{ByteCount}
 use Rattle.reader_points.specs.declared.point.Reader.{Reader}
 use Rattle.reader_points.specs.declared.point.Closing.{Closing}
+use Rattle.reader_points.specs.declared.point.Lost.{Lost}
+use Rattle.reader_points.specs.declared.point.FailStep.{FailStep}
+use Rattle.reader_points.specs.declared.point.FailStep.TheVariants as fails
 use Rattle.reader_points.specs.declared.point.Behind.{Behind}
 use Rattle.reader_points.specs.declared.point.Behind.TheVariants as behinds
 use Rattle.reader_points.specs.declared.point.AnswerStep.{AnswerStep}
@@ -32,18 +35,21 @@ use Rattle.reader_points.specs.declared.point.CloseStep.{CloseStep}
 use Rattle.reader_points.specs.declared.point.CloseStep.TheVariants as closes
 use Rattle.reader_points.specs.declared.point.ReadPoint.{ReadPoint}
 use Rattle.reader_points.specs.declared.point.ReadPoint.TheVariants as points
+use Rattle.reader_points.specs.declared.point.ReadStep.{ReadStep}
+use Rattle.reader_points.specs.declared.point.ReadStep.TheVariants as steps
 use Rattle.reader_points.specs.declared.point.ReadNext.{ReadNext}
 use Rattle.reader_points.specs.declared.point.ReadNext.TheVariants as nexts
 use Rattle.reader_points.specs.declared.point.Taken.{Taken}
 use Rattle.reader_points.specs.declared.point.Taken.TheVariants as takens
 
 -- what stands round a reader's point: the operations that are calls, the bytes behind the last frame that was cut, the responses
--- kept, the response in hand, and the call in hand
+-- kept, the response in hand, whether that is a fresh one, which isn't kept, and the call in hand
 pub record Around : Type 0 where
   pub calls : List ℕ
   pub held : List ℕ
   pub kept : List Frame
   pub frame : Frame
+  pub fresh : Bool
   pub asked : Asked
 
 -- how many bytes came; a count is never above the limit of a link
@@ -53,6 +59,13 @@ count_of n = min n.0 LIMIT
 -- the code with which a reading ends
 abbrev pub code_by : Bool → ℕ
 code_by fault = if fault then 2002 else 1014
+
+-- the error that ends a lost call: the reading's code, for its attempt
+abbrev pub error_in : Lost → ℕ
+error_in l = error_of (code_by l.closing.fault) (number_of l.attempt)
+
+abbrev pub on_call : Lost → OnCall
+on_call l = record { id = l.id; error = record { 0 = error_in l } }
 
 module _ (a : Around) where
   -- where the reading stands, with these bytes and responses in hand
@@ -106,6 +119,20 @@ module _ (a : Around) where
   answer_program b id answers.Take = Aside (TakeCall (id_slot id)) (λ asked. end_id (id_slot id) (said_program b id asked.operation))
   answer_program b id (answers.End o at) = end_program (id_slot id) (said_program b id o) at
 
+  -- ## The end of a call by the error
+
+  abbrev pub ended_call : Lost → Deciding → Program
+  ended_call l = decided (id_of l.id) (posts_program l.closing)
+
+  -- it is said
+  abbrev pub told_program : Lost → ℕ → Program
+  told_program l o = Say o (CallFailed (id_of l.id) (code_by l.closing.fault)) (posts_program l.closing)
+
+  abbrev pub fail_program : Lost → FailStep → Program
+  fail_program l (fails.Take word) = decide (id_of l.id) word.0 (error_in l) (ended_call l)
+  fail_program l (fails.Judge word) = Round (Decides (id_of l.id) a.asked word.0 (error_in l)) (ended_call l)
+  fail_program l (fails.Free o) = Aside (FreeId (id_slot (id_of l.id))) (λ _. told_program l o)
+
   -- ## Points
 
   -- from a point on
@@ -118,8 +145,8 @@ module _ (a : Around) where
   point_program (points.Answer b id at) = answer_program b (id_of id) at
   point_program (points.Close c at) = close_program c at
   point_program (points.Load c o) = load_program c o
-  point_program (points.Post c e at) = post_program e (posted_last (id_of e.id) e.error.0 a.kept (posts_program c)) at
-  point_program (points.Decide c e at) = decide_program e a.asked (decided (id_of e.id) (posts_program c)) at
+  point_program (points.Post l at) = post_program (on_call l) (posted_last (id_of l.id) (error_in l) a.kept (posts_program l.closing)) at
+  point_program (points.Fail l at) = fail_program l at
   point_program (points.Discard link total) = Round (Discards link (count_of total)) (λ _. Rest)
 
   -- behind a step
@@ -129,10 +156,8 @@ module _ (a : Around) where
   next_program (nexts.Early r) = frames_behind r (a.kept ++ a.frame ∷ [])
   next_program (nexts.Answered o id b) = said_program b (id_of id) o
   next_program (nexts.Posts c) = posts_program c
-  next_program (nexts.Locked c e w) = ends_with (id_of e.id) e.error.0 w.0 (kept_for (id_of e.id) (parts w.0).range a.kept) (posts_program c)
-  next_program (nexts.CallEnded o id n c) = Say o (CallFailed (id_of id) n) (posts_program c)
-  next_program (nexts.Kept id n c) = Keep (record { id = id_of id; attempt = number_of n }) (posts_program c)
-  next_program (nexts.KeptWith e n w c) = Keep (record { id = id_of e.id; attempt = number_of n }) (decide (id_of e.id) w.0 e.error.0 (decided (id_of e.id) (posts_program c)))
+  next_program (nexts.Locked l w) = ends_with (id_of l.id) (error_in l) w.0 (kept_for (id_of l.id) (parts w.0).range a.kept) (posts_program l.closing)
+  next_program (nexts.CallEnded o l) = told_program l o
 
 -- ## What a step finds
 
@@ -144,9 +169,19 @@ with_taking other a = a
 abbrev pub with_asked : Asked → Around → Around
 with_asked asked a = record a { asked = asked }
 
--- with a response in hand
+-- with a fresh response in hand, and with one that is kept
 abbrev pub with_frame : Frame → Around → Around
-with_frame frame a = record a { frame = frame }
+with_frame frame a = record a { frame = frame; fresh = true }
+
+abbrev pub with_kept : Frame → Around → Around
+with_kept frame a = record a { frame = frame; fresh = false }
+
+-- without one
+abbrev pub NO_FRAME : Frame
+NO_FRAME = record { meta = record { request = None; response = None; compress_type = pos 0; correlation_id = 0; attachment_size = pos 0 }; payload = []; attachment = [] }
+
+abbrev pub without_frame : Around → Around
+without_frame a = record a { frame = NO_FRAME; fresh = false }
 
 -- with these bytes left
 abbrev pub with_held : List ℕ → Around → Around
@@ -164,16 +199,16 @@ IsTaken taken other = ⊥
 
 -- no more than there is room for
 abbrev pub room : ByteCount → ℕ
-room n = min 4096 (LIMIT - count_of n)
+room n = room_of (count_of n)
 
-abbrev pub FitsRoom : ByteCount → Taken → Type 0
-FitsRoom n (takens.Bytes m) = m ≤ room n
-FitsRoom n other = Unit {0}
+abbrev pub room_at : ReadPoint → ℕ
+room_at (points.Take r) = room r.total
+room_at (points.Discard link total) = room total
+room_at other = 0
 
-abbrev pub MayTake : ReadPoint → Taken → Type 0
-MayTake (points.Take r) taken = FitsRoom r.total taken
-MayTake (points.Discard link total) taken = FitsRoom total taken
-MayTake other taken = ⊥
+abbrev pub FitsRoom : ℕ → Taken → Type 0
+FitsRoom most (takens.Bytes n) = n ≤ most
+FitsRoom most other = Unit {0}
 
 -- ## What a point has in hand
 
@@ -182,11 +217,24 @@ pub record IsLocker (frame : Frame) (l : Locker) : Type 0 where
   pub slot : l.slot ≡ slot_in frame
   pub sought : l.sought ≡ sought.Version (version_in frame)
 
--- nothing came yet to a reader that waits for its socket; a lock is that of the response in hand
+-- more bytes may be taken
+abbrev pub IsBelow : ByteCount → Type 0
+IsBelow n = nat_lt (count_of n) LIMIT ≡ true
+
+-- nothing came yet to a reader that waits for its socket; where bytes are taken there is neither a whole frame nor a fault in hand, and the
+-- limit isn't reached; a lock is that of the response in hand, which is a fresh one
 abbrev pub HasInHand : Around → ReadPoint → Type 0
 HasInHand a (points.Open link o) = (a.held ≡ []) × (a.kept ≡ [])
-HasInHand a (points.Lock r l at) = IsLocker a.frame l
+HasInHand a (points.Take r) = (judged a.held ≡ NoneYet) × IsBelow r.total
+HasInHand a (points.Lock r l at) = (a.fresh ≡ true) × IsLocker a.frame l
+HasInHand a (points.Discard link total) = IsBelow total
 HasInHand a other = Unit {0}
+
+-- only a fresh response is kept
+abbrev pub HasNext : Around → ReadNext → Type 0
+HasNext a (nexts.Point point) = HasInHand a point
+HasNext a (nexts.Early r) = a.fresh ≡ true
+HasNext a other = Unit {0}
 
 -- ## Which step comes next
 
@@ -194,13 +242,17 @@ abbrev pub AnswersByWord : AnswerStep → Type 0
 AnswersByWord answers.Take = ⊥
 AnswersByWord other = Unit {0}
 
+abbrev pub FailsByWord : FailStep → Type 0
+FailsByWord (fails.Take word) = ⊥
+FailsByWord other = Unit {0}
+
 -- one on a word
 abbrev pub GoesByWord : ReadPoint → Type 0
 GoesByWord points.Rest = ⊥
 GoesByWord (points.Take r) = ⊥
 GoesByWord (points.Discard link total) = ⊥
 GoesByWord (points.Answer b id at) = AnswersByWord at
-GoesByWord (points.Decide c e at) = asked_points.GoesByWord at
+GoesByWord (points.Fail l at) = FailsByWord at
 GoesByWord other = Unit {0}
 
 -- bytes are taken
@@ -212,8 +264,15 @@ TakesBytes other = ⊥
 -- a call is taken out of its home
 abbrev pub TakesCall : ReadPoint → Type 0
 TakesCall (points.Answer b id answers.Take) = Unit {0}
-TakesCall (points.Decide c e at) = DecidesByCall at
+TakesCall (points.Fail l (fails.Take word)) = Unit {0}
 TakesCall other = ⊥
+
+-- how a seat at this point goes on behind this step: with a call, with at most so many bytes, or by a word
+abbrev pub GoesBy : ReadPoint → Option ReadStep → Type 0
+GoesBy point None = point ≡ points.Rest
+GoesBy point (Some (steps.Aside (asides.TakeCall i))) = TakesCall point
+GoesBy point (Some (steps.Aside (asides.TakeBytes k n))) = TakesBytes point × (n ≡ room_at point)
+GoesBy point (Some step) = GoesByWord point
 
 -- a word that may be found
 abbrev pub MayFindClosing : CloseStep → ℕ → Type 0
@@ -224,8 +283,7 @@ abbrev pub MayFind : ReadPoint → ℕ → Type 0
 MayFind (points.Close c at) found = MayFindClosing at found
 MayFind other found = Unit {0}
 
--- a lock is tried from an open word alone, and an advance has an attempt left
+-- a lock is tried from an open word alone
 abbrev pub IsWithin : ReadPoint → Type 0
-IsWithin (points.Lock r l at) = asked_points.IsOpen at
-IsWithin (points.Decide c e at) = asked_points.MayStand at
+IsWithin (points.Lock r l at) = IsOpen at
 IsWithin other = Unit {0}

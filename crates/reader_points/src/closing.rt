@@ -1,6 +1,6 @@
-ghost use Rattle.std.specs.Prelude.{◌≡◌, ◌≤◌, length};
+ghost use Rattle.std.specs.Prelude.{◌≡◌, ◌≤◌, ◌<◌, ◌+◌, length};
 ghost use Rattle.call_points.specs.Steps.{after_word};
-ghost use Rattle.reader_points.specs.Points.{Around, next_program, close_program, posts_program, point_program, MayFindClosing};
+ghost use Rattle.reader_points.specs.Points.{Around, next_program, close_program, posts_program, point_program, MayFindClosing, HasInHand, HasNext};
 
 use crate::point::{CloseStep, Closing, ReadNext, ReadPoint};
 use seat_points::{ReleaseStep, Released};
@@ -14,20 +14,28 @@ impl Closing {
         ReadNext::Point(ReadPoint::Close(self, step))
     }
 
+    /// One more call was looked at.
+    fn beyond(self) -> Closing
+        requires { self.next < 4096 }
+        ensures { result ≡ record self { next = self.next + 1 } }
+    {
+        Closing {
+            next: self.next + 1,
+            ..self
+        }
+    }
+
     /// Where it goes on among these calls: at the next one, or behind the last; behind a frame fault what comes is thrown
     /// away.
     pub fn posts(self, calls: &[u16]) -> ReadPoint
         requires { length calls.now ≤ 4096 }
-        ensures { (a : Around) → a.calls ≡ calls.now → point_program a result ≡ posts_program a self }
+        ensures program { (a : Around) → a.calls ≡ calls.now → point_program a result ≡ posts_program a self }
+        ensures hand { (a : Around) → HasInHand a result }
     {
         let next = self.next as usize;
         let reader = self.reader;
         if next < calls.len() {
-            let behind = Closing {
-                next: self.next + 1,
-                ..self
-            };
-            ReadPoint::Load(behind, calls[next])
+            ReadPoint::Load(self.beyond(), calls[next])
         } else if self.fault && reader.total.is_below_limit() {
             ReadPoint::Discard(reader.link, reader.total)
         } else {
@@ -40,7 +48,8 @@ impl CloseStep {
     /// How the failing of the reader's socket goes on by the word that its step found.
     pub fn next(self, closing: Closing, found: u64) -> ReadNext
         requires { MayFindClosing self found }
-        ensures { (a : Around) → next_program a result ≡ after_word (close_program a closing self) found }
+        ensures program { (a : Around) → next_program a result ≡ after_word (close_program a closing self) found }
+        ensures hand { (a : Around) → HasNext a result }
     {
         let word = Vref::from_word(found);
         match self {

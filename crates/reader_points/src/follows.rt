@@ -1,10 +1,9 @@
-ghost use Rattle.std.specs.Prelude.{◌≡◌, ◌≤◌, length, ℕ};
+ghost use Rattle.std.specs.Prelude.{◌≡◌};
 ghost use Rattle.sock_message.specs.Asked.{Asked};
 ghost use Rattle.call_points.specs.Steps.{after_word, after_call};
-ghost use Rattle.reader_points.specs.Points.{Around, next_program, point_program, with_asked, HasInHand, GoesByWord, TakesCall, MayFind, IsWithin};
+ghost use Rattle.reader_points.specs.Points.{Around, next_program, point_program, with_asked, HasInHand, HasNext, GoesByWord, TakesCall, MayFind, IsWithin};
 
-use crate::point::{AnswerStep, ByteCount, ReadNext, ReadPoint, Reader};
-use call_points::DecideStep;
+use crate::point::{AnswerStep, ByteCount, FailStep, ReadNext, ReadPoint, Reader};
 use sock_words::SocketId;
 
 /// The word of an `open` that got no slot.
@@ -12,7 +11,8 @@ const NO_SOCKET: u64 = u64::MAX;
 
 /// How the reader of a link goes on by the word of the `open` of its link and operation.
 fn opened(link: u16, operation: u16, found: u64) -> ReadNext
-    ensures { (a : Around) → HasInHand a (ReadPoint.Open link operation) → next_program a result ≡ after_word (point_program a (ReadPoint.Open link operation)) found }
+    ensures program { (a : Around) → HasInHand a (ReadPoint.Open link operation) → next_program a result ≡ after_word (point_program a (ReadPoint.Open link operation)) found }
+    ensures hand { (a : Around) → HasInHand a (ReadPoint.Open link operation) → HasNext a result }
 {
     if found == 0 {
         ReadNext::Point(ReadPoint::Open(link, operation))
@@ -34,7 +34,8 @@ impl ReadPoint {
         requires within { IsWithin self }
         requires word { MayFind self found }
         requires step { GoesByWord self }
-        ensures { (a : Around) → a.asked.operation ≡ operation → HasInHand a self → next_program a result ≡ after_word (point_program a self) found }
+        ensures program { (a : Around) → a.asked.operation ≡ operation → HasInHand a self → next_program a result ≡ after_word (point_program a self) found }
+        ensures hand { (a : Around) → HasInHand a self → HasNext a result }
     {
         match self {
             ReadPoint::Open(link, operation) => opened(link, operation, found),
@@ -44,31 +45,24 @@ impl ReadPoint {
             ReadPoint::Answer(behind, id, step) => step.next(behind, id, found),
             ReadPoint::Close(closing, step) => step.next(closing, found),
             ReadPoint::Load(closing, _) => closing.loaded(found),
-            ReadPoint::Post(closing, error, step) => {
-                closing.posted(error, error.post_next(step, found))
-            }
-            ReadPoint::Decide(closing, error, step) => {
-                closing.decided(error, error.decide_next(step, operation, found))
-            }
+            ReadPoint::Post(lost, step) => lost.posted(lost.error().post_next(step, found)),
+            ReadPoint::Fail(lost, step) => lost.fail_next(step, operation, found),
             ReadPoint::Rest | ReadPoint::Take(_) | ReadPoint::Discard(_, _) => {
                 ReadNext::Point(ReadPoint::Rest)
             }
         }
     }
 
-    /// How it goes on with a call in hand that it took out of its home, which is that of this operation.
-    pub fn with_call(self, operation: u16) -> ReadNext
+    /// Where it goes on with a call in hand that it took out of its home, which is that of this operation.
+    pub fn with_call(self, operation: u16) -> ReadPoint
         requires { TakesCall self }
-        ensures { (a : Around) (asked : Asked) → asked.operation ≡ operation → next_program (with_asked asked a) result ≡ after_call (point_program a self) asked }
+        ensures program { (a : Around) (asked : Asked) → asked.operation ≡ operation → point_program (with_asked asked a) result ≡ after_call (point_program a self) asked }
+        ensures hand { (a : Around) → HasInHand a result }
     {
         match self {
-            ReadPoint::Answer(behind, id, AnswerStep::Take) => {
-                behind.with_call(id, operation)
-            }
-            ReadPoint::Decide(closing, error, DecideStep::Take(word)) => {
-                ReadNext::Point(ReadPoint::Decide(closing, error, error.with_call(word)))
-            }
-            _ => ReadNext::Point(ReadPoint::Rest),
+            ReadPoint::Answer(behind, id, AnswerStep::Take) => behind.with_call(id, operation),
+            ReadPoint::Fail(lost, FailStep::Take(word)) => lost.with_call(word),
+            _ => ReadPoint::Rest,
         }
     }
 }

@@ -7,6 +7,7 @@ pub mod reading;
 pub mod answering;
 pub mod closing;
 pub mod posting;
+pub mod failing;
 pub mod follows;
 pub mod cutting;
 pub mod keeping;
@@ -14,5 +15,7 @@ pub mod keeping;
 pub use cutting::Cut;
 pub use keeping::first_kept;
 pub use point::{
-    AnswerStep, Behind, ByteCount, CloseStep, Closing, ReadNext, ReadPoint, ReadStep, Reader, Taken,
+    AnswerStep, Behind, ByteCount, CloseStep, Closing, ERESPONSE, FailStep, Lost, ReadNext,
+    ReadPoint, ReadStep, Reader, Taken,
 };
+pub use reading::discarded;

@@ -1,7 +1,7 @@
 ghost use Rattle.std.specs.Prelude.{◌≡◌, ◌≤◌, ◌+◌, nat_lt};
 ghost use Rattle.reader_points.specs.Points.{count_of, room};
 
-use call_points::{Aside, DecideStep, EndStep, LockStep, Locker, OnCall, PostStep};
+use call_points::{Aside, EndStep, LockStep, Locker, PostStep};
 use id_points::{AttemptNumber, CallId};
 use seat_points::{Call, ReleaseStep};
 use sock_words::{IdWord, SocketId};
@@ -71,6 +71,14 @@ pub struct Closing {
     pub next: u16,
 }
 
+/// A call whose attempt of this number went over the link of a reading that has ended: an error of the attempt ends it.
+#[derive(Clone, Copy)]
+pub struct Lost {
+    pub closing: Closing,
+    pub id: CallId,
+    pub attempt: AttemptNumber,
+}
+
 /// What follows the end of a call by a response.
 #[derive(Clone, Copy)]
 pub enum Behind {
@@ -87,6 +95,17 @@ pub enum AnswerStep {
     Take,
     /// and the range of the call of this operation ends.
     End(u16, EndStep),
+}
+
+/// Where the end of a call by an error stands, by whoever has its id locked, which has this word.
+#[derive(Clone, Copy)]
+pub enum FailStep {
+    /// The call is taken out of its home,
+    Take(IdWord),
+    /// its range ends,
+    Judge(IdWord),
+    /// and the slot of the call of this operation may be claimed again.
+    Free(u16),
 }
 
 /// Where the failing of a reader's socket stands.
@@ -120,9 +139,10 @@ pub enum ReadPoint {
     Close(Closing, CloseStep),
     /// The at word of the call of this operation is loaded,
     Load(Closing, u16),
-    /// and where it names the link, the call is told.
-    Post(Closing, OnCall, PostStep),
-    Decide(Closing, OnCall, DecideStep),
+    /// where it names the link, the error is posted to the call's id,
+    Post(Lost, PostStep),
+    /// and whoever gets the lock by that ends the call.
+    Fail(Lost, FailStep),
     /// Behind a frame fault: so many bytes came over this link, and what comes now is thrown away.
     Discard(u16, ByteCount),
 }
@@ -161,12 +181,8 @@ pub enum ReadNext {
     Answered(u16, CallId, Behind),
     /// The next call is looked at.
     Posts(Closing),
-    /// The id of this error is locked and has this word: a kept response ends its call, or the error is decided on.
-    Locked(Closing, OnCall, IdWord),
-    /// The call of this operation and id ended with this code.
-    CallEnded(u16, CallId, u16, Closing),
-    /// A retry is kept: this attempt of the call with this id,
-    Kept(CallId, AttemptNumber, Closing),
-    /// and first this error is decided on, by the word of the locked id.
-    KeptWith(OnCall, AttemptNumber, IdWord, Closing),
+    /// The id of this call is locked and has this word: a kept response ends the call, or the error does.
+    Locked(Lost, IdWord),
+    /// This call, which is that of this operation, ended with the error.
+    CallEnded(u16, Lost),
 }

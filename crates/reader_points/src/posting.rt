@@ -1,17 +1,14 @@
-ghost use Rattle.std.specs.Prelude.{◌==◌, ◌&&◌, not, ◌≡◌, ◌+◌, ◌-◌, ◌≤◌, ℕ};
+ghost use Rattle.std.specs.Prelude.{◌==◌, ◌&&◌, not, ◌≡◌, ◌≤◌, ℕ};
 ghost use Rattle.sock_words.specs.Words.{at_word_link, at_word_slot, at_word_first, at_word_attempt};
-ghost use Rattle.corr_core.specs.Word.{error_of};
 ghost use Rattle.sock_programs.specs.Asides.{call_id};
-ghost use Rattle.sock_programs.specs.Posts.{decided};
 ghost use Rattle.sock_programs.specs.Readers.{posted_last};
-ghost use Rattle.call_points.specs.Points.{decide_on};
 ghost use Rattle.call_points.specs.Steps.{after_word};
-ghost use Rattle.id_points.specs.Ids.{id_of};
+ghost use Rattle.id_points.specs.Ids.{id_of, number_of};
 ghost use Rattle.id_points.specs.Turns.{post_on};
-ghost use Rattle.reader_points.specs.Points.{Around, next_program, load_program, posts_program};
+ghost use Rattle.reader_points.specs.Points.{Around, next_program, load_program, posts_program, on_call, error_in, HasNext};
 
-use crate::point::{Closing, ReadNext, ReadPoint};
-use call_points::{DecideNext, OnCall, PostStep};
+use crate::point::{Closing, Lost, ReadNext, ReadPoint};
+use call_points::{OnCall, PostStep};
 use id_points::{AttemptNumber, CallId, IdError, PostTurn};
 use sock_words::AtWord;
 
@@ -22,18 +19,6 @@ fn link_of(word: AtWord) -> u16
     ((word.word() / 64 % 65_536) as u16).saturating_sub(1)
 }
 
-/// The error of this code for the attempt that this at word names.
-fn error_at(word: AtWord, code: u16) -> OnCall
-    requires { code ≤ 4095 }
-    ensures id { id_of result.id ≡ call_id (at_word_slot word.0) (at_word_first word.0) }
-    ensures error { result.error.0 ≡ error_of code (at_word_attempt word.0) }
-{
-    OnCall {
-        id: CallId::pack(word.slot(), word.first()),
-        error: IdError::of_attempt(code, AttemptNumber::new(word.attempt())),
-    }
-}
-
 impl Closing {
     /// Whether an at word names the reader's link.
     fn is_named(self, word: AtWord) -> bool
@@ -42,50 +27,57 @@ impl Closing {
         word.word() != 0 && link_of(word) == self.reader.link
     }
 
-    /// How it goes on by the at word of a call: where this names the link, its error is posted.
+    /// The call whose at word this is.
+    fn lost_at(self, word: AtWord) -> Lost
+        ensures closing { result.closing ≡ self }
+        ensures id { id_of result.id ≡ call_id (at_word_slot word.0) (at_word_first word.0) }
+        ensures attempt { number_of result.attempt ≡ at_word_attempt word.0 }
+    {
+        Lost {
+            closing: self,
+            id: CallId::pack(word.slot(), word.first()),
+            attempt: AttemptNumber::new(word.attempt()),
+        }
+    }
+
+    /// How it goes on by the at word of a call: where this names the link, an error is posted.
     pub fn loaded(self, found: u64) -> ReadNext
-        ensures { (a : Around) (operation : ℕ) → next_program a result ≡ after_word (load_program a self operation) found }
+        ensures program { (a : Around) (operation : ℕ) → next_program a result ≡ after_word (load_program a self operation) found }
+        ensures hand { (a : Around) → HasNext a result }
     {
         let word = AtWord::from_word(found);
         if self.is_named(word) {
-            let error = error_at(word, self.code());
-            ReadNext::Point(ReadPoint::Post(self, error, PostStep::Load))
+            let lost = self.lost_at(word);
+            ReadNext::Point(ReadPoint::Post(lost, PostStep::Load))
         } else {
             ReadNext::Posts(self)
         }
     }
+}
 
-    /// How it goes on behind the step of a post.
-    pub fn posted(self, error: OnCall, turn: PostTurn) -> ReadNext
-        ensures { (a : Around) → next_program a result ≡ post_on (id_of error.id) error.error.0 (posted_last (id_of error.id) error.error.0 a.kept (posts_program a self)) turn }
+impl Lost {
+    /// The error that ends it: the reading's code, for its attempt.
+    pub fn error(self) -> OnCall
+        ensures { result ≡ on_call self }
     {
-        match turn {
-            PostTurn::Gone | PostTurn::Stale | PostTurn::Crowded(_, _) | PostTurn::Queued => {
-                ReadNext::Posts(self)
-            }
-            PostTurn::Locked(word) => ReadNext::Locked(self, error, word),
-            PostTurn::Again(from) => {
-                ReadNext::Point(ReadPoint::Post(self, error, PostStep::Exchange(from)))
-            }
+        OnCall {
+            id: self.id,
+            error: IdError::of_attempt(self.closing.code(), self.attempt),
         }
     }
 
-    /// How it goes on behind the step of a decision.
-    pub fn decided(self, error: OnCall, next: DecideNext) -> ReadNext
-        ensures { (a : Around) → next_program a result ≡ decide_on a.asked (decided (id_of error.id) (posts_program a self)) error next }
+    /// How it goes on behind the step of the post.
+    pub fn posted(self, turn: PostTurn) -> ReadNext
+        ensures program { (a : Around) → next_program a result ≡ post_on (id_of self.id) (error_in self) (posted_last (id_of self.id) (error_in self) a.kept (posts_program a self.closing)) turn }
+        ensures hand { (a : Around) → HasNext a result }
     {
-        match next {
-            DecideNext::Step(step) => ReadNext::Point(ReadPoint::Decide(self, error, step)),
-            DecideNext::Ended(operation) => {
-                ReadNext::CallEnded(operation, error.id, error.error.code(), self)
+        match turn {
+            PostTurn::Gone | PostTurn::Stale | PostTurn::Crowded(_, _) | PostTurn::Queued => {
+                ReadNext::Posts(self.closing)
             }
-            DecideNext::Kept(attempt) => ReadNext::Kept(error.id, attempt, self),
-            DecideNext::KeptWith(attempt, word, queued) => {
-                let next = OnCall {
-                    id: error.id,
-                    error: queued,
-                };
-                ReadNext::KeptWith(next, attempt, word, self)
+            PostTurn::Locked(word) => ReadNext::Locked(self, word),
+            PostTurn::Again(from) => {
+                ReadNext::Point(ReadPoint::Post(self, PostStep::Exchange(from)))
             }
         }
     }

@@ -1,4 +1,4 @@
-ghost use Rattle.std.specs.Prelude.{◌≡◌, false};
+ghost use Rattle.std.specs.Prelude.{◌≡◌, true};
 ghost use Rattle.sock_programs.specs.Asides.{Taking};
 ghost use Rattle.brpc_model.specs.Frame.{Frame};
 ghost use Rattle.sock_programs.specs.Readers.{answered, is_early, version_in};
@@ -6,7 +6,7 @@ ghost use Rattle.corr_core.specs.Word.{parts};
 ghost use Rattle.sock_programs.specs.Asides.{call_id, id_slot};
 ghost use Rattle.id_points.specs.Ids.{id_of};
 ghost use Rattle.id_points.specs.Turns.{lock_on, sought_as};
-ghost use Rattle.reader_points.specs.Points.{Around, point_program, next_program, frames_behind, with_taking, IsTaken, IsLocker, FitsRoom, MayTake};
+ghost use Rattle.reader_points.specs.Points.{Around, point_program, next_program, frames_behind, with_taking, room, IsTaken, IsLocker, FitsRoom, HasInHand, HasNext};
 ghost use Rattle.reader_points.specs.Steps.{after_taking};
 
 use crate::point::{
@@ -36,9 +36,10 @@ impl Reader {
     }
 
     /// How it goes on by what a take found.
-    fn taken(self, taken: Taken) -> ReadNext
-        requires { FitsRoom self.total taken }
-        ensures { (a : Around) (taking : Taking) → IsTaken taken taking → next_program (with_taking taking a) result ≡ after_taking (point_program a (ReadPoint.Take self)) taking }
+    pub fn taken(self, taken: Taken) -> ReadNext
+        requires { FitsRoom (room self.total) taken }
+        ensures program { (a : Around) (taking : Taking) → IsTaken taken taking → next_program (with_taking taking a) result ≡ after_taking (point_program a (ReadPoint.Take self)) taking }
+        ensures hand { (a : Around) (taking : Taking) → IsTaken taken taking → HasInHand a (ReadPoint.Take self) → HasNext (with_taking taking a) result }
     {
         match taken {
             Taken::Bytes(count) => ReadNext::Frames(Reader {
@@ -55,7 +56,8 @@ impl Reader {
 
     /// How it goes on behind a step on the way to the lock of its response.
     pub fn locked(self, locker: Locker, turn: LockTurn) -> ReadNext
-        ensures { (a : Around) → IsLocker a.frame locker → next_program a result ≡ lock_on locker.slot (sought_as locker.sought) (answered a.frame a.kept (frames_behind a self)) turn }
+        ensures program { (a : Around) → IsLocker a.frame locker → next_program a result ≡ lock_on locker.slot (sought_as locker.sought) (answered a.frame a.kept (frames_behind a self)) turn }
+        ensures hand { (a : Around) → a.fresh ≡ true → IsLocker a.frame locker → HasNext a result }
     {
         match turn {
             LockTurn::NotThere(found) => {
@@ -98,36 +100,22 @@ fn comes_early(locker: Locker, found: IdWord) -> bool
     }
 }
 
-/// How the throwing away goes on by what a take of this link found, over which so many bytes came before.
-fn discarded(link: u16, total: ByteCount, taken: Taken) -> ReadNext
-    requires { FitsRoom total taken }
-    ensures { (a : Around) (taking : Taking) → IsTaken taken taking → next_program (with_taking taking a) result ≡ after_taking (point_program a (ReadPoint.Discard link total)) taking }
+/// Where the throwing away goes on by what a take of this link found, over which so many bytes came before.
+pub fn discarded(link: u16, total: ByteCount, taken: Taken) -> ReadPoint
+    requires { FitsRoom (room total) taken }
+    ensures program { (a : Around) (taking : Taking) → IsTaken taken taking → point_program a result ≡ after_taking (point_program a (ReadPoint.Discard link total)) taking }
+    ensures hand { (a : Around) → HasInHand a (ReadPoint.Discard link total) → HasInHand a result }
 {
     match taken {
         Taken::Bytes(count) => {
             let total = total.plus(count);
             if total.is_below_limit() {
-                ReadNext::Point(ReadPoint::Discard(link, total))
+                ReadPoint::Discard(link, total)
             } else {
-                ReadNext::Point(ReadPoint::Rest)
+                ReadPoint::Rest
             }
         }
-        Taken::Nothing => ReadNext::Point(ReadPoint::Discard(link, total)),
-        Taken::Over => ReadNext::Point(ReadPoint::Rest),
-        Taken::Closed => ReadNext::Point(ReadPoint::Rest),
-    }
-}
-
-impl ReadPoint {
-    /// How a reader goes on by what its take found.
-    pub fn taken(self, taken: Taken) -> ReadNext
-        requires { MayTake self taken }
-        ensures { (a : Around) (taking : Taking) → IsTaken taken taking → next_program (with_taking taking a) result ≡ after_taking (point_program a self) taking }
-    {
-        match self {
-            ReadPoint::Take(reader) => reader.taken(taken),
-            ReadPoint::Discard(link, total) => discarded(link, total, taken),
-            _ => ReadNext::Point(ReadPoint::Rest),
-        }
+        Taken::Nothing => ReadPoint::Discard(link, total),
+        Taken::Over | Taken::Closed => ReadPoint::Rest,
     }
 }

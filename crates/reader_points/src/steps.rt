@@ -4,7 +4,7 @@ ghost use Rattle.id_points.specs.Ids.{id_of};
 ghost use Rattle.call_points.specs.Steps.{aside_in};
 ghost use Rattle.call_points.specs.Steps as asides;
 ghost use Rattle.seat_points.specs.Steps.{OfCall, step_of, first_in};
-ghost use Rattle.reader_points.specs.Points.{Around, close_program, answer_program, point_program, code_by, room};
+ghost use Rattle.reader_points.specs.Points.{Around, close_program, answer_program, point_program, code_by, room, GoesBy};
 ghost use Rattle.reader_points.specs.Steps.{step_as};
 
 use crate::point::{AnswerStep, Behind, ByteCount, CloseStep, Closing, ELOGOFF, ERESPONSE, ReadPoint, ReadStep};
@@ -52,7 +52,8 @@ impl AnswerStep {
 impl ReadPoint {
     /// The next step, if there is one.
     pub fn step(self) -> Option<ReadStep>
-        ensures { (a : Around) → option_map (step_as a.asked) result ≡ first_in (point_program a self) }
+        ensures program { (a : Around) → option_map (step_as a.asked) result ≡ first_in (point_program a self) }
+        ensures kind { GoesBy self result }
     {
         match self {
             ReadPoint::Rest => None,
@@ -62,8 +63,8 @@ impl ReadPoint {
             ReadPoint::Answer(_, id, step) => Some(ReadStep::Aside(step.aside(id))),
             ReadPoint::Close(closing, step) => Some(ReadStep::Call(step.call(closing))),
             ReadPoint::Load(_, operation) => Some(ReadStep::Aside(Aside::LoadAt(operation))),
-            ReadPoint::Post(_, error, step) => Some(ReadStep::Aside(error.post_step(step))),
-            ReadPoint::Decide(_, error, step) => Some(ReadStep::Aside(error.decide_step(step))),
+            ReadPoint::Post(lost, step) => Some(ReadStep::Aside(lost.error().post_step(step))),
+            ReadPoint::Fail(lost, step) => Some(ReadStep::Aside(lost.fail_step(step))),
             ReadPoint::Discard(link, total) => taking(link, total),
         }
     }

@@ -1,0 +1,94 @@
+-- A program at its next step says nothing before it, and what follows something that is said.
+use Rattle.std.proofs.Common.{◌≡◌, ℕ, List, [], Option, Some, refl, sym, ap, subst, ◌∙◌}
+use Rattle.std.specs.Prelude.{slice_set}
+use Rattle.sock_words.specs.declared.outcome.Outcome.{Outcome}
+use Rattle.sock_programs.specs.Cores.{resolved, still_waiting, said, next_step}
+use Rattle.sock_programs.specs.Programs.{Program, Do, Say, Sent, Rest, TakeMessage, TakeHome, PutHome, PutBytes, AskReady, Write, Aside, Round, Keep, Retries}
+use Rattle.call_points.specs.declared.ending.EndStep.TheVariants as ends
+use Rattle.call_points.specs.declared.locking.LockStep.TheVariants as locks
+use Rattle.call_points.specs.declared.posting.PostStep.TheVariants as posts
+use Rattle.seat_points.specs.declared.point.ReleaseStep.TheVariants as releases
+use Rattle.reader_points.specs.declared.point.AnswerStep.TheVariants as answers
+use Rattle.reader_points.specs.declared.point.CloseStep.TheVariants as closes
+use Rattle.reader_points.specs.declared.point.FailStep.TheVariants as fails
+use Rattle.reader_points.specs.declared.point.ReadPoint.{ReadPoint}
+use Rattle.reader_points.specs.declared.point.ReadPoint.TheVariants as points
+use Rattle.reader_points.specs.Points.{Around, point_program}
+use Rattle.reader_seats.specs.Readers.{ReaderData, around, reader_program}
+use Rattle.reader_seats.specs.GoesOn.{GoesOn}
+
+-- its next step comes first
+pub record IsReached (program : Program) : Type 0 where
+  pub resolved_same : resolved [] program ≡ program
+  pub same : next_step program ≡ program
+  pub silent : (os : List (Option Outcome)) → said program os ≡ os
+  pub none_kept : still_waiting [] program ≡ []
+
+abbrev HasStep : Program → Type 0
+HasStep (Say o outcome next) = ⊥
+HasStep (Sent o next) = ⊥
+HasStep (Keep r next) = ⊥
+HasStep (Retries requests after) = ⊥
+HasStep other = Unit {0}
+
+reached : (program : Program) → HasStep program → IsReached program
+reached (Say o outcome next) h = absurd h
+reached (Sent o next) h = absurd h
+reached (Keep r next) h = absurd h
+reached (Retries requests after) h = absurd h
+reached (Do call next) h = record { resolved_same = refl; same = refl; silent = λ os. refl; none_kept = refl }
+reached Rest h = record { resolved_same = refl; same = refl; silent = λ os. refl; none_kept = refl }
+reached (TakeMessage q next) h = record { resolved_same = refl; same = refl; silent = λ os. refl; none_kept = refl }
+reached (TakeHome k next) h = record { resolved_same = refl; same = refl; silent = λ os. refl; none_kept = refl }
+reached (PutHome k n after) h = record { resolved_same = refl; same = refl; silent = λ os. refl; none_kept = refl }
+reached (PutBytes k asked bytes next) h = record { resolved_same = refl; same = refl; silent = λ os. refl; none_kept = refl }
+reached (AskReady k next) h = record { resolved_same = refl; same = refl; silent = λ os. refl; none_kept = refl }
+reached (Write w after) h = record { resolved_same = refl; same = refl; silent = λ os. refl; none_kept = refl }
+reached (Aside step next) h = record { resolved_same = refl; same = refl; silent = λ os. refl; none_kept = refl }
+reached (Round head next) h = record { resolved_same = refl; same = refl; silent = λ os. refl; none_kept = refl }
+
+has_step : (a : Around) (point : ReadPoint) → HasStep (point_program a point)
+has_step a points.Rest = tt
+has_step a (points.Open link o) = tt
+has_step a (points.Take r) = tt
+has_step a (points.Lock r l locks.Read) = tt
+has_step a (points.Lock r l (locks.Exchange from)) = tt
+has_step a (points.Answer b id answers.Take) = tt
+has_step a (points.Answer b id (answers.End o ends.End)) = tt
+has_step a (points.Answer b id (answers.End o ends.Free)) = tt
+has_step a (points.Close c closes.AddRef) = tt
+has_step a (points.Close c closes.SetOdd) = tt
+has_step a (points.Close c closes.StoreCode) = tt
+has_step a (points.Close c closes.GiveBack) = tt
+has_step a (points.Close c (closes.Release releases.SubRef)) = tt
+has_step a (points.Close c (closes.Release (releases.Recycle from))) = tt
+has_step a (points.Close c (closes.Release (releases.LoadLink w))) = tt
+has_step a (points.Close c (closes.Release (releases.TakeLink w k))) = tt
+has_step a (points.Close c (closes.Release (releases.FinishLink w k))) = tt
+has_step a (points.Close c (closes.Release (releases.PutLink w k))) = tt
+has_step a (points.Close c (closes.Release releases.FreeSlot)) = tt
+has_step a (points.Load c o) = tt
+has_step a (points.Post l posts.Load) = tt
+has_step a (points.Post l (posts.Exchange from)) = tt
+has_step a (points.Fail l (fails.Take word)) = tt
+has_step a (points.Fail l (fails.Judge word)) = tt
+has_step a (points.Fail l (fails.Free o)) = tt
+has_step a (points.Discard link total) = tt
+
+module _ (calls : List ℕ) (reader : ReaderData) (program : Program) (is : reader_program calls reader ≡ program) (os : List (Option Outcome)) where
+  is_reached : IsReached program
+  is_reached = subst IsReached is (reached (reader_program calls reader) (has_step (around calls reader) reader.point))
+
+  resolved_is : reader_program calls reader ≡ next_step (resolved [] program)
+  resolved_is = is ∙ sym is_reached.same ∙ ap next_step (sym is_reached.resolved_same)
+
+  said_is : (us : List (Option Outcome)) → us ≡ said (resolved [] program) us
+  said_is us = sym (is_reached.silent us) ∙ ap (λ p. said p us) (sym is_reached.resolved_same)
+
+  -- it is at its next step
+  pub goes_to : GoesOn calls program reader os os
+  goes_to = record { program = resolved_is; told = said_is os; waiting = is_reached.none_kept }
+
+  -- behind an outcome that is said
+  pub goes_behind : (o : ℕ) (outcome : Outcome) → GoesOn calls (Say o outcome program) reader os (slice_set os o (Some outcome))
+  goes_behind o outcome = record { program = resolved_is; told = said_is (slice_set os o (Some outcome)); waiting = is_reached.none_kept }

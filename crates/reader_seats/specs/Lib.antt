@@ -1,0 +1,4 @@
+pub mod Readers
+pub mod Hands
+pub mod Inside
+pub mod GoesOn

@@ -1,0 +1,32 @@
+-- What the reader of a link has still to do, and what it has in hand.
+use Rattle.std.specs.Prelude.{ℕ, Bool, List, [], Option, Some, None}
+use Rattle.brpc_model.specs.Frame.{Frame}
+use Rattle.sock_message.specs.Asked.{Asked}
+use Rattle.sock_programs.specs.Programs.{Program}
+use Rattle.reader_points.specs.declared.point.ReadPoint.{ReadPoint}
+use Rattle.reader_points.specs.Points.{Around, point_program}
+
+-- without a call in hand nothing is asked
+abbrev pub nothing_asked : Asked
+nothing_asked = record { operation = 0; names = []; service = []; method = []; payload = []; attachment = []; range = 0 }
+
+abbrev pub asked_of : Option Asked → Asked
+asked_of None = nothing_asked
+asked_of (Some asked) = asked
+
+-- a reader: where it stands, the bytes behind the last frame that was cut, the responses kept, the response in hand, whether that is a
+-- fresh one, which isn't kept, and the call in hand
+pub record ReaderData : Type 0 where
+  pub point : ReadPoint
+  pub held : List ℕ
+  pub kept : List Frame
+  pub frame : Frame
+  pub fresh : Bool
+  pub asked : Asked
+
+-- what stands round its point, over these calls
+abbrev pub around : List ℕ → ReaderData → Around
+around calls r = record { calls = calls; held = r.held; kept = r.kept; frame = r.frame; fresh = r.fresh; asked = r.asked }
+
+abbrev pub reader_program : List ℕ → ReaderData → Program
+reader_program calls r = point_program (around calls r) r.point

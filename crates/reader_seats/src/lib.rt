@@ -1,0 +1,10 @@
+//! The seat of the reader of a link: where it stands in its program, and what it has in hand. It makes no step itself.
+#![tactic(auto)]
+
+pub mod hand;
+pub mod outcomes;
+pub mod taking;
+pub mod seat;
+
+pub use outcomes::tell;
+pub use seat::ReaderSeat;

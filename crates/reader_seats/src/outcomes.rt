@@ -1,0 +1,73 @@
+ghost use Rattle.std.specs.Prelude.{◌≡◌, OnOk, Option, Some, slice_set};
+ghost use Rattle.prpc_frame.specs.Meaning.{frame_of};
+ghost use Rattle.sock_programs.specs.Readers.{ending_of};
+ghost use Rattle.id_points.specs.Ids.{id_of};
+ghost use Rattle.reader_points.specs.Points.{code_by};
+
+use io_buf::{IoBuf, NoMemory};
+use prpc_frame::Frame;
+use reader_points::{ERESPONSE, Lost};
+use sock_words::{OutBytes, Outcome};
+use std::alloc::Global;
+
+/// The operation of this number has this outcome.
+pub fn tell(outcomes: &mut [Option<Outcome>], operation: u16, outcome: Outcome)
+    ensures { outcomes.new ≡ slice_set outcomes.old operation (Some outcome) }
+{
+    let place = usize::from(operation);
+    if place < outcomes.len() {
+        outcomes[place] = Some(outcome);
+    }
+}
+
+/// A copy of these bytes.
+fn copied(alloc: Global, bytes: &IoBuf) -> Result<OutBytes, NoMemory>
+    ensures { OnOk result (λ out. out ≡ bytes.now.items) }
+{
+    let mut copy = vec![in alloc; 0; bytes.len()]?;
+    bytes.copy_to(&mut copy);
+    Ok(OutBytes::new(copy))
+}
+
+/// The outcome that a response gives the call with this id.
+pub fn ending(alloc: Global, id: u64, frame: &Frame) -> Result<Outcome, NoMemory>
+    ensures { OnOk result (λ outcome. outcome ≡ ending_of id (frame_of frame.now)) }
+{
+    match &frame.meta.response {
+        Some(response) if frame.meta.compress_type == 0 => {
+            if response.code == 0 {
+                Ok(Outcome::Answered {
+                    id,
+                    payload: copied(alloc, &frame.payload)?,
+                    attachment: copied(alloc, &frame.attachment)?,
+                })
+            } else {
+                Ok(Outcome::Peer {
+                    id,
+                    code: response.code,
+                })
+            }
+        }
+        _ => Ok(unread(id)),
+    }
+}
+
+/// The outcome of the call with this id where its response can't be read.
+pub fn unread(id: u64) -> Outcome
+    ensures { result ≡ Outcome.CallFailed id 2002 }
+{
+    Outcome::CallFailed {
+        id,
+        code: ERESPONSE,
+    }
+}
+
+/// The outcome of a call that ended with the error of its link.
+pub fn failed(lost: Lost) -> Outcome
+    ensures { result ≡ Outcome.CallFailed (id_of lost.id) (code_by lost.closing.fault) }
+{
+    Outcome::CallFailed {
+        id: lost.id.number(),
+        code: lost.closing.code(),
+    }
+}
