@@ -12,6 +12,9 @@ use Rattle.sock_programs.specs.Cores.{Calls}
 use Rattle.sock_programs.specs.Posts.{advance_of}
 use Rattle.sock_programs.specs.Scripts.{opening_ids}
 use lib.ListN.{get_elem?}
+use Rattle.sock_programs.specs.Beside.{found_in}
+use Rattle.call_points.specs.declared.aside.Aside.{Aside}
+use Rattle.call_points.specs.declared.aside.Aside.TheVariants as code
 
 pub record SlotsData : Type 0 where
   pub plan : IdPlan
@@ -51,3 +54,35 @@ FitsSlots s (EndId i) = i < s.plan.slots
 FitsSlots s (FreeId i) = i < s.plan.slots
 FitsSlots s (TakeCall i) = (i < s.plan.slots) × ((asked : Asked) × (call_at (get_elem? s.homes i) ≡ core.some asked))
 FitsSlots s (TakeBytes k room) = Unit {0}
+
+-- the word that a step aside found, where it finds a word
+abbrev pub word_found : (step : Step) → Found step → ℕ
+word_found (ClaimId i) found = found
+word_found (PutCall i asked) found = found
+word_found (MakeId i range) found = found
+word_found (StoreCall o id) found = found
+word_found (LoadCall o) found = found
+word_found (StoreAt o w) found = found
+word_found (LoadAt o) found = found
+word_found (LoadIdWord i) found = found
+word_found (LockId i from) found = found
+word_found (PostId i from e) found = found
+word_found (UnlockId i from advance) found = found
+word_found (EndId i) found = found
+word_found (FreeId i) found = found
+word_found (TakeCall i) asked = 0
+word_found (TakeBytes k room) taking = 0
+
+-- a step on the ids finds this word, and makes this of their table
+pub record FindsAside (step : Step) (old fresh : SlotsData) (word : ℕ) : Type 0 where
+  pub found : Found step
+  pub finds : (waiting : List (List Retry)) (gave : List (List ℕ)) (ending : Bool) → found_in step (calls_with old waiting gave ending) core.none ≡ core.some found
+  pub is : word_found step found ≡ word
+  pub made : fresh ≡ slots_after step found old
+
+-- it finds a word, and no call goes into its home
+abbrev pub IsOnWord : Aside → Type 0
+IsOnWord (code.PutCall i) = ⊥
+IsOnWord (code.TakeCall i) = ⊥
+IsOnWord (code.TakeBytes k room) = ⊥
+IsOnWord other = Unit {0}

@@ -8,7 +8,7 @@ use Rattle.brpc_model.specs.Link.{LinkEnd}
 use Rattle.sock_io.specs.Link.{OutState, InState, SameOut, PutStep, FinishStep, end_of}
 use Rattle.sock_io.specs.declared.link.Put.{Put}
 use Rattle.sock_message.specs.Pieces.{OnItsWay, piece}
-use Rattle.sock_core.specs.Seats.{left_of, taken_of}
+use Rattle.client_seats.specs.Seats.{left_of, taken_of}
 use Rattle.sock_runs.proofs.Along.{place_inside}
 use Rattle.sock_core.specs.Steps.{SameLink, AskedAt}
 

@@ -7,7 +7,7 @@ use Rattle.sock_programs.specs.Programs.{Program}
 use Rattle.sock_programs.specs.Clients.{HeldLife, client_from}
 use Rattle.sock_programs.specs.Cores.{said, next_step}
 use Rattle.sock_programs.specs.Scripts.{free_slot, free_slots, programs}
-use Rattle.sock_core.specs.Seats.{SeatData, seat_program}
+use Rattle.client_seats.specs.Seats.{SeatData, seat_program}
 use Rattle.sock_core.specs.Beginnings.{AreBegun, said_first}
 
 assoc : {A : Type 0} (xs ys zs : List A) → (xs ++ ys) ++ zs ≡ xs ++ (ys ++ zs)

@@ -14,7 +14,7 @@ use Rattle.sock_model.specs.declared.home.Home.TheVariants.{Link}
 use Rattle.sock_programs.specs.Programs.{Program}
 use Rattle.sock_programs.specs.Cores.{Core, SeatState, lies_at, link_place, next_step, with_seat}
 use Rattle.sock_core.specs.declared.letter.Letter.{Letter}
-use Rattle.sock_core.specs.Seats.{SeatData}
+use Rattle.client_seats.specs.Seats.{SeatData}
 use Rattle.sock_core.specs.Links.{LinksData, Taken, holder_of, is_done, link_with, homes_of, hand_of}
 use Rattle.sock_core.specs.Machines.{MachineState, table_of, seat_state, seats_with, core_with}
 use Rattle.sock_core.specs.Steps.{Goes}

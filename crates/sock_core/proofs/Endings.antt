@@ -20,7 +20,7 @@ use Rattle.sock_programs.specs.Scripts.{sizes_of}
 use Rattle.seat_points.specs.declared.point.Step.{Step}
 use Rattle.sock_core.specs.declared.machine.Tick.{Tick}
 use Rattle.sock_core.specs.declared.machine.Tick.TheVariants as ticks
-use Rattle.sock_core.specs.Seats.{SeatData, seat_program}
+use Rattle.client_seats.specs.Seats.{SeatData, seat_program}
 use Rattle.sock_core.specs.Links.{LinksData, Taken, Agrees, ArePrompt, IsPaced}
 use Rattle.sock_core.specs.Machines.{MachineState, IsMachine, ArePaced, MOST_LEFT, seats_with, core_with, ending_by}
 use Rattle.sock_core.specs.Steps.{NextIs}

@@ -20,7 +20,7 @@ use Rattle.sock_programs.specs.Ticks.{Answer, Unasked, Moment, quiet, seats_of, 
 use Rattle.sock_programs.specs.Runs.{kind_in, IsAtRest}
 use Rattle.sock_core.specs.declared.machine.Tick.{Tick}
 use Rattle.sock_core.specs.declared.machine.Tick.TheVariants as ticks
-use Rattle.sock_core.specs.Seats.{SeatData}
+use Rattle.client_seats.specs.Seats.{SeatData}
 use Rattle.sock_core.specs.Links.{LinksData, Taken, Agrees, ArePrompt}
 use Rattle.sock_core.specs.Steps.{SameLink}
 use Rattle.sock_core.specs.Machines.{MachineState, core_with, seats_with}

@@ -31,7 +31,7 @@ use Rattle.report_fits.proofs.TaskLemmas.{tasks_length}
 use Rattle.report_fits.proofs.Tasks.{tasks_of_script}
 use Rattle.whole_runs.proofs.Lengths.{opens_in_range}
 use Rattle.whole_runs.proofs.Starts.{within_limits}
-use Rattle.sock_core.specs.Seats.{SeatData, seat_program}
+use Rattle.client_seats.specs.Seats.{SeatData, seat_program}
 use Rattle.sock_core.specs.Links.{LinksData, Agrees, ArePrompt}
 use Rattle.sock_core.specs.Machines.{MachineState, core_with}
 use Rattle.sock_core.specs.Runs.{RanFirst}

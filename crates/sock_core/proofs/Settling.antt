@@ -23,7 +23,7 @@ use Rattle.sock_programs.specs.Cores.{Core, SeatState, word_of, found_at, hand_a
 use Rattle.sock_programs.specs.Ticks.{Answer, Unasked, OfPut, OfReady, quiet, fed, onto_first, with_message, with_link, with_put, with_ready, step_with, tick_with, ticked, run}
 use Rattle.sock_programs.specs.Runs.{kind_in, IsAtRest, IsSettled, from_to, rounds}
 use Rattle.sock_core.specs.declared.machine.Tick.{Tick}
-use Rattle.sock_core.specs.Seats.{SeatData}
+use Rattle.client_seats.specs.Seats.{SeatData}
 use Rattle.sock_core.specs.Links.{LinksData, Taken, Agrees, ArePrompt}
 use Rattle.sock_core.specs.Steps.{SameLink}
 use Rattle.sock_core.specs.Machines.{MachineState, core_with, seats_with, ending_by}

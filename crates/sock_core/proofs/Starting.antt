@@ -20,7 +20,7 @@ use Rattle.sock_programs.specs.Scripts.{sizes_of, programs, beginning, opening_h
 use Rattle.sock_programs.specs.Told.{AreTasks}
 use Rattle.sock_runs.specs.Sound.{IsWithinLimits}
 use Rattle.sock_core.specs.declared.letter.Letter.{Letter}
-use Rattle.sock_core.specs.Seats.{SeatData, seat_program}
+use Rattle.client_seats.specs.Seats.{SeatData, seat_program}
 use Rattle.sock_core.specs.Links.{LinksData, Agrees, IsPaced, holder_of, link_home, homes_of, letter_home}
 use Rattle.sock_core.specs.Machines.{MachineState, IsMachine, ArePaced, seats_with, core_with}
 use Rattle.sock_core.proofs.Hands.{HasNone, hand_none}

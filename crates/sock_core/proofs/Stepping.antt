@@ -27,7 +27,7 @@ use Rattle.seat_points.specs.declared.point.Next.{Next}
 use Rattle.seat_points.specs.declared.point.Step.{Step}
 use Rattle.seat_points.specs.Points.{Around, point_program, next_program, with_message, with_put, is_whole, after_word, after_message, after_put}
 use Rattle.sock_programs.specs.Ticks.{Answer}
-use Rattle.sock_core.specs.Seats.{SeatData, around, seat_program, bytes_of, left_of, taken_of}
+use Rattle.client_seats.specs.Seats.{SeatData, around, seat_program, bytes_of, left_of, taken_of}
 use Rattle.brpc_model.specs.Link.{LinkEnd}
 use Rattle.sock_io.specs.Link.{OutState}
 use Rattle.sock_core.specs.Links.{LinksData}

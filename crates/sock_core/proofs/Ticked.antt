@@ -31,7 +31,7 @@ use Rattle.seat_points.specs.Steps.{First, OfCall, OfMessage, OfLink, OfHome, st
 use Rattle.seat_points.specs.Steps as kinds
 use Rattle.seat_points.proofs.StepFacts.{puts_home, asks}
 use Rattle.sock_core.specs.declared.letter.Letter.{Letter}
-use Rattle.sock_core.specs.Seats.{SeatData, around, seat_program}
+use Rattle.client_seats.specs.Seats.{SeatData, around, seat_program}
 use Rattle.sock_core.specs.Links.{LinksData, Taken, Agrees, IsPaced, holder_of, is_done, link_with, homes_of, hand_of, letter_home}
 use Rattle.sock_core.specs.Machines.{MachineState, ArePaced, table_of, seat_state, core_with}
 use Rattle.sock_core.specs.Steps.{IsSized, NextIs, OutsAfter, CallMade, MessageTaken, LinkTaken, LinkPut, LinkAsked, Made, SteppedTo, letters_after, holders_after}

@@ -12,7 +12,7 @@ use Rattle.sock_programs.specs.Scripts.{opening_words, opening_ids, programs, re
 use Rattle.call_slots.specs.Slots.{SlotsData, new_slots}
 use Rattle.reader_seats.specs.Readers.{ReaderData, reader_program}
 use Rattle.sock_core.specs.declared.letter.Letter.{Letter}
-use Rattle.sock_core.specs.Seats.{SeatData, seat_program}
+use Rattle.client_seats.specs.Seats.{SeatData, seat_program}
 
 -- each seat is before the first step of its client, and keeps no retry
 abbrev pub AreBegun : Sizes → List SeatData → List (List Task) → Type 0
@@ -20,7 +20,7 @@ AreBegun sizes seats clients = (map (seat_program sizes) seats ≡ map (λ (prog
 
 -- and each reader is before the first step of its own
 abbrev pub AreReading : List ℕ → List ℕ → List ReaderData → Type 0
-AreReading calls opens readers = (map (reader_program calls) readers ≡ readers_from calls 0 opens) × AllByRecursion (λ (r : ReaderData). r.waiting ≡ []) readers
+AreReading calls opens readers = map (reader_program calls) readers ≡ readers_from calls 0 opens
 
 -- what these programs say before their first steps, on top of this
 abbrev pub said_first : List (Option Outcome) → List Program → List (Option Outcome)

@@ -1,4 +1,3 @@
-pub mod Seats
 pub mod Links
 pub mod Machines
 pub mod Steps

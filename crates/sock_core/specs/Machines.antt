@@ -21,7 +21,7 @@ use Rattle.id_runs.specs.Goes.{SoundIds}
 use Rattle.call_slots.specs.Slots.{SlotsData, calls_with}
 use Rattle.reader_seats.specs.Readers.{ReaderData, reader_program}
 use Rattle.sock_core.specs.declared.letter.Letter.{Letter}
-use Rattle.sock_core.specs.Seats.{SeatData, seat_program}
+use Rattle.client_seats.specs.Seats.{SeatData, seat_program}
 use Rattle.sock_core.specs.Links.{LinksData, Taken, Given, Agrees, AgreesGave, IsPaced, homes_of, hand_of}
 
 -- a machine: the sizes of its table, the words, the messages at the homes of requests, the links, the table of the ids, the operations that
@@ -95,9 +95,9 @@ resting = record { program = Rest; hand = [] }
 abbrev pub seats_with : MachineState → Taken → List SeatState
 seats_with m took = clients_with m.plan m.links took (machine_sizes m) 0 m.seats ++ (replicate (between m.seats) resting ++ readers_with m.plan m.links took m.calls READERS m.readers)
 
--- the retries that wait at each seat
+-- the retries that wait at each seat: no reader keeps any
 abbrev pub waiting_of : List SeatData → List ReaderData → List (List Retry)
-waiting_of seats readers = map (λ (s : SeatData). s.waiting) seats ++ (replicate (between seats) [] ++ map (λ (r : ReaderData). r.waiting) readers)
+waiting_of seats readers = map (λ (s : SeatData). s.waiting) seats ++ (replicate (between seats) [] ++ map (λ (r : ReaderData). []) readers)
 
 -- what each of so many links gave
 abbrev pub given_by : ℕ → Given → List (List ℕ)

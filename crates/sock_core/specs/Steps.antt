@@ -16,7 +16,7 @@ use Rattle.sock_programs.specs.Programs.{Program, Aside}
 use Rattle.sock_programs.specs.Cores.{Calls, word_of, found_at, words_after, word_after, resolved, still_waiting, next_step, said}
 use Rattle.sock_programs.specs.Ticks.{Answer, Unasked, OfPut, OfReady}
 use Rattle.sock_runs.specs.Sound.{AllowsWord, first_step}
-use Rattle.call_slots.specs.Slots.{FitsSlots, calls_with, slots_after}
+use Rattle.call_slots.specs.Slots.{FitsSlots, calls_with, slots_after, word_found}
 use Rattle.call_points.specs.Steps as aside_steps
 use Rattle.seat_points.specs.declared.point.Step.{Step}
 use Rattle.seat_points.specs.declared.point.Step.TheVariants as firsts
@@ -24,7 +24,7 @@ use Rattle.seat_points.specs.Points.{IsWithin, IsWithinIds, MayFind, MayFindAsid
 use Rattle.seat_points.specs.Steps.{First, OfCall, OfAside, OfMessage, OfLink, OfHome, step_of, step_as, first_in}
 use Rattle.seat_points.specs.Steps as kinds
 use Rattle.sock_core.specs.declared.letter.Letter.{Letter}
-use Rattle.sock_core.specs.Seats.{SeatData, around, seat_program, bytes_of, parts_of, left_of, taken_of, left_parts_of, asked_of}
+use Rattle.client_seats.specs.Seats.{SeatData, around, seat_program, bytes_of, parts_of, left_of, taken_of, left_parts_of, asked_of}
 use Rattle.sock_core.specs.Runs.{SameLink}
 use Rattle.sock_core.specs.Machines.{MachineState, TableState, machine_sizes, table_of, table_sizes}
 
@@ -93,24 +93,6 @@ pub record MayStand (seat : SeatData) : Type 0 where
 -- what stands aside of the sockets, for steps on the ids
 abbrev pub beside : TableState → Calls
 beside t = calls_with t.ids [] [] t.ending
-
--- the word that a step aside found, where it finds a word
-abbrev pub word_found : (step : asides.Step) → Found step → ℕ
-word_found (asides.ClaimId i) found = found
-word_found (asides.PutCall i asked) found = found
-word_found (asides.MakeId i range) found = found
-word_found (asides.StoreCall o id) found = found
-word_found (asides.LoadCall o) found = found
-word_found (asides.StoreAt o w) found = found
-word_found (asides.LoadAt o) found = found
-word_found (asides.LoadIdWord i) found = found
-word_found (asides.LockId i from) found = found
-word_found (asides.PostId i from e) found = found
-word_found (asides.UnlockId i from advance) found = found
-word_found (asides.EndId i) found = found
-word_found (asides.FreeId i) found = found
-word_found (asides.TakeCall i) asked = 0
-word_found (asides.TakeBytes k room) taking = 0
 
 -- what it finds is as the point relies on
 abbrev pub FindsFitting : TableState → SeatData → asides.Step → Type 0

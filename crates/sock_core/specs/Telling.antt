@@ -1,15 +1,21 @@
 -- What a tick of a client answers of a step.
-use Rattle.std.specs.Prelude.{ℕ, ◌≡◌, Bool, true, false, [], slice_set, Option, Some, None}
+use Rattle.std.specs.Prelude.{ℕ, ◌≡◌, ◌==◌, ◌&&◌, not, Bool, true, false, [], slice_set, Option, Some, None}
 use mathlib.Core.Option as core
 use lib.ListN.{get_elem?}
-use Rattle.sock_programs.specs.Programs.{Program}
+use Rattle.corr_core.specs.Word.{parts}
+use Rattle.sock_model.specs.Memory.{UNCONNECTED}
+use Rattle.sock_programs.specs.Asides.{id_first}
+use Rattle.sock_programs.specs.Heads.{Locks, Joins, Opens}
+use Rattle.sock_programs.specs.Posts.{is_first, is_sought}
+use Rattle.sock_programs.specs.Writings as heads
+use Rattle.sock_programs.specs.Programs.{Program, Write, Round}
 use Rattle.sock_programs.specs.Ticks.{Answer, waits_at}
 use Rattle.sock_programs.specs.Runs.{kind_in}
 use Rattle.sock_core.specs.declared.machine.On.{On}
 use Rattle.sock_core.specs.declared.machine.Tick.{Tick}
 use Rattle.sock_core.specs.declared.machine.Tick.TheVariants.{Moved, Waits, Idle}
 use Rattle.seat_points.specs.declared.point.Step.{Step}
-use Rattle.sock_core.specs.Seats.{SeatData, seat_program}
+use Rattle.client_seats.specs.Seats.{SeatData, seat_program}
 use Rattle.sock_core.specs.Machines.{MachineState, TableState, table_of, table_sizes}
 use Rattle.sock_core.specs.Runs.{IsWaitingFor}
 use Rattle.sock_core.specs.Steps.{Makes, beside}
@@ -17,6 +23,14 @@ use Rattle.sock_core.specs.Steps.{Makes, beside}
 -- whether a seat waits, by the words of the tables
 abbrev pub is_waiting : TableState → Answer → Program → Bool
 is_waiting t answer program = waits_at t.plan (record { words = t.words; homes = []; seats = []; outcomes = []; calls = beside t }) answer program
+
+-- whether a seat waits whose step found this word
+abbrev pub waits_by : Program → ℕ → Bool
+waits_by (Write (heads.Walks h top at after) then_) found = found == UNCONNECTED
+waits_by (Round (Locks i sought None) next) found = let w = parts found in is_sought sought w && not (w.state == 1)
+waits_by (Round (Joins id) next) found = is_first (id_first id) (parts found)
+waits_by (Round (Opens o) next) found = found == 0
+waits_by other found = false
 
 -- what the tick answers in which the link answered this
 abbrev pub Tells : TableState → Program → Answer → Tick → Type 0

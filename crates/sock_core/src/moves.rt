@@ -2,39 +2,44 @@ ghost use Rattle.std.specs.Prelude.{◌≡◌, ◌≢◌, ◌<◌, ℕ, [], Some
 ghost use mathlib.Core.Option.{some};
 ghost use lib.ListN.{get_elem?};
 ghost use Rattle.sock_core.specs.declared.letter.Letter.{Letter};
-ghost use Rattle.sock_core.specs.Seats.{bytes_of};
+ghost use Rattle.client_seats.specs.Seats.{bytes_of, parts_of};
 
 use crate::letter::Letter;
-use sock_message::{Message, Outgoing};
+use message_parts::{OutgoingParcel, Parcel};
+use seat_points::Author;
 
-/// The message that a seat has goes to the home of a request, for this operation.
+/// The message that a seat has goes to the home of a request, for its author.
 pub fn put_message(
     letters: &mut [Option<Letter>],
     request: u16,
-    operation: u16,
-    message: &mut Option<Message>,
+    author: Author,
+    message: &mut Option<Parcel>,
 )
     requires there { request < length letters.old }
     requires some { bytes_of message.old ≢ [] }
-    ensures letters { letters.new ≡ slice_set letters.old request (Some (record { operation = operation; message = bytes_of message.old })) }
+    ensures letters { letters.new ≡ slice_set letters.old request (Some (record { author = author; message = record { bytes = bytes_of message.old; parts = parts_of message.old } })) }
 {
     if let Some(message) = message.take() {
-        letters[usize::from(request)] = Some(Letter { operation, message });
+        letters[usize::from(request)] = Some(Letter { author, message });
     }
 }
 
-/// The message of a request is taken out of its home; the operation that sent it.
-pub fn take_message(letters: &mut [Option<Letter>], request: u16, out: &mut Option<Outgoing>) -> u16
+/// The message of a request is taken out of its home; who sent it.
+pub fn take_message(
+    letters: &mut [Option<Letter>],
+    request: u16,
+    out: &mut Option<OutgoingParcel>,
+) -> Author
     requires there { (letter : Letter) × (get_elem? letters.old request ≡ some (Some letter)) }
-    ensures taken { (letter : Letter) × (get_elem? letters.old request ≡ some (Some letter)) × (result ≡ letter.operation) × (out.new ≡ Some (record { left = letter.message; taken = 0 })) }
+    ensures taken { (letter : Letter) × (get_elem? letters.old request ≡ some (Some letter)) × (result ≡ letter.author) × (out.new ≡ Some (record { left = letter.message.bytes; taken = 0; parts = letter.message.parts })) }
     ensures letters { letters.new ≡ slice_set letters.old request None }
 {
     match letters[usize::from(request)].take() {
         Some(letter) => {
             *out = Some(letter.message.begin());
-            letter.operation
+            letter.author
         }
-        None => 0,
+        None => Author::Send(0),
     }
 }
 

@@ -1,6 +1,6 @@
 ghost use Rattle.std.specs.Prelude.{◌≡◌, ◌*◌, ◌≤◌, [], None, IfOk, OnOk, ◌++◌, map, replicate, vec_capacity};
 ghost use Rattle.sock_programs.specs.Scripts.{free_slot, free_slots, opening_words, programs};
-ghost use Rattle.sock_core.specs.Seats.{seat_data};
+ghost use Rattle.client_seats.specs.Seats.{seat_data};
 ghost use Rattle.sock_core.specs.Beginnings.{AreBegun, AreParts, said_first};
 
 use crate::letter::Letter;

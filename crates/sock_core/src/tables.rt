@@ -23,7 +23,7 @@ pub struct Tables<O: Out, I: In, P: Peer> {
 
 impl<O: Out, I: In, P: Peer> Model for Tables<O, I, P> {
     ghost use Rattle.std.specs.Prelude.{map};
-    ghost use Rattle.sock_core.specs.Seats.{seat_data};
+    ghost use Rattle.client_seats.specs.Seats.{seat_data};
     ghost use Rattle.sock_core.specs.Machines.{MachineState};
 
     ghost Value = { MachineState };

@@ -1,7 +1,7 @@
 use Rattle.std.proofs.Common.{refl, map, vec_capacity, arith}
 use Rattle.std.proofs.lemmas.List.{length-map}
 use Rattle.sock_io.specs.Link.{end_of}
-use Rattle.sock_core.specs.Seats.{seat_data}
+use Rattle.client_seats.specs.Seats.{seat_data}
 use Rattle.sock_core.specs.Links.{LinksData}
 use Rattle.sock_core.specs.Machines.{MachineState}
 use Rattle.sock_core.proofs.Starting.{begins_core, machine_begins}

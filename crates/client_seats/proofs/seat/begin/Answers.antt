@@ -1,5 +1,5 @@
 use Rattle.std.proofs.Common.{◌∙◌}
-use Rattle.sock_core.specs.Seats.{lives}
+use Rattle.client_seats.specs.Seats.{lives}
 use Rattle.sock_core.proofs.HeldLives.{drops, sends}
 use Rattle.sock_core.proofs.seat.begin.Goals as goal
 

@@ -1,6 +1,6 @@
 use Rattle.std.proofs.Common.{rules, not, ◌==◌}
 use Rattle.std.proofs.lemmas.Fn.{filter_same}
-use Rattle.sock_core.specs.declared.seat.Held.{Held}
+use Rattle.client_seats.specs.declared.seat.Held.{Held}
 use Rattle.sock_core.proofs.seat.drop_held.Goals as goal
 
 pub returns-clause-rest : goal.returns-clause-rest

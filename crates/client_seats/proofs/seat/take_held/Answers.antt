@@ -1,5 +1,5 @@
 use Rattle.std.proofs.Common.{◌∙◌, ap}
-use Rattle.sock_core.specs.Seats.{lives}
+use Rattle.client_seats.specs.Seats.{lives}
 use Rattle.sock_core.proofs.HeldLives.{lives_without}
 use Rattle.sock_core.proofs.seat.take_held.Goals as goal
 

@@ -7,8 +7,8 @@ ghost use Rattle.sock_programs.specs.Clients.{HeldLife, held_under, without_name
 ghost use Rattle.sock_programs.specs.Cores.{resolved, still_waiting, said, next_step};
 ghost use Rattle.id_points.specs.Ids.{id_of, number_of};
 ghost use Rattle.seat_points.specs.Points.{Around, client_on, point_program, next_program, IsCalling, HasInHand};
-ghost use Rattle.sock_core.specs.Seats.{lives, retries, bytes_of, parts_of, asked_of, seat_data, around, client_of, seat_program};
-ghost use Rattle.sock_core.specs.Following.{IsFlat, IsReady, KeepsOnly};
+ghost use Rattle.client_seats.specs.Seats.{lives, retries, bytes_of, parts_of, asked_of, seat_data, around, client_of, seat_program};
+ghost use Rattle.client_seats.specs.Following.{IsFlat, FollowsOn};
 
 use call_points::{DecideStep, LockStep};
 use id_points::{AttemptNumber, CallId};
@@ -218,9 +218,7 @@ impl Seat {
     fn next_task(&mut self, sizes: Sizes, outcomes: &mut [Option<Outcome>])
         requires tasks { self.old.leaving ≡ false }
         requires none { self.old.waiting.items ≡ [] }
-        ensures program { seat_program sizes (seat_data self.new) ≡ next_step (resolved [] (client_of sizes (seat_data self.old))) }
-        ensures waiting { self.new.waiting ≡ self.old.waiting }
-        ensures said { outcomes.new ≡ said (resolved [] (client_of sizes (seat_data self.old))) outcomes.old }
+        ensures { FollowsOn sizes (seat_data self.old) (seat_data self.new) (client_of sizes (seat_data self.old)) outcomes.old outcomes.new }
     {
         while let Some(task) = self.tasks.pop_front() {
             let number = task.number;
@@ -239,9 +237,7 @@ impl Seat {
     /// The client goes on, over a table of these sizes, up to a step: with the oldest retry that waits, or else with its next
     /// task. Outcomes that need no step are told.
     pub fn go_on(&mut self, sizes: Sizes, outcomes: &mut [Option<Outcome>])
-        ensures program { seat_program sizes (seat_data self.new) ≡ next_step (resolved (retries self.old.waiting.items) (client_of sizes (seat_data self.old))) }
-        ensures waiting { retries self.new.waiting.items ≡ still_waiting (retries self.old.waiting.items) (client_of sizes (seat_data self.old)) }
-        ensures said { outcomes.new ≡ said (resolved (retries self.old.waiting.items) (client_of sizes (seat_data self.old))) outcomes.old }
+        ensures { FollowsOn sizes (seat_data self.old) (seat_data self.new) (client_of sizes (seat_data self.old)) outcomes.old outcomes.new }
     {
         if self.leaving {
             self.point = give_back(&mut self.held);
@@ -269,9 +265,7 @@ impl Seat {
     fn follow_flat(&mut self, sizes: Sizes, next: Next, outcomes: &mut [Option<Outcome>])
         requires flat { IsFlat next }
         requires room { (o name : ℕ) (id : SocketId) → next ≡ Next.Held o name id → vec_len self.old.held < vec_capacity self.old.held }
-        ensures program { seat_program sizes (seat_data self.new) ≡ next_step (resolved (retries self.old.waiting.items) (next_program (around sizes (seat_data self.old)) next)) }
-        ensures waiting { retries self.new.waiting.items ≡ still_waiting (retries self.old.waiting.items) (next_program (around sizes (seat_data self.old)) next) }
-        ensures said { outcomes.new ≡ said (resolved (retries self.old.waiting.items) (next_program (around sizes (seat_data self.old)) next)) outcomes.old }
+        ensures { FollowsOn sizes (seat_data self.old) (seat_data self.new) (next_program (around sizes (seat_data self.old)) next) outcomes.old outcomes.new }
     {
         match next {
             Next::Point(point) => self.point = point,
@@ -293,17 +287,15 @@ impl Seat {
 
     /// The seat goes on behind what it decided on an error.
     fn follow_after(&mut self, sizes: Sizes, after: After, outcomes: &mut [Option<Outcome>])
-        ensures program { seat_program sizes (seat_data self.new) ≡ next_step (resolved (retries self.old.waiting.items) (after_program (around sizes (seat_data self.old)) after)) }
-        ensures waiting { retries self.new.waiting.items ≡ still_waiting (retries self.old.waiting.items) (after_program (around sizes (seat_data self.old)) after) }
-        ensures said { outcomes.new ≡ said (resolved (retries self.old.waiting.items) (after_program (around sizes (seat_data self.old)) after)) outcomes.old }
+        ensures { FollowsOn sizes (seat_data self.old) (seat_data self.new) (after_program (around sizes (seat_data self.old)) after) outcomes.old outcomes.new }
     {
         self.follow_flat(sizes, after.next(), outcomes);
     }
 
     /// A retry is kept, behind those that wait.
     fn keep(&mut self, id: CallId, attempt: AttemptNumber)
-        requires { vec_len self.old.waiting < vec_capacity self.old.waiting }
-        ensures { KeepsOnly (seat_data self.old) (seat_data self.new) (record { id = id_of id; attempt = number_of attempt }) }
+        requires { deque_len self.old.waiting < deque_capacity self.old.waiting }
+        ensures { seat_data self.new ≡ record (seat_data self.old) { waiting = retries self.old.waiting.items ++ record { id = id_of id; attempt = number_of attempt } ∷ [] } }
     {
         self.waiting.push_back_reserved(Kept { id, attempt });
     }
@@ -311,10 +303,8 @@ impl Seat {
     /// The seat goes on behind a step.
     pub fn follow(&mut self, sizes: Sizes, next: Next, outcomes: &mut [Option<Outcome>])
         requires room { (o name : ℕ) (id : SocketId) → next ≡ Next.Held o name id → vec_len self.old.held < vec_capacity self.old.held }
-        requires more { IsFlat next ⊎ (vec_len self.old.waiting < vec_capacity self.old.waiting) }
-        ensures program { seat_program sizes (seat_data self.new) ≡ next_step (resolved (retries self.old.waiting.items) (next_program (around sizes (seat_data self.old)) next)) }
-        ensures waiting { retries self.new.waiting.items ≡ still_waiting (retries self.old.waiting.items) (next_program (around sizes (seat_data self.old)) next) }
-        ensures said { outcomes.new ≡ said (resolved (retries self.old.waiting.items) (next_program (around sizes (seat_data self.old)) next)) outcomes.old }
+        requires more { IsFlat next ⊎ (deque_len self.old.waiting < deque_capacity self.old.waiting) }
+        ensures { FollowsOn sizes (seat_data self.old) (seat_data self.new) (next_program (around sizes (seat_data self.old)) next) outcomes.old outcomes.new }
     {
         match next {
             Next::CallEnded(operation, id, code, after) => {

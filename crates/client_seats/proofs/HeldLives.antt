@@ -8,10 +8,10 @@ use Rattle.sock_programs.specs.declared.task.Op.TheVariants as ops
 use Rattle.sock_programs.specs.Sends.{send}
 use Rattle.sock_programs.specs.declared.task.Sizes.{Sizes}
 use Rattle.sock_words.specs.declared.socket_id.SocketId.{SocketId}
-use Rattle.sock_core.specs.declared.seat.Held.{Held}
+use Rattle.client_seats.specs.declared.seat.Held.{Held}
 use Rattle.seat_points.specs.declared.point.Then.TheVariants as thens
 use Rattle.seat_points.specs.Points.{Around, client_on, then_program}
-use Rattle.sock_core.specs.Seats.{lives}
+use Rattle.client_seats.specs.Seats.{lives}
 
 -- nothing is held under the name any more
 pub lives_without : (name : ℕ) (hs : List Held) → lives (filter (λ (h : Held). not (h.name == name)) hs) ≡ without_name name (lives hs)

@@ -10,9 +10,9 @@ use Rattle.sock_programs.specs.Clients.{HeldLife, client_from, give_back, ending
 use Rattle.id_points.specs.Ids.{id_of, number_of}
 use Rattle.seat_points.specs.declared.point.Point.{Point}
 use Rattle.seat_points.specs.Points.{Around, point_program}
-use Rattle.sock_core.specs.declared.seat.Held.{Held}
-use Rattle.sock_core.specs.declared.seat.Kept.{Kept}
-use Rattle.sock_core.specs.declared.seat.Seat.{Seat}
+use Rattle.client_seats.specs.declared.seat.Held.{Held}
+use Rattle.client_seats.specs.declared.seat.Kept.{Kept}
+use Rattle.client_seats.specs.declared.seat.Seat.{Seat}
 
 -- what is held, as the programs have it
 abbrev pub lives : List Held → List HeldLife

@@ -1,6 +1,6 @@
 use Rattle.std.proofs.Common.{◌≡◌, drop}
 use Rattle.sock_programs.specs.Clients.{held_under}
-use Rattle.sock_core.specs.Seats.{lives}
+use Rattle.client_seats.specs.Seats.{lives}
 use Rattle.sock_core.proofs.seat.find_held.Given as goal
 
 -- it isn't among those that were looked at

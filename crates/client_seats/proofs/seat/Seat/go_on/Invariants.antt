@@ -1,6 +1,6 @@
 use Rattle.std.proofs.Common.{◌≡◌, length}
 use Rattle.sock_programs.specs.Cores.{said, next_step}
-use Rattle.sock_core.specs.Seats.{seat_data, client_of}
+use Rattle.client_seats.specs.Seats.{seat_data, client_of}
 use Rattle.sock_core.proofs.seat.Seat.go_on.Given as goal
 
 -- what is left is as before, but for the outcomes that were told

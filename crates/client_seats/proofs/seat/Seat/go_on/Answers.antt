@@ -1,8 +1,8 @@
 use Rattle.std.proofs.Common.{◌≡◌, [], refl, sym, ◌∙◌, arith}
 use Rattle.sock_programs.specs.Clients.{give_back}
-use Rattle.sock_core.specs.declared.seat.Seat.{Seat}
+use Rattle.client_seats.specs.declared.seat.Seat.{Seat}
 use Rattle.seat_points.specs.Points.{point_program}
-use Rattle.sock_core.specs.Seats.{lives, around, seat_data}
+use Rattle.client_seats.specs.Seats.{lives, around, seat_data}
 use Rattle.sock_core.proofs.GoingOn.{begins_said, ends_tasks, none_in}
 use Rattle.sock_core.proofs.seat.Seat.go_on.Goals as goal
 
