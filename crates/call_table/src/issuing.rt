@@ -11,8 +11,8 @@ use rpc_meta::{MetaBytes, RequestMeta};
 use sock_message::Call;
 use std::alloc::Global;
 
-/// The frame of an attempt of the call with this id (brpc's baidu_std.md). The attempt, counted from 0, is at most 6, and its
-/// correlation id is `id + attempt + 1` (bthread_id.md, `bthread_id_create_ranged`); the id is at most 2^64 - 8.
+/// The frame of an attempt of the call with this id (brpc's baidu_std.md). The attempt is counted from 0, and its correlation
+/// id is `id + attempt + 1` (bthread_id.md, `bthread_id_create_ranged`), which is below 2^64.
 ///
 /// Header and meta are one piece, and the other pieces are those of the payload and then those of the attachment, which are
 /// shared and not copied.
@@ -23,8 +23,7 @@ pub fn issue(
     id: u64,
     attempt: u8,
 ) -> Result<IoBuf, NoMemory>
-    requires attempt { attempt ≤ 6 }
-    requires id { id + 8 ≤ 2 ^ 64 }
+    requires { id + attempt + 1 < 2 ^ 64 }
     ensures bytes { IfOk result (λ b. b.items ≡ frame_of call.now id attempt) }
     ensures frame { IfOk result (λ b. IsFrame b.items (request_of call.now id attempt)) }
     // It is taken for this frame and for no other, whatever stands behind it.

@@ -1,7 +1,8 @@
 -- What a client's seat has still to do, and what it has in hand.
-use Rattle.std.specs.Prelude.{ℕ, Bool, if◌then◌else◌, List, [], map, Option, Some, None}
+use Rattle.std.specs.Prelude.{ℕ, Bool, if◌then◌else◌, List, [], map, Option, option_map, Some, None}
 use Rattle.sock_message.specs.Asked.{Asked}
-use Rattle.message_parts.specs.Parcels.{ParcelData, OutgoingData}
+use Rattle.message_parts.specs.Frames.{ParcelData, OutgoingData}
+use Rattle.message_parts.specs.Parcels.{outgoing_of}
 use Rattle.sock_programs.specs.declared.task.Task.{Task}
 use Rattle.sock_programs.specs.declared.task.Sizes.{Sizes}
 use Rattle.sock_programs.specs.Heads.{Retry}
@@ -10,6 +11,8 @@ use Rattle.sock_programs.specs.Clients.{HeldLife, client_from, give_back, ending
 use Rattle.id_points.specs.Ids.{id_of, number_of}
 use Rattle.seat_points.specs.declared.point.Point.{Point}
 use Rattle.seat_points.specs.Points.{Around, point_program}
+use Rattle.client_seats.specs.declared.hand.InHand.{InHand}
+use Rattle.client_seats.specs.declared.hand.InHand.TheVariants.{Nothing, Message, Call, Framed}
 use Rattle.client_seats.specs.declared.seat.Held.{Held}
 use Rattle.client_seats.specs.declared.seat.Kept.{Kept}
 use Rattle.client_seats.specs.declared.seat.Seat.{Seat}
@@ -36,6 +39,19 @@ pub record SeatData : Type 0 where
   pub call : Option Asked
   pub out : Option OutgoingData
 
+-- what is in hand: a frame stands with its call
+abbrev pub message_in : InHand → Option ParcelData
+message_in Nothing = None
+message_in (Message message) = Some (record { bytes = message; parts = [] })
+message_in (Call call) = None
+message_in (Framed framed) = Some framed.frame
+
+abbrev pub call_in : InHand → Option Asked
+call_in Nothing = None
+call_in (Message message) = None
+call_in (Call call) = Some call
+call_in (Framed framed) = Some framed.call
+
 abbrev pub seat_data : Seat → SeatData
 seat_data seat = record {
   tasks = seat.tasks.items;
@@ -44,9 +60,9 @@ seat_data seat = record {
   ending = seat.ending.items;
   point = seat.point;
   waiting = retries seat.waiting.items;
-  message = seat.message;
-  call = seat.call;
-  out = seat.out;
+  message = message_in seat.hand;
+  call = call_in seat.hand;
+  out = option_map outgoing_of seat.out;
 }
 
 abbrev pub bytes_of : Option ParcelData → List ℕ

@@ -2,6 +2,8 @@
 //! makes no step itself.
 #![tactic(auto)]
 
+pub mod hand;
 pub mod seat;
 
+pub use hand::{Framed, InHand};
 pub use seat::{Held, Kept, Seat};

@@ -1,4 +1,4 @@
-ghost use Rattle.std.specs.Prelude.{◌≡◌, ◌+◌, ◌*◌, ◌<◌, ◌≤◌, ◌∷◌, ◌++◌, [], ℕ, List, Some, None, IfSome, IfNone, OnOk, OnErr, Option, option_map, filter, not, ◌==◌, true, false, length, slice_set, vec_len, vec_capacity};
+ghost use Rattle.std.specs.Prelude.{◌≡◌, ◌+◌, ◌*◌, ◌<◌, ◌≤◌, ◌∷◌, ◌++◌, [], ℕ, List, Some, None, ◌⊎◌, IfSome, IfNone, IfOk, OnOk, Option, option_map, filter, not, ◌==◌, true, false, length, slice_set, vec_len, vec_capacity};
 ghost use Rattle.sock_words.specs.declared.outcome.Outcome.TheVariants.{NotHeld};
 ghost use Rattle.sock_programs.specs.Heads.{Retry};
 ghost use Rattle.sock_programs.specs.Programs.{Program, Say};
@@ -6,15 +6,19 @@ ghost use Rattle.sock_programs.specs.Attempts.{retry};
 ghost use Rattle.sock_programs.specs.Clients.{HeldLife, held_under, without_name, give_back, operation, client_from, ending_of};
 ghost use Rattle.sock_programs.specs.Cores.{resolved, still_waiting, said, next_step};
 ghost use Rattle.id_points.specs.Ids.{id_of, number_of};
-ghost use Rattle.seat_points.specs.Points.{Around, client_on, point_program, next_program, IsCalling, HasInHand};
-ghost use Rattle.client_seats.specs.Seats.{lives, retries, bytes_of, parts_of, asked_of, seat_data, around, client_of, seat_program};
-ghost use Rattle.client_seats.specs.Following.{IsFlat, FollowsOn};
+ghost use Rattle.seat_points.specs.Points.{Around, client_on, point_program, next_program, after_program, IsCalling, TakesCall};
+ghost use Rattle.client_seats.specs.Seats.{lives, retries, bytes_of, asked_of, message_in, call_in, seat_data, around, client_of, seat_program};
+ghost use Rattle.sock_message.specs.Asked.{name_of};
+ghost use Rattle.call_points.specs.Steps.{after_call};
+ghost use Rattle.std_alloc.specs.VecDeque.{deque_len, deque_capacity};
+ghost use Rattle.client_seats.specs.Following.{IsFlat, FollowsOn, IsFramedAs, IsPrepared, HasTaken};
 
 use call_points::{DecideStep, LockStep};
 use id_points::{AttemptNumber, CallId};
-use message_parts::{OutgoingParcel, Parcel};
+use crate::hand::InHand;
+use message_parts::OutgoingParcel;
 use seat_points::{
-    After, Aim, Attempt, CallStep, Calling, JoinStep, Next, Opening, Point, ReleaseStep, RetryStep,
+    After, Aim, Attempt, Author, CallStep, Calling, JoinStep, Next, Opening, Point, ReleaseStep, RetryStep,
     Retrying, SeekStep, Then,
 };
 use sock_message::{BlockPool, Call, NoMemory};
@@ -65,10 +69,7 @@ pub struct Seat {
     pub point: Point,
     /// The retries that wait, the oldest first.
     pub waiting: VecDeque<Kept>,
-    /// What it is to send.
-    pub message: Option<Parcel>,
-    /// The call in its hand.
-    pub call: Option<Call>,
+    pub hand: InHand,
     /// What it writes.
     pub out: Option<OutgoingParcel>,
 }
@@ -118,12 +119,11 @@ fn take_held(held: &mut Vec<Held>, name: u16) -> Option<SocketId>
 /// and the call of a `call` come into the seat's hand.
 fn begin(
     held: &mut Vec<Held>,
-    message: &mut Option<Parcel>,
-    call: &mut Option<Call>,
+    hand: &mut InHand,
     sizes: Sizes,
     task: Task,
 ) -> Option<Point>
-    ensures some { IfSome result (λ point. (a : Around) → a.sizes ≡ sizes → a.held ≡ lives held.new.items → a.message ≡ bytes_of message.new → a.asked ≡ asked_of call.new →
+    ensures some { IfSome result (λ point. (a : Around) → a.sizes ≡ sizes → a.held ≡ lives held.new.items → a.message ≡ bytes_of (message_in hand.new) → a.asked ≡ asked_of (call_in hand.new) →
         point_program a point ≡ operation sizes (lives held.old.items) task.number a.goes_on task.op) }
     ensures none { IfNone result ((goes_on : List HeldLife → Program) →
         operation sizes (lives held.old.items) task.number goes_on task.op ≡ Say task.number NotHeld (goes_on (lives held.new.items))) }
@@ -142,11 +142,11 @@ fn begin(
             Some(opening.try_slot(sizes.slots, 0))
         }
         Op::Send(name, bytes) => {
-            *message = Some(Parcel::of_message(bytes));
+            *hand = InHand::Message(bytes);
             Some(Point::Seek(Aim::Send { operation, name }, SeekStep::Load))
         }
         Op::Call(asked) => {
-            *call = Some(asked);
+            *hand = InHand::Call(asked);
             Some(Point::Call(CallStep::LoadName))
         }
         Op::Expire(called) => Some(Point::Expire(operation, called)),
@@ -190,8 +190,7 @@ impl Seat {
             ending: VecDeque::new(alloc),
             point: Point::Rest,
             waiting: VecDeque::new(alloc),
-            message: None,
-            call: None,
+            hand: InHand::Nothing,
             out: None,
         }
     }
@@ -200,7 +199,7 @@ impl Seat {
     pub fn calling(&self) -> Calling
         ensures { (sizes : Sizes) → IsCalling (around sizes (seat_data self.now)) result }
     {
-        match &self.call {
+        match self.hand.call() {
             Some(call) => Calling {
                 operation: call.operation,
                 name: call.name(0),
@@ -214,6 +213,98 @@ impl Seat {
         }
     }
 
+    /// The frame of an attempt of the call in its hand is made.
+    fn frame(
+        &mut self,
+        alloc: Global,
+        pool: &mut BlockPool,
+        id: CallId,
+        attempt: AttemptNumber,
+    ) -> Result<(), NoMemory>
+        ensures { IfOk result (λ _. IsFramedAs (seat_data self.old) (seat_data self.new) (id_of id) (number_of attempt)) }
+    {
+        let hand = std::mem::replace(&mut self.hand, InHand::Nothing);
+        self.hand = hand.framed(alloc, pool, id, attempt)?;
+        Ok(())
+    }
+
+    /// Before its step: what this needs in hand is made. The frame of a call's first attempt is made in the step that tells its
+    /// id, and that of a retry once its call is in hand. The program stays.
+    pub fn prepare(&mut self, alloc: Global, pool: &mut BlockPool) -> Result<(), NoMemory>
+        ensures { OnOk result ((sizes : Sizes) → IsPrepared sizes (seat_data self.old) (seat_data self.new)) }
+    {
+        match self.point {
+            Point::Call(CallStep::StoreCall(id, _)) => {
+                self.frame(alloc, pool, id, AttemptNumber::new(0))
+            }
+            Point::Retry(_, RetryStep::Lock(_) | RetryStep::TakeCall(_)) => Ok(()),
+            Point::Retry(retrying, step) => {
+                let Attempt { id, number, .. } = retrying.attempt;
+                self.frame(alloc, pool, id, number)?;
+                self.point = Point::Retry(self.retrying(id, number), step);
+                Ok(())
+            }
+            _ => Ok(()),
+        }
+    }
+
+    /// The retry of this attempt of the call in its hand.
+    fn retrying(&self, id: CallId, number: AttemptNumber) -> Retrying
+        ensures id { (result.attempt.id ≡ id) × (result.attempt.number ≡ number) }
+        ensures operation { result.attempt.operation ≡ (asked_of (seat_data self.now).call).operation }
+        ensures name { result.name ≡ name_of (asked_of (seat_data self.now).call) (number_of number) }
+    {
+        let (operation, name) = match self.hand.call() {
+            Some(call) => (call.operation, call.name(number.get())),
+            None => (0, 0),
+        };
+        let attempt = Attempt {
+            operation,
+            id,
+            number,
+        };
+        Retrying { attempt, name }
+    }
+
+    /// A call comes into its hand, out of its home; how it goes on. A retry makes its frame.
+    pub fn with_call(
+        &mut self,
+        alloc: Global,
+        pool: &mut BlockPool,
+        call: Call,
+    ) -> Result<Next, NoMemory>
+        requires { TakesCall self.old.point }
+        ensures hand { OnOk result (HasTaken (seat_data self.old) (seat_data self.new) call) }
+        ensures next { IfOk result (λ next. (sizes : Sizes) → next_program (around sizes (seat_data self.new)) next ≡ after_call (seat_program sizes (seat_data self.old)) call) }
+    {
+        let point = self.point;
+        let operation = call.operation;
+        match point {
+            Point::Retry(retrying, _) => {
+                let Attempt { id, number, .. } = retrying.attempt;
+                let name = call.name(number.get());
+                self.hand = InHand::Call(call).framed(alloc, pool, id, number)?;
+                Ok(point.with_call(operation, name))
+            }
+            _ => {
+                self.hand = InHand::Call(call);
+                Ok(point.with_call(operation, 0))
+            }
+        }
+    }
+
+    /// What it writes of this author; that of a `send` is no frame.
+    pub fn out_of(&mut self, author: Author) -> Option<&mut OutgoingParcel>
+        ensures out { IfSome result (λ out. (self.old.out ≡ Some out.old) × ((outgoing_of out.old).parts ≡ parts_by author (outgoing_of out.old).parts)) }
+        ensures rest { self.new ≡ record self.old { out = self.new.out } }
+        ensures new { IfSome result (λ out. self.new.out ≡ Some out.new) }
+    {
+        match (&mut self.out, author) {
+            (Some(OutgoingParcel::Frame(_)), Author::Send(_)) | (None, _) => None,
+            (Some(out), _) => Some(out),
+        }
+    }
+
     /// The client goes on with its next task, over a table of these sizes, up to a step. Outcomes that need none are told.
     fn next_task(&mut self, sizes: Sizes, outcomes: &mut [Option<Outcome>])
         requires tasks { self.old.leaving ≡ false }
@@ -222,7 +313,7 @@ impl Seat {
     {
         while let Some(task) = self.tasks.pop_front() {
             let number = task.number;
-            match begin(&mut self.held, &mut self.message, &mut self.call, sizes, task) {
+            match begin(&mut self.held, &mut self.hand, sizes, task) {
                 Some(point) => {
                     self.point = point;
                     return;

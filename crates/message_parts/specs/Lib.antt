@@ -1,2 +1,2 @@
+pub mod Frames
 pub mod Parcels
-pub mod Inside

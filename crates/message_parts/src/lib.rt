@@ -2,8 +2,8 @@
 //! the blocks of its payload and of its attachment.
 #![tactic(auto)]
 
-mod outgoing;
-mod parcel;
+pub mod frame;
+pub mod parcel;
 
-pub use outgoing::OutgoingParcel;
-pub use parcel::Parcel;
+pub use frame::{CallFrame, OutgoingFrame};
+pub use parcel::{OutgoingParcel, Parcel};

@@ -1,81 +1,67 @@
-ghost use Rattle.std.specs.Prelude.{◌≡◌, ◌+◌, ◌<◌, ◌^◌, [], IfOk};
-ghost use Rattle.sock_message.specs.Asked.{frame_of, parts_of};
-ghost use Rattle.message_parts.specs.Inside.{lengths};
+ghost use Rattle.std.specs.Prelude.{◌≡◌, ◌+◌, ◌≤◌, ◌==◌, [], length, drop};
+ghost use Rattle.sock_programs.specs.Parts.{part};
+ghost use Rattle.message_parts.specs.Parcels.{parcel_of, outgoing_of};
 
-use crate::outgoing::OutgoingParcel;
-use call_table::issue;
-use io_buf::{BlockPool, IoBuf, NoMemory};
-use sock_message::{Call, Message};
-use std::alloc::Global;
-use std::marker::Model;
+use crate::frame::{CallFrame, OutgoingFrame};
+use sock_message::{Message, Outgoing};
 
-/// The lengths of a frame's parts: of its header with the meta, of its payload, and of its attachment.
-#[derive(Clone, Copy, Debug, PartialEq, Eq)]
-pub struct Parts {
-    pub head: usize,
-    pub payload: usize,
-    pub attachment: usize,
-}
-
-/// A message, or the frame of an attempt of a call. Contracts see its bytes and the lengths of its parts; a message has none.
+/// What is put on a link: a message, or the frame of an attempt of a call.
 #[derive(Drop)]
-pub struct Parcel {
-    buf: IoBuf,
-    parts: Option<Parts>,
-}
-
-impl Model for Parcel {
-    ghost use Rattle.message_parts.specs.Parcels.{ParcelData, LiesInParts};
-    ghost use Rattle.message_parts.specs.Inside.{lengths};
-
-    ghost Value = { ParcelData };
-
-    ghost view = { λ p. record { bytes = p.buf.items; parts = lengths p.parts } };
-
-    ghost invariant = { λ p. LiesInParts (lengths p.parts) p.buf };
+pub enum Parcel {
+    Message(Message),
+    Frame(CallFrame),
 }
 
 impl Parcel {
-    /// A message as a client hands it in. Nothing is copied.
-    pub fn of_message(message: Message) -> Parcel
-        ensures { result ≡ record { bytes = message; parts = [] } }
+    /// It begins to be put on a link. Nothing is copied.
+    pub fn begin(self) -> OutgoingParcel
+        ensures { outgoing_of result ≡ record { left = (parcel_of self).bytes; taken = 0; parts = (parcel_of self).parts } }
     {
-        Parcel {
-            buf: message.into_buf(),
-            parts: None,
+        match self {
+            Parcel::Message(message) => OutgoingParcel::Message(message.begin()),
+            Parcel::Frame(frame) => OutgoingParcel::Frame(frame.begin()),
+        }
+    }
+}
+
+/// The same of which a link may have taken a part from its front.
+#[derive(Drop)]
+pub enum OutgoingParcel {
+    Message(Outgoing),
+    Frame(OutgoingFrame),
+}
+
+impl OutgoingParcel {
+    /// The bytes that are put next, or none where nothing is left.
+    pub fn next_piece(&self) -> &[u8]
+        ensures { result.now ≡ part (outgoing_of self.now).parts (outgoing_of self.now).left (outgoing_of self.now).taken }
+    {
+        match self {
+            OutgoingParcel::Message(message) => message.next_piece(),
+            OutgoingParcel::Frame(frame) => frame.next_piece(),
         }
     }
 
-    /// The frame of an attempt of the call with this id, counted from 0. The call's payload and its attachment are shared and
-    /// not copied.
-    pub fn frame(
-        alloc: Global,
-        pool: &mut BlockPool,
-        call: &Call,
-        id: u64,
-        attempt: u8,
-    ) -> Result<Parcel, NoMemory>
-        requires { id + attempt + 1 < 2 ^ 64 }
-        ensures { IfOk result (λ p. p ≡ record { bytes = frame_of call.now id attempt; parts = parts_of call.now id attempt }) }
+    /// The link took so many bytes of that piece.
+    pub fn take(&mut self, count: usize)
+        requires { count ≤ length (part (outgoing_of self.old).parts (outgoing_of self.old).left (outgoing_of self.old).taken) }
+        ensures left { (outgoing_of self.new).left ≡ drop count (outgoing_of self.old).left }
+        ensures taken { (outgoing_of self.new).taken ≡ (outgoing_of self.old).taken + count }
+        ensures parts { (outgoing_of self.new).parts ≡ (outgoing_of self.old).parts }
     {
-        let buf = issue(alloc, pool, call, id, attempt)?;
-        let payload = call.payload.len();
-        let attachment = call.attachment.len();
-        let parts = Parts {
-            head: buf.len() - (payload + attachment),
-            payload,
-            attachment,
-        };
-        Ok(Parcel {
-            buf,
-            parts: Some(parts),
-        })
+        match self {
+            OutgoingParcel::Message(message) => message.take(count),
+            OutgoingParcel::Frame(frame) => frame.take(count),
+        }
     }
 
-    /// It begins to be put on a link. Nothing is copied.
-    pub fn begin(self) -> OutgoingParcel
-        ensures { result ≡ record { left = self.bytes; taken = 0; parts = self.parts } }
+    /// Whether the link took all of it.
+    pub fn is_whole_taken(&self) -> bool
+        ensures { result ≡ (length (outgoing_of self.now).left == 0) }
     {
-        OutgoingParcel::whole(self.buf, self.parts)
+        match self {
+            OutgoingParcel::Message(message) => message.is_whole_taken(),
+            OutgoingParcel::Frame(frame) => frame.is_whole_taken(),
+        }
     }
 }

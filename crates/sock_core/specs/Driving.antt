@@ -85,6 +85,6 @@ pub record BeganEnding (old new : MachineState) : Type 0 where
   pub waiting : seat'.waiting ≡ seat.waiting
   pub program : seat_program (machine_sizes old) seat' ≡ next_step (ending_of old.opens)
 
--- behind the ending the run is ending, so that a reading ends where nothing more is there
+-- behind it the run is ending, so that a reading ends where nothing more is there
 abbrev pub told_ending : MachineState → MachineState
 told_ending m = record m { ending = true }

@@ -9,13 +9,14 @@ use Rattle.sock_model.specs.declared.home.Home.TheVariants.{Link, Message}
 use Rattle.sock_programs.specs.Writings as heads
 use Rattle.sock_programs.specs.Programs.{Program, PutBytes, Write}
 use Rattle.sock_programs.specs.Runs.{from_to}
+use Rattle.message_parts.specs.Parcels.{parcel_of}
 use Rattle.seat_points.specs.Points.{heading_by}
 use Rattle.sock_core.specs.declared.letter.Letter.{Letter}
 
 -- the message that lies at the home of a request
 abbrev pub letter_home : Option Letter → core.Option Home
 letter_home None = core.none
-letter_home (Some letter) = core.some (Message (heading_by letter.author letter.message.parts) letter.message.bytes)
+letter_home (Some letter) = core.some (Message (heading_by letter.author (parcel_of letter.message).parts) (parcel_of letter.message).bytes)
 
 -- all links: who has each in hand, how many of its messages have places, and its halves
 pub record LinksData : Type 0 where

@@ -126,6 +126,10 @@ ending_by opens c = with_seat 0 (ending_of opens) [] c.words c.homes c
 abbrev pub ArePaced : Sizes → LinksData → List SeatData → Type 0
 ArePaced sizes links seats = (i : ℕ) (seat : SeatData) → get_elem? seats i ≡ core.some seat → IsPaced links.outs (seat_program sizes seat)
 
+-- more ticks than a machine has left
+abbrev pub MOST_LEFT : ℕ
+MOST_LEFT = MOST_PAID
+
 -- what its links took and gave, and views by which both rules hold, and so many ticks that move are left at most
 pub record IsSoundMachine (m : MachineState) : Type 0 where
   pub took : Taken
@@ -141,7 +145,7 @@ pub record IsSoundMachine (m : MachineState) : Type 0 where
   pub left : ℕ
   pub lasts : Lasts m.plan (core_with m took gave) views left
   -- with those of the ending that it has still to begin
-  pub bounded : left + 20 * length m.opens < MOST_PAID
+  pub bounded : left + 20 * length m.opens < MOST_LEFT
 
 -- each table has the sizes that its plan says, and there is a seat for each client and a reader for each link
 pub record HasSizes (m : MachineState) : Type 0 where

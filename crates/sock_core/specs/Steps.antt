@@ -12,18 +12,23 @@ use Rattle.sock_programs.specs.Asides as asides
 use Rattle.sock_programs.specs.Asides.{Found}
 use Rattle.sock_programs.specs.Beside.{found_in}
 use Rattle.sock_programs.specs.Calls as calls
-use Rattle.sock_programs.specs.Programs.{Program, Aside}
+use Rattle.sock_programs.specs.Programs.{Program}
+use Rattle.sock_programs.specs.Programs as programs
 use Rattle.sock_programs.specs.Cores.{Calls, word_of, found_at, words_after, word_after, resolved, still_waiting, next_step, said}
 use Rattle.sock_programs.specs.Ticks.{Answer, Unasked, OfPut, OfReady}
 use Rattle.sock_runs.specs.Sound.{AllowsWord, first_step}
 use Rattle.call_slots.specs.Slots.{FitsSlots, calls_with, slots_after, word_found}
+use Rattle.call_points.specs.declared.aside.Aside.{Aside}
 use Rattle.call_points.specs.Steps as aside_steps
+use Rattle.message_parts.specs.Parcels.{parcel_of}
+use Rattle.seat_points.specs.declared.point.Author.{Author}
 use Rattle.seat_points.specs.declared.point.Step.{Step}
 use Rattle.seat_points.specs.declared.point.Step.TheVariants as firsts
-use Rattle.seat_points.specs.Points.{IsWithin, IsWithinIds, MayFind, MayFindAside, HasLinkAt, TellsCodeAt, after_word, after_message, after_link, after_home, after_put, after_ready, parts_by}
+use Rattle.seat_points.specs.Points.{IsWithin, IsWithinIds, MayFind, MayFindAside, HasLinkAt, TellsCodeAt, HasInHand, after_word, after_message, after_link, after_home, after_put, after_ready, parts_by}
 use Rattle.seat_points.specs.Steps.{First, OfCall, OfAside, OfMessage, OfLink, OfHome, step_of, step_as, first_in}
 use Rattle.seat_points.specs.Steps as kinds
 use Rattle.sock_core.specs.declared.letter.Letter.{Letter}
+use Rattle.client_seats.specs.Following.{IsWithFrame, IsPrepared}
 use Rattle.client_seats.specs.Seats.{SeatData, around, seat_program, bytes_of, parts_of, left_of, taken_of, left_parts_of, asked_of}
 use Rattle.sock_core.specs.Runs.{SameLink}
 use Rattle.sock_core.specs.Machines.{MachineState, TableState, machine_sizes, table_of, table_sizes}
@@ -94,6 +99,26 @@ pub record MayStand (seat : SeatData) : Type 0 where
 abbrev pub beside : TableState → Calls
 beside t = calls_with t.ids [] [] t.ending
 
+-- what its step needs is in hand
+pub record IsReady (t : TableState) (seat : SeatData) : Type 0 where
+  pub hand : HasInHand (around (table_sizes t) seat) seat.point
+  pub frame : IsWithFrame seat.point (around (table_sizes t) seat)
+
+abbrev pub ReadyAt : MachineState → ℕ → Type 0
+ReadyAt m i = (seat : SeatData) → get_elem? m.seats i ≡ core.some seat → IsReady (table_of m) seat
+
+-- what the next step of seat i needs is in hand, and all else is as it was
+pub record PreparedAt (old new : MachineState) (i : ℕ) : Type 0 where
+  pub seat : SeatData
+  pub at : get_elem? old.seats i ≡ core.some seat
+  pub seat' : SeatData
+  pub is : new ≡ record old { seats = slice_set old.seats i seat' }
+  pub prepared : IsPrepared (machine_sizes old) seat seat'
+
+-- the step of this code finds this word
+abbrev pub FoundBeside : TableState → SeatData → Aside → ℕ → Type 0
+FoundBeside t seat step word = let aside = aside_steps.step_of (asked_of seat.call) step in (found : Found aside) × (found_in aside (beside t) core.none ≡ core.some found) × (word_found aside found ≡ word)
+
 -- what it finds is as the point relies on
 abbrev pub FindsFitting : TableState → SeatData → asides.Step → Type 0
 FindsFitting t seat step = (found : Found step) → found_in step (beside t) core.none ≡ core.some found → MayGoOn t seat (word_found step found)
@@ -109,8 +134,11 @@ Fits t seat (firsts.PutMessage q author) = (q < length t.letters) × (bytes_of s
 Fits t seat (firsts.TakeMessage q) = (letter : Letter) × (get_elem? t.letters q ≡ core.some (Some letter))
 Fits t seat (firsts.TakeHome k) = k < t.plan.links
 Fits t seat (firsts.PutHome k n) = k < t.plan.links
-Fits t seat (firsts.PutBytes k asked author) = (k < t.plan.links) × (part (left_parts_of seat.out) (left_of seat.out) (taken_of seat.out) ≢ [])
+Fits t seat (firsts.PutBytes k asked author) = (k < t.plan.links) × (part (parts_by author (left_parts_of seat.out)) (left_of seat.out) (taken_of seat.out) ≢ [])
 Fits t seat (firsts.AskReady k) = k < t.plan.links
+
+abbrev pub StandsAt : MachineState → ℕ → Type 0
+StandsAt m i = (seat : SeatData) → get_elem? m.seats i ≡ core.some seat → MayStand seat
 
 abbrev pub StepFits : MachineState → ℕ → Step → Type 0
 StepFits m i step = (seat : SeatData) → get_elem? m.seats i ≡ core.some seat → MayStand seat × Fits (table_of m) seat step
@@ -131,10 +159,18 @@ holders_after i (calls.TakeLink k) holders = slice_set holders k (Some i)
 holders_after i (calls.PutLink k) holders = slice_set holders k None
 holders_after i other holders = holders
 
--- the messages at home: that of the seat goes home
-abbrev pub letters_after : SeatData → Step → List (Option Letter) → List (Option Letter)
-letters_after seat (firsts.PutMessage q author) letters = slice_set letters q (Some (record { author = author; message = record { bytes = bytes_of seat.message; parts = parts_of seat.message } }))
-letters_after seat other letters = letters
+-- the message of the seat goes home, for this author
+pub record SentHome (seat : SeatData) (q : ℕ) (author : Author) (old fresh : List (Option Letter)) : Type 0 where
+  pub letter : Letter
+  pub author_is : letter.author ≡ author
+  pub bytes : (parcel_of letter.message).bytes ≡ bytes_of seat.message
+  pub parts : (parcel_of letter.message).parts ≡ parts_of seat.message
+  pub fresh_are : fresh ≡ slice_set old q (Some letter)
+
+-- the messages at home after a step
+abbrev pub LettersAfter : SeatData → Step → List (Option Letter) → List (Option Letter) → Type 0
+LettersAfter seat (firsts.PutMessage q author) old fresh = SentHome seat q author old fresh
+LettersAfter seat other old fresh = fresh ≡ old
 
 -- the writing halves after it
 abbrev pub OutsAfter : calls.Call → List OutState → List OutState → Type 0
@@ -160,10 +196,10 @@ module _ (old fresh : TableState) (i : ℕ) (seat seat' : SeatData) where
   abbrev pub program_of : Program
   program_of = seat_program (table_sizes old) seat
 
-  pub record CallMade (call : calls.Call) (letters : List (Option Letter)) : Type 0 where
+  pub record CallMade (call : calls.Call) (step : Step) : Type 0 where
     pub goes : Goes old fresh seat seat' (after_word program_of (found_at old.words (word_of old.plan call)))
     pub words : fresh.words ≡ words_after old.words (word_of old.plan call) (word_after call (found_at old.words (word_of old.plan call)))
-    pub letters : fresh.letters ≡ letters
+    pub letters : LettersAfter seat step old.letters fresh.letters
     pub holders : fresh.links.holders ≡ holders_after i call old.links.holders
     pub nexts : fresh.links.nexts ≡ old.links.nexts
     pub outs : OutsAfter call old.links.outs fresh.links.outs
@@ -173,7 +209,7 @@ module _ (old fresh : TableState) (i : ℕ) (seat seat' : SeatData) where
   -- a step aside of the sockets
   pub record AsideMade (step : asides.Step) : Type 0 where
     pub next : Found step → Program
-    pub is : first_step program_of ≡ Aside step next
+    pub is : first_step program_of ≡ programs.Aside step next
     pub found : Found step
     pub finds : found_in step (beside old) core.none ≡ core.some found
     pub goes : Goes old fresh seat seat' (next found)
@@ -186,7 +222,7 @@ module _ (old fresh : TableState) (i : ℕ) (seat seat' : SeatData) where
   pub record MessageTaken (q : ℕ) : Type 0 where
     pub letter : Letter
     pub at : get_elem? old.letters q ≡ core.some (Some letter)
-    pub goes : Goes old fresh seat seat' (after_message program_of letter.author letter.message.parts letter.message.bytes)
+    pub goes : Goes old fresh seat seat' (after_message program_of letter.author (parcel_of letter.message).parts (parcel_of letter.message).bytes)
     pub words : fresh.words ≡ old.words
     pub letters : fresh.letters ≡ slice_set old.letters q None
     pub links : fresh.links ≡ old.links
@@ -221,7 +257,7 @@ module _ (old fresh : TableState) (i : ℕ) (seat seat' : SeatData) where
 
   -- a step, in which the link in hand answered this
   abbrev pub MadeFirst : Step → First → Answer → Type 0
-  MadeFirst step (OfCall call) answer = (answer ≡ Unasked) × CallMade call (letters_after seat step old.letters)
+  MadeFirst step (OfCall call) answer = (answer ≡ Unasked) × CallMade call step
   MadeFirst step (OfAside aside) answer = (answer ≡ Unasked) × AsideMade aside
   MadeFirst step (OfMessage q) answer = (answer ≡ Unasked) × MessageTaken q
   MadeFirst step (OfLink k) answer = (answer ≡ Unasked) × LinkTaken k

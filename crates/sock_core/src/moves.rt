@@ -1,25 +1,28 @@
-ghost use Rattle.std.specs.Prelude.{◌≡◌, ◌≢◌, ◌<◌, ℕ, [], Some, None, length, slice_set, slice_index_or};
+ghost use Rattle.std.specs.Prelude.{◌≡◌, ◌≢◌, ◌<◌, ℕ, [], Some, None, option_map, length, slice_set, slice_index_or};
 ghost use mathlib.Core.Option.{some};
 ghost use lib.ListN.{get_elem?};
 ghost use Rattle.sock_core.specs.declared.letter.Letter.{Letter};
-ghost use Rattle.client_seats.specs.Seats.{bytes_of, parts_of};
+ghost use Rattle.message_parts.specs.Parcels.{parcel_of, outgoing_of};
+ghost use Rattle.client_seats.specs.Seats.{bytes_of, message_in, call_in};
 
 use crate::letter::Letter;
-use message_parts::{OutgoingParcel, Parcel};
+use client_seats::InHand;
+use message_parts::OutgoingParcel;
 use seat_points::Author;
 
-/// The message that a seat has goes to the home of a request, for its author.
+/// The message that a seat has in hand goes to the home of a request, for its author.
 pub fn put_message(
     letters: &mut [Option<Letter>],
     request: u16,
     author: Author,
-    message: &mut Option<Parcel>,
+    hand: &mut InHand,
 )
     requires there { request < length letters.old }
-    requires some { bytes_of message.old ≢ [] }
-    ensures letters { letters.new ≡ slice_set letters.old request (Some (record { author = author; message = record { bytes = bytes_of message.old; parts = parts_of message.old } })) }
+    requires some { bytes_of (message_in hand.old) ≢ [] }
+    ensures letters { (letter : Letter) × (letter.author ≡ author) × (Some (parcel_of letter.message) ≡ message_in hand.old) × (letters.new ≡ slice_set letters.old request (Some letter)) }
+    ensures rest { (message_in hand.new ≡ None) × (call_in hand.new ≡ call_in hand.old) }
 {
-    if let Some(message) = message.take() {
+    if let Some(message) = hand.take_message() {
         letters[usize::from(request)] = Some(Letter { author, message });
     }
 }
@@ -31,7 +34,7 @@ pub fn take_message(
     out: &mut Option<OutgoingParcel>,
 ) -> Author
     requires there { (letter : Letter) × (get_elem? letters.old request ≡ some (Some letter)) }
-    ensures taken { (letter : Letter) × (get_elem? letters.old request ≡ some (Some letter)) × (result ≡ letter.author) × (out.new ≡ Some (record { left = letter.message.bytes; taken = 0; parts = letter.message.parts })) }
+    ensures taken { (letter : Letter) × (get_elem? letters.old request ≡ some (Some letter)) × (result ≡ letter.author) × (option_map outgoing_of out.new ≡ Some (record { left = (parcel_of letter.message).bytes; taken = 0; parts = (parcel_of letter.message).parts })) }
     ensures letters { letters.new ≡ slice_set letters.old request None }
 {
     match letters[usize::from(request)].take() {

@@ -1,12 +1,10 @@
-ghost use Rattle.std.specs.Prelude.{◌≡◌, ◌<◌, ◌⊎◌, ℕ, Bool, false, IfOk, OnOk, vec_len, vec_capacity};
-ghost use Rattle.std_alloc.specs.VecDeque.{deque_len, deque_capacity};
-ghost use Rattle.sock_programs.specs.Scripts.{sizes_of};
+ghost use Rattle.std.specs.Prelude.{◌≡◌, ◌<◌, ◌⊎◌, ℕ, Bool, false, IfOk, OnOk, IsOk};
 ghost use Rattle.sock_programs.specs.Cores.{word_of, found_at};
 ghost use Rattle.sock_programs.specs.Ticks.{Unasked, OfPut, OfReady};
-ghost use Rattle.call_slots.specs.Slots.{word_found};
-ghost use Rattle.call_points.specs.Steps as aside_steps;
 ghost use Rattle.seat_points.specs.Steps.{step_of};
-ghost use Rattle.client_seats.specs.Seats.{seat_data, seat_program, asked_of};
+ghost use Rattle.call_slots.specs.Slots.{IsOnWord};
+ghost use Rattle.client_seats.specs.Seats.{seat_data, seat_program};
+ghost use Rattle.client_seats.specs.Following.{HasRoom};
 ghost use Rattle.sock_core.specs.Driving.{AsksNone};
 ghost use Rattle.sock_core.specs.Machines.{table_sizes};
 ghost use Rattle.sock_core.specs.Steps.{IsSized, IsNext, IsReady, MayStand, Fits, Makes, FoundBeside};
@@ -49,7 +47,8 @@ pub struct Table<O: Out, I: In, P: Peer> {
     /// Whether the run is ending.
     pub ending: bool,
     pub outcomes: Vec<Option<Outcome>>,
-    /// Where the bytes of frames are copied to.
+    pub alloc: Global,
+    /// Blocks for frames.
     pub pool: BlockPool,
     /// What a reader takes at once.
     pub room: Vec<u8>,
@@ -135,7 +134,7 @@ impl<O: Out, I: In, P: Peer> Table<O, I, P> {
         ensures { OnOk result ((seat : ℕ) → Makes self.old self.new seat (seat_data place.old) (seat_data place.new) (Step.Aside (Aside.PutCall slot)) Unasked) }
     {
         // A seat whose call goes home has one in hand.
-        let Some(call) = &place.call else {
+        let Some(call) = place.hand.call() else {
             return Err(NoMemory);
         };
         let found = self.ids.put_call(slot, call.share()?);
@@ -146,16 +145,17 @@ impl<O: Out, I: In, P: Peer> Table<O, I, P> {
     }
 
     /// A call is taken out of its home.
-    pub fn take_call(&mut self, place: &mut Seat, slot: u16)
+    pub fn take_call(&mut self, place: &mut Seat, slot: u16) -> Result<(), NoMemory>
         requires next { IsNext self.old (seat_data place.old) (Step.Aside (Aside.TakeCall slot)) }
         requires stand { IsReady self.old (seat_data place.old) × MayStand (seat_data place.old) }
         requires fits { Fits self.old (seat_data place.old) (Step.Aside (Aside.TakeCall slot)) }
         requires room { HasRoom place.old }
-        ensures { (seat : ℕ) → Makes self.old self.new seat (seat_data place.old) (seat_data place.new) (Step.Aside (Aside.TakeCall slot)) Unasked }
+        ensures { OnOk result ((seat : ℕ) → Makes self.old self.new seat (seat_data place.old) (seat_data place.new) (Step.Aside (Aside.TakeCall slot)) Unasked) }
     {
         let call = self.ids.take_call(slot);
-        let next = place.with_call(call);
+        let next = place.with_call(self.alloc, &mut self.pool, call)?;
         place.follow(self.sizes(), next, &mut self.outcomes);
+        Ok(())
     }
 
     /// The message that the seat has goes to its home.
@@ -166,7 +166,7 @@ impl<O: Out, I: In, P: Peer> Table<O, I, P> {
         requires room { HasRoom place.old ⊎ AsksNone (seat_program (table_sizes self.old) (seat_data place.old)) }
         ensures { (seat : ℕ) → Makes self.old self.new seat (seat_data place.old) (seat_data place.new) (Step.PutMessage request author) Unasked }
     {
-        put_message(&mut self.letters, request, author, &mut place.message);
+        put_message(&mut self.letters, request, author, &mut place.hand);
         let sizes = self.sizes();
         let next = place.point.next(sizes, place.calling(), 0);
         place.follow(sizes, next, &mut self.outcomes);
@@ -211,17 +211,26 @@ impl<O: Out, I: In, P: Peer> Table<O, I, P> {
     }
 
     /// What is next of the message in hand is put into a link; what the link answered.
-    pub fn put_bytes(&mut self, place: &mut Seat, link: u16) -> Put
-        requires next { (asked : Bool) × (author : Author) × IsNext self.old (seat_data place.old) (Step.PutBytes link asked author) }
-        requires fits { (author : Author) → Fits self.old (seat_data place.old) (Step.PutBytes link false author) }
+    pub fn put_bytes(
+        &mut self,
+        place: &mut Seat,
+        link: u16,
+        author: Author,
+    ) -> Result<Put, NoMemory>
+        requires next { (asked : Bool) × IsNext self.old (seat_data place.old) (Step.PutBytes link asked author) }
+        requires fits { Fits self.old (seat_data place.old) (Step.PutBytes link false author) }
         requires sized { IsSized self.old }
         requires room { HasRoom place.old }
-        ensures { (seat : ℕ) (asked : Bool) (author : Author) → Makes self.old self.new seat (seat_data place.old) (seat_data place.new) (Step.PutBytes link asked author) (OfPut result) }
+        ensures { IfOk result (λ put. (seat : ℕ) (asked : Bool) → Makes self.old self.new seat (seat_data place.old) (seat_data place.new) (Step.PutBytes link asked author) (OfPut put)) }
     {
-        let (answer, whole) = put_bytes(&mut self.ends, link, &mut place.out);
+        // What a `send` puts is no frame.
+        let Some(out) = place.out_of(author) else {
+            return Err(NoMemory);
+        };
+        let (answer, whole) = put_bytes(&mut self.ends, link, out);
         let next = place.point.put_answered(answer, whole);
         place.follow(self.sizes(), next, &mut self.outcomes);
-        answer
+        Ok(answer)
     }
 
     /// A link is asked whether it takes more; what it answered.
@@ -253,7 +262,7 @@ impl<O: Out, I: In, P: Peer> Table<O, I, P> {
                 Ok(Tick::Moved(kind))
             }
             Aside::TakeCall(slot) => {
-                self.take_call(place, slot);
+                self.take_call(place, slot)?;
                 Ok(Tick::Moved(kind))
             }
             _ => {
@@ -304,8 +313,8 @@ impl<O: Out, I: In, P: Peer> Table<O, I, P> {
                 self.put_home(place, link, places);
                 Ok(Tick::Moved(kind))
             }
-            Step::PutBytes(link, _, _) => {
-                self.put_bytes(place, link);
+            Step::PutBytes(link, _, author) => {
+                self.put_bytes(place, link, author)?;
                 Ok(Tick::Moved(kind))
             }
             Step::AskReady(link) => match self.ask_ready(place, link) {
