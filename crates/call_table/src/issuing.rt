@@ -4,6 +4,7 @@ ghost use Rattle.brpc_model.specs.Spelling.{meta_bytes};
 ghost use Rattle.rpc_meta.specs.Meaning.{meaning};
 ghost use Rattle.rpc_meta.specs.Writing.{HasPart};
 ghost use Rattle.io_buf.specs.Buffer.{block_sizes};
+ghost use Rattle.sock_message.specs.Inside.{KeepsLimits};
 ghost use Rattle.sock_message.specs.Asked.{meta_with, request_of, frame_of, head_of};
 
 use prpc_frame::{BlockPool, IoBuf, NoMemory, RpcMeta, encode};
@@ -30,12 +31,15 @@ pub fn issue(
     ensures only { IfOk result (λ b. (more : List ℕ) → judged (b.items ++ more) ≡ Begins (request_of call.now id attempt) (length b.items - 12)) }
     ensures pieces { IfOk result (λ b. b.sizes ≡ head_of call.now id attempt ∷ block_sizes (length call.now.payload) ++ block_sizes (length call.now.attachment)) }
 {
+    // It keeps its limits.
+    let _ = call.name(attempt);
     let meta = request_meta(alloc, call, id + u64::from(attempt) + 1)?;
     encode(alloc, pool, &meta, &call.payload, &call.attachment)
 }
 
 // The meta of the call's request under this correlation id.
 fn request_meta(alloc: Global, call: &Call, correlation_id: u64) -> Result<RpcMeta, NoMemory>
+    requires { KeepsLimits call.now }
     ensures says { IfOk result (λ m. meaning m ≡ meta_with call.now correlation_id) }
     ensures sized { IfOk result (λ m. m.attachment_size ≡ pos (length call.now.attachment)) }
     ensures part { IfOk result (λ m. HasPart (meaning m)) }

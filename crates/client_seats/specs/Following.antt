@@ -1,6 +1,5 @@
 -- How a client's seat goes on behind a step.
 use Rattle.std.specs.Prelude.{ℕ, ◌≡◌, ◌<◌, List, Option, Some, vec_len, vec_capacity}
-use Rattle.std_alloc.specs.VecDeque.{deque_len, deque_capacity}
 use Rattle.sock_message.specs.Asked.{Asked, frame_of, parts_of}
 use Rattle.message_parts.specs.Frames.{ParcelData}
 use Rattle.sock_words.specs.declared.outcome.Outcome.{Outcome}
@@ -53,4 +52,4 @@ pub record HasTaken (old new : SeatData) (asked : Asked) : Type 0 where
 
 -- a seat with room for one more life and one more retry
 abbrev pub HasRoom : Seat → Type 0
-HasRoom seat = (vec_len seat.held < vec_capacity seat.held) × (deque_len seat.waiting < deque_capacity seat.waiting)
+HasRoom seat = (vec_len seat.held < vec_capacity seat.held) × (vec_len seat.waiting < vec_capacity seat.waiting)

@@ -10,7 +10,6 @@ ghost use Rattle.seat_points.specs.Points.{Around, client_on, point_program, nex
 ghost use Rattle.client_seats.specs.Seats.{lives, retries, bytes_of, asked_of, message_in, call_in, seat_data, around, client_of, seat_program};
 ghost use Rattle.sock_message.specs.Asked.{name_of};
 ghost use Rattle.call_points.specs.Steps.{after_call};
-ghost use Rattle.std_alloc.specs.VecDeque.{deque_len, deque_capacity};
 ghost use Rattle.client_seats.specs.Following.{IsFlat, FollowsOn, IsFramedAs, IsPrepared, HasTaken};
 
 use call_points::{DecideStep, LockStep};
@@ -68,7 +67,7 @@ pub struct Seat {
     pub ending: VecDeque<u16>,
     pub point: Point,
     /// The retries that wait, the oldest first.
-    pub waiting: VecDeque<Kept>,
+    pub waiting: Vec<Kept>,
     pub hand: InHand,
     /// What it writes.
     pub out: Option<OutgoingParcel>,
@@ -189,7 +188,7 @@ impl Seat {
             held: Vec::new(alloc),
             ending: VecDeque::new(alloc),
             point: Point::Rest,
-            waiting: VecDeque::new(alloc),
+            waiting: Vec::new(alloc),
             hand: InHand::Nothing,
             out: None,
         }
@@ -334,9 +333,11 @@ impl Seat {
             self.point = give_back(&mut self.held);
             return;
         }
-        match self.waiting.pop_front() {
-            Some(kept) => self.point = kept.point(),
-            None => self.next_task(sizes, outcomes),
+        if self.waiting.is_empty() {
+            self.next_task(sizes, outcomes);
+        } else {
+            let oldest = self.waiting.remove(0);
+            self.point = oldest.point();
         }
     }
 
@@ -385,16 +386,16 @@ impl Seat {
 
     /// A retry is kept, behind those that wait.
     fn keep(&mut self, id: CallId, attempt: AttemptNumber)
-        requires { deque_len self.old.waiting < deque_capacity self.old.waiting }
+        requires { vec_len self.old.waiting < vec_capacity self.old.waiting }
         ensures { seat_data self.new ≡ record (seat_data self.old) { waiting = retries self.old.waiting.items ++ record { id = id_of id; attempt = number_of attempt } ∷ [] } }
     {
-        self.waiting.push_back_reserved(Kept { id, attempt });
+        self.waiting.push_reserved(Kept { id, attempt });
     }
 
     /// The seat goes on behind a step.
     pub fn follow(&mut self, sizes: Sizes, next: Next, outcomes: &mut [Option<Outcome>])
         requires room { (o name : ℕ) (id : SocketId) → next ≡ Next.Held o name id → vec_len self.old.held < vec_capacity self.old.held }
-        requires more { IsFlat next ⊎ (deque_len self.old.waiting < deque_capacity self.old.waiting) }
+        requires more { IsFlat next ⊎ (vec_len self.old.waiting < vec_capacity self.old.waiting) }
         ensures { FollowsOn sizes (seat_data self.old) (seat_data self.new) (next_program (around sizes (seat_data self.old)) next) outcomes.old outcomes.new }
     {
         match next {
