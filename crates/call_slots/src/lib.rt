@@ -1,6 +1,8 @@
-//! A stand-in for the table of the ids.
+//! The table of call ids of a machine on one thread, in plain words, with the calls at home in its slots.
 #![tactic(auto)]
 
-mod slots;
+mod call_slots;
+mod opening;
+mod words;
 
-pub use slots::CallSlots;
+pub use call_slots::CallSlots;

@@ -1,5 +1,5 @@
 -- How a machine begins.
-use Rattle.std.specs.Prelude.{ℕ, ◌≡◌, List, [], map, fold, replicate, Option, None}
+use Rattle.std.specs.Prelude.{ℕ, ◌≡◌, false, List, [], map, fold, replicate, Option, None}
 use Rattle.std.specs.List.{AllByRecursion}
 use Rattle.sock_words.specs.declared.plain.Plan.{Plan}
 use Rattle.sock_words.specs.declared.outcome.Outcome.{Outcome}
@@ -8,8 +8,8 @@ use Rattle.sock_programs.specs.declared.task.Task.{Task}
 use Rattle.sock_programs.specs.declared.task.Sizes.{Sizes}
 use Rattle.sock_programs.specs.Programs.{Program}
 use Rattle.sock_programs.specs.Cores.{said, next_step, resolved}
-use Rattle.sock_programs.specs.Scripts.{opening_words, opening_ids, programs, readers_from, sizes_of}
-use Rattle.call_slots.specs.Slots.{SlotsData, new_slots}
+use Rattle.sock_programs.specs.Scripts.{opening_words, opening_calls, programs, readers_from, sizes_of}
+use Rattle.call_slots.specs.Slots.{SlotState, calls_with}
 use Rattle.reader_seats.specs.Readers.{ReaderData, reader_program}
 use Rattle.sock_core.specs.declared.letter.Letter.{Letter}
 use Rattle.client_seats.specs.Seats.{SeatData, seat_program}
@@ -28,12 +28,12 @@ said_first os programs = fold (λ (us : List (Option Outcome)) (program : Progra
 
 -- the parts of a machine of these clients, and of the readers of links with these `open`s: no message and no link is away from home, no
 -- message has a place, and no id was made
-pub record AreParts (p : Plan) (q : IdPlan) (clients : List (List Task)) (calls opens : List ℕ) (ws : List ℕ) (letters : List (Option Letter)) (hs : List (Option ℕ)) (ns : List ℕ) (ids : SlotsData) (ss : List SeatData) (rs : List ReaderData) (os : List (Option Outcome)) : Type 0 where
+pub record AreParts (p : Plan) (q : IdPlan) (clients : List (List Task)) (calls opens : List ℕ) (ws : List ℕ) (letters : List (Option Letter)) (hs : List (Option ℕ)) (ns : List ℕ) (ids : SlotState) (ss : List SeatData) (rs : List ReaderData) (os : List (Option Outcome)) : Type 0 where
   pub words_are : ws ≡ opening_words p
   pub letters_are : letters ≡ replicate p.requests None
   pub holders_are : hs ≡ replicate p.links None
   pub nexts_are : ns ≡ replicate p.links 0
-  pub ids_are : ids ≡ new_slots q
+  pub ids_are : (links : ℕ) → calls_with ids (replicate q.seats []) (replicate links []) false ≡ opening_calls q links
   pub seats_are : AreBegun (sizes_of p q) ss clients
   pub readers_are : AreReading calls opens rs
   pub outcomes_are : os ≡ said_first (replicate p.operations None) (programs (sizes_of p q) clients)

@@ -18,7 +18,7 @@ use Rattle.sock_runs.specs.Sound.{Sound, AreFew, IsAhead}
 use Rattle.sock_runs.specs.Lasts.{Lasts, MOST_PAID}
 use Rattle.id_runs.specs.Held.{IdView}
 use Rattle.id_runs.specs.Goes.{SoundIds}
-use Rattle.call_slots.specs.Slots.{SlotsData, calls_with}
+use Rattle.call_slots.specs.Slots.{SlotState, calls_with}
 use Rattle.reader_seats.specs.Readers.{ReaderData, reader_program}
 use Rattle.sock_core.specs.declared.letter.Letter.{Letter}
 use Rattle.client_seats.specs.Seats.{SeatData, seat_program}
@@ -32,7 +32,7 @@ pub record MachineState : Type 0 where
   pub words : List ℕ
   pub letters : List (Option Letter)
   pub links : LinksData
-  pub ids : SlotsData
+  pub ids : SlotState
   pub calls : List ℕ
   pub ending : Bool
   pub seats : List SeatData
@@ -48,7 +48,7 @@ pub record TableState : Type 0 where
   pub words : List ℕ
   pub letters : List (Option Letter)
   pub links : LinksData
-  pub ids : SlotsData
+  pub ids : SlotState
   pub calls : List ℕ
   pub ending : Bool
   pub outcomes : List (Option Outcome)

@@ -15,9 +15,12 @@ use Rattle.sock_programs.specs.Cores.{word_of, found_at, words_after, word_after
 use Rattle.sock_programs.specs.Ticks.{Answer, Unasked, OfTake, FitsTake}
 use Rattle.sock_runs.specs.Sound.{AllowsWord, first_step}
 use Rattle.call_points.specs.Steps.{after_word}
-use Rattle.call_slots.specs.Slots.{FitsSlots, slots_after, word_found}
-use Rattle.seat_points.specs.Steps.{First, OfCall, OfAside, first_in}
+use Rattle.call_slots.specs.Steps as slots
+use Rattle.call_slots.specs.Steps.{word_found}
+use Rattle.call_points.specs.Steps as aside_steps
+use Rattle.seat_points.specs.Steps.{First, OfCall, OfAside, first_in, step_of}
 use Rattle.reader_points.specs.declared.point.ReadStep.{ReadStep}
+use Rattle.reader_points.specs.declared.point.ReadStep.TheVariants as steps
 use Rattle.reader_points.specs.Points.{IsWithin, MayFind}
 use Rattle.reader_points.specs.Steps.{step_as}
 use Rattle.reader_seats.specs.Readers.{ReaderData, reader_program}
@@ -25,7 +28,7 @@ use Rattle.reader_seats.specs.GoesOn.{GoesOn}
 use Rattle.sock_core.specs.declared.machine.Tick.{Tick}
 use Rattle.sock_core.specs.Machines.{MachineState, TableState, table_of}
 use Rattle.sock_core.specs.Runs.{SameLink, ShowsTaking, SameLinks}
-use Rattle.sock_core.specs.Steps.{OutsAfter, IsOfLinks, holders_after, beside}
+use Rattle.sock_core.specs.Steps.{OutsAfter, FitsSlots, IsOfLinks, holders_after, beside}
 use Rattle.sock_core.specs.Telling.{Tells}
 
 -- ## Before a step
@@ -47,15 +50,13 @@ pub record MayRead (reader : ReaderData) (found : ℕ) : Type 0 where
   pub within : IsWithin reader.point
   pub word : MayFind reader.point found
 
-abbrev pub FitsRead : TableState → ReaderData → First → Type 0
-FitsRead t reader (OfCall call) = let found = found_at t.words (word_of t.plan call) in
-    ((x : ℕ) → word_of t.plan call ≡ core.some x → x < length t.words) × AllowsWord call found × IsOfLinks t.plan.links call × MayRead reader found
-FitsRead t reader (OfAside (asides.TakeBytes k room)) = k < t.plan.links
-FitsRead t reader (OfAside step) = FitsSlots t.ids step × ((found : Found step) → found_in step (beside t) core.none ≡ core.some found → MayRead reader (word_found step found))
-FitsRead t reader other = Unit {0}
+abbrev pub FitsRead : TableState → ReaderData → ReadStep → Type 0
+FitsRead t reader (steps.Call call) = let found = found_at t.words (word_of t.plan (step_of call)) in
+    ((x : ℕ) → word_of t.plan (step_of call) ≡ core.some x → x < length t.words) × AllowsWord (step_of call) found × IsOfLinks t.plan.links (step_of call) × MayRead reader found
+FitsRead t reader (steps.Aside step) = let aside = aside_steps.step_of reader.asked step in FitsSlots t step × ((word : ℕ) → found_in aside (beside t) core.none ≡ word_found aside word → MayRead reader word)
 
 abbrev pub ReadFits : MachineState → ℕ → ReadStep → Type 0
-ReadFits m k step = (reader : ReaderData) → get_elem? m.readers k ≡ core.some reader → (length m.calls ≤ 4096) × FitsRead (table_of m) reader (step_as reader.asked step)
+ReadFits m k step = (reader : ReaderData) → get_elem? m.readers k ≡ core.some reader → (length m.calls ≤ 4096) × FitsRead (table_of m) reader step
 
 -- ## What a step makes
 
@@ -115,9 +116,8 @@ module _ (old fresh : TableState) (i : ℕ) (reader reader' : ReaderData) where
     pub next : Found step → Program
     pub is : first_step read_program ≡ programs.Aside step next
     pub found : Found step
-    pub finds : found_in step (beside old) core.none ≡ core.some found
+    pub ids : slots.Makes old.ids step (core.some found) fresh.ids
     pub goes : ReadsOn (next found)
-    pub ids : fresh.ids ≡ slots_after step found old.ids
     pub words : fresh.words ≡ old.words
     pub links : fresh.links ≡ old.links
     pub ends : fresh.ends ≡ old.ends

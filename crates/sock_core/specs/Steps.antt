@@ -10,15 +10,19 @@ use Rattle.sock_io.specs.Link.{OutState, PutStep, ReadyStep, FinishStep}
 use Rattle.sock_programs.specs.Parts.{part}
 use Rattle.sock_programs.specs.Asides as asides
 use Rattle.sock_programs.specs.Asides.{Found}
-use Rattle.sock_programs.specs.Beside.{found_in}
+use Rattle.sock_message.specs.Asked.{Asked}
+use Rattle.sock_programs.specs.Beside.{found_in, call_at}
 use Rattle.sock_programs.specs.Calls as calls
 use Rattle.sock_programs.specs.Programs.{Program}
 use Rattle.sock_programs.specs.Programs as programs
 use Rattle.sock_programs.specs.Cores.{Calls, word_of, found_at, words_after, word_after, resolved, still_waiting, next_step, said}
 use Rattle.sock_programs.specs.Ticks.{Answer, Unasked, OfPut, OfReady}
 use Rattle.sock_runs.specs.Sound.{AllowsWord, first_step}
-use Rattle.call_slots.specs.Slots.{FitsSlots, calls_with, slots_after, word_found}
+use Rattle.call_slots.specs.Slots.{calls_with}
+use Rattle.call_slots.specs.Steps as slots
+use Rattle.call_slots.specs.Steps.{word_found}
 use Rattle.call_points.specs.declared.aside.Aside.{Aside}
+use Rattle.call_points.specs.declared.aside.Aside.TheVariants as code
 use Rattle.call_points.specs.Steps as aside_steps
 use Rattle.message_parts.specs.Parcels.{parcel_of}
 use Rattle.seat_points.specs.declared.point.Author.{Author}
@@ -117,11 +121,25 @@ pub record PreparedAt (old new : MachineState) (i : ℕ) : Type 0 where
 
 -- the step of this code finds this word
 abbrev pub FoundBeside : TableState → SeatData → Aside → ℕ → Type 0
-FoundBeside t seat step word = let aside = aside_steps.step_of (asked_of seat.call) step in (found : Found aside) × (found_in aside (beside t) core.none ≡ core.some found) × (word_found aside found ≡ word)
+FoundBeside t seat step word = let aside = aside_steps.step_of (asked_of seat.call) step in found_in aside (beside t) core.none ≡ word_found aside word
 
--- what it finds is as the point relies on
+-- it finds a word, and no call goes into its home
+abbrev pub IsOnWord : Aside → Type 0
+IsOnWord (code.PutCall i) = ⊥
+IsOnWord (code.TakeCall i) = ⊥
+IsOnWord (code.TakeBytes k room) = ⊥
+IsOnWord other = Unit {0}
+
+-- the word that it finds is as the point relies on
 abbrev pub FindsFitting : TableState → SeatData → asides.Step → Type 0
-FindsFitting t seat step = (found : Found step) → found_in step (beside t) core.none ≡ core.some found → MayGoOn t seat (word_found step found)
+FindsFitting t seat step = (word : ℕ) → found_in step (beside t) core.none ≡ word_found step word → MayGoOn t seat word
+
+-- the id slot or operation of the step is one of the table's, and what it stores has room; a call that is taken lies there
+abbrev pub FitsSlots : TableState → Aside → Type 0
+FitsSlots t (code.PutCall i) = i < t.ids.plan.slots
+FitsSlots t (code.TakeCall i) = (i < t.ids.plan.slots) × ((asked : Asked) × (call_at (get_elem? t.ids.homes i) ≡ core.some asked))
+FitsSlots t (code.TakeBytes k room) = k < t.plan.links
+FitsSlots t other = slots.StepFits t.ids other
 
 -- the word of the step is there, and is one that it may find; it is of one of the table's links, requests, id slots and operations; a message
 -- that is taken lies there, one that is put home has some byte, and so has what is put into a link
@@ -129,7 +147,7 @@ abbrev pub Fits : TableState → SeatData → Step → Type 0
 Fits t seat (firsts.Call call) = let found = found_at t.words (word_of t.plan (step_of call)) in
     ((x : ℕ) → word_of t.plan (step_of call) ≡ core.some x → x < length t.words) × AllowsWord (step_of call) found × IsOfLinks t.plan.links (step_of call) × MayGoOn t seat found
 Fits t seat (firsts.Aside step) = let aside = aside_steps.step_of (asked_of seat.call) step in
-    FitsSlots t.ids aside × FindsFitting t seat aside
+    FitsSlots t step × FindsFitting t seat aside
 Fits t seat (firsts.PutMessage q author) = (q < length t.letters) × (bytes_of seat.message ≢ []) × MayGoOn t seat 0
 Fits t seat (firsts.TakeMessage q) = (letter : Letter) × (get_elem? t.letters q ≡ core.some (Some letter))
 Fits t seat (firsts.TakeHome k) = k < t.plan.links
@@ -211,9 +229,8 @@ module _ (old fresh : TableState) (i : ℕ) (seat seat' : SeatData) where
     pub next : Found step → Program
     pub is : first_step program_of ≡ programs.Aside step next
     pub found : Found step
-    pub finds : found_in step (beside old) core.none ≡ core.some found
+    pub ids : slots.Makes old.ids step (core.some found) fresh.ids
     pub goes : Goes old fresh seat seat' (next found)
-    pub ids : fresh.ids ≡ slots_after step found old.ids
     pub words : fresh.words ≡ old.words
     pub letters : fresh.letters ≡ old.letters
     pub links : fresh.links ≡ old.links

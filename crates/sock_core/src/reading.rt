@@ -1,6 +1,5 @@
 ghost use Rattle.std.specs.Prelude.{◌≡◌, ◌≤◌, ◌+◌, IfOk, OnErr, length};
-ghost use Rattle.reader_points.specs.Steps.{step_as};
-ghost use Rattle.sock_core.specs.Steps.{IsSized};
+ghost use Rattle.sock_core.specs.Steps.{IsSized, IsOnWord};
 ghost use Rattle.sock_core.specs.Reading.{IsNextRead, FitsRead, ReadTold};
 
 use crate::machine::{On, Tick};
@@ -24,7 +23,7 @@ impl<O: Out, I: In, P: Peer> Table<O, I, P> {
     ) -> Result<Tick, NoMemory>
         requires calls { length self.old.calls ≤ 4096 }
         requires next { IsNextRead self.old reader.old (ReadStep.Call call) }
-        requires fits { FitsRead self.old reader.old (step_as reader.old.asked (ReadStep.Call call)) }
+        requires fits { FitsRead self.old reader.old (ReadStep.Call call) }
         requires sized { IsSized self.old }
         ensures { IfOk result (λ tick. ReadTold self.old self.new seat reader.old reader.new (ReadStep.Call call) tick) }
     {
@@ -44,7 +43,7 @@ impl<O: Out, I: In, P: Peer> Table<O, I, P> {
         requires calls { length self.old.calls ≤ 4096 }
         requires kind { IsOnWord step }
         requires next { IsNextRead self.old reader.old (ReadStep.Aside step) }
-        requires fits { FitsRead self.old reader.old (step_as reader.old.asked (ReadStep.Aside step)) }
+        requires fits { FitsRead self.old reader.old (ReadStep.Aside step) }
         ensures { IfOk result (λ tick. (seat : ℕ) → ReadTold self.old self.new seat reader.old reader.new (ReadStep.Aside step) tick) }
     {
         let point = reader.point();
@@ -66,7 +65,7 @@ impl<O: Out, I: In, P: Peer> Table<O, I, P> {
     ) -> Result<Tick, NoMemory>
         requires calls { length self.old.calls ≤ 4096 }
         requires next { IsNextRead self.old reader.old (ReadStep.Aside (Aside.TakeBytes link count)) }
-        requires fits { FitsRead self.old reader.old (step_as reader.old.asked (ReadStep.Aside (Aside.TakeBytes link count))) }
+        requires fits { FitsRead self.old reader.old (ReadStep.Aside (Aside.TakeBytes link count)) }
         requires sized { IsSized self.old }
         ensures { IfOk result (λ tick. (seat : ℕ) → ReadTold self.old self.new seat reader.old reader.new (ReadStep.Aside (Aside.TakeBytes link count)) tick) }
     {
@@ -98,7 +97,7 @@ impl<O: Out, I: In, P: Peer> Table<O, I, P> {
     ) -> Result<Tick, NoMemory>
         requires calls { length self.old.calls ≤ 4096 }
         requires next { IsNextRead self.old reader.old step }
-        requires fits { FitsRead self.old reader.old (step_as reader.old.asked step) }
+        requires fits { FitsRead self.old reader.old step }
         requires sized { IsSized self.old }
         ensures { IfOk result (λ tick. ReadTold self.old self.new seat reader.old reader.new step tick) }
     {
@@ -108,7 +107,10 @@ impl<O: Out, I: In, P: Peer> Table<O, I, P> {
                 self.read_bytes(links, reader, link, count)
             }
             ReadStep::Aside(Aside::TakeCall(slot)) => {
-                let call = self.ids.take_call(slot);
+                // The call lies there.
+                let Some(call) = self.ids.take_call(slot) else {
+                    return Err(NoMemory);
+                };
                 reader.follow_call(call);
                 Ok(Tick::Moved(Kind::K2))
             }

@@ -2,12 +2,11 @@ ghost use Rattle.std.specs.Prelude.{◌≡◌, ◌<◌, ◌⊎◌, ℕ, Bool, fa
 ghost use Rattle.sock_programs.specs.Cores.{word_of, found_at};
 ghost use Rattle.sock_programs.specs.Ticks.{Unasked, OfPut, OfReady};
 ghost use Rattle.seat_points.specs.Steps.{step_of};
-ghost use Rattle.call_slots.specs.Slots.{IsOnWord};
 ghost use Rattle.client_seats.specs.Seats.{seat_data, seat_program};
 ghost use Rattle.client_seats.specs.Following.{HasRoom};
 ghost use Rattle.sock_core.specs.Driving.{AsksNone};
 ghost use Rattle.sock_core.specs.Machines.{table_sizes};
-ghost use Rattle.sock_core.specs.Steps.{IsSized, IsNext, IsReady, MayStand, Fits, Makes, FoundBeside};
+ghost use Rattle.sock_core.specs.Steps.{IsSized, IsNext, IsReady, IsOnWord, MayStand, Fits, Makes, FoundBeside};
 ghost use Rattle.sock_core.specs.Telling.{StepTold};
 
 use crate::letter::Letter;
@@ -152,7 +151,10 @@ impl<O: Out, I: In, P: Peer> Table<O, I, P> {
         requires room { HasRoom place.old }
         ensures { OnOk result ((seat : ℕ) → Makes self.old self.new seat (seat_data place.old) (seat_data place.new) (Step.Aside (Aside.TakeCall slot)) Unasked) }
     {
-        let call = self.ids.take_call(slot);
+        // The call lies there.
+        let Some(call) = self.ids.take_call(slot) else {
+            return Err(NoMemory);
+        };
         let next = place.with_call(self.alloc, &mut self.pool, call)?;
         place.follow(self.sizes(), next, &mut self.outcomes);
         Ok(())

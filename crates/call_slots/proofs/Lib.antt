@@ -1,0 +1,4 @@
+pub mod Packing
+pub mod Making
+pub mod Openings
+pub mod Fitting

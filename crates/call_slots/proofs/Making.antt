@@ -1,0 +1,62 @@
+-- What a step makes of the table is what the programs say of it.
+use Rattle.std.proofs.Common.{◌≡◌, ℕ, ◌<◌, refl, ap, get_or, set, List, arith}
+use Rattle.std.proofs.lemmas.List.{set-get_or}
+use Rattle.corr_core.specs.declared.marks.Plan.{Plan}
+use Rattle.id_rule.specs.Lawful.{all_words}
+use Rattle.sock_message.specs.Asked.{Asked}
+use Rattle.call_points.specs.declared.aside.Aside as code
+use Rattle.call_points.specs.declared.aside.Aside.TheVariants.{ClaimId, PutCall, MakeId, StoreCall, LoadCall, StoreAt, LoadAt, LoadIdWord, LockId, PostId, UnlockId, EndId, FreeId, TakeCall, TakeBytes}
+use Rattle.call_points.specs.Steps.{step_of}
+use Rattle.call_slots.specs.Slots.{SlotState, calls_with}
+use Rattle.call_slots.specs.Words.{place_of, next_of, IsWithin}
+use Rattle.call_slots.specs.Steps.{word_found, Makes}
+
+module _ (s : SlotState) where
+  -- the word that a step finds, and the table behind it
+  abbrev pub found_of : code.Aside → ℕ
+  found_of step = get_or s.words (place_of s.plan step) 0
+
+  abbrev pub stepped : code.Aside → SlotState
+  stepped step = record { plan = s.plan; words = set s.words (place_of s.plan step) (next_of step (found_of step)); homes = s.homes }
+
+  abbrev With : List ℕ → SlotState
+  With words = record { plan = s.plan; words = words; homes = s.homes }
+
+  -- a word that is stored as it was found
+  loads : (x : ℕ) → set s.words x (get_or s.words x 0) ≡ s.words
+  loads x = set-get_or s.words x 0
+
+  pub makes : (asked : Asked) (step : code.Aside) → IsWithin s.plan step → Makes s (step_of asked step) (word_found (step_of asked step) (found_of step)) (stepped step)
+  makes asked (ClaimId i) h = record { finds = λ w g e t. refl; changes = λ w g e. refl }
+  makes asked (PutCall i) h = absurd h
+  makes asked (MakeId i range) h = record { finds = λ w g e t. refl; changes = λ w g e. refl }
+  makes asked (StoreCall o id) h = record { finds = λ w g e t. refl; changes = λ w g e. refl }
+  makes asked (LoadCall o) h = record { finds = λ w g e t. refl; changes = λ w g e. ap (λ ws. calls_with (With ws) w g e) (loads (place_of s.plan (LoadCall o))) }
+  makes asked (StoreAt o word) h = record { finds = λ w g e t. refl; changes = λ w g e. refl }
+  makes asked (LoadAt o) h = record { finds = λ w g e t. refl; changes = λ w g e. ap (λ ws. calls_with (With ws) w g e) (loads (place_of s.plan (LoadAt o))) }
+  makes asked (LoadIdWord i) h = record { finds = λ w g e t. refl; changes = λ w g e. ap (λ ws. calls_with (With ws) w g e) (loads (place_of s.plan (LoadIdWord i))) }
+  makes asked (LockId i from) h = record { finds = λ w g e t. refl; changes = λ w g e. refl }
+  makes asked (PostId i from error) h = record { finds = λ w g e t. refl; changes = λ w g e. refl }
+  makes asked (UnlockId i from advance) h = record { finds = λ w g e t. refl; changes = λ w g e. refl }
+  makes asked (EndId i) h = record { finds = λ w g e t. refl; changes = λ w g e. refl }
+  makes asked (FreeId i) h = record { finds = λ w g e t. refl; changes = λ w g e. refl }
+  makes asked (TakeCall i) h = absurd h
+  makes asked (TakeBytes k room) h = absurd h
+
+-- the word of a step is one of the table
+pub is_inside : (p : Plan) (step : code.Aside) → IsWithin p step → place_of p step < all_words p
+is_inside p (ClaimId i) h = omega (arith, h)
+is_inside p (PutCall i) h = absurd h
+is_inside p (MakeId i range) h = omega (arith, h)
+is_inside p (StoreCall o id) h = omega (arith, h)
+is_inside p (LoadCall o) h = omega (arith, h)
+is_inside p (StoreAt o word) h = omega (arith, h)
+is_inside p (LoadAt o) h = omega (arith, h)
+is_inside p (LoadIdWord i) h = omega (arith, h)
+is_inside p (LockId i from) h = omega (arith, h)
+is_inside p (PostId i from error) h = omega (arith, h)
+is_inside p (UnlockId i from advance) h = omega (arith, h)
+is_inside p (EndId i) h = omega (arith, h)
+is_inside p (FreeId i) h = omega (arith, h)
+is_inside p (TakeCall i) h = absurd h
+is_inside p (TakeBytes k room) h = absurd h

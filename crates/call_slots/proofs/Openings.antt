@@ -1,0 +1,14 @@
+-- One more slot that was never used.
+use Rattle.std.proofs.Common.{◌≡◌, ℕ, zero, suc, ◌+◌, ◌*◌, length, List, [], ◌∷◌, ◌++◌, refl, ap, ◌∙◌, append_assoc, arith}
+use Rattle.sock_programs.specs.Scripts.{opening_ids}
+
+last_slot : (n : ℕ) → opening_ids n ++ opening_ids 1 ≡ opening_ids (n + 1)
+last_slot zero = refl
+last_slot (suc n) = let e : suc n + 1 ≡ suc (n + 1) = omega arith in rw e (ap (λ (l : List ℕ). 0 ∷ 274877906944 ∷ l) (last_slot n))
+
+pub slots_more : (xs ys : List ℕ) (n : ℕ) → ys ≡ xs ++ opening_ids n → ys ++ opening_ids 1 ≡ xs ++ opening_ids (n + 1)
+slots_more xs ys n e = ap (λ (l : List ℕ). l ++ opening_ids 1) e ∙ append_assoc xs (opening_ids n) (opening_ids 1) ∙ ap (λ (l : List ℕ). xs ++ l) (last_slot n)
+
+pub ids_length : (n : ℕ) → length (opening_ids n) ≡ 2 * n
+ids_length zero = refl
+ids_length (suc n) = omega (arith, ids_length n)

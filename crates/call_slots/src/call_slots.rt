@@ -1,0 +1,84 @@
+use crate::opening::{empty_homes, opening_words};
+use crate::words::{step_word, tag_place};
+use call_points::Aside;
+use corr_core::Plan;
+use sock_message::{Call, NoMemory};
+use std::alloc::Global;
+use std::marker::Model;
+
+/// The call ids of a machine on one thread: a tag and an id word for each slot, a call word and an at word for each
+/// operation, and a home for the call of each slot. Each step takes constant time.
+#[derive(Drop)]
+pub struct CallSlots {
+    plan: Plan,
+    words: Vec<u64>,
+    homes: Vec<Option<Call>>,
+}
+
+impl Model for CallSlots {
+    ghost use Rattle.std.specs.Prelude.{◌≡◌, length, map};
+    ghost use mathlib.Core.Option.{some};
+    ghost use Rattle.id_rule.specs.Lawful.{all_words};
+    ghost use Rattle.call_slots.specs.Slots.{SlotState};
+
+    ghost Value = { SlotState };
+
+    ghost view = { λ s. record { plan = s.plan; words = s.words.items; homes = map some s.homes.items } };
+
+    ghost invariant = { λ s. (length s.words.items ≡ all_words s.plan) × (length s.homes.items ≡ s.plan.slots) };
+}
+
+impl CallSlots {
+    ghost use Rattle.std.specs.Prelude.{◌≡◌, ◌<◌, ℕ, false, [], replicate, option_map, IfOk};
+    ghost use mathlib.Core.Option.{some};
+    ghost use lib.ListN.{get_elem?};
+    ghost use Rattle.sock_message.specs.Asked.{Asked};
+    ghost use Rattle.sock_programs.specs.Asides.{PutCall, TakeCall};
+    ghost use Rattle.sock_programs.specs.Beside.{call_at};
+    ghost use Rattle.sock_programs.specs.Scripts.{opening_calls};
+    ghost use Rattle.call_points.specs.Steps.{step_of};
+    ghost use Rattle.call_slots.specs.Slots.{calls_with, as_found};
+    ghost use Rattle.call_slots.specs.Steps.{Makes, StepFits, word_found};
+
+    /// A table of these sizes before its first step.
+    pub fn new(alloc: Global, plan: Plan) -> Result<CallSlots, NoMemory>
+        ensures { IfOk result (λ s. (links : ℕ) → calls_with s (replicate plan.seats []) (replicate links []) false ≡ opening_calls plan links) }
+    {
+        let words = opening_words(alloc, plan)?;
+        let homes = empty_homes(alloc, plan.slots)?;
+        Ok(CallSlots { plan, words, homes })
+    }
+
+    /// Makes a step on its word, and answers the word found.
+    pub fn step(&mut self, step: Aside) -> u64
+        requires { StepFits self.old step }
+        ensures { (asked : Asked) → Makes self.old (step_of asked step) (word_found (step_of asked step) result) self.new }
+    {
+        step_word(self.plan, &mut self.words, step)
+    }
+
+    /// The call goes into the home of a slot, and the slot's tag is answered.
+    pub fn put_call(&mut self, slot: u16, call: Call) -> u64
+        requires { slot < self.old.plan.slots }
+        ensures { Makes self.old (PutCall slot call) (some result) self.new }
+    {
+        self.homes[usize::from(slot)] = Some(call);
+        self.words[tag_place(slot)]
+    }
+
+    /// The call is taken out of its home, where it is there.
+    pub fn take_call(&mut self, slot: u16) -> Option<Call>
+        requires { slot < self.old.plan.slots }
+        ensures { Makes self.old (TakeCall slot) (as_found result) self.new }
+    {
+        self.homes[usize::from(slot)].take()
+    }
+
+    /// The call at home in a slot.
+    pub fn call_at(&self, slot: u16) -> Option<&Call>
+        requires { slot < self.now.plan.slots }
+        ensures { call_at (get_elem? self.now.homes slot) ≡ as_found (option_map (λ c. c.now) result) }
+    {
+        self.homes[usize::from(slot)].as_ref()
+    }
+}
