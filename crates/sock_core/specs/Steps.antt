@@ -24,11 +24,12 @@ use Rattle.call_slots.specs.Steps.{word_found}
 use Rattle.call_points.specs.declared.aside.Aside.{Aside}
 use Rattle.call_points.specs.declared.aside.Aside.TheVariants as code
 use Rattle.call_points.specs.Steps as aside_steps
+use Rattle.call_points.specs.Steps.{after_word}
 use Rattle.message_parts.specs.Parcels.{parcel_of}
 use Rattle.seat_points.specs.declared.point.Author.{Author}
 use Rattle.seat_points.specs.declared.point.Step.{Step}
 use Rattle.seat_points.specs.declared.point.Step.TheVariants as firsts
-use Rattle.seat_points.specs.Points.{IsWithin, IsWithinIds, MayFind, MayFindAside, HasLinkAt, TellsCodeAt, HasInHand, after_word, after_message, after_link, after_home, after_put, after_ready, parts_by}
+use Rattle.seat_points.specs.Points.{IsWithin, IsWithinIds, MayFind, MayFindAside, HasLinkAt, TellsCodeAt, HasInHand, after_message, after_link, after_home, after_put, after_ready, parts_by}
 use Rattle.seat_points.specs.Steps.{First, OfCall, OfAside, OfMessage, OfLink, OfHome, step_of, step_as, first_in}
 use Rattle.seat_points.specs.Steps as kinds
 use Rattle.sock_core.specs.declared.letter.Letter.{Letter}

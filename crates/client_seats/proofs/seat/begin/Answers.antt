@@ -1,7 +1,7 @@
 use Rattle.std.proofs.Common.{◌∙◌}
 use Rattle.client_seats.specs.Seats.{lives}
-use Rattle.sock_core.proofs.HeldLives.{drops, sends}
-use Rattle.sock_core.proofs.seat.begin.Goals as goal
+use Rattle.client_seats.proofs.HeldLives.{drops, sends}
+use Rattle.client_seats.proofs.seat.begin.Goals as goal
 
 pub returns-in_ok-id-in-Drop-clause-some : goal.returns-in_ok-id-in-Drop-clause-some
 returns-in_ok-id-in-Drop-clause-some c a sizes held message =

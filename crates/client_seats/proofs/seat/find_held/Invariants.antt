@@ -1,7 +1,7 @@
 use Rattle.std.proofs.Common.{◌≡◌, drop}
 use Rattle.sock_programs.specs.Clients.{held_under}
 use Rattle.client_seats.specs.Seats.{lives}
-use Rattle.sock_core.proofs.seat.find_held.Given as goal
+use Rattle.client_seats.proofs.seat.find_held.Given as goal
 
 -- it isn't among those that were looked at
 abbrev pub invariant-loop-life : goal.invariant-loop-life

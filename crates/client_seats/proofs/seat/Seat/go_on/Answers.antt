@@ -3,8 +3,8 @@ use Rattle.sock_programs.specs.Clients.{give_back}
 use Rattle.client_seats.specs.declared.seat.Seat.{Seat}
 use Rattle.seat_points.specs.Points.{point_program}
 use Rattle.client_seats.specs.Seats.{lives, around, seat_data}
-use Rattle.sock_core.proofs.GoingOn.{begins_said, ends_tasks, none_in}
-use Rattle.sock_core.proofs.seat.Seat.go_on.Goals as goal
+use Rattle.client_seats.proofs.GoingOn.{begins_said, ends_tasks, none_in}
+use Rattle.client_seats.proofs.seat.Seat.go_on.Goals as goal
 
 pub returns-in-Some-begin-clause-said : goal.returns-in-Some-begin-clause-said
 returns-in-Some-begin-clause-said c =

@@ -1,7 +1,7 @@
 use Rattle.std.proofs.Common.{◌≡◌, length}
 use Rattle.sock_programs.specs.Cores.{said, next_step}
 use Rattle.client_seats.specs.Seats.{seat_data, client_of}
-use Rattle.sock_core.proofs.seat.Seat.go_on.Given as goal
+use Rattle.client_seats.proofs.seat.Seat.go_on.Given as goal
 
 -- what is left is as before, but for the outcomes that were told
 abbrev pub invariant-loop-task : goal.invariant-loop-task
