@@ -1,6 +1,6 @@
 -- What the links of a run with calls answered, by either half.
 use Rattle.std.specs.Prelude.{ℕ, List, [], ◌∷◌, ◌++◌, map}
-use mathlib.Core.Option.{Option, some, none}
+use mathlib.Core.Option.{some, none}
 use lib.ListN.{get_elem?}
 use Rattle.sock_words.specs.declared.plain.Plan.{Plan}
 use Rattle.brpc_model.specs.Items.{Item}
@@ -24,14 +24,22 @@ asked (Round (Reads r) next) = r.link ∷ []
 asked (Round (Discards k total) next) = k ∷ []
 asked other = []
 
+-- the answers of a tick to so many questions of its step
+abbrev pub said_at : (Program → List ℕ) → Core → Moment → List Answer
+said_at asks c m = elim (get_elem? c.seats m.seat) as (λ o. List Answer) [ none ↦ [] | some seat ↦ map (λ (k : ℕ). m.answer) (asks seat.program) ]
+
+-- and those of these ticks, one after another
+abbrev pub said_in : (Program → List ℕ) → Plan → Core → List Moment → List Answer
+said_in asks p c [] = []
+said_in asks p c (m ∷ ms) = said_at asks c m ++ said_in asks p (ticked p c m) ms
+
 -- what the link answered that a tick asked, if it asked one
 abbrev pub told_at : Core → Moment → List Answer
-told_at c m = elim (get_elem? c.seats m.seat) as (λ o. List Answer) [ none ↦ [] | some seat ↦ map (λ (k : ℕ). m.answer) (asked seat.program) ]
+told_at c m = said_at asked c m
 
 -- and in these ticks, one after another
 abbrev pub told_in : Plan → Core → List Moment → List Answer
-told_in p c [] = []
-told_in p c (m ∷ ms) = told_at c m ++ told_in p (ticked p c m) ms
+told_in p c ms = said_in asked p c ms
 
 -- what the links answered in the run before its ending, and behind it
 abbrev pub before_ending : {script : List Item} {turns : List Turn} {end_ : Core} → IsRunWithCalls script turns end_ → List Answer
