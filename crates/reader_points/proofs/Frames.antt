@@ -1,13 +1,14 @@
 -- A reader goes through the frames of the bytes that it has in hand.
-use Rattle.std.proofs.Common.{Option, None, nat_lt, append_assoc, ◌≡◌, ℕ, zero, suc, ◌+◌, ◌-◌, ◌≤◌, Bool, true, false, ◌&&◌, List, [], ◌∷◌, ◌++◌, length, drop, All, refl, ap, sym, ◌∙◌, arith}
+use Rattle.std.proofs.Common.{length-drop, None, nat_lt, append_assoc, ◌≡◌, ℕ, zero, suc, ◌+◌, ◌-◌, ◌≤◌, true, false, List, [], ◌∷◌, ◌++◌, length, drop, refl, ap, sym, ◌∙◌, arith}
 use Rattle.std.proofs.Math.Path.{fun_ext}
+use Rattle.std.specs.List.{AllByRecursion}
 use Rattle.std.proofs.lemmas.List.{drop-drop}
 use Rattle.brpc_model.specs.Frame.{Frame, FrameFault, Judged, NoneYet, Faulty, Begins, judged}
 use Rattle.brpc_model.specs.Stream.{Stream, Ending, Rest, Fault, goes_on, stream_up_to, stream_from, stream}
-use Rattle.prpc_frame.specs.Cuts.{behind, Cut}
+use Rattle.prpc_frame.specs.Cuts.{Cut}
 use Rattle.prpc_frame.proofs.Cuts.{stream_whole, stream_rest, stream_fault, frames_anywhere}
 use Rattle.sock_programs.specs.Asides.{Bytes}
-use Rattle.sock_programs.specs.Heads.{Reading, Ended, Locks, Version}
+use Rattle.sock_programs.specs.Heads.{Reading, Locks, Version}
 use Rattle.sock_programs.specs.Programs.{Program, Round}
 use Rattle.sock_programs.specs.Readers.{LIMIT, slot_in, version_in, answered, responses, read_on, read, last_of}
 use Rattle.call_points.specs.declared.locking.Locker.{Locker}
@@ -25,7 +26,7 @@ use Rattle.reader_points.specs.Points.{Around, count_of, reading_with, frames_pr
 abbrev pub IsSkipped : ℕ → Frame → Type 0
 IsSkipped ids f = is_asked ids f ≡ false
 
-pub skipped : (ids : ℕ) (fs gs kept : List Frame) (k : List Frame → Program) → All (IsSkipped ids) fs → responses ids (fs ++ gs) kept k ≡ responses ids gs kept k
+pub skipped : (ids : ℕ) (fs gs kept : List Frame) (k : List Frame → Program) → AllByRecursion (IsSkipped ids) fs → responses ids (fs ++ gs) kept k ≡ responses ids gs kept k
 skipped ids [] gs kept k all = refl
 skipped ids (f ∷ fs) gs kept k all = rw all.0 (skipped ids fs gs kept k all.1)
 
@@ -48,7 +49,7 @@ goes_end at at' bytes (Faulty fault) f g h = tt
 goes_end at at' bytes (Begins frame body) f g h = h body
 
 drop_short : (n : ℕ) (l : List ℕ) → length (drop n l) ≤ length l
-drop_short n l = grind arith
+drop_short n l = omega (arith, length-drop n l)
 
 same_end : (n at at' : ℕ) (bytes : List ℕ) → SameEnd (length bytes) (stream_up_to n at bytes).ending (stream_up_to n at' bytes).ending
 same_end zero at at' bytes = (refl, omega arith)
@@ -70,7 +71,7 @@ left_all bytes = record {
 
 pub left_more : (old mid new : List ℕ) (m : ℕ) → IsLeft old mid → m ≤ length mid → new ≡ drop m mid → IsLeft old new
 left_more old mid new m l le e =
-    let size : length new + m ≡ length mid = grind (arith, e, le) in
+    let size : length new + m ≡ length mid = omega (arith, ap length e, length-drop m mid, le) in
     let n : length old - length new ≡ (length old - length mid) + m = omega (arith, size, l.fewer) in
     record {
       fewer = omega (arith, size, l.fewer);
@@ -98,14 +99,14 @@ read_same a r old new kept (Fault at f) (Rest n) l h = absurd h
 abbrev goes : Around → Reader → List ℕ → List Frame → Stream → Program
 goes a r bytes kept s = responses (length a.calls) s.frames kept (λ kept'. read_on (reading_with a r bytes kept') bytes s.ending (read a.calls))
 
-none_asked : (ids : ℕ) (fs kept : List Frame) (k : List Frame → Program) → All (IsSkipped ids) fs → responses ids fs kept k ≡ k kept
+none_asked : (ids : ℕ) (fs kept : List Frame) (k : List Frame → Program) → AllByRecursion (IsSkipped ids) fs → responses ids fs kept k ≡ k kept
 none_asked ids [] kept k all = refl
 none_asked ids (f ∷ fs) kept k all = rw all.0 (none_asked ids fs kept k all.1)
 
 last_all : (bytes : List ℕ) → last_of (length bytes) bytes ≡ bytes
 last_all bytes = let e : length bytes - length bytes ≡ 0 = omega arith in rw e refl
 
-module _ (a : Around) (r : Reader) (old new : List ℕ) (fs : List Frame) (cut : Cut old fs new) (left : IsLeft old new) (all : All (IsSkipped (length a.calls)) fs) where
+module _ (a : Around) (r : Reader) (old new : List ℕ) (fs : List Frame) (cut : Cut old fs new) (left : IsLeft old new) (all : AllByRecursion (IsSkipped (length a.calls)) fs) where
   rest_behind : judged new ≡ NoneYet → frames_program a r old a.kept ≡ read_on (reading_with a r new a.kept) new (Rest (length new)) (read a.calls)
   rest_behind e = ap (goes a r old a.kept) (stream_rest old new fs cut e)
       ∙ none_asked (length a.calls) fs a.kept (λ kept. read_on (reading_with a r old kept) old (Rest (length new)) (read a.calls)) all
@@ -117,7 +118,7 @@ module _ (a : Around) (r : Reader) (old new : List ℕ) (fs : List Frame) (cut :
 
   -- and at the limit the reading has ended
   pub takes_none : judged new ≡ NoneYet → nat_lt (count_of r.total) LIMIT ≡ false → frames_program a r old a.kept ≡ point_program (with_held new a) (points.Close (record { reader = r; fault = false; next = 0 }) closes.AddRef)
-  takes_none e many = rest_behind e ∙ rw (many, last_all new) refl
+  takes_none e many = rest_behind e ∙ rw many refl
 
   -- so it has behind a fault
   pub ends_in_fault : (f : FrameFault) → judged new ≡ Faulty f → frames_program a r old a.kept ≡ point_program (with_held new a) (points.Close (record { reader = r; fault = true; next = 0 }) closes.AddRef)
@@ -125,7 +126,7 @@ module _ (a : Around) (r : Reader) (old new : List ℕ) (fs : List Frame) (cut :
       ∙ none_asked (length a.calls) fs a.kept (λ kept. read_on (reading_with a r old kept) old (Fault cut.size f) (read a.calls)) all
 
 -- a response is cut
-module _ (a : Around) (r : Reader) (old new : List ℕ) (fs : List Frame) (f : Frame) (cut : Cut old (fs ++ f ∷ []) new) (left : IsLeft old new) (all : All (IsSkipped (length a.calls)) fs) (asked : is_asked (length a.calls) f ≡ true) where
+module _ (a : Around) (r : Reader) (old new : List ℕ) (fs : List Frame) (f : Frame) (cut : Cut old (fs ++ f ∷ []) new) (left : IsLeft old new) (all : AllByRecursion (IsSkipped (length a.calls)) fs) (asked : is_asked (length a.calls) f ≡ true) where
   abbrev later : Stream
   later = stream_from cut.size new
 

@@ -1,5 +1,6 @@
 pub mod Frames
 pub mod Taking
-pub mod Cutting
+pub mod CutFrames
 pub mod Going
-pub mod Keeping
+pub mod FirstKept
+pub mod StepKinds

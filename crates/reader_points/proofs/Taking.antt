@@ -59,7 +59,7 @@ IsOver other = ⊥
 
 module _ (a : Around) (link : ℕ) (before : ByteCount) where
   pub threw_bytes : (total : ByteCount) (n : ℕ) (taking : Taking) → count_of total ≡ count_of before + n → nat_lt (count_of total) LIMIT ≡ true → IsTaken (takens.Bytes n) taking →
-      next_program (with_taking taking a) (nexts.Point (points.Discard link total)) ≡ after_taking (point_program a (points.Discard link before)) taking
+      point_program a (points.Discard link total) ≡ after_taking (point_program a (points.Discard link before)) taking
   threw_bytes total n (Bytes bytes) e few h =
       let f : count_of total ≡ count_of before + length bytes = e ∙ ap (λ m. count_of before + m) h in
       let g : nat_lt (count_of before + length bytes) LIMIT ≡ true = sym (ap (λ m. nat_lt m LIMIT) f) ∙ few in
@@ -71,7 +71,7 @@ module _ (a : Around) (link : ℕ) (before : ByteCount) where
   threw_bytes total n Broken e few h = absurd h
 
   pub threw_all : (total : ByteCount) (n : ℕ) (taking : Taking) → count_of total ≡ count_of before + n → nat_lt (count_of total) LIMIT ≡ false → IsTaken (takens.Bytes n) taking →
-      next_program (with_taking taking a) (nexts.Point points.Rest) ≡ after_taking (point_program a (points.Discard link before)) taking
+      point_program a points.Rest ≡ after_taking (point_program a (points.Discard link before)) taking
   threw_all total n (Bytes bytes) e many h =
       let f : count_of total ≡ count_of before + length bytes = e ∙ ap (λ m. count_of before + m) h in
       let g : nat_lt (count_of before + length bytes) LIMIT ≡ false = sym (ap (λ m. nat_lt m LIMIT) f) ∙ many in
@@ -82,7 +82,7 @@ module _ (a : Around) (link : ℕ) (before : ByteCount) where
   threw_all total n Closed e many h = absurd h
   threw_all total n Broken e many h = absurd h
 
-  pub threw_nothing : (taking : Taking) → IsTaken takens.Nothing taking → next_program (with_taking taking a) (nexts.Point (points.Discard link before)) ≡ after_taking (point_program a (points.Discard link before)) taking
+  pub threw_nothing : (taking : Taking) → IsTaken takens.Nothing taking → point_program a (points.Discard link before) ≡ after_taking (point_program a (points.Discard link before)) taking
   threw_nothing (Bytes bytes) h = absurd h
   threw_nothing Nothing h = refl
   threw_nothing NoMore h = absurd h
@@ -90,7 +90,7 @@ module _ (a : Around) (link : ℕ) (before : ByteCount) where
   threw_nothing Closed h = absurd h
   threw_nothing Broken h = absurd h
 
-  pub threw_last : (taken : Taken) (taking : Taking) → IsOver taken → IsTaken taken taking → next_program (with_taking taking a) (nexts.Point points.Rest) ≡ after_taking (point_program a (points.Discard link before)) taking
+  pub threw_last : (taken : Taken) (taking : Taking) → IsOver taken → IsTaken taken taking → point_program a points.Rest ≡ after_taking (point_program a (points.Discard link before)) taking
   threw_last takens.Over NoMore o h = refl
   threw_last takens.Over AtEnd o h = refl
   threw_last takens.Over Broken o h = refl

@@ -1,12 +1,10 @@
 -- What the reader of a link has still to do, by the point at which it stands: its program from each of its steps on.
-use Rattle.std.specs.Prelude.{ℕ, ◌≡◌, ◌≤◌, ◌-◌, ◌+◌, ◌==◌, ◌&&◌, Bool, true, false, not, min, nat_lt, nat_le, if◌then◌else◌, List, [], ◌∷◌, ◌++◌, length, drop, Option, Some, None, pos}
-use Rattle.sock_words.specs.Words.{socket_id_slot, socket_id_version, vref_version, at_word_link, at_word_slot, at_word_first, at_word_attempt}
-use Rattle.sock_words.specs.declared.socket_id.SocketId.{SocketId}
+use Rattle.std.specs.Prelude.{ℕ, ◌≡◌, ◌≤◌, ◌-◌, ◌==◌, Bool, true, false, min, nat_lt, if◌then◌else◌, List, [], ◌∷◌, ◌++◌, length, drop, Option, Some, None, pos}
+use Rattle.sock_words.specs.Words.{socket_id_slot, socket_id_version, at_word_link, at_word_slot, at_word_first, at_word_attempt}
 use Rattle.sock_words.specs.declared.outcome.Outcome.TheVariants.{CallFailed}
 use Rattle.corr_core.specs.Word.{parts, error_of}
 use Rattle.brpc_model.specs.Frame.{Frame, NoneYet, judged}
-use Rattle.brpc_model.specs.Stream.{Ending, stream}
-use Rattle.brpc_model.specs.Stream as streams
+use Rattle.brpc_model.specs.Stream.{stream}
 use Rattle.sock_message.specs.Asked.{Asked}
 use Rattle.sock_programs.specs.Asides.{Taking, Bytes, Nothing, NoMore, AtEnd, Closed, Broken, LoadAt, TakeCall, FreeId, call_id, id_slot}
 use Rattle.sock_programs.specs.Calls as calls

@@ -1,5 +1,4 @@
 -- The steps of a reader's code as those of its program.
-use Rattle.std.specs.Prelude.{ℕ, Bool, List, Option, Some, None}
 use Rattle.sock_programs.specs.Asides as asides
 use Rattle.sock_programs.specs.Asides.{Found, Taking}
 use Rattle.sock_programs.specs.Programs.{Program, Aside, Round, Rest}

@@ -2,7 +2,7 @@ ghost use Rattle.std.specs.Prelude.{◌≡◌};
 ghost use Rattle.sock_message.specs.Asked.{Asked};
 ghost use Rattle.call_points.specs.Steps.{after_word, after_call};
 ghost use Rattle.id_points.specs.Ids.{id_of};
-ghost use Rattle.reader_points.specs.Points.{Around, answer_program, next_program, point_program, with_asked, AnswersByWord, HasNext};
+ghost use Rattle.reader_points.specs.Points.{Around, answer_program, next_program, point_program, with_asked, AnswersByWord, HasInHand, HasNext};
 
 use crate::point::{AnswerStep, Behind, ReadNext, ReadPoint};
 use call_points::EndStep;
@@ -11,7 +11,8 @@ use id_points::CallId;
 impl Behind {
     /// Where the end of the call with this id goes on with the call in hand, which is that of this operation.
     pub fn with_call(self, id: CallId, operation: u16) -> ReadPoint
-        ensures { (a : Around) (asked : Asked) → asked.operation ≡ operation → point_program (with_asked asked a) result ≡ after_call (answer_program a self (id_of id) AnswerStep.Take) asked }
+        ensures program { (a : Around) (asked : Asked) → asked.operation ≡ operation → point_program (with_asked asked a) result ≡ after_call (answer_program a self (id_of id) AnswerStep.Take) asked }
+        ensures hand { (a : Around) → HasInHand a result }
     {
         ReadPoint::Answer(self, id, AnswerStep::End(operation, EndStep::End))
     }

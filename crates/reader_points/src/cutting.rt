@@ -1,4 +1,4 @@
-ghost use Rattle.std.specs.Prelude.{◌≡◌, nat_lt, None, OnOk, IfSome, IfNone, true, false};
+ghost use Rattle.std.specs.Prelude.{◌≡◌, nat_lt, None, IfOk, IfSome, IfNone, true, false};
 ghost use Rattle.prpc_frame.specs.Meaning.{frame_of};
 ghost use Rattle.reader_points.specs.Points.{count_of, IsLocker};
 ghost use Rattle.reader_points.specs.Cuts.{GoesOnBehind, is_asked};
@@ -62,7 +62,7 @@ impl Reader {
     /// The next response for one of so many id slots is cut out of the bytes that it has; where there is none it takes more
     /// below its limit, and behind a frame fault or at the limit the reading has ended.
     pub fn cut(self, cutter: &mut Cutter, ids: u16) -> Result<Cut, NoMemory>
-        ensures { OnOk result (λ cut. GoesOnBehind self ids cutter.old cutter.new cut) }
+        ensures { IfOk result (λ cut. GoesOnBehind self ids cutter.old cutter.new cut) }
     {
         loop {
             match cutter.next() {

@@ -2,9 +2,9 @@ ghost use Rattle.std.specs.Prelude.{◌≡◌, Some};
 ghost use Rattle.sock_message.specs.Asked.{Asked};
 ghost use Rattle.call_points.specs.Steps.{aside_in, after_word, after_call};
 ghost use Rattle.call_points.specs.Steps as asides;
-ghost use Rattle.reader_points.specs.Points.{Around, next_program, point_program, fail_program, with_asked, FailsByWord, HasNext};
+ghost use Rattle.reader_points.specs.Points.{Around, next_program, point_program, fail_program, with_asked, FailsByWord, HasInHand, HasNext, GoesBy};
 
-use crate::point::{FailStep, Lost, ReadNext, ReadPoint};
+use crate::point::{FailStep, Lost, ReadNext, ReadPoint, ReadStep};
 use call_points::Aside;
 use id_points::is_reused;
 use sock_words::IdWord;
@@ -12,7 +12,8 @@ use sock_words::IdWord;
 impl Lost {
     /// The next step of the end of the call.
     pub fn fail_step(self, step: FailStep) -> Aside
-        ensures { (a : Around) → Some (asides.step_of a.asked result) ≡ aside_in (fail_program a self step) }
+        ensures program { (a : Around) → Some (asides.step_of a.asked result) ≡ aside_in (fail_program a self step) }
+        ensures kind { GoesBy (ReadPoint.Fail self step) (Some (ReadStep.Aside result)) }
     {
         let slot = self.id.slot();
         match step {
@@ -24,7 +25,8 @@ impl Lost {
 
     /// Where it goes on with the call in hand; its id has this word.
     pub fn with_call(self, word: IdWord) -> ReadPoint
-        ensures { (a : Around) (asked : Asked) → point_program (with_asked asked a) result ≡ after_call (fail_program a self (FailStep.Take word)) asked }
+        ensures program { (a : Around) (asked : Asked) → point_program (with_asked asked a) result ≡ after_call (fail_program a self (FailStep.Take word)) asked }
+        ensures hand { (a : Around) → HasInHand a result }
     {
         ReadPoint::Fail(self, FailStep::Judge(word))
     }

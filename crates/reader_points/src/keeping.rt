@@ -19,7 +19,9 @@ fn is_of(frame: &Frame, id: CallId, range: u8) -> bool
 {
     let version = frame.meta.correlation_id;
     let first = id.number();
-    version / 0x1_0000_0000 == u64::from(id.slot()) && first < version && version < first + u64::from(range)
+    version / 0x1_0000_0000 == u64::from(id.slot())
+        && first < version
+        && version < first + u64::from(range)
 }
 
 /// Which of the kept responses ends the call with this id, whose range has so many versions: the first one of these.

@@ -1,16 +1,16 @@
 //! Where the reader of a link stands in its program: which step it makes next, and how it goes on behind it.
 #![tactic(auto)]
 
-pub mod point;
-pub mod steps;
-pub mod reading;
 pub mod answering;
 pub mod closing;
-pub mod posting;
+pub mod cutting;
 pub mod failing;
 pub mod follows;
-pub mod cutting;
 pub mod keeping;
+pub mod point;
+pub mod posting;
+pub mod reading;
+pub mod steps;
 
 pub use cutting::Cut;
 pub use keeping::first_kept;

@@ -14,6 +14,7 @@ const PIECE: u32 = 4096;
 
 /// The code of a link whose other end closed it, bRPC's `ELOGOFF`, and of one that gave what is no frame, its `ERESPONSE`.
 pub const ELOGOFF: u16 = 1014;
+
 pub const ERESPONSE: u16 = 2002;
 
 /// How many bytes came over a link, at most `LIMIT`.

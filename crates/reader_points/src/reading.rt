@@ -116,6 +116,7 @@ pub fn discarded(link: u16, total: ByteCount, taken: Taken) -> ReadPoint
             }
         }
         Taken::Nothing => ReadPoint::Discard(link, total),
-        Taken::Over | Taken::Closed => ReadPoint::Rest,
+        Taken::Over => ReadPoint::Rest,
+        Taken::Closed => ReadPoint::Rest,
     }
 }

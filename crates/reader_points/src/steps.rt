@@ -7,7 +7,9 @@ ghost use Rattle.seat_points.specs.Steps.{OfCall, step_of, first_in};
 ghost use Rattle.reader_points.specs.Points.{Around, close_program, answer_program, point_program, code_by, room, GoesBy};
 ghost use Rattle.reader_points.specs.Steps.{step_as};
 
-use crate::point::{AnswerStep, Behind, ByteCount, CloseStep, Closing, ELOGOFF, ERESPONSE, ReadPoint, ReadStep};
+use crate::point::{
+    AnswerStep, Behind, ByteCount, CloseStep, Closing, ELOGOFF, ERESPONSE, ReadPoint, ReadStep,
+};
 use call_points::Aside;
 use id_points::CallId;
 use seat_points::Call;

@@ -3,8 +3,8 @@
 
 pub mod hand;
 pub mod outcomes;
-pub mod taking;
 pub mod seat;
+pub mod taking;
 
 pub use outcomes::tell;
 pub use seat::ReaderSeat;

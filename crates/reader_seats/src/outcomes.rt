@@ -1,6 +1,6 @@
-ghost use Rattle.std.specs.Prelude.{◌≡◌, OnOk, Option, Some, slice_set};
+ghost use Rattle.std.specs.Prelude.{◌≡◌, ◌↔◌, pos, IsTrue, IfOk, Some, slice_set};
 ghost use Rattle.prpc_frame.specs.Meaning.{frame_of};
-ghost use Rattle.sock_programs.specs.Readers.{ending_of};
+ghost use Rattle.sock_programs.specs.Readers.{by_code, ending_of};
 ghost use Rattle.id_points.specs.Ids.{id_of};
 ghost use Rattle.reader_points.specs.Points.{code_by};
 
@@ -22,33 +22,45 @@ pub fn tell(outcomes: &mut [Option<Outcome>], operation: u16, outcome: Outcome)
 
 /// A copy of these bytes.
 fn copied(alloc: Global, bytes: &IoBuf) -> Result<OutBytes, NoMemory>
-    ensures { OnOk result (λ out. out ≡ bytes.now.items) }
+    ensures { IfOk result (λ out. out ≡ bytes.now.items) }
 {
     let mut copy = vec![in alloc; 0; bytes.len()]?;
     bytes.copy_to(&mut copy);
     Ok(OutBytes::new(copy))
 }
 
-/// The outcome that a response gives the call with this id.
-pub fn ending(alloc: Global, id: u64, frame: &Frame) -> Result<Outcome, NoMemory>
-    ensures { OnOk result (λ outcome. outcome ≡ ending_of id (frame_of frame.now)) }
+/// Whether a number of a meta is 0.
+fn is_zero(number: i32) -> bool
+    ensures { IsTrue result ↔ (number ≡ pos 0) }
 {
+    number == 0
+}
+
+/// The outcome that a frame with a response of this code gives the call with this id.
+fn ending_by(alloc: Global, id: u64, frame: &Frame, code: i32) -> Result<Outcome, NoMemory>
+    ensures { IfOk result (λ outcome. outcome ≡ by_code id (frame_of frame.now) code) }
+{
+    if is_zero(code) {
+        Ok(Outcome::Answered {
+            id,
+            payload: copied(alloc, &frame.payload)?,
+            attachment: copied(alloc, &frame.attachment)?,
+        })
+    } else {
+        Ok(Outcome::Peer { id, code })
+    }
+}
+
+/// The outcome that a response gives the call with this id. It is copied.
+pub fn ending(alloc: Global, id: u64, frame: &Frame) -> Result<Outcome, NoMemory>
+    ensures { IfOk result (λ outcome. outcome ≡ ending_of id (frame_of frame.now)) }
+{
+    if !is_zero(frame.meta.compress_type) {
+        return Ok(unread(id));
+    }
     match &frame.meta.response {
-        Some(response) if frame.meta.compress_type == 0 => {
-            if response.code == 0 {
-                Ok(Outcome::Answered {
-                    id,
-                    payload: copied(alloc, &frame.payload)?,
-                    attachment: copied(alloc, &frame.attachment)?,
-                })
-            } else {
-                Ok(Outcome::Peer {
-                    id,
-                    code: response.code,
-                })
-            }
-        }
-        _ => Ok(unread(id)),
+        Some(response) => ending_by(alloc, id, frame, response.code),
+        None => Ok(unread(id)),
     }
 }
 

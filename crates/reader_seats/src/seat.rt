@@ -1,4 +1,4 @@
-ghost use Rattle.std.specs.Prelude.{◌≡◌, ◌<◌, ◌≤◌, ◌∷◌, ◌++◌, [], ℕ, true, List, Option, Some, OnOk, length, option_map};
+ghost use Rattle.std.specs.Prelude.{◌≡◌, ◌<◌, ◌≤◌, ◌∷◌, ◌++◌, [], ℕ, true, List, Option, Some, IfOk, OnOk, length, option_map};
 ghost use Rattle.brpc_model.specs.Frame.{NoneYet, judged};
 ghost use Rattle.sock_io.specs.Link.{IsTakeCount};
 ghost use Rattle.sock_programs.specs.Beside.{at_last};
@@ -149,7 +149,7 @@ impl ReaderSeat {
 
     /// The outcome that the response in hand gives the call with this id; where there is none, that of one that can't be read.
     fn outcome(&self, id: u64) -> Result<Outcome, NoMemory>
-        ensures { OnOk result (λ outcome. outcome ≡ ending_of id self.now.frame) }
+        ensures { IfOk result (λ outcome. outcome ≡ ending_of id self.now.frame) }
     {
         match &self.hand {
             Hand::Response(frame) => ending(self.alloc, id, frame),

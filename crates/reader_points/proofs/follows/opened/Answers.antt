@@ -1,13 +1,13 @@
-use Rattle.std.proofs.Common.{◌≡◌, ◌==◌, ◌-◌, true, false, sym, refl, arith}
+use Rattle.std.proofs.Common.{◌≡◌, ◌==◌, false, sym, refl, arith}
 use Rattle.std.proofs.lemmas.Bool.Decides.{nat_tests}
 use Rattle.sock_programs.specs.Programs.{NO_SOCKET}
 use Rattle.reader_points.proofs.follows.opened.Goals as goal
 
-pub returns-then-found-eq0 : goal.returns-then-found-eq0
-returns-then-found-eq0 c a hand = rw c.if-found-eq0.true refl
+pub returns-then-found-eq0-clause-program : goal.returns-then-found-eq0-clause-program
+returns-then-found-eq0-clause-program c a hand = rw c.if-found-eq0.true refl
 
-pub returns-else-found-NO_SOCKET : goal.returns-else-found-NO_SOCKET
-returns-else-found-NO_SOCKET c a hand =
+pub returns-else-found-eq-NO_SOCKET-clause-program : goal.returns-else-found-eq-NO_SOCKET-clause-program
+returns-else-found-eq-NO_SOCKET-clause-program c a hand =
     let some : (c.args.found == 0) ≡ false = grind (arith, nat_tests, c.if-found-eq0.false) in
-    let there : (c.args.found == NO_SOCKET) ≡ false = grind (arith, nat_tests, c.if-found-NO_SOCKET.false) in
+    let there : (c.args.found == NO_SOCKET) ≡ false = grind (arith, nat_tests, c.if-found-eq-NO_SOCKET.false) in
     rw (c.to_take.ensures, some, there, sym c.from_word.ensures, hand.0, hand.1) refl

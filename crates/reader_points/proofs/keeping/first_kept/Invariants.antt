@@ -1,6 +1,6 @@
 use Rattle.std.proofs.Common.{◌≡◌, ◌≤◌, ◌-◌, length, drop}
 use Rattle.id_points.specs.Ids.{id_of}
-use Rattle.reader_points.proofs.Keeping.{kept_of}
+use Rattle.reader_points.proofs.FirstKept.{kept_of}
 use Rattle.reader_points.proofs.keeping.first_kept.Given as goal
 
 -- the first ones are none of the range

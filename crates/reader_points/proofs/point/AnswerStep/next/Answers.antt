@@ -3,8 +3,8 @@ use Rattle.sock_programs.specs.Asides.{id_slot}
 use Rattle.reader_points.specs.Points.{said_program}
 use Rattle.reader_points.proofs.point.AnswerStep.next.Goals as goal
 
-pub returns-in-Some : goal.returns-in-Some
-returns-in-Some c a = rw c.in-End.is (c.in-Some.ensures (id_slot (id_of c.args.id)) (said_program a c.args.behind (id_of c.args.id) c.in-End.operation))
+pub returns-in-Some-clause-program : goal.returns-in-Some-clause-program
+returns-in-Some-clause-program c a = rw c.in-End.is (c.in-Some.ensures (id_slot (id_of c.args.id)) (said_program a c.args.behind (id_of c.args.id) c.in-End.operation))
 
-pub returns-in-None : goal.returns-in-None
-returns-in-None c a = rw c.in-End.is (c.in-None.ensures (id_slot (id_of c.args.id)) (said_program a c.args.behind (id_of c.args.id) c.in-End.operation))
+pub returns-in-None-clause-program : goal.returns-in-None-clause-program
+returns-in-None-clause-program c a = rw c.in-End.is (c.in-None.ensures (id_slot (id_of c.args.id)) (said_program a c.args.behind (id_of c.args.id) c.in-End.operation))

@@ -2,5 +2,5 @@ use Rattle.id_points.specs.Ids.{id_of}
 use Rattle.reader_points.proofs.Going.{ends_asked}
 use Rattle.reader_points.proofs.point.Behind.with_call.Goals as goal
 
-pub returns : goal.returns
-returns c a asked e = ends_asked a asked c.args.self (id_of c.args.id) c.args.operation e
+pub returns-clause-program : goal.returns-clause-program
+returns-clause-program c a asked e = ends_asked a asked c.args.self (id_of c.args.id) c.args.operation e

@@ -4,15 +4,15 @@ use Rattle.reader_points.specs.Points.{posts_program}
 use Rattle.reader_points.proofs.Going.{closes_gone}
 use Rattle.reader_points.proofs.point.CloseStep.next.Goals as goal
 
-pub returns-else-version : goal.returns-else-version
-returns-else-version c a =
+pub returns-else-version-clause-program : goal.returns-else-version-clause-program
+returns-else-version-clause-program c a =
     rw (c.to-else-version.ensures, c.in-AddRef.is)
     (closes_gone a c.args.closing c.args.found (λ e. c.if-version.false (c.version.ensures ∙ ap vref_version c.from_word-word.ensures ∙ e ∙ sym c.version-in-AddRef.ensures)))
 
-pub returns-in-Step : goal.returns-in-Step
-returns-in-Step c a =
+pub returns-in-Step-clause-program : goal.returns-in-Step-clause-program
+returns-in-Step-clause-program c a =
     rw (c.to-in-Step.ensures, c.in-Release.is) (c.in-Step.ensures.program (socket_id_slot c.args.closing.reader.socket.0) (λ _. posts_program a c.args.closing))
 
-pub returns-in-Done : goal.returns-in-Done
-returns-in-Done c a =
+pub returns-in-Done-clause-program : goal.returns-in-Done-clause-program
+returns-in-Done-clause-program c a =
     rw c.in-Release.is (c.in-Done.ensures.program (socket_id_slot c.args.closing.reader.socket.0) (λ _. posts_program a c.args.closing))

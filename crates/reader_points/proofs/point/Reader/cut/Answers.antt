@@ -1,7 +1,7 @@
 use Rattle.std.proofs.Common.{[]}
 use Rattle.prpc_frame.proofs.Cuts.{cut_none, cut_next}
 use Rattle.reader_points.proofs.Frames.{left_all}
-use Rattle.reader_points.proofs.Cutting.{more_skipped, left_cut, goes_locked, goes_more, goes_faulty}
+use Rattle.reader_points.proofs.CutFrames.{more_skipped, left_cut, goes_locked, goes_more, goes_faulty}
 use Rattle.reader_points.proofs.point.Reader.cut.Goals as goal
 
 pub loop-frame-init : goal.loop-frame-init
@@ -25,7 +25,7 @@ returns-in-Some c =
 pub returns-in-Ok-None : goal.returns-in-Ok-None
 returns-in-Ok-None c =
     goes_more c.args.self c.args.ids _ c.loop-frame.invariant.frames c.loop-frame.invariant.none _ _ c.takes_more.result c.loop-frame.invariant.cut c.loop-frame.invariant.left
-    c.in-Ok-None.ensures.exact.0 c.in-Ok-None.ensures.exact.1 c.takes_more.ensures.below c.takes_more.ensures.at_limit
+    (rw c.in-Ok-None.field-0-is at c.in-Ok-None.ensures.exact).0 (rw c.in-Ok-None.field-0-is at c.in-Ok-None.ensures.exact).1 c.takes_more.ensures.below c.takes_more.ensures.at_limit
 
 pub returns-in-Err-Frame : goal.returns-in-Err-Frame
 returns-in-Err-Frame c =

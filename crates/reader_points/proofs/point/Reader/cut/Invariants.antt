@@ -1,4 +1,5 @@
-use Rattle.std.proofs.Common.{List, length, All}
+use Rattle.std.proofs.Common.{List, length}
+use Rattle.std.specs.List.{AllByRecursion}
 use Rattle.brpc_model.specs.Frame.{Frame}
 use Rattle.prpc_frame.specs.Cuts.{Cut}
 use Rattle.reader_points.proofs.Frames.{IsSkipped, IsLeft}
@@ -6,7 +7,7 @@ use Rattle.reader_points.proofs.point.Reader.cut.Given as goal
 
 -- the frames so far were no responses
 abbrev pub invariant-loop-frame : goal.invariant-loop-frame
-invariant-loop-frame l = record { frames : List Frame; cut : Cut l.initial.cutter frames l.cutter; left : IsLeft l.initial.cutter l.cutter; none : All (IsSkipped l.ids) frames }
+invariant-loop-frame l = record { frames : List Frame; cut : Cut l.initial.cutter frames l.cutter; left : IsLeft l.initial.cutter l.cutter; none : AllByRecursion (IsSkipped l.ids) frames }
 
 abbrev pub decreases-loop-frame : goal.decreases-loop-frame
 decreases-loop-frame l = length l.cutter

@@ -1,8 +1,9 @@
 -- What a reader cuts out of its bytes: one frame behind another, up to the first response, the rest or a fault.
-use Rattle.std.proofs.Common.{◌≡◌, ℕ, ◌+◌, Bool, true, false, nat_lt, List, [], ◌∷◌, ◌++◌, length, All, Option, Some, None, option_map, Ok, Err, refl, sym, subst, ap, ◌∙◌}
+use Rattle.std.proofs.Common.{◌≡◌, ℕ, ◌+◌, Bool, true, false, nat_lt, List, [], ◌∷◌, ◌++◌, Option, Some, None, option_map, refl}
+use Rattle.std.specs.List.{AllByRecursion}
 use Rattle.brpc_model.specs.Frame as model
 use Rattle.brpc_model.specs.Frame.{Judged, NoneYet, Faulty, judged}
-use Rattle.prpc_frame.specs.Answers.{Answers, Cuts}
+use Rattle.prpc_frame.specs.Answers.{Cuts}
 use Rattle.prpc_frame.specs.Cuts.{Cut}
 use Rattle.prpc_frame.specs.Meaning.{frame_of, fault_of, IsFault}
 use Rattle.prpc_frame.specs.declared.frame.Frame.{Frame}
@@ -19,7 +20,7 @@ use Rattle.reader_points.specs.Points.{count_of, IsLocker}
 use Rattle.reader_points.proofs.Frames.{IsSkipped, IsLeft, left_more, takes_more, takes_none, ends_in_fault, locks_next}
 
 -- one more that is no response
-pub more_skipped : (ids : ℕ) (fs : List model.Frame) (f : model.Frame) → All (IsSkipped ids) fs → is_asked ids f ≡ false → All (IsSkipped ids) (fs ++ f ∷ [])
+pub more_skipped : (ids : ℕ) (fs : List model.Frame) (f : model.Frame) → AllByRecursion (IsSkipped ids) fs → is_asked ids f ≡ false → AllByRecursion (IsSkipped ids) (fs ++ f ∷ [])
 more_skipped ids [] f all none = (none, tt)
 more_skipped ids (g ∷ fs) f all none = (all.0, more_skipped ids fs f all.1 none)
 
@@ -32,7 +33,7 @@ faulty : (o : Option model.FrameFault) (j : Judged) → option_map (λ f. Faulty
 faulty None j e = absurd (cc)
 faulty (Some f) j e = (f, cc)
 
-module _ (r : Reader) (ids : ℕ) (old : List ℕ) (fs : List model.Frame) (all : All (IsSkipped ids) fs) where
+module _ (r : Reader) (ids : ℕ) (old : List ℕ) (fs : List model.Frame) (all : AllByRecursion (IsSkipped ids) fs) where
   -- a response was cut
   pub goes_locked : (new : List ℕ) (f : Frame) (l : Locker) → Cut old (fs ++ frame_of f ∷ []) new → IsLeft old new → is_asked ids (frame_of f) ≡ true → IsLocker (frame_of f) l →
       GoesOnBehind r ids old new (record { frame = Some f; point = points.Lock r l locks.Read })
