@@ -1,15 +1,20 @@
 -- What a step makes of the table is what the programs say of it.
-use Rattle.std.proofs.Common.{◌≡◌, ℕ, ◌<◌, refl, ap, get_or, set, List, arith}
+use Rattle.std.proofs.Common.{◌≡◌, ℕ, zero, suc, ◌<◌, Bool, List, [], ◌∷◌, map, Option, Some, None, get_or, set, refl, ap, sym, ◌∙◌, arith}
+use mathlib.Core.Option as core
+use lib.ListN.{get_elem?}
 use Rattle.std.proofs.lemmas.List.{set-get_or}
 use Rattle.corr_core.specs.declared.marks.Plan.{Plan}
-use Rattle.id_rule.specs.Lawful.{all_words}
+use Rattle.id_rule.specs.Lawful.{tag_word, all_words}
 use Rattle.sock_message.specs.Asked.{Asked}
+use Rattle.sock_programs.specs.Asides as asides
+use Rattle.sock_programs.specs.Beside.{call_at}
+use Rattle.sock_programs.specs.Heads.{Retry}
 use Rattle.call_points.specs.declared.aside.Aside as code
 use Rattle.call_points.specs.declared.aside.Aside.TheVariants.{ClaimId, PutCall, MakeId, StoreCall, LoadCall, StoreAt, LoadAt, LoadIdWord, LockId, PostId, UnlockId, EndId, FreeId, TakeCall, TakeBytes}
 use Rattle.call_points.specs.Steps.{step_of}
-use Rattle.call_slots.specs.Slots.{SlotState, calls_with}
+use Rattle.call_slots.specs.Slots.{SlotState, calls_with, as_found}
 use Rattle.call_slots.specs.Words.{place_of, next_of, IsWithin}
-use Rattle.call_slots.specs.Steps.{word_found, Makes}
+use Rattle.call_slots.specs.Steps.{word_found, calls_behind, Makes}
 
 module _ (s : SlotState) where
   -- the word that a step finds, and the table behind it
@@ -60,3 +65,40 @@ is_inside p (EndId i) h = omega (arith, h)
 is_inside p (FreeId i) h = omega (arith, h)
 is_inside p (TakeCall i) h = absurd h
 is_inside p (TakeBytes k room) h = absurd h
+
+-- ## Homes
+
+-- a table of these words and homes
+abbrev pub slots_of : Plan → List ℕ → List (Option Asked) → SlotState
+slots_of p ws hs = record { plan = p; words = ws; homes = map core.some hs }
+
+map_set : {A B : Type 0} (f : A → B) (xs : List A) (i : ℕ) (x : A) → map f (set xs i x) ≡ set (map f xs) i (f x)
+map_set f [] i x = refl
+map_set f (y ∷ xs) zero x = refl
+map_set f (y ∷ xs) (suc i) x = ap (λ (l : List _). f y ∷ l) (map_set f xs i x)
+
+pub found_at : (hs : List (Option Asked)) (i : ℕ) → call_at (get_elem? (map core.some hs) i) ≡ as_found (get_or hs i None)
+found_at [] i = refl
+found_at (None ∷ hs) zero = refl
+found_at (Some asked ∷ hs) zero = refl
+found_at (h ∷ hs) (suc i) = found_at hs i
+
+module _ (p : Plan) (ws : List ℕ) (hs : List (Option Asked)) (i : ℕ) where
+  abbrev AtHome : List (core.Option (Option Asked)) → SlotState
+  AtHome homes = record { plan = p; words = ws; homes = homes }
+
+  pub puts : (asked : Asked) → Makes (slots_of p ws hs) (asides.PutCall i asked) (core.some (get_or ws (tag_word i) 0)) (slots_of p ws (set hs i (Some asked)))
+  puts asked = record {
+    finds = λ w g e t. refl;
+    changes = λ w g e. ap (λ homes. calls_with (AtHome homes) w g e) (map_set core.some hs i (Some asked));
+  }
+
+  pub takes : Makes (slots_of p ws hs) (asides.TakeCall i) (as_found (get_or hs i None)) (slots_of p ws (set hs i None))
+  takes = record {
+    finds = λ w g e t. found_at hs i;
+    changes = λ w g e. by w g e (get_or hs i None) refl;
+  }
+    where
+      by : (w : List (List Retry)) (g : List (List ℕ)) (e : Bool) (o : Option Asked) → get_or hs i None ≡ o → calls_with (slots_of p ws (set hs i None)) w g e ≡ calls_behind (asides.TakeCall i) (as_found o) (calls_with (slots_of p ws hs) w g e)
+      by w g e (Some asked) is = ap (λ homes. calls_with (AtHome homes) w g e) (map_set core.some hs i None)
+      by w g e None is = ap (λ l. calls_with (slots_of p ws l) w g e) (ap (set hs i) (sym is) ∙ set-get_or hs i None)

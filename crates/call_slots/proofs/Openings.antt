@@ -1,5 +1,5 @@
--- One more slot that was never used.
-use Rattle.std.proofs.Common.{◌≡◌, ℕ, zero, suc, ◌+◌, ◌*◌, length, List, [], ◌∷◌, ◌++◌, refl, ap, ◌∙◌, append_assoc, arith}
+-- The words and homes of slots that were never used.
+use Rattle.std.proofs.Common.{◌≡◌, ℕ, zero, suc, ◌+◌, ◌*◌, length, map, replicate, List, ◌∷◌, ◌++◌, refl, ap, ◌∙◌, append_assoc, arith}
 use Rattle.sock_programs.specs.Scripts.{opening_ids}
 
 last_slot : (n : ℕ) → opening_ids n ++ opening_ids 1 ≡ opening_ids (n + 1)
@@ -12,3 +12,7 @@ slots_more xs ys n e = ap (λ (l : List ℕ). l ++ opening_ids 1) e ∙ append_a
 pub ids_length : (n : ℕ) → length (opening_ids n) ≡ 2 * n
 ids_length zero = refl
 ids_length (suc n) = omega (arith, ids_length n)
+
+pub map_replicate : {A B : Type 0} (f : A → B) (n : ℕ) (x : A) → map f (replicate n x) ≡ replicate n (f x)
+map_replicate f zero x = refl
+map_replicate f (suc n) x = ap (λ (l : List _). f x ∷ l) (map_replicate f n x)

@@ -1,5 +1,5 @@
 -- What a step makes of the ids and calls of a machine, and which steps fit them.
-use Rattle.std.specs.Prelude.{ℕ, ◌≡◌, ◌<◌, Bool, List, slice_index}
+use Rattle.std.specs.Prelude.{ℕ, ◌≡◌, Bool, List, slice_index}
 use mathlib.Core.Option.{Option, some, none}
 use Rattle.sock_programs.specs.Heads.{Retry}
 use Rattle.sock_programs.specs.Cores.{Calls}

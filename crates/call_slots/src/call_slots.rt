@@ -29,8 +29,9 @@ impl Model for CallSlots {
 }
 
 impl CallSlots {
-    ghost use Rattle.std.specs.Prelude.{◌≡◌, ◌<◌, ℕ, false, [], replicate, option_map, IfOk};
+    ghost use Rattle.std.specs.Prelude.{◌≡◌, ◌<◌, ℕ, false, [], replicate, IfOk};
     ghost use mathlib.Core.Option.{some};
+    ghost use Rattle.std.specs.Option.{option_copied};
     ghost use lib.ListN.{get_elem?};
     ghost use Rattle.sock_message.specs.Asked.{Asked};
     ghost use Rattle.sock_programs.specs.Asides.{PutCall, TakeCall};
@@ -77,7 +78,7 @@ impl CallSlots {
     /// The call at home in a slot.
     pub fn call_at(&self, slot: u16) -> Option<&Call>
         requires { slot < self.now.plan.slots }
-        ensures { call_at (get_elem? self.now.homes slot) ≡ as_found (option_map (λ c. c.now) result) }
+        ensures { call_at (get_elem? self.now.homes slot) ≡ as_found (option_copied result) }
     {
         self.homes[usize::from(slot)].as_ref()
     }

@@ -65,7 +65,14 @@ fn queued(from: IdWord, error: u16) -> IdWord
     } else {
         (from.oldest(), error)
     };
-    IdWord::pack(from.first(), IdWord::LOCKED, from.range(), from.attempt(), oldest, second)
+    IdWord::pack(
+        from.first(),
+        IdWord::LOCKED,
+        from.range(),
+        from.attempt(),
+        oldest,
+        second,
+    )
 }
 
 /// The word behind the exchange by which an error is posted.

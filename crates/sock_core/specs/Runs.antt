@@ -1,5 +1,5 @@
 -- What ticks and whole runs of a machine make of its core.
-use Rattle.std.specs.Prelude.{ℕ, zero, suc, ◌≡◌, ◌-◌, ◌≤◌, ◌<◌, ◌⊎◌, true, false, List, [], ◌∷◌, ◌++◌, length, map, option_map, flat_map, slice_get, replicate, Option, Some, None, IfSome, Contains}
+use Rattle.std.specs.Prelude.{ℕ, zero, suc, ◌≡◌, ◌-◌, ◌≤◌, ◌<◌, ◌⊎◌, true, false, List, [], ◌∷◌, ◌++◌, length, option_map, slice_get, replicate, Option, Some, None, IfSome, Contains}
 use Rattle.std.specs.List.{AllByRecursion}
 use lib.ListN.{get_elem?}
 use mathlib.Core.Option as core
@@ -8,15 +8,15 @@ use Rattle.sock_words.specs.declared.plain.Plan.{Plan}
 use Rattle.sock_words.specs.KindText.{kind_text}
 use Rattle.brpc_model.specs.Link.{LinkEnd}
 use Rattle.sock_programs.specs.Writings as heads
-use Rattle.sock_programs.specs.Asides.{TakeBytes, Taking, AtEnd, Closed, Broken, call_id}
+use Rattle.sock_programs.specs.Asides.{Taking, AtEnd, Closed, Broken, call_id}
 use Rattle.sock_programs.specs.Heads.{Sought, First, Version, Locks, Joins, Opens, Reads, Discards}
-use Rattle.sock_programs.specs.Programs.{Program, Write, Aside, Round}
+use Rattle.sock_programs.specs.Programs.{Program, Write, Round}
 use Rattle.sock_programs.specs.Cores.{Core, SeatState}
-use Rattle.sock_programs.specs.Ticks.{Answer, OfTake, Moment, quiet, seats_of, ticked, run, waits, IsAnswered, AreAnswered, IsPrompt, broken_at, broken_in}
+use Rattle.sock_programs.specs.Ticks.{Answer, Moment, quiet, seats_of, ticked, run, waits, IsAnswered, AreAnswered, IsPrompt, broken_in}
 use Rattle.sock_programs.specs.Runs.{IsAtRest, LeadsUpTo, next_kind, from_to}
 use Rattle.sock_programs.specs.Scripts.{AreStill, is_ending}
 use Rattle.sock_io.specs.Link.{more_told}
-use Rattle.whole_runs.specs.Heard.{as_told, heard_at, heard_in}
+use Rattle.whole_runs.specs.Heard.{as_told, as_taken, heard_in, taken_in}
 use Rattle.sock_core.specs.declared.machine.On.{On}
 use Rattle.sock_core.specs.declared.machine.On.TheVariants as on
 use Rattle.sock_core.specs.declared.machine.Tick.{Tick}
@@ -50,27 +50,6 @@ pub record LinksTell (old new : MachineState) (heard : ℕ → List Answer) : Ty
   pub each : (k : ℕ) (a b : LinkEnd) → slice_get old.ends k ≡ Some a → slice_get new.ends k ≡ Some b → b.answers ≡ more_told a.answers (as_told (heard k))
   pub none_beyond : (k : ℕ) → length old.ends ≤ k → heard k ≡ []
 
--- ## What reading halves answered
-
--- the link whose reading half the next step asks, if it asks one
-abbrev pub read_link : Program → List ℕ
-read_link (Aside (TakeBytes k room) next) = k ∷ []
-read_link (Round (Reads r) next) = r.link ∷ []
-read_link (Round (Discards k total) next) = k ∷ []
-read_link other = []
-
-abbrev pub takings_of : Answer → List Taking
-takings_of (OfTake t) = t ∷ []
-takings_of other = []
-
--- what it answered in a tick, and in these ticks, one after another
-abbrev pub read_at : Core → Moment → List (ℕ × Taking)
-read_at c m = elim (get_elem? c.seats m.seat) as (λ o. List (ℕ × Taking)) [ core.none ↦ [] | core.some seat ↦ flat_map (λ (k : ℕ). map (λ (t : Taking). (k, t)) (takings_of m.answer)) (read_link seat.program) ]
-
-abbrev pub read_in : Plan → Core → List Moment → List (ℕ × Taking)
-read_in p c [] = []
-read_in p c (m ∷ ms) = read_at c m ++ read_in p (ticked p c m) ms
-
 -- a link that gave its end, was closed or failed shows it
 abbrev pub ShowsTaking : Taking → LinkEnd → Type 0
 ShowsTaking AtEnd e = e.gave_end ≡ true
@@ -78,8 +57,9 @@ ShowsTaking Closed e = IfSome e.closed (λ closed. closed ≡ true)
 ShowsTaking Broken e = 0 < e.take_faults
 ShowsTaking other e = Unit {0}
 
-abbrev pub ShowTakings : MachineState → List (ℕ × Taking) → Type 0
-ShowTakings m read = (k : ℕ) (t : Taking) (e : LinkEnd) → Contains read (k, t) → slice_get m.ends k ≡ Some e → ShowsTaking t e
+-- each link shows what its reading half answered
+abbrev pub ShowTakings : MachineState → (ℕ → List Answer) → Type 0
+ShowTakings m taken = (k : ℕ) (e : LinkEnd) → slice_get m.ends k ≡ Some e → AllByRecursion (λ t. ShowsTaking t e) (as_taken (taken k))
 
 -- ## The table
 
@@ -129,7 +109,7 @@ pub record Follows (old new : MachineState) (took : Taken) (gave : Given) (momen
   pub core : core_with new later later_gave ≡ run old.plan (core_with old took gave) moments
   pub broken : ShowFaults new (broken_in old.plan (core_with old took gave) moments)
   pub told : LinksTell old new (heard_in old.plan (core_with old took gave) moments)
-  pub read : ShowTakings new (read_in old.plan (core_with old took gave) moments)
+  pub taken : ShowTakings new (taken_in old.plan (core_with old took gave) moments)
 
 -- a tick of a seat
 pub record TickedWith (old new : MachineState) (seat : ℕ) (tick : Tick) (took : Taken) (gave : Given) : Type 0 where
@@ -171,29 +151,28 @@ Led old new seat kind = Made old new (LedWith old new seat kind)
 abbrev pub round_by : Plan → List ℕ
 round_by p = from_to 1 (p.seats - 1) ++ from_to READERS p.links
 
-abbrev pub rounds_by : ℕ → Plan → List ℕ
-rounds_by zero p = []
-rounds_by (suc n) p = round_by p ++ rounds_by n p
-
--- a round in which nothing moved
-pub record StillWith (old new : MachineState) (took : Taken) (gave : Given) : Type 0 where
+-- a round in which nothing moved, or something did
+pub record RoundWith (Is : Plan → Core → List Moment → Type 0) (old new : MachineState) (took : Taken) (gave : Given) : Type 0 where
   pub moments : List Moment
   pub are_of : seats_of moments ≡ round_by old.plan
-  pub still : AreStill old.plan (core_with old took gave) moments
+  pub is : Is old.plan (core_with old took gave) moments
   pub follows : Follows old new took gave moments
 
 abbrev pub Still : MachineState → MachineState → Type 0
-Still old new = Made old new (StillWith old new)
+Still old new = Made old new (RoundWith AreStill old new)
 
--- rounds up to one that moved nothing
+abbrev pub HasMoved : MachineState → MachineState → Type 0
+HasMoved old new = Made old new (RoundWith (λ p c ms. AreStill p c ms → ⊥) old new)
+
+-- so many rounds that moved something, and one that moved nothing
+abbrev pub SettlesAfter : Plan → ℕ → Core → List Moment → Type 0
+SettlesAfter p zero c ms = (seats_of ms ≡ round_by p) × AreStill p c ms
+SettlesAfter p (suc n) c ms = (now later : List Moment) × (ms ≡ now ++ later) × (seats_of now ≡ round_by p) × (AreStill p c now → ⊥) × SettlesAfter p n (run p c now) later
+
+-- rounds up to the first one that moved nothing
 pub record SettlesBy (p : Plan) (c : Core) (moments : List Moment) : Type 0 where
-  pub more : ℕ
-  pub moved : List Moment
-  pub last : List Moment
-  pub all : moments ≡ moved ++ last
-  pub in_rounds : seats_of moved ≡ rounds_by more p
-  pub one_more : seats_of last ≡ round_by p
-  pub still : AreStill p (run p c moved) last
+  pub rounds : ℕ
+  pub after : SettlesAfter p rounds c moments
 
 pub record PlayedWith (old new : MachineState) (took : Taken) (gave : Given) : Type 0 where
   pub moments : List Moment
@@ -231,7 +210,7 @@ pub record SettledWith (old new : MachineState) (took : Taken) (gave : Given) : 
   pub core : core_with new later later_gave ≡ run old.plan ended final
   pub broken : ShowFaults new (broken_in old.plan (core_with old took gave) moments ++ broken_in old.plan ended final)
   pub told : LinksTell old new (λ k. heard_in old.plan (core_with old took gave) moments k ++ heard_in old.plan ended final k)
-  pub read : ShowTakings new (read_in old.plan (core_with old took gave) moments ++ read_in old.plan ended final)
+  pub taken : ShowTakings new (λ k. taken_in old.plan (core_with old took gave) moments k ++ taken_in old.plan ended final k)
 
 -- the ending goes over nothing more, and the run is ending
 pub record Settled (old new : MachineState) : Type 0 where

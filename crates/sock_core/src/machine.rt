@@ -11,7 +11,7 @@ ghost use Rattle.sock_programs.specs.Runs.{IsAtRest};
 ghost use Rattle.joint_runs.proofs.Starts.{AreFor};
 ghost use Rattle.sock_core.specs.Links.{Taken, Given, Agrees, AgreesGave, ArePrompt};
 ghost use Rattle.sock_core.specs.Machines.{MOST_LEFT as most_left, HasSizes, core_with, ending_by};
-ghost use Rattle.sock_core.specs.Runs.{SameLinks, SameTable, Ticked, Ran, Led, Still, PlayedOn, RanFirst, Settled, round_by};
+ghost use Rattle.sock_core.specs.Runs.{SameLinks, SameTable, Ticked, Led, Still, HasMoved, PlayedOn, RanFirst, Settled};
 ghost use Rattle.sock_core.specs.Driving.{LastsAtMost, LeavesFewer, Leaves, IsLast, IsOther, IsPlain, TickedFirst, told_ending};
 
 use crate::finished::{Finished, gather, gather_places};
@@ -309,9 +309,8 @@ impl<O: Out, I: In, P: Peer> Machine<O, I, P> {
     /// A tick of each client and then of each reader, and whether one of them moved.
     fn round<L: Linker<O = O, I = I, P = P>>(&mut self, links: &mut L) -> Result<bool, NoMemory>
         requires rest { (took : Taken) (gave : Given) → IsAtRest (core_with self.old took gave) 0 }
-        ensures ran { OnOk result (Ran self.old self.new (round_by self.old.plan)) }
-        ensures fewer { result ≡ Ok true → LeavesFewer self.old self.new }
-        ensures still { result ≡ Ok false → Still self.old self.new }
+        ensures moved { result ≡ Ok true → HasMoved self.old self.new × LeavesFewer self.old self.new }
+        ensures still { result ≡ Ok false → Still self.old self.new × (self.new.short ≡ false) }
         ensures rest { (took : Taken) (gave : Given) → IsAtRest (core_with self.new took gave) 0 }
         ensures same { SameTable self.old self.new × SameLinks self.old self.new }
         ensures asked { L.asked links.new ≡ L.asked links.old }
