@@ -2,9 +2,11 @@
 use Rattle.std.proofs.Common.{◌≡◌, refl, ℕ, ◌<◌, ◌==◌, Bool, true, false, not, if◌then◌else◌, ap, ◌∙◌, arith, List, [], ◌∷◌, length, filter, Some, remove, slice_index_or}
 use Rattle.sock_words.specs.Words.{socket_id_slot}
 use Rattle.sock_programs.specs.Programs.{release}
-use Rattle.sock_programs.specs.Clients.{HeldLife, without_name, held_under, give_back, client_from, operation}
+use Rattle.sock_programs.specs.Clients.{HeldLife, without_name, held_under, give_back, operation}
 use Rattle.sock_programs.specs.declared.task.Op.{Op}
 use Rattle.sock_programs.specs.declared.task.Op.TheVariants as ops
+use Rattle.sock_message.specs.Asked.{Asked}
+use Rattle.sock_programs.specs.Attempts.{call}
 use Rattle.sock_programs.specs.Sends.{send}
 use Rattle.sock_programs.specs.declared.task.Sizes.{Sizes}
 use Rattle.sock_words.specs.declared.socket_id.SocketId.{SocketId}
@@ -24,7 +26,7 @@ lives_without name (h ∷ hs) = step (h.name == name) (lives_without name hs)
 
 -- the oldest is given back first
 pub gives_oldest : (a : Around) (held : List Held) (x : Held) (i : ℕ) (rest : List Held) → i ≡ socket_id_slot x.id.0 → x ≡ slice_index_or held 0 x → 0 < length held → rest ≡ remove held 0 →
-    a.goes_on ≡ (λ hs. client_from a.sizes hs []) → a.held ≡ lives rest → release i (then_program a thens.GaveBack) ≡ give_back (lives held)
+    a.goes_on ≡ give_back → a.held ≡ lives rest → release i (then_program a thens.GaveBack) ≡ give_back (lives held)
 gives_oldest a [] x i rest slot is some gone on are = absurd (omega arith)
 gives_oldest a (h ∷ hs) x i rest slot is some gone on are =
     let e : i ≡ socket_id_slot h.id.0 = slot ∙ ap (λ (y : Held). socket_id_slot y.id.0) is in
@@ -40,3 +42,8 @@ drops a sizes number name id held i slot is rest = rw (slot, ← is, rest) refl
 pub sends : (a : Around) (sizes : Sizes) (number name : ℕ) (bytes : List ℕ) (held : List HeldLife) (op : Op) → a.sizes ≡ sizes → a.held ≡ held → a.message ≡ bytes → op ≡ ops.Send name bytes →
     send a.sizes.requests number name a.message (client_on a) ≡ operation sizes held number a.goes_on op
 sends a sizes number name bytes held op e f g h = rw (e, f, g, h) refl
+
+-- a call begins
+pub calls : (a : Around) (sizes : Sizes) (number : ℕ) (asked : Asked) (held : List HeldLife) (op : Op) → a.sizes ≡ sizes → a.held ≡ held → a.asked ≡ asked → op ≡ ops.Call asked →
+    call a.sizes.requests a.sizes.ids a.asked (client_on a) ≡ operation sizes held number a.goes_on op
+calls a sizes number asked held op e f g h = rw (e, f, g, h) refl
