@@ -31,7 +31,10 @@ impl<O: Out, I: In, P: Peer> Table<O, I, P> {
         let found = step_word(&self.plan, &mut self.words, call);
         pass_link(&mut self.holders, seat, call);
         end_link(&mut self.ends, call);
-        reader.follow_word(&self.calls, found, &mut self.outcomes)?;
+        let followed = reader.follow_word(&self.calls, found, &mut self.outcomes);
+        if followed.is_err() {
+            return Err(NoMemory);
+        }
         Ok(match awaited_by_reader(point, found) {
             Some(on) => Tick::Waits(on),
             None => Tick::Moved(call.kind()),
@@ -48,7 +51,10 @@ impl<O: Out, I: In, P: Peer> Table<O, I, P> {
     {
         let point = reader.point();
         let found = self.ids.step(step);
-        reader.follow_word(&self.calls, found, &mut self.outcomes)?;
+        let followed = reader.follow_word(&self.calls, found, &mut self.outcomes);
+        if followed.is_err() {
+            return Err(NoMemory);
+        }
         Ok(match awaited_by_reader(point, found) {
             Some(on) => Tick::Waits(on),
             None => Tick::Moved(step.kind()),
@@ -73,14 +79,17 @@ impl<O: Out, I: In, P: Peer> Table<O, I, P> {
         links.settle(ends)?;
         let room = &mut self.room[..count as usize];
         let answer = ends.inn.take(room);
-        reader.follow_take(
+        let followed = reader.follow_take(
             &mut self.pool,
             &self.calls,
             room,
             answer,
             self.ending,
             &mut self.outcomes,
-        )?;
+        );
+        if followed.is_err() {
+            return Err(NoMemory);
+        }
         Ok(match answer {
             Take::Empty if !self.ending => Tick::Waits(On::In(link)),
             _ => Tick::Moved(Kind::R1),

@@ -8,7 +8,6 @@ use call_slots::CallSlots;
 use client_seats::Seat;
 use corr_core::Plan as IdPlan;
 use reader_seats::ReaderSeat;
-use script_tasks::sizes_of;
 use sock_message::NoMemory;
 use sock_programs::{Sizes, Task};
 use sock_words::{Outcome, PlaceWord, Plan};
@@ -155,7 +154,11 @@ pub fn parts_of(
     let mut outcomes = empty_places(alloc, plan.operations)?;
     let told = Vec::with_capacity(alloc, usize::from(plan.operations))?;
     let places = Vec::with_capacity(alloc, 8 * usize::from(plan.operations))?;
-    let sizes = sizes_of(plan, id_plan);
+    let sizes = Sizes {
+        slots: plan.slots,
+        requests: plan.requests,
+        ids: id_plan.slots,
+    };
     let seats = seats_of(alloc, sizes, clients, &mut outcomes)?;
     let readers = readers_of(alloc, opens)?;
     let room = vec![in alloc; 0u8; 4096]?;

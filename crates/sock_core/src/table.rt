@@ -136,7 +136,10 @@ impl<O: Out, I: In, P: Peer> Table<O, I, P> {
         let Some(call) = place.hand.call() else {
             return Err(NoMemory);
         };
-        let found = self.ids.put_call(slot, call.share()?);
+        let Ok(call) = call.share() else {
+            return Err(NoMemory);
+        };
+        let found = self.ids.put_call(slot, call);
         let sizes = self.sizes();
         let next = place.point.next(sizes, place.calling(), found);
         place.follow(sizes, next, &mut self.outcomes);
@@ -155,7 +158,9 @@ impl<O: Out, I: In, P: Peer> Table<O, I, P> {
         let Some(call) = self.ids.take_call(slot) else {
             return Err(NoMemory);
         };
-        let next = place.with_call(self.alloc, &mut self.pool, call)?;
+        let Ok(next) = place.with_call(self.alloc, &mut self.pool, call) else {
+            return Err(NoMemory);
+        };
         place.follow(self.sizes(), next, &mut self.outcomes);
         Ok(())
     }
@@ -285,7 +290,7 @@ impl<O: Out, I: In, P: Peer> Table<O, I, P> {
         requires fits { Fits self.old (seat_data place.old) step }
         requires sized { IsSized self.old }
         requires room { HasRoom place.old ⊎ AsksNone (seat_program (table_sizes self.old) (seat_data place.old)) }
-        ensures { IfOk result (λ tick. StepTold self.old self.new seat (seat_data place.old) (seat_data place.new) step tick) }
+        ensures ok { IfOk result (λ tick. StepTold self.old self.new seat (seat_data place.old) (seat_data place.new) step tick) }
         ensures none { AsksNone (seat_program (table_sizes self.old) (seat_data place.old)) → IsOk result }
     {
         let kind = step.kind();

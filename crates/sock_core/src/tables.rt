@@ -78,9 +78,11 @@ impl<O: Out, I: In, P: Peer> Tables<O, I, P> {
     {
         let Table { alloc, pool, .. } = &mut self.table;
         let place = &mut self.seats[usize::from(seat)];
-        let prepared = place.prepare(*alloc, pool);
-        self.short |= prepared.is_err();
-        prepared
+        if place.prepare(*alloc, pool).is_err() {
+            self.short = true;
+            return Err(NoMemory);
+        }
+        Ok(())
     }
 
     /// The next step of a client that was prepared for it, if it has one.
