@@ -87,7 +87,7 @@ size_in (n ∷ ns) taken left some within = elim (cases_lt taken n) [
   | inr past ↦
       let fits : n + length_of ns ≤ taken + left = within in
       let rest : taken + left - n ≡ taken - n + left = omega (arith, past) in
-      let there : nat_lt taken n ≡ false = le-ltb n taken past in
+      let there : nat_lt taken n ≡ false = le-ltb taken n past in
       past_part (part_sizes ns (taken + left - n)) taken n past
       ∙ ap (λ (x : ℕ). get_or (rest_sizes (taken - n) (part_sizes ns x)) 0 0) rest
       ∙ size_in ns (taken - n) left some (omega (arith, fits, past))

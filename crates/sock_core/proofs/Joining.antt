@@ -23,7 +23,10 @@ use Rattle.sock_programs.specs.Runs.{kind_in, IsAtRest}
 use Rattle.sock_core.specs.declared.machine.Tick.{Tick}
 use Rattle.sock_core.specs.declared.machine.Tick.TheVariants as ticks
 use Rattle.sock_core.specs.Links.{LinksData, Taken, Given, Agrees, AgreesGave, ArePrompt}
-use Rattle.sock_core.specs.Machines.{MachineState, core_with}
+use Rattle.sock_programs.specs.declared.task.Sizes.{Sizes}
+use Rattle.client_seats.specs.Seats.{SeatData, seat_program}
+use Rattle.reader_seats.specs.Readers.{ReaderData, reader_program}
+use Rattle.sock_core.specs.Machines.{MachineState, READERS, machine_sizes, between, resting, clients_with, readers_with, seats_with, core_with}
 use Rattle.sock_core.specs.Runs.{SameLink, SameTable, SameLinks, ShowFaults, LinksTell, ShowsTaking, ShowTakings, Follows, Made, Ticked, TickedWith, Ran, RanWith}
 
 -- ## The table and its links
@@ -366,3 +369,47 @@ ran_rest m i rest n = (
 
 pub ran_idle : (a b : MachineState) (seats : List ℕ) (i : ℕ) → Ran a b seats → ((took : Taken) (gave : Given) → IsAtRest (core_with b took gave) i) → (n : ℕ) → Ran a b (seats ++ replicate n i)
 ran_idle a b seats i r rest n = ran_join a b b seats (replicate n i) r (ran_rest b i rest n)
+
+-- ## A tick that was idle
+
+-- what a seat has still to do doesn't depend on what the links took
+programs_on : (xs ys : List SeatState) → map (λ (s : SeatState). s.program) (xs ++ ys) ≡ map (λ (s : SeatState). s.program) xs ++ map (λ (s : SeatState). s.program) ys
+programs_on [] ys = refl
+programs_on (x ∷ xs) ys = ap (λ (ps : List Program). x.program ∷ ps) (programs_on xs ys)
+
+client_programs : (p : Plan) (links : LinksData) (t u : Taken) (sizes : Sizes) (i : ℕ) (seats : List SeatData) → map (λ (s : SeatState). s.program) (clients_with p links t sizes i seats) ≡ map (λ (s : SeatState). s.program) (clients_with p links u sizes i seats)
+client_programs p links t u sizes i [] = refl
+client_programs p links t u sizes i (seat ∷ seats) = ap (λ (ps : List Program). seat_program sizes seat ∷ ps) (client_programs p links t u sizes (i + 1) seats)
+
+reader_programs : (p : Plan) (links : LinksData) (t u : Taken) (calls : List ℕ) (i : ℕ) (readers : List ReaderData) → map (λ (s : SeatState). s.program) (readers_with p links t calls i readers) ≡ map (λ (s : SeatState). s.program) (readers_with p links u calls i readers)
+reader_programs p links t u calls i [] = refl
+reader_programs p links t u calls i (r ∷ rs) = ap (λ (ps : List Program). reader_program calls r ∷ ps) (reader_programs p links t u calls (i + 1) rs)
+
+programs_with : (m : MachineState) (t u : Taken) → map (λ (s : SeatState). s.program) (seats_with m t) ≡ map (λ (s : SeatState). s.program) (seats_with m u)
+programs_with m t u =
+    let gap : List SeatState = replicate (between m.seats) resting in
+    programs_on (clients_with m.plan m.links t (machine_sizes m) 0 m.seats) _ ∙ ap₂ (λ (ps qs : List Program). ps ++ qs) (client_programs m.plan m.links t u (machine_sizes m) 0 m.seats)
+    (programs_on gap _ ∙ ap (λ (qs : List Program). map (λ (s : SeatState). s.program) gap ++ qs) (reader_programs m.plan m.links t u m.calls READERS m.readers) ∙ sym (programs_on gap _))
+    ∙ sym (programs_on (clients_with m.plan m.links u (machine_sizes m) 0 m.seats) _)
+
+kind_at : (xs : List SeatState) (i : ℕ) → elim (get_elem? xs i) as (λ o. std.Option Kind) [ none ↦ None | some s ↦ kind_in s.program ] ≡ elim (get_elem? (map (λ (s : SeatState). s.program) xs) i) as (λ o. std.Option Kind) [ none ↦ None | some program ↦ kind_in program ]
+kind_at [] i = refl
+kind_at (x ∷ xs) zero = refl
+kind_at (x ∷ xs) (suc i) = kind_at xs i
+
+pub rest_anyhow : (m : MachineState) (t u : Taken) (g h : Given) (i : ℕ) → IsAtRest (core_with m t g) i → IsAtRest (core_with m u h) i
+rest_anyhow m t u g h i rest = kind_at (seats_with m u) i
+    ∙ ap (λ (ps : List Program). elim (get_elem? ps i) as (λ o. std.Option Kind) [ none ↦ None | some program ↦ kind_in program ]) (programs_with m u t)
+    ∙ sym (kind_at (seats_with m t) i) ∙ rest
+
+-- the links took and gave something
+abbrev taken_from : Option OutState → List ℕ
+taken_from none = []
+taken_from (some out) = unwrap_or out.took []
+
+told_took : (o : std.Option (List ℕ)) → IfSome o (λ (bytes : List ℕ). bytes ≡ unwrap_or o [])
+told_took None = tt
+told_took (Some bytes) = refl
+
+pub some_taken : (links : LinksData) → (took : Taken) × Agrees links took
+some_taken links = (λ k. taken_from (get_elem? links.outs k), λ k out at. subst (λ (q : Option OutState). IfSome out.took (λ (bytes : List ℕ). bytes ≡ taken_from q)) (sym at) (told_took out.took))
