@@ -17,7 +17,7 @@ use id_points::{AttemptNumber, CallId};
 use crate::hand::InHand;
 use message_parts::OutgoingParcel;
 use seat_points::{
-    After, Aim, Attempt, Author, CallStep, Calling, JoinStep, Next, Opening, Point, ReleaseStep, RetryStep,
+    After, Aim, Attempt, CallStep, Calling, JoinStep, Next, Opening, Point, ReleaseStep, RetryStep,
     Retrying, SeekStep, Then,
 };
 use sock_message::{BlockPool, Call, NoMemory};
@@ -289,18 +289,6 @@ impl Seat {
                 self.hand = InHand::Call(call);
                 Ok(point.with_call(operation, 0))
             }
-        }
-    }
-
-    /// What it writes of this author; that of a `send` is no frame.
-    pub fn out_of(&mut self, author: Author) -> Option<&mut OutgoingParcel>
-        ensures out { IfSome result (λ out. (self.old.out ≡ Some out.old) × ((outgoing_of out.old).parts ≡ parts_by author (outgoing_of out.old).parts)) }
-        ensures rest { self.new ≡ record self.old { out = self.new.out } }
-        ensures new { IfSome result (λ out. self.new.out ≡ Some out.new) }
-    {
-        match (&mut self.out, author) {
-            (Some(OutgoingParcel::Frame(_)), Author::Send(_)) | (None, _) => None,
-            (Some(out), _) => Some(out),
         }
     }
 

@@ -2,12 +2,11 @@
 use Rattle.std.proofs.Common.{◌≡◌, ℕ, zero, suc, ◌+◌, ◌-◌, ◌%◌, ◌<◌, ◌≤◌, inl, inr, min, nat_lt, true, false, Bool, if◌then◌else◌, List, [], ◌∷◌, ◌++◌, length, take, drop, get_or, arith, ap, refl, ◌∙◌, sym, append-nil, length-drop}
 use Rattle.std.proofs.lemmas.Bool.{cases_lt, lt-ltb, le-ltb}
 use Rattle.std.proofs.lemmas.List.{take_min}
-use Rattle.std.specs.Prelude.{sum}
 use Rattle.io_block.specs.declared.pool.TheConstants.{BLOCK_BYTES}
 use Rattle.io_buf.specs.Buffer.{Buffer, block_sizes, rest_sizes}
 use Rattle.io_buf.proofs.Sizes.{rest_sizes-less, rest_sizes-more, rest_sizes-zero, rest_sizes-rest_sizes, block_sizes-step, block_sizes-one}
 use Rattle.sock_programs.specs.Parts.{room_of_part, part}
-use Rattle.message_parts.specs.Frames.{LiesInParts, LiesBehindIn, part_sizes}
+use Rattle.message_parts.specs.Frames.{LiesInParts, LiesBehindIn, part_sizes, length_of}
 
 -- ## A part in blocks, with others behind it
 
@@ -62,7 +61,7 @@ module _ (others : List ℕ) where
   past_part taken n past = by n taken n (omega arith) past
     where
       by : (fuel taken n : ℕ) → n ≤ fuel → n ≤ taken → rest_sizes taken (block_sizes n ++ others) ≡ rest_sizes (taken - n) others
-      by fuel taken zero enough past = refl
+      by fuel taken zero enough past = let none : taken ≡ taken - 0 = omega arith in ap (λ (x : ℕ). rest_sizes x others) none
       by zero taken (suc n) enough past = absurd (omega (arith, enough))
       by (suc fuel) taken (suc n) enough past =
           let m = min (suc n) BLOCK_BYTES in
@@ -74,21 +73,24 @@ module _ (others : List ℕ) where
 -- ## All parts
 
 -- the size of the first piece of what is left
-size_in : (ps : List ℕ) (taken left : ℕ) → 0 < left → sum ps ≤ taken + left → get_or (rest_sizes taken (part_sizes ps (taken + left))) 0 0 ≡ min (room_of_part ps taken) left
+size_in : (ps : List ℕ) (taken left : ℕ) → 0 < left → length_of ps ≤ taken + left → get_or (rest_sizes taken (part_sizes ps (taken + left))) 0 0 ≡ min (room_of_part ps taken) left
 size_in [] taken left some within = ap (λ (l : List ℕ). get_or (rest_sizes taken l) 0 0) (sym (append-nil (block_sizes (taken + left)))) ∙ first_is [] taken left some
 size_in (n ∷ ns) taken left some within = elim (cases_lt taken n) [
   | inl less ↦
+      let fits : n + length_of ns ≤ taken + left = within in
       let there : nat_lt taken n ≡ true = lt-ltb taken n less in
       let more : n ≡ taken + (n - taken) = omega (arith, less) in
       ap (λ (x : ℕ). get_or (rest_sizes taken (block_sizes x ++ part_sizes ns (taken + left - n))) 0 0) more
       ∙ first_is (part_sizes ns (taken + left - n)) taken (n - taken) (omega (arith, less))
-      ∙ omega (arith, within, less)
+      ∙ omega (arith, fits, less)
       ∙ ap (λ (b : Bool). min (if b then min (n - taken) (8192 - taken % 8192) else room_of_part ns (taken - n)) left) (sym there)
   | inr past ↦
-      let there : nat_lt taken n ≡ false = le-ltb n taken past in
+      let fits : n + length_of ns ≤ taken + left = within in
+      let rest : taken + left - n ≡ taken - n + left = omega (arith, past) in
+      let there : nat_lt taken n ≡ false = le-ltb taken n past in
       past_part (part_sizes ns (taken + left - n)) taken n past
-      ∙ ap (λ (x : ℕ). get_or (rest_sizes (taken - n) (part_sizes ns x)) 0 0) (omega (arith, past))
-      ∙ size_in ns (taken - n) left some (omega (arith, within, past))
+      ∙ ap (λ (x : ℕ). get_or (rest_sizes (taken - n) (part_sizes ns x)) 0 0) rest
+      ∙ size_in ns (taken - n) left some (omega (arith, fits, past))
       ∙ ap (λ (b : Bool). min (if b then min (n - taken) (8192 - taken % 8192) else room_of_part ns (taken - n)) left) (sym there)
 ]
 
@@ -114,13 +116,20 @@ lies_dropped ps taken count old new lies fits items sizes =
 
 -- nothing was taken yet
 pub lies_whole : (ps : List ℕ) (buf : Buffer) → LiesInParts ps buf → length buf.items < 18446744073709551616 → LiesBehindIn ps 0 buf
-lies_whole ps buf lies few = record { sizes = lies.sizes ∙ sym (rest_sizes-zero (part_sizes ps (length buf.items))); parts = lies.parts; counted = omega (arith, few) }
+lies_whole ps buf lies few =
+    let all : length buf.items ≡ 0 + length buf.items = omega arith in
+    let many : length_of ps ≤ length buf.items = lies.parts in
+    record { sizes = lies.sizes ∙ sym (rest_sizes-zero (part_sizes ps (length buf.items))) ∙ ap (λ (n : ℕ). rest_sizes 0 (part_sizes ps n)) all; parts = omega (arith, many); counted = omega (arith, few) }
 
 -- a header with the meta that is one piece, and then two bodies in blocks
 pub lies_framed : (buf : Buffer) (head payload attachment : ℕ) → 0 < head → head ≤ BLOCK_BYTES → length buf.items ≡ head + (payload + attachment) → buf.sizes ≡ head ∷ block_sizes payload ++ block_sizes attachment → LiesInParts (head ∷ payload ∷ attachment ∷ []) buf
-lies_framed buf head payload attachment some one many sizes = record {
-  sizes = sizes ∙ sym (
-      ap (λ (l : List ℕ). l ++ part_sizes (payload ∷ attachment ∷ []) (length buf.items - head)) (block_sizes-one head some one)
-      ∙ ap (λ (l : List ℕ). head ∷ block_sizes payload ++ l) (ap (λ (n : ℕ). block_sizes attachment ++ block_sizes n) (omega (arith, many)) ∙ append-nil (block_sizes attachment)));
-  parts = omega (arith, many);
-}
+lies_framed buf head payload attachment some one many sizes =
+    let gone : length buf.items - head - payload - attachment ≡ 0 = omega (arith, many) in
+    let all : head + (payload + (attachment + 0)) ≤ length buf.items = omega (arith, many) in
+    record {
+      sizes = sizes ∙ sym (
+          ap (λ (l : List ℕ). l ++ part_sizes (payload ∷ attachment ∷ []) (length buf.items - head)) (block_sizes-one head some one)
+          ∙ ap (λ (n : ℕ). head ∷ block_sizes payload ++ (block_sizes attachment ++ block_sizes n)) gone
+          ∙ ap (λ (l : List ℕ). head ∷ block_sizes payload ++ l) (append-nil (block_sizes attachment)));
+      parts = all;
+    }

@@ -1,14 +1,25 @@
-ghost use Rattle.std.specs.Prelude.{◌≡◌, ◌≢◌, ◌<◌, ℕ, [], Some, None, length, map, slice_set};
+ghost use Rattle.std.specs.Prelude.{IsTrue, ◌≡◌, ◌≢◌, ◌<◌, ℕ, [], Some, None, length, map, slice_set};
 ghost use mathlib.Core.Option.{some};
 ghost use lib.ListN.{get_elem?};
 ghost use Rattle.sock_io.specs.Link.{OutState, PutStep, ReadyStep, end_of};
 ghost use Rattle.sock_programs.specs.Parts.{part};
-ghost use Rattle.seat_points.specs.Points.{is_whole};
+ghost use Rattle.seat_points.specs.Points.{is_whole, parts_by};
 ghost use Rattle.message_parts.specs.Parcels.{outgoing_of};
 ghost use Rattle.sock_core.specs.Steps.{AskedAt, left_behind, taken_behind};
 
 use sock_io::{Ends, In, Out, Peer, Put, Ready};
 use message_parts::OutgoingParcel;
+use seat_points::Author;
+
+/// Whether what is written may be of this author: a `send` has no frame.
+pub fn is_of(out: &OutgoingParcel, author: Author) -> bool
+    ensures { IsTrue result → parts_by author (outgoing_of out.now).parts ≡ (outgoing_of out.now).parts }
+{
+    match (out, author) {
+        (OutgoingParcel::Frame(_), Author::Send(_)) => false,
+        (OutgoingParcel::Message(_), _) | (_, Author::Attempt(_)) => true,
+    }
+}
 
 /// Puts what is next of a message into a link; what the link answered, and whether it took all that was left.
 pub fn put_bytes<O: Out, I: In, P: Peer>(

@@ -12,7 +12,7 @@ ghost use Rattle.sock_core.specs.Telling.{StepTold};
 use crate::letter::Letter;
 use crate::machine::{On, Tick};
 use crate::moves::{put_home, put_message, take_home, take_message};
-use crate::puts::{ask_ready, put_bytes};
+use crate::puts::{ask_ready, is_of, put_bytes};
 use crate::waiting::awaited;
 use crate::words::{end_link, pass_link, step_word};
 use call_points::Aside;
@@ -231,9 +231,12 @@ impl<O: Out, I: In, P: Peer> Table<O, I, P> {
         ensures { IfOk result (λ put. (seat : ℕ) (asked : Bool) → Makes self.old self.new seat (seat_data place.old) (seat_data place.new) (Step.PutBytes link asked author) (OfPut put)) }
     {
         // What a `send` puts is no frame.
-        let Some(out) = place.out_of(author) else {
+        let Some(out) = &mut place.out else {
             return Err(NoMemory);
         };
+        if !is_of(out, author) {
+            return Err(NoMemory);
+        }
         let (answer, whole) = put_bytes(&mut self.ends, link, out);
         let next = place.point.put_answered(answer, whole);
         place.follow(self.sizes(), next, &mut self.outcomes);
