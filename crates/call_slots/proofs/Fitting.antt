@@ -1,5 +1,6 @@
 -- The next step of a seat of a sound core fits the table of ids.
 use Rattle.std.proofs.Common.{◌≡◌, ℕ, ◌+◌, ◌<◌, ◌≤◌, Bool, true, false, IsTrue, List, [], Some, get_or, sym, ap, ◌∙◌, subst, arith}
+use Rattle.std.proofs.Props.{props}
 use mathlib.Core.Option as core
 use lib.ListN.{get_elem?}
 use Rattle.sock_words.specs.declared.plain.Plan.{Plan}
@@ -34,6 +35,45 @@ IsOnWord (steps.PutCall i) = ⊥
 IsOnWord (steps.TakeCall i) = ⊥
 IsOnWord (steps.TakeBytes k room) = ⊥
 IsOnWord other = Unit {0}
+
+-- ## That a step fits has one proof at most
+
+within_prop : (p : IdPlan) (step : code.Aside) → IsProp (IsWithin p step)
+within_prop p (steps.ClaimId i) = hlevel props
+within_prop p (steps.PutCall i) = hlevel props
+within_prop p (steps.MakeId i range) = hlevel props
+within_prop p (steps.StoreCall o id) = hlevel props
+within_prop p (steps.LoadCall o) = hlevel props
+within_prop p (steps.StoreAt o w) = hlevel props
+within_prop p (steps.LoadAt o) = hlevel props
+within_prop p (steps.LoadIdWord i) = hlevel props
+within_prop p (steps.LockId i from) = hlevel props
+within_prop p (steps.PostId i from e) = hlevel props
+within_prop p (steps.UnlockId i from advance) = hlevel props
+within_prop p (steps.EndId i) = hlevel props
+within_prop p (steps.FreeId i) = hlevel props
+within_prop p (steps.TakeCall i) = hlevel props
+within_prop p (steps.TakeBytes k room) = hlevel props
+
+room_prop : (step : code.Aside) (found : ℕ) → IsProp (WordFits step found)
+room_prop (steps.ClaimId i) found = hlevel props
+room_prop (steps.PutCall i) found = hlevel props
+room_prop (steps.MakeId i range) found = hlevel props
+room_prop (steps.StoreCall o id) found = hlevel props
+room_prop (steps.LoadCall o) found = hlevel props
+room_prop (steps.StoreAt o w) found = hlevel props
+room_prop (steps.LoadAt o) found = hlevel props
+room_prop (steps.LoadIdWord i) found = hlevel props
+room_prop (steps.LockId i from) found = hlevel props
+room_prop (steps.PostId i from e) found = hlevel props
+room_prop (steps.UnlockId i from advance) found = hlevel props
+room_prop (steps.EndId i) found = hlevel props
+room_prop (steps.FreeId i) found = hlevel props
+room_prop (steps.TakeCall i) found = hlevel props
+room_prop (steps.TakeBytes k room) found = hlevel props
+
+pub fits_prop : (s : SlotState) (step : code.Aside) → IsProp (StepFits s step)
+fits_prop s step = hlevel (props, within_prop, room_prop)
 
 -- ## The next step of a program that goes on
 

@@ -22,17 +22,8 @@ fn has(buf: &IoBuf, bytes: &[u8]) -> bool {
 #[test]
 fn issues_the_first_attempt(rt: HostRuntime) -> Result<(), Fail> {
     let mut pool = BlockPool::new(rt.alloc());
-    let mut payload = IoBuf::new(rt.alloc());
-    payload.append_bytes(&mut pool, b"hi")?;
-    let call = Call {
-        operation: 0,
-        names: vec![in rt.alloc(); 3u16, 5u16]?,
-        service: Vec::from_slice(rt.alloc(), b"Echo")?,
-        method: Vec::from_slice(rt.alloc(), b"Echo")?,
-        payload,
-        attachment: IoBuf::new(rt.alloc()),
-        range: 3,
-    };
+    let names = vec![in rt.alloc(); 3u16, 5u16]?;
+    let call = Call::new(rt.alloc(), &mut pool, 0, names, b"Echo", b"Echo", b"hi", b"", 3)?;
     let frame = issue(rt.alloc(), &mut pool, &call, 1, 0)?;
     assert!(rt; has(&frame, ECHO) && frame.refs() == 2);
     assert!(rt; call.name(0) == 3 && call.name(1) == 5 && call.name(2) == 3);

@@ -1,10 +1,15 @@
 -- The sizes of a script's table, one by one.
-use Rattle.std.proofs.Common.{◌≡◌, ℕ, ◌+◌, List, length, ap, ◌∙◌}
+use Rattle.std.proofs.Common.{◌≡◌, ℕ, ◌+◌, ◌≤◌, Bool, true, false, cond, if◌then◌else◌, List, [], ◌∷◌, length, refl, ap, sym, ◌∙◌, arith}
+use Rattle.std.specs.Prelude.{count_by}
+use Rattle.std.proofs.lemmas.List.Sums.{sum_by-cons}
 use Rattle.sock_words.specs.declared.plain.Plan.{Plan}
-use Rattle.brpc_model.specs.Items.{Item}
+use Rattle.corr_core.specs.declared.marks.Plan.{Plan as IdPlan}
+use Rattle.brpc_model.specs.Items.{Item, Slots, Requests, First, Client, Open, Send, Call, Expire, Join, Fail, Hold, Drop, Sched, Tick, To, is_call, is_operation}
 use Rattle.brpc_model.specs.Operations.{operations, clients, link_names, slots, requests, first_version}
 use Rattle.brpc_model.specs.Places.{names}
-use Rattle.sock_programs.specs.Tasks.{plan_of}
+use Rattle.sock_programs.specs.Tasks.{calls, id_plan_of, plan_of}
+use Rattle.script_tasks.specs.Along.{numbers_along}
+use Rattle.script_tasks.proofs.Alongs.{calls_are}
 
 -- a plan by its sizes
 abbrev pub plan_by : ℕ → ℕ → ℕ → ℕ → ℕ → ℕ → ℕ → Plan
@@ -20,3 +25,63 @@ plan_is {s} {l} {r} {n} {o} {c} {f} script es el er en eo ec ef =
     ∙ ap (λ x. plan_by (slots script) (length (link_names script)) (requests script) (length (names script)) x c f) eo
     ∙ ap (λ x. plan_by (slots script) (length (link_names script)) (requests script) (length (names script)) (length (operations script)) x f) ec
     ∙ ap (plan_by (slots script) (length (link_names script)) (requests script) (length (names script)) (length (operations script)) (clients script + 1)) ef
+
+-- ## The calls
+
+call_is_operation : (item : Item) → is_call item ≡ true → is_operation item ≡ true
+call_is_operation (Call call) e = refl
+call_is_operation (Slots n) e = absurd (cc)
+call_is_operation (Requests n) e = absurd (cc)
+call_is_operation (First n) e = absurd (cc)
+call_is_operation Client e = absurd (cc)
+call_is_operation (Open name shape) e = absurd (cc)
+call_is_operation (Send name bytes) e = absurd (cc)
+call_is_operation (Expire client i) e = absurd (cc)
+call_is_operation (Join client i) e = absurd (cc)
+call_is_operation (Fail name c) e = absurd (cc)
+call_is_operation (Hold name) e = absurd (cc)
+call_is_operation (Drop name) e = absurd (cc)
+call_is_operation Sched e = absurd (cc)
+call_is_operation (Tick s n) e = absurd (cc)
+call_is_operation (To s n) e = absurd (cc)
+
+numbers_count : (number : ℕ) (items : List Item) → length (numbers_along is_call number items) ≡ count_by is_call items
+numbers_count number [] = refl
+numbers_count number (item ∷ items) =
+    let own : count_by is_call (item ∷ items) ≡ cond {A = ℕ} (is_call item) 1 0 + count_by is_call items = sum_by-cons (λ (x : Item). cond (is_call x) 1 0) item items in
+    by (is_operation item) (is_call item) (call_is_operation item) ∙ sym own
+  where
+    by : (o k : Bool) → (k ≡ true → o ≡ true) →
+        length (if o then (if k then number ∷ numbers_along is_call (number + 1) items else numbers_along is_call (number + 1) items) else numbers_along is_call number items) ≡ cond {A = ℕ} k 1 0 + count_by is_call items
+    by true true h = omega (arith, numbers_count (number + 1) items)
+    by true false h = omega (arith, numbers_count (number + 1) items)
+    by false false h = omega (arith, numbers_count number items)
+    by false true h = let e : false ≡ true = h refl in absurd (cc)
+
+pub call_count : (script : List Item) → length (calls script) ≡ count_by is_call script
+call_count script = ap length (sym (calls_are script)) ∙ numbers_count 0 script
+
+pub calls_few : (items : List Item) → count_by is_call items ≤ count_by is_operation items
+calls_few [] = omega arith
+calls_few (item ∷ items) =
+    omega (
+      arith,
+      sum_by-cons (λ (x : Item). cond (is_call x) 1 0) item items,
+      sum_by-cons (λ (x : Item). cond (is_operation x) 1 0) item items,
+      by (is_operation item) (is_call item) (call_is_operation item),
+      calls_few items,
+    )
+  where
+    by : (o k : Bool) → (k ≡ true → o ≡ true) → cond {A = ℕ} k 1 0 ≤ cond {A = ℕ} o 1 0
+    by true true h = omega arith
+    by true false h = omega arith
+    by false false h = omega arith
+    by false true h = let e : false ≡ true = h refl in absurd (cc)
+
+-- the sizes of its table of ids
+abbrev pub id_plan_by : ℕ → ℕ → ℕ → IdPlan
+id_plan_by s o c = record { slots = s; operations = o; seats = c }
+
+pub id_plan_is : {s o c : ℕ} (script : List Item) → s ≡ length (calls script) → o ≡ length (operations script) → c ≡ 32 + length (link_names script) → id_plan_by s o c ≡ id_plan_of script
+id_plan_is {s} {o} {c} script es eo ec =
+    ap (λ x. id_plan_by x o c) es ∙ ap (λ x. id_plan_by (length (calls script)) x c) eo ∙ ap (id_plan_by (length (calls script)) (length (operations script))) ec

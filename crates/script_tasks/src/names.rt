@@ -81,3 +81,17 @@ pub fn number_of(names: &[&Name], name: &Name) -> u16
     }
     number
 }
+
+/// The numbers of the one or two names of a call.
+pub fn numbers_of(alloc: Global, names: &[&Name], both: &Names) -> Result<Vec<u16>, AllocError>
+    requires { length names.now ≤ 64 }
+    ensures { IfOk result (λ numbers. numbers.items ≡ map (name_number (map (λ n. n.now) names.now)) both.now) }
+{
+    let (first, second) = both.parts();
+    let mut numbers = Vec::new(alloc);
+    numbers.push(number_of(names, first))?;
+    if let Some(second) = second {
+        numbers.push(number_of(names, second))?;
+    }
+    Ok(numbers)
+}

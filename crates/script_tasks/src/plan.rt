@@ -1,13 +1,14 @@
 ghost use Rattle.std.specs.Prelude.{◌≡◌, map, IfOk};
-ghost use Rattle.sock_programs.specs.Tasks.{plan_of};
+ghost use Rattle.sock_programs.specs.Tasks.{id_plan_of, plan_of};
 ghost use Rattle.sock_programs.specs.Scripts.{sizes_of};
 ghost use Rattle.script_items.specs.Meaning.{item};
 ghost use Rattle.report_fits.specs.Limits.{KeepsLimits};
 
 use crate::names::names_of;
 use crate::sizes::{
-    client_count, first_version, link_count, operation_count, request_count, slot_count,
+    call_count, client_count, first_version, link_count, operation_count, request_count, slot_count,
 };
+use corr_core::Plan as IdPlan;
 use script_items::Line;
 use sock_programs::Sizes;
 use sock_words::Plan;
@@ -31,12 +32,26 @@ pub fn plan_of(alloc: Global, lines: &[Line]) -> Result<Plan, AllocError>
     })
 }
 
-/// How many slots and requests a table has.
-pub fn sizes_of(plan: &Plan) -> Sizes
-    ensures { result ≡ sizes_of plan.now }
+/// The sizes of a script's table of call ids: a slot for each call, and a seat for each client and for the reader of each
+/// link, which begin at seat 32.
+pub fn id_plan_of(lines: &[Line]) -> IdPlan
+    requires { KeepsLimits (map item lines.now) }
+    ensures { result ≡ id_plan_of (map item lines.now) }
+{
+    IdPlan {
+        slots: call_count(lines) as u16,
+        operations: operation_count(lines) as u16,
+        seats: 32 + link_count(lines) as u16,
+    }
+}
+
+/// How many slots, requests and id slots the tables have.
+pub fn sizes_of(plan: &Plan, ids: &IdPlan) -> Sizes
+    ensures { result ≡ sizes_of plan.now ids.now }
 {
     Sizes {
         slots: plan.slots,
         requests: plan.requests,
+        ids: ids.slots,
     }
 }

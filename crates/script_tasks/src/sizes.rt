@@ -1,5 +1,5 @@
 ghost use Rattle.std.specs.Prelude.{◌≡◌, map, count_by};
-ghost use Rattle.brpc_model.specs.Items.{is_client, is_open, is_operation};
+ghost use Rattle.brpc_model.specs.Items.{is_call, is_client, is_open, is_operation};
 ghost use Rattle.brpc_model.specs.Operations.{clients, slots, requests, first_version};
 ghost use Rattle.script_items.specs.Meaning.{item};
 
@@ -55,6 +55,13 @@ pub fn is_open(line: &Line) -> bool
     matches!(line, Line::Open(_))
 }
 
+/// Whether the line is a call.
+pub fn is_call(line: &Line) -> bool
+    ensures { result ≡ is_call (item line.now) }
+{
+    matches!(line, Line::Call(_))
+}
+
 /// Whether the line is an operation of a client or of the setup.
 pub fn is_operation(line: &Line) -> bool
     ensures { result ≡ is_operation (item line.now) }
@@ -86,4 +93,11 @@ pub fn operation_count(lines: &[Line]) -> usize
     ensures { result ≡ count_by is_operation (map item lines.now) }
 {
     lines.iter().filter(|line| is_operation(line)).count()
+}
+
+/// How many calls there are.
+pub fn call_count(lines: &[Line]) -> usize
+    ensures { result ≡ count_by is_call (map item lines.now) }
+{
+    lines.iter().filter(|line| is_call(line)).count()
 }

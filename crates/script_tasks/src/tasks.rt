@@ -1,30 +1,60 @@
-ghost use Rattle.std.specs.Prelude.{◌≡◌, ◌<◌, ◌≤◌, ◌+◌, ◌++◌, length, map, option_map, IfOk, OnOk, if◌then◌else◌};
-ghost use Rattle.brpc_model.specs.Operations.{operations};
-ghost use Rattle.brpc_model.specs.Places.{names};
-ghost use Rattle.script_items.specs.Meaning.{item};
-ghost use Rattle.sock_programs.specs.Tasks.{op_of, opens};
+ghost use Rattle.std.specs.Prelude.{◌≡◌, ◌≤◌, ◌++◌, List, length, map, IfOk, OnOk};
+ghost use Rattle.std.specs.List.{AllByRecursion};
+ghost use Rattle.script_items.specs.Meaning.{item, call_of};
+ghost use Rattle.sock_programs.specs.Tasks.{Numbered, asked_of, op_of};
 ghost use Rattle.sock_programs.specs.Scripts.{all_tasks};
+ghost use Rattle.sock_message.specs.Inside.{KeepsLimits as IsWithinLimits};
 ghost use Rattle.report_fits.specs.Limits.{KeepsLimits};
-ghost use Rattle.script_tasks.specs.Along.{task_at};
+ghost use Rattle.script_tasks.specs.Along.{Knows, IsShort, numbered_as, task_at};
 
-use crate::names::{names_of, number_of};
+use crate::names::{names_of, number_of, numbers_of};
+use crate::places::{operation_at, starts_of};
 use crate::sizes::{is_client, is_open, is_operation};
-use script_items::{Line, Name};
-use sock_message::{BlockPool, Message, NoMemory};
+use script_items::{CallLine, Line, Name};
+use sock_message::{BlockPool, Call, Message, NoMemory};
 use sock_programs::{Op, Task};
-use std::alloc::{AllocError, Global};
+use std::alloc::Global;
 use std::collections::VecDeque;
 
-/// What a line asks for, by numbers; what concerns calls has no task. The memory is for a message.
+/// A call of a script, by numbers. The memory is for its bytes.
+fn call_in(
+    alloc: Global,
+    pool: &mut BlockPool,
+    names: &[&Name],
+    number: u16,
+    call: &CallLine,
+) -> Result<Call, NoMemory>
+    requires names { length names.now ≤ 64 }
+    requires limits { IsWithinLimits (asked_of (map (λ n. n.now) names.now) number (call_of call.now)) }
+    ensures { IfOk result (λ c. c ≡ asked_of (map (λ n. n.now) names.now) number (call_of call.now)) }
+{
+    let numbers = numbers_of(alloc, names, &call.names)?;
+    Call::new(
+        alloc,
+        pool,
+        number,
+        numbers,
+        call.service.as_slice(),
+        call.method.as_slice(),
+        call.payload.as_slice(),
+        call.attachment.as_slice(),
+        call.retry + 2,
+    )
+}
+
+/// What a line asks for, by numbers; the starts are those of all operations. The memory is for a message or a call.
 fn op_of(
     alloc: Global,
     pool: &mut BlockPool,
     names: &[&Name],
+    starts: &[u16],
+    number: u16,
     link: u16,
     line: &Line,
 ) -> Result<Option<Op>, NoMemory>
-    requires { length names.now ≤ 64 }
-    ensures { IfOk result (λ op. op ≡ op_of (map (λ n. n.now) names.now) link (item line.now)) }
+    requires names { length names.now ≤ 64 }
+    requires short { IsShort (item line.now) }
+    ensures { IfOk result (λ op. (all : List Numbered) → Knows starts.now all → op ≡ op_of all (map (λ n. n.now) names.now) (numbered_as number link (item line.now)) (item line.now)) }
 {
     match line {
         Line::Open(open) => Ok(Some(Op::Open(number_of(names, &open.name), link))),
@@ -32,6 +62,9 @@ fn op_of(
             let message = Message::new(alloc, pool, send.bytes.as_slice())?;
             Ok(Some(Op::Send(number_of(names, &send.name), message)))
         }
+        Line::Call(call) => Ok(Some(Op::Call(call_in(alloc, pool, names, number, call)?))),
+        Line::Expire(target) => Ok(Some(Op::Expire(operation_at(starts, target)))),
+        Line::Join(target) => Ok(Some(Op::Join(operation_at(starts, target)))),
         Line::Hold(name) => Ok(Some(Op::Hold(number_of(names, name)))),
         Line::Drop(name) => Ok(Some(Op::Drop(number_of(names, name)))),
         Line::Fail { name, code } => Ok(Some(Op::Fail(number_of(names, name), *code))),
@@ -45,30 +78,34 @@ fn push_task(
     pool: &mut BlockPool,
     tasks: &mut VecDeque<Task>,
     names: &[&Name],
+    starts: &[u16],
     number: u16,
     link: u16,
     line: &Line,
 ) -> Result<(), NoMemory>
-    requires { length names.now ≤ 64 }
-    ensures { OnOk result (tasks.new.items ≡ tasks.old.items ++ task_at (map (λ n. n.now) names.now) number link (item line.now)) }
+    requires names { length names.now ≤ 64 }
+    requires short { IsShort (item line.now) }
+    ensures { OnOk result ((all : List Numbered) → Knows starts.now all → tasks.new.items ≡ tasks.old.items ++ task_at all (map (λ n. n.now) names.now) number link (item line.now)) }
 {
-    if let Some(op) = op_of(alloc, pool, names, link, line)? {
+    if let Some(op) = op_of(alloc, pool, names, starts, number, link, line)? {
         tasks.push_back(Task { number, op })?;
     }
     Ok(())
 }
 
-/// The tasks of the setup and of each client, in the order of the script. Each message is copied
-/// once, into blocks of the pool.
+/// The tasks of the setup and of each client, in the order of the script. The bytes of each message and of each call are
+/// copied once, into blocks of the pool.
 pub fn tasks_of(
     alloc: Global,
     pool: &mut BlockPool,
     lines: &[Line],
 ) -> Result<Vec<VecDeque<Task>>, NoMemory>
-    requires { KeepsLimits (map item lines.now) }
+    requires limits { KeepsLimits (map item lines.now) }
+    requires calls { AllByRecursion IsShort (map item lines.now) }
     ensures { IfOk result (λ clients. map (λ q. q.items) clients.items ≡ all_tasks (map item lines.now)) }
 {
     let names = names_of(alloc, lines)?;
+    let starts = starts_of(alloc, lines)?;
     let mut clients = Vec::new(alloc);
     let mut tasks = VecDeque::new(alloc);
     let mut number = 0u16;
@@ -78,7 +115,7 @@ pub fn tasks_of(
             clients.push(tasks)?;
             tasks = VecDeque::new(alloc);
         } else if is_operation(line) {
-            push_task(alloc, pool, &mut tasks, &names, number, link, line)?;
+            push_task(alloc, pool, &mut tasks, &names, &starts, number, link, line)?;
             number += 1;
             if is_open(line) {
                 link += 1;
@@ -87,22 +124,4 @@ pub fn tasks_of(
     }
     clients.push(tasks)?;
     Ok(clients)
-}
-
-/// The numbers of the `open` operations, in the order of their links.
-pub fn opens_of(alloc: Global, lines: &[Line]) -> Result<VecDeque<u16>, AllocError>
-    requires { KeepsLimits (map item lines.now) }
-    ensures { IfOk result (λ numbers. numbers.items ≡ opens (map item lines.now)) }
-{
-    let mut opens = VecDeque::new(alloc);
-    let mut number = 0u16;
-    for line in lines {
-        if is_operation(line) {
-            if is_open(line) {
-                opens.push_back(number)?;
-            }
-            number += 1;
-        }
-    }
-    Ok(opens)
 }

@@ -1,6 +1,8 @@
-ghost use Rattle.std.specs.Prelude.{◌≡◌};
+ghost use Rattle.std.specs.Prelude.{◌≡◌, IfOk};
+ghost use Rattle.sock_message.specs.Inside.{LiesInBlocks};
 
-use io_buf::IoBuf;
+use io_buf::{BlockPool, IoBuf, NoMemory};
+use std::alloc::Global;
 use std::marker::Model;
 
 /// A call, as its client asks for it (bRPC's bthread_id.md). It is handed from thread to thread with the lock of its id.
@@ -46,6 +48,52 @@ impl Call {
     ghost use Rattle.sock_message.specs.Asked.{name_of};
     ghost use Rattle.sock_message.specs.Inside.{KeepsLimits};
 
+    /// The call that asks this. The bytes of its payload and of its attachment are copied once, into blocks of the pool.
+    pub fn new(
+        alloc: Global,
+        pool: &mut BlockPool,
+        operation: u16,
+        names: Vec<u16>,
+        service: &[u8],
+        method: &[u8],
+        payload: &[u8],
+        attachment: &[u8],
+        range: u8,
+    ) -> Result<Call, NoMemory>
+        requires { KeepsLimits (record { operation = operation; names = names.items; service = service.now; method = method.now; payload = payload.now; attachment = attachment.now; range = range }) }
+        ensures { IfOk result (λ c. c ≡ record { operation = operation; names = names.items; service = service.now; method = method.now; payload = payload.now; attachment = attachment.now; range = range }) }
+    {
+        let service = Vec::from_slice(alloc, service)?;
+        let method = Vec::from_slice(alloc, method)?;
+        let payload = in_blocks(alloc, pool, payload)?;
+        let attachment = in_blocks(alloc, pool, attachment)?;
+        Ok(Call {
+            operation,
+            names,
+            service,
+            method,
+            payload,
+            attachment,
+            range,
+        })
+    }
+
+    /// An equal call. Its payload and its attachment are over the same blocks, and are not copied.
+    pub fn share(&self) -> Result<Call, NoMemory>
+        ensures { IfOk result (λ c. c ≡ self.now) }
+    {
+        let alloc = *self.names.allocator();
+        Ok(Call {
+            operation: self.operation,
+            names: Vec::from_slice(alloc, &self.names)?,
+            service: Vec::from_slice(alloc, &self.service)?,
+            method: Vec::from_slice(alloc, &self.method)?,
+            payload: self.payload.share()?,
+            attachment: self.attachment.share()?,
+            range: self.range,
+        })
+    }
+
     /// The number of the name to which an attempt goes, which is counted from 0: of two names they take turns.
     pub fn name(&self, attempt: u8) -> u16
         ensures name { result ≡ name_of self.now attempt }
@@ -57,4 +105,14 @@ impl Call {
             self.names[1]
         }
     }
+}
+
+// A buffer of these bytes, in blocks from its start.
+fn in_blocks(alloc: Global, pool: &mut BlockPool, bytes: &[u8]) -> Result<IoBuf, NoMemory>
+    ensures bytes { IfOk result (λ b. b.items ≡ bytes.now) }
+    ensures blocks { IfOk result LiesInBlocks }
+{
+    let mut buf = IoBuf::new(alloc);
+    buf.append_bytes(pool, bytes)?;
+    Ok(buf)
 }

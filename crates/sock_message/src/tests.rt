@@ -1,4 +1,4 @@
-use crate::{BlockPool, Message};
+use crate::{BlockPool, Call, Message};
 use std::test::Fail;
 
 fn is_send_and_sync<T: Send + Sync + Drop>(_value: T) {}
@@ -36,5 +36,18 @@ fn holds_no_bytes(rt: HostRuntime) -> Result<(), Fail> {
     let outgoing = message.begin();
     assert!(rt; outgoing.is_whole_taken());
     assert!(rt; outgoing.next_piece().is_empty());
+    Ok(())
+}
+
+#[test]
+fn a_call_is_shared(rt: HostRuntime) -> Result<(), Fail> {
+    let mut pool = BlockPool::new(rt.alloc());
+    let names = vec![in rt.alloc(); 3u16, 5u16]?;
+    let call = Call::new(rt.alloc(), &mut pool, 9, names, b"Echo", b"Ping", b"hi", b"", 4)?;
+    let shared = call.share()?;
+    assert!(rt; call.name(0) == 3 && shared.name(1) == 5 && shared.name(2) == 3);
+    assert_eq!(rt; (shared.operation, shared.range), (9, 4));
+    assert!(rt; shared.method.as_slice() == b"Ping".as_slice() && shared.payload.len() == 2);
+    is_send_and_sync(shared);
     Ok(())
 }

@@ -1,20 +1,23 @@
-use Rattle.std.proofs.Common.{◌+◌, map, drop, [], ◌∷◌, ◌++◌, if◌then◌else◌, arith, ap, sym, ◌∙◌}
+use Rattle.std.proofs.Common.{◌+◌, map, drop, [], ◌∷◌, ◌++◌, if◌then◌else◌, arith, ap, sym, ◌∙◌, subst}
 use Rattle.std.proofs.lemmas.List.{map-append}
 use Rattle.sock_programs.specs.Scripts.{all_tasks}
 use Rattle.script_items.specs.Meaning.{item}
-use Rattle.script_tasks.specs.Along.{task_at, tasks_along}
+use Rattle.sock_programs.specs.Tasks.{numbered}
+use Rattle.script_tasks.specs.Along.{Knows, task_at, tasks_along}
 use Rattle.script_tasks.proofs.NameSteps.{line_step}
+use Rattle.script_tasks.proofs.Starts.{knows_all}
 use Rattle.script_tasks.proofs.Alongs.{to_items, sofar_same, sofar_client, sofar_operation, sofar_other, tasks_are, left_is}
 use Rattle.script_tasks.proofs.tasks.tasks_of.Goals as goal
 use Rattle.script_tasks.proofs.tasks.tasks_of.Goals.{then-is_client+in_ok-push, else-is_client+then-is_operation+in_ok-push_task+then-is_open, else-is_client+then-is_operation+in_ok-push_task+else-is_open, else-is_client+else-is_operation}
 
 pub loop-line-init : goal.loop-line-init
 loop-line-init c = let script = map item c.args.lines.now in record {
-  room = omega (arith, left_is 0 1 script, c.requires.operations);
+  room = omega (arith, left_is 0 1 script, c.requires.limits.operations);
   few = omega arith;
-  tasks = ap (λ qs. map (λ q. q.items) qs ++ tasks_along (map (λ n. n.now) c.in_ok-names.names.items) 0 0 c.new-tasks.result.items script) c.new-clients.ensures.items
-      ∙ ap (λ ts. tasks_along (map (λ n. n.now) c.in_ok-names.names.items) 0 0 ts script) c.new-tasks.ensures.items
-      ∙ ap (λ ns. tasks_along ns 0 0 [] script) c.in_ok-names.ensures
+  short = c.requires.calls;
+  tasks = ap (λ qs. map (λ q. q.items) qs ++ tasks_along (numbered script) (map (λ n. n.now) c.in_ok-names.names.items) 0 0 c.new-tasks.result.items script) c.new-clients.ensures.items
+      ∙ ap (λ ts. tasks_along (numbered script) (map (λ n. n.now) c.in_ok-names.names.items) 0 0 ts script) c.new-tasks.ensures.items
+      ∙ ap (λ ns. tasks_along (numbered script) ns 0 0 [] script) c.in_ok-names.ensures
       ∙ tasks_are script;
 }
 
@@ -26,6 +29,7 @@ loop-line-preserved c =
     let here = item c.line-item.result in
     let whole = all_tasks (map item lines) in
     let done = map (λ q. q.items) l.clients.items in
+    let all = numbered (map item lines) in
     let ns = map (λ n. n.now) c.in_ok-names.names.items in
     let own = l.tasks.items in
     let old = to_items (map item (drop l.line-index lines)) (here ∷ rest) (line_step lines l.line-index c.line-item.result c.loop-line-test.true c.line-item.is) l.invariant in
@@ -33,18 +37,18 @@ loop-line-preserved c =
       | then-is_client+in_ok-push w ↦
           sofar_same (ap (λ v. map (λ q. q.items) v.items) w.clients-is ∙ ap (map (λ q. q.items)) w.in_ok-push.ensures.items ∙ map-append (λ q. q.items) l.clients.items (l.tasks ∷ []))
           w.number-is w.link-is (ap (λ q. q.items) w.tasks-is ∙ w.new-tasks-then-is_client.ensures.items)
-          (sofar_client whole done ns l.number l.link own here rest old (sym c.is_client.ensures ∙ w.if-is_client.true))
+          (sofar_client whole done all ns l.number l.link own here rest old (sym c.is_client.ensures ∙ w.if-is_client.true))
       | else-is_client+then-is_operation+in_ok-push_task+then-is_open w ↦
           let open_ = sym w.is_open.ensures ∙ w.if-is_open.true in
           sofar_same (ap (λ v. map (λ q. q.items) v.items) w.clients-is) w.number-is (w.link-is ∙ sym (ap (λ b. if b then l.link + 1 else l.link) open_))
-          (ap (λ q. q.items) w.tasks-is ∙ w.in_ok-push_task.ensures ∙ ap (λ known. own ++ task_at (map (λ n. n.now) known) l.number l.link here) w.deref.ensures.value)
-          (sofar_operation whole done ns l.number l.link own here rest old (sym c.is_client.ensures ∙ w.if-is_client.false) (sym w.is_operation.ensures ∙ w.if-is_operation.true))
+          (ap (λ q. q.items) w.tasks-is ∙ w.in_ok-push_task.ensures all (subst (λ starts. Knows starts all) (sym (w.deref-2.ensures.value ∙ c.in_ok-starts.ensures)) (knows_all (map item lines))) ∙ ap (λ known. own ++ task_at all (map (λ n. n.now) known) l.number l.link here) w.deref.ensures.value)
+          (sofar_operation whole done all ns l.number l.link own here rest old (sym c.is_client.ensures ∙ w.if-is_client.false) (sym w.is_operation.ensures ∙ w.if-is_operation.true))
       | else-is_client+then-is_operation+in_ok-push_task+else-is_open w ↦
           let open_ = sym w.is_open.ensures ∙ w.if-is_open.false in
           sofar_same (ap (λ v. map (λ q. q.items) v.items) w.clients-is) w.number-is (w.link-is ∙ sym (ap (λ b. if b then l.link + 1 else l.link) open_))
-          (ap (λ q. q.items) w.tasks-is ∙ w.in_ok-push_task.ensures ∙ ap (λ known. own ++ task_at (map (λ n. n.now) known) l.number l.link here) w.deref.ensures.value)
-          (sofar_operation whole done ns l.number l.link own here rest old (sym c.is_client.ensures ∙ w.if-is_client.false) (sym w.is_operation.ensures ∙ w.if-is_operation.true))
+          (ap (λ q. q.items) w.tasks-is ∙ w.in_ok-push_task.ensures all (subst (λ starts. Knows starts all) (sym (w.deref-2.ensures.value ∙ c.in_ok-starts.ensures)) (knows_all (map item lines))) ∙ ap (λ known. own ++ task_at all (map (λ n. n.now) known) l.number l.link here) w.deref.ensures.value)
+          (sofar_operation whole done all ns l.number l.link own here rest old (sym c.is_client.ensures ∙ w.if-is_client.false) (sym w.is_operation.ensures ∙ w.if-is_operation.true))
       | else-is_client+else-is_operation w ↦
           sofar_same (ap (λ v. map (λ q. q.items) v.items) w.clients-is) w.number-is w.link-is (ap (λ q. q.items) w.tasks-is)
-          (sofar_other whole done ns l.number l.link own here rest old (sym c.is_client.ensures ∙ w.if-is_client.false) (sym w.is_operation.ensures ∙ w.if-is_operation.false))
+          (sofar_other whole done all ns l.number l.link own here rest old (sym c.is_client.ensures ∙ w.if-is_client.false) (sym w.is_operation.ensures ∙ w.if-is_operation.false))
     ]

@@ -1,0 +1,43 @@
+-- The calls of a script that was read keep the limits of calls.
+use Rattle.std.proofs.Common.{◌≡◌, ℕ, ◌≤◌, List, [], ◌∷◌, length, map, arith}
+use Rattle.std.proofs.lemmas.List.{length-map}
+use Rattle.std.specs.List.{AllByRecursion}
+use Rattle.brpc_model.specs.Items.{Item, Slots, Requests, First, Client, Open, Send, Call, Expire, Join, Fail, Hold, Drop, Sched, Tick, To, CallLine}
+use Rattle.report_fits.proofs.CallLines.{CallInRange}
+use Rattle.report_fits.proofs.Reading.{InRange}
+use Rattle.sock_message.specs.Inside.{KeepsLimits}
+use Rattle.sock_programs.specs.Tasks.{name_number, asked_of}
+use Rattle.script_tasks.specs.Along.{IsShort}
+
+call_short : (call : CallLine) → CallInRange call → (names : List (List ℕ)) (o : ℕ) → KeepsLimits (asked_of names o call)
+call_short call range names o =
+    let count : length (map (name_number names) call.names) ≡ length call.names = length-map call.names (name_number names) in record {
+      some_name = omega (arith, count, range.some_name);
+      two_names = omega (arith, count, range.few_names);
+      short_service = range.service;
+      short_method = range.method;
+      short_body = range.bodies;
+      some_range = omega arith;
+      few_versions = omega (arith, range.retry);
+    }
+
+item_short : (item : Item) → InRange item → IsShort item
+item_short (Call call) range = call_short call range
+item_short (Slots n) range = tt
+item_short (Requests n) range = tt
+item_short (First n) range = tt
+item_short Client range = tt
+item_short (Open name shape) range = tt
+item_short (Send name bytes) range = tt
+item_short (Expire client i) range = tt
+item_short (Join client i) range = tt
+item_short (Fail name c) range = tt
+item_short (Hold name) range = tt
+item_short (Drop name) range = tt
+item_short Sched range = tt
+item_short (Tick s n) range = tt
+item_short (To s n) range = tt
+
+pub are_short : (script : List Item) → AllByRecursion InRange script → AllByRecursion IsShort script
+are_short [] all = tt
+are_short (item ∷ items) all = (item_short item all.0, are_short items all.1)

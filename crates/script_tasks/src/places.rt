@@ -1,0 +1,82 @@
+ghost use Rattle.std.specs.Prelude.{◌≡◌, ◌∷◌, map, IfOk};
+ghost use Rattle.sock_programs.specs.Tasks.{calls, opens};
+ghost use Rattle.script_items.specs.Meaning.{item};
+ghost use Rattle.report_fits.specs.Limits.{KeepsLimits};
+ghost use Rattle.script_tasks.specs.Along.{ends_along, operation_in};
+
+use crate::sizes::{is_call, is_client, is_open, is_operation};
+use script_items::{Line, Target};
+use std::alloc::{AllocError, Global};
+use std::collections::VecDeque;
+
+/// The numbers of the `open` operations, in the order of their links.
+pub fn opens_of(alloc: Global, lines: &[Line]) -> Result<VecDeque<u16>, AllocError>
+    requires { KeepsLimits (map item lines.now) }
+    ensures { IfOk result (λ numbers. numbers.items ≡ opens (map item lines.now)) }
+{
+    let mut opens = VecDeque::new(alloc);
+    let mut number = 0u16;
+    for line in lines {
+        if is_operation(line) {
+            if is_open(line) {
+                opens.push_back(number)?;
+            }
+            number += 1;
+        }
+    }
+    Ok(opens)
+}
+
+/// The numbers of the `call` operations, in their order.
+pub fn calls_of(alloc: Global, lines: &[Line]) -> Result<Vec<u16>, AllocError>
+    requires { KeepsLimits (map item lines.now) }
+    ensures { IfOk result (λ numbers. numbers.items ≡ calls (map item lines.now)) }
+{
+    let mut calls = Vec::new(alloc);
+    let mut number = 0u16;
+    for line in lines {
+        if is_operation(line) {
+            if is_call(line) {
+                calls.push(number)?;
+            }
+            number += 1;
+        }
+    }
+    Ok(calls)
+}
+
+/// The number of the first operation of each client, the setup's first, and behind these how many operations there are.
+pub fn starts_of(alloc: Global, lines: &[Line]) -> Result<Vec<u16>, AllocError>
+    requires { KeepsLimits (map item lines.now) }
+    ensures { IfOk result (λ starts. starts.items ≡ 0 ∷ ends_along 0 (map item lines.now)) }
+{
+    let mut starts = Vec::new(alloc);
+    starts.push(0)?;
+    let mut number = 0u16;
+    for line in lines {
+        if is_client(line) {
+            starts.push(number)?;
+        } else if is_operation(line) {
+            number += 1;
+        }
+    }
+    starts.push(number)?;
+    Ok(starts)
+}
+
+/// The number of the operation `C.I` by these starts; 0 where there is none.
+pub fn operation_at(starts: &[u16], target: &Target) -> u16
+    ensures { result ≡ operation_in starts.now target.now.client target.now.number }
+{
+    let count = starts.len();
+    if count < 2 || target.client >= (count - 1) as u64 {
+        return 0;
+    }
+    let client = target.client as usize;
+    let start = starts[client];
+    let operations = starts[client + 1].saturating_sub(start);
+    if target.number == 0 || target.number > u64::from(operations) {
+        return 0;
+    }
+    start + (target.number - 1) as u16
+}
