@@ -88,7 +88,7 @@ size_in (n ∷ ns) taken left some within = elim (cases_lt taken n) [
       let fits : n + length_of ns ≤ taken + left = within in
       let rest : taken + left - n ≡ taken - n + left = omega (arith, past) in
       let there : nat_lt taken n ≡ false = le-ltb taken n past in
-      past_part (part_sizes ns (taken + left - n)) taken n past
+      ap (λ (l : List ℕ). get_or l 0 0) (past_part (part_sizes ns (taken + left - n)) taken n past)
       ∙ ap (λ (x : ℕ). get_or (rest_sizes (taken - n) (part_sizes ns x)) 0 0) rest
       ∙ size_in ns (taken - n) left some (omega (arith, fits, past))
       ∙ ap (λ (b : Bool). min (if b then min (n - taken) (8192 - taken % 8192) else room_of_part ns (taken - n)) left) (sym there)

@@ -9,10 +9,10 @@ use Rattle.sock_programs.specs.Programs.{Program}
 use Rattle.reader_seats.specs.Readers.{ReaderData, reader_program}
 
 -- it goes on with this program, over these calls: what comes before its next step is said, and it keeps no retry
-pub record GoesOn (calls : List ℕ) (program : Program) (reader : ReaderData) (old new : List (Option Outcome)) : Type 0 where
-  pub program : reader_program calls reader ≡ next_step (resolved [] program)
-  pub told : new ≡ said (resolved [] program) old
-  pub waiting : still_waiting [] program ≡ []
+pub record GoesOn (calls : List ℕ) (next : Program) (reader : ReaderData) (old new : List (Option Outcome)) : Type 0 where
+  pub program : reader_program calls reader ≡ next_step (resolved [] next)
+  pub told : new ≡ said (resolved [] next) old
+  pub waiting : still_waiting [] next ≡ []
 
 -- what a take found, by what the link answered and gave into the room
 abbrev pub taking_of : List ℕ → Take → Taking

@@ -97,20 +97,20 @@ head_asks a (points.Write w (writes.Ask m)) asks = tt
 head_asks a _ asks = absurd asks
 
 -- behind the first step
+abbrev home_behind' : Program → Program
+home_behind' (PutHome j m y) = y
+home_behind' other = other
+
+abbrev ready_behind' : Ready → Program → Program
+ready_behind' ready (AskReady j y) = y ready
+ready_behind' ready other = other
+
 pub home_first : (program : Program) (k n : ℕ) (after : Program) → IsHead program → first_step program ≡ PutHome k n after → after_home program ≡ after
 home_first (Write w x) k n after head e = ap home_behind' e
-  where
-    abbrev home_behind' : Program → Program
-    home_behind' (PutHome j m y) = y
-    home_behind' other = other
 home_first _ k n after head e = absurd head
 
 pub ready_first : (program : Program) (k : ℕ) (next : Ready → Program) (ready : Ready) → IsHead program → first_step program ≡ AskReady k next → after_ready program ready ≡ next ready
-ready_first (Write w x) k next ready head e = ap ready_behind' e
-  where
-    abbrev ready_behind' : Program → Program
-    ready_behind' (AskReady j y) = y ready
-    ready_behind' other = other
+ready_first (Write w x) k next ready head e = ap (ready_behind' ready) e
 ready_first _ k next ready head e = absurd head
 
 -- messages and links are taken, and pieces put, at no head

@@ -242,7 +242,7 @@ module _ (old fresh : MachineState) (k : ℕ) (reader reader' : ReaderData) (nex
       (goes.told ∙ ap (λ (w : List Retry). said (resolved w next) old.outcomes) (sym none_waits))
       calls_are
     where
-      abbrev now : SeatState
+      now : SeatState
       now = record { program = next_step (resolved [] next); hand = hand }
 
       same_sizes : fresh.plan ≡ old.plan → fresh.ids.plan ≡ old.ids.plan → machine_sizes fresh ≡ machine_sizes old
