@@ -20,7 +20,8 @@ use Rattle.sock_core.specs.declared.machine.Tick.TheVariants as ticks
 use Rattle.sock_core.specs.Links.{Taken, Given, Agrees, AgreesGave}
 use Rattle.sock_core.specs.Machines.{MachineState, core_with}
 use Rattle.sock_core.specs.Runs.{SameTable, SameLinks, Follows, Made, Ticked, TickedWith, LedWith, Led}
-use Rattle.sock_core.proofs.Joining.{same_table_none, same_table_join, same_links_none, same_links_join, follows_none, follows_idle, follows_join}
+use Rattle.sock_core.proofs.Joining.{same_table_none, same_table_join, same_links_none, same_links_join, follows_none, follows_join}
+use Rattle.sock_core.proofs.Resting.{follows_idle}
 
 -- ## Ticks of other kinds
 

@@ -1,5 +1,5 @@
 -- What a seat has still to do doesn't depend on what the links took and gave; and a tick that was idle.
-use Rattle.std.proofs.Common.{◌≡◌, ◌≢◌, ℕ, zero, suc, ◌+◌, ◌<◌, List, [], ◌∷◌, ◌++◌, map, length, replicate, refl, sym, ap, ap₂, ◌∙◌, subst, append-nil, arith}
+use Rattle.std.proofs.Common.{◌≡◌, ◌≢◌, ℕ, zero, suc, ◌+◌, ◌<◌, ◌≤◌, List, [], ◌∷◌, ◌++◌, map, length, replicate, refl, sym, ap, ap₂, ◌∙◌, subst, append-nil, arith}
 use Rattle.std.proofs.lemmas.List.{map-append}
 use Rattle.std.specs.Prelude as std
 use Rattle.std.specs.Prelude.{None}
@@ -7,7 +7,7 @@ use mathlib.Core.Option.{Option, some, none, some-injective, some-ne-none}
 use lib.ListN.{get_elem?}
 use Rattle.sock_words.specs.declared.kind.Kind.{Kind}
 use Rattle.sock_words.specs.declared.plain.Plan.{Plan}
-use Rattle.whole_runs.specs.Heard.{heard_at}
+use Rattle.whole_runs.specs.Heard.{heard_at, taken_at}
 use Rattle.sock_programs.specs.declared.task.Sizes.{Sizes}
 use Rattle.sock_programs.specs.Programs.{Program}
 use Rattle.sock_programs.specs.Cores.{SeatState}
@@ -20,7 +20,7 @@ use Rattle.sock_core.specs.declared.machine.Tick.TheVariants as ticks
 use Rattle.sock_core.specs.Links.{LinksData, Taken, Given}
 use Rattle.sock_core.specs.Machines.{MachineState, READERS, core_with, machine_sizes, between, resting, clients_with, readers_with, seats_with}
 use Rattle.sock_core.specs.Runs.{Follows, Ticked, TickedWith, Ran}
-use Rattle.sock_core.proofs.Joining.{same_table_none, same_links_none, rests, rest_heard, show_faults_none, tells_as, takings_none, ran_rest}
+use Rattle.sock_core.proofs.Joining.{same_table_none, same_links_none, rests, rest_answered, rest_heard, rest_taken, show_faults_none, tells_none, tells_as, takings_none}
 
 -- the seat has no step left, whatever its links took and gave
 abbrev pub Rests : MachineState → ℕ → Type 0
@@ -65,7 +65,7 @@ rest_anyhow m t u g h i rest = kind_by (seats_with m u) i
 
 -- ## A tick that was idle
 
-idle_core : (a b : MachineState) (i : ℕ) (took : Taken) (gave : Given) (t : TickedWith a b i ticks.Idle took gave) → core_with b t.follows.later t.follows.later_gave ≡ core_with a took gave
+pub idle_core : (a b : MachineState) (i : ℕ) (took : Taken) (gave : Given) (t : TickedWith a b i ticks.Idle took gave) → core_with b t.follows.later t.follows.later_gave ≡ core_with a took gave
 idle_core a b i took gave t = t.follows.core ∙ rests a.plan (core_with a took gave) t.moment t.is
 
 pub follows_idle : (a b : MachineState) (i : ℕ) (took : Taken) (gave : Given) → TickedWith a b i ticks.Idle took gave → Follows a b took gave []
@@ -91,7 +91,23 @@ pub rest_ticks : (m : MachineState) (i : ℕ) → Rests m i → Ticked m m i tic
 rest_ticks m i rest = (
   same_table_none m,
   same_links_none m,
-  λ took gave agrees agrees_gave. record { moment = quiet i; is_of = refl; is = rest took gave; follows = ((ran_rest m i rest 1).2 took gave agrees agrees_gave).follows },
+  λ took gave agrees agrees_gave. record {
+    moment = quiet i;
+    is_of = refl;
+    is = rest took gave;
+    follows = record {
+      answered = (rest_answered (core_with m took gave) i (rest took gave), tt);
+      prompt = λ h. (λ e. absurd (cc), tt);
+      later = took;
+      agrees = agrees;
+      later_gave = gave;
+      agrees_gave = agrees_gave;
+      core = sym (rests m.plan (core_with m took gave) (quiet i) (rest took gave));
+      broken = show_faults_none m;
+      told = tells_none m m refl _ (λ k. append-nil (heard_at (core_with m took gave) (quiet i) k) ∙ rest_heard (core_with m took gave) (quiet i) (rest took gave) k);
+      taken = takings_none m _ (λ k. append-nil (taken_at (core_with m took gave) (quiet i) k) ∙ rest_taken (core_with m took gave) (quiet i) (rest took gave) k);
+    };
+  },
 )
 
 -- ## Seats that stay

@@ -15,7 +15,7 @@ use Rattle.sock_core.specs.declared.machine.Tick.TheVariants.{Moved, Waits, Idle
 use Rattle.sock_core.specs.Links.{Taken, Given, Agrees, AgreesGave}
 use Rattle.sock_core.specs.Machines.{MachineState, MOST_LEFT, READERS, core_with}
 use Rattle.sock_core.specs.Runs.{SameTable, SameLinks, Follows, Made, TickIs, TickedWith, Ticked, round_by, RoundWith, Still, HasMoved, SettlesAfter, PlayedWith, PlayedOn, RanFirst}
-use Rattle.sock_core.specs.Driving.{LastsAtMost, LeavesFewer, LeavesAsMany, Leaves, IsPlain, TickedFirst}
+use Rattle.sock_core.specs.Driving.{LastsAtMost, LeavesFewer, LeavesAsMany, Leaves, IsPlain, FirstRests, TickedFirst}
 use Rattle.sock_core.proofs.Joining.{same_table_none, same_table_join, same_links_none, same_links_join, seats_append, run_append, follows_none, follows_join, made_join}
 use Rattle.sock_core.proofs.Resting.{Rests}
 
@@ -64,10 +64,10 @@ pub record RoundSoFar (m fresh : MachineState) (seats : List ℕ) (went : Bool) 
   pub ran : Made m fresh (SeatsWith went seats m fresh)
   pub as_many : LeavesAsMany m fresh
   pub fewer : went ≡ true → LeavesFewer m fresh
-  pub rest : Rests fresh 0
+  pub rest : FirstRests fresh
   pub enough : fresh.short ≡ false
 
-pub round_begins : (m : MachineState) → m.short ≡ false → Rests m 0 → RoundSoFar m m [] false
+pub round_begins : (m : MachineState) → m.short ≡ false → FirstRests m → RoundSoFar m m [] false
 round_begins m enough rest = record {
   ran = (same_table_none m, same_links_none m, λ took gave agrees agrees_gave. record { moments = []; are_of = refl; is = tt; follows = follows_none m took gave agrees agrees_gave });
   as_many = λ n h. h;
@@ -97,7 +97,7 @@ then_fewer a b c first later n lasts = later n (first n lasts)
 at_run : (a b : MachineState) (took : Taken) (gave : Given) (xs : List Moment) (f : Follows a b took gave xs) → SameTable a b → (P : Plan → Core → Type 0) → P b.plan (core_with b f.later f.later_gave) → P a.plan (run a.plan (core_with a took gave) xs)
 at_run a b took gave xs f table P h = subst (λ (d : Core). P a.plan d) f.core (subst (λ (p : Plan). P p (core_with b f.later f.later_gave)) table.plan h)
 
-module _ (m fresh next : MachineState) (seats : List ℕ) (i : ℕ) (went : Bool) (tick : Tick) (so_far : RoundSoFar m fresh seats went) (t : Ticked fresh next i tick) (leaves : Leaves tick fresh next) (enough : next.short ≡ false) (rest : Rests next 0) where
+module _ (m fresh next : MachineState) (seats : List ℕ) (i : ℕ) (went : Bool) (tick : Tick) (so_far : RoundSoFar m fresh seats went) (t : Ticked fresh next i tick) (leaves : Leaves tick fresh next) (enough : next.short ≡ false) (rest : FirstRests next) where
   -- the ticks with one more
   more_with : (gone : Bool) → ((c : Core) (xs : List Moment) (moment : Moment) → IsSo went m.plan c xs → TickIs fresh (run m.plan c xs) moment tick → SameTable m fresh → IsSo gone m.plan c (xs ++ moment ∷ [])) → Made m next (SeatsWith gone (seats ++ i ∷ []) m next)
   more_with gone so = made_join m fresh next (SeatsWith went seats m fresh) (TickedWith fresh next i tick) (SeatsWith gone (seats ++ i ∷ []) m next) so_far.ran t
@@ -199,11 +199,11 @@ pub record MovedWith (count : ℕ) (old new : MachineState) (took : Taken) (gave
 
 pub record PlayedSoFar (m fresh : MachineState) (count : ℕ) : Type 0 where
   pub ran : Made m fresh (MovedWith count m fresh)
-  pub rest : Rests fresh 0
+  pub rest : FirstRests fresh
   pub below : count < MOST_LEFT
   pub left : LastsAtMost fresh (MOST_LEFT - 1 - count)
 
-pub played_none : (m : MachineState) → Rests m 0 → LastsAtMost m (MOST_LEFT - 1) → PlayedSoFar m m 0
+pub played_none : (m : MachineState) → FirstRests m → LastsAtMost m (MOST_LEFT - 1) → PlayedSoFar m m 0
 played_none m rest left = record {
   ran = (same_table_none m, same_links_none m, λ took gave agrees agrees_gave. record { moments = []; rounds = refl; follows = follows_none m took gave agrees agrees_gave });
   rest = rest;
@@ -224,7 +224,7 @@ module _ (m fresh next : MachineState) (count : ℕ) (so_far : PlayedSoFar m fre
   round_of_it : (took : Taken) (gave : Given) (Is : Plan → Core → List Moment → Type 0) (x : MovedWith count m fresh took gave) (y : RoundWith Is fresh next x.follows.later x.follows.later_gave) → seats_of y.moments ≡ round_by m.plan
   round_of_it took gave Is x y = y.are_of ∙ ap round_by so_far.ran.0.plan
 
-  pub played_more : HasMoved fresh next → Rests next 0 → LeavesFewer fresh next → PlayedSoFar m next (count + 1)
+  pub played_more : HasMoved fresh next → FirstRests next → LeavesFewer fresh next → PlayedSoFar m next (count + 1)
   played_more moved rest fewer = let f = fewer_left fresh next count fewer so_far.left in let e : suc count ≡ count + 1 = omega arith in record {
     ran = subst (λ n. Made m next (MovedWith n m next)) e
         (made_join m fresh next (MovedWith count m fresh) (RoundWith (λ p c ms. AreStill p c ms → ⊥) fresh next) (MovedWith (suc count) m next) so_far.ran moved (λ took gave agrees agrees_gave table links after x later. let g = x.follows in

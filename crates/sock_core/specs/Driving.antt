@@ -6,6 +6,7 @@ use Rattle.sock_programs.specs.Programs.{Program, Do, Say, Sent, Rest, Retries}
 use Rattle.sock_programs.specs.Clients.{ending_of}
 use Rattle.sock_programs.specs.Cores.{next_step}
 use Rattle.sock_programs.specs.Ticks.{quiet, ticked}
+use Rattle.sock_programs.specs.Runs.{IsAtRest}
 use Rattle.sock_words.specs.declared.kind.Kind.{Kind}
 use Rattle.sock_words.specs.declared.outcome.Outcome.TheVariants.{Held}
 use Rattle.sock_core.specs.declared.machine.Tick.{Tick}
@@ -56,6 +57,10 @@ AsksNone other = ⊥
 -- and it keeps no retry
 abbrev pub IsPlain : MachineState → Type 0
 IsPlain m = (seat : SeatData) → get_elem? m.seats 0 ≡ core.some seat → AsksNone (seat_program (machine_sizes m) seat) × (seat.waiting ≡ [])
+
+-- it has no step left and keeps no retry, whatever the links took and gave
+abbrev pub FirstRests : MachineState → Type 0
+FirstRests m = ((took : Taken) (gave : Given) → IsAtRest (core_with m took gave) 0) × ((seat : SeatData) → get_elem? m.seats 0 ≡ core.some seat → seat.waiting ≡ [])
 
 -- a tick of it
 abbrev pub TickedFirst : MachineState → MachineState → Type 0
