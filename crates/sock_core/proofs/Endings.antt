@@ -315,3 +315,6 @@ module _ (a b c : MachineState) (seat : ℕ) (kind : Kind) (count : ℕ) (so_far
   passed_last (ticks.Moved found) last t = led_here a b c seat kind so_far.passed (subst (λ (k : Kind). Ticked b c seat (ticks.Moved k)) last t)
   passed_last (ticks.Waits what) last t = led_waits a b c seat kind what so_far.passed t
   passed_last ticks.Idle last t = led_idle a b c seat kind so_far.passed t
+
+pub began_along : {m n fresh : MachineState} → m ≡ n → BeganEnding m fresh → BeganEnding n fresh
+began_along {m} {n} {fresh} e w = subst (λ (x : MachineState). BeganEnding x fresh) e w

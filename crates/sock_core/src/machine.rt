@@ -7,12 +7,11 @@ ghost use Rattle.sock_io.specs.Link.{OutState, InState, end_of};
 ghost use Rattle.sock_programs.specs.Scripts.{beginning, programs, readers_from, all_programs, set_up, sizes_of, place_words};
 ghost use Rattle.sock_programs.specs.Tasks.{plan_of, id_plan_of, opens, calls};
 ghost use Rattle.sock_core.specs.Finish.{told_from};
-ghost use Rattle.sock_programs.specs.Runs.{IsAtRest};
 ghost use Rattle.joint_runs.proofs.Starts.{AreFor};
 ghost use Rattle.sock_core.specs.Links.{Taken, Given, Agrees, AgreesGave, ArePrompt};
 ghost use Rattle.sock_core.specs.Machines.{MOST_LEFT as most_left, HasSizes, core_with, ending_by};
 ghost use Rattle.sock_core.specs.Runs.{SameLinks, SameTable, Ticked, Led, Still, HasMoved, PlayedOn, RanFirst, Settled};
-ghost use Rattle.sock_core.specs.Driving.{LastsAtMost, LeavesFewer, Leaves, IsLast, IsOther, IsPlain, TickedFirst, told_ending};
+ghost use Rattle.sock_core.specs.Driving.{LastsAtMost, LeavesFewer, Leaves, IsLast, IsOther, IsPlain, FirstRests, TickedFirst, told_ending};
 
 use crate::finished::{Finished, gather, gather_places};
 use crate::setup::{Parts, parts_of};
@@ -115,7 +114,7 @@ impl<O: Out, I: In, P: Peer> Machine<O, I, P> {
         ensures left { IfOk result (λ tick. Leaves tick self.old self.new) }
         ensures enough { OnOk result (self.new.short ≡ false) }
         ensures same { SameTable self.old self.new × SameLinks self.old self.new }
-        ensures rest { seat ≢ 0 → ((took : Taken) (gave : Given) → IsAtRest (core_with self.old took gave) 0) → (took : Taken) (gave : Given) → IsAtRest (core_with self.new took gave) 0 }
+        ensures rest { OnOk result (seat ≢ 0 → FirstRests self.old → FirstRests self.new) }
         ensures sizes { ∥ HasSizes self.new ∥₁ }
     {
         self.tables.prepare(seat)?;
@@ -136,7 +135,7 @@ impl<O: Out, I: In, P: Peer> Machine<O, I, P> {
         ensures left { IfOk result (λ tick. Leaves tick self.old self.new) }
         ensures enough { OnOk result (self.new.short ≡ false) }
         ensures same { SameTable self.old self.new × SameLinks self.old self.new }
-        ensures rest { ((took : Taken) (gave : Given) → IsAtRest (core_with self.old took gave) 0) → (took : Taken) (gave : Given) → IsAtRest (core_with self.new took gave) 0 }
+        ensures rest { OnOk result (FirstRests self.old → FirstRests self.new) }
         ensures sizes { ∥ HasSizes self.new ∥₁ }
         ensures asked { L.asked links.new ≡ L.asked links.old }
         ensures accepted { L.accepted links.new ≡ L.accepted links.old }
@@ -161,7 +160,7 @@ impl<O: Out, I: In, P: Peer> Machine<O, I, P> {
         ensures left { IfOk result (λ tick. Leaves tick self.old self.new) }
         ensures enough { OnOk result ((self.old.short ≡ false) × (self.new.short ≡ false)) }
         ensures same { SameTable self.old self.new × SameLinks self.old self.new }
-        ensures rest { seat ≢ 0 → ((took : Taken) (gave : Given) → IsAtRest (core_with self.old took gave) 0) → (took : Taken) (gave : Given) → IsAtRest (core_with self.new took gave) 0 }
+        ensures rest { OnOk result (seat ≢ 0 → FirstRests self.old → FirstRests self.new) }
         ensures sizes { ∥ HasSizes self.new ∥₁ }
         ensures asked { L.asked links.new ≡ L.asked links.old }
         ensures accepted { L.accepted links.new ≡ L.accepted links.old }
@@ -201,7 +200,7 @@ impl<O: Out, I: In, P: Peer> Machine<O, I, P> {
     /// Seat 0 begins the ending.
     fn begin_ending(&mut self)
         requires enough { self.old.short ≡ false }
-        requires rest { (took : Taken) (gave : Given) → IsAtRest (core_with self.old took gave) 0 }
+        requires rest { FirstRests self.old }
         ensures core { (took : Taken) (gave : Given) → core_with self.new took gave ≡ ending_by self.old.opens (core_with self.old took gave) }
         ensures plan { (self.new.plan ≡ self.old.plan) × (self.new.ids.plan ≡ self.old.ids.plan) }
         ensures links { self.new.links ≡ self.old.links }
@@ -257,11 +256,11 @@ impl<O: Out, I: In, P: Peer> Machine<O, I, P> {
         links: &mut L,
         seat: u16,
     ) -> Result<Tick, NoMemory>
-        requires rest { (took : Taken) (gave : Given) → IsAtRest (core_with self.old took gave) 0 }
+        requires rest { FirstRests self.old }
         ensures tick { IfOk result (λ tick. Ticked self.old self.new seat tick) }
         ensures left { IfOk result (λ tick. Leaves tick self.old self.new) }
         ensures enough { OnOk result ((self.old.short ≡ false) × (self.new.short ≡ false)) }
-        ensures rest { (took : Taken) (gave : Given) → IsAtRest (core_with self.new took gave) 0 }
+        ensures rest { OnOk result (FirstRests self.new) }
         ensures same { SameTable self.old self.new × SameLinks self.old self.new }
         ensures sizes { ∥ HasSizes self.new ∥₁ }
         ensures asked { L.asked links.new ≡ L.asked links.old }
@@ -287,9 +286,9 @@ impl<O: Out, I: In, P: Peer> Machine<O, I, P> {
         seat: u16,
         kind: Kind,
     ) -> Result<(), NoMemory>
-        requires rest { (took : Taken) (gave : Given) → IsAtRest (core_with self.old took gave) 0 }
+        requires rest { FirstRests self.old }
         ensures led { OnOk result (Led self.old self.new seat kind) }
-        ensures rest { (took : Taken) (gave : Given) → IsAtRest (core_with self.new took gave) 0 }
+        ensures rest { OnOk result (FirstRests self.new) }
         ensures same { SameTable self.old self.new × SameLinks self.old self.new }
         ensures asked { L.asked links.new ≡ L.asked links.old }
         ensures accepted { L.accepted links.new ≡ L.accepted links.old }
@@ -308,10 +307,11 @@ impl<O: Out, I: In, P: Peer> Machine<O, I, P> {
 
     /// A tick of each client and then of each reader, and whether one of them moved.
     fn round<L: Linker<O = O, I = I, P = P>>(&mut self, links: &mut L) -> Result<bool, NoMemory>
-        requires rest { (took : Taken) (gave : Given) → IsAtRest (core_with self.old took gave) 0 }
+        requires rest { FirstRests self.old }
+        requires enough { self.old.short ≡ false }
         ensures moved { result ≡ Ok true → HasMoved self.old self.new × LeavesFewer self.old self.new }
         ensures still { result ≡ Ok false → Still self.old self.new × (self.new.short ≡ false) }
-        ensures rest { (took : Taken) (gave : Given) → IsAtRest (core_with self.new took gave) 0 }
+        ensures rest { OnOk result (FirstRests self.new) }
         ensures same { SameTable self.old self.new × SameLinks self.old self.new }
         ensures asked { L.asked links.new ≡ L.asked links.old }
         ensures accepted { L.accepted links.new ≡ L.accepted links.old }
@@ -336,9 +336,9 @@ impl<O: Out, I: In, P: Peer> Machine<O, I, P> {
 
     /// Such rounds, up to one in which nothing moved.
     fn play_on<L: Linker<O = O, I = I, P = P>>(&mut self, links: &mut L) -> Result<(), NoMemory>
-        requires rest { (took : Taken) (gave : Given) → IsAtRest (core_with self.old took gave) 0 }
+        requires rest { FirstRests self.old }
         ensures ok { OnOk result (PlayedOn self.old self.new × (self.new.short ≡ false)) }
-        ensures rest { (took : Taken) (gave : Given) → IsAtRest (core_with self.new took gave) 0 }
+        ensures rest { OnOk result (FirstRests self.new) }
         ensures same { SameTable self.old self.new × SameLinks self.old self.new }
         ensures asked { L.asked links.new ≡ L.asked links.old }
         ensures accepted { L.accepted links.new ≡ L.accepted links.old }
@@ -360,6 +360,7 @@ impl<O: Out, I: In, P: Peer> Machine<O, I, P> {
         requires plain { IsPlain self.old }
         requires enough { self.old.short ≡ false }
         ensures ran { RanFirst self.old self.new }
+        ensures rest { FirstRests self.new }
         ensures enough { self.new.short ≡ false }
     {
         for _ in 0..MOST_LEFT {
@@ -373,7 +374,7 @@ impl<O: Out, I: In, P: Peer> Machine<O, I, P> {
     /// moved; then the ending by seat 0, which goes over each `open`; and such rounds again, in which a reader finds that what
     /// isn't there won't come. It always returns.
     pub fn settle<L: Linker<O = O, I = I, P = P>>(&mut self, links: &mut L) -> Result<(), NoMemory>
-        requires rest { (took : Taken) (gave : Given) → IsAtRest (core_with self.old took gave) 0 }
+        requires rest { FirstRests self.old }
         ensures settled { OnOk result (Settled self.old self.new) }
         ensures plan { (self.new.plan ≡ self.old.plan) × (self.new.ids.plan ≡ self.old.ids.plan) }
         ensures ends { SameLinks self.old self.new }
@@ -410,7 +411,7 @@ impl<O: Out, I: In, P: Peer> Machine<O, I, P> {
         ensures opens { IfOk result (λ m. (m.opens ≡ opens script.now) × (m.calls ≡ calls script.now)) }
         ensures agrees { IfOk result (λ m. Agrees m.links (λ k. []) × AgreesGave m.links (λ k. [])) }
         ensures core { IfOk result (λ m. (n : ℕ) × (core_with m (λ k. []) (λ k. []) ≡ set_up script.now n)) }
-        ensures rest { IfOk result (λ m. (took : Taken) (gave : Given) → IsAtRest (core_with m took gave) 0) }
+        ensures rest { IfOk result FirstRests }
         ensures enough { IfOk result (λ m. (m.short ≡ false) × (m.ending ≡ false)) }
         ensures ends { IfOk result (λ m. m.ends ≡ map (λ (e : _). end_of (O.state e.out) (I.state e.inn)) ends.items) }
         ensures outs { IfOk result (λ m. AllByRecursion (λ (e : _). (O.state e.out).prompt ≡ true) ends.items → ArePrompt m.links) }
