@@ -52,7 +52,7 @@ fn answer(
 /// A row: the words, the input, the put from which on each link fails (0: none), the status, and all that is written.
 type Row = (&'static str, &'static str, u32, u8, &'static str);
 
-const ROWS: [Row; 42] = [
+const ROWS: [Row; 44] = [
     (
         "replay",
         "open a piece=1\nclient\nsend a 6869\n",
@@ -134,10 +134,24 @@ const ROWS: [Row; 42] = [
     ),
     (
         "replay",
-        "open a\nclient\ncall a Echo.Echo 6869\njoin 1.1",
+        "client\ncall z Echo.Echo 6869\njoin 1.1",
         0,
         0,
-        "0.1 open 0 0 0\n1.1 call 1 failed 1014\n1.2 joined\nlink 0 a accepted 1 placed 1 took 30 5052504300000012000000100a0c0a044563686f12044563686f20026869\norder 0 1.1.0\nend\n",
+        "1.1 unopened\n1.2 not begun\nend\n",
+    ),
+    (
+        "replay",
+        "open a fail=1\nclient\ncall a Echo.Echo 6869 retry=1",
+        0,
+        0,
+        "0.1 open 0 0 0\n1.1 call 1 failed 1009\nlink 0 a accepted 1 placed 0 took 0 -\norder 0 1.1.0\nend\n",
+    ),
+    (
+        "sim 7",
+        "open a\nclient\ncall a Echo.Echo 6869\n",
+        0,
+        0,
+        "0.1 open 0 0 0\n1.1 call 1 failed 1014\nlink 0 a accepted 1 placed 1 took 30 5052504300000012000000100a0c0a044563686f12044563686f20026869\norder 0 1.1.0\nend\n",
     ),
     ("replay", "open a serve\n", 0, 10, "not built\n"),
     (
