@@ -288,7 +288,7 @@ plain_waits m plain some_ took gave i answer zero_ = subst (λ j. waits m.plan (
 
 -- where a tick of it didn't move it has no step left
 pub plain_rests : (a b : MachineState) (tick : Tick) (n : ℕ) → IsPlain a → 0 < length a.seats → LastsAtMost a n → IsStill tick → Ticked a b 0 tick → Rests b 0
-plain_rests a b (ticks.Moved kind) n plain some_ lasts still t = absurd (still kind refl)
+plain_rests a b (ticks.Moved kind) n plain some_ lasts still t took gave = absurd (still kind refl)
 plain_rests a b (ticks.Waits what) n plain some_ lasts still t took gave = ∥∥₁_elim lasts.1 (hlevel props) (λ s. let w = t.2 s.0.took s.0.gave s.0.agrees s.0.agrees_gave in
     absurd (true≢false (sym w.is.0 ∙ plain_waits a plain some_ s.0.took s.0.gave w.moment.seat w.moment.answer w.is_of)))
 plain_rests a b ticks.Idle n plain some_ lasts still t took gave = ∥∥₁_elim lasts.1 (hlevel props) (λ s. let w = t.2 s.0.took s.0.gave s.0.agrees s.0.agrees_gave in
