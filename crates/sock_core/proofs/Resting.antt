@@ -135,3 +135,26 @@ beyond_clients p links t sizes first n (s ∷ ss) others (suc i) past inside = b
 
 pub between_rests : (m : MachineState) (i : ℕ) → length m.seats ≤ i → i < READERS → length m.seats ≤ READERS → Rests m i
 between_rests m i past before few took gave = beyond_clients m.plan m.links took (machine_sizes m) 0 (between m.seats) m.seats (readers_with m.plan m.links took m.calls READERS m.readers) i past (omega (arith, before, few))
+
+-- a tick that was idle is any number of such ticks
+pub idle_ran : (a b : MachineState) (i : ℕ) → Ticked a b i ticks.Idle → (n : ℕ) → Ran a b (replicate n i)
+idle_ran a b i t n = (
+  t.0,
+  t.1,
+  λ took gave agrees agrees_gave. let w = t.2 took gave agrees agrees_gave in let c = core_with a took gave in let rest : IsAtRest c i = subst (IsAtRest c) w.is_of w.is in record {
+    moments = replicate n (quiet i);
+    are_of = seats_quiet n i;
+    follows = record {
+      answered = rests_answered a.plan c i rest n;
+      prompt = λ h. quiet_prompt n i;
+      later = w.follows.later;
+      agrees = w.follows.agrees;
+      later_gave = w.follows.later_gave;
+      agrees_gave = w.follows.agrees_gave;
+      core = idle_core a b i took gave w ∙ sym (rests_on a.plan c i rest n);
+      broken = subst (ShowFaults b) (sym (quiet_broken a.plan c n i)) (show_faults_none b);
+      told = tells_as a b _ _ (λ k. append-nil (heard_at c w.moment k) ∙ rest_heard c w.moment w.is k ∙ sym (rests_heard a.plan c i rest n k)) w.follows.told;
+      taken = takings_none b _ (rests_taken a.plan c i rest n);
+    };
+  },
+)

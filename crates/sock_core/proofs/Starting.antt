@@ -200,7 +200,7 @@ module _ (p : Plan) (q : IdPlan) (clients : List (List Task)) (m : MachineState)
   calm_at [] ts e i seat at = absurd (core.some-ne-none seat (sym at))
   calm_at (s ∷ ss) [] e i seat at = cc
   calm_at (s ∷ ss) (t ∷ ts) e zero seat at = let g : seat_program (sizes_of p q) s ≡ next_step (resolved [] (client_from (sizes_of p q) [] t)) = cc in
-      subst (λ (x : SeatData). IsPaced m.links.outs (seat_program (sizes_of p q) x)) (core.some-injective s seat at) (subst (IsPaced m.links.outs) (sym g) (calm_paced m.links.outs _ (client_calm (sizes_of p q) [] t)))
+      subst (λ (x : SeatData). IsPaced m.links.outs (seat_program (sizes_of p q) x)) (core.some-injective s seat at) (subst (IsPaced m.links.outs) (sym g) (calm_paced m.links.outs _ (client_calm (sizes_of p q) [] [] t)))
   calm_at (s ∷ ss) (t ∷ ts) e (suc i) seat at = let g : map (λ (x : SeatData). seat_program (sizes_of p q) x) ss ≡ map (λ (program : Program). next_step (resolved [] program)) (programs (sizes_of p q) ts) = cc in calm_at ss ts g i seat at
 
   pub begins_paced : ArePaced (machine_sizes m) m.links m.seats

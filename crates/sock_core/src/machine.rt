@@ -1,4 +1,4 @@
-ghost use Rattle.std.specs.Prelude.{◌≡◌, ◌≢◌, ℕ, List, ◌-◌, true, false, ◌<◌, ◌≤◌, [], Ok, IfOk, IfSome, OnOk, OnErr, IfErr, length, map, replicate, vec_len};
+ghost use Rattle.std.specs.Prelude.{◌≡◌, ◌≢◌, ℕ, List, ◌+◌, ◌-◌, true, false, ◌<◌, ◌≤◌, [], Ok, IfOk, IfSome, OnOk, OnErr, IfErr, length, map, replicate, vec_len};
 ghost use Rattle.std.specs.List.{AllByRecursion};
 ghost use Rattle.brpc_model.specs.Link.{LinkEnd};
 ghost use Rattle.brpc_model.specs.Script.{script_of};
