@@ -64,6 +64,6 @@ pub inside_list : {A : Type 0} (l : List A) (i : ℕ) (a : A) → get_elem? l i 
 inside_list l i a e = place_inside l i a e
 
 -- a put of what is next of the message
-pub put_of : {out out' : OutState} {message : Option OutgoingData} {outgoing : OutgoingData} {bytes parts : List ℕ} {answer put : Put} → message ≡ Some outgoing → bytes ≡ part parts outgoing.left outgoing.taken → answer ≡ put → PutStep out out' bytes answer →
+pub put_of : {out out' : OutState} {message : Option OutgoingData} {outgoing : OutgoingData} {bytes : List ℕ} {answer put : Put} (parts : List ℕ) → message ≡ Some outgoing → bytes ≡ part parts outgoing.left outgoing.taken → answer ≡ put → PutStep out out' bytes answer →
     PutStep out out' (part parts (left_of message) (taken_of message)) put
-put_of e f g h = rw (e, ← f, ← g) h
+put_of parts e f g h = rw (e, ← f, ← g) h

@@ -25,7 +25,7 @@ use Rattle.seat_points.specs.declared.point.Point.TheVariants as points
 use Rattle.seat_points.specs.declared.point.SendStep.TheVariants as sends
 use Rattle.seat_points.specs.declared.point.WriteStep.TheVariants as writes
 use Rattle.seat_points.specs.declared.point.Author.{Author}
-use Rattle.seat_points.specs.Points.{Around, point_program, heading_by, TakesMessage, TakesLink, PutsHome, PutsPiece, Asks, after_message, after_link, after_home, after_put, after_ready}
+use Rattle.seat_points.specs.Points.{Around, point_program, heading_by, TakesMessage, TakesLink, PutsHome, PutsPiece, Asks, after_message, after_link, after_home, after_put, after_ready, ready_behind}
 use Rattle.seat_points.specs.Steps.{First, OfCall, OfAside, OfMessage, OfLink, OfHome, first_in}
 use Rattle.seat_points.specs.Steps as kinds
 use Rattle.sock_core.specs.Links.{IsClear, IsPaced}
@@ -101,16 +101,12 @@ abbrev home_behind' : Program → Program
 home_behind' (PutHome j m y) = y
 home_behind' other = other
 
-abbrev ready_behind' : Ready → Program → Program
-ready_behind' ready (AskReady j y) = y ready
-ready_behind' ready other = other
-
 pub home_first : (program : Program) (k n : ℕ) (after : Program) → IsHead program → first_step program ≡ PutHome k n after → after_home program ≡ after
 home_first (Write w x) k n after head e = ap home_behind' e
 home_first _ k n after head e = absurd head
 
 pub ready_first : (program : Program) (k : ℕ) (next : Ready → Program) (ready : Ready) → IsHead program → first_step program ≡ AskReady k next → after_ready program ready ≡ next ready
-ready_first (Write w x) k next ready head e = ap (ready_behind' ready) e
+ready_first (Write w x) k next ready head e = ap (λ (p : Program). ready_behind p ready) e
 ready_first _ k next ready head e = absurd head
 
 -- messages and links are taken, and pieces put, at no head

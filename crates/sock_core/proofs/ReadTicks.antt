@@ -1,5 +1,5 @@
 -- One step of a reader is a tick of it.
-use Rattle.std.proofs.Common.{◌≡◌, ◌≢◌, refl, ℕ, zero, suc, ◌+◌, ◌<◌, ◌⊎◌, inl, inr, Bool, true, false, List, [], ◌∷◌, ◌++◌, map, length, slice_set, slice_index_or, Some, IfSome, ⊎_elim, ap, ap₂, sym, ◌∙◌, arith, subst, length-append}
+use Rattle.std.proofs.Common.{◌≡◌, ◌≢◌, refl, ℕ, zero, suc, ◌+◌, ◌<◌, ◌≤◌, ◌⊎◌, inl, inr, Bool, true, false, List, [], ◌∷◌, ◌++◌, map, length, slice_set, slice_index_or, Some, IfSome, ⊎_elim, ap, ap₂, sym, ◌∙◌, arith, subst, length-append}
 use Rattle.std.proofs.lemmas.List.{append-nil}
 use Rattle.std.specs.Io.KnownBytes.{append_known}
 use Rattle.atomic_table.proofs.Lists.{at_set}
@@ -14,7 +14,7 @@ use Rattle.sock_programs.specs.Beside.{at_last, more_given}
 use Rattle.sock_programs.specs.Calls as calls
 use Rattle.sock_programs.specs.Programs.{Program}
 use Rattle.sock_programs.specs.Runs.{from_to}
-use Rattle.sock_programs.specs.Cores.{Calls, Core, SeatState, word_of, found_at, with_seat}
+use Rattle.sock_programs.specs.Cores.{Calls, Core, SeatState, word_of, found_at, with_seat, hand_after, words_after, word_after, homes_after}
 use Rattle.sock_programs.specs.Ticks.{Answer, Unasked, OfTake, IsAnswer, IsAnswered, tick_with, ticked}
 use Rattle.call_points.specs.Steps as aside_steps
 use Rattle.call_points.specs.declared.aside.Aside.{Aside}
@@ -73,14 +73,14 @@ given_set n k gave bytes inside = set-range gave (later_at k (gave k ++ bytes) g
 given_none : (n k : ℕ) (gave : Given) → given_by n (later_at k (gave k ++ []) gave) ≡ given_by n gave
 given_none n k gave = ap (λ (g : Given). map g (from_to 0 n)) (λ x j. same j x)
   where
-    same : (j : ℕ) → later_at k (gave k ++ []) gave j ≡ gave j
-    same j = ⊎_elim (λ e. subst (λ x. later_at k (gave k ++ []) gave x ≡ gave x) (sym e) (later_here k (gave k ++ []) gave ∙ append-nil (gave k))) (λ differ. later_else k j (gave k ++ []) gave differ) (same_or j k)
-
     same_or : (a b : ℕ) → (a ≡ b) ⊎ (a ≢ b)
     same_or zero zero = inl refl
     same_or zero (suc b) = inr (λ e. omega (arith, e))
     same_or (suc a) zero = inr (λ e. omega (arith, e))
     same_or (suc a) (suc b) = ⊎_elim (λ e. inl (ap suc e)) (λ differ. inr (λ e. differ (omega (arith, e)))) (same_or a b)
+
+    same : (j : ℕ) → later_at k (gave k ++ []) gave j ≡ gave j
+    same j = ⊎_elim (λ e. subst (λ x. later_at k (gave k ++ []) gave x ≡ gave x) (sym e) (later_here k (gave k ++ []) gave ∙ append-nil (gave k))) (λ differ. later_else k j (gave k ++ []) gave differ) (same_or j k)
 
 -- what a take makes of what stands aside of the sockets
 taken_calls : (a : Calls) (n k : ℕ) (gave : Given) (ending : Bool) (t : Taking) → a.gave ≡ given_by n gave → k < n → more_given k (at_last ending t) a ≡ (record a { gave = given_by n (later_at k (gave k ++ given_in t) gave) })
@@ -131,9 +131,9 @@ module _ (old fresh : MachineState) (k : ℕ) (reader reader' : ReaderData) (at 
     agrees = call_agrees old.plan i old.letters sized.letters_are old.links fresh.links took sized.holders_are call w.outs agrees;
     later_gave = gave;
     agrees_gave = gives_same old.links fresh.links gave w.inns agrees_gave;
-    core = reader_set old fresh k reader reader' (aside_steps.after_word program (found_at old.words (word_of old.plan call))) took took gave gave _ _ _ at (stays w.same) readers few w.goes w.words
+    core = reader_set old fresh k reader reader' (aside_steps.after_word program (found_at old.words (word_of old.plan call))) took took gave gave (hand_after old.plan call before.homes own.hand) (homes_after old.plan call own.hand before.homes) (words_after before.words (word_of old.plan call) (word_after call (found_at before.words (word_of old.plan call)))) at (stays w.same) readers few w.goes w.words
             (call_changes old.plan i old.letters sized.letters_are old.links fresh.links took sized.holders_are call fresh.letters may lettered w.holders w.same.nexts w.outs w.inns)
-        ∙ ap (λ ids. with_seat i (aside_steps.after_word program (found_at old.words (word_of old.plan call))) _ _ _ (record before { calls = calls_with ids (waiting_of old.seats old.readers) (given_by old.plan.links gave) old.ending })) w.ids
+        ∙ ap (λ ids. with_seat i (aside_steps.after_word program (found_at old.words (word_of old.plan call))) (hand_after old.plan call before.homes own.hand) (words_after before.words (word_of old.plan call) (word_after call (found_at before.words (word_of old.plan call)))) (homes_after old.plan call own.hand before.homes) (record before { calls = calls_with ids (waiting_of old.seats old.readers) (given_by old.plan.links gave) old.ending })) w.ids
         ∙ sym (ticks Unasked ∙ word_tick old.plan i own before program Unasked call next);
     answered = answers (OfCall call) Unasked next tt;
   }

@@ -104,7 +104,10 @@ length_many (suc n) x = ap suc (length_many n x)
 
 -- the seat of client i in the core
 pub seat_at : (m : MachineState) (took : Taken) (i : ℕ) (seat : SeatData) → get_elem? m.seats i ≡ core.some seat → get_elem? (seats_with m took) i ≡ core.some (state_of m.plan m.links took (seat_program (machine_sizes m) seat) i)
-seat_at m took i seat at = at_front (clients_with m.plan m.links took (machine_sizes m) 0 m.seats) _ i _ (client_at m.plan m.links took (machine_sizes m) 0 m.seats i seat at)
+seat_at m took i seat at = at_front (clients_with m.plan m.links took (machine_sizes m) 0 m.seats) _ i _ (client_at m.plan m.links took (machine_sizes m) 0 m.seats i seat at ∙ ap (λ (j : ℕ). core.some (state_of m.plan m.links took (seat_program (machine_sizes m) seat) j)) zero_more)
+  where
+    zero_more : 0 + i ≡ i
+    zero_more = omega arith
 
 -- and that of the reader of link k
 pub read_at : (m : MachineState) (took : Taken) (k : ℕ) (reader : ReaderData) → length m.seats ≤ READERS → get_elem? m.readers k ≡ core.some reader →
@@ -159,7 +162,10 @@ module _ (old fresh : MachineState) (i : ℕ) (seat seat' : SeatData) (next : Pr
         calls_are
       where
         own : state_of old.plan fresh.links later (seat_program (machine_sizes old) seat') (0 + i) ≡ (record { program = next_step (resolved seat.waiting next); hand = hand })
-        own = seat_is _ _ _ _ goes.program changed.own
+        own = ap (λ (j : ℕ). state_of old.plan fresh.links later (seat_program (machine_sizes old) seat') j) zero_more ∙ seat_is _ _ _ _ goes.program changed.own
+          where
+            zero_more : 0 + i ≡ i
+            zero_more = omega arith
 
         clients : clients_with fresh.plan fresh.links later (machine_sizes fresh) 0 fresh.seats ≡ slice_set (clients_with old.plan old.links took (machine_sizes old) 0 old.seats) i (record { program = next_step (resolved seat.waiting next); hand = hand })
         clients = ap₂ (λ (q : Plan) (sizes : Sizes). clients_with q fresh.links later sizes 0 fresh.seats) goes.base.plan (same_sizes goes.base.plan goes.base.id_plan)
@@ -189,7 +195,10 @@ module _ (old fresh : MachineState) (i : ℕ) (seat seat' : SeatData) (next : Pr
 -- ## A step of a reader
 
 -- no reader keeps a retry
-none_of : (n : ℕ) (readers : List ReaderData) (j : ℕ) → slice_index_or (replicate n [] ++ map (λ (r : ReaderData). []) readers) j [] ≡ []
+abbrev no_retries : List Retry
+no_retries = []
+
+none_of : (n : ℕ) (readers : List ReaderData) (j : ℕ) → slice_index_or (replicate n no_retries ++ map (λ (r : ReaderData). no_retries) readers) j no_retries ≡ no_retries
 none_of zero [] j = refl
 none_of zero (r ∷ rs) zero = refl
 none_of zero (r ∷ rs) (suc j) = none_of zero rs j
@@ -206,7 +215,7 @@ set_empty [] j e = refl
 set_empty (w ∷ ws) zero e = ap (λ (v : List Retry). v ∷ ws) (sym e)
 set_empty (w ∷ ws) (suc j) e = ap (λ (vs : List (List Retry)). w ∷ vs) (set_empty ws j e)
 
-as_many : (readers : List ReaderData) (k : ℕ) (r : ReaderData) → map (λ (x : ReaderData). []) (slice_set readers k r) ≡ map (λ (x : ReaderData). []) readers
+as_many : (readers : List ReaderData) (k : ℕ) (r : ReaderData) → map (λ (x : ReaderData). no_retries) (slice_set readers k r) ≡ map (λ (x : ReaderData). no_retries) readers
 as_many [] k r = refl
 as_many (x ∷ readers) zero r = refl
 as_many (x ∷ readers) (suc k) r = ap (λ (ws : List (List Retry)). [] ∷ ws) (as_many readers k r)

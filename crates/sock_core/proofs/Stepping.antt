@@ -1,12 +1,16 @@
 -- Where a seat goes on behind each kind of step.
-use Rattle.std.proofs.Common.{◌≡◌, refl, ℕ, zero, suc, Bool, List, [], ◌∷◌, ◌++◌, length, map, take, Option, Some, ap, ap₂, sym, ◌∙◌, arith, subst}
+use Rattle.std.proofs.Common.{◌≡◌, refl, ℕ, zero, suc, ◌+◌, Bool, true, false, if◌then◌else◌, List, [], ◌∷◌, ◌++◌, length, map, take, Option, Some, ap, ap₂, sym, ◌∙◌, arith, subst}
 use Rattle.sock_words.specs.declared.outcome.Outcome.{Outcome}
 use Rattle.sock_io.specs.declared.link.Put.{Put}
 use Rattle.sock_io.specs.declared.link.Put.TheVariants as puts
 use Rattle.message_parts.specs.Frames.{OutgoingData, ParcelData}
 use Rattle.sock_programs.specs.declared.task.Sizes.{Sizes}
-use Rattle.sock_programs.specs.Heads.{Retry}
-use Rattle.sock_programs.specs.Programs.{Program}
+use Rattle.sock_programs.specs.Programs.{Program, Aside, Round}
+use Rattle.corr_core.specs.Word.{parts, code_of}
+use Rattle.id_points.specs.Ids.{id_of}
+use Rattle.sock_programs.specs.Asides.{PutCall, id_slot}
+use Rattle.sock_programs.specs.Heads.{Retry, HasEnded, Unlocks}
+use Rattle.sock_programs.specs.Posts.{ends_call, end_id, unlocked, decided}
 use Rattle.sock_programs.specs.Cores.{resolved, still_waiting, next_step, said}
 use Rattle.sock_programs.specs.Calls as calls
 use Rattle.sock_model.specs.declared.chain.Heading.{Heading}
@@ -31,10 +35,10 @@ use Rattle.seat_points.specs.declared.point.RetryStep.TheVariants as retries
 use Rattle.seat_points.specs.declared.point.JoinStep.TheVariants as joins
 use Rattle.seat_points.specs.declared.point.Point.{Point}
 use Rattle.seat_points.specs.declared.point.Point.TheVariants as points
-use Rattle.seat_points.specs.Steps.{First, OfCall, step_of, step_as, first_in}
+use Rattle.seat_points.specs.Steps.{First, OfCall, step_of, step_as, first_of, first_in}
 use Rattle.seat_points.specs.declared.point.Next.{Next}
 use Rattle.seat_points.specs.declared.point.Step.{Step}
-use Rattle.seat_points.specs.Points.{Around, point_program, look_program, next_program, with_message, with_put, is_whole, after_message, after_put}
+use Rattle.seat_points.specs.Points.{Around, point_program, look_program, after_program, next_program, with_message, with_put, is_whole, after_message, after_put}
 use Rattle.sock_programs.specs.Ticks.{Answer}
 use Rattle.client_seats.specs.Seats.{SeatData, around, seat_program, bytes_of, parts_of, left_of, taken_of, left_parts_of}
 use Rattle.client_seats.specs.Following.{FollowsOn}
@@ -105,6 +109,10 @@ behind_look : (a : Around) (other others : List ℕ) (author : Author) (id : ℕ
 behind_look a other others (authors.Send o) id p = tt
 behind_look a other others (authors.Attempt t) id p = tt
 
+behind_judge : (a : Around) (other others : List ℕ) (p : Point) (ends : Bool) (x y : Program) → BehindPut (first_of x) a other others p → BehindPut (first_of y) a other others p → BehindPut (first_of (if ends then x else y)) a other others p
+behind_judge a other others p true x y f g = f
+behind_judge a other others p false x y f g = g
+
 behind_put : (a : Around) (other others : List ℕ) (p : Point) → BehindPut (first_in (point_program a p)) a other others p
 behind_put a other others points.Rest = tt
 behind_put a other others (points.Open g (opens.Claim i)) = tt
@@ -172,7 +180,7 @@ behind_put a other others (points.Attempt t socket (attempts.StoreAt k)) = tt
 behind_put a other others (points.Post c after posts.Load) = tt
 behind_put a other others (points.Post c after (posts.Exchange from)) = tt
 behind_put a other others (points.Decide c after (decides.Take w)) = tt
-behind_put a other others (points.Decide c after (decides.Judge w)) = tt
+behind_put a other others (points.Decide c after (decides.Judge w)) = behind_judge a other others (points.Decide c after (decides.Judge w)) (ends_call (parts w.0) c.error.0) (end_id (id_slot (id_of c.id)) (decided (id_of c.id) (after_program a after) (HasEnded a.asked.operation (code_of c.error.0)))) (Aside (PutCall (id_slot (id_of c.id)) a.asked) (λ _. Round (Unlocks (id_slot (id_of c.id)) w.0 true) (unlocked (record { id = id_of c.id; attempt = (parts w.0).attempt + 1 }) (decided (id_of c.id) (after_program a after))))) tt tt
 behind_put a other others (points.Decide c after (decides.Free o)) = tt
 behind_put a other others (points.Decide c after (decides.Unlock from advance n)) = tt
 behind_put a other others (points.Retry r (retries.Lock locks.Read)) = tt
