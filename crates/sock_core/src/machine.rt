@@ -290,6 +290,7 @@ impl<O: Out, I: In, P: Peer> Machine<O, I, P> {
         ensures led { OnOk result (Led self.old self.new seat kind) }
         ensures rest { OnOk result (FirstRests self.new) }
         ensures same { SameTable self.old self.new × SameLinks self.old self.new }
+        ensures sizes { ∥ HasSizes self.new ∥₁ }
         ensures asked { L.asked links.new ≡ L.asked links.old }
         ensures accepted { L.accepted links.new ≡ L.accepted links.old }
         ensures back { L.back links.new ≡ L.back links.old }
