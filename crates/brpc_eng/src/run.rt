@@ -1,58 +1,34 @@
 ghost use Rattle.std.specs.Prelude.{◌≡◌, ◌≢◌, ℕ, List, [], Ok, true};
-ghost use Rattle.std.specs.List.{list_all, list_any};
+ghost use Rattle.std.specs.List.{list_all};
 ghost use Rattle.brpc_model.specs.Script.{script_of};
-ghost use Rattle.script_items.specs.Meaning.{item, seat_of};
-ghost use Rattle.sock_programs.specs.Scripts.{is_later};
+ghost use Rattle.script_items.specs.Meaning.{item};
 ghost use Rattle.script_run.specs.Given.{has_piece};
 ghost use Rattle.script_run.specs.Played.{turns_of};
 ghost use Rattle.brpc_eng.specs.Status.{number_of};
 ghost use Rattle.brpc_eng.specs.Answers.{OpenedBy, Ran, TextWritten};
-ghost use Rattle.brpc_eng.specs.Built.{is_built_script, is_other_end, is_reader_seat};
+ghost use Rattle.brpc_eng.specs.Built.{is_built_script, is_other_end};
 
 use crate::status::Status;
-use script_items::{Line, Script, Seat};
+use script_items::{Line, Script};
 use script_run::{RunFault, Schedule, run_script};
 use sock_io::{Failed, Linker, Sink, write_all};
 use std::alloc::Global;
 
-/// Whether a script is one that is run: no line asks for a call, for an other end that answers or ends, or for a reader.
+/// Whether a script is one that is run: no line asks for an other end that answers or ends.
 pub fn is_built(script: &Script) -> bool
     ensures { result ≡ is_built_script script.now }
 {
-    let lines = script.lines();
-    !has_calls(lines) && !has_other_ends(lines)
+    !script.lines().iter().any(asks_other_end)
 }
 
-/// Whether there is a call, or an operation on one.
-fn has_calls(lines: &[Line]) -> bool
-    ensures { result ≡ list_any (λ line. is_later (item line)) lines.now }
-{
-    lines.iter().any(|line| matches!(line, Line::Call(_) | Line::Expire(_) | Line::Join(_)))
-}
-
-/// Whether there is a line that asks for an other end or a reader.
-fn has_other_ends(lines: &[Line]) -> bool
-    ensures { result ≡ list_any (λ line. is_other_end (item line)) lines.now }
-{
-    lines.iter().any(asks_other_end)
-}
-
-/// Whether a line asks for an other end or a reader.
+/// Whether a line asks for such an other end.
 fn asks_other_end(line: &Line) -> bool
     ensures { result ≡ is_other_end (item line.now) }
 {
     match line {
         Line::Open(open) => open.shape.serve || open.shape.end.is_some(),
-        Line::Tick { seat, .. } | Line::To { seat, .. } => is_reader(*seat),
         _ => false,
     }
-}
-
-/// Whether it is a reader's seat.
-fn is_reader(seat: Seat) -> bool
-    ensures { result ≡ is_reader_seat (seat_of seat) }
-{
-    matches!(seat, Seat::Reader(_))
 }
 
 /// Runs a script that is built, and writes its report.

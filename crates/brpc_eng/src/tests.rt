@@ -52,7 +52,7 @@ fn answer(
 /// A row: the words, the input, the put from which on each link fails (0: none), the status, and all that is written.
 type Row = (&'static str, &'static str, u32, u8, &'static str);
 
-const ROWS: [Row; 34] = [
+const ROWS: [Row; 44] = [
     (
         "replay",
         "open a piece=1\nclient\nsend a 6869\n",
@@ -80,8 +80,78 @@ const ROWS: [Row; 34] = [
         "replay",
         "open a\nclient\ncall a E.E -",
         0,
-        10,
-        "not built\n",
+        0,
+        "0.1 open 0 0 0\n1.1 call 1 failed 1014\nlink 0 a accepted 1 placed 1 took 22 505250430000000a0000000a0a060a01451201452002\norder 0 1.1.0\nend\n",
+    ),
+    (
+        "replay",
+        "open a\nclient\ncall a Echo.Echo 6869",
+        0,
+        0,
+        "0.1 open 0 0 0\n1.1 call 1 failed 1014\nlink 0 a accepted 1 placed 1 took 30 5052504300000012000000100a0c0a044563686f12044563686f20026869\norder 0 1.1.0\nend\n",
+    ),
+    (
+        "replay",
+        "open a\nclient\ncall a Echo.Echo 6869\nexpire 1.1",
+        0,
+        0,
+        "0.1 open 0 0 0\n1.1 call 1 failed 1008\n1.2 expired\nlink 0 a accepted 1 placed 1 took 30 5052504300000012000000100a0c0a044563686f12044563686f20026869\norder 0 1.1.0\nend\n",
+    ),
+    (
+        "replay",
+        "open a fail=1\nopen b\nclient\ncall a,b Echo.Echo 6869 retry=1",
+        0,
+        0,
+        "0.1 open 0 0 0\n0.2 open 1 0 1\n1.1 call 1 failed 1014\nlink 0 a accepted 1 placed 0 took 0 -\norder 0 1.1.0\nlink 1 b accepted 1 placed 1 took 30 5052504300000012000000100a0c0a044563686f12044563686f20036869\norder 1 1.1.1\nend\n",
+    ),
+    (
+        "replay",
+        "open a\nclient\ncall a Echo.Echo 6869\nclient\nexpire 1.1\nclient\nexpire 1.1\nclient\nexpire 1.1\nclient\nexpire 1.1\nsched\nto 1 C4\nto 2 I4\nto 3 I4\nto 4 I4\ntick 5 10",
+        0,
+        0,
+        "0.1 open 0 0 0\n1.1 call 1 failed 1008\n2.1 expired\n3.1 queued\n4.1 queued\n5.1 crowded 1008 1008\nlink 0 a accepted 1 placed 1 took 30 5052504300000012000000100a0c0a044563686f12044563686f20026869\norder 0 1.1.0\nend\n",
+    ),
+    (
+        "replay",
+        "open a\nclient\ncall a Echo.Echo 6869\nclient\nexpire 1.1\nsched\nto 1 C4\nto 2 I6",
+        0,
+        0,
+        "0.1 open 0 0 0\n1.1 call 1 failed 1008\n2.1 expired\nlink 0 a accepted 1 placed 1 took 30 5052504300000012000000100a0c0a044563686f12044563686f20026869\norder 0 1.1.0\nend\n",
+    ),
+    (
+        "replay",
+        "open a\nclient\nexpire 2.1\nclient\ncall a Echo.Echo 6869",
+        0,
+        0,
+        "0.1 open 0 0 0\n1.1 not begun\n2.1 call 1 failed 1014\nlink 0 a accepted 1 placed 1 took 30 5052504300000012000000100a0c0a044563686f12044563686f20026869\norder 0 2.1.0\nend\n",
+    ),
+    (
+        "replay",
+        "open a\nclient\ncall a Echo.Echo 6869\nexpire 1.1\nexpire 1.1",
+        0,
+        0,
+        "0.1 open 0 0 0\n1.1 call 1 failed 1008\n1.2 expired\n1.3 late\nlink 0 a accepted 1 placed 1 took 30 5052504300000012000000100a0c0a044563686f12044563686f20026869\norder 0 1.1.0\nend\n",
+    ),
+    (
+        "replay",
+        "client\ncall z Echo.Echo 6869\njoin 1.1",
+        0,
+        0,
+        "1.1 unopened\n1.2 not begun\nend\n",
+    ),
+    (
+        "replay",
+        "open a fail=1\nclient\ncall a Echo.Echo 6869 retry=1",
+        0,
+        0,
+        "0.1 open 0 0 0\n1.1 call 1 failed 1009\nlink 0 a accepted 1 placed 0 took 0 -\norder 0 1.1.0\nend\n",
+    ),
+    (
+        "sim 7",
+        "open a\nclient\ncall a Echo.Echo 6869\n",
+        0,
+        0,
+        "0.1 open 0 0 0\n1.1 call 1 failed 1014\nlink 0 a accepted 1 placed 1 took 30 5052504300000012000000100a0c0a044563686f12044563686f20026869\norder 0 1.1.0\nend\n",
     ),
     ("replay", "open a serve\n", 0, 10, "not built\n"),
     (
@@ -91,8 +161,20 @@ const ROWS: [Row; 34] = [
         10,
         "not built\n",
     ),
-    ("replay", "open a\nsched\ntick r0 1\n", 0, 10, "not built\n"),
-    ("replay", "open a\nsched\nto r0 C2\n", 0, 10, "not built\n"),
+    (
+        "replay",
+        "open a\nsched\ntick r0 1",
+        0,
+        0,
+        "0.1 open 0 0 0\nlink 0 a accepted 0 placed 0 took 0 -\norder 0\nend\n",
+    ),
+    (
+        "replay",
+        "open a\nsched\nto r0 R1",
+        0,
+        0,
+        "0.1 open 0 0 0\nlink 0 a accepted 0 placed 0 took 0 -\norder 0\nend\n",
+    ),
     (
         "replay",
         "open a serve\nsend a 61\n",

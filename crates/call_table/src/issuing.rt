@@ -4,6 +4,7 @@ ghost use Rattle.brpc_model.specs.Spelling.{meta_bytes};
 ghost use Rattle.rpc_meta.specs.Meaning.{meaning};
 ghost use Rattle.rpc_meta.specs.Writing.{HasPart};
 ghost use Rattle.io_buf.specs.Buffer.{block_sizes};
+ghost use Rattle.sock_message.specs.Inside.{KeepsLimits};
 ghost use Rattle.sock_message.specs.Asked.{meta_with, request_of, frame_of, head_of};
 
 use prpc_frame::{BlockPool, IoBuf, NoMemory, RpcMeta, encode};
@@ -11,8 +12,8 @@ use rpc_meta::{MetaBytes, RequestMeta};
 use sock_message::Call;
 use std::alloc::Global;
 
-/// The frame of an attempt of the call with this id (brpc's baidu_std.md). The attempt, counted from 0, is at most 6, and its
-/// correlation id is `id + attempt + 1` (bthread_id.md, `bthread_id_create_ranged`); the id is at most 2^64 - 8.
+/// The frame of an attempt of the call with this id (brpc's baidu_std.md). The attempt is counted from 0, and its correlation
+/// id is `id + attempt + 1` (bthread_id.md, `bthread_id_create_ranged`), which is below 2^64.
 ///
 /// Header and meta are one piece, and the other pieces are those of the payload and then those of the attachment, which are
 /// shared and not copied.
@@ -23,20 +24,22 @@ pub fn issue(
     id: u64,
     attempt: u8,
 ) -> Result<IoBuf, NoMemory>
-    requires attempt { attempt ≤ 6 }
-    requires id { id + 8 ≤ 2 ^ 64 }
+    requires { id + attempt + 1 < 2 ^ 64 }
     ensures bytes { IfOk result (λ b. b.items ≡ frame_of call.now id attempt) }
     ensures frame { IfOk result (λ b. IsFrame b.items (request_of call.now id attempt)) }
     // It is taken for this frame and for no other, whatever stands behind it.
     ensures only { IfOk result (λ b. (more : List ℕ) → judged (b.items ++ more) ≡ Begins (request_of call.now id attempt) (length b.items - 12)) }
     ensures pieces { IfOk result (λ b. b.sizes ≡ head_of call.now id attempt ∷ block_sizes (length call.now.payload) ++ block_sizes (length call.now.attachment)) }
 {
+    // It keeps its limits.
+    let _ = call.name(attempt);
     let meta = request_meta(alloc, call, id + u64::from(attempt) + 1)?;
     encode(alloc, pool, &meta, &call.payload, &call.attachment)
 }
 
 // The meta of the call's request under this correlation id.
 fn request_meta(alloc: Global, call: &Call, correlation_id: u64) -> Result<RpcMeta, NoMemory>
+    requires { KeepsLimits call.now }
     ensures says { IfOk result (λ m. meaning m ≡ meta_with call.now correlation_id) }
     ensures sized { IfOk result (λ m. m.attachment_size ≡ pos (length call.now.attachment)) }
     ensures part { IfOk result (λ m. HasPart (meaning m)) }

@@ -3,11 +3,9 @@ ghost use Rattle.std.specs.List.{list_all, AllByRecursion};
 ghost use Rattle.brpc_model.specs.Link.{LinkEnd};
 ghost use Rattle.brpc_model.specs.Items.{Item};
 ghost use Rattle.brpc_model.specs.Script.{script_of};
-ghost use Rattle.brpc_model.specs.Operations.{slots, link_names, operations};
+ghost use Rattle.brpc_model.specs.Operations.{link_names, operations};
 ghost use Rattle.brpc_model.specs.PlaceWords.{ArePlaces, HasEachOutcome, IsReportText};
-ghost use Rattle.sock_programs.specs.Cores.{Core};
-ghost use Rattle.sock_programs.specs.Scripts.{is_callless, IsRunOf};
-ghost use Rattle.sock_runs.specs.Sound.{IsOver};
+ghost use Rattle.whole_runs.specs.Unserved.{IsUnserved};
 ghost use Rattle.sock_io.specs.declared.link.Ends.{Ends};
 ghost use Rattle.sock_io.specs.Causes.{Rose};
 ghost use Rattle.sock_io.specs.Link.{end_of};
@@ -36,7 +34,7 @@ pub enum RunFault {
     NoMemory,
 }
 
-/// Runs a script without calls by a schedule: the text of its report.
+/// Runs a script by a schedule: the text of its report. No link has a server, or an end of its own.
 ///
 /// Its links are opened in order and all given back, in order, whatever becomes of the run. Where one can't be opened,
 /// nothing is run, and nothing is put on the others.
@@ -47,13 +45,11 @@ pub fn run_script<L: Linker>(
     links: &mut L,
 ) -> Result<Vec<u8>, RunFault>
     requires script { (bytes : List ℕ) × (script_of bytes ≡ Ok script.now) }
-    requires callless { is_callless script.now ≡ true }
     requires pieces { list_all has_piece script.now ≡ true }
+    requires unserved { IsUnserved script.now }
     requires asked { L.asked links.old ≡ [] }
     requires back { L.back links.old ≡ [] }
     ensures text { IfOk result (λ text. L.prompt links.old ≡ true → IsRunText script.now (turns_of script.now schedule) text.items (L.back links.new)) }
-    // In the end nobody refers to any slot: each life has ended.
-    ensures over { OnOk result (L.prompt links.old ≡ true → (core : Core) → IsRunOf script.now (turns_of script.now schedule) core → (slot : ℕ) → slot < slots script.now → IsOver core.words slot) }
     ensures unopened { IsErrOf result RunFault.OpenFailed → AreUntouched 0 (L.back links.new) }
     ensures all { OnOk result (length (L.back links.new) ≡ length (link_names script.now)) }
     // What is asked of the links is what the lines of the script ask, all of it unless one could not be opened.
@@ -97,7 +93,6 @@ fn run_over<L: Linker>(
     ends: Vec<Ends<L::O, L::I, L::P>>,
 ) -> Result<Vec<u8>, RunFault>
     requires script { (bytes : List ℕ) × (script_of bytes ≡ Ok script.now) }
-    requires callless { is_callless script.now ≡ true }
     requires untouched { AreUntouched 0 (map (λ e. end_of (L.O.state e.out) (L.I.state e.inn)) ends.items) }
     requires unfinished { AllByRecursion (λ (e : Ends L.O L.I L.P). (L.O.state e.out).finished ≡ false) ends.items }
     requires prompt { L.prompt links.old ≡ true → AllByRecursion (λ (e : Ends L.O L.I L.P). (L.O.state e.out).prompt ≡ true) ends.items }
@@ -132,7 +127,6 @@ fn run_on<L: Linker>(
     mut machine: Machine<L::O, L::I, L::P>,
 ) -> Result<Vec<u8>, RunFault>
     requires script { (bytes : List ℕ) × (script_of bytes ≡ Ok script.now) }
-    requires callless { is_callless script.now ≡ true }
     requires made { IsMade script.now machine }
     requires untouched { AreUntouched 0 machine.ends }
     requires prompt { L.prompt links.old ≡ true → ArePrompt machine.links }
@@ -183,7 +177,7 @@ fn report_played<O: Out, I: In, P: Peer>(
     }
 }
 
-/// Plays a schedule of a script, and then until no seat has a step left.
+/// Plays a schedule of a script, and then settles it.
 fn play<L: Linker>(
     alloc: Global,
     machine: &mut Machine<L::O, L::I, L::P>,
@@ -194,9 +188,14 @@ fn play<L: Linker>(
     requires script { (bytes : List ℕ) × (script_of bytes ≡ Ok script.now) }
     requires made { IsMade script.now machine.old }
     ensures run { OnOk result (ArePrompt machine.old.links → HasRun script.now (turns_of script.now schedule) machine.old machine.new) }
-    ensures plan { OnOk result (machine.new.plan ≡ machine.old.plan) }
+    ensures plan { OnOk result ((machine.new.plan ≡ machine.old.plan) × (machine.new.ids.plan ≡ machine.old.ids.plan)) }
     ensures ends { SameLinks machine.old machine.new }
-    ensures links { links.new ≡ links.old }
+    ensures asked { L.asked links.new ≡ L.asked links.old }
+    ensures accepted { L.accepted links.new ≡ L.accepted links.old }
+    ensures back { L.back links.new ≡ L.back links.old }
+    ensures done { L.done links.new ≡ L.done links.old }
+    ensures faults { L.faults links.new ≡ L.faults links.old }
+    ensures prompt { L.prompt links.new ≡ L.prompt links.old }
 {
     play_schedule(alloc, machine, links, script, schedule)?;
     machine.settle(links)

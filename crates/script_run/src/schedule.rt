@@ -48,7 +48,12 @@ fn tick_seat<L: Linker>(
     ensures idle { result ≡ Ok false → (n : ℕ) → HasPlayed (λ c moments. seats_of moments ≡ replicate n seat) machine.old machine.new }
     ensures playable { OnOk result (IsPlayable machine.new) }
     ensures ends { SameLinks machine.old machine.new }
-    ensures links { links.new ≡ links.old }
+    ensures asked { L.asked links.new ≡ L.asked links.old }
+    ensures accepted { L.accepted links.new ≡ L.accepted links.old }
+    ensures back { L.back links.new ≡ L.back links.old }
+    ensures done { L.done links.new ≡ L.done links.old }
+    ensures faults { L.faults links.new ≡ L.faults links.old }
+    ensures prompt { L.prompt links.new ≡ L.prompt links.old }
 {
     match machine.tick(links, seat)? {
         Tick::Moved(_) | Tick::Waits(_) => Ok(true),
@@ -67,7 +72,12 @@ fn play_ticks<L: Linker>(
     ensures played { OnOk result (HasPlayed (λ c moments. seats_of moments ≡ replicate ticks seat) machine.old machine.new) }
     ensures playable { OnOk result (IsPlayable machine.new) }
     ensures ends { SameLinks machine.old machine.new }
-    ensures links { links.new ≡ links.old }
+    ensures asked { L.asked links.new ≡ L.asked links.old }
+    ensures accepted { L.accepted links.new ≡ L.accepted links.old }
+    ensures back { L.back links.new ≡ L.back links.old }
+    ensures done { L.done links.new ≡ L.done links.old }
+    ensures faults { L.faults links.new ≡ L.faults links.old }
+    ensures prompt { L.prompt links.new ≡ L.prompt links.old }
 {
     for _ in 0..ticks {
         if !tick_seat(machine, links, seat)? {
@@ -88,7 +98,12 @@ fn play_until<L: Linker>(
     ensures played { OnOk result (HasPlayed (LeadsUpTo machine.old.plan seat (kind_text kind)) machine.old machine.new) }
     ensures playable { OnOk result (IsPlayable machine.new) }
     ensures ends { SameLinks machine.old machine.new }
-    ensures links { links.new ≡ links.old }
+    ensures asked { L.asked links.new ≡ L.asked links.old }
+    ensures accepted { L.accepted links.new ≡ L.accepted links.old }
+    ensures back { L.back links.new ≡ L.back links.old }
+    ensures done { L.done links.new ≡ L.done links.old }
+    ensures faults { L.faults links.new ≡ L.faults links.old }
+    ensures prompt { L.prompt links.new ≡ L.prompt links.old }
 {
     machine.tick_until(links, seat, kind)
 }
@@ -103,7 +118,12 @@ fn play_line<L: Linker>(
     ensures played { OnOk result (HasPlayed (HasTurns machine.old.plan (turn_of (item line.now))) machine.old machine.new) }
     ensures playable { OnOk result (IsPlayable machine.new) }
     ensures ends { SameLinks machine.old machine.new }
-    ensures links { links.new ≡ links.old }
+    ensures asked { L.asked links.new ≡ L.asked links.old }
+    ensures accepted { L.accepted links.new ≡ L.accepted links.old }
+    ensures back { L.back links.new ≡ L.back links.old }
+    ensures done { L.done links.new ≡ L.done links.old }
+    ensures faults { L.faults links.new ≡ L.faults links.old }
+    ensures prompt { L.prompt links.new ≡ L.prompt links.old }
 {
     match line {
         Line::Tick { seat, ticks } => play_ticks(machine, links, seat_number(*seat), *ticks),
@@ -122,7 +142,12 @@ fn play_lines<L: Linker>(
     ensures played { OnOk result (HasPlayed (λ c. Scheduled machine.old.plan c (schedule (map item lines.now))) machine.old machine.new) }
     ensures playable { OnOk result (IsPlayable machine.new) }
     ensures ends { SameLinks machine.old machine.new }
-    ensures links { links.new ≡ links.old }
+    ensures asked { L.asked links.new ≡ L.asked links.old }
+    ensures accepted { L.accepted links.new ≡ L.accepted links.old }
+    ensures back { L.back links.new ≡ L.back links.old }
+    ensures done { L.done links.new ≡ L.done links.old }
+    ensures faults { L.faults links.new ≡ L.faults links.old }
+    ensures prompt { L.prompt links.new ≡ L.prompt links.old }
 {
     for line in lines {
         play_line(machine, links, line)?;
@@ -143,7 +168,12 @@ fn play_drawn<L: Linker>(
     ensures played { OnOk result (HasPlayed (λ c. Scheduled machine.old.plan c (drawn_turns script.now seed)) machine.old machine.new) }
     ensures playable { OnOk result (IsPlayable machine.new) }
     ensures ends { SameLinks machine.old machine.new }
-    ensures links { links.new ≡ links.old }
+    ensures asked { L.asked links.new ≡ L.asked links.old }
+    ensures accepted { L.accepted links.new ≡ L.accepted links.old }
+    ensures back { L.back links.new ≡ L.back links.old }
+    ensures done { L.done links.new ≡ L.done links.old }
+    ensures faults { L.faults links.new ≡ L.faults links.old }
+    ensures prompt { L.prompt links.new ≡ L.prompt links.old }
 {
     let Ok(plan) = plan_of(alloc, script.lines()) else {
         return Err(NoMemory);
@@ -169,7 +199,12 @@ pub fn play_schedule<L: Linker>(
     ensures played { OnOk result (HasPlayed (λ c. Scheduled machine.old.plan c (turns_of script.now schedule)) machine.old machine.new) }
     ensures playable { OnOk result (IsPlayable machine.new) }
     ensures ends { SameLinks machine.old machine.new }
-    ensures links { links.new ≡ links.old }
+    ensures asked { L.asked links.new ≡ L.asked links.old }
+    ensures accepted { L.accepted links.new ≡ L.accepted links.old }
+    ensures back { L.back links.new ≡ L.back links.old }
+    ensures done { L.done links.new ≡ L.done links.old }
+    ensures faults { L.faults links.new ≡ L.faults links.old }
+    ensures prompt { L.prompt links.new ≡ L.prompt links.old }
 {
     match schedule {
         Schedule::Own => play_lines(machine, links, script.lines()),

@@ -32,7 +32,7 @@ use Rattle.sock_core.specs.declared.machine.On.{On}
 use Rattle.sock_core.specs.declared.machine.On.TheVariants as on
 use Rattle.sock_core.specs.declared.machine.Tick.{Tick}
 use Rattle.sock_core.specs.declared.machine.Tick.TheVariants.{Moved, Waits, Idle}
-use Rattle.sock_core.specs.Seats.{SeatData, around, seat_program}
+use Rattle.client_seats.specs.Seats.{SeatData, around, seat_program}
 use Rattle.sock_core.specs.Links.{LinksData, Taken, Agrees}
 use Rattle.sock_core.specs.Machines.{MachineState, TableState, IsMachine, ArePaced, table_of, seat_state, seats_with, core_with}
 use Rattle.sock_core.specs.Steps.{IsSized, IsNext, NextIs, HasNoStep, OutsAfter, Goes, Made, SteppedTo, letters_after, holders_after}

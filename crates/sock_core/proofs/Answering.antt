@@ -26,7 +26,7 @@ use Rattle.sock_programs.specs.Cores.{Core, SeatState}
 use Rattle.sock_programs.specs.Ticks.{Answer, Unasked, OfPut, OfReady, asked_link, broken_at}
 use Rattle.seat_points.specs.Steps.{First, OfCall, OfMessage, OfLink, OfHome, first_in}
 use Rattle.seat_points.specs.Steps as kinds
-use Rattle.sock_core.specs.Seats.{SeatData}
+use Rattle.client_seats.specs.Seats.{SeatData}
 use Rattle.sock_core.specs.Links.{LinksData, ArePrompt, is_done}
 use Rattle.sock_core.specs.Machines.{MachineState, table_of}
 use Rattle.sock_core.specs.Steps.{SameLink, OutsAfter, Made, LinkAsked}

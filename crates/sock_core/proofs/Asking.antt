@@ -1,5 +1,5 @@
 -- A link that is asked: what its answer makes of the writing halves, and of the links as they would be given back.
-use Rattle.std.proofs.Common.{◌≡◌, refl, ℕ, ◌<◌, List, [], ◌∷◌, zero, suc, map, length, slice_set, slice_index_or, Option, Some, ap, ◌∙◌, arith, subst}
+use Rattle.std.proofs.Common.{◌≡◌, refl, ℕ, ◌<◌, List, [], ◌∷◌, zero, suc, map, length, slice_set, slice_index_or, inl, Option, Some, ap, ◌∙◌, arith, subst}
 use Rattle.std.proofs.lemmas.List.{map-set}
 use Rattle.atomic_table.proofs.Lists.{at_map, at_index}
 use mathlib.Core.Option.{some}
@@ -7,14 +7,16 @@ use lib.ListN.{get_elem?}
 use Rattle.brpc_model.specs.Link.{LinkEnd}
 use Rattle.sock_io.specs.Link.{OutState, InState, SameOut, PutStep, FinishStep, end_of}
 use Rattle.sock_io.specs.declared.link.Put.{Put}
-use Rattle.sock_message.specs.Pieces.{OnItsWay, piece}
-use Rattle.sock_core.specs.Seats.{left_of, taken_of}
+use Rattle.sock_programs.specs.Parts.{part}
+use Rattle.message_parts.specs.Frames.{OutgoingData}
+use Rattle.client_seats.specs.Seats.{left_of, taken_of}
 use Rattle.sock_runs.proofs.Along.{place_inside}
-use Rattle.sock_core.specs.Steps.{SameLink, AskedAt}
+use Rattle.sock_core.specs.Runs.{SameLink}
+use Rattle.sock_core.specs.Steps.{AskedAt}
 
 -- the reading half stays
 pub same_link : (out out' : OutState) (inn : InState) → SameOut out out' → SameLink (end_of out inn) (end_of out' inn)
-same_link out out' inn s = record { link = s.link; gave = refl; gave_count = refl; take_faults = refl; gave_end = refl; closed = refl; later = s.later }
+same_link out out' inn s = record { link = s.link; later = s.later; more = omega arith; later_takes = omega arith; gave_end = λ e. e; closed = inl refl }
 
 -- a writing half that is ended is given back as it was
 pub end_kept : (out out' : OutState) (inn : InState) → FinishStep out out' → end_of out' inn ≡ end_of out inn
@@ -62,6 +64,6 @@ pub inside_list : {A : Type 0} (l : List A) (i : ℕ) (a : A) → get_elem? l i 
 inside_list l i a e = place_inside l i a e
 
 -- a put of what is next of the message
-pub put_of : {out out' : OutState} {message : Option OnItsWay} {outgoing : OnItsWay} {bytes : List ℕ} {answer put : Put} → message ≡ Some outgoing → bytes ≡ piece outgoing.left outgoing.taken → answer ≡ put → PutStep out out' bytes answer →
-    PutStep out out' (piece (left_of message) (taken_of message)) put
-put_of e f g h = rw (e, ← f, ← g) h
+pub put_of : {out out' : OutState} {message : Option OutgoingData} {outgoing : OutgoingData} {bytes : List ℕ} {answer put : Put} (parts : List ℕ) → message ≡ Some outgoing → bytes ≡ part parts outgoing.left outgoing.taken → answer ≡ put → PutStep out out' bytes answer →
+    PutStep out out' (part parts (left_of message) (taken_of message)) put
+put_of parts e f g h = rw (e, ← f, ← g) h

@@ -25,7 +25,7 @@ use Rattle.client_laws.specs.Openings.{opening_views}
 use Rattle.client_laws.proofs.Opens.{opens_sound, ending_sound}
 use Rattle.client_laws.proofs.Few.{opening_few}
 use Rattle.client_laws.proofs.Lasting.{opening_lasts, ending_lasts}
-use Rattle.sock_core.specs.Seats.{SeatData, seat_program}
+use Rattle.client_seats.specs.Seats.{SeatData, seat_program}
 use Rattle.sock_core.specs.Links.{Taken, Agrees, homes_of, hand_of}
 use Rattle.sock_core.specs.Machines.{MachineState, IsSoundMachine, table_of, core_with, ending_by}
 use Rattle.sock_core.specs.Steps.{IsSized}

@@ -1,13 +1,15 @@
 -- The tables before their first step.
-use Rattle.std.proofs.Common.{◌≡◌, refl, ℕ, zero, suc, ◌+◌, List, [], ◌∷◌, ◌++◌, map, fold, replicate, Option, ap, sym, ◌∙◌, arith}
+use Rattle.std.proofs.Common.{◌≡◌, refl, ℕ, zero, suc, ◌+◌, List, [], ◌∷◌, ◌++◌, map, fold, replicate, Option, ap, ap₂, sym, ◌∙◌, arith}
+use Rattle.std.specs.List.{AllByRecursion}
 use Rattle.sock_words.specs.declared.outcome.Outcome.{Outcome}
 use Rattle.sock_programs.specs.declared.task.Task.{Task}
 use Rattle.sock_programs.specs.declared.task.Sizes.{Sizes}
+use Rattle.sock_programs.specs.Heads.{Retry}
 use Rattle.sock_programs.specs.Programs.{Program}
 use Rattle.sock_programs.specs.Clients.{HeldLife, client_from}
-use Rattle.sock_programs.specs.Cores.{said, next_step}
+use Rattle.sock_programs.specs.Cores.{said, resolved, next_step}
 use Rattle.sock_programs.specs.Scripts.{free_slot, free_slots, programs}
-use Rattle.sock_core.specs.Seats.{SeatData, seat_program}
+use Rattle.client_seats.specs.Seats.{SeatData, seat_program}
 use Rattle.sock_core.specs.Beginnings.{AreBegun, said_first}
 
 assoc : {A : Type 0} (xs ys zs : List A) → (xs ++ ys) ++ zs ≡ xs ++ (ys ++ zs)
@@ -39,17 +41,28 @@ fold_last : {A B : Type 0} (f : B → A → B) (b : B) (xs : List A) (x : A) →
 fold_last f b [] x = refl
 fold_last f b (y ∷ xs) x = fold_last f (f b y) xs x
 
+all_last : {A : Type 0} (P : A → Type 0) (xs : List A) (x : A) → AllByRecursion P xs → P x → AllByRecursion P (xs ++ x ∷ [])
+all_last P [] x all here = (here, tt)
+all_last P (y ∷ xs) x all here = (all.0, all_last P xs x all.1 here)
+
+abbrev first_step : Program → Program
+first_step program = next_step (resolved [] program)
+
 -- one seat more
 pub begun_more : (sizes : Sizes) (seats : List SeatData) (clients : List (List Task)) (seat : SeatData) (tasks : List Task) → AreBegun sizes seats clients →
-    seat_program sizes seat ≡ next_step (client_from sizes [] tasks) → AreBegun sizes (seats ++ seat ∷ []) (clients ++ tasks ∷ [])
-begun_more sizes seats clients seat tasks h e =
-    map_last (seat_program sizes) seats seat
-    ∙ (λ k. h k ++ e k ∷ [])
-    ∙ sym (ap (map next_step) (map_last (client_from sizes []) clients tasks) ∙ map_last next_step (programs sizes clients) (client_from sizes [] tasks))
+    seat_program sizes seat ≡ next_step (resolved [] (client_from sizes [] tasks)) → seat.waiting ≡ [] → AreBegun sizes (seats ++ seat ∷ []) (clients ++ tasks ∷ [])
+begun_more sizes seats clients seat tasks h e none_ = (
+  map_last (seat_program sizes) seats seat
+      ∙ (λ k. h.0 k ++ e k ∷ [])
+      ∙ sym (ap (map first_step) (map_last (client_from sizes []) clients tasks) ∙ map_last first_step (programs sizes clients) (client_from sizes [] tasks)),
+  all_last (λ (s : SeatData). s.waiting ≡ []) seats seat h.1 none_,
+)
 
-pub told_more : (sizes : Sizes) (os : List (Option Outcome)) (clients : List (List Task)) (tasks : List Task) → said_first os (programs sizes (clients ++ tasks ∷ [])) ≡ said (client_from sizes [] tasks) (said_first os (programs sizes clients))
-told_more sizes os clients tasks = ap (said_first os) (map_last (client_from sizes []) clients tasks) ∙ fold_last (λ (us : List (Option Outcome)) (program : Program). said program us) os (programs sizes clients) (client_from sizes [] tasks)
+pub told_more : (sizes : Sizes) (os : List (Option Outcome)) (clients : List (List Task)) (tasks : List Task) → said_first os (programs sizes (clients ++ tasks ∷ [])) ≡ said (resolved [] (client_from sizes [] tasks)) (said_first os (programs sizes clients))
+told_more sizes os clients tasks = ap (said_first os) (map_last (client_from sizes []) clients tasks)
+    ∙ fold_last (λ (us : List (Option Outcome)) (program : Program). said (resolved [] program) us) os (programs sizes clients) (client_from sizes [] tasks)
 
--- a seat that has begun held nothing
-pub begun_seat : (sizes : Sizes) (seat : SeatData) (held : List HeldLife) (tasks : List Task) → seat_program sizes seat ≡ next_step (client_from sizes held tasks) → held ≡ [] → seat_program sizes seat ≡ next_step (client_from sizes [] tasks)
-begun_seat sizes seat held tasks e f = e ∙ ap (λ (hs : List HeldLife). next_step (client_from sizes hs tasks)) f
+-- a seat that has begun held nothing and kept no retry
+pub begun_seat : (sizes : Sizes) (seat : SeatData) (held : List HeldLife) (waiting : List Retry) (tasks : List Task) → seat_program sizes seat ≡ next_step (resolved waiting (client_from sizes held tasks)) → held ≡ [] → waiting ≡ [] →
+    seat_program sizes seat ≡ next_step (resolved [] (client_from sizes [] tasks))
+begun_seat sizes seat held waiting tasks e f g = e ∙ ap₂ (λ (hs : List HeldLife) (w : List Retry). next_step (resolved w (client_from sizes hs tasks))) f g

@@ -7,17 +7,12 @@ use Rattle.sock_runs.proofs.Along.{place_inside}
 use mathlib.Core.Option as core
 use lib.ListN.{get_elem?}
 use Rattle.sock_words.specs.declared.plain.Plan.{Plan}
-use Rattle.sock_words.specs.declared.outcome.Outcome.{Outcome}
 use Rattle.sock_io.specs.Link.{OutState}
 use Rattle.sock_model.specs.declared.home.Home.{Home}
 use Rattle.sock_model.specs.declared.home.Home.TheVariants.{Link}
-use Rattle.sock_programs.specs.Programs.{Program}
-use Rattle.sock_programs.specs.Cores.{Core, SeatState, lies_at, link_place, next_step, with_seat}
+use Rattle.sock_programs.specs.Cores.{lies_at, link_place}
 use Rattle.sock_core.specs.declared.letter.Letter.{Letter}
-use Rattle.sock_core.specs.Seats.{SeatData}
 use Rattle.sock_core.specs.Links.{LinksData, Taken, holder_of, is_done, link_with, homes_of, hand_of}
-use Rattle.sock_core.specs.Machines.{MachineState, table_of, seat_state, seats_with, core_with}
-use Rattle.sock_core.specs.Steps.{Goes}
 use Rattle.sock_core.proofs.Hands.{HasNone, HasOnly, IsKept, lies_home, is_away, hand_none, hand_only, home_at, homes_set, kept_home, others_hand, has_only, has_none, homes_kept}
 
 -- ## The homes and the hands
@@ -115,43 +110,3 @@ none_changes p i l l' letters letters' took hs same homes = record {
   others = λ j differ. ap (λ (x : LinksData). hand_of x p.links took j) same;
   homes_are = ap (λ (x : LinksData). homes_of x p letters' took) same ∙ homes;
 }
-
--- ## The core
-
-seat_is : (a b : Program) (hs gs : List Home) → a ≡ b → hs ≡ gs → (let s : SeatState = record { program = a; hand = hs } in s) ≡ (record { program = b; hand = gs })
-seat_is a b hs gs e f = λ k. record { program = e k; hand = f k }
-
-pub core_is : (ws vs : List ℕ) (hs gs : List (core.Option Home)) (ss ts : List SeatState) (os us : List (Option Outcome)) → ws ≡ vs → hs ≡ gs → ss ≡ ts → os ≡ us →
-    (let c : Core = record { words = ws; homes = hs; seats = ss; outcomes = os } in c) ≡ (record { words = vs; homes = gs; seats = ts; outcomes = us })
-core_is ws vs hs gs ss ts os us e f g h = λ k. record { words = e k; homes = f k; seats = g k; outcomes = h k }
-
-module _ (p : Plan) (l l' : LinksData) (took later : Taken) where
-  abbrev SameHand : ℕ → Type 0
-  SameHand j = hand_of l' p.links later j ≡ hand_of l p.links took j
-
-  seats_past : (a : ℕ) (seats : List SeatData) → ((j : ℕ) → a < j → SameHand j) → seats_with p l' later (a + 1) seats ≡ seats_with p l took (a + 1) seats
-  seats_past a [] same = refl
-  seats_past a (seat ∷ seats) same = ap₂ (λ (s : SeatState) ss. s ∷ ss) (seat_is _ _ _ _ refl (same (a + 1) (omega arith))) (seats_past (a + 1) seats (λ j past. same j (omega (arith, past))))
-
-  pub seats_set : (a : ℕ) (seats : List SeatData) (i : ℕ) (seat' : SeatData) (s : SeatState) → seat_state p l' later (a + i) seat' ≡ s → ((j : ℕ) → j ≢ a + i → SameHand j) →
-      seats_with p l' later a (slice_set seats i seat') ≡ slice_set (seats_with p l took a seats) i s
-  seats_set a [] i seat' s here same = refl
-  seats_set a (seat ∷ seats) zero seat' s here same = ap₂ (λ (s : SeatState) ss. s ∷ ss) (ap (λ j. seat_state p l' later j seat') (omega arith) ∙ here) (seats_past a seats (λ j past. same j (λ e. omega (arith, past, e))))
-  seats_set a (seat ∷ seats) (suc i) seat' s here same = ap₂ (λ (s : SeatState) ss. s ∷ ss) (seat_is _ _ _ _ refl (same a (λ e. omega (arith, e))))
-      (seats_set (a + 1) seats i seat' s (ap (λ j. seat_state p l' later j seat') (omega arith) ∙ here) (λ j differ. same j (λ e. differ (omega (arith, e)))))
-
-pub seat_at : (p : Plan) (l : LinksData) (took : Taken) (a : ℕ) (seats : List SeatData) (i : ℕ) (seat : SeatData) → get_elem? seats i ≡ core.some seat → get_elem? (seats_with p l took a seats) i ≡ core.some (seat_state p l took (a + i) seat)
-seat_at p l took a [] i seat e = absurd (core.some-ne-none seat (sym e))
-seat_at p l took a (x ∷ seats) zero seat e = ap core.some (ap₂ (λ j s. seat_state p l took j s) (omega arith) (core.some-injective x seat e))
-seat_at p l took a (x ∷ seats) (suc i) seat e = seat_at p l took (a + 1) seats i seat e ∙ ap (λ j. core.some (seat_state p l took j seat)) (omega arith)
-
-module _ (old fresh : MachineState) (i : ℕ) (seat' : SeatData) (next : Program) (took later : Taken) (hand : List Home) (homes : List (core.Option Home)) (words : List ℕ) where
-  -- the seat goes on, and the core is else as it was
-  pub core_set : fresh.seats ≡ slice_set old.seats i seat' → Goes (table_of old) (table_of fresh) seat' next → fresh.words ≡ words → Changed old.plan i old.links fresh.links old.letters fresh.letters took later hand homes →
-      core_with fresh later ≡ with_seat i next hand words homes (core_with old took)
-  core_set seats goes words_are changed = core_is _ _ _ _ _ _ _ _ words_are
-      (ap (λ (q : Plan). homes_of fresh.links q fresh.letters later) goes.plan ∙ changed.homes_are)
-      (ap₂ (λ (q : Plan) (ss : List SeatData). seats_with q fresh.links later 0 ss) goes.plan seats
-      ∙ seats_set old.plan old.links fresh.links took later 0 old.seats i seat' (record { program = next_step next; hand = hand })
-      (ap (λ j. seat_state old.plan fresh.links later j seat') (omega arith) ∙ seat_is _ _ _ _ goes.program changed.own) (λ j differ. changed.others j (λ e. differ (omega (arith, e)))))
-      goes.told

@@ -1,40 +1,57 @@
 -- Programs that ask no link; the machine of which the ending begins; and what a tick's answer says.
-use Rattle.std.proofs.Common.{◌≡◌, ◌≢◌, refl, ℕ, ◌+◌, ◌-◌, ◌%◌, ◌==◌, ◌&&◌, ◌<◌, nat_le, ⊎_elim, Bool, true, false, cond, List, [], ◌∷◌, length, Result, Ok, Err, IfOk, OnOk, OnErr, ap, sym, ◌∙◌, arith, subst}
+use Rattle.std.proofs.Common.{◌≡◌, ◌≢◌, refl, ℕ, ◌+◌, ◌-◌, ◌*◌, ◌%◌, ◌==◌, ◌&&◌, ◌<◌, ◌≤◌, nat_le, ⊎_elim, Bool, true, false, cond, List, [], ◌∷◌, length, slice_set, Option, Result, Ok, Err, IfOk, OnErr, ap, sym, ◌∙◌, arith, subst}
 use Rattle.std.specs.List.{AllByRecursion}
 use Rattle.std.proofs.Props.{props}
 use Rattle.std.proofs.Math.Logic.{∥∥₁_elim}
 use Rattle.std.proofs.Math.ListN.{length-set}
+use Rattle.std.proofs.lemmas.Bool.{true≢false}
 use Rattle.atomic_table.proofs.Lists.{at_set, set_here}
 use Rattle.chain_laws.proofs.Lists.{at_some}
 use mathlib.Core.Option as core
 use lib.ListN.{get_elem?}
 use Rattle.sock_words.specs.Words.{socket_id_version, socket_id_slot, vref_version, vref_nref}
 use Rattle.sock_words.specs.declared.kind.Kind.{Kind}
+use Rattle.sock_words.specs.declared.outcome.Outcome.{Outcome}
 use Rattle.sock_words.specs.declared.plain.Plan.{Plan}
-use Rattle.sock_programs.specs.Programs.{Program, Do, Say, Sent, Rest, LAST_VERSION, NO_SOCKET, recycle, release, address, set_failed, end_open}
+use Rattle.corr_core.specs.declared.marks.Plan.{Plan as IdPlan}
+use Rattle.sock_model.specs.declared.home.Home.{Home}
+use Rattle.sock_programs.specs.declared.task.Sizes.{Sizes}
+use Rattle.sock_programs.specs.Heads.{Retry}
+use Rattle.sock_programs.specs.Programs.{Program, Do, Say, Sent, Rest, Retries, LAST_VERSION, NO_SOCKET, recycle, release, address, set_failed, end_open}
 use Rattle.sock_programs.specs.Clients.{ending_of}
-use Rattle.sock_programs.specs.Cores.{Core}
+use Rattle.sock_programs.specs.Cores.{Core, SeatState, resolved, still_waiting, said, next_step, with_seat}
 use Rattle.sock_programs.specs.Ticks.{Answer, waits_at, waits}
 use Rattle.sock_programs.specs.Runs.{IsAtRest}
-use Rattle.sock_programs.specs.Scripts.{sizes_of}
-use Rattle.seat_points.specs.declared.point.Step.{Step}
+use Rattle.sock_programs.specs.Scripts.{is_ending}
+use Rattle.sock_runs.specs.GoesOn.{GoesOn}
+use Rattle.sock_runs.specs.Lasts.{Lasts}
+use Rattle.sock_runs.specs.Sound.{Sound, IsAhead}
+use Rattle.sock_runs.proofs.Allowed.{view_there}
+use Rattle.sock_runs.proofs.Along.{place_inside, seat_ahead, seat_rests}
+use Rattle.sock_runs.proofs.Held.{held_in_hand}
+use Rattle.id_runs.specs.Goes.{SoundIds}
+use Rattle.id_runs.proofs.Opening.{ending_ids, told_ids}
+use Rattle.client_laws.proofs.Opens.{ending_resolved, ending_sound, told_sound}
+use Rattle.client_laws.proofs.Lasting.{ending_lasts, told_lasts}
+use Rattle.call_slots.specs.Slots.{SlotState, calls_with}
+use Rattle.reader_seats.specs.Readers.{ReaderData}
+use Rattle.client_seats.specs.Seats.{SeatData, seat_program}
 use Rattle.sock_core.specs.declared.machine.Tick.{Tick}
 use Rattle.sock_core.specs.declared.machine.Tick.TheVariants as ticks
-use Rattle.sock_core.specs.Seats.{SeatData, seat_program}
-use Rattle.sock_core.specs.Links.{LinksData, Taken, Agrees, ArePrompt, IsPaced}
-use Rattle.sock_core.specs.Machines.{MachineState, IsMachine, ArePaced, MOST_LEFT, seats_with, core_with, ending_by}
-use Rattle.sock_core.specs.Steps.{NextIs}
-use Rattle.sock_core.specs.Telling.{TickTold}
+use Rattle.sock_core.specs.Links.{LinksData, Taken, Given, Agrees, AgreesGave, IsPaced, homes_of, hand_of}
+use Rattle.sock_core.specs.Machines.{MachineState, IsMachine, IsSoundMachine, HasSizes, ArePaced, MOST_LEFT, READERS, machine_sizes, core_with, ending_by, waiting_of, given_by, table_of}
+use Rattle.sock_core.specs.Steps.{Goes}
 use Rattle.sock_core.specs.Runs.{SameTable, SameLinks, Ticked, Led}
-use Rattle.sock_core.specs.Driving.{LastsAtMost, Leaves, IsLast, IsOther, AsksNone, IsPlain, TickedFirst, BeganEnding}
-use Rattle.sock_core.proofs.Advancing.{is_sized, next_none}
-use Rattle.sock_core.proofs.Beginning.{ends_sound, ends_core, rests_none}
-use Rattle.sock_core.proofs.Answering.{links_kept}
-use Rattle.sock_core.proofs.Joining.{same_table_none, same_links_none, same_table_join, same_links_join, some_taken, idle_rests}
-use Rattle.std.proofs.lemmas.Bool.{true≢false}
+use Rattle.sock_core.specs.Driving.{LastsAtMost, Leaves, IsLast, IsOther, AsksNone, IsPlain, FirstRests, BeganEnding, told_ending}
+use Rattle.sock_core.proofs.Changes.{none_changes}
+use Rattle.sock_core.proofs.Hands.{HasNone, hand_none}
+use Rattle.sock_core.proofs.Joining.{same_table_join, same_links_join}
 use Rattle.sock_core.proofs.Leading.{Passed, led_none, led_more, led_here, led_waits, led_idle}
 use Rattle.sock_core.proofs.Paces.{calm_paced, ending_calm}
-use Rattle.sock_core.proofs.Rounding.{client_rests, fewer_left}
+use Rattle.sock_core.proofs.Resting.{Rests, rest_anyhow, idle_core}
+use Rattle.sock_core.proofs.Rounding.{IsStill, fewer_left}
+use Rattle.sock_core.proofs.Seatings.{seat_at, client_set}
+use Rattle.sock_core.proofs.Sounds.{none_of, nothing_held}
 
 -- ## Programs that ask no link
 
@@ -64,57 +81,185 @@ ending_none : (os : List ℕ) → AsksNone (ending_of os)
 ending_none [] = tt
 ending_none (o ∷ os) = end_none o (ending_of os) (ending_none os)
 
+next_ending : (os : List ℕ) → next_step (ending_of os) ≡ ending_of os
+next_ending [] = refl
+next_ending (o ∷ os) = refl
+
+ending_says : (w : List Retry) (opens : List ℕ) (os : List (Option Outcome)) → os ≡ said (resolved w (ending_of opens)) os
+ending_says w [] os = refl
+ending_says w (o ∷ opens) os = refl
+
+-- ## A machine by its core
+
+-- the core of a machine and its plans, of which both rules hold with these views
+sound_as : (fresh : MachineState) (p : Plan) (q : IdPlan) (c : Core) (took : Taken) (gave : Given) → fresh.plan ≡ p → fresh.ids.plan ≡ q → core_with fresh took gave ≡ c → (old : MachineState) (s : IsSoundMachine old) →
+    Agrees fresh.links took → AgreesGave fresh.links gave → IsAhead c → Sound p c s.views → SoundIds p q c s.id_views → (left : ℕ) → Lasts p c s.views left → left + 20 * length fresh.opens < MOST_LEFT → IsSoundMachine fresh
+sound_as fresh p q c took gave plan id_plan core old s agrees agrees_gave ahead sound ids left lasts bounded = record {
+  took = took;
+  gave = gave;
+  agrees = agrees;
+  agrees_gave = agrees_gave;
+  ahead = subst IsAhead (sym core) ahead;
+  views = s.views;
+  sound = subst (λ (x : Plan). Sound x (core_with fresh took gave) s.views) (sym plan) (subst (λ (x : Core). Sound p x s.views) (sym core) sound);
+  id_views = s.id_views;
+  ids = subst (λ (x : Plan). SoundIds x fresh.ids.plan (core_with fresh took gave) s.id_views) (sym plan)
+      (subst (λ (x : IdPlan). SoundIds p x (core_with fresh took gave) s.id_views) (sym id_plan) (subst (λ (x : Core). SoundIds p q x s.id_views) (sym core) ids));
+  few = s.few;
+  left = left;
+  lasts = subst (λ (x : Plan). Lasts x (core_with fresh took gave) s.views left) (sym plan) (subst (λ (x : Core). Lasts p x s.views left) (sym core) lasts);
+  bounded = bounded;
+}
+
+-- ## Seat 0
+
+-- a seat without a step left has no link in hand
+rests_none : (m : MachineState) → length m.links.holders ≡ m.plan.links → ∥ IsSoundMachine m ∥₁ → (i : ℕ) (seat : SeatData) → get_elem? m.seats i ≡ core.some seat → Rests m i → HasNone m.links i
+rests_none m many sound i seat at rest = ∥∥₁_elim sound (hlevel props) by_sound
+  where
+    by_sound : IsSoundMachine m → HasNone m.links i
+    by_sound s = let there = seat_at m s.took i seat at in
+        let v = view_there (core_with m s.took s.gave).seats s.views i _ s.sound.each there (get_elem? s.views i) refl in let old = s.sound.seats i _ v.0 there v.1 in
+        let nothing = subst (GoesOn m.plan v.0) (seat_rests (core_with m s.took s.gave) s.ahead i (rest s.took s.gave) _ there) old.goes_on in
+        none_of m.links s.took i m.plan.links many (nothing_held _ v.0.hands nothing.hands (held_in_hand _ v.0.rights v.0.hands nothing.quiet.rights old.hand))
+
 -- ## The ending begins
 
-module _ (old fresh : MachineState) (room : ℕ) (is : IsMachine old room) (rest : (took : Taken) → IsAtRest (core_with old took) 0) (w : BeganEnding old fresh) where
-  first_seat : (s : SeatData) × (get_elem? old.seats 0 ≡ core.some s)
-  first_seat = at_some old.seats 0 is.some_seat
+module _ (old fresh : MachineState) (room : ℕ) (is : IsMachine old room) (enough : old.short ≡ false) (rest : FirstRests old) (w : BeganEnding old fresh) where
+  own_waiting : w.seat.waiting ≡ []
+  own_waiting = rest.1 w.seat w.at
 
-  pub began_core : (took : Taken) → core_with fresh took ≡ ending_by old.opens (core_with old took)
-  began_core took = ends_core old fresh w.seat' w.plan w.words w.letters w.links w.outcomes w.seats w.program (rests_none old (is_sized old room is) is.sound 0 first_seat.0 first_seat.1 rest) took
+  same_sizes : machine_sizes fresh ≡ machine_sizes old
+  same_sizes = λ k. record { slots = (w.plan k).slots; requests = (w.plan k).requests; ids = (w.ids k).plan.slots }
 
-  began_paced : ArePaced old.plan old.links old.seats → ArePaced fresh.plan fresh.links fresh.seats
-  began_paced paced j s there = subst (λ (q : Plan). IsPaced fresh.links.outs (seat_program (sizes_of q) s)) (sym w.plan) (subst (λ (l : LinksData). IsPaced l.outs (seat_program (sizes_of old.plan) s)) (sym w.links) (⊎_elim
-      (λ t. subst (λ (x : SeatData). IsPaced old.links.outs (seat_program (sizes_of old.plan) x)) t.1 (subst (IsPaced old.links.outs) (sym w.program) (calm_paced old.links.outs _ (ending_calm old.opens))))
+  holders : length old.links.holders ≡ old.plan.links
+  holders = ∥∥₁_elim is.sizes (hlevel props) (λ h. h.holders_are)
+
+  few : length old.seats ≤ READERS
+  few = ∥∥₁_elim is.sizes (hlevel props) (λ h. h.few_seats)
+
+  free : HasNone old.links 0
+  free = rests_none old holders (is.sound enough) 0 w.seat w.at rest.0
+
+  goes : Goes (table_of old) (table_of fresh) w.seat w.seat' (ending_of old.opens)
+  goes = record {
+    base = record { plan = w.plan; id_plan = λ k. (w.ids k).plan; calls = w.calls; ending = w.ending; inns = λ k. (w.links k).inns };
+    program = w.program ∙ next_ending old.opens ∙ sym (ending_resolved w.seat.waiting old.opens).0;
+    waiting = w.waiting ∙ sym (ending_resolved w.seat.waiting old.opens).1;
+    told = w.outcomes ∙ ending_says w.seat.waiting old.opens old.outcomes;
+  }
+
+  pub began_core : (took : Taken) (gave : Given) → core_with fresh took gave ≡ ending_by old.opens (core_with old took gave)
+  began_core took gave =
+      client_set old fresh 0 w.seat w.seat' (ending_of old.opens) took took gave (hand_of old.links old.plan.links took 0) (homes_of old.links old.plan old.letters took) old.words w.at w.seats w.readers few goes w.words
+      (none_changes old.plan 0 old.links fresh.links old.letters fresh.letters took _ w.links (ap (λ ls. homes_of old.links old.plan ls took) w.letters))
+      ∙ ap (λ (x : List Home). with_seat 0 (ending_of old.opens) x old.words (homes_of old.links old.plan old.letters took) (record (core_with old took gave) { calls = calls_with fresh.ids (waiting_of old.seats old.readers) (given_by old.plan.links gave) old.ending }))
+          (hand_none old.links took old.plan.links 0 free)
+      ∙ ap (λ (ids : SlotState). with_seat 0 (ending_of old.opens) [] old.words (homes_of old.links old.plan old.letters took) (record (core_with old took gave) { calls = calls_with ids (waiting_of old.seats old.readers) (given_by old.plan.links gave) old.ending })) w.ids
+
+  began_sizes : HasSizes old → HasSizes fresh
+  began_sizes h = record {
+    letters_are = ap length w.letters ∙ h.letters_are ∙ ap (λ (q : Plan). q.requests) (sym w.plan);
+    holders_are = ap (λ (l : LinksData). length l.holders) w.links ∙ h.holders_are ∙ links_are;
+    nexts_are = ap (λ (l : LinksData). length l.nexts) w.links ∙ h.nexts_are ∙ links_are;
+    outs_are = ap (λ (l : LinksData). length l.outs) w.links ∙ h.outs_are ∙ links_are;
+    inns_are = ap (λ (l : LinksData). length l.inns) w.links ∙ h.inns_are ∙ links_are;
+    ends_are = ap length w.ends ∙ h.ends_are ∙ links_are;
+    seats_are = many ∙ h.seats_are ∙ ap (λ (q : Plan). q.seats) (sym w.plan);
+    some_seat = let b = h.some_seat in omega (arith, many, b);
+    few_seats = let b = h.few_seats in omega (arith, many, b);
+    readers_are = ap length w.readers ∙ h.readers_are ∙ links_are;
+    few_readers = let a = ap length w.readers in let b = h.few_readers in omega (arith, a, b);
+    slots_are = ap length w.calls ∙ h.slots_are ∙ ap (λ (x : SlotState). x.plan.slots) (sym w.ids);
+    few_slots = let a = ap (λ (x : SlotState). x.plan.slots) w.ids in let b = h.few_slots in omega (arith, a, b);
+    operations_are = ap (λ (x : SlotState). x.plan.operations) w.ids ∙ h.operations_are ∙ ap (λ (q : Plan). q.operations) (sym w.plan);
+    calls_are = subst (λ (x : SlotState). AllByRecursion (λ o. o < x.plan.operations) fresh.calls) (sym w.ids) (subst (λ (cs : List ℕ). AllByRecursion (λ o. o < old.ids.plan.operations) cs) (sym w.calls) h.calls_are);
+    id_seats_are = ap (λ (x : SlotState). x.plan.seats) w.ids ∙ h.id_seats_are ∙ ap (λ (rs : List ReaderData). READERS + length rs) (sym w.readers);
+    opens_are = subst (λ (os : List ℕ). AllByRecursion (λ o. o < fresh.plan.operations) os) (sym w.opens) tt;
+    few_opens = let a = ap length w.opens in omega (arith, a);
+    few_outcomes = let a = ap length w.outcomes in let b = h.few_outcomes in omega (arith, a, b);
+  }
+    where
+      links_are : old.plan.links ≡ fresh.plan.links
+      links_are = ap (λ (q : Plan). q.links) (sym w.plan)
+
+      many : length fresh.seats ≡ length old.seats
+      many = ap length w.seats ∙ length-set old.seats 0 w.seat'
+
+  began_sound : HasSizes old → IsSoundMachine old → IsSoundMachine fresh
+  began_sound h s = let c = core_with old s.took s.gave in let b = s.bounded in let none_ = ap length w.opens in let narrow = h.few_slots in
+      sound_as fresh old.plan old.ids.plan (ending_by old.opens c) s.took s.gave w.plan (ap (λ (x : SlotState). x.plan) w.ids) (began_core s.took s.gave) old s
+      (subst (λ (l : LinksData). Agrees l s.took) (sym w.links) s.agrees) (subst (λ (l : LinksData). AgreesGave l s.gave) (sym w.links) s.agrees_gave)
+      (seat_ahead c 0 (ending_of old.opens) [] c.words c.homes s.ahead)
+      (ending_sound old.plan c s.views old.opens h.opens_are s.ahead (rest.0 s.took s.gave) s.sound)
+      (ending_ids old.plan old.ids.plan (omega (arith, narrow)) h.operations_are c s.id_views old.opens (λ seat at. seat_rests c s.ahead 0 (rest.0 s.took s.gave) seat at) s.ids)
+      (s.left + 20 * length old.opens) (ending_lasts old.plan c s.views old.opens s.left s.lasts) (omega (arith, b, none_))
+
+  began_paced : ArePaced (machine_sizes old) old.links old.seats → ArePaced (machine_sizes fresh) fresh.links fresh.seats
+  began_paced paced j s there = subst (λ (z : Sizes). IsPaced fresh.links.outs (seat_program z s)) (sym same_sizes) (subst (λ (l : LinksData). IsPaced l.outs (seat_program (machine_sizes old) s)) (sym w.links) (⊎_elim
+      (λ t. subst (λ (x : SeatData). IsPaced old.links.outs (seat_program (machine_sizes old) x)) t.1 (subst (IsPaced old.links.outs) (sym w.program) (calm_paced old.links.outs _ (ending_calm old.opens))))
       (λ t. paced j s t.1)
       (at_set old.seats 0 j w.seat' s (sym (ap (λ (ss : List SeatData). get_elem? ss j) w.seats) ∙ there))))
 
   pub began_keeps : IsMachine fresh room
   began_keeps = record {
-    sound = ∥∥₁_elim is.opens_are (hlevel props) (λ all. ∥∥₁_elim is.sound (hlevel props) (λ s.
-        ∣ ends_sound old fresh s w.plan w.opens (subst (λ (l : LinksData). Agrees l s.took) (sym w.links) s.agrees) (began_core s.took) all (rest s.took) ∣₁));
-    paced = ∥∥₁_elim is.paced (hlevel props) (λ paced. ∣ began_paced paced ∣₁);
-    letters_are = ap length w.letters ∙ is.letters_are ∙ ap (λ (q : Plan). q.requests) (sym w.plan);
-    holders_are = ap (λ (l : LinksData). length l.holders) w.links ∙ is.holders_are ∙ ap (λ (q : Plan). q.links) (sym w.plan);
-    nexts_are = ap (λ (l : LinksData). length l.nexts) w.links ∙ is.nexts_are ∙ ap (λ (q : Plan). q.links) (sym w.plan);
-    outs_are = ap (λ (l : LinksData). length l.outs) w.links ∙ is.outs_are ∙ ap (λ (q : Plan). q.links) (sym w.plan);
-    seats_are = ap length w.seats ∙ length-set old.seats 0 w.seat' ∙ is.seats_are ∙ ap (λ (q : Plan). q.seats) (sym w.plan);
-    some_seat = let a = ap length w.seats ∙ length-set old.seats 0 w.seat' in let b = is.some_seat in omega (arith, a, b);
-    opens_are = subst (λ (os : List ℕ). ∥ AllByRecursion (λ o. o < fresh.plan.operations) os ∥₁) (sym w.opens) (∣ tt ∣₁);
+    sizes = ∥∥₁_elim is.sizes (hlevel props) (λ h. ∣ began_sizes h ∣₁);
     has_room = let a = ap length w.outcomes in let b = is.has_room in omega (arith, a, b);
-    few_outcomes = let a = ap length w.outcomes in let b = is.few_outcomes in omega (arith, a, b);
+    sound = λ _. ∥∥₁_elim is.sizes (hlevel props) (λ h. ∥∥₁_elim (is.sound enough) (hlevel props) (λ s. ∣ began_sound h s ∣₁));
+    paced = λ _. ∥∥₁_elim (is.paced enough) (hlevel props) (λ paced. ∣ began_paced paced ∣₁);
   }
 
   pub began_plain : IsPlain fresh
   began_plain seat at =
-      let same : w.seat' ≡ seat = core.some-injective w.seat' seat (sym (set_here old.seats 0 w.seat' is.some_seat) ∙ sym (ap (λ (ss : List SeatData). get_elem? ss 0) w.seats) ∙ at) in
-      subst (λ (p : Plan). AsksNone (seat_program (sizes_of p) seat)) (sym w.plan) (subst (λ (s : SeatData). AsksNone (seat_program (sizes_of old.plan) s)) same
-      (subst AsksNone (sym w.program) (next_none (ending_of old.opens) (ending_none old.opens))))
+      let inside : 0 < length old.seats = place_inside old.seats 0 w.seat w.at in
+      let same : w.seat' ≡ seat = core.some-injective w.seat' seat (sym (set_here old.seats 0 w.seat' inside) ∙ sym (ap (λ (ss : List SeatData). get_elem? ss 0) w.seats) ∙ at) in (
+        subst (λ (z : Sizes). AsksNone (seat_program z seat)) (sym same_sizes) (subst (λ (s : SeatData). AsksNone (seat_program (machine_sizes old) s)) same
+            (subst AsksNone (sym (w.program ∙ next_ending old.opens)) (ending_none old.opens))),
+        ap (λ (s : SeatData). s.waiting) (sym same) ∙ w.waiting ∙ own_waiting,
+      )
+
+-- ## The run is ending
+
+told_machine : (m : MachineState) → IsSoundMachine m → IsSoundMachine (told_ending m)
+told_machine m s = let c = core_with m s.took s.gave in
+    sound_as (told_ending m) m.plan m.ids.plan (is_ending c) s.took s.gave refl refl refl m s s.agrees s.agrees_gave s.ahead (told_sound m.plan c s.views s.sound) (told_ids m.plan m.ids.plan c s.id_views s.ids) s.left (told_lasts m.plan c s.views s.left s.lasts) s.bounded
+
+told_sizes : (m : MachineState) → HasSizes m → HasSizes (told_ending m)
+told_sizes m h = record {
+  letters_are = h.letters_are;
+  holders_are = h.holders_are;
+  nexts_are = h.nexts_are;
+  outs_are = h.outs_are;
+  inns_are = h.inns_are;
+  ends_are = h.ends_are;
+  seats_are = h.seats_are;
+  some_seat = h.some_seat;
+  few_seats = h.few_seats;
+  readers_are = h.readers_are;
+  few_readers = h.few_readers;
+  slots_are = h.slots_are;
+  few_slots = h.few_slots;
+  operations_are = h.operations_are;
+  calls_are = h.calls_are;
+  id_seats_are = h.id_seats_are;
+  opens_are = h.opens_are;
+  few_opens = h.few_opens;
+  few_outcomes = h.few_outcomes;
+}
+
+pub ending_keeps : (m : MachineState) (room : ℕ) → IsMachine m room → IsMachine (told_ending m) room
+ending_keeps m room is = record {
+  sizes = ∥∥₁_elim is.sizes (hlevel props) (λ h. ∣ told_sizes m h ∣₁);
+  has_room = is.has_room;
+  sound = λ enough. ∥∥₁_elim (is.sound enough) (hlevel props) (λ s. ∣ told_machine m s ∣₁);
+  paced = is.paced;
+}
 
 -- ## By a tick's answer
 
 -- so many ticks that move are left at most
-pub lasts_most : (m : MachineState) (room : ℕ) → IsMachine m room → LastsAtMost m (MOST_LEFT - 1)
-lasts_most m room is = ∥∥₁_elim is.sound (hlevel props) (λ s. let h = s.bounded in ∣ (s, omega (arith, h)) ∣₁)
-
-module _ {E : Type 0} (a b : MachineState) (i : ℕ) where
-  pub tick_rests : (r : Result Tick E) → i ≢ 0 → IfOk r (λ tick. Ticked a b i tick) → OnErr r (b ≡ a) → ((took : Taken) → IsAtRest (core_with a took) 0) → (took : Taken) → IsAtRest (core_with b took) 0
-  tick_rests (Ok tick) other t same rest = client_rests a b i tick other t rest
-  tick_rests (Err e) other t same rest = subst (λ (m : MachineState). (took : Taken) → IsAtRest (core_with m took) 0) (sym same) rest
-
-  pub tick_same : (r : Result Tick E) → IfOk r (λ tick. Ticked a b i tick) → OnErr r (b ≡ a) → SameTable a b × SameLinks a b
-  tick_same (Ok tick) t same = (t.0, t.1)
-  tick_same (Err e) t same = subst (λ (m : MachineState). SameTable a m × SameLinks a m) (sym same) (same_table_none a, same_links_none a)
+pub lasts_most : (m : MachineState) (room : ℕ) → IsMachine m room → m.short ≡ false → LastsAtMost m (MOST_LEFT - 1)
+lasts_most m room is enough = (enough, ∥∥₁_elim (is.sound enough) (hlevel props) (λ s. let h = s.bounded in ∣ (s, omega (arith, h)) ∣₁))
 
 -- what stands in an `Ok`
 pub in_ok : {E : Type 0} (a b : Bool) → (let r : Result Bool E = Ok a in r) ≡ Ok b → a ≡ b
@@ -130,41 +275,38 @@ waits_none p c answer (Do call after) x = refl
 waits_none p c answer (Say o outcome after) x = refl
 waits_none p c answer (Sent o after) x = refl
 waits_none p c answer Rest x = refl
+waits_none p c answer (Retries requests after) x = refl
 waits_none p c answer _ x = absurd x
 
-plain_waits : (m : MachineState) → IsPlain m → (took : Taken) (i : ℕ) (answer : Answer) → i ≡ 0 → waits m.plan (core_with m took) (record { seat = i; answer = answer }) ≡ false
-plain_waits m plain took i answer zero_ = subst (λ j. waits m.plan (core_with m took) (record { seat = j; answer = answer }) ≡ false) (sym zero_) (by_first m.seats plain)
+plain_waits : (m : MachineState) → IsPlain m → 0 < length m.seats → (took : Taken) (gave : Given) (i : ℕ) (answer : Answer) → i ≡ 0 → waits m.plan (core_with m took gave) (record { seat = i; answer = answer }) ≡ false
+plain_waits m plain some_ took gave i answer zero_ = subst (λ j. waits m.plan (core_with m took gave) (record { seat = j; answer = answer }) ≡ false) (sym zero_)
+    (by_first (at_some m.seats 0 some_))
   where
-    by_first : (seats : List SeatData) → ((seat : SeatData) → get_elem? seats 0 ≡ core.some seat → AsksNone (seat_program (sizes_of m.plan) seat)) →
-        elim (get_elem? (seats_with m.plan m.links took 0 seats) 0) as (λ o. Bool) [ core.none ↦ false | core.some s ↦ waits_at m.plan (core_with m took) answer s.program ] ≡ false
-    by_first [] each = refl
-    by_first (s ∷ ss) each = waits_none m.plan (core_with m took) answer (seat_program (sizes_of m.plan) s) (each s refl)
+    by_first : (s : SeatData) × (get_elem? m.seats 0 ≡ core.some s) → waits m.plan (core_with m took gave) (record { seat = 0; answer = answer }) ≡ false
+    by_first first = ap (λ (o : core.Option SeatState). elim o as (λ o. Bool) [ core.none ↦ false | core.some s ↦ waits_at m.plan (core_with m took gave) answer s.program ]) (seat_at m took 0 first.0 first.1)
+        ∙ waits_none m.plan (core_with m took gave) answer (seat_program (machine_sizes m) first.0) (plain first.0 first.1).0
 
 -- where a tick of it didn't move it has no step left
-pub plain_rests : (a b : MachineState) (tick : Tick) → IsPlain a → ((kind : Kind) → tick ≡ ticks.Moved kind → ⊥) → Ticked a b 0 tick → (took : Taken) → IsAtRest (core_with b took) 0
-plain_rests a b (ticks.Moved kind) plain still t = absurd (still kind refl)
-plain_rests a b (ticks.Waits what) plain still t = let some_ = some_taken a.links in let w = t.2 some_.0 some_.1 in
-    absurd (true≢false (sym w.is.0 ∙ plain_waits a plain some_.0 w.moment.seat w.moment.answer w.is_of))
-plain_rests a b ticks.Idle plain still t = idle_rests a b 0 t
-
--- ## The whole
-
-pub settled_links : (a b c d : MachineState) → SameLinks a b → c.links ≡ b.links → c.ends ≡ b.ends → SameLinks c d → SameLinks a d
-settled_links a b c d first links ends last = same_links_join a b d first (same_links_join b c d (links_kept b c ends (λ prompt. subst ArePrompt (sym links) prompt)) last)
+pub plain_rests : (a b : MachineState) (tick : Tick) (n : ℕ) → IsPlain a → 0 < length a.seats → LastsAtMost a n → IsStill tick → Ticked a b 0 tick → Rests b 0
+plain_rests a b (ticks.Moved kind) n plain some_ lasts still t took gave = absurd (still kind refl)
+plain_rests a b (ticks.Waits what) n plain some_ lasts still t took gave = ∥∥₁_elim lasts.1 (hlevel props) (λ s. let w = t.2 s.0.took s.0.gave s.0.agrees s.0.agrees_gave in
+    absurd (true≢false (sym w.is.0 ∙ plain_waits a plain some_ s.0.took s.0.gave w.moment.seat w.moment.answer w.is_of)))
+plain_rests a b ticks.Idle n plain some_ lasts still t took gave = ∥∥₁_elim lasts.1 (hlevel props) (λ s. let w = t.2 s.0.took s.0.gave s.0.agrees s.0.agrees_gave in
+    rest_anyhow b w.follows.later took w.follows.later_gave gave 0 (subst (λ (d : Core). IsAtRest d 0) (sym (idle_core a b 0 s.0.took s.0.gave w)) (subst (IsAtRest (core_with a s.0.took s.0.gave)) w.is_of w.is)))
 
 -- ## Up to a step of a kind
 
 pub record PassedSoFar (m fresh : MachineState) (seat : ℕ) (kind : Kind) (count : ℕ) : Type 0 where
   pub passed : Passed m fresh seat kind
-  pub rest : (took : Taken) → IsAtRest (core_with fresh took) 0
+  pub rest : FirstRests fresh
   pub below : count < MOST_LEFT
   pub left : LastsAtMost fresh (MOST_LEFT - 1 - count)
 
-pub passed_none : (m : MachineState) (seat : ℕ) (kind : Kind) → ((took : Taken) → IsAtRest (core_with m took) 0) → LastsAtMost m (MOST_LEFT - 1) → PassedSoFar m m seat kind 0
+pub passed_none : (m : MachineState) (seat : ℕ) (kind : Kind) → FirstRests m → LastsAtMost m (MOST_LEFT - 1) → PassedSoFar m m seat kind 0
 passed_none m seat kind rest left = record { passed = led_none m seat kind; rest = rest; below = omega arith; left = left }
 
 module _ (a b c : MachineState) (seat : ℕ) (kind : Kind) (count : ℕ) (so_far : PassedSoFar a b seat kind count) where
-  pub passed_more : (tick : Tick) → IsOther tick kind → Ticked b c seat tick → Leaves tick b c → ((took : Taken) → IsAtRest (core_with c took) 0) → PassedSoFar a c seat kind (count + 1)
+  pub passed_more : (tick : Tick) → IsOther tick kind → Ticked b c seat tick → Leaves tick b c → FirstRests c → PassedSoFar a c seat kind (count + 1)
   passed_more (ticks.Moved found) other t leaves rest = let f = fewer_left b c count leaves so_far.left in record { passed = led_more a b c seat kind found so_far.passed t other; rest = rest; below = f.0; left = f.1 }
   passed_more (ticks.Waits what) other t leaves rest = absurd other
   passed_more ticks.Idle other t leaves rest = absurd other

@@ -1,36 +1,87 @@
 -- A tick of a seat, by the first step of its program.
-use Rattle.std.proofs.Common.{◌≡◌, refl, ℕ, Bool, true, List, ◌++◌, slice_set, Some, ap, ap₂, sym, ◌∙◌, subst}
+use Rattle.std.proofs.Common.{◌≡◌, refl, ℕ, Bool, true, List, ◌++◌, slice_set, Option, Some, None, ap, ap₂, sym, ◌∙◌, subst}
 use mathlib.Core.Option as core
 use Rattle.sock_words.specs.declared.plain.Plan.{Plan}
 use Rattle.sock_io.specs.declared.link.Put.{Put}
 use Rattle.sock_io.specs.declared.link.Ready.{Ready}
+use Rattle.sock_model.specs.declared.chain.Heading.{Heading}
 use Rattle.sock_model.specs.declared.home.Home.{Home}
 use Rattle.sock_model.specs.Messages.{Letter}
 use Rattle.sock_model.specs.Reads.{message, link_home}
-use Rattle.sock_model.specs.Entries.{slot_of}
-use Rattle.sock_programs.specs.Calls.{Call, LookWord, ReadNext}
+use Rattle.sock_programs.specs.Calls.{Call}
+use Rattle.sock_programs.specs.Asides as asides
+use Rattle.sock_programs.specs.Asides.{Found, Taking}
+use Rattle.sock_programs.specs.Beside.{found_in, calls_after}
+use Rattle.sock_programs.specs.Heads.{Posts, Unlocks, Decides, Locks, Joins, Opens, Reads, Discards}
 use Rattle.sock_programs.specs.Writings.{Puts, Waits, Empties, Walks}
-use Rattle.sock_programs.specs.Programs.{Program, Do, Say, Sent, Rest, TakeMessage, TakeHome, PutHome, PutBytes, AskReady, Write}
-use Rattle.sock_programs.specs.Sends.{heading_of}
-use Rattle.sock_programs.specs.Cores.{Core, SeatState, lies_at, first_of, others_of, link_place, with_seat, stepped}
-use Rattle.sock_programs.specs.Ticks.{Answer, OfPut, OfReady, FitsPut, IsAnswer, fed, with_places, onto_first, with_message, with_link, tick_with}
+use Rattle.sock_programs.specs.Programs.{Program, Do, Say, Sent, Rest, TakeMessage, TakeHome, PutHome, PutBytes, AskReady, Write, Aside, Round, Keep, Retries}
+use Rattle.sock_programs.specs.Cores.{Core, SeatState, word_of, found_at, words_after, word_after, homes_after, hand_after, lies_at, first_of, others_of, link_place, with_seat}
+use Rattle.sock_programs.specs.Ticks.{Answer, OfPut, OfReady, FitsPut, IsAnswer, IsTaken, taken, fed, with_places, onto_first, with_message, with_link, with_found, step_with, tick_with}
 use Rattle.sock_runs.specs.Sound.{first_step}
 use Rattle.sock_io.specs.Link.{OutState}
+use Rattle.call_points.specs.Steps.{after_word, word_behind, with_word}
 use Rattle.seat_points.specs.declared.point.Point.{Point}
 use Rattle.seat_points.specs.declared.point.Point.TheVariants as points
+use Rattle.seat_points.specs.declared.point.SendStep.TheVariants as sends
 use Rattle.seat_points.specs.declared.point.WriteStep.TheVariants as writes
-use Rattle.seat_points.specs.Points.{Around, point_program, PutsHome, Asks, after_word, after_message, after_link, after_home, after_put, after_ready}
-use Rattle.seat_points.specs.Steps.{First, OfCall, OfMessage, OfLink, OfHome, first_in}
+use Rattle.seat_points.specs.declared.point.Author.{Author}
+use Rattle.seat_points.specs.Points.{Around, point_program, heading_by, TakesMessage, TakesLink, PutsHome, PutsPiece, Asks, after_message, after_link, after_home, after_put, after_ready, ready_behind}
+use Rattle.seat_points.specs.Steps.{First, OfCall, OfAside, OfMessage, OfLink, OfHome, first_in}
 use Rattle.seat_points.specs.Steps as kinds
 use Rattle.sock_core.specs.Links.{IsClear, IsPaced}
 
 pub same_some : {A : Type 0} {a b : A} → Some a ≡ Some b → a ≡ b
 same_some e = cc
 
+-- ## The first step
+
 -- the first step of a program is the first of its first round
 pub first_is : (program : Program) → first_in program ≡ kinds.first_of (first_step program)
 first_is (Write w after) = refl
+first_is (Round head next) = refl
 first_is _ = refl
+
+-- and the tick makes it
+pub tick_first : (p : Plan) (i : ℕ) (s : SeatState) (c : Core) (answer : Answer) (program : Program) → tick_with p i s c answer program ≡ step_with p i s c answer (first_step program)
+tick_first p i s c answer (Write w after) = refl
+tick_first p i s c answer (Round head next) = refl
+tick_first p i s c answer _ = refl
+
+pub after_first : (program : Program) (found : ℕ) → after_word program found ≡ word_behind (first_step program) found
+after_first (Write w after) found = refl
+after_first (Round head next) found = refl
+after_first _ found = refl
+
+-- the program of a first step
+abbrev pub IsStep : Program → First → Type 0
+IsStep x (OfCall call) = (next : ℕ → Program) × (x ≡ Do call next)
+IsStep x (OfAside step) = (next : Found step → Program) × (x ≡ Aside step next)
+IsStep x (OfMessage q) = (next : Heading → List ℕ → Program) × (x ≡ TakeMessage q next)
+IsStep x (OfLink k) = (next : ℕ → Program) × (x ≡ TakeHome k next)
+IsStep x (OfHome k n) = (after : Program) × (x ≡ PutHome k n after)
+IsStep x (kinds.OfPut k asked bytes) = (next : Put → Program) × (x ≡ PutBytes k asked bytes next)
+IsStep x (kinds.OfReady k) = (next : Ready → Program) × (x ≡ AskReady k next)
+
+is_step : (x : Program) (first : First) → kinds.first_of x ≡ Some first → IsStep x first
+is_step (Do call next) first e = subst (IsStep (Do call next)) (same_some e) (next, refl)
+is_step (Aside step next) first e = subst (IsStep (Aside step next)) (same_some e) (next, refl)
+is_step (TakeMessage q next) first e = subst (IsStep (TakeMessage q next)) (same_some e) (next, refl)
+is_step (TakeHome k next) first e = subst (IsStep (TakeHome k next)) (same_some e) (next, refl)
+is_step (PutHome k n after) first e = subst (IsStep (PutHome k n after)) (same_some e) (after, refl)
+is_step (PutBytes k asked bytes next) first e = subst (IsStep (PutBytes k asked bytes next)) (same_some e) (next, refl)
+is_step (AskReady k next) first e = subst (IsStep (AskReady k next)) (same_some e) (next, refl)
+is_step (Write w after) first e = cc
+is_step (Round head next) first e = cc
+is_step (Say o outcome next) first e = cc
+is_step (Sent o next) first e = cc
+is_step (Keep r next) first e = cc
+is_step (Retries requests after) first e = cc
+is_step Rest first e = cc
+
+pub step_is : (program : Program) (first : First) → first_in program ≡ Some first → IsStep (first_step program) first
+step_is program first e = is_step (first_step program) first (sym (first_is program) ∙ e)
+
+-- ## Heads
 
 -- links go home, and are asked, at the heads of loops alone
 abbrev pub IsHead : Program → Type 0
@@ -45,144 +96,122 @@ pub head_asks : (a : Around) (p : Point) → Asks p → IsHead (point_program a 
 head_asks a (points.Write w (writes.Ask m)) asks = tt
 head_asks a _ asks = absurd asks
 
-module _ (p : Plan) (i : ℕ) (s : SeatState) (c : Core) where
-  pub word_tick : (answer : Answer) (program : Program) (call : Call) → first_in program ≡ Some (OfCall call) → tick_with p i s c answer program ≡ stepped p i s call (after_word program) c
-  word_tick answer (Do step next) call e = let h : step ≡ call = cc in ap (λ (x : Call). stepped p i s x next c) h
-  word_tick answer (Write (Puts h now heading left taken asked) after) call e =
-      let q : LookWord h.id ≡ call = cc in ap (λ (x : Call). stepped p i s x (after_word (Write (Puts h now heading left taken asked) after)) c) q
-  word_tick answer (Write (Walks h top at after) then_) call e =
-      let q : ReadNext (slot_of at) ≡ call = cc in ap (λ (x : Call). stepped p i s x (after_word (Write (Walks h top at after) then_)) c) q
-  word_tick answer (Write (Waits h now heading left taken) after) call e = cc
-  word_tick answer (Write (Empties h) after) call e = cc
-  word_tick answer (TakeMessage q next) call e = cc
-  word_tick answer (TakeHome k next) call e = cc
-  word_tick answer (PutHome k n after) call e = cc
-  word_tick answer (PutBytes k asked bytes next) call e = cc
-  word_tick answer (AskReady k next) call e = cc
-  word_tick answer (Say o outcome next) call e = cc
-  word_tick answer (Sent o next) call e = cc
-  word_tick answer Rest call e = cc
+-- behind the first step
+abbrev home_behind' : Program → Program
+home_behind' (PutHome j m y) = y
+home_behind' other = other
 
-  pub message_tick : (answer : Answer) (program : Program) (q o : ℕ) (bytes : List ℕ) → first_in program ≡ Some (OfMessage q) → message (λ (home : Home). home) c.homes q ≡ core.some (heading_of o, bytes) →
-      tick_with p i s c answer program ≡ with_seat i (after_message program o bytes) s.hand c.words (slice_set c.homes q core.none) c
-  message_tick answer (TakeMessage r next) q o bytes e at = let h : r ≡ q = cc in
-      ap (λ x. with_message p i s c x (message (λ (home : Home). home) c.homes x) (λ letter. next letter.0 letter.1)) h ∙ ap (λ (x : core.Option Letter). with_message p i s c q x (λ letter. next letter.0 letter.1)) at
-  message_tick answer (Write (Puts h now heading left taken asked) after) q o bytes e at = cc
-  message_tick answer (Write (Walks h top place after) then_) q o bytes e at = cc
-  message_tick answer (Write (Waits h now heading left taken) after) q o bytes e at = cc
-  message_tick answer (Write (Empties h) after) q o bytes e at = cc
-  message_tick answer (Do step next) q o bytes e at = cc
-  message_tick answer (TakeHome k next) q o bytes e at = cc
-  message_tick answer (PutHome k n after) q o bytes e at = cc
-  message_tick answer (PutBytes k asked cs next) q o bytes e at = cc
-  message_tick answer (AskReady k next) q o bytes e at = cc
-  message_tick answer (Say a outcome next) q o bytes e at = cc
-  message_tick answer (Sent a next) q o bytes e at = cc
-  message_tick answer Rest q o bytes e at = cc
+pub home_first : (program : Program) (k n : ℕ) (after : Program) → IsHead program → first_step program ≡ PutHome k n after → after_home program ≡ after
+home_first (Write w x) k n after head e = ap home_behind' e
+home_first _ k n after head e = absurd head
 
-  pub link_tick : (answer : Answer) (program : Program) (k n : ℕ) (took : List ℕ) → first_in program ≡ Some (OfLink k) → link_home (λ (home : Home). home) p c.homes k ≡ core.some (took, n) →
-      tick_with p i s c answer program ≡ with_seat i (after_link program n) (lies_at c.homes (link_place p k) ++ s.hand) c.words (slice_set c.homes (link_place p k) core.none) c
-  link_tick answer (TakeHome j next) k n took e at = let h : j ≡ k = cc in
-      ap (λ x. with_link p i s c x (link_home (λ (home : Home). home) p c.homes x) next) h ∙ ap (λ (x : core.Option (List ℕ × ℕ)). with_link p i s c k x next) at
-  link_tick answer (Write (Puts h now heading left taken asked) after) k n took e at = cc
-  link_tick answer (Write (Walks h top place after) then_) k n took e at = cc
-  link_tick answer (Write (Waits h now heading left taken) after) k n took e at = cc
-  link_tick answer (Write (Empties h) after) k n took e at = cc
-  link_tick answer (Do step next) k n took e at = cc
-  link_tick answer (TakeMessage q next) k n took e at = cc
-  link_tick answer (PutHome j m after) k n took e at = cc
-  link_tick answer (PutBytes j asked bytes next) k n took e at = cc
-  link_tick answer (AskReady j next) k n took e at = cc
-  link_tick answer (Say a outcome next) k n took e at = cc
-  link_tick answer (Sent a next) k n took e at = cc
-  link_tick answer Rest k n took e at = cc
+pub ready_first : (program : Program) (k : ℕ) (next : Ready → Program) (ready : Ready) → IsHead program → first_step program ≡ AskReady k next → after_ready program ready ≡ next ready
+ready_first (Write w x) k next ready head e = ap (λ (p : Program). ready_behind p ready) e
+ready_first _ k next ready head e = absurd head
 
-  abbrev Homed : Program → ℕ → ℕ → Core
-  Homed after k n = with_seat i after (others_of s.hand) c.words (slice_set c.homes (link_place p k) (first_of (onto_first (with_places n) s.hand))) c
+-- messages and links are taken, and pieces put, at no head
+abbrev pub IsBare : Program → Type 0
+IsBare (Write w after) = ⊥
+IsBare (Round head next) = ⊥
+IsBare other = Unit {0}
 
-  pub home_tick : (answer : Answer) (program : Program) (k n : ℕ) → first_in program ≡ Some (OfHome k n) → IsHead program →
-      tick_with p i s c answer program ≡ with_seat i (after_home program) (others_of s.hand) c.words (slice_set c.homes (link_place p k) (first_of (onto_first (with_places n) s.hand))) c
-  home_tick answer (PutHome j m after) k n e head = absurd head
-  home_tick answer (Write (Empties h) after) k n e head = let f : h.link ≡ k = cc in let g : h.places ≡ n = cc in ap₂ (Homed (after_home (Write (Empties h) after))) f g
-  home_tick answer (Write (Puts h now heading left taken asked) after) k n e head = cc
-  home_tick answer (Write (Walks h top place after) then_) k n e head = cc
-  home_tick answer (Write (Waits h now heading left taken) after) k n e head = cc
-  home_tick answer (Do step next) k n e head = cc
-  home_tick answer (TakeMessage q next) k n e head = cc
-  home_tick answer (TakeHome j next) k n e head = cc
-  home_tick answer (PutBytes j asked bytes next) k n e head = cc
-  home_tick answer (AskReady j next) k n e head = cc
-  home_tick answer (Say a outcome next) k n e head = cc
-  home_tick answer (Sent a next) k n e head = cc
-  home_tick answer Rest k n e head = cc
+pub bare_message : (a : Around) (p : Point) → TakesMessage p → IsBare (point_program a p)
+bare_message a (points.Send s (sends.TakeMessage q own k places)) takes = tt
+bare_message a (points.Write w (writes.TakeMessage next)) takes = tt
+bare_message a (points.Write w (writes.TakeFirst top at)) takes = tt
+bare_message a _ takes = absurd takes
 
-  pub put_tick : (put : Put) (program : Program) (k : ℕ) (asked : Bool) (bytes : List ℕ) → first_in program ≡ Some (kinds.OfPut k asked bytes) →
-      tick_with p i s c (OfPut put) program ≡ with_seat i (after_put program put) (onto_first (fed bytes put) s.hand) c.words c.homes c
-  put_tick put (PutBytes j a bs next) k asked bytes e = let h : bs ≡ bytes = cc in ap (λ x. with_seat i (next put) (onto_first (fed x put) s.hand) c.words c.homes c) h
-  put_tick put (Write (Puts h now heading left taken b) after) k asked bytes e = cc
-  put_tick put (Write (Walks h top place after) then_) k asked bytes e = cc
-  put_tick put (Write (Waits h now heading left taken) after) k asked bytes e = cc
-  put_tick put (Write (Empties h) after) k asked bytes e = cc
-  put_tick put (Do step next) k asked bytes e = cc
-  put_tick put (TakeMessage q next) k asked bytes e = cc
-  put_tick put (TakeHome j next) k asked bytes e = cc
-  put_tick put (PutHome j m after) k asked bytes e = cc
-  put_tick put (AskReady j next) k asked bytes e = cc
-  put_tick put (Say a outcome next) k asked bytes e = cc
-  put_tick put (Sent a next) k asked bytes e = cc
-  put_tick put Rest k asked bytes e = cc
+pub bare_link : (a : Around) (p : Point) → TakesLink p → IsBare (point_program a p)
+bare_link a (points.Send s (sends.TakeHome q own k)) takes = tt
+bare_link a (points.Write w (writes.TakeHome found)) takes = tt
+bare_link a _ takes = absurd takes
 
-  pub ready_tick : (ready : Ready) (program : Program) (k : ℕ) → first_in program ≡ Some (kinds.OfReady k) → IsHead program → tick_with p i s c (OfReady ready) program ≡ with_seat i (after_ready program ready) s.hand c.words c.homes c
-  ready_tick ready (AskReady j next) k e head = absurd head
-  ready_tick ready (Write (Waits h now heading left taken) after) k e head = refl
-  ready_tick ready (Write (Puts h now heading left taken b) after) k e head = cc
-  ready_tick ready (Write (Walks h top place after) then_) k e head = cc
-  ready_tick ready (Write (Empties h) after) k e head = cc
-  ready_tick ready (Do step next) k e head = cc
-  ready_tick ready (TakeMessage q next) k e head = cc
-  ready_tick ready (TakeHome j next) k e head = cc
-  ready_tick ready (PutHome j m after) k e head = cc
-  ready_tick ready (PutBytes j a bs next) k e head = cc
-  ready_tick ready (Say a outcome next) k e head = cc
-  ready_tick ready (Sent a next) k e head = cc
-  ready_tick ready Rest k e head = cc
+pub bare_put : (a : Around) (p : Point) → PutsPiece p → IsBare (point_program a p)
+bare_put a (points.Write w (writes.Put c asked)) puts = tt
+bare_put a _ puts = absurd puts
+
+-- it is its own first step
+pub bare_first : (program : Program) → IsBare program → first_step program ≡ program
+bare_first (Write w after) bare = absurd bare
+bare_first (Round head next) bare = absurd bare
+bare_first _ bare = refl
+
+-- ## A tick
+
+module _ (p : Plan) (i : ℕ) (s : SeatState) (c : Core) (program : Program) where
+  abbrev Ticks : Answer → Core → Type 0
+  Ticks answer d = tick_with p i s c answer program ≡ d
+
+  by_step : (answer : Answer) (x : Program) (d : Core) → first_step program ≡ x → step_with p i s c answer x ≡ d → Ticks answer d
+  by_step answer x d e f = tick_first p i s c answer program ∙ ap (step_with p i s c answer) e ∙ f
+
+  pub word_tick : (answer : Answer) (call : Call) → first_in program ≡ Some (OfCall call) → let found = found_at c.words (word_of p call) in
+      Ticks answer (with_seat i (after_word program found) (hand_after p call c.homes s.hand) (words_after c.words (word_of p call) (word_after call found)) (homes_after p call s.hand c.homes) c)
+  word_tick answer call e = let x = step_is program (OfCall call) e in let found = found_at c.words (word_of p call) in by_step answer (Do call x.0) _ x.1
+      (ap (λ (q : Program). with_seat i q (hand_after p call c.homes s.hand) (words_after c.words (word_of p call) (word_after call found)) (homes_after p call s.hand c.homes) c)
+      (sym (after_first program found ∙ ap (λ (y : Program). word_behind y found) x.1)))
+
+  pub aside_tick : (answer : Answer) (step : asides.Step) (next : Found step → Program) (found : Found step) → first_step program ≡ Aside step next → found_in step c.calls (taken answer) ≡ core.some found →
+      Ticks answer (with_seat i (next found) s.hand c.words c.homes (record c { calls = calls_after step found c.calls }))
+  aside_tick answer step next found e f = by_step answer (Aside step next) _ e (ap (λ (o : core.Option (Found step)). with_found p i s c step o next) f)
+
+  pub message_tick : (answer : Answer) (q : ℕ) (author : Author) (parts bytes : List ℕ) → first_in program ≡ Some (OfMessage q) → IsBare program → message (λ (home : Home). home) c.homes q ≡ core.some (heading_by author parts, bytes) →
+      Ticks answer (with_seat i (after_message program author parts bytes) s.hand c.words (slice_set c.homes q core.none) c)
+  message_tick answer q author parts bytes e bare at = let x = step_is program (OfMessage q) e in by_step answer (TakeMessage q x.0) _ x.1
+      (ap (λ (o : core.Option Letter). with_message p i s c q o (λ letter. x.0 letter.0 letter.1)) at
+      ∙ ap (λ (y : Program). with_seat i y s.hand c.words (slice_set c.homes q core.none) c) (sym (ap (λ (y : Program). after_message y author parts bytes) (sym (bare_first program bare) ∙ x.1))))
+
+  pub link_tick : (answer : Answer) (k n : ℕ) (took : List ℕ) → first_in program ≡ Some (OfLink k) → IsBare program → link_home (λ (home : Home). home) p c.homes k ≡ core.some (took, n) →
+      Ticks answer (with_seat i (after_link program n) (lies_at c.homes (link_place p k) ++ s.hand) c.words (slice_set c.homes (link_place p k) core.none) c)
+  link_tick answer k n took e bare at = let x = step_is program (OfLink k) e in by_step answer (TakeHome k x.0) _ x.1
+      (ap (λ (o : core.Option (List ℕ × ℕ)). with_link p i s c k o x.0) at
+      ∙ ap (λ (y : Program). with_seat i y (lies_at c.homes (link_place p k) ++ s.hand) c.words (slice_set c.homes (link_place p k) core.none) c) (sym (ap (λ (y : Program). after_link y n) (sym (bare_first program bare) ∙ x.1))))
+
+  pub home_tick : (answer : Answer) (k n : ℕ) → first_in program ≡ Some (OfHome k n) → IsHead program →
+      Ticks answer (with_seat i (after_home program) (others_of s.hand) c.words (slice_set c.homes (link_place p k) (first_of (onto_first (with_places n) s.hand))) c)
+  home_tick answer k n e head = let x = step_is program (OfHome k n) e in by_step answer (PutHome k n x.0) _ x.1
+      (ap (λ (y : Program). with_seat i y (others_of s.hand) c.words (slice_set c.homes (link_place p k) (first_of (onto_first (with_places n) s.hand))) c) (sym (home_first program k n x.0 head x.1)))
+
+  pub put_tick : (put : Put) (k : ℕ) (asked : Bool) (bytes : List ℕ) → first_in program ≡ Some (kinds.OfPut k asked bytes) → IsBare program →
+      Ticks (OfPut put) (with_seat i (after_put program put) (onto_first (fed bytes put) s.hand) c.words c.homes c)
+  put_tick put k asked bytes e bare = let x = step_is program (kinds.OfPut k asked bytes) e in by_step (OfPut put) (PutBytes k asked bytes x.0) _ x.1
+      (ap (λ (y : Program). with_seat i y (onto_first (fed bytes put) s.hand) c.words c.homes c) (sym (ap (λ (y : Program). after_put y put) (sym (bare_first program bare) ∙ x.1))))
+
+  pub ready_tick : (ready : Ready) (k : ℕ) → first_in program ≡ Some (kinds.OfReady k) → IsHead program → Ticks (OfReady ready) (with_seat i (after_ready program ready) s.hand c.words c.homes c)
+  ready_tick ready k e head = let x = step_is program (kinds.OfReady k) e in by_step (OfReady ready) (AskReady k x.0) _ x.1
+      (ap (λ (y : Program). with_seat i y s.hand c.words c.homes c) (sym (ready_first program k x.0 ready head x.1)))
 
 -- ## Answers
 
 -- what the link may answer in a tick of this first step
 abbrev pub AnswersFirst : First → Answer → Type 0
+AnswersFirst (OfAside (asides.TakeBytes k room)) answer = IsTaken room answer
 AnswersFirst (kinds.OfPut k asked bytes) answer = (put : Put) × (answer ≡ OfPut put) × FitsPut asked bytes put
 AnswersFirst (kinds.OfReady k) answer = (ready : Ready) × (answer ≡ OfReady ready)
 AnswersFirst other answer = Unit {0}
 
+answers_aside : (step : asides.Step) (next : Found step → Program) (answer : Answer) → AnswersFirst (OfAside step) answer → IsAnswer (Aside step next) answer
+answers_aside (asides.TakeBytes k room) next answer a = a
+answers_aside _ next answer a = tt
+
 pub answers_first : (program : Program) (first : First) (answer : Answer) → first_in program ≡ Some first → AnswersFirst first answer → IsAnswer program answer
 answers_first (PutBytes k asked bytes next) first answer e a = subst (λ (f : First). AnswersFirst f answer) (sym (same_some e)) a
 answers_first (AskReady k next) first answer e a = subst (λ (f : First). AnswersFirst f answer) (sym (same_some e)) a
+answers_first (Aside step next) first answer e a = answers_aside step next answer (subst (λ (f : First). AnswersFirst f answer) (sym (same_some e)) a)
 answers_first (Write (Waits h now heading left taken) after) first answer e a = subst (λ (f : First). AnswersFirst f answer) (sym (same_some e)) a
 answers_first (Write (Puts h now heading left taken asked) after) first answer e a = tt
 answers_first (Write (Walks h top place after) then_) first answer e a = tt
 answers_first (Write (Empties h) after) first answer e a = tt
+answers_first (Round (Reads r) next) first answer e a = subst (λ (f : First). AnswersFirst f answer) (sym (same_some e)) a
+answers_first (Round (Discards k total) next) first answer e a = subst (λ (f : First). AnswersFirst f answer) (sym (same_some e)) a
+answers_first (Round (Posts id x w) next) first answer e a = tt
+answers_first (Round (Unlocks j w advance) next) first answer e a = tt
+answers_first (Round (Decides id asked w x) next) first answer e a = tt
+answers_first (Round (Locks j sought w) next) first answer e a = tt
+answers_first (Round (Joins id) next) first answer e a = tt
+answers_first (Round (Opens o) next) first answer e a = tt
 answers_first _ first answer e a = tt
 
 -- a put is as its seat is paced
-abbrev PacedFirst : List OutState → First → Type 0
-PacedFirst outs (kinds.OfPut k asked bytes) = asked ≡ true → IsClear outs k
-PacedFirst outs other = Unit {0}
-
-pub paced_first : (outs : List OutState) (program : Program) (k : ℕ) (asked : Bool) (bytes : List ℕ) → first_in program ≡ Some (kinds.OfPut k asked bytes) → IsPaced outs program → asked ≡ true → IsClear outs k
-paced_first outs program k asked bytes e paced = of_first program (kinds.OfPut k asked bytes) e paced
-  where
-    of_first : (program : Program) (first : First) → first_in program ≡ Some first → IsPaced outs program → PacedFirst outs first
-    of_first (PutBytes j a bs next) first e paced = subst (PacedFirst outs) (same_some e) paced
-    of_first (Write (Waits h now heading left taken) after) first e paced = subst (PacedFirst outs) (same_some e) tt
-    of_first (Write (Puts h now heading left taken b) after) first e paced = subst (PacedFirst outs) (same_some e) tt
-    of_first (Write (Walks h top place after) then_) first e paced = subst (PacedFirst outs) (same_some e) tt
-    of_first (Write (Empties h) after) first e paced = subst (PacedFirst outs) (same_some e) tt
-    of_first (Do step next) first e paced = subst (PacedFirst outs) (same_some e) tt
-    of_first (TakeMessage q next) first e paced = subst (PacedFirst outs) (same_some e) tt
-    of_first (TakeHome j next) first e paced = subst (PacedFirst outs) (same_some e) tt
-    of_first (PutHome j m after) first e paced = subst (PacedFirst outs) (same_some e) tt
-    of_first (AskReady j next) first e paced = subst (PacedFirst outs) (same_some e) tt
-    of_first (Say a outcome next) first e paced = cc
-    of_first (Sent a next) first e paced = cc
-    of_first Rest first e paced = cc
+pub paced_first : (outs : List OutState) (program : Program) (k : ℕ) (asked : Bool) (bytes : List ℕ) → first_in program ≡ Some (kinds.OfPut k asked bytes) → IsBare program → IsPaced outs program → asked ≡ true → IsClear outs k
+paced_first outs program k asked bytes e bare paced = let x = step_is program (kinds.OfPut k asked bytes) e in subst (IsPaced outs) (sym (bare_first program bare) ∙ x.1) paced

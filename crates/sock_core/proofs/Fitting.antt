@@ -23,7 +23,7 @@ use Rattle.seat_points.specs.Steps.{First, OfCall, OfMessage, OfLink, OfHome, st
 use Rattle.seat_points.specs.Steps as kinds
 use Rattle.seat_points.proofs.StepFacts.{FitsSizes, goes_by_word, may_find, is_within}
 use Rattle.sock_core.specs.declared.letter.Letter.{Letter}
-use Rattle.sock_core.specs.Seats.{SeatData, around, seat_program}
+use Rattle.client_seats.specs.Seats.{SeatData, around, seat_program}
 use Rattle.sock_core.specs.Links.{LinksData, IsPaced, is_done, letter_home}
 use Rattle.sock_core.specs.Machines.{MachineState, IsSoundMachine, ArePaced, table_of, core_with}
 use Rattle.sock_core.specs.Steps.{IsSized, IsOfLinks, NextIs, Fits, StepFits}

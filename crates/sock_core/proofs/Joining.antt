@@ -1,51 +1,61 @@
 -- Runs of a machine, one behind another; and more ticks of a seat that has no step left.
-use Rattle.std.proofs.Common.{◌≡◌, ℕ, zero, suc, ◌+◌, List, [], ◌∷◌, ◌++◌, ◌==◌, map, filter, length, get_or, replicate, refl, sym, ap, ◌∙◌, subst, ⊎_elim, append-nil, append_assoc, arith}
+use Rattle.std.proofs.Common.{◌≡◌, ℕ, zero, suc, ◌+◌, ◌⊎◌, inl, inr, Bool, true, List, [], ◌∷◌, ◌++◌, ◌==◌, map, filter, length, get_or, replicate, refl, sym, ap, ap₂, ◌∙◌, subst, ⊎_elim, append-nil, append_assoc, arith}
 use Rattle.std.proofs.lemmas.List.Sums.{fold-append}
 use Rattle.std.proofs.lemmas.List.Elements.{Contains-append_cases}
 use Rattle.std.proofs.lemmas.Option.{none-some, same_Some, slice_get_within, slice_get-get_or}
 use Rattle.std.specs.List.{AllByRecursion}
 use Rattle.std.specs.Prelude as std
-use Rattle.std.specs.Prelude.{slice_get, Some, None, IfSome, unwrap_or}
+use Rattle.std.specs.Prelude.{slice_get, Some, None, IfSome, unwrap_or, option_map}
 use mathlib.Core.Option.{Option, some, none}
 use lib.ListN.{get_elem?}
 use Rattle.sock_words.specs.declared.kind.Kind.{Kind}
 use Rattle.sock_words.specs.declared.plain.Plan.{Plan}
 use Rattle.brpc_model.specs.Link.{LinkEnd, HalfAnswer}
-use Rattle.sock_io.specs.Link.{OutState, more_told}
-use Rattle.whole_runs.specs.Heard.{as_told, heard_at, heard_in}
-use Rattle.whole_runs.proofs.HeardRuns.{told_append, heard_on}
-use Rattle.sock_programs.specs.Programs.{Program, Say, Sent, Rest}
+use Rattle.sock_io.specs.Link.{OutState, InState, more_told}
+use Rattle.whole_runs.specs.Answers.{said_at}
+use Rattle.whole_runs.specs.Heard.{as_told, as_taken, taken_link, heard_at, heard_in, taken_at, taken_in}
+use Rattle.whole_runs.proofs.HeardRuns.{told_append, taken_append, heard_on, taken_on}
+use Rattle.sock_programs.specs.Asides.{Taking, Bytes, Nothing, NoMore, AtEnd, Closed, Broken}
+use Rattle.sock_programs.specs.Programs.{Program, Say, Sent, Rest, Keep, Retries}
 use Rattle.sock_programs.specs.Cores.{Core, SeatState}
 use Rattle.sock_programs.specs.Ticks.{Answer, Unasked, Moment, quiet, seats_of, tick_with, ticked, run, IsAnswer, IsAnswered, AreAnswered, IsPrompt, asked_link, broken_at, broken_in}
 use Rattle.sock_programs.specs.Runs.{kind_in, IsAtRest}
 use Rattle.sock_core.specs.declared.machine.Tick.{Tick}
 use Rattle.sock_core.specs.declared.machine.Tick.TheVariants as ticks
-use Rattle.sock_core.specs.Seats.{SeatData}
-use Rattle.sock_core.specs.Links.{LinksData, Taken, Agrees, ArePrompt}
-use Rattle.sock_core.specs.Steps.{SameLink}
-use Rattle.sock_core.specs.Machines.{MachineState, core_with, seats_with}
-use Rattle.sock_core.specs.Runs.{SameTable, SameLinks, ShowFaults, LinksTell, Ticked, TickedWith, Ran, RanWith}
+use Rattle.sock_core.specs.Links.{LinksData, Taken, Given, Agrees, AgreesGave, ArePrompt}
+use Rattle.sock_programs.specs.declared.task.Sizes.{Sizes}
+use Rattle.client_seats.specs.Seats.{SeatData, seat_program}
+use Rattle.reader_seats.specs.Readers.{ReaderData, reader_program}
+use Rattle.sock_core.specs.Machines.{MachineState, READERS, machine_sizes, between, resting, clients_with, readers_with, seats_with, core_with}
+use Rattle.sock_core.specs.Runs.{SameLink, SameTable, SameLinks, ShowFaults, LinksTell, ShowsTaking, ShowTakings, Follows, Made, Ticked, TickedWith, Ran, RanWith}
 
 -- ## The table and its links
 
 pub same_table_none : (m : MachineState) → SameTable m m
-same_table_none m = record { plan = refl; opens = refl }
+same_table_none m = record { plan = refl; id_plan = refl; calls = refl; opens = refl; ending = refl }
 
 pub same_table_join : (a b c : MachineState) → SameTable a b → SameTable b c → SameTable a c
-same_table_join a b c h o = record { plan = o.plan ∙ h.plan; opens = o.opens ∙ h.opens }
+same_table_join a b c h o = record { plan = o.plan ∙ h.plan; id_plan = o.id_plan ∙ h.id_plan; calls = o.calls ∙ h.calls; opens = o.opens ∙ h.opens; ending = o.ending ∙ h.ending }
 
 pub same_link_none : (e : LinkEnd) → SameLink e e
-same_link_none e = record { link = refl; gave = refl; gave_count = refl; take_faults = refl; gave_end = refl; closed = refl; later = omega arith }
+same_link_none e = record { link = refl; later = omega arith; more = omega arith; later_takes = omega arith; gave_end = λ h. h; closed = inl refl }
+
+-- what a reading half answered once stays
+closed_twice : (o : std.Option Bool) → option_map (λ _. true) (option_map (λ (b : Bool). true) o) ≡ option_map (λ _. true) o
+closed_twice None = refl
+closed_twice (Some b) = refl
 
 pub same_link_join : (x y z : LinkEnd) → SameLink x y → SameLink y z → SameLink x z
 same_link_join x y z h o = record {
   link = o.link ∙ h.link;
-  gave = o.gave ∙ h.gave;
-  gave_count = o.gave_count ∙ h.gave_count;
-  take_faults = o.take_faults ∙ h.take_faults;
-  gave_end = o.gave_end ∙ h.gave_end;
-  closed = o.closed ∙ h.closed;
   later = let first = h.later in let second = o.later in omega (arith, first, second);
+  more = let first = h.more in let second = o.more in omega (arith, first, second);
+  later_takes = let first = h.later_takes in let second = o.later_takes in omega (arith, first, second);
+  gave_end = λ e. o.gave_end (h.gave_end e);
+  closed = ⊎_elim
+      (λ e. ⊎_elim (λ f. inl (e ∙ f)) (λ f. inr (e ∙ f)) h.closed)
+      (λ e. ⊎_elim (λ f. inr (e ∙ ap (option_map (λ _. true)) f)) (λ f. inr (e ∙ ap (option_map (λ _. true)) f ∙ closed_twice x.closed)) h.closed)
+      o.closed;
 }
 
 -- a link stood there before
@@ -113,6 +123,40 @@ tells_as a b heard said same t = record {
   none_beyond = λ k past. sym (same k) ∙ t.none_beyond k past;
 }
 
+-- ## What reading halves answered
+
+shows_later : (t : Taking) (x y : LinkEnd) → SameLink x y → ShowsTaking t x → ShowsTaking t y
+shows_later (Bytes bytes) x y same shown = tt
+shows_later Nothing x y same shown = tt
+shows_later NoMore x y same shown = tt
+shows_later AtEnd x y same shown = same.gave_end shown
+shows_later Closed x y same shown = ⊎_elim (λ e. subst (λ o. IfSome o (λ closed. closed ≡ true)) (sym e) shown) (λ e. subst (λ o. IfSome o (λ closed. closed ≡ true)) (sym e) (all_true x.closed)) same.closed
+  where
+    all_true : (o : std.Option Bool) → IfSome (option_map (λ _. true) o) (λ closed. closed ≡ true)
+    all_true None = tt
+    all_true (Some b) = refl
+shows_later Broken x y same shown = let more = same.later_takes in omega (arith, shown, more)
+
+all_later : (ts : List Taking) (x y : LinkEnd) → SameLink x y → AllByRecursion (λ t. ShowsTaking t x) ts → AllByRecursion (λ t. ShowsTaking t y) ts
+all_later [] x y same all = tt
+all_later (t ∷ ts) x y same all = (shows_later t x y same all.0, all_later ts x y same all.1)
+
+all_both : (P : Taking → Type 0) (xs ys : List Taking) → AllByRecursion P xs → AllByRecursion P ys → AllByRecursion P (xs ++ ys)
+all_both P [] ys first second = second
+all_both P (x ∷ xs) ys first second = (first.0, all_both P xs ys first.1 second)
+
+pub takings_none : (m : MachineState) (taken : ℕ → List Answer) → ((k : ℕ) → taken k ≡ []) → ShowTakings m taken
+takings_none m taken none_ k e at = subst (λ (l : List Answer). AllByRecursion (λ t. ShowsTaking t e) (as_taken l)) (sym (none_ k)) tt
+
+pub takings_later : (b c : MachineState) (taken : ℕ → List Answer) → ShowTakings b taken → SameLinks b c → ShowTakings c taken
+takings_later b c taken shown same k e at = let y = stood_before b.ends c.ends k e same.as_many at in all_later (as_taken (taken k)) y.0 e (same.each k y.0 e y.1 at) (shown k y.0 y.1)
+
+pub takings_join : (m : MachineState) (first second : ℕ → List Answer) → ShowTakings m first → ShowTakings m second → ShowTakings m (λ k. first k ++ second k)
+takings_join m first second f g k e at = subst (λ (l : List Taking). AllByRecursion (λ t. ShowsTaking t e) l) (sym (taken_append (first k) (second k))) (all_both (λ t. ShowsTaking t e) (as_taken (first k)) (as_taken (second k)) (f k e at) (g k e at))
+
+pub takings_as : (m : MachineState) (taken said : ℕ → List Answer) → ((k : ℕ) → taken k ≡ said k) → ShowTakings m taken → ShowTakings m said
+takings_as m taken said same shown k e at = subst (λ (l : List Answer). AllByRecursion (λ t. ShowsTaking t e) (as_taken l)) (same k) (shown k e at)
+
 -- ## Ticks, one behind another
 
 pub seats_append : (xs ys : List Moment) → seats_of (xs ++ ys) ≡ seats_of xs ++ seats_of ys
@@ -136,80 +180,72 @@ module _ (p : Plan) where
   broken_append c (m ∷ ms) ys =
       ap (λ (later : List ℕ). broken_at c m ++ later) (broken_append (ticked p c m) ms ys) ∙ sym (append_assoc (broken_at c m) (broken_in p (ticked p c m) ms) (broken_in p (run p (ticked p c m) ms) ys))
 
--- these ticks make the one machine of the other, where its links had taken this
-pub record Follows (old new : MachineState) (took : Taken) (moments : List Moment) : Type 0 where
-  pub answered : AreAnswered old.plan (core_with old took) moments
-  pub prompt : ArePrompt old.links → AllByRecursion IsPrompt moments
-  pub later : Taken
-  pub agrees : Agrees new.links later
-  pub core : core_with new later ≡ run old.plan (core_with old took) moments
-  pub broken : ShowFaults new (broken_in old.plan (core_with old took) moments)
-  pub told : LinksTell old new (heard_in old.plan (core_with old took) moments)
-
-pub follows_none : (m : MachineState) (took : Taken) → Agrees m.links took → Follows m m took []
-follows_none m took agrees = record { answered = tt; prompt = λ h. tt; later = took; agrees = agrees; core = refl; broken = show_faults_none m; told = tells_none m m refl _ (λ k. refl) }
-
-pub follows_one : (a b : MachineState) (i : ℕ) (tick : Tick) (took : Taken) (t : TickedWith a b i tick took) → Follows a b took (t.moment ∷ [])
-follows_one a b i tick took t = record {
-  answered = (t.answered, tt);
-  prompt = λ prompt. (t.prompt prompt, tt);
-  later = t.later;
-  agrees = t.agrees;
-  core = t.core;
-  broken = subst (ShowFaults b) (sym (append-nil (broken_at (core_with a took) t.moment))) t.broken;
-  told = tells_as a b _ _ (λ k. sym (append-nil (heard_at (core_with a took) t.moment k))) t.told;
+pub follows_none : (m : MachineState) (took : Taken) (gave : Given) → Agrees m.links took → AgreesGave m.links gave → Follows m m took gave []
+follows_none m took gave agrees agrees_gave = record {
+  answered = tt;
+  prompt = λ h. tt;
+  later = took;
+  agrees = agrees;
+  later_gave = gave;
+  agrees_gave = agrees_gave;
+  core = refl;
+  broken = show_faults_none m;
+  told = tells_none m m refl _ (λ k. refl);
+  taken = takings_none m _ (λ k. refl);
 }
 
-module _ (a b c : MachineState) (took : Taken) (xs ys : List Moment) (table : SameTable a b) (links : SameLinks a b) (after : SameLinks b c) (f : Follows a b took xs) (g : Follows b c f.later ys) where
+module _ (a b c : MachineState) (took : Taken) (gave : Given) (xs ys : List Moment) (table : SameTable a b) (links : SameLinks a b) (after : SameLinks b c) (f : Follows a b took gave xs) (g : Follows b c f.later f.later_gave ys) where
   abbrev start : Core
-  start = core_with a took
+  start = core_with a took gave
 
   -- what holds of the later ticks from the core behind the machine's holds of them from the run of the earlier ones
-  moved : (P : Plan → Core → Type 0) → P b.plan (core_with b f.later) → P a.plan (run a.plan start xs)
-  moved P h = subst (λ (d : Core). P a.plan d) f.core (subst (λ (p : Plan). P p (core_with b f.later)) table.plan h)
+  moved : (P : Plan → Core → Type 0) → P b.plan (core_with b f.later f.later_gave) → P a.plan (run a.plan start xs)
+  moved P h = subst (λ (d : Core). P a.plan d) f.core (subst (λ (p : Plan). P p (core_with b f.later f.later_gave)) table.plan h)
 
-  pub follows_join : Follows a c took (xs ++ ys)
+  pub follows_join : Follows a c took gave (xs ++ ys)
   follows_join = record {
     answered = answered_append a.plan start xs ys f.answered (moved (λ p d. AreAnswered p d ys) g.answered);
     prompt = λ prompt. prompt_append xs ys (f.prompt prompt) (g.prompt (links.prompt prompt));
     later = g.later;
     agrees = g.agrees;
-    core = moved (λ p d. core_with c g.later ≡ run p d ys) g.core ∙ sym (run_append a.plan start xs ys);
+    later_gave = g.later_gave;
+    agrees_gave = g.agrees_gave;
+    core = moved (λ p d. core_with c g.later g.later_gave ≡ run p d ys) g.core ∙ sym (run_append a.plan start xs ys);
     broken = subst (ShowFaults c) (sym (broken_append a.plan start xs ys))
         (show_faults_join c (broken_in a.plan start xs) (broken_in a.plan (run a.plan start xs) ys) (show_faults_later b c (broken_in a.plan start xs) f.broken after) (moved (λ p d. ShowFaults c (broken_in p d ys)) g.broken));
     told = tells_as a c (λ k. heard_in a.plan start xs k ++ heard_in a.plan (run a.plan start xs) ys k) (heard_in a.plan start (xs ++ ys)) (λ k. sym (heard_on a.plan start xs ys k))
         (tells_join a b c (heard_in a.plan start xs) (heard_in a.plan (run a.plan start xs) ys) links after f.told (moved (λ p d. LinksTell b c (heard_in p d ys)) g.told));
+    taken = takings_as c (λ k. taken_in a.plan start xs k ++ taken_in a.plan (run a.plan start xs) ys k) (taken_in a.plan start (xs ++ ys)) (λ k. sym (taken_on a.plan start xs ys k))
+        (takings_join c (taken_in a.plan start xs) (taken_in a.plan (run a.plan start xs) ys) (takings_later b c (taken_in a.plan start xs) f.taken after) (moved (λ p d. ShowTakings c (taken_in p d ys)) g.taken));
   }
 
 -- ## Runs, one behind another
 
-ran_with : (a b : MachineState) (seats : List ℕ) (took : Taken) (moments : List Moment) → seats_of moments ≡ seats → Follows a b took moments → RanWith a b seats took
-ran_with a b seats took moments are f = record { moments = moments; are_of = are; answered = f.answered; prompt = f.prompt; later = f.later; agrees = f.agrees; core = f.core; broken = f.broken; told = f.told }
-
-abbrev pub ran_follows : (a b : MachineState) (seats : List ℕ) (took : Taken) (r : RanWith a b seats took) → Follows a b took r.moments
-ran_follows a b seats took r = record { answered = r.answered; prompt = r.prompt; later = r.later; agrees = r.agrees; core = r.core; broken = r.broken; told = r.told }
-
 pub ran_none : (m : MachineState) → Ran m m []
-ran_none m = (same_table_none m, same_links_none m, λ took agrees. ran_with m m [] took [] refl (follows_none m took agrees))
+ran_none m = (same_table_none m, same_links_none m, λ took gave agrees agrees_gave. record { moments = []; are_of = refl; follows = follows_none m took gave agrees agrees_gave })
 
 pub ran_one : (a b : MachineState) (i : ℕ) (tick : Tick) → Ticked a b i tick → Ran a b (i ∷ [])
 ran_one a b i tick t = (
   t.0,
   t.1,
-  λ took agrees. let w = t.2 took agrees in ran_with a b (i ∷ []) took (w.moment ∷ []) (ap (λ (j : ℕ). j ∷ []) w.is_of) (follows_one a b i tick took w),
+  λ took gave agrees agrees_gave. let w = t.2 took gave agrees agrees_gave in record { moments = w.moment ∷ []; are_of = ap (λ (j : ℕ). j ∷ []) w.is_of; follows = w.follows },
 )
 
-joined_with : (a b c : MachineState) (xs ys : List ℕ) (took : Taken) → SameTable a b → SameLinks a b → SameLinks b c → (r : RanWith a b xs took) → RanWith b c ys r.later → RanWith a c (xs ++ ys) took
-joined_with a b c xs ys took table links after r s =
-    ran_with a c (xs ++ ys) took (r.moments ++ s.moments) (seats_append r.moments s.moments ∙ ap (λ (is : List ℕ). is ++ seats_of s.moments) r.are_of ∙ ap (λ (is : List ℕ). xs ++ is) s.are_of)
-    (follows_join a b c took r.moments s.moments table links after (ran_follows a b xs took r) (ran_follows b c ys r.later s))
-
-pub ran_join : (a b c : MachineState) (xs ys : List ℕ) → Ran a b xs → Ran b c ys → Ran a c (xs ++ ys)
-ran_join a b c xs ys r s = (
+-- what is said of ticks from a machine on, and of those behind them
+pub made_join : (a b c : MachineState) (P Q R : Taken → Given → Type 0) → Made a b P → Made b c Q →
+    ((took : Taken) (gave : Given) → Agrees a.links took → AgreesGave a.links gave → SameTable a b → SameLinks a b → SameLinks b c → P took gave → ((later : Taken) (later_gave : Given) → Agrees b.links later → AgreesGave b.links later_gave → Q later later_gave) → R took gave) → Made a c R
+made_join a b c P Q R r s join = (
   same_table_join a b c r.0 s.0,
   same_links_join a b c r.1 s.1,
-  λ took agrees. let first = r.2 took agrees in joined_with a b c xs ys took r.0 r.1 s.1 first (s.2 first.later first.agrees),
+  λ took gave agrees agrees_gave. join took gave agrees agrees_gave r.0 r.1 s.1 (r.2 took gave agrees agrees_gave) s.2,
 )
+
+pub ran_join : (a b c : MachineState) (xs ys : List ℕ) → Ran a b xs → Ran b c ys → Ran a c (xs ++ ys)
+ran_join a b c xs ys r s = made_join a b c (RanWith a b xs) (RanWith b c ys) (RanWith a c (xs ++ ys)) r s (λ took gave agrees agrees_gave table links after x later. let f = x.follows in let y = later f.later f.later_gave f.agrees f.agrees_gave in record {
+  moments = x.moments ++ y.moments;
+  are_of = seats_append x.moments y.moments ∙ ap₂ (λ (is js : List ℕ). is ++ js) x.are_of y.are_of;
+  follows = follows_join a b c took gave x.moments y.moments table links after f y.follows;
+})
 
 pub ran_more : (a b c : MachineState) (seats : List ℕ) (i : ℕ) (tick : Tick) → Ran a b seats → Ticked b c i tick → Ran a c (seats ++ i ∷ [])
 ran_more a b c seats i tick r t = ran_join a b c seats (i ∷ []) r (ran_one b c i tick t)
@@ -221,6 +257,8 @@ module _ (p : Plan) (c : Core) where
   rests_with i seat answer Rest rest = refl
   rests_with i seat answer (Say o outcome next) rest = refl
   rests_with i seat answer (Sent o next) rest = refl
+  rests_with i seat answer (Keep r next) rest = refl
+  rests_with i seat answer (Retries requests after) rest = refl
   rests_with i seat answer _ rest = absurd (none-some _ (sym rest))
 
   rests_by : (i : ℕ) (answer : Answer) (q : Option SeatState) → elim q as (λ o. std.Option Kind) [ none ↦ None | some seat ↦ kind_in seat.program ] ≡ None
@@ -237,25 +275,43 @@ asks_none : (program : Program) → kind_in program ≡ None → IsAnswer progra
 asks_none Rest rest = tt
 asks_none (Say o outcome next) rest = tt
 asks_none (Sent o next) rest = tt
+asks_none (Keep r next) rest = tt
+asks_none (Retries requests after) rest = tt
 asks_none _ rest = absurd (none-some _ (sym rest))
 
 pub rest_answered : (c : Core) (i : ℕ) → IsAtRest c i → IsAnswered c (quiet i)
 rest_answered c i rest seat at = asks_none seat.program (ap (λ (o : Option SeatState). elim o as (λ o. std.Option Kind) [ none ↦ None | some s ↦ kind_in s.program ]) (sym at) ∙ rest)
 
-rest_heard_by : (k : ℕ) (answer : Answer) (program : Program) → kind_in program ≡ None → map (λ (j : ℕ). answer) (filter (λ (j : ℕ). j == k) (asked_link program)) ≡ []
-rest_heard_by k answer Rest rest = refl
-rest_heard_by k answer (Say o outcome next) rest = refl
-rest_heard_by k answer (Sent o next) rest = refl
-rest_heard_by k answer _ rest = absurd (none-some _ (sym rest))
+-- it asks no half of a link
+asks_no_half : (asks : Program → List ℕ) → ((program : Program) → kind_in program ≡ None → asks program ≡ []) → (c : Core) (m : Moment) → IsAtRest c m.seat → said_at asks c m ≡ []
+asks_no_half asks none_ c m rest = by (get_elem? c.seats m.seat) rest
+  where
+    by : (q : Option SeatState) → elim q as (λ o. std.Option Kind) [ none ↦ None | some seat ↦ kind_in seat.program ] ≡ None → elim q as (λ o. List Answer) [ none ↦ [] | some seat ↦ map (λ (j : ℕ). m.answer) (asks seat.program) ] ≡ []
+    by none rest = refl
+    by (some seat) rest = ap (map (λ (j : ℕ). m.answer)) (none_ seat.program rest)
 
-rest_heard_in : (k : ℕ) (answer : Answer) (q : Option SeatState) → elim q as (λ o. std.Option Kind) [ none ↦ None | some seat ↦ kind_in seat.program ] ≡ None
-    → elim q as (λ o. List Answer) [ none ↦ [] | some seat ↦ map (λ (j : ℕ). answer) (filter (λ (j : ℕ). j == k) (asked_link seat.program)) ] ≡ []
-rest_heard_in k answer none rest = refl
-rest_heard_in k answer (some seat) rest = rest_heard_by k answer seat.program rest
+rest_writes : (k : ℕ) (program : Program) → kind_in program ≡ None → filter (λ (j : ℕ). j == k) (asked_link program) ≡ []
+rest_writes k Rest rest = refl
+rest_writes k (Say o outcome next) rest = refl
+rest_writes k (Sent o next) rest = refl
+rest_writes k (Keep r next) rest = refl
+rest_writes k (Retries requests after) rest = refl
+rest_writes k _ rest = absurd (none-some _ (sym rest))
+
+rest_reads : (k : ℕ) (program : Program) → kind_in program ≡ None → filter (λ (j : ℕ). j == k) (taken_link program) ≡ []
+rest_reads k Rest rest = refl
+rest_reads k (Say o outcome next) rest = refl
+rest_reads k (Sent o next) rest = refl
+rest_reads k (Keep r next) rest = refl
+rest_reads k (Retries requests after) rest = refl
+rest_reads k _ rest = absurd (none-some _ (sym rest))
 
 -- so nothing is heard of a link
 pub rest_heard : (c : Core) (m : Moment) → IsAtRest c m.seat → (k : ℕ) → heard_at c m k ≡ []
-rest_heard c m rest k = rest_heard_in k m.answer (get_elem? c.seats m.seat) rest
+rest_heard c m rest k = asks_no_half (λ program. filter (λ (j : ℕ). j == k) (asked_link program)) (rest_writes k) c m rest
+
+pub rest_taken : (c : Core) (m : Moment) → IsAtRest c m.seat → (k : ℕ) → taken_at c m k ≡ []
+rest_taken c m rest k = asks_no_half (λ program. filter (λ (j : ℕ). j == k) (taken_link program)) (rest_reads k) c m rest
 
 -- nor do so many of them
 module _ (p : Plan) (c : Core) (i : ℕ) (rest : IsAtRest c i) where
@@ -267,6 +323,11 @@ module _ (p : Plan) (c : Core) (i : ℕ) (rest : IsAtRest c i) where
   rests_heard zero k = refl
   rests_heard (suc n) k = ap (λ (l : List Answer). l ++ heard_in p (ticked p c (quiet i)) (replicate n (quiet i)) k) (rest_heard c (quiet i) rest k)
       ∙ ap (λ (d : Core). heard_in p d (replicate n (quiet i)) k) (rests p c (quiet i) rest) ∙ rests_heard n k
+
+  pub rests_taken : (n k : ℕ) → taken_in p c (replicate n (quiet i)) k ≡ []
+  rests_taken zero k = refl
+  rests_taken (suc n) k = ap (λ (l : List Answer). l ++ taken_in p (ticked p c (quiet i)) (replicate n (quiet i)) k) (rest_taken c (quiet i) rest k)
+      ∙ ap (λ (d : Core). taken_in p d (replicate n (quiet i)) k) (rests p c (quiet i) rest) ∙ rests_taken n k
 
   rests_answered : (n : ℕ) → AreAnswered p c (replicate n (quiet i))
   rests_answered zero = tt
@@ -284,68 +345,71 @@ quiet_broken : (p : Plan) (c : Core) (n i : ℕ) → broken_in p c (replicate n 
 quiet_broken p c zero i = refl
 quiet_broken p c (suc n) i = quiet_broken p (ticked p c (quiet i)) n i
 
-follows_rest : (m : MachineState) (took : Taken) (i n : ℕ) → Agrees m.links took → IsAtRest (core_with m took) i → Follows m m took (replicate n (quiet i))
-follows_rest m took i n agrees rest = record {
-  answered = rests_answered m.plan (core_with m took) i rest n;
+follows_rest : (m : MachineState) (took : Taken) (gave : Given) (i n : ℕ) → Agrees m.links took → AgreesGave m.links gave → IsAtRest (core_with m took gave) i → Follows m m took gave (replicate n (quiet i))
+follows_rest m took gave i n agrees agrees_gave rest = record {
+  answered = rests_answered m.plan (core_with m took gave) i rest n;
   prompt = λ h. quiet_prompt n i;
   later = took;
   agrees = agrees;
-  core = sym (rests_on m.plan (core_with m took) i rest n);
-  broken = subst (ShowFaults m) (sym (quiet_broken m.plan (core_with m took) n i)) (show_faults_none m);
-  told = tells_none m m refl _ (rests_heard m.plan (core_with m took) i rest n);
+  later_gave = gave;
+  agrees_gave = agrees_gave;
+  core = sym (rests_on m.plan (core_with m took gave) i rest n);
+  broken = subst (ShowFaults m) (sym (quiet_broken m.plan (core_with m took gave) n i)) (show_faults_none m);
+  told = tells_none m m refl _ (rests_heard m.plan (core_with m took gave) i rest n);
+  taken = takings_none m _ (rests_taken m.plan (core_with m took gave) i rest n);
 }
 
 -- more ticks of a seat that has no step left leave all as it is
-pub ran_rest : (m : MachineState) (i : ℕ) → ((took : Taken) → IsAtRest (core_with m took) i) → (n : ℕ) → Ran m m (replicate n i)
+pub ran_rest : (m : MachineState) (i : ℕ) → ((took : Taken) (gave : Given) → IsAtRest (core_with m took gave) i) → (n : ℕ) → Ran m m (replicate n i)
 ran_rest m i rest n = (
   same_table_none m,
   same_links_none m,
-  λ took agrees. ran_with m m (replicate n i) took (replicate n (quiet i)) (seats_quiet n i) (follows_rest m took i n agrees (rest took)),
+  λ took gave agrees agrees_gave. record { moments = replicate n (quiet i); are_of = seats_quiet n i; follows = follows_rest m took gave i n agrees agrees_gave (rest took gave) },
 )
 
-pub ran_idle : (a b : MachineState) (seats : List ℕ) (i : ℕ) → Ran a b seats → ((took : Taken) → IsAtRest (core_with b took) i) → (n : ℕ) → Ran a b (seats ++ replicate n i)
+pub ran_idle : (a b : MachineState) (seats : List ℕ) (i : ℕ) → Ran a b seats → ((took : Taken) (gave : Given) → IsAtRest (core_with b took gave) i) → (n : ℕ) → Ran a b (seats ++ replicate n i)
 ran_idle a b seats i r rest n = ran_join a b b seats (replicate n i) r (ran_rest b i rest n)
 
 -- ## A tick that was idle
 
 -- what a seat has still to do doesn't depend on what the links took
-kind_anyhow : (p : Plan) (links : LinksData) (t u : Taken) (first : ℕ) (seats : List SeatData) (i : ℕ) →
-    elim (get_elem? (seats_with p links t first seats) i) as (λ o. std.Option Kind) [ none ↦ None | some seat ↦ kind_in seat.program ]
-    ≡ elim (get_elem? (seats_with p links u first seats) i) as (λ o. std.Option Kind) [ none ↦ None | some seat ↦ kind_in seat.program ]
-kind_anyhow p links t u first [] i = refl
-kind_anyhow p links t u first (seat ∷ seats) zero = refl
-kind_anyhow p links t u first (seat ∷ seats) (suc i) = kind_anyhow p links t u (first + 1) seats i
+programs_on : (xs ys : List SeatState) → map (λ (s : SeatState). s.program) (xs ++ ys) ≡ map (λ (s : SeatState). s.program) xs ++ map (λ (s : SeatState). s.program) ys
+programs_on [] ys = refl
+programs_on (x ∷ xs) ys = ap (λ (ps : List Program). x.program ∷ ps) (programs_on xs ys)
 
-pub rest_anyhow : (m : MachineState) (t u : Taken) (i : ℕ) → IsAtRest (core_with m t) i → IsAtRest (core_with m u) i
-rest_anyhow m t u i rest = kind_anyhow m.plan m.links u t 0 m.seats i ∙ rest
+client_programs : (p : Plan) (links : LinksData) (t u : Taken) (sizes : Sizes) (i : ℕ) (seats : List SeatData) → map (λ (s : SeatState). s.program) (clients_with p links t sizes i seats) ≡ map (λ (s : SeatState). s.program) (clients_with p links u sizes i seats)
+client_programs p links t u sizes i [] = refl
+client_programs p links t u sizes i (seat ∷ seats) = ap (λ (ps : List Program). seat_program sizes seat ∷ ps) (client_programs p links t u sizes (i + 1) seats)
 
-abbrev took_of : Option OutState → List ℕ
-took_of none = []
-took_of (some out) = unwrap_or out.took []
+reader_programs : (p : Plan) (links : LinksData) (t u : Taken) (calls : List ℕ) (i : ℕ) (readers : List ReaderData) → map (λ (s : SeatState). s.program) (readers_with p links t calls i readers) ≡ map (λ (s : SeatState). s.program) (readers_with p links u calls i readers)
+reader_programs p links t u calls i [] = refl
+reader_programs p links t u calls i (r ∷ rs) = ap (λ (ps : List Program). reader_program calls r ∷ ps) (reader_programs p links t u calls (i + 1) rs)
+
+programs_with : (m : MachineState) (t u : Taken) → map (λ (s : SeatState). s.program) (seats_with m t) ≡ map (λ (s : SeatState). s.program) (seats_with m u)
+programs_with m t u =
+    let gap : List SeatState = replicate (between m.seats) resting in
+    programs_on (clients_with m.plan m.links t (machine_sizes m) 0 m.seats) _ ∙ ap₂ (λ (ps qs : List Program). ps ++ qs) (client_programs m.plan m.links t u (machine_sizes m) 0 m.seats)
+    (programs_on gap _ ∙ ap (λ (qs : List Program). map (λ (s : SeatState). s.program) gap ++ qs) (reader_programs m.plan m.links t u m.calls READERS m.readers) ∙ sym (programs_on gap _))
+    ∙ sym (programs_on (clients_with m.plan m.links u (machine_sizes m) 0 m.seats) _)
+
+kind_at : (xs : List SeatState) (i : ℕ) → elim (get_elem? xs i) as (λ o. std.Option Kind) [ none ↦ None | some s ↦ kind_in s.program ] ≡ elim (get_elem? (map (λ (s : SeatState). s.program) xs) i) as (λ o. std.Option Kind) [ none ↦ None | some program ↦ kind_in program ]
+kind_at [] i = refl
+kind_at (x ∷ xs) zero = refl
+kind_at (x ∷ xs) (suc i) = kind_at xs i
+
+pub rest_anyhow : (m : MachineState) (t u : Taken) (g h : Given) (i : ℕ) → IsAtRest (core_with m t g) i → IsAtRest (core_with m u h) i
+rest_anyhow m t u g h i rest = kind_at (seats_with m u) i
+    ∙ ap (λ (ps : List Program). elim (get_elem? ps i) as (λ o. std.Option Kind) [ none ↦ None | some program ↦ kind_in program ]) (programs_with m u t)
+    ∙ sym (kind_at (seats_with m t) i) ∙ rest
+
+-- the links took and gave something
+abbrev taken_from : Option OutState → List ℕ
+taken_from none = []
+taken_from (some out) = unwrap_or out.took []
 
 told_took : (o : std.Option (List ℕ)) → IfSome o (λ (bytes : List ℕ). bytes ≡ unwrap_or o [])
 told_took None = tt
 told_took (Some bytes) = refl
 
--- the links took something
 pub some_taken : (links : LinksData) → (took : Taken) × Agrees links took
-some_taken links = (λ k. took_of (get_elem? links.outs k), λ k out at. subst (λ (q : Option OutState). IfSome out.took (λ (bytes : List ℕ). bytes ≡ took_of q)) (sym at) (told_took out.took))
-
-idle_core : (a b : MachineState) (i : ℕ) (took : Taken) (t : TickedWith a b i ticks.Idle took) → core_with b t.later ≡ core_with a took
-idle_core a b i took t = t.core ∙ rests a.plan (core_with a took) t.moment t.is
-
-pub follows_idle : (a b : MachineState) (i : ℕ) (took : Taken) → TickedWith a b i ticks.Idle took → Follows a b took []
-follows_idle a b i took t = record { answered = tt; prompt = λ h. tt; later = t.later; agrees = t.agrees; core = idle_core a b i took t; broken = show_faults_none b; told = tells_as a b _ _ (rest_heard (core_with a took) t.moment t.is) t.told }
-
-pub idle_rests : (a b : MachineState) (i : ℕ) → Ticked a b i ticks.Idle → (took : Taken) → IsAtRest (core_with b took) i
-idle_rests a b i t took =
-    let some_ = some_taken a.links in let w = t.2 some_.0 some_.1 in
-    rest_anyhow b w.later took i (subst (λ (d : Core). IsAtRest d i) (sym (idle_core a b i some_.0 w)) (subst (IsAtRest (core_with a some_.0)) w.is_of w.is))
-
--- it is none at all
-pub ran_through : (a b : MachineState) (i : ℕ) → Ticked a b i ticks.Idle → Ran a b []
-ran_through a b i t = (t.0, t.1, λ took agrees. ran_with a b [] took [] refl (follows_idle a b i took (t.2 took agrees)))
-
--- or so many
-pub idle_more : (a b c : MachineState) (seats : List ℕ) (i : ℕ) → Ran a b seats → Ticked b c i ticks.Idle → (n : ℕ) → Ran a c (seats ++ replicate n i)
-idle_more a b c seats i r t n = ran_idle a c seats i (subst (Ran a c) (append-nil seats) (ran_join a b c seats [] r (ran_through b c i t))) (idle_rests b c i t) n
+some_taken links = (λ k. taken_from (get_elem? links.outs k), λ k out at. subst (λ (q : Option OutState). IfSome out.took (λ (bytes : List ℕ). bytes ≡ taken_from q)) (sym at) (told_took out.took))

@@ -38,7 +38,7 @@ use Rattle.seat_points.specs.Points.{Around, point_program, Asks, after_word, af
 use Rattle.seat_points.specs.Steps.{First, OfCall, OfMessage, OfLink, OfHome, step_as, first_in}
 use Rattle.seat_points.specs.Steps as kinds
 use Rattle.seat_points.proofs.StepFacts as facts
-use Rattle.sock_core.specs.Seats.{SeatData, around, seat_program}
+use Rattle.client_seats.specs.Seats.{SeatData, around, seat_program}
 use Rattle.sock_core.specs.Links.{LinksData, Taken, Agrees, IsPaced, holder_of}
 use Rattle.sock_core.specs.Machines.{MachineState, IsSoundMachine, ArePaced, MOST_LEFT, table_of, seat_state, core_with}
 use Rattle.sock_core.specs.Steps.{IsSized, NextIs, OutsAfter, Goes, Made, SteppedTo}

@@ -10,16 +10,18 @@ use Rattle.sock_words.specs.declared.kind.Kind.{Kind}
 use Rattle.sock_words.specs.KindText.{kind_text}
 use Rattle.sock_words.proofs.KindNames.{found_by_name}
 use Rattle.sock_words.specs.declared.plain.Plan.{Plan}
-use Rattle.sock_programs.specs.Programs.{Program, Write}
+use Rattle.sock_programs.specs.Programs.{Program, Write, Round}
+use Rattle.sock_programs.specs.Rounds.{kind_of_round}
 use Rattle.sock_programs.specs.Cores.{Core, SeatState}
 use Rattle.sock_programs.specs.Ticks.{Answer, Moment, ticked, run, waits_at, waits}
 use Rattle.sock_programs.specs.Runs.{head_kind, kind_in, next_kind, IsAtRest, LeadsUpTo}
 use Rattle.sock_core.specs.declared.machine.On.{On}
 use Rattle.sock_core.specs.declared.machine.Tick.TheVariants as ticks
-use Rattle.sock_core.specs.Links.{Taken, Agrees}
+use Rattle.sock_core.specs.Links.{Taken, Given, Agrees, AgreesGave}
 use Rattle.sock_core.specs.Machines.{MachineState, core_with}
-use Rattle.sock_core.specs.Runs.{SameTable, SameLinks, Ticked, TickedWith, LedWith, Led}
-use Rattle.sock_core.proofs.Joining.{same_table_none, same_table_join, same_links_none, same_links_join, Follows, follows_none, follows_one, follows_idle, follows_join}
+use Rattle.sock_core.specs.Runs.{SameTable, SameLinks, Follows, Made, Ticked, TickedWith, LedWith, Led}
+use Rattle.sock_core.proofs.Joining.{same_table_none, same_table_join, same_links_none, same_links_join, follows_none, follows_join}
+use Rattle.sock_core.proofs.Resting.{follows_idle}
 
 -- ## Ticks of other kinds
 
@@ -46,6 +48,7 @@ one_kind j k same = same_Some j k (sym (found_by_name (kind_text k) j same) ∙ 
 -- a seat that waits has a step
 waits_in : (p : Plan) (c : Core) (answer : Answer) (program : Program) → waits_at p c answer program ≡ true → (k : Kind) × (kind_in program ≡ Some k)
 waits_in p c answer (Write w after) is = (head_kind w, refl)
+waits_in p c answer (Round head next) is = (kind_of_round head, refl)
 waits_in p c answer _ is = absurd (true≢false (sym is))
 
 waits_by : (p : Plan) (c : Core) (answer : Answer) (q : Option SeatState) → elim q as (λ o. Bool) [ none ↦ false | some seat ↦ waits_at p c answer seat.program ] ≡ true
@@ -59,68 +62,68 @@ has_step p c m is = waits_by p c m.answer (get_elem? c.seats m.seat) is
 -- ## Of a machine
 
 -- ticks of the seat so far, none of which was a step of this kind
-pub record PassedWith (old new : MachineState) (seat : ℕ) (kind : Kind) (took : Taken) : Type 0 where
+pub record PassedWith (old new : MachineState) (seat : ℕ) (kind : Kind) (took : Taken) (gave : Given) : Type 0 where
   pub moments : List Moment
-  pub others : AreOthers old.plan seat (kind_text kind) (core_with old took) moments
-  pub follows : Follows old new took moments
+  pub others : AreOthers old.plan seat (kind_text kind) (core_with old took gave) moments
+  pub follows : Follows old new took gave moments
 
 abbrev pub Passed : MachineState → MachineState → ℕ → Kind → Type 0
-Passed old new seat kind = SameTable old new × SameLinks old new × ((took : Taken) → Agrees old.links took → PassedWith old new seat kind took)
+Passed old new seat kind = Made old new (PassedWith old new seat kind)
 
 pub led_none : (m : MachineState) (i : ℕ) (kind : Kind) → Passed m m i kind
-led_none m i kind = (same_table_none m, same_links_none m, λ took agrees. record { moments = []; others = tt; follows = follows_none m took agrees })
+led_none m i kind = (same_table_none m, same_links_none m, λ took gave agrees agrees_gave. record { moments = []; others = tt; follows = follows_none m took gave agrees agrees_gave })
 
 module _ (a b c : MachineState) (i : ℕ) (kind : Kind) where
-  module _ (took : Taken) (table : SameTable a b) (links : SameLinks a b) (after : SameLinks b c) (r : PassedWith a b i kind took) where
-    -- what a tick was where it was made, it was behind the run
-    behind : (P : Plan → Core → Type 0) → P b.plan (core_with b r.follows.later) → P a.plan (run a.plan (core_with a took) r.moments)
-    behind P h = subst (λ (d : Core). P a.plan d) r.follows.core (subst (λ (p : Plan). P p (core_with b r.follows.later)) table.plan h)
+  module _ (took : Taken) (gave : Given) (table : SameTable a b) (links : SameLinks a b) (after : SameLinks b c) (r : PassedWith a b i kind took gave) where
+    abbrev here : Core
+    here = core_with b r.follows.later r.follows.later_gave
 
-    led_with : (ms : List Moment) → LeadsUpTo a.plan i (kind_text kind) (run a.plan (core_with a took) r.moments) ms → Follows b c r.follows.later ms → LedWith a c i kind took
-    led_with ms leads g = let f = follows_join a b c took r.moments ms table links after r.follows g in record {
+    abbrev passed_core : Core
+    passed_core = run a.plan (core_with a took gave) r.moments
+
+    -- what a tick was where it was made, it was behind the run
+    behind : (P : Plan → Core → Type 0) → P b.plan here → P a.plan passed_core
+    behind P h = subst (λ (d : Core). P a.plan d) r.follows.core (subst (λ (p : Plan). P p here) table.plan h)
+
+    led_with : (ms : List Moment) → LeadsUpTo a.plan i (kind_text kind) passed_core ms → Follows b c r.follows.later r.follows.later_gave ms → LedWith a c i kind took gave
+    led_with ms leads g = record {
       moments = r.moments ++ ms;
-      leads = leads_on a.plan i (kind_text kind) (core_with a took) r.moments ms r.others leads;
-      answered = f.answered;
-      prompt = f.prompt;
-      later = f.later;
-      agrees = f.agrees;
-      core = f.core;
-      broken = f.broken;
-      told = f.told;
+      leads = leads_on a.plan i (kind_text kind) (core_with a took gave) r.moments ms r.others leads;
+      follows = follows_join a b c took gave r.moments ms table links after r.follows g;
     }
 
-    passed_with : (k : Kind) → k ≢ kind → TickedWith b c i (ticks.Moved k) r.follows.later → PassedWith a c i kind took
+    passed_with : (k : Kind) → k ≢ kind → TickedWith b c i (ticks.Moved k) r.follows.later r.follows.later_gave → PassedWith a c i kind took gave
     passed_with k other t = record {
       moments = r.moments ++ t.moment ∷ [];
-      others = others_more a.plan i (kind_text kind) (core_with a took) r.moments t.moment k r.others t.is_of
-          (behind (λ p d. next_kind d i ≡ Some k) (subst (λ (j : ℕ). next_kind (core_with b r.follows.later) j ≡ Some k) t.is_of t.is.0))
+      others = others_more a.plan i (kind_text kind) (core_with a took gave) r.moments t.moment k r.others t.is_of
+          (behind (λ p d. next_kind d i ≡ Some k) (subst (λ (j : ℕ). next_kind here j ≡ Some k) t.is_of t.is.0))
           (behind (λ p d. waits p d t.moment ≡ false) t.is.1) (λ same. other (one_kind k kind same));
-      follows = follows_join a b c took r.moments (t.moment ∷ []) table links after r.follows (follows_one b c i (ticks.Moved k) r.follows.later t);
+      follows = follows_join a b c took gave r.moments (t.moment ∷ []) table links after r.follows t.follows;
     }
 
-    here_with : TickedWith b c i (ticks.Moved kind) r.follows.later → LedWith a c i kind took
+    here_with : TickedWith b c i (ticks.Moved kind) r.follows.later r.follows.later_gave → LedWith a c i kind took gave
     here_with t = led_with (t.moment ∷ [])
-        (t.is_of, kind, behind (λ p d. next_kind d i ≡ Some kind) (subst (λ (j : ℕ). next_kind (core_with b r.follows.later) j ≡ Some kind) t.is_of t.is.0), inl (inr refl, refl))
-        (follows_one b c i (ticks.Moved kind) r.follows.later t)
+        (t.is_of, kind, behind (λ p d. next_kind d i ≡ Some kind) (subst (λ (j : ℕ). next_kind here j ≡ Some kind) t.is_of t.is.0), inl (inr refl, refl))
+        t.follows
 
-    waits_with : (on : On) → TickedWith b c i (ticks.Waits on) r.follows.later → LedWith a c i kind took
-    waits_with on t = let step = has_step b.plan (core_with b r.follows.later) t.moment t.is.0 in led_with (t.moment ∷ []) (
+    waits_with : (on : On) → TickedWith b c i (ticks.Waits on) r.follows.later r.follows.later_gave → LedWith a c i kind took gave
+    waits_with on t = let step = has_step b.plan here t.moment t.is.0 in led_with (t.moment ∷ []) (
       t.is_of,
       step.0,
-      behind (λ p d. next_kind d i ≡ Some step.0) (subst (λ (j : ℕ). next_kind (core_with b r.follows.later) j ≡ Some step.0) t.is_of step.1),
+      behind (λ p d. next_kind d i ≡ Some step.0) (subst (λ (j : ℕ). next_kind here j ≡ Some step.0) t.is_of step.1),
       inl (inl (behind (λ p d. waits p d t.moment ≡ true) t.is.0), refl),
     )
-        (follows_one b c i (ticks.Waits on) r.follows.later t)
+        t.follows
 
-    idle_with : TickedWith b c i ticks.Idle r.follows.later → LedWith a c i kind took
-    idle_with t = led_with [] (behind (λ p d. IsAtRest d i) (subst (IsAtRest (core_with b r.follows.later)) t.is_of t.is)) (follows_idle b c i r.follows.later t)
+    idle_with : TickedWith b c i ticks.Idle r.follows.later r.follows.later_gave → LedWith a c i kind took gave
+    idle_with t = led_with [] (behind (λ p d. IsAtRest d i) (subst (IsAtRest here) t.is_of t.is)) (follows_idle b c i r.follows.later r.follows.later_gave t)
 
   -- one more step of another kind
   pub led_more : (k : Kind) → Passed a b i kind → Ticked b c i (ticks.Moved k) → k ≢ kind → Passed a c i kind
   led_more k r t other = (
     same_table_join a b c r.0 t.0,
     same_links_join a b c r.1 t.1,
-    λ took agrees. let first = r.2 took agrees in passed_with took r.0 r.1 t.1 first k other (t.2 first.follows.later first.follows.agrees),
+    λ took gave agrees agrees_gave. let first = r.2 took gave agrees agrees_gave in passed_with took gave r.0 r.1 t.1 first k other (t.2 first.follows.later first.follows.later_gave first.follows.agrees first.follows.agrees_gave),
   )
 
   -- the step of this kind
@@ -128,7 +131,7 @@ module _ (a b c : MachineState) (i : ℕ) (kind : Kind) where
   led_here r t = (
     same_table_join a b c r.0 t.0,
     same_links_join a b c r.1 t.1,
-    λ took agrees. let first = r.2 took agrees in here_with took r.0 r.1 t.1 first (t.2 first.follows.later first.follows.agrees),
+    λ took gave agrees agrees_gave. let first = r.2 took gave agrees agrees_gave in here_with took gave r.0 r.1 t.1 first (t.2 first.follows.later first.follows.later_gave first.follows.agrees first.follows.agrees_gave),
   )
 
   -- the seat waits
@@ -136,7 +139,7 @@ module _ (a b c : MachineState) (i : ℕ) (kind : Kind) where
   led_waits on r t = (
     same_table_join a b c r.0 t.0,
     same_links_join a b c r.1 t.1,
-    λ took agrees. let first = r.2 took agrees in waits_with took r.0 r.1 t.1 first on (t.2 first.follows.later first.follows.agrees),
+    λ took gave agrees agrees_gave. let first = r.2 took gave agrees agrees_gave in waits_with took gave r.0 r.1 t.1 first on (t.2 first.follows.later first.follows.later_gave first.follows.agrees first.follows.agrees_gave),
   )
 
   -- it has no step left
@@ -144,5 +147,5 @@ module _ (a b c : MachineState) (i : ℕ) (kind : Kind) where
   led_idle r t = (
     same_table_join a b c r.0 t.0,
     same_links_join a b c r.1 t.1,
-    λ took agrees. let first = r.2 took agrees in idle_with took r.0 r.1 t.1 first (t.2 first.follows.later first.follows.agrees),
+    λ took gave agrees agrees_gave. let first = r.2 took gave agrees agrees_gave in idle_with took gave r.0 r.1 t.1 first (t.2 first.follows.later first.follows.later_gave first.follows.agrees first.follows.agrees_gave),
   )

@@ -1,5 +1,3 @@
-pub mod HeldLives
-pub mod GoingOn
 pub mod Asking
 pub mod Stepping
 pub mod Tellings
@@ -8,7 +6,9 @@ pub mod Ranges
 pub mod Hands
 pub mod Changes
 pub mod FirstSteps
+pub mod Seatings
 pub mod Ticked
+pub mod ReadTicks
 pub mod Sounds
 pub mod Fitting
 pub mod Paces

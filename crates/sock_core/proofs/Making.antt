@@ -1,38 +1,33 @@
 -- A machine that is made for a script.
-use Rattle.std.proofs.Common.{◌≡◌, ℕ, zero, suc, ◌+◌, ◌<◌, ◌≤◌, true, false, List, [], ◌∷◌, length, map, replicate, Option, Some, None, IfSome, refl, sym, ap, ◌∙◌, subst, arith, Ok, cond, ◌==◌, if◌then◌else◌, Bool, slice_get}
+use Rattle.std.proofs.Common.{◌≡◌, ℕ, zero, suc, ◌+◌, ◌<◌, ◌≤◌, true, false, List, [], ◌∷◌, length, map, replicate, Option, Some, None, IfSome, refl, sym, ap, ap₂, ◌∙◌, subst, arith, Ok, cond, ◌==◌, if◌then◌else◌, Bool, slice_get}
 use Rattle.std.specs.List.{AllByRecursion}
 use mathlib.Core.Option as core
 use lib.ListN.{get_elem?}
 use Rattle.sock_words.specs.declared.plain.Plan.{Plan}
 use Rattle.sock_words.specs.declared.outcome.Outcome.{Outcome}
-use Rattle.brpc_model.specs.Items.{Item, is_open}
+use Rattle.brpc_model.specs.Items.{Item}
 use Rattle.brpc_model.specs.Script.{script_of}
-use Rattle.brpc_model.specs.Operations.{clients, operations}
-use Rattle.sock_io.specs.Link.{OutState}
-use Rattle.sock_model.specs.Lawful.{PlanFits}
+use Rattle.brpc_model.specs.Operations.{clients, link_names}
+use Rattle.corr_core.specs.declared.marks.Plan.{Plan as IdPlan}
+use Rattle.sock_io.specs.Link.{OutState, InState}
 use Rattle.sock_programs.specs.declared.task.Op.{Op}
 use Rattle.sock_programs.specs.declared.task.Op.TheVariants as ops
 use Rattle.sock_programs.specs.declared.task.Task.{Task}
 use Rattle.sock_programs.specs.declared.task.Sizes.{Sizes}
-use Rattle.sock_programs.specs.Programs.{Program, Do, Say, Sent, Rest, open_from}
+use Rattle.sock_programs.specs.Programs.{Program, Do, Say, Sent, Rest, Retries, open_from}
 use Rattle.sock_programs.specs.Clients.{HeldLife, operation, client_from}
-use Rattle.sock_programs.specs.Cores.{next_step}
+use Rattle.sock_programs.specs.Cores.{resolved, next_step}
 use Rattle.sock_programs.specs.Ticks.{quiet, run}
-use Rattle.sock_programs.specs.Runs.{IsAtRest}
-use Rattle.sock_programs.specs.Scripts.{all_tasks, beginning, programs, opened, set_up, sizes_of}
-use Rattle.sock_programs.specs.Tasks.{Numbered, numbered, opens, plan_of}
+use Rattle.sock_programs.specs.Scripts.{all_tasks, all_programs, beginning, programs, readers_from, opened, set_up, sizes_of}
+use Rattle.sock_programs.specs.Tasks.{calls, opens, plan_of, id_plan_of}
 use Rattle.sock_programs.specs.Told.{AreTasks, IsOpen}
-use Rattle.sock_runs.specs.Sound.{IsWithinLimits}
-use Rattle.report_fits.specs.Limits.{KeepsLimits}
-use Rattle.report_fits.proofs.Lists.{filter_map_short}
-use Rattle.report_fits.proofs.Numbering.{numbered_length}
-use Rattle.report_fits.proofs.Sizes.{keeps_limits, plan_fits}
 use Rattle.report_fits.proofs.TaskLemmas.{tasks_length}
-use Rattle.report_fits.proofs.Tasks.{tasks_of_script}
-use Rattle.whole_runs.proofs.Lengths.{opens_in_range}
-use Rattle.whole_runs.proofs.Starts.{within_limits}
-use Rattle.sock_core.specs.Seats.{SeatData, seat_program}
-use Rattle.sock_core.specs.Links.{LinksData, Agrees, ArePrompt}
+use Rattle.whole_runs.proofs.Starts.{made}
+use Rattle.joint_runs.proofs.Starts.{AreFor}
+use Rattle.call_slots.specs.Slots.{SlotState}
+use Rattle.reader_seats.specs.Readers.{ReaderData}
+use Rattle.client_seats.specs.Seats.{SeatData, seat_program}
+use Rattle.sock_core.specs.Links.{LinksData, Agrees, AgreesGave, ArePrompt}
 use Rattle.sock_core.specs.Machines.{MachineState, core_with}
 use Rattle.sock_core.specs.Runs.{RanFirst}
 use Rattle.sock_core.specs.declared.letter.Letter.{Letter}
@@ -45,32 +40,23 @@ use Rattle.sock_core.proofs.Starting.{AreNew}
 abbrev pub Reads : List Item → Type 0
 Reads script = (bytes : List ℕ) × (script_of bytes ≡ Ok script)
 
-pub limits_of : (script : List Item) → Reads script → KeepsLimits script
-limits_of script reads = keeps_limits reads.0 script reads.1
+module _ (script : List Item) (reads : Reads script) (p : Plan) (q : IdPlan) (is : p ≡ plan_of script) (ids : q ≡ id_plan_of script) (ts : List (List Task)) (tasks : ts ≡ all_tasks script) (cs : List ℕ) (calls_is : cs ≡ calls script) (os : List ℕ) (opens_is : os ≡ opens script) where
+  -- the tables are made for its clients, calls and `open`s
+  pub are_for : AreFor p q ts cs os
+  are_for = subst (λ x. AreFor p q ts cs x) (sym opens_is) (subst (λ x. AreFor p q ts x (opens script)) (sym calls_is) (subst (λ x. AreFor p q x (calls script) (opens script)) (sym tasks)
+      (subst (λ x. AreFor p x (all_tasks script) (calls script) (opens script)) (sym ids) (subst (λ x. AreFor x (id_plan_of script) (all_tasks script) (calls script) (opens script)) (sym is) (made reads.0 script reads.1)))))
 
-module _ (script : List Item) (reads : Reads script) (p : Plan) (is : p ≡ plan_of script) where
-  pub are_tasks : (ts : List (List Task)) → ts ≡ all_tasks script → AreTasks p ts
-  are_tasks ts e = subst (λ q. AreTasks q ts) (sym is) (subst (AreTasks (plan_of script)) (sym e) (tasks_of_script reads.0 script reads.1))
+  pub as_many_seats : length ts ≡ p.seats
+  as_many_seats = ap length tasks ∙ (tasks_length script 0 (clients script + 1) ∙ sym (ap (λ (x : Plan). x.seats) is))
 
-  pub are_within : IsWithinLimits p
-  are_within = subst IsWithinLimits (sym is) (within_limits script (limits_of script reads))
+  pub as_many_links : length (link_names script) ≡ p.links
+  as_many_links = ap (λ (x : Plan). x.links) (sym is)
 
-  pub fits_table : PlanFits p
-  fits_table = subst PlanFits (sym is) (plan_fits script (limits_of script reads))
+  same_opens : length (opens script) ≡ length (link_names script)
+  same_opens = let e = (made reads.0 script reads.1).seats in omega (arith, e)
 
-  pub as_many_seats : (ts : List (List Task)) → ts ≡ all_tasks script → length ts ≡ p.seats
-  as_many_seats ts e = ap length e ∙ (tasks_length script 0 (clients script + 1) ∙ sym (ap (λ (q : Plan). q.seats) is))
-
-  pub few_seats : p.seats ≤ 64
-  few_seats = let limits = limits_of script reads in omega (arith, limits.clients, ap (λ (q : Plan). q.seats) is)
-
-  pub own_opens : (os : List ℕ) → os ≡ opens script → AllByRecursion (λ (o : ℕ). o < p.operations) os
-  own_opens os e = subst (λ (q : Plan). AllByRecursion (λ (o : ℕ). o < q.operations) os) (sym is) (subst (AllByRecursion (λ (o : ℕ). o < (plan_of script).operations)) (sym e) (opens_in_range script))
-
-  pub few_opens : (os : List ℕ) → os ≡ opens script → length os ≤ 4096
-  few_opens os e = let limits = limits_of script reads in
-      let short = filter_map_short (λ (n : Numbered). if is_open n.op.item then Some n.number else None) (numbered script) in
-      let many = numbered_length 0 0 (operations script) in let same = ap length e in let few = limits.operations in omega (arith, short, many, same, few)
+  pub as_many_opens : length os ≡ p.links
+  as_many_opens = ap length opens_is ∙ same_opens ∙ as_many_links
 
 -- ## A machine of the parts
 
@@ -93,9 +79,13 @@ module _ {E : Type 0} (out : E → OutState) (es : List E) (l : LinksData) (outs
   pub all_prompt : AllByRecursion (λ (e : E). (out e).prompt ≡ true) es → ArePrompt l
   all_prompt all k o at = all_at (λ (o : OutState). o.prompt ≡ true) out es all k o (there k o at)
 
-pub parts_new : (p : Plan) (clients : List (List Task)) (l : LinksData) (ws : List ℕ) (letters : List (Option Letter)) (ss : List SeatData) (os : List (Option Outcome)) → AreParts p clients ws letters l.holders l.nexts ss os →
-    ((k : ℕ) (out : OutState) → get_elem? l.outs k ≡ core.some out → out.finished ≡ false) → AreNew p l letters
-parts_new p clients l ws letters ss os parts open_ = record { letters_are = parts.letters_are; holders_are = parts.holders_are; nexts_are = parts.nexts_are; open_ = open_ }
+module _ {E : Type 0} (inn : E → InState) (es : List E) (l : LinksData) (inns : l.inns ≡ map inn es) where
+  pub nothing_given : AllByRecursion (λ (e : E). ((inn e).gave ≡ 0) × IfSome (inn e).gave_bytes (λ bytes. bytes ≡ [])) es → AgreesGave l (λ k. [])
+  nothing_given all k i at = all_at (λ (i : InState). (i.gave ≡ 0) × IfSome i.gave_bytes (λ bytes. bytes ≡ [])) inn es all k i (ap (λ (is : List InState). get_elem? is k) (sym inns) ∙ at)
+
+pub parts_new : (p : Plan) (q : IdPlan) (clients : List (List Task)) (cs opens : List ℕ) (l : LinksData) (ws : List ℕ) (letters : List (Option Letter)) (ids : SlotState) (ss : List SeatData) (rs : List ReaderData) (os : List (Option Outcome)) →
+    AreParts p q clients cs opens ws letters l.holders l.nexts ids ss rs os → ((k : ℕ) (out : OutState) → get_elem? l.outs k ≡ core.some out → out.finished ≡ false) → AreNew p l letters
+parts_new p q clients cs opens l ws letters ids ss rs os parts open_ = record { letters_are = parts.letters_are; holders_are = parts.holders_are; nexts_are = parts.nexts_are; open_ = open_ }
 
 -- ## Seat 0 asks no link
 
@@ -115,50 +105,50 @@ opens_none : (sizes : Sizes) (ts : List Task) → AllByRecursion (λ (t : Task).
 opens_none sizes [] all = tt
 opens_none sizes (t ∷ ts) all = task_none sizes t.number (λ (held : List HeldLife). client_from sizes held ts) t.op all.0 (opens_none sizes ts all.1)
 
-next_none : (program : Program) → AsksNone program → AsksNone (next_step program)
-next_none (Say o outcome next) x = next_none next x.1
-next_none (Sent o next) x = next_none next x
-next_none (Do call next) x = x
-next_none Rest x = x
-next_none other x = absurd x
+-- where nothing waits, what follows asks none either
+resolved_none : (program : Program) → AsksNone program → AsksNone (next_step (resolved [] program))
+resolved_none (Say o outcome next) x = resolved_none next x.1
+resolved_none (Sent o next) x = resolved_none next x
+resolved_none (Do call next) x = x
+resolved_none Rest x = x
+resolved_none (Retries requests after) x = resolved_none after x
+resolved_none _ x = absurd x
 
 plain_first : (sizes : Sizes) (ss : List SeatData) (clients : List (List Task)) → AreBegun sizes ss clients → ((ts : List Task) → slice_get clients 0 ≡ Some ts → AllByRecursion (λ (t : Task). IsOpen t.op) ts) →
-    (seat : SeatData) → get_elem? ss 0 ≡ core.some seat → AsksNone (seat_program sizes seat)
+    (seat : SeatData) → get_elem? ss 0 ≡ core.some seat → AsksNone (seat_program sizes seat) × (seat.waiting ≡ [])
 plain_first sizes [] clients e opens seat at = absurd (core.none-ne-some seat at)
-plain_first sizes (s ∷ ss) [] e opens seat at = absurd cc
+plain_first sizes (s ∷ ss) [] e opens seat at = let f = e.0 in absurd cc
 plain_first sizes (s ∷ ss) (ts ∷ clients) e opens seat at =
-    let first : seat_program sizes s ≡ next_step (client_from sizes [] ts) = cc in
-    subst (λ (x : SeatData). AsksNone (seat_program sizes x)) (core.some-injective s seat at) (subst AsksNone (sym first) (next_none (client_from sizes [] ts) (opens_none sizes ts (opens ts refl))))
+    let f = e.0 in
+    let first : seat_program sizes s ≡ next_step (resolved [] (client_from sizes [] ts)) = cc in
+    subst (λ (x : SeatData). AsksNone (seat_program sizes x) × (x.waiting ≡ [])) (core.some-injective s seat at) (subst AsksNone (sym first) (resolved_none (client_from sizes [] ts) (opens_none sizes ts (opens ts refl))), e.1.0)
 
-pub begins_plain : (m : MachineState) (p : Plan) (clients : List (List Task)) → m.plan ≡ p → AreTasks p clients → AreBegun (sizes_of p) m.seats clients → IsPlain m
-begins_plain m p clients plan are begun seat at = subst (λ (q : Plan). AsksNone (seat_program (sizes_of q) seat)) (sym plan) (plain_first (sizes_of p) m.seats clients begun are.setup seat at)
+pub begins_plain : (m : MachineState) (p : Plan) (q : IdPlan) (clients : List (List Task)) → m.plan ≡ p → m.ids.plan ≡ q → AreTasks p clients → AreBegun (sizes_of p q) m.seats clients → IsPlain m
+begins_plain m p q clients plan ids are begun seat at = subst (λ (z : Sizes). AsksNone (seat_program z seat) × (seat.waiting ≡ [])) (ap₂ sizes_of (sym plan) (sym ids)) (plain_first (sizes_of p q) m.seats clients begun are.setup seat at)
 
 -- ## Behind its setup
 
-module _ (script : List Item) (p : Plan) (ts : List (List Task)) (os : List ℕ) (start : MachineState) (is : p ≡ plan_of script) (tasks : ts ≡ all_tasks script) (numbers : os ≡ opens script)
-    (core_is : core_with start (λ k. []) ≡ beginning p (programs (sizes_of p) ts)) (plan : start.plan ≡ p) (own : start.opens ≡ os) (agrees : Agrees start.links (λ k. [])) where
+module _ (script : List Item) (p : Plan) (q : IdPlan) (ts : List (List Task)) (cs os : List ℕ) (start : MachineState) (is : p ≡ plan_of script) (id_is : q ≡ id_plan_of script) (tasks : ts ≡ all_tasks script) (calls_is : cs ≡ calls script) (numbers : os ≡ opens script)
+    (core_is : core_with start (λ k. []) (λ k. []) ≡ beginning p q (all_programs (programs (sizes_of p q) ts) (readers_from cs 0 os))) (plan : (start.plan ≡ p) × (start.ids.plan ≡ q)) (own : (start.opens ≡ os) × (start.calls ≡ cs))
+    (agrees : Agrees start.links (λ k. []) × AgreesGave start.links (λ k. [])) (m : MachineState) (ran : RanFirst start m) where
   -- the machine begins as a run of the script does
-  begun : core_with start (λ k. []) ≡ opened script
-  begun = core_is ∙ (ap (λ (q : Plan). beginning q (programs (sizes_of q) ts)) is ∙ ap (λ l. beginning (plan_of script) (programs (sizes_of (plan_of script)) l)) tasks)
+  begun : core_with start (λ k. []) (λ k. []) ≡ opened script
+  begun = core_is ∙ ap₂ (λ (x : Plan) (y : IdPlan). beginning x y (all_programs (programs (sizes_of x y) ts) (readers_from cs 0 os))) is id_is
+      ∙ ap (λ l. beginning (plan_of script) (id_plan_of script) (all_programs (programs (sizes_of (plan_of script) (id_plan_of script)) l) (readers_from cs 0 os))) tasks
+      ∙ ap₂ (λ (x y : List ℕ). beginning (plan_of script) (id_plan_of script) (all_programs (programs (sizes_of (plan_of script) (id_plan_of script)) (all_tasks script)) (readers_from x 0 y))) calls_is numbers
 
-  pub plan_made : (m : MachineState) → RanFirst start m → m.plan ≡ plan_of script
-  plan_made m ran = ran.same.0.plan ∙ (plan ∙ is)
+  pub plan_made : (m.plan ≡ plan_of script) × (m.ids.plan ≡ id_plan_of script)
+  plan_made = (ran.same.0.plan ∙ (plan.0 ∙ is), ran.same.0.id_plan ∙ (plan.1 ∙ id_is))
 
-  pub opens_made : (m : MachineState) → RanFirst start m → m.opens ≡ opens script
-  opens_made m ran = ran.same.0.opens ∙ (own ∙ numbers)
+  pub opens_made : (m.opens ≡ opens script) × (m.calls ≡ calls script)
+  opens_made = (ran.same.0.opens ∙ (own.0 ∙ numbers), ran.same.0.calls ∙ (own.1 ∙ calls_is))
 
-  pub agrees_made : (m : MachineState) → RanFirst start m → Agrees m.links (λ k. [])
-  agrees_made m ran = (ran.core (λ k. []) agrees).0
+  pub agrees_made : Agrees m.links (λ k. []) × AgreesGave m.links (λ k. [])
+  agrees_made = let r = ran.core (λ k. []) (λ k. []) agrees.0 agrees.1 in (r.0, r.1)
 
   -- and its setup has been done
-  pub core_made : (m : MachineState) → RanFirst start m → (n : ℕ) × (core_with m (λ k. []) ≡ set_up script n)
-  core_made m ran = (ran.steps, (ran.core (λ k. []) agrees).1 ∙ (ap (λ q. run q (core_with start (λ k. [])) (replicate ran.steps (quiet 0))) (plan ∙ is) ∙ ap (λ c. run (plan_of script) c (replicate ran.steps (quiet 0))) begun))
-
-  pub rest_made : (m : MachineState) → RanFirst start m → IsAtRest (core_with m (λ k. [])) 0
-  rest_made m ran = ran.still (λ k. [])
-
-  pub prompt_made : {H : Type 0} (m : MachineState) → RanFirst start m → (H → ArePrompt start.links) → H → ArePrompt m.links
-  prompt_made m ran prompt = λ all. ran.same.1.prompt (prompt all)
+  pub core_made : (n : ℕ) × (core_with m (λ k. []) (λ k. []) ≡ set_up script n)
+  core_made = (ran.steps, (ran.core (λ k. []) (λ k. []) agrees.0 agrees.1).2 ∙ (ap (λ x. run x (core_with start (λ k. []) (λ k. [])) (replicate ran.steps (quiet 0))) (plan.0 ∙ is) ∙ ap (λ c. run (plan_of script) c (replicate ran.steps (quiet 0))) begun))
 
 -- ## What is left of it
 

@@ -16,7 +16,8 @@ use Rattle.sock_programs.specs.Writings as heads
 use Rattle.sock_programs.specs.Programs.{Program, Do, PutBytes, Write, NO_SOCKET, LAST_VERSION, LAST_GENERATION, open_from}
 use Rattle.sock_programs.specs.Sends.{freed, passed, claim_from}
 use Rattle.sock_programs.specs.Clients.{HeldLife, operation, give_back, client_from, ending_of, drop_of, held_under, without_name}
-use Rattle.sock_programs.specs.Cores.{next_step}
+use Rattle.sock_programs.specs.Cores.{resolved, next_step}
+use Rattle.sock_programs.specs.Heads.{Retry}
 use Rattle.sock_programs.specs.declared.task.Op.TheVariants as ops
 use Rattle.sock_programs.specs.declared.task.Op.{Op}
 use Rattle.sock_programs.specs.declared.task.Sizes.{Sizes}
@@ -53,34 +54,35 @@ calm_paced outs (Write (heads.Walks h top at after) then_) calm = tt
 calm_paced outs (PutBytes k asked bytes next) calm = λ e. absurd (true≢false (sym e ∙ calm))
 calm_paced outs _ calm = tt
 
-abbrev Calm : Program → Type 0
-Calm program = IsCalm (next_step program)
+abbrev Calm : List Retry → Program → Type 0
+Calm w program = IsCalm (next_step (resolved w program))
 
 -- ## Clients
 
-open_calm : (n i o name k : ℕ) (next : Program) → Calm (open_from n i o name k next)
+open_calm : (n i o name k : ℕ) (next : Program) → Calm [] (open_from n i o name k next)
 open_calm zero i o name k next = tt
 open_calm (suc n) i o name k next = tt
 
-claim_calm : (n q o id : ℕ) (bytes : List ℕ) (next : Program) → Calm (claim_from n q o id bytes next)
-claim_calm zero q o id bytes next = tt
-claim_calm (suc n) q o id bytes next = tt
-
-drop_calm : (o : ℕ) (id : Option ℕ) (next : Program) → Calm next → Calm (drop_of o id next)
+drop_calm : (o : ℕ) (id : Option ℕ) (next : Program) → Calm [] next → Calm [] (drop_of o id next)
 drop_calm o None next calm = calm
 drop_calm o (Some id) next calm = tt
 
-give_calm : (held : List HeldLife) → Calm (give_back held)
+give_calm : (held : List HeldLife) → Calm [] (give_back held)
 give_calm [] = tt
 give_calm (h ∷ hs) = tt
 
-pub client_calm : (sizes : Sizes) (held : List HeldLife) (tasks : List Task) → IsCalm (next_step (client_from sizes held tasks))
-client_calm sizes held [] = give_calm held
-client_calm sizes held (t ∷ ts) = by_op t.op (λ hs. client_calm sizes hs ts)
+pub client_calm : (sizes : Sizes) (held : List HeldLife) (w : List Retry) (tasks : List Task) → IsCalm (next_step (resolved w (client_from sizes held tasks)))
+client_calm sizes held (r ∷ w) [] = tt
+client_calm sizes held (r ∷ w) (t ∷ ts) = tt
+client_calm sizes held [] [] = give_calm held
+client_calm sizes held [] (t ∷ ts) = by_op t.op (λ hs. client_calm sizes hs [] ts)
   where
-    by_op : (op : Op) → ((hs : List HeldLife) → Calm (client_from sizes hs ts)) → Calm (operation sizes held t.number (λ held'. client_from sizes held' ts) op)
+    by_op : (op : Op) → ((hs : List HeldLife) → Calm [] (client_from sizes hs ts)) → Calm [] (operation sizes held t.number (λ held'. client_from sizes held' ts) op)
     by_op (ops.Open name k) later = open_calm sizes.slots 0 t.number name k (client_from sizes held ts)
     by_op (ops.Send name bytes) later = tt
+    by_op (ops.Call asked) later = tt
+    by_op (ops.Expire o) later = tt
+    by_op (ops.Join o) later = tt
     by_op (ops.Hold name) later = tt
     by_op (ops.Drop name) later = drop_calm t.number (held_under name held) (client_from sizes (without_name name held) ts) (later (without_name name held))
     by_op (ops.Fail name code) later = tt

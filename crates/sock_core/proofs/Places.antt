@@ -11,8 +11,8 @@ use Rattle.seat_points.specs.declared.point.Step.{Step}
 use Rattle.seat_points.specs.Points.{Around, point_program}
 use Rattle.seat_points.specs.Steps.{step_as, first_in}
 use Rattle.sock_core.specs.declared.machine.Tick.{Tick}
-use Rattle.sock_core.specs.declared.seat.Seat.{Seat}
-use Rattle.sock_core.specs.Seats.{SeatData, lives, seat_data, seat_program, around}
+use Rattle.client_seats.specs.declared.seat.Seat.{Seat}
+use Rattle.client_seats.specs.Seats.{SeatData, lives, seat_data, seat_program, around}
 use Rattle.sock_core.specs.Machines.{MachineState, TableState}
 use Rattle.sock_core.specs.Steps.{IsNext, NextIs, HasNoStep, Fits, StepFits}
 use Rattle.sock_core.specs.Telling.{StepTold, TickTold}

@@ -1,145 +1,83 @@
--- Ticks that don't move, a round of the clients, and rounds up to one in which none moves.
-use Rattle.std.proofs.Common.{◌≡◌, ◌≢◌, refl, ℕ, zero, suc, ◌+◌, ◌-◌, ◌*◌, ◌<◌, ◌≤◌, ◌⊎◌, inl, inr, Bool, true, false, List, [], ◌∷◌, ◌++◌, length, replicate, Option, None, ap, sym, ◌∙◌, arith, subst}
+-- Rounds of the clients and readers up to one in which nothing moved, and steps of seat 0.
+use Rattle.std.proofs.Common.{◌≡◌, ◌≢◌, refl, ℕ, zero, suc, ◌+◌, ◌-◌, ◌<◌, ◌≤◌, ◌⊎◌, inl, inr, Bool, true, false, List, [], ◌∷◌, ◌++◌, replicate, Option, Some, None, ap, ap₂, sym, ◌∙◌, append-nil, append_assoc, arith, subst, ⊎_elim}
 use Rattle.std.proofs.Props.{props}
 use Rattle.std.proofs.lemmas.Bool.{true≢false}
+use Rattle.std.proofs.lemmas.Option.{none-some}
 use Rattle.std.proofs.Math.Logic.{∥∥₁_elim}
-use native.Mathlib.Decide.{ℕ_discrete}
-use mathlib.Core.Logic.{dite}
-use mathlib.Core.Option as core
 use Rattle.sock_words.specs.declared.kind.Kind.{Kind}
 use Rattle.sock_words.specs.declared.plain.Plan.{Plan}
-use Rattle.sock_programs.specs.Cores.{Core, SeatState}
-use Rattle.sock_programs.specs.Ticks.{Moment, ticked, run, quiet, waits, IsPrompt}
-use Rattle.sock_programs.specs.Runs.{kind_in, IsAtRest, from_to, rounds}
-use Rattle.sock_runs.specs.Sound.{Sound, IsAhead}
-use Rattle.sock_runs.specs.Lasts.{Lasts}
-use Rattle.sock_runs.proofs.Unasked.{settled_at}
-use Rattle.sock_runs.proofs.Waiting.{waits_still, still_settles}
-use Rattle.sock_core.specs.declared.machine.On.{On}
+use Rattle.sock_programs.specs.Cores.{Core}
+use Rattle.sock_programs.specs.Ticks.{Moment, seats_of, ticked, run, quiet, waits}
+use Rattle.sock_programs.specs.Runs.{IsAtRest, from_to}
+use Rattle.sock_programs.specs.Scripts.{AreStill}
 use Rattle.sock_core.specs.declared.machine.Tick.{Tick}
 use Rattle.sock_core.specs.declared.machine.Tick.TheVariants.{Moved, Waits, Idle}
-use Rattle.sock_core.specs.Links.{Taken, Agrees, ArePrompt}
-use Rattle.sock_core.specs.Machines.{MachineState, IsSoundMachine, MOST_LEFT, core_with}
-use Rattle.sock_core.specs.Runs.{SameTable, SameLinks, Ticked, Ran, PlayedOn, RanFirst}
-use Rattle.sock_core.specs.Driving.{LastsAtMost, LeavesFewer, LeavesAsMany, Leaves, IsPlain, TickedFirst}
-use Rattle.sock_core.proofs.Joining.{rests, rest_anyhow, some_taken, ran_none, same_table_none, same_table_join, same_links_none, same_links_join, run_append}
-use Rattle.sock_core.proofs.Settling.{ticked_else, many_seats, round_more, rounds_more}
+use Rattle.sock_core.specs.Links.{Taken, Given, Agrees, AgreesGave}
+use Rattle.sock_core.specs.Machines.{MachineState, MOST_LEFT, READERS, core_with}
+use Rattle.sock_core.specs.Runs.{SameTable, SameLinks, Follows, Made, TickIs, TickedWith, Ticked, round_by, RoundWith, Still, HasMoved, SettlesAfter, PlayedWith, PlayedOn, RanFirst}
+use Rattle.sock_core.specs.Driving.{LastsAtMost, LeavesFewer, LeavesAsMany, Leaves, IsPlain, FirstRests, TickedFirst}
+use Rattle.sock_core.proofs.Joining.{same_table_none, same_table_join, same_links_none, same_links_join, seats_append, run_append, follows_none, follows_join, made_join}
+use Rattle.sock_core.proofs.Resting.{Rests}
 
--- ## Seat 0 behind a tick of a client
+-- ## Ticks in which nothing moved
 
-pub client_rests : (a b : MachineState) (i : ℕ) (tick : Tick) → i ≢ 0 → Ticked a b i tick → ((took : Taken) → IsAtRest (core_with a took) 0) → (took : Taken) → IsAtRest (core_with b took) 0
-client_rests a b i tick other t rest took = let some_ = some_taken a.links in let w = t.2 some_.0 some_.1 in
-    let else_ : 0 ≢ w.moment.seat = λ e. other (sym (e ∙ w.is_of)) in
-    rest_anyhow b w.later took 0 (subst (λ (c : Core). IsAtRest c 0) (sym w.core)
-    (ap (λ (o : core.Option SeatState). elim o as (λ x. Option Kind) [ core.none ↦ None | core.some s ↦ kind_in s.program ]) (ticked_else a.plan w.moment.seat 0 else_ (core_with a some_.0) w.moment.answer) ∙ rest some_.0))
+module _ (p : Plan) where
+  still_append : (c : Core) (xs ys : List Moment) → AreStill p c xs → AreStill p (run p c xs) ys → AreStill p c (xs ++ ys)
+  still_append c [] ys first later = later
+  still_append c (m ∷ ms) ys first later = (first.0, still_append (ticked p c m) ms ys first.1 later)
 
--- ## A tick that doesn't move
+  still_parts : (c : Core) (xs ys : List Moment) → AreStill p c (xs ++ ys) → AreStill p c xs × AreStill p (run p c xs) ys
+  still_parts c [] ys all = (tt, all)
+  still_parts c (m ∷ ms) ys all = let parts = still_parts (ticked p c m) ms ys all.1 in ((all.0, parts.0), parts.1)
 
--- the seat is at rest, or waits for what is there
-abbrev pub IsPaused : Plan → Core → ℕ → Type 0
-IsPaused p c i = IsAtRest c i ⊎ ((m : Moment) × (m.seat ≡ i) × IsPrompt m × (waits p c m ≡ true))
-
--- the clients before this one are
-abbrev pub ArePaused : MachineState → ℕ → Type 0
-ArePaused m n = ∥ ((s : IsSoundMachine m) × ((i : ℕ) → 0 < i → i < n → IsPaused m.plan (core_with m s.took) i)) ∥₁
-
--- a sound machine with the same core
-record Alike (a b : MachineState) (s : IsSoundMachine a) : Type 0 where
-  pub sound : IsSoundMachine b
-  pub core : core_with b sound.took ≡ core_with a s.took
-
-module _ (a b : MachineState) (i : ℕ) (s : IsSoundMachine a) where
-  alike : SameTable a b → (later : Taken) → Agrees b.links later → core_with b later ≡ core_with a s.took → Alike a b s
-  alike table later agrees core = record {
-    sound = record {
-      took = later;
-      agrees = agrees;
-      ahead = subst IsAhead (sym core) s.ahead;
-      views = s.views;
-      sound = subst (λ (q : Plan). Sound q (core_with b later) s.views) (sym table.plan) (subst (λ (x : Core). Sound a.plan x s.views) (sym core) s.sound);
-      few = s.few;
-      left = s.left;
-      lasts = subst (λ (q : Plan). Lasts q (core_with b later) s.views s.left) (sym table.plan) (subst (λ (x : Core). Lasts a.plan x s.views s.left) (sym core) s.lasts);
-      bounded = bounded;
-    };
-    core = core;
-  }
-    where
-      bounded : s.left + 20 * length b.opens < MOST_LEFT
-      bounded = let e = ap length table.opens in let h = s.bounded in omega (arith, e, h)
-
-  waits_alike : (what : On) → Ticked a b i (Waits what) → Alike a b s
-  waits_alike what t = let w = t.2 s.took s.agrees in alike t.0 w.later w.agrees (w.core ∙ waits_still a.plan (core_with a s.took) s.views w.moment s.sound s.ahead w.answered w.is.0)
-
-  idle_alike : Ticked a b i Idle → Alike a b s
-  idle_alike t = let w = t.2 s.took s.agrees in alike t.0 w.later w.agrees (w.core ∙ rests a.plan (core_with a s.took) w.moment w.is)
-
-  waits_paused : (what : On) → ArePrompt a.links → Ticked a b i (Waits what) → IsPaused a.plan (core_with a s.took) i
-  waits_paused what prompt t = let w = t.2 s.took s.agrees in inr (w.moment, w.is_of, w.prompt prompt, w.is.0)
-
-  idle_paused : Ticked a b i Idle → IsPaused a.plan (core_with a s.took) i
-  idle_paused t = let w = t.2 s.took s.agrees in inl (subst (IsAtRest (core_with a s.took)) w.is_of w.is)
-
-abbrev IsStill : Tick → Type 0
+-- a tick that didn't move
+abbrev pub IsStill : Tick → Type 0
 IsStill tick = (kind : Kind) → tick ≡ Moved kind → ⊥
 
-still_alike : (a b : MachineState) (i : ℕ) (s : IsSoundMachine a) (tick : Tick) → IsStill tick → Ticked a b i tick → Alike a b s
-still_alike a b i s (Moved kind) still t = absurd (still kind refl)
-still_alike a b i s (Waits what) still t = waits_alike a b i s what t
-still_alike a b i s Idle still t = idle_alike a b i s t
+tick_still : (m : MachineState) (c : Core) (moment : Moment) (tick : Tick) → IsStill tick → TickIs m c moment tick → AreStill m.plan c (moment ∷ [])
+tick_still m c moment (Moved kind) still is = absurd (still kind refl)
+tick_still m c moment (Waits on_) still is = (inr is.0, tt)
+tick_still m c moment Idle still is = (inl is, tt)
 
-still_paused : (a b : MachineState) (i : ℕ) (s : IsSoundMachine a) (tick : Tick) → IsStill tick → ArePrompt a.links → Ticked a b i tick → IsPaused a.plan (core_with a s.took) i
-still_paused a b i s (Moved kind) still prompt t = absurd (still kind refl)
-still_paused a b i s (Waits what) still prompt t = waits_paused a b i s what prompt t
-still_paused a b i s Idle still prompt t = idle_paused a b i s t
+tick_moved : (m : MachineState) (c : Core) (moment : Moment) (kind : Kind) → TickIs m c moment (Moved kind) → AreStill m.plan c (moment ∷ []) → ⊥
+tick_moved m c moment kind is all = ⊎_elim (λ rest. absurd (none-some kind (sym rest ∙ is.0))) (λ waits_. absurd (true≢false (sym waits_ ∙ is.1))) all.0
 
--- one client more
-paused_more : (a b : MachineState) (i : ℕ) (tick : Tick) → IsStill tick → ArePrompt a.links → Ticked a b i tick → ArePaused a i → ArePaused b (i + 1)
-paused_more a b i tick still prompt t paused = ∥∥₁_elim paused (hlevel props) (λ p. let s = p.0 in let like = still_alike a b i s tick still t in
-    ∣ (
-      like.sound,
-      λ j some_ below. subst (λ (q : Plan). IsPaused q (core_with b like.sound.took) j) (sym t.0.plan) (subst (λ (c : Core). IsPaused a.plan c j) (sym like.core)
-          (dite (ℕ_discrete j i) (λ same. subst (IsPaused a.plan (core_with a s.took)) (sym same) (still_paused a b i s tick still prompt t)) (λ differ. p.1 j some_ (before j below differ)))),
-    ) ∣₁)
-  where
-    before : (j : ℕ) → j < i + 1 → j ≢ i → j < i
-    before j below differ = omega (arith, below, differ)
+-- ## A round so far
 
--- where all clients and seat 0 are paused, no seat has a step left
-pub paused_rest : (m : MachineState) (n : ℕ) → length m.seats ≡ n → ArePaused m n → ((took : Taken) → IsAtRest (core_with m took) 0) → (took : Taken) (i : ℕ) → IsAtRest (core_with m took) i
-paused_rest m n many paused rest took i = ∥∥₁_elim paused (hlevel props) (λ p. rest_anyhow m p.0.took took i (settled p.0 p.1 i))
-  where
-    settled : (s : IsSoundMachine m) → ((i : ℕ) → 0 < i → i < n → IsPaused m.plan (core_with m s.took) i) → (i : ℕ) → IsAtRest (core_with m s.took) i
-    settled s each = settled_at (core_with m s.took) (still_settles m.plan (core_with m s.took) s.views s.sound s.ahead by_seat)
-      where
-        by_seat : (i : ℕ) → i < length (core_with m s.took).seats → IsPaused m.plan (core_with m s.took) i
-        by_seat zero inside = inl (rest s.took)
-        by_seat (suc i) inside = let e = many_seats m.plan m.links s.took 0 m.seats in each (suc i) (omega arith) (omega (arith, inside, e, many))
+-- whether something moved in these ticks
+abbrev pub IsSo : Bool → Plan → Core → List Moment → Type 0
+IsSo true p c ms = AreStill p c ms → ⊥
+IsSo false p c ms = AreStill p c ms
 
--- ## A round
+so_still : (went : Bool) (p : Plan) (c : Core) (xs ys : List Moment) → IsSo went p c xs → AreStill p (run p c xs) ys → IsSo went p c (xs ++ ys)
+so_still true p c xs ys so later = λ all. so (still_parts p c xs ys all).0
+so_still false p c xs ys so later = still_append p c xs ys so later
 
-pub record RoundSoFar (m fresh : MachineState) (seat : ℕ) (went : Bool) : Type 0 where
-  pub inside : seat ≤ m.plan.seats
-  pub ran : Ran m fresh (from_to 1 (seat - 1))
+-- ticks of these seats, in which something moved or nothing did
+pub record SeatsWith (went : Bool) (seats : List ℕ) (old new : MachineState) (took : Taken) (gave : Given) : Type 0 where
+  pub moments : List Moment
+  pub are_of : seats_of moments ≡ seats
+  pub is : IsSo went old.plan (core_with old took gave) moments
+  pub follows : Follows old new took gave moments
+
+pub record RoundSoFar (m fresh : MachineState) (seats : List ℕ) (went : Bool) : Type 0 where
+  pub ran : Made m fresh (SeatsWith went seats m fresh)
   pub as_many : LeavesAsMany m fresh
   pub fewer : went ≡ true → LeavesFewer m fresh
-  pub still : went ≡ false → ArePrompt m.links → ArePaused fresh seat
-  pub rest : (took : Taken) → IsAtRest (core_with fresh took) 0
-  pub many : length fresh.seats ≡ fresh.plan.seats
+  pub rest : FirstRests fresh
+  pub enough : fresh.short ≡ false
 
-pub round_begins : (m : MachineState) → 1 ≤ m.plan.seats → LastsAtMost m (MOST_LEFT - 1) → ((took : Taken) → IsAtRest (core_with m took) 0) → length m.seats ≡ m.plan.seats → RoundSoFar m m 1 false
-round_begins m some_ lasts rest many = record {
-  inside = some_;
-  ran = ran_none m;
+pub round_begins : (m : MachineState) → m.short ≡ false → FirstRests m → RoundSoFar m m [] false
+round_begins m enough rest = record {
+  ran = (same_table_none m, same_links_none m, λ took gave agrees agrees_gave. record { moments = []; are_of = refl; is = tt; follows = follows_none m took gave agrees agrees_gave });
   as_many = λ n h. h;
   fewer = λ e. absurd (true≢false (sym e));
-  still = λ e prompt. ∥∥₁_elim lasts (hlevel props) (λ s. ∣ (s.0, λ i some_ below. absurd (omega (arith, some_, below))) ∣₁);
   rest = rest;
-  many = many;
+  enough = enough;
 }
 
 less_one : (m : MachineState) (n : ℕ) → LastsAtMost m (n - 1) → LastsAtMost m n
-less_one m n lasts = ∥∥₁_elim lasts (hlevel props) (λ s. let h = s.1 in ∣ (s.0, omega (arith, h)) ∣₁)
+less_one m n lasts = (lasts.0, ∥∥₁_elim lasts.1 (hlevel props) (λ s. let h = s.1 in ∣ (s.0, omega (arith, h)) ∣₁))
 
 leaves_as_many : (tick : Tick) (a b : MachineState) → Leaves tick a b → LeavesAsMany a b
 leaves_as_many (Moved kind) a b leaves n lasts = less_one b n (leaves n lasts).1
@@ -155,64 +93,159 @@ fewer_then a b c first later n lasts = let f = first n lasts in (f.0, later (n -
 then_fewer : (a b c : MachineState) → LeavesAsMany a b → LeavesFewer b c → LeavesFewer a c
 then_fewer a b c first later n lasts = later n (first n lasts)
 
-module _ (m fresh next : MachineState) (seat : ℕ) (went : Bool) (tick : Tick) (some_ : 0 < seat) (below : seat + 1 ≤ m.plan.seats) (so_far : RoundSoFar m fresh seat went) (t : Ticked fresh next seat tick) (leaves : Leaves tick fresh next)
-    (many : length next.seats ≡ next.plan.seats) where
-  ran_on : Ran m next (from_to 1 ((seat + 1) - 1))
-  ran_on = let a : (seat - 1) + 1 ≡ seat = omega (arith, some_) in let b : (seat + 1) - 1 ≡ (seat - 1) + 1 = omega (arith, some_) in
-      subst (λ n. Ran m next (from_to 1 n)) (sym b) (round_more m fresh next (seat - 1) tick so_far.ran (subst (λ n. Ticked fresh next n tick) (sym a) t))
+-- what holds of the core behind a machine holds of the run that led to it
+at_run : (a b : MachineState) (took : Taken) (gave : Given) (xs : List Moment) (f : Follows a b took gave xs) → SameTable a b → (P : Plan → Core → Type 0) → P b.plan (core_with b f.later f.later_gave) → P a.plan (run a.plan (core_with a took gave) xs)
+at_run a b took gave xs f table P h = subst (λ (d : Core). P a.plan d) f.core (subst (λ (p : Plan). P p (core_with b f.later f.later_gave)) table.plan h)
 
-  rest_on : (took : Taken) → IsAtRest (core_with next took) 0
-  rest_on = client_rests fresh next seat tick (λ e. absurd (omega (arith, some_, e))) t so_far.rest
+module _ (m fresh next : MachineState) (seats : List ℕ) (i : ℕ) (went : Bool) (tick : Tick) (so_far : RoundSoFar m fresh seats went) (t : Ticked fresh next i tick) (leaves : Leaves tick fresh next) (enough : next.short ≡ false) (rest : FirstRests next) where
+  -- the ticks with one more
+  more_with : (gone : Bool) → ((c : Core) (xs : List Moment) (moment : Moment) → IsSo went m.plan c xs → TickIs fresh (run m.plan c xs) moment tick → SameTable m fresh → IsSo gone m.plan c (xs ++ moment ∷ [])) → Made m next (SeatsWith gone (seats ++ i ∷ []) m next)
+  more_with gone so = made_join m fresh next (SeatsWith went seats m fresh) (TickedWith fresh next i tick) (SeatsWith gone (seats ++ i ∷ []) m next) so_far.ran t
+      (λ took gave agrees agrees_gave table links after x later. let f = x.follows in let y = later f.later f.later_gave f.agrees f.agrees_gave in record {
+        moments = x.moments ++ y.moment ∷ [];
+        are_of = seats_append x.moments (y.moment ∷ []) ∙ ap₂ (λ (is : List ℕ) (j : ℕ). is ++ j ∷ []) x.are_of y.is_of;
+        is = so (core_with m took gave) x.moments y.moment x.is (subst (λ (d : Core). TickIs fresh d y.moment tick) f.core y.is) table;
+        follows = follows_join m fresh next took gave x.moments (y.moment ∷ []) table links after f y.follows;
+      })
 
-  pub round_moved : (kind : Kind) → tick ≡ Moved kind → RoundSoFar m next (seat + 1) true
+  pub round_moved : (kind : Kind) → tick ≡ Moved kind → RoundSoFar m next (seats ++ i ∷ []) true
   round_moved kind is = record {
-    inside = below;
-    ran = ran_on;
+    ran = more_with true (λ c xs moment so at table all. tick_moved fresh (run m.plan c xs) moment kind (subst (λ (x : Tick). TickIs fresh (run m.plan c xs) moment x) is at)
+        (subst (λ (p : Plan). AreStill p (run m.plan c xs) (moment ∷ [])) (sym table.plan) (still_parts m.plan c xs (moment ∷ []) all).1));
     as_many = λ n lasts. leaves_as_many tick fresh next leaves n (so_far.as_many n lasts);
     fewer = λ e. then_fewer m fresh next so_far.as_many (leaves_fewer kind tick fresh next is leaves);
-    still = λ e. absurd (true≢false e);
-    rest = rest_on;
-    many = many;
+    rest = rest;
+    enough = enough;
   }
 
-  pub round_still : ((kind : Kind) → tick ≡ Moved kind → ⊥) → RoundSoFar m next (seat + 1) went
+  pub round_still : IsStill tick → RoundSoFar m next (seats ++ i ∷ []) went
   round_still still = record {
-    inside = below;
-    ran = ran_on;
+    ran = more_with went (λ c xs moment so at table. so_still went m.plan c xs (moment ∷ []) so (subst (λ (p : Plan). AreStill p (run m.plan c xs) (moment ∷ [])) table.plan (tick_still fresh (run m.plan c xs) moment tick still at)));
     as_many = λ n lasts. leaves_as_many tick fresh next leaves n (so_far.as_many n lasts);
     fewer = λ e. fewer_then m fresh next (so_far.fewer e) (leaves_as_many tick fresh next leaves);
-    still = λ e prompt. paused_more fresh next seat tick still (so_far.ran.1.prompt prompt) t (so_far.still e prompt);
-    rest = rest_on;
-    many = many;
+    rest = rest;
+    enough = enough;
   }
+
+-- ## Its seats
+
+from_to_more : (i n : ℕ) → from_to i (suc n) ≡ from_to i n ++ (i + n) ∷ []
+from_to_more i zero = ap (λ (j : ℕ). j ∷ []) (let e : i ≡ i + 0 = omega arith in e)
+from_to_more i (suc n) = ap (λ (js : List ℕ). i ∷ js) (from_to_more (i + 1) n ∙ ap (λ (j : ℕ). from_to (i + 1) n ++ j ∷ []) (let e : (i + 1) + n ≡ i + suc n = omega arith in e))
+
+-- one client more, and one reader more
+pub client_more : (seat : ℕ) → 0 < seat → from_to 1 (seat - 1) ++ seat ∷ [] ≡ from_to 1 ((seat + 1) - 1)
+client_more seat some_ = let place : seat ≡ 1 + (seat - 1) = omega (arith, some_) in let many : suc (seat - 1) ≡ (seat + 1) - 1 = omega (arith, some_) in
+    ap (λ (j : ℕ). from_to 1 (seat - 1) ++ j ∷ []) place ∙ sym (from_to_more 1 (seat - 1)) ∙ ap (from_to 1) many
+
+pub reader_more : (clients : List ℕ) (link : ℕ) → (clients ++ from_to READERS link) ++ (READERS + link) ∷ [] ≡ clients ++ from_to READERS (link + 1)
+reader_more clients link = let many : suc link ≡ link + 1 = omega arith in
+    append_assoc clients (from_to READERS link) ((READERS + link) ∷ []) ∙ ap (λ (l : List ℕ). clients ++ l) (sym (from_to_more READERS link) ∙ ap (from_to READERS) many)
+
+-- ## A whole round
+
+module _ (m fresh : MachineState) (went : Bool) (so_far : RoundSoFar m fresh (round_by m.plan) went) where
+  pub round_went : went ≡ true → HasMoved m fresh × LeavesFewer m fresh
+  round_went e = ((so_far.ran.0, so_far.ran.1, λ took gave agrees agrees_gave. let w = so_far.ran.2 took gave agrees agrees_gave in
+      record { moments = w.moments; are_of = w.are_of; is = subst (λ b. IsSo b m.plan (core_with m took gave) w.moments) e w.is; follows = w.follows }), so_far.fewer e)
+
+  pub round_stood : went ≡ false → Still m fresh × (fresh.short ≡ false)
+  round_stood e = ((so_far.ran.0, so_far.ran.1, λ took gave agrees agrees_gave. let w = so_far.ran.2 took gave agrees agrees_gave in
+      record { moments = w.moments; are_of = w.are_of; is = subst (λ b. IsSo b m.plan (core_with m took gave) w.moments) e w.is; follows = w.follows }), so_far.enough)
 
 -- ## Rounds
 
+-- so many rounds, in each of which something moved
+abbrev pub MovedRounds : Plan → ℕ → Core → List Moment → Type 0
+MovedRounds p zero c ms = ms ≡ []
+MovedRounds p (suc n) c ms = (now later : List Moment) × (ms ≡ now ++ later) × (seats_of now ≡ round_by p) × (AreStill p c now → ⊥) × MovedRounds p n (run p c now) later
+
+module _ (p : Plan) where
+  -- one more, in which something moved
+  moved_more : (n : ℕ) (c : Core) (xs ys : List Moment) → MovedRounds p n c xs → seats_of ys ≡ round_by p → (AreStill p (run p c xs) ys → ⊥) → MovedRounds p (suc n) c (xs ++ ys)
+  moved_more zero c xs ys none_ are moved = (
+    ys,
+    [],
+    ap (λ (l : List Moment). l ++ ys) none_ ∙ sym (append-nil ys),
+    are,
+    subst (λ (l : List Moment). AreStill p (run p c l) ys → ⊥) none_ moved,
+    refl,
+  )
+  moved_more (suc n) c xs ys rounds are moved = (
+    rounds.0,
+    rounds.1 ++ ys,
+    ap (λ (l : List Moment). l ++ ys) rounds.2 ∙ append_assoc rounds.0 rounds.1 ys,
+    rounds.3,
+    rounds.4,
+    moved_more n (run p c rounds.0) rounds.1 ys rounds.5 are (subst (λ (d : Core). AreStill p d ys → ⊥) (ap (run p c) rounds.2 ∙ run_append p c rounds.0 rounds.1) moved),
+  )
+
+  -- and one in which nothing did
+  settles_after : (n : ℕ) (c : Core) (xs ys : List Moment) → MovedRounds p n c xs → seats_of ys ≡ round_by p → AreStill p (run p c xs) ys → SettlesAfter p n c (xs ++ ys)
+  settles_after zero c xs ys none_ are still = subst (λ (l : List Moment). (seats_of (l ++ ys) ≡ round_by p) × AreStill p c (l ++ ys)) (sym none_) (are, subst (λ (l : List Moment). AreStill p (run p c l) ys) none_ still)
+  settles_after (suc n) c xs ys rounds are still = (
+    rounds.0,
+    rounds.1 ++ ys,
+    ap (λ (l : List Moment). l ++ ys) rounds.2 ∙ append_assoc rounds.0 rounds.1 ys,
+    rounds.3,
+    rounds.4,
+    settles_after n (run p c rounds.0) rounds.1 ys rounds.5 are (subst (λ (d : Core). AreStill p d ys) (ap (run p c) rounds.2 ∙ run_append p c rounds.0 rounds.1) still),
+  )
+
+pub record MovedWith (count : ℕ) (old new : MachineState) (took : Taken) (gave : Given) : Type 0 where
+  pub moments : List Moment
+  pub rounds : MovedRounds old.plan count (core_with old took gave) moments
+  pub follows : Follows old new took gave moments
+
 pub record PlayedSoFar (m fresh : MachineState) (count : ℕ) : Type 0 where
-  pub ran : Ran m fresh (rounds count (m.plan.seats - 1))
-  pub rest : (took : Taken) → IsAtRest (core_with fresh took) 0
+  pub ran : Made m fresh (MovedWith count m fresh)
+  pub rest : FirstRests fresh
   pub below : count < MOST_LEFT
   pub left : LastsAtMost fresh (MOST_LEFT - 1 - count)
 
-pub played_none : (m : MachineState) → ((took : Taken) → IsAtRest (core_with m took) 0) → LastsAtMost m (MOST_LEFT - 1) → PlayedSoFar m m 0
-played_none m rest left = record { ran = ran_none m; rest = rest; below = omega arith; left = left }
+pub played_none : (m : MachineState) → FirstRests m → LastsAtMost m (MOST_LEFT - 1) → PlayedSoFar m m 0
+played_none m rest left = record {
+  ran = (same_table_none m, same_links_none m, λ took gave agrees agrees_gave. record { moments = []; rounds = refl; follows = follows_none m took gave agrees agrees_gave });
+  rest = rest;
+  below = omega arith;
+  left = left;
+}
 
 -- one more that moved leaves room for another
 pub fewer_left : (m fresh : MachineState) (count : ℕ) → LeavesFewer m fresh → LastsAtMost m (MOST_LEFT - 1 - count) → (count + 1 < MOST_LEFT) × LastsAtMost fresh (MOST_LEFT - 1 - (count + 1))
 fewer_left m fresh count fewer left = let f = fewer (MOST_LEFT - 1 - count) left in let a = f.0 in let e : (MOST_LEFT - 1 - count) - 1 ≡ MOST_LEFT - 1 - (count + 1) = omega arith in
     (omega (arith, a), subst (LastsAtMost fresh) e f.1)
 
-module _ (m fresh next : MachineState) (count : ℕ) (so_far : PlayedSoFar m fresh count) (ran : Ran fresh next (from_to 1 (fresh.plan.seats - 1))) (rest : (took : Taken) → IsAtRest (core_with next took) 0) where
-  played_on : Ran m next (rounds (count + 1) (m.plan.seats - 1))
-  played_on = let e : suc count ≡ count + 1 = omega arith in
-      subst (λ n. Ran m next (rounds n (m.plan.seats - 1))) e (rounds_more m fresh next count (m.plan.seats - 1) so_far.ran (subst (λ (p : Plan). Ran fresh next (from_to 1 (p.seats - 1))) so_far.ran.0.plan ran))
+module _ (m fresh next : MachineState) (count : ℕ) (so_far : PlayedSoFar m fresh count) where
+  -- a round behind these
+  round_at : (took : Taken) (gave : Given) (Is : Plan → Core → List Moment → Type 0) (x : MovedWith count m fresh took gave) (y : RoundWith Is fresh next x.follows.later x.follows.later_gave) → Is m.plan (run m.plan (core_with m took gave) x.moments) y.moments
+  round_at took gave Is x y = at_run m fresh took gave x.moments x.follows so_far.ran.0 (λ p d. Is p d y.moments) y.is
 
-  pub played_more : LeavesFewer fresh next → PlayedSoFar m next (count + 1)
-  played_more fewer = let f = fewer_left fresh next count fewer so_far.left in record { ran = played_on; rest = rest; below = f.0; left = f.1 }
+  round_of_it : (took : Taken) (gave : Given) (Is : Plan → Core → List Moment → Type 0) (x : MovedWith count m fresh took gave) (y : RoundWith Is fresh next x.follows.later x.follows.later_gave) → seats_of y.moments ≡ round_by m.plan
+  round_of_it took gave Is x y = y.are_of ∙ ap round_by so_far.ran.0.plan
+
+  pub played_more : HasMoved fresh next → FirstRests next → LeavesFewer fresh next → PlayedSoFar m next (count + 1)
+  played_more moved rest fewer = let f = fewer_left fresh next count fewer so_far.left in let e : suc count ≡ count + 1 = omega arith in record {
+    ran = subst (λ n. Made m next (MovedWith n m next)) e
+        (made_join m fresh next (MovedWith count m fresh) (RoundWith (λ p c ms. AreStill p c ms → ⊥) fresh next) (MovedWith (suc count) m next) so_far.ran moved (λ took gave agrees agrees_gave table links after x later. let g = x.follows in
+        let y = later g.later g.later_gave g.agrees g.agrees_gave in record {
+          moments = x.moments ++ y.moments;
+          rounds = moved_more m.plan count (core_with m took gave) x.moments y.moments x.rounds (round_of_it took gave (λ p c ms. AreStill p c ms → ⊥) x y) (round_at took gave (λ p c ms. AreStill p c ms → ⊥) x y);
+          follows = follows_join m fresh next took gave x.moments y.moments table links after g y.follows;
+        }));
+    rest = rest;
+    below = f.0;
+    left = f.1;
+  }
 
   -- the last one
-  pub played_last : (ArePrompt fresh.links → (took : Taken) (i : ℕ) → IsAtRest (core_with next took) i) → PlayedOn m next
-  played_last still = record { more = count + 1; ran = played_on; still = λ prompt took agrees i some_ inside. still (so_far.ran.1.prompt prompt) took i }
+  pub played_last : Still fresh next → PlayedOn m next
+  played_last still = made_join m fresh next (MovedWith count m fresh) (RoundWith AreStill fresh next) (PlayedWith m next) so_far.ran still (λ took gave agrees agrees_gave table links after x later. let g = x.follows in
+      let y = later g.later g.later_gave g.agrees g.agrees_gave in record {
+        moments = x.moments ++ y.moments;
+        settles = record { rounds = count; after = settles_after m.plan count (core_with m took gave) x.moments y.moments x.rounds (round_of_it took gave AreStill x y) (round_at took gave AreStill x y) };
+        follows = follows_join m fresh next took gave x.moments y.moments table links after g y.follows;
+      })
 
 -- ## Seat 0
 
@@ -228,19 +261,28 @@ pub record FirstSoFar (m fresh : MachineState) (count : ℕ) : Type 0 where
   pub links : SameLinks m fresh
   pub plain : IsPlain fresh
   pub ends : fresh.ends ≡ m.ends
-  pub core : (took : Taken) → Agrees m.links took → Agrees fresh.links took × (core_with fresh took ≡ run m.plan (core_with m took) (replicate count (quiet 0)))
+  pub core : (took : Taken) (gave : Given) → Agrees m.links took → AgreesGave m.links gave → Agrees fresh.links took × AgreesGave fresh.links gave × (core_with fresh took gave ≡ run m.plan (core_with m took gave) (replicate count (quiet 0)))
   pub below : count < MOST_LEFT
   pub left : LastsAtMost fresh (MOST_LEFT - 1 - count)
 
 pub first_none : (m : MachineState) → IsPlain m → LastsAtMost m (MOST_LEFT - 1) → FirstSoFar m m 0
-first_none m plain left = record { table = same_table_none m; links = same_links_none m; plain = plain; ends = refl; core = λ took agrees. (agrees, refl); below = omega arith; left = left }
+first_none m plain left = record {
+  table = same_table_none m;
+  links = same_links_none m;
+  plain = plain;
+  ends = refl;
+  core = λ took gave agrees agrees_gave. (agrees, agrees_gave, refl);
+  below = omega arith;
+  left = left;
+}
 
 module _ (m fresh next : MachineState) (count : ℕ) (tick : Tick) (so_far : FirstSoFar m fresh count) (t : Ticked fresh next 0 tick) (first : TickedFirst fresh next) where
-  core_on : (took : Taken) → Agrees m.links took → Agrees next.links took × (core_with next took ≡ run m.plan (core_with m took) (replicate (count + 1) (quiet 0)))
-  core_on took agrees = let f = so_far.core took agrees in let g = first.2 took f.0 in (
+  core_on : (took : Taken) (gave : Given) → Agrees m.links took → AgreesGave m.links gave → Agrees next.links took × AgreesGave next.links gave × (core_with next took gave ≡ run m.plan (core_with m took gave) (replicate (count + 1) (quiet 0)))
+  core_on took gave agrees agrees_gave = let f = so_far.core took gave agrees agrees_gave in let g = first.2 took gave f.0 f.1 in (
     g.0,
-    g.1 ∙ ap (λ (p : Plan). ticked p (core_with fresh took) (quiet 0)) so_far.table.plan ∙ ap (λ (c : Core). ticked m.plan c (quiet 0)) f.1
-        ∙ sym (run_append m.plan (core_with m took) (replicate count (quiet 0)) (quiet 0 ∷ [])) ∙ ap (run m.plan (core_with m took)) (sym (replicate_more count)),
+    g.1,
+    g.2 ∙ ap (λ (p : Plan). ticked p (core_with fresh took gave) (quiet 0)) so_far.table.plan ∙ ap (λ (c : Core). ticked m.plan c (quiet 0)) f.2
+        ∙ sym (run_append m.plan (core_with m took gave) (replicate count (quiet 0)) (quiet 0 ∷ [])) ∙ ap (run m.plan (core_with m took gave)) (sym (replicate_more count)),
   )
 
   pub first_more : LeavesFewer fresh next → FirstSoFar m next (count + 1)
@@ -254,21 +296,11 @@ module _ (m fresh next : MachineState) (count : ℕ) (tick : Tick) (so_far : Fir
     left = f.1;
   }
 
-  pub first_last : ((took : Taken) → IsAtRest (core_with next took) 0) → RanFirst m next
+  pub first_last : Rests next 0 → RanFirst m next
   first_last rest = record {
     same = (same_table_join m fresh next so_far.table t.0, same_links_join m fresh next so_far.links t.1);
+    ends = first.1 ∙ so_far.ends;
     steps = count + 1;
     core = core_on;
     still = rest;
   }
-
--- behind the last client
-module _ (m fresh : MachineState) (seat : ℕ) (went : Bool) (so_far : RoundSoFar m fresh seat went) (past : m.plan.seats ≤ seat) where
-  abbrev last_is : seat ≡ m.plan.seats
-  last_is = let inside = so_far.inside in omega (arith, inside, past)
-
-  pub round_ran : Ran m fresh (from_to 1 (m.plan.seats - 1))
-  round_ran = subst (λ n. Ran m fresh (from_to 1 (n - 1))) last_is so_far.ran
-
-  pub round_rests : went ≡ false → ArePrompt m.links → (took : Taken) (i : ℕ) → IsAtRest (core_with fresh took) i
-  round_rests e prompt = paused_rest fresh m.plan.seats (so_far.many ∙ ap (λ (p : Plan). p.seats) so_far.ran.0.plan) (subst (ArePaused fresh) last_is (so_far.still e prompt)) so_far.rest

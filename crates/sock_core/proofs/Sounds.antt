@@ -31,7 +31,7 @@ use Rattle.seat_points.specs.Steps.{First, OfCall, OfMessage, step_as, first_in}
 use Rattle.seat_points.specs.Steps as kinds
 use Rattle.seat_points.proofs.StepFacts.{FitsSizes}
 use Rattle.sock_core.specs.declared.letter.Letter.{Letter}
-use Rattle.sock_core.specs.Seats.{SeatData, around, seat_program}
+use Rattle.client_seats.specs.Seats.{SeatData, around, seat_program}
 use Rattle.sock_core.specs.Links.{LinksData, Taken, holder_of, is_done, link_with, link_home, homes_of, in_hand, hand_of}
 use Rattle.sock_core.specs.Machines.{MachineState, IsSoundMachine, table_of, seat_state, core_with}
 use Rattle.sock_core.specs.Steps.{IsSized}

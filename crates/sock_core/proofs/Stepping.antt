@@ -1,13 +1,17 @@
 -- Where a seat goes on behind each kind of step.
-use Rattle.std.proofs.Common.{◌≡◌, refl, ℕ, zero, suc, Bool, List, [], ◌∷◌, ◌++◌, length, map, take, Option, Some, ap, sym, ◌∙◌, arith, subst}
+use Rattle.std.proofs.Common.{◌≡◌, refl, ℕ, zero, suc, ◌+◌, Bool, true, false, if◌then◌else◌, List, [], ◌∷◌, ◌++◌, length, map, take, Option, Some, ap, ap₂, sym, ◌∙◌, arith, subst}
 use Rattle.sock_words.specs.declared.outcome.Outcome.{Outcome}
 use Rattle.sock_io.specs.declared.link.Put.{Put}
 use Rattle.sock_io.specs.declared.link.Put.TheVariants as puts
-use Rattle.sock_message.specs.Pieces.{OnItsWay}
+use Rattle.message_parts.specs.Frames.{OutgoingData, ParcelData}
 use Rattle.sock_programs.specs.declared.task.Sizes.{Sizes}
-use Rattle.sock_programs.specs.Programs.{Program}
-use Rattle.sock_programs.specs.Cores.{next_step, said}
-use Rattle.sock_programs.specs.Scripts.{sizes_of}
+use Rattle.sock_programs.specs.Programs.{Program, Aside, Round}
+use Rattle.corr_core.specs.Word.{parts, code_of}
+use Rattle.id_points.specs.Ids.{id_of}
+use Rattle.sock_programs.specs.Asides.{PutCall, id_slot}
+use Rattle.sock_programs.specs.Heads.{Retry, HasEnded, Unlocks}
+use Rattle.sock_programs.specs.Posts.{ends_call, end_id, unlocked, decided}
+use Rattle.sock_programs.specs.Cores.{resolved, still_waiting, next_step, said}
 use Rattle.sock_programs.specs.Calls as calls
 use Rattle.sock_model.specs.declared.chain.Heading.{Heading}
 use Rattle.seat_points.specs.declared.call.Call.{Call}
@@ -19,20 +23,30 @@ use Rattle.seat_points.specs.declared.point.FailStep.TheVariants as fails
 use Rattle.seat_points.specs.declared.point.ReleaseStep.TheVariants as releases
 use Rattle.seat_points.specs.declared.point.SendStep.TheVariants as sends
 use Rattle.seat_points.specs.declared.point.WriteStep.TheVariants as writes
+use Rattle.call_points.specs.declared.deciding.DecideStep.TheVariants as decides
+use Rattle.call_points.specs.declared.posting.PostStep.TheVariants as posts
+use Rattle.call_points.specs.declared.locking.LockStep.TheVariants as locks
+use Rattle.call_points.specs.Steps.{after_word}
+use Rattle.seat_points.specs.declared.point.Author.{Author}
+use Rattle.seat_points.specs.declared.point.Author.TheVariants as authors
+use Rattle.seat_points.specs.declared.point.CallStep.TheVariants as begins
+use Rattle.seat_points.specs.declared.point.AttemptStep.TheVariants as attempts
+use Rattle.seat_points.specs.declared.point.RetryStep.TheVariants as retries
+use Rattle.seat_points.specs.declared.point.JoinStep.TheVariants as joins
 use Rattle.seat_points.specs.declared.point.Point.{Point}
 use Rattle.seat_points.specs.declared.point.Point.TheVariants as points
-use Rattle.seat_points.specs.Steps.{First, OfCall, step_of, step_as, first_in}
-use Rattle.sock_core.specs.declared.letter.Letter.{Letter}
+use Rattle.seat_points.specs.Steps.{First, OfCall, step_of, step_as, first_of, first_in}
 use Rattle.seat_points.specs.declared.point.Next.{Next}
 use Rattle.seat_points.specs.declared.point.Step.{Step}
-use Rattle.seat_points.specs.Points.{Around, point_program, next_program, with_message, with_put, is_whole, after_word, after_message, after_put}
+use Rattle.seat_points.specs.Points.{Around, point_program, look_program, after_program, next_program, with_message, with_put, is_whole, after_message, after_put}
 use Rattle.sock_programs.specs.Ticks.{Answer}
-use Rattle.sock_core.specs.Seats.{SeatData, around, seat_program, bytes_of, left_of, taken_of}
+use Rattle.client_seats.specs.Seats.{SeatData, around, seat_program, bytes_of, parts_of, left_of, taken_of, left_parts_of}
+use Rattle.client_seats.specs.Following.{FollowsOn}
 use Rattle.brpc_model.specs.Link.{LinkEnd}
-use Rattle.sock_io.specs.Link.{OutState}
+use Rattle.sock_io.specs.Link.{OutState, InState}
 use Rattle.sock_core.specs.Links.{LinksData}
-use Rattle.sock_core.specs.Machines.{TableState}
-use Rattle.sock_core.specs.Steps.{Goes, Makes, IsNext, AskedAt, OutsAfter, letters_after, left_behind, taken_behind}
+use Rattle.sock_core.specs.Machines.{TableState, table_sizes}
+use Rattle.sock_core.specs.Steps.{SameBase, Goes, Makes, IsNext, AskedAt, OutsAfter, left_behind, taken_behind}
 
 -- a list that was written whole
 pub written : {A : Type 0} (n : ℕ) (xs ys : List A) → length xs ≡ n → take n (xs ++ ys) ≡ xs
@@ -46,22 +60,22 @@ pub makes_along : {t u fresh : TableState} {i : ℕ} {seat seat' : SeatData} {st
 makes_along {t} {u} {fresh} {i} {seat} {seat'} {step} {answer} e h = subst (λ (x : TableState). Makes x fresh i seat seat' step answer) e h
 
 -- the seat goes on with the program behind its step
-pub goes : {old fresh : TableState} {seat' : SeatData} {next : Program} {s : Sizes} {us os : List (Option Outcome)} (p : Program) → fresh.plan ≡ old.plan → s ≡ sizes_of old.plan → seat_program s seat' ≡ next_step p →
-    fresh.outcomes ≡ us → us ≡ said p os → os ≡ old.outcomes → p ≡ next → Goes old fresh seat' next
-goes {old} {fresh} {seat'} {next} {s} {us} {os} p plan sizes program wrote told are is = record {
-  plan = plan;
-  program = subst (λ (x : Sizes). seat_program x seat' ≡ next_step next) sizes (program ∙ ap next_step is);
-  told = wrote ∙ told ∙ ap (said p) are ∙ ap (λ (x : Program). said x old.outcomes) is;
+pub goes : {old fresh : TableState} {seat mid seat' : SeatData} {next : Program} {s : Sizes} (p : Program) → SameBase old fresh → s ≡ table_sizes old → FollowsOn s mid seat' p old.outcomes fresh.outcomes → mid.waiting ≡ seat.waiting → p ≡ next → Goes old fresh seat seat' next
+goes {old} {fresh} {seat} {mid} {seat'} {next} {s} p base sizes f same is = record {
+  base = base;
+  program = subst (λ (x : Sizes). seat_program x seat' ≡ next_step (resolved seat.waiting next)) sizes (f.next ∙ ap₂ (λ (w : List Retry) (q : Program). next_step (resolved w q)) same is);
+  waiting = f.waiting ∙ ap₂ still_waiting same is;
+  told = f.told ∙ ap₂ (λ (w : List Retry) (q : Program). said (resolved w q) old.outcomes) same is;
 }
 
 pub same_sizes : (s sizes : Sizes) (seat : SeatData) (f : Program → Program) → s ≡ sizes → f (point_program (around s seat) seat.point) ≡ f (seat_program sizes seat)
 same_sizes s sizes seat f e = rw e refl
 
-pub links_are : {hs hs' : List (Option ℕ)} {ns ns' : List ℕ} (os : List OutState) → hs ≡ hs' → ns ≡ ns' → (let l : LinksData = record { holders = hs; nexts = ns; outs = os } in l) ≡ (record { holders = hs'; nexts = ns'; outs = os })
-links_are os e f = λ k. record { holders = e k; nexts = f k; outs = os }
+pub links_are : {hs hs' : List (Option ℕ)} {ns ns' : List ℕ} (os : List OutState) (is : List InState) → hs ≡ hs' → ns ≡ ns' → (let l : LinksData = record { holders = hs; nexts = ns; outs = os; inns = is } in l) ≡ (record { holders = hs'; nexts = ns'; outs = os; inns = is })
+links_are os is e f = λ k. record { holders = e k; nexts = f k; outs = os; inns = is }
 
 -- the step next to the table as it lies in memory
-pub next_along : {t u : TableState} (seat : SeatData) (step : Step) → t ≡ u → IsNext u seat step → first_in (seat_program (sizes_of t.plan) seat) ≡ Some (step_as (around (sizes_of t.plan) seat) step)
+pub next_along : {t u : TableState} (seat : SeatData) (step : Step) → t ≡ u → IsNext u seat step → first_in (seat_program (table_sizes t) seat) ≡ Some (step_as (around (table_sizes t) seat) step)
 next_along {t} {u} seat step e h = subst (λ (x : TableState). IsNext x seat step) (sym e) h
 
 -- links that were written whole
@@ -73,118 +87,114 @@ pub outs_in : {A : Type 0} (f : A → OutState) (call : calls.Call) {items befor
 outs_in f call was is h = rw (← was, is) h
 
 -- with a message in hand
-pub message_is : (s sizes : Sizes) (seat : SeatData) (out' : Option OnItsWay) (n : Next) (o o' : ℕ) (bytes : List ℕ) → s ≡ sizes → out' ≡ Some (record { left = bytes; taken = 0 }) → o ≡ o' →
-    ((a : Around) (bs : List ℕ) → next_program (with_message bs a) n ≡ after_message (point_program a seat.point) o bs) → next_program (around s (record seat { out = out' })) n ≡ after_message (seat_program sizes seat) o' bytes
-message_is s sizes seat out' n o o' bytes e f g h = rw (e, f, ← g) (h (around sizes seat) bytes)
+pub message_is : (s sizes : Sizes) (seat : SeatData) (out' : Option OutgoingData) (n : Next) (author author' : Author) (parts bytes : List ℕ) → s ≡ sizes → out' ≡ Some (record { left = bytes; taken = 0; parts = parts }) → author ≡ author' →
+    ((a : Around) (ps bs : List ℕ) → next_program (with_message ps bs a) n ≡ after_message (point_program a seat.point) author ps bs) → next_program (around s (record seat { out = out' })) n ≡ after_message (seat_program sizes seat) author' parts bytes
+message_is s sizes seat out' n author author' parts bytes e f g h = rw (e, f, ← g) (h (around sizes seat) parts bytes)
 
 -- behind a put
-pub put_is : (s sizes : Sizes) (seat : SeatData) (out' : Option OnItsWay) (n : Next) (put : Put) (whole : Bool) → s ≡ sizes → left_of out' ≡ left_behind put (left_of seat.out) → taken_of out' ≡ taken_behind put (taken_of seat.out) → whole ≡ is_whole (left_of seat.out) put →
+pub put_is : (s sizes : Sizes) (seat : SeatData) (out' : Option OutgoingData) (n : Next) (put : Put) (whole : Bool) → s ≡ sizes → left_of out' ≡ left_behind put (left_of seat.out) → taken_of out' ≡ taken_behind put (taken_of seat.out) → left_parts_of out' ≡ left_parts_of seat.out → whole ≡ is_whole (left_of seat.out) put →
     ((a : Around) → whole ≡ is_whole a.left put → next_program (with_put put a) n ≡ after_put (point_program a seat.point) put) → next_program (around s (record seat { out = out' })) n ≡ after_put (seat_program sizes seat) put
-put_is s sizes seat out' n (puts.Took count) whole e f g w h = rw (e, f, g) (h (around sizes seat) w)
-put_is s sizes seat out' n puts.Again whole e f g w h = rw (e, f, g) (h (around sizes seat) w)
-put_is s sizes seat out' n puts.Failed whole e f g w h = rw (e, f, g) (h (around sizes seat) w)
-
--- no other step puts a message into its home
-pub no_letters : (call : Call) (letters : List (Option Letter)) → letters ≡ letters_after (step_of call) letters
-no_letters (steps.ClaimSlot i) letters = refl
-no_letters (steps.GiveBirth i k) letters = refl
-no_letters (steps.AddRef id) letters = refl
-no_letters (steps.SubRef i) letters = refl
-no_letters (steps.SetOdd i) letters = refl
-no_letters (steps.Recycle i from) letters = refl
-no_letters (steps.FreeSlot i) letters = refl
-no_letters (steps.StoreLink i k) letters = refl
-no_letters (steps.LoadLink i w) letters = refl
-no_letters (steps.ResetHead i k) letters = refl
-no_letters (steps.WipeCode i k) letters = refl
-no_letters (steps.StoreCode i h c) letters = refl
-no_letters (steps.StoreName n w) letters = refl
-no_letters (steps.LoadName n) letters = refl
-no_letters (steps.StoreOpen o w) letters = refl
-no_letters (steps.LoadOpen o) letters = refl
-no_letters (steps.TakeLink k) letters = refl
-no_letters (steps.FinishLink k) letters = refl
-no_letters (steps.PutLink k) letters = refl
-no_letters (steps.LookWord id) letters = refl
-no_letters (steps.FindLink id) letters = refl
-no_letters (steps.LoadCode id) letters = refl
-no_letters (steps.ClaimRequest id q) letters = refl
-no_letters (steps.Unconnect q) letters = refl
-no_letters (steps.SwapHead i own) letters = refl
-no_letters (steps.Connect q before) letters = refl
-no_letters (steps.EmptyHead i last) letters = refl
-no_letters (steps.ReadNext q) letters = refl
-no_letters (steps.TurnNext q value) letters = refl
-no_letters (steps.FreeRequest q g) letters = refl
-no_letters (steps.StorePlace o k n) letters = refl
-no_letters (steps.DropPlace o k n) letters = refl
+put_is s sizes seat out' n (puts.Took count) whole e f g k w h = rw (e, f, g, k) (h (around sizes seat) w)
+put_is s sizes seat out' n puts.Again whole e f g k w h = rw (e, f, g, k) (h (around sizes seat) w)
+put_is s sizes seat out' n puts.Failed whole e f g k w h = rw (e, f, g, k) (h (around sizes seat) w)
 
 -- ## A message that goes home
 
 -- what follows doesn't depend on the message
-abbrev BehindPut : Option First → Around → List ℕ → Point → Type 0
-BehindPut (Some (OfCall (calls.PutMessage q heading bytes))) a other p = after_word (point_program (record a { message = other }) p) 0 ≡ after_word (point_program a p) 0
-BehindPut first a other p = Unit {0}
+abbrev BehindPut : Option First → Around → List ℕ → List ℕ → Point → Type 0
+BehindPut (Some (OfCall (calls.PutMessage q heading bytes))) a other others p = after_word (point_program (record a { message = other; parts = others }) p) 0 ≡ after_word (point_program a p) 0
+BehindPut first a other others p = Unit {0}
 
-behind_put : (a : Around) (other : List ℕ) (p : Point) → BehindPut (first_in (point_program a p)) a other p
-behind_put a other points.Rest = tt
-behind_put a other (points.Open g (opens.Claim i)) = tt
-behind_put a other (points.Open g (opens.StoreLink i)) = tt
-behind_put a other (points.Open g (opens.ResetHead i)) = tt
-behind_put a other (points.Open g (opens.WipeCode i)) = tt
-behind_put a other (points.Open g (opens.GiveBirth i)) = tt
-behind_put a other (points.Open g (opens.StoreOpen i v)) = tt
-behind_put a other (points.Open g (opens.StoreName i v)) = tt
-behind_put a other (points.Open g opens.TakeLink) = tt
-behind_put a other (points.Open g opens.FinishLink) = tt
-behind_put a other (points.Open g opens.PutLink) = tt
-behind_put a other (points.Open g opens.StoreNone) = tt
-behind_put a other (points.Seek (aims.Hold o n) seeks.Load) = tt
-behind_put a other (points.Seek (aims.Send o n) seeks.Load) = tt
-behind_put a other (points.Seek (aims.Fail o n code) seeks.Load) = tt
-behind_put a other (points.Seek (aims.End o) seeks.Load) = tt
-behind_put a other (points.Seek aim (seeks.AddRef id)) = tt
-behind_put a other (points.Fail f fails.SetOdd) = tt
-behind_put a other (points.Fail f (fails.StoreCode w)) = tt
-behind_put a other (points.Fail f (fails.GiveBack w)) = tt
-behind_put a other (points.Release i t releases.SubRef) = tt
-behind_put a other (points.Release i t (releases.Recycle w)) = tt
-behind_put a other (points.Release i t (releases.LoadLink w)) = tt
-behind_put a other (points.Release i t (releases.TakeLink w k)) = tt
-behind_put a other (points.Release i t (releases.FinishLink w k)) = tt
-behind_put a other (points.Release i t (releases.PutLink w k)) = tt
-behind_put a other (points.Release i t releases.FreeSlot) = tt
-behind_put a other (points.Send s sends.Look) = tt
-behind_put a other (points.Send s (sends.Claim q)) = tt
-behind_put a other (points.Send s (sends.PutMessage q own)) = refl
-behind_put a other (points.Send s (sends.Unconnect q own)) = tt
-behind_put a other (points.Send s (sends.SwapHead q own)) = tt
-behind_put a other (points.Send s (sends.Connect q before)) = tt
-behind_put a other (points.Send s (sends.FindLink q own)) = tt
-behind_put a other (points.Send s (sends.TakeHome q own k)) = tt
-behind_put a other (points.Send s (sends.TakeMessage q own k n)) = tt
-behind_put a other (points.Write w (writes.FirstLook m)) = tt
-behind_put a other (points.Write w (writes.Look m asked)) = tt
-behind_put a other (points.Write w (writes.Put m asked)) = tt
-behind_put a other (points.Write w (writes.Ask m)) = tt
-behind_put a other (points.Write w (writes.SetOdd m)) = tt
-behind_put a other (points.Write w (writes.StoreCode m)) = tt
-behind_put a other (points.Write w (writes.GiveBack m)) = tt
-behind_put a other (points.Write w (writes.StorePlace m)) = tt
-behind_put a other (points.Write w (writes.LoadCode m)) = tt
-behind_put a other (points.Write w (writes.DropPlace m)) = tt
-behind_put a other (points.Write w (writes.ReadNext now)) = tt
-behind_put a other (points.Write w (writes.Free now next)) = tt
-behind_put a other (points.Write w (writes.TakeMessage next)) = tt
-behind_put a other (points.Write w writes.PutHome) = tt
-behind_put a other (points.Write w writes.EmptyHead) = tt
-behind_put a other (points.Write w (writes.TakeHome found)) = tt
-behind_put a other (points.Write w (writes.Walk top at after)) = tt
-behind_put a other (points.Write w (writes.Turn top at after before)) = tt
-behind_put a other (points.Write w (writes.TakeFirst top at)) = tt
+behind_look : (a : Around) (other others : List ℕ) (author : Author) (id : ℕ) (p : Point) → BehindPut (first_in (look_program a author id)) a other others p
+behind_look a other others (authors.Send o) id p = tt
+behind_look a other others (authors.Attempt t) id p = tt
 
-pub message_put : (s sizes : Sizes) (seat : SeatData) (message' : Option (List ℕ)) (n : Next) (q : ℕ) (heading : Heading) (bytes : List ℕ) → s ≡ sizes → first_in (seat_program sizes seat) ≡ Some (OfCall (calls.PutMessage q heading bytes)) →
-    ((a : Around) → a.sizes ≡ s → next_program a n ≡ after_word (point_program a seat.point) 0) → next_program (around s (record seat { message = message' })) n ≡ after_word (seat_program sizes seat) 0
+behind_judge : (a : Around) (other others : List ℕ) (p : Point) (ends : Bool) (x y : Program) → BehindPut (first_of x) a other others p → BehindPut (first_of y) a other others p → BehindPut (first_of (if ends then x else y)) a other others p
+behind_judge a other others p true x y f g = f
+behind_judge a other others p false x y f g = g
+
+behind_put : (a : Around) (other others : List ℕ) (p : Point) → BehindPut (first_in (point_program a p)) a other others p
+behind_put a other others points.Rest = tt
+behind_put a other others (points.Open g (opens.Claim i)) = tt
+behind_put a other others (points.Open g (opens.StoreLink i)) = tt
+behind_put a other others (points.Open g (opens.ResetHead i)) = tt
+behind_put a other others (points.Open g (opens.WipeCode i)) = tt
+behind_put a other others (points.Open g (opens.GiveBirth i)) = tt
+behind_put a other others (points.Open g (opens.StoreOpen i v)) = tt
+behind_put a other others (points.Open g (opens.StoreName i v)) = tt
+behind_put a other others (points.Open g opens.TakeLink) = tt
+behind_put a other others (points.Open g opens.FinishLink) = tt
+behind_put a other others (points.Open g opens.PutLink) = tt
+behind_put a other others (points.Open g opens.StoreNone) = tt
+behind_put a other others (points.Seek (aims.Hold o n) seeks.Load) = tt
+behind_put a other others (points.Seek (aims.Send o n) seeks.Load) = tt
+behind_put a other others (points.Seek (aims.Fail o n code) seeks.Load) = tt
+behind_put a other others (points.Seek (aims.End o) seeks.Load) = tt
+behind_put a other others (points.Seek aim (seeks.AddRef id)) = tt
+behind_put a other others (points.Fail f fails.SetOdd) = tt
+behind_put a other others (points.Fail f (fails.StoreCode w)) = tt
+behind_put a other others (points.Fail f (fails.GiveBack w)) = tt
+behind_put a other others (points.Release i t releases.SubRef) = tt
+behind_put a other others (points.Release i t (releases.Recycle w)) = tt
+behind_put a other others (points.Release i t (releases.LoadLink w)) = tt
+behind_put a other others (points.Release i t (releases.TakeLink w k)) = tt
+behind_put a other others (points.Release i t (releases.FinishLink w k)) = tt
+behind_put a other others (points.Release i t (releases.PutLink w k)) = tt
+behind_put a other others (points.Release i t releases.FreeSlot) = tt
+behind_put a other others (points.Send s sends.Look) = behind_look a other others s.author s.id.0 (points.Send s sends.Look)
+behind_put a other others (points.Send s (sends.Claim q)) = tt
+behind_put a other others (points.Send s (sends.PutMessage q own)) = refl
+behind_put a other others (points.Send s (sends.Unconnect q own)) = tt
+behind_put a other others (points.Send s (sends.SwapHead q own)) = tt
+behind_put a other others (points.Send s (sends.Connect q before)) = tt
+behind_put a other others (points.Send s (sends.FindLink q own)) = tt
+behind_put a other others (points.Send s (sends.TakeHome q own k)) = tt
+behind_put a other others (points.Send s (sends.TakeMessage q own k n)) = tt
+behind_put a other others (points.Write w (writes.FirstLook m)) = tt
+behind_put a other others (points.Write w (writes.Look m asked)) = tt
+behind_put a other others (points.Write w (writes.Put m asked)) = tt
+behind_put a other others (points.Write w (writes.Ask m)) = tt
+behind_put a other others (points.Write w (writes.SetOdd m)) = tt
+behind_put a other others (points.Write w (writes.StoreCode m)) = tt
+behind_put a other others (points.Write w (writes.GiveBack m)) = tt
+behind_put a other others (points.Write w (writes.StorePlace m)) = tt
+behind_put a other others (points.Write w (writes.LoadCode m)) = tt
+behind_put a other others (points.Write w (writes.DropPlace m n)) = tt
+behind_put a other others (points.Write w (writes.ReadNext now c)) = tt
+behind_put a other others (points.Write w (writes.Free now next c)) = tt
+behind_put a other others (points.Write w (writes.TakeMessage next)) = tt
+behind_put a other others (points.Write w writes.PutHome) = tt
+behind_put a other others (points.Write w writes.EmptyHead) = tt
+behind_put a other others (points.Write w (writes.TakeHome found)) = tt
+behind_put a other others (points.Write w (writes.Walk top at after)) = tt
+behind_put a other others (points.Write w (writes.Turn top at after before)) = tt
+behind_put a other others (points.Write w (writes.TakeFirst top at)) = tt
+behind_put a other others (points.Call begins.LoadName) = tt
+behind_put a other others (points.Call (begins.ClaimId i socket)) = tt
+behind_put a other others (points.Call (begins.PutCall i socket)) = tt
+behind_put a other others (points.Call (begins.MakeId i socket)) = tt
+behind_put a other others (points.Call (begins.StoreCall id socket)) = tt
+behind_put a other others (points.Attempt t socket attempts.AddRef) = tt
+behind_put a other others (points.Attempt t socket attempts.FindLink) = tt
+behind_put a other others (points.Attempt t socket (attempts.StoreAt k)) = tt
+behind_put a other others (points.Post c after posts.Load) = tt
+behind_put a other others (points.Post c after (posts.Exchange from)) = tt
+behind_put a other others (points.Decide c after (decides.Take w)) = tt
+behind_put a other others (points.Decide c after (decides.Judge w)) = behind_judge a other others (points.Decide c after (decides.Judge w)) (ends_call (parts w.0) c.error.0) (end_id (id_slot (id_of c.id)) (decided (id_of c.id) (after_program a after) (HasEnded a.asked.operation (code_of c.error.0)))) (Aside (PutCall (id_slot (id_of c.id)) a.asked) (λ _. Round (Unlocks (id_slot (id_of c.id)) w.0 true) (unlocked (record { id = id_of c.id; attempt = (parts w.0).attempt + 1 }) (decided (id_of c.id) (after_program a after))))) tt tt
+behind_put a other others (points.Decide c after (decides.Free o)) = tt
+behind_put a other others (points.Decide c after (decides.Unlock from advance n)) = tt
+behind_put a other others (points.Retry r (retries.Lock locks.Read)) = tt
+behind_put a other others (points.Retry r (retries.Lock (locks.Exchange from))) = tt
+behind_put a other others (points.Retry r (retries.TakeCall w)) = tt
+behind_put a other others (points.Retry r (retries.PutCall w)) = tt
+behind_put a other others (points.Retry r (retries.Unlock w advance)) = tt
+behind_put a other others (points.Retry r retries.LoadName) = tt
+behind_put a other others (points.Expire o t) = tt
+behind_put a other others (points.Join o (joins.LoadCall t)) = tt
+behind_put a other others (points.Join o (joins.Wait id)) = tt
+
+pub message_put : (s sizes : Sizes) (seat : SeatData) (message' : Option ParcelData) (n : Next) (q : ℕ) (heading : Heading) (bytes : List ℕ) → s ≡ sizes → first_in (seat_program sizes seat) ≡ Some (OfCall (calls.PutMessage q heading bytes)) →
+    ((a : Around) → next_program a n ≡ after_word (point_program a seat.point) 0) → next_program (around s (record seat { message = message' })) n ≡ after_word (seat_program sizes seat) 0
 message_put s sizes seat message' n q heading bytes e first h =
-    let is : after_word (point_program (record (around sizes seat) { message = bytes_of message' }) seat.point) 0 ≡ after_word (seat_program sizes seat) 0 = subst (λ (o : Option First). BehindPut o (around sizes seat) (bytes_of message') seat.point) first (behind_put (around sizes seat) (bytes_of message') seat.point) in
-    h (around s (record seat { message = message' })) refl ∙ (rw e is)
+    let is : after_word (point_program (record (around sizes seat) { message = bytes_of message'; parts = parts_of message' }) seat.point) 0 ≡ after_word (seat_program sizes seat) 0 = subst (λ (o : Option First). BehindPut o (around sizes seat) (bytes_of message') (parts_of message') seat.point) first (behind_put (around sizes seat) (bytes_of message') (parts_of message') seat.point) in
+    h (around s (record seat { message = message' })) ∙ (rw e is)

@@ -35,7 +35,7 @@ use Rattle.sock_programs.specs.Scripts.{sizes_of}
 use Rattle.sock_core.specs.declared.machine.On.TheVariants as on
 use Rattle.sock_core.specs.Telling.{awaits, is_waiting, WaitsOn, StepTold}
 use Rattle.sock_core.specs.declared.machine.Tick.TheVariants.{Moved, Waits}
-use Rattle.sock_core.specs.Seats.{SeatData, around, seat_program, bytes_of, left_of, taken_of}
+use Rattle.client_seats.specs.Seats.{SeatData, around, seat_program, bytes_of, left_of, taken_of}
 use Rattle.sock_core.specs.Machines.{TableState}
 use Rattle.sock_core.specs.Steps.{IsNext, Makes}
 

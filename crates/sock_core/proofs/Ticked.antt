@@ -1,5 +1,5 @@
--- One step of a seat is a tick of it.
-use Rattle.std.proofs.Common.{◌≡◌, ◌≢◌, refl, ℕ, ◌<◌, eqb, eq-eqb, ne_eqb, cond, Bool, true, false, List, [], ◌∷◌, ◌++◌, map, length, slice_set, slice_index_or, Option, Some, None, IfSome, ⊎_elim, ap, sym, ◌∙◌, arith, subst}
+-- One step of a client is a tick of it.
+use Rattle.std.proofs.Common.{◌≡◌, ◌≢◌, refl, ℕ, ◌<◌, ◌≤◌, eqb, eq-eqb, ne_eqb, cond, Bool, true, false, List, [], ◌∷◌, ◌++◌, map, length, slice_set, slice_index_or, Option, Some, None, IfSome, ⊎_elim, ap, ap₂, sym, ◌∙◌, arith, subst}
 use Rattle.std.proofs.lemmas.List.{append-nil, get_or-set_same, get_or-set_other}
 use Rattle.std.proofs.lemmas.Bool.{true≢false}
 use Rattle.std.specs.Io.KnownBytes.{append_known}
@@ -10,34 +10,42 @@ use Rattle.sock_words.specs.declared.plain.Plan.{Plan}
 use Rattle.sock_io.specs.declared.link.Put.{Put}
 use Rattle.sock_io.specs.declared.link.Put.TheVariants as puts
 use Rattle.sock_io.specs.declared.link.Ready.{Ready}
-use Rattle.sock_io.specs.Link.{OutState, PutStep, ReadyStep, taken_of}
+use Rattle.sock_io.specs.Link.{OutState, InState, PutStep, ReadyStep, taken_of}
 use Rattle.sock_model.specs.declared.chain.Heading.{Heading}
 use Rattle.sock_model.specs.declared.home.Home.{Home}
 use Rattle.sock_model.specs.declared.home.Home.TheVariants.{Link, Message}
 use Rattle.sock_model.specs.Reads.{letter_of, took_of, as_link, shown, message, link_home}
+use Rattle.sock_programs.specs.Asides as asides
 use Rattle.sock_programs.specs.Calls as calls
 use Rattle.sock_programs.specs.Programs.{Program}
-use Rattle.sock_programs.specs.Sends.{heading_of}
-use Rattle.sock_programs.specs.Cores.{Core, SeatState, word_of, found_at, homes_after, hand_after, first_of, others_of, link_place}
+use Rattle.sock_programs.specs.Cores.{Calls, Core, SeatState, word_of, found_at, homes_after, hand_after, first_of, others_of, link_place, with_seat}
 use Rattle.sock_programs.specs.Ticks.{Answer, Unasked, OfPut, OfReady, FitsPut, IsAnswer, IsAnswered, fed, with_places, onto_first, tick_with, ticked}
-use Rattle.sock_programs.specs.Scripts.{sizes_of}
 use Rattle.sock_runs.proofs.Along.{place_inside}
+use Rattle.call_points.specs.Steps.{after_word}
+use Rattle.call_points.specs.Steps as aside_steps
+use Rattle.call_points.specs.declared.aside.Aside.{Aside}
+use Rattle.call_points.specs.declared.aside.Aside.TheVariants as code
+use Rattle.call_slots.specs.Slots.{SlotState, calls_with}
+use Rattle.call_slots.specs.Steps as slots
+use Rattle.message_parts.specs.Parcels.{parcel_of}
 use Rattle.seat_points.specs.declared.point.Step.{Step}
 use Rattle.seat_points.specs.declared.point.Step.TheVariants as firsts
+use Rattle.seat_points.specs.declared.point.Author.{Author}
 use Rattle.seat_points.specs.declared.call.Call.{Call}
 use Rattle.seat_points.specs.declared.call.Call.TheVariants as steps
-use Rattle.seat_points.specs.Points.{after_word, after_message, after_link, after_home, after_put, after_ready}
-use Rattle.seat_points.specs.Steps.{First, OfCall, OfMessage, OfLink, OfHome, step_of, step_as, first_in}
+use Rattle.seat_points.specs.Points.{heading_by, after_message, after_link, after_home, after_put, after_ready}
+use Rattle.seat_points.specs.Steps.{First, OfCall, OfAside, OfMessage, OfLink, OfHome, step_of, step_as, first_in}
 use Rattle.seat_points.specs.Steps as kinds
-use Rattle.seat_points.proofs.StepFacts.{puts_home, asks}
+use Rattle.seat_points.proofs.StepFacts as facts
+use Rattle.client_seats.specs.Seats.{SeatData, around, seat_program, bytes_of, parts_of}
 use Rattle.sock_core.specs.declared.letter.Letter.{Letter}
-use Rattle.sock_core.specs.Seats.{SeatData, around, seat_program}
-use Rattle.sock_core.specs.Links.{LinksData, Taken, Agrees, IsPaced, holder_of, is_done, link_with, homes_of, hand_of, letter_home}
-use Rattle.sock_core.specs.Machines.{MachineState, ArePaced, table_of, seat_state, core_with}
-use Rattle.sock_core.specs.Steps.{IsSized, NextIs, OutsAfter, CallMade, MessageTaken, LinkTaken, LinkPut, LinkAsked, Made, SteppedTo, letters_after, holders_after}
+use Rattle.sock_core.specs.Links.{LinksData, Taken, Given, Agrees, AgreesGave, IsPaced, holder_of, is_done, link_with, homes_of, hand_of, letter_home}
+use Rattle.sock_core.specs.Machines.{MachineState, READERS, ArePaced, table_of, machine_sizes, state_of, waiting_of, given_by, calls_of, core_with}
+use Rattle.sock_core.specs.Steps.{IsSized, NextIs, OutsAfter, LettersAfter, Goes, CallMade, AsideMade, MessageTaken, LinkTaken, LinkPut, LinkAsked, MadeFirst, SteppedTo, holders_after}
 use Rattle.sock_core.proofs.Hands.{HasNone, HasOnly, lies_home, hand_only, home_at, letters_set}
-use Rattle.sock_core.proofs.Changes.{Changed, take_changes, give_changes, out_changes, none_changes, core_set, seat_at}
-use Rattle.sock_core.proofs.FirstSteps.{word_tick, message_tick, link_tick, home_tick, put_tick, ready_tick, head_home, head_asks, AnswersFirst, answers_first, paced_first}
+use Rattle.sock_core.proofs.Changes.{Changed, take_changes, give_changes, out_changes, none_changes}
+use Rattle.sock_core.proofs.Seatings.{client_set, calls_by, seat_at}
+use Rattle.sock_core.proofs.FirstSteps.{word_tick, aside_tick, message_tick, link_tick, home_tick, put_tick, ready_tick, bare_message, bare_link, bare_put, head_home, head_asks, AnswersFirst, answers_first, paced_first}
 
 -- ## What is asked of a step, and what it makes
 
@@ -57,6 +65,7 @@ MayCall p l i other = Unit {0}
 
 abbrev pub MayMake : Plan → LinksData → ℕ → First → Type 0
 MayMake p l i (OfCall call) = MayCall p l i call
+MayMake p l i (OfAside step) = Unit {0}
 MayMake p l i (OfMessage q) = Unit {0}
 MayMake p l i (OfLink k) = MayTake p l i k
 MayMake p l i (OfHome k n) = MayAsk p l i k
@@ -68,12 +77,14 @@ abbrev pub IsCall : First → Type 0
 IsCall (OfCall call) = Unit {0}
 IsCall other = ⊥
 
--- a step of seat i, in which its link answered this, over links that had taken that: a tick
-pub record SteppedWith (old fresh : MachineState) (i : ℕ) (answer : Answer) (took : Taken) : Type 0 where
+-- a step of seat i, in which its link answered this, over links that had taken and given that: a tick
+pub record SteppedWith (old fresh : MachineState) (i : ℕ) (answer : Answer) (took : Taken) (gave : Given) : Type 0 where
   pub later : Taken
   pub agrees : Agrees fresh.links later
-  pub core : core_with fresh later ≡ ticked old.plan (core_with old took) (record { seat = i; answer = answer })
-  pub answered : IsAnswered (core_with old took) (record { seat = i; answer = answer })
+  pub later_gave : Given
+  pub agrees_gave : AgreesGave fresh.links later_gave
+  pub core : core_with fresh later later_gave ≡ ticked old.plan (core_with old took gave) (record { seat = i; answer = answer })
+  pub answered : IsAnswered (core_with old took gave) (record { seat = i; answer = answer })
 
 -- ## Which bytes the links took
 
@@ -81,13 +92,13 @@ pub record SteppedWith (old fresh : MachineState) (i : ℕ) (answer : Answer) (t
 abbrev pub later_at : ℕ → List ℕ → Taken → Taken
 later_at k bytes took j = cond (eqb j k) bytes (took j)
 
-later_here : (k : ℕ) (bytes : List ℕ) (took : Taken) → later_at k bytes took k ≡ bytes
+pub later_here : (k : ℕ) (bytes : List ℕ) (took : Taken) → later_at k bytes took k ≡ bytes
 later_here k bytes took = ap (λ b. cond b bytes (took k)) (eq-eqb k k refl)
 
-later_else : (k j : ℕ) (bytes : List ℕ) (took : Taken) → j ≢ k → later_at k bytes took j ≡ took j
+pub later_else : (k j : ℕ) (bytes : List ℕ) (took : Taken) → j ≢ k → later_at k bytes took j ≡ took j
 later_else k j bytes took differ = ap (λ b. cond b bytes (took j)) (ne_eqb j k differ)
 
-agrees_same : (l l' : LinksData) (took : Taken) → l'.outs ≡ l.outs → Agrees l took → Agrees l' took
+pub agrees_same : (l l' : LinksData) (took : Taken) → l'.outs ≡ l.outs → Agrees l took → Agrees l' took
 agrees_same l l' took same agrees k out at = agrees k out (sym (ap (λ (os : List OutState). get_elem? os k) same) ∙ at)
 
 agrees_set : (l l' : LinksData) (took later : Taken) (k : ℕ) (out' : OutState) → l'.outs ≡ slice_set l.outs k out' → IfSome out'.took (λ bytes. bytes ≡ later k) → ((j : ℕ) → j ≢ k → later j ≡ took j) → Agrees l took → Agrees l' later
@@ -96,9 +107,12 @@ agrees_set l l' took later k out' outs here other agrees j out at = ⊎_elim
     (λ a. subst (λ t. IfSome out.took (λ bytes. bytes ≡ t)) (sym (other j a.0)) (agrees j out a.1))
     (at_set l.outs k j out' out (sym (ap (λ (os : List OutState). get_elem? os j) outs) ∙ at))
 
-known_more : (o : Option (List ℕ)) (t more : List ℕ) → IfSome o (λ bytes. bytes ≡ t) → IfSome (append_known o more) (λ bytes. bytes ≡ t ++ more)
+pub known_more : (o : Option (List ℕ)) (t more : List ℕ) → IfSome o (λ bytes. bytes ≡ t) → IfSome (append_known o more) (λ bytes. bytes ≡ t ++ more)
 known_more None t more is = tt
 known_more (Some bytes) t more is = ap (λ (l : List ℕ). l ++ more) is
+
+pub gives_same : (l l' : LinksData) (gave : Given) → l'.inns ≡ l.inns → AgreesGave l gave → AgreesGave l' gave
+gives_same l l' gave same agrees k inn at = agrees k inn (sym (ap (λ (is : List InState). get_elem? is k) same) ∙ at)
 
 -- ## What each kind of step changes
 
@@ -108,13 +122,13 @@ changed_is c e f = record { own = c.own ∙ e; others = c.others; homes_are = c.
 letters_along : {p : Plan} {i : ℕ} {l l' : LinksData} {ls ms : List (Option Letter)} {took later : Taken} {hand : List Home} {hs : List (core.Option Home)} → ms ≡ ls → Changed p i l l' ls ls took later hand hs → Changed p i l l' ls ms took later hand hs
 letters_along {p} {i} {l} {l'} {ls} {ms} {took} {later} {hand} {hs} e c = subst (λ xs. Changed p i l l' ls xs took later hand hs) (sym e) c
 
-links_are : (l l' : LinksData) → l'.holders ≡ l.holders → l'.nexts ≡ l.nexts → l'.outs ≡ l.outs → l' ≡ l
-links_are l l' e f g = λ k. record { holders = e k; nexts = f k; outs = g k }
+pub links_are : (l l' : LinksData) → l'.holders ≡ l.holders → l'.nexts ≡ l.nexts → l'.outs ≡ l.outs → l'.inns ≡ l.inns → l' ≡ l
+links_are l l' e f g h = λ k. record { holders = e k; nexts = f k; outs = g k; inns = h k }
 
--- what is put into the home of a request has the operation's heading
-abbrev IsLabelled : calls.Call → Type 0
-IsLabelled (calls.PutMessage q heading bytes) = heading ≡ heading_of heading.operation
-IsLabelled other = Unit {0}
+-- the message that goes home lies there
+abbrev pub LettersBy : calls.Call → List (Option Letter) → List (Option Letter) → Type 0
+LettersBy (calls.PutMessage q heading bytes) old fresh = (letter : Letter) × (fresh ≡ slice_set old q (Some letter)) × (letter_home (Some letter) ≡ core.some (Message heading bytes))
+LettersBy other old fresh = fresh ≡ old
 
 module _ (p : Plan) (i : ℕ) (letters : List (Option Letter)) (sized : length letters ≡ p.requests) (l l' : LinksData) (took : Taken) (many : length l.holders ≡ p.links) where
   abbrev homes : List (core.Option Home)
@@ -130,28 +144,27 @@ module _ (p : Plan) (i : ℕ) (letters : List (Option Letter)) (sized : length l
   linked k ts us m n d e f g h = λ x. Link k (f x) (g x) (h x)
 
   -- a step on a word, or a move without a right
-  call_changes : (call : calls.Call) (letters' : List (Option Letter)) → MayCall p l i call → IsLabelled call → letters' ≡ letters_after call letters → l'.holders ≡ holders_after i call l.holders → l'.nexts ≡ l.nexts → OutsAfter call l.outs l'.outs →
+  pub call_changes : (call : calls.Call) (letters' : List (Option Letter)) → MayCall p l i call → LettersBy call letters letters' → l'.holders ≡ holders_after i call l.holders → l'.nexts ≡ l.nexts → OutsAfter call l.outs l'.outs → l'.inns ≡ l.inns →
       Changed p i l l' letters letters' took took (hand_after p call homes hand) (homes_after p call hand homes)
-  call_changes (calls.TakeLink k) letters' may labelled lettered holders nexts outs =
+  call_changes (calls.TakeLink k) letters' may lettered holders nexts outs inns =
       letters_along lettered (take_changes p i k letters sized l l' took many may.0 may.1 may.2 holders nexts outs)
-  call_changes (calls.FinishLink k) letters' may labelled lettered holders nexts outs = let out' = outs.1 in let step = outs.4 in
+  call_changes (calls.FinishLink k) letters' may lettered holders nexts outs inns = let out' = outs.1 in let step = outs.4 in
       letters_along lettered (changed_is (out_changes p i k letters sized l l' took many may.0 took outs.0 out' may.1 holders nexts outs.2 outs.3 (λ j differ. refl))
       (ap (λ (x : Home). x ∷ []) (linked k _ _ _ _ _ _ refl refl step.finished) ∙ sym (ap (λ (h : List Home). hand_after p (calls.FinishLink k) homes h) (hand_only l took p.links i k may.0 may.1))) refl)
-  call_changes (calls.PutLink k) letters' may labelled lettered holders nexts outs =
+  call_changes (calls.PutLink k) letters' may lettered holders nexts outs inns =
       letters_along lettered (changed_is (give_changes p i k letters sized l l' took many may.0 may.1 holders (λ j differ. ap (λ (ns : List ℕ). slice_index_or ns j 0) nexts) outs)
       (sym (ap others_of (hand_only l took p.links i k may.0 may.1)))
       (ap (λ x. slice_set homes (link_place p k) x)
       (ap core.some (ap (λ (x : LinksData). link_with x took k) (same_but nexts outs)) ∙ sym (ap first_of (hand_only l took p.links i k may.0 may.1)))))
     where
-      same_but : l'.nexts ≡ l.nexts → l'.outs ≡ l.outs → (let x : LinksData = record { holders = l.holders; nexts = l'.nexts; outs = l'.outs } in x) ≡ l
-      same_but f g = λ k. record { holders = l.holders; nexts = f k; outs = g k }
-  call_changes (calls.PutMessage q heading bytes) letters' may labelled lettered holders nexts outs =
-      none_changes p i l l' letters letters' took _ (links_are l l' holders nexts outs)
-      (ap (λ ls. homes_of l p ls took) lettered ∙ sym (letters_set p letters sized l took q (Some (record { operation = heading.operation; message = bytes })) may)
-      ∙ ap (λ (h : Heading). slice_set homes q (core.some (Message h bytes))) (sym labelled))
-  call_changes _ letters' may labelled lettered holders nexts outs = none_changes p i l l' letters letters' took homes (links_are l l' holders nexts outs) (ap (λ ls. homes_of l p ls took) lettered)
+      same_but : l'.nexts ≡ l.nexts → l'.outs ≡ l.outs → (let x : LinksData = record { holders = l.holders; nexts = l'.nexts; outs = l'.outs; inns = l.inns } in x) ≡ l
+      same_but f g = λ k. record { holders = l.holders; nexts = f k; outs = g k; inns = l.inns }
+  call_changes (calls.PutMessage q heading bytes) letters' may lettered holders nexts outs inns =
+      none_changes p i l l' letters letters' took _ (links_are l l' holders nexts outs inns)
+      (ap (λ ls. homes_of l p ls took) lettered.1 ∙ sym (letters_set p letters sized l took q (Some lettered.0) may) ∙ ap (slice_set homes q) lettered.2)
+  call_changes _ letters' may lettered holders nexts outs inns = none_changes p i l l' letters letters' took homes (links_are l l' holders nexts outs inns) (ap (λ ls. homes_of l p ls took) lettered)
 
-  call_agrees : (call : calls.Call) → OutsAfter call l.outs l'.outs → Agrees l took → Agrees l' took
+  pub call_agrees : (call : calls.Call) → OutsAfter call l.outs l'.outs → Agrees l took → Agrees l' took
   call_agrees (calls.FinishLink k) outs agrees = let out' = outs.1 in let step = outs.4 in
       agrees_set l l' took took k out' outs.3 (subst (λ o. IfSome o (λ bytes. bytes ≡ took k)) (sym step.took) (agrees k outs.0 outs.2)) (λ j differ. refl) agrees
   call_agrees _ outs agrees = agrees_same l l' took outs agrees
@@ -195,53 +208,58 @@ fits_put true bytes puts.Again out out' step paced = absurd (true≢false (sym (
 fits_put false bytes puts.Again out out' step paced = refl
 fits_put asked bytes puts.Failed out out' step paced = tt
 
-labelled_step : (call : Call) → IsLabelled (step_of call)
-labelled_step (steps.ClaimSlot i) = tt
-labelled_step (steps.GiveBirth i k) = tt
-labelled_step (steps.AddRef id) = tt
-labelled_step (steps.SubRef i) = tt
-labelled_step (steps.SetOdd i) = tt
-labelled_step (steps.Recycle i from) = tt
-labelled_step (steps.FreeSlot i) = tt
-labelled_step (steps.StoreLink i k) = tt
-labelled_step (steps.LoadLink i w) = tt
-labelled_step (steps.ResetHead i k) = tt
-labelled_step (steps.WipeCode i k) = tt
-labelled_step (steps.StoreCode i h c) = tt
-labelled_step (steps.StoreName n w) = tt
-labelled_step (steps.LoadName n) = tt
-labelled_step (steps.StoreOpen o w) = tt
-labelled_step (steps.LoadOpen o) = tt
-labelled_step (steps.TakeLink k) = tt
-labelled_step (steps.FinishLink k) = tt
-labelled_step (steps.PutLink k) = tt
-labelled_step (steps.LookWord id) = tt
-labelled_step (steps.FindLink id) = tt
-labelled_step (steps.LoadCode id) = tt
-labelled_step (steps.ClaimRequest id q) = tt
-labelled_step (steps.Unconnect q) = tt
-labelled_step (steps.SwapHead i own) = tt
-labelled_step (steps.Connect q before) = tt
-labelled_step (steps.EmptyHead i last) = tt
-labelled_step (steps.ReadNext q) = tt
-labelled_step (steps.TurnNext q value) = tt
-labelled_step (steps.FreeRequest q g) = tt
-labelled_step (steps.StorePlace o k n) = tt
-labelled_step (steps.DropPlace o k n) = tt
+pub letters_by : (call : Call) (old fresh : List (Option Letter)) → fresh ≡ old → LettersBy (step_of call) old fresh
+letters_by (steps.ClaimSlot i) old fresh same = same
+letters_by (steps.GiveBirth i k) old fresh same = same
+letters_by (steps.AddRef id) old fresh same = same
+letters_by (steps.SubRef i) old fresh same = same
+letters_by (steps.SetOdd i) old fresh same = same
+letters_by (steps.Recycle i from) old fresh same = same
+letters_by (steps.FreeSlot i) old fresh same = same
+letters_by (steps.StoreLink i k) old fresh same = same
+letters_by (steps.LoadLink i w) old fresh same = same
+letters_by (steps.ResetHead i k) old fresh same = same
+letters_by (steps.WipeCode i k) old fresh same = same
+letters_by (steps.StoreCode i h c) old fresh same = same
+letters_by (steps.StoreName n w) old fresh same = same
+letters_by (steps.LoadName n) old fresh same = same
+letters_by (steps.StoreOpen o w) old fresh same = same
+letters_by (steps.LoadOpen o) old fresh same = same
+letters_by (steps.TakeLink k) old fresh same = same
+letters_by (steps.FinishLink k) old fresh same = same
+letters_by (steps.PutLink k) old fresh same = same
+letters_by (steps.LookWord id) old fresh same = same
+letters_by (steps.FindLink id) old fresh same = same
+letters_by (steps.LoadCode id) old fresh same = same
+letters_by (steps.ClaimRequest id q) old fresh same = same
+letters_by (steps.Unconnect q) old fresh same = same
+letters_by (steps.SwapHead i own) old fresh same = same
+letters_by (steps.Connect q before) old fresh same = same
+letters_by (steps.EmptyHead i last) old fresh same = same
+letters_by (steps.ReadNext q) old fresh same = same
+letters_by (steps.TurnNext q value) old fresh same = same
+letters_by (steps.FreeRequest q g) old fresh same = same
+letters_by (steps.StorePlace o k n) old fresh same = same
+letters_by (steps.DropPlace o k n) old fresh same = same
 
-module _ (old fresh : MachineState) (i : ℕ) (seat seat' : SeatData) (at : get_elem? old.seats i ≡ core.some seat) (seats : fresh.seats ≡ slice_set old.seats i seat') (sized : IsSized (table_of old))
-    (paced : IsPaced old.links.outs (seat_program (sizes_of old.plan) seat)) (took : Taken) (agrees : Agrees old.links took) where
+-- what stands with a message that went home
+same_home : (q : ℕ) (author : Author) (seat : SeatData) (letter : Letter) → letter.author ≡ author → (parcel_of letter.message).bytes ≡ bytes_of seat.message → (parcel_of letter.message).parts ≡ parts_of seat.message →
+    letter_home (Some letter) ≡ core.some (Message (heading_by author (parts_of seat.message)) (bytes_of seat.message))
+same_home q author seat letter e f g = ap core.some (λ k. Message (heading_by (e k) (g k)) (f k))
+
+module _ (old fresh : MachineState) (i : ℕ) (seat seat' : SeatData) (at : get_elem? old.seats i ≡ core.some seat) (seats : fresh.seats ≡ slice_set old.seats i seat') (readers : fresh.readers ≡ old.readers) (few : length old.seats ≤ READERS) (sized : IsSized (table_of old))
+    (paced : IsPaced old.links.outs (seat_program (machine_sizes old) seat)) (took : Taken) (agrees : Agrees old.links took) (gave : Given) (agrees_gave : AgreesGave old.links gave) where
   abbrev program : Program
-  program = seat_program (sizes_of old.plan) seat
+  program = seat_program (machine_sizes old) seat
 
   abbrev own : SeatState
-  own = seat_state old.plan old.links took i seat
+  own = state_of old.plan old.links took program i
 
   abbrev before : Core
-  before = core_with old took
+  before = core_with old took gave
 
   own_at : get_elem? before.seats i ≡ core.some own
-  own_at = seat_at old.plan old.links took 0 old.seats i seat at ∙ ap (λ j. core.some (seat_state old.plan old.links took j seat)) (omega arith)
+  own_at = seat_at old took i seat at
 
   ticks : (answer : Answer) → ticked old.plan before (record { seat = i; answer = answer }) ≡ tick_with old.plan i own before answer program
   ticks answer = ap (λ (o : core.Option SeatState). elim o as (λ x. Core) [ core.none ↦ before | core.some s ↦ tick_with old.plan i s before answer s.program ]) own_at
@@ -249,128 +267,144 @@ module _ (old fresh : MachineState) (i : ℕ) (seat seat' : SeatData) (at : get_
   answers : (first : First) (answer : Answer) → first_in program ≡ Some first → AnswersFirst first answer → IsAnswered before (record { seat = i; answer = answer })
   answers first answer next fits s there = subst (λ (x : SeatState). IsAnswer x.program answer) (core.some-injective own s (sym own_at ∙ there)) (answers_first program first answer next fits)
 
-  call_core : (call : calls.Call) → first_in program ≡ Some (OfCall call) → MayCall old.plan old.links i call → IsLabelled call → CallMade (table_of old) (table_of fresh) i program seat' call →
-      Agrees fresh.links took × (core_with fresh took ≡ ticked old.plan before (record { seat = i; answer = Unasked }))
-  call_core call next may labelled w = (
+  -- the ids stay
+  same_calls : (next : Program) (later : Taken) (hand : List Home) (homes : List (core.Option Home)) (words : List ℕ) → fresh.ids ≡ old.ids →
+      with_seat i next hand words homes (record before { calls = calls_by old fresh i seat seat' next took later gave hand homes words at }) ≡ with_seat i next hand words homes before
+  same_calls next later hand homes words same = ap (λ (ids : SlotState). with_seat i next hand words homes (record before { calls = calls_with ids (waiting_of old.seats old.readers) (given_by old.plan.links gave) old.ending })) same
+
+  -- the core behind a step that leaves the ids
+  moved : (next : Program) (later : Taken) (hand : List Home) (homes : List (core.Option Home)) (words : List ℕ) → Goes (table_of old) (table_of fresh) seat seat' next → fresh.words ≡ words → Changed old.plan i old.links fresh.links old.letters fresh.letters took later hand homes → fresh.ids ≡ old.ids →
+      core_with fresh later gave ≡ with_seat i next hand words homes before
+  moved next later hand homes words goes words_are changed same = client_set old fresh i seat seat' next took later gave hand homes words at seats readers few goes words_are changed ∙ same_calls next later hand homes words same
+
+  call_core : (call : calls.Call) (step : Step) → first_in program ≡ Some (OfCall call) → MayCall old.plan old.links i call → LettersBy call old.letters fresh.letters → CallMade (table_of old) (table_of fresh) i seat seat' call step →
+      Agrees fresh.links took × (core_with fresh took gave ≡ ticked old.plan before (record { seat = i; answer = Unasked }))
+  call_core call step next may lettered w = (
     call_agrees old.plan i old.letters sized.letters_are old.links fresh.links took sized.holders_are call w.outs agrees,
-    core_set old fresh i seat' (after_word program (found_at old.words (word_of old.plan call))) took took _ _ _ seats w.goes w.words
-        (call_changes old.plan i old.letters sized.letters_are old.links fresh.links took sized.holders_are call fresh.letters may labelled w.letters w.holders w.nexts w.outs)
-        ∙ sym (ticks Unasked ∙ word_tick old.plan i own before Unasked program call next),
+    moved (after_word program (found_at old.words (word_of old.plan call))) took _ _ _ w.goes w.words
+        (call_changes old.plan i old.letters sized.letters_are old.links fresh.links took sized.holders_are call fresh.letters may lettered w.holders w.nexts w.outs w.goes.base.inns) w.ids
+        ∙ sym (ticks Unasked ∙ word_tick old.plan i own before program Unasked call next),
   )
 
-  call_steps : (call : calls.Call) → first_in program ≡ Some (OfCall call) → MayCall old.plan old.links i call → IsLabelled call → CallMade (table_of old) (table_of fresh) i program seat' call → SteppedWith old fresh i Unasked took
-  call_steps call next may labelled w = let core = call_core call next may labelled w in record {
+  call_steps : (call : calls.Call) (step : Step) → first_in program ≡ Some (OfCall call) → MayCall old.plan old.links i call → LettersBy call old.letters fresh.letters → CallMade (table_of old) (table_of fresh) i seat seat' call step → SteppedWith old fresh i Unasked took gave
+  call_steps call step next may lettered w = let core = call_core call step next may lettered w in record {
     later = took;
     agrees = core.0;
+    later_gave = gave;
+    agrees_gave = gives_same old.links fresh.links gave w.goes.base.inns agrees_gave;
     core = core.1;
     answered = answers (OfCall call) Unasked next tt;
   }
 
-  message_steps : (q : ℕ) → first_in program ≡ Some (OfMessage q) → MessageTaken (table_of old) (table_of fresh) i program seat' q → SteppedWith old fresh i Unasked took
+  aside_steps' : (step : asides.Step) → first_in program ≡ Some (OfAside step) → AnswersFirst (OfAside step) Unasked → AsideMade (table_of old) (table_of fresh) i seat seat' step → SteppedWith old fresh i Unasked took gave
+  aside_steps' step next fits w = record {
+    later = took;
+    agrees = agrees_same old.links fresh.links took (ap (λ (l : LinksData). l.outs) w.links) agrees;
+    later_gave = gave;
+    agrees_gave = gives_same old.links fresh.links gave w.goes.base.inns agrees_gave;
+    core = client_set old fresh i seat seat' (w.next w.found) took took gave own.hand before.homes before.words at seats readers few w.goes w.words
+        (none_changes old.plan i old.links fresh.links old.letters fresh.letters took before.homes w.links (ap (λ ls. homes_of old.links old.plan ls took) w.letters))
+        ∙ ap (λ (a : Calls). with_seat i (w.next w.found) own.hand before.words before.homes (record before { calls = a })) (w.ids.changes (waiting_of old.seats old.readers) (given_by old.plan.links gave) old.ending)
+        ∙ sym (ticks Unasked ∙ aside_tick old.plan i own before program Unasked step w.next w.found w.is (w.ids.finds (waiting_of old.seats old.readers) (given_by old.plan.links gave) old.ending core.none));
+    answered = answers (OfAside step) Unasked next fits;
+  }
+
+  message_steps : (q : ℕ) → first_in program ≡ Some (OfMessage q) → MessageTaken (table_of old) (table_of fresh) i seat seat' q → SteppedWith old fresh i Unasked took gave
   message_steps q next w = record {
     later = took;
     agrees = agrees_same old.links fresh.links took (ap (λ (l : LinksData). l.outs) w.links) agrees;
-    core = core_set old fresh i seat' (after_message program w.letter.operation w.letter.message) took took own.hand _ _ seats w.goes w.words
+    later_gave = gave;
+    agrees_gave = gives_same old.links fresh.links gave w.goes.base.inns agrees_gave;
+    core = moved _ took own.hand _ before.words w.goes w.words
         (none_changes old.plan i old.links fresh.links old.letters fresh.letters took _ w.links
-        (ap (λ ls. homes_of old.links old.plan ls took) w.letters ∙ sym (letters_set old.plan old.letters sized.letters_are old.links took q None inside)))
-        ∙ sym (ticks Unasked ∙ message_tick old.plan i own before Unasked program q w.letter.operation w.letter.message next found);
+        (ap (λ ls. homes_of old.links old.plan ls took) w.letters ∙ sym (letters_set old.plan old.letters sized.letters_are old.links took q None inside))) w.ids
+        ∙ sym (ticks Unasked ∙ message_tick old.plan i own before program Unasked q w.letter.author (parcel_of w.letter.message).parts (parcel_of w.letter.message).bytes next (bare_message (around (machine_sizes old) seat) seat.point (facts.takes_message (around (machine_sizes old) seat) seat.point q next).0) found);
     answered = answers (OfMessage q) Unasked next tt;
   }
     where
       inside : q < old.plan.requests
-      inside = let a = place_inside old.letters q (Some w.letter) w.at in let b = sized.letters_are in omega arith
+      inside = let a = place_inside old.letters q (Some w.letter) w.at in let b = sized.letters_are in omega (arith, a, b)
 
-      found : message (λ (home : Home). home) before.homes q ≡ core.some (heading_of w.letter.operation, w.letter.message)
+      found : message (λ (home : Home). home) before.homes q ≡ core.some (heading_by w.letter.author (parcel_of w.letter.message).parts, (parcel_of w.letter.message).bytes)
       found = ap (λ x. letter_of (shown (λ (home : Home). home) x)) (at_longer (map letter_home old.letters) _ q (letter_home (Some w.letter)) (at_map letter_home old.letters q (Some w.letter) w.at))
 
-  link_steps : (k : ℕ) → first_in program ≡ Some (OfLink k) → MayTake old.plan old.links i k → LinkTaken (table_of old) (table_of fresh) i program seat' k → SteppedWith old fresh i Unasked took
+  link_steps : (k : ℕ) → first_in program ≡ Some (OfLink k) → MayTake old.plan old.links i k → LinkTaken (table_of old) (table_of fresh) i seat seat' k → SteppedWith old fresh i Unasked took gave
   link_steps k next may w = record {
     later = took;
     agrees = agrees_same old.links fresh.links took (ap (λ (l : LinksData). l.outs) w.links) agrees;
-    core = core_set old fresh i seat' (after_link program (slice_index_or old.links.nexts k 0)) took took _ _ _ seats w.goes w.words
+    later_gave = gave;
+    agrees_gave = gives_same old.links fresh.links gave w.goes.base.inns agrees_gave;
+    core = moved (after_link program (slice_index_or old.links.nexts k 0)) took _ _ _ w.goes w.words
         (letters_along w.letters (take_changes old.plan i k old.letters sized.letters_are old.links fresh.links took sized.holders_are may.0 may.1 may.2
-        (ap (λ (l : LinksData). l.holders) w.links) (ap (λ (l : LinksData). l.nexts) w.links) (ap (λ (l : LinksData). l.outs) w.links)))
-        ∙ sym (ticks Unasked ∙ link_tick old.plan i own before Unasked program k (slice_index_or old.links.nexts k 0) (took k) next found);
+        (ap (λ (l : LinksData). l.holders) w.links) (ap (λ (l : LinksData). l.nexts) w.links) (ap (λ (l : LinksData). l.outs) w.links))) w.ids
+        ∙ sym (ticks Unasked ∙ link_tick old.plan i own before program Unasked k (slice_index_or old.links.nexts k 0) (took k) next (bare_link (around (machine_sizes old) seat) seat.point (facts.takes_link (around (machine_sizes old) seat) seat.point k next).0) found);
     answered = answers (OfLink k) Unasked next tt;
   }
     where
       found : link_home (λ (home : Home). home) old.plan before.homes k ≡ core.some (took k, slice_index_or old.links.nexts k 0)
       found = ap (λ x. took_of (as_link (shown (λ (home : Home). home) x))) (home_at old.plan old.letters sized.letters_are old.links took k may.0 ∙ ap core.some (lies_home old.links took k may.1))
 
-  home_steps : (k n : ℕ) → first_in program ≡ Some (OfHome k n) → MayAsk old.plan old.links i k → LinkPut (table_of old) (table_of fresh) i program seat' k n → SteppedWith old fresh i Unasked took
+  home_steps : (k n : ℕ) → first_in program ≡ Some (OfHome k n) → MayAsk old.plan old.links i k → LinkPut (table_of old) (table_of fresh) i seat seat' k n → SteppedWith old fresh i Unasked took gave
   home_steps k n next may w = record {
     later = took;
     agrees = agrees_same old.links fresh.links took (ap (λ (l : LinksData). l.outs) w.links) agrees;
-    core = core_set old fresh i seat' (after_home program) took took _ _ _ seats w.goes w.words
+    later_gave = gave;
+    agrees_gave = gives_same old.links fresh.links gave w.goes.base.inns agrees_gave;
+    core = moved (after_home program) took _ _ _ w.goes w.words
         (letters_along w.letters (home_changes old.plan i old.letters sized.letters_are old.links fresh.links took sized.holders_are k n may
-        (ap (λ (l : LinksData). l.holders) w.links) (ap (λ (l : LinksData). l.nexts) w.links) (let a = may.0 in let b = sized.nexts_are in omega arith) (ap (λ (l : LinksData). l.outs) w.links)))
-        ∙ sym (ticks Unasked ∙ home_tick old.plan i own before Unasked program k n next (head_home (around (sizes_of old.plan) seat) seat.point (puts_home (around (sizes_of old.plan) seat) seat.point k n next).0));
+        (ap (λ (l : LinksData). l.holders) w.links) (ap (λ (l : LinksData). l.nexts) w.links) (let a = may.0 in let b = sized.nexts_are in omega (arith, a, b)) (ap (λ (l : LinksData). l.outs) w.links))) w.ids
+        ∙ sym (ticks Unasked ∙ home_tick old.plan i own before program Unasked k n next (head_home (around (machine_sizes old) seat) seat.point (facts.puts_home (around (machine_sizes old) seat) seat.point k n next).0));
     answered = answers (OfHome k n) Unasked next tt;
   }
 
   put_steps : (k : ℕ) (asked : Bool) (bytes : List ℕ) (put : Put) → first_in program ≡ Some (kinds.OfPut k asked bytes) → MayAsk old.plan old.links i k →
-      LinkAsked (table_of old) (table_of fresh) i program seat' k (after_put program put) (λ out out'. PutStep out out' bytes put) → SteppedWith old fresh i (OfPut put) took
-  put_steps k asked bytes put next may w = let a = w.asked in let step = a.answered in record {
+      LinkAsked (table_of old) (table_of fresh) i seat seat' k (after_put program put) (λ out out'. PutStep out out' bytes put) → SteppedWith old fresh i (OfPut put) took gave
+  put_steps k asked bytes put next may w = let a = w.asked in let step = a.answered in let bare = bare_put (around (machine_sizes old) seat) seat.point (facts.puts_piece (around (machine_sizes old) seat) seat.point k asked bytes next).0 in record {
     later = later_at k (took k ++ taken_of bytes put) took;
     agrees = agrees_set old.links fresh.links took (later_at k (took k ++ taken_of bytes put) took) k a.out' a.outs_are
         (subst (λ o. IfSome o (λ bs. bs ≡ later_at k (took k ++ taken_of bytes put) took k)) (sym step.took)
         (subst (λ t. IfSome (append_known a.out.took (taken_of bytes put)) (λ bs. bs ≡ t)) (sym (later_here k (took k ++ taken_of bytes put) took)) (known_more a.out.took (took k) (taken_of bytes put) (agrees k a.out a.at))))
         (λ j differ. later_else k j (took k ++ taken_of bytes put) took differ) agrees;
-    core = core_set old fresh i seat' (after_put program put) took (later_at k (took k ++ taken_of bytes put) took) _ _ _ seats w.goes w.words
-        (letters_along w.letters (put_changes old.plan i old.letters sized.letters_are old.links fresh.links took sized.holders_are k bytes put a.out a.out' may w.holders w.nexts a.at a.outs_are step.finished))
-        ∙ sym (ticks (OfPut put) ∙ put_tick old.plan i own before put program k asked bytes next);
-    answered = answers (kinds.OfPut k asked bytes) (OfPut put) next (put, refl, fits_put asked bytes put a.out a.out' step (λ e. paced_first old.links.outs program k asked bytes next paced e a.out a.at));
+    later_gave = gave;
+    agrees_gave = gives_same old.links fresh.links gave w.goes.base.inns agrees_gave;
+    core = moved (after_put program put) (later_at k (took k ++ taken_of bytes put) took) _ _ _ w.goes w.words
+        (letters_along w.letters (put_changes old.plan i old.letters sized.letters_are old.links fresh.links took sized.holders_are k bytes put a.out a.out' may w.holders w.nexts a.at a.outs_are step.finished)) w.ids
+        ∙ sym (ticks (OfPut put) ∙ put_tick old.plan i own before program put k asked bytes next bare);
+    answered = answers (kinds.OfPut k asked bytes) (OfPut put) next (put, refl, fits_put asked bytes put a.out a.out' step (λ e. paced_first old.links.outs program k asked bytes next bare paced e a.out a.at));
   }
 
   ready_steps : (k : ℕ) (ready : Ready) → first_in program ≡ Some (kinds.OfReady k) → MayAsk old.plan old.links i k →
-      LinkAsked (table_of old) (table_of fresh) i program seat' k (after_ready program ready) (λ out out'. ReadyStep out out' ready) → SteppedWith old fresh i (OfReady ready) took
+      LinkAsked (table_of old) (table_of fresh) i seat seat' k (after_ready program ready) (λ out out'. ReadyStep out out' ready) → SteppedWith old fresh i (OfReady ready) took gave
   ready_steps k ready next may w = let a = w.asked in let step = a.answered in record {
     later = took;
     agrees = agrees_set old.links fresh.links took took k a.out' a.outs_are (subst (λ o. IfSome o (λ bs. bs ≡ took k)) (sym step.took) (agrees k a.out a.at)) (λ j differ. refl) agrees;
-    core = core_set old fresh i seat' (after_ready program ready) took took own.hand before.homes _ seats w.goes w.words
-        (letters_along w.letters (ready_changes old.plan i old.letters sized.letters_are old.links fresh.links took sized.holders_are k a.out a.out' may w.holders w.nexts a.at a.outs_are step.finished))
-        ∙ sym (ticks (OfReady ready) ∙ ready_tick old.plan i own before ready program k next (head_asks (around (sizes_of old.plan) seat) seat.point (asks (around (sizes_of old.plan) seat) seat.point k next).0));
+    later_gave = gave;
+    agrees_gave = gives_same old.links fresh.links gave w.goes.base.inns agrees_gave;
+    core = moved (after_ready program ready) took own.hand before.homes _ w.goes w.words
+        (letters_along w.letters (ready_changes old.plan i old.letters sized.letters_are old.links fresh.links took sized.holders_are k a.out a.out' may w.holders w.nexts a.at a.outs_are step.finished)) w.ids
+        ∙ sym (ticks (OfReady ready) ∙ ready_tick old.plan i own before program ready k next (head_asks (around (machine_sizes old) seat) seat.point (facts.asks (around (machine_sizes old) seat) seat.point k next).0));
     answered = answers (kinds.OfReady k) (OfReady ready) next (ready, refl);
   }
 
-  along : (answer answer' : Answer) → answer ≡ answer' → SteppedWith old fresh i answer' took → SteppedWith old fresh i answer took
-  along answer answer' e s = subst (λ (a : Answer). SteppedWith old fresh i a took) (sym e) s
+  along : (answer answer' : Answer) → answer ≡ answer' → SteppedWith old fresh i answer' took gave → SteppedWith old fresh i answer took gave
+  along answer answer' e s = subst (λ (a : Answer). SteppedWith old fresh i a took gave) (sym e) s
 
-  by_step : (step : Step) (answer : Answer) → first_in program ≡ Some (step_as (around (sizes_of old.plan) seat) step) → MayMake old.plan old.links i (step_as (around (sizes_of old.plan) seat) step)
-      → Made (table_of old) (table_of fresh) i program seat' (step_as (around (sizes_of old.plan) seat) step) answer → SteppedWith old fresh i answer took
-  by_step (firsts.Call call) answer next may w = along answer Unasked w.0 (call_steps (step_of call) next may (labelled_step call) w.1)
-  by_step (firsts.PutMessage q o) answer next may w = along answer Unasked w.0 (call_steps _ next may refl w.1)
-  by_step (firsts.TakeMessage q) answer next may w = along answer Unasked w.0 (message_steps q next w.1)
-  by_step (firsts.TakeHome k) answer next may w = along answer Unasked w.0 (link_steps k next may w.1)
-  by_step (firsts.PutHome k n) answer next may w = along answer Unasked w.0 (home_steps k n next may w.1)
-  by_step (firsts.PutBytes k asked) answer next may w = along answer (OfPut w.0) w.1 (put_steps k asked _ w.0 next may w.2)
-  by_step (firsts.AskReady k) answer next may w = along answer (OfReady w.0) w.1 (ready_steps k w.0 next may w.2)
+  -- no client takes bytes of a link
+  abbrev TakesNone : asides.Step → Type 0
+  TakesNone (asides.TakeBytes k room) = ⊥
+  TakesNone other = Unit {0}
 
-  -- a step on a word leaves what the links took
-  quiet_step : (step : Step) (answer : Answer) → first_in program ≡ Some (step_as (around (sizes_of old.plan) seat) step) → MayMake old.plan old.links i (step_as (around (sizes_of old.plan) seat) step)
-      → IsCall (step_as (around (sizes_of old.plan) seat) step) → Made (table_of old) (table_of fresh) i program seat' (step_as (around (sizes_of old.plan) seat) step) answer →
-      Agrees fresh.links took × (core_with fresh took ≡ ticked old.plan before (record { seat = i; answer = Unasked }))
-  quiet_step (firsts.Call call) answer next may is w = call_core (step_of call) next may (labelled_step call) w.1
-  quiet_step (firsts.PutMessage q o) answer next may is w = call_core _ next may refl w.1
-  quiet_step (firsts.TakeMessage q) answer next may is w = absurd is
-  quiet_step (firsts.TakeHome k) answer next may is w = absurd is
-  quiet_step (firsts.PutHome k n) answer next may is w = absurd is
-  quiet_step (firsts.PutBytes k asked) answer next may is w = absurd is
-  quiet_step (firsts.AskReady k) answer next may is w = absurd is
+  unasked : (step : asides.Step) → TakesNone step → AnswersFirst (OfAside step) Unasked
+  unasked (asides.TakeBytes k room) none_ = absurd none_
+  unasked _ none_ = tt
 
--- what is asked of the next step of a seat
-abbrev pub MayStep : MachineState → ℕ → Step → Type 0
-MayStep m i step = (seat : SeatData) → get_elem? m.seats i ≡ core.some seat → MayMake m.plan m.links i (step_as (around (sizes_of m.plan) seat) step)
-
--- one step of a seat is a tick of it, whatever its links took so far
-pub step_core : (old fresh : MachineState) (i : ℕ) (step : Step) (answer : Answer) → IsSized (table_of old) → NextIs old i step → MayStep old i step → ArePaced old.plan old.links old.seats → SteppedTo old fresh i step answer →
-    (took : Taken) → Agrees old.links took → SteppedWith old fresh i answer took
-step_core old fresh i step answer sized n may paced w took agrees = by_step old fresh i w.seat w.seat' w.at w.seats sized (paced i w.seat w.at) took agrees step answer
-    (subst (λ (s : SeatData). first_in (seat_program (sizes_of old.plan) s) ≡ Some (step_as (around (sizes_of old.plan) s) step)) (core.some-injective n.seat w.seat (sym n.at ∙ w.at)) n.is)
-    (may w.seat w.at) w.made
-
-pub step_quiet : (old fresh : MachineState) (i : ℕ) (step : Step) (answer : Answer) → IsSized (table_of old) → NextIs old i step → MayStep old i step → ArePaced old.plan old.links old.seats → (w : SteppedTo old fresh i step answer) →
-    IsCall (step_as (around (sizes_of old.plan) w.seat) step) → (took : Taken) → Agrees old.links took → Agrees fresh.links took × (core_with fresh took ≡ ticked old.plan (core_with old took) (record { seat = i; answer = Unasked }))
-step_quiet old fresh i step answer sized n may paced w is took agrees = quiet_step old fresh i w.seat w.seat' w.at w.seats sized (paced i w.seat w.at) took agrees step answer
-    (subst (λ (s : SeatData). first_in (seat_program (sizes_of old.plan) s) ≡ Some (step_as (around (sizes_of old.plan) s) step)) (core.some-injective n.seat w.seat (sym n.at ∙ w.at)) n.is)
-    (may w.seat w.at) is w.made
+  pub steps_by : (step : Step) (answer : Answer) → first_in program ≡ Some (step_as (around (machine_sizes old) seat) step) → MayMake old.plan old.links i (step_as (around (machine_sizes old) seat) step)
+      → ((aside : asides.Step) → step_as (around (machine_sizes old) seat) step ≡ OfAside aside → TakesNone aside) → MadeFirst (table_of old) (table_of fresh) i seat seat' step (step_as (around (machine_sizes old) seat) step) answer → SteppedWith old fresh i answer took gave
+  steps_by (firsts.Call call) answer next may none_ w = along answer Unasked w.0 (call_steps (step_of call) (firsts.Call call) next may (letters_by call old.letters fresh.letters w.1.letters) w.1)
+  steps_by (firsts.Aside step) answer next may none_ w = along answer Unasked w.0 (aside_steps' (aside_steps.step_of _ step) next (unasked (aside_steps.step_of _ step) (none_ (aside_steps.step_of _ step) refl)) w.1)
+  steps_by (firsts.PutMessage q author) answer next may none_ w = let l = w.1.letters in along answer Unasked w.0 (call_steps _ (firsts.PutMessage q author) next may (l.letter, l.fresh_are, same_home q author seat l.letter l.author_is l.bytes l.parts) w.1)
+  steps_by (firsts.TakeMessage q) answer next may none_ w = along answer Unasked w.0 (message_steps q next w.1)
+  steps_by (firsts.TakeHome k) answer next may none_ w = along answer Unasked w.0 (link_steps k next may w.1)
+  steps_by (firsts.PutHome k n) answer next may none_ w = along answer Unasked w.0 (home_steps k n next may w.1)
+  steps_by (firsts.PutBytes k asked author) answer next may none_ w = along answer (OfPut w.0) w.1 (put_steps k asked _ w.0 next may w.2)
+  steps_by (firsts.AskReady k) answer next may none_ w = along answer (OfReady w.0) w.1 (ready_steps k w.0 next may w.2)

@@ -1,25 +1,25 @@
 -- How many ticks that move are left, seats that ask no link, and where the ending begins.
-use Rattle.std.specs.Prelude.{ℕ, ◌≡◌, ◌≢◌, ◌-◌, ◌<◌, ◌≤◌, [], slice_set}
+use Rattle.std.specs.Prelude.{ℕ, ◌≡◌, ◌≢◌, ◌-◌, ◌<◌, ◌≤◌, true, false, [], slice_set}
 use mathlib.Core.Option as core
 use lib.ListN.{get_elem?}
-use Rattle.sock_programs.specs.Programs.{Program, Do, Say, Sent, Rest}
+use Rattle.sock_programs.specs.Programs.{Program, Do, Say, Sent, Rest, Retries}
 use Rattle.sock_programs.specs.Clients.{ending_of}
 use Rattle.sock_programs.specs.Cores.{next_step}
 use Rattle.sock_programs.specs.Ticks.{quiet, ticked}
-use Rattle.sock_programs.specs.Scripts.{sizes_of}
+use Rattle.sock_programs.specs.Runs.{IsAtRest}
 use Rattle.sock_words.specs.declared.kind.Kind.{Kind}
 use Rattle.sock_words.specs.declared.outcome.Outcome.TheVariants.{Held}
 use Rattle.sock_core.specs.declared.machine.Tick.{Tick}
 use Rattle.sock_core.specs.declared.machine.Tick.TheVariants.{Moved}
-use Rattle.sock_core.specs.Seats.{SeatData, seat_program}
-use Rattle.sock_core.specs.Links.{Taken, Agrees}
-use Rattle.sock_core.specs.Machines.{MachineState, IsSoundMachine, core_with}
+use Rattle.client_seats.specs.Seats.{SeatData, seat_program}
+use Rattle.sock_core.specs.Links.{Taken, Given, Agrees, AgreesGave}
+use Rattle.sock_core.specs.Machines.{MachineState, IsSoundMachine, machine_sizes, core_with}
 
 -- ## Ticks that are left
 
 -- a sound machine has so many ticks that move left at most
 abbrev pub LastsAtMost : MachineState → ℕ → Type 0
-LastsAtMost m n = ∥ ((s : IsSoundMachine m) × (s.left ≤ n)) ∥₁
+LastsAtMost m n = (m.short ≡ false) × ∥ ((s : IsSoundMachine m) × (s.left ≤ n)) ∥₁
 
 -- some tick moved, or none need have
 abbrev pub LeavesFewer : MachineState → MachineState → Type 0
@@ -43,22 +43,29 @@ abbrev pub IsOther : Tick → Kind → Type 0
 IsOther (Moved found) kind = found ≡ kind → ⊥
 IsOther other kind = ⊥
 
--- ## Seat 0, which asks no link and holds no life
+-- ## Seat 0, which asks no link, holds no life and calls nothing
 
--- neither the program nor what follows asks a link, comes to where one is written, or holds a life
+-- neither the program nor what follows asks a link, makes a step aside of the sockets, comes to where a link is written, or holds a life
 abbrev pub AsksNone : Program → Type 0
 AsksNone (Do call next) = (found : ℕ) → AsksNone (next found)
 AsksNone (Say o outcome next) = (outcome ≢ Held) × AsksNone next
 AsksNone (Sent o next) = AsksNone next
 AsksNone Rest = Unit {0}
+AsksNone (Retries requests after) = AsksNone after
 AsksNone other = ⊥
 
+-- and it keeps no retry
 abbrev pub IsPlain : MachineState → Type 0
-IsPlain m = (seat : SeatData) → get_elem? m.seats 0 ≡ core.some seat → AsksNone (seat_program (sizes_of m.plan) seat)
+IsPlain m = (seat : SeatData) → get_elem? m.seats 0 ≡ core.some seat → AsksNone (seat_program (machine_sizes m) seat) × (seat.waiting ≡ [])
+
+-- it has no step left and keeps no retry, whatever the links took and gave
+abbrev pub FirstRests : MachineState → Type 0
+FirstRests m = ((took : Taken) (gave : Given) → IsAtRest (core_with m took gave) 0) × ((seat : SeatData) → get_elem? m.seats 0 ≡ core.some seat → seat.waiting ≡ [])
 
 -- a tick of it
 abbrev pub TickedFirst : MachineState → MachineState → Type 0
-TickedFirst old new = IsPlain new × (new.ends ≡ old.ends) × ((took : Taken) → Agrees old.links took → Agrees new.links took × (core_with new took ≡ ticked old.plan (core_with old took) (quiet 0)))
+TickedFirst old new = IsPlain new × (new.ends ≡ old.ends) × ((took : Taken) (gave : Given) → Agrees old.links took → AgreesGave old.links gave →
+    Agrees new.links took × AgreesGave new.links gave × (core_with new took gave ≡ ticked old.plan (core_with old took gave) (quiet 0)))
 
 -- ## The ending
 
@@ -68,9 +75,21 @@ pub record BeganEnding (old new : MachineState) : Type 0 where
   pub words : new.words ≡ old.words
   pub letters : new.letters ≡ old.letters
   pub links : new.links ≡ old.links
+  pub ids : new.ids ≡ old.ids
+  pub calls : new.calls ≡ old.calls
+  pub ending : new.ending ≡ old.ending
+  pub readers : new.readers ≡ old.readers
   pub outcomes : new.outcomes ≡ old.outcomes
   pub ends : new.ends ≡ old.ends
+  pub short : new.short ≡ old.short
   pub opens : new.opens ≡ []
+  pub seat : SeatData
+  pub at : get_elem? old.seats 0 ≡ core.some seat
   pub seat' : SeatData
   pub seats : new.seats ≡ slice_set old.seats 0 seat'
-  pub program : seat_program (sizes_of old.plan) seat' ≡ next_step (ending_of old.opens)
+  pub waiting : seat'.waiting ≡ seat.waiting
+  pub program : seat_program (machine_sizes old) seat' ≡ next_step (ending_of old.opens)
+
+-- behind it the run is ending, so that a reading ends where nothing more is there
+abbrev pub told_ending : MachineState → MachineState
+told_ending m = record m { ending = true }

@@ -1,9 +1,9 @@
-pub mod Seats
 pub mod Links
 pub mod Machines
+pub mod Runs
 pub mod Steps
 pub mod Telling
-pub mod Runs
+pub mod Reading
 pub mod Driving
 pub mod Beginnings
 pub mod Finish

@@ -1,31 +1,36 @@
 -- Messages and links as a machine has them: at home, or in hand of a seat.
-use Rattle.std.specs.Prelude.{ℕ, ◌≡◌, ◌==◌, ◌++◌, true, false, Bool, is_some, if◌then◌else◌, List, [], ◌∷◌, map, flat_map, slice_index_or, Option, Some, None, IfSome}
+use Rattle.std.specs.Prelude.{ℕ, ◌≡◌, ◌==◌, ◌++◌, true, false, Bool, is_some, if◌then◌else◌, List, [], ◌∷◌, length, map, flat_map, slice_index_or, Option, Some, None, IfSome}
 use mathlib.Core.Option as core
 use lib.ListN.{get_elem?}
 use Rattle.sock_words.specs.declared.plain.Plan.{Plan}
-use Rattle.sock_io.specs.Link.{OutState}
+use Rattle.sock_io.specs.Link.{OutState, InState}
 use Rattle.sock_model.specs.declared.home.Home.{Home}
 use Rattle.sock_model.specs.declared.home.Home.TheVariants.{Link, Message}
 use Rattle.sock_programs.specs.Writings as heads
 use Rattle.sock_programs.specs.Programs.{Program, PutBytes, Write}
 use Rattle.sock_programs.specs.Runs.{from_to}
-use Rattle.sock_programs.specs.Sends.{heading_of}
+use Rattle.message_parts.specs.Parcels.{parcel_of}
+use Rattle.seat_points.specs.Points.{heading_by}
 use Rattle.sock_core.specs.declared.letter.Letter.{Letter}
 
 -- the message that lies at the home of a request
 abbrev pub letter_home : Option Letter → core.Option Home
 letter_home None = core.none
-letter_home (Some letter) = core.some (Message (heading_of letter.operation) letter.message)
+letter_home (Some letter) = core.some (Message (heading_by letter.author (parcel_of letter.message).parts) (parcel_of letter.message).bytes)
 
--- all links: who has each in hand, how many of its messages have places, and its writing half
+-- all links: who has each in hand, how many of its messages have places, and its halves
 pub record LinksData : Type 0 where
   pub holders : List (Option ℕ)
   pub nexts : List ℕ
   pub outs : List OutState
+  pub inns : List InState
 
--- what each link took: a writing half may not tell it, so this stands beside a machine
+-- what each link took, and what each gave: a half may not tell it, so these stand beside a machine
 abbrev pub Taken : Type 0
 Taken = ℕ → List ℕ
+
+abbrev pub Given : Type 0
+Given = ℕ → List ℕ
 
 module _ (l : LinksData) where
   abbrev pub holder_of : ℕ → Option ℕ
@@ -56,6 +61,10 @@ module _ (l : LinksData) where
   -- where its writing half tells what a link took, it took this
   abbrev pub Agrees : Taken → Type 0
   Agrees took = (k : ℕ) (out : OutState) → get_elem? l.outs k ≡ core.some out → IfSome out.took (λ bytes. bytes ≡ took k)
+
+  -- its reading half counts what it gave; and where it tells what that was, it gave this
+  abbrev pub AgreesGave : Given → Type 0
+  AgreesGave gave = (k : ℕ) (inn : InState) → get_elem? l.inns k ≡ core.some inn → (inn.gave ≡ length (gave k)) × IfSome inn.gave_bytes (λ bytes. bytes ≡ gave k)
 
   -- each of them is prompt
   abbrev pub ArePrompt : Type 0

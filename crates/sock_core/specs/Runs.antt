@@ -1,27 +1,40 @@
 -- What ticks and whole runs of a machine make of its core.
-use Rattle.std.specs.Prelude.{ℕ, ◌≡◌, ◌-◌, ◌<◌, ◌≤◌, true, false, List, [], length, slice_get, replicate, Some, Contains}
+use Rattle.std.specs.Prelude.{ℕ, zero, suc, ◌≡◌, ◌-◌, ◌≤◌, ◌<◌, ◌⊎◌, true, false, List, [], ◌∷◌, ◌++◌, length, option_map, slice_get, replicate, Option, Some, None, IfSome, Contains}
 use Rattle.std.specs.List.{AllByRecursion}
 use lib.ListN.{get_elem?}
 use mathlib.Core.Option as core
 use Rattle.sock_words.specs.declared.kind.Kind.{Kind}
+use Rattle.sock_words.specs.declared.plain.Plan.{Plan}
 use Rattle.sock_words.specs.KindText.{kind_text}
 use Rattle.brpc_model.specs.Link.{LinkEnd}
 use Rattle.sock_programs.specs.Writings as heads
-use Rattle.sock_programs.specs.Programs.{Program, Write}
+use Rattle.sock_programs.specs.Asides.{Taking, AtEnd, Closed, Broken, call_id}
+use Rattle.sock_programs.specs.Heads.{Sought, First, Version, Locks, Joins, Opens, Reads, Discards}
+use Rattle.sock_programs.specs.Programs.{Program, Write, Round}
 use Rattle.sock_programs.specs.Cores.{Core, SeatState}
-use Rattle.sock_programs.specs.Ticks.{Answer, Moment, quiet, seats_of, ticked, run, waits, IsAnswered, AreAnswered, IsPrompt, broken_at, broken_in}
-use Rattle.sock_programs.specs.Runs.{IsAtRest, IsSettled, LeadsUpTo, next_kind, rounds}
+use Rattle.sock_programs.specs.Ticks.{Answer, Moment, quiet, seats_of, ticked, run, waits, IsAnswered, AreAnswered, IsPrompt, broken_in}
+use Rattle.sock_programs.specs.Runs.{IsAtRest, LeadsUpTo, next_kind, from_to}
+use Rattle.sock_programs.specs.Scripts.{AreStill, is_ending}
 use Rattle.sock_io.specs.Link.{more_told}
-use Rattle.whole_runs.specs.Heard.{as_told, heard_at, heard_in}
+use Rattle.whole_runs.specs.Heard.{as_told, as_taken, heard_in, taken_in}
 use Rattle.sock_core.specs.declared.machine.On.{On}
 use Rattle.sock_core.specs.declared.machine.On.TheVariants as on
 use Rattle.sock_core.specs.declared.machine.Tick.{Tick}
 use Rattle.sock_core.specs.declared.machine.Tick.TheVariants.{Moved, Waits, Idle}
-use Rattle.sock_core.specs.Links.{Taken, Agrees, ArePrompt}
-use Rattle.sock_core.specs.Machines.{MachineState, core_with, ending_by}
-use Rattle.sock_core.specs.Steps.{SameLink}
+use Rattle.sock_core.specs.Links.{Taken, Given, Agrees, AgreesGave, ArePrompt}
+use Rattle.sock_core.specs.Machines.{MachineState, READERS, core_with, ending_by}
 
 -- ## Links
+
+-- the links stay those that they were: which they are, how many bytes they gave, and counts that never fall; what its reading half answered
+-- once stays so
+pub record SameLink (old new : LinkEnd) : Type 0 where
+  pub link : new.link ≡ old.link
+  pub later : old.put_faults ≤ new.put_faults
+  pub more : old.gave_count ≤ new.gave_count
+  pub later_takes : old.take_faults ≤ new.take_faults
+  pub gave_end : old.gave_end ≡ true → new.gave_end ≡ true
+  pub closed : (new.closed ≡ old.closed) ⊎ (new.closed ≡ option_map (λ _. true) old.closed)
 
 pub record SameLinks (old new : MachineState) : Type 0 where
   pub as_many : length new.ends ≡ length old.ends
@@ -37,105 +50,171 @@ pub record LinksTell (old new : MachineState) (heard : ℕ → List Answer) : Ty
   pub each : (k : ℕ) (a b : LinkEnd) → slice_get old.ends k ≡ Some a → slice_get new.ends k ≡ Some b → b.answers ≡ more_told a.answers (as_told (heard k))
   pub none_beyond : (k : ℕ) → length old.ends ≤ k → heard k ≡ []
 
--- the size of the table, and what the ending goes over
+-- a link that gave its end, was closed or failed shows it
+abbrev pub ShowsTaking : Taking → LinkEnd → Type 0
+ShowsTaking AtEnd e = e.gave_end ≡ true
+ShowsTaking Closed e = IfSome e.closed (λ closed. closed ≡ true)
+ShowsTaking Broken e = 0 < e.take_faults
+ShowsTaking other e = Unit {0}
+
+-- each link shows what its reading half answered
+abbrev pub ShowTakings : MachineState → (ℕ → List Answer) → Type 0
+ShowTakings m taken = (k : ℕ) (e : LinkEnd) → slice_get m.ends k ≡ Some e → AllByRecursion (λ t. ShowsTaking t e) (as_taken (taken k))
+
+-- ## The table
+
+-- the sizes of the tables, what the ending goes over, and whether the run is ending
 pub record SameTable (old new : MachineState) : Type 0 where
   pub plan : new.plan ≡ old.plan
+  pub id_plan : new.ids.plan ≡ old.ids.plan
+  pub calls : new.calls ≡ old.calls
   pub opens : new.opens ≡ old.opens
+  pub ending : new.ending ≡ old.ending
 
 -- ## Ticks
 
+-- the id by which a seat seeks its slot
+abbrev pub sought_id : ℕ → Sought → ℕ
+sought_id i (First first) = call_id i first
+sought_id i (Version version) = call_id i version
+
+abbrev pub IsWaitingFor : Program → On → Type 0
+IsWaitingFor (Write (heads.Walks h top at after) then_) (on.Next ticket) = at ≡ ticket
+IsWaitingFor (Write (heads.Waits h now heading left taken) then_) (on.Out k) = h.link ≡ k
+IsWaitingFor (Round (Locks i sought w) next) (on.Id id) = sought_id i sought ≡ id
+IsWaitingFor (Round (Joins id) next) (on.Id other) = id ≡ other
+IsWaitingFor (Round (Opens o) next) (on.Open other) = o ≡ other
+IsWaitingFor (Round (Reads r) next) (on.In k) = r.link ≡ k
+IsWaitingFor (Round (Discards k total) next) (on.In other) = k ≡ other
+IsWaitingFor program on_ = ⊥
+
 -- the seat waits for what this says
 abbrev pub WaitsFor : Core → ℕ → On → Type 0
-WaitsFor c i (on.Next ticket) = (seat : SeatState) × (h : heads.Holder) × (top after : ℕ) × (then_ : Program) × (get_elem? c.seats i ≡ core.some seat) × (seat.program ≡ Write (heads.Walks h top ticket after) then_)
-WaitsFor c i (on.Out k) = (seat : SeatState) × (get_elem? c.seats i ≡ core.some seat) × ((w : heads.Writing) × (then_ : Program) × (seat.program ≡ Write w then_) × IsWaiting k w)
-  where
-    IsWaiting : ℕ → heads.Writing → Type 0
-    IsWaiting k (heads.Waits h now heading left taken) = h.link ≡ k
-    IsWaiting k other = ⊥
-WaitsFor c i other = ⊥
+WaitsFor c i on_ = (seat : SeatState) × (get_elem? c.seats i ≡ core.some seat) × IsWaitingFor seat.program on_
 
--- what a tick of a seat answers where it was this moment: seat 0 makes none
+-- what a tick of a seat answers where it was this moment
 abbrev pub TickIs : MachineState → Core → Moment → Tick → Type 0
 TickIs m c moment (Moved kind) = (next_kind c moment.seat ≡ Some kind) × (waits m.plan c moment ≡ false)
-TickIs m c moment (Waits on) = (waits m.plan c moment ≡ true) × WaitsFor c moment.seat on
+TickIs m c moment (Waits on_) = (waits m.plan c moment ≡ true) × WaitsFor c moment.seat on_
 TickIs m c moment Idle = IsAtRest c moment.seat
 
--- a tick of a seat, over links that had taken this
-pub record TickedWith (old new : MachineState) (seat : ℕ) (tick : Tick) (took : Taken) : Type 0 where
-  pub moment : Moment
-  pub is_of : moment.seat ≡ seat
-  pub is : TickIs old (core_with old took) moment tick
-  pub answered : IsAnswered (core_with old took) moment
-  pub prompt : ArePrompt old.links → IsPrompt moment
+-- these ticks make the one machine of the other, where its links had taken and given this
+pub record Follows (old new : MachineState) (took : Taken) (gave : Given) (moments : List Moment) : Type 0 where
+  pub answered : AreAnswered old.plan (core_with old took gave) moments
+  pub prompt : ArePrompt old.links → AllByRecursion IsPrompt moments
   pub later : Taken
   pub agrees : Agrees new.links later
-  pub core : core_with new later ≡ ticked old.plan (core_with old took) moment
-  pub broken : ShowFaults new (broken_at (core_with old took) moment)
-  pub told : LinksTell old new (heard_at (core_with old took) moment)
+  pub later_gave : Given
+  pub agrees_gave : AgreesGave new.links later_gave
+  pub core : core_with new later later_gave ≡ run old.plan (core_with old took gave) moments
+  pub broken : ShowFaults new (broken_in old.plan (core_with old took gave) moments)
+  pub told : LinksTell old new (heard_in old.plan (core_with old took gave) moments)
+  pub taken : ShowTakings new (taken_in old.plan (core_with old took gave) moments)
+
+-- a tick of a seat
+pub record TickedWith (old new : MachineState) (seat : ℕ) (tick : Tick) (took : Taken) (gave : Given) : Type 0 where
+  pub moment : Moment
+  pub is_of : moment.seat ≡ seat
+  pub is : TickIs old (core_with old took gave) moment tick
+  pub follows : Follows old new took gave (moment ∷ [])
+
+-- the table and the links stay those that they were, and this holds whatever its links had taken and given
+abbrev pub Made : MachineState → MachineState → (Taken → Given → Type 0) → Type 0
+Made old new Has = SameTable old new × SameLinks old new × ((took : Taken) (gave : Given) → Agrees old.links took → AgreesGave old.links gave → Has took gave)
 
 abbrev pub Ticked : MachineState → MachineState → ℕ → Tick → Type 0
-Ticked old new seat tick = SameTable old new × SameLinks old new × ((took : Taken) → Agrees old.links took → TickedWith old new seat tick took)
+Ticked old new seat tick = Made old new (TickedWith old new seat tick)
 
 -- ## Runs
 
 -- ticks of these seats, one after another
-pub record RanWith (old new : MachineState) (seats : List ℕ) (took : Taken) : Type 0 where
+pub record RanWith (old new : MachineState) (seats : List ℕ) (took : Taken) (gave : Given) : Type 0 where
   pub moments : List Moment
   pub are_of : seats_of moments ≡ seats
-  pub answered : AreAnswered old.plan (core_with old took) moments
-  pub prompt : ArePrompt old.links → AllByRecursion IsPrompt moments
-  pub later : Taken
-  pub agrees : Agrees new.links later
-  pub core : core_with new later ≡ run old.plan (core_with old took) moments
-  pub broken : ShowFaults new (broken_in old.plan (core_with old took) moments)
-  pub told : LinksTell old new (heard_in old.plan (core_with old took) moments)
+  pub follows : Follows old new took gave moments
 
 abbrev pub Ran : MachineState → MachineState → List ℕ → Type 0
-Ran old new seats = SameTable old new × SameLinks old new × ((took : Taken) → Agrees old.links took → RanWith old new seats took)
+Ran old new seats = Made old new (RanWith old new seats)
 
 -- ticks of a seat that lead up to a step of this kind
-pub record LedWith (old new : MachineState) (seat : ℕ) (kind : Kind) (took : Taken) : Type 0 where
+pub record LedWith (old new : MachineState) (seat : ℕ) (kind : Kind) (took : Taken) (gave : Given) : Type 0 where
   pub moments : List Moment
-  pub leads : LeadsUpTo old.plan seat (kind_text kind) (core_with old took) moments
-  pub answered : AreAnswered old.plan (core_with old took) moments
-  pub prompt : ArePrompt old.links → AllByRecursion IsPrompt moments
-  pub later : Taken
-  pub agrees : Agrees new.links later
-  pub core : core_with new later ≡ run old.plan (core_with old took) moments
-  pub broken : ShowFaults new (broken_in old.plan (core_with old took) moments)
-  pub told : LinksTell old new (heard_in old.plan (core_with old took) moments)
+  pub leads : LeadsUpTo old.plan seat (kind_text kind) (core_with old took gave) moments
+  pub follows : Follows old new took gave moments
 
 abbrev pub Led : MachineState → MachineState → ℕ → Kind → Type 0
-Led old new seat kind = SameTable old new × SameLinks old new × ((took : Taken) → Agrees old.links took → LedWith old new seat kind took)
+Led old new seat kind = Made old new (LedWith old new seat kind)
 
--- so many rounds of one tick for each client; where each link is prompt, no client has a step left
-pub record PlayedOn (old new : MachineState) : Type 0 where
-  pub more : ℕ
-  pub ran : Ran old new (rounds more (old.plan.seats - 1))
-  pub still : ArePrompt old.links → (took : Taken) → Agrees new.links took → (i : ℕ) → 0 < i → i < old.plan.seats → IsAtRest (core_with new took) i
+-- ## Rounds
+
+-- the seats of a round: the clients, and then the readers
+abbrev pub round_by : Plan → List ℕ
+round_by p = from_to 1 (p.seats - 1) ++ from_to READERS p.links
+
+-- a round in which nothing moved, or something did
+pub record RoundWith (Is : Plan → Core → List Moment → Type 0) (old new : MachineState) (took : Taken) (gave : Given) : Type 0 where
+  pub moments : List Moment
+  pub are_of : seats_of moments ≡ round_by old.plan
+  pub is : Is old.plan (core_with old took gave) moments
+  pub follows : Follows old new took gave moments
+
+abbrev pub Still : MachineState → MachineState → Type 0
+Still old new = Made old new (RoundWith AreStill old new)
+
+abbrev pub HasMoved : MachineState → MachineState → Type 0
+HasMoved old new = Made old new (RoundWith (λ p c ms. AreStill p c ms → ⊥) old new)
+
+-- so many rounds that moved something, and one that moved nothing
+abbrev pub SettlesAfter : Plan → ℕ → Core → List Moment → Type 0
+SettlesAfter p zero c ms = (seats_of ms ≡ round_by p) × AreStill p c ms
+SettlesAfter p (suc n) c ms = (now later : List Moment) × (ms ≡ now ++ later) × (seats_of now ≡ round_by p) × (AreStill p c now → ⊥) × SettlesAfter p n (run p c now) later
+
+-- rounds up to the first one that moved nothing
+pub record SettlesBy (p : Plan) (c : Core) (moments : List Moment) : Type 0 where
+  pub rounds : ℕ
+  pub after : SettlesAfter p rounds c moments
+
+pub record PlayedWith (old new : MachineState) (took : Taken) (gave : Given) : Type 0 where
+  pub moments : List Moment
+  pub settles : SettlesBy old.plan (core_with old took gave) moments
+  pub follows : Follows old new took gave moments
+
+abbrev pub PlayedOn : MachineState → MachineState → Type 0
+PlayedOn old new = Made old new (PlayedWith old new)
 
 -- seat 0 made so many ticks, in which it asked no link, and has none left
 pub record RanFirst (old new : MachineState) : Type 0 where
   pub same : SameTable old new × SameLinks old new
+  pub ends : new.ends ≡ old.ends
   pub steps : ℕ
-  pub core : (took : Taken) → Agrees old.links took → Agrees new.links took × (core_with new took ≡ run old.plan (core_with old took) (replicate steps (quiet 0)))
-  pub still : (took : Taken) → IsAtRest (core_with new took) 0
+  pub core : (took : Taken) (gave : Given) → Agrees old.links took → AgreesGave old.links gave → Agrees new.links took × AgreesGave new.links gave × (core_with new took gave ≡ run old.plan (core_with old took gave) (replicate steps (quiet 0)))
+  pub still : (took : Taken) (gave : Given) → IsAtRest (core_with new took gave) 0
 
--- rounds of the clients until none moves, and then the ending by seat 0: where each link is prompt no seat has a step left
-pub record SettledWith (old new : MachineState) (took : Taken) : Type 0 where
-  pub more : ℕ
+-- rounds up to one that moved nothing, then the ending by seat 0, and such rounds again
+pub record SettledWith (old new : MachineState) (took : Taken) (gave : Given) : Type 0 where
   pub moments : List Moment
-  pub in_rounds : seats_of moments ≡ rounds more (old.plan.seats - 1)
-  pub answered : AreAnswered old.plan (core_with old took) moments
-  pub prompt : ArePrompt old.links → AllByRecursion IsPrompt moments
-  pub calm : ArePrompt old.links → IsSettled (run old.plan (core_with old took) moments)
+  pub settles : SettlesBy old.plan (core_with old took gave) moments
+  pub answered : AreAnswered old.plan (core_with old took gave) moments
   pub last : ℕ
+  pub ended : Core
+  pub is_ended : ended ≡ is_ending (run old.plan (ending_by old.opens (run old.plan (core_with old took gave) moments)) (replicate last (quiet 0)))
+  pub is_over : IsAtRest ended 0
+  pub final : List Moment
+  pub settles_again : SettlesBy old.plan ended final
+  pub answered_again : AreAnswered old.plan ended final
+  pub prompt : ArePrompt old.links → AllByRecursion IsPrompt (moments ++ final)
   pub later : Taken
   pub agrees : Agrees new.links later
-  pub core : core_with new later ≡ run old.plan (ending_by old.opens (run old.plan (core_with old took) moments)) (replicate last (quiet 0))
-  pub ended : ArePrompt old.links → IsSettled (core_with new later)
-  pub broken : ShowFaults new (broken_in old.plan (core_with old took) moments)
-  pub told : LinksTell old new (heard_in old.plan (core_with old took) moments)
+  pub later_gave : Given
+  pub agrees_gave : AgreesGave new.links later_gave
+  pub core : core_with new later later_gave ≡ run old.plan ended final
+  pub broken : ShowFaults new (broken_in old.plan (core_with old took gave) moments ++ broken_in old.plan ended final)
+  pub told : LinksTell old new (λ k. heard_in old.plan (core_with old took gave) moments k ++ heard_in old.plan ended final k)
+  pub taken : ShowTakings new (λ k. taken_in old.plan (core_with old took gave) moments k ++ taken_in old.plan ended final k)
 
-abbrev pub Settled : MachineState → MachineState → Type 0
-Settled old new = (new.plan ≡ old.plan) × SameLinks old new × ((took : Taken) → Agrees old.links took → SettledWith old new took)
+-- the ending goes over nothing more, and the run is ending
+pub record Settled (old new : MachineState) : Type 0 where
+  pub plan : new.plan ≡ old.plan
+  pub id_plan : new.ids.plan ≡ old.ids.plan
+  pub links : SameLinks old new
+  pub settled : (took : Taken) (gave : Given) → Agrees old.links took → AgreesGave old.links gave → SettledWith old new took gave

@@ -1,4 +1,4 @@
--- What one step of a seat makes of a machine, by its kind.
+-- What one step of a client's seat makes of a machine, by its kind.
 use Rattle.std.specs.Prelude.{ℕ, ◌≡◌, ◌≢◌, ◌+◌, ◌<◌, ◌≤◌, List, [], length, drop, slice_set, slice_index_or, Option, Some, None}
 use mathlib.Core.Option as core
 use lib.ListN.{get_elem?}
@@ -7,33 +7,38 @@ use Rattle.sock_io.specs.declared.link.Put.{Put}
 use Rattle.sock_io.specs.declared.link.Put.TheVariants as puts
 use Rattle.sock_io.specs.declared.link.Ready.{Ready}
 use Rattle.sock_io.specs.Link.{OutState, PutStep, ReadyStep, FinishStep}
-use Rattle.sock_message.specs.Pieces.{piece}
+use Rattle.sock_programs.specs.Parts.{part}
+use Rattle.sock_programs.specs.Asides as asides
+use Rattle.sock_programs.specs.Asides.{Found}
+use Rattle.sock_message.specs.Asked.{Asked}
+use Rattle.sock_programs.specs.Beside.{found_in, call_at}
 use Rattle.sock_programs.specs.Calls as calls
 use Rattle.sock_programs.specs.Programs.{Program}
-use Rattle.sock_programs.specs.Cores.{word_of, found_at, words_after, word_after, next_step, said}
-use Rattle.sock_programs.specs.Scripts.{sizes_of}
+use Rattle.sock_programs.specs.Programs as programs
+use Rattle.sock_programs.specs.Cores.{Calls, word_of, found_at, words_after, word_after, resolved, still_waiting, next_step, said}
 use Rattle.sock_programs.specs.Ticks.{Answer, Unasked, OfPut, OfReady}
-use Rattle.sock_runs.specs.Sound.{AllowsWord}
+use Rattle.sock_runs.specs.Sound.{AllowsWord, first_step}
+use Rattle.call_slots.specs.Slots.{calls_with}
+use Rattle.call_slots.specs.Steps as slots
+use Rattle.call_slots.specs.Steps.{word_found}
+use Rattle.call_points.specs.declared.aside.Aside.{Aside}
+use Rattle.call_points.specs.declared.aside.Aside.TheVariants as code
+use Rattle.call_points.specs.Steps as aside_steps
+use Rattle.call_points.specs.Steps.{after_word}
+use Rattle.message_parts.specs.Parcels.{parcel_of}
+use Rattle.seat_points.specs.declared.point.Author.{Author}
 use Rattle.seat_points.specs.declared.point.Step.{Step}
 use Rattle.seat_points.specs.declared.point.Step.TheVariants as firsts
-use Rattle.seat_points.specs.Points.{IsWithin, MayFind, GoesByWord, after_word, after_message, after_link, after_home, after_put, after_ready}
-use Rattle.seat_points.specs.Steps.{First, OfCall, OfMessage, OfLink, OfHome, step_of, step_as, first_in}
+use Rattle.seat_points.specs.Points.{IsWithin, IsWithinIds, MayFind, MayFindAside, HasLinkAt, TellsCodeAt, HasInHand, after_message, after_link, after_home, after_put, after_ready, parts_by}
+use Rattle.seat_points.specs.Steps.{First, OfCall, OfAside, OfMessage, OfLink, OfHome, step_of, step_as, first_in}
 use Rattle.seat_points.specs.Steps as kinds
 use Rattle.sock_core.specs.declared.letter.Letter.{Letter}
-use Rattle.sock_core.specs.Seats.{SeatData, around, seat_program, bytes_of, left_of, taken_of}
-use Rattle.sock_core.specs.Machines.{MachineState, TableState, table_of}
+use Rattle.client_seats.specs.Following.{IsWithFrame, IsPrepared}
+use Rattle.client_seats.specs.Seats.{SeatData, around, seat_program, bytes_of, parts_of, left_of, taken_of, left_parts_of, asked_of}
+use Rattle.sock_core.specs.Runs.{SameLink}
+use Rattle.sock_core.specs.Machines.{MachineState, TableState, machine_sizes, table_of, table_sizes}
 
 -- ## Links as they are given back
-
--- the links stay those that they were: which they are, how many bytes they gave, and counts that never fall
-pub record SameLink (old new : LinkEnd) : Type 0 where
-  pub link : new.link ≡ old.link
-  pub gave : new.gave ≡ old.gave
-  pub gave_count : new.gave_count ≡ old.gave_count
-  pub take_faults : new.take_faults ≡ old.take_faults
-  pub gave_end : new.gave_end ≡ old.gave_end
-  pub closed : new.closed ≡ old.closed
-  pub later : old.put_faults ≤ new.put_faults
 
 -- this link was asked, and what it answered made this of its writing half
 pub record AskedAt (outs outs' : List OutState) (ends ends' : List LinkEnd) (k : ℕ) (HasAnswered : OutState → OutState → Type 0) : Type 0 where
@@ -64,7 +69,7 @@ taken_behind other taken = taken
 
 -- the next step of a seat
 abbrev pub IsNext : TableState → SeatData → Step → Type 0
-IsNext t seat step = first_in (seat_program (sizes_of t.plan) seat) ≡ Some (step_as (around (sizes_of t.plan) seat) step)
+IsNext t seat step = first_in (seat_program (table_sizes t) seat) ≡ Some (step_as (around (table_sizes t) seat) step)
 
 -- of seat i
 pub record NextIs (m : MachineState) (i : ℕ) (step : Step) : Type 0 where
@@ -74,7 +79,7 @@ pub record NextIs (m : MachineState) (i : ℕ) (step : Step) : Type 0 where
 
 -- it has none
 abbrev pub HasNoStep : MachineState → ℕ → Type 0
-HasNoStep m i = (seat : SeatData) → get_elem? m.seats i ≡ core.some seat → first_in (seat_program (sizes_of m.plan) seat) ≡ None
+HasNoStep m i = (seat : SeatData) → get_elem? m.seats i ≡ core.some seat → first_in (seat_program (machine_sizes m) seat) ≡ None
 
 -- the step is of one of so many links, if it is of a link
 abbrev pub IsOfLinks : ℕ → calls.Call → Type 0
@@ -83,21 +88,79 @@ IsOfLinks links (calls.FinishLink k) = k < links
 IsOfLinks links (calls.PutLink k) = k < links
 IsOfLinks links other = Unit {0}
 
--- the word of the step is there, and is one that it may find; it is of one of the table's links and requests; a message that is taken lies
--- there, one that is put home has some byte, and so has what is put into a link
+-- what the point of a seat leaves to the rules: what it stands with, and that it may find this word
+pub record MayGoOn (t : TableState) (seat : SeatData) (found : ℕ) : Type 0 where
+  pub within : IsWithin (table_sizes t) seat.point
+  pub ids : IsWithinIds (table_sizes t) seat.point
+  pub word : MayFind seat.point found
+  pub beside : MayFindAside seat.point found
+
+-- and what it leaves to them before its step
+pub record MayStand (seat : SeatData) : Type 0 where
+  pub link : HasLinkAt seat.point
+  pub told : TellsCodeAt seat.point
+
+-- what stands aside of the sockets, for steps on the ids
+abbrev pub beside : TableState → Calls
+beside t = calls_with t.ids [] [] t.ending
+
+-- what its step needs is in hand
+pub record IsReady (t : TableState) (seat : SeatData) : Type 0 where
+  pub hand : HasInHand (around (table_sizes t) seat) seat.point
+  pub frame : IsWithFrame seat.point (around (table_sizes t) seat)
+
+abbrev pub ReadyAt : MachineState → ℕ → Type 0
+ReadyAt m i = (seat : SeatData) → get_elem? m.seats i ≡ core.some seat → IsReady (table_of m) seat
+
+-- what the next step of seat i needs is in hand, and all else is as it was
+pub record PreparedAt (old new : MachineState) (i : ℕ) : Type 0 where
+  pub seat : SeatData
+  pub at : get_elem? old.seats i ≡ core.some seat
+  pub seat' : SeatData
+  pub is : new ≡ record old { seats = slice_set old.seats i seat' }
+  pub prepared : IsPrepared (machine_sizes old) seat seat'
+
+-- the step of this code finds this word
+abbrev pub FoundBeside : TableState → SeatData → Aside → ℕ → Type 0
+FoundBeside t seat step word = let aside = aside_steps.step_of (asked_of seat.call) step in found_in aside (beside t) core.none ≡ word_found aside word
+
+-- it finds a word, and no call goes into its home
+abbrev pub IsOnWord : Aside → Type 0
+IsOnWord (code.PutCall i) = ⊥
+IsOnWord (code.TakeCall i) = ⊥
+IsOnWord (code.TakeBytes k room) = ⊥
+IsOnWord other = Unit {0}
+
+-- the word that it finds is as the point relies on
+abbrev pub FindsFitting : TableState → SeatData → asides.Step → Type 0
+FindsFitting t seat step = (word : ℕ) → found_in step (beside t) core.none ≡ word_found step word → MayGoOn t seat word
+
+-- the id slot or operation of the step is one of the table's, and what it stores has room; a call that is taken lies there
+abbrev pub FitsSlots : TableState → Aside → Type 0
+FitsSlots t (code.PutCall i) = i < t.ids.plan.slots
+FitsSlots t (code.TakeCall i) = (i < t.ids.plan.slots) × ((asked : Asked) × (call_at (get_elem? t.ids.homes i) ≡ core.some asked))
+FitsSlots t (code.TakeBytes k room) = k < t.plan.links
+FitsSlots t other = slots.StepFits t.ids other
+
+-- the word of the step is there, and is one that it may find; it is of one of the table's links, requests, id slots and operations; a message
+-- that is taken lies there, one that is put home has some byte, and so has what is put into a link
 abbrev pub Fits : TableState → SeatData → Step → Type 0
 Fits t seat (firsts.Call call) = let found = found_at t.words (word_of t.plan (step_of call)) in
-    ((x : ℕ) → word_of t.plan (step_of call) ≡ core.some x → x < length t.words) × AllowsWord (step_of call) found × IsOfLinks t.plan.links (step_of call)
-    × IsWithin (sizes_of t.plan) seat.point × MayFind seat.point found × GoesByWord seat.point
-Fits t seat (firsts.PutMessage q o) = (q < length t.letters) × (bytes_of seat.message ≢ []) × IsWithin (sizes_of t.plan) seat.point × MayFind seat.point 0 × GoesByWord seat.point
+    ((x : ℕ) → word_of t.plan (step_of call) ≡ core.some x → x < length t.words) × AllowsWord (step_of call) found × IsOfLinks t.plan.links (step_of call) × MayGoOn t seat found
+Fits t seat (firsts.Aside step) = let aside = aside_steps.step_of (asked_of seat.call) step in
+    FitsSlots t step × FindsFitting t seat aside
+Fits t seat (firsts.PutMessage q author) = (q < length t.letters) × (bytes_of seat.message ≢ []) × MayGoOn t seat 0
 Fits t seat (firsts.TakeMessage q) = (letter : Letter) × (get_elem? t.letters q ≡ core.some (Some letter))
 Fits t seat (firsts.TakeHome k) = k < t.plan.links
 Fits t seat (firsts.PutHome k n) = k < t.plan.links
-Fits t seat (firsts.PutBytes k asked) = (k < t.plan.links) × (piece (left_of seat.out) (taken_of seat.out) ≢ [])
+Fits t seat (firsts.PutBytes k asked author) = (k < t.plan.links) × (part (parts_by author (left_parts_of seat.out)) (left_of seat.out) (taken_of seat.out) ≢ [])
 Fits t seat (firsts.AskReady k) = k < t.plan.links
 
+abbrev pub StandsAt : MachineState → ℕ → Type 0
+StandsAt m i = (seat : SeatData) → get_elem? m.seats i ≡ core.some seat → MayStand seat
+
 abbrev pub StepFits : MachineState → ℕ → Step → Type 0
-StepFits m i step = (seat : SeatData) → get_elem? m.seats i ≡ core.some seat → Fits (table_of m) seat step
+StepFits m i step = (seat : SeatData) → get_elem? m.seats i ≡ core.some seat → MayStand seat × Fits (table_of m) seat step
 
 -- the tables have the sizes that the plan says
 pub record IsSized (t : TableState) : Type 0 where
@@ -105,84 +168,124 @@ pub record IsSized (t : TableState) : Type 0 where
   pub holders_are : length t.links.holders ≡ t.plan.links
   pub nexts_are : length t.links.nexts ≡ t.plan.links
   pub outs_are : length t.links.outs ≡ t.plan.links
+  pub inns_are : length t.links.inns ≡ t.plan.links
 
 -- ## What a step makes
 
--- who has each link in hand, and the messages at home, after a step that tells nothing
+-- who has each link in hand, after a step that tells nothing
 abbrev pub holders_after : ℕ → calls.Call → List (Option ℕ) → List (Option ℕ)
 holders_after i (calls.TakeLink k) holders = slice_set holders k (Some i)
 holders_after i (calls.PutLink k) holders = slice_set holders k None
 holders_after i other holders = holders
 
-abbrev pub letters_after : calls.Call → List (Option Letter) → List (Option Letter)
-letters_after (calls.PutMessage q heading bytes) letters = slice_set letters q (Some (record { operation = heading.operation; message = bytes }))
-letters_after other letters = letters
+-- the message of the seat goes home, for this author
+pub record SentHome (seat : SeatData) (q : ℕ) (author : Author) (old fresh : List (Option Letter)) : Type 0 where
+  pub letter : Letter
+  pub author_is : letter.author ≡ author
+  pub bytes : (parcel_of letter.message).bytes ≡ bytes_of seat.message
+  pub parts : (parcel_of letter.message).parts ≡ parts_of seat.message
+  pub fresh_are : fresh ≡ slice_set old q (Some letter)
+
+-- the messages at home after a step
+abbrev pub LettersAfter : SeatData → Step → List (Option Letter) → List (Option Letter) → Type 0
+LettersAfter seat (firsts.PutMessage q author) old fresh = SentHome seat q author old fresh
+LettersAfter seat other old fresh = fresh ≡ old
 
 -- the writing halves after it
 abbrev pub OutsAfter : calls.Call → List OutState → List OutState → Type 0
 OutsAfter (calls.FinishLink k) old fresh = (out out' : OutState) × (get_elem? old k ≡ core.some out) × (fresh ≡ slice_set old k out') × FinishStep out out'
 OutsAfter other old fresh = fresh ≡ old
 
--- the seat goes on with this program
-pub record Goes (old fresh : TableState) (seat' : SeatData) (next : Program) : Type 0 where
+-- what no step of a client changes
+pub record SameBase (old fresh : TableState) : Type 0 where
   pub plan : fresh.plan ≡ old.plan
-  pub program : seat_program (sizes_of old.plan) seat' ≡ next_step next
-  pub told : fresh.outcomes ≡ said next old.outcomes
+  pub id_plan : fresh.ids.plan ≡ old.ids.plan
+  pub calls : fresh.calls ≡ old.calls
+  pub ending : fresh.ending ≡ old.ending
+  pub inns : fresh.links.inns ≡ old.links.inns
 
-module _ (old fresh : TableState) (i : ℕ) (program : Program) (seat' : SeatData) where
-  pub record CallMade (call : calls.Call) : Type 0 where
-    pub goes : Goes old fresh seat' (after_word program (found_at old.words (word_of old.plan call)))
+-- the seat goes on with this program
+pub record Goes (old fresh : TableState) (seat seat' : SeatData) (next : Program) : Type 0 where
+  pub base : SameBase old fresh
+  pub program : seat_program (table_sizes old) seat' ≡ next_step (resolved seat.waiting next)
+  pub waiting : seat'.waiting ≡ still_waiting seat.waiting next
+  pub told : fresh.outcomes ≡ said (resolved seat.waiting next) old.outcomes
+
+module _ (old fresh : TableState) (i : ℕ) (seat seat' : SeatData) where
+  abbrev pub program_of : Program
+  program_of = seat_program (table_sizes old) seat
+
+  pub record CallMade (call : calls.Call) (step : Step) : Type 0 where
+    pub goes : Goes old fresh seat seat' (after_word program_of (found_at old.words (word_of old.plan call)))
     pub words : fresh.words ≡ words_after old.words (word_of old.plan call) (word_after call (found_at old.words (word_of old.plan call)))
-    pub letters : fresh.letters ≡ letters_after call old.letters
+    pub letters : LettersAfter seat step old.letters fresh.letters
     pub holders : fresh.links.holders ≡ holders_after i call old.links.holders
     pub nexts : fresh.links.nexts ≡ old.links.nexts
     pub outs : OutsAfter call old.links.outs fresh.links.outs
+    pub ids : fresh.ids ≡ old.ids
+    pub ends : fresh.ends ≡ old.ends
+
+  -- a step aside of the sockets
+  pub record AsideMade (step : asides.Step) : Type 0 where
+    pub next : Found step → Program
+    pub is : first_step program_of ≡ programs.Aside step next
+    pub found : Found step
+    pub ids : slots.Makes old.ids step (core.some found) fresh.ids
+    pub goes : Goes old fresh seat seat' (next found)
+    pub words : fresh.words ≡ old.words
+    pub letters : fresh.letters ≡ old.letters
+    pub links : fresh.links ≡ old.links
     pub ends : fresh.ends ≡ old.ends
 
   pub record MessageTaken (q : ℕ) : Type 0 where
     pub letter : Letter
     pub at : get_elem? old.letters q ≡ core.some (Some letter)
-    pub goes : Goes old fresh seat' (after_message program letter.operation letter.message)
+    pub goes : Goes old fresh seat seat' (after_message program_of letter.author (parcel_of letter.message).parts (parcel_of letter.message).bytes)
     pub words : fresh.words ≡ old.words
     pub letters : fresh.letters ≡ slice_set old.letters q None
     pub links : fresh.links ≡ old.links
+    pub ids : fresh.ids ≡ old.ids
     pub ends : fresh.ends ≡ old.ends
 
   pub record LinkTaken (k : ℕ) : Type 0 where
-    pub goes : Goes old fresh seat' (after_link program (slice_index_or old.links.nexts k 0))
+    pub goes : Goes old fresh seat seat' (after_link program_of (slice_index_or old.links.nexts k 0))
     pub words : fresh.words ≡ old.words
     pub letters : fresh.letters ≡ old.letters
-    pub links : fresh.links ≡ record { holders = slice_set old.links.holders k (Some i); nexts = old.links.nexts; outs = old.links.outs }
+    pub links : fresh.links ≡ record old.links { holders = slice_set old.links.holders k (Some i) }
+    pub ids : fresh.ids ≡ old.ids
     pub ends : fresh.ends ≡ old.ends
 
   pub record LinkPut (k n : ℕ) : Type 0 where
-    pub goes : Goes old fresh seat' (after_home program)
+    pub goes : Goes old fresh seat seat' (after_home program_of)
     pub words : fresh.words ≡ old.words
     pub letters : fresh.letters ≡ old.letters
-    pub links : fresh.links ≡ record { holders = slice_set old.links.holders k None; nexts = slice_set old.links.nexts k n; outs = old.links.outs }
+    pub links : fresh.links ≡ record old.links { holders = slice_set old.links.holders k None; nexts = slice_set old.links.nexts k n }
+    pub ids : fresh.ids ≡ old.ids
     pub ends : fresh.ends ≡ old.ends
 
   -- the link was asked, and answered
   pub record LinkAsked (k : ℕ) (next : Program) (HasAnswered : OutState → OutState → Type 0) : Type 0 where
-    pub goes : Goes old fresh seat' next
+    pub goes : Goes old fresh seat seat' next
     pub words : fresh.words ≡ old.words
     pub letters : fresh.letters ≡ old.letters
     pub holders : fresh.links.holders ≡ old.links.holders
     pub nexts : fresh.links.nexts ≡ old.links.nexts
+    pub ids : fresh.ids ≡ old.ids
     pub asked : AskedAt old.links.outs fresh.links.outs old.ends fresh.ends k HasAnswered
 
   -- a step, in which the link in hand answered this
-  abbrev pub Made : First → Answer → Type 0
-  Made (OfCall call) answer = (answer ≡ Unasked) × CallMade call
-  Made (OfMessage q) answer = (answer ≡ Unasked) × MessageTaken q
-  Made (OfLink k) answer = (answer ≡ Unasked) × LinkTaken k
-  Made (OfHome k n) answer = (answer ≡ Unasked) × LinkPut k n
-  Made (kinds.OfPut k asked bytes) answer = (put : Put) × (answer ≡ OfPut put) × LinkAsked k (after_put program put) (λ out out'. PutStep out out' bytes put)
-  Made (kinds.OfReady k) answer = (ready : Ready) × (answer ≡ OfReady ready) × LinkAsked k (after_ready program ready) (λ out out'. ReadyStep out out' ready)
+  abbrev pub MadeFirst : Step → First → Answer → Type 0
+  MadeFirst step (OfCall call) answer = (answer ≡ Unasked) × CallMade call step
+  MadeFirst step (OfAside aside) answer = (answer ≡ Unasked) × AsideMade aside
+  MadeFirst step (OfMessage q) answer = (answer ≡ Unasked) × MessageTaken q
+  MadeFirst step (OfLink k) answer = (answer ≡ Unasked) × LinkTaken k
+  MadeFirst step (OfHome k n) answer = (answer ≡ Unasked) × LinkPut k n
+  MadeFirst step (kinds.OfPut k asked bytes) answer = (put : Put) × (answer ≡ OfPut put) × LinkAsked k (after_put program_of put) (λ out out'. PutStep out out' bytes put)
+  MadeFirst step (kinds.OfReady k) answer = (ready : Ready) × (answer ≡ OfReady ready) × LinkAsked k (after_ready program_of ready) (λ out out'. ReadyStep out out' ready)
 
 -- seat i makes this step
 pub record Makes (old fresh : TableState) (i : ℕ) (seat seat' : SeatData) (step : Step) (answer : Answer) : Type 0 where
-  pub is : Made old fresh i (seat_program (sizes_of old.plan) seat) seat' (step_as (around (sizes_of old.plan) seat) step) answer
+  pub is : MadeFirst old fresh i seat seat' step (step_as (around (table_sizes old) seat) step) answer
 
 -- a step of seat i, in which its link answered this
 pub record SteppedTo (old fresh : MachineState) (i : ℕ) (step : Step) (answer : Answer) : Type 0 where
@@ -190,5 +293,7 @@ pub record SteppedTo (old fresh : MachineState) (i : ℕ) (step : Step) (answer 
   pub at : get_elem? old.seats i ≡ core.some seat
   pub seat' : SeatData
   pub seats : fresh.seats ≡ slice_set old.seats i seat'
+  pub readers : fresh.readers ≡ old.readers
   pub opens : fresh.opens ≡ old.opens
-  pub made : Made (table_of old) (table_of fresh) i (seat_program (sizes_of old.plan) seat) seat' (step_as (around (sizes_of old.plan) seat) step) answer
+  pub short : fresh.short ≡ old.short
+  pub made : MadeFirst (table_of old) (table_of fresh) i seat seat' step (step_as (around (machine_sizes old) seat) step) answer

@@ -1,57 +1,55 @@
--- What a tick answers of a step.
-use Rattle.std.specs.Prelude.{ℕ, ◌≡◌, ◌==◌, Bool, true, false, if◌then◌else◌, [], slice_set, Option, Some, None}
+-- What a tick of a client answers of a step.
+use Rattle.std.specs.Prelude.{ℕ, ◌≡◌, ◌==◌, ◌&&◌, not, Bool, true, false, [], slice_set, Option, Some, None}
 use mathlib.Core.Option as core
 use lib.ListN.{get_elem?}
+use Rattle.corr_core.specs.Word.{parts}
 use Rattle.sock_model.specs.Memory.{UNCONNECTED}
+use Rattle.sock_programs.specs.Asides.{id_first}
+use Rattle.sock_programs.specs.Heads.{Locks, Joins, Opens}
+use Rattle.sock_programs.specs.Posts.{is_first, is_sought}
 use Rattle.sock_programs.specs.Writings as heads
-use Rattle.sock_programs.specs.Programs.{Program, Write}
+use Rattle.sock_programs.specs.Programs.{Program, Write, Round}
 use Rattle.sock_programs.specs.Ticks.{Answer, waits_at}
-use Rattle.sock_programs.specs.Scripts.{sizes_of}
 use Rattle.sock_programs.specs.Runs.{kind_in}
 use Rattle.sock_core.specs.declared.machine.On.{On}
-use Rattle.sock_core.specs.declared.machine.On.TheVariants as on
 use Rattle.sock_core.specs.declared.machine.Tick.{Tick}
 use Rattle.sock_core.specs.declared.machine.Tick.TheVariants.{Moved, Waits, Idle}
 use Rattle.seat_points.specs.declared.point.Step.{Step}
-use Rattle.sock_core.specs.Seats.{SeatData, seat_program}
-use Rattle.sock_core.specs.Machines.{MachineState, TableState, table_of}
-use Rattle.sock_core.specs.Steps.{Makes}
+use Rattle.client_seats.specs.Seats.{SeatData, seat_program}
+use Rattle.sock_core.specs.Machines.{MachineState, TableState, table_of, table_sizes}
+use Rattle.sock_core.specs.Runs.{IsWaitingFor}
+use Rattle.sock_core.specs.Steps.{Makes, beside}
 
--- the ticket whose next word a walk waits for, where it found this word
-abbrev pub awaits : Program → ℕ → Option ℕ
-awaits (Write (heads.Walks h top at after) then_) found = if found == UNCONNECTED then Some at else None
-awaits other found = None
-
--- whether the seat waits, by the words of the table
+-- whether a seat waits, by the words of the tables
 abbrev pub is_waiting : TableState → Answer → Program → Bool
-is_waiting t answer program = waits_at t.plan (record { words = t.words; homes = []; seats = []; outcomes = [] }) answer program
+is_waiting t answer program = waits_at t.plan (record { words = t.words; homes = []; seats = []; outcomes = []; calls = beside t }) answer program
 
-abbrev IsWaiting : ℕ → heads.Writing → Type 0
-IsWaiting k (heads.Waits h now heading left taken) = h.link ≡ k
-IsWaiting k other = ⊥
-
--- a program that waits for this
-abbrev pub WaitsOn : Program → On → Type 0
-WaitsOn program (on.Next ticket) = (h : heads.Holder) × (top after : ℕ) × (then_ : Program) × (program ≡ Write (heads.Walks h top ticket after) then_)
-WaitsOn program (on.Out k) = (w : heads.Writing) × (then_ : Program) × (program ≡ Write w then_) × IsWaiting k w
-WaitsOn program other = ⊥
+-- whether a seat waits whose step found this word
+abbrev pub waits_by : Program → ℕ → Bool
+waits_by (Write (heads.Walks h top at after) then_) found = found == UNCONNECTED
+waits_by (Round (Locks i sought None) next) found = let w = parts found in is_sought sought w && not (w.state == 1)
+waits_by (Round (Joins id) next) found = is_first (id_first id) (parts found)
+waits_by (Round (Opens o) next) found = found == 0
+waits_by other found = false
 
 -- what the tick answers in which the link answered this
 abbrev pub Tells : TableState → Program → Answer → Tick → Type 0
 Tells t program answer (Moved kind) = (kind_in program ≡ Some kind) × (is_waiting t answer program ≡ false)
-Tells t program answer (Waits on) = (is_waiting t answer program ≡ true) × WaitsOn program on
+Tells t program answer (Waits on) = (is_waiting t answer program ≡ true) × IsWaitingFor program on
 Tells t program answer Idle = ⊥
 
 -- seat i makes this step, and its tick answers this
 pub record StepTold (old fresh : TableState) (i : ℕ) (seat seat' : SeatData) (step : Step) (tick : Tick) : Type 0 where
   pub answer : Answer
   pub makes : Makes old fresh i seat seat' step answer
-  pub tells : Tells old (seat_program (sizes_of old.plan) seat) answer tick
+  pub tells : Tells old (seat_program (table_sizes old) seat) answer tick
 
 pub record TickTold (old fresh : MachineState) (i : ℕ) (step : Step) (tick : Tick) : Type 0 where
   pub seat : SeatData
   pub at : get_elem? old.seats i ≡ core.some seat
   pub seat' : SeatData
   pub seats : fresh.seats ≡ slice_set old.seats i seat'
+  pub readers : fresh.readers ≡ old.readers
   pub opens : fresh.opens ≡ old.opens
+  pub short : fresh.short ≡ old.short
   pub told : StepTold (table_of old) (table_of fresh) i seat seat' step tick

@@ -1,8 +1,9 @@
-use sock_message::Message;
+use message_parts::Parcel;
+use seat_points::Author;
 
-/// A message at the home of a request, and the operation that sent it.
+/// A message at the home of a request, and who sent it.
 #[derive(Drop)]
 pub struct Letter {
-    pub operation: u16,
-    pub message: Message,
+    pub author: Author,
+    pub message: Parcel,
 }

@@ -1,4 +1,4 @@
-//! The whole product on one thread, under any schedule, for scripts without calls: seats, the words, messages and links on
+//! The whole product on one thread, under any schedule: seats of clients and readers, the words, ids, messages and links on
 //! which they step, and the steps.
 #![tactic(auto)]
 
@@ -7,7 +7,7 @@ mod letter;
 mod machine;
 mod moves;
 mod puts;
-mod seat;
+mod reading;
 mod setup;
 mod table;
 mod tables;

@@ -1,33 +1,32 @@
-ghost use Rattle.std.specs.Prelude.{◌≡◌, ℕ, List, ◌-◌, true, false, ◌<◌, ◌≤◌, [], Ok, IfOk, IfSome, OnOk, OnErr, IfErr, length, map, replicate, vec_len};
+ghost use Rattle.std.specs.Prelude.{◌≡◌, ◌≢◌, ℕ, List, ◌+◌, ◌-◌, true, false, ◌<◌, ◌≤◌, [], Ok, IfOk, IfSome, OnOk, OnErr, IfErr, length, map, replicate, vec_len};
 ghost use Rattle.std.specs.List.{AllByRecursion};
 ghost use Rattle.brpc_model.specs.Link.{LinkEnd};
 ghost use Rattle.brpc_model.specs.Script.{script_of};
 ghost use Rattle.brpc_model.specs.Operations.{link_names};
-ghost use Rattle.sock_io.specs.Link.{OutState, end_of};
-ghost use Rattle.sock_model.specs.Lawful.{PlanFits};
-ghost use Rattle.sock_programs.specs.Scripts.{beginning, programs, is_callless, set_up, sizes_of, place_words};
-ghost use Rattle.sock_programs.specs.Tasks.{plan_of, opens};
-ghost use Rattle.sock_programs.specs.Told.{AreTasks};
-ghost use Rattle.sock_runs.specs.Sound.{IsWithinLimits};
+ghost use Rattle.sock_io.specs.Link.{OutState, InState, end_of};
+ghost use Rattle.sock_programs.specs.Scripts.{beginning, programs, readers_from, all_programs, set_up, sizes_of, place_words};
+ghost use Rattle.sock_programs.specs.Tasks.{plan_of, id_plan_of, opens, calls};
 ghost use Rattle.sock_core.specs.Finish.{told_from};
-ghost use Rattle.sock_programs.specs.Runs.{IsAtRest, from_to};
-ghost use Rattle.sock_core.specs.Links.{Taken, Agrees, ArePrompt};
-ghost use Rattle.sock_core.specs.Machines.{MOST_LEFT, core_with, ending_by};
-ghost use Rattle.sock_core.specs.Runs.{SameLinks, SameTable, Ticked, Ran, Led, PlayedOn, RanFirst, Settled};
-ghost use Rattle.sock_core.specs.Driving.{LastsAtMost, LeavesFewer, Leaves, IsLast, IsOther, IsPlain, TickedFirst};
+ghost use Rattle.joint_runs.proofs.Starts.{AreFor};
+ghost use Rattle.sock_core.specs.Links.{Taken, Given, Agrees, AgreesGave, ArePrompt};
+ghost use Rattle.sock_core.specs.Machines.{MOST_LEFT as most_left, HasSizes, core_with, ending_by};
+ghost use Rattle.sock_core.specs.Runs.{SameLinks, SameTable, Ticked, Led, Still, HasMoved, PlayedOn, RanFirst, Settled};
+ghost use Rattle.sock_core.specs.Driving.{LastsAtMost, LeavesFewer, Leaves, IsLast, IsOther, IsPlain, FirstRests, TickedFirst, told_ending};
 
 use crate::finished::{Finished, gather, gather_places};
 use crate::setup::{Parts, parts_of};
 use crate::table::Table;
-use crate::tables::Tables;
+use crate::tables::{READERS, Tables};
 use crate::wanted::{Wanted, wanted_of};
 use script_items::Script;
 use sock_io::{Ends, In, Linker, NoMemory, Out, Peer};
-use sock_programs::Task;
-use sock_words::{Kind, Outcome, PlaceWord, Plan};
+use sock_message::BlockPool;
+use sock_words::{Kind, Outcome, PlaceWord};
 use std::alloc::Global;
-use std::collections::VecDeque;
 use std::marker::Model;
+
+/// More ticks than a machine has left that move.
+const MOST_LEFT: u64 = 1 << 49;
 
 /// Why no machine was made: memory ran out. The links are handed back as they were.
 #[derive(Drop)]
@@ -107,27 +106,90 @@ impl<O: Out, I: In, P: Peer> Model for Machine<O, I, P> {
 }
 
 impl<O: Out, I: In, P: Peer> Machine<O, I, P> {
-    /// A step of any seat.
-    fn advance(&mut self, seat: u16) -> Result<Tick, NoMemory>
+    /// A step of a client.
+    fn advance_client(&mut self, seat: u16) -> Result<Tick, NoMemory>
+        requires client { seat < length self.old.seats }
+        requires enough { self.old.short ≡ false }
         ensures tick { IfOk result (λ tick. Ticked self.old self.new seat tick) }
         ensures left { IfOk result (λ tick. Leaves tick self.old self.new) }
-        ensures many { length self.new.seats ≡ self.new.plan.seats }
-        ensures err { OnErr result (self.new ≡ self.old) }
+        ensures enough { OnOk result (self.new.short ≡ false) }
+        ensures same { SameTable self.old self.new × SameLinks self.old self.new }
+        ensures rest { OnOk result (seat ≢ 0 → FirstRests self.old → FirstRests self.new) }
+        ensures sizes { ∥ HasSizes self.new ∥₁ }
     {
+        self.tables.prepare(seat)?;
         let Some(step) = self.tables.next_step(seat) else {
             return Ok(Tick::Idle);
         };
-        let tick = self.tables.step(seat, step)?;
-        Ok(tick)
+        self.tables.step(seat, step)
     }
 
-    /// A step of seat 0, which asks no link and holds no life. It takes no memory.
+    /// A step of the reader of a link.
+    fn advance_reader<L: Linker<O = O, I = I, P = P>>(
+        &mut self,
+        links: &mut L,
+        link: u16,
+    ) -> Result<Tick, NoMemory>
+        requires { self.old.short ≡ false }
+        ensures tick { IfOk result (λ tick. Ticked self.old self.new (32 + link) tick) }
+        ensures left { IfOk result (λ tick. Leaves tick self.old self.new) }
+        ensures enough { OnOk result (self.new.short ≡ false) }
+        ensures same { SameTable self.old self.new × SameLinks self.old self.new }
+        ensures rest { OnOk result (FirstRests self.old → FirstRests self.new) }
+        ensures sizes { ∥ HasSizes self.new ∥₁ }
+        ensures asked { L.asked links.new ≡ L.asked links.old }
+        ensures accepted { L.accepted links.new ≡ L.accepted links.old }
+        ensures back { L.back links.new ≡ L.back links.old }
+        ensures done { L.done links.new ≡ L.done links.old }
+        ensures faults { L.faults links.new ≡ L.faults links.old }
+        ensures prompt { L.prompt links.new ≡ L.prompt links.old }
+    {
+        let Some(step) = self.tables.next_read(link) else {
+            return Ok(Tick::Idle);
+        };
+        self.tables.read(links, link, step)
+    }
+
+    /// A step of any seat.
+    fn advance<L: Linker<O = O, I = I, P = P>>(
+        &mut self,
+        links: &mut L,
+        seat: u16,
+    ) -> Result<Tick, NoMemory>
+        ensures tick { IfOk result (λ tick. Ticked self.old self.new seat tick) }
+        ensures left { IfOk result (λ tick. Leaves tick self.old self.new) }
+        ensures enough { OnOk result ((self.old.short ≡ false) × (self.new.short ≡ false)) }
+        ensures same { SameTable self.old self.new × SameLinks self.old self.new }
+        ensures rest { OnOk result (seat ≢ 0 → FirstRests self.old → FirstRests self.new) }
+        ensures sizes { ∥ HasSizes self.new ∥₁ }
+        ensures asked { L.asked links.new ≡ L.asked links.old }
+        ensures accepted { L.accepted links.new ≡ L.accepted links.old }
+        ensures back { L.back links.new ≡ L.back links.old }
+        ensures done { L.done links.new ≡ L.done links.old }
+        ensures faults { L.faults links.new ≡ L.faults links.old }
+        ensures prompt { L.prompt links.new ≡ L.prompt links.old }
+    {
+        if self.tables.short {
+            return Err(NoMemory);
+        }
+        if seat < self.clients() {
+            self.advance_client(seat)
+        } else if seat >= READERS {
+            self.advance_reader(links, seat - READERS)
+        } else {
+            Ok(Tick::Idle)
+        }
+    }
+
+    /// A step of seat 0, which asks no link, holds no life and calls nothing. It takes no memory.
     fn advance_first(&mut self) -> Tick
-        requires { IsPlain self.old }
+        requires plain { IsPlain self.old }
+        requires enough { self.old.short ≡ false }
         ensures tick { Ticked self.old self.new 0 result }
         ensures left { Leaves result self.old self.new }
         ensures first { TickedFirst self.old self.new }
-        ensures many { length self.new.seats ≡ self.new.plan.seats }
+        ensures enough { self.new.short ≡ false }
+        ensures sizes { ∥ HasSizes self.new ∥₁ }
     {
         match self.tables.next_step(0) {
             Some(step) => self.tables.step_first(step),
@@ -135,25 +197,86 @@ impl<O: Out, I: In, P: Peer> Machine<O, I, P> {
         }
     }
 
+    /// Seat 0 begins the ending.
+    fn begin_ending(&mut self)
+        requires enough { self.old.short ≡ false }
+        requires rest { FirstRests self.old }
+        ensures core { (took : Taken) (gave : Given) → core_with self.new took gave ≡ ending_by self.old.opens (core_with self.old took gave) }
+        ensures plan { (self.new.plan ≡ self.old.plan) × (self.new.ids.plan ≡ self.old.ids.plan) }
+        ensures links { self.new.links ≡ self.old.links }
+        ensures ends { self.new.ends ≡ self.old.ends }
+        ensures plain { IsPlain self.new }
+        ensures enough { self.new.short ≡ false }
+    {
+        self.tables.begin_ending();
+    }
+
+    /// From now on the run is ending.
+    fn tell_ending(&mut self)
+        ensures { self.new ≡ told_ending self.old }
+    {
+        self.tables.tell_ending();
+    }
+
+    /// How many seats of clients there are, at most 32.
+    fn clients(&self) -> u16
+        ensures count { result ≡ self.now.plan.seats }
+        ensures seats { result ≡ length self.now.seats }
+        ensures some { 0 < result }
+        ensures few { result ≤ 32 }
+        ensures sizes { ∥ HasSizes self.now ∥₁ }
+    {
+        self.tables.seat_count()
+    }
+
+    /// How many links there are, and so many readers.
+    fn links(&self) -> u16
+        ensures count { result ≡ self.now.plan.links }
+        ensures few { result ≤ 32 }
+    {
+        self.tables.link_count()
+    }
+
+    /// More ticks than it has left that move; none where memory ran out.
+    fn most_left(&self) -> Result<u64, NoMemory>
+        ensures most { IfOk result (λ n. n ≡ most_left) }
+        ensures left { OnOk result (LastsAtMost self.now (most_left - 1)) }
+    {
+        if self.tables.short {
+            Err(NoMemory)
+        } else {
+            Ok(MOST_LEFT)
+        }
+    }
+
     /// A tick of a seat: its next step, if it has one. Seat 0 makes its ending in `settle` alone, and a seat that the
-    /// script doesn't have makes no step.
+    /// script doesn't have makes no step. Once memory ran out the machine is only to be taken apart.
     pub fn tick<L: Linker<O = O, I = I, P = P>>(
         &mut self,
         links: &mut L,
         seat: u16,
     ) -> Result<Tick, NoMemory>
-        requires { (took : Taken) → IsAtRest (core_with self.old took) 0 }
+        requires rest { FirstRests self.old }
         ensures tick { IfOk result (λ tick. Ticked self.old self.new seat tick) }
         ensures left { IfOk result (λ tick. Leaves tick self.old self.new) }
-        ensures rest { (took : Taken) → IsAtRest (core_with self.new took) 0 }
+        ensures enough { OnOk result ((self.old.short ≡ false) × (self.new.short ≡ false)) }
+        ensures rest { OnOk result (FirstRests self.new) }
         ensures same { SameTable self.old self.new × SameLinks self.old self.new }
-        ensures links { links.new ≡ links.old }
-        ensures err { OnErr result (self.new ≡ self.old) }
+        ensures sizes { ∥ HasSizes self.new ∥₁ }
+        ensures asked { L.asked links.new ≡ L.asked links.old }
+        ensures accepted { L.accepted links.new ≡ L.accepted links.old }
+        ensures back { L.back links.new ≡ L.back links.old }
+        ensures done { L.done links.new ≡ L.done links.old }
+        ensures faults { L.faults links.new ≡ L.faults links.old }
+        ensures prompt { L.prompt links.new ≡ L.prompt links.old }
     {
         if seat == 0 {
+            if self.tables.short {
+                return Err(NoMemory);
+            }
             return Ok(Tick::Idle);
         }
-        self.advance(seat)
+        self.advance(links, seat)
     }
 
     /// Ticks of a seat up to its first step of this kind, or to where it waits or has no step left.
@@ -163,13 +286,19 @@ impl<O: Out, I: In, P: Peer> Machine<O, I, P> {
         seat: u16,
         kind: Kind,
     ) -> Result<(), NoMemory>
-        requires { (took : Taken) → IsAtRest (core_with self.old took) 0 }
+        requires rest { FirstRests self.old }
         ensures led { OnOk result (Led self.old self.new seat kind) }
-        ensures rest { (took : Taken) → IsAtRest (core_with self.new took) 0 }
+        ensures rest { OnOk result (FirstRests self.new) }
         ensures same { SameTable self.old self.new × SameLinks self.old self.new }
-        ensures links { links.new ≡ links.old }
+        ensures sizes { ∥ HasSizes self.new ∥₁ }
+        ensures asked { L.asked links.new ≡ L.asked links.old }
+        ensures accepted { L.accepted links.new ≡ L.accepted links.old }
+        ensures back { L.back links.new ≡ L.back links.old }
+        ensures done { L.done links.new ≡ L.done links.old }
+        ensures faults { L.faults links.new ≡ L.faults links.old }
+        ensures prompt { L.prompt links.new ≡ L.prompt links.old }
     {
-        for _ in 0..self.most_left() {
+        for _ in 0..self.most_left()? {
             if self.tick(links, seat)?.is_last(kind) {
                 return Ok(());
             }
@@ -177,53 +306,50 @@ impl<O: Out, I: In, P: Peer> Machine<O, I, P> {
         Ok(())
     }
 
-    /// More ticks than it has left that move.
-    fn most_left(&self) -> u64
-        ensures most { result ≡ MOST_LEFT }
-        ensures left { LastsAtMost self.now (MOST_LEFT - 1) }
-        ensures many { length self.now.seats ≡ self.now.plan.seats }
-    {
-        let _ = self.tables.seats.len();
-        1 << 62
-    }
-
-    /// How many seats there are.
-    fn seats(&self) -> u16
-        ensures count { result ≡ self.now.plan.seats }
-        ensures some { 0 < result }
-        ensures left { LastsAtMost self.now (MOST_LEFT - 1) }
-        ensures many { length self.now.seats ≡ self.now.plan.seats }
-    {
-        self.tables.seat_count()
-    }
-
-    /// A tick of each client, and whether one of them moved.
-    fn round(&mut self) -> Result<bool, NoMemory>
-        requires { (took : Taken) → IsAtRest (core_with self.old took) 0 }
-        ensures ran { OnOk result (Ran self.old self.new (from_to 1 (self.old.plan.seats - 1))) }
-        ensures fewer { result ≡ Ok true → LeavesFewer self.old self.new }
-        ensures still { result ≡ Ok false → ArePrompt self.old.links → (took : Taken) (i : ℕ) → IsAtRest (core_with self.new took) i }
-        ensures rest { (took : Taken) → IsAtRest (core_with self.new took) 0 }
+    /// A tick of each client and then of each reader, and whether one of them moved.
+    fn round<L: Linker<O = O, I = I, P = P>>(&mut self, links: &mut L) -> Result<bool, NoMemory>
+        requires rest { FirstRests self.old }
+        requires enough { self.old.short ≡ false }
+        ensures moved { result ≡ Ok true → HasMoved self.old self.new × LeavesFewer self.old self.new }
+        ensures still { result ≡ Ok false → Still self.old self.new × (self.new.short ≡ false) }
+        ensures rest { OnOk result (FirstRests self.new) }
         ensures same { SameTable self.old self.new × SameLinks self.old self.new }
+        ensures asked { L.asked links.new ≡ L.asked links.old }
+        ensures accepted { L.accepted links.new ≡ L.accepted links.old }
+        ensures back { L.back links.new ≡ L.back links.old }
+        ensures done { L.done links.new ≡ L.done links.old }
+        ensures faults { L.faults links.new ≡ L.faults links.old }
+        ensures prompt { L.prompt links.new ≡ L.prompt links.old }
     {
         let mut moved = false;
-        for seat in 1..self.seats() {
-            if self.advance(seat)?.is_moved() {
+        for seat in 1..self.clients() {
+            if self.advance(links, seat)?.is_moved() {
+                moved = true;
+            }
+        }
+        for link in 0..self.links() {
+            if self.advance(links, READERS + link)?.is_moved() {
                 moved = true;
             }
         }
         Ok(moved)
     }
 
-    /// Rounds of one tick for each client, until none of them moves.
-    fn play_on(&mut self) -> Result<(), NoMemory>
-        requires { (took : Taken) → IsAtRest (core_with self.old took) 0 }
-        ensures ok { OnOk result (PlayedOn self.old self.new) }
-        ensures rest { (took : Taken) → IsAtRest (core_with self.new took) 0 }
+    /// Such rounds, up to one in which nothing moved.
+    fn play_on<L: Linker<O = O, I = I, P = P>>(&mut self, links: &mut L) -> Result<(), NoMemory>
+        requires rest { FirstRests self.old }
+        ensures ok { OnOk result (PlayedOn self.old self.new × (self.new.short ≡ false)) }
+        ensures rest { OnOk result (FirstRests self.new) }
         ensures same { SameTable self.old self.new × SameLinks self.old self.new }
+        ensures asked { L.asked links.new ≡ L.asked links.old }
+        ensures accepted { L.accepted links.new ≡ L.accepted links.old }
+        ensures back { L.back links.new ≡ L.back links.old }
+        ensures done { L.done links.new ≡ L.done links.old }
+        ensures faults { L.faults links.new ≡ L.faults links.old }
+        ensures prompt { L.prompt links.new ≡ L.prompt links.old }
     {
-        for _ in 0..self.most_left() {
-            if !self.round()? {
+        for _ in 0..self.most_left()? {
+            if !self.round(links)? {
                 return Ok(());
             }
         }
@@ -232,66 +358,62 @@ impl<O: Out, I: In, P: Peer> Machine<O, I, P> {
 
     /// Steps of seat 0, until it has none left. They take no memory.
     fn run_first(&mut self)
-        requires { IsPlain self.old }
+        requires plain { IsPlain self.old }
+        requires enough { self.old.short ≡ false }
         ensures ran { RanFirst self.old self.new }
-        ensures ends { self.new.ends ≡ self.old.ends }
+        ensures rest { FirstRests self.new }
+        ensures enough { self.new.short ≡ false }
     {
-        for _ in 0..self.most_left() {
+        for _ in 0..MOST_LEFT {
             if !self.advance_first().is_moved() {
                 return;
             }
         }
     }
 
-    /// Seat 0 begins the ending.
-    fn begin_ending(&mut self)
-        requires { (took : Taken) → IsAtRest (core_with self.old took) 0 }
-        ensures core { (took : Taken) → core_with self.new took ≡ ending_by self.old.opens (core_with self.old took) }
-        ensures plan { self.new.plan ≡ self.old.plan }
-        ensures links { self.new.links ≡ self.old.links }
-        ensures ends { self.new.ends ≡ self.old.ends }
-        ensures plain { IsPlain self.new }
-    {
-        self.tables.begin_ending();
-    }
-
-    /// Plays the script to its end: rounds of one tick for each client until none of them moves, and then the ending by
-    /// seat 0, which goes over each `open`. It always returns.
+    /// Plays the script to its end: rounds of one tick for each client and then for each reader, up to one in which nothing
+    /// moved; then the ending by seat 0, which goes over each `open`; and such rounds again, in which a reader finds that what
+    /// isn't there won't come. It always returns.
     pub fn settle<L: Linker<O = O, I = I, P = P>>(&mut self, links: &mut L) -> Result<(), NoMemory>
-        requires { (took : Taken) → IsAtRest (core_with self.old took) 0 }
+        requires rest { FirstRests self.old }
         ensures settled { OnOk result (Settled self.old self.new) }
-        ensures plan { self.new.plan ≡ self.old.plan }
+        ensures plan { (self.new.plan ≡ self.old.plan) × (self.new.ids.plan ≡ self.old.ids.plan) }
         ensures ends { SameLinks self.old self.new }
-        ensures links { links.new ≡ links.old }
+        ensures asked { L.asked links.new ≡ L.asked links.old }
+        ensures accepted { L.accepted links.new ≡ L.accepted links.old }
+        ensures back { L.back links.new ≡ L.back links.old }
+        ensures done { L.done links.new ≡ L.done links.old }
+        ensures faults { L.faults links.new ≡ L.faults links.old }
+        ensures prompt { L.prompt links.new ≡ L.prompt links.old }
     {
-        let _ = self.seats();
-        self.play_on()?;
-        let _ = self.seats();
+        self.play_on(links)?;
         self.begin_ending();
         self.run_first();
-        Ok(())
+        self.tell_ending();
+        self.play_on(links)
     }
 }
 
 impl<O: Out, I: In, P: Peer> Machine<O, I, P> {
-    /// The machine of a script without calls, behind its setup, over the links that were opened for it: one for each
-    /// `open`, in order, of which none is finished and none took anything. All memory is taken before any link is touched,
-    /// so where it runs out they are given back as they were.
+    /// The machine of a script, behind its setup, over the links that were opened for it: one for each `open`, in order, of
+    /// which none is finished, and none took or gave anything. All memory that the setup wants is taken before any link is
+    /// touched, so where it runs out they are given back as they were.
     pub fn new(
         alloc: Global,
         script: &Script,
         ends: Vec<Ends<O, I, P>>,
     ) -> Result<Self, NotMade<O, I, P>>
         requires script { (bytes : List ℕ) × (script_of bytes ≡ Ok script.now) }
-        requires callless { is_callless script.now ≡ true }
         requires links { length ends.items ≡ length (link_names script.now) }
         requires fresh { AllByRecursion (λ (e : _). (O.state e.out).finished ≡ false) ends.items }
         requires unused { AllByRecursion (λ (e : _). IfSome (O.state e.out).took (λ bytes. bytes ≡ [])) ends.items }
-        ensures plan { IfOk result (λ m. m.plan ≡ plan_of script.now) }
-        ensures opens { IfOk result (λ m. m.opens ≡ opens script.now) }
-        ensures agrees { IfOk result (λ m. Agrees m.links (λ k. [])) }
-        ensures core { IfOk result (λ m. (n : ℕ) × (core_with m (λ k. []) ≡ set_up script.now n)) }
-        ensures rest { IfOk result (λ m. IsAtRest (core_with m (λ k. [])) 0) }
+        requires silent { AllByRecursion (λ (e : _). ((I.state e.inn).gave ≡ 0) × IfSome (I.state e.inn).gave_bytes (λ bytes. bytes ≡ [])) ends.items }
+        ensures plan { IfOk result (λ m. (m.plan ≡ plan_of script.now) × (m.ids.plan ≡ id_plan_of script.now)) }
+        ensures opens { IfOk result (λ m. (m.opens ≡ opens script.now) × (m.calls ≡ calls script.now)) }
+        ensures agrees { IfOk result (λ m. Agrees m.links (λ k. []) × AgreesGave m.links (λ k. [])) }
+        ensures core { IfOk result (λ m. (n : ℕ) × (core_with m (λ k. []) (λ k. []) ≡ set_up script.now n)) }
+        ensures rest { IfOk result FirstRests }
+        ensures enough { IfOk result (λ m. (m.short ≡ false) × (m.ending ≡ false)) }
         ensures ends { IfOk result (λ m. m.ends ≡ map (λ (e : _). end_of (O.state e.out) (I.state e.inn)) ends.items) }
         ensures outs { IfOk result (λ m. AllByRecursion (λ (e : _). (O.state e.out).prompt ≡ true) ends.items → ArePrompt m.links) }
         ensures back { IfErr result (λ e. e.ends ≡ ends) }
@@ -299,45 +421,42 @@ impl<O: Out, I: In, P: Peer> Machine<O, I, P> {
         let Ok(wanted) = wanted_of(alloc, script) else {
             return Err(NotMade { ends });
         };
-        let Wanted {
-            plan,
-            clients,
-            opens,
-        } = wanted;
-        let mut machine = Machine::start(alloc, &plan, clients, opens, ends)?;
+        let mut machine = Machine::start(alloc, wanted, ends)?;
         machine.run_first();
         Ok(machine)
     }
 
-    /// The machine of these clients, each of which stands before its first step. Client 0 is the setup, which opens
-    /// sockets alone, and the ending goes over these `open`s. There is one link for each, which took nothing.
+    /// The machine of what a script wants, of which each client stands before its first step. Client 0 is the setup, which
+    /// opens sockets alone, and the ending goes over the `open`s. There is one link for each, which took and gave nothing.
     fn start(
         alloc: Global,
-        plan: &Plan,
-        clients: Vec<VecDeque<Task>>,
-        opens: VecDeque<u16>,
+        wanted: Wanted,
         ends: Vec<Ends<O, I, P>>,
     ) -> Result<Self, NotMade<O, I, P>>
-        requires tasks { AreTasks plan.now (map (λ (tasks : _). tasks.items) clients.items) }
-        requires limits { IsWithinLimits plan.now }
-        requires plan { PlanFits plan.now }
-        requires seats { vec_len clients ≡ plan.now.seats }
-        requires few { plan.now.seats ≤ 64 }
-        requires opens { AllByRecursion (λ o. o < plan.now.operations) opens.items }
-        requires few_opens { length opens.items ≤ 4096 }
-        requires links { vec_len ends ≡ plan.now.links }
+        requires for_ { AreFor wanted.plan wanted.id_plan (map (λ (tasks : _). tasks.items) wanted.clients.items) wanted.calls.items wanted.opens.items }
+        requires seats { vec_len wanted.clients ≡ wanted.plan.seats }
+        requires links { (vec_len ends ≡ wanted.plan.links) × (length wanted.opens.items ≡ wanted.plan.links) }
         requires fresh { AllByRecursion (λ (e : _). (O.state e.out).finished ≡ false) ends.items }
         requires unused { AllByRecursion (λ (e : _). IfSome (O.state e.out).took (λ bytes. bytes ≡ [])) ends.items }
-        ensures core { IfOk result (λ m. core_with m (λ k. []) ≡ beginning plan.now (programs (sizes_of plan.now) (map (λ (tasks : _). tasks.items) clients.items))) }
-        ensures agrees { IfOk result (λ m. Agrees m.links (λ k. [])) }
+        requires silent { AllByRecursion (λ (e : _). ((I.state e.inn).gave ≡ 0) × IfSome (I.state e.inn).gave_bytes (λ bytes. bytes ≡ [])) ends.items }
+        ensures core { IfOk result (λ m. core_with m (λ k. []) (λ k. []) ≡ beginning wanted.plan wanted.id_plan (all_programs (programs (sizes_of wanted.plan wanted.id_plan) (map (λ (tasks : _). tasks.items) wanted.clients.items)) (readers_from wanted.calls.items 0 wanted.opens.items))) }
+        ensures agrees { IfOk result (λ m. Agrees m.links (λ k. []) × AgreesGave m.links (λ k. [])) }
         ensures plain { IfOk result IsPlain }
-        ensures plan { IfOk result (λ m. m.plan ≡ plan.now) }
-        ensures opens { IfOk result (λ m. m.opens ≡ opens.items) }
+        ensures plan { IfOk result (λ m. (m.plan ≡ wanted.plan) × (m.ids.plan ≡ wanted.id_plan)) }
+        ensures opens { IfOk result (λ m. (m.opens ≡ wanted.opens.items) × (m.calls ≡ wanted.calls.items)) }
+        ensures enough { IfOk result (λ m. (m.short ≡ false) × (m.ending ≡ false)) }
         ensures ends { IfOk result (λ m. m.ends ≡ map (λ (e : _). end_of (O.state e.out) (I.state e.inn)) ends.items) }
         ensures outs { IfOk result (λ m. AllByRecursion (λ (e : _). (O.state e.out).prompt ≡ true) ends.items → ArePrompt m.links) }
         ensures err { IfErr result (λ e. e.ends ≡ ends) }
     {
-        let Ok(parts) = parts_of(alloc, plan, clients) else {
+        let Wanted {
+            plan,
+            id_plan,
+            clients,
+            calls,
+            opens,
+        } = wanted;
+        let Ok(parts) = parts_of(alloc, &plan, &id_plan, clients, &opens) else {
             return Err(NotMade { ends });
         };
         let Parts {
@@ -345,25 +464,37 @@ impl<O: Out, I: In, P: Peer> Machine<O, I, P> {
             letters,
             holders,
             nexts,
+            ids,
             seats,
+            readers,
             outcomes,
             told,
             places,
+            room,
         } = parts;
         let table = Table {
-            plan: *plan,
+            plan,
             words,
             letters,
             ends,
             holders,
             nexts,
+            ids,
+            id_slots: id_plan.slots,
+            calls,
+            ending: false,
             outcomes,
+            alloc,
+            pool: BlockPool::new(alloc),
+            room,
         };
         Ok(Machine {
             tables: Tables {
                 table,
                 seats,
+                readers,
                 opens,
+                short: false,
             },
             told,
             places,

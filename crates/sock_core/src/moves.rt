@@ -1,40 +1,48 @@
-ghost use Rattle.std.specs.Prelude.{◌≡◌, ◌≢◌, ◌<◌, ℕ, [], Some, None, length, slice_set, slice_index_or};
+ghost use Rattle.std.specs.Prelude.{◌≡◌, ◌≢◌, ◌<◌, ℕ, [], Some, None, option_map, length, slice_set, slice_index_or};
 ghost use mathlib.Core.Option.{some};
 ghost use lib.ListN.{get_elem?};
 ghost use Rattle.sock_core.specs.declared.letter.Letter.{Letter};
-ghost use Rattle.sock_core.specs.Seats.{bytes_of};
+ghost use Rattle.message_parts.specs.Parcels.{parcel_of, outgoing_of};
+ghost use Rattle.client_seats.specs.Seats.{bytes_of, message_in, call_in};
 
 use crate::letter::Letter;
-use sock_message::{Message, Outgoing};
+use client_seats::InHand;
+use message_parts::OutgoingParcel;
+use seat_points::Author;
 
-/// The message that a seat has goes to the home of a request, for this operation.
+/// The message that a seat has in hand goes to the home of a request, for its author.
 pub fn put_message(
     letters: &mut [Option<Letter>],
     request: u16,
-    operation: u16,
-    message: &mut Option<Message>,
+    author: Author,
+    hand: &mut InHand,
 )
     requires there { request < length letters.old }
-    requires some { bytes_of message.old ≢ [] }
-    ensures letters { letters.new ≡ slice_set letters.old request (Some (record { operation = operation; message = bytes_of message.old })) }
+    requires some { bytes_of (message_in hand.old) ≢ [] }
+    ensures letters { (letter : Letter) × (letter.author ≡ author) × (Some (parcel_of letter.message) ≡ message_in hand.old) × (letters.new ≡ slice_set letters.old request (Some letter)) }
+    ensures rest { (message_in hand.new ≡ None) × (call_in hand.new ≡ call_in hand.old) }
 {
-    if let Some(message) = message.take() {
-        letters[usize::from(request)] = Some(Letter { operation, message });
+    if let Some(message) = hand.take_message() {
+        letters[usize::from(request)] = Some(Letter { author, message });
     }
 }
 
-/// The message of a request is taken out of its home; the operation that sent it.
-pub fn take_message(letters: &mut [Option<Letter>], request: u16, out: &mut Option<Outgoing>) -> u16
+/// The message of a request is taken out of its home; who sent it.
+pub fn take_message(
+    letters: &mut [Option<Letter>],
+    request: u16,
+    out: &mut Option<OutgoingParcel>,
+) -> Author
     requires there { (letter : Letter) × (get_elem? letters.old request ≡ some (Some letter)) }
-    ensures taken { (letter : Letter) × (get_elem? letters.old request ≡ some (Some letter)) × (result ≡ letter.operation) × (out.new ≡ Some (record { left = letter.message; taken = 0 })) }
+    ensures taken { (letter : Letter) × (get_elem? letters.old request ≡ some (Some letter)) × (result ≡ letter.author) × (option_map outgoing_of out.new ≡ Some (record { left = (parcel_of letter.message).bytes; taken = 0; parts = (parcel_of letter.message).parts })) }
     ensures letters { letters.new ≡ slice_set letters.old request None }
 {
     match letters[usize::from(request)].take() {
         Some(letter) => {
             *out = Some(letter.message.begin());
-            letter.operation
+            letter.author
         }
-        None => 0,
+        None => Author::Send(0),
     }
 }
 

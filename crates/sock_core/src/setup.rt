@@ -1,12 +1,14 @@
-ghost use Rattle.std.specs.Prelude.{◌≡◌, ◌*◌, ◌≤◌, [], None, IfOk, OnOk, ◌++◌, map, replicate, vec_capacity};
+ghost use Rattle.std.specs.Prelude.{◌≡◌, ◌*◌, ◌≤◌, ℕ, List, [], None, IfOk, OnOk, ◌++◌, length, map, replicate, vec_len, vec_capacity};
 ghost use Rattle.sock_programs.specs.Scripts.{free_slot, free_slots, opening_words, programs};
-ghost use Rattle.sock_core.specs.Seats.{seat_data};
-ghost use Rattle.sock_core.specs.Beginnings.{AreBegun, AreParts, said_first};
+ghost use Rattle.client_seats.specs.Seats.{seat_data};
+ghost use Rattle.sock_core.specs.Beginnings.{AreBegun, AreReading, AreParts, said_first};
 
 use crate::letter::Letter;
-use crate::seat::Seat;
-use script_tasks::sizes_of;
-use seat_points::Point;
+use call_slots::CallSlots;
+use client_seats::Seat;
+use corr_core::Plan as IdPlan;
+use reader_seats::ReaderSeat;
+use sock_message::NoMemory;
 use sock_programs::{Sizes, Task};
 use sock_words::{Outcome, PlaceWord, Plan};
 use std::alloc::{AllocError, Global};
@@ -85,21 +87,28 @@ fn seats_of(
 {
     let mut seats = Vec::new(alloc);
     for tasks in clients {
-        let mut seat = Seat {
-            tasks,
-            held: Vec::new(alloc),
-            ending: VecDeque::new(alloc),
-            point: Point::Rest,
-            message: None,
-            out: None,
-        };
+        let mut seat = Seat::new(alloc, tasks);
         seat.go_on(sizes, outcomes);
         seats.push(seat)?;
     }
     Ok(seats)
 }
 
-/// All of a machine but its links and the `open`s of its ending, before its first step.
+/// The readers of the links of these `open`s, in order, each before its first step.
+fn readers_of(alloc: Global, opens: &VecDeque<u16>) -> Result<Vec<ReaderSeat>, AllocError>
+    requires { length opens.now.items ≤ 65535 }
+    ensures { IfOk result (λ readers. (calls : List ℕ) → AreReading calls opens.now.items readers.items) }
+{
+    let mut readers = Vec::new(alloc);
+    let mut link = 0u16;
+    for operation in opens {
+        readers.push(ReaderSeat::new(alloc, link, *operation))?;
+        link += 1;
+    }
+    Ok(readers)
+}
+
+/// All of a machine but its links, its calls and the `open`s of its ending, before its first step.
 #[derive(Drop)]
 pub struct Parts {
     pub words: Vec<u64>,
@@ -109,42 +118,61 @@ pub struct Parts {
     pub holders: Vec<Option<u16>>,
     /// How many messages of each link have places.
     pub nexts: Vec<u32>,
+    pub ids: CallSlots,
     pub seats: Vec<Seat>,
+    pub readers: Vec<ReaderSeat>,
     pub outcomes: Vec<Option<Outcome>>,
     /// Room for all outcomes.
     pub told: Vec<(u16, Outcome)>,
     /// Room for all place words.
     pub places: Vec<PlaceWord>,
+    /// Room for what a reader takes at once.
+    pub room: Vec<u8>,
 }
 
-/// The parts of a machine of these clients.
+/// The parts of a machine of these clients, and of the readers of the links of these `open`s.
 pub fn parts_of(
     alloc: Global,
     plan: &Plan,
+    id_plan: &IdPlan,
     clients: Vec<VecDeque<Task>>,
-) -> Result<Parts, AllocError>
-    ensures parts { IfOk result (λ parts. AreParts plan.now (map (λ (tasks : _). tasks.items) clients.items) parts.words.items parts.letters.items parts.holders.items parts.nexts.items (map seat_data parts.seats.items) parts.outcomes.items) }
+    opens: &VecDeque<u16>,
+) -> Result<Parts, NoMemory>
+    requires few { length opens.now.items ≤ 65535 }
+    ensures parts { IfOk result (λ parts. (calls : List ℕ) → AreParts plan.now id_plan.now (map (λ (tasks : _). tasks.items) clients.items) calls opens.now.items parts.words.items parts.letters.items parts.holders.items parts.nexts.items parts.ids (map seat_data parts.seats.items) parts.readers.items parts.outcomes.items) }
     ensures told { IfOk result (λ parts. parts.told.items ≡ []) }
     ensures told_room { IfOk result (λ parts. plan.now.operations ≤ vec_capacity parts.told) }
     ensures places { IfOk result (λ parts. parts.places.items ≡ []) }
     ensures places_room { IfOk result (λ parts. 8 * plan.now.operations ≤ vec_capacity parts.places) }
+    ensures room { IfOk result (λ parts. vec_len parts.room ≡ 4096) }
 {
     let words = opening_words(alloc, plan)?;
     let letters = empty_places(alloc, plan.requests)?;
     let holders = empty_places(alloc, plan.links)?;
     let nexts = no_nexts(alloc, plan.links)?;
+    let ids = CallSlots::new(alloc, *id_plan)?;
     let mut outcomes = empty_places(alloc, plan.operations)?;
     let told = Vec::with_capacity(alloc, usize::from(plan.operations))?;
     let places = Vec::with_capacity(alloc, 8 * usize::from(plan.operations))?;
-    let seats = seats_of(alloc, sizes_of(plan), clients, &mut outcomes)?;
+    let sizes = Sizes {
+        slots: plan.slots,
+        requests: plan.requests,
+        ids: id_plan.slots,
+    };
+    let seats = seats_of(alloc, sizes, clients, &mut outcomes)?;
+    let readers = readers_of(alloc, opens)?;
+    let room = vec![in alloc; 0u8; 4096]?;
     Ok(Parts {
         words,
         letters,
         holders,
         nexts,
+        ids,
         seats,
+        readers,
         outcomes,
         told,
         places,
+        room,
     })
 }

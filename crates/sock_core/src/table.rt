@@ -1,27 +1,32 @@
-ghost use Rattle.std.specs.Prelude.{◌≡◌, ◌<◌, ◌⊎◌, ℕ, Bool, false, vec_len, vec_capacity};
-ghost use Rattle.sock_programs.specs.Scripts.{sizes_of};
+ghost use Rattle.std.specs.Prelude.{◌≡◌, ◌<◌, ◌⊎◌, ℕ, Bool, false, IfOk, OnOk, IsOk};
 ghost use Rattle.sock_programs.specs.Cores.{word_of, found_at};
-ghost use Rattle.seat_points.specs.Steps.{step_of};
 ghost use Rattle.sock_programs.specs.Ticks.{Unasked, OfPut, OfReady};
-ghost use Rattle.sock_core.specs.Seats.{seat_data, seat_program};
+ghost use Rattle.seat_points.specs.Steps.{step_of};
+ghost use Rattle.client_seats.specs.Seats.{seat_data, seat_program};
+ghost use Rattle.client_seats.specs.Following.{HasRoom};
 ghost use Rattle.sock_core.specs.Driving.{AsksNone};
-ghost use Rattle.sock_core.specs.Steps.{IsSized, IsNext, Fits, Makes};
+ghost use Rattle.sock_core.specs.Machines.{table_sizes};
+ghost use Rattle.sock_core.specs.Steps.{IsSized, IsNext, IsReady, IsOnWord, MayStand, Fits, Makes, FoundBeside};
 ghost use Rattle.sock_core.specs.Telling.{StepTold};
 
 use crate::letter::Letter;
 use crate::machine::{On, Tick};
 use crate::moves::{put_home, put_message, take_home, take_message};
-use crate::puts::{ask_ready, put_bytes};
-use crate::seat::Seat;
+use crate::puts::{ask_ready, is_of, put_bytes};
 use crate::waiting::awaited;
 use crate::words::{end_link, pass_link, step_word};
-use seat_points::{Call, Step};
-use sock_io::{Ends, In, Out, Peer, Put, Ready};
+use call_points::Aside;
+use call_slots::CallSlots;
+use client_seats::Seat;
+use seat_points::{Author, Call, Step};
+use sock_io::{Ends, In, NoMemory, Out, Peer, Put, Ready};
+use sock_message::BlockPool;
 use sock_programs::Sizes;
 use sock_words::{Outcome, Plan};
+use std::alloc::Global;
 use std::marker::Model;
 
-/// The words, messages and links on which the seats step, and the outcomes so far.
+/// The words, ids, messages and links on which the seats step, and the outcomes so far.
 #[derive(Drop)]
 pub struct Table<O: Out, I: In, P: Peer> {
     pub plan: Plan,
@@ -33,11 +38,23 @@ pub struct Table<O: Out, I: In, P: Peer> {
     pub holders: Vec<Option<u16>>,
     /// How many messages of each link have places.
     pub nexts: Vec<u32>,
+    pub ids: CallSlots,
+    /// How many id slots there are.
+    pub id_slots: u16,
+    /// The operations that are calls.
+    pub calls: Vec<u16>,
+    /// Whether the run is ending.
+    pub ending: bool,
     pub outcomes: Vec<Option<Outcome>>,
+    pub alloc: Global,
+    /// Blocks for frames.
+    pub pool: BlockPool,
+    /// What a reader takes at once.
+    pub room: Vec<u8>,
 }
 
 impl<O: Out, I: In, P: Peer> Model for Table<O, I, P> {
-    ghost use Rattle.std.specs.Prelude.{map};
+    ghost use Rattle.std.specs.Prelude.{◌≡◌, map, vec_len};
     ghost use Rattle.sock_io.specs.Link.{end_of};
     ghost use Rattle.sock_core.specs.Machines.{TableState};
 
@@ -47,29 +64,37 @@ impl<O: Out, I: In, P: Peer> Model for Table<O, I, P> {
       plan = t.plan;
       words = t.words.items;
       letters = t.letters.items;
-      links = record { holders = t.holders.items; nexts = t.nexts.items; outs = map (λ (e : _). O.state e.out) t.ends.items };
+      links = record { holders = t.holders.items; nexts = t.nexts.items; outs = map (λ (e : _). O.state e.out) t.ends.items; inns = map (λ (e : _). I.state e.inn) t.ends.items };
+      ids = t.ids;
+      calls = t.calls.items;
+      ending = t.ending;
       outcomes = t.outcomes.items;
       ends = map (λ (e : _). end_of (O.state e.out) (I.state e.inn)) t.ends.items;
     } };
+
+    ghost invariant = { λ t. (t.id_slots ≡ t.ids.plan.slots) × (vec_len t.room ≡ 4096) };
 }
 
 impl<O: Out, I: In, P: Peer> Table<O, I, P> {
-    /// How many slots and requests there are.
-    fn sizes(&self) -> Sizes
-        ensures { result ≡ sizes_of self.now.plan }
+    /// How many slots, requests and id slots there are.
+    pub fn sizes(&self) -> Sizes
+        ensures { result ≡ table_sizes self.now }
     {
         Sizes {
             slots: self.plan.slots,
             requests: self.plan.requests,
+            ids: self.id_slots,
         }
     }
 
-    /// A step on a word, or a move that tells nothing; the word found. Only a seat that comes to hold a life wants room for it.
+    /// A step on a word, or a move that tells nothing; the word found. Only a seat that comes to hold a life or to keep a retry
+    /// wants room for it.
     pub fn make_call(&mut self, place: &mut Seat, seat: u16, call: Call) -> u64
         requires next { IsNext self.old (seat_data place.old) (Step.Call call) }
+        requires stand { IsReady self.old (seat_data place.old) × MayStand (seat_data place.old) }
         requires fits { Fits self.old (seat_data place.old) (Step.Call call) }
         requires sized { IsSized self.old }
-        requires room { (vec_len place.old.held < vec_capacity place.old.held) ⊎ AsksNone (seat_program (sizes_of self.old.plan) (seat_data place.old)) }
+        requires room { HasRoom place.old ⊎ AsksNone (seat_program (table_sizes self.old) (seat_data place.old)) }
         ensures made { Makes self.old self.new seat (seat_data place.old) (seat_data place.new) (Step.Call call) Unasked }
         ensures found { result ≡ found_at self.old.words (word_of self.old.plan (step_of call)) }
     {
@@ -77,21 +102,80 @@ impl<O: Out, I: In, P: Peer> Table<O, I, P> {
         pass_link(&mut self.holders, seat, call);
         end_link(&mut self.ends, call);
         let sizes = self.sizes();
-        let next = place.point.next(sizes, found);
+        let next = place.point.next(sizes, place.calling(), found);
         place.follow(sizes, next, &mut self.outcomes);
         found
     }
 
-    /// The message that the seat has goes to its home.
-    pub fn put_message(&mut self, place: &mut Seat, request: u16, operation: u16)
-        requires next { IsNext self.old (seat_data place.old) (Step.PutMessage request operation) }
-        requires fits { Fits self.old (seat_data place.old) (Step.PutMessage request operation) }
-        requires room { (vec_len place.old.held < vec_capacity place.old.held) ⊎ AsksNone (seat_program (sizes_of self.old.plan) (seat_data place.old)) }
-        ensures { (seat : ℕ) → Makes self.old self.new seat (seat_data place.old) (seat_data place.new) (Step.PutMessage request operation) Unasked }
+    /// A step on the ids that finds a word; the word found.
+    pub fn make_aside(&mut self, place: &mut Seat, step: Aside) -> u64
+        requires kind { IsOnWord step }
+        requires next { IsNext self.old (seat_data place.old) (Step.Aside step) }
+        requires stand { IsReady self.old (seat_data place.old) × MayStand (seat_data place.old) }
+        requires fits { Fits self.old (seat_data place.old) (Step.Aside step) }
+        requires room { HasRoom place.old }
+        ensures made { (seat : ℕ) → Makes self.old self.new seat (seat_data place.old) (seat_data place.new) (Step.Aside step) Unasked }
+        ensures found { FoundBeside self.old (seat_data place.old) step result }
     {
-        put_message(&mut self.letters, request, operation, &mut place.message);
+        let found = self.ids.step(step);
         let sizes = self.sizes();
-        let next = place.point.next(sizes, 0);
+        let next = place.point.next(sizes, place.calling(), found);
+        place.follow(sizes, next, &mut self.outcomes);
+        found
+    }
+
+    /// The call in the seat's hand goes into its home, as an equal one.
+    pub fn put_call(&mut self, place: &mut Seat, slot: u16) -> Result<(), NoMemory>
+        requires next { IsNext self.old (seat_data place.old) (Step.Aside (Aside.PutCall slot)) }
+        requires stand { IsReady self.old (seat_data place.old) × MayStand (seat_data place.old) }
+        requires fits { Fits self.old (seat_data place.old) (Step.Aside (Aside.PutCall slot)) }
+        requires room { HasRoom place.old }
+        ensures { OnOk result ((seat : ℕ) → Makes self.old self.new seat (seat_data place.old) (seat_data place.new) (Step.Aside (Aside.PutCall slot)) Unasked) }
+    {
+        // A seat whose call goes home has one in hand.
+        let Some(call) = place.hand.call() else {
+            return Err(NoMemory);
+        };
+        let Ok(call) = call.share() else {
+            return Err(NoMemory);
+        };
+        let found = self.ids.put_call(slot, call);
+        let sizes = self.sizes();
+        let next = place.point.next(sizes, place.calling(), found);
+        place.follow(sizes, next, &mut self.outcomes);
+        Ok(())
+    }
+
+    /// A call is taken out of its home.
+    pub fn take_call(&mut self, place: &mut Seat, slot: u16) -> Result<(), NoMemory>
+        requires next { IsNext self.old (seat_data place.old) (Step.Aside (Aside.TakeCall slot)) }
+        requires stand { IsReady self.old (seat_data place.old) × MayStand (seat_data place.old) }
+        requires fits { Fits self.old (seat_data place.old) (Step.Aside (Aside.TakeCall slot)) }
+        requires room { HasRoom place.old }
+        ensures { OnOk result ((seat : ℕ) → Makes self.old self.new seat (seat_data place.old) (seat_data place.new) (Step.Aside (Aside.TakeCall slot)) Unasked) }
+    {
+        // The call lies there.
+        let Some(call) = self.ids.take_call(slot) else {
+            return Err(NoMemory);
+        };
+        let Ok(next) = place.with_call(self.alloc, &mut self.pool, call) else {
+            return Err(NoMemory);
+        };
+        place.follow(self.sizes(), next, &mut self.outcomes);
+        Ok(())
+    }
+
+    /// The message that the seat has goes to its home.
+    pub fn put_message(&mut self, place: &mut Seat, request: u16, author: Author)
+        requires next { IsNext self.old (seat_data place.old) (Step.PutMessage request author) }
+        requires stand { IsReady self.old (seat_data place.old) × MayStand (seat_data place.old) }
+        requires fits { Fits self.old (seat_data place.old) (Step.PutMessage request author) }
+        requires room { HasRoom place.old ⊎ AsksNone (seat_program (table_sizes self.old) (seat_data place.old)) }
+        ensures { (seat : ℕ) → Makes self.old self.new seat (seat_data place.old) (seat_data place.new) (Step.PutMessage request author) Unasked }
+    {
+        put_message(&mut self.letters, request, author, &mut place.hand);
+        let sizes = self.sizes();
+        let next = place.point.next(sizes, place.calling(), 0);
         place.follow(sizes, next, &mut self.outcomes);
     }
 
@@ -99,11 +183,11 @@ impl<O: Out, I: In, P: Peer> Table<O, I, P> {
     pub fn take_message(&mut self, place: &mut Seat, request: u16)
         requires next { IsNext self.old (seat_data place.old) (Step.TakeMessage request) }
         requires fits { Fits self.old (seat_data place.old) (Step.TakeMessage request) }
-        requires room { vec_len place.old.held < vec_capacity place.old.held }
+        requires room { HasRoom place.old }
         ensures { (seat : ℕ) → Makes self.old self.new seat (seat_data place.old) (seat_data place.new) (Step.TakeMessage request) Unasked }
     {
-        let operation = take_message(&mut self.letters, request, &mut place.out);
-        let next = place.point.with_message(operation);
+        let author = take_message(&mut self.letters, request, &mut place.out);
+        let next = place.point.with_message(author);
         place.follow(self.sizes(), next, &mut self.outcomes);
     }
 
@@ -112,7 +196,7 @@ impl<O: Out, I: In, P: Peer> Table<O, I, P> {
         requires next { IsNext self.old (seat_data place.old) (Step.TakeHome link) }
         requires fits { Fits self.old (seat_data place.old) (Step.TakeHome link) }
         requires sized { IsSized self.old }
-        requires room { vec_len place.old.held < vec_capacity place.old.held }
+        requires room { HasRoom place.old }
         ensures { Makes self.old self.new seat (seat_data place.old) (seat_data place.new) (Step.TakeHome link) Unasked }
     {
         let places = take_home(&mut self.holders, &self.nexts, link, seat);
@@ -125,7 +209,7 @@ impl<O: Out, I: In, P: Peer> Table<O, I, P> {
         requires next { IsNext self.old (seat_data place.old) (Step.PutHome link places) }
         requires fits { Fits self.old (seat_data place.old) (Step.PutHome link places) }
         requires sized { IsSized self.old }
-        requires room { vec_len place.old.held < vec_capacity place.old.held }
+        requires room { HasRoom place.old }
         ensures { (seat : ℕ) → Makes self.old self.new seat (seat_data place.old) (seat_data place.new) (Step.PutHome link places) Unasked }
     {
         put_home(&mut self.holders, &mut self.nexts, link, places);
@@ -134,17 +218,29 @@ impl<O: Out, I: In, P: Peer> Table<O, I, P> {
     }
 
     /// What is next of the message in hand is put into a link; what the link answered.
-    pub fn put_bytes(&mut self, place: &mut Seat, link: u16) -> Put
-        requires next { (asked : Bool) × IsNext self.old (seat_data place.old) (Step.PutBytes link asked) }
-        requires fits { Fits self.old (seat_data place.old) (Step.PutBytes link false) }
+    pub fn put_bytes(
+        &mut self,
+        place: &mut Seat,
+        link: u16,
+        author: Author,
+    ) -> Result<Put, NoMemory>
+        requires next { (asked : Bool) × IsNext self.old (seat_data place.old) (Step.PutBytes link asked author) }
+        requires fits { Fits self.old (seat_data place.old) (Step.PutBytes link false author) }
         requires sized { IsSized self.old }
-        requires room { vec_len place.old.held < vec_capacity place.old.held }
-        ensures { (seat : ℕ) (asked : Bool) → Makes self.old self.new seat (seat_data place.old) (seat_data place.new) (Step.PutBytes link asked) (OfPut result) }
+        requires room { HasRoom place.old }
+        ensures { IfOk result (λ put. (seat : ℕ) (asked : Bool) → Makes self.old self.new seat (seat_data place.old) (seat_data place.new) (Step.PutBytes link asked author) (OfPut put)) }
     {
-        let (answer, whole) = put_bytes(&mut self.ends, link, &mut place.out);
+        // What a `send` puts is no frame.
+        let Some(out) = &mut place.out else {
+            return Err(NoMemory);
+        };
+        if !is_of(out, author) {
+            return Err(NoMemory);
+        }
+        let (answer, whole) = put_bytes(&mut self.ends, link, out);
         let next = place.point.put_answered(answer, whole);
         place.follow(self.sizes(), next, &mut self.outcomes);
-        answer
+        Ok(answer)
     }
 
     /// A link is asked whether it takes more; what it answered.
@@ -152,7 +248,7 @@ impl<O: Out, I: In, P: Peer> Table<O, I, P> {
         requires next { IsNext self.old (seat_data place.old) (Step.AskReady link) }
         requires fits { Fits self.old (seat_data place.old) (Step.AskReady link) }
         requires sized { IsSized self.old }
-        requires room { vec_len place.old.held < vec_capacity place.old.held }
+        requires room { HasRoom place.old }
         ensures { (seat : ℕ) → Makes self.old self.new seat (seat_data place.old) (seat_data place.new) (Step.AskReady link) (OfReady result) }
     {
         let answer = ask_ready(&mut self.ends, link);
@@ -161,13 +257,44 @@ impl<O: Out, I: In, P: Peer> Table<O, I, P> {
         answer
     }
 
+    /// The next step of a seat aside of the sockets; what its tick answers.
+    fn step_aside(&mut self, place: &mut Seat, step: Aside) -> Result<Tick, NoMemory>
+        requires next { IsNext self.old (seat_data place.old) (Step.Aside step) }
+        requires stand { IsReady self.old (seat_data place.old) × MayStand (seat_data place.old) }
+        requires fits { Fits self.old (seat_data place.old) (Step.Aside step) }
+        requires room { HasRoom place.old }
+        ensures { IfOk result (λ tick. (seat : ℕ) → StepTold self.old self.new seat (seat_data place.old) (seat_data place.new) (Step.Aside step) tick) }
+    {
+        let kind = step.kind();
+        match step {
+            Aside::PutCall(slot) => {
+                self.put_call(place, slot)?;
+                Ok(Tick::Moved(kind))
+            }
+            Aside::TakeCall(slot) => {
+                self.take_call(place, slot)?;
+                Ok(Tick::Moved(kind))
+            }
+            _ => {
+                let point = place.point;
+                let found = self.make_aside(place, step);
+                match awaited(point, found) {
+                    Some(on) => Ok(Tick::Waits(on)),
+                    None => Ok(Tick::Moved(kind)),
+                }
+            }
+        }
+    }
+
     /// The next step of a seat; what its tick answers.
-    pub fn step(&mut self, place: &mut Seat, seat: u16, step: Step) -> Tick
+    pub fn step(&mut self, place: &mut Seat, seat: u16, step: Step) -> Result<Tick, NoMemory>
         requires next { IsNext self.old (seat_data place.old) step }
+        requires stand { IsReady self.old (seat_data place.old) × MayStand (seat_data place.old) }
         requires fits { Fits self.old (seat_data place.old) step }
         requires sized { IsSized self.old }
-        requires room { (vec_len place.old.held < vec_capacity place.old.held) ⊎ AsksNone (seat_program (sizes_of self.old.plan) (seat_data place.old)) }
-        ensures { StepTold self.old self.new seat (seat_data place.old) (seat_data place.new) step result }
+        requires room { HasRoom place.old ⊎ AsksNone (seat_program (table_sizes self.old) (seat_data place.old)) }
+        ensures ok { IfOk result (λ tick. StepTold self.old self.new seat (seat_data place.old) (seat_data place.new) step tick) }
+        ensures none { AsksNone (seat_program (table_sizes self.old) (seat_data place.old)) → IsOk result }
     {
         let kind = step.kind();
         match step {
@@ -175,34 +302,34 @@ impl<O: Out, I: In, P: Peer> Table<O, I, P> {
                 let point = place.point;
                 let found = self.make_call(place, seat, call);
                 match awaited(point, found) {
-                    Some(ticket) => Tick::Waits(On::Next(ticket)),
-                    None => Tick::Moved(kind),
+                    Some(on) => Ok(Tick::Waits(on)),
+                    None => Ok(Tick::Moved(kind)),
                 }
             }
-            Step::PutMessage(request, operation) => {
-                self.put_message(place, request, operation);
-                Tick::Moved(kind)
+            Step::Aside(step) => self.step_aside(place, step),
+            Step::PutMessage(request, author) => {
+                self.put_message(place, request, author);
+                Ok(Tick::Moved(kind))
             }
             Step::TakeMessage(request) => {
                 self.take_message(place, request);
-                Tick::Moved(kind)
+                Ok(Tick::Moved(kind))
             }
             Step::TakeHome(link) => {
                 self.take_home(place, seat, link);
-                Tick::Moved(kind)
+                Ok(Tick::Moved(kind))
             }
             Step::PutHome(link, places) => {
                 self.put_home(place, link, places);
-                Tick::Moved(kind)
+                Ok(Tick::Moved(kind))
             }
-            Step::PutBytes(link, _) => {
-                self.put_bytes(place, link);
-                Tick::Moved(kind)
+            Step::PutBytes(link, _, author) => {
+                self.put_bytes(place, link, author)?;
+                Ok(Tick::Moved(kind))
             }
             Step::AskReady(link) => match self.ask_ready(place, link) {
-                Ready::NotYet => Tick::Waits(On::Out(link)),
-                Ready::Now => Tick::Moved(kind),
-                Ready::Failed => Tick::Moved(kind),
+                Ready::NotYet => Ok(Tick::Waits(On::Out(link))),
+                Ready::Now | Ready::Failed => Ok(Tick::Moved(kind)),
             },
         }
     }

@@ -1,29 +1,39 @@
-ghost use Rattle.std.specs.Prelude.{◌≡◌, ◌<◌, ℕ, Some, None, IfSome, IfNone, IfOk, OnErr, length};
+ghost use Rattle.std.specs.Prelude.{◌≡◌, ◌+◌, ◌<◌, ℕ, Some, None, IfSome, IfNone, IfOk, OnOk, OnErr, length};
 ghost use Rattle.sock_core.specs.Machines.{MachineState, table_of};
-ghost use Rattle.sock_core.specs.Steps.{IsSized, HasNoStep, NextIs, StepFits};
+ghost use Rattle.sock_core.specs.Steps.{IsSized, HasNoStep, NextIs, StepFits, PreparedAt, ReadyAt, StandsAt};
 ghost use Rattle.sock_core.specs.Telling.{TickTold};
-ghost use Rattle.sock_core.specs.Driving.{BeganEnding, IsPlain};
+ghost use Rattle.sock_core.specs.Reading.{NextReadIs, HasNoRead, ReadFits, TickRead, IsCutShort};
+ghost use Rattle.sock_core.specs.Driving.{BeganEnding, IsPlain, told_ending};
 
 use crate::machine::Tick;
-use crate::seat::Seat;
 use crate::table::Table;
+use client_seats::Seat;
+use reader_points::ReadStep;
+use reader_seats::ReaderSeat;
 use seat_points::Step;
-use sock_io::{In, NoMemory, Out, Peer};
+use sock_io::{In, Linker, NoMemory, Out, Peer};
 use std::collections::VecDeque;
 use std::marker::Model;
+
+/// The number of the first reader's seat.
+pub const READERS: u16 = 32;
 
 /// The seats, and the tables on which they step.
 #[derive(Drop)]
 pub struct Tables<O: Out, I: In, P: Peer> {
     pub table: Table<O, I, P>,
     pub seats: Vec<Seat>,
+    /// The reader of each link.
+    pub readers: Vec<ReaderSeat>,
     /// The `open`s that the ending goes over.
     pub opens: VecDeque<u16>,
+    /// Whether memory ran out in a step: then nothing more is made.
+    pub short: bool,
 }
 
 impl<O: Out, I: In, P: Peer> Model for Tables<O, I, P> {
     ghost use Rattle.std.specs.Prelude.{map};
-    ghost use Rattle.sock_core.specs.Seats.{seat_data};
+    ghost use Rattle.client_seats.specs.Seats.{seat_data};
     ghost use Rattle.sock_core.specs.Machines.{MachineState};
 
     ghost Value = { MachineState };
@@ -33,59 +43,129 @@ impl<O: Out, I: In, P: Peer> Model for Tables<O, I, P> {
       words = m.table.words;
       letters = m.table.letters;
       links = m.table.links;
+      ids = m.table.ids;
+      calls = m.table.calls;
+      ending = m.table.ending;
       seats = map seat_data m.seats.items;
+      readers = m.readers.items;
       opens = m.opens.items;
       outcomes = m.table.outcomes;
       ends = m.table.ends;
+      short = m.short;
     } };
 }
 
 impl<O: Out, I: In, P: Peer> Tables<O, I, P> {
-    /// How many seats there are.
+    /// How many seats of clients there are.
     pub fn seat_count(&self) -> u16
         ensures { result ≡ self.now.plan.seats }
     {
         self.table.plan.seats
     }
 
-    /// The next step of a seat, if it has one.
+    /// How many links.
+    pub fn link_count(&self) -> u16
+        ensures { result ≡ self.now.plan.links }
+    {
+        self.table.plan.links
+    }
+
+    /// What the next step of a client needs in hand is made, where it isn't there. Its program stays.
+    pub fn prepare(&mut self, seat: u16) -> Result<(), NoMemory>
+        requires { seat < length self.old.seats }
+        ensures ok { OnOk result (PreparedAt self.old self.new seat) }
+        ensures err { OnErr result (IsCutShort self.old self.new) }
+    {
+        let Table { alloc, pool, .. } = &mut self.table;
+        let place = &mut self.seats[usize::from(seat)];
+        if place.prepare(*alloc, pool).is_err() {
+            self.short = true;
+            return Err(NoMemory);
+        }
+        Ok(())
+    }
+
+    /// The next step of a client that was prepared for it, if it has one.
     pub fn next_step(&self, seat: u16) -> Option<Step>
+        requires ready { ReadyAt self.now seat }
+        requires stand { StandsAt self.now seat }
         ensures some { IfSome result (λ step. NextIs self.now seat step) }
         ensures none { IfNone result (HasNoStep self.now seat) }
     {
         let at = usize::from(seat);
         if at < self.seats.len() {
-            self.seats[at].point.step()
+            let place = &self.seats[at];
+            place.point.step(place.calling())
         } else {
             None
         }
     }
 
-    /// Makes the next step of a seat; what its tick answers.
+    /// Makes the next step of a client; what its tick answers.
     pub fn step(&mut self, seat: u16, step: Step) -> Result<Tick, NoMemory>
         requires next { NextIs self.old seat step }
+        requires ready { ReadyAt self.old seat }
         requires fits { StepFits self.old seat step }
         requires sized { IsSized (table_of self.old) }
         ensures ok { IfOk result (λ tick. TickTold self.old self.new seat step tick) }
-        ensures err { OnErr result (self.new ≡ self.old) }
+        ensures err { OnErr result (IsCutShort self.old self.new) }
     {
         let place = &mut self.seats[usize::from(seat)];
-        if place.held.reserve(1).is_err() {
+        if place.held.reserve(1).is_err() || place.waiting.reserve(1).is_err() {
+            self.short = true;
             return Err(NoMemory);
         }
-        Ok(self.table.step(place, seat, step))
+        let made = self.table.step(place, seat, step);
+        self.short |= made.is_err();
+        made
     }
 
-    /// Makes the next step of seat 0, which asks no link and holds no life. It takes no memory.
+    /// Makes the next step of seat 0, which asks no link, holds no life and calls nothing. It takes no memory.
     pub fn step_first(&mut self, step: Step) -> Tick
         requires plain { IsPlain self.old }
         requires next { NextIs self.old 0 step }
+        requires ready { ReadyAt self.old 0 }
         requires fits { StepFits self.old 0 step }
         requires sized { IsSized (table_of self.old) }
         ensures { TickTold self.old self.new 0 step result }
     {
         let place = &mut self.seats[0];
-        self.table.step(place, 0, step)
+        match self.table.step(place, 0, step) {
+            Ok(tick) => tick,
+            Err(_) => Tick::Idle,
+        }
+    }
+
+    /// The next step of the reader of a link, if it has one.
+    pub fn next_read(&self, link: u16) -> Option<ReadStep>
+        ensures some { IfSome result (λ step. NextReadIs self.now link step) }
+        ensures none { IfNone result (HasNoRead self.now link) }
+    {
+        let at = usize::from(link);
+        if at < self.readers.len() {
+            self.readers[at].step()
+        } else {
+            None
+        }
+    }
+
+    /// Makes the next step of the reader of a link; what its tick answers.
+    pub fn read<L: Linker<O = O, I = I, P = P>>(
+        &mut self,
+        links: &mut L,
+        link: u16,
+        step: ReadStep,
+    ) -> Result<Tick, NoMemory>
+        requires next { NextReadIs self.old link step }
+        requires fits { ReadFits self.old link step }
+        requires sized { IsSized (table_of self.old) }
+        ensures ok { IfOk result (λ tick. TickRead self.old self.new (32 + link) link step tick) }
+        ensures err { OnErr result (IsCutShort self.old self.new) }
+    {
+        let reader = &mut self.readers[usize::from(link)];
+        let made = self.table.read(links, reader, READERS + link, step);
+        self.short |= made.is_err();
+        made
     }
 
     /// Seat 0 begins the ending, over the `open`s.
@@ -97,5 +177,12 @@ impl<O: Out, I: In, P: Peer> Tables<O, I, P> {
         std::mem::swap(&mut first.ending, &mut self.opens);
         self.opens.clear();
         first.end_next();
+    }
+
+    /// From now on the run is ending: what isn't there at a take won't come.
+    pub fn tell_ending(&mut self)
+        ensures { self.new ≡ told_ending self.old }
+    {
+        self.table.ending = true;
     }
 }

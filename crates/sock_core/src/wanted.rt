@@ -1,10 +1,11 @@
 ghost use Rattle.std.specs.Prelude.{◌≡◌, ℕ, List, Ok, map, IfOk};
 ghost use Rattle.brpc_model.specs.Script.{script_of};
 ghost use Rattle.sock_programs.specs.Scripts.{all_tasks};
-ghost use Rattle.sock_programs.specs.Tasks.{plan_of, opens};
+ghost use Rattle.sock_programs.specs.Tasks.{plan_of, id_plan_of, opens, calls};
 
 use script_items::Script;
-use script_tasks::{BlockPool, NoMemory, opens_of, plan_of, tasks_of};
+use corr_core::Plan as IdPlan;
+use script_tasks::{BlockPool, NoMemory, calls_of, id_plan_of, opens_of, plan_of, tasks_of};
 use sock_programs::Task;
 use sock_words::Plan;
 use std::alloc::Global;
@@ -14,8 +15,12 @@ use std::collections::VecDeque;
 #[derive(Drop)]
 pub struct Wanted {
     pub plan: Plan,
+    /// The sizes of the table of ids.
+    pub id_plan: IdPlan,
     /// The tasks of the setup and of each client.
     pub clients: Vec<VecDeque<Task>>,
+    /// The operations that are calls.
+    pub calls: Vec<u16>,
     /// The `open`s that the ending goes over.
     pub opens: VecDeque<u16>,
 }
@@ -24,6 +29,8 @@ pub struct Wanted {
 pub fn wanted_of(alloc: Global, script: &Script) -> Result<Wanted, NoMemory>
     requires { (bytes : List ℕ) × (script_of bytes ≡ Ok script.now) }
     ensures plan { IfOk result (λ w. w.plan ≡ plan_of script.now) }
+    ensures id_plan { IfOk result (λ w. w.id_plan ≡ id_plan_of script.now) }
+    ensures calls { IfOk result (λ w. w.calls.items ≡ calls script.now) }
     ensures clients { IfOk result (λ w. map (λ (tasks : _). tasks.items) w.clients.items ≡ all_tasks script.now) }
     ensures opens { IfOk result (λ w. w.opens.items ≡ opens script.now) }
 {
@@ -31,6 +38,8 @@ pub fn wanted_of(alloc: Global, script: &Script) -> Result<Wanted, NoMemory>
     let mut pool = BlockPool::new(alloc);
     Ok(Wanted {
         plan: plan_of(alloc, lines)?,
+        id_plan: id_plan_of(lines),
+        calls: calls_of(alloc, lines)?,
         clients: tasks_of(alloc, &mut pool, lines)?,
         opens: opens_of(alloc, lines)?,
     })

@@ -43,6 +43,7 @@ pub fn pass_link(holders: &mut [Option<u16>], seat: u16, call: Call)
 pub fn end_link<O: Out, I: In, P: Peer>(ends: &mut [Ends<O, I, P>], call: Call)
     requires { IsOfLinks (length ends.old) (step_of call) }
     ensures outs { OutsAfter (step_of call) (map (λ (e : _). O.state e.out) ends.old) (map (λ (e : _). O.state e.out) ends.new) }
+    ensures inns { map (λ (e : _). I.state e.inn) ends.new ≡ map (λ (e : _). I.state e.inn) ends.old }
     ensures ends { map (λ (e : _). end_of (O.state e.out) (I.state e.inn)) ends.new ≡ map (λ (e : _). end_of (O.state e.out) (I.state e.inn)) ends.old }
 {
     if let Call::FinishLink(link) = call {

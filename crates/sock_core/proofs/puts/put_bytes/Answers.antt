@@ -2,7 +2,7 @@ use Rattle.std.proofs.Common.{refl}
 use Rattle.sock_io.specs.declared.link.Put.TheVariants as puts
 use Rattle.sock_io.specs.Link.{PutStep, end_of}
 use Rattle.sock_message.specs.Pieces.{piece}
-use Rattle.sock_core.specs.Seats.{left_of, taken_of}
+use Rattle.client_seats.specs.Seats.{left_of, taken_of}
 use Rattle.sock_core.proofs.Asking.{asked, same_link, put_of}
 use Rattle.sock_core.proofs.puts.put_bytes.Goals as goal
 

@@ -3,7 +3,7 @@ use Rattle.sock_programs.specs.declared.task.Task.{Task}
 use Rattle.sock_programs.specs.Clients.{HeldLife, client_from}
 use Rattle.sock_programs.specs.Cores.{said, next_step}
 use Rattle.sock_programs.specs.Scripts.{programs}
-use Rattle.sock_core.specs.Seats.{seat_data, seat_program, lives}
+use Rattle.client_seats.specs.Seats.{seat_data, seat_program, lives}
 use Rattle.sock_core.specs.Beginnings.{said_first}
 use Rattle.sock_core.proofs.Begun.{begun_more, begun_seat, told_more, map_last}
 use Rattle.sock_core.proofs.setup.seats_of.Goals as goal

@@ -1,11 +1,11 @@
 use Rattle.std.proofs.Common.{refl, arith, ap, ◌∙◌}
 use Rattle.sock_programs.specs.Scripts.{sizes_of}
 use Rattle.seat_points.specs.Points.{next_program}
-use Rattle.sock_core.specs.Seats.{seat_data, around}
+use Rattle.client_seats.specs.Seats.{seat_data, around}
 use Rattle.std.proofs.Common.{map}
 use Rattle.sock_io.specs.Link.{end_of}
 use Rattle.seat_points.specs.Points.{after_word}
-use Rattle.sock_core.specs.Seats.{seat_program}
+use Rattle.client_seats.specs.Seats.{seat_program}
 use Rattle.seat_points.specs.Steps.{step_of}
 use Rattle.sock_core.proofs.Advancing.{room_for}
 use Rattle.sock_core.proofs.Stepping.{written, makes_along, goes, no_letters, same_sizes, outs_in}

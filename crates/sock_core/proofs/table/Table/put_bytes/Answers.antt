@@ -1,7 +1,7 @@
 use Rattle.std.proofs.Common.{refl, arith}
 use Rattle.sock_programs.specs.Scripts.{sizes_of}
 use Rattle.seat_points.specs.Points.{next_program}
-use Rattle.sock_core.specs.Seats.{seat_data, around}
+use Rattle.client_seats.specs.Seats.{seat_data, around}
 use Rattle.sock_io.specs.Link.{end_of}
 use Rattle.sock_core.proofs.Stepping.{written, makes_along, goes, put_is, asked_in}
 use Rattle.sock_core.proofs.table.Table.put_bytes.Goals as goal

@@ -1,7 +1,7 @@
 use Rattle.std.proofs.Common.{refl, arith, ap, ◌∙◌, slice_set, None}
 use Rattle.sock_programs.specs.Scripts.{sizes_of}
 use Rattle.seat_points.specs.Points.{next_program}
-use Rattle.sock_core.specs.Seats.{seat_data, around}
+use Rattle.client_seats.specs.Seats.{seat_data, around}
 use Rattle.seat_points.specs.Points.{after_home}
 use Rattle.sock_core.proofs.Stepping.{written, makes_along, goes, same_sizes, links_are}
 use Rattle.sock_core.proofs.table.Table.put_home.Goals as goal

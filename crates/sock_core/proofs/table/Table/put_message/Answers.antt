@@ -1,9 +1,9 @@
 use Rattle.std.proofs.Common.{refl, arith, ◌∙◌}
 use Rattle.sock_programs.specs.Scripts.{sizes_of}
 use Rattle.seat_points.specs.Points.{next_program}
-use Rattle.sock_core.specs.Seats.{seat_data, around}
+use Rattle.client_seats.specs.Seats.{seat_data, around}
 use Rattle.sock_programs.specs.Sends.{heading_of}
-use Rattle.sock_core.specs.Seats.{bytes_of}
+use Rattle.client_seats.specs.Seats.{bytes_of}
 use Rattle.seat_points.specs.declared.point.Step.TheVariants as firsts
 use Rattle.sock_core.proofs.Advancing.{room_for}
 use Rattle.sock_core.proofs.Stepping.{written, makes_along, goes, message_put, next_along}

@@ -2,7 +2,7 @@ use Rattle.std.proofs.Common.{◌≢◌, sym, subst, ⊎_elim}
 use Rattle.sock_io.specs.declared.link.Ready.TheVariants as asks
 use Rattle.seat_points.specs.declared.point.Step.{Step}
 use Rattle.seat_points.specs.declared.point.Step.TheVariants as firsts
-use Rattle.sock_core.specs.Seats.{seat_data}
+use Rattle.client_seats.specs.Seats.{seat_data}
 use Rattle.sock_core.specs.Steps.{IsNext}
 use Rattle.sock_core.proofs.Advancing.{only_calls}
 use Rattle.sock_core.proofs.Tellings.{call_moved, call_waited, letter_moved, message_moved, link_moved, home_moved, put_moved, ready_moved, ready_waited}

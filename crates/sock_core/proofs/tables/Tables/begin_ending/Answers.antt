@@ -3,7 +3,7 @@ use Rattle.std.proofs.lemmas.List.{map-set}
 use Rattle.sock_programs.specs.Clients.{ending_of}
 use Rattle.sock_programs.specs.Cores.{next_step}
 use Rattle.sock_programs.specs.Scripts.{sizes_of}
-use Rattle.sock_core.specs.Seats.{seat_data}
+use Rattle.client_seats.specs.Seats.{seat_data}
 use Rattle.sock_core.proofs.Endings.{began_along}
 use Rattle.sock_core.proofs.tables.Tables.begin_ending.Goals as goal
 

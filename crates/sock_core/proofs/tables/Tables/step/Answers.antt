@@ -1,6 +1,6 @@
 use Rattle.std.proofs.Common.{refl, arith, rules, ap, ◌∙◌, subst, sym, inl, List}
-use Rattle.sock_core.specs.declared.seat.Seat.{Seat}
-use Rattle.sock_core.specs.Seats.{SeatData}
+use Rattle.client_seats.specs.declared.seat.Seat.{Seat}
+use Rattle.client_seats.specs.Seats.{SeatData}
 use Rattle.sock_core.specs.Steps.{StepFits}
 use Rattle.sock_core.proofs.Places.{view_of, data_is, seat_within, next_here, fits_here, told_here, with_room, next_in, told_along}
 use Rattle.sock_core.proofs.tables.Tables.step.Goals as goal

@@ -1,0 +1,5 @@
+pub mod Begun
+pub mod HeldLives
+pub mod GoingOn
+pub mod Follows
+pub mod Prepared

@@ -1,0 +1,124 @@
+-- A seat that has in hand what its step needs.
+use Rattle.std.proofs.Common.{◌≡◌, refl, sym, ap, ap₂, ◌∙◌, subst, ℕ, List, [], Option, Some, None}
+use Rattle.sock_message.specs.Asked.{Asked, frame_of, parts_of, name_of}
+use Rattle.sock_words.specs.declared.socket_id.SocketId.{SocketId}
+use Rattle.sock_programs.specs.declared.task.Sizes.{Sizes}
+use Rattle.sock_programs.specs.Programs.{Program}
+use Rattle.sock_programs.specs.Posts.{decide, decided}
+use Rattle.id_points.specs.declared.call_id.CallId.{CallId}
+use Rattle.id_points.specs.declared.call_id.AttemptNumber.{AttemptNumber}
+use Rattle.id_points.specs.Ids.{id_of, number_of}
+use Rattle.call_points.specs.Steps.{after_call}
+use Rattle.call_points.specs.declared.deciding.DecideStep.TheVariants as decides
+use Rattle.seat_points.specs.declared.point.After.{After}
+use Rattle.seat_points.specs.declared.point.After.TheVariants as afters
+use Rattle.seat_points.specs.declared.point.CallStep.TheVariants as begins
+use Rattle.seat_points.specs.declared.point.Retrying.{Retrying}
+use Rattle.seat_points.specs.declared.point.RetryStep.{RetryStep}
+use Rattle.seat_points.specs.declared.point.RetryStep.TheVariants as retries
+use Rattle.seat_points.specs.declared.point.Next.{Next}
+use Rattle.seat_points.specs.declared.point.Point.{Point}
+use Rattle.seat_points.specs.declared.point.Point.TheVariants as points
+use Rattle.seat_points.specs.Points.{Around, point_program, next_program, after_program, taken_with, TakesCall, HasInHand, HasRetry, IsFramed}
+use Rattle.client_seats.specs.Seats.{SeatData, around, asked_of, seat_program}
+use Rattle.client_seats.specs.Following.{IsFramedAs, IsPrepared, IsWithFrame}
+
+-- the seat with the frame of an attempt in hand
+abbrev framed_in : ℕ → ℕ → Asked → SeatData → SeatData
+framed_in id n asked old = record old { message = Some (record { bytes = frame_of asked id n; parts = parts_of asked id n }) }
+
+-- the id of a call is told with its first frame in hand
+pub prepared_call : (sizes : Sizes) (old new : SeatData) (id : CallId) (socket : SocketId) (n : ℕ) → old.point ≡ points.Call (begins.StoreCall id socket) → n ≡ 0 → IsFramedAs old new (id_of id) n → IsPrepared sizes old new
+prepared_call sizes old new id socket n at none f = subst (λ (x : SeatData). IsPrepared sizes old x) (sym f.is) (record {
+  program = subst (λ (p : Point). point_program (around sizes with_frame') p ≡ point_program (around sizes old) p) (sym at) refl;
+  waiting = refl;
+  hand = subst (λ (p : Point). HasInHand (around sizes with_frame') p) (sym at) tt;
+  frame = subst (λ (p : Point). IsWithFrame p (around sizes with_frame')) (sym at) (λ k. record (around sizes with_frame') { message = frame_of (asked k) (id_of id) (first k); parts = parts_of (asked k) (id_of id) (first k) });
+  out = refl;
+  ending = refl;
+})
+  where
+    with_frame' : SeatData
+    with_frame' = framed_in (id_of id) n f.asked old
+
+    asked : asked_of old.call ≡ f.asked
+    asked = ap asked_of f.call
+
+    first : 0 ≡ n
+    first = sym none
+
+-- a retry that took its call
+abbrev pub HasCall : RetryStep → Type 0
+HasCall (retries.Lock at) = ⊥
+HasCall (retries.TakeCall w) = ⊥
+HasCall other = Unit {0}
+
+-- has the frame of its attempt in hand
+pub prepared_retry : (sizes : Sizes) (old mid new : SeatData) (r r' : Retrying) (step : RetryStep) → old.point ≡ points.Retry r step → HasCall step → IsFramedAs old mid (id_of r.attempt.id) (number_of r.attempt.number) →
+    r'.attempt.id ≡ r.attempt.id → r'.attempt.number ≡ r.attempt.number → r'.attempt.operation ≡ (asked_of mid.call).operation → r'.name ≡ name_of (asked_of mid.call) (number_of r.attempt.number) → new ≡ record mid { point = points.Retry r' step } → IsPrepared sizes old new
+prepared_retry sizes old mid new r r' step at took f ids numbers operation name is = subst (λ (x : SeatData). IsPrepared sizes old x) (sym (is ∙ ap (λ (x : SeatData). record x { point = points.Retry r' step }) f.is)) (record {
+  program = same step took ∙ ap (point_program (around sizes old)) (sym at);
+  waiting = refl;
+  hand = has step took;
+  frame = refl;
+  out = refl;
+  ending = refl;
+})
+  where
+    seat : SeatData
+    seat = record (framed_in (id_of r.attempt.id) (number_of r.attempt.number) f.asked old) { point = points.Retry r' step }
+
+    asked : asked_of old.call ≡ f.asked
+    asked = ap asked_of f.call
+
+    own : asked_of mid.call ≡ asked_of old.call
+    own = ap (λ (x : SeatData). asked_of x.call) f.is
+
+    same : (s : RetryStep) → HasCall s → point_program (around sizes seat) (points.Retry r' s) ≡ point_program (around sizes old) (points.Retry r s)
+    same (retries.PutCall w) k = ap₂ (λ (i : CallId) (n : AttemptNumber). point_program (around sizes old) (points.Retry (record { attempt = record { operation = 0; id = i; number = n }; name = 0 }) (retries.PutCall w))) ids numbers
+    same (retries.Unlock w advance) k = ap₂ (λ (i : CallId) (n : AttemptNumber). point_program (around sizes old) (points.Retry (record { attempt = record { operation = 0; id = i; number = n }; name = 0 }) (retries.Unlock w advance))) ids numbers
+    same retries.LoadName k = ap₂ (λ (i : CallId) (n : AttemptNumber). point_program (around sizes old) (points.Retry (record { attempt = record { operation = 0; id = i; number = n }; name = 0 }) retries.LoadName)) ids numbers
+    same (retries.Lock l) k = absurd k
+    same (retries.TakeCall w) k = absurd k
+
+    framed : IsFramed (around sizes seat) r'.attempt
+    framed = record {
+      operation = operation ∙ ap (λ (x : Asked). x.operation) own;
+      message = λ k. frame_of (sym asked k) (id_of (sym ids k)) (number_of (sym numbers k));
+      parts = λ k. parts_of (sym asked k) (id_of (sym ids k)) (number_of (sym numbers k));
+    }
+
+    named : r'.name ≡ name_of (asked_of old.call) (number_of r'.attempt.number)
+    named = name ∙ ap₂ (λ (x : Asked) (n : AttemptNumber). name_of x (number_of n)) own (sym numbers)
+
+    has : (s : RetryStep) → HasCall s → HasRetry (around sizes seat) r' s
+    has (retries.PutCall w) k = (framed, named)
+    has (retries.Unlock w advance) k = (framed, named)
+    has retries.LoadName k = (framed, named)
+    has (retries.Lock l) k = absurd k
+    has (retries.TakeCall w) k = absurd k
+
+-- ## A call that came into its hand
+
+-- what was decided doesn't hang on what is in hand
+after_same : (a : Around) (bytes parts : List ℕ) (after : After) → after_program (record a { message = bytes; parts = parts }) after ≡ after_program a after
+after_same a bytes parts (afters.Attempt None) = refl
+after_same a bytes parts (afters.Attempt (Some i)) = refl
+after_same a bytes parts (afters.Expire o) = refl
+after_same a bytes parts (afters.Drop w None) = refl
+after_same a bytes parts (afters.Drop w (Some next)) = refl
+
+-- no retry
+abbrev pub IsNoRetry : Point → Type 0
+IsNoRetry (points.Retry r at) = ⊥
+IsNoRetry other = Unit {0}
+
+-- whoever decides goes on with the call
+pub takes_on : (sizes : Sizes) (old : SeatData) (asked : Asked) (next : Next) (p : Point) → old.point ≡ p → TakesCall p → IsNoRetry p → ((a : Around) → next_program (taken_with p asked a) next ≡ after_call (point_program a p) asked) →
+    next_program (around sizes (record old { message = None; call = Some asked })) next ≡ after_call (seat_program sizes old) asked
+takes_on sizes old asked next (points.Decide c after (decides.Take w)) at takes no h =
+    h (record (around sizes old) { message = []; parts = [] })
+    ∙ ap (λ (program : Program). after_call (decide (id_of c.id) w.0 c.error.0 (decided (id_of c.id) program)) asked) (after_same (around sizes old) [] [] after)
+    ∙ ap (λ (p : Point). after_call (point_program (around sizes old) p) asked) (sym at)
+takes_on sizes old asked next (points.Retry r step) at takes no h = absurd no
+takes_on sizes old asked next _ at takes no h = absurd takes

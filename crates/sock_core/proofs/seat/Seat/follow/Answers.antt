@@ -1,4 +1,0 @@
-use Rattle.sock_core.proofs.seat.Seat.follow.Goals as goal
-
-pub returns-in-Ended-clause-program : goal.returns-in-Ended-clause-program
-returns-in-Ended-clause-program c = rw c.in-Ended.is (c.end_next.ensures.program c.args.sizes)

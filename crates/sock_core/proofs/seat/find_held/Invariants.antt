@@ -1,8 +1,0 @@
-use Rattle.std.proofs.Common.{◌≡◌, drop}
-use Rattle.sock_programs.specs.Clients.{held_under}
-use Rattle.sock_core.specs.Seats.{lives}
-use Rattle.sock_core.proofs.seat.find_held.Given as goal
-
--- it isn't among those that were looked at
-abbrev pub invariant-loop-life : goal.invariant-loop-life
-invariant-loop-life l = held_under l.name (lives (drop l.life-index l.held)) ≡ held_under l.name (lives l.held)

@@ -1,7 +1,0 @@
-use Rattle.std.proofs.Common.{◌∙◌, ap}
-use Rattle.sock_core.specs.Seats.{lives}
-use Rattle.sock_core.proofs.HeldLives.{lives_without}
-use Rattle.sock_core.proofs.seat.take_held.Goals as goal
-
-pub returns-clause-rest : goal.returns-clause-rest
-returns-clause-rest c = ap lives c.drop_held.ensures.rest ∙ lives_without c.args.name c.args.held.now.items

@@ -1,0 +1,129 @@
+ghost use Rattle.std.specs.Prelude.{◌≡◌, ◌≤◌, ◌+◌, IfOk, OnErr, length};
+ghost use Rattle.sock_core.specs.Steps.{IsSized, IsOnWord};
+ghost use Rattle.sock_core.specs.Reading.{IsNextRead, FitsRead, ReadTold};
+
+use crate::machine::{On, Tick};
+use crate::table::Table;
+use crate::waiting::awaited_by_reader;
+use crate::words::{end_link, pass_link, step_word};
+use call_points::Aside;
+use reader_points::ReadStep;
+use reader_seats::ReaderSeat;
+use seat_points::Call;
+use sock_io::{In, Linker, NoMemory, Out, Peer, Take};
+use sock_words::Kind;
+
+impl<O: Out, I: In, P: Peer> Table<O, I, P> {
+    /// A reader's step on a word, or its move of a link; what its tick answers.
+    fn read_call(
+        &mut self,
+        reader: &mut ReaderSeat,
+        seat: u16,
+        call: Call,
+    ) -> Result<Tick, NoMemory>
+        requires calls { length self.old.calls ≤ 4096 }
+        requires next { IsNextRead self.old reader.old (ReadStep.Call call) }
+        requires fits { FitsRead self.old reader.old (ReadStep.Call call) }
+        requires sized { IsSized self.old }
+        ensures { IfOk result (λ tick. ReadTold self.old self.new seat reader.old reader.new (ReadStep.Call call) tick) }
+    {
+        let point = reader.point();
+        let found = step_word(&self.plan, &mut self.words, call);
+        pass_link(&mut self.holders, seat, call);
+        end_link(&mut self.ends, call);
+        let followed = reader.follow_word(&self.calls, found, &mut self.outcomes);
+        if followed.is_err() {
+            return Err(NoMemory);
+        }
+        Ok(match awaited_by_reader(point, found) {
+            Some(on) => Tick::Waits(on),
+            None => Tick::Moved(call.kind()),
+        })
+    }
+
+    /// A reader's step on the ids that finds a word; what its tick answers.
+    fn read_aside(&mut self, reader: &mut ReaderSeat, step: Aside) -> Result<Tick, NoMemory>
+        requires calls { length self.old.calls ≤ 4096 }
+        requires kind { IsOnWord step }
+        requires next { IsNextRead self.old reader.old (ReadStep.Aside step) }
+        requires fits { FitsRead self.old reader.old (ReadStep.Aside step) }
+        ensures { IfOk result (λ tick. (seat : ℕ) → ReadTold self.old self.new seat reader.old reader.new (ReadStep.Aside step) tick) }
+    {
+        let point = reader.point();
+        let found = self.ids.step(step);
+        let followed = reader.follow_word(&self.calls, found, &mut self.outcomes);
+        if followed.is_err() {
+            return Err(NoMemory);
+        }
+        Ok(match awaited_by_reader(point, found) {
+            Some(on) => Tick::Waits(on),
+            None => Tick::Moved(step.kind()),
+        })
+    }
+
+    /// A reader takes bytes of a link, at most so many, once what the other end was given is settled; what its tick answers.
+    fn read_bytes<L: Linker<O = O, I = I, P = P>>(
+        &mut self,
+        links: &mut L,
+        reader: &mut ReaderSeat,
+        link: u16,
+        count: u32,
+    ) -> Result<Tick, NoMemory>
+        requires calls { length self.old.calls ≤ 4096 }
+        requires next { IsNextRead self.old reader.old (ReadStep.Aside (Aside.TakeBytes link count)) }
+        requires fits { FitsRead self.old reader.old (ReadStep.Aside (Aside.TakeBytes link count)) }
+        requires sized { IsSized self.old }
+        ensures { IfOk result (λ tick. (seat : ℕ) → ReadTold self.old self.new seat reader.old reader.new (ReadStep.Aside (Aside.TakeBytes link count)) tick) }
+    {
+        let ends = &mut self.ends[usize::from(link)];
+        links.settle(ends)?;
+        let room = &mut self.room[..count as usize];
+        let answer = ends.inn.take(room);
+        let followed = reader.follow_take(
+            &mut self.pool,
+            &self.calls,
+            room,
+            answer,
+            self.ending,
+            &mut self.outcomes,
+        );
+        if followed.is_err() {
+            return Err(NoMemory);
+        }
+        Ok(match answer {
+            Take::Empty if !self.ending => Tick::Waits(On::In(link)),
+            _ => Tick::Moved(Kind::R1),
+        })
+    }
+
+    /// The next step of a reader; what its tick answers.
+    pub fn read<L: Linker<O = O, I = I, P = P>>(
+        &mut self,
+        links: &mut L,
+        reader: &mut ReaderSeat,
+        seat: u16,
+        step: ReadStep,
+    ) -> Result<Tick, NoMemory>
+        requires calls { length self.old.calls ≤ 4096 }
+        requires next { IsNextRead self.old reader.old step }
+        requires fits { FitsRead self.old reader.old step }
+        requires sized { IsSized self.old }
+        ensures { IfOk result (λ tick. ReadTold self.old self.new seat reader.old reader.new step tick) }
+    {
+        match step {
+            ReadStep::Call(call) => self.read_call(reader, seat, call),
+            ReadStep::Aside(Aside::TakeBytes(link, count)) => {
+                self.read_bytes(links, reader, link, count)
+            }
+            ReadStep::Aside(Aside::TakeCall(slot)) => {
+                // The call lies there.
+                let Some(call) = self.ids.take_call(slot) else {
+                    return Err(NoMemory);
+                };
+                reader.follow_call(call);
+                Ok(Tick::Moved(Kind::K2))
+            }
+            ReadStep::Aside(step) => self.read_aside(reader, step),
+        }
+    }
+}
