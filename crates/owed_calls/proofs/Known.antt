@@ -23,7 +23,7 @@ use Rattle.sock_programs.specs.Cores.{Core, SeatState, resolved, next_step, wait
 use Rattle.sock_programs.specs.Ticks.{Unasked, Moment, quiet, ticked, run, IsPrompt, waits}
 use Rattle.sock_programs.specs.Runs as runs
 use Rattle.sock_programs.specs.Runs.{kind_in}
-use Rattle.sock_programs.specs.Scripts.{sizes_of, programs, readers_from, all_programs, all_tasks, opened, ending, is_ending, set_up, played, IsRunWithCalls}
+use Rattle.sock_programs.specs.Scripts.{ticks_of, sizes_of, programs, readers_from, all_programs, all_tasks, opened, ending, is_ending, set_up, played, IsRunWithCalls}
 use Rattle.sock_runs.specs.Sound.{AllRest, views_along}
 use Rattle.sock_runs.proofs.LinkTicks.{RetriesGo}
 use Rattle.sock_runs.proofs.Along.{seat_rests, place_inside}
@@ -181,13 +181,13 @@ module _ (script : List Item) (made : AreMade script) (turns : List Turn) (core 
   flag = ap (λ (d : Core). d.calls.ending) is.is_end ∙ run_ending (plan_of script) is.ended is.final ∙ ap (λ (d : Core). d.calls.ending) is.is_ended
 
   abbrev before_last : Core
-  before_last = let s = is.settles_again in run (plan_of script) is.ended s.moved
+  before_last = let s = is.settles_again in run (plan_of script) is.ended (ticks_of s.moving)
 
   core_still : core ≡ before_last
-  core_still = let s = is.settles_again in is.is_end ∙ ap (run (plan_of script) is.ended) s.all ∙ run_parts (plan_of script) is.ended s.moved s.last ∙ all_still (plan_of script) before_last s.last s.still
+  core_still = let s = is.settles_again in is.is_end ∙ ap (run (plan_of script) is.ended) s.all ∙ run_parts (plan_of script) is.ended (ticks_of s.moving) s.last ∙ all_still (plan_of script) before_last s.last s.still
 
   prompt_last : AllByRecursion IsPrompt (let s = is.settles_again in s.last)
-  prompt_last = let s = is.settles_again in second_part IsPrompt s.moved s.last (subst (AllByRecursion IsPrompt) s.all (second_part IsPrompt (is.scheduled ++ is.later) is.final is.prompt))
+  prompt_last = let s = is.settles_again in second_part IsPrompt (ticks_of s.moving) s.last (subst (AllByRecursion IsPrompt) s.all (second_part IsPrompt (is.scheduled ++ is.later) is.final is.prompt))
 
   many : length core.seats ≡ 32 + length (link_names script)
   many = ap (λ (d : Core). length d.seats) is.is_end ∙ run_seats (plan_of script) is.ended is.final ∙ ap (λ (d : Core). length d.seats) is.is_ended ∙ run_seats (plan_of script) (ending script (played script is.setup (is.scheduled ++ is.later))) (replicate is.last (quiet 0))
