@@ -1,4 +1,5 @@
--- The programs on calls: a call with its first attempt, a retry, `expire`, `join`.
+-- The programs on calls: a call with its first attempt, a retry, `expire`, `join` (bRPC's bthread_id.md: `bthread_id_create_ranged`,
+-- `bthread_id_join`; baidu_std.md for the frame).
 use Rattle.std.specs.Prelude.{ℕ, zero, suc, ◌+◌, ◌-◌, ◌*◌, ◌/◌, ◌%◌, ◌==◌, List, None, false, if◌then◌else◌}
 use Rattle.sock_words.specs.Words.{socket_id_version, socket_id_slot, vref_version, at_word}
 use Rattle.sock_words.specs.declared.outcome.Outcome.{Outcome}

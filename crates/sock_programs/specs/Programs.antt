@@ -51,7 +51,8 @@ LAST_GENERATION = 140737488355327
 -- ## Parts that operations share
 
 -- whoever took the number of references to 0 at an odd version tries one exchange from that word; who wins ends the
--- link's writing half, and frees the slot unless its versions are used up. What follows is told whether it won.
+-- link's writing half, and frees the slot unless its versions are used up. What follows is told whether it won (bRPC's versioned_ref_with_id.h,
+-- `Dereference`; memory_management.md).
 abbrev pub recycle : ℕ → ℕ → (Bool → Program) → Program
 recycle i from next = Do (Recycle i from) (λ found.
     if found == from then
@@ -65,7 +66,7 @@ release i next = Do (SubRef i) (λ found.
     if (vref_version found % 2 == 1) && (vref_nref found == 1) then recycle i (found - 1) next
     else next false)
 
--- a reference to the life of this id, or what follows by the word of another version, which got its 1 back
+-- a reference to the life of this id, or what follows by the word of another version, which got its 1 back (versioned_ref_with_id.h, `Address`)
 abbrev pub address : ℕ → Program → (ℕ → Program) → Program
 address id held gone = Do (AddRef id) (λ found.
     if vref_version found == socket_id_version id then held else release (socket_id_slot id) (λ _. gone found))
@@ -76,7 +77,7 @@ reach name unopened held gone = Do (LoadName name) (λ word.
     if word == 0 then unopened else address (word - 1) (held (word - 1)) gone)
 
 -- a held life is set failed with a code: the first one that does so stores the code and takes back the reference that
--- creation made. What follows is told the word that was found.
+-- creation made. What follows is told the word that was found (socket.cpp, `SetFailed`; versioned_ref_with_id.h).
 abbrev pub set_failed : ℕ → ℕ → (ℕ → Program) → Program
 set_failed id code next = let i = socket_id_slot id in Do (SetOdd i) (λ found.
     if vref_version found % 2 == 0 then Do (StoreCode i (socket_id_version id) code) (λ _. Do (SubRef i) (λ _. next found)) else next found)
@@ -87,7 +88,7 @@ set_failed id code next = let i = socket_id_slot id in Do (SetOdd i) (λ found.
 abbrev pub no_socket : ℕ → ℕ → Program → Program
 no_socket o k next = Do (TakeLink k) (λ _. Do (FinishLink k) (λ _. Do (PutLink k) (λ _. Do (StoreOpen o NO_SOCKET) (λ _. Say o SlotsFull next))))
 
--- a claimed slot becomes a socket with link k
+-- a claimed slot becomes a socket with link k (versioned_ref_with_id.h, `Create`)
 abbrev pub make_socket : ℕ → ℕ → ℕ → ℕ → Program → Program
 make_socket o name k i next = Do (StoreLink i k) (λ _. Do (ResetHead i k) (λ _. Do (WipeCode i k) (λ _. Do (GiveBirth i k) (λ found.
     let word = socket_id (vref_version found) i + 1 in

@@ -1,4 +1,4 @@
--- The program of the reader of a link.
+-- The program of the reader of a link (bRPC's baidu_std.md for frames and correlation ids, bthread_id.md for who ends a call).
 use Rattle.std.specs.Prelude.{ℕ, ◌+◌, ◌-◌, ◌==◌, ◌&&◌, Bool, true, false, List, [], ◌∷◌, ◌++◌, length, drop, filter, nat_lt, nat_le, min, if◌then◌else◌, ℤ, pos, zero, Option, Some, None}
 use Rattle.sock_words.specs.Words.{socket_id_slot, at_word_first, at_word_slot, at_word_link, at_word_attempt}
 use Rattle.sock_words.specs.declared.outcome.Outcome.{Outcome}

@@ -60,7 +60,8 @@ ready_answered h now heading left taken after asks.Now = Write (Puts h now headi
 ready_answered h now heading left taken after asks.NotYet = Write (Waits h now heading left taken) after
 ready_answered h now heading left taken after asks.Failed = link_failed h (Write (Puts h now heading left taken false) after)
 
--- one round from the head of a loop. A look comes before each put; what a failed socket still has is dropped.
+-- one round from the head of a loop. A look comes before each put; what a failed socket still has is dropped (bRPC's socket.cpp, `KeepWrite`,
+-- `IsWriteComplete`, `ReleaseAllFailedWriteRequests`; io.md).
 abbrev pub block : Writing → Program → Program
 block (Puts h now heading left taken asked) after = Do (LookWord h.id) (λ found.
     if vref_version found % 2 == 0 then PutBytes h.link asked (part heading.parts left taken) (put_answered h now heading left taken after)
@@ -76,7 +77,7 @@ block (Walks h top at after) then_ = Do (ReadNext (slot_of at)) (λ found.
 
 -- ## Sending
 
--- the first look and the one put behind it; where the socket was found failed, the loop begins with a look of its own
+-- the first look and the one put behind it (socket.cpp, `StartWrite`: the caller writes once in place); where the socket was found failed, the loop begins with a look of its own
 abbrev pub first_put : Holder → ℕ → Heading → List ℕ → Program → Program
 first_put h now heading bytes after = Do (LookWord h.id) (λ found.
     if vref_version found % 2 == 0 then PutBytes h.link false (part heading.parts bytes 0) (put_answered h now heading bytes 0 after)
@@ -91,7 +92,7 @@ write_link id q own after = Do (FindLink (socket_id_slot id) (socket_id_version 
 abbrev pub heading_of : ℕ → Heading
 heading_of o = record { client = 0; operation = o; attempt = 0; place = 8 * o; owner = 0; parts = [] }
 
--- the message is accepted with request q, whose generation is g
+-- the message is accepted with request q, whose generation is g: the head is exchanged (socket.cpp, `StartWrite`)
 abbrev pub accept : ℕ → ℕ → ℕ → Heading → List ℕ → Program → Program
 accept id q g heading bytes after = let own = ticket_of q g in Do (PutMessage q heading bytes) (λ _. Do (Unconnect q) (λ _. Do (SwapHead (socket_id_slot id) own) (λ found.
     if nat_lt found IDLE then Do (Connect q found) (λ _. after) else write_link id q own after)))

@@ -1,4 +1,4 @@
--- Where whoever writes a link stands in its loops.
+-- Where whoever writes a link stands in its loops (bRPC's socket.cpp, `KeepWrite`).
 use Rattle.std.specs.Prelude.{ℕ, Bool, List}
 use Rattle.sock_model.specs.declared.chain.Heading.{Heading}
 
