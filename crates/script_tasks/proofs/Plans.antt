@@ -49,14 +49,14 @@ numbers_count : (number : ℕ) (items : List Item) → length (numbers_along is_
 numbers_count number [] = refl
 numbers_count number (item ∷ items) =
     let own : count_by is_call (item ∷ items) ≡ cond {A = ℕ} (is_call item) 1 0 + count_by is_call items = sum_by-cons (λ (x : Item). cond (is_call x) 1 0) item items in
-    by (is_operation item) (is_call item) (call_is_operation item) ∙ sym own
+    by (is_operation item) (is_call item) (call_is_operation item) (numbers_count (number + 1) items) (numbers_count number items) ∙ sym own
   where
-    by : (o k : Bool) → (k ≡ true → o ≡ true) →
+    by : (o k : Bool) → (k ≡ true → o ≡ true) → length (numbers_along is_call (number + 1) items) ≡ count_by is_call items → length (numbers_along is_call number items) ≡ count_by is_call items →
         length (if o then (if k then number ∷ numbers_along is_call (number + 1) items else numbers_along is_call (number + 1) items) else numbers_along is_call number items) ≡ cond {A = ℕ} k 1 0 + count_by is_call items
-    by true true h = omega (arith, numbers_count (number + 1) items)
-    by true false h = omega (arith, numbers_count (number + 1) items)
-    by false false h = omega (arith, numbers_count number items)
-    by false true h = let e : false ≡ true = h refl in absurd (cc)
+    by true true h next same = omega (arith, next)
+    by true false h next same = omega (arith, next)
+    by false false h next same = omega (arith, same)
+    by false true h next same = let e : false ≡ true = h refl in absurd (cc)
 
 pub call_count : (script : List Item) → length (calls script) ≡ count_by is_call script
 call_count script = ap length (sym (calls_are script)) ∙ numbers_count 0 script

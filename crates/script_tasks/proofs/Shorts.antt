@@ -1,5 +1,5 @@
 -- The calls of a script that was read keep the limits of calls.
-use Rattle.std.proofs.Common.{◌≡◌, ℕ, ◌≤◌, List, [], ◌∷◌, length, map, arith}
+use Rattle.std.proofs.Common.{◌≡◌, ℕ, List, [], ◌∷◌, length, map, arith}
 use Rattle.std.proofs.lemmas.List.{length-map}
 use Rattle.std.specs.List.{AllByRecursion}
 use Rattle.brpc_model.specs.Items.{Item, Slots, Requests, First, Client, Open, Send, Call, Expire, Join, Fail, Hold, Drop, Sched, Tick, To, CallLine}

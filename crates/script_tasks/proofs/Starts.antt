@@ -1,7 +1,6 @@
 -- Which operation of the script `C.I` is, by where each client's operations begin.
-use Rattle.std.proofs.Common.{◌≡◌, ◌≢◌, ℕ, zero, suc, ◌+◌, ◌-◌, ◌<◌, ◌≤◌, ◌==◌, ◌&&◌, Bool, true, false, cond, if◌then◌else◌, List, [], ◌∷◌, length, get_or, ◌⊎◌, inl, inr, refl, ap, sym, ◌∙◌, arith}
+use Rattle.std.proofs.Common.{◌≡◌, ◌≢◌, ℕ, zero, suc, ◌+◌, ◌-◌, ◌<◌, ◌≤◌, ◌==◌, ◌&&◌, true, false, cond, if◌then◌else◌, List, [], ◌∷◌, length, get_or, ◌⊎◌, inl, inr, refl, ap, sym, subst, ◌∙◌, arith}
 use Rattle.std.proofs.lemmas.Bool.Decides.{nat_tests}
-use Rattle.std.specs.Prelude.{nat_le, nat_lt}
 use Rattle.brpc_model.specs.Items.{Item, Slots, Requests, First, Client, Sched, Tick, To, is_open}
 use Rattle.brpc_model.specs.Operations.{Operation, operations_from}
 use Rattle.sock_programs.specs.Tasks.{Numbered, numbered_from, numbered, number_of}
@@ -111,10 +110,13 @@ found_is c k number link (item ∷ items) d i =
     (own_operation c k number link item items i (λ e. found_is c (k + 1) (number + 1) (if is_open item then link + 1 else link) items e i) d)
     (found_is c k number link items d i)
 
-pub knows_all : (script : List Item) → Knows (0 ∷ ends_along 0 script) (numbered script)
+knows_all : (script : List Item) → Knows (0 ∷ ends_along 0 script) (numbered script)
 knows_all script client i =
     let same : client ≡ 0 + client = omega arith in
     ap (λ n. number_of (numbered script) n i) same ∙ found_is 0 1 0 0 script client i ∙ found_first 0 (ends_along 0 script) client i
+
+pub known_by : {starts : List ℕ} (script : List Item) → starts ≡ 0 ∷ ends_along 0 script → Knows starts (numbered script)
+known_by script e = subst (λ starts. Knows starts (numbered script)) (sym e) (knows_all script)
 
 -- ## The starts as a table
 

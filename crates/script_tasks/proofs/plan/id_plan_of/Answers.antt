@@ -17,3 +17,6 @@ pub returns : goal.returns
 returns c =
     let script = map item c.args.lines.now in
     id_plan_is script (c.call_count.ensures ∙ sym (call_count script)) (c.operation_count.ensures ∙ sym (operation_count 0 1 script)) (ap (λ n. 32 + n) (c.link_count.ensures ∙ sym (link_count script)))
+
+pub overflow_add-result : goal.overflow_add-result
+overflow_add-result c = omega (arith, c.link_count.ensures, link_count (map item c.args.lines.now), c.requires.links)

@@ -1,11 +1,11 @@
-use Rattle.std.proofs.Common.{◌+◌, map, drop, [], ◌∷◌, ◌++◌, if◌then◌else◌, arith, ap, sym, ◌∙◌, subst}
+use Rattle.std.proofs.Common.{◌+◌, map, drop, [], ◌∷◌, ◌++◌, if◌then◌else◌, arith, ap, sym, ◌∙◌}
 use Rattle.std.proofs.lemmas.List.{map-append}
 use Rattle.sock_programs.specs.Scripts.{all_tasks}
 use Rattle.script_items.specs.Meaning.{item}
 use Rattle.sock_programs.specs.Tasks.{numbered}
-use Rattle.script_tasks.specs.Along.{Knows, task_at, tasks_along}
+use Rattle.script_tasks.specs.Along.{task_at, tasks_along}
 use Rattle.script_tasks.proofs.NameSteps.{line_step}
-use Rattle.script_tasks.proofs.Starts.{knows_all}
+use Rattle.script_tasks.proofs.Starts.{known_by}
 use Rattle.script_tasks.proofs.Alongs.{to_items, sofar_same, sofar_client, sofar_operation, sofar_other, tasks_are, left_is}
 use Rattle.script_tasks.proofs.tasks.tasks_of.Goals as goal
 use Rattle.script_tasks.proofs.tasks.tasks_of.Goals.{then-is_client+in_ok-push, else-is_client+then-is_operation+in_ok-push_task+then-is_open, else-is_client+then-is_operation+in_ok-push_task+else-is_open, else-is_client+else-is_operation}
@@ -41,12 +41,12 @@ loop-line-preserved c =
       | else-is_client+then-is_operation+in_ok-push_task+then-is_open w ↦
           let open_ = sym w.is_open.ensures ∙ w.if-is_open.true in
           sofar_same (ap (λ v. map (λ q. q.items) v.items) w.clients-is) w.number-is (w.link-is ∙ sym (ap (λ b. if b then l.link + 1 else l.link) open_))
-          (ap (λ q. q.items) w.tasks-is ∙ w.in_ok-push_task.ensures all (subst (λ starts. Knows starts all) (sym (w.deref-2.ensures.value ∙ c.in_ok-starts.ensures)) (knows_all (map item lines))) ∙ ap (λ known. own ++ task_at all (map (λ n. n.now) known) l.number l.link here) w.deref.ensures.value)
+          (ap (λ q. q.items) w.tasks-is ∙ w.in_ok-push_task.ensures all (known_by (map item lines) (w.deref-then-is_operation.ensures.value ∙ c.in_ok-starts.ensures)) ∙ ap (λ known. own ++ task_at all (map (λ n. n.now) known) l.number l.link here) w.deref.ensures.value)
           (sofar_operation whole done all ns l.number l.link own here rest old (sym c.is_client.ensures ∙ w.if-is_client.false) (sym w.is_operation.ensures ∙ w.if-is_operation.true))
       | else-is_client+then-is_operation+in_ok-push_task+else-is_open w ↦
           let open_ = sym w.is_open.ensures ∙ w.if-is_open.false in
           sofar_same (ap (λ v. map (λ q. q.items) v.items) w.clients-is) w.number-is (w.link-is ∙ sym (ap (λ b. if b then l.link + 1 else l.link) open_))
-          (ap (λ q. q.items) w.tasks-is ∙ w.in_ok-push_task.ensures all (subst (λ starts. Knows starts all) (sym (w.deref-2.ensures.value ∙ c.in_ok-starts.ensures)) (knows_all (map item lines))) ∙ ap (λ known. own ++ task_at all (map (λ n. n.now) known) l.number l.link here) w.deref.ensures.value)
+          (ap (λ q. q.items) w.tasks-is ∙ w.in_ok-push_task.ensures all (known_by (map item lines) (w.deref-then-is_operation.ensures.value ∙ c.in_ok-starts.ensures)) ∙ ap (λ known. own ++ task_at all (map (λ n. n.now) known) l.number l.link here) w.deref.ensures.value)
           (sofar_operation whole done all ns l.number l.link own here rest old (sym c.is_client.ensures ∙ w.if-is_client.false) (sym w.is_operation.ensures ∙ w.if-is_operation.true))
       | else-is_client+else-is_operation w ↦
           sofar_same (ap (λ v. map (λ q. q.items) v.items) w.clients-is) w.number-is w.link-is (ap (λ q. q.items) w.tasks-is)
