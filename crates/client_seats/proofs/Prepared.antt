@@ -20,7 +20,7 @@ use Rattle.seat_points.specs.declared.point.RetryStep.TheVariants as retries
 use Rattle.seat_points.specs.declared.point.Next.{Next}
 use Rattle.seat_points.specs.declared.point.Point.{Point}
 use Rattle.seat_points.specs.declared.point.Point.TheVariants as points
-use Rattle.seat_points.specs.Points.{Around, point_program, next_program, after_program, taken_with, TakesCall, HasInHand, HasRetry, IsFramed}
+use Rattle.seat_points.specs.Points.{Around, point_program, next_program, after_program, taken_with, IsNextName, TakesCall, HasInHand, HasRetry, IsFramed}
 use Rattle.client_seats.specs.Seats.{SeatData, around, asked_of, seat_program}
 use Rattle.client_seats.specs.Following.{IsFramedAs, IsPrepared, IsWithFrame}
 
@@ -112,12 +112,15 @@ after_same a bytes parts (afters.Drop w (Some next)) = refl
 -- a retry goes on with its call, and has its message
 pub retries_with : (sizes : Sizes) (old new : SeatData) (asked asked' : Asked) (next : Next) (r : Retrying) (step : RetryStep) → old.point ≡ points.Retry r step → asked' ≡ asked →
     new ≡ record old { message = Some (record { bytes = frame_of asked' (id_of r.attempt.id) (number_of r.attempt.number); parts = parts_of asked' (id_of r.attempt.id) (number_of r.attempt.number) }); call = Some asked' } →
-    ((a : Around) → next_program (taken_with (points.Retry r step) asked a) next ≡ after_call (point_program a (points.Retry r step)) asked) → next_program (around sizes new) next ≡ after_call (seat_program sizes old) asked
+    ((a : Around) → next_program (taken_with old.point asked a) next ≡ after_call (point_program a old.point) asked) → next_program (around sizes new) next ≡ after_call (seat_program sizes old) asked
 retries_with sizes old new asked asked' next r step at same is h =
     ap (λ (x : SeatData). next_program (around sizes x) next) is
     ∙ ap (λ (x : Asked). next_program (around sizes (record old { message = Some (record { bytes = frame_of x (id_of r.attempt.id) (number_of r.attempt.number); parts = parts_of x (id_of r.attempt.id) (number_of r.attempt.number) }); call = Some x })) next) same
-    ∙ h (around sizes old)
+    ∙ subst (λ (p : Point). next_program (taken_with p asked (around sizes old)) next ≡ after_call (point_program (around sizes old) p) asked) at (h (around sizes old))
     ∙ ap (λ (p : Point). after_call (point_program (around sizes old) p) asked) (sym at)
+
+pub retry_named : (asked : Asked) (p : Point) (r : Retrying) (step : RetryStep) (name : ℕ) → p ≡ points.Retry r step → name ≡ name_of asked (number_of r.attempt.number) → IsNextName asked p name
+retry_named asked p r step name at is = subst (λ (x : Point). IsNextName asked x name) (sym at) is
 
 -- no retry
 abbrev pub IsNoRetry : Point → Type 0
@@ -127,9 +130,17 @@ IsNoRetry other = Unit {0}
 -- whoever decides goes on with the call
 pub takes_on : (sizes : Sizes) (old : SeatData) (asked : Asked) (next : Next) (p : Point) → old.point ≡ p → TakesCall p → IsNoRetry p → ((a : Around) → next_program (taken_with p asked a) next ≡ after_call (point_program a p) asked) →
     next_program (around sizes (record old { message = None; call = Some asked })) next ≡ after_call (seat_program sizes old) asked
-takes_on sizes old asked next (points.Decide c after (decides.Take w)) at takes no h =
+takes_on sizes old asked next (points.Decide c after (decides.Take w)) at takes none h =
     h (record (around sizes old) { message = []; parts = [] })
     ∙ ap (λ (program : Program). after_call (decide (id_of c.id) w.0 c.error.0 (decided (id_of c.id) program)) asked) (after_same (around sizes old) [] [] after)
     ∙ ap (λ (p : Point). after_call (point_program (around sizes old) p) asked) (sym at)
-takes_on sizes old asked next (points.Retry r step) at takes no h = absurd no
-takes_on sizes old asked next _ at takes no h = absurd takes
+takes_on sizes old asked next (points.Retry r step) at takes none h = absurd none
+takes_on sizes old asked next _ at takes none h = absurd takes
+
+pub no_retry : (p : Point) → ((r : Retrying) (step : RetryStep) → p ≡ points.Retry r step → ⊥) → IsNoRetry p
+no_retry (points.Retry r step) none = none r step refl
+no_retry _ none = tt
+
+pub any_name : (asked : Asked) (p : Point) (name : ℕ) → IsNoRetry p → IsNextName asked p name
+any_name asked (points.Retry r step) name none = absurd none
+any_name asked _ name none = tt
