@@ -112,15 +112,12 @@ after_same a bytes parts (afters.Drop w (Some next)) = refl
 -- a retry goes on with its call, and has its message
 pub retries_with : (sizes : Sizes) (old new : SeatData) (asked asked' : Asked) (next : Next) (r : Retrying) (step : RetryStep) → old.point ≡ points.Retry r step → asked' ≡ asked →
     new ≡ record old { message = Some (record { bytes = frame_of asked' (id_of r.attempt.id) (number_of r.attempt.number); parts = parts_of asked' (id_of r.attempt.id) (number_of r.attempt.number) }); call = Some asked' } →
-    ((a : Around) → next_program (taken_with old.point asked a) next ≡ after_call (point_program a old.point) asked) → next_program (around sizes new) next ≡ after_call (seat_program sizes old) asked
+    ((a : Around) → next_program (taken_with (points.Retry r step) asked a) next ≡ after_call (point_program a (points.Retry r step)) asked) → next_program (around sizes new) next ≡ after_call (seat_program sizes old) asked
 retries_with sizes old new asked asked' next r step at same is h =
     ap (λ (x : SeatData). next_program (around sizes x) next) is
     ∙ ap (λ (x : Asked). next_program (around sizes (record old { message = Some (record { bytes = frame_of x (id_of r.attempt.id) (number_of r.attempt.number); parts = parts_of x (id_of r.attempt.id) (number_of r.attempt.number) }); call = Some x })) next) same
-    ∙ subst (λ (p : Point). next_program (taken_with p asked (around sizes old)) next ≡ after_call (point_program (around sizes old) p) asked) at (h (around sizes old))
+    ∙ h (around sizes old)
     ∙ ap (λ (p : Point). after_call (point_program (around sizes old) p) asked) (sym at)
-
-pub retry_named : (asked : Asked) (p : Point) (r : Retrying) (step : RetryStep) (name : ℕ) → p ≡ points.Retry r step → name ≡ name_of asked (number_of r.attempt.number) → IsNextName asked p name
-retry_named asked p r step name at is = subst (λ (x : Point). IsNextName asked x name) (sym at) is
 
 -- no retry
 abbrev pub IsNoRetry : Point → Type 0
