@@ -1,7 +1,10 @@
 -- A step of a client leaves as many of all as there were.
-use Rattle.std.proofs.Common.{◌≡◌, refl, ℕ, List, length, slice_set, Option, Some, None, ap, ◌∙◌}
+use Rattle.std.proofs.Common.{◌≡◌, refl, ℕ, ◌+◌, ◌<◌, ◌≤◌, List, length, slice_set, Option, Some, None, ap, sym, subst, ◌∙◌}
 use Rattle.std.proofs.Math.ListN.{length-set}
+use Rattle.std.specs.List.{AllByRecursion}
+use Rattle.corr_core.specs.declared.marks.Plan as marks
 use Rattle.sock_words.specs.declared.outcome.Outcome.{Outcome}
+use Rattle.sock_words.specs.declared.plain.Plan.{Plan}
 use Rattle.sock_io.specs.Link.{OutState}
 use Rattle.sock_programs.specs.Calls as calls
 use Rattle.sock_programs.specs.Programs.{Program, Say, Sent}
@@ -12,10 +15,11 @@ use Rattle.seat_points.specs.declared.point.Step.TheVariants as firsts
 use Rattle.seat_points.specs.Steps.{First, OfCall, OfAside, OfMessage, OfLink, OfHome}
 use Rattle.seat_points.specs.Steps as kinds
 use Rattle.client_seats.specs.Seats.{SeatData}
+use Rattle.reader_seats.specs.Readers.{ReaderData}
 use Rattle.sock_core.specs.declared.letter.Letter.{Letter}
 use Rattle.sock_core.specs.Links.{LinksData}
-use Rattle.sock_core.specs.Machines.{MachineState, table_of}
-use Rattle.sock_core.specs.Steps.{OutsAfter, LettersAfter, Goes, MadeFirst, holders_after}
+use Rattle.sock_core.specs.Machines.{MachineState, READERS, HasSizes, table_of}
+use Rattle.sock_core.specs.Steps.{OutsAfter, LettersAfter, SameBase, Goes, MadeFirst, holders_after}
 
 pub length_said : (p : Program) (os : List (Option Outcome)) → length (said p os) ≡ length os
 length_said (Say o outcome next) os = length_said next (slice_set os o (Some outcome)) ∙ length-set os o (Some outcome)
@@ -105,3 +109,33 @@ module _ (old fresh : MachineState) (i : ℕ) (place seat' : SeatData) (step : S
     inns = ap length w.2.goes.base.inns;
     outcomes = told_as_many _ w.2.goes;
   }
+
+-- so the tables have the sizes that their plans say
+pub sizes_kept : (old fresh : MachineState) (i : ℕ) (seat' : SeatData) → HasSizes old → AsMany old fresh → SameBase (table_of old) (table_of fresh) → length fresh.ends ≡ length old.ends → fresh.seats ≡ slice_set old.seats i seat' → fresh.readers ≡ old.readers → fresh.opens ≡ old.opens → HasSizes fresh
+sizes_kept old fresh i seat' h many base ends seats readers opens = record {
+  letters_are = many.letters ∙ h.letters_are ∙ sym (ap (λ (p : Plan). p.requests) base.plan);
+  holders_are = many.holders ∙ h.holders_are ∙ links;
+  nexts_are = many.nexts ∙ h.nexts_are ∙ links;
+  outs_are = many.outs ∙ h.outs_are ∙ links;
+  inns_are = many.inns ∙ h.inns_are ∙ links;
+  ends_are = ends ∙ h.ends_are ∙ links;
+  seats_are = same_seats ∙ h.seats_are ∙ sym (ap (λ (p : Plan). p.seats) base.plan);
+  some_seat = subst (λ (n : ℕ). 0 < n) (sym same_seats) h.some_seat;
+  few_seats = subst (λ (n : ℕ). n ≤ READERS) (sym same_seats) h.few_seats;
+  readers_are = ap length readers ∙ h.readers_are ∙ links;
+  few_readers = subst (λ (rs : List ReaderData). length rs ≤ 32) (sym readers) h.few_readers;
+  slots_are = ap length base.calls ∙ h.slots_are ∙ sym (ap (λ (q : marks.Plan). q.slots) base.id_plan);
+  few_slots = subst (λ (q : marks.Plan). q.slots ≤ 4096) (sym base.id_plan) h.few_slots;
+  operations_are = ap (λ (q : marks.Plan). q.operations) base.id_plan ∙ h.operations_are ∙ sym (ap (λ (p : Plan). p.operations) base.plan);
+  calls_are = subst (λ (q : marks.Plan). AllByRecursion (λ o. o < q.operations) fresh.calls) (sym base.id_plan) (subst (λ (os : List ℕ). AllByRecursion (λ o. o < old.ids.plan.operations) os) (sym base.calls) h.calls_are);
+  id_seats_are = ap (λ (q : marks.Plan). q.seats) base.id_plan ∙ h.id_seats_are ∙ ap (λ (rs : List ReaderData). READERS + length rs) (sym readers);
+  opens_are = subst (λ (p : Plan). AllByRecursion (λ o. o < p.operations) fresh.opens) (sym base.plan) (subst (λ (os : List ℕ). AllByRecursion (λ o. o < old.plan.operations) os) (sym opens) h.opens_are);
+  few_opens = subst (λ (os : List ℕ). length os ≤ 32) (sym opens) h.few_opens;
+  few_outcomes = subst (λ (n : ℕ). n ≤ 4096) (sym many.outcomes) h.few_outcomes;
+}
+  where
+    links : old.plan.links ≡ fresh.plan.links
+    links = sym (ap (λ (p : Plan). p.links) base.plan)
+
+    same_seats : length fresh.seats ≡ length old.seats
+    same_seats = ap length seats ∙ length-set old.seats i seat'
