@@ -16,7 +16,6 @@ use Rattle.seat_points.specs.declared.point.Next.TheVariants as nexts
 use Rattle.seat_points.specs.Points.{Around, next_program, after_program}
 use Rattle.client_seats.specs.Seats.{SeatData, around, nothing_asked, seat_program}
 use Rattle.client_seats.specs.Following.{FollowsOn, IsFlat}
-use Rattle.client_seats.proofs.Begun.{at_step}
 
 -- it told an outcome
 pub said_on : (sizes : Sizes) (old new : SeatData) (program : Program) (o : ℕ) (outcome : Outcome) (before told behind : List (Option Outcome)) →

@@ -1,5 +1,5 @@
 -- Where a client goes on: with a retry, with a task, or where it gives back what it holds.
-use Rattle.std.proofs.Common.{◌≡◌, refl, sym, ap, ap₂, ◌∙◌, subst, length, arith, ℕ, true, false, ◌<◌, List, [], ◌∷◌, Option, Some, slice_set, slice_index_or, remove}
+use Rattle.std.proofs.Common.{◌≡◌, refl, sym, ap, ap₂, ◌∙◌, subst, length, arith, true, false, ◌<◌, List, [], ◌∷◌, Option, Some, slice_set, slice_index_or, remove}
 use Rattle.sock_words.specs.declared.outcome.Outcome.{Outcome}
 use Rattle.sock_words.specs.declared.outcome.Outcome.TheVariants.{NotHeld}
 use Rattle.sock_programs.specs.declared.task.Task.{Task}

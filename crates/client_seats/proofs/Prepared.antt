@@ -1,5 +1,5 @@
 -- A seat that has in hand what its step needs.
-use Rattle.std.proofs.Common.{◌≡◌, refl, sym, ap, ap₂, ◌∙◌, subst, ℕ, List, [], Option, Some, None, Result, Ok, Err, IfOk, OnOk}
+use Rattle.std.proofs.Common.{◌≡◌, refl, sym, ap, ap₂, ◌∙◌, subst, ℕ, List, [], Some, None, Result, Ok, Err, IfOk, OnOk}
 use Rattle.sock_message.specs.Asked.{Asked, frame_of, parts_of, name_of}
 use Rattle.sock_words.specs.declared.socket_id.SocketId.{SocketId}
 use Rattle.sock_programs.specs.declared.task.Sizes.{Sizes}

@@ -1,5 +1,4 @@
-use Rattle.std.proofs.Common.{◌≡◌, [], Bool, List, refl, sym, ap, ◌∙◌, arith, if◌then◌else◌, true}
-use Rattle.sock_programs.specs.Programs.{Program}
+use Rattle.std.proofs.Common.{◌≡◌, [], Bool, List, refl, ap, ◌∙◌, arith, if◌then◌else◌, true}
 use Rattle.sock_programs.specs.Clients.{HeldLife, operation, client_from, give_back}
 use Rattle.client_seats.specs.declared.seat.Seat.{Seat}
 use Rattle.seat_points.specs.Points.{point_program}
