@@ -1,5 +1,5 @@
 -- A seat at a point is at a step, and says nothing before it.
-use Rattle.std.proofs.Common.{◌≡◌, refl, sym, ap, ◌∙◌, ℕ, true, false, List, [], ◌∷◌, ◌++◌, Option}
+use Rattle.std.proofs.Common.{◌≡◌, refl, sym, ap, ◌∙◌, ℕ, true, List, Option}
 use Rattle.std.proofs.lemmas.Bool.{true≢false}
 use Rattle.sock_words.specs.declared.outcome.Outcome.{Outcome}
 use Rattle.seat_points.specs.declared.point.OpenStep.TheVariants as opens

@@ -39,6 +39,7 @@ use Rattle.sock_core.specs.Steps.{IsSized, IsNext, NextIs, HasNoStep, OutsAfter,
 use Rattle.sock_core.specs.Telling.{TickTold, Tells, WaitsOn, is_waiting}
 use Rattle.sock_core.specs.Runs.{Ticked, TickedWith, TickIs, WaitsFor}
 use Rattle.sock_core.specs.Driving.{LeavesFewer, LeavesAsMany, Leaves, AsksNone, IsPlain, TickedFirst}
+use Rattle.sock_core.proofs.Lengths.{AsMany, as_many, length_said}
 use Rattle.sock_core.proofs.Answering.{made_links, made_prompt, made_broken, made_told}
 use Rattle.sock_core.proofs.Changes.{seat_at}
 use Rattle.sock_core.proofs.FirstSteps.{same_some}
@@ -55,82 +56,6 @@ is_sized m room is = record { letters_are = is.letters_are; holders_are = is.hol
 
 pub is_paced : (m : MachineState) (room : ℕ) → IsMachine m room → ArePaced m.plan m.links m.seats
 is_paced m room is = ∥∥₁_elim is.paced (paced_prop m) (λ p. p)
-
--- ## Sizes
-
-pub length_said : (p : Program) (os : List (Option Outcome)) → length (said p os) ≡ length os
-length_said (Say o outcome next) os = length_said next (slice_set os o (Some outcome)) ∙ length-set os o (Some outcome)
-length_said (Sent o next) os = length_said next os
-length_said _ os = refl
-
-length_holders : (i : ℕ) (call : calls.Call) (holders : List (Option ℕ)) → length (holders_after i call holders) ≡ length holders
-length_holders i (calls.TakeLink k) holders = length-set holders k (Some i)
-length_holders i (calls.PutLink k) holders = length-set holders k None
-length_holders i _ holders = refl
-
-length_letters : (call : calls.Call) (letters : List (Option Letter)) → length (letters_after call letters) ≡ length letters
-length_letters (calls.PutMessage q heading bytes) letters = length-set letters q (Some (record { operation = heading.operation; message = bytes }))
-length_letters _ letters = refl
-
-length_outs : (call : calls.Call) (old fresh : List OutState) → OutsAfter call old fresh → length fresh ≡ length old
-length_outs (calls.FinishLink k) old fresh o = ap length o.3 ∙ length-set old k o.1
-length_outs _ old fresh o = ap length o
-
--- as many letters, links and outcomes as before
-record AsMany (old fresh : MachineState) : Type 0 where
-  pub letters : length fresh.letters ≡ length old.letters
-  pub holders : length fresh.links.holders ≡ length old.links.holders
-  pub nexts : length fresh.links.nexts ≡ length old.links.nexts
-  pub outs : length fresh.links.outs ≡ length old.links.outs
-  pub outcomes : length fresh.outcomes ≡ length old.outcomes
-
-module _ (old fresh : MachineState) (i : ℕ) (of : Program) (seat' : SeatData) where
-  told_as_many : (next : Program) → Goes (table_of old) (table_of fresh) seat' next → length fresh.outcomes ≡ length old.outcomes
-  told_as_many next goes = ap length goes.told ∙ length_said next old.outcomes
-
-  as_many : (first : First) (answer : Answer) → Made (table_of old) (table_of fresh) i of seat' first answer → AsMany old fresh
-  as_many (OfCall call) answer w = record {
-    letters = ap length w.1.letters ∙ length_letters call old.letters;
-    holders = ap length w.1.holders ∙ length_holders i call old.links.holders;
-    nexts = ap length w.1.nexts;
-    outs = length_outs call old.links.outs fresh.links.outs w.1.outs;
-    outcomes = told_as_many _ w.1.goes;
-  }
-  as_many (OfMessage q) answer w = record {
-    letters = ap length w.1.letters ∙ length-set old.letters q None;
-    holders = ap (λ (l : LinksData). length l.holders) w.1.links;
-    nexts = ap (λ (l : LinksData). length l.nexts) w.1.links;
-    outs = ap (λ (l : LinksData). length l.outs) w.1.links;
-    outcomes = told_as_many _ w.1.goes;
-  }
-  as_many (OfLink k) answer w = record {
-    letters = ap length w.1.letters;
-    holders = ap (λ (l : LinksData). length l.holders) w.1.links ∙ length-set old.links.holders k (Some i);
-    nexts = ap (λ (l : LinksData). length l.nexts) w.1.links;
-    outs = ap (λ (l : LinksData). length l.outs) w.1.links;
-    outcomes = told_as_many _ w.1.goes;
-  }
-  as_many (OfHome k n) answer w = record {
-    letters = ap length w.1.letters;
-    holders = ap (λ (l : LinksData). length l.holders) w.1.links ∙ length-set old.links.holders k None;
-    nexts = ap (λ (l : LinksData). length l.nexts) w.1.links ∙ length-set old.links.nexts k n;
-    outs = ap (λ (l : LinksData). length l.outs) w.1.links;
-    outcomes = told_as_many _ w.1.goes;
-  }
-  as_many (kinds.OfPut k asked bytes) answer w = record {
-    letters = ap length w.2.letters;
-    holders = ap length w.2.holders;
-    nexts = ap length w.2.nexts;
-    outs = ap length w.2.asked.outs_are ∙ length-set old.links.outs k w.2.asked.out';
-    outcomes = told_as_many _ w.2.goes;
-  }
-  as_many (kinds.OfReady k) answer w = record {
-    letters = ap length w.2.letters;
-    holders = ap length w.2.holders;
-    nexts = ap length w.2.nexts;
-    outs = ap length w.2.asked.outs_are ∙ length-set old.links.outs k w.2.asked.out';
-    outcomes = told_as_many _ w.2.goes;
-  }
 
 -- ## Waiting
 

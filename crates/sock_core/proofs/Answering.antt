@@ -100,13 +100,13 @@ links_set old fresh k before behind at ends same prompt = record {
   prompt = prompt;
 }
 
-module _ (old fresh : MachineState) (i : ℕ) (data seat' : SeatData) (step : Step) where
-  asked_links : {k : ℕ} {next : Program} {HasAnswered : OutState → OutState → Type 0} → LinkAsked (table_of old) (table_of fresh) i data seat' k next HasAnswered →
+module _ (old fresh : MachineState) (i : ℕ) (place seat' : SeatData) (step : Step) where
+  asked_links : {k : ℕ} {next : Program} {HasAnswered : OutState → OutState → Type 0} → LinkAsked (table_of old) (table_of fresh) i place seat' k next HasAnswered →
       ((out out' : OutState) → HasAnswered out out' → out'.prompt ≡ out.prompt) → SameLinks old fresh
   asked_links {k} w stays = let a = w.asked in links_set old fresh k a.before a.behind a.end_at a.ends_are a.same (prompt_set old.links fresh.links k a.out a.out' a.at a.outs_are (stays a.out a.out' a.answered))
 
   -- the links stay those that they were
-  pub made_links : (first : First) (answer : Answer) → MadeFirst (table_of old) (table_of fresh) i data seat' step first answer → SameLinks old fresh
+  pub made_links : (first : First) (answer : Answer) → MadeFirst (table_of old) (table_of fresh) i place seat' step first answer → SameLinks old fresh
   made_links (OfCall call) answer w = links_kept old fresh w.1.ends (prompt_call call old.links fresh.links w.1.outs)
   made_links (OfAside aside) answer w = links_kept old fresh w.1.ends (prompt_same old.links fresh.links (ap (λ (l : LinksData). l.outs) w.1.links))
   made_links (OfMessage q) answer w = links_kept old fresh w.1.ends (prompt_same old.links fresh.links (ap (λ (l : LinksData). l.outs) w.1.links))
@@ -116,7 +116,7 @@ module _ (old fresh : MachineState) (i : ℕ) (data seat' : SeatData) (step : St
   made_links (kinds.OfReady k) answer w = asked_links w.2 (λ out out' step. step.same.prompt)
 
   -- a prompt link answers in time
-  pub made_prompt : (first : First) (answer : Answer) → MadeFirst (table_of old) (table_of fresh) i data seat' step first answer → ArePrompt old.links → answer ≢ OfReady asks.NotYet
+  pub made_prompt : (first : First) (answer : Answer) → MadeFirst (table_of old) (table_of fresh) i place seat' step first answer → ArePrompt old.links → answer ≢ OfReady asks.NotYet
   made_prompt (OfCall call) answer w prompt yet = let e = w.0 in cc
   made_prompt (OfAside aside) answer w prompt yet = let e = w.0 in cc
   made_prompt (OfMessage q) answer w prompt yet = let e = w.0 in cc
@@ -130,7 +130,7 @@ module _ (old fresh : MachineState) (i : ℕ) (data seat' : SeatData) (step : St
   some_fault : (before now : ℕ) → Rose before now → 0 < now
   some_fault before now rose = omega (arith, rose)
 
-  fault_shown : {k : ℕ} {next : Program} {HasAnswered : OutState → OutState → Type 0} (w : LinkAsked (table_of old) (table_of fresh) i data seat' k next HasAnswered) → Rose w.asked.out.faults w.asked.out'.faults →
+  fault_shown : {k : ℕ} {next : Program} {HasAnswered : OutState → OutState → Type 0} (w : LinkAsked (table_of old) (table_of fresh) i place seat' k next HasAnswered) → Rose w.asked.out.faults w.asked.out'.faults →
       (ks : List ℕ) → (ks ≡ []) ⊎ (ks ≡ k ∷ []) → ShowFaults fresh ks
   fault_shown {k} w rose ks is = ⊎_elim
       (λ e. subst (ShowFaults fresh) (sym e) (show_faults_none fresh))
@@ -197,32 +197,32 @@ asks_first (Round (Opens o) next) first e = asks_none _ first e tt
 asks_first (Round (Reads r) next) first e = asks_none _ first e tt
 asks_first (Round (Discards k total) next) first e = asks_none _ first e tt
 
-module _ (old fresh : MachineState) (i : ℕ) (c : Core) (seat : SeatState) (there : get_elem? c.seats i ≡ core.some seat) (data seat' : SeatData) (step : Step) where
+module _ (old fresh : MachineState) (i : ℕ) (c : Core) (seat : SeatState) (there : get_elem? c.seats i ≡ core.some seat) (place seat' : SeatData) (step : Step) where
   none_broken : ShowFaults fresh []
   none_broken = show_faults_none fresh
 
   at_seat : (ks : SeatState → List ℕ) → ShowFaults fresh (ks seat) → ShowFaults fresh (elim (get_elem? c.seats i) as (λ o. List ℕ) [ core.none ↦ [] | core.some s ↦ ks s ])
   at_seat ks shown = subst (λ (o : core.Option SeatState). ShowFaults fresh (elim o as (λ x. List ℕ) [ core.none ↦ [] | core.some s ↦ ks s ])) (sym there) shown
 
-  put_broken : (k : ℕ) (asked : Bool) (bytes : List ℕ) (put : Put) (next : Program) → LinkAsked (table_of old) (table_of fresh) i data seat' k next (λ out out'. PutStep out out' bytes put) →
+  put_broken : (k : ℕ) (asked : Bool) (bytes : List ℕ) (put : Put) (next : Program) → LinkAsked (table_of old) (table_of fresh) i place seat' k next (λ out out'. PutStep out out' bytes put) →
       first_in seat.program ≡ Some (kinds.OfPut k asked bytes) → is_done old.links k ≡ false → ShowFaults fresh (broken_at c (record { seat = i; answer = OfPut put }))
   put_broken k asked bytes (puts.Took n) next w first done = none_broken
   put_broken k asked bytes puts.Again next w first done = none_broken
   put_broken k asked bytes puts.Failed next w first done = let a = w.asked in
-      at_seat (λ s. asked_link s.program) (fault_shown old fresh i data seat' step w (a.answered.failed refl (done_at old fresh i data seat' step k a.out a.at done)) (asked_link seat.program) (inr (asks_first seat.program (kinds.OfPut k asked bytes) first)))
+      at_seat (λ s. asked_link s.program) (fault_shown old fresh i place seat' step w (a.answered.failed refl (done_at old fresh i place seat' step k a.out a.at done)) (asked_link seat.program) (inr (asks_first seat.program (kinds.OfPut k asked bytes) first)))
 
-  ready_broken : (k : ℕ) (ready : Ready) (next : Program) → LinkAsked (table_of old) (table_of fresh) i data seat' k next (λ out out'. ReadyStep out out' ready) →
+  ready_broken : (k : ℕ) (ready : Ready) (next : Program) → LinkAsked (table_of old) (table_of fresh) i place seat' k next (λ out out'. ReadyStep out out' ready) →
       first_in seat.program ≡ Some (kinds.OfReady k) → is_done old.links k ≡ false → ShowFaults fresh (broken_at c (record { seat = i; answer = OfReady ready }))
   ready_broken k asks.Now next w first done = none_broken
   ready_broken k asks.NotYet next w first done = none_broken
   ready_broken k asks.Failed next w first done = let a = w.asked in
-      at_seat (λ s. asked_link s.program) (fault_shown old fresh i data seat' step w (a.answered.failed refl (done_at old fresh i data seat' step k a.out a.at done)) (asked_link seat.program) (inr (asks_first seat.program (kinds.OfReady k) first)))
+      at_seat (λ s. asked_link s.program) (fault_shown old fresh i place seat' step w (a.answered.failed refl (done_at old fresh i place seat' step k a.out a.at done)) (asked_link seat.program) (inr (asks_first seat.program (kinds.OfReady k) first)))
 
   unasked : (answer : Answer) → answer ≡ Unasked → ShowFaults fresh (broken_at c (record { seat = i; answer = answer }))
   unasked answer e = subst (λ (a : Answer). ShowFaults fresh (broken_at c (record { seat = i; answer = a }))) (sym e) none_broken
 
   -- a link that answered that it failed shows it
-  pub made_broken : (first : First) (answer : Answer) → MadeFirst (table_of old) (table_of fresh) i data seat' step first answer → first_in seat.program ≡ Some first → AsksUnfinished old.links first →
+  pub made_broken : (first : First) (answer : Answer) → MadeFirst (table_of old) (table_of fresh) i place seat' step first answer → first_in seat.program ≡ Some first → AsksUnfinished old.links first →
       ShowFaults fresh (broken_at c (record { seat = i; answer = answer }))
   made_broken (OfCall call) answer w first open_ = unasked answer w.0
   made_broken (OfAside aside) answer w first open_ = unasked answer w.0
@@ -243,7 +243,7 @@ module _ (old fresh : MachineState) (i : ℕ) (c : Core) (seat : SeatState) (the
       (λ k. sym (heard_is answer k) ∙ ap (λ (ks : List ℕ). map (λ (j : ℕ). answer) (filter (λ (j : ℕ). j == k) ks)) none_)
 
   -- where one is asked
-  told_asked : (k : ℕ) (answer : Answer) (half : HalfAnswer) (next : Program) (HasAnswered : OutState → OutState → Type 0) → LinkAsked (table_of old) (table_of fresh) i data seat' k next HasAnswered →
+  told_asked : (k : ℕ) (answer : Answer) (half : HalfAnswer) (next : Program) (HasAnswered : OutState → OutState → Type 0) → LinkAsked (table_of old) (table_of fresh) i place seat' k next HasAnswered →
       ((out out' : OutState) → HasAnswered out out' → out'.answers ≡ more_told out.answers (half ∷ [])) → half_of answer ≡ half ∷ [] → asked_link seat.program ≡ k ∷ [] → LinksTell old fresh (heard_at c (record { seat = i; answer = answer }))
   told_asked k answer half next HasAnswered w tells half_is asks = let a = w.asked in record {
     each = λ j x y at also. let also' : slice_get (slice_set old.ends k a.behind) j ≡ Some y = ap (λ (es : List LinkEnd). slice_get es j) (sym a.ends_are) ∙ also in dite (ℕ_discrete j k)
@@ -268,7 +268,7 @@ module _ (old fresh : MachineState) (i : ℕ) (c : Core) (seat : SeatState) (the
       heard_other j differ = sym (heard_is answer j) ∙ ap (λ (ks : List ℕ). map (λ (n : ℕ). answer) (filter (λ (n : ℕ). n == j) ks)) asks ∙ ap (λ (b : Bool). map (λ (n : ℕ). answer) (cond b (k ∷ []) [])) (ne_eqb k j (λ e. differ (sym e)))
 
   -- the links tell what they answered
-  pub made_told : (first : First) (answer : Answer) → MadeFirst (table_of old) (table_of fresh) i data seat' step first answer → first_in seat.program ≡ Some first → LinksTell old fresh (heard_at c (record { seat = i; answer = answer }))
+  pub made_told : (first : First) (answer : Answer) → MadeFirst (table_of old) (table_of fresh) i place seat' step first answer → first_in seat.program ≡ Some first → LinksTell old fresh (heard_at c (record { seat = i; answer = answer }))
   made_told (OfCall call) answer w first = told_none answer (asks_first seat.program (OfCall call) first) w.1.ends
   made_told (OfAside aside) answer w first = told_none answer (asks_first seat.program (OfAside aside) first) w.1.ends
   made_told (OfMessage q) answer w first = told_none answer (asks_first seat.program (OfMessage q) first) w.1.ends

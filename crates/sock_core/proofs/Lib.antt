@@ -18,6 +18,7 @@ pub mod Joining
 pub mod Leading
 pub mod Settling
 pub mod Answering
+pub mod Lengths
 pub mod Advancing
 pub mod Rounding
 pub mod Endings

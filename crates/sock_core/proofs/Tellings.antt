@@ -136,9 +136,9 @@ module _ (p : Plan) (c : Core) where
   waits_is (PutBytes k asked bytes next) = λ put. refl
   waits_is (AskReady k next) = tt
   waits_is (Aside step next) = λ found h. refl
-  waits_is (Write (heads.Puts h now heading left taken asked) after) = λ put. refl
+  waits_is (Write (heads.Puts h now heading left taken asked) after) = (refl, λ puts. absurd puts)
   waits_is (Write (heads.Waits h now heading left taken) after) = tt
-  waits_is (Write (heads.Empties h) after) = (refl, λ puts. refl)
+  waits_is (Write (heads.Empties h) after) = refl
   waits_is (Write (heads.Walks h top at after) then_) = (refl, λ puts. absurd puts)
   waits_is (Round (Posts id e w) next) = λ found h. refl
   waits_is (Round (Unlocks i w advance) next) = λ found h. refl
@@ -278,76 +278,70 @@ words_of t = record { words = t.words; homes = []; seats = []; outcomes = []; ca
 next_is : (old : TableState) (seat : SeatData) (step step' : Step) → step ≡ step' → IsNext old seat step → IsNext old seat step'
 next_is old seat step step' e next = subst (λ (x : Step). IsNext old seat x) e next
 
+waits_for : (program : Program) (o : Option On) (on_ : On) → o ≡ Some on_ → IfSome o (IsWaitingFor program) → IsWaitingFor program on_
+waits_for program o on_ some is = subst (λ (x : Option On). IfSome x (IsWaitingFor program)) some is
+
+call_waiting : (old : TableState) (seat : SeatData) (call : Call) (found : ℕ) (o : Option On) → IsNext old seat (firsts.Call call) → found ≡ found_at old.words (word_of old.plan (step_of call)) → is_some o ≡ waits_by (seat_program (table_sizes old) seat) found → is_waiting old Unasked (seat_program (table_sizes old) seat) ≡ is_some o
+call_waiting old seat call found o next f awaited = call_waits old.plan (words_of old) (seat_program (table_sizes old) seat) (step_of call) next ∙ ap (waits_by (seat_program (table_sizes old) seat)) (sym f) ∙ sym awaited
+
+aside_waiting : (old : TableState) (seat : SeatData) (aside : code.Aside) (found : ℕ) (o : Option On) → IsNext old seat (firsts.Aside aside) → FoundBeside old seat aside found → is_some o ≡ waits_by (seat_program (table_sizes old) seat) found → is_waiting old Unasked (seat_program (table_sizes old) seat) ≡ is_some o
+aside_waiting old seat aside found o next f awaited = aside_waits old.plan (words_of old) (seat_program (table_sizes old) seat) (aside_steps.step_of (asked_of seat.call) aside) found next f ∙ sym awaited
+
 module _ {old fresh : TableState} {i : ℕ} {seat seat' : SeatData} {step : Step} where
-  abbrev program : Program
-  program = seat_program (table_sizes old) seat
-
-  abbrev a : Around
-  a = around (table_sizes old) seat
-
   makes_is : (step' : Step) (answer : Answer) → step ≡ step' → Makes old fresh i seat seat' step' answer → Makes old fresh i seat seat' step answer
   makes_is step' answer e makes = subst (λ (x : Step). Makes old fresh i seat seat' x answer) (sym e) makes
 
   -- the step is made
-  moved : (kind : Kind) (step' : Step) (answer : Answer) → step ≡ step' → IsNext old seat step → kind ≡ kind_of_first (step_as a step) → Makes old fresh i seat seat' step' answer →
-      is_waiting old answer program ≡ false → StepTold old fresh i seat seat' step (Moved kind)
+  moved : (kind : Kind) (step' : Step) (answer : Answer) → step ≡ step' → IsNext old seat step → kind ≡ kind_of_first (step_as (around (table_sizes old) seat) step) → Makes old fresh i seat seat' step' answer →
+      is_waiting old answer (seat_program (table_sizes old) seat) ≡ false → StepTold old fresh i seat seat' step (Moved kind)
   moved kind step' answer e next is makes waits = record {
     answer = answer;
     makes = makes_is step' answer e makes;
-    tells = (kind_first program (step_as a step) kind next is, waits);
+    tells = (kind_first (seat_program (table_sizes old) seat) (step_as (around (table_sizes old) seat) step) kind next is, waits);
   }
 
   -- it waits
-  waited : (on_ : On) (step' : Step) (answer : Answer) → step ≡ step' → Makes old fresh i seat seat' step' answer → is_waiting old answer program ≡ true → IsWaitingFor program on_ → StepTold old fresh i seat seat' step (Waits on_)
+  waited : (on_ : On) (step' : Step) (answer : Answer) → step ≡ step' → Makes old fresh i seat seat' step' answer → is_waiting old answer (seat_program (table_sizes old) seat) ≡ true → IsWaitingFor (seat_program (table_sizes old) seat) on_ → StepTold old fresh i seat seat' step (Waits on_)
   waited on_ step' answer e makes waits is = record { answer = answer; makes = makes_is step' answer e makes; tells = (waits, is) }
 
-  waits_for : (o : Option On) (on_ : On) → o ≡ Some on_ → IfSome o (IsWaitingFor program) → IsWaitingFor program on_
-  waits_for o on_ some is = subst (λ (x : Option On). IfSome x (IsWaitingFor program)) some is
-
-  module _ (kind : Kind) (next : IsNext old seat step) (is : kind ≡ kind_of_first (step_as a step)) where
-    call_waiting : (call : Call) (found : ℕ) (o : Option On) → step ≡ firsts.Call call → found ≡ found_at old.words (word_of old.plan (step_of call)) → is_some o ≡ waits_by program found → is_waiting old Unasked program ≡ is_some o
-    call_waiting call found o e f awaited = call_waits old.plan (words_of old) program (step_of call) (next_is old seat step (firsts.Call call) e next) ∙ ap (waits_by program) (sym f) ∙ sym awaited
-
+  module _ (kind : Kind) (next : IsNext old seat step) (is : kind ≡ kind_of_first (step_as (around (table_sizes old) seat) step)) where
     pub call_moved : (call : Call) (found : ℕ) (o : Option On) → step ≡ firsts.Call call → Makes old fresh i seat seat' (firsts.Call call) Unasked → found ≡ found_at old.words (word_of old.plan (step_of call)) →
-        is_some o ≡ waits_by program found → o ≡ None → StepTold old fresh i seat seat' step (Moved kind)
-    call_moved call found o e makes f awaited none = moved kind (firsts.Call call) Unasked e next is makes (call_waiting call found o e f awaited ∙ ap is_some none)
+        is_some o ≡ waits_by (seat_program (table_sizes old) seat) found → o ≡ None → StepTold old fresh i seat seat' step (Moved kind)
+    call_moved call found o e makes f awaited none = moved kind (firsts.Call call) Unasked e next is makes (call_waiting old seat call found o (next_is old seat step (firsts.Call call) e next) f awaited ∙ ap is_some none)
 
     pub call_waited : (call : Call) (found : ℕ) (o : Option On) (on_ : On) → step ≡ firsts.Call call → Makes old fresh i seat seat' (firsts.Call call) Unasked → found ≡ found_at old.words (word_of old.plan (step_of call)) →
-        is_some o ≡ waits_by program found → IfSome o (IsWaitingFor program) → o ≡ Some on_ → StepTold old fresh i seat seat' step (Waits on_)
-    call_waited call found o on_ e makes f awaited for some = waited on_ (firsts.Call call) Unasked e makes (call_waiting call found o e f awaited ∙ ap is_some some) (waits_for o on_ some for)
-
-    aside_waiting : (aside : code.Aside) (found : ℕ) (o : Option On) → step ≡ firsts.Aside aside → FoundBeside old seat aside found → is_some o ≡ waits_by program found → is_waiting old Unasked program ≡ is_some o
-    aside_waiting aside found o e f awaited = aside_waits old.plan (words_of old) program (aside_steps.step_of (asked_of seat.call) aside) found (next_is old seat step (firsts.Aside aside) e next) f ∙ sym awaited
+        is_some o ≡ waits_by (seat_program (table_sizes old) seat) found → IfSome o (IsWaitingFor (seat_program (table_sizes old) seat)) → o ≡ Some on_ → StepTold old fresh i seat seat' step (Waits on_)
+    call_waited call found o on_ e makes f awaited for some = waited on_ (firsts.Call call) Unasked e makes (call_waiting old seat call found o (next_is old seat step (firsts.Call call) e next) f awaited ∙ ap is_some some) (waits_for (seat_program (table_sizes old) seat) o on_ some for)
 
     pub aside_moved : (aside : code.Aside) (found : ℕ) (o : Option On) → step ≡ firsts.Aside aside → Makes old fresh i seat seat' (firsts.Aside aside) Unasked → FoundBeside old seat aside found →
-        is_some o ≡ waits_by program found → o ≡ None → StepTold old fresh i seat seat' step (Moved kind)
-    aside_moved aside found o e makes f awaited none = moved kind (firsts.Aside aside) Unasked e next is makes (aside_waiting aside found o e f awaited ∙ ap is_some none)
+        is_some o ≡ waits_by (seat_program (table_sizes old) seat) found → o ≡ None → StepTold old fresh i seat seat' step (Moved kind)
+    aside_moved aside found o e makes f awaited none = moved kind (firsts.Aside aside) Unasked e next is makes (aside_waiting old seat aside found o (next_is old seat step (firsts.Aside aside) e next) f awaited ∙ ap is_some none)
 
     pub aside_waited : (aside : code.Aside) (found : ℕ) (o : Option On) (on_ : On) → step ≡ firsts.Aside aside → Makes old fresh i seat seat' (firsts.Aside aside) Unasked → FoundBeside old seat aside found →
-        is_some o ≡ waits_by program found → IfSome o (IsWaitingFor program) → o ≡ Some on_ → StepTold old fresh i seat seat' step (Waits on_)
-    aside_waited aside found o on_ e makes f awaited for some = waited on_ (firsts.Aside aside) Unasked e makes (aside_waiting aside found o e f awaited ∙ ap is_some some) (waits_for o on_ some for)
+        is_some o ≡ waits_by (seat_program (table_sizes old) seat) found → IfSome o (IsWaitingFor (seat_program (table_sizes old) seat)) → o ≡ Some on_ → StepTold old fresh i seat seat' step (Waits on_)
+    aside_waited aside found o on_ e makes f awaited for some = waited on_ (firsts.Aside aside) Unasked e makes (aside_waiting old seat aside found o (next_is old seat step (firsts.Aside aside) e next) f awaited ∙ ap is_some some) (waits_for (seat_program (table_sizes old) seat) o on_ some for)
 
     pub letter_moved : (q : ℕ) (author : Author) → step ≡ firsts.PutMessage q author → Makes old fresh i seat seat' (firsts.PutMessage q author) Unasked → StepTold old fresh i seat seat' step (Moved kind)
     letter_moved q author e makes = moved kind (firsts.PutMessage q author) Unasked e next is makes
-        (letter_waits old.plan (words_of old) program q (heading_by author (parts_of seat.message)) (bytes_of seat.message) (next_is old seat step (firsts.PutMessage q author) e next))
+        (letter_waits old.plan (words_of old) (seat_program (table_sizes old) seat) q (heading_by author (parts_of seat.message)) (bytes_of seat.message) (next_is old seat step (firsts.PutMessage q author) e next))
 
     pub message_moved : (q : ℕ) → step ≡ firsts.TakeMessage q → Makes old fresh i seat seat' (firsts.TakeMessage q) Unasked → StepTold old fresh i seat seat' step (Moved kind)
-    message_moved q e makes = moved kind (firsts.TakeMessage q) Unasked e next is makes (message_waits old.plan (words_of old) program q (next_is old seat step (firsts.TakeMessage q) e next))
+    message_moved q e makes = moved kind (firsts.TakeMessage q) Unasked e next is makes (message_waits old.plan (words_of old) (seat_program (table_sizes old) seat) q (next_is old seat step (firsts.TakeMessage q) e next))
 
     pub link_moved : (k : ℕ) → step ≡ firsts.TakeHome k → Makes old fresh i seat seat' (firsts.TakeHome k) Unasked → StepTold old fresh i seat seat' step (Moved kind)
-    link_moved k e makes = moved kind (firsts.TakeHome k) Unasked e next is makes (link_waits old.plan (words_of old) program k (next_is old seat step (firsts.TakeHome k) e next))
+    link_moved k e makes = moved kind (firsts.TakeHome k) Unasked e next is makes (link_waits old.plan (words_of old) (seat_program (table_sizes old) seat) k (next_is old seat step (firsts.TakeHome k) e next))
 
     pub home_moved : (k n : ℕ) → step ≡ firsts.PutHome k n → Makes old fresh i seat seat' (firsts.PutHome k n) Unasked → StepTold old fresh i seat seat' step (Moved kind)
-    home_moved k n e makes = moved kind (firsts.PutHome k n) Unasked e next is makes (home_waits old.plan (words_of old) program k n (next_is old seat step (firsts.PutHome k n) e next))
+    home_moved k n e makes = moved kind (firsts.PutHome k n) Unasked e next is makes (home_waits old.plan (words_of old) (seat_program (table_sizes old) seat) k n (next_is old seat step (firsts.PutHome k n) e next))
 
     pub put_moved : (k : ℕ) (asked : Bool) (author : Author) (put : Put) → step ≡ firsts.PutBytes k asked author → Makes old fresh i seat seat' (firsts.PutBytes k asked author) (OfPut put) → StepTold old fresh i seat seat' step (Moved kind)
     put_moved k asked author put e makes = moved kind (firsts.PutBytes k asked author) (OfPut put) e next is makes
-        (put_waits old.plan (words_of old) program k asked (part (parts_by author (left_parts_of seat.out)) (left_of seat.out) (taken_of seat.out)) put (next_is old seat step (firsts.PutBytes k asked author) e next))
+        (put_waits old.plan (words_of old) (seat_program (table_sizes old) seat) k asked (part (parts_by author (left_parts_of seat.out)) (left_of seat.out) (taken_of seat.out)) put (next_is old seat step (firsts.PutBytes k asked author) e next))
 
     pub ready_moved : (k : ℕ) (ready : Ready) → ready ≢ asks.NotYet → step ≡ firsts.AskReady k → Makes old fresh i seat seat' (firsts.AskReady k) (OfReady ready) → StepTold old fresh i seat seat' step (Moved kind)
-    ready_moved k asks.Now q e makes = moved kind (firsts.AskReady k) (OfReady asks.Now) e next is makes (ready_waits old.plan (words_of old) a seat.point k (next_is old seat step (firsts.AskReady k) e next)).1
+    ready_moved k asks.Now q e makes = moved kind (firsts.AskReady k) (OfReady asks.Now) e next is makes (ready_waits old.plan (words_of old) (around (table_sizes old) seat) seat.point k (next_is old seat step (firsts.AskReady k) e next)).1
     ready_moved k asks.NotYet q e makes = absurd (q refl)
-    ready_moved k asks.Failed q e makes = moved kind (firsts.AskReady k) (OfReady asks.Failed) e next is makes (ready_waits old.plan (words_of old) a seat.point k (next_is old seat step (firsts.AskReady k) e next)).2
+    ready_moved k asks.Failed q e makes = moved kind (firsts.AskReady k) (OfReady asks.Failed) e next is makes (ready_waits old.plan (words_of old) (around (table_sizes old) seat) seat.point k (next_is old seat step (firsts.AskReady k) e next)).2
 
     pub ready_waited : (k : ℕ) → step ≡ firsts.AskReady k → Makes old fresh i seat seat' (firsts.AskReady k) (OfReady asks.NotYet) → StepTold old fresh i seat seat' step (Waits (on.Out k))
-    ready_waited k e makes = let h = ready_waits old.plan (words_of old) a seat.point k (next_is old seat step (firsts.AskReady k) e next) in waited (on.Out k) (firsts.AskReady k) (OfReady asks.NotYet) e makes h.0 h.3
+    ready_waited k e makes = let h = ready_waits old.plan (words_of old) (around (table_sizes old) seat) seat.point k (next_is old seat step (firsts.AskReady k) e next) in waited (on.Out k) (firsts.AskReady k) (OfReady asks.NotYet) e makes h.0 h.3
