@@ -1,6 +1,4 @@
 pub mod Numbering
-pub mod Seated
-pub mod Ticking
 pub mod Playing
 pub mod Lines
 pub mod Telling
