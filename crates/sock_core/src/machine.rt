@@ -241,6 +241,8 @@ impl<O: Out, I: In, P: Peer> Machine<O, I, P> {
     fn most_left(&self) -> Result<u64, NoMemory>
         ensures most { IfOk result (λ n. n ≡ most_left) }
         ensures left { OnOk result (LastsAtMost self.now (most_left - 1)) }
+        ensures short { OnErr result (self.now.short ≡ true) }
+        ensures sizes { ∥ HasSizes self.now ∥₁ }
     {
         if self.tables.short {
             Err(NoMemory)
@@ -364,7 +366,10 @@ impl<O: Out, I: In, P: Peer> Machine<O, I, P> {
         ensures rest { FirstRests self.new }
         ensures enough { self.new.short ≡ false }
     {
-        for _ in 0..MOST_LEFT {
+        let Ok(most) = self.most_left() else {
+            return;
+        };
+        for _ in 0..most {
             if !self.advance_first().is_moved() {
                 return;
             }
