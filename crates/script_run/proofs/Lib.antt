@@ -5,3 +5,4 @@ pub mod Telling
 pub mod Homes
 pub mod Running
 pub mod Saying
+pub mod Told

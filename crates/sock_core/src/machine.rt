@@ -512,6 +512,8 @@ impl<O: Out, I: In, P: Peer> Machine<O, I, P> {
         ensures places { result.places.items ≡ place_words self.plan self.words }
         ensures ends { map (λ (e : _). end_of (O.state e.out) (I.state e.inn)) result.ends.items ≡ self.ends }
         ensures took { map (λ (o : OutState). o.took) self.links.outs ≡ map (λ (e : LinkEnd). e.took) self.ends }
+        ensures gave_count { map (λ (i : InState). i.gave) self.links.inns ≡ map (λ (e : LinkEnd). e.gave_count) self.ends }
+        ensures gave { map (λ (i : InState). i.gave_bytes) self.links.inns ≡ map (λ (e : LinkEnd). e.gave) self.ends }
         ensures letters { length self.letters ≡ self.plan.requests }
     {
         let Machine {
