@@ -6,3 +6,4 @@ pub mod Homes
 pub mod Running
 pub mod Saying
 pub mod Told
+pub mod Texts
