@@ -1,5 +1,5 @@
 -- How a seat goes on behind a step, by its kind.
-use Rattle.std.proofs.Common.{◌≡◌, refl, sym, ap, ◌∙◌, ℕ, Bool, true, false, List, [], ◌∷◌, ◌++◌, Option, Some, None, slice_set}
+use Rattle.std.proofs.Common.{◌≡◌, refl, sym, ap, subst, ◌∙◌, ℕ, Bool, true, false, List, [], ◌∷◌, ◌++◌, Option, Some, None, slice_set}
 use Rattle.std.proofs.lemmas.Bool.{true≢false}
 use Rattle.sock_words.specs.declared.outcome.Outcome.{Outcome}
 use Rattle.sock_words.specs.declared.outcome.Outcome.TheVariants.{Expired}
@@ -8,13 +8,13 @@ use Rattle.sock_programs.specs.declared.task.Sizes.{Sizes}
 use Rattle.sock_programs.specs.Heads.{Retry}
 use Rattle.sock_programs.specs.Programs.{Program, Say, Sent, Keep, Rest}
 use Rattle.sock_programs.specs.Clients.{HeldLife, ending_of}
-use Rattle.sock_programs.specs.Cores.{resolved, still_waiting, said, next_step}
+use Rattle.sock_programs.specs.Cores.{resolved, said, next_step}
 use Rattle.seat_points.specs.declared.point.After.{After}
 use Rattle.seat_points.specs.declared.point.After.TheVariants as afters
 use Rattle.seat_points.specs.declared.point.Next.{Next}
 use Rattle.seat_points.specs.declared.point.Next.TheVariants as nexts
 use Rattle.seat_points.specs.Points.{Around, next_program, after_program}
-use Rattle.client_seats.specs.Seats.{SeatData, nothing_asked, seat_program}
+use Rattle.client_seats.specs.Seats.{SeatData, around, nothing_asked, seat_program}
 use Rattle.client_seats.specs.Following.{FollowsOn, IsFlat}
 use Rattle.client_seats.proofs.Begun.{at_step}
 
@@ -27,21 +27,12 @@ said_on sizes old new program o outcome before told behind f e = record { next =
 pub sent_on : (sizes : Sizes) (old new : SeatData) (program : Program) (o : ℕ) (before behind : List (Option Outcome)) → FollowsOn sizes old new program before behind → FollowsOn sizes old new (Sent o program) before behind
 sent_on sizes old new program o before behind f = record { next = f.next; waiting = f.waiting; told = f.told }
 
--- it keeps a retry
-pub keeps_on : (sizes : Sizes) (old new mid : SeatData) (program : Program) (r : Retry) (before behind : List (Option Outcome)) → mid.waiting ≡ old.waiting ++ r ∷ [] → FollowsOn sizes mid new program before behind → FollowsOn sizes old new (Keep r program) before behind
-keeps_on sizes old new mid program r before behind is f =
-    let f' : FollowsOn sizes (record mid { waiting = old.waiting ++ r ∷ [] }) new program before behind = rw (← is) f in
+-- it keeps a retry, and goes on so
+pub kept_on : (sizes : Sizes) (old new mid : SeatData) (r : Retry) (P : Around → Program) (before behind : List (Option Outcome)) → mid ≡ record old { waiting = old.waiting ++ r ∷ [] } →
+    FollowsOn sizes mid new (P (around sizes mid)) before behind → FollowsOn sizes old new (Keep r (P (around sizes old))) before behind
+kept_on sizes old new mid r P before behind is f =
+    let f' = subst (λ (x : SeatData). FollowsOn sizes x new (P (around sizes x)) before behind) is f in
     record { next = f'.next; waiting = f'.waiting; told = f'.told }
-
--- what it holds and has in hand doesn't matter, only what it keeps
-pub follows_as : (sizes : Sizes) (old new mid : SeatData) (program other : Program) (before behind : List (Option Outcome)) → mid.waiting ≡ old.waiting → program ≡ other → FollowsOn sizes mid new program before behind → FollowsOn sizes old new other before behind
-follows_as sizes old new mid program other before behind is e f =
-    let f' : FollowsOn sizes mid new other before behind = rw (← e) f in
-    record {
-      next = f'.next ∙ ap (λ (w : List Retry). next_step (resolved w other)) is;
-      waiting = f'.waiting ∙ ap (λ (w : List Retry). still_waiting w other) is;
-      told = f'.told ∙ ap (λ (w : List Retry). said (resolved w other) before) is;
-    }
 
 -- the ending goes on
 pub ends_on : (sizes : Sizes) (old new : SeatData) (os : List ℕ) (before : List (Option Outcome)) → seat_program sizes new ≡ next_step (ending_of os) → new.waiting ≡ old.waiting → FollowsOn sizes old new (ending_of os) before before

@@ -1,5 +1,5 @@
 -- Where a client goes on: with a retry, with a task, or where it gives back what it holds.
-use Rattle.std.proofs.Common.{◌≡◌, refl, sym, ap, ap₂, ◌∙◌, subst, length, arith, ℕ, true, false, List, [], ◌∷◌, Option, Some, slice_set}
+use Rattle.std.proofs.Common.{◌≡◌, refl, sym, ap, ap₂, ◌∙◌, subst, length, arith, ℕ, true, false, ◌<◌, List, [], ◌∷◌, Option, Some, slice_set, slice_index_or, remove}
 use Rattle.sock_words.specs.declared.outcome.Outcome.{Outcome}
 use Rattle.sock_words.specs.declared.outcome.Outcome.TheVariants.{NotHeld}
 use Rattle.sock_programs.specs.declared.task.Task.{Task}
@@ -11,7 +11,8 @@ use Rattle.sock_programs.specs.Clients.{HeldLife, operation, client_from, give_b
 use Rattle.sock_programs.specs.Cores.{resolved, still_waiting, said, next_step}
 use Rattle.seat_points.specs.declared.point.Point.{Point}
 use Rattle.seat_points.specs.Points.{Around, point_program}
-use Rattle.client_seats.specs.Seats.{SeatData, client_of, seat_program}
+use Rattle.client_seats.specs.declared.seat.Kept.{Kept}
+use Rattle.client_seats.specs.Seats.{SeatData, retries, client_of, seat_program}
 use Rattle.client_seats.specs.Following.{FollowsOn}
 use Rattle.client_seats.proofs.Begun.{begun, at_step}
 
@@ -128,3 +129,8 @@ leaves_on sizes old new a point os leaves waiting is gives =
       waiting = waiting ∙ sym c.waiting_is ∙ ap (still_waiting old.waiting) (sym client);
       told = sym (c.said_is os) ∙ ap (λ (p : Program). said (resolved old.waiting p) os) (sym client);
     }
+
+-- the oldest of the retries that wait, and the others
+pub removed_first : (ks : List Kept) (x : Kept) (rest : List Kept) → x ≡ slice_index_or ks 0 x → 0 < length ks → rest ≡ remove ks 0 → retries ks ≡ retries (x ∷ rest)
+removed_first [] x rest is some gone = absurd (omega arith)
+removed_first (k ∷ ks) x rest is some gone = let f : rest ≡ ks = gone in let e : x ≡ k = is in λ i. retries (sym e i ∷ sym f i)

@@ -1,5 +1,5 @@
 -- A seat that has in hand what its step needs.
-use Rattle.std.proofs.Common.{◌≡◌, refl, sym, ap, ap₂, ◌∙◌, subst, ℕ, List, [], Option, Some, None}
+use Rattle.std.proofs.Common.{◌≡◌, refl, sym, ap, ap₂, ◌∙◌, subst, ℕ, List, [], Option, Some, None, Result, Ok, Err, IfOk, OnOk}
 use Rattle.sock_message.specs.Asked.{Asked, frame_of, parts_of, name_of}
 use Rattle.sock_words.specs.declared.socket_id.SocketId.{SocketId}
 use Rattle.sock_programs.specs.declared.task.Sizes.{Sizes}
@@ -10,6 +10,7 @@ use Rattle.id_points.specs.declared.call_id.AttemptNumber.{AttemptNumber}
 use Rattle.id_points.specs.Ids.{id_of, number_of}
 use Rattle.call_points.specs.Steps.{after_call}
 use Rattle.call_points.specs.declared.deciding.DecideStep.TheVariants as decides
+use Rattle.call_points.specs.declared.locking.LockStep.TheVariants as locks
 use Rattle.seat_points.specs.declared.point.After.{After}
 use Rattle.seat_points.specs.declared.point.After.TheVariants as afters
 use Rattle.seat_points.specs.declared.point.CallStep.TheVariants as begins
@@ -19,9 +20,14 @@ use Rattle.seat_points.specs.declared.point.RetryStep.TheVariants as retries
 use Rattle.seat_points.specs.declared.point.Next.{Next}
 use Rattle.seat_points.specs.declared.point.Point.{Point}
 use Rattle.seat_points.specs.declared.point.Point.TheVariants as points
-use Rattle.seat_points.specs.Points.{Around, point_program, next_program, after_program, taken_with, TakesCall, HasInHand, HasRetry, IsFramed}
+use Rattle.seat_points.specs.Points.{Around, point_program, next_program, after_program, taken_with, IsNextName, TakesCall, HasInHand, HasRetry, IsFramed}
 use Rattle.client_seats.specs.Seats.{SeatData, around, asked_of, seat_program}
 use Rattle.client_seats.specs.Following.{IsFramedAs, IsPrepared, IsWithFrame}
+
+-- what follows where there was memory
+pub on_ok : {A E : Type 0} (P : A → Type 0) (Q : Type 0) (r : Result A E) → IfOk r P → ((a : A) → P a → Q) → OnOk r Q
+on_ok P Q (Ok a) h f = f a h
+on_ok P Q (Err e) h f = tt
 
 -- the seat with the frame of an attempt in hand
 abbrev framed_in : ℕ → ℕ → Asked → SeatData → SeatData
@@ -47,19 +53,13 @@ prepared_call sizes old new id socket n at none f = subst (λ (x : SeatData). Is
     first : 0 ≡ n
     first = sym none
 
--- a retry that took its call
-abbrev pub HasCall : RetryStep → Type 0
-HasCall (retries.Lock at) = ⊥
-HasCall (retries.TakeCall w) = ⊥
-HasCall other = Unit {0}
-
--- has the frame of its attempt in hand
-pub prepared_retry : (sizes : Sizes) (old mid new : SeatData) (r r' : Retrying) (step : RetryStep) → old.point ≡ points.Retry r step → HasCall step → IsFramedAs old mid (id_of r.attempt.id) (number_of r.attempt.number) →
+-- a retry has the frame of its attempt in hand
+pub prepared_retry : (sizes : Sizes) (old mid new : SeatData) (r r' : Retrying) (step : RetryStep) → old.point ≡ points.Retry r step → IsFramedAs old mid (id_of r.attempt.id) (number_of r.attempt.number) →
     r'.attempt.id ≡ r.attempt.id → r'.attempt.number ≡ r.attempt.number → r'.attempt.operation ≡ (asked_of mid.call).operation → r'.name ≡ name_of (asked_of mid.call) (number_of r.attempt.number) → new ≡ record mid { point = points.Retry r' step } → IsPrepared sizes old new
-prepared_retry sizes old mid new r r' step at took f ids numbers operation name is = subst (λ (x : SeatData). IsPrepared sizes old x) (sym (is ∙ ap (λ (x : SeatData). record x { point = points.Retry r' step }) f.is)) (record {
-  program = same step took ∙ ap (point_program (around sizes old)) (sym at);
+prepared_retry sizes old mid new r r' step at f ids numbers operation name is = subst (λ (x : SeatData). IsPrepared sizes old x) (sym (is ∙ ap (λ (x : SeatData). record x { point = points.Retry r' step }) f.is)) (record {
+  program = same step ∙ ap (point_program (around sizes old)) (sym at);
   waiting = refl;
-  hand = has step took;
+  hand = has step;
   frame = refl;
   out = refl;
   ending = refl;
@@ -74,12 +74,13 @@ prepared_retry sizes old mid new r r' step at took f ids numbers operation name 
     own : asked_of mid.call ≡ asked_of old.call
     own = ap (λ (x : SeatData). asked_of x.call) f.is
 
-    same : (s : RetryStep) → HasCall s → point_program (around sizes seat) (points.Retry r' s) ≡ point_program (around sizes old) (points.Retry r s)
-    same (retries.PutCall w) k = ap₂ (λ (i : CallId) (n : AttemptNumber). point_program (around sizes old) (points.Retry (record { attempt = record { operation = 0; id = i; number = n }; name = 0 }) (retries.PutCall w))) ids numbers
-    same (retries.Unlock w advance) k = ap₂ (λ (i : CallId) (n : AttemptNumber). point_program (around sizes old) (points.Retry (record { attempt = record { operation = 0; id = i; number = n }; name = 0 }) (retries.Unlock w advance))) ids numbers
-    same retries.LoadName k = ap₂ (λ (i : CallId) (n : AttemptNumber). point_program (around sizes old) (points.Retry (record { attempt = record { operation = 0; id = i; number = n }; name = 0 }) retries.LoadName)) ids numbers
-    same (retries.Lock l) k = absurd k
-    same (retries.TakeCall w) k = absurd k
+    same : (s : RetryStep) → point_program (around sizes seat) (points.Retry r' s) ≡ point_program (around sizes old) (points.Retry r s)
+    same (retries.PutCall w) = ap₂ (λ (i : CallId) (n : AttemptNumber). point_program (around sizes old) (points.Retry (record { attempt = record { operation = 0; id = i; number = n }; name = 0 }) (retries.PutCall w))) ids numbers
+    same (retries.Unlock w advance) = ap₂ (λ (i : CallId) (n : AttemptNumber). point_program (around sizes old) (points.Retry (record { attempt = record { operation = 0; id = i; number = n }; name = 0 }) (retries.Unlock w advance))) ids numbers
+    same (retries.Lock locks.Read) = ap₂ (λ (i : CallId) (n : AttemptNumber). point_program (around sizes old) (points.Retry (record { attempt = record { operation = 0; id = i; number = n }; name = 0 }) (retries.Lock locks.Read))) ids numbers
+    same (retries.Lock (locks.Exchange from)) = ap₂ (λ (i : CallId) (n : AttemptNumber). point_program (around sizes old) (points.Retry (record { attempt = record { operation = 0; id = i; number = n }; name = 0 }) (retries.Lock (locks.Exchange from)))) ids numbers
+    same (retries.TakeCall w) = ap₂ (λ (i : CallId) (n : AttemptNumber). point_program (around sizes old) (points.Retry (record { attempt = record { operation = 0; id = i; number = n }; name = 0 }) (retries.TakeCall w))) ids numbers
+    same retries.LoadName = ap₂ (λ (i : CallId) (n : AttemptNumber). point_program (around sizes old) (points.Retry (record { attempt = record { operation = 0; id = i; number = n }; name = 0 }) retries.LoadName)) ids numbers
 
     framed : IsFramed (around sizes seat) r'.attempt
     framed = record {
@@ -91,12 +92,12 @@ prepared_retry sizes old mid new r r' step at took f ids numbers operation name 
     named : r'.name ≡ name_of (asked_of old.call) (number_of r'.attempt.number)
     named = name ∙ ap₂ (λ (x : Asked) (n : AttemptNumber). name_of x (number_of n)) own (sym numbers)
 
-    has : (s : RetryStep) → HasCall s → HasRetry (around sizes seat) r' s
-    has (retries.PutCall w) k = (framed, named)
-    has (retries.Unlock w advance) k = (framed, named)
-    has retries.LoadName k = (framed, named)
-    has (retries.Lock l) k = absurd k
-    has (retries.TakeCall w) k = absurd k
+    has : (s : RetryStep) → HasRetry (around sizes seat) r' s
+    has (retries.PutCall w) = (framed, named)
+    has (retries.Unlock w advance) = (framed, named)
+    has retries.LoadName = (framed, named)
+    has (retries.Lock l) = tt
+    has (retries.TakeCall w) = tt
 
 -- ## A call that came into its hand
 
@@ -108,6 +109,19 @@ after_same a bytes parts (afters.Expire o) = refl
 after_same a bytes parts (afters.Drop w None) = refl
 after_same a bytes parts (afters.Drop w (Some next)) = refl
 
+-- a retry goes on with its call, and has its message
+pub retries_with : (sizes : Sizes) (old new : SeatData) (asked asked' : Asked) (next : Next) (r : Retrying) (step : RetryStep) → old.point ≡ points.Retry r step → asked' ≡ asked →
+    new ≡ record old { message = Some (record { bytes = frame_of asked' (id_of r.attempt.id) (number_of r.attempt.number); parts = parts_of asked' (id_of r.attempt.id) (number_of r.attempt.number) }); call = Some asked' } →
+    ((a : Around) → next_program (taken_with old.point asked a) next ≡ after_call (point_program a old.point) asked) → next_program (around sizes new) next ≡ after_call (seat_program sizes old) asked
+retries_with sizes old new asked asked' next r step at same is h =
+    ap (λ (x : SeatData). next_program (around sizes x) next) is
+    ∙ ap (λ (x : Asked). next_program (around sizes (record old { message = Some (record { bytes = frame_of x (id_of r.attempt.id) (number_of r.attempt.number); parts = parts_of x (id_of r.attempt.id) (number_of r.attempt.number) }); call = Some x })) next) same
+    ∙ subst (λ (p : Point). next_program (taken_with p asked (around sizes old)) next ≡ after_call (point_program (around sizes old) p) asked) at (h (around sizes old))
+    ∙ ap (λ (p : Point). after_call (point_program (around sizes old) p) asked) (sym at)
+
+pub retry_named : (asked : Asked) (p : Point) (r : Retrying) (step : RetryStep) (name : ℕ) → p ≡ points.Retry r step → name ≡ name_of asked (number_of r.attempt.number) → IsNextName asked p name
+retry_named asked p r step name at is = subst (λ (x : Point). IsNextName asked x name) (sym at) is
+
 -- no retry
 abbrev pub IsNoRetry : Point → Type 0
 IsNoRetry (points.Retry r at) = ⊥
@@ -116,9 +130,17 @@ IsNoRetry other = Unit {0}
 -- whoever decides goes on with the call
 pub takes_on : (sizes : Sizes) (old : SeatData) (asked : Asked) (next : Next) (p : Point) → old.point ≡ p → TakesCall p → IsNoRetry p → ((a : Around) → next_program (taken_with p asked a) next ≡ after_call (point_program a p) asked) →
     next_program (around sizes (record old { message = None; call = Some asked })) next ≡ after_call (seat_program sizes old) asked
-takes_on sizes old asked next (points.Decide c after (decides.Take w)) at takes no h =
+takes_on sizes old asked next (points.Decide c after (decides.Take w)) at takes none h =
     h (record (around sizes old) { message = []; parts = [] })
     ∙ ap (λ (program : Program). after_call (decide (id_of c.id) w.0 c.error.0 (decided (id_of c.id) program)) asked) (after_same (around sizes old) [] [] after)
     ∙ ap (λ (p : Point). after_call (point_program (around sizes old) p) asked) (sym at)
-takes_on sizes old asked next (points.Retry r step) at takes no h = absurd no
-takes_on sizes old asked next _ at takes no h = absurd takes
+takes_on sizes old asked next (points.Retry r step) at takes none h = absurd none
+takes_on sizes old asked next _ at takes none h = absurd takes
+
+pub no_retry : (p : Point) → ((r : Retrying) (step : RetryStep) → p ≡ points.Retry r step → ⊥) → IsNoRetry p
+no_retry (points.Retry r step) none = none r step refl
+no_retry _ none = tt
+
+pub any_name : (asked : Asked) (p : Point) (name : ℕ) → IsNoRetry p → IsNextName asked p name
+any_name asked (points.Retry r step) name none = absurd none
+any_name asked _ name none = tt

@@ -1,5 +1,5 @@
 -- What a step makes of the links, as they would be given back.
-use Rattle.std.proofs.Common.{◌≡◌, ◌≢◌, refl, ℕ, zero, suc, ◌<◌, ◌⊎◌, inr, ⊎_elim, Bool, true, false, List, [], ◌∷◌, ◌++◌, ◌≤◌, ◌==◌, Option, cond, map, filter, eq-eqb, ne_eqb, length, slice_set, Some, ap, sym, ◌∙◌, arith, subst}
+use Rattle.std.proofs.Common.{◌≡◌, ◌≢◌, refl, ℕ, zero, suc, ◌+◌, ◌<◌, ◌⊎◌, inr, ⊎_elim, Bool, true, false, List, [], ◌∷◌, ◌++◌, ◌≤◌, ◌==◌, Option, None, if◌then◌else◌, cond, map, filter, eq-eqb, ne_eqb, length, slice_set, Some, ap, sym, ◌∙◌, arith, subst}
 use Rattle.std.proofs.lemmas.List.{get_or-set_same, get_or-set_other}
 use Rattle.std.proofs.lemmas.List.Elements.{Contains-push_cases}
 use Rattle.std.proofs.lemmas.Option.{get_or_from_slice_get, same_Some}
@@ -21,19 +21,29 @@ use Rattle.whole_runs.specs.Heard.{half_of, as_told, heard_at}
 use Rattle.sock_io.specs.Causes.{Rose}
 use Rattle.sock_programs.specs.Calls as calls
 use Rattle.sock_programs.specs.Writings.{Puts, Waits, Empties, Walks}
-use Rattle.sock_programs.specs.Programs.{Program, Do, Say, Sent, Rest, TakeMessage, TakeHome, PutHome, PutBytes, AskReady, Write}
+use Rattle.sock_programs.specs.Programs.{Program, Do, Say, Sent, Rest, TakeMessage, TakeHome, PutHome, PutBytes, AskReady, Write, Aside, Round, Keep, Retries}
+use Rattle.corr_core.specs.Word.{parts, code_of}
+use Rattle.sock_programs.specs.Asides.{id_slot, PutCall}
+use Rattle.sock_programs.specs.Heads.{Posts, Unlocks, Decides, Locks, Joins, Opens, Reads, Discards, HasEnded}
+use Rattle.sock_programs.specs.Posts.{ends_call, end_id, unlocked}
+use Rattle.seat_points.specs.declared.point.Step.{Step}
 use Rattle.sock_programs.specs.Cores.{Core, SeatState}
 use Rattle.sock_programs.specs.Ticks.{Answer, Unasked, OfPut, OfReady, asked_link, broken_at}
-use Rattle.seat_points.specs.Steps.{First, OfCall, OfMessage, OfLink, OfHome, first_in}
+use Rattle.seat_points.specs.Steps.{First, OfCall, OfAside, OfMessage, OfLink, OfHome, first_of, first_in}
 use Rattle.seat_points.specs.Steps as kinds
 use Rattle.client_seats.specs.Seats.{SeatData}
 use Rattle.sock_core.specs.Links.{LinksData, ArePrompt, is_done}
 use Rattle.sock_core.specs.Machines.{MachineState, table_of}
-use Rattle.sock_core.specs.Steps.{SameLink, OutsAfter, Made, LinkAsked}
-use Rattle.sock_core.specs.Runs.{SameLinks, ShowFaults, LinksTell}
+use Rattle.sock_core.specs.Steps.{OutsAfter, MadeFirst, LinkAsked}
+use Rattle.sock_core.specs.Runs.{SameLink, SameLinks, ShowFaults, LinksTell}
 use Rattle.sock_core.proofs.FirstSteps.{same_some}
 use Rattle.sock_core.proofs.Joining.{same_link_none, show_faults_none, more_none, tells_none}
-use Rattle.sock_core.proofs.Sounds.{AsksUnfinished}
+
+-- a link that is asked isn't finished
+abbrev pub AsksUnfinished : LinksData → First → Type 0
+AsksUnfinished l (kinds.OfPut k asked bytes) = is_done l k ≡ false
+AsksUnfinished l (kinds.OfReady k) = is_done l k ≡ false
+AsksUnfinished l other = Unit {0}
 
 -- ## Prompt links
 
@@ -90,14 +100,15 @@ links_set old fresh k before behind at ends same prompt = record {
   prompt = prompt;
 }
 
-module _ (old fresh : MachineState) (i : ℕ) (of : Program) (seat' : SeatData) where
-  asked_links : {k : ℕ} {next : Program} {HasAnswered : OutState → OutState → Type 0} → LinkAsked (table_of old) (table_of fresh) i of seat' k next HasAnswered →
+module _ (old fresh : MachineState) (i : ℕ) (place seat' : SeatData) (step : Step) where
+  asked_links : {k : ℕ} {next : Program} {HasAnswered : OutState → OutState → Type 0} → LinkAsked (table_of old) (table_of fresh) i place seat' k next HasAnswered →
       ((out out' : OutState) → HasAnswered out out' → out'.prompt ≡ out.prompt) → SameLinks old fresh
   asked_links {k} w stays = let a = w.asked in links_set old fresh k a.before a.behind a.end_at a.ends_are a.same (prompt_set old.links fresh.links k a.out a.out' a.at a.outs_are (stays a.out a.out' a.answered))
 
   -- the links stay those that they were
-  pub made_links : (first : First) (answer : Answer) → Made (table_of old) (table_of fresh) i of seat' first answer → SameLinks old fresh
+  pub made_links : (first : First) (answer : Answer) → MadeFirst (table_of old) (table_of fresh) i place seat' step first answer → SameLinks old fresh
   made_links (OfCall call) answer w = links_kept old fresh w.1.ends (prompt_call call old.links fresh.links w.1.outs)
+  made_links (OfAside aside) answer w = links_kept old fresh w.1.ends (prompt_same old.links fresh.links (ap (λ (l : LinksData). l.outs) w.1.links))
   made_links (OfMessage q) answer w = links_kept old fresh w.1.ends (prompt_same old.links fresh.links (ap (λ (l : LinksData). l.outs) w.1.links))
   made_links (OfLink k) answer w = links_kept old fresh w.1.ends (prompt_same old.links fresh.links (ap (λ (l : LinksData). l.outs) w.1.links))
   made_links (OfHome k n) answer w = links_kept old fresh w.1.ends (prompt_same old.links fresh.links (ap (λ (l : LinksData). l.outs) w.1.links))
@@ -105,8 +116,9 @@ module _ (old fresh : MachineState) (i : ℕ) (of : Program) (seat' : SeatData) 
   made_links (kinds.OfReady k) answer w = asked_links w.2 (λ out out' step. step.same.prompt)
 
   -- a prompt link answers in time
-  pub made_prompt : (first : First) (answer : Answer) → Made (table_of old) (table_of fresh) i of seat' first answer → ArePrompt old.links → answer ≢ OfReady asks.NotYet
+  pub made_prompt : (first : First) (answer : Answer) → MadeFirst (table_of old) (table_of fresh) i place seat' step first answer → ArePrompt old.links → answer ≢ OfReady asks.NotYet
   made_prompt (OfCall call) answer w prompt yet = let e = w.0 in cc
+  made_prompt (OfAside aside) answer w prompt yet = let e = w.0 in cc
   made_prompt (OfMessage q) answer w prompt yet = let e = w.0 in cc
   made_prompt (OfLink k) answer w prompt yet = let e = w.0 in cc
   made_prompt (OfHome k n) answer w prompt yet = let e = w.0 in cc
@@ -118,7 +130,7 @@ module _ (old fresh : MachineState) (i : ℕ) (of : Program) (seat' : SeatData) 
   some_fault : (before now : ℕ) → Rose before now → 0 < now
   some_fault before now rose = omega (arith, rose)
 
-  fault_shown : {k : ℕ} {next : Program} {HasAnswered : OutState → OutState → Type 0} (w : LinkAsked (table_of old) (table_of fresh) i of seat' k next HasAnswered) → Rose w.asked.out.faults w.asked.out'.faults →
+  fault_shown : {k : ℕ} {next : Program} {HasAnswered : OutState → OutState → Type 0} (w : LinkAsked (table_of old) (table_of fresh) i place seat' k next HasAnswered) → Rose w.asked.out.faults w.asked.out'.faults →
       (ks : List ℕ) → (ks ≡ []) ⊎ (ks ≡ k ∷ []) → ShowFaults fresh ks
   fault_shown {k} w rose ks is = ⊎_elim
       (λ e. subst (ShowFaults fresh) (sym e) (show_faults_none fresh))
@@ -133,55 +145,87 @@ module _ (old fresh : MachineState) (i : ℕ) (of : Program) (seat' : SeatData) 
   done_at : (k : ℕ) (out : OutState) → get_elem? old.links.outs k ≡ core.some out → is_done old.links k ≡ false → out.finished ≡ false
   done_at k out at done = sym (ap (λ (o : core.Option OutState). elim o as (λ x. Bool) [ core.none ↦ false | core.some x ↦ x.finished ]) at) ∙ done
 
+-- no link is asked in a first step
+abbrev AsksNoLink : Option First → Type 0
+AsksNoLink (Some (kinds.OfPut k asked bytes)) = ⊥
+AsksNoLink (Some (kinds.OfReady k)) = ⊥
+AsksNoLink other = Unit {0}
+
 -- the link that is asked is that of the first step
 abbrev IsAsked : First → List ℕ → Type 0
 IsAsked (kinds.OfPut k asked bytes) ks = ks ≡ k ∷ []
 IsAsked (kinds.OfReady k) ks = ks ≡ k ∷ []
 IsAsked other ks = ks ≡ []
 
+asks_none : (o : Option First) (first : First) → o ≡ Some first → AsksNoLink o → IsAsked first []
+asks_none o (OfCall call) e none_ = refl
+asks_none o (OfAside aside) e none_ = refl
+asks_none o (OfMessage q) e none_ = refl
+asks_none o (OfLink k) e none_ = refl
+asks_none o (OfHome k n) e none_ = refl
+asks_none o (kinds.OfPut k asked bytes) e none_ = absurd (subst AsksNoLink e none_)
+asks_none o (kinds.OfReady k) e none_ = absurd (subst AsksNoLink e none_)
+
+judge_none : (ends : Bool) (x y : Program) → AsksNoLink (first_of x) → AsksNoLink (first_of y) → AsksNoLink (first_of (if ends then x else y))
+judge_none true x y f g = f
+judge_none false x y f g = g
+
 asks_first : (program : Program) (first : First) → first_in program ≡ Some first → IsAsked first (asked_link program)
 asks_first (PutBytes k asked bytes next) first e = subst (λ (f : First). IsAsked f (k ∷ [])) (same_some e) refl
 asks_first (AskReady k next) first e = subst (λ (f : First). IsAsked f (k ∷ [])) (same_some e) refl
 asks_first (Write (Waits h now heading left taken) after) first e = subst (λ (f : First). IsAsked f (h.link ∷ [])) (same_some e) refl
-asks_first (Write (Puts h now heading left taken asked) after) first e = subst (λ (f : First). IsAsked f []) (same_some e) refl
-asks_first (Write (Walks h top place after) then_) first e = subst (λ (f : First). IsAsked f []) (same_some e) refl
-asks_first (Write (Empties h) after) first e = subst (λ (f : First). IsAsked f []) (same_some e) refl
-asks_first (Do call next) first e = subst (λ (f : First). IsAsked f []) (same_some e) refl
-asks_first (TakeMessage q next) first e = subst (λ (f : First). IsAsked f []) (same_some e) refl
-asks_first (TakeHome k next) first e = subst (λ (f : First). IsAsked f []) (same_some e) refl
-asks_first (PutHome k n after) first e = subst (λ (f : First). IsAsked f []) (same_some e) refl
+asks_first (Write (Puts h now heading left taken asked) after) first e = asks_none _ first e tt
+asks_first (Write (Walks h top place after) then_) first e = asks_none _ first e tt
+asks_first (Write (Empties h) after) first e = asks_none _ first e tt
+asks_first (Do call next) first e = asks_none _ first e tt
+asks_first (TakeMessage q next) first e = asks_none _ first e tt
+asks_first (TakeHome k next) first e = asks_none _ first e tt
+asks_first (PutHome k n after) first e = asks_none _ first e tt
+asks_first (Aside step next) first e = asks_none _ first e tt
 asks_first (Say o outcome next) first e = cc
 asks_first (Sent o next) first e = cc
+asks_first (Keep r next) first e = cc
+asks_first (Retries requests after) first e = cc
 asks_first Rest first e = cc
+asks_first (Round (Posts id error w) next) first e = asks_none _ first e tt
+asks_first (Round (Unlocks i w advance) next) first e = asks_none _ first e tt
+asks_first (Round (Decides id asked w error) next) first e = asks_none _ first e (judge_none (ends_call (parts w) error) (end_id (id_slot id) (next (HasEnded asked.operation (code_of error)))) (Aside (PutCall (id_slot id) asked) (λ _. Round (Unlocks (id_slot id) w true) (unlocked (record { id = id; attempt = (parts w).attempt + 1 }) next))) tt tt)
+asks_first (Round (Locks i sought None) next) first e = asks_none _ first e tt
+asks_first (Round (Locks i sought (Some w)) next) first e = asks_none _ first e tt
+asks_first (Round (Joins id) next) first e = asks_none _ first e tt
+asks_first (Round (Opens o) next) first e = asks_none _ first e tt
+asks_first (Round (Reads r) next) first e = asks_none _ first e tt
+asks_first (Round (Discards k total) next) first e = asks_none _ first e tt
 
-module _ (old fresh : MachineState) (i : ℕ) (c : Core) (seat : SeatState) (there : get_elem? c.seats i ≡ core.some seat) (seat' : SeatData) where
+module _ (old fresh : MachineState) (i : ℕ) (c : Core) (seat : SeatState) (there : get_elem? c.seats i ≡ core.some seat) (place seat' : SeatData) (step : Step) where
   none_broken : ShowFaults fresh []
   none_broken = show_faults_none fresh
 
   at_seat : (ks : SeatState → List ℕ) → ShowFaults fresh (ks seat) → ShowFaults fresh (elim (get_elem? c.seats i) as (λ o. List ℕ) [ core.none ↦ [] | core.some s ↦ ks s ])
   at_seat ks shown = subst (λ (o : core.Option SeatState). ShowFaults fresh (elim o as (λ x. List ℕ) [ core.none ↦ [] | core.some s ↦ ks s ])) (sym there) shown
 
-  put_broken : (k : ℕ) (asked : Bool) (bytes : List ℕ) (put : Put) (next : Program) → LinkAsked (table_of old) (table_of fresh) i seat.program seat' k next (λ out out'. PutStep out out' bytes put) →
+  put_broken : (k : ℕ) (asked : Bool) (bytes : List ℕ) (put : Put) (next : Program) → LinkAsked (table_of old) (table_of fresh) i place seat' k next (λ out out'. PutStep out out' bytes put) →
       first_in seat.program ≡ Some (kinds.OfPut k asked bytes) → is_done old.links k ≡ false → ShowFaults fresh (broken_at c (record { seat = i; answer = OfPut put }))
   put_broken k asked bytes (puts.Took n) next w first done = none_broken
   put_broken k asked bytes puts.Again next w first done = none_broken
   put_broken k asked bytes puts.Failed next w first done = let a = w.asked in
-      at_seat (λ s. asked_link s.program) (fault_shown old fresh i seat.program seat' w (a.answered.failed refl (done_at old fresh i seat.program seat' k a.out a.at done)) (asked_link seat.program) (inr (asks_first seat.program (kinds.OfPut k asked bytes) first)))
+      at_seat (λ s. asked_link s.program) (fault_shown old fresh i place seat' step w (a.answered.failed refl (done_at old fresh i place seat' step k a.out a.at done)) (asked_link seat.program) (inr (asks_first seat.program (kinds.OfPut k asked bytes) first)))
 
-  ready_broken : (k : ℕ) (ready : Ready) (next : Program) → LinkAsked (table_of old) (table_of fresh) i seat.program seat' k next (λ out out'. ReadyStep out out' ready) →
+  ready_broken : (k : ℕ) (ready : Ready) (next : Program) → LinkAsked (table_of old) (table_of fresh) i place seat' k next (λ out out'. ReadyStep out out' ready) →
       first_in seat.program ≡ Some (kinds.OfReady k) → is_done old.links k ≡ false → ShowFaults fresh (broken_at c (record { seat = i; answer = OfReady ready }))
   ready_broken k asks.Now next w first done = none_broken
   ready_broken k asks.NotYet next w first done = none_broken
   ready_broken k asks.Failed next w first done = let a = w.asked in
-      at_seat (λ s. asked_link s.program) (fault_shown old fresh i seat.program seat' w (a.answered.failed refl (done_at old fresh i seat.program seat' k a.out a.at done)) (asked_link seat.program) (inr (asks_first seat.program (kinds.OfReady k) first)))
+      at_seat (λ s. asked_link s.program) (fault_shown old fresh i place seat' step w (a.answered.failed refl (done_at old fresh i place seat' step k a.out a.at done)) (asked_link seat.program) (inr (asks_first seat.program (kinds.OfReady k) first)))
 
   unasked : (answer : Answer) → answer ≡ Unasked → ShowFaults fresh (broken_at c (record { seat = i; answer = answer }))
   unasked answer e = subst (λ (a : Answer). ShowFaults fresh (broken_at c (record { seat = i; answer = a }))) (sym e) none_broken
 
   -- a link that answered that it failed shows it
-  pub made_broken : (first : First) (answer : Answer) → Made (table_of old) (table_of fresh) i seat.program seat' first answer → first_in seat.program ≡ Some first → AsksUnfinished old.links first →
+  pub made_broken : (first : First) (answer : Answer) → MadeFirst (table_of old) (table_of fresh) i place seat' step first answer → first_in seat.program ≡ Some first → AsksUnfinished old.links first →
       ShowFaults fresh (broken_at c (record { seat = i; answer = answer }))
   made_broken (OfCall call) answer w first open_ = unasked answer w.0
+  made_broken (OfAside aside) answer w first open_ = unasked answer w.0
   made_broken (OfMessage q) answer w first open_ = unasked answer w.0
   made_broken (OfLink k) answer w first open_ = unasked answer w.0
   made_broken (OfHome k n) answer w first open_ = unasked answer w.0
@@ -199,7 +243,7 @@ module _ (old fresh : MachineState) (i : ℕ) (c : Core) (seat : SeatState) (the
       (λ k. sym (heard_is answer k) ∙ ap (λ (ks : List ℕ). map (λ (j : ℕ). answer) (filter (λ (j : ℕ). j == k) ks)) none_)
 
   -- where one is asked
-  told_asked : (k : ℕ) (answer : Answer) (half : HalfAnswer) (next : Program) (HasAnswered : OutState → OutState → Type 0) → LinkAsked (table_of old) (table_of fresh) i seat.program seat' k next HasAnswered →
+  told_asked : (k : ℕ) (answer : Answer) (half : HalfAnswer) (next : Program) (HasAnswered : OutState → OutState → Type 0) → LinkAsked (table_of old) (table_of fresh) i place seat' k next HasAnswered →
       ((out out' : OutState) → HasAnswered out out' → out'.answers ≡ more_told out.answers (half ∷ [])) → half_of answer ≡ half ∷ [] → asked_link seat.program ≡ k ∷ [] → LinksTell old fresh (heard_at c (record { seat = i; answer = answer }))
   told_asked k answer half next HasAnswered w tells half_is asks = let a = w.asked in record {
     each = λ j x y at also. let also' : slice_get (slice_set old.ends k a.behind) j ≡ Some y = ap (λ (es : List LinkEnd). slice_get es j) (sym a.ends_are) ∙ also in dite (ℕ_discrete j k)
@@ -224,8 +268,9 @@ module _ (old fresh : MachineState) (i : ℕ) (c : Core) (seat : SeatState) (the
       heard_other j differ = sym (heard_is answer j) ∙ ap (λ (ks : List ℕ). map (λ (n : ℕ). answer) (filter (λ (n : ℕ). n == j) ks)) asks ∙ ap (λ (b : Bool). map (λ (n : ℕ). answer) (cond b (k ∷ []) [])) (ne_eqb k j (λ e. differ (sym e)))
 
   -- the links tell what they answered
-  pub made_told : (first : First) (answer : Answer) → Made (table_of old) (table_of fresh) i seat.program seat' first answer → first_in seat.program ≡ Some first → LinksTell old fresh (heard_at c (record { seat = i; answer = answer }))
+  pub made_told : (first : First) (answer : Answer) → MadeFirst (table_of old) (table_of fresh) i place seat' step first answer → first_in seat.program ≡ Some first → LinksTell old fresh (heard_at c (record { seat = i; answer = answer }))
   made_told (OfCall call) answer w first = told_none answer (asks_first seat.program (OfCall call) first) w.1.ends
+  made_told (OfAside aside) answer w first = told_none answer (asks_first seat.program (OfAside aside) first) w.1.ends
   made_told (OfMessage q) answer w first = told_none answer (asks_first seat.program (OfMessage q) first) w.1.ends
   made_told (OfLink k) answer w first = told_none answer (asks_first seat.program (OfLink k) first) w.1.ends
   made_told (OfHome k n) answer w first = told_none answer (asks_first seat.program (OfHome k n) first) w.1.ends

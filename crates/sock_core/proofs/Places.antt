@@ -1,20 +1,20 @@
 -- The seats as they lie in memory.
-use Rattle.std.proofs.Common.{◌≡◌, refl, ℕ, ◌<◌, ◌≤◌, List, [], ◌∷◌, map, length, slice_set, slice_index_or, Option, Some, None, option_map, IfSome, IfNone, ap, sym, ◌∙◌, arith, subst}
+use Rattle.std.proofs.Common.{◌≡◌, refl, ℕ, ◌<◌, ◌≤◌, Bool, List, [], ◌∷◌, map, length, slice_set, slice_index_or, Option, Some, None, option_map, IfSome, IfNone, ap, sym, ◌∙◌, arith, subst}
 use Rattle.std.proofs.lemmas.List.{map-set}
 use Rattle.std.proofs.Math.Seq.{map-set_same}
 use Rattle.atomic_table.proofs.Lists.{at_map, at_index}
 use mathlib.Core.Option as core
 use lib.ListN.{get_elem?}
-use Rattle.sock_programs.specs.Scripts.{sizes_of}
 use Rattle.sock_runs.proofs.Along.{place_inside}
 use Rattle.seat_points.specs.declared.point.Step.{Step}
 use Rattle.seat_points.specs.Points.{Around, point_program}
 use Rattle.seat_points.specs.Steps.{step_as, first_in}
 use Rattle.sock_core.specs.declared.machine.Tick.{Tick}
 use Rattle.client_seats.specs.declared.seat.Seat.{Seat}
-use Rattle.client_seats.specs.Seats.{SeatData, lives, seat_data, seat_program, around}
-use Rattle.sock_core.specs.Machines.{MachineState, TableState}
-use Rattle.sock_core.specs.Steps.{IsNext, NextIs, HasNoStep, Fits, StepFits}
+use Rattle.client_seats.specs.Seats.{SeatData, seat_data, seat_program, around}
+use Rattle.reader_seats.specs.Readers.{ReaderData}
+use Rattle.sock_core.specs.Machines.{MachineState, TableState, table_sizes}
+use Rattle.sock_core.specs.Steps.{IsNext, NextIs, HasNoStep, MayStand, Fits, IsReady, ReadyAt, StepFits}
 use Rattle.sock_core.specs.Telling.{StepTold, TickTold}
 use Rattle.sock_core.specs.Driving.{AsksNone, IsPlain}
 
@@ -26,13 +26,10 @@ same_some : {A : Type 0} {a b : A} → core.some a ≡ core.some b → a ≡ b
 same_some e = cc
 
 -- the tables with these seats
-abbrev pub view_of : TableState → List Seat → List ℕ → MachineState
-view_of t items opens = record { plan = t.plan; words = t.words; letters = t.letters; links = t.links; seats = map seat_data items; opens = opens; outcomes = t.outcomes; ends = t.ends }
+abbrev pub view_of : TableState → List Seat → List ReaderData → List ℕ → Bool → MachineState
+view_of t items readers opens short = record { plan = t.plan; words = t.words; letters = t.letters; links = t.links; ids = t.ids; calls = t.calls; ending = t.ending; seats = map seat_data items; readers = readers; opens = opens; outcomes = t.outcomes; ends = t.ends; short = short }
 
-pub data_is : (x y : Seat) → y.tasks.items ≡ x.tasks.items → y.held.items ≡ x.held.items → y.ending.items ≡ x.ending.items → y.point ≡ x.point → y.message ≡ x.message → y.out ≡ x.out → seat_data y ≡ seat_data x
-data_is x y a b d e f g = λ k. record { tasks = a k; held = lives (b k); ending = d k; point = e k; message = f k; out = g k }
-
-module _ (t : TableState) (items : List Seat) (opens : List ℕ) (i j : ℕ) (there : j ≡ i) where
+module _ (t : TableState) (items : List Seat) (readers : List ReaderData) (opens : List ℕ) (short : Bool) (i j : ℕ) (there : j ≡ i) where
   pub seat_there : (x : Seat) → j < length items → x ≡ slice_index_or items j x → get_elem? (map seat_data items) i ≡ core.some (seat_data x)
   seat_there x h e = subst (λ (k : ℕ). get_elem? (map seat_data items) k ≡ core.some (seat_data x)) there (at_map seat_data items j x (at_index items j x h e))
 
@@ -40,18 +37,18 @@ module _ (t : TableState) (items : List Seat) (opens : List ℕ) (i j : ℕ) (th
   seat_within s e = let h = place_inside (map seat_data items) i s e in omega (arith, length_map seat_data items)
 
   -- the next step of the seat that lies there
-  pub named : (x : Seat) (o : Option Step) → j < length items → x ≡ slice_index_or items j x → ((a : Around) → option_map (step_as a) o ≡ first_in (point_program a x.point)) → IfSome o (λ step. NextIs (view_of t items opens) i step)
+  pub named : (x : Seat) (o : Option Step) → j < length items → x ≡ slice_index_or items j x → (option_map (step_as (around (table_sizes t) (seat_data x))) o ≡ first_in (point_program (around (table_sizes t) (seat_data x)) x.point)) → IfSome o (λ step. NextIs (view_of t items readers opens short) i step)
   named x None h e first = tt
-  named x (Some step) h e first = record { seat = seat_data x; at = seat_there x h e; is = sym (first (around (sizes_of t.plan) (seat_data x))) }
+  named x (Some step) h e first = record { seat = seat_data x; at = seat_there x h e; is = sym first }
 
-  pub unnamed : (x : Seat) (o : Option Step) → j < length items → x ≡ slice_index_or items j x → ((a : Around) → option_map (step_as a) o ≡ first_in (point_program a x.point)) → IfNone o (HasNoStep (view_of t items opens) i)
+  pub unnamed : (x : Seat) (o : Option Step) → j < length items → x ≡ slice_index_or items j x → (option_map (step_as (around (table_sizes t) (seat_data x))) o ≡ first_in (point_program (around (table_sizes t) (seat_data x)) x.point)) → IfNone o (HasNoStep (view_of t items readers opens short) i)
   unnamed x (Some step) h e first = tt
-  unnamed x None h e first = λ seat at. subst (λ (s : SeatData). first_in (seat_program (sizes_of t.plan) s) ≡ None) (same_some (sym (seat_there x h e) ∙ at)) (sym (first (around (sizes_of t.plan) (seat_data x))))
+  unnamed x None h e first = λ seat at. subst (λ (s : SeatData). first_in (seat_program (table_sizes t) s) ≡ None) (same_some (sym (seat_there x h e) ∙ at)) (sym first)
 
-  pub past : length items ≤ j → HasNoStep (view_of t items opens) i
+  pub past : length items ≤ j → HasNoStep (view_of t items readers opens short) i
   past h seat at = absurd (let inside = seat_within seat at in omega arith)
 
-  module _ (x y : Seat) (is : x ≡ slice_index_or items j x) (same : seat_data y ≡ seat_data x) (step : Step) (n : NextIs (view_of t items opens) i step) where
+  module _ (x y : Seat) (is : x ≡ slice_index_or items j x) (same : seat_data y ≡ seat_data x) (step : Step) (n : NextIs (view_of t items readers opens short) i step) where
     within : j < length items
     within = seat_within n.seat n.at
 
@@ -61,19 +58,24 @@ module _ (t : TableState) (items : List Seat) (opens : List ℕ) (i j : ℕ) (th
     pub next_here : IsNext t (seat_data y) step
     next_here = subst (λ (s : SeatData). IsNext t s step) (sym lies) n.is
 
-    pub fits_here : StepFits (view_of t items opens) i step → Fits t (seat_data y) step
-    fits_here fits = subst (λ (s : SeatData). Fits t s step) (sym lies) (fits n.seat n.at)
+    pub fits_here : StepFits (view_of t items readers opens short) i step → MayStand (seat_data y) × Fits t (seat_data y) step
+    fits_here fits = subst (λ (s : SeatData). MayStand s × Fits t s step) (sym lies) (fits n.seat n.at)
 
-    pub plain_here : i ≡ 0 → IsPlain (view_of t items opens) → AsksNone (seat_program (sizes_of t.plan) (seat_data y))
-    plain_here first plain = subst (λ (s : SeatData). AsksNone (seat_program (sizes_of t.plan) s)) (sym lies) (plain n.seat (subst (λ k. get_elem? (map seat_data items) k ≡ core.some n.seat) first n.at))
+    pub ready_here : ReadyAt (view_of t items readers opens short) i → IsReady t (seat_data y)
+    ready_here ready = subst (λ (s : SeatData). IsReady t s) (sym lies) (ready n.seat n.at)
 
-    pub told_here : {t' : TableState} (z : Seat) {tick : Tick} → StepTold t t' i (seat_data y) (seat_data z) step tick → TickTold (view_of t items opens) (view_of t' (slice_set items j z) opens) i step tick
+    pub plain_here : i ≡ 0 → IsPlain (view_of t items readers opens short) → AsksNone (seat_program (table_sizes t) (seat_data y))
+    plain_here first plain = subst (λ (s : SeatData). AsksNone (seat_program (table_sizes t) s)) (sym lies) ((plain n.seat (subst (λ k. get_elem? (map seat_data items) k ≡ core.some n.seat) first n.at)).0)
+
+    pub told_here : {t' : TableState} (z : Seat) {tick : Tick} → StepTold t t' i (seat_data y) (seat_data z) step tick → TickTold (view_of t items readers opens short) (view_of t' (slice_set items j z) readers opens short) i step tick
     told_here {t'} z {tick} h = record {
       seat = n.seat;
       at = n.at;
       seat' = seat_data z;
       seats = map-set seat_data items j z ∙ ap (λ k. slice_set (map seat_data items) k (seat_data z)) there;
+      readers = refl;
       opens = refl;
+      short = refl;
       told = subst (λ (s : SeatData). StepTold t t' i s (seat_data z) step tick) lies h;
     }
 

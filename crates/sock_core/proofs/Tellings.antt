@@ -1,17 +1,32 @@
 -- What a tick answers: the kind of its step, or for what the seat waits.
-use Rattle.std.proofs.Common.{◌≡◌, ◌≢◌, refl, ℕ, ◌==◌, Bool, true, false, is_some, if◌then◌else◌, List, [], Option, Some, None, ap, sym, ◌∙◌, subst}
+use Rattle.std.proofs.Common.{◌≡◌, ◌≢◌, refl, ℕ, ◌+◌, ◌==◌, ◌&&◌, Bool, true, false, not, is_some, if◌then◌else◌, List, [], Option, Some, None, IfSome, ap, sym, ◌∙◌, subst}
+use mathlib.Core.Option as core
+use Rattle.corr_core.specs.Word.{parts, code_of}
+use Rattle.id_points.specs.Ids.{id_of}
 use Rattle.sock_words.specs.declared.kind.Kind.{Kind}
+use Rattle.sock_words.specs.declared.kind.Kind.TheVariants.{I6, K1}
 use Rattle.sock_io.specs.declared.link.Put.{Put}
 use Rattle.sock_io.specs.declared.link.Ready.{Ready}
 use Rattle.sock_io.specs.declared.link.Ready.TheVariants as asks
-use Rattle.sock_model.specs.Memory.{UNCONNECTED}
 use Rattle.sock_words.specs.declared.plain.Plan.{Plan}
+use Rattle.sock_programs.specs.Parts.{part}
+use Rattle.sock_programs.specs.Asides.{id_first, id_slot, PutCall}
+use Rattle.sock_programs.specs.Asides as asides
+use Rattle.sock_programs.specs.Beside.{found_in}
+use Rattle.sock_programs.specs.Heads.{Posts, Unlocks, Decides, Locks, Joins, Opens, Reads, Discards, HasEnded}
+use Rattle.sock_programs.specs.Posts.{ends_call, end_id, unlocked, decided, is_first, is_sought}
 use Rattle.sock_programs.specs.Calls as calls
 use Rattle.sock_programs.specs.Writings as heads
-use Rattle.sock_programs.specs.Programs.{Program, Do, Say, Sent, Rest, TakeMessage, TakeHome, PutHome, PutBytes, AskReady, Write}
+use Rattle.sock_programs.specs.Programs.{Program, Do, Say, Sent, Rest, TakeMessage, TakeHome, PutHome, PutBytes, AskReady, Write, Aside, Round, Keep, Retries}
 use Rattle.sock_programs.specs.Cores.{Core, word_of, found_at}
 use Rattle.sock_programs.specs.Ticks.{Answer, Unasked, OfPut, OfReady, waits_at}
 use Rattle.sock_programs.specs.Runs.{kind_in}
+use Rattle.call_slots.specs.Steps.{word_found}
+use Rattle.call_points.specs.declared.aside.Aside as code
+use Rattle.call_points.specs.Steps as aside_steps
+use Rattle.call_points.specs.declared.deciding.DecideStep.TheVariants as decides
+use Rattle.call_points.specs.declared.posting.PostStep.TheVariants as posts
+use Rattle.call_points.specs.declared.locking.LockStep.TheVariants as locks
 use Rattle.seat_points.specs.declared.point.OpenStep.TheVariants as opens
 use Rattle.seat_points.specs.declared.point.SeekStep.TheVariants as seeks
 use Rattle.seat_points.specs.declared.point.Aim.TheVariants as aims
@@ -19,141 +34,133 @@ use Rattle.seat_points.specs.declared.point.FailStep.TheVariants as fails
 use Rattle.seat_points.specs.declared.point.ReleaseStep.TheVariants as releases
 use Rattle.seat_points.specs.declared.point.SendStep.TheVariants as sends
 use Rattle.seat_points.specs.declared.point.WriteStep.TheVariants as writes
+use Rattle.seat_points.specs.declared.point.Author.{Author}
+use Rattle.seat_points.specs.declared.point.Author.TheVariants as authors
+use Rattle.seat_points.specs.declared.point.CallStep.TheVariants as begins
+use Rattle.seat_points.specs.declared.point.AttemptStep.TheVariants as attempts
+use Rattle.seat_points.specs.declared.point.RetryStep.TheVariants as retries
+use Rattle.seat_points.specs.declared.point.JoinStep.TheVariants as joins
 use Rattle.seat_points.specs.declared.point.Point.{Point}
 use Rattle.seat_points.specs.declared.point.Point.TheVariants as points
-use Rattle.seat_points.specs.Points.{Around, point_program}
-use Rattle.seat_points.specs.Steps.{First, OfCall, OfMessage, OfLink, OfHome, first_in, kind_of_first}
+use Rattle.seat_points.specs.Points.{Around, point_program, look_program, after_program, heading_by, parts_by}
+use Rattle.seat_points.specs.Steps.{First, OfCall, OfAside, OfMessage, OfLink, OfHome, first_of, first_in, kind_of_first}
 use Rattle.seat_points.specs.Steps as kinds
 use Rattle.seat_points.specs.Steps.{step_of, step_as}
 use Rattle.seat_points.specs.declared.call.Call.{Call}
 use Rattle.seat_points.specs.declared.point.Step.{Step}
 use Rattle.seat_points.specs.declared.point.Step.TheVariants as firsts
 use Rattle.sock_model.specs.declared.chain.Heading.{Heading}
-use Rattle.sock_message.specs.Pieces.{piece}
-use Rattle.sock_programs.specs.Sends.{heading_of}
-use Rattle.sock_programs.specs.Scripts.{sizes_of}
+use Rattle.sock_core.specs.declared.machine.On.{On}
 use Rattle.sock_core.specs.declared.machine.On.TheVariants as on
-use Rattle.sock_core.specs.Telling.{awaits, is_waiting, WaitsOn, StepTold}
+use Rattle.sock_core.specs.Runs.{IsWaitingFor}
+use Rattle.sock_core.specs.Telling.{is_waiting, waits_by, StepTold}
 use Rattle.sock_core.specs.declared.machine.Tick.TheVariants.{Moved, Waits}
-use Rattle.client_seats.specs.Seats.{SeatData, around, seat_program, bytes_of, left_of, taken_of}
-use Rattle.sock_core.specs.Machines.{TableState}
-use Rattle.sock_core.specs.Steps.{IsNext, Makes}
+use Rattle.client_seats.specs.Seats.{SeatData, around, seat_program, bytes_of, parts_of, left_of, taken_of, left_parts_of, asked_of}
+use Rattle.sock_core.specs.Machines.{TableState, table_sizes}
+use Rattle.sock_core.specs.Steps.{IsNext, Makes, FoundBeside, beside}
 
 -- ## Kinds
 
-abbrev KindIs : Option First → Program → Type 0
-KindIs None program = Unit {0}
-KindIs (Some first) program = kind_in program ≡ Some (kind_of_first first)
+abbrev KindAt : Option First → Option Kind → Type 0
+KindAt None kind = Unit {0}
+KindAt (Some first) kind = kind ≡ Some (kind_of_first first)
 
-kind_is : (program : Program) → KindIs (first_in program) program
+-- a call that is decided on ends, or goes home again
+by_ends : (ends : Bool) (x y : Program) → KindAt (first_of x) (Some I6) → KindAt (first_of y) (Some K1) → KindAt (first_of (if ends then x else y)) (Some (if ends then I6 else K1))
+by_ends true x y f g = f
+by_ends false x y f g = g
+
+kind_is : (program : Program) → KindAt (first_in program) (kind_in program)
 kind_is (Do call next) = refl
 kind_is (Say o outcome next) = tt
 kind_is (Sent o next) = tt
+kind_is (Keep r next) = tt
+kind_is (Retries requests after) = tt
 kind_is Rest = tt
 kind_is (TakeMessage q next) = refl
 kind_is (TakeHome k next) = refl
 kind_is (PutHome k n after) = refl
 kind_is (PutBytes k asked bytes next) = refl
 kind_is (AskReady k next) = refl
+kind_is (Aside step next) = refl
 kind_is (Write (heads.Puts h now heading left taken asked) after) = refl
 kind_is (Write (heads.Waits h now heading left taken) after) = refl
 kind_is (Write (heads.Empties h) after) = refl
 kind_is (Write (heads.Walks h top at after) then_) = refl
+kind_is (Round (Posts id e w) next) = refl
+kind_is (Round (Unlocks i w advance) next) = refl
+kind_is (Round (Decides id asked w e) next) = by_ends (ends_call (parts w) e) (end_id (id_slot id) (next (HasEnded asked.operation (code_of e)))) (Aside (PutCall (id_slot id) asked) (λ _. Round (Unlocks (id_slot id) w true) (unlocked (record { id = id; attempt = (parts w).attempt + 1 }) next))) refl refl
+kind_is (Round (Locks i sought None) next) = refl
+kind_is (Round (Locks i sought (Some w)) next) = refl
+kind_is (Round (Joins id) next) = refl
+kind_is (Round (Opens o) next) = refl
+kind_is (Round (Reads r) next) = refl
+kind_is (Round (Discards k total) next) = refl
 
 pub kind_first : (program : Program) (first : First) (kind : Kind) → first_in program ≡ Some first → kind ≡ kind_of_first first → kind_in program ≡ Some kind
-kind_first program first kind e f = rw f (subst (λ (o : Option First). KindIs o program) e (kind_is program))
+kind_first program first kind e f = rw f (subst (λ (o : Option First). KindAt o (kind_in program)) e (kind_is program))
 
 -- ## Waiting
 
+-- a message goes home
+abbrev PutsMessage : calls.Call → Type 0
+PutsMessage (calls.PutMessage q heading bytes) = Unit {0}
+PutsMessage other = ⊥
+
 module _ (p : Plan) (c : Core) where
-  -- a step on a word waits where a walk finds that the next word isn't connected
+  -- a step on a word waits by the word that it finds
   abbrev WaitsIs : Option First → Program → Type 0
   WaitsIs None program = Unit {0}
-  WaitsIs (Some (OfCall call)) program = waits_at p c Unasked program ≡ is_some (awaits program (found_at c.words (word_of p call)))
+  WaitsIs (Some (OfCall call)) program = (waits_at p c Unasked program ≡ waits_by program (found_at c.words (word_of p call))) × (PutsMessage call → waits_at p c Unasked program ≡ false)
+  WaitsIs (Some (OfAside step)) program = (found : ℕ) → found_in step c.calls core.none ≡ word_found step found → waits_at p c Unasked program ≡ waits_by program found
   WaitsIs (Some (OfMessage q)) program = waits_at p c Unasked program ≡ false
   WaitsIs (Some (OfLink k)) program = waits_at p c Unasked program ≡ false
   WaitsIs (Some (OfHome k n)) program = waits_at p c Unasked program ≡ false
   WaitsIs (Some (kinds.OfPut k asked bytes)) program = (put : Put) → waits_at p c (OfPut put) program ≡ false
   WaitsIs (Some (kinds.OfReady k)) program = Unit {0}
 
-  by_word : (b : Bool) (at : ℕ) → b ≡ is_some (if b then Some at else None)
-  by_word true at = refl
-  by_word false at = refl
+  ends_waits : (program : Program) (ends : Bool) (x y : Program) → WaitsIs (first_of x) program → WaitsIs (first_of y) program → WaitsIs (first_of (if ends then x else y)) program
+  ends_waits program true x y f g = f
+  ends_waits program false x y f g = g
 
   waits_is : (program : Program) → WaitsIs (first_in program) program
-  waits_is (Do call next) = refl
+  waits_is (Do call next) = (refl, λ puts. refl)
   waits_is (Say o outcome next) = tt
   waits_is (Sent o next) = tt
+  waits_is (Keep r next) = tt
+  waits_is (Retries requests after) = tt
   waits_is Rest = tt
   waits_is (TakeMessage q next) = refl
   waits_is (TakeHome k next) = refl
   waits_is (PutHome k n after) = refl
   waits_is (PutBytes k asked bytes next) = λ put. refl
   waits_is (AskReady k next) = tt
-  waits_is (Write (heads.Puts h now heading left taken asked) after) = refl
+  waits_is (Aside step next) = λ found h. refl
+  waits_is (Write (heads.Puts h now heading left taken asked) after) = (refl, λ puts. absurd puts)
   waits_is (Write (heads.Waits h now heading left taken) after) = tt
   waits_is (Write (heads.Empties h) after) = refl
-  waits_is (Write (heads.Walks h top at after) then_) = by_word _ at
-
-  abbrev LetterWaits : Option First → Program → Type 0
-  LetterWaits (Some (OfCall (calls.PutMessage q heading bytes))) program = waits_at p c Unasked program ≡ false
-  LetterWaits other program = Unit {0}
-
-  no_letter_waits : (program : Program) → LetterWaits (first_in program) program
-  no_letter_waits (Do (calls.PutMessage q heading bytes) next) = refl
-  no_letter_waits (Do (calls.ClaimSlot i) next) = tt
-  no_letter_waits (Do (calls.GiveBirth i k) next) = tt
-  no_letter_waits (Do (calls.AddRef id) next) = tt
-  no_letter_waits (Do (calls.SubRef i) next) = tt
-  no_letter_waits (Do (calls.SetOdd i) next) = tt
-  no_letter_waits (Do (calls.Recycle i from) next) = tt
-  no_letter_waits (Do (calls.FreeSlot i) next) = tt
-  no_letter_waits (Do (calls.StoreLink i k) next) = tt
-  no_letter_waits (Do (calls.LoadLink i w) next) = tt
-  no_letter_waits (Do (calls.ResetHead i k) next) = tt
-  no_letter_waits (Do (calls.WipeCode i k) next) = tt
-  no_letter_waits (Do (calls.StoreCode i h d) next) = tt
-  no_letter_waits (Do (calls.StoreName n w) next) = tt
-  no_letter_waits (Do (calls.LoadName n) next) = tt
-  no_letter_waits (Do (calls.StoreOpen o w) next) = tt
-  no_letter_waits (Do (calls.LoadOpen o) next) = tt
-  no_letter_waits (Do (calls.TakeLink k) next) = tt
-  no_letter_waits (Do (calls.FinishLink k) next) = tt
-  no_letter_waits (Do (calls.PutLink k) next) = tt
-  no_letter_waits (Do (calls.LookWord id) next) = tt
-  no_letter_waits (Do (calls.FindLink i h) next) = tt
-  no_letter_waits (Do (calls.LoadCode i h) next) = tt
-  no_letter_waits (Do (calls.ClaimRequest id q) next) = tt
-  no_letter_waits (Do (calls.Unconnect q) next) = tt
-  no_letter_waits (Do (calls.SwapHead i own) next) = tt
-  no_letter_waits (Do (calls.Connect q before) next) = tt
-  no_letter_waits (Do (calls.EmptyHead i last) next) = tt
-  no_letter_waits (Do (calls.ReadNext q) next) = tt
-  no_letter_waits (Do (calls.TurnNext q value) next) = tt
-  no_letter_waits (Do (calls.FreeRequest q g) next) = tt
-  no_letter_waits (Do (calls.StorePlace l k n) next) = tt
-  no_letter_waits (Do (calls.DropPlace l k n) next) = tt
-  no_letter_waits (Say o outcome next) = tt
-  no_letter_waits (Sent o next) = tt
-  no_letter_waits Rest = tt
-  no_letter_waits (TakeMessage q next) = tt
-  no_letter_waits (TakeHome k next) = tt
-  no_letter_waits (PutHome k n after) = tt
-  no_letter_waits (PutBytes k asked bytes next) = tt
-  no_letter_waits (AskReady k next) = tt
-  no_letter_waits (Write (heads.Puts h now heading left taken asked) after) = tt
-  no_letter_waits (Write (heads.Waits h now heading left taken) after) = tt
-  no_letter_waits (Write (heads.Empties h) after) = tt
-  no_letter_waits (Write (heads.Walks h top at after) then_) = tt
+  waits_is (Write (heads.Walks h top at after) then_) = (refl, λ puts. absurd puts)
+  waits_is (Round (Posts id e w) next) = λ found h. refl
+  waits_is (Round (Unlocks i w advance) next) = λ found h. refl
+  waits_is (Round (Decides id asked w e) next) = ends_waits (Round (Decides id asked w e) next) (ends_call (parts w) e) (end_id (id_slot id) (next (HasEnded asked.operation (code_of e)))) (Aside (PutCall (id_slot id) asked) (λ _. Round (Unlocks (id_slot id) w true) (unlocked (record { id = id; attempt = (parts w).attempt + 1 }) next))) (λ found h. refl) (λ found h. refl)
+  waits_is (Round (Locks i sought None) next) = λ found h. ap (λ (w : ℕ). is_sought sought (parts w) && not ((parts w).state == 1)) (core.some-injective _ found h)
+  waits_is (Round (Locks i sought (Some w)) next) = λ found h. refl
+  waits_is (Round (Joins id) next) = λ found h. ap (λ (w : ℕ). is_first (id_first id) (parts w)) (core.some-injective _ found h)
+  waits_is (Round (Opens o) next) = (refl, λ puts. absurd puts)
+  waits_is (Round (Reads r) next) = λ found h. refl
+  waits_is (Round (Discards k total) next) = λ found h. refl
 
   waits_first : (program : Program) (first : First) → first_in program ≡ Some first → WaitsIs (Some first) program
   waits_first program first e = subst (λ (o : Option First). WaitsIs o program) e (waits_is program)
 
-  pub call_waits : (program : Program) (call : calls.Call) → first_in program ≡ Some (OfCall call) → waits_at p c Unasked program ≡ is_some (awaits program (found_at c.words (word_of p call)))
-  call_waits program call e = waits_first program (OfCall call) e
+  pub call_waits : (program : Program) (call : calls.Call) → first_in program ≡ Some (OfCall call) → waits_at p c Unasked program ≡ waits_by program (found_at c.words (word_of p call))
+  call_waits program call e = (waits_first program (OfCall call) e).0
+
+  pub aside_waits : (program : Program) (step : asides.Step) (found : ℕ) → first_in program ≡ Some (OfAside step) → found_in step c.calls core.none ≡ word_found step found → waits_at p c Unasked program ≡ waits_by program found
+  aside_waits program step found e h = waits_first program (OfAside step) e found h
 
   pub letter_waits : (program : Program) (q : ℕ) (heading : Heading) (bytes : List ℕ) → first_in program ≡ Some (OfCall (calls.PutMessage q heading bytes)) → waits_at p c Unasked program ≡ false
-  letter_waits program q heading bytes e = subst (λ (o : Option First). LetterWaits o program) e (no_letter_waits program)
+  letter_waits program q heading bytes e = (waits_first program (OfCall (calls.PutMessage q heading bytes)) e).1 tt
 
   pub message_waits : (program : Program) (q : ℕ) → first_in program ≡ Some (OfMessage q) → waits_at p c Unasked program ≡ false
   message_waits program q e = waits_first program (OfMessage q) e
@@ -169,8 +176,16 @@ module _ (p : Plan) (c : Core) where
 
   -- whoever asks its link stands at the head of a loop
   abbrev AsksLink : Option First → Program → Type 0
-  AsksLink (Some (kinds.OfReady k)) program = (waits_at p c (OfReady asks.NotYet) program ≡ true) × (waits_at p c (OfReady asks.Now) program ≡ false) × (waits_at p c (OfReady asks.Failed) program ≡ false) × WaitsOn program (on.Out k)
+  AsksLink (Some (kinds.OfReady k)) program = (waits_at p c (OfReady asks.NotYet) program ≡ true) × (waits_at p c (OfReady asks.Now) program ≡ false) × (waits_at p c (OfReady asks.Failed) program ≡ false) × IsWaitingFor program (on.Out k)
   AsksLink other program = Unit {0}
+
+  look_asks : (a : Around) (author : Author) (id : ℕ) (program : Program) → AsksLink (first_in (look_program a author id)) program
+  look_asks a (authors.Send o) id program = tt
+  look_asks a (authors.Attempt t) id program = tt
+
+  judge_asks : (program : Program) (ends : Bool) (x y : Program) → AsksLink (first_of x) program → AsksLink (first_of y) program → AsksLink (first_of (if ends then x else y)) program
+  judge_asks program true x y f g = f
+  judge_asks program false x y f g = g
 
   asks_link : (a : Around) (point : Point) → AsksLink (first_in (point_program a point)) (point_program a point)
   asks_link a points.Rest = tt
@@ -200,7 +215,7 @@ module _ (p : Plan) (c : Core) where
   asks_link a (points.Release i t (releases.FinishLink w k)) = tt
   asks_link a (points.Release i t (releases.PutLink w k)) = tt
   asks_link a (points.Release i t releases.FreeSlot) = tt
-  asks_link a (points.Send s sends.Look) = tt
+  asks_link a (points.Send s sends.Look) = look_asks a s.author s.id.0 (look_program a s.author s.id.0)
   asks_link a (points.Send s (sends.Claim q)) = tt
   asks_link a (points.Send s (sends.PutMessage q own)) = tt
   asks_link a (points.Send s (sends.Unconnect q own)) = tt
@@ -212,15 +227,15 @@ module _ (p : Plan) (c : Core) where
   asks_link a (points.Write w (writes.FirstLook m)) = tt
   asks_link a (points.Write w (writes.Look m asked)) = tt
   asks_link a (points.Write w (writes.Put m asked)) = tt
-  asks_link a (points.Write w (writes.Ask m)) = (refl, refl, refl, (_, _, refl, refl))
+  asks_link a (points.Write w (writes.Ask m)) = (refl, refl, refl, refl)
   asks_link a (points.Write w (writes.SetOdd m)) = tt
   asks_link a (points.Write w (writes.StoreCode m)) = tt
   asks_link a (points.Write w (writes.GiveBack m)) = tt
   asks_link a (points.Write w (writes.StorePlace m)) = tt
   asks_link a (points.Write w (writes.LoadCode m)) = tt
-  asks_link a (points.Write w (writes.DropPlace m)) = tt
-  asks_link a (points.Write w (writes.ReadNext now)) = tt
-  asks_link a (points.Write w (writes.Free now next)) = tt
+  asks_link a (points.Write w (writes.DropPlace m n)) = tt
+  asks_link a (points.Write w (writes.ReadNext now c)) = tt
+  asks_link a (points.Write w (writes.Free now next c)) = tt
   asks_link a (points.Write w (writes.TakeMessage next)) = tt
   asks_link a (points.Write w writes.PutHome) = tt
   asks_link a (points.Write w writes.EmptyHead) = tt
@@ -228,87 +243,105 @@ module _ (p : Plan) (c : Core) where
   asks_link a (points.Write w (writes.Walk top at after)) = tt
   asks_link a (points.Write w (writes.Turn top at after before)) = tt
   asks_link a (points.Write w (writes.TakeFirst top at)) = tt
+  asks_link a (points.Call begins.LoadName) = tt
+  asks_link a (points.Call (begins.ClaimId i socket)) = tt
+  asks_link a (points.Call (begins.PutCall i socket)) = tt
+  asks_link a (points.Call (begins.MakeId i socket)) = tt
+  asks_link a (points.Call (begins.StoreCall id socket)) = tt
+  asks_link a (points.Attempt t socket attempts.AddRef) = tt
+  asks_link a (points.Attempt t socket attempts.FindLink) = tt
+  asks_link a (points.Attempt t socket (attempts.StoreAt k)) = tt
+  asks_link a (points.Post c after posts.Load) = tt
+  asks_link a (points.Post c after (posts.Exchange from)) = tt
+  asks_link a (points.Decide c after (decides.Take w)) = tt
+  asks_link a (points.Decide c after (decides.Judge w)) = judge_asks (point_program a (points.Decide c after (decides.Judge w))) (ends_call (parts w.0) c.error.0) (end_id (id_slot (id_of c.id)) (decided (id_of c.id) (after_program a after) (HasEnded a.asked.operation (code_of c.error.0)))) (Aside (PutCall (id_slot (id_of c.id)) a.asked) (λ _. Round (Unlocks (id_slot (id_of c.id)) w.0 true) (unlocked (record { id = id_of c.id; attempt = (parts w.0).attempt + 1 }) (decided (id_of c.id) (after_program a after))))) tt tt
+  asks_link a (points.Decide c after (decides.Free o)) = tt
+  asks_link a (points.Decide c after (decides.Unlock from advance n)) = tt
+  asks_link a (points.Retry r (retries.Lock locks.Read)) = tt
+  asks_link a (points.Retry r (retries.Lock (locks.Exchange from))) = tt
+  asks_link a (points.Retry r (retries.TakeCall w)) = tt
+  asks_link a (points.Retry r (retries.PutCall w)) = tt
+  asks_link a (points.Retry r (retries.Unlock w advance)) = tt
+  asks_link a (points.Retry r retries.LoadName) = tt
+  asks_link a (points.Expire o t) = tt
+  asks_link a (points.Join o (joins.LoadCall t)) = tt
+  asks_link a (points.Join o (joins.Wait id)) = tt
 
   pub ready_waits : (a : Around) (point : Point) (k : ℕ) → first_in (point_program a point) ≡ Some (kinds.OfReady k) → AsksLink (Some (kinds.OfReady k)) (point_program a point)
   ready_waits a point k e = subst (λ (o : Option First). AsksLink o (point_program a point)) e (asks_link a point)
 
--- a walk that waits
-pub walk_waits : (program : Program) (found ticket : ℕ) → awaits program found ≡ Some ticket → WaitsOn program (on.Next ticket)
-walk_waits (Write (heads.Walks h top at after) then_) found ticket e = (h, top, after, then_, ap (λ x. Write (heads.Walks h top x after) then_) (chosen (found == UNCONNECTED) e))
-  where
-    chosen : (b : Bool) → (if b then Some at else None) ≡ Some ticket → at ≡ ticket
-    chosen true h = cc
-    chosen false h = cc
-walk_waits program found ticket e = absurd (none_some e)
-  where
-    none_some : None ≡ Some ticket → ⊥
-    none_some h = cc
-
 -- ## Ticks
 
 abbrev words_of : TableState → Core
-words_of t = record { words = t.words; homes = []; seats = []; outcomes = [] }
+words_of t = record { words = t.words; homes = []; seats = []; outcomes = []; calls = beside t }
 
 next_is : (old : TableState) (seat : SeatData) (step step' : Step) → step ≡ step' → IsNext old seat step → IsNext old seat step'
 next_is old seat step step' e next = subst (λ (x : Step). IsNext old seat x) e next
+
+waits_for : (program : Program) (o : Option On) (on_ : On) → o ≡ Some on_ → IfSome o (IsWaitingFor program) → IsWaitingFor program on_
+waits_for program o on_ some is = subst (λ (x : Option On). IfSome x (IsWaitingFor program)) some is
+
+call_waiting : (old : TableState) (seat : SeatData) (call : Call) (found : ℕ) (o : Option On) → IsNext old seat (firsts.Call call) → found ≡ found_at old.words (word_of old.plan (step_of call)) → is_some o ≡ waits_by (seat_program (table_sizes old) seat) found → is_waiting old Unasked (seat_program (table_sizes old) seat) ≡ is_some o
+call_waiting old seat call found o next f awaited = call_waits old.plan (words_of old) (seat_program (table_sizes old) seat) (step_of call) next ∙ ap (waits_by (seat_program (table_sizes old) seat)) (sym f) ∙ sym awaited
+
+aside_waiting : (old : TableState) (seat : SeatData) (aside : code.Aside) (found : ℕ) (o : Option On) → IsNext old seat (firsts.Aside aside) → FoundBeside old seat aside found → is_some o ≡ waits_by (seat_program (table_sizes old) seat) found → is_waiting old Unasked (seat_program (table_sizes old) seat) ≡ is_some o
+aside_waiting old seat aside found o next f awaited = aside_waits old.plan (words_of old) (seat_program (table_sizes old) seat) (aside_steps.step_of (asked_of seat.call) aside) found next f ∙ sym awaited
 
 module _ {old fresh : TableState} {i : ℕ} {seat seat' : SeatData} {step : Step} where
   makes_is : (step' : Step) (answer : Answer) → step ≡ step' → Makes old fresh i seat seat' step' answer → Makes old fresh i seat seat' step answer
   makes_is step' answer e makes = subst (λ (x : Step). Makes old fresh i seat seat' x answer) (sym e) makes
 
   -- the step is made
-  moved : (kind : Kind) (step' : Step) (answer : Answer) → step ≡ step' → IsNext old seat step → ((a : Around) → kind ≡ kind_of_first (step_as a step)) → Makes old fresh i seat seat' step' answer →
-      is_waiting old answer (seat_program (sizes_of old.plan) seat) ≡ false → StepTold old fresh i seat seat' step (Moved kind)
+  moved : (kind : Kind) (step' : Step) (answer : Answer) → step ≡ step' → IsNext old seat step → kind ≡ kind_of_first (step_as (around (table_sizes old) seat) step) → Makes old fresh i seat seat' step' answer →
+      is_waiting old answer (seat_program (table_sizes old) seat) ≡ false → StepTold old fresh i seat seat' step (Moved kind)
   moved kind step' answer e next is makes waits = record {
     answer = answer;
     makes = makes_is step' answer e makes;
-    tells = (kind_first (seat_program (sizes_of old.plan) seat) (step_as (around (sizes_of old.plan) seat) step) kind next (is (around (sizes_of old.plan) seat)), waits);
+    tells = (kind_first (seat_program (table_sizes old) seat) (step_as (around (table_sizes old) seat) step) kind next is, waits);
   }
 
-  module _ (kind : Kind) (next : IsNext old seat step) (is : (a : Around) → kind ≡ kind_of_first (step_as a step)) where
-    pub call_moved : (call : Call) (found : ℕ) (o : Option ℕ) → step ≡ firsts.Call call → Makes old fresh i seat seat' (firsts.Call call) Unasked → found ≡ found_at old.words (word_of old.plan (step_of call)) →
-        ((a : Around) → o ≡ awaits (point_program a seat.point) found) → o ≡ None → StepTold old fresh i seat seat' step (Moved kind)
-    call_moved call found o e makes f awaited none = moved kind (firsts.Call call) Unasked e next is makes
-        (call_waits old.plan (words_of old) (seat_program (sizes_of old.plan) seat) (step_of call) (next_is old seat step (firsts.Call call) e next)
-        ∙ ap is_some (ap (awaits (seat_program (sizes_of old.plan) seat)) (sym f) ∙ sym (awaited (around (sizes_of old.plan) seat)) ∙ none))
+  -- it waits
+  waited : (on_ : On) (step' : Step) (answer : Answer) → step ≡ step' → Makes old fresh i seat seat' step' answer → is_waiting old answer (seat_program (table_sizes old) seat) ≡ true → IsWaitingFor (seat_program (table_sizes old) seat) on_ → StepTold old fresh i seat seat' step (Waits on_)
+  waited on_ step' answer e makes waits is = record { answer = answer; makes = makes_is step' answer e makes; tells = (waits, is) }
 
-    pub call_waited : (call : Call) (found : ℕ) (o : Option ℕ) (ticket : ℕ) → step ≡ firsts.Call call → Makes old fresh i seat seat' (firsts.Call call) Unasked → found ≡ found_at old.words (word_of old.plan (step_of call)) →
-        ((a : Around) → o ≡ awaits (point_program a seat.point) found) → o ≡ Some ticket → StepTold old fresh i seat seat' step (Waits (on.Next ticket))
-    call_waited call found o ticket e makes f awaited some = let h = sym (awaited (around (sizes_of old.plan) seat)) ∙ some in record {
-      answer = Unasked;
-      makes = makes_is (firsts.Call call) Unasked e makes;
-      tells = (
-        call_waits old.plan (words_of old) (seat_program (sizes_of old.plan) seat) (step_of call) (next_is old seat step (firsts.Call call) e next)
-            ∙ ap is_some (ap (awaits (seat_program (sizes_of old.plan) seat)) (sym f) ∙ h),
-        walk_waits (seat_program (sizes_of old.plan) seat) found ticket h,
-      );
-    }
+  module _ (kind : Kind) (next : IsNext old seat step) (is : kind ≡ kind_of_first (step_as (around (table_sizes old) seat) step)) where
+    pub call_moved : (call : Call) (found : ℕ) (o : Option On) → step ≡ firsts.Call call → Makes old fresh i seat seat' (firsts.Call call) Unasked → found ≡ found_at old.words (word_of old.plan (step_of call)) →
+        is_some o ≡ waits_by (seat_program (table_sizes old) seat) found → o ≡ None → StepTold old fresh i seat seat' step (Moved kind)
+    call_moved call found o e makes f awaited none = moved kind (firsts.Call call) Unasked e next is makes (call_waiting old seat call found o (next_is old seat step (firsts.Call call) e next) f awaited ∙ ap is_some none)
 
-    pub letter_moved : (q o : ℕ) → step ≡ firsts.PutMessage q o → Makes old fresh i seat seat' (firsts.PutMessage q o) Unasked → StepTold old fresh i seat seat' step (Moved kind)
-    letter_moved q o e makes = moved kind (firsts.PutMessage q o) Unasked e next is makes
-        (letter_waits old.plan (words_of old) (seat_program (sizes_of old.plan) seat) q (heading_of o) (bytes_of seat.message) (next_is old seat step (firsts.PutMessage q o) e next))
+    pub call_waited : (call : Call) (found : ℕ) (o : Option On) (on_ : On) → step ≡ firsts.Call call → Makes old fresh i seat seat' (firsts.Call call) Unasked → found ≡ found_at old.words (word_of old.plan (step_of call)) →
+        is_some o ≡ waits_by (seat_program (table_sizes old) seat) found → IfSome o (IsWaitingFor (seat_program (table_sizes old) seat)) → o ≡ Some on_ → StepTold old fresh i seat seat' step (Waits on_)
+    call_waited call found o on_ e makes f awaited for some = waited on_ (firsts.Call call) Unasked e makes (call_waiting old seat call found o (next_is old seat step (firsts.Call call) e next) f awaited ∙ ap is_some some) (waits_for (seat_program (table_sizes old) seat) o on_ some for)
+
+    pub aside_moved : (aside : code.Aside) (found : ℕ) (o : Option On) → step ≡ firsts.Aside aside → Makes old fresh i seat seat' (firsts.Aside aside) Unasked → FoundBeside old seat aside found →
+        is_some o ≡ waits_by (seat_program (table_sizes old) seat) found → o ≡ None → StepTold old fresh i seat seat' step (Moved kind)
+    aside_moved aside found o e makes f awaited none = moved kind (firsts.Aside aside) Unasked e next is makes (aside_waiting old seat aside found o (next_is old seat step (firsts.Aside aside) e next) f awaited ∙ ap is_some none)
+
+    pub aside_waited : (aside : code.Aside) (found : ℕ) (o : Option On) (on_ : On) → step ≡ firsts.Aside aside → Makes old fresh i seat seat' (firsts.Aside aside) Unasked → FoundBeside old seat aside found →
+        is_some o ≡ waits_by (seat_program (table_sizes old) seat) found → IfSome o (IsWaitingFor (seat_program (table_sizes old) seat)) → o ≡ Some on_ → StepTold old fresh i seat seat' step (Waits on_)
+    aside_waited aside found o on_ e makes f awaited for some = waited on_ (firsts.Aside aside) Unasked e makes (aside_waiting old seat aside found o (next_is old seat step (firsts.Aside aside) e next) f awaited ∙ ap is_some some) (waits_for (seat_program (table_sizes old) seat) o on_ some for)
+
+    pub letter_moved : (q : ℕ) (author : Author) → step ≡ firsts.PutMessage q author → Makes old fresh i seat seat' (firsts.PutMessage q author) Unasked → StepTold old fresh i seat seat' step (Moved kind)
+    letter_moved q author e makes = moved kind (firsts.PutMessage q author) Unasked e next is makes
+        (letter_waits old.plan (words_of old) (seat_program (table_sizes old) seat) q (heading_by author (parts_of seat.message)) (bytes_of seat.message) (next_is old seat step (firsts.PutMessage q author) e next))
 
     pub message_moved : (q : ℕ) → step ≡ firsts.TakeMessage q → Makes old fresh i seat seat' (firsts.TakeMessage q) Unasked → StepTold old fresh i seat seat' step (Moved kind)
-    message_moved q e makes = moved kind (firsts.TakeMessage q) Unasked e next is makes (message_waits old.plan (words_of old) (seat_program (sizes_of old.plan) seat) q (next_is old seat step (firsts.TakeMessage q) e next))
+    message_moved q e makes = moved kind (firsts.TakeMessage q) Unasked e next is makes (message_waits old.plan (words_of old) (seat_program (table_sizes old) seat) q (next_is old seat step (firsts.TakeMessage q) e next))
 
     pub link_moved : (k : ℕ) → step ≡ firsts.TakeHome k → Makes old fresh i seat seat' (firsts.TakeHome k) Unasked → StepTold old fresh i seat seat' step (Moved kind)
-    link_moved k e makes = moved kind (firsts.TakeHome k) Unasked e next is makes (link_waits old.plan (words_of old) (seat_program (sizes_of old.plan) seat) k (next_is old seat step (firsts.TakeHome k) e next))
+    link_moved k e makes = moved kind (firsts.TakeHome k) Unasked e next is makes (link_waits old.plan (words_of old) (seat_program (table_sizes old) seat) k (next_is old seat step (firsts.TakeHome k) e next))
 
     pub home_moved : (k n : ℕ) → step ≡ firsts.PutHome k n → Makes old fresh i seat seat' (firsts.PutHome k n) Unasked → StepTold old fresh i seat seat' step (Moved kind)
-    home_moved k n e makes = moved kind (firsts.PutHome k n) Unasked e next is makes (home_waits old.plan (words_of old) (seat_program (sizes_of old.plan) seat) k n (next_is old seat step (firsts.PutHome k n) e next))
+    home_moved k n e makes = moved kind (firsts.PutHome k n) Unasked e next is makes (home_waits old.plan (words_of old) (seat_program (table_sizes old) seat) k n (next_is old seat step (firsts.PutHome k n) e next))
 
-    pub put_moved : (k : ℕ) (asked : Bool) (put : Put) → step ≡ firsts.PutBytes k asked → Makes old fresh i seat seat' (firsts.PutBytes k asked) (OfPut put) → StepTold old fresh i seat seat' step (Moved kind)
-    put_moved k asked put e makes = moved kind (firsts.PutBytes k asked) (OfPut put) e next is makes
-        (put_waits old.plan (words_of old) (seat_program (sizes_of old.plan) seat) k asked (piece (left_of seat.out) (taken_of seat.out)) put (next_is old seat step (firsts.PutBytes k asked) e next))
+    pub put_moved : (k : ℕ) (asked : Bool) (author : Author) (put : Put) → step ≡ firsts.PutBytes k asked author → Makes old fresh i seat seat' (firsts.PutBytes k asked author) (OfPut put) → StepTold old fresh i seat seat' step (Moved kind)
+    put_moved k asked author put e makes = moved kind (firsts.PutBytes k asked author) (OfPut put) e next is makes
+        (put_waits old.plan (words_of old) (seat_program (table_sizes old) seat) k asked (part (parts_by author (left_parts_of seat.out)) (left_of seat.out) (taken_of seat.out)) put (next_is old seat step (firsts.PutBytes k asked author) e next))
 
     pub ready_moved : (k : ℕ) (ready : Ready) → ready ≢ asks.NotYet → step ≡ firsts.AskReady k → Makes old fresh i seat seat' (firsts.AskReady k) (OfReady ready) → StepTold old fresh i seat seat' step (Moved kind)
-    ready_moved k asks.Now q e makes = moved kind (firsts.AskReady k) (OfReady asks.Now) e next is makes (ready_waits old.plan (words_of old) (around (sizes_of old.plan) seat) seat.point k (next_is old seat step (firsts.AskReady k) e next)).1
+    ready_moved k asks.Now q e makes = moved kind (firsts.AskReady k) (OfReady asks.Now) e next is makes (ready_waits old.plan (words_of old) (around (table_sizes old) seat) seat.point k (next_is old seat step (firsts.AskReady k) e next)).1
     ready_moved k asks.NotYet q e makes = absurd (q refl)
-    ready_moved k asks.Failed q e makes = moved kind (firsts.AskReady k) (OfReady asks.Failed) e next is makes (ready_waits old.plan (words_of old) (around (sizes_of old.plan) seat) seat.point k (next_is old seat step (firsts.AskReady k) e next)).2
+    ready_moved k asks.Failed q e makes = moved kind (firsts.AskReady k) (OfReady asks.Failed) e next is makes (ready_waits old.plan (words_of old) (around (table_sizes old) seat) seat.point k (next_is old seat step (firsts.AskReady k) e next)).2
 
     pub ready_waited : (k : ℕ) → step ≡ firsts.AskReady k → Makes old fresh i seat seat' (firsts.AskReady k) (OfReady asks.NotYet) → StepTold old fresh i seat seat' step (Waits (on.Out k))
-    ready_waited k e makes = let h = ready_waits old.plan (words_of old) (around (sizes_of old.plan) seat) seat.point k (next_is old seat step (firsts.AskReady k) e next) in record {
-      answer = OfReady asks.NotYet;
-      makes = makes_is (firsts.AskReady k) (OfReady asks.NotYet) e makes;
-      tells = (h.0, h.3);
-    }
+    ready_waited k e makes = let h = ready_waits old.plan (words_of old) (around (table_sizes old) seat) seat.point k (next_is old seat step (firsts.AskReady k) e next) in waited (on.Out k) (firsts.AskReady k) (OfReady asks.NotYet) e makes h.0 h.3
