@@ -3,7 +3,7 @@ use Rattle.sock_words.specs.declared.plain.Plan.{Plan}
 use Rattle.sock_programs.specs.Runs.{from_to}
 use Rattle.sock_core.specs.Machines.{READERS}
 use Rattle.sock_core.specs.Runs.{round_by}
-use Rattle.sock_core.proofs.Endings.{in_ok}
+use Rattle.sock_core.proofs.Endings.{in_ok, both_join}
 use Rattle.sock_core.proofs.Rounding.{RoundSoFar, round_begins, round_moved, round_still, round_went, round_stood, client_more, reader_more}
 use Rattle.sock_core.proofs.machine.Machine.round.Goals as goal
 
@@ -74,27 +74,27 @@ loop-link-preserved g c =
     let clients = from_to 1 (c.args.self.now.plan.seats - 1) in
     let more = reader_more clients c.loop-link.link in
     elim c.if-is_moved-2.branch [
-      | goal.then-is_moved-2 w ↦ let moved = c.is_moved-2.ensures.moved w.if-is_moved-2.true in record {
-          so_far = subst (RoundSoFar c.args.self.now c.advance-2.new.self (clients ++ from_to READERS (c.loop-link.link + 1))) (sym w.moved-is) (subst (λ (l : List ℕ). RoundSoFar c.args.self.now c.advance-2.new.self l true) more
-              (round_moved c.args.self.now c.loop-link.self c.advance-2.new.self (clients ++ from_to READERS c.loop-link.link) (READERS + c.loop-link.link) c.loop-link.moved c.in_ok-advance-2.field-0 i.so_far t.tick t.left t.enough.1 rest moved.0 moved.1));
+      | goal.then-is_moved-2 w ↦ let moved = c.is_moved-in-loop-link.ensures.moved w.if-is_moved-2.true in record {
+          so_far = subst (RoundSoFar c.args.self.now c.advance-in-loop-link.new.self (clients ++ from_to READERS (c.loop-link.link + 1))) (sym w.moved-is) (subst (λ (l : List ℕ). RoundSoFar c.args.self.now c.advance-in-loop-link.new.self l true) more
+              (round_moved c.args.self.now c.loop-link.self c.advance-in-loop-link.new.self (clients ++ from_to READERS c.loop-link.link) (READERS + c.loop-link.link) c.loop-link.moved c.in_ok-advance-2.field-0 i.so_far t.tick t.left t.enough.1 rest moved.0 moved.1));
           inside = omega arith;
-          asked = c.advance-2.ensures.asked ∙ c.loop-link.invariant.asked;
-          accepted = c.advance-2.ensures.accepted ∙ c.loop-link.invariant.accepted;
-          back = c.advance-2.ensures.back ∙ c.loop-link.invariant.back;
-          done = c.advance-2.ensures.done ∙ c.loop-link.invariant.done;
-          faults = c.advance-2.ensures.faults ∙ c.loop-link.invariant.faults;
-          prompt = c.advance-2.ensures.prompt ∙ c.loop-link.invariant.prompt;
+          asked = c.advance-in-loop-link.ensures.asked ∙ c.loop-link.invariant.asked;
+          accepted = c.advance-in-loop-link.ensures.accepted ∙ c.loop-link.invariant.accepted;
+          back = c.advance-in-loop-link.ensures.back ∙ c.loop-link.invariant.back;
+          done = c.advance-in-loop-link.ensures.done ∙ c.loop-link.invariant.done;
+          faults = c.advance-in-loop-link.ensures.faults ∙ c.loop-link.invariant.faults;
+          prompt = c.advance-in-loop-link.ensures.prompt ∙ c.loop-link.invariant.prompt;
         }
       | goal.else-is_moved-2 w ↦ record {
-          so_far = subst (RoundSoFar c.args.self.now c.advance-2.new.self (clients ++ from_to READERS (c.loop-link.link + 1))) (sym w.moved-is) (subst (λ (l : List ℕ). RoundSoFar c.args.self.now c.advance-2.new.self l c.loop-link.moved) more
-              (round_still c.args.self.now c.loop-link.self c.advance-2.new.self (clients ++ from_to READERS c.loop-link.link) (READERS + c.loop-link.link) c.loop-link.moved c.in_ok-advance-2.field-0 i.so_far t.tick t.left t.enough.1 rest (c.is_moved-2.ensures.still w.if-is_moved-2.false)));
+          so_far = subst (RoundSoFar c.args.self.now c.advance-in-loop-link.new.self (clients ++ from_to READERS (c.loop-link.link + 1))) (sym w.moved-is) (subst (λ (l : List ℕ). RoundSoFar c.args.self.now c.advance-in-loop-link.new.self l c.loop-link.moved) more
+              (round_still c.args.self.now c.loop-link.self c.advance-in-loop-link.new.self (clients ++ from_to READERS c.loop-link.link) (READERS + c.loop-link.link) c.loop-link.moved c.in_ok-advance-2.field-0 i.so_far t.tick t.left t.enough.1 rest (c.is_moved-in-loop-link.ensures.still w.if-is_moved-2.false)));
           inside = omega arith;
-          asked = c.advance-2.ensures.asked ∙ c.loop-link.invariant.asked;
-          accepted = c.advance-2.ensures.accepted ∙ c.loop-link.invariant.accepted;
-          back = c.advance-2.ensures.back ∙ c.loop-link.invariant.back;
-          done = c.advance-2.ensures.done ∙ c.loop-link.invariant.done;
-          faults = c.advance-2.ensures.faults ∙ c.loop-link.invariant.faults;
-          prompt = c.advance-2.ensures.prompt ∙ c.loop-link.invariant.prompt;
+          asked = c.advance-in-loop-link.ensures.asked ∙ c.loop-link.invariant.asked;
+          accepted = c.advance-in-loop-link.ensures.accepted ∙ c.loop-link.invariant.accepted;
+          back = c.advance-in-loop-link.ensures.back ∙ c.loop-link.invariant.back;
+          done = c.advance-in-loop-link.ensures.done ∙ c.loop-link.invariant.done;
+          faults = c.advance-in-loop-link.ensures.faults ∙ c.loop-link.invariant.faults;
+          prompt = c.advance-in-loop-link.ensures.prompt ∙ c.loop-link.invariant.prompt;
         }
     ]
 
@@ -105,3 +105,9 @@ returns-clause-moved g c = λ e. round_went c.args.self.now c.loop-link.self c.l
 pub returns-clause-still : goal.returns-clause-still
 returns-clause-still g c = λ e. round_stood c.args.self.now c.loop-link.self c.loop-link.moved (subst (λ n. RoundSoFar c.args.self.now c.loop-link.self (from_to 1 (c.args.self.now.plan.seats - 1) ++ from_to READERS n) c.loop-link.moved)
     (let inside = c.loop-link.invariant.inside in let is = c.links-link-end.ensures.count in let same = ap (λ (p : Plan). p.links) c.loop-seat.invariant.so_far.ran.0.plan in omega (arith, inside, is, same)) c.loop-link.invariant.so_far) (in_ok _ _ e)
+
+pub returns-in_err-advance-clause-same : goal.returns-in_err-advance-clause-same
+returns-in_err-advance-clause-same g c = let i = c.loop-seat.invariant.so_far in both_join c.args.self.now c.loop-seat.self c.advance.new.self (i.ran.0, i.ran.1) c.advance.ensures.same
+
+pub returns-in_err-advance-2-clause-same : goal.returns-in_err-advance-2-clause-same
+returns-in_err-advance-2-clause-same g c = let i = c.loop-link.invariant.so_far in both_join c.args.self.now c.loop-link.self c.advance-in-loop-link.new.self (i.ran.0, i.ran.1) c.advance-in-loop-link.ensures.same
