@@ -1,9 +1,9 @@
 pub mod Numbering
-pub mod Seated
-pub mod Ticking
 pub mod Playing
 pub mod Lines
 pub mod Telling
 pub mod Homes
 pub mod Running
 pub mod Saying
+pub mod Told
+pub mod Texts

@@ -2,6 +2,8 @@
 use Rattle.std.proofs.Common.{◌≡◌, ℕ, zero, suc, ◌+◌, ◌-◌, ◌*◌, ◌%◌, ◌≤◌, ◌<◌, List, [], ◌∷◌, ◌++◌, map, take, get_or, length, replicate, Option, Some, None, ap, sym, subst, refl, ◌∙◌, append_assoc, append-nil, add-one, arith, min, leb, true, false}
 use Rattle.std.proofs.lemmas.List.{take_all, take_more, map-append, replicate-append-replicate}
 use Rattle.std.proofs.lemmas.Bool.{leb-false, leb-true}
+use Rattle.std.proofs.Props.{props}
+use Rattle.std.proofs.Math.Logic.{∥∥₁_elim}
 use Rattle.std.specs.List.{cons_option}
 use Rattle.std.proofs.lemmas.List.Elements.{filter_map-append}
 use Rattle.sock_words.specs.declared.kind.Kind.{Kind}
@@ -18,19 +20,17 @@ use Rattle.script_items.specs.declared.line.Seat.{Seat}
 use Rattle.script_print.proofs.SeatLemmas.{seats_more, count_some}
 use Rattle.script_print.specs.Seats.{SeatDraws, seat_count}
 use Rattle.sock_programs.specs.Cores.{Core}
-use Rattle.sock_programs.specs.Ticks.{Moment, quiet, seats_of, run}
+use Rattle.sock_programs.specs.Ticks.{Moment, seats_of, run}
 use Rattle.sock_programs.specs.Runs.{IsAtRest, LeadsUpTo, Turns, Scheduled}
 use Rattle.sock_programs.specs.Scripts.{drawn_turns}
 use Rattle.sock_programs.specs.Tasks.{plan_of}
-use Rattle.sock_core.specs.Links.{Taken}
+use Rattle.sock_core.specs.Links.{Taken, Given}
 use Rattle.sock_core.specs.Machines.{MachineState, core_with}
-use Rattle.sock_core.specs.Runs.{ShowFaults}
+use Rattle.sock_core.specs.Runs.{Ran}
 use Rattle.script_run.specs.Played.{IsPlayable, HasPlayed, HasTurns}
-use Rattle.script_run.proofs.Seated.{many_with}
-use Rattle.script_run.proofs.Ticking.{ran_on, beyond, stays, stays_unasked, stays_unbroken, stays_prompt, seats_stay, run_rests, rests_unheard}
-use Rattle.whole_runs.specs.Heard.{heard_in}
-use Rattle.sock_core.proofs.Joining.{tells_as, rests_heard}
-use Rattle.script_run.proofs.Playing.{as_played, then_played, none_played, shown_none}
+use Rattle.sock_core.proofs.Joining.{ran_rest, ran_join, run_append}
+use Rattle.sock_core.proofs.Resting.{Rests, beyond_rests, none_follows}
+use Rattle.script_run.proofs.Playing.{as_played, then_played, none_played}
 
 -- ## Ticks of one seat
 
@@ -54,20 +54,20 @@ ticks_left i n k a b c inside h rest =
 
 -- ## Seats whose numbers are too high
 
-few_seats : (m : MachineState) (took : Taken) (i : ℕ) → IsPlayable m → 65535 ≤ i → IsAtRest (core_with m took) i
-few_seats m took i h high = let few = h.few in let many : length (core_with m took).seats ≡ length m.seats = many_with m took in beyond (core_with m took) i (omega (arith, few, high, many))
+few_seats : (m : MachineState) (i : ℕ) → IsPlayable m → 65535 ≤ i → Rests m i
+few_seats m i h high took gave = ∥∥₁_elim h.sizes (hlevel props) (λ sizes. let few = sizes.few_readers in beyond_rests m i sizes.few_seats (omega (arith, few, high)) took gave)
 
 nowhere : (p : Plan) (i : ℕ) (kind : List ℕ) (c : Core) (moments : List Moment) → IsAtRest c i → LeadsUpTo p i kind c moments → moments ≡ []
 nowhere p i kind c [] rest h = refl
 nowhere p i kind c (m ∷ ms) rest h = let e = h.2 in cc
 
 -- such a seat is as idle as that of the highest number
-leads_of : (p : Plan) (m : MachineState) (took : Taken) (i : ℕ) (kind : List ℕ) (moments : List Moment) → IsPlayable m → LeadsUpTo p (min i 65535) kind (core_with m took) moments → LeadsUpTo p i kind (core_with m took) moments
-leads_of p m took i kind moments h leads = let c = core_with m took in elim (leb i 65535) as (λ b. (leb i 65535 ≡ b → LeadsUpTo p i kind c moments)) [
+leads_of : (p : Plan) (m : MachineState) (took : Taken) (gave : Given) (i : ℕ) (kind : List ℕ) (moments : List Moment) → IsPlayable m → LeadsUpTo p (min i 65535) kind (core_with m took gave) moments → LeadsUpTo p i kind (core_with m took gave) moments
+leads_of p m took gave i kind moments h leads = let c = core_with m took gave in elim (leb i 65535) as (λ b. (leb i 65535 ≡ b → LeadsUpTo p i kind c moments)) [
   | true ↦ λ is. let l = leb-true i 65535 is in let same : min i 65535 ≡ i = omega (arith, l) in subst (λ (j : ℕ). LeadsUpTo p j kind c moments) same leads
   | false ↦ λ is. let l = leb-false i 65535 is in let same : min i 65535 ≡ 65535 = omega (arith, l) in
-      let none = nowhere p 65535 kind c moments (few_seats m took 65535 h (omega arith)) (subst (λ (j : ℕ). LeadsUpTo p j kind c moments) same leads) in
-      subst (LeadsUpTo p i kind c) (sym none) (few_seats m took i h (omega (arith, l)))
+      let none = nowhere p 65535 kind c moments (few_seats m 65535 h (omega arith) took gave) (subst (λ (j : ℕ). LeadsUpTo p j kind c moments) same leads) in
+      subst (LeadsUpTo p i kind c) (sym none) (few_seats m i h (omega (arith, l)) took gave)
 ] refl
 
 pub to_line : (old new : MachineState) (seat : Seat) (kind : Kind) (number : ℕ) (line : Line) → line ≡ lines.To seat kind → number ≡ min (seat_number (meaning.seat_of seat)) 65535 → IsPlayable old →
@@ -76,38 +76,25 @@ to_line old new seat kind number line is at h played =
     let i = seat_number (meaning.seat_of seat) in
     subst (λ l. HasPlayed (HasTurns old.plan (turn_of (item l))) old new) (sym is)
     (as_played (LeadsUpTo old.plan number (kind_text kind)) (LeadsUpTo old.plan i (kind_text kind)) old new
-    (λ took moments leads. leads_of old.plan old took i (kind_text kind) moments h (subst (λ (n : ℕ). LeadsUpTo old.plan n (kind_text kind) (core_with old took) moments) at leads)) played)
+    (λ took gave moments leads. leads_of old.plan old took gave i (kind_text kind) moments h (subst (λ (n : ℕ). LeadsUpTo old.plan n (kind_text kind) (core_with old took gave) moments) at leads)) played)
 
 module _ (old new : MachineState) (i n : ℕ) (playable : IsPlayable old) (h : HasPlayed (λ d moments. seats_of moments ≡ replicate n (min i 65535)) old new) where
   -- the highest number's ticks did nothing, and neither would those of a seat above it
   ticks_above : 65535 < i → HasPlayed (λ d moments. seats_of moments ≡ replicate n i) old new
-  ticks_above high = record {
-    table = h.table;
-    links = h.links;
-    seats = h.seats;
-    played = λ took agrees.
-        let t = h.played took agrees in
-        let c = core_with old took in
-        let rest = few_seats old took i playable (omega (arith, high)) in
-        let same : min i 65535 ≡ 65535 = omega (arith, high) in
-        let highest = few_seats old took 65535 playable (omega arith) in record {
-          moments = replicate n (quiet i);
-          are = seats_stay n i;
-          answered = stays_unasked old.plan n c i rest;
-          prompt = λ p. stays_prompt n i;
-          later = t.later;
-          agrees = t.agrees;
-          core = t.core ∙ run_rests old.plan n c 65535 t.moments highest (t.are ∙ ap (λ j. replicate n j) same) ∙ sym (stays old.plan n c i rest);
-          broken = subst (ShowFaults new) (sym (stays_unbroken old.plan n c i rest)) (shown_none new);
-          told = tells_as old new (heard_in old.plan c t.moments) (heard_in old.plan c (replicate n (quiet i)))
-              (λ k. rests_unheard old.plan n c 65535 t.moments highest (t.are ∙ ap (λ j. replicate n j) same) k ∙ sym (rests_heard old.plan c i rest n k)) t.told;
-        };
-  }
+  ticks_above high =
+      let same : min i 65535 ≡ 65535 = omega (arith, high) in
+      let none_ : Ran old new [] = (h.0, h.1, λ took gave agrees agrees_gave. let t = h.2 took gave agrees agrees_gave in record {
+        moments = [];
+        are_of = refl;
+        follows = none_follows old new took gave 65535 n t.moments (few_seats old 65535 playable (omega arith) took gave) (t.are ∙ ap (λ j. replicate n j) same) t.follows;
+      }) in
+      let r = ran_join old old new (replicate n i) [] (ran_rest old i (few_seats old i playable (omega (arith, high))) n) none_ in
+      (r.0, r.1, λ took gave agrees agrees_gave. let t = r.2 took gave agrees agrees_gave in record { moments = t.moments; are = t.are_of ∙ append-nil (replicate n i); follows = t.follows })
 
   ticks_of : HasPlayed (λ d moments. seats_of moments ≡ replicate n i) old new
   ticks_of = elim (leb i 65535) as (λ b. (leb i 65535 ≡ b → HasPlayed (λ d moments. seats_of moments ≡ replicate n i) old new)) [
     | true ↦ λ is. let l = leb-true i 65535 is in let same : min i 65535 ≡ i = omega (arith, l) in
-        as_played (λ d moments. seats_of moments ≡ replicate n (min i 65535)) (λ d moments. seats_of moments ≡ replicate n i) old new (λ took moments e. e ∙ ap (λ j. replicate n j) same) h
+        as_played (λ d moments. seats_of moments ≡ replicate n (min i 65535)) (λ d moments. seats_of moments ≡ replicate n i) old new (λ took gave moments e. e ∙ ap (λ j. replicate n j) same) h
     | false ↦ λ is. let l = leb-false i 65535 is in ticks_above (omega (arith, l))
   ] refl
 
@@ -136,7 +123,7 @@ module _ (p : Plan) where
     h.1 ++ more,
     ap (λ s. s ++ more) h.2 ∙ append_assoc h.0 h.1 more,
     h.3,
-    scheduled_more us (run p c h.0) turn h.1 more h.4 (subst (λ d. Turns p d turn more) (ap (run p c) h.2 ∙ ran_on p c h.0 h.1) t),
+    scheduled_more us (run p c h.0) turn h.1 more h.4 (subst (λ d. Turns p d turn more) (ap (run p c) h.2 ∙ run_append p c h.0 h.1) t),
   )
 
   scheduled_line : (turns : List Turn) (turn : Option Turn) (c : Core) (moments more : List Moment) → Scheduled p c turns moments → HasTurns p turn (run p c moments) more → Scheduled p c (turns ++ cons_option turn []) (moments ++ more)
@@ -181,7 +168,7 @@ none_drawn total clients seed m = subst (λ ts. HasPlayed (λ d. Scheduled m.pla
 pub drawn_more : (total clients n seed seat : ℕ) (a b c : MachineState) → 0 < total → seat ≡ seat_of clients (drawn (state_behind n seed) % total) →
     HasPlayed (λ d. Scheduled a.plan d (drawn_so_far total clients n seed)) a b → HasPlayed (λ d moments. seats_of moments ≡ seat ∷ []) b c → HasPlayed (λ d. Scheduled a.plan d (drawn_so_far total clients (n + 1) seed)) a c
 drawn_more total clients n seed seat a b c some_ at h k =
-    let tick : HasPlayed (HasTurns b.plan (Some (Ticks seat 1))) b c = as_played (λ d moments. seats_of moments ≡ seat ∷ []) (HasTurns b.plan (Some (Ticks seat 1))) b c (λ took moments e. e) k in
+    let tick : HasPlayed (HasTurns b.plan (Some (Ticks seat 1))) b c = as_played (λ d moments. seats_of moments ≡ seat ∷ []) (HasTurns b.plan (Some (Ticks seat 1))) b c (λ took gave moments e. e) k in
     subst (λ ts. HasPlayed (λ d. Scheduled a.plan d ts) a c)
     (sym (ap (map (λ i. Ticks i 1)) (seats_more total clients n seed some_) ∙ map_more (λ i. Ticks i 1) (sim_seats_of total clients n seed) _ ∙ ap (λ i. drawn_so_far total clients n seed ++ Ticks i 1 ∷ []) (sym at)))
     (played_more (drawn_so_far total clients n seed) (Some (Ticks seat 1)) a b c h tick)

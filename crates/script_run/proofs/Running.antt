@@ -122,7 +122,7 @@ module _ (script : List Item) (turns : List Turn) (start mid end_ : MachineState
     final = final;
     settles_again = settles_from script settles_again.rounds rest.ended final (whole_after script settles_again.rounds rest.ended final settles_again.after);
     answered_again = subst (λ (q : Plan). AreAnswered q rest.ended final) plan rest.answered_again;
-    prompt = prompt_append now (later ++ final) (first.follows.prompt prompt) parts;
+    prompt = subst (AllByRecursion IsPrompt) (sym (append_assoc now later final)) (prompt_append now (later ++ final) (first.follows.prompt prompt) parts);
     is_end = rest.core ∙ ap (λ (q : Plan). run q rest.ended final) plan;
   }
 

@@ -287,11 +287,11 @@ plain_waits m plain some_ took gave i answer zero_ = subst (λ j. waits m.plan (
         ∙ waits_none m.plan (core_with m took gave) answer (seat_program (machine_sizes m) first.0) (plain first.0 first.1).0
 
 -- where a tick of it didn't move it has no step left
-pub plain_rests : (a b : MachineState) (tick : Tick) (n : ℕ) → IsPlain a → 0 < length a.seats → LastsAtMost a n → IsStill tick → Ticked a b 0 tick → Rests b 0
-plain_rests a b (ticks.Moved kind) n plain some_ lasts still t took gave = absurd (still kind refl)
-plain_rests a b (ticks.Waits what) n plain some_ lasts still t took gave = ∥∥₁_elim lasts.1 (hlevel props) (λ s. let w = t.2 s.0.took s.0.gave s.0.agrees s.0.agrees_gave in
-    absurd (true≢false (sym w.is.0 ∙ plain_waits a plain some_ s.0.took s.0.gave w.moment.seat w.moment.answer w.is_of)))
-plain_rests a b ticks.Idle n plain some_ lasts still t took gave = ∥∥₁_elim lasts.1 (hlevel props) (λ s. let w = t.2 s.0.took s.0.gave s.0.agrees s.0.agrees_gave in
+pub plain_rests : (a b : MachineState) (tick : Tick) (n : ℕ) → IsPlain a → ∥ HasSizes a ∥₁ → LastsAtMost a n → IsStill tick → Ticked a b 0 tick → Rests b 0
+plain_rests a b (ticks.Moved kind) n plain sizes lasts still t took gave = absurd (still kind refl)
+plain_rests a b (ticks.Waits what) n plain sizes lasts still t took gave = ∥∥₁_elim sizes (hlevel props) (λ h. ∥∥₁_elim lasts.1 (hlevel props) (λ s. let w = t.2 s.0.took s.0.gave s.0.agrees s.0.agrees_gave in
+    absurd (true≢false (sym w.is.0 ∙ plain_waits a plain h.some_seat s.0.took s.0.gave w.moment.seat w.moment.answer w.is_of))))
+plain_rests a b ticks.Idle n plain sizes lasts still t took gave = ∥∥₁_elim lasts.1 (hlevel props) (λ s. let w = t.2 s.0.took s.0.gave s.0.agrees s.0.agrees_gave in
     rest_anyhow b w.follows.later took w.follows.later_gave gave 0 (subst (λ (d : Core). IsAtRest d 0) (sym (idle_core a b 0 s.0.took s.0.gave w)) (subst (IsAtRest (core_with a s.0.took s.0.gave)) w.is_of w.is)))
 
 -- ## Up to a step of a kind

@@ -329,19 +329,19 @@ module _ (p : Plan) (c : Core) (i : ℕ) (rest : IsAtRest c i) where
   rests_taken (suc n) k = ap (λ (l : List Answer). l ++ taken_in p (ticked p c (quiet i)) (replicate n (quiet i)) k) (rest_taken c (quiet i) rest k)
       ∙ ap (λ (d : Core). taken_in p d (replicate n (quiet i)) k) (rests p c (quiet i) rest) ∙ rests_taken n k
 
-  rests_answered : (n : ℕ) → AreAnswered p c (replicate n (quiet i))
+  pub rests_answered : (n : ℕ) → AreAnswered p c (replicate n (quiet i))
   rests_answered zero = tt
   rests_answered (suc n) = (rest_answered c i rest, subst (λ (d : Core). AreAnswered p d (replicate n (quiet i))) (sym (rests p c (quiet i) rest)) (rests_answered n))
 
-seats_quiet : (n i : ℕ) → seats_of (replicate n (quiet i)) ≡ replicate n i
+pub seats_quiet : (n i : ℕ) → seats_of (replicate n (quiet i)) ≡ replicate n i
 seats_quiet zero i = refl
 seats_quiet (suc n) i = ap (λ (is : List ℕ). i ∷ is) (seats_quiet n i)
 
-quiet_prompt : (n i : ℕ) → AllByRecursion IsPrompt (replicate n (quiet i))
+pub quiet_prompt : (n i : ℕ) → AllByRecursion IsPrompt (replicate n (quiet i))
 quiet_prompt zero i = tt
 quiet_prompt (suc n) i = (λ e. absurd (cc), quiet_prompt n i)
 
-quiet_broken : (p : Plan) (c : Core) (n i : ℕ) → broken_in p c (replicate n (quiet i)) ≡ []
+pub quiet_broken : (p : Plan) (c : Core) (n i : ℕ) → broken_in p c (replicate n (quiet i)) ≡ []
 quiet_broken p c zero i = refl
 quiet_broken p c (suc n) i = quiet_broken p (ticked p c (quiet i)) n i
 

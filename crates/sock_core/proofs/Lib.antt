@@ -13,8 +13,8 @@ pub mod Sounds
 pub mod Fitting
 pub mod Paces
 pub mod Keeping
-pub mod Beginning
 pub mod Joining
+pub mod Resting
 pub mod Leading
 pub mod Settling
 pub mod Answering

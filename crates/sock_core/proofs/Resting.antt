@@ -7,11 +7,11 @@ use mathlib.Core.Option.{Option, some, none, some-injective, some-ne-none}
 use lib.ListN.{get_elem?}
 use Rattle.sock_words.specs.declared.kind.Kind.{Kind}
 use Rattle.sock_words.specs.declared.plain.Plan.{Plan}
-use Rattle.whole_runs.specs.Heard.{heard_at, taken_at}
+use Rattle.whole_runs.specs.Heard.{heard_at, taken_at, heard_in, taken_in}
 use Rattle.sock_programs.specs.declared.task.Sizes.{Sizes}
 use Rattle.sock_programs.specs.Programs.{Program}
-use Rattle.sock_programs.specs.Cores.{SeatState}
-use Rattle.sock_programs.specs.Ticks.{quiet}
+use Rattle.sock_programs.specs.Cores.{Core, SeatState}
+use Rattle.sock_programs.specs.Ticks.{Answer, Moment, quiet, seats_of, ticked, run}
 use Rattle.sock_programs.specs.Runs.{kind_in, IsAtRest}
 use Rattle.reader_seats.specs.Readers.{ReaderData, reader_program}
 use Rattle.client_seats.specs.Seats.{SeatData, seat_program}
@@ -19,8 +19,8 @@ use Rattle.sock_core.specs.declared.machine.Tick.{Tick}
 use Rattle.sock_core.specs.declared.machine.Tick.TheVariants as ticks
 use Rattle.sock_core.specs.Links.{LinksData, Taken, Given}
 use Rattle.sock_core.specs.Machines.{MachineState, READERS, core_with, machine_sizes, between, resting, clients_with, readers_with, seats_with}
-use Rattle.sock_core.specs.Runs.{Follows, Ticked, TickedWith, Ran}
-use Rattle.sock_core.proofs.Joining.{same_table_none, same_links_none, rests, rest_answered, rest_heard, rest_taken, show_faults_none, tells_none, tells_as, takings_none}
+use Rattle.sock_core.specs.Runs.{ShowFaults, Follows, Ticked, TickedWith, Ran}
+use Rattle.sock_core.proofs.Joining.{same_table_none, same_links_none, rests, rest_answered, rest_heard, rest_taken, rests_on, rests_heard, rests_taken, rests_answered, seats_quiet, quiet_prompt, quiet_broken, show_faults_none, tells_none, tells_as, takings_none}
 
 -- the seat has no step left, whatever its links took and gave
 abbrev pub Rests : MachineState → ℕ → Type 0
@@ -158,3 +158,54 @@ idle_ran a b i t n = (
     };
   },
 )
+
+-- ## Seats that there aren't
+
+gap_readers : (p : Plan) (links : LinksData) (t : Taken) (calls : List ℕ) (a n : ℕ) (rs : List ReaderData) (i : ℕ) → n + length rs ≤ i → kind_at (replicate n resting ++ readers_with p links t calls a rs) i ≡ None
+gap_readers p links t calls a zero [] i past = refl
+gap_readers p links t calls a zero (r ∷ rs) zero past = absurd (omega (arith, past))
+gap_readers p links t calls a zero (r ∷ rs) (suc i) past = gap_readers p links t calls (a + 1) zero rs i (omega (arith, past))
+gap_readers p links t calls a (suc n) rs zero past = absurd (omega (arith, past))
+gap_readers p links t calls a (suc n) rs (suc i) past = gap_readers p links t calls a n rs i (omega (arith, past))
+
+beyond_all : (p : Plan) (links : LinksData) (t : Taken) (sizes : Sizes) (calls : List ℕ) (first n a : ℕ) (ss : List SeatData) (rs : List ReaderData) (i : ℕ) → length ss + n + length rs ≤ i →
+    kind_at (clients_with p links t sizes first ss ++ (replicate n resting ++ readers_with p links t calls a rs)) i ≡ None
+beyond_all p links t sizes calls first n a [] rs i past = gap_readers p links t calls a n rs i (omega (arith, past))
+beyond_all p links t sizes calls first n a (s ∷ ss) rs zero past = absurd (omega (arith, past))
+beyond_all p links t sizes calls first n a (s ∷ ss) rs (suc i) past = beyond_all p links t sizes calls (first + 1) n a ss rs i (omega (arith, past))
+
+-- behind the last reader there is none
+pub beyond_rests : (m : MachineState) (i : ℕ) → length m.seats ≤ READERS → READERS + length m.readers ≤ i → Rests m i
+beyond_rests m i few past took gave = beyond_all m.plan m.links took (machine_sizes m) m.calls 0 (between m.seats) READERS m.seats m.readers i (omega (arith, few, past))
+
+-- ## Ticks of a seat that has no step left, whatever is answered in them
+
+module _ (p : Plan) (i : ℕ) where
+  unmoved : (n : ℕ) (c : Core) (ms : List Moment) → IsAtRest c i → seats_of ms ≡ replicate n i → (run p c ms ≡ c) × ((k : ℕ) → heard_in p c ms k ≡ []) × ((k : ℕ) → taken_in p c ms k ≡ [])
+  unmoved n c [] rest e = (refl, λ k. refl, λ k. refl)
+  unmoved zero c (m ∷ ms) rest e = absurd (cc)
+  unmoved (suc n) c (m ∷ ms) rest e =
+      let now : m.seat ≡ i = cc in
+      let later : seats_of ms ≡ replicate n i = cc in
+      let here = subst (IsAtRest c) (sym now) rest in
+      let same = rests p c m here in
+      let others = unmoved n c ms rest later in (
+        ap (λ (d : Core). run p d ms) same ∙ others.0,
+        λ k. ap (λ (l : List Answer). l ++ heard_in p (ticked p c m) ms k) (rest_heard c m here k) ∙ ap (λ (d : Core). heard_in p d ms k) same ∙ others.1 k,
+        λ k. ap (λ (l : List Answer). l ++ taken_in p (ticked p c m) ms k) (rest_taken c m here k) ∙ ap (λ (d : Core). taken_in p d ms k) same ∙ others.2 k,
+      )
+
+-- they are as none
+pub none_follows : (a b : MachineState) (took : Taken) (gave : Given) (i n : ℕ) (ms : List Moment) → IsAtRest (core_with a took gave) i → seats_of ms ≡ replicate n i → Follows a b took gave ms → Follows a b took gave []
+none_follows a b took gave i n ms rest are f = let u = unmoved a.plan i n (core_with a took gave) ms rest are in record {
+  answered = tt;
+  prompt = λ h. tt;
+  later = f.later;
+  agrees = f.agrees;
+  later_gave = f.later_gave;
+  agrees_gave = f.agrees_gave;
+  core = f.core ∙ u.0;
+  broken = show_faults_none b;
+  told = tells_as a b _ _ u.1 f.told;
+  taken = takings_none b _ (λ k. refl);
+}

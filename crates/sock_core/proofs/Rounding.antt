@@ -13,7 +13,7 @@ use Rattle.sock_programs.specs.Scripts.{AreStill}
 use Rattle.sock_core.specs.declared.machine.Tick.{Tick}
 use Rattle.sock_core.specs.declared.machine.Tick.TheVariants.{Moved, Waits, Idle}
 use Rattle.sock_core.specs.Links.{Taken, Given, Agrees, AgreesGave}
-use Rattle.sock_core.specs.Machines.{MachineState, MOST_LEFT, READERS, core_with}
+use Rattle.sock_core.specs.Machines.{MachineState, HasSizes, MOST_LEFT, READERS, core_with}
 use Rattle.sock_core.specs.Runs.{SameTable, SameLinks, Follows, Made, TickIs, TickedWith, Ticked, round_by, RoundWith, Still, HasMoved, SettlesAfter, PlayedWith, PlayedOn, RanFirst}
 use Rattle.sock_core.specs.Driving.{LastsAtMost, LeavesFewer, LeavesAsMany, Leaves, IsPlain, FirstRests, TickedFirst}
 use Rattle.sock_core.proofs.Joining.{same_table_none, same_table_join, same_links_none, same_links_join, seats_append, run_append, follows_none, follows_join, made_join}
@@ -260,16 +260,18 @@ pub record FirstSoFar (m fresh : MachineState) (count : ℕ) : Type 0 where
   pub table : SameTable m fresh
   pub links : SameLinks m fresh
   pub plain : IsPlain fresh
+  pub sizes : ∥ HasSizes fresh ∥₁
   pub ends : fresh.ends ≡ m.ends
   pub core : (took : Taken) (gave : Given) → Agrees m.links took → AgreesGave m.links gave → Agrees fresh.links took × AgreesGave fresh.links gave × (core_with fresh took gave ≡ run m.plan (core_with m took gave) (replicate count (quiet 0)))
   pub below : count < MOST_LEFT
   pub left : LastsAtMost fresh (MOST_LEFT - 1 - count)
 
-pub first_none : (m : MachineState) → IsPlain m → LastsAtMost m (MOST_LEFT - 1) → FirstSoFar m m 0
-first_none m plain left = record {
+pub first_none : (m : MachineState) → IsPlain m → ∥ HasSizes m ∥₁ → LastsAtMost m (MOST_LEFT - 1) → FirstSoFar m m 0
+first_none m plain sizes left = record {
   table = same_table_none m;
   links = same_links_none m;
   plain = plain;
+  sizes = sizes;
   ends = refl;
   core = λ took gave agrees agrees_gave. (agrees, agrees_gave, refl);
   below = omega arith;
@@ -285,11 +287,12 @@ module _ (m fresh next : MachineState) (count : ℕ) (tick : Tick) (so_far : Fir
         ∙ sym (run_append m.plan (core_with m took gave) (replicate count (quiet 0)) (quiet 0 ∷ [])) ∙ ap (run m.plan (core_with m took gave)) (sym (replicate_more count)),
   )
 
-  pub first_more : LeavesFewer fresh next → FirstSoFar m next (count + 1)
-  first_more fewer = let f = fewer_left fresh next count fewer so_far.left in record {
+  pub first_more : LeavesFewer fresh next → ∥ HasSizes next ∥₁ → FirstSoFar m next (count + 1)
+  first_more fewer sizes = let f = fewer_left fresh next count fewer so_far.left in record {
     table = same_table_join m fresh next so_far.table t.0;
     links = same_links_join m fresh next so_far.links t.1;
     plain = first.0;
+    sizes = sizes;
     ends = first.1 ∙ so_far.ends;
     core = core_on;
     below = f.0;

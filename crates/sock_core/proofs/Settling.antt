@@ -1,30 +1,20 @@
 -- The whole of a run behind its schedule: rounds up to one in which nothing moved, the ending by seat 0, and such rounds again.
-use Rattle.std.proofs.Common.{◌≡◌, ℕ, List, [], ◌∷◌, ◌++◌, length, replicate, refl, sym, ap, ◌∙◌, subst}
-use Rattle.std.specs.Prelude.{slice_get, Some}
-use Rattle.std.proofs.lemmas.Option.{same_Some}
+use Rattle.std.proofs.Common.{◌≡◌, ℕ, List, [], ◌∷◌, ◌++◌, replicate, refl, sym, ap, ◌∙◌, subst}
 use Rattle.sock_words.specs.declared.plain.Plan.{Plan}
-use Rattle.brpc_model.specs.Link.{LinkEnd}
 use Rattle.sock_programs.specs.Cores.{Core}
 use Rattle.sock_programs.specs.Ticks.{Moment, quiet, run, AreAnswered, broken_in}
 use Rattle.sock_programs.specs.Scripts.{is_ending}
 use Rattle.whole_runs.specs.Heard.{heard_in, taken_in}
 use Rattle.sock_core.specs.Links.{LinksData, Taken, Given, Agrees, AgreesGave, ArePrompt}
 use Rattle.sock_core.specs.Machines.{MachineState, core_with, ending_by}
-use Rattle.sock_core.specs.Runs.{SameLink, SameLinks, ShowFaults, LinksTell, ShowTakings, SettlesBy, PlayedWith, PlayedOn, RanFirst, SettledWith, Settled}
+use Rattle.sock_core.specs.Runs.{SameLinks, ShowFaults, LinksTell, ShowTakings, SettlesBy, PlayedWith, PlayedOn, RanFirst, SettledWith, Settled}
 use Rattle.sock_core.specs.Driving.{told_ending}
-use Rattle.sock_core.proofs.Joining.{same_link_none, same_links_join, show_faults_later, show_faults_join, tells_on, tells_join, takings_later, takings_join, prompt_append}
-
--- the links stay those that they were where the ends do
-kept : (old fresh : MachineState) → fresh.ends ≡ old.ends → (ArePrompt old.links → ArePrompt fresh.links) → SameLinks old fresh
-kept old fresh ends prompt = record {
-  as_many = ap length ends;
-  each = λ k x y at also. subst (SameLink x) (same_Some x y (sym at ∙ ap (λ (es : List LinkEnd). slice_get es k) (sym ends) ∙ also)) (same_link_none x);
-  prompt = prompt;
-}
+use Rattle.sock_core.proofs.Answering.{links_kept}
+use Rattle.sock_core.proofs.Joining.{same_links_join, show_faults_later, show_faults_join, tells_on, tells_join, takings_later, takings_join, prompt_append}
 
 -- links that are told of the ending are the same
 told_same : (m : MachineState) → SameLinks m (told_ending m)
-told_same m = kept m (told_ending m) refl (λ prompt. prompt)
+told_same m = links_kept m (told_ending m) refl (λ prompt. prompt)
 
 module _ (a b c d f : MachineState) (played : PlayedOn a b) (plan : c.plan ≡ b.plan) (id_plan : c.ids.plan ≡ b.ids.plan) (links : c.links ≡ b.links) (ends : c.ends ≡ b.ends)
     (begins : (took : Taken) (gave : Given) → core_with c took gave ≡ ending_by b.opens (core_with b took gave)) (first : RanFirst c d) (final : PlayedOn (told_ending d) f) where
@@ -32,7 +22,7 @@ module _ (a b c d f : MachineState) (played : PlayedOn a b) (plan : c.plan ≡ b
   told = told_ending d
 
   begun_same : SameLinks b c
-  begun_same = kept b c ends (λ prompt. subst ArePrompt (sym links) prompt)
+  begun_same = links_kept b c ends (λ prompt. subst ArePrompt (sym links) prompt)
 
   ran_same : SameLinks b told
   ran_same = same_links_join b d told (same_links_join b c d begun_same first.same.1) (told_same d)
@@ -114,4 +104,4 @@ module _ (a b c d f : MachineState) (played : PlayedOn a b) (plan : c.plan ≡ b
 -- what stays where memory ran out behind the ending
 pub settled_links : (a b c d f : MachineState) → SameLinks a b → c.links ≡ b.links → c.ends ≡ b.ends → SameLinks c d → SameLinks (told_ending d) f → SameLinks a f
 settled_links a b c d f first links ends ran last =
-    same_links_join a b f first (same_links_join b c f (kept b c ends (λ prompt. subst ArePrompt (sym links) prompt)) (same_links_join c d f ran (same_links_join d (told_ending d) f (told_same d) last)))
+    same_links_join a b f first (same_links_join b c f (links_kept b c ends (λ prompt. subst ArePrompt (sym links) prompt)) (same_links_join c d f ran (same_links_join d (told_ending d) f (told_same d) last)))

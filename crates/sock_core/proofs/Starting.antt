@@ -145,8 +145,8 @@ no_readers_keep [] = refl
 no_readers_keep (r ∷ rs) = ap (λ (ws : List (List Retry)). [] ∷ ws) (no_readers_keep rs)
 
 replicate_join : {A : Type 0} (m n : ℕ) (x : A) → replicate m x ++ replicate n x ≡ replicate (m + n) x
-replicate_join zero n x = refl
-replicate_join (suc m) n x = ap (λ (l : List _). x ∷ l) (replicate_join m n x)
+replicate_join zero n x = let e : n ≡ 0 + n = omega arith in ap (λ k. replicate k x) e
+replicate_join (suc m) n x = let e : suc (m + n) ≡ suc m + n = omega arith in ap (λ (l : List _). x ∷ l) (replicate_join m n x) ∙ ap (λ k. replicate k x) e
 
 none_given : (a n : ℕ) → map NOTHING (from_to a n) ≡ replicate n []
 none_given a zero = refl

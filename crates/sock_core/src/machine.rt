@@ -241,6 +241,8 @@ impl<O: Out, I: In, P: Peer> Machine<O, I, P> {
     fn most_left(&self) -> Result<u64, NoMemory>
         ensures most { IfOk result (λ n. n ≡ most_left) }
         ensures left { OnOk result (LastsAtMost self.now (most_left - 1)) }
+        ensures short { OnErr result (self.now.short ≡ true) }
+        ensures sizes { ∥ HasSizes self.now ∥₁ }
     {
         if self.tables.short {
             Err(NoMemory)
@@ -364,7 +366,10 @@ impl<O: Out, I: In, P: Peer> Machine<O, I, P> {
         ensures rest { FirstRests self.new }
         ensures enough { self.new.short ≡ false }
     {
-        for _ in 0..MOST_LEFT {
+        let Ok(most) = self.most_left() else {
+            return;
+        };
+        for _ in 0..most {
             if !self.advance_first().is_moved() {
                 return;
             }
@@ -507,6 +512,8 @@ impl<O: Out, I: In, P: Peer> Machine<O, I, P> {
         ensures places { result.places.items ≡ place_words self.plan self.words }
         ensures ends { map (λ (e : _). end_of (O.state e.out) (I.state e.inn)) result.ends.items ≡ self.ends }
         ensures took { map (λ (o : OutState). o.took) self.links.outs ≡ map (λ (e : LinkEnd). e.took) self.ends }
+        ensures gave_count { map (λ (i : InState). i.gave) self.links.inns ≡ map (λ (e : LinkEnd). e.gave_count) self.ends }
+        ensures gave { map (λ (i : InState). i.gave_bytes) self.links.inns ≡ map (λ (e : LinkEnd). e.gave) self.ends }
         ensures letters { length self.letters ≡ self.plan.requests }
     {
         let Machine {

@@ -1,6 +1,6 @@
 use Rattle.script_run.specs.Played.{turns_of}
 use Rattle.script_run.proofs.Running.{playable_of, run_answered, plan_answered}
-use Rattle.script_run.proofs.Playing.{then_same_links}
+use Rattle.sock_core.proofs.Joining.{same_links_join}
 use Rattle.script_run.proofs.run.play.Goals as goal
 
 pub play_schedule-requires-clause-playable : goal.play_schedule-requires-clause-playable
@@ -13,4 +13,4 @@ pub returns-clause-plan : goal.returns-clause-plan
 returns-clause-plan g c = plan_answered c.args.machine.now c.play_schedule.new.machine c.settle.new.self c.settle.result c.in_ok-play_schedule.ensures.played.table.plan c.settle.ensures.settled
 
 pub returns-clause-ends : goal.returns-clause-ends
-returns-clause-ends g c = then_same_links c.args.machine.now c.play_schedule.new.machine c.settle.new.self c.play_schedule.ensures.ends c.settle.ensures.ends
+returns-clause-ends g c = same_links_join c.args.machine.now c.play_schedule.new.machine c.settle.new.self c.play_schedule.ensures.ends c.settle.ensures.ends

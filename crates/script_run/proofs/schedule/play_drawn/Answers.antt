@@ -5,7 +5,7 @@ use Rattle.report_fits.proofs.Sizes.{keeps_limits}
 use Rattle.script_print.specs.Seats.{SeatDraws}
 use Rattle.sock_words.specs.declared.plain.Plan.{Plan}
 use Rattle.sock_programs.specs.Tasks.{plan_of}
-use Rattle.script_run.proofs.Playing.{same_links, then_same_links}
+use Rattle.sock_core.proofs.Joining.{same_links_none, same_links_join}
 use Rattle.script_run.proofs.Lines.{seats_in, none_drawn, begins_drawing, count_is, seats_there, draws_on, seat_drawn, drawn_more, drawn_played}
 use Rattle.script_run.proofs.schedule.play_drawn.Goals as goal
 
@@ -25,8 +25,13 @@ loop-init g c =
       count = count_is c.args.script.now c.in-Ok.plan c.new-seats.result 0 c.args.seed c.count-end.result plan begins c.count-end.ensures;
       played = none_drawn (seats_in c.args.script.now) (clients c.args.script.now) c.args.seed c.args.machine.now;
       playable = c.requires.playable;
-      ends = same_links c.args.machine.now;
-      links = refl;
+      ends = same_links_none c.args.machine.now;
+      asked = refl;
+      accepted = refl;
+      back = refl;
+      done = refl;
+      faults = refl;
+      prompt = refl;
     }
 
 pub next_seat-seat-requires : goal.next_seat-seat-requires
@@ -38,10 +43,25 @@ pub tick_seat-requires-clause-playable : goal.tick_seat-requires-clause-playable
 tick_seat-requires-clause-playable g c κs within = c.loop.invariant.playable
 
 pub returns-in_err-tick_seat-clause-ends : goal.returns-in_err-tick_seat-clause-ends
-returns-in_err-tick_seat-clause-ends g c = then_same_links c.args.machine.now c.loop.machine c.tick_seat.new.machine c.loop.invariant.ends c.tick_seat.ensures.ends
+returns-in_err-tick_seat-clause-ends g c = same_links_join c.args.machine.now c.loop.machine c.tick_seat.new.machine c.loop.invariant.ends c.tick_seat.ensures.ends
 
-pub returns-in_err-tick_seat-clause-links : goal.returns-in_err-tick_seat-clause-links
-returns-in_err-tick_seat-clause-links g c = c.tick_seat.ensures.links ∙ c.loop.invariant.links
+pub returns-in_err-tick_seat-clause-asked : goal.returns-in_err-tick_seat-clause-asked
+returns-in_err-tick_seat-clause-asked g c = c.tick_seat.ensures.asked ∙ c.loop.invariant.asked
+
+pub returns-in_err-tick_seat-clause-accepted : goal.returns-in_err-tick_seat-clause-accepted
+returns-in_err-tick_seat-clause-accepted g c = c.tick_seat.ensures.accepted ∙ c.loop.invariant.accepted
+
+pub returns-in_err-tick_seat-clause-back : goal.returns-in_err-tick_seat-clause-back
+returns-in_err-tick_seat-clause-back g c = c.tick_seat.ensures.back ∙ c.loop.invariant.back
+
+pub returns-in_err-tick_seat-clause-done : goal.returns-in_err-tick_seat-clause-done
+returns-in_err-tick_seat-clause-done g c = c.tick_seat.ensures.done ∙ c.loop.invariant.done
+
+pub returns-in_err-tick_seat-clause-faults : goal.returns-in_err-tick_seat-clause-faults
+returns-in_err-tick_seat-clause-faults g c = c.tick_seat.ensures.faults ∙ c.loop.invariant.faults
+
+pub returns-in_err-tick_seat-clause-prompt : goal.returns-in_err-tick_seat-clause-prompt
+returns-in_err-tick_seat-clause-prompt g c = c.tick_seat.ensures.prompt ∙ c.loop.invariant.prompt
 
 pub loop-preserved : goal.loop-preserved
 loop-preserved g c =
@@ -53,8 +73,13 @@ loop-preserved g c =
       played = drawn_more (seats_in script) (clients script) c.loop.counter c.args.seed c.next_seat-seat.result c.args.machine.now c.loop.machine c.tick_seat.new.machine
           (seats_there script c.loop.counter c.count-end.result c.loop-test.true i.count) (seat_drawn script c.loop.counter c.args.seed c.next_seat-seat.result c.loop.seats i.draws c.next_seat-seat.ensures.seat) i.played step.ticked;
       playable = step.playable;
-      ends = then_same_links c.args.machine.now c.loop.machine c.tick_seat.new.machine i.ends step.ends;
-      links = step.links ∙ i.links;
+      ends = same_links_join c.args.machine.now c.loop.machine c.tick_seat.new.machine i.ends step.ends;
+      asked = step.asked ∙ i.asked;
+      accepted = step.accepted ∙ i.accepted;
+      back = step.back ∙ i.back;
+      done = step.done ∙ i.done;
+      faults = step.faults ∙ i.faults;
+      prompt = step.prompt ∙ i.prompt;
     }
 
 pub returns-clause-played : goal.returns-clause-played
@@ -67,5 +92,20 @@ returns-clause-played g c =
 pub returns-clause-ends : goal.returns-clause-ends
 returns-clause-ends g c = c.loop.invariant.ends
 
-pub returns-clause-links : goal.returns-clause-links
-returns-clause-links g c = c.loop.invariant.links
+pub returns-clause-asked : goal.returns-clause-asked
+returns-clause-asked g c = c.loop.invariant.asked
+
+pub returns-clause-accepted : goal.returns-clause-accepted
+returns-clause-accepted g c = c.loop.invariant.accepted
+
+pub returns-clause-back : goal.returns-clause-back
+returns-clause-back g c = c.loop.invariant.back
+
+pub returns-clause-done : goal.returns-clause-done
+returns-clause-done g c = c.loop.invariant.done
+
+pub returns-clause-faults : goal.returns-clause-faults
+returns-clause-faults g c = c.loop.invariant.faults
+
+pub returns-clause-prompt : goal.returns-clause-prompt
+returns-clause-prompt g c = c.loop.invariant.prompt

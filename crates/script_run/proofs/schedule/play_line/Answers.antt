@@ -1,5 +1,6 @@
 use Rattle.std.proofs.Common.{refl}
-use Rattle.script_run.proofs.Playing.{on_ok, same_links}
+use Rattle.sock_core.proofs.Joining.{same_links_none}
+use Rattle.script_run.proofs.Playing.{on_ok}
 use Rattle.script_run.proofs.Lines.{tick_line, to_line, unscheduled_line}
 use Rattle.script_run.proofs.schedule.play_line.Goals as goal
 
@@ -15,6 +16,11 @@ pub returns-in_default : goal.returns-in_default
 returns-in_default g c = record {
   played = unscheduled_line c.args.machine.now c.args.line.now c.in_default.not-Tick c.in_default.not-To;
   playable = c.requires.playable;
-  ends = same_links c.args.machine.now;
-  links = refl;
+  ends = same_links_none c.args.machine.now;
+  asked = refl;
+  accepted = refl;
+  back = refl;
+  done = refl;
+  faults = refl;
+  prompt = refl;
 }

@@ -1,7 +1,8 @@
 use Rattle.std.proofs.Common.{◌≡◌, replicate, subst, refl, ◌∙◌, arith}
 use Rattle.sock_programs.specs.Ticks.{seats_of}
 use Rattle.script_run.specs.Played.{HasPlayed}
-use Rattle.script_run.proofs.Playing.{none_played, same_links, then_same_links}
+use Rattle.sock_core.proofs.Joining.{same_links_none, same_links_join}
+use Rattle.script_run.proofs.Playing.{none_played}
 use Rattle.script_run.proofs.Lines.{one_more_tick, ticks_left}
 use Rattle.script_run.proofs.schedule.play_ticks.Goals as goal
 
@@ -9,12 +10,17 @@ pub loop-init : goal.loop-init
 loop-init g c = record {
   played = none_played (λ d moments. seats_of moments ≡ replicate 0 c.args.seat) c.args.machine.now (λ d. refl);
   playable = c.requires.playable;
-  ends = same_links c.args.machine.now;
-  links = refl;
+  ends = same_links_none c.args.machine.now;
+  asked = refl;
+  accepted = refl;
+  back = refl;
+  done = refl;
+  faults = refl;
+  prompt = refl;
 }
 
 pub returns-in_err-tick_seat-clause-ends : goal.returns-in_err-tick_seat-clause-ends
-returns-in_err-tick_seat-clause-ends g c = then_same_links c.args.machine.now c.loop.machine c.tick_seat.new.machine c.loop.invariant.ends c.tick_seat.ensures.ends
+returns-in_err-tick_seat-clause-ends g c = same_links_join c.args.machine.now c.loop.machine c.tick_seat.new.machine c.loop.invariant.ends c.tick_seat.ensures.ends
 
 pub returns-then-not-branch-clause-played : goal.returns-then-not-branch-clause-played
 returns-then-not-branch-clause-played g c =
@@ -24,7 +30,7 @@ returns-then-not-branch-clause-played g c =
     ticks_left c.args.seat c.args.ticks c.loop.counter c.args.machine.now c.loop.machine c.tick_seat.new.machine c.loop-test.true c.loop.invariant.played (step.idle (cc))
 
 pub returns-then-not-branch-clause-ends : goal.returns-then-not-branch-clause-ends
-returns-then-not-branch-clause-ends g c = then_same_links c.args.machine.now c.loop.machine c.tick_seat.new.machine c.loop.invariant.ends c.in_ok-tick_seat.ensures.ends
+returns-then-not-branch-clause-ends g c = same_links_join c.args.machine.now c.loop.machine c.tick_seat.new.machine c.loop.invariant.ends c.in_ok-tick_seat.ensures.ends
 
 pub loop-preserved : goal.loop-preserved
 loop-preserved g c =
@@ -32,8 +38,13 @@ loop-preserved g c =
     let step = c.in_ok-tick_seat.ensures in record {
       played = one_more_tick c.args.seat c.loop.counter c.args.machine.now c.loop.machine c.tick_seat.new.machine i.played step.ticked;
       playable = step.playable;
-      ends = then_same_links c.args.machine.now c.loop.machine c.tick_seat.new.machine i.ends step.ends;
-      links = step.links ∙ i.links;
+      ends = same_links_join c.args.machine.now c.loop.machine c.tick_seat.new.machine i.ends step.ends;
+      asked = step.asked ∙ i.asked;
+      accepted = step.accepted ∙ i.accepted;
+      back = step.back ∙ i.back;
+      done = step.done ∙ i.done;
+      faults = step.faults ∙ i.faults;
+      prompt = step.prompt ∙ i.prompt;
     }
 
 pub returns-clause-played : goal.returns-clause-played

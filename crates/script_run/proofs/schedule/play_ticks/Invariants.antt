@@ -9,5 +9,10 @@ invariant-loop g l = record {
   played : HasPlayed (λ c moments. seats_of moments ≡ replicate l.counter l.seat) l.initial.machine l.machine;
   playable : IsPlayable l.machine;
   ends : SameLinks l.initial.machine l.machine;
-  links : l.links ≡ l.initial.links;
+  asked : g.L.Linker.asked l.links ≡ g.L.Linker.asked l.initial.links;
+  accepted : g.L.Linker.accepted l.links ≡ g.L.Linker.accepted l.initial.links;
+  back : g.L.Linker.back l.links ≡ g.L.Linker.back l.initial.links;
+  done : g.L.Linker.done l.links ≡ g.L.Linker.done l.initial.links;
+  faults : g.L.Linker.faults l.links ≡ g.L.Linker.faults l.initial.links;
+  prompt : g.L.Linker.prompt l.links ≡ g.L.Linker.prompt l.initial.links;
 }

@@ -1,17 +1,21 @@
 use Rattle.std.proofs.Common.{subst}
 use Rattle.sock_core.specs.Runs.{Ticked}
-use Rattle.script_run.proofs.Playing.{tick_played, idle_ticks, playable_later}
+use Rattle.script_run.proofs.Playing.{tick_played, idle_ticks}
 use Rattle.script_run.proofs.schedule.tick_seat.Goals as goal
 
 pub returns-in-Moved : goal.returns-in-Moved
 returns-in-Moved g c =
-    let step = c.in_ok-tick.ensures in
-    let played = tick_played c.args.machine.now c.tick.new.self c.args.seat c.in_ok-tick.field-0 step.tick in record {
-      ticked = played;
+    let step = c.in_ok-tick.ensures in record {
+      ticked = tick_played c.args.machine.now c.tick.new.self c.args.seat c.in_ok-tick.field-0 step.tick;
       idle = λ e. absurd (cc);
-      playable = playable_later c.args.machine.now c.tick.new.self c.requires.playable played.seats step.rest;
+      playable = record { first = step.rest; sizes = step.sizes };
       ends = step.same.1;
-      links = step.links;
+      asked = step.asked;
+      accepted = step.accepted;
+      back = step.back;
+      done = step.done;
+      faults = step.faults;
+      prompt = step.prompt;
     }
 
 pub returns-in-Idle-clause-ticked : goal.returns-in-Idle-clause-ticked
@@ -21,6 +25,4 @@ pub returns-in-Idle-clause-idle : goal.returns-in-Idle-clause-idle
 returns-in-Idle-clause-idle g c same n = idle_ticks c.args.machine.now c.tick.new.self c.args.seat n (subst (Ticked c.args.machine.now c.tick.new.self c.args.seat) c.in-Idle.is c.in_ok-tick.ensures.tick)
 
 pub returns-in-Idle-clause-playable : goal.returns-in-Idle-clause-playable
-returns-in-Idle-clause-playable g c =
-    let step = c.in_ok-tick.ensures in
-    playable_later c.args.machine.now c.tick.new.self c.requires.playable (tick_played c.args.machine.now c.tick.new.self c.args.seat c.in_ok-tick.field-0 step.tick).seats step.rest
+returns-in-Idle-clause-playable g c = let step = c.in_ok-tick.ensures in record { first = step.rest; sizes = step.sizes }

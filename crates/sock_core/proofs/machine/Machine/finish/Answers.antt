@@ -9,3 +9,17 @@ returns-clause-took g c =
     let ends : c.args.self.ends ≡ map (λ e. end_of (g.O.Out.state e.out) (g.I.In.state e.inn)) c.tables-inside.inside.0.0.ends.items = search rules in
     ap (map (λ o. o.took)) outs ∙ (map_map (λ e. g.O.Out.state e.out) (λ o. o.took) c.tables-inside.inside.0.0.ends.items
     ∙ sym (ap (map (λ e. e.took)) ends ∙ map_map (λ e. end_of (g.O.Out.state e.out) (g.I.In.state e.inn)) (λ e. e.took) c.tables-inside.inside.0.0.ends.items))
+
+pub returns-clause-gave_count : goal.returns-clause-gave_count
+returns-clause-gave_count g c =
+    let inns : c.args.self.links.inns ≡ map (λ e. g.I.In.state e.inn) c.tables-inside.inside.0.0.ends.items = search rules in
+    let ends : c.args.self.ends ≡ map (λ e. end_of (g.O.Out.state e.out) (g.I.In.state e.inn)) c.tables-inside.inside.0.0.ends.items = search rules in
+    ap (map (λ i. i.gave)) inns ∙ (map_map (λ e. g.I.In.state e.inn) (λ i. i.gave) c.tables-inside.inside.0.0.ends.items
+    ∙ sym (ap (map (λ e. e.gave_count)) ends ∙ map_map (λ e. end_of (g.O.Out.state e.out) (g.I.In.state e.inn)) (λ e. e.gave_count) c.tables-inside.inside.0.0.ends.items))
+
+pub returns-clause-gave : goal.returns-clause-gave
+returns-clause-gave g c =
+    let inns : c.args.self.links.inns ≡ map (λ e. g.I.In.state e.inn) c.tables-inside.inside.0.0.ends.items = search rules in
+    let ends : c.args.self.ends ≡ map (λ e. end_of (g.O.Out.state e.out) (g.I.In.state e.inn)) c.tables-inside.inside.0.0.ends.items = search rules in
+    ap (map (λ i. i.gave_bytes)) inns ∙ (map_map (λ e. g.I.In.state e.inn) (λ i. i.gave_bytes) c.tables-inside.inside.0.0.ends.items
+    ∙ sym (ap (map (λ e. e.gave)) ends ∙ map_map (λ e. end_of (g.O.Out.state e.out) (g.I.In.state e.inn)) (λ e. e.gave) c.tables-inside.inside.0.0.ends.items))
