@@ -5,7 +5,7 @@ use Rattle.sock_core.proofs.machine.Machine.play_on.Goals as goal
 
 pub loop-init : goal.loop-init
 loop-init g c = record {
-  so_far = played_none c.args.self.now c.requires.rest c.in_ok-most_left-end.ensures.left;
+  so_far = played_none c.args.self.now c.requires.rest c.in_ok-end.ensures.left;
   asked = refl;
   accepted = refl;
   back = refl;

@@ -4,7 +4,7 @@ use Rattle.sock_core.proofs.machine.Machine.tick_until.Goals as goal
 
 pub loop-init : goal.loop-init
 loop-init g c = record {
-  so_far = passed_none c.args.self.now c.args.seat c.args.kind c.requires.rest c.in_ok-most_left-end.ensures.left;
+  so_far = passed_none c.args.self.now c.args.seat c.args.kind c.requires.rest c.in_ok-end.ensures.left;
   asked = refl;
   accepted = refl;
   back = refl;
