@@ -1,5 +1,5 @@
 -- Ticks of a machine, one after another.
-use Rattle.std.proofs.Common.{◌≡◌, ℕ, suc, ◌+◌, List, [], ◌∷◌, ◌++◌, map, length, replicate, ap, sym, subst, refl, ◌∙◌, arith, slice_get, Some, Result, Ok, Err, OnOk}
+use Rattle.std.proofs.Common.{◌≡◌, ℕ, suc, ◌+◌, List, [], ◌∷◌, ◌++◌, map, length, replicate, ap, sym, subst, refl, ◌∙◌, arith, slice_get, Some}
 use Rattle.std.proofs.lemmas.List.{length-map}
 use Rattle.sock_words.specs.declared.kind.Kind.{Kind}
 use Rattle.sock_words.specs.declared.plain.Plan.{Plan}
@@ -45,11 +45,6 @@ then_played S T U a b c h k join = made_join a b c (PlayedWith S a b) (PlayedWit
       are = join (core_with a took gave) x.moments y.moments x.are (subst (λ d. T d y.moments) f.core y.are);
       follows = follows_join a b c took gave x.moments y.moments table links after f y.follows;
     })
-
--- what follows from an answer
-pub on_ok : {T E P Q : Type 0} (r : Result T E) → (P → Q) → OnOk r P → OnOk r Q
-on_ok (Ok x) f h = f h
-on_ok (Err e) f h = tt
 
 -- ## Numbers
 

@@ -1,5 +1,5 @@
 -- Programs that ask no link; the machine of which the ending begins; and what a tick's answer says.
-use Rattle.std.proofs.Common.{◌≡◌, ◌≢◌, refl, ℕ, ◌+◌, ◌-◌, ◌*◌, ◌%◌, ◌==◌, ◌&&◌, ◌<◌, ◌≤◌, nat_le, ⊎_elim, Bool, true, false, cond, List, [], ◌∷◌, length, slice_set, Option, Result, Ok, Err, IfOk, OnErr, ap, sym, ◌∙◌, arith, subst}
+use Rattle.std.proofs.Common.{◌≡◌, ◌≢◌, refl, ℕ, ◌+◌, ◌-◌, ◌*◌, ◌%◌, ◌==◌, ◌&&◌, ◌<◌, ◌≤◌, nat_le, ⊎_elim, Bool, true, false, cond, List, [], ◌∷◌, length, slice_set, Option, Result, Ok, Err, IfOk, OnOk, OnErr, ap, sym, ◌∙◌, arith, subst}
 use Rattle.std.specs.List.{AllByRecursion}
 use Rattle.std.proofs.Props.{props}
 use Rattle.std.proofs.Math.Logic.{∥∥₁_elim}
@@ -264,6 +264,11 @@ lasts_most m room is enough = (enough, ∥∥₁_elim (is.sound enough) (hlevel 
 -- what stands in an `Ok`
 pub in_ok : {E : Type 0} (a b : Bool) → (let r : Result Bool E = Ok a in r) ≡ Ok b → a ≡ b
 in_ok a b e = cc
+
+-- what follows from an answer
+pub on_ok : {T E P Q : Type 0} (r : Result T E) → (P → Q) → OnOk r P → OnOk r Q
+on_ok (Ok x) f h = f h
+on_ok (Err e) f h = tt
 
 pub both_join : (a b c : MachineState) → SameTable a b × SameLinks a b → SameTable b c × SameLinks b c → SameTable a c × SameLinks a c
 both_join a b c h o = (same_table_join a b c h.0 o.0, same_links_join a b c h.1 o.1)

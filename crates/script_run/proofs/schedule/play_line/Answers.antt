@@ -1,6 +1,6 @@
 use Rattle.std.proofs.Common.{refl}
 use Rattle.sock_core.proofs.Joining.{same_links_none}
-use Rattle.script_run.proofs.Playing.{on_ok}
+use Rattle.sock_core.proofs.Endings.{on_ok}
 use Rattle.script_run.proofs.Lines.{tick_line, to_line, unscheduled_line}
 use Rattle.script_run.proofs.schedule.play_line.Goals as goal
 

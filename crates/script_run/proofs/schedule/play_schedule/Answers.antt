@@ -1,7 +1,7 @@
 use Rattle.std.proofs.Common.{ap}
 use Rattle.sock_programs.specs.Scripts.{drawn_turns}
 use Rattle.script_run.specs.Played.{turns_of}
-use Rattle.script_run.proofs.Playing.{on_ok}
+use Rattle.sock_core.proofs.Endings.{on_ok}
 use Rattle.script_run.proofs.Lines.{by_lines, by_draws}
 use Rattle.script_run.proofs.schedule.play_schedule.Goals as goal
 

@@ -1,5 +1,6 @@
 use Rattle.std.proofs.Common.{OnOk}
-use Rattle.script_run.proofs.Playing.{on_ok, led_played}
+use Rattle.sock_core.proofs.Endings.{on_ok}
+use Rattle.script_run.proofs.Playing.{led_played}
 use Rattle.script_run.proofs.schedule.play_until.Goals as goal
 
 pub returns-clause-played : goal.returns-clause-played

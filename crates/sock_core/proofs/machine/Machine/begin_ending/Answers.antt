@@ -3,6 +3,8 @@ use Rattle.sock_words.specs.declared.plain.Plan.{Plan}
 use Rattle.sock_core.specs.Links.{Taken, Given}
 use Rattle.sock_core.specs.Machines.{MachineState, core_with, ending_by}
 use Rattle.sock_core.specs.Driving.{FirstRests}
+use Rattle.std.proofs.Props.{props}
+use Rattle.std.proofs.Math.Logic.{∥∥₁_elim}
 use Rattle.sock_core.proofs.Endings.{began_core, began_keeps, began_plain}
 use Rattle.sock_core.proofs.machine.Machine.begin_ending.Goals as goal
 
@@ -21,3 +23,6 @@ returns-clause-core g c = subst (λ (m : MachineState). (took : Taken) (gave : G
 pub returns-clause-plain : goal.returns-clause-plain
 returns-clause-plain g c =
     began_plain c.self.inside.tables c.begin_ending.new.self _ c.self.invariant.0 (ap (λ (m : MachineState). m.short) c.self.view_is ∙ c.requires.enough) (subst FirstRests (sym c.self.view_is) c.requires.rest) c.begin_ending.ensures
+
+pub begin_ending-requires : goal.begin_ending-requires
+begin_ending-requires g c = ∥∥₁_elim c.self.invariant.0.sizes (hlevel props) (λ h. h.some_seat)

@@ -5,7 +5,7 @@ use Rattle.sock_core.proofs.machine.Machine.play_on.Goals as goal
 
 pub loop-init : goal.loop-init
 loop-init g c = record {
-  so_far = played_none c.args.self.now c.requires c.in_ok-most_left-end.ensures.left;
+  so_far = played_none c.args.self.now c.requires.rest c.in_ok-end.ensures.left;
   asked = refl;
   accepted = refl;
   back = refl;
@@ -15,10 +15,10 @@ loop-init g c = record {
 }
 
 pub round-requires-clause-enough : goal.round-requires-clause-enough
-round-requires-clause-enough g c = c.loop.invariant.so_far.left.0
+round-requires-clause-enough g c κs within = c.loop.invariant.so_far.left.0
 
 pub round-requires-clause-rest : goal.round-requires-clause-rest
-round-requires-clause-rest g c = c.loop.invariant.so_far.rest
+round-requires-clause-rest g c κs within = c.loop.invariant.so_far.rest
 
 pub returns-in_err-round-clause-same : goal.returns-in_err-round-clause-same
 returns-in_err-round-clause-same g c = let i = c.loop.invariant.so_far in both_join c.args.self.now c.loop.self c.round.new.self (i.ran.0, i.ran.1) c.round.ensures.same

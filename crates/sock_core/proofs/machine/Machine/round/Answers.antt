@@ -72,12 +72,14 @@ loop-link-preserved g c =
     let t = c.in_ok-advance-2.ensures in
     let rest = t.rest (λ e. absurd (omega (arith, e))) i.so_far.rest in
     let clients = from_to 1 (c.args.self.now.plan.seats - 1) in
+    let is = c.links-link-end.ensures.count in
+    let same = ap (λ (p : Plan). p.links) c.loop-seat.invariant.so_far.ran.0.plan in
     let more = reader_more clients c.loop-link.link in
     elim c.if-is_moved-2.branch [
       | goal.then-is_moved-2 w ↦ let moved = c.is_moved-in-loop-link.ensures.moved w.if-is_moved-2.true in record {
           so_far = subst (RoundSoFar c.args.self.now c.advance-in-loop-link.new.self (clients ++ from_to READERS (c.loop-link.link + 1))) (sym w.moved-is) (subst (λ (l : List ℕ). RoundSoFar c.args.self.now c.advance-in-loop-link.new.self l true) more
               (round_moved c.args.self.now c.loop-link.self c.advance-in-loop-link.new.self (clients ++ from_to READERS c.loop-link.link) (READERS + c.loop-link.link) c.loop-link.moved c.in_ok-advance-2.field-0 i.so_far t.tick t.left t.enough.1 rest moved.0 moved.1));
-          inside = omega arith;
+          inside = omega (arith, is, same);
           asked = c.advance-in-loop-link.ensures.asked ∙ c.loop-link.invariant.asked;
           accepted = c.advance-in-loop-link.ensures.accepted ∙ c.loop-link.invariant.accepted;
           back = c.advance-in-loop-link.ensures.back ∙ c.loop-link.invariant.back;
@@ -88,7 +90,7 @@ loop-link-preserved g c =
       | goal.else-is_moved-2 w ↦ record {
           so_far = subst (RoundSoFar c.args.self.now c.advance-in-loop-link.new.self (clients ++ from_to READERS (c.loop-link.link + 1))) (sym w.moved-is) (subst (λ (l : List ℕ). RoundSoFar c.args.self.now c.advance-in-loop-link.new.self l c.loop-link.moved) more
               (round_still c.args.self.now c.loop-link.self c.advance-in-loop-link.new.self (clients ++ from_to READERS c.loop-link.link) (READERS + c.loop-link.link) c.loop-link.moved c.in_ok-advance-2.field-0 i.so_far t.tick t.left t.enough.1 rest (c.is_moved-in-loop-link.ensures.still w.if-is_moved-2.false)));
-          inside = omega arith;
+          inside = omega (arith, is, same);
           asked = c.advance-in-loop-link.ensures.asked ∙ c.loop-link.invariant.asked;
           accepted = c.advance-in-loop-link.ensures.accepted ∙ c.loop-link.invariant.accepted;
           back = c.advance-in-loop-link.ensures.back ∙ c.loop-link.invariant.back;

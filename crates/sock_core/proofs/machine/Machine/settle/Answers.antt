@@ -1,9 +1,15 @@
-use Rattle.sock_core.proofs.Settling.{settles, settled_links, all_plans}
+use Rattle.std.proofs.Common.{subst}
+use Rattle.sock_core.specs.Machines.{MachineState}
+use Rattle.sock_core.specs.Runs.{SameLinks, PlayedOn}
+use Rattle.sock_core.proofs.Endings.{on_ok}
+use Rattle.sock_core.proofs.Settling.{settles, settled_links}
 use Rattle.sock_core.proofs.machine.Machine.settle.Goals as goal
 
 pub returns-clause-settled : goal.returns-clause-settled
-returns-clause-settled g c = settles c.args.self.now c.play_on.new.self c.begin_ending.new.self c.run_first.new.self c.play_on-2.new.self c.in_ok-play_on.ensures.ok.0 c.begin_ending.ensures.plan.0 c.begin_ending.ensures.plan.1
-    c.begin_ending.ensures.links c.begin_ending.ensures.ends c.begin_ending.ensures.core c.run_first.ensures.ran c.in_ok-play_on-2.ensures.ok.0
+returns-clause-settled g c = on_ok c.play_on-2.result
+    (λ ok. settles c.args.self.now c.play_on.new.self c.begin_ending.new.self c.run_first.new.self c.play_on-2.new.self c.in_ok-play_on.ensures.ok.0 c.begin_ending.ensures.plan.0 c.begin_ending.ensures.plan.1
+    c.begin_ending.ensures.links c.begin_ending.ensures.ends c.begin_ending.ensures.core c.run_first.ensures.ran (subst (λ (m : MachineState). PlayedOn m c.play_on-2.new.self) c.tell_ending.ensures ok.0)) c.play_on-2.ensures.ok
 
 pub returns-clause-ends : goal.returns-clause-ends
-returns-clause-ends g c = settled_links c.args.self.now c.play_on.new.self c.begin_ending.new.self c.run_first.new.self c.play_on-2.new.self c.play_on.ensures.same.1 c.begin_ending.ensures.links c.begin_ending.ensures.ends c.run_first.ensures.ran.same.1 c.play_on-2.ensures.same.1
+returns-clause-ends g c = settled_links c.args.self.now c.play_on.new.self c.begin_ending.new.self c.run_first.new.self c.play_on-2.new.self c.play_on.ensures.same.1 c.begin_ending.ensures.links c.begin_ending.ensures.ends c.run_first.ensures.ran.same.1
+    (subst (λ (m : MachineState). SameLinks m c.play_on-2.new.self) c.tell_ending.ensures c.play_on-2.ensures.same.1)

@@ -4,7 +4,7 @@ use Rattle.sock_core.proofs.machine.Machine.tick_until.Goals as goal
 
 pub loop-init : goal.loop-init
 loop-init g c = record {
-  so_far = passed_none c.args.self.now c.args.seat c.args.kind c.requires c.in_ok-most_left-end.ensures.left;
+  so_far = passed_none c.args.self.now c.args.seat c.args.kind c.requires.rest c.in_ok-end.ensures.left;
   asked = refl;
   accepted = refl;
   back = refl;
@@ -13,8 +13,8 @@ loop-init g c = record {
   prompt = refl;
 }
 
-pub tick-requires : goal.tick-requires
-tick-requires g c = c.loop.invariant.so_far.rest
+pub tick-requires-clause-rest : goal.tick-requires-clause-rest
+tick-requires-clause-rest g c κs within = c.loop.invariant.so_far.rest
 
 pub returns-then-is_last-clause-led : goal.returns-then-is_last-clause-led
 returns-then-is_last-clause-led g c = passed_last c.args.self.now c.loop.self c.tick.new.self c.args.seat c.args.kind c.loop.counter c.loop.invariant.so_far c.in_ok-tick.field-0 (c.is_last.ensures.last c.if-is_last.true) c.in_ok-tick.ensures.tick
