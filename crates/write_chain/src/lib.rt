@@ -6,5 +6,5 @@ mod hold;
 mod right;
 
 pub use entry::{Refused, Started, start};
-pub use hold::Once;
-pub use right::{Doing, InHand, WriteRight};
+pub use hold::{LINK_FAILED, Once, Tried, write_once};
+pub use right::{Doing, InHand, LinkInHand, Undelivered, Walk, WriteRight};
