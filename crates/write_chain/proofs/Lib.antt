@@ -2,3 +2,4 @@ pub mod Accepting
 pub mod Noting
 pub mod Stepping
 pub mod Beginning
+pub mod Looking

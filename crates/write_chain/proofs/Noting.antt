@@ -3,6 +3,7 @@ use Rattle.std.proofs.Common.{◌≡◌, ℕ, ◌+◌, ◌<◌, ◌≤◌, List,
 use Rattle.sock_io.specs.Link.{OutState}
 use Rattle.sock_words.specs.declared.plain.Plan.{Plan}
 use Rattle.sock_words.specs.Words.{socket_id_version, socket_id_slot}
+use Rattle.sock_model.specs.declared.chain.Right.{Right}
 use Rattle.sock_model.specs.declared.marks.Mark.{Mark}
 use Rattle.sock_model.specs.declared.marks.Mark.TheVariants.{Saw, Failer, Stored, Told, Met}
 use Rattle.sock_model.specs.declared.view.View.{View}
@@ -13,6 +14,11 @@ use Rattle.sock_rule.proofs.Becoming.{then_, stays}
 use Rattle.sock_table.specs.Refs.{Rests}
 use Rattle.sock_table.proofs.Quiet.{IsQuiet, rests_on}
 use Rattle.write_chain.specs.Noting.{IsFinding, saw, met, told, Faulted, Noted, nothing, finding, failing, Met_by, Wrote}
+
+finding_quiet : {h : ℕ} (m : Mark) → IsFinding h m → IsQuiet (m ∷ []) × (is_ref m ≡ 0)
+finding_quiet _ (saw w) = (record { claimed = refl; probe = refl; coding = refl; zeros = λ x. refl }, refl)
+finding_quiet _ (met l) = (record { claimed = refl; probe = refl; coding = refl; zeros = λ x. refl }, refl)
+finding_quiet _ (told c) = (record { claimed = refl; probe = refl; coding = refl; zeros = λ x. refl }, refl)
 
 module _ {O : Type 0} {state : O → OutState} {h : ℕ} where
   pub noted_as : {K L : ℕ → Type 0} (l : List Mark) → ((k : ℕ) → K k → L k) → Noted state K h l → Noted state L h l
@@ -25,11 +31,6 @@ module _ {O : Type 0} {state : O → OutState} {L : ℕ → Type 0} {h : ℕ} wh
   noted_then [] b nothing q = q
   noted_then _ b (finding m ms is rest) q = finding m (ms ++ b) is (noted_then ms b rest q)
   noted_then _ b (failing k ms its why rest) q = failing k (ms ++ b) its why (noted_then ms b rest q)
-
-  finding_quiet : (m : Mark) → IsFinding h m → IsQuiet (m ∷ []) × (is_ref m ≡ 0)
-  finding_quiet _ (saw w) = (record { claimed = refl; probe = refl; coding = refl; zeros = λ x. refl }, refl)
-  finding_quiet _ (met l) = (record { claimed = refl; probe = refl; coding = refl; zeros = λ x. refl }, refl)
-  finding_quiet _ (told c) = (record { claimed = refl; probe = refl; coding = refl; zeros = λ x. refl }, refl)
 
   pub noted_quiet : (l : List Mark) → Noted state L h l → IsQuiet l × (total is_ref l ≡ 0)
   noted_quiet [] nothing = (record { claimed = refl; probe = refl; coding = refl; zeros = λ x. refl }, refl)
@@ -68,3 +69,11 @@ module _ {O : Type 0} {state : O → OutState} {id : ℕ} where
   -- what the seat holds it holds still
   pub wrote_more : (f : Mark → ℕ) (v w : View) → Wrote state id v w → marks_of f (socket_id_slot id) v ≤ marks_of f (socket_id_slot id) w
   wrote_more f v w a = let x : marks_of f (socket_id_slot id) w + 0 ≡ marks_of f (socket_id_slot id) v + total f a.notes = a.became.here f in omega arith
+
+-- ## Rights alone
+
+pub rights_only : (v w : View) (rs : List Right) → w ≡ record v { rights = rs } → w ≡ record v { rights = w.rights }
+rights_only v w rs e = e ∙ sym (ap (λ (y : View). record v { rights = y.rights }) e)
+
+pub rights_then : (u v w : View) → v ≡ record u { rights = v.rights } → w ≡ record v { rights = w.rights } → w ≡ record u { rights = w.rights }
+rights_then u v w first second = second ∙ ap (λ (y : View). record y { rights = w.rights }) first

@@ -15,16 +15,17 @@ use Rattle.sock_model.specs.declared.chain.Right.{Right}
 use Rattle.sock_model.specs.declared.chain.Stage.{Stage}
 use Rattle.sock_model.specs.declared.chain.Stage.TheVariants.{Writes, Placed, Passes, Empties, Walks, Turns}
 use Rattle.sock_model.specs.declared.marks.Mark.{Mark}
+use Rattle.sock_model.specs.declared.marks.Mark.TheVariants.{Met}
 use Rattle.sock_model.specs.declared.view.View.{View}
 use Rattle.sock_model.specs.Entries.{slot_of}
 use Rattle.sock_model.specs.Links.{HoldsLink}
 use Rattle.sock_model.specs.Memory.{UNCONNECTED}
 use Rattle.sock_model.specs.Weights.{total, is_ref, is_hold, is_met, is_saw}
 use Rattle.sock_model.specs.Marks.{about}
-use Rattle.sock_model.specs.SlotRows.{marks_of}
+use Rattle.sock_model.specs.SlotRows.{marks_of, met_link}
 use Rattle.sock_model.specs.ChainRows.{with_right, without_right, taken_right, placed_right, dropped_right, passing_right, freed_stage, freed_right, walking_right, reading_right, turned_right}
 use Rattle.sock_rule.specs.Becoming.{Became}
-use Rattle.sock_rule.specs.Holding.{Rights, Part, Follows, ends, goes_on, MayFreeRequest}
+use Rattle.sock_rule.specs.Holding.{Rights, Part, Follows, ends, goes_on, MayFreeRequest, MayLookToWrite, MayEmptyHead}
 use Rattle.sock_rule.specs.ChainPlays.{IsTicket}
 use Rattle.sock_rule.specs.declared.homes.LinkHome.{LinkHome}
 use Rattle.sock_rule.specs.declared.homes.Letter.{Letter}
@@ -32,14 +33,15 @@ use Rattle.sock_rule.specs.declared.homes.SockHome.{SockHome}
 use Rattle.sock_rule.specs.declared.homes.SockHome.TheVariants.{Empty}
 use Rattle.sock_rule.specs.Shows.{heading_of}
 use Rattle.sock_rule.proofs.Holding.{one_right}
+use Rattle.sock_rule.proofs.Becoming.{met_marks}
 use Rattle.sock_table.specs.Refs.{IsBetween, Rests}
 use Rattle.sock_table.proofs.Quiet.{rests_on, rests_between}
 use Rattle.write_chain.specs.declared.right.InHand.{InHand}
 use Rattle.write_chain.specs.declared.right.LinkInHand.{LinkInHand}
-use Rattle.write_chain.specs.Noting.{Noted}
+use Rattle.write_chain.specs.Noting.{met, Noted, Wrote}
 use Rattle.write_chain.specs.Puts.{WentOn}
-use Rattle.write_chain.specs.Writing.{IsWriter, Stands, HasHome, HasLink, HasInHand, IsPart, HasPart, HasWhole, GaveUp}
-use Rattle.write_chain.proofs.Noting.{noted_quiet}
+use Rattle.write_chain.specs.Writing.{IsWriter, Stands, HasHome, HasLink, HasInHand, IsPart, HasPart, IsClean, HasWhole, GaveUp}
+use Rattle.write_chain.proofs.Noting.{noted_quiet, found_it, wrote_notes}
 
 -- ## The right changes
 
@@ -71,67 +73,91 @@ writer_noted {p = p} {id = id} {last = last} {link = link} {x = x} {v = v} {w = 
   room = (let a = b.here is_ref in let c = is.room in let d = q.1 in omega arith);
 }
 
+took_all : (sent begun bytes left took : List ℕ) → took ≡ sent ++ begun → bytes ≡ begun ++ left → left ≡ [] → took ≡ sent ++ bytes
+took_all sent begun bytes left took t b none_ = t ∙ ap (λ l. sent ++ l) (sym (b ∙ (ap (λ l. begun ++ l) none_ ∙ append-nil begun)))
+
 module _ {O : Type 0} {g : Ghosts O} {p : Plan} {id last : ℕ} where
-  -- what is in hand stays where the writer does
-  pub hand_noted : {L : ℕ → Type 0} (hand : InHand O g) (m n : Me (SockHome O g) View) (notes : List Mark) → Noted g.state L (socket_id_version id) notes → Became (socket_id_slot id) m.0 n.0 notes [] → n.1 ≡ m.1 → HasInHand p id last hand m → HasInHand p id last hand n
-  hand_noted hand m n notes noted b slots h = record {
-    right_is = h.right_is;
-    writer = writer_noted h.writer notes noted b;
-    has = h.has;
-    stage_is = h.stage_is;
-    ticket = h.ticket;
-    taken = h.taken;
-    place_is = h.place_is;
-    place_in = h.place_in;
-    begun = h.begun;
-    bytes_are = h.bytes_are;
-    took = h.took;
-    few = h.few;
-    slots = slots ∙ h.slots;
-  }
+  -- what is in hand stays where notes come
+  pub part_noted : {L : ℕ → Type 0} (hand : InHand O g) (m n : Me (SockHome O g) View) (notes : List Mark) → Noted g.state L (socket_id_version id) notes → Became (socket_id_slot id) m.0 n.0 notes [] → n.1 ≡ m.1 → HasPart p id last hand m → HasPart p id last hand n
+  part_noted hand m n notes noted b slots h = (
+    record {
+      right_is = h.0.right_is;
+      writer = writer_noted h.0.writer notes noted b;
+      has = h.0.has;
+      stage_is = h.0.stage_is;
+      ticket = h.0.ticket;
+      taken = h.0.taken;
+      place_is = h.0.place_is;
+      place_in = h.0.place_in;
+      begun = h.0.begun;
+      bytes_are = h.0.bytes_are;
+      took = h.0.took;
+      few = h.0.few;
+      slots = slots ∙ h.0.slots;
+    },
+    h.1,
+  )
 
   -- the look found the life live
-  pub hand_clean : {L : ℕ → Type 0} (hand : InHand O g) (m n : Me (SockHome O g) View) (v : View) (notes : List Mark) → Noted g.state L (socket_id_version id) notes → Became (socket_id_slot id) m.0 v notes [] → (h : HasInHand p id last hand m)
-      → n ≡ (with_right v (record h.right_is { clean = true }), m.1) → HasInHand p id last hand n
-  hand_clean hand m n v notes noted b h e = let w = writer_noted h.writer notes noted b in record {
-    right_is = record h.right_is { clean = true };
-    writer = writer_on w last (record h.right_is { clean = true }) refl w.last_is w.last_ticket (ap (λ (q : Me (SockHome O g) View). q.0) e);
-    has = record { away = h.has.away; link_in = h.has.link_in; places_are = h.has.places_are; own = h.has.own; unfinished = h.has.unfinished };
-    stage_is = h.stage_is;
-    ticket = h.ticket;
-    taken = h.taken;
-    place_is = h.place_is;
-    place_in = h.place_in;
-    begun = h.begun;
-    bytes_are = h.bytes_are;
-    took = h.took;
-    few = h.few;
-    slots = ap (λ (q : Me (SockHome O g) View). q.1) e ∙ h.slots;
-  }
+  pub part_clean : {L : ℕ → Type 0} (hand : InHand O g) (m n : Me (SockHome O g) View) (v : View) (notes : List Mark) → Noted g.state L (socket_id_version id) notes → Became (socket_id_slot id) m.0 v notes [] → (h : HasPart p id last hand m)
+      → n ≡ (with_right v (record h.0.right_is { clean = true }), m.1) → IsClean p id last hand n
+  part_clean hand m n v notes noted b h e = let w = writer_noted h.0.writer notes noted b in (
+    record {
+      right_is = record h.0.right_is { clean = true };
+      writer = writer_on w last (record h.0.right_is { clean = true }) refl w.last_is w.last_ticket (ap (λ (q : Me (SockHome O g) View). q.0) e);
+      has = record { away = h.0.has.away; link_in = h.0.has.link_in; places_are = h.0.has.places_are; own = h.0.has.own; unfinished = h.0.has.unfinished };
+      stage_is = h.0.stage_is;
+      ticket = h.0.ticket;
+      taken = h.0.taken;
+      place_is = h.0.place_is;
+      place_in = h.0.place_in;
+      begun = h.0.begun;
+      bytes_are = h.0.bytes_are;
+      took = h.0.took;
+      few = h.0.few;
+      slots = ap (λ (q : Me (SockHome O g) View). q.1) e ∙ h.0.slots;
+    },
+    refl,
+  )
 
-  -- a put was made
-  pub hand_put : (old new : InHand O g) (taken : List ℕ) (m : Me (SockHome O g) View) → WentOn old new taken → HasInHand p id last old m → HasInHand p id last new m
-  hand_put old new taken m w h = let k = w.others.0 in let t = w.others.1 in let l = w.others.2 in record {
-    right_is = h.right_is;
-    writer = subst (λ (y : ℕ). IsWriter p id last y h.right_is m.0) (sym k) h.writer;
-    has = record {
-      away = h.has.away;
-      link_in = subst (λ (y : ℕ). y < p.links) (sym k) h.has.link_in;
-      places_are = w.next ∙ h.has.places_are;
-      own = w.link ∙ (h.has.own ∙ sym k);
-      unfinished = w.finished ∙ h.has.unfinished;
-    };
-    stage_is = h.stage_is ∙ ap (λ (y : Ticket). Writes y.0) (sym t);
-    ticket = subst (λ (y : Ticket). IsTicket p y.0) (sym t) h.ticket;
-    taken = h.taken;
-    place_is = h.place_is ∙ ap (λ (y : Label). y.place) (sym l);
-    place_in = subst (λ (y : Label). y.place < 8 * p.operations) (sym l) h.place_in;
-    begun = h.begun ++ taken;
-    bytes_are = h.bytes_are ∙ (ap (λ y. h.begun ++ y) w.left ∙ sym (append_assoc h.begun taken new.bytes.left));
-    took = w.took ∙ (ap (λ y. y ++ taken) h.took ∙ append_assoc h.right_is.sent h.begun taken);
-    few = subst (λ (n : ℕ). n < 4294967295) (sym w.next) h.few;
-    slots = h.slots ∙ (λ i. (slot_of (sym t i).0, Empty) ∷ (p.requests + sym k i, Empty) ∷ []);
-  }
+  -- a put was made, or the link was asked
+  went_on : (old new : InHand O g) (taken : List ℕ) (m : Me (SockHome O g) View) → WentOn old new taken → (h : HasInHand p id last old m) → (h' : HasInHand p id last new m) × (h'.right_is ≡ h.right_is) × (h'.begun ≡ h.begun ++ taken)
+  went_on old new taken m w h = let k = w.others.0 in let t = w.others.1 in let l = w.others.2 in (
+    record {
+      right_is = h.right_is;
+      writer = subst (λ (y : ℕ). IsWriter p id last y h.right_is m.0) (sym k) h.writer;
+      has = record {
+        away = h.has.away;
+        link_in = subst (λ (y : ℕ). y < p.links) (sym k) h.has.link_in;
+        places_are = w.next ∙ h.has.places_are;
+        own = w.link ∙ (h.has.own ∙ sym k);
+        unfinished = w.finished ∙ h.has.unfinished;
+      };
+      stage_is = h.stage_is ∙ ap (λ (y : Ticket). Writes y.0) (sym t);
+      ticket = subst (λ (y : Ticket). IsTicket p y.0) (sym t) h.ticket;
+      taken = h.taken;
+      place_is = h.place_is ∙ ap (λ (y : Label). y.place) (sym l);
+      place_in = subst (λ (y : Label). y.place < 8 * p.operations) (sym l) h.place_in;
+      begun = h.begun ++ taken;
+      bytes_are = h.bytes_are ∙ (ap (λ y. h.begun ++ y) w.left ∙ sym (append_assoc h.begun taken new.bytes.left));
+      took = w.took ∙ (ap (λ y. y ++ taken) h.took ∙ append_assoc h.right_is.sent h.begun taken);
+      few = subst (λ (n : ℕ). n < 4294967295) (sym w.next) h.few;
+      slots = h.slots ∙ (λ i. (slot_of (sym t i).0, Empty) ∷ (p.requests + sym k i, Empty) ∷ []);
+    },
+    refl,
+    refl,
+  )
+
+  pub clean_put : (old new : InHand O g) (taken : List ℕ) (m : Me (SockHome O g) View) → WentOn old new taken → IsClean p id last old m → IsClean p id last new m
+  clean_put old new taken m w h = let r = went_on old new taken m w h.0 in (r.0, ap (λ (y : Right). y.clean) r.1 ∙ h.1)
+
+  -- the link was asked
+  pub part_asked : (old new : InHand O g) (m : Me (SockHome O g) View) → WentOn old new [] → HasPart p id last old m → HasPart p id last new m
+  part_asked old new m w h = let r = went_on old new [] m w h.0 in (r.0, by_part h.1)
+    where
+      by_part : IsPart h.0.right_is h.0.begun old.bytes.left → IsPart (went_on old new [] m w h.0).0.right_is (went_on old new [] m w h.0).0.begun new.bytes.left
+      by_part (inl none_) = inl ((went_on old new [] m w h.0).2 ∙ (append-nil h.0.begun ∙ none_))
+      by_part (inr more) = inr (ap (λ (y : Right). y.clean) (went_on old new [] m w h.0).1 ∙ more.0, λ e. more.1 (w.left ∙ e))
 
   -- ## Moves
 
@@ -189,9 +215,6 @@ module _ {O : Type 0} {g : Ghosts O} {p : Plan} {id last : ℕ} where
     },
     inl refl,
   )
-
-  took_all : (sent begun bytes left took : List ℕ) → took ≡ sent ++ begun → bytes ≡ begun ++ left → left ≡ [] → took ≡ sent ++ bytes
-  took_all sent begun bytes left took t b none_ = t ∙ ap (λ l. sent ++ l) (sym (b ∙ (ap (λ l. begun ++ l) none_ ∙ append-nil begun)))
 
   -- P1
   pub whole_placed : (hand : InHand O g) (home : LinkHome O g) (m n : Me (SockHome O g) View) (h : HasWhole p id last hand m) → (home.took.list ≡ hand.home.took.list) × (home.next ≡ hand.home.next + 1) → home.out ≡ hand.home.out
@@ -257,7 +280,35 @@ module _ {O : Type 0} {g : Ghosts O} {p : Plan} {id last : ℕ} where
     slots = ap (λ (q : Me (SockHome O g) View). q.1) e ∙ ap rest h.slots;
   }
 
+-- S2
+module _ {S : Type 0} {p : Plan} {id last link : ℕ} {at : Stage} (m n : Me S View) (slot found : ℕ) (slot_is : slot ≡ socket_id_slot id) (s : Stands p id last at link m) (same : found ≡ link) (e : n ≡ (met_link slot (socket_id_version id) found m.0, m.1)) where
+  met_became : Became (socket_id_slot id) m.0 n.0 (Met (socket_id_version id) found ∷ []) []
+  met_became = subst (λ (y : View). Became (socket_id_slot id) m.0 y (Met (socket_id_version id) found ∷ []) []) (sym (ap (λ (q : Me S View). q.0) e)) (subst (λ (j : ℕ). Became j m.0 (met_link slot (socket_id_version id) found m.0) (Met (socket_id_version id) found ∷ []) []) slot_is (met_marks slot (socket_id_version id) found m.0))
+
+  pub met_stands : {O : Type 0} {state : O → OutState} → Noted state (λ k. ⊥) (socket_id_version id) (Met (socket_id_version id) found ∷ []) → Stands p id last at found n
+  met_stands noted = subst (λ (k : ℕ). Stands p id last at k n) (sym same) record {
+    right_is = s.right_is;
+    writer = writer_noted s.writer (Met (socket_id_version id) found ∷ []) noted met_became;
+    stage_is = s.stage_is;
+    home = s.home;
+    idle = s.idle;
+    slots = ap (λ (q : Me S View). q.1) e ∙ s.slots;
+  }
+
+  pub met_wrote : {O : Type 0} {state : O → OutState} → Wrote state id m.0 n.0
+  met_wrote = wrote_notes m.0 n.0 (Met (socket_id_version id) found ∷ []) (found_it (Met (socket_id_version id) found) (met found)) met_became
+
+-- A8
+pub may_look : {p : Plan} {id last link : ℕ} {x : Right} {v : View} (slot : ℕ) → slot ≡ socket_id_slot id → IsWriter p id last link x v → MayLookToWrite p slot v
+may_look {p} {id} {last} {link} {x} {v} slot at w = record { right = x; one = w.one; life = socket_id_version id; holds = subst (λ (j : ℕ). HoldsLink p v j (socket_id_version id) x.link) (sym at) (subst (λ (k : ℕ). HoldsLink p v (socket_id_slot id) (socket_id_version id) k) (sym w.link_is) w.holds) }
+
 -- C4
+pub may_empty : {S : Type 0} {p : Plan} {id last link : ℕ} {m : Me S View} (slot : ℕ) → slot ≡ socket_id_slot id → Stands p id last Empties link m → MayEmptyHead p slot last m.0
+may_empty slot at s = record { right = s.right_is; one = s.writer.one; stage = s.stage_is; home = s.home; last_is = s.writer.last_is; life = _; holds = empty_holds slot at s }
+  where
+    empty_holds : {S : Type 0} {p : Plan} {id last link : ℕ} {m : Me S View} (slot : ℕ) → slot ≡ socket_id_slot id → (s : Stands p id last Empties link m) → HoldsLink p m.0 slot (socket_id_version id) s.right_is.link
+    empty_holds {S} {p} {id} {last} {link} {m} slot at s = subst (λ (j : ℕ). HoldsLink p m.0 j (socket_id_version id) s.right_is.link) (sym at) (subst (λ (k : ℕ). HoldsLink p m.0 (socket_id_slot id) (socket_id_version id) k) (sym s.writer.link_is) s.writer.holds)
+
 without_one : (v : View) (r : Right) → v.rights ≡ r ∷ [] → (without_right v r.link).rights ≡ []
 without_one v r one = ap (filter (λ (x : Right). not (eqb x.link r.link))) one ∙ ap (λ b. cond (not b) (r ∷ []) []) (eq-eqb r.link r.link refl)
 

@@ -116,6 +116,10 @@ IsPart x begun left = (begun ≡ []) ⊎ ((x.clean ≡ true) × (left ≢ []))
 abbrev pub HasPart : {O : Type 0} {g : Ghosts O} → Plan → ℕ → ℕ → InHand O g → Me (SockHome O g) View → Type 0
 HasPart p id last hand m = (h : HasInHand p id last hand m) × IsPart h.right_is h.begun hand.bytes.left
 
+-- the look before a put found the life live
+abbrev pub IsClean : {O : Type 0} {g : Ghosts O} → Plan → ℕ → ℕ → InHand O g → Me (SockHome O g) View → Type 0
+IsClean p id last hand m = (h : HasInHand p id last hand m) × (h.right_is.clean ≡ true)
+
 -- the link took the whole message, and the look before its last put found the life live
 abbrev pub HasWhole : {O : Type 0} {g : Ghosts O} → Plan → ℕ → ℕ → InHand O g → Me (SockHome O g) View → Type 0
 HasWhole p id last hand m = (h : HasInHand p id last hand m) × (h.right_is.clean ≡ true) × (hand.bytes.left ≡ [])

@@ -1,6 +1,7 @@
 // Whoever has the right writes the link: steps that both calls make.
 ghost use Rattle.std.specs.Prelude.{◌≡◌, ◌≢◌, ◌+◌, ◌*◌, ◌<◌, ℕ, [], ◌∷◌, true, false};
 ghost use Rattle.atomic_table.specs.Table.{rest};
+ghost use Rattle.sock_words.specs.Words.{socket_id_slot};
 ghost use Rattle.sock_model.specs.declared.chain.Right.{Right};
 ghost use Rattle.sock_model.specs.declared.chain.Stage.{Stage};
 ghost use Rattle.sock_model.specs.declared.chain.Stage.TheVariants.{Writes, Placed, Empties};
@@ -10,8 +11,8 @@ ghost use Rattle.sock_rule.specs.declared.homes.SockHome.TheVariants.{Empty};
 ghost use Rattle.sock_rule.specs.Seated.{IsSeat};
 ghost use Rattle.sock_rule.specs.ChainPlays.{IsTicket};
 ghost use Rattle.sock_rule.specs.Holding.{Rights, MayFreeRequest};
-ghost use Rattle.write_chain.specs.Noting.{Wrote};
-ghost use Rattle.write_chain.specs.Writing.{MayBegin, MayGoOn, Stands, HasLink, HasInHand, HasPart, HasWhole, GoesBy, OnceBy, TriedBy};
+ghost use Rattle.write_chain.specs.Noting.{Faulted, Wrote};
+ghost use Rattle.write_chain.specs.Writing.{MayBegin, MayGoOn, Stands, HasLink, HasInHand, HasPart, IsClean, HasWhole, FoundDead, GoesBy, OnceBy, TriedBy};
 
 use crate::right::{Doing, InHand, LinkInHand, WriteRight};
 use sock_io::{Out, Put};
@@ -40,6 +41,17 @@ pub enum Tried<O: Out> {
     Whole(InHand<O>),
     /// It goes on by this.
     Goes(Doing<O>),
+}
+
+/// The slot of a socket.
+pub fn slot_at<O: Out>(table: &SockTable<O>, sock: &SockRef) -> u16
+    requires inside { socket_id_slot sock.now.id.0 < table.now.rule.plan.slots }
+    ensures slot { result ≡ socket_id_slot sock.now.id.0 }
+{
+    let slots = table.rule.plan.slots;
+    let slot = sock.id.slot();
+    prove!(slot < slots as u32);
+    slot as u16
 }
 
 /// The link that the seat may write comes into hand.
@@ -173,12 +185,9 @@ pub fn leave<O: Out>(
     ensures others { seat.new.me.0 ≡ record seat.old.me.0 { rights = seat.new.me.0.rights } }
 {
     let LinkInHand { link: number, home } = link;
-    let slots = table.rule.plan.slots;
-    let id = sock.id;
-    let slot = id.slot();
-    prove!(slot < slots as u32);
+    let slot = slot_at(table, &sock);
     table.rule.put_own_link(seat, number, home);
-    let step = table.rule.empty_head(seat, slot as u16, last);
+    let step = table.rule.empty_head(seat, slot, last);
     if step.found == last.word() {
         return Once::Done(sock);
     }
@@ -189,44 +198,135 @@ pub fn leave<O: Out>(
     })
 }
 
+/// The head is tried where nothing is left to write.
+pub fn leave_or_keep<O: Out>(
+    table: &SockTable<O>,
+    seat: &mut SockSeat<O>,
+    sock: SockRef,
+    last: Ticket,
+    doing: Doing<O>,
+) -> Once<O>
+    requires seat { IsSeat table.now.rule.table.shared.table_id table.now.rule.plan seat.old }
+    requires may { GoesBy table.now.rule.plan sock.id.0 last.0 doing seat.old.me }
+    ensures seat { IsSeat table.now.rule.table.shared.table_id table.now.rule.plan seat.new }
+    ensures once { OnceBy table.now.rule.plan sock result seat.new.me }
+    ensures others { seat.new.me.0 ≡ record seat.old.me.0 { rights = seat.new.me.0.rights } }
+{
+    match doing {
+        Doing::Last(link) => leave(table, seat, sock, last, link),
+        doing => Once::Keep(WriteRight { sock, last, doing }),
+    }
+}
+
+/// A8: whether the socket lives. Then the right is clean.
+pub fn look<O: Out>(
+    table: &SockTable<O>,
+    seat: &mut SockSeat<O>,
+    sock: &SockRef,
+    _last: Ticket,
+    _hand: &InHand<O>,
+) -> bool
+    requires seat { IsSeat table.now.rule.table.shared.table_id table.now.rule.plan seat.old }
+    requires may { HasPart table.now.rule.plan sock.now.id.0 _last.0 _hand.now seat.old.me }
+    ensures seat { IsSeat table.now.rule.table.shared.table_id table.now.rule.plan seat.new }
+    ensures live { result ≡ true → IsClean table.now.rule.plan sock.now.id.0 _last.0 _hand.now seat.new.me }
+    ensures dead { result ≡ false → HasPart table.now.rule.plan sock.now.id.0 _last.0 _hand.now seat.new.me × FoundDead sock.now.id.0 seat.new.me.0 }
+    ensures wrote { Wrote O.state sock.now.id.0 seat.old.me.0 seat.new.me.0 }
+{
+    let slot = slot_at(table, sock);
+    let step = table.rule.look_to_write(seat, slot);
+    let found = Vref::from_word(step.found);
+    if found.version() % 2 == 0 {
+        return true;
+    }
+    false
+}
+
+/// The link failed: so does the socket, unless it was failed before.
+pub fn fail_link<O: Out>(
+    table: &SockTable<O>,
+    seat: &mut SockSeat<O>,
+    sock: &SockRef,
+    _last: Ticket,
+    _hand: &InHand<O>,
+)
+    requires seat { IsSeat table.now.rule.table.shared.table_id table.now.rule.plan seat.old }
+    requires may { HasPart table.now.rule.plan sock.now.id.0 _last.0 _hand.now seat.old.me }
+    requires fault { Faulted O.state _hand.now.link }
+    ensures seat { IsSeat table.now.rule.table.shared.table_id table.now.rule.plan seat.new }
+    ensures has { HasPart table.now.rule.plan sock.now.id.0 _last.0 _hand.now seat.new.me }
+    ensures wrote { Wrote O.state sock.now.id.0 seat.old.me.0 seat.new.me.0 }
+{
+    let failed = table.fail(seat, sock, LINK_FAILED);
+    drop(failed);
+}
+
+/// One put of what is left of a message.
+pub fn put_piece<O: Out>(
+    table: &SockTable<O>,
+    seat: &mut SockSeat<O>,
+    sock: &SockRef,
+    last: Ticket,
+    mut hand: InHand<O>,
+) -> Tried<O>
+    requires seat { IsSeat table.now.rule.table.shared.table_id table.now.rule.plan seat.old }
+    requires may { IsClean table.now.rule.plan sock.now.id.0 last.0 hand seat.old.me × (hand.bytes.left ≢ []) }
+    ensures seat { IsSeat table.now.rule.table.shared.table_id table.now.rule.plan seat.new }
+    ensures tried { TriedBy table.now.rule.plan sock.now.id.0 last.0 result seat.new.me }
+    ensures wrote { Wrote O.state sock.now.id.0 seat.old.me.0 seat.new.me.0 }
+{
+    let put = hand.put();
+    if hand.bytes.is_whole_taken() {
+        return Tried::Whole(hand);
+    }
+    match put {
+        Put::Took(_) => Tried::Goes(Doing::Puts(hand)),
+        Put::Again => Tried::Goes(Doing::Waits(hand)),
+        Put::Failed => {
+            fail_link(table, seat, sock, last, &hand);
+            Tried::Goes(Doing::Puts(hand))
+        }
+    }
+}
+
+/// One put, where bytes are left.
+pub fn put_or_place<O: Out>(
+    table: &SockTable<O>,
+    seat: &mut SockSeat<O>,
+    sock: &SockRef,
+    last: Ticket,
+    hand: InHand<O>,
+) -> Tried<O>
+    requires seat { IsSeat table.now.rule.table.shared.table_id table.now.rule.plan seat.old }
+    requires may { IsClean table.now.rule.plan sock.now.id.0 last.0 hand seat.old.me }
+    ensures seat { IsSeat table.now.rule.table.shared.table_id table.now.rule.plan seat.new }
+    ensures tried { TriedBy table.now.rule.plan sock.now.id.0 last.0 result seat.new.me }
+    ensures wrote { Wrote O.state sock.now.id.0 seat.old.me.0 seat.new.me.0 }
+{
+    if hand.bytes.is_whole_taken() {
+        return Tried::Whole(hand);
+    }
+    put_piece(table, seat, sock, last, hand)
+}
+
 /// A look, and one put where the socket lives. Where the link fails the socket is failed.
 pub fn try_put<O: Out>(
     table: &SockTable<O>,
     seat: &mut SockSeat<O>,
     sock: &SockRef,
-    _last: Ticket,
-    mut hand: InHand<O>,
+    last: Ticket,
+    hand: InHand<O>,
 ) -> Tried<O>
     requires seat { IsSeat table.now.rule.table.shared.table_id table.now.rule.plan seat.old }
-    requires may { HasPart table.now.rule.plan sock.now.id.0 _last.0 hand seat.old.me }
+    requires may { HasPart table.now.rule.plan sock.now.id.0 last.0 hand seat.old.me }
     ensures seat { IsSeat table.now.rule.table.shared.table_id table.now.rule.plan seat.new }
-    ensures tried { TriedBy table.now.rule.plan sock.now.id.0 _last.0 result seat.new.me }
+    ensures tried { TriedBy table.now.rule.plan sock.now.id.0 last.0 result seat.new.me }
     ensures wrote { Wrote O.state sock.now.id.0 seat.old.me.0 seat.new.me.0 }
 {
-    let slots = table.rule.plan.slots;
-    let slot = sock.id.slot();
-    prove!(slot < slots as u32);
-    let step = table.rule.look_to_write(seat, slot as u16);
-    let found = Vref::from_word(step.found);
-    if found.version() % 2 != 0 {
-        return Tried::Dead(hand);
+    if look(table, seat, sock, last, &hand) {
+        return put_or_place(table, seat, sock, last, hand);
     }
-    if hand.bytes.is_whole_taken() {
-        return Tried::Whole(hand);
-    }
-    match hand.put() {
-        Put::Took(_) => {
-            if hand.bytes.is_whole_taken() {
-                return Tried::Whole(hand);
-            }
-            Tried::Goes(Doing::Puts(hand))
-        }
-        Put::Again => Tried::Goes(Doing::Waits(hand)),
-        Put::Failed => {
-            let _failed = table.fail(seat, sock, LINK_FAILED);
-            Tried::Goes(Doing::Puts(hand))
-        }
-    }
+    Tried::Dead(hand)
 }
 
 /// The link and the first message come into hand.
@@ -242,11 +342,9 @@ pub fn take_up<O: Out>(
     ensures hand { HasPart table.now.rule.plan sock.now.id.0 last.0 result seat.new.me }
     ensures wrote { Wrote O.state sock.now.id.0 seat.old.me.0 seat.new.me.0 }
 {
-    let slots = table.rule.plan.slots;
-    let slot = sock.id.slot();
-    prove!(slot < slots as u32);
+    let slot = slot_at(table, sock);
     let links = table.rule.plan.links;
-    let found = table.rule.load_link(seat, slot as u16);
+    let found = table.rule.load_link(seat, slot);
     prove!(found < links as u64);
     let link = fetch_link(table, seat, sock, found as u16);
     take_next(table, seat, sock, last, link, last)
@@ -271,13 +369,16 @@ pub fn write_once<O: Out>(
         doing: _,
     } = right;
     let hand = take_up(table, seat, &sock, last);
-    let doing = match try_put(table, seat, &sock, last, hand) {
-        Tried::Dead(hand) => Doing::Puts(hand),
-        Tried::Whole(hand) => place(table, seat, &sock, last, hand),
-        Tried::Goes(doing) => doing,
-    };
-    if let Doing::Last(link) = doing {
-        return leave(table, seat, sock, last, link);
+    match try_put(table, seat, &sock, last, hand) {
+        Tried::Dead(hand) => Once::Keep(WriteRight {
+            sock,
+            last,
+            doing: Doing::Puts(hand),
+        }),
+        Tried::Whole(hand) => {
+            let doing = place(table, seat, &sock, last, hand);
+            leave_or_keep(table, seat, sock, last, doing)
+        }
+        Tried::Goes(doing) => Once::Keep(WriteRight { sock, last, doing }),
     }
-    Once::Keep(WriteRight { sock, last, doing })
 }

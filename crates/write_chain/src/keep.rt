@@ -1,11 +1,11 @@
 // Whoever has the right writes until the head is empty.
-ghost use Rattle.std.specs.Prelude.{◌≡◌, ◌≢◌, ◌+◌, ◌*◌, ◌<◌, ℕ, [], ◌∷◌, true, false};
+ghost use Rattle.std.specs.Prelude.{◌≡◌, ◌≢◌, ◌+◌, ◌*◌, ◌<◌, ◌==◌, cond, ℕ, [], ◌∷◌, true, false};
 ghost use Rattle.sock_rule.specs.Seated.{IsSeat};
 ghost use Rattle.write_chain.specs.declared.right.Doing.TheVariants.{Back};
 ghost use Rattle.write_chain.specs.Noting.{Wrote};
 ghost use Rattle.write_chain.specs.Writing.{MayGoOn, HasPart, FoundDead, GoesBy, IsCode, WentBy, KeptBy};
 
-use crate::hold::{LINK_FAILED, Once, Tried, fetch_link, go_past, leave, place, take_next, try_put};
+use crate::hold::{LINK_FAILED, Once, Tried, fail_link, fetch_link, go_past, leave, place, take_next, try_put};
 use crate::right::{Doing, InHand, LinkInHand, Undelivered, Walk, WriteRight};
 use crossbeam_utils::Backoff;
 use sock_io::{Out, Ready};
@@ -32,6 +32,13 @@ pub enum Went<O: Out> {
     Done(SockRef),
     Dropped(WriteRight<O>, Undelivered, u16),
     Further(WriteRight<O>),
+}
+
+/// The code with which a message is dropped, where this word was read.
+pub fn code_or(told: u16) -> u16
+    ensures code { result ≡ cond (told == 0) 1009 told }
+{
+    if told == 0 { LINK_FAILED } else { told }
 }
 
 /// The message in hand is dropped, with the code of the socket, or 1009 where none was stored yet.
@@ -66,7 +73,7 @@ pub fn drop_one<O: Out>(
         .drop_place(seat, label.place, place, now, home);
     home.count_place();
     let doing = go_past(table, seat, sock, last, LinkInHand { link, home }, now);
-    let code = if told == 0 { LINK_FAILED } else { told };
+    let code = code_or(told);
     let msg = Undelivered {
         left: bytes,
         label,
@@ -80,14 +87,14 @@ pub fn ask<O: Out>(
     table: &SockTable<O>,
     seat: &mut SockSeat<O>,
     sock: &SockRef,
-    _last: Ticket,
+    last: Ticket,
     mut hand: InHand<O>,
     backoff: &Backoff,
 ) -> Doing<O>
     requires seat { IsSeat table.now.rule.table.shared.table_id table.now.rule.plan seat.old }
-    requires may { HasPart table.now.rule.plan sock.now.id.0 _last.0 hand seat.old.me }
+    requires may { HasPart table.now.rule.plan sock.now.id.0 last.0 hand seat.old.me }
     ensures seat { IsSeat table.now.rule.table.shared.table_id table.now.rule.plan seat.new }
-    ensures goes { GoesBy table.now.rule.plan sock.now.id.0 _last.0 result seat.new.me }
+    ensures goes { GoesBy table.now.rule.plan sock.now.id.0 last.0 result seat.new.me }
     ensures wrote { Wrote O.state sock.now.id.0 seat.old.me.0 seat.new.me.0 }
 {
     match hand.ready() {
@@ -97,7 +104,7 @@ pub fn ask<O: Out>(
             Doing::Waits(hand)
         }
         Ready::Failed => {
-            let _failed = table.fail(seat, sock, LINK_FAILED);
+            fail_link(table, seat, sock, last, &hand);
             Doing::Puts(hand)
         }
     }
@@ -196,33 +203,40 @@ pub fn go_on<O: Out>(
     ensures wrote { Wrote O.state right.sock.id.0 seat.old.me.0 seat.new.me.0 }
 {
     let WriteRight { sock, last, doing } = right;
-    let doing = match doing {
+    match doing {
         Doing::First => unreachable!(),
-        Doing::Puts(hand) => return put_or_drop(table, seat, sock, last, hand),
-        Doing::Waits(hand) => ask(table, seat, &sock, last, hand, backoff),
+        Doing::Puts(hand) => put_or_drop(table, seat, sock, last, hand),
+        Doing::Waits(hand) => {
+            let doing = ask(table, seat, &sock, last, hand, backoff);
+            Went::Further(WriteRight { sock, last, doing })
+        }
         Doing::Next(link, now) => {
-            Doing::Puts(take_next(table, seat, &sock, last, link, now))
-        }
-        Doing::Last(link) => {
-            return match leave(table, seat, sock, last, link) {
-                Once::Done(sock) => Went::Done(sock),
-                Once::Keep(right) => Went::Further(right),
-            };
-        }
-        Doing::Walks(link, top) => {
-            let link = fetch_link(table, seat, &sock, link);
-            Doing::Back(Walk {
-                link,
-                top,
-                at: top,
-                after: 0,
+            let hand = take_next(table, seat, &sock, last, link, now);
+            Went::Further(WriteRight {
+                sock,
+                last,
+                doing: Doing::Puts(hand),
             })
         }
-        Doing::Back(walk) => {
-            return Went::Further(walk_back(table, seat, sock, last, walk, backoff));
+        Doing::Last(link) => match leave(table, seat, sock, last, link) {
+            Once::Done(sock) => Went::Done(sock),
+            Once::Keep(right) => Went::Further(right),
+        },
+        Doing::Walks(number, top) => {
+            let link = fetch_link(table, seat, &sock, number);
+            Went::Further(WriteRight {
+                sock,
+                last,
+                doing: Doing::Back(Walk {
+                    link,
+                    top,
+                    at: top,
+                    after: 0,
+                }),
+            })
         }
-    };
-    Went::Further(WriteRight { sock, last, doing })
+        Doing::Back(walk) => Went::Further(walk_back(table, seat, sock, last, walk, backoff)),
+    }
 }
 
 /// Writes until the head is empty, and takes what came meanwhile in the order in which it was accepted. Before each put, and
