@@ -1,7 +1,7 @@
 -- What a look finds, and what becomes of a socket whose link failed.
 use Rattle.std.proofs.Common.{◌≡◌, ◌≢◌, ℕ, ◌+◌, ◌-◌, ◌*◌, ◌%◌, ◌<◌, zero, suc, Bool, true, false, cond, eqb, eqb-true, eq-eqb, ne_eqb, List, [], ◌∷◌, length, take, refl, sym, ap, ◌∙◌, subst, arith}
 use Rattle.std.specs.Prelude.{Ok, Err, IfOk, IfErr}
-use Rattle.core.specs.declared.result.Result.{Result}
+use Rattle.std.specs.declared.result.Result.{Result}
 use Rattle.sock_message.specs.Pieces.{piece}
 use mathlib.Core.Logic.{dite}
 use native.Mathlib.Decide.{ℕ_discrete}
@@ -85,7 +85,7 @@ code_noted c id v w k = dite (ℕ_discrete c 0)
     (λ some_. record { notes = Saw (socket_id_version id + 1) ∷ Told (socket_id_version id) c ∷ []; noted = finding _ _ (saw (socket_id_version id + 1)) (found_it _ (told c)); became = k.told some_ })
 
 pub told_then : (c id : ℕ) (v w : View) → CodeOf c id v w → c ≢ 0 → 0 < marks_of (is_told (socket_id_version id) c) (socket_id_slot id) w
-told_then c id v w k some_ = let x : marks_of (is_told (socket_id_version id) c) (socket_id_slot id) w + 0 ≡ marks_of (is_told (socket_id_version id) c) (socket_id_slot id) v + (is_told (socket_id_version id) c (Told (socket_id_version id) c) + 0) = (k.told some_).here (is_told (socket_id_version id) c) in let y = pair-same (socket_id_version id) c in omega arith
+told_then c id v w k some_ = let x = (k.told some_).here (is_told (socket_id_version id) c) in let y = pair-same (socket_id_version id) c in omega arith
 
 -- ## What is left of a message
 

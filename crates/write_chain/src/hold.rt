@@ -229,8 +229,8 @@ pub fn look<O: Out>(
     requires seat { IsSeat table.now.rule.table.shared.table_id table.now.rule.plan seat.old }
     requires may { HasPart table.now.rule.plan sock.now.id.0 _last.0 _hand.now seat.old.me }
     ensures seat { IsSeat table.now.rule.table.shared.table_id table.now.rule.plan seat.new }
-    ensures live { result ≡ true → IsClean table.now.rule.plan sock.now.id.0 _last.0 _hand.now seat.new.me }
-    ensures dead { result ≡ false → HasPart table.now.rule.plan sock.now.id.0 _last.0 _hand.now seat.new.me × FoundDead sock.now.id.0 seat.new.me.0 }
+    ensures live { result ≡ true → IsClean table.now.rule.plan sock.now.id.0 _last.0 _hand.entry.now seat.new.me }
+    ensures dead { result ≡ false → HasPart table.now.rule.plan sock.now.id.0 _last.0 _hand.entry.now seat.new.me × FoundDead sock.now.id.0 seat.new.me.0 }
     ensures wrote { Wrote O.state sock.now.id.0 seat.old.me.0 seat.new.me.0 }
 {
     let slot = slot_at(table, sock);
@@ -254,7 +254,7 @@ pub fn fail_link<O: Out>(
     requires may { HasPart table.now.rule.plan sock.now.id.0 _last.0 _hand.now seat.old.me }
     requires fault { Faulted O.state _hand.now.link }
     ensures seat { IsSeat table.now.rule.table.shared.table_id table.now.rule.plan seat.new }
-    ensures has { HasPart table.now.rule.plan sock.now.id.0 _last.0 _hand.now seat.new.me }
+    ensures has { HasPart table.now.rule.plan sock.now.id.0 _last.0 _hand.entry.now seat.new.me }
     ensures wrote { Wrote O.state sock.now.id.0 seat.old.me.0 seat.new.me.0 }
 {
     let failed = table.fail(seat, sock, LINK_FAILED);

@@ -1,4 +1,4 @@
-use Rattle.std.proofs.Common.{ℕ, [], ◌∷◌, refl, sym, ap, ◌∙◌, subst}
+use Rattle.std.proofs.Common.{ℕ, ◌+◌, [], ◌∷◌, refl, sym, ap, ◌∙◌, subst}
 use Rattle.atomic_table.specs.Table.{rest}
 use Rattle.sock_words.specs.declared.plain.Plan.{Plan}
 use Rattle.sock_model.specs.declared.chain.Stage.TheVariants.{Walks}
@@ -9,8 +9,8 @@ use Rattle.write_chain.proofs.Noting.{rights_only, rights_then}
 use Rattle.write_chain.proofs.Stepping.{link_home, may_empty, gave_up, walks_from}
 use Rattle.write_chain.proofs.hold.leave.Goals as goal
 
-pub slot_at-slot-requires-clause-inside : goal.slot_at-slot-requires-clause-inside
-slot_at-slot-requires-clause-inside g c = c.requires.may.writer.holds.inside
+pub slot_at-slot-requires : goal.slot_at-slot-requires
+slot_at-slot-requires g c = record { inside = c.requires.may.writer.holds.inside }
 
 pub put_own_link-requires-clause-inside : goal.put_own_link-requires-clause-inside
 put_own_link-requires-clause-inside g c = c.requires.may.has.link_in
@@ -25,7 +25,7 @@ pub put_own_link-requires-clause-link : goal.put_own_link-requires-clause-link
 put_own_link-requires-clause-link g c = (c.requires.may.has.own, c.requires.may.has.unfinished)
 
 pub empty_head-step-requires-clause-may : goal.empty_head-step-requires-clause-may
-empty_head-step-requires-clause-may g c = let h = c.requires.may in may_empty c.slot_at-slot.result c.slot_at-slot.ensures (link_home c.args.link c.args.seat.now.me c.put_own_link.new.seat.me h (c.put_own_link.ensures.view h.right_is h.writer.one))
+empty_head-step-requires-clause-may g c = let h = c.requires.may in may_empty c.slot_at-slot.result c.slot_at-slot.ensures.slot (link_home c.args.link c.args.seat.now.me c.put_own_link.new.seat.me h (c.put_own_link.ensures.view h.right_is h.writer.one))
 
 pub empty_head-step-requires-clause-ticket : goal.empty_head-step-requires-clause-ticket
 empty_head-step-requires-clause-ticket g c = c.requires.may.writer.last_ticket.small

@@ -4,8 +4,8 @@ use Rattle.write_chain.proofs.Stepping.{clean_put}
 use Rattle.write_chain.proofs.Looking.{is_none, is_some, some_piece}
 use Rattle.write_chain.proofs.hold.put_piece.Goals as goal
 
-pub put-put-requires-clause-some : goal.put-put-requires-clause-some
-put-put-requires-clause-some g c = some_piece c.args.hand.bytes.left c.args.hand.bytes.taken c.requires.may.1
+pub put-put-requires : goal.put-put-requires
+put-put-requires g c = record { some = some_piece c.args.hand.bytes.left c.args.hand.bytes.taken c.requires.may.1 }
 
 pub returns-then-is_whole_taken-clause-tried : goal.returns-then-is_whole_taken-clause-tried
 returns-then-is_whole_taken-clause-tried g c = let k = clean_put c.args.hand c.put-put.new.self _ c.args.seat.now.me c.put-put.ensures.has c.requires.may.0 in (k.0, k.1, is_none c.put-put.new.self.bytes.left c.is_whole_taken.result c.is_whole_taken.ensures c.if-is_whole_taken.true)

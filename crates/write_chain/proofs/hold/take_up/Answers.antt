@@ -9,19 +9,19 @@ use Rattle.write_chain.proofs.Noting.{found_it, wrote_then, wrote_rights, rights
 use Rattle.write_chain.proofs.Stepping.{met_stands, met_wrote}
 use Rattle.write_chain.proofs.hold.take_up.Goals as goal
 
-pub slot_at-slot-requires-clause-inside : goal.slot_at-slot-requires-clause-inside
-slot_at-slot-requires-clause-inside g c = c.requires.may.1.writer.holds.inside
+pub slot_at-slot-requires : goal.slot_at-slot-requires
+slot_at-slot-requires g c = record { inside = c.requires.may.1.writer.holds.inside }
 
 pub load_link-found-requires-clause-held : goal.load_link-found-requires-clause-held
-load_link-found-requires-clause-held g c = (socket_id_version c.args.sock.now.id.0, (subst (λ (j : ℕ). 0 < marks_of (is_hold (socket_id_version c.args.sock.now.id.0)) j c.args.seat.now.me.0) (sym c.slot_at-slot.ensures) c.requires.may.1.writer.holds.held))
+load_link-found-requires-clause-held g c = (socket_id_version c.args.sock.now.id.0, (subst (λ (j : ℕ). 0 < marks_of (is_hold (socket_id_version c.args.sock.now.id.0)) j c.args.seat.now.me.0) (sym c.slot_at-slot.ensures.slot) c.requires.may.1.writer.holds.held))
 
 pub fetch_link-link-requires-clause-may : goal.fetch_link-link-requires-clause-may
-fetch_link-link-requires-clause-may g c = (c.args.last.0, Writes c.args.last.0, met_stands c.args.seat.now.me c.load_link-found.new.seat.me c.slot_at-slot.result c.load_link-found.result c.slot_at-slot.ensures c.requires.may.1 (c.load_link-found.ensures.same (socket_id_version c.args.sock.now.id.0) c.requires.may.0 (subst (λ (j : ℕ). 0 < marks_of (is_hold (socket_id_version c.args.sock.now.id.0)) j c.args.seat.now.me.0) (sym c.slot_at-slot.ensures) c.requires.may.1.writer.holds.held) (subst (λ (j : ℕ). 0 < marks_of (is_met (socket_id_version c.args.sock.now.id.0) c.requires.may.0) j c.args.seat.now.me.0) (sym c.slot_at-slot.ensures) c.requires.may.1.writer.holds.met)) (c.load_link-found.ensures.view (socket_id_version c.args.sock.now.id.0) (subst (λ (j : ℕ). 0 < marks_of (is_hold (socket_id_version c.args.sock.now.id.0)) j c.args.seat.now.me.0) (sym c.slot_at-slot.ensures) c.requires.may.1.writer.holds.held)) {O = g.row.O.Denot} {state = g.O.Out.state} (found_it (Met (socket_id_version c.args.sock.now.id.0) c.load_link-found.result) (met c.load_link-found.result)))
+fetch_link-link-requires-clause-may g c = (c.args.last.0, Writes c.args.last.0, met_stands c.args.seat.now.me c.load_link-found.new.seat.me c.slot_at-slot.result c.load_link-found.result c.slot_at-slot.ensures.slot c.requires.may.1 (c.load_link-found.ensures.same (socket_id_version c.args.sock.now.id.0) c.requires.may.0 (subst (λ (j : ℕ). 0 < marks_of (is_hold (socket_id_version c.args.sock.now.id.0)) j c.args.seat.now.me.0) (sym c.slot_at-slot.ensures.slot) c.requires.may.1.writer.holds.held) (subst (λ (j : ℕ). 0 < marks_of (is_met (socket_id_version c.args.sock.now.id.0) c.requires.may.0) j c.args.seat.now.me.0) (sym c.slot_at-slot.ensures.slot) c.requires.may.1.writer.holds.met)) (c.load_link-found.ensures.view (socket_id_version c.args.sock.now.id.0) (subst (λ (j : ℕ). 0 < marks_of (is_hold (socket_id_version c.args.sock.now.id.0)) j c.args.seat.now.me.0) (sym c.slot_at-slot.ensures.slot) c.requires.may.1.writer.holds.held)) {O = g.row.O.Denot} {state = g.O.Out.state} (found_it (Met (socket_id_version c.args.sock.now.id.0) c.load_link-found.result) (met c.load_link-found.result)))
 
 pub take_next-requires-clause-may : goal.take_next-requires-clause-may
-take_next-requires-clause-may g c = (c.fetch_link-link.ensures.has c.args.last.0 (Writes c.args.last.0) (met_stands c.args.seat.now.me c.load_link-found.new.seat.me c.slot_at-slot.result c.load_link-found.result c.slot_at-slot.ensures c.requires.may.1 (c.load_link-found.ensures.same (socket_id_version c.args.sock.now.id.0) c.requires.may.0 (subst (λ (j : ℕ). 0 < marks_of (is_hold (socket_id_version c.args.sock.now.id.0)) j c.args.seat.now.me.0) (sym c.slot_at-slot.ensures) c.requires.may.1.writer.holds.held) (subst (λ (j : ℕ). 0 < marks_of (is_met (socket_id_version c.args.sock.now.id.0) c.requires.may.0) j c.args.seat.now.me.0) (sym c.slot_at-slot.ensures) c.requires.may.1.writer.holds.met)) (c.load_link-found.ensures.view (socket_id_version c.args.sock.now.id.0) (subst (λ (j : ℕ). 0 < marks_of (is_hold (socket_id_version c.args.sock.now.id.0)) j c.args.seat.now.me.0) (sym c.slot_at-slot.ensures) c.requires.may.1.writer.holds.held)) {O = g.row.O.Denot} {state = g.O.Out.state} (found_it (Met (socket_id_version c.args.sock.now.id.0) c.load_link-found.result) (met c.load_link-found.result))), c.requires.may.1.writer.last_ticket)
+take_next-requires-clause-may g c = (c.fetch_link-link.ensures.has c.args.last.0 (Writes c.args.last.0) (met_stands c.args.seat.now.me c.load_link-found.new.seat.me c.slot_at-slot.result c.load_link-found.result c.slot_at-slot.ensures.slot c.requires.may.1 (c.load_link-found.ensures.same (socket_id_version c.args.sock.now.id.0) c.requires.may.0 (subst (λ (j : ℕ). 0 < marks_of (is_hold (socket_id_version c.args.sock.now.id.0)) j c.args.seat.now.me.0) (sym c.slot_at-slot.ensures.slot) c.requires.may.1.writer.holds.held) (subst (λ (j : ℕ). 0 < marks_of (is_met (socket_id_version c.args.sock.now.id.0) c.requires.may.0) j c.args.seat.now.me.0) (sym c.slot_at-slot.ensures.slot) c.requires.may.1.writer.holds.met)) (c.load_link-found.ensures.view (socket_id_version c.args.sock.now.id.0) (subst (λ (j : ℕ). 0 < marks_of (is_hold (socket_id_version c.args.sock.now.id.0)) j c.args.seat.now.me.0) (sym c.slot_at-slot.ensures.slot) c.requires.may.1.writer.holds.held)) {O = g.row.O.Denot} {state = g.O.Out.state} (found_it (Met (socket_id_version c.args.sock.now.id.0) c.load_link-found.result) (met c.load_link-found.result))), c.requires.may.1.writer.last_ticket)
 
 pub returns-clause-wrote : goal.returns-clause-wrote
 returns-clause-wrote g c = wrote_then c.args.seat.now.me.0 c.load_link-found.new.seat.me.0 c.take_next.new.seat.me.0
-    (met_wrote c.args.seat.now.me c.load_link-found.new.seat.me c.slot_at-slot.result c.load_link-found.result c.slot_at-slot.ensures c.requires.may.1 (c.load_link-found.ensures.same (socket_id_version c.args.sock.now.id.0) c.requires.may.0 (subst (λ (j : ℕ). 0 < marks_of (is_hold (socket_id_version c.args.sock.now.id.0)) j c.args.seat.now.me.0) (sym c.slot_at-slot.ensures) c.requires.may.1.writer.holds.held) (subst (λ (j : ℕ). 0 < marks_of (is_met (socket_id_version c.args.sock.now.id.0) c.requires.may.0) j c.args.seat.now.me.0) (sym c.slot_at-slot.ensures) c.requires.may.1.writer.holds.met)) (c.load_link-found.ensures.view (socket_id_version c.args.sock.now.id.0) (subst (λ (j : ℕ). 0 < marks_of (is_hold (socket_id_version c.args.sock.now.id.0)) j c.args.seat.now.me.0) (sym c.slot_at-slot.ensures) c.requires.may.1.writer.holds.held)))
+    (met_wrote c.args.seat.now.me c.load_link-found.new.seat.me c.slot_at-slot.result c.load_link-found.result c.slot_at-slot.ensures.slot c.requires.may.1 (c.load_link-found.ensures.same (socket_id_version c.args.sock.now.id.0) c.requires.may.0 (subst (λ (j : ℕ). 0 < marks_of (is_hold (socket_id_version c.args.sock.now.id.0)) j c.args.seat.now.me.0) (sym c.slot_at-slot.ensures.slot) c.requires.may.1.writer.holds.held) (subst (λ (j : ℕ). 0 < marks_of (is_met (socket_id_version c.args.sock.now.id.0) c.requires.may.0) j c.args.seat.now.me.0) (sym c.slot_at-slot.ensures.slot) c.requires.may.1.writer.holds.met)) (c.load_link-found.ensures.view (socket_id_version c.args.sock.now.id.0) (subst (λ (j : ℕ). 0 < marks_of (is_hold (socket_id_version c.args.sock.now.id.0)) j c.args.seat.now.me.0) (sym c.slot_at-slot.ensures.slot) c.requires.may.1.writer.holds.held)))
     (wrote_rights c.load_link-found.new.seat.me.0 c.take_next.new.seat.me.0 (rights_then c.load_link-found.new.seat.me.0 c.fetch_link-link.new.seat.me.0 c.take_next.new.seat.me.0 c.fetch_link-link.ensures.others c.take_next.ensures.others))
