@@ -91,6 +91,7 @@ module _ (p : Plan) (v a b : View) (id slot h k at own : ℕ) (c : Claim) (headi
         loose = ap (λ (y : View). y.loose) all ∙ (ap (λ (l : List Loose). filter (λ (z : Loose). not (eqb z.request at)) (record { request = c.request; before = found } ∷ l)) loose ∙ ap (λ t. cond (not t) (record { request = c.request; before = found } ∷ []) []) (eq-eqb c.request at request));
         hands = ap (λ (y : View). y.hands) all;
         share = ap (λ (y : View). y.share) all;
+        passes = ap (λ (y : View). y.passes) all;
       },
       ap (λ (y : View). y.rights) all ∙ rights,
     )
@@ -113,6 +114,7 @@ module _ (p : Plan) (v a b : View) (id slot h k at own : ℕ) (c : Claim) (headi
         loose = ap (λ (y : View). y.loose) all_r ∙ loose;
         hands = ap (λ (y : View). y.hands) all_r;
         share = ap (λ (y : View). y.share) all_r;
+        passes = ap (λ (y : View). y.passes) all_r;
       },
       new_right (ready_claim (filled_for c k heading bytes)) found sent places,
       ap (λ (y : View). y.rights) all_r ∙ ap (λ (l : List Right). new_right (ready_claim (filled_for c k heading bytes)) found sent places ∷ l) rights,
@@ -173,6 +175,7 @@ accepted_after p id at heading bytes c v w x a k = record {
   loose = k.loose;
   hands = k.hands ∙ ap (λ (y : View). y.hands) a.others;
   share = k.share ∙ ap (λ (y : View). y.share) a.others;
+  passes = k.passes ∙ ap (λ (y : View). y.passes) a.others;
 }
 
 pub started_after : {O : Type 0} {g : Ghosts O} (p : Plan) (sock : Rattle.sock_table.specs.declared.refs.SockRef.SockRef) (at : ℕ) (heading : Heading) (bytes : List ℕ) (c : Claim) (s : Rattle.write_chain.specs.declared.entry.Started.Started O g) (v w u x : View)

@@ -1,3 +1,4 @@
+pub mod Noting
 pub mod Sending
 pub mod Writing
 pub mod Puts

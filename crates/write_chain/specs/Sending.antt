@@ -53,6 +53,7 @@ pub record Accepted (notes : List Mark) (p : Plan) (id : ℕ) (heading : Heading
   pub loose : w.loose ≡ []
   pub hands : w.hands ≡ v.hands
   pub share : w.share ≡ v.share
+  pub passes : w.passes ≡ v.passes
 
 -- the seat's one right is x, of this link up to this ticket, and nothing was done with it
 pub record IsFirst (x : Right) (k last : ℕ) : Type 0 where
