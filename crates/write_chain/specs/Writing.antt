@@ -1,5 +1,5 @@
 -- What whoever has the right to write a link has in hand.
-use Rattle.std.specs.Prelude.{◌≡◌, ◌≢◌, ℕ, ◌+◌, ◌*◌, ◌<◌, ◌⊎◌, ◌==◌, cond, true, false, List, [], ◌∷◌, ◌++◌}
+use Rattle.std.specs.Prelude.{◌≡◌, ◌≢◌, ℕ, ◌+◌, ◌*◌, ◌<◌, ◌⊎◌, true, false, List, [], ◌∷◌, ◌++◌}
 use Rattle.atomic_table.specs.Table.{Me}
 use Rattle.sock_io.specs.declared.link.Out.{Ghosts}
 use Rattle.sock_message.specs.Pieces.{OnItsWay}
@@ -11,7 +11,7 @@ use Rattle.sock_model.specs.declared.chain.Stage.TheVariants as stage
 use Rattle.sock_model.specs.declared.view.View.{View}
 use Rattle.sock_model.specs.Entries.{slot_of}
 use Rattle.sock_model.specs.Links.{HoldsLink}
-use Rattle.sock_model.specs.Weights.{is_ref, is_saw, is_told}
+use Rattle.sock_model.specs.Weights.{is_ref, is_saw}
 use Rattle.sock_model.specs.SlotRows.{marks_of}
 use Rattle.sock_rule.specs.Holding.{Rights}
 use Rattle.sock_rule.specs.ChainPlays.{IsTicket}
@@ -33,10 +33,6 @@ use Rattle.write_chain.specs.declared.hold.Tried.TheVariants as tried
 use Rattle.sock_table.specs.declared.refs.SockRef.{SockRef}
 use Rattle.write_chain.specs.declared.entry.Started.{Started}
 use Rattle.write_chain.specs.declared.entry.Started.TheVariants as started
-use Rattle.write_chain.specs.declared.keep.Went.{Went}
-use Rattle.write_chain.specs.declared.keep.Went.TheVariants as went
-use Rattle.write_chain.specs.declared.keep.Kept.{Kept}
-use Rattle.write_chain.specs.declared.keep.Kept.TheVariants as kept
 
 -- the seat's one right is x, to write this link up to the ticket `last`; it holds the life of this id, whose link it is, and has nothing else but references and notes
 pub record IsWriter (p : Plan) (id last link : ℕ) (x : Right) (v : View) : Type 0 where
@@ -149,19 +145,3 @@ abbrev pub TriedBy : {O : Type 0} {g : Ghosts O} → Plan → ℕ → ℕ → Tr
 TriedBy p id last (tried.Dead hand) m = HasPart p id last hand m × FoundDead id m.0
 TriedBy p id last (tried.Whole hand) m = HasWhole p id last hand m
 TriedBy p id last (tried.Goes by) m = GoesBy p id last by m
-
--- what a message was dropped with: the code word that was read, or 1009 where that was 0; it is the code that the seat found or stored before
-pub record IsCode (code id : ℕ) (v w : View) : Type 0 where
-  pub word : ℕ
-  pub code_is : code ≡ cond (word == 0) 1009 word
-  pub noted : word ≢ 0 → 0 < marks_of (is_told (socket_id_version id) word) (socket_id_slot id) w
-  pub same : (d : ℕ) → d ≢ 0 → 0 < marks_of (is_told (socket_id_version id) d) (socket_id_slot id) v → code ≡ d
-
-abbrev pub WentBy : {O : Type 0} {g : Ghosts O} → Plan → SockRef → Went O g → View → Me (SockHome O g) View → Type 0
-WentBy p sock (went.Done s) v m = (s ≡ sock) × GaveUp p sock.id.0 m
-WentBy p sock (went.Dropped r msg code) v m = (r.sock ≡ sock) × MayGoOn p r m × FoundDead sock.id.0 m.0 × IsCode code sock.id.0 v m.0
-WentBy p sock (went.Further r) v m = (r.sock ≡ sock) × MayGoOn p r m
-
-abbrev pub KeptBy : {O : Type 0} {g : Ghosts O} → Plan → SockRef → Kept O g → View → Me (SockHome O g) View → Type 0
-KeptBy p sock (kept.Done s) v m = (s ≡ sock) × GaveUp p sock.id.0 m
-KeptBy p sock (kept.Dropped r msg code) v m = (r.sock ≡ sock) × MayGoOn p r m × FoundDead sock.id.0 m.0 × IsCode code sock.id.0 v m.0
