@@ -4,8 +4,8 @@ use Rattle.write_chain.specs.Writing.{GoesBy}
 use Rattle.write_chain.proofs.Noting.{wrote_rights}
 use Rattle.write_chain.proofs.keep.go_on.Goals as goal
 
-pub unreachable-requires-in-First : goal.unreachable-requires-in-First
-unreachable-requires-in-First g c = (subst (λ d. GoesBy c.args.table.now.rule.plan c.args.right.sock.id.0 c.args.right.last.0 d c.args.seat.now.me) c.in-First.is c.requires.may)
+pub unreachable-requires : goal.unreachable-requires
+unreachable-requires g c = (subst (λ d. GoesBy c.args.table.now.rule.plan c.args.right.sock.id.0 c.args.right.last.0 d c.args.seat.now.me) c.in-First.is c.requires.may)
 
 pub put_or_drop-requires-clause-may : goal.put_or_drop-requires-clause-may
 put_or_drop-requires-clause-may g c = (subst (λ d. GoesBy c.args.table.now.rule.plan c.args.right.sock.id.0 c.args.right.last.0 d c.args.seat.now.me) c.in-Puts.is c.requires.may)
