@@ -1,13 +1,12 @@
 -- What a seat has once its message was accepted.
-use Rattle.std.proofs.Common.{◌≡◌, ℕ, ◌+◌, ◌<◌, List, [], ◌∷◌, refl, sym, ap, ◌∙◌, subst, arith}
+use Rattle.std.proofs.Common.{◌≡◌, ℕ, ◌<◌, List, [], ◌∷◌, refl, sym, ◌∙◌, subst, arith}
 use Rattle.atomic_table.specs.Table.{Me}
 use Rattle.sock_io.specs.declared.link.Out.{Ghosts}
 use Rattle.sock_words.specs.declared.plain.Plan.{Plan}
 use Rattle.sock_words.specs.Words.{socket_id_version, socket_id_slot}
 use Rattle.sock_model.specs.declared.chain.Heading.{Heading}
-use Rattle.sock_model.specs.declared.chain.Right.{Right}
 use Rattle.sock_model.specs.declared.chain.Stage.TheVariants.{Writes}
-use Rattle.sock_model.specs.declared.marks.Mark.TheVariants.{Saw, Met}
+use Rattle.sock_model.specs.declared.marks.Mark.TheVariants.{Saw}
 use Rattle.sock_model.specs.declared.view.View.{View}
 use Rattle.sock_model.specs.Weights.{is_ref, is_hold, is_met}
 use Rattle.sock_model.specs.SlotRows.{marks_of}
@@ -40,11 +39,14 @@ module _ (p : Plan) (id : ℕ) (heading : Heading) (bytes : List ℕ) (v w : Vie
 
 pub begins : {O : Type 0} {g : Ghosts O} (p : Plan) (sock : SockRef) (heading : Heading) (bytes : List ℕ) (s : Started O g) (v : View) (n : Me (SockHome O g) View) → IsBetween p v → Holds p v sock.id.0 → marks_of is_ref (socket_id_slot sock.id.0) v < 65540
     → StartedBy p sock heading bytes s v n.0 → n.1 ≡ [] → Begins p sock s n
-begins p sock heading bytes (started.Queued r) v n b h room (is, a, rights) slots = (is, record {
-  between = rests_between p n.0 rights (accepted_rests p sock.id.0 heading bytes v n.0 b a);
-  holds = accepted_holds p sock.id.0 heading bytes v n.0 b a h;
-  slots = slots;
-})
+begins p sock heading bytes (started.Queued r) v n b h room (is, a, rights) slots = (
+  is,
+  record {
+    between = rests_between p n.0 rights (accepted_rests p sock.id.0 heading bytes v n.0 b a);
+    holds = accepted_holds p sock.id.0 heading bytes v n.0 b a h;
+    slots = slots;
+  },
+)
 begins {O} {g} p sock heading bytes (started.Right r) v n b h room (is, first, a, x, rights, f, tk) slots = let stands : Stands p sock.id.0 r.last.0 (Writes r.last.0) a.entry.link n = record {
   right_is = x;
   writer = record {

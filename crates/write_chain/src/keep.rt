@@ -7,7 +7,9 @@ ghost use Rattle.sock_model.specs.declared.chain.Stage.TheVariants.{Empties};
 ghost use Rattle.write_chain.specs.Writing.{MayGoOn, HasLink, HasPart, FoundDead, GoesBy};
 ghost use Rattle.write_chain.specs.Keeping.{IsCode, WentBy, KeptBy};
 
-use crate::hold::{LINK_FAILED, Once, Tried, fail_link, fetch_link, go_past, leave, place, take_next, try_put};
+use crate::hold::{
+    LINK_FAILED, Once, Tried, fail_link, fetch_link, go_past, leave, place, take_next, try_put,
+};
 use crate::right::{Doing, InHand, LinkInHand, Undelivered, Walk, WriteRight};
 use crossbeam_utils::Backoff;
 use sock_io::{Out, Ready};
@@ -70,9 +72,7 @@ pub fn drop_one<O: Out>(
         owner,
     } = hand;
     let place = PlaceWord::pack(true, link, home.next);
-    let mut home = table
-        .rule
-        .drop_place(seat, label.place, place, now, home);
+    let mut home = table.rule.drop_place(seat, label.place, place, now, home);
     home.count_place();
     let doing = go_past(table, seat, sock, last, LinkInHand { link, home }, now);
     let code = code_or(told);

@@ -1,4 +1,4 @@
-use Rattle.std.proofs.Common.{ℕ, ◌+◌, [], ◌∷◌, refl, sym, ap, ◌∙◌, subst}
+use Rattle.std.proofs.Common.{ℕ, ◌+◌, ◌∷◌, refl, sym, ap, ◌∙◌, subst}
 use Rattle.atomic_table.specs.Table.{rest}
 use Rattle.sock_words.specs.declared.plain.Plan.{Plan}
 use Rattle.sock_model.specs.declared.chain.Stage.TheVariants.{Walks}
@@ -41,9 +41,11 @@ returns-then-step-word-clause-others g c = let h = c.requires.may in let put = c
 
 pub returns-clause-once : goal.returns-clause-once
 returns-clause-once g c = let h = c.requires.may in let s = link_home c.args.link c.args.seat.now.me c.put_own_link.new.seat.me h (c.put_own_link.ensures.view h.right_is h.writer.one) in
-    let lost = (c.empty_head-step.ensures.view s.right_is s.writer.one).1 (λ e. c.if-step-word.false (e ∙ sym c.word.ensures)) in
-    (refl, subst (λ (y : ℕ). Stands c.args.table.now.rule.plan c.args.sock.id.0 c.args.last.0 (Walks y y 0) c.args.link.link c.empty_head-step.new.seat.me × IsTicket c.args.table.now.rule.plan y) (sym c.from_word.ensures)
-      (walks_from c.empty_head-step.result.found c.put_own_link.new.seat.me c.empty_head-step.new.seat.me s lost.0, subst (λ (q : Plan). IsTicket q c.empty_head-step.result.found) c.put_own_link.ensures.seat.1 lost.1))
+    let lost = (c.empty_head-step.ensures.view s.right_is s.writer.one).1 (λ e. c.if-step-word.false (e ∙ sym c.word.ensures)) in (
+      refl,
+      subst (λ (y : ℕ). Stands c.args.table.now.rule.plan c.args.sock.id.0 c.args.last.0 (Walks y y 0) c.args.link.link c.empty_head-step.new.seat.me × IsTicket c.args.table.now.rule.plan y) (sym c.from_word.ensures)
+          (walks_from c.empty_head-step.result.found c.put_own_link.new.seat.me c.empty_head-step.new.seat.me s lost.0, subst (λ (q : Plan). IsTicket q c.empty_head-step.result.found) c.put_own_link.ensures.seat.1 lost.1),
+    )
 
 pub returns-clause-others : goal.returns-clause-others
 returns-clause-others g c = let h = c.requires.may in let put = c.put_own_link.ensures.view h.right_is h.writer.one in let s = link_home c.args.link c.args.seat.now.me c.put_own_link.new.seat.me h put in

@@ -3,7 +3,6 @@ use Rattle.atomic_table.specs.Table.{rest}
 use Rattle.sock_words.specs.Words.{socket_id_version, socket_id_slot}
 use Rattle.sock_model.specs.Entries.{slot_of}
 use Rattle.sock_model.specs.Links.{HoldsLink}
-use Rattle.sock_rule.specs.declared.homes.LinkHome.{LinkHome}
 use Rattle.sock_rule.specs.declared.homes.SockHome.TheVariants.{Empty}
 use Rattle.write_chain.proofs.Noting.{wrote_notes, wrote_then, wrote_rights, rights_only, rights_then}
 use Rattle.write_chain.proofs.Stepping.{part_noted, part_of, part_dropped}

@@ -1,4 +1,4 @@
-use Rattle.std.proofs.Common.{refl, sym, subst}
+use Rattle.std.proofs.Common.{refl, subst}
 use Rattle.sock_model.specs.declared.chain.Stage.TheVariants.{Walks}
 use Rattle.write_chain.specs.Writing.{GoesBy}
 use Rattle.write_chain.proofs.Noting.{wrote_rights}

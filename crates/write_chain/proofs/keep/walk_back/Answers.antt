@@ -1,4 +1,4 @@
-use Rattle.std.proofs.Common.{ℕ, [], eqb-true, eq-eqb, refl, sym, ap, ◌∙◌, subst}
+use Rattle.std.proofs.Common.{ℕ, [], refl, sym, ap, ◌∙◌, subst}
 use Rattle.sock_words.specs.declared.plain.Plan.{Plan}
 use Rattle.sock_model.specs.declared.chain.Stage.TheVariants.{Walks}
 use Rattle.sock_rule.specs.ChainPlays.{IsTicket}
@@ -43,10 +43,15 @@ returns-then-found-end-clause-others g c = let h = c.requires.may.0 in let read 
 pub returns-clause-goes : goal.returns-clause-goes
 returns-clause-goes g c = let h = c.requires.may.0 in let read = (c.read_back-found.ensures.view h.right_is c.args.walk.top.0 c.args.walk.after h.writer.one h.stage_is).1 c.if-found.false in
     let t = reads_at c.args.walk.top.0 c.args.walk.at.0 c.args.walk.after c.read_back-found.result c.args.walk.link c.args.seat.now.me c.read_back-found.new.seat.me h read.0 in
-    let on = turned_on c.args.walk.top.0 c.args.walk.at.0 c.args.walk.after c.read_back-found.result c.args.walk.link c.read_back-found.new.seat.me c.turn_next.new.seat.me t (c.turn_next.ensures.view t.right_is c.args.walk.top.0 c.args.walk.after c.read_back-found.result t.writer.one t.stage_is) (λ e. c.if-found-end.false (e ∙ sym c.word-end.ensures)) in
-    (refl, (subst (λ (b : ℕ). HasLink c.args.table.now.rule.plan c.args.sock.id.0 c.args.last.0 (Walks c.args.walk.top.0 c.from_word.result.0 b) [] c.args.walk.link c.turn_next.new.seat.me) (sym c.word.ensures)
-      (subst (λ (a : ℕ). HasLink c.args.table.now.rule.plan c.args.sock.id.0 c.args.last.0 (Walks c.args.walk.top.0 a c.args.walk.at.0) [] c.args.walk.link c.turn_next.new.seat.me) (sym c.from_word.ensures) on),
-      c.requires.may.1, subst (IsTicket c.args.table.now.rule.plan) (sym c.from_word.ensures) (subst (λ (q : Plan). IsTicket q c.read_back-found.result) c.requires.seat.1 read.1)))
+    let on = turned_on c.args.walk.top.0 c.args.walk.at.0 c.args.walk.after c.read_back-found.result c.args.walk.link c.read_back-found.new.seat.me c.turn_next.new.seat.me t (c.turn_next.ensures.view t.right_is c.args.walk.top.0 c.args.walk.after c.read_back-found.result t.writer.one t.stage_is) (λ e. c.if-found-end.false (e ∙ sym c.word-end.ensures)) in (
+      refl,
+      (
+        subst (λ (b : ℕ). HasLink c.args.table.now.rule.plan c.args.sock.id.0 c.args.last.0 (Walks c.args.walk.top.0 c.from_word.result.0 b) [] c.args.walk.link c.turn_next.new.seat.me) (sym c.word.ensures)
+            (subst (λ (a : ℕ). HasLink c.args.table.now.rule.plan c.args.sock.id.0 c.args.last.0 (Walks c.args.walk.top.0 a c.args.walk.at.0) [] c.args.walk.link c.turn_next.new.seat.me) (sym c.from_word.ensures) on),
+        c.requires.may.1,
+        subst (IsTicket c.args.table.now.rule.plan) (sym c.from_word.ensures) (subst (λ (q : Plan). IsTicket q c.read_back-found.result) c.requires.seat.1 read.1),
+      ),
+    )
 
 pub returns-clause-others : goal.returns-clause-others
 returns-clause-others g c = let h = c.requires.may.0 in let read = (c.read_back-found.ensures.view h.right_is c.args.walk.top.0 c.args.walk.after h.writer.one h.stage_is).1 c.if-found.false in
