@@ -241,12 +241,7 @@ impl<O: Out> SockTable<O> {
     }
 
     /// The same, also of a seat that has rights to write.
-    pub fn fail(
-        &self,
-        seat: &mut SockSeat<O>,
-        sock: &SockRef,
-        code: u16,
-    ) -> Result<(), Already>
+    pub fn fail(&self, seat: &mut SockSeat<O>, sock: &SockRef, code: u16) -> Result<(), Already>
         requires seat { IsSeat self.now.rule.table.shared.table_id self.now.rule.plan seat.old }
         requires held { Holds self.now.rule.plan seat.old.me.0 sock.now.id.0 }
         requires room { marks_of is_ref (socket_id_slot sock.now.id.0) seat.old.me.0 < 65540 }

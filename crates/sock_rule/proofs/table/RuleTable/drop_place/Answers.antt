@@ -23,17 +23,20 @@ store-requires g c = let same = ap (λ m. m.0) c.exchange-empty.ensures.3 in let
 pub exchange-back-requires : goal.exchange-back-requires
 exchange-back-requires g c = let same = ap (λ m. m.0) c.exchange-empty.ensures.3 in let m = c.requires.may.2 in let top = laid_top c.args.seat.now.me c.exchange-empty.new.seat.me c.request-slot.result c.args.now.0 c.args.home c.request-slot.ensures c.requires.top c.exchange-empty.ensures.3 in (
   c.store.ensures.0 ∙ (c.exchange-empty.ensures.0 ∙ c.requires.seat.0),
-  (Link c.args.home, laid_still c.args.seat.now.me c.exchange-empty.new.seat.me c.request-slot.result c.args.now.0 c.args.home c.request-slot.ensures c.requires.top c.exchange-empty.ensures.3 c.store.new.seat.me m.right m.now
-      (c.store.ensures.2 m.right m.now (c.request-slot.result, Link c.args.home) (ap (λ v. v.rights) same ∙ m.one) m.stage top)),
+  (
+    Link c.args.home,
+    laid_still c.args.seat.now.me c.exchange-empty.new.seat.me c.request-slot.result c.args.now.0 c.args.home c.request-slot.ensures c.requires.top c.exchange-empty.ensures.3 c.store.new.seat.me m.right m.now
+        (c.store.ensures.2 m.right m.now (c.request-slot.result, Link c.args.home) (ap (λ v. v.rights) same ∙ m.one) m.stage top),
+  ),
 )
 
 pub unreachable-requires-in_default-back : goal.unreachable-requires-in_default-back
 unreachable-requires-in_default-back g c = c.in_default-back.not-Link c.args.home (sym (comes_back c.store.new.seat.me.1 c.request-slot.result c.args.home c.exchange-back.result (rest c.store.new.seat.me.1) (laid_still c.args.seat.now.me c.exchange-empty.new.seat.me c.request-slot.result c.args.now.0 c.args.home c.request-slot.ensures c.requires.top c.exchange-empty.ensures.3 c.store.new.seat.me c.requires.may.2.right c.requires.may.2.now
-      (c.store.ensures.2 c.requires.may.2.right c.requires.may.2.now (c.request-slot.result, Link c.args.home) (ap (λ v. v.rights) (ap (λ m. m.0) c.exchange-empty.ensures.3) ∙ c.requires.may.2.one) c.requires.may.2.stage (laid_top c.args.seat.now.me c.exchange-empty.new.seat.me c.request-slot.result c.args.now.0 c.args.home c.request-slot.ensures c.requires.top c.exchange-empty.ensures.3))) c.exchange-back.ensures.2))
+    (c.store.ensures.2 c.requires.may.2.right c.requires.may.2.now (c.request-slot.result, Link c.args.home) (ap (λ v. v.rights) (ap (λ m. m.0) c.exchange-empty.ensures.3) ∙ c.requires.may.2.one) c.requires.may.2.stage (laid_top c.args.seat.now.me c.exchange-empty.new.seat.me c.request-slot.result c.args.now.0 c.args.home c.request-slot.ensures c.requires.top c.exchange-empty.ensures.3))) c.exchange-back.ensures.2))
 
 pub returns-clause-home : goal.returns-clause-home
 returns-clause-home g c = same_link c.store.new.seat.me.1 c.request-slot.result c.args.home c.exchange-back.result (rest c.store.new.seat.me.1) (laid_still c.args.seat.now.me c.exchange-empty.new.seat.me c.request-slot.result c.args.now.0 c.args.home c.request-slot.ensures c.requires.top c.exchange-empty.ensures.3 c.store.new.seat.me c.requires.may.2.right c.requires.may.2.now
-      (c.store.ensures.2 c.requires.may.2.right c.requires.may.2.now (c.request-slot.result, Link c.args.home) (ap (λ v. v.rights) (ap (λ m. m.0) c.exchange-empty.ensures.3) ∙ c.requires.may.2.one) c.requires.may.2.stage (laid_top c.args.seat.now.me c.exchange-empty.new.seat.me c.request-slot.result c.args.now.0 c.args.home c.request-slot.ensures c.requires.top c.exchange-empty.ensures.3))) c.exchange-back.ensures.2 c.in-Link.home c.in-Link.is
+    (c.store.ensures.2 c.requires.may.2.right c.requires.may.2.now (c.request-slot.result, Link c.args.home) (ap (λ v. v.rights) (ap (λ m. m.0) c.exchange-empty.ensures.3) ∙ c.requires.may.2.one) c.requires.may.2.stage (laid_top c.args.seat.now.me c.exchange-empty.new.seat.me c.request-slot.result c.args.now.0 c.args.home c.request-slot.ensures c.requires.top c.exchange-empty.ensures.3))) c.exchange-back.ensures.2 c.in-Link.home c.in-Link.is
 
 pub returns-clause-view : goal.returns-clause-view
 returns-clause-view g c = λ r n one stage. let same = ap (λ m. m.0) c.exchange-empty.ensures.3 in let top = laid_top c.args.seat.now.me c.exchange-empty.new.seat.me c.request-slot.result c.args.now.0 c.args.home c.request-slot.ensures c.requires.top c.exchange-empty.ensures.3 in
