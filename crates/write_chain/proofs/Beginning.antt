@@ -1,13 +1,12 @@
 -- What a seat has once its message was accepted.
-use Rattle.std.proofs.Common.{◌≡◌, ℕ, ◌+◌, ◌<◌, List, [], ◌∷◌, refl, sym, ap, ◌∙◌, subst, arith}
+use Rattle.std.proofs.Common.{◌≡◌, ℕ, ◌<◌, List, [], ◌∷◌, refl, sym, ◌∙◌, subst, arith}
 use Rattle.atomic_table.specs.Table.{Me}
 use Rattle.sock_io.specs.declared.link.Out.{Ghosts}
 use Rattle.sock_words.specs.declared.plain.Plan.{Plan}
 use Rattle.sock_words.specs.Words.{socket_id_version, socket_id_slot}
 use Rattle.sock_model.specs.declared.chain.Heading.{Heading}
-use Rattle.sock_model.specs.declared.chain.Right.{Right}
 use Rattle.sock_model.specs.declared.chain.Stage.TheVariants.{Writes}
-use Rattle.sock_model.specs.declared.marks.Mark.TheVariants.{Saw, Met}
+use Rattle.sock_model.specs.declared.marks.Mark.TheVariants.{Saw}
 use Rattle.sock_model.specs.declared.view.View.{View}
 use Rattle.sock_model.specs.Weights.{is_ref, is_hold, is_met}
 use Rattle.sock_model.specs.SlotRows.{marks_of}

@@ -3,3 +3,4 @@ pub mod Noting
 pub mod Stepping
 pub mod Beginning
 pub mod Looking
+pub mod Dropping

@@ -1,5 +1,5 @@
 -- What a look finds, and what becomes of a socket whose link failed.
-use Rattle.std.proofs.Common.{◌≡◌, ◌≢◌, ℕ, ◌+◌, ◌-◌, ◌*◌, ◌%◌, ◌<◌, zero, suc, Bool, true, false, cond, eqb, eqb-true, eq-eqb, ne_eqb, List, [], ◌∷◌, length, take, refl, sym, ap, ◌∙◌, subst, arith}
+use Rattle.std.proofs.Common.{◌≡◌, ◌≢◌, ℕ, ◌+◌, ◌-◌, ◌%◌, ◌<◌, zero, suc, Bool, true, false, cond, eqb, eqb-true, eq-eqb, List, [], ◌∷◌, length, take, refl, sym, ap, ◌∙◌, subst, arith}
 use Rattle.std.specs.Prelude.{Ok, Err, IfOk, IfErr}
 use Rattle.std.specs.declared.result.Result.{Result}
 use Rattle.sock_message.specs.Pieces.{piece}
@@ -10,26 +10,23 @@ use Rattle.sock_io.specs.declared.link.Out.{Ghosts}
 use Rattle.sock_io.specs.Link.{OutState}
 use Rattle.sock_words.specs.declared.plain.Plan.{Plan}
 use Rattle.sock_words.specs.Words.{socket_id_version, socket_id_slot, vref_version}
-use Rattle.sock_model.specs.declared.chain.Right.{Right}
 use Rattle.sock_model.specs.declared.marks.Mark.{Mark}
-use Rattle.sock_model.specs.declared.marks.Mark.TheVariants.{Saw, Failer, Stored, Told, Met}
+use Rattle.sock_model.specs.declared.marks.Mark.TheVariants.{Saw}
 use Rattle.sock_model.specs.declared.view.View.{View}
 use Rattle.sock_model.specs.Slots.{version_of}
-use Rattle.sock_model.specs.Weights.{total, is_hold, is_met, is_saw, is_told}
+use Rattle.sock_model.specs.Weights.{is_hold, is_met, is_saw}
 use Rattle.sock_model.specs.SlotRows.{marks_of, looked}
-use Rattle.sock_model.specs.ChainRows.{with_right}
-use Rattle.slot_laws.proofs.Numbers.{only-same, pair-same}
+use Rattle.slot_laws.proofs.Numbers.{only-same}
 use Rattle.sock_rule.specs.Becoming.{Became}
 use Rattle.sock_rule.specs.Holding.{LookedToWrite}
 use Rattle.sock_rule.specs.declared.homes.SockHome.{SockHome}
-use Rattle.sock_rule.proofs.Becoming.{looked_marks, stays}
+use Rattle.sock_rule.proofs.Becoming.{looked_marks}
 use Rattle.sock_table.specs.Answers.{FailedBy, FoundFailed}
 use Rattle.sock_table.specs.declared.refs.Already.{Already}
 use Rattle.write_chain.specs.declared.right.InHand.{InHand}
-use Rattle.write_chain.specs.Noting.{saw, told, Faulted, Noted, nothing, finding, failing, Met_by, Wrote}
+use Rattle.write_chain.specs.Noting.{saw, Faulted, Noted, nothing, failing, Met_by, Wrote}
 use Rattle.write_chain.specs.Writing.{HasPart, IsClean, FoundDead}
-use Rattle.sock_model.specs.Marks.{about}
-use Rattle.write_chain.proofs.Noting.{found_it, wrote_notes, wrote_more}
+use Rattle.write_chain.proofs.Noting.{found_it}
 use Rattle.write_chain.proofs.Stepping.{part_noted, part_clean}
 
 module _ {O : Type 0} {g : Ghosts O} {p : Plan} {id last : ℕ} (hand : InHand O g) (m n : Me (SockHome O g) View) (slot found : ℕ) (at : slot ≡ socket_id_slot id) (h : HasPart p id last hand m) (l : LookedToWrite h.0.right_is slot found m n) where

@@ -1,19 +1,16 @@
 -- What a seat notes while it writes: such notes leave all that it holds.
-use Rattle.std.proofs.Common.{◌≡◌, ℕ, ◌+◌, ◌<◌, ◌≤◌, List, [], ◌∷◌, ◌++◌, refl, sym, ap, ◌∙◌, subst, arith}
+use Rattle.std.proofs.Common.{◌≡◌, ℕ, ◌+◌, ◌≤◌, List, [], ◌∷◌, ◌++◌, refl, sym, ap, ◌∙◌, subst, arith}
 use Rattle.sock_io.specs.Link.{OutState}
-use Rattle.sock_words.specs.declared.plain.Plan.{Plan}
 use Rattle.sock_words.specs.Words.{socket_id_version, socket_id_slot}
 use Rattle.sock_model.specs.declared.chain.Right.{Right}
 use Rattle.sock_model.specs.declared.marks.Mark.{Mark}
-use Rattle.sock_model.specs.declared.marks.Mark.TheVariants.{Saw, Failer, Stored, Told, Met}
 use Rattle.sock_model.specs.declared.view.View.{View}
-use Rattle.sock_model.specs.Weights.{total, is_ref, is_met, is_claimed, is_probe, is_any_coding, is_zero}
+use Rattle.sock_model.specs.Weights.{total, is_ref, is_met}
 use Rattle.sock_model.specs.SlotRows.{marks_of}
 use Rattle.sock_rule.specs.Becoming.{Became}
 use Rattle.sock_rule.proofs.Becoming.{then_, stays}
-use Rattle.sock_table.specs.Refs.{Rests}
-use Rattle.sock_table.proofs.Quiet.{IsQuiet, rests_on}
-use Rattle.write_chain.specs.Noting.{IsFinding, saw, met, told, Faulted, Noted, nothing, finding, failing, Met_by, Wrote}
+use Rattle.sock_table.proofs.Quiet.{IsQuiet}
+use Rattle.write_chain.specs.Noting.{IsFinding, saw, met, told, Noted, nothing, finding, failing, Met_by, Wrote}
 
 finding_quiet : {h : ℕ} (m : Mark) → IsFinding h m → IsQuiet (m ∷ []) × (is_ref m ≡ 0)
 finding_quiet _ (saw w) = (record { claimed = refl; probe = refl; coding = refl; zeros = λ x. refl }, refl)

@@ -1,8 +1,6 @@
 -- What a writer has stays through the steps that it makes.
-use Rattle.std.proofs.Common.{◌≡◌, ◌≢◌, ℕ, suc, ◌+◌, ◌*◌, ◌%◌, ◌<◌, ◌⊎◌, inl, inr, Bool, true, false, cond, eqb, eq-eqb, ne_eqb, not, List, [], ◌∷◌, ◌++◌, append-nil, append_assoc, refl, sym, ap, ◌∙◌, subst, arith}
+use Rattle.std.proofs.Common.{◌≡◌, ◌≢◌, ℕ, suc, ◌+◌, ◌*◌, ◌<◌, inl, inr, Bool, true, false, cond, eqb, eq-eqb, ne_eqb, not, List, [], ◌∷◌, ◌++◌, append-nil, append_assoc, refl, sym, ap, ◌∙◌, subst, arith}
 use Rattle.std.specs.List.{filter}
-use mathlib.Core.Logic.{dite}
-use native.Mathlib.Decide.{ℕ_discrete}
 use Rattle.atomic_table.specs.Table.{Me, rest}
 use Rattle.sock_io.specs.declared.link.Out.{Ghosts}
 use Rattle.sock_io.specs.Link.{OutState}
@@ -10,7 +8,6 @@ use Rattle.sock_words.specs.declared.plain.Plan.{Plan}
 use Rattle.sock_words.specs.declared.plain.Label.{Label}
 use Rattle.sock_words.specs.declared.ticket.Ticket.{Ticket}
 use Rattle.sock_words.specs.Words.{socket_id_version, socket_id_slot}
-use Rattle.sock_model.specs.declared.chain.Heading.{Heading}
 use Rattle.sock_model.specs.declared.chain.Right.{Right}
 use Rattle.sock_model.specs.declared.chain.Stage.{Stage}
 use Rattle.sock_model.specs.declared.chain.Stage.TheVariants.{Writes, Placed, Passes, Empties, Walks, Turns}
@@ -19,13 +16,11 @@ use Rattle.sock_model.specs.declared.marks.Mark.TheVariants.{Met}
 use Rattle.sock_model.specs.declared.view.View.{View}
 use Rattle.sock_model.specs.Entries.{slot_of}
 use Rattle.sock_model.specs.Links.{HoldsLink}
-use Rattle.sock_model.specs.Memory.{UNCONNECTED}
-use Rattle.sock_model.specs.Weights.{total, is_ref, is_hold, is_met, is_saw}
-use Rattle.sock_model.specs.Marks.{about}
-use Rattle.sock_model.specs.SlotRows.{marks_of, met_link}
+use Rattle.sock_model.specs.Weights.{is_ref, is_hold, is_met}
+use Rattle.sock_model.specs.SlotRows.{met_link}
 use Rattle.sock_model.specs.ChainRows.{with_right, without_right, taken_right, placed_right, dropped_right, passing_right, freed_stage, freed_right, walking_right, reading_right, turned_right}
 use Rattle.sock_rule.specs.Becoming.{Became}
-use Rattle.sock_rule.specs.Holding.{Rights, Part, Follows, ends, goes_on, MayFreeRequest, MayLookToWrite, MayEmptyHead}
+use Rattle.sock_rule.specs.Holding.{Part, Follows, ends, goes_on, MayFreeRequest, MayLookToWrite, MayEmptyHead}
 use Rattle.sock_rule.specs.ChainPlays.{IsTicket}
 use Rattle.sock_rule.specs.declared.homes.LinkHome.{LinkHome}
 use Rattle.sock_rule.specs.declared.homes.Letter.{Letter}
@@ -34,13 +29,12 @@ use Rattle.sock_rule.specs.declared.homes.SockHome.TheVariants.{Empty}
 use Rattle.sock_rule.specs.Shows.{heading_of}
 use Rattle.sock_rule.proofs.Holding.{one_right}
 use Rattle.sock_rule.proofs.Becoming.{met_marks}
-use Rattle.sock_table.specs.Refs.{IsBetween, Rests}
 use Rattle.sock_table.proofs.Quiet.{rests_on, rests_between}
 use Rattle.write_chain.specs.declared.right.InHand.{InHand}
 use Rattle.write_chain.specs.declared.right.LinkInHand.{LinkInHand}
 use Rattle.write_chain.specs.Noting.{met, Noted, Wrote}
 use Rattle.write_chain.specs.Puts.{WentOn}
-use Rattle.write_chain.specs.Writing.{IsWriter, Stands, HasHome, HasLink, HasInHand, IsPart, HasPart, IsClean, HasWhole, GaveUp}
+use Rattle.write_chain.specs.Writing.{IsWriter, Stands, HasLink, HasInHand, IsPart, HasPart, IsClean, HasWhole, GaveUp}
 use Rattle.write_chain.proofs.Noting.{noted_quiet, found_it, wrote_notes}
 
 -- ## The right changes

@@ -1,14 +1,9 @@
-use Rattle.std.proofs.Common.{ℕ, ◌≡◌, ◌+◌, ◌*◌, ◌<◌, ◌≤◌, [], ◌∷◌, List, false, true, refl, sym, ap, ◌∙◌, subst, arith}
+use Rattle.std.proofs.Common.{[], refl, sym, ap, ◌∙◌}
 use Rattle.atomic_table.specs.Table.{rest}
-use Rattle.sock_words.specs.Words.{socket_id_version, socket_id_slot}
-use Rattle.sock_model.specs.Weights.{is_hold}
-use Rattle.sock_model.specs.SlotRows.{marks_of}
 use Rattle.sock_model.specs.ChainRows.{fresh_claim}
 use Rattle.sock_rule.specs.ChainPlays.{blank}
 use Rattle.sock_rule.specs.Shows.{heading_of}
-use Rattle.sock_table.specs.Answers.{Holds}
-use Rattle.write_chain.specs.Sending.{FoundTaken}
-use Rattle.write_chain.proofs.Accepting.{asks_first, asks_next, still_holds, still_room, started_after, false_true}
+use Rattle.write_chain.proofs.Accepting.{asks_first, asks_next, started_after, false_true}
 use Rattle.write_chain.proofs.Beginning.{begins}
 use Rattle.write_chain.proofs.entry.start.Goals as goal
 

@@ -1,4 +1,4 @@
-use Rattle.std.proofs.Common.{refl, sym, subst}
+use Rattle.std.proofs.Common.{refl, subst}
 use Rattle.write_chain.specs.Writing.{GoesBy}
 use Rattle.write_chain.proofs.hold.leave_or_keep.Goals as goal
 

@@ -1,4 +1,4 @@
-use Rattle.std.proofs.Common.{ℕ, ◌≡◌, ◌%◌, sym, ap, ◌∙◌}
+use Rattle.std.proofs.Common.{ℕ, ◌%◌, sym, ap, ◌∙◌}
 use Rattle.sock_model.specs.Slots.{version_of}
 use Rattle.write_chain.proofs.Stepping.{may_look}
 use Rattle.write_chain.proofs.Looking.{live, dead, looked_wrote, false_true}

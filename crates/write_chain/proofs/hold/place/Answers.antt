@@ -1,4 +1,4 @@
-use Rattle.std.proofs.Common.{arith, refl, sym, ap}
+use Rattle.std.proofs.Common.{arith, sym, ap}
 use Rattle.write_chain.proofs.Noting.{rights_only, rights_then}
 use Rattle.write_chain.proofs.Stepping.{whole_placed}
 use Rattle.write_chain.proofs.hold.place.Goals as goal
