@@ -34,7 +34,9 @@ use Rattle.write_chain.specs.declared.right.InHand.{InHand}
 use Rattle.write_chain.specs.declared.right.LinkInHand.{LinkInHand}
 use Rattle.write_chain.specs.Noting.{met, Noted, Wrote}
 use Rattle.write_chain.specs.Puts.{WentOn}
-use Rattle.write_chain.specs.Writing.{IsWriter, Stands, HasLink, HasInHand, IsPart, HasPart, IsClean, HasWhole, GaveUp}
+use Rattle.write_chain.specs.declared.right.Doing.{Doing}
+use Rattle.write_chain.specs.declared.right.Doing.TheVariants as doing
+use Rattle.write_chain.specs.Writing.{IsWriter, Stands, HasLink, HasInHand, IsPart, HasPart, IsClean, HasWhole, GaveUp, IsLast}
 use Rattle.write_chain.proofs.Noting.{noted_quiet, found_it, wrote_notes}
 
 -- ## The right changes
@@ -344,3 +346,13 @@ module _ {O : Type 0} {g : Ghosts O} {p : Plan} {id last : ℕ} where
     pub turned_on : found ≢ last → HasLink p id last (Walks top found at) [] hand n
     turned_on other = link_moves hand m n h (record h.right_is { stage = Walks top found at; turned = suc h.right_is.turned }) m.1 refl h.writer.last_is h.writer.last_ticket h.has.away refl refl h.idle refl
         (e ∙ ap (λ (b : Bool). (with_right m.0 (cond b (record h.right_is { last = top; stage = Writes at; turned = 0; noted = h.right_is.noted + suc h.right_is.turned }) (record h.right_is { stage = Walks top found at; turned = suc h.right_is.turned })), m.1)) (ne_eqb found h.right_is.last (λ z. other (z ∙ h.writer.last_is)))) h.slots
+
+-- only the last stage is the last one
+pub must_last : {O : Type 0} {g : Ghosts O} (d : Doing O g) → IsLast d → ((link : LinkInHand O g) → d ≡ doing.Last link → ⊥) → ⊥
+must_last (doing.Last link) is none_ = none_ link refl
+must_last doing.First is none_ = is
+must_last (doing.Puts hand) is none_ = is
+must_last (doing.Waits hand) is none_ = is
+must_last (doing.Next link now) is none_ = is
+must_last (doing.Walks link top) is none_ = is
+must_last (doing.Back walk) is none_ = is

@@ -136,11 +136,24 @@ GoesBy p id last (doing.Back w) m = HasLink p id last (stage.Walks w.top.0 w.at.
 abbrev pub MayGoOn : {O : Type 0} {g : Ghosts O} → Plan → WriteRight O g → Me (SockHome O g) View → Type 0
 MayGoOn p right m = GoesBy p right.sock.id.0 right.last.0 right.doing m
 
+-- all that was noted has its place
+abbrev pub IsLast : {O : Type 0} {g : Ghosts O} → Doing O g → Type 0
+IsLast (doing.Last link) = Unit {0}
+IsLast other = ⊥
+
+-- the message isn't taken whole, or was dead, or the head has a newer ticket
+abbrev pub IsLeft : {O : Type 0} {g : Ghosts O} → Doing O g → Type 0
+IsLeft (doing.Puts hand) = Unit {0}
+IsLeft (doing.Waits hand) = Unit {0}
+IsLeft (doing.Walks link top) = Unit {0}
+IsLeft other = ⊥
+
 abbrev pub OnceBy : {O : Type 0} {g : Ghosts O} → Plan → SockRef → Once O g → Me (SockHome O g) View → Type 0
 OnceBy p sock (once.Done s) m = (s ≡ sock) × GaveUp p sock.id.0 m
-OnceBy p sock (once.Keep r) m = (r.sock ≡ sock) × MayGoOn p r m
+OnceBy p sock (once.Keep r) m = (r.sock ≡ sock) × MayGoOn p r m × IsLeft r.doing
 
-abbrev pub TriedBy : {O : Type 0} {g : Ghosts O} → Plan → ℕ → ℕ → Tried O g → Me (SockHome O g) View → Type 0
-TriedBy p id last (tried.Dead hand) m = HasPart p id last hand m × FoundDead id m.0
-TriedBy p id last (tried.Whole hand) m = HasWhole p id last hand m
-TriedBy p id last (tried.Goes by) m = GoesBy p id last by m
+-- of the message of ticket `now`
+abbrev pub TriedBy : {O : Type 0} {g : Ghosts O} → Plan → ℕ → ℕ → ℕ → Tried O g → Me (SockHome O g) View → Type 0
+TriedBy p id last now (tried.Dead hand) m = HasPart p id last hand m × FoundDead id m.0
+TriedBy p id last now (tried.Whole hand) m = HasWhole p id last hand m × (hand.now.0 ≡ now)
+TriedBy p id last now (tried.Goes by) m = GoesBy p id last by m × IsLeft by

@@ -12,7 +12,7 @@ ghost use Rattle.sock_rule.specs.Seated.{IsSeat};
 ghost use Rattle.sock_rule.specs.ChainPlays.{IsTicket};
 ghost use Rattle.sock_rule.specs.Holding.{Rights, MayFreeRequest};
 ghost use Rattle.write_chain.specs.Noting.{Faulted, Wrote};
-ghost use Rattle.write_chain.specs.Writing.{MayBegin, MayGoOn, Stands, HasLink, HasInHand, HasPart, IsClean, HasWhole, FoundDead, GoesBy, OnceBy, TriedBy};
+ghost use Rattle.write_chain.specs.Writing.{MayBegin, MayGoOn, Stands, HasLink, HasInHand, HasPart, IsClean, HasWhole, FoundDead, GoesBy, IsLast, OnceBy, TriedBy};
 
 use crate::right::{Doing, InHand, LinkInHand, WriteRight};
 use sock_io::{Out, Put};
@@ -84,6 +84,7 @@ pub fn take_next<O: Out>(
     requires may { HasLink table.now.rule.plan _sock.now.id.0 _last.0 (Writes now.0) [] link seat.old.me × IsTicket table.now.rule.plan now.0 }
     ensures seat { IsSeat table.now.rule.table.shared.table_id table.now.rule.plan seat.new }
     ensures hand { HasPart table.now.rule.plan _sock.now.id.0 _last.0 result seat.new.me }
+    ensures now { result.now.0 ≡ now.0 }
     ensures others { seat.new.me.0 ≡ record seat.old.me.0 { rights = seat.new.me.0.rights } }
 {
     let LinkInHand { link: number, home } = link;
@@ -130,6 +131,7 @@ pub fn go_past<O: Out>(
     requires may { HasLink table.now.rule.plan _sock.now.id.0 last.0 (Placed now.0) ((slot_of now.0, Empty) ∷ []) link seat.old.me × IsTicket table.now.rule.plan now.0 }
     ensures seat { IsSeat table.now.rule.table.shared.table_id table.now.rule.plan seat.new }
     ensures goes { GoesBy table.now.rule.plan _sock.now.id.0 last.0 result seat.new.me }
+    ensures last { now.0 ≡ last.0 → IsLast result }
     ensures others { seat.new.me.0 ≡ record seat.old.me.0 { rights = seat.new.me.0.rights } }
 {
     if now.word() == last.word() {
@@ -153,6 +155,7 @@ pub fn place<O: Out>(
     requires may { HasWhole table.now.rule.plan sock.now.id.0 last.0 hand seat.old.me }
     ensures seat { IsSeat table.now.rule.table.shared.table_id table.now.rule.plan seat.new }
     ensures goes { GoesBy table.now.rule.plan sock.now.id.0 last.0 result seat.new.me }
+    ensures last { hand.now.0 ≡ last.0 → IsLast result }
     ensures others { seat.new.me.0 ≡ record seat.old.me.0 { rights = seat.new.me.0.rights } }
 {
     let InHand {
@@ -196,26 +199,6 @@ pub fn leave<O: Out>(
         last,
         doing: Doing::Walks(number, Ticket::from_word(step.found)),
     })
-}
-
-/// The head is tried where nothing is left to write.
-pub fn leave_or_keep<O: Out>(
-    table: &SockTable<O>,
-    seat: &mut SockSeat<O>,
-    sock: SockRef,
-    last: Ticket,
-    doing: Doing<O>,
-) -> Once<O>
-    requires seat { IsSeat table.now.rule.table.shared.table_id table.now.rule.plan seat.old }
-    requires may { GoesBy table.now.rule.plan sock.id.0 last.0 doing seat.old.me }
-    ensures seat { IsSeat table.now.rule.table.shared.table_id table.now.rule.plan seat.new }
-    ensures once { OnceBy table.now.rule.plan sock result seat.new.me }
-    ensures others { seat.new.me.0 ≡ record seat.old.me.0 { rights = seat.new.me.0.rights } }
-{
-    match doing {
-        Doing::Last(link) => leave(table, seat, sock, last, link),
-        doing => Once::Keep(WriteRight { sock, last, doing }),
-    }
 }
 
 /// A8: whether the socket lives. Then the right is clean.
@@ -272,7 +255,7 @@ pub fn put_piece<O: Out>(
     requires seat { IsSeat table.now.rule.table.shared.table_id table.now.rule.plan seat.old }
     requires may { IsClean table.now.rule.plan sock.now.id.0 last.0 hand seat.old.me × (hand.bytes.left ≢ []) }
     ensures seat { IsSeat table.now.rule.table.shared.table_id table.now.rule.plan seat.new }
-    ensures tried { TriedBy table.now.rule.plan sock.now.id.0 last.0 result seat.new.me }
+    ensures tried { TriedBy table.now.rule.plan sock.now.id.0 last.0 hand.now.0 result seat.new.me }
     ensures wrote { Wrote O.state sock.now.id.0 seat.old.me.0 seat.new.me.0 }
 {
     let put = hand.put();
@@ -300,7 +283,7 @@ pub fn put_or_place<O: Out>(
     requires seat { IsSeat table.now.rule.table.shared.table_id table.now.rule.plan seat.old }
     requires may { IsClean table.now.rule.plan sock.now.id.0 last.0 hand seat.old.me }
     ensures seat { IsSeat table.now.rule.table.shared.table_id table.now.rule.plan seat.new }
-    ensures tried { TriedBy table.now.rule.plan sock.now.id.0 last.0 result seat.new.me }
+    ensures tried { TriedBy table.now.rule.plan sock.now.id.0 last.0 hand.now.0 result seat.new.me }
     ensures wrote { Wrote O.state sock.now.id.0 seat.old.me.0 seat.new.me.0 }
 {
     if hand.bytes.is_whole_taken() {
@@ -320,7 +303,7 @@ pub fn try_put<O: Out>(
     requires seat { IsSeat table.now.rule.table.shared.table_id table.now.rule.plan seat.old }
     requires may { HasPart table.now.rule.plan sock.now.id.0 last.0 hand seat.old.me }
     ensures seat { IsSeat table.now.rule.table.shared.table_id table.now.rule.plan seat.new }
-    ensures tried { TriedBy table.now.rule.plan sock.now.id.0 last.0 result seat.new.me }
+    ensures tried { TriedBy table.now.rule.plan sock.now.id.0 last.0 hand.now.0 result seat.new.me }
     ensures wrote { Wrote O.state sock.now.id.0 seat.old.me.0 seat.new.me.0 }
 {
     if look(table, seat, sock, last, &hand) {
@@ -340,6 +323,7 @@ pub fn take_up<O: Out>(
     requires may { (link : ℕ) × Stands table.now.rule.plan sock.now.id.0 last.0 (Writes last.0) link seat.old.me }
     ensures seat { IsSeat table.now.rule.table.shared.table_id table.now.rule.plan seat.new }
     ensures hand { HasPart table.now.rule.plan sock.now.id.0 last.0 result seat.new.me }
+    ensures now { result.now.0 ≡ last.0 }
     ensures wrote { Wrote O.state sock.now.id.0 seat.old.me.0 seat.new.me.0 }
 {
     let slot = slot_at(table, sock);
@@ -348,6 +332,27 @@ pub fn take_up<O: Out>(
     prove!(found < links as u64);
     let link = fetch_link(table, seat, sock, found as u16);
     take_next(table, seat, sock, last, link, last)
+}
+
+/// The head is tried once nothing is left to write.
+pub fn leave_last<O: Out>(
+    table: &SockTable<O>,
+    seat: &mut SockSeat<O>,
+    sock: SockRef,
+    last: Ticket,
+    doing: Doing<O>,
+) -> Once<O>
+    requires seat { IsSeat table.now.rule.table.shared.table_id table.now.rule.plan seat.old }
+    requires may { GoesBy table.now.rule.plan sock.id.0 last.0 doing seat.old.me }
+    requires last { IsLast doing }
+    ensures seat { IsSeat table.now.rule.table.shared.table_id table.now.rule.plan seat.new }
+    ensures once { OnceBy table.now.rule.plan sock result seat.new.me }
+    ensures others { seat.new.me.0 ≡ record seat.old.me.0 { rights = seat.new.me.0.rights } }
+{
+    let Doing::Last(link) = doing else {
+        unreachable!();
+    };
+    leave(table, seat, sock, last, link)
 }
 
 /// One put of the message that `start` accepted, of whoever has the right. Done exactly where the link took it whole and the
@@ -377,7 +382,7 @@ pub fn write_once<O: Out>(
         }),
         Tried::Whole(hand) => {
             let doing = place(table, seat, &sock, last, hand);
-            leave_or_keep(table, seat, sock, last, doing)
+            leave_last(table, seat, sock, last, doing)
         }
         Tried::Goes(doing) => Once::Keep(WriteRight { sock, last, doing }),
     }

@@ -31,3 +31,9 @@ pub returns-clause-others : goal.returns-clause-others
 returns-clause-others g c = let h = c.requires.may.0 in let read = c.read_on-found.ensures.view h.right_is h.writer.one in let on = passes_by c.args.now.0 c.read_on-found.result c.args.link c.args.seat.now.me c.read_on-found.new.seat.me h read.0 in
     rights_then c.args.seat.now.me.0 c.read_on-found.new.seat.me.0 c.give_request_back-2.new.seat.me.0 (rights_only c.args.seat.now.me.0 c.read_on-found.new.seat.me.0 _ (ap (λ m. m.0) read.0))
     (rights_only c.read_on-found.new.seat.me.0 c.give_request_back-2.new.seat.me.0 _ (ap (λ m. m.0) (c.give_request_back-2.ensures.view on.right_is on.writer.one)))
+
+pub returns-then-word-clause-last : goal.returns-then-word-clause-last
+returns-then-word-clause-last g c = λ e. tt
+
+pub returns-clause-last : goal.returns-clause-last
+returns-clause-last g c = λ e. absurd (c.if-word.false (c.word.ensures ∙ (e ∙ sym c.word-2.ensures)))

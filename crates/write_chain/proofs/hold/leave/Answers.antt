@@ -45,6 +45,7 @@ returns-clause-once g c = let h = c.requires.may in let s = link_home c.args.lin
       refl,
       subst (λ (y : ℕ). Stands c.args.table.now.rule.plan c.args.sock.id.0 c.args.last.0 (Walks y y 0) c.args.link.link c.empty_head-step.new.seat.me × IsTicket c.args.table.now.rule.plan y) (sym c.from_word.ensures)
           (walks_from c.empty_head-step.result.found c.put_own_link.new.seat.me c.empty_head-step.new.seat.me s lost.0, subst (λ (q : Plan). IsTicket q c.empty_head-step.result.found) c.put_own_link.ensures.seat.1 lost.1),
+      tt,
     )
 
 pub returns-clause-others : goal.returns-clause-others

@@ -4,7 +4,7 @@ use Rattle.write_chain.proofs.Looking.{is_none, is_some}
 use Rattle.write_chain.proofs.hold.put_or_place.Goals as goal
 
 pub returns-then-is_whole_taken-clause-tried : goal.returns-then-is_whole_taken-clause-tried
-returns-then-is_whole_taken-clause-tried g c = (c.requires.may.0, c.requires.may.1, is_none c.args.hand.bytes.left c.is_whole_taken.result c.is_whole_taken.ensures c.if-is_whole_taken.true)
+returns-then-is_whole_taken-clause-tried g c = ((c.requires.may.0, c.requires.may.1, is_none c.args.hand.bytes.left c.is_whole_taken.result c.is_whole_taken.ensures c.if-is_whole_taken.true), refl)
 
 pub returns-then-is_whole_taken-clause-wrote : goal.returns-then-is_whole_taken-clause-wrote
 returns-then-is_whole_taken-clause-wrote g c = wrote_rights c.args.seat.now.me.0 c.args.seat.now.me.0 refl

@@ -4,7 +4,7 @@ pub returns-in-Done-clause-went : goal.returns-in-Done-clause-went
 returns-in-Done-clause-went g c = c.in-Done.ensures.once
 
 pub returns-in-Keep-clause-went : goal.returns-in-Keep-clause-went
-returns-in-Keep-clause-went g c = c.in-Keep.ensures.once
+returns-in-Keep-clause-went g c = (c.in-Keep.ensures.once.0, c.in-Keep.ensures.once.1)
 
 pub returns-in-Done-clause-others : goal.returns-in-Done-clause-others
 returns-in-Done-clause-others g c = c.leave.ensures.others
