@@ -1,5 +1,5 @@
 ghost use Rattle.std.specs.Prelude.{◌≡◌};
-ghost use Rattle.sock_io.specs.Writing.{WrotePart};
+ghost use Rattle.brpc_eng.specs.Answers.{Wrote};
 ghost use Rattle.brpc_main.specs.Reasons.{reason_text};
 
 use sock_io::{Sink, write_all};
@@ -18,9 +18,9 @@ fn reason(status: u8) -> &'static [u8]
     }
 }
 
-/// Writes that line. Where it can't be written, nothing more is done about it.
+/// Writes that line: whole, or a beginning of it where the count of faults rose.
 pub fn explain<E: Sink>(errors: &mut E, status: u8)
-    ensures { WrotePart (E.contents errors.old) (E.contents errors.new) (reason_text status) }
+    ensures { Wrote (record { before = E.contents errors.old; now = E.contents errors.new; faults = record { before = E.faults errors.old; now = E.faults errors.new } }) (reason_text status) }
 {
     let _ = write_all(errors, reason(status));
 }

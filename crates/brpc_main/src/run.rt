@@ -1,8 +1,7 @@
 ghost use Rattle.std.specs.Prelude.{◌≡◌, ◌⊎◌, [], IfOk, drop};
 ghost use Rattle.std.specs.Process.{exit_status};
 ghost use Rattle.std.specs.Vec.Iter.{into_iter_items};
-ghost use Rattle.brpc_eng.specs.Answers.{Answers};
-ghost use Rattle.sock_io.specs.Writing.{WrotePart};
+ghost use Rattle.brpc_eng.specs.Answers.{Answers, Wrote};
 ghost use Rattle.brpc_main.specs.Reasons.{reason_text};
 ghost use Rattle.brpc_main.specs.Words.{arguments, words_behind};
 
@@ -39,7 +38,7 @@ pub fn run_with<R, S: Source, K: Sink, L: Linker, G: Gate, E: Sink>(
         (record { prompt = L.prompt links.old; asked = L.asked links.new; ends = L.back links.new; faults = record { before = L.faults links.old; now = L.faults links.new } })
         (exit_status result)
         ⊎ ((exit_status result ≡ 7) × (source.new ≡ source.old) × (out.new ≡ out.old) × (links.new ≡ links.old)) }
-    ensures explained { WrotePart (E.contents errors.old) (E.contents errors.new) (reason_text (exit_status result)) }
+    ensures explained { Wrote (record { before = E.contents errors.old; now = E.contents errors.new; faults = record { before = E.faults errors.old; now = E.faults errors.new } }) (reason_text (exit_status result)) }
 {
     let status = answer(rt, alloc, args, source, out, links, gate);
     explain(errors, status);
