@@ -1,8 +1,9 @@
 //! What `main` does: it hands the words behind the program's name to the top call, over the standard streams, and ends with the
-//! number that the call answers.
+//! number that the call answers, and says why on the standard error where the output doesn't.
 #![tactic(auto)]
 
 mod outside;
+mod reasons;
 mod run;
 
 pub use outside::run_program;

@@ -8,6 +8,7 @@ pub fn run_program(rt: &HostRuntime) -> ExitCode {
     let mut source = StdSource::new(rt.reader());
     let mut out = StdSink::new(io::writer(rt));
     let mut links = SinkLinker::new(rt.alloc(), Vec::new(rt.alloc()), 0);
+    let stderr = rt.stderr();
     run_with(
         rt,
         rt.alloc(),
@@ -16,5 +17,6 @@ pub fn run_program(rt: &HostRuntime) -> ExitCode {
         &mut out,
         &mut links,
         &OpenGate,
+        &mut StdSink::new(io::writer(&stderr)),
     )
 }

@@ -1,9 +1,11 @@
 ghost use Rattle.std.specs.Prelude.{◌≡◌, ◌⊎◌, [], IfOk, drop};
 ghost use Rattle.std.specs.Process.{exit_status};
 ghost use Rattle.std.specs.Vec.Iter.{into_iter_items};
-ghost use Rattle.brpc_eng.specs.Answers.{Answers};
+ghost use Rattle.brpc_eng.specs.Answers.{Answers, Wrote};
+ghost use Rattle.brpc_main.specs.Reasons.{reason_text};
 ghost use Rattle.brpc_main.specs.Words.{arguments, words_behind};
 
+use crate::reasons::explain;
 use brpc_eng::brpc;
 use sock_io::{Gate, Linker, Sink, Source};
 use std::alloc::{AllocError, Global};
@@ -16,8 +18,9 @@ const NO_MEMORY: u8 = 7;
 
 /// Hands the arguments behind the first, which is the program's name, to the top call as its words, byte for byte, and ends
 /// with the number that it answers. Arguments that can't be had as text are no words. Where memory runs out for the list of
-/// words it ends with 7, and nothing is read, written or opened.
-pub fn run_with<R, S: Source, K: Sink, L: Linker, G: Gate>(
+/// words it ends with 7, and nothing is read, written or opened. Why it ends with a number that the output doesn't explain
+/// is written to `errors`, in one line.
+pub fn run_with<R, S: Source, K: Sink, L: Linker, G: Gate, E: Sink>(
     rt: &R,
     alloc: Global,
     args: io::Result<Args>,
@@ -25,19 +28,45 @@ pub fn run_with<R, S: Source, K: Sink, L: Linker, G: Gate>(
     out: &mut K,
     links: &mut L,
     gate: &G,
+    errors: &mut E,
 ) -> ExitCode
+    requires asked { L.asked links.old ≡ [] }
+    requires back { L.back links.old ≡ [] }
+    ensures answers { Answers (words_behind args)
+        (record { given = S.left source.old; left = S.left source.new; faults = record { before = S.faults source.old; now = S.faults source.new } })
+        (record { before = K.contents out.old; now = K.contents out.new; faults = record { before = K.faults out.old; now = K.faults out.new } })
+        (record { prompt = L.prompt links.old; asked = L.asked links.new; ends = L.back links.new; faults = record { before = L.faults links.old; now = L.faults links.new } })
+        (exit_status result)
+        ⊎ ((exit_status result ≡ 7) × (source.new ≡ source.old) × (out.new ≡ out.old) × (links.new ≡ links.old)) }
+    ensures explained { Wrote (record { before = E.contents errors.old; now = E.contents errors.new; faults = record { before = E.faults errors.old; now = E.faults errors.new } }) (reason_text (exit_status result)) }
+{
+    let status = answer(rt, alloc, args, source, out, links, gate);
+    explain(errors, status);
+    ExitCode::from(status)
+}
+
+/// The number that the top call answers to the arguments.
+fn answer<R, S: Source, K: Sink, L: Linker, G: Gate>(
+    rt: &R,
+    alloc: Global,
+    args: io::Result<Args>,
+    source: &mut S,
+    out: &mut K,
+    links: &mut L,
+    gate: &G,
+) -> u8
     requires asked { L.asked links.old ≡ [] }
     requires back { L.back links.old ≡ [] }
     ensures { Answers (words_behind args)
         (record { given = S.left source.old; left = S.left source.new; faults = record { before = S.faults source.old; now = S.faults source.new } })
         (record { before = K.contents out.old; now = K.contents out.new; faults = record { before = K.faults out.old; now = K.faults out.new } })
         (record { prompt = L.prompt links.old; asked = L.asked links.new; ends = L.back links.new; faults = record { before = L.faults links.old; now = L.faults links.new } })
-        (exit_status result)
-        ⊎ ((exit_status result ≡ 7) × (source.new ≡ source.old) × (out.new ≡ out.old) × (links.new ≡ links.old)) }
+        result
+        ⊎ ((result ≡ 7) × (source.new ≡ source.old) × (out.new ≡ out.old) × (links.new ≡ links.old)) }
 {
     match all_of(alloc, args) {
-        Ok(args) => ExitCode::from(brpc(rt, alloc, behind_first(&args), source, out, links, gate)),
-        Err(_) => ExitCode::from(NO_MEMORY),
+        Ok(args) => brpc(rt, alloc, behind_first(&args), source, out, links, gate),
+        Err(_) => NO_MEMORY,
     }
 }
 

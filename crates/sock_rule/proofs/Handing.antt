@@ -14,7 +14,7 @@ use Rattle.sock_rule.specs.declared.homes.Letter.{Letter}
 use Rattle.sock_model.specs.declared.chain.Heading.{Heading}
 use Rattle.sock_model.specs.declared.chain.Right.{Right}
 use Rattle.sock_model.specs.Entries.{slot_of}
-use Rattle.sock_model.specs.ChainRows.{with_right, taken_right}
+use Rattle.sock_model.specs.ChainRows.{with_right, taken_right, dropped_right}
 use Rattle.sock_rule.specs.ChainPlays.{TookOwn, TookLetter}
 use Rattle.sock_rule.specs.Shows.{shows, heading_of}
 use Rattle.sock_rule.specs.Plays.{TookLink}
@@ -144,3 +144,31 @@ module _ {O : Type 0} {g : Ghosts O} (m n : Me (SockHome O g) View) (r : Right) 
     pub letter_after : slot ≡ slot_of now → (new : Me (SockHome O g) View) → new ≡ (n.0, (slot, Empty) ∷ rest n.1) → new ≡ (with_right m.0 (taken_right r (heading_of h) h.bytes), (slot_of now, Empty) ∷ m.1)
     letter_after at new e = let below : rest n.1 ≡ m.1 = ap rest t.slots in let l = ap (letter_heading (heading_of h)) letter_shown in let b = ap letter_bytes letter_shown in
         e ∙ ((λ i. (t.view i, (at i, Empty) ∷ below i)) ∙ (λ i. (with_right m.0 (taken_right r (sym l i) (sym b i)), (slot_of now, Empty) ∷ m.1)))
+
+-- ## A link that lay in a home for a while
+
+abbrev link_or : {O : Type 0} {g : Ghosts O} → LinkHome O g → SockHome O g → LinkHome O g
+link_or d (Link h) = h
+link_or d Empty = d
+link_or d (Message m) = d
+
+module _ {O : Type 0} {g : Ghosts O} (l : List (ℕ × SockHome O g)) (slot : ℕ) (home : LinkHome O g) (x : SockHome O g) (below : List (ℕ × SockHome O g)) (there : l ≡ (slot, Link home) ∷ below) (moved : l ≡ (slot, x) ∷ rest l) where
+  pub comes_back : Link home ≡ x
+  comes_back = ap (top (Link home)) (sym there ∙ moved)
+
+  pub same_link : (back : LinkHome O g) → x ≡ Link back → back ≡ home
+  same_link back is = ap (link_or home) (sym is ∙ sym comes_back)
+
+-- it is laid into the home of a request, from which the message was taken, for the one step that drops the message
+module _ {O : Type 0} {g : Ghosts O} (m₀ m₁ : Me (SockHome O g) View) (slot now : ℕ) (home : LinkHome O g) (at : slot ≡ slot_of now) (there : m₀.1 ≡ (slot_of now, Empty) ∷ rest m₀.1) (laid : m₁ ≡ (m₀.0, (slot, Link home) ∷ rest m₀.1)) where
+  pub laid_top : m₁.1 ≡ (slot, Link home) ∷ rest m₁.1
+  laid_top = let t = ap (λ (m : Me (SockHome O g) View). m.1) laid in t ∙ ap (λ (l : List (ℕ × SockHome O g)). (slot, Link home) ∷ l) (sym (ap rest t))
+
+  module _ (m₂ : Me (SockHome O g) View) (x : Right) (n : ℕ) (told : m₂ ≡ (with_right m₁.0 (dropped_right x n home.took.list), m₁.1)) where
+    pub laid_still : m₂.1 ≡ (slot, Link home) ∷ rest m₂.1
+    laid_still = let t = ap (λ (m : Me (SockHome O g) View). m.1) told in t ∙ (laid_top ∙ ap (λ (l : List (ℕ × SockHome O g)). (slot, Link home) ∷ rest l) (sym t))
+
+    pub dropped_after : (m₃ : Me (SockHome O g) View) → m₃ ≡ (m₂.0, (slot, Empty) ∷ rest m₂.1) → m₃ ≡ (with_right m₀.0 (dropped_right x n home.took.list), m₀.1)
+    dropped_after m₃ e = let v : m₂.0 ≡ with_right m₀.0 (dropped_right x n home.took.list) = ap (λ (m : Me (SockHome O g) View). m.0) told ∙ ap (λ (m : Me (SockHome O g) View). with_right m.0 (dropped_right x n home.took.list)) laid in
+        let below : rest m₂.1 ≡ rest m₀.1 = ap (λ (m : Me (SockHome O g) View). rest m.1) told ∙ ap (λ (m : Me (SockHome O g) View). rest m.1) laid in
+        e ∙ ((λ i. (v i, (at i, Empty) ∷ below i)) ∙ (λ i. (with_right m₀.0 (dropped_right x n home.took.list), sym there i)))

@@ -35,19 +35,20 @@ use Rattle.sock_steps.proofs.Places.{own_count, holder_lives}
 use Rattle.sock_steps.proofs.RightSteps.{right_in, right_alone}
 use Rattle.sock_steps.proofs.LinkSteps.{link_goes_law, link_comes_law, link_home_law, clean_look_law}
 use Rattle.sock_steps.proofs.WalkSteps.{passing_law, reading_law, walking_law}
-use Rattle.sock_steps.proofs.WriteSteps.{taking_law, placing_law, dropping_law, freeing_law}
+use Rattle.sock_steps.proofs.WriteSteps.{taking_law, placing_law, dropping_law, freeing_law, retiring_law}
 use Rattle.sock_steps.proofs.SlotSteps.{idle_law}
 use Rattle.sock_steps.proofs.RuleFrame.{word_rule}
 use Rattle.sock_steps.proofs.RuleSteps.{look_rule, load_rule}
 use Rattle.sock_steps.proofs.RuleChains.{right_rule, place_rule, emptied_rule, turning_rule}
 use Rattle.sock_rule.specs.OnTable.{OnTable}
+use Rattle.sock_rule.specs.Holding.{Part}
 use Rattle.sock_rule.specs.ChainPlays.{IsTicket, TookLetter, TookOwn, took_in, clean_told, take_own_told, put_own_told, take_letter_told, place_told, drop_told, read_next_told, free_request_told, empty_told, turn_told}
 use Rattle.sock_rule.proofs.Allowed.{word_fits}
 use Rattle.sock_rule.proofs.Beside.{SameShare, beside}
 use Rattle.sock_rule.proofs.Moving.{loaded}
 use Rattle.sock_rule.proofs.Chaining.{first_is}
-use Rattle.sock_rule.proofs.Settling.{slot_settled, high_settled, home_settled, home_taken_settled, back_settled}
-use Rattle.sock_rule.proofs.Reached.{writes_taken, passes_ticket, walk_ticket, turns_ticket, free_home_law, hand_label, next_few}
+use Rattle.sock_rule.proofs.Settling.{slot_settled, high_settled, home_settled, home_taken_settled, back_settled, home_back_settled}
+use Rattle.sock_rule.proofs.Reached.{writes_taken, passes_ticket, walk_ticket, turns_ticket, free_home_law, spent_home_law, hand_label, next_few}
 
 pub the_right : (l : List Right) (a b : Right) → l ≡ a ∷ [] → l ≡ b ∷ [] → a ≡ b
 the_right l a b e f = let h : a ∷ [] ≡ b ∷ [] = sym e ∙ f in cc
@@ -68,10 +69,6 @@ one_right v r r' one same = ap (λ (l : List Right). r' ∷ l) (ap (filter (λ (
 leads_freed : (last now : ℕ) (a b : Stage) → Leads last a now b → freed_stage a ≡ b
 leads_freed last now a b (to_end _ e) = refl
 leads_freed last now a b (to_next _ next) = refl
-
--- what a link took of a message that is dropped is a part of it at most
-abbrev pub Part : Right → List ℕ → Type 0
-Part q n = (n ≡ q.sent) ⊎ ((q.clean ≡ true) × (part : List ℕ) × (rest : List ℕ) × (n ≡ q.sent ++ part) × (q.bytes ≡ part ++ rest) × (rest ≢ []))
 
 module _ {S : Type 0} (shows : S → Home) (p : Plan) (slots id : ℕ) (me : Me S View) (mine : me.0.plan ≡ p) (some_ : 0 < me.0.share) (r : Right) (one : me.0.rights ≡ r ∷ []) where
   abbrev v : View
@@ -267,6 +264,24 @@ module _ {S : Type 0} (shows : S → Home) (p : Plan) (slots id : ℕ) (me : Me 
         subst (λ (l : List (ℕ × S)). OnTable shows p record { words = set s.words (request_word p (slot_of now)) (2 * (generation_of now + 1)); homes = put_back s.homes l; views = set s.views id (with_right v (record r { stage = b })) }) (sym top)
             (beside t id v w here some_ (set s.words x n) hs (length-set s.homes (slot_of now) (some y)) (quiet r') (back_settled t.settled (slot_of now) n y (omega (arith, t.housed)))
             (word_rule t.rule id v here mine w x n hs record { plan = refl; found = refl; lists = refl } (λ l z. absurd (omega arith)) law')),
+        λ q e. let same = its q e in let st = leads_freed r.last now r.stage b leads in (λ u. (with_right v (record r { stage = sym st u }), rest me.1)) ∙ (λ u. (with_right v (freed_right (same u)), rest me.1)),
+      )
+
+  -- C8 of the last generation: the request stays taken, and a load gives its home back
+  pub retires : (x now : ℕ) (b : Stage) (y : S) (below : List (ℕ × S)) → Leads r.last r.stage now b → generation_of now ≡ 140737488355327 → me.1 ≡ (slot_of now, y) ∷ below
+      → Allows (OnTable shows p) slots id me x (λ n. n) (free_request_told (step slots x 0 0 none) me)
+  retires x now b y below leads last_one top s t long here fits = let o = t.rule.lawful in let kl = right_in o id 0 v r here has_one.has in let alone = right_alone o id 0 v r here has_one.has in
+      let low : slot_of now < p.requests = now_slot o.chains r.link r kl alone o.fits.narrow now b leads in
+      let r' : Right = record r { stage = b } in let w : View = with_right v r' in let hs : List (Option S) = set s.homes (slot_of now) (some y) in
+      let homed = spent_home_law o id v here r one now b (some y) leads in
+      let law = retiring_law shows p id 0 now b v r record { words = s.words; homes = set s.homes (slot_of now) (some y); views = set s.views id v } homed (set_at s.views id v (at_length s.views id v here)) has_one.has leads last_one in
+      let law' = subst (λ vs. Lawful shows p record { words = s.words; homes = set s.homes (slot_of now) (some y); views = vs }) (set_twice s.views id v w) law in (
+        with_right v (record r { stage = b }),
+        gives_back,
+        tt,
+        subst (λ (l : List (ℕ × S)). OnTable shows p record { words = set s.words x (get_or s.words x 0); homes = put_back s.homes l; views = set s.views id (with_right v (record r { stage = b })) }) (sym top)
+            (loaded s x id w hs (beside t id v w here some_ s.words hs (length-set s.homes (slot_of now) (some y)) (quiet r') (home_back_settled t.settled (slot_of now) y (omega (arith, t.housed)))
+            (right_rule t.rule id v here mine r' hs law'))),
         λ q e. let same = its q e in let st = leads_freed r.last now r.stage b leads in (λ u. (with_right v (record r { stage = sym st u }), rest me.1)) ∙ (λ u. (with_right v (freed_right (same u)), rest me.1)),
       )
 

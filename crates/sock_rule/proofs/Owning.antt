@@ -1,5 +1,5 @@
 -- The steps of whoever writes a link, by the plan that a table keeps beside its key.
-use Rattle.std.proofs.Common.{◌≡◌, ℕ, ◌+◌, ◌*◌, ◌%◌, ◌<◌, false, List, [], ◌∷◌, eqb, sym, ap, ◌∙◌, subst, refl}
+use Rattle.std.proofs.Common.{◌≡◌, ℕ, ◌+◌, ◌*◌, ◌%◌, ◌<◌, true, false, List, [], ◌∷◌, eqb, sym, ap, ◌∙◌, subst, refl}
 use mathlib.Core.Logic.{dite}
 use mathlib.Core.Option.{none}
 use native.Mathlib.Decide.{ℕ_discrete}
@@ -21,9 +21,9 @@ use Rattle.sock_model.specs.Slots.{version_of}
 use Rattle.chain_laws.proofs.Frees.{Leads, to_end, to_next}
 use Rattle.sock_rule.specs.OnTable.{OnTable}
 use Rattle.sock_rule.specs.Seated.{IsSeat}
-use Rattle.sock_rule.specs.Holding.{MayLookToWrite, LookedToWrite, MayStorePlace, Follows, ends, goes_on, MayFreeRequest, MayEmptyHead, Emptied, MayReadOn, MayReadBack, ReadBack, MayTurnNext}
-use Rattle.sock_rule.specs.ChainPlays.{clean_told, place_told, free_request_told, put_own_told, empty_told, read_next_told, turn_told}
-use Rattle.sock_rule.proofs.Holding.{looks_clean, places, frees, puts_own, empties, reads_on, reads_back, turns}
+use Rattle.sock_rule.specs.Holding.{MayLookToWrite, LookedToWrite, MayStorePlace, MayDropPlace, Follows, ends, goes_on, MayFreeRequest, MayEmptyHead, Emptied, MayReadOn, MayReadBack, ReadBack, MayTurnNext}
+use Rattle.sock_rule.specs.ChainPlays.{took_in, clean_told, place_told, drop_told, free_request_told, put_own_told, empty_told, read_next_told, turn_told}
+use Rattle.sock_rule.proofs.Holding.{looks_clean, places, drops, frees, retires, puts_own, empties, reads_on, reads_back, turns}
 use Rattle.sock_rule.proofs.Seating.{still_seat}
 
 leads_by : (last now : ℕ) (a b : Stage) → Follows last a now b → Leads last a now b
@@ -43,11 +43,23 @@ module _ {S : Type 0} (shows : S → Home) (q p : Plan) (slots id : ℕ) (me : M
       (subst (λ (z : Plan). Allows (OnTable shows z) slots id me (place_word p m.right.heading.place) (λ _. place_value false m.right.link m.right.places) (λ _. place_told (step slots (place_word p m.right.heading.place) (place_value false m.right.link m.right.places) 0 none) me (place_value false m.right.link m.right.places))) (sym key)
       (places shows p slots id me mine some_ m.right m.one m.now m.stage m.taken m.clean m.away (subst (λ (x : ℕ). x < 8 * p.operations) (sym m.place_is) m.place_in))))
 
-  pub frees_on : (now word value : ℕ) → word ≡ request_word p (slot_of now) → value ≡ 2 * (generation_of now + 1) → MayFreeRequest now me → Allows (OnTable shows q) slots id me word (λ _. value) (λ _. free_request_told (step slots word value 0 none) me value)
-  frees_on now word value e v m = subst (λ (y : ℕ). Allows (OnTable shows q) slots id me word (λ _. y) (λ _. free_request_told (step slots word y 0 none) me y)) (sym v)
+  pub frees_on : (now word value : ℕ) → word ≡ request_word p (slot_of now) → value ≡ 2 * (generation_of now + 1) → generation_of now < 140737488355327 → MayFreeRequest now me → Allows (OnTable shows q) slots id me word (λ _. value) (λ _. free_request_told (step slots word value 0 none) me value)
+  frees_on now word value e v small m = subst (λ (y : ℕ). Allows (OnTable shows q) slots id me word (λ _. y) (λ _. free_request_told (step slots word y 0 none) me y)) (sym v)
       (subst (λ (x : ℕ). Allows (OnTable shows q) slots id me x (λ _. 2 * (generation_of now + 1)) (λ _. free_request_told (step slots x (2 * (generation_of now + 1)) 0 none) me (2 * (generation_of now + 1)))) (sym e)
       (subst (λ (z : Plan). Allows (OnTable shows z) slots id me (request_word p (slot_of now)) (λ _. 2 * (generation_of now + 1)) (λ _. free_request_told (step slots (request_word p (slot_of now)) (2 * (generation_of now + 1)) 0 none) me (2 * (generation_of now + 1)))) (sym key)
-      (frees shows p slots id me mine some_ m.right m.one now m.next m.value (rest me.1) (leads_by m.right.last now m.right.stage m.next m.follows) m.small m.home)))
+      (frees shows p slots id me mine some_ m.right m.one now m.next m.value (rest me.1) (leads_by m.right.last now m.right.stage m.next m.follows) small m.home)))
+
+  pub retires_on : (now word : ℕ) → generation_of now ≡ 140737488355327 → MayFreeRequest now me → Allows (OnTable shows q) slots id me word (λ n. n) (free_request_told (step slots word 0 0 none) me)
+  retires_on now word last_one m = subst (λ (z : Plan). Allows (OnTable shows z) slots id me word (λ n. n) (free_request_told (step slots word 0 0 none) me)) (sym key)
+      (retires shows p slots id me mine some_ m.right m.one word now m.next m.value (rest me.1) (leads_by m.right.last now m.right.stage m.next m.follows) last_one m.home)
+
+  pub drops_on : (l k n word value : ℕ) (y : ℕ × S) → word ≡ place_word p l → value ≡ place_value true k n → MayDropPlace p l k n (took_in (shows y.1)) me.0 → me.1 ≡ y ∷ rest me.1 → Allows (OnTable shows q) slots id me word (λ _. value) (λ _. drop_told shows (step slots word value 0 none) me value)
+  drops_on l k n word value y e v m top = let r = m.right in
+      let same_word : place_word p m.right.heading.place ≡ word = ap (place_word p) m.place_is ∙ sym e in let same_value : place_value true m.right.link m.right.places ≡ value = (λ i. place_value true (m.link_is i) (m.places_are i)) ∙ sym v in
+      subst (λ (x : ℕ). Allows (OnTable shows q) slots id me word (λ _. x) (λ _. drop_told shows (step slots word x 0 none) me x)) same_value
+      (subst (λ (x : ℕ). Allows (OnTable shows q) slots id me x (λ _. place_value true m.right.link m.right.places) (λ _. drop_told shows (step slots x (place_value true m.right.link m.right.places) 0 none) me (place_value true m.right.link m.right.places))) same_word
+      (subst (λ (z : Plan). Allows (OnTable shows z) slots id me (place_word p m.right.heading.place) (λ _. place_value true m.right.link m.right.places) (λ _. drop_told shows (step slots (place_word p m.right.heading.place) (place_value true m.right.link m.right.places) 0 none) me (place_value true m.right.link m.right.places))) (sym key)
+      (drops shows p slots id me mine some_ m.right m.one m.now m.slot m.life y m.stage m.taken m.away (subst (λ (x : ℕ). x < 8 * p.operations) (sym m.place_is) m.place_in) m.part top m.holds m.seen)))
 
   pub puts_on : (r : Right) (word k : ℕ) (y : S) (below : List (ℕ × S)) → me.0.rights ≡ r ∷ [] → r.link ≡ k → me.1 ≡ (p.requests + k, y) ∷ below → shows y ≡ home.Link k r.sent r.places false → Allows (OnTable shows q) slots id me word (λ n. n) (put_own_told (step slots word 0 0 none) me)
   puts_on r word k y below one is top shown = subst (λ (z : Plan). Allows (OnTable shows z) slots id me word (λ n. n) (put_own_told (step slots word 0 0 none) me)) (sym key)

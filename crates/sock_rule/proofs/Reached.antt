@@ -22,7 +22,8 @@ use Rattle.sock_model.specs.Tokens.{Tokens}
 use Rattle.sock_model.specs.Writing.{Counts, Held, InStage, OnWalk, Standing, absent, idle, busy}
 use Rattle.sock_model.specs.Lawful.{Lawful}
 use Rattle.chain_laws.proofs.Lists.{at_some, at_length, ticket_at_is}
-use Rattle.chain_laws.proofs.Frames.{in_size, chains_frame}
+use Rattle.chain_laws.proofs.Frames.{in_size, live_same, chains_frame}
+use Rattle.chain_laws.proofs.Frees.{Leads, to_end, to_next}
 use Rattle.chain_laws.proofs.Gather.{gather_same}
 use Rattle.chain_laws.proofs.Claims.{free_of}
 use Rattle.chain_laws.proofs.Heads.{held_of, slot_is}
@@ -43,6 +44,11 @@ freed_placed m t c n freed places (Passes now next) st = let a = st.1 in omega a
 freed_placed m t c n freed places Empties st = let a = st.1 in omega arith
 freed_placed m t c n freed places (Walks top at after) st = let a = st.all_freed.1 in omega arith
 freed_placed m t c n freed places (Turns top at after before) st = let a = st.0.all_freed.1 in omega arith
+
+-- the entry that has its place, and whose request isn't given back yet
+placed_at : (m : Memory) (t : Tokens) (c : List Entry) (n : Counts) (freed places last now : ℕ) (a b : Stage) → Leads last a now b → InStage m t c n freed places a → (places ≡ suc freed) × (freed < n.noted) × (nth c (suc freed) ≡ now)
+placed_at m t c n freed places last now a b (to_end x e) st = (st.1, st.2, st.3)
+placed_at m t c n freed places last now a b (to_next x y) st = (st.1, (let k = st.2 in omega arith), st.3)
 
 standing_placed : (m : Memory) (t : Tokens) (k : ℕ) (c : List Entry) (freed places : ℕ) → Standing m t k c freed places → freed ≤ places
 standing_placed m t k c freed places (absent h r f e) = omega arith
@@ -135,6 +141,17 @@ module _ {S : Type 0} {shows : S → Home} {p : Plan} {s : State S View} (o : La
       → Lawful shows p record { words = s.words; homes = set s.homes r z; views = set s.views id v }
   free_home_law id v here r z rl even = let f = free_of o.chains r (get_or s.words (request_word p r) 0 / 2) (o.chains.in_use r rl) (omega arith) in
       home_law id v here r z f.unclaimed (λ k i e late g q. (let l = (o.chains.live k i e (freed_first k i e g late) g).0 in let w = ap (memory p o.slot s.words).request q in omega arith)) rl
+
+  -- as that of the entry that has its place, whose request isn't given back yet
+  pub spent_home_law : (id : ℕ) (v : View) (at : get_elem? s.views id ≡ some v) (r : Right) (one : v.rights ≡ r ∷ []) (now : ℕ) (b : Stage) (z : Option S) → Leads r.last r.stage now b
+      → Lawful shows p record { words = s.words; homes = set s.homes (slot_of now) z; views = set s.views id v }
+  spent_home_law id v at r one now b z leads = let h = held id v at r one in let f = h.fits in let st = placed_at (memory p o.slot s.words) (tokens s.views) (on r.link o.log) h.counts (o.freed r.link) (o.places r.link) r.last now r.stage b leads h.stage_is in
+      let e = at_some (on r.link o.log) (o.freed r.link) (omega (arith, f.1, f.2, f.3, st.1)) in let size = in_size o.chains r.link (o.freed r.link) e.0 e.1 in let narrow = o.fits.narrow in let y = size.1 in let small : e.0.request < 65535 = omega arith in
+      let tick : ticket e.0 ≡ now = sym (ticket_at_is (on r.link o.log) (o.freed r.link) e.0 e.1) ∙ st.2 in
+      let slot : slot_of now ≡ e.0.request = ap slot_of (sym tick) ∙ slot_is e.0 small in
+      let live = o.chains.live r.link (o.freed r.link) e.0 (omega arith) e.1 in
+      home_law id v at (slot_of now) z (ap (tokens s.views).claims slot ∙ live.1)
+      (λ k i d late g same. let q = live_same o.chains k i d r.link (o.freed r.link) e.0 (freed_first k i d g late) g (omega arith) e.1 (same ∙ slot) in let w = ap o.places q.0 in let n = q.1 in let m = st.0 in omega arith) (omega arith)
 
   -- ## Labels
 

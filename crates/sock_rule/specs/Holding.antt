@@ -1,5 +1,5 @@
 -- What the calls of whoever writes a link want and leave. The seat has one right.
-use Rattle.std.specs.Prelude.{◌≡◌, ◌≢◌, ℕ, ◌*◌, ◌%◌, ◌<◌, true, false, [], ◌∷◌}
+use Rattle.std.specs.Prelude.{◌≡◌, ◌≢◌, ℕ, ◌+◌, ◌*◌, ◌%◌, ◌<◌, ◌⊎◌, true, false, List, [], ◌∷◌, ◌++◌}
 use Rattle.atomic_table.specs.Table.{Me, rest}
 use Rattle.sock_words.specs.declared.plain.Plan.{Plan}
 use Rattle.sock_model.specs.declared.chain.Right.{Right}
@@ -7,10 +7,11 @@ use Rattle.sock_model.specs.declared.chain.Stage.{Stage}
 use Rattle.sock_model.specs.declared.chain.Stage.TheVariants.{Writes, Placed, Passes, Empties, Walks, Turns}
 use Rattle.sock_model.specs.Memory.{UNCONNECTED}
 use Rattle.sock_model.specs.declared.view.View.{View}
-use Rattle.sock_model.specs.Entries.{slot_of, generation_of}
+use Rattle.sock_model.specs.Entries.{slot_of}
 use Rattle.sock_model.specs.Links.{HoldsLink}
 use Rattle.sock_model.specs.Slots.{version_of}
-use Rattle.sock_model.specs.SlotRows.{looked}
+use Rattle.sock_model.specs.SlotRows.{marks_of, looked}
+use Rattle.sock_model.specs.Weights.{is_saw}
 use Rattle.sock_model.specs.ChainRows.{with_right, without_right, walking_right, taken_right, passing_right, reading_right}
 use Rattle.sock_rule.specs.declared.homes.Letter.{Letter}
 use Rattle.sock_rule.specs.Shows.{heading_of}
@@ -63,6 +64,28 @@ pub record MayStorePlace (p : Plan) (l k places : ℕ) (v : View) : Type 0 where
   pub link_is : right.link ≡ k
   pub places_are : right.places ≡ places
 
+-- what a link took of a message that is dropped is a part of it at most, and only a clean right took any
+abbrev pub Part : Right → List ℕ → Type 0
+Part q n = (n ≡ q.sent) ⊎ ((q.clean ≡ true) × (part : List ℕ) × (rest : List ℕ) × (n ≡ q.sent ++ part) × (q.bytes ≡ part ++ rest) × (rest ≢ []))
+
+-- P1 of a message that is dropped, where the seat found that the life of its link was failed; the link took this by then
+pub record MayDropPlace (p : Plan) (l k places : ℕ) (took : List ℕ) (v : View) : Type 0 where
+  pub right : Right
+  pub one : Rights right v
+  pub now : ℕ
+  pub stage : right.stage ≡ Writes now
+  pub taken : right.taken ≡ true
+  pub away : right.at_home ≡ false
+  pub place_is : right.heading.place ≡ l
+  pub place_in : l < 8 * p.operations
+  pub link_is : right.link ≡ k
+  pub places_are : right.places ≡ places
+  pub part : Part right took
+  pub slot : ℕ
+  pub life : ℕ
+  pub holds : HoldsLink p v slot life right.link
+  pub seen : 0 < marks_of (is_saw (life + 1)) slot v
+
 -- what follows an entry whose request is given back
 pub data Follows (last : ℕ) : Stage → ℕ → Stage → Type 0 where
   ends : (now : ℕ) → now ≡ last → Follows last (Placed now) now Empties
@@ -74,7 +97,6 @@ pub record MayFreeRequest {S : Type 0} (now : ℕ) (m : Me S View) : Type 0 wher
   pub one : Rights right m.0
   pub next : Stage
   pub follows : Follows right.last right.stage now next
-  pub small : generation_of now < 140737488355327
   pub value : S
   pub home : m.1 ≡ (slot_of now, value) ∷ rest m.1
 

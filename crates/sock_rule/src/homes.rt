@@ -1,11 +1,12 @@
 ghost use Rattle.std.specs.Prelude.{◌≡◌, ◌+◌, ◌<◌, ◌++◌, true, false, [], length};
 ghost use Rattle.std.specs.Option.{ForSome};
 ghost use Rattle.sock_io.specs.declared.link.Put.TheVariants.{Failed};
+ghost use Rattle.sock_io.specs.declared.link.Ready.TheVariants as ready;
 ghost use Rattle.sock_io.specs.Causes.{Rose};
 ghost use Rattle.sock_io.specs.Link.{taken_of, IsPutCount};
 
 use ghosts::Ghosts;
-use sock_io::{Out, Put};
+use sock_io::{Out, Put, Ready};
 use sock_message::Message;
 use sock_words::Label;
 
@@ -44,6 +45,16 @@ impl<O: Out> LinkHome<O> {
         let with = (took, piece, put);
         self.took = Ghosts::of(&with);
         put
+    }
+
+    /// W2: whether the link takes more.
+    pub fn ready(&mut self) -> Ready
+        ensures same { (self.new.took.list ≡ self.old.took.list) × (self.new.next ≡ self.old.next) }
+        ensures link { (O.state self.new.out).link ≡ (O.state self.old.out).link }
+        ensures finished { (O.state self.new.out).finished ≡ (O.state self.old.out).finished }
+        ensures faults { result ≡ ready.Failed → (O.state self.old.out).finished ≡ false → Rose (O.state self.old.out).faults (O.state self.new.out).faults }
+    {
+        self.out.ready()
     }
 
     /// One message more has its place.

@@ -4,17 +4,17 @@ ghost use Rattle.atomic_table.specs.Table.{rest};
 ghost use Rattle.sock_model.specs.Deliveries.{place_value};
 ghost use Rattle.sock_model.specs.declared.chain.Right.{Right};
 ghost use Rattle.sock_model.specs.declared.chain.Stage.TheVariants.{Writes, Walks, Turns};
-ghost use Rattle.sock_model.specs.ChainRows.{with_right, placed_right, freed_right, turned_right};
+ghost use Rattle.sock_model.specs.ChainRows.{with_right, placed_right, dropped_right, freed_right, turned_right};
 ghost use Rattle.sock_model.specs.Entries.{slot_of, generation_of};
 ghost use Rattle.sock_rule.specs.declared.homes.SockHome.TheVariants.{Empty};
 ghost use Rattle.sock_rule.specs.Seated.{IsSeat};
 ghost use Rattle.sock_rule.specs.Shows.{heading_of};
-ghost use Rattle.sock_rule.specs.Holding.{Rights, LinkAtHome, MayTakeMsg, TookMsg, MayLookToWrite, LookedToWrite, MayStorePlace, MayFreeRequest, MayEmptyHead, Emptied, MayReadOn, ReadOn, MayReadBack, ReadBack, MayTurnNext};
+ghost use Rattle.sock_rule.specs.Holding.{Rights, LinkAtHome, MayTakeMsg, TookMsg, MayLookToWrite, LookedToWrite, MayStorePlace, MayDropPlace, MayFreeRequest, MayEmptyHead, Emptied, MayReadOn, ReadOn, MayReadBack, ReadBack, MayTurnNext};
 
 use crate::homes::{Letter, LinkHome, SockHome};
 use crate::plays::{
-    EmptyHead, FreeRequest, LookToWrite, PutOwn, ReadNext, StorePlace, TakeLetter, TakeOwn,
-    TurnNext,
+    DropPlace, EmptyHead, FreeRequest, LookToWrite, PutOwn, ReadNext, StorePlace, TakeLetter,
+    TakeOwn, TurnNext,
 };
 use crate::table::{RuleTable, SockSeat};
 use sock_io::Out;
@@ -87,11 +87,49 @@ impl<O: Out> RuleTable<O> {
         self.table.shared.store::<StorePlace>(seat, word, place);
     }
 
+    /// P1 with the dropped bit, of a message in hand: its link lies in the home of the request meanwhile.
+    pub fn drop_place(
+        &self,
+        seat: &mut SockSeat<O>,
+        at: u32,
+        value: PlaceWord,
+        now: Ticket,
+        home: LinkHome<O>,
+    ) -> LinkHome<O>
+        requires seat { IsSeat self.now.table.shared.table_id self.now.plan seat.old }
+        requires may { (k places : ℕ) × MayDropPlace self.now.plan at k places home.took.list seat.old.me.0 × (value.0 ≡ place_value true k places) }
+        requires ticket { (0 < now.0 % 65536) × (now.0 < 9223372036854775808) }
+        requires top { seat.old.me.1 ≡ (slot_of now.0, Empty) ∷ rest seat.old.me.1 }
+        ensures seat { IsSeat self.now.table.shared.table_id self.now.plan seat.new }
+        ensures view { (r : Right) (n : ℕ) → Rights r seat.old.me.0 → r.stage ≡ Writes n → seat.new.me ≡ (with_right seat.old.me.0 (dropped_right r n home.took.list), seat.old.me.1) }
+        ensures home { result ≡ home }
+    {
+        let slot = now.request() as usize;
+        let empty = self.table.shared.exchange(seat, slot, SockHome::Link(home));
+        let SockHome::Empty = empty else {
+            unreachable!();
+        };
+        let word = 6 * self.plan.slots as usize
+            + self.plan.names as usize
+            + self.plan.operations as usize
+            + self.plan.requests as usize
+            + self.plan.requests as usize
+            + at as usize;
+        let place = value.word();
+        self.table.shared.store::<DropPlace>(seat, word, place);
+        let back = self.table.shared.exchange(seat, slot, SockHome::Empty);
+        let SockHome::Link(home) = back else {
+            unreachable!();
+        };
+        home
+    }
+
     /// C8: the request of a message that has its place is free again, and its home is back.
     pub fn free_request(&self, seat: &mut SockSeat<O>, now: Ticket)
         requires seat { IsSeat self.now.table.shared.table_id self.now.plan seat.old }
         requires may { MayFreeRequest now.0 seat.old.me }
         requires ticket { (0 < now.0 % 65536) × (slot_of now.0 < self.now.plan.requests) }
+        requires young { generation_of now.0 < 140737488355327 }
         ensures seat { IsSeat self.now.table.shared.table_id self.now.plan seat.new }
         ensures view { (r : Right) → Rights r seat.old.me.0 → seat.new.me ≡ (with_right seat.old.me.0 (freed_right r), rest seat.old.me.1) }
     {
@@ -101,6 +139,17 @@ impl<O: Out> RuleTable<O> {
             + now.request() as usize;
         let next = 2 * (now.generation() + 1);
         self.table.shared.store::<FreeRequest>(seat, word, next);
+    }
+
+    /// The request of a message that has its place stays taken where its generation is the last one. Its home is back.
+    pub fn retire_request(&self, seat: &mut SockSeat<O>, now: Ticket)
+        requires seat { IsSeat self.now.table.shared.table_id self.now.plan seat.old }
+        requires may { MayFreeRequest now.0 seat.old.me }
+        requires last { generation_of now.0 ≡ 140737488355327 }
+        ensures seat { IsSeat self.now.table.shared.table_id self.now.plan seat.new }
+        ensures view { (r : Right) → Rights r seat.old.me.0 → seat.new.me ≡ (with_right seat.old.me.0 (freed_right r), rest seat.old.me.1) }
+    {
+        self.table.shared.load::<FreeRequest>(seat, 0);
     }
 
     /// L2 of the link that the seat has the right to write.

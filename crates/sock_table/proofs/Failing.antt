@@ -1,5 +1,5 @@
 -- A life that a seat fails, step by step.
-use Rattle.std.proofs.Common.{◌≡◌, ◌≢◌, ℕ, ◌+◌, ◌-◌, ◌%◌, ◌<◌, Bool, false, List, [], ◌∷◌, sym, ap, ◌∙◌, subst, arith}
+use Rattle.std.proofs.Common.{◌≡◌, ◌≢◌, ℕ, ◌+◌, ◌-◌, ◌%◌, ◌<◌, ◌⊎◌, inr, Bool, false, List, [], ◌∷◌, sym, ap, ◌∙◌, subst, arith}
 use Rattle.sock_words.specs.declared.plain.Plan.{Plan}
 use Rattle.sock_words.specs.Words.{socket_id_version, socket_id_slot}
 use Rattle.sock_model.specs.declared.marks.Mark.{Mark}
@@ -8,14 +8,17 @@ use Rattle.sock_model.specs.declared.view.View.{View}
 use Rattle.sock_model.specs.Weights.{is_ref, is_probe, is_any_coding, is_coding, is_hold}
 use Rattle.sock_model.specs.Slots.{version_of}
 use Rattle.sock_model.specs.SlotRows.{marks_of, failed, coded}
-use Rattle.slot_laws.proofs.Numbers.{only-same}
+use mathlib.Core.Logic.{dite}
+use native.Mathlib.Decide.{ℕ_discrete}
+use Rattle.slot_laws.proofs.Numbers.{only-same, only-else}
 use Rattle.sock_rule.specs.Becoming.{Became, Goes, hold_goes}
 use Rattle.sock_rule.proofs.Becoming.{then_, counts_as, becomes, failed_marks, failed_again, coded_marks}
-use Rattle.sock_table.specs.Refs.{IsBetween, EndedBy, GaveBack}
+use Rattle.ref_core.specs.Keeping.{KeepsRights}
+use Rattle.sock_table.specs.Refs.{Rests, EndedBy, GaveBack}
 use Rattle.sock_table.specs.Answers.{FailedBy, FoundFailed}
 use Rattle.sock_table.proofs.Giving.{some_ref}
 
-module _ (p : Plan) (i found id : ℕ) (u a : View) (is : a ≡ failed i found u) (inside : i < p.slots) (at_id : i ≡ socket_id_slot id) (between : IsBetween p u) (there : 0 < marks_of (is_hold (socket_id_version id)) i u)
+module _ (p : Plan) (i found id : ℕ) (u a : View) (is : a ≡ failed i found u) (inside : i < p.slots) (at_id : i ≡ socket_id_slot id) (rests : Rests p u) (there : 0 < marks_of (is_hold (socket_id_version id)) i u)
     (held : (h : ℕ) → 0 < marks_of (is_hold h) i u → h ≡ version_of found - version_of found % 2) where
   abbrev h : ℕ
   h = socket_id_version id
@@ -36,19 +39,23 @@ module _ (p : Plan) (i found id : ℕ) (u a : View) (is : a ≡ failed i found u
       now_coded = then_ i now_failed (becomes i stored (coded_marks i (socket_id_version id) c a coding_now))
 
       pub hold_now : Goes i b (Hold (socket_id_version id))
-      hold_now = hold_goes (socket_id_version id) (let x = now_coded.here is_probe in let y = between.unprobed i inside in omega arith) (let x = now_coded.here (is_hold (socket_id_version id)) in let s = only-same (socket_id_version id) in omega arith)
+      hold_now = hold_goes (socket_id_version id) (let x = now_coded.here is_probe in let y : marks_of is_probe i u ≡ 0 = rests.unprobed i inside in omega arith) (let x = now_coded.here (is_hold (socket_id_version id)) in let s = only-same (socket_id_version id) in omega arith)
 
       pub uncoding_now : marks_of is_any_coding i b ≡ 0
-      uncoding_now = let x = now_coded.here is_any_coding in let y = between.uncoding i inside in omega arith
+      uncoding_now = let x = now_coded.here is_any_coding in let y : marks_of is_any_coding i u ≡ 0 = rests.uncoding i inside in omega arith
 
-      pub no_rights_now : b.rights ≡ []
-      no_rights_now = ap (λ (y : View). y.rights) now_coded.others ∙ between.no_rights
+      -- each life of the slot that it holds is this one, of which it has two references
+      pub keeps_rights : KeepsRights i b
+      keeps_rights x r k e there_ met = let one = only-same (socket_id_version id) in let a = now_coded.here (is_hold k) in let old = held (socket_id_version id) there in
+          dite (ℕ_discrete k (socket_id_version id))
+          (λ same. subst (λ (j : ℕ). (0 < marks_of is_probe i b) ⊎ (1 < marks_of (is_hold j) i b)) (sym same) (inr (let z = now_coded.here (is_hold (socket_id_version id)) in omega arith)))
+          (λ other. let none_ = only-else k (socket_id_version id) (λ z. other (sym z)) in absurd (other (held k (omega arith) ∙ sym old)))
 
       pub empty_now : b.hands ≡ []
-      empty_now = ap (λ (y : View). y.hands) now_coded.others ∙ between.empty
+      empty_now = ap (λ (y : View). y.hands) now_coded.others ∙ rests.empty
 
       two_refs : 1 < marks_of is_ref i b
-      two_refs = let x = now_coded.here is_ref in let y = some_ref i u (Hold (socket_id_version id)) (hold_goes (socket_id_version id) (between.unprobed i inside) there) in omega arith
+      two_refs = let x = now_coded.here is_ref in let y = some_ref i u (Hold (socket_id_version id)) (hold_goes (socket_id_version id) (rests.unprobed i inside) there) in omega arith
 
       -- the reference that creation made goes, and never the last one
       pub is_failed : (d : View) (ended : Bool) → (1 < marks_of is_ref i b → ended ≡ false) → GaveBack i b d (Hold (socket_id_version id)) ended → FailedBy id c u d

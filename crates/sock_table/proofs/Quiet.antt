@@ -10,7 +10,7 @@ use Rattle.sock_model.specs.declared.view.View.{View}
 use Rattle.sock_model.specs.Weights.{total, is_probe, is_claimed, is_any_coding, is_zero}
 use Rattle.sock_model.specs.SlotRows.{marks_of}
 use Rattle.sock_rule.specs.Becoming.{Became}
-use Rattle.sock_table.specs.Refs.{IsBetween, EndedBy, GaveBack}
+use Rattle.sock_table.specs.Refs.{IsBetween, Rests, EndedBy, GaveBack}
 use Rattle.sock_table.specs.Answers.{Held, GoneFrom, FailedBy}
 
 -- marks among which are no tokens but references to lives
@@ -35,6 +35,16 @@ between p i v w adds drops b c q = record {
     at f j none_ quiet = dite (ℕ_discrete j i)
         (λ e. let h = c.here f in subst (λ (y : ℕ). marks_of f y w ≡ 0) (sym e) (let n : marks_of f i v ≡ 0 = subst (λ (y : ℕ). marks_of f y v ≡ 0) e none_ in omega arith))
         (λ ne. ap (total f) (c.elsewhere j ne) ∙ none_)
+
+pub rests_on : (p : Plan) (i : ℕ) (v w : View) (adds drops : List Mark) → Rests p v → Became i v w adds drops → IsQuiet adds → Rests p w
+rests_on p i v w adds drops r c q = between p i (record v { rights = [] }) (record w { rights = [] }) adds drops r record { here = λ f. c.here f; elsewhere = λ j ne. c.elsewhere j ne; others = ap (λ (y : View). record y { rights = [] }) c.others } q
+
+-- whoever has no right rests between two calls
+pub rests_between : (p : Plan) (v : View) → v.rights ≡ [] → Rests p v → IsBetween p v
+rests_between p v none_ r = record { unclaimed = r.unclaimed; unprobed = r.unprobed; uncoding = r.uncoding; no_zero = r.no_zero; no_rights = none_; empty = r.empty; no_passes = r.no_passes }
+
+pub between_rests : (p : Plan) (v : View) → IsBetween p v → Rests p v
+between_rests p v b = record { unclaimed = b.unclaimed; unprobed = b.unprobed; uncoding = b.uncoding; no_zero = b.no_zero; no_rights = refl; empty = b.empty; no_passes = b.no_passes }
 
 pub ended_quiet : (ended : Bool) (w : ℕ) (notes : List Mark) → EndedBy ended w notes → IsQuiet notes
 ended_quiet false w notes is = subst IsQuiet (sym is) record { claimed = refl; probe = refl; coding = refl; zeros = λ x. refl }
@@ -61,6 +71,12 @@ saw_between p i x v w b h = between p i v w _ _ b h record { claimed = refl; pro
 
 pub failed_between : (p : Plan) (id c : ℕ) (v w : View) → IsBetween p v → FailedBy id c v w → IsBetween p w
 failed_between p id c v w b h = between p (socket_id_slot id) v w _ _ b h record { claimed = refl; probe = refl; coding = refl; zeros = λ x. refl }
+
+pub saw_rests : (p : Plan) (i x : ℕ) (v w : View) → Rests p v → Became i v w (Saw x ∷ []) [] → Rests p w
+saw_rests p i x v w b h = rests_on p i v w _ _ b h record { claimed = refl; probe = refl; coding = refl; zeros = λ x. refl }
+
+pub failed_rests : (p : Plan) (id c : ℕ) (v w : View) → Rests p v → FailedBy id c v w → Rests p w
+failed_rests p id c v w b h = rests_on p (socket_id_slot id) v w _ _ b h record { claimed = refl; probe = refl; coding = refl; zeros = λ x. refl }
 
 pub tried_between : (p : Plan) (i : ℕ) (v w : View) → IsBetween p v → Became i v w (Tried ∷ []) [] → IsBetween p w
 tried_between p i v w b h = between p i v w _ _ b h record { claimed = refl; probe = refl; coding = refl; zeros = λ x. refl }

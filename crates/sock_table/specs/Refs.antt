@@ -21,6 +21,10 @@ pub record IsBetween (p : Plan) (v : View) : Type 0 where
   -- its passes are out, each with a seat of its own
   pub no_passes : v.passes ≡ []
 
+-- but for its rights it has references and notes alone
+abbrev pub Rests : Plan → View → Type 0
+Rests p v = IsBetween p (record v { rights = [] })
+
 -- a slot whose versions are used up stays with whoever recycled it
 abbrev pub retired : ℕ → List Mark
 retired x = cond (nat_le x 4294967292) [] (Recycling x ∷ [])

@@ -8,7 +8,7 @@ ghost use Rattle.sock_model.specs.SlotRows.{marks_of};
 ghost use Rattle.ref_core.specs.Keeping.{KeepsRights};
 ghost use Rattle.sock_rule.specs.Seated.{IsSeat};
 ghost use Rattle.sock_rule.specs.Becoming.{Became, Goes};
-ghost use Rattle.sock_table.specs.Refs.{IsBetween, EndedBy, GaveBack, MayAddress};
+ghost use Rattle.sock_table.specs.Refs.{IsBetween, Rests, EndedBy, GaveBack, MayAddress};
 ghost use Rattle.sock_table.specs.Answers.{is_freed, IfLive, NoneLater, Holds, Held, GoneFrom, LookedAt, LinkOf, CodeOf, FailedBy, FoundFailed};
 
 use crate::table::SockTable;
@@ -235,6 +235,24 @@ impl<O: Out> SockTable<O> {
         ensures err { IfErr result (λ e. FoundFailed sock.now.id.0 e.found.0 seat.old.me.0 seat.new.me.0) }
         ensures stays { IfOk result (λ _. NoneLater sock.now.id.0 seat.old.me.0) }
         ensures between { IsBetween self.now.rule.plan seat.new.me.0 }
+        ensures slots { seat.new.me.1 ≡ seat.old.me.1 }
+    {
+        self.fail(seat, sock, code)
+    }
+
+    /// The same, also of a seat that has rights to write.
+    pub fn fail(&self, seat: &mut SockSeat<O>, sock: &SockRef, code: u16) -> Result<(), Already>
+        requires seat { IsSeat self.now.rule.table.shared.table_id self.now.rule.plan seat.old }
+        requires held { Holds self.now.rule.plan seat.old.me.0 sock.now.id.0 }
+        requires room { marks_of is_ref (socket_id_slot sock.now.id.0) seat.old.me.0 < 65540 }
+        requires rests { Rests self.now.rule.plan seat.old.me.0 }
+        requires code { code ≢ 0 }
+        ensures seat { IsSeat self.now.rule.table.shared.table_id self.now.rule.plan seat.new }
+        ensures ok { IfOk result (λ _. FailedBy sock.now.id.0 code seat.old.me.0 seat.new.me.0) }
+        ensures err { IfErr result (λ e. FoundFailed sock.now.id.0 e.found.0 seat.old.me.0 seat.new.me.0) }
+        ensures stays { IfOk result (λ _. NoneLater sock.now.id.0 seat.old.me.0) }
+        ensures rests { Rests self.now.rule.plan seat.new.me.0 }
+        ensures rights { seat.new.me.0.rights ≡ seat.old.me.0.rights }
         ensures slots { seat.new.me.1 ≡ seat.old.me.1 }
     {
         let slots = self.rule.plan.slots;

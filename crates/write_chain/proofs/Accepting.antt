@@ -1,34 +1,28 @@
 -- A message is accepted, view by view.
-use Rattle.std.proofs.Common.{◌≡◌, ◌≢◌, ℕ, zero, suc, ◌+◌, ◌-◌, ◌*◌, ◌/◌, ◌%◌, ◌^◌, ◌<◌, ◌≤◌, Bool, true, false, cond, not, eqb, eq-eqb, List, [], ◌∷◌, ◌++◌, length, refl, sym, ap, ◌∙◌, subst, arith}
+use Rattle.std.proofs.Common.{◌≡◌, ℕ, suc, ◌+◌, ◌-◌, ◌<◌, true, false, cond, not, eqb, eq-eqb, List, [], ◌∷◌, refl, sym, ap, ◌∙◌, subst, arith}
 use Rattle.std.specs.List.{filter}
 use mathlib.Core.Option.{some}
 use lib.ListN.{get_elem?}
-use Rattle.atomic_table.specs.Table.{Me, rest}
 use Rattle.sock_io.specs.declared.link.Out.{Ghosts}
 use Rattle.sock_words.specs.declared.plain.Plan.{Plan}
-use Rattle.sock_words.specs.Words.{socket_id_version, socket_id_slot, ticket}
+use Rattle.sock_words.specs.Words.{socket_id_version, socket_id_slot}
 use Rattle.sock_model.specs.declared.chain.Claim.{Claim}
-use Rattle.sock_model.specs.declared.chain.Entry.{Entry}
 use Rattle.sock_model.specs.declared.chain.Heading.{Heading}
 use Rattle.sock_model.specs.declared.chain.Loose.{Loose}
 use Rattle.sock_model.specs.declared.chain.Right.{Right}
-use Rattle.sock_model.specs.declared.marks.Mark.{Mark}
 use Rattle.sock_model.specs.declared.marks.Mark.TheVariants.{Saw, Met}
 use Rattle.sock_model.specs.declared.view.View.{View}
 use Rattle.sock_model.specs.Entries.{ticket_of}
 use Rattle.sock_model.specs.Layout.{request_word}
-use Rattle.sock_model.specs.Links.{HoldsLink}
 use Rattle.sock_model.specs.Memory.{IDLE}
 use Rattle.sock_model.specs.Weights.{total, is_hold, is_met}
-use Rattle.sock_model.specs.Marks.{about}
 use Rattle.sock_model.specs.SlotRows.{marks_of, met_link}
 use Rattle.sock_model.specs.ChainRows.{with_claim, ready_claim, queued, righted, new_right, without_loose, more, entry_of}
-use Rattle.sock_model.specs.Conditions.{MayExchange}
 use Rattle.slot_laws.proofs.Numbers.{pair-same}
-use Rattle.slot_laws.proofs.Sums.{about-here, about-other}
+use Rattle.slot_laws.proofs.Sums.{about-here}
 use Rattle.sock_rule.specs.Becoming.{Became}
-use Rattle.sock_rule.specs.Sending.{Swapped, MaySwap, filled_for}
-use Rattle.sock_rule.proofs.Becoming.{adds_mark, then_, becomes}
+use Rattle.sock_rule.specs.Sending.{MaySwap, filled_for}
+use Rattle.sock_rule.proofs.Becoming.{adds_mark, becomes}
 use Rattle.sock_table.specs.Answers.{Holds}
 use Rattle.write_chain.specs.Sending.{HasRoom, MaySend, Accepted, IsFirst, FoundTaken}
 
@@ -91,6 +85,7 @@ module _ (p : Plan) (v a b : View) (id slot h k at own : ℕ) (c : Claim) (headi
         loose = ap (λ (y : View). y.loose) all ∙ (ap (λ (l : List Loose). filter (λ (z : Loose). not (eqb z.request at)) (record { request = c.request; before = found } ∷ l)) loose ∙ ap (λ t. cond (not t) (record { request = c.request; before = found } ∷ []) []) (eq-eqb c.request at request));
         hands = ap (λ (y : View). y.hands) all;
         share = ap (λ (y : View). y.share) all;
+        passes = ap (λ (y : View). y.passes) all;
       },
       ap (λ (y : View). y.rights) all ∙ rights,
     )
@@ -113,6 +108,7 @@ module _ (p : Plan) (v a b : View) (id slot h k at own : ℕ) (c : Claim) (headi
         loose = ap (λ (y : View). y.loose) all_r ∙ loose;
         hands = ap (λ (y : View). y.hands) all_r;
         share = ap (λ (y : View). y.share) all_r;
+        passes = ap (λ (y : View). y.passes) all_r;
       },
       new_right (ready_claim (filled_for c k heading bytes)) found sent places,
       ap (λ (y : View). y.rights) all_r ∙ ap (λ (l : List Right). new_right (ready_claim (filled_for c k heading bytes)) found sent places ∷ l) rights,
@@ -173,6 +169,7 @@ accepted_after p id at heading bytes c v w x a k = record {
   loose = k.loose;
   hands = k.hands ∙ ap (λ (y : View). y.hands) a.others;
   share = k.share ∙ ap (λ (y : View). y.share) a.others;
+  passes = k.passes ∙ ap (λ (y : View). y.passes) a.others;
 }
 
 pub started_after : {O : Type 0} {g : Ghosts O} (p : Plan) (sock : Rattle.sock_table.specs.declared.refs.SockRef.SockRef) (at : ℕ) (heading : Heading) (bytes : List ℕ) (c : Claim) (s : Rattle.write_chain.specs.declared.entry.Started.Started O g) (v w u x : View)

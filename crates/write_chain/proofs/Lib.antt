@@ -1,4 +1,6 @@
 pub mod Accepting
-pub mod Taking
-pub mod Finishing
-pub mod Putting
+pub mod Noting
+pub mod Stepping
+pub mod Beginning
+pub mod Looking
+pub mod Dropping

@@ -1,3 +1,5 @@
+pub mod Noting
 pub mod Sending
 pub mod Writing
+pub mod Keeping
 pub mod Puts

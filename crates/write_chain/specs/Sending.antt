@@ -1,5 +1,5 @@
 -- What a seat has before it sends a message, and what becomes of the message.
-use Rattle.std.specs.Prelude.{◌≡◌, ◌≢◌, ℕ, ◌+◌, ◌*◌, ◌<◌, ◌≤◌, true, false, List, [], ◌∷◌, length}
+use Rattle.std.specs.Prelude.{◌≡◌, ℕ, ◌+◌, ◌<◌, true, false, List, [], ◌∷◌, length}
 use mathlib.Core.Option.{some}
 use lib.ListN.{get_elem?}
 use Rattle.sock_io.specs.declared.link.Out.{Ghosts}
@@ -22,7 +22,6 @@ use Rattle.write_chain.specs.declared.entry.Started.{Started}
 use Rattle.write_chain.specs.declared.entry.Started.TheVariants as started
 use Rattle.write_chain.specs.declared.entry.Refused.{Refused}
 use Rattle.write_chain.specs.declared.entry.Refused.TheVariants as refused
-use Rattle.write_chain.specs.declared.right.WriteRight.{WriteRight}
 use Rattle.write_chain.specs.declared.right.Doing.TheVariants.{First}
 use Rattle.sock_table.specs.declared.refs.SockRef.{SockRef}
 use Rattle.sock_rule.specs.declared.homes.Letter.{Letter}
@@ -53,6 +52,7 @@ pub record Accepted (notes : List Mark) (p : Plan) (id : ℕ) (heading : Heading
   pub loose : w.loose ≡ []
   pub hands : w.hands ≡ v.hands
   pub share : w.share ≡ v.share
+  pub passes : w.passes ≡ v.passes
 
 -- the seat's one right is x, of this link up to this ticket, and nothing was done with it
 pub record IsFirst (x : Right) (k last : ℕ) : Type 0 where

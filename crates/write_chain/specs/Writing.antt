@@ -1,87 +1,159 @@
 -- What whoever has the right to write a link has in hand.
-use Rattle.std.specs.Prelude.{◌≡◌, ℕ, ◌+◌, ◌*◌, ◌<◌, true, false, List, [], ◌∷◌, ◌++◌}
+use Rattle.std.specs.Prelude.{◌≡◌, ◌≢◌, ℕ, ◌+◌, ◌*◌, ◌<◌, ◌⊎◌, true, false, List, [], ◌∷◌, ◌++◌}
 use Rattle.atomic_table.specs.Table.{Me}
 use Rattle.sock_io.specs.declared.link.Out.{Ghosts}
-use Rattle.sock_message.specs.Pieces.{OnItsWay}
 use Rattle.sock_words.specs.declared.plain.Plan.{Plan}
 use Rattle.sock_words.specs.Words.{socket_id_version, socket_id_slot}
 use Rattle.sock_model.specs.declared.chain.Right.{Right}
-use Rattle.sock_model.specs.declared.chain.Stage.TheVariants.{Writes, Walks}
+use Rattle.sock_model.specs.declared.chain.Stage.{Stage}
+use Rattle.sock_model.specs.declared.chain.Stage.TheVariants as stage
 use Rattle.sock_model.specs.declared.view.View.{View}
-use Rattle.sock_model.specs.Entries.{slot_of, generation_of}
+use Rattle.sock_model.specs.Entries.{slot_of}
 use Rattle.sock_model.specs.Links.{HoldsLink}
+use Rattle.sock_model.specs.Weights.{is_ref, is_saw}
+use Rattle.sock_model.specs.SlotRows.{marks_of}
 use Rattle.sock_rule.specs.Holding.{Rights}
 use Rattle.sock_rule.specs.ChainPlays.{IsTicket}
+use Rattle.sock_rule.specs.declared.homes.LinkHome.{LinkHome}
 use Rattle.sock_rule.specs.declared.homes.SockHome.{SockHome}
 use Rattle.sock_rule.specs.declared.homes.SockHome.TheVariants.{Empty}
+use Rattle.sock_table.specs.Refs.{IsBetween, Rests}
+use Rattle.sock_table.specs.Answers.{Holds}
 use Rattle.write_chain.specs.declared.right.WriteRight.{WriteRight}
 use Rattle.write_chain.specs.declared.right.InHand.{InHand}
+use Rattle.write_chain.specs.declared.right.LinkInHand.{LinkInHand}
 use Rattle.write_chain.specs.declared.right.Doing.{Doing}
 use Rattle.write_chain.specs.declared.right.Doing.TheVariants as doing
 use Rattle.write_chain.specs.declared.right.Doing.TheVariants.{First}
 use Rattle.write_chain.specs.declared.hold.Once.{Once}
 use Rattle.write_chain.specs.declared.hold.Once.TheVariants as once
+use Rattle.write_chain.specs.declared.hold.Tried.{Tried}
+use Rattle.write_chain.specs.declared.hold.Tried.TheVariants as tried
 use Rattle.sock_table.specs.declared.refs.SockRef.{SockRef}
-use Rattle.write_chain.specs.Sending.{IsFirst}
+use Rattle.write_chain.specs.declared.entry.Started.{Started}
+use Rattle.write_chain.specs.declared.entry.Started.TheVariants as started
 
--- the right was answered by `start`, and the seat holds nothing else but the reference
-pub record MayBegin {O : Type 0} {g : Ghosts O} (p : Plan) (right : WriteRight O g) (m : Me (SockHome O g) View) : Type 0 where
+-- the seat's one right is x, to write this link up to the ticket `last`; it holds the life of this id, whose link it is, and has nothing else but references and notes
+pub record IsWriter (p : Plan) (id last link : ℕ) (x : Right) (v : View) : Type 0 where
+  pub one : Rights x v
+  pub last_is : x.last ≡ last
+  pub last_ticket : IsTicket p last
+  pub link_is : x.link ≡ link
+  pub holds : HoldsLink p v (socket_id_slot id) (socket_id_version id) link
+  pub rests : Rests p v
+  -- one reference more may be counted
+  pub room : marks_of is_ref (socket_id_slot id) v < 65540
+
+-- its link is at home, and no message is in hand
+pub record Stands {S : Type 0} (p : Plan) (id last : ℕ) (at : Stage) (link : ℕ) (m : Me S View) : Type 0 where
   pub right_is : Right
-  pub link : ℕ
-  pub first : right.doing ≡ First
-  pub one : Rights right_is m.0
-  pub is_first : IsFirst right_is link right.last.0
-  pub ticket : IsTicket p right.last.0
-  pub holds : HoldsLink p m.0 (socket_id_slot right.sock.id.0) (socket_id_version right.sock.id.0) link
-  pub hands : m.0.hands ≡ []
+  pub writer : IsWriter p id last link right_is m.0
+  pub stage_is : right_is.stage ≡ at
+  pub home : right_is.at_home ≡ true
+  pub idle : right_is.taken ≡ false
   pub slots : m.1 ≡ []
 
--- the link and the message of ticket `now` are in hand: the link took `begun` of it, and `left` is what is left
-pub record HasInHand {O : Type 0} {g : Ghosts O} (p : Plan) (id : ℕ) (hand : InHand O g) (m : Me (SockHome O g) View) : Type 0 where
+-- the right was answered by `start`
+pub record MayBegin {O : Type 0} {g : Ghosts O} (p : Plan) (right : WriteRight O g) (m : Me (SockHome O g) View) : Type 0 where
+  pub first : right.doing ≡ First
+  pub link : ℕ
+  pub stands : Stands p right.sock.id.0 right.last.0 (stage.Writes right.last.0) link m
+
+-- the seat has no right: it holds the life, and has references and notes alone
+pub record GaveUp {S : Type 0} (p : Plan) (id : ℕ) (m : Me S View) : Type 0 where
+  pub between : IsBetween p m.0
+  pub holds : Holds p m.0 id
+  pub slots : m.1 ≡ []
+
+-- what the seat has once its message was accepted, in the one case and in the other
+abbrev pub Begins : {O : Type 0} {g : Ghosts O} → Plan → SockRef → Started O g → Me (SockHome O g) View → Type 0
+Begins p sock (started.Queued s) m = (s ≡ sock) × GaveUp p sock.id.0 m
+Begins p sock (started.Right r) m = (r.sock ≡ sock) × MayBegin p r m
+
+-- the link is in hand as the right has it
+pub record HasHome {O : Type 0} {g : Ghosts O} (p : Plan) (link : ℕ) (home : LinkHome O g) (x : Right) : Type 0 where
+  pub away : x.at_home ≡ false
+  pub link_in : link < p.links
+  pub places_are : home.next ≡ x.places
+  pub own : (g.state home.out).link ≡ link
+  pub unfinished : (g.state home.out).finished ≡ false
+
+-- the link is in hand, and no message; the homes that were taken since stand above that of the link
+pub record HasLink {O : Type 0} {g : Ghosts O} (p : Plan) (id last : ℕ) (at : Stage) (above : List (ℕ × SockHome O g)) (hand : LinkInHand O g) (m : Me (SockHome O g) View) : Type 0 where
   pub right_is : Right
-  pub one : Rights right_is m.0
-  pub stage : right_is.stage ≡ Writes hand.now.0
+  pub writer : IsWriter p id last hand.link right_is m.0
+  pub has : HasHome p hand.link hand.home right_is
+  pub stage_is : right_is.stage ≡ at
+  pub idle : right_is.taken ≡ false
+  pub took : hand.home.took.list ≡ right_is.sent
+  pub slots : m.1 ≡ above ++ (p.requests + hand.link, Empty) ∷ []
+
+-- the message of ticket `now` is in hand with the link, which took `begun` of it
+pub record HasInHand {O : Type 0} {g : Ghosts O} (p : Plan) (id last : ℕ) (hand : InHand O g) (m : Me (SockHome O g) View) : Type 0 where
+  pub right_is : Right
+  pub writer : IsWriter p id last hand.link right_is m.0
+  pub has : HasHome p hand.link hand.home right_is
+  pub stage_is : right_is.stage ≡ stage.Writes hand.now.0
   pub ticket : IsTicket p hand.now.0
   pub taken : right_is.taken ≡ true
-  pub away : right_is.at_home ≡ false
-  pub link_is : right_is.link ≡ hand.link
-  pub link_in : hand.link < p.links
-  pub holds : HoldsLink p m.0 (socket_id_slot id) (socket_id_version id) right_is.link
   pub place_is : right_is.heading.place ≡ hand.label.place
   pub place_in : hand.label.place < 8 * p.operations
   pub begun : List ℕ
   pub bytes_are : right_is.bytes ≡ begun ++ hand.bytes.left
   pub took : hand.home.took.list ≡ right_is.sent ++ begun
-  pub places_are : hand.home.next ≡ right_is.places
   pub few : hand.home.next < 4294967295
-  pub half : ((g.state hand.home.out).link ≡ hand.link) × ((g.state hand.home.out).finished ≡ false)
   pub slots : m.1 ≡ (slot_of hand.now.0, Empty) ∷ (p.requests + hand.link, Empty) ∷ []
 
--- the link took the whole of the last message, and its right is clean
-pub record MayFinish {O : Type 0} {g : Ghosts O} (p : Plan) (id last : ℕ) (hand : InHand O g) (m : Me (SockHome O g) View) : Type 0 where
-  pub has : HasInHand p id hand m
-  pub clean : has.right_is.clean ≡ true
-  pub now_is : hand.now.0 ≡ last
-  pub last_is : has.right_is.last ≡ last
-  pub whole : hand.bytes.left ≡ []
-  pub young : generation_of last < 140737488355327
+-- and bytes are left, or none was put; the look before a put found the life live
+abbrev pub IsPart : Right → List ℕ → List ℕ → Type 0
+IsPart x begun left = (begun ≡ []) ⊎ ((x.clean ≡ true) × (left ≢ []))
 
--- the right was given up, or its head had the newer ticket `top`
-pub record Walks_from {O : Type 0} {g : Ghosts O} (p : Plan) (id link top last : ℕ) (m : Me (SockHome O g) View) : Type 0 where
-  pub right_is : Right
-  pub one : Rights right_is m.0
-  pub stage : right_is.stage ≡ Walks top top 0
-  pub home : right_is.at_home ≡ true
-  pub last_is : right_is.last ≡ last
-  pub link_is : right_is.link ≡ link
-  pub ticket : IsTicket p top
-  pub holds : HoldsLink p m.0 (socket_id_slot id) (socket_id_version id) link
-  pub slots : m.1 ≡ []
+abbrev pub HasPart : {O : Type 0} {g : Ghosts O} → Plan → ℕ → ℕ → InHand O g → Me (SockHome O g) View → Type 0
+HasPart p id last hand m = (h : HasInHand p id last hand m) × IsPart h.right_is h.begun hand.bytes.left
 
-abbrev pub KeepsAt : {O : Type 0} {g : Ghosts O} → Doing O g → ℕ → ℕ → Type 0
-KeepsAt (doing.Walks k t) link top = (k ≡ link) × (t.0 ≡ top)
-KeepsAt other link top = ⊥
+-- the look before a put found the life live
+abbrev pub IsClean : {O : Type 0} {g : Ghosts O} → Plan → ℕ → ℕ → InHand O g → Me (SockHome O g) View → Type 0
+IsClean p id last hand m = (h : HasInHand p id last hand m) × (h.right_is.clean ≡ true)
 
-abbrev pub FinishedBy : {O : Type 0} {g : Ghosts O} → Plan → SockRef → ℕ → Once O g → Me (SockHome O g) View → Type 0
-FinishedBy p sock last (once.Done s) m = (s ≡ sock) × (m.0.rights ≡ []) × (m.1 ≡ [])
-FinishedBy p sock last (once.Keep r) m = (r.sock ≡ sock) × (r.last.0 ≡ last) × (link : ℕ) × (top : ℕ) × KeepsAt r.doing link top × Walks_from p sock.id.0 link top last m
+-- the link took the whole message, and the look before its last put found the life live
+abbrev pub HasWhole : {O : Type 0} {g : Ghosts O} → Plan → ℕ → ℕ → InHand O g → Me (SockHome O g) View → Type 0
+HasWhole p id last hand m = (h : HasInHand p id last hand m) × (h.right_is.clean ≡ true) × (hand.bytes.left ≡ [])
+
+-- the seat found that the life was failed
+abbrev pub FoundDead : ℕ → View → Type 0
+FoundDead id v = 0 < marks_of (is_saw (socket_id_version id + 1)) (socket_id_slot id) v
+
+-- what the seat has where it goes on by this
+abbrev pub GoesBy : {O : Type 0} {g : Ghosts O} → Plan → ℕ → ℕ → Doing O g → Me (SockHome O g) View → Type 0
+GoesBy p id last First m = ⊥
+GoesBy p id last (doing.Puts hand) m = HasPart p id last hand m
+GoesBy p id last (doing.Waits hand) m = HasPart p id last hand m
+GoesBy p id last (doing.Next link now) m = HasLink p id last (stage.Writes now.0) [] link m × IsTicket p now.0
+GoesBy p id last (doing.Last link) m = HasLink p id last stage.Empties [] link m
+GoesBy p id last (doing.Walks link top) m = Stands p id last (stage.Walks top.0 top.0 0) link m × IsTicket p top.0
+GoesBy p id last (doing.Back w) m = HasLink p id last (stage.Walks w.top.0 w.at.0 w.after) [] w.link m × IsTicket p w.top.0 × IsTicket p w.at.0
+
+abbrev pub MayGoOn : {O : Type 0} {g : Ghosts O} → Plan → WriteRight O g → Me (SockHome O g) View → Type 0
+MayGoOn p right m = GoesBy p right.sock.id.0 right.last.0 right.doing m
+
+-- all that was noted has its place
+abbrev pub IsLast : {O : Type 0} {g : Ghosts O} → Doing O g → Type 0
+IsLast (doing.Last link) = Unit {0}
+IsLast other = ⊥
+
+-- the message isn't taken whole, or was dead, or the head has a newer ticket
+abbrev pub IsLeft : {O : Type 0} {g : Ghosts O} → Doing O g → Type 0
+IsLeft (doing.Puts hand) = Unit {0}
+IsLeft (doing.Waits hand) = Unit {0}
+IsLeft (doing.Walks link top) = Unit {0}
+IsLeft other = ⊥
+
+abbrev pub OnceBy : {O : Type 0} {g : Ghosts O} → Plan → SockRef → Once O g → Me (SockHome O g) View → Type 0
+OnceBy p sock (once.Done s) m = (s ≡ sock) × GaveUp p sock.id.0 m
+OnceBy p sock (once.Keep r) m = (r.sock ≡ sock) × MayGoOn p r m × IsLeft r.doing
+
+-- of the message of ticket `now`
+abbrev pub TriedBy : {O : Type 0} {g : Ghosts O} → Plan → ℕ → ℕ → ℕ → Tried O g → Me (SockHome O g) View → Type 0
+TriedBy p id last now (tried.Dead hand) m = HasPart p id last hand m × FoundDead id m.0
+TriedBy p id last now (tried.Whole hand) m = HasWhole p id last hand m × (hand.now.0 ≡ now)
+TriedBy p id last now (tried.Goes by) m = GoesBy p id last by m × IsLeft by

@@ -2,12 +2,15 @@
 ghost use Rattle.std.specs.Prelude.{◌≡◌, ◌≢◌, ◌+◌, ◌*◌, ◌<◌, ℕ, [], ◌∷◌, IfOk, IfErr, length};
 ghost use Rattle.sock_words.specs.Words.{socket_id_version, socket_id_slot, vref_version};
 ghost use Rattle.sock_model.specs.declared.chain.Claim.{Claim};
+ghost use Rattle.sock_model.specs.Weights.{is_ref};
+ghost use Rattle.sock_model.specs.SlotRows.{marks_of};
 ghost use Rattle.atomic_table.specs.Table.{rest};
 ghost use Rattle.sock_rule.specs.Seated.{IsSeat};
 ghost use Rattle.sock_rule.specs.Shows.{heading_of};
 ghost use Rattle.sock_rule.specs.Sending.{Claims, OnTop};
 ghost use Rattle.sock_table.specs.Answers.{Holds};
 ghost use Rattle.write_chain.specs.Sending.{HasRoom, MaySend, StartedWith, StartedBy, RefusedBy};
+ghost use Rattle.write_chain.specs.Writing.{Begins};
 
 use crate::right::{Doing, WriteRight};
 use sock_io::Out;
@@ -90,6 +93,7 @@ pub fn start<O: Out>(
     ensures started { IfOk result (λ s. StartedBy table.now.rule.plan sock (heading_of msg) msg.bytes s seat.old.me.0 seat.new.me.0) }
     ensures refused { IfErr result (λ e. RefusedBy table.now.rule.plan sock msg e seat.old.me.0 seat.new.me.0) }
     ensures slots { seat.new.me.1 ≡ seat.old.me.1 }
+    ensures begins { seat.old.me.1 ≡ [] → marks_of is_ref (socket_id_slot sock.id.0) seat.old.me.0 < 65540 → IfOk result (λ s. Begins table.now.rule.plan sock s seat.new.me) }
 {
     if let Look::Failed(found) = table.look(seat, &sock) {
         return Err(Refused::Failed(sock, msg, found));

@@ -1,14 +1,30 @@
-// Whoever has the right writes the link.
+// Whoever has the right writes the link: steps that both calls make.
 ghost use Rattle.std.specs.Prelude.{◌≡◌, ◌≢◌, ◌+◌, ◌*◌, ◌<◌, ℕ, [], ◌∷◌, true, false};
-ghost use Rattle.sock_model.specs.Slots.{version_of};
+ghost use Rattle.atomic_table.specs.Table.{rest};
+ghost use Rattle.sock_words.specs.Words.{socket_id_slot};
+ghost use Rattle.sock_model.specs.declared.chain.Right.{Right};
+ghost use Rattle.sock_model.specs.declared.chain.Stage.{Stage};
+ghost use Rattle.sock_model.specs.declared.chain.Stage.TheVariants.{Writes, Placed, Empties};
+ghost use Rattle.sock_model.specs.ChainRows.{with_right, freed_right};
+ghost use Rattle.sock_model.specs.Entries.{slot_of};
+ghost use Rattle.sock_rule.specs.declared.homes.SockHome.TheVariants.{Empty};
 ghost use Rattle.sock_rule.specs.Seated.{IsSeat};
-ghost use Rattle.write_chain.specs.Writing.{MayBegin, HasInHand, MayFinish, FinishedBy};
+ghost use Rattle.sock_rule.specs.ChainPlays.{IsTicket};
+ghost use Rattle.sock_rule.specs.Holding.{Rights, MayFreeRequest};
+ghost use Rattle.write_chain.specs.Noting.{Faulted, Wrote};
+ghost use Rattle.write_chain.specs.Writing.{MayBegin, MayGoOn, Stands, HasLink, HasInHand, HasPart, IsClean, HasWhole, FoundDead, GoesBy, IsLast, OnceBy, TriedBy};
 
-use crate::right::{Doing, InHand, WriteRight};
-use sock_io::Out;
+use crate::right::{Doing, InHand, LinkInHand, WriteRight};
+use sock_io::{Out, Put};
 use sock_rule::{Letter, SockSeat};
 use sock_table::{SockRef, SockTable};
-use sock_words::{PlaceWord, Ticket};
+use sock_words::{PlaceWord, Ticket, Vref};
+
+/// The code of a socket whose link failed.
+pub const LINK_FAILED: u16 = 1009;
+
+/// A request of this generation isn't freed: its tickets are used up.
+const LAST_GENERATION: u64 = 140_737_488_355_327;
 
 /// What a first put leaves: the right is given up with the last message, or there is more to write.
 pub enum Once<O: Out> {
@@ -16,61 +32,131 @@ pub enum Once<O: Out> {
     Keep(WriteRight<O>),
 }
 
-/// The link and the first message come into hand: the link's number, the link, and the message.
-pub fn take_up<O: Out>(
+/// What a look and a put left of a message.
+#[derive(Drop)]
+pub enum Tried<O: Out> {
+    /// The look found the socket failed, and nothing was put.
+    Dead(InHand<O>),
+    /// The link took the rest of it.
+    Whole(InHand<O>),
+    /// It goes on by this.
+    Goes(Doing<O>),
+}
+
+/// The slot of a socket.
+pub fn slot_at<O: Out>(table: &SockTable<O>, sock: &SockRef) -> u16
+    requires inside { socket_id_slot sock.now.id.0 < table.now.rule.plan.slots }
+    ensures slot { result ≡ socket_id_slot sock.now.id.0 }
+{
+    let slots = table.rule.plan.slots;
+    let slot = sock.id.slot();
+    prove!(slot < slots as u32);
+    slot as u16
+}
+
+/// The link that the seat may write comes into hand.
+pub fn fetch_link<O: Out>(
     table: &SockTable<O>,
     seat: &mut SockSeat<O>,
-    right: WriteRight<O>,
-) -> (SockRef, InHand<O>)
+    _sock: &SockRef,
+    link: u16,
+) -> LinkInHand<O>
     requires seat { IsSeat table.now.rule.table.shared.table_id table.now.rule.plan seat.old }
-    requires may { MayBegin table.now.rule.plan right seat.old.me }
+    requires may { (last : ℕ) × (stage : Stage) × Stands table.now.rule.plan _sock.now.id.0 last stage link seat.old.me }
     ensures seat { IsSeat table.now.rule.table.shared.table_id table.now.rule.plan seat.new }
-    ensures hand { HasInHand table.now.rule.plan right.sock.id.0 result.1 seat.new.me }
-    ensures same { (result.0 ≡ right.sock) × (result.1.now ≡ right.last) }
+    ensures has { (last : ℕ) (stage : Stage) → Stands table.now.rule.plan _sock.now.id.0 last stage link seat.old.me → HasLink table.now.rule.plan _sock.now.id.0 last stage [] result seat.new.me }
+    ensures others { seat.new.me.0 ≡ record seat.old.me.0 { rights = seat.new.me.0.rights } }
 {
-    let WriteRight {
-        sock,
-        last,
-        doing: _,
-    } = right;
-    let slots = table.rule.plan.slots;
-    let id = sock.id;
-    let slot = id.slot();
-    prove!(slot < slots as u32);
-    let links = table.rule.plan.links;
-    let found = table.rule.load_link(seat, slot as u16);
-    prove!(found < links as u64);
-    let link = found as u16;
     let home = table.rule.take_link(seat, link);
+    LinkInHand { link, home }
+}
+
+/// M2: the message of the ticket comes into hand with its link.
+pub fn take_next<O: Out>(
+    table: &SockTable<O>,
+    seat: &mut SockSeat<O>,
+    _sock: &SockRef,
+    _last: Ticket,
+    link: LinkInHand<O>,
+    now: Ticket,
+) -> InHand<O>
+    requires seat { IsSeat table.now.rule.table.shared.table_id table.now.rule.plan seat.old }
+    requires may { HasLink table.now.rule.plan _sock.now.id.0 _last.0 (Writes now.0) [] link seat.old.me × IsTicket table.now.rule.plan now.0 }
+    ensures seat { IsSeat table.now.rule.table.shared.table_id table.now.rule.plan seat.new }
+    ensures hand { HasPart table.now.rule.plan _sock.now.id.0 _last.0 result seat.new.me }
+    ensures now { result.now.0 ≡ now.0 }
+    ensures others { seat.new.me.0 ≡ record seat.old.me.0 { rights = seat.new.me.0.rights } }
+{
+    let LinkInHand { link: number, home } = link;
     let Letter {
         bytes,
         label,
         owner,
-    } = table.rule.take_msg(seat, last);
-    let hand = InHand {
-        link,
+    } = table.rule.take_msg(seat, now);
+    InHand {
+        link: number,
         home,
-        now: last,
+        now,
         bytes: bytes.begin(),
         label,
         owner,
-    };
-    (sock, hand)
+    }
 }
 
-/// The link took the whole of the last message: it gets its place, its request is free, the link goes home, and the head
-/// is tried.
-pub fn finish_last<O: Out>(
+/// C8: the request of a message that has its place is free again, unless its generation is the last one.
+pub fn give_request_back<O: Out>(table: &SockTable<O>, seat: &mut SockSeat<O>, now: Ticket)
+    requires seat { IsSeat table.now.rule.table.shared.table_id table.now.rule.plan seat.old }
+    requires may { MayFreeRequest now.0 seat.old.me }
+    requires ticket { IsTicket table.now.rule.plan now.0 }
+    ensures seat { IsSeat table.now.rule.table.shared.table_id table.now.rule.plan seat.new }
+    ensures view { (r : Right) → Rights r seat.old.me.0 → seat.new.me ≡ (with_right seat.old.me.0 (freed_right r), rest seat.old.me.1) }
+{
+    if now.generation() < LAST_GENERATION {
+        table.rule.free_request(seat, now);
+    } else {
+        table.rule.retire_request(seat, now);
+    }
+}
+
+/// A message has its place: its request is given back, and the next one follows, or the head.
+pub fn go_past<O: Out>(
     table: &SockTable<O>,
     seat: &mut SockSeat<O>,
-    sock: SockRef,
+    _sock: &SockRef,
+    last: Ticket,
+    link: LinkInHand<O>,
+    now: Ticket,
+) -> Doing<O>
+    requires seat { IsSeat table.now.rule.table.shared.table_id table.now.rule.plan seat.old }
+    requires may { HasLink table.now.rule.plan _sock.now.id.0 last.0 (Placed now.0) ((slot_of now.0, Empty) ∷ []) link seat.old.me × IsTicket table.now.rule.plan now.0 }
+    ensures seat { IsSeat table.now.rule.table.shared.table_id table.now.rule.plan seat.new }
+    ensures goes { GoesBy table.now.rule.plan _sock.now.id.0 last.0 result seat.new.me }
+    ensures last { now.0 ≡ last.0 → IsLast result }
+    ensures others { seat.new.me.0 ≡ record seat.old.me.0 { rights = seat.new.me.0.rights } }
+{
+    if now.word() == last.word() {
+        give_request_back(table, seat, now);
+        return Doing::Last(link);
+    }
+    let found = table.rule.read_on(seat, now);
+    give_request_back(table, seat, now);
+    Doing::Next(link, Ticket::from_word(found))
+}
+
+/// The link took the whole message: it gets its place.
+pub fn place<O: Out>(
+    table: &SockTable<O>,
+    seat: &mut SockSeat<O>,
+    sock: &SockRef,
     last: Ticket,
     hand: InHand<O>,
-) -> Once<O>
+) -> Doing<O>
     requires seat { IsSeat table.now.rule.table.shared.table_id table.now.rule.plan seat.old }
-    requires may { MayFinish table.now.rule.plan sock.id.0 last.0 hand seat.old.me }
+    requires may { HasWhole table.now.rule.plan sock.now.id.0 last.0 hand seat.old.me }
     ensures seat { IsSeat table.now.rule.table.shared.table_id table.now.rule.plan seat.new }
-    ensures once { FinishedBy table.now.rule.plan sock last.0 result seat.new.me }
+    ensures goes { GoesBy table.now.rule.plan sock.now.id.0 last.0 result seat.new.me }
+    ensures last { hand.now.0 ≡ last.0 → IsLast result }
+    ensures others { seat.new.me.0 ≡ record seat.old.me.0 { rights = seat.new.me.0.rights } }
 {
     let InHand {
         link,
@@ -81,22 +167,223 @@ pub fn finish_last<O: Out>(
         owner: _,
     } = hand;
     drop(bytes);
-    let slots = table.rule.plan.slots;
-    let id = sock.id;
-    let slot = id.slot();
-    prove!(slot < slots as u32);
     let place = PlaceWord::pack(false, link, home.next);
     table.rule.store_place(seat, label.place, place);
     home.count_place();
-    table.rule.free_request(seat, now);
-    table.rule.put_own_link(seat, link, home);
-    let step = table.rule.empty_head(seat, slot as u16, last);
+    go_past(table, seat, sock, last, LinkInHand { link, home }, now)
+}
+
+/// All that was noted has its place: the link goes home, and the head is tried.
+pub fn leave<O: Out>(
+    table: &SockTable<O>,
+    seat: &mut SockSeat<O>,
+    sock: SockRef,
+    last: Ticket,
+    link: LinkInHand<O>,
+) -> Once<O>
+    requires seat { IsSeat table.now.rule.table.shared.table_id table.now.rule.plan seat.old }
+    requires may { HasLink table.now.rule.plan sock.id.0 last.0 Empties [] link seat.old.me }
+    ensures seat { IsSeat table.now.rule.table.shared.table_id table.now.rule.plan seat.new }
+    ensures once { OnceBy table.now.rule.plan sock result seat.new.me }
+    ensures others { seat.new.me.0 ≡ record seat.old.me.0 { rights = seat.new.me.0.rights } }
+{
+    let LinkInHand { link: number, home } = link;
+    let slot = slot_at(table, &sock);
+    table.rule.put_own_link(seat, number, home);
+    let step = table.rule.empty_head(seat, slot, last);
     if step.found == last.word() {
         return Once::Done(sock);
     }
     Once::Keep(WriteRight {
         sock,
         last,
-        doing: Doing::Walks(link, Ticket::from_word(step.found)),
+        doing: Doing::Walks(number, Ticket::from_word(step.found)),
     })
+}
+
+/// A8: whether the socket lives. Then the right is clean.
+pub fn look<O: Out>(
+    table: &SockTable<O>,
+    seat: &mut SockSeat<O>,
+    sock: &SockRef,
+    _last: Ticket,
+    _hand: &InHand<O>,
+) -> bool
+    requires seat { IsSeat table.now.rule.table.shared.table_id table.now.rule.plan seat.old }
+    requires may { HasPart table.now.rule.plan sock.now.id.0 _last.0 _hand.now seat.old.me }
+    ensures seat { IsSeat table.now.rule.table.shared.table_id table.now.rule.plan seat.new }
+    ensures live { result ≡ true → IsClean table.now.rule.plan sock.now.id.0 _last.0 _hand.entry.now seat.new.me }
+    ensures dead { result ≡ false → HasPart table.now.rule.plan sock.now.id.0 _last.0 _hand.entry.now seat.new.me × FoundDead sock.now.id.0 seat.new.me.0 }
+    ensures wrote { Wrote O.state sock.now.id.0 seat.old.me.0 seat.new.me.0 }
+{
+    let slot = slot_at(table, sock);
+    let step = table.rule.look_to_write(seat, slot);
+    let found = Vref::from_word(step.found);
+    if found.version() % 2 == 0 {
+        return true;
+    }
+    false
+}
+
+/// The link failed: so does the socket, unless it was failed before.
+pub fn fail_link<O: Out>(
+    table: &SockTable<O>,
+    seat: &mut SockSeat<O>,
+    sock: &SockRef,
+    _last: Ticket,
+    _hand: &InHand<O>,
+)
+    requires seat { IsSeat table.now.rule.table.shared.table_id table.now.rule.plan seat.old }
+    requires may { HasPart table.now.rule.plan sock.now.id.0 _last.0 _hand.now seat.old.me }
+    requires fault { Faulted O.state _hand.now.link }
+    ensures seat { IsSeat table.now.rule.table.shared.table_id table.now.rule.plan seat.new }
+    ensures has { HasPart table.now.rule.plan sock.now.id.0 _last.0 _hand.entry.now seat.new.me }
+    ensures wrote { Wrote O.state sock.now.id.0 seat.old.me.0 seat.new.me.0 }
+{
+    let failed = table.fail(seat, sock, LINK_FAILED);
+    drop(failed);
+}
+
+/// One put of what is left of a message.
+pub fn put_piece<O: Out>(
+    table: &SockTable<O>,
+    seat: &mut SockSeat<O>,
+    sock: &SockRef,
+    last: Ticket,
+    mut hand: InHand<O>,
+) -> Tried<O>
+    requires seat { IsSeat table.now.rule.table.shared.table_id table.now.rule.plan seat.old }
+    requires may { IsClean table.now.rule.plan sock.now.id.0 last.0 hand seat.old.me × (hand.bytes.left ≢ []) }
+    ensures seat { IsSeat table.now.rule.table.shared.table_id table.now.rule.plan seat.new }
+    ensures tried { TriedBy table.now.rule.plan sock.now.id.0 last.0 hand.now.0 result seat.new.me }
+    ensures wrote { Wrote O.state sock.now.id.0 seat.old.me.0 seat.new.me.0 }
+{
+    let put = hand.put();
+    if hand.bytes.is_whole_taken() {
+        return Tried::Whole(hand);
+    }
+    match put {
+        Put::Took(_) => Tried::Goes(Doing::Puts(hand)),
+        Put::Again => Tried::Goes(Doing::Waits(hand)),
+        Put::Failed => {
+            fail_link(table, seat, sock, last, &hand);
+            Tried::Goes(Doing::Puts(hand))
+        }
+    }
+}
+
+/// One put, where bytes are left.
+pub fn put_or_place<O: Out>(
+    table: &SockTable<O>,
+    seat: &mut SockSeat<O>,
+    sock: &SockRef,
+    last: Ticket,
+    hand: InHand<O>,
+) -> Tried<O>
+    requires seat { IsSeat table.now.rule.table.shared.table_id table.now.rule.plan seat.old }
+    requires may { IsClean table.now.rule.plan sock.now.id.0 last.0 hand seat.old.me }
+    ensures seat { IsSeat table.now.rule.table.shared.table_id table.now.rule.plan seat.new }
+    ensures tried { TriedBy table.now.rule.plan sock.now.id.0 last.0 hand.now.0 result seat.new.me }
+    ensures wrote { Wrote O.state sock.now.id.0 seat.old.me.0 seat.new.me.0 }
+{
+    if hand.bytes.is_whole_taken() {
+        return Tried::Whole(hand);
+    }
+    put_piece(table, seat, sock, last, hand)
+}
+
+/// A look, and one put where the socket lives. Where the link fails the socket is failed.
+pub fn try_put<O: Out>(
+    table: &SockTable<O>,
+    seat: &mut SockSeat<O>,
+    sock: &SockRef,
+    last: Ticket,
+    hand: InHand<O>,
+) -> Tried<O>
+    requires seat { IsSeat table.now.rule.table.shared.table_id table.now.rule.plan seat.old }
+    requires may { HasPart table.now.rule.plan sock.now.id.0 last.0 hand seat.old.me }
+    ensures seat { IsSeat table.now.rule.table.shared.table_id table.now.rule.plan seat.new }
+    ensures tried { TriedBy table.now.rule.plan sock.now.id.0 last.0 hand.now.0 result seat.new.me }
+    ensures wrote { Wrote O.state sock.now.id.0 seat.old.me.0 seat.new.me.0 }
+{
+    if look(table, seat, sock, last, &hand) {
+        return put_or_place(table, seat, sock, last, hand);
+    }
+    Tried::Dead(hand)
+}
+
+/// The link and the first message come into hand.
+pub fn take_up<O: Out>(
+    table: &SockTable<O>,
+    seat: &mut SockSeat<O>,
+    sock: &SockRef,
+    last: Ticket,
+) -> InHand<O>
+    requires seat { IsSeat table.now.rule.table.shared.table_id table.now.rule.plan seat.old }
+    requires may { (link : ℕ) × Stands table.now.rule.plan sock.now.id.0 last.0 (Writes last.0) link seat.old.me }
+    ensures seat { IsSeat table.now.rule.table.shared.table_id table.now.rule.plan seat.new }
+    ensures hand { HasPart table.now.rule.plan sock.now.id.0 last.0 result seat.new.me }
+    ensures now { result.now.0 ≡ last.0 }
+    ensures wrote { Wrote O.state sock.now.id.0 seat.old.me.0 seat.new.me.0 }
+{
+    let slot = slot_at(table, sock);
+    let links = table.rule.plan.links;
+    let found = table.rule.load_link(seat, slot);
+    prove!(found < links as u64);
+    let link = fetch_link(table, seat, sock, found as u16);
+    take_next(table, seat, sock, last, link, last)
+}
+
+/// The head is tried once nothing is left to write.
+pub fn leave_last<O: Out>(
+    table: &SockTable<O>,
+    seat: &mut SockSeat<O>,
+    sock: SockRef,
+    last: Ticket,
+    doing: Doing<O>,
+) -> Once<O>
+    requires seat { IsSeat table.now.rule.table.shared.table_id table.now.rule.plan seat.old }
+    requires may { GoesBy table.now.rule.plan sock.id.0 last.0 doing seat.old.me }
+    requires last { IsLast doing }
+    ensures seat { IsSeat table.now.rule.table.shared.table_id table.now.rule.plan seat.new }
+    ensures once { OnceBy table.now.rule.plan sock result seat.new.me }
+    ensures others { seat.new.me.0 ≡ record seat.old.me.0 { rights = seat.new.me.0.rights } }
+{
+    let Doing::Last(link) = doing else {
+        unreachable!();
+    };
+    leave(table, seat, sock, last, link)
+}
+
+/// One put of the message that `start` accepted, of whoever has the right. Done exactly where the link took it whole and the
+/// head was emptied.
+pub fn write_once<O: Out>(
+    table: &SockTable<O>,
+    seat: &mut SockSeat<O>,
+    right: WriteRight<O>,
+) -> Once<O>
+    requires seat { IsSeat table.now.rule.table.shared.table_id table.now.rule.plan seat.old }
+    requires may { MayBegin table.now.rule.plan right seat.old.me }
+    ensures seat { IsSeat table.now.rule.table.shared.table_id table.now.rule.plan seat.new }
+    ensures once { OnceBy table.now.rule.plan right.sock result seat.new.me }
+    ensures wrote { Wrote O.state right.sock.id.0 seat.old.me.0 seat.new.me.0 }
+{
+    let WriteRight {
+        sock,
+        last,
+        doing: _,
+    } = right;
+    let hand = take_up(table, seat, &sock, last);
+    match try_put(table, seat, &sock, last, hand) {
+        Tried::Dead(hand) => Once::Keep(WriteRight {
+            sock,
+            last,
+            doing: Doing::Puts(hand),
+        }),
+        Tried::Whole(hand) => {
+            let doing = place(table, seat, &sock, last, hand);
+            leave_last(table, seat, sock, last, doing)
+        }
+        Tried::Goes(doing) => Once::Keep(WriteRight { sock, last, doing }),
+    }
 }

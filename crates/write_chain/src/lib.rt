@@ -3,8 +3,10 @@
 
 mod entry;
 mod hold;
+mod keep;
 mod right;
 
 pub use entry::{Refused, Started, start};
-pub use hold::Once;
-pub use right::{Doing, InHand, WriteRight};
+pub use hold::{LINK_FAILED, Once, Tried, write_once};
+pub use keep::{Kept, Went, keep_write};
+pub use right::{Doing, InHand, LinkInHand, Undelivered, Walk, WriteRight};

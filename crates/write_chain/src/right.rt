@@ -1,15 +1,23 @@
-ghost use Rattle.std.specs.Prelude.{◌≡◌, ◌<◌, false, length};
+ghost use Rattle.std.specs.Prelude.{◌≡◌, ◌<◌, [], false, length};
 ghost use Rattle.sock_io.specs.declared.link.Put.TheVariants.{Failed};
+ghost use Rattle.sock_io.specs.declared.link.Ready.TheVariants as ready;
 ghost use Rattle.sock_io.specs.Causes.{Rose};
 ghost use Rattle.sock_io.specs.Link.{taken_of};
 ghost use Rattle.sock_message.specs.Pieces.{piece};
 ghost use Rattle.write_chain.specs.Puts.{WentOn};
 
-use sock_io::{Out, Put};
+use sock_io::{Out, Put, Ready};
 use sock_message::Outgoing;
 use sock_rule::LinkHome;
 use sock_table::SockRef;
 use sock_words::{Label, Ticket};
+
+/// The link that is written, in hand of whoever has the right.
+#[derive(Drop)]
+pub struct LinkInHand<O: Out> {
+    pub link: u16,
+    pub home: LinkHome<O>,
+}
 
 /// The link and the message that are written, in hand of whoever has the right.
 #[derive(Drop)]
@@ -35,6 +43,33 @@ impl<O: Out> InHand<O> {
         }
         put
     }
+
+    /// W2: whether the link takes more.
+    pub fn ready(&mut self) -> Ready
+        ensures has { WentOn self.old self.new [] }
+        ensures faults { result ≡ ready.Failed → (O.state self.old.home.out).finished ≡ false → Rose (O.state self.old.home.out).faults (O.state self.new.home.out).faults }
+    {
+        self.home.ready()
+    }
+}
+
+/// A message that was dropped: what its link didn't take of it, its label, and its owner, which is the call's id, or 0 for a
+/// send.
+#[derive(Drop)]
+pub struct Undelivered {
+    pub left: Outgoing,
+    pub label: Label,
+    pub owner: u64,
+}
+
+/// The walk from the newest ticket `top` to the one that was written last: it has come to `at`, whose successor is `after`,
+/// or 0.
+#[derive(Drop)]
+pub struct Walk<O: Out> {
+    pub link: LinkInHand<O>,
+    pub top: Ticket,
+    pub at: Ticket,
+    pub after: u64,
 }
 
 /// How far whoever has the right has come.
@@ -42,12 +77,18 @@ impl<O: Out> InHand<O> {
 pub enum Doing<O: Out> {
     /// Nothing was done with it.
     First,
-    /// A message has bytes left, and is put next.
+    /// A message has bytes left, and is put next, or dropped.
     Puts(InHand<O>),
     /// The link took nothing of it for want of a place: it is asked next.
     Waits(InHand<O>),
+    /// The message of this ticket comes next.
+    Next(LinkInHand<O>, Ticket),
+    /// All that was noted has its place: the head is tried next.
+    Last(LinkInHand<O>),
     /// The head of this link had a newer ticket, from which the walk begins.
     Walks(u16, Ticket),
+    /// The walk is on its way.
+    Back(Walk<O>),
 }
 
 /// The right to write the link of a socket, up to the message of the last ticket. It holds the reference.

@@ -1,9 +1,5 @@
-use Rattle.std.proofs.Common.{◌≡◌, ℕ, ◌<◌, ◌-◌, [], ◌∷◌}
-use Rattle.sock_model.specs.declared.marks.Mark.TheVariants.{Saw}
-use Rattle.sock_words.specs.Words.{socket_id_version, socket_id_slot}
+use Rattle.std.proofs.Common.{◌≡◌, ◌-◌}
 use Rattle.sock_rule.specs.Seated.{IsSeat}
-use Rattle.sock_rule.specs.Becoming.{Became}
-use Rattle.write_chain.specs.Sending.{FoundTaken}
 use Rattle.write_chain.proofs.Accepting.{Asking}
 use Rattle.write_chain.proofs.entry.start.Given as goal
 

@@ -1,44 +1,27 @@
-use Rattle.std.proofs.Common.{ℕ, ◌≡◌, ◌+◌, ◌*◌, ◌<◌, [], ◌∷◌, ◌++◌, append-nil, List, false, true, refl, sym, ap, ◌∙◌, subst, arith}
-use Rattle.sock_words.specs.Words.{socket_id_version, socket_id_slot}
-use Rattle.sock_model.specs.Links.{HoldsLink}
+use Rattle.std.proofs.Common.{ℕ, ◌<◌, sym, subst}
+use Rattle.sock_words.specs.Words.{socket_id_version}
+use Rattle.sock_model.specs.declared.chain.Stage.TheVariants.{Writes}
+use Rattle.sock_model.specs.declared.marks.Mark.TheVariants.{Met}
 use Rattle.sock_model.specs.Weights.{is_hold, is_met}
 use Rattle.sock_model.specs.SlotRows.{marks_of}
-use Rattle.sock_model.specs.ChainRows.{taken_right}
-use Rattle.sock_rule.specs.declared.homes.SockHome.TheVariants.{Empty}
-use Rattle.sock_rule.specs.Shows.{heading_of}
-use Rattle.sock_rule.proofs.Holding.{one_right}
-use Rattle.write_chain.proofs.Taking.{away, one₃, holds₃, slots₃}
+use Rattle.write_chain.specs.Noting.{met}
+use Rattle.write_chain.proofs.Noting.{found_it, wrote_then, wrote_rights, rights_then}
+use Rattle.write_chain.proofs.Stepping.{met_stands, met_wrote}
 use Rattle.write_chain.proofs.hold.take_up.Goals as goal
 
+pub slot_at-slot-requires : goal.slot_at-slot-requires
+slot_at-slot-requires g c = record { inside = c.requires.may.1.writer.holds.inside }
+
 pub load_link-found-requires-clause-held : goal.load_link-found-requires-clause-held
-load_link-found-requires-clause-held g c = ((socket_id_version c.args.right.sock.id.0), (subst (λ (j : ℕ). 0 < marks_of (is_hold (socket_id_version c.args.right.sock.id.0)) j c.args.seat.now.me.0) (sym c.slot-slot.ensures) c.requires.may.holds.held))
+load_link-found-requires-clause-held g c = (socket_id_version c.args.sock.now.id.0, (subst (λ (j : ℕ). 0 < marks_of (is_hold (socket_id_version c.args.sock.now.id.0)) j c.args.seat.now.me.0) (sym c.slot_at-slot.ensures.slot) c.requires.may.1.writer.holds.held))
 
-pub take_link-home-requires-clause-home : goal.take_link-home-requires-clause-home
-take_link-home-requires-clause-home g c = record { right = c.requires.may.right_is; one = (ap (λ m. m.0.rights) (c.load_link-found.ensures.view (socket_id_version c.args.right.sock.id.0) (subst (λ (j : ℕ). 0 < marks_of (is_hold (socket_id_version c.args.right.sock.id.0)) j c.args.seat.now.me.0) (sym c.slot-slot.ensures) c.requires.may.holds.held)) ∙ c.requires.may.one); link_is = c.requires.may.is_first.link_is ∙ sym (c.load_link-found.ensures.same (socket_id_version c.args.right.sock.id.0) c.requires.may.link (subst (λ (j : ℕ). 0 < marks_of (is_hold (socket_id_version c.args.right.sock.id.0)) j c.args.seat.now.me.0) (sym c.slot-slot.ensures) c.requires.may.holds.held) (subst (λ (j : ℕ). 0 < marks_of (is_met (socket_id_version c.args.right.sock.id.0) c.requires.may.link) j c.args.seat.now.me.0) (sym c.slot-slot.ensures) c.requires.may.holds.met)); home = c.requires.may.is_first.link_home }
+pub fetch_link-link-requires-clause-may : goal.fetch_link-link-requires-clause-may
+fetch_link-link-requires-clause-may g c = (c.args.last.0, Writes c.args.last.0, met_stands c.args.seat.now.me c.load_link-found.new.seat.me c.slot_at-slot.result c.load_link-found.result c.slot_at-slot.ensures.slot c.requires.may.1 (c.load_link-found.ensures.same (socket_id_version c.args.sock.now.id.0) c.requires.may.0 (subst (λ (j : ℕ). 0 < marks_of (is_hold (socket_id_version c.args.sock.now.id.0)) j c.args.seat.now.me.0) (sym c.slot_at-slot.ensures.slot) c.requires.may.1.writer.holds.held) (subst (λ (j : ℕ). 0 < marks_of (is_met (socket_id_version c.args.sock.now.id.0) c.requires.may.0) j c.args.seat.now.me.0) (sym c.slot_at-slot.ensures.slot) c.requires.may.1.writer.holds.met)) (c.load_link-found.ensures.view (socket_id_version c.args.sock.now.id.0) (subst (λ (j : ℕ). 0 < marks_of (is_hold (socket_id_version c.args.sock.now.id.0)) j c.args.seat.now.me.0) (sym c.slot_at-slot.ensures.slot) c.requires.may.1.writer.holds.held)) {O = g.row.O.Denot} {state = g.O.Out.state} (found_it (Met (socket_id_version c.args.sock.now.id.0) c.load_link-found.result) (met c.load_link-found.result)))
 
-pub take_msg-bytes-requires-clause-may : goal.take_msg-bytes-requires-clause-may
-take_msg-bytes-requires-clause-may g c = record { right = away c.requires.may.right_is; one = (ap (λ m. m.0.rights) (c.take_link-home.ensures.view c.requires.may.right_is (ap (λ m. m.0.rights) (c.load_link-found.ensures.view (socket_id_version c.args.right.sock.id.0) (subst (λ (j : ℕ). 0 < marks_of (is_hold (socket_id_version c.args.right.sock.id.0)) j c.args.seat.now.me.0) (sym c.slot-slot.ensures) c.requires.may.holds.held)) ∙ c.requires.may.one)) ∙ one_right c.load_link-found.new.seat.me.0 c.requires.may.right_is (away c.requires.may.right_is) (ap (λ m. m.0.rights) (c.load_link-found.ensures.view (socket_id_version c.args.right.sock.id.0) (subst (λ (j : ℕ). 0 < marks_of (is_hold (socket_id_version c.args.right.sock.id.0)) j c.args.seat.now.me.0) (sym c.slot-slot.ensures) c.requires.may.holds.held)) ∙ c.requires.may.one) refl); stage = c.requires.may.is_first.stage; idle = c.requires.may.is_first.idle }
+pub take_next-requires-clause-may : goal.take_next-requires-clause-may
+take_next-requires-clause-may g c = (c.fetch_link-link.ensures.has c.args.last.0 (Writes c.args.last.0) (met_stands c.args.seat.now.me c.load_link-found.new.seat.me c.slot_at-slot.result c.load_link-found.result c.slot_at-slot.ensures.slot c.requires.may.1 (c.load_link-found.ensures.same (socket_id_version c.args.sock.now.id.0) c.requires.may.0 (subst (λ (j : ℕ). 0 < marks_of (is_hold (socket_id_version c.args.sock.now.id.0)) j c.args.seat.now.me.0) (sym c.slot_at-slot.ensures.slot) c.requires.may.1.writer.holds.held) (subst (λ (j : ℕ). 0 < marks_of (is_met (socket_id_version c.args.sock.now.id.0) c.requires.may.0) j c.args.seat.now.me.0) (sym c.slot_at-slot.ensures.slot) c.requires.may.1.writer.holds.met)) (c.load_link-found.ensures.view (socket_id_version c.args.sock.now.id.0) (subst (λ (j : ℕ). 0 < marks_of (is_hold (socket_id_version c.args.sock.now.id.0)) j c.args.seat.now.me.0) (sym c.slot_at-slot.ensures.slot) c.requires.may.1.writer.holds.held)) {O = g.row.O.Denot} {state = g.O.Out.state} (found_it (Met (socket_id_version c.args.sock.now.id.0) c.load_link-found.result) (met c.load_link-found.result))), c.requires.may.1.writer.last_ticket)
 
-pub returns-clause-hand : goal.returns-clause-hand
-returns-clause-hand g c = let inside = subst (λ (j : ℕ). j < c.args.table.now.rule.plan.slots) (sym c.slot-slot.ensures) c.requires.may.holds.inside in
-    let same : c.requires.may.link ≡ c.load_link-found.result = sym (c.load_link-found.ensures.same (socket_id_version c.args.right.sock.id.0) c.requires.may.link (subst (λ (j : ℕ). 0 < marks_of (is_hold (socket_id_version c.args.right.sock.id.0)) j c.args.seat.now.me.0) (sym c.slot-slot.ensures) c.requires.may.holds.held) (subst (λ (j : ℕ). 0 < marks_of (is_met (socket_id_version c.args.right.sock.id.0) c.requires.may.link) j c.args.seat.now.me.0) (sym c.slot-slot.ensures) c.requires.may.holds.met)) in let holds = holds₃ c.args.table.now.rule.plan c.args.seat.now.me c.load_link-found.new.seat.me c.take_link-home.new.seat.me c.take_msg-bytes.new.seat.me c.requires.may.right_is c.slot-slot.result (socket_id_version c.args.right.sock.id.0) c.load_link-found.result c.args.right.last.0 Empty (heading_of c.take_msg-bytes.result) c.take_msg-bytes.result.bytes c.requires.may.one (c.load_link-found.ensures.view (socket_id_version c.args.right.sock.id.0) (subst (λ (j : ℕ). 0 < marks_of (is_hold (socket_id_version c.args.right.sock.id.0)) j c.args.seat.now.me.0) (sym c.slot-slot.ensures) c.requires.may.holds.held)) (c.take_link-home.ensures.view c.requires.may.right_is (ap (λ m. m.0.rights) (c.load_link-found.ensures.view (socket_id_version c.args.right.sock.id.0) (subst (λ (j : ℕ). 0 < marks_of (is_hold (socket_id_version c.args.right.sock.id.0)) j c.args.seat.now.me.0) (sym c.slot-slot.ensures) c.requires.may.holds.held)) ∙ c.requires.may.one)) (c.take_msg-bytes.ensures.view (away c.requires.may.right_is) (ap (λ m. m.0.rights) (c.take_link-home.ensures.view c.requires.may.right_is (ap (λ m. m.0.rights) (c.load_link-found.ensures.view (socket_id_version c.args.right.sock.id.0) (subst (λ (j : ℕ). 0 < marks_of (is_hold (socket_id_version c.args.right.sock.id.0)) j c.args.seat.now.me.0) (sym c.slot-slot.ensures) c.requires.may.holds.held)) ∙ c.requires.may.one)) ∙ one_right c.load_link-found.new.seat.me.0 c.requires.may.right_is (away c.requires.may.right_is) (ap (λ m. m.0.rights) (c.load_link-found.ensures.view (socket_id_version c.args.right.sock.id.0) (subst (λ (j : ℕ). 0 < marks_of (is_hold (socket_id_version c.args.right.sock.id.0)) j c.args.seat.now.me.0) (sym c.slot-slot.ensures) c.requires.may.holds.held)) ∙ c.requires.may.one) refl)) inside (subst (λ (j : ℕ). 0 < marks_of (is_hold (socket_id_version c.args.right.sock.id.0)) j c.args.seat.now.me.0) (sym c.slot-slot.ensures) c.requires.may.holds.held) in let took = c.take_link-home.ensures.took c.requires.may.right_is (ap (λ m. m.0.rights) (c.load_link-found.ensures.view (socket_id_version c.args.right.sock.id.0) (subst (λ (j : ℕ). 0 < marks_of (is_hold (socket_id_version c.args.right.sock.id.0)) j c.args.seat.now.me.0) (sym c.slot-slot.ensures) c.requires.may.holds.held)) ∙ c.requires.may.one) in
-    let link = c.requires.may.is_first.link_is ∙ same in record {
-      right_is = taken_right (away c.requires.may.right_is) (heading_of c.take_msg-bytes.result) c.take_msg-bytes.result.bytes;
-      one = one₃ c.args.table.now.rule.plan c.args.seat.now.me c.load_link-found.new.seat.me c.take_link-home.new.seat.me c.take_msg-bytes.new.seat.me c.requires.may.right_is c.slot-slot.result (socket_id_version c.args.right.sock.id.0) c.load_link-found.result c.args.right.last.0 Empty (heading_of c.take_msg-bytes.result) c.take_msg-bytes.result.bytes c.requires.may.one (c.load_link-found.ensures.view (socket_id_version c.args.right.sock.id.0) (subst (λ (j : ℕ). 0 < marks_of (is_hold (socket_id_version c.args.right.sock.id.0)) j c.args.seat.now.me.0) (sym c.slot-slot.ensures) c.requires.may.holds.held)) (c.take_link-home.ensures.view c.requires.may.right_is (ap (λ m. m.0.rights) (c.load_link-found.ensures.view (socket_id_version c.args.right.sock.id.0) (subst (λ (j : ℕ). 0 < marks_of (is_hold (socket_id_version c.args.right.sock.id.0)) j c.args.seat.now.me.0) (sym c.slot-slot.ensures) c.requires.may.holds.held)) ∙ c.requires.may.one)) (c.take_msg-bytes.ensures.view (away c.requires.may.right_is) (ap (λ m. m.0.rights) (c.take_link-home.ensures.view c.requires.may.right_is (ap (λ m. m.0.rights) (c.load_link-found.ensures.view (socket_id_version c.args.right.sock.id.0) (subst (λ (j : ℕ). 0 < marks_of (is_hold (socket_id_version c.args.right.sock.id.0)) j c.args.seat.now.me.0) (sym c.slot-slot.ensures) c.requires.may.holds.held)) ∙ c.requires.may.one)) ∙ one_right c.load_link-found.new.seat.me.0 c.requires.may.right_is (away c.requires.may.right_is) (ap (λ m. m.0.rights) (c.load_link-found.ensures.view (socket_id_version c.args.right.sock.id.0) (subst (λ (j : ℕ). 0 < marks_of (is_hold (socket_id_version c.args.right.sock.id.0)) j c.args.seat.now.me.0) (sym c.slot-slot.ensures) c.requires.may.holds.held)) ∙ c.requires.may.one) refl));
-      stage = c.requires.may.is_first.stage;
-      ticket = c.requires.may.ticket;
-      taken = refl;
-      away = refl;
-      link_is = link;
-      link_in = c.load_link-found.ensures.inside;
-      holds = subst (λ (k : ℕ). HoldsLink c.args.table.now.rule.plan c.take_msg-bytes.new.seat.me.0 (socket_id_slot c.args.right.sock.id.0) (socket_id_version c.args.right.sock.id.0) k) (sym link) (subst (λ (j : ℕ). HoldsLink c.args.table.now.rule.plan c.take_msg-bytes.new.seat.me.0 j (socket_id_version c.args.right.sock.id.0) c.load_link-found.result) c.slot-slot.ensures holds);
-      place_is = refl;
-      place_in = c.take_msg-bytes.ensures.label;
-      begun = [];
-      bytes_are = sym (ap (λ o. o.left) c.begin.ensures);
-      took = took.0 ∙ sym (append-nil c.requires.may.right_is.sent);
-      places_are = took.1;
-      few = (let f = c.take_msg-bytes.ensures.few (away c.requires.may.right_is) ((ap (λ m. m.0.rights) (c.take_link-home.ensures.view c.requires.may.right_is (ap (λ m. m.0.rights) (c.load_link-found.ensures.view (socket_id_version c.args.right.sock.id.0) (subst (λ (j : ℕ). 0 < marks_of (is_hold (socket_id_version c.args.right.sock.id.0)) j c.args.seat.now.me.0) (sym c.slot-slot.ensures) c.requires.may.holds.held)) ∙ c.requires.may.one)) ∙ one_right c.load_link-found.new.seat.me.0 c.requires.may.right_is (away c.requires.may.right_is) (ap (λ m. m.0.rights) (c.load_link-found.ensures.view (socket_id_version c.args.right.sock.id.0) (subst (λ (j : ℕ). 0 < marks_of (is_hold (socket_id_version c.args.right.sock.id.0)) j c.args.seat.now.me.0) (sym c.slot-slot.ensures) c.requires.may.holds.held)) ∙ c.requires.may.one) refl)) in omega (arith, took.1));
-      half = (c.take_link-home.ensures.link.0, c.take_link-home.ensures.link.1);
-      slots = slots₃ c.args.table.now.rule.plan c.args.seat.now.me c.load_link-found.new.seat.me c.take_link-home.new.seat.me c.take_msg-bytes.new.seat.me c.requires.may.right_is c.slot-slot.result (socket_id_version c.args.right.sock.id.0) c.load_link-found.result c.args.right.last.0 Empty (heading_of c.take_msg-bytes.result) c.take_msg-bytes.result.bytes c.requires.may.one (c.load_link-found.ensures.view (socket_id_version c.args.right.sock.id.0) (subst (λ (j : ℕ). 0 < marks_of (is_hold (socket_id_version c.args.right.sock.id.0)) j c.args.seat.now.me.0) (sym c.slot-slot.ensures) c.requires.may.holds.held)) (c.take_link-home.ensures.view c.requires.may.right_is (ap (λ m. m.0.rights) (c.load_link-found.ensures.view (socket_id_version c.args.right.sock.id.0) (subst (λ (j : ℕ). 0 < marks_of (is_hold (socket_id_version c.args.right.sock.id.0)) j c.args.seat.now.me.0) (sym c.slot-slot.ensures) c.requires.may.holds.held)) ∙ c.requires.may.one)) (c.take_msg-bytes.ensures.view (away c.requires.may.right_is) (ap (λ m. m.0.rights) (c.take_link-home.ensures.view c.requires.may.right_is (ap (λ m. m.0.rights) (c.load_link-found.ensures.view (socket_id_version c.args.right.sock.id.0) (subst (λ (j : ℕ). 0 < marks_of (is_hold (socket_id_version c.args.right.sock.id.0)) j c.args.seat.now.me.0) (sym c.slot-slot.ensures) c.requires.may.holds.held)) ∙ c.requires.may.one)) ∙ one_right c.load_link-found.new.seat.me.0 c.requires.may.right_is (away c.requires.may.right_is) (ap (λ m. m.0.rights) (c.load_link-found.ensures.view (socket_id_version c.args.right.sock.id.0) (subst (λ (j : ℕ). 0 < marks_of (is_hold (socket_id_version c.args.right.sock.id.0)) j c.args.seat.now.me.0) (sym c.slot-slot.ensures) c.requires.may.holds.held)) ∙ c.requires.may.one) refl)) c.requires.may.slots;
-    }
+pub returns-clause-wrote : goal.returns-clause-wrote
+returns-clause-wrote g c = wrote_then c.args.seat.now.me.0 c.load_link-found.new.seat.me.0 c.take_next.new.seat.me.0
+    (met_wrote c.args.seat.now.me c.load_link-found.new.seat.me c.slot_at-slot.result c.load_link-found.result c.slot_at-slot.ensures.slot c.requires.may.1 (c.load_link-found.ensures.same (socket_id_version c.args.sock.now.id.0) c.requires.may.0 (subst (λ (j : ℕ). 0 < marks_of (is_hold (socket_id_version c.args.sock.now.id.0)) j c.args.seat.now.me.0) (sym c.slot_at-slot.ensures.slot) c.requires.may.1.writer.holds.held) (subst (λ (j : ℕ). 0 < marks_of (is_met (socket_id_version c.args.sock.now.id.0) c.requires.may.0) j c.args.seat.now.me.0) (sym c.slot_at-slot.ensures.slot) c.requires.may.1.writer.holds.met)) (c.load_link-found.ensures.view (socket_id_version c.args.sock.now.id.0) (subst (λ (j : ℕ). 0 < marks_of (is_hold (socket_id_version c.args.sock.now.id.0)) j c.args.seat.now.me.0) (sym c.slot_at-slot.ensures.slot) c.requires.may.1.writer.holds.held)))
+    (wrote_rights c.load_link-found.new.seat.me.0 c.take_next.new.seat.me.0 (rights_then c.load_link-found.new.seat.me.0 c.fetch_link-link.new.seat.me.0 c.take_next.new.seat.me.0 c.fetch_link-link.ensures.others c.take_next.ensures.others))

@@ -1,0 +1,26 @@
+ghost use Rattle.std.specs.Prelude.{◌≡◌};
+ghost use Rattle.brpc_eng.specs.Answers.{Wrote};
+ghost use Rattle.brpc_main.specs.Reasons.{reason_text};
+
+use sock_io::{Sink, write_all};
+
+/// Why the program ends with this status, where its output doesn't say it; else nothing.
+fn reason(status: u8) -> &'static [u8]
+    ensures { result.now ≡ reason_text status }
+{
+    match status {
+        4 => b"brpc: the input failed\n",
+        5 => b"brpc: the output failed\n",
+        6 => b"brpc: the input is longer than the command takes\n",
+        7 => b"brpc: memory ran out\n",
+        8 => b"brpc: a link could not be opened\n",
+        _ => b"",
+    }
+}
+
+/// Writes that line: whole, or a beginning of it where the count of faults rose.
+pub fn explain<E: Sink>(errors: &mut E, status: u8)
+    ensures { Wrote (record { before = E.contents errors.old; now = E.contents errors.new; faults = record { before = E.faults errors.old; now = E.faults errors.new } }) (reason_text status) }
+{
+    let _ = write_all(errors, reason(status));
+}

@@ -1,0 +1,99 @@
+-- What a look finds, and what becomes of a socket whose link failed.
+use Rattle.std.proofs.Common.{◌≡◌, ◌≢◌, ℕ, ◌+◌, ◌-◌, ◌%◌, ◌<◌, zero, suc, Bool, true, false, cond, eqb, eqb-true, eq-eqb, List, [], ◌∷◌, length, take, refl, sym, ap, ◌∙◌, subst, arith}
+use Rattle.std.specs.Prelude.{Ok, Err, IfOk, IfErr}
+use Rattle.std.specs.declared.result.Result.{Result}
+use Rattle.sock_message.specs.Pieces.{piece}
+use mathlib.Core.Logic.{dite}
+use native.Mathlib.Decide.{ℕ_discrete}
+use Rattle.atomic_table.specs.Table.{Me}
+use Rattle.sock_io.specs.declared.link.Out.{Ghosts}
+use Rattle.sock_io.specs.Link.{OutState}
+use Rattle.sock_words.specs.declared.plain.Plan.{Plan}
+use Rattle.sock_words.specs.Words.{socket_id_version, socket_id_slot, vref_version}
+use Rattle.sock_model.specs.declared.marks.Mark.{Mark}
+use Rattle.sock_model.specs.declared.marks.Mark.TheVariants.{Saw}
+use Rattle.sock_model.specs.declared.view.View.{View}
+use Rattle.sock_model.specs.Slots.{version_of}
+use Rattle.sock_model.specs.Weights.{is_hold, is_met, is_saw}
+use Rattle.sock_model.specs.SlotRows.{marks_of, looked}
+use Rattle.slot_laws.proofs.Numbers.{only-same}
+use Rattle.sock_rule.specs.Becoming.{Became}
+use Rattle.sock_rule.specs.Holding.{LookedToWrite}
+use Rattle.sock_rule.specs.declared.homes.SockHome.{SockHome}
+use Rattle.sock_rule.proofs.Becoming.{looked_marks}
+use Rattle.sock_table.specs.Answers.{FailedBy, FoundFailed}
+use Rattle.sock_table.specs.declared.refs.Already.{Already}
+use Rattle.write_chain.specs.declared.right.InHand.{InHand}
+use Rattle.write_chain.specs.Noting.{saw, Faulted, Noted, nothing, failing, Met_by, Wrote}
+use Rattle.write_chain.specs.Writing.{HasPart, IsClean, FoundDead}
+use Rattle.write_chain.proofs.Noting.{found_it}
+use Rattle.write_chain.proofs.Stepping.{part_noted, part_clean}
+
+module _ {O : Type 0} {g : Ghosts O} {p : Plan} {id last : ℕ} (hand : InHand O g) (m n : Me (SockHome O g) View) (slot found : ℕ) (at : slot ≡ socket_id_slot id) (h : HasPart p id last hand m) (l : LookedToWrite h.0.right_is slot found m n) where
+  became_looked : Became (socket_id_slot id) m.0 (looked slot found m.0) (Saw (version_of found) ∷ []) []
+  became_looked = subst (λ (j : ℕ). Became j m.0 (looked slot found m.0) (Saw (version_of found) ∷ []) []) at (looked_marks slot found m.0)
+
+  noted_saw : {L : ℕ → Type 0} → Noted g.state L (socket_id_version id) (Saw (version_of found) ∷ [])
+  noted_saw {L} = found_it (Saw (version_of found)) (saw (version_of found))
+
+  pub live : version_of found % 2 ≡ 0 → IsClean p id last hand n
+  live even = part_clean {L = λ k. ⊥} hand m n (looked slot found m.0) (Saw (version_of found) ∷ []) noted_saw became_looked h (l.1 even)
+
+  odd_is : version_of found % 2 ≢ 0 → version_of found ≡ socket_id_version id + 1
+  odd_is odd = let a = l.0.held (socket_id_version id) (subst (λ (j : ℕ). 0 < marks_of (is_hold (socket_id_version id)) j m.0) (sym at) h.0.writer.holds.held) in omega arith
+
+  pub dead : version_of found % 2 ≢ 0 → HasPart p id last hand n × FoundDead id n.0
+  dead odd = let v = ap (λ (q : Me (SockHome O g) View). q.0) (l.2 odd) in let b : Became (socket_id_slot id) m.0 n.0 (Saw (version_of found) ∷ []) [] = subst (λ (y : View). Became (socket_id_slot id) m.0 y (Saw (version_of found) ∷ []) []) (sym v) became_looked in
+      let one : is_saw (socket_id_version id + 1) (Saw (version_of found)) ≡ 1 = ap (λ (y : ℕ). is_saw (socket_id_version id + 1) (Saw y)) (odd_is odd) ∙ only-same (socket_id_version id + 1) in (
+        part_noted {L = λ k. ⊥} hand m n (Saw (version_of found) ∷ []) noted_saw b (ap (λ (q : Me (SockHome O g) View). q.1) (l.2 odd)) h,
+        (let x : marks_of (is_saw (socket_id_version id + 1)) (socket_id_slot id) n.0 + 0 ≡ marks_of (is_saw (socket_id_version id + 1)) (socket_id_slot id) m.0 + (is_saw (socket_id_version id + 1) (Saw (version_of found)) + 0) = b.here (is_saw (socket_id_version id + 1)) in omega arith),
+      )
+
+  pub looked_wrote : Wrote g.state id m.0 n.0
+  looked_wrote = record {
+    notes = Saw (version_of found) ∷ [];
+    noted = noted_saw;
+    became = subst (λ (y : View). Became (socket_id_slot id) m.0 y (Saw (version_of found) ∷ []) []) (sym by_found) became_looked;
+  }
+    where
+      by_found : record n.0 { rights = m.0.rights } ≡ looked slot found m.0
+      by_found = dite (ℕ_discrete (version_of found % 2) 0) (λ even. ap (λ (q : Me (SockHome O g) View). record q.0 { rights = m.0.rights }) (l.1 even)) (λ odd. ap (λ (q : Me (SockHome O g) View). record q.0 { rights = m.0.rights }) (l.2 odd))
+
+-- ## The link failed
+
+pub record Fails {O : Type 0} (state : O → OutState) (id : ℕ) (v w : View) : Type 0 where
+  pub notes : List Mark
+  pub noted : Noted state (Met_by id w) (socket_id_version id) notes
+  pub became : Became (socket_id_slot id) v w notes []
+
+pub fails : {O : Type 0} {state : O → OutState} (id k : ℕ) (v w : View) (r : Result (Unit {0}) Already) → IfOk r (λ _. FailedBy id 1009 v w) → IfErr r (λ e. FoundFailed id e.found.0 v w) → Faulted state k → Met_by id v k → Fails state id v w
+fails id k v w (Ok u) ok err fault met_ = record {
+  notes = _;
+  noted = failing k [] (let x : marks_of (is_met (socket_id_version id) k) (socket_id_slot id) w + 0 ≡ marks_of (is_met (socket_id_version id) k) (socket_id_slot id) v + 0 = ok.here (is_met (socket_id_version id) k) in omega arith) fault nothing;
+  became = ok;
+}
+fails id k v w (Err e) ok err fault met_ = record { notes = _; noted = found_it _ (saw (vref_version e.found.0)); became = err.1 }
+
+-- ## What is left of a message
+
+pub false_true : false ≡ true → ⊥
+false_true e = let n : ℕ ≡ ⊥ = ap (λ b. cond b ⊥ ℕ) e in subst (λ (x : Type 0). x) n 0
+
+none_left : (l : List ℕ) → length l ≡ 0 → l ≡ []
+none_left [] e = refl
+none_left (x ∷ xs) e = absurd (omega arith)
+
+pub is_none : (l : List ℕ) (b : Bool) → b ≡ eqb (length l) 0 → b ≡ true → l ≡ []
+is_none l b is t = none_left l (eqb-true (length l) 0 (sym is ∙ t))
+
+pub is_some : (l : List ℕ) (b : Bool) → b ≡ eqb (length l) 0 → b ≡ false → l ≢ []
+is_some l b is f e = false_true (sym f ∙ (is ∙ eq-eqb (length l) 0 (ap length e)))
+
+some_taken : (n : ℕ) (l : List ℕ) → 0 < n → l ≢ [] → 0 < length (take n l)
+some_taken zero l pos ne = absurd (omega arith)
+some_taken (suc n) [] pos ne = absurd (ne refl)
+some_taken (suc n) (x ∷ xs) pos ne = omega arith
+
+-- a piece is put where bytes are left
+pub some_piece : (l : List ℕ) (taken : ℕ) → l ≢ [] → 0 < length (piece l taken)
+some_piece l taken ne = some_taken (8192 - taken % 8192) l (omega arith) ne

@@ -1,0 +1,76 @@
+-- What a seat notes while it writes: such notes leave all that it holds.
+use Rattle.std.proofs.Common.{◌≡◌, ℕ, ◌+◌, ◌≤◌, List, [], ◌∷◌, ◌++◌, refl, sym, ap, ◌∙◌, subst, arith}
+use Rattle.sock_io.specs.Link.{OutState}
+use Rattle.sock_words.specs.Words.{socket_id_version, socket_id_slot}
+use Rattle.sock_model.specs.declared.chain.Right.{Right}
+use Rattle.sock_model.specs.declared.marks.Mark.{Mark}
+use Rattle.sock_model.specs.declared.view.View.{View}
+use Rattle.sock_model.specs.Weights.{total, is_ref, is_met}
+use Rattle.sock_model.specs.SlotRows.{marks_of}
+use Rattle.sock_rule.specs.Becoming.{Became}
+use Rattle.sock_rule.proofs.Becoming.{then_, stays}
+use Rattle.sock_table.proofs.Quiet.{IsQuiet}
+use Rattle.write_chain.specs.Noting.{IsFinding, saw, met, told, Noted, nothing, finding, failing, Met_by, Wrote}
+
+finding_quiet : {h : ℕ} (m : Mark) → IsFinding h m → IsQuiet (m ∷ []) × (is_ref m ≡ 0)
+finding_quiet _ (saw w) = (record { claimed = refl; probe = refl; coding = refl; zeros = λ x. refl }, refl)
+finding_quiet _ (met l) = (record { claimed = refl; probe = refl; coding = refl; zeros = λ x. refl }, refl)
+finding_quiet _ (told c) = (record { claimed = refl; probe = refl; coding = refl; zeros = λ x. refl }, refl)
+
+module _ {O : Type 0} {state : O → OutState} {h : ℕ} where
+  pub noted_as : {K L : ℕ → Type 0} (l : List Mark) → ((k : ℕ) → K k → L k) → Noted state K h l → Noted state L h l
+  noted_as [] to nothing = nothing
+  noted_as _ to (finding m ms is rest) = finding m ms is (noted_as ms to rest)
+  noted_as _ to (failing k ms its why rest) = failing k ms (to k its) why (noted_as ms to rest)
+
+module _ {O : Type 0} {state : O → OutState} {L : ℕ → Type 0} {h : ℕ} where
+  pub noted_then : (a b : List Mark) → Noted state L h a → Noted state L h b → Noted state L h (a ++ b)
+  noted_then [] b nothing q = q
+  noted_then _ b (finding m ms is rest) q = finding m (ms ++ b) is (noted_then ms b rest q)
+  noted_then _ b (failing k ms its why rest) q = failing k (ms ++ b) its why (noted_then ms b rest q)
+
+  pub noted_quiet : (l : List Mark) → Noted state L h l → IsQuiet l × (total is_ref l ≡ 0)
+  noted_quiet [] nothing = (record { claimed = refl; probe = refl; coding = refl; zeros = λ x. refl }, refl)
+  noted_quiet _ (finding m ms is rest) = let a = finding_quiet m is in let b = noted_quiet ms rest in (
+    record { claimed = omega (arith, a.0.claimed, b.0.claimed); probe = omega (arith, a.0.probe, b.0.probe); coding = omega (arith, a.0.coding, b.0.coding); zeros = λ x. omega (arith, a.0.zeros x, b.0.zeros x) },
+    omega (arith, a.1, b.1),
+  )
+  noted_quiet _ (failing k ms its why rest) = let b = noted_quiet ms rest in (
+    record { claimed = omega (arith, b.0.claimed); probe = omega (arith, b.0.probe); coding = omega (arith, b.0.coding); zeros = λ x. omega (arith, b.0.zeros x) },
+    omega (arith, b.1),
+  )
+
+  pub found_it : (m : Mark) → IsFinding h m → Noted state L h (m ∷ [])
+  found_it m is = finding m [] is nothing
+
+module _ {O : Type 0} {state : O → OutState} {id : ℕ} where
+  -- notes alone
+  pub wrote_notes : (v w : View) (notes : List Mark) → Noted state (Met_by id w) (socket_id_version id) notes → Became (socket_id_slot id) v w notes [] → Wrote state id v w
+  wrote_notes v w notes noted b = record { notes = notes; noted = noted; became = subst (λ (y : View). Became (socket_id_slot id) v y notes []) (b.others ∙ sym (ap (λ (y : View). record y { rights = v.rights }) b.others)) b }
+
+  -- rights alone
+  pub wrote_rights : (v w : View) → w ≡ record v { rights = w.rights } → Wrote state id v w
+  wrote_rights v w e = record { notes = []; noted = nothing; became = subst (λ (y : View). Became (socket_id_slot id) v y [] []) (sym (ap (λ (y : View). record y { rights = v.rights }) e)) (stays (socket_id_slot id) v) }
+
+  pub wrote_then : (u v w : View) → Wrote state id u v → Wrote state id v w → Wrote state id u w
+  wrote_then u v w a b = let i : ℕ = socket_id_slot id in let second : Became (socket_id_slot id) (record v { rights = u.rights }) (record w { rights = u.rights }) b.notes [] = record {
+    here = λ f. b.became.here f;
+    elsewhere = λ j ne. b.became.elsewhere j ne;
+    others = ap (λ (y : View). record y { rights = u.rights }) b.became.others;
+  } in record {
+    notes = a.notes ++ b.notes;
+    noted = noted_then a.notes b.notes (noted_as a.notes (λ k met_. (let x : marks_of (is_met (socket_id_version id) k) (socket_id_slot id) w + 0 ≡ marks_of (is_met (socket_id_version id) k) (socket_id_slot id) v + total (is_met (socket_id_version id) k) b.notes = b.became.here (is_met (socket_id_version id) k) in omega arith)) a.noted) b.noted;
+    became = then_ i a.became second;
+  }
+
+  -- what the seat holds it holds still
+  pub wrote_more : (f : Mark → ℕ) (v w : View) → Wrote state id v w → marks_of f (socket_id_slot id) v ≤ marks_of f (socket_id_slot id) w
+  wrote_more f v w a = let x : marks_of f (socket_id_slot id) w + 0 ≡ marks_of f (socket_id_slot id) v + total f a.notes = a.became.here f in omega arith
+
+-- ## Rights alone
+
+pub rights_only : (v w : View) (rs : List Right) → w ≡ record v { rights = rs } → w ≡ record v { rights = w.rights }
+rights_only v w rs e = e ∙ sym (ap (λ (y : View). record v { rights = y.rights }) e)
+
+pub rights_then : (u v w : View) → v ≡ record u { rights = v.rights } → w ≡ record v { rights = w.rights } → w ≡ record u { rights = w.rights }
+rights_then u v w first second = second ∙ ap (λ (y : View). record y { rights = w.rights }) first

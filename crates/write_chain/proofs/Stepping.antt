@@ -1,0 +1,358 @@
+-- What a writer has stays through the steps that it makes.
+use Rattle.std.proofs.Common.{◌≡◌, ◌≢◌, ℕ, suc, ◌+◌, ◌*◌, ◌<◌, inl, inr, Bool, true, false, cond, eqb, eq-eqb, ne_eqb, not, List, [], ◌∷◌, ◌++◌, append-nil, append_assoc, refl, sym, ap, ◌∙◌, subst, arith}
+use Rattle.std.specs.List.{filter}
+use Rattle.atomic_table.specs.Table.{Me, rest}
+use Rattle.sock_io.specs.declared.link.Out.{Ghosts}
+use Rattle.sock_io.specs.Link.{OutState}
+use Rattle.sock_words.specs.declared.plain.Plan.{Plan}
+use Rattle.sock_words.specs.declared.plain.Label.{Label}
+use Rattle.sock_words.specs.declared.ticket.Ticket.{Ticket}
+use Rattle.sock_words.specs.Words.{socket_id_version, socket_id_slot}
+use Rattle.sock_model.specs.declared.chain.Right.{Right}
+use Rattle.sock_model.specs.declared.chain.Stage.{Stage}
+use Rattle.sock_model.specs.declared.chain.Stage.TheVariants.{Writes, Placed, Passes, Empties, Walks, Turns}
+use Rattle.sock_model.specs.declared.marks.Mark.{Mark}
+use Rattle.sock_model.specs.declared.marks.Mark.TheVariants.{Met}
+use Rattle.sock_model.specs.declared.view.View.{View}
+use Rattle.sock_model.specs.Entries.{slot_of}
+use Rattle.sock_model.specs.Links.{HoldsLink}
+use Rattle.sock_model.specs.Weights.{is_ref, is_hold, is_met}
+use Rattle.sock_model.specs.SlotRows.{met_link}
+use Rattle.sock_model.specs.ChainRows.{with_right, without_right, taken_right, placed_right, dropped_right, passing_right, freed_stage, freed_right, walking_right, reading_right, turned_right}
+use Rattle.sock_rule.specs.Becoming.{Became}
+use Rattle.sock_rule.specs.Holding.{Part, Follows, ends, goes_on, MayFreeRequest, MayLookToWrite, MayEmptyHead}
+use Rattle.sock_rule.specs.ChainPlays.{IsTicket}
+use Rattle.sock_rule.specs.declared.homes.LinkHome.{LinkHome}
+use Rattle.sock_rule.specs.declared.homes.Letter.{Letter}
+use Rattle.sock_rule.specs.declared.homes.SockHome.{SockHome}
+use Rattle.sock_rule.specs.declared.homes.SockHome.TheVariants.{Empty}
+use Rattle.sock_rule.specs.Shows.{heading_of}
+use Rattle.sock_rule.proofs.Holding.{one_right}
+use Rattle.sock_rule.proofs.Becoming.{met_marks}
+use Rattle.sock_table.proofs.Quiet.{rests_on, rests_between}
+use Rattle.write_chain.specs.declared.right.InHand.{InHand}
+use Rattle.write_chain.specs.declared.right.LinkInHand.{LinkInHand}
+use Rattle.write_chain.specs.Noting.{met, Noted, Wrote}
+use Rattle.write_chain.specs.Puts.{WentOn}
+use Rattle.write_chain.specs.declared.right.Doing.{Doing}
+use Rattle.write_chain.specs.declared.right.Doing.TheVariants as doing
+use Rattle.write_chain.specs.Writing.{IsWriter, Stands, HasLink, HasInHand, IsPart, HasPart, IsClean, HasWhole, GaveUp, IsLast}
+use Rattle.write_chain.proofs.Noting.{noted_quiet, found_it, wrote_notes}
+
+-- ## The right changes
+
+pub writer_on : {p : Plan} {id last link : ℕ} {x : Right} {v w : View} → IsWriter p id last link x v → (last' : ℕ) (x' : Right) → x'.link ≡ x.link → x'.last ≡ last' → IsTicket p last' → w ≡ with_right v x' → IsWriter p id last' link x' w
+writer_on {p} {id} {last} {link} {x} {v} {w} is last' x' same now ticket e = subst (λ (z : View). IsWriter p id last' link x' z) (sym e) record {
+  one = one_right v x x' is.one same;
+  last_is = now;
+  last_ticket = ticket;
+  link_is = same ∙ is.link_is;
+  holds = record { inside = is.holds.inside; held = is.holds.held; met = is.holds.met };
+  rests = is.rests;
+  room = is.room;
+}
+
+-- ## Notes come
+
+pub writer_noted : {O : Type 0} {state : O → OutState} {L : ℕ → Type 0} {p : Plan} {id last link : ℕ} {x : Right} {v w : View} → IsWriter p id last link x v → (notes : List Mark) → Noted state L (socket_id_version id) notes → Became (socket_id_slot id) v w notes [] → IsWriter p id last link x w
+writer_noted {p = p} {id = id} {last = last} {link = link} {x = x} {v = v} {w = w} is notes noted b = let q = noted_quiet notes noted in record {
+  one = ap (λ (y : View). y.rights) b.others ∙ is.one;
+  last_is = is.last_is;
+  last_ticket = is.last_ticket;
+  link_is = is.link_is;
+  holds = record {
+    inside = is.holds.inside;
+    held = (let a = b.here (is_hold (socket_id_version id)) in let c = is.holds.held in omega arith);
+    met = (let a = b.here (is_met (socket_id_version id) link) in let c = is.holds.met in omega arith);
+  };
+  rests = rests_on p (socket_id_slot id) v w notes [] is.rests b q.0;
+  room = (let a = b.here is_ref in let c = is.room in let d = q.1 in omega arith);
+}
+
+took_all : (sent begun bytes left took : List ℕ) → took ≡ sent ++ begun → bytes ≡ begun ++ left → left ≡ [] → took ≡ sent ++ bytes
+took_all sent begun bytes left took t b none_ = t ∙ ap (λ l. sent ++ l) (sym (b ∙ (ap (λ l. begun ++ l) none_ ∙ append-nil begun)))
+
+module _ {O : Type 0} {g : Ghosts O} {p : Plan} {id last : ℕ} where
+  -- what is in hand stays where notes come
+  pub part_noted : {L : ℕ → Type 0} (hand : InHand O g) (m n : Me (SockHome O g) View) (notes : List Mark) → Noted g.state L (socket_id_version id) notes → Became (socket_id_slot id) m.0 n.0 notes [] → n.1 ≡ m.1 → HasPart p id last hand m → HasPart p id last hand n
+  part_noted hand m n notes noted b slots h = (
+    record {
+      right_is = h.0.right_is;
+      writer = writer_noted h.0.writer notes noted b;
+      has = h.0.has;
+      stage_is = h.0.stage_is;
+      ticket = h.0.ticket;
+      taken = h.0.taken;
+      place_is = h.0.place_is;
+      place_in = h.0.place_in;
+      begun = h.0.begun;
+      bytes_are = h.0.bytes_are;
+      took = h.0.took;
+      few = h.0.few;
+      slots = slots ∙ h.0.slots;
+    },
+    h.1,
+  )
+
+  -- the look found the life live
+  pub part_clean : {L : ℕ → Type 0} (hand : InHand O g) (m n : Me (SockHome O g) View) (v : View) (notes : List Mark) → Noted g.state L (socket_id_version id) notes → Became (socket_id_slot id) m.0 v notes [] → (h : HasPart p id last hand m)
+      → n ≡ (with_right v (record h.0.right_is { clean = true }), m.1) → IsClean p id last hand n
+  part_clean hand m n v notes noted b h e = let w = writer_noted h.0.writer notes noted b in (
+    record {
+      right_is = record h.0.right_is { clean = true };
+      writer = writer_on w last (record h.0.right_is { clean = true }) refl w.last_is w.last_ticket (ap (λ (q : Me (SockHome O g) View). q.0) e);
+      has = record { away = h.0.has.away; link_in = h.0.has.link_in; places_are = h.0.has.places_are; own = h.0.has.own; unfinished = h.0.has.unfinished };
+      stage_is = h.0.stage_is;
+      ticket = h.0.ticket;
+      taken = h.0.taken;
+      place_is = h.0.place_is;
+      place_in = h.0.place_in;
+      begun = h.0.begun;
+      bytes_are = h.0.bytes_are;
+      took = h.0.took;
+      few = h.0.few;
+      slots = ap (λ (q : Me (SockHome O g) View). q.1) e ∙ h.0.slots;
+    },
+    refl,
+  )
+
+  -- a put was made, or the link was asked
+  went_on : (old new : InHand O g) (taken : List ℕ) (m : Me (SockHome O g) View) → WentOn old new taken → (h : HasInHand p id last old m) → (h' : HasInHand p id last new m) × (h'.right_is ≡ h.right_is) × (h'.begun ≡ h.begun ++ taken)
+  went_on old new taken m w h = let k = w.others.0 in let t = w.others.1 in let l = w.others.2 in (
+    record {
+      right_is = h.right_is;
+      writer = subst (λ (y : ℕ). IsWriter p id last y h.right_is m.0) (sym k) h.writer;
+      has = record {
+        away = h.has.away;
+        link_in = subst (λ (y : ℕ). y < p.links) (sym k) h.has.link_in;
+        places_are = w.next ∙ h.has.places_are;
+        own = w.link ∙ (h.has.own ∙ sym k);
+        unfinished = w.finished ∙ h.has.unfinished;
+      };
+      stage_is = h.stage_is ∙ ap (λ (y : Ticket). Writes y.0) (sym t);
+      ticket = subst (λ (y : Ticket). IsTicket p y.0) (sym t) h.ticket;
+      taken = h.taken;
+      place_is = h.place_is ∙ ap (λ (y : Label). y.place) (sym l);
+      place_in = subst (λ (y : Label). y.place < 8 * p.operations) (sym l) h.place_in;
+      begun = h.begun ++ taken;
+      bytes_are = h.bytes_are ∙ (ap (λ y. h.begun ++ y) w.left ∙ sym (append_assoc h.begun taken new.bytes.left));
+      took = w.took ∙ (ap (λ y. y ++ taken) h.took ∙ append_assoc h.right_is.sent h.begun taken);
+      few = subst (λ (n : ℕ). n < 4294967295) (sym w.next) h.few;
+      slots = h.slots ∙ (λ i. (slot_of (sym t i).0, Empty) ∷ (p.requests + sym k i, Empty) ∷ []);
+    },
+    refl,
+    refl,
+  )
+
+  pub clean_put : (old new : InHand O g) (taken : List ℕ) (m : Me (SockHome O g) View) → WentOn old new taken → IsClean p id last old m → IsClean p id last new m
+  clean_put old new taken m w h = let r = went_on old new taken m w h.0 in (r.0, ap (λ (y : Right). y.clean) r.1 ∙ h.1)
+
+  -- the link was asked
+  pub part_asked : (old new : InHand O g) (m : Me (SockHome O g) View) → WentOn old new [] → HasPart p id last old m → HasPart p id last new m
+  part_asked old new m w h = let r = went_on old new [] m w h.0 in (r.0, by_part h.1)
+    where
+      by_part : IsPart h.0.right_is h.0.begun old.bytes.left → IsPart (went_on old new [] m w h.0).0.right_is (went_on old new [] m w h.0).0.begun new.bytes.left
+      by_part (inl none_) = inl ((went_on old new [] m w h.0).2 ∙ (append-nil h.0.begun ∙ none_))
+      by_part (inr more) = inr (ap (λ (y : Right). y.clean) (went_on old new [] m w h.0).1 ∙ more.0, λ e. more.1 (w.left ∙ e))
+
+  -- ## Moves
+
+  -- L1
+  pub link_fetched : (link : ℕ) (at : Stage) (hand : LinkInHand O g) (m n : Me (SockHome O g) View) (s : Stands p id last at link m) → hand.link ≡ link → link < p.links → ((g.state hand.home.out).link ≡ link) × ((g.state hand.home.out).finished ≡ false)
+      → (hand.home.took.list ≡ s.right_is.sent) × (hand.home.next ≡ s.right_is.places) → n ≡ (with_right m.0 (record s.right_is { at_home = false }), (p.requests + link, Empty) ∷ m.1) → HasLink p id last at [] hand n
+  link_fetched link at hand m n s same low half took e = let x' : Right = record s.right_is { at_home = false } in record {
+    right_is = record s.right_is { at_home = false };
+    writer = subst (λ (y : ℕ). IsWriter p id last y (record s.right_is { at_home = false }) n.0) (sym same) (writer_on s.writer last x' refl s.writer.last_is s.writer.last_ticket (ap (λ (q : Me (SockHome O g) View). q.0) e));
+    has = record { away = refl; link_in = subst (λ (y : ℕ). y < p.links) (sym same) low; places_are = took.1; own = half.0 ∙ sym same; unfinished = half.1 };
+    stage_is = s.stage_is;
+    idle = s.idle;
+    took = took.0;
+    slots = ap (λ (q : Me (SockHome O g) View). q.1) e ∙ (λ i. (p.requests + sym same i, Empty) ∷ s.slots i);
+  }
+
+  -- the right changes, and what is in hand with it
+  pub link_moves : {last' : ℕ} {at at' : Stage} {above above' : List (ℕ × SockHome O g)} (hand : LinkInHand O g) (m n : Me (SockHome O g) View) (h : HasLink p id last at above hand m) (x' : Right) (s : List (ℕ × SockHome O g)) → x'.link ≡ h.right_is.link → x'.last ≡ last' → IsTicket p last'
+      → x'.at_home ≡ false → x'.places ≡ h.right_is.places → x'.sent ≡ h.right_is.sent → x'.taken ≡ false → x'.stage ≡ at' → n ≡ (with_right m.0 x', s) → s ≡ above' ++ (p.requests + hand.link, Empty) ∷ [] → HasLink p id last' at' above' hand n
+  link_moves {last'} hand m n h x' s link now ticket away places sent idle stage e slots = record {
+    right_is = x';
+    writer = writer_on h.writer last' x' link now ticket (ap (λ (q : Me (SockHome O g) View). q.0) e);
+    has = record { away = away; link_in = h.has.link_in; places_are = h.has.places_are ∙ sym places; own = h.has.own; unfinished = h.has.unfinished };
+    stage_is = stage;
+    idle = idle;
+    took = h.took ∙ sym sent;
+    slots = ap (λ (q : Me (SockHome O g) View). q.1) e ∙ slots;
+  }
+
+  -- M2
+  pub letter_taken : (hand : LinkInHand O g) (new : InHand O g) (now : ℕ) (msg : Letter) (m n : Me (SockHome O g) View) (h : HasLink p id last (Writes now) [] hand m) → IsTicket p now → msg.label.place < 8 * p.operations → h.right_is.places < 4294967295
+      → n ≡ (with_right m.0 (taken_right h.right_is (heading_of msg) msg.bytes), (slot_of now, Empty) ∷ m.1)
+      → new.link ≡ hand.link → new.home ≡ hand.home → new.now.0 ≡ now → new.bytes.left ≡ msg.bytes → new.label ≡ msg.label → HasPart p id last new n
+  letter_taken hand new now msg m n h ticket label few e same_link same_home same_now left same_label = let x' : Right = taken_right h.right_is (heading_of msg) msg.bytes in let its : LinkHome O g → ℕ = λ y. y.next in (
+    record {
+      right_is = taken_right h.right_is (heading_of msg) msg.bytes;
+      writer = subst (λ (y : ℕ). IsWriter p id last y (taken_right h.right_is (heading_of msg) msg.bytes) n.0) (sym same_link) (writer_on h.writer last x' refl h.writer.last_is h.writer.last_ticket (ap (λ (q : Me (SockHome O g) View). q.0) e));
+      has = record {
+        away = h.has.away;
+        link_in = subst (λ (y : ℕ). y < p.links) (sym same_link) h.has.link_in;
+        places_are = ap (λ (y : LinkHome O g). y.next) same_home ∙ h.has.places_are;
+        own = ap (λ (y : LinkHome O g). (g.state y.out).link) same_home ∙ (h.has.own ∙ sym same_link);
+        unfinished = ap (λ (y : LinkHome O g). (g.state y.out).finished) same_home ∙ h.has.unfinished;
+      };
+      stage_is = h.stage_is ∙ ap (λ (y : ℕ). Writes y) (sym same_now);
+      ticket = subst (IsTicket p) (sym same_now) ticket;
+      taken = refl;
+      place_is = ap (λ (y : Label). y.place) (sym same_label);
+      place_in = subst (λ (y : Label). y.place < 8 * p.operations) (sym same_label) label;
+      begun = [];
+      bytes_are = sym left;
+      took = ap (λ (y : LinkHome O g). y.took.list) same_home ∙ (h.took ∙ sym (append-nil h.right_is.sent));
+      few = subst (λ (y : ℕ). y < 4294967295) (sym (ap (λ (y : LinkHome O g). y.next) same_home ∙ h.has.places_are)) few;
+      slots = ap (λ (q : Me (SockHome O g) View). q.1) e ∙ ((λ i. (slot_of now, Empty) ∷ h.slots i) ∙ (λ i. (slot_of (sym same_now i), Empty) ∷ (p.requests + sym same_link i, Empty) ∷ []));
+    },
+    inl refl,
+  )
+
+  -- P1
+  pub whole_placed : (hand : InHand O g) (home : LinkHome O g) (m n : Me (SockHome O g) View) (h : HasWhole p id last hand m) → (home.took.list ≡ hand.home.took.list) × (home.next ≡ hand.home.next + 1) → home.out ≡ hand.home.out
+      → n ≡ (with_right m.0 (placed_right h.0.right_is hand.now.0), m.1) → HasLink p id last (Placed hand.now.0) ((slot_of hand.now.0, Empty) ∷ []) record { link = hand.link; home = home } n
+  whole_placed hand home m n h more out e = let r = h.0 in let x' : Right = placed_right h.0.right_is hand.now.0 in record {
+    right_is = placed_right h.0.right_is hand.now.0;
+    writer = writer_on r.writer last x' refl r.writer.last_is r.writer.last_ticket (ap (λ (q : Me (SockHome O g) View). q.0) e);
+    has = record { away = r.has.away; link_in = r.has.link_in; places_are = (let a = more.1 in let b = r.has.places_are in omega arith); own = ap (λ (y : O). (g.state y).link) out ∙ r.has.own; unfinished = ap (λ (y : O). (g.state y).finished) out ∙ r.has.unfinished };
+    stage_is = refl;
+    idle = refl;
+    took = more.0 ∙ took_all r.right_is.sent r.begun r.right_is.bytes hand.bytes.left hand.home.took.list r.took r.bytes_are h.2;
+    slots = ap (λ (q : Me (SockHome O g) View). q.1) e ∙ r.slots;
+  }
+
+  -- what the link took of a message that is dropped
+  pub part_of : (hand : InHand O g) (m : Me (SockHome O g) View) (h : HasPart p id last hand m) → Part h.0.right_is hand.home.took.list
+  part_of hand m h = by_part h.1
+    where
+      by_part : IsPart h.0.right_is h.0.begun hand.bytes.left → Part h.0.right_is hand.home.took.list
+      by_part (inl none_) = inl (h.0.took ∙ (ap (λ l. h.0.right_is.sent ++ l) none_ ∙ append-nil h.0.right_is.sent))
+      by_part (inr more) = inr (more.0, h.0.begun, hand.bytes.left, h.0.took, h.0.bytes_are, more.1)
+
+  -- P1 with the dropped bit
+  pub part_dropped : (hand : InHand O g) (home : LinkHome O g) (m n : Me (SockHome O g) View) (h : HasInHand p id last hand m) → (home.took.list ≡ hand.home.took.list) × (home.next ≡ hand.home.next + 1) → home.out ≡ hand.home.out
+      → n ≡ (with_right m.0 (dropped_right h.right_is hand.now.0 hand.home.took.list), m.1) → HasLink p id last (Placed hand.now.0) ((slot_of hand.now.0, Empty) ∷ []) record { link = hand.link; home = home } n
+  part_dropped hand home m n r more out e = let x' : Right = dropped_right r.right_is hand.now.0 hand.home.took.list in record {
+    right_is = dropped_right r.right_is hand.now.0 hand.home.took.list;
+    writer = writer_on r.writer last x' refl r.writer.last_is r.writer.last_ticket (ap (λ (q : Me (SockHome O g) View). q.0) e);
+    has = record { away = r.has.away; link_in = r.has.link_in; places_are = (let a = more.1 in let b = r.has.places_are in omega arith); own = ap (λ (y : O). (g.state y).link) out ∙ r.has.own; unfinished = ap (λ (y : O). (g.state y).finished) out ∙ r.has.unfinished };
+    stage_is = refl;
+    idle = refl;
+    took = more.0;
+    slots = ap (λ (q : Me (SockHome O g) View). q.1) e ∙ r.slots;
+  }
+
+  -- C8
+  pub may_free : {at : Stage} (next : Stage) (now : ℕ) (hand : LinkInHand O g) (m : Me (SockHome O g) View) (h : HasLink p id last at ((slot_of now, Empty) ∷ []) hand m) → Follows h.right_is.last h.right_is.stage now next → MayFreeRequest now m
+  may_free next now hand m h follows = record { right = h.right_is; one = h.writer.one; next = next; follows = follows; value = Empty; home = h.slots ∙ ap (λ (l : List (ℕ × SockHome O g)). (slot_of now, Empty) ∷ l) (sym (ap rest h.slots)) }
+
+  pub ends_at : (now : ℕ) (hand : LinkInHand O g) (m : Me (SockHome O g) View) (h : HasLink p id last (Placed now) ((slot_of now, Empty) ∷ []) hand m) → now ≡ last → Follows h.right_is.last h.right_is.stage now Empties
+  ends_at now hand m h e = subst (λ (b : Stage). Follows h.right_is.last b now Empties) (sym h.stage_is) (ends now (e ∙ sym h.writer.last_is))
+
+  pub past_end : (now : ℕ) (hand : LinkInHand O g) (m n : Me (SockHome O g) View) (h : HasLink p id last (Placed now) ((slot_of now, Empty) ∷ []) hand m) → n ≡ (with_right m.0 (freed_right h.right_is), rest m.1) → HasLink p id last Empties [] hand n
+  past_end now hand m n h e = link_moves hand m n h (freed_right h.right_is) (rest m.1) refl h.writer.last_is h.writer.last_ticket h.has.away refl refl h.idle (ap freed_stage h.stage_is) e (ap rest h.slots)
+
+  pub passes_by : (now found : ℕ) (hand : LinkInHand O g) (m n : Me (SockHome O g) View) (h : HasLink p id last (Placed now) ((slot_of now, Empty) ∷ []) hand m) → n ≡ (with_right m.0 (passing_right h.right_is now found), m.1) → HasLink p id last (Passes now found) ((slot_of now, Empty) ∷ []) hand n
+  passes_by now found hand m n h e = link_moves hand m n h (passing_right h.right_is now found) m.1 refl h.writer.last_is h.writer.last_ticket h.has.away refl refl h.idle refl e h.slots
+
+  pub goes_to : (now found : ℕ) (hand : LinkInHand O g) (m : Me (SockHome O g) View) (h : HasLink p id last (Passes now found) ((slot_of now, Empty) ∷ []) hand m) → Follows h.right_is.last h.right_is.stage now (Writes found)
+  goes_to now found hand m h = subst (λ (b : Stage). Follows h.right_is.last b now (Writes found)) (sym h.stage_is) (goes_on now found)
+
+  pub past_next : (now found : ℕ) (hand : LinkInHand O g) (m n : Me (SockHome O g) View) (h : HasLink p id last (Passes now found) ((slot_of now, Empty) ∷ []) hand m) → n ≡ (with_right m.0 (freed_right h.right_is), rest m.1) → HasLink p id last (Writes found) [] hand n
+  past_next now found hand m n h e = link_moves hand m n h (freed_right h.right_is) (rest m.1) refl h.writer.last_is h.writer.last_ticket h.has.away refl refl h.idle (ap freed_stage h.stage_is) e (ap rest h.slots)
+
+  -- L2
+  pub link_home : {at : Stage} (hand : LinkInHand O g) (m n : Me (SockHome O g) View) (h : HasLink p id last at [] hand m) → n ≡ (with_right m.0 (record h.right_is { at_home = true }), rest m.1) → Stands p id last at hand.link n
+  link_home hand m n h e = record {
+    right_is = record h.right_is { at_home = true };
+    writer = writer_on h.writer last (record h.right_is { at_home = true }) refl h.writer.last_is h.writer.last_ticket (ap (λ (q : Me (SockHome O g) View). q.0) e);
+    stage_is = h.stage_is;
+    home = refl;
+    idle = h.idle;
+    slots = ap (λ (q : Me (SockHome O g) View). q.1) e ∙ ap rest h.slots;
+  }
+
+-- S2
+module _ {S : Type 0} {p : Plan} {id last link : ℕ} {at : Stage} (m n : Me S View) (slot found : ℕ) (slot_is : slot ≡ socket_id_slot id) (s : Stands p id last at link m) (same : found ≡ link) (e : n ≡ (met_link slot (socket_id_version id) found m.0, m.1)) where
+  met_became : Became (socket_id_slot id) m.0 n.0 (Met (socket_id_version id) found ∷ []) []
+  met_became = subst (λ (y : View). Became (socket_id_slot id) m.0 y (Met (socket_id_version id) found ∷ []) []) (sym (ap (λ (q : Me S View). q.0) e)) (subst (λ (j : ℕ). Became j m.0 (met_link slot (socket_id_version id) found m.0) (Met (socket_id_version id) found ∷ []) []) slot_is (met_marks slot (socket_id_version id) found m.0))
+
+  pub met_stands : {O : Type 0} {state : O → OutState} → Noted state (λ k. ⊥) (socket_id_version id) (Met (socket_id_version id) found ∷ []) → Stands p id last at found n
+  met_stands noted = subst (λ (k : ℕ). Stands p id last at k n) (sym same) record {
+    right_is = s.right_is;
+    writer = writer_noted s.writer (Met (socket_id_version id) found ∷ []) noted met_became;
+    stage_is = s.stage_is;
+    home = s.home;
+    idle = s.idle;
+    slots = ap (λ (q : Me S View). q.1) e ∙ s.slots;
+  }
+
+  pub met_wrote : {O : Type 0} {state : O → OutState} → Wrote state id m.0 n.0
+  met_wrote = wrote_notes m.0 n.0 (Met (socket_id_version id) found ∷ []) (found_it (Met (socket_id_version id) found) (met found)) met_became
+
+-- A8
+pub may_look : {p : Plan} {id last link : ℕ} {x : Right} {v : View} (slot : ℕ) → slot ≡ socket_id_slot id → IsWriter p id last link x v → MayLookToWrite p slot v
+may_look {p} {id} {last} {link} {x} {v} slot at w = record { right = x; one = w.one; life = socket_id_version id; holds = subst (λ (j : ℕ). HoldsLink p v j (socket_id_version id) x.link) (sym at) (subst (λ (k : ℕ). HoldsLink p v (socket_id_slot id) (socket_id_version id) k) (sym w.link_is) w.holds) }
+
+-- C4
+pub may_empty : {S : Type 0} {p : Plan} {id last link : ℕ} {m : Me S View} (slot : ℕ) → slot ≡ socket_id_slot id → Stands p id last Empties link m → MayEmptyHead p slot last m.0
+may_empty slot at s = record { right = s.right_is; one = s.writer.one; stage = s.stage_is; home = s.home; last_is = s.writer.last_is; life = _; holds = empty_holds slot at s }
+  where
+    empty_holds : {S : Type 0} {p : Plan} {id last link : ℕ} {m : Me S View} (slot : ℕ) → slot ≡ socket_id_slot id → (s : Stands p id last Empties link m) → HoldsLink p m.0 slot (socket_id_version id) s.right_is.link
+    empty_holds {S} {p} {id} {last} {link} {m} slot at s = subst (λ (j : ℕ). HoldsLink p m.0 j (socket_id_version id) s.right_is.link) (sym at) (subst (λ (k : ℕ). HoldsLink p m.0 (socket_id_slot id) (socket_id_version id) k) (sym s.writer.link_is) s.writer.holds)
+
+without_one : (v : View) (r : Right) → v.rights ≡ r ∷ [] → (without_right v r.link).rights ≡ []
+without_one v r one = ap (filter (λ (x : Right). not (eqb x.link r.link))) one ∙ ap (λ b. cond (not b) (r ∷ []) []) (eq-eqb r.link r.link refl)
+
+module _ {S : Type 0} {p : Plan} {id last link : ℕ} where
+  pub gave_up : (m n : Me S View) (s : Stands p id last Empties link m) → n ≡ (without_right m.0 s.right_is.link, m.1) → GaveUp p id n
+  gave_up m n s e = subst (λ (q : Me S View). GaveUp p id q) (sym e) record {
+    between = rests_between p (without_right m.0 s.right_is.link) (without_one m.0 s.right_is s.writer.one) s.writer.rests;
+    holds = record { inside = s.writer.holds.inside; held = s.writer.holds.held };
+    slots = s.slots;
+  }
+
+  pub walks_from : (found : ℕ) (m n : Me S View) (s : Stands p id last Empties link m) → n ≡ (with_right m.0 (walking_right s.right_is found), m.1) → Stands p id last (Walks found found 0) link n
+  walks_from found m n s e = record {
+    right_is = walking_right s.right_is found;
+    writer = writer_on s.writer last (walking_right s.right_is found) refl s.writer.last_is s.writer.last_ticket (ap (λ (q : Me S View). q.0) e);
+    stage_is = refl;
+    home = s.home;
+    idle = s.idle;
+    slots = ap (λ (q : Me S View). q.1) e ∙ s.slots;
+  }
+
+module _ {O : Type 0} {g : Ghosts O} {p : Plan} {id last : ℕ} where
+  -- C5 on the walk
+  pub reads_at : (top at after found : ℕ) (hand : LinkInHand O g) (m n : Me (SockHome O g) View) (h : HasLink p id last (Walks top at after) [] hand m) → n ≡ (with_right m.0 (reading_right h.right_is top at after found), m.1) → HasLink p id last (Turns top at after found) [] hand n
+  reads_at top at after found hand m n h e = link_moves hand m n h (reading_right h.right_is top at after found) m.1 refl h.writer.last_is h.writer.last_ticket h.has.away refl refl h.idle refl e h.slots
+
+  -- C6
+  module _ (top at after found : ℕ) (hand : LinkInHand O g) (m n : Me (SockHome O g) View) (h : HasLink p id last (Turns top at after found) [] hand m) (e : n ≡ (with_right m.0 (turned_right h.right_is top at found), m.1)) where
+    abbrev done : Right
+    done = record h.right_is { last = top; stage = Writes at; turned = 0; noted = h.right_is.noted + suc h.right_is.turned }
+
+    abbrev on : Right
+    on = record h.right_is { stage = Walks top found at; turned = suc h.right_is.turned }
+
+    pub turned_last : found ≡ last → IsTicket p top → HasLink p id top (Writes at) [] hand n
+    turned_last same ticket = link_moves hand m n h (record h.right_is { last = top; stage = Writes at; turned = 0; noted = h.right_is.noted + suc h.right_is.turned }) m.1 refl refl ticket h.has.away refl refl h.idle refl
+        (e ∙ ap (λ (b : Bool). (with_right m.0 (cond b (record h.right_is { last = top; stage = Writes at; turned = 0; noted = h.right_is.noted + suc h.right_is.turned }) (record h.right_is { stage = Walks top found at; turned = suc h.right_is.turned })), m.1)) (eq-eqb found h.right_is.last (same ∙ sym h.writer.last_is))) h.slots
+
+    pub turned_on : found ≢ last → HasLink p id last (Walks top found at) [] hand n
+    turned_on other = link_moves hand m n h (record h.right_is { stage = Walks top found at; turned = suc h.right_is.turned }) m.1 refl h.writer.last_is h.writer.last_ticket h.has.away refl refl h.idle refl
+        (e ∙ ap (λ (b : Bool). (with_right m.0 (cond b (record h.right_is { last = top; stage = Writes at; turned = 0; noted = h.right_is.noted + suc h.right_is.turned }) (record h.right_is { stage = Walks top found at; turned = suc h.right_is.turned })), m.1)) (ne_eqb found h.right_is.last (λ z. other (z ∙ h.writer.last_is)))) h.slots
+
+-- only the last stage is the last one
+pub must_last : {O : Type 0} {g : Ghosts O} (d : Doing O g) → IsLast d → ((link : LinkInHand O g) → d ≡ doing.Last link → ⊥) → ⊥
+must_last (doing.Last link) is none_ = none_ link refl
+must_last doing.First is none_ = is
+must_last (doing.Puts hand) is none_ = is
+must_last (doing.Waits hand) is none_ = is
+must_last (doing.Next link now) is none_ = is
+must_last (doing.Walks link top) is none_ = is
+must_last (doing.Back walk) is none_ = is

@@ -1,0 +1,13 @@
+use Rattle.write_chain.proofs.keep.try_head.Goals as goal
+
+pub returns-in-Done-clause-went : goal.returns-in-Done-clause-went
+returns-in-Done-clause-went g c = c.in-Done.ensures.once
+
+pub returns-in-Keep-clause-went : goal.returns-in-Keep-clause-went
+returns-in-Keep-clause-went g c = (c.in-Keep.ensures.once.0, c.in-Keep.ensures.once.1)
+
+pub returns-in-Done-clause-others : goal.returns-in-Done-clause-others
+returns-in-Done-clause-others g c = c.leave.ensures.others
+
+pub returns-in-Keep-clause-others : goal.returns-in-Keep-clause-others
+returns-in-Keep-clause-others g c = c.leave.ensures.others

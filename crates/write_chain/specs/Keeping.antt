@@ -1,0 +1,32 @@
+-- What keeping on writing comes to.
+use Rattle.std.specs.Prelude.{◌≡◌, ◌≢◌, ℕ, ◌<◌, ◌==◌, cond}
+use Rattle.atomic_table.specs.Table.{Me}
+use Rattle.sock_io.specs.declared.link.Out.{Ghosts}
+use Rattle.sock_words.specs.declared.plain.Plan.{Plan}
+use Rattle.sock_words.specs.Words.{socket_id_version, socket_id_slot}
+use Rattle.sock_model.specs.declared.view.View.{View}
+use Rattle.sock_model.specs.Weights.{is_told}
+use Rattle.sock_model.specs.SlotRows.{marks_of}
+use Rattle.sock_rule.specs.declared.homes.SockHome.{SockHome}
+use Rattle.sock_table.specs.declared.refs.SockRef.{SockRef}
+use Rattle.write_chain.specs.declared.keep.Went.{Went}
+use Rattle.write_chain.specs.declared.keep.Went.TheVariants as went
+use Rattle.write_chain.specs.declared.keep.Kept.{Kept}
+use Rattle.write_chain.specs.declared.keep.Kept.TheVariants as kept
+use Rattle.write_chain.specs.Writing.{MayGoOn, GaveUp, FoundDead}
+
+-- what a message was dropped with: the code word that was read, or 1009 where that was 0; it is the code that the seat found or stored before
+pub record IsCode (code id : ℕ) (v w : View) : Type 0 where
+  pub word : ℕ
+  pub code_is : code ≡ cond (word == 0) 1009 word
+  pub noted : word ≢ 0 → 0 < marks_of (is_told (socket_id_version id) word) (socket_id_slot id) w
+  pub same : (d : ℕ) → d ≢ 0 → 0 < marks_of (is_told (socket_id_version id) d) (socket_id_slot id) v → code ≡ d
+
+abbrev pub WentBy : {O : Type 0} {g : Ghosts O} → Plan → SockRef → Went O g → View → Me (SockHome O g) View → Type 0
+WentBy p sock (went.Done s) v m = (s ≡ sock) × GaveUp p sock.id.0 m
+WentBy p sock (went.Dropped r msg code) v m = (r.sock ≡ sock) × MayGoOn p r m × FoundDead sock.id.0 m.0 × IsCode code sock.id.0 v m.0
+WentBy p sock (went.Further r) v m = (r.sock ≡ sock) × MayGoOn p r m
+
+abbrev pub KeptBy : {O : Type 0} {g : Ghosts O} → Plan → SockRef → Kept O g → View → Me (SockHome O g) View → Type 0
+KeptBy p sock (kept.Done s) v m = (s ≡ sock) × GaveUp p sock.id.0 m
+KeptBy p sock (kept.Dropped r msg code) v m = (r.sock ≡ sock) × MayGoOn p r m × FoundDead sock.id.0 m.0 × IsCode code sock.id.0 v m.0

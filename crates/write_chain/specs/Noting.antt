@@ -1,0 +1,42 @@
+-- What a seat notes of a life while it writes its link.
+use Rattle.std.specs.Prelude.{◌≡◌, ℕ, ◌+◌, ◌<◌, false, List, [], ◌∷◌}
+use Rattle.sock_io.specs.Link.{OutState}
+use Rattle.sock_io.specs.Causes.{Rose}
+use Rattle.sock_words.specs.Words.{socket_id_version, socket_id_slot}
+use Rattle.sock_model.specs.declared.marks.Mark.{Mark}
+use Rattle.sock_model.specs.declared.marks.Mark.TheVariants.{Saw, Failer, Stored, Told, Met}
+use Rattle.sock_model.specs.declared.view.View.{View}
+use Rattle.sock_model.specs.Weights.{is_met}
+use Rattle.sock_model.specs.SlotRows.{marks_of}
+use Rattle.sock_rule.specs.Becoming.{Became}
+
+-- a version of the slot, the link of the life h, or its code
+pub data IsFinding (h : ℕ) : Mark → Type 0 where
+  saw : (w : ℕ) → IsFinding h (Saw w)
+  met : (k : ℕ) → IsFinding h (Met h k)
+  told : (c : ℕ) → IsFinding h (Told h c)
+
+-- the count of faults of the writing half of link k rose by a call before which it wasn't finished
+pub record Faulted {O : Type 0} (state : O → OutState) (k : ℕ) : Type 0 where
+  pub before : O
+  pub after : O
+  pub link_before : (state before).link ≡ k
+  pub link_after : (state after).link ≡ k
+  pub unfinished : (state before).finished ≡ false
+  pub rose : Rose (state before).faults (state after).faults
+
+-- the seat failed the life only where a fault of its link came
+pub data Noted {O : Type 0} (state : O → OutState) (IsLink : ℕ → Type 0) (h : ℕ) : List Mark → Type 0 where
+  nothing : Noted state IsLink h []
+  finding : (m : Mark) (ms : List Mark) → IsFinding h m → Noted state IsLink h ms → Noted state IsLink h (m ∷ ms)
+  failing : (k : ℕ) (ms : List Mark) → IsLink k → Faulted state k → Noted state IsLink h ms → Noted state IsLink h (Failer h ∷ Saw (h + 1) ∷ Stored h 1009 ∷ Told h 1009 ∷ ms)
+
+-- the seat found that the link of this life is k
+abbrev pub Met_by : ℕ → View → ℕ → Type 0
+Met_by id v k = 0 < marks_of (is_met (socket_id_version id) k) (socket_id_slot id) v
+
+-- a seat that writes the link of the life of this id has such notes more; its rights may be others, and all else is as it was
+pub record Wrote {O : Type 0} (state : O → OutState) (id : ℕ) (v w : View) : Type 0 where
+  pub notes : List Mark
+  pub noted : Noted state (Met_by id w) (socket_id_version id) notes
+  pub became : Became (socket_id_slot id) v (record w { rights = v.rights }) notes []

@@ -1,0 +1,288 @@
+// Whoever has the right writes until the head is empty.
+ghost use Rattle.std.specs.Prelude.{◌≡◌, ◌≢◌, ◌+◌, ◌*◌, ◌<◌, ◌==◌, cond, ℕ, [], ◌∷◌, true, false};
+ghost use Rattle.sock_rule.specs.Seated.{IsSeat};
+ghost use Rattle.write_chain.specs.declared.right.Doing.TheVariants.{Back};
+ghost use Rattle.write_chain.specs.Noting.{Wrote};
+ghost use Rattle.sock_model.specs.declared.chain.Stage.TheVariants.{Empties};
+ghost use Rattle.write_chain.specs.Writing.{MayGoOn, HasLink, HasPart, FoundDead, GoesBy};
+ghost use Rattle.write_chain.specs.Keeping.{IsCode, WentBy, KeptBy};
+
+use crate::hold::{
+    LINK_FAILED, Once, Tried, fail_link, fetch_link, go_past, leave, place, take_next, try_put,
+};
+use crate::right::{Doing, InHand, LinkInHand, Undelivered, Walk, WriteRight};
+use crossbeam_utils::Backoff;
+use sock_io::{Out, Ready};
+use sock_rule::SockSeat;
+use sock_table::{SockRef, SockTable};
+use sock_words::{PlaceWord, Ticket};
+use std::sync::Wait;
+
+/// A next word that isn't connected yet.
+const UNCONNECTED: u64 = u64::MAX;
+
+/// What writing came to: the head was emptied, or a message was dropped, after which the right goes on.
+pub enum Kept<O: Out> {
+    Done(SockRef),
+    Dropped {
+        right: WriteRight<O>,
+        msg: Undelivered,
+        code: u16,
+    },
+}
+
+/// What one step of writing came to.
+pub enum Went<O: Out> {
+    Done(SockRef),
+    Dropped(WriteRight<O>, Undelivered, u16),
+    Further(WriteRight<O>),
+}
+
+/// The code with which a message is dropped, where this word was read.
+pub fn code_or(told: u16) -> u16
+    ensures code { result ≡ cond (told == 0) 1009 told }
+{
+    if told == 0 { LINK_FAILED } else { told }
+}
+
+/// The message in hand is dropped, with the code of the socket, or 1009 where none was stored yet.
+pub fn drop_one<O: Out>(
+    table: &SockTable<O>,
+    seat: &mut SockSeat<O>,
+    sock: &SockRef,
+    last: Ticket,
+    hand: InHand<O>,
+) -> (Doing<O>, Undelivered, u16)
+    requires seat { IsSeat table.now.rule.table.shared.table_id table.now.rule.plan seat.old }
+    requires may { HasPart table.now.rule.plan sock.now.id.0 last.0 hand seat.old.me × FoundDead sock.now.id.0 seat.old.me.0 }
+    ensures seat { IsSeat table.now.rule.table.shared.table_id table.now.rule.plan seat.new }
+    ensures goes { GoesBy table.now.rule.plan sock.now.id.0 last.0 result.0 seat.new.me }
+    ensures message { (result.1.left ≡ hand.bytes) × (result.1.label ≡ hand.label) × (result.1.owner ≡ hand.owner) }
+    ensures code { IsCode result.2 sock.now.id.0 seat.old.me.0 seat.new.me.0 }
+    ensures dead { FoundDead sock.now.id.0 seat.new.me.0 }
+    ensures wrote { Wrote O.state sock.now.id.0 seat.old.me.0 seat.new.me.0 }
+{
+    let told = table.code(seat, sock);
+    let InHand {
+        link,
+        home,
+        now,
+        bytes,
+        label,
+        owner,
+    } = hand;
+    let place = PlaceWord::pack(true, link, home.next);
+    let mut home = table.rule.drop_place(seat, label.place, place, now, home);
+    home.count_place();
+    let doing = go_past(table, seat, sock, last, LinkInHand { link, home }, now);
+    let code = code_or(told);
+    let msg = Undelivered {
+        left: bytes,
+        label,
+        owner,
+    };
+    (doing, msg, code)
+}
+
+/// The link is asked whether it takes more.
+pub fn ask<O: Out>(
+    table: &SockTable<O>,
+    seat: &mut SockSeat<O>,
+    sock: &SockRef,
+    last: Ticket,
+    mut hand: InHand<O>,
+    backoff: &Backoff,
+) -> Doing<O>
+    requires seat { IsSeat table.now.rule.table.shared.table_id table.now.rule.plan seat.old }
+    requires may { HasPart table.now.rule.plan sock.now.id.0 last.0 hand seat.old.me }
+    ensures seat { IsSeat table.now.rule.table.shared.table_id table.now.rule.plan seat.new }
+    ensures goes { GoesBy table.now.rule.plan sock.now.id.0 last.0 result seat.new.me }
+    ensures wrote { Wrote O.state sock.now.id.0 seat.old.me.0 seat.new.me.0 }
+{
+    match hand.ready() {
+        Ready::Now => Doing::Puts(hand),
+        Ready::NotYet => {
+            backoff.snooze();
+            Doing::Waits(hand)
+        }
+        Ready::Failed => {
+            fail_link(table, seat, sock, last, &hand);
+            Doing::Puts(hand)
+        }
+    }
+}
+
+/// C5 and C6: the walk goes one entry back and turns its next word round, or stays where that isn't connected yet. Behind
+/// the old last entry the first message in order comes next, and `top` is the last ticket then.
+pub fn walk_back<O: Out>(
+    table: &SockTable<O>,
+    seat: &mut SockSeat<O>,
+    sock: SockRef,
+    last: Ticket,
+    walk: Walk<O>,
+    backoff: &Backoff,
+) -> WriteRight<O>
+    requires seat { IsSeat table.now.rule.table.shared.table_id table.now.rule.plan seat.old }
+    requires may { GoesBy table.now.rule.plan sock.id.0 last.0 (Back walk) seat.old.me }
+    ensures seat { IsSeat table.now.rule.table.shared.table_id table.now.rule.plan seat.new }
+    ensures goes { (result.sock ≡ sock) × MayGoOn table.now.rule.plan result seat.new.me }
+    ensures others { seat.new.me.0 ≡ record seat.old.me.0 { rights = seat.new.me.0.rights } }
+{
+    let found = table.rule.read_back(seat, walk.at);
+    if found == UNCONNECTED {
+        backoff.snooze();
+        return WriteRight {
+            sock,
+            last,
+            doing: Doing::Back(walk),
+        };
+    }
+    let Walk {
+        link,
+        top,
+        at,
+        after,
+    } = walk;
+    table.rule.turn_next(seat, at, after);
+    let end = last.word();
+    if found == end {
+        return WriteRight {
+            sock,
+            last: top,
+            doing: Doing::Next(link, at),
+        };
+    }
+    let walk = Walk {
+        link,
+        top,
+        at: Ticket::from_word(found),
+        after: at.word(),
+    };
+    WriteRight {
+        sock,
+        last,
+        doing: Doing::Back(walk),
+    }
+}
+
+/// A message in hand is put, gets its place, or is dropped.
+pub fn put_or_drop<O: Out>(
+    table: &SockTable<O>,
+    seat: &mut SockSeat<O>,
+    sock: SockRef,
+    last: Ticket,
+    hand: InHand<O>,
+) -> Went<O>
+    requires seat { IsSeat table.now.rule.table.shared.table_id table.now.rule.plan seat.old }
+    requires may { HasPart table.now.rule.plan sock.id.0 last.0 hand seat.old.me }
+    ensures seat { IsSeat table.now.rule.table.shared.table_id table.now.rule.plan seat.new }
+    ensures went { WentBy table.now.rule.plan sock result seat.old.me.0 seat.new.me }
+    ensures wrote { Wrote O.state sock.id.0 seat.old.me.0 seat.new.me.0 }
+{
+    match try_put(table, seat, &sock, last, hand) {
+        Tried::Dead(hand) => {
+            let (doing, msg, code) = drop_one(table, seat, &sock, last, hand);
+            Went::Dropped(WriteRight { sock, last, doing }, msg, code)
+        }
+        Tried::Whole(hand) => {
+            let doing = place(table, seat, &sock, last, hand);
+            Went::Further(WriteRight { sock, last, doing })
+        }
+        Tried::Goes(doing) => Went::Further(WriteRight { sock, last, doing }),
+    }
+}
+
+/// All that was noted has its place: the right is given up, or the walk begins.
+pub fn try_head<O: Out>(
+    table: &SockTable<O>,
+    seat: &mut SockSeat<O>,
+    sock: SockRef,
+    last: Ticket,
+    link: LinkInHand<O>,
+) -> Went<O>
+    requires seat { IsSeat table.now.rule.table.shared.table_id table.now.rule.plan seat.old }
+    requires may { HasLink table.now.rule.plan sock.id.0 last.0 Empties [] link seat.old.me }
+    ensures seat { IsSeat table.now.rule.table.shared.table_id table.now.rule.plan seat.new }
+    ensures went { WentBy table.now.rule.plan sock result seat.old.me.0 seat.new.me }
+    ensures others { seat.new.me.0 ≡ record seat.old.me.0 { rights = seat.new.me.0.rights } }
+{
+    match leave(table, seat, sock, last, link) {
+        Once::Done(sock) => Went::Done(sock),
+        Once::Keep(right) => Went::Further(right),
+    }
+}
+
+/// What comes next.
+pub fn go_on<O: Out>(
+    table: &SockTable<O>,
+    seat: &mut SockSeat<O>,
+    right: WriteRight<O>,
+    backoff: &Backoff,
+) -> Went<O>
+    requires seat { IsSeat table.now.rule.table.shared.table_id table.now.rule.plan seat.old }
+    requires may { MayGoOn table.now.rule.plan right seat.old.me }
+    ensures seat { IsSeat table.now.rule.table.shared.table_id table.now.rule.plan seat.new }
+    ensures went { WentBy table.now.rule.plan right.sock result seat.old.me.0 seat.new.me }
+    ensures wrote { Wrote O.state right.sock.id.0 seat.old.me.0 seat.new.me.0 }
+{
+    let WriteRight { sock, last, doing } = right;
+    match doing {
+        Doing::First => unreachable!(),
+        Doing::Puts(hand) => put_or_drop(table, seat, sock, last, hand),
+        Doing::Waits(hand) => {
+            let doing = ask(table, seat, &sock, last, hand, backoff);
+            Went::Further(WriteRight { sock, last, doing })
+        }
+        Doing::Next(link, now) => {
+            let hand = take_next(table, seat, &sock, last, link, now);
+            Went::Further(WriteRight {
+                sock,
+                last,
+                doing: Doing::Puts(hand),
+            })
+        }
+        Doing::Last(link) => try_head(table, seat, sock, last, link),
+        Doing::Walks(number, top) => {
+            let link = fetch_link(table, seat, &sock, number);
+            Went::Further(WriteRight {
+                sock,
+                last,
+                doing: Doing::Back(Walk {
+                    link,
+                    top,
+                    at: top,
+                    after: 0,
+                }),
+            })
+        }
+        Doing::Back(walk) => Went::Further(walk_back(table, seat, sock, last, walk, backoff)),
+    }
+}
+
+/// Writes until the head is empty, and takes what came meanwhile in the order in which it was accepted. Before each put, and
+/// before each message that is dropped, it looks whether the socket lives. It waits for a link that takes nothing, and for a
+/// writer that hasn't connected its request yet. After each dropped message it answers, and is called again.
+pub fn keep_write<O: Out, R: Wait>(
+    table: &SockTable<O>,
+    rt: &R,
+    seat: &mut SockSeat<O>,
+    mut right: WriteRight<O>,
+) -> Kept<O>
+    requires seat { IsSeat table.now.rule.table.shared.table_id table.now.rule.plan seat.old }
+    requires may { MayGoOn table.now.rule.plan right seat.old.me }
+    ensures seat { IsSeat table.now.rule.table.shared.table_id table.now.rule.plan seat.new }
+    ensures kept { KeptBy table.now.rule.plan right.sock result seat.old.me.0 seat.new.me }
+    ensures wrote { Wrote O.state right.sock.id.0 seat.old.me.0 seat.new.me.0 }
+{
+    let backoff = Backoff::new();
+    'goes: for _ in rt.forever() {
+        match go_on(table, seat, right, &backoff) {
+            Went::Done(sock) => return Kept::Done(sock),
+            Went::Dropped(right, msg, code) => {
+                return Kept::Dropped { right, msg, code };
+            }
+            Went::Further(next) => right = next,
+        }
+    }
+    unreachable!()
+}
