@@ -5,8 +5,8 @@
 pub mod aside;
 pub mod deciding;
 pub mod ending;
-pub mod posting;
 pub mod locking;
+pub mod posting;
 
 pub use aside::Aside;
 pub use deciding::{DecideNext, DecideStep, OnCall};

@@ -11,6 +11,6 @@ mod versions;
 
 pub use errors::{Decision, on_error};
 pub use issuing::issue;
-pub use sock_message::Call;
 pub use responses::{Ending, on_response};
+pub use sock_message::Call;
 pub use versions::{has_version, is_early};

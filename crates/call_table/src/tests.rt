@@ -23,7 +23,17 @@ fn has(buf: &IoBuf, bytes: &[u8]) -> bool {
 fn issues_the_first_attempt(rt: HostRuntime) -> Result<(), Fail> {
     let mut pool = BlockPool::new(rt.alloc());
     let names = vec![in rt.alloc(); 3u16, 5u16]?;
-    let call = Call::new(rt.alloc(), &mut pool, 0, names, b"Echo", b"Echo", b"hi", b"", 3)?;
+    let call = Call::new(
+        rt.alloc(),
+        &mut pool,
+        0,
+        names,
+        b"Echo",
+        b"Echo",
+        b"hi",
+        b"",
+        3,
+    )?;
     let frame = issue(rt.alloc(), &mut pool, &call, 1, 0)?;
     assert!(rt; has(&frame, ECHO) && frame.refs() == 2);
     assert!(rt; call.name(0) == 3 && call.name(1) == 5 && call.name(2) == 3);

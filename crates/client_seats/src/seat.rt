@@ -12,9 +12,9 @@ ghost use Rattle.sock_message.specs.Asked.{name_of};
 ghost use Rattle.call_points.specs.Steps.{after_call};
 ghost use Rattle.client_seats.specs.Following.{IsFlat, FollowsOn, IsFramedAs, IsPrepared, HasTaken};
 
+use crate::hand::InHand;
 use call_points::{DecideStep, LockStep};
 use id_points::{AttemptNumber, CallId};
-use crate::hand::InHand;
 use message_parts::OutgoingParcel;
 use seat_points::{
     After, Aim, Attempt, CallStep, Calling, JoinStep, Next, Opening, Point, ReleaseStep, RetryStep,
@@ -51,7 +51,10 @@ impl Kept {
             id: self.id,
             number: self.attempt,
         };
-        Point::Retry(Retrying { attempt, name: 0 }, RetryStep::Lock(LockStep::Read))
+        Point::Retry(
+            Retrying { attempt, name: 0 },
+            RetryStep::Lock(LockStep::Read),
+        )
     }
 }
 
@@ -116,12 +119,7 @@ fn take_held(held: &mut Vec<Held>, name: u16) -> Option<SocketId>
 
 /// Where a task begins, over a table of these sizes; nowhere where it is a `drop` of what isn't held. The message of a `send`
 /// and the call of a `call` come into the seat's hand.
-fn begin(
-    held: &mut Vec<Held>,
-    hand: &mut InHand,
-    sizes: Sizes,
-    task: Task,
-) -> Option<Point>
+fn begin(held: &mut Vec<Held>, hand: &mut InHand, sizes: Sizes, task: Task) -> Option<Point>
     ensures some { IfSome result (λ point. (a : Around) → a.sizes ≡ sizes → a.held ≡ lives held.new.items → a.message ≡ bytes_of (message_in hand.new) → a.asked ≡ asked_of (call_in hand.new) →
         point_program a point ≡ operation sizes (lives held.old.items) task.number a.goes_on task.op) }
     ensures none { IfNone result ((goes_on : List HeldLife → Program) →

@@ -35,14 +35,7 @@ fn unlocked(word: IdWord, advance: bool) -> IdWord
     } else {
         word.attempt()
     };
-    IdWord::pack(
-        word.first(),
-        state,
-        word.range(),
-        attempt,
-        word.second(),
-        0,
-    )
+    IdWord::pack(word.first(), state, word.range(), attempt, word.second(), 0)
 }
 
 /// What is done with the error that was taken out, 0 for none: a stale one is thrown away, and the lock given back again.
@@ -69,8 +62,5 @@ pub fn unlock_behind(from: IdWord, advance: bool, found: IdWord) -> UnlockTurn
     if found != from {
         return UnlockTurn::Again(found, advance);
     }
-    popped_turn(
-        IdError::from_bits(from.oldest()),
-        unlocked(from, advance),
-    )
+    popped_turn(IdError::from_bits(from.oldest()), unlocked(from, advance))
 }

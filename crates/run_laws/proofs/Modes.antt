@@ -406,10 +406,18 @@ attempt_guarded : (requests : ℕ) (asked : Asked) (id n socket : ℕ) (next : P
 attempt_guarded requests asked id n socket next g = let i : ℕ = socket_id_slot socket in let back : Program = release i (λ _. next) in let bytes : List ℕ = frame_of asked id n in let heading : Heading = heading_for asked id n in
     let back_goes = λ (m : Mode) (whole : IsWhole m). release_guarded m whole i (λ _. next) (λ b. g) in
     let looks : ℕ → Program = λ found. if vref_version found % 2 == 0 then claims_from requests 0 socket heading bytes (post id 3001 n back) back else post id 1009 n back in
-    address_guarded socket (Do (FindLink i (socket_id_version socket)) (λ k. Aside (StoreAt asked.operation (at_word (id_first id) (id_slot id) k n)) (λ _. Do (LookWord socket) looks))) (λ _. post id 1009 n next)
-    (tt, λ k. (tt, λ _. (tt, λ found. sides (vref_version found % 2 == 0) (claims_from requests 0 socket heading bytes (post id 3001 n back) back) (post id 1009 n back) (looked_mode i found)
-    (claims_guarded (looked_mode i found) (looked_whole i found) requests 0 socket heading bytes (post id 3001 n back) back (λ m whole. post_guarded m whole id 3001 n back (back_goes Unknown tt)) (back_goes Unknown tt))
-    (post_guarded (looked_mode i found) (looked_whole i found) id 1009 n back (back_goes Unknown tt)))))
+    address_guarded socket (Do (FindLink i (socket_id_version socket)) (λ k. Aside (StoreAt asked.operation (at_word (id_first id) (id_slot id) k n)) (λ _. Do (LookWord socket) looks))) (λ _. post id 1009 n next) (
+      tt,
+      λ k. (
+        tt,
+        λ _. (
+          tt,
+          λ found. sides (vref_version found % 2 == 0) (claims_from requests 0 socket heading bytes (post id 3001 n back) back) (post id 1009 n back) (looked_mode i found)
+              (claims_guarded (looked_mode i found) (looked_whole i found) requests 0 socket heading bytes (post id 3001 n back) back (λ m whole. post_guarded m whole id 3001 n back (back_goes Unknown tt)) (back_goes Unknown tt))
+              (post_guarded (looked_mode i found) (looked_whole i found) id 1009 n back (back_goes Unknown tt)),
+        ),
+      ),
+    )
     (λ found. post_guarded Unknown tt id 1009 n next g)
 
 tried_guarded : (requests id n : ℕ) (asked : Asked) (next : Program) → Guarded Unknown next → Goes (tried_again requests id n asked next)

@@ -43,7 +43,17 @@ fn holds_no_bytes(rt: HostRuntime) -> Result<(), Fail> {
 fn a_call_is_shared(rt: HostRuntime) -> Result<(), Fail> {
     let mut pool = BlockPool::new(rt.alloc());
     let names = vec![in rt.alloc(); 3u16, 5u16]?;
-    let call = Call::new(rt.alloc(), &mut pool, 9, names, b"Echo", b"Ping", b"hi", b"", 4)?;
+    let call = Call::new(
+        rt.alloc(),
+        &mut pool,
+        9,
+        names,
+        b"Echo",
+        b"Ping",
+        b"hi",
+        b"",
+        4,
+    )?;
     let shared = call.share()?;
     assert!(rt; call.name(0) == 3 && shared.name(1) == 5 && shared.name(2) == 3);
     assert_eq!(rt; (shared.operation, shared.range), (9, 4));

@@ -17,4 +17,4 @@ returns-in-KeptWith c =
     let mid = seat_data c.keep-in-KeptWith.new.self in
     let new = record mid { point = point } in
     rw c.in-KeptWith.is (kept_on c.args.sizes (seat_data c.args.self.now) new mid (record { id = id_of c.in-KeptWith.error.id; attempt = number_of c.in-KeptWith.attempt }) (λ (a : Around). point_program a point) _ _ c.keep-in-KeptWith.ensures
-        (follows_point c.args.sizes mid new (point_program (around c.args.sizes mid) point) _ (begun (around c.args.sizes mid) point) refl refl))
+    (follows_point c.args.sizes mid new (point_program (around c.args.sizes mid) point) _ (begun (around c.args.sizes mid) point) refl refl))

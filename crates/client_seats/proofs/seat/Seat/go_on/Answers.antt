@@ -15,7 +15,7 @@ pub returns-else-is_empty : goal.returns-else-is_empty
 returns-else-is_empty c =
     let seat : Seat = record c.args.self.now { waiting = c.remove-oldest.new.self; point = c.point-self.result } in
     retries_on c.args.sizes (seat_data c.args.self.now) (seat_data seat) (record { id = id_of c.remove-oldest.result.id; attempt = number_of c.remove-oldest.result.attempt }) (retries c.remove-oldest.new.self.items) _
-        c.if-self.false
-        (removed_first c.args.self.now.waiting.items c.remove-oldest.result c.remove-oldest.new.self.items c.remove-oldest.ensures.value (omega (arith, c.args.self.now.waiting.ok)) c.remove-oldest.ensures.items)
-        refl
-        (c.point-self.ensures (around c.args.sizes (seat_data seat)))
+    c.if-self.false
+    (removed_first c.args.self.now.waiting.items c.remove-oldest.result c.remove-oldest.new.self.items c.remove-oldest.ensures.value (omega (arith, c.args.self.now.waiting.ok)) c.remove-oldest.ensures.items)
+    refl
+    (c.point-self.ensures (around c.args.sizes (seat_data seat)))

@@ -9,8 +9,8 @@ pub returns-in_ok-self-in-Retry-clause-next : goal.returns-in_ok-self-in-Retry-c
 returns-in_ok-self-in-Retry-clause-next c = λ sizes.
     let e = c.in_ok-self-in-Retry.ensures in
     retries_with sizes (seat_data c.args.self.now) _ c.args.call e.1 c.with_call.result c.in-Retry.retrying c.in-Retry.field-1 c.in-Retry.is (sym (same_Some _ _ e.2))
-        (λ k. record (seat_data c.args.self.now) { message = e.3 k; call = (e.0 ∙ e.2) k })
-        (λ a. c.with_call.ensures.program a c.args.call (sym (ap (λ (x : Asked). x.operation) c.call.view_is)) (c.name-name.ensures.name ∙ ap (name_of c.args.call) c.get.ensures.number))
+    (λ k. record (seat_data c.args.self.now) { message = e.3 k; call = (e.0 ∙ e.2) k })
+    (λ a. c.with_call.ensures.program a c.args.call (sym (ap (λ (x : Asked). x.operation) c.call.view_is)) (c.name-name.ensures.name ∙ ap (name_of c.args.call) c.get.ensures.number))
 
 pub returns-in_default : goal.returns-in_default
 returns-in_default c =
