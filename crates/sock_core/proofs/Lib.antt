@@ -11,10 +11,13 @@ pub mod FirstSteps
 pub mod Seatings
 pub mod Ticked
 pub mod ReadTicks
+pub mod PointFacts
 pub mod Sounds
 pub mod Fitting
 pub mod Paces
 pub mod Keeping
+pub mod CallWords
+pub mod ReadTells
 pub mod Joining
 pub mod Resting
 pub mod Leading
