@@ -34,7 +34,7 @@ use Rattle.reader_seats.specs.Readers.{ReaderData, reader_program}
 use Rattle.sock_core.specs.declared.letter.Letter.{Letter}
 use Rattle.client_seats.specs.Seats.{SeatData, seat_program}
 use Rattle.sock_core.specs.Beginnings.{AreBegun, AreReading, said_first}
-use Rattle.sock_core.specs.Links.{LinksData, Taken, Given, Agrees, AgreesGave, IsPaced, holder_of, link_home, homes_of, letter_home}
+use Rattle.sock_core.specs.Links.{LinksData, Taken, Given, Agrees, AgreesGave, ClosedAreDone, IsPaced, holder_of, link_home, homes_of, letter_home}
 use Rattle.sock_core.specs.Machines.{MachineState, IsMachine, IsSoundMachine, HasSizes, ArePaced, READERS, between, resting, clients_with, readers_with, seats_with, waiting_of, given_by, machine_sizes, core_with}
 use Rattle.sock_core.proofs.Hands.{HasNone, hand_none}
 use Rattle.sock_core.proofs.Paces.{calm_paced, client_calm}
@@ -229,8 +229,8 @@ module _ (p : Plan) (q : IdPlan) (clients : List (List Task)) (m : MachineState)
   told_length os [] = refl
   told_length os (x ∷ ps) = told_length (said (resolved [] x) os) ps ∙ length_said (resolved [] x) os
 
-  pub machine_begins : (room : ℕ) → Agrees m.links NOTHING → AgreesGave m.links NOTHING → length m.links.outs ≡ p.links → length m.links.inns ≡ p.links → length m.ends ≡ p.links → length m.opens ≡ p.links → length clients ≡ p.seats → p.operations ≤ room → IsMachine m room
-  machine_begins room agrees agrees_gave outs inns ends opens seats_many has_room =
+  pub machine_begins : (room : ℕ) → Agrees m.links NOTHING → AgreesGave m.links NOTHING → ClosedAreDone m.links → length m.links.outs ≡ p.links → length m.links.inns ≡ p.links → length m.ends ≡ p.links → length m.opens ≡ p.links → length clients ≡ p.seats → p.operations ≤ room → IsMachine m room
+  machine_begins room agrees agrees_gave closed outs inns ends opens seats_many has_room =
       let told = ap length outcomes ∙ told_length (replicate p.operations None) own_programs ∙ length-replicate p.operations None in
       let links_same : p.links ≡ m.plan.links = ap (λ (x : Plan). x.links) (sym plan) in record {
         sizes = ∣ record {
@@ -257,4 +257,5 @@ module _ (p : Plan) (q : IdPlan) (clients : List (List Task)) (m : MachineState)
         has_room = omega (arith, told, has_room);
         sound = λ _. ∣ begins_sound agrees agrees_gave ∣₁;
         paced = λ _. ∣ begins_paced ∣₁;
+        closed = λ _. record { done = closed; held = λ k j own past. absurd (none-some j (sym (nobody p m.links m.letters new k) ∙ own)) };
       }
