@@ -15,7 +15,8 @@ use Rattle.sock_message.specs.Asked.{Asked}
 use Rattle.sock_model.specs.declared.chain.Heading.{Heading}
 use Rattle.sock_model.specs.Entries.{slot_of, generation_of}
 use Rattle.sock_model.specs.Memory.{IDLE, UNCONNECTED}
-use Rattle.corr_core.specs.Word.{parts, code_of, posted_word, unlocked_word, LAST}
+use Rattle.corr_core.specs.Word.{parts, code_of, posted_word, unlocked_word}
+use Rattle.corr_core.specs.Law.{LAST}
 use Rattle.sock_programs.specs.Asides.{Step, Found, id_slot, id_first}
 use Rattle.sock_programs.specs.Calls as calls
 use Rattle.sock_programs.specs.Writings as heads
