@@ -17,6 +17,7 @@ use Rattle.sock_model.specs.Entries.{slot_of, generation_of}
 use Rattle.sock_model.specs.Memory.{IDLE, UNCONNECTED}
 use Rattle.corr_core.specs.Word.{parts, code_of, posted_word, unlocked_word}
 use Rattle.corr_core.specs.Law.{LAST}
+use Rattle.sock_programs.specs.Asides as asides
 use Rattle.sock_programs.specs.Asides.{Step, Found, id_slot, id_first}
 use Rattle.sock_programs.specs.Calls as calls
 use Rattle.sock_programs.specs.Writings as heads
@@ -34,7 +35,7 @@ use Rattle.sock_programs.specs.declared.task.Sizes.{Sizes}
 use Rattle.sock_programs.specs.declared.task.Task.{Task}
 use Rattle.sock_runs.specs.Sound.{first_step}
 use Rattle.id_points.specs.Ids.{id_of, number_of}
-use Rattle.call_points.specs.Steps.{word_behind, after_word}
+use Rattle.call_points.specs.Steps.{with_word, word_behind, after_word, after_call}
 use Rattle.call_points.specs.declared.deciding.OnCall.{OnCall}
 use Rattle.call_points.specs.declared.deciding.DecideStep.TheVariants as decides
 use Rattle.call_points.specs.declared.posting.PostStep.TheVariants as posts
@@ -60,7 +61,7 @@ use Rattle.seat_points.specs.declared.point.RetryStep.TheVariants as retries
 use Rattle.seat_points.specs.declared.point.JoinStep.TheVariants as joins
 use Rattle.seat_points.specs.declared.point.Point.{Point}
 use Rattle.seat_points.specs.declared.point.Point.TheVariants as points
-use Rattle.seat_points.specs.Points.{Around, client_on, then_program, point_program, reached_program, full_program, freed_program, after_program, posted_program, look_program, told, tell, TakesMessage, TakesLink, PutsHome, PutsPiece, Asks, after_message, after_link, after_home, after_put, after_ready}
+use Rattle.seat_points.specs.Points.{Around, client_on, then_program, point_program, reached_program, full_program, freed_program, after_program, posted_program, look_program, told, tell, GoesByWord, TakesCall, TakesMessage, TakesLink, PutsHome, PutsPiece, Asks, after_message, after_link, after_home, after_put, after_ready}
 use Rattle.seat_points.specs.Steps.{OfCall, first_of, first_in}
 use Rattle.seat_points.specs.Steps as kinds
 use Rattle.client_seats.specs.Seats.{SeatData, around}
@@ -189,24 +190,20 @@ unlocks_calm i from found advance k calm = either_way (found == from) _ _ Calm (
 locking_calm : (i : ℕ) (sought : Sought) (found : ℕ) (k : Locking → Program) → ((how : Locking) → Calm (k how)) → Calm (locking i sought found k)
 locking_calm i sought found k calm = either_way (not (is_sought sought (parts found))) _ _ Calm (calm (NotThere found)) (either_way ((parts found).state == 1) _ _ Calm (λ w. tt) (λ w. tt))
 
--- what follows a step on a word is calm, whatever was found
-abbrev pub CalmStep : Program → Type 0
-CalmStep (Do call next) = (found : ℕ) → Calm (next found)
-CalmStep (Aside step next) = (found : Found step) → Calm (next found)
-CalmStep other = Unit {0}
+-- what follows a step on a word, or on a call, is calm, whatever was found; and a point with a step of another kind goes by no word
+abbrev pub CalmStep : Point → Program → Type 0
+CalmStep p (Do call next) = (found : ℕ) → Calm (next found)
+CalmStep p (Aside step next) = (found : Found step) → Calm (next found)
+CalmStep p other = GoesByWord p → ⊥
 
 -- a look before a put
 abbrev pub Looks : Point → Type 0
 Looks (points.Write w (writes.Look c asked)) = Unit {0}
 Looks other = ⊥
 
--- the put that follows is paced as the look was
-abbrev pub IsLook : Around → Point → Program → Type 0
-IsLook a p next = ((outs : List OutState) → IsPaced outs (point_program a p) → (w : List Retry) → IsPaced outs (next_step (resolved w next))) × ((id : ℕ) × (first_in (point_program a p) ≡ Some (OfCall (calls.LookWord id))))
-
--- it is calm there; or a look was made
-abbrev pub Behind : Around → Point → Program → Type 0
-Behind a p next = Calm next ⊎ IsLook a p next
+-- it is calm there; or a look was made, and the put that follows is paced as the look was
+abbrev pub Behind : Around → List Retry → Point → Program → Type 0
+Behind a w p next = IsCalm (next_step (resolved w next)) ⊎ (((outs : List OutState) → IsPaced outs (point_program a p) → IsPaced outs (next_step (resolved w next))) × ((id : ℕ) × (first_in (point_program a p) ≡ Some (OfCall (calls.LookWord id)))))
 
 -- a look is no step on the ids
 not_aside : {call : calls.Call} {k : ℕ → Program} {step : Step} {next : Found step → Program} → Do call k ≡ Aside step next → ⊥
@@ -271,12 +268,12 @@ module _ (a : Around) (on : (hs : List HeldLife) → Calm (a.goes_on hs)) (ends 
   unlocked_calm r k calm (IsOpen word) = keep_calm r (k GoesOn) calm
   unlocked_calm r k calm (HasNext word e) = keep_calm r (decide r.id word e k) (λ w. tt)
 
-  look_calm : (author : Author) (id : ℕ) → CalmStep (first_step (look_program a author id))
-  look_calm (authors.Send o) id = λ found. either_way (vref_version found % 2 == 0) _ _ Calm (claim_calm a.sizes.requests 0 o id a.message (client_on a)) (λ w. tt)
-  look_calm (authors.Attempt t) id = λ found. either_way (vref_version found % 2 == 0) _ _ Calm (claims_calm a.sizes.requests 0 id _ a.message _ _ (full_calm (authors.Attempt t) id)) (λ w. tt)
+  look_calm : (p : Point) (author : Author) (id : ℕ) → CalmStep p (first_step (look_program a author id))
+  look_calm p (authors.Send o) id = λ found. either_way (vref_version found % 2 == 0) _ _ Calm (claim_calm a.sizes.requests 0 o id a.message (client_on a)) (λ w. tt)
+  look_calm p (authors.Attempt t) id = λ found. either_way (vref_version found % 2 == 0) _ _ Calm (claims_calm a.sizes.requests 0 id _ a.message _ _ (full_calm (authors.Attempt t) id)) (λ w. tt)
 
-  step_calm : (p : Point) → CalmStep (first_step (point_program a p)) ⊎ Looks p
-  step_calm points.Rest = inl tt
+  step_calm : (p : Point) → CalmStep p (first_step (point_program a p)) ⊎ Looks p
+  step_calm points.Rest = inl (λ goes. goes)
   step_calm (points.Open g (opens.Claim i)) = inl (λ found. either_way (found == 0) _ _ Calm (λ w. tt) (open_calm (a.sizes.slots - (i + 1)) (i + 1) g.operation g.name g.link (client_on a)))
   step_calm (points.Open g (opens.StoreLink i)) = inl (λ found w. tt)
   step_calm (points.Open g (opens.ResetHead i)) = inl (λ found w. tt)
@@ -303,19 +300,19 @@ module _ (a : Around) (on : (hs : List HeldLife) → Calm (a.goes_on hs)) (ends 
   step_calm (points.Release i t (releases.FinishLink x k)) = inl (λ found w. tt)
   step_calm (points.Release i t (releases.PutLink x k)) = inl (λ found. either_way (nat_le x LAST_VERSION) _ _ Calm (λ w. tt) (then_calm t true))
   step_calm (points.Release i t releases.FreeSlot) = inl (λ found. then_calm t true)
-  step_calm (points.Send s sends.Look) = inl (look_calm s.author s.id.0)
+  step_calm (points.Send s sends.Look) = inl (look_calm (points.Send s sends.Look) s.author s.id.0)
   step_calm (points.Send s (sends.Claim q)) = inl (λ found. either_way (found % 2 == 0) _ _ Calm (λ w. tt) (claims_calm (a.sizes.requests - (q + 1)) (q + 1) s.id.0 _ a.message _ _ (full_calm s.author s.id.0)))
   step_calm (points.Send s (sends.PutMessage q own)) = inl (λ found w. tt)
   step_calm (points.Send s (sends.Unconnect q own)) = inl (λ found w. tt)
   step_calm (points.Send s (sends.SwapHead q own)) = inl (λ found. either_way (nat_lt found IDLE) _ _ Calm (λ w. tt) (λ w. tt))
   step_calm (points.Send s (sends.Connect q before)) = inl (λ found w. tt)
   step_calm (points.Send s (sends.FindLink q own)) = inl (λ found w. tt)
-  step_calm (points.Send s (sends.TakeHome q own k)) = inl tt
-  step_calm (points.Send s (sends.TakeMessage q own k n)) = inl tt
+  step_calm (points.Send s (sends.TakeHome q own k)) = inl (λ goes. goes)
+  step_calm (points.Send s (sends.TakeMessage q own k n)) = inl (λ goes. goes)
   step_calm (points.Write w (writes.FirstLook c)) = inl (λ found. either_way (vref_version found % 2 == 0) _ _ Calm (λ _. refl) (λ _. refl))
   step_calm (points.Write w (writes.Look c asked)) = inr tt
-  step_calm (points.Write w (writes.Put c asked)) = inl tt
-  step_calm (points.Write w (writes.Ask c)) = inl tt
+  step_calm (points.Write w (writes.Put c asked)) = inl (λ goes. goes)
+  step_calm (points.Write w (writes.Ask c)) = inl (λ goes. goes)
   step_calm (points.Write w (writes.SetOdd c)) = inl (λ found. either_way (vref_version found % 2 == 0) _ _ Calm (λ _. tt) (λ _. refl))
   step_calm (points.Write w (writes.StoreCode c)) = inl (λ found _. tt)
   step_calm (points.Write w (writes.GiveBack c)) = inl (λ found _. refl)
@@ -324,13 +321,13 @@ module _ (a : Around) (on : (hs : List HeldLife) → Calm (a.goes_on hs)) (ends 
   step_calm (points.Write w (writes.DropPlace c n)) = inl (λ found. passed_calm _ c.ticket.0 (tell c.author a.left_parts n) _ (λ x calm. tell_calm _ n x calm))
   step_calm (points.Write w (writes.ReadNext now c)) = inl (λ found. freed_calm now.0 _ (told_calm c _ (λ _. tt)))
   step_calm (points.Write w (writes.Free now next c)) = inl (λ found. told_calm c (freed_program a w next) (written_calm w next))
-  step_calm (points.Write w (writes.TakeMessage next)) = inl tt
-  step_calm (points.Write w writes.PutHome) = inl tt
+  step_calm (points.Write w (writes.TakeMessage next)) = inl (λ goes. goes)
+  step_calm (points.Write w writes.PutHome) = inl (λ goes. goes)
   step_calm (points.Write w writes.EmptyHead) = inl (λ found. either_way (found == w.holder.last.0) _ _ Calm (λ _. tt) (λ _. tt))
-  step_calm (points.Write w (writes.TakeHome k)) = inl tt
+  step_calm (points.Write w (writes.TakeHome k)) = inl (λ goes. goes)
   step_calm (points.Write w (writes.Walk top at after)) = inl (λ found. either_way (found == UNCONNECTED) _ _ Calm (λ _. tt) (λ _. tt))
   step_calm (points.Write w (writes.Turn top at after before)) = inl (λ found. either_way (before.0 == w.holder.last.0) _ _ Calm (λ _. tt) (λ _. tt))
-  step_calm (points.Write w (writes.TakeFirst top at)) = inl tt
+  step_calm (points.Write w (writes.TakeFirst top at)) = inl (λ goes. goes)
   step_calm (points.Call begins.LoadName) = inl (λ found. either_way (found == 0) _ _ Calm (on a.held) (ids_calm a.sizes.ids 0 a.sizes.requests (found - 1) a.asked (client_on a) (on a.held)))
   step_calm (points.Call (begins.ClaimId i socket)) = inl (λ found. either_way (found == 0) _ _ Calm (λ w. tt) (ids_calm (a.sizes.ids - (i + 1)) (i + 1) a.sizes.requests socket.0 a.asked (client_on a) (on a.held)))
   step_calm (points.Call (begins.PutCall i socket)) = inl (λ found w. tt)
@@ -342,7 +339,7 @@ module _ (a : Around) (on : (hs : List HeldLife) → Calm (a.goes_on hs)) (ends 
   step_calm (points.Post c after posts.Load) = inl (λ found. judged_calm (id_of c.id) c.error.0 found _ (post_calm c after))
   step_calm (points.Post c after (posts.Exchange from)) = inl (λ found. posts_calm (id_of c.id) c.error.0 from.0 found _ (post_calm c after))
   step_calm (points.Decide c after (decides.Take x)) = inl (λ found w. tt)
-  step_calm (points.Decide c after (decides.Judge x)) = inl (either_way (ends_call (parts x.0) c.error.0) _ _ CalmStep (λ found. either_way (nat_le ((parts found).first + (parts found).range) LAST) _ _ Calm (λ w. tt) (after_calm after)) (λ found w. tt))
+  step_calm (points.Decide c after (decides.Judge x)) = inl (either_way (ends_call (parts x.0) c.error.0) _ _ (CalmStep (points.Decide c after (decides.Judge x))) (λ found. either_way (nat_le ((parts found).first + (parts found).range) LAST) _ _ Calm (λ w. tt) (after_calm after)) (λ found w. tt))
   step_calm (points.Decide c after (decides.Free o)) = inl (λ found. after_calm after)
   step_calm (points.Decide c after (decides.Unlock from advance n)) = inl (λ found. unlocks_calm (id_slot (id_of c.id)) from.0 found advance _ (unlocked_calm _ _ (after_calm after)))
   step_calm (points.Retry r (retries.Lock locks.Read)) = inl (λ found. locking_calm (id_slot (id_of r.attempt.id)) _ found _ (locked_calm a.sizes.requests (id_of r.attempt.id) (number_of r.attempt.number) (client_on a) (on a.held)))
@@ -355,67 +352,80 @@ module _ (a : Around) (on : (hs : List HeldLife) → Calm (a.goes_on hs)) (ends 
   step_calm (points.Join o (joins.LoadCall t)) = inl (λ found. either_way (found == 0) _ _ Calm (on a.held) (λ w. tt))
   step_calm (points.Join o (joins.Wait id)) = inl (λ found. either_way (is_first (id_first (id_of id)) (parts found)) _ _ Calm (λ w. tt) (on a.held))
 
-  -- behind a step on a word of the sockets it is calm; or a look was made, and the put that follows is paced as the look was
-  word_calm : (program : Program) (call : calls.Call) (found : ℕ) → CalmStep program → first_of program ≡ Some (OfCall call) → Calm (word_behind program found)
-  word_calm (Do call next) other found calm e = calm found
-  word_calm (Aside step next) call found calm e = cc
-  word_calm (TakeMessage q next) call found calm e = cc
-  word_calm (TakeHome k next) call found calm e = cc
-  word_calm (PutHome k n after) call found calm e = cc
-  word_calm (PutBytes k asked bytes next) call found calm e = cc
-  word_calm (AskReady k next) call found calm e = cc
-  word_calm _ call found calm e = absurd (none-some _ e)
+  -- behind a step on a word
+  aside_calm : (step : Step) (next : Found step → Program) (found : ℕ) → ((x : Found step) → Calm (next x)) → Calm (with_word step next found)
+  aside_calm (asides.ClaimId i) next found calm = calm found
+  aside_calm (asides.PutCall i asked) next found calm = calm found
+  aside_calm (asides.MakeId i range) next found calm = calm found
+  aside_calm (asides.StoreCall o id) next found calm = calm found
+  aside_calm (asides.LoadCall o) next found calm = calm found
+  aside_calm (asides.StoreAt o x) next found calm = calm found
+  aside_calm (asides.LoadAt o) next found calm = calm found
+  aside_calm (asides.LoadIdWord i) next found calm = calm found
+  aside_calm (asides.LockId i from) next found calm = calm found
+  aside_calm (asides.PostId i from e) next found calm = calm found
+  aside_calm (asides.UnlockId i from advance) next found calm = calm found
+  aside_calm (asides.EndId i) next found calm = calm found
+  aside_calm (asides.FreeId i) next found calm = calm found
+  aside_calm (asides.TakeCall i) next found calm = λ w. tt
+  aside_calm (asides.TakeBytes k room) next found calm = λ w. tt
 
-  step_word : (program : Program) (call : calls.Call) (found : ℕ) → CalmStep (first_step program) → first_in program ≡ Some (OfCall call) → Calm (after_word program found)
-  step_word (Write w after) call found calm e = word_calm (block w after) call found calm e
-  step_word (Round head next) call found calm e = word_calm (round head next) call found calm e
-  step_word (Do other next) call found calm e = word_calm (Do other next) call found calm e
-  step_word (Aside step next) call found calm e = word_calm (Aside step next) call found calm e
-  step_word (TakeMessage q next) call found calm e = word_calm (TakeMessage q next) call found calm e
-  step_word (TakeHome k next) call found calm e = word_calm (TakeHome k next) call found calm e
-  step_word (PutHome k n after) call found calm e = word_calm (PutHome k n after) call found calm e
-  step_word (PutBytes k asked bytes next) call found calm e = word_calm (PutBytes k asked bytes next) call found calm e
-  step_word (AskReady k next) call found calm e = word_calm (AskReady k next) call found calm e
-  step_word _ call found calm e = absurd (none-some _ e)
+  word_calm : (p : Point) (program : Program) (found : ℕ) → GoesByWord p → CalmStep p program → Calm (word_behind program found)
+  word_calm p (Do call next) found goes calm = calm found
+  word_calm p (Aside step next) found goes calm = aside_calm step next found calm
+  word_calm p _ found goes calm = absurd (calm goes)
 
-  looks_behind : (p : Point) (found : ℕ) → Looks p → IsLook a p (after_word (point_program a p) found)
-  looks_behind (points.Write w (writes.Look c asked)) found looks = ((λ outs paced ws. either_way (vref_version found % 2 == 0) _ _ (λ x. IsPaced outs (next_step (resolved ws x))) paced tt), (w.holder.id.0, refl))
-  looks_behind _ found looks = absurd looks
+  step_word : (p : Point) (program : Program) (found : ℕ) → GoesByWord p → CalmStep p (first_step program) → Calm (after_word program found)
+  step_word p (Write w after) found goes calm = word_calm p (block w after) found goes calm
+  step_word p (Round head next) found goes calm = word_calm p (round head next) found goes calm
+  step_word p (Do call next) found goes calm = calm found
+  step_word p (Aside step next) found goes calm = aside_calm step next found calm
+  step_word p _ found goes calm = absurd (calm goes)
 
-  pub behind_word : (p : Point) (call : calls.Call) (found : ℕ) → first_in (point_program a p) ≡ Some (OfCall call) → Behind a p (after_word (point_program a p) found)
-  behind_word p call found e = ⊎_elim (λ calm. inl (step_word (point_program a p) call found calm e)) (λ looks. inr (looks_behind p found looks)) (step_calm p)
+  looks_behind : (w : List Retry) (p : Point) (found : ℕ) → Looks p → ((outs : List OutState) → IsPaced outs (point_program a p) → IsPaced outs (next_step (resolved w (after_word (point_program a p) found)))) × ((id : ℕ) × (first_in (point_program a p) ≡ Some (OfCall (calls.LookWord id))))
+  looks_behind w (points.Write x (writes.Look c asked)) found looks = ((λ outs paced. either_way (vref_version found % 2 == 0) _ _ (λ y. IsPaced outs (next_step (resolved w y))) paced tt), (x.holder.id.0, refl))
+  looks_behind w _ found looks = absurd looks
 
-  -- behind one on the ids it is
+  pub behind_word : (w : List Retry) (p : Point) (found : ℕ) → GoesByWord p → Behind a w p (after_word (point_program a p) found)
+  behind_word w p found goes = ⊎_elim (λ calm. inl (step_word p (point_program a p) found goes calm w)) (λ looks. inr (looks_behind w p found looks)) (step_calm p)
+
+  -- behind one on the ids it is calm
   pub behind_aside : (p : Point) (step : Step) (next : Found step → Program) → first_step (point_program a p) ≡ Aside step next → (found : Found step) → Calm (next found)
-  behind_aside p step next is = ⊎_elim (λ calm. subst CalmStep is calm) (λ looks. absurd (no_look a p step next looks is)) (step_calm p)
+  behind_aside p step next is = ⊎_elim (λ calm. subst (CalmStep p) is calm) (λ looks. absurd (no_look a p step next looks is)) (step_calm p)
+
+  -- and where a call was taken out of its home
+  pub behind_call : (w : List Retry) (p : Point) (asked : Asked) → TakesCall p → IsCalm (next_step (resolved w (after_call (point_program a p) asked)))
+  behind_call w (points.Decide c after (decides.Take x)) asked takes = tt
+  behind_call w (points.Retry r (retries.TakeCall x)) asked takes = tt
+  behind_call w _ asked takes = absurd takes
 
 -- ## Behind the others
 
-pub behind_message : (a : Around) (p : Point) (author : Author) (ps bytes : List ℕ) → TakesMessage p → Calm (after_message (point_program a p) author ps bytes)
-behind_message a (points.Send s (sends.TakeMessage q own k n)) author ps bytes takes = λ w. tt
-behind_message a (points.Write w (writes.TakeMessage next)) author ps bytes takes = λ _. refl
-behind_message a (points.Write w (writes.TakeFirst top at)) author ps bytes takes = λ _. refl
-behind_message a _ author ps bytes takes = absurd takes
+pub behind_message : (a : Around) (w : List Retry) (p : Point) (author : Author) (ps bytes : List ℕ) → TakesMessage p → IsCalm (next_step (resolved w (after_message (point_program a p) author ps bytes)))
+behind_message a w (points.Send s (sends.TakeMessage q own k n)) author ps bytes takes = tt
+behind_message a w (points.Write x (writes.TakeMessage next)) author ps bytes takes = refl
+behind_message a w (points.Write x (writes.TakeFirst top at)) author ps bytes takes = refl
+behind_message a w _ author ps bytes takes = absurd takes
 
-pub behind_link : (a : Around) (p : Point) (n : ℕ) → TakesLink p → Calm (after_link (point_program a p) n)
-behind_link a (points.Send s (sends.TakeHome q own k)) n takes = λ w. tt
-behind_link a (points.Write w (writes.TakeHome found)) n takes = λ _. tt
-behind_link a _ n takes = absurd takes
+pub behind_link : (a : Around) (w : List Retry) (p : Point) (n : ℕ) → TakesLink p → IsCalm (next_step (resolved w (after_link (point_program a p) n)))
+behind_link a w (points.Send s (sends.TakeHome q own k)) n takes = tt
+behind_link a w (points.Write x (writes.TakeHome found)) n takes = tt
+behind_link a w _ n takes = absurd takes
 
-pub behind_home : (a : Around) (p : Point) → PutsHome p → Calm (after_home (point_program a p))
-behind_home a (points.Write w writes.PutHome) goes = λ _. tt
-behind_home a _ goes = absurd goes
+pub behind_home : (a : Around) (w : List Retry) (p : Point) → PutsHome p → IsCalm (next_step (resolved w (after_home (point_program a p))))
+behind_home a w (points.Write x writes.PutHome) goes = tt
+behind_home a w _ goes = absurd goes
 
-pub behind_put : (a : Around) (p : Point) (outs : List OutState) (k : ℕ) (asked : Bool) (bytes : List ℕ) (put : Put) → PutsPiece p → first_in (point_program a p) ≡ Some (kinds.OfPut k asked bytes) → (put ≡ puts.Again → WasRefused outs k) →
-    (ws : List Retry) → IsPaced outs (next_step (resolved ws (after_put (point_program a p) put)))
-behind_put a (points.Write w (writes.Put c b)) outs k asked bytes (puts.Took n) goes e refused ws = either_way (nat_le (length a.left) n) _ _ (λ x. IsPaced outs (next_step (resolved ws x))) tt (λ f. absurd (true≢false (sym f)))
-behind_put a (points.Write w (writes.Put c b)) outs k asked bytes puts.Again goes e refused ws = let h : k ≡ w.holder.link = cc in subst (WasRefused outs) h (refused refl)
-behind_put a (points.Write w (writes.Put c b)) outs k asked bytes puts.Failed goes e refused ws = tt
-behind_put a _ outs k asked bytes put goes e refused ws = absurd goes
+pub behind_put : (a : Around) (ws : List Retry) (p : Point) (outs : List OutState) (k : ℕ) (asked : Bool) (bytes : List ℕ) (put : Put) → PutsPiece p → first_in (point_program a p) ≡ Some (kinds.OfPut k asked bytes) → (put ≡ puts.Again → WasRefused outs k) →
+    IsPaced outs (next_step (resolved ws (after_put (point_program a p) put)))
+behind_put a ws (points.Write w (writes.Put c b)) outs k asked bytes (puts.Took n) goes e refused = either_way (nat_le (length a.left) n) _ _ (λ x. IsPaced outs (next_step (resolved ws x))) tt (λ f. absurd (true≢false (sym f)))
+behind_put a ws (points.Write w (writes.Put c b)) outs k asked bytes puts.Again goes e refused = let h : k ≡ w.holder.link = cc in subst (WasRefused outs) h (refused refl)
+behind_put a ws (points.Write w (writes.Put c b)) outs k asked bytes puts.Failed goes e refused = tt
+behind_put a ws _ outs k asked bytes put goes e refused = absurd goes
 
-pub behind_ready : (a : Around) (p : Point) (outs outs' : List OutState) (k : ℕ) (ready : Ready) → Asks p → first_in (point_program a p) ≡ Some (kinds.OfReady k) → IsPaced outs (point_program a p) →
-    (ready ≡ asks.Now → WasRefused outs k → IsClear outs' k) → (ready ≡ asks.NotYet → WasRefused outs k → WasRefused outs' k) → (ws : List Retry) → IsPaced outs' (next_step (resolved ws (after_ready (point_program a p) ready)))
-behind_ready a (points.Write w (writes.Ask c)) outs outs' k asks.Now goes e paced now yet ws = λ f. let h : w.holder.link ≡ k = cc in subst (IsClear outs') (sym h) (now refl (subst (WasRefused outs) h paced))
-behind_ready a (points.Write w (writes.Ask c)) outs outs' k asks.NotYet goes e paced now yet ws = let h : w.holder.link ≡ k = cc in subst (WasRefused outs') (sym h) (yet refl (subst (WasRefused outs) h paced))
-behind_ready a (points.Write w (writes.Ask c)) outs outs' k asks.Failed goes e paced now yet ws = tt
-behind_ready a _ outs outs' k ready goes e paced now yet ws = absurd goes
+pub behind_ready : (a : Around) (ws : List Retry) (p : Point) (outs outs' : List OutState) (k : ℕ) (ready : Ready) → Asks p → first_in (point_program a p) ≡ Some (kinds.OfReady k) → IsPaced outs (point_program a p) →
+    (ready ≡ asks.Now → WasRefused outs k → IsClear outs' k) → (ready ≡ asks.NotYet → WasRefused outs k → WasRefused outs' k) → IsPaced outs' (next_step (resolved ws (after_ready (point_program a p) ready)))
+behind_ready a ws (points.Write w (writes.Ask c)) outs outs' k asks.Now goes e paced now yet = λ f. let h : w.holder.link ≡ k = cc in subst (IsClear outs') (sym h) (now refl (subst (WasRefused outs) h paced))
+behind_ready a ws (points.Write w (writes.Ask c)) outs outs' k asks.NotYet goes e paced now yet = let h : w.holder.link ≡ k = cc in subst (WasRefused outs') (sym h) (yet refl (subst (WasRefused outs) h paced))
+behind_ready a ws (points.Write w (writes.Ask c)) outs outs' k asks.Failed goes e paced now yet = tt
+behind_ready a ws _ outs outs' k ready goes e paced now yet = absurd goes
