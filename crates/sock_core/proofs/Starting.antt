@@ -180,8 +180,8 @@ module _ (p : Plan) (q : IdPlan) (clients : List (List Task)) (m : MachineState)
   seats_are =
       ap₂ (λ (ps : Plan) (sizes : Sizes). clients_with ps m.links NOTHING sizes 0 m.seats ++ (replicate (between m.seats) resting ++ readers_with ps m.links NOTHING m.calls READERS m.readers)) plan same_sizes
       ∙ ap₂ (λ (xs ys : List SeatState). xs ++ ys) (new_clients p m.links m.letters new (sizes_of p q) 0 m.seats own_programs seats.0)
-          (ap₂ (λ (xs ys : List SeatState). xs ++ ys) (ap (λ n. replicate (32 - n) resting) (many ∙ sym many_programs) ∙ gap_begun (32 - length own_programs)) (new_readers p m.links m.letters new m.calls READERS 0 m.readers m.opens readers)
-          ∙ sym (map-append seat_begun (replicate (32 - length own_programs) Rest) (readers_from m.calls 0 m.opens)))
+      (ap₂ (λ (xs ys : List SeatState). xs ++ ys) (ap (λ n. replicate (32 - n) resting) (many ∙ sym many_programs) ∙ gap_begun (32 - length own_programs)) (new_readers p m.links m.letters new m.calls READERS 0 m.readers m.opens readers)
+      ∙ sym (map-append seat_begun (replicate (32 - length own_programs) Rest) (readers_from m.calls 0 m.opens)))
       ∙ sym (map-append seat_begun own_programs (replicate (32 - length own_programs) Rest ++ readers_from m.calls 0 m.opens))
 
   waiting_none : waiting_of m.seats m.readers ≡ replicate q.seats []
