@@ -39,7 +39,7 @@ use Rattle.client_seats.specs.Seats.{SeatData, seat_program}
 use Rattle.sock_core.specs.declared.machine.Tick.{Tick}
 use Rattle.sock_core.specs.declared.machine.Tick.TheVariants as ticks
 use Rattle.sock_core.specs.Links.{LinksData, Taken, Given, Agrees, AgreesGave, ClosedAreDone, IsPaced, holder_of, homes_of, hand_of}
-use Rattle.sock_core.specs.Machines.{MachineState, IsMachine, IsSoundMachine, HasSizes, KeepsClosed, ArePaced, MOST_LEFT, READERS, machine_sizes, core_with, ending_by, waiting_of, given_by, table_of}
+use Rattle.sock_core.specs.Machines.{MachineState, IsMachine, IsSoundMachine, HasSizes, KeepsClosed, AreCalled, ArePaced, MOST_LEFT, READERS, machine_sizes, core_with, ending_by, waiting_of, given_by, table_of}
 use Rattle.sock_core.specs.Steps.{Goes}
 use Rattle.sock_core.specs.Runs.{SameTable, SameLinks, Ticked, Led}
 use Rattle.sock_core.specs.Driving.{LastsAtMost, Leaves, IsLast, IsOther, AsksNone, IsPlain, FirstRests, BeganEnding, told_ending}
@@ -154,7 +154,7 @@ module _ (old fresh : MachineState) (room : ℕ) (is : IsMachine old room) (enou
       client_set old fresh 0 w.seat w.seat' (ending_of old.opens) took took gave (hand_of old.links old.plan.links took 0) (homes_of old.links old.plan old.letters took) old.words w.at w.seats w.readers few goes w.words
       (none_changes old.plan 0 old.links fresh.links old.letters fresh.letters took _ w.links (ap (λ ls. homes_of old.links old.plan ls took) w.letters))
       ∙ ap (λ (x : List Home). with_seat 0 (ending_of old.opens) x old.words (homes_of old.links old.plan old.letters took) (record (core_with old took gave) { calls = calls_with fresh.ids (waiting_of old.seats old.readers) (given_by old.plan.links gave) old.ending }))
-          (hand_none old.links took old.plan.links 0 free)
+      (hand_none old.links took old.plan.links 0 free)
       ∙ ap (λ (ids : SlotState). with_seat 0 (ending_of old.opens) [] old.words (homes_of old.links old.plan old.letters took) (record (core_with old took gave) { calls = calls_with ids (waiting_of old.seats old.readers) (given_by old.plan.links gave) old.ending })) w.ids
 
   began_sizes : HasSizes old → HasSizes fresh
@@ -215,6 +215,7 @@ module _ (old fresh : MachineState) (room : ℕ) (is : IsMachine old room) (enou
     sound = λ _. ∥∥₁_elim is.sizes (hlevel props) (λ h. ∥∥₁_elim (is.sound enough) (hlevel props) (λ s. ∣ began_sound h s ∣₁));
     paced = λ _. ∥∥₁_elim (is.paced enough) (hlevel props) (λ paced. ∣ began_paced paced ∣₁);
     closed = λ _. began_closed (is.closed enough);
+    called = λ _. subst AreCalled (sym w.ids) (is.called enough);
   }
 
   pub began_plain : IsPlain fresh
@@ -262,6 +263,7 @@ ending_keeps m room is = record {
   sound = λ enough. ∥∥₁_elim (is.sound enough) (hlevel props) (λ s. ∣ told_machine m s ∣₁);
   paced = is.paced;
   closed = λ enough. let h = is.closed enough in record { done = h.done; held = h.held };
+  called = is.called;
 }
 
 -- ## By a tick's answer
