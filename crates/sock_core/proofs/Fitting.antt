@@ -290,6 +290,9 @@ module _ (m : MachineState) (sized : IsSized (table_of m)) (few_slots : m.ids.pl
     pub client_takes : (step : Step) → NextIs m i step → (aside : asides.Step) → step_as a step ≡ OfAside aside → NoTake aside
     client_takes step n aside e = takes_none a seat.point aside (next_of step n ∙ ap Some e)
 
+    pub client_slots : (step : Aside) → first_in client ≡ Some (OfAside (aside_steps.step_of (asked_of seat.call) step)) → FitsSlots (table_of m) step
+    client_slots step next = id_slots i client client_at (asked_of seat.call) step next
+
     pub client_next : (step : Step) → NextIs m i step → first_in client ≡ Some (step_as a step)
     client_next step n = next_of step n
 
@@ -323,6 +326,9 @@ module _ (m : MachineState) (sized : IsSized (table_of m)) (few_slots : m.ids.pl
 
     pub reader_next : (step : ReadStep) → NextReadIs m k step → first_in own ≡ Some (reader_steps.step_as reader.asked step)
     reader_next step n = subst (λ (r : ReaderData). first_in (reader_program m.calls r) ≡ Some (reader_steps.step_as r.asked step)) (core.some-injective n.reader reader (sym n.at ∙ at)) n.is
+
+    pub reader_slots : (step : Aside) → first_in own ≡ Some (OfAside (aside_steps.step_of reader.asked step)) → FitsSlots (table_of m) step
+    reader_slots step next = id_slots (READERS + k) own reader_at reader.asked step next
 
     pub reader_may : (first : First) → first_in own ≡ Some first → MayMake m.plan m.links (READERS + k) first
     reader_may first next = may_first (READERS + k) own reader_at first next

@@ -4,7 +4,6 @@ use Rattle.std.proofs.lemmas.Bool.{true≢false}
 use Rattle.std.proofs.lemmas.Option.{none-some}
 use Rattle.std.proofs.Props.{props}
 use Rattle.std.proofs.Math.Logic.{∥∥₁_elim}
-use Rattle.sock_steps.proofs.Quiet.{either_way}
 use Rattle.atomic_table.proofs.Lists.{at_set, set_here, set_else}
 use mathlib.Core.Option as core
 use lib.ListN.{get_elem?}
@@ -14,13 +13,10 @@ use Rattle.sock_io.specs.declared.link.Put.{Put}
 use Rattle.sock_io.specs.declared.link.Ready.{Ready}
 use Rattle.sock_io.specs.declared.link.Ready.TheVariants as asks
 use Rattle.sock_io.specs.Link.{OutState}
-use Rattle.sock_message.specs.Asked.{Asked}
 use Rattle.sock_model.specs.declared.view.View.{View}
 use Rattle.sock_programs.specs.declared.task.Sizes.{Sizes}
-use Rattle.sock_programs.specs.Clients.{HeldLife, give_back, client_from, ending_of}
+use Rattle.sock_programs.specs.Clients.{HeldLife}
 use Rattle.sock_programs.specs.Heads.{Retry}
-use Rattle.sock_programs.specs.Asides as asides
-use Rattle.sock_programs.specs.Asides.{Found}
 use Rattle.sock_programs.specs.Calls as calls
 use Rattle.sock_programs.specs.Writings as heads
 use Rattle.sock_programs.specs.Programs.{Program, Do, Say, Sent, Rest, TakeMessage, TakeHome, PutHome, PutBytes, AskReady, Write, Aside, Round, Keep, Retries}
@@ -29,7 +25,7 @@ use Rattle.sock_programs.specs.Ticks.{Answer, Unasked, OfPut, OfReady, OfTake, M
 use Rattle.sock_programs.specs.Runs.{IsAtRest}
 use Rattle.sock_runs.specs.GoesOn.{GoesOn}
 use Rattle.sock_runs.specs.Lasts.{Lasts}
-use Rattle.sock_runs.specs.Sound.{Sound, AreFew, HasLink, IsAhead, views_after, first_step}
+use Rattle.sock_runs.specs.Sound.{Sound, AreFew, HasLink, IsAhead, views_after}
 use Rattle.sock_runs.proofs.Allowed.{view_there}
 use Rattle.sock_runs.proofs.Along.{place_inside, ticked_ahead}
 use Rattle.sock_runs.proofs.LinkTicks.{link_asked_there}
@@ -40,12 +36,8 @@ use Rattle.client_laws.proofs.Retrying.{retries_go}
 use Rattle.id_runs.specs.Held.{IdView}
 use Rattle.id_runs.specs.Goes.{SoundIds}
 use Rattle.joint_runs.proofs.Both.{BothSound, FitsBoth, fits_both, joint_ticks}
-use Rattle.call_points.specs.Steps.{after_word, after_call, word_behind, with_call}
-use Rattle.seat_points.specs.declared.point.Point.{Point}
-use Rattle.seat_points.specs.declared.point.Point.TheVariants as points
-use Rattle.call_points.specs.declared.deciding.DecideStep.TheVariants as decides
-use Rattle.seat_points.specs.declared.point.RetryStep.TheVariants as retries
-use Rattle.seat_points.specs.Points.{Around, point_program, TakesCall, after_put, after_ready}
+use Rattle.call_points.specs.Steps.{after_word}
+use Rattle.seat_points.specs.Points.{Around, after_put, after_ready}
 use Rattle.seat_points.specs.Steps.{First, OfCall, OfAside, OfMessage, OfLink, OfHome, step_as, first_in}
 use Rattle.seat_points.specs.Steps as kinds
 use Rattle.seat_points.proofs.StepFacts as facts
@@ -54,10 +46,9 @@ use Rattle.sock_core.specs.Links.{LinksData, Taken, Given, Agrees, AgreesGave, I
 use Rattle.sock_core.specs.Machines.{MachineState, READERS, IsSoundMachine, ArePaced, MOST_LEFT, table_of, machine_sizes, state_of, core_with}
 use Rattle.sock_core.specs.Steps.{IsSized, OutsAfter, SameBase, Goes, MadeFirst}
 use Rattle.seat_points.specs.declared.point.Step.{Step}
-use Rattle.sock_core.proofs.FirstSteps.{same_some, after_first}
+use Rattle.sock_core.proofs.FirstSteps.{same_some}
 use Rattle.sock_core.proofs.Holding.{only_of}
-use Rattle.sock_core.proofs.Paces.{Behind, calm_paced, IsCalm, client_calm, behind_word, behind_call, behind_message, behind_link, behind_home, behind_put, behind_ready}
-use Rattle.sock_core.proofs.PointFacts.{GoesAside, goes_aside}
+use Rattle.sock_core.proofs.Paces.{calm_paced, IsCalm, goes_calm, ends_calm, behind_word, behind_aside, behind_message, behind_link, behind_home, behind_put, behind_ready}
 use Rattle.sock_core.proofs.Seatings.{seat_at}
 use Rattle.sock_core.proofs.Ticked.{MayCall, MayMake, SteppedWith}
 
@@ -142,21 +133,6 @@ kept_by p l i outs _ may after = inl after
 looked : (l : LinksData) (outs : List OutState) (call : calls.Call) (id : ℕ) → call ≡ calls.LookWord id → OutsAfter call l.outs outs → outs ≡ l.outs
 looked l outs call id e after = subst (λ (x : calls.Call). OutsAfter x l.outs outs) e after
 
--- a client that gives back what it holds, and the ending, are calm before each step
-giving_calm : (held : List HeldLife) (w : List Retry) → IsCalm (next_step (resolved w (give_back held)))
-giving_calm [] w = tt
-giving_calm (h ∷ hs) w = tt
-
-ends_calm : (os : List ℕ) (w : List Retry) → IsCalm (next_step (resolved w (ending_of os)))
-ends_calm [] w = tt
-ends_calm (o ∷ os) w = tt
-
--- a call is taken at no head of a loop
-call_first : (a : Around) (p : Point) → TakesCall p → first_step (point_program a p) ≡ point_program a p
-call_first a (points.Decide c after (decides.Take w)) takes = refl
-call_first a (points.Retry r (retries.TakeCall w)) takes = refl
-call_first a _ takes = absurd takes
-
 module _ (old : MachineState) (sized : IsSized (table_of old)) (paced : ArePaced (machine_sizes old) old.links old.seats) (sound : ∥ IsSoundMachine old ∥₁) where
   -- whoever isn't the seat of the step stays paced
   other_paced : (i : ℕ) (outs : List OutState) → OutsKept old.links i outs → (j : ℕ) → j ≢ i → (s : SeatData) → get_elem? old.seats j ≡ core.some s → IsPaced outs (seat_program (machine_sizes old) s)
@@ -195,31 +171,10 @@ module _ (old : MachineState) (sized : IsSized (table_of old)) (paced : ArePaced
     same_call e = cc
 
     going : (hs : List HeldLife) (w : List Retry) → IsCalm (next_step (resolved w (a.goes_on hs)))
-    going hs w = either_way seat.leaving (give_back hs) (client_from (machine_sizes old) hs seat.tasks) (λ (x : Program). IsCalm (next_step (resolved w x))) (giving_calm hs w) (client_calm (machine_sizes old) hs w seat.tasks)
+    going = goes_calm (machine_sizes old) seat
 
     ends : (w : List Retry) → IsCalm (next_step (resolved w a.ends))
-    ends w = ends_calm seat.ending w
-
-    -- behind a step aside
-    aside_behind : (step : asides.Step) (next : Found step → Program) (found : Found step) → first_step program ≡ Aside step next → GoesAside step seat.point → Behind a seat.waiting seat.point (next found)
-    aside_behind (asides.TakeBytes k room) next found is goes = absurd goes
-    aside_behind (asides.TakeCall k) next found is goes = inl (subst (λ (y : Program). IsCalm (come y)) (ap (λ (y : Program). after_call y found) (sym (call_first a seat.point goes) ∙ is)) (behind_call a going ends seat.waiting seat.point found goes))
-    aside_behind (asides.ClaimId k) next found is goes = subst (Behind a seat.waiting seat.point) (after_first program found ∙ ap (λ (y : Program). word_behind y found) is) (behind_word a going ends seat.waiting seat.point found goes)
-    aside_behind (asides.PutCall k asked) next found is goes = subst (Behind a seat.waiting seat.point) (after_first program found ∙ ap (λ (y : Program). word_behind y found) is) (behind_word a going ends seat.waiting seat.point found goes)
-    aside_behind (asides.MakeId k range) next found is goes = subst (Behind a seat.waiting seat.point) (after_first program found ∙ ap (λ (y : Program). word_behind y found) is) (behind_word a going ends seat.waiting seat.point found goes)
-    aside_behind (asides.StoreCall o id) next found is goes = subst (Behind a seat.waiting seat.point) (after_first program found ∙ ap (λ (y : Program). word_behind y found) is) (behind_word a going ends seat.waiting seat.point found goes)
-    aside_behind (asides.LoadCall o) next found is goes = subst (Behind a seat.waiting seat.point) (after_first program found ∙ ap (λ (y : Program). word_behind y found) is) (behind_word a going ends seat.waiting seat.point found goes)
-    aside_behind (asides.StoreAt o w) next found is goes = subst (Behind a seat.waiting seat.point) (after_first program found ∙ ap (λ (y : Program). word_behind y found) is) (behind_word a going ends seat.waiting seat.point found goes)
-    aside_behind (asides.LoadAt o) next found is goes = subst (Behind a seat.waiting seat.point) (after_first program found ∙ ap (λ (y : Program). word_behind y found) is) (behind_word a going ends seat.waiting seat.point found goes)
-    aside_behind (asides.LoadIdWord k) next found is goes = subst (Behind a seat.waiting seat.point) (after_first program found ∙ ap (λ (y : Program). word_behind y found) is) (behind_word a going ends seat.waiting seat.point found goes)
-    aside_behind (asides.LockId k from) next found is goes = subst (Behind a seat.waiting seat.point) (after_first program found ∙ ap (λ (y : Program). word_behind y found) is) (behind_word a going ends seat.waiting seat.point found goes)
-    aside_behind (asides.PostId k from e) next found is goes = subst (Behind a seat.waiting seat.point) (after_first program found ∙ ap (λ (y : Program). word_behind y found) is) (behind_word a going ends seat.waiting seat.point found goes)
-    aside_behind (asides.UnlockId k from advance) next found is goes = subst (Behind a seat.waiting seat.point) (after_first program found ∙ ap (λ (y : Program). word_behind y found) is) (behind_word a going ends seat.waiting seat.point found goes)
-    aside_behind (asides.EndId k) next found is goes = subst (Behind a seat.waiting seat.point) (after_first program found ∙ ap (λ (y : Program). word_behind y found) is) (behind_word a going ends seat.waiting seat.point found goes)
-    aside_behind (asides.FreeId k) next found is goes = subst (Behind a seat.waiting seat.point) (after_first program found ∙ ap (λ (y : Program). word_behind y found) is) (behind_word a going ends seat.waiting seat.point found goes)
-
-    no_look : {step : asides.Step} {id : ℕ} → first_in program ≡ Some (OfAside step) → first_in program ≡ Some (OfCall (calls.LookWord id)) → ⊥
-    no_look e f = cc
+    ends = ends_calm (machine_sizes old) seat
 
     -- what lies where it was written
     out_is : (k : ℕ) (o o' : OutState) → get_elem? old.links.outs k ≡ core.some o → fresh.links.outs ≡ slice_set old.links.outs k o' → (out : OutState) → get_elem? fresh.links.outs k ≡ core.some out → o' ≡ out
@@ -232,10 +187,7 @@ module _ (old : MachineState) (sized : IsSized (table_of old)) (paced : ArePaced
         (λ t. let e : call ≡ calls.LookWord t.1.0 = same_call (same_some (sym next ∙ t.1.1)) in subst (λ os. IsPaced os (come (after_word program found))) (sym (looked old.links fresh.links.outs call t.1.0 e w.outs)) (t.0 old.links.outs (paced i seat at)))
         (behind_word a going ends seat.waiting seat.point found (facts.goes_by_word a seat.point call next)))
     made_paced step (OfAside aside) answer next may made = let w = made.1 in
-        all_paced (w.next w.found) w.goes (inl (ap (λ (l : LinksData). l.outs) w.links)) (⊎_elim
-        (λ calm. calm_paced fresh.links.outs (come (w.next w.found)) calm)
-        (λ t. absurd (no_look next t.1.1))
-        (aside_behind aside w.next w.found w.is (goes_aside a seat.point aside next)))
+        all_paced (w.next w.found) w.goes (inl (ap (λ (l : LinksData). l.outs) w.links)) (calm_paced fresh.links.outs _ (behind_aside a going ends seat.point aside w.next w.is w.found seat.waiting))
     made_paced step (OfMessage q) answer next may made = let w = made.1 in
         all_paced _ w.goes (inl (ap (λ (l : LinksData). l.outs) w.links)) (calm_paced fresh.links.outs _ (behind_message a seat.waiting seat.point w.letter.author _ _ (facts.takes_message a seat.point q next).0))
     made_paced step (OfLink k) answer next may made = let w = made.1 in

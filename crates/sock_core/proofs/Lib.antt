@@ -18,7 +18,7 @@ pub mod Fitting
 pub mod Paces
 pub mod Keeping
 pub mod CallWords
-pub mod ReadTells
+pub mod ReadLengths
 pub mod Joining
 pub mod Resting
 pub mod Leading
