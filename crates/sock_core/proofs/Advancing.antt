@@ -12,7 +12,7 @@ use Rattle.sock_io.specs.Link.{OutState}
 use Rattle.sock_message.specs.Asked.{Asked}
 use Rattle.sock_programs.specs.Asides as asides
 use Rattle.sock_programs.specs.Calls as calls
-use Rattle.sock_programs.specs.Heads.{Head, Posts, Unlocks, Decides, Locks, Joins, Opens, Reads, Discards}
+use Rattle.sock_programs.specs.Heads.{Head, Exit, Posts, Unlocks, Decides, Locks, Joins, Opens, Reads, Discards}
 use Rattle.sock_programs.specs.Writings as heads
 use Rattle.sock_programs.specs.Programs.{Program, Do, Say, Sent, Rest, TakeMessage, TakeHome, PutHome, PutBytes, AskReady, Write, Aside, Round, Keep, Retries}
 use Rattle.sock_programs.specs.Cores.{Core, SeatState}
@@ -93,7 +93,7 @@ is_paced m room is enough = ∥∥₁_elim (is.paced enough) (paced_prop (machin
 
 module _ (m : MachineState) (took : Taken) (gave : Given) where
   -- who waits does so by the words, and by whether the run is ending
-  head_waits : (head : Head) (next : _) (answer : Answer) → waits_at m.plan (core_with m took gave) answer (Round head next) ≡ is_waiting (table_of m) answer (Round head next)
+  head_waits : (head : Head) (next : Exit head → Program) (answer : Answer) → waits_at m.plan (core_with m took gave) answer (Round head next) ≡ is_waiting (table_of m) answer (Round head next)
   head_waits (Posts id e w) next answer = refl
   head_waits (Unlocks i w advance) next answer = refl
   head_waits (Decides id asked w e) next answer = refl

@@ -26,6 +26,8 @@ pub mod Settling
 pub mod Answering
 pub mod Lengths
 pub mod Advancing
+pub mod Preparing
+pub mod PlainSteps
 pub mod Rounding
 pub mod Endings
 pub mod Gathering
