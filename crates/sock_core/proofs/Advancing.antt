@@ -136,12 +136,12 @@ module _ (m : MachineState) (took : Taken) (gave : Given) where
 module _ (m fresh : MachineState) (same : fresh.short ≡ m.short) where
   leaves_by : (program : Program) (answer : Answer) (i : ℕ) → ((s : IsSoundMachine m) → Keeps m fresh s (record { seat = i; answer = answer })) → ((s : IsSoundMachine m) → waits m.plan (core_with m s.took s.gave) (record { seat = i; answer = answer }) ≡ is_waiting (table_of m) answer program) →
       (t : Tick) → Tells (table_of m) program answer t → Leaves t m fresh
-  leaves_by program answer i keeps as (Moved kind) tells = λ k lasts. (
-    ∥∥₁_elim lasts.1 (hlevel props) (λ s. let a = (keeps s.0).fewer (as s.0 ∙ tells.1) in let b = s.1 in omega (arith, a, b)),
-    (same ∙ lasts.0, ∥∥₁_elim lasts.1 (hlevel props) (λ s. let kept = keeps s.0 in let a = kept.fewer (as s.0 ∙ tells.1) in let b = s.1 in ∣ (kept.sound, omega (arith, a, b)) ∣₁)),
+  leaves_by program answer i keeps alike (Moved kind) tells = λ k lasts. (
+    ∥∥₁_elim lasts.1 (hlevel props) (λ s. let a = (keeps s.0).fewer (alike s.0 ∙ tells.1) in let b = s.1 in omega (arith, a, b)),
+    (same ∙ lasts.0, ∥∥₁_elim lasts.1 (hlevel props) (λ s. let kept = keeps s.0 in let a = kept.fewer (alike s.0 ∙ tells.1) in let b = s.1 in ∣ (kept.sound, omega (arith, a, b)) ∣₁)),
   )
-  leaves_by program answer i keeps as (Waits what) tells = λ k lasts. (same ∙ lasts.0, ∥∥₁_elim lasts.1 (hlevel props) (λ s. let kept = keeps s.0 in let a = kept.no_more in let b = s.1 in ∣ (kept.sound, omega (arith, a, b)) ∣₁))
-  leaves_by program answer i keeps as Idle tells = absurd tells
+  leaves_by program answer i keeps alike (Waits what) tells = λ k lasts. (same ∙ lasts.0, ∥∥₁_elim lasts.1 (hlevel props) (λ s. let kept = keeps s.0 in let a = kept.no_more in let b = s.1 in ∣ (kept.sound, omega (arith, a, b)) ∣₁))
+  leaves_by program answer i keeps alike Idle tells = absurd tells
 
 -- ## A step of a client
 

@@ -3,6 +3,7 @@ use Rattle.std.proofs.Common.{◌≡◌, ◌≢◌, refl, ℕ, zero, suc, ◌+�
 use Rattle.std.proofs.Props.{props}
 use Rattle.std.proofs.Math.Logic.{∥∥₁_elim}
 use Rattle.atomic_table.proofs.Lists.{at_map, at_longer}
+use Rattle.chain_laws.proofs.Lists.{at_some}
 use mathlib.Core.Logic.{dite}
 use native.Mathlib.Decide.{ℕ_discrete}
 use mathlib.Core.Option as core
@@ -128,12 +129,6 @@ of_links p l i (calls.TakeLink k) may = may.0
 of_links p l i (calls.FinishLink k) may = may.0
 of_links p l i (calls.PutLink k) may = may.0
 of_links p l i _ may = tt
-
--- what lies at a place of a list
-at_some : {A : Type 0} (xs : List A) (k : ℕ) → k < length xs → (x : A) × (get_elem? xs k ≡ core.some x)
-at_some [] k inside = absurd (omega (arith, inside))
-at_some (x ∷ xs) zero inside = (x, refl)
-at_some (x ∷ xs) (suc k) inside = at_some xs k (omega (arith, inside))
 
 -- ## A seat of a machine
 

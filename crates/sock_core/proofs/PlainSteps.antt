@@ -4,6 +4,7 @@ use Rattle.std.proofs.lemmas.Option.{none-some}
 use Rattle.atomic_table.proofs.Lists.{set_here}
 use mathlib.Core.Option as core
 use lib.ListN.{get_elem?}
+use Rattle.chain_laws.proofs.Lists.{at_some}
 use Rattle.sock_words.specs.declared.kind.Kind.{Kind}
 use Rattle.corr_core.specs.Word.{parts, code_of}
 use Rattle.sock_model.specs.Entries.{slot_of, generation_of}
@@ -42,7 +43,7 @@ use Rattle.sock_core.specs.Telling.{TickTold}
 use Rattle.sock_core.specs.Driving.{AsksNone, IsPlain, TickedFirst, Leaves}
 use Rattle.sock_core.proofs.Advancing.{is_sized, few_seats, few_slots, is_paced, base}
 use Rattle.sock_core.proofs.FirstSteps.{same_some}
-use Rattle.sock_core.proofs.Fitting.{client_next, client_may, at_some}
+use Rattle.sock_core.proofs.Fitting.{client_next, client_may}
 use Rattle.sock_core.proofs.Joining.{rests}
 use Rattle.sock_core.proofs.Resting.{Rests, beyond_rests}
 use Rattle.sock_core.proofs.Seatings.{seat_at, read_at}
