@@ -20,7 +20,7 @@ use Rattle.sock_core.specs.declared.machine.Tick.TheVariants as ticks
 use Rattle.sock_core.specs.Links.{LinksData, Taken, Given}
 use Rattle.sock_core.specs.Machines.{MachineState, READERS, core_with, machine_sizes, between, resting, clients_with, readers_with, seats_with}
 use Rattle.sock_core.specs.Runs.{ShowFaults, Follows, Ticked, TickedWith, Ran}
-use Rattle.sock_core.proofs.Joining.{same_table_none, same_links_none, rests, rest_answered, rest_heard, rest_taken, rests_on, rests_heard, rests_taken, rests_answered, seats_quiet, quiet_prompt, quiet_broken, show_faults_none, tells_none, tells_as, takings_none}
+use Rattle.sock_core.proofs.Joining.{same_table_none, same_links_none, rests, rest_answered, rest_heard, rest_taken, rests_on, rests_heard, rests_taken, rests_answered, seats_quiet, quiet_prompt, quiet_closes, quiet_broken, show_faults_none, tells_none, tells_as, takings_none, takes_none, takes_as}
 
 -- the seat has no step left, whatever its links took and gave
 abbrev pub Rests : MachineState → ℕ → Type 0
@@ -53,9 +53,9 @@ programs_anyhow m t u =
     let none_ = replicate (between m.seats) resting in
     map-append (λ (s : SeatState). s.program) (clients_with m.plan m.links t (machine_sizes m) 0 m.seats) (none_ ++ readers_with m.plan m.links t m.calls READERS m.readers)
     ∙ ap₂ (λ (ps qs : List Program). ps ++ qs) (clients_anyhow m.plan m.links t u (machine_sizes m) 0 m.seats)
-        (map-append (λ (s : SeatState). s.program) none_ (readers_with m.plan m.links t m.calls READERS m.readers)
-        ∙ ap (λ (ps : List Program). programs_of none_ ++ ps) (readers_anyhow m.plan m.links t u m.calls READERS m.readers)
-        ∙ sym (map-append (λ (s : SeatState). s.program) none_ (readers_with m.plan m.links u m.calls READERS m.readers)))
+    (map-append (λ (s : SeatState). s.program) none_ (readers_with m.plan m.links t m.calls READERS m.readers)
+    ∙ ap (λ (ps : List Program). programs_of none_ ++ ps) (readers_anyhow m.plan m.links t u m.calls READERS m.readers)
+    ∙ sym (map-append (λ (s : SeatState). s.program) none_ (readers_with m.plan m.links u m.calls READERS m.readers)))
     ∙ sym (map-append (λ (s : SeatState). s.program) (clients_with m.plan m.links u (machine_sizes m) 0 m.seats) (none_ ++ readers_with m.plan m.links u m.calls READERS m.readers))
 
 pub rest_anyhow : (m : MachineState) (t u : Taken) (g h : Given) (i : ℕ) → IsAtRest (core_with m t g) i → IsAtRest (core_with m u h) i
@@ -72,6 +72,7 @@ pub follows_idle : (a b : MachineState) (i : ℕ) (took : Taken) (gave : Given) 
 follows_idle a b i took gave t = record {
   answered = tt;
   prompt = λ h. tt;
+  closes = λ h. tt;
   later = t.follows.later;
   agrees = t.follows.agrees;
   later_gave = t.follows.later_gave;
@@ -80,6 +81,7 @@ follows_idle a b i took gave t = record {
   broken = show_faults_none b;
   told = tells_as a b _ _ (λ k. append-nil (heard_at (core_with a took gave) t.moment k) ∙ rest_heard (core_with a took gave) t.moment t.is k) t.follows.told;
   taken = takings_none b _ (λ k. refl);
+  takes = takes_as a b _ _ (λ k. append-nil (taken_at (core_with a took gave) t.moment k) ∙ rest_taken (core_with a took gave) t.moment t.is k) t.follows.takes;
 }
 
 -- it is none at all
@@ -98,6 +100,7 @@ rest_ticks m i rest = (
     follows = record {
       answered = (rest_answered (core_with m took gave) i (rest took gave), tt);
       prompt = λ h. (λ e. absurd (cc), tt);
+      closes = λ h. quiet_closes m.plan (core_with m took gave) 1 i;
       later = took;
       agrees = agrees;
       later_gave = gave;
@@ -106,6 +109,7 @@ rest_ticks m i rest = (
       broken = show_faults_none m;
       told = tells_none m m refl _ (λ k. append-nil (heard_at (core_with m took gave) (quiet i) k) ∙ rest_heard (core_with m took gave) (quiet i) (rest took gave) k);
       taken = takings_none m _ (λ k. append-nil (taken_at (core_with m took gave) (quiet i) k) ∙ rest_taken (core_with m took gave) (quiet i) (rest took gave) k);
+      takes = takes_none m m refl _ (λ k. append-nil (taken_at (core_with m took gave) (quiet i) k) ∙ rest_taken (core_with m took gave) (quiet i) (rest took gave) k);
     };
   },
 )
@@ -147,6 +151,7 @@ idle_ran a b i t n = (
     follows = record {
       answered = rests_answered a.plan c i rest n;
       prompt = λ h. quiet_prompt n i;
+      closes = λ h. quiet_closes a.plan c n i;
       later = w.follows.later;
       agrees = w.follows.agrees;
       later_gave = w.follows.later_gave;
@@ -155,6 +160,7 @@ idle_ran a b i t n = (
       broken = subst (ShowFaults b) (sym (quiet_broken a.plan c n i)) (show_faults_none b);
       told = tells_as a b _ _ (λ k. append-nil (heard_at c w.moment k) ∙ rest_heard c w.moment w.is k ∙ sym (rests_heard a.plan c i rest n k)) w.follows.told;
       taken = takings_none b _ (rests_taken a.plan c i rest n);
+      takes = takes_as a b _ _ (λ k. append-nil (taken_at c w.moment k) ∙ rest_taken c w.moment w.is k ∙ sym (rests_taken a.plan c i rest n k)) w.follows.takes;
     };
   },
 )
@@ -200,6 +206,7 @@ pub none_follows : (a b : MachineState) (took : Taken) (gave : Given) (i n : ℕ
 none_follows a b took gave i n ms rest are f = let u = unmoved a.plan i n (core_with a took gave) ms rest are in record {
   answered = tt;
   prompt = λ h. tt;
+  closes = λ h. tt;
   later = f.later;
   agrees = f.agrees;
   later_gave = f.later_gave;
@@ -208,4 +215,5 @@ none_follows a b took gave i n ms rest are f = let u = unmoved a.plan i n (core_
   broken = show_faults_none b;
   told = tells_as a b _ _ u.1 f.told;
   taken = takings_none b _ (λ k. refl);
+  takes = takes_as a b _ _ u.2 f.takes;
 }
