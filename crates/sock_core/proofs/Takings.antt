@@ -1,5 +1,5 @@
 -- What a tick tells of the reading halves, and what a reader's tick tells of the links.
-use Rattle.std.proofs.Common.{◌≡◌, ◌≢◌, refl, ℕ, zero, suc, ◌<◌, ◌≤◌, ◌==◌, Bool, true, false, if◌then◌else◌, cond, eq-eqb, ne_eqb, List, [], ◌∷◌, ◌++◌, append-nil, map, filter, length, slice_set, Option, Some, None, ap, sym, ◌∙◌, arith, subst}
+use Rattle.std.proofs.Common.{◌≡◌, ◌≢◌, refl, ℕ, zero, suc, ◌+◌, ◌<◌, ◌≤◌, ◌==◌, Bool, true, false, if◌then◌else◌, cond, eq-eqb, ne_eqb, List, [], ◌∷◌, ◌++◌, append-nil, map, filter, length, slice_set, Option, Some, None, ap, sym, ◌∙◌, arith, subst}
 use Rattle.std.specs.Prelude.{slice_get}
 use Rattle.std.specs.List.{AllByRecursion}
 use Rattle.std.proofs.lemmas.Option.{same_Some}
@@ -226,7 +226,7 @@ module _ (old fresh : MachineState) (i : ℕ) (reader reader' : ReaderData) (p :
       subst (λ (ts : List Taking). AllByRecursion (λ t. ShowsTaking t e) ts) (sym (ap as_taken (ap (λ n. taken_in p c (record { seat = i; answer = answer } ∷ []) n) same ∙ taken_here answer k is) ∙ taken_as answer w.0 w.1))
       (subst (ShowsTaking w.0) e_is f.shows, tt))
       (λ differ. subst (λ (l : List Answer). AllByRecursion (λ t. ShowsTaking t e) (as_taken l)) (sym (taken_else answer k is j differ)) tt)
-  taken_asides step answer next w = takings_none fresh (taken_in p c (record { seat = i; answer = answer } ∷ [])) (taken_none answer (takes_first seat.program (OfAside step) next))
+  taken_asides step answer next w j e at = takings_none fresh (taken_in p c (record { seat = i; answer = answer } ∷ [])) (taken_none answer (takes_first seat.program (OfAside step) next)) j e at
 
   -- each reading half shows what it answered
   pub read_taken : (first : First) (answer : Answer) → first_in seat.program ≡ Some first → MadeRead (table_of old) (table_of fresh) i reader reader' first answer → ShowTakings fresh (taken_in p c (record { seat = i; answer = answer } ∷ []))
