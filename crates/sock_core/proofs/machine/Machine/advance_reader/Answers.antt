@@ -12,16 +12,16 @@ use Rattle.sock_core.proofs.ClientTicks.{reader_sized, reader_fits, reader_idle,
 use Rattle.sock_core.proofs.machine.Machine.advance_reader.Goals as goal
 
 pub returns-in_default-clause-tick : goal.returns-in_default-clause-tick
-returns-in_default-clause-tick g c = subst (λ (m : MachineState). Ticked m c.self.inside.tables (READERS + c.args.link) Idle) c.self.view_is (reader_idle c.self.inside.tables _ c.args.link c.self.invariant.0 (ap (λ (m : MachineState). m.short) c.self.view_is ∙ c.requires) c.in_default.ensures.none)
+returns-in_default-clause-tick g c = subst (λ (m : MachineState). Ticked m m (READERS + c.args.link) Idle) c.self.view_is (reader_idle c.self.inside.tables _ c.args.link c.self.invariant.0 (ap (λ (m : MachineState). m.short) c.self.view_is ∙ c.requires) c.in_default.ensures.none)
 
 pub read-requires-clause-fits : goal.read-requires-clause-fits
-read-requires-clause-fits g c = reader_fits c.self.inside.tables _ c.args.link c.self.invariant.0 (ap (λ (m : MachineState). m.short) c.self.view_is ∙ c.requires) c.in-Some.step c.in-Some.ensures.some
+read-requires-clause-fits g c κs within = reader_fits c.self.inside.tables _ c.args.link c.self.invariant.0 (ap (λ (m : MachineState). m.short) c.self.view_is ∙ c.requires) c.in-Some.step c.in-Some.ensures.some
 
 pub read-requires-clause-sized : goal.read-requires-clause-sized
-read-requires-clause-sized g c = reader_sized c.self.inside.tables _ c.args.link c.self.invariant.0 (ap (λ (m : MachineState). m.short) c.self.view_is ∙ c.requires)
+read-requires-clause-sized g c κs within = reader_sized c.self.inside.tables _ c.args.link c.self.invariant.0 (ap (λ (m : MachineState). m.short) c.self.view_is ∙ c.requires)
 
-pub invariant_of-self-2 : goal.invariant_of-self-2
-invariant_of-self-2 g c = (
+pub invariant_of-self : goal.invariant_of-self
+invariant_of-self g c = (
   read_went_keeps c.self.inside.tables _ c.args.link c.self.invariant.0 (ap (λ (m : MachineState). m.short) c.self.view_is ∙ c.requires) c.read.new.self c.in-Some.step c.in-Some.ensures.some c.read.result c.read.ensures.ok c.read.ensures.err,
   c.self.invariant.1,
   c.self.invariant.2,
