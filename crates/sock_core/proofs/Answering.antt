@@ -16,7 +16,7 @@ use Rattle.sock_io.specs.declared.link.Put.{Put}
 use Rattle.sock_io.specs.declared.link.Put.TheVariants as puts
 use Rattle.sock_io.specs.declared.link.Ready.{Ready}
 use Rattle.sock_io.specs.declared.link.Ready.TheVariants as asks
-use Rattle.sock_io.specs.Link.{OutState, PutStep, ReadyStep, of_put, of_ready, more_told}
+use Rattle.sock_io.specs.Link.{OutState, InState, PutStep, ReadyStep, of_put, of_ready, more_told}
 use Rattle.whole_runs.specs.Heard.{half_of, as_told, heard_at}
 use Rattle.sock_io.specs.Causes.{Rose}
 use Rattle.sock_programs.specs.Calls as calls
@@ -32,7 +32,7 @@ use Rattle.sock_programs.specs.Ticks.{Answer, Unasked, OfPut, OfReady, asked_lin
 use Rattle.seat_points.specs.Steps.{First, OfCall, OfAside, OfMessage, OfLink, OfHome, first_of, first_in}
 use Rattle.seat_points.specs.Steps as kinds
 use Rattle.client_seats.specs.Seats.{SeatData}
-use Rattle.sock_core.specs.Links.{LinksData, ArePrompt, is_done}
+use Rattle.sock_core.specs.Links.{LinksData, ArePrompt, TellClosing, is_done}
 use Rattle.sock_core.specs.Machines.{MachineState, table_of}
 use Rattle.sock_core.specs.Steps.{OutsAfter, MadeFirst, LinkAsked}
 use Rattle.sock_core.specs.Runs.{SameLink, SameLinks, ShowFaults, LinksTell}
@@ -47,7 +47,7 @@ AsksUnfinished l other = Unit {0}
 
 -- ## Prompt links
 
-prompt_same : (l l' : LinksData) → l'.outs ≡ l.outs → ArePrompt l → ArePrompt l'
+pub prompt_same : (l l' : LinksData) → l'.outs ≡ l.outs → ArePrompt l → ArePrompt l'
 prompt_same l l' same prompt k out at = prompt k out (sym (ap (λ (os : List OutState). get_elem? os k) same) ∙ at)
 
 prompt_set : (l l' : LinksData) (k : ℕ) (out out' : OutState) → get_elem? l.outs k ≡ core.some out → l'.outs ≡ slice_set l.outs k out' → out'.prompt ≡ out.prompt → ArePrompt l → ArePrompt l'
@@ -56,17 +56,23 @@ prompt_set l l' k out out' at outs same prompt j other there = ⊎_elim
     (λ a. prompt j other a.1)
     (at_set l.outs k j out' other (sym (ap (λ (os : List OutState). get_elem? os j) outs) ∙ there))
 
-prompt_call : (call : calls.Call) (l l' : LinksData) → OutsAfter call l.outs l'.outs → ArePrompt l → ArePrompt l'
+pub prompt_call : (call : calls.Call) (l l' : LinksData) → OutsAfter call l.outs l'.outs → ArePrompt l → ArePrompt l'
 prompt_call (calls.FinishLink k) l l' o = prompt_set l l' k o.0 o.1 o.2 o.3 o.4.same.prompt
 prompt_call _ l l' o = prompt_same l l' o
 
+-- ## Links that tell whether their other ends closed them
+
+pub tell_same : (l l' : LinksData) → l'.inns ≡ l.inns → TellClosing l → TellClosing l'
+tell_same l l' same tell k inn at = tell k inn (sym (ap (λ (is : List InState). get_elem? is k) same) ∙ at)
+
 -- ## The same links
 
-pub links_kept : (old fresh : MachineState) → fresh.ends ≡ old.ends → (ArePrompt old.links → ArePrompt fresh.links) → SameLinks old fresh
-links_kept old fresh ends prompt = record {
+pub links_kept : (old fresh : MachineState) → fresh.ends ≡ old.ends → (ArePrompt old.links → ArePrompt fresh.links) → (TellClosing old.links → TellClosing fresh.links) → SameLinks old fresh
+links_kept old fresh ends prompt tell = record {
   as_many = ap length ends;
   each = λ k x y at also. subst (SameLink x) (same_Some x y (sym at ∙ ap (λ (es : List LinkEnd). slice_get es k) (sym ends) ∙ also)) (same_link_none x);
   prompt = prompt;
+  tell = tell;
 }
 
 -- what stands where it was written
@@ -88,8 +94,8 @@ get_set_other (x ∷ xs) zero (suc j) b differ = refl
 get_set_other (x ∷ xs) (suc k) zero b differ = refl
 get_set_other (x ∷ xs) (suc k) (suc j) b differ = get_set_other xs k j b (λ e. differ (ap suc e))
 
-links_set : (old fresh : MachineState) (k : ℕ) (before behind : LinkEnd) → get_elem? old.ends k ≡ core.some before → fresh.ends ≡ slice_set old.ends k behind → SameLink before behind → (ArePrompt old.links → ArePrompt fresh.links) → SameLinks old fresh
-links_set old fresh k before behind at ends same prompt = record {
+pub links_set : (old fresh : MachineState) (k : ℕ) (before behind : LinkEnd) → get_elem? old.ends k ≡ core.some before → fresh.ends ≡ slice_set old.ends k behind → SameLink before behind → (ArePrompt old.links → ArePrompt fresh.links) → (TellClosing old.links → TellClosing fresh.links) → SameLinks old fresh
+links_set old fresh k before behind at ends same prompt tell = record {
   as_many = ap length ends ∙ length-set old.ends k behind;
   each = λ j x y there also. let also' : slice_get (slice_set old.ends k behind) j ≡ Some y = ap (λ (es : List LinkEnd). slice_get es j) (sym ends) ∙ also in dite (ℕ_discrete j k)
       (λ e. let inside = place_inside old.ends k before at in
@@ -98,20 +104,21 @@ links_set old fresh k before behind at ends same prompt = record {
       subst (λ (z : LinkEnd). SameLink z y) x_is (subst (SameLink before) y_is same))
       (λ differ. subst (SameLink x) (sym (get_or_from_slice_get old.ends j x y there) ∙ sym (get_or-set_other old.ends k j behind y differ) ∙ get_or_from_slice_get (slice_set old.ends k behind) j y y also') (same_link_none x));
   prompt = prompt;
+  tell = tell;
 }
 
 module _ (old fresh : MachineState) (i : ℕ) (place seat' : SeatData) (step : Step) where
   asked_links : {k : ℕ} {next : Program} {HasAnswered : OutState → OutState → Type 0} → LinkAsked (table_of old) (table_of fresh) i place seat' k next HasAnswered →
       ((out out' : OutState) → HasAnswered out out' → out'.prompt ≡ out.prompt) → SameLinks old fresh
-  asked_links {k} w stays = let a = w.asked in links_set old fresh k a.before a.behind a.end_at a.ends_are a.same (prompt_set old.links fresh.links k a.out a.out' a.at a.outs_are (stays a.out a.out' a.answered))
+  asked_links {k} w stays = let a = w.asked in links_set old fresh k a.before a.behind a.end_at a.ends_are a.same (prompt_set old.links fresh.links k a.out a.out' a.at a.outs_are (stays a.out a.out' a.answered)) (tell_same old.links fresh.links w.goes.base.inns)
 
   -- the links stay those that they were
   pub made_links : (first : First) (answer : Answer) → MadeFirst (table_of old) (table_of fresh) i place seat' step first answer → SameLinks old fresh
-  made_links (OfCall call) answer w = links_kept old fresh w.1.ends (prompt_call call old.links fresh.links w.1.outs)
-  made_links (OfAside aside) answer w = links_kept old fresh w.1.ends (prompt_same old.links fresh.links (ap (λ (l : LinksData). l.outs) w.1.links))
-  made_links (OfMessage q) answer w = links_kept old fresh w.1.ends (prompt_same old.links fresh.links (ap (λ (l : LinksData). l.outs) w.1.links))
-  made_links (OfLink k) answer w = links_kept old fresh w.1.ends (prompt_same old.links fresh.links (ap (λ (l : LinksData). l.outs) w.1.links))
-  made_links (OfHome k n) answer w = links_kept old fresh w.1.ends (prompt_same old.links fresh.links (ap (λ (l : LinksData). l.outs) w.1.links))
+  made_links (OfCall call) answer w = links_kept old fresh w.1.ends (prompt_call call old.links fresh.links w.1.outs) (tell_same old.links fresh.links w.1.goes.base.inns)
+  made_links (OfAside aside) answer w = links_kept old fresh w.1.ends (prompt_same old.links fresh.links (ap (λ (l : LinksData). l.outs) w.1.links)) (tell_same old.links fresh.links w.1.goes.base.inns)
+  made_links (OfMessage q) answer w = links_kept old fresh w.1.ends (prompt_same old.links fresh.links (ap (λ (l : LinksData). l.outs) w.1.links)) (tell_same old.links fresh.links w.1.goes.base.inns)
+  made_links (OfLink k) answer w = links_kept old fresh w.1.ends (prompt_same old.links fresh.links (ap (λ (l : LinksData). l.outs) w.1.links)) (tell_same old.links fresh.links w.1.goes.base.inns)
+  made_links (OfHome k n) answer w = links_kept old fresh w.1.ends (prompt_same old.links fresh.links (ap (λ (l : LinksData). l.outs) w.1.links)) (tell_same old.links fresh.links w.1.goes.base.inns)
   made_links (kinds.OfPut k asked bytes) answer w = asked_links w.2 (λ out out' step. step.same.prompt)
   made_links (kinds.OfReady k) answer w = asked_links w.2 (λ out out' step. step.same.prompt)
 

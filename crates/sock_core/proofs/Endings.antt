@@ -38,8 +38,8 @@ use Rattle.reader_seats.specs.Readers.{ReaderData}
 use Rattle.client_seats.specs.Seats.{SeatData, seat_program}
 use Rattle.sock_core.specs.declared.machine.Tick.{Tick}
 use Rattle.sock_core.specs.declared.machine.Tick.TheVariants as ticks
-use Rattle.sock_core.specs.Links.{LinksData, Taken, Given, Agrees, AgreesGave, IsPaced, homes_of, hand_of}
-use Rattle.sock_core.specs.Machines.{MachineState, IsMachine, IsSoundMachine, HasSizes, ArePaced, MOST_LEFT, READERS, machine_sizes, core_with, ending_by, waiting_of, given_by, table_of}
+use Rattle.sock_core.specs.Links.{LinksData, Taken, Given, Agrees, AgreesGave, ClosedAreDone, IsPaced, holder_of, homes_of, hand_of}
+use Rattle.sock_core.specs.Machines.{MachineState, IsMachine, IsSoundMachine, HasSizes, KeepsClosed, ArePaced, MOST_LEFT, READERS, machine_sizes, core_with, ending_by, waiting_of, given_by, table_of}
 use Rattle.sock_core.specs.Steps.{Goes}
 use Rattle.sock_core.specs.Runs.{SameTable, SameLinks, Ticked, Led}
 use Rattle.sock_core.specs.Driving.{LastsAtMost, Leaves, IsLast, IsOther, AsksNone, IsPlain, FirstRests, BeganEnding, told_ending}
@@ -51,7 +51,7 @@ use Rattle.sock_core.proofs.Paces.{calm_paced, ending_calm}
 use Rattle.sock_core.proofs.Resting.{Rests, rest_anyhow, idle_core}
 use Rattle.sock_core.proofs.Rounding.{IsStill, fewer_left}
 use Rattle.sock_core.proofs.Seatings.{seat_at, client_set}
-use Rattle.sock_core.proofs.Sounds.{none_of, nothing_held}
+use Rattle.sock_core.proofs.Holding.{none_of, nothing_held}
 
 -- ## Programs that ask no link
 
@@ -201,12 +201,20 @@ module _ (old fresh : MachineState) (room : ℕ) (is : IsMachine old room) (enou
       (λ t. paced j s t.1)
       (at_set old.seats 0 j w.seat' s (sym (ap (λ (ss : List SeatData). get_elem? ss j) w.seats) ∙ there))))
 
+  began_closed : KeepsClosed old → KeepsClosed fresh
+  began_closed h = record {
+    done = subst ClosedAreDone (sym w.links) h.done;
+    held = λ k j own past. subst (λ (rs : List ReaderData). (READERS ≤ j) × (j < READERS + length rs)) (sym w.readers)
+        (h.held k j (ap (λ (l : LinksData). holder_of l k) (sym w.links) ∙ own) (let many = ap length w.seats ∙ length-set old.seats 0 w.seat' in omega (arith, many, past)));
+  }
+
   pub began_keeps : IsMachine fresh room
   began_keeps = record {
     sizes = ∥∥₁_elim is.sizes (hlevel props) (λ h. ∣ began_sizes h ∣₁);
     has_room = let a = ap length w.outcomes in let b = is.has_room in omega (arith, a, b);
     sound = λ _. ∥∥₁_elim is.sizes (hlevel props) (λ h. ∥∥₁_elim (is.sound enough) (hlevel props) (λ s. ∣ began_sound h s ∣₁));
     paced = λ _. ∥∥₁_elim (is.paced enough) (hlevel props) (λ paced. ∣ began_paced paced ∣₁);
+    closed = λ _. began_closed (is.closed enough);
   }
 
   pub began_plain : IsPlain fresh
@@ -253,6 +261,7 @@ ending_keeps m room is = record {
   has_room = is.has_room;
   sound = λ enough. ∥∥₁_elim (is.sound enough) (hlevel props) (λ s. ∣ told_machine m s ∣₁);
   paced = is.paced;
+  closed = λ enough. let h = is.closed enough in record { done = h.done; held = h.held };
 }
 
 -- ## By a tick's answer

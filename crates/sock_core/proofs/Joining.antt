@@ -1,5 +1,5 @@
 -- Runs of a machine, one behind another; and more ticks of a seat that has no step left.
-use Rattle.std.proofs.Common.{◌≡◌, ℕ, zero, suc, ◌+◌, ◌⊎◌, inl, inr, Bool, true, List, [], ◌∷◌, ◌++◌, ◌==◌, map, filter, length, get_or, replicate, refl, sym, ap, ap₂, ◌∙◌, subst, ⊎_elim, append-nil, append_assoc, arith}
+use Rattle.std.proofs.Common.{◌≡◌, ◌≢◌, ℕ, zero, suc, ◌+◌, ◌⊎◌, inl, inr, Bool, true, List, [], ◌∷◌, ◌++◌, ◌==◌, map, filter, length, get_or, replicate, refl, sym, ap, ap₂, ◌∙◌, subst, ⊎_elim, append-nil, append_assoc, arith}
 use Rattle.std.proofs.lemmas.List.Sums.{fold-append}
 use Rattle.std.proofs.lemmas.List.Elements.{Contains-append_cases}
 use Rattle.std.proofs.lemmas.Option.{none-some, same_Some, slice_get_within, slice_get-get_or}
@@ -15,10 +15,12 @@ use Rattle.sock_io.specs.Link.{OutState, InState, more_told}
 use Rattle.whole_runs.specs.Answers.{said_at}
 use Rattle.whole_runs.specs.Heard.{as_told, as_taken, taken_link, heard_at, heard_in, taken_at, taken_in}
 use Rattle.whole_runs.proofs.HeardRuns.{told_append, taken_append, heard_on, taken_on}
-use Rattle.sock_programs.specs.Asides.{Taking, Bytes, Nothing, NoMore, AtEnd, Closed, Broken}
-use Rattle.sock_programs.specs.Programs.{Program, Say, Sent, Rest, Keep, Retries}
+use Rattle.id_runs.specs.Goes.{first_of}
+use Rattle.owed_calls.specs.Lives.{ClosesAt, ClosesInTime}
+use Rattle.sock_programs.specs.Asides.{TakeBytes, Taking, Bytes, Nothing, NoMore, AtEnd, Closed, Broken}
+use Rattle.sock_programs.specs.Programs.{Program, Aside, Say, Sent, Rest, Keep, Retries}
 use Rattle.sock_programs.specs.Cores.{Core, SeatState}
-use Rattle.sock_programs.specs.Ticks.{Answer, Unasked, Moment, quiet, seats_of, tick_with, ticked, run, IsAnswer, IsAnswered, AreAnswered, IsPrompt, asked_link, broken_at, broken_in}
+use Rattle.sock_programs.specs.Ticks.{Answer, Unasked, Moment, quiet, seats_of, taken, tick_with, ticked, run, IsAnswer, IsAnswered, AreAnswered, IsPrompt, asked_link, broken_at, broken_in}
 use Rattle.sock_programs.specs.Runs.{kind_in, IsAtRest}
 use Rattle.sock_core.specs.declared.machine.Tick.{Tick}
 use Rattle.sock_core.specs.declared.machine.Tick.TheVariants as ticks
@@ -63,13 +65,14 @@ stood_before : (old new : List LinkEnd) (k : ℕ) (e : LinkEnd) → length new �
 stood_before old new k e many at = let inside = slice_get_within new k e at in (get_or old k e, slice_get-get_or old k e (omega (arith, many, inside)))
 
 pub same_links_none : (m : MachineState) → SameLinks m m
-same_links_none m = record { as_many = refl; each = λ k x y at also. subst (SameLink x) (same_Some x y (sym at ∙ also)) (same_link_none x); prompt = λ h. h }
+same_links_none m = record { as_many = refl; each = λ k x y at also. subst (SameLink x) (same_Some x y (sym at ∙ also)) (same_link_none x); prompt = λ h. h; tell = λ h. h }
 
 pub same_links_join : (a b c : MachineState) → SameLinks a b → SameLinks b c → SameLinks a c
 same_links_join a b c h o = record {
   as_many = o.as_many ∙ h.as_many;
   each = λ k x z at also. let y = stood_before b.ends c.ends k z o.as_many also in same_link_join x y.0 z (h.each k x y.0 at y.1) (o.each k y.0 z y.1 also);
   prompt = λ prompt. o.prompt (h.prompt prompt);
+  tell = λ tell. o.tell (h.tell tell);
 }
 
 -- ## Links that failed
@@ -167,6 +170,15 @@ pub prompt_append : (xs ys : List Moment) → AllByRecursion IsPrompt xs → All
 prompt_append [] ys first second = second
 prompt_append (m ∷ ms) ys first second = (first.0, prompt_append ms ys first.1 second)
 
+-- no link answered that it is closed
+pub not_closed : (p : Plan) (c : Core) (answer : Answer) (program : Program) → taken answer ≢ some Closed → ClosesAt p c answer program
+not_closed p c answer (Aside (TakeBytes k room) next) differ = λ e. absurd (differ e)
+not_closed p c answer _ differ = tt
+
+pub quiet_closes : (p : Plan) (c : Core) (n i : ℕ) → ClosesInTime p c (replicate n (quiet i))
+quiet_closes p c zero i = tt
+quiet_closes p c (suc n) i = (λ seat at. not_closed p c Unasked (first_of seat.program) (λ e. cc), quiet_closes p (ticked p c (quiet i)) n i)
+
 module _ (p : Plan) where
   pub run_append : (c : Core) (xs ys : List Moment) → run p c (xs ++ ys) ≡ run p (run p c xs) ys
   run_append c xs ys = fold-append (ticked p) c xs ys
@@ -174,6 +186,10 @@ module _ (p : Plan) where
   pub answered_append : (c : Core) (xs ys : List Moment) → AreAnswered p c xs → AreAnswered p (run p c xs) ys → AreAnswered p c (xs ++ ys)
   answered_append c [] ys first second = second
   answered_append c (m ∷ ms) ys first second = (first.0, answered_append (ticked p c m) ms ys first.1 second)
+
+  pub closes_append : (c : Core) (xs ys : List Moment) → ClosesInTime p c xs → ClosesInTime p (run p c xs) ys → ClosesInTime p c (xs ++ ys)
+  closes_append c [] ys first second = second
+  closes_append c (m ∷ ms) ys first second = (first.0, closes_append (ticked p c m) ms ys first.1 second)
 
   pub broken_append : (c : Core) (xs ys : List Moment) → broken_in p c (xs ++ ys) ≡ broken_in p c xs ++ broken_in p (run p c xs) ys
   broken_append c [] ys = refl
@@ -184,6 +200,7 @@ pub follows_none : (m : MachineState) (took : Taken) (gave : Given) → Agrees m
 follows_none m took gave agrees agrees_gave = record {
   answered = tt;
   prompt = λ h. tt;
+  closes = λ h. tt;
   later = took;
   agrees = agrees;
   later_gave = gave;
@@ -206,6 +223,7 @@ module _ (a b c : MachineState) (took : Taken) (gave : Given) (xs ys : List Mome
   follows_join = record {
     answered = answered_append a.plan start xs ys f.answered (moved (λ p d. AreAnswered p d ys) g.answered);
     prompt = λ prompt. prompt_append xs ys (f.prompt prompt) (g.prompt (links.prompt prompt));
+    closes = λ tell. closes_append a.plan start xs ys (f.closes tell) (moved (λ p d. ClosesInTime p d ys) (g.closes (links.tell tell)));
     later = g.later;
     agrees = g.agrees;
     later_gave = g.later_gave;
@@ -349,6 +367,7 @@ follows_rest : (m : MachineState) (took : Taken) (gave : Given) (i n : ℕ) → 
 follows_rest m took gave i n agrees agrees_gave rest = record {
   answered = rests_answered m.plan (core_with m took gave) i rest n;
   prompt = λ h. quiet_prompt n i;
+  closes = λ h. quiet_closes m.plan (core_with m took gave) n i;
   later = took;
   agrees = agrees;
   later_gave = gave;

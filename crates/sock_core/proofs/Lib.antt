@@ -5,6 +5,8 @@ pub mod Places
 pub mod Ranges
 pub mod Hands
 pub mod Changes
+pub mod Holding
+pub mod Closings
 pub mod FirstSteps
 pub mod Seatings
 pub mod Ticked

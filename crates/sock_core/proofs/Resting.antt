@@ -20,7 +20,7 @@ use Rattle.sock_core.specs.declared.machine.Tick.TheVariants as ticks
 use Rattle.sock_core.specs.Links.{LinksData, Taken, Given}
 use Rattle.sock_core.specs.Machines.{MachineState, READERS, core_with, machine_sizes, between, resting, clients_with, readers_with, seats_with}
 use Rattle.sock_core.specs.Runs.{ShowFaults, Follows, Ticked, TickedWith, Ran}
-use Rattle.sock_core.proofs.Joining.{same_table_none, same_links_none, rests, rest_answered, rest_heard, rest_taken, rests_on, rests_heard, rests_taken, rests_answered, seats_quiet, quiet_prompt, quiet_broken, show_faults_none, tells_none, tells_as, takings_none}
+use Rattle.sock_core.proofs.Joining.{same_table_none, same_links_none, rests, rest_answered, rest_heard, rest_taken, rests_on, rests_heard, rests_taken, rests_answered, seats_quiet, quiet_prompt, quiet_closes, quiet_broken, show_faults_none, tells_none, tells_as, takings_none}
 
 -- the seat has no step left, whatever its links took and gave
 abbrev pub Rests : MachineState → ℕ → Type 0
@@ -72,6 +72,7 @@ pub follows_idle : (a b : MachineState) (i : ℕ) (took : Taken) (gave : Given) 
 follows_idle a b i took gave t = record {
   answered = tt;
   prompt = λ h. tt;
+  closes = λ h. tt;
   later = t.follows.later;
   agrees = t.follows.agrees;
   later_gave = t.follows.later_gave;
@@ -98,6 +99,7 @@ rest_ticks m i rest = (
     follows = record {
       answered = (rest_answered (core_with m took gave) i (rest took gave), tt);
       prompt = λ h. (λ e. absurd (cc), tt);
+      closes = λ h. quiet_closes m.plan (core_with m took gave) 1 i;
       later = took;
       agrees = agrees;
       later_gave = gave;
@@ -147,6 +149,7 @@ idle_ran a b i t n = (
     follows = record {
       answered = rests_answered a.plan c i rest n;
       prompt = λ h. quiet_prompt n i;
+      closes = λ h. quiet_closes a.plan c n i;
       later = w.follows.later;
       agrees = w.follows.agrees;
       later_gave = w.follows.later_gave;
@@ -200,6 +203,7 @@ pub none_follows : (a b : MachineState) (took : Taken) (gave : Given) (i n : ℕ
 none_follows a b took gave i n ms rest are f = let u = unmoved a.plan i n (core_with a took gave) ms rest are in record {
   answered = tt;
   prompt = λ h. tt;
+  closes = λ h. tt;
   later = f.later;
   agrees = f.agrees;
   later_gave = f.later_gave;

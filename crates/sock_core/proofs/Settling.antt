@@ -4,8 +4,9 @@ use Rattle.sock_words.specs.declared.plain.Plan.{Plan}
 use Rattle.sock_programs.specs.Cores.{Core}
 use Rattle.sock_programs.specs.Ticks.{Moment, quiet, run, AreAnswered, broken_in}
 use Rattle.sock_programs.specs.Scripts.{is_ending}
+use Rattle.owed_calls.specs.Lives.{ClosesInTime}
 use Rattle.whole_runs.specs.Heard.{heard_in, taken_in}
-use Rattle.sock_core.specs.Links.{LinksData, Taken, Given, Agrees, AgreesGave, ArePrompt}
+use Rattle.sock_core.specs.Links.{LinksData, Taken, Given, Agrees, AgreesGave, ArePrompt, TellClosing}
 use Rattle.sock_core.specs.Machines.{MachineState, core_with, ending_by}
 use Rattle.sock_core.specs.Runs.{SameLinks, ShowFaults, LinksTell, ShowTakings, SettlesBy, PlayedWith, PlayedOn, RanFirst, SettledWith, Settled}
 use Rattle.sock_core.specs.Driving.{told_ending}
@@ -14,7 +15,7 @@ use Rattle.sock_core.proofs.Joining.{same_links_join, show_faults_later, show_fa
 
 -- links that are told of the ending are the same
 told_same : (m : MachineState) → SameLinks m (told_ending m)
-told_same m = links_kept m (told_ending m) refl (λ prompt. prompt)
+told_same m = links_kept m (told_ending m) refl (λ prompt. prompt) (λ tell. tell)
 
 module _ (a b c d f : MachineState) (played : PlayedOn a b) (plan : c.plan ≡ b.plan) (id_plan : c.ids.plan ≡ b.ids.plan) (links : c.links ≡ b.links) (ends : c.ends ≡ b.ends)
     (begins : (took : Taken) (gave : Given) → core_with c took gave ≡ ending_by b.opens (core_with b took gave)) (first : RanFirst c d) (final : PlayedOn (told_ending d) f) where
@@ -22,7 +23,7 @@ module _ (a b c d f : MachineState) (played : PlayedOn a b) (plan : c.plan ≡ b
   told = told_ending d
 
   begun_same : SameLinks b c
-  begun_same = links_kept b c ends (λ prompt. subst ArePrompt (sym links) prompt)
+  begun_same = links_kept b c ends (λ prompt. subst ArePrompt (sym links) prompt) (λ tell. subst TellClosing (sym links) tell)
 
   ran_same : SameLinks b told
   ran_same = same_links_join b d told (same_links_join b c d begun_same first.same.1) (told_same d)
@@ -69,6 +70,8 @@ module _ (a b c d f : MachineState) (played : PlayedOn a b) (plan : c.plan ≡ b
       settles_again = subst (λ (p : Plan). SettlesBy p ended y.moments) plans y.settles;
       answered_again = subst (λ (p : Plan). AreAnswered p ended y.moments) plans y.follows.answered;
       prompt = λ prompt. prompt_append x.moments y.moments (x.follows.prompt prompt) (y.follows.prompt (ran_same.prompt (played.1.prompt prompt)));
+      closes = x.follows.closes;
+      closes_again = λ tell. subst (λ (p : Plan). ClosesInTime p ended y.moments) plans (y.follows.closes (ran_same.tell (played.1.tell tell)));
       later = y.follows.later;
       agrees = y.follows.agrees;
       later_gave = y.follows.later_gave;
@@ -104,4 +107,4 @@ module _ (a b c d f : MachineState) (played : PlayedOn a b) (plan : c.plan ≡ b
 -- what stays where memory ran out behind the ending
 pub settled_links : (a b c d f : MachineState) → SameLinks a b → c.links ≡ b.links → c.ends ≡ b.ends → SameLinks c d → SameLinks (told_ending d) f → SameLinks a f
 settled_links a b c d f first links ends ran last =
-    same_links_join a b f first (same_links_join b c f (links_kept b c ends (λ prompt. subst ArePrompt (sym links) prompt)) (same_links_join c d f ran (same_links_join d (told_ending d) f (told_same d) last)))
+    same_links_join a b f first (same_links_join b c f (links_kept b c ends (λ prompt. subst ArePrompt (sym links) prompt) (λ tell. subst TellClosing (sym links) tell)) (same_links_join c d f ran (same_links_join d (told_ending d) f (told_same d) last)))

@@ -1,5 +1,5 @@
 -- Messages and links as a machine has them: at home, or in hand of a seat.
-use Rattle.std.specs.Prelude.{ℕ, ◌≡◌, ◌==◌, ◌++◌, true, false, Bool, is_some, if◌then◌else◌, List, [], ◌∷◌, length, map, flat_map, slice_index_or, Option, Some, None, IfSome}
+use Rattle.std.specs.Prelude.{ℕ, ◌≡◌, ◌≢◌, ◌==◌, ◌++◌, true, false, Bool, is_some, if◌then◌else◌, List, [], ◌∷◌, length, map, flat_map, slice_index_or, Option, Some, None, IfSome}
 use mathlib.Core.Option as core
 use lib.ListN.{get_elem?}
 use Rattle.sock_words.specs.declared.plain.Plan.{Plan}
@@ -65,6 +65,14 @@ module _ (l : LinksData) where
   -- its reading half counts what it gave; and where it tells what that was, it gave this
   abbrev pub AgreesGave : Given → Type 0
   AgreesGave gave = (k : ℕ) (inn : InState) → get_elem? l.inns k ≡ core.some inn → (inn.gave ≡ length (gave k)) × IfSome inn.gave_bytes (λ bytes. bytes ≡ gave k)
+
+  -- a link whose other end closed its half is finished: nothing else has it do so
+  abbrev pub ClosedAreDone : Type 0
+  ClosedAreDone = (k : ℕ) (inn : InState) → get_elem? l.inns k ≡ core.some inn → inn.closing ≡ Some true → is_done k ≡ true
+
+  -- each of them tells whether its other end closed its half
+  abbrev pub TellClosing : Type 0
+  TellClosing = (k : ℕ) (inn : InState) → get_elem? l.inns k ≡ core.some inn → inn.closing ≢ None
 
   -- each of them is prompt
   abbrev pub ArePrompt : Type 0

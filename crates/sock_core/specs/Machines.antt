@@ -1,5 +1,5 @@
 -- The machine: its core, the links as they would be given back, and what holds of it behind each step.
-use Rattle.std.specs.Prelude.{ℕ, ◌≡◌, ◌+◌, ◌-◌, ◌*◌, ◌<◌, ◌≤◌, Bool, true, false, List, [], ◌∷◌, ◌++◌, length, map, replicate, Option}
+use Rattle.std.specs.Prelude.{ℕ, ◌≡◌, ◌+◌, ◌-◌, ◌*◌, ◌<◌, ◌≤◌, Bool, true, false, List, [], ◌∷◌, ◌++◌, length, map, replicate, Option, Some}
 use Rattle.std.specs.List.{AllByRecursion}
 use mathlib.Core.Option as core
 use lib.ListN.{get_elem?}
@@ -22,7 +22,7 @@ use Rattle.call_slots.specs.Slots.{SlotState, calls_with}
 use Rattle.reader_seats.specs.Readers.{ReaderData, reader_program}
 use Rattle.sock_core.specs.declared.letter.Letter.{Letter}
 use Rattle.client_seats.specs.Seats.{SeatData, seat_program}
-use Rattle.sock_core.specs.Links.{LinksData, Taken, Given, Agrees, AgreesGave, IsPaced, homes_of, hand_of}
+use Rattle.sock_core.specs.Links.{LinksData, Taken, Given, Agrees, AgreesGave, IsPaced, ClosedAreDone, holder_of, homes_of, hand_of}
 
 -- a machine: the sizes of its table, the words, the messages at the homes of requests, the links, the table of the ids, the operations that
 -- are calls, whether the run is ending, the seats of the clients and those of the readers, the numbers of the `open`s that the ending goes
@@ -170,9 +170,15 @@ pub record HasSizes (m : MachineState) : Type 0 where
   pub few_opens : length m.opens ≤ 32
   pub few_outcomes : length m.outcomes ≤ 4096
 
+-- a link whose other end closed its half is finished; and whoever has a link in hand is a client or a reader
+pub record KeepsClosed (m : MachineState) : Type 0 where
+  pub done : ClosedAreDone m.links
+  pub held : (k j : ℕ) → holder_of m.links k ≡ Some j → length m.seats ≤ j → (READERS ≤ j) × (j < READERS + length m.readers)
+
 -- a machine with room for so many outcomes; unless memory ran out in a step of it, both rules hold of it
 pub record IsMachine (m : MachineState) (room : ℕ) : Type 0 where
   pub sizes : ∥ HasSizes m ∥₁
   pub has_room : length m.outcomes ≤ room
   pub sound : m.short ≡ false → ∥ IsSoundMachine m ∥₁
   pub paced : m.short ≡ false → ∥ ArePaced (machine_sizes m) m.links m.seats ∥₁
+  pub closed : m.short ≡ false → KeepsClosed m

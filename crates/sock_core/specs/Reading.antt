@@ -1,12 +1,12 @@
 -- What one step of a reader makes of a machine, by its kind.
-use Rattle.std.specs.Prelude.{ℕ, ◌≡◌, ◌+◌, ◌<◌, ◌≤◌, true, List, [], length, slice_set, Some, None}
+use Rattle.std.specs.Prelude.{ℕ, ◌≡◌, ◌≢◌, ◌+◌, ◌<◌, ◌≤◌, ◌⊎◌, true, false, List, [], length, slice_set, option_map, Some, None}
 use Rattle.std.specs.Io.KnownBytes.{append_known}
 use mathlib.Core.Option as core
 use lib.ListN.{get_elem?}
 use Rattle.brpc_model.specs.Link.{LinkEnd}
 use Rattle.sock_io.specs.Link.{InState}
 use Rattle.sock_programs.specs.Asides as asides
-use Rattle.sock_programs.specs.Asides.{Found, Taking, Bytes}
+use Rattle.sock_programs.specs.Asides.{Found, Taking, Bytes, Closed}
 use Rattle.sock_programs.specs.Beside.{found_in, at_last}
 use Rattle.sock_programs.specs.Calls as calls
 use Rattle.sock_programs.specs.Programs.{Program}
@@ -26,6 +26,7 @@ use Rattle.reader_points.specs.Steps.{step_as}
 use Rattle.reader_seats.specs.Readers.{ReaderData, reader_program}
 use Rattle.reader_seats.specs.GoesOn.{GoesOn}
 use Rattle.sock_core.specs.declared.machine.Tick.{Tick}
+use Rattle.sock_core.specs.Links.{is_done}
 use Rattle.sock_core.specs.Machines.{MachineState, TableState, table_of}
 use Rattle.sock_core.specs.Runs.{SameLink, ShowsTaking, SameLinks}
 use Rattle.sock_core.specs.Steps.{OutsAfter, FitsSlots, IsOfLinks, holders_after, beside}
@@ -91,6 +92,9 @@ pub record TakenFrom (old fresh : TableState) (k room : ℕ) (taking : Taking) :
   pub answers : behind.answers ≡ before.answers
   pub faults : behind.put_faults ≡ before.put_faults
   pub shows : ShowsTaking taking behind
+  -- it answers that it is closed only where its other end closed its half, which comes only where its writing half is finished
+  pub closes : taking ≡ Closed → inn'.closing ≢ Some false
+  pub closing : (inn'.closing ≡ inn.closing) ⊎ ((is_done old.links k ≡ true) × (inn'.closing ≡ option_map (λ _. true) inn.closing))
 
 module _ (old fresh : TableState) (i : ℕ) (reader reader' : ReaderData) where
   abbrev pub read_program : Program

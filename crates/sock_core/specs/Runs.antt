@@ -16,12 +16,13 @@ use Rattle.sock_programs.specs.Ticks.{Answer, Moment, quiet, seats_of, ticked, r
 use Rattle.sock_programs.specs.Runs.{IsAtRest, LeadsUpTo, next_kind, from_to}
 use Rattle.sock_programs.specs.Scripts.{AreStill, is_ending}
 use Rattle.sock_io.specs.Link.{more_told}
+use Rattle.owed_calls.specs.Lives.{ClosesInTime}
 use Rattle.whole_runs.specs.Heard.{as_told, as_taken, heard_in, taken_in}
 use Rattle.sock_core.specs.declared.machine.On.{On}
 use Rattle.sock_core.specs.declared.machine.On.TheVariants as on
 use Rattle.sock_core.specs.declared.machine.Tick.{Tick}
 use Rattle.sock_core.specs.declared.machine.Tick.TheVariants.{Moved, Waits, Idle}
-use Rattle.sock_core.specs.Links.{Taken, Given, Agrees, AgreesGave, ArePrompt}
+use Rattle.sock_core.specs.Links.{Taken, Given, Agrees, AgreesGave, ArePrompt, TellClosing}
 use Rattle.sock_core.specs.Machines.{MachineState, READERS, core_with, ending_by}
 
 -- ## Links
@@ -40,6 +41,7 @@ pub record SameLinks (old new : MachineState) : Type 0 where
   pub as_many : length new.ends ≡ length old.ends
   pub each : (k : ℕ) (a b : LinkEnd) → slice_get old.ends k ≡ Some a → slice_get new.ends k ≡ Some b → SameLink a b
   pub prompt : ArePrompt old.links → ArePrompt new.links
+  pub tell : TellClosing old.links → TellClosing new.links
 
 -- of each of these links the count of faults shows that it failed
 abbrev pub ShowFaults : MachineState → List ℕ → Type 0
@@ -102,6 +104,8 @@ TickIs m c moment Idle = IsAtRest c moment.seat
 pub record Follows (old new : MachineState) (took : Taken) (gave : Given) (moments : List Moment) : Type 0 where
   pub answered : AreAnswered old.plan (core_with old took gave) moments
   pub prompt : ArePrompt old.links → AllByRecursion IsPrompt moments
+  -- a link that tells whether its other end closed its half answers that it is closed only where it is finished
+  pub closes : TellClosing old.links → ClosesInTime old.plan (core_with old took gave) moments
   pub later : Taken
   pub agrees : Agrees new.links later
   pub later_gave : Given
@@ -203,6 +207,8 @@ pub record SettledWith (old new : MachineState) (took : Taken) (gave : Given) : 
   pub settles_again : SettlesBy old.plan ended final
   pub answered_again : AreAnswered old.plan ended final
   pub prompt : ArePrompt old.links → AllByRecursion IsPrompt (moments ++ final)
+  pub closes : TellClosing old.links → ClosesInTime old.plan (core_with old took gave) moments
+  pub closes_again : TellClosing old.links → ClosesInTime old.plan ended final
   pub later : Taken
   pub agrees : Agrees new.links later
   pub later_gave : Given

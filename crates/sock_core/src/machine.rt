@@ -8,7 +8,7 @@ ghost use Rattle.sock_programs.specs.Scripts.{beginning, programs, readers_from,
 ghost use Rattle.sock_programs.specs.Tasks.{plan_of, id_plan_of, opens, calls};
 ghost use Rattle.sock_core.specs.Finish.{told_from};
 ghost use Rattle.joint_runs.proofs.Starts.{AreFor};
-ghost use Rattle.sock_core.specs.Links.{Taken, Given, Agrees, AgreesGave, ArePrompt};
+ghost use Rattle.sock_core.specs.Links.{Taken, Given, Agrees, AgreesGave, ArePrompt, TellClosing};
 ghost use Rattle.sock_core.specs.Machines.{MOST_LEFT as most_left, HasSizes, core_with, ending_by};
 ghost use Rattle.sock_core.specs.Runs.{SameLinks, SameTable, Ticked, Led, Still, HasMoved, PlayedOn, RanFirst, Settled};
 ghost use Rattle.sock_core.specs.Driving.{LastsAtMost, LeavesFewer, Leaves, IsLast, IsOther, IsPlain, FirstRests, TickedFirst, told_ending};
@@ -401,8 +401,8 @@ impl<O: Out, I: In, P: Peer> Machine<O, I, P> {
 
 impl<O: Out, I: In, P: Peer> Machine<O, I, P> {
     /// The machine of a script, behind its setup, over the links that were opened for it: one for each `open`, in order, of
-    /// which none is finished, and none took or gave anything. All memory that the setup wants is taken before any link is
-    /// touched, so where it runs out they are given back as they were.
+    /// which none is finished or was closed by its other end, and none took or gave anything. All memory that the setup
+    /// wants is taken before any link is touched, so where it runs out they are given back as they were.
     pub fn new(
         alloc: Global,
         script: &Script,
@@ -413,6 +413,7 @@ impl<O: Out, I: In, P: Peer> Machine<O, I, P> {
         requires fresh { AllByRecursion (λ (e : _). (O.state e.out).finished ≡ false) ends.items }
         requires unused { AllByRecursion (λ (e : _). IfSome (O.state e.out).took (λ bytes. bytes ≡ [])) ends.items }
         requires silent { AllByRecursion (λ (e : _). ((I.state e.inn).gave ≡ 0) × IfSome (I.state e.inn).gave_bytes (λ bytes. bytes ≡ [])) ends.items }
+        requires unclosed { AllByRecursion (λ (e : _). IfSome (I.state e.inn).closing (λ closing. closing ≡ false)) ends.items }
         ensures plan { IfOk result (λ m. (m.plan ≡ plan_of script.now) × (m.ids.plan ≡ id_plan_of script.now)) }
         ensures opens { IfOk result (λ m. (m.opens ≡ opens script.now) × (m.calls ≡ calls script.now)) }
         ensures agrees { IfOk result (λ m. Agrees m.links (λ k. []) × AgreesGave m.links (λ k. [])) }
@@ -421,6 +422,7 @@ impl<O: Out, I: In, P: Peer> Machine<O, I, P> {
         ensures enough { IfOk result (λ m. (m.short ≡ false) × (m.ending ≡ false)) }
         ensures ends { IfOk result (λ m. m.ends ≡ map (λ (e : _). end_of (O.state e.out) (I.state e.inn)) ends.items) }
         ensures outs { IfOk result (λ m. AllByRecursion (λ (e : _). (O.state e.out).prompt ≡ true) ends.items → ArePrompt m.links) }
+        ensures tell { IfOk result (λ m. AllByRecursion (λ (e : _). (I.state e.inn).closing ≢ None) ends.items → TellClosing m.links) }
         ensures back { IfErr result (λ e. e.ends ≡ ends) }
     {
         let Ok(wanted) = wanted_of(alloc, script) else {
@@ -444,6 +446,7 @@ impl<O: Out, I: In, P: Peer> Machine<O, I, P> {
         requires fresh { AllByRecursion (λ (e : _). (O.state e.out).finished ≡ false) ends.items }
         requires unused { AllByRecursion (λ (e : _). IfSome (O.state e.out).took (λ bytes. bytes ≡ [])) ends.items }
         requires silent { AllByRecursion (λ (e : _). ((I.state e.inn).gave ≡ 0) × IfSome (I.state e.inn).gave_bytes (λ bytes. bytes ≡ [])) ends.items }
+        requires unclosed { AllByRecursion (λ (e : _). IfSome (I.state e.inn).closing (λ closing. closing ≡ false)) ends.items }
         ensures core { IfOk result (λ m. core_with m (λ k. []) (λ k. []) ≡ beginning wanted.plan wanted.id_plan (all_programs (programs (sizes_of wanted.plan wanted.id_plan) (map (λ (tasks : _). tasks.items) wanted.clients.items)) (readers_from wanted.calls.items 0 wanted.opens.items))) }
         ensures agrees { IfOk result (λ m. Agrees m.links (λ k. []) × AgreesGave m.links (λ k. [])) }
         ensures plain { IfOk result IsPlain }
@@ -452,6 +455,7 @@ impl<O: Out, I: In, P: Peer> Machine<O, I, P> {
         ensures enough { IfOk result (λ m. (m.short ≡ false) × (m.ending ≡ false)) }
         ensures ends { IfOk result (λ m. m.ends ≡ map (λ (e : _). end_of (O.state e.out) (I.state e.inn)) ends.items) }
         ensures outs { IfOk result (λ m. AllByRecursion (λ (e : _). (O.state e.out).prompt ≡ true) ends.items → ArePrompt m.links) }
+        ensures tell { IfOk result (λ m. AllByRecursion (λ (e : _). (I.state e.inn).closing ≢ None) ends.items → TellClosing m.links) }
         ensures err { IfErr result (λ e. e.ends ≡ ends) }
     {
         let Wanted {
