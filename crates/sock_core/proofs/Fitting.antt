@@ -1,34 +1,59 @@
 -- The next step of a seat of a sound machine fits the tables.
-use Rattle.std.proofs.Common.{◌≡◌, refl, ℕ, zero, suc, ◌<◌, ◌≤◌, ◌⊎◌, inl, inr, Bool, false, List, [], ◌∷◌, length, map, Option, Some, None, sym, ◌∙◌, arith, subst}
+use Rattle.std.proofs.Common.{◌≡◌, ◌≢◌, refl, ℕ, zero, suc, ◌+◌, ◌<◌, ◌≤◌, ◌⊎◌, inl, inr, Bool, true, false, List, [], ◌∷◌, length, map, get_or, Option, Some, None, ap, sym, ◌∙◌, arith, subst}
 use Rattle.std.proofs.Props.{props}
 use Rattle.std.proofs.Math.Logic.{∥∥₁_elim}
 use Rattle.atomic_table.proofs.Lists.{at_map, at_longer}
+use mathlib.Core.Logic.{dite}
+use native.Mathlib.Decide.{ℕ_discrete}
 use mathlib.Core.Option as core
 use lib.ListN.{get_elem?}
 use Rattle.sock_words.specs.declared.plain.Plan.{Plan}
+use Rattle.sock_message.specs.Asked.{Asked}
 use Rattle.sock_model.specs.declared.chain.Heading.{Heading}
 use Rattle.sock_model.specs.declared.home.Home.TheVariants.{Message}
 use Rattle.sock_io.specs.Link.{OutState}
 use Rattle.sock_programs.specs.Calls as calls
+use Rattle.sock_programs.specs.Asides as asides
+use Rattle.sock_programs.specs.Asides.{id_slot, id_first}
+use Rattle.sock_programs.specs.Beside.{found_in, call_at}
 use Rattle.sock_programs.specs.Writings as heads
 use Rattle.sock_programs.specs.Programs.{Program, PutBytes, Write}
-use Rattle.sock_programs.specs.Cores.{word_of, found_at}
-use Rattle.sock_programs.specs.Scripts.{sizes_of}
+use Rattle.sock_programs.specs.Cores.{SeatState, word_of, found_at}
 use Rattle.sock_programs.specs.declared.task.Sizes.{Sizes}
 use Rattle.sock_runs.specs.Sound.{AllowsWord}
+use Rattle.id_rule.specs.Lawful.{call_word}
+use Rattle.id_runs.specs.Held.{IdView, MayId}
+use Rattle.id_runs.specs.Goes.{FitsSock, IdGoesOn}
+use Rattle.id_runs.proofs.Steps.{call_there}
+use Rattle.call_points.specs.declared.aside.Aside.{Aside}
+use Rattle.call_points.specs.declared.aside.Aside.TheVariants as code
+use Rattle.call_points.specs.Steps as aside_steps
+use Rattle.call_slots.specs.Steps as slots
+use Rattle.call_slots.specs.Steps.{word_found}
+use Rattle.call_slots.proofs.Fitting.{IsOnWord, fits_prop, may_fits}
 use Rattle.seat_points.specs.declared.point.Step.{Step}
 use Rattle.seat_points.specs.declared.point.Step.TheVariants as firsts
-use Rattle.seat_points.specs.Points.{Around}
-use Rattle.seat_points.specs.Steps.{First, OfCall, OfMessage, OfLink, OfHome, step_of, step_as, first_in}
+use Rattle.seat_points.specs.Points.{Around, MayFindId}
+use Rattle.seat_points.specs.Steps.{First, OfCall, OfAside, OfMessage, OfLink, OfHome, step_of, step_as, first_in}
 use Rattle.seat_points.specs.Steps as kinds
-use Rattle.seat_points.proofs.StepFacts.{FitsSizes, goes_by_word, may_find, is_within}
+use Rattle.seat_points.proofs.StepFacts.{FitsSizes, may_find, is_within}
+use Rattle.client_seats.specs.Seats.{SeatData, around, seat_program, asked_of}
+use Rattle.reader_points.specs.declared.point.ReadStep.{ReadStep}
+use Rattle.reader_points.specs.declared.point.ReadStep.TheVariants as steps
+use Rattle.reader_points.specs.Points as reading
+use Rattle.reader_points.specs.Steps as reader_steps
+use Rattle.reader_seats.specs.Readers.{ReaderData, reader_program}
+use Rattle.reader_seats.specs.Readers as readers
 use Rattle.sock_core.specs.declared.letter.Letter.{Letter}
-use Rattle.client_seats.specs.Seats.{SeatData, around, seat_program}
 use Rattle.sock_core.specs.Links.{LinksData, IsPaced, is_done, letter_home}
-use Rattle.sock_core.specs.Machines.{MachineState, IsSoundMachine, ArePaced, table_of, core_with}
-use Rattle.sock_core.specs.Steps.{IsSized, IsOfLinks, NextIs, Fits, StepFits}
-use Rattle.sock_core.proofs.Ticked.{MayCall, MayMake, MayStep}
-use Rattle.sock_core.proofs.Sounds.{Known, known_first}
+use Rattle.sock_core.specs.Machines.{MachineState, READERS, IsSoundMachine, AreCalled, ArePaced, table_of, machine_sizes, state_of, waiting_of, given_by, core_with}
+use Rattle.sock_core.specs.Steps.{IsSized, IsOfLinks, NextIs, MayGoOn, MayStand, StandsAt, FitsSlots, FindsFitting, Fits, StepFits, beside}
+use Rattle.sock_core.specs.Reading.{NextReadIs, MayRead, FitsRead, ReadFits}
+use Rattle.sock_core.proofs.Answering.{AsksUnfinished}
+use Rattle.sock_core.proofs.PointFacts.{NoTake, finds_beside, takes_none, within_aside, finds_aside, finds_call, within_ids, reads_within, reads_word, reads_aside}
+use Rattle.sock_core.proofs.Seatings.{seat_at, read_at}
+use Rattle.sock_core.proofs.Sounds.{Known, id_view, id_goes, id_may, known_first, finds_word}
+use Rattle.sock_core.proofs.Ticked.{MayCall, MayMake}
 
 -- ## Facts that have one proof at most
 
@@ -60,6 +85,11 @@ sizes_prop sizes (calls.StorePlace l k n) = hlevel props
 sizes_prop sizes (calls.DropPlace l k n) = hlevel props
 sizes_prop sizes _ = hlevel props
 
+sock_prop : (call : calls.Call) (found : ℕ) → IsProp (FitsSock call found)
+sock_prop (calls.FindLink i h) found = hlevel props
+sock_prop (calls.LoadCode i h) found = hlevel props
+sock_prop _ found = hlevel props
+
 call_prop : (p : Plan) (l : LinksData) (i : ℕ) (call : calls.Call) → IsProp (MayCall p l i call)
 call_prop p l i (calls.TakeLink k) = hlevel props
 call_prop p l i (calls.FinishLink k) = hlevel props
@@ -69,11 +99,17 @@ call_prop p l i _ = hlevel props
 
 may_prop : (p : Plan) (l : LinksData) (i : ℕ) (first : First) → IsProp (MayMake p l i first)
 may_prop p l i (OfCall call) = call_prop p l i call
+may_prop p l i (OfAside step) = hlevel props
 may_prop p l i (OfMessage q) = hlevel props
 may_prop p l i (OfLink k) = hlevel props
 may_prop p l i (OfHome k n) = hlevel props
 may_prop p l i (kinds.OfPut k asked bytes) = hlevel props
 may_prop p l i (kinds.OfReady k) = hlevel props
+
+unfinished_prop : (l : LinksData) (first : First) → IsProp (AsksUnfinished l first)
+unfinished_prop l (kinds.OfPut k asked bytes) = hlevel props
+unfinished_prop l (kinds.OfReady k) = hlevel props
+unfinished_prop l _ = hlevel props
 
 -- who is paced is so by one proof
 pub is_paced_prop : (outs : List OutState) (program : Program) → IsProp (IsPaced outs program)
@@ -84,8 +120,8 @@ is_paced_prop outs (Write (heads.Empties h) after) = hlevel props
 is_paced_prop outs (Write (heads.Walks h top at after) then_) = hlevel props
 is_paced_prop outs _ = hlevel props
 
-pub paced_prop : (m : MachineState) → IsProp (ArePaced m.plan m.links m.seats)
-paced_prop m = hlevel (props, is_paced_prop)
+pub paced_prop : (sizes : Sizes) (l : LinksData) (seats : List SeatData) → IsProp (ArePaced sizes l seats)
+paced_prop sizes l seats = hlevel (props, is_paced_prop)
 
 of_links : (p : Plan) (l : LinksData) (i : ℕ) (call : calls.Call) → MayCall p l i call → IsOfLinks p.links call
 of_links p l i (calls.TakeLink k) may = may.0
@@ -99,60 +135,198 @@ at_some [] k inside = absurd (omega (arith, inside))
 at_some (x ∷ xs) zero inside = (x, refl)
 at_some (x ∷ xs) (suc k) inside = at_some xs k (omega (arith, inside))
 
-module _ (m : MachineState) (sized : IsSized (table_of m)) (sound : ∥ IsSoundMachine m ∥₁) (i : ℕ) where
-  module _ (seat : SeatData) (at : get_elem? m.seats i ≡ core.some seat) where
-    abbrev program : Program
-    program = seat_program (sizes_of m.plan) seat
+-- ## A seat of a machine
+
+module _ (m : MachineState) (sized : IsSized (table_of m)) (few_slots : m.ids.plan.slots ≤ 4096) (called : AreCalled m.ids) (sound : ∥ IsSoundMachine m ∥₁) where
+  few_requests : m.plan.requests ≤ 4096
+  few_requests = ∥∥₁_elim sound (hlevel props) (λ s. s.sound.limits.requests)
+
+  module _ (i : ℕ) (program : Program) (own_at : (s : IsSoundMachine m) → get_elem? (core_with m s.took s.gave).seats i ≡ core.some (state_of m.plan m.links s.took program i)) where
+    says : (s : IsSoundMachine m) (first : First) → first_in program ≡ Some first → MayMake m.plan m.links i first × Known m.plan (machine_sizes m) m.links (core_with m s.took s.gave) first
+    says s first next = known_first m sized s i program (own_at s) first next
+
+    goes_ids : ∥ ((u : IdView) × IdGoesOn m.plan m.ids.plan u program) ∥₁
+    goes_ids = ∥∥₁_elim sound (hlevel props) (λ s. ∣ ((id_view m sized s i program (own_at s)).0, id_goes m sized s i program (own_at s)) ∣₁)
+
+    -- what a step may do
+    may_first : (first : First) → first_in program ≡ Some first → MayMake m.plan m.links i first
+    may_first first next = ∥∥₁_elim sound (may_prop m.plan m.links i first) (λ s. (says s first next).0)
+
+    unfinished_first : (first : First) → first_in program ≡ Some first → AsksUnfinished m.links first
+    unfinished_first first next = ∥∥₁_elim sound (unfinished_prop m.links first) (λ s. by_first s first next)
+      where
+        by_first : (s : IsSoundMachine m) (first : First) → first_in program ≡ Some first → AsksUnfinished m.links first
+        by_first s (kinds.OfPut k asked bytes) next = (says s (kinds.OfPut k asked bytes) next).1.1
+        by_first s (kinds.OfReady k) next = (says s (kinds.OfReady k) next).1
+        by_first s _ next = tt
+
+    -- ### A step on a word
+
+    module _ (call : calls.Call) (next : first_in program ≡ Some (OfCall call)) where
+      word_there : (x : ℕ) → word_of m.plan call ≡ core.some x → x < length m.words
+      word_there = ∥∥₁_elim sound (hlevel props) (λ s. (says s (OfCall call) next).1.0.0)
+
+      word_allowed : AllowsWord call (found_at m.words (word_of m.plan call))
+      word_allowed = ∥∥₁_elim sound (word_prop call (found_at m.words (word_of m.plan call))) (λ s. (says s (OfCall call) next).1.0.1)
+
+      word_links : IsOfLinks m.plan.links call
+      word_links = ∥∥₁_elim sound (links_prop m.plan.links call) (λ s. of_links m.plan m.links i call (says s (OfCall call) next).0)
+
+      word_sizes : FitsSizes (machine_sizes m) call
+      word_sizes = ∥∥₁_elim sound (sizes_prop (machine_sizes m) call) (λ s. (says s (OfCall call) next).1.1)
+
+      word_sock : FitsSock call (found_at m.words (word_of m.plan call))
+      word_sock = ∥∥₁_elim sound (sock_prop call (found_at m.words (word_of m.plan call))) (λ s. finds_word m sized s i program (own_at s) call next)
+
+    -- ### A step on the ids
+
+    id_slots : (asked : Asked) (step : Aside) → first_in program ≡ Some (OfAside (aside_steps.step_of asked step)) → FitsSlots (table_of m) step
+    id_slots asked step next = by_step step next
+      where
+        fits : (step : Aside) → IsOnWord step → first_in program ≡ Some (OfAside (aside_steps.step_of asked step)) → slots.StepFits m.ids step
+        fits step on next = ∥∥₁_elim sound (fits_prop m.ids step) (λ s. let u = id_view m sized s i program (own_at s) in
+            may_fits m.plan m.ids.plan (core_with m s.took s.gave) s.id_views s.ids i u.0 u.1 m.ids (waiting_of m.seats m.readers) (given_by m.plan.links s.gave) m.ending refl asked step on (id_may m sized s i program (own_at s) (aside_steps.step_of asked step) next))
+
+        at_home : (k : ℕ) → first_in program ≡ Some (OfAside (asides.TakeCall k)) → (o : core.Option Asked) → call_at (get_elem? m.ids.homes k) ≡ o → (asked : Asked) × (call_at (get_elem? m.ids.homes k) ≡ core.some asked)
+        at_home k next core.none e = absurd (∥∥₁_elim sound (hlevel props) (λ s. let u = id_view m sized s i program (own_at s) in let may = id_may m sized s i program (own_at s) (asides.TakeCall k) next in
+            let t = call_there m.plan m.ids.plan (core_with m s.took s.gave).calls s.ids.plan s.id_views s.ids.rule i u.0 u.1 (s.ids.real i u.0 u.1) k may.0 may.1 in
+            core.some-ne-none t.0 (sym (ap call_at t.1) ∙ e)))
+        at_home k next (core.some asked) e = (asked, e)
+
+        by_step : (step : Aside) → first_in program ≡ Some (OfAside (aside_steps.step_of asked step)) → FitsSlots (table_of m) step
+        by_step (code.PutCall k) next = ∥∥₁_elim sound (hlevel props) (λ s. (id_may m sized s i program (own_at s) (asides.PutCall k asked) next).0)
+        by_step (code.TakeCall k) next = (∥∥₁_elim sound (hlevel props) (λ s. (id_may m sized s i program (own_at s) (asides.TakeCall k) next).0), at_home k next (call_at (get_elem? m.ids.homes k)) refl)
+        by_step (code.TakeBytes k room) next = tt
+        by_step (code.ClaimId k) next = fits (code.ClaimId k) tt next
+        by_step (code.MakeId k range) next = fits (code.MakeId k range) tt next
+        by_step (code.StoreCall o id) next = fits (code.StoreCall o id) tt next
+        by_step (code.LoadCall o) next = fits (code.LoadCall o) tt next
+        by_step (code.StoreAt o w) next = fits (code.StoreAt o w) tt next
+        by_step (code.LoadAt o) next = fits (code.LoadAt o) tt next
+        by_step (code.LoadIdWord k) next = fits (code.LoadIdWord k) tt next
+        by_step (code.LockId k from) next = fits (code.LockId k from) tt next
+        by_step (code.PostId k from e) next = fits (code.PostId k from e) tt next
+        by_step (code.UnlockId k from advance) next = fits (code.UnlockId k from advance) tt next
+        by_step (code.EndId k) next = fits (code.EndId k) tt next
+        by_step (code.FreeId k) next = fits (code.FreeId k) tt next
+
+    -- a call's word names an id
+    call_found : (o word : ℕ) → first_in program ≡ Some (OfAside (asides.LoadCall o)) → get_or m.ids.words (call_word m.ids.plan o) 0 ≡ word → MayFindId word
+    call_found o word next is = (
+      dite (ℕ_discrete word 0)
+          (λ none_. let z : id_slot word ≡ 0 = ap id_slot none_ in omega (arith, z))
+          (λ some_. ∥∥₁_elim sound (hlevel props) (λ s. let inside = may s in let low = subst (λ w. id_slot w < m.ids.plan.slots) is (s.ids.called o inside (λ e. some_ (sym is ∙ e))) in omega (arith, low, few_slots))),
+      subst (λ w. id_first w < 67108864) is (called o (∥∥₁_elim sound (hlevel props) may)),
+    )
+      where
+        may : IsSoundMachine m → o < m.ids.plan.operations
+        may s = id_may m sized s i program (own_at s) (asides.LoadCall o) next
+
+    loads_call : (step : asides.Step) (word : ℕ) → first_in program ≡ Some (OfAside step) → found_in step (beside (table_of m)) core.none ≡ word_found step word → (o : ℕ) → step ≡ asides.LoadCall o → MayFindId word
+    loads_call step word next found o e = call_found o word (subst (λ (x : asides.Step). first_in program ≡ Some (OfAside x)) e next)
+        (core.some-injective _ word (subst (λ (x : asides.Step). found_in x (beside (table_of m)) core.none ≡ word_found x word) e found))
+
+  -- ## A client
+
+  module _ (i : ℕ) (seat : SeatData) (at : get_elem? m.seats i ≡ core.some seat) where
+    abbrev client : Program
+    client = seat_program (machine_sizes m) seat
 
     abbrev a : Around
-    a = around (sizes_of m.plan) seat
+    a = around (machine_sizes m) seat
 
-    few : m.plan.requests ≤ 4096
-    few = ∥∥₁_elim sound (hlevel props) (λ s. s.sound.limits.requests)
+    client_at : (s : IsSoundMachine m) → get_elem? (core_with m s.took s.gave).seats i ≡ core.some (state_of m.plan m.links s.took client i)
+    client_at s = seat_at m s.took i seat at
 
-    lettered : (q : ℕ) → ((s : IsSoundMachine m) → (heading : Heading) × (bytes : List ℕ) × (get_elem? (core_with m s.took).homes q ≡ core.some (core.some (Message heading bytes)))) →
-        (o : Option Letter) → get_elem? m.letters q ≡ core.some o → (letter : Letter) × (get_elem? m.letters q ≡ core.some (Some letter))
-    lettered q here None e = absurd (∥∥₁_elim sound (hlevel props) (λ s. let h = here s in
+    lettered : (q : ℕ) → first_in client ≡ Some (OfMessage q) → (o : Option Letter) → get_elem? m.letters q ≡ core.some o → (letter : Letter) × (get_elem? m.letters q ≡ core.some (Some letter))
+    lettered q next None e = absurd (∥∥₁_elim sound (hlevel props) (λ s. let h = (says i client client_at s (OfMessage q) next).1.1 in
         core.some-ne-none _ (core.some-injective _ _ (sym h.2 ∙ at_longer (map letter_home m.letters) _ q (letter_home None) (at_map letter_home m.letters q None e)))))
-    lettered q here (Some letter) e = (letter, e)
+    lettered q next (Some letter) e = (letter, e)
 
-    by_step : (step : Step) → first_in program ≡ Some (step_as a step) → Fits (table_of m) seat step
-    by_step (firsts.Call call) next = let word = ∥∥₁_elim sound (word_prop (step_of call) (found_at m.words (word_of m.plan (step_of call)))) (λ s. (known_first m sized s i (firsts.Call call) seat at next).1.0.1) in (
-      ∥∥₁_elim sound (hlevel props) (λ s. (known_first m sized s i (firsts.Call call) seat at next).1.0.0),
-      word,
-      ∥∥₁_elim sound (links_prop m.plan.links (step_of call)) (λ s. of_links m.plan m.links i (step_of call) (known_first m sized s i (firsts.Call call) seat at next).0),
-      is_within a seat.point (step_of call) (sizes_of m.plan) next few (∥∥₁_elim sound (sizes_prop (sizes_of m.plan) (step_of call)) (λ s. (known_first m sized s i (firsts.Call call) seat at next).1.1)),
-      may_find a seat.point (step_of call) _ next word,
-      goes_by_word a seat.point (step_of call) next,
+    goes_word : (call : calls.Call) → first_in client ≡ Some (OfCall call) → MayGoOn (table_of m) seat (found_at m.words (word_of m.plan call))
+    goes_word call next = record {
+      within = is_within a seat.point call (machine_sizes m) next few_requests (word_sizes i client client_at call next);
+      ids = within_ids m.plan m.ids.plan few_slots a seat.point refl (goes_ids i client client_at);
+      word = may_find a seat.point call _ next (word_allowed i client client_at call next);
+      beside = finds_beside a seat.point call _ next (word_sock i client client_at call next);
+    }
+
+    goes_aside : (step : asides.Step) (word : ℕ) → first_in client ≡ Some (OfAside step) → found_in step (beside (table_of m)) core.none ≡ word_found step word → MayGoOn (table_of m) seat word
+    goes_aside step word next found = record {
+      within = within_aside a seat.point step (machine_sizes m) next;
+      ids = within_ids m.plan m.ids.plan few_slots a seat.point refl (goes_ids i client client_at);
+      word = finds_aside a seat.point step word next;
+      beside = finds_call a seat.point step word next (loads_call i client client_at step word next found);
+    }
+
+    by_step : (step : Step) → first_in client ≡ Some (step_as a step) → Fits (table_of m) seat step
+    by_step (firsts.Call call) next = (word_there i client client_at (step_of call) next, word_allowed i client client_at (step_of call) next, word_links i client client_at (step_of call) next, goes_word (step_of call) next)
+    by_step (firsts.Aside step) next = (id_slots i client client_at (asked_of seat.call) step next, λ word found. goes_aside (aside_steps.step_of (asked_of seat.call) step) word next found)
+    by_step (firsts.PutMessage q author) next = let inside : q < m.plan.requests = ∥∥₁_elim sound (hlevel props) (λ s. (says i client client_at s (step_as a (firsts.PutMessage q author)) next).0) in (
+      (let b = sized.letters_are in omega (arith, inside, b)),
+      ∥∥₁_elim sound (hlevel props) (λ s. (says i client client_at s (step_as a (firsts.PutMessage q author)) next).1.2),
+      goes_word _ next,
     )
-    by_step (firsts.PutMessage q o) next = let inside : q < m.plan.requests = ∥∥₁_elim sound (hlevel props) (λ s. (known_first m sized s i (firsts.PutMessage q o) seat at next).0) in (
-      (let b = sized.letters_are in omega arith),
-      ∥∥₁_elim sound (hlevel props) (λ s. (known_first m sized s i (firsts.PutMessage q o) seat at next).2),
-      is_within a seat.point _ (sizes_of m.plan) next few tt,
-      may_find a seat.point _ 0 next tt,
-      goes_by_word a seat.point _ next,
+    by_step (firsts.TakeMessage q) next = let inside : q < m.plan.requests = ∥∥₁_elim sound (hlevel props) (λ s. (says i client client_at s (OfMessage q) next).1.0) in
+        let o = at_some m.letters q (let b = sized.letters_are in omega (arith, inside, b)) in lettered q next o.0 o.1
+    by_step (firsts.TakeHome k) next = ∥∥₁_elim sound (hlevel props) (λ s. (says i client client_at s (OfLink k) next).0.0)
+    by_step (firsts.PutHome k n) next = ∥∥₁_elim sound (hlevel props) (λ s. (says i client client_at s (OfHome k n) next).0.0)
+    by_step (firsts.PutBytes k asked author) next = (
+      ∥∥₁_elim sound (hlevel props) (λ s. (says i client client_at s (step_as a (firsts.PutBytes k asked author)) next).0.0),
+      ∥∥₁_elim sound (hlevel props) (λ s. (says i client client_at s (step_as a (firsts.PutBytes k asked author)) next).1.0),
     )
-    by_step (firsts.TakeMessage q) next = let inside : q < m.plan.requests = ∥∥₁_elim sound (hlevel props) (λ s. (known_first m sized s i (firsts.TakeMessage q) seat at next).1.0) in
-        let o = at_some m.letters q (let b = sized.letters_are in omega arith) in lettered q (λ s. (known_first m sized s i (firsts.TakeMessage q) seat at next).1.1) o.0 o.1
-    by_step (firsts.TakeHome k) next = ∥∥₁_elim sound (hlevel props) (λ s. (known_first m sized s i (firsts.TakeHome k) seat at next).0.0)
-    by_step (firsts.PutHome k n) next = ∥∥₁_elim sound (hlevel props) (λ s. (known_first m sized s i (firsts.PutHome k n) seat at next).0.0)
-    by_step (firsts.PutBytes k asked) next = (
-      ∥∥₁_elim sound (hlevel props) (λ s. (known_first m sized s i (firsts.PutBytes k asked) seat at next).0.0),
-      ∥∥₁_elim sound (hlevel props) (λ s. (known_first m sized s i (firsts.PutBytes k asked) seat at next).1.0),
+    by_step (firsts.AskReady k) next = ∥∥₁_elim sound (hlevel props) (λ s. (says i client client_at s (kinds.OfReady k) next).0.0)
+
+    -- the seat is at this step
+    next_of : (step : Step) → NextIs m i step → first_in client ≡ Some (step_as a step)
+    next_of step n = subst (λ (s : SeatData). first_in (seat_program (machine_sizes m) s) ≡ Some (step_as (around (machine_sizes m) s) step)) (core.some-injective n.seat seat (sym n.at ∙ at)) n.is
+
+    pub client_may : (step : Step) → NextIs m i step → MayMake m.plan m.links i (step_as a step)
+    client_may step n = may_first i client client_at (step_as a step) (next_of step n)
+
+    pub client_asks : (step : Step) → NextIs m i step → AsksUnfinished m.links (step_as a step)
+    client_asks step n = unfinished_first i client client_at (step_as a step) (next_of step n)
+
+    pub client_takes : (step : Step) → NextIs m i step → (aside : asides.Step) → step_as a step ≡ OfAside aside → NoTake aside
+    client_takes step n aside e = takes_none a seat.point aside (next_of step n ∙ ap Some e)
+
+    pub client_next : (step : Step) → NextIs m i step → first_in client ≡ Some (step_as a step)
+    client_next step n = next_of step n
+
+  -- the next step of a client fits
+  pub step_fits : (i : ℕ) (step : Step) → StandsAt m i → NextIs m i step → StepFits m i step
+  step_fits i step stands n seat at = (stands seat at, by_step i seat at step (next_of i seat at step n))
+
+  -- ## A reader
+
+  module _ (few_seats : length m.seats ≤ READERS) (k : ℕ) (reader : ReaderData) (at : get_elem? m.readers k ≡ core.some reader) where
+    abbrev own : Program
+    own = reader_program m.calls reader
+
+    reader_at : (s : IsSoundMachine m) → get_elem? (core_with m s.took s.gave).seats (READERS + k) ≡ core.some (state_of m.plan m.links s.took own (READERS + k))
+    reader_at s = read_at m s.took k reader few_seats at
+
+    reads_on : (found : ℕ) → reading.MayFind reader.point found → MayRead reader found
+    reads_on found finds = record { within = reads_within m.plan m.ids.plan few_slots (readers.around m.calls reader) reader.point (goes_ids (READERS + k) own reader_at); word = finds }
+
+    by_read : (step : ReadStep) → first_in own ≡ Some (reader_steps.step_as reader.asked step) → FitsRead (table_of m) reader step
+    by_read (steps.Call call) next = (
+      word_there (READERS + k) own reader_at (step_of call) next,
+      word_allowed (READERS + k) own reader_at (step_of call) next,
+      word_links (READERS + k) own reader_at (step_of call) next,
+      reads_on _ (reads_word (readers.around m.calls reader) reader.point (step_of call) _ next (word_allowed (READERS + k) own reader_at (step_of call) next)),
     )
-    by_step (firsts.AskReady k) next = ∥∥₁_elim sound (hlevel props) (λ s. (known_first m sized s i (firsts.AskReady k) seat at next).0.0)
+    by_read (steps.Aside step) next = (
+      id_slots (READERS + k) own reader_at reader.asked step next,
+      λ word found. reads_on word (reads_aside (readers.around m.calls reader) reader.point (aside_steps.step_of reader.asked step) word next),
+    )
 
-  next_of : (step : Step) (n : NextIs m i step) (seat : SeatData) → get_elem? m.seats i ≡ core.some seat → first_in (seat_program (sizes_of m.plan) seat) ≡ Some (step_as (around (sizes_of m.plan) seat) step)
-  next_of step n seat at = subst (λ (s : SeatData). first_in (seat_program (sizes_of m.plan) s) ≡ Some (step_as (around (sizes_of m.plan) s) step)) (core.some-injective n.seat seat (sym n.at ∙ at)) n.is
+    pub reader_next : (step : ReadStep) → NextReadIs m k step → first_in own ≡ Some (reader_steps.step_as reader.asked step)
+    reader_next step n = subst (λ (r : ReaderData). first_in (reader_program m.calls r) ≡ Some (reader_steps.step_as r.asked step)) (core.some-injective n.reader reader (sym n.at ∙ at)) n.is
 
-  -- the next step of a seat fits, and may be made
-  pub step_fits : (step : Step) → NextIs m i step → StepFits m i step
-  step_fits step n seat at = by_step seat at step (next_of step n seat at)
+    pub reader_may : (first : First) → first_in own ≡ Some first → MayMake m.plan m.links (READERS + k) first
+    reader_may first next = may_first (READERS + k) own reader_at first next
 
-  pub step_may : (step : Step) → NextIs m i step → MayStep m i step
-  step_may step n seat at = ∥∥₁_elim sound (may_prop m.plan m.links i (step_as (around (sizes_of m.plan) seat) step)) (λ s. (known_first m sized s i step seat at (next_of step n seat at)).0)
-
-  -- a link that is put to, or asked, isn't ended
-  pub step_open : (step : Step) (n : NextIs m i step) (k : ℕ) → ((asked : Bool) × (bytes : List ℕ) × (step_as (around (sizes_of m.plan) n.seat) step ≡ kinds.OfPut k asked bytes)) ⊎ (step_as (around (sizes_of m.plan) n.seat) step ≡ kinds.OfReady k) → is_done m.links k ≡ false
-  step_open step n k (inl w) = ∥∥₁_elim sound (hlevel props) (λ s. (subst (Known m.plan m.links (core_with m s.took)) w.2 (known_first m sized s i step n.seat n.at n.is).1).1)
-  step_open step n k (inr e) = ∥∥₁_elim sound (hlevel props) (λ s. subst (Known m.plan m.links (core_with m s.took)) e (known_first m sized s i step n.seat n.at n.is).1)
+  -- the next step of a reader fits
+  pub read_fits : length m.seats ≤ READERS → length m.calls ≤ 4096 → (k : ℕ) (step : ReadStep) → NextReadIs m k step → ReadFits m k step
+  read_fits few_seats few_calls k step n reader at = (few_calls, by_read few_seats k reader at step (reader_next few_seats k reader at step n))

@@ -1,5 +1,5 @@
 -- The machine: its core, the links as they would be given back, and what holds of it behind each step.
-use Rattle.std.specs.Prelude.{ℕ, ◌≡◌, ◌+◌, ◌-◌, ◌*◌, ◌<◌, ◌≤◌, Bool, true, false, List, [], ◌∷◌, ◌++◌, length, map, replicate, Option, Some}
+use Rattle.std.specs.Prelude.{ℕ, ◌≡◌, ◌+◌, ◌-◌, ◌*◌, ◌<◌, ◌≤◌, Bool, true, false, List, [], ◌∷◌, ◌++◌, length, map, replicate, slice_index, Option, Some}
 use Rattle.std.specs.List.{AllByRecursion}
 use mathlib.Core.Option as core
 use lib.ListN.{get_elem?}
@@ -8,6 +8,8 @@ use Rattle.sock_words.specs.declared.outcome.Outcome.{Outcome}
 use Rattle.brpc_model.specs.Link.{LinkEnd}
 use Rattle.sock_model.specs.declared.view.View.{View}
 use Rattle.sock_programs.specs.declared.task.Sizes.{Sizes}
+use Rattle.id_rule.specs.Lawful.{call_word}
+use Rattle.sock_programs.specs.Asides.{id_first}
 use Rattle.sock_programs.specs.Heads.{Retry}
 use Rattle.sock_programs.specs.Programs.{Program, Rest}
 use Rattle.sock_programs.specs.Clients.{ending_of}
@@ -175,6 +177,10 @@ pub record KeepsClosed (m : MachineState) : Type 0 where
   pub done : ClosedAreDone m.links
   pub held : (k j : ℕ) → holder_of m.links k ≡ Some j → length m.seats ≤ j → (READERS ≤ j) × (j < READERS + length m.readers)
 
+-- the word of each call names an id whose first version has room in an id word
+abbrev pub AreCalled : SlotState → Type 0
+AreCalled ids = (o : ℕ) → o < ids.plan.operations → id_first (slice_index ids.words (call_word ids.plan o)) < 67108864
+
 -- a machine with room for so many outcomes; unless memory ran out in a step of it, both rules hold of it
 pub record IsMachine (m : MachineState) (room : ℕ) : Type 0 where
   pub sizes : ∥ HasSizes m ∥₁
@@ -182,3 +188,4 @@ pub record IsMachine (m : MachineState) (room : ℕ) : Type 0 where
   pub sound : m.short ≡ false → ∥ IsSoundMachine m ∥₁
   pub paced : m.short ≡ false → ∥ ArePaced (machine_sizes m) m.links m.seats ∥₁
   pub closed : m.short ≡ false → KeepsClosed m
+  pub called : m.short ≡ false → AreCalled m.ids

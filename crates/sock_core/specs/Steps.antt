@@ -119,6 +119,7 @@ pub record PreparedAt (old new : MachineState) (i : ℕ) : Type 0 where
   pub seat' : SeatData
   pub is : new ≡ record old { seats = slice_set old.seats i seat' }
   pub prepared : IsPrepared (machine_sizes old) seat seat'
+  pub stand : MayStand seat'
 
 -- the step of this code finds this word
 abbrev pub FoundBeside : TableState → SeatData → Aside → ℕ → Type 0
@@ -135,11 +136,12 @@ IsOnWord other = Unit {0}
 abbrev pub FindsFitting : TableState → SeatData → asides.Step → Type 0
 FindsFitting t seat step = (word : ℕ) → found_in step (beside t) core.none ≡ word_found step word → MayGoOn t seat word
 
--- the id slot or operation of the step is one of the table's, and what it stores has room; a call that is taken lies there
+-- the id slot or operation of the step is one of the table's, and what it stores has room; a call that is taken lies there; whether there is
+-- the link of a take, the take itself looks
 abbrev pub FitsSlots : TableState → Aside → Type 0
 FitsSlots t (code.PutCall i) = i < t.ids.plan.slots
 FitsSlots t (code.TakeCall i) = (i < t.ids.plan.slots) × ((asked : Asked) × (call_at (get_elem? t.ids.homes i) ≡ core.some asked))
-FitsSlots t (code.TakeBytes k room) = k < t.plan.links
+FitsSlots t (code.TakeBytes k room) = Unit {0}
 FitsSlots t other = slots.StepFits t.ids other
 
 -- the word of the step is there, and is one that it may find; it is of one of the table's links, requests, id slots and operations; a message

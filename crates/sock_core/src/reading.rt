@@ -75,6 +75,10 @@ impl<O: Out, I: In, P: Peer> Table<O, I, P> {
         requires sized { IsSized self.old }
         ensures { IfOk result (λ tick. (seat : ℕ) → ReadTold self.old self.new seat reader.old reader.new (ReadStep.Aside (Aside.TakeBytes link count)) tick) }
     {
+        // A reader takes of a link that there is.
+        if usize::from(link) >= self.ends.len() {
+            return Err(NoMemory);
+        }
         let ends = &mut self.ends[usize::from(link)];
         links.settle(ends)?;
         let room = &mut self.room[..count as usize];

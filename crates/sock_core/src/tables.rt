@@ -7,6 +7,7 @@ ghost use Rattle.sock_core.specs.Driving.{BeganEnding, IsPlain, told_ending};
 
 use crate::machine::Tick;
 use crate::table::Table;
+use crate::waiting::stands;
 use client_seats::Seat;
 use reader_points::ReadStep;
 use reader_seats::ReaderSeat;
@@ -70,7 +71,7 @@ impl<O: Out, I: In, P: Peer> Tables<O, I, P> {
         self.table.plan.links
     }
 
-    /// What the next step of a client needs in hand is made, where it isn't there. Its program stays.
+    /// What the next step of a client needs in hand is made, where it isn't there, and its point stands. Its program stays.
     pub fn prepare(&mut self, seat: u16) -> Result<(), NoMemory>
         requires { seat < length self.old.seats }
         ensures ok { OnOk result (PreparedAt self.old self.new seat) }
@@ -78,7 +79,8 @@ impl<O: Out, I: In, P: Peer> Tables<O, I, P> {
     {
         let Table { alloc, pool, .. } = &mut self.table;
         let place = &mut self.seats[usize::from(seat)];
-        if place.prepare(*alloc, pool).is_err() {
+        // Each word found fits, so each point stands.
+        if place.prepare(*alloc, pool).is_err() || !stands(place.point) {
             self.short = true;
             return Err(NoMemory);
         }

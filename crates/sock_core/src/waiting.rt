@@ -1,5 +1,5 @@
-ghost use Rattle.std.specs.Prelude.{◌≡◌, is_some, IfSome};
-ghost use Rattle.seat_points.specs.Points.{Around, point_program};
+ghost use Rattle.std.specs.Prelude.{◌≡◌, true, is_some, IfSome};
+ghost use Rattle.seat_points.specs.Points.{Around, point_program, HasLinkAt, TellsCodeAt};
 ghost use Rattle.reader_points.specs.Points as reading;
 ghost use Rattle.sock_core.specs.Runs.{IsWaitingFor};
 ghost use Rattle.sock_core.specs.Telling.{waits_by};
@@ -9,7 +9,7 @@ use call_points::LockStep;
 use call_table::has_version;
 use id_points::{Sought, is_awaited};
 use reader_points::ReadPoint;
-use seat_points::{JoinStep, Point, RetryStep, WriteStep};
+use seat_points::{AttemptStep, JoinStep, Point, RetryStep, WriteStep};
 use sock_words::IdWord;
 
 /// The next word of an entry that isn't connected to its successor yet: 2^64 - 1.
@@ -62,5 +62,17 @@ pub fn awaited_by_reader(point: ReadPoint, found: u64) -> Option<On>
             _ => None,
         },
         _ => None,
+    }
+}
+
+/// Whether the link at a point fits an at word, and the code of a dropped message an error.
+pub fn stands(point: Point) -> bool
+    ensures link { result ≡ true → HasLinkAt point }
+    ensures told { result ≡ true → TellsCodeAt point }
+{
+    match point {
+        Point::Attempt(_, _, AttemptStep::StoreAt(link)) => link < u16::MAX,
+        Point::Write(_, WriteStep::DropPlace(_, code)) => code < 4096,
+        _ => true,
     }
 }

@@ -1,0 +1,243 @@
+-- What the next step of a point tells of the point besides, and what the rule of the ids says of it.
+use Rattle.std.proofs.Common.{◌≡◌, refl, ℕ, ◌+◌, ◌*◌, ◌%◌, ◌<◌, ◌≤◌, Bool, true, false, if◌then◌else◌, Option, Some, None, subst, arith}
+use Rattle.std.proofs.Props.{props}
+use Rattle.std.proofs.Math.Logic.{∥∥₁_elim}
+use Rattle.sock_words.specs.declared.plain.Plan.{Plan}
+use Rattle.sock_words.specs.declared.id_word.IdWord.{IdWord}
+use Rattle.corr_core.specs.declared.marks.Plan.{Plan as IdPlan}
+use Rattle.corr_core.specs.Word.{parts, code_of}
+use Rattle.sock_message.specs.Asked.{Asked}
+use Rattle.sock_programs.specs.declared.task.Sizes.{Sizes}
+use Rattle.sock_programs.specs.Calls as calls
+use Rattle.sock_programs.specs.Asides as asides
+use Rattle.sock_programs.specs.Asides.{PutCall, id_slot}
+use Rattle.sock_programs.specs.Heads.{HasEnded, Unlocks}
+use Rattle.sock_programs.specs.Posts.{advance_of, ends_call, end_id, unlocked, decided}
+use Rattle.sock_programs.specs.Programs.{Program, Aside, Round}
+use Rattle.sock_runs.specs.Sound.{AllowsWord}
+use Rattle.id_runs.specs.Held.{IdView}
+use Rattle.id_runs.specs.Goes.{FitsSock, IsLocked, IsTaken, IdGoesOn}
+use Rattle.id_points.specs.Ids.{id_of}
+use Rattle.call_points.specs.declared.deciding.OnCall.{OnCall}
+use Rattle.call_points.specs.declared.deciding.DecideStep.TheVariants as decides
+use Rattle.call_points.specs.declared.posting.PostStep.TheVariants as posts
+use Rattle.call_points.specs.declared.locking.LockStep.TheVariants as locks
+use Rattle.seat_points.specs.declared.point.OpenStep.TheVariants as opens
+use Rattle.seat_points.specs.declared.point.SeekStep.TheVariants as seeks
+use Rattle.seat_points.specs.declared.point.Aim.TheVariants as aims
+use Rattle.seat_points.specs.declared.point.FailStep.TheVariants as fails
+use Rattle.seat_points.specs.declared.point.ReleaseStep.TheVariants as releases
+use Rattle.seat_points.specs.declared.point.SendStep.TheVariants as sends
+use Rattle.seat_points.specs.declared.point.WriteStep.TheVariants as writes
+use Rattle.seat_points.specs.declared.point.CallStep.TheVariants as begins
+use Rattle.seat_points.specs.declared.point.AttemptStep.TheVariants as attempts
+use Rattle.seat_points.specs.declared.point.RetryStep.TheVariants as retries
+use Rattle.seat_points.specs.declared.point.JoinStep.TheVariants as joins
+use Rattle.seat_points.specs.declared.point.Sending.{Sending}
+use Rattle.seat_points.specs.declared.point.Author.{Author}
+use Rattle.seat_points.specs.declared.point.Author.TheVariants as authors
+use Rattle.seat_points.specs.declared.point.After.{After}
+use Rattle.seat_points.specs.declared.point.Point.{Point}
+use Rattle.seat_points.specs.declared.point.Point.TheVariants as points
+use Rattle.seat_points.specs.Points.{Around, point_program, look_program, after_program, IsWithin, IsWithinIds, MayFind, MayFindAside, MayFindId}
+use Rattle.seat_points.specs.Steps.{First, OfCall, OfAside, first_of, first_in}
+use Rattle.reader_points.specs.Points as reading
+use Rattle.reader_points.specs.declared.point.Closing.{Closing}
+use Rattle.reader_points.specs.declared.point.Lost.{Lost}
+use Rattle.reader_points.specs.declared.point.ReadPoint.{ReadPoint}
+use Rattle.reader_points.specs.declared.point.ReadPoint.TheVariants as reads
+use Rattle.reader_points.specs.declared.point.CloseStep.{CloseStep}
+use Rattle.reader_points.specs.declared.point.CloseStep.TheVariants as closes
+
+-- ## Of a client
+
+-- a client takes no bytes of a link
+abbrev pub NoTake : asides.Step → Type 0
+NoTake (asides.TakeBytes k room) = ⊥
+NoTake other = Unit {0}
+
+abbrev Beside : Option First → Point → Type 0
+Beside (Some (OfCall call)) p = (found : ℕ) → FitsSock call found → MayFindAside p found
+Beside (Some (OfAside step)) p = NoTake step × ((sizes : Sizes) → IsWithin sizes p) × ((found : ℕ) → MayFind p found) × ((found : ℕ) → ((o : ℕ) → step ≡ asides.LoadCall o → MayFindId found) → MayFindAside p found)
+Beside other p = Unit {0}
+
+look_beside : (a : Around) (s : Sending) (author : Author) → Beside (first_in (look_program a author s.id.0)) (points.Send s sends.Look)
+look_beside a s (authors.Send o) = (λ found h. tt)
+look_beside a s (authors.Attempt t) = (λ found h. tt)
+
+judge_beside : (c : OnCall) (after : After) (w : IdWord) (ends : Bool) (x y : Program) → Beside (first_of x) (points.Decide c after (decides.Judge w)) → Beside (first_of y) (points.Decide c after (decides.Judge w))
+    → Beside (first_of (if ends then x else y)) (points.Decide c after (decides.Judge w))
+judge_beside c after w true x y f g = f
+judge_beside c after w false x y f g = g
+
+beside_facts : (a : Around) (p : Point) → Beside (first_in (point_program a p)) p
+beside_facts a points.Rest = tt
+beside_facts a (points.Open g (opens.Claim i)) = (λ found h. tt)
+beside_facts a (points.Open g (opens.StoreLink i)) = (λ found h. tt)
+beside_facts a (points.Open g (opens.ResetHead i)) = (λ found h. tt)
+beside_facts a (points.Open g (opens.WipeCode i)) = (λ found h. tt)
+beside_facts a (points.Open g (opens.GiveBirth i)) = (λ found h. tt)
+beside_facts a (points.Open g (opens.StoreOpen i v)) = (λ found h. tt)
+beside_facts a (points.Open g (opens.StoreName i v)) = (λ found h. tt)
+beside_facts a (points.Open g opens.TakeLink) = (λ found h. tt)
+beside_facts a (points.Open g opens.FinishLink) = (λ found h. tt)
+beside_facts a (points.Open g opens.PutLink) = (λ found h. tt)
+beside_facts a (points.Open g opens.StoreNone) = (λ found h. tt)
+beside_facts a (points.Seek (aims.Hold o n) seeks.Load) = (λ found h. tt)
+beside_facts a (points.Seek (aims.Send o n) seeks.Load) = (λ found h. tt)
+beside_facts a (points.Seek (aims.Fail o n code) seeks.Load) = (λ found h. tt)
+beside_facts a (points.Seek (aims.End o) seeks.Load) = (λ found h. tt)
+beside_facts a (points.Seek aim (seeks.AddRef id)) = (λ found h. tt)
+beside_facts a (points.Fail f fails.SetOdd) = (λ found h. tt)
+beside_facts a (points.Fail f (fails.StoreCode w)) = (λ found h. tt)
+beside_facts a (points.Fail f (fails.GiveBack w)) = (λ found h. tt)
+beside_facts a (points.Release i t releases.SubRef) = (λ found h. tt)
+beside_facts a (points.Release i t (releases.Recycle w)) = (λ found h. tt)
+beside_facts a (points.Release i t (releases.LoadLink w)) = (λ found h. tt)
+beside_facts a (points.Release i t (releases.TakeLink w k)) = (λ found h. tt)
+beside_facts a (points.Release i t (releases.FinishLink w k)) = (λ found h. tt)
+beside_facts a (points.Release i t (releases.PutLink w k)) = (λ found h. tt)
+beside_facts a (points.Release i t releases.FreeSlot) = (λ found h. tt)
+beside_facts a (points.Send s sends.Look) = look_beside a s s.author
+beside_facts a (points.Send s (sends.Claim q)) = (λ found h. tt)
+beside_facts a (points.Send s (sends.PutMessage q own)) = (λ found h. tt)
+beside_facts a (points.Send s (sends.Unconnect q own)) = (λ found h. tt)
+beside_facts a (points.Send s (sends.SwapHead q own)) = (λ found h. tt)
+beside_facts a (points.Send s (sends.Connect q before)) = (λ found h. tt)
+beside_facts a (points.Send s (sends.FindLink q own)) = (λ found h. tt)
+beside_facts a (points.Send s (sends.TakeHome q own k)) = tt
+beside_facts a (points.Send s (sends.TakeMessage q own k n)) = tt
+beside_facts a (points.Write w (writes.FirstLook m)) = (λ found h. tt)
+beside_facts a (points.Write w (writes.Look m asked)) = (λ found h. tt)
+beside_facts a (points.Write w (writes.Put m asked)) = tt
+beside_facts a (points.Write w (writes.Ask m)) = tt
+beside_facts a (points.Write w (writes.SetOdd m)) = (λ found h. tt)
+beside_facts a (points.Write w (writes.StoreCode m)) = (λ found h. tt)
+beside_facts a (points.Write w (writes.GiveBack m)) = (λ found h. tt)
+beside_facts a (points.Write w (writes.StorePlace m)) = (λ found h. tt)
+beside_facts a (points.Write w (writes.LoadCode m)) = (λ found h. h)
+beside_facts a (points.Write w (writes.DropPlace m n)) = (λ found h. tt)
+beside_facts a (points.Write w (writes.ReadNext now c)) = (λ found h. tt)
+beside_facts a (points.Write w (writes.Free now next c)) = (λ found h. tt)
+beside_facts a (points.Write w (writes.TakeMessage next)) = tt
+beside_facts a (points.Write w writes.PutHome) = tt
+beside_facts a (points.Write w writes.EmptyHead) = (λ found h. tt)
+beside_facts a (points.Write w (writes.TakeHome found)) = tt
+beside_facts a (points.Write w (writes.Walk top at after)) = (λ found h. tt)
+beside_facts a (points.Write w (writes.Turn top at after before)) = (λ found h. tt)
+beside_facts a (points.Write w (writes.TakeFirst top at)) = tt
+beside_facts a (points.Call begins.LoadName) = (λ found h. tt)
+beside_facts a (points.Call (begins.ClaimId i socket)) = (tt, (λ sizes. tt), (λ found. tt), (λ found h. tt))
+beside_facts a (points.Call (begins.PutCall i socket)) = (tt, (λ sizes. tt), (λ found. tt), (λ found h. tt))
+beside_facts a (points.Call (begins.MakeId i socket)) = (tt, (λ sizes. tt), (λ found. tt), (λ found h. tt))
+beside_facts a (points.Call (begins.StoreCall id socket)) = (tt, (λ sizes. tt), (λ found. tt), (λ found h. tt))
+beside_facts a (points.Attempt t socket attempts.AddRef) = (λ found h. tt)
+beside_facts a (points.Attempt t socket attempts.FindLink) = (λ found h. h)
+beside_facts a (points.Attempt t socket (attempts.StoreAt k)) = (tt, (λ sizes. tt), (λ found. tt), (λ found h. tt))
+beside_facts a (points.Post c after posts.Load) = (tt, (λ sizes. tt), (λ found. tt), (λ found h. tt))
+beside_facts a (points.Post c after (posts.Exchange from)) = (tt, (λ sizes. tt), (λ found. tt), (λ found h. tt))
+beside_facts a (points.Decide c after (decides.Take w)) = (tt, (λ sizes. tt), (λ found. tt), (λ found h. tt))
+beside_facts a (points.Decide c after (decides.Judge w)) = judge_beside c after w (ends_call (parts w.0) c.error.0) (end_id (id_slot (id_of c.id)) (decided (id_of c.id) (after_program a after) (HasEnded a.asked.operation (code_of c.error.0)))) (Aside (PutCall (id_slot (id_of c.id)) a.asked) (λ _. Round (Unlocks (id_slot (id_of c.id)) w.0 true) (unlocked (record { id = id_of c.id; attempt = (parts w.0).attempt + 1 }) (decided (id_of c.id) (after_program a after))))) (tt, (λ sizes. tt), (λ found. tt), (λ found h. tt)) (tt, (λ sizes. tt), (λ found. tt), (λ found h. tt))
+beside_facts a (points.Decide c after (decides.Free o)) = (tt, (λ sizes. tt), (λ found. tt), (λ found h. tt))
+beside_facts a (points.Decide c after (decides.Unlock from advance n)) = (tt, (λ sizes. tt), (λ found. tt), (λ found h. tt))
+beside_facts a (points.Retry r (retries.Lock locks.Read)) = (tt, (λ sizes. tt), (λ found. tt), (λ found h. tt))
+beside_facts a (points.Retry r (retries.Lock (locks.Exchange from))) = (tt, (λ sizes. tt), (λ found. tt), (λ found h. tt))
+beside_facts a (points.Retry r (retries.TakeCall w)) = (tt, (λ sizes. tt), (λ found. tt), (λ found h. tt))
+beside_facts a (points.Retry r (retries.PutCall w)) = (tt, (λ sizes. tt), (λ found. tt), (λ found h. tt))
+beside_facts a (points.Retry r (retries.Unlock w advance)) = (tt, (λ sizes. tt), (λ found. tt), (λ found h. tt))
+beside_facts a (points.Retry r retries.LoadName) = (λ found h. tt)
+beside_facts a (points.Expire o t) = (tt, (λ sizes. tt), (λ found. tt), (λ found h. h t refl))
+beside_facts a (points.Join o (joins.LoadCall t)) = (tt, (λ sizes. tt), (λ found. tt), (λ found h. h t refl))
+beside_facts a (points.Join o (joins.Wait id)) = (tt, (λ sizes. tt), (λ found. tt), (λ found h. tt))
+
+module _ (a : Around) (p : Point) where
+  beside_at : (first : First) → first_in (point_program a p) ≡ Some first → Beside (Some first) p
+  beside_at first e = subst (λ (o : Option First). Beside o p) e (beside_facts a p)
+
+  -- what a step on a word finds is as the ids need it
+  pub finds_beside : (call : calls.Call) (found : ℕ) → first_in (point_program a p) ≡ Some (OfCall call) → FitsSock call found → MayFindAside p found
+  finds_beside call found e fits = beside_at (OfCall call) e found fits
+
+  -- and of a step aside
+  pub takes_none : (step : asides.Step) → first_in (point_program a p) ≡ Some (OfAside step) → NoTake step
+  takes_none step e = (beside_at (OfAside step) e).0
+
+  pub within_aside : (step : asides.Step) (sizes : Sizes) → first_in (point_program a p) ≡ Some (OfAside step) → IsWithin sizes p
+  within_aside step sizes e = (beside_at (OfAside step) e).1 sizes
+
+  pub finds_aside : (step : asides.Step) (found : ℕ) → first_in (point_program a p) ≡ Some (OfAside step) → MayFind p found
+  finds_aside step found e = (beside_at (OfAside step) e).2 found
+
+  pub finds_call : (step : asides.Step) (found : ℕ) → first_in (point_program a p) ≡ Some (OfAside step) → ((o : ℕ) → step ≡ asides.LoadCall o → MayFindId found) → MayFindAside p found
+  finds_call step found e called = (beside_at (OfAside step) e).3 found called
+
+-- a locked id has an attempt below 7
+locked_below : (i more word : ℕ) (u : IdView) → IsLocked i more word u → (parts word).attempt < 7
+locked_below i more word u l = let a = l.word_is.attempt_is in let r = l.word_is.range_is in let room = l.room in omega (arith, a, r, room)
+
+taken_below : (i : ℕ) (asked : Asked) (word : ℕ) (u : IdView) → IsTaken i asked word u → (parts word).attempt < 7
+taken_below i asked word u l = let a = l.word_is.attempt_is in let r = l.word_is.range_is in let room = l.room in omega (arith, a, r, room)
+
+-- what the rule of the ids says of a point
+module _ (p : Plan) (q : IdPlan) (few : q.slots ≤ 4096) where
+  abbrev Goes : Program → Type 0
+  Goes program = ∥ ((u : IdView) × IdGoesOn p q u program) ∥₁
+
+  pub within_ids : (a : Around) (x : Point) → a.sizes.ids ≡ q.slots → Goes (point_program a x) → IsWithinIds a.sizes x
+  within_ids a (points.Call begins.LoadName) same goes = (omega (arith, few, same), tt)
+  within_ids a (points.Call (begins.ClaimId i socket)) same goes = (omega (arith, few, same), ∥∥₁_elim goes (hlevel props) (λ g. let h = g.1.0 in omega (arith, h, same)))
+  within_ids a (points.Call (begins.PutCall i socket)) same goes = (omega (arith, few, same), tt)
+  within_ids a (points.Call (begins.MakeId i socket)) same goes = (omega (arith, few, same), tt)
+  within_ids a (points.Call (begins.StoreCall id socket)) same goes = (omega (arith, few, same), tt)
+  within_ids a (points.Decide c after (decides.Take w)) same goes = tt
+  within_ids a (points.Decide c after (decides.Judge w)) same goes = ∥∥₁_elim goes (hlevel props) (λ g. taken_below _ _ w.0 g.0 g.1.0.1)
+  within_ids a (points.Decide c after (decides.Free o)) same goes = tt
+  within_ids a (points.Decide c after (decides.Unlock from advance n)) same goes = λ e. ∥∥₁_elim goes (hlevel props) (λ g. locked_below _ _ from.0 g.0 g.1.0.1)
+  within_ids a (points.Retry r (retries.Lock locks.Read)) same goes = tt
+  within_ids a (points.Retry r (retries.Lock (locks.Exchange from))) same goes = ∥∥₁_elim goes (hlevel props) (λ g. g.1.0.2)
+  within_ids a (points.Retry r (retries.TakeCall w)) same goes = tt
+  within_ids a (points.Retry r (retries.PutCall w)) same goes = tt
+  within_ids a (points.Retry r (retries.Unlock w advance)) same goes = λ e. ∥∥₁_elim goes (hlevel props) (λ g. locked_below _ _ w.0 g.0 g.1.0.1)
+  within_ids a (points.Retry r retries.LoadName) same goes = tt
+  within_ids a _ same goes = tt
+
+  pub reads_within : (a : reading.Around) (x : ReadPoint) → Goes (reading.point_program a x) → reading.IsWithin x
+  reads_within a (reads.Lock r l locks.Read) goes = tt
+  reads_within a (reads.Lock r l (locks.Exchange from)) goes = ∥∥₁_elim goes (hlevel props) (λ g. g.1.0.2)
+  reads_within a _ goes = tt
+
+-- ## Of a reader
+
+abbrev OnWord : Option First → (ℕ → Type 0) → Type 0
+OnWord (Some (OfCall call)) Finds = (found : ℕ) → AllowsWord call found → Finds found
+OnWord (Some (OfAside step)) Finds = (found : ℕ) → Finds found
+OnWord other Finds = Unit {0}
+
+closes_finds : (a : reading.Around) (c : Closing) (at : CloseStep) → OnWord (first_in (reading.close_program a c at)) (reading.MayFindClosing at)
+closes_finds a c closes.AddRef = (λ found h. tt)
+closes_finds a c closes.SetOdd = (λ found h. tt)
+closes_finds a c closes.StoreCode = (λ found h. tt)
+closes_finds a c closes.GiveBack = (λ found h. tt)
+closes_finds a c (closes.Release releases.SubRef) = (λ found h. tt)
+closes_finds a c (closes.Release (releases.Recycle from)) = (λ found h. h.2)
+closes_finds a c (closes.Release (releases.LoadLink w)) = (λ found h. h)
+closes_finds a c (closes.Release (releases.TakeLink w k)) = (λ found h. tt)
+closes_finds a c (closes.Release (releases.FinishLink w k)) = (λ found h. tt)
+closes_finds a c (closes.Release (releases.PutLink w k)) = (λ found h. tt)
+closes_finds a c (closes.Release releases.FreeSlot) = (λ found h. tt)
+
+module _ (a : reading.Around) (x : ReadPoint) where
+  -- what a reader finds
+  pub reads_word : (call : calls.Call) (found : ℕ) → first_in (reading.point_program a x) ≡ Some (OfCall call) → AllowsWord call found → reading.MayFind x found
+  reads_word call found e allowed = by_point x e
+    where
+      by_point : (y : ReadPoint) → first_in (reading.point_program a y) ≡ Some (OfCall call) → reading.MayFind y found
+      by_point (reads.Close c at) e = (subst (λ (o : Option First). OnWord o (reading.MayFindClosing at)) e (closes_finds a c at)) found allowed
+      by_point _ e = tt
+
+  pub reads_aside : (step : asides.Step) (found : ℕ) → first_in (reading.point_program a x) ≡ Some (OfAside step) → reading.MayFind x found
+  reads_aside step found e = by_point x e
+    where
+      by_point : (y : ReadPoint) → first_in (reading.point_program a y) ≡ Some (OfAside step) → reading.MayFind y found
+      by_point (reads.Close c at) e = (subst (λ (o : Option First). OnWord o (reading.MayFindClosing at)) e (closes_finds a c at)) found
+      by_point _ e = tt
