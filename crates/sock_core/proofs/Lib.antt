@@ -28,3 +28,11 @@ pub mod Gathering
 pub mod Begun
 pub mod Starting
 pub mod Making
+pub mod TableRoom
+pub mod TableAsides
+pub mod TableFlat
+pub mod TableWaits
+pub mod TableReads
+pub mod TableTakes
+pub mod TableCuts
+pub mod TableGoes

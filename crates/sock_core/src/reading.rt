@@ -1,6 +1,6 @@
 ghost use Rattle.std.specs.Prelude.{◌≡◌, ◌≤◌, ◌+◌, IfOk, OnErr, length};
 ghost use Rattle.sock_core.specs.Steps.{IsSized, IsOnWord};
-ghost use Rattle.sock_core.specs.Reading.{IsNextRead, FitsRead, ReadTold};
+ghost use Rattle.sock_core.specs.Reading.{IsNextRead, FitsRead, ReadTold, IsCutTable};
 
 use crate::machine::{On, Tick};
 use crate::table::Table;
@@ -25,7 +25,8 @@ impl<O: Out, I: In, P: Peer> Table<O, I, P> {
         requires next { IsNextRead self.old reader.old (ReadStep.Call call) }
         requires fits { FitsRead self.old reader.old (ReadStep.Call call) }
         requires sized { IsSized self.old }
-        ensures { IfOk result (λ tick. ReadTold self.old self.new seat reader.old reader.new (ReadStep.Call call) tick) }
+        ensures ok { IfOk result (λ tick. ReadTold self.old self.new seat reader.old reader.new (ReadStep.Call call) tick) }
+        ensures err { OnErr result (IsCutTable self.old self.new) }
     {
         let point = reader.point();
         let found = step_word(&self.plan, &mut self.words, call);
@@ -47,7 +48,8 @@ impl<O: Out, I: In, P: Peer> Table<O, I, P> {
         requires kind { IsOnWord step }
         requires next { IsNextRead self.old reader.old (ReadStep.Aside step) }
         requires fits { FitsRead self.old reader.old (ReadStep.Aside step) }
-        ensures { IfOk result (λ tick. (seat : ℕ) → ReadTold self.old self.new seat reader.old reader.new (ReadStep.Aside step) tick) }
+        ensures ok { IfOk result (λ tick. (seat : ℕ) → ReadTold self.old self.new seat reader.old reader.new (ReadStep.Aside step) tick) }
+        ensures err { OnErr result (IsCutTable self.old self.new) }
     {
         let point = reader.point();
         let found = self.ids.step(step);
@@ -73,7 +75,8 @@ impl<O: Out, I: In, P: Peer> Table<O, I, P> {
         requires next { IsNextRead self.old reader.old (ReadStep.Aside (Aside.TakeBytes link count)) }
         requires fits { FitsRead self.old reader.old (ReadStep.Aside (Aside.TakeBytes link count)) }
         requires sized { IsSized self.old }
-        ensures { IfOk result (λ tick. (seat : ℕ) → ReadTold self.old self.new seat reader.old reader.new (ReadStep.Aside (Aside.TakeBytes link count)) tick) }
+        ensures ok { IfOk result (λ tick. (seat : ℕ) → ReadTold self.old self.new seat reader.old reader.new (ReadStep.Aside (Aside.TakeBytes link count)) tick) }
+        ensures err { OnErr result (IsCutTable self.old self.new) }
     {
         // A reader takes of a link that there is.
         if usize::from(link) >= self.ends.len() {
@@ -112,7 +115,8 @@ impl<O: Out, I: In, P: Peer> Table<O, I, P> {
         requires next { IsNextRead self.old reader.old step }
         requires fits { FitsRead self.old reader.old step }
         requires sized { IsSized self.old }
-        ensures { IfOk result (λ tick. ReadTold self.old self.new seat reader.old reader.new step tick) }
+        ensures ok { IfOk result (λ tick. ReadTold self.old self.new seat reader.old reader.new step tick) }
+        ensures err { OnErr result (IsCutTable self.old self.new) }
     {
         match step {
             ReadStep::Call(call) => self.read_call(reader, seat, call),
