@@ -39,7 +39,7 @@ use Rattle.client_seats.specs.Seats.{SeatData, seat_program}
 use Rattle.sock_core.specs.declared.machine.Tick.{Tick}
 use Rattle.sock_core.specs.declared.machine.Tick.TheVariants as ticks
 use Rattle.sock_core.specs.Links.{LinksData, Taken, Given, Agrees, AgreesGave, ClosedAreDone, IsPaced, holder_of, homes_of, hand_of}
-use Rattle.sock_core.specs.Machines.{MachineState, IsMachine, IsSoundMachine, HasSizes, KeepsClosed, ArePaced, MOST_LEFT, READERS, machine_sizes, core_with, ending_by, waiting_of, given_by, table_of}
+use Rattle.sock_core.specs.Machines.{MachineState, IsMachine, IsSoundMachine, HasSizes, KeepsClosed, AreCalled, ArePaced, MOST_LEFT, READERS, machine_sizes, core_with, ending_by, waiting_of, given_by, table_of}
 use Rattle.sock_core.specs.Steps.{Goes}
 use Rattle.sock_core.specs.Runs.{SameTable, SameLinks, Ticked, Led}
 use Rattle.sock_core.specs.Driving.{LastsAtMost, Leaves, IsLast, IsOther, AsksNone, IsPlain, FirstRests, BeganEnding, told_ending}
@@ -215,6 +215,7 @@ module _ (old fresh : MachineState) (room : ℕ) (is : IsMachine old room) (enou
     sound = λ _. ∥∥₁_elim is.sizes (hlevel props) (λ h. ∥∥₁_elim (is.sound enough) (hlevel props) (λ s. ∣ began_sound h s ∣₁));
     paced = λ _. ∥∥₁_elim (is.paced enough) (hlevel props) (λ paced. ∣ began_paced paced ∣₁);
     closed = λ _. began_closed (is.closed enough);
+    called = λ _. subst AreCalled (sym w.ids) (is.called enough);
   }
 
   pub began_plain : IsPlain fresh
@@ -262,6 +263,7 @@ ending_keeps m room is = record {
   sound = λ enough. ∥∥₁_elim (is.sound enough) (hlevel props) (λ s. ∣ told_machine m s ∣₁);
   paced = is.paced;
   closed = λ enough. let h = is.closed enough in record { done = h.done; held = h.held };
+  called = is.called;
 }
 
 -- ## By a tick's answer

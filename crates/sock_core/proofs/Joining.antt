@@ -1,5 +1,6 @@
 -- Runs of a machine, one behind another; and more ticks of a seat that has no step left.
 use Rattle.std.proofs.Common.{◌≡◌, ◌≢◌, ℕ, zero, suc, ◌+◌, ◌⊎◌, inl, inr, Bool, true, List, [], ◌∷◌, ◌++◌, ◌==◌, map, filter, length, get_or, replicate, refl, sym, ap, ap₂, ◌∙◌, subst, ⊎_elim, append-nil, append_assoc, arith}
+use Rattle.std.proofs.lemmas.List.Concat.{flat_map-append}
 use Rattle.std.proofs.lemmas.List.Sums.{fold-append}
 use Rattle.std.proofs.lemmas.List.Elements.{Contains-append_cases}
 use Rattle.std.proofs.lemmas.Option.{none-some, same_Some, slice_get_within, slice_get-get_or}
@@ -10,10 +11,10 @@ use mathlib.Core.Option.{Option, some, none}
 use lib.ListN.{get_elem?}
 use Rattle.sock_words.specs.declared.kind.Kind.{Kind}
 use Rattle.sock_words.specs.declared.plain.Plan.{Plan}
-use Rattle.brpc_model.specs.Link.{LinkEnd, HalfAnswer}
+use Rattle.brpc_model.specs.Link.{LinkEnd, HalfAnswer, TakeAnswer}
 use Rattle.sock_io.specs.Link.{OutState, InState, more_told}
 use Rattle.whole_runs.specs.Answers.{said_at}
-use Rattle.whole_runs.specs.Heard.{as_told, as_taken, taken_link, heard_at, heard_in, taken_at, taken_in}
+use Rattle.whole_runs.specs.Heard.{as_told, as_taken, answer_of, take_answers, taken_link, heard_at, heard_in, taken_at, taken_in}
 use Rattle.whole_runs.proofs.HeardRuns.{told_append, taken_append, heard_on, taken_on}
 use Rattle.id_runs.specs.Goes.{first_of}
 use Rattle.owed_calls.specs.Lives.{ClosesAt, ClosesInTime}
@@ -29,7 +30,7 @@ use Rattle.sock_programs.specs.declared.task.Sizes.{Sizes}
 use Rattle.client_seats.specs.Seats.{SeatData, seat_program}
 use Rattle.reader_seats.specs.Readers.{ReaderData, reader_program}
 use Rattle.sock_core.specs.Machines.{MachineState, READERS, machine_sizes, between, resting, clients_with, readers_with, seats_with, core_with}
-use Rattle.sock_core.specs.Runs.{SameLink, SameTable, SameLinks, ShowFaults, LinksTell, ShowsTaking, ShowTakings, Follows, Made, Ticked, TickedWith, Ran, RanWith}
+use Rattle.sock_core.specs.Runs.{SameLink, SameTable, SameLinks, ShowFaults, LinksTell, TakesTell, ShowsTaking, ShowTakings, Follows, Made, Ticked, TickedWith, Ran, RanWith}
 
 -- ## The table and its links
 
@@ -97,6 +98,14 @@ more_twice : (told : std.Option (List HalfAnswer)) (xs ys : List HalfAnswer) →
 more_twice None xs ys = refl
 more_twice (Some answers) xs ys = ap Some (append_assoc answers xs ys)
 
+pub no_takes : (told : std.Option (List TakeAnswer)) → more_told told [] ≡ told
+no_takes None = refl
+no_takes (Some answers) = ap Some (append-nil answers)
+
+takes_twice : (told : std.Option (List TakeAnswer)) (xs ys : List TakeAnswer) → more_told (more_told told xs) ys ≡ more_told told (xs ++ ys)
+takes_twice None xs ys = refl
+takes_twice (Some answers) xs ys = ap Some (append_assoc answers xs ys)
+
 pub tells_none : (a b : MachineState) → b.ends ≡ a.ends → (heard : ℕ → List Answer) → ((k : ℕ) → heard k ≡ []) → LinksTell a b heard
 tells_none a b same heard none_ = record {
   each = λ k x y at also. let is : x ≡ y = same_Some x y (sym at ∙ ap (λ (es : List LinkEnd). slice_get es k) (sym same) ∙ also) in
@@ -123,6 +132,35 @@ tells_on a b c heard same t = record {
 pub tells_as : (a b : MachineState) (heard said : ℕ → List Answer) → ((k : ℕ) → heard k ≡ said k) → LinksTell a b heard → LinksTell a b said
 tells_as a b heard said same t = record {
   each = λ k x y at also. t.each k x y at also ∙ ap (λ (l : List Answer). more_told x.answers (as_told l)) (same k);
+  none_beyond = λ k past. sym (same k) ∙ t.none_beyond k past;
+}
+
+-- and what their reading halves did
+pub takes_none : (a b : MachineState) → b.ends ≡ a.ends → (taken : ℕ → List Answer) → ((k : ℕ) → taken k ≡ []) → TakesTell a b taken
+takes_none a b same taken none_ = record {
+  each = λ k x y at also. let is : x ≡ y = same_Some x y (sym at ∙ ap (λ (es : List LinkEnd). slice_get es k) (sym same) ∙ also) in
+      ap (λ (e : LinkEnd). e.takes) (sym is) ∙ sym (no_takes x.takes) ∙ ap (λ (xs : List Answer). more_told x.takes (take_answers (as_taken xs))) (sym (none_ k));
+  none_beyond = λ k past. none_ k;
+}
+
+pub takes_join : (a b c : MachineState) (first second : ℕ → List Answer) → SameLinks a b → SameLinks b c → TakesTell a b first → TakesTell b c second → TakesTell a c (λ k. first k ++ second k)
+takes_join a b c first second same after f g = record {
+  each = λ k x z at also. let y = stood_before b.ends c.ends k z after.as_many also in
+      g.each k y.0 z y.1 also ∙ ap (λ (o : std.Option (List TakeAnswer)). more_told o (take_answers (as_taken (second k)))) (f.each k x y.0 at y.1)
+      ∙ takes_twice x.takes (take_answers (as_taken (first k))) (take_answers (as_taken (second k)))
+      ∙ ap (more_told x.takes) (sym (flat_map-append answer_of (as_taken (first k)) (as_taken (second k))) ∙ ap take_answers (sym (taken_append (first k) (second k))));
+  none_beyond = λ k past. ap (λ (l : List Answer). l ++ second k) (f.none_beyond k past) ∙ g.none_beyond k (let many = same.as_many in omega (arith, many, past));
+}
+
+pub takes_on : (a b c : MachineState) (taken : ℕ → List Answer) → c.ends ≡ b.ends → TakesTell a b taken → TakesTell a c taken
+takes_on a b c taken same t = record {
+  each = λ k x y at also. t.each k x y at (ap (λ (es : List LinkEnd). slice_get es k) (sym same) ∙ also);
+  none_beyond = t.none_beyond;
+}
+
+pub takes_as : (a b : MachineState) (taken said : ℕ → List Answer) → ((k : ℕ) → taken k ≡ said k) → TakesTell a b taken → TakesTell a b said
+takes_as a b taken said same t = record {
+  each = λ k x y at also. t.each k x y at also ∙ ap (λ (l : List Answer). more_told x.takes (take_answers (as_taken l))) (same k);
   none_beyond = λ k past. sym (same k) ∙ t.none_beyond k past;
 }
 
@@ -209,6 +247,7 @@ follows_none m took gave agrees agrees_gave = record {
   broken = show_faults_none m;
   told = tells_none m m refl _ (λ k. refl);
   taken = takings_none m _ (λ k. refl);
+  takes = takes_none m m refl _ (λ k. refl);
 }
 
 module _ (a b c : MachineState) (took : Taken) (gave : Given) (xs ys : List Moment) (table : SameTable a b) (links : SameLinks a b) (after : SameLinks b c) (f : Follows a b took gave xs) (g : Follows b c f.later f.later_gave ys) where
@@ -235,6 +274,8 @@ module _ (a b c : MachineState) (took : Taken) (gave : Given) (xs ys : List Mome
         (tells_join a b c (heard_in a.plan start xs) (heard_in a.plan (run a.plan start xs) ys) links after f.told (moved (λ p d. LinksTell b c (heard_in p d ys)) g.told));
     taken = takings_as c (λ k. taken_in a.plan start xs k ++ taken_in a.plan (run a.plan start xs) ys k) (taken_in a.plan start (xs ++ ys)) (λ k. sym (taken_on a.plan start xs ys k))
         (takings_join c (taken_in a.plan start xs) (taken_in a.plan (run a.plan start xs) ys) (takings_later b c (taken_in a.plan start xs) f.taken after) (moved (λ p d. ShowTakings c (taken_in p d ys)) g.taken));
+    takes = takes_as a c (λ k. taken_in a.plan start xs k ++ taken_in a.plan (run a.plan start xs) ys k) (taken_in a.plan start (xs ++ ys)) (λ k. sym (taken_on a.plan start xs ys k))
+        (takes_join a b c (taken_in a.plan start xs) (taken_in a.plan (run a.plan start xs) ys) links after f.takes (moved (λ p d. TakesTell b c (taken_in p d ys)) g.takes));
   }
 
 -- ## Runs, one behind another
@@ -376,6 +417,7 @@ follows_rest m took gave i n agrees agrees_gave rest = record {
   broken = subst (ShowFaults m) (sym (quiet_broken m.plan (core_with m took gave) n i)) (show_faults_none m);
   told = tells_none m m refl _ (rests_heard m.plan (core_with m took gave) i rest n);
   taken = takings_none m _ (rests_taken m.plan (core_with m took gave) i rest n);
+  takes = takes_none m m refl _ (rests_taken m.plan (core_with m took gave) i rest n);
 }
 
 -- more ticks of a seat that has no step left leave all as it is

@@ -1,5 +1,6 @@
 -- A machine that is made for a script.
-use Rattle.std.proofs.Common.{◌≡◌, ℕ, zero, suc, ◌+◌, ◌<◌, ◌≤◌, true, false, List, [], ◌∷◌, length, map, replicate, Option, Some, None, IfSome, refl, sym, ap, ap₂, ◌∙◌, subst, arith, Ok, cond, ◌==◌, if◌then◌else◌, Bool, slice_get}
+use Rattle.std.proofs.Common.{◌≡◌, ◌≢◌, ℕ, zero, suc, ◌+◌, ◌<◌, ◌≤◌, true, false, List, [], ◌∷◌, length, map, replicate, Option, Some, None, IfSome, refl, sym, ap, ap₂, ◌∙◌, subst, arith, Ok, cond, ◌==◌, if◌then◌else◌, Bool, slice_get}
+use Rattle.std.proofs.lemmas.Bool.{true≢false}
 use Rattle.std.specs.List.{AllByRecursion}
 use mathlib.Core.Option as core
 use lib.ListN.{get_elem?}
@@ -27,7 +28,7 @@ use Rattle.joint_runs.proofs.Starts.{AreFor}
 use Rattle.call_slots.specs.Slots.{SlotState}
 use Rattle.reader_seats.specs.Readers.{ReaderData}
 use Rattle.client_seats.specs.Seats.{SeatData, seat_program}
-use Rattle.sock_core.specs.Links.{LinksData, Agrees, AgreesGave, ArePrompt}
+use Rattle.sock_core.specs.Links.{LinksData, Agrees, AgreesGave, ArePrompt, TellClosing, ClosedAreDone}
 use Rattle.sock_core.specs.Machines.{MachineState, core_with}
 use Rattle.sock_core.specs.Runs.{RanFirst}
 use Rattle.sock_core.specs.declared.letter.Letter.{Letter}
@@ -80,8 +81,17 @@ module _ {E : Type 0} (out : E → OutState) (es : List E) (l : LinksData) (outs
   all_prompt all k o at = all_at (λ (o : OutState). o.prompt ≡ true) out es all k o (there k o at)
 
 module _ {E : Type 0} (inn : E → InState) (es : List E) (l : LinksData) (inns : l.inns ≡ map inn es) where
+  inn_at : (k : ℕ) (i : InState) → get_elem? l.inns k ≡ core.some i → get_elem? (map inn es) k ≡ core.some i
+  inn_at k i at = ap (λ (is : List InState). get_elem? is k) (sym inns) ∙ at
+
   pub nothing_given : AllByRecursion (λ (e : E). ((inn e).gave ≡ 0) × IfSome (inn e).gave_bytes (λ bytes. bytes ≡ [])) es → AgreesGave l (λ k. [])
-  nothing_given all k i at = all_at (λ (i : InState). (i.gave ≡ 0) × IfSome i.gave_bytes (λ bytes. bytes ≡ [])) inn es all k i (ap (λ (is : List InState). get_elem? is k) (sym inns) ∙ at)
+  nothing_given all k i at = all_at (λ (i : InState). (i.gave ≡ 0) × IfSome i.gave_bytes (λ bytes. bytes ≡ [])) inn es all k i (inn_at k i at)
+
+  pub none_closing : AllByRecursion (λ (e : E). IfSome (inn e).closing (λ closing. closing ≡ false)) es → ClosedAreDone l
+  none_closing all k i at closing = absurd (true≢false (subst (λ o. IfSome o (λ (b : Bool). b ≡ false)) closing (all_at (λ (i : InState). IfSome i.closing (λ b. b ≡ false)) inn es all k i (inn_at k i at))))
+
+  pub all_tell : AllByRecursion (λ (e : E). (inn e).closing ≢ None) es → TellClosing l
+  all_tell all k i at = all_at (λ (i : InState). i.closing ≢ None) inn es all k i (inn_at k i at)
 
 pub parts_new : (p : Plan) (q : IdPlan) (clients : List (List Task)) (cs opens : List ℕ) (l : LinksData) (ws : List ℕ) (letters : List (Option Letter)) (ids : SlotState) (ss : List SeatData) (rs : List ReaderData) (os : List (Option Outcome)) →
     AreParts p q clients cs opens ws letters l.holders l.nexts ids ss rs os → ((k : ℕ) (out : OutState) → get_elem? l.outs k ≡ core.some out → out.finished ≡ false) → AreNew p l letters

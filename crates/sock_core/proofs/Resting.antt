@@ -20,7 +20,7 @@ use Rattle.sock_core.specs.declared.machine.Tick.TheVariants as ticks
 use Rattle.sock_core.specs.Links.{LinksData, Taken, Given}
 use Rattle.sock_core.specs.Machines.{MachineState, READERS, core_with, machine_sizes, between, resting, clients_with, readers_with, seats_with}
 use Rattle.sock_core.specs.Runs.{ShowFaults, Follows, Ticked, TickedWith, Ran}
-use Rattle.sock_core.proofs.Joining.{same_table_none, same_links_none, rests, rest_answered, rest_heard, rest_taken, rests_on, rests_heard, rests_taken, rests_answered, seats_quiet, quiet_prompt, quiet_closes, quiet_broken, show_faults_none, tells_none, tells_as, takings_none}
+use Rattle.sock_core.proofs.Joining.{same_table_none, same_links_none, rests, rest_answered, rest_heard, rest_taken, rests_on, rests_heard, rests_taken, rests_answered, seats_quiet, quiet_prompt, quiet_closes, quiet_broken, show_faults_none, tells_none, tells_as, takings_none, takes_none, takes_as}
 
 -- the seat has no step left, whatever its links took and gave
 abbrev pub Rests : MachineState → ℕ → Type 0
@@ -81,6 +81,7 @@ follows_idle a b i took gave t = record {
   broken = show_faults_none b;
   told = tells_as a b _ _ (λ k. append-nil (heard_at (core_with a took gave) t.moment k) ∙ rest_heard (core_with a took gave) t.moment t.is k) t.follows.told;
   taken = takings_none b _ (λ k. refl);
+  takes = takes_as a b _ _ (λ k. append-nil (taken_at (core_with a took gave) t.moment k) ∙ rest_taken (core_with a took gave) t.moment t.is k) t.follows.takes;
 }
 
 -- it is none at all
@@ -108,6 +109,7 @@ rest_ticks m i rest = (
       broken = show_faults_none m;
       told = tells_none m m refl _ (λ k. append-nil (heard_at (core_with m took gave) (quiet i) k) ∙ rest_heard (core_with m took gave) (quiet i) (rest took gave) k);
       taken = takings_none m _ (λ k. append-nil (taken_at (core_with m took gave) (quiet i) k) ∙ rest_taken (core_with m took gave) (quiet i) (rest took gave) k);
+      takes = takes_none m m refl _ (λ k. append-nil (taken_at (core_with m took gave) (quiet i) k) ∙ rest_taken (core_with m took gave) (quiet i) (rest took gave) k);
     };
   },
 )
@@ -158,6 +160,7 @@ idle_ran a b i t n = (
       broken = subst (ShowFaults b) (sym (quiet_broken a.plan c n i)) (show_faults_none b);
       told = tells_as a b _ _ (λ k. append-nil (heard_at c w.moment k) ∙ rest_heard c w.moment w.is k ∙ sym (rests_heard a.plan c i rest n k)) w.follows.told;
       taken = takings_none b _ (rests_taken a.plan c i rest n);
+      takes = takes_as a b _ _ (λ k. append-nil (taken_at c w.moment k) ∙ rest_taken c w.moment w.is k ∙ sym (rests_taken a.plan c i rest n k)) w.follows.takes;
     };
   },
 )
@@ -212,4 +215,5 @@ none_follows a b took gave i n ms rest are f = let u = unmoved a.plan i n (core_
   broken = show_faults_none b;
   told = tells_as a b _ _ u.1 f.told;
   taken = takings_none b _ (λ k. refl);
+  takes = takes_as a b _ _ u.2 f.takes;
 }

@@ -8,10 +8,10 @@ use Rattle.owed_calls.specs.Lives.{ClosesInTime}
 use Rattle.whole_runs.specs.Heard.{heard_in, taken_in}
 use Rattle.sock_core.specs.Links.{LinksData, Taken, Given, Agrees, AgreesGave, ArePrompt, TellClosing}
 use Rattle.sock_core.specs.Machines.{MachineState, core_with, ending_by}
-use Rattle.sock_core.specs.Runs.{SameLinks, ShowFaults, LinksTell, ShowTakings, SettlesBy, PlayedWith, PlayedOn, RanFirst, SettledWith, Settled}
+use Rattle.sock_core.specs.Runs.{SameLinks, ShowFaults, LinksTell, TakesTell, ShowTakings, SettlesBy, PlayedWith, PlayedOn, RanFirst, SettledWith, Settled}
 use Rattle.sock_core.specs.Driving.{told_ending}
 use Rattle.sock_core.proofs.Answering.{links_kept}
-use Rattle.sock_core.proofs.Joining.{same_links_join, show_faults_later, show_faults_join, tells_on, tells_join, takings_later, takings_join, prompt_append}
+use Rattle.sock_core.proofs.Joining.{same_links_join, show_faults_later, show_faults_join, tells_on, tells_join, takings_later, takings_join, takes_on, takes_join, prompt_append}
 
 -- links that are told of the ending are the same
 told_same : (m : MachineState) → SameLinks m (told_ending m)
@@ -86,6 +86,9 @@ module _ (a b c d f : MachineState) (played : PlayedOn a b) (plan : c.plan ≡ b
       taken = takings_join f (taken_in a.plan (core_with a took gave) x.moments) (taken_in a.plan ended y.moments)
           (takings_later b f (taken_in a.plan (core_with a took gave) x.moments) x.follows.taken (same_links_join b told f ran_same final.1))
           (subst (λ (p : Plan). ShowTakings f (taken_in p ended y.moments)) plans y.follows.taken);
+      takes = takes_join a told f (taken_in a.plan (core_with a took gave) x.moments) (taken_in a.plan ended y.moments) (same_links_join a b told played.1 ran_same) final.1
+          (takes_on a b told (taken_in a.plan (core_with a took gave) x.moments) (first.ends ∙ ends) x.follows.takes)
+          (subst (λ (p : Plan). TakesTell told f (taken_in p ended y.moments)) plans y.follows.takes);
     }
 
   pub all_links : SameLinks a f

@@ -1,5 +1,5 @@
 -- All that holds of a machine holds where it begins.
-use Rattle.std.proofs.Common.{◌≡◌, ◌≢◌, refl, ℕ, zero, suc, ◌+◌, ◌-◌, ◌<◌, ◌≤◌, Bool, false, List, [], ◌∷◌, ◌++◌, map, fold, length, slice_index_or, replicate, Option, Some, None, slice_set, ap, ap₂, sym, ◌∙◌, arith, subst}
+use Rattle.std.proofs.Common.{◌≡◌, ◌≢◌, refl, ℕ, zero, suc, ◌+◌, ◌-◌, ◌<◌, ◌≤◌, Bool, false, List, [], ◌∷◌, ◌++◌, map, fold, length, slice_index, slice_index_or, replicate, Option, Some, None, slice_set, ap, ap₂, sym, ◌∙◌, arith, subst}
 use Rattle.std.proofs.Math.ListN.{length-map, length-replicate, length-set}
 use Rattle.std.proofs.lemmas.List.{map-append}
 use Rattle.std.proofs.lemmas.List.Sums.{fold-append}
@@ -16,6 +16,7 @@ use Rattle.sock_model.specs.declared.home.Home.{Home}
 use Rattle.sock_model.specs.declared.home.Home.TheVariants.{Link}
 use Rattle.sock_programs.specs.declared.task.Task.{Task}
 use Rattle.sock_programs.specs.declared.task.Sizes.{Sizes}
+use Rattle.sock_programs.specs.Asides.{id_first}
 use Rattle.sock_programs.specs.Heads.{Retry}
 use Rattle.sock_programs.specs.Programs.{Program, Say, Sent, Rest}
 use Rattle.sock_programs.specs.Readers.{reader}
@@ -26,7 +27,8 @@ use Rattle.sock_programs.specs.Scripts.{sizes_of, programs, readers_from, all_pr
 use Rattle.sock_runs.specs.Lasts.{Lasts, MOST_TICKS}
 use Rattle.sock_runs.specs.Sound.{IsAhead, Sound}
 use Rattle.client_laws.specs.Openings.{opening_views, all_seats}
-use Rattle.id_runs.proofs.Opening.{first_views}
+use Rattle.id_rule.specs.Lawful.{call_word}
+use Rattle.id_runs.proofs.Opening.{first_views, unused}
 use Rattle.id_runs.specs.Goes.{SoundIds}
 use Rattle.joint_runs.proofs.Starts.{AreFor, opens_both, opens_bounded}
 use Rattle.call_slots.specs.Slots.{SlotState, calls_with}
@@ -34,8 +36,8 @@ use Rattle.reader_seats.specs.Readers.{ReaderData, reader_program}
 use Rattle.sock_core.specs.declared.letter.Letter.{Letter}
 use Rattle.client_seats.specs.Seats.{SeatData, seat_program}
 use Rattle.sock_core.specs.Beginnings.{AreBegun, AreReading, said_first}
-use Rattle.sock_core.specs.Links.{LinksData, Taken, Given, Agrees, AgreesGave, IsPaced, holder_of, link_home, homes_of, letter_home}
-use Rattle.sock_core.specs.Machines.{MachineState, IsMachine, IsSoundMachine, HasSizes, ArePaced, READERS, between, resting, clients_with, readers_with, seats_with, waiting_of, given_by, machine_sizes, core_with}
+use Rattle.sock_core.specs.Links.{LinksData, Taken, Given, Agrees, AgreesGave, ClosedAreDone, IsPaced, holder_of, link_home, homes_of, letter_home}
+use Rattle.sock_core.specs.Machines.{MachineState, IsMachine, IsSoundMachine, HasSizes, ArePaced, AreCalled, READERS, between, resting, clients_with, readers_with, seats_with, waiting_of, given_by, machine_sizes, core_with}
 use Rattle.sock_core.proofs.Hands.{HasNone, hand_none}
 use Rattle.sock_core.proofs.Paces.{calm_paced, client_calm}
 use Rattle.sock_core.proofs.Seatings.{core_is}
@@ -225,12 +227,19 @@ module _ (p : Plan) (q : IdPlan) (clients : List (List Task)) (m : MachineState)
     bounded = omega (arith, within, few);
   }
 
+  -- no call has an id yet
+  begins_called : AreCalled m.ids
+  begins_called o inside = subst (λ n. id_first n < 67108864) (sym none_there) (omega arith)
+    where
+      none_there : slice_index m.ids.words (call_word m.ids.plan o) ≡ 0
+      none_there = ap (λ (ws : List ℕ). slice_index ws (call_word m.ids.plan o)) (ap (λ (a : Calls). a.words) (ids 0)) ∙ (unused q).rest (call_word m.ids.plan o) (let e = ap (λ (x : IdPlan). x.slots) id_plan in omega (arith, e))
+
   told_length : (os : List (Option Outcome)) (ps : List Program) → length (said_first os ps) ≡ length os
   told_length os [] = refl
   told_length os (x ∷ ps) = told_length (said (resolved [] x) os) ps ∙ length_said (resolved [] x) os
 
-  pub machine_begins : (room : ℕ) → Agrees m.links NOTHING → AgreesGave m.links NOTHING → length m.links.outs ≡ p.links → length m.links.inns ≡ p.links → length m.ends ≡ p.links → length m.opens ≡ p.links → length clients ≡ p.seats → p.operations ≤ room → IsMachine m room
-  machine_begins room agrees agrees_gave outs inns ends opens seats_many has_room =
+  pub machine_begins : (room : ℕ) → Agrees m.links NOTHING → AgreesGave m.links NOTHING → ClosedAreDone m.links → length m.links.outs ≡ p.links → length m.links.inns ≡ p.links → length m.ends ≡ p.links → length m.opens ≡ p.links → length clients ≡ p.seats → p.operations ≤ room → IsMachine m room
+  machine_begins room agrees agrees_gave closed outs inns ends opens seats_many has_room =
       let told = ap length outcomes ∙ told_length (replicate p.operations None) own_programs ∙ length-replicate p.operations None in
       let links_same : p.links ≡ m.plan.links = ap (λ (x : Plan). x.links) (sym plan) in record {
         sizes = ∣ record {
@@ -257,4 +266,6 @@ module _ (p : Plan) (q : IdPlan) (clients : List (List Task)) (m : MachineState)
         has_room = omega (arith, told, has_room);
         sound = λ _. ∣ begins_sound agrees agrees_gave ∣₁;
         paced = λ _. ∣ begins_paced ∣₁;
+        called = λ _. begins_called;
+        closed = λ _. record { done = closed; held = λ k j own past. absurd (none-some j (sym (nobody p m.links m.letters new k) ∙ own)) };
       }

@@ -4,7 +4,8 @@ use Rattle.std.specs.Io.KnownBytes.{append_known}
 use mathlib.Core.Option as core
 use lib.ListN.{get_elem?}
 use Rattle.brpc_model.specs.Link.{LinkEnd}
-use Rattle.sock_io.specs.Link.{InState}
+use Rattle.sock_io.specs.Link.{InState, more_told}
+use Rattle.whole_runs.specs.Heard.{answer_of}
 use Rattle.sock_programs.specs.Asides as asides
 use Rattle.sock_programs.specs.Asides.{Found, Taking, Bytes, Closed}
 use Rattle.sock_programs.specs.Beside.{found_in, at_last}
@@ -90,6 +91,7 @@ pub record TakenFrom (old fresh : TableState) (k room : ℕ) (taking : Taking) :
   pub ends_are : fresh.ends ≡ slice_set old.ends k behind
   pub same : SameLink before behind
   pub answers : behind.answers ≡ before.answers
+  pub takes : behind.takes ≡ more_told before.takes (answer_of taking)
   pub faults : behind.put_faults ≡ before.put_faults
   pub shows : ShowsTaking taking behind
   -- it answers that it is closed only where its other end closed its half, which comes only where its writing half is finished

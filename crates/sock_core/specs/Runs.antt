@@ -17,7 +17,7 @@ use Rattle.sock_programs.specs.Runs.{IsAtRest, LeadsUpTo, next_kind, from_to}
 use Rattle.sock_programs.specs.Scripts.{AreStill, is_ending}
 use Rattle.sock_io.specs.Link.{more_told}
 use Rattle.owed_calls.specs.Lives.{ClosesInTime}
-use Rattle.whole_runs.specs.Heard.{as_told, as_taken, heard_in, taken_in}
+use Rattle.whole_runs.specs.Heard.{as_told, as_taken, take_answers, heard_in, taken_in}
 use Rattle.sock_core.specs.declared.machine.On.{On}
 use Rattle.sock_core.specs.declared.machine.On.TheVariants as on
 use Rattle.sock_core.specs.declared.machine.Tick.{Tick}
@@ -51,6 +51,11 @@ ShowFaults m broken = (k : ℕ) (e : LinkEnd) → Contains broken k → slice_ge
 pub record LinksTell (old new : MachineState) (heard : ℕ → List Answer) : Type 0 where
   pub each : (k : ℕ) (a b : LinkEnd) → slice_get old.ends k ≡ Some a → slice_get new.ends k ≡ Some b → b.answers ≡ more_told a.answers (as_told (heard k))
   pub none_beyond : (k : ℕ) → length old.ends ≤ k → heard k ≡ []
+
+-- and so of what their reading halves answered
+pub record TakesTell (old new : MachineState) (taken : ℕ → List Answer) : Type 0 where
+  pub each : (k : ℕ) (a b : LinkEnd) → slice_get old.ends k ≡ Some a → slice_get new.ends k ≡ Some b → b.takes ≡ more_told a.takes (take_answers (as_taken (taken k)))
+  pub none_beyond : (k : ℕ) → length old.ends ≤ k → taken k ≡ []
 
 -- a link that gave its end, was closed or failed shows it
 abbrev pub ShowsTaking : Taking → LinkEnd → Type 0
@@ -114,6 +119,7 @@ pub record Follows (old new : MachineState) (took : Taken) (gave : Given) (momen
   pub broken : ShowFaults new (broken_in old.plan (core_with old took gave) moments)
   pub told : LinksTell old new (heard_in old.plan (core_with old took gave) moments)
   pub taken : ShowTakings new (taken_in old.plan (core_with old took gave) moments)
+  pub takes : TakesTell old new (taken_in old.plan (core_with old took gave) moments)
 
 -- a tick of a seat
 pub record TickedWith (old new : MachineState) (seat : ℕ) (tick : Tick) (took : Taken) (gave : Given) : Type 0 where
@@ -217,6 +223,7 @@ pub record SettledWith (old new : MachineState) (took : Taken) (gave : Given) : 
   pub broken : ShowFaults new (broken_in old.plan (core_with old took gave) moments ++ broken_in old.plan ended final)
   pub told : LinksTell old new (λ k. heard_in old.plan (core_with old took gave) moments k ++ heard_in old.plan ended final k)
   pub taken : ShowTakings new (λ k. taken_in old.plan (core_with old took gave) moments k ++ taken_in old.plan ended final k)
+  pub takes : TakesTell old new (λ k. taken_in old.plan (core_with old took gave) moments k ++ taken_in old.plan ended final k)
 
 -- the ending goes over nothing more, and the run is ending
 pub record Settled (old new : MachineState) : Type 0 where

@@ -55,6 +55,7 @@ pub record AskedAt (outs outs' : List OutState) (ends ends' : List LinkEnd) (k :
   pub faults : behind.put_faults ≡ out'.faults
   pub told_before : before.answers ≡ out.answers
   pub told : behind.answers ≡ out'.answers
+  pub takes : behind.takes ≡ before.takes
 
 -- what is left of a message behind a put, and how many bytes of it the link took
 abbrev pub left_behind : Put → List ℕ → List ℕ

@@ -30,3 +30,6 @@ returns-clause-core g c = core_made c.args.script.now c.in-Ok.wanted.plan c.in-O
 
 pub returns-clause-outs : goal.returns-clause-outs
 returns-clause-outs g c all = c.run_first.ensures.ran.same.1.prompt (c.in_ok-machine.ensures.outs all)
+
+pub returns-clause-tell : goal.returns-clause-tell
+returns-clause-tell g c all = c.run_first.ensures.ran.same.1.tell (c.in_ok-machine.ensures.tell all)

@@ -6,7 +6,7 @@ use Rattle.client_seats.specs.Seats.{seat_data}
 use Rattle.sock_core.specs.Links.{LinksData}
 use Rattle.sock_core.specs.Machines.{MachineState}
 use Rattle.sock_core.proofs.Starting.{begins_core, machine_begins}
-use Rattle.sock_core.proofs.Making.{all_open, nothing_taken, nothing_given, all_prompt, parts_new, begins_plain}
+use Rattle.sock_core.proofs.Making.{all_open, nothing_taken, nothing_given, none_closing, all_tell, all_prompt, parts_new, begins_plain}
 use Rattle.sock_core.proofs.machine.Machine.start.Goals as goal
 
 pub parts_of-requires : goal.parts_of-requires
@@ -41,6 +41,7 @@ invariant_of-result g c =
     let all : length c.args.ends.items ≡ c.args.plan.now.links = omega (arith, c.args.ends.ok, c.requires.links.0) in (
       machine_begins c.args.plan.now c.args.id_plan.now clients m c.requires.for_ refl ids new_ parts.words_are parts.seats_are parts.readers_are parts.ids_are refl parts.outcomes_are (vec_capacity c.in-Ok.parts.told)
           (nothing_taken (λ e. g.O.Out.state e.out) c.args.ends.items l refl c.requires.unused) (nothing_given (λ e. g.I.In.state e.inn) c.args.ends.items l refl c.requires.silent)
+          (none_closing (λ e. g.I.In.state e.inn) c.args.ends.items l refl c.requires.unclosed)
           (outs ∙ all) (inns ∙ all) (ends ∙ all) c.requires.links.1 (omega (arith, many, c.args.clients.ok, c.requires.seats)) c.in-Ok.ensures.told_room,
       c.in-Ok.ensures.told,
       c.in-Ok.ensures.places,
@@ -107,3 +108,8 @@ pub returns-clause-outs : goal.returns-clause-outs
 returns-clause-outs g c =
     let l : LinksData = record { holders = c.in-Ok.parts.holders.items; nexts = c.in-Ok.parts.nexts.items; outs = map (λ e. g.O.Out.state e.out) c.args.ends.items; inns = map (λ e. g.I.In.state e.inn) c.args.ends.items } in
     all_prompt (λ e. g.O.Out.state e.out) c.args.ends.items l refl
+
+pub returns-clause-tell : goal.returns-clause-tell
+returns-clause-tell g c =
+    let l : LinksData = record { holders = c.in-Ok.parts.holders.items; nexts = c.in-Ok.parts.nexts.items; outs = map (λ e. g.O.Out.state e.out) c.args.ends.items; inns = map (λ e. g.I.In.state e.inn) c.args.ends.items } in
+    all_tell (λ e. g.I.In.state e.inn) c.args.ends.items l refl
