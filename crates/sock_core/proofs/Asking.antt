@@ -33,9 +33,9 @@ pub outs_set : {A : Type 0} (f : A → OutState) (items : List A) (j k : ℕ) (y
 outs_set f items j k y there = map-set f items j y ∙ ap (λ i. slice_set (map f items) i (f y)) there
 
 module _ {A : Type 0} (f : A → OutState) (e : A → LinkEnd) (items : List A) (j k : ℕ) (x y : A) (there : j ≡ k) (inside : k < length items) (is : x ≡ slice_index_or items j x) where
-  pub asked : (HasAnswered : OutState → OutState → Type 0) → HasAnswered (f (slice_index_or items j x)) (f y) → SameLink (e (slice_index_or items j x)) (e y) → (e y).put_faults ≡ (f y).faults → ((a : A) → (e a).answers ≡ (f a).answers) →
+  pub asked : (HasAnswered : OutState → OutState → Type 0) → HasAnswered (f (slice_index_or items j x)) (f y) → SameLink (e (slice_index_or items j x)) (e y) → (e y).put_faults ≡ (f y).faults → (e y).takes ≡ (e (slice_index_or items j x)).takes → ((a : A) → (e a).answers ≡ (f a).answers) →
       AskedAt (map f items) (map f (slice_set items j y)) (map e items) (map e (slice_set items j y)) k HasAnswered
-  asked HasAnswered h same faults told = record {
+  asked HasAnswered h same faults taken told = record {
     out = f (slice_index_or items j x);
     at = out_at f items j k x there inside is;
     out' = f y;
@@ -49,6 +49,7 @@ module _ {A : Type 0} (f : A → OutState) (e : A → LinkEnd) (items : List A) 
     faults = faults;
     told_before = told (slice_index_or items j x);
     told = told y;
+    takes = taken;
   }
 
 -- what lies at a place is known

@@ -36,3 +36,4 @@ pub mod TableReads
 pub mod TableTakes
 pub mod TableCuts
 pub mod TableGoes
+pub mod TableSeats

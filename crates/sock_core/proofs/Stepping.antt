@@ -194,7 +194,7 @@ behind_put a other others (points.Join o (joins.LoadCall t)) = tt
 behind_put a other others (points.Join o (joins.Wait id)) = tt
 
 pub message_put : (s sizes : Sizes) (seat : SeatData) (message' : Option ParcelData) (n : Next) (q : ℕ) (heading : Heading) (bytes : List ℕ) → s ≡ sizes → first_in (seat_program sizes seat) ≡ Some (OfCall (calls.PutMessage q heading bytes)) →
-    ((a : Around) → next_program a n ≡ after_word (point_program a seat.point) 0) → next_program (around s (record seat { message = message' })) n ≡ after_word (seat_program sizes seat) 0
+    next_program (around s (record seat { message = message' })) n ≡ after_word (point_program (around s (record seat { message = message' })) seat.point) 0 → next_program (around s (record seat { message = message' })) n ≡ after_word (seat_program sizes seat) 0
 message_put s sizes seat message' n q heading bytes e first h =
     let is : after_word (point_program (record (around sizes seat) { message = bytes_of message'; parts = parts_of message' }) seat.point) 0 ≡ after_word (seat_program sizes seat) 0 = subst (λ (o : Option First). BehindPut o (around sizes seat) (bytes_of message') (parts_of message') seat.point) first (behind_put (around sizes seat) (bytes_of message') (parts_of message') seat.point) in
-    h (around s (record seat { message = message' })) ∙ (rw e is)
+    h ∙ (rw e is)

@@ -1,15 +1,16 @@
 -- What a take makes of its link, as it would be given back.
-use Rattle.std.proofs.Common.{◌≡◌, ◌≢◌, refl, ℕ, ◌+◌, ◌<◌, ◌≤◌, ◌⊎◌, inl, inr, ⊎_elim, Bool, true, false, List, [], map, length, take, slice_set, slice_index_or, Option, Some, None, IfSome, option_map, ap, sym, ◌∙◌, subst, arith}
+use Rattle.std.proofs.Common.{◌≡◌, ◌≢◌, refl, ℕ, ◌+◌, ◌<◌, ◌≤◌, ◌⊎◌, inl, inr, ⊎_elim, Bool, true, false, List, [], ◌∷◌, map, length, take, slice_set, slice_index_or, Option, Some, None, IfSome, option_map, ap, sym, ◌∙◌, subst, arith}
 use Rattle.std.specs.Io.KnownBytes.{append_known}
 use Rattle.std.proofs.lemmas.List.{map-set, length-take}
 use Rattle.atomic_table.proofs.Lists.{at_map, at_index}
 use mathlib.Core.Option as core
 use lib.ListN.{get_elem?}
-use Rattle.brpc_model.specs.Link.{LinkEnd}
+use Rattle.brpc_model.specs.Link.{LinkEnd, TakeTook}
 use Rattle.sock_io.specs.declared.link.Take.{Take}
 use Rattle.sock_io.specs.declared.link.Take.TheVariants as takes
 use Rattle.sock_io.specs.Causes.{Rose}
-use Rattle.sock_io.specs.Link.{OutState, InState, TakeStep, SettleStep, given_of, end_of}
+use Rattle.sock_io.specs.Link.{OutState, InState, TakeStep, SettleStep, given_of, of_take, more_told, end_of}
+use Rattle.whole_runs.specs.Heard.{answer_of}
 use Rattle.sock_programs.specs.Asides.{Taking, Closed}
 use Rattle.sock_programs.specs.Ticks.{FitsTake}
 use Rattle.reader_seats.specs.GoesOn.{taking_of}
@@ -41,6 +42,13 @@ module _ (inn inn' : InState) (room : List ℕ) where
   fits_is takes.End step = tt
   fits_is takes.Closed step = tt
   fits_is takes.Failed step = tt
+
+  answer_is : (answer : Take) → TakeStep inn inn' room answer → of_take answer ∷ [] ≡ answer_of (taking_of room answer)
+  answer_is (takes.Took n) step = let all = length-take n room in let most = step.count in ap (λ m. TakeTook m ∷ []) (let e : n ≡ length (take n room) = omega (arith, all, most.1) in e)
+  answer_is takes.Empty step = refl
+  answer_is takes.End step = refl
+  answer_is takes.Closed step = refl
+  answer_is takes.Failed step = refl
 
   gave_end : (answer : Take) → TakeStep inn inn' room answer → inn.gave_end ≡ true → inn'.gave_end ≡ true
   gave_end (takes.Took n) step e = step.end.1 (λ x. cc) ∙ e
@@ -124,6 +132,7 @@ module _ {A : Type 0} (fo : A → OutState) (fi : A → InState) (old fresh : Ta
     ends_are = ends' ∙ set_by (λ (e : A). end_of (fo e) (fi e)) ∙ ap (λ (es : List LinkEnd). slice_set es k (end_of (fo y) (fi y))) (sym ends);
     same = same_taken (fo x) (fo y) (fi x) (fi mid) (fi y) room answer (same_out ∙ same_mid) settled taken;
     answers = ap (λ (o : OutState). o.answers) (same_out ∙ same_mid);
+    takes = taken.takes ∙ ap (more_told (fi mid).takes) (answer_is (fi mid) (fi y) room answer taken) ∙ ap (λ (i : InState). more_told i.takes (answer_of (taking_of room answer))) settled.same;
     faults = ap (λ (o : OutState). o.faults) (same_out ∙ same_mid);
     shows = shows_is (fi mid) (fi y) room (fo y) answer taken;
     closes = λ e none_. taken.only_closing (is_take (fi mid) (fi y) room answer e) (sym taken.closing ∙ none_);

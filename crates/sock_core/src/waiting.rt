@@ -50,13 +50,10 @@ pub fn awaited_by_reader(point: ReadPoint, found: u64) -> Option<On>
         ReadPoint::Open(_, operation) if found == 0 => Some(On::Open(operation)),
         ReadPoint::Lock(_, locker, LockStep::Read) => match locker.sought {
             Sought::Version(version)
-                if has_version(word, version) && word.state() != IdWord::OPEN =>
-            {
+                if has_version(word, version) && word.state() != IdWord::OPEN => {
                 Some(On::Id(u64::from(locker.slot) * 0x1_0000_0000 + u64::from(version)))
             }
-            Sought::First(first)
-                if is_awaited(first, word) && word.state() != IdWord::OPEN =>
-            {
+            Sought::First(first) if is_awaited(first, word) && word.state() != IdWord::OPEN => {
                 Some(On::Id(u64::from(locker.slot) * 0x1_0000_0000 + u64::from(first)))
             }
             _ => None,

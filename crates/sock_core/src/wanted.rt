@@ -3,8 +3,8 @@ ghost use Rattle.brpc_model.specs.Script.{script_of};
 ghost use Rattle.sock_programs.specs.Scripts.{all_tasks};
 ghost use Rattle.sock_programs.specs.Tasks.{plan_of, id_plan_of, opens, calls};
 
-use script_items::Script;
 use corr_core::Plan as IdPlan;
+use script_items::Script;
 use script_tasks::{BlockPool, NoMemory, calls_of, id_plan_of, opens_of, plan_of, tasks_of};
 use sock_programs::Task;
 use sock_words::Plan;

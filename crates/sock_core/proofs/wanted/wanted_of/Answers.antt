@@ -16,3 +16,9 @@ tasks_of-requires c = limits_of c.args.script.now _ c.lines-lines.ensures c.requ
 
 pub opens_of-requires : goal.opens_of-requires
 opens_of-requires c = limits_of c.args.script.now _ c.lines-lines.ensures c.requires
+
+pub id_plan_of-requires : goal.id_plan_of-requires
+id_plan_of-requires c = limits_of c.args.script.now _ c.lines-lines.ensures c.requires
+
+pub calls_of-requires : goal.calls_of-requires
+calls_of-requires c = limits_of c.args.script.now _ c.lines-lines.ensures c.requires
