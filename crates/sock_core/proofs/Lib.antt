@@ -37,3 +37,5 @@ pub mod TableTakes
 pub mod TableCuts
 pub mod TableGoes
 pub mod TableSeats
+pub mod TablePlaces
+pub mod TableTellings

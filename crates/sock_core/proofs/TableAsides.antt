@@ -128,7 +128,7 @@ behind_aside program step word e h = let x = step_is program (OfAside step) e in
 
 -- ## A call that is taken
 
-bare_call : (a : Around) (p : Point) → TakesCall p → IsBare (point_program a p)
+pub bare_call : (a : Around) (p : Point) → TakesCall p → IsBare (point_program a p)
 bare_call a (points.Decide c after (decides.Take w)) takes = tt
 bare_call a (points.Retry r (retries.TakeCall w)) takes = tt
 bare_call a _ takes = absurd takes

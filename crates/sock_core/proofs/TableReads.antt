@@ -99,7 +99,7 @@ few_room _ = omega arith
 
 -- ## Behind a call that was taken, and behind a take
 
-bare_call : (a : Around) (p : ReadPoint) → TakesCall p → IsBare (point_program a p)
+pub bare_call : (a : Around) (p : ReadPoint) → TakesCall p → IsBare (point_program a p)
 bare_call a (points.Answer b id answers.Take) takes = tt
 bare_call a (points.Fail l (lost.Take word)) takes = tt
 bare_call a _ takes = absurd takes
