@@ -31,7 +31,6 @@ pub mod Making
 pub mod TableRoom
 pub mod TableAsides
 pub mod TableFlat
-pub mod TableWaits
 pub mod TableReads
 pub mod TableTakes
 pub mod TableCuts
@@ -39,3 +38,4 @@ pub mod TableGoes
 pub mod TableSeats
 pub mod TablePlaces
 pub mod TableTellings
+pub mod PointFacts
