@@ -15,10 +15,14 @@ use Rattle.seat_points.specs.declared.point.Point.{Point}
 use Rattle.seat_points.specs.declared.point.Point.TheVariants as points
 use Rattle.seat_points.specs.Points.{Around, point_program, next_program, framed, IsCalling, HasInHand, IsWithin, IsWithinIds, MayFind, MayFindAside, HasLinkAt, TellsCodeAt, GoesByWord}
 use Rattle.seat_points.specs.Steps.{OfCall, first_in}
-use Rattle.client_seats.specs.Seats.{SeatData, around, seat_program}
+use Rattle.message_parts.specs.Frames.{ParcelData}
+use Rattle.client_seats.specs.declared.hand.InHand.{InHand}
+use Rattle.client_seats.specs.declared.seat.Seat.{Seat}
+use Rattle.client_seats.specs.Seats.{SeatData, seat_data, message_in, call_in, around, seat_program}
 use Rattle.client_seats.specs.Following.{FollowsOn, IsFlat}
 use Rattle.sock_core.specs.Machines.{TableState, table_sizes}
 use Rattle.sock_core.specs.Steps.{MayGoOn, MayStand, IsReady}
+use Rattle.sock_core.proofs.Stepping.{message_put}
 use Rattle.sock_core.proofs.TableFlat.{flat_behind}
 
 -- what a point wants of the rules to go on by a word
@@ -51,9 +55,9 @@ next_is {t} s seat n found calling sizes ready asks behind =
     ∙ behind (around (table_sizes t) seat) (sym sizes) (asks (table_sizes t)) ready.hand
 
 -- it keeps no retry where it stood before a step on a word
-pub flat_next : {t : TableState} (s : Sizes) (seat : SeatData) (n : Next) (call : calls.Call) (found : ℕ) (calling : Calling) → s ≡ table_sizes t → first_in (seat_program (table_sizes t) seat) ≡ Some (OfCall call) → HasInHand (around (table_sizes t) seat) seat.point →
+pub flat_next : (t : TableState) (s : Sizes) (seat : SeatData) (n : Next) (call : calls.Call) (found : ℕ) (calling : Calling) → s ≡ table_sizes t → first_in (seat_program (table_sizes t) seat) ≡ Some (OfCall call) → HasInHand (around (table_sizes t) seat) seat.point →
     ((sizes : Sizes) → IsCalling (around sizes seat) calling) → ((a : Around) → a.sizes ≡ s → IsCalling a calling → HasInHand a seat.point → next_program (framed seat.point a) n ≡ after_word (point_program a seat.point) found) → IsFlat n
-flat_next {t} s seat n call found calling sizes first hand asks behind = flat_behind (around (table_sizes t) seat) seat.point call found n calling first (asks (table_sizes t)) hand (λ a is. behind a (is ∙ sym sizes))
+flat_next t s seat n call found calling sizes first hand asks behind = flat_behind (around (table_sizes t) seat) seat.point call found n calling first (asks (table_sizes t)) hand (λ a is. behind a (is ∙ sym sizes))
 
 -- the outcomes as they lie in memory
 pub follows_as : {s : Sizes} {old new : SeatData} {p : Program} {a b c d : List (Option Outcome)} → a ≡ b → d ≡ c → FollowsOn s old new p a c → FollowsOn s old new p b d
@@ -74,3 +78,25 @@ put_stands a (points.Retry r (retries.PutCall w)) q heading bytes e b = cc
 put_stands a (points.Retry r (retries.Unlock w advance)) q heading bytes e b = cc
 put_stands a (points.Retry r retries.LoadName) q heading bytes e b = cc
 put_stands a _ q heading bytes e b = (tt, refl)
+
+-- the message went out of its hand, and its call stayed there
+pub hand_put : (place : Seat) (hand' : InHand) → call_in hand' ≡ call_in place.hand → seat_data (record place { hand = hand' }) ≡ record (seat_data place) { message = message_in hand' }
+hand_put place hand' e = λ k. record (seat_data place) { message = message_in hand'; call = e k }
+
+module _ (s sizes : Sizes) (seat mid : SeatData) (message' : Option ParcelData) (n : Next) (calling : Calling) (q : ℕ) (heading : Heading) (bytes : List ℕ) (same : s ≡ sizes) (is : mid ≡ record seat { message = message' }) (first : first_in (seat_program sizes seat) ≡ Some (OfCall (calls.PutMessage q heading bytes)))
+    (asks : (x : Sizes) → IsCalling (around x mid) calling) (behind : (a : Around) → a.sizes ≡ s → IsCalling a calling → HasInHand a seat.point → next_program (framed seat.point a) n ≡ after_word (point_program a seat.point) 0) where
+  stands : (b : Around) → HasInHand b seat.point × (framed seat.point b ≡ b)
+  stands b = put_stands (around sizes seat) seat.point q heading bytes first b
+
+  own_is : next_program (around s mid) n ≡ after_word (point_program (around s mid) seat.point) 0
+  own_is = ap (λ (x : Around). next_program x n) (sym (stands (around s mid)).1) ∙ behind (around s mid) refl (asks s) (stands (around s mid)).0
+
+  -- what follows it
+  pub put_next : next_program (around s mid) n ≡ after_word (seat_program sizes seat) 0
+  put_next = ap (λ (m : SeatData). next_program (around s m) n) is ∙ message_put s sizes seat message' n q heading bytes same first (subst (λ (m : SeatData). next_program (around s m) n ≡ after_word (point_program (around s m) seat.point) 0) is own_is)
+
+  seat_asks : (x : Sizes) → IsCalling (around x seat) calling
+  seat_asks x = let h = subst (λ (m : SeatData). IsCalling (around x m) calling) is (asks x) in record { operation = h.operation; name = h.name; range = h.range }
+
+  pub put_flat : IsFlat n
+  put_flat = flat_behind (around sizes seat) seat.point (calls.PutMessage q heading bytes) 0 n calling first (seat_asks sizes) (stands (around sizes seat)).0 (λ a e. behind a (e ∙ sym same))

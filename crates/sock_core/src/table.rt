@@ -1,4 +1,4 @@
-ghost use Rattle.std.specs.Prelude.{◌≡◌, ◌<◌, ◌⊎◌, ℕ, Bool, false, IfOk, OnOk, OnErr, IsOk};
+ghost use Rattle.std.specs.Prelude.{◌≡◌, ◌<◌, ◌⊎◌, ℕ, Bool, true, false, IfOk, OnOk, OnErr, IsOk};
 ghost use Rattle.sock_programs.specs.Cores.{word_of, found_at};
 ghost use Rattle.sock_programs.specs.Ticks.{Unasked, OfPut, OfReady};
 ghost use Rattle.seat_points.specs.Steps.{step_of};
@@ -26,6 +26,14 @@ use sock_programs::Sizes;
 use sock_words::{Outcome, Plan};
 use std::alloc::Global;
 use std::marker::Model;
+
+/// Whether there is room for one more life and one more retry, once it was asked for.
+pub fn has_room(place: &mut Seat) -> bool
+    ensures same { seat_data place.new ≡ seat_data place.old }
+    ensures room { result ≡ true → HasRoom place.new }
+{
+    place.held.reserve(1).is_ok() && place.waiting.reserve(1).is_ok()
+}
 
 /// The words, ids, messages and links on which the seats step, and the outcomes so far.
 #[derive(Drop)]
@@ -164,6 +172,9 @@ impl<O: Out, I: In, P: Peer> Table<O, I, P> {
         let Ok(next) = place.with_call(self.alloc, &mut self.pool, call) else {
             return Err(NoMemory);
         };
+        if !has_room(place) {
+            return Err(NoMemory);
+        }
         place.follow(self.sizes(), next, &mut self.outcomes);
         Ok(())
     }

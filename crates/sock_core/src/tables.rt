@@ -1,14 +1,14 @@
 ghost use Rattle.std.specs.Prelude.{◌≡◌, ◌+◌, ◌<◌, ℕ, true, Some, None, IfSome, IfNone, IfOk, OnOk, OnErr, length};
 ghost use Rattle.sock_core.specs.Machines.{MachineState, table_of};
 ghost use Rattle.client_seats.specs.Seats.{seat_data};
-ghost use Rattle.client_seats.specs.Following.{HasRoom, IsPrepared};
+ghost use Rattle.client_seats.specs.Following.{IsPrepared};
 ghost use Rattle.sock_core.specs.Steps.{IsSized, HasNoStep, NextIs, StepFits, PreparedAt, ReadyAt, StandsAt, MayStand};
 ghost use Rattle.sock_core.specs.Telling.{TickTold};
 ghost use Rattle.sock_core.specs.Reading.{NextReadIs, HasNoRead, ReadFits, TickRead, IsCutShort};
 ghost use Rattle.sock_core.specs.Driving.{BeganEnding, IsPlain, told_ending};
 
 use crate::machine::Tick;
-use crate::table::Table;
+use crate::table::{Table, has_room};
 use crate::waiting::stands;
 use client_seats::Seat;
 use reader_points::ReadStep;
@@ -68,14 +68,6 @@ fn is_prepared(place: &mut Seat, alloc: Global, pool: &mut BlockPool) -> bool
 {
     // Each word found fits, so each point stands.
     place.prepare(alloc, pool).is_ok() && stands(place.point)
-}
-
-/// Whether there is room for one more life and one more retry, once it was asked for.
-fn has_room(place: &mut Seat) -> bool
-    ensures same { seat_data place.new ≡ seat_data place.old }
-    ensures room { result ≡ true → HasRoom place.new }
-{
-    place.held.reserve(1).is_ok() && place.waiting.reserve(1).is_ok()
 }
 
 impl<O: Out, I: In, P: Peer> Tables<O, I, P> {
