@@ -1,5 +1,5 @@
 -- What a tick of a reader answers.
-use Rattle.std.proofs.Common.{◌≡◌, refl, ℕ, Bool, true, false, is_some, [], Option, Some, None, IfSome, ap, sym, ◌∙◌, subst}
+use Rattle.std.proofs.Common.{◌≡◌, refl, ℕ, Bool, true, false, is_some, [], Option, Some, None, IfSome, Result, Ok, Err, IfOk, ap, sym, ◌∙◌, subst}
 use mathlib.Core.Option as core
 use Rattle.sock_words.specs.declared.kind.Kind.{Kind}
 use Rattle.sock_words.specs.declared.kind.Kind.TheVariants.{R1}
@@ -8,13 +8,19 @@ use Rattle.sock_programs.specs.Asides.{Taking}
 use Rattle.sock_programs.specs.Beside.{found_in}
 use Rattle.sock_programs.specs.Calls as calls
 use Rattle.sock_programs.specs.Cores.{Core, word_of, found_at}
-use Rattle.sock_programs.specs.Programs.{Program, Write, Round}
+use Rattle.sock_programs.specs.Heads.{Posts, Unlocks, Decides, Locks, Joins, Opens, Reads, Discards}
+use Rattle.sock_programs.specs.Writings as heads
+use Rattle.sock_programs.specs.Programs.{Program, Do, Say, Sent, Rest, TakeMessage, TakeHome, PutHome, PutBytes, AskReady, Write, Aside, Round, Keep, Retries}
 use Rattle.sock_programs.specs.Ticks.{Unasked, OfTake, is_nothing}
 use Rattle.call_slots.specs.Steps.{word_found}
 use Rattle.seat_points.specs.Steps.{First, OfCall, OfAside, first_in, kind_of_first}
 use Rattle.reader_points.specs.declared.point.ReadPoint.{ReadPoint}
 use Rattle.reader_points.specs.declared.point.ReadPoint.TheVariants as points
 use Rattle.reader_points.specs.Points.{Around, point_program, TakesBytes}
+use Rattle.call_points.specs.declared.aside.Aside as code
+use Rattle.seat_points.specs.declared.point.Step.{Step}
+use Rattle.seat_points.specs.declared.point.Step.TheVariants as firsts
+use Rattle.client_seats.specs.Seats.{SeatData}
 use Rattle.sock_core.specs.declared.machine.On.{On}
 use Rattle.sock_core.specs.declared.machine.On.TheVariants as on
 use Rattle.sock_core.specs.declared.machine.Tick.{Tick}
@@ -22,7 +28,7 @@ use Rattle.sock_core.specs.declared.machine.Tick.TheVariants.{Moved, Waits}
 use Rattle.sock_core.specs.Machines.{TableState}
 use Rattle.sock_core.specs.Runs.{IsWaitingFor}
 use Rattle.sock_core.specs.Steps.{beside}
-use Rattle.sock_core.specs.Telling.{Tells, is_waiting, waits_by}
+use Rattle.sock_core.specs.Telling.{Tells, StepTold, is_waiting, waits_by}
 use Rattle.sock_core.proofs.FirstSteps.{IsBare}
 use Rattle.sock_core.proofs.Tellings.{kind_first, call_waits, aside_waits}
 use Rattle.sock_core.proofs.TableReads.{reads_bytes}
@@ -56,6 +62,51 @@ call_moves t program i kind next is bare = (kind_first program (OfAside (asides.
     still (Write w after) b = absurd b
     still (Round head next) b = absurd b
     still _ b = refl
+
+-- whoever puts a call home or takes it out moves
+abbrev pub MovesCall : asides.Step → Type 0
+MovesCall (asides.PutCall i asked) = Unit {0}
+MovesCall (asides.TakeCall i) = Unit {0}
+MovesCall other = ⊥
+
+abbrev MovesFirst : Option First → Type 0
+MovesFirst (Some (OfAside step)) = MovesCall step
+MovesFirst other = ⊥
+
+pub still_aside : (t : TableState) (program : Program) (step : asides.Step) → first_in program ≡ Some (OfAside step) → MovesCall step → is_waiting t Unasked program ≡ false
+still_aside t program step first h = still program (subst MovesFirst (sym first) h)
+  where
+    still : (x : Program) → MovesFirst (first_in x) → is_waiting t Unasked x ≡ false
+    still (Write (heads.Walks h top at after) then_) m = absurd m
+    still (Write (heads.Puts h now heading left taken asked) after) m = refl
+    still (Write (heads.Waits h now heading left taken) after) m = refl
+    still (Write (heads.Empties h) after) m = refl
+    still (Round (Locks i sought None) next) m = absurd m
+    still (Round (Locks i sought (Some w)) next) m = refl
+    still (Round (Joins id) next) m = absurd m
+    still (Round (Opens o) next) m = absurd m
+    still (Round (Posts id e w) next) m = refl
+    still (Round (Unlocks i w advance) next) m = refl
+    still (Round (Decides id asked w e) next) m = refl
+    still (Round (Reads r) next) m = refl
+    still (Round (Discards k total) next) m = refl
+    still (Do call next) m = refl
+    still (Say o outcome next) m = refl
+    still (Sent o next) m = refl
+    still Rest m = refl
+    still (TakeMessage q next) m = refl
+    still (TakeHome k next) m = refl
+    still (PutHome k n after) m = refl
+    still (PutBytes k asked bytes next) m = refl
+    still (AskReady k next) m = refl
+    still (Aside own next) m = refl
+    still (Keep r next) m = refl
+    still (Retries requests after) m = refl
+
+-- what a step aside tells, as one of the whole step
+pub told_aside : {old fresh : TableState} {seat seat' : SeatData} {step : Step} {s : code.Aside} {E : Type 0} (r : Result Tick E) → step ≡ firsts.Aside s → IfOk r (λ tick. (i : ℕ) → StepTold old fresh i seat seat' (firsts.Aside s) tick) → (i : ℕ) → IfOk r (λ tick. StepTold old fresh i seat seat' step tick)
+told_aside {old} {fresh} {seat} {seat'} {step} {s} (Ok tick) e h i = subst (λ (x : Step). StepTold old fresh i seat seat' x tick) (sym e) (h i)
+told_aside (Err x) e h i = tt
 
 -- ## A take
 

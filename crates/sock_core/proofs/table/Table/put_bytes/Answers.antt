@@ -26,7 +26,7 @@ returns-clause-ok g c seat_number asked =
     let seat = seat_data c.args.place.now in
     let sizes = c.sizes.ensures in
     let put = c.put_bytes-answer.result.0 in
-    let out = outgoing_of c.in-Some.out.now in
+    let out = outgoing_of c.in-Some.out in
     let is : seat.out ≡ Some out = ap (option_map outgoing_of) c.in-Some.is in
     let ends = written c.self.inside.ends.len c.put_bytes-answer.new.ends _ (omega (arith, c.self.inside.ends.ok)) in
     makes_along c.self.view_is (record {

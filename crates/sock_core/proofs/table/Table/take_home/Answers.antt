@@ -25,7 +25,7 @@ returns g c =
         record {
           words = refl;
           letters = refl;
-          links = links_are _ (written c.self.inside.holders.len c.take_home-places.new.holders _ (omega (arith, c.self.inside.holders.ok)) ∙ c.take_home-places.ensures.holders ∙ ap (λ hs. slice_set hs c.args.link (Some c.args.seat)) c.deref_mut.ensures.value) refl;
+          links = links_are _ _ (written c.self.inside.holders.len c.take_home-places.new.holders _ (omega (arith, c.self.inside.holders.ok)) ∙ c.take_home-places.ensures.holders ∙ ap (λ hs. slice_set hs c.args.link (Some c.args.seat)) c.deref_mut.ensures.value) refl;
           ids = refl;
           ends = refl;
           goes = goes (next_program (around c.sizes.result (seat_data c.args.place.now)) c.with_link-next.result) (record { plan = refl; id_plan = refl; calls = refl; ending = refl; inns = refl }) sizes
