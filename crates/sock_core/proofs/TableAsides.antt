@@ -150,7 +150,7 @@ behind_call a p i asked takes e = let x = step_is (point_program a p) (OfAside (
 
 abbrev AsideFacts : Step → Point → Type 0
 AsideFacts (asides.TakeCall i) p = TakesCall p
-AsideFacts (asides.TakeBytes k room) p = Unit {0}
+AsideFacts (asides.TakeBytes k room) p = ⊥
 AsideFacts other p = GoesByWord p
 
 abbrev Facts : Option First → Point → Type 0
@@ -258,6 +258,9 @@ goes_by_word a p step e h = by_word step p h (facts_at a p step e)
 
 pub takes_call : (a : Around) (p : Point) (i : ℕ) → first_in (point_program a p) ≡ Some (OfAside (asides.TakeCall i)) → TakesCall p
 takes_call a p i e = facts_at a p (asides.TakeCall i) e
+
+pub takes_none : (a : Around) (p : Point) (k n : ℕ) → first_in (point_program a p) ≡ Some (OfAside (asides.TakeBytes k n)) → ⊥
+takes_none a p k n e = facts_at a p (asides.TakeBytes k n) e
 
 -- ## The sizes of the table stay
 

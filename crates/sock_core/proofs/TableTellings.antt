@@ -104,9 +104,9 @@ still_aside t program step first h = still program (subst MovesFirst (sym first)
     still (Retries requests after) m = refl
 
 -- what a step aside tells, as one of the whole step
-pub told_aside : {old fresh : TableState} {seat seat' : SeatData} {step : Step} {s : code.Aside} {E : Type 0} (r : Result Tick E) → step ≡ firsts.Aside s → IfOk r (λ tick. (i : ℕ) → StepTold old fresh i seat seat' (firsts.Aside s) tick) → (i : ℕ) → IfOk r (λ tick. StepTold old fresh i seat seat' step tick)
-told_aside {old} {fresh} {seat} {seat'} {step} {s} (Ok tick) e h i = subst (λ (x : Step). StepTold old fresh i seat seat' x tick) (sym e) (h i)
-told_aside (Err x) e h i = tt
+pub told_aside : (old fresh : TableState) (seat seat' : SeatData) (step : Step) (s : code.Aside) {E : Type 0} (r : Result Tick E) → step ≡ firsts.Aside s → IfOk r (λ tick. (i : ℕ) → StepTold old fresh i seat seat' (firsts.Aside s) tick) → (i : ℕ) → IfOk r (λ tick. StepTold old fresh i seat seat' step tick)
+told_aside old fresh seat seat' step s (Ok tick) e h i = subst (λ (x : Step). StepTold old fresh i seat seat' x tick) (sym e) (h i)
+told_aside old fresh seat seat' step s (Err x) e h i = tt
 
 -- ## A take
 
