@@ -139,7 +139,7 @@ module _ (p : Plan) (q : IdPlan) (clients : List (List Task)) (numbered : AreNum
     -- the laws behind the tick, with the mark that is left once all is said
     pub record AfterTick : Type 0 where
       pub mark : Mark
-      pub kept : IsKept (mark_after p q clients step found m) mark
+      pub kept : IsKept p q clients (mark_after p q clients step found m) mark
       pub slots_law : SlotsLaw q w' (set ms j (mark_after p q clients step found m))
       pub births_law : BirthsLaw p q clients w'
       pub tasks_law : TasksLaw p q clients w' w'.core.outcomes w'.sayings (set ms j mark)

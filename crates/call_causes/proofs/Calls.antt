@@ -35,12 +35,12 @@ module _ (p : Plan) (q : IdPlan) (clients : List (List Task)) where
 
   -- ## What tasks done tell
 
-  told_at : (w : Scene) (c : ℕ) (ts : List Task) (t : Task) → AreTold p q clients w c ts → In t ts → (before : List Task) × ToldOf p q clients w c before t
+  pub told_at : (w : Scene) (c : ℕ) (ts : List Task) (t : Task) → AreTold p q clients w c ts → In t ts → (before : List Task) × ToldOf p q clients w c before t
   told_at w c [] t all there = absurd there
   told_at w c (u ∷ us) t all (inl same) = (us, subst (ToldOf p q clients w c us) (sym same) all.0)
   told_at w c (u ∷ us) t all (inr later) = told_at w c us t all.1 later
 
-  open_named : (w : Scene) (c : ℕ) (before : List Task) (n k : ℕ) (x : Outcome) → WhyOwn p q clients w c before (ops.Open n k) x → IsOpened x → Named p q clients w n
+  pub open_named : (w : Scene) (c : ℕ) (before : List Task) (n k : ℕ) (x : Outcome) → WhyOwn p q clients w c before (ops.Open n k) x → IsOpened x → Named p q clients w n
   open_named w c before n k (outcomes.Opened slot version l) why is = why
   open_named w c before n k _ why is = absurd is
 

@@ -20,8 +20,15 @@ pub mod Chains
 pub mod Errors
 pub mod TaskTicks
 pub mod TaskSteps
+pub mod Claiming
+pub mod Knowing
+pub mod SockWords
+pub mod Links
 pub mod AsideTicks
 pub mod SockTicks
+pub mod Kept
+pub mod Ticks
+pub mod Opening
 pub mod End
 pub mod Whys
 pub mod Shown

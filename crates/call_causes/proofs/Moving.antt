@@ -37,7 +37,7 @@ module _ (p : Plan) (q : IdPlan) (clients : List (List Task)) where
   error_code w id e (of_other x) = inr x
 
   -- for a seat that holds no id no slot was claimed
-  free_unclaimed : (s : Slot) (bs : List Birth) (todo : List Task) (t : Task) → IsVacant s → bs ≡ [] → In t todo → In t (unclaimed p q clients s bs todo)
+  pub free_unclaimed : (s : Slot) (bs : List Birth) (todo : List Task) (t : Task) → IsVacant s → bs ≡ [] → In t todo → In t (unclaimed p q clients s bs todo)
   free_unclaimed NoSlot bs todo t v is there = subst (λ xs. In t (ahead p q clients xs todo)) (sym is) there
   free_unclaimed (Leaves i) bs todo t v is there = subst (λ xs. In t (ahead p q clients xs todo)) (sym is) there
   free_unclaimed (Claims i c) bs todo t v is there = absurd v

@@ -133,7 +133,7 @@ module _ (p : Plan) (q : IdPlan) (clients : List (List Task)) (numbered : AreNum
     -- the laws behind the tick, with the mark that is left once all is said
     pub record AfterBeside : Type 0 where
       pub mark : Mark
-      pub kept : IsKept m mark
+      pub kept : IsKept p q clients m mark
       pub slots_law : SlotsLaw q w' ms
       pub births_law : BirthsLaw p q clients w'
       pub tasks_law : TasksLaw p q clients w' w'.core.outcomes w'.sayings (set ms j mark)

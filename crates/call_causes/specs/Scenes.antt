@@ -87,7 +87,7 @@ SeeksName n other = ⊥
 module _ (p : Plan) (q : IdPlan) (clients : List (List Task)) where
   -- the name had a socket
   abbrev pub Named : Scene → ℕ → Type 0
-  Named w n = slice_index w.core.words (name_word p n) ≢ 0
+  Named w n = (n < p.names) × (slice_index w.core.words (name_word p n) ≢ 0)
 
   -- the word of the call was stored
   abbrev pub Begun : Scene → ℕ → Type 0

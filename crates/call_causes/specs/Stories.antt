@@ -15,7 +15,7 @@ use Rattle.sock_programs.specs.declared.task.Task.{Task}
 use Rattle.sock_programs.specs.Asides.{Step, ClaimId, PutCall, MakeId, StoreCall, LoadCall, StoreAt, LoadIdWord, LockId, PostId, UnlockId, EndId, FreeId, TakeCall, TakeBytes, Found, call_id, id_slot, id_first}
 use Rattle.sock_programs.specs.Beside.{calls_after}
 use Rattle.sock_programs.specs.Posts.{advance_of}
-use Rattle.sock_programs.specs.Cores.{SeatState}
+use Rattle.sock_programs.specs.Cores.{Core, SeatState}
 use Rattle.call_causes.specs.Lists.{given}
 use Rattle.call_causes.specs.Scenes.{Birth, Claim, Saying, Scene, In, Said, IsBorn, IsOther, CauseOf, Begun, IsTaskOf, WhyEnded, AreTold, IsClaimed}
 use Rattle.call_causes.specs.Says.{Slot, NoSlot, Claims, Locked, Holds, Leaves, Mark, with_slot, with_owed, with_made, with_done, put_in, taken_out, given_more, SaysOn}
@@ -152,6 +152,7 @@ module _ (p : Plan) (q : IdPlan) (clients : List (List Task)) where
   pub record ReadsLaw (w : Scene) (ms : List Mark) : Type 0 where
     pub bytes : (j k : ℕ) (m : Mark) → At ms j m → m.link ≡ k ∷ [] → given w.core k ≡ m.bytes
     pub tied : (j k : ℕ) (m : Mark) → At ms j m → m.link ≡ k ∷ [] → j ≡ 32 + k
+    pub inside : (j k : ℕ) (m : Mark) → At ms j m → m.link ≡ k ∷ [] → k < length w.core.calls.gave
 
   -- ## What a step aside makes of them
 
@@ -245,3 +246,10 @@ module _ (p : Plan) (q : IdPlan) (clients : List (List Task)) where
     pub claims : ClaimsLaw w ms
     pub reads : ReadsLaw w ms
     pub seats : (j : ℕ) (seat : SeatState) (m : Mark) → get_elem? w.core.seats j ≡ core.some seat → At ms j m → SaysOn p q clients w m seat.program
+
+  -- the story of a core
+  pub record HasStory (c : Core) : Type 0 where
+    pub scene : Scene
+    pub marks : List Mark
+    pub is : scene.core ≡ c
+    pub story : CallStory scene marks
