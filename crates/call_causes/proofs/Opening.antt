@@ -70,12 +70,18 @@ none_said zero o x e = let z : None ≡ Some (Some x) = e in cc
 none_said (suc n) zero x e = let z : Some None ≡ Some (Some x) = e in cc
 none_said (suc n) (suc o) x e = none_said n o x e
 
-one_none : (n o : ℕ) → o < n → slice_get (replicate n (None {Outcome})) o ≡ Some None
+abbrev no_outcome : Option Outcome
+no_outcome = None
+
+abbrev no_bytes : List ℕ
+no_bytes = []
+
+one_none : (n o : ℕ) → o < n → slice_get (replicate n no_outcome) o ≡ Some None
 one_none zero o low = absurd (omega (arith, low))
 one_none (suc n) zero low = refl
 one_none (suc n) (suc o) low = one_none n o (omega (arith, low))
 
-none_given : (n k : ℕ) → get_or (replicate n ([] {ℕ})) k [] ≡ []
+none_given : (n k : ℕ) → get_or (replicate n no_bytes) k [] ≡ []
 none_given zero k = refl
 none_given (suc n) zero = refl
 none_given (suc n) (suc k) = none_given n k
@@ -204,7 +210,7 @@ module _ (p : Plan) (q : IdPlan) (clients : List (List Task)) (numbered : AreNum
       first_reads = record {
         bytes = λ j k m at own. none_given p.links k ∙ ap (λ (n : Mark). n.bytes) (at_first q.seats j m at).0;
         tied = tied;
-        inside = λ j k m at own. let low = (at_first q.seats j m at).1 in let is = tied j k m at own in let links = fit.links in omega (arith, low, is, links, seats, length-replicate p.links ([] {ℕ}));
+        inside = λ j k m at own. let low = (at_first q.seats j m at).1 in let is = tied j k m at own in let links = fit.links in omega (arith, low, is, links, seats, length-replicate p.links no_bytes);
       }
         where
           tied : (j k : ℕ) (m : Mark) → At (first_marks 0 q.seats) j m → m.link ≡ k ∷ [] → j ≡ 32 + k
