@@ -29,6 +29,8 @@ pub mod SockTicks
 pub mod Kept
 pub mod Ticks
 pub mod Opening
+pub mod Allowing
+pub mod Run
 pub mod End
 pub mod Whys
 pub mod Shown

@@ -111,7 +111,7 @@ module _ (p : Plan) (q : IdPlan) (clients : List (List Task)) (numbered : AreNum
       passed_on = λ c there over. on_passed c over;
     }
 
-    beside_tasks : TasksLaw p q clients w' w.core.outcomes w.sayings ms
+    pub beside_tasks : TasksLaw p q clients w' w.core.outcomes w.sayings ms
     beside_tasks = subst (TasksLaw p q clients w' w.core.outcomes w.sayings) (set_again ms j m at) (changed p q clients numbered w w' births w.core.outcomes w.sayings ms tasks j m at beside_later m unchanged)
 
     -- what is said in the tick

@@ -27,6 +27,7 @@ use Rattle.sock_programs.specs.Sends.{block}
 use Rattle.sock_programs.specs.Rounds.{round}
 use Rattle.sock_programs.specs.Cores.{Calls, Core, SeatState, word_of, found_at, words_after, word_after, homes_after, hand_after, lies_at, first_of, others_of, link_place, resolved, waiting_at, next_step, with_seat}
 use Rattle.sock_programs.specs.Beside.{found_in, calls_after}
+use Rattle.sock_programs.specs.Scripts.{is_ending}
 use Rattle.sock_programs.specs.Ticks.{Answer, Unasked, OfPut, OfReady, OfTake, Moment, fed, with_places, onto_first, taken, with_message, with_link, with_put, with_ready, with_found, step_with, tick_with, ticked}
 use Rattle.id_runs.specs.Held.{IdView, id_row}
 use Rattle.id_runs.specs.Goes.{FitsRetryId, FitsOwner, IdGoesOn, SoundIds, FitsFirst, IsFittingIds}
@@ -50,7 +51,7 @@ use Rattle.call_causes.proofs.SockWords.{IsInside, names_after, AreOther, codes_
 use Rattle.call_causes.proofs.Chains.{sayings_of, AreFewTries, KeepsFew, set_twice, said_first}
 use Rattle.call_causes.proofs.Kept.{kept_slots, kept_claims, kept_reads}
 use Rattle.call_causes.proofs.AsideTicks.{sayings_keep, is_later, AfterTick, aside_ticks}
-use Rattle.call_causes.proofs.SockTicks.{IsBeside, beside_later, beside_said, AfterBeside, beside_ticks}
+use Rattle.call_causes.proofs.SockTicks.{IsBeside, beside_later, beside_slots, beside_births, beside_tasks, beside_said, AfterBeside, beside_ticks}
 
 -- of two lists of one length each place of one is a place of the other
 pub other_there : {A B : Type 0} (l : List A) (m : List B) (i : ℕ) (a : A) → length m ≡ length l → get_elem? l i ≡ some a → (b : B) × (get_elem? m i ≡ some b)
@@ -171,8 +172,31 @@ module _ (p : Plan) (q : IdPlan) (clients : List (List Task)) (numbered : AreNum
           }
 
     -- where no word changes
-    on_homes : (x : Program) (hand : List Home) (hs : List (Option Home)) → KeepsFew x → ((v : Scene) → Later p q clients w v → SaidBy v x → SaysOn p q clients v m x) → HasStory p q clients (with_seat i x hand w.core.words hs w.core)
+    pub on_homes : (x : Program) (hand : List Home) (hs : List (Option Home)) → KeepsFew x → ((v : Scene) → Later p q clients w v → SaidBy v x → SaysOn p q clients v m x) → HasStory p q clients (with_seat i x hand w.core.words hs w.core)
     on_homes x hand hs keeps says = on_sockets x hand w.core.words hs (λ n low some_. some_) story.births.codes keeps (λ v _ l s. says v l s)
+
+    -- ## The run is ending
+
+    abbrev told_scene : Scene
+    told_scene = record { core = is_ending w.core; claims = w.claims; births = w.births; sayings = w.sayings }
+
+    pub told_story : HasStory p q clients (is_ending w.core)
+    told_story =
+        let b : IsBeside p q clients numbered w told_scene ms i m at story.slots story.births story.tasks room = record { words = refl; homes = refl; gave = refl; births_are = refl; claims_are = refl; named = λ n y. y; codes = story.births.codes } in
+        let l = beside_later p q clients numbered w told_scene ms i m at story.slots story.births story.tasks room b Rest [] tt tt refl refl in record {
+          scene = told_scene;
+          marks = ms;
+          is = refl;
+          story = record {
+            each = story.each;
+            slots = beside_slots p q clients numbered w told_scene ms i m at story.slots story.births story.tasks room b Rest [] tt tt refl refl;
+            births = beside_births p q clients numbered w told_scene ms i m at story.slots story.births story.tasks room b Rest [] tt tt refl refl;
+            tasks = beside_tasks p q clients numbered w told_scene ms i m at story.slots story.births story.tasks room b Rest [] tt tt refl refl;
+            claims = record { taken = story.claims.taken; calls = story.claims.calls; once = story.claims.once; free = story.claims.free };
+            reads = record { bytes = story.reads.bytes; tied = story.reads.tied; inside = story.reads.inside };
+            seats = λ k s n at_s at_n. says_on p q clients w told_scene l n s.program (story.seats k s n at_s at_n);
+          };
+        }
 
     -- ## What a step on the table of the sockets finds
 
