@@ -1,6 +1,8 @@
 -- The story of the calls goes on along the ticks of a whole run, up to its end.
-use Rattle.std.proofs.Common.{◌≡◌, ◌≢◌, ℕ, zero, suc, ◌+◌, ◌<◌, ◌≤◌, List, [], ◌∷◌, ◌++◌, length, replicate, refl, sym, ap, ◌∙◌, subst, arith}
-use mathlib.Core.Option.{Option, none, some, some-ne-none}
+use Rattle.std.proofs.Common.{◌≡◌, ◌≢◌, ℕ, zero, suc, ◌+◌, ◌<◌, ◌≤◌, List, [], ◌∷◌, ◌++◌, length, length-set, replicate, refl, sym, ap, ◌∙◌, subst, arith}
+use Rattle.std.proofs.lemmas.List.{length-map}
+use Rattle.std.specs.List.{AllByRecursion}
+use mathlib.Core.Option.{Option, none, some, some-injective, some-ne-none}
 use lib.ListN.{get_elem?}
 use Rattle.sock_words.specs.declared.plain.Plan.{Plan}
 use Rattle.sock_model.specs.declared.view.View.{View}
@@ -10,16 +12,18 @@ use Rattle.corr_core.specs.declared.marks.Plan.{Plan as IdPlan}
 use Rattle.sock_programs.specs.declared.task.Task.{Task}
 use Rattle.sock_programs.specs.Programs.{Program}
 use Rattle.sock_programs.specs.Clients.{ending_of}
-use Rattle.sock_programs.specs.Cores.{Core, SeatState, with_seat}
+use Rattle.sock_programs.specs.Cores.{Core, SeatState, resolved, waiting_at, next_step, with_seat}
 use Rattle.sock_programs.specs.Ticks.{Moment, quiet, ticked, run}
 use Rattle.sock_programs.specs.Runs.{IsAtRest}
 use Rattle.sock_programs.specs.Tasks.{opens, calls, plan_of, id_plan_of}
 use Rattle.sock_programs.specs.Scripts.{sizes_of, programs, readers_from, all_programs, all_tasks, opened, ending, set_up, played, is_ending, IsRunWithCalls}
 use Rattle.sock_runs.specs.Sound.{IsAhead, views_after, views_along}
-use Rattle.sock_runs.proofs.Along.{seat_rests, ticked_ahead, run_ahead, beginning_ahead}
+use Rattle.sock_runs.proofs.Along.{seat_ahead, seat_rests, ticked_ahead, run_ahead, beginning_ahead}
 use Rattle.sock_runs.proofs.Quiets.{ticked_rests, run_rests, run_seats}
 use Rattle.sock_runs.proofs.Whole.{views_played, views_closed}
-use Rattle.client_laws.proofs.Beginning as clients_begin
+use Rattle.client_laws.proofs.Lasting.{length_all}
+use Rattle.id_rule.specs.Lawful.{newcomer}
+use Rattle.id_runs.specs.Goes.{IdGoesOn}
 use Rattle.id_runs.proofs.Opening.{all_go}
 use Rattle.joint_runs.proofs.Both.{BothSound, AreBoth, behind_both}
 use Rattle.joint_runs.proofs.Runs.{AreMade, first_views, IsSoundRun, joint_runs}
@@ -86,3 +90,88 @@ module _ (p : Plan) (q : IdPlan) (clients : List (List Task)) (numbered : AreNum
           first_there : (l : List SeatState) → 0 < length l → (x : SeatState) × (get_elem? l 0 ≡ some x)
           first_there [] less = absurd (omega (arith, less))
           first_there (x ∷ xs) less = (x, refl)
+
+-- ## A whole run
+
+module _ (script : List Item) (made : AreMade script) (numbered : AreNumbered (plan_of script) (id_plan_of script) (all_tasks script)) (slots : HaveSlots (plan_of script) (id_plan_of script) (all_tasks script)) (fit : Begins (plan_of script) (id_plan_of script) (all_tasks script) numbered slots (opens script))
+    (turns : List Turn) (core : Core) (is : IsRunWithCalls script turns core) where
+  abbrev Tale : Core → Type 0
+  Tale c = HasStory (plan_of script) (id_plan_of script) (all_tasks script) c
+
+  abbrev small : (id_plan_of script).slots ≤ 65536
+  small = narrow (plan_of script) (id_plan_of script) (all_tasks script) (calls script) (opens script) made
+
+  sound_run : IsSoundRun script turns core is
+  sound_run = joint_runs script turns core is made
+
+  abbrev all : List Program
+  all = all_programs (programs (sizes_of (plan_of script) (id_plan_of script)) (all_tasks script)) (readers_from (calls script) 0 (opens script))
+
+  length_is : length (all_programs (programs (sizes_of (plan_of script) (id_plan_of script)) (all_tasks script)) (readers_from (calls script) 0 (opens script))) ≡ (id_plan_of script).seats
+  length_is = let seats = made.seats in omega (arith, seats, length_all (plan_of script) (id_plan_of script) (all_tasks script) (calls script) (opens script) made.few_clients)
+
+  few_tries : (i : ℕ) (x : Program) → get_elem? (all_programs (programs (sizes_of (plan_of script) (id_plan_of script)) (all_tasks script)) (readers_from (calls script) 0 (opens script))) i ≡ some x → KeepsFew x
+  few_tries i x at = keeps_few (plan_of script) (id_plan_of script) newcomer x (at_place (all_programs (programs (sizes_of (plan_of script) (id_plan_of script)) (all_tasks script)) (readers_from (calls script) 0 (opens script))) i (all_go (plan_of script) (id_plan_of script) small made.operations (all_tasks script) (calls script) (opens script) (let are = made.are in are.fit) made.calls_in made.slots) at)
+    where
+      at_place : (xs : List Program) (i : ℕ) → AllByRecursion (IdGoesOn (plan_of script) (id_plan_of script) newcomer) xs → get_elem? xs i ≡ some x → IdGoesOn (plan_of script) (id_plan_of script) newcomer x
+      at_place [] i go at = absurd (some-ne-none x (sym at))
+      at_place (y ∷ ys) zero go at = subst (IdGoesOn (plan_of script) (id_plan_of script) newcomer) (some-injective y x at) go.0
+      at_place (y ∷ ys) (suc i) go at = at_place ys i go.1 at
+
+  abbrev views_set_up : List View
+  views_set_up = views_along (plan_of script) (opened script) (first_views script) (replicate is.setup (quiet 0))
+
+  opened_ahead : IsAhead (opened script)
+  opened_ahead = beginning_ahead (plan_of script) (id_plan_of script) (all_programs (programs (sizes_of (plan_of script) (id_plan_of script)) (all_tasks script)) (readers_from (calls script) 0 (opens script)))
+
+  set_up_ahead : IsAhead (set_up script is.setup)
+  set_up_ahead = run_ahead (plan_of script) (opened script) (replicate is.setup (quiet 0)) opened_ahead
+
+  played_ahead : IsAhead (played script is.setup (is.scheduled ++ is.later))
+  played_ahead = run_ahead (plan_of script) (set_up script is.setup) (is.scheduled ++ is.later) set_up_ahead
+
+  ending_ahead : IsAhead (ending script (played script is.setup (is.scheduled ++ is.later)))
+  ending_ahead = let c = played script is.setup (is.scheduled ++ is.later) in seat_ahead c 0 (ending_of (opens script)) [] c.words c.homes played_ahead
+
+  ended_ahead : IsAhead is.ended
+  ended_ahead = subst IsAhead (sym is.is_ended) (run_ahead (plan_of script) (ending script (played script is.setup (is.scheduled ++ is.later))) (replicate is.last (quiet 0)) ending_ahead)
+
+  -- no seat has an outcome to say before its next step at the end
+  pub end_ahead : IsAhead core
+  end_ahead = subst IsAhead (sym is.is_end) (run_ahead (plan_of script) is.ended is.final ended_ahead)
+
+  many_played : length (played script is.setup (is.scheduled ++ is.later)).seats ≡ (id_plan_of script).seats
+  many_played = run_seats (plan_of script) (set_up script is.setup) (is.scheduled ++ is.later) ∙ (run_seats (plan_of script) (opened script) (replicate is.setup (quiet 0))
+      ∙ (length-map (all_programs (programs (sizes_of (plan_of script) (id_plan_of script)) (all_tasks script)) (readers_from (calls script) 0 (opens script))) (λ (program : Program). record { program = next_step (resolved [] program); hand = [] }) ∙ length_is))
+
+  many_closed : length (run (plan_of script) (ending script (played script is.setup (is.scheduled ++ is.later))) (replicate is.last (quiet 0))).seats ≡ (id_plan_of script).seats
+  many_closed = run_seats (plan_of script) (ending script (played script is.setup (is.scheduled ++ is.later))) (replicate is.last (quiet 0))
+      ∙ (length-set (played script is.setup (is.scheduled ++ is.later)).seats 0 (let c = played script is.setup (is.scheduled ++ is.later) in record { program = next_step (resolved (waiting_at c.calls.waiting 0) (ending_of (opens script))); hand = [] }) ∙ many_played)
+
+  pub many_seats : length core.seats ≡ (id_plan_of script).seats
+  many_seats = ap (λ (d : Core). length d.seats) is.is_end ∙ (run_seats (plan_of script) is.ended is.final ∙ (ap (λ (d : Core). length d.seats) is.is_ended ∙ many_closed))
+
+  first_tale : Tale (opened script)
+  first_tale = first_story (plan_of script) (id_plan_of script) (all_tasks script) numbered slots (calls script) (opens script) fit made.seats length_is few_tries
+
+  set_up_tale : Tale (set_up script is.setup)
+  set_up_tale = setup_story (plan_of script) (id_plan_of script) (all_tasks script) numbered slots small is.setup (opened script) (first_views script) (let s = sound_run in s.setup) first_tale
+
+  played_tale : Tale (played script is.setup (is.scheduled ++ is.later))
+  played_tale = played_story (plan_of script) (id_plan_of script) (all_tasks script) numbered slots small (is.scheduled ++ is.later) (set_up script is.setup) views_set_up (let s = sound_run in s.clients) set_up_ahead is.is_set_up set_up_tale
+
+  ending_tale : Tale (ending script (played script is.setup (is.scheduled ++ is.later)))
+  ending_tale = let s = sound_run in ending_story (plan_of script) (id_plan_of script) (all_tasks script) numbered slots small (opens script) (played script is.setup (is.scheduled ++ is.later)) (views_along (plan_of script) (set_up script is.setup) views_set_up (is.scheduled ++ is.later))
+      (behind_both (plan_of script) (id_plan_of script) (set_up script is.setup) views_set_up (is.scheduled ++ is.later) s.clients) (let seats = made.seats in omega (arith, many_played, seats)) played_ahead
+      (run_rests (plan_of script) (set_up script is.setup) (is.scheduled ++ is.later) 0 is.is_set_up) played_tale
+
+  closed_tale : Tale (run (plan_of script) (ending script (played script is.setup (is.scheduled ++ is.later))) (replicate is.last (quiet 0)))
+  closed_tale = setup_story (plan_of script) (id_plan_of script) (all_tasks script) numbered slots small is.last (ending script (played script is.setup (is.scheduled ++ is.later))) (views_played script turns core is (first_views script)) (let s = sound_run in s.closing) ending_tale
+
+  ended_tale : Tale is.ended
+  ended_tale = let s = sound_run in subst Tale (sym is.is_ended) (told_on (plan_of script) (id_plan_of script) (all_tasks script) numbered slots small (run (plan_of script) (ending script (played script is.setup (is.scheduled ++ is.later))) (replicate is.last (quiet 0))) (views_closed script turns core is (first_views script))
+      (behind_both (plan_of script) (id_plan_of script) (ending script (played script is.setup (is.scheduled ++ is.later))) (views_played script turns core is (first_views script)) (replicate is.last (quiet 0)) s.closing) (let seats = made.seats in omega (arith, many_closed, seats)) closed_tale)
+
+  -- at the end of a run its story is there
+  pub run_story : HasStory (plan_of script) (id_plan_of script) (all_tasks script) core
+  run_story = subst Tale (sym is.is_end) (played_story (plan_of script) (id_plan_of script) (all_tasks script) numbered slots small is.final is.ended (views_closed script turns core is (first_views script)) (let s = sound_run in s.final) ended_ahead is.is_over ended_tale)
