@@ -33,4 +33,6 @@ pub mod Allowing
 pub mod Run
 pub mod End
 pub mod Whys
+pub mod CallWhys
+pub mod Over
 pub mod Shown

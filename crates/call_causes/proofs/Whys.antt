@@ -21,7 +21,7 @@ abbrev pub AreAscending : List Task → Type 0
 AreAscending [] = Unit {0}
 AreAscending (t ∷ ts) = AllByRecursion (λ (u : Task). t.number < u.number) ts × AreAscending ts
 
-in_contains : {A : Type 0} (xs : List A) (x : A) → In x xs → Contains xs x
+pub in_contains : {A : Type 0} (xs : List A) (x : A) → In x xs → Contains xs x
 in_contains [] x there = absurd there
 in_contains (y ∷ ys) x (inl same) = (0, omega arith, sym same)
 in_contains (y ∷ ys) x (inr there) = let r = in_contains ys x there in (r.0 + 1, (let z = r.1 in omega (arith, z)), subst (λ n. Rattle.std.specs.Prelude.slice_index_or (y ∷ ys) n x ≡ x) (let z : Rattle.std.proofs.Common.suc r.0 ≡ r.0 + 1 = omega arith in z) r.2)
@@ -55,7 +55,7 @@ module _ (p : Plan) (q : IdPlan) (clients : List (List Task)) (ascending : (c : 
           (λ y. absurd (let z = in_all (λ (v : Task). u.number < v.number) rest order.0.0 d y in let k : u.number ≡ t.number = ap (λ (v : Task). v.number) (sym same) in omega (arith, z, k, low))) (all d is);
     }
 
-    is_done : (c : ℕ) (t : Task) → IsTask clients w.core.outcomes c t → IsDone c t
+    pub is_done : (c : ℕ) (t : Task) → IsTask clients w.core.outcomes c t → IsDone c t
     is_done c t is =
         let s = e.seated c is.0 is.1 in
         let n : Mark = s.0 in
@@ -84,7 +84,7 @@ module _ (p : Plan) (q : IdPlan) (clients : List (List Task)) (ascending : (c : 
 
       -- ## Causes
 
-      posted : (code : ℕ) → IsErrorCode code → IsPosted p clients w.core.outcomes fixed (given w.core) orders code
+      pub posted : (code : ℕ) → IsErrorCode code → IsPosted p clients w.core.outcomes fixed (given w.core) orders code
       posted code (inl is) = inl (in_contains (1008 ∷ 1009 ∷ 1014 ∷ 2002 ∷ 3001 ∷ []) code (inl is))
       posted code (inr (inl is)) = inl (in_contains (1008 ∷ 1009 ∷ 1014 ∷ 2002 ∷ 3001 ∷ []) code (inr (inl is)))
       posted code (inr (inr (inl is))) = inl (in_contains (1008 ∷ 1009 ∷ 1014 ∷ 2002 ∷ 3001 ∷ []) code (inr (inr (inl is))))
