@@ -35,4 +35,6 @@ pub mod End
 pub mod Whys
 pub mod CallWhys
 pub mod Over
+pub mod Scripts
+pub mod Whole
 pub mod Shown
