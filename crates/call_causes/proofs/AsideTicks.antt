@@ -10,8 +10,9 @@ use Rattle.sock_programs.specs.Heads.{Retry}
 use Rattle.sock_programs.specs.Asides.{Step, MakeId, ClaimId, PutCall, StoreCall, LoadCall, StoreAt, LoadAt, LoadIdWord, LockId, PostId, UnlockId, EndId, FreeId, TakeCall, TakeBytes, Found}
 use Rattle.sock_programs.specs.Programs.{Program, Say, Sent, Do, Rest, TakeMessage, TakeHome, PutHome, PutBytes, AskReady, Write, Aside, Round, Keep, Retries}
 use Rattle.sock_programs.specs.Cores.{resolved, said, next_step}
-use Rattle.call_causes.specs.Scenes.{Birth, Saying, Scene, In, IsOther, HasRoom, Later}
-use Rattle.call_causes.specs.Says.{Claims, Mark, SaidBy, MayAside, Moves, Shows, SaysOn}
+use Rattle.sock_words.specs.declared.outcome.Outcome.{Outcome}
+use Rattle.call_causes.specs.Scenes.{Birth, Saying, Scene, In, IsOver, IsOther, HasRoom, Later}
+use Rattle.call_causes.specs.Says.{Claims, Mark, IsNextSaid, SaidBy, MayAside, Moves, Shows, SaysOn}
 use Rattle.call_causes.specs.Stories.{At, word_at, SlotFits, SlotsLaw, BirthsLaw, TasksLaw, ClaimsLaw, ReadsLaw, IsBehind, KnowsStep, mark_after}
 use Rattle.call_causes.proofs.Births.{IsMake}
 use Rattle.call_causes.proofs.BirthTicks as birth_ticks
@@ -42,23 +43,47 @@ sayings_keep (Round head next) ss s there = there
 sayings_keep (Keep r next) ss s there = there
 sayings_keep (Retries n after) ss s there = there
 
+pub overs_keep : (x : Program) (ss : List Saying) (a b : Saying) → IsOver a b ss → IsOver a b (sayings_of x ss)
+overs_keep (Say o outcome next) ss a b there = overs_keep next ((record { number = o; outcome = outcome }) ∷ ss) a b (inr there)
+overs_keep (Sent o next) ss a b there = overs_keep next ss a b there
+overs_keep (Do call next) ss a b there = there
+overs_keep Rest ss a b there = there
+overs_keep (TakeMessage r next) ss a b there = there
+overs_keep (TakeHome k next) ss a b there = there
+overs_keep (PutHome k n after) ss a b there = there
+overs_keep (PutBytes k asked bytes next) ss a b there = there
+overs_keep (AskReady k next) ss a b there = there
+overs_keep (Write v after) ss a b there = there
+overs_keep (Aside step next) ss a b there = there
+overs_keep (Round head next) ss a b there = there
+overs_keep (Keep r next) ss a b there = there
+overs_keep (Retries n after) ss a b there = there
+
+-- what is said next is said directly behind this
+next_over : (w : Scene) (o : ℕ) (outcome : Outcome) (x : Program) (ss : List Saying) → ((a b : Saying) → IsOver a b (sayings_of x ((record { number = o; outcome = outcome }) ∷ ss)) → IsOver a b w.sayings) → IsNextSaid w o outcome x
+next_over w o outcome (Say t y next) ss all = all (record { number = t; outcome = y }) (record { number = o; outcome = outcome }) (overs_keep next ((record { number = t; outcome = y }) ∷ (record { number = o; outcome = outcome }) ∷ ss) (record { number = t; outcome = y }) (record { number = o; outcome = outcome }) (inl (refl, refl)))
+next_over w o outcome _ ss all = tt
+
 -- what a program that is resolved says is among the sayings with its own
-pub said_all : (w : Scene) (x : Program) (ws : List Retry) (ss : List Saying) → ((s : Saying) → In s (sayings_of (resolved ws x) ss) → In s w.sayings) → SaidBy w (resolved ws x)
-said_all w (Say o outcome next) ws ss all = (all (record { number = o; outcome = outcome }) (sayings_keep (resolved ws next) ((record { number = o; outcome = outcome }) ∷ ss) (record { number = o; outcome = outcome }) (inl refl)), said_all w next ws ((record { number = o; outcome = outcome }) ∷ ss) all)
-said_all w (Sent o next) ws ss all = said_all w next ws ss all
-said_all w (Keep r next) ws ss all = said_all w next (ws ++ r ∷ []) ss all
-said_all w (Retries n after) [] ss all = said_all w after [] ss all
-said_all w (Retries n after) (r ∷ ws) ss all = tt
-said_all w (Do call next) ws ss all = tt
-said_all w Rest ws ss all = tt
-said_all w (TakeMessage r next) ws ss all = tt
-said_all w (TakeHome k next) ws ss all = tt
-said_all w (PutHome k n after) ws ss all = tt
-said_all w (PutBytes k asked bytes next) ws ss all = tt
-said_all w (AskReady k next) ws ss all = tt
-said_all w (Write v after) ws ss all = tt
-said_all w (Aside step next) ws ss all = tt
-said_all w (Round head next) ws ss all = tt
+pub said_all : (w : Scene) (x : Program) (ws : List Retry) (ss : List Saying) → ((s : Saying) → In s (sayings_of (resolved ws x) ss) → In s w.sayings) → ((a b : Saying) → IsOver a b (sayings_of (resolved ws x) ss) → IsOver a b w.sayings) → SaidBy w (resolved ws x)
+said_all w (Say o outcome next) ws ss all overs = (
+  (all (record { number = o; outcome = outcome }) (sayings_keep (resolved ws next) ((record { number = o; outcome = outcome }) ∷ ss) (record { number = o; outcome = outcome }) (inl refl)), next_over w o outcome (resolved ws next) ss overs),
+  said_all w next ws ((record { number = o; outcome = outcome }) ∷ ss) all overs,
+)
+said_all w (Sent o next) ws ss all overs = said_all w next ws ss all overs
+said_all w (Keep r next) ws ss all overs = said_all w next (ws ++ r ∷ []) ss all overs
+said_all w (Retries n after) [] ss all overs = said_all w after [] ss all overs
+said_all w (Retries n after) (r ∷ ws) ss all overs = tt
+said_all w (Do call next) ws ss all overs = tt
+said_all w Rest ws ss all overs = tt
+said_all w (TakeMessage r next) ws ss all overs = tt
+said_all w (TakeHome k next) ws ss all overs = tt
+said_all w (PutHome k n after) ws ss all overs = tt
+said_all w (PutBytes k asked bytes next) ws ss all overs = tt
+said_all w (AskReady k next) ws ss all overs = tt
+said_all w (Write v after) ws ss all overs = tt
+said_all w (Aside step next) ws ss all overs = tt
+said_all w (Round head next) ws ss all overs = tt
 
 module _ (p : Plan) (q : IdPlan) (clients : List (List Task)) (numbered : AreNumbered p q clients) (w w' : Scene) (ms : List Mark) (j : ℕ) (m : Mark) (at : At ms j m) (plan : w.core.calls.plan ≡ q) (sized : length w.core.calls.words ≡ all_words q) (low : (k : ℕ) → k < q.slots → (word_at w k).first ≤ 67108856)
     (slots : SlotsLaw q w ms) (births : BirthsLaw p q clients w) (tasks : TasksLaw p q clients w w.core.outcomes w.sayings ms) (claims : ClaimsLaw p q clients w ms) (reads : ReadsLaw p q clients w ms)
@@ -118,12 +143,13 @@ module _ (p : Plan) (q : IdPlan) (clients : List (List Task)) (numbered : AreNum
     moved = mark_after p q clients step found m
 
     all_said : SaidBy w' (resolved ws (next found))
-    all_said = said_all w' (next found) ws w.sayings (λ s there. subst (In s) (sym sayings) there)
+    all_said = said_all w' (next found) ws w.sayings (λ s there. subst (In s) (sym sayings) there) (λ a b there. subst (IsOver a b) (sym sayings) there)
 
     -- the scene is as late as itself
     here : Later p q clients w' w'
     here = record {
       said = λ o x s. s;
+      over = λ a b s. s;
       named = λ n s. s;
       begun = λ o s. s;
       born = λ id asked s. s;

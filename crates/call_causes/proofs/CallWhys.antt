@@ -76,7 +76,7 @@ module _ (p : Plan) (q : IdPlan) (clients : List (List Task)) (ascending : (c : 
   why_call c t asked x is op has = let d = is_done p q clients ascending w ms e c t is in by_told d d.told
     where
       by_told : (d : IsDone p q clients ascending w ms e c t) → ToldOf p q clients w c d.before t → WhyCallInPart p clients w.core.outcomes fixed (given w.core) orders c t.number asked x
-      by_told d (was_said y s why) = own_by c t d asked x (subst (λ o. WhyOwn p q clients w c d.before o x) op (subst (WhyOwn p q clients w c d.before t.op) (one_outcome p q clients w ms e t.number y x (e.tasks.said t.number y s) has) why))
+      by_told d (was_said y s why just) = own_by c t d asked x (subst (λ o. WhyOwn p q clients w c d.before o x) op (subst (WhyOwn p q clients w c d.before t.op) (one_outcome p q clients w ms e t.number y x (e.tasks.said t.number y s) has) why))
       by_told d (was_sent n bytes sent named) = absurd (let z : ops.Send n bytes ≡ ops.Call asked = sym sent ∙ op in cc)
       by_told d (was_begun id a call own born begun named) = ⊎_elim
           (λ z. own_call z.0 z.1)

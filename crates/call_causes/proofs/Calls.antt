@@ -17,7 +17,7 @@ use Rattle.sock_programs.specs.Programs.{Program, Say, Aside, Round}
 use Rattle.sock_programs.specs.Posts.{post, post_with, posted, decide, decided}
 use Rattle.sock_programs.specs.Attempts.{attempt, begin_call, claim_id, call, tried_again, retry_locked, retry, expire_outcome, expire, join}
 use Rattle.id_runs.proofs.Loops.{not_equal}
-use Rattle.call_causes.specs.Scenes.{Birth, Scene, In, Said, IsBorn, IsOpened, SeeksName, IsClaimed, CauseOf, of_expiry, by_expiry, Named, Begun, IsTaskOf, HasNoneOf, NoneFound, HasBegunIn, HasNotBegunIn, WhyOwn, ToldOf, was_said, was_sent, was_begun, AreTold}
+use Rattle.call_causes.specs.Scenes.{Birth, Scene, In, Said, IsOver, IsBorn, IsOpened, SeeksName, IsClaimed, CauseOf, of_expiry, by_expiry, Named, Begun, IsTaskOf, HasNoneOf, NoneFound, HasBegunIn, HasNotBegunIn, WhyOwn, IsJust, ToldOf, was_said, was_sent, was_begun, AreTold}
 use Rattle.call_causes.specs.Says.{NoSlot, Claims, Locked, Mark, with_slot, with_owed, with_made, with_done, IsFree, put_in, SaidBy, NoneOfSetup, Again, LeavesUnlock, LeavesLock, SaysOn}
 use Rattle.call_causes.proofs.Lasting.{far, own_on}
 use Rattle.call_causes.proofs.Posts.{After, Follows, way, again_same, follows_on, id_back, failed_of, Exits, Decided, decide_says, decided_says, post_with_says, post_says}
@@ -59,7 +59,7 @@ module _ (p : Plan) (q : IdPlan) (clients : List (List Task)) where
   seeks_unopened w c before n (ops.Drop a) x none_ why s = absurd s
 
   own_none : (w : Scene) (c : ℕ) (before : List Task) (t : Task) (n : ℕ) → (Named p q clients w n → ⊥) → ToldOf p q clients w c before t → HasNoneOf p q clients w n t × (SeeksName n t.op → Said w t.number outcomes.Unopened)
-  own_none w c before t n none_ (was_said x s why) = (
+  own_none w c before t n none_ (was_said x s why just) = (
     (λ k op. (x, s, λ opened. none_ (open_named w c before n k x (subst (λ o. WhyOwn p q clients w c before o x) op why) opened))),
     (λ seeks. subst (Said w t.number) (seeks_unopened w c before n t.op x none_ why seeks) s),
   )
@@ -90,7 +90,7 @@ module _ (p : Plan) (q : IdPlan) (clients : List (List Task)) where
   not_begun w m o targets mine none_ told = λ task there same. let a = targets m.client task (mine task there) same in let x = told_at w m.client m.done task told there in by_told task same a.0 a.1 x.0 x.1
     where
       by_told : (task : Task) → task.number ≡ o → (asked : Asked) → task.op ≡ ops.Call asked → (before : List Task) → ToldOf p q clients w m.client before task → Said w o outcomes.Unopened
-      by_told task same asked op before (was_said x s why) = subst (λ y. Said w o y) (call_unopened w m.client before asked x (subst (λ z. WhyOwn p q clients w m.client before z x) op why)) (subst (λ n. Said w n x) same s)
+      by_told task same asked op before (was_said x s why just) = subst (λ y. Said w o y) (call_unopened w m.client before asked x (subst (λ z. WhyOwn p q clients w m.client before z x) op why)) (subst (λ n. Said w n x) same s)
       by_told task same asked op before (was_sent n bytes is named) = absurd (let z : ops.Send n bytes ≡ ops.Call asked = sym is ∙ op in cc)
       by_told task same asked op before (was_begun id asked' is own born begun named) = absurd (none_ (subst (Begun p q clients w) same begun))
 
@@ -103,8 +103,8 @@ module _ (p : Plan) (q : IdPlan) (clients : List (List Task)) where
     pub mine : (u : Task) → In u m.done → IsTaskOf p q clients m.client u
 
   pub own_at : (w : Scene) (m : Mark) (t : Task) (ts : List Task) (x : Outcome) (next : Program) → m.todo ≡ t ∷ ts → IsFree m → Ends w (with_done t ts m) next
-      → (v : Scene) (m' : Mark) → Later' w v → SaidBy v next → Again p q clients m m' → WhyOwn p q clients v m.client m.done t.op x → Tells v m' (Say t.number x next)
-  own_at w m t ts x next todo free goes v m' l s a why = subst (λ y. Tells v y (Say t.number x next)) (sym a.is) (inl (t, ts, todo, refl, (a.vacant, free.1, free.2), why, goes v (with_done t ts (with_slot a.slot m)) l s (record { slot = a.slot; vacant = a.vacant; is = refl })))
+      → (v : Scene) (m' : Mark) → Later' w v → SaidBy v next → Again p q clients m m' → WhyOwn p q clients v m.client m.done t.op x → IsJust p q clients v t.number t.op x → Tells v m' (Say t.number x next)
+  own_at w m t ts x next todo free goes v m' l s a why just = subst (λ y. Tells v y (Say t.number x next)) (sym a.is) (inl (t, ts, todo, refl, (a.vacant, free.1, free.2), (why, just), goes v (with_done t ts (with_slot a.slot m)) l s (record { slot = a.slot; vacant = a.vacant; is = refl })))
 
   -- ## Calls
 
@@ -161,7 +161,7 @@ module _ (p : Plan) (q : IdPlan) (clients : List (List Task)) where
     λ word v l s f. way p q clients v m (eqb word 0) (Say asked.operation outcomes.Unopened next) (claim_id q.slots 0 requests (word - 1) asked next) s
         (λ none_ s'. let y = f.0 (eqb-true word 0 none_) in
         subst (λ o. Tells v m (Say o outcomes.Unopened next)) own (own_at w m t ts outcomes.Unopened next has.todo free goes v m l s'.1 (again_same p q clients m m free refl)
-        (subst (λ o. WhyOwn p q clients v m.client m.done o outcomes.Unopened) (sym op) (none_found v m (name_of asked 0) y.0 (y.1 other) y.2))))
+        (subst (λ o. WhyOwn p q clients v m.client m.done o outcomes.Unopened) (sym op) (none_found v m (name_of asked 0) y.0 (y.1 other) y.2)) tt))
         (λ some_ s'. claim_says w m requests (word - 1) asked t ts next has free op own goes q.slots 0 (omega arith) v l (f.1 (not_equal word 0 some_)) (λ j low. absurd (omega (arith, low))) s'),
   )
 
@@ -219,13 +219,13 @@ module _ (p : Plan) (q : IdPlan) (clients : List (List Task)) where
           tt,
           subst (λ x. Tells v x (cond (eqb id 0) (Say u.number outcomes.NotBegun next) (post_with id (error_of 1008 7) (k id)))) (sym mv.0) (way p q clients v m (eqb id 0) (Say u.number outcomes.NotBegun next) (post_with id (error_of 1008 7) (k id)) s
               (λ none_ s'. let y = mv.2 (eqb-true id 0 none_) in
-              own_at w m u ts outcomes.NotBegun next has.todo free goes v m l s'.1 (again_same p q clients m m free refl) (subst (λ o. WhyOwn p q clients v m.client m.done o outcomes.NotBegun) (sym op) (not_begun v m t targets has.mine y.0 y.1)))
+              own_at w m u ts outcomes.NotBegun next has.todo free goes v m l s'.1 (again_same p q clients m m free refl) (subst (λ o. WhyOwn p q clients v m.client m.done o outcomes.NotBegun) (sym op) (not_begun v m t targets has.mine y.0 y.1)) tt)
               (λ some_ _. let y = mv.1 (not_equal id 0 some_) in post_with_says p q clients v m id (error_of 1008 7) (k id) free (exits id v l y.0 y.1.0 y.1.1 y.1.2))),
         ),
       )
     where
-      says : (x : Outcome) (v : Scene) (m' : Mark) → Later' w v → SaidBy v next → Again p q clients m m' → WhyOwn p q clients v m.client m.done (ops.Expire t) x → Tells v m' (Say u.number x next)
-      says x v m' l s a why = own_at w m u ts x next has.todo free goes v m' l s a (subst (λ o. WhyOwn p q clients v m.client m.done o x) (sym op) why)
+      says : (x : Outcome) (v : Scene) (m' : Mark) → Later' w v → SaidBy v next → Again p q clients m m' → WhyOwn p q clients v m.client m.done (ops.Expire t) x → IsJust p q clients v u.number u.op x → Tells v m' (Say u.number x next)
+      says x v m' l s a why just = own_at w m u ts x next has.todo free goes v m' l s a (subst (λ o. WhyOwn p q clients v m.client m.done o x) (sym op) why) just
 
       names : (asked : Asked) → asked.operation ≡ t → u.op ≡ ops.Expire asked.operation
       names asked same = op ∙ ap ops.Expire (sym same)
@@ -243,19 +243,20 @@ module _ (p : Plan) (q : IdPlan) (clients : List (List Task)) where
             ap (λ (x : Mark). x.owes) lv.3,
             lv.6,
             lv.5,
-            (sym lv.4, by_expiry code (m.client, u, has.is, names lv.0.asked (ap (λ (a : Asked). a.operation) (sym one) ∙ same), inl s.1.0)),
+            (sym lv.4, by_expiry code (m.client, u, has.is, names lv.0.asked (ap (λ (a : Asked). a.operation) (sym one) ∙ same), inl s.1.0.0)),
             says outcomes.Expired v2 (with_owed [] m2) (far p q clients w v v2 l l2) s.1.1 (record { slot = lv.1; vacant = lv.2; is = ap (with_owed []) lv.3 ∙ ap (λ bs. with_owed bs (with_slot lv.1 m)) (sym free.1) })
-                (id, subst (λ n. Said v2 n (outcomes.CallFailed id 1008)) number (subst (λ n. Said v2 o (outcomes.CallFailed id n)) code s.0)),
+                (id, subst (λ n. Said v2 n (outcomes.CallFailed id 1008)) number (subst (λ n. Said v2 o (outcomes.CallFailed id n)) code s.0.0))
+                (t, id, op, subst (λ n. IsOver (record { number = u.number; outcome = outcomes.Expired }) (record { number = n; outcome = outcomes.CallFailed id 1008 }) v2.sayings) number (subst (λ n. IsOver (record { number = u.number; outcome = outcomes.Expired }) (record { number = o; outcome = outcomes.CallFailed id n }) v2.sayings) code s.0.1)),
           )
       expired id range v l asked there same GoesOn v2 m2 l2 s lv = absurd (lv.1 refl)
 
       exits : (id : ℕ) (v : Scene) → Later' w v → HasBegunIn p q clients v m.client m.done t → (asked : Asked) → IsBorn v id asked → asked.operation ≡ t → Exits p q clients v m id (error_of 1008 7) (λ how. posted id (error_of 1008 7) (Say u.number (expire_outcome how) next) how)
-      exits id v l begun asked there same WasGone v2 m2 l2 s lv = (tt, says outcomes.Late v2 m2 (far p q clients w v v2 l l2) s.1 lv (own_on p q clients v v2 l2 m.client m.done (ops.Expire t) outcomes.Late begun))
-      exits id v l begun asked there same WasStale v2 m2 l2 s lv = (tt, says outcomes.Late v2 m2 (far p q clients w v v2 l l2) s.1 lv (own_on p q clients v v2 l2 m.client m.done (ops.Expire t) outcomes.Late begun))
-      exits id v l begun asked there same (WasCrowded a b) v2 m2 l2 s lv = (tt, says (outcomes.Crowded a b) v2 m2 (far p q clients w v v2 l l2) s.1 lv.0 (own_on p q clients v v2 l2 m.client m.done (ops.Expire t) (outcomes.Crowded a b) (begun, lv.1, lv.2)))
+      exits id v l begun asked there same WasGone v2 m2 l2 s lv = (tt, says outcomes.Late v2 m2 (far p q clients w v v2 l l2) s.1 lv (own_on p q clients v v2 l2 m.client m.done (ops.Expire t) outcomes.Late begun) tt)
+      exits id v l begun asked there same WasStale v2 m2 l2 s lv = (tt, says outcomes.Late v2 m2 (far p q clients w v v2 l l2) s.1 lv (own_on p q clients v v2 l2 m.client m.done (ops.Expire t) outcomes.Late begun) tt)
+      exits id v l begun asked there same (WasCrowded a b) v2 m2 l2 s lv = (tt, says (outcomes.Crowded a b) v2 m2 (far p q clients w v v2 l l2) s.1 lv.0 (own_on p q clients v v2 l2 m.client m.done (ops.Expire t) (outcomes.Crowded a b) (begun, lv.1, lv.2)) tt)
       exits id v l begun asked there same WasQueued v2 m2 l2 s lv = (
-        of_expiry asked refl (l2.born id asked there) (m.client, u, has.is, names asked same, inr s.0),
-        says outcomes.Queued v2 m2 (far p q clients w v v2 l l2) s.1 lv (own_on p q clients v v2 l2 m.client m.done (ops.Expire t) outcomes.Queued begun),
+        of_expiry asked refl (l2.born id asked there) (m.client, u, has.is, names asked same, inr s.0.0),
+        says outcomes.Queued v2 m2 (far p q clients w v v2 l l2) s.1 lv (own_on p q clients v v2 l2 m.client m.done (ops.Expire t) outcomes.Queued begun) tt,
       )
       exits id v l begun asked there same (HasLocked word) v2 m2 l2 s lv = (
         tt,
@@ -270,13 +271,13 @@ module _ (p : Plan) (q : IdPlan) (clients : List (List Task)) where
       tt,
       subst (λ x. Tells v x (cond (eqb id 0) (Say u.number outcomes.NotBegun next) (Round (Joins id) (λ _. Say u.number outcomes.Joined next)))) (sym mv.0) (way p q clients v m (eqb id 0) (Say u.number outcomes.NotBegun next) (Round (Joins id) (λ _. Say u.number outcomes.Joined next)) s
           (λ none_ s'. let y = mv.2 (eqb-true id 0 none_) in
-          own_at w m u ts outcomes.NotBegun next has.todo free goes v m l s'.1 (again_same p q clients m m free refl) (subst (λ o. WhyOwn p q clients v m.client m.done o outcomes.NotBegun) (sym op) (not_begun v m t targets has.mine y.0 y.1)))
+          own_at w m u ts outcomes.NotBegun next has.todo free goes v m l s'.1 (again_same p q clients m m free refl) (subst (λ o. WhyOwn p q clients v m.client m.done o outcomes.NotBegun) (sym op) (not_begun v m t targets has.mine y.0 y.1)) tt)
           (λ some_ _. let y = mv.1 (not_equal id 0 some_) in (
             free,
             λ exit v2 m2 l2 s2 lv. (
               tt,
               own_at w m u ts outcomes.Joined next has.todo free goes v2 m2 (far p q clients w v v2 l l2) s2.1 (again_same p q clients m m2 free lv)
-                  (subst (λ o. WhyOwn p q clients v2 m.client m.done o outcomes.Joined) (sym op) (own_on p q clients v v2 l2 m.client m.done (ops.Join t) outcomes.Joined y.0)),
+                  (subst (λ o. WhyOwn p q clients v2 m.client m.done o outcomes.Joined) (sym op) (own_on p q clients v v2 l2 m.client m.done (ops.Join t) outcomes.Joined y.0)) tt,
             ),
           ))),
     ),

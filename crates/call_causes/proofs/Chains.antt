@@ -11,7 +11,7 @@ use Rattle.sock_programs.specs.Attempts.{retry}
 use Rattle.sock_programs.specs.Programs.{Program, Do, Say, Sent, Rest, TakeMessage, TakeHome, PutHome, PutBytes, AskReady, Write, Aside, Round, Keep, Retries}
 use Rattle.sock_programs.specs.Cores.{resolved, said, next_step}
 use Rattle.call_causes.specs.Scenes.{Saying, Scene, In, Said, Later, was_said, was_sent}
-use Rattle.call_causes.specs.Says.{Mark, with_done, with_owed, IsFree, SaidBy, SaysOn}
+use Rattle.call_causes.specs.Says.{Mark, with_done, with_owed, IsFree, IsNextSaid, SaidBy, SaysOn}
 use Rattle.call_causes.specs.Stories.{At, SlotsLaw, BirthsLaw, TasksLaw, ClaimsLaw, ReadsLaw, unclaimed}
 use Rattle.call_causes.proofs.Lasting.{far}
 use Rattle.call_causes.proofs.Posts.{again_same}
@@ -60,9 +60,13 @@ KeepsFew (Keep r next) = (r.attempt ≤ 6) × KeepsFew next
 KeepsFew (Retries requests after) = KeepsFew after
 KeepsFew other = Unit {0}
 
+first_next : (w : Scene) (ws : List Retry) (o : ℕ) (outcome : Outcome) (x : Program) → IsNextSaid w o outcome (resolved ws x) → IsNextSaid w o outcome x
+first_next w ws o outcome (Say t y next) s = s
+first_next w ws o outcome _ s = tt
+
 -- what is said before the retries are tried is said with what follows
 pub said_first : (w : Scene) (ws : List Retry) (x : Program) → SaidBy w (resolved ws x) → SaidBy w x
-said_first w ws (Say o outcome next) s = (s.0, said_first w ws next s.1)
+said_first w ws (Say o outcome next) s = ((s.0.0, first_next w ws o outcome next s.0.1), said_first w ws next s.1)
 said_first w ws (Sent o next) s = said_first w ws next s
 said_first w ws (Keep r next) s = said_first w (ws ++ r ∷ []) next s
 said_first w [] (Retries requests after) s = tt
@@ -103,12 +107,12 @@ module _ (p : Plan) (q : IdPlan) (clients : List (List Task)) (numbered : AreNum
   pub chain : (x : Program) (ws : List Retry) (os : List (Option Outcome)) (ss : List Saying) (ms : List Mark) (m : Mark) → At ms j m → TasksLaw p q clients w os ss ms → SaysOn p q clients w m x → AreFewTries ws → KeepsFew x → SaidBy w (resolved ws x) → Behind m os ss ms (resolved ws x)
   chain (Say o outcome next) ws os ss ms m at law g few keeps s = ⊎_elim
       (λ x. let t : Task = x.0 in let m1 : Mark = with_done x.0 x.1 m in let free = x.4 in
-      let law1 = say_own p q clients numbered w births os ss ms law j m at x.0 x.1 x.2 free.1 free.2 (was_said outcome (subst (λ n. Said w n outcome) x.3 s.0) x.5) outcome in
+      let law1 = say_own p q clients numbered w births os ss ms law j m at x.0 x.1 x.2 free.1 free.2 (was_said outcome (subst (λ n. Said w n outcome) x.3 s.0.0) x.5.0 x.5.1) outcome in
       behind ms m m1 (set os o (Some outcome)) ((record { number = o; outcome = outcome }) ∷ ss) (resolved ws next) (record { client = refl; slot = refl; makes = refl; link = refl; bytes = refl; unclaimed_still = own_still m x.0 x.1 x.2 x.4 })
       (chain next ws (set os o (Some outcome)) ((record { number = o; outcome = outcome }) ∷ ss) (set ms j m1) m1 (put_at ms j m m1 at)
       (subst (λ n. TasksLaw p q clients w (set os n (Some outcome)) ((record { number = n; outcome = outcome }) ∷ ss) (set ms j m1)) (sym x.3) law1) x.6 few keeps s.1))
       (λ x. let m1 : Mark = with_owed [] m in
-      let law1 = say_owed p q clients numbered w births os ss ms law j m at x.0 x.1 outcome (subst (λ n. Said w n outcome) x.2 s.0) x.4 in
+      let law1 = say_owed p q clients numbered w births os ss ms law j m at x.0 x.1 outcome (subst (λ n. Said w n outcome) x.2 s.0.0) x.4 in
       behind ms m m1 (set os o (Some outcome)) ((record { number = o; outcome = outcome }) ∷ ss) (resolved ws next) (record { client = refl; slot = refl; makes = refl; link = refl; bytes = refl; unclaimed_still = λ u y. y })
       (chain next ws (set os o (Some outcome)) ((record { number = o; outcome = outcome }) ∷ ss) (set ms j m1) m1 (put_at ms j m m1 at)
       (subst (λ n. TasksLaw p q clients w (set os n (Some outcome)) ((record { number = n; outcome = outcome }) ∷ ss) (set ms j m1)) (sym x.2) law1) x.5 few keeps s.1)) g

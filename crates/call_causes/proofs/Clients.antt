@@ -14,7 +14,7 @@ use Rattle.sock_programs.specs.Sends.{accept, heading_of, claim_from, start, sen
 use Rattle.sock_programs.specs.Clients.{HeldLife, held_under, without_name, give_back, drop_of, operation, client_from, ending_of}
 use Rattle.sock_programs.specs.Scripts.{sizes_of}
 use Rattle.id_runs.proofs.Loops.{not_equal}
-use Rattle.call_causes.specs.Scenes.{Scene, In, Named, IsTaskOf, WhyOwn}
+use Rattle.call_causes.specs.Scenes.{Scene, In, Named, IsTaskOf, WhyOwn, IsJust}
 use Rattle.call_causes.specs.Says.{Mark, with_slot, with_done, IsFree, SaidBy, Again, SaysOn}
 use Rattle.call_causes.proofs.Lasting.{far}
 use Rattle.call_causes.proofs.Posts.{After, Follows, way, again_same, follows_later}
@@ -49,8 +49,8 @@ module _ (p : Plan) (q : IdPlan) (clients : List (List Task)) where
 
   module _ (w : Scene) (m : Mark) (t : Task) (ts : List Task) (has : IsNext p q clients m t ts) (free : IsFree m) where
     -- the outcome of the task, whatever it has besides
-    says : (op : Op) → t.op ≡ op → (x : Outcome) (next : Program) → Ends w (with_done t ts m) next → (v : Scene) (m' : Mark) → Later' w v → SaidBy v next → Again p q clients m m' → WhyOwn p q clients v m.client m.done op x → Tells v m' (Say t.number x next)
-    says op is x next goes v m' l s a why = own_at p q clients w m t ts x next has.todo free goes v m' l s a (subst (λ o. WhyOwn p q clients v m.client m.done o x) (sym is) why)
+    says : (op : Op) → t.op ≡ op → (x : Outcome) (next : Program) → Ends w (with_done t ts m) next → (v : Scene) (m' : Mark) → Later' w v → SaidBy v next → Again p q clients m m' → WhyOwn p q clients v m.client m.done op x → IsJust p q clients v t.number t.op x → Tells v m' (Say t.number x next)
+    says op is x next goes v m' l s a why just = own_at p q clients w m t ts x next has.todo free goes v m' l s a (subst (λ o. WhyOwn p q clients v m.client m.done o x) (sym is) why) just
 
     self : Again p q clients m m
     self = again_same p q clients m m free refl
@@ -78,7 +78,7 @@ module _ (p : Plan) (q : IdPlan) (clients : List (List Task)) where
           tt,
           λ _ v4 l4 _ _. let f4 = far p q clients w v3 v4 f3 l4 in (
             tt,
-            λ _ v5 l5 s5 _. says (ops.Open name k) op outcomes.SlotsFull next goes v5 m (far p q clients w v4 v5 f4 l5) s5.1 self tt,
+            λ _ v5 l5 s5 _. says (ops.Open name k) op outcomes.SlotsFull next goes v5 m (far p q clients w v4 v5 f4 l5) s5.1 self tt tt,
           ),
         ),
       ),
@@ -97,7 +97,7 @@ module _ (p : Plan) (q : IdPlan) (clients : List (List Task)) where
                   λ born v6 l6 _ _. let f6 = far p q clients w v5 v6 f5 l6 in (
                     tt,
                     λ _ v7 l7 _ _. let f7 = far p q clients w v6 v7 f6 l7 in
-                        (some_word (vref_version born) i, λ _ v8 l8 s8 named. says (ops.Open name k) op (outcomes.Opened i (vref_version born) k) next goes v8 m (far p q clients w v7 v8 f7 l8) s8.1 self named),
+                        (some_word (vref_version born) i, λ _ v8 l8 s8 named. says (ops.Open name k) op (outcomes.Opened i (vref_version born) k) next goes v8 m (far p q clients w v7 v8 f7 l8) s8.1 self named tt),
                   ),
                 ),
               ),
@@ -115,7 +115,7 @@ module _ (p : Plan) (q : IdPlan) (clients : List (List Task)) where
 
       claim_says : (more r id : ℕ) (v : Scene) → Later' w v → Named p q clients v name → SaidBy v (claim_from more r t.number id bytes next) → Tells v m (claim_from more r t.number id bytes next)
       claim_says zero r id v l named s = release_says p q clients v m (socket_id_slot id) (λ _. Say t.number outcomes.Full next)
-          (λ _ v2 l2 s2. says (ops.Send name bytes) op outcomes.Full next goes v2 m (far p q clients w v v2 l l2) s2.1 self (l2.named name named))
+          (λ _ v2 l2 s2. says (ops.Send name bytes) op outcomes.Full next goes v2 m (far p q clients w v v2 l l2) s2.1 self (l2.named name named) tt)
       claim_says (suc more) r id v l named s = (
         tt,
         λ found v2 l2 s2 _. let f2 = far p q clients w v v2 l l2 in let named2 = l2.named name named in
@@ -126,16 +126,16 @@ module _ (p : Plan) (q : IdPlan) (clients : List (List Task)) where
 
       send_says : (requests : ℕ) → Tells w m (send requests t.number name bytes next)
       send_says requests = reach_says name (Say t.number outcomes.Unopened next) (λ id. start requests t.number id bytes next) (λ found. Say t.number (outcomes.Gone (record { 0 = found })) next)
-          (λ v l s. says (ops.Send name bytes) op outcomes.Unopened next goes v m l s.1 self tt)
+          (λ v l s. says (ops.Send name bytes) op outcomes.Unopened next goes v m l s.1 self tt tt)
           (λ id v l s named. (
             tt,
             λ found v2 l2 s2 _. let f2 = far p q clients w v v2 l l2 in let named2 = l2.named name named in
                 way p q clients v2 m (vref_version found % 2 == 0) (claim_from requests 0 t.number id bytes next) (release (socket_id_slot id) (λ _. Say t.number (outcomes.Gone (record { 0 = found })) next)) s2
                 (λ _ s'. claim_says requests 0 id v2 f2 named2 s')
                 (λ _ _. release_says p q clients v2 m (socket_id_slot id) (λ _. Say t.number (outcomes.Gone (record { 0 = found })) next)
-                (λ _ v3 l3 s3. says (ops.Send name bytes) op (outcomes.Gone (record { 0 = found })) next goes v3 m (far p q clients w v2 v3 f2 l3) s3.1 self (l3.named name named2))),
+                (λ _ v3 l3 s3. says (ops.Send name bytes) op (outcomes.Gone (record { 0 = found })) next goes v3 m (far p q clients w v2 v3 f2 l3) s3.1 self (l3.named name named2) tt)),
           ))
-          (λ found v l s named. says (ops.Send name bytes) op (outcomes.Gone (record { 0 = found })) next goes v m l s.1 self named)
+          (λ found v l s named. says (ops.Send name bytes) op (outcomes.Gone (record { 0 = found })) next goes v m l s.1 self named tt)
 
     -- ## `fail`, `hold`, `drop`
 
@@ -143,29 +143,37 @@ module _ (p : Plan) (q : IdPlan) (clients : List (List Task)) where
     fail_named v n code found named true = named
     fail_named v n code found named false = named
 
+    just_failed : (v : Scene) (b : Bool) (found : ℕ) → IsJust p q clients v t.number t.op (cond b outcomes.Failed (outcomes.Already (record { 0 = found })))
+    just_failed v true found = tt
+    just_failed v false found = tt
+
+    just_dropped : (v : Scene) (b : Bool) → IsJust p q clients v t.number t.op (cond b outcomes.Freed outcomes.Kept)
+    just_dropped v true = tt
+    just_dropped v false = tt
+
     fail_says : (name code : ℕ) → t.op ≡ ops.Fail name code → (1500 ≤ code) × (code ≤ 1999) → (next : Program) → Ends w (with_done t ts m) next → Tells w m (fail t.number name code next)
     fail_says name code op fits next goes = reach_says name (Say t.number outcomes.Unopened next) (λ id. set_failed id code (λ found. release (socket_id_slot id) (λ _. Say t.number (fail_outcome found) next))) (λ found. Say t.number (outcomes.Gone (record { 0 = found })) next)
-        (λ v l s. says (ops.Fail name code) op outcomes.Unopened next goes v m l s.1 self tt)
+        (λ v l s. says (ops.Fail name code) op outcomes.Unopened next goes v m l s.1 self tt tt)
         (λ id v l s named. set_failed_says p q clients v m id code (inr (inr (inr (inr fits)))) (λ found. release (socket_id_slot id) (λ _. Say t.number (fail_outcome found) next))
         (λ found v2 l2 _. release_says p q clients v2 m (socket_id_slot id) (λ _. Say t.number (fail_outcome found) next)
         (λ _ v3 l3 s3. let f3 = far p q clients w v2 v3 (far p q clients w v v2 l l2) l3 in
-        says (ops.Fail name code) op (fail_outcome found) next goes v3 m f3 s3.1 self (fail_named v3 name code found (l3.named name (l2.named name named)) (vref_version found % 2 == 0)))))
-        (λ found v l s named. says (ops.Fail name code) op (outcomes.Gone (record { 0 = found })) next goes v m l s.1 self named)
+        says (ops.Fail name code) op (fail_outcome found) next goes v3 m f3 s3.1 self (fail_named v3 name code found (l3.named name (l2.named name named)) (vref_version found % 2 == 0)) (just_failed v3 (vref_version found % 2 == 0) found))))
+        (λ found v l s named. says (ops.Fail name code) op (outcomes.Gone (record { 0 = found })) next goes v m l s.1 self named tt)
 
     hold_says : (name : ℕ) → t.op ≡ ops.Hold name → (held : ℕ → Program) (next : Program) → ((id : ℕ) → Ends w (with_done t ts m) (held id)) → Ends w (with_done t ts m) next → Tells w m (Rattle.sock_programs.specs.Programs.hold t.number name held next)
     hold_says name op held next holds goes = reach_says name (Say t.number outcomes.Unopened next) (λ id. Say t.number outcomes.Held (held id)) (λ found. Say t.number (outcomes.Gone (record { 0 = found })) next)
-        (λ v l s. says (ops.Hold name) op outcomes.Unopened next goes v m l s.1 self tt)
-        (λ id v l s named. says (ops.Hold name) op outcomes.Held (held id) (holds id) v m l s.1 self named)
-        (λ found v l s named. says (ops.Hold name) op (outcomes.Gone (record { 0 = found })) next goes v m l s.1 self named)
+        (λ v l s. says (ops.Hold name) op outcomes.Unopened next goes v m l s.1 self tt tt)
+        (λ id v l s named. says (ops.Hold name) op outcomes.Held (held id) (holds id) v m l s.1 self named tt)
+        (λ found v l s named. says (ops.Hold name) op (outcomes.Gone (record { 0 = found })) next goes v m l s.1 self named tt)
 
     dropped : (v : Scene) (n : ℕ) (b : Bool) → WhyOwn p q clients v m.client m.done (ops.Drop n) (cond b outcomes.Freed outcomes.Kept)
     dropped v n true = tt
     dropped v n false = tt
 
     drop_says : (name : ℕ) → t.op ≡ ops.Drop name → (h : Option ℕ) (next : Program) → Ends w (with_done t ts m) next → (v : Scene) → Later' w v → SaidBy v (drop_of t.number h next) → Tells v m (drop_of t.number h next)
-    drop_says name op None next goes v l s = says (ops.Drop name) op outcomes.NotHeld next goes v m l s.1 self tt
+    drop_says name op None next goes v l s = says (ops.Drop name) op outcomes.NotHeld next goes v m l s.1 self tt tt
     drop_says name op (Some id) next goes v l s = release_says p q clients v m (socket_id_slot id) (λ freed. Say t.number (cond freed outcomes.Freed outcomes.Kept) next)
-        (λ freed v2 l2 s2. says (ops.Drop name) op (cond freed outcomes.Freed outcomes.Kept) next goes v2 m (far p q clients w v v2 l l2) s2.1 self (dropped v2 name freed))
+        (λ freed v2 l2 s2. says (ops.Drop name) op (cond freed outcomes.Freed outcomes.Kept) next goes v2 m (far p q clients w v v2 l l2) s2.1 self (dropped v2 name freed) (just_dropped v2 freed))
 
   -- ## Whole clients
 

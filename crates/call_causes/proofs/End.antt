@@ -75,7 +75,7 @@ module _ (p : Plan) (q : IdPlan) (clients : List (List Task)) where
     told c t is on = let y = became c t is in by_told y.0 y.1
       where
         by_told : (before : List Task) → ToldOf p q clients w c before t → (x : Outcome) × Has t.number x
-        by_told before (was_said x s why) = (x, e.tasks.said t.number x s)
+        by_told before (was_said x s why just) = (x, e.tasks.said t.number x s)
         by_told before (was_sent n bytes op named) = absurd (subst IsOnCalls op on)
         by_told before (was_begun id asked op own born begun named) = let z = ended_call (record { id = id; asked = asked }) born in (z.0, subst (λ o. Has o z.0) (sym own) z.1)
 
@@ -85,7 +85,7 @@ module _ (p : Plan) (q : IdPlan) (clients : List (List Task)) where
     call_of c t asked x is op has = let y = became c t is in by_told y.0 y.1
       where
         by_told : (before : List Task) → ToldOf p q clients w c before t → ((before : List Task) × WhyOwn p q clients w c before (ops.Call asked) x) ⊎ ((id : ℕ) × In (record { id = id; asked = asked }) w.births × WhyEnded p q clients w (record { id = id; asked = asked }) x × (t.number ≡ asked.operation))
-        by_told before (was_said y s why) = inl (before, subst (λ o. WhyOwn p q clients w c before o x) op (subst (WhyOwn p q clients w c before t.op) (one_outcome t.number y x (e.tasks.said t.number y s) has) why))
+        by_told before (was_said y s why just) = inl (before, subst (λ o. WhyOwn p q clients w c before o x) op (subst (WhyOwn p q clients w c before t.op) (one_outcome t.number y x (e.tasks.said t.number y s) has) why))
         by_told before (was_sent n bytes sent named) = absurd (let z : ops.Send n bytes ≡ ops.Call asked = sym sent ∙ op in cc)
         by_told before (was_begun id a call own born begun named) =
             let same_op : ops.Call a ≡ ops.Call asked = sym call ∙ op in

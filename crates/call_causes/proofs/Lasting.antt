@@ -13,7 +13,7 @@ use Rattle.sock_programs.specs.declared.task.Task.{Task}
 use Rattle.sock_programs.specs.Asides.{Step, ClaimId, PutCall, MakeId, StoreCall, LoadCall, StoreAt, LoadAt, LoadIdWord, LockId, PostId, UnlockId, EndId, FreeId, TakeCall, TakeBytes, call_id}
 use Rattle.sock_programs.specs.Heads.{Head, Posts, Unlocks, Decides, Locks, Joins, Opens, Reads, Discards}
 use Rattle.sock_programs.specs.Programs.{Program, Do, Say, Sent, Rest, TakeMessage, TakeHome, PutHome, PutBytes, AskReady, Write, Aside, Round, Keep, Retries}
-use Rattle.call_causes.specs.Scenes.{Birth, Scene, In, Said, IsBorn, IsAnsweredIn, IsExpired, CauseOf, of_expiry, of_other, FailedIn, by_expiry, by_compression, by_other, WhyEnded, HasNoneOf, NoneFound, HasBegunIn, HasNotBegunIn, WhyOwn, ToldOf, was_said, was_sent, was_begun, AreTold, Later}
+use Rattle.call_causes.specs.Scenes.{Birth, Scene, In, Said, IsBorn, IsAnsweredIn, IsExpired, CauseOf, of_expiry, of_other, FailedIn, by_expiry, by_compression, by_other, WhyEnded, HasNoneOf, NoneFound, HasBegunIn, HasNotBegunIn, WhyOwn, IsJust, ToldOf, was_said, was_sent, was_begun, AreTold, Later}
 use Rattle.call_causes.specs.Says.{Mark, MayAside, CameFrom, IsReading, AtHead, SaysOn}
 
 module _ (p : Plan) (q : IdPlan) (clients : List (List Task)) where
@@ -23,6 +23,7 @@ module _ (p : Plan) (q : IdPlan) (clients : List (List Task)) where
   pub far : (a b c : Scene) → After a b → After b c → After a c
   far a b c x y = record {
     said = λ o v s. y.said o v (x.said o v s);
+    over = λ u v s. y.over u v (x.over u v s);
     named = λ n s. y.named n (x.named n s);
     begun = λ o s. y.begun o (x.begun o s);
     born = λ id asked s. y.born id asked (x.born id asked s);
@@ -92,8 +93,12 @@ module _ (p : Plan) (q : IdPlan) (clients : List (List Task)) where
     own_on c before (ops.Fail n code) _ y = l.named n y
     own_on c before (ops.Drop n) _ y = tt
 
+    pub just_on : (o : ℕ) (op : Op) (x : Outcome) → IsJust p q clients w o op x → IsJust p q clients w' o op x
+    just_on o op outcomes.Expired j = (j.0, j.1, j.2, l.over (record { number = o; outcome = outcomes.Expired }) (record { number = j.0; outcome = outcomes.CallFailed j.1 1008 }) j.3)
+    just_on o op _ j = tt
+
     told_on : (c : ℕ) (before : List Task) (t : Task) → ToldOf p q clients w c before t → ToldOf p q clients w' c before t
-    told_on c before t (was_said x s y) = was_said x (l.said t.number x s) (own_on c before t.op x y)
+    told_on c before t (was_said x s y j) = was_said x (l.said t.number x s) (own_on c before t.op x y) (just_on t.number t.op x j)
     told_on c before t (was_sent n bytes op s) = was_sent n bytes op (l.named n s)
     told_on c before t (was_begun id asked op own b s x) = was_begun id asked op own (l.born id asked b) (l.begun t.number s) (l.named (Rattle.sock_message.specs.Asked.name_of asked 0) x)
 
@@ -136,7 +141,7 @@ module _ (p : Plan) (q : IdPlan) (clients : List (List Task)) where
     pub says_on : (m : Mark) (x : Program) → SaysOn p q clients w m x → SaysOn p q clients w' m x
     says_on m (Do call next) go = (go.0, λ found v l' s f. go.1 found v (far w w' v l l') s f)
     says_on m (Say o outcome next) go = ⊎_elim
-        (λ x. inl (x.0, x.1, x.2, x.3, x.4, own_on m.client m.done x.0.op outcome x.5, says_on (Rattle.call_causes.specs.Says.with_done x.0 x.1 m) next x.6))
+        (λ x. inl (x.0, x.1, x.2, x.3, x.4, (own_on m.client m.done x.0.op outcome x.5.0, just_on x.0.number x.0.op outcome x.5.1), says_on (Rattle.call_causes.specs.Says.with_done x.0 x.1 m) next x.6))
         (λ x. inr (x.0, x.1, x.2, l.born x.0.id x.0.asked x.3, ended_on x.0 outcome x.4, says_on (Rattle.call_causes.specs.Says.with_owed [] m) next x.5)) go
     says_on m (Sent o next) go = (go.0, go.1, go.2, go.3, go.4, go.5, go.6, l.named go.2 go.7, go.8, says_on (Rattle.call_causes.specs.Says.with_done go.0 go.1 m) next go.9)
     says_on m Rest go = go

@@ -188,6 +188,7 @@ module _ (p : Plan) (q : IdPlan) (clients : List (List Task)) (w w' : Scene) (m 
       → ((c : Birth) (i : ℕ) (asked : Asked) → IsMake step i → In c w.births → m.slot ≡ Claims i (Some asked) → asked.operation ≢ c.asked.operation) → Later p q clients w w'
   later step found b knows may words room fresh = let made = made_of step found b knows may in record {
     said = λ o x s. b.sayings (record { number = o; outcome = x }) s;
+    over = b.overs;
     named = λ n named. (named.0, (λ e. named.1 (ap (λ ws. get_or ws (Rattle.sock_model.specs.Layout.name_word p n) 0) (sym words) ∙ e)));
     begun = begun_still step found b knows;
     born = born_still p q clients w w' m plan sized fits law low step found b knows may made fresh;

@@ -34,6 +34,7 @@ pub mod Run
 pub mod End
 pub mod Whys
 pub mod CallWhys
+pub mod Once
 pub mod Over
 pub mod Scripts
 pub mod Whole

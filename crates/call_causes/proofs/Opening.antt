@@ -19,7 +19,7 @@ use Rattle.sock_programs.specs.Readers.{reader}
 use Rattle.sock_programs.specs.Cores.{Core, SeatState, resolved, said, next_step}
 use Rattle.sock_programs.specs.Scripts.{opening_words, sizes_of, programs, readers_from, all_programs, beginning}
 use Rattle.id_runs.proofs.Opening.{unused}
-use Rattle.call_causes.specs.Scenes.{Birth, Saying, Scene, In, Begun, IsTaskOf, Later}
+use Rattle.call_causes.specs.Scenes.{Birth, Saying, Scene, In, IsOver, Begun, IsTaskOf, Later}
 use Rattle.call_causes.specs.Says.{NoSlot, Mark, IsFree, SaysOn, SaidBy}
 use Rattle.call_causes.specs.Stories.{At, word_at, SlotsLaw, BirthsLaw, TasksLaw, ClaimsLaw, ReadsLaw, IsUntold, CallStory, HasStory}
 use Rattle.call_causes.proofs.Reading.{reader_says}
@@ -31,7 +31,7 @@ use Rattle.call_causes.proofs.Claiming.{HaveSlots, has_room}
 use Rattle.call_causes.proofs.Chains.{sayings_of, KeepsFew, IsKept, chain}
 use Rattle.call_causes.proofs.Kept.{kept_slots, kept_claims, kept_reads}
 use Rattle.call_causes.proofs.SockWords.{AreOther}
-use Rattle.call_causes.proofs.AsideTicks.{sayings_keep, said_all}
+use Rattle.call_causes.proofs.AsideTicks.{sayings_keep, overs_keep, said_all}
 
 -- ## Lists
 
@@ -99,6 +99,10 @@ first_sayings (x ∷ xs) ss = first_sayings xs (sayings_of (resolved [] x) ss)
 first_kept : (xs : List Program) (ss : List Saying) (s : Saying) → In s ss → In s (first_sayings xs ss)
 first_kept [] ss s there = there
 first_kept (x ∷ xs) ss s there = first_kept xs (sayings_of (resolved [] x) ss) s (sayings_keep (resolved [] x) ss s there)
+
+first_overs : (xs : List Program) (ss : List Saying) (a b : Saying) → IsOver a b ss → IsOver a b (first_sayings xs ss)
+first_overs [] ss a b there = there
+first_overs (x ∷ xs) ss a b there = first_overs xs (sayings_of (resolved [] x) ss) a b (overs_keep (resolved [] x) ss a b there)
 
 abbrev link_of : ℕ → Bool → List ℕ
 link_of j true = (j - 32) ∷ []
@@ -225,6 +229,7 @@ module _ (p : Plan) (q : IdPlan) (clients : List (List Task)) (numbered : AreNum
         made = λ j m b at is. absurd (let z : [] ≡ b ∷ [] = ap (λ (n : Mark). n.makes) (at_first q.seats j m at).0 ∙ is in cc);
         called = λ o inside begun. absurd (begun (fresh_words.rest (call_word q o) (omega arith)));
         said = λ o x there. absurd there;
+        once = tt;
         outcomes = λ o x is. absurd (none_said p.operations o x is);
         fresh = λ j m t at there. one_none p.operations t.number (fit.numbers j t (listed p q clients clients j t (subst (λ (n : Mark). In t (Rattle.call_causes.specs.Stories.ahead p q clients n.makes n.todo)) (sym (at_first q.seats j m at).0) there)));
         untold = λ b there. absurd there;
@@ -236,6 +241,7 @@ module _ (p : Plan) (q : IdPlan) (clients : List (List Task)) (numbered : AreNum
       here : Later p q clients first_scene first_scene
       here = record {
         said = λ o x s. s;
+        over = λ a b s. s;
         named = λ n s. s;
         begun = λ o s. s;
         born = λ id asked s. s;
@@ -265,17 +271,17 @@ module _ (p : Plan) (q : IdPlan) (clients : List (List Task)) (numbered : AreNum
       )
 
       begin_all : (xs : List Program) (k : ℕ) (os : List (Option Outcome)) (ss : List Saying) (ms : List Mark) → ((i : ℕ) (x : Program) → get_elem? xs i ≡ core.some x → get_elem? (all_programs (programs (sizes_of p q) clients) (readers_from calls 0 opens)) (k + i) ≡ core.some x)
-          → TasksLaw p q clients first_scene os ss ms → AreBegun ms k → ((s : Saying) → In s (first_sayings xs ss) → In s first_scene.sayings) → SlotsLaw q first_scene ms → ClaimsLaw p q clients first_scene ms → ReadsLaw p q clients first_scene ms
+          → TasksLaw p q clients first_scene os ss ms → AreBegun ms k → ((s : Saying) → In s (first_sayings xs ss) → In s first_scene.sayings) → ((a b : Saying) → IsOver a b (first_sayings xs ss) → IsOver a b first_scene.sayings) → SlotsLaw q first_scene ms → ClaimsLaw p q clients first_scene ms → ReadsLaw p q clients first_scene ms
           → (ms' : List Mark) × (length ms' ≡ length ms) × TasksLaw p q clients first_scene (fold (λ (l : List (Option Outcome)) (x : Program). said (resolved [] x) l) os xs) (first_sayings xs ss) ms' × AreBegun ms' (k + length xs) × SlotsLaw q first_scene ms' × ClaimsLaw p q clients first_scene ms' × ReadsLaw p q clients first_scene ms'
-      begin_all [] k os ss ms at law begun said slots claims reads = (ms, refl, law, subst (AreBegun ms) (let z : k ≡ k + 0 = omega arith in z) begun, slots, claims, reads)
-      begin_all (x ∷ xs) k os ss ms at law begun said slots claims reads =
+      begin_all [] k os ss ms at law begun said overs slots claims reads = (ms, refl, law, subst (AreBegun ms) (let z : k ≡ k + 0 = omega arith in z) begun, slots, claims, reads)
+      begin_all (x ∷ xs) k os ss ms at law begun said overs slots claims reads =
           let here_at : get_elem? (all_programs (programs (sizes_of p q) clients) (readers_from calls 0 opens)) k ≡ core.some x = subst (λ n. get_elem? (all_programs (programs (sizes_of p q) clients) (readers_from calls 0 opens)) n ≡ core.some x) (let z : k + 0 ≡ k = omega arith in z) (at 0 x refl) in
           let there = (begun k x here_at).1 (omega arith) in
           let c = chain p q clients numbered first_scene first_births here k x [] os ss ms (first_mark k) there law (says_first first_scene k x here_at) tt (few_tries k x here_at)
-              (said_all first_scene x [] ss (λ s t. said s (first_kept xs (sayings_of (resolved [] x) ss) s t))) in
+              (said_all first_scene x [] ss (λ s t. said s (first_kept xs (sayings_of (resolved [] x) ss) s t)) (λ a b t. overs a b (first_overs xs (sayings_of (resolved [] x) ss) a b t))) in
           let r = begin_all xs (k + 1) (Rattle.sock_programs.specs.Cores.said (resolved [] x) os) (sayings_of (resolved [] x) ss) (set ms k c.0)
               (λ i y e. subst (λ n. get_elem? (all_programs (programs (sizes_of p q) clients) (readers_from calls 0 opens)) n ≡ core.some y) (let z : k + suc i ≡ k + 1 + i = omega arith in z) (at (suc i) y e))
-              c.2 (one_more ms k x c.0 here_at there c.1 c.3 begun) said (kept_slots p q clients first_scene ms k (first_mark k) c.0 there c.1 slots) (kept_claims p q clients first_scene ms k (first_mark k) c.0 there c.1 claims) (kept_reads p q clients first_scene ms k (first_mark k) c.0 there c.1 reads) in (
+              c.2 (one_more ms k x c.0 here_at there c.1 c.3 begun) said overs (kept_slots p q clients first_scene ms k (first_mark k) c.0 there c.1 slots) (kept_claims p q clients first_scene ms k (first_mark k) c.0 there c.1 claims) (kept_reads p q clients first_scene ms k (first_mark k) c.0 there c.1 reads) in (
             r.0,
             r.1 ∙ length-set ms k c.0,
             r.2,
@@ -290,7 +296,7 @@ module _ (p : Plan) (q : IdPlan) (clients : List (List Task)) (numbered : AreNum
       first_story =
           let xs : List Program = all_programs (programs (sizes_of p q) clients) (readers_from calls 0 opens) in
           let r = begin_all (all_programs (programs (sizes_of p q) clients) (readers_from calls 0 opens)) 0 (replicate p.operations None) [] (first_marks 0 q.seats) (λ i x e. subst (λ n. get_elem? xs n ≡ core.some x) (let z : i ≡ 0 + i = omega arith in z) e) first_tasks
-              (λ i x e. ((λ low. absurd (omega (arith, low))), (λ _. there_first q.seats i (let z = inside_of xs i x e in omega (arith, z, long))))) (λ s there. there) first_slots first_claims first_reads in record {
+              (λ i x e. ((λ low. absurd (omega (arith, low))), (λ _. there_first q.seats i (let z = inside_of xs i x e in omega (arith, z, long))))) (λ s there. there) (λ a b there. there) first_slots first_claims first_reads in record {
             scene = first_scene;
             marks = r.0;
             is = refl;

@@ -12,7 +12,7 @@ use Rattle.corr_core.specs.declared.marks.Plan.{Plan as IdPlan}
 use Rattle.sock_programs.specs.declared.task.Task.{Task}
 use Rattle.call_causes.specs.Scenes.{Birth, Saying, Scene, In, Said, IsBorn, IsTaskOf, Named, WhyEnded, WhyOwn, ToldOf, was_said, was_sent}
 use Rattle.call_causes.specs.Says.{Mark, with_done}
-use Rattle.call_causes.specs.Stories.{At, HasPassed, BirthsLaw, undo, ahead, IsUntold, IsBegunBy, IsOwed, TasksLaw}
+use Rattle.call_causes.specs.Stories.{At, HasPassed, BirthsLaw, undo, ahead, IsUntold, IsBegunBy, IsOwed, AreOnce, TasksLaw}
 use Rattle.call_causes.proofs.BirthTicks.{in_all}
 use Rattle.call_causes.proofs.Numbered.{AllDistinct, AreNumbered, distinct_undo}
 use Rattle.call_causes.proofs.Moving.{in_todo, in_done, listed}
@@ -84,6 +84,9 @@ module _ (p : Plan) (q : IdPlan) (clients : List (List Task)) (numbered : AreNum
       (λ same. inl (let z : Some (Some x) ≡ Some (Some y) = sym (got_same os o (Some x) None free) ∙ (ap (slice_get (set os o (Some x))) same ∙ is) in let e : x ≡ y = cc in λ i. record { number = sym same i; outcome = sym e i }))
       (λ ne. inr (law.outcomes k y (sym (got_other os o k (Some x) ne) ∙ is)))
 
+  pub once_more : (o : ℕ) (x : Outcome) → slice_get os o ≡ Some None → AreOnce p q clients ((record { number = o; outcome = x }) ∷ ss)
+  once_more o x free = ((λ y there. let z : Some (Some y) ≡ Some None = sym (law.said o y there) ∙ free in absurd cc), law.once)
+
   -- ## The task that is to be done
 
   module _ (t : Task) (ts : List Task) (todo : m.todo ≡ t ∷ ts) (owes : m.owes ≡ []) (makes : m.makes ≡ []) where
@@ -115,8 +118,9 @@ module _ (p : Plan) (q : IdPlan) (clients : List (List Task)) (numbered : AreNum
 
     -- the marks with one task more that is done
     pub done_law : ToldOf p q clients w m.client m.done t → (os' : List (Option Outcome)) (ss' : List Saying) → ((o : ℕ) (x : Outcome) → In (record { number = o; outcome = x }) ss' → slice_get os' o ≡ Some (Some x)) → ((o : ℕ) (x : Outcome) → slice_get os' o ≡ Some (Some x) → In (record { number = o; outcome = x }) ss')
-        → ((o : ℕ) → t.number ≢ o → slice_get os' o ≡ slice_get os o) → TasksLaw p q clients w os' ss' (set ms j (with_done t ts m))
-    done_law told os' ss' said outcomes others = record {
+        → ((o : ℕ) → t.number ≢ o → slice_get os' o ≡ slice_get os o) → AreOnce p q clients ss' → TasksLaw p q clients w os' ss' (set ms j (with_done t ts m))
+    done_law told os' ss' said outcomes others once = record {
+      once = once;
       client = at_either (λ l n. n.client ≡ l) (with_done t ts m) (law.client j m at) (λ l n ne there. law.client l n there);
       placed = at_either (λ l n. undo p q clients n.done n.todo ≡ get_or clients l []) (with_done t ts m) (ap (undo p q clients m.done) (sym todo) ∙ law.placed j m at) (λ l n ne there. law.placed l n there);
       told = at_either (λ l n. Rattle.call_causes.specs.Scenes.AreTold p q clients w n.client n.done) (with_done t ts m) (told, law.told j m at) (λ l n ne there. law.told l n there);
@@ -142,8 +146,8 @@ module _ (p : Plan) (q : IdPlan) (clients : List (List Task)) (numbered : AreNum
         before b owed = let x = before_at owed.0 owed.1 b owed.2 owed.3 in (owed.0, x.0, x.1, x.2)
 
     pub say_own : ToldOf p q clients w m.client m.done t → (x : Outcome) → TasksLaw p q clients w (set os t.number (Some x)) ((record { number = t.number; outcome = x }) ∷ ss) (set ms j (with_done t ts m))
-    say_own told x = done_law told (set os t.number (Some x)) ((record { number = t.number; outcome = x }) ∷ ss) (said_more t.number x untold_here) (outcomes_more t.number x untold_here) (λ o ne. got_other os t.number o (Some x) ne)
+    say_own told x = done_law told (set os t.number (Some x)) ((record { number = t.number; outcome = x }) ∷ ss) (said_more t.number x untold_here) (outcomes_more t.number x untold_here) (λ o ne. got_other os t.number o (Some x) ne) (once_more t.number x untold_here)
 
     -- of a message that was accepted nothing is said
     pub sent_own : ToldOf p q clients w m.client m.done t → TasksLaw p q clients w os ss (set ms j (with_done t ts m))
-    sent_own told = done_law told os ss law.said law.outcomes (λ o ne. refl)
+    sent_own told = done_law told os ss law.said law.outcomes (λ o ne. refl) law.once

@@ -14,7 +14,7 @@ use Rattle.call_causes.specs.Says.{Mark, with_owed}
 use Rattle.call_causes.specs.Stories.{At, HasPassed, IsCurrent, BirthsLaw, undo, ahead, IsUntold, IsBegunBy, IsOwed, TasksLaw}
 use Rattle.call_causes.proofs.BirthTicks.{in_all, two_of}
 use Rattle.call_causes.proofs.Numbered.{AllDistinct, AreNumbered}
-use Rattle.call_causes.proofs.Sayings.{got_other, in_ahead, put_beside, is_done, is_todo, distinct_at, at_either, still_at, said_more, outcomes_more}
+use Rattle.call_causes.proofs.Sayings.{got_other, in_ahead, put_beside, is_done, is_todo, distinct_at, at_either, still_at, said_more, outcomes_more, once_more}
 
 module _ (p : Plan) (q : IdPlan) (clients : List (List Task)) (numbered : AreNumbered p q clients) (w : Scene) (births : BirthsLaw p q clients w) (os : List (Option Outcome)) (ss : List Saying) (ms : List Mark) (law : TasksLaw p q clients w os ss ms) (j : ℕ) (m : Mark) (at : At ms j m)
     (b : Birth) (owes : m.owes ≡ b ∷ []) (x : Outcome) (said_x : Said w b.asked.operation x) (why : WhyEnded p q clients w b x) where
@@ -57,6 +57,7 @@ module _ (p : Plan) (q : IdPlan) (clients : List (List Task)) (numbered : AreNum
 
   pub say_owed : TasksLaw p q clients w (set os b.asked.operation (Some x)) ((record { number = b.asked.operation; outcome = x }) ∷ ss) (set ms j (with_owed [] m))
   say_owed = record {
+    once = once_more p q clients numbered w births os ss ms law j m at b.asked.operation x untold_call;
     client = at_either p q clients numbered w births os ss ms law j m at (λ l n. n.client ≡ l) (with_owed [] m) (law.client j m at) (λ l n ne there. law.client l n there);
     placed = at_either p q clients numbered w births os ss ms law j m at (λ l n. undo p q clients n.done n.todo ≡ get_or clients l []) (with_owed [] m) (law.placed j m at) (λ l n ne there. law.placed l n there);
     told = at_either p q clients numbered w births os ss ms law j m at (λ l n. Rattle.call_causes.specs.Scenes.AreTold p q clients w n.client n.done) (with_owed [] m) (law.told j m at) (λ l n ne there. law.told l n there);

@@ -14,7 +14,7 @@ use Rattle.sock_programs.specs.Heads.{Retry}
 use Rattle.sock_programs.specs.Asides.{call_id, id_slot, id_first}
 use Rattle.sock_programs.specs.Programs.{Program}
 use Rattle.sock_programs.specs.Cores.{resolved, said, next_step}
-use Rattle.call_causes.specs.Scenes.{Birth, Claim, Saying, Scene, In, IsBorn, IsOther, Named, HasRoom, Later}
+use Rattle.call_causes.specs.Scenes.{Birth, Claim, Saying, Scene, In, IsOver, IsBorn, IsOther, Named, HasRoom, Later}
 use Rattle.call_causes.specs.Says.{Mark, SaidBy, SaysOn}
 use Rattle.call_causes.specs.Stories.{At, word_at, tag_at, LiesAt, HasPassed, IsCurrent, SlotsLaw, BirthsLaw, TasksLaw}
 use Rattle.call_causes.proofs.Lasting.{are_told_on, cause_on}
@@ -23,7 +23,7 @@ use Rattle.call_causes.proofs.BirthTicks.{one_call}
 use Rattle.call_causes.proofs.Numbered.{AreNumbered}
 use Rattle.call_causes.proofs.TaskTicks.{Change, changed}
 use Rattle.call_causes.proofs.Chains.{sayings_of, AreFewTries, KeepsFew, IsKept, chain, said_first}
-use Rattle.call_causes.proofs.AsideTicks.{sayings_keep, said_all}
+use Rattle.call_causes.proofs.AsideTicks.{sayings_keep, overs_keep, said_all}
 
 module _ (p : Plan) (q : IdPlan) (clients : List (List Task)) (numbered : AreNumbered p q clients) (w w' : Scene) (ms : List Mark) (j : ℕ) (m : Mark) (at : At ms j m) (slots : SlotsLaw q w ms) (births : BirthsLaw p q clients w) (tasks : TasksLaw p q clients w w.core.outcomes w.sayings ms) (room : HasRoom p q clients w') where
   -- the table of the ids is as it was; no name loses its socket, and each code of a socket is that of an error
@@ -40,6 +40,7 @@ module _ (p : Plan) (q : IdPlan) (clients : List (List Task)) (numbered : AreNum
     pub beside_later : Later p q clients w w'
     beside_later = record {
       said = λ o v s. subst (In (record { number = o; outcome = v })) (sym sayings) (sayings_keep (resolved ws x) w.sayings (record { number = o; outcome = v }) s);
+      over = λ a c s. subst (IsOver a c) (sym sayings) (overs_keep (resolved ws x) w.sayings a c s);
       named = b.named;
       begun = λ o begun e. begun (ap (λ cs. get_or cs (call_word q o) 0) (sym b.words) ∙ e);
       born = λ id asked there. subst (In (record { id = id; asked = asked })) (sym b.births_are) there;
@@ -116,11 +117,12 @@ module _ (p : Plan) (q : IdPlan) (clients : List (List Task)) (numbered : AreNum
 
     -- what is said in the tick
     pub beside_said : SaidBy w' x
-    beside_said = said_first w' ws x (said_all w' x ws w.sayings (λ s there. subst (In s) (sym sayings) there))
+    beside_said = said_first w' ws x (said_all w' x ws w.sayings (λ s there. subst (In s) (sym sayings) there) (λ a b there. subst (IsOver a b) (sym sayings) there))
 
     here : Later p q clients w' w'
     here = record {
       said = λ o v s. s;
+      over = λ a b s. s;
       named = λ n s. s;
       begun = λ o s. s;
       born = λ id asked s. s;
@@ -141,7 +143,7 @@ module _ (p : Plan) (q : IdPlan) (clients : List (List Task)) (numbered : AreNum
 
     pub beside_ticks : SaysOn p q clients w' m x → AfterBeside
     beside_ticks says =
-        let r = chain p q clients numbered w' beside_births here j x ws w.core.outcomes w.sayings ms m at beside_tasks says few keeps (said_all w' x ws w.sayings (λ s there. subst (In s) (sym sayings) there)) in record {
+        let r = chain p q clients numbered w' beside_births here j x ws w.core.outcomes w.sayings ms m at beside_tasks says few keeps (said_all w' x ws w.sayings (λ s there. subst (In s) (sym sayings) there) (λ a b there. subst (IsOver a b) (sym sayings) there)) in record {
           mark = r.0;
           kept = r.1;
           slots_law = beside_slots;

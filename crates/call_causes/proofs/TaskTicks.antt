@@ -86,6 +86,7 @@ module _ (p : Plan) (q : IdPlan) (clients : List (List Task)) (numbered : AreNum
 
     pub changed : TasksLaw p q clients w' os ss (set ms j m')
     changed = record {
+      once = law.once;
       client = either (λ k n. n.client ≡ k) (ch.client ∙ law.client j m at) (λ k n ne there. law.client k n there);
       placed = either (λ k n. undo p q clients n.done n.todo ≡ get_or clients k []) (ch.placed ∙ law.placed j m at) (λ k n ne there. law.placed k n there);
       told = either (λ k n. AreTold p q clients w' n.client n.done) ch.told (λ k n ne there. are_told_on p q clients w w' l n.client n.done (law.told k n there));

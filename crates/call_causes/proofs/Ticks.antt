@@ -50,7 +50,7 @@ use Rattle.call_causes.proofs.Knowing.{is_sized, are_low, finds, knows}
 use Rattle.call_causes.proofs.SockWords.{IsInside, names_after, AreOther, codes_after}
 use Rattle.call_causes.proofs.Chains.{sayings_of, AreFewTries, KeepsFew, set_twice, said_first}
 use Rattle.call_causes.proofs.Kept.{kept_slots, kept_claims, kept_reads}
-use Rattle.call_causes.proofs.AsideTicks.{sayings_keep, is_later, AfterTick, aside_ticks}
+use Rattle.call_causes.proofs.AsideTicks.{sayings_keep, overs_keep, is_later, AfterTick, aside_ticks}
 use Rattle.call_causes.proofs.SockTicks.{IsBeside, beside_later, beside_slots, beside_births, beside_tasks, beside_said, AfterBeside, beside_ticks}
 
 -- of two lists of one length each place of one is a place of the other
@@ -228,7 +228,7 @@ module _ (p : Plan) (q : IdPlan) (clients : List (List Task)) (numbered : AreNum
     none_of_setup other n unnamed v l t is = let x = setup_done other t is in λ k op. by_told x.1 x.2 k op
       where
         by_told : (before : List Task) → ToldOf p q clients w 0 before t → HasNoneOf p q clients v n t
-        by_told before (was_said y s why) k op = (y, l.said t.number y s, (λ opened. unnamed (open_named p q clients w 0 before n k y (subst (λ o. Rattle.call_causes.specs.Scenes.WhyOwn p q clients w 0 before o y) op why) opened)))
+        by_told before (was_said y s why just) k op = (y, l.said t.number y s, (λ opened. unnamed (open_named p q clients w 0 before n k y (subst (λ o. Rattle.call_causes.specs.Scenes.WhyOwn p q clients w 0 before o y) op why) opened)))
         by_told before (was_sent a bytes sent named) k op = absurd (let z : ops.Send a bytes ≡ ops.Open n k = sym sent ∙ op in cc)
         by_told before (was_begun id asked call own born begun named) k op = absurd (let z : ops.Call asked ≡ ops.Open n k = sym call ∙ op in cc)
 
@@ -271,7 +271,7 @@ module _ (p : Plan) (q : IdPlan) (clients : List (List Task)) (numbered : AreNum
 
       on_ids : HasStory p q clients (with_seat i (next found) seat.hand w.core.words w.core.homes (record w.core { calls = calls_after step found w.core.calls }))
       on_ids =
-          let b : IsBehind p q clients w aside_scene m step found = record { words = refl; homes = refl; gave = refl; births = refl; claims = refl; sayings = λ s there. sayings_keep (resolved (waiting_at (calls_after step found w.core.calls).waiting i) (next found)) w.sayings s there } in
+          let b : IsBehind p q clients w aside_scene m step found = record { words = refl; homes = refl; gave = refl; births = refl; claims = refl; sayings = λ s there. sayings_keep (resolved (waiting_at (calls_after step found w.core.calls).waiting i) (next found)) w.sayings s there; overs = λ x y there. overs_keep (resolved (waiting_at (calls_after step found w.core.calls).waiting i) (next found)) w.sayings x y there } in
           let kn = knows p q clients w us ids ms i m at story.reads u at_view step t found is go.0 says.0 in
           let law = claims_after_step p q clients numbered w aside_scene ms i m at ids.plan (is_sized p q clients w us ids) (story.slots.fits i m at) story.births w.core.outcomes w.sayings story.tasks story.claims step found b kn says.0 in
           let room' = has_room p q clients slots aside_scene (set ms i (mark_after p q clients step found m)) law in

@@ -8,16 +8,21 @@ use Rattle.id_rule.specs.Lawful.{id_word}
 use Rattle.sock_programs.specs.Cores.{Core}
 use Rattle.sock_programs.specs.Tasks.{opens, plan_of, id_plan_of}
 use Rattle.sock_programs.specs.Scripts.{all_tasks, IsRunWithCalls}
+use Rattle.sock_programs.specs.ToldCalls.{Fixed, Order}
 use Rattle.sock_runs.specs.Sound.{AllRest}
 use Rattle.joint_runs.proofs.Runs.{AreMade}
 use Rattle.report_fits.proofs.Reading.{InRange}
 use Rattle.report_fits.proofs.Targets.{AreThere}
 use Rattle.owed_calls.specs.Lives.{ClosesInRun}
 use Rattle.owed_calls.proofs.Known.{run_all_ended, run_all_rest}
+use Rattle.call_causes.specs.Lists.{given}
+use Rattle.call_causes.specs.Target.{ToldOnCallsInPart}
 use Rattle.call_causes.specs.Scenes.{Scene}
 use Rattle.call_causes.specs.Stories.{HasStory}
-use Rattle.call_causes.proofs.End.{HasEnded}
-use Rattle.call_causes.proofs.Scripts.{are_numbered, have_slots, begins}
+use Rattle.call_causes.proofs.End.{HasEnded, told, versions}
+use Rattle.call_causes.proofs.CallWhys.{why}
+use Rattle.call_causes.proofs.Once.{expired_once}
+use Rattle.call_causes.proofs.Scripts.{are_numbered, are_ascending, have_slots, begins}
 use Rattle.call_causes.proofs.Run.{run_story, many_seats}
 use Rattle.call_causes.proofs.Over.{has_ended}
 
@@ -33,3 +38,14 @@ module _ (script : List Item) (made : AreMade script) (there : AreThere script) 
         (subst AllRest (sym h.is) (run_all_rest script made turns core is closes))
         (λ i inside. subst (λ (d : Core). (parts (get_or d.calls.words (id_word i) 0)).state ≡ 0) (sym h.is) (run_all_ended script made turns core is closes i inside))
         (let many = ap (λ (d : Core). length d.seats) h.is ∙ many_seats script made (are_numbered script made there range) (have_slots script made there range) (begins script made there range) turns core is in let seats = made.seats in let few = made.few_clients in omega (arith, many, seats, few))
+
+    module _ (fixed : Fixed) (orders : ℕ → Order) (last : ℕ → ℕ) where
+      -- each `call`, `expire` and `join` has an outcome and its cause; of a call that failed only so much is told: with 1008 that an `expire` did it, with 2002 that a response was
+      -- compressed, or else that the code is one of those that are posted
+      pub run_told_in_part : ToldOnCallsInPart (plan_of script) (all_tasks script) core.outcomes fixed (given core) orders last
+      run_told_in_part = let h = run_has_story in let e = run_has_ended in subst (λ (d : Core). ToldOnCallsInPart (plan_of script) (all_tasks script) d.outcomes fixed (given d) orders last) h.is (record {
+        told = told (plan_of script) (id_plan_of script) (all_tasks script) h.scene h.marks e;
+        why = why (plan_of script) (id_plan_of script) (all_tasks script) (are_ascending script made there range) h.scene h.marks e fixed orders last;
+        expired_once = expired_once (plan_of script) (id_plan_of script) (all_tasks script) (are_ascending script made there range) h.scene h.marks e;
+        versions = versions (plan_of script) (id_plan_of script) (all_tasks script) h.scene h.marks e;
+      })

@@ -111,7 +111,7 @@ module _ (p : Plan) (q : IdPlan) (clients : List (List Task)) (ascending : (c : 
         why_join o x op has = let d = is_done c t is in by_told d d.told
           where
             by_told : (d : IsDone c t) → ToldOf p q clients w c d.before t → WhyJoin p clients w.core.outcomes fixed (given w.core) orders last c t.number o x
-            by_told d (was_said y s why) = join_by o d x (subst (λ z. WhyOwn p q clients w c d.before z x) op (subst (WhyOwn p q clients w c d.before t.op) (one_outcome p q clients w ms e t.number y x (e.tasks.said t.number y s) has) why))
+            by_told d (was_said y s why just) = join_by o d x (subst (λ z. WhyOwn p q clients w c d.before z x) op (subst (WhyOwn p q clients w c d.before t.op) (one_outcome p q clients w ms e t.number y x (e.tasks.said t.number y s) has) why))
             by_told d (was_sent n bytes sent named) = absurd (let z : ops.Send n bytes ≡ ops.Join o = sym sent ∙ op in cc)
             by_told d (was_begun id a call own born begun named) = absurd (let z : ops.Call a ≡ ops.Join o = sym call ∙ op in cc)
 
@@ -119,6 +119,6 @@ module _ (p : Plan) (q : IdPlan) (clients : List (List Task)) (ascending : (c : 
         why_expire o x op has = let d = is_done c t is in by_told d d.told
           where
             by_told : (d : IsDone c t) → ToldOf p q clients w c d.before t → WhyExpire p clients w.core.outcomes fixed (given w.core) orders last c t.number o x
-            by_told d (was_said y s why) = expire_by o d x (subst (λ z. WhyOwn p q clients w c d.before z x) op (subst (WhyOwn p q clients w c d.before t.op) (one_outcome p q clients w ms e t.number y x (e.tasks.said t.number y s) has) why))
+            by_told d (was_said y s why just) = expire_by o d x (subst (λ z. WhyOwn p q clients w c d.before z x) op (subst (WhyOwn p q clients w c d.before t.op) (one_outcome p q clients w ms e t.number y x (e.tasks.said t.number y s) has) why))
             by_told d (was_sent n bytes sent named) = absurd (let z : ops.Send n bytes ≡ ops.Expire o = sym sent ∙ op in cc)
             by_told d (was_begun id a call own born begun named) = absurd (let z : ops.Call a ≡ ops.Expire o = sym call ∙ op in cc)

@@ -20,7 +20,8 @@ use Rattle.sock_programs.specs.Programs.{Program, Do, Say, Sent, Rest, TakeMessa
 use Rattle.sock_programs.specs.Readers.{has_response}
 use Rattle.id_runs.specs.Goes.{FitsOwner, FitsWriting}
 use Rattle.call_causes.specs.Lists.{given}
-use Rattle.call_causes.specs.Scenes.{Birth, Scene, Said, IsBorn, IsClaimed, Came, IsOther, IsErrorCode, Named, Begun, HasBegunIn, CauseOf, WhyEnded, WhyOwn, AreTold, HasNoneOf, IsTaskOf, Later}
+use Rattle.sock_words.specs.declared.outcome.Outcome.{Outcome}
+use Rattle.call_causes.specs.Scenes.{Birth, Scene, Said, IsOver, IsJust, IsBorn, IsClaimed, Came, IsOther, IsErrorCode, Named, Begun, HasBegunIn, CauseOf, WhyEnded, WhyOwn, AreTold, HasNoneOf, IsTaskOf, Later}
 
 -- ## Marks
 
@@ -85,8 +86,13 @@ given_more other m = m
 
 -- ## What the program says before its next step
 
+-- an outcome that is said next is said directly behind this one
+abbrev pub IsNextSaid : Scene → ℕ → Outcome → Program → Type 0
+IsNextSaid w o outcome (Say t x next) = IsOver (record { number = t; outcome = x }) (record { number = o; outcome = outcome }) w.sayings
+IsNextSaid w o outcome other = Unit {0}
+
 abbrev pub SaidBy : Scene → Program → Type 0
-SaidBy w (Say o outcome next) = Said w o outcome × SaidBy w next
+SaidBy w (Say o outcome next) = (Said w o outcome × IsNextSaid w o outcome next) × SaidBy w next
 SaidBy w (Sent o next) = SaidBy w next
 SaidBy w (Keep r next) = SaidBy w next
 SaidBy w other = Unit {0}
@@ -237,7 +243,7 @@ module _ (p : Plan) (q : IdPlan) (clients : List (List Task)) where
   abbrev pub SaysOn : Scene → Mark → Program → Type 0
   SaysOn w m (Do call next) = MayDo call × ((found : ℕ) (w' : Scene) → Later p q clients w w' → SaidBy w' (next found) → FindsDo w' m call found → SaysOn w' m (next found))
   -- the outcome of the task that is to be done, or of a range that has ended
-  SaysOn w m (Say o outcome next) = ((t : Task) × (ts : List Task) × (m.todo ≡ t ∷ ts) × (o ≡ t.number) × IsFree m × WhyOwn p q clients w m.client m.done t.op outcome × SaysOn w (with_done t ts m) next)
+  SaysOn w m (Say o outcome next) = ((t : Task) × (ts : List Task) × (m.todo ≡ t ∷ ts) × (o ≡ t.number) × IsFree m × (WhyOwn p q clients w m.client m.done t.op outcome × IsJust p q clients w t.number t.op outcome) × SaysOn w (with_done t ts m) next)
       ⊎ ((b : Birth) × (m.owes ≡ b ∷ []) × (o ≡ b.asked.operation) × IsBorn w b.id b.asked × WhyEnded p q clients w b outcome × SaysOn w (with_owed [] m) next)
   SaysOn w m (Sent o next) = (t : Task) × (ts : List Task) × (n : ℕ) × (bytes : List ℕ) × (m.todo ≡ t ∷ ts) × (o ≡ t.number) × (t.op ≡ ops.Send n bytes) × Named p q clients w n × IsFree m × SaysOn w (with_done t ts m) next
   SaysOn w m Rest = IsFree m × (m.todo ≡ [])

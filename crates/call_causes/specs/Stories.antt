@@ -17,7 +17,7 @@ use Rattle.sock_programs.specs.Beside.{calls_after}
 use Rattle.sock_programs.specs.Posts.{advance_of}
 use Rattle.sock_programs.specs.Cores.{Core, SeatState}
 use Rattle.call_causes.specs.Lists.{given}
-use Rattle.call_causes.specs.Scenes.{Birth, Claim, Saying, Scene, In, Said, IsBorn, IsOther, CauseOf, Begun, IsTaskOf, WhyEnded, AreTold, IsClaimed}
+use Rattle.call_causes.specs.Scenes.{Birth, Claim, Saying, Scene, In, IsOver, Said, IsBorn, IsOther, CauseOf, Begun, IsTaskOf, WhyEnded, AreTold, IsClaimed}
 use Rattle.call_causes.specs.Says.{Slot, NoSlot, Claims, Locked, Holds, Leaves, Mark, with_slot, with_owed, with_made, with_done, put_in, taken_out, given_more, SaysOn}
 
 abbrev pub At : List Mark → ℕ → Mark → Type 0
@@ -116,6 +116,11 @@ module _ (p : Plan) (q : IdPlan) (clients : List (List Task)) where
   abbrev pub IsOwed : List Mark → Birth → Type 0
   IsOwed ms b = (j : ℕ) × (m : Mark) × At ms j m × (m.owes ≡ b ∷ [])
 
+  -- of no operation two outcomes are said
+  abbrev pub AreOnce : List Saying → Type 0
+  AreOnce [] = Unit {0}
+  AreOnce (s ∷ ss) = ((x : Outcome) → In (record { number = s.number; outcome = x }) ss → ⊥) × AreOnce ss
+
   -- with these outcomes, by what was said of them
   pub record TasksLaw (w : Scene) (os : List (Option Outcome)) (ss : List Saying) (ms : List Mark) : Type 0 where
     pub client : (j : ℕ) (m : Mark) → At ms j m → m.client ≡ j
@@ -128,6 +133,7 @@ module _ (p : Plan) (q : IdPlan) (clients : List (List Task)) where
     -- what was said is there, and nothing else
     pub said : (o : ℕ) (x : Outcome) → In (record { number = o; outcome = x }) ss → slice_get os o ≡ Some (Some x)
     pub outcomes : (o : ℕ) (x : Outcome) → slice_get os o ≡ Some (Some x) → In (record { number = o; outcome = x }) ss
+    pub once : AreOnce ss
     pub fresh : (j : ℕ) (m : Mark) (t : Task) → At ms j m → In t (ahead m.makes m.todo) → IsUntold os t.number
     -- of a range that hasn't ended nothing is said, and of one that has its outcome, or a seat is to say it
     pub untold : (b : Birth) → In b w.births → IsCurrent w b ⊎ IsOwed ms b → IsUntold os b.asked.operation
@@ -207,6 +213,7 @@ module _ (p : Plan) (q : IdPlan) (clients : List (List Task)) where
     pub births : w'.births ≡ births_after step found m w.births
     pub claims : w'.claims ≡ claims_after step found m w.claims
     pub sayings : (s : Saying) → In s w.sayings → In s w'.sayings
+    pub overs : (a b : Saying) → IsOver a b w.sayings → IsOver a b w'.sayings
 
   -- ## What the rule of the ids says of a step
 
