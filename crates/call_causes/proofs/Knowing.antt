@@ -32,17 +32,17 @@ taken_of l law = by_stands law.stands
     by_stands (locked c o s h tokens state live begins home holds) = let t = live.taken in ((λ some_ e. omega (arith, t, e)), (λ e. absurd (omega (arith, t, e))))
     by_stands (leaving tokens tag state first home) = ((λ some_. absurd (omega (arith, some_, state))), (λ e. state))
 
-module _ (p : Plan) (q : IdPlan) (clients : List (List Task)) (w : Scene) (us : List IdView) (ids : SoundIds p q w.core us) where
+module _ (p : Plan) (q : IdPlan) (clients : List (List Task)) (fin : ℕ → List ℕ) (w : Scene) (us : List IdView) (ids : SoundIds p q w.core us) where
   pub is_sized : length w.core.calls.words ≡ all_words q
   is_sized = ids.rule.sized
 
   pub are_low : (k : ℕ) → k < q.slots → (word_at w k).first ≤ 67108856
   are_low k inside = let law = ids.rule.slots k inside in let z = law.first_low in omega (arith, z)
 
-  pub taken_with : (i : ℕ) → i < q.slots → IsTakenWith p q clients w i
+  pub taken_with : (i : ℕ) → i < q.slots → IsTakenWith p q clients fin w i
   taken_with i inside = taken_of (local (id_state w.core.calls us) i) (ids.rule.slots i inside)
 
-  is_word : (i found : ℕ) → i < q.slots → core.some (get_or w.core.calls.words (id_word i) 0) ≡ core.some found → IsWordAt p q clients w i found
+  is_word : (i found : ℕ) → i < q.slots → core.some (get_or w.core.calls.words (id_word i) 0) ≡ core.some found → IsWordAt p q clients fin w i found
   is_word i found inside e = (inside, ap parts (sym (some-injective (get_or w.core.calls.words (id_word i) 0) found e)))
 
   lies : (i : ℕ) (x : core.Option (core.Option (Option Asked))) (found : Asked) → get_elem? w.core.calls.homes i ≡ x → call_at x ≡ core.some found → LiesAt w i found
@@ -54,11 +54,11 @@ module _ (p : Plan) (q : IdPlan) (clients : List (List Task)) (w : Scene) (us : 
   few : (from n : ℕ) → (parts from).attempt + n + 2 ≤ (parts from).range → (parts from).attempt + n ≤ 6
   few from n room = let eight : (parts from).range ≤ 8 = omega arith in omega (arith, room, eight)
 
-  module _ (ms : List Mark) (j : ℕ) (m : Mark) (at : At ms j m) (reads : ReadsLaw p q clients w ms) (u : IdView) (at_view : get_elem? us j ≡ core.some u) where
+  module _ (ms : List Mark) (j : ℕ) (m : Mark) (at : At ms j m) (reads : ReadsLaw p q clients fin w ms) (u : IdView) (at_view : get_elem? us j ≡ core.some u) where
     pub finds : (step : Step) (t : core.Option Taking) (found : Found step) → found_in step w.core.calls t ≡ core.some found → MayId p q u step → FindsId p q u step found
     finds step t found is may = finds_ids p q w.core.calls ids.plan us ids.rule j u at_view (ids.real j u at_view) (ids.called, ids.placed) ids.homes step t found is may
 
-    pub knows : (step : Step) (t : core.Option Taking) (found : Found step) → found_in step w.core.calls t ≡ core.some found → MayId p q u step → MayAside p q clients w m step → KnowsStep p q clients w step found
+    pub knows : (step : Step) (t : core.Option Taking) (found : Found step) → found_in step w.core.calls t ≡ core.some found → MayId p q u step → MayAside p q clients fin w m step → KnowsStep p q clients fin w step found
     knows (ClaimId i) t found is may a = (may, sym (some-injective (get_or w.core.calls.words (tag_word i) 0) found is), taken_with i may)
     knows (PutCall i asked) t found is may a = may.0
     knows (MakeId i range) t found is may a = let f = finds (MakeId i range) t found is may in (is_word i found may.0 is, f.1, may.2, may.3)

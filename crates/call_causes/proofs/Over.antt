@@ -23,13 +23,13 @@ got_below [] i a e = absurd (let z : None ≡ Some a = e in cc)
 got_below (x ∷ xs) zero a e = omega arith
 got_below (x ∷ xs) (suc i) a e = omega (arith, got_below xs i a e)
 
-module _ (p : Plan) (q : IdPlan) (clients : List (List Task)) where
+module _ (p : Plan) (q : IdPlan) (clients : List (List Task)) (fin : ℕ → List ℕ) where
   -- where no seat has anything left to do and no id is left
-  pub has_ended : (w : Scene) (ms : List Mark) → CallStory p q clients w ms → AllRest w.core → ((i : ℕ) → i < q.slots → (word_at w i).state ≡ 0) → length clients ≤ length w.core.seats → HasEnded p q clients w ms
+  pub has_ended : (w : Scene) (ms : List Mark) → CallStory p q clients fin w ms → AllRest w.core → ((i : ℕ) → i < q.slots → (word_at w i).state ≡ 0) → length clients ≤ length w.core.seats → HasEnded p q clients fin w ms
   has_ended w ms story rest free many = record {
     births = story.births;
     tasks = story.tasks;
-    idle = λ j m at. let s = other_there ms w.core.seats j m (sym story.each) at in let g = subst (SaysOn p q clients w m) (rest j s.0 s.1) (story.seats j s.0 m s.1 at) in (g.1, g.0.1);
+    idle = λ j m at. let s = other_there ms w.core.seats j m (sym story.each) at in let g = subst (SaysOn p q clients fin w m) (rest j s.0 s.1) (story.seats j s.0 m s.1 at) in (g.1, g.0.1);
     free = free;
     seated = λ c ts there. there_below ms c (let low = got_below clients c ts there in let each = story.each in omega (arith, low, each, many));
   }

@@ -43,12 +43,12 @@ ending_few : (os : List ℕ) → KeepsFew (ending_of os)
 ending_few [] = tt
 ending_few (o ∷ os) = tt
 
-module _ (p : Plan) (q : IdPlan) (clients : List (List Task)) (numbered : AreNumbered p q clients) (slots : HaveSlots p q clients) (small : q.slots ≤ 65536) where
+module _ (p : Plan) (q : IdPlan) (clients : List (List Task)) (fin : ℕ → List ℕ) (numbered : AreNumbered p q clients fin) (slots : HaveSlots p q clients fin) (small : q.slots ≤ 65536) where
   abbrev pub Story : Core → Type 0
-  Story c = HasStory p q clients c
+  Story c = HasStory p q clients fin c
 
   one_tick : (c : Core) (vs : List View) (m : Moment) → BothSound p q c vs → Rattle.joint_runs.proofs.Both.FitsBoth p c m → (m.seat ≢ 0 → (seat : SeatState) → get_elem? c.seats 0 ≡ some seat → seat.program ≡ Rattle.sock_programs.specs.Programs.Rest) → Story c → Story (ticked p c m)
-  one_tick c vs m both fits over h = story_ticks p q clients numbered slots small c both.id_views m both.ids fits.fitting_ids (let s = both.sockets in s.lawful.references.sized) (allows p c vs m both.sockets) over h
+  one_tick c vs m both fits over h = story_ticks p q clients fin numbered slots small c both.id_views m both.ids fits.fitting_ids (let s = both.sockets in s.lawful.references.sized) (allows p c vs m both.sockets) over h
 
   -- ticks of seat 0
   pub setup_story : (n : ℕ) (c : Core) (vs : List View) → AreBoth p q c vs (replicate n (quiet 0)) → Story c → Story (run p c (replicate n (quiet 0)))
@@ -65,13 +65,13 @@ module _ (p : Plan) (q : IdPlan) (clients : List (List Task)) (numbered : AreNum
   ending_story os c vs both some_ ahead rests h = subst (λ d. Story (with_seat 0 (ending_of os) [] d.words d.homes d)) h.is
       (of_scene h.scene h.marks h.story (subst (λ d. BothSound p q d vs) (sym h.is) both) (subst (λ (d : Core). 0 < length d.seats) (sym h.is) some_) (subst IsAhead (sym h.is) ahead) (subst (λ d. IsAtRest d 0) (sym h.is) rests))
     where
-      of_scene : (w : Scene) (ms : List Mark) → CallStory p q clients w ms → BothSound p q w.core vs → 0 < length w.core.seats → IsAhead w.core → IsAtRest w.core 0 → Story (with_seat 0 (ending_of os) [] w.core.words w.core.homes w.core)
+      of_scene : (w : Scene) (ms : List Mark) → CallStory p q clients fin w ms → BothSound p q w.core vs → 0 < length w.core.seats → IsAhead w.core → IsAtRest w.core 0 → Story (with_seat 0 (ending_of os) [] w.core.words w.core.homes w.core)
       of_scene w ms story both some_ ahead rests =
           let s = first_there w.core.seats some_ in let ids = both.ids in let sockets = both.sockets in
           let u = other_there w.core.seats both.id_views 0 s.0 ids.each s.1 in let m = other_there w.core.seats ms 0 s.0 story.each s.1 in
-          let idle = subst (SaysOn p q clients w m.0) (seat_rests w.core ahead 0 rests s.0 s.1) (story.seats 0 s.0 m.0 s.1 m.1) in
-          on_homes p q clients numbered slots small w ms story both.id_views both.ids (sockets.lawful.references.sized) 0 s.0 s.1 u.0 u.1 m.0 m.1 (λ other. absurd (other refl)) (ending_of os) [] w.core.homes (ending_few os)
-          (λ v l _. ending_says p q clients os v m.0 idle.0 idle.1)
+          let idle = subst (SaysOn p q clients fin w m.0) (seat_rests w.core ahead 0 rests s.0 s.1) (story.seats 0 s.0 m.0 s.1 m.1) in
+          on_homes p q clients fin numbered slots small w ms story both.id_views both.ids (sockets.lawful.references.sized) 0 s.0 s.1 u.0 u.1 m.0 m.1 (λ other. absurd (other refl)) (ending_of os) [] w.core.homes (ending_few os)
+          (λ v l _. ending_says p q clients fin os v m.0 idle.0 idle.1)
         where
           first_there : (l : List SeatState) → 0 < length l → (x : SeatState) × (get_elem? l 0 ≡ some x)
           first_there [] less = absurd (omega (arith, less))
@@ -81,11 +81,11 @@ module _ (p : Plan) (q : IdPlan) (clients : List (List Task)) (numbered : AreNum
   pub told_on : (c : Core) (vs : List View) → BothSound p q c vs → 0 < length c.seats → Story c → Story (is_ending c)
   told_on c vs both some_ h = subst (λ d. Story (is_ending d)) h.is (of_scene h.scene h.marks h.story (subst (λ d. BothSound p q d vs) (sym h.is) both) (subst (λ (d : Core). 0 < length d.seats) (sym h.is) some_))
     where
-      of_scene : (w : Scene) (ms : List Mark) → CallStory p q clients w ms → BothSound p q w.core vs → 0 < length w.core.seats → Story (is_ending w.core)
+      of_scene : (w : Scene) (ms : List Mark) → CallStory p q clients fin w ms → BothSound p q w.core vs → 0 < length w.core.seats → Story (is_ending w.core)
       of_scene w ms story both some_ =
           let s = first_there w.core.seats some_ in let ids = both.ids in let sockets = both.sockets in
           let u = other_there w.core.seats both.id_views 0 s.0 ids.each s.1 in let m = other_there w.core.seats ms 0 s.0 story.each s.1 in
-          told_story p q clients numbered slots small w ms story both.id_views both.ids (sockets.lawful.references.sized) 0 s.0 s.1 u.0 u.1 m.0 m.1 (λ other. absurd (other refl))
+          told_story p q clients fin numbered slots small w ms story both.id_views both.ids (sockets.lawful.references.sized) 0 s.0 s.1 u.0 u.1 m.0 m.1 (λ other. absurd (other refl))
         where
           first_there : (l : List SeatState) → 0 < length l → (x : SeatState) × (get_elem? l 0 ≡ some x)
           first_there [] less = absurd (omega (arith, less))
@@ -93,10 +93,10 @@ module _ (p : Plan) (q : IdPlan) (clients : List (List Task)) (numbered : AreNum
 
 -- ## A whole run
 
-module _ (script : List Item) (made : AreMade script) (numbered : AreNumbered (plan_of script) (id_plan_of script) (all_tasks script)) (slots : HaveSlots (plan_of script) (id_plan_of script) (all_tasks script)) (fit : Begins (plan_of script) (id_plan_of script) (all_tasks script) numbered slots (opens script))
+module _ (script : List Item) (made : AreMade script) (fin : ℕ → List ℕ) (numbered : AreNumbered (plan_of script) (id_plan_of script) (all_tasks script) fin) (slots : HaveSlots (plan_of script) (id_plan_of script) (all_tasks script) fin) (fit : Begins (plan_of script) (id_plan_of script) (all_tasks script) fin numbered slots (opens script))
     (turns : List Turn) (core : Core) (is : IsRunWithCalls script turns core) where
   abbrev Tale : Core → Type 0
-  Tale c = HasStory (plan_of script) (id_plan_of script) (all_tasks script) c
+  Tale c = HasStory (plan_of script) (id_plan_of script) (all_tasks script) fin c
 
   abbrev small : (id_plan_of script).slots ≤ 65536
   small = narrow (plan_of script) (id_plan_of script) (all_tasks script) (calls script) (opens script) made
@@ -152,26 +152,26 @@ module _ (script : List Item) (made : AreMade script) (numbered : AreNumbered (p
   many_seats = ap (λ (d : Core). length d.seats) is.is_end ∙ (run_seats (plan_of script) is.ended is.final ∙ (ap (λ (d : Core). length d.seats) is.is_ended ∙ many_closed))
 
   first_tale : Tale (opened script)
-  first_tale = first_story (plan_of script) (id_plan_of script) (all_tasks script) numbered slots (calls script) (opens script) fit made.seats length_is few_tries
+  first_tale = first_story (plan_of script) (id_plan_of script) (all_tasks script) fin numbered slots (calls script) (opens script) fit made.seats length_is few_tries
 
   set_up_tale : Tale (set_up script is.setup)
-  set_up_tale = setup_story (plan_of script) (id_plan_of script) (all_tasks script) numbered slots small is.setup (opened script) (first_views script) (let s = sound_run in s.setup) first_tale
+  set_up_tale = setup_story (plan_of script) (id_plan_of script) (all_tasks script) fin numbered slots small is.setup (opened script) (first_views script) (let s = sound_run in s.setup) first_tale
 
   played_tale : Tale (played script is.setup (is.scheduled ++ is.later))
-  played_tale = played_story (plan_of script) (id_plan_of script) (all_tasks script) numbered slots small (is.scheduled ++ is.later) (set_up script is.setup) views_set_up (let s = sound_run in s.clients) set_up_ahead is.is_set_up set_up_tale
+  played_tale = played_story (plan_of script) (id_plan_of script) (all_tasks script) fin numbered slots small (is.scheduled ++ is.later) (set_up script is.setup) views_set_up (let s = sound_run in s.clients) set_up_ahead is.is_set_up set_up_tale
 
   ending_tale : Tale (ending script (played script is.setup (is.scheduled ++ is.later)))
-  ending_tale = let s = sound_run in ending_story (plan_of script) (id_plan_of script) (all_tasks script) numbered slots small (opens script) (played script is.setup (is.scheduled ++ is.later)) (views_along (plan_of script) (set_up script is.setup) views_set_up (is.scheduled ++ is.later))
+  ending_tale = let s = sound_run in ending_story (plan_of script) (id_plan_of script) (all_tasks script) fin numbered slots small (opens script) (played script is.setup (is.scheduled ++ is.later)) (views_along (plan_of script) (set_up script is.setup) views_set_up (is.scheduled ++ is.later))
       (behind_both (plan_of script) (id_plan_of script) (set_up script is.setup) views_set_up (is.scheduled ++ is.later) s.clients) (let seats = made.seats in omega (arith, many_played, seats)) played_ahead
       (run_rests (plan_of script) (set_up script is.setup) (is.scheduled ++ is.later) 0 is.is_set_up) played_tale
 
   closed_tale : Tale (run (plan_of script) (ending script (played script is.setup (is.scheduled ++ is.later))) (replicate is.last (quiet 0)))
-  closed_tale = setup_story (plan_of script) (id_plan_of script) (all_tasks script) numbered slots small is.last (ending script (played script is.setup (is.scheduled ++ is.later))) (views_played script turns core is (first_views script)) (let s = sound_run in s.closing) ending_tale
+  closed_tale = setup_story (plan_of script) (id_plan_of script) (all_tasks script) fin numbered slots small is.last (ending script (played script is.setup (is.scheduled ++ is.later))) (views_played script turns core is (first_views script)) (let s = sound_run in s.closing) ending_tale
 
   ended_tale : Tale is.ended
-  ended_tale = let s = sound_run in subst Tale (sym is.is_ended) (told_on (plan_of script) (id_plan_of script) (all_tasks script) numbered slots small (run (plan_of script) (ending script (played script is.setup (is.scheduled ++ is.later))) (replicate is.last (quiet 0))) (views_closed script turns core is (first_views script))
+  ended_tale = let s = sound_run in subst Tale (sym is.is_ended) (told_on (plan_of script) (id_plan_of script) (all_tasks script) fin numbered slots small (run (plan_of script) (ending script (played script is.setup (is.scheduled ++ is.later))) (replicate is.last (quiet 0))) (views_closed script turns core is (first_views script))
       (behind_both (plan_of script) (id_plan_of script) (ending script (played script is.setup (is.scheduled ++ is.later))) (views_played script turns core is (first_views script)) (replicate is.last (quiet 0)) s.closing) (let seats = made.seats in omega (arith, many_closed, seats)) closed_tale)
 
   -- at the end of a run its story is there
-  pub run_story : HasStory (plan_of script) (id_plan_of script) (all_tasks script) core
-  run_story = subst Tale (sym is.is_end) (played_story (plan_of script) (id_plan_of script) (all_tasks script) numbered slots small is.final is.ended (views_closed script turns core is (first_views script)) (let s = sound_run in s.final) ended_ahead is.is_over ended_tale)
+  pub run_story : HasStory (plan_of script) (id_plan_of script) (all_tasks script) fin core
+  run_story = subst Tale (sym is.is_end) (played_story (plan_of script) (id_plan_of script) (all_tasks script) fin numbered slots small is.final is.ended (views_closed script turns core is (first_views script)) (let s = sound_run in s.final) ended_ahead is.is_over ended_tale)

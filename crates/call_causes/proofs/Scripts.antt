@@ -62,7 +62,7 @@ call_item : (item : Item) → is_call item ≡ true → (call : CallLine) × (it
 call_item (Call call) is = (call, refl)
 call_item other is = absurd (cc)
 
-module _ (script : List Item) (made : AreMade script) (there : AreThere script) (range : AllByRecursion InRange script) where
+module _ (script : List Item) (made : AreMade script) (there : AreThere script) (range : AllByRecursion InRange script) (fin : ℕ → List ℕ) where
   abbrev p : Plan
   p = plan_of script
 
@@ -73,7 +73,7 @@ module _ (script : List Item) (made : AreMade script) (there : AreThere script) 
   cs = all_tasks script
 
   -- the operation of a task
-  task_at : (c : ℕ) (t : Task) → IsTaskOf (plan_of script) (id_plan_of script) (all_tasks script) c t → lemmas.IsTaskOf script c t
+  task_at : (c : ℕ) (t : Task) → IsTaskOf (plan_of script) (id_plan_of script) (all_tasks script) fin c t → lemmas.IsTaskOf script c t
   task_at c t is = has_task script c t (subst (λ (ts : List Task). Has ts t) (sym (of_tasks script c is.0 is.1).1) (in_has is.0 t is.2))
 
   item_there : (i : ℕ) (o : Operation) (item : Item) → slice_get (operations script) i ≡ Some o → o.item ≡ item → Has script item
@@ -81,7 +81,7 @@ module _ (script : List Item) (made : AreMade script) (there : AreThere script) 
 
   -- ## Numbers
 
-  pub are_numbered : AreNumbered (plan_of script) (id_plan_of script) (all_tasks script)
+  pub are_numbered : AreNumbered (plan_of script) (id_plan_of script) (all_tasks script) fin
   are_numbered = record {
     apart = λ c d t u is_t is_u same. let a = task_at c t is_t in let b = task_at d u is_u in
         let op : a.operation ≡ b.operation = some_is a.operation b.operation (sym a.there ∙ (ap (slice_get (operations script)) same ∙ b.there)) in sym a.own ∙ (ap (λ (o : Operation). o.client) op ∙ b.own);
@@ -91,15 +91,15 @@ module _ (script : List Item) (made : AreMade script) (there : AreThere script) 
   pub are_ascending : (c : ℕ) → AreAscending (get_or (all_tasks script) c [])
   are_ascending c = (each_ordered (all_tasks script) c (let are = made.are in are.in_order)).1
 
-  numbers : (c : ℕ) (t : Task) → IsTaskOf (plan_of script) (id_plan_of script) (all_tasks script) c t → t.number < (plan_of script).operations
+  numbers : (c : ℕ) (t : Task) → IsTaskOf (plan_of script) (id_plan_of script) (all_tasks script) fin c t → t.number < (plan_of script).operations
   numbers c t is = let a = task_at c t is in slice_get_within (operations script) t.number a.operation a.there
 
   -- ## Calls
 
-  pub have_slots : HaveSlots (plan_of script) (id_plan_of script) (all_tasks script)
+  pub have_slots : HaveSlots (plan_of script) (id_plan_of script) (all_tasks script) fin
   have_slots = record { calls = calls script; many = refl; listed = listed }
     where
-      listed : (c : ℕ) (t : Task) (asked : Asked) → IsTaskOf (plan_of script) (id_plan_of script) (all_tasks script) c t → t.op ≡ ops.Call asked → In t.number (calls script)
+      listed : (c : ℕ) (t : Task) (asked : Asked) → IsTaskOf (plan_of script) (id_plan_of script) (all_tasks script) fin c t → t.op ≡ ops.Call asked → In t.number (calls script)
       listed c t asked is op =
           let a = task_at c t is in
           let call = call_asks (numbered script) (names script) (numbers_at script t.number a.operation) a.operation.item asked (a.asks ∙ ap (λ o. Some o) op) in
@@ -109,7 +109,7 @@ module _ (script : List Item) (made : AreMade script) (there : AreThere script) 
           has_in (calls script) h.0 t.number h.1
 
   -- whatever is at the place of a call is that call
-  target_call : (o : ℕ) (client i : ℕ) → IsTarget script client i o → IsCalls (plan_of script) (id_plan_of script) (all_tasks script) o
+  target_call : (o : ℕ) (client i : ℕ) → IsTarget script client i o → IsCalls (plan_of script) (id_plan_of script) (all_tasks script) fin o
   target_call o client i target c u is number =
       let a = task_at c u is in
       let same : a.operation ≡ target.call = some_is a.operation target.call (sym a.there ∙ (ap (slice_get (operations script)) number ∙ target.there)) in
@@ -119,7 +119,7 @@ module _ (script : List Item) (made : AreMade script) (there : AreThere script) 
 
   -- ## Each task fits
 
-  fits_op : (c : ℕ) (t : Task) (op : Op) → IsTaskOf (plan_of script) (id_plan_of script) (all_tasks script) c t → t.op ≡ op → FitsOp (plan_of script) (id_plan_of script) (all_tasks script) t.number op
+  fits_op : (c : ℕ) (t : Task) (op : Op) → IsTaskOf (plan_of script) (id_plan_of script) (all_tasks script) fin c t → t.op ≡ op → FitsOp (plan_of script) (id_plan_of script) (all_tasks script) fin t.number op
   fits_op c t (ops.Call asked) is op =
       let a = task_at c t is in
       let call = call_asks (numbered script) (names script) (numbers_at script t.number a.operation) a.operation.item asked (a.asks ∙ ap (λ o. Some o) op) in
@@ -127,11 +127,11 @@ module _ (script : List Item) (made : AreMade script) (there : AreThere script) 
   fits_op c t (ops.Expire o) is op =
       let a = task_at c t is in
       let x = expire_asks (numbered script) (names script) (numbers_at script t.number a.operation) a.operation.item o (a.asks ∙ ap (λ o. Some o) op) in
-      subst (IsCalls (plan_of script) (id_plan_of script) (all_tasks script)) (sym x.3) (target_call (number_of (numbered script) x.0 x.1) x.0 x.1 (expired script there x.0 x.1 (item_there t.number a.operation (Expire x.0 x.1) a.there x.2)))
+      subst (IsCalls (plan_of script) (id_plan_of script) (all_tasks script) fin) (sym x.3) (target_call (number_of (numbered script) x.0 x.1) x.0 x.1 (expired script there x.0 x.1 (item_there t.number a.operation (Expire x.0 x.1) a.there x.2)))
   fits_op c t (ops.Join o) is op =
       let a = task_at c t is in
       let x = join_asks (numbered script) (names script) (numbers_at script t.number a.operation) a.operation.item o (a.asks ∙ ap (λ o. Some o) op) in
-      subst (IsCalls (plan_of script) (id_plan_of script) (all_tasks script)) (sym x.3) (target_call (number_of (numbered script) x.0 x.1) x.0 x.1 (joined script there x.0 x.1 (item_there t.number a.operation (Join x.0 x.1) a.there x.2)))
+      subst (IsCalls (plan_of script) (id_plan_of script) (all_tasks script) fin) (sym x.3) (target_call (number_of (numbered script) x.0 x.1) x.0 x.1 (joined script there x.0 x.1 (item_there t.number a.operation (Join x.0 x.1) a.there x.2)))
   fits_op c t (ops.Fail n code) is op =
       let a = task_at c t is in
       let x = fail_asks (numbered script) (names script) (numbers_at script t.number a.operation) a.operation.item n code (a.asks ∙ ap (λ o. Some o) op) in
@@ -142,10 +142,10 @@ module _ (script : List Item) (made : AreMade script) (there : AreThere script) 
   fits_op c t (ops.Drop n) is op = tt
 
   -- client 0 only opens sockets
-  opens_only : (c : ℕ) (t : Task) → IsTaskOf (plan_of script) (id_plan_of script) (all_tasks script) c t → (IsOpen t.op → ⊥) → c ≢ 0
+  opens_only : (c : ℕ) (t : Task) → IsTaskOf (plan_of script) (id_plan_of script) (all_tasks script) fin c t → (IsOpen t.op → ⊥) → c ≢ 0
   opens_only c t is none_ zero_ = let are = made.are in none_ (in_all (λ (u : Task). IsOpen u.op) is.0 (are.setup is.0 (ap (slice_get (all_tasks script)) (sym zero_) ∙ is.1)) t is.2)
 
-  fits_client : (c : ℕ) (t : Task) (op : Op) → IsTaskOf (plan_of script) (id_plan_of script) (all_tasks script) c t → t.op ≡ op → FitsClient (plan_of script) (id_plan_of script) (all_tasks script) c op
+  fits_client : (c : ℕ) (t : Task) (op : Op) → IsTaskOf (plan_of script) (id_plan_of script) (all_tasks script) fin c t → t.op ≡ op → FitsClient (plan_of script) (id_plan_of script) (all_tasks script) fin c op
   fits_client c t (ops.Open n k) is op = tt
   fits_client c t (ops.Call asked) is op = opens_only c t is (λ o. subst IsOpen op o)
   fits_client c t (ops.Expire o) is op = opens_only c t is (λ o. subst IsOpen op o)
@@ -155,9 +155,9 @@ module _ (script : List Item) (made : AreMade script) (there : AreThere script) 
   fits_client c t (ops.Drop n) is op = opens_only c t is (λ o. subst IsOpen op o)
   fits_client c t (ops.Fail n code) is op = opens_only c t is (λ o. subst IsOpen op o)
 
-  pub begins : Begins (plan_of script) (id_plan_of script) (all_tasks script) are_numbered have_slots (opens script)
+  pub begins : Begins (plan_of script) (id_plan_of script) (all_tasks script) fin are_numbered have_slots (opens script)
   begins = record {
-    fits = λ c ts at. all_in (FitsTask (plan_of script) (id_plan_of script) (all_tasks script) c) ts (λ t in_. let is : IsTaskOf (plan_of script) (id_plan_of script) (all_tasks script) c t = (ts, at, in_) in (fits_op c t t.op is refl, fits_client c t t.op is refl));
+    fits = λ c ts at. all_in (FitsTask (plan_of script) (id_plan_of script) (all_tasks script) fin c) ts (λ t in_. let is : IsTaskOf (plan_of script) (id_plan_of script) (all_tasks script) fin c t = (ts, at, in_) in (fits_op c t t.op is refl, fits_client c t t.op is refl));
     numbers = numbers;
     few = made.few_clients;
     links = let seats = made.seats in omega (arith, seats);

@@ -56,8 +56,8 @@ module _ (p : Plan) where
   tagged : (ws : List ℕ) (j v n : ℕ) → j < p.slots → IsNamed ws n → IsNamed (set ws (tag_word j) v) n
   tagged ws j v n inside some_ = other_name ws (tag_word j) v n (λ e. omega (arith, inside, e)) some_
 
-  module _ (q : IdPlan) (clients : List (List Task)) where
-    pub names_after : (call : Call) → IsInside p call → MayDo p q clients call → (ws : List ℕ) → length ws ≡ all_words p → (n : ℕ) → n < p.names → IsNamed ws n → IsNamed (words_after ws (word_of p call) (word_after call (found_at ws (word_of p call)))) n
+  module _ (q : IdPlan) (clients : List (List Task)) (fin : ℕ → List ℕ) where
+    pub names_after : (call : Call) → IsInside p call → MayDo p q clients fin call → (ws : List ℕ) → length ws ≡ all_words p → (n : ℕ) → n < p.names → IsNamed ws n → IsNamed (words_after ws (word_of p call) (word_after call (found_at ws (word_of p call)))) n
     names_after (ClaimSlot i) in_ may ws sized n low some_ = tagged ws i 1 n in_ some_
     names_after (FreeSlot i) in_ may ws sized n low some_ = tagged ws i 0 n in_ some_
     names_after (GiveBirth i k) in_ may ws sized n low some_ = of_slot ws i 1 (word_after (GiveBirth i k) (found_at ws (word_of p (GiveBirth i k)))) n in_ (omega arith) some_
@@ -116,8 +116,8 @@ module _ (p : Plan) where
   code_tagged : (ws : List ℕ) (j w : ℕ) → AreOther ws → AreOther (set ws (tag_word j) w)
   code_tagged ws j w are = code_set ws (tag_word j) w are (λ i inside e. absurd (omega (arith, e)))
 
-  module _ (q : IdPlan) (clients : List (List Task)) where
-    pub codes_after : (call : Call) → MayDo p q clients call → (ws : List ℕ) → AreOther ws → AreOther (words_after ws (word_of p call) (word_after call (found_at ws (word_of p call))))
+  module _ (q : IdPlan) (clients : List (List Task)) (fin : ℕ → List ℕ) where
+    pub codes_after : (call : Call) → MayDo p q clients fin call → (ws : List ℕ) → AreOther ws → AreOther (words_after ws (word_of p call) (word_after call (found_at ws (word_of p call))))
     codes_after (ClaimSlot i) may ws are = code_tagged ws i (word_after (ClaimSlot i) (found_at ws (word_of p (ClaimSlot i)))) are
     codes_after (FreeSlot i) may ws are = code_tagged ws i (word_after (FreeSlot i) (found_at ws (word_of p (FreeSlot i)))) are
     codes_after (GiveBirth i k) may ws are = code_of_slot ws i 1 (word_after (GiveBirth i k) (found_at ws (word_of p (GiveBirth i k)))) (omega arith) (λ e. omega (arith, e)) are

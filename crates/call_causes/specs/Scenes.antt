@@ -93,7 +93,7 @@ SeeksName n (ops.Send m bytes) = m ≡ n
 SeeksName n (ops.Call asked) = name_of asked 0 ≡ n
 SeeksName n other = ⊥
 
-module _ (p : Plan) (q : IdPlan) (clients : List (List Task)) where
+module _ (p : Plan) (q : IdPlan) (clients : List (List Task)) (fin : ℕ → List ℕ) where
   -- the name had a socket
   abbrev pub Named : Scene → ℕ → Type 0
   Named w n = (n < p.names) × (slice_index w.core.words (name_word p n) ≢ 0)
