@@ -11,7 +11,7 @@ use Rattle.sock_programs.specs.Asides.{Step, MakeId, ClaimId, PutCall, StoreCall
 use Rattle.sock_programs.specs.Programs.{Program, Say, Sent, Do, Rest, TakeMessage, TakeHome, PutHome, PutBytes, AskReady, Write, Aside, Round, Keep, Retries}
 use Rattle.sock_programs.specs.Cores.{resolved, said, next_step}
 use Rattle.sock_words.specs.declared.outcome.Outcome.{Outcome}
-use Rattle.call_causes.specs.Scenes.{Birth, Saying, Scene, In, IsOver, IsOther, HasRoom, Later}
+use Rattle.call_causes.specs.Scenes.{Birth, Saying, Scene, In, IsOver, IsOther, StaysWithin, Later}
 use Rattle.call_causes.specs.Says.{Claims, Mark, IsNextSaid, SaidBy, MayAside, Moves, Shows, SaysOn}
 use Rattle.call_causes.specs.Stories.{At, word_at, SlotFits, SlotsLaw, BirthsLaw, TasksLaw, ClaimsLaw, ReadsLaw, IsBehind, KnowsStep, mark_after}
 use Rattle.call_causes.proofs.Births.{IsMake}
@@ -87,7 +87,7 @@ said_all w (Round head next) ws ss all overs = tt
 
 module _ (p : Plan) (q : IdPlan) (clients : List (List Task)) (fin : ℕ → List ℕ) (numbered : AreNumbered p q clients fin) (w w' : Scene) (ms : List Mark) (j : ℕ) (m : Mark) (at : At ms j m) (plan : w.core.calls.plan ≡ q) (sized : length w.core.calls.words ≡ all_words q) (low : (k : ℕ) → k < q.slots → (word_at w k).first ≤ 67108856)
     (slots : SlotsLaw q w ms) (births : BirthsLaw p q clients fin w) (tasks : TasksLaw p q clients fin w w.core.outcomes w.sayings ms) (claims : ClaimsLaw p q clients fin w ms) (reads : ReadsLaw p q clients fin w ms)
-    (step : Step) (found : Found step) (b : IsBehind p q clients fin w w' m step found) (knows : KnowsStep p q clients fin w step found) (same : w'.core.words ≡ w.core.words) (room : HasRoom p q clients fin w') where
+    (step : Step) (found : Found step) (b : IsBehind p q clients fin w w' m step found) (knows : KnowsStep p q clients fin w step found) (same : w'.core.words ≡ w.core.words) (room : StaysWithin p q clients fin w') where
   fits : SlotFits q w m.slot
   fits = slots.fits j m at
 
@@ -123,7 +123,7 @@ module _ (p : Plan) (q : IdPlan) (clients : List (List Task)) (fin : ℕ → Lis
       apart = birth_ticks.apart p q clients fin w w' m plan sized fits births low step found b knows may made (fresh step found may);
       homes = birth_ticks.homes p q clients fin w w' m plan sized fits births low step found b knows may made (fresh step found may) (home_before p q clients fin w w' m plan sized fits births low step found b knows may);
       errors = errors.errors p q clients fin w w' m plan sized fits births is_later step found b knows shows;
-      codes = λ i inside some_. subst (λ ws. IsOther (get_or ws (code_word i) 0)) (sym same) (births.codes i inside (subst (λ ws. get_or ws (code_word i) 0 ≢ 0) same some_));
+      codes = λ i inside some_. subst (λ ws. IsOther p q clients fin (get_or ws (code_word i) 0)) (sym same) (births.codes i inside (subst (λ ws. get_or ws (code_word i) 0 ≢ 0) same some_));
     }
 
     pub is_moved : Moves p q clients fin w' m step found (mark_after p q clients fin step found m)
@@ -155,7 +155,7 @@ module _ (p : Plan) (q : IdPlan) (clients : List (List Task)) (fin : ℕ → Lis
       born = λ id asked s. s;
       came = λ k n frame s. s;
       claimed = λ i o s. s;
-      room = room;
+      within = room;
       apart = (is_later says.0).apart;
     }
 

@@ -1,10 +1,11 @@
--- Where a run has ended: why each call has its outcome, of a failed one as far as an `expire` and compressed responses go.
+-- Where a run has ended: why each call has its outcome, of a failed one as far as it is told without its attempts.
 use Rattle.std.proofs.Common.{◌≡◌, ◌≢◌, ℕ, ◌+◌, ◌<◌, ◌≤◌, ◌⊎◌, inl, inr, ⊎_elim, List, [], ◌∷◌, length, get_or, slice_get, Option, None, Some, Contains, refl, sym, ap, ◌∙◌, subst, arith}
 use Rattle.std.specs.Prelude.{pos}
 use Rattle.sock_words.specs.declared.plain.Plan.{Plan}
 use Rattle.sock_words.specs.declared.outcome.Outcome.{Outcome}
 use Rattle.sock_words.specs.declared.outcome.Outcome.TheVariants as outcomes
 use Rattle.brpc_model.specs.Frame.{Frame}
+use Rattle.brpc_model.specs.Causes.{HasFault}
 use Rattle.corr_core.specs.declared.marks.Plan.{Plan as IdPlan}
 use Rattle.sock_message.specs.Asked.{Asked, name_of}
 use Rattle.sock_programs.specs.declared.task.Op.{Op}
@@ -13,20 +14,13 @@ use Rattle.sock_programs.specs.declared.task.Task.{Task}
 use Rattle.sock_programs.specs.Told.{IsTask, Became, OpensNone}
 use Rattle.sock_programs.specs.ToldCalls.{Fixed, Order, FoundNone, Seeks, HasCode, IsExpiredWith}
 use Rattle.call_causes.specs.Lists.{given}
-use Rattle.call_causes.specs.Target.{IsOnCalls, FailedInPart, ByExpiry, ByCompression, ByOther, WhyCallInPart, WhyInPart}
+use Rattle.call_causes.specs.Target.{IsOnCalls, FailedInPart, ByExpiry, ByCompression, ByFrameFault, ByFail, ByOther, WhyCallInPart, WhyInPart}
 use Rattle.call_causes.specs.Scenes.{Birth, Scene, In, IsOther, IsOpened, SeeksName, IsTaskOf, HasNoneOf, NoneFound, FailedIn, by_expiry, by_compression, by_other, WhyEnded, WhyOwn, ToldOf, was_said, was_sent, was_begun}
 use Rattle.call_causes.specs.Says.{Mark}
 use Rattle.call_causes.proofs.End.{HasEnded, one_outcome, call_of, answered, contains_in}
-use Rattle.call_causes.proofs.Whys.{AreAscending, IsDone, is_done, in_contains, posted, why_expire, why_join}
+use Rattle.call_causes.proofs.Whys.{AreAscending, IsDone, is_done, in_contains, why_expire, why_join}
 
-not_expired : (code : ℕ) → IsOther code → code ≢ 1008
-not_expired code (inl is) e = omega (arith, is, e)
-not_expired code (inr (inl is)) e = omega (arith, is, e)
-not_expired code (inr (inr (inl is))) e = omega (arith, is, e)
-not_expired code (inr (inr (inr (inl is)))) e = omega (arith, is, e)
-not_expired code (inr (inr (inr (inr is)))) e = let low = is.0 in omega (arith, low, e)
-
-module _ (p : Plan) (q : IdPlan) (clients : List (List Task)) (fin : ℕ → List ℕ) (ascending : (c : ℕ) → AreAscending (get_or clients c [])) (w : Scene) (ms : List Mark) (e : HasEnded p q clients fin w ms) (fixed : Fixed) (orders : ℕ → Order) where
+module _ (p : Plan) (q : IdPlan) (clients : List (List Task)) (fin : ℕ → List ℕ) (ascending : (c : ℕ) → AreAscending (get_or clients c [])) (w : Scene) (ms : List Mark) (e : HasEnded p q clients fin w ms) (fixed : Fixed) (orders : ℕ → Order) (gives : (k : ℕ) → given w.core k ≡ fin k) where
   abbrev os : List (Option Outcome)
   os = w.core.outcomes
 
@@ -55,10 +49,17 @@ module _ (p : Plan) (q : IdPlan) (clients : List (List Task)) (fin : ℕ → Lis
   expired_with : (asked : Asked) (o : ℕ) (x : Outcome) (client : ℕ) (t : Task) → o ≡ asked.operation → IsTaskOf p q clients fin client t → t.op ≡ ops.Expire asked.operation → In (record { number = t.number; outcome = x }) w.sayings → IsExpiredWith p clients w.core.outcomes fixed (given w.core) orders o x
   expired_with asked o x client t own is op said = (client, t, (is.0, is.1, in_contains is.0 t is.2), op ∙ ap (λ n. ops.Expire n) (sym own), e.tasks.said t.number x said)
 
+  other_by : (asked : Asked) (o id code : ℕ) → IsOther p q clients fin code → FailedInPart p clients w.core.outcomes fixed (given w.core) orders o asked id code
+  other_by asked o id code (inl is) = ByOther (in_contains (1009 ∷ 1014 ∷ 3001 ∷ []) code (inl is))
+  other_by asked o id code (inr (inl is)) = ByOther (in_contains (1009 ∷ 1014 ∷ 3001 ∷ []) code (inr (inl is)))
+  other_by asked o id code (inr (inr (inl is))) = ByFrameFault is.0 is.1.0 is.1.1 (subst HasFault (sym (gives is.1.0)) is.1.2)
+  other_by asked o id code (inr (inr (inr (inl is)))) = ByOther (in_contains (1009 ∷ 1014 ∷ 3001 ∷ []) code (inr (inr (inl is))))
+  other_by asked o id code (inr (inr (inr (inr is)))) = let f = is.2 in let t = f.3 in ByFail is.0 is.1 f.0 f.1 f.2 (t.0, t.1, in_contains t.0 f.1 t.2) f.4
+
   failed_by : (asked : Asked) (o id code : ℕ) → o ≡ asked.operation → FailedIn p q clients fin w id asked code → FailedInPart p clients w.core.outcomes fixed (given w.core) orders o asked id code
   failed_by asked o id code own (by_expiry is x) = ByExpiry is (⊎_elim (λ s. inl (expired_with asked o outcomes.Expired x.0 x.1 own x.2 x.3 s)) (λ s. inr (expired_with asked o outcomes.Queued x.0 x.1 own x.2 x.3 s)) x.4)
   failed_by asked o id code own (by_compression is x) = ByCompression is (answered p q clients fin w ms e fixed orders id asked (λ frame. frame.meta.compress_type ≢ pos 0) x)
-  failed_by asked o id code own (by_other x) = ByOther (not_expired code x) (posted p q clients fin ascending w ms e fixed orders code (inr x))
+  failed_by asked o id code own (by_other x) = other_by asked o id code x
 
   ended_by : (c o id : ℕ) (asked : Asked) (x : Outcome) → o ≡ asked.operation → WhyEnded p q clients fin w (record { id = id; asked = asked }) x → WhyCallInPart p clients w.core.outcomes fixed (given w.core) orders c o asked x
   ended_by c o id asked (outcomes.Answered i payload attachment) own why = subst (λ n. WhyCallInPart p clients w.core.outcomes fixed (given w.core) orders c o asked (outcomes.Answered n payload attachment)) (sym why.0)

@@ -140,7 +140,7 @@ module _ (p : Plan) (q : IdPlan) (clients : List (List Task)) (fin : ℕ → Lis
 
   claim_says : (w : Scene) (m : Mark) (requests socket : ℕ) (asked : Asked) (t : Task) (ts : List Task) (next : Program) → IsNext m t ts → IsFree m → t.op ≡ ops.Call asked → t.number ≡ asked.operation → Ends w (with_done t ts m) next
       → (more i : ℕ) → i + more ≡ q.slots → (v : Scene) → Later' w v → Named p q clients fin v (name_of asked 0) → Taken v i t → SaidBy v (claim_id more i requests socket asked next) → Tells v m (claim_id more i requests socket asked next)
-  claim_says w m requests socket asked t ts next has free op own goes zero i all v l named taken s = absurd (l.room m.client t asked has.is op (λ j inside. taken j (omega (arith, all, inside))))
+  claim_says w m requests socket asked t ts next has free op own goes zero i all v l named taken s = absurd (l.within.0 m.client t asked has.is op (λ j inside. taken j (omega (arith, all, inside))))
   claim_says w m requests socket asked t ts next has free op own goes (suc more) i all v l named taken s = (
     (free, t, ts, asked, has.todo, op, own, has.is),
     λ found v2 m2 l2 s2 mv. (tt, by_found (λ v3 l3 n3 t3 s3. claim_says w m requests socket asked t ts next has free op own goes more (i + 1) (omega (arith, all)) v3 (far p q clients fin w v v3 l l3) n3 t3 s3) found v2 m2 l2 mv.0 mv.1 (eqb found 0) refl s2),

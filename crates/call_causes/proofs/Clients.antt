@@ -154,7 +154,7 @@ module _ (p : Plan) (q : IdPlan) (clients : List (List Task)) (fin : ℕ → Lis
     fail_says : (name code : ℕ) → t.op ≡ ops.Fail name code → (1500 ≤ code) × (code ≤ 1999) → (next : Program) → Ends w (with_done t ts m) next → Tells w m (fail t.number name code next)
     fail_says name code op fits next goes = reach_says name (Say t.number outcomes.Unopened next) (λ id. set_failed id code (λ found. release (socket_id_slot id) (λ _. Say t.number (fail_outcome found) next))) (λ found. Say t.number (outcomes.Gone (record { 0 = found })) next)
         (λ v l s. says (ops.Fail name code) op outcomes.Unopened next goes v m l s.1 self tt tt)
-        (λ id v l s named. set_failed_says p q clients fin v m id code (inr (inr (inr (inr fits)))) (λ found. release (socket_id_slot id) (λ _. Say t.number (fail_outcome found) next))
+        (λ id v l s named. set_failed_says p q clients fin v m id code (inr (inr (inr (inr (fits.0, fits.1, (m.client, t, name, has.is, op)))))) (λ found. release (socket_id_slot id) (λ _. Say t.number (fail_outcome found) next))
         (λ found v2 l2 _. release_says p q clients fin v2 m (socket_id_slot id) (λ _. Say t.number (fail_outcome found) next)
         (λ _ v3 l3 s3. let f3 = far p q clients fin w v2 v3 (far p q clients fin w v v2 l l2) l3 in
         says (ops.Fail name code) op (fail_outcome found) next goes v3 m f3 s3.1 self (fail_named v3 name code found (l3.named name (l2.named name named)) (vref_version found % 2 == 0)) (just_failed v3 (vref_version found % 2 == 0) found))))

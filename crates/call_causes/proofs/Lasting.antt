@@ -29,7 +29,7 @@ module _ (p : Plan) (q : IdPlan) (clients : List (List Task)) (fin : ℕ → Lis
     born = λ id asked s. y.born id asked (x.born id asked s);
     came = λ k n frame s. y.came k n frame (x.came k n frame s);
     claimed = λ i o s. y.claimed i o (x.claimed i o s);
-    room = y.room;
+    within = y.within;
     apart = y.apart;
   }
 

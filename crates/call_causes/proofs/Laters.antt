@@ -17,7 +17,7 @@ use Rattle.sock_programs.specs.Asides.{Step, ClaimId, PutCall, MakeId, StoreCall
 use Rattle.sock_programs.specs.Asides as asides
 use Rattle.sock_programs.specs.Posts.{packed, advance_of}
 use Rattle.id_runs.proofs.Keeps.{parts_packed}
-use Rattle.call_causes.specs.Scenes.{Birth, Scene, In, IsBorn, IsClaimed, Came, Begun, HasRoom, Later}
+use Rattle.call_causes.specs.Scenes.{Birth, Scene, In, IsBorn, IsClaimed, Came, Begun, StaysWithin, Later}
 use Rattle.call_causes.specs.Says.{Claims, Holds, Mark, MayAside}
 use Rattle.call_causes.specs.Stories.{word_at, LiesAt, SlotFits, BirthsLaw, IsBehind, KnowsStep, put_of, born_by, claimed_by}
 use Rattle.call_causes.proofs.Streams.{frames_stay}
@@ -184,7 +184,7 @@ module _ (p : Plan) (q : IdPlan) (clients : List (List Task)) (fin : ℕ → Lis
   -- ## All of it
 
   -- no call is given up: there is room for each
-  pub later : (step : Step) (found : Found step) (b : Behind step found) (knows : KnowsStep p q clients fin w step found) (may : MayAside p q clients fin w m step) → w'.core.words ≡ w.core.words → HasRoom p q clients fin w'
+  pub later : (step : Step) (found : Found step) (b : Behind step found) (knows : KnowsStep p q clients fin w step found) (may : MayAside p q clients fin w m step) → w'.core.words ≡ w.core.words → StaysWithin p q clients fin w'
       → ((c : Birth) (i : ℕ) (asked : Asked) → IsMake step i → In c w.births → m.slot ≡ Claims i (Some asked) → asked.operation ≢ c.asked.operation) → Later p q clients fin w w'
   later step found b knows may words room fresh = let made = made_of step found b knows may in record {
     said = λ o x s. b.sayings (record { number = o; outcome = x }) s;
@@ -194,6 +194,6 @@ module _ (p : Plan) (q : IdPlan) (clients : List (List Task)) (fin : ℕ → Lis
     born = born_still p q clients fin w w' m plan sized fits law low step found b knows may made fresh;
     came = came_still step found b knows;
     claimed = claims_still step found b;
-    room = room;
+    within = room;
     apart = one_call w'.births (apart p q clients fin w w' m plan sized fits law low step found b knows may made fresh) (λ c there. (born p q clients fin w w' m plan sized fits law low step found b knows may made fresh c there).1);
   }

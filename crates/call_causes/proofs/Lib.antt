@@ -30,6 +30,7 @@ pub mod Kept
 pub mod Ticks
 pub mod Opening
 pub mod Allowing
+pub mod Leading
 pub mod Run
 pub mod End
 pub mod Whys

@@ -32,7 +32,7 @@ module _ (p : Plan) (q : IdPlan) (clients : List (List Task)) (fin : ℕ → Lis
   listed (ts ∷ cs) Rattle.std.proofs.Common.zero t there = (ts, refl, there)
   listed (ts ∷ cs) (Rattle.std.proofs.Common.suc c) t there = listed cs c t there
 
-  error_code : (w : Scene) (id e : ℕ) → CauseOf p q clients fin w id e → IsErrorCode (code_of e)
+  error_code : (w : Scene) (id e : ℕ) → CauseOf p q clients fin w id e → IsErrorCode p q clients fin (code_of e)
   error_code w id e (of_expiry asked is born x) = inl (ap code_of is ∙ omega arith)
   error_code w id e (of_other x) = inr x
 
@@ -52,11 +52,11 @@ module _ (p : Plan) (q : IdPlan) (clients : List (List Task)) (fin : ℕ → Lis
   live_at : (i found : ℕ) → parts found ≡ word_at w i → 0 < (parts found).state → 0 < (word_at w i).state
   live_at i found is live = subst (λ (y : Parts). 0 < y.state) is live
 
-  has_codes : (i found : ℕ) → i < q.slots → parts found ≡ word_at w i → (0 < (parts found).state → (parts found).oldest ≡ 0 → (parts found).second ≡ 0) → HasCodes found
+  has_codes : (i found : ℕ) → i < q.slots → parts found ≡ word_at w i → (0 < (parts found).state → (parts found).oldest ≡ 0 → (parts found).second ≡ 0) → HasCodes p q clients fin found
   has_codes i found inside is oldest two second = let live : 0 < (parts found).state = omega (arith, two) in let e = law.errors i inside (live_at i found is live) in
       let some_ : (parts found).oldest ≢ 0 = λ z. second (oldest live z) in (
-        subst (λ (y : Parts). IsErrorCode (code_of y.oldest)) (sym is) (error_code p q clients fin w (call_id i (word_at w i).first) (word_at w i).oldest (e.0 (subst (λ (y : Parts). y.oldest ≢ 0) is some_))),
-        subst (λ (y : Parts). IsErrorCode (code_of y.second)) (sym is) (error_code p q clients fin w (call_id i (word_at w i).first) (word_at w i).second (e.1 (subst (λ (y : Parts). y.second ≢ 0) is second))),
+        subst (λ (y : Parts). IsErrorCode p q clients fin (code_of y.oldest)) (sym is) (error_code p q clients fin w (call_id i (word_at w i).first) (word_at w i).oldest (e.0 (subst (λ (y : Parts). y.oldest ≢ 0) is some_))),
+        subst (λ (y : Parts). IsErrorCode p q clients fin (code_of y.second)) (sym is) (error_code p q clients fin w (call_id i (word_at w i).first) (word_at w i).second (e.1 (subst (λ (y : Parts). y.second ≢ 0) is second))),
       )
 
   pub moves : (step : Step) (found : Found step) → IsBehind p q clients fin w w' m step found → KnowsStep p q clients fin w step found → MayAside p q clients fin w m step → Moves p q clients fin w' m step found (mark_after p q clients fin step found m)

@@ -19,7 +19,7 @@ use Rattle.sock_programs.specs.Readers.{reader}
 use Rattle.sock_programs.specs.Cores.{Core, SeatState, resolved, said, next_step}
 use Rattle.sock_programs.specs.Scripts.{opening_words, sizes_of, programs, readers_from, all_programs, beginning}
 use Rattle.id_runs.proofs.Opening.{unused}
-use Rattle.call_causes.specs.Scenes.{Birth, Saying, Scene, In, IsOver, Begun, IsTaskOf, Later}
+use Rattle.call_causes.specs.Scenes.{Birth, Saying, Scene, In, IsOver, Begun, IsTaskOf, LeadsTo, Later}
 use Rattle.call_causes.specs.Says.{NoSlot, Mark, IsFree, SaysOn, SaidBy}
 use Rattle.call_causes.specs.Stories.{At, word_at, SlotsLaw, BirthsLaw, TasksLaw, ClaimsLaw, ReadsLaw, IsUntold, CallStory, HasStory}
 use Rattle.call_causes.proofs.Reading.{reader_says}
@@ -115,7 +115,7 @@ module _ (p : Plan) (q : IdPlan) (clients : List (List Task)) (fin : ℕ → Lis
     pub numbers : (c : ℕ) (t : Task) → IsTaskOf p q clients fin c t → t.number < p.operations
     pub few : length clients ≤ 32
     pub links : length opens ≡ p.links
-    pub codes : AreOther p (opening_words p)
+    pub codes : AreOther p q clients fin (opening_words p)
 
   -- a seat before its first step
   abbrev pub first_mark : ℕ → Mark
@@ -159,7 +159,7 @@ module _ (p : Plan) (q : IdPlan) (clients : List (List Task)) (fin : ℕ → Lis
     abbrev first_scene : Scene
     first_scene = record { core = beginning p q (all_programs (programs (sizes_of p q) clients) (readers_from calls 0 opens)); claims = []; births = []; sayings = first_sayings (all_programs (programs (sizes_of p q) clients) (readers_from calls 0 opens)) [] }
 
-    module _ (long : length (all_programs (programs (sizes_of p q) clients) (readers_from calls 0 opens)) ≡ q.seats) (few_tries : (i : ℕ) (x : Program) → get_elem? (all_programs (programs (sizes_of p q) clients) (readers_from calls 0 opens)) i ≡ core.some x → KeepsFew x) where
+    module _ (long : length (all_programs (programs (sizes_of p q) clients) (readers_from calls 0 opens)) ≡ q.seats) (few_tries : (i : ℕ) (x : Program) → get_elem? (all_programs (programs (sizes_of p q) clients) (readers_from calls 0 opens)) i ≡ core.some x → KeepsFew x) (lead : LeadsTo p q clients fin (beginning p q (all_programs (programs (sizes_of p q) clients) (readers_from calls 0 opens)))) where
       -- ## Programs
 
       client_at : (v : Scene) (i : ℕ) (ts : List Task) → get_elem? clients i ≡ core.some ts → SaysOn p q clients fin v (first_mark i) (client_from (sizes_of p q) [] ts)
@@ -247,7 +247,7 @@ module _ (p : Plan) (q : IdPlan) (clients : List (List Task)) (fin : ℕ → Lis
         born = λ id asked s. s;
         came = λ k n frame s. s;
         claimed = λ i o s. s;
-        room = has_room p q clients fin slots first_scene (first_marks 0 q.seats) first_claims;
+        within = (has_room p q clients fin slots first_scene (first_marks 0 q.seats) first_claims, lead);
         apart = λ id a b x y. absurd x;
       }
 

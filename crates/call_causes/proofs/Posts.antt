@@ -83,7 +83,7 @@ module _ (p : Plan) (q : IdPlan) (clients : List (List Task)) (fin : ℕ → Lis
   abbrev pub Exits : Scene → Mark → ℕ → ℕ → (Posting → Program) → Type 0
   Exits w m id e k = (exit : Posting) (w' : Scene) (m' : Mark) → After w w' → SaidBy w' (k exit) → LeavesPost p q clients fin m id exit m' → YieldsPost p q clients fin w' id e exit × Says w' m' (k exit)
 
-  judged_then : (w : Scene) (m : Mark) (id e found : ℕ) (k : Posting → Program) → IsFree m → HasCodes found → Exits w m id e k → Then w m (judged id e found k)
+  judged_then : (w : Scene) (m : Mark) (id e found : ℕ) (k : Posting → Program) → IsFree m → HasCodes p q clients fin found → Exits w m id e k → Then w m (judged id e found k)
   judged_then w m id e found k free codes goes = λ v l s.
       let two : Program = cond (is_full (parts found)) (k (WasCrowded (code_of (parts found).oldest) (code_of (parts found).second))) (Round (Posts id e found) k) in
       let one_ : Program = cond (is_stale e (parts found)) (k WasStale) two in
@@ -221,7 +221,7 @@ module _ (p : Plan) (q : IdPlan) (clients : List (List Task)) (fin : ℕ → Lis
   decided_says w m id e next owes own goes GoesOn v m' l s lv = goes v m' l s lv.0
 
   -- what follows a post whoever made it
-  pub posted_exits : (w : Scene) (m : Mark) (id e : ℕ) (next : Program) → IsFree m → IsOther (code_of e) → Follows w m next → Exits w m id e (posted id e next)
+  pub posted_exits : (w : Scene) (m : Mark) (id e : ℕ) (next : Program) → IsFree m → IsOther p q clients fin (code_of e) → Follows w m next → Exits w m id e (posted id e next)
   posted_exits w m id e next free other goes (HasLocked word) v m' l s lv = (
     tt,
     subst (λ x. Says v x (decide id word e (decided id next))) (sym lv.1)
@@ -233,9 +233,9 @@ module _ (p : Plan) (q : IdPlan) (clients : List (List Task)) (fin : ℕ → Lis
   posted_exits w m id e next free other goes (WasCrowded a b) v m' l s lv = (tt, goes v m' l s lv.0)
   posted_exits w m id e next free other goes WasQueued v m' l s lv = (of_other other, goes v m' l s lv)
 
-  pub post_says : (w : Scene) (m : Mark) (id c n : ℕ) (next : Program) → IsFree m → IsOther c → n < 8 → Follows w m next → Says w m (post id c n next)
+  pub post_says : (w : Scene) (m : Mark) (id c n : ℕ) (next : Program) → IsFree m → IsOther p q clients fin c → n < 8 → Follows w m next → Says w m (post id c n next)
   post_says w m id c n next free other few goes = let back : c ≡ code_of (c * 8 + n) = omega (arith, few) in
-      post_with_says w m id (error_of c n) (posted id (error_of c n) next) free (posted_exits w m id (error_of c n) next free (subst IsOther back other) goes)
+      post_with_says w m id (error_of c n) (posted id (error_of c n) next) free (posted_exits w m id (error_of c n) next free (subst (IsOther p q clients fin) back other) goes)
 
   -- ## Giving a lock back
 

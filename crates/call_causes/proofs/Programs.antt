@@ -79,7 +79,7 @@ module _ (p : Plan) (q : IdPlan) (clients : List (List Task)) (fin : ℕ → Lis
         (λ _ s'. goes v l s') (λ _ _. release_says v m (socket_id_slot id) (λ _. gone found) (λ _. then_on p q clients fin w v m (gone found) l (others found))),
   )
 
-  pub set_failed_says : (w : Scene) (m : Mark) (id code : ℕ) → IsOther code → (next : ℕ → Program) → ((found : ℕ) → Next w m (next found)) → Tells w m (set_failed id code next)
+  pub set_failed_says : (w : Scene) (m : Mark) (id code : ℕ) → IsOther p q clients fin code → (next : ℕ → Program) → ((found : ℕ) → Next w m (next found)) → Tells w m (set_failed id code next)
   set_failed_says w m id code other next goes = (
     tt,
     λ found v l s _. way p q clients fin v m (vref_version found % 2 == 0) (Do (StoreCode (socket_id_slot id) (socket_id_version id) code) (λ _. Do (SubRef (socket_id_slot id)) (λ _. next found))) (next found) s
@@ -116,11 +116,11 @@ module _ (p : Plan) (q : IdPlan) (clients : List (List Task)) (fin : ℕ → Lis
       ))
 
   -- the error that a dropped message posts
-  code_of_drop : (b : Bool) (c : ℕ) → eqb c 0 ≡ b → (c ≢ 0 → IsOther c) → IsOther (cond b 1009 c)
+  code_of_drop : (b : Bool) (c : ℕ) → eqb c 0 ≡ b → (c ≢ 0 → IsOther p q clients fin c) → IsOther p q clients fin (cond b 1009 c)
   code_of_drop true c is other = inl refl
   code_of_drop false c is other = other (not_equal c 0 is)
 
-  tell_then : (w : Scene) (m : Mark) (heading : Heading) (code : ℕ) → IsFree m → FitsOwner q heading → (code ≢ 0 → IsOther code) → (x : Program) → Ends w m x → Next w m (tell_drop heading code x)
+  tell_then : (w : Scene) (m : Mark) (heading : Heading) (code : ℕ) → IsFree m → FitsOwner q heading → (code ≢ 0 → IsOther p q clients fin code) → (x : Program) → Ends w m x → Next w m (tell_drop heading code x)
   tell_then w m heading code free owner other x goes = λ v l s. way p q clients fin v m (eqb heading.owner 0) x (post heading.owner (cond (eqb code 0) 1009 code) heading.attempt x) s
       (λ _ s'. goes v m l s' (again_same p q clients fin m m free refl))
       (λ some_ _. post_says p q clients fin v m heading.owner (cond (eqb code 0) 1009 code) heading.attempt x free (code_of_drop (eqb code 0) code refl other) (let few = (owner (not_equal heading.owner 0 some_)).1 in omega (arith, few)) (follows_later p q clients fin w v m x l goes))

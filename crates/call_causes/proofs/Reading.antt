@@ -6,6 +6,7 @@ use Rattle.sock_words.specs.declared.plain.Plan.{Plan}
 use Rattle.brpc_model.specs.Meta.{ResponseMeta}
 use Rattle.brpc_model.specs.Frame.{Frame}
 use Rattle.brpc_model.specs.Stream as streams
+use Rattle.brpc_model.specs.Causes.{HasFault}
 use Rattle.corr_core.specs.Word.{parts, error_of, code_of}
 use Rattle.corr_core.specs.declared.marks.Plan.{Plan as IdPlan}
 use Rattle.sock_message.specs.Asked.{Asked}
@@ -16,12 +17,12 @@ use Rattle.sock_programs.specs.Programs.{Program, Rest, Say, Round, NO_SOCKET, a
 use Rattle.sock_programs.specs.Posts.{post_with, decide, decided}
 use Rattle.sock_programs.specs.Readers.{LIMIT, by_code, outcome_by, ending_of, has_response, slot_in, version_in, is_early, answer, answered, responses, last_of, ended_by, read_on, took_bytes, took, reads_round, discarded, discards_round, opens_round, kept_for, ends_with, posted_last, post_each, thrown_away, read, reader}
 use Rattle.call_causes.specs.Lists.{given}
-use Rattle.call_causes.specs.Scenes.{Birth, Scene, Came, IsResponseTo, IsOther, of_other, by_compression, by_other, WhyEnded}
+use Rattle.call_causes.specs.Scenes.{Birth, Scene, Came, IsResponseTo, HasFaulted, IsOther, of_other, by_compression, by_other, WhyEnded}
 use Rattle.call_causes.specs.Says.{Slot, NoSlot, Locked, Mark, with_slot, with_owed, with_bytes, IsVacant, IsFree, taken_out, SaidBy, GoesFrom, CameFrom, IsReading, Again, LeavesLock, LeavesPost, YieldsPost, Leaves', SaysOn}
 use Rattle.call_causes.proofs.Lasting.{far, kept_on}
 use Rattle.call_causes.proofs.Posts.{After, Then, Follows, way, plain_way, and_left, and_right, again_same, follows_on, end_says, decide_says, decided_says, Exits, post_with_says}
 use Rattle.call_causes.proofs.Programs.{release_says, address_says, set_failed_says, again_on}
-use Rattle.call_causes.proofs.Streams.{frames_follow}
+use Rattle.call_causes.proofs.Streams.{frames_follow, faults_more, faults_follow}
 
 module _ (p : Plan) (q : IdPlan) (clients : List (List Task)) (fin : ℕ → List ℕ) where
   abbrev Tells : Scene → Mark → Program → Type 0
@@ -157,11 +158,12 @@ module _ (p : Plan) (q : IdPlan) (clients : List (List Task)) (fin : ℕ → Lis
         let y = goes.1 (more ++ ys) (length (streams.stream (rest ++ more)).frames + n) f (subst (λ l. slice_get (streams.stream l).frames (length (streams.stream (rest ++ more)).frames + n) ≡ Some f) (append_assoc rest more ys) x) in
         subst (λ j. slice_get (streams.stream ((bytes ++ more) ++ ys)).frames j ≡ Some f) (let z : goes.0 + (length (streams.stream (rest ++ more)).frames + n) ≡ goes.0 + length (streams.stream (rest ++ more)).frames + n = omega arith in z)
         (subst (λ l. slice_get (streams.stream l).frames (goes.0 + (length (streams.stream (rest ++ more)).frames + n)) ≡ Some f) (sym (append_assoc bytes more ys)) y),
+    λ ys x. subst HasFault (sym (append_assoc bytes more ys)) (goes.2 (more ++ ys) (subst HasFault (append_assoc rest more ys) (faults_follow (rest ++ more) ys r is x))),
   )
 
   -- what ends a reading leaves the mark as it was, but for the bytes
   module _ (w : Scene) (m : Mark) (r : Reading) (k : Ended → Program) (free : IsFree m) (at : IsReading p q clients fin w m r) (goes : Ended' w m r k) where
-    ends : (code : ℕ) → (code ≡ 1014) ⊎ (code ≡ 2002) → (closed fault : Bool) (v : Scene) (m1 : Mark) → Later' w v → m1 ≡ m → SaidBy v (k (ended_by code closed fault r)) → Tells v m1 (k (ended_by code closed fault r))
+    ends : (code : ℕ) → (code ≡ 1014) ⊎ ((code ≡ 2002) × HasFaulted p q clients fin) → (closed fault : Bool) (v : Scene) (m1 : Mark) → Later' w v → m1 ≡ m → SaidBy v (k (ended_by code closed fault r)) → Tells v m1 (k (ended_by code closed fault r))
     ends code is closed fault v m1 l same s = goes (ended_by code closed fault r) v m1 l s (m.slot, m.bytes, free.0, same, refl, refl, kept_on p q clients fin w v l r.link r.kept at.kept, is, at.inside)
 
     module _ (bytes : List ℕ) where
@@ -174,16 +176,16 @@ module _ (p : Plan) (q : IdPlan) (clients : List (List Task)) (fin : ℕ → Lis
       abbrev now : List Frame → Reading
       now kept = record { ids = r.ids; link = r.link; id = r.id; rest = r.rest; total = r.total + length bytes; kept = kept }
 
-      read_on_says : (e : streams.Ending) → (streams.stream (r.rest ++ bytes)).ending ≡ e → Kept w (with_bytes (m.bytes ++ bytes) m) r.link (λ kept. read_on (record { ids = r.ids; link = r.link; id = r.id; rest = r.rest; total = r.total + length bytes; kept = kept }) (r.rest ++ bytes) e k)
-      read_on_says (streams.Rest n) is kept v m2 l s a all = let r' : Reading = record { ids = r.ids; link = r.link; id = r.id; rest = last_of n (r.rest ++ bytes); total = r.total + length bytes; kept = kept } in
+      read_on_says : (HasFault (m.bytes ++ bytes) → HasFaulted p q clients fin) → (e : streams.Ending) → (streams.stream (r.rest ++ bytes)).ending ≡ e → Kept w (with_bytes (m.bytes ++ bytes) m) r.link (λ kept. read_on (record { ids = r.ids; link = r.link; id = r.id; rest = r.rest; total = r.total + length bytes; kept = kept }) (r.rest ++ bytes) e k)
+      read_on_says faulted (streams.Rest n) is kept v m2 l s a all = let r' : Reading = record { ids = r.ids; link = r.link; id = r.id; rest = last_of n (r.rest ++ bytes); total = r.total + length bytes; kept = kept } in
           way p q clients fin v m2 (nat_lt (r.total + length bytes) LIMIT) (Round (Reads r') k) (k (ended_by 1014 false false r')) s
           (λ _ _. (
             (subst IsFree (sym a.is) (a.vacant, free.1, free.2), record { inside = at.inside; link = ap (λ (x : Mark). x.link) a.is ∙ at.link; goes = subst (λ (x : Mark). GoesFrom x.bytes (last_of n (r.rest ++ bytes))) (sym a.is) (goes_on m.bytes r.rest bytes n at.goes is); kept = all }),
             λ exit v2 m3 l2 s2 lv. (tt, goes exit v2 m3 (far p q clients fin w v v2 l l2) s2 (lv.0, lv.1, lv.2, lv.3 ∙ ap (λ x. with_bytes lv.1 (with_slot lv.0 x)) a.is, lv.4, lv.5, lv.6, lv.7, lv.8)),
           ))
           (λ _ s'. goes (ended_by 1014 false false r') v m2 l s' (a.slot, m.bytes ++ bytes, a.vacant, a.is, refl, refl, all, inl refl, at.inside))
-      read_on_says (streams.Fault start fault) is kept v m2 l s a all = goes (ended_by 2002 false true (record { ids = r.ids; link = r.link; id = r.id; rest = r.rest; total = r.total + length bytes; kept = kept })) v m2 l s
-          (a.slot, m.bytes ++ bytes, a.vacant, a.is, refl, refl, all, inr refl, at.inside)
+      read_on_says faulted (streams.Fault start fault) is kept v m2 l s a all = goes (ended_by 2002 false true (record { ids = r.ids; link = r.link; id = r.id; rest = r.rest; total = r.total + length bytes; kept = kept })) v m2 l s
+          (a.slot, m.bytes ++ bytes, a.vacant, a.is, refl, refl, all, inr (refl, faulted (at.goes.2 bytes (start, fault, is))), at.inside)
 
       -- the frames of the piece came
       frames_came : (v : Scene) → given v.core r.link ≡ m.bytes ++ bytes → AllCame v r.link (streams.stream (r.rest ++ bytes)).frames
@@ -195,7 +197,7 @@ module _ (p : Plan) (q : IdPlan) (clients : List (List Task)) (fin : ℕ → Lis
     took_says : (t : Taking) (v : Scene) (m1 : Mark) → Later' w v → SaidBy v (took r k t) → m1 ≡ Rattle.call_causes.specs.Says.given_more t m → given v.core r.link ≡ (Rattle.call_causes.specs.Says.given_more t m).bytes → Tells v m1 (took r k t)
     took_says (Bytes bytes) v m1 l s same is = subst (λ x. Tells v x (took_bytes r bytes k)) (sym same)
         (responses_at w r.ids r.link (λ kept. read_on (record { ids = r.ids; link = r.link; id = r.id; rest = r.rest; total = r.total + length bytes; kept = kept }) (r.rest ++ bytes) (streams.stream (r.rest ++ bytes)).ending k) at.inside (streams.stream (r.rest ++ bytes)).frames r.kept
-        (with_bytes (m.bytes ++ bytes) m) free (read_on_says bytes (streams.stream (r.rest ++ bytes)).ending refl) v l (frames_came bytes v is) (kept_on p q clients fin w v l r.link r.kept at.kept) s)
+        (with_bytes (m.bytes ++ bytes) m) free (read_on_says bytes (λ x. let lead = l.within.1 r.link in (r.link, at.inside, subst HasFault (ap (λ xs. xs ++ lead.0) (sym is) ∙ lead.1) (faults_more (m.bytes ++ bytes) lead.0 x))) (streams.stream (r.rest ++ bytes)).ending refl) v l (frames_came bytes v is) (kept_on p q clients fin w v l r.link r.kept at.kept) s)
     took_says Nothing v m1 l s same is = subst (λ x. Tells v x (Round (Reads r) k)) (sym same)
         ((free, record { inside = at.inside; link = at.link; goes = at.goes; kept = kept_on p q clients fin w v l r.link r.kept at.kept }), λ exit v2 m2 l2 s2 lv. (tt, goes exit v2 m2 (far p q clients fin w v v2 l l2) s2 lv))
     took_says NoMore v m1 l s same is = ends 1014 (inl refl) false false v m1 l same s
@@ -235,9 +237,9 @@ module _ (p : Plan) (q : IdPlan) (clients : List (List Task)) (fin : ℕ → Lis
 
   -- ## The end of a reading
 
-  module _ (link code : ℕ) (inside : link < p.links) (other : IsOther code) where
+  module _ (link code : ℕ) (inside : link < p.links) (other : IsOther p q clients fin code) where
     -- the call in hand ends with the first of the kept responses of its versions, or it is decided on
-    kept_ends : (w : Scene) (m : Mark) (id e word range : ℕ) (next : Program) → m.slot ≡ Locked (id_slot id) (id_first id) range → m.owes ≡ [] → m.makes ≡ [] → (parts word).range ≡ range → IsOther (code_of e) → Ends w m next
+    kept_ends : (w : Scene) (m : Mark) (id e word range : ℕ) (next : Program) → m.slot ≡ Locked (id_slot id) (id_first id) range → m.owes ≡ [] → m.makes ≡ [] → (parts word).range ≡ range → IsOther p q clients fin (code_of e) → Ends w m next
         → (kept : List Frame) → AreKept w link kept → Tells w m (ends_with id e word (kept_for id (parts word).range kept) next)
     kept_ends w m id e word range next slot owes makes same coded goes [] all = decide_says p q clients fin w m id word e (decided id next) range slot owes makes (decided_says p q clients fin w m id e next owes (λ _ _ _ _ _ _. by_other coded) goes)
     kept_ends w m id e word range next slot owes makes same coded goes (f ∷ fs) all =
@@ -255,7 +257,7 @@ module _ (p : Plan) (q : IdPlan) (clients : List (List Task)) (fin : ℕ → Lis
         by_test true false here is later = later
         by_test false s here is later = later
 
-    posted_exits : (w : Scene) (m : Mark) (id e : ℕ) (kept : List Frame) (next : Program) → IsFree m → IsOther (code_of e) → AreKept w link kept → Ends w m next → Exits p q clients fin w m id e (posted_last id e kept next)
+    posted_exits : (w : Scene) (m : Mark) (id e : ℕ) (kept : List Frame) (next : Program) → IsFree m → IsOther p q clients fin (code_of e) → AreKept w link kept → Ends w m next → Exits p q clients fin w m id e (posted_last id e kept next)
     posted_exits w m id e kept next free coded all goes (HasLocked word) v m' l s lv = (
       tt,
       subst (λ x. Tells v x (ends_with id e word (kept_for id (parts word).range kept) next)) (sym lv.1)
@@ -269,8 +271,8 @@ module _ (p : Plan) (q : IdPlan) (clients : List (List Task)) (fin : ℕ → Lis
     ends_again : (w : Scene) (m m' : Mark) (next : Program) → Again p q clients fin m m' → Ends w m next → Ends w m' next
     ends_again w m m' next a goes = λ v m'' l s b. goes v m'' l s (again_on p q clients fin m m' m'' a b)
 
-    coded : (x : ℕ) → IsOther (code_of (error_of code (at_word_attempt x)))
-    coded x = subst IsOther (let z : code ≡ code_of (code * 8 + at_word_attempt x) = omega arith in z) other
+    coded : (x : ℕ) → IsOther p q clients fin (code_of (error_of code (at_word_attempt x)))
+    coded x = subst (IsOther p q clients fin) (let z : code ≡ code_of (code * 8 + at_word_attempt x) = omega arith in z) other
 
     post_each_at : (w : Scene) (kept : List Frame) (next : Program) (os : List ℕ) (m : Mark) → IsFree m → Ends w m next → (v : Scene) → Later' w v → AreKept v link kept → SaidBy v (post_each os link code kept next) → Tells v m (post_each os link code kept next)
     post_each_at w kept next [] m free goes v l all s = goes v m l s (again_same p q clients fin m m free refl)
@@ -295,7 +297,7 @@ module _ (p : Plan) (q : IdPlan) (clients : List (List Task)) (fin : ℕ → Lis
   over_ends w m how free none_ own v m' l s a = subst (λ x. Tells v x (thrown_away how)) (sym a.is) (plain_way p q clients fin v (with_slot a.slot m) (how.fault && nat_lt how.reading.total LIMIT) (Round (Discards how.reading.link how.reading.total) (λ _. Rest)) Rest
       (λ _. (((a.vacant, free.1, free.2), own), λ exit v2 m2 l2 s2 lv. (tt, subst (λ x. Tells v2 x Rest) (sym lv.1) ((a.vacant, free.1, free.2), none_)))) (λ _. ((a.vacant, free.1, free.2), none_)))
 
-  other_code : (c : ℕ) → (c ≡ 1014) ⊎ (c ≡ 2002) → IsOther c
+  other_code : (c : ℕ) → (c ≡ 1014) ⊎ ((c ≡ 2002) × HasFaulted p q clients fin) → IsOther p q clients fin c
   other_code c (inl is) = inr (inl is)
   other_code c (inr is) = inr (inr (inl is))
 
@@ -305,7 +307,7 @@ module _ (p : Plan) (q : IdPlan) (clients : List (List Task)) (fin : ℕ → Lis
     pub none_ : m.todo ≡ []
     pub own : m.link ≡ how.reading.link ∷ []
     pub inside : how.reading.link < p.links
-    pub code : (how.code ≡ 1014) ⊎ (how.code ≡ 2002)
+    pub code : (how.code ≡ 1014) ⊎ ((how.code ≡ 2002) × HasFaulted p q clients fin)
     pub kept : AreKept w how.reading.link how.reading.kept
 
   read_says : (calls : List ℕ) (how : Ended) (w : Scene) (m : Mark) (v : Scene) → Later' w v → IsOver v m how → SaidBy v (read calls how) → Tells v m (read calls how)
@@ -329,7 +331,7 @@ module _ (p : Plan) (q : IdPlan) (clients : List (List Task)) (fin : ℕ → Lis
       tt,
       subst (λ x. Tells v x (cond (eqb word NO_SOCKET) Rest (Round (Reads r) (read calls)))) (sym lv) (plain_way p q clients fin v m (eqb word NO_SOCKET) Rest (Round (Reads r) (read calls)) (λ _. (free, none_))
           (λ _. (
-            (free, record { inside = inside; link = own; goes = (0, λ more n f there. subst (λ j. slice_get (streams.stream (m.bytes ++ more)).frames j ≡ Some f) (let z : n ≡ 0 + n = omega arith in z) (subst (λ l. slice_get (streams.stream (l ++ more)).frames n ≡ Some f) (sym empty) there)); kept = tt }),
+            (free, record { inside = inside; link = own; goes = (0, λ more n f there. subst (λ j. slice_get (streams.stream (m.bytes ++ more)).frames j ≡ Some f) (let z : n ≡ 0 + n = omega arith in z) (subst (λ l. slice_get (streams.stream (l ++ more)).frames n ≡ Some f) (sym empty) there), λ more x. subst (λ l. HasFault (l ++ more)) (sym empty) x); kept = tt }),
             λ how v2 m2 l2 s2 lv2. (
               tt,
               read_says calls how v m2 v2 l2 (record {

@@ -14,7 +14,7 @@ use Rattle.sock_programs.specs.Heads.{Retry}
 use Rattle.sock_programs.specs.Asides.{call_id, id_slot, id_first}
 use Rattle.sock_programs.specs.Programs.{Program}
 use Rattle.sock_programs.specs.Cores.{resolved, said, next_step}
-use Rattle.call_causes.specs.Scenes.{Birth, Claim, Saying, Scene, In, IsOver, IsBorn, IsOther, Named, HasRoom, Later}
+use Rattle.call_causes.specs.Scenes.{Birth, Claim, Saying, Scene, In, IsOver, IsBorn, IsOther, Named, StaysWithin, Later}
 use Rattle.call_causes.specs.Says.{Mark, SaidBy, SaysOn}
 use Rattle.call_causes.specs.Stories.{At, word_at, tag_at, LiesAt, HasPassed, IsCurrent, SlotsLaw, BirthsLaw, TasksLaw}
 use Rattle.call_causes.proofs.Lasting.{are_told_on, cause_on}
@@ -25,7 +25,7 @@ use Rattle.call_causes.proofs.TaskTicks.{Change, changed}
 use Rattle.call_causes.proofs.Chains.{sayings_of, AreFewTries, KeepsFew, IsKept, chain, said_first}
 use Rattle.call_causes.proofs.AsideTicks.{sayings_keep, overs_keep, said_all}
 
-module _ (p : Plan) (q : IdPlan) (clients : List (List Task)) (fin : ℕ → List ℕ) (numbered : AreNumbered p q clients fin) (w w' : Scene) (ms : List Mark) (j : ℕ) (m : Mark) (at : At ms j m) (slots : SlotsLaw q w ms) (births : BirthsLaw p q clients fin w) (tasks : TasksLaw p q clients fin w w.core.outcomes w.sayings ms) (room : HasRoom p q clients fin w') where
+module _ (p : Plan) (q : IdPlan) (clients : List (List Task)) (fin : ℕ → List ℕ) (numbered : AreNumbered p q clients fin) (w w' : Scene) (ms : List Mark) (j : ℕ) (m : Mark) (at : At ms j m) (slots : SlotsLaw q w ms) (births : BirthsLaw p q clients fin w) (tasks : TasksLaw p q clients fin w w.core.outcomes w.sayings ms) (room : StaysWithin p q clients fin w') where
   -- the table of the ids is as it was; no name loses its socket, and each code of a socket is that of an error
   pub record IsBeside : Type 0 where
     pub words : w'.core.calls.words ≡ w.core.calls.words
@@ -34,7 +34,7 @@ module _ (p : Plan) (q : IdPlan) (clients : List (List Task)) (fin : ℕ → Lis
     pub births_are : w'.births ≡ w.births
     pub claims_are : w'.claims ≡ w.claims
     pub named : (n : ℕ) → Named p q clients fin w n → Named p q clients fin w' n
-    pub codes : (i : ℕ) → i < p.slots → get_or w'.core.words (code_word i) 0 ≢ 0 → IsOther (get_or w'.core.words (code_word i) 0)
+    pub codes : (i : ℕ) → i < p.slots → get_or w'.core.words (code_word i) 0 ≢ 0 → IsOther p q clients fin (get_or w'.core.words (code_word i) 0)
 
   module _ (b : IsBeside) (x : Program) (ws : List Retry) (few : AreFewTries ws) (keeps : KeepsFew x) (told : w'.core.outcomes ≡ said (resolved ws x) w.core.outcomes) (sayings : w'.sayings ≡ sayings_of (resolved ws x) w.sayings) where
     pub beside_later : Later p q clients fin w w'
@@ -46,7 +46,7 @@ module _ (p : Plan) (q : IdPlan) (clients : List (List Task)) (fin : ℕ → Lis
       born = λ id asked there. subst (In (record { id = id; asked = asked })) (sym b.births_are) there;
       came = λ k n f there. subst (λ g. slice_get (streams.stream (get_or g k [])).frames n ≡ Some f) (sym b.gave) there;
       claimed = λ i o there. subst (In (record { slot = i; operation = o })) (sym b.claims_are) there;
-      room = room;
+      within = room;
       apart = λ id a c s t. one_call w.births births.apart (λ y there. (births.born y there).1) id a c (subst (In (record { id = id; asked = a })) b.births_are s) (subst (In (record { id = id; asked = c })) b.births_are t);
     }
 
@@ -128,7 +128,7 @@ module _ (p : Plan) (q : IdPlan) (clients : List (List Task)) (fin : ℕ → Lis
       born = λ id asked s. s;
       came = λ k n frame s. s;
       claimed = λ i o s. s;
-      room = room;
+      within = room;
       apart = beside_later.apart;
     }
 

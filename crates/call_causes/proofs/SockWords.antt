@@ -98,25 +98,25 @@ module _ (p : Plan) where
 
   -- ## Codes
 
-  abbrev pub AreOther : List ℕ → Type 0
-  AreOther ws = (i : ℕ) → i < p.slots → get_or ws (code_word i) 0 ≢ 0 → IsOther (get_or ws (code_word i) 0)
-
-  code_set : (ws : List ℕ) (x w : ℕ) → AreOther ws → ((i : ℕ) → i < p.slots → x ≡ code_word i → w ≢ 0 → IsOther w) → AreOther (set ws x w)
-  code_set ws x w are new i inside = dite (ℕ_discrete x (code_word i))
-      (λ e. dite (dec_le (length ws) x) (λ past. λ some_. absurd (some_ (get_or_past (set ws x w) (code_word i) 0 (omega (arith, past, e, length-set ws x w)))))
-      (λ n. let here : get_or (set ws x w) x 0 ≡ w = get_or-set_same ws x w 0 (omega arith) in subst (λ y. get_or (set ws x w) y 0 ≢ 0 → IsOther (get_or (set ws x w) y 0)) e (subst (λ y. y ≢ 0 → IsOther y) (sym here) (new i inside e))))
-      (λ n. subst (λ y. y ≢ 0 → IsOther y) (sym (get_or-set_other ws x (code_word i) w 0 (λ e. n (sym e)))) (are i inside))
-
-  code_of_slot : (ws : List ℕ) (j c w : ℕ) → c < 6 → c ≢ 4 → AreOther ws → AreOther (set ws (6 * j + c) w)
-  code_of_slot ws j c w low other are = code_set ws (6 * j + c) w are (λ i inside e. absurd (other (omega (arith, low, e))))
-
-  code_behind : (ws : List ℕ) (x w : ℕ) → 6 * p.slots ≤ x → AreOther ws → AreOther (set ws x w)
-  code_behind ws x w past are = code_set ws x w are (λ i inside e. absurd (omega (arith, inside, e, past)))
-
-  code_tagged : (ws : List ℕ) (j w : ℕ) → AreOther ws → AreOther (set ws (tag_word j) w)
-  code_tagged ws j w are = code_set ws (tag_word j) w are (λ i inside e. absurd (omega (arith, e)))
-
   module _ (q : IdPlan) (clients : List (List Task)) (fin : ℕ → List ℕ) where
+    abbrev pub AreOther : List ℕ → Type 0
+    AreOther ws = (i : ℕ) → i < p.slots → get_or ws (code_word i) 0 ≢ 0 → IsOther p q clients fin (get_or ws (code_word i) 0)
+
+    code_set : (ws : List ℕ) (x w : ℕ) → AreOther ws → ((i : ℕ) → i < p.slots → x ≡ code_word i → w ≢ 0 → IsOther p q clients fin w) → AreOther (set ws x w)
+    code_set ws x w are new i inside = dite (ℕ_discrete x (code_word i))
+        (λ e. dite (dec_le (length ws) x) (λ past. λ some_. absurd (some_ (get_or_past (set ws x w) (code_word i) 0 (omega (arith, past, e, length-set ws x w)))))
+        (λ n. let here : get_or (set ws x w) x 0 ≡ w = get_or-set_same ws x w 0 (omega arith) in subst (λ y. get_or (set ws x w) y 0 ≢ 0 → IsOther p q clients fin (get_or (set ws x w) y 0)) e (subst (λ y. y ≢ 0 → IsOther p q clients fin y) (sym here) (new i inside e))))
+        (λ n. subst (λ y. y ≢ 0 → IsOther p q clients fin y) (sym (get_or-set_other ws x (code_word i) w 0 (λ e. n (sym e)))) (are i inside))
+
+    code_of_slot : (ws : List ℕ) (j c w : ℕ) → c < 6 → c ≢ 4 → AreOther ws → AreOther (set ws (6 * j + c) w)
+    code_of_slot ws j c w low other are = code_set ws (6 * j + c) w are (λ i inside e. absurd (other (omega (arith, low, e))))
+
+    code_behind : (ws : List ℕ) (x w : ℕ) → 6 * p.slots ≤ x → AreOther ws → AreOther (set ws x w)
+    code_behind ws x w past are = code_set ws x w are (λ i inside e. absurd (omega (arith, inside, e, past)))
+
+    code_tagged : (ws : List ℕ) (j w : ℕ) → AreOther ws → AreOther (set ws (tag_word j) w)
+    code_tagged ws j w are = code_set ws (tag_word j) w are (λ i inside e. absurd (omega (arith, e)))
+
     pub codes_after : (call : Call) → MayDo p q clients fin call → (ws : List ℕ) → AreOther ws → AreOther (words_after ws (word_of p call) (word_after call (found_at ws (word_of p call))))
     codes_after (ClaimSlot i) may ws are = code_tagged ws i (word_after (ClaimSlot i) (found_at ws (word_of p (ClaimSlot i)))) are
     codes_after (FreeSlot i) may ws are = code_tagged ws i (word_after (FreeSlot i) (found_at ws (word_of p (FreeSlot i)))) are
@@ -134,7 +134,7 @@ module _ (p : Plan) where
     codes_after (EmptyHead i last) may ws are = code_of_slot ws i 3 (word_after (EmptyHead i last) (found_at ws (word_of p (EmptyHead i last)))) (omega arith) (λ e. omega (arith, e)) are
     codes_after (WipeCode i k) may ws are = code_set ws (code_word i) 0 are (λ j inside e some_. absurd (some_ refl))
     codes_after (StoreCode i h c) may ws are = code_set ws (code_word i) c are (λ j inside e some_. may)
-    codes_after (LoadCode i h) may ws are = code_set ws (code_word i) (get_or ws (code_word i) 0) are (λ j inside e. subst (λ x. get_or ws x 0 ≢ 0 → IsOther (get_or ws x 0)) (sym e) (are j inside))
+    codes_after (LoadCode i h) may ws are = code_set ws (code_word i) (get_or ws (code_word i) 0) are (λ j inside e. subst (λ x. get_or ws x 0 ≢ 0 → IsOther p q clients fin (get_or ws x 0)) (sym e) (are j inside))
     codes_after (StoreName n w) may ws are = code_behind ws (name_word p n) w (omega arith) are
     codes_after (LoadName n) may ws are = code_behind ws (name_word p n) (get_or ws (name_word p n) 0) (omega arith) are
     codes_after (StoreOpen o w) may ws are = code_behind ws (open_word p o) w (omega arith) are

@@ -1,5 +1,6 @@
 -- In a whole run of a script with calls the story of the calls has ended, so that each task on calls is told.
-use Rattle.std.proofs.Common.{◌≡◌, ℕ, ◌+◌, ◌<◌, ◌≤◌, List, length, get_or, sym, ap, ◌∙◌, subst, arith}
+use Rattle.std.proofs.Common.{◌≡◌, ℕ, ◌+◌, ◌<◌, ◌≤◌, List, [], length, get_or, sym, ap, ◌∙◌, subst, arith}
+use Rattle.std.proofs.lemmas.List.{append-nil}
 use Rattle.std.specs.List.{AllByRecursion}
 use Rattle.brpc_model.specs.Items.{Item}
 use Rattle.brpc_model.specs.Operations.{Turn}
@@ -17,7 +18,7 @@ use Rattle.owed_calls.specs.Lives.{ClosesInRun}
 use Rattle.owed_calls.proofs.Known.{run_all_ended, run_all_rest}
 use Rattle.call_causes.specs.Lists.{given}
 use Rattle.call_causes.specs.Target.{ToldOnCallsInPart}
-use Rattle.call_causes.specs.Scenes.{Scene}
+use Rattle.call_causes.specs.Scenes.{Scene, LeadsTo}
 use Rattle.call_causes.specs.Stories.{HasStory}
 use Rattle.call_causes.proofs.End.{HasEnded, told, versions}
 use Rattle.call_causes.proofs.CallWhys.{why}
@@ -26,26 +27,31 @@ use Rattle.call_causes.proofs.Scripts.{are_numbered, are_ascending, have_slots, 
 use Rattle.call_causes.proofs.Run.{run_story, many_seats}
 use Rattle.call_causes.proofs.Over.{has_ended}
 
-module _ (script : List Item) (made : AreMade script) (there : AreThere script) (range : AllByRecursion InRange script) (turns : List Turn) (core : Core) (is : IsRunWithCalls script turns core) (fin : ℕ → List ℕ) where
+module _ (script : List Item) (made : AreMade script) (there : AreThere script) (range : AllByRecursion InRange script) (turns : List Turn) (core : Core) (is : IsRunWithCalls script turns core) where
+  abbrev fin : ℕ → List ℕ
+  fin = given core
+
+  leads : LeadsTo (plan_of script) (id_plan_of script) (all_tasks script) (given core) core
+  leads k = ([], append-nil (given core k))
+
   -- whatever the schedule, the story of the calls goes on up to the end of the run
-  pub run_has_story : HasStory (plan_of script) (id_plan_of script) (all_tasks script) fin core
-  run_has_story = run_story script made fin (are_numbered script made there range fin) (have_slots script made there range fin) (begins script made there range fin) turns core is
+  pub run_has_story : HasStory (plan_of script) (id_plan_of script) (all_tasks script) (given core) core
+  run_has_story = run_story script made (given core) (are_numbered script made there range (given core)) (have_slots script made there range (given core)) (begins script made there range (given core)) turns core is leads
 
   module _ (closes : ClosesInRun script turns core is) where
     -- and has ended there, where a link answers that it is closed only where its writing half is finished
-    pub run_has_ended : HasEnded (plan_of script) (id_plan_of script) (all_tasks script) fin run_has_story.scene run_has_story.marks
-    run_has_ended = let h = run_has_story in has_ended (plan_of script) (id_plan_of script) (all_tasks script) fin h.scene h.marks h.story
+    pub run_has_ended : HasEnded (plan_of script) (id_plan_of script) (all_tasks script) (given core) run_has_story.scene run_has_story.marks
+    run_has_ended = let h = run_has_story in has_ended (plan_of script) (id_plan_of script) (all_tasks script) (given core) h.scene h.marks h.story
         (subst AllRest (sym h.is) (run_all_rest script made turns core is closes))
         (λ i inside. subst (λ (d : Core). (parts (get_or d.calls.words (id_word i) 0)).state ≡ 0) (sym h.is) (run_all_ended script made turns core is closes i inside))
-        (let many = ap (λ (d : Core). length d.seats) h.is ∙ many_seats script made fin (are_numbered script made there range fin) (have_slots script made there range fin) (begins script made there range fin) turns core is in let seats = made.seats in let few = made.few_clients in omega (arith, many, seats, few))
+        (let many = ap (λ (d : Core). length d.seats) h.is ∙ many_seats script made (given core) (are_numbered script made there range (given core)) (have_slots script made there range (given core)) (begins script made there range (given core)) turns core is leads in let seats = made.seats in let few = made.few_clients in omega (arith, many, seats, few))
 
     module _ (fixed : Fixed) (orders : ℕ → Order) (last : ℕ → ℕ) where
-      -- each `call`, `expire` and `join` has an outcome and its cause; of a call that failed only so much is told: with 1008 that an `expire` did it, with 2002 that a response was
-      -- compressed, or else that the code is one of those that are posted
+      -- each `call`, `expire` and `join` has an outcome and its cause; of a call that failed only so much is told as shows without its attempts
       pub run_told_in_part : ToldOnCallsInPart (plan_of script) (all_tasks script) core.outcomes fixed (given core) orders last
       run_told_in_part = let h = run_has_story in let e = run_has_ended in subst (λ (d : Core). ToldOnCallsInPart (plan_of script) (all_tasks script) d.outcomes fixed (given d) orders last) h.is (record {
-        told = told (plan_of script) (id_plan_of script) (all_tasks script) fin h.scene h.marks e;
-        why = why (plan_of script) (id_plan_of script) (all_tasks script) fin (are_ascending script made there range fin) h.scene h.marks e fixed orders last;
-        expired_once = expired_once (plan_of script) (id_plan_of script) (all_tasks script) fin (are_ascending script made there range fin) h.scene h.marks e;
-        versions = versions (plan_of script) (id_plan_of script) (all_tasks script) fin h.scene h.marks e;
+        told = told (plan_of script) (id_plan_of script) (all_tasks script) (given core) h.scene h.marks e;
+        why = why (plan_of script) (id_plan_of script) (all_tasks script) (given core) (are_ascending script made there range (given core)) h.scene h.marks e fixed orders (λ k. ap (λ (d : Core). given d k) h.is) last;
+        expired_once = expired_once (plan_of script) (id_plan_of script) (all_tasks script) (given core) (are_ascending script made there range (given core)) h.scene h.marks e;
+        versions = versions (plan_of script) (id_plan_of script) (all_tasks script) (given core) h.scene h.marks e;
       })

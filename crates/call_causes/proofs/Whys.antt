@@ -84,13 +84,13 @@ module _ (p : Plan) (q : IdPlan) (clients : List (List Task)) (fin : ℕ → Lis
 
       -- ## Causes
 
-      pub posted : (code : ℕ) → IsErrorCode code → IsPosted p clients w.core.outcomes fixed (given w.core) orders code
+      pub posted : (code : ℕ) → IsErrorCode p q clients fin code → IsPosted p clients w.core.outcomes fixed (given w.core) orders code
       posted code (inl is) = inl (in_contains (1008 ∷ 1009 ∷ 1014 ∷ 2002 ∷ 3001 ∷ []) code (inl is))
       posted code (inr (inl is)) = inl (in_contains (1008 ∷ 1009 ∷ 1014 ∷ 2002 ∷ 3001 ∷ []) code (inr (inl is)))
       posted code (inr (inr (inl is))) = inl (in_contains (1008 ∷ 1009 ∷ 1014 ∷ 2002 ∷ 3001 ∷ []) code (inr (inr (inl is))))
-      posted code (inr (inr (inr (inl is)))) = inl (in_contains (1008 ∷ 1009 ∷ 1014 ∷ 2002 ∷ 3001 ∷ []) code (inr (inr (inr (inl is)))))
+      posted code (inr (inr (inr (inl is)))) = inl (in_contains (1008 ∷ 1009 ∷ 1014 ∷ 2002 ∷ 3001 ∷ []) code (inr (inr (inr (inl is.0)))))
       posted code (inr (inr (inr (inr (inl is))))) = inl (in_contains (1008 ∷ 1009 ∷ 1014 ∷ 2002 ∷ 3001 ∷ []) code (inr (inr (inr (inr (inl is))))))
-      posted code (inr (inr (inr (inr (inr is))))) = inr is
+      posted code (inr (inr (inr (inr (inr is))))) = inr (is.0, is.1)
 
       module _ (last : ℕ → ℕ) (c : ℕ) (t : Task) (is : IsTask clients w.core.outcomes c t) where
         join_by : (o : ℕ) (d : IsDone c t) (x : Outcome) → WhyOwn p q clients fin w c d.before (ops.Join o) x → WhyJoin p clients w.core.outcomes fixed (given w.core) orders last c t.number o x

@@ -7,6 +7,7 @@ use Rattle.sock_io.specs.declared.link.Ready.{Ready}
 use Rattle.sock_model.specs.declared.chain.Heading.{Heading}
 use Rattle.brpc_model.specs.Frame.{Frame}
 use Rattle.brpc_model.specs.Stream.{stream}
+use Rattle.brpc_model.specs.Causes.{HasFault}
 use Rattle.corr_core.specs.Word.{parts, code_of, attempt_of}
 use Rattle.corr_core.specs.declared.marks.Plan.{Plan as IdPlan}
 use Rattle.sock_message.specs.Asked.{Asked, name_of}
@@ -21,7 +22,7 @@ use Rattle.sock_programs.specs.Readers.{has_response}
 use Rattle.id_runs.specs.Goes.{FitsOwner, FitsWriting}
 use Rattle.call_causes.specs.Lists.{given}
 use Rattle.sock_words.specs.declared.outcome.Outcome.{Outcome}
-use Rattle.call_causes.specs.Scenes.{Birth, Scene, Said, IsOver, IsJust, IsBorn, IsClaimed, Came, IsOther, IsErrorCode, Named, Begun, HasBegunIn, CauseOf, WhyEnded, WhyOwn, AreTold, HasNoneOf, IsTaskOf, Later}
+use Rattle.call_causes.specs.Scenes.{Birth, Scene, Said, IsOver, IsJust, IsBorn, IsClaimed, Came, HasFaulted, IsOther, IsErrorCode, Named, Begun, HasBegunIn, CauseOf, WhyEnded, WhyOwn, AreTold, HasNoneOf, IsTaskOf, Later}
 
 -- ## Marks
 
@@ -97,20 +98,20 @@ SaidBy w (Sent o next) = SaidBy w next
 SaidBy w (Keep r next) = SaidBy w next
 SaidBy w other = Unit {0}
 
--- where two errors wait in a word that was found, they have codes
-abbrev pub HasCodes : ℕ → Type 0
-HasCodes word = (parts word).state ≡ 2 → (parts word).second ≢ 0 → IsErrorCode (code_of (parts word).oldest) × IsErrorCode (code_of (parts word).second)
-
--- the bytes' frames behind those of the rest are those that follow
+-- the bytes' frames behind those of the rest are those that follow, and so is a fault
 abbrev pub GoesFrom : List ℕ → List ℕ → Type 0
-GoesFrom bytes rest = (before : ℕ) × ((more : List ℕ) (n : ℕ) (frame : Frame) → slice_get (stream (rest ++ more)).frames n ≡ Some frame → slice_get (stream (bytes ++ more)).frames (before + n) ≡ Some frame)
+GoesFrom bytes rest = (before : ℕ) × ((more : List ℕ) (n : ℕ) (frame : Frame) → slice_get (stream (rest ++ more)).frames n ≡ Some frame → slice_get (stream (bytes ++ more)).frames (before + n) ≡ Some frame) × ((more : List ℕ) → HasFault (rest ++ more) → HasFault (bytes ++ more))
 
 module _ (p : Plan) (q : IdPlan) (clients : List (List Task)) (fin : ℕ → List ℕ) where
+  -- where two errors wait in a word that was found, they have codes
+  abbrev pub HasCodes : ℕ → Type 0
+  HasCodes word = (parts word).state ≡ 2 → (parts word).second ≢ 0 → IsErrorCode p q clients fin (code_of (parts word).oldest) × IsErrorCode p q clients fin (code_of (parts word).second)
+
   -- ## Steps on the table of the sockets
 
   abbrev pub MayDo : Call → Type 0
   MayDo (StoreName n word) = word ≢ 0
-  MayDo (StoreCode i h c) = IsOther c
+  MayDo (StoreCode i h c) = IsOther p q clients fin c
   MayDo other = Unit {0}
 
   -- where no socket is found under a name, none of the setup's gave it one
@@ -120,7 +121,7 @@ module _ (p : Plan) (q : IdPlan) (clients : List (List Task)) (fin : ℕ → Lis
   abbrev pub FindsDo : Scene → Mark → Call → ℕ → Type 0
   FindsDo w m (StoreName n word) found = Named p q clients fin w n
   FindsDo w m (LoadName n) found = (found ≡ 0 → (Named p q clients fin w n → ⊥) × (m.client ≢ 0 → NoneOfSetup w n) × AreTold p q clients fin w m.client m.done) × (found ≢ 0 → Named p q clients fin w n)
-  FindsDo w m (LoadCode i h) found = (found ≢ 0 → IsOther found)
+  FindsDo w m (LoadCode i h) found = (found ≢ 0 → IsOther p q clients fin found)
   FindsDo w m other found = Unit {0}
 
   -- ## Steps aside
@@ -201,7 +202,7 @@ module _ (p : Plan) (q : IdPlan) (clients : List (List Task)) (fin : ℕ → Lis
 
   abbrev pub LeavesPost : Mark → ℕ → Posting → Mark → Type 0
   LeavesPost m id (HasLocked word) m' = (range : ℕ) × (m' ≡ with_slot (Locked (id_slot id) (id_first id) range) m) × ((parts word).range ≡ range)
-  LeavesPost m id (WasCrowded a b) m' = Again m m' × IsErrorCode a × IsErrorCode b
+  LeavesPost m id (WasCrowded a b) m' = Again m m' × IsErrorCode p q clients fin a × IsErrorCode p q clients fin b
   LeavesPost m id other m' = Again m m'
 
   abbrev pub LeavesUnlock : Scene → Mark → ℕ → Unlocking → Mark → Type 0
@@ -226,7 +227,7 @@ module _ (p : Plan) (q : IdPlan) (clients : List (List Task)) (fin : ℕ → Lis
   Leaves' w m (Decides id asked word e) exit m' = LeavesDecision w m id e exit m'
   Leaves' w m (Locks i sought word) exit m' = LeavesLock m i sought exit m'
   Leaves' w m (Reads r) exit m' = (s : Slot) × (bytes : List ℕ) × IsVacant s × (m' ≡ with_bytes bytes (with_slot s m)) × (exit.reading.link ≡ r.link) × (exit.reading.id ≡ r.id) × AllByRecursion (CameFrom w r.link) exit.reading.kept
-      × ((exit.code ≡ 1014) ⊎ (exit.code ≡ 2002)) × (r.link < p.links)
+      × ((exit.code ≡ 1014) ⊎ ((exit.code ≡ 2002) × HasFaulted p q clients fin)) × (r.link < p.links)
   Leaves' w m (Discards k total) exit m' = (bytes : List ℕ) × (m' ≡ with_bytes bytes m)
   Leaves' w m head exit m' = m' ≡ m
 

@@ -1,11 +1,12 @@
 -- What has happened so far that lasts, and what it tells of calls.
-use Rattle.std.specs.Prelude.{ℕ, ◌≡◌, ◌≢◌, ◌+◌, ◌<◌, ◌≤◌, ◌⊎◌, ◌∷◌, List, [], slice_get, slice_index, Some, IsSome, ℤ, pos}
+use Rattle.std.specs.Prelude.{ℕ, ◌≡◌, ◌≢◌, ◌+◌, ◌<◌, ◌≤◌, ◌⊎◌, ◌∷◌, ◌++◌, List, [], slice_get, slice_index, Some, IsSome, ℤ, pos}
 use Rattle.sock_words.specs.declared.plain.Plan.{Plan}
 use Rattle.sock_words.specs.declared.outcome.Outcome.{Outcome}
 use Rattle.sock_words.specs.declared.outcome.Outcome.TheVariants.{Opened, SlotsFull, Unopened, Answered, Peer, CallFailed, Expired, Queued, Late, Crowded, Joined, NotBegun}
 use Rattle.brpc_model.specs.Meta.{ResponseMeta}
 use Rattle.brpc_model.specs.Frame.{Frame}
 use Rattle.brpc_model.specs.Stream.{stream}
+use Rattle.brpc_model.specs.Causes.{HasFault}
 use Rattle.corr_core.specs.Word.{error_of, code_of}
 use Rattle.corr_core.specs.declared.marks.Plan.{Plan as IdPlan}
 use Rattle.id_rule.specs.Lawful.{call_word}
@@ -74,13 +75,6 @@ IsResponseTo id asked frame = IsSome frame.meta.response × (id < frame.meta.cor
 abbrev pub HasCode : ℤ → Frame → Type 0
 HasCode code frame = (frame.meta.compress_type ≡ pos 0) × (r : ResponseMeta) × (frame.meta.response ≡ Some r) × (r.code ≡ code)
 
--- a code of an error that isn't that of an `expire`
-abbrev pub IsOther : ℕ → Type 0
-IsOther code = (code ≡ 1009) ⊎ ((code ≡ 1014) ⊎ ((code ≡ 2002) ⊎ ((code ≡ 3001) ⊎ ((1500 ≤ code) × (code ≤ 1999)))))
-
-abbrev pub IsErrorCode : ℕ → Type 0
-IsErrorCode code = (code ≡ 1008) ⊎ IsOther code
-
 abbrev pub IsOpened : Outcome → Type 0
 IsOpened (Opened slot version k) = Unit {0}
 IsOpened other = ⊥
@@ -93,6 +87,7 @@ SeeksName n (ops.Send m bytes) = m ≡ n
 SeeksName n (ops.Call asked) = name_of asked 0 ≡ n
 SeeksName n other = ⊥
 
+-- in a run in which the links give these bytes in the end
 module _ (p : Plan) (q : IdPlan) (clients : List (List Task)) (fin : ℕ → List ℕ) where
   -- the name had a socket
   abbrev pub Named : Scene → ℕ → Type 0
@@ -104,6 +99,21 @@ module _ (p : Plan) (q : IdPlan) (clients : List (List Task)) (fin : ℕ → Lis
 
   abbrev pub IsTaskOf : ℕ → Task → Type 0
   IsTaskOf c t = (ts : List Task) × (slice_get clients c ≡ Some ts) × In t ts
+
+  -- the bytes of a link have a frame fault
+  abbrev pub HasFaulted : Type 0
+  HasFaulted = (k : ℕ) × (k < p.links) × HasFault (fin k)
+
+  -- there is a `fail` with this code
+  abbrev pub HasFail : ℕ → Type 0
+  HasFail code = (c : ℕ) × (t : Task) × (n : ℕ) × IsTaskOf c t × (t.op ≡ ops.Fail n code)
+
+  -- a code of an error that isn't that of an `expire`
+  abbrev pub IsOther : ℕ → Type 0
+  IsOther code = (code ≡ 1009) ⊎ ((code ≡ 1014) ⊎ (((code ≡ 2002) × HasFaulted) ⊎ ((code ≡ 3001) ⊎ ((1500 ≤ code) × (code ≤ 1999) × HasFail code))))
+
+  abbrev pub IsErrorCode : ℕ → Type 0
+  IsErrorCode code = (code ≡ 1008) ⊎ IsOther code
 
   -- an `expire` of the call was told that it ended it, or that its error waits
   abbrev pub IsExpired : Scene → Asked → Type 0
@@ -194,6 +204,13 @@ module _ (p : Plan) (q : IdPlan) (clients : List (List Task)) (fin : ℕ → Lis
   abbrev pub HasRoom : Scene → Type 0
   HasRoom w = (c : ℕ) (t : Task) (asked : Asked) → IsTaskOf c t → t.op ≡ ops.Call asked → ((i : ℕ) → i < q.slots → (o : ℕ) × IsClaimed w i o × (o ≢ t.number)) → ⊥
 
+  -- what each link gave is the beginning of what it gives in the end
+  abbrev pub LeadsTo : Core → Type 0
+  LeadsTo c = (k : ℕ) → (more : List ℕ) × (given c k ++ more ≡ fin k)
+
+  abbrev pub StaysWithin : Scene → Type 0
+  StaysWithin w = HasRoom w × LeadsTo w.core
+
   -- what happened lasts; an id is that of one call, and there are as many id slots as calls
   pub record Later (w w' : Scene) : Type 0 where
     pub said : (o : ℕ) (x : Outcome) → Said w o x → Said w' o x
@@ -203,5 +220,5 @@ module _ (p : Plan) (q : IdPlan) (clients : List (List Task)) (fin : ℕ → Lis
     pub born : (id : ℕ) (asked : Asked) → IsBorn w id asked → IsBorn w' id asked
     pub came : (k n : ℕ) (frame : Frame) → Came w k n frame → Came w' k n frame
     pub claimed : (i o : ℕ) → IsClaimed w i o → IsClaimed w' i o
-    pub room : HasRoom w'
+    pub within : StaysWithin w'
     pub apart : (id : ℕ) (a b : Asked) → IsBorn w' id a → IsBorn w' id b → a ≡ b

@@ -89,7 +89,7 @@ module _ (p : Plan) (q : IdPlan) (clients : List (List Task)) (fin : ℕ → Lis
     -- each error that waits has its cause, and each code of a socket is that of an error
     pub errors : (i : ℕ) → i < q.slots → 0 < (word_at w i).state
         → ((word_at w i).oldest ≢ 0 → CauseOf p q clients fin w (call_id i (word_at w i).first) (word_at w i).oldest) × ((word_at w i).second ≢ 0 → CauseOf p q clients fin w (call_id i (word_at w i).first) (word_at w i).second)
-    pub codes : (i : ℕ) → i < p.slots → slice_index w.core.words (code_word i) ≢ 0 → IsOther (slice_index w.core.words (code_word i))
+    pub codes : (i : ℕ) → i < p.slots → slice_index w.core.words (code_word i) ≢ 0 → IsOther p q clients fin (slice_index w.core.words (code_word i))
 
   -- ## Tasks, and what is said
 

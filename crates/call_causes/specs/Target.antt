@@ -1,5 +1,5 @@
 -- Why each `call`, `expire` and `join` has its outcome: what a run with calls tells of them.
-use Rattle.std.specs.Prelude.{ℕ, ◌≡◌, ◌≢◌, ◌+◌, ◌≤◌, ◌⊎◌, List, Option, pos}
+use Rattle.std.specs.Prelude.{ℕ, ◌≡◌, ◌≢◌, ◌+◌, ◌<◌, ◌≤◌, ◌⊎◌, List, [], ◌∷◌, Option, Contains, pos}
 use Rattle.sock_words.specs.declared.plain.Plan.{Plan}
 use Rattle.sock_words.specs.declared.outcome.Outcome.{Outcome}
 use Rattle.sock_words.specs.declared.outcome.Outcome.TheVariants.{Unopened, Answered, Peer, CallFailed, Expired, Queued}
@@ -9,7 +9,7 @@ use Rattle.sock_programs.specs.declared.task.Op.{Op}
 use Rattle.sock_programs.specs.declared.task.Op.TheVariants as ops
 use Rattle.sock_programs.specs.declared.task.Task.{Task}
 use Rattle.sock_programs.specs.Told.{IsTask, Became}
-use Rattle.sock_programs.specs.ToldCalls.{Fixed, Order, FoundNone, HasCode, IsAnsweredBy, IsExpiredWith, IsPosted, ShowsId, Why, WhyExpire, WhyJoin}
+use Rattle.sock_programs.specs.ToldCalls.{Fixed, Order, FoundNone, HasCode, IsAnsweredBy, IsExpiredWith, GaveFault, ShowsId, Why, WhyExpire, WhyJoin}
 
 abbrev pub IsOnCalls : Op → Type 0
 IsOnCalls (ops.Call asked) = Unit {0}
@@ -30,11 +30,14 @@ pub record ToldOnCalls (p : Plan) (clients : List (List Task)) (outcomes : List 
 -- ## In part
 
 module _ (p : Plan) (clients : List (List Task)) (outcomes : List (Option Outcome)) (fixed : Fixed) (gave : ℕ → List ℕ) (orders : ℕ → Order) where
-  -- why the call that is operation o, with this id, ended with the code, as far as an `expire` and compressed responses go: any other code is one of those that are posted
+  -- why the call that is operation o, with this id, ended with the code, as far as it is told without its attempts: 2002 where no response was compressed is that of a link with a frame
+  -- fault, and another code that of a `fail`, or of a socket, a reading that ended or a table without requests
   pub data FailedInPart (o : ℕ) (asked : Asked) (id code : ℕ) : Type 0 where
     ByExpiry : code ≡ 1008 → IsExpiredWith p clients outcomes fixed gave orders o Expired ⊎ IsExpiredWith p clients outcomes fixed gave orders o Queued → FailedInPart o asked id code
     ByCompression : code ≡ 2002 → IsAnsweredBy p clients outcomes fixed gave orders asked id (λ frame. frame.meta.compress_type ≢ pos 0) → FailedInPart o asked id code
-    ByOther : code ≢ 1008 → IsPosted p clients outcomes fixed gave orders code → FailedInPart o asked id code
+    ByFrameFault : code ≡ 2002 → (k : ℕ) → k < p.links → GaveFault p clients outcomes fixed gave orders k → FailedInPart o asked id code
+    ByFail : 1500 ≤ code → code ≤ 1999 → (client : ℕ) (t : Task) (name : ℕ) → IsTask clients outcomes client t → t.op ≡ ops.Fail name code → FailedInPart o asked id code
+    ByOther : Contains (1009 ∷ 1014 ∷ 3001 ∷ []) code → FailedInPart o asked id code
 
   abbrev pub WhyCallInPart : ℕ → ℕ → Asked → Outcome → Type 0
   WhyCallInPart c o asked Unopened = FoundNone p clients outcomes fixed gave orders c o (name_of asked 0)
