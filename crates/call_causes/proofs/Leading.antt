@@ -1,5 +1,5 @@
 -- What each link gave so far is the beginning of what it gives in the end.
-use Rattle.std.proofs.Common.{◌≡◌, ◌≢◌, ℕ, ◌<◌, ◌≤◌, List, [], ◌∷◌, ◌++◌, length, length-set, get_or, get_or-set_same, get_or-set_other, set, refl, sym, ap, ◌∙◌, append_assoc, arith}
+use Rattle.std.proofs.Common.{◌≡◌, ℕ, List, [], ◌∷◌, ◌++◌, length, length-set, get_or, get_or-set_same, get_or-set_other, set, sym, ap, ◌∙◌, append_assoc, arith}
 use Rattle.std.proofs.lemmas.List.{get_or_past, append-nil}
 use mathlib.Core.Logic.{dite}
 use mathlib.Core.Option.{Option, none, some}
@@ -34,8 +34,8 @@ same_grows g k = ([], sym (append-nil (get_or g k [])))
 more_grows : (g : List (List ℕ)) (l : ℕ) (bytes : List ℕ) → Grows g (set g l (get_or g l [] ++ bytes))
 more_grows g l bytes k = dite (ℕ_discrete k l)
     (λ same. dite (dec_le (length g) l)
-        (λ past. ([], get_or_past (set g l (get_or g l [] ++ bytes)) k [] (omega (arith, past, same, length-set g l (get_or g l [] ++ bytes))) ∙ (sym (get_or_past g k [] (omega (arith, past, same))) ∙ sym (append-nil (get_or g k [])))))
-        (λ low. (bytes, ap (λ n. get_or (set g l (get_or g l [] ++ bytes)) n []) same ∙ (get_or-set_same g l (get_or g l [] ++ bytes) [] (omega (arith, low)) ∙ ap (λ n. get_or g n [] ++ bytes) (sym same)))))
+    (λ past. ([], get_or_past (set g l (get_or g l [] ++ bytes)) k [] (omega (arith, past, same, length-set g l (get_or g l [] ++ bytes))) ∙ (sym (get_or_past g k [] (omega (arith, past, same))) ∙ sym (append-nil (get_or g k [])))))
+    (λ low. (bytes, ap (λ n. get_or (set g l (get_or g l [] ++ bytes)) n []) same ∙ (get_or-set_same g l (get_or g l [] ++ bytes) [] (omega (arith, low)) ∙ ap (λ n. get_or g n [] ++ bytes) (sym same)))))
     (λ ne. ([], get_or-set_other g l k (get_or g l [] ++ bytes) [] ne ∙ sym (append-nil (get_or g k []))))
 
 step_grows : (step : Step) (found : Found step) (a : Calls) → Grows a.gave (calls_after step found a).gave
@@ -124,11 +124,11 @@ tick_grows p c m = by_seat (get_elem? c.seats m.seat)
     by_seat none = same_grows c.calls.gave
     by_seat (some seat) = any_grows p m.seat seat c m.answer seat.program
 
-module _ (p : Plan) (q : IdPlan) (clients : List (List Task)) (fin : ℕ → List ℕ) where
+module _ (p : Plan) (q : IdPlan) (clients : List (List Task)) (gives : ℕ → List ℕ) where
   -- so a link gave the beginning of it before a tick, and before ticks one after another
-  pub tick_leads : (c : Core) (m : Moment) → LeadsTo p q clients fin (ticked p c m) → LeadsTo p q clients fin c
+  pub tick_leads : (c : Core) (m : Moment) → LeadsTo p q clients gives (ticked p c m) → LeadsTo p q clients gives c
   tick_leads c m lead k = let g = tick_grows p c m k in let l = lead k in (g.0 ++ l.0, sym (append_assoc (given c k) g.0 l.0) ∙ (ap (λ xs. xs ++ l.0) (sym g.1) ∙ l.1))
 
-  pub run_leads : (ms : List Moment) (c : Core) → LeadsTo p q clients fin (run p c ms) → LeadsTo p q clients fin c
+  pub run_leads : (ms : List Moment) (c : Core) → LeadsTo p q clients gives (run p c ms) → LeadsTo p q clients gives c
   run_leads [] c lead = lead
   run_leads (m ∷ ms) c lead = tick_leads c m (run_leads ms (ticked p c m) lead)

@@ -1,8 +1,8 @@
 -- The story of the calls goes on along the ticks of a whole run, up to its end.
-use Rattle.std.proofs.Common.{◌≡◌, ◌≢◌, ℕ, zero, suc, ◌+◌, ◌<◌, ◌≤◌, List, [], ◌∷◌, ◌++◌, length, length-set, replicate, refl, sym, ap, ◌∙◌, subst, arith}
+use Rattle.std.proofs.Common.{◌≡◌, ◌≢◌, ℕ, zero, suc, ◌<◌, ◌≤◌, List, [], ◌∷◌, ◌++◌, length, length-set, replicate, refl, sym, ap, ◌∙◌, subst, arith}
 use Rattle.std.proofs.lemmas.List.{length-map}
 use Rattle.std.specs.List.{AllByRecursion}
-use mathlib.Core.Option.{Option, none, some, some-injective, some-ne-none}
+use mathlib.Core.Option.{some, some-injective, some-ne-none}
 use lib.ListN.{get_elem?}
 use Rattle.sock_words.specs.declared.plain.Plan.{Plan}
 use Rattle.sock_model.specs.declared.view.View.{View}
@@ -31,7 +31,7 @@ use Rattle.joint_runs.proofs.Starts.{narrow}
 use Rattle.call_causes.specs.Scenes.{Scene, LeadsTo}
 use Rattle.call_causes.proofs.Leading.{run_leads}
 use Rattle.call_causes.specs.Says.{Mark, SaysOn}
-use Rattle.call_causes.specs.Stories.{At, CallStory, HasStory}
+use Rattle.call_causes.specs.Stories.{CallStory, HasStory}
 use Rattle.call_causes.proofs.Clients.{ending_says}
 use Rattle.call_causes.proofs.Numbered.{AreNumbered}
 use Rattle.call_causes.proofs.Claiming.{HaveSlots}
@@ -44,49 +44,49 @@ ending_few : (os : List ℕ) → KeepsFew (ending_of os)
 ending_few [] = tt
 ending_few (o ∷ os) = tt
 
-module _ (p : Plan) (q : IdPlan) (clients : List (List Task)) (fin : ℕ → List ℕ) (numbered : AreNumbered p q clients fin) (slots : HaveSlots p q clients fin) (small : q.slots ≤ 65536) where
+module _ (p : Plan) (q : IdPlan) (clients : List (List Task)) (gives : ℕ → List ℕ) (numbered : AreNumbered p q clients gives) (slots : HaveSlots p q clients gives) (small : q.slots ≤ 65536) where
   abbrev pub Story : Core → Type 0
-  Story c = HasStory p q clients fin c
+  Story c = HasStory p q clients gives c
 
-  one_tick : (c : Core) (vs : List View) (m : Moment) → BothSound p q c vs → Rattle.joint_runs.proofs.Both.FitsBoth p c m → (m.seat ≢ 0 → (seat : SeatState) → get_elem? c.seats 0 ≡ some seat → seat.program ≡ Rattle.sock_programs.specs.Programs.Rest) → LeadsTo p q clients fin (ticked p c m) → Story c → Story (ticked p c m)
-  one_tick c vs m both fits over lead h = story_ticks p q clients fin numbered slots small c both.id_views m both.ids fits.fitting_ids (let s = both.sockets in s.lawful.references.sized) (allows p c vs m both.sockets) over lead h
+  one_tick : (c : Core) (vs : List View) (m : Moment) → BothSound p q c vs → Rattle.joint_runs.proofs.Both.FitsBoth p c m → (m.seat ≢ 0 → (seat : SeatState) → get_elem? c.seats 0 ≡ some seat → seat.program ≡ Rattle.sock_programs.specs.Programs.Rest) → LeadsTo p q clients gives (ticked p c m) → Story c → Story (ticked p c m)
+  one_tick c vs m both fits over lead h = story_ticks p q clients gives numbered slots small c both.id_views m both.ids fits.fitting_ids (let s = both.sockets in s.lawful.references.sized) (allows p c vs m both.sockets) over lead h
 
   -- ticks of seat 0
-  pub setup_story : (n : ℕ) (c : Core) (vs : List View) → AreBoth p q c vs (replicate n (quiet 0)) → LeadsTo p q clients fin (run p c (replicate n (quiet 0))) → Story c → Story (run p c (replicate n (quiet 0)))
+  pub setup_story : (n : ℕ) (c : Core) (vs : List View) → AreBoth p q c vs (replicate n (quiet 0)) → LeadsTo p q clients gives (run p c (replicate n (quiet 0))) → Story c → Story (run p c (replicate n (quiet 0)))
   setup_story zero c vs are lead h = h
-  setup_story (suc n) c vs are lead h = setup_story n (ticked p c (quiet 0)) (views_after p c vs (quiet 0)) are.2 lead (one_tick c vs (quiet 0) are.0 are.1 (λ other. absurd (other refl)) (run_leads p q clients fin (replicate n (quiet 0)) (ticked p c (quiet 0)) lead) h)
+  setup_story (suc n) c vs are lead h = setup_story n (ticked p c (quiet 0)) (views_after p c vs (quiet 0)) are.2 lead (one_tick c vs (quiet 0) are.0 are.1 (λ other. absurd (other refl)) (run_leads p q clients gives (replicate n (quiet 0)) (ticked p c (quiet 0)) lead) h)
 
   -- ticks behind seat 0, which has no step left
-  pub played_story : (ms : List Moment) (c : Core) (vs : List View) → AreBoth p q c vs ms → IsAhead c → IsAtRest c 0 → LeadsTo p q clients fin (run p c ms) → Story c → Story (run p c ms)
+  pub played_story : (ms : List Moment) (c : Core) (vs : List View) → AreBoth p q c vs ms → IsAhead c → IsAtRest c 0 → LeadsTo p q clients gives (run p c ms) → Story c → Story (run p c ms)
   played_story [] c vs are ahead rests lead h = h
-  played_story (m ∷ ms) c vs are ahead rests lead h = played_story ms (ticked p c m) (views_after p c vs m) are.2 (ticked_ahead p c m ahead) (ticked_rests p c m 0 rests) lead (one_tick c vs m are.0 are.1 (λ _ seat at. seat_rests c ahead 0 rests seat at) (run_leads p q clients fin ms (ticked p c m) lead) h)
+  played_story (m ∷ ms) c vs are ahead rests lead h = played_story ms (ticked p c m) (views_after p c vs m) are.2 (ticked_ahead p c m ahead) (ticked_rests p c m 0 rests) lead (one_tick c vs m are.0 are.1 (λ _ seat at. seat_rests c ahead 0 rests seat at) (run_leads p q clients gives ms (ticked p c m) lead) h)
 
   -- seat 0 begins the ending
-  pub ending_story : (os : List ℕ) (c : Core) (vs : List View) → BothSound p q c vs → 0 < length c.seats → IsAhead c → IsAtRest c 0 → LeadsTo p q clients fin (with_seat 0 (ending_of os) [] c.words c.homes c) → Story c → Story (with_seat 0 (ending_of os) [] c.words c.homes c)
+  pub ending_story : (os : List ℕ) (c : Core) (vs : List View) → BothSound p q c vs → 0 < length c.seats → IsAhead c → IsAtRest c 0 → LeadsTo p q clients gives (with_seat 0 (ending_of os) [] c.words c.homes c) → Story c → Story (with_seat 0 (ending_of os) [] c.words c.homes c)
   ending_story os c vs both some_ ahead rests lead h = subst (λ d. Story (with_seat 0 (ending_of os) [] d.words d.homes d)) h.is
-      (of_scene h.scene h.marks h.story (subst (λ d. BothSound p q d vs) (sym h.is) both) (subst (λ (d : Core). 0 < length d.seats) (sym h.is) some_) (subst IsAhead (sym h.is) ahead) (subst (λ d. IsAtRest d 0) (sym h.is) rests) (subst (λ d. LeadsTo p q clients fin (with_seat 0 (ending_of os) [] d.words d.homes d)) (sym h.is) lead))
+      (of_scene h.scene h.marks h.story (subst (λ d. BothSound p q d vs) (sym h.is) both) (subst (λ (d : Core). 0 < length d.seats) (sym h.is) some_) (subst IsAhead (sym h.is) ahead) (subst (λ d. IsAtRest d 0) (sym h.is) rests) (subst (λ d. LeadsTo p q clients gives (with_seat 0 (ending_of os) [] d.words d.homes d)) (sym h.is) lead))
     where
-      of_scene : (w : Scene) (ms : List Mark) → CallStory p q clients fin w ms → BothSound p q w.core vs → 0 < length w.core.seats → IsAhead w.core → IsAtRest w.core 0 → LeadsTo p q clients fin (with_seat 0 (ending_of os) [] w.core.words w.core.homes w.core) → Story (with_seat 0 (ending_of os) [] w.core.words w.core.homes w.core)
+      of_scene : (w : Scene) (ms : List Mark) → CallStory p q clients gives w ms → BothSound p q w.core vs → 0 < length w.core.seats → IsAhead w.core → IsAtRest w.core 0 → LeadsTo p q clients gives (with_seat 0 (ending_of os) [] w.core.words w.core.homes w.core) → Story (with_seat 0 (ending_of os) [] w.core.words w.core.homes w.core)
       of_scene w ms story both some_ ahead rests lead =
           let s = first_there w.core.seats some_ in let ids = both.ids in let sockets = both.sockets in
           let u = other_there w.core.seats both.id_views 0 s.0 ids.each s.1 in let m = other_there w.core.seats ms 0 s.0 story.each s.1 in
-          let idle = subst (SaysOn p q clients fin w m.0) (seat_rests w.core ahead 0 rests s.0 s.1) (story.seats 0 s.0 m.0 s.1 m.1) in
-          on_homes p q clients fin numbered slots small w ms story both.id_views both.ids (sockets.lawful.references.sized) 0 s.0 s.1 u.0 u.1 m.0 m.1 (λ other. absurd (other refl)) (ending_of os) [] w.core.homes (ending_few os) lead
-          (λ v l _. ending_says p q clients fin os v m.0 idle.0 idle.1)
+          let idle = subst (SaysOn p q clients gives w m.0) (seat_rests w.core ahead 0 rests s.0 s.1) (story.seats 0 s.0 m.0 s.1 m.1) in
+          on_homes p q clients gives numbered slots small w ms story both.id_views both.ids (sockets.lawful.references.sized) 0 s.0 s.1 u.0 u.1 m.0 m.1 (λ other. absurd (other refl)) (ending_of os) [] w.core.homes (ending_few os) lead
+          (λ v l _. ending_says p q clients gives os v m.0 idle.0 idle.1)
         where
           first_there : (l : List SeatState) → 0 < length l → (x : SeatState) × (get_elem? l 0 ≡ some x)
           first_there [] less = absurd (omega (arith, less))
           first_there (x ∷ xs) less = (x, refl)
 
   -- the readers are told that the run is ending
-  pub told_on : (c : Core) (vs : List View) → BothSound p q c vs → 0 < length c.seats → LeadsTo p q clients fin (is_ending c) → Story c → Story (is_ending c)
-  told_on c vs both some_ lead h = subst (λ d. Story (is_ending d)) h.is (of_scene h.scene h.marks h.story (subst (λ d. BothSound p q d vs) (sym h.is) both) (subst (λ (d : Core). 0 < length d.seats) (sym h.is) some_) (subst (λ d. LeadsTo p q clients fin (is_ending d)) (sym h.is) lead))
+  pub told_on : (c : Core) (vs : List View) → BothSound p q c vs → 0 < length c.seats → LeadsTo p q clients gives (is_ending c) → Story c → Story (is_ending c)
+  told_on c vs both some_ lead h = subst (λ d. Story (is_ending d)) h.is (of_scene h.scene h.marks h.story (subst (λ d. BothSound p q d vs) (sym h.is) both) (subst (λ (d : Core). 0 < length d.seats) (sym h.is) some_) (subst (λ d. LeadsTo p q clients gives (is_ending d)) (sym h.is) lead))
     where
-      of_scene : (w : Scene) (ms : List Mark) → CallStory p q clients fin w ms → BothSound p q w.core vs → 0 < length w.core.seats → LeadsTo p q clients fin (is_ending w.core) → Story (is_ending w.core)
+      of_scene : (w : Scene) (ms : List Mark) → CallStory p q clients gives w ms → BothSound p q w.core vs → 0 < length w.core.seats → LeadsTo p q clients gives (is_ending w.core) → Story (is_ending w.core)
       of_scene w ms story both some_ lead =
           let s = first_there w.core.seats some_ in let ids = both.ids in let sockets = both.sockets in
           let u = other_there w.core.seats both.id_views 0 s.0 ids.each s.1 in let m = other_there w.core.seats ms 0 s.0 story.each s.1 in
-          told_story p q clients fin numbered slots small w ms story both.id_views both.ids (sockets.lawful.references.sized) 0 s.0 s.1 u.0 u.1 m.0 m.1 (λ other. absurd (other refl)) lead
+          told_story p q clients gives numbered slots small w ms story both.id_views both.ids (sockets.lawful.references.sized) 0 s.0 s.1 u.0 u.1 m.0 m.1 (λ other. absurd (other refl)) lead
         where
           first_there : (l : List SeatState) → 0 < length l → (x : SeatState) × (get_elem? l 0 ≡ some x)
           first_there [] less = absurd (omega (arith, less))
@@ -94,10 +94,10 @@ module _ (p : Plan) (q : IdPlan) (clients : List (List Task)) (fin : ℕ → Lis
 
 -- ## A whole run
 
-module _ (script : List Item) (made : AreMade script) (fin : ℕ → List ℕ) (numbered : AreNumbered (plan_of script) (id_plan_of script) (all_tasks script) fin) (slots : HaveSlots (plan_of script) (id_plan_of script) (all_tasks script) fin) (fit : Begins (plan_of script) (id_plan_of script) (all_tasks script) fin numbered slots (opens script))
-    (turns : List Turn) (core : Core) (is : IsRunWithCalls script turns core) (leads : LeadsTo (plan_of script) (id_plan_of script) (all_tasks script) fin core) where
+module _ (script : List Item) (made : AreMade script) (gives : ℕ → List ℕ) (numbered : AreNumbered (plan_of script) (id_plan_of script) (all_tasks script) gives) (slots : HaveSlots (plan_of script) (id_plan_of script) (all_tasks script) gives) (fit : Begins (plan_of script) (id_plan_of script) (all_tasks script) gives numbered slots (opens script))
+    (turns : List Turn) (core : Core) (is : IsRunWithCalls script turns core) (leads : LeadsTo (plan_of script) (id_plan_of script) (all_tasks script) gives core) where
   abbrev Tale : Core → Type 0
-  Tale c = HasStory (plan_of script) (id_plan_of script) (all_tasks script) fin c
+  Tale c = HasStory (plan_of script) (id_plan_of script) (all_tasks script) gives c
 
   abbrev small : (id_plan_of script).slots ≤ 65536
   small = narrow (plan_of script) (id_plan_of script) (all_tasks script) (calls script) (opens script) made
@@ -153,10 +153,10 @@ module _ (script : List Item) (made : AreMade script) (fin : ℕ → List ℕ) (
   many_seats = ap (λ (d : Core). length d.seats) is.is_end ∙ (run_seats (plan_of script) is.ended is.final ∙ (ap (λ (d : Core). length d.seats) is.is_ended ∙ many_closed))
 
   abbrev Leads : Core → Type 0
-  Leads c = LeadsTo (plan_of script) (id_plan_of script) (all_tasks script) fin c
+  Leads c = LeadsTo (plan_of script) (id_plan_of script) (all_tasks script) gives c
 
   ended_leads : Leads is.ended
-  ended_leads = run_leads (plan_of script) (id_plan_of script) (all_tasks script) fin is.final is.ended (subst Leads is.is_end leads)
+  ended_leads = run_leads (plan_of script) (id_plan_of script) (all_tasks script) gives is.final is.ended (subst Leads is.is_end leads)
 
   told_leads : Leads (is_ending (run (plan_of script) (ending script (played script is.setup (is.scheduled ++ is.later))) (replicate is.last (quiet 0))))
   told_leads = subst Leads is.is_ended ended_leads
@@ -165,38 +165,38 @@ module _ (script : List Item) (made : AreMade script) (fin : ℕ → List ℕ) (
   closed_leads = λ k. told_leads k
 
   ending_leads : Leads (ending script (played script is.setup (is.scheduled ++ is.later)))
-  ending_leads = run_leads (plan_of script) (id_plan_of script) (all_tasks script) fin (replicate is.last (quiet 0)) (ending script (played script is.setup (is.scheduled ++ is.later))) closed_leads
+  ending_leads = run_leads (plan_of script) (id_plan_of script) (all_tasks script) gives (replicate is.last (quiet 0)) (ending script (played script is.setup (is.scheduled ++ is.later))) closed_leads
 
   played_leads : Leads (played script is.setup (is.scheduled ++ is.later))
   played_leads = λ k. ending_leads k
 
   set_up_leads : Leads (set_up script is.setup)
-  set_up_leads = run_leads (plan_of script) (id_plan_of script) (all_tasks script) fin (is.scheduled ++ is.later) (set_up script is.setup) played_leads
+  set_up_leads = run_leads (plan_of script) (id_plan_of script) (all_tasks script) gives (is.scheduled ++ is.later) (set_up script is.setup) played_leads
 
   opened_leads : Leads (opened script)
-  opened_leads = run_leads (plan_of script) (id_plan_of script) (all_tasks script) fin (replicate is.setup (quiet 0)) (opened script) set_up_leads
+  opened_leads = run_leads (plan_of script) (id_plan_of script) (all_tasks script) gives (replicate is.setup (quiet 0)) (opened script) set_up_leads
 
   first_tale : Tale (opened script)
-  first_tale = first_story (plan_of script) (id_plan_of script) (all_tasks script) fin numbered slots (calls script) (opens script) fit made.seats length_is few_tries opened_leads
+  first_tale = first_story (plan_of script) (id_plan_of script) (all_tasks script) gives numbered slots (calls script) (opens script) fit made.seats length_is few_tries opened_leads
 
   set_up_tale : Tale (set_up script is.setup)
-  set_up_tale = setup_story (plan_of script) (id_plan_of script) (all_tasks script) fin numbered slots small is.setup (opened script) (first_views script) (let s = sound_run in s.setup) set_up_leads first_tale
+  set_up_tale = setup_story (plan_of script) (id_plan_of script) (all_tasks script) gives numbered slots small is.setup (opened script) (first_views script) (let s = sound_run in s.setup) set_up_leads first_tale
 
   played_tale : Tale (played script is.setup (is.scheduled ++ is.later))
-  played_tale = played_story (plan_of script) (id_plan_of script) (all_tasks script) fin numbered slots small (is.scheduled ++ is.later) (set_up script is.setup) views_set_up (let s = sound_run in s.clients) set_up_ahead is.is_set_up played_leads set_up_tale
+  played_tale = played_story (plan_of script) (id_plan_of script) (all_tasks script) gives numbered slots small (is.scheduled ++ is.later) (set_up script is.setup) views_set_up (let s = sound_run in s.clients) set_up_ahead is.is_set_up played_leads set_up_tale
 
   ending_tale : Tale (ending script (played script is.setup (is.scheduled ++ is.later)))
-  ending_tale = let s = sound_run in ending_story (plan_of script) (id_plan_of script) (all_tasks script) fin numbered slots small (opens script) (played script is.setup (is.scheduled ++ is.later)) (views_along (plan_of script) (set_up script is.setup) views_set_up (is.scheduled ++ is.later))
+  ending_tale = let s = sound_run in ending_story (plan_of script) (id_plan_of script) (all_tasks script) gives numbered slots small (opens script) (played script is.setup (is.scheduled ++ is.later)) (views_along (plan_of script) (set_up script is.setup) views_set_up (is.scheduled ++ is.later))
       (behind_both (plan_of script) (id_plan_of script) (set_up script is.setup) views_set_up (is.scheduled ++ is.later) s.clients) (let seats = made.seats in omega (arith, many_played, seats)) played_ahead
       (run_rests (plan_of script) (set_up script is.setup) (is.scheduled ++ is.later) 0 is.is_set_up) ending_leads played_tale
 
   closed_tale : Tale (run (plan_of script) (ending script (played script is.setup (is.scheduled ++ is.later))) (replicate is.last (quiet 0)))
-  closed_tale = setup_story (plan_of script) (id_plan_of script) (all_tasks script) fin numbered slots small is.last (ending script (played script is.setup (is.scheduled ++ is.later))) (views_played script turns core is (first_views script)) (let s = sound_run in s.closing) closed_leads ending_tale
+  closed_tale = setup_story (plan_of script) (id_plan_of script) (all_tasks script) gives numbered slots small is.last (ending script (played script is.setup (is.scheduled ++ is.later))) (views_played script turns core is (first_views script)) (let s = sound_run in s.closing) closed_leads ending_tale
 
   ended_tale : Tale is.ended
-  ended_tale = let s = sound_run in subst Tale (sym is.is_ended) (told_on (plan_of script) (id_plan_of script) (all_tasks script) fin numbered slots small (run (plan_of script) (ending script (played script is.setup (is.scheduled ++ is.later))) (replicate is.last (quiet 0))) (views_closed script turns core is (first_views script))
+  ended_tale = let s = sound_run in subst Tale (sym is.is_ended) (told_on (plan_of script) (id_plan_of script) (all_tasks script) gives numbered slots small (run (plan_of script) (ending script (played script is.setup (is.scheduled ++ is.later))) (replicate is.last (quiet 0))) (views_closed script turns core is (first_views script))
       (behind_both (plan_of script) (id_plan_of script) (ending script (played script is.setup (is.scheduled ++ is.later))) (views_played script turns core is (first_views script)) (replicate is.last (quiet 0)) s.closing) (let seats = made.seats in omega (arith, many_closed, seats)) told_leads closed_tale)
 
   -- at the end of a run its story is there
-  pub run_story : HasStory (plan_of script) (id_plan_of script) (all_tasks script) fin core
-  run_story = subst Tale (sym is.is_end) (played_story (plan_of script) (id_plan_of script) (all_tasks script) fin numbered slots small is.final is.ended (views_closed script turns core is (first_views script)) (let s = sound_run in s.final) ended_ahead is.is_over (subst Leads is.is_end leads) ended_tale)
+  pub run_story : HasStory (plan_of script) (id_plan_of script) (all_tasks script) gives core
+  run_story = subst Tale (sym is.is_end) (played_story (plan_of script) (id_plan_of script) (all_tasks script) gives numbered slots small is.final is.ended (views_closed script turns core is (first_views script)) (let s = sound_run in s.final) ended_ahead is.is_over (subst Leads is.is_end leads) ended_tale)

@@ -1,13 +1,13 @@
 -- In a whole run of a script with calls the story of the calls has ended, so that each task on calls is told.
-use Rattle.std.proofs.Common.{◌≡◌, ℕ, ◌+◌, ◌<◌, ◌≤◌, List, [], length, get_or, sym, ap, ◌∙◌, subst, arith}
+use Rattle.std.proofs.Common.{◌≡◌, ℕ, List, [], length, get_or, sym, ap, ◌∙◌, subst, arith}
 use Rattle.std.proofs.lemmas.List.{append-nil}
 use Rattle.std.specs.List.{AllByRecursion}
 use Rattle.brpc_model.specs.Items.{Item}
 use Rattle.brpc_model.specs.Operations.{Turn}
-use Rattle.corr_core.specs.Word.{Parts, parts}
+use Rattle.corr_core.specs.Word.{parts}
 use Rattle.id_rule.specs.Lawful.{id_word}
 use Rattle.sock_programs.specs.Cores.{Core}
-use Rattle.sock_programs.specs.Tasks.{opens, plan_of, id_plan_of}
+use Rattle.sock_programs.specs.Tasks.{plan_of, id_plan_of}
 use Rattle.sock_programs.specs.Scripts.{all_tasks, IsRunWithCalls}
 use Rattle.sock_programs.specs.ToldCalls.{Fixed, Order}
 use Rattle.sock_runs.specs.Sound.{AllRest}
@@ -18,7 +18,7 @@ use Rattle.owed_calls.specs.Lives.{ClosesInRun}
 use Rattle.owed_calls.proofs.Known.{run_all_ended, run_all_rest}
 use Rattle.call_causes.specs.Lists.{given}
 use Rattle.call_causes.specs.Target.{ToldOnCallsInPart}
-use Rattle.call_causes.specs.Scenes.{Scene, LeadsTo}
+use Rattle.call_causes.specs.Scenes.{LeadsTo}
 use Rattle.call_causes.specs.Stories.{HasStory}
 use Rattle.call_causes.proofs.End.{HasEnded, told, versions}
 use Rattle.call_causes.proofs.CallWhys.{why}
@@ -28,8 +28,8 @@ use Rattle.call_causes.proofs.Run.{run_story, many_seats}
 use Rattle.call_causes.proofs.Over.{has_ended}
 
 module _ (script : List Item) (made : AreMade script) (there : AreThere script) (range : AllByRecursion InRange script) (turns : List Turn) (core : Core) (is : IsRunWithCalls script turns core) where
-  abbrev fin : ℕ → List ℕ
-  fin = given core
+  abbrev gives : ℕ → List ℕ
+  gives = given core
 
   leads : LeadsTo (plan_of script) (id_plan_of script) (all_tasks script) (given core) core
   leads k = ([], append-nil (given core k))

@@ -88,7 +88,7 @@ SeeksName n (ops.Call asked) = name_of asked 0 ≡ n
 SeeksName n other = ⊥
 
 -- in a run in which the links give these bytes in the end
-module _ (p : Plan) (q : IdPlan) (clients : List (List Task)) (fin : ℕ → List ℕ) where
+module _ (p : Plan) (q : IdPlan) (clients : List (List Task)) (gives : ℕ → List ℕ) where
   -- the name had a socket
   abbrev pub Named : Scene → ℕ → Type 0
   Named w n = (n < p.names) × (slice_index w.core.words (name_word p n) ≢ 0)
@@ -102,7 +102,7 @@ module _ (p : Plan) (q : IdPlan) (clients : List (List Task)) (fin : ℕ → Lis
 
   -- the bytes of a link have a frame fault
   abbrev pub HasFaulted : Type 0
-  HasFaulted = (k : ℕ) × (k < p.links) × HasFault (fin k)
+  HasFaulted = (k : ℕ) × (k < p.links) × HasFault (gives k)
 
   -- there is a `fail` with this code
   abbrev pub HasFail : ℕ → Type 0
@@ -206,7 +206,7 @@ module _ (p : Plan) (q : IdPlan) (clients : List (List Task)) (fin : ℕ → Lis
 
   -- what each link gave is the beginning of what it gives in the end
   abbrev pub LeadsTo : Core → Type 0
-  LeadsTo c = (k : ℕ) → (more : List ℕ) × (given c k ++ more ≡ fin k)
+  LeadsTo c = (k : ℕ) → (more : List ℕ) × (given c k ++ more ≡ gives k)
 
   abbrev pub StaysWithin : Scene → Type 0
   StaysWithin w = HasRoom w × LeadsTo w.core
