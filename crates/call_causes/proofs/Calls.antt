@@ -18,7 +18,7 @@ use Rattle.sock_programs.specs.Posts.{post, post_with, posted, decide, decided}
 use Rattle.sock_programs.specs.Attempts.{attempt, begin_call, claim_id, call, tried_again, retry_locked, retry, expire_outcome, expire, join}
 use Rattle.id_runs.proofs.Loops.{not_equal}
 use Rattle.call_causes.specs.Scenes.{Birth, Scene, In, Said, IsOver, IsBorn, IsOpened, SeeksName, IsClaimed, CauseOf, of_expiry, by_expiry, Named, Begun, IsTaskOf, HasNoneOf, NoneFound, HasBegunIn, HasNotBegunIn, WhyOwn, IsJust, ToldOf, was_said, was_sent, was_begun, AreTold}
-use Rattle.call_causes.specs.Says.{NoSlot, Claims, Locked, Mark, with_slot, with_owed, with_made, with_done, IsFree, put_in, SaidBy, NoneOfSetup, Again, LeavesUnlock, LeavesLock, SaysOn}
+use Rattle.call_causes.specs.Says.{Shape, shape_of, HasShape, with_attempt, unlocked_by, NoSlot, Claims, Locked, Mark, with_slot, with_owed, with_made, with_done, IsFree, put_in, SaidBy, NoneOfSetup, Again, LeavesUnlock, LeavesLock, SaysOn}
 use Rattle.call_causes.proofs.Lasting.{far, own_on}
 use Rattle.call_causes.proofs.Posts.{After, Follows, way, again_same, follows_on, id_back, failed_of, Exits, Decided, decide_says, decided_says, post_with_says, post_says}
 use Rattle.call_causes.proofs.Programs.{attempt_says}
@@ -167,7 +167,7 @@ module _ (p : Plan) (q : IdPlan) (clients : List (List Task)) (gives : ℕ → L
 
   -- ## Retries
 
-  tried_says : (w : Scene) (m : Mark) (f range requests id n : ℕ) (asked : Asked) (next : Program) → f ≡ id_first id → m.owes ≡ [] → m.makes ≡ [] → n ≤ 6 → Ends w m next
+  tried_says : (w : Scene) (m : Mark) (f : ℕ) (range : Shape) (requests id n : ℕ) (asked : Asked) (next : Program) → f ≡ id_first id → m.owes ≡ [] → m.makes ≡ [] → n ≤ 6 → Ends w m next
       → (exit : Unlocking) (v : Scene) (m' : Mark) → Later' w v → SaidBy v (tried_again requests id n asked next exit) → LeavesUnlock p q clients gives v (with_slot (Locked (id_slot id) f range) m) (id_slot id) exit m' → Tells v m' (tried_again requests id n asked next exit)
   tried_says w m f range requests id n asked next first owes makes few goes (IsOpen x) v m' l s lv = let m0 : Mark = with_slot NoSlot m in
       subst (λ y. Tells v y (tried_again requests id n asked next (IsOpen x))) (sym lv) (
@@ -178,16 +178,17 @@ module _ (p : Plan) (q : IdPlan) (clients : List (List Task)) (gives : ℕ → L
       )
   tried_says w m f range requests id n asked next first owes makes few goes (HasNext x e) v m' l s lv =
       let slot : Locked (id_slot id) f range ≡ Locked (id_slot id) (id_first id) range = ap (λ k. Locked (id_slot id) k range) first in
-      let cause = subst (λ i. CauseOf p q clients gives v i e) (ap (call_id (id_slot id)) first ∙ id_back id) (lv.1 f range refl) in
-      subst (λ y. Tells v y (decide id x e (decided id next))) (sym lv.0) (decide_says p q clients gives v (with_slot (Locked (id_slot id) f range) m) id x e (decided id next) range slot owes makes
-      (decided_says p q clients gives v (with_slot (Locked (id_slot id) f range) m) id e next owes
-      (λ u b l' _ born is. failed_of p q clients gives u b id e (l'.apart id) is born (Rattle.call_causes.proofs.Lasting.cause_on p q clients gives v u l' id e cause)) (follows_on p q clients gives w v m (Locked (id_slot id) f range) next l goes)))
+      let found = lv.1 f range refl in
+      let cause = subst (λ i. CauseOf p q clients gives v i e) (ap (call_id (id_slot id)) first ∙ id_back id) found.0 in
+      subst (λ y. Tells v y (decide id x e (decided id next))) (sym lv.0) (decide_says p q clients gives v (with_slot (Locked (id_slot id) f (record { range = range.range; attempt = (parts x).attempt })) m) id x e (decided id next) (record { range = range.range; attempt = (parts x).attempt }) (ap (with_attempt (parts x).attempt) slot) (found.1, refl) owes makes
+      (decided_says p q clients gives v (with_slot (Locked (id_slot id) f (record { range = range.range; attempt = (parts x).attempt })) m) id e next owes
+      (λ u b l' _ born is. failed_of p q clients gives u b id e (l'.apart id) is born (Rattle.call_causes.proofs.Lasting.cause_on p q clients gives v u l' id e cause)) (follows_on p q clients gives w v m (Locked (id_slot id) f (record { range = range.range; attempt = (parts x).attempt })) next l goes)))
 
   retry_locked_says : (w : Scene) (m : Mark) (requests id n : ℕ) (next : Program) → IsFree m → n ≤ 6 → Ends w m next → (exit : Locking) (v : Scene) (m' : Mark) → Later' w v → SaidBy v (retry_locked requests id n next exit)
       → LeavesLock p q clients gives m (id_slot id) (Rattle.sock_programs.specs.Heads.First (id_first id)) exit m' → Tells v m' (retry_locked requests id n next exit)
   retry_locked_says w m requests id n next free few goes (NotThere x) v m' l s lv = goes v m' l s (again_same p q clients gives m m' free lv)
   retry_locked_says w m requests id n next free few goes (Has x) v m' l s lv =
-      let f : ℕ = lv.0 in let range : ℕ = lv.1 in let m1 : Mark = with_slot (Locked (id_slot id) lv.0 lv.1) m in
+      let f : ℕ = lv.0 in let range : Shape = lv.1 in let m1 : Mark = with_slot (Locked (id_slot id) lv.0 lv.1) m in
       let unlocks : Asked → Program = λ asked. Round (Unlocks (id_slot id) x false) (tried_again requests id n asked next) in
       subst (λ y. Tells v y (retry_locked requests id n next (Has x))) (sym lv.2) (
         (lv.0, lv.1, refl),
@@ -231,7 +232,7 @@ module _ (p : Plan) (q : IdPlan) (clients : List (List Task)) (gives : ℕ → L
       names asked same = op ∙ ap ops.Expire (sym same)
 
       -- the call ends, and then the outcome is said of the `expire`
-      expired : (id range : ℕ) (v : Scene) → Later' w v → (asked : Asked) → IsBorn v id asked → asked.operation ≡ t → Decided p q clients gives v (with_slot (Locked (id_slot id) (id_first id) range) m) id (error_of 1008 7) (decided id (Say u.number outcomes.Expired next))
+      expired : (id : ℕ) (range : Shape) (v : Scene) → Later' w v → (asked : Asked) → IsBorn v id asked → asked.operation ≡ t → Decided p q clients gives v (with_slot (Locked (id_slot id) (id_first id) range) m) id (error_of 1008 7) (decided id (Say u.number outcomes.Expired next))
       expired id range v l asked there same (HasEnded o c) v2 m2 l2 s lv =
           let b : Birth = lv.0 in
           let is = lv.3 in
@@ -261,7 +262,7 @@ module _ (p : Plan) (q : IdPlan) (clients : List (List Task)) (gives : ℕ → L
       exits id v l begun asked there same (HasLocked word) v2 m2 l2 s lv = (
         tt,
         subst (λ x. Tells v2 x (decide id word (error_of 1008 7) (decided id (Say u.number outcomes.Expired next)))) (sym lv.1)
-            (decide_says p q clients gives v2 (with_slot (Locked (id_slot id) (id_first id) lv.0) m) id word (error_of 1008 7) (decided id (Say u.number outcomes.Expired next)) lv.0 refl free.1 free.2 (expired id lv.0 v2 (far p q clients gives w v v2 l l2) asked (l2.born id asked there) same)),
+            (decide_says p q clients gives v2 (with_slot (Locked (id_slot id) (id_first id) lv.0) m) id word (error_of 1008 7) (decided id (Say u.number outcomes.Expired next)) lv.0 refl lv.2 free.1 free.2 (expired id lv.0 v2 (far p q clients gives w v v2 l l2) asked (l2.born id asked there) same)),
       )
 
   pub join_says : (w : Scene) (m : Mark) (u : Task) (ts : List Task) (t : ℕ) (next : Program) → IsNext m u ts → IsFree m → u.op ≡ ops.Join t → IsCalls t → Ends w (with_done u ts m) next → Tells w m (join u.number t next)

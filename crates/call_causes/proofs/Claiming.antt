@@ -14,7 +14,7 @@ use Rattle.sock_programs.specs.Asides.{Step, ClaimId, PutCall, MakeId, StoreCall
 use Rattle.sock_programs.specs.Asides as asides
 use Rattle.sock_programs.specs.Posts.{packed, advance_of}
 use Rattle.call_causes.specs.Scenes.{Birth, Saying, Claim, Scene, In, IsClaimed, IsTaskOf, HasRoom}
-use Rattle.call_causes.specs.Says.{Slot, NoSlot, Claims, Locked, Holds, Leaves, Mark, with_slot, put_in, taken_out, IsVacant, MayAside}
+use Rattle.call_causes.specs.Says.{with_attempt, unlocked_by, shape_of, Slot, NoSlot, Claims, Locked, Holds, Leaves, Mark, with_slot, put_in, taken_out, IsVacant, MayAside}
 use Rattle.call_causes.specs.Stories.{At, tag_at, SlotFits, BirthsLaw, TasksLaw, ClaimsLaw, tasks_behind, ahead, unclaimed, IsBehind, KnowsStep, put_of, born_by, claimed_by, stored_by, mark_after}
 use Rattle.call_causes.proofs.Effects.{Touches, beside, tag_stays, tag_is}
 use Rattle.call_causes.proofs.Births.{tests}
@@ -227,20 +227,31 @@ module _ (p : Plan) (q : IdPlan) (clients : List (List Task)) (gives : ℕ → L
   claims_after_step (LoadAt o) found b knows may = same_claims (LoadAt o) found b knows (λ k x. x) b.claims m (λ u x. x)
   claims_after_step (LoadIdWord i) found b knows may = same_claims (LoadIdWord i) found b knows (λ k x. x) b.claims m (λ u x. x)
   claims_after_step (LockId i from) found b knows may = same_claims (LockId i from) found b knows (λ k x. x) b.claims (mark_after p q clients gives (LockId i from) found m)
-      (λ u x. tested (eqb found from) m.slot (Locked i (parts from).first (parts from).range) m.makes m.todo u (λ y. vacant_less m.slot m.makes m.todo u may.0 y) m refl refl refl x)
+      (λ u x. tested (eqb found from) m.slot (Locked i (parts from).first (shape_of (parts from))) m.makes m.todo u (λ y. vacant_less m.slot m.makes m.todo u may.0 y) m refl refl refl x)
   claims_after_step (PostId i from e) found b knows may = same_claims (PostId i from e) found b knows (λ k x. x) b.claims (mark_after p q clients gives (PostId i from e) found m) (λ u x. by_found (eqb found from) u x)
     where
-      by_found : (c : Bool) (u : Task) → In u (unclaimed p q clients gives (cond c (cond (eqb (parts from).state 1) (with_slot (Locked i (parts from).first (parts from).range) m) m) m).slot (cond c (cond (eqb (parts from).state 1) (with_slot (Locked i (parts from).first (parts from).range) m) m) m).makes (cond c (cond (eqb (parts from).state 1) (with_slot (Locked i (parts from).first (parts from).range) m) m) m).todo)
+      by_found : (c : Bool) (u : Task) → In u (unclaimed p q clients gives (cond c (cond (eqb (parts from).state 1) (with_slot (Locked i (parts from).first (shape_of (parts from))) m) m) m).slot (cond c (cond (eqb (parts from).state 1) (with_slot (Locked i (parts from).first (shape_of (parts from))) m) m) m).makes (cond c (cond (eqb (parts from).state 1) (with_slot (Locked i (parts from).first (shape_of (parts from))) m) m) m).todo)
           → In u (unclaimed p q clients gives m.slot m.makes m.todo)
-      by_found true u x = tested (eqb (parts from).state 1) m.slot (Locked i (parts from).first (parts from).range) m.makes m.todo u (λ y. vacant_less m.slot m.makes m.todo u may.0 y) m refl refl refl x
+      by_found true u x = tested (eqb (parts from).state 1) m.slot (Locked i (parts from).first (shape_of (parts from))) m.makes m.todo u (λ y. vacant_less m.slot m.makes m.todo u may.0 y) m refl refl refl x
       by_found false u x = x
   claims_after_step (UnlockId i from advance) found b knows may = same_claims (UnlockId i from advance) found b knows (λ k x. x) b.claims (mark_after p q clients gives (UnlockId i from advance) found m) (λ u x. by_found (eqb found from) u x)
     where
       opened : (u : Task) → In u (ahead p q clients gives m.makes m.todo) → In u (unclaimed p q clients gives m.slot m.makes m.todo)
       opened u y = subst (λ s. In u (unclaimed p q clients gives s m.makes m.todo)) (sym may.2) y
 
-      by_found : (c : Bool) (u : Task) → In u (unclaimed p q clients gives (cond c (cond (eqb (parts from).oldest 0) (with_slot NoSlot m) m) m).slot (cond c (cond (eqb (parts from).oldest 0) (with_slot NoSlot m) m) m).makes (cond c (cond (eqb (parts from).oldest 0) (with_slot NoSlot m) m) m).todo) → In u (unclaimed p q clients gives m.slot m.makes m.todo)
-      by_found true u x = tested (eqb (parts from).oldest 0) m.slot NoSlot m.makes m.todo u (λ y. opened u y) m refl refl refl x
+      attempt_less : (n : ℕ) (s : Slot) (u : Task) → In u (unclaimed p q clients gives (with_attempt n s) m.makes m.todo) → In u (unclaimed p q clients gives s m.makes m.todo)
+      attempt_less n NoSlot u x = x
+      attempt_less n (Claims k c) u x = x
+      attempt_less n (Locked k f shape) u x = x
+      attempt_less n (Holds k f shape a) u x = x
+      attempt_less n (Leaves k) u x = x
+
+      by_oldest : (c : Bool) (u : Task) → In u (unclaimed p q clients gives (cond c (with_slot NoSlot m) (with_slot (with_attempt (parts (unlocked_by from advance)).attempt m.slot) m)).slot (cond c (with_slot NoSlot m) (with_slot (with_attempt (parts (unlocked_by from advance)).attempt m.slot) m)).makes (cond c (with_slot NoSlot m) (with_slot (with_attempt (parts (unlocked_by from advance)).attempt m.slot) m)).todo) → In u (unclaimed p q clients gives m.slot m.makes m.todo)
+      by_oldest true u x = opened u x
+      by_oldest false u x = attempt_less (parts (unlocked_by from advance)).attempt m.slot u x
+
+      by_found : (c : Bool) (u : Task) → In u (unclaimed p q clients gives (cond c (cond (eqb (parts from).oldest 0) (with_slot NoSlot m) (with_slot (with_attempt (parts (unlocked_by from advance)).attempt m.slot) m)) m).slot (cond c (cond (eqb (parts from).oldest 0) (with_slot NoSlot m) (with_slot (with_attempt (parts (unlocked_by from advance)).attempt m.slot) m)) m).makes (cond c (cond (eqb (parts from).oldest 0) (with_slot NoSlot m) (with_slot (with_attempt (parts (unlocked_by from advance)).attempt m.slot) m)) m).todo) → In u (unclaimed p q clients gives m.slot m.makes m.todo)
+      by_found true u x = by_oldest (eqb (parts from).oldest 0) u x
       by_found false u x = x
   claims_after_step (EndId i) found b knows may = same_claims (EndId i) found b knows (λ k x. x) b.claims (mark_after p q clients gives (EndId i) found m) (λ u x. subst (λ s. In u (unclaimed p q clients gives s m.makes m.todo)) (sym may.3) x)
   claims_after_step (FreeId i) found b knows may = same_claims (FreeId i) found b knows (λ k x. x) b.claims (mark_after p q clients gives (FreeId i) found m) (λ u x. subst (λ s. In u (unclaimed p q clients gives s m.makes m.todo)) (sym may) x)

@@ -9,7 +9,7 @@ use Rattle.sock_programs.specs.Asides.{Step, ClaimId, PutCall, MakeId, StoreCall
 use Rattle.sock_programs.specs.Asides as asides
 use Rattle.call_causes.specs.Lists.{given}
 use Rattle.call_causes.specs.Scenes.{Scene}
-use Rattle.call_causes.specs.Says.{NoSlot, Claims, Locked, Mark, with_slot, MayAside}
+use Rattle.call_causes.specs.Says.{with_attempt, unlocked_by, shape_of, NoSlot, Claims, Locked, Mark, with_slot, MayAside}
 use Rattle.call_causes.specs.Stories.{At, ReadsLaw, IsBehind, KnowsStep, stored_by, mark_after}
 
 module _ (p : Plan) (q : IdPlan) (clients : List (List Task)) (gives : ℕ → List ℕ) (w w' : Scene) (ms : List Mark) (j : ℕ) (m : Mark) (at : At ms j m) (reads : ReadsLaw p q clients gives w ms) where
@@ -31,6 +31,10 @@ module _ (p : Plan) (q : IdPlan) (clients : List (List Task)) (gives : ℕ → L
   tested : (c : Bool) (n : Mark) → n.link ≡ m.link → n.bytes ≡ m.bytes → ((cond c n m).link ≡ m.link) × ((cond c n m).bytes ≡ m.bytes)
   tested true n a b = (a, b)
   tested false n a b = (refl, refl)
+
+  either_of : (c : Bool) (n o : Mark) → n.link ≡ m.link → n.bytes ≡ m.bytes → o.link ≡ m.link → o.bytes ≡ m.bytes → ((cond c n o).link ≡ m.link) × ((cond c n o).bytes ≡ m.bytes)
+  either_of true n o a b d e = (a, b)
+  either_of false n o a b d e = (d, e)
 
   stored : (ts : List Task) → ((stored_by p q clients gives ts m).link ≡ m.link) × ((stored_by p q clients gives ts m).bytes ≡ m.bytes)
   stored [] = (refl, refl)
@@ -64,10 +68,10 @@ module _ (p : Plan) (q : IdPlan) (clients : List (List Task)) (gives : ℕ → L
   reads_after_step (StoreAt o x) found b knows may = same_reads b.gave m refl refl
   reads_after_step (LoadAt o) found b knows may = same_reads b.gave m refl refl
   reads_after_step (LoadIdWord i) found b knows may = same_reads b.gave m refl refl
-  reads_after_step (LockId i from) found b knows may = let z = tested (eqb found from) (with_slot (Locked i (parts from).first (parts from).range) m) refl refl in same_reads b.gave (mark_after p q clients gives (LockId i from) found m) z.0 z.1
-  reads_after_step (PostId i from e) found b knows may = let x = tested (eqb (parts from).state 1) (with_slot (Locked i (parts from).first (parts from).range) m) refl refl in
-      let z = tested (eqb found from) (cond (eqb (parts from).state 1) (with_slot (Locked i (parts from).first (parts from).range) m) m) x.0 x.1 in same_reads b.gave (mark_after p q clients gives (PostId i from e) found m) z.0 z.1
-  reads_after_step (UnlockId i from advance) found b knows may = let x = tested (eqb (parts from).oldest 0) (with_slot NoSlot m) refl refl in let z = tested (eqb found from) (cond (eqb (parts from).oldest 0) (with_slot NoSlot m) m) x.0 x.1 in same_reads b.gave (mark_after p q clients gives (UnlockId i from advance) found m) z.0 z.1
+  reads_after_step (LockId i from) found b knows may = let z = tested (eqb found from) (with_slot (Locked i (parts from).first (shape_of (parts from))) m) refl refl in same_reads b.gave (mark_after p q clients gives (LockId i from) found m) z.0 z.1
+  reads_after_step (PostId i from e) found b knows may = let x = tested (eqb (parts from).state 1) (with_slot (Locked i (parts from).first (shape_of (parts from))) m) refl refl in
+      let z = tested (eqb found from) (cond (eqb (parts from).state 1) (with_slot (Locked i (parts from).first (shape_of (parts from))) m) m) x.0 x.1 in same_reads b.gave (mark_after p q clients gives (PostId i from e) found m) z.0 z.1
+  reads_after_step (UnlockId i from advance) found b knows may = let y : Mark = with_slot (with_attempt (parts (unlocked_by from advance)).attempt m.slot) m in let x = either_of (eqb (parts from).oldest 0) (with_slot NoSlot m) y refl refl refl refl in let z = tested (eqb found from) (cond (eqb (parts from).oldest 0) (with_slot NoSlot m) y) x.0 x.1 in same_reads b.gave (mark_after p q clients gives (UnlockId i from advance) found m) z.0 z.1
   reads_after_step (EndId i) found b knows may = same_reads b.gave (mark_after p q clients gives (EndId i) found m) refl refl
   reads_after_step (FreeId i) found b knows may = same_reads b.gave (mark_after p q clients gives (FreeId i) found m) refl refl
   reads_after_step (TakeCall i) found b knows may = same_reads b.gave (mark_after p q clients gives (TakeCall i) found m) refl refl

@@ -4,14 +4,16 @@ use mathlib.Core.Option.{some-injective}
 use lib.ListN.{get_elem?}
 use Rattle.sock_words.specs.declared.plain.Plan.{Plan}
 use Rattle.sock_words.specs.declared.outcome.Outcome.{Outcome}
-use Rattle.corr_core.specs.Word.{Parts, parts, code_of}
+use Rattle.corr_core.specs.Word.{Parts, parts, code_of, unlocked_word}
+use Rattle.sock_programs.specs.Posts.{advance_of}
+use Rattle.id_runs.proofs.Keeps.{parts_packed}
 use Rattle.corr_core.specs.declared.marks.Plan.{Plan as IdPlan}
 use Rattle.id_rule.specs.Lawful.{call_word, all_words}
 use Rattle.sock_programs.specs.declared.task.Task.{Task}
 use Rattle.sock_programs.specs.Asides.{Step, ClaimId, PutCall, MakeId, StoreCall, LoadCall, StoreAt, LoadAt, LoadIdWord, LockId, PostId, UnlockId, EndId, FreeId, TakeCall, TakeBytes, Bytes, Found, call_id, id_slot, id_first}
 use Rattle.sock_programs.specs.Asides as asides
 use Rattle.call_causes.specs.Scenes.{Birth, Saying, Scene, In, IsBorn, IsErrorCode, IsTaskOf, CauseOf, of_expiry, of_other, Later}
-use Rattle.call_causes.specs.Says.{Slot, NoSlot, Claims, Locked, Holds, Leaves, Mark, with_slot, with_owed, with_made, IsVacant, HasCodes, MayAside, Moves}
+use Rattle.call_causes.specs.Says.{Shape, shape_of, HasShape, with_attempt, unlocked_by, Slot, NoSlot, Claims, Locked, Holds, Leaves, Mark, with_slot, with_owed, with_made, IsVacant, HasCodes, MayAside, Moves}
 use Rattle.call_causes.specs.Stories.{At, word_at, SlotFits, BirthsLaw, TasksLaw, ClaimsLaw, ReadsLaw, undo, ahead, unclaimed, IsBehind, KnowsStep, put_of, born_by, ended_of, stored_by, mark_after}
 use Rattle.call_causes.proofs.Lasting.{cause_on, are_told_on}
 use Rattle.call_causes.proofs.Laters.{stored_is}
@@ -95,32 +97,39 @@ module _ (p : Plan) (q : IdPlan) (clients : List (List Task)) (gives : ℕ → L
   moves (StoreAt o x) found b knows may = refl
   moves (LoadAt o) found b knows may = refl
   moves (LoadIdWord i) found b knows may = (refl, has_codes i found knows.0.0 knows.0.1 knows.1)
-  moves (LockId i from) found b knows may = let x : Mark = with_slot (Locked i (parts from).first (parts from).range) m in ((λ same. ap (λ c. cond c x m) (eq-eqb found from same)), (λ ne. ap (λ c. cond c x m) (ne_eqb found from ne)))
-  moves (PostId i from e) found b knows may = let x : Mark = with_slot (Locked i (parts from).first (parts from).range) m in let y : Mark = cond (eqb (parts from).state 1) x m in (
+  moves (LockId i from) found b knows may = let x : Mark = with_slot (Locked i (parts from).first (shape_of (parts from))) m in ((λ same. ap (λ c. cond c x m) (eq-eqb found from same)), (λ ne. ap (λ c. cond c x m) (ne_eqb found from ne)))
+  moves (PostId i from e) found b knows may = let x : Mark = with_slot (Locked i (parts from).first (shape_of (parts from))) m in let y : Mark = cond (eqb (parts from).state 1) x m in (
     (λ same one. ap (λ c. cond c y m) (eq-eqb found from same) ∙ ap (λ c. cond c x m) (eq-eqb (parts from).state 1 one)),
     (λ same other. ap (λ c. cond c y m) (eq-eqb found from same) ∙ ap (λ c. cond c x m) (ne_eqb (parts from).state 1 other)),
     (λ ne. (ap (λ c. cond c y m) (ne_eqb found from ne), has_codes i found knows.0.0 knows.0.1 knows.4)),
   )
-  moves (UnlockId i from advance) found b knows may = let x : Mark = with_slot NoSlot m in let y : Mark = cond (eqb (parts from).oldest 0) x m in (
-    (λ same none_. ap (λ c. cond c y m) (eq-eqb found from same) ∙ ap (λ c. cond c x m) (eq-eqb (parts from).oldest 0 none_)),
+  moves (UnlockId i from advance) found b knows may = let x : Mark = with_slot NoSlot m in let z : Mark = with_slot (with_attempt (parts (unlocked_by from advance)).attempt m.slot) m in let y : Mark = cond (eqb (parts from).oldest 0) x z in (
+    (λ same none_. ap (λ c. cond c y m) (eq-eqb found from same) ∙ ap (λ c. cond c x z) (eq-eqb (parts from).oldest 0 none_)),
     (λ same some_. (
-      ap (λ c. cond c y m) (eq-eqb found from same) ∙ ap (λ c. cond c x m) (ne_eqb (parts from).oldest 0 some_),
-      λ f range slot.
-          let held : SlotFits q w (Locked i f range) = subst (SlotFits q w) slot fits in
+      ap (λ c. cond c y m) (eq-eqb found from same) ∙ ap (λ c. cond c x z) (ne_eqb (parts from).oldest 0 some_),
+      λ f shape slot.
+          let held : SlotFits q w (Locked i f shape) = subst (SlotFits q w) slot fits in
           let is : parts from ≡ word_at w i = ap parts (sym same) ∙ knows.0.1 in
           let e = law.errors i held.0 (let z = held.2 in omega (arith, z)) in
+          let packed_is = parts_packed (unlocked_word (parts from) (advance_of advance)) (state_fits (eqb (parts from).oldest 0)) (omega arith) (omega arith) (let z = knows.2 in omega (arith, z)) (omega arith) (omega arith) in (
           subst (λ n. CauseOf p q clients gives w' (call_id i f) n) (sym (ap (λ (z : Parts). z.oldest) is))
           (subst (λ n. CauseOf p q clients gives w' (call_id i n) (word_at w i).oldest) held.3 (cause_on p q clients gives w w' l (call_id i (word_at w i).first) (word_at w i).oldest (e.0 (subst (λ (z : Parts). z.oldest ≢ 0) is some_)))),
+          ap (λ (z : Parts). z.range) packed_is ∙ (ap (λ (z : Parts). z.range) is ∙ held.4),
+          ),
     )),
     (λ ne. ap (λ c. cond c y m) (ne_eqb found from ne)),
   )
-  moves (EndId i) found b knows may = λ f range asked slot. ap (λ s. with_owed (ended_of p q clients gives s) (with_slot (Leaves i) m)) slot
+    where
+      state_fits : (c : Bool) → cond c 1 2 < 4
+      state_fits true = omega arith
+      state_fits false = omega arith
+  moves (EndId i) found b knows may = λ f shape asked slot. ap (λ s. with_owed (ended_of p q clients gives s) (with_slot (Leaves i) m)) slot
   moves (FreeId i) found b knows may = refl
   moves (TakeCall i) found b knows may = (refl, taken)
     where
-      taken : (f range : ℕ) → m.slot ≡ Locked i f range → IsBorn w' (call_id i f) found × (found.range ≡ range)
-      taken f range slot =
-          let held : SlotFits q w (Locked i f range) = subst (SlotFits q w) slot fits in
+      taken : (f : ℕ) (shape : Shape) → m.slot ≡ Locked i f shape → IsBorn w' (call_id i f) found × (found.range ≡ shape.range)
+      taken f shape slot =
+          let held : SlotFits q w (Locked i f shape) = subst (SlotFits q w) slot fits in
           let live : 0 < (word_at w i).state = let z = held.2 in omega (arith, z) in
           let there = law.homes i found knows.0 live knows.1 in
           let x = law.born (record { id = call_id i (word_at w i).first; asked = found }) there in

@@ -13,7 +13,7 @@ use Rattle.sock_programs.specs.Posts.{packed, advance_of, is_first, is_sought, i
 use Rattle.id_runs.proofs.Keeps.{parts_packed}
 use Rattle.id_runs.proofs.Loops.{not_equal}
 use Rattle.call_causes.specs.Scenes.{Birth, Scene, IsBorn, IsOther, CauseOf, of_expiry, of_other, FailedIn, by_expiry, by_other, Later}
-use Rattle.call_causes.specs.Says.{Slot, NoSlot, Locked, Holds, Leaves, Mark, with_slot, with_owed, IsVacant, IsFree, put_in, taken_out, SaidBy, HasCodes, Moves, Shows, IsSoughtIn, AtHead, Again, MatchesRange, LeavesPost, LeavesUnlock, EndsBy, LeavesDecision, LeavesLock, YieldsPost, SaysOn}
+use Rattle.call_causes.specs.Says.{Shape, shape_of, HasShape, with_attempt, unlocked_by, Slot, NoSlot, Claims, Locked, Holds, Leaves, Mark, with_slot, with_owed, IsVacant, IsFree, put_in, taken_out, SaidBy, HasCodes, Moves, Shows, IsSoughtIn, AtHead, Again, MatchesRange, LeavesPost, LeavesUnlock, EndsBy, LeavesDecision, LeavesLock, YieldsPost, SaysOn}
 use Rattle.call_causes.proofs.Lasting.{far, cause_on}
 
 -- ## Tests
@@ -115,7 +115,7 @@ module _ (p : Plan) (q : IdPlan) (clients : List (List Task)) (gives : ℕ → L
           → SaidBy v (cond b (k (HasLocked (packed (posted_word (parts from) e)))) (k WasQueued)) → Shows p q clients gives v (PostId (id_slot id) from e) found × Says v m' (cond b (k (HasLocked (packed (posted_word (parts from) e)))) (k WasQueued))
       by_state found v m' l mv same true is s = let one = eqb-true (parts from).state 1 is in (
         (λ _ not_one. absurd (not_one one)),
-        (goes (HasLocked (packed (posted_word (parts from) e))) v m' l s ((parts from).range, mv.0 same one ∙ ap (λ f. with_slot (Locked (id_slot id) f (parts from).range) m) first_is, ap (λ (x : Parts). x.range) (locked_parts from e one))).1,
+        (goes (HasLocked (packed (posted_word (parts from) e))) v m' l s (shape_of (parts from), mv.0 same one ∙ ap (λ f. with_slot (Locked (id_slot id) f (shape_of (parts from))) m) first_is, (ap (λ (x : Parts). x.range) (locked_parts from e one), ap (λ (x : Parts). x.attempt) (locked_parts from e one)))).1,
       )
       by_state found v m' l mv same false is s = let y = goes WasQueued v m' l s (again_same m m' free (mv.1 same (not_equal (parts from).state 1 is))) in (
         (λ _ _. subst (λ i. CauseOf p q clients gives v i e) (sym (ap (call_id (id_slot id)) first_is ∙ id_back id)) y.0),
@@ -137,11 +137,11 @@ module _ (p : Plan) (q : IdPlan) (clients : List (List Task)) (gives : ℕ → L
   Decided w m id e k = (exit : Deciding) (w' : Scene) (m' : Mark) → After w w' → SaidBy w' (k exit) → LeavesDecision p q clients gives w' m id e exit m' → Says w' m' (k exit)
 
   -- the range in hand ends
-  pub end_says : (w : Scene) (m : Mark) (i f range : ℕ) (asked : Asked) (next : Program) → m.slot ≡ Holds i f range asked → IsBorn w (call_id i f) asked → m.owes ≡ []
+  pub end_says : (w : Scene) (m : Mark) (i f : ℕ) (shape : Shape) (asked : Asked) (next : Program) → m.slot ≡ Holds i f shape asked → IsBorn w (call_id i f) asked → m.owes ≡ []
       → ((v : Scene) (m' : Mark) (s : Slot) → IsVacant s → After w v → SaidBy v next → m' ≡ with_owed (record { id = call_id i f; asked = asked } ∷ []) (with_slot s m) → Says v m' next) → Says w m (end_id i next)
-  end_says w m i f range asked next slot born owes goes = (
-    (f, range, asked, slot, born, owes),
-    λ found v m' l s mv. let is = mv f range asked slot in (
+  end_says w m i f shape asked next slot born owes goes = (
+    (f, shape, asked, slot, born, owes),
+    λ found v m' l s mv. let is = mv f shape asked slot in (
       tt,
       way v m' (Rattle.std.proofs.Common.leb ((parts found).first + (parts found).range) LAST) (Aside (FreeId i) (λ _. next)) next s
           (λ _ _. (ap (λ (x : Mark). x.slot) is, λ _ v' m'' l' s' mv'. (tt, goes v' m'' NoSlot tt (far p q clients gives w v v' l l') s' (mv' ∙ ap (with_slot NoSlot) is))))
@@ -159,13 +159,13 @@ module _ (p : Plan) (q : IdPlan) (clients : List (List Task)) (gives : ℕ → L
   queued w m id e x part cause GoesOn m' lv = (lv.0, part)
 
   -- the call of a lock is taken out of its home, and decided on
-  pub decide_says : (w : Scene) (m : Mark) (id word e : ℕ) (k : Deciding → Program) (range : ℕ) → m.slot ≡ Locked (id_slot id) (id_first id) range → m.owes ≡ [] → m.makes ≡ [] → Decided w m id e k → Says w m (decide id word e k)
-  decide_says w m id word e k range slot owes makes goes = (
-    (id_first id, range, slot),
+  pub decide_says : (w : Scene) (m : Mark) (id word e : ℕ) (k : Deciding → Program) (shape : Shape) → m.slot ≡ Locked (id_slot id) (id_first id) shape → HasShape word shape → m.owes ≡ [] → m.makes ≡ [] → Decided w m id e k → Says w m (decide id word e k)
+  decide_says w m id word e k shape slot has owes makes goes = (
+    (id_first id, shape, slot),
     λ asked v m' l s mv. (
       tt,
       subst (λ x. Says v x (Round (Decides id asked word e) k)) (sym mv.0) (
-        ((range, ap (taken_out asked) slot), subst (λ i. IsBorn v i asked) (id_back id) (mv.1 (id_first id) range slot).0, owes, makes),
+        ((shape, ap (taken_out asked) slot, has, (mv.1 (id_first id) shape slot).1), subst (λ i. IsBorn v i asked) (id_back id) (mv.1 (id_first id) shape slot).0, owes, makes),
         λ exit v' m'' l' s' lv. (tt, goes exit v' m'' (far p q clients gives w v v' l l') s' (regain v' m (taken_out asked m.slot) id e exit m'' lv)),
       ),
     ),
@@ -194,9 +194,10 @@ module _ (p : Plan) (q : IdPlan) (clients : List (List Task)) (gives : ℕ → L
       unlocked_says part v l (IsOpen x) v' m'' l' s' lv = goes GoesOn v' m'' (far p q clients gives w v v' l l') s' (record { slot = NoSlot; vacant = tt; is = lv }, part)
       unlocked_says part v l (HasNext x e') v' m'' l' s' lv =
           let slot = ap (put_in asked) at.0.1 in
-          let cause = subst (λ i. CauseOf p q clients gives v' i e') (id_back id) (lv.1 (id_first id) at.0.0 slot) in
-          subst (λ y. Says v' y (decide id x e' k)) (sym lv.0) (decide_says v' (with_slot (put_in asked m.slot) m) id x e' k at.0.0 slot at.2 at.3
-          (λ exit u m3 l3 s3 lv3. goes exit u m3 (far p q clients gives w v u l (far p q clients gives v v' u l' l3)) s3 (queued u m id e e' part (cause_on p q clients gives v' u l3 id e' cause) exit m3 (regain u m (put_in asked m.slot) id e' exit m3 lv3))))
+          let found = lv.1 (id_first id) at.0.0 slot in
+          let cause = subst (λ i. CauseOf p q clients gives v' i e') (id_back id) found.0 in
+          subst (λ y. Says v' y (decide id x e' k)) (sym lv.0) (decide_says v' (with_slot (with_attempt (parts x).attempt (put_in asked m.slot)) m) id x e' k (record { range = at.0.0.range; attempt = (parts x).attempt }) (ap (with_attempt (parts x).attempt) slot) (found.1, refl) at.2 at.3
+          (λ exit u m3 l3 s3 lv3. goes exit u m3 (far p q clients gives w v u l (far p q clients gives v v' u l' l3)) s3 (queued u m id e e' part (cause_on p q clients gives v' u l3 id e' cause) exit m3 (regain u m (with_attempt (parts x).attempt (put_in asked m.slot)) id e' exit m3 lv3))))
 
   -- why the call with the id failed, by an error that has its cause, and by the error that ended it
   pub failed_of : (w : Scene) (b : Birth) (id x : ℕ) → ((a c : Asked) → IsBorn w id a → IsBorn w id c → a ≡ c) → b.id ≡ id → IsBorn w b.id b.asked → CauseOf p q clients gives w id x → FailedIn p q clients gives w b.id b.asked (code_of x)
@@ -225,7 +226,7 @@ module _ (p : Plan) (q : IdPlan) (clients : List (List Task)) (gives : ℕ → L
   posted_exits w m id e next free other goes (HasLocked word) v m' l s lv = (
     tt,
     subst (λ x. Says v x (decide id word e (decided id next))) (sym lv.1)
-        (decide_says v (with_slot (Locked (id_slot id) (id_first id) lv.0) m) id word e (decided id next) lv.0 refl free.1 free.2
+        (decide_says v (with_slot (Locked (id_slot id) (id_first id) lv.0) m) id word e (decided id next) lv.0 refl lv.2 free.1 free.2
         (decided_says v (with_slot (Locked (id_slot id) (id_first id) lv.0) m) id e next free.1 (λ u b _ _ _ _. by_other other) (follows_on w v m (Locked (id_slot id) (id_first id) lv.0) next l goes))),
   )
   posted_exits w m id e next free other goes WasGone v m' l s lv = (tt, goes v m' l s lv)
@@ -242,7 +243,7 @@ module _ (p : Plan) (q : IdPlan) (clients : List (List Task)) (gives : ℕ → L
   abbrev pub Unlocked : Scene → Mark → ℕ → (Unlocking → Program) → Type 0
   Unlocked w m i k = (exit : Unlocking) (w' : Scene) (m' : Mark) → After w w' → SaidBy w' (k exit) → LeavesUnlock p q clients gives w' m i exit m' → Says w' m' (k exit)
 
-  pub unlocks_says : (w : Scene) (m : Mark) (i from : ℕ) (advance : Bool) (k : Unlocking → Program) → ((f range : ℕ) × (m.slot ≡ Locked i f range)) → m.owes ≡ [] → m.makes ≡ [] → Unlocked w m i k → Says w m (unlocks_round i from advance k)
+  pub unlocks_says : (w : Scene) (m : Mark) (i from : ℕ) (advance : Bool) (k : Unlocking → Program) → ((f : ℕ) × (shape : Shape) × (m.slot ≡ Locked i f shape)) → m.owes ≡ [] → m.makes ≡ [] → Unlocked w m i k → Says w m (unlocks_round i from advance k)
   unlocks_says w m i from advance k slot owes makes goes = (slot, λ found v m' l s mv. (tt, by_found found v m' l mv (eqb found from) refl s))
     where
       after : ℕ
@@ -250,6 +251,20 @@ module _ (p : Plan) (q : IdPlan) (clients : List (List Task)) (gives : ℕ → L
 
       again : (word : ℕ) (next : Bool) (v : Scene) (m' : Mark) → After w v → m' ≡ m → Says v m' (Round (Unlocks i word next) k)
       again word next v m' l is = subst (λ x. Says v x (Round (Unlocks i word next) k)) (sym is) ((slot, owes, makes), λ exit v' m'' l' s' lv. (tt, goes exit v' m'' (far p q clients gives w v v' l l') s' lv))
+
+      twice : (a b : ℕ) (s : Slot) → with_attempt b (with_attempt a s) ≡ with_attempt b s
+      twice a b NoSlot = refl
+      twice a b (Claims j c) = refl
+      twice a b (Locked j f shape) = refl
+      twice a b (Holds j f shape asked) = refl
+      twice a b (Leaves j) = refl
+
+      rebase : (v : Scene) (a : ℕ) (exit : Unlocking) (m'' : Mark) → LeavesUnlock p q clients gives v (with_slot (with_attempt a m.slot) m) i exit m'' → LeavesUnlock p q clients gives v m i exit m''
+      rebase v a (IsOpen word) m'' lv = lv
+      rebase v a (HasNext word e) m'' lv = (lv.0 ∙ ap (λ s. with_slot s m) (twice a (parts word).attempt m.slot), λ f shape is. lv.1 f (record { range = shape.range; attempt = a }) (ap (with_attempt a) is))
+
+      further : (a word : ℕ) (v : Scene) (m' : Mark) → After w v → m' ≡ with_slot (with_attempt a m.slot) m → Says v m' (Round (Unlocks i word false) k)
+      further a word v m' l is = subst (λ x. Says v x (Round (Unlocks i word false) k)) (sym is) (((slot.0, record { range = slot.1.range; attempt = a }, ap (with_attempt a) slot.2), owes, makes), λ exit v' m'' l' s' lv. (tt, goes exit v' m'' (far p q clients gives w v v' l l') s' (rebase v' a exit m'' lv)))
 
       by_found : (found : ℕ) (v : Scene) (m' : Mark) → After w v → Moves p q clients gives v m (UnlockId i from advance) found m' → (b : Bool) → eqb found from ≡ b
           → SaidBy v (cond b (popped i (parts from).oldest (packed (unlocked_word (parts from) (advance_of advance))) k) (Round (Unlocks i found advance) k)) → Says v m' (cond b (popped i (parts from).oldest (packed (unlocked_word (parts from) (advance_of advance))) k) (Round (Unlocks i found advance) k))
@@ -259,7 +274,7 @@ module _ (p : Plan) (q : IdPlan) (clients : List (List Task)) (gives : ℕ → L
           way v m' (eqb (parts from).oldest 0) (k (IsOpen word)) two s
           (λ none_ s'. goes (IsOpen word) v m' l s' (mv.0 same (eqb-true (parts from).oldest 0 none_)))
           (λ some_ s'. let y = mv.1 same (not_equal (parts from).oldest 0 some_) in
-          way v m' (is_stale (parts from).oldest (parts word)) (Round (Unlocks i word false) k) (k (HasNext word (parts from).oldest)) s' (λ _ _. again word false v m' l y.0) (λ _ s''. goes (HasNext word (parts from).oldest) v m' l s'' y))
+          way v m' (is_stale (parts from).oldest (parts word)) (Round (Unlocks i word false) k) (k (HasNext word (parts from).oldest)) s' (λ _ _. further (parts (unlocked_by from advance)).attempt word v m' l y.0) (λ _ s''. goes (HasNext word (parts from).oldest) v m' l s'' y))
       by_found found v m' l mv false is s = again found advance v m' l (mv.2 (not_equal found from is))
 
   -- ## Getting a lock
@@ -284,7 +299,7 @@ module _ (p : Plan) (q : IdPlan) (clients : List (List Task)) (gives : ℕ → L
   locks_says w m i sought (Some from) k free is goes = (free, λ found v m' l s mv. (tt, by_found found v m' l mv (eqb found from) refl s))
     where
       by_found : (found : ℕ) (v : Scene) (m' : Mark) → After w v → Moves p q clients gives v m (LockId i from) found m' → (b : Bool) → eqb found from ≡ b → SaidBy v (cond b (k (Has (packed (posted_word (parts from) 0)))) (locking i sought found k)) → Says v m' (cond b (k (Has (packed (posted_word (parts from) 0)))) (locking i sought found k))
-      by_found found v m' l mv true hit s = goes (Has (packed (posted_word (parts from) 0))) v m' l s ((parts from).first, (parts from).range, mv.0 (eqb-true found from hit), ap (λ (x : Parts). x.first) (locked_parts from 0 is.1), matches sought from is.0)
+      by_found found v m' l mv true hit s = goes (Has (packed (posted_word (parts from) 0))) v m' l s ((parts from).first, shape_of (parts from), mv.0 (eqb-true found from hit), ap (λ (x : Parts). x.first) (locked_parts from 0 is.1), matches sought from is.0)
       by_found found v m' l mv false hit s = subst (λ x. Says v x (locking i sought found k)) (sym (mv.1 (not_equal found from hit))) (locking_then w m i sought found k free goes v l s)
 
   -- ## Waiting for an end

@@ -18,7 +18,7 @@ use Rattle.sock_programs.specs.Posts.{post_with, decide, decided}
 use Rattle.sock_programs.specs.Readers.{LIMIT, by_code, outcome_by, ending_of, has_response, slot_in, version_in, is_early, answer, answered, responses, last_of, ended_by, read_on, took_bytes, took, reads_round, discarded, discards_round, opens_round, kept_for, ends_with, posted_last, post_each, thrown_away, read, reader}
 use Rattle.call_causes.specs.Lists.{given}
 use Rattle.call_causes.specs.Scenes.{Birth, Scene, Came, IsResponseTo, HasFaulted, IsOther, of_other, by_compression, by_other, WhyEnded}
-use Rattle.call_causes.specs.Says.{Slot, NoSlot, Locked, Mark, with_slot, with_owed, with_bytes, IsVacant, IsFree, taken_out, SaidBy, GoesFrom, CameFrom, IsReading, Again, LeavesLock, LeavesPost, YieldsPost, Leaves', SaysOn}
+use Rattle.call_causes.specs.Says.{Shape, shape_of, HasShape, with_attempt, unlocked_by, Slot, NoSlot, Locked, Mark, with_slot, with_owed, with_bytes, IsVacant, IsFree, taken_out, SaidBy, GoesFrom, CameFrom, IsReading, Again, LeavesLock, LeavesPost, YieldsPost, Leaves', SaysOn}
 use Rattle.call_causes.proofs.Lasting.{far, kept_on}
 use Rattle.call_causes.proofs.Posts.{After, Then, Follows, way, plain_way, and_left, and_right, again_same, follows_on, end_says, decide_says, decided_says, Exits, post_with_says}
 use Rattle.call_causes.proofs.Programs.{release_says, address_says, set_failed_says, again_on}
@@ -64,16 +64,16 @@ module _ (p : Plan) (q : IdPlan) (clients : List (List Task)) (gives : ℕ → L
     by_frame (negsuc d) packed r there = (refl, by_compression refl (k, n, frame, inside, came, is, λ e. let z : 1 ≡ 0 = ap sign (sym packed ∙ e) in omega (arith, z)))
 
   -- the call of a lock ends with a response of one of its versions
-  answer_says : (w : Scene) (m : Mark) (frame : Frame) (first range k : ℕ) (next : Program) → m.slot ≡ Locked (slot_in frame) first range → m.owes ≡ [] → m.makes ≡ [] → first < version_in frame → version_in frame < first + range → CameFrom p q clients gives w k frame → k < p.links → Ends w m next
+  answer_says : (w : Scene) (m : Mark) (frame : Frame) (first : ℕ) (shape : Shape) (k : ℕ) (next : Program) → m.slot ≡ Locked (slot_in frame) first shape → m.owes ≡ [] → m.makes ≡ [] → first < version_in frame → version_in frame < first + shape.range → CameFrom p q clients gives w k frame → k < p.links → Ends w m next
       → Tells w m (answer frame first next)
-  answer_says w m frame first range k next slot owes makes low high came inside goes =
+  answer_says w m frame first shape k next slot owes makes low high came inside goes =
       let i : ℕ = slot_in frame in
       let says : Asked → Program = λ asked. Say asked.operation (ending_of (call_id (slot_in frame) first) frame) next in (
-        (first, range, slot),
-        λ asked v m1 l s mv. let born = mv.1 first range slot in let b : Birth = record { id = call_id (slot_in frame) first; asked = asked } in (
+        (first, shape, slot),
+        λ asked v m1 l s mv. let born = mv.1 first shape slot in let b : Birth = record { id = call_id (slot_in frame) first; asked = asked } in (
           tt,
           subst (λ x. Tells v x (Rattle.sock_programs.specs.Posts.end_id (slot_in frame) (says asked))) (sym mv.0)
-              (end_says p q clients gives v (with_slot (taken_out asked m.slot) m) (slot_in frame) first range asked (says asked) (ap (taken_out asked) slot) born.0 owes
+              (end_says p q clients gives v (with_slot (taken_out asked m.slot) m) (slot_in frame) first shape asked (says asked) (ap (taken_out asked) slot) born.0 owes
               (λ v2 m2 t vacant l2 said is. inr (
                 b,
                 ap (λ (x : Mark). x.owes) is,
@@ -123,7 +123,7 @@ module _ (p : Plan) (q : IdPlan) (clients : List (List Task)) (gives : ℕ → L
       (kept_by v2 link kept f (is_early (version_in f) found) (kept_on p q clients gives v v2 l2 link kept all) (one_on v v2 link f l2 one)) s)
   answered_says w m ids link f fs kept k free inside more v l one came all (Has word) v2 m2 l2 s lv = subst (λ x. Tells v2 x (answer f (parts word).first (responses ids fs kept k))) (sym lv.2)
       (answer_says v2 (with_slot (Locked (slot_in f) lv.0 lv.1) m) f (parts word).first lv.1 link (responses ids fs kept k) (ap (λ n. Locked (slot_in f) n lv.1) (sym lv.3)) free.1 free.2
-      (subst (λ n. n < version_in f) (sym lv.3) lv.4.0) (subst (λ n. version_in f < n + lv.1) (sym lv.3) lv.4.1) (one_on v v2 link f l2 one) inside
+      (subst (λ n. n < version_in f) (sym lv.3) lv.4.0) (subst (λ n. version_in f < n + lv.1.range) (sym lv.3) lv.4.1) (one_on v v2 link f l2 one) inside
       (λ v3 m3 l3 s3 a. let f3 = far p q clients gives v v2 v3 l2 l3 in
       more kept m3 (subst IsFree (sym a.is) (a.vacant, free.1, free.2)) (record { slot = a.slot; vacant = a.vacant; is = a.is }) v3 (far p q clients gives w v v3 l f3) (came_on v v3 link fs f3 came) (kept_on p q clients gives v v3 f3 link kept all) s3))
 
@@ -239,17 +239,17 @@ module _ (p : Plan) (q : IdPlan) (clients : List (List Task)) (gives : ℕ → L
 
   module _ (link code : ℕ) (inside : link < p.links) (other : IsOther p q clients gives code) where
     -- the call in hand ends with the first of the kept responses of its versions, or it is decided on
-    kept_ends : (w : Scene) (m : Mark) (id e word range : ℕ) (next : Program) → m.slot ≡ Locked (id_slot id) (id_first id) range → m.owes ≡ [] → m.makes ≡ [] → (parts word).range ≡ range → IsOther p q clients gives (code_of e) → Ends w m next
+    kept_ends : (w : Scene) (m : Mark) (id e word : ℕ) (shape : Shape) (next : Program) → m.slot ≡ Locked (id_slot id) (id_first id) shape → m.owes ≡ [] → m.makes ≡ [] → HasShape word shape → IsOther p q clients gives (code_of e) → Ends w m next
         → (kept : List Frame) → AreKept w link kept → Tells w m (ends_with id e word (kept_for id (parts word).range kept) next)
-    kept_ends w m id e word range next slot owes makes same coded goes [] all = decide_says p q clients gives w m id word e (decided id next) range slot owes makes (decided_says p q clients gives w m id e next owes (λ _ _ _ _ _ _. by_other coded) goes)
-    kept_ends w m id e word range next slot owes makes same coded goes (f ∷ fs) all =
-        by_test (eqb (slot_in f) (id_slot id)) (nat_lt id f.meta.correlation_id && nat_lt f.meta.correlation_id (id + (parts word).range)) refl refl (kept_ends w m id e word range next slot owes makes same coded goes fs all.1)
+    kept_ends w m id e word shape next slot owes makes same coded goes [] all = decide_says p q clients gives w m id word e (decided id next) shape slot same owes makes (decided_says p q clients gives w m id e next owes (λ _ _ _ _ _ _. by_other coded) goes)
+    kept_ends w m id e word shape next slot owes makes same coded goes (f ∷ fs) all =
+        by_test (eqb (slot_in f) (id_slot id)) (nat_lt id f.meta.correlation_id && nat_lt f.meta.correlation_id (id + (parts word).range)) refl refl (kept_ends w m id e word shape next slot owes makes same coded goes fs all.1)
       where
         answers : slot_in f ≡ id_slot id → (nat_lt id f.meta.correlation_id && nat_lt f.meta.correlation_id (id + (parts word).range)) ≡ true → Tells w m (answer f (id_first id) next)
         answers here is =
             let low = ltb-true id f.meta.correlation_id (and_left (nat_lt id f.meta.correlation_id) (nat_lt f.meta.correlation_id (id + (parts word).range)) is) in
             let high = ltb-true f.meta.correlation_id (id + (parts word).range) (and_right (nat_lt id f.meta.correlation_id) (nat_lt f.meta.correlation_id (id + (parts word).range)) is) in
-            answer_says w m f (id_first id) range link next (slot ∙ ap (λ i. Locked i (id_first id) range) (sym here)) owes makes (omega (arith, low, here)) (omega (arith, high, here, same)) all.0 inside goes
+            answer_says w m f (id_first id) shape link next (slot ∙ ap (λ i. Locked i (id_first id) shape) (sym here)) owes makes (omega (arith, low, here)) (let range = same.0 in omega (arith, high, here, range)) all.0 inside goes
 
         by_test : (b s : Bool) → eqb (slot_in f) (id_slot id) ≡ b → (nat_lt id f.meta.correlation_id && nat_lt f.meta.correlation_id (id + (parts word).range)) ≡ s → Tells w m (ends_with id e word (kept_for id (parts word).range fs) next)
             → Tells w m (ends_with id e word (cond (b && s) (f ∷ kept_for id (parts word).range fs) (kept_for id (parts word).range fs)) next)

@@ -10,7 +10,7 @@ use Rattle.sock_programs.specs.declared.task.Task.{Task}
 use Rattle.sock_programs.specs.Asides.{Step, ClaimId, PutCall, MakeId, StoreCall, LoadCall, StoreAt, LoadAt, LoadIdWord, LockId, PostId, UnlockId, EndId, FreeId, TakeCall, TakeBytes, Bytes, Found}
 use Rattle.sock_programs.specs.Asides as asides
 use Rattle.call_causes.specs.Scenes.{Scene}
-use Rattle.call_causes.specs.Says.{Slot, NoSlot, Claims, Locked, Holds, Leaves, Mark, with_slot, put_in, taken_out, MayAside}
+use Rattle.call_causes.specs.Says.{Shape, shape_of, HasShape, with_attempt, unlocked_by, Slot, NoSlot, Claims, Locked, Holds, Leaves, Mark, with_slot, put_in, taken_out, MayAside}
 use Rattle.call_causes.specs.Stories.{At, word_at, tag_at, InSlot, SlotsLaw, IsBehind, KnowsStep, mark_after, stored_by}
 use Rattle.call_causes.proofs.Slots.{like_fits, in_tag, other_like, own_fits}
 
@@ -20,6 +20,13 @@ put_slot asked k (Claims i c) x = x
 put_slot asked k (Locked i f range) x = x
 put_slot asked k (Holds i f range c) x = x
 put_slot asked k (Leaves i) x = x
+
+attempt_slot : (n k : ℕ) (s : Slot) → InSlot k (with_attempt n s) → InSlot k s
+attempt_slot n k NoSlot x = x
+attempt_slot n k (Claims i c) x = x
+attempt_slot n k (Locked i f shape) x = x
+attempt_slot n k (Holds i f shape c) x = x
+attempt_slot n k (Leaves i) x = x
 
 taken_slot : (asked : Asked) (k : ℕ) (s : Slot) → InSlot k (taken_out asked s) → InSlot k s
 taken_slot asked k NoSlot x = x
@@ -57,20 +64,20 @@ module _ (p : Plan) (q : IdPlan) (clients : List (List Task)) (gives : ℕ → L
       by_todo (t ∷ ts) x = inl x
   new_slot (LockId i from) found knows may k = by_found (eqb found from) refl
     where
-      by_found : (c : Bool) → eqb found from ≡ c → InSlot k (cond c (with_slot (Locked i (parts from).first (parts from).range) m) m).slot → InSlot k m.slot ⊎ IsNew k
+      by_found : (c : Bool) → eqb found from ≡ c → InSlot k (cond c (with_slot (Locked i (parts from).first (shape_of (parts from))) m) m).slot → InSlot k m.slot ⊎ IsNew k
       by_found true is x = inr (subst IsNew x (unlocked i (state_found i from found (eqb-true found from is) knows.1 knows.0.1)))
       by_found false is x = inl x
   new_slot (PostId i from e) found knows may k = by_found (eqb found from) (eqb (parts from).state 1) refl refl
     where
-      by_found : (c d : Bool) → eqb found from ≡ c → eqb (parts from).state 1 ≡ d → InSlot k (cond c (cond d (with_slot (Locked i (parts from).first (parts from).range) m) m) m).slot → InSlot k m.slot ⊎ IsNew k
+      by_found : (c d : Bool) → eqb found from ≡ c → eqb (parts from).state 1 ≡ d → InSlot k (cond c (cond d (with_slot (Locked i (parts from).first (shape_of (parts from))) m) m) m).slot → InSlot k m.slot ⊎ IsNew k
       by_found true true is one x = inr (subst IsNew x (unlocked i (state_found i from found (eqb-true found from is) (eqb-true (parts from).state 1 one) knows.0.1)))
       by_found true false is one x = inl x
       by_found false d is one x = inl x
   new_slot (UnlockId i from advance) found knows may k = by_found (eqb found from) (eqb (parts from).oldest 0)
     where
-      by_found : (c d : Bool) → InSlot k (cond c (cond d (with_slot NoSlot m) m) m).slot → InSlot k m.slot ⊎ IsNew k
+      by_found : (c d : Bool) → InSlot k (cond c (cond d (with_slot NoSlot m) (with_slot (with_attempt (parts (unlocked_by from advance)).attempt m.slot) m)) m).slot → InSlot k m.slot ⊎ IsNew k
       by_found true true x = absurd x
-      by_found true false x = inl x
+      by_found true false x = inl (attempt_slot (parts (unlocked_by from advance)).attempt k m.slot x)
       by_found false d x = inl x
   new_slot (EndId i) found knows may k = λ x. inl (subst (InSlot k) (sym may.3) x)
   new_slot (FreeId i) found knows may k = λ x. absurd x

@@ -59,6 +59,7 @@ module _ (p : Plan) (q : IdPlan) (clients : List (List Task)) (gives : ℕ → L
       first = ap (λ (y : Parts). y.first) (word_same k);
       range = ap (λ (y : Parts). y.range) (word_same k);
       state = ap (λ (y : Parts). y.state) (word_same k);
+      attempt = ap (λ (y : Parts). y.attempt) (word_same k);
       home = λ asked lies. ap (λ hs. get_elem? hs k) (sym b.homes) ∙ lies;
     }
 

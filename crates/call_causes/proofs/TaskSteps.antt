@@ -13,7 +13,7 @@ use Rattle.sock_programs.specs.Asides.{Step, ClaimId, PutCall, MakeId, StoreCall
 use Rattle.sock_programs.specs.Asides as asides
 use Rattle.sock_programs.specs.Posts.{packed, advance_of}
 use Rattle.call_causes.specs.Scenes.{Birth, Saying, Scene, In, AreTold, was_begun, Later}
-use Rattle.call_causes.specs.Says.{Slot, NoSlot, Claims, Locked, Holds, Leaves, Mark, with_slot, with_owed, with_made, with_done, MayAside}
+use Rattle.call_causes.specs.Says.{Shape, shape_of, HasShape, with_attempt, unlocked_by, Slot, NoSlot, Claims, Locked, Holds, Leaves, Mark, with_slot, with_owed, with_made, with_done, MayAside}
 use Rattle.call_causes.specs.Stories.{At, word_at, SlotFits, HasPassed, IsCurrent, BirthsLaw, undo, ahead, tasks_behind, IsUntold, TasksLaw, IsBehind, KnowsStep, put_of, born_by, ended_of, stored_by, mark_after}
 use Rattle.call_causes.proofs.Lasting.{are_told_on}
 use Rattle.call_causes.proofs.Births.{Turn, keeps, ends, makes, IsMake, IsEnd, turn, current_before, passed_still}
@@ -272,12 +272,12 @@ module _ (p : Plan) (q : IdPlan) (clients : List (List Task)) (gives : ℕ → L
   changes (StoreAt o x) found b knows may = plain (StoreAt o x) found b knows may m (like_self m) b.births (λ k x. x) (λ o x. x)
   changes (LoadAt o) found b knows may = plain (LoadAt o) found b knows may m (like_self m) b.births (λ k x. x) (λ o x. x)
   changes (LoadIdWord i) found b knows may = plain (LoadIdWord i) found b knows may m (like_self m) b.births (λ k x. x) (λ o x. x)
-  changes (LockId i from) found b knows may = let x : Mark = with_slot (Locked i (parts from).first (parts from).range) m in
-      plain (LockId i from) found b knows may (cond (eqb found from) x m) (like_cond m x m (eqb found from) (like_slot m (Locked i (parts from).first (parts from).range)) (like_self m)) b.births (λ k x. x) (λ o x. x)
-  changes (PostId i from e) found b knows may = let x : Mark = with_slot (Locked i (parts from).first (parts from).range) m in let y : Mark = cond (eqb (parts from).state 1) x m in
-      plain (PostId i from e) found b knows may (cond (eqb found from) y m) (like_cond m y m (eqb found from) (like_cond m x m (eqb (parts from).state 1) (like_slot m (Locked i (parts from).first (parts from).range)) (like_self m)) (like_self m)) b.births (λ k x. x) (λ o x. x)
-  changes (UnlockId i from advance) found b knows may = let x : Mark = with_slot NoSlot m in let y : Mark = cond (eqb (parts from).oldest 0) x m in
-      plain (UnlockId i from advance) found b knows may (cond (eqb found from) y m) (like_cond m y m (eqb found from) (like_cond m x m (eqb (parts from).oldest 0) (like_slot m NoSlot) (like_self m)) (like_self m)) b.births (λ k x. x) (λ o x. x)
+  changes (LockId i from) found b knows may = let x : Mark = with_slot (Locked i (parts from).first (shape_of (parts from))) m in
+      plain (LockId i from) found b knows may (cond (eqb found from) x m) (like_cond m x m (eqb found from) (like_slot m (Locked i (parts from).first (shape_of (parts from)))) (like_self m)) b.births (λ k x. x) (λ o x. x)
+  changes (PostId i from e) found b knows may = let x : Mark = with_slot (Locked i (parts from).first (shape_of (parts from))) m in let y : Mark = cond (eqb (parts from).state 1) x m in
+      plain (PostId i from e) found b knows may (cond (eqb found from) y m) (like_cond m y m (eqb found from) (like_cond m x m (eqb (parts from).state 1) (like_slot m (Locked i (parts from).first (shape_of (parts from)))) (like_self m)) (like_self m)) b.births (λ k x. x) (λ o x. x)
+  changes (UnlockId i from advance) found b knows may = let x : Mark = with_slot NoSlot m in let z : Mark = with_slot (Rattle.call_causes.specs.Says.with_attempt (parts (Rattle.call_causes.specs.Says.unlocked_by from advance)).attempt m.slot) m in let y : Mark = cond (eqb (parts from).oldest 0) x z in
+      plain (UnlockId i from advance) found b knows may (cond (eqb found from) y m) (like_cond m y m (eqb found from) (like_cond m x z (eqb (parts from).oldest 0) (like_slot m NoSlot) (like_slot m (Rattle.call_causes.specs.Says.with_attempt (parts (Rattle.call_causes.specs.Says.unlocked_by from advance)).attempt m.slot))) (like_self m)) b.births (λ k x. x) (λ o x. x)
   changes (EndId i) found b knows may = subst Changes (sym (ap (λ s. with_owed (ended_of p q clients gives s) (with_slot (Leaves i) m)) may.3)) (finishes i found b knows may)
   changes (FreeId i) found b knows may = plain (FreeId i) found b knows may (with_slot NoSlot m) (like_slot m NoSlot) b.births (λ k x. x) (λ o x. x)
   changes (TakeCall i) found b knows may = let s : Slot = Rattle.call_causes.specs.Says.taken_out found m.slot in plain (TakeCall i) found b knows may (with_slot s m) (like_slot m s) b.births (λ k x. x) (λ o x. x)

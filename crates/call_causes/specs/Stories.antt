@@ -18,7 +18,7 @@ use Rattle.sock_programs.specs.Posts.{advance_of}
 use Rattle.sock_programs.specs.Cores.{Core, SeatState}
 use Rattle.call_causes.specs.Lists.{given}
 use Rattle.call_causes.specs.Scenes.{Birth, Claim, Saying, Scene, In, IsOver, Said, IsBorn, IsOther, CauseOf, Begun, IsTaskOf, WhyEnded, AreTold, IsClaimed}
-use Rattle.call_causes.specs.Says.{Slot, NoSlot, Claims, Locked, Holds, Leaves, Mark, with_slot, with_owed, with_made, with_done, put_in, taken_out, given_more, SaysOn}
+use Rattle.call_causes.specs.Says.{Shape, shape_of, with_attempt, unlocked_by, Slot, NoSlot, Claims, Locked, Holds, Leaves, Mark, with_slot, with_owed, with_made, with_done, put_in, taken_out, given_more, SaysOn}
 
 abbrev pub At : List Mark → ℕ → Mark → Type 0
 At ms j m = get_elem? ms j ≡ core.some m
@@ -37,8 +37,8 @@ LiesAt w i asked = get_elem? w.core.calls.homes i ≡ core.some (core.some (Some
 abbrev pub InSlot : ℕ → Slot → Type 0
 InSlot i NoSlot = ⊥
 InSlot i (Claims j c) = j ≡ i
-InSlot i (Locked j f range) = j ≡ i
-InSlot i (Holds j f range asked) = j ≡ i
+InSlot i (Locked j f shape) = j ≡ i
+InSlot i (Holds j f shape asked) = j ≡ i
 InSlot i (Leaves j) = j ≡ i
 
 -- a call that was put into the home of a claimed slot lies there
@@ -47,14 +47,14 @@ PutThere w i None = Unit {0}
 PutThere w i (Some asked) = (a : Asked) → LiesAt w i a → a ≡ asked
 
 module _ (q : IdPlan) where
-  abbrev pub IsLockedAt : Scene → ℕ → ℕ → ℕ → Type 0
-  IsLockedAt w i f range = (i < q.slots) × (tag_at w i ≢ 0) × ((word_at w i).state ≡ 2) × ((word_at w i).first ≡ f) × ((word_at w i).range ≡ range)
+  abbrev pub IsLockedAt : Scene → ℕ → ℕ → Shape → Type 0
+  IsLockedAt w i f shape = (i < q.slots) × (tag_at w i ≢ 0) × ((word_at w i).state ≡ 2) × ((word_at w i).first ≡ f) × ((word_at w i).range ≡ shape.range) × ((word_at w i).attempt ≡ shape.attempt)
 
   abbrev pub SlotFits : Scene → Slot → Type 0
   SlotFits w NoSlot = Unit {0}
   SlotFits w (Claims i c) = (i < q.slots) × (tag_at w i ≢ 0) × ((word_at w i).state ≡ 0) × PutThere w i c
-  SlotFits w (Locked i f range) = IsLockedAt w i f range
-  SlotFits w (Holds i f range asked) = IsLockedAt w i f range
+  SlotFits w (Locked i f shape) = IsLockedAt w i f shape
+  SlotFits w (Holds i f shape asked) = IsLockedAt w i f shape
   SlotFits w (Leaves i) = (i < q.slots) × (tag_at w i ≢ 0) × ((word_at w i).state ≡ 0)
 
   -- what each seat has of a slot is so, and no other seat has it
@@ -172,7 +172,7 @@ module _ (p : Plan) (q : IdPlan) (clients : List (List Task)) (gives : ℕ → L
   born_by id (asked ∷ more) = (record { id = id; asked = asked }) ∷ []
 
   abbrev pub ended_of : Slot → List Birth
-  ended_of (Holds i f range asked) = (record { id = call_id i f; asked = asked }) ∷ []
+  ended_of (Holds i f shape asked) = (record { id = call_id i f; asked = asked }) ∷ []
   ended_of other = []
 
   abbrev pub claimed_by : ℕ → List Task → List Claim
@@ -196,9 +196,9 @@ module _ (p : Plan) (q : IdPlan) (clients : List (List Task)) (gives : ℕ → L
   mark_after (PutCall i asked) found m = with_slot (put_in asked m.slot) m
   mark_after (MakeId i range) found m = with_made (born_by (call_id i (parts found).first) (put_of m.slot)) (with_slot NoSlot m)
   mark_after (StoreCall o id) found m = stored_by m.todo m
-  mark_after (LockId i from) found m = if found == from then with_slot (Locked i (parts from).first (parts from).range) m else m
-  mark_after (PostId i from e) found m = if found == from then (if (parts from).state == 1 then with_slot (Locked i (parts from).first (parts from).range) m else m) else m
-  mark_after (UnlockId i from advance) found m = if found == from then (if (parts from).oldest == 0 then with_slot NoSlot m else m) else m
+  mark_after (LockId i from) found m = if found == from then with_slot (Locked i (parts from).first (shape_of (parts from))) m else m
+  mark_after (PostId i from e) found m = if found == from then (if (parts from).state == 1 then with_slot (Locked i (parts from).first (shape_of (parts from))) m else m) else m
+  mark_after (UnlockId i from advance) found m = if found == from then (if (parts from).oldest == 0 then with_slot NoSlot m else with_slot (with_attempt (parts (unlocked_by from advance)).attempt m.slot) m) else m
   mark_after (EndId i) found m = with_owed (ended_of m.slot) (with_slot (Leaves i) m)
   mark_after (FreeId i) found m = with_slot NoSlot m
   mark_after (TakeCall i) found m = with_slot (taken_out found m.slot) m
