@@ -1,11 +1,12 @@
 -- What has happened so far that lasts, and what it tells of calls.
-use Rattle.std.specs.Prelude.{ℕ, ◌≡◌, ◌≢◌, ◌+◌, ◌<◌, ◌≤◌, ◌⊎◌, ◌∷◌, List, [], slice_get, slice_index, Some, IsSome, ℤ, pos}
+use Rattle.std.specs.Prelude.{ℕ, ◌≡◌, ◌≢◌, ◌+◌, ◌<◌, ◌≤◌, ◌⊎◌, ◌∷◌, ◌++◌, List, [], slice_get, slice_index, Some, IsSome, ℤ, pos}
 use Rattle.sock_words.specs.declared.plain.Plan.{Plan}
 use Rattle.sock_words.specs.declared.outcome.Outcome.{Outcome}
 use Rattle.sock_words.specs.declared.outcome.Outcome.TheVariants.{Opened, SlotsFull, Unopened, Answered, Peer, CallFailed, Expired, Queued, Late, Crowded, Joined, NotBegun}
 use Rattle.brpc_model.specs.Meta.{ResponseMeta}
 use Rattle.brpc_model.specs.Frame.{Frame}
 use Rattle.brpc_model.specs.Stream.{stream}
+use Rattle.brpc_model.specs.Causes.{HasFault}
 use Rattle.corr_core.specs.Word.{error_of, code_of}
 use Rattle.corr_core.specs.declared.marks.Plan.{Plan as IdPlan}
 use Rattle.id_rule.specs.Lawful.{call_word}
@@ -45,6 +46,15 @@ abbrev pub In : {A : Type 0} → A → List A → Type 0
 In x [] = ⊥
 In x (y ∷ ys) = (x ≡ y) ⊎ In x ys
 
+-- x was added to the list directly behind y
+abbrev pub IsFirst : {A : Type 0} → A → List A → Type 0
+IsFirst y [] = ⊥
+IsFirst y (z ∷ zs) = z ≡ y
+
+abbrev pub IsOver : {A : Type 0} → A → A → List A → Type 0
+IsOver x y [] = ⊥
+IsOver x y (z ∷ zs) = ((z ≡ x) × IsFirst y zs) ⊎ IsOver x y zs
+
 abbrev pub Said : Scene → ℕ → Outcome → Type 0
 Said w o x = In (record { number = o; outcome = x }) w.sayings
 
@@ -65,13 +75,6 @@ IsResponseTo id asked frame = IsSome frame.meta.response × (id < frame.meta.cor
 abbrev pub HasCode : ℤ → Frame → Type 0
 HasCode code frame = (frame.meta.compress_type ≡ pos 0) × (r : ResponseMeta) × (frame.meta.response ≡ Some r) × (r.code ≡ code)
 
--- a code of an error that isn't that of an `expire`
-abbrev pub IsOther : ℕ → Type 0
-IsOther code = (code ≡ 1009) ⊎ ((code ≡ 1014) ⊎ ((code ≡ 2002) ⊎ ((code ≡ 3001) ⊎ ((1500 ≤ code) × (code ≤ 1999)))))
-
-abbrev pub IsErrorCode : ℕ → Type 0
-IsErrorCode code = (code ≡ 1008) ⊎ IsOther code
-
 abbrev pub IsOpened : Outcome → Type 0
 IsOpened (Opened slot version k) = Unit {0}
 IsOpened other = ⊥
@@ -84,10 +87,11 @@ SeeksName n (ops.Send m bytes) = m ≡ n
 SeeksName n (ops.Call asked) = name_of asked 0 ≡ n
 SeeksName n other = ⊥
 
-module _ (p : Plan) (q : IdPlan) (clients : List (List Task)) where
+-- in a run in which the links give these bytes in the end
+module _ (p : Plan) (q : IdPlan) (clients : List (List Task)) (gives : ℕ → List ℕ) where
   -- the name had a socket
   abbrev pub Named : Scene → ℕ → Type 0
-  Named w n = slice_index w.core.words (name_word p n) ≢ 0
+  Named w n = (n < p.names) × (slice_index w.core.words (name_word p n) ≢ 0)
 
   -- the word of the call was stored
   abbrev pub Begun : Scene → ℕ → Type 0
@@ -95,6 +99,21 @@ module _ (p : Plan) (q : IdPlan) (clients : List (List Task)) where
 
   abbrev pub IsTaskOf : ℕ → Task → Type 0
   IsTaskOf c t = (ts : List Task) × (slice_get clients c ≡ Some ts) × In t ts
+
+  -- the bytes of a link have a frame fault
+  abbrev pub HasFaulted : Type 0
+  HasFaulted = (k : ℕ) × (k < p.links) × HasFault (gives k)
+
+  -- there is a `fail` with this code
+  abbrev pub HasFail : ℕ → Type 0
+  HasFail code = (c : ℕ) × (t : Task) × (n : ℕ) × IsTaskOf c t × (t.op ≡ ops.Fail n code)
+
+  -- a code of an error that isn't that of an `expire`
+  abbrev pub IsOther : ℕ → Type 0
+  IsOther code = (code ≡ 1009) ⊎ ((code ≡ 1014) ⊎ (((code ≡ 2002) × HasFaulted) ⊎ ((code ≡ 3001) ⊎ ((1500 ≤ code) × (code ≤ 1999) × HasFail code))))
+
+  abbrev pub IsErrorCode : ℕ → Type 0
+  IsErrorCode code = (code ≡ 1008) ⊎ IsOther code
 
   -- an `expire` of the call was told that it ended it, or that its error waits
   abbrev pub IsExpired : Scene → Asked → Type 0
@@ -163,9 +182,14 @@ module _ (p : Plan) (q : IdPlan) (clients : List (List Task)) where
   WhyOwn w c before (ops.Fail n code) other = Named w n
   WhyOwn w c before (ops.Drop n) other = Unit {0}
 
+  -- an `expire` that was told that it ended the call said the call's outcome directly before
+  abbrev pub IsJust : Scene → ℕ → Op → Outcome → Type 0
+  IsJust w o op Expired = (t id : ℕ) × (op ≡ ops.Expire t) × IsOver (record { number = o; outcome = Expired }) (record { number = t; outcome = CallFailed id 1008 }) w.sayings
+  IsJust w o op other = Unit {0}
+
   -- what became of a task of client c that is done, behind these tasks
   pub data ToldOf (w : Scene) (c : ℕ) (before : List Task) (t : Task) : Type 0 where
-    was_said : (x : Outcome) → Said w t.number x → WhyOwn w c before t.op x → ToldOf w c before t
+    was_said : (x : Outcome) → Said w t.number x → WhyOwn w c before t.op x → IsJust w t.number t.op x → ToldOf w c before t
     was_sent : (n : ℕ) (bytes : List ℕ) → t.op ≡ ops.Send n bytes → Named w n → ToldOf w c before t
     was_begun : (id : ℕ) (asked : Asked) → t.op ≡ ops.Call asked → t.number ≡ asked.operation → IsBorn w id asked → Begun w t.number → Named w (name_of asked 0) → ToldOf w c before t
 
@@ -180,13 +204,21 @@ module _ (p : Plan) (q : IdPlan) (clients : List (List Task)) where
   abbrev pub HasRoom : Scene → Type 0
   HasRoom w = (c : ℕ) (t : Task) (asked : Asked) → IsTaskOf c t → t.op ≡ ops.Call asked → ((i : ℕ) → i < q.slots → (o : ℕ) × IsClaimed w i o × (o ≢ t.number)) → ⊥
 
+  -- what each link gave is the beginning of what it gives in the end
+  abbrev pub LeadsTo : Core → Type 0
+  LeadsTo c = (k : ℕ) → (more : List ℕ) × (given c k ++ more ≡ gives k)
+
+  abbrev pub StaysWithin : Scene → Type 0
+  StaysWithin w = HasRoom w × LeadsTo w.core
+
   -- what happened lasts; an id is that of one call, and there are as many id slots as calls
   pub record Later (w w' : Scene) : Type 0 where
     pub said : (o : ℕ) (x : Outcome) → Said w o x → Said w' o x
+    pub over : (a b : Saying) → IsOver a b w.sayings → IsOver a b w'.sayings
     pub named : (n : ℕ) → Named w n → Named w' n
     pub begun : (o : ℕ) → Begun w o → Begun w' o
     pub born : (id : ℕ) (asked : Asked) → IsBorn w id asked → IsBorn w' id asked
     pub came : (k n : ℕ) (frame : Frame) → Came w k n frame → Came w' k n frame
     pub claimed : (i o : ℕ) → IsClaimed w i o → IsClaimed w' i o
-    pub room : HasRoom w'
+    pub within : StaysWithin w'
     pub apart : (id : ℕ) (a b : Asked) → IsBorn w' id a → IsBorn w' id b → a ≡ b
