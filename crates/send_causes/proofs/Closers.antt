@@ -20,7 +20,7 @@ use Rattle.sock_programs.specs.Readers.{LIMIT, ending_of, slot_in, version_in, h
 use Rattle.sock_programs.specs.Rounds.{round}
 use Rattle.sock_programs.specs.Cores.{resolved, next_step}
 use Rattle.sock_runs.specs.Sound.{first_step}
-use Rattle.whole_runs.specs.Heard.{bytes_found, given_by, taken_link}
+use Rattle.send_causes.proofs.HeardTmp.{bytes_found, given_by, taken_link}
 use Rattle.send_causes.proofs.Faults.{Faults, fault_follows}
 
 -- ## What takes gave
@@ -173,21 +173,21 @@ module _ (k id : ℕ) (Odd : List Taking → Type 0) (Lasts : Type 0) where
     thrown_calm : (how : Ended) → how.reading.link ≡ k → C (thrown_away how)
     thrown_calm how own = either_way (how.fault && nat_lt how.reading.total LIMIT) (Round (Discards how.reading.link how.reading.total) (λ _. Rest)) Rest C (own, λ n h'. tt) tt
 
+    abbrev last_posts : List ℕ → Ended → Program
+    last_posts calls how = post_each calls how.reading.link how.code how.reading.kept (thrown_away how)
+
     -- the end of a reading
     read_calm : (calls : List ℕ) (how : Ended) → EndsSo h how → C (read calls how)
     read_calm calls how e = by how.closed refl
       where
-        abbrev last : Program
-        last = post_each calls how.reading.link how.code how.reading.kept (thrown_away how)
-
-        lasts : C last
+        lasts : C (last_posts calls how)
         lasts = calm_post_each calls how.reading.link how.code how.reading.kept (thrown_away how) (thrown_calm how e.1)
 
-        by : (b : Bool) → how.closed ≡ b → C (cond b last (address how.reading.id (set_failed how.reading.id how.code (λ _. release (socket_id_slot how.reading.id) (λ _. last))) (λ _. last)))
+        by : (b : Bool) → how.closed ≡ b → C (cond b (last_posts calls how) (address how.reading.id (set_failed how.reading.id how.code (λ _. release (socket_id_slot how.reading.id) (λ _. (last_posts calls how)))) (λ _. (last_posts calls how))))
         by true is = lasts
-        by false is = subst (λ x. C (address x (set_failed x how.code (λ _. release (socket_id_slot x) (λ _. last))) (λ _. last))) (sym e.2)
-            (address_calm (set_failed id how.code (λ _. release (socket_id_slot id) (λ _. last))) (λ _. last)
-            (set_failed_calm how.code (λ _. release (socket_id_slot id) (λ _. last)) (e.0 is) (λ _. calm_release (socket_id_slot id) (λ _. last) (λ _. lasts))) (λ _. lasts))
+        by false is = subst (λ x. C (address x (set_failed x how.code (λ _. release (socket_id_slot x) (λ _. (last_posts calls how)))) (λ _. (last_posts calls how)))) (sym e.2)
+            (address_calm (set_failed id how.code (λ _. release (socket_id_slot id) (λ _. (last_posts calls how)))) (λ _. (last_posts calls how))
+            (set_failed_calm how.code (λ _. release (socket_id_slot id) (λ _. (last_posts calls how))) (e.0 is) (λ _. calm_release (socket_id_slot id) (λ _. (last_posts calls how)) (λ _. lasts))) (λ _. lasts))
 
   -- ## Reading
 
@@ -215,15 +215,15 @@ module _ (k id : ℕ) (Odd : List Taking → Type 0) (Lasts : Type 0) where
       all_tied bytes more f = subst (λ l. Faults 0 (l ++ more)) (sym (gave_more h bytes))
           (subst (Faults 0) (sym (append_assoc (given_by h) bytes more)) (at.tied (bytes ++ more) (subst (Faults 0) (append_assoc r.rest bytes more) f)))
 
+      abbrev with_rest : List ℕ → List Frame → ℕ → Reading
+      with_rest bytes kept n = record { ids = r.ids; link = r.link; id = r.id; rest = last_of n (r.rest ++ bytes); total = r.total + length bytes; kept = kept }
+
       read_on_calm : (kept : List Frame) (bytes : List ℕ) (s : streams.Ending) → (streams.stream (r.rest ++ bytes)).ending ≡ s → Calm false (h ++ Bytes bytes ∷ []) (read_on (with_more bytes kept) (r.rest ++ bytes) s next)
       read_on_calm kept bytes (streams.Rest n) is = by (nat_lt (r.total + length bytes) LIMIT) refl
         where
-          abbrev r' : Reading
-          r' = record (with_more bytes kept) { rest = last_of n (r.rest ++ bytes) }
-
-          by : (b : Bool) → nat_lt (r.total + length bytes) LIMIT ≡ b → Calm false (h ++ Bytes bytes ∷ []) (cond b (Round (Reads r') next) (next (ended_by 1014 false false r')))
+          by : (b : Bool) → nat_lt (r.total + length bytes) LIMIT ≡ b → Calm false (h ++ Bytes bytes ∷ []) (cond b (Round (Reads (with_rest bytes kept n)) next) (next (ended_by 1014 false false (with_rest bytes kept n))))
           by true less = (record { link = at.link; own = at.own; total = more_total bytes; tied = λ more f. all_tied bytes more (fault_follows (r.rest ++ bytes) more n is f) }, goes)
-          by false most = goes (ended_by 1014 false false r') (h ++ Bytes bytes ∷ []) ((λ _. ends.most (h ++ Bytes bytes ∷ []) (let l = ltb-false (r.total + length bytes) LIMIT most in let t = more_total bytes in omega (arith, l, t))), at.link, at.own)
+          by false most = goes (ended_by 1014 false false (with_rest bytes kept n)) (h ++ Bytes bytes ∷ []) ((λ _. ends.most (h ++ Bytes bytes ∷ []) (let l = ltb-false (r.total + length bytes) LIMIT most in let t = more_total bytes in omega (arith, l, t))), at.link, at.own)
       read_on_calm kept bytes (streams.Fault start fault) is = goes (ended_by 2002 false true (with_more bytes kept)) (h ++ Bytes bytes ∷ [])
           ((λ _. ends.fault (h ++ Bytes bytes ∷ []) (subst (Faults 0) (append-nil (given_by (h ++ Bytes bytes ∷ []))) (all_tied bytes [] (subst (Faults 0) (sym (append-nil (r.rest ++ bytes))) (start, fault, is))))), at.link, at.own)
 

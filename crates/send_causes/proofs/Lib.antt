@@ -4,3 +4,7 @@ pub mod Ticks
 pub mod Runs
 pub mod Apart
 pub mod Whole
+pub mod HeardTmp
+pub mod Faults
+pub mod Takeless
+pub mod Closers

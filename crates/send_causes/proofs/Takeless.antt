@@ -24,7 +24,7 @@ use Rattle.sock_programs.specs.declared.task.Op.{Op}
 use Rattle.sock_programs.specs.declared.task.Op.TheVariants as ops
 use Rattle.sock_programs.specs.declared.task.Task.{Task}
 use Rattle.sock_programs.specs.declared.task.Sizes.{Sizes}
-use Rattle.sock_programs.specs.Calls.{Call}
+use Rattle.sock_programs.specs.Calls.{Call, LookWord, FindLink}
 use Rattle.sock_programs.specs.Writings.{Holder, Writing, Puts, Waits, Empties, Walks}
 use Rattle.sock_programs.specs.Asides.{Step, Found, TakeBytes, StoreAt, call_id, id_slot, id_first}
 use Rattle.sock_programs.specs.Heads.{Head, Exit, Retry, Sought, First, Posts, Unlocks, Decides, Locks, Joins, Opens, Reads, Discards, Posting, WasGone, WasStale, WasCrowded, WasQueued, HasLocked, Unlocking, IsOpen, HasNext, Deciding, HasEnded, GoesOn, Locking, NotThere, Has}
@@ -42,7 +42,7 @@ use Rattle.sock_runs.proofs.Cases.{ComesNext, tick_keeps_marks}
 use Rattle.sock_runs.proofs.Rounds.{begins_round}
 use Rattle.sock_runs.proofs.Passes.{goes_round}
 use Rattle.sock_runs.proofs.Ticks.{sound_ticks}
-use Rattle.whole_runs.specs.Heard.{taken_link}
+use Rattle.send_causes.proofs.HeardTmp.{taken_link}
 
 -- the program takes no bytes
 abbrev pub NoTakes : Program → Type 0
@@ -86,14 +86,14 @@ takes_set_failed id code next after = (λ found. either_way (vref_version found 
     ((λ _. (λ _. after found))) (after found))
 
 takes_fail : (o name code : ℕ) (next : Program) → NoTakes next → NoTakes (fail o name code next)
-takes_fail o name code next after = takes_reach name _ _ _ (after)
-    (λ id. takes_set_failed id code _ (λ found. takes_release (socket_id_slot id) _ (λ _. after))) (λ found. after)
+takes_fail o name code next after = takes_reach name (Say o Unopened next) (λ id. set_failed id code (λ found. release (socket_id_slot id) (λ _. Say o (fail_outcome found) next))) (λ found. Say o (Gone (record { 0 = found })) next) after
+    (λ id. takes_set_failed id code (λ found. release (socket_id_slot id) (λ _. Say o (fail_outcome found) next)) (λ found. takes_release (socket_id_slot id) (λ _. Say o (fail_outcome found) next) (λ _. after))) (λ found. after)
 
 takes_hold : (o name : ℕ) (held : ℕ → Program) (next : Program) → ((id : ℕ) → NoTakes (held id)) → NoTakes next → NoTakes (hold o name held next)
-takes_hold o name held next h after = takes_reach name _ _ _ (after) (λ id. (h id)) (λ found. after)
+takes_hold o name held next h after = takes_reach name (Say o Unopened next) (λ id. Say o Held (held id)) (λ found. Say o (Gone (record { 0 = found })) next) (after) (λ id. (h id)) (λ found. after)
 
 takes_drop : (o id : ℕ) (next : Program) → NoTakes next → NoTakes (drop_held o id next)
-takes_drop o id next after = takes_release (socket_id_slot id) _ (λ freed. after)
+takes_drop o id next after = takes_release (socket_id_slot id) (λ freed. Say o (cond freed Freed Kept) next) (λ freed. after)
 
 takes_judged : (id e found : ℕ) (k : Posting → Program) → ((x : Posting) → NoTakes (k x)) → NoTakes (judged id e found k)
 takes_judged id e found k after = either_way (not (is_first (id_first id) (parts found))) _ _ NoTakes (after WasGone)
@@ -207,20 +207,20 @@ takes_accept id q n heading bytes next after = (λ _. (λ _. (λ found.
     either_way (nat_lt found IDLE) _ _ NoTakes ((λ _. after)) (takes_write_link id q (ticket_of q n) next after))))
 
 takes_claim : (more q o id : ℕ) (bytes : List ℕ) (next : Program) → NoTakes next → NoTakes (claim_from more q o id bytes next)
-takes_claim zero q o id bytes next after = takes_release (socket_id_slot id) _ (λ _. after)
+takes_claim zero q o id bytes next after = takes_release (socket_id_slot id) (λ _. Say o Full next) (λ _. after)
 takes_claim (suc more) q o id bytes next after = (λ found. either_way (found % 2 == 0) _ _ NoTakes
-    (takes_accept id q (found / 2) (heading_of o) bytes _ (takes_release (socket_id_slot id) (λ _. Sent o next) (λ _. after))) (takes_claim more (q + 1) o id bytes next after))
+    (takes_accept id q (found / 2) (heading_of o) bytes (release (socket_id_slot id) (λ _. Sent o next)) (takes_release (socket_id_slot id) (λ _. Sent o next) (λ _. after))) (takes_claim more (q + 1) o id bytes next after))
 
 takes_start : (requests o id : ℕ) (bytes : List ℕ) (next : Program) → NoTakes next → NoTakes (start requests o id bytes next)
 takes_start requests o id bytes next after = (λ found. either_way (vref_version found % 2 == 0) _ _ NoTakes (takes_claim requests 0 o id bytes next after)
-    (takes_release (socket_id_slot id) _ (λ _. after)))
+    (takes_release (socket_id_slot id) (λ _. Say o (Gone (record { 0 = found })) next) (λ _. after)))
 
 takes_send : (requests o name : ℕ) (bytes : List ℕ) (next : Program) → NoTakes next → NoTakes (send requests o name bytes next)
-takes_send requests o name bytes next after = takes_reach name _ _ _ (after) (λ id. takes_start requests o id bytes next after) (λ found. after)
+takes_send requests o name bytes next after = takes_reach name (Say o Unopened next) (λ id. start requests o id bytes next) (λ found. Say o (Gone (record { 0 = found })) next) (after) (λ id. takes_start requests o id bytes next after) (λ found. after)
 
 takes_ended : (word : ℕ) (next : Program) → NoTakes next → NoTakes (cond (word == 0) next (cond (word == NO_SOCKET) next (address (word - 1) (set_failed (word - 1) 1014 (λ _. release (socket_id_slot (word - 1)) (λ _. next))) (λ _. next))))
 takes_ended word next after = either_way (word == 0) _ _ NoTakes after (either_way (word == NO_SOCKET) _ _ NoTakes after
-    (takes_address (word - 1) _ _ (takes_set_failed (word - 1) 1014 _ (λ _. takes_release (socket_id_slot (word - 1)) _ (λ _. after))) (λ _. after)))
+    (takes_address (word - 1) (set_failed (word - 1) 1014 (λ _. release (socket_id_slot (word - 1)) (λ _. next))) (λ _. next) (takes_set_failed (word - 1) 1014 (λ _. release (socket_id_slot (word - 1)) (λ _. next)) (λ _. takes_release (socket_id_slot (word - 1)) (λ _. next) (λ _. after))) (λ _. after)))
 
 takes_claims : (more q id : ℕ) (heading : Heading) (bytes : List ℕ) (full accepted : Program) → NoTakes full → NoTakes accepted → NoTakes (claims_from more q id heading bytes full accepted)
 takes_claims zero q id heading bytes full accepted none_ after = none_
