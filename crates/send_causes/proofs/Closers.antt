@@ -20,7 +20,7 @@ use Rattle.sock_programs.specs.Readers.{LIMIT, ending_of, slot_in, version_in, h
 use Rattle.sock_programs.specs.Rounds.{round}
 use Rattle.sock_programs.specs.Cores.{resolved, next_step}
 use Rattle.sock_runs.specs.Sound.{first_step}
-use Rattle.send_causes.proofs.HeardTmp.{bytes_found, given_by, taken_link}
+use Rattle.whole_runs.specs.Heard.{bytes_found, given_by, taken_link}
 use Rattle.send_causes.proofs.Faults.{Faults, fault_follows}
 
 -- ## What takes gave

@@ -4,7 +4,7 @@ pub mod Ticks
 pub mod Runs
 pub mod Apart
 pub mod Whole
-pub mod HeardTmp
+pub mod Labelled
 pub mod Faults
 pub mod Takeless
 pub mod Closers

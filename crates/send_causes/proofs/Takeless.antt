@@ -42,7 +42,7 @@ use Rattle.sock_runs.proofs.Cases.{ComesNext, tick_keeps_marks}
 use Rattle.sock_runs.proofs.Rounds.{begins_round}
 use Rattle.sock_runs.proofs.Passes.{goes_round}
 use Rattle.sock_runs.proofs.Ticks.{sound_ticks}
-use Rattle.send_causes.proofs.HeardTmp.{taken_link}
+use Rattle.whole_runs.specs.Heard.{taken_link}
 
 -- the program takes no bytes
 abbrev pub NoTakes : Program → Type 0
