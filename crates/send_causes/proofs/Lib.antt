@@ -8,3 +8,4 @@ pub mod Labelled
 pub mod Faults
 pub mod Takeless
 pub mod Closers
+pub mod Readings
