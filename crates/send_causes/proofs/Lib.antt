@@ -9,3 +9,4 @@ pub mod Faults
 pub mod Takeless
 pub mod Closers
 pub mod Readings
+pub mod ReaderRuns
