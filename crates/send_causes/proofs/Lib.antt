@@ -10,3 +10,4 @@ pub mod Takeless
 pub mod Closers
 pub mod Readings
 pub mod ReaderRuns
+pub mod Early
