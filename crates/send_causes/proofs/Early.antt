@@ -343,12 +343,13 @@ module _ (script : List Item) (made : AreMade script) (turns : List Turn) (core 
     played_keeps = keeps_along (plan_of script) (calls script) (opens script) known.in_script Odd Lasts ends (IsListed script) go (is.scheduled ++ is.later) (set_up script is.setup) views_set (λ n. []) (set_up_sound script made.are (first_views script) start go turns core is fitting)
         is.answered fitting.of_played (recorded_set_up script made.are (first_views script) start go turns core is fitting) (λ e. absurd (true≢false (sym e ∙ not_ending))) set_up_keeps
 
+  -- clients take no bytes, and wait for the word of no `open`
+  pub clients_take_none : (j : ℕ) → j < 32 → TakesNone j (played script is.setup (is.scheduled ++ is.later))
+  clients_take_none = let k = played_keeps Any (Unit {0}) ends_anyhow in k.clients
+
   -- ## The ending
 
   module _ where
-    abbrev Weak : Core → List View → (ℕ → List Taking) → Type 0
-    Weak c ws h = Kept Any (Unit {0}) ends_anyhow c ws h
-
     pub closing_keeps : Kept Any (Unit {0}) ends_anyhow (closing_of script turns core is) (views_played script turns core is (first_views script)) (found_in_clients Any (Unit {0}) ends_anyhow)
     closing_keeps = let k = played_keeps Any (Unit {0}) ends_anyhow in record {
       readers = λ n o at seat v at_seat at_view. k.readers n o at seat v (sym (set_else (played script is.setup (is.scheduled ++ is.later)).seats 0 (32 + n) _ (λ e. let z : ⊥ = omega (arith, e) in z)) ∙ at_seat) at_view;

@@ -11,3 +11,4 @@ pub mod Closers
 pub mod Readings
 pub mod ReaderRuns
 pub mod Early
+pub mod Places

@@ -1,4 +1,4 @@
--- Clients and the ending take no bytes of any link.
+-- Clients and the ending take no bytes of any link, and wait for the word of no `open`.
 use Rattle.std.proofs.Common.{◌≡◌, ℕ, zero, suc, ◌+◌, ◌-◌, ◌/◌, ◌%◌, ◌<◌, ◌≤◌, ◌==◌, ◌&&◌, not, nat_lt, nat_le, Bool, true, false, cond, List, [], ◌∷◌, ◌++◌, length, drop, map, inl, inr, ⊎_elim, refl, sym, ap, ◌∙◌, subst, arith}
 use Rattle.std.specs.Prelude as std
 use Rattle.std.specs.Prelude.{Option, Some, None}
@@ -44,7 +44,7 @@ use Rattle.sock_runs.proofs.Passes.{goes_round}
 use Rattle.sock_runs.proofs.Ticks.{sound_ticks}
 use Rattle.whole_runs.specs.Heard.{taken_link}
 
--- the program takes no bytes
+-- the program takes no bytes, and waits for no word of an `open`
 abbrev pub NoTakes : Program → Type 0
 NoTakes (Do call next) = (found : ℕ) → NoTakes (next found)
 NoTakes (Say o outcome next) = NoTakes next
@@ -58,6 +58,7 @@ NoTakes (AskReady k next) = (answer : Ready) → NoTakes (next answer)
 NoTakes (Write w after) = NoTakes after
 NoTakes (Aside (TakeBytes k room) next) = ⊥
 NoTakes (Aside step next) = (found : Found step) → NoTakes (next found)
+NoTakes (Round (Opens o) next) = ⊥
 NoTakes (Round (Reads r) next) = ⊥
 NoTakes (Round (Discards k total) next) = ⊥
 NoTakes (Round head next) = (exit : Exit head) → NoTakes (next exit)
@@ -316,7 +317,7 @@ takes_round (Unlocks i w advance) next x = takes_unlocks i w advance next x
 takes_round (Decides id asked w e) next x = takes_decides id asked w e next x
 takes_round (Locks i sought w) next x = takes_locks i sought w next x
 takes_round (Joins id) next x = takes_joins id next x
-takes_round (Opens o) next x = λ word. either_way (word == 0) (Round (Opens o) next) (next word) NoTakes x (x word)
+takes_round (Opens o) next x = absurd x
 takes_round (Reads r) next x = absurd x
 takes_round (Discards k total) next x = absurd x
 
