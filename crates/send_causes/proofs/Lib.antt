@@ -12,3 +12,4 @@ pub mod Readings
 pub mod ReaderRuns
 pub mod Early
 pub mod Places
+pub mod Rests
