@@ -13,3 +13,5 @@ pub mod ReaderRuns
 pub mod Early
 pub mod Places
 pub mod Rests
+pub mod Telling
+pub mod Storied

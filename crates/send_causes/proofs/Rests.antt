@@ -31,7 +31,7 @@ use Rattle.sock_runs.proofs.Waiting.{StandsAside, still_settles}
 use Rattle.sock_runs.proofs.Whole.{views_played, rested_ahead, rested_idle, played_sound}
 use Rattle.joint_runs.proofs.Both.{behind_both}
 use Rattle.joint_runs.proofs.Runs.{AreMade, first_views, joint_runs}
-use Rattle.owed_calls.proofs.EndsStill.{view_of, all_still, one_of_still, run_parts, second_part, in_round}
+use Rattle.owed_calls.proofs.EndsStill.{view_of, all_still, one_of_still, run_parts, second_part, in_round, rest_at, mapped_at}
 use Rattle.owed_calls.proofs.Owed.{opened_seats}
 use Rattle.send_causes.proofs.Early.{start, go, fitting, known, clients_take_none}
 use Rattle.send_causes.proofs.Takeless.{NoTakes}
@@ -39,19 +39,6 @@ use Rattle.send_causes.proofs.Takeless.{NoTakes}
 first_half : {A : Type 0} (P : A → Type 0) (xs ys : List A) → AllByRecursion P (xs ++ ys) → AllByRecursion P xs
 first_half P [] ys all = tt
 first_half P (x ∷ xs) ys all = (all.0, first_half P xs ys all.1)
-
--- between the clients and the readers
-at_rest_between : (xs : List Program) (n : ℕ) (rs : List Program) (j : ℕ) → length xs ≤ j → j < length xs + n → get_elem? (xs ++ (replicate n Rest ++ rs)) j ≡ some Rest
-at_rest_between [] zero rs j low high = absurd (let z : ⊥ = omega (arith, high) in z)
-at_rest_between [] (suc n) rs zero low high = refl
-at_rest_between [] (suc n) rs (suc j) low high = at_rest_between [] n rs j (omega arith) (omega (arith, high))
-at_rest_between (x ∷ xs) n rs zero low high = absurd (let z : ⊥ = omega (arith, low) in z)
-at_rest_between (x ∷ xs) n rs (suc j) low high = at_rest_between xs n rs j (omega (arith, low)) (omega (arith, high))
-
-mapped_there : {A B : Type 0} (f : A → B) (l : List A) (i : ℕ) (a : A) → get_elem? l i ≡ some a → get_elem? (map f l) i ≡ some (f a)
-mapped_there f [] i a e = absurd (some-ne-none a (sym e))
-mapped_there f (x ∷ l) zero a e = ap (λ y. some (f y)) (some-injective x a e)
-mapped_there f (x ∷ l) (suc i) a e = mapped_there f l i a e
 
 module _ (script : List Item) (made : AreMade script) (turns : List Turn) (core : Core) (is : IsRunWithCalls script turns core) where
   abbrev p : Plan
@@ -87,8 +74,8 @@ module _ (script : List Item) (made : AreMade script) (turns : List Turn) (core 
       at_first : IsAtRest (opened script) i
       at_first = let l = length-map (all_tasks script) (client_from (sizes_of (plan_of script) (id_plan_of script)) []) in let t = tasks_length script 0 (clients script + 1) in
           ap (λ (o : Option SeatState). elim o as (λ o. std.Option Kind) [ none ↦ std.None | some s ↦ kind_in s.program ])
-          (mapped_there (λ (program : Program). record { program = next_step (resolved [] program); hand = [] }) (all_programs first (readers_from (calls script) 0 (opens script))) i Rest
-          (at_rest_between first (32 - length first) (readers_from (calls script) 0 (opens script)) i (omega (arith, l, t, low)) (omega (arith, l, t, low, high))))
+          (mapped_at (λ (program : Program). record { program = next_step (resolved [] program); hand = [] }) (all_programs first (readers_from (calls script) 0 (opens script))) i Rest
+          (rest_at first (readers_from (calls script) 0 (opens script)) (32 - length first) i (omega (arith, l, t, low)) (omega (arith, l, t, low, high))))
 
   -- before the ending each seat is at rest, or waits
   pub still : (i : ℕ) → i < length (played script is.setup (is.scheduled ++ is.later)).seats → IsAtRest (played script is.setup (is.scheduled ++ is.later)) i
