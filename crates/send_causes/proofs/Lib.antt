@@ -15,3 +15,4 @@ pub mod Places
 pub mod Rests
 pub mod Telling
 pub mod Storied
+pub mod Dropped

@@ -23,6 +23,9 @@ use Rattle.sock_runs.proofs.LinkTicks.{RetriesGo}
 use Rattle.sock_runs.proofs.Along.{seat_rests}
 use Rattle.sock_runs.proofs.Whole.{Begins, AreFittingIn, IsOwed, closing_of, views_played, views_closed, views_ended, set_up_answered, end_answered, rested_ahead, rested_idle, closing_sound, closed_sound, ended_sound, end_rests}
 use Rattle.sock_causes.specs.Stories.{Event, In}
+use Rattle.sock_model.specs.Links.{Failed}
+use Rattle.sock_runs.specs.Sound.{state}
+use Rattle.std.specs.Prelude.{Contains}
 use Rattle.sock_causes.specs.Losses.{lost_in}
 use Rattle.sock_causes.specs.PlainTasks.{told_tasks_of, OwnsCall}
 use Rattle.sock_causes.specs.TaskCauses.{ToldTasks, DropsMade}
@@ -201,3 +204,10 @@ module _ (script : List Item) (are : AreTasks (plan_of script) (all_tasks script
         (ended_sound script are vs begins go turns core is fitting) story_end (end_rests script are vs begins go turns core is fitting owed) lost_before late timely
     run_tells = told_so (plan_of script) (told_tasks_of script) seats true core (views_ended script turns core is vs) final_told.after.events final_told.after.lost (lost_of_run script turns core is) lost_where
         (ended_sound script are vs begins go turns core is fitting) story_end (end_rests script are vs begins go turns core is fitting owed) lost_before late timely
+
+    -- a link whose life was failed before the ending was so by an operation that counts, or was lost by then
+    pub failed_early : (k : ℕ) → Failed (plan_of script) (state (played script is.setup (is.scheduled ++ is.later)) (views_played script turns core is vs)) k → Contains lost_before k ⊎ ((fail : ℕ) × Contains run_tells.tells.fails (fail, k))
+    unfolding timely
+    failed_early k f = let t = played_told.after in let tie = t.story.links f.slot f.life.inside f.version k in
+        run_tells.early f.slot f.version k (omega (arith, tie, f.life.given))
+        (⊎_elim (λ was. inl was) (λ lost. inr (lost.0, before_within lost.0 lost.1, lost.2)) (t.story.lost f.slot f.life.inside f.version f.failed))

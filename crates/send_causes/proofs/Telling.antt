@@ -197,11 +197,11 @@ module _ (p : Plan) (clients : List (List Task)) (are : AreTasks p clients) (ove
   -- ## Links that failed in time
 
   -- a life that was failed in the story so far was so by an operation that counts, or its link was lost so far
-  failed_so : (j h k : ℕ) → WasGiven es j h k → WasFailed few timely.story j h → Contains few k ⊎ ((fail : ℕ) × Contains all_fails.fails (fail, k))
-  failed_so j h k given (inr lost) = let m = given_made p clients c.outcomes broken orders es world j h k given in
+  failed_so : (j h k : ℕ) → WasGiven timely.story j h k → WasFailed few timely.story j h → Contains few k ⊎ ((fail : ℕ) × Contains all_fails.fails (fail, k))
+  failed_so j h k given (inr lost) = let m = given_made p clients c.outcomes broken orders es world j h k (given_later p clients c.outcomes broken orders es world timely.story es timely.part j h k given) in
       let g = given_made p clients c.outcomes broken orders es world j h lost.0 (given_later p clients c.outcomes broken orders es world timely.story es timely.part j h lost.0 lost.2) in
       let same : k ≡ lost.0 = (one_life p clients c.outcomes broken orders es world m.0 g.0 k lost.0 j h m.1 g.1).1 in inl (in_contains few k (subst (λ z. In z few) (sym same) lost.1))
-  failed_so j h k given (inl was) = let made = given_made p clients c.outcomes broken orders es world j h k given in let y = marked_fail timely.story j h was in let e : Event = event y.client y.number (SetOdd j) y.found in
+  failed_so j h k given (inl was) = let made = given_made p clients c.outcomes broken orders es world j h k (given_later p clients c.outcomes broken orders es world timely.story es timely.part j h k given) in let y = marked_fail timely.story j h was in let e : Event = event y.client y.number (SetOdd j) y.found in
       let m : In e es = timely.part e y.is in ⊎_elim
       (λ there. inr (y.number, in_contains all_fails.fails (y.number, k) there))
       (λ r. inl (in_contains few k (refused_in made.0 made.1 y.client y.number y.found (cause_of p clients few timely.story timely.good e y.is) y.even y.version r.1)))
@@ -219,7 +219,7 @@ module _ (p : Plan) (clients : List (List Task)) (are : AreTasks p clients) (ove
   -- what is told, and why a link failed in time
   pub record Tells : Type 0 where
     pub tells : ToldTasks clients c.outcomes p orders broken few late
-    pub early : (j h k : ℕ) → WasGiven es j h k → WasFailed few timely.story j h → Contains few k ⊎ ((fail : ℕ) × Contains tells.fails (fail, k))
+    pub early : (j h k : ℕ) → WasGiven timely.story j h k → WasFailed few timely.story j h → Contains few k ⊎ ((fail : ℕ) × Contains tells.fails (fail, k))
 
   pub told_so : Tells
   told_so = record { tells = told_tasks; early = failed_so }
