@@ -16,3 +16,4 @@ pub mod Rests
 pub mod Telling
 pub mod Storied
 pub mod Dropped
+pub mod Sends

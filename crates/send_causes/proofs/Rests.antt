@@ -61,7 +61,7 @@ module _ (script : List Item) (made : AreMade script) (turns : List Turn) (core 
   prompt_last : AllByRecursion IsPrompt (let s = is.settles in s.last)
   prompt_last = let s = is.settles in second_part IsPrompt (ticks_of s.moving) s.last (subst (AllByRecursion IsPrompt) s.all (second_part IsPrompt is.scheduled is.later (first_half IsPrompt (is.scheduled ++ is.later) is.final is.prompt)))
 
-  many : length (played script is.setup (is.scheduled ++ is.later)).seats ≡ 32 + length (link_names script)
+  pub many : length (played script is.setup (is.scheduled ++ is.later)).seats ≡ 32 + length (link_names script)
   many = run_seats (plan_of script) (set_up script is.setup) (is.scheduled ++ is.later) ∙ run_seats (plan_of script) (opened script) (replicate is.setup (quiet 0))
       ∙ (let k = known script made turns core is in let f = k.few in let m = opened_seats script f in let a = k.as_many in omega (arith, m, a))
 
