@@ -17,3 +17,4 @@ pub mod Telling
 pub mod Storied
 pub mod Dropped
 pub mod Sends
+pub mod Plain
