@@ -1,19 +1,18 @@
 -- A whole run of a script without calls tells why each of its tasks has its outcome, and what its links did.
-use Rattle.std.proofs.Common.{◌≡◌, ℕ, zero, suc, ◌<◌, ◌≤◌, ◌⊎◌, true, false, List, [], ◌∷◌, ◌++◌, length, replicate, inl, inr, ⊎_elim, refl, sym, ap, ◌∙◌, subst}
+use Rattle.std.proofs.Common.{◌≡◌, ℕ, zero, suc, ◌<◌, ◌≤◌, ◌⊎◌, true, false, List, [], ◌++◌, length, replicate, ⊎_elim, refl, sym, ap, ◌∙◌}
 use Rattle.std.proofs.lemmas.Bool.{true≢false}
 use Rattle.std.specs.Prelude.{Contains}
 use Rattle.sock_words.specs.declared.plain.Plan.{Plan}
 use Rattle.brpc_model.specs.Causes.{HasFault, reading_limit}
 use Rattle.brpc_model.specs.Items.{Item}
 use Rattle.brpc_model.specs.Operations.{Turn, link_names}
-use Rattle.sock_message.specs.Asked.{Asked}
 use Rattle.sock_programs.specs.declared.task.Op.TheVariants as ops
 use Rattle.sock_programs.specs.declared.task.Op.{Op}
 use Rattle.sock_programs.specs.declared.task.Task.{Task}
 use Rattle.sock_programs.specs.Asides.{AtEnd, Closed, Broken}
 use Rattle.sock_programs.specs.Cores.{Core}
 use Rattle.sock_programs.specs.Tasks.{plan_of, id_plan_of}
-use Rattle.sock_programs.specs.Ticks.{Moment, quiet, ticked, broken_in}
+use Rattle.sock_programs.specs.Ticks.{quiet, ticked, broken_in}
 use Rattle.sock_programs.specs.Scripts.{all_tasks, opened, set_up, played, ending, IsRunWithCalls}
 use Rattle.sock_programs.specs.Told.{IsTask}
 use Rattle.sock_programs.specs.ToldCalls.{Fixed, Order, ToldCalls}
@@ -25,7 +24,7 @@ use Rattle.sock_causes.proofs.Plain.{in_left, in_right, in_both}
 use Rattle.joint_runs.proofs.Runs.{AreMade}
 use Rattle.owed_calls.specs.Lives.{ClosesInRun}
 use Rattle.whole_runs.specs.Heard.{heard_takes, given_by}
-use Rattle.send_causes.proofs.Early.{EndedEarly, closed_early}
+use Rattle.send_causes.proofs.Early.{closed_early}
 use Rattle.send_causes.proofs.Sends.{fixed, orders_of_run, run_sends}
 
 -- ## Links that answered that they failed
