@@ -4,3 +4,17 @@ pub mod Ticks
 pub mod Runs
 pub mod Apart
 pub mod Whole
+pub mod Labelled
+pub mod Faults
+pub mod Takeless
+pub mod Closers
+pub mod Readings
+pub mod ReaderRuns
+pub mod Early
+pub mod Places
+pub mod Rests
+pub mod Telling
+pub mod Storied
+pub mod Dropped
+pub mod Sends
+pub mod Plain
