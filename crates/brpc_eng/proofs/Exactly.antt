@@ -15,6 +15,8 @@ use Rattle.frame_print.specs.declared.print.PrintFault.{PrintFault}
 use Rattle.frame_print.specs.declared.print.PrintFault.TheVariants as fault_
 use Rattle.sock_io.specs.Link.{InState, end_of}
 use Rattle.sock_io.specs.Shape.{ShapedState, shaped_out}
+use Rattle.sock_io.specs.Memory.{mem_in}
+use Rattle.script_run.specs.Played.{TellClosed}
 use Rattle.brpc_eng.specs.Built.{is_built_script}
 use Rattle.brpc_eng.proofs.Statuses.{unbuilt_script_exactly}
 use Rattle.brpc_eng.specs.Streams.{script_limit, IsAtEnd}
@@ -237,6 +239,10 @@ no_write_failed words input out links status (Simulates seed named replayed) e =
 pub memory_tells : {E : Type 0} (out : E → ShapedState) (inn : E → InState) (es : List E) → AllTell (map (λ (e : E). end_of (shaped_out (out e)) (inn e)) es)
 memory_tells out inn [] = tt
 memory_tells out inn (e ∷ es) = ((refl, refl), memory_tells out inn es)
+
+-- and each reading half in memory tells whether it is found closed
+pub memory_tells_closed : TellClosed mem_in
+memory_tells_closed inn = (λ e. cc, λ e. cc)
 
 -- ## The statuses of `frames`
 
