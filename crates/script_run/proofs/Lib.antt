@@ -5,5 +5,7 @@ pub mod Telling
 pub mod Homes
 pub mod Running
 pub mod Saying
+pub mod Callless
+pub mod Silent
 pub mod Told
 pub mod Texts

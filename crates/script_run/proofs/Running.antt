@@ -23,9 +23,9 @@ use Rattle.report_fits.proofs.Sizes.{keeps_limits}
 use Rattle.sock_core.specs.Links.{Taken, Given, ArePrompt, TellClosing}
 use Rattle.sock_core.specs.Machines.{MachineState, core_with, ending_by}
 use Rattle.sock_core.specs.Runs as rounds
-use Rattle.sock_core.specs.Runs.{ShowFaults, LinksTell, ShowTakings, SettlesBy, SettledWith, Settled, round_by}
+use Rattle.sock_core.specs.Runs.{ShowFaults, LinksTell, TakesTell, ShowTakings, SettlesBy, SettledWith, Settled, round_by}
 use Rattle.sock_core.proofs.Resting.{rest_anyhow}
-use Rattle.sock_core.proofs.Joining.{run_append, answered_append, closes_append, prompt_append, broken_append, show_faults_later, show_faults_join, tells_as, tells_join, takings_later, takings_join, takings_as}
+use Rattle.sock_core.proofs.Joining.{run_append, answered_append, closes_append, prompt_append, broken_append, show_faults_later, show_faults_join, tells_as, tells_join, takings_later, takings_join, takings_as, takes_join, takes_as}
 use Rattle.script_run.specs.Causes.{broken_of}
 use Rattle.script_run.specs.Played.{IsMade, IsPlayable, PlayedWith, HasPlayed, HasRun}
 
@@ -188,6 +188,13 @@ module _ (script : List Item) (turns : List Turn) (start mid end_ : MachineState
       (takings_join end_ (taken_in p (set_up script n) now) taken_later (takings_later mid end_ (taken_in p (set_up script n) now) (set (λ q c. ShowTakings mid (taken_in q c now)) first.follows.taken) settled.links)
       (moved (λ q c. ShowTakings end_ (λ k. taken_in q c later k ++ taken_in q rest.ended final k)) rest.taken))
 
+  takes : TakesTell start end_ (taken_of run_of)
+  takes = takes_as start end_ (λ k. taken_in p (set_up script n) now k ++ taken_later k) (taken_of run_of)
+      (λ k. sym (append_assoc (taken_in p (set_up script n) now k) (taken_in p (run p (set_up script n) now) later k) (taken_in p rest.ended final k))
+      ∙ ap (λ (l : List Answer). l ++ taken_in p rest.ended final k) (sym (taken_on p (set_up script n) now later k)))
+      (takes_join start mid end_ (taken_in p (set_up script n) now) taken_later played.1 settled.links (set (λ q c. TakesTell start mid (taken_in q c now)) first.follows.takes)
+      (moved (λ q c. TakesTell mid end_ (λ k. taken_in q c later k ++ taken_in q rest.ended final k)) rest.takes))
+
   pub has_run : HasRun script turns start end_
   has_run = record {
     took = rest.later;
@@ -199,6 +206,7 @@ module _ (script : List Item) (turns : List Turn) (start mid end_ : MachineState
     broken = broken;
     told = told;
     taken = taken;
+    takes = takes;
   }
 
 pub run_answered : {T E : Type 0} (script : List Item) (turns : List Turn) (start mid end_ : MachineState) (r : Result T E) → IsMade script start → HasPlayed (λ c. Scheduled start.plan c turns) start mid → OnOk r (Settled mid end_) →

@@ -10,7 +10,7 @@ use Rattle.sock_words.specs.declared.outcome.Outcome.{Outcome}
 use Rattle.sock_words.specs.declared.place_word.PlaceWord.{PlaceWord}
 use Rattle.brpc_model.specs.Items.{Item}
 use Rattle.brpc_model.specs.Script.{script_of}
-use Rattle.brpc_model.specs.Link.{LinkEnd, HalfAnswer}
+use Rattle.brpc_model.specs.Link.{LinkEnd, HalfAnswer, TakeAnswer}
 use Rattle.brpc_model.specs.Operations.{Turn, link_names, operations}
 use Rattle.brpc_model.specs.Causes.{HasFault, reading_limit}
 use Rattle.brpc_model.specs.PlaceWords.{ArePlaces, HasEachOutcome, IsReportText}
@@ -22,7 +22,7 @@ use Rattle.sock_programs.specs.Runs.{from_to}
 use Rattle.sock_programs.specs.Scripts.{IsRunWithCalls, place_words}
 use Rattle.sock_programs.specs.Tasks.{plan_of}
 use Rattle.client_laws.proofs.Retrying.{retries_go}
-use Rattle.whole_runs.specs.Heard.{as_told, heard_of, heard_takes, given_by}
+use Rattle.whole_runs.specs.Heard.{as_told, as_taken, take_answers, heard_of, taken_of, heard_takes, given_by}
 use Rattle.whole_runs.specs.Over.{IsAllOver}
 use Rattle.whole_runs.proofs.Ended.{run_all_over}
 use Rattle.whole_runs.proofs.Gave.{gave_heard}
@@ -54,9 +54,9 @@ untouched_at number (x ∷ ends) zero e h at = let is : x ≡ e = cc in subst (�
 untouched_at number (x ∷ ends) (suc k) e h at = subst (λ (m : ℕ). IsUntouched m e) (let s : (number + 1) + k ≡ number + suc k = omega arith in s) (untouched_at (number + 1) ends k e h.1 at)
 
 -- a link that had answered nothing tells what it answered since
-told_from_none : (told : Option (List HalfAnswer)) (more : List HalfAnswer) → IfSome told (λ answers. answers ≡ []) → IfSome (more_told told more) (λ answers. answers ≡ more)
+told_from_none : {A : Type 0} (told : Option (List A)) (more : List A) → IfSome told (λ answers. answers ≡ []) → IfSome (more_told told more) (λ answers. answers ≡ more)
 told_from_none None more none_ = tt
-told_from_none (Some answers) more none_ = ap (λ (l : List HalfAnswer). l ++ more) none_
+told_from_none (Some answers) more none_ = ap (λ l. l ++ more) none_
 
 -- the reading half that stands behind a link tells the same of it
 inn_at : {B : Type 0} (f : InState → B) (g : LinkEnd → B) (inns : List InState) (ends : List LinkEnd) (k : ℕ) (e : LinkEnd) → map f inns ≡ map g ends → slice_get ends k ≡ Some e → (inn : InState) × (get_elem? inns k ≡ core.some inn) × (f inn ≡ g e)
@@ -148,8 +148,16 @@ module _ (bytes : List ℕ) (script : List Item) (turns : List Turn) (start m : 
     heard_each : IfSome e.answers (λ answers. answers ≡ as_told (heard_of ran.run k))
     heard_each = subst (λ (o : Option (List HalfAnswer)). IfSome o (λ answers. answers ≡ as_told (heard_of ran.run k))) (sym (ran.told.each k before.0 e before.1 at)) (told_from_none before.0.answers (as_told (heard_of ran.run k)) was.answers)
 
-  are_heard : AreHeard m.ends (heard_of ran.run)
-  are_heard = record { each = heard_each; none_beyond = λ k past. ran.told.none_beyond k (let as_many = same.as_many in omega (arith, as_many, past)) }
+    take_each : IfSome e.takes (λ takes. takes ≡ take_answers (as_taken (taken_of ran.run k)))
+    take_each = subst (λ (o : Option (List TakeAnswer)). IfSome o (λ takes. takes ≡ take_answers (as_taken (taken_of ran.run k)))) (sym (ran.takes.each k before.0 e before.1 at)) (told_from_none before.0.takes (take_answers (as_taken (taken_of ran.run k))) was.takes)
+
+  are_heard : AreHeard m.ends (heard_of ran.run) (taken_of ran.run)
+  are_heard = record {
+    each = heard_each;
+    none_beyond = λ k past. ran.told.none_beyond k (let as_many = same.as_many in omega (arith, as_many, past));
+    each_take = take_each;
+    no_take_beyond = λ k past. ran.takes.none_beyond k (let as_many = same.as_many in omega (arith, as_many, past));
+  }
 
   ends_are : (has : HasCauses script turns end_core ran.run) → AreEndsOf script end_core has.fixed gave_in m.ends
   ends_are has = record { as_many = same.as_many ∙ many; each = λ k e at. is_end k e at has }
@@ -161,7 +169,7 @@ module _ (bytes : List ℕ) (script : List Item) (turns : List Turn) (start m : 
     core = end_core;
     run = ran.run;
     laws = keeps_laws script (tasks_of_script bytes script reads) (starts bytes script reads) (let limits = keeps_limits bytes script reads in retries_go (plan_of script) limits.requests) turns end_core ran.run (fitting bytes script reads turns end_core ran.run);
-    heard = subst (λ (es : List LinkEnd). AreHeard es (heard_of ran.run)) (sym ends_same) are_heard;
+    heard = subst (λ (es : List LinkEnd). AreHeard es (heard_of ran.run) (taken_of ran.run)) (sym ends_same) are_heard;
     drops = run_drops_told bytes script reads turns end_core ran.run (run_owed_of script (made bytes script reads) turns end_core ran.run (ran.closes tell));
     over = over;
   }

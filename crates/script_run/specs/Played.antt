@@ -16,9 +16,9 @@ use Rattle.sock_io.specs.Link.{InState}
 use Rattle.owed_calls.specs.Lives.{ClosesInRun}
 use Rattle.sock_core.specs.Links.{Taken, Given, Agrees, AgreesGave, TellClosing}
 use Rattle.sock_core.specs.Machines.{MachineState, core_with}
-use Rattle.whole_runs.specs.Heard.{as_told, heard_of, taken_of, heard_takes, given_by}
+use Rattle.whole_runs.specs.Heard.{as_told, as_taken, take_answers, heard_of, taken_of, heard_takes, given_by}
 use Rattle.whole_runs.specs.Over.{IsAllOver}
-use Rattle.sock_core.specs.Runs.{ShowFaults, LinksTell, ShowTakings, Follows, Made}
+use Rattle.sock_core.specs.Runs.{ShowFaults, LinksTell, TakesTell, ShowTakings, Follows, Made}
 use Rattle.sock_core.specs.Driving.{FirstRests}
 use Rattle.script_run.specs.Causes.{HasCauses, DropsTold, AsFarAsTold, broken_of}
 use Rattle.script_run.specs.declared.schedule.Schedule.{Schedule}
@@ -80,11 +80,14 @@ pub record HasRun (script : List Item) (turns : List Turn) (start m : MachineSta
   pub broken : ShowFaults m (broken_of run)
   pub told : LinksTell start m (heard_of run)
   pub taken : ShowTakings m (taken_of run)
+  pub takes : TakesTell start m (taken_of run)
 
--- each link that tells what its writing half answered tells what that answered in the run, and no other link was asked
-pub record AreHeard (ends : List LinkEnd) (heard : ℕ → List Answer) : Type 0 where
+-- each link that tells what its halves answered tells what they answered in the run, and no other link was asked
+pub record AreHeard (ends : List LinkEnd) (heard taken : ℕ → List Answer) : Type 0 where
   pub each : (k : ℕ) (e : LinkEnd) → slice_get ends k ≡ Some e → IfSome e.answers (λ answers. answers ≡ as_told (heard k))
   pub none_beyond : (k : ℕ) → length ends ≤ k → heard k ≡ []
+  pub each_take : (k : ℕ) (e : LinkEnd) → slice_get ends k ≡ Some e → IfSome e.takes (λ takes. takes ≡ take_answers (as_taken (taken k)))
+  pub no_take_beyond : (k : ℕ) → length ends ≤ k → taken k ≡ []
 
 -- a run of the script by these lines, over the links that were given back
 pub record IsWholeRun (script : List Item) (turns : List Turn) (ends : List LinkEnd) : Type 0 where
@@ -92,7 +95,7 @@ pub record IsWholeRun (script : List Item) (turns : List Turn) (ends : List Link
   pub run : IsRunWithCalls script turns core
   -- whose ticks are events of the plain model, with at most one put behind a failure
   pub laws : KeepsLaws run
-  pub heard : AreHeard ends (heard_of run)
+  pub heard : AreHeard ends (heard_of run) (taken_of run)
   pub drops : DropsTold run
   -- in the end no life is left, each id range has ended, and each link is at home
   pub over : IsAllOver script core
