@@ -8,7 +8,7 @@ use mathlib.Core.Logic.{dite}
 use Rattle.brpc_model.specs.Items.{Item}
 use Rattle.brpc_model.specs.Operations.{Turn}
 use Rattle.brpc_model.specs.Script.{script_of}
-use Rattle.brpc_model.specs.Link.{LinkEnd, HalfAnswer}
+use Rattle.brpc_model.specs.Link.{LinkEnd}
 use Rattle.brpc_model.specs.PlaceWords.{took_at, IsLineOf}
 use Rattle.brpc_model.specs.Run.{Lateness, nothing_late}
 use Rattle.brpc_model.specs.Complete.{FitsWhole}
@@ -16,9 +16,9 @@ use Rattle.sock_programs.specs.Scripts.{is_callless, place_words, Reports}
 use Rattle.sock_programs.specs.Tasks.{plan_of}
 use Rattle.report_fits.proofs.Lists.{within}
 use Rattle.report_fits.proofs.Places.{lateness}
-use Rattle.whole_runs.specs.Heard.{as_told, heard_of, heard_takes, given_by}
+use Rattle.whole_runs.specs.Heard.{as_told, as_taken, take_answers, heard_of, heard_takes, given_by}
 use Rattle.whole_runs.specs.Unserved.{IsUnserved}
-use Rattle.whole_runs.proofs.HeardRuns.{one_text_told}
+use Rattle.whole_runs.proofs.HeardRuns.{one_text_told, same_heard_takes}
 use Rattle.whole_runs.proofs.Runs.{unserved_fits}
 use Rattle.script_run.specs.Causes.{AsFarAsTold}
 use Rattle.script_run.specs.Played.{IsRunText, ReportsRun}
@@ -42,20 +42,30 @@ one_told : {A : Type 0} (told : Option A) (x y : A) → is_some told ≡ true �
 one_told None x y tells h k = absurd (cc)
 one_told (Some said) x y tells h k = h ∙ sym k
 
-module _ (turns : List Turn) (script : List Item) (a b : List ℕ) (ends : List LinkEnd) (tell : answer.AllTell ends) (r : IsRunText script turns a ends) (s : IsRunText script turns b ends) (same_takes : answer.SameTakes r.whole.run s.whole.run) where
+turned : {A : Type 0} (told : Option A) (x : A) → IfSome told (λ said. said ≡ x) → IfSome told (λ said. x ≡ said)
+turned None x h = tt
+turned (Some said) x h = sym h
+
+module _ (turns : List Turn) (script : List Item) (a b : List ℕ) (ends : List LinkEnd) (tell : answer.AllTell ends) (r : IsRunText script turns a ends) (s : IsRunText script turns b ends) where
+  abbrev there : (k : ℕ) → k < length ends → (e : LinkEnd) × (slice_get ends k ≡ Some e) × answer.TellsAll e
+  there k inside = let e = within ends k inside in (e.0, e.1, all_at answer.TellsAll ends k e.0 tell e.1)
+
   same_took : (k : ℕ) → k < length ends → took_at r.took k ≡ took_at s.took k
-  same_took k inside = let e = within ends k inside in let tells = all_at (λ (x : LinkEnd). (is_some x.took ≡ true) × (is_some x.answers ≡ true)) ends k e.0 tell e.1 in
-      one_told e.0.took (took_at r.took k) (took_at s.took k) tells.0 (r.told k e.0 e.1) (s.told k e.0 e.1)
+  same_took k inside = let e = there k inside in one_told e.0.took (took_at r.took k) (took_at s.took k) e.2.took (r.told k e.0 e.1) (s.told k e.0 e.1)
 
   same_answers : (k : ℕ) → as_told (heard_of r.whole.run k) ≡ as_told (heard_of s.whole.run k)
   same_answers k = dite (dec_lt k (length ends))
-      (λ inside. let e = within ends k inside in let tells = all_at (λ (x : LinkEnd). (is_some x.took ≡ true) × (is_some x.answers ≡ true)) ends k e.0 tell e.1 in
-      one_told e.0.answers (as_told (heard_of r.whole.run k)) (as_told (heard_of s.whole.run k)) tells.1 (turned e.0.answers _ (r.whole.heard.each k e.0 e.1)) (turned e.0.answers _ (s.whole.heard.each k e.0 e.1)))
+      (λ inside. let e = there k inside in
+      one_told e.0.answers (as_told (heard_of r.whole.run k)) (as_told (heard_of s.whole.run k)) e.2.answers (turned e.0.answers _ (r.whole.heard.each k e.0 e.1)) (turned e.0.answers _ (s.whole.heard.each k e.0 e.1)))
       (λ past. ap as_told (r.whole.heard.none_beyond k (omega (arith, past)) ∙ sym (s.whole.heard.none_beyond k (omega (arith, past)))))
-    where
-      turned : (told : Option (List HalfAnswer)) (x : List HalfAnswer) → IfSome told (λ said. said ≡ x) → IfSome told (λ said. x ≡ said)
-      turned None x h = tt
-      turned (Some said) x h = sym h
+
+  same_takes : (k : ℕ) → heard_takes r.whole.run k ≡ heard_takes s.whole.run k
+  same_takes k = dite (dec_lt k (length ends))
+      (λ inside. let e = there k inside in
+      same_heard_takes script turns r.whole.core s.whole.core r.whole.run s.whole.run k
+      (one_told e.0.takes (take_answers (heard_takes r.whole.run k)) (take_answers (heard_takes s.whole.run k)) e.2.takes (turned e.0.takes _ (r.whole.heard.each_take k e.0 e.1)) (turned e.0.takes _ (s.whole.heard.each_take k e.0 e.1)))
+      (one_told e.0.gave (given_by (heard_takes r.whole.run k)) (given_by (heard_takes s.whole.run k)) e.2.gave (turned e.0.gave _ (r.ends_are.each k e.0 e.1).gives) (turned e.0.gave _ (s.ends_are.each k e.0 e.1).gives)))
+      (λ past. ap as_taken (r.whole.heard.no_take_beyond k (omega (arith, past)) ∙ sym (s.whole.heard.no_take_beyond k (omega (arith, past)))))
 
   reports : Reports script r.whole.core s.took r.report
   reports = record {
@@ -85,7 +95,7 @@ module _ (turns : List Turn) (bytes : List ℕ) (script : List Item) (reads : sc
 
   -- and is the only one
   only : (text : List ℕ) → IsRunText script turns text ends → answer.IsOnlyText ends script turns text
-  only text is = (is, λ other ends' run took same. same_text turns script other text ends' ends run is took same, λ tell other run same. told_text turns script other text ends tell run is same)
+  only text is = (is, λ other ends' run took same. same_text turns script other text ends' ends run is took same, λ tell other run. told_text turns script other text ends tell run is)
 
 -- with what the calls say of the values that they were handed
 pub ran_reported : (turns : List Turn) (bytes : List ℕ) (script : List Item) (text text' : List ℕ) (out : answer.Output) (links : answer.Links) (status : ℕ) →

@@ -104,25 +104,26 @@ fault_text line kind = codes "script fault line " ++ decimal line ++ codes " kin
 abbrev pub IsReport : Links → List Item → List ℕ → Type 0
 IsReport links script text = links.prompt ≡ true → links.tells → AsFarAsTold script ((late : Lateness) × (is_callless script ≡ true → late ≡ nothing_late) × FitsWhole script text links.ends late)
 
--- links that tell all that they took, and all that their writing halves answered
+-- links that tell all that they took, gave and answered
+pub record TellsAll (e : LinkEnd) : Type 0 where
+  pub took : is_some e.took ≡ true
+  pub answers : is_some e.answers ≡ true
+  pub gave : is_some e.gave ≡ true
+  pub takes : is_some e.takes ≡ true
+
 abbrev pub AllTell : List LinkEnd → Type 0
-AllTell ends = AllByRecursion (λ (e : LinkEnd). (is_some e.took ≡ true) × (is_some e.answers ≡ true)) ends
+AllTell ends = AllByRecursion TellsAll ends
 
--- in two runs each link answered the same, by its reading half and by either half
-module _ {script : List Item} {turns : List Turn} {a b : Core} (r : IsRunWithCalls script turns a) (s : IsRunWithCalls script turns b) where
-  abbrev pub SameTakes : Type 0
-  SameTakes = (k : ℕ) → heard_takes r k ≡ heard_takes s k
-
-  abbrev pub SameAnswers : Type 0
-  SameAnswers = ((k : ℕ) → as_told (heard_of r k) ≡ as_told (heard_of s k)) × SameTakes
+-- in two runs each link answered the same, by either half
+abbrev pub SameAnswers : {script : List Item} {turns : List Turn} {a b : Core} → IsRunWithCalls script turns a → IsRunWithCalls script turns b → Type 0
+SameAnswers r s = ((k : ℕ) → as_told (heard_of r k) ≡ as_told (heard_of s k)) × ((k : ℕ) → heard_takes r k ≡ heard_takes s k)
 
 -- it is that of a run by these lines of a schedule; no other text is that of a run in which the links answered the same, and of which the same is
--- said of what they took; where the links given back tell all that they took and their writing halves answered, no other text is possible
--- in which their reading halves answered the same
+-- said of what they took; where the links given back tell all that they took, gave and answered, no other text is possible
 abbrev pub IsOnlyText : List LinkEnd → List Item → List Turn → List ℕ → Type 0
 IsOnlyText ends script turns text = (is : IsRunText script turns text ends)
     × ((other : List ℕ) (ends' : List LinkEnd) (run : IsRunText script turns other ends') → run.took ≡ is.took → SameAnswers run.whole.run is.whole.run → other ≡ text)
-    × (AllTell ends → (other : List ℕ) (run : IsRunText script turns other ends) → SameTakes run.whole.run is.whole.run → other ≡ text)
+    × (AllTell ends → (other : List ℕ) → IsRunText script turns other ends → other ≡ text)
 
 -- a run was made by these lines: the setup first, then the ticks of these lines, then rounds until nothing moves, then the ending, and such
 -- rounds again; each `drop` was answered `freed` or `kept` by what its own steps did, and in the end all is over; and the text is that of such a run
