@@ -5,7 +5,7 @@ use Rattle.std.specs.Prelude.{slice_get, slice_set}
 use Rattle.std.proofs.lemmas.List.{length-map}
 use mathlib.Core.Option.{Option, some, none, some-injective, some-ne-none}
 use mathlib.Core.Logic.{dite}
-use native.Mathlib.Decide.{ℕ_discrete}
+use native.Mathlib.Decide.{dec_lt, ℕ_discrete}
 use lib.ListN.{get_elem?}
 use Rattle.atomic_table.proofs.Lists.{at_set}
 use Rattle.sock_words.specs.declared.plain.Plan.{Plan}
@@ -22,7 +22,7 @@ use Rattle.sock_steps.proofs.Quiet.{either_way}
 use Rattle.sock_programs.specs.Asides.{Step, Found, TakeBytes, Taking, Bytes, Nothing, Closed}
 use Rattle.sock_programs.specs.Beside.{found_in}
 use Rattle.sock_programs.specs.Calls.{Call, GiveBirth}
-use Rattle.sock_programs.specs.Clients.{ending_of}
+use Rattle.sock_programs.specs.Clients.{client_from, ending_of}
 use Rattle.sock_programs.specs.Cores.{Core, SeatState, resolved, said, next_step, waiting_at}
 use Rattle.sock_programs.specs.Drops.{call_in}
 use Rattle.sock_programs.specs.Heads.{Head, Exit, Retry, Opens, Reads, Discards, Reading, Ended}
@@ -32,7 +32,7 @@ use Rattle.sock_programs.specs.Scripts.{IsRunWithCalls, all_programs, programs, 
 use Rattle.sock_programs.specs.Tasks.{calls, opens, plan_of, id_plan_of}
 use Rattle.sock_programs.specs.Ticks.{Answer, OfPut, OfReady, Moment, quiet, taken, ticked, run, step_with, tick_with, with_message, with_link, with_put, with_ready, with_found}
 use Rattle.sock_runs.specs.Sound.{first_step}
-use Rattle.sock_runs.proofs.Opening.{mapped, appended}
+use Rattle.sock_runs.proofs.Opening.{mapped}
 use Rattle.sock_causes.specs.Facts.{born_at, born_of, put_at, put_by, shown_in, late_of_run, late_links_of_run, is_said_late, numbers_of}
 
 -- no step of the program makes a life or puts a call home, and it says nothing
@@ -302,34 +302,35 @@ others_mute zero os i x at = readers_mute 0 os i x at
 others_mute (suc n) os zero x at = subst IsMute (some-injective Rest x at) tt
 others_mute (suc n) os (suc i) x at = others_mute n os i x at
 
-place_low : {A : Type 0} (l : List A) (i : ℕ) (x : A) → get_elem? l i ≡ some x → i < length l
-place_low [] i x at = absurd (some-ne-none x (sym at))
-place_low (y ∷ l) zero x at = omega arith
-place_low (y ∷ l) (suc i) x at = let low = place_low l i x at in omega (arith, low)
+back_at : {A : Type 0} (xs ys : List A) (i : ℕ) (x : A) → length xs ≤ i → get_elem? (xs ++ ys) i ≡ some x → (k : ℕ) × (get_elem? ys k ≡ some x)
+back_at [] ys i x past at = (i, at)
+back_at (y ∷ xs) ys zero x past at = absurd (omega (arith, past))
+back_at (y ∷ xs) ys (suc i) x past at = back_at xs ys i x (omega (arith, past)) at
 
-module _ (script : List Item) (callless : calls script ≡ []) (few : length (all_tasks script) ≤ 32) where
-  opened_mute : (i : ℕ) → 32 ≤ i → MuteAt i (opened script)
-  opened_mute i high s at =
+mute_next : (x : Program) → IsMute x → IsMute (next_step (resolved [] x))
+mute_next x mute = subst IsMute (sym (stays_mute [] x mute).0) mute
+
+module _ (script : List Item) (callless : calls script ≡ []) where
+  -- so begins each seat behind the clients
+  opened_mute : (i : ℕ) → length (all_tasks script) ≤ i → MuteAt i (opened script)
+  opened_mute i past s at =
       let made : Program → SeatState = λ program. record { program = next_step (resolved [] program); hand = [] } in
       let clients : List Program = programs (sizes_of (plan_of script) (id_plan_of script)) (all_tasks script) in
       let m = mapped made (all_programs clients (readers_from (calls script) 0 (opens script))) i s at in
-      subst (λ (y : SeatState). IsMute y.program) m.2 (mute_next m.0 (⊎_elim
-      (λ a. absurd (let low = place_low clients i m.0 a in let long = length-map (all_tasks script) (Rattle.sock_programs.specs.Clients.client_from (sizes_of (plan_of script) (id_plan_of script)) []) in omega (arith, low, long, few, high)))
-      (λ b. others_mute (32 - length clients) (opens script) b.0 m.0 (subst (λ (os : List ℕ). get_elem? (replicate (32 - length clients) Rest ++ readers_from os 0 (opens script)) b.0 ≡ some m.0) callless b.1))
-      (appended clients (replicate (32 - length clients) Rest ++ readers_from (calls script) 0 (opens script)) i m.0 m.1)))
-    where
-      mute_next : (x : Program) → IsMute x → IsMute (next_step (resolved [] x))
-      mute_next x mute = subst IsMute (sym (stays_mute [] x mute).0) mute
+      let long = length-map (all_tasks script) (client_from (sizes_of (plan_of script) (id_plan_of script)) []) in
+      let b = back_at clients (replicate (32 - length clients) Rest ++ readers_from (calls script) 0 (opens script)) i m.0 (omega (arith, long, past)) m.1 in
+      subst (λ (y : SeatState). IsMute y.program) m.2
+      (mute_next m.0 (others_mute (32 - length clients) (opens script) b.0 m.0 (subst (λ (os : List ℕ). get_elem? (replicate (32 - length clients) Rest ++ readers_from os 0 (opens script)) b.0 ≡ some m.0) callless b.1)))
 
   module _ (turns : List Turn) (core : Core) (is : IsRunWithCalls script turns core) where
     abbrev before : Core
     before = played script is.setup (is.scheduled ++ is.later)
 
     -- where the clients are at rest before the ending
-    module _ (rest : (i : ℕ) → 0 < i → i < 32 → MuteAt i before) where
+    module _ (rest : (i : ℕ) → 0 < i → i < length (all_tasks script) → MuteAt i before) where
       others : (i : ℕ) → 0 < i → MuteAt i before
-      others i some_ = dite (ℕ_discrete (i - 31) 0)
-          (λ low. rest i some_ (omega (arith, low)))
+      others i some_ = dite (dec_lt i (length (all_tasks script)))
+          (λ low. rest i some_ low)
           (λ high. mute_run (plan_of script) (is.scheduled ++ is.later) (set_up script is.setup) i (mute_run (plan_of script) (replicate is.setup (quiet 0)) (opened script) i (opened_mute i (omega (arith, high)))))
 
       begun : AllMute (ending script before)
