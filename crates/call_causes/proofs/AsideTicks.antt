@@ -10,8 +10,9 @@ use Rattle.sock_programs.specs.Heads.{Retry}
 use Rattle.sock_programs.specs.Asides.{Step, MakeId, ClaimId, PutCall, StoreCall, LoadCall, StoreAt, LoadAt, LoadIdWord, LockId, PostId, UnlockId, EndId, FreeId, TakeCall, TakeBytes, Found}
 use Rattle.sock_programs.specs.Programs.{Program, Say, Sent, Do, Rest, TakeMessage, TakeHome, PutHome, PutBytes, AskReady, Write, Aside, Round, Keep, Retries}
 use Rattle.sock_programs.specs.Cores.{resolved, said, next_step}
-use Rattle.call_causes.specs.Scenes.{Birth, Saying, Scene, In, IsOther, HasRoom, Later}
-use Rattle.call_causes.specs.Says.{Claims, Mark, SaidBy, MayAside, Moves, Shows, SaysOn}
+use Rattle.sock_words.specs.declared.outcome.Outcome.{Outcome}
+use Rattle.call_causes.specs.Scenes.{Birth, Saying, Scene, In, IsOver, IsOther, HasRoom, Later}
+use Rattle.call_causes.specs.Says.{Claims, Mark, IsNextSaid, SaidBy, MayAside, Moves, Shows, SaysOn}
 use Rattle.call_causes.specs.Stories.{At, word_at, SlotFits, SlotsLaw, BirthsLaw, TasksLaw, ClaimsLaw, ReadsLaw, IsBehind, KnowsStep, mark_after}
 use Rattle.call_causes.proofs.Births.{IsMake}
 use Rattle.call_causes.proofs.BirthTicks as birth_ticks
@@ -42,36 +43,60 @@ sayings_keep (Round head next) ss s there = there
 sayings_keep (Keep r next) ss s there = there
 sayings_keep (Retries n after) ss s there = there
 
--- what a program that is resolved says is among the sayings with its own
-pub said_all : (w : Scene) (x : Program) (ws : List Retry) (ss : List Saying) → ((s : Saying) → In s (sayings_of (resolved ws x) ss) → In s w.sayings) → SaidBy w (resolved ws x)
-said_all w (Say o outcome next) ws ss all = (all (record { number = o; outcome = outcome }) (sayings_keep (resolved ws next) ((record { number = o; outcome = outcome }) ∷ ss) (record { number = o; outcome = outcome }) (inl refl)), said_all w next ws ((record { number = o; outcome = outcome }) ∷ ss) all)
-said_all w (Sent o next) ws ss all = said_all w next ws ss all
-said_all w (Keep r next) ws ss all = said_all w next (ws ++ r ∷ []) ss all
-said_all w (Retries n after) [] ss all = said_all w after [] ss all
-said_all w (Retries n after) (r ∷ ws) ss all = tt
-said_all w (Do call next) ws ss all = tt
-said_all w Rest ws ss all = tt
-said_all w (TakeMessage r next) ws ss all = tt
-said_all w (TakeHome k next) ws ss all = tt
-said_all w (PutHome k n after) ws ss all = tt
-said_all w (PutBytes k asked bytes next) ws ss all = tt
-said_all w (AskReady k next) ws ss all = tt
-said_all w (Write v after) ws ss all = tt
-said_all w (Aside step next) ws ss all = tt
-said_all w (Round head next) ws ss all = tt
+pub overs_keep : (x : Program) (ss : List Saying) (a b : Saying) → IsOver a b ss → IsOver a b (sayings_of x ss)
+overs_keep (Say o outcome next) ss a b there = overs_keep next ((record { number = o; outcome = outcome }) ∷ ss) a b (inr there)
+overs_keep (Sent o next) ss a b there = overs_keep next ss a b there
+overs_keep (Do call next) ss a b there = there
+overs_keep Rest ss a b there = there
+overs_keep (TakeMessage r next) ss a b there = there
+overs_keep (TakeHome k next) ss a b there = there
+overs_keep (PutHome k n after) ss a b there = there
+overs_keep (PutBytes k asked bytes next) ss a b there = there
+overs_keep (AskReady k next) ss a b there = there
+overs_keep (Write v after) ss a b there = there
+overs_keep (Aside step next) ss a b there = there
+overs_keep (Round head next) ss a b there = there
+overs_keep (Keep r next) ss a b there = there
+overs_keep (Retries n after) ss a b there = there
 
-module _ (p : Plan) (q : IdPlan) (clients : List (List Task)) (numbered : AreNumbered p q clients) (w w' : Scene) (ms : List Mark) (j : ℕ) (m : Mark) (at : At ms j m) (plan : w.core.calls.plan ≡ q) (sized : length w.core.calls.words ≡ all_words q) (low : (k : ℕ) → k < q.slots → (word_at w k).first ≤ 67108856)
-    (slots : SlotsLaw q w ms) (births : BirthsLaw p q clients w) (tasks : TasksLaw p q clients w w.core.outcomes w.sayings ms) (claims : ClaimsLaw p q clients w ms) (reads : ReadsLaw p q clients w ms)
-    (step : Step) (found : Found step) (b : IsBehind p q clients w w' m step found) (knows : KnowsStep p q clients w step found) (same : w'.core.words ≡ w.core.words) (room : HasRoom p q clients w') where
+-- what is said next is said directly behind this
+next_over : (w : Scene) (o : ℕ) (outcome : Outcome) (x : Program) (ss : List Saying) → ((a b : Saying) → IsOver a b (sayings_of x ((record { number = o; outcome = outcome }) ∷ ss)) → IsOver a b w.sayings) → IsNextSaid w o outcome x
+next_over w o outcome (Say t y next) ss all = all (record { number = t; outcome = y }) (record { number = o; outcome = outcome }) (overs_keep next ((record { number = t; outcome = y }) ∷ (record { number = o; outcome = outcome }) ∷ ss) (record { number = t; outcome = y }) (record { number = o; outcome = outcome }) (inl (refl, refl)))
+next_over w o outcome _ ss all = tt
+
+-- what a program that is resolved says is among the sayings with its own
+pub said_all : (w : Scene) (x : Program) (ws : List Retry) (ss : List Saying) → ((s : Saying) → In s (sayings_of (resolved ws x) ss) → In s w.sayings) → ((a b : Saying) → IsOver a b (sayings_of (resolved ws x) ss) → IsOver a b w.sayings) → SaidBy w (resolved ws x)
+said_all w (Say o outcome next) ws ss all overs = (
+  (all (record { number = o; outcome = outcome }) (sayings_keep (resolved ws next) ((record { number = o; outcome = outcome }) ∷ ss) (record { number = o; outcome = outcome }) (inl refl)), next_over w o outcome (resolved ws next) ss overs),
+  said_all w next ws ((record { number = o; outcome = outcome }) ∷ ss) all overs,
+)
+said_all w (Sent o next) ws ss all overs = said_all w next ws ss all overs
+said_all w (Keep r next) ws ss all overs = said_all w next (ws ++ r ∷ []) ss all overs
+said_all w (Retries n after) [] ss all overs = said_all w after [] ss all overs
+said_all w (Retries n after) (r ∷ ws) ss all overs = tt
+said_all w (Do call next) ws ss all overs = tt
+said_all w Rest ws ss all overs = tt
+said_all w (TakeMessage r next) ws ss all overs = tt
+said_all w (TakeHome k next) ws ss all overs = tt
+said_all w (PutHome k n after) ws ss all overs = tt
+said_all w (PutBytes k asked bytes next) ws ss all overs = tt
+said_all w (AskReady k next) ws ss all overs = tt
+said_all w (Write v after) ws ss all overs = tt
+said_all w (Aside step next) ws ss all overs = tt
+said_all w (Round head next) ws ss all overs = tt
+
+module _ (p : Plan) (q : IdPlan) (clients : List (List Task)) (fin : ℕ → List ℕ) (numbered : AreNumbered p q clients fin) (w w' : Scene) (ms : List Mark) (j : ℕ) (m : Mark) (at : At ms j m) (plan : w.core.calls.plan ≡ q) (sized : length w.core.calls.words ≡ all_words q) (low : (k : ℕ) → k < q.slots → (word_at w k).first ≤ 67108856)
+    (slots : SlotsLaw q w ms) (births : BirthsLaw p q clients fin w) (tasks : TasksLaw p q clients fin w w.core.outcomes w.sayings ms) (claims : ClaimsLaw p q clients fin w ms) (reads : ReadsLaw p q clients fin w ms)
+    (step : Step) (found : Found step) (b : IsBehind p q clients fin w w' m step found) (knows : KnowsStep p q clients fin w step found) (same : w'.core.words ≡ w.core.words) (room : HasRoom p q clients fin w') where
   fits : SlotFits q w m.slot
   fits = slots.fits j m at
 
   -- the call for which an id is made has none yet
-  fresh : (s : Step) (n : Found s) → MayAside p q clients w m s → (c : Birth) (i : ℕ) (asked : Asked) → IsMake s i → In c w.births → m.slot ≡ Claims i (Some asked) → asked.operation ≢ c.asked.operation
+  fresh : (s : Step) (n : Found s) → MayAside p q clients fin w m s → (c : Birth) (i : ℕ) (asked : Asked) → IsMake s i → In c w.births → m.slot ≡ Claims i (Some asked) → asked.operation ≢ c.asked.operation
   fresh (MakeId k range) n may c i asked is there slot = λ e.
       let z : Claims i (Some asked) ≡ Claims k (Some may.0) = sym slot ∙ may.3 in
       let one : asked ≡ may.0 = cc in
-      other_call p q clients numbered w births w.core.outcomes w.sayings ms tasks j m at may.1 may.2 may.5 may.9 may.8 c there (may.7 ∙ (ap (λ (a : Asked). a.operation) (sym one) ∙ e))
+      other_call p q clients fin numbered w births w.core.outcomes w.sayings ms tasks j m at may.1 may.2 may.5 may.9 may.8 c there (may.7 ∙ (ap (λ (a : Asked). a.operation) (sym one) ∙ e))
   fresh (ClaimId k) n may c i asked is there slot = absurd is
   fresh (PutCall k a) n may c i asked is there slot = absurd is
   fresh (StoreCall o id) n may c i asked is there slot = absurd is
@@ -87,43 +112,44 @@ module _ (p : Plan) (q : IdPlan) (clients : List (List Task)) (numbered : AreNum
   fresh (TakeCall k) n may c i asked is there slot = absurd is
   fresh (TakeBytes k r) n may c i asked is there slot = absurd is
 
-  module _ (may : MayAside p q clients w m step) where
-    pub is_later : Later p q clients w w'
-    is_later = later p q clients w w' m plan sized fits births low step found b knows may same room (fresh step found may)
+  module _ (may : MayAside p q clients fin w m step) where
+    pub is_later : Later p q clients fin w w'
+    is_later = later p q clients fin w w' m plan sized fits births low step found b knows may same room (fresh step found may)
 
-    pub new_births : Shows p q clients w' step found → BirthsLaw p q clients w'
-    new_births shows = let made = made_of p q clients w w' m plan sized fits births low step found b knows may in record {
-      born = birth_ticks.born p q clients w w' m plan sized fits births low step found b knows may made (fresh step found may);
-      alive = birth_ticks.alive p q clients w w' m plan sized fits births low step found b knows may made (fresh step found may);
-      apart = birth_ticks.apart p q clients w w' m plan sized fits births low step found b knows may made (fresh step found may);
-      homes = birth_ticks.homes p q clients w w' m plan sized fits births low step found b knows may made (fresh step found may) (home_before p q clients w w' m plan sized fits births low step found b knows may);
-      errors = errors.errors p q clients w w' m plan sized fits births is_later step found b knows shows;
+    pub new_births : Shows p q clients fin w' step found → BirthsLaw p q clients fin w'
+    new_births shows = let made = made_of p q clients fin w w' m plan sized fits births low step found b knows may in record {
+      born = birth_ticks.born p q clients fin w w' m plan sized fits births low step found b knows may made (fresh step found may);
+      alive = birth_ticks.alive p q clients fin w w' m plan sized fits births low step found b knows may made (fresh step found may);
+      apart = birth_ticks.apart p q clients fin w w' m plan sized fits births low step found b knows may made (fresh step found may);
+      homes = birth_ticks.homes p q clients fin w w' m plan sized fits births low step found b knows may made (fresh step found may) (home_before p q clients fin w w' m plan sized fits births low step found b knows may);
+      errors = errors.errors p q clients fin w w' m plan sized fits births is_later step found b knows shows;
       codes = λ i inside some_. subst (λ ws. IsOther (get_or ws (code_word i) 0)) (sym same) (births.codes i inside (subst (λ ws. get_or ws (code_word i) 0 ≢ 0) same some_));
     }
 
-    pub is_moved : Moves p q clients w' m step found (mark_after p q clients step found m)
-    is_moved = moves p q clients w w' ms w.core.outcomes w.sayings j m plan sized fits births low at tasks claims reads is_later step found b knows may
+    pub is_moved : Moves p q clients fin w' m step found (mark_after p q clients fin step found m)
+    is_moved = moves p q clients fin w w' ms w.core.outcomes w.sayings j m plan sized fits births low at tasks claims reads is_later step found b knows may
 
-    pub new_tasks : TasksLaw p q clients w' w.core.outcomes w.sayings (set ms j (mark_after p q clients step found m))
-    new_tasks = changed p q clients numbered w w' births w.core.outcomes w.sayings ms tasks j m at is_later (mark_after p q clients step found m)
-        (changes p q clients numbered w w' births w.core.outcomes w.sayings ms tasks j m at is_later plan sized fits low step found b knows may)
+    pub new_tasks : TasksLaw p q clients fin w' w.core.outcomes w.sayings (set ms j (mark_after p q clients fin step found m))
+    new_tasks = changed p q clients fin numbered w w' births w.core.outcomes w.sayings ms tasks j m at is_later (mark_after p q clients fin step found m)
+        (changes p q clients fin numbered w w' births w.core.outcomes w.sayings ms tasks j m at is_later plan sized fits low step found b knows may)
 
-    pub new_slots : SlotsLaw q w' (set ms j (mark_after p q clients step found m))
-    new_slots = slots_after p q clients w w' ms j m plan sized slots at step found b knows may
+    pub new_slots : SlotsLaw q w' (set ms j (mark_after p q clients fin step found m))
+    new_slots = slots_after p q clients fin w w' ms j m plan sized slots at step found b knows may
 
   -- ## The tick
 
-  module _ (next : Found step → Program) (says : SaysOn p q clients w m (Aside step next)) (ws : List Retry) (few : AreFewTries ws) (keeps : KeepsFew (next found)) (told : w'.core.outcomes ≡ said (resolved ws (next found)) w.core.outcomes) (sayings : w'.sayings ≡ sayings_of (resolved ws (next found)) w.sayings) where
+  module _ (next : Found step → Program) (says : SaysOn p q clients fin w m (Aside step next)) (ws : List Retry) (few : AreFewTries ws) (keeps : KeepsFew (next found)) (told : w'.core.outcomes ≡ said (resolved ws (next found)) w.core.outcomes) (sayings : w'.sayings ≡ sayings_of (resolved ws (next found)) w.sayings) where
     abbrev moved : Mark
-    moved = mark_after p q clients step found m
+    moved = mark_after p q clients fin step found m
 
     all_said : SaidBy w' (resolved ws (next found))
-    all_said = said_all w' (next found) ws w.sayings (λ s there. subst (In s) (sym sayings) there)
+    all_said = said_all w' (next found) ws w.sayings (λ s there. subst (In s) (sym sayings) there) (λ a b there. subst (IsOver a b) (sym sayings) there)
 
     -- the scene is as late as itself
-    here : Later p q clients w' w'
+    here : Later p q clients fin w' w'
     here = record {
       said = λ o x s. s;
+      over = λ a b s. s;
       named = λ n s. s;
       begun = λ o s. s;
       born = λ id asked s. s;
@@ -133,29 +159,29 @@ module _ (p : Plan) (q : IdPlan) (clients : List (List Task)) (numbered : AreNum
       apart = (is_later says.0).apart;
     }
 
-    goes_on : Shows p q clients w' step found × SaysOn p q clients w' (mark_after p q clients step found m) (next found)
-    goes_on = says.1 found w' (mark_after p q clients step found m) (is_later says.0) (said_first w' ws (next found) all_said) (is_moved says.0)
+    goes_on : Shows p q clients fin w' step found × SaysOn p q clients fin w' (mark_after p q clients fin step found m) (next found)
+    goes_on = says.1 found w' (mark_after p q clients fin step found m) (is_later says.0) (said_first w' ws (next found) all_said) (is_moved says.0)
 
     -- the laws behind the tick, with the mark that is left once all is said
     pub record AfterTick : Type 0 where
       pub mark : Mark
-      pub kept : IsKept (mark_after p q clients step found m) mark
-      pub slots_law : SlotsLaw q w' (set ms j (mark_after p q clients step found m))
-      pub births_law : BirthsLaw p q clients w'
-      pub tasks_law : TasksLaw p q clients w' w'.core.outcomes w'.sayings (set ms j mark)
-      pub says_on : SaysOn p q clients w' mark (next_step (resolved ws (next found)))
+      pub kept : IsKept p q clients fin (mark_after p q clients fin step found m) mark
+      pub slots_law : SlotsLaw q w' (set ms j (mark_after p q clients fin step found m))
+      pub births_law : BirthsLaw p q clients fin w'
+      pub tasks_law : TasksLaw p q clients fin w' w'.core.outcomes w'.sayings (set ms j mark)
+      pub says_on : SaysOn p q clients fin w' mark (next_step (resolved ws (next found)))
 
     pub aside_ticks : AfterTick
     aside_ticks =
         let law = new_births says.0 goes_on.0 in
-        let m1 : Mark = mark_after p q clients step found m in
-        let r = chain p q clients numbered w' law here j (next found) ws w.core.outcomes w.sayings (set ms j m1) m1 (put_at ms j m m1 at) (new_tasks says.0) goes_on.1 few keeps all_said in record {
+        let m1 : Mark = mark_after p q clients fin step found m in
+        let r = chain p q clients fin numbered w' law here j (next found) ws w.core.outcomes w.sayings (set ms j m1) m1 (put_at ms j m m1 at) (new_tasks says.0) goes_on.1 few keeps all_said in record {
           mark = r.0;
           kept = r.1;
           slots_law = new_slots says.0;
           births_law = law;
-          tasks_law = subst (λ os. TasksLaw p q clients w' os w'.sayings (set ms j r.0)) (sym told)
-              (subst (λ ss. TasksLaw p q clients w' (said (resolved ws (next found)) w.core.outcomes) ss (set ms j r.0)) (sym sayings)
-              (subst (TasksLaw p q clients w' (said (resolved ws (next found)) w.core.outcomes) (sayings_of (resolved ws (next found)) w.sayings)) (set_twice ms j m1 r.0) r.2));
+          tasks_law = subst (λ os. TasksLaw p q clients fin w' os w'.sayings (set ms j r.0)) (sym told)
+              (subst (λ ss. TasksLaw p q clients fin w' (said (resolved ws (next found)) w.core.outcomes) ss (set ms j r.0)) (sym sayings)
+              (subst (TasksLaw p q clients fin w' (said (resolved ws (next found)) w.core.outcomes) (sayings_of (resolved ws (next found)) w.sayings)) (set_twice ms j m1 r.0) r.2));
           says_on = r.3;
         }

@@ -16,13 +16,13 @@ use Rattle.call_causes.specs.Stories.{At, word_at, SlotFits, BirthsLaw, TasksLaw
 use Rattle.call_causes.proofs.Lasting.{cause_on, are_told_on}
 use Rattle.call_causes.proofs.Laters.{stored_is}
 
-module _ (p : Plan) (q : IdPlan) (clients : List (List Task)) where
+module _ (p : Plan) (q : IdPlan) (clients : List (List Task)) (fin : ℕ → List ℕ) where
   -- a task that is done is one of the tasks
-  pub in_todo : (done todo : List Task) (t : Task) → In t todo → In t (undo p q clients done todo)
+  pub in_todo : (done todo : List Task) (t : Task) → In t todo → In t (undo p q clients fin done todo)
   in_todo [] todo t there = there
   in_todo (d ∷ done) todo t there = in_todo done (d ∷ todo) t (inr there)
 
-  pub in_done : (done todo : List Task) (t : Task) → In t done → In t (undo p q clients done todo)
+  pub in_done : (done todo : List Task) (t : Task) → In t done → In t (undo p q clients fin done todo)
   in_done [] todo t there = absurd there
   in_done (d ∷ done) todo t (inl same) = in_todo done (d ∷ todo) t (inl same)
   in_done (d ∷ done) todo t (inr there) = in_done done (d ∷ todo) t there
@@ -32,22 +32,22 @@ module _ (p : Plan) (q : IdPlan) (clients : List (List Task)) where
   listed (ts ∷ cs) Rattle.std.proofs.Common.zero t there = (ts, refl, there)
   listed (ts ∷ cs) (Rattle.std.proofs.Common.suc c) t there = listed cs c t there
 
-  error_code : (w : Scene) (id e : ℕ) → CauseOf p q clients w id e → IsErrorCode (code_of e)
+  error_code : (w : Scene) (id e : ℕ) → CauseOf p q clients fin w id e → IsErrorCode (code_of e)
   error_code w id e (of_expiry asked is born x) = inl (ap code_of is ∙ omega arith)
   error_code w id e (of_other x) = inr x
 
   -- for a seat that holds no id no slot was claimed
-  free_unclaimed : (s : Slot) (bs : List Birth) (todo : List Task) (t : Task) → IsVacant s → bs ≡ [] → In t todo → In t (unclaimed p q clients s bs todo)
-  free_unclaimed NoSlot bs todo t v is there = subst (λ xs. In t (ahead p q clients xs todo)) (sym is) there
-  free_unclaimed (Leaves i) bs todo t v is there = subst (λ xs. In t (ahead p q clients xs todo)) (sym is) there
+  pub free_unclaimed : (s : Slot) (bs : List Birth) (todo : List Task) (t : Task) → IsVacant s → bs ≡ [] → In t todo → In t (unclaimed p q clients fin s bs todo)
+  free_unclaimed NoSlot bs todo t v is there = subst (λ xs. In t (ahead p q clients fin xs todo)) (sym is) there
+  free_unclaimed (Leaves i) bs todo t v is there = subst (λ xs. In t (ahead p q clients fin xs todo)) (sym is) there
   free_unclaimed (Claims i c) bs todo t v is there = absurd v
   free_unclaimed (Locked i f range) bs todo t v is there = absurd v
   free_unclaimed (Holds i f range asked) bs todo t v is there = absurd v
 
-module _ (p : Plan) (q : IdPlan) (clients : List (List Task)) (w w' : Scene) (ms : List Mark) (os : List (Option Outcome)) (ss : List Saying) (j : ℕ) (m : Mark) (plan : w.core.calls.plan ≡ q) (sized : length w.core.calls.words ≡ all_words q) (fits : SlotFits q w m.slot)
-    (law : BirthsLaw p q clients w) (low : (k : ℕ) → k < q.slots → (word_at w k).first ≤ 67108856) (at : At ms j m) (tasks : TasksLaw p q clients w os ss ms) (claims : ClaimsLaw p q clients w ms) (reads : ReadsLaw p q clients w ms) (l : Later p q clients w w') where
-  pub task_at : (k : ℕ) (n : Mark) (t : Task) → At ms k n → In t n.done → IsTaskOf p q clients k t
-  task_at k n t there done = listed p q clients clients k t (subst (In t) (tasks.placed k n there) (in_done p q clients n.done n.todo t done))
+module _ (p : Plan) (q : IdPlan) (clients : List (List Task)) (fin : ℕ → List ℕ) (w w' : Scene) (ms : List Mark) (os : List (Option Outcome)) (ss : List Saying) (j : ℕ) (m : Mark) (plan : w.core.calls.plan ≡ q) (sized : length w.core.calls.words ≡ all_words q) (fits : SlotFits q w m.slot)
+    (law : BirthsLaw p q clients fin w) (low : (k : ℕ) → k < q.slots → (word_at w k).first ≤ 67108856) (at : At ms j m) (tasks : TasksLaw p q clients fin w os ss ms) (claims : ClaimsLaw p q clients fin w ms) (reads : ReadsLaw p q clients fin w ms) (l : Later p q clients fin w w') where
+  pub task_at : (k : ℕ) (n : Mark) (t : Task) → At ms k n → In t n.done → IsTaskOf p q clients fin k t
+  task_at k n t there done = listed p q clients fin clients k t (subst (In t) (tasks.placed k n there) (in_done p q clients fin n.done n.todo t done))
 
   live_at : (i found : ℕ) → parts found ≡ word_at w i → 0 < (parts found).state → 0 < (word_at w i).state
   live_at i found is live = subst (λ (y : Parts). 0 < y.state) is live
@@ -55,24 +55,24 @@ module _ (p : Plan) (q : IdPlan) (clients : List (List Task)) (w w' : Scene) (ms
   has_codes : (i found : ℕ) → i < q.slots → parts found ≡ word_at w i → (0 < (parts found).state → (parts found).oldest ≡ 0 → (parts found).second ≡ 0) → HasCodes found
   has_codes i found inside is oldest two second = let live : 0 < (parts found).state = omega (arith, two) in let e = law.errors i inside (live_at i found is live) in
       let some_ : (parts found).oldest ≢ 0 = λ z. second (oldest live z) in (
-        subst (λ (y : Parts). IsErrorCode (code_of y.oldest)) (sym is) (error_code p q clients w (call_id i (word_at w i).first) (word_at w i).oldest (e.0 (subst (λ (y : Parts). y.oldest ≢ 0) is some_))),
-        subst (λ (y : Parts). IsErrorCode (code_of y.second)) (sym is) (error_code p q clients w (call_id i (word_at w i).first) (word_at w i).second (e.1 (subst (λ (y : Parts). y.second ≢ 0) is second))),
+        subst (λ (y : Parts). IsErrorCode (code_of y.oldest)) (sym is) (error_code p q clients fin w (call_id i (word_at w i).first) (word_at w i).oldest (e.0 (subst (λ (y : Parts). y.oldest ≢ 0) is some_))),
+        subst (λ (y : Parts). IsErrorCode (code_of y.second)) (sym is) (error_code p q clients fin w (call_id i (word_at w i).first) (word_at w i).second (e.1 (subst (λ (y : Parts). y.second ≢ 0) is second))),
       )
 
-  pub moves : (step : Step) (found : Found step) → IsBehind p q clients w w' m step found → KnowsStep p q clients w step found → MayAside p q clients w m step → Moves p q clients w' m step found (mark_after p q clients step found m)
+  pub moves : (step : Step) (found : Found step) → IsBehind p q clients fin w w' m step found → KnowsStep p q clients fin w step found → MayAside p q clients fin w m step → Moves p q clients fin w' m step found (mark_after p q clients fin step found m)
   moves (ClaimId i) found b knows may = (
     (λ z. ap (λ c. cond c (with_slot (Claims i None) m) m) (eq-eqb found 0 z)),
     (λ ne. (
       ap (λ c. cond c (with_slot (Claims i None) m) m) (ne_eqb found 0 ne),
-      λ t ts todo. let x = claims.taken i knows.0 (λ e. ne (knows.1 ∙ e)) in (x.0, l.claimed i x.0 x.1, λ same. claims.free j m t at (free_unclaimed p q clients m.slot m.makes m.todo t may.0.0 may.0.2 (subst (In t) (sym todo) (inl refl))) i (subst (λ n. In (record { slot = i; operation = n }) w.claims) same x.1)),
+      λ t ts todo. let x = claims.taken i knows.0 (λ e. ne (knows.1 ∙ e)) in (x.0, l.claimed i x.0 x.1, λ same. claims.free j m t at (free_unclaimed p q clients fin m.slot m.makes m.todo t may.0.0 may.0.2 (subst (In t) (sym todo) (inl refl))) i (subst (λ n. In (record { slot = i; operation = n }) w.claims) same x.1)),
     )),
   )
   moves (PutCall i asked) found b knows may = refl
   moves (MakeId i range) found b knows may = λ asked slot. (
-    ap (λ s. with_made (born_by p q clients (call_id i (parts found).first) (put_of p q clients s)) (with_slot NoSlot m)) slot,
-    subst (In (record { id = call_id i (parts found).first; asked = asked })) (sym (b.births ∙ ap (λ s. born_by p q clients (call_id i (parts found).first) (put_of p q clients s) ++ w.births) slot)) (inl refl),
+    ap (λ s. with_made (born_by p q clients fin (call_id i (parts found).first) (put_of p q clients fin s)) (with_slot NoSlot m)) slot,
+    subst (In (record { id = call_id i (parts found).first; asked = asked })) (sym (b.births ∙ ap (λ s. born_by p q clients fin (call_id i (parts found).first) (put_of p q clients fin s) ++ w.births) slot)) (inl refl),
   )
-  moves (StoreCall o id) found b knows may = λ t ts todo. (ap (λ us. stored_by p q clients us m) todo, λ e. knows.1 (sym (stored_is p q clients w w' m plan sized fits law low o id knows.0 b.words) ∙ e))
+  moves (StoreCall o id) found b knows may = λ t ts todo. (ap (λ us. stored_by p q clients fin us m) todo, λ e. knows.1 (sym (stored_is p q clients fin w w' m plan sized fits law low o id knows.0 b.words) ∙ e))
   moves (LoadCall o) found b knows may = (
     refl,
     (λ some_. let c = tasks.called o knows.0 (λ e. some_ (knows.1 ∙ e)) in (
@@ -90,7 +90,7 @@ module _ (p : Plan) (q : IdPlan) (clients : List (List Task)) (w w' : Scene) (ms
       ),
       (c.0.asked, subst (λ n. IsBorn w' n c.0.asked) (c.2 ∙ sym knows.1) (l.born c.0.id c.0.asked c.1), c.3),
     )),
-    (λ none_. ((λ begun. begun (ap (λ ws. get_or ws (call_word q o) 0) b.words ∙ (sym knows.1 ∙ none_))), are_told_on p q clients w w' l m.client m.done (tasks.told j m at))),
+    (λ none_. ((λ begun. begun (ap (λ ws. get_or ws (call_word q o) 0) b.words ∙ (sym knows.1 ∙ none_))), are_told_on p q clients fin w w' l m.client m.done (tasks.told j m at))),
   )
   moves (StoreAt o x) found b knows may = refl
   moves (LoadAt o) found b knows may = refl
@@ -109,12 +109,12 @@ module _ (p : Plan) (q : IdPlan) (clients : List (List Task)) (w w' : Scene) (ms
           let held : SlotFits q w (Locked i f range) = subst (SlotFits q w) slot fits in
           let is : parts from ≡ word_at w i = ap parts (sym same) ∙ knows.0.1 in
           let e = law.errors i held.0 (let z = held.2 in omega (arith, z)) in
-          subst (λ n. CauseOf p q clients w' (call_id i f) n) (sym (ap (λ (z : Parts). z.oldest) is))
-          (subst (λ n. CauseOf p q clients w' (call_id i n) (word_at w i).oldest) held.3 (cause_on p q clients w w' l (call_id i (word_at w i).first) (word_at w i).oldest (e.0 (subst (λ (z : Parts). z.oldest ≢ 0) is some_)))),
+          subst (λ n. CauseOf p q clients fin w' (call_id i f) n) (sym (ap (λ (z : Parts). z.oldest) is))
+          (subst (λ n. CauseOf p q clients fin w' (call_id i n) (word_at w i).oldest) held.3 (cause_on p q clients fin w w' l (call_id i (word_at w i).first) (word_at w i).oldest (e.0 (subst (λ (z : Parts). z.oldest ≢ 0) is some_)))),
     )),
     (λ ne. ap (λ c. cond c y m) (ne_eqb found from ne)),
   )
-  moves (EndId i) found b knows may = λ f range asked slot. ap (λ s. with_owed (ended_of p q clients s) (with_slot (Leaves i) m)) slot
+  moves (EndId i) found b knows may = λ f range asked slot. ap (λ s. with_owed (ended_of p q clients fin s) (with_slot (Leaves i) m)) slot
   moves (FreeId i) found b knows may = refl
   moves (TakeCall i) found b knows may = (refl, taken)
     where

@@ -12,13 +12,13 @@ abbrev pub AllDistinct : List Task → Type 0
 AllDistinct [] = Unit {0}
 AllDistinct (t ∷ ts) = AllByRecursion (λ (u : Task). t.number ≢ u.number) ts × AllDistinct ts
 
-module _ (p : Plan) (q : IdPlan) (clients : List (List Task)) where
+module _ (p : Plan) (q : IdPlan) (clients : List (List Task)) (fin : ℕ → List ℕ) where
   -- no two tasks have one number
   pub record AreNumbered : Type 0 where
-    pub apart : (c d : ℕ) (t u : Task) → IsTaskOf p q clients c t → IsTaskOf p q clients d u → t.number ≡ u.number → c ≡ d
+    pub apart : (c d : ℕ) (t u : Task) → IsTaskOf p q clients fin c t → IsTaskOf p q clients fin d u → t.number ≡ u.number → c ≡ d
     pub distinct : (c : ℕ) → AllDistinct (get_or clients c [])
 
-  pub distinct_undo : (done todo : List Task) → AllDistinct (undo p q clients done todo) → AllDistinct todo × ((d t : Task) → In d done → In t todo → d.number ≢ t.number)
+  pub distinct_undo : (done todo : List Task) → AllDistinct (undo p q clients fin done todo) → AllDistinct todo × ((d t : Task) → In d done → In t todo → d.number ≢ t.number)
   distinct_undo [] todo all = (all, λ d t there here. absurd there)
   distinct_undo (e ∷ done) todo all = let r = distinct_undo done (e ∷ todo) all in (r.0.1, λ d t there here. by_place d t there here r.0.0 r.1)
     where

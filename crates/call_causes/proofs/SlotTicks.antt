@@ -28,7 +28,7 @@ taken_slot asked k (Locked i f range) x = x
 taken_slot asked k (Holds i f range c) x = x
 taken_slot asked k (Leaves i) x = x
 
-module _ (p : Plan) (q : IdPlan) (clients : List (List Task)) (w w' : Scene) (ms : List Mark) (j : ℕ) (m : Mark) (plan : w.core.calls.plan ≡ q) (sized : length w.core.calls.words ≡ all_words q) (law : SlotsLaw q w ms) (at : At ms j m) where
+module _ (p : Plan) (q : IdPlan) (clients : List (List Task)) (fin : ℕ → List ℕ) (w w' : Scene) (ms : List Mark) (j : ℕ) (m : Mark) (plan : w.core.calls.plan ≡ q) (sized : length w.core.calls.words ≡ all_words q) (law : SlotsLaw q w ms) (at : At ms j m) where
   -- no other seat has something of the slot
   abbrev IsNew : ℕ → Type 0
   IsNew k = (l : ℕ) (n : Mark) → At ms l n → InSlot k n.slot → ⊥
@@ -42,7 +42,7 @@ module _ (p : Plan) (q : IdPlan) (clients : List (List Task)) (w w' : Scene) (ms
   state_found : (i from found : ℕ) → found ≡ from → (parts from).state ≡ 1 → parts found ≡ word_at w i → (word_at w i).state ≡ 1
   state_found i from found same one is = ap (λ (y : Parts). y.state) (sym is) ∙ (ap (λ n. (parts n).state) same ∙ one)
 
-  new_slot : (step : Step) (found : Found step) → KnowsStep p q clients w step found → MayAside p q clients w m step → (k : ℕ) → InSlot k (mark_after p q clients step found m).slot → InSlot k m.slot ⊎ IsNew k
+  new_slot : (step : Step) (found : Found step) → KnowsStep p q clients fin w step found → MayAside p q clients fin w m step → (k : ℕ) → InSlot k (mark_after p q clients fin step found m).slot → InSlot k m.slot ⊎ IsNew k
   new_slot (ClaimId i) found knows may k = by_found (eqb found 0) refl
     where
       by_found : (c : Bool) → eqb found 0 ≡ c → InSlot k (cond c (with_slot (Claims i None) m) m).slot → InSlot k m.slot ⊎ IsNew k
@@ -52,7 +52,7 @@ module _ (p : Plan) (q : IdPlan) (clients : List (List Task)) (w w' : Scene) (ms
   new_slot (MakeId i range) found knows may k = λ x. absurd x
   new_slot (StoreCall o id) found knows may k = by_todo m.todo
     where
-      by_todo : (ts : List Task) → InSlot k (stored_by p q clients ts m).slot → InSlot k m.slot ⊎ IsNew k
+      by_todo : (ts : List Task) → InSlot k (stored_by p q clients fin ts m).slot → InSlot k m.slot ⊎ IsNew k
       by_todo [] x = inl x
       by_todo (t ∷ ts) x = inl x
   new_slot (LockId i from) found knows may k = by_found (eqb found from) refl
@@ -86,20 +86,20 @@ module _ (p : Plan) (q : IdPlan) (clients : List (List Task)) (w w' : Scene) (ms
   new_slot (LoadAt o) found knows may k = λ x. inl x
   new_slot (LoadIdWord i) found knows may k = λ x. inl x
 
-  pub slots_after : (step : Step) (found : Found step) → IsBehind p q clients w w' m step found → KnowsStep p q clients w step found → MayAside p q clients w m step → SlotsLaw q w' (set ms j (mark_after p q clients step found m))
+  pub slots_after : (step : Step) (found : Found step) → IsBehind p q clients fin w w' m step found → KnowsStep p q clients fin w step found → MayAside p q clients fin w m step → SlotsLaw q w' (set ms j (mark_after p q clients fin step found m))
   slots_after step found b knows may = record { fits = fits; single = single }
     where
-      fits : (l : ℕ) (n : Mark) → At (set ms j (mark_after p q clients step found m)) l n → Rattle.call_causes.specs.Stories.SlotFits q w' n.slot
-      fits l n e = ⊎_elim (λ x. subst (λ (y : Mark). Rattle.call_causes.specs.Stories.SlotFits q w' y.slot) x.1 (own_fits p q clients w w' m plan sized step found b knows may (law.fits j m at)))
-          (λ x. like_fits q w w' n.slot (other_like p q clients w w' m plan sized step found b knows may n.slot (law.fits l n x.1) (λ k a c. x.0 (law.single l j k n m x.1 at a c))) (law.fits l n x.1))
-          (at_set ms j l (mark_after p q clients step found m) n e)
+      fits : (l : ℕ) (n : Mark) → At (set ms j (mark_after p q clients fin step found m)) l n → Rattle.call_causes.specs.Stories.SlotFits q w' n.slot
+      fits l n e = ⊎_elim (λ x. subst (λ (y : Mark). Rattle.call_causes.specs.Stories.SlotFits q w' y.slot) x.1 (own_fits p q clients fin w w' m plan sized step found b knows may (law.fits j m at)))
+          (λ x. like_fits q w w' n.slot (other_like p q clients fin w w' m plan sized step found b knows may n.slot (law.fits l n x.1) (λ k a c. x.0 (law.single l j k n m x.1 at a c))) (law.fits l n x.1))
+          (at_set ms j l (mark_after p q clients fin step found m) n e)
 
       -- the seat itself beside another one
-      beside_own : (l k : ℕ) (n : Mark) → l ≢ j → At ms l n → InSlot k (mark_after p q clients step found m).slot → InSlot k n.slot → ⊥
+      beside_own : (l k : ℕ) (n : Mark) → l ≢ j → At ms l n → InSlot k (mark_after p q clients fin step found m).slot → InSlot k n.slot → ⊥
       beside_own l k n ne there own other = ⊎_elim (λ x. ne (law.single l j k n m there at other x)) (λ x. x l n there other) (new_slot step found knows may k own)
 
-      single : (a c k : ℕ) (x y : Mark) → At (set ms j (mark_after p q clients step found m)) a x → At (set ms j (mark_after p q clients step found m)) c y → InSlot k x.slot → InSlot k y.slot → a ≡ c
+      single : (a c k : ℕ) (x y : Mark) → At (set ms j (mark_after p q clients fin step found m)) a x → At (set ms j (mark_after p q clients fin step found m)) c y → InSlot k x.slot → InSlot k y.slot → a ≡ c
       single a c k x y e f s t = ⊎_elim
-          (λ u. ⊎_elim (λ v. u.0 ∙ sym v.0) (λ v. absurd (beside_own c k y v.0 v.1 (subst (λ (z : Mark). InSlot k z.slot) (sym u.1) s) t)) (at_set ms j c (mark_after p q clients step found m) y f))
-          (λ u. ⊎_elim (λ v. absurd (beside_own a k x u.0 u.1 (subst (λ (z : Mark). InSlot k z.slot) (sym v.1) t) s)) (λ v. law.single a c k x y u.1 v.1 s t) (at_set ms j c (mark_after p q clients step found m) y f))
-          (at_set ms j a (mark_after p q clients step found m) x e)
+          (λ u. ⊎_elim (λ v. u.0 ∙ sym v.0) (λ v. absurd (beside_own c k y v.0 v.1 (subst (λ (z : Mark). InSlot k z.slot) (sym u.1) s) t)) (at_set ms j c (mark_after p q clients fin step found m) y f))
+          (λ u. ⊎_elim (λ v. absurd (beside_own a k x u.0 u.1 (subst (λ (z : Mark). InSlot k z.slot) (sym v.1) t) s)) (λ v. law.single a c k x y u.1 v.1 s t) (at_set ms j c (mark_after p q clients fin step found m) y f))
+          (at_set ms j a (mark_after p q clients fin step found m) x e)

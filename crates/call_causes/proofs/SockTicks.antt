@@ -14,7 +14,7 @@ use Rattle.sock_programs.specs.Heads.{Retry}
 use Rattle.sock_programs.specs.Asides.{call_id, id_slot, id_first}
 use Rattle.sock_programs.specs.Programs.{Program}
 use Rattle.sock_programs.specs.Cores.{resolved, said, next_step}
-use Rattle.call_causes.specs.Scenes.{Birth, Claim, Saying, Scene, In, IsBorn, IsOther, Named, HasRoom, Later}
+use Rattle.call_causes.specs.Scenes.{Birth, Claim, Saying, Scene, In, IsOver, IsBorn, IsOther, Named, HasRoom, Later}
 use Rattle.call_causes.specs.Says.{Mark, SaidBy, SaysOn}
 use Rattle.call_causes.specs.Stories.{At, word_at, tag_at, LiesAt, HasPassed, IsCurrent, SlotsLaw, BirthsLaw, TasksLaw}
 use Rattle.call_causes.proofs.Lasting.{are_told_on, cause_on}
@@ -23,9 +23,9 @@ use Rattle.call_causes.proofs.BirthTicks.{one_call}
 use Rattle.call_causes.proofs.Numbered.{AreNumbered}
 use Rattle.call_causes.proofs.TaskTicks.{Change, changed}
 use Rattle.call_causes.proofs.Chains.{sayings_of, AreFewTries, KeepsFew, IsKept, chain, said_first}
-use Rattle.call_causes.proofs.AsideTicks.{sayings_keep, said_all}
+use Rattle.call_causes.proofs.AsideTicks.{sayings_keep, overs_keep, said_all}
 
-module _ (p : Plan) (q : IdPlan) (clients : List (List Task)) (numbered : AreNumbered p q clients) (w w' : Scene) (ms : List Mark) (j : ℕ) (m : Mark) (at : At ms j m) (slots : SlotsLaw q w ms) (births : BirthsLaw p q clients w) (tasks : TasksLaw p q clients w w.core.outcomes w.sayings ms) (room : HasRoom p q clients w') where
+module _ (p : Plan) (q : IdPlan) (clients : List (List Task)) (fin : ℕ → List ℕ) (numbered : AreNumbered p q clients fin) (w w' : Scene) (ms : List Mark) (j : ℕ) (m : Mark) (at : At ms j m) (slots : SlotsLaw q w ms) (births : BirthsLaw p q clients fin w) (tasks : TasksLaw p q clients fin w w.core.outcomes w.sayings ms) (room : HasRoom p q clients fin w') where
   -- the table of the ids is as it was; no name loses its socket, and each code of a socket is that of an error
   pub record IsBeside : Type 0 where
     pub words : w'.core.calls.words ≡ w.core.calls.words
@@ -33,13 +33,14 @@ module _ (p : Plan) (q : IdPlan) (clients : List (List Task)) (numbered : AreNum
     pub gave : w'.core.calls.gave ≡ w.core.calls.gave
     pub births_are : w'.births ≡ w.births
     pub claims_are : w'.claims ≡ w.claims
-    pub named : (n : ℕ) → Named p q clients w n → Named p q clients w' n
+    pub named : (n : ℕ) → Named p q clients fin w n → Named p q clients fin w' n
     pub codes : (i : ℕ) → i < p.slots → get_or w'.core.words (code_word i) 0 ≢ 0 → IsOther (get_or w'.core.words (code_word i) 0)
 
   module _ (b : IsBeside) (x : Program) (ws : List Retry) (few : AreFewTries ws) (keeps : KeepsFew x) (told : w'.core.outcomes ≡ said (resolved ws x) w.core.outcomes) (sayings : w'.sayings ≡ sayings_of (resolved ws x) w.sayings) where
-    pub beside_later : Later p q clients w w'
+    pub beside_later : Later p q clients fin w w'
     beside_later = record {
       said = λ o v s. subst (In (record { number = o; outcome = v })) (sym sayings) (sayings_keep (resolved ws x) w.sayings (record { number = o; outcome = v }) s);
+      over = λ a c s. subst (IsOver a c) (sym sayings) (overs_keep (resolved ws x) w.sayings a c s);
       named = b.named;
       begun = λ o begun e. begun (ap (λ cs. get_or cs (call_word q o) 0) (sym b.words) ∙ e);
       born = λ id asked there. subst (In (record { id = id; asked = asked })) (sym b.births_are) there;
@@ -82,22 +83,22 @@ module _ (p : Plan) (q : IdPlan) (clients : List (List Task)) (numbered : AreNum
     born_at : (k : ℕ) (a : Asked) → IsBorn w (call_id k (word_at w k).first) a → IsBorn w' (call_id k (word_at w' k).first) a
     born_at k a there = subst (λ (y : Parts). IsBorn w' (call_id k y.first) a) (sym (word_same k)) (beside_later.born (call_id k (word_at w k).first) a there)
 
-    pub beside_births : BirthsLaw p q clients w'
+    pub beside_births : BirthsLaw p q clients fin w'
     beside_births = record {
       born = λ c there. let y = births.born c (subst (In c) b.births_are there) in (y.0, y.1, y.2, ⊎_elim (λ over. inl (on_passed c over)) (λ now. inr (on_current c now)) y.3);
       alive = λ k inside now. let y = births.alive k inside (live k now) in (y.0, born_at k y.0 y.1);
       apart = subst Rattle.call_causes.specs.Stories.AllApart (sym b.births_are) births.apart;
       homes = λ k a inside now lies. born_at k a (births.homes k a inside (live k now) ((like k).home a lies));
-      errors = λ k inside. subst (λ (y : Parts). 0 < y.state → (y.oldest ≢ 0 → Rattle.call_causes.specs.Scenes.CauseOf p q clients w' (call_id k y.first) y.oldest) × (y.second ≢ 0 → Rattle.call_causes.specs.Scenes.CauseOf p q clients w' (call_id k y.first) y.second)) (sym (word_same k))
-          (λ now. let e = births.errors k inside now in ((λ ne. cause_on p q clients w w' beside_later (call_id k (word_at w k).first) (word_at w k).oldest (e.0 ne)), (λ ne. cause_on p q clients w w' beside_later (call_id k (word_at w k).first) (word_at w k).second (e.1 ne))));
+      errors = λ k inside. subst (λ (y : Parts). 0 < y.state → (y.oldest ≢ 0 → Rattle.call_causes.specs.Scenes.CauseOf p q clients fin w' (call_id k y.first) y.oldest) × (y.second ≢ 0 → Rattle.call_causes.specs.Scenes.CauseOf p q clients fin w' (call_id k y.first) y.second)) (sym (word_same k))
+          (λ now. let e = births.errors k inside now in ((λ ne. cause_on p q clients fin w w' beside_later (call_id k (word_at w k).first) (word_at w k).oldest (e.0 ne)), (λ ne. cause_on p q clients fin w w' beside_later (call_id k (word_at w k).first) (word_at w k).second (e.1 ne))));
       codes = b.codes;
     }
 
-    unchanged : Change p q clients numbered w w' births w.core.outcomes w.sayings ms tasks j m at beside_later m
+    unchanged : Change p q clients fin numbered w w' births w.core.outcomes w.sayings ms tasks j m at beside_later m
     unchanged = record {
       client = refl;
       placed = refl;
-      told = are_told_on p q clients w w' beside_later m.client m.done (tasks.told j m at);
+      told = are_told_on p q clients fin w w' beside_later m.client m.done (tasks.told j m at);
       done = λ t there. there;
       begun = λ c u there y. y;
       born = λ c there. inl (subst (In c) b.births_are there);
@@ -111,16 +112,17 @@ module _ (p : Plan) (q : IdPlan) (clients : List (List Task)) (numbered : AreNum
       passed_on = λ c there over. on_passed c over;
     }
 
-    beside_tasks : TasksLaw p q clients w' w.core.outcomes w.sayings ms
-    beside_tasks = subst (TasksLaw p q clients w' w.core.outcomes w.sayings) (set_again ms j m at) (changed p q clients numbered w w' births w.core.outcomes w.sayings ms tasks j m at beside_later m unchanged)
+    pub beside_tasks : TasksLaw p q clients fin w' w.core.outcomes w.sayings ms
+    beside_tasks = subst (TasksLaw p q clients fin w' w.core.outcomes w.sayings) (set_again ms j m at) (changed p q clients fin numbered w w' births w.core.outcomes w.sayings ms tasks j m at beside_later m unchanged)
 
     -- what is said in the tick
     pub beside_said : SaidBy w' x
-    beside_said = said_first w' ws x (said_all w' x ws w.sayings (λ s there. subst (In s) (sym sayings) there))
+    beside_said = said_first w' ws x (said_all w' x ws w.sayings (λ s there. subst (In s) (sym sayings) there) (λ a b there. subst (IsOver a b) (sym sayings) there))
 
-    here : Later p q clients w' w'
+    here : Later p q clients fin w' w'
     here = record {
       said = λ o v s. s;
+      over = λ a b s. s;
       named = λ n s. s;
       begun = λ o s. s;
       born = λ id asked s. s;
@@ -133,19 +135,19 @@ module _ (p : Plan) (q : IdPlan) (clients : List (List Task)) (numbered : AreNum
     -- the laws behind the tick, with the mark that is left once all is said
     pub record AfterBeside : Type 0 where
       pub mark : Mark
-      pub kept : IsKept m mark
+      pub kept : IsKept p q clients fin m mark
       pub slots_law : SlotsLaw q w' ms
-      pub births_law : BirthsLaw p q clients w'
-      pub tasks_law : TasksLaw p q clients w' w'.core.outcomes w'.sayings (set ms j mark)
-      pub says_on : SaysOn p q clients w' mark (next_step (resolved ws x))
+      pub births_law : BirthsLaw p q clients fin w'
+      pub tasks_law : TasksLaw p q clients fin w' w'.core.outcomes w'.sayings (set ms j mark)
+      pub says_on : SaysOn p q clients fin w' mark (next_step (resolved ws x))
 
-    pub beside_ticks : SaysOn p q clients w' m x → AfterBeside
+    pub beside_ticks : SaysOn p q clients fin w' m x → AfterBeside
     beside_ticks says =
-        let r = chain p q clients numbered w' beside_births here j x ws w.core.outcomes w.sayings ms m at beside_tasks says few keeps (said_all w' x ws w.sayings (λ s there. subst (In s) (sym sayings) there)) in record {
+        let r = chain p q clients fin numbered w' beside_births here j x ws w.core.outcomes w.sayings ms m at beside_tasks says few keeps (said_all w' x ws w.sayings (λ s there. subst (In s) (sym sayings) there) (λ a b there. subst (IsOver a b) (sym sayings) there)) in record {
           mark = r.0;
           kept = r.1;
           slots_law = beside_slots;
           births_law = beside_births;
-          tasks_law = subst (λ os. TasksLaw p q clients w' os w'.sayings (set ms j r.0)) (sym told) (subst (λ ss. TasksLaw p q clients w' (said (resolved ws x) w.core.outcomes) ss (set ms j r.0)) (sym sayings) r.2);
+          tasks_law = subst (λ os. TasksLaw p q clients fin w' os w'.sayings (set ms j r.0)) (sym told) (subst (λ ss. TasksLaw p q clients fin w' (said (resolved ws x) w.core.outcomes) ss (set ms j r.0)) (sym sayings) r.2);
           says_on = r.3;
         }

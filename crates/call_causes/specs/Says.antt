@@ -20,7 +20,8 @@ use Rattle.sock_programs.specs.Programs.{Program, Do, Say, Sent, Rest, TakeMessa
 use Rattle.sock_programs.specs.Readers.{has_response}
 use Rattle.id_runs.specs.Goes.{FitsOwner, FitsWriting}
 use Rattle.call_causes.specs.Lists.{given}
-use Rattle.call_causes.specs.Scenes.{Birth, Scene, Said, IsBorn, IsClaimed, Came, IsOther, IsErrorCode, Named, Begun, HasBegunIn, CauseOf, WhyEnded, WhyOwn, AreTold, HasNoneOf, IsTaskOf, Later}
+use Rattle.sock_words.specs.declared.outcome.Outcome.{Outcome}
+use Rattle.call_causes.specs.Scenes.{Birth, Scene, Said, IsOver, IsJust, IsBorn, IsClaimed, Came, IsOther, IsErrorCode, Named, Begun, HasBegunIn, CauseOf, WhyEnded, WhyOwn, AreTold, HasNoneOf, IsTaskOf, Later}
 
 -- ## Marks
 
@@ -85,8 +86,13 @@ given_more other m = m
 
 -- ## What the program says before its next step
 
+-- an outcome that is said next is said directly behind this one
+abbrev pub IsNextSaid : Scene → ℕ → Outcome → Program → Type 0
+IsNextSaid w o outcome (Say t x next) = IsOver (record { number = t; outcome = x }) (record { number = o; outcome = outcome }) w.sayings
+IsNextSaid w o outcome other = Unit {0}
+
 abbrev pub SaidBy : Scene → Program → Type 0
-SaidBy w (Say o outcome next) = Said w o outcome × SaidBy w next
+SaidBy w (Say o outcome next) = (Said w o outcome × IsNextSaid w o outcome next) × SaidBy w next
 SaidBy w (Sent o next) = SaidBy w next
 SaidBy w (Keep r next) = SaidBy w next
 SaidBy w other = Unit {0}
@@ -99,7 +105,7 @@ HasCodes word = (parts word).state ≡ 2 → (parts word).second ≢ 0 → IsErr
 abbrev pub GoesFrom : List ℕ → List ℕ → Type 0
 GoesFrom bytes rest = (before : ℕ) × ((more : List ℕ) (n : ℕ) (frame : Frame) → slice_get (stream (rest ++ more)).frames n ≡ Some frame → slice_get (stream (bytes ++ more)).frames (before + n) ≡ Some frame)
 
-module _ (p : Plan) (q : IdPlan) (clients : List (List Task)) where
+module _ (p : Plan) (q : IdPlan) (clients : List (List Task)) (fin : ℕ → List ℕ) where
   -- ## Steps on the table of the sockets
 
   abbrev pub MayDo : Call → Type 0
@@ -109,21 +115,21 @@ module _ (p : Plan) (q : IdPlan) (clients : List (List Task)) where
 
   -- where no socket is found under a name, none of the setup's gave it one
   abbrev pub NoneOfSetup : Scene → ℕ → Type 0
-  NoneOfSetup w n = (t : Task) → IsTaskOf p q clients 0 t → HasNoneOf p q clients w n t
+  NoneOfSetup w n = (t : Task) → IsTaskOf p q clients fin 0 t → HasNoneOf p q clients fin w n t
 
   abbrev pub FindsDo : Scene → Mark → Call → ℕ → Type 0
-  FindsDo w m (StoreName n word) found = Named p q clients w n
-  FindsDo w m (LoadName n) found = (found ≡ 0 → (Named p q clients w n → ⊥) × (m.client ≢ 0 → NoneOfSetup w n) × AreTold p q clients w m.client m.done) × (found ≢ 0 → Named p q clients w n)
+  FindsDo w m (StoreName n word) found = Named p q clients fin w n
+  FindsDo w m (LoadName n) found = (found ≡ 0 → (Named p q clients fin w n → ⊥) × (m.client ≢ 0 → NoneOfSetup w n) × AreTold p q clients fin w m.client m.done) × (found ≢ 0 → Named p q clients fin w n)
   FindsDo w m (LoadCode i h) found = (found ≢ 0 → IsOther found)
   FindsDo w m other found = Unit {0}
 
   -- ## Steps aside
 
   abbrev pub MayAside : Scene → Mark → Step → Type 0
-  MayAside w m (ClaimId i) = IsFree m × (t : Task) × (ts : List Task) × (asked : Asked) × (m.todo ≡ t ∷ ts) × (t.op ≡ ops.Call asked) × (t.number ≡ asked.operation) × IsTaskOf p q clients m.client t
+  MayAside w m (ClaimId i) = IsFree m × (t : Task) × (ts : List Task) × (asked : Asked) × (m.todo ≡ t ∷ ts) × (t.op ≡ ops.Call asked) × (t.number ≡ asked.operation) × IsTaskOf p q clients fin m.client t
   MayAside w m (PutCall i asked) = (m.slot ≡ Claims i None) ⊎ ((f range : ℕ) × (m.slot ≡ Holds i f range asked) × IsBorn w (call_id i f) asked)
   MayAside w m (MakeId i range) = (asked : Asked) × (t : Task) × (ts : List Task) × (m.slot ≡ Claims i (Some asked)) × (range ≡ asked.range) × (m.todo ≡ t ∷ ts) × (t.op ≡ ops.Call asked) × (t.number ≡ asked.operation) × (m.makes ≡ []) × (m.owes ≡ [])
-  MayAside w m (StoreCall o id) = (b : Birth) × (t : Task) × (ts : List Task) × (m.makes ≡ b ∷ []) × (m.todo ≡ t ∷ ts) × (t.op ≡ ops.Call b.asked) × (t.number ≡ b.asked.operation) × (o ≡ b.asked.operation) × (id ≡ b.id) × IsBorn w b.id b.asked × Named p q clients w (name_of b.asked 0)
+  MayAside w m (StoreCall o id) = (b : Birth) × (t : Task) × (ts : List Task) × (m.makes ≡ b ∷ []) × (m.todo ≡ t ∷ ts) × (t.op ≡ ops.Call b.asked) × (t.number ≡ b.asked.operation) × (o ≡ b.asked.operation) × (id ≡ b.id) × IsBorn w b.id b.asked × Named p q clients fin w (name_of b.asked 0)
   MayAside w m (LockId i from) = IsFree m
   MayAside w m (PostId i from e) = IsFree m
   MayAside w m (UnlockId i from advance) = (f range : ℕ) × (m.slot ≡ Locked i f range)
@@ -138,13 +144,13 @@ module _ (p : Plan) (q : IdPlan) (clients : List (List Task)) where
   Moves w m (ClaimId i) found m' = (found ≡ 0 → m' ≡ with_slot (Claims i None) m) × (found ≢ 0 → (m' ≡ m) × ((t : Task) (ts : List Task) → m.todo ≡ t ∷ ts → (o : ℕ) × IsClaimed w i o × (o ≢ t.number)))
   Moves w m (PutCall i asked) found m' = m' ≡ with_slot (put_in asked m.slot) m
   Moves w m (MakeId i range) found m' = (asked : Asked) → m.slot ≡ Claims i (Some asked) → (m' ≡ with_made (record { id = call_id i (parts found).first; asked = asked } ∷ []) (with_slot NoSlot m)) × IsBorn w (call_id i (parts found).first) asked
-  Moves w m (StoreCall o id) found m' = (t : Task) (ts : List Task) → m.todo ≡ t ∷ ts → (m' ≡ with_done t ts (with_made [] m)) × Begun p q clients w o
-  Moves w m (LoadCall o) found m' = (m' ≡ m) × (found ≢ 0 → HasBegunIn p q clients w m.client m.done o × ((asked : Asked) × IsBorn w found asked × (asked.operation ≡ o))) × (found ≡ 0 → (Begun p q clients w o → ⊥) × AreTold p q clients w m.client m.done)
+  Moves w m (StoreCall o id) found m' = (t : Task) (ts : List Task) → m.todo ≡ t ∷ ts → (m' ≡ with_done t ts (with_made [] m)) × Begun p q clients fin w o
+  Moves w m (LoadCall o) found m' = (m' ≡ m) × (found ≢ 0 → HasBegunIn p q clients fin w m.client m.done o × ((asked : Asked) × IsBorn w found asked × (asked.operation ≡ o))) × (found ≡ 0 → (Begun p q clients fin w o → ⊥) × AreTold p q clients fin w m.client m.done)
   Moves w m (LoadIdWord i) found m' = (m' ≡ m) × HasCodes found
   Moves w m (LockId i from) found m' = (found ≡ from → m' ≡ with_slot (Locked i (parts from).first (parts from).range) m) × (found ≢ from → m' ≡ m)
   Moves w m (PostId i from e) found m' = (found ≡ from → (parts from).state ≡ 1 → m' ≡ with_slot (Locked i (parts from).first (parts from).range) m) × (found ≡ from → (parts from).state ≢ 1 → m' ≡ m) × (found ≢ from → (m' ≡ m) × HasCodes found)
   Moves w m (UnlockId i from advance) found m' = (found ≡ from → (parts from).oldest ≡ 0 → m' ≡ with_slot NoSlot m)
-      × (found ≡ from → (parts from).oldest ≢ 0 → (m' ≡ m) × ((f range : ℕ) → m.slot ≡ Locked i f range → CauseOf p q clients w (call_id i f) (parts from).oldest)) × (found ≢ from → m' ≡ m)
+      × (found ≡ from → (parts from).oldest ≢ 0 → (m' ≡ m) × ((f range : ℕ) → m.slot ≡ Locked i f range → CauseOf p q clients fin w (call_id i f) (parts from).oldest)) × (found ≢ from → m' ≡ m)
   Moves w m (EndId i) found m' = (f range : ℕ) (asked : Asked) → m.slot ≡ Holds i f range asked → m' ≡ with_owed (record { id = call_id i f; asked = asked } ∷ []) (with_slot (Leaves i) m)
   Moves w m (FreeId i) found m' = m' ≡ with_slot NoSlot m
   Moves w m (TakeCall i) found m' = (m' ≡ with_slot (taken_out found m.slot) m) × ((f range : ℕ) → m.slot ≡ Locked i f range → IsBorn w (call_id i f) found × (found.range ≡ range))
@@ -153,7 +159,7 @@ module _ (p : Plan) (q : IdPlan) (clients : List (List Task)) where
 
   -- and what the seat shows in return: an error that it queued has its cause
   abbrev pub Shows : Scene → (step : Step) → Found step → Type 0
-  Shows w (PostId i from e) found = found ≡ from → (parts from).state ≢ 1 → CauseOf p q clients w (call_id i (parts from).first) e
+  Shows w (PostId i from e) found = found ≡ from → (parts from).state ≢ 1 → CauseOf p q clients fin w (call_id i (parts from).first) e
   Shows w other found = Unit {0}
 
   -- ## Loops
@@ -200,11 +206,11 @@ module _ (p : Plan) (q : IdPlan) (clients : List (List Task)) where
 
   abbrev pub LeavesUnlock : Scene → Mark → ℕ → Unlocking → Mark → Type 0
   LeavesUnlock w m i (IsOpen word) m' = m' ≡ with_slot NoSlot m
-  LeavesUnlock w m i (HasNext word e) m' = (m' ≡ m) × ((f range : ℕ) → m.slot ≡ Locked i f range → CauseOf p q clients w (call_id i f) e)
+  LeavesUnlock w m i (HasNext word e) m' = (m' ≡ m) × ((f range : ℕ) → m.slot ≡ Locked i f range → CauseOf p q clients fin w (call_id i f) e)
 
   -- the error that ended a call is this one, or, where this one isn't for the whole call, one that was queued
   abbrev pub EndsBy : Scene → ℕ → ℕ → ℕ → Type 0
-  EndsBy w id e c = (c ≡ code_of e) ⊎ ((attempt_of e ≢ WHOLE) × (x : ℕ) × (c ≡ code_of x) × CauseOf p q clients w id x)
+  EndsBy w id e c = (c ≡ code_of e) ⊎ ((attempt_of e ≢ WHOLE) × (x : ℕ) × (c ≡ code_of x) × CauseOf p q clients fin w id x)
 
   abbrev pub LeavesDecision : Scene → Mark → ℕ → ℕ → Deciding → Mark → Type 0
   LeavesDecision w m id e (HasEnded o c) m' = (b : Birth) × (s : Slot) × IsVacant s × (m' ≡ with_owed (b ∷ []) (with_slot s m)) × (b.id ≡ id) × IsBorn w b.id b.asked × (o ≡ b.asked.operation) × EndsBy w id e c
@@ -225,7 +231,7 @@ module _ (p : Plan) (q : IdPlan) (clients : List (List Task)) where
   Leaves' w m head exit m' = m' ≡ m
 
   abbrev pub YieldsPost : Scene → ℕ → ℕ → Posting → Type 0
-  YieldsPost w id e WasQueued = CauseOf p q clients w id e
+  YieldsPost w id e WasQueued = CauseOf p q clients fin w id e
   YieldsPost w id e other = Unit {0}
 
   abbrev pub Yields : Scene → (head : Head) → Exit head → Type 0
@@ -235,19 +241,19 @@ module _ (p : Plan) (q : IdPlan) (clients : List (List Task)) where
   -- ## Programs
 
   abbrev pub SaysOn : Scene → Mark → Program → Type 0
-  SaysOn w m (Do call next) = MayDo call × ((found : ℕ) (w' : Scene) → Later p q clients w w' → SaidBy w' (next found) → FindsDo w' m call found → SaysOn w' m (next found))
+  SaysOn w m (Do call next) = MayDo call × ((found : ℕ) (w' : Scene) → Later p q clients fin w w' → SaidBy w' (next found) → FindsDo w' m call found → SaysOn w' m (next found))
   -- the outcome of the task that is to be done, or of a range that has ended
-  SaysOn w m (Say o outcome next) = ((t : Task) × (ts : List Task) × (m.todo ≡ t ∷ ts) × (o ≡ t.number) × IsFree m × WhyOwn p q clients w m.client m.done t.op outcome × SaysOn w (with_done t ts m) next)
-      ⊎ ((b : Birth) × (m.owes ≡ b ∷ []) × (o ≡ b.asked.operation) × IsBorn w b.id b.asked × WhyEnded p q clients w b outcome × SaysOn w (with_owed [] m) next)
-  SaysOn w m (Sent o next) = (t : Task) × (ts : List Task) × (n : ℕ) × (bytes : List ℕ) × (m.todo ≡ t ∷ ts) × (o ≡ t.number) × (t.op ≡ ops.Send n bytes) × Named p q clients w n × IsFree m × SaysOn w (with_done t ts m) next
+  SaysOn w m (Say o outcome next) = ((t : Task) × (ts : List Task) × (m.todo ≡ t ∷ ts) × (o ≡ t.number) × IsFree m × (WhyOwn p q clients fin w m.client m.done t.op outcome × IsJust p q clients fin w t.number t.op outcome) × SaysOn w (with_done t ts m) next)
+      ⊎ ((b : Birth) × (m.owes ≡ b ∷ []) × (o ≡ b.asked.operation) × IsBorn w b.id b.asked × WhyEnded p q clients fin w b outcome × SaysOn w (with_owed [] m) next)
+  SaysOn w m (Sent o next) = (t : Task) × (ts : List Task) × (n : ℕ) × (bytes : List ℕ) × (m.todo ≡ t ∷ ts) × (o ≡ t.number) × (t.op ≡ ops.Send n bytes) × Named p q clients fin w n × IsFree m × SaysOn w (with_done t ts m) next
   SaysOn w m Rest = IsFree m × (m.todo ≡ [])
-  SaysOn w m (TakeMessage r next) = (heading : Heading) (bytes : List ℕ) (w' : Scene) → FitsOwner q heading → Later p q clients w w' → SaidBy w' (next heading bytes) → SaysOn w' m (next heading bytes)
-  SaysOn w m (TakeHome k next) = (n : ℕ) (w' : Scene) → Later p q clients w w' → SaidBy w' (next n) → SaysOn w' m (next n)
-  SaysOn w m (PutHome k n after) = (w' : Scene) → Later p q clients w w' → SaidBy w' after → SaysOn w' m after
-  SaysOn w m (PutBytes k asked bytes next) = (answer : Put) (w' : Scene) → Later p q clients w w' → SaidBy w' (next answer) → SaysOn w' m (next answer)
-  SaysOn w m (AskReady k next) = (answer : Ready) (w' : Scene) → Later p q clients w w' → SaidBy w' (next answer) → SaysOn w' m (next answer)
-  SaysOn w m (Write v after) = IsFree m × FitsWriting q v × ((w' : Scene) (m' : Mark) → Later p q clients w w' → SaidBy w' after → Again m m' → SaysOn w' m' after)
-  SaysOn w m (Aside step next) = MayAside w m step × ((found : Found step) (w' : Scene) (m' : Mark) → Later p q clients w w' → SaidBy w' (next found) → Moves w' m step found m' → Shows w' step found × SaysOn w' m' (next found))
-  SaysOn w m (Round head next) = AtHead w m head × ((exit : Exit head) (w' : Scene) (m' : Mark) → Later p q clients w w' → SaidBy w' (next exit) → Leaves' w' m head exit m' → Yields w' head exit × SaysOn w' m' (next exit))
+  SaysOn w m (TakeMessage r next) = (heading : Heading) (bytes : List ℕ) (w' : Scene) → FitsOwner q heading → Later p q clients fin w w' → SaidBy w' (next heading bytes) → SaysOn w' m (next heading bytes)
+  SaysOn w m (TakeHome k next) = (n : ℕ) (w' : Scene) → Later p q clients fin w w' → SaidBy w' (next n) → SaysOn w' m (next n)
+  SaysOn w m (PutHome k n after) = (w' : Scene) → Later p q clients fin w w' → SaidBy w' after → SaysOn w' m after
+  SaysOn w m (PutBytes k asked bytes next) = (answer : Put) (w' : Scene) → Later p q clients fin w w' → SaidBy w' (next answer) → SaysOn w' m (next answer)
+  SaysOn w m (AskReady k next) = (answer : Ready) (w' : Scene) → Later p q clients fin w w' → SaidBy w' (next answer) → SaysOn w' m (next answer)
+  SaysOn w m (Write v after) = IsFree m × FitsWriting q v × ((w' : Scene) (m' : Mark) → Later p q clients fin w w' → SaidBy w' after → Again m m' → SaysOn w' m' after)
+  SaysOn w m (Aside step next) = MayAside w m step × ((found : Found step) (w' : Scene) (m' : Mark) → Later p q clients fin w w' → SaidBy w' (next found) → Moves w' m step found m' → Shows w' step found × SaysOn w' m' (next found))
+  SaysOn w m (Round head next) = AtHead w m head × ((exit : Exit head) (w' : Scene) (m' : Mark) → Later p q clients fin w w' → SaidBy w' (next exit) → Leaves' w' m head exit m' → Yields w' head exit × SaysOn w' m' (next exit))
   SaysOn w m (Keep r next) = SaysOn w m next
-  SaysOn w m (Retries requests after) = IsFree m × ((w' : Scene) (m' : Mark) → Later p q clients w w' → SaidBy w' after → Again m m' → SaysOn w' m' after)
+  SaysOn w m (Retries requests after) = IsFree m × ((w' : Scene) (m' : Mark) → Later p q clients fin w w' → SaidBy w' after → Again m m' → SaysOn w' m' after)

@@ -45,6 +45,15 @@ abbrev pub In : {A : Type 0} → A → List A → Type 0
 In x [] = ⊥
 In x (y ∷ ys) = (x ≡ y) ⊎ In x ys
 
+-- x was added to the list directly behind y
+abbrev pub IsFirst : {A : Type 0} → A → List A → Type 0
+IsFirst y [] = ⊥
+IsFirst y (z ∷ zs) = z ≡ y
+
+abbrev pub IsOver : {A : Type 0} → A → A → List A → Type 0
+IsOver x y [] = ⊥
+IsOver x y (z ∷ zs) = ((z ≡ x) × IsFirst y zs) ⊎ IsOver x y zs
+
 abbrev pub Said : Scene → ℕ → Outcome → Type 0
 Said w o x = In (record { number = o; outcome = x }) w.sayings
 
@@ -84,10 +93,10 @@ SeeksName n (ops.Send m bytes) = m ≡ n
 SeeksName n (ops.Call asked) = name_of asked 0 ≡ n
 SeeksName n other = ⊥
 
-module _ (p : Plan) (q : IdPlan) (clients : List (List Task)) where
+module _ (p : Plan) (q : IdPlan) (clients : List (List Task)) (fin : ℕ → List ℕ) where
   -- the name had a socket
   abbrev pub Named : Scene → ℕ → Type 0
-  Named w n = slice_index w.core.words (name_word p n) ≢ 0
+  Named w n = (n < p.names) × (slice_index w.core.words (name_word p n) ≢ 0)
 
   -- the word of the call was stored
   abbrev pub Begun : Scene → ℕ → Type 0
@@ -163,9 +172,14 @@ module _ (p : Plan) (q : IdPlan) (clients : List (List Task)) where
   WhyOwn w c before (ops.Fail n code) other = Named w n
   WhyOwn w c before (ops.Drop n) other = Unit {0}
 
+  -- an `expire` that was told that it ended the call said the call's outcome directly before
+  abbrev pub IsJust : Scene → ℕ → Op → Outcome → Type 0
+  IsJust w o op Expired = (t id : ℕ) × (op ≡ ops.Expire t) × IsOver (record { number = o; outcome = Expired }) (record { number = t; outcome = CallFailed id 1008 }) w.sayings
+  IsJust w o op other = Unit {0}
+
   -- what became of a task of client c that is done, behind these tasks
   pub data ToldOf (w : Scene) (c : ℕ) (before : List Task) (t : Task) : Type 0 where
-    was_said : (x : Outcome) → Said w t.number x → WhyOwn w c before t.op x → ToldOf w c before t
+    was_said : (x : Outcome) → Said w t.number x → WhyOwn w c before t.op x → IsJust w t.number t.op x → ToldOf w c before t
     was_sent : (n : ℕ) (bytes : List ℕ) → t.op ≡ ops.Send n bytes → Named w n → ToldOf w c before t
     was_begun : (id : ℕ) (asked : Asked) → t.op ≡ ops.Call asked → t.number ≡ asked.operation → IsBorn w id asked → Begun w t.number → Named w (name_of asked 0) → ToldOf w c before t
 
@@ -183,6 +197,7 @@ module _ (p : Plan) (q : IdPlan) (clients : List (List Task)) where
   -- what happened lasts; an id is that of one call, and there are as many id slots as calls
   pub record Later (w w' : Scene) : Type 0 where
     pub said : (o : ℕ) (x : Outcome) → Said w o x → Said w' o x
+    pub over : (a b : Saying) → IsOver a b w.sayings → IsOver a b w'.sayings
     pub named : (n : ℕ) → Named w n → Named w' n
     pub begun : (o : ℕ) → Begun w o → Begun w' o
     pub born : (id : ℕ) (asked : Asked) → IsBorn w id asked → IsBorn w' id asked

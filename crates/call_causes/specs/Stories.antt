@@ -15,9 +15,9 @@ use Rattle.sock_programs.specs.declared.task.Task.{Task}
 use Rattle.sock_programs.specs.Asides.{Step, ClaimId, PutCall, MakeId, StoreCall, LoadCall, StoreAt, LoadIdWord, LockId, PostId, UnlockId, EndId, FreeId, TakeCall, TakeBytes, Found, call_id, id_slot, id_first}
 use Rattle.sock_programs.specs.Beside.{calls_after}
 use Rattle.sock_programs.specs.Posts.{advance_of}
-use Rattle.sock_programs.specs.Cores.{SeatState}
+use Rattle.sock_programs.specs.Cores.{Core, SeatState}
 use Rattle.call_causes.specs.Lists.{given}
-use Rattle.call_causes.specs.Scenes.{Birth, Claim, Saying, Scene, In, Said, IsBorn, IsOther, CauseOf, Begun, IsTaskOf, WhyEnded, AreTold, IsClaimed}
+use Rattle.call_causes.specs.Scenes.{Birth, Claim, Saying, Scene, In, IsOver, Said, IsBorn, IsOther, CauseOf, Begun, IsTaskOf, WhyEnded, AreTold, IsClaimed}
 use Rattle.call_causes.specs.Says.{Slot, NoSlot, Claims, Locked, Holds, Leaves, Mark, with_slot, with_owed, with_made, with_done, put_in, taken_out, given_more, SaysOn}
 
 abbrev pub At : List Mark → ℕ → Mark → Type 0
@@ -77,7 +77,7 @@ abbrev pub AllApart : List Birth → Type 0
 AllApart [] = Unit {0}
 AllApart (b ∷ bs) = AllByRecursion (AreApart b) bs × AllApart bs
 
-module _ (p : Plan) (q : IdPlan) (clients : List (List Task)) where
+module _ (p : Plan) (q : IdPlan) (clients : List (List Task)) (fin : ℕ → List ℕ) where
   pub record BirthsLaw (w : Scene) : Type 0 where
     -- each was in its slot, or is, and each range that hasn't ended was made
     pub born : (b : Birth) → In b w.births → (id_slot b.id < q.slots) × (2 ≤ b.asked.range) × (b.asked.range ≤ 8) × (HasPassed w b ⊎ IsCurrent w b)
@@ -88,7 +88,7 @@ module _ (p : Plan) (q : IdPlan) (clients : List (List Task)) where
     pub homes : (i : ℕ) (asked : Asked) → i < q.slots → 0 < (word_at w i).state → LiesAt w i asked → IsBorn w (call_id i (word_at w i).first) asked
     -- each error that waits has its cause, and each code of a socket is that of an error
     pub errors : (i : ℕ) → i < q.slots → 0 < (word_at w i).state
-        → ((word_at w i).oldest ≢ 0 → CauseOf p q clients w (call_id i (word_at w i).first) (word_at w i).oldest) × ((word_at w i).second ≢ 0 → CauseOf p q clients w (call_id i (word_at w i).first) (word_at w i).second)
+        → ((word_at w i).oldest ≢ 0 → CauseOf p q clients fin w (call_id i (word_at w i).first) (word_at w i).oldest) × ((word_at w i).second ≢ 0 → CauseOf p q clients fin w (call_id i (word_at w i).first) (word_at w i).second)
     pub codes : (i : ℕ) → i < p.slots → slice_index w.core.words (code_word i) ≢ 0 → IsOther (slice_index w.core.words (code_word i))
 
   -- ## Tasks, and what is said
@@ -116,22 +116,28 @@ module _ (p : Plan) (q : IdPlan) (clients : List (List Task)) where
   abbrev pub IsOwed : List Mark → Birth → Type 0
   IsOwed ms b = (j : ℕ) × (m : Mark) × At ms j m × (m.owes ≡ b ∷ [])
 
+  -- of no operation two outcomes are said
+  abbrev pub AreOnce : List Saying → Type 0
+  AreOnce [] = Unit {0}
+  AreOnce (s ∷ ss) = ((x : Outcome) → In (record { number = s.number; outcome = x }) ss → ⊥) × AreOnce ss
+
   -- with these outcomes, by what was said of them
   pub record TasksLaw (w : Scene) (os : List (Option Outcome)) (ss : List Saying) (ms : List Mark) : Type 0 where
     pub client : (j : ℕ) (m : Mark) → At ms j m → m.client ≡ j
     pub placed : (j : ℕ) (m : Mark) → At ms j m → undo m.done m.todo ≡ slice_index_or clients j []
-    pub told : (j : ℕ) (m : Mark) → At ms j m → AreTold p q clients w m.client m.done
+    pub told : (j : ℕ) (m : Mark) → At ms j m → AreTold p q clients fin w m.client m.done
     -- each id is one of a call that a client began, and each word of a call is such an id
     pub begun : (b : Birth) → In b w.births → (j : ℕ) × (m : Mark) × (t : Task) × At ms j m × IsBegunBy m b t
     pub made : (j : ℕ) (m : Mark) (b : Birth) → At ms j m → m.makes ≡ b ∷ [] → In b w.births
-    pub called : (o : ℕ) → o < q.operations → Begun p q clients w o → (b : Birth) × In b w.births × (b.id ≡ slice_index w.core.calls.words (call_word q o)) × (b.asked.operation ≡ o) × (j : ℕ) × (m : Mark) × (t : Task) × At ms j m × In t m.done × (t.op ≡ ops.Call b.asked) × (t.number ≡ o)
+    pub called : (o : ℕ) → o < q.operations → Begun p q clients fin w o → (b : Birth) × In b w.births × (b.id ≡ slice_index w.core.calls.words (call_word q o)) × (b.asked.operation ≡ o) × (j : ℕ) × (m : Mark) × (t : Task) × At ms j m × In t m.done × (t.op ≡ ops.Call b.asked) × (t.number ≡ o)
     -- what was said is there, and nothing else
     pub said : (o : ℕ) (x : Outcome) → In (record { number = o; outcome = x }) ss → slice_get os o ≡ Some (Some x)
     pub outcomes : (o : ℕ) (x : Outcome) → slice_get os o ≡ Some (Some x) → In (record { number = o; outcome = x }) ss
+    pub once : AreOnce ss
     pub fresh : (j : ℕ) (m : Mark) (t : Task) → At ms j m → In t (ahead m.makes m.todo) → IsUntold os t.number
     -- of a range that hasn't ended nothing is said, and of one that has its outcome, or a seat is to say it
     pub untold : (b : Birth) → In b w.births → IsCurrent w b ⊎ IsOwed ms b → IsUntold os b.asked.operation
-    pub ended : (b : Birth) → In b w.births → HasPassed w b → ((x : Outcome) × Said w b.asked.operation x × WhyEnded p q clients w b x) ⊎ IsOwed ms b
+    pub ended : (b : Birth) → In b w.births → HasPassed w b → ((x : Outcome) × Said w b.asked.operation x × WhyEnded p q clients fin w b x) ⊎ IsOwed ms b
     pub owed : (j : ℕ) (m : Mark) (b : Birth) → At ms j m → m.owes ≡ b ∷ [] → In b w.births × HasPassed w b
     pub owed_once : (j l : ℕ) (m n : Mark) (b : Birth) → At ms j m → At ms l n → m.owes ≡ b ∷ [] → n.owes ≡ b ∷ [] → j ≡ l
 
@@ -145,13 +151,14 @@ module _ (p : Plan) (q : IdPlan) (clients : List (List Task)) where
   -- each slot that is taken was claimed for a call, and no call claims twice
   pub record ClaimsLaw (w : Scene) (ms : List Mark) : Type 0 where
     pub taken : (i : ℕ) → i < q.slots → tag_at w i ≢ 0 → (o : ℕ) × IsClaimed w i o
-    pub calls : (c : Claim) → In c w.claims → (client : ℕ) × (t : Task) × (asked : Asked) × IsTaskOf p q clients client t × (t.op ≡ ops.Call asked) × (t.number ≡ c.operation)
+    pub calls : (c : Claim) → In c w.claims → (client : ℕ) × (t : Task) × (asked : Asked) × IsTaskOf p q clients fin client t × (t.op ≡ ops.Call asked) × (t.number ≡ c.operation)
     pub once : (a b : Claim) → In a w.claims → In b w.claims → a.operation ≡ b.operation → a ≡ b
     pub free : (j : ℕ) (m : Mark) (t : Task) → At ms j m → In t (unclaimed m.slot m.makes m.todo) → (i : ℕ) → IsClaimed w i t.number → ⊥
 
   pub record ReadsLaw (w : Scene) (ms : List Mark) : Type 0 where
     pub bytes : (j k : ℕ) (m : Mark) → At ms j m → m.link ≡ k ∷ [] → given w.core k ≡ m.bytes
     pub tied : (j k : ℕ) (m : Mark) → At ms j m → m.link ≡ k ∷ [] → j ≡ 32 + k
+    pub inside : (j k : ℕ) (m : Mark) → At ms j m → m.link ≡ k ∷ [] → k < length w.core.calls.gave
 
   -- ## What a step aside makes of them
 
@@ -206,6 +213,7 @@ module _ (p : Plan) (q : IdPlan) (clients : List (List Task)) where
     pub births : w'.births ≡ births_after step found m w.births
     pub claims : w'.claims ≡ claims_after step found m w.claims
     pub sayings : (s : Saying) → In s w.sayings → In s w'.sayings
+    pub overs : (a b : Saying) → IsOver a b w.sayings → IsOver a b w'.sayings
 
   -- ## What the rule of the ids says of a step
 
@@ -244,4 +252,11 @@ module _ (p : Plan) (q : IdPlan) (clients : List (List Task)) where
     pub tasks : TasksLaw w w.core.outcomes w.sayings ms
     pub claims : ClaimsLaw w ms
     pub reads : ReadsLaw w ms
-    pub seats : (j : ℕ) (seat : SeatState) (m : Mark) → get_elem? w.core.seats j ≡ core.some seat → At ms j m → SaysOn p q clients w m seat.program
+    pub seats : (j : ℕ) (seat : SeatState) (m : Mark) → get_elem? w.core.seats j ≡ core.some seat → At ms j m → SaysOn p q clients fin w m seat.program
+
+  -- the story of a core
+  pub record HasStory (c : Core) : Type 0 where
+    pub scene : Scene
+    pub marks : List Mark
+    pub is : scene.core ≡ c
+    pub story : CallStory scene marks

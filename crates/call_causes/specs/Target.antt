@@ -1,14 +1,15 @@
 -- Why each `call`, `expire` and `join` has its outcome: what a run with calls tells of them.
-use Rattle.std.specs.Prelude.{ℕ, ◌≡◌, ◌≢◌, ◌+◌, ◌≤◌, ◌⊎◌, List, Option}
+use Rattle.std.specs.Prelude.{ℕ, ◌≡◌, ◌≢◌, ◌+◌, ◌≤◌, ◌⊎◌, List, Option, pos}
 use Rattle.sock_words.specs.declared.plain.Plan.{Plan}
 use Rattle.sock_words.specs.declared.outcome.Outcome.{Outcome}
-use Rattle.sock_words.specs.declared.outcome.Outcome.TheVariants.{Expired}
-use Rattle.sock_message.specs.Asked.{Asked}
+use Rattle.sock_words.specs.declared.outcome.Outcome.TheVariants.{Unopened, Answered, Peer, CallFailed, Expired, Queued}
+use Rattle.brpc_model.specs.Frame.{Frame}
+use Rattle.sock_message.specs.Asked.{Asked, name_of}
 use Rattle.sock_programs.specs.declared.task.Op.{Op}
 use Rattle.sock_programs.specs.declared.task.Op.TheVariants as ops
 use Rattle.sock_programs.specs.declared.task.Task.{Task}
 use Rattle.sock_programs.specs.Told.{IsTask, Became}
-use Rattle.sock_programs.specs.ToldCalls.{Fixed, Order, ShowsId, Why}
+use Rattle.sock_programs.specs.ToldCalls.{Fixed, Order, FoundNone, HasCode, IsAnsweredBy, IsExpiredWith, IsPosted, ShowsId, Why, WhyExpire, WhyJoin}
 
 abbrev pub IsOnCalls : Op → Type 0
 IsOnCalls (ops.Call asked) = Unit {0}
@@ -25,3 +26,33 @@ pub record ToldOnCalls (p : Plan) (clients : List (List Task)) (outcomes : List 
   -- no two calls have a version in common
   pub versions : (c d : ℕ) (t u : Task) (a b : Asked) (x y : Outcome) (i j : ℕ) → IsTask clients outcomes c t → IsTask clients outcomes d u → t.op ≡ ops.Call a → u.op ≡ ops.Call b → Became clients outcomes t.number x → Became clients outcomes u.number y
       → ShowsId p clients outcomes fixed gave orders x i → ShowsId p clients outcomes fixed gave orders y j → t.number ≢ u.number → (i + a.range ≤ j) ⊎ (j + b.range ≤ i)
+
+-- ## In part
+
+module _ (p : Plan) (clients : List (List Task)) (outcomes : List (Option Outcome)) (fixed : Fixed) (gave : ℕ → List ℕ) (orders : ℕ → Order) where
+  -- why the call that is operation o, with this id, ended with the code, as far as an `expire` and compressed responses go: any other code is one of those that are posted
+  pub data FailedInPart (o : ℕ) (asked : Asked) (id code : ℕ) : Type 0 where
+    ByExpiry : code ≡ 1008 → IsExpiredWith p clients outcomes fixed gave orders o Expired ⊎ IsExpiredWith p clients outcomes fixed gave orders o Queued → FailedInPart o asked id code
+    ByCompression : code ≡ 2002 → IsAnsweredBy p clients outcomes fixed gave orders asked id (λ frame. frame.meta.compress_type ≢ pos 0) → FailedInPart o asked id code
+    ByOther : code ≢ 1008 → IsPosted p clients outcomes fixed gave orders code → FailedInPart o asked id code
+
+  abbrev pub WhyCallInPart : ℕ → ℕ → Asked → Outcome → Type 0
+  WhyCallInPart c o asked Unopened = FoundNone p clients outcomes fixed gave orders c o (name_of asked 0)
+  WhyCallInPart c o asked (Answered id payload attachment) = IsAnsweredBy p clients outcomes fixed gave orders asked id (λ (frame : Frame). HasCode p clients outcomes fixed gave orders (pos 0) frame × (frame.payload ≡ payload) × (frame.attachment ≡ attachment))
+  WhyCallInPart c o asked (Peer id code) = IsAnsweredBy p clients outcomes fixed gave orders asked id (HasCode p clients outcomes fixed gave orders code) × (code ≢ pos 0)
+  WhyCallInPart c o asked (CallFailed id code) = FailedInPart o asked id code
+  WhyCallInPart c o asked other = ⊥
+
+  abbrev pub WhyInPart : (ℕ → ℕ) → ℕ → ℕ → Op → Outcome → Type 0
+  WhyInPart last c o (ops.Call asked) outcome = WhyCallInPart c o asked outcome
+  WhyInPart last c o (ops.Expire t) outcome = WhyExpire p clients outcomes fixed gave orders last c o t outcome
+  WhyInPart last c o (ops.Join t) outcome = WhyJoin p clients outcomes fixed gave orders last c o t outcome
+  WhyInPart last c o op outcome = ⊥
+
+  -- the fields of `ToldOnCalls`, but that `why` tells so much only of a call that failed
+  pub record ToldOnCallsInPart (last : ℕ → ℕ) : Type 0 where
+    pub told : (client : ℕ) (t : Task) → IsTask clients outcomes client t → IsOnCalls t.op → (outcome : Outcome) × Became clients outcomes t.number outcome
+    pub why : (client : ℕ) (t : Task) (outcome : Outcome) → IsTask clients outcomes client t → IsOnCalls t.op → Became clients outcomes t.number outcome → WhyInPart last client t.number t.op outcome
+    pub expired_once : (c d : ℕ) (t u : Task) (o : ℕ) → IsTask clients outcomes c t → IsTask clients outcomes d u → t.op ≡ ops.Expire o → u.op ≡ ops.Expire o → Became clients outcomes t.number Expired → Became clients outcomes u.number Expired → t.number ≡ u.number
+    pub versions : (c d : ℕ) (t u : Task) (a b : Asked) (x y : Outcome) (i j : ℕ) → IsTask clients outcomes c t → IsTask clients outcomes d u → t.op ≡ ops.Call a → u.op ≡ ops.Call b → Became clients outcomes t.number x → Became clients outcomes u.number y
+        → ShowsId p clients outcomes fixed gave orders x i → ShowsId p clients outcomes fixed gave orders y j → t.number ≢ u.number → (i + a.range ≤ j) ⊎ (j + b.range ≤ i)

@@ -1,0 +1,109 @@
+-- Where a run has ended: why each call has its outcome, of a failed one as far as an `expire` and compressed responses go.
+use Rattle.std.proofs.Common.{◌≡◌, ◌≢◌, ℕ, ◌+◌, ◌<◌, ◌≤◌, ◌⊎◌, inl, inr, ⊎_elim, List, [], ◌∷◌, length, get_or, slice_get, Option, None, Some, Contains, refl, sym, ap, ◌∙◌, subst, arith}
+use Rattle.std.specs.Prelude.{pos}
+use Rattle.sock_words.specs.declared.plain.Plan.{Plan}
+use Rattle.sock_words.specs.declared.outcome.Outcome.{Outcome}
+use Rattle.sock_words.specs.declared.outcome.Outcome.TheVariants as outcomes
+use Rattle.brpc_model.specs.Frame.{Frame}
+use Rattle.corr_core.specs.declared.marks.Plan.{Plan as IdPlan}
+use Rattle.sock_message.specs.Asked.{Asked, name_of}
+use Rattle.sock_programs.specs.declared.task.Op.{Op}
+use Rattle.sock_programs.specs.declared.task.Op.TheVariants as ops
+use Rattle.sock_programs.specs.declared.task.Task.{Task}
+use Rattle.sock_programs.specs.Told.{IsTask, Became, OpensNone}
+use Rattle.sock_programs.specs.ToldCalls.{Fixed, Order, FoundNone, Seeks, HasCode, IsExpiredWith}
+use Rattle.call_causes.specs.Lists.{given}
+use Rattle.call_causes.specs.Target.{IsOnCalls, FailedInPart, ByExpiry, ByCompression, ByOther, WhyCallInPart, WhyInPart}
+use Rattle.call_causes.specs.Scenes.{Birth, Scene, In, IsOther, IsOpened, SeeksName, IsTaskOf, HasNoneOf, NoneFound, FailedIn, by_expiry, by_compression, by_other, WhyEnded, WhyOwn, ToldOf, was_said, was_sent, was_begun}
+use Rattle.call_causes.specs.Says.{Mark}
+use Rattle.call_causes.proofs.End.{HasEnded, one_outcome, call_of, answered, contains_in}
+use Rattle.call_causes.proofs.Whys.{AreAscending, IsDone, is_done, in_contains, posted, why_expire, why_join}
+
+not_expired : (code : ℕ) → IsOther code → code ≢ 1008
+not_expired code (inl is) e = omega (arith, is, e)
+not_expired code (inr (inl is)) e = omega (arith, is, e)
+not_expired code (inr (inr (inl is))) e = omega (arith, is, e)
+not_expired code (inr (inr (inr (inl is)))) e = omega (arith, is, e)
+not_expired code (inr (inr (inr (inr is)))) e = let low = is.0 in omega (arith, low, e)
+
+module _ (p : Plan) (q : IdPlan) (clients : List (List Task)) (fin : ℕ → List ℕ) (ascending : (c : ℕ) → AreAscending (get_or clients c [])) (w : Scene) (ms : List Mark) (e : HasEnded p q clients fin w ms) (fixed : Fixed) (orders : ℕ → Order) where
+  abbrev os : List (Option Outcome)
+  os = w.core.outcomes
+
+  is_task : (c : ℕ) (t : Task) → IsTask clients w.core.outcomes c t → IsTaskOf p q clients fin c t
+  is_task c t is = (is.0, is.1, contains_in is.0 t is.2.0 is.2.1 is.2.2)
+
+  opens_none : (n : ℕ) (t : Task) → HasNoneOf p q clients fin w n t → OpensNone clients w.core.outcomes n t
+  opens_none n t h k slot version op became = let x = h k op in x.2 (subst IsOpened (one_outcome p q clients fin w ms e t.number (outcomes.Opened slot version k) x.0 became (e.tasks.said t.number x.0 x.1)) tt)
+
+  seeks : (n : ℕ) (op : Op) → Seeks p clients w.core.outcomes fixed (given w.core) orders n op → SeeksName n op
+  seeks n (ops.Fail m code) s = s
+  seeks n (ops.Hold m) s = s
+  seeks n (ops.Send m bytes) s = s
+  seeks n (ops.Call asked) s = s
+  seeks n (ops.Open m k) s = absurd s
+  seeks n (ops.Expire t) s = absurd s
+  seeks n (ops.Join t) s = absurd s
+  seeks n (ops.Drop m) s = absurd s
+
+  found_none : (c : ℕ) (t : Task) (d : IsDone p q clients fin ascending w ms e c t) (n : ℕ) → NoneFound p q clients fin w d.before n → FoundNone p clients w.core.outcomes fixed (given w.core) orders c t.number n
+  found_none c t d n f = record {
+    setup = λ u is. opens_none n u (f.setup u (is_task 0 u is));
+    own = λ u is low. let x = f.own u (d.all u is low) in (opens_none n u x.0, (λ s. e.tasks.said u.number outcomes.Unopened (x.1 (seeks n u.op s))));
+  }
+
+  expired_with : (asked : Asked) (o : ℕ) (x : Outcome) (client : ℕ) (t : Task) → o ≡ asked.operation → IsTaskOf p q clients fin client t → t.op ≡ ops.Expire asked.operation → In (record { number = t.number; outcome = x }) w.sayings → IsExpiredWith p clients w.core.outcomes fixed (given w.core) orders o x
+  expired_with asked o x client t own is op said = (client, t, (is.0, is.1, in_contains is.0 t is.2), op ∙ ap (λ n. ops.Expire n) (sym own), e.tasks.said t.number x said)
+
+  failed_by : (asked : Asked) (o id code : ℕ) → o ≡ asked.operation → FailedIn p q clients fin w id asked code → FailedInPart p clients w.core.outcomes fixed (given w.core) orders o asked id code
+  failed_by asked o id code own (by_expiry is x) = ByExpiry is (⊎_elim (λ s. inl (expired_with asked o outcomes.Expired x.0 x.1 own x.2 x.3 s)) (λ s. inr (expired_with asked o outcomes.Queued x.0 x.1 own x.2 x.3 s)) x.4)
+  failed_by asked o id code own (by_compression is x) = ByCompression is (answered p q clients fin w ms e fixed orders id asked (λ frame. frame.meta.compress_type ≢ pos 0) x)
+  failed_by asked o id code own (by_other x) = ByOther (not_expired code x) (posted p q clients fin ascending w ms e fixed orders code (inr x))
+
+  ended_by : (c o id : ℕ) (asked : Asked) (x : Outcome) → o ≡ asked.operation → WhyEnded p q clients fin w (record { id = id; asked = asked }) x → WhyCallInPart p clients w.core.outcomes fixed (given w.core) orders c o asked x
+  ended_by c o id asked (outcomes.Answered i payload attachment) own why = subst (λ n. WhyCallInPart p clients w.core.outcomes fixed (given w.core) orders c o asked (outcomes.Answered n payload attachment)) (sym why.0)
+      (answered p q clients fin w ms e fixed orders id asked (λ (frame : Frame). HasCode p clients w.core.outcomes fixed (given w.core) orders (pos 0) frame × (frame.payload ≡ payload) × (frame.attachment ≡ attachment)) why.1)
+  ended_by c o id asked (outcomes.Peer i code) own why = subst (λ n. WhyCallInPart p clients w.core.outcomes fixed (given w.core) orders c o asked (outcomes.Peer n code)) (sym why.0) (answered p q clients fin w ms e fixed orders id asked (HasCode p clients w.core.outcomes fixed (given w.core) orders code) why.1, why.2)
+  ended_by c o id asked (outcomes.CallFailed i code) own why = subst (λ n. FailedInPart p clients w.core.outcomes fixed (given w.core) orders o asked n code) (sym why.0) (failed_by asked o id code own why.1)
+  ended_by c o id asked _ own why = absurd why
+
+  own_by : (c : ℕ) (t : Task) (d : IsDone p q clients fin ascending w ms e c t) (asked : Asked) (x : Outcome) → WhyOwn p q clients fin w c d.before (ops.Call asked) x → WhyCallInPart p clients w.core.outcomes fixed (given w.core) orders c t.number asked x
+  own_by c t d asked outcomes.Unopened why = found_none c t d (name_of asked 0) why
+  own_by c t d asked _ why = absurd why
+
+  -- why each call has its outcome
+  pub why_call : (c : ℕ) (t : Task) (asked : Asked) (x : Outcome) → IsTask clients w.core.outcomes c t → t.op ≡ ops.Call asked → Became clients w.core.outcomes t.number x → WhyCallInPart p clients w.core.outcomes fixed (given w.core) orders c t.number asked x
+  why_call c t asked x is op has = let d = is_done p q clients fin ascending w ms e c t is in by_told d d.told
+    where
+      by_told : (d : IsDone p q clients fin ascending w ms e c t) → ToldOf p q clients fin w c d.before t → WhyCallInPart p clients w.core.outcomes fixed (given w.core) orders c t.number asked x
+      by_told d (was_said y s why just) = own_by c t d asked x (subst (λ o. WhyOwn p q clients fin w c d.before o x) op (subst (WhyOwn p q clients fin w c d.before t.op) (one_outcome p q clients fin w ms e t.number y x (e.tasks.said t.number y s) has) why))
+      by_told d (was_sent n bytes sent named) = absurd (let z : ops.Send n bytes ≡ ops.Call asked = sym sent ∙ op in cc)
+      by_told d (was_begun id a call own born begun named) = ⊎_elim
+          (λ z. own_call z.0 z.1)
+          (λ z. ended_by c t.number z.0 asked x z.3 z.2)
+          (call_of p q clients fin w ms e c t asked x is op has)
+        where
+          -- of a call that had an id nothing else is said
+          own_call : (before : List Task) → WhyOwn p q clients fin w c before (ops.Call asked) x → WhyCallInPart p clients w.core.outcomes fixed (given w.core) orders c t.number asked x
+          own_call before why = by_outcome x why has
+            where
+              ends : (y : Outcome) × Became clients w.core.outcomes a.operation y × WhyEnded p q clients fin w (record { id = id; asked = a }) y
+              ends = Rattle.call_causes.proofs.End.ended_call p q clients fin w ms e (record { id = id; asked = a }) born
+
+              by_outcome : (y : Outcome) → WhyOwn p q clients fin w c before (ops.Call asked) y → Became clients w.core.outcomes t.number y → WhyCallInPart p clients w.core.outcomes fixed (given w.core) orders c t.number asked x
+              by_outcome outcomes.Unopened why has = absurd (subst (WhyEnded p q clients fin w (record { id = id; asked = a })) (one_outcome p q clients fin w ms e a.operation ends.0 outcomes.Unopened ends.1 (subst (λ o. Became clients w.core.outcomes o outcomes.Unopened) own has)) ends.2)
+              by_outcome _ why has = absurd why
+
+  -- why each task on calls has its outcome
+  pub why : (last : ℕ → ℕ) (c : ℕ) (t : Task) (x : Outcome) → IsTask clients w.core.outcomes c t → IsOnCalls t.op → Became clients w.core.outcomes t.number x → WhyInPart p clients w.core.outcomes fixed (given w.core) orders last c t.number t.op x
+  why last c t x is on has = by_op t.op refl on
+    where
+      by_op : (op : Op) → t.op ≡ op → IsOnCalls op → WhyInPart p clients w.core.outcomes fixed (given w.core) orders last c t.number op x
+      by_op (ops.Call asked) e on = why_call c t asked x is e has
+      by_op (ops.Expire o) op on = why_expire p q clients fin ascending w ms e fixed orders last c t is o x op has
+      by_op (ops.Join o) op on = why_join p q clients fin ascending w ms e fixed orders last c t is o x op has
+      by_op (ops.Open n k) op on = absurd on
+      by_op (ops.Send n bytes) op on = absurd on
+      by_op (ops.Hold n) op on = absurd on
+      by_op (ops.Drop n) op on = absurd on
+      by_op (ops.Fail n code) op on = absurd on

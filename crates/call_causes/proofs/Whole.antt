@@ -1,0 +1,51 @@
+-- In a whole run of a script with calls the story of the calls has ended, so that each task on calls is told.
+use Rattle.std.proofs.Common.{◌≡◌, ℕ, ◌+◌, ◌<◌, ◌≤◌, List, length, get_or, sym, ap, ◌∙◌, subst, arith}
+use Rattle.std.specs.List.{AllByRecursion}
+use Rattle.brpc_model.specs.Items.{Item}
+use Rattle.brpc_model.specs.Operations.{Turn}
+use Rattle.corr_core.specs.Word.{Parts, parts}
+use Rattle.id_rule.specs.Lawful.{id_word}
+use Rattle.sock_programs.specs.Cores.{Core}
+use Rattle.sock_programs.specs.Tasks.{opens, plan_of, id_plan_of}
+use Rattle.sock_programs.specs.Scripts.{all_tasks, IsRunWithCalls}
+use Rattle.sock_programs.specs.ToldCalls.{Fixed, Order}
+use Rattle.sock_runs.specs.Sound.{AllRest}
+use Rattle.joint_runs.proofs.Runs.{AreMade}
+use Rattle.report_fits.proofs.Reading.{InRange}
+use Rattle.report_fits.proofs.Targets.{AreThere}
+use Rattle.owed_calls.specs.Lives.{ClosesInRun}
+use Rattle.owed_calls.proofs.Known.{run_all_ended, run_all_rest}
+use Rattle.call_causes.specs.Lists.{given}
+use Rattle.call_causes.specs.Target.{ToldOnCallsInPart}
+use Rattle.call_causes.specs.Scenes.{Scene}
+use Rattle.call_causes.specs.Stories.{HasStory}
+use Rattle.call_causes.proofs.End.{HasEnded, told, versions}
+use Rattle.call_causes.proofs.CallWhys.{why}
+use Rattle.call_causes.proofs.Once.{expired_once}
+use Rattle.call_causes.proofs.Scripts.{are_numbered, are_ascending, have_slots, begins}
+use Rattle.call_causes.proofs.Run.{run_story, many_seats}
+use Rattle.call_causes.proofs.Over.{has_ended}
+
+module _ (script : List Item) (made : AreMade script) (there : AreThere script) (range : AllByRecursion InRange script) (turns : List Turn) (core : Core) (is : IsRunWithCalls script turns core) (fin : ℕ → List ℕ) where
+  -- whatever the schedule, the story of the calls goes on up to the end of the run
+  pub run_has_story : HasStory (plan_of script) (id_plan_of script) (all_tasks script) fin core
+  run_has_story = run_story script made fin (are_numbered script made there range fin) (have_slots script made there range fin) (begins script made there range fin) turns core is
+
+  module _ (closes : ClosesInRun script turns core is) where
+    -- and has ended there, where a link answers that it is closed only where its writing half is finished
+    pub run_has_ended : HasEnded (plan_of script) (id_plan_of script) (all_tasks script) fin run_has_story.scene run_has_story.marks
+    run_has_ended = let h = run_has_story in has_ended (plan_of script) (id_plan_of script) (all_tasks script) fin h.scene h.marks h.story
+        (subst AllRest (sym h.is) (run_all_rest script made turns core is closes))
+        (λ i inside. subst (λ (d : Core). (parts (get_or d.calls.words (id_word i) 0)).state ≡ 0) (sym h.is) (run_all_ended script made turns core is closes i inside))
+        (let many = ap (λ (d : Core). length d.seats) h.is ∙ many_seats script made fin (are_numbered script made there range fin) (have_slots script made there range fin) (begins script made there range fin) turns core is in let seats = made.seats in let few = made.few_clients in omega (arith, many, seats, few))
+
+    module _ (fixed : Fixed) (orders : ℕ → Order) (last : ℕ → ℕ) where
+      -- each `call`, `expire` and `join` has an outcome and its cause; of a call that failed only so much is told: with 1008 that an `expire` did it, with 2002 that a response was
+      -- compressed, or else that the code is one of those that are posted
+      pub run_told_in_part : ToldOnCallsInPart (plan_of script) (all_tasks script) core.outcomes fixed (given core) orders last
+      run_told_in_part = let h = run_has_story in let e = run_has_ended in subst (λ (d : Core). ToldOnCallsInPart (plan_of script) (all_tasks script) d.outcomes fixed (given d) orders last) h.is (record {
+        told = told (plan_of script) (id_plan_of script) (all_tasks script) fin h.scene h.marks e;
+        why = why (plan_of script) (id_plan_of script) (all_tasks script) fin (are_ascending script made there range fin) h.scene h.marks e fixed orders last;
+        expired_once = expired_once (plan_of script) (id_plan_of script) (all_tasks script) fin (are_ascending script made there range fin) h.scene h.marks e;
+        versions = versions (plan_of script) (id_plan_of script) (all_tasks script) fin h.scene h.marks e;
+      })
