@@ -4,3 +4,11 @@ pub mod Ticks
 pub mod Runs
 pub mod Apart
 pub mod Whole
+pub mod Labelled
+pub mod Faults
+pub mod Takeless
+pub mod Closers
+pub mod Readings
+pub mod ReaderRuns
+pub mod Early
+pub mod Places

@@ -14,7 +14,7 @@ use Rattle.sock_model.specs.declared.chain.Heading.{Heading}
 use Rattle.sock_model.specs.declared.home.Home.{Home}
 use Rattle.sock_model.specs.declared.view.View.{View}
 use Rattle.sock_model.specs.Weights.{total}
-use Rattle.slot_laws.proofs.Sums.{total-append, total-set}
+use Rattle.slot_laws.proofs.Sums.{term_le, total-append, total-set}
 use Rattle.corr_core.specs.Word.{parts}
 use Rattle.corr_core.specs.declared.marks.Plan.{Plan as IdPlan}
 use Rattle.id_runs.specs.Held.{IdView, MayId}
@@ -419,15 +419,20 @@ module _ (p : Plan) (q : IdPlan) (narrow : q.slots ≤ 65536) (is_call : Asked �
               );
             })
 
-      stored_ends : (o w : ℕ) (next : ℕ → Program) (found : ℕ) (answer : Option Taking) (is : found_in (StoreAt o w) c.calls answer ≡ some found) (may : MayId p q u (StoreAt o w)) → ((id n k : ℕ) → w ≡ at_word (id_first id) (id_slot id) k n → k < 65535 → n ≤ 6 → (ids o ≡ id) × (id ≢ 0))
+      -- the slot of an id that the seat tries is one of the table
+      tried_low : (id n : ℕ) → t ≡ Tries id n → id_slot id < 65536
+      tried_low id n e = let here : of_trial id n t ≡ 1 = ap (of_trial id n) e ∙ (ap (λ b. cond b (cond (eqb n n) 1 0) 0) (eq-eqb id id refl) ∙ ap (λ b. cond b 1 0) (eq-eqb n n refl)) in
+          let some_ = term_le (of_trial id n) ts i t at_trial in let made = (law.made id n (omega (arith, here, some_))).0 in omega (arith, made, narrow)
+
+      stored_ends : (o w : ℕ) (next : ℕ → Program) (found : ℕ) (answer : Option Taking) (is : found_in (StoreAt o w) c.calls answer ≡ some found) (may : MayId p q u (StoreAt o w)) → ((id n k : ℕ) → w ≡ at_word (id_first id) (id_slot id) k n → k < 65535 → n ≤ 6 → id_slot id < 65536 → (ids o ≡ id) × (id ≢ 0))
           → (x : Trial) → Storing o w t x → Labels is_call x (next found) → After (with_seat i (next found) seat.hand c.words c.homes (record c { calls = calls_after (StoreAt o w) found c.calls })) vs
       stored_ends o w next found answer is may own x (inl e) g = keeps (StoreAt o w) next found answer is may tt x (inr e) g
       stored_ends o w next found answer is may own x (inr s) g = still (StoreAt o w) next found answer is may tt x g
-          (subst (TrialFits ids) (sym s.7) (let y = own s.0 s.1 s.2 s.4 s.5 s.6 in (y.0, y.1, s.6))) (λ id n. (let a : of_trial id n x ≡ pair_of id n s.0 s.1 = ap (of_trial id n) s.7 in let b : of_trial id n t ≡ pair_of id n s.0 s.1 = ap (of_trial id n) s.3 in omega (arith, a, b)))
+          (subst (TrialFits ids) (sym s.7) (let y = own s.0 s.1 s.2 s.4 s.5 s.6 (tried_low s.0 s.1 s.3) in (y.0, y.1, s.6))) (λ id n. (let a : of_trial id n x ≡ pair_of id n s.0 s.1 = ap (of_trial id n) s.7 in let b : of_trial id n t ≡ pair_of id n s.0 s.1 = ap (of_trial id n) s.3 in omega (arith, a, b)))
 
       -- each step aside
       asides : (step : Step) (next : Found step → Program) (found : Found step) (answer : Option Taking) (is : found_in step c.calls answer ≡ some found) (may : MayId p q u step) → Labels is_call t (Aside step next)
-          → ((o w : ℕ) (e : step ≡ StoreAt o w) → (id n k : ℕ) → w ≡ at_word (id_first id) (id_slot id) k n → k < 65535 → n ≤ 6 → (ids o ≡ id) × (id ≢ 0))
+          → ((o w : ℕ) (e : step ≡ StoreAt o w) → (id n k : ℕ) → w ≡ at_word (id_first id) (id_slot id) k n → k < 65535 → n ≤ 6 → id_slot id < 65536 → (ids o ≡ id) × (id ≢ 0))
           → After (with_seat i (next found) seat.hand c.words c.homes (record c { calls = calls_after step found c.calls })) vs
       asides (MakeId k range) next found answer is may g own = let x = g found tt in let f = finds (MakeId k range) next found answer is may tt in let m = makes_new p q c us real_ids i u at k range found is may f in
           makes (MakeId k range) next found answer is may tt (call_id k (parts found).first) 0 (subst (λ y. Labels is_call y (next found)) x.1 x.2) m.0 (m.1 0)
@@ -483,6 +488,6 @@ module _ (p : Plan) (q : IdPlan) (narrow : q.slots ≤ 65536) (is_call : Asked �
         (λ seat v s next found at here is goes found_is. let t = trial_of seat at in let u = view_of seat at in
         asides m.seat seat v t.0 at here t.1 u.0 u.1 s next found (taken m.answer) found_is (may_as seat at (Aside s next) is).0 (first_as seat at (Aside s next) is) (stored_own seat at s next is))
       where
-        stored_own : (seat : SeatState) → get_elem? c.seats m.seat ≡ some seat → (s : Step) (next : Found s → Program) → first_step seat.program ≡ Aside s next → (o w : ℕ) → s ≡ StoreAt o w → (id n k : ℕ) → w ≡ at_word (id_first id) (id_slot id) k n → k < 65535 → n ≤ 6 → (ids o ≡ id) × (id ≢ 0)
-        stored_own seat at (StoreAt o' w') next is o w e = λ id n k x low few. own seat o w next at (is ∙ (let a : o' ≡ o = cc in let b : w' ≡ w = cc in λ z. Aside (StoreAt (a z) (b z)) next)) id n k x low few
+        stored_own : (seat : SeatState) → get_elem? c.seats m.seat ≡ some seat → (s : Step) (next : Found s → Program) → first_step seat.program ≡ Aside s next → (o w : ℕ) → s ≡ StoreAt o w → (id n k : ℕ) → w ≡ at_word (id_first id) (id_slot id) k n → k < 65535 → n ≤ 6 → id_slot id < 65536 → (ids o ≡ id) × (id ≢ 0)
+        stored_own seat at (StoreAt o' w') next is o w e = λ id n k x low few small. own seat o w next at (is ∙ (let a : o' ≡ o = cc in let b : w' ≡ w = cc in λ z. Aside (StoreAt (a z) (b z)) next)) id n k x low few small
         stored_own seat at _ next is o w e = absurd (cc)

@@ -75,7 +75,7 @@ module _ (ids : ℕ → ℕ) where
   -- where a tick stores an at word, it is one of the operation's own call
   abbrev pub StoresOwn : Core → Moment → Type 0
   StoresOwn c m = (seat : SeatState) (o w : ℕ) (next : ℕ → Program) → get_elem? c.seats m.seat ≡ some seat → first_step seat.program ≡ Aside (StoreAt o w) next
-      → (id n k : ℕ) → w ≡ at_word (id_first id) (id_slot id) k n → k < 65535 → n ≤ 6 → (ids o ≡ id) × (id ≢ 0)
+      → (id n k : ℕ) → w ≡ at_word (id_first id) (id_slot id) k n → k < 65535 → n ≤ 6 → id_slot id < 65536 → (ids o ≡ id) × (id ≢ 0)
 
   -- at each of these ticks and behind them the table of the ids is sound, what steps on sockets find is as it relies on, and at words are the operations' own
   abbrev pub AreLabelled : Plan → IdPlan → Core → List Moment → Type 0

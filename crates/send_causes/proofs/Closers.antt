@@ -1,0 +1,334 @@
+-- A reader sets its socket failed only where the reading of its link ended; it exchanges no head, and takes bytes of its own link alone.
+use Rattle.std.proofs.Common.{◌≡◌, ℕ, zero, suc, ◌+◌, ◌-◌, ◌%◌, ◌<◌, ◌≤◌, ◌==◌, ◌&&◌, not, nat_lt, nat_le, ltb-false, Bool, true, false, cond, List, [], ◌∷◌, ◌++◌, length, length-append, append-nil, append_assoc, inl, inr, ⊎_elim, ◌⊎◌, refl, sym, ap, ◌∙◌, subst, arith}
+use Rattle.std.proofs.lemmas.Bool.{true≢false}
+use Rattle.std.proofs.lemmas.List.Concat.{flat_map-append}
+use Rattle.std.specs.Prelude.{Option, Some, None}
+use Rattle.sock_words.specs.Words.{socket_id_version, socket_id_slot, vref_version, vref_nref, at_word_first, at_word_slot, at_word_link, at_word_attempt}
+use Rattle.sock_words.specs.declared.outcome.Outcome.TheVariants.{CallFailed}
+use Rattle.sock_steps.proofs.Quiet.{either_way}
+use Rattle.corr_core.specs.Word.{parts, posted_word, unlocked_word, code_of, error_of}
+use Rattle.corr_core.specs.Law.{LAST}
+use Rattle.brpc_model.specs.Frame.{Frame}
+use Rattle.brpc_model.specs.Stream as streams
+use Rattle.sock_message.specs.Asked.{Asked}
+use Rattle.sock_programs.specs.Calls.{Call, SetOdd, AddRef, SwapHead, GiveBirth, StoreOpen}
+use Rattle.sock_programs.specs.Asides.{Step, Found, TakeBytes, Taking, Bytes, Nothing, NoMore, AtEnd, Closed, Broken, call_id, id_slot, id_first}
+use Rattle.sock_programs.specs.Heads.{Head, Exit, Retry, Sought, Version, Reading, Posts, Unlocks, Decides, Locks, Joins, Opens, Reads, Discards, Posting, WasGone, WasStale, WasCrowded, WasQueued, HasLocked, Unlocking, IsOpen, HasNext, Deciding, HasEnded, GoesOn, Locking, NotThere, Has, Ended}
+use Rattle.sock_programs.specs.Programs.{Program, Do, Say, Sent, Rest, TakeMessage, TakeHome, PutHome, PutBytes, AskReady, Write, Aside, Round, Keep, Retries, LAST_VERSION, NO_SOCKET, recycle, release, address, set_failed}
+use Rattle.sock_programs.specs.Posts.{packed, advance_of, is_first, is_sought, is_stale, is_full, judged, posts_round, post_with, popped, unlocks_round, ends_call, end_id, decide, decided, unlocked, decides_round, locking, locks_round, joins_round}
+use Rattle.sock_programs.specs.Readers.{LIMIT, ending_of, slot_in, version_in, has_response, is_early, answer, answered, responses, last_of, ended_by, read_on, took, reads_round, discarded, discards_round, kept_for, ends_with, posted_last, post_each, thrown_away, read}
+use Rattle.sock_programs.specs.Rounds.{round}
+use Rattle.sock_programs.specs.Cores.{resolved, next_step}
+use Rattle.sock_runs.specs.Sound.{first_step}
+use Rattle.whole_runs.specs.Heard.{bytes_found, given_by, taken_link}
+use Rattle.send_causes.proofs.Faults.{Faults, fault_follows}
+
+-- ## What takes gave
+
+gave_more : (h : List Taking) (bytes : List ℕ) → given_by (h ++ Bytes bytes ∷ []) ≡ given_by h ++ bytes
+gave_more h bytes = flat_map-append bytes_found h (Bytes bytes ∷ []) ∙ ap (λ l. given_by h ++ l) (append-nil bytes)
+
+gave_none : (h : List Taking) (t : Taking) → bytes_found t ≡ [] → given_by (h ++ t ∷ []) ≡ given_by h
+gave_none h t e = flat_map-append bytes_found h (t ∷ []) ∙ ap (λ l. given_by h ++ (l ++ [])) e ∙ append-nil (given_by h)
+
+-- ## Programs
+
+-- of the reader of link k, whose socket has this id: whoever took this may set the socket failed where Odd says so; that nothing more comes is found where Lasts says so
+module _ (k id : ℕ) (Odd : List Taking → Type 0) (Lasts : Type 0) where
+  pub record IsReading (h : List Taking) (r : Reading) : Type 0 where
+    pub link : r.link ≡ k
+    pub own : r.id ≡ id
+    pub total : r.total ≡ length (given_by h)
+    pub tied : (more : List ℕ) → Faults 0 (r.rest ++ more) → Faults 0 (given_by h ++ more)
+
+  abbrev pub EndsSo : List Taking → Ended → Type 0
+  EndsSo h how = (how.closed ≡ false → Odd h) × (how.reading.link ≡ k) × (how.reading.id ≡ id)
+
+  -- behind these takes, where the seat has just got a reference to the life or not
+  abbrev pub Calm : Bool → List Taking → Program → Type 0
+  Calm held h (Do (SetOdd i) next) = (held ≡ true) × Odd h × (i ≡ socket_id_slot id) × ((found : ℕ) → Calm false h (next found))
+  Calm held h (Do (AddRef x) next) = (x ≡ id) × ((found : ℕ) → Calm (vref_version found == socket_id_version id) h (next found))
+  Calm held h (Do (SwapHead i own) next) = ⊥
+  Calm held h (Do (GiveBirth i l) next) = ⊥
+  Calm held h (Do (StoreOpen o w) next) = ⊥
+  Calm held h (Do call next) = (found : ℕ) → Calm false h (next found)
+  Calm held h (Say o outcome next) = Calm held h next
+  Calm held h (Sent o next) = Calm held h next
+  Calm held h Rest = Unit {0}
+  Calm held h (TakeMessage q next) = ⊥
+  Calm held h (TakeHome l next) = ⊥
+  Calm held h (PutHome l n after) = ⊥
+  Calm held h (PutBytes l asked bytes next) = ⊥
+  Calm held h (AskReady l next) = ⊥
+  Calm held h (Write w after) = ⊥
+  Calm held h (Aside (TakeBytes l room) next) = (l ≡ k) × ((t : Taking) → (t ≡ NoMore → Lasts) → Calm false (h ++ t ∷ []) (next t))
+  Calm held h (Aside step next) = (found : Found step) → Calm false h (next found)
+  Calm held h (Round (Opens o) next) = ⊥
+  Calm held h (Round (Reads r) next) = IsReading h r × ((how : Ended) (h' : List Taking) → EndsSo h' how → Calm false h' (next how))
+  Calm held h (Round (Discards l total) next) = (l ≡ k) × ((n : ℕ) (h' : List Taking) → Calm false h' (next n))
+  Calm held h (Round head next) = (exit : Exit head) → Calm false h (next exit)
+  Calm held h (Keep r next) = Calm held h next
+  Calm held h (Retries requests after) = ⊥
+
+  -- ## Parts of programs
+
+  module _ (h : List Taking) where
+    abbrev C : Program → Type 0
+    C = Calm false h
+
+    calm_recycle : (i from : ℕ) (next : Bool → Program) → ((b : Bool) → C (next b)) → C (recycle i from next)
+    calm_recycle i from next after = (λ found. either_way (found == from) _ _ C
+        ((λ k. (λ _. (λ _. (λ _.
+        either_way (nat_le (vref_version from + 1) LAST_VERSION) _ _ C ((λ _. after true)) (after true))))))
+        (after false))
+
+    calm_release : (i : ℕ) (next : Bool → Program) → ((b : Bool) → C (next b)) → C (release i next)
+    calm_release i next after = (λ found. either_way ((vref_version found % 2 == 1) && (vref_nref found == 1)) _ _ C (calm_recycle i (found - 1) next after) (after false))
+
+    calm_judged : (id e found : ℕ) (k : Posting → Program) → ((x : Posting) → C (k x)) → C (judged id e found k)
+    calm_judged id e found k after = either_way (not (is_first (id_first id) (parts found))) _ _ C (after WasGone)
+        (either_way (is_stale e (parts found)) _ _ C (after WasStale)
+        (either_way (is_full (parts found)) _ _ C (after (WasCrowded (code_of (parts found).oldest) (code_of (parts found).second))) (after)))
+
+    calm_posts : (id e from : ℕ) (k : Posting → Program) → ((x : Posting) → C (k x)) → C (posts_round id e from k)
+    calm_posts id e from k after = (λ found. either_way (found == from) _ _ C
+        (either_way ((parts from).state == 1) _ _ C (after (HasLocked (packed (posted_word (parts from) e)))) (after WasQueued)) (calm_judged id e found k after))
+
+    calm_post_with : (id e : ℕ) (k : Posting → Program) → ((x : Posting) → C (k x)) → C (post_with id e k)
+    calm_post_with id e k after = (λ found. calm_judged id e found k after)
+
+    calm_popped : (i oldest word : ℕ) (k : Unlocking → Program) → ((x : Unlocking) → C (k x)) → C (popped i oldest word k)
+    calm_popped i oldest word k after = either_way (oldest == 0) _ _ C (after (IsOpen word)) (either_way (is_stale oldest (parts word)) _ _ C (after) (after (HasNext word oldest)))
+
+    calm_unlocks : (i from : ℕ) (advance : Bool) (k : Unlocking → Program) → ((x : Unlocking) → C (k x)) → C (unlocks_round i from advance k)
+    calm_unlocks i from advance k after = (λ found. either_way (found == from) _ _ C
+        (calm_popped i (parts from).oldest (packed (unlocked_word (parts from) (advance_of advance))) k after) (after))
+
+    calm_end_id : (i : ℕ) (next : Program) → C next → C (end_id i next)
+    calm_end_id i next after = (λ found. either_way (nat_le ((parts found).first + (parts found).range) LAST) _ _ C ((λ _. after)) after)
+
+    calm_decide : (id word e : ℕ) (k : Deciding → Program) → ((x : Deciding) → C (k x)) → C (decide id word e k)
+    calm_decide id word e k after = (λ asked. after)
+
+    calm_unlocked : (r : Retry) (k : Deciding → Program) → ((x : Deciding) → C (k x)) → (exit : Unlocking) → C (unlocked r k exit)
+    calm_unlocked r k after (IsOpen word) = (after GoesOn)
+    calm_unlocked r k after (HasNext word e) = (calm_decide r.id word e k after)
+
+    calm_decided : (id : ℕ) (next : Program) → C next → (exit : Deciding) → C (decided id next exit)
+    calm_decided id next after (HasEnded o c) = after
+    calm_decided id next after GoesOn = after
+
+    calm_locking : (i : ℕ) (sought : Sought) (found : ℕ) (k : Locking → Program) → ((x : Locking) → C (k x)) → C (locking i sought found k)
+    calm_locking i sought found k after = either_way (not (is_sought sought (parts found))) _ _ C (after (NotThere found))
+        (either_way ((parts found).state == 1) _ _ C (after) (after))
+
+    calm_locks : (i : ℕ) (sought : Sought) (word : Option ℕ) (k : Locking → Program) → ((x : Locking) → C (k x)) → C (locks_round i sought word k)
+    calm_locks i sought None k after = (λ found. calm_locking i sought found k after)
+    calm_locks i sought (Some from) k after = (λ found. either_way (found == from) _ _ C (after (Has (packed (posted_word (parts from) 0)))) (calm_locking i sought found k after))
+
+    calm_joins : (id : ℕ) (k : ℕ → Program) → ((x : ℕ) → C (k x)) → C (joins_round id k)
+    calm_joins id k after = (λ found. either_way (is_first (id_first id) (parts found)) _ _ C (after) (after found))
+
+    calm_answer : (frame : Frame) (first : ℕ) (next : Program) → C next → C (answer frame first next)
+    calm_answer frame first next after = (λ asked. calm_end_id (slot_in frame) (Say asked.operation (ending_of (call_id (slot_in frame) first) frame) next)
+        (after))
+
+    calm_answered : (frame : Frame) (kept : List Frame) (k : List Frame → Program) → ((x : List Frame) → C (k x)) → (exit : Locking) → C (answered frame kept k exit)
+    calm_answered frame kept k after (NotThere found) = after (cond (is_early (version_in frame) found) (kept ++ frame ∷ []) kept)
+    calm_answered frame kept k after (Has word) = calm_answer frame (parts word).first (k kept) (after kept)
+
+    calm_responses : (ids : ℕ) (frames kept : List Frame) (k : List Frame → Program) → ((x : List Frame) → C (k x)) → C (responses ids frames kept k)
+    calm_responses ids [] kept k after = after kept
+    calm_responses ids (f ∷ fs) kept k after = either_way (has_response f.meta.response && nat_lt (slot_in f) ids) _ _ C
+        ((calm_answered f kept (λ kept'. responses ids fs kept' k) (λ kept'. calm_responses ids fs kept' k after)))
+        (calm_responses ids fs kept k after)
+
+    calm_ends_with : (id e word : ℕ) (kept : List Frame) (next : Program) → C next → C (ends_with id e word kept next)
+    calm_ends_with id e word [] next after = calm_decide id word e (decided id next) (calm_decided id next after)
+    calm_ends_with id e word (f ∷ fs) next after = calm_answer f (id_first id) next after
+
+    calm_posted_last : (id e : ℕ) (kept : List Frame) (next : Program) → C next → (exit : Posting) → C (posted_last id e kept next exit)
+    calm_posted_last id e kept next after (HasLocked word) = calm_ends_with id e word (kept_for id (parts word).range kept) next after
+    calm_posted_last id e kept next after WasGone = after
+    calm_posted_last id e kept next after WasStale = after
+    calm_posted_last id e kept next after (WasCrowded a b) = after
+    calm_posted_last id e kept next after WasQueued = after
+
+    calm_post_each : (os : List ℕ) (k c : ℕ) (kept : List Frame) (next : Program) → C next → C (post_each os k c kept next)
+    calm_post_each [] k c kept next after = after
+    calm_post_each (o ∷ os) k c kept next after = (λ w. let more = calm_post_each os k c kept next after in either_way (w == 0) _ _ C more (either_way (at_word_link w == k) _ _ C
+        (calm_post_with (call_id (at_word_slot w) (at_word_first w)) (error_of c (at_word_attempt w)) (posted_last (call_id (at_word_slot w) (at_word_first w)) (error_of c (at_word_attempt w)) kept (post_each os k c kept next))
+        (calm_posted_last (call_id (at_word_slot w) (at_word_first w)) (error_of c (at_word_attempt w)) kept (post_each os k c kept next) more)) more))
+
+    address_calm : (held : Program) (gone : ℕ → Program) → Calm true h held → ((found : ℕ) → C (gone found)) → C (address id held gone)
+    address_calm held gone goes after = (refl, λ found. by found (vref_version found == socket_id_version id))
+      where
+        by : (found : ℕ) (b : Bool) → Calm b h (cond b held (release (socket_id_slot id) (λ _. gone found)))
+        by found true = goes
+        by found false = calm_release (socket_id_slot id) (λ _. gone found) (λ _. after found)
+
+    set_failed_calm : (code : ℕ) (next : ℕ → Program) → Odd h → ((found : ℕ) → C (next found)) → Calm true h (set_failed id code next)
+    set_failed_calm code next odd after = (refl, odd, refl, λ found. either_way (vref_version found % 2 == 0) _ _ C (λ _ _. after found) (after found))
+
+    thrown_calm : (how : Ended) → how.reading.link ≡ k → C (thrown_away how)
+    thrown_calm how own = either_way (how.fault && nat_lt how.reading.total LIMIT) (Round (Discards how.reading.link how.reading.total) (λ _. Rest)) Rest C (own, λ n h'. tt) tt
+
+    abbrev last_posts : List ℕ → Ended → Program
+    last_posts calls how = post_each calls how.reading.link how.code how.reading.kept (thrown_away how)
+
+    -- the end of a reading
+    read_calm : (calls : List ℕ) (how : Ended) → EndsSo h how → C (read calls how)
+    read_calm calls how e = by how.closed refl
+      where
+        lasts : C (last_posts calls how)
+        lasts = calm_post_each calls how.reading.link how.code how.reading.kept (thrown_away how) (thrown_calm how e.1)
+
+        by : (b : Bool) → how.closed ≡ b → C (cond b (last_posts calls how) (address how.reading.id (set_failed how.reading.id how.code (λ _. release (socket_id_slot how.reading.id) (λ _. (last_posts calls how)))) (λ _. (last_posts calls how))))
+        by true is = lasts
+        by false is = subst (λ x. C (address x (set_failed x how.code (λ _. release (socket_id_slot x) (λ _. (last_posts calls how)))) (λ _. (last_posts calls how)))) (sym e.2)
+            (address_calm (set_failed id how.code (λ _. release (socket_id_slot id) (λ _. (last_posts calls how)))) (λ _. (last_posts calls how))
+            (set_failed_calm how.code (λ _. release (socket_id_slot id) (λ _. (last_posts calls how))) (e.0 is) (λ _. calm_release (socket_id_slot id) (λ _. (last_posts calls how)) (λ _. lasts))) (λ _. lasts))
+
+  -- ## Reading
+
+  -- what ends a reading lets the socket be set failed
+  pub record Ends : Type 0 where
+    pub most : (h : List Taking) → LIMIT ≤ length (given_by h) → Odd h
+    pub fault : (h : List Taking) → Faults 0 (given_by h) → Odd h
+    pub at_end : (h : List Taking) → Odd (h ++ AtEnd ∷ [])
+    pub broken : (h : List Taking) → Odd (h ++ Broken ∷ [])
+    pub no_more : Lasts → (h : List Taking) → Odd (h ++ NoMore ∷ [])
+
+  module _ (ends : Ends) where
+    abbrev Goes : (Ended → Program) → Type 0
+    Goes next = (how : Ended) (h' : List Taking) → EndsSo h' how → Calm false h' (next how)
+
+    module _ (h : List Taking) (r : Reading) (next : Ended → Program) (at : IsReading h r) (goes : Goes next) where
+      abbrev with_more : List ℕ → List Frame → Reading
+      with_more bytes kept = record { ids = r.ids; link = r.link; id = r.id; rest = r.rest; total = r.total + length bytes; kept = kept }
+
+      more_total : (bytes : List ℕ) → r.total + length bytes ≡ length (given_by (h ++ Bytes bytes ∷ []))
+      more_total bytes = let a = at.total in let b = ap length (gave_more h bytes) in let d = length-append (given_by h) bytes in omega (arith, a, b, d)
+
+      -- a fault of the rest with what came is one of all that came
+      all_tied : (bytes more : List ℕ) → Faults 0 ((r.rest ++ bytes) ++ more) → Faults 0 (given_by (h ++ Bytes bytes ∷ []) ++ more)
+      all_tied bytes more f = subst (λ l. Faults 0 (l ++ more)) (sym (gave_more h bytes))
+          (subst (Faults 0) (sym (append_assoc (given_by h) bytes more)) (at.tied (bytes ++ more) (subst (Faults 0) (append_assoc r.rest bytes more) f)))
+
+      abbrev with_rest : List ℕ → List Frame → ℕ → Reading
+      with_rest bytes kept n = record { ids = r.ids; link = r.link; id = r.id; rest = last_of n (r.rest ++ bytes); total = r.total + length bytes; kept = kept }
+
+      read_on_calm : (kept : List Frame) (bytes : List ℕ) (s : streams.Ending) → (streams.stream (r.rest ++ bytes)).ending ≡ s → Calm false (h ++ Bytes bytes ∷ []) (read_on (with_more bytes kept) (r.rest ++ bytes) s next)
+      read_on_calm kept bytes (streams.Rest n) is = by (nat_lt (r.total + length bytes) LIMIT) refl
+        where
+          by : (b : Bool) → nat_lt (r.total + length bytes) LIMIT ≡ b → Calm false (h ++ Bytes bytes ∷ []) (cond b (Round (Reads (with_rest bytes kept n)) next) (next (ended_by 1014 false false (with_rest bytes kept n))))
+          by true less = (record { link = at.link; own = at.own; total = more_total bytes; tied = λ more f. all_tied bytes more (fault_follows (r.rest ++ bytes) more n is f) }, goes)
+          by false most = goes (ended_by 1014 false false (with_rest bytes kept n)) (h ++ Bytes bytes ∷ []) ((λ _. ends.most (h ++ Bytes bytes ∷ []) (let l = ltb-false (r.total + length bytes) LIMIT most in let t = more_total bytes in omega (arith, l, t))), at.link, at.own)
+      read_on_calm kept bytes (streams.Fault start fault) is = goes (ended_by 2002 false true (with_more bytes kept)) (h ++ Bytes bytes ∷ [])
+          ((λ _. ends.fault (h ++ Bytes bytes ∷ []) (subst (Faults 0) (append-nil (given_by (h ++ Bytes bytes ∷ []))) (all_tied bytes [] (subst (Faults 0) (sym (append-nil (r.rest ++ bytes))) (start, fault, is))))), at.link, at.own)
+
+      took_calm : (t : Taking) → (t ≡ NoMore → Lasts) → Calm false (h ++ t ∷ []) (took r next t)
+      took_calm (Bytes bytes) some_ = calm_responses (h ++ Bytes bytes ∷ []) r.ids (streams.stream (r.rest ++ bytes)).frames r.kept (λ kept. read_on (with_more bytes kept) (r.rest ++ bytes) (streams.stream (r.rest ++ bytes)).ending next)
+          (λ kept. read_on_calm kept bytes (streams.stream (r.rest ++ bytes)).ending refl)
+      took_calm Nothing some_ = (
+        record { link = at.link; own = at.own; total = at.total ∙ ap length (sym (gave_none h Nothing refl)); tied = λ more f. subst (λ l. Faults 0 (l ++ more)) (sym (gave_none h Nothing refl)) (at.tied more f) },
+        goes,
+      )
+      took_calm NoMore some_ = goes (ended_by 1014 false false r) (h ++ NoMore ∷ []) ((λ _. ends.no_more (some_ refl) h), at.link, at.own)
+      took_calm AtEnd some_ = goes (ended_by 1014 false false r) (h ++ AtEnd ∷ []) ((λ _. ends.at_end h), at.link, at.own)
+      took_calm Closed some_ = goes (ended_by 1014 true false r) (h ++ Closed ∷ []) ((λ e. absurd (true≢false e)), at.link, at.own)
+      took_calm Broken some_ = goes (ended_by 1014 false false r) (h ++ Broken ∷ []) ((λ _. ends.broken h), at.link, at.own)
+
+    discarded_calm : (h : List Taking) (l total : ℕ) (next : ℕ → Program) → l ≡ k → ((n : ℕ) (h' : List Taking) → Calm false h' (next n)) → (t : Taking) → Calm false (h ++ t ∷ []) (discarded l total next t)
+    discarded_calm h l total next own goes (Bytes bytes) = either_way (nat_lt (total + length bytes) LIMIT) (Round (Discards l (total + length bytes)) next) (next (total + length bytes)) (Calm false (h ++ Bytes bytes ∷ [])) (own, goes) (goes (total + length bytes) (h ++ Bytes bytes ∷ []))
+    discarded_calm h l total next own goes Nothing = (own, goes)
+    discarded_calm h l total next own goes NoMore = goes total (h ++ NoMore ∷ [])
+    discarded_calm h l total next own goes AtEnd = goes total (h ++ AtEnd ∷ [])
+    discarded_calm h l total next own goes Closed = goes total (h ++ Closed ∷ [])
+    discarded_calm h l total next own goes Broken = goes total (h ++ Broken ∷ [])
+
+    -- one round of a loop
+    calm_round : (held : Bool) (h : List Taking) (head : Head) (next : Exit head → Program) → Calm held h (Round head next) → Calm held h (round head next)
+    calm_round held h (Posts i e w) next x = calm_posts h i e w next x
+    calm_round held h (Unlocks i w advance) next x = calm_unlocks h i w advance next x
+    calm_round held h (Decides i asked w e) next x = either_way (ends_call (parts w) e) _ _ (Calm held h)
+        (calm_end_id h (id_slot i) (next (HasEnded asked.operation (code_of e))) (x (HasEnded asked.operation (code_of e))))
+        (λ _ exit. calm_unlocked h (record { id = i; attempt = (parts w).attempt + 1 }) next x exit)
+    calm_round held h (Locks i sought None) next x = calm_locks h i sought None next x
+    calm_round held h (Locks i sought (Some w)) next x = calm_locks h i sought (Some w) next x
+    calm_round held h (Joins i) next x = calm_joins h i next x
+    calm_round held h (Opens o) next x = absurd x
+    calm_round held h (Reads r) next x = let at = x.0 in (at.link, λ t some_. took_calm h r next at x.1 t some_)
+    calm_round held h (Discards l total) next x = (x.0, λ t some_. discarded_calm h l total next x.0 x.1 t)
+
+    pub calm_first : (held : Bool) (h : List Taking) (program : Program) → Calm held h program → Calm held h (first_step program)
+    calm_first held h (Write w after) x = absurd x
+    calm_first held h (Round head next) x = calm_round held h head next x
+    calm_first held h (Do call next) x = x
+    calm_first held h (Say o outcome next) x = x
+    calm_first held h (Sent o next) x = x
+    calm_first held h Rest x = x
+    calm_first held h (TakeMessage q next) x = x
+    calm_first held h (TakeHome l next) x = x
+    calm_first held h (PutHome l n after) x = x
+    calm_first held h (PutBytes l asked bytes next) x = x
+    calm_first held h (AskReady l next) x = x
+    calm_first held h (Aside step next) x = x
+    calm_first held h (Keep r next) x = x
+    calm_first held h (Retries requests after) x = x
+
+  pub calm_next : (held : Bool) (h : List Taking) (ws : List Retry) (program : Program) → Calm held h program → Calm held h (next_step (resolved ws program))
+  calm_next held h ws (Say o outcome next) x = calm_next held h ws next x
+  calm_next held h ws (Sent o next) x = calm_next held h ws next x
+  calm_next held h ws (Keep r next) x = calm_next held h (ws ++ r ∷ []) next x
+  calm_next held h ws (Retries requests after) x = absurd x
+  calm_next held h ws (Do call next) x = x
+  calm_next held h ws Rest x = x
+  calm_next held h ws (TakeMessage q next) x = absurd x
+  calm_next held h ws (TakeHome l next) x = absurd x
+  calm_next held h ws (PutHome l n after) x = absurd x
+  calm_next held h ws (PutBytes l asked bytes next) x = absurd x
+  calm_next held h ws (AskReady l next) x = absurd x
+  calm_next held h ws (Write w after) x = absurd x
+  calm_next held h ws (Aside step next) x = x
+  calm_next held h ws (Round head next) x = x
+
+  -- where a reading begins
+  pub begins_calm : Ends → (calls : List ℕ) → Calm false [] (Round (Reads (record { ids = length calls; link = k; id = id; rest = []; total = 0; kept = [] })) (read calls))
+  begins_calm ends calls = (record { link = refl; own = refl; total = refl; tied = λ more f. f }, λ how h' e. read_calm h' calls how e)
+
+  -- ## Steps
+
+  -- the step exchanges no head, and stores in the word of no `open`
+  abbrev pub IsCalmCall : Call → Type 0
+  IsCalmCall (SwapHead i own) = ⊥
+  IsCalmCall (GiveBirth i l) = ⊥
+  IsCalmCall (StoreOpen o w) = ⊥
+  IsCalmCall other = Unit {0}
+
+  -- behind it the seat has just got a reference to the life, or not
+  pub record Behind (h : List Taking) (call : Call) (program : Program) (found : ℕ) : Type 0 where
+    pub held : Bool
+    pub calm : Calm held h program
+    pub got : held ≡ true → (call ≡ AddRef id) × ((vref_version found == socket_id_version id) ≡ true)
+
+  pub calm_step : (held : Bool) (h : List Taking) (call : Call) (next : ℕ → Program) → Calm held h (Do call next) → IsCalmCall call × ((found : ℕ) → Behind h call (next found) found)
+  calm_step held h (SetOdd i) next x = (tt, λ found. record { held = false; calm = x.3 found; got = λ e. absurd (true≢false (sym e)) })
+  calm_step held h (AddRef y) next x = (tt, λ found. record { held = vref_version found == socket_id_version id; calm = x.1 found; got = λ e. (ap AddRef x.0, e) })
+  calm_step held h (SwapHead i own) next x = absurd x
+  calm_step held h (GiveBirth i l) next x = absurd x
+  calm_step held h (StoreOpen o w) next x = absurd x
+  calm_step held h call next x = (tt, λ found. record { held = false; calm = x found; got = λ e. absurd (true≢false (sym e)) })
+
+  -- a step aside that takes no bytes
+  abbrev pub IsNoTake : Step → Type 0
+  IsNoTake (TakeBytes l room) = ⊥
+  IsNoTake other = Unit {0}
+
+  pub calm_aside : (held : Bool) (h : List Taking) (step : Step) (next : Found step → Program) → IsNoTake step → Calm held h (Aside step next) → (found : Found step) → Calm false h (next found)
+  calm_aside held h (TakeBytes l room) next none_ x = absurd none_
+  calm_aside held h step next none_ x = x
+
+  -- where the program is to set a socket failed, it has just got its reference
+  pub sets_odd : (held : Bool) (h : List Taking) (i : ℕ) (next : ℕ → Program) → Calm held h (Do (SetOdd i) next) → (held ≡ true) × Odd h × (i ≡ socket_id_slot id)
+  sets_odd held h i next x = (x.0, x.1, x.2)
