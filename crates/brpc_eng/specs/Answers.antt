@@ -24,7 +24,7 @@ use Rattle.whole_runs.specs.Heard.{as_told, heard_of, heard_takes}
 use Rattle.sock_io.specs.declared.link.LinkSpec.{LinkSpec}
 use Rattle.script_run.specs.Given.{AreNumbered, AreUntouched, IsBeginning, specs_of}
 use Rattle.script_run.specs.Causes.{AsFarAsTold}
-use Rattle.script_run.specs.Played.{IsWholeRun, IsRunText}
+use Rattle.script_run.specs.Played.{IsRunText}
 use Rattle.brpc_eng.specs.Streams.{script_limit, IsAtEnd}
 use Rattle.brpc_eng.specs.Built.{is_built_script}
 
@@ -99,8 +99,8 @@ fault_text line kind = codes "script fault line " ++ decimal line ++ codes " kin
 
 -- ## A script that was read
 
--- where the links are prompt and tell whether they are found closed, the text reports a run of the script over the links given back: it fits,
--- and where nothing went wrong every send is placed; in a script without calls nothing comes late
+-- there, as far as causes are proved, the text reports a run of the script over the links given back: it fits, and where nothing went wrong every
+-- send is placed; in a script without calls nothing comes late
 abbrev pub IsReport : Links → List Item → List ℕ → Type 0
 IsReport links script text = links.prompt ≡ true → links.tells → AsFarAsTold script ((late : Lateness) × (is_callless script ≡ true → late ≡ nothing_late) × FitsWhole script text links.ends late)
 
@@ -125,10 +125,11 @@ IsOnlyText ends script turns text = (is : IsRunText script turns text ends)
     × ((other : List ℕ) (ends' : List LinkEnd) (run : IsRunText script turns other ends') → run.took ≡ is.took → SameAnswers run.whole.run is.whole.run → other ≡ text)
     × (AllTell ends → (other : List ℕ) → IsRunText script turns other ends → other ≡ text)
 
--- a run was made by these lines: the setup first, then the ticks of these lines, then rounds until nothing moves, then the ending, and such
--- rounds again; each `drop` was answered `freed` or `kept` by what its own steps did, and in the end all is over; and the text is that of such a run
+-- where the links are prompt and tell whether they are found closed, the text is that of a run by these lines: the setup first, then the ticks of
+-- these lines, then rounds until nothing moves, then the ending, and such rounds again; each `drop` was answered `freed` or `kept` by what its own
+-- steps did, and in the end all is over
 abbrev pub IsTextOfRun : Links → List Item → List Turn → List ℕ → Type 0
-IsTextOfRun links script turns text = links.prompt ≡ true → links.tells → IsWholeRun script turns links.ends × AsFarAsTold script (IsOnlyText links.ends script turns text)
+IsTextOfRun links script turns text = links.prompt ≡ true → links.tells → IsOnlyText links.ends script turns text
 
 -- the text was written, or the sink failed behind a beginning of it
 abbrev pub TextWritten : Output → List ℕ → ℕ → Type 0

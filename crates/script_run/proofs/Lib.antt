@@ -7,5 +7,7 @@ pub mod Running
 pub mod Saying
 pub mod Callless
 pub mod Silent
+pub mod Idle
+pub mod Placed
 pub mod Told
 pub mod Texts

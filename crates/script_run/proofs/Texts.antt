@@ -22,12 +22,12 @@ use Rattle.sock_programs.specs.Runs.{from_to}
 use Rattle.sock_programs.specs.Scripts.{IsRunWithCalls, place_words}
 use Rattle.sock_programs.specs.Tasks.{plan_of}
 use Rattle.client_laws.proofs.Retrying.{retries_go}
-use Rattle.whole_runs.specs.Heard.{as_told, as_taken, take_answers, heard_of, taken_of, heard_takes, given_by}
+use Rattle.whole_runs.specs.Heard.{as_told, as_taken, take_answers, heard_of, taken_of, heard_takes}
 use Rattle.whole_runs.specs.Over.{IsAllOver}
 use Rattle.whole_runs.proofs.Ended.{run_all_over}
 use Rattle.whole_runs.proofs.Gave.{gave_heard}
 use Rattle.whole_runs.proofs.Lengths.{ended_length}
-use Rattle.whole_runs.proofs.Runs.{run_places, run_drops_told}
+use Rattle.whole_runs.proofs.Runs.{run_drops_told}
 use Rattle.whole_runs.proofs.Starts.{made, starts, fitting}
 use Rattle.owed_calls.proofs.Known.{run_owed_of}
 use Rattle.run_laws.proofs.Laws.{keeps_laws}
@@ -40,10 +40,11 @@ use Rattle.sock_core.specs.Links.{Taken, Given, ArePrompt, TellClosing}
 use Rattle.sock_core.specs.Machines as machines
 use Rattle.sock_core.specs.Machines.{MachineState, core_with}
 use Rattle.sock_core.specs.Runs.{SameLink, SameLinks, ShowsTaking}
-use Rattle.script_run.specs.Causes.{HasCauses, EndedEarly, AsFarAsTold}
+use Rattle.script_run.specs.Causes.{HasCauses, EndedEarly, gave_in}
 use Rattle.script_run.specs.Given.{IsUntouched, AreUntouched}
-use Rattle.script_run.specs.Played.{IsMade, HasRun, AreHeard, IsWholeRun, IsRunText, ReportsRun}
+use Rattle.script_run.specs.Played.{IsMade, HasRun, AreHeard, IsWholeRun, IsEndTold, AreEndsTold, IsRunText}
 use Rattle.script_run.proofs.Homes.{index_at, took_is, lies_is, told_is}
+use Rattle.script_run.proofs.Placed.{run_places, causes_known}
 use Rattle.script_run.proofs.Told.{has_causes, as_far}
 
 -- ## The links that are given back
@@ -84,17 +85,13 @@ module _ (bytes : List ℕ) (script : List Item) (turns : List Turn) (start m : 
   abbrev end_core : Core
   end_core = core_with m ran.took ran.gave
 
-  -- what link k gave in the run
-  abbrev gave_in : ℕ → List ℕ
-  gave_in k = given_by (heard_takes ran.run k)
-
   over : IsAllOver script end_core
   over = run_all_over bytes script reads turns end_core ran.run (ran.closes tell)
 
-  gave_is : (k : ℕ) → k < length (link_names script) → ran.gave k ≡ gave_in k
+  gave_is : (k : ℕ) → k < length (link_names script) → ran.gave k ≡ gave_in end_core k
   gave_is k low =
       let here : k < m.plan.links = subst (λ (q : Plan). k < q.links) (sym plan) low in
-      ap ran.gave (let e : k ≡ 0 + k = omega arith in e) ∙ sym (index_at ran.gave [] 0 m.plan.links k here) ∙ gave_heard bytes script reads turns end_core ran.run k low
+      ap ran.gave (let e : k ≡ 0 + k = omega arith in e) ∙ sym (index_at ran.gave [] 0 m.plan.links k here)
 
   module _ (k : ℕ) (e : LinkEnd) (at : slice_get m.ends k ≡ Some e) where
     abbrev before : (x : LinkEnd) × (slice_get start.ends k ≡ Some x)
@@ -109,29 +106,29 @@ module _ (bytes : List ℕ) (script : List Item) (turns : List Turn) (start m : 
     low : k < length (link_names script)
     low = let inside = slice_get_within m.ends k e at in let as_many = same.as_many in omega (arith, inside, as_many, many)
 
-    counted : length (gave_in k) ≡ e.gave_count
+    counted : length (gave_in end_core k) ≡ e.gave_count
     counted = let inn = inn_at (λ (i : InState). i.gave) (λ (e : LinkEnd). e.gave_count) m.links.inns m.ends k e counts at in
         ap length (sym (gave_is k low)) ∙ sym (ran.agrees_gave k inn.0 inn.1).0 ∙ inn.2
 
-    gives : IfSome e.gave (λ bytes. bytes ≡ gave_in k)
+    gives : IfSome e.gave (λ bytes. bytes ≡ gave_in end_core k)
     gives = let inn = inn_at (λ (i : InState). i.gave_bytes) (λ (e : LinkEnd). e.gave) m.links.inns m.ends k e given at in
-        subst (λ (o : Option (List ℕ)). IfSome o (λ bytes. bytes ≡ gave_in k)) inn.2
+        subst (λ (o : Option (List ℕ)). IfSome o (λ bytes. bytes ≡ gave_in end_core k)) inn.2
         (subst (λ (b : List ℕ). IfSome inn.0.gave_bytes (λ bytes. bytes ≡ b)) (gave_is k low) (ran.agrees_gave k inn.0 inn.1).1)
 
     shows : (t : Taking) → Contains (heard_takes ran.run k) t → ShowsTaking t e
     shows t has_it = all_at (λ (t : Taking). ShowsTaking t e) (heard_takes ran.run k) t (ran.taken k e at) (has_from (heard_takes ran.run k) t has_it)
 
-    ends_early : EndedEarly ran.run k → EndsEarly (gave_in k) e
+    ends_early : EndedEarly ran.run k → EndsEarly (gave_in end_core k) e
     ends_early (inl ended) = inl (is_true (shows AtEnd ended))
       where
         is_true : e.gave_end ≡ true → IsTrue e.gave_end
         is_true g = subst IsTrue (sym g) tt
-    ends_early (inr (inl fault)) = inr (inl fault)
-    ends_early (inr (inr (inl most))) = inr (inr (inl (let c = counted in omega (arith, most, c))))
+    ends_early (inr (inl fault)) = inr (inl (subst HasFault (sym (gave_heard bytes script reads turns end_core ran.run k low)) fault))
+    ends_early (inr (inr (inl most))) = inr (inr (inl (let c = counted in let same = ap length (gave_heard bytes script reads turns end_core ran.run k low) in omega (arith, most, c, same))))
     ends_early (inr (inr (inr failed))) = inr (inr (inr (shows Broken failed)))
 
-    is_end : (has : HasCauses script turns end_core ran.run) → IsEndOf (plan_of script) end_core has.fixed gave_in k e
-    is_end has =
+    is_told : IsEndTold (plan_of script) end_core k e
+    is_told =
         let home = over.homes k low in
         let took = took_is m.links m.plan m.letters ran.took k home.took home.next home.done letters (subst (λ (q : Plan). k < q.links) (sym plan) low)
             (subst (λ (q : Plan). get_elem? end_core.homes (q.requests + k) ≡ core.some (core.some (Link k home.took home.next home.done))) (sym plan) home.is) in
@@ -140,10 +137,18 @@ module _ (bytes : List ℕ) (script : List Item) (turns : List Turn) (start m : 
           took = told_is m.links ran.took m.ends k e _ outs at ran.agrees (took ∙ sym lies);
           counted = counted;
           gives = gives;
-          failed = λ broke. ran.broken k e (has.broken k broke) at;
-          early = λ early. ends_early (has.early k early).1;
-          closed = λ closed. found_closed e.closed (still_told before.0 e stays (all_at (λ (x : LinkEnd). x.closed ≢ None) start.ends before.0 told_closed (k, before.1))) (shows Closed (has.closed k closed));
         }
+
+    is_end : (has : HasCauses script turns end_core ran.run) → IsEndOf (plan_of script) end_core has.fixed (gave_in end_core) k e
+    is_end has = record {
+      numbered = is_told.numbered;
+      took = is_told.took;
+      counted = is_told.counted;
+      gives = is_told.gives;
+      failed = λ broke. ran.broken k e (has.broken k broke) at;
+      early = λ early. ends_early (has.early k early).1;
+      closed = λ closed. found_closed e.closed (still_told before.0 e stays (all_at (λ (x : LinkEnd). x.closed ≢ None) start.ends before.0 told_closed (k, before.1))) (shows Closed (has.closed k closed));
+    }
 
     heard_each : IfSome e.answers (λ answers. answers ≡ as_told (heard_of ran.run k))
     heard_each = subst (λ (o : Option (List HalfAnswer)). IfSome o (λ answers. answers ≡ as_told (heard_of ran.run k))) (sym (ran.told.each k before.0 e before.1 at)) (told_from_none before.0.answers (as_told (heard_of ran.run k)) was.answers)
@@ -159,7 +164,10 @@ module _ (bytes : List ℕ) (script : List Item) (turns : List Turn) (start m : 
     no_take_beyond = λ k past. ran.takes.none_beyond k (let as_many = same.as_many in omega (arith, as_many, past));
   }
 
-  ends_are : (has : HasCauses script turns end_core ran.run) → AreEndsOf script end_core has.fixed gave_in m.ends
+  ends_told : AreEndsTold script end_core m.ends
+  ends_told = record { as_many = same.as_many ∙ many; each = λ k e at. is_told k e at }
+
+  ends_are : (has : HasCauses script turns end_core ran.run) → AreEndsOf script end_core has.fixed (gave_in end_core) m.ends
   ends_are has = record { as_many = same.as_many ∙ many; each = λ k e at. is_end k e at has }
 
   -- ## The text
@@ -176,9 +184,10 @@ module _ (bytes : List ℕ) (script : List Item) (turns : List Turn) (start m : 
 
   module _ (outcomes : List (ℕ × Outcome)) (words : List PlaceWord) (ends : List LinkEnd) (text : List ℕ) (outcomes_are : outcomes ≡ told_from 0 m.outcomes) (words_are : words ≡ place_words m.plan m.words) (ends_same : ends ≡ m.ends)
       (told : (os : List (Option Outcome)) → length os ≡ length (operations script) → outcomes ≡ told_from 0 os → ArePlaces words → HasEachOutcome words os → (took : List (List ℕ)) × AreTold ends took × IsReportText script os words took text) where
-    text_of : HasCauses script turns end_core ran.run → IsRunText script turns text ends
-    text_of has =
-        let places = run_places bytes script reads turns end_core ran.run has.fixed gave_in has.orders has.tells in
+    pub text_is : IsRunText script turns text ends
+    text_is =
+        let known = causes_known bytes script reads turns end_core ran.run (ran.closes tell) in
+        let places = run_places bytes script reads turns end_core ran.run (ran.closes tell) in
         let words_now : words ≡ place_words (plan_of script) m.words = words_are ∙ ap (λ (q : Plan). place_words q m.words) plan in
         let w = told m.outcomes (ended_length bytes script reads turns end_core ran.run) outcomes_are
             (subst ArePlaces (sym words_now) places.0) (subst (λ (ws : List PlaceWord). HasEachOutcome ws m.outcomes) (sym words_now) places.1) in
@@ -189,12 +198,10 @@ module _ (bytes : List ℕ) (script : List Item) (turns : List Turn) (start m : 
           report = report.report;
           reports = report.told;
           is_text = report.is_text;
-          causes = has;
-          ends_are = subst (AreEndsOf script end_core has.fixed gave_in) (sym ends_same) (ends_are has);
+          ends_told = subst (AreEndsTold script end_core) (sym ends_same) ends_told;
+          known = known;
+          causes = as_far script (λ has. (has, subst (AreEndsOf script end_core has.fixed (gave_in end_core)) (sym ends_same) (ends_are has))) (has_causes bytes script reads turns end_core ran.run (ran.closes tell));
         }
-
-    pub text_is : ReportsRun script turns text ends
-    text_is = (whole ends ends_same, as_far script text_of (has_causes bytes script reads turns end_core ran.run (ran.closes tell)))
 
 -- where it was played to its end
 pub text_answered : {T E F S P C : Type 0} (items : T → List ℕ) (r : Result T E) (q : Result S F) (bytes : List ℕ) (script : List Item) (turns : List Turn) (start m : MachineState) (outcomes : List (ℕ × Outcome)) (words : List PlaceWord) (ends back : List LinkEnd) →
@@ -205,8 +212,8 @@ pub text_answered : {T E F S P C : Type 0} (items : T → List ℕ) (r : Result 
     (IsOk r → IsOk q) → (P → ArePrompt start.links) → (C → TellClosing start.links) → (C → AllByRecursion (λ (e : LinkEnd). e.closed ≢ None) start.ends) →
     OnOk q (ArePrompt start.links → HasRun script turns start m) → OnOk q ((m.plan ≡ start.plan) × (m.ids.plan ≡ start.ids.plan)) →
     IfOk r (λ t. (os : List (Option Outcome)) → length os ≡ length (operations script) → outcomes ≡ told_from 0 os → ArePlaces words → HasEachOutcome words os → (took : List (List ℕ)) × AreTold ends took × IsReportText script os words took (items t)) →
-    IfOk r (λ t. P → C → ReportsRun script turns (items t) back)
+    IfOk r (λ t. P → C → IsRunText script turns (items t) back)
 text_answered items (Err e) q bytes script turns start m outcomes words ends back reads made untouched many same outs counts given letters outcomes_are words_are ends_same back_is played prompt tell closed ran sized told = tt
 text_answered items (Ok t) (Err e) bytes script turns start m outcomes words ends back reads made untouched many same outs counts given letters outcomes_are words_are ends_same back_is played prompt tell closed ran sized told = let same = played refl in absurd (cc)
 text_answered items (Ok t) (Ok done) bytes script turns start m outcomes words ends back reads made untouched many same outs counts given letters outcomes_are words_are ends_same back_is played prompt tell closed ran sized told =
-    λ p c. subst (ReportsRun script turns (items t)) (sym back_is) (text_is bytes script turns start m reads untouched many same (ran (prompt p)) (sized.0 ∙ made.plan) (tell c) (closed c) outs counts given letters outcomes words ends (items t) outcomes_are words_are ends_same told)
+    λ p c. subst (IsRunText script turns (items t)) (sym back_is) (text_is bytes script turns start m reads untouched many same (ran (prompt p)) (sized.0 ∙ made.plan) (tell c) (closed c) outs counts given letters outcomes words ends (items t) outcomes_are words_are ends_same told)

@@ -1,14 +1,14 @@
 -- The lines by which a script is run, the ticks that they make, and the text of a run.
-use Rattle.std.specs.Prelude.{ℕ, ◌≡◌, ◌≢◌, ◌≤◌, length, slice_get, List, [], Option, Some, None, IfSome}
+use Rattle.std.specs.Prelude.{ℕ, ◌≡◌, ◌≢◌, ◌≤◌, length, slice_get, slice_index_or, List, [], Option, Some, None, IfSome}
 use Rattle.sock_words.specs.declared.plain.Plan.{Plan}
 use Rattle.brpc_model.specs.Items.{Item}
 use Rattle.brpc_model.specs.Link.{LinkEnd}
-use Rattle.brpc_model.specs.Operations.{Turn, schedule}
+use Rattle.brpc_model.specs.Operations.{Turn, schedule, link_names}
 use Rattle.brpc_model.specs.Report.{Report, report_text}
 use Rattle.sock_programs.specs.Cores.{Core}
 use Rattle.sock_programs.specs.Ticks.{Answer, Moment}
 use Rattle.sock_programs.specs.Runs.{IsAtRest, Turns}
-use Rattle.sock_programs.specs.Scripts.{IsRunWithCalls, Reports, set_up, drawn_turns}
+use Rattle.sock_programs.specs.Scripts.{IsRunWithCalls, Reports, set_up, drawn_turns, took_at_home}
 use Rattle.sock_programs.specs.Tasks.{plan_of, id_plan_of, opens, calls}
 use Rattle.report_fits.specs.Ends.{AreEndsOf, AreTold}
 use Rattle.run_laws.specs.Laws.{KeepsLaws}
@@ -16,11 +16,11 @@ use Rattle.sock_io.specs.Link.{InState}
 use Rattle.owed_calls.specs.Lives.{ClosesInRun}
 use Rattle.sock_core.specs.Links.{Taken, Given, Agrees, AgreesGave, TellClosing}
 use Rattle.sock_core.specs.Machines.{MachineState, core_with}
-use Rattle.whole_runs.specs.Heard.{as_told, as_taken, take_answers, heard_of, taken_of, heard_takes, given_by}
+use Rattle.whole_runs.specs.Heard.{as_told, as_taken, take_answers, heard_of, taken_of}
 use Rattle.whole_runs.specs.Over.{IsAllOver}
 use Rattle.sock_core.specs.Runs.{ShowFaults, LinksTell, TakesTell, ShowTakings, Follows, Made}
 use Rattle.sock_core.specs.Driving.{FirstRests}
-use Rattle.script_run.specs.Causes.{HasCauses, DropsTold, AsFarAsTold, broken_of}
+use Rattle.script_run.specs.Causes.{HasCauses, CausesKnown, DropsTold, AsFarAsTold, broken_of, gave_in}
 use Rattle.script_run.specs.declared.schedule.Schedule.{Schedule}
 use Rattle.script_run.specs.declared.schedule.Schedule.TheVariants.{Own, Drawn}
 
@@ -100,6 +100,21 @@ pub record IsWholeRun (script : List Item) (turns : List Turn) (ends : List Link
   -- in the end no life is left, each id range has ended, and each link is at home
   pub over : IsAllOver script core
 
+-- link k, as it was given back: as far as it tells, it took what lies at its home, and gave what the run has of it
+pub record IsEndTold (p : Plan) (core : Core) (k : ℕ) (e : LinkEnd) : Type 0 where
+  pub numbered : e.link ≡ k
+  pub took : IfSome e.took (λ bytes. bytes ≡ slice_index_or (took_at_home p core.homes) k [])
+  pub counted : length (gave_in core k) ≡ e.gave_count
+  pub gives : IfSome e.gave (λ bytes. bytes ≡ gave_in core k)
+
+pub record AreEndsTold (script : List Item) (core : Core) (ends : List LinkEnd) : Type 0 where
+  pub as_many : length ends ≡ length (link_names script)
+  pub each : (k : ℕ) (e : LinkEnd) → slice_get ends k ≡ Some e → IsEndTold (plan_of script) core k e
+
+-- all causes of a run, and what the links show of them
+abbrev pub IsCaused : (script : List Item) (turns : List Turn) (core : Core) → IsRunWithCalls script turns core → List LinkEnd → Type 0
+IsCaused script turns core run ends = (has : HasCauses script turns core run) × AreEndsOf script core has.fixed (gave_in core) ends
+
 -- the text reports a run of the script by these lines, over the links that were given back
 pub record IsRunText (script : List Item) (turns : List Turn) (text : List ℕ) (ends : List LinkEnd) : Type 0 where
   pub whole : IsWholeRun script turns ends
@@ -109,10 +124,7 @@ pub record IsRunText (script : List Item) (turns : List Turn) (text : List ℕ) 
   pub report : Report
   pub reports : Reports script whole.core took report
   pub is_text : text ≡ report_text script report
-  -- why each outcome came, and what the links show of it
-  pub causes : HasCauses script turns whole.core whole.run
-  pub ends_are : AreEndsOf script whole.core causes.fixed (λ k. given_by (heard_takes whole.run k)) ends
-
--- a run was made, and as far as causes are proved the text reports it
-abbrev pub ReportsRun : List Item → List Turn → List ℕ → List LinkEnd → Type 0
-ReportsRun script turns text ends = IsWholeRun script turns ends × AsFarAsTold script (IsRunText script turns text ends)
+  pub ends_told : AreEndsTold script whole.core ends
+  -- why each outcome came: what is known in every script, and all of it as far as that is proved
+  pub known : CausesKnown script turns whole.core whole.run
+  pub causes : AsFarAsTold script (IsCaused script turns whole.core whole.run ends)

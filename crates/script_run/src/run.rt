@@ -13,7 +13,7 @@ ghost use Rattle.sock_core.specs.Finish.{told_from};
 ghost use Rattle.sock_core.specs.Links.{ArePrompt, TellClosing};
 ghost use Rattle.sock_core.specs.Runs.{SameLinks};
 ghost use Rattle.script_run.specs.Given.{AreNumbered, AreUntouched, IsBeginning, has_piece, specs_of};
-ghost use Rattle.script_run.specs.Played.{IsMade, HasRun, ReportsRun, TellClosed, turns_of};
+ghost use Rattle.script_run.specs.Played.{IsMade, HasRun, IsRunText, TellClosed, turns_of};
 ghost use Rattle.report_fits.specs.Ends.{AreTold};
 
 use crate::links::{give_back, open_links};
@@ -47,7 +47,7 @@ pub fn run_script<L: Linker>(
     requires pieces { list_all has_piece script.now ≡ true }
     requires asked { L.asked links.old ≡ [] }
     requires back { L.back links.old ≡ [] }
-    ensures text { IfOk result (λ text. L.prompt links.old ≡ true → TellClosed L.I.state → ReportsRun script.now (turns_of script.now schedule) text.items (L.back links.new)) }
+    ensures text { IfOk result (λ text. L.prompt links.old ≡ true → TellClosed L.I.state → IsRunText script.now (turns_of script.now schedule) text.items (L.back links.new)) }
     ensures unopened { IsErrOf result RunFault.OpenFailed → AreUntouched 0 (L.back links.new) }
     ensures all { OnOk result (length (L.back links.new) ≡ length (link_names script.now)) }
     // What is asked of the links is what the lines of the script ask, all of it unless one could not be opened.
@@ -99,7 +99,7 @@ fn run_over<L: Linker>(
     requires few { length ends.items ≤ 256 }
     requires opened { length (L.asked links.old) ≡ length ends.items }
     requires back { L.back links.old ≡ [] }
-    ensures text { IfOk result (λ text. L.prompt links.old ≡ true → TellClosed L.I.state → ReportsRun script.now (turns_of script.now schedule) text.items (L.back links.new)) }
+    ensures text { IfOk result (λ text. L.prompt links.old ≡ true → TellClosed L.I.state → IsRunText script.now (turns_of script.now schedule) text.items (L.back links.new)) }
     ensures back { length (L.back links.new) ≡ length ends.items }
     ensures numbered { AreNumbered 0 (L.back links.new) }
     ensures asked { L.asked links.new ≡ L.asked links.old }
@@ -135,7 +135,7 @@ fn run_on<L: Linker>(
     requires few { length machine.ends ≤ 256 }
     requires opened { length (L.asked links.old) ≡ length machine.ends }
     requires back { L.back links.old ≡ [] }
-    ensures text { IfOk result (λ text. L.prompt links.old ≡ true → TellClosed L.I.state → ReportsRun script.now (turns_of script.now schedule) text.items (L.back links.new)) }
+    ensures text { IfOk result (λ text. L.prompt links.old ≡ true → TellClosed L.I.state → IsRunText script.now (turns_of script.now schedule) text.items (L.back links.new)) }
     ensures back { length (L.back links.new) ≡ length machine.ends }
     ensures numbered { AreNumbered 0 (L.back links.new) }
     ensures asked { L.asked links.new ≡ L.asked links.old }
