@@ -22,7 +22,7 @@ module _ (script : List Item) (outcomes : List (Option Outcome)) (callless : is_
   not_on_calls : (c : ℕ) (t : Task) (item : Item) → IsTask (all_tasks script) outcomes c t → (w : IsTaskOf script c t) → w.operation.item ≡ item → is_later item ≡ false
   not_on_calls c t item is w e = sym (ap is_later e) ∙ not_later script callless w.operation.item (are_from 0 1 script t.number w.operation w.there).there
 
-  no_call : (c : ℕ) (t : Task) (asked : Asked) → IsTask (all_tasks script) outcomes c t → t.op ≡ ops.Call asked → ⊥
+  pub no_call : (c : ℕ) (t : Task) (asked : Asked) → IsTask (all_tasks script) outcomes c t → t.op ≡ ops.Call asked → ⊥
   no_call c t asked is op =
       let w = task_is script outcomes c t is in
       let m = call_asks (numbered script) (names script) (numbers_at script t.number w.operation) w.operation.item asked (w.asks ∙ ap Some op) in
@@ -40,7 +40,7 @@ module _ (script : List Item) (outcomes : List (Option Outcome)) (callless : is_
       let m = join_asks (numbered script) (names script) (numbers_at script t.number w.operation) w.operation.item o (w.asks ∙ ap Some op) in
       let later : true ≡ false = not_on_calls c t _ is w m.2 in absurd (cc)
 
-  plain_task : (c : ℕ) (t : Task) → IsTask (all_tasks script) outcomes c t → is_plain t.op ≡ true
+  pub plain_task : (c : ℕ) (t : Task) → IsTask (all_tasks script) outcomes c t → is_plain t.op ≡ true
   plain_task c t is = by t.op refl
     where
       by : (o : Op) → t.op ≡ o → is_plain o ≡ true

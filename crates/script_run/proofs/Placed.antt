@@ -85,22 +85,22 @@ module _ (bytes : List ℕ) (script : List Item) (reads : script_of bytes ≡ Ok
   abbrev vs : List View
   vs = first_views script
 
-  are : AreTasks (plan_of script) (all_tasks script)
+  pub are : AreTasks (plan_of script) (all_tasks script)
   are = tasks_of_script bytes script reads
 
-  go : RetriesGo (plan_of script)
+  pub go : RetriesGo (plan_of script)
   go = let limits = keeps_limits bytes script reads in retries_go (plan_of script) limits.requests
 
-  fits : AreFittingIn script turns core is
+  pub fits : AreFittingIn script turns core is
   fits = fitting bytes script reads turns core is
 
-  fresh : (i : ℕ) (v : View) → get_elem? (first_views script) i ≡ some v → v.lists ≡ [] ∷ []
+  pub fresh : (i : ℕ) (v : View) → get_elem? (first_views script) i ≡ some v → v.lists ≡ [] ∷ []
   fresh = opening_fresh (plan_of script) (all_seats (all_tasks script) (length (opens script)))
 
   bare : (i : ℕ) (v : View) → get_elem? (first_views script) i ≡ some v → v.claims ≡ []
   bare = opening_unclaimed (plan_of script) (all_seats (all_tasks script) (length (opens script)))
 
-  owed : IsOwed script turns core is
+  pub owed : IsOwed script turns core is
   owed = run_owed_of script (made bytes script reads) turns core is closes
 
   narrow : (id_plan_of script).slots ≤ 65536
@@ -109,29 +109,26 @@ module _ (bytes : List ℕ) (script : List Item) (reads : script_of bytes ≡ Ok
   few_clients : length (all_tasks script) ≤ 32
   few_clients = let m = made bytes script reads in m.few_clients
 
-  pub orders_of_run : ℕ → Order
+  abbrev pub orders_of_run : ℕ → Order
   orders_of_run = causes.orders script are (first_views script) (starts bytes script reads) fresh go turns core is fits owed
 
-  ids : ℕ → ℕ
+  abbrev pub ids : ℕ → ℕ
   ids = ids_of_run script (made bytes script reads) turns core is narrow few_clients
 
   pub are_orders : AreOrders (plan_of script) core orders_of_run
-  unfolding orders_of_run
   are_orders = run_orders script are (first_views script) (starts bytes script reads) fresh go turns core is fits owed narrow bare (ids_of_run script (made bytes script reads) turns core is narrow few_clients) (run_labelled script (made bytes script reads) turns core is narrow few_clients)
 
-  sent : (fixed : Fixed) (last : ℕ → ℕ) (k : ℕ) → k < length (link_names script) → AllByRecursion (λ (a : Accepted). IsSent (plan_of script) (all_tasks script) core.outcomes fixed (gave_in core) orders_of_run last k a ⊎ IsAttempt ids (all_tasks script) core.outcomes a) (orders_of_run k).accepted
-  unfolding orders_of_run ids
+  pub sent : (fixed : Fixed) (last : ℕ → ℕ) (k : ℕ) → k < length (link_names script) → AllByRecursion (λ (a : Accepted). IsSent (plan_of script) (all_tasks script) core.outcomes fixed (gave_in core) orders_of_run last k a ⊎ IsAttempt ids (all_tasks script) core.outcomes a) (orders_of_run k).accepted
   sent fixed last k low = run_sent script are (first_views script) (starts bytes script reads) fresh go turns core is fits owed narrow bare (ids_of_run script (made bytes script reads) turns core is narrow few_clients) (run_labelled script (made bytes script reads) turns core is narrow few_clients) fixed (gave_in core) last k low
 
-  plain : ToldTasks (told_tasks_of script) core.outcomes (plan_of script) orders_of_run (lost_of_run script turns core is) (lost_before script turns core is) (λ o. is_said_late script turns core is o ≡ true)
-  unfolding orders_of_run
-  plain = run_told script are (first_views script) (starts bytes script reads) fresh go turns core is fits owed
+  pub told_plain : ToldTasks (told_tasks_of script) core.outcomes (plan_of script) orders_of_run (lost_of_run script turns core is) (lost_before script turns core is) (λ o. is_said_late script turns core is o ≡ true)
+  told_plain = run_told script are (first_views script) (starts bytes script reads) fresh go turns core is fits owed
 
   on_calls : (fixed : Fixed) (last : ℕ → ℕ) → ToldOnCallsInPart (plan_of script) (all_tasks script) core.outcomes fixed (gave_in core) orders_of_run last
   on_calls fixed last = run_told_in_part script (made bytes script reads) (are_there bytes script reads) ((is_counted bytes script reads).in_range) turns core is (λ k. []) closes fixed orders_of_run last
 
   pub causes_known : CausesKnown script turns core is
-  causes_known = record { orders = orders_of_run; are_orders = are_orders; ids = ids; sent = sent; plain = plain; on_calls = on_calls }
+  causes_known = record { orders = orders_of_run; are_orders = are_orders; ids = ids; sent = sent; plain = told_plain; on_calls = on_calls }
 
   -- ## The place words
 
@@ -176,7 +173,7 @@ module _ (bytes : List ℕ) (script : List Item) (reads : script_of bytes ≡ Ok
       let it : IsTask (all_tasks script) core.outcomes q.0.client t = operation_task script core.outcomes i q.0 a.0 q.1 a.1 in
       ⊎_elim
       (λ called. let w = (on_calls nothing_fixed (λ o. 0)).told q.0.client t it called in unsaid w.0 w.1)
-      (λ plain_. ⊎_elim (λ w. unsaid w.0 w.1) (λ w. placed w.0 w.1 w.2 w.3 w.4 w.5 w.6) (plain.told q.0.client t (task_down (all_tasks script) (length (opens script)) core.outcomes q.0.client t it plain_)))
+      (λ plain_. ⊎_elim (λ w. unsaid w.0 w.1) (λ w. placed w.0 w.1 w.2 w.3 w.4 w.5 w.6) (told_plain.told q.0.client t (task_down (all_tasks script) (length (opens script)) core.outcomes q.0.client t it plain_)))
       (on_calls_or_plain a.0)
     where
       unsaid : (o : Outcome) → slice_get core.outcomes i ≡ Some (Some o) → HasPosition (word_at (place_words (plan_of script) core.words) (8 * i))
