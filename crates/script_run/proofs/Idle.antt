@@ -3,26 +3,31 @@ use Rattle.std.proofs.Common.{◌≡◌, ℕ, zero, suc, ◌+◌, ◌-◌, ◌<�
 use Rattle.std.proofs.lemmas.Bool.{true≢false}
 use Rattle.std.proofs.lemmas.List.{length-map}
 use Rattle.std.specs.Prelude as std
+use Rattle.std.specs.Prelude.{if◌then◌else◌}
 use Rattle.std.specs.List.{AllByRecursion}
 use mathlib.Core.Option.{Option, some, none, some-injective, some-ne-none}
 use mathlib.Core.Logic.{dite}
 use native.Mathlib.Decide.{dec_le, dec_lt, ℕ_discrete}
 use lib.ListN.{get_elem?}
+use Rattle.sock_words.specs.declared.kind.Kind.{Kind}
 use Rattle.sock_words.specs.declared.plain.Plan.{Plan}
 use Rattle.sock_model.specs.declared.view.View.{View}
-use Rattle.brpc_model.specs.Items.{Item, Open}
+use Rattle.brpc_model.specs.Items.{Item, Call, is_call}
 use Rattle.brpc_model.specs.Operations.{Turn, clients, link_names}
 use Rattle.brpc_model.specs.Script.{script_of}
 use Rattle.sock_programs.specs.Clients.{client_from}
 use Rattle.sock_programs.specs.Cores.{Core, SeatState, next_step, resolved}
 use Rattle.sock_programs.specs.Heads.{Head, Exit, Posts, Unlocks, Decides, Locks, Joins, Opens, Reads, Discards}
 use Rattle.sock_programs.specs.Programs.{Program, Rest, Round}
-use Rattle.sock_programs.specs.Runs.{IsAtRest, from_to}
+use Rattle.sock_programs.specs.Runs.{IsAtRest, kind_in}
 use Rattle.sock_programs.specs.Scripts.{IsRunWithCalls, Settles, programs, sizes_of, readers_from, all_programs, all_tasks, is_callless, is_later, opened, set_up, played, ticks_of}
-use Rattle.sock_programs.specs.Tasks.{calls, opens, plan_of, id_plan_of, numbered}
+use Rattle.sock_programs.specs.Tasks.{Numbered, calls, opens, plan_of, id_plan_of, numbered}
+use Rattle.sock_programs.specs.Told.{AreTasks}
 use Rattle.sock_programs.specs.Ticks.{Answer, Moment, quiet, run, IsPrompt, waits, waits_at, waits_in}
 use Rattle.sock_runs.specs.Sound.{Sound, views_along}
 use Rattle.sock_runs.proofs.Along.{run_sound, seat_rests}
+use Rattle.sock_runs.proofs.Quiets.{run_rests}
+use Rattle.sock_runs.proofs.LinkTicks.{RetriesGo}
 use Rattle.sock_runs.proofs.Opening.{mapped}
 use Rattle.sock_runs.proofs.Waiting.{StandsAside, still_settles}
 use Rattle.sock_runs.proofs.Whole.{set_up_answered, set_up_sound, rested_ahead, rested_idle}
@@ -31,7 +36,7 @@ use Rattle.id_runs.specs.Goes.{IdGoesOn, SoundIds}
 use Rattle.joint_runs.proofs.Both.{behind_both}
 use Rattle.joint_runs.proofs.Runs.{first_views, joint_runs}
 use Rattle.client_laws.proofs.Retrying.{retries_go}
-use Rattle.owed_calls.proofs.EndsStill.{all_still, one_of_still, run_parts, second_part, in_round}
+use Rattle.owed_calls.proofs.EndsStill.{all_still, one_of_still, run_parts, second_part, in_round, mapped_at, rest_at}
 use Rattle.send_causes.proofs.Takeless.{NoTakes, TakesNone, client_takes, takes_next, run_takes}
 use Rattle.report_fits.proofs.Callless.{not_later}
 use Rattle.report_fits.proofs.Lists.{Has, has_first, filter_map_has}
@@ -41,7 +46,7 @@ use Rattle.report_fits.proofs.TaskLemmas.{tasks_length}
 use Rattle.report_fits.proofs.Tasks.{tasks_of_script}
 use Rattle.whole_runs.proofs.Lengths.{run_sizes}
 use Rattle.whole_runs.proofs.Starts.{made, starts, fitting}
-use Rattle.script_run.proofs.Silent.{MuteAt, mute_run, opened_mute}
+use Rattle.script_run.proofs.Silent.{IsMute, MuteAt}
 
 beside : {A B : Type 0} (l : List A) (m : List B) (j : ℕ) (a : A) → length m ≡ length l → get_elem? l j ≡ some a → (b : B) × (get_elem? m j ≡ some b)
 beside [] m j a e at = absurd (some-ne-none a (sym at))
@@ -63,11 +68,11 @@ only_nil (x ∷ l) h = absurd (h x (has_first x l))
 pub no_calls : (script : List Item) → is_callless script ≡ true → calls script ≡ []
 no_calls script callless = only_nil (calls script) (λ o has_it. let x = filter_map_has _ (numbered script) o has_it in none_here x.0 o x.2 (not_later script callless x.0.op.item (let n = is_numbered 0 0 _ x.1.0 x.0 x.1.1 in (are_from 0 1 script x.1.0 x.0.op n.op).there)))
   where
-    none_here : (x : Rattle.sock_programs.specs.Tasks.Numbered) (o : ℕ) → (std.if◌then◌else◌ (Rattle.brpc_model.specs.Items.is_call x.op.item) (std.Some x.number) std.None) ≡ std.Some o → is_later x.op.item ≡ false → ⊥
+    none_here : (x : Numbered) (o : ℕ) → (if is_call x.op.item then std.Some x.number else std.None) ≡ std.Some o → is_later x.op.item ≡ false → ⊥
     none_here x o = by x.op.item
       where
-        by : (item : Item) → (std.if◌then◌else◌ (Rattle.brpc_model.specs.Items.is_call item) (std.Some x.number) std.None) ≡ std.Some o → is_later item ≡ false → ⊥
-        by (Rattle.brpc_model.specs.Items.Call call) e f = true≢false f
+        by : (item : Item) → (if is_call item then std.Some x.number else std.None) ≡ std.Some o → is_later item ≡ false → ⊥
+        by (Call call) e f = true≢false f
         by item e f = cc
 
 module _ (bytes : List ℕ) (script : List Item) (reads : script_of bytes ≡ Ok script) (callless : is_callless script ≡ true) (turns : List Turn) (core : Core) (is : IsRunWithCalls script turns core) where
@@ -83,10 +88,10 @@ module _ (bytes : List ℕ) (script : List Item) (reads : script_of bytes ≡ Ok
   abbrev ws : List View
   ws = views_along (plan_of script) (set_up script is.setup) (views_along (plan_of script) (opened script) (first_views script) (replicate is.setup (quiet 0))) (is.scheduled ++ is.later)
 
-  go : Rattle.sock_runs.proofs.LinkTicks.RetriesGo (plan_of script)
+  go : RetriesGo (plan_of script)
   go = let limits = keeps_limits bytes script reads in retries_go (plan_of script) limits.requests
 
-  are : Rattle.sock_programs.specs.Told.AreTasks (plan_of script) (all_tasks script)
+  are : AreTasks (plan_of script) (all_tasks script)
   are = tasks_of_script bytes script reads
 
   sound : Sound (plan_of script) before ws
@@ -154,15 +159,15 @@ module _ (bytes : List ℕ) (script : List Item) (reads : script_of bytes ≡ Ok
 
   -- a seat between the clients and the readers has nothing to do
   rests_between : (i : ℕ) → clients script < i → i < 32 → IsAtRest before i
-  rests_between i low high = Rattle.sock_runs.proofs.Along.run_rests (plan_of script) (set_up script is.setup) (is.scheduled ++ is.later) i
-      (Rattle.sock_runs.proofs.Along.run_rests (plan_of script) (opened script) (replicate is.setup (quiet 0)) i at_first)
+  rests_between i low high = run_rests (plan_of script) (set_up script is.setup) (is.scheduled ++ is.later) i
+      (run_rests (plan_of script) (opened script) (replicate is.setup (quiet 0)) i at_first)
     where
       at_first : IsAtRest (opened script) i
       at_first = let first : List Program = programs (sizes_of (plan_of script) (id_plan_of script)) (all_tasks script) in
           let long = length-map (all_tasks script) (client_from (sizes_of (plan_of script) (id_plan_of script)) []) in let t = tasks_length script 0 (clients script + 1) in
-          ap (λ (o : Option SeatState). elim o as (λ o. std.Option Rattle.sock_words.specs.declared.kind.Kind.Kind) [ none ↦ std.None | some s ↦ Rattle.sock_programs.specs.Runs.kind_in s.program ])
-          (Rattle.owed_calls.proofs.EndsStill.mapped_at (λ (program : Program). record { program = next_step (resolved [] program); hand = [] }) (all_programs first (readers_from (calls script) 0 (opens script))) i Rest
-          (Rattle.owed_calls.proofs.EndsStill.rest_at first (readers_from (calls script) 0 (opens script)) (32 - length first) i (omega (arith, long, t, low)) (omega (arith, long, t, low, high))))
+          ap (λ (o : Option SeatState). elim o as (λ o. std.Option Kind) [ none ↦ std.None | some s ↦ kind_in s.program ])
+          (mapped_at (λ (program : Program). record { program = next_step (resolved [] program); hand = [] }) (all_programs first (readers_from (calls script) 0 (opens script))) i Rest
+          (rest_at first (readers_from (calls script) 0 (opens script)) (32 - length first) i (omega (arith, long, t, low)) (omega (arith, long, t, low, high))))
 
   each : (i : ℕ) → i < length before.seats → IsAtRest before i ⊎ ((m : Moment) × (m.seat ≡ i) × IsPrompt m × (waits (plan_of script) before m ≡ true))
   each i inside = dite (ℕ_discrete i 0)
@@ -205,4 +210,18 @@ module _ (bytes : List ℕ) (script : List Item) (reads : script_of bytes ≡ Ok
 
   -- so each of them is at rest before the ending
   pub clients_rest : (i : ℕ) → 0 < i → i < length (all_tasks script) → MuteAt i before
-  clients_rest i some_ low seat at = subst Rattle.script_run.proofs.Silent.IsMute (sym (rests i low seat at)) tt
+  clients_rest i some_ low seat at = subst IsMute (sym (rests i low seat at)) tt
+
+  pub clients_idle : (i : ℕ) → i ≤ clients script → IsAtRest before i
+  clients_idle i low = by (get_elem? before.seats i) refl
+    where
+      kind_of : Option SeatState → std.Option Kind
+      kind_of o = elim o as (λ o. std.Option Kind) [ none ↦ std.None | some s ↦ kind_in s.program ]
+
+      inside : i < length (all_tasks script)
+      inside = let many_ = tasks_length script 0 (clients script + 1) in omega (arith, low, many_)
+
+      by : (o : Option SeatState) → get_elem? before.seats i ≡ o → IsAtRest before i
+      unfolding kind_of
+      by none e = ap kind_of e
+      by (some s) e = ap kind_of e ∙ ap kind_in (rests i inside s e)

@@ -129,7 +129,7 @@ module _ (p : Plan) where
 -- one line more
 played_more : (turns : List Turn) (turn : Option Turn) (a b c : MachineState) → HasPlayed (λ d. Scheduled a.plan d turns) a b → HasPlayed (HasTurns b.plan turn) b c → HasPlayed (λ d. Scheduled a.plan d (turns ++ cons_option turn [])) a c
 played_more turns turn a b c h k =
-    then_played (λ d. Scheduled a.plan d turns) (HasTurns a.plan turn) (λ d. Scheduled a.plan d (turns ++ cons_option turn [])) a b c h (subst (λ q. HasPlayed (HasTurns q turn) b c) h.table.plan k)
+    then_played (λ d. Scheduled a.plan d turns) (HasTurns a.plan turn) (λ d. Scheduled a.plan d (turns ++ cons_option turn [])) a b c h (subst (λ q. HasPlayed (HasTurns q turn) b c) h.0.plan k)
     (λ d xs ys hx hy. scheduled_line a.plan turns turn d xs ys hx hy)
 
 pub map_more : {A B : Type 0} (f : A → B) (xs : List A) (x : A) → map f (xs ++ x ∷ []) ≡ map f xs ++ f x ∷ []

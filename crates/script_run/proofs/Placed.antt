@@ -1,5 +1,5 @@
 -- What is known of causes in every script: what links accepted, where the place words tell so, and why each operation has its outcome.
-use Rattle.std.proofs.Common.{◌≡◌, ℕ, zero, suc, ◌+◌, ◌*◌, ◌<◌, ◌≤◌, ◌⊎◌, inl, inr, ⊎_elim, Bool, true, false, List, [], ◌∷◌, length, map, slice_get, slice_index_or, Option, Some, None, Ok, refl, sym, ap, ◌∙◌, subst, arith}
+use Rattle.std.proofs.Common.{◌≡◌, ℕ, zero, suc, ◌+◌, ◌-◌, ◌*◌, ◌<◌, ◌≤◌, ◌⊎◌, inl, inr, ⊎_elim, Bool, true, false, List, [], ◌∷◌, length, map, slice_get, slice_index_or, Option, Some, None, Ok, refl, sym, ap, ◌∙◌, subst, arith}
 use Rattle.std.specs.List.{AllByRecursion}
 use Rattle.std.proofs.lemmas.Option.{slice_get_within}
 use mathlib.Core.Option.{some, some-injective, some-ne-none}
@@ -103,10 +103,10 @@ module _ (bytes : List ℕ) (script : List Item) (reads : script_of bytes ≡ Ok
   pub owed : IsOwed script turns core is
   owed = run_owed_of script (made bytes script reads) turns core is closes
 
-  narrow : (id_plan_of script).slots ≤ 65536
+  pub narrow : (id_plan_of script).slots ≤ 65536
   narrow = let m = made bytes script reads in let few_ = m.few_slots in omega (arith, few_)
 
-  few_clients : length (all_tasks script) ≤ 32
+  pub few_clients : length (all_tasks script) ≤ 32
   few_clients = let m = made bytes script reads in m.few_clients
 
   abbrev pub orders_of_run : ℕ → Order

@@ -3,6 +3,7 @@ use Rattle.std.proofs.Common.{◌≡◌, ◌≢◌, ℕ, zero, suc, ◌+◌, ◌
 use Rattle.std.specs.Prelude as std
 use Rattle.std.specs.Prelude.{slice_get, slice_set}
 use Rattle.std.proofs.lemmas.List.{length-map}
+use Rattle.std.proofs.lemmas.Bool.{true≢false}
 use mathlib.Core.Option.{Option, some, none, some-injective, some-ne-none}
 use mathlib.Core.Logic.{dite}
 use native.Mathlib.Decide.{dec_lt, ℕ_discrete}
@@ -84,11 +85,15 @@ and_false : (a b : Bool) → b ≡ false → (a && b) ≡ false
 and_false true b e = e
 and_false false b e = refl
 
+mute_else : (b : Bool) (x y : Program) → b ≡ false → IsMute y → IsMute (cond b x y)
+mute_else true x y e m = absurd (true≢false e)
+mute_else false x y e m = m
+
 mute_responses : (ids : ℕ) (fs kept : List Frame) (k : List Frame → Program) → ids ≡ 0 → ((kept : List Frame) → IsMute (k kept)) → IsMute (responses ids fs kept k)
 mute_responses ids [] kept k none_ after = after kept
 mute_responses ids (f ∷ fs) kept k none_ after =
     let test : (has_response f.meta.response && nat_lt (slot_in f) ids) ≡ false = and_false (has_response f.meta.response) (nat_lt (slot_in f) ids) (ap (nat_lt (slot_in f)) none_ ∙ le-ltb (slot_in f) 0 (omega arith)) in
-    subst (λ (b : Bool). IsMute (cond b _ (responses ids fs kept k))) (sym test) (mute_responses ids fs kept k none_ after)
+    mute_else (has_response f.meta.response && nat_lt (slot_in f) ids) _ (responses ids fs kept k) test (mute_responses ids fs kept k none_ after)
 
 mute_on : (r : Reading) (bytes : List ℕ) (e : streams.Ending) (k : Ended → Program) → r.ids ≡ 0 → ((how : Ended) → IsMute (k how)) → IsMute (read_on r bytes e k)
 mute_on r bytes (streams.Rest n) k none_ after = either_way (nat_lt r.total LIMIT) _ _ IsMute (none_, after) (after _)
@@ -248,12 +253,11 @@ quiet_outcomes p c m x = by (get_elem? c.seats m.seat) refl
     by (some seat) e = ap (λ (d : Core). d.outcomes) (tick_some p c m seat e) ∙ (quiet_tick p m.seat seat c m.answer (x m.seat seat e)).outcomes
 
 no_birth : (program : Program) → IsMute program → born_of (call_in program) ≡ []
-no_birth (Do (GiveBirth i k) next) x = absurd x
-no_birth (Do call next) x = none_born call x
+no_birth (Do call next) x = none_born call next x
   where
-    none_born : (call : Call) {next : ℕ → Program} → IsMute (Do call next) → born_of (std.Some call) ≡ []
-    none_born (GiveBirth i k) x = absurd x
-    none_born _ x = refl
+    none_born : (call : Call) (next : ℕ → Program) → IsMute (Do call next) → born_of (std.Some call) ≡ []
+    none_born (GiveBirth i k) next x = absurd x
+    none_born _ next x = refl
 no_birth (Aside step next) x = refl
 no_birth (Round head next) x = refl
 no_birth Rest x = refl

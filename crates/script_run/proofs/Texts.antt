@@ -1,5 +1,5 @@
 -- The text of a run, and the links that are given back.
-use Rattle.std.proofs.Common.{◌≡◌, ◌≢◌, ℕ, zero, suc, ◌+◌, ◌<◌, ◌≤◌, ◌⊎◌, inl, inr, true, List, [], ◌∷◌, ◌++◌, map, length, slice_get, slice_index_or, Option, Some, None, IfSome, Result, Ok, Err, OnOk, IfOk, IsOk, Bool, IsTrue, option_map, ap, sym, subst, refl, ◌∙◌, ⊎_elim, arith}
+use Rattle.std.proofs.Common.{◌≡◌, ◌≢◌, ℕ, zero, suc, ◌+◌, ◌<◌, ◌≤◌, ◌⊎◌, inl, inr, true, List, [], ◌∷◌, ◌++◌, map, length, slice_get, slice_index_or, Option, Some, None, IfSome, Result, Ok, Err, OnOk, IfOk, IsOk, Bool, option_map, ap, sym, subst, refl, ◌∙◌, ⊎_elim, arith}
 use Rattle.std.specs.Prelude.{Contains}
 use Rattle.std.specs.List.{AllByRecursion}
 use Rattle.std.proofs.lemmas.Option.{slice_get_within}
@@ -44,6 +44,7 @@ use Rattle.script_run.specs.Causes.{HasCauses, EndedEarly, gave_in}
 use Rattle.script_run.specs.Given.{IsUntouched, AreUntouched}
 use Rattle.script_run.specs.Played.{IsMade, HasRun, AreHeard, IsWholeRun, IsEndTold, AreEndsTold, IsRunText}
 use Rattle.script_run.proofs.Homes.{index_at, took_is, lies_is, told_is}
+use Rattle.script_run.proofs.Idle.{clients_idle}
 use Rattle.script_run.proofs.Placed.{run_places, causes_known}
 use Rattle.script_run.proofs.Told.{has_causes, as_far}
 
@@ -119,10 +120,7 @@ module _ (bytes : List ℕ) (script : List Item) (turns : List Turn) (start m : 
     shows t has_it = all_at (λ (t : Taking). ShowsTaking t e) (heard_takes ran.run k) t (ran.taken k e at) (has_from (heard_takes ran.run k) t has_it)
 
     ends_early : EndedEarly ran.run k → EndsEarly (gave_in end_core k) e
-    ends_early (inl ended) = inl (is_true (shows AtEnd ended))
-      where
-        is_true : e.gave_end ≡ true → IsTrue e.gave_end
-        is_true g = subst IsTrue (sym g) tt
+    ends_early (inl ended) = inl (shows AtEnd ended)
     ends_early (inr (inl fault)) = inr (inl (subst HasFault (sym (gave_heard bytes script reads turns end_core ran.run k low)) fault))
     ends_early (inr (inr (inl most))) = inr (inr (inl (let c = counted in let same = ap length (gave_heard bytes script reads turns end_core ran.run k low) in omega (arith, most, c, same))))
     ends_early (inr (inr (inr failed))) = inr (inr (inr (shows Broken failed)))
@@ -179,6 +177,7 @@ module _ (bytes : List ℕ) (script : List Item) (turns : List Turn) (start m : 
     laws = keeps_laws script (tasks_of_script bytes script reads) (starts bytes script reads) (let limits = keeps_limits bytes script reads in retries_go (plan_of script) limits.requests) turns end_core ran.run (fitting bytes script reads turns end_core ran.run);
     heard = subst (λ (es : List LinkEnd). AreHeard es (heard_of ran.run) (taken_of ran.run)) (sym ends_same) are_heard;
     drops = run_drops_told bytes script reads turns end_core ran.run (run_owed_of script (made bytes script reads) turns end_core ran.run (ran.closes tell));
+    idle = λ callless. clients_idle bytes script reads callless turns end_core ran.run;
     over = over;
   }
 

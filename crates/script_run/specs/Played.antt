@@ -1,14 +1,14 @@
 -- The lines by which a script is run, the ticks that they make, and the text of a run.
-use Rattle.std.specs.Prelude.{ℕ, ◌≡◌, ◌≢◌, ◌≤◌, length, slice_get, slice_index_or, List, [], Option, Some, None, IfSome}
+use Rattle.std.specs.Prelude.{ℕ, ◌≡◌, ◌≢◌, ◌≤◌, ◌++◌, true, length, slice_get, slice_index_or, List, [], Option, Some, None, IfSome}
 use Rattle.sock_words.specs.declared.plain.Plan.{Plan}
 use Rattle.brpc_model.specs.Items.{Item}
 use Rattle.brpc_model.specs.Link.{LinkEnd}
-use Rattle.brpc_model.specs.Operations.{Turn, schedule, link_names}
+use Rattle.brpc_model.specs.Operations.{Turn, schedule, clients, link_names}
 use Rattle.brpc_model.specs.Report.{Report, report_text}
 use Rattle.sock_programs.specs.Cores.{Core}
 use Rattle.sock_programs.specs.Ticks.{Answer, Moment}
 use Rattle.sock_programs.specs.Runs.{IsAtRest, Turns}
-use Rattle.sock_programs.specs.Scripts.{IsRunWithCalls, Reports, set_up, drawn_turns, took_at_home}
+use Rattle.sock_programs.specs.Scripts.{IsRunWithCalls, Reports, is_callless, set_up, played, drawn_turns, took_at_home}
 use Rattle.sock_programs.specs.Tasks.{plan_of, id_plan_of, opens, calls}
 use Rattle.report_fits.specs.Ends.{AreEndsOf, AreTold}
 use Rattle.run_laws.specs.Laws.{KeepsLaws}
@@ -97,6 +97,8 @@ pub record IsWholeRun (script : List Item) (turns : List Turn) (ends : List Link
   pub laws : KeepsLaws run
   pub heard : AreHeard ends (heard_of run) (taken_of run)
   pub drops : DropsTold run
+  -- without calls each client is at rest where the ending begins
+  pub idle : is_callless script ≡ true → (i : ℕ) → i ≤ clients script → IsAtRest (played script run.setup (run.scheduled ++ run.later)) i
   -- in the end no life is left, each id range has ended, and each link is at home
   pub over : IsAllOver script core
 
