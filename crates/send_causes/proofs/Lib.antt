@@ -12,3 +12,8 @@ pub mod Readings
 pub mod ReaderRuns
 pub mod Early
 pub mod Places
+pub mod Rests
+pub mod Telling
+pub mod Storied
+pub mod Dropped
+pub mod Sends

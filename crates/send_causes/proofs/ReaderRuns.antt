@@ -87,6 +87,10 @@ module _ (p : Plan) (calls os : List ℕ) (in_os : (k o : ℕ) → get_elem? os 
       → State p calls r.0 r.1 (in_os r.0 r.1 r.3) Odd Lasts (ends r.0) (get_or c.words (open_word p r.1) 0) (taken r.0) seat.program v
   state_at c vs taken k j seat v at at_view r = k.readers r.0 r.1 r.3 seat v (sym (ap (get_elem? c.seats) r.2) ∙ at) (sym (ap (get_elem? vs) r.2) ∙ at_view)
 
+  -- no reader has the right to write a link
+  pub reader_rights : (c : Core) (vs : List View) (taken : ℕ → List Taking) → Keeps c vs taken → (j : ℕ) (seat : SeatState) (v : View) → get_elem? c.seats j ≡ some seat → get_elem? vs j ≡ some v → 32 ≤ j → v.rights ≡ []
+  reader_rights c vs taken k j seat v at at_view high = (state_at c vs taken k j seat v at at_view (reader_of c vs taken k j seat at high)).0
+
   -- no seat but its reader takes bytes of a link
   others_none : (c : Core) (vs : List View) (taken : ℕ → List Taking) → Sound p c vs → Keeps c vs taken → (j : ℕ) (seat : SeatState) → get_elem? c.seats j ≡ some seat → (n : ℕ) → j ≢ 32 + n → filter (λ l. l == n) (taken_link seat.program) ≡ []
   others_none c vs taken sound k j seat at n far = dite (dec_le 32 j)

@@ -1,0 +1,284 @@
+-- What a whole run tells of each `open`, `send`, `hold`, `drop` and `fail`, and of the links: in runs with calls all but three things, in runs without calls all.
+use Rattle.std.proofs.Common.{◌≡◌, ◌≢◌, ℕ, zero, suc, ◌+◌, ◌-◌, ◌*◌, ◌<◌, ◌≤◌, ◌⊎◌, Bool, true, false, List, [], ◌∷◌, ◌++◌, length, length-set, map, flat_map, replicate, get_or, inl, inr, ⊎_elim, refl, sym, ap, ◌∙◌, subst, arith}
+use Rattle.std.proofs.lemmas.Bool.{true≢false}
+use Rattle.std.specs.Prelude.{Contains, Option, Some, None, slice_get}
+use Rattle.std.specs.List.{AllByRecursion}
+use mathlib.Core.Logic.{dite}
+use mathlib.Core.Option.{none, some, some-injective, some-ne-none}
+use native.Mathlib.Decide.{ℕ_discrete}
+use lib.ListN.{get_elem?}
+use Rattle.atomic_table.proofs.Lists.{set_else}
+use Rattle.sock_words.specs.declared.outcome.Outcome.{Outcome}
+use Rattle.sock_words.specs.declared.plain.Plan.{Plan}
+use Rattle.sock_model.specs.declared.view.View.{View}
+use Rattle.sock_model.specs.Layout.{place_word}
+use Rattle.sock_model.specs.Seats.{newcomer, below}
+use Rattle.sock_model.specs.Links.{Failed}
+use Rattle.brpc_model.specs.Items.{Item}
+use Rattle.brpc_model.specs.Operations.{Turn}
+use Rattle.brpc_model.specs.Order.{EachBefore}
+use Rattle.sock_message.specs.Asked.{Asked, name_of}
+use Rattle.sock_programs.specs.declared.task.Op.TheVariants as ops
+use Rattle.sock_programs.specs.declared.task.Task.{Task}
+use Rattle.sock_programs.specs.Clients.{ending_of}
+use Rattle.sock_programs.specs.Cores.{Core, SeatState, resolved, next_step, waiting_at}
+use Rattle.sock_words.specs.declared.kind.Kind.{Kind}
+use Rattle.sock_programs.specs.Runs.{IsAtRest, kind_in}
+use Rattle.sock_programs.specs.Tasks.{opens, calls, plan_of, id_plan_of}
+use Rattle.sock_programs.specs.Ticks.{Moment, quiet, ticked, run, broken_in}
+use Rattle.sock_programs.specs.Scripts.{all_tasks, opened, set_up, played, ending, is_ending, IsRunWithCalls}
+use Rattle.sock_programs.specs.Told.{AreTasks, IsTask, Became, Made, IsFail}
+use Rattle.sock_programs.specs.ToldCalls.{Accepted, Order, Fixed, AreOrders, StandsOn, Why, IsSent, InOwnOrder, IsFailing}
+use Rattle.sock_runs.specs.Sound.{state, Sound, AreFew, views_along}
+use Rattle.sock_runs.proofs.Along.{seat_rests}
+use Rattle.sock_runs.proofs.Bounded.{IsBounded}
+use Rattle.sock_runs.proofs.LinkTicks.{RetriesGo}
+use Rattle.sock_runs.proofs.Quiets.{run_seats, run_rests}
+use Rattle.sock_runs.proofs.Whole.{Begins, AreFittingIn, IsOwed, IsListed, closing_of, views_played, views_closed, views_ended, set_up_answered, end_answered, played_sound, closing_sound, closed_sound, ended_sound, rested_ahead, rested_idle, closed_ahead, recorded_closed}
+use Rattle.sock_causes.specs.Causes.{Asks}
+use Rattle.sock_causes.specs.Explains.{is_plain, plain_tasks}
+use Rattle.sock_causes.specs.Facts.{shown_in, broken_of_run, closed_before_ending, late_links_of_run, late_of_run, is_said_late, numbers_of, CallsFoundNone, ToldPlain, ToldSends}
+use Rattle.sock_causes.specs.Losses.{closed_at, lost_in}
+use Rattle.sock_causes.specs.PlainTasks.{told_tasks_of}
+use Rattle.sock_causes.specs.Stories.{In}
+use Rattle.sock_causes.specs.TaskCauses as causes
+use Rattle.sock_causes.specs.TaskCauses.{ToldTasks}
+use Rattle.sock_causes.proofs.Members.{in_contains, contains_in}
+use Rattle.sock_causes.proofs.Lifted.{filtered_in, task_down, why_lifted, told_lifted, are_lifted, lives_lifted}
+use Rattle.sock_causes.proofs.Plain.{in_left, in_right, in_both}
+use Rattle.sock_causes.proofs.Scripts.{lost_of_run}
+use Rattle.client_laws.specs.Openings.{links_of_all, without_passes, client_view, opening_views, all_seats}
+use Rattle.client_laws.proofs.Fresh.{opening_fresh}
+use Rattle.joint_runs.proofs.Both.{AreBounded}
+use Rattle.joint_runs.proofs.Runs.{AreMade, first_views, joint_runs, joint_bounded}
+use Rattle.owed_calls.specs.Lives.{ClosesInRun}
+use Rattle.owed_calls.proofs.Known.{run_owed_of}
+use Rattle.send_causes.specs.Sent.{IsAttempt}
+use Rattle.send_causes.proofs.Dropped.{ending_begins, ending_places, resting_places, failed_before}
+use Rattle.send_causes.proofs.Early.{start, go, fitting, known, Any, ends_anyhow, closed_keeps}
+use Rattle.send_causes.proofs.Labelled.{ids_of_run, run_labelled}
+use Rattle.send_causes.proofs.Rests.{clients_rest}
+use Rattle.send_causes.proofs.Storied.{lost_before, late, orders, run_tells, failed_early}
+use Rattle.send_causes.proofs.Runs.{AreLabelledIn}
+use Rattle.send_causes.proofs.Whole.{run_orders, run_sent}
+
+-- a link that was lost in some ticks answered that it failed, or its socket was closed
+lost_so : (p : Plan) (c : Core) (ms : List Moment) (k : ℕ) → In k (lost_in p c ms) → In k (broken_in p c ms) ⊎ In k (shown_in closed_at p c ms)
+lost_so p c [] k m = absurd m
+lost_so p c (x ∷ xs) k m = ⊎_elim
+    (λ a. ⊎_elim (λ b. inl (in_left _ (broken_in p (ticked p c x) xs) k b)) (λ b. inr (in_left (closed_at c x) (shown_in closed_at p (ticked p c x) xs) k b)) (in_both _ (closed_at c x) k a))
+    (λ a. ⊎_elim (λ b. inl (in_right _ (broken_in p (ticked p c x) xs) k b)) (λ b. inr (in_right (closed_at c x) (shown_in closed_at p (ticked p c x) xs) k b)) (lost_so p (ticked p c x) xs k a))
+    (in_both _ (lost_in p (ticked p c x) xs) k m)
+
+in_numbers : (ts : List Task) (t : Task) → In t ts → In t.number (map (λ (t : Task). t.number) ts)
+in_numbers [] t m = absurd m
+in_numbers (u ∷ ts) t (inl e) = inl (ap (λ (t : Task). t.number) e)
+in_numbers (u ∷ ts) t (inr m) = inr (in_numbers ts t m)
+
+in_all : (f : List Task → List ℕ) (clients : List (List Task)) (c o : ℕ) (ts : List Task) → slice_get clients c ≡ Some ts → In o (f ts) → In o (flat_map f clients)
+in_all f [] c o ts e m = absurd (cc)
+in_all f (us ∷ clients) zero o ts e m = in_left (f us) (flat_map f clients) o (subst (λ l. In o (f l)) (sym (same e)) m)
+  where
+    same : Some us ≡ Some ts → us ≡ ts
+    same e = cc
+in_all f (us ∷ clients) (suc c) o ts e m = in_right (f us) (flat_map f clients) o (in_all f clients c o ts e m)
+
+all_map : {A : Type 0} (P Q : A → Type 0) → ((x : A) → P x → Q x) → (xs : List A) → AllByRecursion P xs → AllByRecursion Q xs
+all_map P Q f [] a = tt
+all_map P Q f (x ∷ xs) a = (f x a.0, all_map P Q f xs a.1)
+
+before_map : {A : Type 0} (P Q : A → A → Type 0) → ((x y : A) → P x y → Q x y) → (xs : List A) → EachBefore P xs → EachBefore Q xs
+before_map P Q f [] a = tt
+before_map P Q f (x ∷ xs) a = (all_map (P x) (Q x) (f x) xs a.0, before_map P Q f xs a.1)
+
+first_bounded : (p : Plan) (most : ℕ) (ms : List Moment) (c : Core) (vs : List View) → AreBounded p most c vs ms → IsBounded p most c vs
+first_bounded p most [] c vs b = b
+first_bounded p most (m ∷ ms) c vs b = b.0
+
+-- no seat has a claim as a run begins
+clients_claim : (p : Plan) (clients : List (List Task)) (i : ℕ) (v : View) → get_elem? (map (client_view p) clients) i ≡ some v → v.claims ≡ []
+clients_claim p [] i v e = absurd (some-ne-none v (sym e))
+clients_claim p (ts ∷ clients) zero v e = subst (λ (u : View). u.claims ≡ []) (some-injective (client_view p ts) v e) refl
+clients_claim p (ts ∷ clients) (suc i) v e = clients_claim p clients i v e
+
+opening_claims : (p : Plan) (clients : List (List Task)) (i : ℕ) (v : View) → get_elem? (opening_views p clients) i ≡ some v → v.claims ≡ []
+opening_claims p [] i v e = absurd (some-ne-none v (sym e))
+opening_claims p (ts ∷ clients) zero v e = subst (λ (u : View). u.claims ≡ []) (some-injective (newcomer p (without_passes (links_of_all clients) (below p.links)) (511 - length clients)) v e) refl
+opening_claims p (ts ∷ clients) (suc i) v e = clients_claim p clients i v e
+
+module _ (script : List Item) (made : AreMade script) (turns : List Turn) (core : Core) (is : IsRunWithCalls script turns core) (closes : ClosesInRun script turns core is) where
+  abbrev p : Plan
+  p = plan_of script
+
+  abbrev are : AreTasks (plan_of script) (all_tasks script)
+  are = made.are
+
+  abbrev vs : List View
+  vs = first_views script
+
+  abbrev begins : Begins script (first_views script)
+  begins = start script made turns core is
+
+  abbrev goes : RetriesGo (plan_of script)
+  goes = go script made turns core is
+
+  abbrev fits : AreFittingIn script turns core is
+  fits = fitting script made turns core is
+
+  abbrev fresh : (i : ℕ) (v : View) → get_elem? (first_views script) i ≡ some v → v.lists ≡ [] ∷ []
+  fresh = opening_fresh (plan_of script) (all_seats (all_tasks script) (length (opens script)))
+
+  narrow : (id_plan_of script).slots ≤ 65536
+  narrow = let k = known script made turns core is in k.narrow
+
+  few_clients : length (all_tasks script) ≤ 32
+  few_clients = let k = known script made turns core is in k.few
+
+  bare : (i : ℕ) (v : View) → get_elem? (first_views script) i ≡ some v → v.claims ≡ []
+  bare = opening_claims (plan_of script) (all_seats (all_tasks script) (length (opens script)))
+
+  pub owed : IsOwed script turns core is
+  owed = run_owed_of script made turns core is closes
+
+  -- what the links accepted
+  abbrev pub orders_of_run : ℕ → Order
+  orders_of_run = orders script are vs begins fresh goes turns core is fits owed
+
+  abbrev few : List ℕ
+  few = lost_before script are vs begins fresh goes turns core is fits
+
+  -- at words are those of the operations' own calls
+  abbrev labelled : AreLabelledIn (ids_of_run script made turns core is narrow few_clients) script turns core is
+  labelled = run_labelled script made turns core is narrow few_clients
+
+  tells : ToldTasks (told_tasks_of script) core.outcomes (plan_of script) orders_of_run (lost_of_run script turns core is) few (late script are vs begins fresh goes turns core is fits)
+  tells = let t = run_tells script are vs begins fresh goes turns core is fits owed in t.tells
+
+  -- the fails that count
+  pub fails_of_run : List (ℕ × ℕ)
+  fails_of_run = tells.fails
+
+  failed_by : (k : ℕ) → Failed (plan_of script) (state (played script is.setup (is.scheduled ++ is.later)) (views_played script turns core is (first_views script))) k → Contains few k ⊎ ((fail : ℕ) × Contains fails_of_run (fail, k))
+  unfolding tells fails_of_run
+  failed_by k f = failed_early script are vs begins fresh goes turns core is fits owed k f
+
+  -- ## The orders
+
+  pub orders_are : AreOrders (plan_of script) core orders_of_run
+  orders_are = run_orders script are vs begins fresh goes turns core is fits owed narrow bare (ids_of_run script made turns core is narrow few_clients) labelled
+
+  module _ (early closed silent : List ℕ) (soon : List (ℕ × ℕ)) (gave : ℕ → List ℕ) (last : ℕ → ℕ) where
+    -- what the run fixes
+    abbrev pub fixed : Fixed
+    fixed = record {
+      broken = broken_of_run script turns core is;
+      early = early;
+      closed = closed;
+      silent = silent;
+      late = late_of_run script turns core is;
+      late_links = late_links_of_run script turns core is;
+      soon = soon;
+      fails = fails_of_run;
+    }
+
+    lates : (c : ℕ) (t : Task) → IsTask (all_tasks script) core.outcomes c t → is_plain t.op ≡ true → late script are vs begins fresh goes turns core is fits t.number → Contains (late_of_run script turns core is) t.number
+    lates c t it plain_ l = in_contains (late_of_run script turns core is) t.number (in_left _ _ t.number
+        (filtered_in (is_said_late script turns core is) (flat_map (numbers_of script turns core is) (all_tasks script)) t.number
+        (in_all (numbers_of script turns core is) (all_tasks script) c t.number it.0 it.1
+        (in_numbers (plain_tasks it.0) t (filtered_in (λ (t : Task). is_plain t.op) it.0 t (contains_in it.0 t it.2) plain_))) l))
+
+    module _ (ends_early : (k : ℕ) → In k (closed_before_ending script turns core is) → Contains early k) where
+      failing : (k : ℕ) → Contains few k → Contains (broken_of_run script turns core is) k ⊎ Contains early k
+      failing k m = let ones = replicate is.setup (quiet 0) in let twos = is.scheduled ++ is.later in
+          ⊎_elim
+          (λ a. ⊎_elim (λ b. inl (in_contains (broken_of_run script turns core is) k (in_left (broken_in p (opened script) ones) _ k b)))
+          (λ b. inr (ends_early k (in_left (shown_in closed_at p (opened script) ones) _ k b))) (lost_so p (opened script) ones k a))
+          (λ a. ⊎_elim (λ b. inl (in_contains (broken_of_run script turns core is) k (in_right (broken_in p (opened script) ones) _ k (in_left (broken_in p (set_up script is.setup) twos) _ k b))))
+          (λ b. inr (ends_early k (in_right (shown_in closed_at p (opened script) ones) _ k b))) (lost_so p (set_up script is.setup) twos k a))
+          (in_both (lost_in p (opened script) ones) (lost_in p (set_up script is.setup) twos) k (contains_in few k m))
+
+      abbrev later : ℕ → Type 0
+      later = late script are vs begins fresh goes turns core is fits
+
+      abbrev lost : List ℕ
+      lost = lost_of_run script turns core is
+
+      -- ## Tasks
+
+      -- where calls that found a name without a socket did so before other operations of their client
+      pub told_plain : CallsFoundNone (all_tasks script) core.outcomes → ToldPlain (plan_of script) (all_tasks script) core.outcomes fixed gave orders_of_run last
+      unfolding fails_of_run
+      told_plain in_vain = record {
+        told = told_lifted (all_tasks script) (length (opens script)) core.outcomes (plan_of script) are fixed gave orders_of_run last lost few later tells refl failing lates in_vain;
+        are = are_lifted (all_tasks script) (length (opens script)) core.outcomes (plan_of script) are fixed gave orders_of_run last lost few later tells refl failing lates in_vain;
+        once = tells.once;
+        lives = lives_lifted (all_tasks script) (length (opens script)) core.outcomes (plan_of script) are fixed gave orders_of_run last lost few later tells refl failing lates in_vain;
+        why = why_lifted (all_tasks script) (length (opens script)) core.outcomes (plan_of script) are fixed gave orders_of_run last lost few later tells refl failing lates in_vain;
+      }
+
+      -- a link that failed before the ending may drop messages
+      pub failing_early : (k : ℕ) → Failed (plan_of script) (state (played script is.setup (is.scheduled ++ is.later)) (views_played script turns core is (first_views script))) k → IsFailing (plan_of script) (all_tasks script) core.outcomes fixed gave orders_of_run k
+      failing_early k f = ⊎_elim (λ a. inr (⊎_elim (λ b. inl b) (λ b. inr (inl b)) (failing k a))) (λ a. inl (a.0, a.1, tt)) (failed_by k f)
+
+      -- ## Without calls
+
+      module _ (callless : (id_plan_of script).slots ≡ 0) (plain : (c : ℕ) (t : Task) → IsTask (all_tasks script) core.outcomes c t → is_plain t.op ≡ true) where
+        no_call : (c : ℕ) (t : Task) (asked : Asked) → IsTask (all_tasks script) core.outcomes c t → t.op ≡ ops.Call asked → ⊥
+        no_call c t asked it op = true≢false (sym (plain c t it) ∙ ap is_plain op)
+
+        abbrev rested : Core
+        rested = played script is.setup (is.scheduled ++ is.later)
+
+        -- seat 0 as it begins the ending
+        abbrev first_of_ending : SeatState
+        first_of_ending = record { program = next_step (resolved (waiting_at (played script is.setup (is.scheduled ++ is.later)).calls.waiting 0) (ending_of (opens script))); hand = [] }
+
+        closing_rests : (j : ℕ) → j < 32 → j < length (closing_of script turns core is).seats → j ≢ 0 → IsAtRest (closing_of script turns core is) j
+        closing_rests j low inside some_ = ap (λ o. elim o as (λ o. Option Kind) [ none ↦ None | some seat ↦ kind_in seat.program ]) (set_else (played script is.setup (is.scheduled ++ is.later)).seats 0 j _ some_)
+            ∙ clients_rest script made turns core is callless j low (let l = length-set (played script is.setup (is.scheduled ++ is.later)).seats 0 first_of_ending in omega (arith, inside, l))
+
+        ended_rests : (j : ℕ) → j < 32 → j < length is.ended.seats → IsAtRest is.ended j
+        ended_rests j low inside = dite (ℕ_discrete j 0) (λ z. subst (IsAtRest is.ended) (sym z) is.is_over)
+            (λ some_. subst (λ d. IsAtRest d j) (sym is.is_ended) (run_rests (plan_of script) (closing_of script turns core is) (replicate is.last (quiet 0)) j
+            (closing_rests j low (let l = ap (λ (d : Core). length d.seats) is.is_ended in let r = run_seats (plan_of script) (closing_of script turns core is) (replicate is.last (quiet 0)) in omega (arith, inside, l, r)) some_)))
+
+        -- no place word is written once the run is ending
+        places_stay : (l : ℕ) → l < 8 * (plan_of script).operations → get_or core.words (place_word (plan_of script) l) 0 ≡ get_or (played script is.setup (is.scheduled ++ is.later)).words (place_word (plan_of script) l) 0
+        places_stay l low = ap (λ (d : Core). get_or d.words (place_word (plan_of script) l) 0) is.is_end
+            ∙ (resting_places (plan_of script) (calls script) (opens script) (let k = known script made turns core is in k.in_script) Any (Unit {0}) ends_anyhow (IsListed script) goes l low is.final is.ended (views_closed script turns core is vs) _
+            (closed_sound script are vs begins goes turns core is fits) is.answered_again fits.of_final (recorded_closed script are vs begins goes turns core is fits) (λ e. tt) (closed_ahead script are vs begins goes turns core is fits) ended_rests (closed_keeps script made turns core is)
+            ∙ (ap (λ (d : Core). get_or d.words (place_word (plan_of script) l) 0) is.is_ended
+            ∙ ending_places (plan_of script) goes l low is.last (closing_of script turns core is) (views_played script turns core is vs) (closing_sound script are vs begins goes turns core is fits) (end_answered script are vs begins goes turns core is fits) fits.of_closing
+            (ending_begins (plan_of script) (played script is.setup (is.scheduled ++ is.later)) (views_played script turns core is vs) (opens script) (played_sound script are vs begins goes turns core is fits)
+            (λ seat at. seat_rests (played script is.setup (is.scheduled ++ is.later)) (rested_ahead script are vs begins goes turns core is fits) 0 (rested_idle script are vs begins goes turns core is fits) seat at))))
+
+        drops : (k : ℕ) → k < (plan_of script).links → (orders_of_run k).placed < length (orders_of_run k).accepted → IsFailing (plan_of script) (all_tasks script) core.outcomes fixed gave orders_of_run k
+        drops k kl less = let runs = joint_runs script turns core is made in let b = joint_bounded script turns core is made runs in
+            let early_few = first_bounded (plan_of script) _ (replicate is.last (quiet 0)) (closing_of script turns core is) (views_played script turns core is vs) b.closing in let late_few = b.over in
+            failing_early k (failed_before (plan_of script) (played script is.setup (is.scheduled ++ is.later)) core (views_played script turns core is vs) (views_ended script turns core is vs) (played_sound script are vs begins goes turns core is fits)
+            (ended_sound script are vs begins goes turns core is fits) early_few.few late_few.few places_stay orders_are k kl less)
+
+        sends_are : (k : ℕ) → k < (plan_of script).links → AllByRecursion (IsSent (plan_of script) (all_tasks script) core.outcomes fixed gave orders_of_run last k) (orders_of_run k).accepted
+        sends_are k kl = all_map (λ (a : Accepted). IsSent (plan_of script) (all_tasks script) core.outcomes fixed gave orders_of_run last k a ⊎ IsAttempt (ids_of_run script made turns core is narrow few_clients) (all_tasks script) core.outcomes a)
+            (IsSent (plan_of script) (all_tasks script) core.outcomes fixed gave orders_of_run last k) (λ a x. ⊎_elim (λ y. y) (λ y. absurd (no_call y.client y.task y.asked y.is y.op)) x) (orders_of_run k).accepted
+            (run_sent script are vs begins fresh goes turns core is fits owed narrow bare (ids_of_run script made turns core is narrow few_clients) labelled fixed gave last k kl)
+
+        in_order : (k : ℕ) → k < (plan_of script).links → EachBefore (InOwnOrder (plan_of script) (all_tasks script) core.outcomes fixed gave orders_of_run) (orders_of_run k).accepted
+        in_order k kl = before_map (causes.InOwnOrder (told_tasks_of script) core.outcomes) (InOwnOrder (plan_of script) (all_tasks script) core.outcomes fixed gave orders_of_run)
+            (λ a b f c t u it iu m n _ _. f c t u (task_down (all_tasks script) (length (opens script)) core.outcomes c t it (plain c t it)) (task_down (all_tasks script) (length (opens script)) core.outcomes c u iu (plain c u iu)) m n)
+            (orders_of_run k).accepted (tells.own_order k kl)
+
+        -- all that is told of a run but what is on calls
+        pub run_sends : ToldSends (plan_of script) (all_tasks script) core.outcomes fixed gave orders_of_run last core
+        run_sends = let t = told_plain (λ c t u asked n it iu seeks became less op. absurd (no_call c u asked iu op)) in record {
+          are_orders = orders_are;
+          told = t.told;
+          are = t.are;
+          once = t.once;
+          lives = t.lives;
+          why = t.why;
+          again = λ c t asked it op. absurd (no_call c t asked it op);
+          sent = sends_are;
+          own_order = in_order;
+          dropped = drops;
+        }
