@@ -217,24 +217,24 @@ tick_some p c m seat e = ap (λ (o : Option SeatState). elim o as (λ o. Core) [
 at_same : (j : ℕ) (c d : Core) → d.seats ≡ c.seats → MuteAt j c → MuteAt j d
 at_same j c d e x s at = x s (ap (λ (l : List SeatState). get_elem? l j) (sym e) ∙ at)
 
+mute_own : (p : Plan) (c : Core) (m : Moment) (j : ℕ) → MuteAt j c → (seat : SeatState) → get_elem? c.seats m.seat ≡ some seat → j ≡ m.seat → MuteAt j (tick_with p m.seat seat c m.answer seat.program)
+mute_own p c m j x seat e same = let q = quiet_tick p m.seat seat c m.answer (x seat (ap (get_elem? c.seats) same ∙ e)) in ⊎_elim
+    (λ f. at_same j c (tick_with p m.seat seat c m.answer seat.program) f x)
+    (λ f s at. ⊎_elim (λ a. subst (λ (y : SeatState). IsMute y.program) a.1 f.2) (λ b. x s b.1) (at_set c.seats m.seat j f.0 s (ap (λ (l : List SeatState). get_elem? l j) (sym f.1) ∙ at)))
+    q.seats
+
+mute_other : (p : Plan) (c : Core) (m : Moment) (j : ℕ) → MuteAt j c → (seat : SeatState) → j ≢ m.seat → MuteAt j (tick_with p m.seat seat c m.answer seat.program)
+mute_other p c m j x seat differ = ⊎_elim
+    (λ f. at_same j c (tick_with p m.seat seat c m.answer seat.program) f x)
+    (λ f s at. ⊎_elim (λ a. absurd (differ a.0)) (λ b. x s b.1) (at_set c.seats m.seat j f.0 s (ap (λ (l : List SeatState). get_elem? l j) (sym f.1) ∙ at)))
+    (own_tick p m.seat seat c m.answer)
+
 mute_tick : (p : Plan) (c : Core) (m : Moment) (j : ℕ) → MuteAt j c → MuteAt j (ticked p c m)
 mute_tick p c m j x = by (get_elem? c.seats m.seat) refl
   where
-    own : (seat : SeatState) → get_elem? c.seats m.seat ≡ some seat → j ≡ m.seat → MuteAt j (tick_with p m.seat seat c m.answer seat.program)
-    own seat e same = let q = quiet_tick p m.seat seat c m.answer (x seat (ap (get_elem? c.seats) same ∙ e)) in ⊎_elim
-        (λ f. at_same j c _ f x)
-        (λ f s at. ⊎_elim (λ a. subst (λ (y : SeatState). IsMute y.program) a.1 f.2) (λ b. x s b.1) (at_set c.seats m.seat j f.0 s (ap (λ (l : List SeatState). get_elem? l j) (sym f.1) ∙ at)))
-        q.seats
-
-    other : (seat : SeatState) → j ≢ m.seat → MuteAt j (tick_with p m.seat seat c m.answer seat.program)
-    other seat differ = ⊎_elim
-        (λ f. at_same j c _ f x)
-        (λ f s at. ⊎_elim (λ a. absurd (differ a.0)) (λ b. x s b.1) (at_set c.seats m.seat j f.0 s (ap (λ (l : List SeatState). get_elem? l j) (sym f.1) ∙ at)))
-        (own_tick p m.seat seat c m.answer)
-
     by : (o : Option SeatState) → get_elem? c.seats m.seat ≡ o → MuteAt j (ticked p c m)
     by none e = subst (MuteAt j) (sym (tick_none p c m e)) x
-    by (some seat) e = subst (MuteAt j) (sym (tick_some p c m seat e)) (dite (ℕ_discrete j m.seat) (λ same. own seat e same) (λ differ. other seat differ))
+    by (some seat) e = subst (MuteAt j) (sym (tick_some p c m seat e)) (dite (ℕ_discrete j m.seat) (λ same. mute_own p c m j x seat e same) (λ differ. mute_other p c m j x seat differ))
 
 pub mute_run : (p : Plan) (ms : List Moment) (c : Core) (j : ℕ) → MuteAt j c → MuteAt j (run p c ms)
 mute_run p [] c j x = x
