@@ -8,7 +8,7 @@ use Rattle.brpc_model.specs.Operations.{Turn, clients, link_names}
 use Rattle.brpc_model.specs.Script.{script_of}
 use Rattle.sock_programs.specs.Cores.{Core}
 use Rattle.sock_programs.specs.Runs.{IsAtRest}
-use Rattle.sock_programs.specs.Scripts.{IsRunWithCalls, all_tasks, is_callless, played}
+use Rattle.sock_programs.specs.Scripts.{IsRunWithCalls, all_tasks, is_callless, is_later, played}
 use Rattle.sock_programs.specs.Tasks.{Numbered, calls, id_plan_of, numbered}
 use Rattle.sock_runs.proofs.Along.{seat_rests}
 use Rattle.sock_runs.proofs.Whole.{rested_ahead}

@@ -129,7 +129,7 @@ module _ (bytes : List ℕ) (script : List Item) (turns : List Turn) (start m : 
     is_told =
         let home = over.homes k low in
         let took = took_is m.links m.plan m.letters ran.took k home.took home.next home.done letters (subst (λ (q : Plan). k < q.links) (sym plan) low)
-            (subst (λ (q : Plan). get_elem? end_core.homes (q.requests + k) ≡ core.some (core.some (Link k home.took home.next home.done))) (sym plan) home.is) in
+        (subst (λ (q : Plan). get_elem? end_core.homes (q.requests + k) ≡ core.some (core.some (Link k home.took home.next home.done))) (sym plan) home.is) in
         let lies = lies_is (plan_of script) end_core.homes k home.took home.next home.done low home.is in record {
           numbered = stays.link ∙ was.link;
           took = told_is m.links ran.took m.ends k e _ outs at ran.agrees (took ∙ sym lies);
@@ -184,12 +184,13 @@ module _ (bytes : List ℕ) (script : List Item) (turns : List Turn) (start m : 
   module _ (outcomes : List (ℕ × Outcome)) (words : List PlaceWord) (ends : List LinkEnd) (text : List ℕ) (outcomes_are : outcomes ≡ told_from 0 m.outcomes) (words_are : words ≡ place_words m.plan m.words) (ends_same : ends ≡ m.ends)
       (told : (os : List (Option Outcome)) → length os ≡ length (operations script) → outcomes ≡ told_from 0 os → ArePlaces words → HasEachOutcome words os → (took : List (List ℕ)) × AreTold ends took × IsReportText script os words took text) where
     pub text_is : IsRunText script turns text ends
+    unfolding whole
     text_is =
         let known = causes_known bytes script reads turns end_core ran.run (ran.closes tell) in
         let places = run_places bytes script reads turns end_core ran.run (ran.closes tell) in
         let words_now : words ≡ place_words (plan_of script) m.words = words_are ∙ ap (λ (q : Plan). place_words q m.words) plan in
         let w = told m.outcomes (ended_length bytes script reads turns end_core ran.run) outcomes_are
-            (subst ArePlaces (sym words_now) places.0) (subst (λ (ws : List PlaceWord). HasEachOutcome ws m.outcomes) (sym words_now) places.1) in
+        (subst ArePlaces (sym words_now) places.0) (subst (λ (ws : List PlaceWord). HasEachOutcome ws m.outcomes) (sym words_now) places.1) in
         let report = subst (λ (ws : List PlaceWord). IsReportText script m.outcomes ws w.0 text) words_now w.2 in record {
           whole = whole ends ends_same;
           took = w.0;
