@@ -13,8 +13,10 @@ use Rattle.frame_print.specs.declared.print.StreamEnd.{StreamEnd}
 use Rattle.frame_print.specs.declared.print.StreamEnd.TheVariants as end_
 use Rattle.frame_print.specs.declared.print.PrintFault.{PrintFault}
 use Rattle.frame_print.specs.declared.print.PrintFault.TheVariants as fault_
-use Rattle.sock_io.specs.Link.{InState, end_of}
+use Rattle.sock_io.specs.Link.{end_of}
 use Rattle.sock_io.specs.Shape.{ShapedState, shaped_out}
+use Rattle.sock_io.specs.Memory.{MemInState, mem_in}
+use Rattle.script_run.specs.Played.{TellClosed}
 use Rattle.brpc_eng.specs.Built.{is_built_script}
 use Rattle.brpc_eng.proofs.Statuses.{unbuilt_script_exactly}
 use Rattle.brpc_eng.specs.Streams.{script_limit, IsAtEnd}
@@ -234,9 +236,13 @@ no_write_failed words input out links status (Simulates seed named replayed) e =
 -- ## One text
 
 -- the links in memory tell all that they took and answered: so over them no other text is possible than the one that is written
-pub memory_tells : {E : Type 0} (out : E → ShapedState) (inn : E → InState) (es : List E) → AllTell (map (λ (e : E). end_of (shaped_out (out e)) (inn e)) es)
+pub memory_tells : {E : Type 0} (out : E → ShapedState) (inn : E → MemInState) (es : List E) → AllTell (map (λ (e : E). end_of (shaped_out (out e)) (mem_in (inn e))) es)
 memory_tells out inn [] = tt
-memory_tells out inn (e ∷ es) = ((refl, refl), memory_tells out inn es)
+memory_tells out inn (e ∷ es) = (record { took = refl; answers = refl; gave = refl; takes = refl }, memory_tells out inn es)
+
+-- and each reading half in memory tells whether it is found closed
+pub memory_tells_closed : TellClosed mem_in
+memory_tells_closed inn = (λ e. cc, λ e. cc)
 
 -- ## The statuses of `frames`
 

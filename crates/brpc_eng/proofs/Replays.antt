@@ -1,15 +1,19 @@
 -- How `replay` ends, by what its calls say.
-use Rattle.std.proofs.Common.{◌≡◌, ◌≢◌, ℕ, ◌≤◌, inl, Bool, true, false, List, [], length, Some, Vec, Result, Ok, Err, refl, ap, ap₂, sym, ◌∙◌, subst, arith, option_map, map, not, ◌&&◌, ◌||◌, ◌∷◌}
+use Rattle.std.proofs.Common.{◌≡◌, ◌≢◌, ℕ, ◌≤◌, inl, Bool, true, false, List, [], length, Option, Some, None, Vec, Result, Ok, Err, refl, ap, sym, ◌∙◌, subst, arith, option_map, map, not, ◌||◌, ◌∷◌}
+use Rattle.std.specs.Prelude.{is_some}
 use Rattle.std.specs.List.{list_any}
 use Rattle.std.specs.declared.alloc.Global.{Global}
-use Rattle.brpc_model.specs.Items.{Item}
+use Rattle.brpc_model.specs.Items.{Item, Shape, Open}
 use Rattle.brpc_model.specs.Script.{script_of}
 use Rattle.brpc_model.specs.Commands as model
 use Rattle.brpc_eng.specs.declared.commands.Command.{Command}
 use Rattle.brpc_eng.specs.declared.draw.Draw.{Draw}
 use Rattle.brpc_eng.specs.declared.commands.Command.TheVariants.{Replay, Sim, Run, Gen, Load, Frames, Serve}
 use Rattle.brpc_model.specs.Operations.{Turn}
-use Rattle.sock_programs.specs.Scripts.{is_callless, is_later, drawn_turns}
+use Rattle.sock_programs.specs.Scripts.{drawn_turns}
+use Rattle.report_fits.proofs.Callless.{any_none}
+use Rattle.report_fits.proofs.Lists.{or_parts, has_from}
+use Rattle.whole_runs.specs.Unserved.{IsUnserved}
 use Rattle.brpc_eng.specs.Built.{is_built_script, is_other_end}
 use Rattle.brpc_eng.specs.Command.{meaning}
 use Rattle.brpc_eng.specs.Streams.{script_limit, ReadWhole}
@@ -95,18 +99,22 @@ any_map : {A B : Type 0} (f : B → Bool) (g : A → B) (xs : List A) → list_a
 any_map f g [] = refl
 any_map f g (x ∷ xs) = ap (λ b. f (g x) || b) (any_map f g xs)
 
-pub built_is : {A : Type 0} (f : A → Item) (lines : List A) (script : List Item) (calls ends : Bool) → calls ≡ list_any (λ (x : A). is_later (f x)) lines → ends ≡ list_any (λ (x : A). is_other_end (f x)) lines → script ≡ map f lines →
-    (not calls && not ends) ≡ is_built_script script
-built_is f lines script calls ends e e' is =
-    ap₂ (λ c o. not c && not o) (e ∙ sym (any_map is_later f lines)) (e' ∙ sym (any_map is_other_end f lines)) ∙ sym (ap is_built_script is)
+pub built_is : {A : Type 0} (f : A → Item) (lines : List A) (script : List Item) (ends : Bool) → ends ≡ list_any (λ (x : A). is_other_end (f x)) lines → script ≡ map f lines → not ends ≡ is_built_script script
+built_is f lines script ends e is = ap not (e ∙ sym (any_map is_other_end f lines)) ∙ sym (ap is_built_script is)
 
-and_left : (a b : Bool) → (a && b) ≡ true → a ≡ true
-and_left true b e = refl
-and_left false b e = e
+not_false : (b : Bool) → not b ≡ true → b ≡ false
+not_false false e = refl
+not_false true e = absurd (cc)
 
--- a script that is built has no call
-pub built_callless : (script : List Item) → is_built_script script ≡ true → is_callless script ≡ true
-built_callless script = and_left (is_callless script) (not (list_any is_other_end script))
+no_some : {A : Type 0} (o : Option A) → is_some o ≡ false → o ≡ None
+no_some None e = refl
+no_some (Some x) e = absurd (cc)
+
+-- a script that is built has no link with a server, or with an end of its own
+pub built_unserved : (script : List Item) → is_built_script script ≡ true → IsUnserved script
+built_unserved script built name shape opened =
+    let none_ = or_parts shape.serve (is_some shape.«end») (any_none is_other_end script (Open name shape) (not_false (list_any is_other_end script) built) (has_from script (Open name shape) opened)) in
+    (none_.0, no_some shape.«end» none_.1)
 
 -- only where that is answered a read failed
 not_source : (ended : Result StreamEnd PrintFault) → answer.frames_status ended ≢ 4 → ended ≢ Err fault_.Source

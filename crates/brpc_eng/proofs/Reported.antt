@@ -1,5 +1,5 @@
 -- The report of a run fits the script, and is the only one of a run in which the links answered the same.
-use Rattle.std.proofs.Common.{◌≡◌, ℕ, zero, suc, ◌<◌, ◌≤◌, true, false, ◌⊎◌, ⊎_elim, List, [], ◌∷◌, length, Option, Some, None, IfSome, Ok, ap, sym, ◌∙◌, subst, arith}
+use Rattle.std.proofs.Common.{◌≡◌, ℕ, zero, suc, ◌<◌, ◌≤◌, true, List, [], ◌∷◌, length, Option, Some, None, IfSome, Ok, ap, sym, ◌∙◌, subst, arith}
 use Rattle.std.specs.Prelude.{slice_get, is_some}
 use Rattle.std.specs.List.{AllByRecursion}
 use Rattle.std.proofs.lemmas.Option.{slice_get_within, same_Some}
@@ -8,28 +8,29 @@ use mathlib.Core.Logic.{dite}
 use Rattle.brpc_model.specs.Items.{Item}
 use Rattle.brpc_model.specs.Operations.{Turn}
 use Rattle.brpc_model.specs.Script.{script_of}
-use Rattle.brpc_model.specs.Link.{LinkEnd, HalfAnswer}
+use Rattle.brpc_model.specs.Link.{LinkEnd}
 use Rattle.brpc_model.specs.PlaceWords.{took_at, IsLineOf}
-use Rattle.brpc_model.specs.Run.{nothing_late}
+use Rattle.brpc_model.specs.Run.{Lateness, nothing_late}
 use Rattle.brpc_model.specs.Complete.{FitsWhole}
-use Rattle.sock_programs.specs.Scripts.{is_callless, has_send, answers_of, place_words, Reports}
+use Rattle.sock_programs.specs.Scripts.{is_callless, place_words, Reports}
 use Rattle.sock_programs.specs.Tasks.{plan_of}
 use Rattle.report_fits.proofs.Lists.{within}
-use Rattle.whole_runs.specs.Heard.{as_told, heard_of}
+use Rattle.report_fits.proofs.Places.{lateness}
+use Rattle.whole_runs.specs.Heard.{as_told, as_taken, take_answers, heard_of, heard_takes}
+use Rattle.whole_runs.specs.Unserved.{IsUnserved}
 use Rattle.whole_runs.proofs.HeardRuns.{one_text_told}
-use Rattle.whole_runs.proofs.Runs.{run_fits, run_drops_told}
-use Rattle.whole_runs.proofs.OneRun.{one_text}
-use Rattle.whole_runs.proofs.Unasked.{only_text}
-use Rattle.script_run.specs.Played.{IsRunText}
+use Rattle.whole_runs.proofs.Gave.{same_takes}
+use Rattle.whole_runs.proofs.Runs.{unserved_fits}
+use Rattle.script_run.specs.Causes.{gave_in}
+use Rattle.script_run.specs.Played.{IsRunText, IsCaused}
+use Rattle.script_run.proofs.Told.{as_far}
 use Rattle.brpc_eng.specs.Answers as answer
 
 -- two texts of runs
-same_text : (turns : List Turn) (script : List Item) (a b : List ℕ) (xs ys : List LinkEnd) (r : IsRunText script turns a xs) (s : IsRunText script turns b ys) → r.took ≡ s.took → (has_send script ≡ false) ⊎ (answers_of r.run ≡ answers_of s.run) → a ≡ b
+same_text : (turns : List Turn) (script : List Item) (a b : List ℕ) (xs ys : List LinkEnd) (r : IsRunText script turns a xs) (s : IsRunText script turns b ys) → r.took ≡ s.took → answer.SameAnswers r.whole.run s.whole.run → a ≡ b
 same_text turns script a b xs ys r s took same =
-    let reports : Reports script r.core s.took r.report = subst (λ t. Reports script r.core t r.report) took r.reports in
-    r.is_text ∙ (⊎_elim
-    (λ none. only_text script turns r.core s.core r.report s.report s.took r.run s.run reports s.reports none)
-    (λ answers. one_text script turns r.core s.core r.report s.report s.took r.run s.run reports s.reports answers) same ∙ sym s.is_text)
+    let reports : Reports script r.whole.core s.took r.report = subst (λ (t : List (List ℕ)). Reports script r.whole.core t r.report) took r.reports in
+    r.is_text ∙ one_text_told script turns r.whole.core s.whole.core r.report s.report s.took r.whole.run s.whole.run reports s.reports same.0 same.1 ∙ sym s.is_text
 
 -- ## Links that tell all
 
@@ -42,43 +43,70 @@ one_told : {A : Type 0} (told : Option A) (x y : A) → is_some told ≡ true �
 one_told None x y tells h k = absurd (cc)
 one_told (Some said) x y tells h k = h ∙ sym k
 
-module _ (turns : List Turn) (script : List Item) (a b : List ℕ) (ends : List LinkEnd) (tell : answer.AllTell ends) (r : IsRunText script turns a ends) (s : IsRunText script turns b ends) where
+turned : {A : Type 0} (told : Option A) (x : A) → IfSome told (λ said. said ≡ x) → IfSome told (λ said. x ≡ said)
+turned None x h = tt
+turned (Some said) x h = sym h
+
+module _ (bytes : List ℕ) (script : List Item) (reads : script_of bytes ≡ Ok script) (turns : List Turn) (a b : List ℕ) (ends : List LinkEnd) (tell : answer.AllTell ends) (r : IsRunText script turns a ends) (s : IsRunText script turns b ends) where
+  abbrev there : (k : ℕ) → k < length ends → (e : LinkEnd) × (slice_get ends k ≡ Some e) × answer.TellsAll e
+  there k inside = let e = within ends k inside in (e.0, e.1, all_at answer.TellsAll ends k e.0 tell e.1)
+
   same_took : (k : ℕ) → k < length ends → took_at r.took k ≡ took_at s.took k
-  same_took k inside = let e = within ends k inside in let tells = all_at (λ (x : LinkEnd). (is_some x.took ≡ true) × (is_some x.answers ≡ true)) ends k e.0 tell e.1 in
-      one_told e.0.took (took_at r.took k) (took_at s.took k) tells.0 (r.told k e.0 e.1) (s.told k e.0 e.1)
+  same_took k inside = let e = there k inside in one_told e.0.took (took_at r.took k) (took_at s.took k) e.2.took (r.told k e.0 e.1) (s.told k e.0 e.1)
 
-  same_answers : (k : ℕ) → as_told (heard_of r.run k) ≡ as_told (heard_of s.run k)
+  same_answers : (k : ℕ) → as_told (heard_of r.whole.run k) ≡ as_told (heard_of s.whole.run k)
   same_answers k = dite (dec_lt k (length ends))
-      (λ inside. let e = within ends k inside in let tells = all_at (λ (x : LinkEnd). (is_some x.took ≡ true) × (is_some x.answers ≡ true)) ends k e.0 tell e.1 in
-      one_told e.0.answers (as_told (heard_of r.run k)) (as_told (heard_of s.run k)) tells.1 (turned e.0.answers _ (r.heard.each k e.0 e.1)) (turned e.0.answers _ (s.heard.each k e.0 e.1)))
-      (λ past. ap as_told (r.heard.none_beyond k (omega (arith, past)) ∙ sym (s.heard.none_beyond k (omega (arith, past)))))
-    where
-      turned : (told : Option (List HalfAnswer)) (x : List HalfAnswer) → IfSome told (λ said. said ≡ x) → IfSome told (λ said. x ≡ said)
-      turned None x h = tt
-      turned (Some said) x h = sym h
+      (λ inside. let e = there k inside in
+      one_told e.0.answers (as_told (heard_of r.whole.run k)) (as_told (heard_of s.whole.run k)) e.2.answers (turned e.0.answers _ (r.whole.heard.each k e.0 e.1)) (turned e.0.answers _ (s.whole.heard.each k e.0 e.1)))
+      (λ past. ap as_told (r.whole.heard.none_beyond k (omega (arith, past)) ∙ sym (s.whole.heard.none_beyond k (omega (arith, past)))))
 
-  reports : Reports script r.core s.took r.report
+  same_heard : (k : ℕ) → heard_takes r.whole.run k ≡ heard_takes s.whole.run k
+  same_heard k = dite (dec_lt k (length ends))
+      (λ inside. let e = there k inside in let many = r.ends_told.as_many in
+      same_takes bytes script reads turns r.whole.core s.whole.core r.whole.run s.whole.run k (omega (arith, inside, many))
+      (one_told e.0.takes (take_answers (heard_takes r.whole.run k)) (take_answers (heard_takes s.whole.run k)) e.2.takes (turned e.0.takes _ (r.whole.heard.each_take k e.0 e.1)) (turned e.0.takes _ (s.whole.heard.each_take k e.0 e.1)))
+      (one_told e.0.gave (gave_in r.whole.core k) (gave_in s.whole.core k) e.2.gave (turned e.0.gave _ (r.ends_told.each k e.0 e.1).gives) (turned e.0.gave _ (s.ends_told.each k e.0 e.1).gives)))
+      (λ past. ap as_taken (r.whole.heard.no_take_beyond k (omega (arith, past)) ∙ sym (s.whole.heard.no_take_beyond k (omega (arith, past)))))
+
+  reports : Reports script r.whole.core s.took r.report
   reports = record {
     outcomes = r.reports.outcomes;
     line_each = r.reports.line_each;
-    links = λ k line at. let inside = slice_get_within r.report.links k line at in let each = r.reports.line_each in let many = r.ends_are.as_many in
-        subst (λ (bytes : List ℕ). IsLineOf (place_words (plan_of script) r.core.words) k bytes line) (same_took k (omega (arith, inside, each, many))) (r.reports.links k line at);
+    links = λ k line at. let inside = slice_get_within r.report.links k line at in let each = r.reports.line_each in let many = r.ends_told.as_many in
+        subst (λ (bytes : List ℕ). IsLineOf (place_words (plan_of script) r.whole.core.words) k bytes line) (same_took k (omega (arith, inside, each, many))) (r.reports.links k line at);
   }
 
   -- there is one text
   pub told_text : a ≡ b
-  told_text = r.is_text ∙ one_text_told script turns r.core s.core r.report s.report s.took r.run s.run reports s.reports same_answers ∙ sym s.is_text
+  told_text = r.is_text ∙ one_text_told script turns r.whole.core s.whole.core r.report s.report s.took r.whole.run s.whole.run reports s.reports same_answers same_heard ∙ sym s.is_text
+
+-- ## A report
+
+module _ (turns : List Turn) (bytes : List ℕ) (script : List Item) (reads : script_of bytes ≡ Ok script) (ends : List LinkEnd) (text : List ℕ) (is : IsRunText script turns text ends) where
+  abbrev Fits : Type 0
+  Fits = (late : Lateness) × (is_callless script ≡ true → late ≡ nothing_late) × FitsWhole script text ends late
+
+  -- where all causes are known, the report of the text fits
+  fits : IsUnserved script → IsCaused script turns is.whole.core is.whole.run ends → Fits
+  fits unserved c =
+      let w = is.whole in let causes = c.0 in (
+        lateness causes.fixed,
+        causes.none_late,
+        subst (λ (x : List ℕ). FitsWhole script x ends (lateness causes.fixed)) (sym is.is_text)
+            (unserved_fits bytes script reads turns w.core w.run causes.fixed (gave_in w.core) causes.orders causes.tells unserved (λ k early. (causes.early k early).0) is.report is.took ends is.reports is.told c.1
+            (λ untroubled. causes.in_time unserved)),
+      )
+
+  -- and it is the only one
+  only : answer.IsOnlyText ends script turns text
+  only = (is, λ other ends' run took same. same_text turns script other text ends' ends run is took same, λ tell other run. told_text bytes script reads turns other text ends tell run is)
 
 -- with what the calls say of the values that they were handed
 pub ran_reported : (turns : List Turn) (bytes : List ℕ) (script : List Item) (text text' : List ℕ) (out : answer.Output) (links : answer.Links) (status : ℕ) →
-    script_of bytes ≡ Ok script → is_callless script ≡ true → (links.prompt ≡ true → IsRunText script turns text links.ends) → text' ≡ text → answer.TextWritten out text' status →
+    script_of bytes ≡ Ok script → IsUnserved script → (links.prompt ≡ true → links.tells → IsRunText script turns text links.ends) → text' ≡ text → answer.TextWritten out text' status →
     answer.Ran turns script out links status
-ran_reported turns bytes script text text' out links status reads callless ran t wrote =
+ran_reported turns bytes script text text' out links status reads unserved ran t wrote =
+    let report : links.prompt ≡ true → links.tells → IsRunText script turns text' links.ends = λ q tells. subst (λ (x : List ℕ). IsRunText script turns x links.ends) (sym t) (ran q tells) in
     answer.Reported text'
-    (λ q. let is = ran q in subst (λ x. FitsWhole script x links.ends nothing_late) (sym (t ∙ is.is_text)) (run_fits bytes script reads turns is.core is.run callless is.report is.took is.reports links.ends is.told is.ends_are))
-    (λ q. let is : IsRunText script turns text' links.ends = subst (λ x. IsRunText script turns x links.ends) (sym t) (ran q) in (
-      is,
-      run_drops_told bytes script reads turns is.core is.run,
-      λ other ends run took same. same_text turns script other text' ends links.ends run is took same,
-      λ tell other run. told_text turns script other text' links.ends tell run is,
-    )) wrote
+    (λ q tells. let r = report q tells in as_far script (fits turns bytes script reads links.ends text' r unserved) r.causes)
+    (λ q tells. only turns bytes script reads links.ends text' (report q tells)) wrote

@@ -9,7 +9,7 @@ use Rattle.brpc_model.specs.Items.{Item}
 use Rattle.brpc_model.specs.Operations.{Turn, schedule}
 use Rattle.brpc_model.specs.Script.{script_of}
 use Rattle.brpc_model.specs.Link.{LinkEnd}
-use Rattle.brpc_model.specs.Run.{nothing_late}
+use Rattle.brpc_model.specs.Run.{Lateness, nothing_late}
 use Rattle.brpc_model.specs.Complete.{FitsWhole}
 use Rattle.sock_io.specs.Causes.{Rose}
 use Rattle.sock_io.specs.Writing.{WrotePart}
@@ -18,10 +18,12 @@ use Rattle.frame_print.specs.declared.print.StreamEnd.{StreamEnd}
 use Rattle.frame_print.specs.declared.print.StreamEnd.TheVariants as end_
 use Rattle.frame_print.specs.declared.print.PrintFault.{PrintFault}
 use Rattle.frame_print.specs.declared.print.PrintFault.TheVariants as fault_
-use Rattle.sock_programs.specs.Scripts.{has_send, drawn_turns, answers_of}
+use Rattle.sock_programs.specs.Cores.{Core}
+use Rattle.sock_programs.specs.Scripts.{IsRunWithCalls, is_callless, drawn_turns}
+use Rattle.whole_runs.specs.Heard.{as_told, heard_of, heard_takes}
 use Rattle.sock_io.specs.declared.link.LinkSpec.{LinkSpec}
 use Rattle.script_run.specs.Given.{AreNumbered, AreUntouched, IsBeginning, specs_of}
-use Rattle.sock_programs.specs.Drops.{DropsTold}
+use Rattle.script_run.specs.Causes.{AsFarAsTold}
 use Rattle.script_run.specs.Played.{IsRunText}
 use Rattle.brpc_eng.specs.Streams.{script_limit, IsAtEnd}
 use Rattle.brpc_eng.specs.Built.{is_built_script}
@@ -53,9 +55,10 @@ pub record Output : Type 0 where
   pub now : Option (List ℕ)
   pub faults : Faults
 
--- a linker: whether its links are always ready in time, what was asked of each link that was opened, and those that were given back
-pub record Links : Type 0 where
+-- a linker: whether its links are always ready in time, that each reading half tells whether it is found closed, what was asked of each link that was opened, and those that were given back
+pub record Links : Type 1 where
   pub prompt : Bool
+  pub tells : Type 0
   pub asked : List LinkSpec
   pub ends : List LinkEnd
   pub faults : Faults
@@ -96,23 +99,37 @@ fault_text line kind = codes "script fault line " ++ decimal line ++ codes " kin
 
 -- ## A script that was read
 
--- where the links are prompt, the text reports a run of the script over the links given back: it fits, and where nothing
--- went wrong every send is placed
+-- there, as far as causes are proved, the text reports a run of the script over the links given back: it fits, and where nothing went wrong every
+-- send is placed; in a script without calls nothing comes late
 abbrev pub IsReport : Links → List Item → List ℕ → Type 0
-IsReport links script text = links.prompt ≡ true → FitsWhole script text links.ends nothing_late
+IsReport links script text = links.prompt ≡ true → links.tells → AsFarAsTold script ((late : Lateness) × (is_callless script ≡ true → late ≡ nothing_late) × FitsWhole script text links.ends late)
 
--- links that tell all that they took and answered
+-- links that tell all that they took, gave and answered
+pub record TellsAll (e : LinkEnd) : Type 0 where
+  pub took : is_some e.took ≡ true
+  pub answers : is_some e.answers ≡ true
+  pub gave : is_some e.gave ≡ true
+  pub takes : is_some e.takes ≡ true
+
 abbrev pub AllTell : List LinkEnd → Type 0
-AllTell ends = AllByRecursion (λ (e : LinkEnd). (is_some e.took ≡ true) × (is_some e.answers ≡ true)) ends
+AllTell ends = AllByRecursion TellsAll ends
 
--- and it is that of a run by these lines of a schedule: the setup first, then the ticks of these lines, then rounds until no client has a step
--- left, then the ending; each `drop` was answered `freed` or `kept` by what its own steps did; and no other text is that of a run in which the
--- links answered the same, as they do where none is asked, and of which the same is said of what they took; where the links given back
--- tell all that they took and answered, no other text is possible
+-- in two runs each link answered the same, by either half
+abbrev pub SameAnswers : {script : List Item} {turns : List Turn} {a b : Core} → IsRunWithCalls script turns a → IsRunWithCalls script turns b → Type 0
+SameAnswers r s = ((k : ℕ) → as_told (heard_of r k) ≡ as_told (heard_of s k)) × ((k : ℕ) → heard_takes r k ≡ heard_takes s k)
+
+-- it is that of a run by these lines of a schedule; no other text is that of a run in which the links answered the same, and of which the same is
+-- said of what they took; where the links given back tell all that they took, gave and answered, no other text is possible
+abbrev pub IsOnlyText : List LinkEnd → List Item → List Turn → List ℕ → Type 0
+IsOnlyText ends script turns text = (is : IsRunText script turns text ends)
+    × ((other : List ℕ) (ends' : List LinkEnd) (run : IsRunText script turns other ends') → run.took ≡ is.took → SameAnswers run.whole.run is.whole.run → other ≡ text)
+    × (AllTell ends → (other : List ℕ) → IsRunText script turns other ends → other ≡ text)
+
+-- where the links are prompt and tell whether they are found closed, the text is that of a run by these lines: the setup first, then the ticks of
+-- these lines, then rounds until nothing moves, then the ending, and such rounds again; each `drop` was answered `freed` or `kept` by what its own
+-- steps did, and in the end all is over
 abbrev pub IsTextOfRun : Links → List Item → List Turn → List ℕ → Type 0
-IsTextOfRun links script turns text = links.prompt ≡ true → (is : IsRunText script turns text links.ends) × DropsTold is.run
-    × ((other : List ℕ) (ends : List LinkEnd) (run : IsRunText script turns other ends) → run.took ≡ is.took → (has_send script ≡ false) ⊎ (answers_of run.run ≡ answers_of is.run) → other ≡ text)
-    × (AllTell links.ends → (other : List ℕ) → IsRunText script turns other links.ends → other ≡ text)
+IsTextOfRun links script turns text = links.prompt ≡ true → links.tells → IsOnlyText links.ends script turns text
 
 -- the text was written, or the sink failed behind a beginning of it
 abbrev pub TextWritten : Output → List ℕ → ℕ → Type 0

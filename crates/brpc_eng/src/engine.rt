@@ -1,4 +1,5 @@
 ghost use Rattle.std.specs.Prelude.{◌≡◌, [], map, string_bytes};
+ghost use Rattle.script_run.specs.Played.{TellClosed};
 ghost use Rattle.brpc_eng.specs.Answers.{Answers, CountsStand};
 ghost use Rattle.brpc_eng.specs.Status.{number_of};
 
@@ -47,7 +48,7 @@ pub fn brpc<R, S: Source, K: Sink, L: Linker, G: Gate>(
     ensures answers { Answers (map string_bytes words.now)
         (record { given = S.left source.old; left = S.left source.new; faults = record { before = S.faults source.old; now = S.faults source.new } })
         (record { before = K.contents out.old; now = K.contents out.new; faults = record { before = K.faults out.old; now = K.faults out.new } })
-        (record { prompt = L.prompt links.old; asked = L.asked links.new; ends = L.back links.new; faults = record { before = L.faults links.old; now = L.faults links.new } })
+        (record { prompt = L.prompt links.old; tells = TellClosed L.I.state; asked = L.asked links.new; ends = L.back links.new; faults = record { before = L.faults links.old; now = L.faults links.new } })
         result }
     ensures counts { CountsStand
         (record { before = S.faults source.old; now = S.faults source.new })
@@ -70,7 +71,7 @@ fn answer<S: Source, K: Sink, L: Linker>(
     ensures answers { Answers (map string_bytes words.now)
         (record { given = S.left source.old; left = S.left source.new; faults = record { before = S.faults source.old; now = S.faults source.new } })
         (record { before = K.contents out.old; now = K.contents out.new; faults = record { before = K.faults out.old; now = K.faults out.new } })
-        (record { prompt = L.prompt links.old; asked = L.asked links.new; ends = L.back links.new; faults = record { before = L.faults links.old; now = L.faults links.new } })
+        (record { prompt = L.prompt links.old; tells = TellClosed L.I.state; asked = L.asked links.new; ends = L.back links.new; faults = record { before = L.faults links.old; now = L.faults links.new } })
         (number_of result) }
     ensures counts { CountsStand
         (record { before = S.faults source.old; now = S.faults source.new })

@@ -25,7 +25,7 @@ numbered_at f i zero k inside = absurd (omega (arith, inside))
 numbered_at f i (suc n) zero inside = ap (λ j. core.some (f j)) (let e : i ≡ i + 0 = omega arith in e)
 numbered_at f i (suc n) (suc k) inside = numbered_at f (i + 1) n k (omega (arith, inside)) ∙ ap (λ j. core.some (f j)) (let e : (i + 1) + k ≡ i + suc k = omega arith in e)
 
-index_at : {A : Type 0} (f : ℕ → A) (other : A) (i n k : ℕ) → k < n → slice_index_or (map f (from_to i n)) k other ≡ f (i + k)
+pub index_at : {A : Type 0} (f : ℕ → A) (other : A) (i n k : ℕ) → k < n → slice_index_or (map f (from_to i n)) k other ≡ f (i + k)
 index_at f other i zero k inside = absurd (omega (arith, inside))
 index_at f other i (suc n) zero inside = ap f (let e : i ≡ i + 0 = omega arith in e)
 index_at f other i (suc n) (suc k) inside = index_at f other (i + 1) n k (omega (arith, inside)) ∙ ap f (let e : (i + 1) + k ≡ i + suc k = omega arith in e)

@@ -5,5 +5,9 @@ pub mod Telling
 pub mod Homes
 pub mod Running
 pub mod Saying
+pub mod Callless
+pub mod Silent
+pub mod Idle
+pub mod Placed
 pub mod Told
 pub mod Texts

@@ -2,8 +2,6 @@
 use Rattle.std.proofs.Common.{◌≡◌, ℕ, zero, suc, ◌+◌, ◌-◌, ◌*◌, ◌%◌, ◌≤◌, ◌<◌, List, [], ◌∷◌, ◌++◌, map, take, get_or, length, replicate, Option, Some, None, ap, sym, subst, refl, ◌∙◌, append_assoc, append-nil, add-one, arith, min, leb, true, false}
 use Rattle.std.proofs.lemmas.List.{take_all, take_more, map-append, replicate-append-replicate}
 use Rattle.std.proofs.lemmas.Bool.{leb-false, leb-true}
-use Rattle.std.proofs.Props.{props}
-use Rattle.std.proofs.Math.Logic.{∥∥₁_elim}
 use Rattle.std.specs.List.{cons_option}
 use Rattle.std.proofs.lemmas.List.Elements.{filter_map-append}
 use Rattle.sock_words.specs.declared.kind.Kind.{Kind}
@@ -29,7 +27,7 @@ use Rattle.sock_core.specs.Machines.{MachineState, core_with}
 use Rattle.sock_core.specs.Runs.{Ran}
 use Rattle.script_run.specs.Played.{IsPlayable, HasPlayed, HasTurns}
 use Rattle.sock_core.proofs.Joining.{ran_rest, ran_join, run_append}
-use Rattle.sock_core.proofs.Resting.{Rests, beyond_rests, none_follows}
+use Rattle.sock_core.proofs.Resting.{none_follows}
 use Rattle.script_run.proofs.Playing.{as_played, then_played, none_played}
 
 -- ## Ticks of one seat
@@ -54,9 +52,6 @@ ticks_left i n k a b c inside h rest =
 
 -- ## Seats whose numbers are too high
 
-few_seats : (m : MachineState) (i : ℕ) → IsPlayable m → 65535 ≤ i → Rests m i
-few_seats m i h high took gave = ∥∥₁_elim h.sizes (hlevel props) (λ sizes. let few = sizes.few_readers in beyond_rests m i sizes.few_seats (omega (arith, few, high)) took gave)
-
 nowhere : (p : Plan) (i : ℕ) (kind : List ℕ) (c : Core) (moments : List Moment) → IsAtRest c i → LeadsUpTo p i kind c moments → moments ≡ []
 nowhere p i kind c [] rest h = refl
 nowhere p i kind c (m ∷ ms) rest h = let e = h.2 in cc
@@ -66,8 +61,8 @@ leads_of : (p : Plan) (m : MachineState) (took : Taken) (gave : Given) (i : ℕ)
 leads_of p m took gave i kind moments h leads = let c = core_with m took gave in elim (leb i 65535) as (λ b. (leb i 65535 ≡ b → LeadsUpTo p i kind c moments)) [
   | true ↦ λ is. let l = leb-true i 65535 is in let same : min i 65535 ≡ i = omega (arith, l) in subst (λ (j : ℕ). LeadsUpTo p j kind c moments) same leads
   | false ↦ λ is. let l = leb-false i 65535 is in let same : min i 65535 ≡ 65535 = omega (arith, l) in
-      let none = nowhere p 65535 kind c moments (few_seats m 65535 h (omega arith) took gave) (subst (λ (j : ℕ). LeadsUpTo p j kind c moments) same leads) in
-      subst (LeadsUpTo p i kind c) (sym none) (few_seats m i h (omega (arith, l)) took gave)
+      let none = nowhere p 65535 kind c moments (h.far 65535 (omega arith) took gave) (subst (λ (j : ℕ). LeadsUpTo p j kind c moments) same leads) in
+      subst (LeadsUpTo p i kind c) (sym none) (h.far i (omega (arith, l)) took gave)
 ] refl
 
 pub to_line : (old new : MachineState) (seat : Seat) (kind : Kind) (number : ℕ) (line : Line) → line ≡ lines.To seat kind → number ≡ min (seat_number (meaning.seat_of seat)) 65535 → IsPlayable old →
@@ -83,12 +78,16 @@ module _ (old new : MachineState) (i n : ℕ) (playable : IsPlayable old) (h : H
   ticks_above : 65535 < i → HasPlayed (λ d moments. seats_of moments ≡ replicate n i) old new
   ticks_above high =
       let same : min i 65535 ≡ 65535 = omega (arith, high) in
-      let none_ : Ran old new [] = (h.0, h.1, λ took gave agrees agrees_gave. let t = h.2 took gave agrees agrees_gave in record {
-        moments = [];
-        are_of = refl;
-        follows = none_follows old new took gave 65535 n t.moments (few_seats old 65535 playable (omega arith) took gave) (t.are ∙ ap (λ j. replicate n j) same) t.follows;
-      }) in
-      let r = ran_join old old new (replicate n i) [] (ran_rest old i (few_seats old i playable (omega (arith, high))) n) none_ in
+      let none_ : Ran old new [] = (
+        h.0,
+        h.1,
+        λ took gave agrees agrees_gave. let t = h.2 took gave agrees agrees_gave in record {
+          moments = [];
+          are_of = refl;
+          follows = none_follows old new took gave 65535 n t.moments (playable.far 65535 (omega arith) took gave) (t.are ∙ ap (λ j. replicate n j) same) t.follows;
+        },
+      ) in
+      let r = ran_join old old new (replicate n i) [] (ran_rest old i (playable.far i (omega (arith, high))) n) none_ in
       (r.0, r.1, λ took gave agrees agrees_gave. let t = r.2 took gave agrees agrees_gave in record { moments = t.moments; are = t.are_of ∙ append-nil (replicate n i); follows = t.follows })
 
   ticks_of : HasPlayed (λ d moments. seats_of moments ≡ replicate n i) old new
@@ -134,7 +133,7 @@ module _ (p : Plan) where
 -- one line more
 played_more : (turns : List Turn) (turn : Option Turn) (a b c : MachineState) → HasPlayed (λ d. Scheduled a.plan d turns) a b → HasPlayed (HasTurns b.plan turn) b c → HasPlayed (λ d. Scheduled a.plan d (turns ++ cons_option turn [])) a c
 played_more turns turn a b c h k =
-    then_played (λ d. Scheduled a.plan d turns) (HasTurns a.plan turn) (λ d. Scheduled a.plan d (turns ++ cons_option turn [])) a b c h (subst (λ q. HasPlayed (HasTurns q turn) b c) h.table.plan k)
+    then_played (λ d. Scheduled a.plan d turns) (HasTurns a.plan turn) (λ d. Scheduled a.plan d (turns ++ cons_option turn [])) a b c h (subst (λ q. HasPlayed (HasTurns q turn) b c) h.0.plan k)
     (λ d xs ys hx hy. scheduled_line a.plan turns turn d xs ys hx hy)
 
 pub map_more : {A B : Type 0} (f : A → B) (xs : List A) (x : A) → map f (xs ++ x ∷ []) ≡ map f xs ++ f x ∷ []

@@ -1,5 +1,7 @@
 -- Ticks of a machine, one after another.
-use Rattle.std.proofs.Common.{◌≡◌, ℕ, suc, ◌+◌, List, [], ◌∷◌, ◌++◌, map, length, replicate, ap, sym, subst, refl, ◌∙◌, arith, slice_get, Some}
+use Rattle.std.proofs.Common.{◌≡◌, ℕ, suc, ◌+◌, ◌≤◌, List, [], ◌∷◌, ◌++◌, map, length, replicate, ap, sym, subst, refl, ◌∙◌, arith, slice_get, Some}
+use Rattle.std.proofs.Props.{props}
+use Rattle.std.proofs.Math.Logic.{∥∥₁_elim}
 use Rattle.std.proofs.lemmas.List.{length-map}
 use Rattle.sock_words.specs.declared.kind.Kind.{Kind}
 use Rattle.sock_words.specs.declared.plain.Plan.{Plan}
@@ -11,13 +13,21 @@ use Rattle.sock_programs.specs.Runs.{LeadsUpTo}
 use Rattle.sock_core.specs.declared.machine.Tick.{Tick}
 use Rattle.sock_core.specs.declared.machine.Tick.TheVariants.{Idle}
 use Rattle.sock_core.specs.Links.{Taken, Given}
-use Rattle.sock_core.specs.Machines.{MachineState, core_with}
+use Rattle.sock_core.specs.Machines.{MachineState, HasSizes, core_with}
 use Rattle.sock_core.specs.Runs.{SameLink, SameLinks, SameTable, Ticked, Led}
 use Rattle.sock_core.proofs.Joining.{same_table_none, same_links_none, follows_none, follows_join, made_join}
-use Rattle.sock_core.proofs.Resting.{idle_ran}
+use Rattle.sock_core.specs.Driving.{FirstRests}
+use Rattle.sock_core.proofs.Resting.{Rests, idle_ran, beyond_rests}
 use Rattle.script_run.specs.Given.{AreUntouched, AreNumbered}
-use Rattle.script_run.specs.Played.{PlayedWith, HasPlayed}
+use Rattle.script_run.specs.Played.{IsPlayable, PlayedWith, HasPlayed}
 use Rattle.script_run.proofs.Numbering.{numbered_of}
+
+-- there are fewer seats than 65,535
+far_seats : (m : MachineState) → ∥ HasSizes m ∥₁ → (i : ℕ) → 65535 ≤ i → Rests m i
+far_seats m sizes i high took gave = ∥∥₁_elim sizes (hlevel props) (λ sizes. let few = sizes.few_readers in beyond_rests m i sizes.few_seats (omega (arith, few, high)) took gave)
+
+pub playable_by : (m : MachineState) → FirstRests m → ∥ HasSizes m ∥₁ → IsPlayable m
+playable_by m first sizes = record { first = first; far = far_seats m sizes }
 
 -- none were made
 pub none_played : (Ticks : Core → List Moment → Type 0) (m : MachineState) → ((c : Core) → Ticks c []) → HasPlayed Ticks m m

@@ -1,30 +1,51 @@
 -- A run, from the setup to the end.
-use Rattle.std.proofs.Common.{◌≡◌, ℕ, zero, suc, ◌+◌, ◌-◌, List, [], ◌∷◌, ◌++◌, replicate, Result, Ok, Err, OnOk, ap, ap₂, sym, subst, refl, ◌∙◌, append_assoc, arith}
+use Rattle.std.proofs.Common.{◌≡◌, ℕ, zero, suc, ◌+◌, ◌-◌, List, [], ◌∷◌, ◌++◌, replicate, Option, None, Result, Ok, Err, OnOk, length, ◌≤◌, ap, sym, subst, refl, ◌∙◌, append_assoc, arith}
 use Rattle.std.specs.List.{AllByRecursion}
+use mathlib.Core.Option as core
+use lib.ListN.{get_elem?}
+use Rattle.sock_words.specs.declared.kind.Kind.{Kind}
 use Rattle.sock_words.specs.declared.plain.Plan.{Plan}
 use Rattle.brpc_model.specs.Items.{Item}
 use Rattle.brpc_model.specs.Operations.{Turn, clients}
-use Rattle.sock_programs.specs.Cores.{Core}
+use Rattle.sock_programs.specs.Cores.{Core, SeatState}
 use Rattle.sock_programs.specs.Ticks.{Answer, Moment, quiet, seats_of, run, AreAnswered, IsPrompt, broken_in}
-use Rattle.sock_programs.specs.Runs.{IsAtRest, Scheduled, from_to}
+use Rattle.sock_programs.specs.Runs.{IsAtRest, Scheduled, from_to, kind_in}
 use Rattle.sock_programs.specs.Scripts as scripts
-use Rattle.sock_programs.specs.Scripts.{IsRunWithCalls, round_of, set_up, is_ending, ending}
+use Rattle.sock_programs.specs.Scripts.{IsRunWithCalls, Settles, AreStill, round_of, ticks_of, opened, set_up, is_ending, ending}
 use Rattle.sock_programs.specs.Tasks as tasks
-use Rattle.sock_programs.specs.Tasks.{plan_of}
+use Rattle.sock_programs.specs.Tasks.{plan_of, id_plan_of}
+use Rattle.brpc_model.specs.Script.{script_of}
+use Rattle.owed_calls.specs.Lives.{ClosesInTime, ClosesInRun}
+use Rattle.whole_runs.proofs.Lengths.{opened_sized, run_sized}
 use Rattle.whole_runs.specs.Heard.{heard_in, taken_in, heard_of, taken_of}
-use Rattle.whole_runs.specs.Rounds as whole
-use Rattle.whole_runs.specs.Rounds.{StopsFirst}
 use Rattle.whole_runs.proofs.HeardRuns.{heard_on, taken_on}
-use Rattle.whole_runs.proofs.Settling.{settles_from}
-use Rattle.sock_core.specs.Links.{Taken, Given, Agrees, AgreesGave, ArePrompt}
-use Rattle.sock_core.specs.Machines.{MachineState, HasSizes, core_with, ending_by}
+use Rattle.report_fits.proofs.Sizes.{keeps_limits}
+use Rattle.sock_core.specs.Links.{Taken, Given, ArePrompt, TellClosing}
+use Rattle.sock_core.specs.Machines.{MachineState, core_with, ending_by}
 use Rattle.sock_core.specs.Runs as rounds
-use Rattle.sock_core.specs.Runs.{SameLinks, ShowFaults, LinksTell, ShowTakings, SettlesBy, SettledWith, Settled, round_by}
-use Rattle.sock_core.proofs.Joining.{run_append, answered_append, prompt_append, broken_append, same_links_join, show_faults_later, show_faults_join, tells_as, tells_join, takings_later, takings_join, takings_as}
-use Rattle.script_run.specs.Played.{IsMade, IsPlayable, PlayedWith, HasPlayed, HasRun, broken_of}
+use Rattle.sock_core.specs.Runs.{ShowFaults, LinksTell, TakesTell, ShowTakings, SettlesBy, SettledWith, Settled, round_by}
+use Rattle.sock_core.proofs.Resting.{rest_anyhow}
+use Rattle.sock_core.proofs.Joining.{run_append, answered_append, closes_append, prompt_append, broken_append, show_faults_later, show_faults_join, tells_as, tells_join, takings_later, takings_join, takings_as, takes_join, takes_as}
+use Rattle.script_run.specs.Causes.{broken_of}
+use Rattle.script_run.specs.Played.{IsMade, IsPlayable, PlayedWith, HasPlayed, HasRun}
 
-pub playable_of : (script : List Item) (m : MachineState) → IsMade script m → ∥ HasSizes m ∥₁ → IsPlayable m
-playable_of script m made sizes = record { first = made.first; sizes = sizes }
+-- a seat behind the last one has no step left
+past_all : (seats : List SeatState) (i : ℕ) → length seats ≤ i → get_elem? seats i ≡ core.none
+past_all [] i past = refl
+past_all (seat ∷ seats) zero past = absurd (omega (arith, past))
+past_all (seat ∷ seats) (suc i) past = past_all seats i (omega (arith, past))
+
+pub playable_of : (bytes : List ℕ) (script : List Item) (m : MachineState) → script_of bytes ≡ Ok script → IsMade script m → IsPlayable m
+playable_of bytes script m reads made = record { first = made.first; far = far }
+  where
+    far : (i : ℕ) → 65535 ≤ i → (took : Taken) (gave : Given) → IsAtRest (core_with m took gave) i
+    far i high took gave =
+        let sized = run_sized (plan_of script) (id_plan_of script) (opened script) (replicate made.setup.0 (quiet 0)) (opened_sized bytes script reads) in
+        let many = sized.seats in
+        let few = (keeps_limits bytes script reads).links in
+        let past : length (set_up script made.setup.0).seats ≤ i = omega (arith, many, few, high) in
+        let rest : IsAtRest (set_up script made.setup.0) i = ap (λ (o : core.Option SeatState). elim o as (λ o. Option Kind) [ core.none ↦ None | core.some seat ↦ kind_in seat.program ]) (past_all (set_up script made.setup.0).seats i past) in
+        rest_anyhow m (λ k. []) took (λ k. []) gave i (subst (λ (c : Core). IsAtRest c i) (sym made.setup.1) rest)
 
 -- ## Rounds
 
@@ -32,9 +53,16 @@ playable_of script m made sizes = record { first = made.first; sizes = sizes }
 same_round : (script : List Item) → round_by (plan_of script) ≡ round_of script
 same_round script = let e : (clients script + 1) - 1 ≡ clients script = omega arith in ap (λ n. from_to 1 n ++ from_to 32 (plan_of script).links) e
 
-whole_after : (script : List Item) (n : ℕ) (c : Core) (ms : List Moment) → rounds.SettlesAfter (plan_of script) n c ms → whole.SettlesAfter script n c ms
-whole_after script zero c ms h = (h.0 ∙ same_round script, h.1)
-whole_after script (suc n) c ms h = (h.0, h.1, h.2, h.3 ∙ same_round script, h.4, whole_after script n (run (plan_of script) c h.0) h.1 h.5)
+settles_from : (script : List Item) (n : ℕ) (c : Core) (ms : List Moment) → rounds.SettlesAfter (plan_of script) n c ms → Settles script c ms
+settles_from script zero c ms h = record { moving = []; each_moves = tt; last = ms; one_more = h.0 ∙ same_round script; still = h.1; all = refl }
+settles_from script (suc n) c ms h = let more = settles_from script n (run (plan_of script) c h.0) h.1 h.5 in record {
+  moving = h.0 ∷ more.moving;
+  each_moves = (h.3 ∙ same_round script, h.4, more.each_moves);
+  last = more.last;
+  one_more = more.one_more;
+  still = subst (λ (d : Core). AreStill (plan_of script) d more.last) (sym (run_append (plan_of script) c h.0 (ticks_of more.moving))) more.still;
+  all = h.2 ∙ ap (λ (l : List Moment). h.0 ++ l) more.all ∙ sym (append_assoc h.0 (ticks_of more.moving) more.last);
+}
 
 -- ## The whole run
 
@@ -110,7 +138,7 @@ module _ (script : List Item) (turns : List Turn) (start mid end_ : MachineState
     scheduled = now;
     by_schedule = set (λ q c. Scheduled q c turns now) first.are;
     later = later;
-    settles = settles_from script settles.rounds (run p (set_up script n) now) later (whole_after script settles.rounds (run p (set_up script n) now) later settles.after);
+    settles = settles_from script settles.rounds (run p (set_up script n) now) later settles.after;
     answered = answered_append p (set_up script n) now later (set (λ q c. AreAnswered q c now) first.follows.answered) (moved (λ q c. AreAnswered q c later) rest.answered);
     last = rest.last;
     ended = rest.ended;
@@ -120,18 +148,16 @@ module _ (script : List Item) (turns : List Turn) (start mid end_ : MachineState
         ∙ ap (λ (c : Core). is_ending (run p (ending script c) (replicate rest.last (quiet 0)))) rounded;
     is_over = rest.is_over;
     final = final;
-    settles_again = settles_from script settles_again.rounds rest.ended final (whole_after script settles_again.rounds rest.ended final settles_again.after);
+    settles_again = settles_from script settles_again.rounds rest.ended final settles_again.after;
     answered_again = subst (λ (q : Plan). AreAnswered q rest.ended final) plan rest.answered_again;
     prompt = subst (AllByRecursion IsPrompt) (sym (append_assoc now later final)) (prompt_append now (later ++ final) (first.follows.prompt prompt) parts);
     is_end = rest.core ∙ ap (λ (q : Plan). run q rest.ended final) plan;
   }
 
-  stops : StopsFirst script turns (core_with end_ rest.later rest.later_gave) run_of
-  stops = record {
-    rounds = settles.rounds;
-    before = whole_after script settles.rounds (run p (set_up script n) now) later settles.after;
-    rounds_again = settles_again.rounds;
-    behind = whole_after script settles_again.rounds rest.ended final settles_again.after;
+  closes : TellClosing start.links → ClosesInRun script turns (core_with end_ rest.later rest.later_gave) run_of
+  closes tell = let later_tell = played.1.tell tell in record {
+    played = closes_append p (set_up script n) now later (set (λ q c. ClosesInTime q c now) (first.follows.closes tell)) (moved (λ q c. ClosesInTime q c later) (rest.closes later_tell));
+    final = subst (λ (q : Plan). ClosesInTime q rest.ended final) plan (rest.closes_again later_tell);
   }
 
   -- what links answered behind the schedule
@@ -162,6 +188,13 @@ module _ (script : List Item) (turns : List Turn) (start mid end_ : MachineState
       (takings_join end_ (taken_in p (set_up script n) now) taken_later (takings_later mid end_ (taken_in p (set_up script n) now) (set (λ q c. ShowTakings mid (taken_in q c now)) first.follows.taken) settled.links)
       (moved (λ q c. ShowTakings end_ (λ k. taken_in q c later k ++ taken_in q rest.ended final k)) rest.taken))
 
+  takes : TakesTell start end_ (taken_of run_of)
+  takes = takes_as start end_ (λ k. taken_in p (set_up script n) now k ++ taken_later k) (taken_of run_of)
+      (λ k. sym (append_assoc (taken_in p (set_up script n) now k) (taken_in p (run p (set_up script n) now) later k) (taken_in p rest.ended final k))
+      ∙ ap (λ (l : List Answer). l ++ taken_in p rest.ended final k) (sym (taken_on p (set_up script n) now later k)))
+      (takes_join start mid end_ (taken_in p (set_up script n) now) taken_later played.1 settled.links (set (λ q c. TakesTell start mid (taken_in q c now)) first.follows.takes)
+      (moved (λ q c. TakesTell mid end_ (λ k. taken_in q c later k ++ taken_in q rest.ended final k)) rest.takes))
+
   pub has_run : HasRun script turns start end_
   has_run = record {
     took = rest.later;
@@ -169,16 +202,21 @@ module _ (script : List Item) (turns : List Turn) (start mid end_ : MachineState
     agrees = rest.agrees;
     agrees_gave = rest.agrees_gave;
     run = run_of;
-    stops = stops;
+    closes = closes;
     broken = broken;
     told = told;
     taken = taken;
+    takes = takes;
   }
 
 pub run_answered : {T E : Type 0} (script : List Item) (turns : List Turn) (start mid end_ : MachineState) (r : Result T E) → IsMade script start → HasPlayed (λ c. Scheduled start.plan c turns) start mid → OnOk r (Settled mid end_) →
     OnOk r (ArePrompt start.links → HasRun script turns start end_)
 run_answered script turns start mid end_ (Ok x) made played settled = λ prompt. has_run script turns start mid end_ made played settled prompt
 run_answered script turns start mid end_ (Err e) made played settled = tt
+
+pub plan_answered : {T E : Type 0} (start mid end_ : MachineState) (r : Result T E) → mid.plan ≡ start.plan → mid.ids.plan ≡ start.ids.plan → OnOk r (Settled mid end_) → OnOk r ((end_.plan ≡ start.plan) × (end_.ids.plan ≡ start.ids.plan))
+plan_answered start mid end_ (Ok x) same same_ids settled = (settled.plan ∙ same, settled.id_plan ∙ same_ids)
+plan_answered start mid end_ (Err e) same same_ids settled = tt
 
 pub ok_all : {T E P : Type 0} (r : Result T E) → P → OnOk r P
 ok_all (Ok text) h = h

@@ -1,16 +1,52 @@
 -- The text of a run, and the links that are given back.
-use Rattle.std.proofs.Common.{◌≡◌, ℕ, zero, suc, ◌+◌, List, [], ◌∷◌, ◌++◌, slice_get, Option, Some, None, IfSome, ap, sym, subst, arith}
+use Rattle.std.proofs.Common.{◌≡◌, ◌≢◌, ℕ, zero, suc, ◌+◌, ◌<◌, ◌≤◌, ◌⊎◌, inl, inr, true, List, [], ◌∷◌, ◌++◌, map, length, slice_get, slice_index_or, Option, Some, None, IfSome, Result, Ok, Err, OnOk, IfOk, IsOk, Bool, option_map, ap, sym, subst, refl, ◌∙◌, ⊎_elim, arith}
+use Rattle.std.specs.Prelude.{Contains}
+use Rattle.std.specs.List.{AllByRecursion}
 use Rattle.std.proofs.lemmas.Option.{slice_get_within}
+use mathlib.Core.Option as core
+use lib.ListN.{get_elem?}
+use Rattle.sock_words.specs.declared.plain.Plan.{Plan}
+use Rattle.sock_words.specs.declared.outcome.Outcome.{Outcome}
+use Rattle.sock_words.specs.declared.place_word.PlaceWord.{PlaceWord}
 use Rattle.brpc_model.specs.Items.{Item}
-use Rattle.brpc_model.specs.Link.{LinkEnd, HalfAnswer}
-use Rattle.brpc_model.specs.Operations.{Turn}
-use Rattle.sock_io.specs.Link.{more_told}
-use Rattle.whole_runs.specs.Heard.{as_told, heard_of}
-use Rattle.report_fits.proofs.Lists.{within}
-use Rattle.sock_core.specs.Machines.{MachineState}
-use Rattle.sock_core.specs.Runs.{SameLinks}
+use Rattle.brpc_model.specs.Script.{script_of}
+use Rattle.brpc_model.specs.Link.{LinkEnd, HalfAnswer, TakeAnswer}
+use Rattle.brpc_model.specs.Operations.{Turn, link_names, operations}
+use Rattle.brpc_model.specs.Causes.{HasFault, reading_limit}
+use Rattle.brpc_model.specs.PlaceWords.{ArePlaces, HasEachOutcome, IsReportText}
+use Rattle.sock_io.specs.Link.{OutState, InState, more_told}
+use Rattle.sock_model.specs.declared.home.Home.TheVariants.{Link}
+use Rattle.sock_programs.specs.Asides.{Taking, AtEnd, Closed, Broken}
+use Rattle.sock_programs.specs.Cores.{Core}
+use Rattle.sock_programs.specs.Runs.{from_to}
+use Rattle.sock_programs.specs.Scripts.{IsRunWithCalls, place_words}
+use Rattle.sock_programs.specs.Tasks.{plan_of}
+use Rattle.client_laws.proofs.Retrying.{retries_go}
+use Rattle.whole_runs.specs.Heard.{as_told, as_taken, take_answers, heard_of, taken_of, heard_takes}
+use Rattle.whole_runs.specs.Over.{IsAllOver}
+use Rattle.whole_runs.proofs.Ended.{run_all_over}
+use Rattle.whole_runs.proofs.Gave.{gave_heard}
+use Rattle.whole_runs.proofs.Lengths.{ended_length}
+use Rattle.whole_runs.proofs.Runs.{run_drops_told}
+use Rattle.whole_runs.proofs.Starts.{made, starts, fitting}
+use Rattle.owed_calls.proofs.Known.{run_owed_of}
+use Rattle.run_laws.proofs.Laws.{keeps_laws}
+use Rattle.report_fits.specs.Ends.{IsEndOf, AreEndsOf, AreTold, EndsEarly}
+use Rattle.report_fits.proofs.Lists.{within, has_from, all_at}
+use Rattle.report_fits.proofs.Sizes.{keeps_limits}
+use Rattle.report_fits.proofs.Tasks.{tasks_of_script}
+use Rattle.sock_core.specs.Finish.{told_from}
+use Rattle.sock_core.specs.Links.{Taken, Given, ArePrompt, TellClosing}
+use Rattle.sock_core.specs.Machines as machines
+use Rattle.sock_core.specs.Machines.{MachineState, core_with}
+use Rattle.sock_core.specs.Runs.{SameLink, SameLinks, ShowsTaking}
+use Rattle.script_run.specs.Causes.{HasCauses, EndedEarly, gave_in}
 use Rattle.script_run.specs.Given.{IsUntouched, AreUntouched}
-use Rattle.script_run.specs.Played.{HasRun, AreHeard}
+use Rattle.script_run.specs.Played.{IsMade, HasRun, AreHeard, IsWholeRun, IsEndTold, AreEndsTold, IsRunText}
+use Rattle.script_run.proofs.Homes.{index_at, took_is, lies_is, told_is}
+use Rattle.script_run.proofs.Idle.{clients_idle}
+use Rattle.script_run.proofs.Placed.{run_places, causes_known}
+use Rattle.script_run.proofs.Told.{has_causes, as_far}
 
 -- ## The links that are given back
 
@@ -20,18 +56,164 @@ untouched_at number (x ∷ ends) zero e h at = let is : x ≡ e = cc in subst (�
 untouched_at number (x ∷ ends) (suc k) e h at = subst (λ (m : ℕ). IsUntouched m e) (let s : (number + 1) + k ≡ number + suc k = omega arith in s) (untouched_at (number + 1) ends k e h.1 at)
 
 -- a link that had answered nothing tells what it answered since
-told_from_none : (told : Option (List HalfAnswer)) (more : List HalfAnswer) → IfSome told (λ answers. answers ≡ []) → IfSome (more_told told more) (λ answers. answers ≡ more)
+told_from_none : {A : Type 0} (told : Option (List A)) (more : List A) → IfSome told (λ answers. answers ≡ []) → IfSome (more_told told more) (λ answers. answers ≡ more)
 told_from_none None more none_ = tt
-told_from_none (Some answers) more none_ = ap (λ (l : List HalfAnswer). l ++ more) none_
+told_from_none (Some answers) more none_ = ap (λ l. l ++ more) none_
 
-module _ (script : List Item) (turns : List Turn) (start m : MachineState) (untouched : AreUntouched 0 start.ends) (same : SameLinks start m) (ran : HasRun script turns start m) where
-  heard_each : (k : ℕ) (e : LinkEnd) → slice_get m.ends k ≡ Some e → IfSome e.answers (λ answers. answers ≡ as_told (heard_of ran.run k))
-  heard_each k e at =
-      let inside = slice_get_within m.ends k e at in
-      let as_many = same.as_many in
-      let before = within start.ends k (omega (arith, inside, as_many)) in
-      let was = untouched_at 0 start.ends k before.0 untouched before.1 in
-      subst (λ o. IfSome o (λ answers. answers ≡ as_told (heard_of ran.run k))) (sym (ran.told.each k before.0 e before.1 at)) (told_from_none before.0.answers (as_told (heard_of ran.run k)) was.answers)
+-- the reading half that stands behind a link tells the same of it
+inn_at : {B : Type 0} (f : InState → B) (g : LinkEnd → B) (inns : List InState) (ends : List LinkEnd) (k : ℕ) (e : LinkEnd) → map f inns ≡ map g ends → slice_get ends k ≡ Some e → (inn : InState) × (get_elem? inns k ≡ core.some inn) × (f inn ≡ g e)
+inn_at f g inns [] k e same at = absurd (cc)
+inn_at f g [] (x ∷ ends) k e same at = absurd (cc)
+inn_at f g (i ∷ inns) (x ∷ ends) zero e same at = let first : f i ≡ g x = cc in let is : x ≡ e = cc in (i, refl, first ∙ ap g is)
+inn_at f g (i ∷ inns) (x ∷ ends) (suc k) e same at = let others : map f inns ≡ map g ends = cc in inn_at f g inns ends k e others at
 
-  pub are_heard : AreHeard m.ends (heard_of ran.run)
-  are_heard = record { each = heard_each; none_beyond = λ k past. ran.told.none_beyond k (let as_many = same.as_many in omega (arith, as_many, past)) }
+-- a link that told whether it was found closed still does
+still_told : (a b : LinkEnd) → SameLink a b → a.closed ≢ None → b.closed ≢ None
+still_told a b same told none_ = ⊎_elim (λ (e : b.closed ≡ a.closed). told (sym e ∙ none_)) (λ (e : b.closed ≡ option_map (λ _. true) a.closed). told (none_of a.closed (sym e ∙ none_))) same.closed
+  where
+    none_of : (o : Option Bool) → option_map (λ _. true) o ≡ None → o ≡ None
+    none_of None e = refl
+    none_of (Some x) e = absurd (cc)
+
+found_closed : (o : Option Bool) → o ≢ None → IfSome o (λ closed. closed ≡ true) → o ≡ Some true
+found_closed None told h = absurd (told refl)
+found_closed (Some b) told h = ap (λ (b : Bool). Some b) h
+
+module _ (bytes : List ℕ) (script : List Item) (turns : List Turn) (start m : MachineState) (reads : script_of bytes ≡ Ok script) (untouched : AreUntouched 0 start.ends) (many : length start.ends ≡ length (link_names script)) (same : SameLinks start m)
+    (ran : HasRun script turns start m) (plan : m.plan ≡ plan_of script) (tell : TellClosing start.links) (told_closed : AllByRecursion (λ (e : LinkEnd). e.closed ≢ None) start.ends)
+    (outs : map (λ (o : OutState). o.took) m.links.outs ≡ map (λ (e : LinkEnd). e.took) m.ends) (counts : map (λ (i : InState). i.gave) m.links.inns ≡ map (λ (e : LinkEnd). e.gave_count) m.ends)
+    (given : map (λ (i : InState). i.gave_bytes) m.links.inns ≡ map (λ (e : LinkEnd). e.gave) m.ends) (letters : length m.letters ≡ m.plan.requests) where
+  abbrev end_core : Core
+  end_core = core_with m ran.took ran.gave
+
+  over : IsAllOver script end_core
+  over = run_all_over bytes script reads turns end_core ran.run (ran.closes tell)
+
+  gave_is : (k : ℕ) → k < length (link_names script) → ran.gave k ≡ gave_in end_core k
+  gave_is k low =
+      let here : k < m.plan.links = subst (λ (q : Plan). k < q.links) (sym plan) low in
+      ap ran.gave (let e : k ≡ 0 + k = omega arith in e) ∙ sym (index_at ran.gave [] 0 m.plan.links k here)
+
+  module _ (k : ℕ) (e : LinkEnd) (at : slice_get m.ends k ≡ Some e) where
+    abbrev before : (x : LinkEnd) × (slice_get start.ends k ≡ Some x)
+    before = let inside = slice_get_within m.ends k e at in let as_many = same.as_many in within start.ends k (omega (arith, inside, as_many))
+
+    was : IsUntouched k before.0
+    was = subst (λ (j : ℕ). IsUntouched j before.0) (let s : 0 + k ≡ k = omega arith in s) (untouched_at 0 start.ends k before.0 untouched before.1)
+
+    stays : SameLink before.0 e
+    stays = same.each k before.0 e before.1 at
+
+    low : k < length (link_names script)
+    low = let inside = slice_get_within m.ends k e at in let as_many = same.as_many in omega (arith, inside, as_many, many)
+
+    counted : length (gave_in end_core k) ≡ e.gave_count
+    counted = let inn = inn_at (λ (i : InState). i.gave) (λ (e : LinkEnd). e.gave_count) m.links.inns m.ends k e counts at in
+        ap length (sym (gave_is k low)) ∙ sym (ran.agrees_gave k inn.0 inn.1).0 ∙ inn.2
+
+    gives : IfSome e.gave (λ bytes. bytes ≡ gave_in end_core k)
+    gives = let inn = inn_at (λ (i : InState). i.gave_bytes) (λ (e : LinkEnd). e.gave) m.links.inns m.ends k e given at in
+        subst (λ (o : Option (List ℕ)). IfSome o (λ bytes. bytes ≡ gave_in end_core k)) inn.2
+        (subst (λ (b : List ℕ). IfSome inn.0.gave_bytes (λ bytes. bytes ≡ b)) (gave_is k low) (ran.agrees_gave k inn.0 inn.1).1)
+
+    shows : (t : Taking) → Contains (heard_takes ran.run k) t → ShowsTaking t e
+    shows t has_it = all_at (λ (t : Taking). ShowsTaking t e) (heard_takes ran.run k) t (ran.taken k e at) (has_from (heard_takes ran.run k) t has_it)
+
+    ends_early : EndedEarly ran.run k → EndsEarly (gave_in end_core k) e
+    ends_early (inl ended) = inl (shows AtEnd ended)
+    ends_early (inr (inl fault)) = inr (inl (subst HasFault (sym (gave_heard bytes script reads turns end_core ran.run k low)) fault))
+    ends_early (inr (inr (inl most))) = inr (inr (inl (let c = counted in let same = ap length (gave_heard bytes script reads turns end_core ran.run k low) in omega (arith, most, c, same))))
+    ends_early (inr (inr (inr failed))) = inr (inr (inr (shows Broken failed)))
+
+    is_told : IsEndTold (plan_of script) end_core k e
+    is_told =
+        let home = over.homes k low in
+        let took = took_is m.links m.plan m.letters ran.took k home.took home.next home.done letters (subst (λ (q : Plan). k < q.links) (sym plan) low)
+        (subst (λ (q : Plan). get_elem? end_core.homes (q.requests + k) ≡ core.some (core.some (Link k home.took home.next home.done))) (sym plan) home.is) in
+        let lies = lies_is (plan_of script) end_core.homes k home.took home.next home.done low home.is in record {
+          numbered = stays.link ∙ was.link;
+          took = told_is m.links ran.took m.ends k e _ outs at ran.agrees (took ∙ sym lies);
+          counted = counted;
+          gives = gives;
+        }
+
+    is_end : (has : HasCauses script turns end_core ran.run) → IsEndOf (plan_of script) end_core has.fixed (gave_in end_core) k e
+    is_end has = record {
+      numbered = is_told.numbered;
+      took = is_told.took;
+      counted = is_told.counted;
+      gives = is_told.gives;
+      failed = λ broke. ran.broken k e (has.broken k broke) at;
+      early = λ early. ends_early (has.early k early).1;
+      closed = λ closed. found_closed e.closed (still_told before.0 e stays (all_at (λ (x : LinkEnd). x.closed ≢ None) start.ends before.0 told_closed (k, before.1))) (shows Closed (has.closed k closed));
+    }
+
+    heard_each : IfSome e.answers (λ answers. answers ≡ as_told (heard_of ran.run k))
+    heard_each = subst (λ (o : Option (List HalfAnswer)). IfSome o (λ answers. answers ≡ as_told (heard_of ran.run k))) (sym (ran.told.each k before.0 e before.1 at)) (told_from_none before.0.answers (as_told (heard_of ran.run k)) was.answers)
+
+    take_each : IfSome e.takes (λ takes. takes ≡ take_answers (as_taken (taken_of ran.run k)))
+    take_each = subst (λ (o : Option (List TakeAnswer)). IfSome o (λ takes. takes ≡ take_answers (as_taken (taken_of ran.run k)))) (sym (ran.takes.each k before.0 e before.1 at)) (told_from_none before.0.takes (take_answers (as_taken (taken_of ran.run k))) was.takes)
+
+  are_heard : AreHeard m.ends (heard_of ran.run) (taken_of ran.run)
+  are_heard = record {
+    each = heard_each;
+    none_beyond = λ k past. ran.told.none_beyond k (let as_many = same.as_many in omega (arith, as_many, past));
+    each_take = take_each;
+    no_take_beyond = λ k past. ran.takes.none_beyond k (let as_many = same.as_many in omega (arith, as_many, past));
+  }
+
+  ends_told : AreEndsTold script end_core m.ends
+  ends_told = record { as_many = same.as_many ∙ many; each = λ k e at. is_told k e at }
+
+  ends_are : (has : HasCauses script turns end_core ran.run) → AreEndsOf script end_core has.fixed (gave_in end_core) m.ends
+  ends_are has = record { as_many = same.as_many ∙ many; each = λ k e at. is_end k e at has }
+
+  -- ## The text
+
+  whole : (ends : List LinkEnd) → ends ≡ m.ends → IsWholeRun script turns ends
+  whole ends ends_same = record {
+    core = end_core;
+    run = ran.run;
+    laws = keeps_laws script (tasks_of_script bytes script reads) (starts bytes script reads) (let limits = keeps_limits bytes script reads in retries_go (plan_of script) limits.requests) turns end_core ran.run (fitting bytes script reads turns end_core ran.run);
+    heard = subst (λ (es : List LinkEnd). AreHeard es (heard_of ran.run) (taken_of ran.run)) (sym ends_same) are_heard;
+    drops = run_drops_told bytes script reads turns end_core ran.run (run_owed_of script (made bytes script reads) turns end_core ran.run (ran.closes tell));
+    idle = λ callless. clients_idle bytes script reads callless turns end_core ran.run;
+    over = over;
+  }
+
+  module _ (outcomes : List (ℕ × Outcome)) (words : List PlaceWord) (ends : List LinkEnd) (text : List ℕ) (outcomes_are : outcomes ≡ told_from 0 m.outcomes) (words_are : words ≡ place_words m.plan m.words) (ends_same : ends ≡ m.ends)
+      (told : (os : List (Option Outcome)) → length os ≡ length (operations script) → outcomes ≡ told_from 0 os → ArePlaces words → HasEachOutcome words os → (took : List (List ℕ)) × AreTold ends took × IsReportText script os words took text) where
+    pub text_is : IsRunText script turns text ends
+    unfolding whole
+    text_is =
+        let known = causes_known bytes script reads turns end_core ran.run (ran.closes tell) in
+        let places = run_places bytes script reads turns end_core ran.run (ran.closes tell) in
+        let words_now : words ≡ place_words (plan_of script) m.words = words_are ∙ ap (λ (q : Plan). place_words q m.words) plan in
+        let w = told m.outcomes (ended_length bytes script reads turns end_core ran.run) outcomes_are
+        (subst ArePlaces (sym words_now) places.0) (subst (λ (ws : List PlaceWord). HasEachOutcome ws m.outcomes) (sym words_now) places.1) in
+        let report = subst (λ (ws : List PlaceWord). IsReportText script m.outcomes ws w.0 text) words_now w.2 in record {
+          whole = whole ends ends_same;
+          took = w.0;
+          told = w.1;
+          report = report.report;
+          reports = report.told;
+          is_text = report.is_text;
+          ends_told = subst (AreEndsTold script end_core) (sym ends_same) ends_told;
+          known = known;
+          causes = as_far script (λ has. (has, subst (AreEndsOf script end_core has.fixed (gave_in end_core)) (sym ends_same) (ends_are has))) (has_causes bytes script reads turns end_core ran.run (ran.closes tell));
+        }
+
+-- where it was played to its end
+pub text_answered : {T E F S P C : Type 0} (items : T → List ℕ) (r : Result T E) (q : Result S F) (bytes : List ℕ) (script : List Item) (turns : List Turn) (start m : MachineState) (outcomes : List (ℕ × Outcome)) (words : List PlaceWord) (ends back : List LinkEnd) →
+    script_of bytes ≡ Ok script → IsMade script start → AreUntouched 0 start.ends → length start.ends ≡ length (link_names script) → SameLinks start m →
+    map (λ (o : OutState). o.took) m.links.outs ≡ map (λ (e : LinkEnd). e.took) m.ends → map (λ (i : InState). i.gave) m.links.inns ≡ map (λ (e : LinkEnd). e.gave_count) m.ends →
+    map (λ (i : InState). i.gave_bytes) m.links.inns ≡ map (λ (e : LinkEnd). e.gave) m.ends → length m.letters ≡ m.plan.requests →
+    outcomes ≡ told_from 0 m.outcomes → words ≡ place_words m.plan m.words → ends ≡ m.ends → back ≡ ends →
+    (IsOk r → IsOk q) → (P → ArePrompt start.links) → (C → TellClosing start.links) → (C → AllByRecursion (λ (e : LinkEnd). e.closed ≢ None) start.ends) →
+    OnOk q (ArePrompt start.links → HasRun script turns start m) → OnOk q ((m.plan ≡ start.plan) × (m.ids.plan ≡ start.ids.plan)) →
+    IfOk r (λ t. (os : List (Option Outcome)) → length os ≡ length (operations script) → outcomes ≡ told_from 0 os → ArePlaces words → HasEachOutcome words os → (took : List (List ℕ)) × AreTold ends took × IsReportText script os words took (items t)) →
+    IfOk r (λ t. P → C → IsRunText script turns (items t) back)
+text_answered items (Err e) q bytes script turns start m outcomes words ends back reads made untouched many same outs counts given letters outcomes_are words_are ends_same back_is played prompt tell closed ran sized told = tt
+text_answered items (Ok t) (Err e) bytes script turns start m outcomes words ends back reads made untouched many same outs counts given letters outcomes_are words_are ends_same back_is played prompt tell closed ran sized told = let same = played refl in absurd (cc)
+text_answered items (Ok t) (Ok done) bytes script turns start m outcomes words ends back reads made untouched many same outs counts given letters outcomes_are words_are ends_same back_is played prompt tell closed ran sized told =
+    λ p c. subst (IsRunText script turns (items t)) (sym back_is) (text_is bytes script turns start m reads untouched many same (ran (prompt p)) (sized.0 ∙ made.plan) (tell c) (closed c) outs counts given letters outcomes words ends (items t) outcomes_are words_are ends_same told)

@@ -8,7 +8,7 @@ use Rattle.brpc_model.specs.Link.{LinkEnd}
 use Rattle.sock_io.specs.declared.link.LinkSpec.{LinkSpec}
 use Rattle.sock_io.specs.declared.link.Mode.TheVariants as mode
 
--- the link of this number took, gave and answered nothing, and did not fail
+-- the link of this number took, gave and answered nothing, did not fail, and was not found closed
 pub record IsUntouched (number : ℕ) (e : LinkEnd) : Type 0 where
   pub link : e.link ≡ number
   pub took : IfSome e.took (λ bytes. bytes ≡ [])
@@ -17,7 +17,9 @@ pub record IsUntouched (number : ℕ) (e : LinkEnd) : Type 0 where
   pub gave_count : e.gave_count ≡ 0
   pub take_faults : e.take_faults ≡ 0
   pub gave_end : e.gave_end ≡ false
+  pub closed : IfSome e.closed (λ closed. closed ≡ false)
   pub answers : IfSome e.answers (λ answers. answers ≡ [])
+  pub takes : IfSome e.takes (λ takes. takes ≡ [])
 
 -- these links, of which the first has this number, are untouched
 abbrev pub AreUntouched : ℕ → List LinkEnd → Type 0

@@ -1,3 +1,3 @@
 pub mod Given
-pub mod Played
 pub mod Causes
+pub mod Played

@@ -1,25 +1,26 @@
 -- The lines by which a script is run, the ticks that they make, and the text of a run.
-use Rattle.std.specs.Prelude.{ℕ, ◌≡◌, ◌≤◌, ◌++◌, length, slice_get, List, [], Option, Some, None, IfSome}
+use Rattle.std.specs.Prelude.{ℕ, ◌≡◌, ◌≢◌, ◌≤◌, ◌++◌, true, length, slice_get, slice_index_or, List, [], Option, Some, None, IfSome}
 use Rattle.sock_words.specs.declared.plain.Plan.{Plan}
 use Rattle.brpc_model.specs.Items.{Item}
 use Rattle.brpc_model.specs.Link.{LinkEnd}
-use Rattle.brpc_model.specs.Operations.{Turn, schedule}
+use Rattle.brpc_model.specs.Operations.{Turn, schedule, clients, link_names}
 use Rattle.brpc_model.specs.Report.{Report, report_text}
 use Rattle.sock_programs.specs.Cores.{Core}
-use Rattle.sock_programs.specs.Ticks.{Answer, Moment, broken_in}
-use Rattle.sock_programs.specs.Runs.{Turns}
-use Rattle.sock_programs.specs.Scripts.{IsRunWithCalls, Reports, all_tasks, set_up, drawn_turns}
+use Rattle.sock_programs.specs.Ticks.{Answer, Moment}
+use Rattle.sock_programs.specs.Runs.{IsAtRest, Turns}
+use Rattle.sock_programs.specs.Scripts.{IsRunWithCalls, Reports, is_callless, set_up, played, drawn_turns, took_at_home}
 use Rattle.sock_programs.specs.Tasks.{plan_of, id_plan_of, opens, calls}
-use Rattle.sock_programs.specs.ToldCalls.{Fixed, Order, ToldCalls}
 use Rattle.report_fits.specs.Ends.{AreEndsOf, AreTold}
 use Rattle.run_laws.specs.Laws.{KeepsLaws}
-use Rattle.sock_core.specs.Links.{Taken, Given, Agrees, AgreesGave}
-use Rattle.sock_core.specs.Machines.{MachineState, HasSizes, core_with}
-use Rattle.whole_runs.specs.Heard.{as_told, heard_of, taken_of, heard_takes, given_by}
+use Rattle.sock_io.specs.Link.{InState}
+use Rattle.owed_calls.specs.Lives.{ClosesInRun}
+use Rattle.sock_core.specs.Links.{Taken, Given, Agrees, AgreesGave, TellClosing}
+use Rattle.sock_core.specs.Machines.{MachineState, core_with}
+use Rattle.whole_runs.specs.Heard.{as_told, as_taken, take_answers, heard_of, taken_of}
 use Rattle.whole_runs.specs.Over.{IsAllOver}
-use Rattle.whole_runs.specs.Rounds.{StopsFirst}
-use Rattle.sock_core.specs.Runs.{ShowFaults, LinksTell, ShowTakings, Follows, Made}
+use Rattle.sock_core.specs.Runs.{ShowFaults, LinksTell, TakesTell, ShowTakings, Follows, Made}
 use Rattle.sock_core.specs.Driving.{FirstRests}
+use Rattle.script_run.specs.Causes.{HasCauses, CausesKnown, DropsTold, AsFarAsTold, broken_of, gave_in}
 use Rattle.script_run.specs.declared.schedule.Schedule.{Schedule}
 use Rattle.script_run.specs.declared.schedule.Schedule.TheVariants.{Own, Drawn}
 
@@ -41,10 +42,10 @@ pub record IsMade (script : List Item) (m : MachineState) : Type 0 where
   pub setup : (n : ℕ) × (core_with m (λ k. []) (λ k. []) ≡ set_up script n)
   pub first : FirstRests m
 
--- the schedule's turn: seat 0 has no step left, and the seats are as many as the plan says
+-- the schedule's turn: seat 0 has no step left, and neither has a seat with the highest number or one above
 pub record IsPlayable (m : MachineState) : Type 0 where
   pub first : FirstRests m
-  pub sizes : ∥ HasSizes m ∥₁
+  pub far : (i : ℕ) → 65535 ≤ i → (took : Taken) (gave : Given) → IsAtRest (core_with m took gave) i
 
 -- ## Ticks
 
@@ -64,9 +65,9 @@ HasTurns p (Some turn) c moments = Turns p c turn moments
 
 -- ## Runs
 
--- the links that answered that they failed in a run, before its ending and behind it
-abbrev pub broken_of : {script : List Item} {turns : List Turn} {end_ : Core} → IsRunWithCalls script turns end_ → List ℕ
-broken_of {script} r = broken_in (plan_of script) (set_up script r.setup) (r.scheduled ++ r.later) ++ broken_in (plan_of script) r.ended r.final
+-- each reading half tells whether its other end closed its half, and whether it answered so
+abbrev pub TellClosed : {A : Type 0} → (A → InState) → Type 0
+TellClosed {A} state = (inn : A) → ((state inn).closing ≢ None) × ((state inn).closed ≢ None)
 
 -- the machine was played from behind the setup to the end of a run, over links that are always ready in time
 pub record HasRun (script : List Item) (turns : List Turn) (start m : MachineState) : Type 0 where
@@ -75,35 +76,57 @@ pub record HasRun (script : List Item) (turns : List Turn) (start m : MachineSta
   pub agrees : Agrees m.links took
   pub agrees_gave : AgreesGave m.links gave
   pub run : IsRunWithCalls script turns (core_with m took gave)
-  pub stops : StopsFirst script turns (core_with m took gave) run
+  pub closes : TellClosing start.links → ClosesInRun script turns (core_with m took gave) run
   pub broken : ShowFaults m (broken_of run)
   pub told : LinksTell start m (heard_of run)
   pub taken : ShowTakings m (taken_of run)
+  pub takes : TakesTell start m (taken_of run)
 
--- each link that tells what its writing half answered tells what that answered in the run, and no other link was asked
-pub record AreHeard (ends : List LinkEnd) (heard : ℕ → List Answer) : Type 0 where
+-- each link that tells what its halves answered tells what they answered in the run, and no other link was asked
+pub record AreHeard (ends : List LinkEnd) (heard taken : ℕ → List Answer) : Type 0 where
   pub each : (k : ℕ) (e : LinkEnd) → slice_get ends k ≡ Some e → IfSome e.answers (λ answers. answers ≡ as_told (heard k))
   pub none_beyond : (k : ℕ) → length ends ≤ k → heard k ≡ []
+  pub each_take : (k : ℕ) (e : LinkEnd) → slice_get ends k ≡ Some e → IfSome e.takes (λ takes. takes ≡ take_answers (as_taken (taken k)))
+  pub no_take_beyond : (k : ℕ) → length ends ≤ k → taken k ≡ []
+
+-- a run of the script by these lines, over the links that were given back
+pub record IsWholeRun (script : List Item) (turns : List Turn) (ends : List LinkEnd) : Type 0 where
+  pub core : Core
+  pub run : IsRunWithCalls script turns core
+  -- whose ticks are events of the plain model, with at most one put behind a failure
+  pub laws : KeepsLaws run
+  pub heard : AreHeard ends (heard_of run) (taken_of run)
+  pub drops : DropsTold run
+  -- without calls each client is at rest where the ending begins
+  pub idle : is_callless script ≡ true → (i : ℕ) → i ≤ clients script → IsAtRest (played script run.setup (run.scheduled ++ run.later)) i
+  -- in the end no life is left, each id range has ended, and each link is at home
+  pub over : IsAllOver script core
+
+-- link k, as it was given back: as far as it tells, it took what lies at its home, and gave what the run has of it
+pub record IsEndTold (p : Plan) (core : Core) (k : ℕ) (e : LinkEnd) : Type 0 where
+  pub numbered : e.link ≡ k
+  pub took : IfSome e.took (λ bytes. bytes ≡ slice_index_or (took_at_home p core.homes) k [])
+  pub counted : length (gave_in core k) ≡ e.gave_count
+  pub gives : IfSome e.gave (λ bytes. bytes ≡ gave_in core k)
+
+pub record AreEndsTold (script : List Item) (core : Core) (ends : List LinkEnd) : Type 0 where
+  pub as_many : length ends ≡ length (link_names script)
+  pub each : (k : ℕ) (e : LinkEnd) → slice_get ends k ≡ Some e → IsEndTold (plan_of script) core k e
+
+-- all causes of a run, and what the links show of them
+abbrev pub IsCaused : (script : List Item) (turns : List Turn) (core : Core) → IsRunWithCalls script turns core → List LinkEnd → Type 0
+IsCaused script turns core run ends = (has : HasCauses script turns core run) × AreEndsOf script core has.fixed (gave_in core) ends
 
 -- the text reports a run of the script by these lines, over the links that were given back
 pub record IsRunText (script : List Item) (turns : List Turn) (text : List ℕ) (ends : List LinkEnd) : Type 0 where
-  pub core : Core
-  pub run : IsRunWithCalls script turns core
-  -- whose rounds stop at the first that moved nothing
-  pub stops : StopsFirst script turns core run
-  -- whose ticks are events of the plain model, with at most one put behind a failure
-  pub laws : KeepsLaws run
+  pub whole : IsWholeRun script turns ends
   -- what is reported that the links took
   pub took : List (List ℕ)
   pub told : AreTold ends took
   pub report : Report
-  pub reports : Reports script core took report
+  pub reports : Reports script whole.core took report
   pub is_text : text ≡ report_text script report
-  -- why each outcome came, and what the links show of it
-  pub fixed : Fixed
-  pub orders : ℕ → Order
-  pub tells : ToldCalls (plan_of script) (all_tasks script) core.outcomes fixed (λ k. given_by (heard_takes run k)) orders core
-  pub ends_are : AreEndsOf script core fixed (λ k. given_by (heard_takes run k)) ends
-  pub heard : AreHeard ends (heard_of run)
-  -- in the end no life is left, each id range has ended, and each link is at home
-  pub over : IsAllOver script core
+  pub ends_told : AreEndsTold script whole.core ends
+  -- why each outcome came: what is known in every script, and all of it as far as that is proved
+  pub known : CausesKnown script turns whole.core whole.run
+  pub causes : AsFarAsTold script (IsCaused script turns whole.core whole.run ends)

@@ -1,4 +1,4 @@
-ghost use Rattle.std.specs.Prelude.{◌≡◌, ◌≤◌, ◌<◌, ◌+◌, ◌++◌, ◌∷◌, ℕ, true, false, [], List, length, map, count_by, OnOk, OnErr, IsErrOf, if◌then◌else◌};
+ghost use Rattle.std.specs.Prelude.{◌≡◌, ◌≤◌, ◌<◌, ◌+◌, ◌++◌, ◌∷◌, ℕ, true, false, [], List, length, map, count_by, IfSome, OnOk, OnErr, IsErrOf, if◌then◌else◌};
 ghost use Rattle.std.specs.List.{list_all, AllByRecursion};
 ghost use Rattle.brpc_model.specs.Link.{LinkEnd};
 ghost use Rattle.sock_io.specs.declared.link.Ends.{Ends};
@@ -37,6 +37,7 @@ fn open_one<L: Linker>(
     requires few { length ends.old.items < 256 }
     ensures fresh { AreUntouched 0 (map (λ e. end_of (L.O.state e.out) (L.I.state e.inn)) ends.old.items) → AreUntouched 0 (map (λ e. end_of (L.O.state e.out) (L.I.state e.inn)) ends.new.items) }
     ensures unfinished { AllByRecursion (λ (e : Ends L.O L.I L.P). (L.O.state e.out).finished ≡ false) ends.old.items → AllByRecursion (λ (e : Ends L.O L.I L.P). (L.O.state e.out).finished ≡ false) ends.new.items }
+    ensures unclosed { AllByRecursion (λ (e : Ends L.O L.I L.P). IfSome (L.I.state e.inn).closing (λ closing. closing ≡ false)) ends.old.items → AllByRecursion (λ (e : Ends L.O L.I L.P). IfSome (L.I.state e.inn).closing (λ closing. closing ≡ false)) ends.new.items }
     ensures prompt_each { L.prompt links.old ≡ true → AllByRecursion (λ (e : Ends L.O L.I L.P). (L.O.state e.out).prompt ≡ true) ends.old.items → AllByRecursion (λ (e : Ends L.O L.I L.P). (L.O.state e.out).prompt ≡ true) ends.new.items }
     ensures count { OnOk result (length ends.new.items ≡ length ends.old.items + 1) }
     ensures err { OnErr result (length ends.new.items ≡ length ends.old.items) }
@@ -70,6 +71,7 @@ fn open_line<L: Linker>(
     requires few { is_open (item line.now) ≡ true → length ends.old.items < 256 }
     ensures fresh { AreUntouched 0 (map (λ e. end_of (L.O.state e.out) (L.I.state e.inn)) ends.old.items) → AreUntouched 0 (map (λ e. end_of (L.O.state e.out) (L.I.state e.inn)) ends.new.items) }
     ensures unfinished { AllByRecursion (λ (e : Ends L.O L.I L.P). (L.O.state e.out).finished ≡ false) ends.old.items → AllByRecursion (λ (e : Ends L.O L.I L.P). (L.O.state e.out).finished ≡ false) ends.new.items }
+    ensures unclosed { AllByRecursion (λ (e : Ends L.O L.I L.P). IfSome (L.I.state e.inn).closing (λ closing. closing ≡ false)) ends.old.items → AllByRecursion (λ (e : Ends L.O L.I L.P). IfSome (L.I.state e.inn).closing (λ closing. closing ≡ false)) ends.new.items }
     ensures prompt_each { L.prompt links.old ≡ true → AllByRecursion (λ (e : Ends L.O L.I L.P). (L.O.state e.out).prompt ≡ true) ends.old.items → AllByRecursion (λ (e : Ends L.O L.I L.P). (L.O.state e.out).prompt ≡ true) ends.new.items }
     ensures count { OnOk result (length ends.new.items ≡ length ends.old.items + (if is_open (item line.now) then 1 else 0)) }
     ensures err { OnErr result (length ends.new.items ≡ length ends.old.items) }
@@ -100,6 +102,7 @@ pub fn open_links<L: Linker>(
     requires pieces { list_all has_piece_line lines.now ≡ true }
     ensures fresh { AreUntouched 0 (map (λ e. end_of (L.O.state e.out) (L.I.state e.inn)) ends.new.items) }
     ensures unfinished { AllByRecursion (λ (e : Ends L.O L.I L.P). (L.O.state e.out).finished ≡ false) ends.new.items }
+    ensures unclosed { AllByRecursion (λ (e : Ends L.O L.I L.P). IfSome (L.I.state e.inn).closing (λ closing. closing ≡ false)) ends.new.items }
     ensures prompt_each { L.prompt links.old ≡ true → AllByRecursion (λ (e : Ends L.O L.I L.P). (L.O.state e.out).prompt ≡ true) ends.new.items }
     ensures whole { OnOk result (length ends.new.items ≡ count_by is_open_line lines.now) }
     ensures most { length ends.new.items ≤ count_by is_open_line lines.now }

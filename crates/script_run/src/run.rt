@@ -1,20 +1,19 @@
-ghost use Rattle.std.specs.Prelude.{◌≡◌, ◌<◌, ◌≤◌, ℕ, List, Option, Ok, true, false, [], map, length, IfOk, OnOk, IsOk, IsErrOf};
+ghost use Rattle.std.specs.Prelude.{◌≡◌, ◌≢◌, ◌<◌, ◌≤◌, ℕ, List, Option, Ok, None, true, false, [], map, length, IfOk, IfSome, OnOk, IsOk, IsErrOf};
 ghost use Rattle.std.specs.List.{list_all, AllByRecursion};
 ghost use Rattle.brpc_model.specs.Link.{LinkEnd};
 ghost use Rattle.brpc_model.specs.Items.{Item};
 ghost use Rattle.brpc_model.specs.Script.{script_of};
 ghost use Rattle.brpc_model.specs.Operations.{link_names, operations};
 ghost use Rattle.brpc_model.specs.PlaceWords.{ArePlaces, HasEachOutcome, IsReportText};
-ghost use Rattle.whole_runs.specs.Unserved.{IsUnserved};
 ghost use Rattle.sock_io.specs.declared.link.Ends.{Ends};
 ghost use Rattle.sock_io.specs.Causes.{Rose};
 ghost use Rattle.sock_io.specs.Link.{end_of};
 ghost use Rattle.sock_words.specs.declared.outcome.Outcome.{Outcome};
 ghost use Rattle.sock_core.specs.Finish.{told_from};
-ghost use Rattle.sock_core.specs.Links.{ArePrompt};
+ghost use Rattle.sock_core.specs.Links.{ArePrompt, TellClosing};
 ghost use Rattle.sock_core.specs.Runs.{SameLinks};
 ghost use Rattle.script_run.specs.Given.{AreNumbered, AreUntouched, IsBeginning, has_piece, specs_of};
-ghost use Rattle.script_run.specs.Played.{IsMade, HasRun, IsRunText, turns_of};
+ghost use Rattle.script_run.specs.Played.{IsMade, HasRun, IsRunText, TellClosed, turns_of};
 ghost use Rattle.report_fits.specs.Ends.{AreTold};
 
 use crate::links::{give_back, open_links};
@@ -34,7 +33,7 @@ pub enum RunFault {
     NoMemory,
 }
 
-/// Runs a script by a schedule: the text of its report. No link has a server, or an end of its own.
+/// Runs a script by a schedule: the text of its report.
 ///
 /// Its links are opened in order and all given back, in order, whatever becomes of the run. Where one can't be opened,
 /// nothing is run, and nothing is put on the others.
@@ -46,10 +45,9 @@ pub fn run_script<L: Linker>(
 ) -> Result<Vec<u8>, RunFault>
     requires script { (bytes : List ℕ) × (script_of bytes ≡ Ok script.now) }
     requires pieces { list_all has_piece script.now ≡ true }
-    requires unserved { IsUnserved script.now }
     requires asked { L.asked links.old ≡ [] }
     requires back { L.back links.old ≡ [] }
-    ensures text { IfOk result (λ text. L.prompt links.old ≡ true → IsRunText script.now (turns_of script.now schedule) text.items (L.back links.new)) }
+    ensures text { IfOk result (λ text. L.prompt links.old ≡ true → TellClosed L.I.state → IsRunText script.now (turns_of script.now schedule) text.items (L.back links.new)) }
     ensures unopened { IsErrOf result RunFault.OpenFailed → AreUntouched 0 (L.back links.new) }
     ensures all { OnOk result (length (L.back links.new) ≡ length (link_names script.now)) }
     // What is asked of the links is what the lines of the script ask, all of it unless one could not be opened.
@@ -95,12 +93,13 @@ fn run_over<L: Linker>(
     requires script { (bytes : List ℕ) × (script_of bytes ≡ Ok script.now) }
     requires untouched { AreUntouched 0 (map (λ e. end_of (L.O.state e.out) (L.I.state e.inn)) ends.items) }
     requires unfinished { AllByRecursion (λ (e : Ends L.O L.I L.P). (L.O.state e.out).finished ≡ false) ends.items }
+    requires unclosed { AllByRecursion (λ (e : Ends L.O L.I L.P). IfSome (L.I.state e.inn).closing (λ closing. closing ≡ false)) ends.items }
     requires prompt { L.prompt links.old ≡ true → AllByRecursion (λ (e : Ends L.O L.I L.P). (L.O.state e.out).prompt ≡ true) ends.items }
     requires all { length ends.items ≡ length (link_names script.now) }
     requires few { length ends.items ≤ 256 }
     requires opened { length (L.asked links.old) ≡ length ends.items }
     requires back { L.back links.old ≡ [] }
-    ensures text { IfOk result (λ text. L.prompt links.old ≡ true → IsRunText script.now (turns_of script.now schedule) text.items (L.back links.new)) }
+    ensures text { IfOk result (λ text. L.prompt links.old ≡ true → TellClosed L.I.state → IsRunText script.now (turns_of script.now schedule) text.items (L.back links.new)) }
     ensures back { length (L.back links.new) ≡ length ends.items }
     ensures numbered { AreNumbered 0 (L.back links.new) }
     ensures asked { L.asked links.new ≡ L.asked links.old }
@@ -130,11 +129,13 @@ fn run_on<L: Linker>(
     requires made { IsMade script.now machine }
     requires untouched { AreUntouched 0 machine.ends }
     requires prompt { L.prompt links.old ≡ true → ArePrompt machine.links }
+    requires tell { TellClosed L.I.state → TellClosing machine.links }
+    requires closed { TellClosed L.I.state → AllByRecursion (λ (e : LinkEnd). e.closed ≢ None) machine.ends }
     requires all { length machine.ends ≡ length (link_names script.now) }
     requires few { length machine.ends ≤ 256 }
     requires opened { length (L.asked links.old) ≡ length machine.ends }
     requires back { L.back links.old ≡ [] }
-    ensures text { IfOk result (λ text. L.prompt links.old ≡ true → IsRunText script.now (turns_of script.now schedule) text.items (L.back links.new)) }
+    ensures text { IfOk result (λ text. L.prompt links.old ≡ true → TellClosed L.I.state → IsRunText script.now (turns_of script.now schedule) text.items (L.back links.new)) }
     ensures back { length (L.back links.new) ≡ length machine.ends }
     ensures numbered { AreNumbered 0 (L.back links.new) }
     ensures asked { L.asked links.new ≡ L.asked links.old }

@@ -14,6 +14,7 @@ loop-line-preserved g c =
       asked = asked_more c.args.lines.now c.loop-line.line-index c.line-item.result _ _ c.loop-line-test.true c.line-item.is i.asked step.asked;
       fresh = step.fresh i.fresh;
       unfinished = step.unfinished i.unfinished;
+      unclosed = step.unclosed i.unclosed;
       prompt_each = λ prompt. step.prompt_each (i.prompt ∙ prompt) (i.prompt_each prompt);
       count = grind (arith, common_steps);
       back = step.back ∙ i.back;

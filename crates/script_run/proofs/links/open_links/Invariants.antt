@@ -1,4 +1,4 @@
-use Rattle.std.proofs.Common.{◌≡◌, ◌≤◌, length, map, count_by, take, true, false}
+use Rattle.std.proofs.Common.{◌≡◌, ◌≤◌, length, map, count_by, take, true, false, IfSome}
 use Rattle.std.specs.List.{AllByRecursion}
 use Rattle.sock_io.specs.declared.link.Ends.{Ends}
 use Rattle.sock_io.specs.Link.{end_of}
@@ -12,6 +12,7 @@ invariant-loop-line g l = record {
   asked : g.L.Linker.asked l.links ≡ specs_of (map item (take l.line-index l.lines));
   fresh : AreUntouched 0 (map (λ e. end_of (g.L.O.Out.state e.out) (g.L.I.In.state e.inn)) l.ends.items);
   unfinished : AllByRecursion (λ (e : Ends g.row.L-O.Denot g.row.L-I.Denot g.row.L-P.Denot). (g.L.O.Out.state e.out).finished ≡ false) l.ends.items;
+  unclosed : AllByRecursion (λ (e : Ends g.row.L-O.Denot g.row.L-I.Denot g.row.L-P.Denot). IfSome (g.L.I.In.state e.inn).closing (λ closing. closing ≡ false)) l.ends.items;
   prompt_each : g.L.Linker.prompt l.initial.links ≡ true → AllByRecursion (λ (e : Ends g.row.L-O.Denot g.row.L-I.Denot g.row.L-P.Denot). (g.L.O.Out.state e.out).prompt ≡ true) l.ends.items;
   count : length l.ends.items ≡ count_by is_open_line (take l.line-index l.lines);
   back : g.L.Linker.back l.links ≡ g.L.Linker.back l.initial.links;

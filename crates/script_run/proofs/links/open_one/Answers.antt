@@ -14,3 +14,6 @@ returns-clause-prompt_each g c prompt old = all_with _ _ _ c.in_ok-opened.opened
 
 pub open-requires-clause-piece : goal.open-requires-clause-piece
 open-requires-clause-piece g c = subst (λ (s : LinkSpec). 0 < s.piece) (sym c.spec_of.ensures) c.requires.piece
+
+pub returns-clause-unclosed : goal.returns-clause-unclosed
+returns-clause-unclosed g c old = all_with _ _ _ c.in_ok-opened.opened old (search rules) c.in_ok-opened.ensures.fresh.closing

@@ -10,7 +10,7 @@ pub returns-clause-run : goal.returns-clause-run
 returns-clause-run g c = run_answered c.args.script.now (turns_of c.args.script.now c.args.schedule) c.args.machine.now c.play_schedule.new.machine c.settle.new.self c.settle.result c.requires.made c.in_ok-play_schedule.ensures.played c.settle.ensures.settled
 
 pub returns-clause-plan : goal.returns-clause-plan
-returns-clause-plan g c = plan_answered c.args.machine.now c.play_schedule.new.machine c.settle.new.self c.settle.result c.in_ok-play_schedule.ensures.played.table.plan c.settle.ensures.settled
+returns-clause-plan g c = let table = c.in_ok-play_schedule.ensures.played.0 in plan_answered c.args.machine.now c.play_schedule.new.machine c.settle.new.self c.settle.result table.plan table.id_plan c.settle.ensures.settled
 
 pub returns-clause-ends : goal.returns-clause-ends
 returns-clause-ends g c = same_links_join c.args.machine.now c.play_schedule.new.machine c.settle.new.self c.play_schedule.ensures.ends c.settle.ensures.ends

@@ -1,5 +1,8 @@
+use Rattle.std.proofs.Common.{◌≢◌, None, sym, subst}
+use Rattle.std.specs.List.{AllByRecursion}
+use Rattle.brpc_model.specs.Link.{LinkEnd}
 use Rattle.sock_io.specs.Link.{end_of}
-use Rattle.script_run.proofs.Numbering.{numbered_of, unused_of}
+use Rattle.script_run.proofs.Numbering.{numbered_of, unused_of, silent_of, all_so, all_mapped}
 use Rattle.script_run.proofs.run.run_over.Goals as goal
 
 pub new-requires-clause-unused : goal.new-requires-clause-unused
@@ -10,3 +13,13 @@ give_back-requires-clause-numbered g c κs within = rw c.in-Err.ensures.back (nu
 
 pub run_on-requires-clause-prompt : goal.run_on-requires-clause-prompt
 run_on-requires-clause-prompt g c κs within is = c.in-Ok.ensures.outs (c.requires.prompt is)
+
+pub new-requires-clause-silent : goal.new-requires-clause-silent
+new-requires-clause-silent g c = silent_of (λ e. end_of (g.L.O.Out.state e.out) (g.L.I.In.state e.inn)) 0 c.args.ends.items c.requires.untouched
+
+pub run_on-requires-clause-tell : goal.run_on-requires-clause-tell
+run_on-requires-clause-tell g c κs within tell = c.in-Ok.ensures.tell (all_so (λ e. (g.L.I.In.state e.inn).closing ≢ None) (λ e. (tell e.inn).0) c.args.ends.items)
+
+pub run_on-requires-clause-closed : goal.run_on-requires-clause-closed
+run_on-requires-clause-closed g c κs within tell =
+    subst (AllByRecursion (λ (e : LinkEnd). e.closed ≢ None)) (sym c.in-Ok.ensures.ends) (all_mapped (λ e. end_of (g.L.O.Out.state e.out) (g.L.I.In.state e.inn)) (λ (e : LinkEnd). e.closed ≢ None) (λ e. (tell e.inn).1) c.args.ends.items)

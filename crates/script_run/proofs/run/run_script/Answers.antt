@@ -2,9 +2,7 @@ use Rattle.std.proofs.Common.{◌≡◌, Err, ap, ◌∙◌, arith}
 use Rattle.sock_io.specs.declared.link.OpenFault.TheVariants.{Failed}
 use Rattle.std.specs.List.{list_all}
 use Rattle.script_run.specs.Given.{has_piece}
-use Rattle.script_run.specs.Played.{turns_of}
 use Rattle.script_run.proofs.Numbering.{numbered_of, links_of, few_links, pieces_of}
-use Rattle.whole_runs.proofs.Runs.{run_is_over}
 use Rattle.script_run.proofs.Running.{ok_all}
 use Rattle.script_run.proofs.run.run_script.Goals as goal
 
@@ -30,10 +28,6 @@ pub give_back-requires-clause-few : goal.give_back-requires-clause-few
 give_back-requires-clause-few g c κs within =
     let most = c.in-Err.ensures.most in
     let few = few_links c.requires.script.0 c.args.script.now c.lines.result.now c.requires.script.1 c.lines.ensures in omega (arith, most, few)
-
-pub returns-in-Ok-clause-over : goal.returns-in-Ok-clause-over
-returns-in-Ok-clause-over g c =
-    ok_all c.run_over.result (λ prompt core run slot inside. run_is_over c.requires.script.0 c.args.script.now c.requires.script.1 (turns_of c.args.script.now c.args.schedule) core run slot inside)
 
 pub returns-in-Ok-clause-all : goal.returns-in-Ok-clause-all
 returns-in-Ok-clause-all g c =

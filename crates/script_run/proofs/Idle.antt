@@ -1,0 +1,54 @@
+-- In a script without calls each client is at rest where the ending begins.
+use Rattle.std.proofs.Common.{◌≡◌, ℕ, ◌+◌, ◌<◌, ◌≤◌, true, false, List, [], ◌∷◌, ◌++◌, length, Ok, refl, sym, ap, ◌∙◌, subst, arith}
+use Rattle.std.proofs.lemmas.Bool.{true≢false}
+use Rattle.std.specs.Prelude as std
+use Rattle.std.specs.Prelude.{if◌then◌else◌}
+use Rattle.brpc_model.specs.Items.{Item, Call, is_call}
+use Rattle.brpc_model.specs.Operations.{Turn, clients, link_names}
+use Rattle.brpc_model.specs.Script.{script_of}
+use Rattle.sock_programs.specs.Cores.{Core}
+use Rattle.sock_programs.specs.Runs.{IsAtRest}
+use Rattle.sock_programs.specs.Scripts.{IsRunWithCalls, all_tasks, is_callless, is_later, played}
+use Rattle.sock_programs.specs.Tasks.{Numbered, calls, id_plan_of, numbered}
+use Rattle.sock_runs.proofs.Along.{seat_rests}
+use Rattle.sock_runs.proofs.Whole.{rested_ahead}
+use Rattle.joint_runs.proofs.Runs.{first_views}
+use Rattle.report_fits.proofs.Callless.{not_later}
+use Rattle.report_fits.proofs.Lists.{Has, has_first, filter_map_has}
+use Rattle.report_fits.proofs.Numbering.{are_from, is_numbered}
+use Rattle.report_fits.proofs.TaskLemmas.{tasks_length}
+use Rattle.send_causes.proofs.Early.{start, go, fitting}
+use Rattle.send_causes.proofs.Rests as rests
+use Rattle.whole_runs.proofs.Starts.{made}
+use Rattle.script_run.proofs.Silent.{IsMute, MuteAt}
+
+-- ## No calls, and no id slot
+
+only_nil : {A : Type 0} (l : List A) → ((x : A) → Has l x → ⊥) → l ≡ []
+only_nil [] h = refl
+only_nil (x ∷ l) h = absurd (h x (has_first x l))
+
+pub no_calls : (script : List Item) → is_callless script ≡ true → calls script ≡ []
+no_calls script callless = only_nil (calls script) (λ o has_it. let x = filter_map_has _ (numbered script) o has_it in none_here x.0 o x.2 (not_later script callless x.0.op.item (let n = is_numbered 0 0 _ x.1.0 x.0 x.1.1 in (are_from 0 1 script x.1.0 x.0.op n.op).there)))
+  where
+    none_here : (x : Numbered) (o : ℕ) → (if is_call x.op.item then std.Some x.number else std.None) ≡ std.Some o → is_later x.op.item ≡ false → ⊥
+    none_here x o = by x.op.item
+      where
+        by : (item : Item) → (if is_call item then std.Some x.number else std.None) ≡ std.Some o → is_later item ≡ false → ⊥
+        by (Call call) e f = true≢false f
+        by item e f = cc
+
+pub no_slot : (script : List Item) → is_callless script ≡ true → (id_plan_of script).slots ≡ 0
+no_slot script callless = ap length (no_calls script callless)
+
+module _ (bytes : List ℕ) (script : List Item) (reads : script_of bytes ≡ Ok script) (callless : is_callless script ≡ true) (turns : List Turn) (core : Core) (is : IsRunWithCalls script turns core) where
+  inside : (i : ℕ) → i < length (all_tasks script) → (i < 32) × (i < length (played script is.setup (is.scheduled ++ is.later)).seats)
+  inside i low = let m = made bytes script reads in let few = m.few_clients in let many = rests.many script (made bytes script reads) turns core is in (omega (arith, low, few), omega (arith, low, few, many))
+
+  pub clients_idle : (i : ℕ) → i ≤ clients script → IsAtRest (played script is.setup (is.scheduled ++ is.later)) i
+  clients_idle i low = let z = inside i (let t = tasks_length script 0 (clients script + 1) in omega (arith, low, t)) in rests.clients_rest script (made bytes script reads) turns core is (no_slot script callless) i z.0 z.1
+
+  pub clients_rest : (i : ℕ) → 0 < i → i < length (all_tasks script) → MuteAt i (played script is.setup (is.scheduled ++ is.later))
+  clients_rest i some_ low seat at = let m = made bytes script reads in let z = inside i low in
+      subst IsMute (sym (seat_rests (played script is.setup (is.scheduled ++ is.later)) (rested_ahead script m.are (first_views script) (start script m turns core is) (go script m turns core is) turns core is (fitting script m turns core is))
+      i (rests.clients_rest script m turns core is (no_slot script callless) i z.0 z.1) seat at)) tt
