@@ -1,5 +1,5 @@
 -- The tables before their first step.
-use Rattle.std.proofs.Common.{◌≡◌, refl, ℕ, zero, suc, ◌+◌, false, List, [], ◌∷◌, ◌++◌, map, fold, length, replicate, Option, None, ap, ap₂, sym, ◌∙◌, arith, subst}
+use Rattle.std.proofs.Common.{◌≡◌, refl, ℕ, zero, suc, ◌+◌, false, List, [], ◌∷◌, ◌++◌, map, fold, length, take, drop, replicate, Option, None, ap, ap₂, sym, ◌∙◌, arith, subst}
 use Rattle.std.specs.List.{AllByRecursion}
 use Rattle.sock_words.specs.declared.outcome.Outcome.{Outcome}
 use Rattle.sock_programs.specs.declared.task.Task.{Task}
@@ -17,6 +17,8 @@ use Rattle.reader_seats.specs.Readers.{ReaderData, reader_program}
 use Rattle.client_seats.specs.Following.{FollowsOn}
 use Rattle.client_seats.specs.Seats.{SeatData, seat_program, client_of}
 use Rattle.sock_core.specs.Beginnings.{AreBegun, AreReading, said_first}
+use Rattle.sock_core.proofs.Lengths.{length_said}
+use Rattle.sock_core.proofs.Stepping.{written}
 
 assoc : {A : Type 0} (xs ys zs : List A) → (xs ++ ys) ++ zs ≡ xs ++ (ys ++ zs)
 assoc [] ys zs = refl
@@ -121,3 +123,12 @@ item_last f xs x rest rest' all step is = ap (λ (l : List _). l ++ rest') (map_
 pub none_left : {B : Type 0} (xs rest all : List B) → xs ++ rest ≡ all → length rest ≡ 0 → xs ≡ all
 none_left xs [] all is none_ = sym (no_more xs) ∙ is
 none_left xs (y ∷ rest) all is none_ = absurd (omega (arith, none_))
+
+-- there are as many outcomes behind it
+pub told_length : (os : List (Option Outcome)) (ps : List Program) → length (said_first os ps) ≡ length os
+told_length os [] = refl
+told_length os (x ∷ ps) = told_length (said (resolved [] x) os) ps ∙ length_said (resolved [] x) os
+
+-- what was written over all of a list
+pub written_over : {A : Type 0} (n : ℕ) (xs ys : List A) → length xs ≡ n → take n (xs ++ drop (length xs) ys) ≡ xs
+written_over n xs ys e = written n xs (drop (length xs) ys) e
