@@ -28,6 +28,7 @@ pub mod Lengths
 pub mod Advancing
 pub mod Preparing
 pub mod PlainSteps
+pub mod ClientTicks
 pub mod Rounding
 pub mod Endings
 pub mod Gathering
