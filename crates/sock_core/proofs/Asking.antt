@@ -1,5 +1,5 @@
 -- A link that is asked: what its answer makes of the writing halves, and of the links as they would be given back.
-use Rattle.std.proofs.Common.{◌≡◌, refl, ℕ, ◌<◌, List, [], ◌∷◌, zero, suc, map, length, slice_set, slice_index_or, inl, Option, Some, ap, ◌∙◌, arith, subst}
+use Rattle.std.proofs.Common.{◌≡◌, refl, ℕ, ◌<◌, List, [], ◌∷◌, zero, suc, map, length, slice_set, slice_index_or, inl, ap, ◌∙◌, arith, subst}
 use Rattle.std.proofs.lemmas.List.{map-set}
 use Rattle.atomic_table.proofs.Lists.{at_map, at_index}
 use mathlib.Core.Option.{some}
@@ -7,9 +7,6 @@ use lib.ListN.{get_elem?}
 use Rattle.brpc_model.specs.Link.{LinkEnd}
 use Rattle.sock_io.specs.Link.{OutState, InState, SameOut, PutStep, FinishStep, end_of}
 use Rattle.sock_io.specs.declared.link.Put.{Put}
-use Rattle.sock_programs.specs.Parts.{part}
-use Rattle.message_parts.specs.Frames.{OutgoingData}
-use Rattle.client_seats.specs.Seats.{left_of, taken_of}
 use Rattle.sock_runs.proofs.Along.{place_inside}
 use Rattle.sock_core.specs.Runs.{SameLink}
 use Rattle.sock_core.specs.Steps.{AskedAt}
@@ -33,9 +30,9 @@ pub outs_set : {A : Type 0} (f : A → OutState) (items : List A) (j k : ℕ) (y
 outs_set f items j k y there = map-set f items j y ∙ ap (λ i. slice_set (map f items) i (f y)) there
 
 module _ {A : Type 0} (f : A → OutState) (e : A → LinkEnd) (items : List A) (j k : ℕ) (x y : A) (there : j ≡ k) (inside : k < length items) (is : x ≡ slice_index_or items j x) where
-  pub asked : (HasAnswered : OutState → OutState → Type 0) → HasAnswered (f (slice_index_or items j x)) (f y) → SameLink (e (slice_index_or items j x)) (e y) → (e y).put_faults ≡ (f y).faults → ((a : A) → (e a).answers ≡ (f a).answers) →
+  pub asked : (HasAnswered : OutState → OutState → Type 0) → HasAnswered (f (slice_index_or items j x)) (f y) → SameLink (e (slice_index_or items j x)) (e y) → (e y).put_faults ≡ (f y).faults → (e y).takes ≡ (e (slice_index_or items j x)).takes → ((a : A) → (e a).answers ≡ (f a).answers) →
       AskedAt (map f items) (map f (slice_set items j y)) (map e items) (map e (slice_set items j y)) k HasAnswered
-  asked HasAnswered h same faults told = record {
+  asked HasAnswered h same faults taken told = record {
     out = f (slice_index_or items j x);
     at = out_at f items j k x there inside is;
     out' = f y;
@@ -49,6 +46,7 @@ module _ {A : Type 0} (f : A → OutState) (e : A → LinkEnd) (items : List A) 
     faults = faults;
     told_before = told (slice_index_or items j x);
     told = told y;
+    takes = taken;
   }
 
 -- what lies at a place is known
@@ -64,6 +62,5 @@ pub inside_list : {A : Type 0} (l : List A) (i : ℕ) (a : A) → get_elem? l i 
 inside_list l i a e = place_inside l i a e
 
 -- a put of what is next of the message
-pub put_of : {out out' : OutState} {message : Option OutgoingData} {outgoing : OutgoingData} {bytes : List ℕ} {answer put : Put} (parts : List ℕ) → message ≡ Some outgoing → bytes ≡ part parts outgoing.left outgoing.taken → answer ≡ put → PutStep out out' bytes answer →
-    PutStep out out' (part parts (left_of message) (taken_of message)) put
-put_of parts e f g h = rw (e, ← f, ← g) h
+pub put_of : {out out' : OutState} {bytes piece : List ℕ} {answer put : Put} → bytes ≡ piece → answer ≡ put → PutStep out out' bytes answer → PutStep out out' piece put
+put_of {out} {out'} {bytes} {piece} {answer} {put} e f h = subst (λ (a : Put). PutStep out out' piece a) f (subst (λ (bs : List ℕ). PutStep out out' bs answer) e h)

@@ -35,3 +35,14 @@ pub mod Gathering
 pub mod Begun
 pub mod Starting
 pub mod Making
+pub mod TableRoom
+pub mod TableAsides
+pub mod TableFlat
+pub mod TableReads
+pub mod TableTakes
+pub mod TableCuts
+pub mod TableGoes
+pub mod TableSeats
+pub mod TablePlaces
+pub mod TableTellings
+pub mod PointFacts

@@ -38,12 +38,13 @@ use Rattle.seat_points.specs.declared.point.Point.TheVariants as points
 use Rattle.seat_points.specs.Steps.{First, OfCall, step_of, step_as, first_of, first_in}
 use Rattle.seat_points.specs.declared.point.Next.{Next}
 use Rattle.seat_points.specs.declared.point.Step.{Step}
-use Rattle.seat_points.specs.Points.{Around, point_program, look_program, after_program, next_program, with_message, with_put, is_whole, after_message, after_put}
+use Rattle.seat_points.specs.Points.{Around, point_program, look_program, after_program, next_program, with_message, with_put, is_whole, parts_by, after_message, after_put}
 use Rattle.sock_programs.specs.Ticks.{Answer}
 use Rattle.client_seats.specs.Seats.{SeatData, around, seat_program, bytes_of, parts_of, left_of, taken_of, left_parts_of}
 use Rattle.client_seats.specs.Following.{FollowsOn}
 use Rattle.brpc_model.specs.Link.{LinkEnd}
-use Rattle.sock_io.specs.Link.{OutState, InState}
+use Rattle.sock_io.specs.Link.{OutState, InState, PutStep}
+use Rattle.sock_programs.specs.Parts.{part}
 use Rattle.sock_core.specs.Links.{LinksData}
 use Rattle.sock_core.specs.Machines.{TableState, table_sizes}
 use Rattle.sock_core.specs.Steps.{SameBase, Goes, Makes, IsNext, AskedAt, OutsAfter, left_behind, taken_behind}
@@ -97,6 +98,13 @@ pub put_is : (s sizes : Sizes) (seat : SeatData) (out' : Option OutgoingData) (n
 put_is s sizes seat out' n (puts.Took count) whole e f g k w h = rw (e, f, g, k) (h (around sizes seat) w)
 put_is s sizes seat out' n puts.Again whole e f g k w h = rw (e, f, g, k) (h (around sizes seat) w)
 put_is s sizes seat out' n puts.Failed whole e f g k w h = rw (e, f, g, k) (h (around sizes seat) w)
+
+-- what is put next of the message that is written
+pub put_part : (out : Option OutgoingData) (o : OutgoingData) (author : Author) → out ≡ Some o → parts_by author o.parts ≡ o.parts → part (parts_by author (left_parts_of out)) (left_of out) (taken_of out) ≡ part o.parts o.left o.taken
+put_part out o author e h = rw e (ap (λ (ps : List ℕ). part ps o.left o.taken) h)
+
+pub asked_bytes : {outs outs' : List OutState} {ends ends' : List LinkEnd} {k : ℕ} {bytes piece : List ℕ} {put : Put} → bytes ≡ piece → AskedAt outs outs' ends ends' k (λ out out'. PutStep out out' bytes put) → AskedAt outs outs' ends ends' k (λ out out'. PutStep out out' piece put)
+asked_bytes {outs} {outs'} {ends} {ends'} {k} {bytes} {piece} {put} e h = subst (λ (bs : List ℕ). AskedAt outs outs' ends ends' k (λ out out'. PutStep out out' bs put)) e h
 
 -- ## A message that goes home
 
@@ -194,7 +202,7 @@ behind_put a other others (points.Join o (joins.LoadCall t)) = tt
 behind_put a other others (points.Join o (joins.Wait id)) = tt
 
 pub message_put : (s sizes : Sizes) (seat : SeatData) (message' : Option ParcelData) (n : Next) (q : ℕ) (heading : Heading) (bytes : List ℕ) → s ≡ sizes → first_in (seat_program sizes seat) ≡ Some (OfCall (calls.PutMessage q heading bytes)) →
-    ((a : Around) → next_program a n ≡ after_word (point_program a seat.point) 0) → next_program (around s (record seat { message = message' })) n ≡ after_word (seat_program sizes seat) 0
+    next_program (around s (record seat { message = message' })) n ≡ after_word (point_program (around s (record seat { message = message' })) seat.point) 0 → next_program (around s (record seat { message = message' })) n ≡ after_word (seat_program sizes seat) 0
 message_put s sizes seat message' n q heading bytes e first h =
     let is : after_word (point_program (record (around sizes seat) { message = bytes_of message'; parts = parts_of message' }) seat.point) 0 ≡ after_word (seat_program sizes seat) 0 = subst (λ (o : Option First). BehindPut o (around sizes seat) (bytes_of message') (parts_of message') seat.point) first (behind_put (around sizes seat) (bytes_of message') (parts_of message') seat.point) in
-    h (around s (record seat { message = message' })) ∙ (rw e is)
+    h ∙ (rw e is)

@@ -292,7 +292,7 @@ module _ {old fresh : TableState} {i : ℕ} {seat seat' : SeatData} {step : Step
   makes_is step' answer e makes = subst (λ (x : Step). Makes old fresh i seat seat' x answer) (sym e) makes
 
   -- the step is made
-  moved : (kind : Kind) (step' : Step) (answer : Answer) → step ≡ step' → IsNext old seat step → kind ≡ kind_of_first (step_as (around (table_sizes old) seat) step) → Makes old fresh i seat seat' step' answer →
+  pub moved : (kind : Kind) (step' : Step) (answer : Answer) → step ≡ step' → IsNext old seat step → kind ≡ kind_of_first (step_as (around (table_sizes old) seat) step) → Makes old fresh i seat seat' step' answer →
       is_waiting old answer (seat_program (table_sizes old) seat) ≡ false → StepTold old fresh i seat seat' step (Moved kind)
   moved kind step' answer e next is makes waits = record {
     answer = answer;

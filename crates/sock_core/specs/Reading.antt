@@ -1,5 +1,5 @@
 -- What one step of a reader makes of a machine, by its kind.
-use Rattle.std.specs.Prelude.{ℕ, ◌≡◌, ◌≢◌, ◌+◌, ◌<◌, ◌≤◌, ◌⊎◌, true, false, List, [], length, slice_set, option_map, Some, None}
+use Rattle.std.specs.Prelude.{ℕ, ◌≡◌, ◌≢◌, ◌+◌, ◌<◌, ◌≤◌, ◌⊎◌, true, false, List, [], length, slice_get, slice_set, option_map, Some, None}
 use Rattle.std.specs.Io.KnownBytes.{append_known}
 use mathlib.Core.Option as core
 use lib.ListN.{get_elem?}
@@ -27,7 +27,7 @@ use Rattle.reader_points.specs.Steps.{step_as}
 use Rattle.reader_seats.specs.Readers.{ReaderData, reader_program}
 use Rattle.reader_seats.specs.GoesOn.{GoesOn}
 use Rattle.sock_core.specs.declared.machine.Tick.{Tick}
-use Rattle.sock_core.specs.Links.{is_done}
+use Rattle.sock_core.specs.Links.{ArePrompt, TellClosing, is_done}
 use Rattle.sock_core.specs.Machines.{MachineState, TableState, table_of}
 use Rattle.sock_core.specs.Runs.{SameLink, ShowsTaking, SameLinks}
 use Rattle.sock_core.specs.Steps.{OutsAfter, FitsSlots, IsOfLinks, holders_after, beside}
@@ -164,6 +164,23 @@ pub record TickRead (old fresh : MachineState) (i k : ℕ) (step : ReadStep) (ti
   pub told : ReadTold (table_of old) (table_of fresh) i reader reader' step tick
 
 -- ## Where memory runs out
+
+-- the tables keep their sizes, and the links are those that they were
+pub record IsCutTable (old fresh : TableState) : Type 0 where
+  pub plan : fresh.plan ≡ old.plan
+  pub ids : fresh.ids.plan ≡ old.ids.plan
+  pub calls : fresh.calls ≡ old.calls
+  pub ending : fresh.ending ≡ old.ending
+  pub letters : length fresh.letters ≡ length old.letters
+  pub holders : length fresh.links.holders ≡ length old.links.holders
+  pub nexts : length fresh.links.nexts ≡ length old.links.nexts
+  pub outs : length fresh.links.outs ≡ length old.links.outs
+  pub inns : length fresh.links.inns ≡ length old.links.inns
+  pub outcomes : length fresh.outcomes ≡ length old.outcomes
+  pub as_many : length fresh.ends ≡ length old.ends
+  pub each : (k : ℕ) (a b : LinkEnd) → slice_get old.ends k ≡ Some a → slice_get fresh.ends k ≡ Some b → SameLink a b
+  pub prompt : ArePrompt old.links → ArePrompt fresh.links
+  pub tell : TellClosing old.links → TellClosing fresh.links
 
 -- the tables keep their sizes, the seats of clients stay, and the links are those that they were
 pub record IsCutShort (old fresh : MachineState) : Type 0 where

@@ -11,12 +11,7 @@ use message_parts::OutgoingParcel;
 use seat_points::Author;
 
 /// The message that a seat has in hand goes to the home of a request, for its author.
-pub fn put_message(
-    letters: &mut [Option<Letter>],
-    request: u16,
-    author: Author,
-    hand: &mut InHand,
-)
+pub fn put_message(letters: &mut [Option<Letter>], request: u16, author: Author, hand: &mut InHand)
     requires there { request < length letters.old }
     requires some { bytes_of (message_in hand.old) ≢ [] }
     ensures letters { (letter : Letter) × (letter.author ≡ author) × (Some (parcel_of letter.message) ≡ message_in hand.old) × (letters.new ≡ slice_set letters.old request (Some letter)) }

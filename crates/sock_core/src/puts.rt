@@ -7,9 +7,9 @@ ghost use Rattle.seat_points.specs.Points.{is_whole, parts_by};
 ghost use Rattle.message_parts.specs.Parcels.{outgoing_of};
 ghost use Rattle.sock_core.specs.Steps.{AskedAt, left_behind, taken_behind};
 
-use sock_io::{Ends, In, Out, Peer, Put, Ready};
 use message_parts::OutgoingParcel;
 use seat_points::Author;
+use sock_io::{Ends, In, Out, Peer, Put, Ready};
 
 /// Whether what is written may be of this author: a `send` has no frame.
 pub fn is_of(out: &OutgoingParcel, author: Author) -> bool

@@ -1,6 +1,8 @@
-ghost use Rattle.std.specs.Prelude.{◌≡◌, ◌≤◌, ◌+◌, IfOk, OnErr, length};
+ghost use Rattle.std.specs.Prelude.{◌≡◌, ◌≤◌, ℕ, true, false, List, IfOk, OnErr, length};
+ghost use Rattle.sock_programs.specs.Ticks.{OfTake, is_nothing};
+ghost use Rattle.reader_seats.specs.GoesOn.{taking_of};
 ghost use Rattle.sock_core.specs.Steps.{IsSized, IsOnWord};
-ghost use Rattle.sock_core.specs.Reading.{IsNextRead, FitsRead, ReadTold};
+ghost use Rattle.sock_core.specs.Reading.{IsNextRead, FitsRead, ReadTold, IsCutTable};
 
 use crate::machine::{On, Tick};
 use crate::table::Table;
@@ -12,6 +14,23 @@ use reader_seats::ReaderSeat;
 use seat_points::Call;
 use sock_io::{In, Linker, NoMemory, Out, Peer, Take};
 use sock_words::Kind;
+
+/// What the tick of a take answers: its reader waits where nothing is there yet, unless the run is ending.
+fn take_tick(link: u16, answer: Take, ending: bool) -> Tick
+    ensures waits { (room : List ℕ) → is_nothing ending (OfTake (taking_of room answer)) ≡ true → result ≡ Tick.Waits (On.In link) }
+    ensures moved { (room : List ℕ) → is_nothing ending (OfTake (taking_of room answer)) ≡ false → result ≡ Tick.Moved Kind.R1 }
+{
+    match answer {
+        Take::Empty => {
+            if ending {
+                Tick::Moved(Kind::R1)
+            } else {
+                Tick::Waits(On::In(link))
+            }
+        }
+        Take::Took(_) | Take::End | Take::Closed | Take::Failed => Tick::Moved(Kind::R1),
+    }
+}
 
 impl<O: Out, I: In, P: Peer> Table<O, I, P> {
     /// A reader's step on a word, or its move of a link; what its tick answers.
@@ -25,20 +44,20 @@ impl<O: Out, I: In, P: Peer> Table<O, I, P> {
         requires next { IsNextRead self.old reader.old (ReadStep.Call call) }
         requires fits { FitsRead self.old reader.old (ReadStep.Call call) }
         requires sized { IsSized self.old }
-        ensures { IfOk result (λ tick. ReadTold self.old self.new seat reader.old reader.new (ReadStep.Call call) tick) }
+        ensures ok { IfOk result (λ tick. ReadTold self.old self.new seat reader.old reader.new (ReadStep.Call call) tick) }
+        ensures err { OnErr result (IsCutTable self.old self.new) }
     {
         let point = reader.point();
         let found = step_word(&self.plan, &mut self.words, call);
         pass_link(&mut self.holders, seat, call);
         end_link(&mut self.ends, call);
-        let followed = reader.follow_word(&self.calls, found, &mut self.outcomes);
-        if followed.is_err() {
+        let Ok(()) = reader.follow_word(&self.calls, found, &mut self.outcomes) else {
             return Err(NoMemory);
+        };
+        match awaited_by_reader(point, found) {
+            Some(on) => Ok(Tick::Waits(on)),
+            None => Ok(Tick::Moved(call.kind())),
         }
-        Ok(match awaited_by_reader(point, found) {
-            Some(on) => Tick::Waits(on),
-            None => Tick::Moved(call.kind()),
-        })
     }
 
     /// A reader's step on the ids that finds a word; what its tick answers.
@@ -47,18 +66,18 @@ impl<O: Out, I: In, P: Peer> Table<O, I, P> {
         requires kind { IsOnWord step }
         requires next { IsNextRead self.old reader.old (ReadStep.Aside step) }
         requires fits { FitsRead self.old reader.old (ReadStep.Aside step) }
-        ensures { IfOk result (λ tick. (seat : ℕ) → ReadTold self.old self.new seat reader.old reader.new (ReadStep.Aside step) tick) }
+        ensures ok { IfOk result (λ tick. (seat : ℕ) → ReadTold self.old self.new seat reader.old reader.new (ReadStep.Aside step) tick) }
+        ensures err { OnErr result (IsCutTable self.old self.new) }
     {
         let point = reader.point();
         let found = self.ids.step(step);
-        let followed = reader.follow_word(&self.calls, found, &mut self.outcomes);
-        if followed.is_err() {
+        let Ok(()) = reader.follow_word(&self.calls, found, &mut self.outcomes) else {
             return Err(NoMemory);
+        };
+        match awaited_by_reader(point, found) {
+            Some(on) => Ok(Tick::Waits(on)),
+            None => Ok(Tick::Moved(step.kind())),
         }
-        Ok(match awaited_by_reader(point, found) {
-            Some(on) => Tick::Waits(on),
-            None => Tick::Moved(step.kind()),
-        })
     }
 
     /// A reader takes bytes of a link, at most so many, once what the other end was given is settled; what its tick answers.
@@ -73,31 +92,28 @@ impl<O: Out, I: In, P: Peer> Table<O, I, P> {
         requires next { IsNextRead self.old reader.old (ReadStep.Aside (Aside.TakeBytes link count)) }
         requires fits { FitsRead self.old reader.old (ReadStep.Aside (Aside.TakeBytes link count)) }
         requires sized { IsSized self.old }
-        ensures { IfOk result (λ tick. (seat : ℕ) → ReadTold self.old self.new seat reader.old reader.new (ReadStep.Aside (Aside.TakeBytes link count)) tick) }
+        ensures ok { IfOk result (λ tick. (seat : ℕ) → ReadTold self.old self.new seat reader.old reader.new (ReadStep.Aside (Aside.TakeBytes link count)) tick) }
+        ensures err { OnErr result (IsCutTable self.old self.new) }
     {
-        // A reader takes of a link that there is.
-        if usize::from(link) >= self.ends.len() {
+        // A reader takes some bytes of a link that there is.
+        if usize::from(link) >= self.ends.len() || count == 0 {
             return Err(NoMemory);
         }
         let ends = &mut self.ends[usize::from(link)];
         links.settle(ends)?;
         let room = &mut self.room[..count as usize];
         let answer = ends.inn.take(room);
-        let followed = reader.follow_take(
+        let Ok(()) = reader.follow_take(
             &mut self.pool,
             &self.calls,
             room,
             answer,
             self.ending,
             &mut self.outcomes,
-        );
-        if followed.is_err() {
+        ) else {
             return Err(NoMemory);
-        }
-        Ok(match answer {
-            Take::Empty if !self.ending => Tick::Waits(On::In(link)),
-            _ => Tick::Moved(Kind::R1),
-        })
+        };
+        Ok(take_tick(link, answer, self.ending))
     }
 
     /// The next step of a reader; what its tick answers.
@@ -112,7 +128,8 @@ impl<O: Out, I: In, P: Peer> Table<O, I, P> {
         requires next { IsNextRead self.old reader.old step }
         requires fits { FitsRead self.old reader.old step }
         requires sized { IsSized self.old }
-        ensures { IfOk result (λ tick. ReadTold self.old self.new seat reader.old reader.new step tick) }
+        ensures ok { IfOk result (λ tick. ReadTold self.old self.new seat reader.old reader.new step tick) }
+        ensures err { OnErr result (IsCutTable self.old self.new) }
     {
         match step {
             ReadStep::Call(call) => self.read_call(reader, seat, call),

@@ -1,4 +1,4 @@
-ghost use Rattle.std.specs.Prelude.{◌≡◌, ◌<◌, ◌⊎◌, ℕ, Bool, false, IfOk, OnOk, IsOk};
+ghost use Rattle.std.specs.Prelude.{◌≡◌, ◌<◌, ◌⊎◌, ℕ, Bool, true, false, IfOk, OnOk, OnErr, IsOk};
 ghost use Rattle.sock_programs.specs.Cores.{word_of, found_at};
 ghost use Rattle.sock_programs.specs.Ticks.{Unasked, OfPut, OfReady};
 ghost use Rattle.seat_points.specs.Steps.{step_of};
@@ -8,6 +8,7 @@ ghost use Rattle.sock_core.specs.Driving.{AsksNone};
 ghost use Rattle.sock_core.specs.Machines.{table_sizes};
 ghost use Rattle.sock_core.specs.Steps.{IsSized, IsNext, IsReady, IsOnWord, MayStand, Fits, Makes, FoundBeside};
 ghost use Rattle.sock_core.specs.Telling.{StepTold};
+ghost use Rattle.sock_core.specs.Reading.{IsCutTable};
 
 use crate::letter::Letter;
 use crate::machine::{On, Tick};
@@ -25,6 +26,14 @@ use sock_programs::Sizes;
 use sock_words::{Outcome, Plan};
 use std::alloc::Global;
 use std::marker::Model;
+
+/// Whether there is room for one more life and one more retry, once it was asked for.
+pub fn has_room(place: &mut Seat) -> bool
+    ensures same { seat_data place.new ≡ seat_data place.old }
+    ensures room { result ≡ true → HasRoom place.new }
+{
+    place.held.reserve(1).is_ok() && place.waiting.reserve(1).is_ok()
+}
 
 /// The words, ids, messages and links on which the seats step, and the outcomes so far.
 #[derive(Drop)]
@@ -130,7 +139,8 @@ impl<O: Out, I: In, P: Peer> Table<O, I, P> {
         requires stand { IsReady self.old (seat_data place.old) × MayStand (seat_data place.old) }
         requires fits { Fits self.old (seat_data place.old) (Step.Aside (Aside.PutCall slot)) }
         requires room { HasRoom place.old }
-        ensures { OnOk result ((seat : ℕ) → Makes self.old self.new seat (seat_data place.old) (seat_data place.new) (Step.Aside (Aside.PutCall slot)) Unasked) }
+        ensures ok { OnOk result ((seat : ℕ) → Makes self.old self.new seat (seat_data place.old) (seat_data place.new) (Step.Aside (Aside.PutCall slot)) Unasked) }
+        ensures err { OnErr result (IsCutTable self.old self.new) }
     {
         // A seat whose call goes home has one in hand.
         let Some(call) = place.hand.call() else {
@@ -152,7 +162,8 @@ impl<O: Out, I: In, P: Peer> Table<O, I, P> {
         requires stand { IsReady self.old (seat_data place.old) × MayStand (seat_data place.old) }
         requires fits { Fits self.old (seat_data place.old) (Step.Aside (Aside.TakeCall slot)) }
         requires room { HasRoom place.old }
-        ensures { OnOk result ((seat : ℕ) → Makes self.old self.new seat (seat_data place.old) (seat_data place.new) (Step.Aside (Aside.TakeCall slot)) Unasked) }
+        ensures ok { OnOk result ((seat : ℕ) → Makes self.old self.new seat (seat_data place.old) (seat_data place.new) (Step.Aside (Aside.TakeCall slot)) Unasked) }
+        ensures err { OnErr result (IsCutTable self.old self.new) }
     {
         // The call lies there.
         let Some(call) = self.ids.take_call(slot) else {
@@ -161,6 +172,9 @@ impl<O: Out, I: In, P: Peer> Table<O, I, P> {
         let Ok(next) = place.with_call(self.alloc, &mut self.pool, call) else {
             return Err(NoMemory);
         };
+        if !has_room(place) {
+            return Err(NoMemory);
+        }
         place.follow(self.sizes(), next, &mut self.outcomes);
         Ok(())
     }
@@ -228,7 +242,8 @@ impl<O: Out, I: In, P: Peer> Table<O, I, P> {
         requires fits { Fits self.old (seat_data place.old) (Step.PutBytes link false author) }
         requires sized { IsSized self.old }
         requires room { HasRoom place.old }
-        ensures { IfOk result (λ put. (seat : ℕ) (asked : Bool) → Makes self.old self.new seat (seat_data place.old) (seat_data place.new) (Step.PutBytes link asked author) (OfPut put)) }
+        ensures ok { IfOk result (λ put. (seat : ℕ) (asked : Bool) → Makes self.old self.new seat (seat_data place.old) (seat_data place.new) (Step.PutBytes link asked author) (OfPut put)) }
+        ensures err { OnErr result (IsCutTable self.old self.new) }
     {
         // What a `send` puts is no frame.
         let Some(out) = &mut place.out else {
@@ -263,7 +278,8 @@ impl<O: Out, I: In, P: Peer> Table<O, I, P> {
         requires stand { IsReady self.old (seat_data place.old) × MayStand (seat_data place.old) }
         requires fits { Fits self.old (seat_data place.old) (Step.Aside step) }
         requires room { HasRoom place.old }
-        ensures { IfOk result (λ tick. (seat : ℕ) → StepTold self.old self.new seat (seat_data place.old) (seat_data place.new) (Step.Aside step) tick) }
+        ensures ok { IfOk result (λ tick. (seat : ℕ) → StepTold self.old self.new seat (seat_data place.old) (seat_data place.new) (Step.Aside step) tick) }
+        ensures err { OnErr result (IsCutTable self.old self.new) }
     {
         let kind = step.kind();
         match step {
@@ -294,6 +310,7 @@ impl<O: Out, I: In, P: Peer> Table<O, I, P> {
         requires sized { IsSized self.old }
         requires room { HasRoom place.old ⊎ AsksNone (seat_program (table_sizes self.old) (seat_data place.old)) }
         ensures ok { IfOk result (λ tick. StepTold self.old self.new seat (seat_data place.old) (seat_data place.new) step tick) }
+        ensures err { OnErr result (IsCutTable self.old self.new) }
         ensures none { AsksNone (seat_program (table_sizes self.old) (seat_data place.old)) → IsOk result }
     {
         let kind = step.kind();

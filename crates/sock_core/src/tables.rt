@@ -1,18 +1,23 @@
-ghost use Rattle.std.specs.Prelude.{◌≡◌, ◌+◌, ◌<◌, ℕ, Some, None, IfSome, IfNone, IfOk, OnOk, OnErr, length};
+ghost use Rattle.std.specs.Prelude.{◌≡◌, ◌+◌, ◌<◌, ℕ, true, Some, None, IfSome, IfNone, IfOk, OnOk, OnErr, length};
 ghost use Rattle.sock_core.specs.Machines.{MachineState, table_of};
-ghost use Rattle.sock_core.specs.Steps.{IsSized, HasNoStep, NextIs, StepFits, PreparedAt, ReadyAt, StandsAt};
+ghost use Rattle.client_seats.specs.Seats.{seat_data};
+ghost use Rattle.client_seats.specs.Following.{IsPrepared};
+ghost use Rattle.sock_core.specs.Steps.{IsSized, HasNoStep, NextIs, StepFits, PreparedAt, ReadyAt, StandsAt, MayStand};
 ghost use Rattle.sock_core.specs.Telling.{TickTold};
 ghost use Rattle.sock_core.specs.Reading.{NextReadIs, HasNoRead, ReadFits, TickRead, IsCutShort};
 ghost use Rattle.sock_core.specs.Driving.{BeganEnding, IsPlain, told_ending};
 
 use crate::machine::Tick;
-use crate::table::Table;
+use crate::table::{Table, has_room};
 use crate::waiting::stands;
 use client_seats::Seat;
 use reader_points::ReadStep;
 use reader_seats::ReaderSeat;
 use seat_points::Step;
 use sock_io::{In, Linker, NoMemory, Out, Peer};
+use sock_message::BlockPool;
+use sock_programs::Sizes;
+use std::alloc::Global;
 use std::collections::VecDeque;
 use std::marker::Model;
 
@@ -56,6 +61,15 @@ impl<O: Out, I: In, P: Peer> Model for Tables<O, I, P> {
     } };
 }
 
+/// What the next step of a client needs in hand is made, where it isn't there; whether it is, and the client's point stands.
+fn is_prepared(place: &mut Seat, alloc: Global, pool: &mut BlockPool) -> bool
+    ensures prepared { result ≡ true → (sizes : Sizes) → IsPrepared sizes (seat_data place.old) (seat_data place.new) }
+    ensures stand { result ≡ true → MayStand (seat_data place.new) }
+{
+    // Each word found fits, so each point stands.
+    place.prepare(alloc, pool).is_ok() && stands(place.point)
+}
+
 impl<O: Out, I: In, P: Peer> Tables<O, I, P> {
     /// How many seats of clients there are.
     pub fn seat_count(&self) -> u16
@@ -79,8 +93,7 @@ impl<O: Out, I: In, P: Peer> Tables<O, I, P> {
     {
         let Table { alloc, pool, .. } = &mut self.table;
         let place = &mut self.seats[usize::from(seat)];
-        // Each word found fits, so each point stands.
-        if place.prepare(*alloc, pool).is_err() || !stands(place.point) {
+        if !is_prepared(place, *alloc, pool) {
             self.short = true;
             return Err(NoMemory);
         }
@@ -113,13 +126,15 @@ impl<O: Out, I: In, P: Peer> Tables<O, I, P> {
         ensures err { OnErr result (IsCutShort self.old self.new) }
     {
         let place = &mut self.seats[usize::from(seat)];
-        if place.held.reserve(1).is_err() || place.waiting.reserve(1).is_err() {
+        if !has_room(place) {
             self.short = true;
             return Err(NoMemory);
         }
-        let made = self.table.step(place, seat, step);
-        self.short |= made.is_err();
-        made
+        let Ok(tick) = self.table.step(place, seat, step) else {
+            self.short = true;
+            return Err(NoMemory);
+        };
+        Ok(tick)
     }
 
     /// Makes the next step of seat 0, which asks no link, holds no life and calls nothing. It takes no memory.
@@ -165,9 +180,11 @@ impl<O: Out, I: In, P: Peer> Tables<O, I, P> {
         ensures err { OnErr result (IsCutShort self.old self.new) }
     {
         let reader = &mut self.readers[usize::from(link)];
-        let made = self.table.read(links, reader, READERS + link, step);
-        self.short |= made.is_err();
-        made
+        let Ok(tick) = self.table.read(links, reader, READERS + link, step) else {
+            self.short = true;
+            return Err(NoMemory);
+        };
+        Ok(tick)
     }
 
     /// Seat 0 begins the ending, over the `open`s.

@@ -1,7 +1,10 @@
-ghost use Rattle.std.specs.Prelude.{◌≡◌, true, is_some, IfSome};
+ghost use Rattle.std.specs.Prelude.{◌≡◌, ◌==◌, ◌&&◌, not, true, is_some, IfSome};
+ghost use Rattle.corr_core.specs.Word.{parts};
+ghost use Rattle.id_points.specs.Turns.{sought_as};
+ghost use Rattle.sock_programs.specs.Posts.{is_sought};
 ghost use Rattle.seat_points.specs.Points.{Around, point_program, HasLinkAt, TellsCodeAt};
 ghost use Rattle.reader_points.specs.Points as reading;
-ghost use Rattle.sock_core.specs.Runs.{IsWaitingFor};
+ghost use Rattle.sock_core.specs.Runs.{IsWaitingFor, sought_id};
 ghost use Rattle.sock_core.specs.Telling.{waits_by};
 
 use crate::machine::On;
@@ -15,6 +18,13 @@ use sock_words::IdWord;
 /// The next word of an entry that isn't connected to its successor yet: 2^64 - 1.
 const UNCONNECTED: u64 = u64::MAX;
 
+/// Whether what is sought is there and locked, by the word of its slot.
+fn is_locked(there: bool, word: IdWord) -> bool
+    ensures { result ≡ (there && not ((parts word.0).state == 1)) }
+{
+    there && word.state() != IdWord::OPEN
+}
+
 /// For what a client at this point waits, if its step, which found this word, shows that it waits.
 pub fn awaited(point: Point, found: u64) -> Option<On>
     ensures waits { (a : Around) → is_some result ≡ waits_by (point_program a point) found }
@@ -22,22 +32,61 @@ pub fn awaited(point: Point, found: u64) -> Option<On>
 {
     let word = IdWord::from_word(found);
     match point {
-        Point::Write(_, WriteStep::Walk(_, at, _)) if found == UNCONNECTED => {
-            Some(On::Next(at.word()))
-        }
-        Point::Retry(retrying, RetryStep::Lock(LockStep::Read)) => {
-            let id = retrying.attempt.id;
-            if is_awaited(id.first(), word) && word.state() != IdWord::OPEN {
-                Some(On::Id(id.number()))
-            } else {
-                None
+        Point::Write(_, step) => match step {
+            WriteStep::Walk(_, at, _) => {
+                if found == UNCONNECTED {
+                    Some(On::Next(at.word()))
+                } else {
+                    None
+                }
             }
-        }
-        Point::Join(_, JoinStep::Wait(id)) if is_awaited(id.first(), word) => {
-            Some(On::Id(id.number()))
-        }
+            _ => None,
+        },
+        Point::Retry(retrying, step) => match step {
+            RetryStep::Lock(LockStep::Read) => {
+                let id = retrying.attempt.id;
+                if is_locked(is_awaited(id.first(), word), word) {
+                    Some(On::Id(id.number()))
+                } else {
+                    None
+                }
+            }
+            RetryStep::Lock(LockStep::Exchange(_)) => None,
+            _ => None,
+        },
+        Point::Join(_, step) => match step {
+            JoinStep::Wait(id) => {
+                if is_awaited(id.first(), word) {
+                    Some(On::Id(id.number()))
+                } else {
+                    None
+                }
+            }
+            JoinStep::LoadCall(_) => None,
+        },
         _ => None,
     }
+}
+
+/// Whether what is sought in an id slot is there, by its word.
+fn is_there(sought: Sought, word: IdWord) -> bool
+    ensures { result ≡ is_sought (sought_as sought) (parts word.0) }
+{
+    match sought {
+        Sought::First(first) => is_awaited(first, word),
+        Sought::Version(version) => has_version(word, version),
+    }
+}
+
+/// The id by which it is sought in this slot.
+fn sought_id(slot: u16, sought: Sought) -> u64
+    ensures { result ≡ sought_id slot (sought_as sought) }
+{
+    let version = match sought {
+        Sought::First(first) => first,
+        Sought::Version(version) => version,
+    };
+    u64::from(slot) * 0x1_0000_0000 + u64::from(version)
 }
 
 /// The same of a reader, behind a step on a word.
@@ -47,19 +96,22 @@ pub fn awaited_by_reader(point: ReadPoint, found: u64) -> Option<On>
 {
     let word = IdWord::from_word(found);
     match point {
-        ReadPoint::Open(_, operation) if found == 0 => Some(On::Open(operation)),
-        ReadPoint::Lock(_, locker, LockStep::Read) => match locker.sought {
-            Sought::Version(version)
-                if has_version(word, version) && word.state() != IdWord::OPEN =>
-            {
-                Some(On::Id(u64::from(locker.slot) * 0x1_0000_0000 + u64::from(version)))
+        ReadPoint::Open(_, operation) => {
+            if found == 0 {
+                Some(On::Open(operation))
+            } else {
+                None
             }
-            Sought::First(first)
-                if is_awaited(first, word) && word.state() != IdWord::OPEN =>
-            {
-                Some(On::Id(u64::from(locker.slot) * 0x1_0000_0000 + u64::from(first)))
+        }
+        ReadPoint::Lock(_, locker, step) => match step {
+            LockStep::Read => {
+                if is_locked(is_there(locker.sought, word), word) {
+                    Some(On::Id(sought_id(locker.slot, locker.sought)))
+                } else {
+                    None
+                }
             }
-            _ => None,
+            LockStep::Exchange(_) => None,
         },
         _ => None,
     }

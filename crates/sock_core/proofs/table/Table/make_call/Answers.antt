@@ -1,39 +1,66 @@
-use Rattle.std.proofs.Common.{refl, arith, ap, ◌∙◌}
-use Rattle.sock_programs.specs.Scripts.{sizes_of}
-use Rattle.seat_points.specs.Points.{next_program}
-use Rattle.client_seats.specs.Seats.{seat_data, around}
-use Rattle.std.proofs.Common.{map}
+use Rattle.std.proofs.Common.{refl, arith, ap, ◌∙◌, subst, sym, inl, map, ℕ, List}
 use Rattle.sock_io.specs.Link.{end_of}
-use Rattle.seat_points.specs.Points.{after_word}
-use Rattle.client_seats.specs.Seats.{seat_program}
+use Rattle.sock_programs.specs.Cores.{word_of, found_at}
+use Rattle.call_points.specs.Steps.{after_word}
+use Rattle.seat_points.specs.Points.{next_program}
 use Rattle.seat_points.specs.Steps.{step_of}
-use Rattle.sock_core.proofs.Advancing.{room_for}
-use Rattle.sock_core.proofs.Stepping.{written, makes_along, goes, no_letters, same_sizes, outs_in}
+use Rattle.seat_points.proofs.StepFacts.{goes_by_word}
+use Rattle.client_seats.specs.Seats.{seat_data, around, seat_program}
+use Rattle.sock_programs.specs.Scripts.{sizes_of}
+use Rattle.sock_core.specs.Machines.{TableState, table_sizes}
+use Rattle.sock_core.specs.Steps.{IsReady, MayGoOn}
+use Rattle.sock_core.proofs.Stepping.{written, makes_along, goes, outs_in}
+use Rattle.sock_core.proofs.TableRoom.{room_for}
+use Rattle.sock_core.proofs.TableGoes.{may_next, next_is, flat_next, follows_as}
 use Rattle.sock_core.proofs.table.Table.make_call.Goals as goal
+
+pub next-next-requires : goal.next-next-requires
+next-next-requires g c =
+    let seat = seat_data c.args.place.now in
+    let t = c.args.self.now in
+    let call = step_of c.args.call in
+    let sizes = c.sizes-sizes.ensures ∙ ap (λ (x : TableState). table_sizes x) c.self.view_is in
+    let found = c.step_word-found.ensures.found ∙ ap (λ (ws : List ℕ). found_at ws (word_of c.self.inside.plan call)) c.deref_mut.ensures.value ∙ ap (λ (x : TableState). found_at x.words (word_of x.plan call)) c.self.view_is in
+    let m = may_next {t = t} c.sizes-sizes.result seat c.step_word-found.result sizes (subst (λ (n : ℕ). MayGoOn t seat n) (sym found) c.requires.fits.3) c.requires.stand.1 (goes_by_word (around (table_sizes t) seat) seat.point call c.requires.next) in
+    record { within = m.within; ids = m.ids; word = m.word; aside = m.aside; link = m.link; told = m.told; step = m.step }
+
+pub follow-requires : goal.follow-requires
+follow-requires g c =
+    let seat = seat_data c.args.place.now in
+    let t = c.args.self.now in
+    let sizes = c.sizes-sizes.ensures ∙ ap (λ (x : TableState). table_sizes x) c.self.view_is in
+    let next = next_is {t = t} c.sizes-sizes.result seat c.next-next.result c.step_word-found.result c.calling.result sizes c.requires.stand.0 c.calling.ensures c.next-next.ensures.program in
+    record {
+      room = room_for t c.args.place.now (around c.sizes-sizes.result seat) c.next-next.result c.step_word-found.result c.requires.room next;
+      more = inl (flat_next t c.sizes-sizes.result seat c.next-next.result (step_of c.args.call) c.step_word-found.result c.calling.result sizes c.requires.next c.requires.stand.0.hand c.calling.ensures c.next-next.ensures.program);
+    }
 
 pub returns-clause-made : goal.returns-clause-made
 returns-clause-made g c =
+    let seat = seat_data c.args.place.now in
+    let call = step_of c.args.call in
     let sizes = c.sizes-sizes.ensures in
+    let ready = subst (λ (x : TableState). IsReady x seat) (sym c.self.view_is) c.requires.stand.0 in
+    let found = c.step_word-found.ensures.found ∙ ap (λ (ws : List ℕ). found_at ws (word_of c.self.inside.plan call)) c.deref_mut.ensures.value in
+    let ends = written c.self.inside.ends.len c.end_link.new.ends _ (omega (arith, c.self.inside.ends.ok)) in
     makes_along c.self.view_is (record {
       is = (
         refl,
         record {
           words = written c.self.inside.words.len c.step_word-found.new.words _ (omega (arith, c.self.inside.words.ok)) ∙ (rw c.deref_mut.ensures.value at c.step_word-found.ensures.words);
-          letters = no_letters c.args.call c.self.inside.letters.items;
+          letters = refl;
           holders = written c.self.inside.holders.len c.pass_link.new.holders _ (omega (arith, c.self.inside.holders.ok)) ∙ (rw c.deref_mut-2.ensures.value at c.pass_link.ensures);
           nexts = refl;
-          outs = outs_in (λ e. g.O.Out.state e.out) (step_of c.args.call) c.deref_mut-3.ensures.value (written c.self.inside.ends.len c.end_link.new.ends _ (omega (arith, c.self.inside.ends.ok))) c.end_link.ensures.outs;
-          ends = ap (map (λ e. end_of (g.O.Out.state e.out) (g.I.In.state e.inn))) (written c.self.inside.ends.len c.end_link.new.ends _ (omega (arith, c.self.inside.ends.ok))) ∙ c.end_link.ensures.ends ∙ ap (map (λ e. end_of (g.O.Out.state e.out) (g.I.In.state e.inn))) c.deref_mut-3.ensures.value;
-          goes = goes (next_program (around c.sizes-sizes.result (seat_data c.args.place.now)) c.next-next.result) refl sizes c.follow.ensures.program
-              (written c.self.inside.outcomes.len c.follow.new.outcomes _ (omega (arith, c.self.inside.outcomes.ok))) c.follow.ensures.said c.deref_mut-4.ensures.value
-              (c.next-next.ensures.program (around c.sizes-sizes.result (seat_data c.args.place.now)) refl ∙ same_sizes c.sizes-sizes.result (sizes_of c.self.inside.plan) (seat_data c.args.place.now) (λ x. after_word x c.step_word-found.result) sizes ∙ ap (after_word (seat_program (sizes_of c.self.inside.plan) (seat_data c.args.place.now))) (rw c.deref_mut.ensures.value at c.step_word-found.ensures.found));
+          outs = outs_in (λ e. g.O.Out.state e.out) call c.deref_mut-3.ensures.value ends c.end_link.ensures.outs;
+          ids = refl;
+          ends = ap (map (λ e. end_of (g.O.Out.state e.out) (g.I.In.state e.inn))) ends ∙ c.end_link.ensures.ends ∙ ap (map (λ e. end_of (g.O.Out.state e.out) (g.I.In.state e.inn))) c.deref_mut-3.ensures.value;
+          goes = goes (next_program (around c.sizes-sizes.result seat) c.next-next.result)
+              (record { plan = refl; id_plan = refl; calls = refl; ending = refl; inns = ap (map (λ e. g.I.In.state e.inn)) ends ∙ c.end_link.ensures.inns ∙ ap (map (λ e. g.I.In.state e.inn)) c.deref_mut-3.ensures.value })
+              sizes
+              (follows_as c.deref_mut-4.ensures.value (written c.self.inside.outcomes.len c.follow.new.outcomes _ (omega (arith, c.self.inside.outcomes.ok))) c.follow.ensures)
+              refl
+              (next_is c.sizes-sizes.result seat c.next-next.result c.step_word-found.result c.calling.result sizes ready c.calling.ensures c.next-next.ensures.program
+              ∙ ap (after_word (seat_program (sizes_of c.self.inside.plan c.self.inside.ids.plan) seat)) found);
         },
       );
     })
-
-pub follow-requires : goal.follow-requires
-follow-requires g c = record {
-  room = room_for _ _ (seat_data c.args.place.now) (around c.sizes-sizes.result (seat_data c.args.place.now)) c.next-next.result c.step_word-found.result _ _ c.self.view_is c.requires.room
-      (c.next-next.ensures.program (around c.sizes-sizes.result (seat_data c.args.place.now)) refl
-      ∙ same_sizes c.sizes-sizes.result (sizes_of c.self.inside.plan) (seat_data c.args.place.now) (λ x. after_word x c.step_word-found.result) c.sizes-sizes.ensures);
-}

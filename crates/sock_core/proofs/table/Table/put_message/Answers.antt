@@ -1,37 +1,65 @@
-use Rattle.std.proofs.Common.{refl, arith, ◌∙◌}
+use Rattle.std.proofs.Common.{◌≡◌, refl, arith, ap, ◌∙◌, subst, sym, inl, Some, List, Option, slice_set}
+use Rattle.sock_programs.specs.Calls as calls
 use Rattle.sock_programs.specs.Scripts.{sizes_of}
-use Rattle.seat_points.specs.Points.{next_program}
-use Rattle.client_seats.specs.Seats.{seat_data, around}
-use Rattle.sock_programs.specs.Sends.{heading_of}
-use Rattle.client_seats.specs.Seats.{bytes_of}
 use Rattle.seat_points.specs.declared.point.Step.TheVariants as firsts
-use Rattle.sock_core.proofs.Advancing.{room_for}
-use Rattle.sock_core.proofs.Stepping.{written, makes_along, goes, message_put, next_along}
+use Rattle.seat_points.specs.Points.{next_program, heading_by}
+use Rattle.seat_points.proofs.StepFacts.{goes_by_word}
+use Rattle.client_seats.specs.Seats.{seat_data, around, seat_program, bytes_of, parts_of, message_in}
+use Rattle.sock_core.specs.declared.letter.Letter.{Letter}
+use Rattle.sock_core.specs.Machines.{TableState, table_sizes}
+use Rattle.sock_core.proofs.Stepping.{written, makes_along, goes, next_along}
+use Rattle.sock_core.proofs.TableRoom.{room_for}
+use Rattle.sock_core.proofs.TableGoes.{may_next, follows_as, hand_put, put_next, put_flat}
 use Rattle.sock_core.proofs.table.Table.put_message.Goals as goal
 
+pub next-next-requires : goal.next-next-requires
+next-next-requires g c =
+    let seat = seat_data c.args.place.now in
+    let t = c.args.self.now in
+    let sizes = c.sizes-sizes.ensures ∙ ap (λ (x : TableState). table_sizes x) c.self.view_is in
+    let m = may_next {t = t} c.sizes-sizes.result seat 0 sizes c.requires.fits.2 c.requires.stand.1 (goes_by_word (around (table_sizes t) seat) seat.point (calls.PutMessage c.args.request (heading_by c.args.author (parts_of seat.message)) (bytes_of seat.message)) c.requires.next) in
+    record { within = m.within; ids = m.ids; word = m.word; aside = m.aside; link = m.link; told = m.told; step = m.step }
+
+pub follow-requires : goal.follow-requires
+follow-requires g c =
+    let seat = seat_data c.args.place.now in
+    let t = c.args.self.now in
+    let sizes = c.sizes-sizes.ensures ∙ ap (λ (x : TableState). table_sizes x) c.self.view_is in
+    let next = put_next c.sizes-sizes.result (table_sizes t) seat (seat_data (record c.args.place.now { hand = c.put_message.new.hand })) (message_in c.put_message.new.hand) c.next-next.result c.calling.result c.args.request (heading_by c.args.author (parts_of seat.message)) (bytes_of seat.message) sizes
+        (hand_put c.args.place.now c.put_message.new.hand c.put_message.ensures.rest.1) c.requires.next c.calling.ensures c.next-next.ensures.program in
+    record {
+      room = room_for t c.args.place.now (around c.sizes-sizes.result (seat_data (record c.args.place.now { hand = c.put_message.new.hand }))) c.next-next.result 0 c.requires.room next;
+      more = inl (put_flat c.sizes-sizes.result (table_sizes t) seat (seat_data (record c.args.place.now { hand = c.put_message.new.hand })) (message_in c.put_message.new.hand) c.next-next.result c.calling.result c.args.request (heading_by c.args.author (parts_of seat.message)) (bytes_of seat.message) sizes
+        (hand_put c.args.place.now c.put_message.new.hand c.put_message.ensures.rest.1) c.requires.next c.calling.ensures c.next-next.ensures.program);
+    }
+
 pub returns : goal.returns
-returns g c seat =
+returns g c seat_number =
+    let seat = seat_data c.args.place.now in
     let sizes = c.sizes-sizes.ensures in
+    let letter = c.put_message.ensures.letters in
     makes_along c.self.view_is (record {
       is = (
         refl,
         record {
           words = refl;
-          letters = written c.self.inside.letters.len c.put_message.new.letters _ (omega (arith, c.self.inside.letters.ok)) ∙ (rw c.deref_mut.ensures.value at c.put_message.ensures.letters);
+          letters = record {
+            letter = letter.0;
+            author_is = letter.1;
+            bytes = ap bytes_of letter.2;
+            parts = ap parts_of letter.2;
+            fresh_are = written c.self.inside.letters.len c.put_message.new.letters _ (omega (arith, c.self.inside.letters.ok)) ∙ letter.3 ∙ ap (λ (ls : List (Option Letter)). slice_set ls c.args.request (Some letter.0)) c.deref_mut.ensures.value;
+          };
           holders = refl;
           nexts = refl;
           outs = refl;
+          ids = refl;
           ends = refl;
-          goes = goes (next_program (around c.sizes-sizes.result (record (seat_data c.args.place.now) { message = c.put_message.new.message })) c.next-next.result) refl sizes c.follow.ensures.program
-              (written c.self.inside.outcomes.len c.follow.new.outcomes _ (omega (arith, c.self.inside.outcomes.ok))) c.follow.ensures.said c.deref_mut-2.ensures.value
-              (message_put c.sizes-sizes.result (sizes_of c.self.inside.plan) (seat_data c.args.place.now) c.put_message.new.message c.next-next.result c.args.request (heading_of c.args.operation) (bytes_of c.args.place.now.message) sizes (next_along (seat_data c.args.place.now) (firsts.PutMessage c.args.request c.args.operation) c.self.view_is c.requires.next) c.next-next.ensures.program);
+          goes = goes (next_program (around c.sizes-sizes.result (seat_data (record c.args.place.now { hand = c.put_message.new.hand }))) c.next-next.result) (record { plan = refl; id_plan = refl; calls = refl; ending = refl; inns = refl }) sizes
+              (follows_as c.deref_mut-2.ensures.value (written c.self.inside.outcomes.len c.follow.new.outcomes _ (omega (arith, c.self.inside.outcomes.ok))) c.follow.ensures)
+              refl
+              (put_next c.sizes-sizes.result (sizes_of c.self.inside.plan c.self.inside.ids.plan) seat (seat_data (record c.args.place.now { hand = c.put_message.new.hand })) (message_in c.put_message.new.hand) c.next-next.result c.calling.result c.args.request (heading_by c.args.author (parts_of seat.message)) (bytes_of seat.message) sizes
+        (hand_put c.args.place.now c.put_message.new.hand c.put_message.ensures.rest.1) (next_along seat (firsts.PutMessage c.args.request c.args.author) c.self.view_is c.requires.next) c.calling.ensures c.next-next.ensures.program);
         },
       );
     })
-
-pub follow-requires : goal.follow-requires
-follow-requires g c = record {
-  room = room_for _ _ (seat_data c.args.place.now) (around c.sizes-sizes.result (record (seat_data c.args.place.now) { message = c.put_message.new.message })) c.next-next.result 0 _ _ c.self.view_is c.requires.room
-      (message_put c.sizes-sizes.result (sizes_of c.self.inside.plan) (seat_data c.args.place.now) c.put_message.new.message c.next-next.result c.args.request (heading_of c.args.operation) (bytes_of c.args.place.now.message) c.sizes-sizes.ensures
-      (next_along (seat_data c.args.place.now) (firsts.PutMessage c.args.request c.args.operation) c.self.view_is c.requires.next) c.next-next.ensures.program);
-}

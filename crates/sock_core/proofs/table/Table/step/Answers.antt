@@ -1,11 +1,14 @@
-use Rattle.std.proofs.Common.{◌≢◌, sym, subst, ⊎_elim}
+use Rattle.std.proofs.Common.{◌≢◌, ◌∙◌, sym, subst, ⊎_elim, refl}
 use Rattle.sock_io.specs.declared.link.Ready.TheVariants as asks
 use Rattle.seat_points.specs.declared.point.Step.{Step}
 use Rattle.seat_points.specs.declared.point.Step.TheVariants as firsts
-use Rattle.client_seats.specs.Seats.{seat_data}
+use Rattle.seat_points.specs.Steps.{step_as}
+use Rattle.client_seats.specs.Seats.{seat_data, around, seat_program}
+use Rattle.sock_core.specs.Machines.{table_sizes}
 use Rattle.sock_core.specs.Steps.{IsNext}
-use Rattle.sock_core.proofs.Advancing.{only_calls}
 use Rattle.sock_core.proofs.Tellings.{call_moved, call_waited, letter_moved, message_moved, link_moved, home_moved, put_moved, ready_moved, ready_waited}
+use Rattle.sock_core.proofs.TableRoom.{only_calls}
+use Rattle.sock_core.proofs.TableTellings.{told_aside}
 use Rattle.sock_core.proofs.table.Table.step.Goals as goal
 
 now_not : asks.Now ≢ asks.NotYet
@@ -14,52 +17,108 @@ now_not e = cc
 failed_not : asks.Failed ≢ asks.NotYet
 failed_not e = cc
 
-pub returns-in-Some : goal.returns-in-Some
-returns-in-Some g c = call_waited c.kind-kind.result c.requires.next c.kind-kind.ensures c.in-Call.call c.make_call-found.result c.awaited.result c.in-Some.ticket c.in-Call.is c.make_call-found.ensures.made c.make_call-found.ensures.found c.awaited.ensures c.in-Some.is
+pub returns-in-Some-clause-ok : goal.returns-in-Some-clause-ok
+returns-in-Some-clause-ok g c =
+    let seat = seat_data c.args.place.now in
+    let own = around (table_sizes c.args.self.now) seat in
+    call_waited c.kind-kind.result c.requires.next (c.kind-kind.ensures own) c.in-Call.call c.make_call-found.result c.awaited.result c.in-Some.on c.in-Call.is c.make_call-found.ensures.made c.make_call-found.ensures.found (c.awaited.ensures.waits own) (c.awaited.ensures.on own) c.in-Some.is
 
-pub returns-in-None : goal.returns-in-None
-returns-in-None g c = call_moved c.kind-kind.result c.requires.next c.kind-kind.ensures c.in-Call.call c.make_call-found.result c.awaited.result c.in-Call.is c.make_call-found.ensures.made c.make_call-found.ensures.found c.awaited.ensures c.in-None.is
+pub returns-in-None-clause-ok : goal.returns-in-None-clause-ok
+returns-in-None-clause-ok g c =
+    let seat = seat_data c.args.place.now in
+    let own = around (table_sizes c.args.self.now) seat in
+    call_moved c.kind-kind.result c.requires.next (c.kind-kind.ensures own) c.in-Call.call c.make_call-found.result c.awaited.result c.in-Call.is c.make_call-found.ensures.made c.make_call-found.ensures.found (c.awaited.ensures.waits own) c.in-None.is
 
-pub returns-in-PutMessage : goal.returns-in-PutMessage
-returns-in-PutMessage g c = letter_moved c.kind-kind.result c.requires.next c.kind-kind.ensures c.in-PutMessage.request c.in-PutMessage.operation c.in-PutMessage.is (c.put_message.ensures c.args.seat)
+pub returns-in-Aside-clause-ok : goal.returns-in-Aside-clause-ok
+returns-in-Aside-clause-ok g c = told_aside c.args.self.now c.step_aside.new.self (seat_data c.args.place.now) (seat_data c.step_aside.new.place) c.args.step c.in-Aside.step c.step_aside.result c.in-Aside.is c.step_aside.ensures.ok c.args.seat
 
-pub returns-in-TakeMessage : goal.returns-in-TakeMessage
-returns-in-TakeMessage g c = message_moved c.kind-kind.result c.requires.next c.kind-kind.ensures c.in-TakeMessage.request c.in-TakeMessage.is (c.take_message.ensures c.args.seat)
+pub returns-in-Aside-clause-none : goal.returns-in-Aside-clause-none
+returns-in-Aside-clause-none g c plain =
+    let seat = seat_data c.args.place.now in
+    let own = around (table_sizes c.args.self.now) seat in
+    absurd (only_calls (seat_program (table_sizes c.args.self.now) seat) (step_as own (firsts.Aside c.in-Aside.step)) (subst (λ (step : Step). IsNext c.args.self.now seat step) c.in-Aside.is c.requires.next) plain)
 
-pub returns-in-TakeHome : goal.returns-in-TakeHome
-returns-in-TakeHome g c = link_moved c.kind-kind.result c.requires.next c.kind-kind.ensures c.in-TakeHome.link c.in-TakeHome.is c.take_home.ensures
+pub returns-in-PutMessage-clause-ok : goal.returns-in-PutMessage-clause-ok
+returns-in-PutMessage-clause-ok g c =
+    let seat = seat_data c.args.place.now in
+    let own = around (table_sizes c.args.self.now) seat in
+    letter_moved c.kind-kind.result c.requires.next (c.kind-kind.ensures own) c.in-PutMessage.request c.in-PutMessage.author c.in-PutMessage.is (c.put_message.ensures c.args.seat)
 
-pub returns-in-PutHome : goal.returns-in-PutHome
-returns-in-PutHome g c = home_moved c.kind-kind.result c.requires.next c.kind-kind.ensures c.in-PutHome.link c.in-PutHome.places c.in-PutHome.is (c.put_home.ensures c.args.seat)
+pub returns-in-TakeMessage-clause-ok : goal.returns-in-TakeMessage-clause-ok
+returns-in-TakeMessage-clause-ok g c =
+    let seat = seat_data c.args.place.now in
+    let own = around (table_sizes c.args.self.now) seat in
+    message_moved c.kind-kind.result c.requires.next (c.kind-kind.ensures own) c.in-TakeMessage.request c.in-TakeMessage.is (c.take_message.ensures c.args.seat)
 
-pub returns-in-PutBytes : goal.returns-in-PutBytes
-returns-in-PutBytes g c = put_moved c.kind-kind.result c.requires.next c.kind-kind.ensures c.in-PutBytes.link c.in-PutBytes.field-1 c.put_bytes.result c.in-PutBytes.is (c.put_bytes.ensures c.args.seat c.in-PutBytes.field-1)
+pub returns-in-TakeHome-clause-ok : goal.returns-in-TakeHome-clause-ok
+returns-in-TakeHome-clause-ok g c =
+    let seat = seat_data c.args.place.now in
+    let own = around (table_sizes c.args.self.now) seat in
+    link_moved c.kind-kind.result c.requires.next (c.kind-kind.ensures own) c.in-TakeHome.link c.in-TakeHome.is c.take_home.ensures
 
-pub returns-in-NotYet : goal.returns-in-NotYet
-returns-in-NotYet g c = ready_waited c.kind-kind.result c.requires.next c.kind-kind.ensures c.in-AskReady.link c.in-AskReady.is (rw c.in-NotYet.is at (c.ask_ready.ensures c.args.seat))
+pub returns-in-PutHome-clause-ok : goal.returns-in-PutHome-clause-ok
+returns-in-PutHome-clause-ok g c =
+    let seat = seat_data c.args.place.now in
+    let own = around (table_sizes c.args.self.now) seat in
+    home_moved c.kind-kind.result c.requires.next (c.kind-kind.ensures own) c.in-PutHome.link c.in-PutHome.places c.in-PutHome.is (c.put_home.ensures c.args.seat)
 
-pub returns-in-Now : goal.returns-in-Now
-returns-in-Now g c = ready_moved c.kind-kind.result c.requires.next c.kind-kind.ensures c.in-AskReady.link asks.Now now_not c.in-AskReady.is (rw c.in-Now.is at (c.ask_ready.ensures c.args.seat))
+pub returns-in_ok-put_bytes-in-PutBytes-clause-ok : goal.returns-in_ok-put_bytes-in-PutBytes-clause-ok
+returns-in_ok-put_bytes-in-PutBytes-clause-ok g c =
+    let seat = seat_data c.args.place.now in
+    let own = around (table_sizes c.args.self.now) seat in
+    put_moved c.kind-kind.result c.requires.next (c.kind-kind.ensures own) c.in-PutBytes.link c.in-PutBytes.field-1 c.in-PutBytes.author c.in_ok-put_bytes-in-PutBytes.field-0 c.in-PutBytes.is (c.in_ok-put_bytes-in-PutBytes.ensures.ok c.args.seat c.in-PutBytes.field-1)
 
-pub returns-in-Failed : goal.returns-in-Failed
-returns-in-Failed g c = ready_moved c.kind-kind.result c.requires.next c.kind-kind.ensures c.in-AskReady.link asks.Failed failed_not c.in-AskReady.is (rw c.in-Failed.is at (c.ask_ready.ensures c.args.seat))
+pub returns-in-NotYet-clause-ok : goal.returns-in-NotYet-clause-ok
+returns-in-NotYet-clause-ok g c =
+    let seat = seat_data c.args.place.now in
+    let own = around (table_sizes c.args.self.now) seat in
+    ready_waited c.kind-kind.result c.requires.next (c.kind-kind.ensures own) c.in-AskReady.link c.in-AskReady.is (c.in-NotYet.ensures c.args.seat)
+
+pub returns-in-Now-clause-ok : goal.returns-in-Now-clause-ok
+returns-in-Now-clause-ok g c =
+    let seat = seat_data c.args.place.now in
+    let own = around (table_sizes c.args.self.now) seat in
+    ready_moved c.kind-kind.result c.requires.next (c.kind-kind.ensures own) c.in-AskReady.link c.ask_ready.result (λ e. ⊎_elim (λ a. now_not (sym a ∙ e)) (λ a. failed_not (sym a ∙ e)) c.in-Now.is) c.in-AskReady.is (c.ask_ready.ensures c.args.seat)
+
+pub step_aside-requires-clause-room : goal.step_aside-requires-clause-room
+step_aside-requires-clause-room g c =
+    let seat = seat_data c.args.place.now in
+    let own = around (table_sizes c.args.self.now) seat in
+    ⊎_elim (λ room. room)
+    (λ plain. absurd (only_calls (seat_program (table_sizes c.args.self.now) seat) (step_as own (firsts.Aside c.in-Aside.step)) (subst (λ (step : Step). IsNext c.args.self.now seat step) c.in-Aside.is c.requires.next) plain)) c.requires.room
 
 pub take_message-requires-clause-room : goal.take_message-requires-clause-room
-take_message-requires-clause-room g c = ⊎_elim (λ room. room)
-    (λ plain. absurd (only_calls c.args.self.now (seat_data c.args.place.now) (firsts.TakeMessage c.in-TakeMessage.request) (subst (λ (step : Step). IsNext c.args.self.now (seat_data c.args.place.now) step) c.in-TakeMessage.is c.requires.next) plain)) c.requires.room
+take_message-requires-clause-room g c =
+    let seat = seat_data c.args.place.now in
+    let own = around (table_sizes c.args.self.now) seat in
+    ⊎_elim (λ room. room)
+    (λ plain. absurd (only_calls (seat_program (table_sizes c.args.self.now) seat) (step_as own (firsts.TakeMessage c.in-TakeMessage.request)) (subst (λ (step : Step). IsNext c.args.self.now seat step) c.in-TakeMessage.is c.requires.next) plain)) c.requires.room
 
 pub take_home-requires-clause-room : goal.take_home-requires-clause-room
-take_home-requires-clause-room g c = ⊎_elim (λ room. room)
-    (λ plain. absurd (only_calls c.args.self.now (seat_data c.args.place.now) (firsts.TakeHome c.in-TakeHome.link) (subst (λ (step : Step). IsNext c.args.self.now (seat_data c.args.place.now) step) c.in-TakeHome.is c.requires.next) plain)) c.requires.room
+take_home-requires-clause-room g c =
+    let seat = seat_data c.args.place.now in
+    let own = around (table_sizes c.args.self.now) seat in
+    ⊎_elim (λ room. room)
+    (λ plain. absurd (only_calls (seat_program (table_sizes c.args.self.now) seat) (step_as own (firsts.TakeHome c.in-TakeHome.link)) (subst (λ (step : Step). IsNext c.args.self.now seat step) c.in-TakeHome.is c.requires.next) plain)) c.requires.room
 
 pub put_home-requires-clause-room : goal.put_home-requires-clause-room
-put_home-requires-clause-room g c = ⊎_elim (λ room. room)
-    (λ plain. absurd (only_calls c.args.self.now (seat_data c.args.place.now) (firsts.PutHome c.in-PutHome.link c.in-PutHome.places) (subst (λ (step : Step). IsNext c.args.self.now (seat_data c.args.place.now) step) c.in-PutHome.is c.requires.next) plain)) c.requires.room
+put_home-requires-clause-room g c =
+    let seat = seat_data c.args.place.now in
+    let own = around (table_sizes c.args.self.now) seat in
+    ⊎_elim (λ room. room)
+    (λ plain. absurd (only_calls (seat_program (table_sizes c.args.self.now) seat) (step_as own (firsts.PutHome c.in-PutHome.link c.in-PutHome.places)) (subst (λ (step : Step). IsNext c.args.self.now seat step) c.in-PutHome.is c.requires.next) plain)) c.requires.room
 
 pub put_bytes-requires-clause-room : goal.put_bytes-requires-clause-room
-put_bytes-requires-clause-room g c = ⊎_elim (λ room. room)
-    (λ plain. absurd (only_calls c.args.self.now (seat_data c.args.place.now) (firsts.PutBytes c.in-PutBytes.link c.in-PutBytes.field-1) (subst (λ (step : Step). IsNext c.args.self.now (seat_data c.args.place.now) step) c.in-PutBytes.is c.requires.next) plain)) c.requires.room
+put_bytes-requires-clause-room g c =
+    let seat = seat_data c.args.place.now in
+    let own = around (table_sizes c.args.self.now) seat in
+    ⊎_elim (λ room. room)
+    (λ plain. absurd (only_calls (seat_program (table_sizes c.args.self.now) seat) (step_as own (firsts.PutBytes c.in-PutBytes.link c.in-PutBytes.field-1 c.in-PutBytes.author)) (subst (λ (step : Step). IsNext c.args.self.now seat step) c.in-PutBytes.is c.requires.next) plain)) c.requires.room
 
 pub ask_ready-requires-clause-room : goal.ask_ready-requires-clause-room
-ask_ready-requires-clause-room g c = ⊎_elim (λ room. room)
-    (λ plain. absurd (only_calls c.args.self.now (seat_data c.args.place.now) (firsts.AskReady c.in-AskReady.link) (subst (λ (step : Step). IsNext c.args.self.now (seat_data c.args.place.now) step) c.in-AskReady.is c.requires.next) plain)) c.requires.room
+ask_ready-requires-clause-room g c =
+    let seat = seat_data c.args.place.now in
+    let own = around (table_sizes c.args.self.now) seat in
+    ⊎_elim (λ room. room)
+    (λ plain. absurd (only_calls (seat_program (table_sizes c.args.self.now) seat) (step_as own (firsts.AskReady c.in-AskReady.link)) (subst (λ (step : Step). IsNext c.args.self.now seat step) c.in-AskReady.is c.requires.next) plain)) c.requires.room
+

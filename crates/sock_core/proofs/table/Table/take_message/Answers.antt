@@ -1,26 +1,40 @@
-use Rattle.std.proofs.Common.{refl, arith, ap, ◌∙◌, slice_set, None}
+use Rattle.std.proofs.Common.{refl, arith, ap, ◌∙◌, slice_set, None, inr, option_map}
 use Rattle.sock_programs.specs.Scripts.{sizes_of}
+use Rattle.message_parts.specs.Parcels.{parcel_of, outgoing_of}
 use Rattle.seat_points.specs.Points.{next_program}
+use Rattle.seat_points.proofs.StepFacts.{takes_message}
 use Rattle.client_seats.specs.Seats.{seat_data, around}
+use Rattle.sock_core.specs.Machines.{table_sizes}
 use Rattle.sock_core.proofs.Stepping.{written, makes_along, goes, message_is}
+use Rattle.sock_core.proofs.TableGoes.{follows_as}
 use Rattle.sock_core.proofs.table.Table.take_message.Goals as goal
 
+pub with_message-next-requires : goal.with_message-next-requires
+with_message-next-requires g c = let seat = seat_data c.args.place.now in record { step = (takes_message (around (table_sizes c.args.self.now) seat) seat.point c.args.request c.requires.next).0 }
+
+pub follow-requires : goal.follow-requires
+follow-requires g c = record { room = λ o name id e. c.requires.room.0; more = inr c.requires.room.1 }
+
 pub returns : goal.returns
-returns g c seat =
+returns g c seat_number =
+    let seat = seat_data c.args.place.now in
     let sizes = c.sizes.ensures in
+    let taken = c.take_message-author.ensures.taken in
     makes_along c.self.view_is (record {
       is = (
         refl,
         record {
-          letter = c.take_message-operation.ensures.taken.0;
-          at = rw c.deref_mut.ensures.value at c.take_message-operation.ensures.taken.1;
+          letter = taken.0;
+          at = rw c.deref_mut.ensures.value at taken.1;
           words = refl;
-          letters = written c.self.inside.letters.len c.take_message-operation.new.letters _ (omega (arith, c.self.inside.letters.ok)) ∙ c.take_message-operation.ensures.letters ∙ ap (λ ls. slice_set ls c.args.request None) c.deref_mut.ensures.value;
+          letters = written c.self.inside.letters.len c.take_message-author.new.letters _ (omega (arith, c.self.inside.letters.ok)) ∙ c.take_message-author.ensures.letters ∙ ap (λ ls. slice_set ls c.args.request None) c.deref_mut.ensures.value;
           links = refl;
+          ids = refl;
           ends = refl;
-          goes = goes (next_program (around c.sizes.result (record (seat_data c.args.place.now) { out = c.take_message-operation.new.out })) c.with_message-next.result) refl sizes c.follow.ensures.program
-              (written c.self.inside.outcomes.len c.follow.new.outcomes _ (omega (arith, c.self.inside.outcomes.ok))) c.follow.ensures.said c.deref_mut-2.ensures.value
-              (let taken = c.take_message-operation.ensures.taken in message_is c.sizes.result (sizes_of c.self.inside.plan) (seat_data c.args.place.now) c.take_message-operation.new.out c.with_message-next.result c.take_message-operation.result taken.0.operation taken.0.message sizes taken.3 taken.2 c.with_message-next.ensures.program);
+          goes = goes (next_program (around c.sizes.result (record seat { out = option_map outgoing_of c.take_message-author.new.out })) c.with_message-next.result) (record { plan = refl; id_plan = refl; calls = refl; ending = refl; inns = refl }) sizes
+              (follows_as c.deref_mut-2.ensures.value (written c.self.inside.outcomes.len c.follow.new.outcomes _ (omega (arith, c.self.inside.outcomes.ok))) c.follow.ensures)
+              refl
+              (message_is c.sizes.result (sizes_of c.self.inside.plan c.self.inside.ids.plan) seat (option_map outgoing_of c.take_message-author.new.out) c.with_message-next.result c.take_message-author.result taken.0.author (parcel_of taken.0.message).parts (parcel_of taken.0.message).bytes sizes taken.3 taken.2 c.with_message-next.ensures.program);
         },
       );
     })

@@ -1,0 +1,69 @@
+-- The readers as they lie in memory, and what a step of one makes of a machine.
+use Rattle.std.proofs.Common.{◌≡◌, refl, ℕ, ◌+◌, ◌<◌, ◌≤◌, List, map, length, slice_set, slice_index_or, Option, Some, None, option_map, IfSome, IfNone, ap, sym, ◌∙◌, arith, subst}
+use Rattle.std.proofs.Math.ListN.{length-set, length-map}
+use Rattle.atomic_table.proofs.Lists.{at_index}
+use mathlib.Core.Option as core
+use lib.ListN.{get_elem?}
+use Rattle.sock_runs.proofs.Along.{place_inside}
+use Rattle.seat_points.specs.Steps.{first_in}
+use Rattle.reader_points.specs.declared.point.ReadStep.{ReadStep}
+use Rattle.reader_points.specs.Steps.{step_as}
+use Rattle.reader_seats.specs.Readers.{ReaderData, reader_program}
+use Rattle.sock_core.specs.declared.machine.Tick.{Tick}
+use Rattle.sock_core.specs.Machines.{MachineState, table_of}
+use Rattle.sock_core.specs.Reading.{IsNextRead, NextReadIs, HasNoRead, FitsRead, ReadFits, ReadTold, TickRead}
+
+module _ (m : MachineState) (k j : ℕ) (there : j ≡ k) where
+  pub reader_there : (x : ReaderData) → j < length m.readers → x ≡ slice_index_or m.readers j x → get_elem? m.readers k ≡ core.some x
+  reader_there x h e = subst (λ (i : ℕ). get_elem? m.readers i ≡ core.some x) there (at_index m.readers j x h e)
+
+  pub reader_within : (x : ReaderData) → get_elem? m.readers k ≡ core.some x → j < length m.readers
+  reader_within x e = let h = place_inside m.readers k x e in omega (arith, h, there)
+
+  -- the next step of the reader that lies there
+  pub read_named : (x : ReaderData) (o : Option ReadStep) → j < length m.readers → x ≡ slice_index_or m.readers j x → option_map (step_as x.asked) o ≡ first_in (reader_program m.calls x) → IfSome o (λ step. NextReadIs m k step)
+  read_named x None h e first = tt
+  read_named x (Some step) h e first = record { reader = x; at = reader_there x h e; is = sym first }
+
+  pub read_unnamed : (x : ReaderData) (o : Option ReadStep) → j < length m.readers → x ≡ slice_index_or m.readers j x → option_map (step_as x.asked) o ≡ first_in (reader_program m.calls x) → IfNone o (HasNoRead m k)
+  read_unnamed x (Some step) h e first = tt
+  read_unnamed x None h e first = λ reader at. subst (λ (r : ReaderData). first_in (reader_program m.calls r) ≡ None) (core.some-injective x reader (sym (reader_there x h e) ∙ at)) (sym first)
+
+  pub read_past : length m.readers ≤ j → HasNoRead m k
+  read_past h reader at = absurd (let inside = reader_within reader at in omega (arith, h, inside))
+
+  module _ (x : ReaderData) (is : x ≡ slice_index_or m.readers j x) (step : ReadStep) (n : NextReadIs m k step) where
+    within : j < length m.readers
+    within = reader_within n.reader n.at
+
+    lies : x ≡ n.reader
+    lies = core.some-injective x n.reader (sym (reader_there x within is) ∙ n.at)
+
+    pub read_here : IsNextRead (table_of m) x step
+    read_here = subst (λ (r : ReaderData). IsNextRead (table_of m) r step) (sym lies) n.is
+
+    pub read_fits : ReadFits m k step → (length m.calls ≤ 4096) × FitsRead (table_of m) x step
+    read_fits fits = subst (λ (r : ReaderData). (length m.calls ≤ 4096) × FitsRead (table_of m) r step) (sym lies) (fits n.reader n.at)
+
+    pub read_told : (fresh : MachineState) (i : ℕ) (z : ReaderData) {tick : Tick} → fresh.readers ≡ slice_set m.readers j z → fresh.seats ≡ m.seats → fresh.opens ≡ m.opens → fresh.short ≡ m.short → ReadTold (table_of m) (table_of fresh) i x z step tick → TickRead m fresh i k step tick
+    read_told fresh i z {tick} readers seats opens short h = record {
+      reader = n.reader;
+      at = n.at;
+      reader' = z;
+      readers = readers ∙ ap (λ n. slice_set m.readers n z) there;
+      seats = seats;
+      opens = opens;
+      short = short;
+      told = subst (λ (r : ReaderData). ReadTold (table_of m) (table_of fresh) i r z step tick) lies h;
+    }
+
+-- as many as before
+pub same_many : {A B : Type 0} (f : A → B) (items : List A) (j : ℕ) (z : A) → length (map f (slice_set items j z)) ≡ length (map f items)
+same_many f items j z = length-map (slice_set items j z) f ∙ length-set items j z ∙ sym (length-map items f)
+
+-- the tables as they lie in memory
+pub read_in : {m n : MachineState} {k : ℕ} {step : ReadStep} → n ≡ m → NextReadIs m k step → NextReadIs n k step
+read_in {m} {n} {k} {step} e h = subst (λ (x : MachineState). NextReadIs x k step) (sym e) h
+
+pub read_along : {m n fresh : MachineState} {i k : ℕ} {step : ReadStep} {tick : Tick} → m ≡ n → TickRead m fresh i k step tick → TickRead n fresh i k step tick
+read_along {m} {n} {fresh} {i} {k} {step} {tick} e h = subst (λ (x : MachineState). TickRead x fresh i k step tick) e h

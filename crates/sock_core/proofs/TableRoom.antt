@@ -1,0 +1,47 @@
+-- A seat that asks no link, makes no step aside of the sockets and holds no life wants no room.
+use Rattle.std.proofs.Common.{◌≡◌, refl, ℕ, ◌<◌, ◌⊎◌, inl, inr, Some, vec_len, vec_capacity, sym, subst}
+use Rattle.sock_words.specs.declared.socket_id.SocketId.{SocketId}
+use Rattle.sock_programs.specs.Programs.{Program, Do, Say, Sent, Rest, Retries}
+use Rattle.call_points.specs.Steps.{after_word}
+use Rattle.seat_points.specs.declared.point.Next.{Next}
+use Rattle.seat_points.specs.declared.point.Next.TheVariants as nexts
+use Rattle.seat_points.specs.Points.{Around, next_program}
+use Rattle.seat_points.specs.Steps.{First, OfCall, first_in}
+use Rattle.client_seats.specs.declared.seat.Seat.{Seat}
+use Rattle.client_seats.specs.Seats.{seat_data, seat_program}
+use Rattle.client_seats.specs.Following.{HasRoom}
+use Rattle.sock_core.specs.Machines.{TableState, table_sizes}
+use Rattle.sock_core.specs.Driving.{AsksNone}
+use Rattle.sock_core.proofs.FirstSteps.{same_some}
+
+after_none : (program : Program) (found : ℕ) → AsksNone program → AsksNone (after_word program found)
+after_none (Do call next) found x = x found
+after_none (Say o outcome next) found x = x
+after_none (Sent o next) found x = x
+after_none (Retries requests after) found x = x
+after_none Rest found x = tt
+after_none _ found x = absurd x
+
+-- a step on a word, or a message that goes home
+abbrev pub IsCall : First → Type 0
+IsCall (OfCall call) = Unit {0}
+IsCall other = ⊥
+
+-- it makes no other
+pub only_calls : (program : Program) (first : First) → first_in program ≡ Some first → AsksNone program → IsCall first
+only_calls (Do call next) first e x = subst IsCall (same_some e) tt
+only_calls (Say o outcome next) first e x = cc
+only_calls (Sent o next) first e x = cc
+only_calls (Retries requests after) first e x = cc
+only_calls Rest first e x = cc
+only_calls _ first e x = absurd x
+
+no_hold : (a : Around) (program : Program) (found : ℕ) (n : Next) → AsksNone program → next_program a n ≡ after_word program found → (o name : ℕ) (id : SocketId) → n ≡ nexts.Held o name id → ⊥
+no_hold a program found n plain is o name id held =
+    let says : AsksNone (next_program a (nexts.Held o name id)) = subst (λ (m : Next). AsksNone (next_program a m)) held (subst AsksNone (sym is) (after_none program found plain)) in says.0 refl
+
+-- so there is room for a life where one comes to be held
+pub room_for : (t : TableState) (place : Seat) (a : Around) (n : Next) (found : ℕ) → HasRoom place ⊎ AsksNone (seat_program (table_sizes t) (seat_data place)) → next_program a n ≡ after_word (seat_program (table_sizes t) (seat_data place)) found →
+    (o name : ℕ) (id : SocketId) → n ≡ nexts.Held o name id → vec_len place.held < vec_capacity place.held
+room_for t place a n found (inl room) is o name id held = room.0
+room_for t place a n found (inr plain) is o name id held = absurd (no_hold a (seat_program (table_sizes t) (seat_data place)) found n plain is o name id held)

@@ -1,0 +1,79 @@
+use Rattle.std.proofs.Common.{◌≡◌, refl, ℕ, ap, sym, subst}
+use Rattle.sock_programs.specs.Asides as asides
+use Rattle.sock_programs.specs.Ticks.{Unasked}
+use Rattle.call_points.specs.declared.aside.Aside.TheVariants as steps
+use Rattle.call_points.specs.declared.aside.Aside as code
+use Rattle.seat_points.specs.declared.point.Step.TheVariants as firsts
+use Rattle.client_seats.specs.Seats.{seat_data, around, seat_program, asked_of}
+use Rattle.sock_core.specs.Machines.{table_sizes}
+use Rattle.sock_core.specs.Steps.{IsNext, Fits, IsOnWord}
+use Rattle.sock_core.proofs.Tellings.{moved, aside_moved, aside_waited}
+use Rattle.sock_core.proofs.TableAsides.{takes_none}
+use Rattle.sock_core.proofs.TableTellings.{still_aside}
+use Rattle.sock_core.proofs.table.Table.step_aside.Goals as goal
+
+pub returns-in_ok-put_call-in-PutCall-clause-ok : goal.returns-in_ok-put_call-in-PutCall-clause-ok
+returns-in_ok-put_call-in-PutCall-clause-ok g c i =
+    let seat = seat_data c.args.place.now in
+    let t = c.args.self.now in
+    let asked = asked_of seat.call in
+    let next = subst (λ (s : code.Aside). IsNext t seat (firsts.Aside s)) c.in-PutCall.is c.requires.next in
+    moved c.kind-kind.result (firsts.Aside (steps.PutCall c.in-PutCall.slot)) Unasked (ap firsts.Aside c.in-PutCall.is) c.requires.next (c.kind-kind.ensures asked) (c.in_ok-put_call-in-PutCall.ensures.ok i)
+    (still_aside t (seat_program (table_sizes t) seat) (asides.PutCall c.in-PutCall.slot asked) next tt)
+
+pub returns-in_ok-take_call-in-TakeCall-clause-ok : goal.returns-in_ok-take_call-in-TakeCall-clause-ok
+returns-in_ok-take_call-in-TakeCall-clause-ok g c i =
+    let seat = seat_data c.args.place.now in
+    let t = c.args.self.now in
+    let asked = asked_of seat.call in
+    let next = subst (λ (s : code.Aside). IsNext t seat (firsts.Aside s)) c.in-TakeCall.is c.requires.next in
+    moved c.kind-kind.result (firsts.Aside (steps.TakeCall c.in-TakeCall.slot)) Unasked (ap firsts.Aside c.in-TakeCall.is) c.requires.next (c.kind-kind.ensures asked) (c.in_ok-take_call-in-TakeCall.ensures.ok i)
+    (still_aside t (seat_program (table_sizes t) seat) (asides.TakeCall c.in-TakeCall.slot) next tt)
+
+pub returns-in-Some-clause-ok : goal.returns-in-Some-clause-ok
+returns-in-Some-clause-ok g c i =
+    let seat = seat_data c.args.place.now in
+    let own = around (table_sizes c.args.self.now) seat in
+    aside_waited c.kind-kind.result c.requires.next (c.kind-kind.ensures (asked_of seat.call)) c.args.step c.make_aside-found.result c.awaited.result c.in-Some.on refl (c.make_aside-found.ensures.made i) c.make_aside-found.ensures.found (c.awaited.ensures.waits own) (c.awaited.ensures.on own) c.in-Some.is
+
+pub returns-in-None-clause-ok : goal.returns-in-None-clause-ok
+returns-in-None-clause-ok g c i =
+    let seat = seat_data c.args.place.now in
+    let own = around (table_sizes c.args.self.now) seat in
+    aside_moved c.kind-kind.result c.requires.next (c.kind-kind.ensures (asked_of seat.call)) c.args.step c.make_aside-found.result c.awaited.result refl (c.make_aside-found.ensures.made i) c.make_aside-found.ensures.found (c.awaited.ensures.waits own) c.in-None.is
+
+on_word : (s : code.Aside) → ((i : ℕ) → s ≡ steps.PutCall i → ⊥) → ((i : ℕ) → s ≡ steps.TakeCall i → ⊥) → ((k n : ℕ) → s ≡ steps.TakeBytes k n → ⊥) → IsOnWord s
+on_word (steps.PutCall i) put take bytes = put i refl
+on_word (steps.TakeCall i) put take bytes = take i refl
+on_word (steps.TakeBytes k n) put take bytes = bytes k n refl
+on_word (steps.ClaimId i) put take bytes = tt
+on_word (steps.MakeId i range) put take bytes = tt
+on_word (steps.StoreCall o id) put take bytes = tt
+on_word (steps.LoadCall o) put take bytes = tt
+on_word (steps.StoreAt o w) put take bytes = tt
+on_word (steps.LoadAt o) put take bytes = tt
+on_word (steps.LoadIdWord i) put take bytes = tt
+on_word (steps.LockId i from) put take bytes = tt
+on_word (steps.PostId i from e) put take bytes = tt
+on_word (steps.UnlockId i from advance) put take bytes = tt
+on_word (steps.EndId i) put take bytes = tt
+on_word (steps.FreeId i) put take bytes = tt
+
+-- no client takes bytes of a link
+pub make_aside-found-requires-clause-kind : goal.make_aside-found-requires-clause-kind
+make_aside-found-requires-clause-kind g c =
+    let seat = seat_data c.args.place.now in
+    let t = c.args.self.now in
+    on_word c.args.step c.in_default.not-PutCall c.in_default.not-TakeCall (λ k n e. takes_none (around (table_sizes t) seat) seat.point k n (subst (λ (s : code.Aside). IsNext t seat (firsts.Aside s)) e c.requires.next))
+
+pub put_call-requires-clause-fits : goal.put_call-requires-clause-fits
+put_call-requires-clause-fits g c = subst (λ (s : code.Aside). Fits c.args.self.now (seat_data c.args.place.now) (firsts.Aside s)) c.in-PutCall.is c.requires.fits
+
+pub put_call-requires-clause-next : goal.put_call-requires-clause-next
+put_call-requires-clause-next g c = subst (λ (s : code.Aside). IsNext c.args.self.now (seat_data c.args.place.now) (firsts.Aside s)) c.in-PutCall.is c.requires.next
+
+pub take_call-requires-clause-fits : goal.take_call-requires-clause-fits
+take_call-requires-clause-fits g c = subst (λ (s : code.Aside). Fits c.args.self.now (seat_data c.args.place.now) (firsts.Aside s)) c.in-TakeCall.is c.requires.fits
+
+pub take_call-requires-clause-next : goal.take_call-requires-clause-next
+take_call-requires-clause-next g c = subst (λ (s : code.Aside). IsNext c.args.self.now (seat_data c.args.place.now) (firsts.Aside s)) c.in-TakeCall.is c.requires.next
