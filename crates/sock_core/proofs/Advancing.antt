@@ -1,24 +1,19 @@
 -- A step of a seat is a tick of the machine, which stays one, and has one tick less left if the seat moved.
-use Rattle.std.proofs.Common.{◌≡◌, ◌≢◌, refl, ℕ, zero, suc, ◌+◌, ◌<◌, ◌≤◌, ◌⊎◌, inl, inr, Bool, true, false, List, [], ◌∷◌, ◌++◌, append-nil, length, slice_set, Option, Some, None, ap, ap₂, sym, ◌∙◌, arith, subst}
+use Rattle.std.proofs.Common.{◌≡◌, refl, ℕ, ◌+◌, ◌<◌, ◌≤◌, inl, Bool, true, false, [], ◌∷◌, append-nil, length, Option, Some, None, ap, ap₂, sym, ◌∙◌, arith, subst}
 use Rattle.std.proofs.Props.{props}
 use Rattle.std.proofs.Math.Logic.{∥∥₁_elim}
 use Rattle.std.proofs.lemmas.Option.{none-some}
 use mathlib.Core.Option as core
 use lib.ListN.{get_elem?}
 use Rattle.sock_words.specs.declared.kind.Kind.{Kind}
-use Rattle.sock_words.specs.declared.plain.Plan.{Plan}
 use Rattle.sock_io.specs.declared.link.Ready.TheVariants as asks
-use Rattle.sock_io.specs.Link.{OutState}
-use Rattle.sock_message.specs.Asked.{Asked}
 use Rattle.sock_programs.specs.Asides as asides
-use Rattle.sock_programs.specs.Calls as calls
 use Rattle.sock_programs.specs.Heads.{Head, Exit, Posts, Unlocks, Decides, Locks, Joins, Opens, Reads, Discards}
 use Rattle.sock_programs.specs.Writings as heads
-use Rattle.sock_programs.specs.Programs.{Program, Do, Say, Sent, Rest, TakeMessage, TakeHome, PutHome, PutBytes, AskReady, Write, Aside, Round, Keep, Retries}
+use Rattle.sock_programs.specs.Programs.{Program, Write, Round}
 use Rattle.sock_programs.specs.Cores.{Core, SeatState}
 use Rattle.sock_programs.specs.Ticks.{Answer, Unasked, OfPut, OfReady, OfTake, Moment, waits_at, waits, broken_at}
 use Rattle.sock_programs.specs.Runs.{kind_in, next_kind, IsAtRest}
-use Rattle.sock_programs.specs.declared.task.Sizes.{Sizes}
 use Rattle.sock_runs.specs.Sound.{IsAhead}
 use Rattle.sock_runs.proofs.Along.{place_inside, seat_rests}
 use Rattle.whole_runs.specs.Heard.{heard_at}
@@ -29,21 +24,20 @@ use Rattle.seat_points.specs.declared.point.Step.{Step}
 use Rattle.seat_points.specs.declared.point.Step.TheVariants as firsts
 use Rattle.seat_points.specs.Steps.{First, OfCall, OfAside, OfMessage, OfLink, OfHome, step_of, step_as, first_in}
 use Rattle.seat_points.specs.Steps as kinds
-use Rattle.client_seats.specs.Seats.{SeatData, around, seat_program, asked_of}
+use Rattle.client_seats.specs.Seats.{around, seat_program, asked_of}
 use Rattle.reader_points.specs.declared.point.ReadStep.{ReadStep}
 use Rattle.reader_points.specs.declared.point.ReadStep.TheVariants as steps
 use Rattle.reader_points.specs.Steps as reader_steps
-use Rattle.reader_seats.specs.Readers.{ReaderData, reader_program}
-use Rattle.sock_core.specs.declared.machine.On.{On}
+use Rattle.reader_seats.specs.Readers.{reader_program}
 use Rattle.sock_core.specs.declared.machine.Tick.{Tick}
 use Rattle.sock_core.specs.declared.machine.Tick.TheVariants.{Moved, Waits, Idle}
-use Rattle.sock_core.specs.Links.{LinksData, Taken, Given, Agrees, AgreesGave, holder_of}
-use Rattle.sock_core.specs.Machines.{MachineState, READERS, IsMachine, IsSoundMachine, HasSizes, KeepsClosed, AreCalled, ArePaced, table_of, machine_sizes, state_of, core_with}
+use Rattle.sock_core.specs.Links.{LinksData, Taken, Given, Agrees, AgreesGave}
+use Rattle.sock_core.specs.Machines.{MachineState, READERS, IsMachine, IsSoundMachine, HasSizes, AreCalled, ArePaced, table_of, machine_sizes, state_of, core_with}
 use Rattle.sock_core.specs.Steps.{IsSized, NextIs, FitsSlots, SameBase, MadeFirst}
 use Rattle.sock_core.specs.Reading.{SameTables, NextReadIs, MadeRead, TickRead}
 use Rattle.sock_core.specs.Telling.{TickTold, Tells, is_waiting}
-use Rattle.sock_core.specs.Runs.{SameTable, SameLinks, ShowFaults, LinksTell, IsWaitingFor, WaitsFor, TickIs, Follows, TickedWith, Ticked}
-use Rattle.sock_core.specs.Driving.{LastsAtMost, LeavesFewer, LeavesAsMany, Leaves}
+use Rattle.sock_core.specs.Runs.{SameTable, SameLinks, ShowFaults, TickIs, Follows, Ticked}
+use Rattle.sock_core.specs.Driving.{Leaves}
 use Rattle.sock_core.proofs.Answering.{AsksUnfinished, made_links, made_prompt, made_broken, made_told}
 use Rattle.sock_core.proofs.CallWords.{called_behind}
 use Rattle.sock_core.proofs.Closings.{made_closes, made_closed, read_links, read_closes, read_closed}
@@ -57,7 +51,7 @@ use Rattle.sock_core.proofs.ReadTicks.{MayRead, reads_by}
 use Rattle.sock_core.proofs.Seatings.{seat_at, read_at}
 use Rattle.sock_core.proofs.Takings.{made_taken, made_takes, read_broken, read_told, read_taken, read_takes}
 use Rattle.sock_core.proofs.Tellings.{ready_waits}
-use Rattle.sock_core.proofs.Ticked.{MayCall, MayMake, SteppedWith, steps_by}
+use Rattle.sock_core.proofs.Ticked.{MayMake, SteppedWith, steps_by}
 
 -- ## Of a machine
 
@@ -227,12 +221,16 @@ module _ (m fresh : MachineState) (room i : ℕ) (step : Step) (tick : Tick) (is
 
   -- it is a tick
   pub told_ticks : Ticked m fresh i tick
-  told_ticks = (told_table, told_links, λ took gave agrees agrees_gave. record {
-    moment = moment;
-    is_of = refl;
-    is = tick_is m took gave i program (own_at took gave) answer tick w.told.tells;
-    follows = follows took gave agrees agrees_gave;
-  })
+  told_ticks = (
+    told_table,
+    told_links,
+    λ took gave agrees agrees_gave. record {
+      moment = moment;
+      is_of = refl;
+      is = tick_is m took gave i program (own_at took gave) answer tick w.told.tells;
+      follows = follows took gave agrees agrees_gave;
+    },
+  )
 
   yet_by : (f : First) → first_in program ≡ Some f → MadeFirst (table_of m) (table_of fresh) i w.seat w.seat' step f answer → answer ≡ OfReady asks.NotYet → (c : Core) → waits_at m.plan c answer program ≡ true
   yet_by (OfCall call) at x e c = absurd (let f = x.0 in cc)
@@ -358,12 +356,16 @@ module _ (m fresh : MachineState) (room k : ℕ) (step : ReadStep) (tick : Tick)
 
   -- it is a tick
   pub read_ticks : Ticked m fresh i tick
-  read_ticks = (read_table, read_links_stay, λ took gave agrees agrees_gave. record {
-    moment = read_moment;
-    is_of = refl;
-    is = tick_is m took gave i reading (read_own took gave) given_answer tick w.told.tells;
-    follows = read_follows took gave agrees agrees_gave;
-  })
+  read_ticks = (
+    read_table,
+    read_links_stay,
+    λ took gave agrees agrees_gave. record {
+      moment = read_moment;
+      is_of = refl;
+      is = tick_is m took gave i reading (read_own took gave) given_answer tick w.told.tells;
+      follows = read_follows took gave agrees agrees_gave;
+    },
+  )
 
   read_kept : (s : IsSoundMachine m) → Keeps m fresh s read_moment
   read_kept s = step_keeps m fresh i given_answer same.plan same.id_plan w.opens read_slots (operations_are m is.sizes) s (read_stepped s.took s.gave s.agrees s.agrees_gave)

@@ -1,5 +1,5 @@
 -- The word of each call names an id whose first version has room, behind each step on the ids.
-use Rattle.std.proofs.Common.{◌≡◌, ◌≢◌, refl, ℕ, ◌+◌, ◌*◌, ◌%◌, ◌<◌, ◌≤◌, false, List, [], length, slice_set, get_or, sym, ap, subst, ◌∙◌, arith}
+use Rattle.std.proofs.Common.{◌≢◌, ℕ, ◌<◌, false, List, [], length, slice_set, get_or, sym, subst, arith}
 use Rattle.std.proofs.Math.ListN.{get_or-eq_default, length-set}
 use Rattle.std.proofs.lemmas.List.{get_or-set_same, get_or-set_other}
 use mathlib.Core.Logic.{dite}

@@ -1,26 +1,24 @@
 -- A tick of a seat of the code: what was made in hand of it, and its step, or none, or that memory ran out.
-use Rattle.std.proofs.Common.{◌≡◌, ◌≢◌, refl, ℕ, ◌+◌, ◌-◌, ◌*◌, ◌<◌, ◌≤◌, true, false, List, length, slice_set, Result, Ok, Err, ap, ap₂, sym, ◌∙◌, arith, subst}
+use Rattle.std.proofs.Common.{◌≡◌, ◌≢◌, ℕ, ◌+◌, ◌<◌, false, List, length, Result, Ok, Err, ap, ap₂, sym, ◌∙◌}
 use Rattle.std.specs.Prelude.{IfOk, OnOk, OnErr}
 use Rattle.atomic_table.proofs.Lists.{set_else}
-use mathlib.Core.Option as core
 use lib.ListN.{get_elem?}
-use Rattle.sock_words.specs.declared.plain.Plan.{Plan}
 use Rattle.client_seats.specs.Seats.{SeatData}
 use Rattle.seat_points.specs.declared.point.Step.{Step}
 use Rattle.reader_points.specs.declared.point.ReadStep.{ReadStep}
 use Rattle.sock_core.specs.declared.machine.Tick.{Tick}
 use Rattle.sock_core.specs.declared.machine.Tick.TheVariants.{Idle}
-use Rattle.sock_core.specs.Machines.{MachineState, READERS, IsMachine, HasSizes, table_of, machine_sizes}
+use Rattle.sock_core.specs.Machines.{MachineState, READERS, IsMachine, table_of}
 use Rattle.sock_core.specs.Reading.{NextReadIs, HasNoRead, ReadFits, TickRead, IsCutShort}
 use Rattle.sock_core.specs.Runs.{SameTable, SameLinks, Ticked}
-use Rattle.sock_core.specs.Steps.{IsSized, NextIs, HasNoStep, StepFits, PreparedAt, ReadyAt, StandsAt}
+use Rattle.sock_core.specs.Steps.{IsSized, NextIs, HasNoStep, StepFits, PreparedAt}
 use Rattle.sock_core.specs.Telling.{TickTold}
 use Rattle.sock_core.specs.Driving.{Leaves, FirstRests}
-use Rattle.sock_core.proofs.Advancing.{is_sized, few_seats, some_seat, few_slots, few_calls, told_links, told_table, told_ticks, told_keeps, told_leaves, told_enough, told_sizes, read_links_stay, read_table, read_ticks, read_keeps, read_leaves, read_enough, read_has_sizes}
+use Rattle.sock_core.proofs.Advancing.{is_sized, few_seats, some_seat, few_slots, few_calls, told_links, told_table, told_ticks, told_keeps, told_leaves, told_enough, read_links_stay, read_table, read_ticks, read_keeps, read_leaves}
 use Rattle.sock_core.proofs.Endings.{both_join}
 use Rattle.sock_core.proofs.Fitting.{step_fits, read_fits}
 use Rattle.sock_core.proofs.PlainSteps.{no_step_rests, no_read_rests}
-use Rattle.sock_core.proofs.Preparing.{prepared_ticks, prepared_same, prepared_keeps, prepared_enough, prepared_leaves, prepared_idle, prepared_rests, prepared_ready, prepared_stands, prepared_inside, cut_keeps, cut_same, cut_sizes}
+use Rattle.sock_core.proofs.Preparing.{prepared_ticks, prepared_same, prepared_keeps, prepared_enough, prepared_leaves, prepared_rests, prepared_stands, prepared_inside, cut_keeps, cut_same}
 use Rattle.sock_core.proofs.Resting.{first_rests, rest_ticks}
 
 -- ## By a result

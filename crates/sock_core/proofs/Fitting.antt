@@ -1,5 +1,5 @@
 -- The next step of a seat of a sound machine fits the tables.
-use Rattle.std.proofs.Common.{◌≡◌, ◌≢◌, refl, ℕ, zero, suc, ◌+◌, ◌<◌, ◌≤◌, ◌⊎◌, inl, inr, Bool, true, false, List, [], ◌∷◌, length, map, get_or, Option, Some, None, ap, sym, ◌∙◌, arith, subst}
+use Rattle.std.proofs.Common.{◌≡◌, refl, ℕ, ◌+◌, ◌<◌, ◌≤◌, List, length, map, get_or, Option, Some, None, ap, sym, ◌∙◌, arith, subst}
 use Rattle.std.proofs.Props.{props}
 use Rattle.std.proofs.Math.Logic.{∥∥₁_elim}
 use Rattle.atomic_table.proofs.Lists.{at_map, at_longer}
@@ -10,8 +10,6 @@ use mathlib.Core.Option as core
 use lib.ListN.{get_elem?}
 use Rattle.sock_words.specs.declared.plain.Plan.{Plan}
 use Rattle.sock_message.specs.Asked.{Asked}
-use Rattle.sock_model.specs.declared.chain.Heading.{Heading}
-use Rattle.sock_model.specs.declared.home.Home.TheVariants.{Message}
 use Rattle.sock_io.specs.Link.{OutState}
 use Rattle.sock_programs.specs.Calls as calls
 use Rattle.sock_programs.specs.Asides as asides
@@ -19,11 +17,11 @@ use Rattle.sock_programs.specs.Asides.{id_slot, id_first}
 use Rattle.sock_programs.specs.Beside.{found_in, call_at}
 use Rattle.sock_programs.specs.Writings as heads
 use Rattle.sock_programs.specs.Programs.{Program, PutBytes, Write}
-use Rattle.sock_programs.specs.Cores.{SeatState, word_of, found_at}
+use Rattle.sock_programs.specs.Cores.{word_of, found_at}
 use Rattle.sock_programs.specs.declared.task.Sizes.{Sizes}
 use Rattle.sock_runs.specs.Sound.{AllowsWord}
 use Rattle.id_rule.specs.Lawful.{call_word}
-use Rattle.id_runs.specs.Held.{IdView, MayId}
+use Rattle.id_runs.specs.Held.{IdView}
 use Rattle.id_runs.specs.Goes.{FitsSock, IdGoesOn}
 use Rattle.id_runs.proofs.Steps.{call_there}
 use Rattle.call_points.specs.declared.aside.Aside.{Aside}
@@ -46,9 +44,9 @@ use Rattle.reader_points.specs.Steps as reader_steps
 use Rattle.reader_seats.specs.Readers.{ReaderData, reader_program}
 use Rattle.reader_seats.specs.Readers as readers
 use Rattle.sock_core.specs.declared.letter.Letter.{Letter}
-use Rattle.sock_core.specs.Links.{LinksData, IsPaced, is_done, letter_home}
+use Rattle.sock_core.specs.Links.{LinksData, IsPaced, letter_home}
 use Rattle.sock_core.specs.Machines.{MachineState, READERS, IsSoundMachine, AreCalled, ArePaced, table_of, machine_sizes, state_of, waiting_of, given_by, core_with}
-use Rattle.sock_core.specs.Steps.{IsSized, IsOfLinks, NextIs, MayGoOn, MayStand, StandsAt, FitsSlots, FindsFitting, Fits, StepFits, beside}
+use Rattle.sock_core.specs.Steps.{IsSized, IsOfLinks, NextIs, MayGoOn, StandsAt, FitsSlots, Fits, StepFits, beside}
 use Rattle.sock_core.specs.Reading.{NextReadIs, MayRead, FitsRead, ReadFits}
 use Rattle.sock_core.proofs.Answering.{AsksUnfinished}
 use Rattle.sock_core.proofs.PointFacts.{NoTake, finds_beside, takes_none, within_aside, finds_aside, finds_call, within_ids, reads_within, reads_word, reads_aside}

@@ -1,7 +1,6 @@
 -- What holds of a machine still holds behind a step.
-use Rattle.std.proofs.Common.{◌≡◌, ◌≢◌, refl, ℕ, ◌+◌, ◌*◌, ◌<◌, ◌≤◌, ◌⊎◌, inl, inr, ⊎_elim, Bool, true, false, List, [], ◌∷◌, length, slice_set, Option, Some, None, ap, ap₂, sym, ◌∙◌, arith, subst}
+use Rattle.std.proofs.Common.{◌≡◌, ◌≢◌, refl, ℕ, ◌+◌, ◌*◌, ◌<◌, ◌≤◌, ◌⊎◌, inl, inr, ⊎_elim, true, false, List, length, slice_set, Some, ap, ap₂, sym, ◌∙◌, arith, subst}
 use Rattle.std.proofs.lemmas.Bool.{true≢false}
-use Rattle.std.proofs.lemmas.Option.{none-some}
 use Rattle.std.proofs.Props.{props}
 use Rattle.std.proofs.Math.Logic.{∥∥₁_elim}
 use Rattle.atomic_table.proofs.Lists.{at_set, set_here, set_else}
@@ -43,7 +42,7 @@ use Rattle.seat_points.specs.Steps as kinds
 use Rattle.seat_points.proofs.StepFacts as facts
 use Rattle.client_seats.specs.Seats.{SeatData, around, seat_program}
 use Rattle.sock_core.specs.Links.{LinksData, Taken, Given, Agrees, AgreesGave, IsPaced, holder_of}
-use Rattle.sock_core.specs.Machines.{MachineState, READERS, IsSoundMachine, ArePaced, MOST_LEFT, table_of, machine_sizes, state_of, core_with}
+use Rattle.sock_core.specs.Machines.{MachineState, IsSoundMachine, ArePaced, MOST_LEFT, table_of, machine_sizes, state_of, core_with}
 use Rattle.sock_core.specs.Steps.{IsSized, OutsAfter, SameBase, Goes, MadeFirst}
 use Rattle.seat_points.specs.declared.point.Step.{Step}
 use Rattle.sock_core.proofs.FirstSteps.{same_some}
@@ -271,11 +270,11 @@ module _ (old fresh : MachineState) (i : ℕ) (answer : Answer) (plan : fresh.pl
   moved : (k : ℕ) → k < s.left → Lasts old.plan (ticked old.plan c moment) (views_after old.plan c s.views moment) k → Keeps old fresh s moment
   moved k less lasts = let b = s.bounded in let next = joint_ticks old.plan old.ids.plan narrow operations c s.views moment both tick.answered in
       let r = remade fresh old.plan old.ids.plan (ticked old.plan c moment) tick.later tick.later_gave (views_after old.plan c s.views moment) next.id_views k plan id_plan tick.agrees tick.agrees_gave tick.core (ticked_ahead old.plan c moment s.ahead)
-          next.sockets next.ids (few_lasts old.plan c s.views moment s.left s.sound tick.answered fits.fitting s.lasts (omega (arith, b)) s.few) lasts (omega (arith, less, b, many)) in let same = r.1 in record {
-            sound = r.0;
-            no_more = omega (arith, less, same);
-            fewer = λ waits_not. omega (arith, less, same);
-          }
+      next.sockets next.ids (few_lasts old.plan c s.views moment s.left s.sound tick.answered fits.fitting s.lasts (omega (arith, b)) s.few) lasts (omega (arith, less, b, many)) in let same = r.1 in record {
+        sound = r.0;
+        no_more = omega (arith, less, same);
+        fewer = λ waits_not. omega (arith, less, same);
+      }
 
   few_seats : length c.seats ≤ 64
   few_seats = let few = s.few.few_seats in let each = s.sound.each in omega (arith, few, each)
@@ -283,6 +282,6 @@ module _ (old fresh : MachineState) (i : ℕ) (answer : Answer) (plan : fresh.pl
   pub step_keeps : (IsAtRest c i → ⊥) → (answer ≡ OfReady asks.NotYet → waits old.plan c moment ≡ true) → Keeps old fresh s moment
   step_keeps rests_not yet_waits = ⊎_elim
       (λ prompt. ⊎_elim (λ t. ⊎_elim (λ rest. absurd (rests_not rest)) still t) (λ t. moved t.0 t.1 t.2)
-          (calls_last old.plan (retries_go old.plan s.sound.limits.requests) c s.views moment s.left s.sound tick.answered prompt fits.fitting fits.counted few_seats s.lasts))
+      (calls_last old.plan (retries_go old.plan s.sound.limits.requests) c s.views moment s.left s.sound tick.answered prompt fits.fitting fits.counted few_seats s.lasts))
       (λ yet. still (yet_waits yet))
       (prompt_or answer)

@@ -1,6 +1,5 @@
 -- Seats that have no step left, and steps of seat 0, which asks no link, holds no life and calls nothing.
-use Rattle.std.proofs.Common.{◌≡◌, ◌≢◌, refl, ℕ, zero, suc, ◌+◌, ◌%◌, ◌<◌, ◌≤◌, ◌==◌, if◌then◌else◌, cond, Bool, true, false, List, [], ◌∷◌, length, slice_set, Option, Some, None, ap, ap₂, sym, ◌∙◌, arith, subst}
-use Rattle.std.proofs.lemmas.Option.{none-some}
+use Rattle.std.proofs.Common.{◌≡◌, refl, ℕ, zero, suc, ◌+◌, ◌<◌, ◌≤◌, ◌==◌, if◌then◌else◌, cond, Bool, true, false, List, [], ◌∷◌, length, Option, Some, None, ap, ap₂, sym, ◌∙◌, arith, subst}
 use Rattle.atomic_table.proofs.Lists.{set_here}
 use mathlib.Core.Option as core
 use lib.ListN.{get_elem?}
@@ -17,7 +16,7 @@ use Rattle.sock_programs.specs.Writings as heads
 use Rattle.sock_programs.specs.Programs.{Program, Do, Say, Sent, Rest, TakeMessage, TakeHome, PutHome, PutBytes, AskReady, Write, Aside, Round, Keep, Retries, LAST_GENERATION}
 use Rattle.sock_programs.specs.Sends.{freed, tell_drop, one_more, passed_telling}
 use Rattle.sock_programs.specs.Cores.{Core, SeatState, word_of, found_at, next_step, resolved, still_waiting}
-use Rattle.sock_programs.specs.Ticks.{Answer, quiet, ticked}
+use Rattle.sock_programs.specs.Ticks.{quiet}
 use Rattle.sock_programs.specs.Runs.{kind_in, IsAtRest}
 use Rattle.sock_runs.proofs.Along.{place_inside}
 use Rattle.call_points.specs.Steps.{after_word}
@@ -35,9 +34,9 @@ use Rattle.client_seats.specs.Seats.{SeatData, around, seat_program}
 use Rattle.reader_seats.specs.Readers.{ReaderData, reader_program}
 use Rattle.sock_core.specs.declared.machine.Tick.{Tick}
 use Rattle.sock_core.specs.declared.machine.Tick.TheVariants.{Idle}
-use Rattle.sock_core.specs.Links.{LinksData, Taken, Given, Agrees, AgreesGave}
-use Rattle.sock_core.specs.Machines.{MachineState, READERS, IsMachine, HasSizes, table_of, machine_sizes, core_with}
-use Rattle.sock_core.specs.Steps.{IsReady, ReadyAt, MayStand, StandsAt, NextIs, HasNoStep, SameBase, Goes, MadeFirst}
+use Rattle.sock_core.specs.Links.{Given, AgreesGave}
+use Rattle.sock_core.specs.Machines.{MachineState, READERS, IsMachine, table_of, machine_sizes, core_with}
+use Rattle.sock_core.specs.Steps.{ReadyAt, StandsAt, NextIs, HasNoStep, SameBase, MadeFirst}
 use Rattle.sock_core.specs.Reading.{HasNoRead}
 use Rattle.sock_core.specs.Telling.{TickTold}
 use Rattle.sock_core.specs.Driving.{AsksNone, IsPlain, TickedFirst, Leaves}

@@ -1,5 +1,5 @@
 -- What the next step of a point tells of the point besides, and what the rule of the ids says of it.
-use Rattle.std.proofs.Common.{◌≡◌, refl, ℕ, ◌+◌, ◌*◌, ◌%◌, ◌<◌, ◌≤◌, Bool, true, false, if◌then◌else◌, Option, Some, None, subst, arith}
+use Rattle.std.proofs.Common.{◌≡◌, refl, ℕ, ◌+◌, ◌<◌, ◌≤◌, Bool, true, false, if◌then◌else◌, Option, Some, subst, arith}
 use Rattle.std.proofs.Props.{props}
 use Rattle.std.proofs.Math.Logic.{∥∥₁_elim}
 use Rattle.sock_words.specs.declared.plain.Plan.{Plan}
@@ -12,7 +12,7 @@ use Rattle.sock_programs.specs.Calls as calls
 use Rattle.sock_programs.specs.Asides as asides
 use Rattle.sock_programs.specs.Asides.{PutCall, id_slot}
 use Rattle.sock_programs.specs.Heads.{HasEnded, Unlocks}
-use Rattle.sock_programs.specs.Posts.{advance_of, ends_call, end_id, unlocked, decided}
+use Rattle.sock_programs.specs.Posts.{ends_call, end_id, unlocked, decided}
 use Rattle.sock_programs.specs.Programs.{Program, Aside, Round}
 use Rattle.sock_runs.specs.Sound.{AllowsWord}
 use Rattle.id_runs.specs.Held.{IdView}
@@ -43,7 +43,6 @@ use Rattle.seat_points.specs.Points.{Around, point_program, look_program, after_
 use Rattle.seat_points.specs.Steps.{First, OfCall, OfAside, first_of, first_in}
 use Rattle.reader_points.specs.Points as reading
 use Rattle.reader_points.specs.declared.point.Closing.{Closing}
-use Rattle.reader_points.specs.declared.point.Lost.{Lost}
 use Rattle.reader_points.specs.declared.point.ReadPoint.{ReadPoint}
 use Rattle.reader_points.specs.declared.point.ReadPoint.TheVariants as reads
 use Rattle.reader_points.specs.declared.point.CloseStep.{CloseStep}

@@ -1,5 +1,5 @@
 -- What is made in hand of a seat before its step changes nothing of a run; and a machine in which memory ran out.
-use Rattle.std.proofs.Common.{◌≡◌, ◌≢◌, refl, ℕ, zero, suc, ◌+◌, ◌-◌, ◌*◌, ◌<◌, ◌≤◌, ⊎_elim, true, false, List, [], ◌∷◌, ◌++◌, map, length, replicate, slice_set, Option, Some, None, ap, ap₂, sym, ◌∙◌, arith, subst}
+use Rattle.std.proofs.Common.{◌≡◌, ◌≢◌, refl, ℕ, zero, suc, ◌+◌, ◌-◌, ◌<◌, ◌≤◌, ⊎_elim, false, List, [], ◌∷◌, ◌++◌, map, length, replicate, slice_set, ap, ap₂, sym, ◌∙◌, arith, subst}
 use Rattle.std.proofs.Props.{props}
 use Rattle.std.proofs.Math.Logic.{∥∥₁_elim}
 use Rattle.std.proofs.Math.ListN.{length-set}
@@ -19,16 +19,16 @@ use Rattle.sock_runs.proofs.Along.{place_inside}
 use Rattle.owed_calls.specs.Lives.{ClosesInTime}
 use Rattle.whole_runs.specs.Heard.{heard_in, taken_in}
 use Rattle.call_slots.specs.Slots.{calls_with}
-use Rattle.client_seats.specs.Seats.{SeatData, around, seat_program}
+use Rattle.client_seats.specs.Seats.{SeatData, seat_program}
 use Rattle.reader_seats.specs.Readers.{ReaderData}
 use Rattle.sock_core.specs.declared.machine.Tick.{Tick}
 use Rattle.sock_core.specs.declared.machine.Tick.TheVariants.{Moved, Waits, Idle}
 use Rattle.sock_core.specs.Links.{LinksData, Taken, Given, IsPaced}
-use Rattle.sock_core.specs.Machines.{MachineState, READERS, IsMachine, IsSoundMachine, HasSizes, KeepsClosed, ArePaced, machine_sizes, table_of, between, resting, clients_with, readers_with, state_of, waiting_of, given_by, calls_of, core_with}
+use Rattle.sock_core.specs.Machines.{MachineState, READERS, IsMachine, IsSoundMachine, HasSizes, KeepsClosed, ArePaced, machine_sizes, table_of, between, resting, clients_with, readers_with, state_of, given_by, core_with}
 use Rattle.sock_core.specs.Reading.{IsCutShort}
-use Rattle.sock_core.specs.Runs.{SameTable, SameLinks, ShowFaults, LinksTell, TakesTell, ShowTakings, TickIs, Follows, TickedWith, Ticked}
+use Rattle.sock_core.specs.Runs.{SameTable, SameLinks, ShowFaults, LinksTell, TakesTell, ShowTakings, TickIs, Follows, Ticked}
 use Rattle.sock_core.specs.Steps.{PreparedAt, IsReady, MayStand, ReadyAt, StandsAt}
-use Rattle.sock_core.specs.Driving.{LastsAtMost, LeavesFewer, LeavesAsMany, Leaves, FirstRests}
+use Rattle.sock_core.specs.Driving.{LastsAtMost, Leaves, FirstRests}
 use Rattle.sock_core.proofs.Joining.{same_links_none}
 use Rattle.sock_core.proofs.Keeping.{remade}
 use Rattle.sock_core.proofs.Lengths.{sizes_kept}
@@ -103,10 +103,10 @@ module _ (old fresh : MachineState) (i : ℕ) (w : PreparedAt old fresh i) where
   prepared_core : (took : Taken) (gave : Given) → core_with made took gave ≡ core_with old took gave
   prepared_core took gave = core_is _ _ _ _ _ _ _ _ _ _ refl refl
       (ap₂ (λ (cs os : List SeatState). cs ++ os) (clients_same w.seat w.seat' w.prepared.waiting old.plan old.links took (machine_sizes old) w.prepared.program 0 old.seats i w.at)
-          (ap (λ (n : ℕ). replicate n resting ++ readers_with old.plan old.links took old.calls READERS old.readers) same_gap))
+      (ap (λ (n : ℕ). replicate n resting ++ readers_with old.plan old.links took old.calls READERS old.readers) same_gap))
       refl
       (ap (λ (ws : List (List Retry)). calls_with old.ids ws (given_by old.plan.links gave) old.ending)
-          (ap₂ (λ (ws vs : List (List Retry)). ws ++ vs) (waiting_same w.seat w.seat' w.prepared.waiting old.seats i w.at) (ap (λ (n : ℕ). replicate n [] ++ map (λ (r : ReaderData). []) old.readers) same_gap)))
+      (ap₂ (λ (ws vs : List (List Retry)). ws ++ vs) (waiting_same w.seat w.seat' w.prepared.waiting old.seats i w.at) (ap (λ (n : ℕ). replicate n [] ++ map (λ (r : ReaderData). []) old.readers) same_gap)))
 
   -- a tick behind it is one of the machine before
   pub prepared_ticks : (new : MachineState) (tick : Tick) → Ticked fresh new i tick → Ticked old new i tick

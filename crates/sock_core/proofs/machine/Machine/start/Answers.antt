@@ -1,4 +1,4 @@
-use Rattle.std.proofs.Common.{◌≡◌, refl, false, map, length, vec_capacity, ap, ◌∙◌, arith}
+use Rattle.std.proofs.Common.{◌≡◌, refl, false, map, length, vec_capacity, ap, sym, ◌∙◌, arith}
 use Rattle.std.proofs.lemmas.List.{length-map}
 use Rattle.sock_io.specs.Link.{end_of}
 use Rattle.sock_programs.specs.Cores.{Calls}
@@ -11,6 +11,9 @@ use Rattle.sock_core.proofs.machine.Machine.start.Goals as goal
 
 pub parts_of-requires : goal.parts_of-requires
 parts_of-requires g c = let few = c.requires.for_.few_opens in omega (arith, few)
+
+pub invariant_of-table : goal.invariant_of-table
+invariant_of-table g c = (sym (ap (λ (a : Calls). a.plan.slots) ((c.in-Ok.ensures.parts c.args.wanted.calls.items).ids_are 0)), c.in-Ok.ensures.room)
 
 pub invariant_of-result : goal.invariant_of-result
 invariant_of-result g c =

@@ -1,4 +1,4 @@
-use Rattle.std.proofs.Common.{◌≢◌, sym, subst, ⊎_elim, refl}
+use Rattle.std.proofs.Common.{◌≢◌, ◌∙◌, sym, subst, ⊎_elim, refl}
 use Rattle.sock_io.specs.declared.link.Ready.TheVariants as asks
 use Rattle.seat_points.specs.declared.point.Step.{Step}
 use Rattle.seat_points.specs.declared.point.Step.TheVariants as firsts
@@ -13,6 +13,9 @@ use Rattle.sock_core.proofs.table.Table.step.Goals as goal
 
 now_not : asks.Now ≢ asks.NotYet
 now_not e = cc
+
+failed_not : asks.Failed ≢ asks.NotYet
+failed_not e = cc
 
 pub returns-in-Some-clause-ok : goal.returns-in-Some-clause-ok
 returns-in-Some-clause-ok g c =
@@ -72,7 +75,10 @@ returns-in-NotYet-clause-ok g c =
     ready_waited c.kind-kind.result c.requires.next (c.kind-kind.ensures own) c.in-AskReady.link c.in-AskReady.is (c.in-NotYet.ensures c.args.seat)
 
 pub returns-in-Now-clause-ok : goal.returns-in-Now-clause-ok
-returns-in-Now-clause-ok g c = ?
+returns-in-Now-clause-ok g c =
+    let seat = seat_data c.args.place.now in
+    let own = around (table_sizes c.args.self.now) seat in
+    ready_moved c.kind-kind.result c.requires.next (c.kind-kind.ensures own) c.in-AskReady.link c.ask_ready.result (λ e. ⊎_elim (λ a. now_not (sym a ∙ e)) (λ a. failed_not (sym a ∙ e)) c.in-Now.is) c.in-AskReady.is (c.ask_ready.ensures c.args.seat)
 
 pub step_aside-requires-clause-room : goal.step_aside-requires-clause-room
 step_aside-requires-clause-room g c =
