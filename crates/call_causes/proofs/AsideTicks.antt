@@ -17,6 +17,7 @@ use Rattle.call_causes.specs.Stories.{At, word_at, SlotFits, SlotsLaw, BirthsLaw
 use Rattle.call_causes.proofs.Births.{IsMake}
 use Rattle.call_causes.proofs.BirthTicks as birth_ticks
 use Rattle.call_causes.proofs.Laters.{made_of, home_before, later}
+use Rattle.call_causes.proofs.Attempts.{attempts_still, unmade_still}
 use Rattle.call_causes.proofs.Moving.{moves}
 use Rattle.call_causes.proofs.Errors as errors
 use Rattle.call_causes.proofs.SlotTicks.{slots_after}
@@ -123,6 +124,8 @@ module _ (p : Plan) (q : IdPlan) (clients : List (List Task)) (gives : ℕ → L
       apart = birth_ticks.apart p q clients gives w w' m plan sized fits births low step found b knows may made (fresh step found may);
       homes = birth_ticks.homes p q clients gives w w' m plan sized fits births low step found b knows may made (fresh step found may) (home_before p q clients gives w w' m plan sized fits births low step found b knows may);
       errors = errors.errors p q clients gives w w' m plan sized fits births is_later step found b knows shows;
+      attempts = attempts_still p q clients gives w w' m plan sized fits births low step found b knows may made (fresh step found may);
+      unmade = unmade_still p q clients gives w w' m plan sized fits births low step found b knows may made (fresh step found may);
       codes = λ i inside some_. subst (λ ws. IsOther p q clients gives (get_or ws (code_word i) 0)) (sym same) (births.codes i inside (subst (λ ws. get_or ws (code_word i) 0 ≢ 0) same some_));
     }
 
@@ -155,6 +158,7 @@ module _ (p : Plan) (q : IdPlan) (clients : List (List Task)) (gives : ℕ → L
       born = λ id asked s. s;
       came = λ k n frame s. s;
       claimed = λ i o s. s;
+      used = λ b u. u;
       within = room;
       apart = (is_later says.0).apart;
     }

@@ -15,7 +15,7 @@ use Rattle.sock_programs.specs.Posts.{advance_of}
 use Rattle.sock_programs.specs.Beside.{found_in, call_at}
 use Rattle.id_runs.specs.Held.{IdView, id_state, MayId}
 use Rattle.id_runs.specs.Goes.{FindsId, SoundIds}
-use Rattle.id_runs.proofs.Steps.{finds_ids}
+use Rattle.id_runs.proofs.Steps.{finds_ids, call_there}
 use Rattle.call_causes.specs.Scenes.{Scene}
 use Rattle.call_causes.specs.Says.{Mark, MayAside}
 use Rattle.call_causes.specs.Stories.{At, word_at, LiesAt, ReadsLaw, IsWordAt, IsTakenWith, KnowsStep}
@@ -69,7 +69,7 @@ module _ (p : Plan) (q : IdPlan) (clients : List (List Task)) (gives : ℕ → L
     knows (LoadIdWord i) t found is may a = let f = finds (LoadIdWord i) t found is may in (is_word i found may is, f.2)
     knows (LockId i from) t found is may a = (is_word i found may.0 is, may.1, taken_with i may.0)
     knows (PostId i from e) t found is may a = let f = finds (PostId i from e) t found is may in (is_word i found may.0 is, may.1, may.3, taken_with i may.0, f.2)
-    knows (UnlockId i from advance) t found is may a = let x = may.1 in let l = x.7 in let att = l.attempt_is in let rg = l.range_is in let room = x.8 in (is_word i found may.0 is, l.state_is, few from (advance_of advance) (omega (arith, att, rg, room)))
+    knows (UnlockId i from advance) t found is may a = let x = may.1 in let l = x.7 in let att = l.attempt_is in let rg = l.range_is in let room = x.8 in (is_word i found may.0 is, l.state_is, few from (advance_of advance) (omega (arith, att, rg, room)), call_there p q w.core.calls ids.plan us ids.rule j u at_view (ids.real j u at_view) i may.0 (Rattle.corr_core.specs.declared.marks.Token.TheVariants.Locked x.0 x.1 x.2 x.5 x.3 x.4 (Rattle.corr_core.specs.declared.marks.Hand.TheVariants.Full x.5), x.5, x.6, refl))
     knows (EndId i) t found is may a = is_word i found may.0 is
     knows (FreeId i) t found is may a = may.0
     knows (TakeCall i) t found is may a = (may.0, lies i (get_elem? w.core.calls.homes i) found refl is)

@@ -29,6 +29,7 @@ module _ (p : Plan) (q : IdPlan) (clients : List (List Task)) (gives : ℕ → L
     born = λ id asked s. y.born id asked (x.born id asked s);
     came = λ k n frame s. y.came k n frame (x.came k n frame s);
     claimed = λ i o s. y.claimed i o (x.claimed i o s);
+    used = λ b u. y.used b (x.used b u);
     within = y.within;
     apart = y.apart;
   }

@@ -23,6 +23,7 @@ use Rattle.call_causes.specs.Stories.{word_at, LiesAt, SlotFits, BirthsLaw, IsBe
 use Rattle.call_causes.proofs.Streams.{frames_stay}
 use Rattle.call_causes.proofs.Effects.{beside, word_is, lies_is}
 use Rattle.call_causes.proofs.Births.{IsMake}
+use Rattle.call_causes.proofs.Attempts.{used_still}
 use Rattle.call_causes.proofs.BirthTicks.{Made, no_more, one_more, one_call, born, born_still, apart}
 
 in_behind : {A : Type 0} (x : A) (xs ys : List A) → In x ys → In x (xs ++ ys)
@@ -194,6 +195,7 @@ module _ (p : Plan) (q : IdPlan) (clients : List (List Task)) (gives : ℕ → L
     born = born_still p q clients gives w w' m plan sized fits law low step found b knows may made fresh;
     came = came_still step found b knows;
     claimed = claims_still step found b;
+    used = used_still p q clients gives w w' m plan sized fits law low step found b knows may made fresh;
     within = room;
     apart = one_call w'.births (apart p q clients gives w w' m plan sized fits law low step found b knows may made fresh) (λ c there. (born p q clients gives w w' m plan sized fits law low step found b knows may made fresh c there).1);
   }

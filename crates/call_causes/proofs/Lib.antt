@@ -11,6 +11,7 @@ pub mod Slots
 pub mod SlotTicks
 pub mod Births
 pub mod BirthTicks
+pub mod Attempts
 pub mod Laters
 pub mod Moving
 pub mod Numbered

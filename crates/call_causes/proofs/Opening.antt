@@ -157,7 +157,7 @@ module _ (p : Plan) (q : IdPlan) (clients : List (List Task)) (gives : ℕ → L
     core0 = beginning p q (all_programs (programs (sizes_of p q) clients) (readers_from calls 0 opens))
 
     abbrev first_scene : Scene
-    first_scene = record { core = beginning p q (all_programs (programs (sizes_of p q) clients) (readers_from calls 0 opens)); claims = []; births = []; sayings = first_sayings (all_programs (programs (sizes_of p q) clients) (readers_from calls 0 opens)) [] }
+    first_scene = record { core = beginning p q (all_programs (programs (sizes_of p q) clients) (readers_from calls 0 opens)); claims = []; births = []; advances = []; sayings = first_sayings (all_programs (programs (sizes_of p q) clients) (readers_from calls 0 opens)) [] }
 
     module _ (long : length (all_programs (programs (sizes_of p q) clients) (readers_from calls 0 opens)) ≡ q.seats) (few_tries : (i : ℕ) (x : Program) → get_elem? (all_programs (programs (sizes_of p q) clients) (readers_from calls 0 opens)) i ≡ core.some x → KeepsFew x) (lead : LeadsTo p q clients gives (beginning p q (all_programs (programs (sizes_of p q) clients) (readers_from calls 0 opens)))) where
       -- ## Programs
@@ -193,6 +193,8 @@ module _ (p : Plan) (q : IdPlan) (clients : List (List Task)) (gives : ℕ → L
         apart = tt;
         homes = λ i asked inside live lies. absurd (let z = free_at i inside in omega (arith, z, live));
         errors = λ i inside live. absurd (let z = free_at i inside in omega (arith, z, live));
+        attempts = λ b there. absurd there;
+        unmade = λ o all. refl;
         codes = fit.codes;
       }
 
@@ -247,6 +249,7 @@ module _ (p : Plan) (q : IdPlan) (clients : List (List Task)) (gives : ℕ → L
         born = λ id asked s. s;
         came = λ k n frame s. s;
         claimed = λ i o s. s;
+        used = λ b u. u;
         within = (has_room p q clients gives slots first_scene (first_marks 0 q.seats) first_claims, lead);
         apart = λ id a b x y. absurd x;
       }

@@ -14,6 +14,7 @@ use Rattle.sock_programs.specs.Heads.{Retry}
 use Rattle.sock_programs.specs.Asides.{call_id, id_slot, id_first}
 use Rattle.sock_programs.specs.Programs.{Program}
 use Rattle.sock_programs.specs.Cores.{resolved, said, next_step}
+use Rattle.call_causes.specs.Lists.{times}
 use Rattle.call_causes.specs.Scenes.{Birth, Claim, Saying, Scene, In, IsOver, IsBorn, IsOther, Named, StaysWithin, Later}
 use Rattle.call_causes.specs.Says.{Mark, SaidBy, SaysOn}
 use Rattle.call_causes.specs.Stories.{At, word_at, tag_at, LiesAt, HasPassed, IsCurrent, SlotsLaw, BirthsLaw, TasksLaw}
@@ -33,6 +34,7 @@ module _ (p : Plan) (q : IdPlan) (clients : List (List Task)) (gives : ℕ → L
     pub gave : w'.core.calls.gave ≡ w.core.calls.gave
     pub births_are : w'.births ≡ w.births
     pub claims_are : w'.claims ≡ w.claims
+    pub advances_are : w'.advances ≡ w.advances
     pub named : (n : ℕ) → Named p q clients gives w n → Named p q clients gives w' n
     pub codes : (i : ℕ) → i < p.slots → get_or w'.core.words (code_word i) 0 ≢ 0 → IsOther p q clients gives (get_or w'.core.words (code_word i) 0)
 
@@ -46,6 +48,7 @@ module _ (p : Plan) (q : IdPlan) (clients : List (List Task)) (gives : ℕ → L
       born = λ id asked there. subst (In (record { id = id; asked = asked })) (sym b.births_are) there;
       came = λ k n f there. subst (λ g. slice_get (streams.stream (get_or g k [])).frames n ≡ Some f) (sym b.gave) there;
       claimed = λ i o there. subst (In (record { slot = i; operation = o })) (sym b.claims_are) there;
+      used = λ c u. (subst (In c) (sym b.births_are) u.0, subst (λ ws. id_first c.id + c.asked.range ≤ (parts (get_or ws (id_word (id_slot c.id)) 0)).first) (sym b.words) u.1, ap (λ ns. times c.asked.operation ns + 2) b.advances_are ∙ u.2);
       within = room;
       apart = λ id a c s t. one_call w.births births.apart (λ y there. (births.born y there).1) id a c (subst (In (record { id = id; asked = a })) b.births_are s) (subst (In (record { id = id; asked = c })) b.births_are t);
     }
@@ -92,6 +95,8 @@ module _ (p : Plan) (q : IdPlan) (clients : List (List Task)) (gives : ℕ → L
       homes = λ k a inside now lies. born_at k a (births.homes k a inside (live k now) ((like k).home a lies));
       errors = λ k inside. subst (λ (y : Parts). 0 < y.state → (y.oldest ≢ 0 → Rattle.call_causes.specs.Scenes.CauseOf p q clients gives w' (call_id k y.first) y.oldest) × (y.second ≢ 0 → Rattle.call_causes.specs.Scenes.CauseOf p q clients gives w' (call_id k y.first) y.second)) (sym (word_same k))
           (λ now. let e = births.errors k inside now in ((λ ne. cause_on p q clients gives w w' beside_later (call_id k (word_at w k).first) (word_at w k).oldest (e.0 ne)), (λ ne. cause_on p q clients gives w w' beside_later (call_id k (word_at w k).first) (word_at w k).second (e.1 ne))));
+      attempts = λ c there now. ap (λ (y : Parts). y.attempt) (word_same (id_slot c.id)) ∙ (births.attempts c (subst (In c) b.births_are there) (back_current c now) ∙ ap (times c.asked.operation) (sym b.advances_are));
+      unmade = λ o all. ap (times o) b.advances_are ∙ births.unmade o (λ c there. all c (subst (In c) (sym b.births_are) there));
       codes = b.codes;
     }
 
@@ -129,6 +134,7 @@ module _ (p : Plan) (q : IdPlan) (clients : List (List Task)) (gives : ℕ → L
       born = λ id asked s. s;
       came = λ k n frame s. s;
       claimed = λ i o s. s;
+      used = λ c u. u;
       within = room;
       apart = beside_later.apart;
     }

@@ -33,6 +33,7 @@ use Rattle.id_runs.specs.Goes as goes
 use Rattle.id_runs.proofs.Loops.{ids_round}
 use Rattle.id_runs.proofs.Programs.{block_goes}
 use Rattle.id_runs.proofs.Owners.{steps_on}
+use Rattle.call_causes.specs.Lists.{advances_by}
 use Rattle.call_causes.specs.Scenes.{Scene, In, Said, IsTaskOf, Named, HasNoneOf, ToldOf, was_said, was_sent, was_begun, AreTold, HasRoom, LeadsTo, StaysWithin, Later}
 use Rattle.call_causes.specs.Says.{Mark, SaidBy, MayDo, FindsDo, NoneOfSetup, SaysOn}
 use Rattle.call_causes.specs.Stories.{At, SlotsLaw, ClaimsLaw, ReadsLaw, IsBehind, births_after, claims_after, mark_after, CallStory, HasStory, undo}
@@ -147,12 +148,12 @@ module _ (p : Plan) (q : IdPlan) (clients : List (List Task)) (gives : ℕ → L
 
     module _ (x : Program) (hand : List Home) (ws : List ℕ) (hs : List (Option Home)) where
       abbrev scene : Scene
-      scene = record { core = with_seat i x hand ws hs w.core; claims = w.claims; births = w.births; sayings = sayings_of (resolved (waiting_at w.core.calls.waiting i) x) w.sayings }
+      scene = record { core = with_seat i x hand ws hs w.core; claims = w.claims; births = w.births; advances = w.advances; sayings = sayings_of (resolved (waiting_at w.core.calls.waiting i) x) w.sayings }
 
       on_sockets : ((n : ℕ) → n < p.names → get_or w.core.words (name_word p n) 0 ≢ 0 → get_or ws (name_word p n) 0 ≢ 0) → AreOther p q clients gives ws → KeepsFew x → Leads (with_seat i x hand ws hs w.core)
           → ((v : Scene) → v.core.words ≡ ws → Later p q clients gives w v → SaidBy v x → SaysOn p q clients gives v m x) → HasStory p q clients gives (with_seat i x hand ws hs w.core)
       on_sockets names codes keeps lead says =
-          let b : IsBeside p q clients gives numbered w scene ms i m at story.slots story.births story.tasks (room, lead) = record { words = refl; homes = refl; gave = refl; births_are = refl; claims_are = refl; named = λ n y. (y.0, names n y.0 y.1); codes = codes } in
+          let b : IsBeside p q clients gives numbered w scene ms i m at story.slots story.births story.tasks (room, lead) = record { words = refl; homes = refl; gave = refl; births_are = refl; claims_are = refl; advances_are = refl; named = λ n y. (y.0, names n y.0 y.1); codes = codes } in
           let few = few_of p q (waiting_at w.core.calls.waiting i) (ids.waiting i) in
           let l = beside_later p q clients gives numbered w scene ms i m at story.slots story.births story.tasks (room, lead) b x (waiting_at w.core.calls.waiting i) few keeps refl refl in
           let said = beside_said p q clients gives numbered w scene ms i m at story.slots story.births story.tasks (room, lead) b x (waiting_at w.core.calls.waiting i) few keeps refl refl in
@@ -179,11 +180,11 @@ module _ (p : Plan) (q : IdPlan) (clients : List (List Task)) (gives : ℕ → L
     -- ## The run is ending
 
     abbrev told_scene : Scene
-    told_scene = record { core = is_ending w.core; claims = w.claims; births = w.births; sayings = w.sayings }
+    told_scene = record { core = is_ending w.core; claims = w.claims; births = w.births; advances = w.advances; sayings = w.sayings }
 
     pub told_story : Leads (is_ending w.core) → HasStory p q clients gives (is_ending w.core)
     told_story lead =
-        let b : IsBeside p q clients gives numbered w told_scene ms i m at story.slots story.births story.tasks (room, lead) = record { words = refl; homes = refl; gave = refl; births_are = refl; claims_are = refl; named = λ n y. y; codes = story.births.codes } in
+        let b : IsBeside p q clients gives numbered w told_scene ms i m at story.slots story.births story.tasks (room, lead) = record { words = refl; homes = refl; gave = refl; births_are = refl; claims_are = refl; advances_are = refl; named = λ n y. y; codes = story.births.codes } in
         let l = beside_later p q clients gives numbered w told_scene ms i m at story.slots story.births story.tasks (room, lead) b Rest [] tt tt refl refl in record {
           scene = told_scene;
           marks = ms;
@@ -264,6 +265,7 @@ module _ (p : Plan) (q : IdPlan) (clients : List (List Task)) (gives : ℕ → L
         core = with_seat i (next found) seat.hand w.core.words w.core.homes (record w.core { calls = calls_after step found w.core.calls });
         claims = claims_after p q clients gives step found m w.claims;
         births = births_after p q clients gives step found m w.births;
+        advances = advances_by step found w.core.calls ++ w.advances;
         sayings = sayings_of (resolved (waiting_at (calls_after step found w.core.calls).waiting i) (next found)) w.sayings;
       }
 
@@ -272,7 +274,7 @@ module _ (p : Plan) (q : IdPlan) (clients : List (List Task)) (gives : ℕ → L
 
       on_ids : Leads (with_seat i (next found) seat.hand w.core.words w.core.homes (record w.core { calls = calls_after step found w.core.calls })) → HasStory p q clients gives (with_seat i (next found) seat.hand w.core.words w.core.homes (record w.core { calls = calls_after step found w.core.calls }))
       on_ids lead =
-          let b : IsBehind p q clients gives w aside_scene m step found = record { words = refl; homes = refl; gave = refl; births = refl; claims = refl; sayings = λ s there. sayings_keep (resolved (waiting_at (calls_after step found w.core.calls).waiting i) (next found)) w.sayings s there; overs = λ x y there. overs_keep (resolved (waiting_at (calls_after step found w.core.calls).waiting i) (next found)) w.sayings x y there } in
+          let b : IsBehind p q clients gives w aside_scene m step found = record { words = refl; homes = refl; gave = refl; births = refl; claims = refl; advances = refl; sayings = λ s there. sayings_keep (resolved (waiting_at (calls_after step found w.core.calls).waiting i) (next found)) w.sayings s there; overs = λ x y there. overs_keep (resolved (waiting_at (calls_after step found w.core.calls).waiting i) (next found)) w.sayings x y there } in
           let kn = knows p q clients gives w us ids ms i m at story.reads u at_view step t found is go.0 says.0 in
           let law = claims_after_step p q clients gives numbered w aside_scene ms i m at ids.plan (is_sized p q clients gives w us ids) (story.slots.fits i m at) story.births w.core.outcomes w.sayings story.tasks story.claims step found b kn says.0 in
           let room' : StaysWithin p q clients gives aside_scene = (has_room p q clients gives slots aside_scene (set ms i (mark_after p q clients gives step found m)) law, lead) in

@@ -7,9 +7,10 @@ use Rattle.brpc_model.specs.Meta.{ResponseMeta}
 use Rattle.brpc_model.specs.Frame.{Frame}
 use Rattle.brpc_model.specs.Stream.{stream}
 use Rattle.brpc_model.specs.Causes.{HasFault}
-use Rattle.corr_core.specs.Word.{error_of, code_of}
+use Rattle.corr_core.specs.Word.{parts, error_of, code_of}
 use Rattle.corr_core.specs.declared.marks.Plan.{Plan as IdPlan}
-use Rattle.id_rule.specs.Lawful.{call_word}
+use Rattle.id_rule.specs.Lawful.{id_word, call_word}
+use Rattle.sock_programs.specs.Asides.{id_slot, id_first}
 use Rattle.sock_model.specs.Layout.{name_word}
 use Rattle.sock_message.specs.Asked.{Asked, name_of}
 use Rattle.sock_programs.specs.declared.task.Op.{Op}
@@ -17,7 +18,7 @@ use Rattle.sock_programs.specs.declared.task.Op.TheVariants as ops
 use Rattle.sock_programs.specs.declared.task.Task.{Task}
 use Rattle.sock_programs.specs.Posts.{WHOLE}
 use Rattle.sock_programs.specs.Cores.{Core}
-use Rattle.call_causes.specs.Lists.{given}
+use Rattle.call_causes.specs.Lists.{given, times}
 
 -- the id of a call, which has the versions behind it, as many as the call's range less one
 pub record Birth : Type 0 where
@@ -34,11 +35,12 @@ pub record Claim : Type 0 where
   pub slot : ℕ
   pub operation : ℕ
 
--- a core, the slots that were claimed so far, the ids that were made, and what was said, each the latest first
+-- a core, the slots that were claimed so far, the ids that were made, the operations of the calls whose attempt was advanced, and what was said, each the latest first
 pub record Scene : Type 0 where
   pub core : Core
   pub claims : List Claim
   pub births : List Birth
+  pub advances : List ℕ
   pub sayings : List Saying
 
 -- x is one of the list
@@ -118,6 +120,10 @@ module _ (p : Plan) (q : IdPlan) (clients : List (List Task)) (gives : ℕ → L
   -- an `expire` of the call was told that it ended it, or that its error waits
   abbrev pub IsExpired : Scene → Asked → Type 0
   IsExpired w asked = (client : ℕ) × (t : Task) × IsTaskOf client t × (t.op ≡ ops.Expire asked.operation) × (Said w t.number Expired ⊎ Said w t.number Queued)
+
+  -- the range of an id has ended, and its call had come to the last attempt that it might have
+  abbrev pub HasUsed : Scene → Birth → Type 0
+  HasUsed w b = In b w.births × (id_first b.id + b.asked.range ≤ (parts (slice_index w.core.calls.words (id_word (id_slot b.id)))).first) × (times b.asked.operation w.advances + 2 ≡ b.asked.range)
 
   -- a frame that came is a response of the call with this id, and this holds of it
   abbrev pub IsAnsweredIn : Scene → ℕ → Asked → (Frame → Type 0) → Type 0
@@ -220,5 +226,6 @@ module _ (p : Plan) (q : IdPlan) (clients : List (List Task)) (gives : ℕ → L
     pub born : (id : ℕ) (asked : Asked) → IsBorn w id asked → IsBorn w' id asked
     pub came : (k n : ℕ) (frame : Frame) → Came w k n frame → Came w' k n frame
     pub claimed : (i o : ℕ) → IsClaimed w i o → IsClaimed w' i o
+    pub used : (b : Birth) → HasUsed w b → HasUsed w' b
     pub within : StaysWithin w'
     pub apart : (id : ℕ) (a b : Asked) → IsBorn w' id a → IsBorn w' id b → a ≡ b

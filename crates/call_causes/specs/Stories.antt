@@ -16,7 +16,7 @@ use Rattle.sock_programs.specs.Asides.{Step, ClaimId, PutCall, MakeId, StoreCall
 use Rattle.sock_programs.specs.Beside.{calls_after}
 use Rattle.sock_programs.specs.Posts.{advance_of}
 use Rattle.sock_programs.specs.Cores.{Core, SeatState}
-use Rattle.call_causes.specs.Lists.{given}
+use Rattle.call_causes.specs.Lists.{given, times, advances_by}
 use Rattle.call_causes.specs.Scenes.{Birth, Claim, Saying, Scene, In, IsOver, Said, IsBorn, IsOther, CauseOf, Begun, IsTaskOf, WhyEnded, AreTold, IsClaimed}
 use Rattle.call_causes.specs.Says.{Shape, shape_of, with_attempt, unlocked_by, Slot, NoSlot, Claims, Locked, Holds, Leaves, Mark, with_slot, with_owed, with_made, with_done, put_in, taken_out, given_more, SaysOn}
 
@@ -89,6 +89,9 @@ module _ (p : Plan) (q : IdPlan) (clients : List (List Task)) (gives : ℕ → L
     -- each error that waits has its cause, and each code of a socket is that of an error
     pub errors : (i : ℕ) → i < q.slots → 0 < (word_at w i).state
         → ((word_at w i).oldest ≢ 0 → CauseOf p q clients gives w (call_id i (word_at w i).first) (word_at w i).oldest) × ((word_at w i).second ≢ 0 → CauseOf p q clients gives w (call_id i (word_at w i).first) (word_at w i).second)
+    -- the attempt of an id is how often it was advanced, and of no call without an id it was
+    pub attempts : (b : Birth) → In b w.births → IsCurrent w b → (word_at w (id_slot b.id)).attempt ≡ times b.asked.operation w.advances
+    pub unmade : (o : ℕ) → ((b : Birth) → In b w.births → b.asked.operation ≢ o) → times o w.advances ≡ 0
     pub codes : (i : ℕ) → i < p.slots → slice_index w.core.words (code_word i) ≢ 0 → IsOther p q clients gives (slice_index w.core.words (code_word i))
 
   -- ## Tasks, and what is said
@@ -212,6 +215,7 @@ module _ (p : Plan) (q : IdPlan) (clients : List (List Task)) (gives : ℕ → L
     pub gave : w'.core.calls.gave ≡ (calls_after step found w.core.calls).gave
     pub births : w'.births ≡ births_after step found m w.births
     pub claims : w'.claims ≡ claims_after step found m w.claims
+    pub advances : w'.advances ≡ advances_by step found w.core.calls ++ w.advances
     pub sayings : (s : Saying) → In s w.sayings → In s w'.sayings
     pub overs : (a b : Saying) → IsOver a b w.sayings → IsOver a b w'.sayings
 
@@ -238,7 +242,7 @@ module _ (p : Plan) (q : IdPlan) (clients : List (List Task)) (gives : ℕ → L
   KnowsStep w (LoadIdWord i) found = IsWordAt w i found × HasOldest found
   KnowsStep w (LockId i from) found = IsWordAt w i found × ((parts from).state ≡ 1) × IsTakenWith w i
   KnowsStep w (PostId i from e) found = IsWordAt w i found × (((parts from).state ≡ 1) ⊎ (((parts from).state ≡ 2) × ((parts from).second ≡ 0))) × (e < 32768) × IsTakenWith w i × HasOldest found
-  KnowsStep w (UnlockId i from advance) found = IsWordAt w i found × ((parts from).state ≡ 2) × ((parts from).attempt + advance_of advance ≤ 6)
+  KnowsStep w (UnlockId i from advance) found = IsWordAt w i found × ((parts from).state ≡ 2) × ((parts from).attempt + advance_of advance ≤ 6) × ((asked : Asked) × LiesAt w i asked)
   KnowsStep w (EndId i) found = IsWordAt w i found
   KnowsStep w (FreeId i) found = i < q.slots
   KnowsStep w (TakeCall i) found = (i < q.slots) × LiesAt w i found
