@@ -18,3 +18,4 @@ pub mod Storied
 pub mod Dropped
 pub mod Sends
 pub mod Plain
+pub mod Lists
