@@ -1,7 +1,16 @@
-use Rattle.std.proofs.Common.{◌≡◌, refl, arith, ap, ◌∙◌, length, map}
+use Rattle.std.proofs.Common.{◌≡◌, refl, arith, ap, ◌∙◌, length, map, take, List}
 use Rattle.std.proofs.Math.Seq.{map-set_same}
+use Rattle.std.proofs.lemmas.List.{length-take}
 use Rattle.sock_io.specs.Link.{end_of}
-use Rattle.sock_core.proofs.TableCuts.{cut_halves, cut_along, on_err}
+use Rattle.reader_points.specs.declared.point.ReadStep.TheVariants as steps
+use Rattle.call_points.specs.declared.aside.Aside.TheVariants as variants
+use Rattle.reader_seats.specs.Readers.{around}
+use Rattle.reader_seats.specs.GoesOn.{taking_of}
+use Rattle.sock_core.proofs.Stepping.{written}
+use Rattle.sock_core.proofs.TableCuts.{cut_halves, cut_take, cut_along, on_err}
+use Rattle.sock_core.proofs.TableReads.{reads_bytes, few_room}
+use Rattle.sock_core.proofs.TableReadings.{next_along}
+use Rattle.sock_core.proofs.TableTakes.{taken_from}
 use Rattle.sock_core.proofs.table.Table.read_bytes.Goals as goal
 
 pub returns-in_err-settle-clause-err : goal.returns-in_err-settle-clause-err
@@ -14,7 +23,22 @@ returns-in_err-settle-clause-err g c =
     refl))
 
 pub returns-in_default-clause-err : goal.returns-in_default-clause-err
-returns-in_default-clause-err g c = ?
+returns-in_default-clause-err g c =
+    let reader = c.args.reader.now in
+    let next = next_along reader (steps.Aside (variants.TakeBytes c.args.link c.args.count)) c.self.view_is c.requires.next in
+    let room = take c.args.count c.take_into-answer.new.room in
+    let outcomes = written c.self.inside.outcomes.len c.follow_take.new.outcomes _ (omega (arith, c.self.inside.outcomes.ok)) in
+    let few = few_room reader.point in
+    let is = (reads_bytes (around c.self.inside.calls.items reader) reader.point c.args.link c.args.count next).1 in
+    let long = length-take c.args.count c.take_into-answer.new.room in
+    let kept = c.take_into-answer.auto.room in
+    let inside = c.if-from-len.false in
+    let from = taken_from (λ e. g.O.Out.state e.out) (λ e. g.I.In.state e.inn) _ _ c.self.inside.ends.items c.from-2.result c.args.link c.args.count c.index_mut-ends.result.now c.settle.new.ends _ c.from-2.ensures (omega (arith, inside, c.from.ensures, c.len.ensures, c.self.inside.ends.ok)) c.index_mut-ends.ensures.value refl refl refl room c.take_into-answer.result
+        (omega (arith, few, is, long, kept, c.deref_mut.ensures.len, c.self.invariant.1)) c.in_ok-settle.ensures.out c.in_ok-settle.ensures.inn refl c.take_into-answer.ensures refl refl in
+    cut_along c.self.view_is (cut_take _ _ c.args.link c.args.count (taking_of room c.take_into-answer.result) from refl refl refl refl refl refl refl
+    (map-set_same (λ e. g.O.Out.state e.out) c.self.inside.ends.items c.from-2.result _ c.index_mut-ends.result.now (c.in_ok-settle.ensures.out ∙ ap (λ e. g.O.Out.state e.out) c.index_mut-ends.ensures.value))
+    (ap length outcomes ∙ c.follow_take.auto.outcomes ∙ ap length c.deref_mut-2.ensures.value))
 
 pub returns-clause-ok : goal.returns-clause-ok
-returns-clause-ok g c = ?
+returns-clause-ok g c =
+    let h = c.in-Ok.ensures in ?
