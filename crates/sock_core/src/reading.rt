@@ -1,4 +1,5 @@
-ghost use Rattle.std.specs.Prelude.{◌≡◌, ◌≤◌, ℕ, true, false, List, IfOk, OnErr, length};
+ghost use Rattle.std.specs.Prelude.{◌≡◌, ◌≤◌, ◌<◌, ℕ, true, false, List, IfOk, OnErr, length, take};
+ghost use Rattle.sock_io.specs.Link.{TakeStep};
 ghost use Rattle.sock_programs.specs.Ticks.{OfTake, is_nothing};
 ghost use Rattle.reader_seats.specs.GoesOn.{taking_of};
 ghost use Rattle.sock_core.specs.Steps.{IsSized, IsOnWord};
@@ -30,6 +31,15 @@ fn take_tick(link: u16, answer: Take, ending: bool) -> Tick
         }
         Take::Took(_) | Take::End | Take::Closed | Take::Failed => Tick::Moved(Kind::R1),
     }
+}
+
+/// A reading half gives at most so many bytes into the front of the room.
+fn take_into<I: In>(inn: &mut I, room: &mut [u8], count: usize) -> Take
+    requires some { 0 < count }
+    requires fits { count ≤ length room.old }
+    ensures { TakeStep (I.state inn.old) (I.state inn.new) (take count room.new) result }
+{
+    inn.take(&mut room[..count])
 }
 
 impl<O: Out, I: In, P: Peer> Table<O, I, P> {
@@ -101,12 +111,11 @@ impl<O: Out, I: In, P: Peer> Table<O, I, P> {
         }
         let ends = &mut self.ends[usize::from(link)];
         links.settle(ends)?;
-        let room = &mut self.room[..count as usize];
-        let answer = ends.inn.take(room);
+        let answer = take_into(&mut ends.inn, &mut self.room, count as usize);
         let Ok(()) = reader.follow_take(
             &mut self.pool,
             &self.calls,
-            room,
+            &self.room[..count as usize],
             answer,
             self.ending,
             &mut self.outcomes,
