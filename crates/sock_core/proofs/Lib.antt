@@ -40,3 +40,4 @@ pub mod TableSeats
 pub mod TablePlaces
 pub mod TableTellings
 pub mod PointFacts
+pub mod TableReadings

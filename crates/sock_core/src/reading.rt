@@ -1,4 +1,4 @@
-ghost use Rattle.std.specs.Prelude.{◌≡◌, ◌<◌, ◌≤◌, ℕ, true, false, List, IfOk, OnErr, length, take};
+ghost use Rattle.std.specs.Prelude.{◌≡◌, ◌≤◌, ◌<◌, ℕ, true, false, List, IfOk, OnErr, length, take};
 ghost use Rattle.sock_io.specs.Link.{TakeStep};
 ghost use Rattle.sock_programs.specs.Ticks.{OfTake, is_nothing};
 ghost use Rattle.reader_seats.specs.GoesOn.{taking_of};
@@ -33,7 +33,7 @@ fn take_tick(link: u16, answer: Take, ending: bool) -> Tick
     }
 }
 
-/// Takes at most so many bytes of a link into the front of the room.
+/// A reading half gives at most so many bytes into the front of the room.
 fn take_into<I: In>(inn: &mut I, room: &mut [u8], count: usize) -> Take
     requires some { 0 < count }
     requires fits { count ≤ length room.old }
@@ -118,11 +118,11 @@ impl<O: Out, I: In, P: Peer> Table<O, I, P> {
         let count = count as usize;
         let ends = &mut self.ends[usize::from(link)];
         links.settle(ends)?;
-        let answer = take_into(&mut ends.inn, &mut self.room, count);
+        let answer = take_into(&mut ends.inn, &mut self.room, count as usize);
         let Ok(()) = reader.follow_take(
             &mut self.pool,
             &self.calls,
-            &self.room[..count],
+            &self.room[..count as usize],
             answer,
             self.ending,
             &mut self.outcomes,

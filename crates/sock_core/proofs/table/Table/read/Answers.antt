@@ -1,12 +1,14 @@
-use Rattle.std.proofs.Common.{refl, ap, sym, subst, ◌∙◌}
+use Rattle.std.proofs.Common.{◌≡◌, refl, ap, ◌∙◌, sym, subst}
 use Rattle.corr_core.specs.declared.marks.Plan.{Plan as IdPlan}
 use Rattle.sock_programs.specs.Asides as asides
+use Rattle.call_points.specs.declared.aside.Aside.TheVariants as variants
 use Rattle.call_slots.specs.Slots.{as_found}
 use Rattle.reader_points.specs.declared.point.ReadStep.{ReadStep}
-use Rattle.sock_core.specs.Reading.{IsNextRead}
+use Rattle.reader_points.specs.declared.point.ReadStep.TheVariants as steps
+use Rattle.sock_core.specs.Reading.{IsNextRead, ReadTold}
 use Rattle.sock_core.proofs.TableAsides.{same_ids}
 use Rattle.sock_core.proofs.TableCuts.{cut_ids, cut_along}
-use Rattle.sock_core.proofs.TableReadings.{call_told, told_as}
+use Rattle.sock_core.proofs.TableReadings.{told_along, next_along, taken_told, step_along}
 use Rattle.sock_core.proofs.table.Table.read.Goals as goal
 
 pub invariant_of-self : goal.invariant_of-self
@@ -26,8 +28,8 @@ returns-in_default-clause-err g c =
 
 pub returns-in-Some-clause-ok : goal.returns-in-Some-clause-ok
 returns-in-Some-clause-ok g c =
+    let same = same_ids c.self.inside.ids c.take_call.new.self (asides.TakeCall c.in-Aside-TakeCall.slot) (as_found c.take_call.result) c.take_call.ensures in
     let reader = c.args.reader.now in
-    let slot = c.in-Aside-TakeCall.slot in
-    let same = same_ids c.self.inside.ids c.take_call.new.self (asides.TakeCall slot) (as_found c.take_call.result) c.take_call.ensures in
-    told_as c.in-Aside-TakeCall.is (call_told c.self.view_is slot c.in-Some.call (subst (λ (s : ReadStep). IsNextRead c.args.self.now reader s) c.in-Aside-TakeCall.is c.requires.next)
-    (record { plan = refl; id_plan = same; calls = refl; ending = refl; letters = refl; nexts = refl }) c.in-Some.ensures (c.follow_call.ensures c.self.inside.calls.items c.self.inside.outcomes.items) refl refl refl)
+    let next = next_along reader (steps.Aside (variants.TakeCall c.in-Aside-TakeCall.slot)) c.self.view_is (subst (λ (s : ReadStep). IsNextRead c.args.self.now reader s) c.in-Aside-TakeCall.is c.requires.next) in
+    step_along (sym c.in-Aside-TakeCall.is) (told_along c.self.view_is (taken_told c.args.seat reader c.follow_call.new.self c.in-Aside-TakeCall.slot c.in-Some.call (record { plan = refl; id_plan = same; calls = refl; ending = refl; letters = refl; nexts = refl }) next c.in-Some.ensures
+    (c.follow_call.ensures c.self.inside.calls.items c.self.inside.outcomes.items) refl refl refl))
