@@ -40,4 +40,3 @@ pub mod TableSeats
 pub mod TablePlaces
 pub mod TableTellings
 pub mod PointFacts
-pub mod TableReadings

@@ -115,7 +115,6 @@ impl<O: Out, I: In, P: Peer> Table<O, I, P> {
         if usize::from(link) >= self.ends.len() || count == 0 {
             return Err(NoMemory);
         }
-        let count = count as usize;
         let ends = &mut self.ends[usize::from(link)];
         links.settle(ends)?;
         let answer = take_into(&mut ends.inn, &mut self.room, count as usize);
