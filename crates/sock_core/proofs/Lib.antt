@@ -39,6 +39,7 @@ pub mod TableRoom
 pub mod TableAsides
 pub mod TableFlat
 pub mod TableReads
+pub mod TableReadings
 pub mod TableTakes
 pub mod TableCuts
 pub mod TableGoes
@@ -46,4 +47,3 @@ pub mod TableSeats
 pub mod TablePlaces
 pub mod TableTellings
 pub mod PointFacts
-pub mod TableReadings
