@@ -30,7 +30,8 @@ pub returns-in-Some-clause-ok : goal.returns-in-Some-clause-ok
 returns-in-Some-clause-ok g c =
     let same = same_ids c.self.inside.ids c.take_call.new.self (asides.TakeCall c.in-Aside-TakeCall.slot) (as_found c.take_call.result) c.take_call.ensures in
     let reader = c.args.reader.now in
-    let is : c.args.step ≡ steps.Aside (variants.TakeCall c.in-Aside-TakeCall.slot) = c.in-Aside-TakeCall.is ∙ ap steps.Aside c.in-Aside-TakeCall.field-0-is in
+    let own = rw c.in-Aside-TakeCall.is at c.in-Aside-TakeCall.field-0-is in
+    let is : c.args.step ≡ steps.Aside (variants.TakeCall c.in-Aside-TakeCall.slot) = c.in-Aside-TakeCall.is ∙ ap steps.Aside own in
     let next = next_along reader (steps.Aside (variants.TakeCall c.in-Aside-TakeCall.slot)) c.self.view_is (subst (λ (s : ReadStep). IsNextRead c.args.self.now reader s) is c.requires.next) in
     step_along (sym is) (told_along c.self.view_is (taken_told c.args.seat reader c.follow_call.new.self c.in-Aside-TakeCall.slot c.in-Some.call (record { plan = refl; id_plan = same; calls = refl; ending = refl; letters = refl; nexts = refl }) next c.in-Some.ensures
     (c.follow_call.ensures c.self.inside.calls.items c.self.inside.outcomes.items) refl refl refl))
