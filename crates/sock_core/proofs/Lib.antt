@@ -39,6 +39,7 @@ pub mod TableRoom
 pub mod TableAsides
 pub mod TableFlat
 pub mod TableReads
+pub mod TableReadings
 pub mod TableTakes
 pub mod TableCuts
 pub mod TableGoes

@@ -1,5 +1,5 @@
 -- Where memory runs out in a step: the tables keep their sizes.
-use Rattle.std.proofs.Common.{◌≡◌, ◌≢◌, refl, ℕ, zero, suc, ◌⊎◌, inl, inr, ⊎_elim, Bool, true, List, [], ◌∷◌, length, slice_set, Option, Some, None, option_map, ap, sym, ◌∙◌, subst}
+use Rattle.std.proofs.Common.{◌≡◌, ◌≢◌, refl, ℕ, zero, suc, ◌⊎◌, inl, inr, ⊎_elim, Bool, true, List, [], ◌∷◌, length, slice_set, Option, Some, None, option_map, Result, Ok, Err, OnErr, ap, sym, ◌∙◌, subst}
 use Rattle.std.proofs.Math.ListN.{length-set}
 use Rattle.std.proofs.lemmas.Option.{same_Some}
 use Rattle.std.specs.Prelude.{slice_get}
@@ -45,6 +45,30 @@ cut_ids t u plan ids calls ending letters links ends outcomes = record {
   prompt = prompt_same t.links u.links (ap (λ (l : LinksData). l.outs) links);
   tell = tell_same t.links u.links (ap (λ (l : LinksData). l.inns) links);
 }
+
+-- what is told of the links didn't change
+pub cut_halves : (t u : TableState) → u.plan ≡ t.plan → u.ids.plan ≡ t.ids.plan → u.calls ≡ t.calls → u.ending ≡ t.ending → length u.letters ≡ length t.letters → length u.links.holders ≡ length t.links.holders → length u.links.nexts ≡ length t.links.nexts → u.links.outs ≡ t.links.outs → u.links.inns ≡ t.links.inns → u.ends ≡ t.ends →
+    length u.outcomes ≡ length t.outcomes → IsCutTable t u
+cut_halves t u plan ids own ending letters holders nexts outs inns ends outcomes = record {
+  plan = plan;
+  ids = ids;
+  calls = own;
+  ending = ending;
+  letters = letters;
+  holders = holders;
+  nexts = nexts;
+  outs = ap length outs;
+  inns = ap length inns;
+  outcomes = outcomes;
+  as_many = ap length ends;
+  each = each_same t.ends u.ends ends;
+  prompt = prompt_same t.links u.links outs;
+  tell = tell_same t.links u.links inns;
+}
+
+pub on_err : {A E : Type 0} (r : Result A E) {Q : Type 0} → Q → OnErr r Q
+on_err (Ok a) q = tt
+on_err (Err e) q = q
 
 -- nothing did
 pub cut_none : {t u : TableState} → u ≡ t → IsCutTable t u

@@ -1,4 +1,5 @@
-ghost use Rattle.std.specs.Prelude.{◌≡◌, ◌≤◌, ℕ, true, false, List, IfOk, OnErr, length};
+ghost use Rattle.std.specs.Prelude.{◌≡◌, ◌≤◌, ◌<◌, ℕ, true, false, List, IfOk, OnErr, length, take};
+ghost use Rattle.sock_io.specs.Link.{TakeStep};
 ghost use Rattle.sock_programs.specs.Ticks.{OfTake, is_nothing};
 ghost use Rattle.reader_seats.specs.GoesOn.{taking_of};
 ghost use Rattle.sock_core.specs.Steps.{IsSized, IsOnWord};
@@ -30,6 +31,15 @@ fn take_tick(link: u16, answer: Take, ending: bool) -> Tick
         }
         Take::Took(_) | Take::End | Take::Closed | Take::Failed => Tick::Moved(Kind::R1),
     }
+}
+
+/// A reading half gives at most so many bytes into the front of the room.
+fn take_into<I: In>(inn: &mut I, room: &mut [u8], count: usize) -> Take
+    requires some { 0 < count }
+    requires fits { count ≤ length room.old }
+    ensures { TakeStep (I.state inn.old) (I.state inn.new) (take count room.new) result }
+{
+    inn.take(&mut room[..count])
 }
 
 impl<O: Out, I: In, P: Peer> Table<O, I, P> {
@@ -94,6 +104,12 @@ impl<O: Out, I: In, P: Peer> Table<O, I, P> {
         requires sized { IsSized self.old }
         ensures ok { IfOk result (λ tick. (seat : ℕ) → ReadTold self.old self.new seat reader.old reader.new (ReadStep.Aside (Aside.TakeBytes link count)) tick) }
         ensures err { OnErr result (IsCutTable self.old self.new) }
+        ensures asked { L.asked links.new ≡ L.asked links.old }
+        ensures accepted { L.accepted links.new ≡ L.accepted links.old }
+        ensures back { L.back links.new ≡ L.back links.old }
+        ensures done { L.done links.new ≡ L.done links.old }
+        ensures faults { L.faults links.new ≡ L.faults links.old }
+        ensures prompt { L.prompt links.new ≡ L.prompt links.old }
     {
         // A reader takes some bytes of a link that there is.
         if usize::from(link) >= self.ends.len() || count == 0 {
@@ -101,12 +117,11 @@ impl<O: Out, I: In, P: Peer> Table<O, I, P> {
         }
         let ends = &mut self.ends[usize::from(link)];
         links.settle(ends)?;
-        let room = &mut self.room[..count as usize];
-        let answer = ends.inn.take(room);
+        let answer = take_into(&mut ends.inn, &mut self.room, count as usize);
         let Ok(()) = reader.follow_take(
             &mut self.pool,
             &self.calls,
-            room,
+            &self.room[..count as usize],
             answer,
             self.ending,
             &mut self.outcomes,
@@ -130,6 +145,12 @@ impl<O: Out, I: In, P: Peer> Table<O, I, P> {
         requires sized { IsSized self.old }
         ensures ok { IfOk result (λ tick. ReadTold self.old self.new seat reader.old reader.new step tick) }
         ensures err { OnErr result (IsCutTable self.old self.new) }
+        ensures asked { L.asked links.new ≡ L.asked links.old }
+        ensures accepted { L.accepted links.new ≡ L.accepted links.old }
+        ensures back { L.back links.new ≡ L.back links.old }
+        ensures done { L.done links.new ≡ L.done links.old }
+        ensures faults { L.faults links.new ≡ L.faults links.old }
+        ensures prompt { L.prompt links.new ≡ L.prompt links.old }
     {
         match step {
             ReadStep::Call(call) => self.read_call(reader, seat, call),
