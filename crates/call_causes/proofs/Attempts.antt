@@ -3,9 +3,8 @@ use Rattle.std.proofs.Common.{◌≡◌, ◌≢◌, ℕ, ◌+◌, ◌*◌, ◌<�
 use mathlib.Core.Option as core
 use mathlib.Core.Logic.{dite}
 use native.Mathlib.Decide.{ℕ_discrete}
-use lib.ListN.{get_elem?}
 use Rattle.sock_words.specs.declared.plain.Plan.{Plan}
-use Rattle.corr_core.specs.Word.{Parts, parts, made_word, posted_word, unlocked_word, free_word}
+use Rattle.corr_core.specs.Word.{Parts, parts, posted_word, unlocked_word, free_word}
 use Rattle.corr_core.specs.declared.marks.Plan.{Plan as IdPlan}
 use Rattle.id_rule.specs.Lawful.{id_word, all_words}
 use Rattle.sock_message.specs.Asked.{Asked}
@@ -15,9 +14,9 @@ use Rattle.sock_programs.specs.Beside.{call_at}
 use Rattle.sock_programs.specs.Posts.{packed, advance_of}
 use Rattle.id_runs.proofs.Keeps.{parts_packed}
 use Rattle.call_causes.specs.Lists.{times}
-use Rattle.call_causes.specs.Scenes.{Birth, Scene, In, IsBorn, HasUsed}
+use Rattle.call_causes.specs.Scenes.{Birth, Scene, In, HasUsed}
 use Rattle.call_causes.specs.Says.{Claims, Mark, MayAside}
-use Rattle.call_causes.specs.Stories.{word_at, LiesAt, SlotFits, HasPassed, IsCurrent, AreApart, BirthsLaw, IsBehind, KnowsStep}
+use Rattle.call_causes.specs.Stories.{word_at, LiesAt, SlotFits, IsCurrent, BirthsLaw, IsBehind, KnowsStep}
 use Rattle.call_causes.proofs.Posts.{locked_parts, id_back}
 use Rattle.call_causes.proofs.Effects.{Touches, beside, word_is, word_stays}
 use Rattle.call_causes.proofs.Slots.{queued_parts}

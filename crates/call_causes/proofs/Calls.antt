@@ -18,7 +18,7 @@ use Rattle.sock_programs.specs.Posts.{post, post_with, posted, decide, decided}
 use Rattle.sock_programs.specs.Attempts.{attempt, begin_call, claim_id, call, tried_again, retry_locked, retry, expire_outcome, expire, join}
 use Rattle.id_runs.proofs.Loops.{not_equal}
 use Rattle.call_causes.specs.Scenes.{Birth, Scene, In, Said, IsOver, IsBorn, IsOpened, SeeksName, IsClaimed, CauseOf, of_expiry, by_expiry, Named, Begun, IsTaskOf, HasNoneOf, NoneFound, HasBegunIn, HasNotBegunIn, WhyOwn, IsJust, ToldOf, was_said, was_sent, was_begun, AreTold}
-use Rattle.call_causes.specs.Says.{Shape, shape_of, HasShape, with_attempt, unlocked_by, NoSlot, Claims, Locked, Mark, with_slot, with_owed, with_made, with_done, IsFree, put_in, SaidBy, NoneOfSetup, Again, LeavesUnlock, LeavesLock, SaysOn}
+use Rattle.call_causes.specs.Says.{Shape, with_attempt, NoSlot, Claims, Locked, Mark, with_slot, with_owed, with_made, with_done, IsFree, put_in, SaidBy, NoneOfSetup, Again, LeavesUnlock, LeavesLock, SaysOn}
 use Rattle.call_causes.proofs.Lasting.{far, own_on}
 use Rattle.call_causes.proofs.Posts.{After, Follows, way, again_same, follows_on, id_back, failed_of, Exits, Decided, decide_says, decided_says, post_with_says, post_says}
 use Rattle.call_causes.proofs.Programs.{attempt_says}
@@ -72,7 +72,7 @@ module _ (p : Plan) (q : IdPlan) (clients : List (List Task)) (gives : ℕ → L
     (λ seeks. absurd (none_ (subst (Named p q clients gives w) (subst (SeeksName n) op seeks) named))),
   )
 
-  none_found : (w : Scene) (m : Mark) (n : ℕ) → (Named p q clients gives w n → ⊥) → NoneOfSetup p q clients gives w n → AreTold p q clients gives w m.client m.done → NoneFound p q clients gives w m.done n
+  pub none_found : (w : Scene) (m : Mark) (n : ℕ) → (Named p q clients gives w n → ⊥) → NoneOfSetup p q clients gives w n → AreTold p q clients gives w m.client m.done → NoneFound p q clients gives w m.done n
   none_found w m n none_ setup told = record {
     setup = setup;
     own = λ t there. let x = told_at w m.client m.done t told there in own_none w m.client x.0 t n none_ x.1;

@@ -86,11 +86,11 @@ module _ (p : Plan) (q : IdPlan) (clients : List (List Task)) (gives : ℕ → L
     own_on c before (ops.Open n k) (outcomes.Opened slot version j) y = l.named n y
     own_on c before (ops.Open n k) outcomes.SlotsFull y = tt
     own_on c before (ops.Open n k) _ y = absurd y
-    own_on c before (ops.Send n bytes) outcomes.Unopened y = tt
+    own_on c before (ops.Send n bytes) outcomes.Unopened y = none_found_on before n y
     own_on c before (ops.Send n bytes) _ y = l.named n y
-    own_on c before (ops.Hold n) outcomes.Unopened y = tt
+    own_on c before (ops.Hold n) outcomes.Unopened y = none_found_on before n y
     own_on c before (ops.Hold n) _ y = l.named n y
-    own_on c before (ops.Fail n code) outcomes.Unopened y = tt
+    own_on c before (ops.Fail n code) outcomes.Unopened y = none_found_on before n y
     own_on c before (ops.Fail n code) _ y = l.named n y
     own_on c before (ops.Drop n) _ y = tt
 

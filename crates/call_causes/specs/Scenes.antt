@@ -180,11 +180,11 @@ module _ (p : Plan) (q : IdPlan) (clients : List (List Task)) (gives : ℕ → L
   WhyOwn w c before (ops.Open n k) (Opened slot version l) = Named w n
   WhyOwn w c before (ops.Open n k) SlotsFull = Unit {0}
   WhyOwn w c before (ops.Open n k) other = ⊥
-  WhyOwn w c before (ops.Send n bytes) Unopened = Unit {0}
+  WhyOwn w c before (ops.Send n bytes) Unopened = NoneFound w before n
   WhyOwn w c before (ops.Send n bytes) other = Named w n
-  WhyOwn w c before (ops.Hold n) Unopened = Unit {0}
+  WhyOwn w c before (ops.Hold n) Unopened = NoneFound w before n
   WhyOwn w c before (ops.Hold n) other = Named w n
-  WhyOwn w c before (ops.Fail n code) Unopened = Unit {0}
+  WhyOwn w c before (ops.Fail n code) Unopened = NoneFound w before n
   WhyOwn w c before (ops.Fail n code) other = Named w n
   WhyOwn w c before (ops.Drop n) other = Unit {0}
 
