@@ -20,6 +20,30 @@ use Rattle.call_causes.specs.Says.{Mark}
 use Rattle.call_causes.proofs.End.{HasEnded, ended_call, one_outcome, call_of, answered, contains_in}
 use Rattle.call_causes.proofs.Whys.{AreAscending, IsDone, is_done, in_contains, why_expire, why_join}
 
+module _ (p : Plan) (q : IdPlan) (clients : List (List Task)) (gives : ℕ → List ℕ) (ascending : (c : ℕ) → AreAscending (get_or clients c [])) (w : Scene) (ms : List Mark) (e : HasEnded p q clients gives w ms) where
+  -- where an operation found a name without a socket, those of its client before it found so too
+  pub names_found_none : (c : ℕ) (t u : Task) (n : ℕ) → IsTask clients w.core.outcomes c t → IsTask clients w.core.outcomes c u → SeeksName n t.op → Became clients w.core.outcomes t.number outcomes.Unopened → u.number < t.number → SeeksName n u.op → Became clients w.core.outcomes u.number outcomes.Unopened
+  names_found_none c t u n is us sought has low seeks = let d = is_done p q clients gives ascending w ms e c t is in by_told d d.told
+    where
+      by_own : (d : IsDone p q clients gives ascending w ms e c t) (op : Op) → SeeksName n op → WhyOwn p q clients gives w c d.before op outcomes.Unopened → NoneFound p q clients gives w d.before n
+      by_own d (ops.Fail m code) s why = subst (NoneFound p q clients gives w d.before) s why
+      by_own d (ops.Hold m) s why = subst (NoneFound p q clients gives w d.before) s why
+      by_own d (ops.Send m bytes) s why = subst (NoneFound p q clients gives w d.before) s why
+      by_own d (ops.Call asked) s why = subst (NoneFound p q clients gives w d.before) s why
+      by_own d (ops.Open m k) s why = absurd s
+      by_own d (ops.Expire o) s why = absurd s
+      by_own d (ops.Join o) s why = absurd s
+      by_own d (ops.Drop m) s why = absurd s
+
+      by_told : (d : IsDone p q clients gives ascending w ms e c t) → ToldOf p q clients gives w c d.before t → Became clients w.core.outcomes u.number outcomes.Unopened
+      by_told d (was_said y s why just) = e.tasks.said u.number outcomes.Unopened (((by_own d t.op sought (subst (WhyOwn p q clients gives w c d.before t.op) (one_outcome p q clients gives w ms e t.number y outcomes.Unopened (e.tasks.said t.number y s) has) why)).own u (d.all u us low)).1 seeks)
+      by_told d (was_sent m bytes sent named) = ⊎_elim
+          (λ none_. absurd (let z : Some (Some outcomes.Unopened) ≡ Some None = sym has ∙ none_ in cc))
+          (λ x. e.tasks.said u.number outcomes.Unopened (((by_own d t.op sought (subst (WhyOwn p q clients gives w c d.before t.op) (one_outcome p q clients gives w ms e t.number x.0 outcomes.Unopened (e.tasks.said t.number x.0 x.1) has) x.2)).own u (d.all u us low)).1 seeks))
+          (d.quiet m bytes sent)
+      by_told d (was_begun id a call own born begun named) = let x = ended_call p q clients gives w ms e (record { id = id; asked = a }) born in
+          absurd (subst (WhyEnded p q clients gives w (record { id = id; asked = a })) (one_outcome p q clients gives w ms e a.operation x.0 outcomes.Unopened x.1 (subst (λ o. Became clients w.core.outcomes o outcomes.Unopened) own has)) x.2)
+
 module _ (p : Plan) (q : IdPlan) (clients : List (List Task)) (gives : ℕ → List ℕ) (ascending : (c : ℕ) → AreAscending (get_or clients c [])) (w : Scene) (ms : List Mark) (e : HasEnded p q clients gives w ms) (fixed : Fixed) (orders : ℕ → Order) (as_given : (k : ℕ) → given w.core k ≡ gives k) where
   abbrev os : List (Option Outcome)
   os = w.core.outcomes
@@ -45,29 +69,6 @@ module _ (p : Plan) (q : IdPlan) (clients : List (List Task)) (gives : ℕ → L
     setup = λ u is. opens_none n u (f.setup u (is_task 0 u is));
     own = λ u is low. let x = f.own u (d.all u is low) in (opens_none n u x.0, (λ s. e.tasks.said u.number outcomes.Unopened (x.1 (seeks n u.op s))));
   }
-
-  -- where an operation found a name without a socket, those of its client before it found so too
-  pub names_found_none : (c : ℕ) (t u : Task) (n : ℕ) → IsTask clients w.core.outcomes c t → IsTask clients w.core.outcomes c u → SeeksName n t.op → Became clients w.core.outcomes t.number outcomes.Unopened → u.number < t.number → SeeksName n u.op → Became clients w.core.outcomes u.number outcomes.Unopened
-  names_found_none c t u n is us sought has low seeks = let d = is_done p q clients gives ascending w ms e c t is in by_told d d.told
-    where
-      by_own : (d : IsDone p q clients gives ascending w ms e c t) (op : Op) → SeeksName n op → WhyOwn p q clients gives w c d.before op outcomes.Unopened → NoneFound p q clients gives w d.before n
-      by_own d (ops.Fail m code) s why = subst (NoneFound p q clients gives w d.before) s why
-      by_own d (ops.Hold m) s why = subst (NoneFound p q clients gives w d.before) s why
-      by_own d (ops.Send m bytes) s why = subst (NoneFound p q clients gives w d.before) s why
-      by_own d (ops.Call asked) s why = subst (NoneFound p q clients gives w d.before) s why
-      by_own d (ops.Open m k) s why = absurd s
-      by_own d (ops.Expire o) s why = absurd s
-      by_own d (ops.Join o) s why = absurd s
-      by_own d (ops.Drop m) s why = absurd s
-
-      by_told : (d : IsDone p q clients gives ascending w ms e c t) → ToldOf p q clients gives w c d.before t → Became clients w.core.outcomes u.number outcomes.Unopened
-      by_told d (was_said y s why just) = e.tasks.said u.number outcomes.Unopened (((by_own d t.op sought (subst (WhyOwn p q clients gives w c d.before t.op) (one_outcome p q clients gives w ms e t.number y outcomes.Unopened (e.tasks.said t.number y s) has) why)).own u (d.all u us low)).1 seeks)
-      by_told d (was_sent m bytes sent named) = ⊎_elim
-          (λ none_. absurd (let z : Some (Some outcomes.Unopened) ≡ Some None = sym has ∙ none_ in cc))
-          (λ x. e.tasks.said u.number outcomes.Unopened (((by_own d t.op sought (subst (WhyOwn p q clients gives w c d.before t.op) (one_outcome p q clients gives w ms e t.number x.0 outcomes.Unopened (e.tasks.said t.number x.0 x.1) has) x.2)).own u (d.all u us low)).1 seeks))
-          (d.quiet m bytes sent)
-      by_told d (was_begun id a call own born begun named) = let x = ended_call p q clients gives w ms e (record { id = id; asked = a }) born in
-          absurd (subst (WhyEnded p q clients gives w (record { id = id; asked = a })) (one_outcome p q clients gives w ms e a.operation x.0 outcomes.Unopened x.1 (subst (λ o. Became clients w.core.outcomes o outcomes.Unopened) own has)) x.2)
 
   expired_with : (asked : Asked) (o : ℕ) (x : Outcome) (client : ℕ) (t : Task) → o ≡ asked.operation → IsTaskOf p q clients gives client t → t.op ≡ ops.Expire asked.operation → In (record { number = t.number; outcome = x }) w.sayings → IsExpiredWith p clients w.core.outcomes fixed (given w.core) orders o x
   expired_with asked o x client t own is op said = (client, t, (is.0, is.1, in_contains is.0 t is.2), op ∙ ap (λ n. ops.Expire n) (sym own), e.tasks.said t.number x said)

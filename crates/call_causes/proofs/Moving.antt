@@ -112,9 +112,9 @@ module _ (p : Plan) (q : IdPlan) (clients : List (List Task)) (gives : ℕ → L
           let is : parts from ≡ word_at w i = ap parts (sym same) ∙ knows.0.1 in
           let e = law.errors i held.0 (let z = held.2 in omega (arith, z)) in
           let packed_is = parts_packed (unlocked_word (parts from) (advance_of advance)) (state_fits (eqb (parts from).oldest 0)) (omega arith) (omega arith) (let z = knows.2 in omega (arith, z)) (omega arith) (omega arith) in (
-          subst (λ n. CauseOf p q clients gives w' (call_id i f) n) (sym (ap (λ (z : Parts). z.oldest) is))
-          (subst (λ n. CauseOf p q clients gives w' (call_id i n) (word_at w i).oldest) held.3 (cause_on p q clients gives w w' l (call_id i (word_at w i).first) (word_at w i).oldest (e.0 (subst (λ (z : Parts). z.oldest ≢ 0) is some_)))),
-          ap (λ (z : Parts). z.range) packed_is ∙ (ap (λ (z : Parts). z.range) is ∙ held.4),
+            subst (λ n. CauseOf p q clients gives w' (call_id i f) n) (sym (ap (λ (z : Parts). z.oldest) is))
+                (subst (λ n. CauseOf p q clients gives w' (call_id i n) (word_at w i).oldest) held.3 (cause_on p q clients gives w w' l (call_id i (word_at w i).first) (word_at w i).oldest (e.0 (subst (λ (z : Parts). z.oldest ≢ 0) is some_)))),
+            ap (λ (z : Parts). z.range) packed_is ∙ (ap (λ (z : Parts). z.range) is ∙ held.4),
           ),
     )),
     (λ ne. ap (λ c. cond c y m) (ne_eqb found from ne)),
