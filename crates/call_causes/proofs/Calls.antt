@@ -182,7 +182,7 @@ module _ (p : Plan) (q : IdPlan) (clients : List (List Task)) (gives : ℕ → L
       let cause = subst (λ i. CauseOf p q clients gives v i e) (ap (call_id (id_slot id)) first ∙ id_back id) found.0 in
       subst (λ y. Tells v y (decide id x e (decided id next))) (sym lv.0) (decide_says p q clients gives v (with_slot (Locked (id_slot id) f (record { range = range.range; attempt = (parts x).attempt })) m) id x e (decided id next) (record { range = range.range; attempt = (parts x).attempt }) (ap (with_attempt (parts x).attempt) slot) (found.1, refl) owes makes
       (decided_says p q clients gives v (with_slot (Locked (id_slot id) f (record { range = range.range; attempt = (parts x).attempt })) m) id e next owes
-      (λ u b l' _ born is. failed_of p q clients gives u b id e (l'.apart id) is born (Rattle.call_causes.proofs.Lasting.cause_on p q clients gives v u l' id e cause)) (follows_on p q clients gives w v m (Locked (id_slot id) f (record { range = range.range; attempt = (parts x).attempt })) next l goes)))
+      (λ u b l' _ born is last. failed_of p q clients gives u b id e (l'.apart id) is born (Rattle.call_causes.proofs.Lasting.cause_on p q clients gives v u l' id e cause) last) (follows_on p q clients gives w v m (Locked (id_slot id) f (record { range = range.range; attempt = (parts x).attempt })) next l goes)))
 
   retry_locked_says : (w : Scene) (m : Mark) (requests id n : ℕ) (next : Program) → IsFree m → n ≤ 6 → Ends w m next → (exit : Locking) (v : Scene) (m' : Mark) → Later' w v → SaidBy v (retry_locked requests id n next exit)
       → LeavesLock p q clients gives m (id_slot id) (Rattle.sock_programs.specs.Heads.First (id_first id)) exit m' → Tells v m' (retry_locked requests id n next exit)
@@ -237,7 +237,7 @@ module _ (p : Plan) (q : IdPlan) (clients : List (List Task)) (gives : ℕ → L
           let b : Birth = lv.0 in
           let is = lv.3 in
           let one : asked ≡ lv.0.asked = l2.apart id asked lv.0.asked (l2.born id asked there) (subst (λ i. IsBorn v2 i lv.0.asked) lv.4 lv.5) in
-          let code : c ≡ 1008 = ⊎_elim (λ e. e) (λ y. absurd (y.0 refl)) lv.7 in
+          let code : c ≡ 1008 = ⊎_elim (λ e. e.0) (λ y. absurd (y.0 refl)) lv.7 in
           let number : o ≡ t = lv.6 ∙ (ap (λ (a : Asked). a.operation) (sym one) ∙ same) in
           inr (
             lv.0,
