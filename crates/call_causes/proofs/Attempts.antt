@@ -3,9 +3,8 @@ use Rattle.std.proofs.Common.{◌≡◌, ◌≢◌, ℕ, ◌+◌, ◌*◌, ◌<�
 use mathlib.Core.Option as core
 use mathlib.Core.Logic.{dite}
 use native.Mathlib.Decide.{ℕ_discrete}
-use lib.ListN.{get_elem?}
 use Rattle.sock_words.specs.declared.plain.Plan.{Plan}
-use Rattle.corr_core.specs.Word.{Parts, parts, made_word, posted_word, unlocked_word, free_word}
+use Rattle.corr_core.specs.Word.{Parts, parts, posted_word, unlocked_word, free_word}
 use Rattle.corr_core.specs.declared.marks.Plan.{Plan as IdPlan}
 use Rattle.id_rule.specs.Lawful.{id_word, all_words}
 use Rattle.sock_message.specs.Asked.{Asked}
@@ -15,9 +14,9 @@ use Rattle.sock_programs.specs.Beside.{call_at}
 use Rattle.sock_programs.specs.Posts.{packed, advance_of}
 use Rattle.id_runs.proofs.Keeps.{parts_packed}
 use Rattle.call_causes.specs.Lists.{times}
-use Rattle.call_causes.specs.Scenes.{Birth, Scene, In, IsBorn, HasUsed}
+use Rattle.call_causes.specs.Scenes.{Birth, Scene, In, HasUsed}
 use Rattle.call_causes.specs.Says.{Claims, Mark, MayAside}
-use Rattle.call_causes.specs.Stories.{word_at, LiesAt, SlotFits, HasPassed, IsCurrent, AreApart, BirthsLaw, IsBehind, KnowsStep}
+use Rattle.call_causes.specs.Stories.{word_at, LiesAt, SlotFits, IsCurrent, BirthsLaw, IsBehind, KnowsStep}
 use Rattle.call_causes.proofs.Posts.{locked_parts, id_back}
 use Rattle.call_causes.proofs.Effects.{Touches, beside, word_is, word_stays}
 use Rattle.call_causes.proofs.Slots.{queued_parts}
@@ -149,10 +148,10 @@ module _ (p : Plan) (q : IdPlan) (clients : List (List Task)) (gives : ℕ → L
   own_call c i asked there now here inside live lies =
       let id_is : c.id ≡ call_id i (word_at w i).first = sym (id_back c.id) ∙ (ap (λ n. call_id n (id_first c.id)) here ∙ ap (call_id i) (sym now.0 ∙ ap (λ n. (word_at w n).first) here)) in
       let two = (law.born c there).1 in ⊎_elim
-          (λ same. ap (λ (x : Birth). x.asked.operation) (sym same))
-          (λ apart. absurd (⊎_elim (λ a. ⊎_elim (λ x. omega (arith, x, id_is, two)) (λ x. let y = (law.born (record { id = call_id i (word_at w i).first; asked = asked }) (at_home i asked inside live lies)).1 in omega (arith, x, id_is, y)) a.0)
-          (λ a. ⊎_elim (λ x. let y = (law.born (record { id = call_id i (word_at w i).first; asked = asked }) (at_home i asked inside live lies)).1 in omega (arith, x, id_is, y)) (λ x. omega (arith, x, id_is, two)) a.0) apart))
-          (two_of w.births law.apart c (record { id = call_id i (word_at w i).first; asked = asked }) there (at_home i asked inside live lies))
+      (λ same. ap (λ (x : Birth). x.asked.operation) (sym same))
+      (λ apart. absurd (⊎_elim (λ a. ⊎_elim (λ x. omega (arith, x, id_is, two)) (λ x. let y = (law.born (record { id = call_id i (word_at w i).first; asked = asked }) (at_home i asked inside live lies)).1 in omega (arith, x, id_is, y)) a.0)
+      (λ a. ⊎_elim (λ x. let y = (law.born (record { id = call_id i (word_at w i).first; asked = asked }) (at_home i asked inside live lies)).1 in omega (arith, x, id_is, y)) (λ x. omega (arith, x, id_is, two)) a.0) apart))
+      (two_of w.births law.apart c (record { id = call_id i (word_at w i).first; asked = asked }) there (at_home i asked inside live lies))
 
   -- and of no other id
   other_call : (c : Birth) (i : ℕ) (asked : Asked) → In c w.births → (IsCurrent w c → id_slot c.id ≡ i → ⊥) → i < q.slots → 0 < (word_at w i).state → LiesAt w i asked → asked.operation ≢ c.asked.operation
@@ -161,9 +160,9 @@ module _ (p : Plan) (q : IdPlan) (clients : List (List Task)) (gives : ℕ → L
       let at = in_place i (word_at w i).first (low i inside) in
       ⊎_elim
       (λ e. let slot : id_slot c.id ≡ i = ap (λ (x : Birth). id_slot x.id) e ∙ at.0 in let y = (law.born c there).3 in ⊎_elim
-          (λ over. let z : id_first c.id + c.asked.range ≤ (word_at w i).first = subst (λ n. id_first c.id + c.asked.range ≤ (word_at w n).first) slot over in
-              let f : id_first c.id ≡ (word_at w i).first = ap (λ (x : Birth). id_first x.id) e ∙ at.1 in let two = (law.born c there).1 in absurd (omega (arith, z, f, two)))
-          (λ now. absurd (other now slot)) y)
+      (λ over. let z : id_first c.id + c.asked.range ≤ (word_at w i).first = subst (λ n. id_first c.id + c.asked.range ≤ (word_at w n).first) slot over in
+      let f : id_first c.id ≡ (word_at w i).first = ap (λ (x : Birth). id_first x.id) e ∙ at.1 in let two = (law.born c there).1 in absurd (omega (arith, z, f, two)))
+      (λ now. absurd (other now slot)) y)
       (λ apart. ⊎_elim (λ a. absurd (a.1 (sym same))) (λ a. absurd (a.1 same)) apart)
       (two_of w.births law.apart c (record { id = call_id i (word_at w i).first; asked = asked }) there (at_home i asked inside live lies))
 

@@ -1,5 +1,5 @@
 -- Where a run has ended: why each call has its outcome, of a failed one as far as it is told without its attempts.
-use Rattle.std.proofs.Common.{◌≡◌, ◌≢◌, ℕ, inl, inr, ⊎_elim, List, [], ◌∷◌, get_or, Option, refl, sym, ap, ◌∙◌, subst}
+use Rattle.std.proofs.Common.{◌≡◌, ◌≢◌, ℕ, ◌<◌, inl, inr, ⊎_elim, List, [], ◌∷◌, get_or, Option, None, Some, refl, sym, ap, ◌∙◌, subst}
 use Rattle.std.specs.Prelude.{pos}
 use Rattle.sock_words.specs.declared.plain.Plan.{Plan}
 use Rattle.sock_words.specs.declared.outcome.Outcome.{Outcome}
@@ -17,8 +17,32 @@ use Rattle.call_causes.specs.Lists.{given}
 use Rattle.call_causes.specs.Target.{IsOnCalls, FailedInPart, ByExpiry, ByCompression, ByFrameFault, ByFail, ByOther, WhyCallInPart, WhyInPart}
 use Rattle.call_causes.specs.Scenes.{Scene, In, IsOther, IsOpened, SeeksName, IsTaskOf, HasNoneOf, NoneFound, FailedIn, by_expiry, by_compression, by_other, WhyEnded, WhyOwn, ToldOf, was_said, was_sent, was_begun}
 use Rattle.call_causes.specs.Says.{Mark}
-use Rattle.call_causes.proofs.End.{HasEnded, one_outcome, call_of, answered, contains_in}
+use Rattle.call_causes.proofs.End.{HasEnded, ended_call, one_outcome, call_of, answered, contains_in}
 use Rattle.call_causes.proofs.Whys.{AreAscending, IsDone, is_done, in_contains, why_expire, why_join}
+
+module _ (p : Plan) (q : IdPlan) (clients : List (List Task)) (gives : ℕ → List ℕ) (ascending : (c : ℕ) → AreAscending (get_or clients c [])) (w : Scene) (ms : List Mark) (e : HasEnded p q clients gives w ms) where
+  -- where an operation found a name without a socket, those of its client before it found so too
+  pub names_found_none : (c : ℕ) (t u : Task) (n : ℕ) → IsTask clients w.core.outcomes c t → IsTask clients w.core.outcomes c u → SeeksName n t.op → Became clients w.core.outcomes t.number outcomes.Unopened → u.number < t.number → SeeksName n u.op → Became clients w.core.outcomes u.number outcomes.Unopened
+  names_found_none c t u n is us sought has low seeks = let d = is_done p q clients gives ascending w ms e c t is in by_told d d.told
+    where
+      by_own : (d : IsDone p q clients gives ascending w ms e c t) (op : Op) → SeeksName n op → WhyOwn p q clients gives w c d.before op outcomes.Unopened → NoneFound p q clients gives w d.before n
+      by_own d (ops.Fail m code) s why = subst (NoneFound p q clients gives w d.before) s why
+      by_own d (ops.Hold m) s why = subst (NoneFound p q clients gives w d.before) s why
+      by_own d (ops.Send m bytes) s why = subst (NoneFound p q clients gives w d.before) s why
+      by_own d (ops.Call asked) s why = subst (NoneFound p q clients gives w d.before) s why
+      by_own d (ops.Open m k) s why = absurd s
+      by_own d (ops.Expire o) s why = absurd s
+      by_own d (ops.Join o) s why = absurd s
+      by_own d (ops.Drop m) s why = absurd s
+
+      by_told : (d : IsDone p q clients gives ascending w ms e c t) → ToldOf p q clients gives w c d.before t → Became clients w.core.outcomes u.number outcomes.Unopened
+      by_told d (was_said y s why just) = e.tasks.said u.number outcomes.Unopened (((by_own d t.op sought (subst (WhyOwn p q clients gives w c d.before t.op) (one_outcome p q clients gives w ms e t.number y outcomes.Unopened (e.tasks.said t.number y s) has) why)).own u (d.all u us low)).1 seeks)
+      by_told d (was_sent m bytes sent named) = ⊎_elim
+          (λ none_. absurd (let z : Some (Some outcomes.Unopened) ≡ Some None = sym has ∙ none_ in cc))
+          (λ x. e.tasks.said u.number outcomes.Unopened (((by_own d t.op sought (subst (WhyOwn p q clients gives w c d.before t.op) (one_outcome p q clients gives w ms e t.number x.0 outcomes.Unopened (e.tasks.said t.number x.0 x.1) has) x.2)).own u (d.all u us low)).1 seeks))
+          (d.quiet m bytes sent)
+      by_told d (was_begun id a call own born begun named) = let x = ended_call p q clients gives w ms e (record { id = id; asked = a }) born in
+          absurd (subst (WhyEnded p q clients gives w (record { id = id; asked = a })) (one_outcome p q clients gives w ms e a.operation x.0 outcomes.Unopened x.1 (subst (λ o. Became clients w.core.outcomes o outcomes.Unopened) own has)) x.2)
 
 module _ (p : Plan) (q : IdPlan) (clients : List (List Task)) (gives : ℕ → List ℕ) (ascending : (c : ℕ) → AreAscending (get_or clients c [])) (w : Scene) (ms : List Mark) (e : HasEnded p q clients gives w ms) (fixed : Fixed) (orders : ℕ → Order) (as_given : (k : ℕ) → given w.core k ≡ gives k) where
   abbrev os : List (Option Outcome)
@@ -59,7 +83,7 @@ module _ (p : Plan) (q : IdPlan) (clients : List (List Task)) (gives : ℕ → L
   failed_by : (asked : Asked) (o id code : ℕ) → o ≡ asked.operation → FailedIn p q clients gives w id asked code → FailedInPart p clients w.core.outcomes fixed (given w.core) orders o asked id code
   failed_by asked o id code own (by_expiry is x) = ByExpiry is (⊎_elim (λ s. inl (expired_with asked o outcomes.Expired x.0 x.1 own x.2 x.3 s)) (λ s. inr (expired_with asked o outcomes.Queued x.0 x.1 own x.2 x.3 s)) x.4)
   failed_by asked o id code own (by_compression is x) = ByCompression is (answered p q clients gives w ms e fixed orders id asked (λ frame. frame.meta.compress_type ≢ pos 0) x)
-  failed_by asked o id code own (by_other x) = other_by asked o id code x
+  failed_by asked o id code own (by_other x last) = other_by asked o id code x
 
   ended_by : (c o id : ℕ) (asked : Asked) (x : Outcome) → o ≡ asked.operation → WhyEnded p q clients gives w (record { id = id; asked = asked }) x → WhyCallInPart p clients w.core.outcomes fixed (given w.core) orders c o asked x
   ended_by c o id asked (outcomes.Answered i payload attachment) own why = subst (λ n. WhyCallInPart p clients w.core.outcomes fixed (given w.core) orders c o asked (outcomes.Answered n payload attachment)) (sym why.0)

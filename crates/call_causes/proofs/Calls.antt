@@ -18,7 +18,7 @@ use Rattle.sock_programs.specs.Posts.{post, post_with, posted, decide, decided}
 use Rattle.sock_programs.specs.Attempts.{attempt, begin_call, claim_id, call, tried_again, retry_locked, retry, expire_outcome, expire, join}
 use Rattle.id_runs.proofs.Loops.{not_equal}
 use Rattle.call_causes.specs.Scenes.{Birth, Scene, In, Said, IsOver, IsBorn, IsOpened, SeeksName, IsClaimed, CauseOf, of_expiry, by_expiry, Named, Begun, IsTaskOf, HasNoneOf, NoneFound, HasBegunIn, HasNotBegunIn, WhyOwn, IsJust, ToldOf, was_said, was_sent, was_begun, AreTold}
-use Rattle.call_causes.specs.Says.{Shape, shape_of, HasShape, with_attempt, unlocked_by, NoSlot, Claims, Locked, Mark, with_slot, with_owed, with_made, with_done, IsFree, put_in, SaidBy, NoneOfSetup, Again, LeavesUnlock, LeavesLock, SaysOn}
+use Rattle.call_causes.specs.Says.{Shape, with_attempt, NoSlot, Claims, Locked, Mark, with_slot, with_owed, with_made, with_done, IsFree, put_in, SaidBy, NoneOfSetup, Again, LeavesUnlock, LeavesLock, SaysOn}
 use Rattle.call_causes.proofs.Lasting.{far, own_on}
 use Rattle.call_causes.proofs.Posts.{After, Follows, way, again_same, follows_on, id_back, failed_of, Exits, Decided, decide_says, decided_says, post_with_says, post_says}
 use Rattle.call_causes.proofs.Programs.{attempt_says}
@@ -72,7 +72,7 @@ module _ (p : Plan) (q : IdPlan) (clients : List (List Task)) (gives : ℕ → L
     (λ seeks. absurd (none_ (subst (Named p q clients gives w) (subst (SeeksName n) op seeks) named))),
   )
 
-  none_found : (w : Scene) (m : Mark) (n : ℕ) → (Named p q clients gives w n → ⊥) → NoneOfSetup p q clients gives w n → AreTold p q clients gives w m.client m.done → NoneFound p q clients gives w m.done n
+  pub none_found : (w : Scene) (m : Mark) (n : ℕ) → (Named p q clients gives w n → ⊥) → NoneOfSetup p q clients gives w n → AreTold p q clients gives w m.client m.done → NoneFound p q clients gives w m.done n
   none_found w m n none_ setup told = record {
     setup = setup;
     own = λ t there. let x = told_at w m.client m.done t told there in own_none w m.client x.0 t n none_ x.1;
@@ -182,7 +182,7 @@ module _ (p : Plan) (q : IdPlan) (clients : List (List Task)) (gives : ℕ → L
       let cause = subst (λ i. CauseOf p q clients gives v i e) (ap (call_id (id_slot id)) first ∙ id_back id) found.0 in
       subst (λ y. Tells v y (decide id x e (decided id next))) (sym lv.0) (decide_says p q clients gives v (with_slot (Locked (id_slot id) f (record { range = range.range; attempt = (parts x).attempt })) m) id x e (decided id next) (record { range = range.range; attempt = (parts x).attempt }) (ap (with_attempt (parts x).attempt) slot) (found.1, refl) owes makes
       (decided_says p q clients gives v (with_slot (Locked (id_slot id) f (record { range = range.range; attempt = (parts x).attempt })) m) id e next owes
-      (λ u b l' _ born is. failed_of p q clients gives u b id e (l'.apart id) is born (Rattle.call_causes.proofs.Lasting.cause_on p q clients gives v u l' id e cause)) (follows_on p q clients gives w v m (Locked (id_slot id) f (record { range = range.range; attempt = (parts x).attempt })) next l goes)))
+      (λ u b l' _ born is last. failed_of p q clients gives u b id e (l'.apart id) is born (Rattle.call_causes.proofs.Lasting.cause_on p q clients gives v u l' id e cause) last) (follows_on p q clients gives w v m (Locked (id_slot id) f (record { range = range.range; attempt = (parts x).attempt })) next l goes)))
 
   retry_locked_says : (w : Scene) (m : Mark) (requests id n : ℕ) (next : Program) → IsFree m → n ≤ 6 → Ends w m next → (exit : Locking) (v : Scene) (m' : Mark) → Later' w v → SaidBy v (retry_locked requests id n next exit)
       → LeavesLock p q clients gives m (id_slot id) (Rattle.sock_programs.specs.Heads.First (id_first id)) exit m' → Tells v m' (retry_locked requests id n next exit)
@@ -237,7 +237,7 @@ module _ (p : Plan) (q : IdPlan) (clients : List (List Task)) (gives : ℕ → L
           let b : Birth = lv.0 in
           let is = lv.3 in
           let one : asked ≡ lv.0.asked = l2.apart id asked lv.0.asked (l2.born id asked there) (subst (λ i. IsBorn v2 i lv.0.asked) lv.4 lv.5) in
-          let code : c ≡ 1008 = ⊎_elim (λ e. e) (λ y. absurd (y.0 refl)) lv.7 in
+          let code : c ≡ 1008 = ⊎_elim (λ e. e.0) (λ y. absurd (y.0 refl)) lv.7 in
           let number : o ≡ t = lv.6 ∙ (ap (λ (a : Asked). a.operation) (sym one) ∙ same) in
           inr (
             lv.0,

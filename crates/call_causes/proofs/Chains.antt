@@ -107,7 +107,7 @@ module _ (p : Plan) (q : IdPlan) (clients : List (List Task)) (gives : ℕ → L
   pub chain : (x : Program) (ws : List Retry) (os : List (Option Outcome)) (ss : List Saying) (ms : List Mark) (m : Mark) → At ms j m → TasksLaw p q clients gives w os ss ms → SaysOn p q clients gives w m x → AreFewTries ws → KeepsFew x → SaidBy w (resolved ws x) → Behind m os ss ms (resolved ws x)
   chain (Say o outcome next) ws os ss ms m at law g few keeps s = ⊎_elim
       (λ x. let t : Task = x.0 in let m1 : Mark = with_done x.0 x.1 m in let free = x.4 in
-      let law1 = say_own p q clients gives numbered w births os ss ms law j m at x.0 x.1 x.2 free.1 free.2 (was_said outcome (subst (λ n. Said w n outcome) x.3 s.0.0) x.5.0 x.5.1) outcome in
+      let law1 = say_own p q clients gives numbered w births os ss ms law j m at x.0 x.1 x.2 free.1 free.2 (was_said outcome (subst (λ n. Said w n outcome) x.3 s.0.0) x.5.0 x.5.1) outcome (subst (λ n. Said w n outcome) x.3 s.0.0) x.5.0 in
       behind ms m m1 (set os o (Some outcome)) ((record { number = o; outcome = outcome }) ∷ ss) (resolved ws next) (record { client = refl; slot = refl; makes = refl; link = refl; bytes = refl; unclaimed_still = own_still m x.0 x.1 x.2 x.4 })
       (chain next ws (set os o (Some outcome)) ((record { number = o; outcome = outcome }) ∷ ss) (set ms j m1) m1 (put_at ms j m m1 at)
       (subst (λ n. TasksLaw p q clients gives w (set os n (Some outcome)) ((record { number = n; outcome = outcome }) ∷ ss) (set ms j m1)) (sym x.3) law1) x.6 few keeps s.1))

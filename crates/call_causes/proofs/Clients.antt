@@ -1,5 +1,5 @@
 -- What whole clients say of calls has its cause, and the ending says nothing of them.
-use Rattle.std.proofs.Common.{◌≡◌, ◌≢◌, ℕ, zero, suc, ◌+◌, ◌-◌, ◌/◌, ◌%◌, ◌≤◌, inl, inr, ◌==◌, Bool, true, false, cond, List, [], ◌∷◌, ◌++◌, Option, None, Some, refl, sym, subst, arith}
+use Rattle.std.proofs.Common.{◌≡◌, ◌≢◌, ℕ, zero, suc, ◌+◌, ◌-◌, ◌/◌, ◌%◌, ◌≤◌, inl, inr, ◌==◌, eqb-true, Bool, true, false, cond, List, [], ◌∷◌, ◌++◌, Option, None, Some, refl, sym, subst, arith}
 use Rattle.std.specs.List.{AllByRecursion}
 use Rattle.sock_words.specs.Words.{socket_id, socket_id_slot, vref_version}
 use Rattle.sock_words.specs.declared.plain.Plan.{Plan}
@@ -14,12 +14,12 @@ use Rattle.sock_programs.specs.Sends.{accept, heading_of, claim_from, start, sen
 use Rattle.sock_programs.specs.Clients.{HeldLife, held_under, without_name, give_back, drop_of, operation, client_from, ending_of}
 use Rattle.sock_programs.specs.Scripts.{sizes_of}
 use Rattle.id_runs.proofs.Loops.{not_equal}
-use Rattle.call_causes.specs.Scenes.{Scene, In, Named, IsTaskOf, WhyOwn, IsJust}
+use Rattle.call_causes.specs.Scenes.{Scene, In, Named, IsTaskOf, NoneFound, WhyOwn, IsJust}
 use Rattle.call_causes.specs.Says.{Mark, with_slot, with_done, IsFree, SaidBy, Again, SaysOn}
 use Rattle.call_causes.proofs.Lasting.{far}
 use Rattle.call_causes.proofs.Posts.{After, Follows, way, again_same, follows_later}
 use Rattle.call_causes.proofs.Programs.{release_says, address_says, set_failed_says, accept_says, releases}
-use Rattle.call_causes.proofs.Calls.{IsCalls, IsNext, own_at, call_says, expire_says, join_says}
+use Rattle.call_causes.proofs.Calls.{IsCalls, IsNext, own_at, none_found, call_says, expire_says, join_says}
 
 module _ (p : Plan) (q : IdPlan) (clients : List (List Task)) (gives : ℕ → List ℕ) where
   abbrev Tells : Scene → Mark → Program → Type 0
@@ -55,11 +55,11 @@ module _ (p : Plan) (q : IdPlan) (clients : List (List Task)) (gives : ℕ → L
     self : Again p q clients gives m m
     self = again_same p q clients gives m m free refl
 
-    reach_says : (name : ℕ) (unopened : Program) (held gone : ℕ → Program) → ((v : Scene) → Later' w v → SaidBy v unopened → Tells v m unopened)
+    reach_says : m.client ≢ 0 → (name : ℕ) (unopened : Program) (held gone : ℕ → Program) → ((v : Scene) → Later' w v → SaidBy v unopened → NoneFound p q clients gives v m.done name → Tells v m unopened)
         → ((id : ℕ) (v : Scene) → Later' w v → SaidBy v (held id) → Named p q clients gives v name → Tells v m (held id)) → ((found : ℕ) (v : Scene) → Later' w v → SaidBy v (gone found) → Named p q clients gives v name → Tells v m (gone found)) → Tells w m (reach name unopened held gone)
-    reach_says name unopened held gone none_ one others = (
+    reach_says client name unopened held gone none_ one others = (
       tt,
-      λ word v l s f. way p q clients gives v m (word == 0) unopened (address (word - 1) (held (word - 1)) gone) s (λ _ s'. none_ v l s')
+      λ word v l s f. way p q clients gives v m (word == 0) unopened (address (word - 1) (held (word - 1)) gone) s (λ nothing s'. let y = f.0 (eqb-true word 0 nothing) in none_ v l s' (none_found p q clients gives v m name y.0 (y.1 client) y.2))
           (λ some_ _. let named = f.1 (not_equal word 0 some_) in address_says p q clients gives v m (word - 1) (held (word - 1)) gone
           (λ v2 l2 s2. one (word - 1) v2 (far p q clients gives w v v2 l l2) s2 (l2.named name named)) (λ found v2 l2 s2. others found v2 (far p q clients gives w v v2 l l2) s2 (l2.named name named))),
     )
@@ -108,7 +108,7 @@ module _ (p : Plan) (q : IdPlan) (clients : List (List Task)) (gives : ℕ → L
 
     -- ## `send`
 
-    module _ (name : ℕ) (bytes : List ℕ) (op : t.op ≡ ops.Send name bytes) (next : Program) (goes : Ends w (with_done t ts m) next) where
+    module _ (client : m.client ≢ 0) (name : ℕ) (bytes : List ℕ) (op : t.op ≡ ops.Send name bytes) (next : Program) (goes : Ends w (with_done t ts m) next) where
       sent_says : (v : Scene) → Later' w v → Named p q clients gives v name → Ends v m (Sent t.number next)
       sent_says v l named = λ v2 m2 l2 s2 a. subst (λ y. Tells v2 y (Sent t.number next)) (sym a.is)
           (t, ts, name, bytes, has.todo, refl, op, l2.named name named, (a.vacant, free.1, free.2), goes v2 (with_done t ts (with_slot a.slot m)) (far p q clients gives w v v2 l l2) s2 (record { slot = a.slot; vacant = a.vacant; is = refl }))
@@ -125,8 +125,8 @@ module _ (p : Plan) (q : IdPlan) (clients : List (List Task)) (gives : ℕ → L
       )
 
       send_says : (requests : ℕ) → Tells w m (send requests t.number name bytes next)
-      send_says requests = reach_says name (Say t.number outcomes.Unopened next) (λ id. start requests t.number id bytes next) (λ found. Say t.number (outcomes.Gone (record { 0 = found })) next)
-          (λ v l s. says (ops.Send name bytes) op outcomes.Unopened next goes v m l s.1 self tt tt)
+      send_says requests = reach_says client name (Say t.number outcomes.Unopened next) (λ id. start requests t.number id bytes next) (λ found. Say t.number (outcomes.Gone (record { 0 = found })) next)
+          (λ v l s none_. says (ops.Send name bytes) op outcomes.Unopened next goes v m l s.1 self none_ tt)
           (λ id v l s named. (
             tt,
             λ found v2 l2 s2 _. let f2 = far p q clients gives w v v2 l l2 in let named2 = l2.named name named in
@@ -151,18 +151,18 @@ module _ (p : Plan) (q : IdPlan) (clients : List (List Task)) (gives : ℕ → L
     just_dropped v true = tt
     just_dropped v false = tt
 
-    fail_says : (name code : ℕ) → t.op ≡ ops.Fail name code → (1500 ≤ code) × (code ≤ 1999) → (next : Program) → Ends w (with_done t ts m) next → Tells w m (fail t.number name code next)
-    fail_says name code op fits next goes = reach_says name (Say t.number outcomes.Unopened next) (λ id. set_failed id code (λ found. release (socket_id_slot id) (λ _. Say t.number (fail_outcome found) next))) (λ found. Say t.number (outcomes.Gone (record { 0 = found })) next)
-        (λ v l s. says (ops.Fail name code) op outcomes.Unopened next goes v m l s.1 self tt tt)
+    fail_says : m.client ≢ 0 → (name code : ℕ) → t.op ≡ ops.Fail name code → (1500 ≤ code) × (code ≤ 1999) → (next : Program) → Ends w (with_done t ts m) next → Tells w m (fail t.number name code next)
+    fail_says client name code op fits next goes = reach_says client name (Say t.number outcomes.Unopened next) (λ id. set_failed id code (λ found. release (socket_id_slot id) (λ _. Say t.number (fail_outcome found) next))) (λ found. Say t.number (outcomes.Gone (record { 0 = found })) next)
+        (λ v l s none_. says (ops.Fail name code) op outcomes.Unopened next goes v m l s.1 self none_ tt)
         (λ id v l s named. set_failed_says p q clients gives v m id code (inr (inr (inr (inr (fits.0, fits.1, (m.client, t, name, has.is, op)))))) (λ found. release (socket_id_slot id) (λ _. Say t.number (fail_outcome found) next))
         (λ found v2 l2 _. release_says p q clients gives v2 m (socket_id_slot id) (λ _. Say t.number (fail_outcome found) next)
         (λ _ v3 l3 s3. let f3 = far p q clients gives w v2 v3 (far p q clients gives w v v2 l l2) l3 in
         says (ops.Fail name code) op (fail_outcome found) next goes v3 m f3 s3.1 self (fail_named v3 name code found (l3.named name (l2.named name named)) (vref_version found % 2 == 0)) (just_failed v3 (vref_version found % 2 == 0) found))))
         (λ found v l s named. says (ops.Fail name code) op (outcomes.Gone (record { 0 = found })) next goes v m l s.1 self named tt)
 
-    hold_says : (name : ℕ) → t.op ≡ ops.Hold name → (held : ℕ → Program) (next : Program) → ((id : ℕ) → Ends w (with_done t ts m) (held id)) → Ends w (with_done t ts m) next → Tells w m (Rattle.sock_programs.specs.Programs.hold t.number name held next)
-    hold_says name op held next holds goes = reach_says name (Say t.number outcomes.Unopened next) (λ id. Say t.number outcomes.Held (held id)) (λ found. Say t.number (outcomes.Gone (record { 0 = found })) next)
-        (λ v l s. says (ops.Hold name) op outcomes.Unopened next goes v m l s.1 self tt tt)
+    hold_says : m.client ≢ 0 → (name : ℕ) → t.op ≡ ops.Hold name → (held : ℕ → Program) (next : Program) → ((id : ℕ) → Ends w (with_done t ts m) (held id)) → Ends w (with_done t ts m) next → Tells w m (Rattle.sock_programs.specs.Programs.hold t.number name held next)
+    hold_says client name op held next holds goes = reach_says client name (Say t.number outcomes.Unopened next) (λ id. Say t.number outcomes.Held (held id)) (λ found. Say t.number (outcomes.Gone (record { 0 = found })) next)
+        (λ v l s none_. says (ops.Hold name) op outcomes.Unopened next goes v m l s.1 self none_ tt)
         (λ id v l s named. says (ops.Hold name) op outcomes.Held (held id) (holds id) v m l s.1 self named tt)
         (λ found v l s named. says (ops.Hold name) op (outcomes.Gone (record { 0 = found })) next goes v m l s.1 self named tt)
 
@@ -205,14 +205,14 @@ module _ (p : Plan) (q : IdPlan) (clients : List (List Task)) (gives : ℕ → L
   operation_says : (held : List HeldLife) (next : List HeldLife → Program) (w : Scene) (m : Mark) (t : Task) (ts : List Task) (op : Op) → IsNext p q clients gives m t ts → IsFree m → t.op ≡ op → FitsOp t.number op → FitsClient m.client op
       → ((hs : List HeldLife) → Ends w (with_done t ts m) (next hs)) → (v : Scene) → Later' w v → SaidBy v (operation (sizes_of p q) held t.number next op) → Tells v m (operation (sizes_of p q) held t.number next op)
   operation_says held next w m t ts (ops.Open name k) has free op fits one goes v l s = open_says w m t ts has free name k op (next held) (goes held) p.slots 0 v l s
-  operation_says held next w m t ts (ops.Send name bytes) has free op fits one goes v l s = send_says v m t ts has free name bytes op (next held) (follows_later p q clients gives w v (with_done t ts m) (next held) l (goes held)) p.requests
+  operation_says held next w m t ts (ops.Send name bytes) has free op fits one goes v l s = send_says v m t ts has free one name bytes op (next held) (follows_later p q clients gives w v (with_done t ts m) (next held) l (goes held)) p.requests
   operation_says held next w m t ts (ops.Call asked) has free op fits one goes v l s = call_says p q clients gives v m p.requests asked t ts (next held) has free one op fits (follows_later p q clients gives w v (with_done t ts m) (next held) l (goes held))
   operation_says held next w m t ts (ops.Expire o) has free op fits one goes v l s = expire_says p q clients gives v m t ts o (next held) has free op fits (follows_later p q clients gives w v (with_done t ts m) (next held) l (goes held))
   operation_says held next w m t ts (ops.Join o) has free op fits one goes v l s = join_says p q clients gives v m t ts o (next held) has free op fits (follows_later p q clients gives w v (with_done t ts m) (next held) l (goes held))
-  operation_says held next w m t ts (ops.Hold name) has free op fits one goes v l s = hold_says v m t ts has free name op (λ id. next (held ++ (record { name = name; id = id }) ∷ [])) (next held)
+  operation_says held next w m t ts (ops.Hold name) has free op fits one goes v l s = hold_says v m t ts has free one name op (λ id. next (held ++ (record { name = name; id = id }) ∷ [])) (next held)
       (λ id. follows_later p q clients gives w v (with_done t ts m) (next (held ++ (record { name = name; id = id }) ∷ [])) l (goes (held ++ (record { name = name; id = id }) ∷ []))) (follows_later p q clients gives w v (with_done t ts m) (next held) l (goes held))
   operation_says held next w m t ts (ops.Drop name) has free op fits one goes v l s = drop_says w m t ts has free name op (held_under name held) (next (without_name name held)) (goes (without_name name held)) v l s
-  operation_says held next w m t ts (ops.Fail name code) has free op fits one goes v l s = fail_says v m t ts has free name code op fits (next held) (follows_later p q clients gives w v (with_done t ts m) (next held) l (goes held))
+  operation_says held next w m t ts (ops.Fail name code) has free op fits one goes v l s = fail_says v m t ts has free one name code op fits (next held) (follows_later p q clients gives w v (with_done t ts m) (next held) l (goes held))
 
   give_back_says : (held : List HeldLife) (w : Scene) (m : Mark) → IsFree m → m.todo ≡ [] → Tells w m (give_back held)
   give_back_says [] w m free none_ = (free, none_)

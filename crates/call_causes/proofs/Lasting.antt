@@ -43,12 +43,12 @@ module _ (p : Plan) (q : IdPlan) (clients : List (List Task)) (gives : ℕ → L
 
     pub cause_on : (id e : ℕ) → CauseOf p q clients gives w id e → CauseOf p q clients gives w' id e
     cause_on id e (of_expiry asked is b x) = of_expiry asked is (l.born id asked b) (expired_on asked x)
-    cause_on id e (of_other x) = of_other x
+    cause_on id e (of_other x last) = of_other x last
 
     failed_on : (id : ℕ) (asked : Asked) (c : ℕ) → FailedIn p q clients gives w id asked c → FailedIn p q clients gives w' id asked c
     failed_on id asked c (by_expiry is x) = by_expiry is (expired_on asked x)
     failed_on id asked c (by_compression is x) = by_compression is (answered_on id asked (λ frame. frame.meta.compress_type ≢ Rattle.std.specs.Prelude.pos 0) x)
-    failed_on id asked c (by_other x) = by_other x
+    failed_on id asked c (by_other x last) = by_other x (⊎_elim (λ y. inl y) (λ u. inr (l.used (record { id = id; asked = asked }) u)) last)
 
     pub ended_on : (b : Birth) (x : Outcome) → WhyEnded p q clients gives w b x → WhyEnded p q clients gives w' b x
     ended_on b (outcomes.Answered id payload attachment) y = (y.0, answered_on b.id b.asked (λ (frame : Frame). Rattle.call_causes.specs.Scenes.HasCode (Rattle.std.specs.Prelude.pos 0) frame × (frame.payload ≡ payload) × (frame.attachment ≡ attachment)) y.1)
@@ -86,11 +86,11 @@ module _ (p : Plan) (q : IdPlan) (clients : List (List Task)) (gives : ℕ → L
     own_on c before (ops.Open n k) (outcomes.Opened slot version j) y = l.named n y
     own_on c before (ops.Open n k) outcomes.SlotsFull y = tt
     own_on c before (ops.Open n k) _ y = absurd y
-    own_on c before (ops.Send n bytes) outcomes.Unopened y = tt
+    own_on c before (ops.Send n bytes) outcomes.Unopened y = none_found_on before n y
     own_on c before (ops.Send n bytes) _ y = l.named n y
-    own_on c before (ops.Hold n) outcomes.Unopened y = tt
+    own_on c before (ops.Hold n) outcomes.Unopened y = none_found_on before n y
     own_on c before (ops.Hold n) _ y = l.named n y
-    own_on c before (ops.Fail n code) outcomes.Unopened y = tt
+    own_on c before (ops.Fail n code) outcomes.Unopened y = none_found_on before n y
     own_on c before (ops.Fail n code) _ y = l.named n y
     own_on c before (ops.Drop n) _ y = tt
 

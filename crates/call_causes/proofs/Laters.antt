@@ -18,7 +18,7 @@ use Rattle.sock_programs.specs.Asides as asides
 use Rattle.sock_programs.specs.Posts.{packed, advance_of}
 use Rattle.id_runs.proofs.Keeps.{parts_packed}
 use Rattle.call_causes.specs.Scenes.{Birth, Scene, In, IsBorn, IsClaimed, Came, Begun, StaysWithin, Later}
-use Rattle.call_causes.specs.Says.{Shape, shape_of, HasShape, with_attempt, unlocked_by, Claims, Holds, Mark, MayAside}
+use Rattle.call_causes.specs.Says.{Claims, Holds, Mark, MayAside}
 use Rattle.call_causes.specs.Stories.{word_at, LiesAt, SlotFits, BirthsLaw, IsBehind, KnowsStep, put_of, born_by, claimed_by}
 use Rattle.call_causes.proofs.Streams.{frames_stay}
 use Rattle.call_causes.proofs.Effects.{beside, word_is, lies_is}

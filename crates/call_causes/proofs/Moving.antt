@@ -4,18 +4,21 @@ use mathlib.Core.Option.{some-injective}
 use lib.ListN.{get_elem?}
 use Rattle.sock_words.specs.declared.plain.Plan.{Plan}
 use Rattle.sock_words.specs.declared.outcome.Outcome.{Outcome}
-use Rattle.corr_core.specs.Word.{Parts, parts, code_of, unlocked_word}
-use Rattle.sock_programs.specs.Posts.{advance_of}
+use Rattle.corr_core.specs.Word.{Parts, parts, code_of, unlocked_word, free_word}
+use Rattle.sock_programs.specs.Posts.{packed, advance_of}
 use Rattle.id_runs.proofs.Keeps.{parts_packed}
 use Rattle.corr_core.specs.declared.marks.Plan.{Plan as IdPlan}
 use Rattle.id_rule.specs.Lawful.{call_word, all_words}
+use Rattle.sock_message.specs.Asked.{Asked}
 use Rattle.sock_programs.specs.declared.task.Task.{Task}
 use Rattle.sock_programs.specs.Asides.{Step, ClaimId, PutCall, MakeId, StoreCall, LoadCall, StoreAt, LoadAt, LoadIdWord, LockId, PostId, UnlockId, EndId, FreeId, TakeCall, TakeBytes, Bytes, Found, call_id, id_slot, id_first}
 use Rattle.sock_programs.specs.Asides as asides
-use Rattle.call_causes.specs.Scenes.{Birth, Saying, Scene, In, IsBorn, IsErrorCode, IsTaskOf, CauseOf, of_expiry, of_other, Later}
-use Rattle.call_causes.specs.Says.{Shape, shape_of, HasShape, with_attempt, unlocked_by, Slot, NoSlot, Claims, Locked, Holds, Leaves, Mark, with_slot, with_owed, with_made, IsVacant, HasCodes, MayAside, Moves}
-use Rattle.call_causes.specs.Stories.{At, word_at, SlotFits, BirthsLaw, TasksLaw, ClaimsLaw, ReadsLaw, undo, ahead, unclaimed, IsBehind, KnowsStep, put_of, born_by, ended_of, stored_by, mark_after}
+use Rattle.call_causes.specs.Scenes.{Birth, Saying, Scene, In, IsBorn, IsErrorCode, IsTaskOf, HasUsed, CauseOf, of_expiry, of_other, Later}
+use Rattle.call_causes.specs.Says.{Shape, shape_of, with_attempt, unlocked_by, Slot, NoSlot, Claims, Locked, Holds, Leaves, Mark, with_slot, with_owed, with_made, IsVacant, HasCodes, MayAside, Moves}
+use Rattle.call_causes.specs.Stories.{At, word_at, SlotFits, IsCurrent, BirthsLaw, TasksLaw, ClaimsLaw, ReadsLaw, undo, ahead, unclaimed, IsBehind, KnowsStep, put_of, born_by, ended_of, stored_by, mark_after}
 use Rattle.call_causes.proofs.Lasting.{cause_on, are_told_on}
+use Rattle.call_causes.specs.Lists.{times}
+use Rattle.call_causes.proofs.Effects.{word_is}
 use Rattle.call_causes.proofs.Laters.{stored_is}
 
 module _ (p : Plan) (q : IdPlan) (clients : List (List Task)) (gives : ℕ → List ℕ) where
@@ -36,7 +39,7 @@ module _ (p : Plan) (q : IdPlan) (clients : List (List Task)) (gives : ℕ → L
 
   error_code : (w : Scene) (id e : ℕ) → CauseOf p q clients gives w id e → IsErrorCode p q clients gives (code_of e)
   error_code w id e (of_expiry asked is born x) = inl (ap code_of is ∙ omega arith)
-  error_code w id e (of_other x) = inr x
+  error_code w id e (of_other x last) = inr x
 
   -- for a seat that holds no id no slot was claimed
   pub free_unclaimed : (s : Slot) (bs : List Birth) (todo : List Task) (t : Task) → IsVacant s → bs ≡ [] → In t todo → In t (unclaimed p q clients gives s bs todo)
@@ -60,6 +63,43 @@ module _ (p : Plan) (q : IdPlan) (clients : List (List Task)) (gives : ℕ → L
         subst (λ (y : Parts). IsErrorCode p q clients gives (code_of y.oldest)) (sym is) (error_code p q clients gives w (call_id i (word_at w i).first) (word_at w i).oldest (e.0 (subst (λ (y : Parts). y.oldest ≢ 0) is some_))),
         subst (λ (y : Parts). IsErrorCode p q clients gives (code_of y.second)) (sym is) (error_code p q clients gives w (call_id i (word_at w i).first) (word_at w i).second (e.1 (subst (λ (y : Parts). y.second ≢ 0) is second))),
       )
+
+  -- ## A range that ends
+
+  module _ (i found : ℕ) (b : IsBehind p q clients gives w w' m (EndId i) found) (knows : KnowsStep p q clients gives w (EndId i) found) (may : MayAside p q clients gives w m (EndId i)) (f : ℕ) (shape : Shape) (asked : Asked) (slot : m.slot ≡ Holds i f shape asked) where
+    held : SlotFits q w (Holds i f shape asked)
+    held = subst (SlotFits q w) slot fits
+
+    small : f ≤ 67108856
+    small = subst (λ n. n ≤ 67108856) held.3 (low i held.0)
+
+    slot_is : id_slot (call_id i f) ≡ i
+    slot_is = omega (arith, small)
+
+    first_is : id_first (call_id i f) ≡ f
+    first_is = omega (arith, small)
+
+    there : In (record { id = call_id i f; asked = asked }) w.births
+    there = let same : Holds i may.0 may.1 may.2 ≡ Holds i f shape asked = sym may.3 ∙ slot in let first : may.0 ≡ f = cc in let call : may.2 ≡ asked = cc in
+        subst (λ a. In (record { id = call_id i f; asked = a }) w.births) call (subst (λ n. In (record { id = call_id i n; asked = may.2 }) w.births) first may.4)
+
+    now : IsCurrent w (record { id = call_id i f; asked = asked })
+    now = let x = law.born (record { id = call_id i f; asked = asked }) there in
+        ⊎_elim (λ past. absurd (let two = x.1 in let first = held.3 in let z : id_first (call_id i f) + asked.range ≤ (word_at w i).first = subst (λ n. id_first (call_id i f) + asked.range ≤ (word_at w n).first) slot_is past in omega (arith, two, first, first_is, z))) (λ y. y) x.3
+
+    ended : (word_at w' i).first ≡ (word_at w i).first + (word_at w i).range
+    ended = let x = word_is p q clients gives w w' m plan i held.0 sized (packed (free_word ((parts found).first + (parts found).range))) b.words ∙ parts_packed (free_word ((parts found).first + (parts found).range)) (omega arith) (omega arith) (omega arith) (omega arith) (omega arith) (omega arith) in
+        ap (λ (y : Parts). y.first) x ∙ ap (λ (y : Parts). y.first + y.range) knows.1
+
+    used : shape.attempt + 2 ≡ asked.range → HasUsed p q clients gives w' (record { id = call_id i f; asked = asked })
+    used all = (
+      l.born (call_id i f) asked there,
+      subst (λ n. id_first (call_id i f) + asked.range ≤ (word_at w' n).first) (sym slot_is)
+          (let one = held.3 in let range : (word_at w i).range ≡ asked.range = subst (λ n. (word_at w n).range ≡ asked.range) slot_is now.2 in omega (arith, ended, one, range, first_is)),
+      ap (λ n. n + 2) (ap (times asked.operation) b.advances ∙ (sym (law.attempts (record { id = call_id i f; asked = asked }) there now) ∙ (ap (λ n. (word_at w n).attempt) slot_is ∙ held.5))) ∙ all,
+    )
+
+  -- ## Each step
 
   pub moves : (step : Step) (found : Found step) → IsBehind p q clients gives w w' m step found → KnowsStep p q clients gives w step found → MayAside p q clients gives w m step → Moves p q clients gives w' m step found (mark_after p q clients gives step found m)
   moves (ClaimId i) found b knows may = (
@@ -112,9 +152,9 @@ module _ (p : Plan) (q : IdPlan) (clients : List (List Task)) (gives : ℕ → L
           let is : parts from ≡ word_at w i = ap parts (sym same) ∙ knows.0.1 in
           let e = law.errors i held.0 (let z = held.2 in omega (arith, z)) in
           let packed_is = parts_packed (unlocked_word (parts from) (advance_of advance)) (state_fits (eqb (parts from).oldest 0)) (omega arith) (omega arith) (let z = knows.2 in omega (arith, z)) (omega arith) (omega arith) in (
-          subst (λ n. CauseOf p q clients gives w' (call_id i f) n) (sym (ap (λ (z : Parts). z.oldest) is))
-          (subst (λ n. CauseOf p q clients gives w' (call_id i n) (word_at w i).oldest) held.3 (cause_on p q clients gives w w' l (call_id i (word_at w i).first) (word_at w i).oldest (e.0 (subst (λ (z : Parts). z.oldest ≢ 0) is some_)))),
-          ap (λ (z : Parts). z.range) packed_is ∙ (ap (λ (z : Parts). z.range) is ∙ held.4),
+            subst (λ n. CauseOf p q clients gives w' (call_id i f) n) (sym (ap (λ (z : Parts). z.oldest) is))
+                (subst (λ n. CauseOf p q clients gives w' (call_id i n) (word_at w i).oldest) held.3 (cause_on p q clients gives w w' l (call_id i (word_at w i).first) (word_at w i).oldest (e.0 (subst (λ (z : Parts). z.oldest ≢ 0) is some_)))),
+            ap (λ (z : Parts). z.range) packed_is ∙ (ap (λ (z : Parts). z.range) is ∙ held.4),
           ),
     )),
     (λ ne. ap (λ c. cond c y m) (ne_eqb found from ne)),
@@ -123,7 +163,7 @@ module _ (p : Plan) (q : IdPlan) (clients : List (List Task)) (gives : ℕ → L
       state_fits : (c : Bool) → cond c 1 2 < 4
       state_fits true = omega arith
       state_fits false = omega arith
-  moves (EndId i) found b knows may = λ f shape asked slot. ap (λ s. with_owed (ended_of p q clients gives s) (with_slot (Leaves i) m)) slot
+  moves (EndId i) found b knows may = λ f shape asked slot. (ap (λ s. with_owed (ended_of p q clients gives s) (with_slot (Leaves i) m)) slot, used i found b knows may f shape asked slot)
   moves (FreeId i) found b knows may = refl
   moves (TakeCall i) found b knows may = (refl, taken)
     where

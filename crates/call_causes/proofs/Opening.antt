@@ -227,6 +227,7 @@ module _ (p : Plan) (q : IdPlan) (clients : List (List Task)) (gives : ℕ → L
         client = λ j m at. ap (λ (n : Mark). n.client) (sym (at_first q.seats j m at).0);
         placed = λ j m at. subst (λ (n : Mark). Rattle.call_causes.specs.Stories.undo p q clients gives n.done n.todo ≡ get_or clients j []) (at_first q.seats j m at).0 refl;
         told = λ j m at. subst (λ (n : Mark). Rattle.call_causes.specs.Scenes.AreTold p q clients gives first_scene n.client n.done) (at_first q.seats j m at).0 tt;
+        quiet = λ j m at. subst (λ (n : Mark). Rattle.call_causes.specs.Stories.AreQuiet p q clients gives first_scene (replicate p.operations None) n.client n.done) (at_first q.seats j m at).0 tt;
         begun = λ b there. absurd there;
         made = λ j m b at is. absurd (let z : [] ≡ b ∷ [] = ap (λ (n : Mark). n.makes) (at_first q.seats j m at).0 ∙ is in cc);
         called = λ o inside begun. absurd (begun (fresh_words.rest (call_word q o) (omega arith)));

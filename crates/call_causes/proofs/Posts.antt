@@ -12,8 +12,8 @@ use Rattle.sock_programs.specs.Programs.{Program, Aside, Round}
 use Rattle.sock_programs.specs.Posts.{packed, advance_of, is_first, is_sought, is_stale, is_full, judged, posts_round, post_with, posted, post, popped, unlocks_round, end_id, is_final, ends_call, decide, unlocked, decides_round, decided, locking, locks_round, joins_round}
 use Rattle.id_runs.proofs.Keeps.{parts_packed}
 use Rattle.id_runs.proofs.Loops.{not_equal}
-use Rattle.call_causes.specs.Scenes.{Birth, Scene, IsBorn, IsOther, CauseOf, of_expiry, of_other, FailedIn, by_expiry, by_other, Later}
-use Rattle.call_causes.specs.Says.{Shape, shape_of, HasShape, with_attempt, unlocked_by, Slot, NoSlot, Claims, Locked, Holds, Leaves, Mark, with_slot, with_owed, IsVacant, IsFree, put_in, taken_out, SaidBy, HasCodes, Moves, Shows, IsSoughtIn, AtHead, Again, MatchesRange, LeavesPost, LeavesUnlock, EndsBy, LeavesDecision, LeavesLock, YieldsPost, SaysOn}
+use Rattle.call_causes.specs.Scenes.{Birth, Scene, IsBorn, IsOther, HasUsed, CauseOf, of_expiry, of_other, FailedIn, by_expiry, by_other, Later}
+use Rattle.call_causes.specs.Says.{Shape, shape_of, HasShape, with_attempt, unlocked_by, Slot, NoSlot, Claims, Locked, Holds, Leaves, Mark, with_slot, with_owed, IsVacant, IsFree, put_in, taken_out, SaidBy, HasCodes, Moves, Shows, IsSoughtIn, AtHead, Again, MatchesRange, LeavesPost, LeavesUnlock, IsLast, EndsBy, LeavesDecision, LeavesLock, YieldsPost, SaysOn}
 use Rattle.call_causes.proofs.Lasting.{far, cause_on}
 
 -- ## Tests
@@ -36,6 +36,10 @@ not_zero n e same = let z : true ≡ false = sym e ∙ ap (λ k. not (eqb k 0)) 
 pub or_left : (a b : Bool) → (a || b) ≡ false → a ≡ false
 or_left true b e = e
 or_left false b e = refl
+
+or_cases : (a b : Bool) → (a || b) ≡ true → (a ≡ true) ⊎ (b ≡ true)
+or_cases true b e = inl refl
+or_cases false b e = inr e
 
 pub id_back : (id : ℕ) → call_id (id_slot id) (id_first id) ≡ id
 id_back id = omega arith
@@ -138,14 +142,14 @@ module _ (p : Plan) (q : IdPlan) (clients : List (List Task)) (gives : ℕ → L
 
   -- the range in hand ends
   pub end_says : (w : Scene) (m : Mark) (i f : ℕ) (shape : Shape) (asked : Asked) (next : Program) → m.slot ≡ Holds i f shape asked → IsBorn w (call_id i f) asked → m.owes ≡ []
-      → ((v : Scene) (m' : Mark) (s : Slot) → IsVacant s → After w v → SaidBy v next → m' ≡ with_owed (record { id = call_id i f; asked = asked } ∷ []) (with_slot s m) → Says v m' next) → Says w m (end_id i next)
+      → ((v : Scene) (m' : Mark) (s : Slot) → IsVacant s → After w v → SaidBy v next → m' ≡ with_owed (record { id = call_id i f; asked = asked } ∷ []) (with_slot s m) → (shape.attempt + 2 ≡ asked.range → HasUsed p q clients gives v (record { id = call_id i f; asked = asked })) → Says v m' next) → Says w m (end_id i next)
   end_says w m i f shape asked next slot born owes goes = (
     (f, shape, asked, slot, born, owes),
-    λ found v m' l s mv. let is = mv f shape asked slot in (
+    λ found v m' l s mv. let both = mv f shape asked slot in let is = both.0 in (
       tt,
       way v m' (Rattle.std.proofs.Common.leb ((parts found).first + (parts found).range) LAST) (Aside (FreeId i) (λ _. next)) next s
-          (λ _ _. (ap (λ (x : Mark). x.slot) is, λ _ v' m'' l' s' mv'. (tt, goes v' m'' NoSlot tt (far p q clients gives w v v' l l') s' (mv' ∙ ap (with_slot NoSlot) is))))
-          (λ _ s'. goes v m' (Leaves i) tt l s' is),
+          (λ _ _. (ap (λ (x : Mark). x.slot) is, λ _ v' m'' l' s' mv'. (tt, goes v' m'' NoSlot tt (far p q clients gives w v v' l l') s' (mv' ∙ ap (with_slot NoSlot) is) (λ all. l'.used (record { id = call_id i f; asked = asked }) (both.1 all)))))
+          (λ _ s'. goes v m' (Leaves i) tt l s' is both.1),
     ),
   )
 
@@ -155,7 +159,7 @@ module _ (p : Plan) (q : IdPlan) (clients : List (List Task)) (gives : ℕ → L
 
   -- the error that was decided on was queued
   queued : (w : Scene) (m : Mark) (id e x : ℕ) → attempt_of e ≢ 7 → CauseOf p q clients gives w id x → (exit : Deciding) (m' : Mark) → LeavesDecision p q clients gives w m id x exit m' → LeavesDecision p q clients gives w m id e exit m'
-  queued w m id e x part cause (HasEnded o c) m' lv = (lv.0, lv.1, lv.2, lv.3, lv.4, lv.5, lv.6, ⊎_elim (λ same. inr (part, x, same, cause)) (λ y. inr (part, y.1, y.2, y.3)) lv.7)
+  queued w m id e x part cause (HasEnded o c) m' lv = (lv.0, lv.1, lv.2, lv.3, lv.4, lv.5, lv.6, ⊎_elim (λ same. inr (part, x, same.0, cause, same.1)) (λ y. inr (part, y.1, y.2, y.3, y.4)) lv.7)
   queued w m id e x part cause GoesOn m' lv = (lv.0, part)
 
   -- the call of a lock is taken out of its home, and decided on
@@ -176,8 +180,8 @@ module _ (p : Plan) (q : IdPlan) (clients : List (List Task)) (gives : ℕ → L
       let r : Retry = record { id = id; attempt = (parts word).attempt + 1 } in
       let born = subst (λ i. IsBorn w i asked) (sym (id_back id)) at.1 in
       plain_way w m (ends_call (parts word) e) (end_id (id_slot id) (k (HasEnded asked.operation (code_of e)))) (Aside (PutCall (id_slot id) asked) (λ _. Round (Unlocks (id_slot id) word true) (unlocked r k)))
-      (λ _. end_says w m (id_slot id) (id_first id) at.0.0 asked (k (HasEnded asked.operation (code_of e))) at.0.1 born at.2
-      (λ v m' s vacant l said is. goes (HasEnded asked.operation (code_of e)) v m' l said (record { id = call_id (id_slot id) (id_first id); asked = asked }, s, vacant, is, id_back id, l.born (call_id (id_slot id) (id_first id)) asked born, refl, inl refl)))
+      (λ ends. end_says w m (id_slot id) (id_first id) at.0.0 asked (k (HasEnded asked.operation (code_of e))) at.0.1 born at.2
+      (λ v m' s vacant l said is used. goes (HasEnded asked.operation (code_of e)) v m' l said (record { id = call_id (id_slot id) (id_first id); asked = asked }, s, vacant, is, id_back id, l.born (call_id (id_slot id) (id_first id)) asked born, refl, inl (refl, last v ends used))))
       (λ more. (
         inr (id_first id, at.0.0, at.0.1, born),
         λ found v m' l s mv. (
@@ -189,6 +193,11 @@ module _ (p : Plan) (q : IdPlan) (clients : List (List Task)) (gives : ℕ → L
         ),
       ))
     where
+      last : (v : Scene) → ends_call (parts word) e ≡ true → (at.0.0.attempt + 2 ≡ asked.range → HasUsed p q clients gives v (record { id = call_id (id_slot id) (id_first id); asked = asked })) → IsLast p q clients gives v (record { id = call_id (id_slot id) (id_first id); asked = asked }) e
+      last v ends used = ⊎_elim (λ whole. inl (eqb-true (attempt_of e) 7 whole))
+          (λ rest. ⊎_elim (λ y. inr (inl y)) (λ y. inr (inr (used (ap (λ n. n + 2) (sym at.0.2.1) ∙ (eqb-true ((parts word).attempt + 2) (parts word).range y ∙ (at.0.2.0 ∙ sym at.0.3)))))) (or_cases (is_final (code_of e)) (eqb ((parts word).attempt + 2) (parts word).range) rest))
+          (or_cases (eqb (attempt_of e) 7) (is_final (code_of e) || eqb ((parts word).attempt + 2) (parts word).range) ends)
+
       unlocked_says : attempt_of e ≢ 7 → (v : Scene) → After w v → (exit : Unlocking) (v' : Scene) (m'' : Mark) → After v v' → SaidBy v' (unlocked (record { id = id; attempt = (parts word).attempt + 1 }) k exit) → LeavesUnlock p q clients gives v' (with_slot (put_in asked m.slot) m) (id_slot id) exit m''
           → Says v' m'' (unlocked (record { id = id; attempt = (parts word).attempt + 1 }) k exit)
       unlocked_says part v l (IsOpen x) v' m'' l' s' lv = goes GoesOn v' m'' (far p q clients gives w v v' l l') s' (record { slot = NoSlot; vacant = tt; is = lv }, part)
@@ -199,18 +208,23 @@ module _ (p : Plan) (q : IdPlan) (clients : List (List Task)) (gives : ℕ → L
           subst (λ y. Says v' y (decide id x e' k)) (sym lv.0) (decide_says v' (with_slot (with_attempt (parts x).attempt (put_in asked m.slot)) m) id x e' k (record { range = at.0.0.range; attempt = (parts x).attempt }) (ap (with_attempt (parts x).attempt) slot) (found.1, refl) at.2 at.3
           (λ exit u m3 l3 s3 lv3. goes exit u m3 (far p q clients gives w v u l (far p q clients gives v v' u l' l3)) s3 (queued u m id e e' part (cause_on p q clients gives v' u l3 id e' cause) exit m3 (regain u m (with_attempt (parts x).attempt (put_in asked m.slot)) id e' exit m3 lv3))))
 
-  -- why the call with the id failed, by an error that has its cause, and by the error that ended it
-  pub failed_of : (w : Scene) (b : Birth) (id x : ℕ) → ((a c : Asked) → IsBorn w id a → IsBorn w id c → a ≡ c) → b.id ≡ id → IsBorn w b.id b.asked → CauseOf p q clients gives w id x → FailedIn p q clients gives w b.id b.asked (code_of x)
-  failed_of w b id x apart is born (of_expiry asked whole there expired) = by_expiry (ap code_of whole ∙ omega arith) (subst (λ a. Rattle.call_causes.specs.Scenes.IsExpired p q clients gives w a) (apart asked b.asked there (subst (λ i. IsBorn w i b.asked) is born)) expired)
-  failed_of w b id x apart is born (of_other other) = by_other other
+  -- an error that isn't for the whole call, or is final, ends it where it is final or no attempt is left
+  pub last_of : (w : Scene) (b : Birth) (x : ℕ) → (is_final (code_of x) ≡ true) ⊎ (attempt_of x ≢ 7) → IsLast p q clients gives w b x → (is_final (code_of x) ≡ true) ⊎ HasUsed p q clients gives w b
+  last_of w b x light (inl whole) = ⊎_elim (λ y. inl y) (λ ne. absurd (ne whole)) light
+  last_of w b x light (inr y) = y
 
-  failed_by : (w : Scene) (b : Birth) (id e c : ℕ) → ((x y : Asked) → IsBorn w id x → IsBorn w id y → x ≡ y) → b.id ≡ id → IsBorn w b.id b.asked → FailedIn p q clients gives w b.id b.asked (code_of e) → EndsBy p q clients gives w id e c → FailedIn p q clients gives w b.id b.asked c
-  failed_by w b id e c apart is born own (inl same) = subst (FailedIn p q clients gives w b.id b.asked) (sym same) own
-  failed_by w b id e c apart is born own (inr y) = subst (FailedIn p q clients gives w b.id b.asked) (sym y.2) (failed_of w b id y.1 apart is born y.3)
+  -- why the call with the id failed, by an error that has its cause, and by the error that ended it
+  pub failed_of : (w : Scene) (b : Birth) (id x : ℕ) → ((a c : Asked) → IsBorn w id a → IsBorn w id c → a ≡ c) → b.id ≡ id → IsBorn w b.id b.asked → CauseOf p q clients gives w id x → IsLast p q clients gives w b x → FailedIn p q clients gives w b.id b.asked (code_of x)
+  failed_of w b id x apart is born (of_expiry asked whole there expired) last = by_expiry (ap code_of whole ∙ omega arith) (subst (λ a. Rattle.call_causes.specs.Scenes.IsExpired p q clients gives w a) (apart asked b.asked there (subst (λ i. IsBorn w i b.asked) is born)) expired)
+  failed_of w b id x apart is born (of_other other light) last = by_other other (last_of w b x light last)
+
+  failed_by : (w : Scene) (b : Birth) (id e c : ℕ) → ((x y : Asked) → IsBorn w id x → IsBorn w id y → x ≡ y) → b.id ≡ id → IsBorn w b.id b.asked → (IsLast p q clients gives w b e → FailedIn p q clients gives w b.id b.asked (code_of e)) → EndsBy p q clients gives w b id e c → FailedIn p q clients gives w b.id b.asked c
+  failed_by w b id e c apart is born own (inl same) = subst (FailedIn p q clients gives w b.id b.asked) (sym same.0) (own same.1)
+  failed_by w b id e c apart is born own (inr y) = subst (FailedIn p q clients gives w b.id b.asked) (sym y.2) (failed_of w b id y.1 apart is born y.3 y.4)
 
   -- what follows a decision
   pub decided_says : (w : Scene) (m : Mark) (id e : ℕ) (next : Program) → m.owes ≡ []
-      → ((v : Scene) (b : Birth) → After w v → SaidBy v next → IsBorn v b.id b.asked → b.id ≡ id → FailedIn p q clients gives v b.id b.asked (code_of e)) → Follows w m next → Decided w m id e (decided id next)
+      → ((v : Scene) (b : Birth) → After w v → SaidBy v next → IsBorn v b.id b.asked → b.id ≡ id → IsLast p q clients gives v b e → FailedIn p q clients gives v b.id b.asked (code_of e)) → Follows w m next → Decided w m id e (decided id next)
   decided_says w m id e next owes own goes (HasEnded o c) v m' l s lv = let b = lv.0 in let is = lv.3 in inr (
     b,
     ap (λ (x : Mark). x.owes) is,
@@ -222,21 +236,21 @@ module _ (p : Plan) (q : IdPlan) (clients : List (List Task)) (gives : ℕ → L
   decided_says w m id e next owes own goes GoesOn v m' l s lv = goes v m' l s lv.0
 
   -- what follows a post whoever made it
-  pub posted_exits : (w : Scene) (m : Mark) (id e : ℕ) (next : Program) → IsFree m → IsOther p q clients gives (code_of e) → Follows w m next → Exits w m id e (posted id e next)
-  posted_exits w m id e next free other goes (HasLocked word) v m' l s lv = (
+  pub posted_exits : (w : Scene) (m : Mark) (id e : ℕ) (next : Program) → IsFree m → IsOther p q clients gives (code_of e) → (is_final (code_of e) ≡ true) ⊎ (attempt_of e ≢ 7) → Follows w m next → Exits w m id e (posted id e next)
+  posted_exits w m id e next free other light goes (HasLocked word) v m' l s lv = (
     tt,
     subst (λ x. Says v x (decide id word e (decided id next))) (sym lv.1)
         (decide_says v (with_slot (Locked (id_slot id) (id_first id) lv.0) m) id word e (decided id next) lv.0 refl lv.2 free.1 free.2
-        (decided_says v (with_slot (Locked (id_slot id) (id_first id) lv.0) m) id e next free.1 (λ u b _ _ _ _. by_other other) (follows_on w v m (Locked (id_slot id) (id_first id) lv.0) next l goes))),
+        (decided_says v (with_slot (Locked (id_slot id) (id_first id) lv.0) m) id e next free.1 (λ u b _ _ _ _ last. by_other other (last_of u b e light last)) (follows_on w v m (Locked (id_slot id) (id_first id) lv.0) next l goes))),
   )
-  posted_exits w m id e next free other goes WasGone v m' l s lv = (tt, goes v m' l s lv)
-  posted_exits w m id e next free other goes WasStale v m' l s lv = (tt, goes v m' l s lv)
-  posted_exits w m id e next free other goes (WasCrowded a b) v m' l s lv = (tt, goes v m' l s lv.0)
-  posted_exits w m id e next free other goes WasQueued v m' l s lv = (of_other other, goes v m' l s lv)
+  posted_exits w m id e next free other light goes WasGone v m' l s lv = (tt, goes v m' l s lv)
+  posted_exits w m id e next free other light goes WasStale v m' l s lv = (tt, goes v m' l s lv)
+  posted_exits w m id e next free other light goes (WasCrowded a b) v m' l s lv = (tt, goes v m' l s lv.0)
+  posted_exits w m id e next free other light goes WasQueued v m' l s lv = (of_other other light, goes v m' l s lv)
 
-  pub post_says : (w : Scene) (m : Mark) (id c n : ℕ) (next : Program) → IsFree m → IsOther p q clients gives c → n < 8 → Follows w m next → Says w m (post id c n next)
+  pub post_says : (w : Scene) (m : Mark) (id c n : ℕ) (next : Program) → IsFree m → IsOther p q clients gives c → n ≤ 6 → Follows w m next → Says w m (post id c n next)
   post_says w m id c n next free other few goes = let back : c ≡ code_of (c * 8 + n) = omega (arith, few) in
-      post_with_says w m id (error_of c n) (posted id (error_of c n) next) free (posted_exits w m id (error_of c n) next free (subst (IsOther p q clients gives) back other) goes)
+      post_with_says w m id (error_of c n) (posted id (error_of c n) next) free (posted_exits w m id (error_of c n) next free (subst (IsOther p q clients gives) back other) (inr (λ is. omega (arith, few, is))) goes)
 
   -- ## Giving a lock back
 

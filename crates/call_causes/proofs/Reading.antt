@@ -14,7 +14,7 @@ use Rattle.sock_programs.specs.declared.task.Task.{Task}
 use Rattle.sock_programs.specs.Asides.{Taking, Bytes, Nothing, NoMore, AtEnd, Closed, Broken, call_id, id_slot, id_first}
 use Rattle.sock_programs.specs.Heads.{Version, Reading, Locks, Opens, Reads, Discards, WasGone, WasStale, WasCrowded, WasQueued, HasLocked, Locking, NotThere, Has, Ended}
 use Rattle.sock_programs.specs.Programs.{Program, Rest, Say, Round, NO_SOCKET, address, release, set_failed}
-use Rattle.sock_programs.specs.Posts.{post_with, decide, decided}
+use Rattle.sock_programs.specs.Posts.{is_final, post_with, decide, decided}
 use Rattle.sock_programs.specs.Readers.{LIMIT, by_code, outcome_by, ending_of, has_response, slot_in, version_in, is_early, answer, answered, responses, last_of, ended_by, read_on, took_bytes, took, reads_round, discarded, discards_round, opens_round, kept_for, ends_with, posted_last, post_each, thrown_away, read, reader}
 use Rattle.call_causes.specs.Lists.{given}
 use Rattle.call_causes.specs.Scenes.{Birth, Scene, Came, IsResponseTo, HasFaulted, IsOther, of_other, by_compression, by_other, WhyEnded}
@@ -74,7 +74,7 @@ module _ (p : Plan) (q : IdPlan) (clients : List (List Task)) (gives : ℕ → L
           tt,
           subst (λ x. Tells v x (Rattle.sock_programs.specs.Posts.end_id (slot_in frame) (says asked))) (sym mv.0)
               (end_says p q clients gives v (with_slot (taken_out asked m.slot) m) (slot_in frame) first shape asked (says asked) (ap (taken_out asked) slot) born.0 owes
-              (λ v2 m2 t vacant l2 said is. inr (
+              (λ v2 m2 t vacant l2 said is _. inr (
                 b,
                 ap (λ (x : Mark). x.owes) is,
                 refl,
@@ -237,13 +237,13 @@ module _ (p : Plan) (q : IdPlan) (clients : List (List Task)) (gives : ℕ → L
 
   -- ## The end of a reading
 
-  module _ (link code : ℕ) (inside : link < p.links) (other : IsOther p q clients gives code) where
+  module _ (link code : ℕ) (inside : link < p.links) (other : IsOther p q clients gives code) (final : is_final code ≡ true) where
     -- the call in hand ends with the first of the kept responses of its versions, or it is decided on
-    kept_ends : (w : Scene) (m : Mark) (id e word : ℕ) (shape : Shape) (next : Program) → m.slot ≡ Locked (id_slot id) (id_first id) shape → m.owes ≡ [] → m.makes ≡ [] → HasShape word shape → IsOther p q clients gives (code_of e) → Ends w m next
+    kept_ends : (w : Scene) (m : Mark) (id e word : ℕ) (shape : Shape) (next : Program) → m.slot ≡ Locked (id_slot id) (id_first id) shape → m.owes ≡ [] → m.makes ≡ [] → HasShape word shape → IsOther p q clients gives (code_of e) → is_final (code_of e) ≡ true → Ends w m next
         → (kept : List Frame) → AreKept w link kept → Tells w m (ends_with id e word (kept_for id (parts word).range kept) next)
-    kept_ends w m id e word shape next slot owes makes same coded goes [] all = decide_says p q clients gives w m id word e (decided id next) shape slot same owes makes (decided_says p q clients gives w m id e next owes (λ _ _ _ _ _ _. by_other coded) goes)
-    kept_ends w m id e word shape next slot owes makes same coded goes (f ∷ fs) all =
-        by_test (eqb (slot_in f) (id_slot id)) (nat_lt id f.meta.correlation_id && nat_lt f.meta.correlation_id (id + (parts word).range)) refl refl (kept_ends w m id e word shape next slot owes makes same coded goes fs all.1)
+    kept_ends w m id e word shape next slot owes makes same coded done goes [] all = decide_says p q clients gives w m id word e (decided id next) shape slot same owes makes (decided_says p q clients gives w m id e next owes (λ _ _ _ _ _ _ _. by_other coded (inl done)) goes)
+    kept_ends w m id e word shape next slot owes makes same coded done goes (f ∷ fs) all =
+        by_test (eqb (slot_in f) (id_slot id)) (nat_lt id f.meta.correlation_id && nat_lt f.meta.correlation_id (id + (parts word).range)) refl refl (kept_ends w m id e word shape next slot owes makes same coded done goes fs all.1)
       where
         answers : slot_in f ≡ id_slot id → (nat_lt id f.meta.correlation_id && nat_lt f.meta.correlation_id (id + (parts word).range)) ≡ true → Tells w m (answer f (id_first id) next)
         answers here is =
@@ -257,22 +257,25 @@ module _ (p : Plan) (q : IdPlan) (clients : List (List Task)) (gives : ℕ → L
         by_test true false here is later = later
         by_test false s here is later = later
 
-    posted_exits : (w : Scene) (m : Mark) (id e : ℕ) (kept : List Frame) (next : Program) → IsFree m → IsOther p q clients gives (code_of e) → AreKept w link kept → Ends w m next → Exits p q clients gives w m id e (posted_last id e kept next)
-    posted_exits w m id e kept next free coded all goes (HasLocked word) v m' l s lv = (
+    posted_exits : (w : Scene) (m : Mark) (id e : ℕ) (kept : List Frame) (next : Program) → IsFree m → IsOther p q clients gives (code_of e) → is_final (code_of e) ≡ true → AreKept w link kept → Ends w m next → Exits p q clients gives w m id e (posted_last id e kept next)
+    posted_exits w m id e kept next free coded done all goes (HasLocked word) v m' l s lv = (
       tt,
       subst (λ x. Tells v x (ends_with id e word (kept_for id (parts word).range kept) next)) (sym lv.1)
-          (kept_ends v (with_slot (Locked (id_slot id) (id_first id) lv.0) m) id e word lv.0 next refl free.1 free.2 lv.2 coded (follows_on p q clients gives w v m (Locked (id_slot id) (id_first id) lv.0) next l goes) kept (kept_on p q clients gives w v l link kept all)),
+          (kept_ends v (with_slot (Locked (id_slot id) (id_first id) lv.0) m) id e word lv.0 next refl free.1 free.2 lv.2 coded done (follows_on p q clients gives w v m (Locked (id_slot id) (id_first id) lv.0) next l goes) kept (kept_on p q clients gives w v l link kept all)),
     )
-    posted_exits w m id e kept next free coded all goes WasGone v m' l s lv = (tt, goes v m' l s lv)
-    posted_exits w m id e kept next free coded all goes WasStale v m' l s lv = (tt, goes v m' l s lv)
-    posted_exits w m id e kept next free coded all goes (WasCrowded a b) v m' l s lv = (tt, goes v m' l s lv.0)
-    posted_exits w m id e kept next free coded all goes WasQueued v m' l s lv = (of_other coded, goes v m' l s lv)
+    posted_exits w m id e kept next free coded done all goes WasGone v m' l s lv = (tt, goes v m' l s lv)
+    posted_exits w m id e kept next free coded done all goes WasStale v m' l s lv = (tt, goes v m' l s lv)
+    posted_exits w m id e kept next free coded done all goes (WasCrowded a b) v m' l s lv = (tt, goes v m' l s lv.0)
+    posted_exits w m id e kept next free coded done all goes WasQueued v m' l s lv = (of_other coded (inl done), goes v m' l s lv)
 
     ends_again : (w : Scene) (m m' : Mark) (next : Program) → Again p q clients gives m m' → Ends w m next → Ends w m' next
     ends_again w m m' next a goes = λ v m'' l s b. goes v m'' l s (again_on p q clients gives m m' m'' a b)
 
     coded : (x : ℕ) → IsOther p q clients gives (code_of (error_of code (at_word_attempt x)))
     coded x = subst (IsOther p q clients gives) (let z : code ≡ code_of (code * 8 + at_word_attempt x) = omega arith in z) other
+
+    final_at : (x : ℕ) → is_final (code_of (error_of code (at_word_attempt x))) ≡ true
+    final_at x = subst (λ c. is_final c ≡ true) (let z : code ≡ code_of (code * 8 + at_word_attempt x) = omega arith in z) final
 
     post_each_at : (w : Scene) (kept : List Frame) (next : Program) (os : List ℕ) (m : Mark) → IsFree m → Ends w m next → (v : Scene) → Later' w v → AreKept v link kept → SaidBy v (post_each os link code kept next) → Tells v m (post_each os link code kept next)
     post_each_at w kept next [] m free goes v l all s = goes v m l s (again_same p q clients gives m m free refl)
@@ -286,7 +289,7 @@ module _ (p : Plan) (q : IdPlan) (clients : List (List Task)) (gives : ℕ → L
                 (λ _ s'. post_each_at w kept next os m free goes v2 f2 all2 s')
                 (λ _ s'. way p q clients gives v2 m (eqb (at_word_link x) link) (post_with (call_id (at_word_slot x) (at_word_first x)) (error_of code (at_word_attempt x)) (posted_last (call_id (at_word_slot x) (at_word_first x)) (error_of code (at_word_attempt x)) kept rest)) rest s'
                 (λ _ _. post_with_says p q clients gives v2 m id e (posted_last id e kept rest) free
-                (posted_exits v2 m id e kept rest free (coded x) all2
+                (posted_exits v2 m id e kept rest free (coded x) (final_at x) all2
                 (λ u m' l3 s3 a. post_each_at w kept next os m' (subst IsFree (sym a.is) (a.vacant, free.1, free.2)) (ends_again w m m' next a goes) u (far p q clients gives w v2 u f2 l3) (kept_on p q clients gives v2 u l3 link kept all2) s3)))
                 (λ _ s''. post_each_at w kept next os m free goes v2 f2 all2 s''))),
           ),
@@ -301,6 +304,10 @@ module _ (p : Plan) (q : IdPlan) (clients : List (List Task)) (gives : ℕ → L
   other_code c (inl is) = inr (inl is)
   other_code c (inr is) = inr (inr (inl is))
 
+  final_code : (c : ℕ) → (c ≡ 1014) ⊎ ((c ≡ 2002) × HasFaulted p q clients gives) → is_final c ≡ true
+  final_code c (inl is) = subst (λ n. is_final n ≡ true) (sym is) refl
+  final_code c (inr is) = subst (λ n. is_final n ≡ true) (sym is.0) refl
+
   -- how a reading ended, and what the seat has then
   pub record IsOver (w : Scene) (m : Mark) (how : Ended) : Type 0 where
     pub free : IsFree m
@@ -314,7 +321,7 @@ module _ (p : Plan) (q : IdPlan) (clients : List (List Task)) (gives : ℕ → L
   read_says calls how w m v l o s =
       let last : Program = post_each calls how.reading.link how.code how.reading.kept (thrown_away how) in
       let other = other_code how.code o.code in
-      let posts : (u : Scene) → Later' w u → AreKept u how.reading.link how.reading.kept → SaidBy u last → Tells u m last = λ u l' all s'. post_each_at how.reading.link how.code o.inside other w how.reading.kept (thrown_away how) calls m o.free (over_ends w m how o.free o.none_ o.own) u l' all s' in
+      let posts : (u : Scene) → Later' w u → AreKept u how.reading.link how.reading.kept → SaidBy u last → Tells u m last = λ u l' all s'. post_each_at how.reading.link how.code o.inside other (final_code how.code o.code) w how.reading.kept (thrown_away how) calls m o.free (over_ends w m how o.free o.none_ o.own) u l' all s' in
       let later : (u : Scene) → Later' v u → SaidBy u last → Tells u m last = λ u l' s'. posts u (far p q clients gives w v u l l') (kept_on p q clients gives v u l' how.reading.link how.reading.kept o.kept) s' in
       way p q clients gives v m how.closed last (address how.reading.id (set_failed how.reading.id how.code (λ _. release (socket_id_slot how.reading.id) (λ _. last))) (λ _. last)) s
       (λ _ s'. posts v l o.kept s')

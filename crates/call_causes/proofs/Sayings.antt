@@ -9,10 +9,11 @@ use Rattle.atomic_table.proofs.Lists.{at_set}
 use Rattle.sock_words.specs.declared.plain.Plan.{Plan}
 use Rattle.sock_words.specs.declared.outcome.Outcome.{Outcome}
 use Rattle.corr_core.specs.declared.marks.Plan.{Plan as IdPlan}
+use Rattle.sock_programs.specs.declared.task.Op.TheVariants as ops
 use Rattle.sock_programs.specs.declared.task.Task.{Task}
 use Rattle.call_causes.specs.Scenes.{Birth, Saying, Scene, In, Said, IsBorn, IsTaskOf, Named, WhyEnded, WhyOwn, ToldOf, was_said, was_sent}
 use Rattle.call_causes.specs.Says.{Mark, with_done}
-use Rattle.call_causes.specs.Stories.{At, HasPassed, BirthsLaw, undo, ahead, IsUntold, IsBegunBy, IsOwed, AreOnce, TasksLaw}
+use Rattle.call_causes.specs.Stories.{At, HasPassed, BirthsLaw, undo, ahead, IsUntold, IsBegunBy, IsOwed, AreOnce, QuietOf, AreQuiet, TasksLaw}
 use Rattle.call_causes.proofs.BirthTicks.{in_all}
 use Rattle.call_causes.proofs.Numbered.{AllDistinct, AreNumbered, distinct_undo}
 use Rattle.call_causes.proofs.Moving.{in_todo, in_done, listed}
@@ -87,6 +88,11 @@ module _ (p : Plan) (q : IdPlan) (clients : List (List Task)) (gives : ℕ → L
   pub once_more : (o : ℕ) (x : Outcome) → slice_get os o ≡ Some None → AreOnce p q clients gives ((record { number = o; outcome = x }) ∷ ss)
   once_more o x free = ((λ y there. let z : Some (Some y) ≡ Some None = sym (law.said o y there) ∙ free in absurd cc), law.once)
 
+  -- messages without outcomes are without them still
+  pub quiet_more : (os' : List (Option Outcome)) (c : ℕ) (ts : List Task) → ((u : Task) (n : ℕ) (bytes : List ℕ) → In u ts → u.op ≡ ops.Send n bytes → slice_get os' u.number ≡ slice_get os u.number) → AreQuiet p q clients gives w os c ts → AreQuiet p q clients gives w os' c ts
+  quiet_more os' c [] still all = tt
+  quiet_more os' c (u ∷ us) still all = (λ n bytes op. ⊎_elim (λ none_. inl (still u n bytes (inl refl) op ∙ none_)) (λ x. inr x) (all.0 n bytes op), quiet_more os' c us (λ v n bytes there op. still v n bytes (inr there) op) all.1)
+
   -- ## The task that is to be done
 
   module _ (t : Task) (ts : List Task) (todo : m.todo ≡ t ∷ ts) (owes : m.owes ≡ []) (makes : m.makes ≡ []) where
@@ -117,13 +123,16 @@ module _ (p : Plan) (q : IdPlan) (clients : List (List Task)) (gives : ℕ → L
         let z : b ∷ [] ≡ [] = sym pending.2 ∙ (ap (λ (y : Mark). y.makes) (one_mark x.0 x.1 x.3 (sym c)) ∙ makes) in absurd cc) x.4.2
 
     -- the marks with one task more that is done
-    pub done_law : ToldOf p q clients gives w m.client m.done t → (os' : List (Option Outcome)) (ss' : List Saying) → ((o : ℕ) (x : Outcome) → In (record { number = o; outcome = x }) ss' → slice_get os' o ≡ Some (Some x)) → ((o : ℕ) (x : Outcome) → slice_get os' o ≡ Some (Some x) → In (record { number = o; outcome = x }) ss')
+    pub done_law : ToldOf p q clients gives w m.client m.done t → (os' : List (Option Outcome)) (ss' : List Saying) → QuietOf p q clients gives w os' m.client m.done t → ((o : ℕ) (x : Outcome) → In (record { number = o; outcome = x }) ss' → slice_get os' o ≡ Some (Some x)) → ((o : ℕ) (x : Outcome) → slice_get os' o ≡ Some (Some x) → In (record { number = o; outcome = x }) ss')
         → ((o : ℕ) → t.number ≢ o → slice_get os' o ≡ slice_get os o) → AreOnce p q clients gives ss' → TasksLaw p q clients gives w os' ss' (set ms j (with_done t ts m))
-    done_law told os' ss' said outcomes others once = record {
+    done_law told os' ss' own said outcomes others once = record {
       once = once;
       client = at_either (λ l n. n.client ≡ l) (with_done t ts m) (law.client j m at) (λ l n ne there. law.client l n there);
       placed = at_either (λ l n. undo p q clients gives n.done n.todo ≡ get_or clients l []) (with_done t ts m) (ap (undo p q clients gives m.done) (sym todo) ∙ law.placed j m at) (λ l n ne there. law.placed l n there);
       told = at_either (λ l n. Rattle.call_causes.specs.Scenes.AreTold p q clients gives w n.client n.done) (with_done t ts m) (told, law.told j m at) (λ l n ne there. law.told l n there);
+      quiet = at_either (λ l n. AreQuiet p q clients gives w os' n.client n.done) (with_done t ts m)
+          (own, quiet_more os' m.client m.done (λ u n bytes there op. others u.number (other_task j m u at (inl there))) (law.quiet j m at))
+          (λ l n ne there. quiet_more os' n.client n.done (λ u k bytes x op. others u.number (other_task l n u there (inl x))) (law.quiet l n there));
       begun = λ b there. let x = law.begun b there in let y = still_at (with_done t ts m) (λ n. IsBegunBy p q clients gives n b x.2)
           (λ z. (z.0, z.1, ⊎_elim (λ done. inl (inr done)) (λ pending. absurd (let e : b ∷ [] ≡ [] = sym pending.2 ∙ makes in cc)) z.2)) x.0 x.1 x.3 x.4 in (x.0, y.0, x.2, y.1, y.2);
       made = λ k n c there is. at_either (λ l n. (b : Birth) → n.makes ≡ b ∷ [] → In b w.births) (with_done t ts m) (λ b is. law.made j m b at is) (λ l n ne there b is. law.made l n b there is) k n there c is;
@@ -145,9 +154,9 @@ module _ (p : Plan) (q : IdPlan) (clients : List (List Task)) (gives : ℕ → L
         before : (b : Birth) → IsOwed p q clients gives (set ms j (with_done t ts m)) b → IsOwed p q clients gives ms b
         before b owed = let x = before_at owed.0 owed.1 b owed.2 owed.3 in (owed.0, x.0, x.1, x.2)
 
-    pub say_own : ToldOf p q clients gives w m.client m.done t → (x : Outcome) → TasksLaw p q clients gives w (set os t.number (Some x)) ((record { number = t.number; outcome = x }) ∷ ss) (set ms j (with_done t ts m))
-    say_own told x = done_law told (set os t.number (Some x)) ((record { number = t.number; outcome = x }) ∷ ss) (said_more t.number x untold_here) (outcomes_more t.number x untold_here) (λ o ne. got_other os t.number o (Some x) ne) (once_more t.number x untold_here)
+    pub say_own : ToldOf p q clients gives w m.client m.done t → (x : Outcome) → Said w t.number x → WhyOwn p q clients gives w m.client m.done t.op x → TasksLaw p q clients gives w (set os t.number (Some x)) ((record { number = t.number; outcome = x }) ∷ ss) (set ms j (with_done t ts m))
+    say_own told x is why = done_law told (set os t.number (Some x)) ((record { number = t.number; outcome = x }) ∷ ss) (λ n bytes op. inr (x, is, why)) (said_more t.number x untold_here) (outcomes_more t.number x untold_here) (λ o ne. got_other os t.number o (Some x) ne) (once_more t.number x untold_here)
 
     -- of a message that was accepted nothing is said
     pub sent_own : ToldOf p q clients gives w m.client m.done t → TasksLaw p q clients gives w os ss (set ms j (with_done t ts m))
-    sent_own told = done_law told os ss law.said law.outcomes (λ o ne. refl) law.once
+    sent_own told = done_law told os ss (λ n bytes op. inl untold_here) law.said law.outcomes (λ o ne. refl) law.once

@@ -8,13 +8,14 @@ use Rattle.atomic_table.proofs.Lists.{at_set}
 use Rattle.sock_words.specs.declared.plain.Plan.{Plan}
 use Rattle.sock_words.specs.declared.outcome.Outcome.{Outcome}
 use Rattle.corr_core.specs.declared.marks.Plan.{Plan as IdPlan}
+use Rattle.sock_programs.specs.declared.task.Op.TheVariants as ops
 use Rattle.sock_programs.specs.declared.task.Task.{Task}
-use Rattle.call_causes.specs.Scenes.{Birth, Saying, Scene, In, Said, WhyEnded}
+use Rattle.call_causes.specs.Scenes.{Birth, Saying, Scene, In, Said, IsTaskOf, WhyEnded}
 use Rattle.call_causes.specs.Says.{Mark, with_owed}
-use Rattle.call_causes.specs.Stories.{At, HasPassed, IsCurrent, BirthsLaw, undo, ahead, IsUntold, IsBegunBy, IsOwed, TasksLaw}
+use Rattle.call_causes.specs.Stories.{At, HasPassed, IsCurrent, BirthsLaw, undo, ahead, IsUntold, IsBegunBy, IsOwed, AreQuiet, TasksLaw}
 use Rattle.call_causes.proofs.BirthTicks.{in_all, two_of}
-use Rattle.call_causes.proofs.Numbered.{AllDistinct, AreNumbered}
-use Rattle.call_causes.proofs.Sayings.{got_other, in_ahead, put_beside, is_done, is_todo, distinct_at, at_either, still_at, said_more, outcomes_more, once_more}
+use Rattle.call_causes.proofs.Numbered.{AllDistinct, AreNumbered, one_task, listed_or}
+use Rattle.call_causes.proofs.Sayings.{got_other, in_ahead, put_beside, is_done, is_todo, distinct_at, at_either, still_at, quiet_more, said_more, outcomes_more, once_more}
 
 module _ (p : Plan) (q : IdPlan) (clients : List (List Task)) (gives : ℕ → List ℕ) (numbered : AreNumbered p q clients gives) (w : Scene) (births : BirthsLaw p q clients gives w) (os : List (Option Outcome)) (ss : List Saying) (ms : List Mark) (law : TasksLaw p q clients gives w os ss ms) (j : ℕ) (m : Mark) (at : At ms j m)
     (b : Birth) (owes : m.owes ≡ b ∷ []) (x : Outcome) (said_x : Said w b.asked.operation x) (why : WhyEnded p q clients gives w b x) where
@@ -44,6 +45,18 @@ module _ (p : Plan) (q : IdPlan) (clients : List (List Task)) (gives : ℕ → L
       let later : In u pending.0 = subst (λ ts. In u (ahead p q clients gives (b ∷ []) ts)) list (subst (λ bs. In u (ahead p q clients gives bs n.todo)) makes here) in
       in_all (λ (y : Task). x.2.number ≢ y.number) pending.0 (subst AllDistinct list (distinct_at p q clients gives numbered w births os ss ms law j m at l n there).0).0 u later (x.4.1 ∙ same)) x.4.2
 
+  -- no message that was to be sent is that call
+  other_sent : (l : ℕ) (n : Mark) (u : Task) (k : ℕ) (bytes : List ℕ) → At ms l n → In u n.done → u.op ≡ ops.Send k bytes → b.asked.operation ≢ u.number
+  other_sent l n u k bytes there here sent same = let x = law.begun b born.0 in let v = x.2 in
+      let mine = is_done p q clients gives numbered w births os ss ms law j m at l n u there here in
+      let list : List Task = get_or clients l [] in
+      let has : (c : ℕ) (t : Task) → IsTaskOf p q clients gives c t → In t (get_or clients c []) = λ c t is. subst (In t) (sym (listed_or clients c is.0 is.1)) is.2 in
+      let theirs : IsTaskOf p q clients gives x.0 v = ⊎_elim (λ done. is_done p q clients gives numbered w births os ss ms law j m at x.0 x.1 v x.3 done) (λ pending. is_todo p q clients gives numbered w births os ss ms law j m at x.0 x.1 v x.3 (subst (In v) (sym pending.1) (inl refl))) x.4.2 in
+      let number : v.number ≡ u.number = x.4.1 ∙ same in
+      let c : x.0 ≡ l = numbered.apart x.0 l v u theirs mine number in
+      let one : v ≡ u = one_task (get_or clients l []) (numbered.distinct l) v u (has l v (subst (λ i. IsTaskOf p q clients gives i v) c theirs)) (has l u mine) number in
+      let z : ops.Call b.asked ≡ ops.Send k bytes = sym x.4.0 ∙ (ap (λ (t : Task). t.op) one ∙ sent) in absurd cc
+
   before_at : (k : ℕ) (n : Mark) (c : Birth) → At (set ms j (with_owed [] m)) k n → n.owes ≡ c ∷ [] → (k ≢ j) × At ms k n
   before_at k n c e is = ⊎_elim (λ y. absurd (let z : [] ≡ c ∷ [] = ap (λ (z : Mark). z.owes) y.1 ∙ is in cc)) (λ y. (y.0, y.1)) (at_set ms j k (with_owed [] m) n e)
 
@@ -55,12 +68,16 @@ module _ (p : Plan) (q : IdPlan) (clients : List (List Task)) (gives : ℕ → L
       (λ owed. let y = before_at owed.0 owed.1 c owed.2 owed.3 in y.0 (law.owed_once owed.0 j owed.1 m b y.1 at (owed.3 ∙ ap (λ z. z ∷ []) is) owes)) unended)
       (λ apart. ⊎_elim (λ a. a.1 (sym same)) (λ a. a.1 same) apart) (two_of w.births births.apart c b there born.0)
 
+  still : (l : ℕ) (n : Mark) → At ms l n → AreQuiet p q clients gives w (set os b.asked.operation (Some x)) n.client n.done
+  still l n there = quiet_more p q clients gives numbered w births os ss ms law j m at (set os b.asked.operation (Some x)) n.client n.done (λ u k bytes here op. got_other os b.asked.operation u.number (Some x) (other_sent l n u k bytes there here op)) (law.quiet l n there)
+
   pub say_owed : TasksLaw p q clients gives w (set os b.asked.operation (Some x)) ((record { number = b.asked.operation; outcome = x }) ∷ ss) (set ms j (with_owed [] m))
   say_owed = record {
     once = once_more p q clients gives numbered w births os ss ms law j m at b.asked.operation x untold_call;
     client = at_either p q clients gives numbered w births os ss ms law j m at (λ l n. n.client ≡ l) (with_owed [] m) (law.client j m at) (λ l n ne there. law.client l n there);
     placed = at_either p q clients gives numbered w births os ss ms law j m at (λ l n. undo p q clients gives n.done n.todo ≡ get_or clients l []) (with_owed [] m) (law.placed j m at) (λ l n ne there. law.placed l n there);
     told = at_either p q clients gives numbered w births os ss ms law j m at (λ l n. Rattle.call_causes.specs.Scenes.AreTold p q clients gives w n.client n.done) (with_owed [] m) (law.told j m at) (λ l n ne there. law.told l n there);
+    quiet = at_either p q clients gives numbered w births os ss ms law j m at (λ l n. AreQuiet p q clients gives w (set os b.asked.operation (Some x)) n.client n.done) (with_owed [] m) (still j m at) (λ l n ne there. still l n there);
     begun = λ c there. let y = law.begun c there in let z = still_at p q clients gives numbered w births os ss ms law j m at (with_owed [] m) (λ n. IsBegunBy p q clients gives n c y.2) (λ z. z) y.0 y.1 y.3 y.4 in (y.0, z.0, y.2, z.1, z.2);
     made = λ k y d e f. at_either p q clients gives numbered w births os ss ms law j m at (λ l n. (c : Birth) → n.makes ≡ c ∷ [] → In c w.births) (with_owed [] m) (λ c is. law.made j m c at is) (λ l n ne there c is. law.made l n c there is) k y e d f;
     called = λ k inside begun. let y = law.called k inside begun in let z = still_at p q clients gives numbered w births os ss ms law j m at (with_owed [] m) (λ n. In y.6 n.done) (λ z. z) y.4 y.5 y.7 y.8 in (y.0, y.1, y.2, y.3, y.4, z.0, y.6, z.1, z.2, y.9, y.10);

@@ -15,7 +15,7 @@ use Rattle.sock_programs.specs.Asides.{Step, ClaimId, PutCall, MakeId, StoreCall
 use Rattle.sock_programs.specs.Posts.{packed, advance_of}
 use Rattle.id_runs.proofs.Keeps.{parts_packed}
 use Rattle.call_causes.specs.Scenes.{Scene}
-use Rattle.call_causes.specs.Says.{Shape, shape_of, HasShape, with_attempt, unlocked_by, Slot, NoSlot, Claims, Locked, Holds, Leaves, Mark, with_slot, put_in, taken_out, MayAside}
+use Rattle.call_causes.specs.Says.{Shape, shape_of, with_attempt, unlocked_by, Slot, NoSlot, Claims, Locked, Holds, Leaves, Mark, with_slot, put_in, taken_out, MayAside}
 use Rattle.call_causes.specs.Stories.{word_at, tag_at, LiesAt, InSlot, PutThere, SlotFits, IsBehind, KnowsStep, mark_after, stored_by}
 use Rattle.call_causes.proofs.Posts.{locked_parts}
 use Rattle.call_causes.proofs.Effects.{Touches, SameAt, beside, word_is, tag_stays, tag_is, word_stays, lies_is}

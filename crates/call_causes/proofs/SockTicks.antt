@@ -22,7 +22,7 @@ use Rattle.call_causes.proofs.Lasting.{are_told_on, cause_on}
 use Rattle.call_causes.proofs.Slots.{LikeAt, like_fits}
 use Rattle.call_causes.proofs.BirthTicks.{one_call}
 use Rattle.call_causes.proofs.Numbered.{AreNumbered}
-use Rattle.call_causes.proofs.TaskTicks.{Change, changed}
+use Rattle.call_causes.proofs.TaskTicks.{Change, quiet_on, changed}
 use Rattle.call_causes.proofs.Chains.{sayings_of, AreFewTries, KeepsFew, IsKept, chain, said_first}
 use Rattle.call_causes.proofs.AsideTicks.{sayings_keep, overs_keep, said_all}
 
@@ -105,6 +105,7 @@ module _ (p : Plan) (q : IdPlan) (clients : List (List Task)) (gives : ℕ → L
       client = refl;
       placed = refl;
       told = are_told_on p q clients gives w w' beside_later m.client m.done (tasks.told j m at);
+      quiet = quiet_on p q clients gives numbered w w' births w.core.outcomes w.sayings ms tasks j m at beside_later m.client m.done (tasks.quiet j m at);
       done = λ t there. there;
       begun = λ c u there y. y;
       born = λ c there. inl (subst (In c) b.births_are there);

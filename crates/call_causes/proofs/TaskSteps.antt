@@ -8,20 +8,21 @@ use Rattle.corr_core.specs.Word.{Parts, parts, made_word, posted_word, unlocked_
 use Rattle.corr_core.specs.declared.marks.Plan.{Plan as IdPlan}
 use Rattle.id_rule.specs.Lawful.{tag_word, id_word, call_word, at_word, all_words}
 use Rattle.sock_message.specs.Asked.{Asked}
+use Rattle.sock_programs.specs.declared.task.Op.TheVariants as ops
 use Rattle.sock_programs.specs.declared.task.Task.{Task}
 use Rattle.sock_programs.specs.Asides.{Step, ClaimId, PutCall, MakeId, StoreCall, LoadCall, StoreAt, LoadAt, LoadIdWord, LockId, PostId, UnlockId, EndId, FreeId, TakeCall, TakeBytes, Bytes, Found, call_id, id_slot, id_first}
 use Rattle.sock_programs.specs.Asides as asides
 use Rattle.sock_programs.specs.Posts.{packed, advance_of}
 use Rattle.call_causes.specs.Scenes.{Birth, Saying, Scene, In, AreTold, was_begun, Later}
 use Rattle.call_causes.specs.Says.{Shape, shape_of, HasShape, with_attempt, unlocked_by, Slot, NoSlot, Claims, Locked, Holds, Leaves, Mark, with_slot, with_owed, with_made, with_done, MayAside}
-use Rattle.call_causes.specs.Stories.{At, word_at, SlotFits, HasPassed, IsCurrent, BirthsLaw, undo, ahead, tasks_behind, IsUntold, TasksLaw, IsBehind, KnowsStep, put_of, born_by, ended_of, stored_by, mark_after}
+use Rattle.call_causes.specs.Stories.{At, word_at, SlotFits, HasPassed, IsCurrent, BirthsLaw, undo, ahead, tasks_behind, IsUntold, AreQuiet, TasksLaw, IsBehind, KnowsStep, put_of, born_by, ended_of, stored_by, mark_after}
 use Rattle.call_causes.proofs.Lasting.{are_told_on}
 use Rattle.call_causes.proofs.Births.{Turn, keeps, ends, makes, IsMake, IsEnd, turn, current_before, passed_still}
 use Rattle.call_causes.proofs.BirthTicks.{two_of}
 use Rattle.call_causes.proofs.Laters.{stored_is}
 use Rattle.call_causes.proofs.Numbered.{AreNumbered}
 use Rattle.call_causes.proofs.Sayings.{in_ahead}
-use Rattle.call_causes.proofs.TaskTicks.{IsNew, Change}
+use Rattle.call_causes.proofs.TaskTicks.{IsNew, Change, quiet_on}
 
 -- a step stores the word of this call
 abbrev IsStore : Step → ℕ → Type 0
@@ -111,6 +112,9 @@ module _ (p : Plan) (q : IdPlan) (clients : List (List Task)) (gives : ℕ → L
     told_still : AreTold p q clients gives w' m.client m.done
     told_still = are_told_on p q clients gives w w' l m.client m.done (law.told j m at)
 
+    quiet_still : AreQuiet p q clients gives w' os m.client m.done
+    quiet_still = quiet_on p q clients gives numbered w w' births os ss ms law j m at l m.client m.done (law.quiet j m at)
+
     -- ## A step that is no seat's but for its slot
 
     pub plain : (m' : Mark) → IsLike m m' → w'.births ≡ w.births → ((k : ℕ) → IsEnd step k → ⊥) → ((o : ℕ) → IsStore step o → ⊥) → Changes m'
@@ -118,6 +122,7 @@ module _ (p : Plan) (q : IdPlan) (clients : List (List Task)) (gives : ℕ → L
       client = like.client;
       placed = ap (λ d. undo p q clients gives d m'.todo) like.done ∙ ap (undo p q clients gives m.done) like.todo;
       told = subst (λ c. AreTold p q clients gives w' c m'.done) (sym like.client) (subst (AreTold p q clients gives w' m.client) (sym like.done) told_still);
+      quiet = subst (λ c. AreQuiet p q clients gives w' os c m'.done) (sym like.client) (subst (AreQuiet p q clients gives w' os m.client) (sym like.done) quiet_still);
       done = λ t x. subst (In t) (sym like.done) x;
       begun = λ c u _ x. (x.0, x.1, ⊎_elim (λ d. inl (subst (In u) (sym like.done) d)) (λ y. inr (y.0, like.todo ∙ y.1, like.makes ∙ y.2)) x.2);
       born = λ c x. inl (subst (In c) same x);
@@ -138,6 +143,7 @@ module _ (p : Plan) (q : IdPlan) (clients : List (List Task)) (gives : ℕ → L
     client = refl;
     placed = ap (undo p q clients gives m.done) (sym may.4);
     told = (was_begun may.0.id may.0.asked may.5 may.6 (l.born may.0.id may.0.asked may.9) (λ e. knows.1 (sym word ∙ (ap (λ n. get_or w'.core.calls.words (call_word q n) 0) (may.7 ∙ sym may.6) ∙ e))) (l.named (Rattle.sock_message.specs.Asked.name_of may.0.asked 0) may.10), told_still (StoreCall o id) found b knows may);
+    quiet = (λ n bytes sent. absurd (let z : ops.Send n bytes ≡ ops.Call may.0.asked = sym sent ∙ may.5 in cc), quiet_still (StoreCall o id) found b knows may);
     done = λ t x. inr x;
     begun = λ c u _ x. (x.0, x.1, ⊎_elim (λ d. inl (inr d)) (λ y. inl (inl (let z : may.1 ∷ may.2 ≡ u ∷ y.0 = sym may.4 ∙ y.1 in let e : u ≡ may.1 = cc in e))) x.2);
     born = λ c x. inl (subst (In c) b.births x);
@@ -163,6 +169,7 @@ module _ (p : Plan) (q : IdPlan) (clients : List (List Task)) (gives : ℕ → L
     client = refl;
     placed = refl;
     told = told_still (EndId i) found b knows may;
+    quiet = quiet_still (EndId i) found b knows may;
     done = λ t x. x;
     begun = λ c u _ x. x;
     born = λ c x. inl (subst (In c) b.births x);
@@ -248,6 +255,7 @@ module _ (p : Plan) (q : IdPlan) (clients : List (List Task)) (gives : ℕ → L
       client = refl;
       placed = refl;
       told = told_still (MakeId i range) found b knows may;
+      quiet = quiet_still (MakeId i range) found b knows may;
       done = λ t x. x;
       begun = λ c u _ x. (x.0, x.1, ⊎_elim (λ d. inl d) (λ y. absurd (let z : c ∷ [] ≡ [] = sym y.2 ∙ may.8 in cc)) x.2);
       born = λ c x. ⊎_elim (λ same. inr (subst (IsNew p q clients gives numbered w w' births os ss ms law j m at l made_mark) (sym same) is_new)) (λ old. inl old) (subst (In c) births_are x);

@@ -9,12 +9,16 @@ use Rattle.sock_programs.specs.declared.task.Op.TheVariants as ops
 use Rattle.sock_programs.specs.declared.task.Task.{Task}
 use Rattle.call_causes.specs.Scenes.{Birth, Saying, Scene, In, Begun, AreTold, Later}
 use Rattle.call_causes.specs.Says.{Mark}
-use Rattle.call_causes.specs.Stories.{At, HasPassed, IsCurrent, BirthsLaw, undo, ahead, IsUntold, IsBegunBy, IsOwed, TasksLaw}
-use Rattle.call_causes.proofs.Lasting.{are_told_on, ended_on}
+use Rattle.call_causes.specs.Stories.{At, HasPassed, IsCurrent, BirthsLaw, undo, ahead, IsUntold, IsBegunBy, IsOwed, AreQuiet, TasksLaw}
+use Rattle.call_causes.proofs.Lasting.{own_on, are_told_on, ended_on}
 use Rattle.call_causes.proofs.Numbered.{AreNumbered}
 use Rattle.call_causes.proofs.Sayings.{put_at, at_either, still_at}
 
 module _ (p : Plan) (q : IdPlan) (clients : List (List Task)) (gives : ℕ → List ℕ) (numbered : AreNumbered p q clients gives) (w w' : Scene) (births : BirthsLaw p q clients gives w) (os : List (Option Outcome)) (ss : List Saying) (ms : List Mark) (law : TasksLaw p q clients gives w os ss ms) (j : ℕ) (m : Mark) (at : At ms j m) (l : Later p q clients gives w w') where
+  pub quiet_on : (c : ℕ) (ts : List Task) → AreQuiet p q clients gives w os c ts → AreQuiet p q clients gives w' os c ts
+  quiet_on c [] all = tt
+  quiet_on c (t ∷ ts) all = (λ n bytes op. ⊎_elim (λ none_. inl none_) (λ x. inr (x.0, l.said t.number x.0 x.1, own_on p q clients gives w w' l c ts t.op x.0 x.2)) (all.0 n bytes op), quiet_on c ts all.1)
+
   -- an id that was just made, of whose call nothing is said
   pub record IsNew (m' : Mark) (c : Birth) : Type 0 where
     pub task : Task
@@ -39,6 +43,7 @@ module _ (p : Plan) (q : IdPlan) (clients : List (List Task)) (gives : ℕ → L
     pub client : m'.client ≡ m.client
     pub placed : undo p q clients gives m'.done m'.todo ≡ undo p q clients gives m.done m.todo
     pub told : AreTold p q clients gives w' m'.client m'.done
+    pub quiet : AreQuiet p q clients gives w' os m'.client m'.done
     pub done : (t : Task) → In t m.done → In t m'.done
     pub begun : (c : Birth) (u : Task) → In c w.births → IsBegunBy p q clients gives m c u → IsBegunBy p q clients gives m' c u
     pub born : (c : Birth) → In c w'.births → In c w.births ⊎ IsNew m' c
@@ -90,6 +95,7 @@ module _ (p : Plan) (q : IdPlan) (clients : List (List Task)) (gives : ℕ → L
       client = either (λ k n. n.client ≡ k) (ch.client ∙ law.client j m at) (λ k n ne there. law.client k n there);
       placed = either (λ k n. undo p q clients gives n.done n.todo ≡ get_or clients k []) (ch.placed ∙ law.placed j m at) (λ k n ne there. law.placed k n there);
       told = either (λ k n. AreTold p q clients gives w' n.client n.done) ch.told (λ k n ne there. are_told_on p q clients gives w w' l n.client n.done (law.told k n there));
+      quiet = either (λ k n. AreQuiet p q clients gives w' os n.client n.done) ch.quiet (λ k n ne there. quiet_on n.client n.done (law.quiet k n there));
       begun = λ c there. ⊎_elim (λ old. let x = law.begun c old in let y = still (λ n. IsBegunBy p q clients gives n c x.2) (ch.begun c x.2 old) x.0 x.1 x.3 x.4 in (x.0, y.0, x.2, y.1, y.2)) (λ new. (j, m', new.task, put_at ms j m m' at, new.begun)) (ch.born c there);
       made = λ k n c there is. either (λ k n. (c : Birth) → n.makes ≡ c ∷ [] → In c w'.births) ch.made (λ k n ne there c is. still_there c (law.made k n c there is)) k n there c is;
       called = λ o inside begun. ⊎_elim

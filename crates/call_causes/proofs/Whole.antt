@@ -7,10 +7,13 @@ use Rattle.brpc_model.specs.Operations.{Turn}
 use Rattle.corr_core.specs.Word.{parts}
 use Rattle.id_rule.specs.Lawful.{id_word}
 use Rattle.sock_programs.specs.Cores.{Core}
+use Rattle.sock_programs.specs.declared.task.Op.{Op}
+use Rattle.sock_programs.specs.declared.task.Op.TheVariants as ops
 use Rattle.sock_programs.specs.Tasks.{plan_of, id_plan_of}
 use Rattle.sock_programs.specs.Scripts.{all_tasks, IsRunWithCalls}
 use Rattle.sock_programs.specs.ToldCalls.{Fixed, Order}
 use Rattle.sock_runs.specs.Sound.{AllRest}
+use Rattle.sock_causes.specs.Facts.{Seeks, CallsFoundNone}
 use Rattle.joint_runs.proofs.Runs.{AreMade}
 use Rattle.report_fits.proofs.Reading.{InRange}
 use Rattle.report_fits.proofs.Targets.{AreThere}
@@ -18,14 +21,24 @@ use Rattle.owed_calls.specs.Lives.{ClosesInRun}
 use Rattle.owed_calls.proofs.Known.{run_all_ended, run_all_rest}
 use Rattle.call_causes.specs.Lists.{given}
 use Rattle.call_causes.specs.Target.{ToldOnCallsInPart}
-use Rattle.call_causes.specs.Scenes.{LeadsTo}
+use Rattle.call_causes.specs.Scenes.{SeeksName, LeadsTo}
 use Rattle.call_causes.specs.Stories.{HasStory}
 use Rattle.call_causes.proofs.End.{HasEnded, told, versions}
-use Rattle.call_causes.proofs.CallWhys.{why}
+use Rattle.call_causes.proofs.CallWhys.{names_found_none, why}
 use Rattle.call_causes.proofs.Once.{expired_once}
 use Rattle.call_causes.proofs.Scripts.{are_numbered, are_ascending, have_slots, begins}
 use Rattle.call_causes.proofs.Run.{run_story, many_seats}
 use Rattle.call_causes.proofs.Over.{has_ended}
+
+seeks_name : (n : ℕ) (op : Op) → Seeks n op → SeeksName n op
+seeks_name n (ops.Fail m code) s = s
+seeks_name n (ops.Hold m) s = s
+seeks_name n (ops.Send m bytes) s = s
+seeks_name n (ops.Call asked) s = s
+seeks_name n (ops.Open m k) s = absurd s
+seeks_name n (ops.Expire t) s = absurd s
+seeks_name n (ops.Join t) s = absurd s
+seeks_name n (ops.Drop m) s = absurd s
 
 module _ (script : List Item) (made : AreMade script) (there : AreThere script) (range : AllByRecursion InRange script) (turns : List Turn) (core : Core) (is : IsRunWithCalls script turns core) where
   abbrev gives : ℕ → List ℕ
@@ -45,6 +58,11 @@ module _ (script : List Item) (made : AreMade script) (there : AreThere script) 
         (subst AllRest (sym h.is) (run_all_rest script made turns core is closes))
         (λ i inside. subst (λ (d : Core). (parts (get_or d.calls.words (id_word i) 0)).state ≡ 0) (sym h.is) (run_all_ended script made turns core is closes i inside))
         (let many = ap (λ (d : Core). length d.seats) h.is ∙ many_seats script made (given core) (are_numbered script made there range (given core)) (have_slots script made there range (given core)) (begins script made there range (given core)) turns core is leads in let seats = made.seats in let few = made.few_clients in omega (arith, many, seats, few))
+
+    -- where an operation found a name without a socket, the calls of its client before it found so too
+    pub run_found_none : CallsFoundNone (all_tasks script) core.outcomes
+    run_found_none = let h = run_has_story in subst (λ (d : Core). CallsFoundNone (all_tasks script) d.outcomes) h.is
+        (λ c t u asked n is us sought has low op name. names_found_none (plan_of script) (id_plan_of script) (all_tasks script) (given core) (are_ascending script made there range (given core)) h.scene h.marks run_has_ended c t u n is us (seeks_name n t.op sought) has low (subst (SeeksName n) (sym op) name))
 
     module _ (fixed : Fixed) (orders : ℕ → Order) (last : ℕ → ℕ) where
       -- each `call`, `expire` and `join` has an outcome and its cause; of a call that failed only so much is told as shows without its attempts

@@ -12,7 +12,7 @@ use Rattle.sock_programs.specs.ToldCalls.{Fixed, Order, HasBegun, MayNotHaveBegu
 use Rattle.call_causes.specs.Lists.{given}
 use Rattle.call_causes.specs.Scenes.{Scene, In, IsErrorCode, WhyEnded, WhyOwn, HasBegunIn, HasNotBegunIn, ToldOf, was_said, was_sent, was_begun, AreTold}
 use Rattle.call_causes.specs.Says.{Mark}
-use Rattle.call_causes.specs.Stories.{undo}
+use Rattle.call_causes.specs.Stories.{undo, QuietOf, AreQuiet}
 use Rattle.call_causes.proofs.BirthTicks.{in_all}
 use Rattle.call_causes.proofs.End.{HasEnded, ended_call, one_outcome, contains_in, listed_or, undo_done}
 
@@ -40,16 +40,18 @@ module _ (p : Plan) (q : IdPlan) (clients : List (List Task)) (gives : ℕ → L
     pub record IsDone (c : ℕ) (t : Task) : Type 0 where
       pub before : List Task
       pub told : ToldOf p q clients gives w c before t
+      pub quiet : QuietOf p q clients gives w w.core.outcomes c before t
       pub less : (d : Task) → In d before → d.number < t.number
       pub all : (d : Task) → IsTask clients w.core.outcomes c d → d.number < t.number → In d before
 
     -- among these, of which those of `rest` come later
-    find : (c : ℕ) (done rest : List Task) (t : Task) → AreAscending (undo p q clients gives done rest) → AreTold p q clients gives w c done → In t done → ((d : Task) → IsTask clients w.core.outcomes c d → In d done ⊎ In d rest) → IsDone c t
-    find c [] rest t sorted told there all = absurd there
-    find c (u ∷ us) rest t sorted told (inr there) all = find c us (u ∷ rest) t sorted told.1 there (λ d is. ⊎_elim (λ x. ⊎_elim (λ same. inr (inl same)) (λ y. inl y) x) (λ y. inr (inr y)) (all d is))
-    find c (u ∷ us) rest t sorted told (inl same) all = let order = ascending_undo us (u ∷ rest) sorted in record {
+    find : (c : ℕ) (done rest : List Task) (t : Task) → AreAscending (undo p q clients gives done rest) → AreTold p q clients gives w c done → AreQuiet p q clients gives w w.core.outcomes c done → In t done → ((d : Task) → IsTask clients w.core.outcomes c d → In d done ⊎ In d rest) → IsDone c t
+    find c [] rest t sorted told quiet there all = absurd there
+    find c (u ∷ us) rest t sorted told quiet (inr there) all = find c us (u ∷ rest) t sorted told.1 quiet.1 there (λ d is. ⊎_elim (λ x. ⊎_elim (λ same. inr (inl same)) (λ y. inl y) x) (λ y. inr (inr y)) (all d is))
+    find c (u ∷ us) rest t sorted told quiet (inl same) all = let order = ascending_undo us (u ∷ rest) sorted in record {
       before = us;
       told = subst (ToldOf p q clients gives w c us) (sym same) told.0;
+      quiet = subst (QuietOf p q clients gives w w.core.outcomes c us) (sym same) quiet.0;
       less = λ d there. subst (λ (x : Task). d.number < x.number) (sym same) (order.1 d u there (inl refl));
       all = λ d is low. ⊎_elim (λ x. ⊎_elim (λ s. absurd (let z : d.number ≡ t.number = ap (λ (y : Task). y.number) (s ∙ sym same) in omega (arith, z, low))) (λ y. y) x)
           (λ y. absurd (let z = in_all (λ (v : Task). u.number < v.number) rest order.0.0 d y in let k : u.number ≡ t.number = ap (λ (v : Task). v.number) (sym same) in omega (arith, z, k, low))) (all d is);
@@ -61,7 +63,7 @@ module _ (p : Plan) (q : IdPlan) (clients : List (List Task)) (gives : ℕ → L
         let n : Mark = s.0 in
         let tasks_are : undo p q clients gives s.0.done s.0.todo ≡ is.0 = e.tasks.placed c s.0 s.1 ∙ listed_or clients c is.0 is.1 in
         let place : (d : Task) → IsTask clients w.core.outcomes c d → In d s.0.done ⊎ In d s.0.todo = λ d x. undo_done p q clients gives s.0.done s.0.todo d (subst (In d) (sym (e.tasks.placed c s.0 s.1 ∙ listed_or clients c x.0 x.1)) (contains_in x.0 d x.2.0 x.2.1 x.2.2)) in
-        find c s.0.done s.0.todo t (subst AreAscending (sym (e.tasks.placed c s.0 s.1)) (ascending c)) (subst (λ k. AreTold p q clients gives w k s.0.done) (e.tasks.client c s.0 s.1) (e.tasks.told c s.0 s.1))
+        find c s.0.done s.0.todo t (subst AreAscending (sym (e.tasks.placed c s.0 s.1)) (ascending c)) (subst (λ k. AreTold p q clients gives w k s.0.done) (e.tasks.client c s.0 s.1) (e.tasks.told c s.0 s.1)) (subst (λ k. AreQuiet p q clients gives w w.core.outcomes k s.0.done) (e.tasks.client c s.0 s.1) (e.tasks.quiet c s.0 s.1))
         (⊎_elim (λ x. x) (λ x. absurd (subst (In t) (e.idle c s.0 s.1).0 x)) (place t is)) place
 
     -- ## What is said of another call

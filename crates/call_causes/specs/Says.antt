@@ -16,13 +16,13 @@ use Rattle.sock_programs.specs.declared.task.Task.{Task}
 use Rattle.sock_programs.specs.Calls.{Call, StoreName, LoadName, StoreCode, LoadCode}
 use Rattle.sock_programs.specs.Asides.{Step, ClaimId, PutCall, MakeId, StoreCall, LoadCall, LoadIdWord, LockId, PostId, UnlockId, EndId, FreeId, TakeCall, TakeBytes, Taking, Bytes, Found, call_id, id_slot, id_first}
 use Rattle.sock_programs.specs.Heads.{Head, Exit, Sought, First, Version, Posts, Unlocks, Decides, Locks, Joins, Opens, Reads, Discards, Posting, WasCrowded, WasQueued, HasLocked, Unlocking, IsOpen, HasNext, Deciding, HasEnded, GoesOn, Locking, NotThere, Has, Reading}
-use Rattle.sock_programs.specs.Posts.{WHOLE, is_first, is_sought, packed, advance_of}
+use Rattle.sock_programs.specs.Posts.{WHOLE, is_final, is_first, is_sought, packed, advance_of}
 use Rattle.sock_programs.specs.Programs.{Program, Do, Say, Sent, Rest, TakeMessage, TakeHome, PutHome, PutBytes, AskReady, Write, Aside, Round, Keep, Retries}
 use Rattle.sock_programs.specs.Readers.{has_response}
 use Rattle.id_runs.specs.Goes.{FitsOwner, FitsWriting}
 use Rattle.call_causes.specs.Lists.{given}
 use Rattle.sock_words.specs.declared.outcome.Outcome.{Outcome}
-use Rattle.call_causes.specs.Scenes.{Birth, Scene, Said, IsOver, IsJust, IsBorn, IsClaimed, Came, HasFaulted, IsOther, IsErrorCode, Named, Begun, HasBegunIn, CauseOf, WhyEnded, WhyOwn, AreTold, HasNoneOf, IsTaskOf, Later}
+use Rattle.call_causes.specs.Scenes.{Birth, Scene, Said, IsOver, IsJust, IsBorn, IsClaimed, Came, HasFaulted, IsOther, IsErrorCode, Named, Begun, HasUsed, HasBegunIn, CauseOf, WhyEnded, WhyOwn, AreTold, HasNoneOf, IsTaskOf, Later}
 
 -- ## Marks
 
@@ -172,7 +172,7 @@ module _ (p : Plan) (q : IdPlan) (clients : List (List Task)) (gives : ℕ → L
   Moves w m (PostId i from e) found m' = (found ≡ from → (parts from).state ≡ 1 → m' ≡ with_slot (Locked i (parts from).first (shape_of (parts from))) m) × (found ≡ from → (parts from).state ≢ 1 → m' ≡ m) × (found ≢ from → (m' ≡ m) × HasCodes found)
   Moves w m (UnlockId i from advance) found m' = (found ≡ from → (parts from).oldest ≡ 0 → m' ≡ with_slot NoSlot m)
       × (found ≡ from → (parts from).oldest ≢ 0 → (m' ≡ with_slot (with_attempt (parts (unlocked_by from advance)).attempt m.slot) m) × ((f : ℕ) (shape : Shape) → m.slot ≡ Locked i f shape → CauseOf p q clients gives w (call_id i f) (parts from).oldest × ((parts (unlocked_by from advance)).range ≡ shape.range))) × (found ≢ from → m' ≡ m)
-  Moves w m (EndId i) found m' = (f : ℕ) (shape : Shape) (asked : Asked) → m.slot ≡ Holds i f shape asked → m' ≡ with_owed (record { id = call_id i f; asked = asked } ∷ []) (with_slot (Leaves i) m)
+  Moves w m (EndId i) found m' = (f : ℕ) (shape : Shape) (asked : Asked) → m.slot ≡ Holds i f shape asked → (m' ≡ with_owed (record { id = call_id i f; asked = asked } ∷ []) (with_slot (Leaves i) m)) × (shape.attempt + 2 ≡ asked.range → HasUsed p q clients gives w (record { id = call_id i f; asked = asked }))
   Moves w m (FreeId i) found m' = m' ≡ with_slot NoSlot m
   Moves w m (TakeCall i) found m' = (m' ≡ with_slot (taken_out found m.slot) m) × ((f : ℕ) (shape : Shape) → m.slot ≡ Locked i f shape → IsBorn w (call_id i f) found × (found.range ≡ shape.range))
   Moves w m (TakeBytes k room) found m' = (m' ≡ given_more found m) × (m.link ≡ k ∷ [] → given w.core k ≡ (given_more found m).bytes)
@@ -229,12 +229,16 @@ module _ (p : Plan) (q : IdPlan) (clients : List (List Task)) (gives : ℕ → L
   LeavesUnlock w m i (IsOpen word) m' = m' ≡ with_slot NoSlot m
   LeavesUnlock w m i (HasNext word e) m' = (m' ≡ with_slot (with_attempt (parts word).attempt m.slot) m) × ((f : ℕ) (shape : Shape) → m.slot ≡ Locked i f shape → CauseOf p q clients gives w (call_id i f) e × ((parts word).range ≡ shape.range))
 
+  -- an error that ends its call is for the whole of it, or final, or comes where no attempt is left
+  abbrev pub IsLast : Scene → Birth → ℕ → Type 0
+  IsLast w b e = (attempt_of e ≡ WHOLE) ⊎ ((is_final (code_of e) ≡ true) ⊎ HasUsed p q clients gives w b)
+
   -- the error that ended a call is this one, or, where this one isn't for the whole call, one that was queued
-  abbrev pub EndsBy : Scene → ℕ → ℕ → ℕ → Type 0
-  EndsBy w id e c = (c ≡ code_of e) ⊎ ((attempt_of e ≢ WHOLE) × (x : ℕ) × (c ≡ code_of x) × CauseOf p q clients gives w id x)
+  abbrev pub EndsBy : Scene → Birth → ℕ → ℕ → ℕ → Type 0
+  EndsBy w b id e c = ((c ≡ code_of e) × IsLast w b e) ⊎ ((attempt_of e ≢ WHOLE) × (x : ℕ) × (c ≡ code_of x) × CauseOf p q clients gives w id x × IsLast w b x)
 
   abbrev pub LeavesDecision : Scene → Mark → ℕ → ℕ → Deciding → Mark → Type 0
-  LeavesDecision w m id e (HasEnded o c) m' = (b : Birth) × (s : Slot) × IsVacant s × (m' ≡ with_owed (b ∷ []) (with_slot s m)) × (b.id ≡ id) × IsBorn w b.id b.asked × (o ≡ b.asked.operation) × EndsBy w id e c
+  LeavesDecision w m id e (HasEnded o c) m' = (b : Birth) × (s : Slot) × IsVacant s × (m' ≡ with_owed (b ∷ []) (with_slot s m)) × (b.id ≡ id) × IsBorn w b.id b.asked × (o ≡ b.asked.operation) × EndsBy w b id e c
   LeavesDecision w m id e GoesOn m' = Again m m' × (attempt_of e ≢ WHOLE)
 
   abbrev pub LeavesLock : Mark → ℕ → Sought → Locking → Mark → Type 0

@@ -1,5 +1,5 @@
 -- What has happened so far that lasts, and what it tells of calls.
-use Rattle.std.specs.Prelude.{ℕ, ◌≡◌, ◌≢◌, ◌+◌, ◌<◌, ◌≤◌, ◌⊎◌, ◌∷◌, ◌++◌, List, [], slice_get, slice_index, Some, IsSome, ℤ, pos}
+use Rattle.std.specs.Prelude.{ℕ, ◌≡◌, ◌≢◌, ◌+◌, ◌<◌, ◌≤◌, ◌⊎◌, true, ◌∷◌, ◌++◌, List, [], slice_get, slice_index, Some, IsSome, ℤ, pos}
 use Rattle.sock_words.specs.declared.plain.Plan.{Plan}
 use Rattle.sock_words.specs.declared.outcome.Outcome.{Outcome}
 use Rattle.sock_words.specs.declared.outcome.Outcome.TheVariants.{Opened, SlotsFull, Unopened, Answered, Peer, CallFailed, Expired, Queued, Late, Crowded, Joined, NotBegun}
@@ -7,7 +7,7 @@ use Rattle.brpc_model.specs.Meta.{ResponseMeta}
 use Rattle.brpc_model.specs.Frame.{Frame}
 use Rattle.brpc_model.specs.Stream.{stream}
 use Rattle.brpc_model.specs.Causes.{HasFault}
-use Rattle.corr_core.specs.Word.{parts, error_of, code_of}
+use Rattle.corr_core.specs.Word.{parts, error_of, code_of, attempt_of}
 use Rattle.corr_core.specs.declared.marks.Plan.{Plan as IdPlan}
 use Rattle.id_rule.specs.Lawful.{id_word, call_word}
 use Rattle.sock_programs.specs.Asides.{id_slot, id_first}
@@ -16,7 +16,7 @@ use Rattle.sock_message.specs.Asked.{Asked, name_of}
 use Rattle.sock_programs.specs.declared.task.Op.{Op}
 use Rattle.sock_programs.specs.declared.task.Op.TheVariants as ops
 use Rattle.sock_programs.specs.declared.task.Task.{Task}
-use Rattle.sock_programs.specs.Posts.{WHOLE}
+use Rattle.sock_programs.specs.Posts.{WHOLE, is_final}
 use Rattle.sock_programs.specs.Cores.{Core}
 use Rattle.call_causes.specs.Lists.{given, times}
 
@@ -132,13 +132,13 @@ module _ (p : Plan) (q : IdPlan) (clients : List (List Task)) (gives : ℕ → L
   -- why an error of the id is there
   pub data CauseOf (w : Scene) (id e : ℕ) : Type 0 where
     of_expiry : (asked : Asked) → e ≡ error_of 1008 WHOLE → IsBorn w id asked → IsExpired w asked → CauseOf w id e
-    of_other : IsOther (code_of e) → CauseOf w id e
+    of_other : IsOther (code_of e) → (is_final (code_of e) ≡ true) ⊎ (attempt_of e ≢ WHOLE) → CauseOf w id e
 
   -- why the call with this id ended with the code
   pub data FailedIn (w : Scene) (id : ℕ) (asked : Asked) (code : ℕ) : Type 0 where
     by_expiry : code ≡ 1008 → IsExpired w asked → FailedIn w id asked code
     by_compression : code ≡ 2002 → IsAnsweredIn w id asked (λ frame. frame.meta.compress_type ≢ pos 0) → FailedIn w id asked code
-    by_other : IsOther code → FailedIn w id asked code
+    by_other : IsOther code → (is_final code ≡ true) ⊎ HasUsed w (record { id = id; asked = asked }) → FailedIn w id asked code
 
   -- why a call whose range has ended has its outcome
   abbrev pub WhyEnded : Scene → Birth → Outcome → Type 0
@@ -180,11 +180,11 @@ module _ (p : Plan) (q : IdPlan) (clients : List (List Task)) (gives : ℕ → L
   WhyOwn w c before (ops.Open n k) (Opened slot version l) = Named w n
   WhyOwn w c before (ops.Open n k) SlotsFull = Unit {0}
   WhyOwn w c before (ops.Open n k) other = ⊥
-  WhyOwn w c before (ops.Send n bytes) Unopened = Unit {0}
+  WhyOwn w c before (ops.Send n bytes) Unopened = NoneFound w before n
   WhyOwn w c before (ops.Send n bytes) other = Named w n
-  WhyOwn w c before (ops.Hold n) Unopened = Unit {0}
+  WhyOwn w c before (ops.Hold n) Unopened = NoneFound w before n
   WhyOwn w c before (ops.Hold n) other = Named w n
-  WhyOwn w c before (ops.Fail n code) Unopened = Unit {0}
+  WhyOwn w c before (ops.Fail n code) Unopened = NoneFound w before n
   WhyOwn w c before (ops.Fail n code) other = Named w n
   WhyOwn w c before (ops.Drop n) other = Unit {0}
 

@@ -17,7 +17,7 @@ use Rattle.sock_programs.specs.Beside.{calls_after}
 use Rattle.sock_programs.specs.Posts.{advance_of}
 use Rattle.sock_programs.specs.Cores.{Core, SeatState}
 use Rattle.call_causes.specs.Lists.{given, times, advances_by}
-use Rattle.call_causes.specs.Scenes.{Birth, Claim, Saying, Scene, In, IsOver, Said, IsBorn, IsOther, CauseOf, Begun, IsTaskOf, WhyEnded, AreTold, IsClaimed}
+use Rattle.call_causes.specs.Scenes.{Birth, Claim, Saying, Scene, In, IsOver, Said, IsBorn, IsOther, CauseOf, Begun, IsTaskOf, WhyEnded, WhyOwn, AreTold, IsClaimed}
 use Rattle.call_causes.specs.Says.{Shape, shape_of, with_attempt, unlocked_by, Slot, NoSlot, Claims, Locked, Holds, Leaves, Mark, with_slot, with_owed, with_made, with_done, put_in, taken_out, given_more, SaysOn}
 
 abbrev pub At : List Mark → ℕ → Mark → Type 0
@@ -124,11 +124,20 @@ module _ (p : Plan) (q : IdPlan) (clients : List (List Task)) (gives : ℕ → L
   AreOnce [] = Unit {0}
   AreOnce (s ∷ ss) = ((x : Outcome) → In (record { number = s.number; outcome = x }) ss → ⊥) × AreOnce ss
 
+  -- a message that a task of client c was to send, behind these tasks, has no outcome, or one that has its cause
+  abbrev pub QuietOf : Scene → List (Option Outcome) → ℕ → List Task → Task → Type 0
+  QuietOf w os c before t = (n : ℕ) (bytes : List ℕ) → t.op ≡ ops.Send n bytes → IsUntold os t.number ⊎ ((x : Outcome) × Said w t.number x × WhyOwn p q clients gives w c before t.op x)
+
+  abbrev pub AreQuiet : Scene → List (Option Outcome) → ℕ → List Task → Type 0
+  AreQuiet w os c [] = Unit {0}
+  AreQuiet w os c (t ∷ ts) = QuietOf w os c ts t × AreQuiet w os c ts
+
   -- with these outcomes, by what was said of them
   pub record TasksLaw (w : Scene) (os : List (Option Outcome)) (ss : List Saying) (ms : List Mark) : Type 0 where
     pub client : (j : ℕ) (m : Mark) → At ms j m → m.client ≡ j
     pub placed : (j : ℕ) (m : Mark) → At ms j m → undo m.done m.todo ≡ slice_index_or clients j []
     pub told : (j : ℕ) (m : Mark) → At ms j m → AreTold p q clients gives w m.client m.done
+    pub quiet : (j : ℕ) (m : Mark) → At ms j m → AreQuiet w os m.client m.done
     -- each id is one of a call that a client began, and each word of a call is such an id
     pub begun : (b : Birth) → In b w.births → (j : ℕ) × (m : Mark) × (t : Task) × At ms j m × IsBegunBy m b t
     pub made : (j : ℕ) (m : Mark) (b : Birth) → At ms j m → m.makes ≡ b ∷ [] → In b w.births
