@@ -19,3 +19,4 @@ pub mod Dropped
 pub mod Sends
 pub mod Plain
 pub mod Lists
+pub mod Firsts
