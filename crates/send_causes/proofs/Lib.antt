@@ -20,3 +20,4 @@ pub mod Sends
 pub mod Plain
 pub mod Lists
 pub mod Firsts
+pub mod FirstRuns

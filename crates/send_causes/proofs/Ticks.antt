@@ -214,7 +214,7 @@ calls_behind is_call _ found a puts h = h
 
 -- ## Retries that wait
 
-calls_waiting : (step : Step) (found : Found step) (a : Calls) → (calls_after step found a).waiting ≡ a.waiting
+pub calls_waiting : (step : Step) (found : Found step) (a : Calls) → (calls_after step found a).waiting ≡ a.waiting
 calls_waiting (TakeBytes k room) (Bytes bytes) a = refl
 calls_waiting (TakeBytes k room) _ a = refl
 calls_waiting (ClaimId i) found a = refl
