@@ -21,3 +21,4 @@ pub mod Plain
 pub mod Lists
 pub mod Firsts
 pub mod FirstRuns
+pub mod Beside
