@@ -19,3 +19,6 @@ pub mod Dropped
 pub mod Sends
 pub mod Plain
 pub mod Lists
+pub mod Firsts
+pub mod FirstRuns
+pub mod Beside

@@ -99,7 +99,7 @@ clients_claim p [] i v e = absurd (some-ne-none v (sym e))
 clients_claim p (ts ∷ clients) zero v e = subst (λ (u : View). u.claims ≡ []) (some-injective (client_view p ts) v e) refl
 clients_claim p (ts ∷ clients) (suc i) v e = clients_claim p clients i v e
 
-opening_claims : (p : Plan) (clients : List (List Task)) (i : ℕ) (v : View) → get_elem? (opening_views p clients) i ≡ some v → v.claims ≡ []
+pub opening_claims : (p : Plan) (clients : List (List Task)) (i : ℕ) (v : View) → get_elem? (opening_views p clients) i ≡ some v → v.claims ≡ []
 opening_claims p [] i v e = absurd (some-ne-none v (sym e))
 opening_claims p (ts ∷ clients) zero v e = subst (λ (u : View). u.claims ≡ []) (some-injective (newcomer p (without_passes (links_of_all clients) (below p.links)) (511 - length clients)) v e) refl
 opening_claims p (ts ∷ clients) (suc i) v e = clients_claim p clients i v e
@@ -126,10 +126,10 @@ module _ (script : List Item) (made : AreMade script) (turns : List Turn) (core 
   abbrev fresh : (i : ℕ) (v : View) → get_elem? (first_views script) i ≡ some v → v.lists ≡ [] ∷ []
   fresh = opening_fresh (plan_of script) (all_seats (all_tasks script) (length (opens script)))
 
-  narrow : (id_plan_of script).slots ≤ 65536
+  pub narrow : (id_plan_of script).slots ≤ 65536
   narrow = let k = known script made turns core is in k.narrow
 
-  few_clients : length (all_tasks script) ≤ 32
+  pub few_clients : length (all_tasks script) ≤ 32
   few_clients = let k = known script made turns core is in k.few
 
   bare : (i : ℕ) (v : View) → get_elem? (first_views script) i ≡ some v → v.claims ≡ []
@@ -146,7 +146,7 @@ module _ (script : List Item) (made : AreMade script) (turns : List Turn) (core 
   few = lost_before script are vs begins fresh goes turns core is fits
 
   -- at words are those of the operations' own calls
-  abbrev labelled : AreLabelledIn (ids_of_run script made turns core is narrow few_clients) script turns core is
+  abbrev pub labelled : AreLabelledIn (ids_of_run script made turns core is narrow few_clients) script turns core is
   labelled = run_labelled script made turns core is narrow few_clients
 
   tells : ToldTasks (told_tasks_of script) core.outcomes (plan_of script) orders_of_run (lost_of_run script turns core is) few (late script are vs begins fresh goes turns core is fits)
