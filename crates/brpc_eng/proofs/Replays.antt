@@ -3,7 +3,7 @@ use Rattle.std.proofs.Common.{◌≡◌, ◌≢◌, ℕ, ◌≤◌, inl, Bool, t
 use Rattle.std.specs.Prelude.{is_some}
 use Rattle.std.specs.List.{list_any}
 use Rattle.std.specs.declared.alloc.Global.{Global}
-use Rattle.brpc_model.specs.Items.{Item, Shape, Open}
+use Rattle.brpc_model.specs.Items.{Item, Open}
 use Rattle.brpc_model.specs.Script.{script_of}
 use Rattle.brpc_model.specs.Commands as model
 use Rattle.brpc_eng.specs.declared.commands.Command.{Command}

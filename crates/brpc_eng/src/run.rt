@@ -1,5 +1,5 @@
 ghost use Rattle.std.specs.Prelude.{◌≡◌, ◌≢◌, ℕ, List, [], Ok, true};
-ghost use Rattle.std.specs.List.{list_all};
+ghost use Rattle.std.specs.List.{list_all, list_any};
 ghost use Rattle.brpc_model.specs.Script.{script_of};
 ghost use Rattle.script_items.specs.Meaning.{item};
 ghost use Rattle.script_run.specs.Given.{has_piece};
@@ -18,10 +18,17 @@ use std::alloc::Global;
 pub fn is_built(script: &Script) -> bool
     ensures { result ≡ is_built_script script.now }
 {
-    !script.lines().iter().any(asks_other_end)
+    !has_other_ends(script.lines())
 }
 
-/// Whether a line asks for such an other end.
+/// Whether there is a line that asks for an other end that answers or ends.
+fn has_other_ends(lines: &[Line]) -> bool
+    ensures { result ≡ list_any (λ line. is_other_end (item line)) lines.now }
+{
+    lines.iter().any(asks_other_end)
+}
+
+/// Whether it is such a line.
 fn asks_other_end(line: &Line) -> bool
     ensures { result ≡ is_other_end (item line.now) }
 {
