@@ -35,6 +35,3 @@ returns-in-Some-clause-ok g c =
     let next = next_along reader (steps.Aside (variants.TakeCall c.in-Aside-TakeCall.slot)) c.self.view_is (subst (λ (s : ReadStep). IsNextRead c.args.self.now reader s) is c.requires.next) in
     step_along (sym is) (told_along c.self.view_is (taken_told c.args.seat reader c.follow_call.new.self c.in-Aside-TakeCall.slot c.in-Some.call (record { plan = refl; id_plan = same; calls = refl; ending = refl; letters = refl; nexts = refl }) next c.in-Some.ensures
     (c.follow_call.ensures c.self.inside.calls.items c.self.inside.outcomes.items) refl refl refl))
-
-pub read_aside-requires-clause-kind : goal.read_aside-requires-clause-kind
-read_aside-requires-clause-kind g c = ?
