@@ -1,87 +1,145 @@
--- A step of a seat is a tick of the machine, which stays sound, and has one tick less left if the seat moved.
-use Rattle.std.proofs.Common.{◌≡◌, refl, ℕ, zero, suc, ◌+◌, ◌<◌, ◌⊎◌, inl, inr, Bool, false, List, [], ◌∷◌, length, slice_set, Option, Some, None, ap, sym, ◌∙◌, arith, subst}
+-- A step of a seat is a tick of the machine, which stays one, and has one tick less left if the seat moved.
+use Rattle.std.proofs.Common.{◌≡◌, refl, ℕ, ◌+◌, ◌<◌, ◌≤◌, inl, Bool, true, false, [], ◌∷◌, append-nil, length, Option, Some, None, ap, ap₂, sym, ◌∙◌, arith, subst}
 use Rattle.std.proofs.Props.{props}
 use Rattle.std.proofs.Math.Logic.{∥∥₁_elim}
-use Rattle.std.proofs.Math.ListN.{length-set}
 use Rattle.std.proofs.lemmas.Option.{none-some}
-use Rattle.atomic_table.proofs.Lists.{set_here}
-use Rattle.sock_runs.proofs.Along.{place_inside}
 use mathlib.Core.Option as core
 use lib.ListN.{get_elem?}
 use Rattle.sock_words.specs.declared.kind.Kind.{Kind}
-use Rattle.sock_words.specs.declared.plain.Plan.{Plan}
-use Rattle.sock_words.specs.declared.outcome.Outcome.{Outcome}
-use Rattle.sock_io.specs.Link.{OutState}
 use Rattle.sock_io.specs.declared.link.Ready.TheVariants as asks
-use Rattle.sock_programs.specs.Calls as calls
+use Rattle.sock_programs.specs.Asides as asides
+use Rattle.sock_programs.specs.Heads.{Head, Exit, Posts, Unlocks, Decides, Locks, Joins, Opens, Reads, Discards}
 use Rattle.sock_programs.specs.Writings as heads
-use Rattle.sock_programs.specs.Programs.{Program, Do, Say, Sent, Rest, Write}
-use Rattle.sock_programs.specs.Cores.{Core, SeatState, said, next_step, word_of, found_at}
-use Rattle.sock_programs.specs.Ticks.{Answer, Unasked, OfPut, OfReady, Moment, quiet, waits_at, waits}
+use Rattle.sock_programs.specs.Programs.{Program, Write, Round}
+use Rattle.sock_programs.specs.Cores.{Core, SeatState}
+use Rattle.sock_programs.specs.Ticks.{Answer, Unasked, OfPut, OfReady, OfTake, Moment, waits_at, waits, broken_at}
 use Rattle.sock_programs.specs.Runs.{kind_in, next_kind, IsAtRest}
-use Rattle.sock_programs.specs.Scripts.{sizes_of}
+use Rattle.sock_runs.specs.Sound.{IsAhead}
+use Rattle.sock_runs.proofs.Along.{place_inside, seat_rests}
+use Rattle.whole_runs.specs.Heard.{heard_at}
+use Rattle.call_points.specs.declared.aside.Aside.{Aside as AsideStep}
+use Rattle.call_points.specs.declared.aside.Aside.TheVariants as code
+use Rattle.call_points.specs.Steps as aside_steps
 use Rattle.seat_points.specs.declared.point.Step.{Step}
-use Rattle.seat_points.specs.declared.point.Next.{Next}
-use Rattle.seat_points.specs.declared.point.Next.TheVariants as nexts
-use Rattle.seat_points.specs.Points.{Around, after_word, next_program}
-use Rattle.sock_words.specs.declared.socket_id.SocketId.{SocketId}
-use Rattle.seat_points.specs.Steps.{First, OfCall, OfMessage, OfLink, OfHome, step_as, first_in}
+use Rattle.seat_points.specs.declared.point.Step.TheVariants as firsts
+use Rattle.seat_points.specs.Steps.{First, OfCall, OfAside, OfMessage, OfLink, OfHome, step_of, step_as, first_in}
 use Rattle.seat_points.specs.Steps as kinds
-use Rattle.sock_core.specs.declared.letter.Letter.{Letter}
-use Rattle.sock_core.specs.declared.machine.On.{On}
-use Rattle.sock_core.specs.declared.machine.On.TheVariants as on
+use Rattle.client_seats.specs.Seats.{around, seat_program, asked_of}
+use Rattle.reader_points.specs.declared.point.ReadStep.{ReadStep}
+use Rattle.reader_points.specs.declared.point.ReadStep.TheVariants as steps
+use Rattle.reader_points.specs.Steps as reader_steps
+use Rattle.reader_seats.specs.Readers.{reader_program}
 use Rattle.sock_core.specs.declared.machine.Tick.{Tick}
 use Rattle.sock_core.specs.declared.machine.Tick.TheVariants.{Moved, Waits, Idle}
-use Rattle.client_seats.specs.Seats.{SeatData, around, seat_program}
-use Rattle.sock_core.specs.Links.{LinksData, Taken, Agrees}
-use Rattle.sock_core.specs.Machines.{MachineState, TableState, IsMachine, ArePaced, table_of, seat_state, seats_with, core_with}
-use Rattle.sock_core.specs.Steps.{IsSized, IsNext, NextIs, HasNoStep, OutsAfter, Goes, Made, SteppedTo, letters_after, holders_after}
-use Rattle.sock_core.specs.Telling.{TickTold, Tells, WaitsOn, is_waiting}
-use Rattle.sock_core.specs.Runs.{Ticked, TickedWith, TickIs, WaitsFor}
-use Rattle.sock_core.specs.Driving.{LeavesFewer, LeavesAsMany, Leaves, AsksNone, IsPlain, TickedFirst}
-use Rattle.sock_core.proofs.Lengths.{AsMany, as_many, length_said}
-use Rattle.sock_core.proofs.Answering.{made_links, made_prompt, made_broken, made_told}
-use Rattle.sock_core.proofs.Changes.{seat_at}
-use Rattle.sock_core.proofs.FirstSteps.{same_some}
-use Rattle.sock_core.proofs.Fitting.{paced_prop, step_may}
-use Rattle.sock_core.proofs.Joining.{same_table_none, same_links_none, show_faults_none, rests, rest_answered, rest_heard, tells_none}
-use Rattle.sock_core.proofs.Keeping.{same_plan, step_keeps, paced_keeps}
-use Rattle.sock_core.proofs.Sounds.{AsksUnfinished, asks_unfinished}
-use Rattle.sock_core.proofs.Ticked.{IsCall, step_core, step_quiet}
+use Rattle.sock_core.specs.Links.{LinksData, Taken, Given, Agrees, AgreesGave}
+use Rattle.sock_core.specs.Machines.{MachineState, READERS, IsMachine, IsSoundMachine, HasSizes, AreCalled, ArePaced, table_of, machine_sizes, state_of, core_with}
+use Rattle.sock_core.specs.Steps.{IsSized, NextIs, FitsSlots, SameBase, MadeFirst}
+use Rattle.sock_core.specs.Reading.{SameTables, NextReadIs, MadeRead, TickRead}
+use Rattle.sock_core.specs.Telling.{TickTold, Tells, is_waiting}
+use Rattle.sock_core.specs.Runs.{SameTable, SameLinks, ShowFaults, TickIs, Follows, Ticked}
+use Rattle.sock_core.specs.Driving.{Leaves}
+use Rattle.sock_core.proofs.Answering.{AsksUnfinished, made_links, made_prompt, made_broken, made_told}
+use Rattle.sock_core.proofs.CallWords.{called_behind}
+use Rattle.sock_core.proofs.Closings.{made_closes, made_closed, read_links, read_closes, read_closed}
+use Rattle.sock_core.proofs.Fitting.{paced_prop, client_next, client_may, client_asks, client_takes, client_slots, reader_next, reader_may, reader_slots}
+use Rattle.sock_core.proofs.Joining.{tells_as}
+use Rattle.sock_core.proofs.Keeping.{OutsKept, Keeps, kept_by, readers_paced, made_paced, step_keeps}
+use Rattle.sock_core.proofs.Lengths.{AsMany, as_many, sizes_kept}
+use Rattle.sock_core.proofs.PointFacts.{NoTake}
+use Rattle.sock_core.proofs.ReadLengths.{read_prompt, read_many, read_same, read_sizes}
+use Rattle.sock_core.proofs.ReadTicks.{MayRead, reads_by}
+use Rattle.sock_core.proofs.Seatings.{seat_at, read_at}
+use Rattle.sock_core.proofs.Takings.{made_taken, made_takes, read_broken, read_told, read_taken, read_takes}
+use Rattle.sock_core.proofs.Tellings.{ready_waits}
+use Rattle.sock_core.proofs.Ticked.{MayMake, SteppedWith, steps_by}
 
 -- ## Of a machine
 
-pub is_sized : (m : MachineState) (room : ℕ) → IsMachine m room → IsSized (table_of m)
-is_sized m room is = record { letters_are = is.letters_are; holders_are = is.holders_are; nexts_are = is.nexts_are; outs_are = is.outs_are }
+module _ (m : MachineState) (sizes : ∥ HasSizes m ∥₁) where
+  pub is_sized : IsSized (table_of m)
+  is_sized = record {
+    letters_are = ∥∥₁_elim sizes (hlevel props) (λ h. h.letters_are);
+    holders_are = ∥∥₁_elim sizes (hlevel props) (λ h. h.holders_are);
+    nexts_are = ∥∥₁_elim sizes (hlevel props) (λ h. h.nexts_are);
+    outs_are = ∥∥₁_elim sizes (hlevel props) (λ h. h.outs_are);
+    inns_are = ∥∥₁_elim sizes (hlevel props) (λ h. h.inns_are);
+  }
 
-pub is_paced : (m : MachineState) (room : ℕ) → IsMachine m room → ArePaced m.plan m.links m.seats
-is_paced m room is = ∥∥₁_elim is.paced (paced_prop m) (λ p. p)
+  pub few_seats : length m.seats ≤ READERS
+  few_seats = ∥∥₁_elim sizes (hlevel props) (λ h. h.few_seats)
+
+  pub some_seat : 0 < length m.seats
+  some_seat = ∥∥₁_elim sizes (hlevel props) (λ h. h.some_seat)
+
+  pub few_slots : m.ids.plan.slots ≤ 4096
+  few_slots = ∥∥₁_elim sizes (hlevel props) (λ h. h.few_slots)
+
+  pub few_calls : length m.calls ≤ 4096
+  few_calls = ∥∥₁_elim sizes (hlevel props) (λ h. let a = h.slots_are in let b = h.few_slots in omega (arith, a, b))
+
+  pub operations_are : m.ids.plan.operations ≡ m.plan.operations
+  operations_are = ∥∥₁_elim sizes (hlevel props) (λ h. h.operations_are)
+
+pub is_paced : (m : MachineState) (room : ℕ) → IsMachine m room → m.short ≡ false → ArePaced (machine_sizes m) m.links m.seats
+is_paced m room is enough = ∥∥₁_elim (is.paced enough) (paced_prop (machine_sizes m) m.links m.seats) (λ p. p)
 
 -- ## Waiting
 
--- who waits does so by the words alone
-waits_by_words : (p : Plan) (c d : Core) → c.words ≡ d.words → (answer : Answer) (program : Program) → waits_at p c answer program ≡ waits_at p d answer program
-waits_by_words p c d same answer (Write (heads.Walks h top at after) then_) = ap (λ (ws : List ℕ). waits_at p (record { words = ws; homes = []; seats = []; outcomes = [] }) answer (Write (heads.Walks h top at after) then_)) same
-waits_by_words p c d same (OfReady asks.NotYet) (Write (heads.Waits h now heading left taken) after) = refl
-waits_by_words p c d same (OfReady asks.Now) (Write (heads.Waits h now heading left taken) after) = refl
-waits_by_words p c d same (OfReady asks.Failed) (Write (heads.Waits h now heading left taken) after) = refl
-waits_by_words p c d same (OfPut put) (Write (heads.Waits h now heading left taken) after) = refl
-waits_by_words p c d same Unasked (Write (heads.Waits h now heading left taken) after) = refl
-waits_by_words p c d same answer _ = refl
+module _ (m : MachineState) (took : Taken) (gave : Given) where
+  -- who waits does so by the words, and by whether the run is ending
+  head_waits : (head : Head) (next : Exit head → Program) (answer : Answer) → waits_at m.plan (core_with m took gave) answer (Round head next) ≡ is_waiting (table_of m) answer (Round head next)
+  head_waits (Posts id e w) next answer = refl
+  head_waits (Unlocks i w advance) next answer = refl
+  head_waits (Decides id asked w e) next answer = refl
+  head_waits (Locks i sought None) next answer = refl
+  head_waits (Locks i sought (Some w)) next answer = refl
+  head_waits (Joins id) next answer = refl
+  head_waits (Opens o) next answer = refl
+  head_waits (Reads r) next answer = refl
+  head_waits (Discards k total) next answer = refl
 
-waits_for : (c : Core) (i : ℕ) (what : On) (seat : SeatState) → get_elem? c.seats i ≡ core.some seat → WaitsOn seat.program what → WaitsFor c i what
-waits_for c i (on.Next ticket) seat at w = (seat, w.0, w.1, w.2, w.3, at, w.4)
-waits_for c i (on.Out k) seat at (heads.Waits h now heading left taken, then_, is, own) = (seat, at, (heads.Waits h now heading left taken, then_, is, own))
-waits_for c i (on.Out k) seat at (heads.Puts h now heading left taken asked, then_, is, own) = absurd own
-waits_for c i (on.Out k) seat at (heads.Empties h, then_, is, own) = absurd own
-waits_for c i (on.Out k) seat at (heads.Walks h top place after, then_, is, own) = absurd own
-waits_for c i (on.Id id) seat at w = absurd w
-waits_for c i (on.In k) seat at w = absurd w
-waits_for c i (on.Open o) seat at w = absurd w
+  pub waits_alike : (program : Program) (answer : Answer) → waits_at m.plan (core_with m took gave) answer program ≡ is_waiting (table_of m) answer program
+  waits_alike (Round head next) answer = head_waits head next answer
+  waits_alike (Write (heads.Walks h top at after) then_) answer = refl
+  waits_alike (Write (heads.Puts h now heading left taken asked) after) answer = refl
+  waits_alike (Write (heads.Empties h) after) answer = refl
+  waits_alike (Write (heads.Waits h now heading left taken) after) Unasked = refl
+  waits_alike (Write (heads.Waits h now heading left taken) after) (OfPut put) = refl
+  waits_alike (Write (heads.Waits h now heading left taken) after) (OfReady asks.Now) = refl
+  waits_alike (Write (heads.Waits h now heading left taken) after) (OfReady asks.NotYet) = refl
+  waits_alike (Write (heads.Waits h now heading left taken) after) (OfReady asks.Failed) = refl
+  waits_alike (Write (heads.Waits h now heading left taken) after) (OfTake taking) = refl
+  waits_alike _ answer = refl
 
--- ## A step
+  module _ (i : ℕ) (program : Program) (own_at : get_elem? (core_with m took gave).seats i ≡ core.some (state_of m.plan m.links took program i)) (answer : Answer) where
+    pub waits_as : waits m.plan (core_with m took gave) (record { seat = i; answer = answer }) ≡ is_waiting (table_of m) answer program
+    waits_as = ap (λ (o : core.Option SeatState). elim o as (λ x. Bool) [ core.none ↦ false | core.some s ↦ waits_at m.plan (core_with m took gave) answer s.program ]) own_at ∙ waits_alike program answer
 
-module _ (m fresh : MachineState) (room i : ℕ) (step : Step) (tick : Tick) (is : IsMachine m room) (n : NextIs m i step) (w : TickTold m fresh i step tick) where
+    kind_as : next_kind (core_with m took gave) i ≡ kind_in program
+    kind_as = ap (λ (o : core.Option SeatState). elim o as (λ x. Option Kind) [ core.none ↦ None | core.some s ↦ kind_in s.program ]) own_at
+
+    pub tick_is : (t : Tick) → Tells (table_of m) program answer t → TickIs m (core_with m took gave) (record { seat = i; answer = answer }) t
+    tick_is (Moved kind) tells = (kind_as ∙ tells.0, waits_as ∙ tells.1)
+    tick_is (Waits what) tells = (waits_as ∙ tells.0, (state_of m.plan m.links took program i, own_at, tells.1))
+    tick_is Idle tells = absurd tells
+
+    pub rests_not : (ahead : IsAhead (core_with m took gave)) (first : First) → first_in program ≡ Some first → IsAtRest (core_with m took gave) i → ⊥
+    rests_not ahead first next rest = none-some first (ap first_in (sym (seat_rests (core_with m took gave) ahead i rest (state_of m.plan m.links took program i) own_at)) ∙ next)
+
+-- what such ticks leave
+module _ (m fresh : MachineState) (same : fresh.short ≡ m.short) where
+  leaves_by : (program : Program) (answer : Answer) (i : ℕ) → ((s : IsSoundMachine m) → Keeps m fresh s (record { seat = i; answer = answer })) → ((s : IsSoundMachine m) → waits m.plan (core_with m s.took s.gave) (record { seat = i; answer = answer }) ≡ is_waiting (table_of m) answer program) →
+      (t : Tick) → Tells (table_of m) program answer t → Leaves t m fresh
+  leaves_by program answer i keeps alike (Moved kind) tells = λ k lasts. (
+    ∥∥₁_elim lasts.1 (hlevel props) (λ s. let a = (keeps s.0).fewer (alike s.0 ∙ tells.1) in let b = s.1 in omega (arith, a, b)),
+    (same ∙ lasts.0, ∥∥₁_elim lasts.1 (hlevel props) (λ s. let kept = keeps s.0 in let a = kept.fewer (alike s.0 ∙ tells.1) in let b = s.1 in ∣ (kept.sound, omega (arith, a, b)) ∣₁)),
+  )
+  leaves_by program answer i keeps alike (Waits what) tells = λ k lasts. (same ∙ lasts.0, ∥∥₁_elim lasts.1 (hlevel props) (λ s. let kept = keeps s.0 in let a = kept.no_more in let b = s.1 in ∣ (kept.sound, omega (arith, a, b)) ∣₁))
+  leaves_by program answer i keeps alike Idle tells = absurd tells
+
+-- ## A step of a client
+
+module _ (m fresh : MachineState) (room i : ℕ) (step : Step) (tick : Tick) (is : IsMachine m room) (enough : m.short ≡ false) (n : NextIs m i step) (w : TickTold m fresh i step tick) where
   abbrev answer : Answer
   answer = w.told.answer
 
@@ -89,214 +147,273 @@ module _ (m fresh : MachineState) (room i : ℕ) (step : Step) (tick : Tick) (is
   moment = record { seat = i; answer = answer }
 
   abbrev program : Program
-  program = seat_program (sizes_of m.plan) w.seat
+  program = seat_program (machine_sizes m) w.seat
 
   abbrev first : First
-  first = step_as (around (sizes_of m.plan) w.seat) step
+  first = step_as (around (machine_sizes m) w.seat) step
 
   sized : IsSized (table_of m)
-  sized = is_sized m room is
+  sized = is_sized m is.sizes
 
-  paced : ArePaced m.plan m.links m.seats
-  paced = is_paced m room is
+  few : length m.seats ≤ READERS
+  few = few_seats m is.sizes
 
-  abbrev stepped : SteppedTo m fresh i step answer
-  stepped = record { seat = w.seat; at = w.at; seat' = w.seat'; seats = w.seats; opens = w.opens; made = w.told.makes.is }
-
-  pub told_plan : fresh.plan ≡ m.plan
-  told_plan = same_plan m fresh i step answer sized n stepped
+  slots : m.ids.plan.slots ≤ 4096
+  slots = few_slots m is.sizes
 
   next : first_in program ≡ Some first
-  next = subst (λ (s : SeatData). first_in (seat_program (sizes_of m.plan) s) ≡ Some (step_as (around (sizes_of m.plan) s) step)) (core.some-injective n.seat w.seat (sym n.at ∙ w.at)) n.is
+  next = client_next m sized slots (is.called enough) (is.sound enough) i w.seat w.at step n
 
-  own_at : (took : Taken) → get_elem? (core_with m took).seats i ≡ core.some (seat_state m.plan m.links took i w.seat)
-  own_at took = seat_at m.plan m.links took 0 m.seats i w.seat w.at ∙ ap (λ j. core.some (seat_state m.plan m.links took j w.seat)) (omega arith)
-
-  waits_as : (took : Taken) → waits m.plan (core_with m took) moment ≡ is_waiting (table_of m) answer program
-  waits_as took = ap (λ (o : core.Option SeatState). elim o as (λ x. Bool) [ core.none ↦ false | core.some s ↦ waits_at m.plan (core_with m took) answer s.program ]) (own_at took)
-      ∙ waits_by_words m.plan (core_with m took) (record { words = m.words; homes = []; seats = []; outcomes = [] }) refl answer program
-
-  kind_as : (took : Taken) → next_kind (core_with m took) i ≡ kind_in program
-  kind_as took = ap (λ (o : core.Option SeatState). elim o as (λ x. Option Kind) [ core.none ↦ None | core.some s ↦ kind_in s.program ]) (own_at took)
-
-  tick_is : (took : Taken) (t : Tick) → Tells (table_of m) program answer t → TickIs m (core_with m took) moment t
-  tick_is took (Moved kind) tells = (kind_as took ∙ tells.0, waits_as took ∙ tells.1)
-  tick_is took (Waits what) tells = (waits_as took ∙ tells.0, waits_for (core_with m took) i what (seat_state m.plan m.links took i w.seat) (own_at took) tells.1)
-  tick_is took Idle tells = absurd tells
-
-  unfinished_prop : (f : First) → IsProp (AsksUnfinished m.links f)
-  unfinished_prop (kinds.OfPut k asked bytes) = hlevel props
-  unfinished_prop (kinds.OfReady k) = hlevel props
-  unfinished_prop _ = hlevel props
+  may : MayMake m.plan m.links i first
+  may = client_may m sized slots (is.called enough) (is.sound enough) i w.seat w.at step n
 
   unfinished : AsksUnfinished m.links first
-  unfinished = ∥∥₁_elim is.sound (unfinished_prop first) (λ s. asks_unfinished m sized s i step w.seat w.at next)
+  unfinished = client_asks m sized slots (is.called enough) (is.sound enough) i w.seat w.at step n
 
-  with_took : (took : Taken) → Agrees m.links took → TickedWith m fresh i tick took
-  with_took took agrees = let s = step_core m fresh i step answer sized n (step_may m sized is.sound i step n) paced stepped took agrees in record {
-    moment = moment;
-    is_of = refl;
-    is = tick_is took tick w.told.tells;
-    answered = s.answered;
-    prompt = λ prompt. made_prompt m fresh i program w.seat' first answer w.told.makes.is prompt;
+  takes : (aside : asides.Step) → first ≡ OfAside aside → NoTake aside
+  takes = client_takes m sized slots (is.called enough) (is.sound enough) i w.seat w.at step n
+
+  paced : ArePaced (machine_sizes m) m.links m.seats
+  paced = is_paced m room is enough
+
+  made : MadeFirst (table_of m) (table_of fresh) i w.seat w.seat' step first answer
+  made = w.told.makes.is
+
+  base_by : (f : First) → MadeFirst (table_of m) (table_of fresh) i w.seat w.seat' step f answer → SameBase (table_of m) (table_of fresh)
+  base_by (OfCall call) x = x.1.goes.base
+  base_by (OfAside aside) x = x.1.goes.base
+  base_by (OfMessage q) x = x.1.goes.base
+  base_by (OfLink k) x = x.1.goes.base
+  base_by (OfHome k c) x = x.1.goes.base
+  base_by (kinds.OfPut k asked bytes) x = x.2.goes.base
+  base_by (kinds.OfReady k) x = x.2.goes.base
+
+  pub base : SameBase (table_of m) (table_of fresh)
+  base = base_by first made
+
+  stepped : (took : Taken) (gave : Given) → Agrees m.links took → AgreesGave m.links gave → SteppedWith m fresh i answer took gave
+  stepped took gave agrees agrees_gave = steps_by m fresh i w.seat w.seat' w.at w.seats w.readers few sized (paced i w.seat w.at) took agrees gave agrees_gave step answer next may takes made
+
+  own_at : (took : Taken) (gave : Given) → get_elem? (core_with m took gave).seats i ≡ core.some (state_of m.plan m.links took program i)
+  own_at took gave = seat_at m took i w.seat w.at
+
+  follows : (took : Taken) (gave : Given) → Agrees m.links took → AgreesGave m.links gave → Follows m fresh took gave (moment ∷ [])
+  follows took gave agrees agrees_gave = let s = stepped took gave agrees agrees_gave in let c : Core = core_with m took gave in record {
+    answered = (s.answered, tt);
+    prompt = λ prompt. (made_prompt m fresh i w.seat w.seat' step first answer made prompt, tt);
+    closes = λ tell. made_closes m fresh i w.seat w.seat' step m.plan c first answer made;
     later = s.later;
     agrees = s.agrees;
+    later_gave = s.later_gave;
+    agrees_gave = s.agrees_gave;
     core = s.core;
-    broken = made_broken m fresh i (core_with m took) (seat_state m.plan m.links took i w.seat) (own_at took) w.seat' first answer w.told.makes.is next unfinished;
-    told = made_told m fresh i (core_with m took) (seat_state m.plan m.links took i w.seat) (own_at took) w.seat' first answer w.told.makes.is next;
+    broken = subst (ShowFaults fresh) (sym (append-nil (broken_at c moment))) (made_broken m fresh i c (state_of m.plan m.links took program i) (own_at took gave) w.seat w.seat' step first answer made next unfinished);
+    told = tells_as m fresh _ _ (λ k. sym (append-nil (heard_at c moment k))) (made_told m fresh i c (state_of m.plan m.links took program i) (own_at took gave) w.seat w.seat' step first answer made next);
+    taken = made_taken m fresh i w.seat w.seat' step m.plan c first answer made s.answered;
+    takes = made_takes m fresh i w.seat w.seat' step m.plan c first answer made s.answered;
   }
+
+  pub told_links : SameLinks m fresh
+  told_links = made_links m fresh i w.seat w.seat' step first answer made
+
+  pub told_table : SameTable m fresh
+  told_table = record { plan = base.plan; id_plan = base.id_plan; calls = base.calls; opens = w.opens; ending = base.ending }
 
   -- it is a tick
   pub told_ticks : Ticked m fresh i tick
-  told_ticks = (record { plan = told_plan; opens = w.opens }, made_links m fresh i program w.seat' first answer w.told.makes.is, with_took)
+  told_ticks = (
+    told_table,
+    told_links,
+    λ took gave agrees agrees_gave. record {
+      moment = moment;
+      is_of = refl;
+      is = tick_is m took gave i program (own_at took gave) answer tick w.told.tells;
+      follows = follows took gave agrees agrees_gave;
+    },
+  )
+
+  yet_by : (f : First) → first_in program ≡ Some f → MadeFirst (table_of m) (table_of fresh) i w.seat w.seat' step f answer → answer ≡ OfReady asks.NotYet → (c : Core) → waits_at m.plan c answer program ≡ true
+  yet_by (OfCall call) at x e c = absurd (let f = x.0 in cc)
+  yet_by (OfAside aside) at x e c = absurd (let f = x.0 in cc)
+  yet_by (OfMessage q) at x e c = absurd (let f = x.0 in cc)
+  yet_by (OfLink k) at x e c = absurd (let f = x.0 in cc)
+  yet_by (OfHome k o) at x e c = absurd (let f = x.0 in cc)
+  yet_by (kinds.OfPut k asked bytes) at x e c = absurd (let f = x.1 in cc)
+  yet_by (kinds.OfReady k) at x e c = ap (λ (o : Answer). waits_at m.plan c o program) e ∙ (ready_waits m.plan c (around (machine_sizes m) w.seat) w.seat.point k at).0
+
+  keeps : (s : IsSoundMachine m) → Keeps m fresh s moment
+  keeps s = step_keeps m fresh i answer base.plan base.id_plan w.opens slots (operations_are m is.sizes) s (stepped s.took s.gave s.agrees s.agrees_gave)
+      (rests_not m s.took s.gave i program (own_at s.took s.gave) answer s.ahead first next)
+      (λ e. ap (λ (o : core.Option SeatState). elim o as (λ x. Bool) [ core.none ↦ false | core.some x ↦ waits_at m.plan (core_with m s.took s.gave) answer x.program ]) (own_at s.took s.gave) ∙ yet_by first next made e (core_with m s.took s.gave))
+
+  called_by : (x : Step) → first_in program ≡ Some (step_as (around (machine_sizes m) w.seat) x) → MadeFirst (table_of m) (table_of fresh) i w.seat w.seat' x (step_as (around (machine_sizes m) w.seat) x) answer → AreCalled fresh.ids
+  called_by (firsts.Call call) at x = subst AreCalled (sym x.1.ids) (is.called enough)
+  called_by (firsts.Aside aside) at x = called_behind (table_of m) (asked_of w.seat.call) aside x.1.found fresh.ids x.1.ids (client_slots m sized slots (is.called enough) (is.sound enough) i w.seat w.at aside at) (is.called enough)
+  called_by (firsts.PutMessage q author) at x = subst AreCalled (sym x.1.ids) (is.called enough)
+  called_by (firsts.TakeMessage q) at x = subst AreCalled (sym x.1.ids) (is.called enough)
+  called_by (firsts.TakeHome k) at x = subst AreCalled (sym x.1.ids) (is.called enough)
+  called_by (firsts.PutHome k c) at x = subst AreCalled (sym x.1.ids) (is.called enough)
+  called_by (firsts.PutBytes k asked author) at x = subst AreCalled (sym x.2.ids) (is.called enough)
+  called_by (firsts.AskReady k) at x = subst AreCalled (sym x.2.ids) (is.called enough)
+
+  many : AsMany m fresh
+  many = as_many m fresh i w.seat w.seat' step first answer made
+
+  pub told_sizes : ∥ HasSizes fresh ∥₁
+  told_sizes = ∥∥₁_elim is.sizes (hlevel props) (λ h. ∣ sizes_kept m fresh i w.seat' h many base told_links.as_many w.seats w.readers w.opens ∣₁)
 
   -- the machine stays one
   pub told_keeps : IsMachine fresh room
-  told_keeps = let many = as_many m fresh i program w.seat' first answer w.told.makes.is in record {
-    sound = ∥∥₁_elim is.sound (hlevel props) (λ s. ∣ (step_keeps m fresh i step answer sized n stepped paced s).sound ∣₁);
-    paced = ∣ paced_keeps m fresh i step answer sized n stepped paced is.sound ∣₁;
-    letters_are = many.letters ∙ is.letters_are ∙ ap (λ (p : Plan). p.requests) (sym told_plan);
-    holders_are = many.holders ∙ is.holders_are ∙ ap (λ (p : Plan). p.links) (sym told_plan);
-    nexts_are = many.nexts ∙ is.nexts_are ∙ ap (λ (p : Plan). p.links) (sym told_plan);
-    outs_are = many.outs ∙ is.outs_are ∙ ap (λ (p : Plan). p.links) (sym told_plan);
-    seats_are = ap length w.seats ∙ length-set m.seats i w.seat' ∙ is.seats_are ∙ ap (λ (p : Plan). p.seats) (sym told_plan);
-    some_seat = let a = ap length w.seats ∙ length-set m.seats i w.seat' in let b = is.some_seat in omega (arith, a, b);
-    opens_are = rw (w.opens, told_plan) is.opens_are;
+  told_keeps = record {
+    sizes = told_sizes;
     has_room = let e = many.outcomes in let h = is.has_room in omega (arith, e, h);
-    few_outcomes = let e = many.outcomes in let h = is.few_outcomes in omega (arith, e, h);
+    sound = λ _. ∥∥₁_elim (is.sound enough) (hlevel props) (λ s. ∣ (keeps s).sound ∣₁);
+    paced = λ _. ∣ made_paced m sized paced (is.sound enough) fresh i w.seat w.seat' w.at w.seats step first answer next may made ∣₁;
+    closed = λ _. made_closed m fresh i w.seat w.seat' step (is.closed enough) (place_inside m.seats i w.seat w.at) w.seats w.readers first answer made;
+    called = λ _. called_by step next made;
   }
 
-  -- what it has left
-  leaves_as_many : LeavesAsMany m fresh
-  leaves_as_many k lasts = ∥∥₁_elim lasts (hlevel props) (λ s. let kept = step_keeps m fresh i step answer sized n stepped paced s.0 in let a = kept.no_more in let b = s.1 in ∣ (kept.sound, omega (arith, a, b)) ∣₁)
-
-  leaves_fewer : is_waiting (table_of m) answer program ≡ false → LeavesFewer m fresh
-  leaves_fewer moves k lasts = (
-    ∥∥₁_elim lasts (hlevel props) (λ s. let a = (step_keeps m fresh i step answer sized n stepped paced s.0).fewer (waits_as s.0.took ∙ moves) in let b = s.1 in omega (arith, a, b)),
-    ∥∥₁_elim lasts (hlevel props) (λ s. let kept = step_keeps m fresh i step answer sized n stepped paced s.0 in let a = kept.fewer (waits_as s.0.took ∙ moves) in let b = s.1 in ∣ (kept.sound, omega (arith, a, b)) ∣₁),
-  )
-
-  leaves_by : (t : Tick) → Tells (table_of m) program answer t → Leaves t m fresh
-  leaves_by (Moved kind) tells = leaves_fewer tells.1
-  leaves_by (Waits what) tells = leaves_as_many
-  leaves_by Idle tells = absurd tells
-
   pub told_leaves : Leaves tick m fresh
-  told_leaves = leaves_by tick w.told.tells
+  told_leaves = leaves_by m fresh w.short program answer i keeps (λ s. waits_as m s.took s.gave i program (own_at s.took s.gave) answer) tick w.told.tells
 
--- ## Seat 0
+  pub told_enough : fresh.short ≡ false
+  told_enough = w.short ∙ enough
 
-pub next_none : (program : Program) → AsksNone program → AsksNone (next_step program)
-next_none (Say o outcome after) x = next_none after x.1
-next_none (Sent o after) x = next_none after x
-next_none (Do call after) x = x
-next_none Rest x = x
-next_none _ x = absurd x
+-- ## A step of a reader
 
--- its first step is one on a word
-first_call : (program : Program) (first : First) → first_in program ≡ Some first → AsksNone program → IsCall first
-first_call (Do call next) first e x = subst IsCall (same_some e) tt
-first_call (Say o outcome next) first e x = cc
-first_call (Sent o next) first e x = cc
-first_call Rest first e x = cc
-first_call _ first e x = absurd x
+module _ (m fresh : MachineState) (room k : ℕ) (step : ReadStep) (tick : Tick) (is : IsMachine m room) (enough : m.short ≡ false) (n : NextReadIs m k step) (w : TickRead m fresh (READERS + k) k step tick) where
+  abbrev i : ℕ
+  i = READERS + k
 
-after_none : (program : Program) (found : ℕ) → AsksNone program → AsksNone (after_word program found)
-after_none (Do call after) found x = x found
-after_none (Say o outcome after) found x = x
-after_none (Sent o after) found x = x
-after_none Rest found x = tt
-after_none _ found x = absurd x
+  abbrev given_answer : Answer
+  given_answer = w.told.answer
 
--- none of its steps is one on a link, or on the message of a link
-pub only_calls : (t : TableState) (seat : SeatData) (step : Step) → IsNext t seat step → AsksNone (seat_program (sizes_of t.plan) seat) → IsCall (step_as (around (sizes_of t.plan) seat) step)
-only_calls t seat step next plain = first_call (seat_program (sizes_of t.plan) seat) (step_as (around (sizes_of t.plan) seat) step) next plain
+  abbrev read_moment : Moment
+  read_moment = record { seat = i; answer = given_answer }
 
--- and behind none of them a life is held
-pub no_hold : (a : Around) (program : Program) (found : ℕ) (n : Next) → AsksNone program → next_program a n ≡ after_word program found → (o name : ℕ) (id : SocketId) → n ≡ nexts.Held o name id → ⊥
-no_hold a program found n plain is o name id held =
-    let says : AsksNone (next_program a (nexts.Held o name id)) = subst (λ (m : Next). AsksNone (next_program a m)) held (subst AsksNone (sym is) (after_none program found plain)) in says.0 refl
+  abbrev reading : Program
+  reading = reader_program m.calls w.reader
 
--- so a seat that asks none wants no room for a life
-pub room_for : (t u : TableState) (seat : SeatData) (a : Around) (n : Next) (found few most : ℕ) → t ≡ u → (few < most) ⊎ AsksNone (seat_program (sizes_of u.plan) seat) → next_program a n ≡ after_word (seat_program (sizes_of t.plan) seat) found →
-    (o name : ℕ) (id : SocketId) → n ≡ nexts.Held o name id → few < most
-room_for t u seat a n found few most same (inl room) is o name id held = room
-room_for t u seat a n found few most same (inr plain) is o name id held =
-    absurd (no_hold a (seat_program (sizes_of t.plan) seat) found n (subst (λ (x : TableState). AsksNone (seat_program (sizes_of x.plan) seat)) (sym same) plain) is o name id held)
+  abbrev begins : First
+  begins = reader_steps.step_as w.reader.asked step
 
--- and what follows it asks no link either
-call_made : (m fresh : MachineState) (i : ℕ) (of : Program) (seat' : SeatData) (f : First) (said : Answer) → IsCall f → AsksNone of → Made (table_of m) (table_of fresh) i of seat' f said → AsksNone (seat_program (sizes_of m.plan) seat')
-call_made m fresh i of seat' (OfCall call) said c x w = subst AsksNone (sym w.1.goes.program) (next_none (after_word of (found_at m.words (word_of m.plan call))) (after_none of (found_at m.words (word_of m.plan call)) x))
-call_made m fresh i of seat' _ said c x w = absurd c
+  read_sized : IsSized (table_of m)
+  read_sized = is_sized m is.sizes
 
-call_ends : (m fresh : MachineState) (i : ℕ) (of : Program) (seat' : SeatData) (f : First) (said : Answer) → IsCall f → Made (table_of m) (table_of fresh) i of seat' f said → fresh.ends ≡ m.ends
-call_ends m fresh i of seat' (OfCall call) said c w = w.1.ends
-call_ends m fresh i of seat' _ said c w = absurd c
+  read_few : length m.seats ≤ READERS
+  read_few = few_seats m is.sizes
 
-module _ (m fresh : MachineState) (room : ℕ) (step : Step) (tick : Tick) (is : IsMachine m room) (n : NextIs m 0 step) (w : TickTold m fresh 0 step tick) (plain : IsPlain m) where
-  is_call : IsCall (step_as (around (sizes_of m.plan) w.seat) step)
-  is_call = first_call (seat_program (sizes_of m.plan) w.seat) (step_as (around (sizes_of m.plan) w.seat) step) (next m fresh room 0 step tick is n w) (plain w.seat w.at)
+  read_slots : m.ids.plan.slots ≤ 4096
+  read_slots = few_slots m is.sizes
 
-  stays_plain : IsPlain fresh
-  stays_plain seat at =
-      let same : w.seat' ≡ seat = core.some-injective w.seat' seat (sym (set_here m.seats 0 w.seat' (place_inside m.seats 0 w.seat w.at)) ∙ sym (ap (λ (ss : List SeatData). get_elem? ss 0) w.seats) ∙ at) in
-      subst (λ (p : Plan). AsksNone (seat_program (sizes_of p) seat)) (sym (told_plan m fresh room 0 step tick is n w)) (subst (λ (s : SeatData). AsksNone (seat_program (sizes_of m.plan) s)) same
-      (call_made m fresh 0 (seat_program (sizes_of m.plan) w.seat) w.seat' (step_as (around (sizes_of m.plan) w.seat) step) w.told.answer is_call (plain w.seat w.at) w.told.makes.is))
+  read_next : first_in reading ≡ Some begins
+  read_next = reader_next m read_sized read_slots (is.called enough) (is.sound enough) read_few k w.reader w.at step n
 
-  -- a tick of seat 0, in which no link is asked
-  pub first_told : TickedFirst m fresh
-  first_told = (
-    stays_plain,
-    call_ends m fresh 0 (seat_program (sizes_of m.plan) w.seat) w.seat' (step_as (around (sizes_of m.plan) w.seat) step) w.told.answer is_call w.told.makes.is,
-    step_quiet m fresh 0 step w.told.answer (sized m fresh room 0 step tick is n w) n (step_may m (sized m fresh room 0 step tick is n w) is.sound 0 step n)
-        (paced m fresh room 0 step tick is n w) (stepped m fresh room 0 step tick is n w) is_call,
+  read_may : (f : First) → first_in reading ≡ Some f → MayMake m.plan m.links i f
+  read_may f at = reader_may m read_sized read_slots (is.called enough) (is.sound enough) read_few k w.reader w.at f at
+
+  read_paced : ArePaced (machine_sizes m) m.links m.seats
+  read_paced = is_paced m room is enough
+
+  read_made : MadeRead (table_of m) (table_of fresh) i w.reader w.reader' begins given_answer
+  read_made = w.told.made
+
+  same : SameTables (table_of m) (table_of fresh)
+  same = read_same m fresh i w.reader w.reader' begins given_answer read_made
+
+  read_stepped : (took : Taken) (gave : Given) → Agrees m.links took → AgreesGave m.links gave → SteppedWith m fresh i given_answer took gave
+  read_stepped took gave agrees agrees_gave = reads_by m fresh k w.reader w.reader' w.at w.seats w.readers read_few read_sized took agrees gave agrees_gave step given_answer read_next (by_first begins read_next read_made) read_made
+    where
+      by_first : (f : First) → first_in reading ≡ Some f → MadeRead (table_of m) (table_of fresh) i w.reader w.reader' f given_answer → MayRead m fresh k w.reader w.reader' w.at w.seats w.readers read_few read_sized took agrees gave agrees_gave f
+      by_first (OfCall call) at x = read_may (OfCall call) at
+      by_first (OfAside (asides.TakeBytes j count)) at x = let f = x.2.from in let low = place_inside m.links.inns j f.inn f.at in let many = read_sized.inns_are in omega (arith, low, many)
+      by_first _ at x = tt
+
+  read_own : (took : Taken) (gave : Given) → get_elem? (core_with m took gave).seats i ≡ core.some (state_of m.plan m.links took reading i)
+  read_own took gave = read_at m took k w.reader read_few w.at
+
+  read_follows : (took : Taken) (gave : Given) → Agrees m.links took → AgreesGave m.links gave → Follows m fresh took gave (read_moment ∷ [])
+  read_follows took gave agrees agrees_gave = let s = read_stepped took gave agrees agrees_gave in let c : Core = core_with m took gave in let own : SeatState = state_of m.plan m.links took reading i in record {
+    answered = (s.answered, tt);
+    prompt = λ prompt. (read_prompt m fresh i w.reader w.reader' begins given_answer read_made, tt);
+    closes = λ tell. read_closes m fresh k w.reader w.reader' (is.closed enough) w.at w.seats read_sized.letters_are read_sized.inns_are read_few took gave tell begins given_answer read_made;
+    later = s.later;
+    agrees = s.agrees;
+    later_gave = s.later_gave;
+    agrees_gave = s.agrees_gave;
+    core = s.core;
+    broken = read_broken m fresh i w.reader w.reader' m.plan c own (read_own took gave) begins given_answer read_made;
+    told = read_told m fresh i w.reader w.reader' m.plan c own (read_own took gave) begins given_answer read_next read_made;
+    taken = read_taken m fresh i w.reader w.reader' m.plan c own (read_own took gave) begins given_answer read_next read_made;
+    takes = read_takes m fresh i w.reader w.reader' m.plan c own (read_own took gave) begins given_answer read_next read_made;
+  }
+
+  pub read_links_stay : SameLinks m fresh
+  read_links_stay = read_links m fresh k w.reader w.reader' begins given_answer read_made
+
+  pub read_table : SameTable m fresh
+  read_table = record { plan = same.plan; id_plan = same.id_plan; calls = same.calls; opens = w.opens; ending = same.ending }
+
+  -- it is a tick
+  pub read_ticks : Ticked m fresh i tick
+  read_ticks = (
+    read_table,
+    read_links_stay,
+    λ took gave agrees agrees_gave. record {
+      moment = read_moment;
+      is_of = refl;
+      is = tick_is m took gave i reading (read_own took gave) given_answer tick w.told.tells;
+      follows = read_follows took gave agrees agrees_gave;
+    },
   )
 
--- ## A seat that has no step left
+  read_kept : (s : IsSoundMachine m) → Keeps m fresh s read_moment
+  read_kept s = step_keeps m fresh i given_answer same.plan same.id_plan w.opens read_slots (operations_are m is.sizes) s (read_stepped s.took s.gave s.agrees s.agrees_gave)
+      (rests_not m s.took s.gave i reading (read_own s.took s.gave) given_answer s.ahead begins read_next)
+      (λ e. absurd (read_prompt m fresh i w.reader w.reader' begins given_answer read_made e))
 
-no_seat : (p : Plan) (l : LinksData) (took : Taken) (a : ℕ) (seats : List SeatData) (i : ℕ) → get_elem? seats i ≡ core.none → get_elem? (seats_with p l took a seats) i ≡ core.none
-no_seat p l took a [] i e = refl
-no_seat p l took a (s ∷ ss) zero e = cc
-no_seat p l took a (s ∷ ss) (suc i) e = no_seat p l took (a + 1) ss i e
+  outs_by : (f : First) → first_in reading ≡ Some f → MadeRead (table_of m) (table_of fresh) i w.reader w.reader' f given_answer → OutsKept m.links i fresh.links.outs
+  outs_by (OfCall call) at x = kept_by m.plan m.links i fresh.links.outs call (read_may (OfCall call) at) x.1.outs
+  outs_by (OfAside aside) at x = by_step aside x
+    where
+      by_step : (aside : asides.Step) → MadeRead (table_of m) (table_of fresh) i w.reader w.reader' (OfAside aside) given_answer → OutsKept m.links i fresh.links.outs
+      by_step (asides.TakeBytes j count) x = inl x.2.outs
+      by_step _ x = inl (ap (λ (l : LinksData). l.outs) x.1.links)
+  outs_by _ at x = absurd x
 
-module _ (m : MachineState) (i : ℕ) (none_ : HasNoStep m i) where
-  -- a program without a first step has none left
-  rests_in : (program : Program) → first_in program ≡ None → kind_in program ≡ None
-  rests_in (Say o outcome after) e = refl
-  rests_in (Sent o after) e = refl
-  rests_in Rest e = refl
-  rests_in (Write (heads.Puts h now heading left taken asked) after) e = absurd (none-some _ (sym e))
-  rests_in (Write (heads.Waits h now heading left taken) after) e = absurd (none-some _ (sym e))
-  rests_in (Write (heads.Empties h) after) e = absurd (none-some _ (sym e))
-  rests_in (Write (heads.Walks h top at after) then_) e = absurd (none-some _ (sym e))
-  rests_in _ e = absurd (none-some _ (sym e))
+  read_called : (x : ReadStep) → first_in reading ≡ Some (reader_steps.step_as w.reader.asked x) → MadeRead (table_of m) (table_of fresh) i w.reader w.reader' (reader_steps.step_as w.reader.asked x) given_answer → AreCalled fresh.ids
+  read_called (steps.Call call) at x = subst AreCalled (sym x.1.ids) (is.called enough)
+  read_called (steps.Aside aside) at x = by_step aside at x
+    where
+      fits : (aside : AsideStep) → first_in reading ≡ Some (OfAside (aside_steps.step_of w.reader.asked aside)) → FitsSlots (table_of m) aside
+      fits aside at = reader_slots m read_sized read_slots (is.called enough) (is.sound enough) read_few k w.reader w.at aside at
 
-  rests_by : (took : Taken) (q : core.Option SeatData) → get_elem? m.seats i ≡ q → IsAtRest (core_with m took) i
-  rests_by took core.none e = ap (λ (o : core.Option SeatState). elim o as (λ x. Option Kind) [ core.none ↦ None | core.some s ↦ kind_in s.program ]) (no_seat m.plan m.links took 0 m.seats i e)
-  rests_by took (core.some seat) e = ap (λ (o : core.Option SeatState). elim o as (λ x. Option Kind) [ core.none ↦ None | core.some s ↦ kind_in s.program ]) (seat_at m.plan m.links took 0 m.seats i seat e)
-      ∙ rests_in (seat_program (sizes_of m.plan) seat) (none_ seat e)
+      by_step : (aside : AsideStep) → first_in reading ≡ Some (OfAside (aside_steps.step_of w.reader.asked aside)) → MadeRead (table_of m) (table_of fresh) i w.reader w.reader' (OfAside (aside_steps.step_of w.reader.asked aside)) given_answer → AreCalled fresh.ids
+      by_step (code.TakeBytes j count) at x = subst AreCalled (sym x.2.ids) (is.called enough)
+      by_step aside at x = called_behind (table_of m) w.reader.asked aside x.1.found fresh.ids x.1.ids (fits aside at) (is.called enough)
 
-  pub no_step_rests : (took : Taken) → IsAtRest (core_with m took) i
-  no_step_rests took = rests_by took (get_elem? m.seats i) refl
+  read_as_many : AsMany m fresh
+  read_as_many = read_many m fresh i w.reader w.reader' begins given_answer read_made
 
--- a tick of a seat that is at rest
-pub idle_ticks : (m : MachineState) (i : ℕ) → ((took : Taken) → IsAtRest (core_with m took) i) → Ticked m m i Idle
-idle_ticks m i rest = (
-  same_table_none m,
-  same_links_none m,
-  λ took agrees. record {
-    moment = quiet i;
-    is_of = refl;
-    is = rest took;
-    answered = rest_answered (core_with m took) i (rest took);
-    prompt = λ prompt e. cc;
-    later = took;
-    agrees = agrees;
-    core = sym (rests m.plan (core_with m took) (quiet i) (rest took));
-    broken = show_faults_none m;
-    told = tells_none m m refl _ (rest_heard (core_with m took) (quiet i) (rest took));
-  },
-)
+  pub read_has_sizes : ∥ HasSizes fresh ∥₁
+  read_has_sizes = ∥∥₁_elim is.sizes (hlevel props) (λ h. ∣ read_sizes m fresh k w.reader' h read_as_many same read_links_stay.as_many w.readers w.seats w.opens ∣₁)
 
-pub idle_first : (m : MachineState) → ((took : Taken) → IsAtRest (core_with m took) 0) → IsPlain m → TickedFirst m m
-idle_first m rest plain = (plain, refl, λ took agrees. (agrees, sym (rests m.plan (core_with m took) (quiet 0) (rest took))))
+  same_sizes : machine_sizes fresh ≡ machine_sizes m
+  same_sizes = ap₂ (λ p q. (record { slots = p.slots; requests = p.requests; ids = q.slots })) same.plan same.id_plan
+
+  -- the machine stays one
+  pub read_keeps : IsMachine fresh room
+  read_keeps = record {
+    sizes = read_has_sizes;
+    has_room = let e = read_as_many.outcomes in let h = is.has_room in omega (arith, e, h);
+    sound = λ _. ∥∥₁_elim (is.sound enough) (hlevel props) (λ s. ∣ (read_kept s).sound ∣₁);
+    paced = λ _. ∣ readers_paced m read_sized read_paced (is.sound enough) fresh i (let f = read_few in omega (arith, f)) same_sizes w.seats (outs_by begins read_next read_made) ∣₁;
+    closed = λ _. read_closed m fresh k w.reader w.reader' (is.closed enough) w.at w.seats w.readers begins given_answer read_made;
+    called = λ _. read_called step read_next read_made;
+  }
+
+  pub read_leaves : Leaves tick m fresh
+  read_leaves = leaves_by m fresh w.short reading given_answer i read_kept (λ s. waits_as m s.took s.gave i reading (read_own s.took s.gave) given_answer) tick w.told.tells
+
+  pub read_enough : fresh.short ≡ false
+  read_enough = w.short ∙ enough

@@ -76,18 +76,18 @@ links_kept old fresh ends prompt tell = record {
 }
 
 -- what stands where it was written
-behind_is : (es : List LinkEnd) (k : ℕ) (b e : LinkEnd) → k < length es → slice_get (slice_set es k b) k ≡ Some e → b ≡ e
+pub behind_is : (es : List LinkEnd) (k : ℕ) (b e : LinkEnd) → k < length es → slice_get (slice_set es k b) k ≡ Some e → b ≡ e
 behind_is es k b e inside at = sym (get_or-set_same es k b e inside) ∙ get_or_from_slice_get (slice_set es k b) k e e at
 
 rest_at : (xs : List LinkEnd) (x : LinkEnd) (n : ℕ) (b : LinkEnd) → slice_get (x ∷ xs) (suc n) ≡ Some b → slice_get xs n ≡ Some b
 rest_at xs x n b g = g
 
-first_is : (es : List LinkEnd) (n : ℕ) (a b : LinkEnd) → get_elem? es n ≡ core.some a → slice_get es n ≡ Some b → a ≡ b
+pub first_is : (es : List LinkEnd) (n : ℕ) (a b : LinkEnd) → get_elem? es n ≡ core.some a → slice_get es n ≡ Some b → a ≡ b
 first_is [] n a b e f = cc
 first_is (x ∷ xs) zero a b e f = cc
 first_is (x ∷ xs) (suc n) a b e f = first_is xs n a b e (rest_at xs x n b f)
 
-get_set_other : (es : List LinkEnd) (k j : ℕ) (b : LinkEnd) → (j ≡ k → ⊥) → slice_get (slice_set es k b) j ≡ slice_get es j
+pub get_set_other : (es : List LinkEnd) (k j : ℕ) (b : LinkEnd) → (j ≡ k → ⊥) → slice_get (slice_set es k b) j ≡ slice_get es j
 get_set_other [] k j b differ = refl
 get_set_other (x ∷ xs) zero zero b differ = absurd (differ refl)
 get_set_other (x ∷ xs) zero (suc j) b differ = refl
@@ -159,7 +159,7 @@ AsksNoLink (Some (kinds.OfReady k)) = ⊥
 AsksNoLink other = Unit {0}
 
 -- the link that is asked is that of the first step
-abbrev IsAsked : First → List ℕ → Type 0
+abbrev pub IsAsked : First → List ℕ → Type 0
 IsAsked (kinds.OfPut k asked bytes) ks = ks ≡ k ∷ []
 IsAsked (kinds.OfReady k) ks = ks ≡ k ∷ []
 IsAsked other ks = ks ≡ []
@@ -177,7 +177,7 @@ judge_none : (ends : Bool) (x y : Program) → AsksNoLink (first_of x) → AsksN
 judge_none true x y f g = f
 judge_none false x y f g = g
 
-asks_first : (program : Program) (first : First) → first_in program ≡ Some first → IsAsked first (asked_link program)
+pub asks_first : (program : Program) (first : First) → first_in program ≡ Some first → IsAsked first (asked_link program)
 asks_first (PutBytes k asked bytes next) first e = subst (λ (f : First). IsAsked f (k ∷ [])) (same_some e) refl
 asks_first (AskReady k next) first e = subst (λ (f : First). IsAsked f (k ∷ [])) (same_some e) refl
 asks_first (Write (Waits h now heading left taken) after) first e = subst (λ (f : First). IsAsked f (h.link ∷ [])) (same_some e) refl

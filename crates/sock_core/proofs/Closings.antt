@@ -67,8 +67,13 @@ module _ (m : MachineState) (letters : length m.letters ≡ m.plan.requests) (fe
   in_seat j program own at = (
     took k,
     slice_index_or m.links.nexts k 0,
-    inr (j, state_of m.plan m.links took program j, at, in_each (in_hand m.links took j) 0 m.plan.links k _ (omega arith) (omega (arith, inside))
-        (subst (InHand (Link k (took k) (slice_index_or m.links.nexts k 0) true)) (sym (own_link m.links took j k own)) (inl is_link))),
+    inr (
+      j,
+      state_of m.plan m.links took program j,
+      at,
+      in_each (in_hand m.links took j) 0 m.plan.links k _ (omega arith) (omega (arith, inside))
+          (subst (InHand (Link k (took k) (slice_index_or m.links.nexts k 0) true)) (sym (own_link m.links took j k own)) (inl is_link)),
+    ),
   )
 
   in_hands : (j : ℕ) → holder_of m.links k ≡ Some j → IsFinished m.plan c k

@@ -154,7 +154,7 @@ module _ (old fresh : MachineState) (room : ℕ) (is : IsMachine old room) (enou
       client_set old fresh 0 w.seat w.seat' (ending_of old.opens) took took gave (hand_of old.links old.plan.links took 0) (homes_of old.links old.plan old.letters took) old.words w.at w.seats w.readers few goes w.words
       (none_changes old.plan 0 old.links fresh.links old.letters fresh.letters took _ w.links (ap (λ ls. homes_of old.links old.plan ls took) w.letters))
       ∙ ap (λ (x : List Home). with_seat 0 (ending_of old.opens) x old.words (homes_of old.links old.plan old.letters took) (record (core_with old took gave) { calls = calls_with fresh.ids (waiting_of old.seats old.readers) (given_by old.plan.links gave) old.ending }))
-          (hand_none old.links took old.plan.links 0 free)
+      (hand_none old.links took old.plan.links 0 free)
       ∙ ap (λ (ids : SlotState). with_seat 0 (ending_of old.opens) [] old.words (homes_of old.links old.plan old.letters took) (record (core_with old took gave) { calls = calls_with ids (waiting_of old.seats old.readers) (given_by old.plan.links gave) old.ending })) w.ids
 
   began_sizes : HasSizes old → HasSizes fresh

@@ -1,16 +1,15 @@
 -- The next step of a seat of a sound machine fits the tables.
-use Rattle.std.proofs.Common.{◌≡◌, ◌≢◌, refl, ℕ, zero, suc, ◌+◌, ◌<◌, ◌≤◌, ◌⊎◌, inl, inr, Bool, true, false, List, [], ◌∷◌, length, map, get_or, Option, Some, None, ap, sym, ◌∙◌, arith, subst}
+use Rattle.std.proofs.Common.{◌≡◌, refl, ℕ, ◌+◌, ◌<◌, ◌≤◌, List, length, map, get_or, Option, Some, None, ap, sym, ◌∙◌, arith, subst}
 use Rattle.std.proofs.Props.{props}
 use Rattle.std.proofs.Math.Logic.{∥∥₁_elim}
 use Rattle.atomic_table.proofs.Lists.{at_map, at_longer}
+use Rattle.chain_laws.proofs.Lists.{at_some}
 use mathlib.Core.Logic.{dite}
 use native.Mathlib.Decide.{ℕ_discrete}
 use mathlib.Core.Option as core
 use lib.ListN.{get_elem?}
 use Rattle.sock_words.specs.declared.plain.Plan.{Plan}
 use Rattle.sock_message.specs.Asked.{Asked}
-use Rattle.sock_model.specs.declared.chain.Heading.{Heading}
-use Rattle.sock_model.specs.declared.home.Home.TheVariants.{Message}
 use Rattle.sock_io.specs.Link.{OutState}
 use Rattle.sock_programs.specs.Calls as calls
 use Rattle.sock_programs.specs.Asides as asides
@@ -18,11 +17,11 @@ use Rattle.sock_programs.specs.Asides.{id_slot, id_first}
 use Rattle.sock_programs.specs.Beside.{found_in, call_at}
 use Rattle.sock_programs.specs.Writings as heads
 use Rattle.sock_programs.specs.Programs.{Program, PutBytes, Write}
-use Rattle.sock_programs.specs.Cores.{SeatState, word_of, found_at}
+use Rattle.sock_programs.specs.Cores.{word_of, found_at}
 use Rattle.sock_programs.specs.declared.task.Sizes.{Sizes}
 use Rattle.sock_runs.specs.Sound.{AllowsWord}
 use Rattle.id_rule.specs.Lawful.{call_word}
-use Rattle.id_runs.specs.Held.{IdView, MayId}
+use Rattle.id_runs.specs.Held.{IdView}
 use Rattle.id_runs.specs.Goes.{FitsSock, IdGoesOn}
 use Rattle.id_runs.proofs.Steps.{call_there}
 use Rattle.call_points.specs.declared.aside.Aside.{Aside}
@@ -45,9 +44,9 @@ use Rattle.reader_points.specs.Steps as reader_steps
 use Rattle.reader_seats.specs.Readers.{ReaderData, reader_program}
 use Rattle.reader_seats.specs.Readers as readers
 use Rattle.sock_core.specs.declared.letter.Letter.{Letter}
-use Rattle.sock_core.specs.Links.{LinksData, IsPaced, is_done, letter_home}
+use Rattle.sock_core.specs.Links.{LinksData, IsPaced, letter_home}
 use Rattle.sock_core.specs.Machines.{MachineState, READERS, IsSoundMachine, AreCalled, ArePaced, table_of, machine_sizes, state_of, waiting_of, given_by, core_with}
-use Rattle.sock_core.specs.Steps.{IsSized, IsOfLinks, NextIs, MayGoOn, MayStand, StandsAt, FitsSlots, FindsFitting, Fits, StepFits, beside}
+use Rattle.sock_core.specs.Steps.{IsSized, IsOfLinks, NextIs, MayGoOn, StandsAt, FitsSlots, Fits, StepFits, beside}
 use Rattle.sock_core.specs.Reading.{NextReadIs, MayRead, FitsRead, ReadFits}
 use Rattle.sock_core.proofs.Answering.{AsksUnfinished}
 use Rattle.sock_core.proofs.PointFacts.{NoTake, finds_beside, takes_none, within_aside, finds_aside, finds_call, within_ids, reads_within, reads_word, reads_aside}
@@ -128,12 +127,6 @@ of_links p l i (calls.TakeLink k) may = may.0
 of_links p l i (calls.FinishLink k) may = may.0
 of_links p l i (calls.PutLink k) may = may.0
 of_links p l i _ may = tt
-
--- what lies at a place of a list
-at_some : {A : Type 0} (xs : List A) (k : ℕ) → k < length xs → (x : A) × (get_elem? xs k ≡ core.some x)
-at_some [] k inside = absurd (omega (arith, inside))
-at_some (x ∷ xs) zero inside = (x, refl)
-at_some (x ∷ xs) (suc k) inside = at_some xs k (omega (arith, inside))
 
 -- ## A seat of a machine
 
@@ -290,6 +283,9 @@ module _ (m : MachineState) (sized : IsSized (table_of m)) (few_slots : m.ids.pl
     pub client_takes : (step : Step) → NextIs m i step → (aside : asides.Step) → step_as a step ≡ OfAside aside → NoTake aside
     client_takes step n aside e = takes_none a seat.point aside (next_of step n ∙ ap Some e)
 
+    pub client_slots : (step : Aside) → first_in client ≡ Some (OfAside (aside_steps.step_of (asked_of seat.call) step)) → FitsSlots (table_of m) step
+    client_slots step next = id_slots i client client_at (asked_of seat.call) step next
+
     pub client_next : (step : Step) → NextIs m i step → first_in client ≡ Some (step_as a step)
     client_next step n = next_of step n
 
@@ -323,6 +319,9 @@ module _ (m : MachineState) (sized : IsSized (table_of m)) (few_slots : m.ids.pl
 
     pub reader_next : (step : ReadStep) → NextReadIs m k step → first_in own ≡ Some (reader_steps.step_as reader.asked step)
     reader_next step n = subst (λ (r : ReaderData). first_in (reader_program m.calls r) ≡ Some (reader_steps.step_as r.asked step)) (core.some-injective n.reader reader (sym n.at ∙ at)) n.is
+
+    pub reader_slots : (step : Aside) → first_in own ≡ Some (OfAside (aside_steps.step_of reader.asked step)) → FitsSlots (table_of m) step
+    reader_slots step next = id_slots (READERS + k) own reader_at reader.asked step next
 
     pub reader_may : (first : First) → first_in own ≡ Some first → MayMake m.plan m.links (READERS + k) first
     reader_may first next = may_first (READERS + k) own reader_at first next

@@ -26,7 +26,7 @@ length_said (Say o outcome next) os = length_said next (slice_set os o (Some out
 length_said (Sent o next) os = length_said next os
 length_said _ os = refl
 
-length_holders : (i : ℕ) (call : calls.Call) (holders : List (Option ℕ)) → length (holders_after i call holders) ≡ length holders
+pub length_holders : (i : ℕ) (call : calls.Call) (holders : List (Option ℕ)) → length (holders_after i call holders) ≡ length holders
 length_holders i (calls.TakeLink k) holders = length-set holders k (Some i)
 length_holders i (calls.PutLink k) holders = length-set holders k None
 length_holders i _ holders = refl
@@ -35,7 +35,7 @@ length_letters : (seat : SeatData) (step : Step) (old fresh : List (Option Lette
 length_letters seat (firsts.PutMessage q author) old fresh h = ap length h.fresh_are ∙ length-set old q (Some h.letter)
 length_letters seat _ old fresh h = ap length h
 
-length_outs : (call : calls.Call) (old fresh : List OutState) → OutsAfter call old fresh → length fresh ≡ length old
+pub length_outs : (call : calls.Call) (old fresh : List OutState) → OutsAfter call old fresh → length fresh ≡ length old
 length_outs (calls.FinishLink k) old fresh o = ap length o.3 ∙ length-set old k o.1
 length_outs _ old fresh o = ap length o
 

@@ -24,7 +24,7 @@ use Rattle.sock_programs.specs.Writings as heads
 use Rattle.sock_programs.specs.Programs.{Program, Do, TakeMessage, TakeHome, PutHome, PutBytes, AskReady, Write, Aside, Round, Keep, NO_SOCKET, LAST_VERSION, LAST_GENERATION, open_from}
 use Rattle.sock_programs.specs.Sends.{block, freed, passed_telling, tell_drop, claim_from}
 use Rattle.sock_programs.specs.Attempts.{claims_from, claim_id, tried_again, retry_locked}
-use Rattle.sock_programs.specs.Posts.{packed, is_first, is_stale, is_full, is_sought, judged, posted, popped, unlocked, decide, locking, ends_call, advance_of}
+use Rattle.sock_programs.specs.Posts.{packed, is_first, is_stale, is_full, is_sought, judged, posted, decided, popped, unlocked, decide, locking, ends_call, advance_of}
 use Rattle.sock_programs.specs.Rounds.{round}
 use Rattle.sock_programs.specs.Clients.{HeldLife, operation, give_back, client_from, ending_of, drop_of, held_under, without_name}
 use Rattle.sock_programs.specs.Cores.{resolved, next_step}
@@ -35,6 +35,8 @@ use Rattle.sock_programs.specs.declared.task.Sizes.{Sizes}
 use Rattle.sock_programs.specs.declared.task.Task.{Task}
 use Rattle.sock_runs.specs.Sound.{first_step}
 use Rattle.id_points.specs.Ids.{id_of, number_of}
+use Rattle.id_points.specs.Turns.{sought_as}
+use Rattle.call_points.specs.Points.{retry_of}
 use Rattle.call_points.specs.Steps.{with_word, word_behind, after_word, after_call}
 use Rattle.call_points.specs.declared.deciding.OnCall.{OnCall}
 use Rattle.call_points.specs.declared.deciding.DecideStep.TheVariants as decides
@@ -61,7 +63,7 @@ use Rattle.seat_points.specs.declared.point.RetryStep.TheVariants as retries
 use Rattle.seat_points.specs.declared.point.JoinStep.TheVariants as joins
 use Rattle.seat_points.specs.declared.point.Point.{Point}
 use Rattle.seat_points.specs.declared.point.Point.TheVariants as points
-use Rattle.seat_points.specs.Points.{Around, client_on, then_program, point_program, reached_program, full_program, freed_program, after_program, posted_program, look_program, told, tell, GoesByWord, TakesCall, TakesMessage, TakesLink, PutsHome, PutsPiece, Asks, after_message, after_link, after_home, after_put, after_ready}
+use Rattle.seat_points.specs.Points.{Around, heading_by, locker_of, client_on, then_program, point_program, reached_program, full_program, freed_program, after_program, posted_program, look_program, told, tell, GoesByWord, TakesCall, TakesMessage, TakesLink, PutsHome, PutsPiece, Asks, after_message, after_link, after_home, after_put, after_ready}
 use Rattle.seat_points.specs.Steps.{OfCall, first_of, first_in}
 use Rattle.seat_points.specs.Steps as kinds
 use Rattle.client_seats.specs.Seats.{SeatData, around}
@@ -207,7 +209,7 @@ Behind a w p next = IsCalm (next_step (resolved w next)) ⊎ (((outs : List OutS
 
 -- a look is no step on the ids
 not_aside : {call : calls.Call} {k : ℕ → Program} {step : Step} {next : Found step → Program} → Do call k ≡ Aside step next → ⊥
-not_aside e = let f : first_of (Do _ _) ≡ first_of (Aside _ _) = ap first_of e in cc
+not_aside {call} {k} {step} {next} e = let f : first_of (Do call k) ≡ first_of (Aside step next) = ap first_of e in cc
 
 no_look : (a : Around) (p : Point) (step : Step) (next : Found step → Program) → Looks p → first_step (point_program a p) ≡ Aside step next → ⊥
 no_look a (points.Write w (writes.Look c asked)) step next looks is = not_aside is
@@ -318,7 +320,7 @@ module _ (a : Around) (on : (hs : List HeldLife) → Calm (a.goes_on hs)) (ends 
   step_calm (points.Write w (writes.GiveBack c)) = inl (λ found _. refl)
   step_calm (points.Write w (writes.StorePlace c)) = inl (λ found. passed_calm _ c.ticket.0 (λ x. x) _ (λ x calm. calm))
   step_calm (points.Write w (writes.LoadCode c)) = inl (λ found _. tt)
-  step_calm (points.Write w (writes.DropPlace c n)) = inl (λ found. passed_calm _ c.ticket.0 (tell c.author a.left_parts n) _ (λ x calm. tell_calm _ n x calm))
+  step_calm (points.Write w (writes.DropPlace c n)) = inl (λ found. passed_calm _ c.ticket.0 (tell c.author a.left_parts n) _ (λ x calm. tell_calm (heading_by c.author a.left_parts) n x calm))
   step_calm (points.Write w (writes.ReadNext now c)) = inl (λ found. freed_calm now.0 _ (told_calm c _ (λ _. tt)))
   step_calm (points.Write w (writes.Free now next c)) = inl (λ found. told_calm c (freed_program a w next) (written_calm w next))
   step_calm (points.Write w (writes.TakeMessage next)) = inl (λ goes. goes)
@@ -336,17 +338,17 @@ module _ (a : Around) (on : (hs : List HeldLife) → Calm (a.goes_on hs)) (ends 
   step_calm (points.Attempt t socket attempts.AddRef) = inl (λ found. either_way (vref_version found == socket_id_version socket.0) _ _ Calm (λ w. tt) (λ w. tt))
   step_calm (points.Attempt t socket attempts.FindLink) = inl (λ found w. tt)
   step_calm (points.Attempt t socket (attempts.StoreAt k)) = inl (λ found w. tt)
-  step_calm (points.Post c after posts.Load) = inl (λ found. judged_calm (id_of c.id) c.error.0 found _ (post_calm c after))
-  step_calm (points.Post c after (posts.Exchange from)) = inl (λ found. posts_calm (id_of c.id) c.error.0 from.0 found _ (post_calm c after))
+  step_calm (points.Post c after posts.Load) = inl (λ found. judged_calm (id_of c.id) c.error.0 found (posted_program a c after) (post_calm c after))
+  step_calm (points.Post c after (posts.Exchange from)) = inl (λ found. posts_calm (id_of c.id) c.error.0 from.0 found (posted_program a c after) (post_calm c after))
   step_calm (points.Decide c after (decides.Take x)) = inl (λ found w. tt)
   step_calm (points.Decide c after (decides.Judge x)) = inl (either_way (ends_call (parts x.0) c.error.0) _ _ (CalmStep (points.Decide c after (decides.Judge x))) (λ found. either_way (nat_le ((parts found).first + (parts found).range) LAST) _ _ Calm (λ w. tt) (after_calm after)) (λ found w. tt))
   step_calm (points.Decide c after (decides.Free o)) = inl (λ found. after_calm after)
-  step_calm (points.Decide c after (decides.Unlock from advance n)) = inl (λ found. unlocks_calm (id_slot (id_of c.id)) from.0 found advance _ (unlocked_calm _ _ (after_calm after)))
-  step_calm (points.Retry r (retries.Lock locks.Read)) = inl (λ found. locking_calm (id_slot (id_of r.attempt.id)) _ found _ (locked_calm a.sizes.requests (id_of r.attempt.id) (number_of r.attempt.number) (client_on a) (on a.held)))
-  step_calm (points.Retry r (retries.Lock (locks.Exchange from))) = inl (λ found. either_way (found == from.0) _ _ Calm (λ w. tt) (locking_calm (id_slot (id_of r.attempt.id)) _ found _ (locked_calm a.sizes.requests (id_of r.attempt.id) (number_of r.attempt.number) (client_on a) (on a.held))))
+  step_calm (points.Decide c after (decides.Unlock from advance n)) = inl (λ found. unlocks_calm (id_slot (id_of c.id)) from.0 found advance (unlocked (retry_of c (number_of n)) (decided (id_of c.id) (after_program a after))) (unlocked_calm (retry_of c (number_of n)) (decided (id_of c.id) (after_program a after)) (after_calm after)))
+  step_calm (points.Retry r (retries.Lock locks.Read)) = inl (λ found. locking_calm (id_slot (id_of r.attempt.id)) (sought_as (locker_of r).sought) found (retry_locked a.sizes.requests (id_of r.attempt.id) (number_of r.attempt.number) (client_on a)) (locked_calm a.sizes.requests (id_of r.attempt.id) (number_of r.attempt.number) (client_on a) (on a.held)))
+  step_calm (points.Retry r (retries.Lock (locks.Exchange from))) = inl (λ found. either_way (found == from.0) _ _ Calm (λ w. tt) (locking_calm (id_slot (id_of r.attempt.id)) (sought_as (locker_of r).sought) found (retry_locked a.sizes.requests (id_of r.attempt.id) (number_of r.attempt.number) (client_on a)) (locked_calm a.sizes.requests (id_of r.attempt.id) (number_of r.attempt.number) (client_on a) (on a.held))))
   step_calm (points.Retry r (retries.TakeCall x)) = inl (λ found w. tt)
   step_calm (points.Retry r (retries.PutCall x)) = inl (λ found w. tt)
-  step_calm (points.Retry r (retries.Unlock x advance)) = inl (λ found. unlocks_calm (id_slot (id_of r.attempt.id)) x.0 found advance _ (again_calm a.sizes.requests (id_of r.attempt.id) (number_of r.attempt.number) a.asked (client_on a)))
+  step_calm (points.Retry r (retries.Unlock x advance)) = inl (λ found. unlocks_calm (id_slot (id_of r.attempt.id)) x.0 found advance (tried_again a.sizes.requests (id_of r.attempt.id) (number_of r.attempt.number) a.asked (client_on a)) (again_calm a.sizes.requests (id_of r.attempt.id) (number_of r.attempt.number) a.asked (client_on a)))
   step_calm (points.Retry r retries.LoadName) = inl (λ found. either_way (found == 0) _ _ Calm (λ w. tt) (λ w. tt))
   step_calm (points.Expire o t) = inl (λ found. either_way (found == 0) _ _ Calm (on a.held) (λ w. tt))
   step_calm (points.Join o (joins.LoadCall t)) = inl (λ found. either_way (found == 0) _ _ Calm (on a.held) (λ w. tt))

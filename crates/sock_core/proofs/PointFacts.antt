@@ -1,5 +1,5 @@
 -- What the next step of a point tells of the point besides, and what the rule of the ids says of it.
-use Rattle.std.proofs.Common.{◌≡◌, refl, ℕ, ◌+◌, ◌*◌, ◌%◌, ◌<◌, ◌≤◌, Bool, true, false, if◌then◌else◌, Option, Some, None, subst, arith}
+use Rattle.std.proofs.Common.{◌≡◌, refl, ℕ, ◌+◌, ◌<◌, ◌≤◌, Bool, true, false, if◌then◌else◌, Option, Some, subst, arith}
 use Rattle.std.proofs.Props.{props}
 use Rattle.std.proofs.Math.Logic.{∥∥₁_elim}
 use Rattle.sock_words.specs.declared.plain.Plan.{Plan}
@@ -12,7 +12,7 @@ use Rattle.sock_programs.specs.Calls as calls
 use Rattle.sock_programs.specs.Asides as asides
 use Rattle.sock_programs.specs.Asides.{PutCall, id_slot}
 use Rattle.sock_programs.specs.Heads.{HasEnded, Unlocks}
-use Rattle.sock_programs.specs.Posts.{advance_of, ends_call, end_id, unlocked, decided}
+use Rattle.sock_programs.specs.Posts.{ends_call, end_id, unlocked, decided}
 use Rattle.sock_programs.specs.Programs.{Program, Aside, Round}
 use Rattle.sock_runs.specs.Sound.{AllowsWord}
 use Rattle.id_runs.specs.Held.{IdView}
@@ -39,11 +39,10 @@ use Rattle.seat_points.specs.declared.point.Author.TheVariants as authors
 use Rattle.seat_points.specs.declared.point.After.{After}
 use Rattle.seat_points.specs.declared.point.Point.{Point}
 use Rattle.seat_points.specs.declared.point.Point.TheVariants as points
-use Rattle.seat_points.specs.Points.{Around, point_program, look_program, after_program, IsWithin, IsWithinIds, MayFind, MayFindAside, MayFindId}
+use Rattle.seat_points.specs.Points.{Around, point_program, look_program, after_program, IsWithin, IsWithinIds, MayFind, MayFindAside, MayFindId, GoesByWord, TakesCall}
 use Rattle.seat_points.specs.Steps.{First, OfCall, OfAside, first_of, first_in}
 use Rattle.reader_points.specs.Points as reading
 use Rattle.reader_points.specs.declared.point.Closing.{Closing}
-use Rattle.reader_points.specs.declared.point.Lost.{Lost}
 use Rattle.reader_points.specs.declared.point.ReadPoint.{ReadPoint}
 use Rattle.reader_points.specs.declared.point.ReadPoint.TheVariants as reads
 use Rattle.reader_points.specs.declared.point.CloseStep.{CloseStep}
@@ -56,9 +55,19 @@ abbrev pub NoTake : asides.Step → Type 0
 NoTake (asides.TakeBytes k room) = ⊥
 NoTake other = Unit {0}
 
+-- how the point of a step aside goes on
+abbrev pub GoesAside : asides.Step → Point → Type 0
+GoesAside (asides.TakeCall i) p = TakesCall p
+GoesAside (asides.TakeBytes k room) p = ⊥
+GoesAside other p = GoesByWord p
+
+no_take : (step : asides.Step) (p : Point) → GoesAside step p → NoTake step
+no_take (asides.TakeBytes k room) p goes = absurd goes
+no_take _ p goes = tt
+
 abbrev Beside : Option First → Point → Type 0
 Beside (Some (OfCall call)) p = (found : ℕ) → FitsSock call found → MayFindAside p found
-Beside (Some (OfAside step)) p = NoTake step × ((sizes : Sizes) → IsWithin sizes p) × ((found : ℕ) → MayFind p found) × ((found : ℕ) → ((o : ℕ) → step ≡ asides.LoadCall o → MayFindId found) → MayFindAside p found)
+Beside (Some (OfAside step)) p = GoesAside step p × ((sizes : Sizes) → IsWithin sizes p) × ((found : ℕ) → MayFind p found) × ((found : ℕ) → ((o : ℕ) → step ≡ asides.LoadCall o → MayFindId found) → MayFindAside p found)
 Beside other p = Unit {0}
 
 look_beside : (a : Around) (s : Sending) (author : Author) → Beside (first_in (look_program a author s.id.0)) (points.Send s sends.Look)
@@ -160,7 +169,10 @@ module _ (a : Around) (p : Point) where
 
   -- and of a step aside
   pub takes_none : (step : asides.Step) → first_in (point_program a p) ≡ Some (OfAside step) → NoTake step
-  takes_none step e = (beside_at (OfAside step) e).0
+  takes_none step e = no_take step p (beside_at (OfAside step) e).0
+
+  pub goes_aside : (step : asides.Step) → first_in (point_program a p) ≡ Some (OfAside step) → GoesAside step p
+  goes_aside step e = (beside_at (OfAside step) e).0
 
   pub within_aside : (step : asides.Step) (sizes : Sizes) → first_in (point_program a p) ≡ Some (OfAside step) → IsWithin sizes p
   within_aside step sizes e = (beside_at (OfAside step) e).1 sizes

@@ -53,9 +53,9 @@ programs_anyhow m t u =
     let none_ = replicate (between m.seats) resting in
     map-append (λ (s : SeatState). s.program) (clients_with m.plan m.links t (machine_sizes m) 0 m.seats) (none_ ++ readers_with m.plan m.links t m.calls READERS m.readers)
     ∙ ap₂ (λ (ps qs : List Program). ps ++ qs) (clients_anyhow m.plan m.links t u (machine_sizes m) 0 m.seats)
-        (map-append (λ (s : SeatState). s.program) none_ (readers_with m.plan m.links t m.calls READERS m.readers)
-        ∙ ap (λ (ps : List Program). programs_of none_ ++ ps) (readers_anyhow m.plan m.links t u m.calls READERS m.readers)
-        ∙ sym (map-append (λ (s : SeatState). s.program) none_ (readers_with m.plan m.links u m.calls READERS m.readers)))
+    (map-append (λ (s : SeatState). s.program) none_ (readers_with m.plan m.links t m.calls READERS m.readers)
+    ∙ ap (λ (ps : List Program). programs_of none_ ++ ps) (readers_anyhow m.plan m.links t u m.calls READERS m.readers)
+    ∙ sym (map-append (λ (s : SeatState). s.program) none_ (readers_with m.plan m.links u m.calls READERS m.readers)))
     ∙ sym (map-append (λ (s : SeatState). s.program) (clients_with m.plan m.links u (machine_sizes m) 0 m.seats) (none_ ++ readers_with m.plan m.links u m.calls READERS m.readers))
 
 pub rest_anyhow : (m : MachineState) (t u : Taken) (g h : Given) (i : ℕ) → IsAtRest (core_with m t g) i → IsAtRest (core_with m u h) i

@@ -146,12 +146,26 @@ reader_more clients link = let many : suc link ≡ link + 1 = omega arith in
 
 module _ (m fresh : MachineState) (went : Bool) (so_far : RoundSoFar m fresh (round_by m.plan) went) where
   pub round_went : went ≡ true → HasMoved m fresh × LeavesFewer m fresh
-  round_went e = ((so_far.ran.0, so_far.ran.1, λ took gave agrees agrees_gave. let w = so_far.ran.2 took gave agrees agrees_gave in
-      record { moments = w.moments; are_of = w.are_of; is = subst (λ b. IsSo b m.plan (core_with m took gave) w.moments) e w.is; follows = w.follows }), so_far.fewer e)
+  round_went e = (
+    (
+      so_far.ran.0,
+      so_far.ran.1,
+      λ took gave agrees agrees_gave. let w = so_far.ran.2 took gave agrees agrees_gave in
+          record { moments = w.moments; are_of = w.are_of; is = subst (λ b. IsSo b m.plan (core_with m took gave) w.moments) e w.is; follows = w.follows },
+    ),
+    so_far.fewer e,
+  )
 
   pub round_stood : went ≡ false → Still m fresh × (fresh.short ≡ false)
-  round_stood e = ((so_far.ran.0, so_far.ran.1, λ took gave agrees agrees_gave. let w = so_far.ran.2 took gave agrees agrees_gave in
-      record { moments = w.moments; are_of = w.are_of; is = subst (λ b. IsSo b m.plan (core_with m took gave) w.moments) e w.is; follows = w.follows }), so_far.enough)
+  round_stood e = (
+    (
+      so_far.ran.0,
+      so_far.ran.1,
+      λ took gave agrees agrees_gave. let w = so_far.ran.2 took gave agrees agrees_gave in
+          record { moments = w.moments; are_of = w.are_of; is = subst (λ b. IsSo b m.plan (core_with m took gave) w.moments) e w.is; follows = w.follows },
+    ),
+    so_far.enough,
+  )
 
 -- ## Rounds
 

@@ -1,5 +1,5 @@
 -- What a sound machine says of the next step of a seat.
-use Rattle.std.proofs.Common.{◌≡◌, ◌≢◌, refl, ℕ, ◌<◌, ◌≤◌, Bool, true, false, List, [], ◌∷◌, map, length, slice_index_or, Option, Some, None, IfSome, ap, sym, ◌∙◌, arith, subst}
+use Rattle.std.proofs.Common.{◌≡◌, ◌≢◌, refl, ℕ, ◌<◌, Bool, true, false, List, [], ◌∷◌, map, length, slice_index_or, Option, Some, None, ap, sym, ◌∙◌, subst}
 use mathlib.Core.Option as core
 use mathlib.Core.List.{cons-ne-nil}
 use lib.ListN.{get_elem?}
@@ -39,10 +39,10 @@ use Rattle.seat_points.specs.Steps.{First, OfCall, OfAside, OfMessage, OfLink, f
 use Rattle.seat_points.specs.Steps as kinds
 use Rattle.seat_points.proofs.StepFacts.{FitsSizes}
 use Rattle.sock_core.specs.declared.letter.Letter.{Letter}
-use Rattle.sock_core.specs.Links.{LinksData, Taken, holder_of, is_done, link_with, link_home, homes_of, hand_of}
+use Rattle.sock_core.specs.Links.{LinksData, Taken, holder_of, is_done, link_home, homes_of, hand_of}
 use Rattle.sock_core.specs.Machines.{MachineState, IsSoundMachine, table_of, machine_sizes, state_of, core_with}
 use Rattle.sock_core.specs.Steps.{IsSized}
-use Rattle.sock_core.proofs.Hands.{HasNone, HasOnly, home_at}
+use Rattle.sock_core.proofs.Hands.{HasNone, home_at}
 use Rattle.sock_core.proofs.Holding.{none_of, only_of, nothing_held}
 use Rattle.sock_core.proofs.FirstSteps.{same_some, first_is}
 use Rattle.sock_core.proofs.Ticked.{MayAsk, MayCall, MayMake}

@@ -39,6 +39,7 @@ use Rattle.sock_core.specs.Beginnings.{AreBegun, AreReading, said_first}
 use Rattle.sock_core.specs.Links.{LinksData, Taken, Given, Agrees, AgreesGave, ClosedAreDone, IsPaced, holder_of, link_home, homes_of, letter_home}
 use Rattle.sock_core.specs.Machines.{MachineState, IsMachine, IsSoundMachine, HasSizes, ArePaced, AreCalled, READERS, between, resting, clients_with, readers_with, seats_with, waiting_of, given_by, machine_sizes, core_with}
 use Rattle.sock_core.proofs.Hands.{HasNone, hand_none}
+use Rattle.sock_core.proofs.Begun.{told_length}
 use Rattle.sock_core.proofs.Paces.{calm_paced, client_calm}
 use Rattle.sock_core.proofs.Seatings.{core_is}
 
@@ -132,11 +133,6 @@ all_say ps calls opens os = fold-append say os ps (replicate (32 - length ps) Re
     ∙ fold-append say (fold say os ps) (replicate (32 - length ps) Rest) (readers_from calls 0 opens)
     ∙ readers_say calls 0 opens (fold say (fold say os ps) (replicate (32 - length ps) Rest)) ∙ gap_says (32 - length ps) (fold say os ps)
 
-length_said : (program : Program) (os : List (Option Outcome)) → length (said program os) ≡ length os
-length_said (Say o outcome next) os = length_said next (slice_set os o (Some outcome)) ∙ length-set os o (Some outcome)
-length_said (Sent o next) os = length_said next os
-length_said _ os = refl
-
 -- no seat keeps a retry
 no_retries : (ss : List SeatData) → AllByRecursion (λ (s : SeatData). s.waiting ≡ []) ss → map (λ (s : SeatData). s.waiting) ss ≡ replicate (length ss) []
 no_retries [] all = refl
@@ -180,8 +176,8 @@ module _ (p : Plan) (q : IdPlan) (clients : List (List Task)) (m : MachineState)
   seats_are =
       ap₂ (λ (ps : Plan) (sizes : Sizes). clients_with ps m.links NOTHING sizes 0 m.seats ++ (replicate (between m.seats) resting ++ readers_with ps m.links NOTHING m.calls READERS m.readers)) plan same_sizes
       ∙ ap₂ (λ (xs ys : List SeatState). xs ++ ys) (new_clients p m.links m.letters new (sizes_of p q) 0 m.seats own_programs seats.0)
-          (ap₂ (λ (xs ys : List SeatState). xs ++ ys) (ap (λ n. replicate (32 - n) resting) (many ∙ sym many_programs) ∙ gap_begun (32 - length own_programs)) (new_readers p m.links m.letters new m.calls READERS 0 m.readers m.opens readers)
-          ∙ sym (map-append seat_begun (replicate (32 - length own_programs) Rest) (readers_from m.calls 0 m.opens)))
+      (ap₂ (λ (xs ys : List SeatState). xs ++ ys) (ap (λ n. replicate (32 - n) resting) (many ∙ sym many_programs) ∙ gap_begun (32 - length own_programs)) (new_readers p m.links m.letters new m.calls READERS 0 m.readers m.opens readers)
+      ∙ sym (map-append seat_begun (replicate (32 - length own_programs) Rest) (readers_from m.calls 0 m.opens)))
       ∙ sym (map-append seat_begun own_programs (replicate (32 - length own_programs) Rest ++ readers_from m.calls 0 m.opens))
 
   waiting_none : waiting_of m.seats m.readers ≡ replicate q.seats []
@@ -233,10 +229,6 @@ module _ (p : Plan) (q : IdPlan) (clients : List (List Task)) (m : MachineState)
     where
       none_there : slice_index m.ids.words (call_word m.ids.plan o) ≡ 0
       none_there = ap (λ (ws : List ℕ). slice_index ws (call_word m.ids.plan o)) (ap (λ (a : Calls). a.words) (ids 0)) ∙ (unused q).rest (call_word m.ids.plan o) (let e = ap (λ (x : IdPlan). x.slots) id_plan in omega (arith, e))
-
-  told_length : (os : List (Option Outcome)) (ps : List Program) → length (said_first os ps) ≡ length os
-  told_length os [] = refl
-  told_length os (x ∷ ps) = told_length (said (resolved [] x) os) ps ∙ length_said (resolved [] x) os
 
   pub machine_begins : (room : ℕ) → Agrees m.links NOTHING → AgreesGave m.links NOTHING → ClosedAreDone m.links → length m.links.outs ≡ p.links → length m.links.inns ≡ p.links → length m.ends ≡ p.links → length m.opens ≡ p.links → length clients ≡ p.seats → p.operations ≤ room → IsMachine m room
   machine_begins room agrees agrees_gave closed outs inns ends opens seats_many has_room =

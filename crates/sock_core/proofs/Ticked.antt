@@ -408,3 +408,10 @@ module _ (old fresh : MachineState) (i : ℕ) (seat seat' : SeatData) (at : get_
   steps_by (firsts.PutHome k n) answer next may none_ w = along answer Unasked w.0 (home_steps k n next may w.1)
   steps_by (firsts.PutBytes k asked author) answer next may none_ w = along answer (OfPut w.0) w.1 (put_steps k asked _ w.0 next may w.2)
   steps_by (firsts.AskReady k) answer next may none_ w = along answer (OfReady w.0) w.1 (ready_steps k w.0 next may w.2)
+
+  -- a step on a word takes and gives nothing
+  pub quiet_by : (step : Step) (answer : Answer) → IsCall (step_as (around (machine_sizes old) seat) step) → first_in program ≡ Some (step_as (around (machine_sizes old) seat) step) → MayMake old.plan old.links i (step_as (around (machine_sizes old) seat) step)
+      → MadeFirst (table_of old) (table_of fresh) i seat seat' step (step_as (around (machine_sizes old) seat) step) answer → Agrees fresh.links took × (core_with fresh took gave ≡ ticked old.plan before (record { seat = i; answer = Unasked }))
+  quiet_by (firsts.Call call) answer is next may w = call_core (step_of call) (firsts.Call call) next may (letters_by call old.letters fresh.letters w.1.letters) w.1
+  quiet_by (firsts.PutMessage q author) answer is next may w = let l = w.1.letters in call_core _ (firsts.PutMessage q author) next may (l.letter, l.fresh_are, same_home q author seat l.letter l.author_is l.bytes l.parts) w.1
+  quiet_by _ answer is next may w = absurd is

@@ -100,8 +100,10 @@ fn readers_of(alloc: Global, opens: &VecDeque<u16>) -> Result<Vec<ReaderSeat>, A
     ensures { IfOk result (λ readers. (calls : List ℕ) → AreReading calls opens.now.items readers.items) }
 {
     let mut readers = Vec::new(alloc);
-    for at in 0..opens.len() {
-        readers.push(ReaderSeat::new(alloc, at as u16, opens[at]))?;
+    let mut link = 0u16;
+    for operation in opens {
+        readers.push(ReaderSeat::new(alloc, link, *operation))?;
+        link += 1;
     }
     Ok(readers)
 }

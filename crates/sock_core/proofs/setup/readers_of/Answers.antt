@@ -1,19 +1,44 @@
-use Rattle.std.proofs.Common.{◌≡◌, ℕ, ◌+◌, List, length, take, sym, subst, ap, ◌∙◌, arith, ◌++◌, ◌∷◌, [], get_or}
-use Rattle.std.proofs.lemmas.List.{take_more, length-take}
+use Rattle.std.proofs.Common.{◌≡◌, ◌+◌, ◌≤◌, ◌++◌, ◌∷◌, [], ℕ, List, refl, length, map, ap, sym, ◌∙◌, subst, arith}
+use Rattle.std.proofs.lemmas.List.{length-map, length-append, length_push}
+use Rattle.std.specs.VecDeque.Iter.{deque_iter_rest}
+use Rattle.reader_seats.specs.Readers.{reader_program}
 use Rattle.sock_programs.specs.Readers.{reader}
-use Rattle.reader_seats.specs.Readers.{ReaderData}
 use Rattle.sock_core.specs.Beginnings.{AreReading}
-use Rattle.sock_core.proofs.TableSeats.{reading_more}
+use Rattle.sock_core.proofs.Begun.{map_last, reading_more, item_last, none_left}
 use Rattle.sock_core.proofs.setup.readers_of.Goals as goal
 
-pub loop-at-preserved : goal.loop-at-preserved
-loop-at-preserved c = λ calls.
-    let os = c.args.opens.now.items in
-    let at = c.loop-at.at in
-    let more : take (at + 1) os ≡ take at os ++ get_or os at c.index.result.now ∷ [] = take_more os at c.index.result.now (omega (arith, c.args.opens.now.ok)) in
-    let long = length-take at os in
-    let few = c.loop-at-test.true in
-    let all = c.len-at-end.ensures in
-    let named : c.index.result.now ≡ get_or os at c.index.result.now = c.index.ensures in
-    let next = reading_more calls (take at os) (get_or os at c.index.result.now) at c.loop-at.readers.items c.new.result (c.loop-at.invariant calls) (omega (arith, long, few, all, c.args.opens.now.ok)) (c.new.ensures calls ∙ ap (reader calls at) named) in
-    subst (λ (rs : List ReaderData). AreReading calls (take (at + 1) os) rs) (sym c.in_ok-push.ensures.items) (subst (λ (xs : List ℕ). AreReading calls xs (c.loop-at.readers.items ++ c.new.result ∷ [])) (sym more) next)
+pub loop-operation-init : goal.loop-operation-init
+loop-operation-init c = record {
+  all = c.into_iter-operation-iterator.ensures.into_iter_gives.0;
+  readers = λ calls. ap (map (reader_program calls)) c.new-readers.ensures.items;
+  count = refl;
+}
+
+pub overflow_add-link : goal.overflow_add-link
+overflow_add-link c =
+    let i = c.loop-operation.invariant in
+    let xs = map (λ o. o.now) (c.loop-operation.yielded ++ c.in-Some.operation ∷ []) in
+    let rest = deque_iter_rest c.next.new.self in
+    let all = ap length (item_last (λ o. o.now) c.loop-operation.yielded c.in-Some.operation (deque_iter_rest c.loop-operation.operation-iterator) rest c.args.opens.now.items c.in-Some.ensures.steps i.all) in
+    let count = i.count in
+    let few = c.requires in
+    let parts = length-append xs rest in
+    let mapped = length-map (c.loop-operation.yielded ++ c.in-Some.operation ∷ []) (λ o. o.now) in
+    let more = length_push c.loop-operation.yielded c.in-Some.operation in
+    omega (arith, all, count, few, parts, mapped, more)
+
+pub loop-operation-preserved : goal.loop-operation-preserved
+loop-operation-preserved c =
+    let i = c.loop-operation.invariant in
+    let last = map_last (λ o. o.now) c.loop-operation.yielded c.in-Some.operation in
+    record {
+      all = item_last (λ o. o.now) c.loop-operation.yielded c.in-Some.operation (deque_iter_rest c.loop-operation.operation-iterator) (deque_iter_rest c.next.new.self) c.args.opens.now.items c.in-Some.ensures.steps i.all;
+      readers = λ calls. subst (λ os. AreReading calls os c.push.new.self.items) (sym last) (subst (AreReading calls (map (λ o. o.now) c.loop-operation.yielded ++ c.in-Some.operation.now ∷ [])) (sym c.in_ok-push.ensures.items)
+          (reading_more calls (map (λ o. o.now) c.loop-operation.yielded) c.in-Some.operation.now c.loop-operation.readers.items c.new.result (i.readers calls)
+          (c.new.ensures calls ∙ ap (λ k. reader calls k c.in-Some.operation.now) (i.count ∙ sym (length-map c.loop-operation.yielded (λ o. o.now))))));
+      count = (let count = i.count in let more = length_push c.loop-operation.yielded c.in-Some.operation in omega (arith, count, more));
+    }
+
+pub returns : goal.returns
+returns c calls = let i = c.loop-operation.invariant in
+    subst (λ os. AreReading calls os c.loop-operation.readers.items) (none_left (map (λ o. o.now) c.loop-operation.yielded) (deque_iter_rest c.loop-operation.operation-iterator) c.args.opens.now.items i.all c.in-None.ensures.steps.0) (i.readers calls)

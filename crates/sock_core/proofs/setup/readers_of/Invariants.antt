@@ -1,7 +1,12 @@
-use Rattle.std.proofs.Common.{ℕ, List, take}
+use Rattle.std.proofs.Common.{◌≡◌, ◌++◌, ℕ, List, length, map}
+use Rattle.std.specs.VecDeque.Iter.{deque_iter_rest}
 use Rattle.sock_core.specs.Beginnings.{AreReading}
 use Rattle.sock_core.proofs.setup.readers_of.Given as goal
 
--- the readers so far
-abbrev pub invariant-loop-at : goal.invariant-loop-at
-invariant-loop-at l = (calls : List ℕ) → AreReading calls (take l.at l.opens.items) l.readers.items
+-- the readers of the links so far
+abbrev pub invariant-loop-operation : goal.invariant-loop-operation
+invariant-loop-operation l = record {
+  all : map (λ o. o.now) l.yielded ++ deque_iter_rest l.operation-iterator ≡ l.fn.opens.items;
+  readers : (calls : List ℕ) → AreReading calls (map (λ o. o.now) l.yielded) l.readers.items;
+  count : l.link ≡ length l.yielded;
+}

@@ -27,27 +27,27 @@ loop-seat-preserved g c =
     let more = client_more c.loop-seat.seat (omega arith) in
     elim c.if-is_moved.branch [
       | goal.then-is_moved w ↦ let moved = c.is_moved.ensures.moved w.if-is_moved.true in record {
-          so_far = subst (RoundSoFar c.args.self.now c.advance.new.self (from_to 1 ((c.loop-seat.seat + 1) - 1))) (sym w.moved-is) (subst (λ (l : List ℕ). RoundSoFar c.args.self.now c.advance.new.self l true) more
-              (round_moved c.args.self.now c.loop-seat.self c.advance.new.self (from_to 1 (c.loop-seat.seat - 1)) c.loop-seat.seat c.loop-seat.moved c.in_ok-advance.field-0 i.so_far t.tick t.left t.enough.1 rest moved.0 moved.1));
-          inside = omega arith;
-          asked = c.advance.ensures.asked ∙ c.loop-seat.invariant.asked;
-          accepted = c.advance.ensures.accepted ∙ c.loop-seat.invariant.accepted;
-          back = c.advance.ensures.back ∙ c.loop-seat.invariant.back;
-          done = c.advance.ensures.done ∙ c.loop-seat.invariant.done;
-          faults = c.advance.ensures.faults ∙ c.loop-seat.invariant.faults;
-          prompt = c.advance.ensures.prompt ∙ c.loop-seat.invariant.prompt;
-        }
+        so_far = subst (RoundSoFar c.args.self.now c.advance.new.self (from_to 1 ((c.loop-seat.seat + 1) - 1))) (sym w.moved-is) (subst (λ (l : List ℕ). RoundSoFar c.args.self.now c.advance.new.self l true) more
+            (round_moved c.args.self.now c.loop-seat.self c.advance.new.self (from_to 1 (c.loop-seat.seat - 1)) c.loop-seat.seat c.loop-seat.moved c.in_ok-advance.field-0 i.so_far t.tick t.left t.enough.1 rest moved.0 moved.1));
+        inside = omega arith;
+        asked = c.advance.ensures.asked ∙ c.loop-seat.invariant.asked;
+        accepted = c.advance.ensures.accepted ∙ c.loop-seat.invariant.accepted;
+        back = c.advance.ensures.back ∙ c.loop-seat.invariant.back;
+        done = c.advance.ensures.done ∙ c.loop-seat.invariant.done;
+        faults = c.advance.ensures.faults ∙ c.loop-seat.invariant.faults;
+        prompt = c.advance.ensures.prompt ∙ c.loop-seat.invariant.prompt;
+      }
       | goal.else-is_moved w ↦ record {
-          so_far = subst (RoundSoFar c.args.self.now c.advance.new.self (from_to 1 ((c.loop-seat.seat + 1) - 1))) (sym w.moved-is) (subst (λ (l : List ℕ). RoundSoFar c.args.self.now c.advance.new.self l c.loop-seat.moved) more
-              (round_still c.args.self.now c.loop-seat.self c.advance.new.self (from_to 1 (c.loop-seat.seat - 1)) c.loop-seat.seat c.loop-seat.moved c.in_ok-advance.field-0 i.so_far t.tick t.left t.enough.1 rest (c.is_moved.ensures.still w.if-is_moved.false)));
-          inside = omega arith;
-          asked = c.advance.ensures.asked ∙ c.loop-seat.invariant.asked;
-          accepted = c.advance.ensures.accepted ∙ c.loop-seat.invariant.accepted;
-          back = c.advance.ensures.back ∙ c.loop-seat.invariant.back;
-          done = c.advance.ensures.done ∙ c.loop-seat.invariant.done;
-          faults = c.advance.ensures.faults ∙ c.loop-seat.invariant.faults;
-          prompt = c.advance.ensures.prompt ∙ c.loop-seat.invariant.prompt;
-        }
+        so_far = subst (RoundSoFar c.args.self.now c.advance.new.self (from_to 1 ((c.loop-seat.seat + 1) - 1))) (sym w.moved-is) (subst (λ (l : List ℕ). RoundSoFar c.args.self.now c.advance.new.self l c.loop-seat.moved) more
+            (round_still c.args.self.now c.loop-seat.self c.advance.new.self (from_to 1 (c.loop-seat.seat - 1)) c.loop-seat.seat c.loop-seat.moved c.in_ok-advance.field-0 i.so_far t.tick t.left t.enough.1 rest (c.is_moved.ensures.still w.if-is_moved.false)));
+        inside = omega arith;
+        asked = c.advance.ensures.asked ∙ c.loop-seat.invariant.asked;
+        accepted = c.advance.ensures.accepted ∙ c.loop-seat.invariant.accepted;
+        back = c.advance.ensures.back ∙ c.loop-seat.invariant.back;
+        done = c.advance.ensures.done ∙ c.loop-seat.invariant.done;
+        faults = c.advance.ensures.faults ∙ c.loop-seat.invariant.faults;
+        prompt = c.advance.ensures.prompt ∙ c.loop-seat.invariant.prompt;
+      }
     ]
 
 pub loop-link-init : goal.loop-link-init
@@ -77,27 +77,27 @@ loop-link-preserved g c =
     let more = reader_more clients c.loop-link.link in
     elim c.if-is_moved-2.branch [
       | goal.then-is_moved-2 w ↦ let moved = c.is_moved-in-loop-link.ensures.moved w.if-is_moved-2.true in record {
-          so_far = subst (RoundSoFar c.args.self.now c.advance-in-loop-link.new.self (clients ++ from_to READERS (c.loop-link.link + 1))) (sym w.moved-is) (subst (λ (l : List ℕ). RoundSoFar c.args.self.now c.advance-in-loop-link.new.self l true) more
-              (round_moved c.args.self.now c.loop-link.self c.advance-in-loop-link.new.self (clients ++ from_to READERS c.loop-link.link) (READERS + c.loop-link.link) c.loop-link.moved c.in_ok-advance-2.field-0 i.so_far t.tick t.left t.enough.1 rest moved.0 moved.1));
-          inside = omega (arith, is, same);
-          asked = c.advance-in-loop-link.ensures.asked ∙ c.loop-link.invariant.asked;
-          accepted = c.advance-in-loop-link.ensures.accepted ∙ c.loop-link.invariant.accepted;
-          back = c.advance-in-loop-link.ensures.back ∙ c.loop-link.invariant.back;
-          done = c.advance-in-loop-link.ensures.done ∙ c.loop-link.invariant.done;
-          faults = c.advance-in-loop-link.ensures.faults ∙ c.loop-link.invariant.faults;
-          prompt = c.advance-in-loop-link.ensures.prompt ∙ c.loop-link.invariant.prompt;
-        }
+        so_far = subst (RoundSoFar c.args.self.now c.advance-in-loop-link.new.self (clients ++ from_to READERS (c.loop-link.link + 1))) (sym w.moved-is) (subst (λ (l : List ℕ). RoundSoFar c.args.self.now c.advance-in-loop-link.new.self l true) more
+            (round_moved c.args.self.now c.loop-link.self c.advance-in-loop-link.new.self (clients ++ from_to READERS c.loop-link.link) (READERS + c.loop-link.link) c.loop-link.moved c.in_ok-advance-2.field-0 i.so_far t.tick t.left t.enough.1 rest moved.0 moved.1));
+        inside = omega (arith, is, same);
+        asked = c.advance-in-loop-link.ensures.asked ∙ c.loop-link.invariant.asked;
+        accepted = c.advance-in-loop-link.ensures.accepted ∙ c.loop-link.invariant.accepted;
+        back = c.advance-in-loop-link.ensures.back ∙ c.loop-link.invariant.back;
+        done = c.advance-in-loop-link.ensures.done ∙ c.loop-link.invariant.done;
+        faults = c.advance-in-loop-link.ensures.faults ∙ c.loop-link.invariant.faults;
+        prompt = c.advance-in-loop-link.ensures.prompt ∙ c.loop-link.invariant.prompt;
+      }
       | goal.else-is_moved-2 w ↦ record {
-          so_far = subst (RoundSoFar c.args.self.now c.advance-in-loop-link.new.self (clients ++ from_to READERS (c.loop-link.link + 1))) (sym w.moved-is) (subst (λ (l : List ℕ). RoundSoFar c.args.self.now c.advance-in-loop-link.new.self l c.loop-link.moved) more
-              (round_still c.args.self.now c.loop-link.self c.advance-in-loop-link.new.self (clients ++ from_to READERS c.loop-link.link) (READERS + c.loop-link.link) c.loop-link.moved c.in_ok-advance-2.field-0 i.so_far t.tick t.left t.enough.1 rest (c.is_moved-in-loop-link.ensures.still w.if-is_moved-2.false)));
-          inside = omega (arith, is, same);
-          asked = c.advance-in-loop-link.ensures.asked ∙ c.loop-link.invariant.asked;
-          accepted = c.advance-in-loop-link.ensures.accepted ∙ c.loop-link.invariant.accepted;
-          back = c.advance-in-loop-link.ensures.back ∙ c.loop-link.invariant.back;
-          done = c.advance-in-loop-link.ensures.done ∙ c.loop-link.invariant.done;
-          faults = c.advance-in-loop-link.ensures.faults ∙ c.loop-link.invariant.faults;
-          prompt = c.advance-in-loop-link.ensures.prompt ∙ c.loop-link.invariant.prompt;
-        }
+        so_far = subst (RoundSoFar c.args.self.now c.advance-in-loop-link.new.self (clients ++ from_to READERS (c.loop-link.link + 1))) (sym w.moved-is) (subst (λ (l : List ℕ). RoundSoFar c.args.self.now c.advance-in-loop-link.new.self l c.loop-link.moved) more
+            (round_still c.args.self.now c.loop-link.self c.advance-in-loop-link.new.self (clients ++ from_to READERS c.loop-link.link) (READERS + c.loop-link.link) c.loop-link.moved c.in_ok-advance-2.field-0 i.so_far t.tick t.left t.enough.1 rest (c.is_moved-in-loop-link.ensures.still w.if-is_moved-2.false)));
+        inside = omega (arith, is, same);
+        asked = c.advance-in-loop-link.ensures.asked ∙ c.loop-link.invariant.asked;
+        accepted = c.advance-in-loop-link.ensures.accepted ∙ c.loop-link.invariant.accepted;
+        back = c.advance-in-loop-link.ensures.back ∙ c.loop-link.invariant.back;
+        done = c.advance-in-loop-link.ensures.done ∙ c.loop-link.invariant.done;
+        faults = c.advance-in-loop-link.ensures.faults ∙ c.loop-link.invariant.faults;
+        prompt = c.advance-in-loop-link.ensures.prompt ∙ c.loop-link.invariant.prompt;
+      }
     ]
 
 pub returns-clause-moved : goal.returns-clause-moved

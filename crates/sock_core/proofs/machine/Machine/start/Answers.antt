@@ -1,4 +1,4 @@
-use Rattle.std.proofs.Common.{refl, false, map, length, vec_capacity, ap, ◌∙◌, arith}
+use Rattle.std.proofs.Common.{◌≡◌, refl, false, map, length, vec_capacity, ap, sym, ◌∙◌, arith}
 use Rattle.std.proofs.lemmas.List.{length-map}
 use Rattle.sock_io.specs.Link.{end_of}
 use Rattle.sock_programs.specs.Cores.{Calls}
@@ -12,37 +12,40 @@ use Rattle.sock_core.proofs.machine.Machine.start.Goals as goal
 pub parts_of-requires : goal.parts_of-requires
 parts_of-requires g c = let few = c.requires.for_.few_opens in omega (arith, few)
 
+pub invariant_of-table : goal.invariant_of-table
+invariant_of-table g c = (sym (ap (λ (a : Calls). a.plan.slots) ((c.in-Ok.ensures.parts c.args.wanted.calls.items).ids_are 0)), c.in-Ok.ensures.room)
+
 pub invariant_of-result : goal.invariant_of-result
 invariant_of-result g c =
-    let clients = map (λ tasks. tasks.items) c.args.clients.items in
-    let parts = c.in-Ok.ensures.parts c.args.calls.items in
+    let clients = map (λ tasks. tasks.items) c.args.wanted.clients.items in
+    let parts = c.in-Ok.ensures.parts c.args.wanted.calls.items in
     let l : LinksData = record { holders = c.in-Ok.parts.holders.items; nexts = c.in-Ok.parts.nexts.items; outs = map (λ e. g.O.Out.state e.out) c.args.ends.items; inns = map (λ e. g.I.In.state e.inn) c.args.ends.items } in
     let m : MachineState = record {
-      plan = c.args.plan.now;
+      plan = c.args.wanted.plan;
       words = c.in-Ok.parts.words.items;
       letters = c.in-Ok.parts.letters.items;
       links = l;
-      ids = c.in-Ok.parts.ids.now;
-      calls = c.args.calls.items;
+      ids = c.in-Ok.parts.ids;
+      calls = c.args.wanted.calls.items;
       ending = false;
       seats = map seat_data c.in-Ok.parts.seats.items;
       readers = c.in-Ok.parts.readers.items;
-      opens = c.args.opens.items;
+      opens = c.args.wanted.opens.items;
       outcomes = c.in-Ok.parts.outcomes.items;
       ends = map (λ e. end_of (g.O.Out.state e.out) (g.I.In.state e.inn)) c.args.ends.items;
       short = false;
     } in
     let ids = ap (λ (a : Calls). a.plan) (parts.ids_are 0) in
-    let new_ = parts_new c.args.plan.now c.args.id_plan.now clients c.args.calls.items c.args.opens.items l _ m.letters _ _ _ _ parts (all_open (λ e. g.O.Out.state e.out) c.args.ends.items l refl c.requires.fresh) in
-    let many = length-map c.args.clients.items (λ tasks. tasks.items) in
+    let new_ = parts_new c.args.wanted.plan c.args.wanted.id_plan clients c.args.wanted.calls.items c.args.wanted.opens.items l _ m.letters _ _ _ _ parts (all_open (λ e. g.O.Out.state e.out) c.args.ends.items l refl c.requires.fresh) in
+    let many = length-map c.args.wanted.clients.items (λ tasks. tasks.items) in
     let outs = length-map c.args.ends.items (λ e. g.O.Out.state e.out) in
     let inns = length-map c.args.ends.items (λ e. g.I.In.state e.inn) in
     let ends = length-map c.args.ends.items (λ e. end_of (g.O.Out.state e.out) (g.I.In.state e.inn)) in
-    let all : length c.args.ends.items ≡ c.args.plan.now.links = omega (arith, c.args.ends.ok, c.requires.links.0) in (
-      machine_begins c.args.plan.now c.args.id_plan.now clients m c.requires.for_ refl ids new_ parts.words_are parts.seats_are parts.readers_are parts.ids_are refl parts.outcomes_are (vec_capacity c.in-Ok.parts.told)
+    let all : length c.args.ends.items ≡ c.args.wanted.plan.links = omega (arith, c.args.ends.ok, c.requires.links.0) in (
+      machine_begins c.args.wanted.plan c.args.wanted.id_plan clients m c.requires.for_ refl ids new_ parts.words_are parts.seats_are parts.readers_are parts.ids_are refl parts.outcomes_are (vec_capacity c.in-Ok.parts.told)
           (nothing_taken (λ e. g.O.Out.state e.out) c.args.ends.items l refl c.requires.unused) (nothing_given (λ e. g.I.In.state e.inn) c.args.ends.items l refl c.requires.silent)
           (none_closing (λ e. g.I.In.state e.inn) c.args.ends.items l refl c.requires.unclosed)
-          (outs ∙ all) (inns ∙ all) (ends ∙ all) c.requires.links.1 (omega (arith, many, c.args.clients.ok, c.requires.seats)) c.in-Ok.ensures.told_room,
+          (outs ∙ all) (inns ∙ all) (ends ∙ all) c.requires.links.1 (omega (arith, many, c.args.wanted.clients.ok, c.requires.seats)) c.in-Ok.ensures.told_room,
       c.in-Ok.ensures.told,
       c.in-Ok.ensures.places,
       c.in-Ok.ensures.places_room,
@@ -50,27 +53,27 @@ invariant_of-result g c =
 
 pub returns-clause-core : goal.returns-clause-core
 returns-clause-core g c =
-    let clients = map (λ tasks. tasks.items) c.args.clients.items in
-    let parts = c.in-Ok.ensures.parts c.args.calls.items in
+    let clients = map (λ tasks. tasks.items) c.args.wanted.clients.items in
+    let parts = c.in-Ok.ensures.parts c.args.wanted.calls.items in
     let l : LinksData = record { holders = c.in-Ok.parts.holders.items; nexts = c.in-Ok.parts.nexts.items; outs = map (λ e. g.O.Out.state e.out) c.args.ends.items; inns = map (λ e. g.I.In.state e.inn) c.args.ends.items } in
     let m : MachineState = record {
-      plan = c.args.plan.now;
+      plan = c.args.wanted.plan;
       words = c.in-Ok.parts.words.items;
       letters = c.in-Ok.parts.letters.items;
       links = l;
-      ids = c.in-Ok.parts.ids.now;
-      calls = c.args.calls.items;
+      ids = c.in-Ok.parts.ids;
+      calls = c.args.wanted.calls.items;
       ending = false;
       seats = map seat_data c.in-Ok.parts.seats.items;
       readers = c.in-Ok.parts.readers.items;
-      opens = c.args.opens.items;
+      opens = c.args.wanted.opens.items;
       outcomes = c.in-Ok.parts.outcomes.items;
       ends = map (λ e. end_of (g.O.Out.state e.out) (g.I.In.state e.inn)) c.args.ends.items;
       short = false;
     } in
     let ids = ap (λ (a : Calls). a.plan) (parts.ids_are 0) in
-    let new_ = parts_new c.args.plan.now c.args.id_plan.now clients c.args.calls.items c.args.opens.items l _ m.letters _ _ _ _ parts (all_open (λ e. g.O.Out.state e.out) c.args.ends.items l refl c.requires.fresh) in
-    begins_core c.args.plan.now c.args.id_plan.now clients m c.requires.for_ refl ids new_ parts.words_are parts.seats_are parts.readers_are parts.ids_are refl parts.outcomes_are
+    let new_ = parts_new c.args.wanted.plan c.args.wanted.id_plan clients c.args.wanted.calls.items c.args.wanted.opens.items l _ m.letters _ _ _ _ parts (all_open (λ e. g.O.Out.state e.out) c.args.ends.items l refl c.requires.fresh) in
+    begins_core c.args.wanted.plan c.args.wanted.id_plan clients m c.requires.for_ refl ids new_ parts.words_are parts.seats_are parts.readers_are parts.ids_are refl parts.outcomes_are
 
 pub returns-clause-agrees : goal.returns-clause-agrees
 returns-clause-agrees g c =
@@ -79,30 +82,30 @@ returns-clause-agrees g c =
 
 pub returns-clause-plain : goal.returns-clause-plain
 returns-clause-plain g c =
-    let clients = map (λ tasks. tasks.items) c.args.clients.items in
-    let parts = c.in-Ok.ensures.parts c.args.calls.items in
+    let clients = map (λ tasks. tasks.items) c.args.wanted.clients.items in
+    let parts = c.in-Ok.ensures.parts c.args.wanted.calls.items in
     let l : LinksData = record { holders = c.in-Ok.parts.holders.items; nexts = c.in-Ok.parts.nexts.items; outs = map (λ e. g.O.Out.state e.out) c.args.ends.items; inns = map (λ e. g.I.In.state e.inn) c.args.ends.items } in
     let m : MachineState = record {
-      plan = c.args.plan.now;
+      plan = c.args.wanted.plan;
       words = c.in-Ok.parts.words.items;
       letters = c.in-Ok.parts.letters.items;
       links = l;
-      ids = c.in-Ok.parts.ids.now;
-      calls = c.args.calls.items;
+      ids = c.in-Ok.parts.ids;
+      calls = c.args.wanted.calls.items;
       ending = false;
       seats = map seat_data c.in-Ok.parts.seats.items;
       readers = c.in-Ok.parts.readers.items;
-      opens = c.args.opens.items;
+      opens = c.args.wanted.opens.items;
       outcomes = c.in-Ok.parts.outcomes.items;
       ends = map (λ e. end_of (g.O.Out.state e.out) (g.I.In.state e.inn)) c.args.ends.items;
       short = false;
     } in
     let ids = ap (λ (a : Calls). a.plan) (parts.ids_are 0) in
-    let new_ = parts_new c.args.plan.now c.args.id_plan.now clients c.args.calls.items c.args.opens.items l _ m.letters _ _ _ _ parts (all_open (λ e. g.O.Out.state e.out) c.args.ends.items l refl c.requires.fresh) in
-    begins_plain m c.args.plan.now c.args.id_plan.now clients refl ids c.requires.for_.are parts.seats_are
+    let new_ = parts_new c.args.wanted.plan c.args.wanted.id_plan clients c.args.wanted.calls.items c.args.wanted.opens.items l _ m.letters _ _ _ _ parts (all_open (λ e. g.O.Out.state e.out) c.args.ends.items l refl c.requires.fresh) in
+    begins_plain m c.args.wanted.plan c.args.wanted.id_plan clients refl ids c.requires.for_.are parts.seats_are
 
 pub returns-clause-plan : goal.returns-clause-plan
-returns-clause-plan g c = (refl, ap (λ (a : Calls). a.plan) ((c.in-Ok.ensures.parts c.args.calls.items).ids_are 0))
+returns-clause-plan g c = (refl, ap (λ (a : Calls). a.plan) ((c.in-Ok.ensures.parts c.args.wanted.calls.items).ids_are 0))
 
 pub returns-clause-outs : goal.returns-clause-outs
 returns-clause-outs g c =
