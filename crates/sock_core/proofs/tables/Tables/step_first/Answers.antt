@@ -37,6 +37,6 @@ step-requires-clause-room g c =
 
 pub returns : goal.returns
 returns g c = elim c.match-step.branch [
-  in-Ok w ↦ tick_as w.result-is (told_along c.self.view_is (told_here c.self.inside.table c.self.inside.seats.items c.self.inside.readers.items c.self.inside.opens.items c.self.inside.short 0 0 refl c.index_mut-place.result.now c.index_mut-place.result.now c.index_mut-place.ensures.value refl c.args.step (next_in c.self.view_is c.requires.next) c.step.new.place w.in-Ok.ensures.ok))
+  | in-Ok w ↦ tick_as w.result-is (told_along c.self.view_is (told_here c.self.inside.table c.self.inside.seats.items c.self.inside.readers.items c.self.inside.opens.items c.self.inside.short 0 0 refl c.index_mut-place.result.now c.index_mut-place.result.now c.index_mut-place.ensures.value refl c.args.step (next_in c.self.view_is c.requires.next) c.step.new.place w.in-Ok.ensures.ok))
   | in-Err w ↦ absurd (false≢true (w.in-Err.ensures.none (plain_here c.self.inside.table c.self.inside.seats.items c.self.inside.readers.items c.self.inside.opens.items c.self.inside.short 0 0 refl c.index_mut-place.result.now c.index_mut-place.result.now c.index_mut-place.ensures.value refl c.args.step (next_in c.self.view_is c.requires.next) refl (subst IsPlain (sym c.self.view_is) c.requires.plain))))
 ]
