@@ -296,7 +296,7 @@ module _ (p : Plan) (q : IdPlan) (clients : List (List Task)) (gives : ℕ → L
           )
 
       -- the story as a run begins
-      pub first_story : HasStory p q clients gives (beginning p q (all_programs (programs (sizes_of p q) clients) (readers_from calls 0 opens)))
+      pub first_story : HasStory p q clients gives [] (beginning p q (all_programs (programs (sizes_of p q) clients) (readers_from calls 0 opens)))
       first_story =
           let xs : List Program = all_programs (programs (sizes_of p q) clients) (readers_from calls 0 opens) in
           let r = begin_all (all_programs (programs (sizes_of p q) clients) (readers_from calls 0 opens)) 0 (replicate p.operations None) [] (first_marks 0 q.seats) (λ i x e. subst (λ n. get_elem? xs n ≡ core.some x) (let z : i ≡ 0 + i = omega arith in z) e) first_tasks
@@ -304,6 +304,7 @@ module _ (p : Plan) (q : IdPlan) (clients : List (List Task)) (gives : ℕ → L
             scene = first_scene;
             marks = r.0;
             is = refl;
+            shown = refl;
             story = record {
               each = r.1 ∙ (length_marks 0 q.seats ∙ (sym long ∙ sym (length-map xs (λ (x : Program). record { program = next_step (resolved [] x); hand = [] }))));
               slots = r.4;

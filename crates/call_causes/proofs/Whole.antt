@@ -19,7 +19,7 @@ use Rattle.report_fits.proofs.Reading.{InRange}
 use Rattle.report_fits.proofs.Targets.{AreThere}
 use Rattle.owed_calls.specs.Lives.{ClosesInRun}
 use Rattle.owed_calls.proofs.Known.{run_all_ended, run_all_rest}
-use Rattle.call_causes.specs.Lists.{given}
+use Rattle.call_causes.specs.Lists.{given, times, attempts_of_run}
 use Rattle.call_causes.specs.Target.{ToldOnCallsInPart}
 use Rattle.call_causes.specs.Scenes.{SeeksName, LeadsTo}
 use Rattle.call_causes.specs.Stories.{HasStory}
@@ -47,9 +47,17 @@ module _ (script : List Item) (made : AreMade script) (there : AreThere script) 
   leads : LeadsTo (plan_of script) (id_plan_of script) (all_tasks script) (given core) core
   leads k = ([], append-nil (given core k))
 
+  -- with the calls whose attempts were advanced, the latest first
+  pub run_tale : (ns : List ℕ) × HasStory (plan_of script) (id_plan_of script) (all_tasks script) (given core) ns core × ((o : ℕ) → times o ns ≡ attempts_of_run script turns core is o)
+  run_tale = run_story script made (given core) (are_numbered script made there range (given core)) (have_slots script made there range (given core)) (begins script made there range (given core)) turns core is leads
+
   -- whatever the schedule, the story of the calls goes on up to the end of the run
-  pub run_has_story : HasStory (plan_of script) (id_plan_of script) (all_tasks script) (given core) core
-  run_has_story = run_story script made (given core) (are_numbered script made there range (given core)) (have_slots script made there range (given core)) (begins script made there range (given core)) turns core is leads
+  pub run_has_story : HasStory (plan_of script) (id_plan_of script) (all_tasks script) (given core) run_tale.0 core
+  run_has_story = run_tale.1
+
+  -- the number of the last attempt of each call is how often it was advanced
+  pub run_attempts : (o : ℕ) → times o run_has_story.scene.advances ≡ attempts_of_run script turns core is o
+  run_attempts o = ap (times o) run_has_story.shown ∙ run_tale.2 o
 
   module _ (closes : ClosesInRun script turns core is) where
     -- and has ended there, where a link answers that it is closed only where its writing half is finished
@@ -64,12 +72,12 @@ module _ (script : List Item) (made : AreMade script) (there : AreThere script) 
     run_found_none = let h = run_has_story in subst (λ (d : Core). CallsFoundNone (all_tasks script) d.outcomes) h.is
         (λ c t u asked n is us sought has low op name. names_found_none (plan_of script) (id_plan_of script) (all_tasks script) (given core) (are_ascending script made there range (given core)) h.scene h.marks run_has_ended c t u n is us (seeks_name n t.op sought) has low (subst (SeeksName n) (sym op) name))
 
-    module _ (fixed : Fixed) (orders : ℕ → Order) (last : ℕ → ℕ) where
-      -- each `call`, `expire` and `join` has an outcome and its cause; of a call that failed only so much is told as shows without its attempts
-      pub run_told_in_part : ToldOnCallsInPart (plan_of script) (all_tasks script) core.outcomes fixed (given core) orders last
-      run_told_in_part = let h = run_has_story in let e = run_has_ended in subst (λ (d : Core). ToldOnCallsInPart (plan_of script) (all_tasks script) d.outcomes fixed (given d) orders last) h.is (record {
+    module _ (fixed : Fixed) (orders : ℕ → Order) where
+      -- each `call`, `expire` and `join` has an outcome and its cause; of a call that failed only so much is told as shows without its sockets
+      pub run_told_in_part : ToldOnCallsInPart (plan_of script) (all_tasks script) core.outcomes fixed (given core) orders (attempts_of_run script turns core is)
+      run_told_in_part = let h = run_has_story in let e = run_has_ended in subst (λ (d : Core). ToldOnCallsInPart (plan_of script) (all_tasks script) d.outcomes fixed (given d) orders (attempts_of_run script turns core is)) h.is (record {
         told = told (plan_of script) (id_plan_of script) (all_tasks script) (given core) h.scene h.marks e;
-        why = why (plan_of script) (id_plan_of script) (all_tasks script) (given core) (are_ascending script made there range (given core)) h.scene h.marks e fixed orders (λ k. ap (λ (d : Core). given d k) h.is) last;
+        why = why (plan_of script) (id_plan_of script) (all_tasks script) (given core) (are_ascending script made there range (given core)) h.scene h.marks e fixed orders (λ k. ap (λ (d : Core). given d k) h.is) (attempts_of_run script turns core is) run_attempts;
         expired_once = expired_once (plan_of script) (id_plan_of script) (all_tasks script) (given core) (are_ascending script made there range (given core)) h.scene h.marks e;
         versions = versions (plan_of script) (id_plan_of script) (all_tasks script) (given core) h.scene h.marks e;
       })

@@ -267,9 +267,10 @@ module _ (p : Plan) (q : IdPlan) (clients : List (List Task)) (gives : ℕ → L
     pub reads : ReadsLaw w ms
     pub seats : (j : ℕ) (seat : SeatState) (m : Mark) → get_elem? w.core.seats j ≡ core.some seat → At ms j m → SaysOn p q clients gives w m seat.program
 
-  -- the story of a core
-  pub record HasStory (c : Core) : Type 0 where
+  -- the story of a core, up to which these calls' attempts were advanced, the latest first
+  pub record HasStory (advanced : List ℕ) (c : Core) : Type 0 where
     pub scene : Scene
     pub marks : List Mark
     pub is : scene.core ≡ c
+    pub shown : scene.advances ≡ advanced
     pub story : CallStory scene marks
