@@ -45,6 +45,7 @@ pub fn brpc<R, S: Source, K: Sink, L: Linker, G: Gate>(
 ) -> u8
     requires asked { L.asked links.old ≡ [] }
     requires back { L.back links.old ≡ [] }
+    // `TellClosed`: a reading half of this type tells whether it is found closed. Each kind of link of this project does.
     ensures answers { Answers (map string_bytes words.now)
         (record { given = S.left source.old; left = S.left source.new; faults = record { before = S.faults source.old; now = S.faults source.new } })
         (record { before = K.contents out.old; now = K.contents out.new; faults = record { before = K.faults out.old; now = K.faults out.new } })
