@@ -43,7 +43,6 @@ pub mod TableReadings
 pub mod TableTakes
 pub mod TableCuts
 pub mod TableGoes
-pub mod TableSeats
 pub mod TablePlaces
 pub mod TableTellings
 pub mod PointFacts
