@@ -39,11 +39,10 @@ pub mod TableRoom
 pub mod TableAsides
 pub mod TableFlat
 pub mod TableReads
+pub mod TableReadings
 pub mod TableTakes
 pub mod TableCuts
 pub mod TableGoes
-pub mod TableSeats
 pub mod TablePlaces
 pub mod TableTellings
 pub mod PointFacts
-pub mod TableReadings

@@ -51,9 +51,10 @@ gives_set l l' gave k inn inn' bytes at inns counted known agrees j x there = �
     before = agrees k inn at
 
     here : (inn'.gave ≡ length (later_at k (gave k ++ bytes) gave k)) × IfSome inn'.gave_bytes (λ bs. bs ≡ later_at k (gave k ++ bytes) gave k)
-    here = subst (λ t. (inn'.gave ≡ length t) × IfSome inn'.gave_bytes (λ bs. bs ≡ t)) (sym (later_here k (gave k ++ bytes) gave))
-        ((let all = length-append (gave k) bytes in let first = before.0 in omega (arith, counted, first, all)),
-        subst (λ o. IfSome o (λ bs. bs ≡ gave k ++ bytes)) (sym known) (known_more inn.gave_bytes (gave k) bytes before.1))
+    here = subst (λ t. (inn'.gave ≡ length t) × IfSome inn'.gave_bytes (λ bs. bs ≡ t)) (sym (later_here k (gave k ++ bytes) gave)) (
+      (let all = length-append (gave k) bytes in let first = before.0 in omega (arith, counted, first, all)),
+      subst (λ o. IfSome o (λ bs. bs ≡ gave k ++ bytes)) (sym known) (known_more inn.gave_bytes (gave k) bytes before.1),
+    )
 
 -- the list of what the links gave
 given_at : (n k : ℕ) (gave : Given) → k < n → slice_index_or (given_by n gave) k [] ≡ gave k
@@ -132,7 +133,7 @@ module _ (old fresh : MachineState) (k : ℕ) (reader reader' : ReaderData) (at 
     later_gave = gave;
     agrees_gave = gives_same old.links fresh.links gave w.inns agrees_gave;
     core = reader_set old fresh k reader reader' (aside_steps.after_word program (found_at old.words (word_of old.plan call))) took took gave gave (hand_after old.plan call before.homes own.hand) (homes_after old.plan call own.hand before.homes) (words_after before.words (word_of old.plan call) (word_after call (found_at before.words (word_of old.plan call)))) at (stays w.same) readers few w.goes w.words
-            (call_changes old.plan i old.letters sized.letters_are old.links fresh.links took sized.holders_are call fresh.letters may lettered w.holders w.same.nexts w.outs w.inns)
+        (call_changes old.plan i old.letters sized.letters_are old.links fresh.links took sized.holders_are call fresh.letters may lettered w.holders w.same.nexts w.outs w.inns)
         ∙ ap (λ ids. with_seat i (aside_steps.after_word program (found_at old.words (word_of old.plan call))) (hand_after old.plan call before.homes own.hand) (words_after before.words (word_of old.plan call) (word_after call (found_at before.words (word_of old.plan call)))) (homes_after old.plan call own.hand before.homes) (record before { calls = calls_with ids (waiting_of old.seats old.readers) (given_by old.plan.links gave) old.ending })) w.ids
         ∙ sym (ticks Unasked ∙ word_tick old.plan i own before program Unasked call next);
     answered = answers (OfCall call) Unasked next tt;
@@ -160,7 +161,7 @@ module _ (old fresh : MachineState) (k : ℕ) (reader reader' : ReaderData) (at 
     core = reader_set old fresh k reader reader' (w.next (at_last old.ending taking)) took took gave later own.hand before.homes before.words at (stays w.same) readers few w.goes w.words
         (record { own = ap (λ (l : LinksData). hand_of l old.plan.links took i) same_out; others = λ x differ. ap (λ (l : LinksData). hand_of l old.plan.links took x) same_out; homes_are = ap₂ (λ (l : LinksData) ls. homes_of l old.plan ls took) same_out w.same.letters })
         ∙ ap (λ (a : Calls). with_seat i (w.next (at_last old.ending taking)) own.hand before.words before.homes (record before { calls = a }))
-            (ap (λ ids. calls_with ids (waiting_of old.seats old.readers) (given_by old.plan.links later) old.ending) w.ids ∙ sym (taken_calls (calls_of old gave) old.plan.links j gave old.ending taking refl inside))
+        (ap (λ ids. calls_with ids (waiting_of old.seats old.readers) (given_by old.plan.links later) old.ending) w.ids ∙ sym (taken_calls (calls_of old gave) old.plan.links j gave old.ending taking refl inside))
         ∙ sym (ticks (OfTake taking) ∙ aside_tick old.plan i own before program (OfTake taking) (asides.TakeBytes j room) w.next (at_last old.ending taking) w.is refl);
     answered = answers (OfAside (asides.TakeBytes j room)) (OfTake taking) next (taking, refl, f.fits);
   }

@@ -1,5 +1,5 @@
 -- The readers as they lie in memory, and what a step of one makes of a machine.
-use Rattle.std.proofs.Common.{◌≡◌, refl, ℕ, ◌+◌, ◌<◌, ◌≤◌, List, map, length, slice_set, slice_index_or, Option, Some, None, option_map, IfSome, IfNone, ap, sym, ◌∙◌, arith, subst}
+use Rattle.std.proofs.Common.{◌≡◌, refl, ℕ, ◌+◌, ◌<◌, ◌≤◌, List, map, length, slice_set, slice_index_or, Option, Some, None, option_map, IfSome, IfNone, ap, ap₂, sym, ◌∙◌, arith, subst}
 use Rattle.std.proofs.Math.ListN.{length-set, length-map}
 use Rattle.atomic_table.proofs.Lists.{at_index}
 use mathlib.Core.Option as core
@@ -10,7 +10,12 @@ use Rattle.reader_points.specs.declared.point.ReadStep.{ReadStep}
 use Rattle.reader_points.specs.Steps.{step_as}
 use Rattle.reader_seats.specs.Readers.{ReaderData, reader_program}
 use Rattle.sock_core.specs.declared.machine.Tick.{Tick}
-use Rattle.sock_core.specs.Machines.{MachineState, table_of}
+use Rattle.seat_points.specs.declared.point.Step.{Step}
+use Rattle.client_seats.specs.Following.{IsPrepared}
+use Rattle.client_seats.specs.Seats.{SeatData}
+use Rattle.sock_core.specs.Machines.{MachineState, TableState, machine_sizes, table_of}
+use Rattle.sock_core.specs.Steps.{MayStand, PreparedAt}
+use Rattle.sock_core.specs.Telling.{TickTold}
 use Rattle.sock_core.specs.Reading.{IsNextRead, NextReadIs, HasNoRead, FitsRead, ReadFits, ReadTold, TickRead}
 
 module _ (m : MachineState) (k j : ℕ) (there : j ≡ k) where
@@ -67,3 +72,26 @@ read_in {m} {n} {k} {step} e h = subst (λ (x : MachineState). NextReadIs x k st
 
 pub read_along : {m n fresh : MachineState} {i k : ℕ} {step : ReadStep} {tick : Tick} → m ≡ n → TickRead m fresh i k step tick → TickRead n fresh i k step tick
 read_along {m} {n} {fresh} {i} {k} {step} {tick} e h = subst (λ (x : MachineState). TickRead x fresh i k step tick) e h
+
+-- ## The seat of a client, beside the tables as they were
+
+-- the machine with these tables and seats
+abbrev pub machine_with : MachineState → TableState → List SeatData → MachineState
+machine_with m t seats = record { plan = t.plan; words = t.words; letters = t.letters; links = t.links; ids = t.ids; calls = t.calls; ending = t.ending; seats = seats; readers = m.readers; opens = m.opens; outcomes = t.outcomes; ends = t.ends; short = m.short }
+
+pub prepared_at : (m : MachineState) (t : TableState) (seats : List SeatData) (i : ℕ) (seat seat' : SeatData) → t ≡ table_of m → seats ≡ slice_set m.seats i seat' → get_elem? m.seats i ≡ core.some seat → IsPrepared (machine_sizes m) seat seat' → MayStand seat' → PreparedAt m (machine_with m t seats) i
+prepared_at m t seats i seat seat' tables written at prepared stand = record {
+  seat = seat;
+  at = at;
+  seat' = seat';
+  is = ap₂ (λ (x : TableState) (ss : List SeatData). machine_with m x ss) tables written;
+  prepared = prepared;
+  stand = stand;
+}
+
+pub prepared_along : {m n fresh : MachineState} {i : ℕ} → m ≡ n → PreparedAt m fresh i → PreparedAt n fresh i
+prepared_along {m} {n} {fresh} {i} e h = subst (λ (x : MachineState). PreparedAt x fresh i) e h
+
+-- what the tick of a client's step answers
+pub tick_as : {m fresh : MachineState} {i : ℕ} {step : Step} {tick own : Tick} → tick ≡ own → TickTold m fresh i step own → TickTold m fresh i step tick
+tick_as {m} {fresh} {i} {step} {tick} {own} e h = subst (λ (x : Tick). TickTold m fresh i step x) (sym e) h

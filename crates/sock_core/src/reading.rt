@@ -104,6 +104,12 @@ impl<O: Out, I: In, P: Peer> Table<O, I, P> {
         requires sized { IsSized self.old }
         ensures ok { IfOk result (λ tick. (seat : ℕ) → ReadTold self.old self.new seat reader.old reader.new (ReadStep.Aside (Aside.TakeBytes link count)) tick) }
         ensures err { OnErr result (IsCutTable self.old self.new) }
+        ensures asked { L.asked links.new ≡ L.asked links.old }
+        ensures accepted { L.accepted links.new ≡ L.accepted links.old }
+        ensures back { L.back links.new ≡ L.back links.old }
+        ensures done { L.done links.new ≡ L.done links.old }
+        ensures faults { L.faults links.new ≡ L.faults links.old }
+        ensures prompt { L.prompt links.new ≡ L.prompt links.old }
     {
         // A reader takes some bytes of a link that there is.
         if usize::from(link) >= self.ends.len() || count == 0 {
@@ -139,6 +145,12 @@ impl<O: Out, I: In, P: Peer> Table<O, I, P> {
         requires sized { IsSized self.old }
         ensures ok { IfOk result (λ tick. ReadTold self.old self.new seat reader.old reader.new step tick) }
         ensures err { OnErr result (IsCutTable self.old self.new) }
+        ensures asked { L.asked links.new ≡ L.asked links.old }
+        ensures accepted { L.accepted links.new ≡ L.accepted links.old }
+        ensures back { L.back links.new ≡ L.back links.old }
+        ensures done { L.done links.new ≡ L.done links.old }
+        ensures faults { L.faults links.new ≡ L.faults links.old }
+        ensures prompt { L.prompt links.new ≡ L.prompt links.old }
     {
         match step {
             ReadStep::Call(call) => self.read_call(reader, seat, call),

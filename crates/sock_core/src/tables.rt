@@ -61,13 +61,23 @@ impl<O: Out, I: In, P: Peer> Model for Tables<O, I, P> {
     } };
 }
 
+/// Whether the reader of a link has a seat: there are fewer links.
+fn has_reader(link: u16) -> bool
+    ensures { result ≡ true → 32 + link < 65536 }
+{
+    link < u16::MAX - READERS
+}
+
 /// What the next step of a client needs in hand is made, where it isn't there; whether it is, and the client's point stands.
 fn is_prepared(place: &mut Seat, alloc: Global, pool: &mut BlockPool) -> bool
     ensures prepared { result ≡ true → (sizes : Sizes) → IsPrepared sizes (seat_data place.old) (seat_data place.new) }
     ensures stand { result ≡ true → MayStand (seat_data place.new) }
 {
+    let Ok(()) = place.prepare(alloc, pool) else {
+        return false;
+    };
     // Each word found fits, so each point stands.
-    place.prepare(alloc, pool).is_ok() && stands(place.point)
+    stands(place.point)
 }
 
 impl<O: Out, I: In, P: Peer> Tables<O, I, P> {
@@ -178,7 +188,17 @@ impl<O: Out, I: In, P: Peer> Tables<O, I, P> {
         requires sized { IsSized (table_of self.old) }
         ensures ok { IfOk result (λ tick. TickRead self.old self.new (32 + link) link step tick) }
         ensures err { OnErr result (IsCutShort self.old self.new) }
+        ensures asked { L.asked links.new ≡ L.asked links.old }
+        ensures accepted { L.accepted links.new ≡ L.accepted links.old }
+        ensures back { L.back links.new ≡ L.back links.old }
+        ensures done { L.done links.new ≡ L.done links.old }
+        ensures faults { L.faults links.new ≡ L.faults links.old }
+        ensures prompt { L.prompt links.new ≡ L.prompt links.old }
     {
+        if !has_reader(link) {
+            self.short = true;
+            return Err(NoMemory);
+        }
         let reader = &mut self.readers[usize::from(link)];
         let Ok(tick) = self.table.read(links, reader, READERS + link, step) else {
             self.short = true;

@@ -121,4 +121,3 @@ ask_ready-requires-clause-room g c =
     let own = around (table_sizes c.args.self.now) seat in
     ⊎_elim (λ room. room)
     (λ plain. absurd (only_calls (seat_program (table_sizes c.args.self.now) seat) (step_as own (firsts.AskReady c.in-AskReady.link)) (subst (λ (step : Step). IsNext c.args.self.now seat step) c.in-AskReady.is c.requires.next) plain)) c.requires.room
-
