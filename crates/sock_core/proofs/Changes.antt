@@ -1,5 +1,5 @@
 -- What each change of a link makes of the homes and the hands, and so of the core.
-use Rattle.std.proofs.Common.{◌≡◌, ◌≢◌, refl, ℕ, zero, suc, ◌+◌, ◌<◌, Bool, false, List, [], ◌∷◌, ◌++◌, length, slice_set, slice_index_or, Option, Some, None, ap, ap₂, sym, ◌∙◌, arith}
+use Rattle.std.proofs.Common.{◌≡◌, ◌≢◌, refl, ℕ, ◌<◌, Bool, false, List, [], ◌∷◌, ◌++◌, length, slice_set, slice_index_or, Option, Some, None, ap, ap₂, sym, ◌∙◌, arith}
 use Rattle.std.proofs.lemmas.List.{get_or-set_same, get_or-set_other}
 use Rattle.std.proofs.lemmas.Option.{none-some}
 use Rattle.atomic_table.proofs.Lists.{set_here, set_else}

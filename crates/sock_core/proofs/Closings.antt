@@ -18,9 +18,8 @@ use Rattle.sock_programs.specs.Asides as asides
 use Rattle.sock_programs.specs.Asides.{Taking, Closed}
 use Rattle.sock_programs.specs.Calls as calls
 use Rattle.sock_programs.specs.Programs.{Program}
-use Rattle.sock_programs.specs.Programs as programs
-use Rattle.sock_programs.specs.Cores.{Core, SeatState, link_place}
-use Rattle.sock_programs.specs.Ticks.{Answer, Unasked, OfPut, OfReady, OfTake, Moment, taken}
+use Rattle.sock_programs.specs.Cores.{Core, SeatState}
+use Rattle.sock_programs.specs.Ticks.{Answer, Unasked, OfPut, OfReady, Moment, taken}
 use Rattle.sock_programs.specs.Runs.{from_to}
 use Rattle.id_runs.specs.Goes.{first_of}
 use Rattle.owed_calls.specs.Lives.{InHand, IsFinished, ClosesAt, ClosesInTime}
@@ -29,8 +28,8 @@ use Rattle.seat_points.specs.Steps.{First, OfCall, OfAside, OfMessage, OfLink, O
 use Rattle.seat_points.specs.Steps as kinds
 use Rattle.reader_seats.specs.Readers.{ReaderData, reader_program}
 use Rattle.client_seats.specs.Seats.{SeatData, seat_program}
-use Rattle.sock_core.specs.Links.{LinksData, Taken, Given, ClosedAreDone, TellClosing, holder_of, is_done, link_with, in_hand, hand_of}
-use Rattle.sock_core.specs.Machines.{MachineState, KeepsClosed, READERS, machine_sizes, state_of, table_of, seats_with, core_with}
+use Rattle.sock_core.specs.Links.{LinksData, Taken, Given, ClosedAreDone, TellClosing, holder_of, is_done, link_with, in_hand}
+use Rattle.sock_core.specs.Machines.{MachineState, KeepsClosed, READERS, machine_sizes, state_of, table_of, core_with}
 use Rattle.sock_core.specs.Steps.{OutsAfter, MadeFirst, holders_after}
 use Rattle.sock_core.specs.Reading.{TakenFrom, MadeRead}
 use Rattle.sock_core.specs.Runs.{SameLinks}

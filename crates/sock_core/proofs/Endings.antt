@@ -1,5 +1,5 @@
 -- Programs that ask no link; the machine of which the ending begins; and what a tick's answer says.
-use Rattle.std.proofs.Common.{◌≡◌, ◌≢◌, refl, ℕ, ◌+◌, ◌-◌, ◌*◌, ◌%◌, ◌==◌, ◌&&◌, ◌<◌, ◌≤◌, nat_le, ⊎_elim, Bool, true, false, cond, List, [], ◌∷◌, length, slice_set, Option, Result, Ok, Err, IfOk, OnOk, OnErr, ap, sym, ◌∙◌, arith, subst}
+use Rattle.std.proofs.Common.{◌≡◌, refl, ℕ, ◌+◌, ◌-◌, ◌*◌, ◌%◌, ◌==◌, ◌&&◌, ◌<◌, ◌≤◌, nat_le, ⊎_elim, Bool, true, false, cond, List, [], ◌∷◌, length, Option, Result, Ok, Err, OnOk, ap, sym, ◌∙◌, arith, subst}
 use Rattle.std.specs.List.{AllByRecursion}
 use Rattle.std.proofs.Props.{props}
 use Rattle.std.proofs.Math.Logic.{∥∥₁_elim}
@@ -19,7 +19,7 @@ use Rattle.sock_programs.specs.declared.task.Sizes.{Sizes}
 use Rattle.sock_programs.specs.Heads.{Retry}
 use Rattle.sock_programs.specs.Programs.{Program, Do, Say, Sent, Rest, Retries, LAST_VERSION, NO_SOCKET, recycle, release, address, set_failed, end_open}
 use Rattle.sock_programs.specs.Clients.{ending_of}
-use Rattle.sock_programs.specs.Cores.{Core, SeatState, resolved, still_waiting, said, next_step, with_seat}
+use Rattle.sock_programs.specs.Cores.{Core, SeatState, resolved, said, next_step, with_seat}
 use Rattle.sock_programs.specs.Ticks.{Answer, waits_at, waits}
 use Rattle.sock_programs.specs.Runs.{IsAtRest}
 use Rattle.sock_programs.specs.Scripts.{is_ending}

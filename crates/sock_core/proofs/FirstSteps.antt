@@ -1,5 +1,5 @@
 -- A tick of a seat, by the first step of its program.
-use Rattle.std.proofs.Common.{◌≡◌, refl, ℕ, Bool, true, List, ◌++◌, slice_set, Option, Some, None, ap, ap₂, sym, ◌∙◌, subst}
+use Rattle.std.proofs.Common.{◌≡◌, refl, ℕ, Bool, true, List, ◌++◌, slice_set, Some, ap, sym, ◌∙◌, subst}
 use mathlib.Core.Option as core
 use Rattle.sock_words.specs.declared.plain.Plan.{Plan}
 use Rattle.sock_io.specs.declared.link.Put.{Put}
@@ -19,7 +19,7 @@ use Rattle.sock_programs.specs.Cores.{Core, SeatState, word_of, found_at, words_
 use Rattle.sock_programs.specs.Ticks.{Answer, OfPut, OfReady, FitsPut, IsAnswer, IsTaken, taken, fed, with_places, onto_first, with_message, with_link, with_found, step_with, tick_with}
 use Rattle.sock_runs.specs.Sound.{first_step}
 use Rattle.sock_io.specs.Link.{OutState}
-use Rattle.call_points.specs.Steps.{after_word, word_behind, with_word}
+use Rattle.call_points.specs.Steps.{after_word, word_behind}
 use Rattle.seat_points.specs.declared.point.Point.{Point}
 use Rattle.seat_points.specs.declared.point.Point.TheVariants as points
 use Rattle.seat_points.specs.declared.point.SendStep.TheVariants as sends

@@ -1,5 +1,5 @@
 -- Runs of a machine, one behind another; and more ticks of a seat that has no step left.
-use Rattle.std.proofs.Common.{◌≡◌, ◌≢◌, ℕ, zero, suc, ◌+◌, ◌⊎◌, inl, inr, Bool, true, List, [], ◌∷◌, ◌++◌, ◌==◌, map, filter, length, get_or, replicate, refl, sym, ap, ap₂, ◌∙◌, subst, ⊎_elim, append-nil, append_assoc, arith}
+use Rattle.std.proofs.Common.{◌≡◌, ◌≢◌, ℕ, zero, suc, ◌+◌, inl, inr, Bool, true, List, [], ◌∷◌, ◌++◌, ◌==◌, map, filter, length, get_or, replicate, refl, sym, ap, ap₂, ◌∙◌, subst, ⊎_elim, append-nil, append_assoc, arith}
 use Rattle.std.proofs.lemmas.List.Concat.{flat_map-append}
 use Rattle.std.proofs.lemmas.List.Sums.{fold-append}
 use Rattle.std.proofs.lemmas.List.Elements.{Contains-append_cases}
@@ -12,7 +12,7 @@ use lib.ListN.{get_elem?}
 use Rattle.sock_words.specs.declared.kind.Kind.{Kind}
 use Rattle.sock_words.specs.declared.plain.Plan.{Plan}
 use Rattle.brpc_model.specs.Link.{LinkEnd, HalfAnswer, TakeAnswer}
-use Rattle.sock_io.specs.Link.{OutState, InState, more_told}
+use Rattle.sock_io.specs.Link.{OutState, more_told}
 use Rattle.whole_runs.specs.Answers.{said_at}
 use Rattle.whole_runs.specs.Heard.{as_told, as_taken, answer_of, take_answers, taken_link, heard_at, heard_in, taken_at, taken_in}
 use Rattle.whole_runs.proofs.HeardRuns.{told_append, taken_append, heard_on, taken_on}
@@ -24,13 +24,12 @@ use Rattle.sock_programs.specs.Cores.{Core, SeatState}
 use Rattle.sock_programs.specs.Ticks.{Answer, Unasked, Moment, quiet, seats_of, taken, tick_with, ticked, run, IsAnswer, IsAnswered, AreAnswered, IsPrompt, asked_link, broken_at, broken_in}
 use Rattle.sock_programs.specs.Runs.{kind_in, IsAtRest}
 use Rattle.sock_core.specs.declared.machine.Tick.{Tick}
-use Rattle.sock_core.specs.declared.machine.Tick.TheVariants as ticks
-use Rattle.sock_core.specs.Links.{LinksData, Taken, Given, Agrees, AgreesGave, ArePrompt}
+use Rattle.sock_core.specs.Links.{LinksData, Taken, Given, Agrees, AgreesGave}
 use Rattle.sock_programs.specs.declared.task.Sizes.{Sizes}
 use Rattle.client_seats.specs.Seats.{SeatData, seat_program}
 use Rattle.reader_seats.specs.Readers.{ReaderData, reader_program}
 use Rattle.sock_core.specs.Machines.{MachineState, READERS, machine_sizes, between, resting, clients_with, readers_with, seats_with, core_with}
-use Rattle.sock_core.specs.Runs.{SameLink, SameTable, SameLinks, ShowFaults, LinksTell, TakesTell, ShowsTaking, ShowTakings, Follows, Made, Ticked, TickedWith, Ran, RanWith}
+use Rattle.sock_core.specs.Runs.{SameLink, SameTable, SameLinks, ShowFaults, LinksTell, TakesTell, ShowsTaking, ShowTakings, Follows, Made, Ticked, Ran, RanWith}
 
 -- ## The table and its links
 

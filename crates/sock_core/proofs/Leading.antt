@@ -17,7 +17,7 @@ use Rattle.sock_programs.specs.Ticks.{Answer, Moment, ticked, run, waits_at, wai
 use Rattle.sock_programs.specs.Runs.{head_kind, kind_in, next_kind, IsAtRest, LeadsUpTo}
 use Rattle.sock_core.specs.declared.machine.On.{On}
 use Rattle.sock_core.specs.declared.machine.Tick.TheVariants as ticks
-use Rattle.sock_core.specs.Links.{Taken, Given, Agrees, AgreesGave}
+use Rattle.sock_core.specs.Links.{Taken, Given}
 use Rattle.sock_core.specs.Machines.{MachineState, core_with}
 use Rattle.sock_core.specs.Runs.{SameTable, SameLinks, Follows, Made, Ticked, TickedWith, LedWith, Led}
 use Rattle.sock_core.proofs.Joining.{same_table_none, same_table_join, same_links_none, same_links_join, follows_none, follows_join}

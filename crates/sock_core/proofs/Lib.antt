@@ -45,4 +45,3 @@ pub mod TableCuts
 pub mod TableGoes
 pub mod TablePlaces
 pub mod TableTellings
-pub mod PointFacts

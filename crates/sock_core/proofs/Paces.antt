@@ -1,7 +1,6 @@
 -- Whoever writes a link knows how it answered last, behind each of its steps.
 use Rattle.std.proofs.Common.{◌≡◌, refl, ℕ, zero, suc, ◌+◌, ◌-◌, ◌%◌, ◌==◌, ◌&&◌, ◌⊎◌, inl, inr, ⊎_elim, not, nat_lt, nat_le, if◌then◌else◌, Bool, true, false, List, [], ◌∷◌, ◌++◌, length, Option, Some, None, ap, sym, ◌∙◌, subst}
 use Rattle.std.proofs.lemmas.Bool.{true≢false}
-use Rattle.std.proofs.lemmas.Option.{none-some}
 use Rattle.sock_steps.proofs.Quiet.{either_way}
 use Rattle.sock_words.specs.Words.{socket_id_version, vref_version, vref_nref}
 use Rattle.sock_words.specs.declared.socket_id.SocketId.{SocketId}
@@ -21,7 +20,7 @@ use Rattle.sock_programs.specs.Asides as asides
 use Rattle.sock_programs.specs.Asides.{Step, Found, id_slot, id_first}
 use Rattle.sock_programs.specs.Calls as calls
 use Rattle.sock_programs.specs.Writings as heads
-use Rattle.sock_programs.specs.Programs.{Program, Do, TakeMessage, TakeHome, PutHome, PutBytes, AskReady, Write, Aside, Round, Keep, NO_SOCKET, LAST_VERSION, LAST_GENERATION, open_from}
+use Rattle.sock_programs.specs.Programs.{Program, Do, PutBytes, Write, Aside, Round, Keep, NO_SOCKET, LAST_VERSION, LAST_GENERATION, open_from}
 use Rattle.sock_programs.specs.Sends.{block, freed, passed_telling, tell_drop, claim_from}
 use Rattle.sock_programs.specs.Attempts.{claims_from, claim_id, tried_again, retry_locked}
 use Rattle.sock_programs.specs.Posts.{packed, is_first, is_stale, is_full, is_sought, judged, posted, decided, popped, unlocked, decide, locking, ends_call, advance_of}

@@ -5,9 +5,7 @@ use Rattle.std.specs.Io.KnownBytes.{append_known}
 use Rattle.atomic_table.proofs.Lists.{at_set}
 use mathlib.Core.Option as core
 use lib.ListN.{get_elem?}
-use Rattle.sock_words.specs.declared.plain.Plan.{Plan}
-use Rattle.sock_io.specs.Link.{OutState, InState}
-use Rattle.sock_model.specs.declared.home.Home.{Home}
+use Rattle.sock_io.specs.Link.{InState}
 use Rattle.sock_programs.specs.Asides as asides
 use Rattle.sock_programs.specs.Asides.{Taking, Bytes, Nothing, NoMore, AtEnd, Closed, Broken}
 use Rattle.sock_programs.specs.Beside.{at_last, more_given}
@@ -17,8 +15,6 @@ use Rattle.sock_programs.specs.Runs.{from_to}
 use Rattle.sock_programs.specs.Cores.{Calls, Core, SeatState, word_of, found_at, with_seat, hand_after, words_after, word_after, homes_after}
 use Rattle.sock_programs.specs.Ticks.{Answer, Unasked, OfTake, IsAnswer, IsAnswered, tick_with, ticked}
 use Rattle.call_points.specs.Steps as aside_steps
-use Rattle.call_points.specs.declared.aside.Aside.{Aside}
-use Rattle.call_points.specs.declared.aside.Aside.TheVariants as code
 use Rattle.call_slots.specs.Slots.{calls_with}
 use Rattle.seat_points.specs.Steps.{First, OfCall, OfAside, step_of, first_in}
 use Rattle.reader_points.specs.declared.point.ReadStep.{ReadStep}
@@ -27,13 +23,13 @@ use Rattle.reader_points.specs.Steps.{step_as}
 use Rattle.reader_seats.specs.Readers.{ReaderData, reader_program}
 use Rattle.sock_core.specs.Links.{LinksData, Taken, Given, Agrees, AgreesGave, homes_of, hand_of}
 use Rattle.sock_core.specs.Machines.{MachineState, READERS, table_of, state_of, waiting_of, given_by, calls_of, core_with}
-use Rattle.sock_core.specs.Reading.{SameTables, TakenFrom, CallRead, AsideRead, TakeRead, MadeRead, given_in}
+use Rattle.sock_core.specs.Reading.{SameTables, CallRead, AsideRead, TakeRead, MadeRead, given_in}
 use Rattle.sock_core.specs.Steps.{IsSized}
-use Rattle.sock_core.proofs.Changes.{Changed, none_changes}
+use Rattle.sock_core.proofs.Changes.{none_changes}
 use Rattle.sock_core.proofs.Ranges.{get-range, set-range}
-use Rattle.sock_core.proofs.Seatings.{Stays, reader_set, calls_read, read_at}
+use Rattle.sock_core.proofs.Seatings.{Stays, reader_set, read_at}
 use Rattle.sock_core.proofs.FirstSteps.{word_tick, aside_tick, AnswersFirst, answers_first}
-use Rattle.sock_core.proofs.Ticked.{MayCall, LettersBy, SteppedWith, later_at, call_changes, call_agrees, letters_by, gives_same, later_here, later_else, known_more, links_are, agrees_same}
+use Rattle.sock_core.proofs.Ticked.{MayCall, LettersBy, SteppedWith, later_at, call_changes, call_agrees, letters_by, gives_same, later_here, later_else, known_more, agrees_same}
 
 -- ## What links gave
 

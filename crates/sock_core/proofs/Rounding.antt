@@ -1,5 +1,5 @@
 -- Rounds of the clients and readers up to one in which nothing moved, and steps of seat 0.
-use Rattle.std.proofs.Common.{◌≡◌, ◌≢◌, refl, ℕ, zero, suc, ◌+◌, ◌-◌, ◌<◌, ◌≤◌, ◌⊎◌, inl, inr, Bool, true, false, List, [], ◌∷◌, ◌++◌, replicate, Option, Some, None, ap, ap₂, sym, ◌∙◌, append-nil, append_assoc, arith, subst, ⊎_elim}
+use Rattle.std.proofs.Common.{◌≡◌, refl, ℕ, zero, suc, ◌+◌, ◌-◌, ◌<◌, inl, inr, Bool, true, false, List, [], ◌∷◌, ◌++◌, replicate, ap, ap₂, sym, ◌∙◌, append-nil, append_assoc, arith, subst, ⊎_elim}
 use Rattle.std.proofs.Props.{props}
 use Rattle.std.proofs.lemmas.Bool.{true≢false}
 use Rattle.std.proofs.lemmas.Option.{none-some}
@@ -7,8 +7,8 @@ use Rattle.std.proofs.Math.Logic.{∥∥₁_elim}
 use Rattle.sock_words.specs.declared.kind.Kind.{Kind}
 use Rattle.sock_words.specs.declared.plain.Plan.{Plan}
 use Rattle.sock_programs.specs.Cores.{Core}
-use Rattle.sock_programs.specs.Ticks.{Moment, seats_of, ticked, run, quiet, waits}
-use Rattle.sock_programs.specs.Runs.{IsAtRest, from_to}
+use Rattle.sock_programs.specs.Ticks.{Moment, seats_of, ticked, run, quiet}
+use Rattle.sock_programs.specs.Runs.{from_to}
 use Rattle.sock_programs.specs.Scripts.{AreStill}
 use Rattle.sock_core.specs.declared.machine.Tick.{Tick}
 use Rattle.sock_core.specs.declared.machine.Tick.TheVariants.{Moved, Waits, Idle}

@@ -12,7 +12,7 @@ use Rattle.sock_programs.specs.declared.task.Sizes.{Sizes}
 use Rattle.sock_programs.specs.Heads.{Retry}
 use Rattle.sock_programs.specs.Programs.{Program}
 use Rattle.sock_programs.specs.Cores.{Calls, Core, SeatState, resolved, still_waiting, said, next_step, waiting_at, with_seat}
-use Rattle.call_slots.specs.Slots.{SlotState, calls_with}
+use Rattle.call_slots.specs.Slots.{calls_with}
 use Rattle.client_seats.specs.Seats.{SeatData, seat_program}
 use Rattle.reader_seats.specs.Readers.{ReaderData, reader_program}
 use Rattle.reader_seats.specs.GoesOn.{GoesOn}

@@ -1,8 +1,8 @@
 -- The whole of a run behind its schedule: rounds up to one in which nothing moved, the ending by seat 0, and such rounds again.
-use Rattle.std.proofs.Common.{◌≡◌, ℕ, List, [], ◌∷◌, ◌++◌, replicate, refl, sym, ap, ◌∙◌, subst}
+use Rattle.std.proofs.Common.{◌≡◌, ℕ, List, replicate, refl, sym, ap, ◌∙◌, subst}
 use Rattle.sock_words.specs.declared.plain.Plan.{Plan}
 use Rattle.sock_programs.specs.Cores.{Core}
-use Rattle.sock_programs.specs.Ticks.{Moment, quiet, run, AreAnswered, broken_in}
+use Rattle.sock_programs.specs.Ticks.{quiet, run, AreAnswered, broken_in}
 use Rattle.sock_programs.specs.Scripts.{is_ending}
 use Rattle.owed_calls.specs.Lives.{ClosesInTime}
 use Rattle.whole_runs.specs.Heard.{heard_in, taken_in}

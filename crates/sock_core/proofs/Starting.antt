@@ -1,6 +1,6 @@
 -- All that holds of a machine holds where it begins.
-use Rattle.std.proofs.Common.{◌≡◌, ◌≢◌, refl, ℕ, zero, suc, ◌+◌, ◌-◌, ◌<◌, ◌≤◌, Bool, false, List, [], ◌∷◌, ◌++◌, map, fold, length, slice_index, slice_index_or, replicate, Option, Some, None, slice_set, ap, ap₂, sym, ◌∙◌, arith, subst}
-use Rattle.std.proofs.Math.ListN.{length-map, length-replicate, length-set}
+use Rattle.std.proofs.Common.{◌≡◌, refl, ℕ, zero, suc, ◌+◌, ◌-◌, ◌<◌, ◌≤◌, Bool, false, List, [], ◌∷◌, ◌++◌, map, fold, length, slice_index, slice_index_or, replicate, Option, None, ap, ap₂, sym, ◌∙◌, arith, subst}
+use Rattle.std.proofs.Math.ListN.{length-map, length-replicate}
 use Rattle.std.proofs.lemmas.List.{map-append}
 use Rattle.std.proofs.lemmas.List.Sums.{fold-append}
 use Rattle.std.proofs.lemmas.Option.{none-some}
@@ -10,34 +10,33 @@ use lib.ListN.{get_elem?}
 use Rattle.sock_words.specs.declared.plain.Plan.{Plan}
 use Rattle.sock_words.specs.declared.outcome.Outcome.{Outcome}
 use Rattle.corr_core.specs.declared.marks.Plan.{Plan as IdPlan}
-use Rattle.brpc_model.specs.Link.{LinkEnd}
-use Rattle.sock_io.specs.Link.{OutState, InState}
+use Rattle.sock_io.specs.Link.{OutState}
 use Rattle.sock_model.specs.declared.home.Home.{Home}
 use Rattle.sock_model.specs.declared.home.Home.TheVariants.{Link}
 use Rattle.sock_programs.specs.declared.task.Task.{Task}
 use Rattle.sock_programs.specs.declared.task.Sizes.{Sizes}
 use Rattle.sock_programs.specs.Asides.{id_first}
 use Rattle.sock_programs.specs.Heads.{Retry}
-use Rattle.sock_programs.specs.Programs.{Program, Say, Sent, Rest}
+use Rattle.sock_programs.specs.Programs.{Program, Rest}
 use Rattle.sock_programs.specs.Readers.{reader}
 use Rattle.sock_programs.specs.Clients.{client_from}
 use Rattle.sock_programs.specs.Cores.{Calls, Core, SeatState, said, resolved, next_step}
 use Rattle.sock_programs.specs.Runs.{from_to}
 use Rattle.sock_programs.specs.Scripts.{sizes_of, programs, readers_from, all_programs, beginning, opening_homes, opening_words, opening_calls, new_links}
-use Rattle.sock_runs.specs.Lasts.{Lasts, MOST_TICKS}
+use Rattle.sock_runs.specs.Lasts.{Lasts}
 use Rattle.sock_runs.specs.Sound.{IsAhead, Sound}
 use Rattle.client_laws.specs.Openings.{opening_views, all_seats}
 use Rattle.id_rule.specs.Lawful.{call_word}
-use Rattle.id_runs.proofs.Opening.{first_views, unused}
+use Rattle.id_runs.proofs.Opening.{unused}
 use Rattle.id_runs.specs.Goes.{SoundIds}
 use Rattle.joint_runs.proofs.Starts.{AreFor, opens_both, opens_bounded}
-use Rattle.call_slots.specs.Slots.{SlotState, calls_with}
+use Rattle.call_slots.specs.Slots.{calls_with}
 use Rattle.reader_seats.specs.Readers.{ReaderData, reader_program}
 use Rattle.sock_core.specs.declared.letter.Letter.{Letter}
 use Rattle.client_seats.specs.Seats.{SeatData, seat_program}
 use Rattle.sock_core.specs.Beginnings.{AreBegun, AreReading, said_first}
-use Rattle.sock_core.specs.Links.{LinksData, Taken, Given, Agrees, AgreesGave, ClosedAreDone, IsPaced, holder_of, link_home, homes_of, letter_home}
-use Rattle.sock_core.specs.Machines.{MachineState, IsMachine, IsSoundMachine, HasSizes, ArePaced, AreCalled, READERS, between, resting, clients_with, readers_with, seats_with, waiting_of, given_by, machine_sizes, core_with}
+use Rattle.sock_core.specs.Links.{LinksData, Taken, Agrees, AgreesGave, ClosedAreDone, IsPaced, holder_of, link_home, homes_of, letter_home}
+use Rattle.sock_core.specs.Machines.{MachineState, IsMachine, IsSoundMachine, ArePaced, AreCalled, READERS, between, resting, clients_with, readers_with, seats_with, waiting_of, given_by, machine_sizes, core_with}
 use Rattle.sock_core.proofs.Hands.{HasNone, hand_none}
 use Rattle.sock_core.proofs.Begun.{told_length}
 use Rattle.sock_core.proofs.Paces.{calm_paced, client_calm}

@@ -1,6 +1,5 @@
 -- Where a seat goes on behind each kind of step.
 use Rattle.std.proofs.Common.{◌≡◌, refl, ℕ, zero, suc, ◌+◌, Bool, true, false, if◌then◌else◌, List, [], ◌∷◌, ◌++◌, length, map, take, Option, Some, ap, ap₂, sym, ◌∙◌, arith, subst}
-use Rattle.sock_words.specs.declared.outcome.Outcome.{Outcome}
 use Rattle.sock_io.specs.declared.link.Put.{Put}
 use Rattle.sock_io.specs.declared.link.Put.TheVariants as puts
 use Rattle.message_parts.specs.Frames.{OutgoingData, ParcelData}
@@ -14,8 +13,6 @@ use Rattle.sock_programs.specs.Posts.{ends_call, end_id, unlocked, decided}
 use Rattle.sock_programs.specs.Cores.{resolved, still_waiting, next_step, said}
 use Rattle.sock_programs.specs.Calls as calls
 use Rattle.sock_model.specs.declared.chain.Heading.{Heading}
-use Rattle.seat_points.specs.declared.call.Call.{Call}
-use Rattle.seat_points.specs.declared.call.Call.TheVariants as steps
 use Rattle.seat_points.specs.declared.point.OpenStep.TheVariants as opens
 use Rattle.seat_points.specs.declared.point.SeekStep.TheVariants as seeks
 use Rattle.seat_points.specs.declared.point.Aim.TheVariants as aims
@@ -35,7 +32,7 @@ use Rattle.seat_points.specs.declared.point.RetryStep.TheVariants as retries
 use Rattle.seat_points.specs.declared.point.JoinStep.TheVariants as joins
 use Rattle.seat_points.specs.declared.point.Point.{Point}
 use Rattle.seat_points.specs.declared.point.Point.TheVariants as points
-use Rattle.seat_points.specs.Steps.{First, OfCall, step_of, step_as, first_of, first_in}
+use Rattle.seat_points.specs.Steps.{First, OfCall, step_as, first_of, first_in}
 use Rattle.seat_points.specs.declared.point.Next.{Next}
 use Rattle.seat_points.specs.declared.point.Step.{Step}
 use Rattle.seat_points.specs.Points.{Around, point_program, look_program, after_program, next_program, with_message, with_put, is_whole, parts_by, after_message, after_put}

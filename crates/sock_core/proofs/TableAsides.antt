@@ -1,5 +1,5 @@
 -- A step aside of the sockets: what it finds, and how a seat goes on.
-use Rattle.std.proofs.Common.{◌≡◌, refl, ℕ, ◌+◌, Bool, true, false, if◌then◌else◌, List, [], Option, Some, None, ap, sym, ◌∙◌, subst}
+use Rattle.std.proofs.Common.{◌≡◌, refl, ℕ, ◌+◌, Bool, true, false, if◌then◌else◌, [], Option, Some, ap, sym, ◌∙◌, subst}
 use mathlib.Core.Option as core
 use Rattle.corr_core.specs.Word.{parts, code_of}
 use Rattle.sock_message.specs.Asked.{Asked}

@@ -1,5 +1,5 @@
 -- The readers as they lie in memory, and what a step of one makes of a machine.
-use Rattle.std.proofs.Common.{◌≡◌, refl, ℕ, ◌+◌, ◌<◌, ◌≤◌, List, map, length, slice_set, slice_index_or, Option, Some, None, option_map, IfSome, IfNone, ap, ap₂, sym, ◌∙◌, arith, subst}
+use Rattle.std.proofs.Common.{◌≡◌, ℕ, ◌<◌, ◌≤◌, List, map, length, slice_set, slice_index_or, Option, Some, None, option_map, IfSome, IfNone, ap, ap₂, sym, ◌∙◌, arith, subst}
 use Rattle.std.proofs.Math.ListN.{length-set, length-map}
 use Rattle.atomic_table.proofs.Lists.{at_index}
 use mathlib.Core.Option as core

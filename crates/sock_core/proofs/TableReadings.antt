@@ -1,5 +1,5 @@
 -- What a step of a reader makes of the tables, and what its tick answers.
-use Rattle.std.proofs.Common.{◌≡◌, refl, ℕ, true, false, is_some, List, [], Option, Some, None, IfSome, ap, sym, ◌∙◌, subst}
+use Rattle.std.proofs.Common.{◌≡◌, refl, ℕ, true, false, is_some, List, [], Option, Some, None, IfSome, sym, subst}
 use mathlib.Core.Option as core
 use Rattle.sock_words.specs.declared.kind.Kind.{Kind}
 use Rattle.sock_words.specs.declared.kind.Kind.TheVariants.{K2, R1}
@@ -23,7 +23,7 @@ use Rattle.reader_points.specs.declared.point.ReadPoint.{ReadPoint}
 use Rattle.reader_points.specs.declared.point.ReadStep.{ReadStep}
 use Rattle.reader_points.specs.declared.point.ReadStep.TheVariants as steps
 use Rattle.reader_points.specs.Points.{Around, point_program}
-use Rattle.reader_points.specs.Steps.{step_as, after_taking}
+use Rattle.reader_points.specs.Steps.{after_taking}
 use Rattle.reader_seats.specs.Readers.{ReaderData, around, reader_program}
 use Rattle.reader_seats.specs.GoesOn.{GoesOn}
 use Rattle.sock_core.specs.declared.machine.On.{On}

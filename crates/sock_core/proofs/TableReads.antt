@@ -1,17 +1,14 @@
 -- Which step of a reader comes next by its point, and how it goes on behind one that finds a call or bytes.
-use Rattle.std.proofs.Common.{◌≡◌, refl, ℕ, ◌+◌, ◌*◌, ◌/◌, ◌%◌, ◌<◌, ◌≤◌, Bool, true, false, if◌then◌else◌, Option, Some, ap, sym, ◌∙◌, subst, arith}
-use Rattle.std.proofs.lemmas.Nat.{div-mul-add}
-use Rattle.std.specs.Prelude.{◌==◌, ◌||◌}
-use Rattle.corr_core.specs.Word.{Parts, parts, error_of, code_of, attempt_of}
+use Rattle.std.proofs.Common.{◌≡◌, refl, ℕ, ◌+◌, ◌≤◌, Bool, true, false, if◌then◌else◌, Option, Some, ap, sym, ◌∙◌, subst, arith}
+use Rattle.corr_core.specs.Word.{parts, code_of}
 use Rattle.sock_message.specs.Asked.{Asked}
 use Rattle.id_points.specs.Ids.{id_of}
 use Rattle.sock_programs.specs.Calls as calls
 use Rattle.sock_programs.specs.Asides as asides
 use Rattle.sock_programs.specs.Asides.{Step, Taking, PutCall, id_slot}
 use Rattle.sock_programs.specs.Heads.{HasEnded, Unlocks}
-use Rattle.sock_programs.specs.Posts.{WHOLE, is_final, ends_call, end_id, unlocked}
-use Rattle.sock_programs.specs.Programs.{Program, Aside, Round, Write}
-use Rattle.sock_programs.specs.Rounds.{round}
+use Rattle.sock_programs.specs.Posts.{ends_call, end_id, unlocked}
+use Rattle.sock_programs.specs.Programs.{Program, Aside, Round}
 use Rattle.sock_runs.specs.Sound.{first_step}
 use Rattle.call_points.specs.Steps.{after_call}
 use Rattle.call_points.specs.declared.posting.PostStep.TheVariants as posts
@@ -23,7 +20,7 @@ use Rattle.reader_points.specs.declared.point.CloseStep.TheVariants as closes
 use Rattle.reader_points.specs.declared.point.FailStep.TheVariants as lost
 use Rattle.reader_points.specs.declared.point.ReadPoint.{ReadPoint}
 use Rattle.reader_points.specs.declared.point.ReadPoint.TheVariants as points
-use Rattle.reader_points.specs.Points.{Around, point_program, code_by, error_in, ended_call, room_at, GoesByWord, TakesBytes, TakesCall}
+use Rattle.reader_points.specs.Points.{Around, point_program, error_in, ended_call, room_at, GoesByWord, TakesBytes, TakesCall}
 use Rattle.reader_points.specs.Steps.{after_taking, taken_behind}
 use Rattle.seat_points.specs.Steps.{First, OfCall, OfAside, first_of, first_in}
 use Rattle.sock_core.proofs.FirstSteps.{IsBare, bare_first, step_is}
@@ -142,62 +139,3 @@ behind_take a p k n e = let x = step_is (point_program a p) (OfAside (asides.Tak
   is = x.1;
   behind = taking_first (point_program a p) k n x.0 (round_bytes a p (reads_bytes a p k n e).0) x.1;
 }
-
--- ## No reader puts a call home
-
-or_first : (a b : Bool) → a ≡ true → (a || b) ≡ true
-or_first true b e = refl
-or_first false b e = cc
-
-or_second : (a b : Bool) → b ≡ true → (a || b) ≡ true
-or_second true b e = refl
-or_second false b e = e
-
-final : (w : Parts) (code n : ℕ) → n < 8 → is_final code ≡ true → ends_call w (error_of code n) ≡ true
-final w code n few e = or_second (attempt_of (error_of code n) == WHOLE) (is_final (code_of (error_of code n)) || (w.attempt + 2 == w.range))
-    (or_first (is_final (code_of (error_of code n))) (w.attempt + 2 == w.range) (ap is_final (div-mul-add code 8 n few) ∙ e))
-
--- the error by which a reader ends a call is a final one
-is_ended : (w : Parts) (fault : Bool) (n : ℕ) → ends_call w (error_of (code_by fault) (n % 8)) ≡ true
-is_ended w true n = final w 2002 (n % 8) (omega arith) refl
-is_ended w false n = final w 1014 (n % 8) (omega arith) refl
-
-abbrev PutsNone : Option First → Type 0
-PutsNone (Some (OfAside (asides.PutCall i asked))) = ⊥
-PutsNone other = Unit {0}
-
-judge_none : (ends : Bool) (x y : Program) → ends ≡ true → PutsNone (first_of x) → PutsNone (first_of (if ends then x else y))
-judge_none true x y e f = f
-judge_none false x y e f = cc
-
-none : (a : Around) (p : ReadPoint) → PutsNone (first_in (point_program a p))
-none a points.Rest = tt
-none a (points.Open link o) = tt
-none a (points.Take r) = tt
-none a (points.Lock r l locks.Read) = tt
-none a (points.Lock r l (locks.Exchange from)) = tt
-none a (points.Answer b id answers.Take) = tt
-none a (points.Answer b id (answers.End o ends.End)) = tt
-none a (points.Answer b id (answers.End o ends.Free)) = tt
-none a (points.Close c closes.AddRef) = tt
-none a (points.Close c closes.SetOdd) = tt
-none a (points.Close c closes.StoreCode) = tt
-none a (points.Close c closes.GiveBack) = tt
-none a (points.Close c (closes.Release releases.SubRef)) = tt
-none a (points.Close c (closes.Release (releases.Recycle from))) = tt
-none a (points.Close c (closes.Release (releases.LoadLink w))) = tt
-none a (points.Close c (closes.Release (releases.TakeLink w k))) = tt
-none a (points.Close c (closes.Release (releases.FinishLink w k))) = tt
-none a (points.Close c (closes.Release (releases.PutLink w k))) = tt
-none a (points.Close c (closes.Release releases.FreeSlot)) = tt
-none a (points.Load c o) = tt
-none a (points.Post l posts.Load) = tt
-none a (points.Post l (posts.Exchange from)) = tt
-none a (points.Fail l (lost.Take word)) = tt
-none a (points.Fail l (lost.Judge word)) = judge_none (ends_call (parts word.0) (error_in l)) (end_id (id_slot (id_of l.id)) (ended_call a l (HasEnded a.asked.operation (code_of (error_in l))))) (Aside (PutCall (id_slot (id_of l.id)) a.asked) (λ _. Round (Unlocks (id_slot (id_of l.id)) word.0 true) (unlocked (record { id = id_of l.id; attempt = (parts word.0).attempt + 1 }) (ended_call a l))))
-    (is_ended (parts word.0) l.closing.fault l.attempt.0) tt
-none a (points.Fail l (lost.Free o)) = tt
-none a (points.Discard link total) = tt
-
-pub puts_none : (a : Around) (p : ReadPoint) (i : ℕ) (asked : Asked) → first_in (point_program a p) ≡ Some (OfAside (asides.PutCall i asked)) → ⊥
-puts_none a p i asked e = subst PutsNone e (none a p)

@@ -1,5 +1,5 @@
 -- What a take makes of its link, as it would be given back.
-use Rattle.std.proofs.Common.{◌≡◌, ◌≢◌, refl, ℕ, ◌+◌, ◌<◌, ◌≤◌, ◌⊎◌, inl, inr, ⊎_elim, Bool, true, false, List, [], ◌∷◌, map, length, take, slice_set, slice_index_or, Option, Some, None, IfSome, option_map, ap, sym, ◌∙◌, subst, arith}
+use Rattle.std.proofs.Common.{◌≡◌, refl, ℕ, ◌+◌, ◌<◌, ◌⊎◌, inl, inr, ⊎_elim, Bool, true, false, List, [], ◌∷◌, map, length, take, slice_set, slice_index_or, Option, Some, None, IfSome, option_map, ap, sym, ◌∙◌, subst, arith}
 use Rattle.std.specs.Io.KnownBytes.{append_known}
 use Rattle.std.proofs.lemmas.List.{map-set, length-take}
 use Rattle.atomic_table.proofs.Lists.{at_map, at_index}
@@ -11,10 +11,10 @@ use Rattle.sock_io.specs.declared.link.Take.TheVariants as takes
 use Rattle.sock_io.specs.Causes.{Rose}
 use Rattle.sock_io.specs.Link.{OutState, InState, TakeStep, SettleStep, given_of, of_take, more_told, end_of}
 use Rattle.whole_runs.specs.Heard.{answer_of}
-use Rattle.sock_programs.specs.Asides.{Taking, Closed}
+use Rattle.sock_programs.specs.Asides.{Closed}
 use Rattle.sock_programs.specs.Ticks.{FitsTake}
 use Rattle.reader_seats.specs.GoesOn.{taking_of}
-use Rattle.sock_core.specs.Links.{LinksData, is_done}
+use Rattle.sock_core.specs.Links.{is_done}
 use Rattle.sock_core.specs.Machines.{TableState}
 use Rattle.sock_core.specs.Reading.{TakenFrom, given_in}
 use Rattle.sock_core.specs.Runs.{SameLink, ShowsTaking}

@@ -1,5 +1,5 @@
 -- What a tick tells of the reading halves, and what a reader's tick tells of the links.
-use Rattle.std.proofs.Common.{◌≡◌, ◌≢◌, refl, ℕ, zero, suc, ◌+◌, ◌<◌, ◌≤◌, ◌==◌, Bool, true, false, if◌then◌else◌, cond, eq-eqb, ne_eqb, List, [], ◌∷◌, ◌++◌, append-nil, map, filter, length, slice_set, Option, Some, None, ap, sym, ◌∙◌, arith, subst}
+use Rattle.std.proofs.Common.{◌≡◌, refl, ℕ, ◌+◌, ◌==◌, Bool, true, false, if◌then◌else◌, cond, eq-eqb, ne_eqb, List, [], ◌∷◌, append-nil, map, filter, slice_set, Option, Some, None, ap, sym, ◌∙◌, arith, subst}
 use Rattle.std.specs.Prelude.{slice_get}
 use Rattle.std.specs.List.{AllByRecursion}
 use Rattle.std.proofs.lemmas.Option.{same_Some}
@@ -8,11 +8,11 @@ use mathlib.Core.Logic.{dite}
 use mathlib.Core.Option as core
 use lib.ListN.{get_elem?}
 use Rattle.corr_core.specs.Word.{parts, code_of}
-use Rattle.brpc_model.specs.Link.{LinkEnd, HalfAnswer, TakeAnswer}
+use Rattle.brpc_model.specs.Link.{LinkEnd, TakeAnswer}
 use Rattle.sock_io.specs.Link.{more_told}
 use Rattle.sock_words.specs.declared.plain.Plan.{Plan}
 use Rattle.sock_runs.proofs.Along.{place_inside}
-use Rattle.whole_runs.specs.Heard.{half_of, as_told, as_taken, take_of, answer_of, take_answers, taken_link, heard_at, heard_in, taken_at, taken_in}
+use Rattle.whole_runs.specs.Heard.{as_told, as_taken, answer_of, take_answers, taken_link, heard_at, heard_in, taken_at, taken_in}
 use Rattle.sock_programs.specs.Asides as asides
 use Rattle.sock_programs.specs.Asides.{Taking, TakeBytes, PutCall, id_slot}
 use Rattle.sock_programs.specs.Heads.{Posts, Unlocks, Decides, Locks, Joins, Opens, Reads, Discards, HasEnded}
@@ -20,7 +20,7 @@ use Rattle.sock_programs.specs.Posts.{ends_call, end_id, unlocked}
 use Rattle.sock_programs.specs.Writings as heads
 use Rattle.sock_programs.specs.Programs.{Program, Do, Say, Sent, Rest, TakeMessage, TakeHome, PutHome, PutBytes, AskReady, Write, Aside, Round, Keep, Retries}
 use Rattle.sock_programs.specs.Cores.{Core, SeatState}
-use Rattle.sock_programs.specs.Ticks.{Answer, Unasked, OfPut, OfReady, OfTake, Moment, taken, ticked, IsAnswer, IsAnswered, asked_link, is_refusal, broken_at, broken_in}
+use Rattle.sock_programs.specs.Ticks.{Answer, Unasked, OfPut, OfReady, OfTake, Moment, taken, IsAnswer, IsAnswered, asked_link, is_refusal, broken_at, broken_in}
 use Rattle.seat_points.specs.declared.point.Step.{Step}
 use Rattle.seat_points.specs.Steps.{First, OfCall, OfAside, OfMessage, OfLink, OfHome, first_of, first_in}
 use Rattle.seat_points.specs.Steps as kinds

@@ -1,5 +1,5 @@
 -- One step of a client is a tick of it.
-use Rattle.std.proofs.Common.{◌≡◌, ◌≢◌, refl, ℕ, ◌<◌, ◌≤◌, eqb, eq-eqb, ne_eqb, cond, Bool, true, false, List, [], ◌∷◌, ◌++◌, map, length, slice_set, slice_index_or, Option, Some, None, IfSome, ⊎_elim, ap, ap₂, sym, ◌∙◌, arith, subst}
+use Rattle.std.proofs.Common.{◌≡◌, ◌≢◌, refl, ℕ, ◌<◌, ◌≤◌, eqb, eq-eqb, ne_eqb, cond, Bool, true, false, List, [], ◌∷◌, ◌++◌, map, length, slice_set, slice_index_or, Option, Some, None, IfSome, ⊎_elim, ap, sym, ◌∙◌, arith, subst}
 use Rattle.std.proofs.lemmas.List.{append-nil, get_or-set_same, get_or-set_other}
 use Rattle.std.proofs.lemmas.Bool.{true≢false}
 use Rattle.std.specs.Io.KnownBytes.{append_known}
@@ -11,7 +11,6 @@ use Rattle.sock_io.specs.declared.link.Put.{Put}
 use Rattle.sock_io.specs.declared.link.Put.TheVariants as puts
 use Rattle.sock_io.specs.declared.link.Ready.{Ready}
 use Rattle.sock_io.specs.Link.{OutState, InState, PutStep, ReadyStep, taken_of}
-use Rattle.sock_model.specs.declared.chain.Heading.{Heading}
 use Rattle.sock_model.specs.declared.home.Home.{Home}
 use Rattle.sock_model.specs.declared.home.Home.TheVariants.{Link, Message}
 use Rattle.sock_model.specs.Reads.{letter_of, took_of, as_link, shown, message, link_home}
@@ -23,25 +22,22 @@ use Rattle.sock_programs.specs.Ticks.{Answer, Unasked, OfPut, OfReady, FitsPut, 
 use Rattle.sock_runs.proofs.Along.{place_inside}
 use Rattle.call_points.specs.Steps.{after_word}
 use Rattle.call_points.specs.Steps as aside_steps
-use Rattle.call_points.specs.declared.aside.Aside.{Aside}
-use Rattle.call_points.specs.declared.aside.Aside.TheVariants as code
 use Rattle.call_slots.specs.Slots.{SlotState, calls_with}
-use Rattle.call_slots.specs.Steps as slots
 use Rattle.message_parts.specs.Parcels.{parcel_of}
 use Rattle.seat_points.specs.declared.point.Step.{Step}
 use Rattle.seat_points.specs.declared.point.Step.TheVariants as firsts
 use Rattle.seat_points.specs.declared.point.Author.{Author}
 use Rattle.seat_points.specs.declared.call.Call.{Call}
 use Rattle.seat_points.specs.declared.call.Call.TheVariants as steps
-use Rattle.seat_points.specs.Points.{heading_by, after_message, after_link, after_home, after_put, after_ready}
+use Rattle.seat_points.specs.Points.{heading_by, after_link, after_home, after_put, after_ready}
 use Rattle.seat_points.specs.Steps.{First, OfCall, OfAside, OfMessage, OfLink, OfHome, step_of, step_as, first_in}
 use Rattle.seat_points.specs.Steps as kinds
 use Rattle.seat_points.proofs.StepFacts as facts
 use Rattle.client_seats.specs.Seats.{SeatData, around, seat_program, bytes_of, parts_of}
 use Rattle.sock_core.specs.declared.letter.Letter.{Letter}
 use Rattle.sock_core.specs.Links.{LinksData, Taken, Given, Agrees, AgreesGave, IsPaced, holder_of, is_done, link_with, homes_of, hand_of, letter_home}
-use Rattle.sock_core.specs.Machines.{MachineState, READERS, ArePaced, table_of, machine_sizes, state_of, waiting_of, given_by, calls_of, core_with}
-use Rattle.sock_core.specs.Steps.{IsSized, NextIs, OutsAfter, LettersAfter, Goes, CallMade, AsideMade, MessageTaken, LinkTaken, LinkPut, LinkAsked, MadeFirst, SteppedTo, holders_after}
+use Rattle.sock_core.specs.Machines.{MachineState, READERS, table_of, machine_sizes, state_of, waiting_of, given_by, core_with}
+use Rattle.sock_core.specs.Steps.{IsSized, OutsAfter, Goes, CallMade, AsideMade, MessageTaken, LinkTaken, LinkPut, LinkAsked, MadeFirst, holders_after}
 use Rattle.sock_core.proofs.Hands.{HasNone, HasOnly, lies_home, hand_only, home_at, letters_set}
 use Rattle.sock_core.proofs.Changes.{Changed, take_changes, give_changes, out_changes, none_changes}
 use Rattle.sock_core.proofs.Seatings.{client_set, calls_by, seat_at}

@@ -1,5 +1,5 @@
 -- The machine: its core, the links as they would be given back, and what holds of it behind each step.
-use Rattle.std.specs.Prelude.{ℕ, ◌≡◌, ◌+◌, ◌-◌, ◌*◌, ◌<◌, ◌≤◌, Bool, true, false, List, [], ◌∷◌, ◌++◌, length, map, replicate, slice_index, Option, Some}
+use Rattle.std.specs.Prelude.{ℕ, ◌≡◌, ◌+◌, ◌-◌, ◌*◌, ◌<◌, ◌≤◌, Bool, false, List, [], ◌∷◌, ◌++◌, length, map, replicate, slice_index, Option, Some}
 use Rattle.std.specs.List.{AllByRecursion}
 use mathlib.Core.Option as core
 use lib.ListN.{get_elem?}

@@ -1,5 +1,5 @@
 -- What ticks and whole runs of a machine make of its core.
-use Rattle.std.specs.Prelude.{ℕ, zero, suc, ◌≡◌, ◌-◌, ◌≤◌, ◌<◌, ◌⊎◌, true, false, List, [], ◌∷◌, ◌++◌, length, option_map, slice_get, replicate, Option, Some, None, IfSome, Contains}
+use Rattle.std.specs.Prelude.{ℕ, zero, suc, ◌≡◌, ◌-◌, ◌≤◌, ◌<◌, ◌⊎◌, true, false, List, [], ◌∷◌, ◌++◌, length, option_map, slice_get, replicate, Some, IfSome, Contains}
 use Rattle.std.specs.List.{AllByRecursion}
 use lib.ListN.{get_elem?}
 use mathlib.Core.Option as core
@@ -12,7 +12,7 @@ use Rattle.sock_programs.specs.Asides.{Taking, AtEnd, Closed, Broken, call_id}
 use Rattle.sock_programs.specs.Heads.{Sought, First, Version, Locks, Joins, Opens, Reads, Discards}
 use Rattle.sock_programs.specs.Programs.{Program, Write, Round}
 use Rattle.sock_programs.specs.Cores.{Core, SeatState}
-use Rattle.sock_programs.specs.Ticks.{Answer, Moment, quiet, seats_of, ticked, run, waits, IsAnswered, AreAnswered, IsPrompt, broken_in}
+use Rattle.sock_programs.specs.Ticks.{Answer, Moment, quiet, seats_of, run, waits, AreAnswered, IsPrompt, broken_in}
 use Rattle.sock_programs.specs.Runs.{IsAtRest, LeadsUpTo, next_kind, from_to}
 use Rattle.sock_programs.specs.Scripts.{AreStill, is_ending}
 use Rattle.sock_io.specs.Link.{more_told}

@@ -1,5 +1,5 @@
 -- What one step of a client's seat makes of a machine, by its kind.
-use Rattle.std.specs.Prelude.{ℕ, ◌≡◌, ◌≢◌, ◌+◌, ◌<◌, ◌≤◌, List, [], length, drop, slice_set, slice_index_or, Option, Some, None}
+use Rattle.std.specs.Prelude.{ℕ, ◌≡◌, ◌≢◌, ◌+◌, ◌<◌, List, [], length, drop, slice_set, slice_index_or, Option, Some, None}
 use mathlib.Core.Option as core
 use lib.ListN.{get_elem?}
 use Rattle.brpc_model.specs.Link.{LinkEnd}

@@ -1,5 +1,5 @@
 -- What a tick of a client answers of a step.
-use Rattle.std.specs.Prelude.{ℕ, ◌≡◌, ◌==◌, ◌&&◌, not, Bool, true, false, [], slice_set, Option, Some, None}
+use Rattle.std.specs.Prelude.{ℕ, ◌≡◌, ◌==◌, ◌&&◌, not, Bool, true, false, [], slice_set, Some, None}
 use mathlib.Core.Option as core
 use lib.ListN.{get_elem?}
 use Rattle.corr_core.specs.Word.{parts}
@@ -11,7 +11,6 @@ use Rattle.sock_programs.specs.Writings as heads
 use Rattle.sock_programs.specs.Programs.{Program, Write, Round}
 use Rattle.sock_programs.specs.Ticks.{Answer, waits_at}
 use Rattle.sock_programs.specs.Runs.{kind_in}
-use Rattle.sock_core.specs.declared.machine.On.{On}
 use Rattle.sock_core.specs.declared.machine.Tick.{Tick}
 use Rattle.sock_core.specs.declared.machine.Tick.TheVariants.{Moved, Waits, Idle}
 use Rattle.seat_points.specs.declared.point.Step.{Step}

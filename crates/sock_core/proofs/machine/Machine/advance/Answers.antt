@@ -1,5 +1,4 @@
-use Rattle.std.proofs.Common.{◌≡◌, ◌<◌, ◌≤◌, length, arith}
-use Rattle.sock_core.specs.Machines.{READERS}
+use Rattle.std.proofs.Common.{arith}
 use Rattle.sock_core.proofs.Resting.{between_rests, rest_ticks}
 use Rattle.sock_core.proofs.machine.Machine.advance.Goals as goal
 

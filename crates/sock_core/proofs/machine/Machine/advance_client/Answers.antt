@@ -1,9 +1,9 @@
-use Rattle.std.proofs.Common.{◌≡◌, ◌≢◌, ◌+◌, ◌-◌, ◌<◌, ◌≤◌, ◌*◌, ◌∙◌, ℕ, [], false, length, ap, sym, subst, arith, vec_capacity}
+use Rattle.std.proofs.Common.{◌≢◌, ◌<◌, ◌≤◌, ◌*◌, ◌∙◌, length, ap, sym, subst, vec_capacity}
 use Rattle.std.specs.Prelude.{IfOk, OnOk}
 use Rattle.sock_words.specs.declared.plain.Plan.{Plan}
 use Rattle.sock_core.specs.declared.machine.Tick.{Tick}
 use Rattle.sock_core.specs.declared.machine.Tick.TheVariants.{Idle}
-use Rattle.sock_core.specs.Machines.{MachineState, IsMachine, HasSizes}
+use Rattle.sock_core.specs.Machines.{MachineState}
 use Rattle.sock_core.specs.Runs.{SameTable, SameLinks, Ticked}
 use Rattle.sock_core.specs.Driving.{Leaves, FirstRests}
 use Rattle.sock_core.proofs.Preparing.{prepared_keeps, prepared_idle, prepared_ready, prepared_stands, cut_keeps, cut_sizes}

@@ -1,13 +1,12 @@
-use Rattle.std.proofs.Common.{◌≡◌, ◌≢◌, ◌+◌, ◌-◌, ◌<◌, ◌≤◌, ◌*◌, ◌∙◌, ℕ, [], false, length, ap, sym, subst, arith, vec_capacity}
+use Rattle.std.proofs.Common.{◌+◌, ◌≤◌, ◌*◌, ◌∙◌, ap, sym, subst, vec_capacity}
 use Rattle.std.specs.Prelude.{IfOk, OnOk}
 use Rattle.sock_words.specs.declared.plain.Plan.{Plan}
 use Rattle.sock_core.specs.declared.machine.Tick.{Tick}
 use Rattle.sock_core.specs.declared.machine.Tick.TheVariants.{Idle}
-use Rattle.sock_core.specs.Machines.{MachineState, IsMachine, HasSizes}
+use Rattle.sock_core.specs.Machines.{MachineState}
 use Rattle.sock_core.specs.Runs.{SameTable, SameLinks, Ticked}
 use Rattle.sock_core.specs.Driving.{Leaves, FirstRests}
 use Rattle.sock_core.specs.Machines.{READERS}
-use Rattle.sock_core.proofs.PlainSteps.{idle_leaves}
 use Rattle.sock_core.proofs.ClientTicks.{reader_sized, reader_fits, reader_idle, read_went_keeps, read_went_same, read_went_ticks, read_went_leaves, read_went_rests}
 use Rattle.sock_core.proofs.machine.Machine.advance_reader.Goals as goal
 

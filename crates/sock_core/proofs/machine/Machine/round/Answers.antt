@@ -1,8 +1,7 @@
-use Rattle.std.proofs.Common.{◌≡◌, ◌≤◌, ℕ, Bool, true, List, [], Ok, refl, sym, ap, subst, append-nil, arith, ◌+◌, ◌-◌, ◌++◌, ◌∙◌}
+use Rattle.std.proofs.Common.{◌≡◌, ℕ, true, List, refl, sym, ap, subst, append-nil, arith, ◌+◌, ◌-◌, ◌++◌, ◌∙◌}
 use Rattle.sock_words.specs.declared.plain.Plan.{Plan}
 use Rattle.sock_programs.specs.Runs.{from_to}
 use Rattle.sock_core.specs.Machines.{READERS}
-use Rattle.sock_core.specs.Runs.{round_by}
 use Rattle.sock_core.proofs.Endings.{in_ok, both_join}
 use Rattle.sock_core.proofs.Rounding.{RoundSoFar, round_begins, round_moved, round_still, round_went, round_stood, client_more, reader_more}
 use Rattle.sock_core.proofs.machine.Machine.round.Goals as goal

@@ -1,4 +1,3 @@
-use Rattle.std.proofs.Common.{◌≡◌, false}
 use Rattle.sock_core.proofs.Rounding.{FirstSoFar}
 use Rattle.sock_core.proofs.machine.Machine.run_first.Given as goal
 

@@ -1,5 +1,4 @@
 use Rattle.std.proofs.Common.{ℕ, sym, subst}
-use Rattle.sock_core.specs.Driving.{FirstRests}
 use Rattle.sock_core.proofs.Resting.{Rests, rest_ticks}
 use Rattle.sock_core.proofs.machine.Machine.tick.Goals as goal
 

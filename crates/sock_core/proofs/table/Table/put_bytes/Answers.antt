@@ -2,7 +2,6 @@ use Rattle.std.proofs.Common.{◌≡◌, refl, arith, ap, map, sym, ◌∙◌, i
 use Rattle.sock_io.specs.Link.{end_of}
 use Rattle.sock_programs.specs.Scripts.{sizes_of}
 use Rattle.sock_programs.specs.Parts.{part}
-use Rattle.message_parts.specs.Frames.{OutgoingData}
 use Rattle.message_parts.specs.Parcels.{outgoing_of}
 use Rattle.seat_points.specs.Points.{next_program, parts_by, is_whole}
 use Rattle.seat_points.proofs.StepFacts.{puts_piece}

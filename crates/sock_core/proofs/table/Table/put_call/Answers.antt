@@ -1,4 +1,4 @@
-use Rattle.std.proofs.Common.{◌≡◌, refl, arith, ap, ◌∙◌, subst, sym, inr, [], ℕ, ◌<◌}
+use Rattle.std.proofs.Common.{refl, arith, ap, ◌∙◌, subst, sym, inr, [], ℕ, ◌<◌}
 use mathlib.Core.Option as core
 use Rattle.corr_core.specs.declared.marks.Plan.{Plan as IdPlan}
 use Rattle.sock_message.specs.Asked.{Asked}

@@ -5,7 +5,7 @@ use Rattle.call_points.specs.declared.aside.Aside.TheVariants as variants
 use Rattle.call_slots.specs.Slots.{as_found}
 use Rattle.reader_points.specs.declared.point.ReadStep.{ReadStep}
 use Rattle.reader_points.specs.declared.point.ReadStep.TheVariants as steps
-use Rattle.sock_core.specs.Reading.{IsNextRead, ReadTold}
+use Rattle.sock_core.specs.Reading.{IsNextRead}
 use Rattle.sock_core.proofs.TableAsides.{same_ids}
 use Rattle.sock_core.proofs.TableCuts.{cut_ids, cut_along}
 use Rattle.sock_core.proofs.TableReadings.{told_along, next_along, taken_told, step_along}

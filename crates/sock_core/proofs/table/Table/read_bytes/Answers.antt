@@ -1,4 +1,4 @@
-use Rattle.std.proofs.Common.{◌≡◌, refl, arith, ap, ◌∙◌, length, map, take, subst, ℕ, List}
+use Rattle.std.proofs.Common.{◌≡◌, refl, arith, ap, ◌∙◌, length, take, subst, ℕ, List}
 use Rattle.std.proofs.Math.Seq.{map-set_same}
 use Rattle.std.proofs.lemmas.List.{length-take}
 use Rattle.sock_io.specs.Link.{end_of}

@@ -1,4 +1,4 @@
-use Rattle.std.proofs.Common.{◌≢◌, ◌∙◌, sym, subst, ⊎_elim, refl}
+use Rattle.std.proofs.Common.{◌≢◌, ◌∙◌, sym, subst, ⊎_elim}
 use Rattle.sock_io.specs.declared.link.Ready.TheVariants as asks
 use Rattle.seat_points.specs.declared.point.Step.{Step}
 use Rattle.seat_points.specs.declared.point.Step.TheVariants as firsts

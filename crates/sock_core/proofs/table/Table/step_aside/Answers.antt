@@ -1,4 +1,4 @@
-use Rattle.std.proofs.Common.{◌≡◌, refl, ℕ, ap, sym, subst}
+use Rattle.std.proofs.Common.{◌≡◌, refl, ℕ, ap, subst}
 use Rattle.sock_programs.specs.Asides as asides
 use Rattle.sock_programs.specs.Ticks.{Unasked}
 use Rattle.call_points.specs.declared.aside.Aside.TheVariants as steps

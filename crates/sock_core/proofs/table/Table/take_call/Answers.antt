@@ -1,4 +1,4 @@
-use Rattle.std.proofs.Common.{◌≡◌, ◌<◌, refl, arith, ap, ◌∙◌, subst, sym, inr, ℕ}
+use Rattle.std.proofs.Common.{◌<◌, refl, arith, ap, ◌∙◌, subst, sym, inr}
 use Rattle.corr_core.specs.declared.marks.Plan.{Plan as IdPlan}
 use Rattle.sock_programs.specs.Asides as asides
 use Rattle.sock_programs.specs.Programs.{Program}
@@ -8,7 +8,7 @@ use Rattle.call_points.specs.Steps.{after_call}
 use Rattle.call_slots.specs.Slots.{as_found}
 use Rattle.seat_points.specs.declared.point.Step.TheVariants as firsts
 use Rattle.seat_points.specs.Points.{next_program}
-use Rattle.client_seats.specs.Seats.{SeatData, seat_data, around, seat_program}
+use Rattle.client_seats.specs.Seats.{SeatData, seat_data, around}
 use Rattle.sock_core.specs.Machines.{TableState, table_sizes}
 use Rattle.sock_core.proofs.Stepping.{written, makes_along, goes, next_along, same_sizes}
 use Rattle.sock_core.proofs.TableAsides.{behind_call, takes_call, same_ids}
