@@ -1,15 +1,13 @@
 -- In a run of a script without calls no message has its place once the run is ending, so a message was dropped where its link failed before.
-use Rattle.std.proofs.Common.{◌≡◌, ◌≢◌, ℕ, zero, suc, ◌+◌, ◌-◌, ◌*◌, ◌%◌, ◌<◌, ◌≤◌, ◌==◌, ◌&&◌, ◌⊎◌, Bool, true, false, cond, nat_le, leb-true, le-leb, List, [], ◌∷◌, ◌++◌, length, replicate, get_or, inl, inr, ⊎_elim, refl, sym, ap, ◌∙◌, subst, arith}
-use Rattle.std.proofs.lemmas.Bool.{true≢false}
-use Rattle.std.specs.Prelude.{Contains, slice_index}
+use Rattle.std.proofs.Common.{◌≡◌, ℕ, zero, suc, ◌+◌, ◌-◌, ◌*◌, ◌%◌, ◌<◌, ◌≤◌, ◌==◌, ◌&&◌, Bool, true, false, nat_le, leb-true, le-leb, List, [], ◌∷◌, length, replicate, get_or, ⊎_elim, refl, sym, ap, ◌∙◌, subst, arith}
+use Rattle.std.specs.Prelude.{slice_index}
 use mathlib.Core.Logic.{dite}
-use mathlib.Core.Option.{Option, none, some, some-injective, some-ne-none}
+use mathlib.Core.Option.{some}
 use native.Mathlib.Decide.{dec_le}
 use lib.ListN.{get_elem?}
 use Rattle.atomic_table.proofs.Lists.{at_set}
 use Rattle.sock_words.specs.Words.{socket_id_slot, socket_id_version, vref_version, vref_nref}
 use Rattle.sock_words.specs.declared.plain.Plan.{Plan}
-use Rattle.sock_model.specs.declared.chain.Entry.{Entry}
 use Rattle.sock_model.specs.declared.view.View.{View}
 use Rattle.sock_model.specs.Deliveries.{ShownAt, no_place, one_place, place_value}
 use Rattle.sock_model.specs.Entries.{on}
@@ -19,29 +17,24 @@ use Rattle.sock_steps.proofs.Positions.{few_log, on_shorter}
 use Rattle.sock_steps.proofs.Quiet.{either_way}
 use Rattle.chain_laws.proofs.Lists.{at_some}
 use Rattle.slot_laws.proofs.Sums.{total_bound}
-use Rattle.sock_model.specs.Rule.{AreShort, lists_of}
+use Rattle.sock_model.specs.Rule.{lists_of}
 use Rattle.std.proofs.lemmas.List.{length-map}
 use Rattle.sock_causes.proofs.Members.{get_there}
 use Rattle.sock_programs.specs.Asides.{Taking}
 use Rattle.send_causes.proofs.Closers.{Ends as ReadingEnds}
 use Rattle.send_causes.proofs.ReaderRuns.{Keeps, reader_rights, keeps_along}
 use Rattle.std.specs.Prelude.{slice_get, Some}
-use Rattle.brpc_model.specs.Items.{Item}
-use Rattle.brpc_model.specs.Operations.{Turn}
 use Rattle.sock_programs.specs.Calls.{Call, SwapHead}
-use Rattle.sock_programs.specs.Programs.{Program, Do, Say, Sent, Rest, TakeMessage, TakeHome, PutHome, PutBytes, AskReady, Write, Aside, Round, Keep, Retries, LAST_VERSION, NO_SOCKET, recycle, release, address, set_failed, end_open}
+use Rattle.sock_programs.specs.Programs.{Program, Do, Say, Sent, Rest, TakeMessage, TakeHome, PutHome, PutBytes, AskReady, Write, Aside, Round, Keep, Retries, LAST_VERSION, NO_SOCKET, recycle, release}
 use Rattle.sock_programs.specs.Heads.{Retry}
 use Rattle.sock_programs.specs.Clients.{ending_of}
 use Rattle.sock_programs.specs.Cores.{Core, SeatState, resolved, next_step}
 use Rattle.sock_programs.specs.Runs.{IsAtRest}
-use Rattle.sock_programs.specs.Tasks.{opens, calls, plan_of, id_plan_of}
 use Rattle.sock_programs.specs.Ticks.{Moment, AreAnswered, IsAnswered, quiet, ticked, run}
-use Rattle.sock_programs.specs.Scripts.{all_tasks, opened, set_up, played, IsRunWithCalls}
-use Rattle.sock_programs.specs.ToldCalls.{Accepted, Order, StandsAt, label, AreOrders}
-use Rattle.sock_runs.specs.Sound.{state, Sound, IsAhead, IsFitting, AreFitting, AreFew, views_after, views_along, first_step}
+use Rattle.sock_programs.specs.ToldCalls.{Accepted, label, AreOrders}
+use Rattle.sock_runs.specs.Sound.{state, Sound, IsAhead, IsFitting, AreFitting, AreFew, views_after, first_step}
 use Rattle.sock_runs.specs.GoesOn.{GoesOn, HasNothing}
 use Rattle.sock_runs.proofs.Along.{seat_rests, place_inside, ticked_ahead}
-use Rattle.sock_runs.proofs.Bounded.{IsBounded}
 use Rattle.sock_runs.proofs.Cases.{ComesNext, tick_keeps_marks}
 use Rattle.sock_runs.proofs.LinkTicks.{RetriesGo}
 use Rattle.sock_runs.proofs.Passes.{goes_round}
@@ -49,7 +42,7 @@ use Rattle.sock_runs.proofs.Quiets.{ticked_seats, ticked_rests}
 use Rattle.sock_runs.proofs.Recorded.{Recorded, recorded_ticks}
 use Rattle.sock_runs.proofs.Rounds.{begins_round}
 use Rattle.sock_runs.proofs.Ticks.{sound_ticks}
-use Rattle.sock_causes.proofs.Delivered.{accepted_of, accepted_at, orders_of}
+use Rattle.sock_causes.proofs.Delivered.{accepted_of, orders_of}
 use Rattle.send_causes.proofs.Places.{places_ticks}
 use Rattle.send_causes.proofs.Readings.{rights_none}
 
@@ -149,10 +142,10 @@ module _ (p : Plan) where
 
   pub ending_begins : (c : Core) (vs : List View) (os : List ℕ) → Sound p c vs → ((seat : SeatState) → get_elem? c.seats 0 ≡ some seat → seat.program ≡ Rest) → Ends (Rattle.sock_programs.specs.Cores.with_seat 0 (ending_of os) [] c.words c.homes c) vs
   ending_begins c vs os sound rests seat v at at_view = (
-      ⊎_elim (λ a. subst (λ (z : SeatState). NoSwap z.program) a.1 (swap_next _ (ending_of os) (swap_ending os))) (λ a. absurd (a.0 refl)) (at_set c.seats 0 0 _ seat at),
-      (let old = at_some c.seats 0 (let i = place_inside vs 0 v at_view in let m = sound.each in omega (arith, i, m)) in
-      let n : HasNothing v = subst (GoesOn p v) (rests old.0 old.1) (sound.seats 0 old.0 v old.1 at_view).goes_on in let q = n.quiet in q.rights),
-    )
+    ⊎_elim (λ a. subst (λ (z : SeatState). NoSwap z.program) a.1 (swap_next _ (ending_of os) (swap_ending os))) (λ a. absurd (a.0 refl)) (at_set c.seats 0 0 _ seat at),
+    (let old = at_some c.seats 0 (let i = place_inside vs 0 v at_view in let m = sound.each in omega (arith, i, m)) in
+        let n : HasNothing v = subst (GoesOn p v) (rests old.0 old.1) (sound.seats 0 old.0 v old.1 at_view).goes_on in let q = n.quiet in q.rights),
+  )
 
 -- and while clients are at rest and readers read
 module _ (p : Plan) (calls os : List ℕ) (in_os : (k o : ℕ) → get_elem? os k ≡ some o → o < p.operations) (Odd : List Taking → Type 0) (Lasts : Type 0) (ends : (n id : ℕ) → ReadingEnds n id Odd Lasts) (Q : ℕ → ℕ → Type 0) (go : RetriesGo p) where

@@ -1,5 +1,5 @@
 -- In a run a socket that was closed before the ending is that of a link whose reading ended early.
-use Rattle.std.proofs.Common.{◌≡◌, ◌≢◌, ℕ, zero, suc, ◌+◌, ◌-◌, ◌%◌, ◌<◌, ◌≤◌, ◌==◌, ◌⊎◌, Bool, true, false, cond, List, [], ◌∷◌, ◌++◌, length, length-append, length-set, map, filter, replicate, get_or, set, append-nil, append_assoc, inl, inr, ⊎_elim, refl, sym, ap, ◌∙◌, subst, arith}
+use Rattle.std.proofs.Common.{◌≡◌, ℕ, zero, suc, ◌+◌, ◌-◌, ◌<◌, ◌≤◌, ◌==◌, ◌⊎◌, Bool, true, false, cond, List, [], ◌∷◌, ◌++◌, length, length-append, length-set, map, filter, replicate, get_or, set, inl, inr, ⊎_elim, refl, sym, ap, ◌∙◌, subst, arith}
 use Rattle.std.proofs.lemmas.Bool.{true≢false}
 use Rattle.std.proofs.lemmas.List.{length-map}
 use Rattle.std.proofs.lemmas.List.Concat.{flat_map-append}
@@ -11,11 +11,9 @@ use native.Mathlib.Decide.{ℕ_discrete, dec_le}
 use lib.ListN.{get_elem?}
 use Rattle.atomic_table.proofs.Lists.{at_set, set_else}
 use Rattle.sock_words.specs.declared.plain.Plan.{Plan}
-use Rattle.sock_words.specs.Words.{vref_version}
 use Rattle.sock_model.specs.declared.view.View.{View}
-use Rattle.sock_model.specs.Layout.{open_word, ref_word, link_word}
+use Rattle.sock_model.specs.Layout.{open_word}
 use Rattle.sock_model.specs.Seats.{newcomer, below}
-use Rattle.corr_core.specs.declared.marks.Plan.{Plan as IdPlan}
 use Rattle.brpc_model.specs.Causes.{HasFault, reading_limit}
 use Rattle.brpc_model.specs.Items.{Item, is_open}
 use Rattle.brpc_model.specs.Operations.{Turn, operations, link_names}
@@ -35,23 +33,20 @@ use Rattle.sock_programs.specs.Readers.{LIMIT}
 use Rattle.sock_programs.specs.Heads.{Retry}
 use Rattle.sock_programs.specs.Clients.{operation, client_from, ending_of}
 use Rattle.sock_programs.specs.Cores.{Core, SeatState, word_of, found_at, resolved, next_step, still_waiting, waiting_at}
-use Rattle.sock_programs.specs.Runs.{IsAtRest}
 use Rattle.sock_programs.specs.Tasks.{Numbered, numbered, opens, calls, plan_of, id_plan_of}
-use Rattle.sock_programs.specs.Ticks.{Answer, Unasked, Moment, AreAnswered, quiet, tick_with, ticked, run}
-use Rattle.sock_programs.specs.Scripts.{sizes_of, programs, readers_from, all_programs, all_tasks, opened, set_up, played, ending, is_ending, IsRunWithCalls}
-use Rattle.sock_programs.specs.Told.{AreTasks, IsOpen}
-use Rattle.sock_runs.specs.Sound.{Sound, IsAhead, AreFitting, views_along}
+use Rattle.sock_programs.specs.Ticks.{Answer, Unasked, Moment, quiet, tick_with, ticked}
+use Rattle.sock_programs.specs.Scripts.{sizes_of, programs, readers_from, all_programs, all_tasks, opened, set_up, played, IsRunWithCalls}
+use Rattle.sock_programs.specs.Told.{IsOpen}
+use Rattle.sock_runs.specs.Sound.{views_along}
 use Rattle.sock_runs.proofs.Along.{run_ahead, beginning_ahead}
 use Rattle.sock_runs.proofs.LinksOpening.{OpensLink}
 use Rattle.sock_runs.proofs.LinkTicks.{RetriesGo}
 use Rattle.sock_runs.proofs.Opening.{mapped}
 use Rattle.sock_runs.proofs.OpensStay.{readers_begin}
-use Rattle.sock_runs.proofs.Quiets.{run_rests}
-use Rattle.sock_runs.proofs.Recorded.{Recorded, run_recorded}
-use Rattle.sock_runs.proofs.Whole.{AreFittingIn, Begins, IsListed, closing_of, views_played, views_closed, set_up_answered, end_answered, set_up_sound, closing_sound, closed_sound, recorded_opened, recorded_set_up, recorded_closing, recorded_closed}
+use Rattle.sock_runs.proofs.Whole.{AreFittingIn, Begins, IsListed, closing_of, views_played, views_closed, set_up_answered, end_answered, set_up_sound, closing_sound, recorded_opened, recorded_set_up, recorded_closing}
 use Rattle.sock_steps.proofs.Quiet.{either_way}
 use Rattle.sock_causes.specs.Facts.{shown_in, closed_before_ending}
-use Rattle.sock_causes.specs.Losses.{lost_of, lost_by, closed_at}
+use Rattle.sock_causes.specs.Losses.{lost_by, closed_at}
 use Rattle.sock_causes.specs.Stories.{In}
 use Rattle.sock_causes.proofs.Members.{in_contains}
 use Rattle.sock_causes.proofs.Plain.{in_left, in_right, in_both}
@@ -59,7 +54,7 @@ use Rattle.client_laws.proofs.Beginning as clients_begin
 use Rattle.client_laws.specs.Openings.{links_of_all, without_passes, client_view, opening_views, all_seats}
 use Rattle.client_laws.proofs.Retrying.{retries_go}
 use Rattle.joint_runs.proofs.Runs.{AreMade, first_views, begins, are_fitting_in, joint_runs}
-use Rattle.owed_calls.proofs.EndsStill.{all_at, run_ending}
+use Rattle.owed_calls.proofs.EndsStill.{run_ending}
 use Rattle.owed_calls.proofs.Known.{known_of}
 use Rattle.owed_calls.proofs.Owed.{IsKnown, tasks_own, opened_seats}
 use Rattle.owed_calls.proofs.OpensStored.{place_at}
@@ -68,7 +63,6 @@ use Rattle.whole_runs.specs.Heard.{as_taken, bytes_found, taken_link, taken_at, 
 use Rattle.whole_runs.proofs.HeardRuns.{taken_append}
 use Rattle.send_causes.proofs.Faults.{Faults, fault_stays}
 use Rattle.send_causes.proofs.Closers.{Ends}
-use Rattle.send_causes.proofs.Readings.{found_by, State, HasReader}
 use Rattle.send_causes.proofs.ReaderRuns.{Keeps, founds, keeps_same, keeps_along, closes_along}
 use Rattle.send_causes.proofs.Takeless.{NoTakes, TakesNone, client_takes, ending_takes, takes_next}
 
@@ -398,10 +392,12 @@ module _ (script : List Item) (made : AreMade script) (turns : List Turn) (core 
       (set_up_sound script made.are (first_views script) start go turns core is fitting) is.answered fitting.of_played (recorded_set_up script made.are (first_views script) start go turns core is fitting) named_set_up
       (λ e. absurd (true≢false (sym e ∙ not_ending EndedBy Never ends_early_by)))
       (run_ahead (plan_of script) (opened script) (replicate is.setup (quiet 0)) (beginning_ahead (plan_of script) (id_plan_of script) (all_programs first (readers_from (calls script) 0 (opens script))))) is.is_set_up
-      (set_up_keeps EndedBy Never ends_early_by) x a in
-      (y.0, subst EndedBy (sym (taken_append (taken_in (plan_of script) (set_up script is.setup) (is.scheduled ++ is.later) x) (taken_in (plan_of script) is.ended is.final x)))
-      (ended_more (as_taken (taken_in (plan_of script) (set_up script is.setup) (is.scheduled ++ is.later) x)) (as_taken (taken_in (plan_of script) is.ended is.final x))
-      (subst EndedBy (founds_heard (plan_of script) (calls script) (opens script) known.in_script EndedBy Never ends_early_by (is.scheduled ++ is.later) (set_up script is.setup) x (not_ending EndedBy Never ends_early_by)) y.1))))
+      (set_up_keeps EndedBy Never ends_early_by) x a in (
+        y.0,
+        subst EndedBy (sym (taken_append (taken_in (plan_of script) (set_up script is.setup) (is.scheduled ++ is.later) x) (taken_in (plan_of script) is.ended is.final x)))
+            (ended_more (as_taken (taken_in (plan_of script) (set_up script is.setup) (is.scheduled ++ is.later) x)) (as_taken (taken_in (plan_of script) is.ended is.final x))
+            (subst EndedBy (founds_heard (plan_of script) (calls script) (opens script) known.in_script EndedBy Never ends_early_by (is.scheduled ++ is.later) (set_up script is.setup) x (not_ending EndedBy Never ends_early_by)) y.1)),
+      ))
       (in_both (shown_in closed_at (plan_of script) (opened script) (replicate is.setup (quiet 0))) (shown_in closed_at (plan_of script) (set_up script is.setup) (is.scheduled ++ is.later)) x there)
 
   -- why the reading of link k ended early: the link gave its end, a frame with a fault, or as much as is read of it, or it failed

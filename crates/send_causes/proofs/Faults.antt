@@ -1,10 +1,10 @@
 -- A frame fault stays where more bytes come, and a fault of what stands behind the whole frames is one of all bytes.
-use Rattle.std.proofs.Common.{◌≡◌, ℕ, zero, suc, ◌+◌, ◌-◌, ◌<◌, ◌≤◌, not, ◌&&◌, Bool, true, false, cond, eqb, nat_lt, ltb-false, List, [], ◌∷◌, ◌++◌, length, take, drop, Result, Ok, Err, ℤ, pos, negsuc, refl, sym, ap, ◌∙◌, subst, arith, length-append, length-drop, drop-drop}
+use Rattle.std.proofs.Common.{◌≡◌, ℕ, zero, suc, ◌+◌, ◌-◌, ◌<◌, ◌≤◌, not, ◌&&◌, Bool, true, false, cond, eqb, nat_lt, ltb-false, List, ◌++◌, length, take, drop, Result, Ok, Err, ℤ, pos, negsuc, refl, sym, ap, ◌∙◌, subst, arith, length-drop, drop-drop}
 use lib.Seq.{drop-append-le}
 use Rattle.brpc_model.specs.Meta.{Meta, MetaFault, read_meta}
 use Rattle.brpc_model.specs.Frame.{Frame, FrameFault, BadMagic, TooBig, MetaOver, AttachOver, Judged, NoneYet, Faulty, Begins, high_first, matching, body_limit, with_attachment, body_judged, judged}
 use Rattle.brpc_model.specs.Stream.{Stream, Rest, Fault, goes_on, stream_up_to, stream_from}
-use Rattle.brpc_model.proofs.Streams.{enough, stream_goes_on}
+use Rattle.brpc_model.proofs.Streams.{stream_goes_on}
 use Rattle.prpc_frame.proofs.Lasting.{stays}
 use Rattle.sock_programs.specs.Readers.{last_of}
 

@@ -17,3 +17,8 @@ pub mod Telling
 pub mod Storied
 pub mod Dropped
 pub mod Sends
+pub mod Plain
+pub mod Lists
+pub mod Firsts
+pub mod FirstRuns
+pub mod Beside

@@ -1,5 +1,5 @@
 -- A seat without the right to write a link changes no place word.
-use Rattle.std.proofs.Common.{◌≡◌, ℕ, ◌+◌, ◌*◌, ◌<◌, List, [], ◌∷◌, get_or, get_or-set_other, refl, sym, ap, ◌∙◌, subst, arith}
+use Rattle.std.proofs.Common.{◌≡◌, ℕ, ◌*◌, ◌<◌, List, [], ◌∷◌, get_or, get_or-set_other, refl, sym, ap, ◌∙◌, arith}
 use mathlib.Core.Option.{some}
 use lib.ListN.{get_elem?}
 use lib.Seq.{set-get_or}
@@ -9,7 +9,7 @@ use Rattle.sock_model.specs.declared.chain.Right.{Right}
 use Rattle.sock_model.specs.declared.view.View.{View}
 use Rattle.sock_model.specs.Layout.{tag_word, ref_word, link_word, head_word, code_word, name_word, open_word, request_word, next_word, place_word}
 use Rattle.sock_programs.specs.Calls.{Call, ClaimSlot, GiveBirth, AddRef, SubRef, SetOdd, Recycle, FreeSlot, StoreLink, LoadLink, ResetHead, WipeCode, StoreCode, StoreName, LoadName, StoreOpen, LoadOpen, TakeLink, FinishLink, PutLink, LookWord, FindLink, LoadCode, ClaimRequest, PutMessage, Unconnect, SwapHead, Connect, EmptyHead, ReadNext, TurnNext, FreeRequest, StorePlace, DropPlace}
-use Rattle.sock_programs.specs.Cores.{Core, SeatState, word_of, word_after, found_at, words_after}
+use Rattle.sock_programs.specs.Cores.{Core, word_of, word_after, found_at, words_after}
 use Rattle.sock_programs.specs.Ticks.{Moment, IsAnswered, ticked}
 use Rattle.sock_runs.specs.May.{May}
 use Rattle.sock_runs.specs.Sound.{Sound, IsFitting}

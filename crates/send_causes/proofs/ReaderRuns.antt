@@ -1,40 +1,35 @@
 -- Over the ticks of a run all readers keep to their links, and each socket that a reader set failed is its own link's, whose reading ended.
-use Rattle.std.proofs.Common.{◌≡◌, ◌≢◌, ℕ, zero, suc, ◌+◌, ◌-◌, ◌*◌, ◌/◌, ◌%◌, ◌<◌, ◌≤◌, ◌==◌, ◌⊎◌, Bool, true, false, cond, eqb-true, ne_eqb, nat_le, leb-true, List, [], ◌∷◌, ◌++◌, length, map, filter, get_or, append_assoc, append-nil, inl, inr, ⊎_elim, refl, sym, ap, ◌∙◌, subst, arith}
-use Rattle.std.proofs.lemmas.Bool.{true≢false}
+use Rattle.std.proofs.Common.{◌≡◌, ◌≢◌, ℕ, ◌+◌, ◌-◌, ◌*◌, ◌%◌, ◌<◌, ◌≤◌, ◌==◌, Bool, true, false, cond, ne_eqb, nat_le, leb-true, List, [], ◌∷◌, ◌++◌, length, filter, get_or, append_assoc, append-nil, inl, inr, ⊎_elim, refl, sym, ap, ◌∙◌, subst, arith}
 use Rattle.std.specs.Prelude.{◌||◌, slice_index}
 use mathlib.Core.Logic.{dite}
-use mathlib.Core.Option.{Option, none, some, some-injective, some-ne-none}
+use mathlib.Core.Option.{Option, none, some}
 use native.Mathlib.Decide.{ℕ_discrete, dec_le}
 use lib.ListN.{get_elem?}
-use Rattle.sock_words.specs.Words.{socket_id, socket_id_version, socket_id_slot, vref_version}
+use Rattle.sock_words.specs.Words.{socket_id_version, socket_id_slot, vref_version}
 use Rattle.sock_words.specs.declared.plain.Plan.{Plan}
 use Rattle.sock_model.specs.declared.view.View.{View}
 use Rattle.sock_model.specs.Layout.{open_word, link_word, ref_word}
-use Rattle.sock_model.specs.References.{slot_facts}
 use Rattle.sock_model.specs.SlotRows.{marks_of}
-use Rattle.sock_model.specs.Slots.{count}
 use Rattle.sock_model.specs.Weights.{is_hold}
 use Rattle.chain_laws.proofs.Lists.{at_some}
 use Rattle.sock_steps.proofs.Places.{own_count}
-use Rattle.sock_programs.specs.Asides.{Taking, Bytes, Nothing, NoMore, AtEnd, Closed, Broken}
-use Rattle.sock_programs.specs.Beside.{at_last}
-use Rattle.sock_programs.specs.Calls.{Call, SetOdd}
+use Rattle.sock_programs.specs.Asides.{Taking}
+use Rattle.sock_programs.specs.Calls.{SetOdd}
 use Rattle.sock_programs.specs.Drops.{call_in}
-use Rattle.sock_programs.specs.Programs.{Program, Do, Say, Sent, Rest, TakeMessage, TakeHome, PutHome, PutBytes, AskReady, Write, Aside, Round, Keep, Retries, NO_SOCKET}
+use Rattle.sock_programs.specs.Programs.{Program, Do, Rest, Write, NO_SOCKET}
 use Rattle.sock_programs.specs.Cores.{Core, SeatState}
 use Rattle.sock_programs.specs.Runs.{IsAtRest}
 use Rattle.sock_programs.specs.Ticks.{Moment, IsAnswered, AreAnswered, ticked, run}
 use Rattle.sock_runs.specs.Sound.{state, Sound, IsAhead, IsFitting, AreFitting, views_after, views_along}
 use Rattle.sock_runs.proofs.Along.{seat_rests, place_inside, ticked_ahead}
 use Rattle.sock_runs.proofs.Bounds.{law, lives_le}
-use Rattle.sock_runs.proofs.Cases.{beside}
 use Rattle.sock_runs.proofs.LinksOpening.{OpensLink}
 use Rattle.sock_runs.proofs.LinkTicks.{RetriesGo}
 use Rattle.sock_runs.proofs.Quiets.{ticked_seats, ticked_rests}
 use Rattle.sock_runs.proofs.Recorded.{Recorded, recorded_ticks}
 use Rattle.sock_runs.proofs.Ticks.{sound_ticks}
 use Rattle.sock_causes.specs.Facts.{shown_in}
-use Rattle.sock_causes.specs.Losses.{lost_of, lost_by, may_close, closed_at}
+use Rattle.sock_causes.specs.Losses.{lost_by, may_close, closed_at}
 use Rattle.sock_causes.specs.Stories.{In}
 use Rattle.sock_causes.proofs.Plain.{in_both}
 use Rattle.owed_calls.proofs.WordsGiven.{Named, run_named}

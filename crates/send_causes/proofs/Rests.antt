@@ -1,10 +1,10 @@
 -- In a run of a script without calls each client is at rest before the ending.
-use Rattle.std.proofs.Common.{◌≡◌, ◌≢◌, ℕ, zero, suc, ◌+◌, ◌-◌, ◌<◌, ◌≤◌, ◌⊎◌, true, List, [], ◌∷◌, ◌++◌, length, map, replicate, inl, inr, ⊎_elim, refl, sym, ap, ◌∙◌, subst, arith}
+use Rattle.std.proofs.Common.{◌≡◌, ℕ, ◌+◌, ◌-◌, ◌<◌, ◌≤◌, ◌⊎◌, true, List, [], ◌∷◌, ◌++◌, length, replicate, inl, inr, ⊎_elim, sym, ap, ◌∙◌, subst, arith}
 use Rattle.std.proofs.lemmas.List.{length-map}
 use Rattle.std.specs.Prelude as std
 use Rattle.std.specs.List.{AllByRecursion}
 use mathlib.Core.Logic.{dite}
-use mathlib.Core.Option.{Option, none, some, some-injective, some-ne-none}
+use mathlib.Core.Option.{Option, none, some}
 use native.Mathlib.Decide.{ℕ_discrete, dec_le}
 use lib.ListN.{get_elem?}
 use Rattle.sock_words.specs.declared.kind.Kind.{Kind}
@@ -12,9 +12,7 @@ use Rattle.sock_words.specs.declared.plain.Plan.{Plan}
 use Rattle.sock_model.specs.declared.view.View.{View}
 use Rattle.brpc_model.specs.Items.{Item}
 use Rattle.brpc_model.specs.Operations.{Turn, clients, link_names}
-use Rattle.corr_core.specs.declared.marks.Plan.{Plan as IdPlan}
 use Rattle.report_fits.proofs.TaskLemmas.{tasks_length}
-use Rattle.sock_programs.specs.declared.task.Task.{Task}
 use Rattle.sock_programs.specs.Heads.{Head, Exit, Posts, Unlocks, Decides, Locks, Joins, Opens, Reads, Discards}
 use Rattle.sock_programs.specs.Programs.{Program, Rest, Round}
 use Rattle.sock_programs.specs.Clients.{client_from}
@@ -24,8 +22,7 @@ use Rattle.sock_programs.specs.Tasks.{opens, calls, plan_of, id_plan_of}
 use Rattle.sock_programs.specs.Ticks.{Moment, IsPrompt, quiet, run, waits}
 use Rattle.sock_programs.specs.Scripts.{sizes_of, programs, readers_from, all_programs, all_tasks, opened, set_up, played, ticks_of, IsRunWithCalls}
 use Rattle.id_runs.specs.Held.{IdView}
-use Rattle.id_runs.specs.Goes.{IdGoesOn, SoundIds}
-use Rattle.sock_runs.proofs.Opening.{mapped}
+use Rattle.id_runs.specs.Goes.{IdGoesOn}
 use Rattle.sock_runs.proofs.Quiets.{run_seats, run_rests}
 use Rattle.sock_runs.proofs.Waiting.{StandsAside, still_settles}
 use Rattle.sock_runs.proofs.Whole.{views_played, rested_ahead, rested_idle, played_sound}

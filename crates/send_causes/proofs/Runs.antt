@@ -54,7 +54,7 @@ module _ (p : Plan) (q : IdPlan) (narrow : q.slots ≤ 65536) (is_call : Asked �
   pub run_labels : RetriesGo p → (ms : List Moment) (c : Core) (vs : List View) → Sound p c vs → AreAnswered p c ms → AreFitting p c ms → AreLabelled ids p q c ms → Lawful_ c vs → Lawful_ (run p c ms) (views_along p c vs ms)
   run_labels go [] c vs sound answered fitting are law = law
   run_labels go (m ∷ ms) c vs sound answered fitting are law = run_labels go ms (ticked p c m) (views_after p c vs m) (sound_ticks p go c vs m sound answered.0 fitting.0) answered.1 fitting.1 are.3
-      (label_ticks p q narrow is_call ids c vs law.0 law.1 are.0.0 are.0.1 sound m answered.0 are.1 are.2)
+      (let next = label_ticks p q narrow is_call ids c vs law.0 law.1 are.0.0 are.0.1 sound m answered.0 are.1 are.2 in (next.0, next.1))
 
   pub behind_ids : (ms : List Moment) (c : Core) → AreLabelled ids p q c ms → (us : List IdView) × SoundIds p q (run p c ms) us
   behind_ids [] c are = are
@@ -194,8 +194,8 @@ module _ (script : List Item) (are : AreTasks (plan_of script) (all_tasks script
       let law = played_law in let us = behind_ids (plan_of script) (id_plan_of script) narrow (IsCallOf script) ids (is.scheduled ++ is.later) (set_up script is.setup) labelled.of_played in
       let t = elem_there (rested_of script turns core is).seats law.0 0 seat.0 law.1.each seat.1 in
       subst (λ xs. Law (closing_of script turns core is) xs) (set_again (views_played script turns core is vs) 0 v.0 v.1)
-      (moves (plan_of script) (id_plan_of script) narrow (IsCallOf script) ids (rested_of script turns core is) (views_played script turns core is vs) law.0 law.1 us.0 us.1 0 seat.0 v.0 t.0 seat.1 v.1 t.1 (ending_of (opens script)) [] (rested_of script turns core is).homes v.0 v.0.rights refl
-      (ending_goes (IsCallOf script) (opens script)))
+      (let next = moves (plan_of script) (id_plan_of script) narrow (IsCallOf script) ids (rested_of script turns core is) (views_played script turns core is vs) law.0 law.1 us.0 us.1 0 seat.0 v.0 t.0 seat.1 v.1 t.1 (ending_of (opens script)) [] (rested_of script turns core is).homes v.0 v.0.rights refl
+      (ending_goes (IsCallOf script) (opens script)) in (next.0, next.1))
 
   on_law : (c : Core) (ws : List View) → Law c ws → Law (is_ending c) ws
   on_law c ws law = (law.0, record { once = law.1.once; made = law.1.made; views = law.1.views; trials = law.1.trials; calls = law.1.calls; each = law.1.each; programs = law.1.programs })

@@ -1,5 +1,5 @@
 -- What a whole run tells of each `open`, `send`, `hold`, `drop` and `fail`, and of the links: in runs with calls all but three things, in runs without calls all.
-use Rattle.std.proofs.Common.{◌≡◌, ◌≢◌, ℕ, zero, suc, ◌+◌, ◌-◌, ◌*◌, ◌<◌, ◌≤◌, ◌⊎◌, Bool, true, false, List, [], ◌∷◌, ◌++◌, length, length-set, map, flat_map, replicate, get_or, inl, inr, ⊎_elim, refl, sym, ap, ◌∙◌, subst, arith}
+use Rattle.std.proofs.Common.{◌≡◌, ◌≢◌, ℕ, zero, suc, ◌-◌, ◌*◌, ◌<◌, ◌≤◌, ◌⊎◌, true, List, [], ◌∷◌, ◌++◌, length, length-set, map, flat_map, replicate, get_or, inl, inr, ⊎_elim, refl, sym, ap, ◌∙◌, subst, arith}
 use Rattle.std.proofs.lemmas.Bool.{true≢false}
 use Rattle.std.specs.Prelude.{Contains, Option, Some, None, slice_get}
 use Rattle.std.specs.List.{AllByRecursion}
@@ -8,7 +8,6 @@ use mathlib.Core.Option.{none, some, some-injective, some-ne-none}
 use native.Mathlib.Decide.{ℕ_discrete}
 use lib.ListN.{get_elem?}
 use Rattle.atomic_table.proofs.Lists.{set_else}
-use Rattle.sock_words.specs.declared.outcome.Outcome.{Outcome}
 use Rattle.sock_words.specs.declared.plain.Plan.{Plan}
 use Rattle.sock_model.specs.declared.view.View.{View}
 use Rattle.sock_model.specs.Layout.{place_word}
@@ -17,7 +16,7 @@ use Rattle.sock_model.specs.Links.{Failed}
 use Rattle.brpc_model.specs.Items.{Item}
 use Rattle.brpc_model.specs.Operations.{Turn}
 use Rattle.brpc_model.specs.Order.{EachBefore}
-use Rattle.sock_message.specs.Asked.{Asked, name_of}
+use Rattle.sock_message.specs.Asked.{Asked}
 use Rattle.sock_programs.specs.declared.task.Op.TheVariants as ops
 use Rattle.sock_programs.specs.declared.task.Task.{Task}
 use Rattle.sock_programs.specs.Clients.{ending_of}
@@ -25,17 +24,16 @@ use Rattle.sock_programs.specs.Cores.{Core, SeatState, resolved, next_step, wait
 use Rattle.sock_words.specs.declared.kind.Kind.{Kind}
 use Rattle.sock_programs.specs.Runs.{IsAtRest, kind_in}
 use Rattle.sock_programs.specs.Tasks.{opens, calls, plan_of, id_plan_of}
-use Rattle.sock_programs.specs.Ticks.{Moment, quiet, ticked, run, broken_in}
-use Rattle.sock_programs.specs.Scripts.{all_tasks, opened, set_up, played, ending, is_ending, IsRunWithCalls}
-use Rattle.sock_programs.specs.Told.{AreTasks, IsTask, Became, Made, IsFail}
-use Rattle.sock_programs.specs.ToldCalls.{Accepted, Order, Fixed, AreOrders, StandsOn, Why, IsSent, InOwnOrder, IsFailing}
-use Rattle.sock_runs.specs.Sound.{state, Sound, AreFew, views_along}
+use Rattle.sock_programs.specs.Ticks.{Moment, quiet, ticked, broken_in}
+use Rattle.sock_programs.specs.Scripts.{all_tasks, opened, set_up, played, IsRunWithCalls}
+use Rattle.sock_programs.specs.Told.{AreTasks, IsTask}
+use Rattle.sock_programs.specs.ToldCalls.{Accepted, Order, Fixed, AreOrders, IsSent, InOwnOrder, IsFailing}
+use Rattle.sock_runs.specs.Sound.{state}
 use Rattle.sock_runs.proofs.Along.{seat_rests}
 use Rattle.sock_runs.proofs.Bounded.{IsBounded}
 use Rattle.sock_runs.proofs.LinkTicks.{RetriesGo}
 use Rattle.sock_runs.proofs.Quiets.{run_seats, run_rests}
-use Rattle.sock_runs.proofs.Whole.{Begins, AreFittingIn, IsOwed, IsListed, closing_of, views_played, views_closed, views_ended, set_up_answered, end_answered, played_sound, closing_sound, closed_sound, ended_sound, rested_ahead, rested_idle, closed_ahead, recorded_closed}
-use Rattle.sock_causes.specs.Causes.{Asks}
+use Rattle.sock_runs.proofs.Whole.{Begins, AreFittingIn, IsOwed, IsListed, closing_of, views_played, views_closed, views_ended, end_answered, played_sound, closing_sound, closed_sound, ended_sound, rested_ahead, rested_idle, closed_ahead, recorded_closed}
 use Rattle.sock_causes.specs.Explains.{is_plain, plain_tasks}
 use Rattle.sock_causes.specs.Facts.{shown_in, broken_of_run, closed_before_ending, late_links_of_run, late_of_run, is_said_late, numbers_of, CallsFoundNone, ToldPlain, ToldSends}
 use Rattle.sock_causes.specs.Losses.{closed_at, lost_in}
@@ -101,7 +99,7 @@ clients_claim p [] i v e = absurd (some-ne-none v (sym e))
 clients_claim p (ts ∷ clients) zero v e = subst (λ (u : View). u.claims ≡ []) (some-injective (client_view p ts) v e) refl
 clients_claim p (ts ∷ clients) (suc i) v e = clients_claim p clients i v e
 
-opening_claims : (p : Plan) (clients : List (List Task)) (i : ℕ) (v : View) → get_elem? (opening_views p clients) i ≡ some v → v.claims ≡ []
+pub opening_claims : (p : Plan) (clients : List (List Task)) (i : ℕ) (v : View) → get_elem? (opening_views p clients) i ≡ some v → v.claims ≡ []
 opening_claims p [] i v e = absurd (some-ne-none v (sym e))
 opening_claims p (ts ∷ clients) zero v e = subst (λ (u : View). u.claims ≡ []) (some-injective (newcomer p (without_passes (links_of_all clients) (below p.links)) (511 - length clients)) v e) refl
 opening_claims p (ts ∷ clients) (suc i) v e = clients_claim p clients i v e
@@ -128,10 +126,10 @@ module _ (script : List Item) (made : AreMade script) (turns : List Turn) (core 
   abbrev fresh : (i : ℕ) (v : View) → get_elem? (first_views script) i ≡ some v → v.lists ≡ [] ∷ []
   fresh = opening_fresh (plan_of script) (all_seats (all_tasks script) (length (opens script)))
 
-  narrow : (id_plan_of script).slots ≤ 65536
+  pub narrow : (id_plan_of script).slots ≤ 65536
   narrow = let k = known script made turns core is in k.narrow
 
-  few_clients : length (all_tasks script) ≤ 32
+  pub few_clients : length (all_tasks script) ≤ 32
   few_clients = let k = known script made turns core is in k.few
 
   bare : (i : ℕ) (v : View) → get_elem? (first_views script) i ≡ some v → v.claims ≡ []
@@ -148,7 +146,7 @@ module _ (script : List Item) (made : AreMade script) (turns : List Turn) (core 
   few = lost_before script are vs begins fresh goes turns core is fits
 
   -- at words are those of the operations' own calls
-  abbrev labelled : AreLabelledIn (ids_of_run script made turns core is narrow few_clients) script turns core is
+  abbrev pub labelled : AreLabelledIn (ids_of_run script made turns core is narrow few_clients) script turns core is
   labelled = run_labelled script made turns core is narrow few_clients
 
   tells : ToldTasks (told_tasks_of script) core.outcomes (plan_of script) orders_of_run (lost_of_run script turns core is) few (late script are vs begins fresh goes turns core is fits)

@@ -1,22 +1,18 @@
 -- The story of a run up to its ending, and to its end; and what it tells. (As sock_causes has it, with the links that failed before the ending.)
-use Rattle.std.proofs.Common.{true, false, ◌≡◌, ℕ, zero, suc, ◌+◌, ◌<◌, arith, ◌⊎◌, inl, inr, ◌++◌, List, [], ◌∷◌, length, replicate, ⊎_elim, refl, sym, ap, ◌∙◌, subst}
-use Rattle.std.specs.Prelude.{◌&&◌, Bool, Option, Some, None, option_map, slice_get}
-use Rattle.std.specs.List.{AllByRecursion, filter_map, cons_option}
+use Rattle.std.proofs.Common.{true, false, ◌≡◌, ℕ, ◌+◌, ◌<◌, arith, ◌⊎◌, inl, inr, ◌++◌, List, [], ◌∷◌, length, replicate, ⊎_elim, refl, sym, ap, ◌∙◌, subst}
+use Rattle.std.specs.Prelude.{◌&&◌, Bool, Option, Some, None, slice_get}
 use mathlib.Core.Option.{some}
 use lib.ListN.{get_elem?}
 use Rattle.sock_words.specs.declared.plain.Plan.{Plan}
 use Rattle.sock_model.specs.declared.view.View.{View}
-use Rattle.brpc_model.specs.Items.{Item, Open, Send, Call, Expire, Join, Hold, Drop, Fail}
+use Rattle.brpc_model.specs.Items.{Item}
 use Rattle.brpc_model.specs.Operations.{Turn}
-use Rattle.sock_programs.specs.declared.task.Op.{Op}
 use Rattle.sock_programs.specs.declared.task.Task.{Task}
 use Rattle.sock_programs.specs.Cores.{Core}
 use Rattle.sock_programs.specs.Ticks.{quiet, run}
-use Rattle.sock_programs.specs.Tasks.{Numbered, numbered, of_client, op_of, task_of, opens, calls, plan_of, id_plan_of}
-use Rattle.sock_programs.specs.Scripts.{tasks_from, all_tasks, opened, set_up, played, IsRunWithCalls}
-use Rattle.sock_programs.specs.Drops.{MadeIn}
+use Rattle.sock_programs.specs.Tasks.{opens, calls, plan_of, id_plan_of}
+use Rattle.sock_programs.specs.Scripts.{all_tasks, opened, set_up, played, IsRunWithCalls}
 use Rattle.sock_programs.specs.Told.{AreTasks, TaskFits}
-use Rattle.brpc_model.specs.Places.{names}
 use Rattle.brpc_model.specs.Operations.{clients}
 use Rattle.sock_runs.specs.Sound.{views_along}
 use Rattle.sock_runs.proofs.LinkTicks.{RetriesGo}
@@ -27,8 +23,7 @@ use Rattle.sock_model.specs.Links.{Failed}
 use Rattle.sock_runs.specs.Sound.{state}
 use Rattle.std.specs.Prelude.{Contains}
 use Rattle.sock_causes.specs.Losses.{lost_in}
-use Rattle.sock_causes.specs.PlainTasks.{told_tasks_of, OwnsCall}
-use Rattle.sock_causes.specs.TaskCauses.{ToldTasks, DropsMade}
+use Rattle.sock_causes.specs.PlainTasks.{told_tasks_of}
 use Rattle.sock_causes.specs.Kept.{Story}
 use Rattle.sock_causes.proofs.Begin.{start_story}
 use Rattle.sock_causes.proofs.Final.{at_there}

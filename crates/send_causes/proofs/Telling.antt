@@ -1,5 +1,5 @@
 -- Where no seat has anything left to do, the story tells why each task has its outcome, and which links failed in time. (What sock_causes tells of the same story, with the links that failed before the late operations.)
-use Rattle.std.proofs.Common.{◌≡◌, ◌≢◌, ℕ, ◌+◌, ◌-◌, ◌%◌, ◌<◌, ◌⊎◌, Bool, true, false, List, inl, inr, ⊎_elim, sym, refl, ap, ◌∙◌, subst, arith}
+use Rattle.std.proofs.Common.{◌≡◌, ◌≢◌, ℕ, ◌+◌, ◌%◌, ◌<◌, ◌⊎◌, Bool, true, false, List, inl, inr, ⊎_elim, sym, refl, ap, ◌∙◌, subst, arith}
 use Rattle.std.specs.Prelude.{Option, Some, None, slice_get, slice_index, Contains}
 use Rattle.std.proofs.lemmas.List.{length-map}
 use mathlib.Core.Option.{some}
@@ -7,7 +7,6 @@ use lib.ListN.{get_elem?}
 use Rattle.sock_words.specs.Words.{socket_id_version, socket_id_slot, vref_version}
 use Rattle.sock_words.specs.declared.plain.Plan.{Plan}
 use Rattle.sock_words.specs.declared.outcome.Outcome.{Outcome}
-use Rattle.sock_words.specs.declared.outcome.Outcome.TheVariants.{Freed, Kept}
 use Rattle.sock_model.specs.declared.chain.Entry.{Entry}
 use Rattle.sock_model.specs.declared.chain.Heading.{Heading}
 use Rattle.sock_model.specs.declared.view.View.{View}
@@ -21,22 +20,21 @@ use Rattle.slot_laws.proofs.Numbers.{life_le}
 use Rattle.sock_programs.specs.declared.task.Task.{Task}
 use Rattle.sock_programs.specs.Calls.{SetOdd, ClaimRequest, LoadName}
 use Rattle.sock_programs.specs.Cores.{Core}
-use Rattle.sock_programs.specs.declared.task.Op.{Op}
 use Rattle.sock_programs.specs.declared.task.Op.TheVariants as ops
-use Rattle.sock_programs.specs.Told.{AreTasks, IsOpen, IsTask, Became, Made, IsFail}
+use Rattle.sock_programs.specs.Told.{AreTasks, IsTask, Became, Made, IsFail}
 use Rattle.sock_programs.specs.ToldCalls.{Accepted, Order, StandsAt}
 use Rattle.sock_runs.specs.GoesOn.{GoesOn, HasNothing}
 use Rattle.sock_runs.specs.Sound.{state, Sound, AllRest}
-use Rattle.sock_causes.specs.Stories.{Event, In, trace_of}
-use Rattle.sock_causes.specs.Explains.{step, Because, Explained, WonRecycling, GaveBackOnly}
+use Rattle.sock_causes.specs.Stories.{Event, In}
+use Rattle.sock_causes.specs.Explains.{step}
 use Rattle.sock_causes.specs.Causes.{Asks, WasGiven, WasFailed}
 use Rattle.sock_causes.specs.Kept.{is_of_send, IsSpoken, StaysUsed, Story}
-use Rattle.sock_causes.specs.TaskCauses.{ToldTasks, DropsMade, IsSent, InOwnOrder}
+use Rattle.sock_causes.specs.TaskCauses.{ToldTasks, IsSent, InOwnOrder}
 use Rattle.std.specs.List.{filter}
 use Rattle.std.specs.Prelude.{cond}
 use Rattle.std.proofs.Common.{suc, [], ◌∷◌}
 use Rattle.sock_causes.proofs.Members.{all_of, in_contains, from_trace, get_within}
-use Rattle.sock_causes.proofs.Tasks.{one_task, setup_opens, same_some}
+use Rattle.sock_causes.proofs.Tasks.{one_task}
 use Rattle.sock_causes.proofs.Sending.{Within}
 use Rattle.sock_causes.proofs.Broken.{good_more}
 use Rattle.sock_causes.proofs.Events.{event, BeforeIn, marked_fail, cause_of}

@@ -1,5 +1,5 @@
 -- Each tick keeps the law of attempts: none stands in two places, and none before it is made.
-use Rattle.std.proofs.Common.{◌≡◌, ◌≢◌, ℕ, zero, suc, ◌+◌, ◌*◌, ◌<◌, ◌≤◌, inl, inr, ⊎_elim, Bool, true, false, cond, eqb, eqb-true, eq-eqb, List, [], ◌∷◌, ◌++◌, length-set, get_or, set, refl, sym, ap, ◌∙◌, subst, arith}
+use Rattle.std.proofs.Common.{◌≡◌, ◌≢◌, ℕ, zero, suc, ◌+◌, ◌*◌, ◌<◌, ◌≤◌, ◌⊎◌, inl, inr, ⊎_elim, Bool, true, false, cond, eqb, eqb-true, eq-eqb, List, [], ◌∷◌, ◌++◌, length-set, get_or, set, refl, sym, ap, ◌∙◌, subst, arith}
 use Rattle.std.specs.List.{AllByRecursion}
 use Rattle.std.specs.Prelude as std
 use mathlib.Core.Logic.{dite}
@@ -41,7 +41,7 @@ use Rattle.sock_model.specs.ChainRows.{taken_right}
 use Rattle.label_runs.specs.Labels.{Trial, Idle, Tries, Sends, IsOfTrial, put_behind, Kept, AsideMove, Storing, unlocked_trial, FindsLabel, Labels}
 use Rattle.label_runs.proofs.Loops.{labels_round}
 use Rattle.label_runs.proofs.Programs.{block_goes, retry_goes}
-use Rattle.send_causes.specs.Counts.{pair_of, of_trial, of_retry, of_view, times_of, WasMade, ViewFits, TrialFits, IsOfCall, LabelLaw, StoresOwn}
+use Rattle.send_causes.specs.Counts.{pair_of, of_trial, of_retry, of_view, times_of, WasMade, WasNow, ViewFits, TrialFits, IsOfCall, LabelLaw, StoresOwn}
 use Rattle.send_causes.proofs.Words.{made_on, finds_label, words_forward, makes_new, advances_new}
 use Rattle.send_causes.proofs.Views.{put_of, row_count, rights_count, PutsFit, row_fits, rights_fit}
 
@@ -214,7 +214,7 @@ calls_behind is_call _ found a puts h = h
 
 -- ## Retries that wait
 
-calls_waiting : (step : Step) (found : Found step) (a : Calls) → (calls_after step found a).waiting ≡ a.waiting
+pub calls_waiting : (step : Step) (found : Found step) (a : Calls) → (calls_after step found a).waiting ≡ a.waiting
 calls_waiting (TakeBytes k room) (Bytes bytes) a = refl
 calls_waiting (TakeBytes k room) _ a = refl
 calls_waiting (ClaimId i) found a = refl
@@ -245,6 +245,8 @@ kept_fits ids t u (inr e) f = subst (TrialFits ids) (sym e) tt
 module _ (p : Plan) (q : IdPlan) (narrow : q.slots ≤ 65536) (is_call : Asked → Type 0) (ids : ℕ → ℕ) (c : Core) (vs : List View) (ts : List Trial) (law : LabelLaw is_call ids p q c vs ts) (us : List IdView) (real_ids : SoundIds p q c us) where
   abbrev pub After : Core → List View → Type 0
   After c' vs' = (ts' : List Trial) × LabelLaw is_call ids p q c' vs' ts'
+      -- what stands there stood there before, or is the attempt to which its id has come
+      × ((id n : ℕ) → 0 < times_of id n c' vs' ts' → (0 < times_of id n c vs ts) ⊎ WasNow q c'.calls.words id n)
 
   abbrev Times : ℕ → ℕ → ℕ
   Times id n = times_of id n c vs ts
@@ -260,7 +262,7 @@ module _ (p : Plan) (q : IdPlan) (narrow : q.slots ≤ 65536) (is_call : Asked �
       pub calls : AreCalls is_call a
       pub new : ℕ → ℕ → ℕ
       pub fewer : (id n : ℕ) → of_trial id n u + of_view id n w ≤ of_trial id n t + of_view id n v + new id n
-      pub fresh : (id n : ℕ) → 0 < new id n → (new id n ≤ 1) × (times_of id n c vs ts ≡ 0) × WasMade q a.words id n
+      pub fresh : (id n : ℕ) → 0 < new id n → (new id n ≤ 1) × (times_of id n c vs ts ≡ 0) × WasNow q a.words id n
 
     module _ (a : Calls) (x : Program) (hand : List Home) (ws : List ℕ) (hs : List (Option Home)) (u : Trial) (w : View) (g : Goes a x u w) where
       few : AreFew (waiting_at a.waiting i)
@@ -284,7 +286,7 @@ module _ (p : Plan) (q : IdPlan) (narrow : q.slots ≤ 65536) (is_call : Asked �
         record {
           once = λ id n. dite (ℕ_discrete (g.new id n) 0) (λ z. let b = bound id n in let o = law.once id n in omega (arith, b, z, o))
               (λ ne. let b = bound id n in let f = g.fresh id n (omega (arith, ne)) in let one = f.0 in let none_ = f.1 in omega (arith, b, one, none_));
-          made = λ id n some_. dite (ℕ_discrete (g.new id n) 0) (λ z. let b = bound id n in g.words id n (law.made id n (omega (arith, b, z, some_)))) (λ ne. (g.fresh id n (omega (arith, ne))).2);
+          made = λ id n some_. dite (ℕ_discrete (g.new id n) 0) (λ z. let b = bound id n in g.words id n (law.made id n (omega (arith, b, z, some_)))) (λ ne. let f = g.fresh id n (omega (arith, ne)) in (f.2.0, inr f.2.1));
           views = λ j y e. ⊎_elim (λ b. subst (ViewFits is_call ids p) b.1 g.view) (λ b. law.views j y b.1) (at_set vs i j w y e);
           trials = λ j y e. ⊎_elim (λ b. subst (TrialFits ids) b.1 (r.fits g.fits)) (λ b. law.trials j y b.1) (at_set ts i j r.trial y e);
           calls = g.calls;
@@ -293,6 +295,7 @@ module _ (p : Plan) (q : IdPlan) (narrow : q.slots ≤ 65536) (is_call : Asked �
               (λ b. ⊎_elim (λ d. subst (λ (z : SeatState). Labels is_call y z.program) b.1 (subst (λ z. Labels is_call z next_seat.program) d.1 r.labels)) (λ d. absurd (d.0 b.0)) (at_set ts i j r.trial y et))
               (λ b. ⊎_elim (λ d. absurd (b.0 d.0)) (λ d. law.programs j s' y b.1 d.1) (at_set ts i j r.trial y et)) (at_set c.seats i j next_seat s' es);
         },
+        λ id n some_. dite (ℕ_discrete (g.new id n) 0) (λ z. inl (let b = bound id n in omega (arith, b, z, some_))) (λ ne. inr (g.fresh id n (omega (arith, ne))).2),
       )
 
     fits_view : ViewFits is_call ids p v
@@ -401,7 +404,7 @@ module _ (p : Plan) (q : IdPlan) (narrow : q.slots ≤ 65536) (is_call : Asked �
         keeps w k g = still w g (kept_fits ids t w k fits_trial) (λ id n. kept_count id n t w k)
 
         -- a new attempt
-        makes : (id₀ n₀ : ℕ) → Labels is_call (Tries id₀ n₀) (next found) → WasMade q (calls_after step found c.calls).words id₀ n₀ → (WasMade q c.calls.words id₀ n₀ → ⊥) → Ends
+        makes : (id₀ n₀ : ℕ) → Labels is_call (Tries id₀ n₀) (next found) → WasNow q (calls_after step found c.calls).words id₀ n₀ → (WasMade q c.calls.words id₀ n₀ → ⊥) → Ends
         makes id₀ n₀ g made unmade = subst (λ xs. After (with_seat i (next found) seat.hand c.words c.homes (record c { calls = calls_after step found c.calls })) xs) (set_again vs i v at_view)
             (goes_on (calls_after step found c.calls) (next found) seat.hand c.words c.homes (Tries id₀ n₀) v record {
               labels = g;
@@ -415,7 +418,7 @@ module _ (p : Plan) (q : IdPlan) (narrow : q.slots ≤ 65536) (is_call : Asked �
               fresh = λ id n some_. let same = pair_same id n id₀ n₀ some_ in (
                 pair_one id n id₀ n₀,
                 dite (ℕ_discrete (times_of id n c vs ts) 0) (λ z. z) (λ ne. absurd (unmade (subst (λ x. WasMade q c.calls.words x n₀) (sym same.0) (subst (WasMade q c.calls.words id) (sym same.1) (law.made id n (omega (arith, ne))))))),
-                subst (λ x. WasMade q (calls_after step found c.calls).words x n) same.0 (subst (WasMade q (calls_after step found c.calls).words id₀) same.1 made),
+                subst (λ x. WasNow q (calls_after step found c.calls).words x n) same.0 (subst (WasNow q (calls_after step found c.calls).words id₀) same.1 made),
               );
             })
 
@@ -473,7 +476,7 @@ module _ (p : Plan) (q : IdPlan) (narrow : q.slots ≤ 65536) (is_call : Asked �
     may_as seat at x is = let u = view_of seat at in subst (IdGoesOn p q u.0) is (ids_first p q narrow u.0 seat.program (real_ids.seats m.seat seat u.0 at u.1))
 
     pub label_ticks : After (ticked p c m) (views_after p c vs m)
-    label_ticks = tick_cases p c vs m sound answered After (ts, law)
+    label_ticks = tick_cases p c vs m sound answered After (ts, law, λ id n some_. inl some_)
         (λ seat v call next at here is goes. let t = trial_of seat at in steps m.seat seat v t.0 at here t.1 call next goes.0 (first_as seat at (Do call next) is) (fits_as p c seat.program call next is (fitting seat at)))
         (λ seat v r next heading bytes at here is goes. let t = trial_of seat at in let w = right_rights v v.rights (λ x. taken_right x heading bytes) in
         moves m.seat seat v t.0 at here t.1 (next heading bytes) seat.hand (set c.homes r none) (took_message heading bytes v) w.0 w.1 (first_as seat at (TakeMessage r next) is heading bytes))

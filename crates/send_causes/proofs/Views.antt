@@ -25,7 +25,7 @@ use Rattle.sock_causes.proofs.Tests.{split}
 use Rattle.send_causes.specs.Counts.{of_heading, of_claim, of_entry, of_view, HeadFits, ClaimFits, EntryFits, ViewFits}
 
 -- a step on claims or accepted messages
-abbrev is_claiming : Call → Bool
+abbrev pub is_claiming : Call → Bool
 is_claiming (ClaimRequest id q) = true
 is_claiming (PutMessage q heading bytes) = true
 is_claiming (Unconnect q) = true
@@ -33,7 +33,7 @@ is_claiming (SwapHead i own) = true
 is_claiming other = false
 
 module _ (v : View) where
-  abbrev Same : View → Type 0
+  abbrev pub Same : View → Type 0
   Same u = (u.claims ≡ v.claims) × (u.lists ≡ v.lists)
 
   reads : (found : ℕ) (r : Right) (stage : Stage) → Same (read_next found v r stage)
@@ -54,7 +54,7 @@ module _ (v : View) where
   drops r _ = (refl, refl)
 
   module _ (p : Plan) (found : ℕ) (hand : Hand) where
-    row_same : (call : Call) → is_claiming call ≡ false → Same (row p call found hand v)
+    pub row_same : (call : Call) → is_claiming call ≡ false → Same (row p call found hand v)
     row_same (ClaimSlot i) n = (refl, refl)
     row_same (GiveBirth i k) n = (refl, refl)
     row_same (AddRef id) n = (refl, refl)

@@ -23,7 +23,7 @@ use Rattle.sock_programs.specs.Beside.{found_in, calls_after}
 use Rattle.sock_programs.specs.Cores.{Core}
 use Rattle.sock_programs.specs.Posts.{packed, advance_of}
 use Rattle.label_runs.specs.Labels.{FindsLabel}
-use Rattle.send_causes.specs.Counts.{word_of_id, WasMade}
+use Rattle.send_causes.specs.Counts.{word_of_id, WasMade, WasNow}
 
 abbrev pub AnyCall : Asked → Type 0
 AnyCall asked = Unit {0}
@@ -179,17 +179,17 @@ module _ (p : Plan) (q : IdPlan) (c : Core) (us : List IdView) (ids : SoundIds p
 
   -- a new range begins with attempt 0, and none of it was made before
   pub makes_new : (k range found : ℕ) → some (Word k) ≡ some found → MayId p q u (MakeId k range) → FindsId p q u (MakeId k range) found
-      → WasMade q (calls_after (MakeId k range) found c.calls).words (call_id k (parts found).first) 0 × ((m : ℕ) → WasMade q c.calls.words (call_id k (parts found).first) m → ⊥)
+      → WasNow q (calls_after (MakeId k range) found c.calls).words (call_id k (parts found).first) 0 × ((m : ℕ) → WasMade q c.calls.words (call_id k (parts found).first) m → ⊥)
   makes_new k range found is may f = by found (some-injective (Word k) found is) f.1
     where
       by : (found : ℕ) → Word k ≡ found → (parts found).first ≤ 67108856
-          → WasMade q (set c.calls.words (id_word k) (packed (made_word (parts found).first range))) (call_id k (parts found).first) 0 × ((m : ℕ) → WasMade q c.calls.words (call_id k (parts found).first) m → ⊥)
+          → WasNow q (set c.calls.words (id_word k) (packed (made_word (parts found).first range))) (call_id k (parts found).first) 0 × ((m : ℕ) → WasMade q c.calls.words (call_id k (parts found).first) m → ⊥)
       by found e small = let id : ℕ = call_id k (parts found).first in let slot : id_slot (call_id k (parts found).first) ≡ k = omega (arith, small) in let first : id_first (call_id k (parts found).first) ≡ (parts found).first = omega (arith, small) in
           let inside : k < q.slots = may.0 in let new_word : parts (get_or (set c.calls.words (id_word k) (packed (made_word (parts found).first range))) (id_word k) 0) ≡ made_word (parts found).first range
           = ap parts (get_or-set_same c.calls.words (id_word k) (packed (made_word (parts found).first range)) 0 (omega (arith, sized, inside))) ∙ made_is (parts found).first range may.2 may.3 in (
             (
               subst (λ x. x < q.slots) (sym slot) inside,
-              inr (subst (λ x. ((word_of_id (set c.calls.words (id_word k) (packed (made_word (parts found).first range))) x).first ≡ id_first (call_id k (parts found).first))
+              (subst (λ x. ((word_of_id (set c.calls.words (id_word k) (packed (made_word (parts found).first range))) x).first ≡ id_first (call_id k (parts found).first))
                   × (0 < (word_of_id (set c.calls.words (id_word k) (packed (made_word (parts found).first range))) x).state) × (0 ≤ (word_of_id (set c.calls.words (id_word k) (packed (made_word (parts found).first range))) x).attempt)) (sym slot)
                   (ap (λ (w : Parts). w.first) new_word ∙ sym first, subst (λ (w : Parts). 0 < w.state) (sym new_word) (omega arith), omega arith)),
             ),
@@ -201,10 +201,10 @@ module _ (p : Plan) (q : IdPlan) (c : Core) (us : List IdView) (ids : SoundIds p
 
   -- an advance makes the next attempt, and it wasn't made before
   pub advances_new : (k from found : ℕ) → some (Word k) ≡ some found → found ≡ from → MayId p q u (UnlockId k from true) → FindsLabel AnyCall (UnlockId k from true) found
-      → WasMade q (calls_after (UnlockId k from true) found c.calls).words (call_id k (parts from).first) ((parts from).attempt + 1) × (WasMade q c.calls.words (call_id k (parts from).first) ((parts from).attempt + 1) → ⊥)
+      → WasNow q (calls_after (UnlockId k from true) found c.calls).words (call_id k (parts from).first) ((parts from).attempt + 1) × (WasMade q c.calls.words (call_id k (parts from).first) ((parts from).attempt + 1) → ⊥)
   advances_new k from found is same may l = by (sym (some-injective (Word k) found is ∙ same)) found same
     where
-      by : from ≡ Word k → (found : ℕ) → found ≡ from → WasMade q (set c.calls.words (id_word k) (cond (eqb found from) (packed (unlocked_word (parts from) 1)) found)) (call_id k (parts from).first) ((parts from).attempt + 1)
+      by : from ≡ Word k → (found : ℕ) → found ≡ from → WasNow q (set c.calls.words (id_word k) (cond (eqb found from) (packed (unlocked_word (parts from) 1)) found)) (call_id k (parts from).first) ((parts from).attempt + 1)
           × (WasMade q c.calls.words (call_id k (parts from).first) ((parts from).attempt + 1) → ⊥)
       by e found same = let low = l.0 in let few = l.1 in let inside : k < q.slots = may.0 in
           let slot : id_slot (call_id k (parts from).first) ≡ k = omega (arith, low) in let first : id_first (call_id k (parts from).first) ≡ (parts from).first = omega (arith, low) in
@@ -214,7 +214,7 @@ module _ (p : Plan) (q : IdPlan) (c : Core) (us : List IdView) (ids : SoundIds p
           let some_more = state_some (eqb (parts from).oldest 0) in (
             (
               subst (λ x. x < q.slots) (sym slot) inside,
-              inr (subst (λ x. ((word_of_id (set c.calls.words (id_word k) (cond (eqb found from) (packed (unlocked_word (parts from) 1)) found)) x).first ≡ id_first (call_id k (parts from).first))
+              (subst (λ x. ((word_of_id (set c.calls.words (id_word k) (cond (eqb found from) (packed (unlocked_word (parts from) 1)) found)) x).first ≡ id_first (call_id k (parts from).first))
                   × (0 < (word_of_id (set c.calls.words (id_word k) (cond (eqb found from) (packed (unlocked_word (parts from) 1)) found)) x).state) × ((parts from).attempt + 1 ≤ (word_of_id (set c.calls.words (id_word k) (cond (eqb found from) (packed (unlocked_word (parts from) 1)) found)) x).attempt)) (sym slot)
                   (ap (λ (w : Parts). w.first) new_word ∙ sym first, subst (λ (w : Parts). 0 < w.state) (sym new_word) some_more, subst (λ (w : Parts). (parts from).attempt + 1 ≤ w.attempt) (sym new_word) (omega arith))),
             ),

@@ -64,6 +64,10 @@ abbrev pub WasMade : IdPlan → List ℕ → ℕ → ℕ → Type 0
 WasMade q ws id n = (id_slot id < q.slots) × ((id_first id < (word_of_id ws (id_slot id)).first)
     ⊎ (((word_of_id ws (id_slot id)).first ≡ id_first id) × (0 < (word_of_id ws (id_slot id)).state) × (n ≤ (word_of_id ws (id_slot id)).attempt)))
 
+-- the range of this id has begun, and has come to this attempt
+abbrev pub WasNow : IdPlan → List ℕ → ℕ → ℕ → Type 0
+WasNow q ws id n = (id_slot id < q.slots) × (((word_of_id ws (id_slot id)).first ≡ id_first id) × (0 < (word_of_id ws (id_slot id)).state) × (n ≤ (word_of_id ws (id_slot id)).attempt))
+
 -- ## The law
 
 -- each operation's call has one id
