@@ -21,7 +21,7 @@ use Rattle.sock_programs.specs.Cores.{Core}
 use Rattle.sock_programs.specs.Tasks.{opens, plan_of, id_plan_of}
 use Rattle.sock_programs.specs.Scripts.{IsRunWithCalls, all_tasks, place_words}
 use Rattle.sock_programs.specs.Told.{AreTasks, IsTask}
-use Rattle.sock_programs.specs.ToldCalls.{Accepted, Order, Fixed, AreOrders, IsSent, OfSend, OfCall, StandsAt, label}
+use Rattle.sock_programs.specs.ToldCalls.{Accepted, Order, Fixed, AreOrders, IsSent, InOwnOrder, OfSend, OfCall, StandsAt, label}
 use Rattle.sock_runs.proofs.LinkTicks.{RetriesGo}
 use Rattle.sock_runs.proofs.Whole.{AreFittingIn, IsOwed}
 use Rattle.client_laws.specs.Openings.{opening_views, all_seats, client_view, without_passes, links_of_all}
@@ -38,6 +38,7 @@ use Rattle.sock_causes.proofs.Lifted.{task_down}
 use Rattle.sock_causes.proofs.Scripts as causes
 use Rattle.sock_causes.proofs.Scripts.{lost_of_run, run_told}
 use Rattle.send_causes.specs.Sent.{IsAttempt}
+use Rattle.send_causes.proofs.FirstRuns.{run_own_order}
 use Rattle.send_causes.proofs.Labelled.{ids_of_run, run_labelled}
 use Rattle.send_causes.proofs.Whole.{run_orders, run_sent}
 use Rattle.call_causes.specs.Target.{IsOnCalls, ToldOnCallsInPart}
@@ -121,6 +122,9 @@ module _ (bytes : List ℕ) (script : List Item) (reads : script_of bytes ≡ Ok
   pub sent : (fixed : Fixed) (last : ℕ → ℕ) (k : ℕ) → k < length (link_names script) → AllByRecursion (λ (a : Accepted). IsSent (plan_of script) (all_tasks script) core.outcomes fixed (gave_in core) orders_of_run last k a ⊎ IsAttempt ids (all_tasks script) core.outcomes a) (orders_of_run k).accepted
   sent fixed last k low = run_sent script are (first_views script) (starts bytes script reads) fresh go turns core is fits owed narrow bare (ids_of_run script (made bytes script reads) turns core is narrow few_clients) (run_labelled script (made bytes script reads) turns core is narrow few_clients) fixed (gave_in core) last k low
 
+  own_order : (fixed : Fixed) (k : ℕ) → k < length (link_names script) → EachBefore (InOwnOrder (plan_of script) (all_tasks script) core.outcomes fixed (gave_in core) orders_of_run) (orders_of_run k).accepted
+  own_order fixed k low = run_own_order script are (first_views script) (starts bytes script reads) go turns core is fits (λ i v at. (bare i v at, fresh i v at)) fixed (gave_in core) orders_of_run k
+
   pub told_plain : ToldTasks (told_tasks_of script) core.outcomes (plan_of script) orders_of_run (lost_of_run script turns core is) (lost_before script turns core is) (λ o. is_said_late script turns core is o ≡ true)
   told_plain = run_told script are (first_views script) (starts bytes script reads) fresh go turns core is fits owed
 
@@ -128,7 +132,7 @@ module _ (bytes : List ℕ) (script : List Item) (reads : script_of bytes ≡ Ok
   on_calls fixed last = run_told_in_part script (made bytes script reads) (are_there bytes script reads) ((is_counted bytes script reads).in_range) turns core is (λ k. []) closes fixed orders_of_run last
 
   pub causes_known : CausesKnown script turns core is
-  causes_known = record { orders = orders_of_run; are_orders = are_orders; ids = ids; sent = sent; plain = told_plain; on_calls = on_calls }
+  causes_known = record { orders = orders_of_run; are_orders = are_orders; ids = ids; sent = sent; own_order = own_order; plain = told_plain; on_calls = on_calls }
 
   -- ## The place words
 

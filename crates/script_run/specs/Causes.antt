@@ -4,13 +4,14 @@ use Rattle.std.specs.List.{AllByRecursion}
 use Rattle.brpc_model.specs.Items.{Item}
 use Rattle.brpc_model.specs.Operations.{Turn, link_names}
 use Rattle.brpc_model.specs.Causes.{HasFault, reading_limit}
+use Rattle.brpc_model.specs.Order.{EachBefore}
 use Rattle.brpc_model.specs.Run.{nothing_late}
 use Rattle.sock_programs.specs.Asides.{AtEnd, Closed, Broken}
 use Rattle.sock_programs.specs.Cores.{Core}
 use Rattle.sock_programs.specs.Ticks.{quiet, broken_in}
 use Rattle.sock_programs.specs.Tasks.{plan_of}
 use Rattle.sock_programs.specs.Scripts.{IsRunWithCalls, all_tasks, is_callless, opened, set_up}
-use Rattle.sock_programs.specs.ToldCalls.{Accepted, Fixed, Order, AreOrders, IsSent, ToldCalls}
+use Rattle.sock_programs.specs.ToldCalls.{Accepted, Fixed, Order, AreOrders, IsSent, InOwnOrder, ToldCalls}
 use Rattle.report_fits.proofs.Places.{lateness}
 use Rattle.sock_causes.specs.PlainTasks.{told_tasks_of}
 use Rattle.sock_causes.specs.Facts.{is_said_late}
@@ -51,6 +52,8 @@ pub record CausesKnown (script : List Item) (turns : List Turn) (core : Core) (r
   -- operation's id, whatever the last attempts are
   pub ids : ℕ → ℕ
   pub sent : (fixed : Fixed) (last : ℕ → ℕ) (k : ℕ) → k < length (link_names script) → AllByRecursion (λ (a : Accepted). IsSent (plan_of script) (all_tasks script) core.outcomes fixed (gave_in core) orders last k a ⊎ IsAttempt ids (all_tasks script) core.outcomes a) (orders k).accepted
+  -- of each client they accepted sends and first attempts in the order of its operations
+  pub own_order : (fixed : Fixed) (k : ℕ) → k < length (link_names script) → EachBefore (InOwnOrder (plan_of script) (all_tasks script) core.outcomes fixed (gave_in core) orders) (orders k).accepted
   -- `open`, `send`, `hold`, `drop` and `fail`
   pub plain : ToldTasks (told_tasks_of script) core.outcomes (plan_of script) orders (lost_of_run script turns core run) (lost_before script turns core run) (λ o. is_said_late script turns core run o ≡ true)
   -- `call`, `expire` and `join`, whatever else the run fixes
