@@ -374,7 +374,7 @@ module _ (script : List Item) (are : AreTasks (plan_of script) (all_tasks script
       own_before : (i m n : ℕ) (d e : Entry) → HasSent (views_ended script turns core is vs) i m d → HasSent (views_ended script turns core is vs) i n e → m < n → OwnOrder (accepted_of d) (accepted_of e)
       own_before i m n d e x y l c t u it iu td ue zt zu = let g = view_ended i x.view x.here in
           let less = before_get EntriesBefore g.made m n d e g.ordered (sent_in (views_ended script turns core is vs) i m d x.view g.made x x.here g.lists)
-              (sent_in (views_ended script turns core is vs) i n e x.view g.made y x.here g.lists) l zt zu in omega (arith, less, td, ue)
+          (sent_in (views_ended script turns core is vs) i n e x.view g.made y x.here g.lists) l zt zu in omega (arith, less, td, ue)
 
       other_before : (i k m n : ℕ) (d e : Entry) → i ≢ k → HasSent (views_ended script turns core is vs) i m d → HasSent (views_ended script turns core is vs) k n e → OwnOrder (accepted_of d) (accepted_of e)
       other_before i k m n d e far x y c t u it iu td ue zt zu = let a = own_of i m d x zt in let b = own_of k n e y zu in

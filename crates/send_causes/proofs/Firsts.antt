@@ -51,7 +51,6 @@ use Rattle.sock_runs.proofs.Passes.{goes_round}
 use Rattle.sock_runs.proofs.Ticks.{sound_ticks}
 use Rattle.whole_runs.specs.Heard.{taken_link}
 
-
 -- the number from which on the operations are free behind this message
 abbrev pub behind : Heading → ℕ → ℕ
 behind h low = cond (eqb h.attempt 0) (h.operation + 1) low
