@@ -1,4 +1,4 @@
-//! Runs a script without calls on the machine, by its own schedule or a drawn one, over links that it opens and gives
+//! Runs a script on the machine, by its own schedule or a drawn one, over links that it opens and gives
 //! back, and prints the report.
 #![tactic(auto)]
 
@@ -7,6 +7,8 @@ mod report;
 mod run;
 mod said;
 mod schedule;
+#[cfg(test)]
+mod tests;
 
 pub use links::spec_of;
 pub use run::{RunFault, run_script};
