@@ -1,22 +1,16 @@
 -- What a whole run of a script with calls tells of its other tasks, and of what its links accepted.
-use Rattle.std.proofs.Common.{◌≡◌, ℕ, ◌<◌, ◌≤◌, ◌⊎◌, true, List, ◌++◌, length, Ok}
+use Rattle.std.proofs.Common.{◌≡◌, ℕ, ◌<◌, ◌⊎◌, List, ◌++◌, length, Ok}
 use Rattle.std.specs.Prelude.{Contains}
 use Rattle.std.specs.List.{AllByRecursion}
-use lib.ListN.{get_elem?}
-use mathlib.Core.Option.{some}
-use Rattle.sock_model.specs.declared.view.View.{View}
 use Rattle.sock_model.specs.Links.{Failed}
-use Rattle.brpc_model.specs.Causes.{HasFault, reading_limit}
 use Rattle.brpc_model.specs.Items.{Item}
-use Rattle.brpc_model.specs.Operations.{Turn, link_names}
+use Rattle.brpc_model.specs.Operations.{Turn}
 use Rattle.brpc_model.specs.Order.{EachBefore}
 use Rattle.brpc_model.specs.Script.{script_of}
-use Rattle.sock_programs.specs.Asides.{AtEnd, Closed, Broken}
 use Rattle.sock_programs.specs.Cores.{Core}
-use Rattle.sock_programs.specs.Tasks.{opens, plan_of, id_plan_of}
-use Rattle.sock_programs.specs.Ticks.{broken_in}
-use Rattle.sock_programs.specs.Scripts.{all_tasks, set_up, played, IsRunWithCalls}
-use Rattle.sock_programs.specs.ToldCalls.{Accepted, Order, Fixed, AreOrders, IsSent, InOwnOrder, IsFailing}
+use Rattle.sock_programs.specs.Tasks.{opens, plan_of}
+use Rattle.sock_programs.specs.Scripts.{all_tasks, played, IsRunWithCalls}
+use Rattle.sock_programs.specs.ToldCalls.{Accepted, Order, Fixed, IsSent, InOwnOrder, IsFailing}
 use Rattle.sock_runs.specs.Sound.{state}
 use Rattle.sock_runs.proofs.Whole.{views_played}
 use Rattle.sock_causes.specs.Facts.{CallsFoundNone, ToldPlain, last_attempt, closed_before_ending}
@@ -31,9 +25,8 @@ use Rattle.send_causes.specs.Sent.{IsAttempt}
 use Rattle.send_causes.proofs.Early.{start, go, fitting, closed_so, closed_early}
 use Rattle.send_causes.proofs.FirstRuns.{run_own_order}
 use Rattle.send_causes.proofs.Labelled.{ids_of_run}
-use Rattle.send_causes.proofs.Lists.{early_listed, early_shown, closed_shown}
-use Rattle.send_causes.proofs.Plain.{broken_shown}
-use Rattle.send_causes.proofs.Sends.{fixed, fails_of_run, owed, orders_of_run, orders_are, narrow, few_clients, labelled, opening_claims, told_plain, failing_early}
+use Rattle.send_causes.proofs.Lists.{early_listed}
+use Rattle.send_causes.proofs.Sends.{fixed, owed, orders_of_run, narrow, few_clients, labelled, opening_claims, told_plain, failing_early}
 use Rattle.send_causes.proofs.Whole.{run_sent}
 
 module _ (script : List Item) (made : AreMade script) (turns : List Turn) (core : Core) (is : IsRunWithCalls script turns core) (closes : ClosesInRun script turns core is) where

@@ -1,5 +1,5 @@
 -- In a whole run each client has its sends and first attempts accepted in the order of its operations.
-use Rattle.std.proofs.Common.{◌≡◌, ◌≢◌, ℕ, zero, suc, ◌+◌, ◌-◌, ◌%◌, ◌<◌, ◌≤◌, ◌==◌, Bool, true, false, cond, eqb, eq-eqb, ne_eqb, nat_lt, List, [], ◌∷◌, ◌++◌, length, map, replicate, get_or, set, get_or-set_other, inl, inr, ⊎_elim, refl, sym, ap, ◌∙◌, subst, arith}
+use Rattle.std.proofs.Common.{◌≡◌, ◌≢◌, ℕ, zero, suc, ◌+◌, ◌-◌, ◌%◌, ◌<◌, ◌≤◌, ◌==◌, true, false, cond, eq-eqb, ne_eqb, nat_lt, List, [], ◌∷◌, ◌++◌, length, replicate, get_or, set, get_or-set_other, ⊎_elim, refl, sym, ap, ◌∙◌, subst, arith}
 use Rattle.std.proofs.lemmas.Bool.{true≢false}
 use Rattle.std.specs.List.{AllByRecursion}
 use Rattle.std.specs.Prelude.{slice_get, Some}
@@ -12,7 +12,6 @@ use Rattle.brpc_model.specs.Items.{Item}
 use Rattle.brpc_model.specs.Operations.{Turn, clients}
 use Rattle.brpc_model.specs.Order.{EachBefore}
 use Rattle.sock_words.specs.declared.plain.Plan.{Plan}
-use Rattle.corr_core.specs.declared.marks.Plan.{Plan as IdPlan}
 use Rattle.sock_model.specs.declared.chain.Claim.{Claim}
 use Rattle.sock_model.specs.declared.chain.Entry.{Entry}
 use Rattle.sock_model.specs.declared.chain.Heading.{Heading}
@@ -24,7 +23,6 @@ use Rattle.sock_model.specs.ChainRows.{with_claim, entry_of, more, queued, right
 use Rattle.sock_model.specs.Memory.{IDLE}
 use Rattle.sock_programs.specs.declared.task.Sizes.{Sizes}
 use Rattle.sock_programs.specs.declared.task.Task.{Task}
-use Rattle.sock_programs.specs.Asides.{Step, Found}
 use Rattle.sock_programs.specs.Beside.{calls_after}
 use Rattle.sock_programs.specs.Calls.{Call, ClaimRequest, PutMessage, Unconnect, SwapHead}
 use Rattle.sock_programs.specs.Clients.{client_from, ending_of}
@@ -32,7 +30,7 @@ use Rattle.sock_programs.specs.Cores.{Calls, Core, SeatState, word_of, found_at,
 use Rattle.sock_programs.specs.Heads.{Retry}
 use Rattle.sock_programs.specs.Programs.{Program, Do, TakeMessage, TakeHome, PutHome, PutBytes, AskReady, Aside, Rest}
 use Rattle.sock_programs.specs.Readers.{reader}
-use Rattle.sock_programs.specs.Scripts.{sizes_of, programs, readers_from, all_programs, all_tasks, beginning, opened, set_up, is_ending, IsRunWithCalls}
+use Rattle.sock_programs.specs.Scripts.{sizes_of, programs, readers_from, all_programs, all_tasks, opened, set_up, is_ending, IsRunWithCalls}
 use Rattle.sock_programs.specs.Tasks.{opens, calls, plan_of, id_plan_of}
 use Rattle.sock_programs.specs.Ticks.{Moment, IsAnswered, AreAnswered, fed, with_places, onto_first, quiet, ticked, run}
 use Rattle.sock_programs.specs.Told.{AreTasks, IsTask}
@@ -48,13 +46,11 @@ use Rattle.sock_runs.proofs.Ticks.{sound_ticks}
 use Rattle.sock_runs.proofs.Whole.{Begins, AreFittingIn, closing_of, rested_of, views_played, views_closed, views_ended, set_up_answered, end_answered, set_up_sound, closing_sound, closed_sound, ended_sound}
 use Rattle.sock_causes.specs.Causes.{Asks}
 use Rattle.sock_causes.specs.PlainTasks.{OwnsCall}
-use Rattle.sock_causes.specs.Stories.{In}
 use Rattle.sock_causes.proofs.Cases.{tick_cases}
 use Rattle.sock_causes.proofs.Delivered.{accepted_of, orders_of}
 use Rattle.sock_causes.proofs.Members.{all_in, all_of, contains_in}
 use Rattle.sock_causes.proofs.Messages.{in_of_at}
 use Rattle.sock_causes.proofs.Scripts.{own_from}
-use Rattle.sock_causes.proofs.Seats.{Less}
 use Rattle.sock_causes.proofs.Senders.{HasSent, sent_in, each_before}
 use Rattle.sock_causes.proofs.Tasks.{one_task, sorted_of}
 use Rattle.sock_causes.proofs.Tests.{split}

@@ -1,5 +1,5 @@
 -- The lists of links whose readings ended in a run are those that the takes of the links show.
-use Rattle.std.proofs.Common.{◌≡◌, ℕ, zero, suc, ◌+◌, ◌-◌, ◌<◌, ◌≤◌, ◌==◌, ◌&&◌, ◌||◌, ◌⊎◌, Bool, true, false, cond, eqb, eq-eqb, nat_le, leb-true, le-leb, List, [], ◌∷◌, ◌++◌, length, map, replicate, inl, inr, ⊎_elim, Ok, refl, sym, ap, ◌∙◌, subst, arith}
+use Rattle.std.proofs.Common.{◌≡◌, ℕ, zero, suc, ◌+◌, ◌<◌, ◌≤◌, ◌==◌, ◌&&◌, ◌||◌, ◌⊎◌, Bool, true, false, cond, nat_le, leb-true, le-leb, List, [], ◌∷◌, ◌++◌, length, map, replicate, inl, inr, ⊎_elim, Ok, refl, sym, ap, ◌∙◌, subst, arith}
 use Rattle.std.proofs.lemmas.Bool.{true≢false}
 use Rattle.std.specs.Prelude.{Contains}
 use Rattle.std.specs.List.{filter, list_any}
@@ -30,7 +30,7 @@ use Rattle.whole_runs.proofs.Gave.{gave_heard}
 use Rattle.whole_runs.proofs.HeardRuns.{taken_append}
 use Rattle.call_causes.specs.Lists.{Take, takes_by, takes_at, given, shows_in, is_last, is_closed, found_so, is_fault, early_of_run, closed_of_run}
 use Rattle.send_causes.proofs.Early.{EndedBy}
-use Rattle.send_causes.proofs.Readings.{IsTake, takes_or_not}
+use Rattle.send_causes.proofs.Readings.{takes_or_not}
 
 any_append : {A : Type 0} (f : A → Bool) (xs ys : List A) → list_any f (xs ++ ys) ≡ (list_any f xs || list_any f ys)
 any_append f [] ys = refl
