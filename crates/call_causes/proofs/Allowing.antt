@@ -1,12 +1,11 @@
 -- The step of each seat is one of the table of the sockets.
-use Rattle.std.proofs.Common.{◌≡◌, ℕ, ◌<◌, List, refl}
-use mathlib.Core.Option.{Option, none, some}
+use Rattle.std.proofs.Common.{◌≡◌, List}
+use mathlib.Core.Option.{some}
 use lib.ListN.{get_elem?}
-use Rattle.sock_words.specs.Words.{socket_id_slot}
 use Rattle.sock_words.specs.declared.plain.Plan.{Plan}
 use Rattle.sock_model.specs.declared.view.View.{View}
 use Rattle.sock_programs.specs.Calls.{Call, ClaimSlot, GiveBirth, AddRef, SubRef, SetOdd, Recycle, FreeSlot, StoreLink, LoadLink, ResetHead, WipeCode, StoreCode, StoreName, LoadName, LookWord, FindLink, LoadCode, SwapHead, EmptyHead}
-use Rattle.sock_programs.specs.Programs.{Program, Do, Say, Sent, Rest, TakeMessage, TakeHome, PutHome, PutBytes, AskReady, Write, Aside, Round, Keep, Retries}
+use Rattle.sock_programs.specs.Programs.{Program, Do, Write, Round}
 use Rattle.sock_programs.specs.Sends.{block}
 use Rattle.sock_programs.specs.Rounds.{round}
 use Rattle.sock_programs.specs.Cores.{Core}
@@ -18,8 +17,6 @@ use Rattle.sock_runs.proofs.Cases as cases
 use Rattle.sock_runs.proofs.Rounds.{begins_round}
 use Rattle.sock_runs.proofs.Passes.{goes_round}
 use Rattle.id_runs.specs.Goes as goes
-use Rattle.corr_core.specs.declared.marks.Plan.{Plan as IdPlan}
-use Rattle.sock_programs.specs.declared.task.Task.{Task}
 use Rattle.call_causes.proofs.SockWords.{IsInside}
 use Rattle.call_causes.proofs.Ticks.{other_there, AllowsDo}
 

@@ -40,17 +40,17 @@ one_call bs all some_ id a c x y = ⊎_elim (λ same. ap (λ (b : Birth). b.aske
     ⊎_elim (λ t. ⊎_elim (λ s. omega (arith, s, u)) (λ s. omega (arith, s, v)) t.0) (λ t. ⊎_elim (λ s. omega (arith, s, v)) (λ s. omega (arith, s, u)) t.0) z))
     (two_of bs all (record { id = id; asked = a }) (record { id = id; asked = c }) x y)
 
-module _ (p : Plan) (q : IdPlan) (clients : List (List Task)) (fin : ℕ → List ℕ) (w w' : Scene) (m : Mark) (plan : w.core.calls.plan ≡ q) (sized : length w.core.calls.words ≡ all_words q) (fits : SlotFits q w m.slot) (law : BirthsLaw p q clients fin w)
-    (low : (k : ℕ) → k < q.slots → (word_at w k).first ≤ 67108856) (step : Step) (found : Found step) (b : IsBehind p q clients fin w w' m step found) (knows : KnowsStep p q clients fin w step found) (may : MayAside p q clients fin w m step) where
+module _ (p : Plan) (q : IdPlan) (clients : List (List Task)) (gives : ℕ → List ℕ) (w w' : Scene) (m : Mark) (plan : w.core.calls.plan ≡ q) (sized : length w.core.calls.words ≡ all_words q) (fits : SlotFits q w m.slot) (law : BirthsLaw p q clients gives w)
+    (low : (k : ℕ) → k < q.slots → (word_at w k).first ≤ 67108856) (step : Step) (found : Found step) (b : IsBehind p q clients gives w w' m step found) (knows : KnowsStep p q clients gives w step found) (may : MayAside p q clients gives w m step) where
   -- whether the step made an id
   pub data Made : Type 0 where
     no_more : w'.births ≡ w.births → ((k : ℕ) → IsMake step k → ⊥) → Made
     one_more : (i : ℕ) (asked : Asked) → IsMake step i → i < q.slots → m.slot ≡ Claims i (Some asked) → w'.births ≡ (record { id = call_id i (word_at w i).first; asked = asked }) ∷ w.births → (word_at w i).state ≡ 0 → word_at w' i ≡ made_word (word_at w i).first asked.range
-        → (2 ≤ asked.range) × (asked.range ≤ 8) → ((a : Asked) → LiesAt w' i a → a ≡ asked) → ((k : ℕ) → k < q.slots → i ≢ k → SameAt p q clients fin k w w') → Made
+        → (2 ≤ asked.range) × (asked.range ≤ 8) → ((a : Asked) → LiesAt w' i a → a ≡ asked) → ((k : ℕ) → k < q.slots → i ≢ k → SameAt p q clients gives k w w') → Made
 
   module _ (made : Made) (fresh : (c : Birth) (i : ℕ) (asked : Asked) → IsMake step i → In c w.births → m.slot ≡ Claims i (Some asked) → asked.operation ≢ c.asked.operation) where
     turns : (k : ℕ) → k < q.slots → Turn (IsMake step k) (IsEnd step k) (word_at w k) (word_at w' k)
-    turns k inside = turn p q clients fin w w' m plan sized fits step found b knows may k inside
+    turns k inside = turn p q clients gives w w' m plan sized fits step found b knows may k inside
 
     slot_of : (i first : ℕ) → first ≤ 67108856 → (id_slot (call_id i first) ≡ i) × (id_first (call_id i first) ≡ first)
     slot_of i first small = (omega (arith, small), omega (arith, small))
@@ -59,7 +59,7 @@ module _ (p : Plan) (q : IdPlan) (clients : List (List Task)) (fin : ℕ → Lis
     IsFitting c = (id_slot c.id < q.slots) × (2 ≤ c.asked.range) × (c.asked.range ≤ 8) × (HasPassed w' c ⊎ IsCurrent w' c)
 
     old_fits : (c : Birth) → In c w.births → IsFitting c
-    old_fits c there = let x = law.born c there in (x.0, x.1, x.2, there_still p q clients fin w w' m plan sized fits (IsMake step (id_slot c.id)) (IsEnd step (id_slot c.id)) c (turns (id_slot c.id) x.0) x.3)
+    old_fits c there = let x = law.born c there in (x.0, x.1, x.2, there_still p q clients gives w w' m plan sized fits (IsMake step (id_slot c.id)) (IsEnd step (id_slot c.id)) c (turns (id_slot c.id) x.0) x.3)
 
     pub born : (c : Birth) → In c w'.births → IsFitting c
     born c there = by_made made

@@ -34,9 +34,9 @@ IsEnd other k = ⊥
 same_turn : (M E : Type 0) (old new : Parts) → new ≡ old → Turn M E old new
 same_turn M E old new is = keeps (ap (λ (x : Parts). x.first) is) (ap (λ (x : Parts). x.range) is) (λ z. subst (λ (x : Parts). 0 < x.state) (sym is) z) (λ z. subst (λ (x : Parts). 0 < x.state) is z)
 
-module _ (p : Plan) (q : IdPlan) (clients : List (List Task)) (fin : ℕ → List ℕ) (w w' : Scene) (m : Mark) (plan : w.core.calls.plan ≡ q) (sized : length w.core.calls.words ≡ all_words q) (fits : SlotFits q w m.slot) where
+module _ (p : Plan) (q : IdPlan) (clients : List (List Task)) (gives : ℕ → List ℕ) (w w' : Scene) (m : Mark) (plan : w.core.calls.plan ≡ q) (sized : length w.core.calls.words ≡ all_words q) (fits : SlotFits q w m.slot) where
   abbrev Behind : (step : Step) → Found step → Type 0
-  Behind step found = IsBehind p q clients fin w w' m step found
+  Behind step found = IsBehind p q clients gives w w' m step found
 
   abbrev TurnAt : Step → ℕ → Type 0
   TurnAt step k = Turn (IsMake step k) (IsEnd step k) (word_at w k) (word_at w' k)
@@ -46,23 +46,23 @@ module _ (p : Plan) (q : IdPlan) (clients : List (List Task)) (fin : ℕ → Lis
 
   -- an exchange that leaves the first version and the range
   keeps_turn : (step : Step) (i v : ℕ) → i < q.slots → w'.core.calls.words ≡ set w.core.calls.words (id_word i) v → (parts v).first ≡ (word_at w i).first → (parts v).range ≡ (word_at w i).range → 0 < (parts v).state → 0 < (word_at w i).state → TurnAt step i
-  keeps_turn step i v inside words first range now before = let x = word_is p q clients fin w w' m plan i inside sized v words in
+  keeps_turn step i v inside words first range now before = let x = word_is p q clients gives w w' m plan i inside sized v words in
       keeps (ap (λ (y : Parts). y.first) x ∙ first) (ap (λ (y : Parts). y.range) x ∙ range) (λ _. subst (λ (y : Parts). 0 < y.state) (sym x) now) (λ _. before)
 
   missed : (step : Step) (i found : ℕ) → i < q.slots → parts found ≡ word_at w i → w'.core.calls.words ≡ set w.core.calls.words (id_word i) found → TurnAt step i
-  missed step i found inside is words = same_turn (IsMake step i) (IsEnd step i) (word_at w i) (word_at w' i) (word_is p q clients fin w w' m plan i inside sized found words ∙ is)
+  missed step i found inside is words = same_turn (IsMake step i) (IsEnd step i) (word_at w i) (word_at w' i) (word_is p q clients gives w w' m plan i inside sized found words ∙ is)
 
   locked_turn : (step : Step) (i from e found : ℕ) → found ≡ from → (parts from).state ≡ 1 → i < q.slots → parts found ≡ word_at w i → w'.core.calls.words ≡ set w.core.calls.words (id_word i) (packed (posted_word (parts from) e)) → TurnAt step i
-  locked_turn step i from e found same one inside is words = let x = locked_parts p q clients fin from e one in let y : parts from ≡ word_at w i = ap parts (sym same) ∙ is in
+  locked_turn step i from e found same one inside is words = let x = locked_parts p q clients gives from e one in let y : parts from ≡ word_at w i = ap parts (sym same) ∙ is in
       keeps_turn step i (packed (posted_word (parts from) e)) inside words (ap (λ (z : Parts). z.first) x ∙ ap (λ (z : Parts). z.first) y) (ap (λ (z : Parts). z.range) x ∙ ap (λ (z : Parts). z.range) y)
       (subst (λ (z : Parts). 0 < z.state) (sym x) (omega arith)) (subst (λ (z : Parts). 0 < z.state) y (omega (arith, one)))
 
-  touched : (step : Step) (found : Found step) → Behind step found → KnowsStep p q clients fin w step found → MayAside p q clients fin w m step → (k : ℕ) → k < q.slots → Touches step k → TurnAt step k
-  touched (ClaimId i) found b knows may k low t = subst (TurnAt (ClaimId i)) t (same_turn (IsMake (ClaimId i) i) (IsEnd (ClaimId i) i) (word_at w i) (word_at w' i) (word_stays p q clients fin w w' m plan i knows.0 sized 1 b.words))
+  touched : (step : Step) (found : Found step) → Behind step found → KnowsStep p q clients gives w step found → MayAside p q clients gives w m step → (k : ℕ) → k < q.slots → Touches step k → TurnAt step k
+  touched (ClaimId i) found b knows may k low t = subst (TurnAt (ClaimId i)) t (same_turn (IsMake (ClaimId i) i) (IsEnd (ClaimId i) i) (word_at w i) (word_at w' i) (word_stays p q clients gives w w' m plan i knows.0 sized 1 b.words))
   touched (PutCall i asked) found b knows may k low t = words_turn (PutCall i asked) k b.words
   touched (MakeId i range) found b knows may k low t = subst (TurnAt (MakeId i range)) t (
       let free = (subst (SlotFits q w) may.3 fits).2 in
-      let x = word_is p q clients fin w w' m plan i knows.0.0 sized (packed (made_word (parts found).first range)) b.words ∙ parts_packed (made_word (parts found).first range) (omega arith) (let z = knows.2 in omega (arith, z)) knows.3 (omega arith) (omega arith) (omega arith) in
+      let x = word_is p q clients gives w w' m plan i knows.0.0 sized (packed (made_word (parts found).first range)) b.words ∙ parts_packed (made_word (parts found).first range) (omega arith) (let z = knows.2 in omega (arith, z)) knows.3 (omega arith) (omega arith) (omega arith) in
       makes refl free (ap (λ (y : Parts). y.first) x ∙ ap (λ (y : Parts). y.first) knows.0.1) (ap (λ (y : Parts). y.state) x)
       )
   touched (LockId i from) found b knows may k low t = subst (TurnAt (LockId i from)) t (by_found (eqb found from) refl b.words)
@@ -74,7 +74,7 @@ module _ (p : Plan) (q : IdPlan) (clients : List (List Task)) (fin : ℕ → Lis
     where
       by_found : (c : Bool) → eqb found from ≡ c → w'.core.calls.words ≡ set w.core.calls.words (id_word i) (cond c (packed (posted_word (parts from) e)) found) → TurnAt (PostId i from e) i
       by_found true hit words = ⊎_elim (λ one. locked_turn (PostId i from e) i from e found (eqb-true found from hit) one knows.0.0 knows.0.1 words)
-          (λ two. let x = queued_parts p q clients fin w w' m plan sized from e two.0 knows.2 in let y : parts from ≡ word_at w i = ap parts (sym (eqb-true found from hit)) ∙ knows.0.1 in
+          (λ two. let x = queued_parts p q clients gives w w' m plan sized from e two.0 knows.2 in let y : parts from ≡ word_at w i = ap parts (sym (eqb-true found from hit)) ∙ knows.0.1 in
           keeps_turn (PostId i from e) i (packed (posted_word (parts from) e)) knows.0.0 words (x.0 ∙ ap (λ (z : Parts). z.first) y) (x.1 ∙ ap (λ (z : Parts). z.range) y) (let s = x.2 in omega (arith, s)) (subst (λ (z : Parts). 0 < z.state) y (let s = two.0 in omega (arith, s)))) knows.1
       by_found false hit words = missed (PostId i from e) i found knows.0.0 knows.0.1 words
   touched (UnlockId i from advance) found b knows may k low t = subst (TurnAt (UnlockId i from advance)) t (by_found (eqb found from) refl b.words)
@@ -90,10 +90,10 @@ module _ (p : Plan) (q : IdPlan) (clients : List (List Task)) (fin : ℕ → Lis
           (subst (λ (z : Parts). 0 < z.state) (sym x) (state_fits (eqb (parts from).oldest 0)).1) (subst (λ (z : Parts). 0 < z.state) y (let s = knows.1 in omega (arith, s)))
       by_found false hit words = missed (UnlockId i from advance) i found knows.0.0 knows.0.1 words
   touched (EndId i) found b knows may k low t = subst (TurnAt (EndId i)) t (
-      let x = word_is p q clients fin w w' m plan i knows.0 sized (packed (free_word ((parts found).first + (parts found).range))) b.words ∙ parts_packed (free_word ((parts found).first + (parts found).range)) (omega arith) (omega arith) (omega arith) (omega arith) (omega arith) (omega arith) in
+      let x = word_is p q clients gives w w' m plan i knows.0 sized (packed (free_word ((parts found).first + (parts found).range))) b.words ∙ parts_packed (free_word ((parts found).first + (parts found).range)) (omega arith) (omega arith) (omega arith) (omega arith) (omega arith) (omega arith) in
       ends refl (ap (λ (y : Parts). y.first) x ∙ ap (λ (y : Parts). y.first + y.range) knows.1) (ap (λ (y : Parts). y.state) x)
       )
-  touched (FreeId i) found b knows may k low t = subst (TurnAt (FreeId i)) t (same_turn (IsMake (FreeId i) i) (IsEnd (FreeId i) i) (word_at w i) (word_at w' i) (word_stays p q clients fin w w' m plan i knows sized 0 b.words))
+  touched (FreeId i) found b knows may k low t = subst (TurnAt (FreeId i)) t (same_turn (IsMake (FreeId i) i) (IsEnd (FreeId i) i) (word_at w i) (word_at w' i) (word_stays p q clients gives w w' m plan i knows sized 0 b.words))
   touched (TakeCall i) found b knows may k low t = words_turn (TakeCall i) k b.words
   touched (StoreCall o id) found b knows may k low t = absurd t
   touched (LoadCall o) found b knows may k low t = absurd t
@@ -120,8 +120,8 @@ module _ (p : Plan) (q : IdPlan) (clients : List (List Task)) (fin : ℕ → Lis
   tests (LoadIdWord i) k = inr (λ x. x)
   tests (TakeBytes l room) k = inr (λ x. x)
 
-  pub turn : (step : Step) (found : Found step) → Behind step found → KnowsStep p q clients fin w step found → MayAside p q clients fin w m step → (k : ℕ) → k < q.slots → TurnAt step k
-  turn step found b knows may k low = ⊎_elim (λ t. touched step found b knows may k low t) (λ n. same_turn (IsMake step k) (IsEnd step k) (word_at w k) (word_at w' k) (beside p q clients fin w w' m plan step found b k low n).word) (tests step k)
+  pub turn : (step : Step) (found : Found step) → Behind step found → KnowsStep p q clients gives w step found → MayAside p q clients gives w m step → (k : ℕ) → k < q.slots → TurnAt step k
+  turn step found b knows may k low = ⊎_elim (λ t. touched step found b knows may k low t) (λ n. same_turn (IsMake step k) (IsEnd step k) (word_at w k) (word_at w' k) (beside p q clients gives w w' m plan step found b k low n).word) (tests step k)
 
   -- ## Ids that were made before
 

@@ -30,7 +30,7 @@ Touches (FreeId i) k = i ≡ k
 Touches (TakeCall i) k = i ≡ k
 Touches other k = ⊥
 
-module _ (p : Plan) (q : IdPlan) (clients : List (List Task)) (fin : ℕ → List ℕ) where
+module _ (p : Plan) (q : IdPlan) (clients : List (List Task)) (gives : ℕ → List ℕ) where
   -- slot k has the same words, and the same lies at its home
   pub record SameAt (k : ℕ) (w w' : Scene) : Type 0 where
     pub tag : tag_at w' k ≡ tag_at w k
@@ -74,7 +74,7 @@ module _ (p : Plan) (q : IdPlan) (clients : List (List Task)) (fin : ℕ → Lis
     stored_beside k x low is o = let same = ap (λ (r : IdPlan). r.slots) plan in ((λ e. omega (arith, low, is, same, e)), (λ e. omega (arith, low, is, same, e)), (λ e. omega (arith, low, is, same, e)), (λ e. omega (arith, low, is, same, e)))
 
     -- no other slot changes
-    pub beside : (step : Step) (found : Found step) → IsBehind p q clients fin w w' m step found → (k : ℕ) → k < q.slots → (Touches step k → ⊥) → SameAt k w w'
+    pub beside : (step : Step) (found : Found step) → IsBehind p q clients gives w w' m step found → (k : ℕ) → k < q.slots → (Touches step k → ⊥) → SameAt k w w'
     beside (ClaimId i) found b k low ne = by_words (tag_word i) 1 k b.words b.homes (λ e. ne (omega (arith, e))) (λ e. omega (arith, e))
     beside (PutCall i asked) found b k low ne = by_homes i k (core.some (Some asked)) b.words b.homes ne
     beside (MakeId i range) found b k low ne = by_words (id_word i) (packed (made_word (parts found).first range)) k b.words b.homes (λ e. omega (arith, e)) (λ e. ne (omega (arith, e)))

@@ -16,9 +16,9 @@ use Rattle.sock_programs.specs.Programs.{Program, Do, Say, Sent, Rest, TakeMessa
 use Rattle.call_causes.specs.Scenes.{Birth, Scene, In, Said, IsBorn, IsAnsweredIn, IsExpired, CauseOf, of_expiry, of_other, FailedIn, by_expiry, by_compression, by_other, WhyEnded, HasNoneOf, NoneFound, HasBegunIn, HasNotBegunIn, WhyOwn, IsJust, ToldOf, was_said, was_sent, was_begun, AreTold, Later}
 use Rattle.call_causes.specs.Says.{Mark, MayAside, CameFrom, IsReading, AtHead, SaysOn}
 
-module _ (p : Plan) (q : IdPlan) (clients : List (List Task)) (fin : ℕ → List ℕ) where
+module _ (p : Plan) (q : IdPlan) (clients : List (List Task)) (gives : ℕ → List ℕ) where
   abbrev After : Scene → Scene → Type 0
-  After w w' = Later p q clients fin w w'
+  After w w' = Later p q clients gives w w'
 
   pub far : (a b c : Scene) → After a b → After b c → After a c
   far a b c x y = record {
@@ -29,48 +29,49 @@ module _ (p : Plan) (q : IdPlan) (clients : List (List Task)) (fin : ℕ → Lis
     born = λ id asked s. y.born id asked (x.born id asked s);
     came = λ k n frame s. y.came k n frame (x.came k n frame s);
     claimed = λ i o s. y.claimed i o (x.claimed i o s);
-    room = y.room;
+    used = λ b u. y.used b (x.used b u);
+    within = y.within;
     apart = y.apart;
   }
 
   module _ (w w' : Scene) (l : After w w') where
-    answered_on : (id : ℕ) (asked : Asked) (P : Frame → Type 0) → IsAnsweredIn p q clients fin w id asked P → IsAnsweredIn p q clients fin w' id asked P
+    answered_on : (id : ℕ) (asked : Asked) (P : Frame → Type 0) → IsAnsweredIn p q clients gives w id asked P → IsAnsweredIn p q clients gives w' id asked P
     answered_on id asked P a = (a.0, a.1, a.2, a.3, l.came a.0 a.1 a.2 a.4, a.5, a.6)
 
-    pub expired_on : (asked : Asked) → IsExpired p q clients fin w asked → IsExpired p q clients fin w' asked
+    pub expired_on : (asked : Asked) → IsExpired p q clients gives w asked → IsExpired p q clients gives w' asked
     expired_on asked e = (e.0, e.1, e.2, e.3, ⊎_elim (λ s. inl (l.said e.1.number outcomes.Expired s)) (λ s. inr (l.said e.1.number outcomes.Queued s)) e.4)
 
-    pub cause_on : (id e : ℕ) → CauseOf p q clients fin w id e → CauseOf p q clients fin w' id e
+    pub cause_on : (id e : ℕ) → CauseOf p q clients gives w id e → CauseOf p q clients gives w' id e
     cause_on id e (of_expiry asked is b x) = of_expiry asked is (l.born id asked b) (expired_on asked x)
-    cause_on id e (of_other x) = of_other x
+    cause_on id e (of_other x last) = of_other x last
 
-    failed_on : (id : ℕ) (asked : Asked) (c : ℕ) → FailedIn p q clients fin w id asked c → FailedIn p q clients fin w' id asked c
+    failed_on : (id : ℕ) (asked : Asked) (c : ℕ) → FailedIn p q clients gives w id asked c → FailedIn p q clients gives w' id asked c
     failed_on id asked c (by_expiry is x) = by_expiry is (expired_on asked x)
     failed_on id asked c (by_compression is x) = by_compression is (answered_on id asked (λ frame. frame.meta.compress_type ≢ Rattle.std.specs.Prelude.pos 0) x)
-    failed_on id asked c (by_other x) = by_other x
+    failed_on id asked c (by_other x last) = by_other x (⊎_elim (λ y. inl y) (λ u. inr (l.used (record { id = id; asked = asked }) u)) last)
 
-    pub ended_on : (b : Birth) (x : Outcome) → WhyEnded p q clients fin w b x → WhyEnded p q clients fin w' b x
+    pub ended_on : (b : Birth) (x : Outcome) → WhyEnded p q clients gives w b x → WhyEnded p q clients gives w' b x
     ended_on b (outcomes.Answered id payload attachment) y = (y.0, answered_on b.id b.asked (λ (frame : Frame). Rattle.call_causes.specs.Scenes.HasCode (Rattle.std.specs.Prelude.pos 0) frame × (frame.payload ≡ payload) × (frame.attachment ≡ attachment)) y.1)
     ended_on b (outcomes.Peer id c) y = (y.0, answered_on b.id b.asked (Rattle.call_causes.specs.Scenes.HasCode c) y.1, y.2)
     ended_on b (outcomes.CallFailed id c) y = (y.0, failed_on b.id b.asked c y.1)
     ended_on b _ y = absurd y
 
-    none_of_on : (n : ℕ) (t : Task) → HasNoneOf p q clients fin w n t → HasNoneOf p q clients fin w' n t
+    none_of_on : (n : ℕ) (t : Task) → HasNoneOf p q clients gives w n t → HasNoneOf p q clients gives w' n t
     none_of_on n t h = λ k op. let x = h k op in (x.0, l.said t.number x.0 x.1, x.2)
 
-    none_found_on : (before : List Task) (n : ℕ) → NoneFound p q clients fin w before n → NoneFound p q clients fin w' before n
+    none_found_on : (before : List Task) (n : ℕ) → NoneFound p q clients gives w before n → NoneFound p q clients gives w' before n
     none_found_on before n f = record {
       setup = λ t is. none_of_on n t (f.setup t is);
       own = λ t is. let x = f.own t is in (none_of_on n t x.0, λ seeks. l.said t.number outcomes.Unopened (x.1 seeks));
     }
 
-    has_begun_on : (c : ℕ) (before : List Task) (t : ℕ) → HasBegunIn p q clients fin w c before t → HasBegunIn p q clients fin w' c before t
+    has_begun_on : (c : ℕ) (before : List Task) (t : ℕ) → HasBegunIn p q clients gives w c before t → HasBegunIn p q clients gives w' c before t
     has_begun_on c before t h = (h.0, h.1, h.2, h.3, h.4, h.5, h.6, h.7, l.born h.2 h.3 h.8, h.9)
 
-    not_begun_on : (before : List Task) (t : ℕ) → HasNotBegunIn p q clients fin w before t → HasNotBegunIn p q clients fin w' before t
+    not_begun_on : (before : List Task) (t : ℕ) → HasNotBegunIn p q clients gives w before t → HasNotBegunIn p q clients gives w' before t
     not_begun_on before t h = λ task is e. l.said t outcomes.Unopened (h task is e)
 
-    pub own_on : (c : ℕ) (before : List Task) (op : Op) (x : Outcome) → WhyOwn p q clients fin w c before op x → WhyOwn p q clients fin w' c before op x
+    pub own_on : (c : ℕ) (before : List Task) (op : Op) (x : Outcome) → WhyOwn p q clients gives w c before op x → WhyOwn p q clients gives w' c before op x
     own_on c before (ops.Call asked) outcomes.Unopened y = none_found_on before (Rattle.sock_message.specs.Asked.name_of asked 0) y
     own_on c before (ops.Call asked) _ y = absurd y
     own_on c before (ops.Expire t) outcomes.Expired y = (y.0, l.said t (outcomes.CallFailed y.0 1008) y.1)
@@ -85,32 +86,32 @@ module _ (p : Plan) (q : IdPlan) (clients : List (List Task)) (fin : ℕ → Lis
     own_on c before (ops.Open n k) (outcomes.Opened slot version j) y = l.named n y
     own_on c before (ops.Open n k) outcomes.SlotsFull y = tt
     own_on c before (ops.Open n k) _ y = absurd y
-    own_on c before (ops.Send n bytes) outcomes.Unopened y = tt
+    own_on c before (ops.Send n bytes) outcomes.Unopened y = none_found_on before n y
     own_on c before (ops.Send n bytes) _ y = l.named n y
-    own_on c before (ops.Hold n) outcomes.Unopened y = tt
+    own_on c before (ops.Hold n) outcomes.Unopened y = none_found_on before n y
     own_on c before (ops.Hold n) _ y = l.named n y
-    own_on c before (ops.Fail n code) outcomes.Unopened y = tt
+    own_on c before (ops.Fail n code) outcomes.Unopened y = none_found_on before n y
     own_on c before (ops.Fail n code) _ y = l.named n y
     own_on c before (ops.Drop n) _ y = tt
 
-    pub just_on : (o : ℕ) (op : Op) (x : Outcome) → IsJust p q clients fin w o op x → IsJust p q clients fin w' o op x
+    pub just_on : (o : ℕ) (op : Op) (x : Outcome) → IsJust p q clients gives w o op x → IsJust p q clients gives w' o op x
     just_on o op outcomes.Expired j = (j.0, j.1, j.2, l.over (record { number = o; outcome = outcomes.Expired }) (record { number = j.0; outcome = outcomes.CallFailed j.1 1008 }) j.3)
     just_on o op _ j = tt
 
-    told_on : (c : ℕ) (before : List Task) (t : Task) → ToldOf p q clients fin w c before t → ToldOf p q clients fin w' c before t
+    told_on : (c : ℕ) (before : List Task) (t : Task) → ToldOf p q clients gives w c before t → ToldOf p q clients gives w' c before t
     told_on c before t (was_said x s y j) = was_said x (l.said t.number x s) (own_on c before t.op x y) (just_on t.number t.op x j)
     told_on c before t (was_sent n bytes op s) = was_sent n bytes op (l.named n s)
     told_on c before t (was_begun id asked op own b s x) = was_begun id asked op own (l.born id asked b) (l.begun t.number s) (l.named (Rattle.sock_message.specs.Asked.name_of asked 0) x)
 
-    pub are_told_on : (c : ℕ) (ts : List Task) → AreTold p q clients fin w c ts → AreTold p q clients fin w' c ts
+    pub are_told_on : (c : ℕ) (ts : List Task) → AreTold p q clients gives w c ts → AreTold p q clients gives w' c ts
     are_told_on c [] all = tt
     are_told_on c (t ∷ ts) all = (told_on c ts t all.0, are_told_on c ts all.1)
 
-    pub kept_on : (k : ℕ) (fs : List Frame) → AllByRecursion (CameFrom p q clients fin w k) fs → AllByRecursion (CameFrom p q clients fin w' k) fs
+    pub kept_on : (k : ℕ) (fs : List Frame) → AllByRecursion (CameFrom p q clients gives w k) fs → AllByRecursion (CameFrom p q clients gives w' k) fs
     kept_on k [] all = tt
     kept_on k (f ∷ fs) all = ((all.0.0, l.came k all.0.0 f all.0.1, all.0.2), kept_on k fs all.1)
 
-    aside_on : (m : Mark) (step : Step) → MayAside p q clients fin w m step → MayAside p q clients fin w' m step
+    aside_on : (m : Mark) (step : Step) → MayAside p q clients gives w m step → MayAside p q clients gives w' m step
     aside_on m (PutCall i asked) may = ⊎_elim (λ x. inl x) (λ x. inr (x.0, x.1, x.2, l.born (call_id i x.0) asked x.3)) may
     aside_on m (StoreCall o id) may = (may.0, may.1, may.2, may.3, may.4, may.5, may.6, may.7, may.8, l.born may.0.id may.0.asked may.9, l.named (Rattle.sock_message.specs.Asked.name_of may.0.asked 0) may.10)
     aside_on m (EndId i) may = (may.0, may.1, may.2, may.3, l.born (call_id i may.0) may.2 may.4, may.5)
@@ -127,7 +128,7 @@ module _ (p : Plan) (q : IdPlan) (clients : List (List Task)) (fin : ℕ → Lis
     aside_on m (TakeCall i) may = may
     aside_on m (TakeBytes k room) may = may
 
-    head_on : (m : Mark) (head : Head) → AtHead p q clients fin w m head → AtHead p q clients fin w' m head
+    head_on : (m : Mark) (head : Head) → AtHead p q clients gives w m head → AtHead p q clients gives w' m head
     head_on m (Decides id asked word e) at = (at.0, l.born id asked at.1, at.2, at.3)
     head_on m (Reads r) at = (at.0, record { inside = at.1.inside; link = at.1.link; goes = at.1.goes; kept = kept_on r.link r.kept at.1.kept })
     head_on m (Posts id e word) at = at
@@ -138,7 +139,7 @@ module _ (p : Plan) (q : IdPlan) (clients : List (List Task)) (fin : ℕ → Lis
     head_on m (Discards k total) at = at
 
     -- what a program may say it may say later
-    pub says_on : (m : Mark) (x : Program) → SaysOn p q clients fin w m x → SaysOn p q clients fin w' m x
+    pub says_on : (m : Mark) (x : Program) → SaysOn p q clients gives w m x → SaysOn p q clients gives w' m x
     says_on m (Do call next) go = (go.0, λ found v l' s f. go.1 found v (far w w' v l l') s f)
     says_on m (Say o outcome next) go = ⊎_elim
         (λ x. inl (x.0, x.1, x.2, x.3, x.4, (own_on m.client m.done x.0.op outcome x.5.0, just_on x.0.number x.0.op outcome x.5.1), says_on (Rattle.call_causes.specs.Says.with_done x.0 x.1 m) next x.6))

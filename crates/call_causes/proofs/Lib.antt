@@ -11,6 +11,7 @@ pub mod Slots
 pub mod SlotTicks
 pub mod Births
 pub mod BirthTicks
+pub mod Attempts
 pub mod Laters
 pub mod Moving
 pub mod Numbered
@@ -30,6 +31,7 @@ pub mod Kept
 pub mod Ticks
 pub mod Opening
 pub mod Allowing
+pub mod Leading
 pub mod Run
 pub mod End
 pub mod Whys

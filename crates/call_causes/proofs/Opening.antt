@@ -1,15 +1,15 @@
 -- How the story of the calls begins: nothing is claimed or made, and each seat says on.
 use Rattle.std.proofs.Common.{◌≡◌, ◌≢◌, ℕ, zero, suc, ◌+◌, ◌-◌, ◌*◌, ◌<◌, ◌≤◌, ◌⊎◌, inl, inr, ⊎_elim, Bool, true, false, cond, leb, List, [], ◌∷◌, ◌++◌, length, length-set, map, fold, replicate, get_or, set, slice_get, Option, None, Some, refl, sym, ap, ◌∙◌, subst, arith}
-use Rattle.std.proofs.lemmas.List.{length-map, length-replicate, get_or-replicate}
+use Rattle.std.proofs.lemmas.List.{length-map, length-replicate}
 use Rattle.std.specs.List.{AllByRecursion}
 use mathlib.Core.Logic.{dite}
 use mathlib.Core.Option as core
 use mathlib.Core.Option.{some-injective, some-ne-none}
-use native.Mathlib.Decide.{ℕ_discrete, dec_le}
+use native.Mathlib.Decide.{ℕ_discrete}
 use lib.ListN.{get_elem?}
 use Rattle.sock_words.specs.declared.plain.Plan.{Plan}
 use Rattle.sock_words.specs.declared.outcome.Outcome.{Outcome}
-use Rattle.corr_core.specs.Word.{Parts, parts, free_word}
+use Rattle.corr_core.specs.Word.{Parts}
 use Rattle.corr_core.specs.declared.marks.Plan.{Plan as IdPlan}
 use Rattle.id_rule.specs.Lawful.{Unused, call_word}
 use Rattle.sock_programs.specs.declared.task.Task.{Task}
@@ -19,11 +19,11 @@ use Rattle.sock_programs.specs.Readers.{reader}
 use Rattle.sock_programs.specs.Cores.{Core, SeatState, resolved, said, next_step}
 use Rattle.sock_programs.specs.Scripts.{opening_words, sizes_of, programs, readers_from, all_programs, beginning}
 use Rattle.id_runs.proofs.Opening.{unused}
-use Rattle.call_causes.specs.Scenes.{Birth, Saying, Scene, In, IsOver, Begun, IsTaskOf, Later}
-use Rattle.call_causes.specs.Says.{NoSlot, Mark, IsFree, SaysOn, SaidBy}
+use Rattle.call_causes.specs.Scenes.{Birth, Saying, Scene, In, IsOver, Begun, IsTaskOf, LeadsTo, Later}
+use Rattle.call_causes.specs.Says.{NoSlot, Mark, SaysOn}
 use Rattle.call_causes.specs.Stories.{At, word_at, SlotsLaw, BirthsLaw, TasksLaw, ClaimsLaw, ReadsLaw, IsUntold, CallStory, HasStory}
 use Rattle.call_causes.proofs.Reading.{reader_says}
-use Rattle.call_causes.proofs.Clients.{FitsTask, AreOf, client_says}
+use Rattle.call_causes.proofs.Clients.{FitsTask, client_says}
 use Rattle.call_causes.proofs.Numbered.{AreNumbered}
 use Rattle.call_causes.proofs.Moving.{listed}
 use Rattle.call_causes.proofs.Sayings.{put_at, put_beside}
@@ -108,14 +108,14 @@ abbrev link_of : ℕ → Bool → List ℕ
 link_of j true = (j - 32) ∷ []
 link_of j false = []
 
-module _ (p : Plan) (q : IdPlan) (clients : List (List Task)) (fin : ℕ → List ℕ) (numbered : AreNumbered p q clients fin) (slots : HaveSlots p q clients fin) where
+module _ (p : Plan) (q : IdPlan) (clients : List (List Task)) (gives : ℕ → List ℕ) (numbered : AreNumbered p q clients gives) (slots : HaveSlots p q clients gives) where
   -- the tasks of each client fit it, and each reader has its link and its seat
   pub record Begins (opens : List ℕ) : Type 0 where
-    pub fits : (c : ℕ) (ts : List Task) → slice_get clients c ≡ Some ts → AllByRecursion (FitsTask p q clients fin c) ts
-    pub numbers : (c : ℕ) (t : Task) → IsTaskOf p q clients fin c t → t.number < p.operations
+    pub fits : (c : ℕ) (ts : List Task) → slice_get clients c ≡ Some ts → AllByRecursion (FitsTask p q clients gives c) ts
+    pub numbers : (c : ℕ) (t : Task) → IsTaskOf p q clients gives c t → t.number < p.operations
     pub few : length clients ≤ 32
     pub links : length opens ≡ p.links
-    pub codes : AreOther p (opening_words p)
+    pub codes : AreOther p q clients gives (opening_words p)
 
   -- a seat before its first step
   abbrev pub first_mark : ℕ → Mark
@@ -157,25 +157,25 @@ module _ (p : Plan) (q : IdPlan) (clients : List (List Task)) (fin : ℕ → Lis
     core0 = beginning p q (all_programs (programs (sizes_of p q) clients) (readers_from calls 0 opens))
 
     abbrev first_scene : Scene
-    first_scene = record { core = beginning p q (all_programs (programs (sizes_of p q) clients) (readers_from calls 0 opens)); claims = []; births = []; sayings = first_sayings (all_programs (programs (sizes_of p q) clients) (readers_from calls 0 opens)) [] }
+    first_scene = record { core = beginning p q (all_programs (programs (sizes_of p q) clients) (readers_from calls 0 opens)); claims = []; births = []; advances = []; sayings = first_sayings (all_programs (programs (sizes_of p q) clients) (readers_from calls 0 opens)) [] }
 
-    module _ (long : length (all_programs (programs (sizes_of p q) clients) (readers_from calls 0 opens)) ≡ q.seats) (few_tries : (i : ℕ) (x : Program) → get_elem? (all_programs (programs (sizes_of p q) clients) (readers_from calls 0 opens)) i ≡ core.some x → KeepsFew x) where
+    module _ (long : length (all_programs (programs (sizes_of p q) clients) (readers_from calls 0 opens)) ≡ q.seats) (few_tries : (i : ℕ) (x : Program) → get_elem? (all_programs (programs (sizes_of p q) clients) (readers_from calls 0 opens)) i ≡ core.some x → KeepsFew x) (lead : LeadsTo p q clients gives (beginning p q (all_programs (programs (sizes_of p q) clients) (readers_from calls 0 opens)))) where
       -- ## Programs
 
-      client_at : (v : Scene) (i : ℕ) (ts : List Task) → get_elem? clients i ≡ core.some ts → SaysOn p q clients fin v (first_mark i) (client_from (sizes_of p q) [] ts)
-      client_at v i ts at = let g = got_at clients i ts at in client_says p q clients fin ts [] v (first_mark i) (record { todo = g.0; are = λ u there. (ts, g.1, there); mine = λ u there. absurd there }) (tt, refl, refl) (fit.fits i ts g.1)
+      client_at : (v : Scene) (i : ℕ) (ts : List Task) → get_elem? clients i ≡ core.some ts → SaysOn p q clients gives v (first_mark i) (client_from (sizes_of p q) [] ts)
+      client_at v i ts at = let g = got_at clients i ts at in client_says p q clients gives ts [] v (first_mark i) (record { todo = g.0; are = λ u there. (ts, g.1, there); mine = λ u there. absurd there }) (tt, refl, refl) (fit.fits i ts g.1)
 
-      says_first : (v : Scene) (i : ℕ) (x : Program) → get_elem? (all_programs (programs (sizes_of p q) clients) (readers_from calls 0 opens)) i ≡ core.some x → SaysOn p q clients fin v (first_mark i) x
+      says_first : (v : Scene) (i : ℕ) (x : Program) → get_elem? (all_programs (programs (sizes_of p q) clients) (readers_from calls 0 opens)) i ≡ core.some x → SaysOn p q clients gives v (first_mark i) x
       says_first v i x e = ⊎_elim
-          (λ a. let t = mapped_at (client_from (sizes_of p q) []) clients i x a in subst (SaysOn p q clients fin v (first_mark i)) t.2 (client_at v i t.0 t.1))
+          (λ a. let t = mapped_at (client_from (sizes_of p q) []) clients i x a in subst (SaysOn p q clients gives v (first_mark i)) t.2 (client_at v i t.0 t.1))
           (λ b. let many = length-map clients (client_from (sizes_of p q) []) in ⊎_elim
-              (λ a. let r = repeated (32 - length (programs (sizes_of p q) clients)) b.0 Rest x a in subst (SaysOn p q clients fin v (first_mark i)) r.0 ((tt, refl, refl), past_end clients i (let z = b.1 in omega (arith, z, many))))
-              (λ a. let r = readers_at calls 0 opens a.0 x a.2 in
-                  let place : i ≡ 32 + a.0 = let z = b.1 in let y = a.1 in let few = fit.few in omega (arith, z, y, few, many, length-replicate (32 - length (programs (sizes_of p q) clients)) Rest) in
-                  let past : get_or clients i [] ≡ [] = past_end clients i (let few = fit.few in omega (arith, few, place)) in
-                  let own : link_of i (leb 32 i) ≡ (0 + a.0) ∷ [] = ap (λ b. link_of i b) (Rattle.std.proofs.Common.le-leb 32 i (omega (arith, place))) ∙ ap (λ n. n ∷ []) (let z : i - 32 ≡ 0 + a.0 = omega (arith, place) in z) in
-                  subst (SaysOn p q clients fin v (first_mark i)) r.1 (reader_says p q clients fin calls (0 + a.0) r.0 v (first_mark i) (tt, refl, refl) past own refl (let low = r.2 in let links = fit.links in omega (arith, low, links))))
-              (split_at (replicate (32 - length (programs (sizes_of p q) clients)) Rest) (readers_from calls 0 opens) b.0 x b.2))
+          (λ a. let r = repeated (32 - length (programs (sizes_of p q) clients)) b.0 Rest x a in subst (SaysOn p q clients gives v (first_mark i)) r.0 ((tt, refl, refl), past_end clients i (let z = b.1 in omega (arith, z, many))))
+          (λ a. let r = readers_at calls 0 opens a.0 x a.2 in
+          let place : i ≡ 32 + a.0 = let z = b.1 in let y = a.1 in let few = fit.few in omega (arith, z, y, few, many, length-replicate (32 - length (programs (sizes_of p q) clients)) Rest) in
+          let past : get_or clients i [] ≡ [] = past_end clients i (let few = fit.few in omega (arith, few, place)) in
+          let own : link_of i (leb 32 i) ≡ (0 + a.0) ∷ [] = ap (λ b. link_of i b) (Rattle.std.proofs.Common.le-leb 32 i (omega (arith, place))) ∙ ap (λ n. n ∷ []) (let z : i - 32 ≡ 0 + a.0 = omega (arith, place) in z) in
+          subst (SaysOn p q clients gives v (first_mark i)) r.1 (reader_says p q clients gives calls (0 + a.0) r.0 v (first_mark i) (tt, refl, refl) past own refl (let low = r.2 in let links = fit.links in omega (arith, low, links))))
+          (split_at (replicate (32 - length (programs (sizes_of p q) clients)) Rest) (readers_from calls 0 opens) b.0 x b.2))
           (split_at (programs (sizes_of p q) clients) (replicate (32 - length (programs (sizes_of p q) clients)) Rest ++ readers_from calls 0 opens) i x e)
 
       -- ## The laws before the first step
@@ -186,13 +186,15 @@ module _ (p : Plan) (q : IdPlan) (clients : List (List Task)) (fin : ℕ → Lis
       free_at : (i : ℕ) → i < q.slots → (word_at first_scene i).state ≡ 0
       free_at i inside = ap (λ (y : Parts). y.state) (fresh_words.ids i inside)
 
-      first_births : BirthsLaw p q clients fin first_scene
+      first_births : BirthsLaw p q clients gives first_scene
       first_births = record {
         born = λ b there. absurd there;
         alive = λ i inside live. absurd (let z = free_at i inside in omega (arith, z, live));
         apart = tt;
         homes = λ i asked inside live lies. absurd (let z = free_at i inside in omega (arith, z, live));
         errors = λ i inside live. absurd (let z = free_at i inside in omega (arith, z, live));
+        attempts = λ b there. absurd there;
+        unmade = λ o all. refl;
         codes = fit.codes;
       }
 
@@ -202,7 +204,7 @@ module _ (p : Plan) (q : IdPlan) (clients : List (List Task)) (fin : ℕ → Lis
         single = λ j l i m n e f s t. absurd (subst (λ (x : Mark). Rattle.call_causes.specs.Stories.InSlot i x.slot) (sym (at_first q.seats j m e).0) s);
       }
 
-      first_claims : ClaimsLaw p q clients fin first_scene (first_marks 0 q.seats)
+      first_claims : ClaimsLaw p q clients gives first_scene (first_marks 0 q.seats)
       first_claims = record {
         taken = λ i inside some_. absurd (some_ (fresh_words.tags i inside));
         calls = λ c there. absurd there;
@@ -210,7 +212,7 @@ module _ (p : Plan) (q : IdPlan) (clients : List (List Task)) (fin : ℕ → Lis
         free = λ j m t at there i c. absurd c;
       }
 
-      first_reads : ReadsLaw p q clients fin first_scene (first_marks 0 q.seats)
+      first_reads : ReadsLaw p q clients gives first_scene (first_marks 0 q.seats)
       first_reads = record {
         bytes = λ j k m at own. none_given p.links k ∙ ap (λ (n : Mark). n.bytes) (at_first q.seats j m at).0;
         tied = tied;
@@ -220,25 +222,26 @@ module _ (p : Plan) (q : IdPlan) (clients : List (List Task)) (fin : ℕ → Lis
           tied : (j k : ℕ) (m : Mark) → At (first_marks 0 q.seats) j m → m.link ≡ k ∷ [] → j ≡ 32 + k
           tied j k m at own = link_is j k (leb 32 j) refl (ap (λ (n : Mark). n.link) (at_first q.seats j m at).0 ∙ own)
 
-      first_tasks : TasksLaw p q clients fin first_scene (replicate p.operations None) [] (first_marks 0 q.seats)
+      first_tasks : TasksLaw p q clients gives first_scene (replicate p.operations None) [] (first_marks 0 q.seats)
       first_tasks = record {
         client = λ j m at. ap (λ (n : Mark). n.client) (sym (at_first q.seats j m at).0);
-        placed = λ j m at. subst (λ (n : Mark). Rattle.call_causes.specs.Stories.undo p q clients fin n.done n.todo ≡ get_or clients j []) (at_first q.seats j m at).0 refl;
-        told = λ j m at. subst (λ (n : Mark). Rattle.call_causes.specs.Scenes.AreTold p q clients fin first_scene n.client n.done) (at_first q.seats j m at).0 tt;
+        placed = λ j m at. subst (λ (n : Mark). Rattle.call_causes.specs.Stories.undo p q clients gives n.done n.todo ≡ get_or clients j []) (at_first q.seats j m at).0 refl;
+        told = λ j m at. subst (λ (n : Mark). Rattle.call_causes.specs.Scenes.AreTold p q clients gives first_scene n.client n.done) (at_first q.seats j m at).0 tt;
+        quiet = λ j m at. subst (λ (n : Mark). Rattle.call_causes.specs.Stories.AreQuiet p q clients gives first_scene (replicate p.operations None) n.client n.done) (at_first q.seats j m at).0 tt;
         begun = λ b there. absurd there;
         made = λ j m b at is. absurd (let z : [] ≡ b ∷ [] = ap (λ (n : Mark). n.makes) (at_first q.seats j m at).0 ∙ is in cc);
         called = λ o inside begun. absurd (begun (fresh_words.rest (call_word q o) (omega arith)));
         said = λ o x there. absurd there;
         once = tt;
         outcomes = λ o x is. absurd (none_said p.operations o x is);
-        fresh = λ j m t at there. one_none p.operations t.number (fit.numbers j t (listed p q clients fin clients j t (subst (λ (n : Mark). In t (Rattle.call_causes.specs.Stories.ahead p q clients fin n.makes n.todo)) (sym (at_first q.seats j m at).0) there)));
+        fresh = λ j m t at there. one_none p.operations t.number (fit.numbers j t (listed p q clients gives clients j t (subst (λ (n : Mark). In t (Rattle.call_causes.specs.Stories.ahead p q clients gives n.makes n.todo)) (sym (at_first q.seats j m at).0) there)));
         untold = λ b there. absurd there;
         ended = λ b there. absurd there;
         owed = λ j m b at is. absurd (let z : [] ≡ b ∷ [] = ap (λ (n : Mark). n.owes) (at_first q.seats j m at).0 ∙ is in cc);
         owed_once = λ j l m n b e f is now. absurd (let z : [] ≡ b ∷ [] = ap (λ (n : Mark). n.owes) (at_first q.seats j m e).0 ∙ is in cc);
       }
 
-      here : Later p q clients fin first_scene first_scene
+      here : Later p q clients gives first_scene first_scene
       here = record {
         said = λ o x s. s;
         over = λ a b s. s;
@@ -247,7 +250,8 @@ module _ (p : Plan) (q : IdPlan) (clients : List (List Task)) (fin : ℕ → Lis
         born = λ id asked s. s;
         came = λ k n frame s. s;
         claimed = λ i o s. s;
-        room = has_room p q clients fin slots first_scene (first_marks 0 q.seats) first_claims;
+        used = λ b u. u;
+        within = (has_room p q clients gives slots first_scene (first_marks 0 q.seats) first_claims, lead);
         apart = λ id a b x y. absurd x;
       }
 
@@ -255,13 +259,13 @@ module _ (p : Plan) (q : IdPlan) (clients : List (List Task)) (fin : ℕ → Lis
 
       -- a seat that has said it
       abbrev Done : List Mark → ℕ → Program → Type 0
-      Done ms i x = (m : Mark) × At ms i m × IsKept p q clients fin (first_mark i) m × SaysOn p q clients fin first_scene m (next_step (resolved [] x))
+      Done ms i x = (m : Mark) × At ms i m × IsKept p q clients gives (first_mark i) m × SaysOn p q clients gives first_scene m (next_step (resolved [] x))
 
       -- the seats below k have said it
       abbrev AreBegun : List Mark → ℕ → Type 0
       AreBegun ms k = (i : ℕ) (x : Program) → get_elem? (all_programs (programs (sizes_of p q) clients) (readers_from calls 0 opens)) i ≡ core.some x → (i < k → Done ms i x) × (k ≤ i → At ms i (first_mark i))
 
-      one_more : (ms : List Mark) (k : ℕ) (x : Program) (m : Mark) → get_elem? (all_programs (programs (sizes_of p q) clients) (readers_from calls 0 opens)) k ≡ core.some x → At ms k (first_mark k) → IsKept p q clients fin (first_mark k) m → SaysOn p q clients fin first_scene m (next_step (resolved [] x)) → AreBegun ms k → AreBegun (set ms k m) (k + 1)
+      one_more : (ms : List Mark) (k : ℕ) (x : Program) (m : Mark) → get_elem? (all_programs (programs (sizes_of p q) clients) (readers_from calls 0 opens)) k ≡ core.some x → At ms k (first_mark k) → IsKept p q clients gives (first_mark k) m → SaysOn p q clients gives first_scene m (next_step (resolved [] x)) → AreBegun ms k → AreBegun (set ms k m) (k + 1)
       one_more ms k x m at there kept says begun i y e = (
         (λ low. dite (ℕ_discrete i k)
             (λ same. subst (λ n. get_elem? (all_programs (programs (sizes_of p q) clients) (readers_from calls 0 opens)) n ≡ core.some y → Done (set ms k m) n y) (sym same)
@@ -271,17 +275,17 @@ module _ (p : Plan) (q : IdPlan) (clients : List (List Task)) (fin : ℕ → Lis
       )
 
       begin_all : (xs : List Program) (k : ℕ) (os : List (Option Outcome)) (ss : List Saying) (ms : List Mark) → ((i : ℕ) (x : Program) → get_elem? xs i ≡ core.some x → get_elem? (all_programs (programs (sizes_of p q) clients) (readers_from calls 0 opens)) (k + i) ≡ core.some x)
-          → TasksLaw p q clients fin first_scene os ss ms → AreBegun ms k → ((s : Saying) → In s (first_sayings xs ss) → In s first_scene.sayings) → ((a b : Saying) → IsOver a b (first_sayings xs ss) → IsOver a b first_scene.sayings) → SlotsLaw q first_scene ms → ClaimsLaw p q clients fin first_scene ms → ReadsLaw p q clients fin first_scene ms
-          → (ms' : List Mark) × (length ms' ≡ length ms) × TasksLaw p q clients fin first_scene (fold (λ (l : List (Option Outcome)) (x : Program). said (resolved [] x) l) os xs) (first_sayings xs ss) ms' × AreBegun ms' (k + length xs) × SlotsLaw q first_scene ms' × ClaimsLaw p q clients fin first_scene ms' × ReadsLaw p q clients fin first_scene ms'
+          → TasksLaw p q clients gives first_scene os ss ms → AreBegun ms k → ((s : Saying) → In s (first_sayings xs ss) → In s first_scene.sayings) → ((a b : Saying) → IsOver a b (first_sayings xs ss) → IsOver a b first_scene.sayings) → SlotsLaw q first_scene ms → ClaimsLaw p q clients gives first_scene ms → ReadsLaw p q clients gives first_scene ms
+          → (ms' : List Mark) × (length ms' ≡ length ms) × TasksLaw p q clients gives first_scene (fold (λ (l : List (Option Outcome)) (x : Program). said (resolved [] x) l) os xs) (first_sayings xs ss) ms' × AreBegun ms' (k + length xs) × SlotsLaw q first_scene ms' × ClaimsLaw p q clients gives first_scene ms' × ReadsLaw p q clients gives first_scene ms'
       begin_all [] k os ss ms at law begun said overs slots claims reads = (ms, refl, law, subst (AreBegun ms) (let z : k ≡ k + 0 = omega arith in z) begun, slots, claims, reads)
       begin_all (x ∷ xs) k os ss ms at law begun said overs slots claims reads =
           let here_at : get_elem? (all_programs (programs (sizes_of p q) clients) (readers_from calls 0 opens)) k ≡ core.some x = subst (λ n. get_elem? (all_programs (programs (sizes_of p q) clients) (readers_from calls 0 opens)) n ≡ core.some x) (let z : k + 0 ≡ k = omega arith in z) (at 0 x refl) in
           let there = (begun k x here_at).1 (omega arith) in
-          let c = chain p q clients fin numbered first_scene first_births here k x [] os ss ms (first_mark k) there law (says_first first_scene k x here_at) tt (few_tries k x here_at)
-              (said_all first_scene x [] ss (λ s t. said s (first_kept xs (sayings_of (resolved [] x) ss) s t)) (λ a b t. overs a b (first_overs xs (sayings_of (resolved [] x) ss) a b t))) in
+          let c = chain p q clients gives numbered first_scene first_births here k x [] os ss ms (first_mark k) there law (says_first first_scene k x here_at) tt (few_tries k x here_at)
+          (said_all first_scene x [] ss (λ s t. said s (first_kept xs (sayings_of (resolved [] x) ss) s t)) (λ a b t. overs a b (first_overs xs (sayings_of (resolved [] x) ss) a b t))) in
           let r = begin_all xs (k + 1) (Rattle.sock_programs.specs.Cores.said (resolved [] x) os) (sayings_of (resolved [] x) ss) (set ms k c.0)
-              (λ i y e. subst (λ n. get_elem? (all_programs (programs (sizes_of p q) clients) (readers_from calls 0 opens)) n ≡ core.some y) (let z : k + suc i ≡ k + 1 + i = omega arith in z) (at (suc i) y e))
-              c.2 (one_more ms k x c.0 here_at there c.1 c.3 begun) said overs (kept_slots p q clients fin first_scene ms k (first_mark k) c.0 there c.1 slots) (kept_claims p q clients fin first_scene ms k (first_mark k) c.0 there c.1 claims) (kept_reads p q clients fin first_scene ms k (first_mark k) c.0 there c.1 reads) in (
+          (λ i y e. subst (λ n. get_elem? (all_programs (programs (sizes_of p q) clients) (readers_from calls 0 opens)) n ≡ core.some y) (let z : k + suc i ≡ k + 1 + i = omega arith in z) (at (suc i) y e))
+          c.2 (one_more ms k x c.0 here_at there c.1 c.3 begun) said overs (kept_slots p q clients gives first_scene ms k (first_mark k) c.0 there c.1 slots) (kept_claims p q clients gives first_scene ms k (first_mark k) c.0 there c.1 claims) (kept_reads p q clients gives first_scene ms k (first_mark k) c.0 there c.1 reads) in (
             r.0,
             r.1 ∙ length-set ms k c.0,
             r.2,
@@ -292,14 +296,15 @@ module _ (p : Plan) (q : IdPlan) (clients : List (List Task)) (fin : ℕ → Lis
           )
 
       -- the story as a run begins
-      pub first_story : HasStory p q clients fin (beginning p q (all_programs (programs (sizes_of p q) clients) (readers_from calls 0 opens)))
+      pub first_story : HasStory p q clients gives [] (beginning p q (all_programs (programs (sizes_of p q) clients) (readers_from calls 0 opens)))
       first_story =
           let xs : List Program = all_programs (programs (sizes_of p q) clients) (readers_from calls 0 opens) in
           let r = begin_all (all_programs (programs (sizes_of p q) clients) (readers_from calls 0 opens)) 0 (replicate p.operations None) [] (first_marks 0 q.seats) (λ i x e. subst (λ n. get_elem? xs n ≡ core.some x) (let z : i ≡ 0 + i = omega arith in z) e) first_tasks
-              (λ i x e. ((λ low. absurd (omega (arith, low))), (λ _. there_first q.seats i (let z = inside_of xs i x e in omega (arith, z, long))))) (λ s there. there) (λ a b there. there) first_slots first_claims first_reads in record {
+          (λ i x e. ((λ low. absurd (omega (arith, low))), (λ _. there_first q.seats i (let z = inside_of xs i x e in omega (arith, z, long))))) (λ s there. there) (λ a b there. there) first_slots first_claims first_reads in record {
             scene = first_scene;
             marks = r.0;
             is = refl;
+            shown = refl;
             story = record {
               each = r.1 ∙ (length_marks 0 q.seats ∙ (sym long ∙ sym (length-map xs (λ (x : Program). record { program = next_step (resolved [] x); hand = [] }))));
               slots = r.4;
@@ -311,6 +316,6 @@ module _ (p : Plan) (q : IdPlan) (clients : List (List Task)) (fin : ℕ → Lis
                   let s = mapped_at (λ (x : Program). record { program = next_step (resolved [] x); hand = [] }) xs j seat at_seat in
                   let d = (r.3 j s.0 s.1).0 (let z = inside_of xs j s.0 s.1 in omega (arith, z)) in
                   let same : d.0 ≡ m = some-injective d.0 m (sym d.1 ∙ at_m) in
-                  subst (λ (y : SeatState). SaysOn p q clients fin first_scene m y.program) s.2 (subst (λ (n : Mark). SaysOn p q clients fin first_scene n (next_step (resolved [] s.0))) same d.3);
+                  subst (λ (y : SeatState). SaysOn p q clients gives first_scene m y.program) s.2 (subst (λ (n : Mark). SaysOn p q clients gives first_scene n (next_step (resolved [] s.0))) same d.3);
             };
           }

@@ -5,11 +5,10 @@ use lib.ListN.{get_elem?}
 use Rattle.sock_words.specs.declared.plain.Plan.{Plan}
 use Rattle.corr_core.specs.declared.marks.Plan.{Plan as IdPlan}
 use Rattle.sock_programs.specs.declared.task.Task.{Task}
-use Rattle.sock_programs.specs.Cores.{Core}
 use Rattle.sock_runs.specs.Sound.{AllRest}
 use Rattle.call_causes.specs.Scenes.{Scene}
 use Rattle.call_causes.specs.Says.{Mark, SaysOn}
-use Rattle.call_causes.specs.Stories.{At, word_at, CallStory, HasStory}
+use Rattle.call_causes.specs.Stories.{word_at, CallStory}
 use Rattle.call_causes.proofs.End.{HasEnded}
 use Rattle.call_causes.proofs.Ticks.{other_there}
 
@@ -23,13 +22,13 @@ got_below [] i a e = absurd (let z : None ≡ Some a = e in cc)
 got_below (x ∷ xs) zero a e = omega arith
 got_below (x ∷ xs) (suc i) a e = omega (arith, got_below xs i a e)
 
-module _ (p : Plan) (q : IdPlan) (clients : List (List Task)) (fin : ℕ → List ℕ) where
+module _ (p : Plan) (q : IdPlan) (clients : List (List Task)) (gives : ℕ → List ℕ) where
   -- where no seat has anything left to do and no id is left
-  pub has_ended : (w : Scene) (ms : List Mark) → CallStory p q clients fin w ms → AllRest w.core → ((i : ℕ) → i < q.slots → (word_at w i).state ≡ 0) → length clients ≤ length w.core.seats → HasEnded p q clients fin w ms
+  pub has_ended : (w : Scene) (ms : List Mark) → CallStory p q clients gives w ms → AllRest w.core → ((i : ℕ) → i < q.slots → (word_at w i).state ≡ 0) → length clients ≤ length w.core.seats → HasEnded p q clients gives w ms
   has_ended w ms story rest free many = record {
     births = story.births;
     tasks = story.tasks;
-    idle = λ j m at. let s = other_there ms w.core.seats j m (sym story.each) at in let g = subst (SaysOn p q clients fin w m) (rest j s.0 s.1) (story.seats j s.0 m s.1 at) in (g.1, g.0.1);
+    idle = λ j m at. let s = other_there ms w.core.seats j m (sym story.each) at in let g = subst (SaysOn p q clients gives w m) (rest j s.0 s.1) (story.seats j s.0 m s.1 at) in (g.1, g.0.1);
     free = free;
     seated = λ c ts there. there_below ms c (let low = got_below clients c ts there in let each = story.each in omega (arith, low, each, many));
   }

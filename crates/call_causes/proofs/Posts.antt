@@ -12,8 +12,8 @@ use Rattle.sock_programs.specs.Programs.{Program, Aside, Round}
 use Rattle.sock_programs.specs.Posts.{packed, advance_of, is_first, is_sought, is_stale, is_full, judged, posts_round, post_with, posted, post, popped, unlocks_round, end_id, is_final, ends_call, decide, unlocked, decides_round, decided, locking, locks_round, joins_round}
 use Rattle.id_runs.proofs.Keeps.{parts_packed}
 use Rattle.id_runs.proofs.Loops.{not_equal}
-use Rattle.call_causes.specs.Scenes.{Birth, Scene, IsBorn, IsOther, CauseOf, of_expiry, of_other, FailedIn, by_expiry, by_other, Later}
-use Rattle.call_causes.specs.Says.{Slot, NoSlot, Locked, Holds, Leaves, Mark, with_slot, with_owed, IsVacant, IsFree, put_in, taken_out, SaidBy, HasCodes, Moves, Shows, IsSoughtIn, AtHead, Again, MatchesRange, LeavesPost, LeavesUnlock, EndsBy, LeavesDecision, LeavesLock, YieldsPost, SaysOn}
+use Rattle.call_causes.specs.Scenes.{Birth, Scene, IsBorn, IsOther, HasUsed, CauseOf, of_expiry, of_other, FailedIn, by_expiry, by_other, Later}
+use Rattle.call_causes.specs.Says.{Shape, shape_of, HasShape, with_attempt, unlocked_by, Slot, NoSlot, Claims, Locked, Holds, Leaves, Mark, with_slot, with_owed, IsVacant, IsFree, put_in, taken_out, SaidBy, HasCodes, Moves, Shows, IsSoughtIn, AtHead, Again, MatchesRange, LeavesPost, LeavesUnlock, IsLast, EndsBy, LeavesDecision, LeavesLock, YieldsPost, SaysOn}
 use Rattle.call_causes.proofs.Lasting.{far, cause_on}
 
 -- ## Tests
@@ -37,22 +37,26 @@ pub or_left : (a b : Bool) → (a || b) ≡ false → a ≡ false
 or_left true b e = e
 or_left false b e = refl
 
+pub or_cases : (a b : Bool) → (a || b) ≡ true → (a ≡ true) ⊎ (b ≡ true)
+or_cases true b e = inl refl
+or_cases false b e = inr e
+
 pub id_back : (id : ℕ) → call_id (id_slot id) (id_first id) ≡ id
 id_back id = omega arith
 
-module _ (p : Plan) (q : IdPlan) (clients : List (List Task)) (fin : ℕ → List ℕ) where
+module _ (p : Plan) (q : IdPlan) (clients : List (List Task)) (gives : ℕ → List ℕ) where
   abbrev pub Says : Scene → Mark → Program → Type 0
-  Says w m x = SaysOn p q clients fin w m x
+  Says w m x = SaysOn p q clients gives w m x
 
   abbrev pub After : Scene → Scene → Type 0
-  After w w' = Later p q clients fin w w'
+  After w w' = Later p q clients gives w w'
 
   -- the program may come next, with the same mark, or with another slot that is vacant
   abbrev pub Then : Scene → Mark → Program → Type 0
   Then w m x = (w' : Scene) → After w w' → SaidBy w' x → Says w' m x
 
   abbrev pub Follows : Scene → Mark → Program → Type 0
-  Follows w m x = (w' : Scene) (m' : Mark) → After w w' → SaidBy w' x → Again p q clients fin m m' → Says w' m' x
+  Follows w m x = (w' : Scene) (m' : Mark) → After w w' → SaidBy w' x → Again p q clients gives m m' → Says w' m' x
 
   pub way : (w : Scene) (m : Mark) (b : Bool) (x y : Program) → SaidBy w (cond b x y) → (b ≡ true → SaidBy w x → Says w m x) → (b ≡ false → SaidBy w y → Says w m y) → Says w m (cond b x y)
   way w m true x y s f g = f refl s
@@ -62,18 +66,18 @@ module _ (p : Plan) (q : IdPlan) (clients : List (List Task)) (fin : ℕ → Lis
   plain_way w m true x y f g = f refl
   plain_way w m false x y f g = g refl
 
-  pub again_same : (m m' : Mark) → IsFree m → m' ≡ m → Again p q clients fin m m'
+  pub again_same : (m m' : Mark) → IsFree m → m' ≡ m → Again p q clients gives m m'
   again_same m m' free is = record { slot = m.slot; vacant = free.0; is = is }
 
   -- what follows may follow from another vacant slot, and later
   pub then_on : (w v : Scene) (m : Mark) (x : Program) → After w v → Then w m x → Then v m x
-  then_on w v m x l goes = λ w' l' s. goes w' (far p q clients fin w v w' l l') s
+  then_on w v m x l goes = λ w' l' s. goes w' (far p q clients gives w v w' l l') s
 
   pub follows_on : (w v : Scene) (m : Mark) (s : Slot) (x : Program) → After w v → Follows w m x → Follows v (with_slot s m) x
-  follows_on w v m s x l goes = λ w' m' l' said a. goes w' m' (far p q clients fin w v w' l l') said (record { slot = a.slot; vacant = a.vacant; is = a.is })
+  follows_on w v m s x l goes = λ w' m' l' said a. goes w' m' (far p q clients gives w v w' l l') said (record { slot = a.slot; vacant = a.vacant; is = a.is })
 
   pub follows_later : (w v : Scene) (m : Mark) (x : Program) → After w v → Follows w m x → Follows v m x
-  follows_later w v m x l goes = λ w' m' l' said a. goes w' m' (far p q clients fin w v w' l l') said a
+  follows_later w v m x l goes = λ w' m' l' said a. goes w' m' (far p q clients gives w v w' l l') said a
 
   pub then_follows : (w : Scene) (m : Mark) (x : Program) → IsFree m → Follows w m x → Then w m x
   then_follows w m x free goes = λ w' l s. goes w' m l s (again_same m m free refl)
@@ -81,9 +85,9 @@ module _ (p : Plan) (q : IdPlan) (clients : List (List Task)) (fin : ℕ → Lis
   -- ## Posting
 
   abbrev pub Exits : Scene → Mark → ℕ → ℕ → (Posting → Program) → Type 0
-  Exits w m id e k = (exit : Posting) (w' : Scene) (m' : Mark) → After w w' → SaidBy w' (k exit) → LeavesPost p q clients fin m id exit m' → YieldsPost p q clients fin w' id e exit × Says w' m' (k exit)
+  Exits w m id e k = (exit : Posting) (w' : Scene) (m' : Mark) → After w w' → SaidBy w' (k exit) → LeavesPost p q clients gives m id exit m' → YieldsPost p q clients gives w' id e exit × Says w' m' (k exit)
 
-  judged_then : (w : Scene) (m : Mark) (id e found : ℕ) (k : Posting → Program) → IsFree m → HasCodes found → Exits w m id e k → Then w m (judged id e found k)
+  judged_then : (w : Scene) (m : Mark) (id e found : ℕ) (k : Posting → Program) → IsFree m → HasCodes p q clients gives found → Exits w m id e k → Then w m (judged id e found k)
   judged_then w m id e found k free codes goes = λ v l s.
       let two : Program = cond (is_full (parts found)) (k (WasCrowded (code_of (parts found).oldest) (code_of (parts found).second))) (Round (Posts id e found) k) in
       let one_ : Program = cond (is_stale e (parts found)) (k WasStale) two in
@@ -92,7 +96,7 @@ module _ (p : Plan) (q : IdPlan) (clients : List (List Task)) (fin : ℕ → Lis
       (λ _ s2. way v m (is_full (parts found)) (k (WasCrowded (code_of (parts found).oldest) (code_of (parts found).second))) (Round (Posts id e found) k) s2
       (λ full s3. let c = codes (eqb-true (parts found).state 2 (and_left (eqb (parts found).state 2) (not (eqb (parts found).second 0)) full)) (not_zero (parts found).second (and_right (eqb (parts found).state 2) (not (eqb (parts found).second 0)) full)) in
       (goes (WasCrowded (code_of (parts found).oldest) (code_of (parts found).second)) v m l s3 (again_same m m free refl, c.0, c.1)).1)
-      (λ _ _. ((free, not_true (is_first (id_first id) (parts found)) here), λ exit v' m' l' s' lv. goes exit v' m' (far p q clients fin w v v' l l') s' lv))))
+      (λ _ _. ((free, not_true (is_first (id_first id) (parts found)) here), λ exit v' m' l' s' lv. goes exit v' m' (far p q clients gives w v v' l l') s' lv))))
 
   pub post_with_says : (w : Scene) (m : Mark) (id e : ℕ) (k : Posting → Program) → IsFree m → Exits w m id e k → Says w m (post_with id e k)
   post_with_says w m id e k free goes = (tt, λ found v m' l s mv. (tt, subst (λ x. Says v x (judged id e found k)) (sym mv.0) (judged_then w m id e found k free mv.1 goes v l s)))
@@ -111,20 +115,20 @@ module _ (p : Plan) (q : IdPlan) (clients : List (List Task)) (fin : ℕ → Lis
       first_is : (parts from).first ≡ id_first id
       first_is = eqb-true (parts from).first (id_first id) (and_left (eqb (parts from).first (id_first id)) (not (eqb (parts from).state 0)) first)
 
-      by_state : (found : ℕ) (v : Scene) (m' : Mark) → After w v → Moves p q clients fin v m (PostId (id_slot id) from e) found m' → found ≡ from → (b : Bool) → eqb (parts from).state 1 ≡ b
-          → SaidBy v (cond b (k (HasLocked (packed (posted_word (parts from) e)))) (k WasQueued)) → Shows p q clients fin v (PostId (id_slot id) from e) found × Says v m' (cond b (k (HasLocked (packed (posted_word (parts from) e)))) (k WasQueued))
+      by_state : (found : ℕ) (v : Scene) (m' : Mark) → After w v → Moves p q clients gives v m (PostId (id_slot id) from e) found m' → found ≡ from → (b : Bool) → eqb (parts from).state 1 ≡ b
+          → SaidBy v (cond b (k (HasLocked (packed (posted_word (parts from) e)))) (k WasQueued)) → Shows p q clients gives v (PostId (id_slot id) from e) found × Says v m' (cond b (k (HasLocked (packed (posted_word (parts from) e)))) (k WasQueued))
       by_state found v m' l mv same true is s = let one = eqb-true (parts from).state 1 is in (
         (λ _ not_one. absurd (not_one one)),
-        (goes (HasLocked (packed (posted_word (parts from) e))) v m' l s ((parts from).range, mv.0 same one ∙ ap (λ f. with_slot (Locked (id_slot id) f (parts from).range) m) first_is, ap (λ (x : Parts). x.range) (locked_parts from e one))).1,
+        (goes (HasLocked (packed (posted_word (parts from) e))) v m' l s (shape_of (parts from), mv.0 same one ∙ ap (λ f. with_slot (Locked (id_slot id) f (shape_of (parts from))) m) first_is, (ap (λ (x : Parts). x.range) (locked_parts from e one), ap (λ (x : Parts). x.attempt) (locked_parts from e one)))).1,
       )
       by_state found v m' l mv same false is s = let y = goes WasQueued v m' l s (again_same m m' free (mv.1 same (not_equal (parts from).state 1 is))) in (
-        (λ _ _. subst (λ i. CauseOf p q clients fin v i e) (sym (ap (call_id (id_slot id)) first_is ∙ id_back id)) y.0),
+        (λ _ _. subst (λ i. CauseOf p q clients gives v i e) (sym (ap (call_id (id_slot id)) first_is ∙ id_back id)) y.0),
         y.1,
       )
 
-      by_found : (found : ℕ) (v : Scene) (m' : Mark) → After w v → Moves p q clients fin v m (PostId (id_slot id) from e) found m' → (b : Bool) → eqb found from ≡ b
+      by_found : (found : ℕ) (v : Scene) (m' : Mark) → After w v → Moves p q clients gives v m (PostId (id_slot id) from e) found m' → (b : Bool) → eqb found from ≡ b
           → SaidBy v (cond b (cond (eqb (parts from).state 1) (k (HasLocked (packed (posted_word (parts from) e)))) (k WasQueued)) (judged id e found k))
-          → Shows p q clients fin v (PostId (id_slot id) from e) found × Says v m' (cond b (cond (eqb (parts from).state 1) (k (HasLocked (packed (posted_word (parts from) e)))) (k WasQueued)) (judged id e found k))
+          → Shows p q clients gives v (PostId (id_slot id) from e) found × Says v m' (cond b (cond (eqb (parts from).state 1) (k (HasLocked (packed (posted_word (parts from) e)))) (k WasQueued)) (judged id e found k))
       by_found found v m' l mv true is s = by_state found v m' l mv (eqb-true found from is) (eqb (parts from).state 1) refl s
       by_found found v m' l mv false is s = let other = not_equal found from is in let y = mv.2 other in (
         (λ same _. absurd (other same)),
@@ -134,50 +138,50 @@ module _ (p : Plan) (q : IdPlan) (clients : List (List Task)) (fin : ℕ → Lis
   -- ## Deciding
 
   abbrev pub Decided : Scene → Mark → ℕ → ℕ → (Deciding → Program) → Type 0
-  Decided w m id e k = (exit : Deciding) (w' : Scene) (m' : Mark) → After w w' → SaidBy w' (k exit) → LeavesDecision p q clients fin w' m id e exit m' → Says w' m' (k exit)
+  Decided w m id e k = (exit : Deciding) (w' : Scene) (m' : Mark) → After w w' → SaidBy w' (k exit) → LeavesDecision p q clients gives w' m id e exit m' → Says w' m' (k exit)
 
   -- the range in hand ends
-  pub end_says : (w : Scene) (m : Mark) (i f range : ℕ) (asked : Asked) (next : Program) → m.slot ≡ Holds i f range asked → IsBorn w (call_id i f) asked → m.owes ≡ []
-      → ((v : Scene) (m' : Mark) (s : Slot) → IsVacant s → After w v → SaidBy v next → m' ≡ with_owed (record { id = call_id i f; asked = asked } ∷ []) (with_slot s m) → Says v m' next) → Says w m (end_id i next)
-  end_says w m i f range asked next slot born owes goes = (
-    (f, range, asked, slot, born, owes),
-    λ found v m' l s mv. let is = mv f range asked slot in (
+  pub end_says : (w : Scene) (m : Mark) (i f : ℕ) (shape : Shape) (asked : Asked) (next : Program) → m.slot ≡ Holds i f shape asked → IsBorn w (call_id i f) asked → m.owes ≡ []
+      → ((v : Scene) (m' : Mark) (s : Slot) → IsVacant s → After w v → SaidBy v next → m' ≡ with_owed (record { id = call_id i f; asked = asked } ∷ []) (with_slot s m) → (shape.attempt + 2 ≡ asked.range → HasUsed p q clients gives v (record { id = call_id i f; asked = asked })) → Says v m' next) → Says w m (end_id i next)
+  end_says w m i f shape asked next slot born owes goes = (
+    (f, shape, asked, slot, born, owes),
+    λ found v m' l s mv. let both = mv f shape asked slot in let is = both.0 in (
       tt,
       way v m' (Rattle.std.proofs.Common.leb ((parts found).first + (parts found).range) LAST) (Aside (FreeId i) (λ _. next)) next s
-          (λ _ _. (ap (λ (x : Mark). x.slot) is, λ _ v' m'' l' s' mv'. (tt, goes v' m'' NoSlot tt (far p q clients fin w v v' l l') s' (mv' ∙ ap (with_slot NoSlot) is))))
-          (λ _ s'. goes v m' (Leaves i) tt l s' is),
+          (λ _ _. (ap (λ (x : Mark). x.slot) is, λ _ v' m'' l' s' mv'. (tt, goes v' m'' NoSlot tt (far p q clients gives w v v' l l') s' (mv' ∙ ap (with_slot NoSlot) is) (λ all. l'.used (record { id = call_id i f; asked = asked }) (both.1 all)))))
+          (λ _ s'. goes v m' (Leaves i) tt l s' is both.1),
     ),
   )
 
-  regain : (w : Scene) (m : Mark) (s : Slot) (id e : ℕ) (exit : Deciding) (m' : Mark) → LeavesDecision p q clients fin w (with_slot s m) id e exit m' → LeavesDecision p q clients fin w m id e exit m'
+  regain : (w : Scene) (m : Mark) (s : Slot) (id e : ℕ) (exit : Deciding) (m' : Mark) → LeavesDecision p q clients gives w (with_slot s m) id e exit m' → LeavesDecision p q clients gives w m id e exit m'
   regain w m s id e (HasEnded o c) m' lv = lv
   regain w m s id e GoesOn m' lv = (record { slot = lv.0.slot; vacant = lv.0.vacant; is = lv.0.is }, lv.1)
 
   -- the error that was decided on was queued
-  queued : (w : Scene) (m : Mark) (id e x : ℕ) → attempt_of e ≢ 7 → CauseOf p q clients fin w id x → (exit : Deciding) (m' : Mark) → LeavesDecision p q clients fin w m id x exit m' → LeavesDecision p q clients fin w m id e exit m'
-  queued w m id e x part cause (HasEnded o c) m' lv = (lv.0, lv.1, lv.2, lv.3, lv.4, lv.5, lv.6, ⊎_elim (λ same. inr (part, x, same, cause)) (λ y. inr (part, y.1, y.2, y.3)) lv.7)
+  queued : (w : Scene) (m : Mark) (id e x : ℕ) → attempt_of e ≢ 7 → CauseOf p q clients gives w id x → (exit : Deciding) (m' : Mark) → LeavesDecision p q clients gives w m id x exit m' → LeavesDecision p q clients gives w m id e exit m'
+  queued w m id e x part cause (HasEnded o c) m' lv = (lv.0, lv.1, lv.2, lv.3, lv.4, lv.5, lv.6, ⊎_elim (λ same. inr (part, x, same.0, cause, same.1)) (λ y. inr (part, y.1, y.2, y.3, y.4)) lv.7)
   queued w m id e x part cause GoesOn m' lv = (lv.0, part)
 
   -- the call of a lock is taken out of its home, and decided on
-  pub decide_says : (w : Scene) (m : Mark) (id word e : ℕ) (k : Deciding → Program) (range : ℕ) → m.slot ≡ Locked (id_slot id) (id_first id) range → m.owes ≡ [] → m.makes ≡ [] → Decided w m id e k → Says w m (decide id word e k)
-  decide_says w m id word e k range slot owes makes goes = (
-    (id_first id, range, slot),
+  pub decide_says : (w : Scene) (m : Mark) (id word e : ℕ) (k : Deciding → Program) (shape : Shape) → m.slot ≡ Locked (id_slot id) (id_first id) shape → HasShape word shape → m.owes ≡ [] → m.makes ≡ [] → Decided w m id e k → Says w m (decide id word e k)
+  decide_says w m id word e k shape slot has owes makes goes = (
+    (id_first id, shape, slot),
     λ asked v m' l s mv. (
       tt,
       subst (λ x. Says v x (Round (Decides id asked word e) k)) (sym mv.0) (
-        ((range, ap (taken_out asked) slot), subst (λ i. IsBorn v i asked) (id_back id) (mv.1 (id_first id) range slot).0, owes, makes),
-        λ exit v' m'' l' s' lv. (tt, goes exit v' m'' (far p q clients fin w v v' l l') s' (regain v' m (taken_out asked m.slot) id e exit m'' lv)),
+        ((shape, ap (taken_out asked) slot, has, (mv.1 (id_first id) shape slot).1), subst (λ i. IsBorn v i asked) (id_back id) (mv.1 (id_first id) shape slot).0, owes, makes),
+        λ exit v' m'' l' s' lv. (tt, goes exit v' m'' (far p q clients gives w v v' l l') s' (regain v' m (taken_out asked m.slot) id e exit m'' lv)),
       ),
     ),
   )
 
-  pub decides_says : (w : Scene) (m : Mark) (id : ℕ) (asked : Asked) (word e : ℕ) (k : Deciding → Program) → AtHead p q clients fin w m (Decides id asked word e) → Decided w m id e k → Says w m (decides_round id asked word e k)
+  pub decides_says : (w : Scene) (m : Mark) (id : ℕ) (asked : Asked) (word e : ℕ) (k : Deciding → Program) → AtHead p q clients gives w m (Decides id asked word e) → Decided w m id e k → Says w m (decides_round id asked word e k)
   decides_says w m id asked word e k at goes =
       let r : Retry = record { id = id; attempt = (parts word).attempt + 1 } in
       let born = subst (λ i. IsBorn w i asked) (sym (id_back id)) at.1 in
       plain_way w m (ends_call (parts word) e) (end_id (id_slot id) (k (HasEnded asked.operation (code_of e)))) (Aside (PutCall (id_slot id) asked) (λ _. Round (Unlocks (id_slot id) word true) (unlocked r k)))
-      (λ _. end_says w m (id_slot id) (id_first id) at.0.0 asked (k (HasEnded asked.operation (code_of e))) at.0.1 born at.2
-      (λ v m' s vacant l said is. goes (HasEnded asked.operation (code_of e)) v m' l said (record { id = call_id (id_slot id) (id_first id); asked = asked }, s, vacant, is, id_back id, l.born (call_id (id_slot id) (id_first id)) asked born, refl, inl refl)))
+      (λ ends. end_says w m (id_slot id) (id_first id) at.0.0 asked (k (HasEnded asked.operation (code_of e))) at.0.1 born at.2
+      (λ v m' s vacant l said is used. goes (HasEnded asked.operation (code_of e)) v m' l said (record { id = call_id (id_slot id) (id_first id); asked = asked }, s, vacant, is, id_back id, l.born (call_id (id_slot id) (id_first id)) asked born, refl, inl (refl, last v ends used))))
       (λ more. (
         inr (id_first id, at.0.0, at.0.1, born),
         λ found v m' l s mv. (
@@ -189,27 +193,38 @@ module _ (p : Plan) (q : IdPlan) (clients : List (List Task)) (fin : ℕ → Lis
         ),
       ))
     where
-      unlocked_says : attempt_of e ≢ 7 → (v : Scene) → After w v → (exit : Unlocking) (v' : Scene) (m'' : Mark) → After v v' → SaidBy v' (unlocked (record { id = id; attempt = (parts word).attempt + 1 }) k exit) → LeavesUnlock p q clients fin v' (with_slot (put_in asked m.slot) m) (id_slot id) exit m''
+      last : (v : Scene) → ends_call (parts word) e ≡ true → (at.0.0.attempt + 2 ≡ asked.range → HasUsed p q clients gives v (record { id = call_id (id_slot id) (id_first id); asked = asked })) → IsLast p q clients gives v (record { id = call_id (id_slot id) (id_first id); asked = asked }) e
+      last v ends used = ⊎_elim (λ whole. inl (eqb-true (attempt_of e) 7 whole))
+          (λ rest. ⊎_elim (λ y. inr (inl y)) (λ y. inr (inr (used (ap (λ n. n + 2) (sym at.0.2.1) ∙ (eqb-true ((parts word).attempt + 2) (parts word).range y ∙ (at.0.2.0 ∙ sym at.0.3)))))) (or_cases (is_final (code_of e)) (eqb ((parts word).attempt + 2) (parts word).range) rest))
+          (or_cases (eqb (attempt_of e) 7) (is_final (code_of e) || eqb ((parts word).attempt + 2) (parts word).range) ends)
+
+      unlocked_says : attempt_of e ≢ 7 → (v : Scene) → After w v → (exit : Unlocking) (v' : Scene) (m'' : Mark) → After v v' → SaidBy v' (unlocked (record { id = id; attempt = (parts word).attempt + 1 }) k exit) → LeavesUnlock p q clients gives v' (with_slot (put_in asked m.slot) m) (id_slot id) exit m''
           → Says v' m'' (unlocked (record { id = id; attempt = (parts word).attempt + 1 }) k exit)
-      unlocked_says part v l (IsOpen x) v' m'' l' s' lv = goes GoesOn v' m'' (far p q clients fin w v v' l l') s' (record { slot = NoSlot; vacant = tt; is = lv }, part)
+      unlocked_says part v l (IsOpen x) v' m'' l' s' lv = goes GoesOn v' m'' (far p q clients gives w v v' l l') s' (record { slot = NoSlot; vacant = tt; is = lv }, part)
       unlocked_says part v l (HasNext x e') v' m'' l' s' lv =
           let slot = ap (put_in asked) at.0.1 in
-          let cause = subst (λ i. CauseOf p q clients fin v' i e') (id_back id) (lv.1 (id_first id) at.0.0 slot) in
-          subst (λ y. Says v' y (decide id x e' k)) (sym lv.0) (decide_says v' (with_slot (put_in asked m.slot) m) id x e' k at.0.0 slot at.2 at.3
-          (λ exit u m3 l3 s3 lv3. goes exit u m3 (far p q clients fin w v u l (far p q clients fin v v' u l' l3)) s3 (queued u m id e e' part (cause_on p q clients fin v' u l3 id e' cause) exit m3 (regain u m (put_in asked m.slot) id e' exit m3 lv3))))
+          let found = lv.1 (id_first id) at.0.0 slot in
+          let cause = subst (λ i. CauseOf p q clients gives v' i e') (id_back id) found.0 in
+          subst (λ y. Says v' y (decide id x e' k)) (sym lv.0) (decide_says v' (with_slot (with_attempt (parts x).attempt (put_in asked m.slot)) m) id x e' k (record { range = at.0.0.range; attempt = (parts x).attempt }) (ap (with_attempt (parts x).attempt) slot) (found.1, refl) at.2 at.3
+          (λ exit u m3 l3 s3 lv3. goes exit u m3 (far p q clients gives w v u l (far p q clients gives v v' u l' l3)) s3 (queued u m id e e' part (cause_on p q clients gives v' u l3 id e' cause) exit m3 (regain u m (with_attempt (parts x).attempt (put_in asked m.slot)) id e' exit m3 lv3))))
+
+  -- an error that isn't for the whole call, or is final, ends it where it is final or no attempt is left
+  pub last_of : (w : Scene) (b : Birth) (x : ℕ) → (is_final (code_of x) ≡ true) ⊎ (attempt_of x ≢ 7) → IsLast p q clients gives w b x → (is_final (code_of x) ≡ true) ⊎ HasUsed p q clients gives w b
+  last_of w b x light (inl whole) = ⊎_elim (λ y. inl y) (λ ne. absurd (ne whole)) light
+  last_of w b x light (inr y) = y
 
   -- why the call with the id failed, by an error that has its cause, and by the error that ended it
-  pub failed_of : (w : Scene) (b : Birth) (id x : ℕ) → ((a c : Asked) → IsBorn w id a → IsBorn w id c → a ≡ c) → b.id ≡ id → IsBorn w b.id b.asked → CauseOf p q clients fin w id x → FailedIn p q clients fin w b.id b.asked (code_of x)
-  failed_of w b id x apart is born (of_expiry asked whole there expired) = by_expiry (ap code_of whole ∙ omega arith) (subst (λ a. Rattle.call_causes.specs.Scenes.IsExpired p q clients fin w a) (apart asked b.asked there (subst (λ i. IsBorn w i b.asked) is born)) expired)
-  failed_of w b id x apart is born (of_other other) = by_other other
+  pub failed_of : (w : Scene) (b : Birth) (id x : ℕ) → ((a c : Asked) → IsBorn w id a → IsBorn w id c → a ≡ c) → b.id ≡ id → IsBorn w b.id b.asked → CauseOf p q clients gives w id x → IsLast p q clients gives w b x → FailedIn p q clients gives w b.id b.asked (code_of x)
+  failed_of w b id x apart is born (of_expiry asked whole there expired) last = by_expiry (ap code_of whole ∙ omega arith) (subst (λ a. Rattle.call_causes.specs.Scenes.IsExpired p q clients gives w a) (apart asked b.asked there (subst (λ i. IsBorn w i b.asked) is born)) expired)
+  failed_of w b id x apart is born (of_other other light) last = by_other other (last_of w b x light last)
 
-  failed_by : (w : Scene) (b : Birth) (id e c : ℕ) → ((x y : Asked) → IsBorn w id x → IsBorn w id y → x ≡ y) → b.id ≡ id → IsBorn w b.id b.asked → FailedIn p q clients fin w b.id b.asked (code_of e) → EndsBy p q clients fin w id e c → FailedIn p q clients fin w b.id b.asked c
-  failed_by w b id e c apart is born own (inl same) = subst (FailedIn p q clients fin w b.id b.asked) (sym same) own
-  failed_by w b id e c apart is born own (inr y) = subst (FailedIn p q clients fin w b.id b.asked) (sym y.2) (failed_of w b id y.1 apart is born y.3)
+  failed_by : (w : Scene) (b : Birth) (id e c : ℕ) → ((x y : Asked) → IsBorn w id x → IsBorn w id y → x ≡ y) → b.id ≡ id → IsBorn w b.id b.asked → (IsLast p q clients gives w b e → FailedIn p q clients gives w b.id b.asked (code_of e)) → EndsBy p q clients gives w b id e c → FailedIn p q clients gives w b.id b.asked c
+  failed_by w b id e c apart is born own (inl same) = subst (FailedIn p q clients gives w b.id b.asked) (sym same.0) (own same.1)
+  failed_by w b id e c apart is born own (inr y) = subst (FailedIn p q clients gives w b.id b.asked) (sym y.2) (failed_of w b id y.1 apart is born y.3 y.4)
 
   -- what follows a decision
   pub decided_says : (w : Scene) (m : Mark) (id e : ℕ) (next : Program) → m.owes ≡ []
-      → ((v : Scene) (b : Birth) → After w v → SaidBy v next → IsBorn v b.id b.asked → b.id ≡ id → FailedIn p q clients fin v b.id b.asked (code_of e)) → Follows w m next → Decided w m id e (decided id next)
+      → ((v : Scene) (b : Birth) → After w v → SaidBy v next → IsBorn v b.id b.asked → b.id ≡ id → IsLast p q clients gives v b e → FailedIn p q clients gives v b.id b.asked (code_of e)) → Follows w m next → Decided w m id e (decided id next)
   decided_says w m id e next owes own goes (HasEnded o c) v m' l s lv = let b = lv.0 in let is = lv.3 in inr (
     b,
     ap (λ (x : Mark). x.owes) is,
@@ -221,37 +236,51 @@ module _ (p : Plan) (q : IdPlan) (clients : List (List Task)) (fin : ℕ → Lis
   decided_says w m id e next owes own goes GoesOn v m' l s lv = goes v m' l s lv.0
 
   -- what follows a post whoever made it
-  pub posted_exits : (w : Scene) (m : Mark) (id e : ℕ) (next : Program) → IsFree m → IsOther (code_of e) → Follows w m next → Exits w m id e (posted id e next)
-  posted_exits w m id e next free other goes (HasLocked word) v m' l s lv = (
+  pub posted_exits : (w : Scene) (m : Mark) (id e : ℕ) (next : Program) → IsFree m → IsOther p q clients gives (code_of e) → (is_final (code_of e) ≡ true) ⊎ (attempt_of e ≢ 7) → Follows w m next → Exits w m id e (posted id e next)
+  posted_exits w m id e next free other light goes (HasLocked word) v m' l s lv = (
     tt,
     subst (λ x. Says v x (decide id word e (decided id next))) (sym lv.1)
-        (decide_says v (with_slot (Locked (id_slot id) (id_first id) lv.0) m) id word e (decided id next) lv.0 refl free.1 free.2
-        (decided_says v (with_slot (Locked (id_slot id) (id_first id) lv.0) m) id e next free.1 (λ u b _ _ _ _. by_other other) (follows_on w v m (Locked (id_slot id) (id_first id) lv.0) next l goes))),
+        (decide_says v (with_slot (Locked (id_slot id) (id_first id) lv.0) m) id word e (decided id next) lv.0 refl lv.2 free.1 free.2
+        (decided_says v (with_slot (Locked (id_slot id) (id_first id) lv.0) m) id e next free.1 (λ u b _ _ _ _ last. by_other other (last_of u b e light last)) (follows_on w v m (Locked (id_slot id) (id_first id) lv.0) next l goes))),
   )
-  posted_exits w m id e next free other goes WasGone v m' l s lv = (tt, goes v m' l s lv)
-  posted_exits w m id e next free other goes WasStale v m' l s lv = (tt, goes v m' l s lv)
-  posted_exits w m id e next free other goes (WasCrowded a b) v m' l s lv = (tt, goes v m' l s lv.0)
-  posted_exits w m id e next free other goes WasQueued v m' l s lv = (of_other other, goes v m' l s lv)
+  posted_exits w m id e next free other light goes WasGone v m' l s lv = (tt, goes v m' l s lv)
+  posted_exits w m id e next free other light goes WasStale v m' l s lv = (tt, goes v m' l s lv)
+  posted_exits w m id e next free other light goes (WasCrowded a b) v m' l s lv = (tt, goes v m' l s lv.0)
+  posted_exits w m id e next free other light goes WasQueued v m' l s lv = (of_other other light, goes v m' l s lv)
 
-  pub post_says : (w : Scene) (m : Mark) (id c n : ℕ) (next : Program) → IsFree m → IsOther c → n < 8 → Follows w m next → Says w m (post id c n next)
+  pub post_says : (w : Scene) (m : Mark) (id c n : ℕ) (next : Program) → IsFree m → IsOther p q clients gives c → n ≤ 6 → Follows w m next → Says w m (post id c n next)
   post_says w m id c n next free other few goes = let back : c ≡ code_of (c * 8 + n) = omega (arith, few) in
-      post_with_says w m id (error_of c n) (posted id (error_of c n) next) free (posted_exits w m id (error_of c n) next free (subst IsOther back other) goes)
+      post_with_says w m id (error_of c n) (posted id (error_of c n) next) free (posted_exits w m id (error_of c n) next free (subst (IsOther p q clients gives) back other) (inr (λ is. omega (arith, few, is))) goes)
 
   -- ## Giving a lock back
 
   abbrev pub Unlocked : Scene → Mark → ℕ → (Unlocking → Program) → Type 0
-  Unlocked w m i k = (exit : Unlocking) (w' : Scene) (m' : Mark) → After w w' → SaidBy w' (k exit) → LeavesUnlock p q clients fin w' m i exit m' → Says w' m' (k exit)
+  Unlocked w m i k = (exit : Unlocking) (w' : Scene) (m' : Mark) → After w w' → SaidBy w' (k exit) → LeavesUnlock p q clients gives w' m i exit m' → Says w' m' (k exit)
 
-  pub unlocks_says : (w : Scene) (m : Mark) (i from : ℕ) (advance : Bool) (k : Unlocking → Program) → ((f range : ℕ) × (m.slot ≡ Locked i f range)) → m.owes ≡ [] → m.makes ≡ [] → Unlocked w m i k → Says w m (unlocks_round i from advance k)
+  pub unlocks_says : (w : Scene) (m : Mark) (i from : ℕ) (advance : Bool) (k : Unlocking → Program) → ((f : ℕ) × (shape : Shape) × (m.slot ≡ Locked i f shape)) → m.owes ≡ [] → m.makes ≡ [] → Unlocked w m i k → Says w m (unlocks_round i from advance k)
   unlocks_says w m i from advance k slot owes makes goes = (slot, λ found v m' l s mv. (tt, by_found found v m' l mv (eqb found from) refl s))
     where
       after : ℕ
       after = packed (unlocked_word (parts from) (advance_of advance))
 
       again : (word : ℕ) (next : Bool) (v : Scene) (m' : Mark) → After w v → m' ≡ m → Says v m' (Round (Unlocks i word next) k)
-      again word next v m' l is = subst (λ x. Says v x (Round (Unlocks i word next) k)) (sym is) ((slot, owes, makes), λ exit v' m'' l' s' lv. (tt, goes exit v' m'' (far p q clients fin w v v' l l') s' lv))
+      again word next v m' l is = subst (λ x. Says v x (Round (Unlocks i word next) k)) (sym is) ((slot, owes, makes), λ exit v' m'' l' s' lv. (tt, goes exit v' m'' (far p q clients gives w v v' l l') s' lv))
 
-      by_found : (found : ℕ) (v : Scene) (m' : Mark) → After w v → Moves p q clients fin v m (UnlockId i from advance) found m' → (b : Bool) → eqb found from ≡ b
+      twice : (a b : ℕ) (s : Slot) → with_attempt b (with_attempt a s) ≡ with_attempt b s
+      twice a b NoSlot = refl
+      twice a b (Claims j c) = refl
+      twice a b (Locked j f shape) = refl
+      twice a b (Holds j f shape asked) = refl
+      twice a b (Leaves j) = refl
+
+      rebase : (v : Scene) (a : ℕ) (exit : Unlocking) (m'' : Mark) → LeavesUnlock p q clients gives v (with_slot (with_attempt a m.slot) m) i exit m'' → LeavesUnlock p q clients gives v m i exit m''
+      rebase v a (IsOpen word) m'' lv = lv
+      rebase v a (HasNext word e) m'' lv = (lv.0 ∙ ap (λ s. with_slot s m) (twice a (parts word).attempt m.slot), λ f shape is. lv.1 f (record { range = shape.range; attempt = a }) (ap (with_attempt a) is))
+
+      further : (a word : ℕ) (v : Scene) (m' : Mark) → After w v → m' ≡ with_slot (with_attempt a m.slot) m → Says v m' (Round (Unlocks i word false) k)
+      further a word v m' l is = subst (λ x. Says v x (Round (Unlocks i word false) k)) (sym is) (((slot.0, record { range = slot.1.range; attempt = a }, ap (with_attempt a) slot.2), owes, makes), λ exit v' m'' l' s' lv. (tt, goes exit v' m'' (far p q clients gives w v v' l l') s' (rebase v' a exit m'' lv)))
+
+      by_found : (found : ℕ) (v : Scene) (m' : Mark) → After w v → Moves p q clients gives v m (UnlockId i from advance) found m' → (b : Bool) → eqb found from ≡ b
           → SaidBy v (cond b (popped i (parts from).oldest (packed (unlocked_word (parts from) (advance_of advance))) k) (Round (Unlocks i found advance) k)) → Says v m' (cond b (popped i (parts from).oldest (packed (unlocked_word (parts from) (advance_of advance))) k) (Round (Unlocks i found advance) k))
       by_found found v m' l mv true is s = let same = eqb-true found from is in
           let word : ℕ = packed (unlocked_word (parts from) (advance_of advance)) in
@@ -259,32 +288,32 @@ module _ (p : Plan) (q : IdPlan) (clients : List (List Task)) (fin : ℕ → Lis
           way v m' (eqb (parts from).oldest 0) (k (IsOpen word)) two s
           (λ none_ s'. goes (IsOpen word) v m' l s' (mv.0 same (eqb-true (parts from).oldest 0 none_)))
           (λ some_ s'. let y = mv.1 same (not_equal (parts from).oldest 0 some_) in
-          way v m' (is_stale (parts from).oldest (parts word)) (Round (Unlocks i word false) k) (k (HasNext word (parts from).oldest)) s' (λ _ _. again word false v m' l y.0) (λ _ s''. goes (HasNext word (parts from).oldest) v m' l s'' y))
+          way v m' (is_stale (parts from).oldest (parts word)) (Round (Unlocks i word false) k) (k (HasNext word (parts from).oldest)) s' (λ _ _. further (parts (unlocked_by from advance)).attempt word v m' l y.0) (λ _ s''. goes (HasNext word (parts from).oldest) v m' l s'' y))
       by_found found v m' l mv false is s = again found advance v m' l (mv.2 (not_equal found from is))
 
   -- ## Getting a lock
 
   abbrev pub Lockings : Scene → Mark → ℕ → Sought → (Locking → Program) → Type 0
-  Lockings w m i sought k = (exit : Locking) (w' : Scene) (m' : Mark) → After w w' → SaidBy w' (k exit) → LeavesLock p q clients fin m i sought exit m' → Says w' m' (k exit)
+  Lockings w m i sought k = (exit : Locking) (w' : Scene) (m' : Mark) → After w w' → SaidBy w' (k exit) → LeavesLock p q clients gives m i sought exit m' → Says w' m' (k exit)
 
   locking_then : (w : Scene) (m : Mark) (i : ℕ) (sought : Sought) (found : ℕ) (k : Locking → Program) → IsFree m → Lockings w m i sought k → Then w m (locking i sought found k)
   locking_then w m i sought found k free goes = λ v l s. let two : Program = cond (eqb (parts found).state 1) (Round (Locks i sought (Some found)) k) (Round (Locks i sought None) k) in
       way v m (not (is_sought sought (parts found))) (k (NotThere found)) two s (λ _ s'. goes (NotThere found) v m l s' refl)
       (λ here _. plain_way v m (eqb (parts found).state 1) (Round (Locks i sought (Some found)) k) (Round (Locks i sought None) k)
-      (λ one. ((free, (not_true (is_sought sought (parts found)) here, eqb-true (parts found).state 1 one)), λ exit v' m' l' s' lv. (tt, goes exit v' m' (far p q clients fin w v v' l l') s' lv)))
-      (λ _. ((free, tt), λ exit v' m' l' s' lv. (tt, goes exit v' m' (far p q clients fin w v v' l l') s' lv))))
+      (λ one. ((free, (not_true (is_sought sought (parts found)) here, eqb-true (parts found).state 1 one)), λ exit v' m' l' s' lv. (tt, goes exit v' m' (far p q clients gives w v v' l l') s' lv)))
+      (λ _. ((free, tt), λ exit v' m' l' s' lv. (tt, goes exit v' m' (far p q clients gives w v v' l l') s' lv))))
 
-  matches : (sought : Sought) (word : ℕ) → is_sought sought (parts word) ≡ true → MatchesRange p q clients fin sought (parts word).first (parts word).range
+  matches : (sought : Sought) (word : ℕ) → is_sought sought (parts word) ≡ true → MatchesRange p q clients gives sought (parts word).first (parts word).range
   matches (First first) word is = eqb-true (parts word).first first (and_left (eqb (parts word).first first) (not (eqb (parts word).state 0)) is)
   matches (Version v) word is = let both = and_right (not (eqb (parts word).state 0)) (nat_lt (parts word).first v && nat_lt v ((parts word).first + (parts word).range)) is in
       (ltb-true (parts word).first v (and_left (nat_lt (parts word).first v) (nat_lt v ((parts word).first + (parts word).range)) both), ltb-true v ((parts word).first + (parts word).range) (and_right (nat_lt (parts word).first v) (nat_lt v ((parts word).first + (parts word).range)) both))
 
-  pub locks_says : (w : Scene) (m : Mark) (i : ℕ) (sought : Sought) (from : Option ℕ) (k : Locking → Program) → IsFree m → IsSoughtIn p q clients fin sought from → Lockings w m i sought k → Says w m (locks_round i sought from k)
+  pub locks_says : (w : Scene) (m : Mark) (i : ℕ) (sought : Sought) (from : Option ℕ) (k : Locking → Program) → IsFree m → IsSoughtIn p q clients gives sought from → Lockings w m i sought k → Says w m (locks_round i sought from k)
   locks_says w m i sought None k free is goes = (tt, λ found v m' l s mv. (tt, subst (λ x. Says v x (locking i sought found k)) (sym mv.0) (locking_then w m i sought found k free goes v l s)))
   locks_says w m i sought (Some from) k free is goes = (free, λ found v m' l s mv. (tt, by_found found v m' l mv (eqb found from) refl s))
     where
-      by_found : (found : ℕ) (v : Scene) (m' : Mark) → After w v → Moves p q clients fin v m (LockId i from) found m' → (b : Bool) → eqb found from ≡ b → SaidBy v (cond b (k (Has (packed (posted_word (parts from) 0)))) (locking i sought found k)) → Says v m' (cond b (k (Has (packed (posted_word (parts from) 0)))) (locking i sought found k))
-      by_found found v m' l mv true hit s = goes (Has (packed (posted_word (parts from) 0))) v m' l s ((parts from).first, (parts from).range, mv.0 (eqb-true found from hit), ap (λ (x : Parts). x.first) (locked_parts from 0 is.1), matches sought from is.0)
+      by_found : (found : ℕ) (v : Scene) (m' : Mark) → After w v → Moves p q clients gives v m (LockId i from) found m' → (b : Bool) → eqb found from ≡ b → SaidBy v (cond b (k (Has (packed (posted_word (parts from) 0)))) (locking i sought found k)) → Says v m' (cond b (k (Has (packed (posted_word (parts from) 0)))) (locking i sought found k))
+      by_found found v m' l mv true hit s = goes (Has (packed (posted_word (parts from) 0))) v m' l s ((parts from).first, shape_of (parts from), mv.0 (eqb-true found from hit), ap (λ (x : Parts). x.first) (locked_parts from 0 is.1), matches sought from is.0)
       by_found found v m' l mv false hit s = subst (λ x. Says v x (locking i sought found k)) (sym (mv.1 (not_equal found from hit))) (locking_then w m i sought found k free goes v l s)
 
   -- ## Waiting for an end
@@ -295,6 +324,6 @@ module _ (p : Plan) (q : IdPlan) (clients : List (List Task)) (fin : ℕ → Lis
     λ found v m' l s mv. (
       tt,
       subst (λ x. Says v x (cond (is_first (id_first id) (parts found)) (Round (Joins id) k) (k found))) (sym mv.0) (way v m (is_first (id_first id) (parts found)) (Round (Joins id) k) (k found) s
-          (λ _ _. (free, λ exit v' m'' l' s' lv. (tt, subst (λ x. Says v' x (k exit)) (sym lv) (goes exit v' (far p q clients fin w v v' l l') s')))) (λ _ s'. goes found v l s')),
+          (λ _ _. (free, λ exit v' m'' l' s' lv. (tt, subst (λ x. Says v' x (k exit)) (sym lv) (goes exit v' (far p q clients gives w v v' l l') s')))) (λ _ s'. goes found v l s')),
     ),
   )

@@ -11,13 +11,13 @@ use Rattle.call_causes.specs.Says.{Mark, SaysOn}
 use Rattle.call_causes.proofs.Posts.{posts_says, unlocks_says, decides_says, locks_says, joins_says}
 use Rattle.call_causes.proofs.Reading.{reads_says, discards_says, opens_says}
 
-module _ (p : Plan) (q : IdPlan) (clients : List (List Task)) (fin : ℕ → List ℕ) where
-  pub round_says : (w : Scene) (m : Mark) (head : Head) (k : Exit head → Program) → SaysOn p q clients fin w m (Round head k) → SaysOn p q clients fin w m (round head k)
-  round_says w m (Posts id e word) k g = posts_says p q clients fin w m id e word k g.0.0 g.0.1 g.1
-  round_says w m (Unlocks i word advance) k g = unlocks_says p q clients fin w m i word advance k g.0.0 g.0.1 g.0.2 (λ exit v m' l s lv. (g.1 exit v m' l s lv).1)
-  round_says w m (Decides id asked word e) k g = decides_says p q clients fin w m id asked word e k g.0 (λ exit v m' l s lv. (g.1 exit v m' l s lv).1)
-  round_says w m (Locks i sought word) k g = locks_says p q clients fin w m i sought word k g.0.0 g.0.1 (λ exit v m' l s lv. (g.1 exit v m' l s lv).1)
-  round_says w m (Joins id) k g = joins_says p q clients fin w m id k g.0 (λ exit v l s. (g.1 exit v m l s refl).1)
-  round_says w m (Opens o) k g = opens_says p q clients fin w m o k g.0 (λ exit v l s. (g.1 exit v m l s refl).1)
-  round_says w m (Reads r) k g = reads_says p q clients fin w m r k g.0.0 g.0.1 (λ exit v m' l s lv. (g.1 exit v m' l s lv).1)
-  round_says w m (Discards link total) k g = discards_says p q clients fin w m link total k g.0.0 g.0.1 (λ exit v m' l s bytes is. (g.1 exit v m' l s (bytes, is)).1)
+module _ (p : Plan) (q : IdPlan) (clients : List (List Task)) (gives : ℕ → List ℕ) where
+  pub round_says : (w : Scene) (m : Mark) (head : Head) (k : Exit head → Program) → SaysOn p q clients gives w m (Round head k) → SaysOn p q clients gives w m (round head k)
+  round_says w m (Posts id e word) k g = posts_says p q clients gives w m id e word k g.0.0 g.0.1 g.1
+  round_says w m (Unlocks i word advance) k g = unlocks_says p q clients gives w m i word advance k g.0.0 g.0.1 g.0.2 (λ exit v m' l s lv. (g.1 exit v m' l s lv).1)
+  round_says w m (Decides id asked word e) k g = decides_says p q clients gives w m id asked word e k g.0 (λ exit v m' l s lv. (g.1 exit v m' l s lv).1)
+  round_says w m (Locks i sought word) k g = locks_says p q clients gives w m i sought word k g.0.0 g.0.1 (λ exit v m' l s lv. (g.1 exit v m' l s lv).1)
+  round_says w m (Joins id) k g = joins_says p q clients gives w m id k g.0 (λ exit v l s. (g.1 exit v m l s refl).1)
+  round_says w m (Opens o) k g = opens_says p q clients gives w m o k g.0 (λ exit v l s. (g.1 exit v m l s refl).1)
+  round_says w m (Reads r) k g = reads_says p q clients gives w m r k g.0.0 g.0.1 (λ exit v m' l s lv. (g.1 exit v m' l s lv).1)
+  round_says w m (Discards link total) k g = discards_says p q clients gives w m link total k g.0.0 g.0.1 (λ exit v m' l s bytes is. (g.1 exit v m' l s (bytes, is)).1)

@@ -1,8 +1,8 @@
 -- The story of the calls goes on along the ticks of a whole run, up to its end.
-use Rattle.std.proofs.Common.{◌≡◌, ◌≢◌, ℕ, zero, suc, ◌+◌, ◌<◌, ◌≤◌, List, [], ◌∷◌, ◌++◌, length, length-set, replicate, refl, sym, ap, ◌∙◌, subst, arith}
+use Rattle.std.proofs.Common.{◌≡◌, ◌≢◌, ℕ, zero, suc, ◌+◌, ◌<◌, ◌≤◌, cond, eqb, List, [], ◌∷◌, ◌++◌, length, length-set, replicate, refl, sym, ap, ◌∙◌, subst, arith}
 use Rattle.std.proofs.lemmas.List.{length-map}
 use Rattle.std.specs.List.{AllByRecursion}
-use mathlib.Core.Option.{Option, none, some, some-injective, some-ne-none}
+use mathlib.Core.Option.{some, some-injective, some-ne-none}
 use lib.ListN.{get_elem?}
 use Rattle.sock_words.specs.declared.plain.Plan.{Plan}
 use Rattle.sock_model.specs.declared.view.View.{View}
@@ -28,9 +28,11 @@ use Rattle.id_runs.proofs.Opening.{all_go}
 use Rattle.joint_runs.proofs.Both.{BothSound, AreBoth, behind_both}
 use Rattle.joint_runs.proofs.Runs.{AreMade, first_views, IsSoundRun, joint_runs}
 use Rattle.joint_runs.proofs.Starts.{narrow}
-use Rattle.call_causes.specs.Scenes.{Scene}
+use Rattle.call_causes.specs.Lists.{times, advanced_at, shows_in, attempts_of_run}
+use Rattle.call_causes.specs.Scenes.{Scene, LeadsTo}
+use Rattle.call_causes.proofs.Leading.{run_leads}
 use Rattle.call_causes.specs.Says.{Mark, SaysOn}
-use Rattle.call_causes.specs.Stories.{At, CallStory, HasStory}
+use Rattle.call_causes.specs.Stories.{CallStory, HasStory}
 use Rattle.call_causes.proofs.Clients.{ending_says}
 use Rattle.call_causes.proofs.Numbered.{AreNumbered}
 use Rattle.call_causes.proofs.Claiming.{HaveSlots}
@@ -39,53 +41,76 @@ use Rattle.call_causes.proofs.Ticks.{other_there, keeps_few, on_homes, told_stor
 use Rattle.call_causes.proofs.Allowing.{allows}
 use Rattle.call_causes.proofs.Opening.{Begins, first_story}
 
+times_append : (o : ℕ) (xs ys : List ℕ) → times o (xs ++ ys) ≡ times o xs + times o ys
+times_append o [] ys = omega arith
+times_append o (x ∷ xs) ys = let z = times_append o xs ys in let b : ℕ = cond (eqb x o) 1 0 in ap (λ n. cond (eqb x o) 1 0 + n) z ∙ omega arith
+
+times_assoc : (o : ℕ) (xs ys zs : List ℕ) → times o ((xs ++ ys) ++ zs) ≡ times o (xs ++ (ys ++ zs))
+times_assoc o xs ys zs = let a = times_append o (xs ++ ys) zs in let b = times_append o xs ys in let c = times_append o xs (ys ++ zs) in let d = times_append o ys zs in omega (arith, a, b, c, d)
+
 ending_few : (os : List ℕ) → KeepsFew (ending_of os)
 ending_few [] = tt
 ending_few (o ∷ os) = tt
 
-module _ (p : Plan) (q : IdPlan) (clients : List (List Task)) (fin : ℕ → List ℕ) (numbered : AreNumbered p q clients fin) (slots : HaveSlots p q clients fin) (small : q.slots ≤ 65536) where
-  abbrev pub Story : Core → Type 0
-  Story c = HasStory p q clients fin c
+module _ (p : Plan) (q : IdPlan) (clients : List (List Task)) (gives : ℕ → List ℕ) (numbered : AreNumbered p q clients gives) (slots : HaveSlots p q clients gives) (small : q.slots ≤ 65536) where
+  -- the story of a core, up to which the attempt of each call was advanced as often as it stands here
+  abbrev pub Story : List ℕ → Core → Type 0
+  Story shown c = (ns : List ℕ) × HasStory p q clients gives ns c × ((o : ℕ) → times o ns ≡ times o shown)
 
-  one_tick : (c : Core) (vs : List View) (m : Moment) → BothSound p q c vs → Rattle.joint_runs.proofs.Both.FitsBoth p c m → (m.seat ≢ 0 → (seat : SeatState) → get_elem? c.seats 0 ≡ some seat → seat.program ≡ Rattle.sock_programs.specs.Programs.Rest) → Story c → Story (ticked p c m)
-  one_tick c vs m both fits over h = story_ticks p q clients fin numbered slots small c both.id_views m both.ids fits.fitting_ids (let s = both.sockets in s.lawful.references.sized) (allows p c vs m both.sockets) over h
+  retold : (a b : List ℕ) (c : Core) → ((o : ℕ) → times o a ≡ times o b) → Story a c → Story b c
+  retold a b c same h = (h.0, h.1, λ o. h.2 o ∙ same o)
+
+  one_tick : (shown : List ℕ) (c : Core) (vs : List View) (m : Moment) → BothSound p q c vs → Rattle.joint_runs.proofs.Both.FitsBoth p c m → (m.seat ≢ 0 → (seat : SeatState) → get_elem? c.seats 0 ≡ some seat → seat.program ≡ Rattle.sock_programs.specs.Programs.Rest) → LeadsTo p q clients gives (ticked p c m) → Story shown c → Story (shown ++ advanced_at c m) (ticked p c m)
+  one_tick shown c vs m both fits over lead h = (
+    advanced_at c m ++ h.0,
+    story_ticks p q clients gives numbered slots small h.0 c both.id_views m both.ids fits.fitting_ids (let s = both.sockets in s.lawful.references.sized) (allows p c vs m both.sockets) over lead h.1,
+    λ o. let one = times_append o (advanced_at c m) h.0 in let two = h.2 o in let three = times_append o shown (advanced_at c m) in omega (arith, one, two, three),
+  )
 
   -- ticks of seat 0
-  pub setup_story : (n : ℕ) (c : Core) (vs : List View) → AreBoth p q c vs (replicate n (quiet 0)) → Story c → Story (run p c (replicate n (quiet 0)))
-  setup_story zero c vs are h = h
-  setup_story (suc n) c vs are h = setup_story n (ticked p c (quiet 0)) (views_after p c vs (quiet 0)) are.2 (one_tick c vs (quiet 0) are.0 are.1 (λ other. absurd (other refl)) h)
+  pub setup_story : (n : ℕ) (shown : List ℕ) (c : Core) (vs : List View) → AreBoth p q c vs (replicate n (quiet 0)) → LeadsTo p q clients gives (run p c (replicate n (quiet 0))) → Story shown c → Story (shown ++ shows_in advanced_at p c (replicate n (quiet 0))) (run p c (replicate n (quiet 0)))
+  setup_story zero shown c vs are lead h = retold shown (shown ++ []) c (λ o. let z : times o (shown ++ []) ≡ times o shown + 0 = times_append o shown [] in omega (arith, z)) h
+  setup_story (suc n) shown c vs are lead h = retold ((shown ++ advanced_at c (quiet 0)) ++ shows_in advanced_at p (ticked p c (quiet 0)) (replicate n (quiet 0))) (shown ++ (advanced_at c (quiet 0) ++ shows_in advanced_at p (ticked p c (quiet 0)) (replicate n (quiet 0)))) (run p (ticked p c (quiet 0)) (replicate n (quiet 0)))
+      (λ o. times_assoc o shown (advanced_at c (quiet 0)) (shows_in advanced_at p (ticked p c (quiet 0)) (replicate n (quiet 0))))
+      (setup_story n (shown ++ advanced_at c (quiet 0)) (ticked p c (quiet 0)) (views_after p c vs (quiet 0)) are.2 lead (one_tick shown c vs (quiet 0) are.0 are.1 (λ other. absurd (other refl)) (run_leads p q clients gives (replicate n (quiet 0)) (ticked p c (quiet 0)) lead) h))
 
   -- ticks behind seat 0, which has no step left
-  pub played_story : (ms : List Moment) (c : Core) (vs : List View) → AreBoth p q c vs ms → IsAhead c → IsAtRest c 0 → Story c → Story (run p c ms)
-  played_story [] c vs are ahead rests h = h
-  played_story (m ∷ ms) c vs are ahead rests h = played_story ms (ticked p c m) (views_after p c vs m) are.2 (ticked_ahead p c m ahead) (ticked_rests p c m 0 rests) (one_tick c vs m are.0 are.1 (λ _ seat at. seat_rests c ahead 0 rests seat at) h)
+  pub played_story : (ms : List Moment) (shown : List ℕ) (c : Core) (vs : List View) → AreBoth p q c vs ms → IsAhead c → IsAtRest c 0 → LeadsTo p q clients gives (run p c ms) → Story shown c → Story (shown ++ shows_in advanced_at p c ms) (run p c ms)
+  played_story [] shown c vs are ahead rests lead h = retold shown (shown ++ []) c (λ o. let z : times o (shown ++ []) ≡ times o shown + 0 = times_append o shown [] in omega (arith, z)) h
+  played_story (m ∷ ms) shown c vs are ahead rests lead h = retold ((shown ++ advanced_at c m) ++ shows_in advanced_at p (ticked p c m) ms) (shown ++ (advanced_at c m ++ shows_in advanced_at p (ticked p c m) ms)) (run p (ticked p c m) ms)
+      (λ o. times_assoc o shown (advanced_at c m) (shows_in advanced_at p (ticked p c m) ms))
+      (played_story ms (shown ++ advanced_at c m) (ticked p c m) (views_after p c vs m) are.2 (ticked_ahead p c m ahead) (ticked_rests p c m 0 rests) lead (one_tick shown c vs m are.0 are.1 (λ _ seat at. seat_rests c ahead 0 rests seat at) (run_leads p q clients gives ms (ticked p c m) lead) h))
 
   -- seat 0 begins the ending
-  pub ending_story : (os : List ℕ) (c : Core) (vs : List View) → BothSound p q c vs → 0 < length c.seats → IsAhead c → IsAtRest c 0 → Story c → Story (with_seat 0 (ending_of os) [] c.words c.homes c)
-  ending_story os c vs both some_ ahead rests h = subst (λ d. Story (with_seat 0 (ending_of os) [] d.words d.homes d)) h.is
-      (of_scene h.scene h.marks h.story (subst (λ d. BothSound p q d vs) (sym h.is) both) (subst (λ (d : Core). 0 < length d.seats) (sym h.is) some_) (subst IsAhead (sym h.is) ahead) (subst (λ d. IsAtRest d 0) (sym h.is) rests))
+  pub ending_story : (os shown : List ℕ) (c : Core) (vs : List View) → BothSound p q c vs → 0 < length c.seats → IsAhead c → IsAtRest c 0 → LeadsTo p q clients gives (with_seat 0 (ending_of os) [] c.words c.homes c) → Story shown c → Story shown (with_seat 0 (ending_of os) [] c.words c.homes c)
+  ending_story os shown c vs both some_ ahead rests lead k = let h = k.1 in (
+    k.0,
+    subst (λ ks. HasStory p q clients gives ks (with_seat 0 (ending_of os) [] c.words c.homes c)) h.shown (subst (λ d. HasStory p q clients gives h.scene.advances (with_seat 0 (ending_of os) [] d.words d.homes d)) h.is
+        (of_scene h.scene h.marks h.story (subst (λ d. BothSound p q d vs) (sym h.is) both) (subst (λ (d : Core). 0 < length d.seats) (sym h.is) some_) (subst IsAhead (sym h.is) ahead) (subst (λ d. IsAtRest d 0) (sym h.is) rests) (subst (λ d. LeadsTo p q clients gives (with_seat 0 (ending_of os) [] d.words d.homes d)) (sym h.is) lead))),
+    k.2,
+  )
     where
-      of_scene : (w : Scene) (ms : List Mark) → CallStory p q clients fin w ms → BothSound p q w.core vs → 0 < length w.core.seats → IsAhead w.core → IsAtRest w.core 0 → Story (with_seat 0 (ending_of os) [] w.core.words w.core.homes w.core)
-      of_scene w ms story both some_ ahead rests =
+      of_scene : (w : Scene) (ms : List Mark) → CallStory p q clients gives w ms → BothSound p q w.core vs → 0 < length w.core.seats → IsAhead w.core → IsAtRest w.core 0 → LeadsTo p q clients gives (with_seat 0 (ending_of os) [] w.core.words w.core.homes w.core) → HasStory p q clients gives w.advances (with_seat 0 (ending_of os) [] w.core.words w.core.homes w.core)
+      of_scene w ms story both some_ ahead rests lead =
           let s = first_there w.core.seats some_ in let ids = both.ids in let sockets = both.sockets in
           let u = other_there w.core.seats both.id_views 0 s.0 ids.each s.1 in let m = other_there w.core.seats ms 0 s.0 story.each s.1 in
-          let idle = subst (SaysOn p q clients fin w m.0) (seat_rests w.core ahead 0 rests s.0 s.1) (story.seats 0 s.0 m.0 s.1 m.1) in
-          on_homes p q clients fin numbered slots small w ms story both.id_views both.ids (sockets.lawful.references.sized) 0 s.0 s.1 u.0 u.1 m.0 m.1 (λ other. absurd (other refl)) (ending_of os) [] w.core.homes (ending_few os)
-          (λ v l _. ending_says p q clients fin os v m.0 idle.0 idle.1)
+          let idle = subst (SaysOn p q clients gives w m.0) (seat_rests w.core ahead 0 rests s.0 s.1) (story.seats 0 s.0 m.0 s.1 m.1) in
+          on_homes p q clients gives numbered slots small w ms story both.id_views both.ids (sockets.lawful.references.sized) 0 s.0 s.1 u.0 u.1 m.0 m.1 (λ other. absurd (other refl)) (ending_of os) [] w.core.homes (ending_few os) lead
+          (λ v l _. ending_says p q clients gives os v m.0 idle.0 idle.1)
         where
           first_there : (l : List SeatState) → 0 < length l → (x : SeatState) × (get_elem? l 0 ≡ some x)
           first_there [] less = absurd (omega (arith, less))
           first_there (x ∷ xs) less = (x, refl)
 
   -- the readers are told that the run is ending
-  pub told_on : (c : Core) (vs : List View) → BothSound p q c vs → 0 < length c.seats → Story c → Story (is_ending c)
-  told_on c vs both some_ h = subst (λ d. Story (is_ending d)) h.is (of_scene h.scene h.marks h.story (subst (λ d. BothSound p q d vs) (sym h.is) both) (subst (λ (d : Core). 0 < length d.seats) (sym h.is) some_))
+  pub told_on : (shown : List ℕ) (c : Core) (vs : List View) → BothSound p q c vs → 0 < length c.seats → LeadsTo p q clients gives (is_ending c) → Story shown c → Story shown (is_ending c)
+  told_on shown c vs both some_ lead k = let h = k.1 in (k.0, subst (λ ks. HasStory p q clients gives ks (is_ending c)) h.shown (subst (λ d. HasStory p q clients gives h.scene.advances (is_ending d)) h.is (of_scene h.scene h.marks h.story (subst (λ d. BothSound p q d vs) (sym h.is) both) (subst (λ (d : Core). 0 < length d.seats) (sym h.is) some_) (subst (λ d. LeadsTo p q clients gives (is_ending d)) (sym h.is) lead))), k.2)
     where
-      of_scene : (w : Scene) (ms : List Mark) → CallStory p q clients fin w ms → BothSound p q w.core vs → 0 < length w.core.seats → Story (is_ending w.core)
-      of_scene w ms story both some_ =
+      of_scene : (w : Scene) (ms : List Mark) → CallStory p q clients gives w ms → BothSound p q w.core vs → 0 < length w.core.seats → LeadsTo p q clients gives (is_ending w.core) → HasStory p q clients gives w.advances (is_ending w.core)
+      of_scene w ms story both some_ lead =
           let s = first_there w.core.seats some_ in let ids = both.ids in let sockets = both.sockets in
           let u = other_there w.core.seats both.id_views 0 s.0 ids.each s.1 in let m = other_there w.core.seats ms 0 s.0 story.each s.1 in
-          told_story p q clients fin numbered slots small w ms story both.id_views both.ids (sockets.lawful.references.sized) 0 s.0 s.1 u.0 u.1 m.0 m.1 (λ other. absurd (other refl))
+          told_story p q clients gives numbered slots small w ms story both.id_views both.ids (sockets.lawful.references.sized) 0 s.0 s.1 u.0 u.1 m.0 m.1 (λ other. absurd (other refl)) lead
         where
           first_there : (l : List SeatState) → 0 < length l → (x : SeatState) × (get_elem? l 0 ≡ some x)
           first_there [] less = absurd (omega (arith, less))
@@ -93,10 +118,23 @@ module _ (p : Plan) (q : IdPlan) (clients : List (List Task)) (fin : ℕ → Lis
 
 -- ## A whole run
 
-module _ (script : List Item) (made : AreMade script) (fin : ℕ → List ℕ) (numbered : AreNumbered (plan_of script) (id_plan_of script) (all_tasks script) fin) (slots : HaveSlots (plan_of script) (id_plan_of script) (all_tasks script) fin) (fit : Begins (plan_of script) (id_plan_of script) (all_tasks script) fin numbered slots (opens script))
-    (turns : List Turn) (core : Core) (is : IsRunWithCalls script turns core) where
-  abbrev Tale : Core → Type 0
-  Tale c = HasStory (plan_of script) (id_plan_of script) (all_tasks script) fin c
+module _ (script : List Item) (made : AreMade script) (gives : ℕ → List ℕ) (numbered : AreNumbered (plan_of script) (id_plan_of script) (all_tasks script) gives) (slots : HaveSlots (plan_of script) (id_plan_of script) (all_tasks script) gives) (fit : Begins (plan_of script) (id_plan_of script) (all_tasks script) gives numbered slots (opens script))
+    (turns : List Turn) (core : Core) (is : IsRunWithCalls script turns core) (leads : LeadsTo (plan_of script) (id_plan_of script) (all_tasks script) gives core) where
+  abbrev Tale : List ℕ → Core → Type 0
+  Tale shown c = (ns : List ℕ) × HasStory (plan_of script) (id_plan_of script) (all_tasks script) gives ns c × ((o : ℕ) → times o ns ≡ times o shown)
+
+  -- the calls whose attempts the ticks of each part of the run advance
+  abbrev in_setup : List ℕ
+  in_setup = shows_in advanced_at (plan_of script) (opened script) (replicate is.setup (quiet 0))
+
+  abbrev in_clients : List ℕ
+  in_clients = shows_in advanced_at (plan_of script) (set_up script is.setup) (is.scheduled ++ is.later)
+
+  abbrev in_closing : List ℕ
+  in_closing = shows_in advanced_at (plan_of script) (ending script (played script is.setup (is.scheduled ++ is.later))) (replicate is.last (quiet 0))
+
+  abbrev in_final : List ℕ
+  in_final = shows_in advanced_at (plan_of script) is.ended is.final
 
   abbrev small : (id_plan_of script).slots ≤ 65536
   small = narrow (plan_of script) (id_plan_of script) (all_tasks script) (calls script) (opens script) made
@@ -151,27 +189,54 @@ module _ (script : List Item) (made : AreMade script) (fin : ℕ → List ℕ) (
   pub many_seats : length core.seats ≡ (id_plan_of script).seats
   many_seats = ap (λ (d : Core). length d.seats) is.is_end ∙ (run_seats (plan_of script) is.ended is.final ∙ (ap (λ (d : Core). length d.seats) is.is_ended ∙ many_closed))
 
-  first_tale : Tale (opened script)
-  first_tale = first_story (plan_of script) (id_plan_of script) (all_tasks script) fin numbered slots (calls script) (opens script) fit made.seats length_is few_tries
+  abbrev Leads : Core → Type 0
+  Leads c = LeadsTo (plan_of script) (id_plan_of script) (all_tasks script) gives c
 
-  set_up_tale : Tale (set_up script is.setup)
-  set_up_tale = setup_story (plan_of script) (id_plan_of script) (all_tasks script) fin numbered slots small is.setup (opened script) (first_views script) (let s = sound_run in s.setup) first_tale
+  ended_leads : Leads is.ended
+  ended_leads = run_leads (plan_of script) (id_plan_of script) (all_tasks script) gives is.final is.ended (subst Leads is.is_end leads)
 
-  played_tale : Tale (played script is.setup (is.scheduled ++ is.later))
-  played_tale = played_story (plan_of script) (id_plan_of script) (all_tasks script) fin numbered slots small (is.scheduled ++ is.later) (set_up script is.setup) views_set_up (let s = sound_run in s.clients) set_up_ahead is.is_set_up set_up_tale
+  told_leads : Leads (is_ending (run (plan_of script) (ending script (played script is.setup (is.scheduled ++ is.later))) (replicate is.last (quiet 0))))
+  told_leads = subst Leads is.is_ended ended_leads
 
-  ending_tale : Tale (ending script (played script is.setup (is.scheduled ++ is.later)))
-  ending_tale = let s = sound_run in ending_story (plan_of script) (id_plan_of script) (all_tasks script) fin numbered slots small (opens script) (played script is.setup (is.scheduled ++ is.later)) (views_along (plan_of script) (set_up script is.setup) views_set_up (is.scheduled ++ is.later))
+  closed_leads : Leads (run (plan_of script) (ending script (played script is.setup (is.scheduled ++ is.later))) (replicate is.last (quiet 0)))
+  closed_leads = λ k. told_leads k
+
+  ending_leads : Leads (ending script (played script is.setup (is.scheduled ++ is.later)))
+  ending_leads = run_leads (plan_of script) (id_plan_of script) (all_tasks script) gives (replicate is.last (quiet 0)) (ending script (played script is.setup (is.scheduled ++ is.later))) closed_leads
+
+  played_leads : Leads (played script is.setup (is.scheduled ++ is.later))
+  played_leads = λ k. ending_leads k
+
+  set_up_leads : Leads (set_up script is.setup)
+  set_up_leads = run_leads (plan_of script) (id_plan_of script) (all_tasks script) gives (is.scheduled ++ is.later) (set_up script is.setup) played_leads
+
+  opened_leads : Leads (opened script)
+  opened_leads = run_leads (plan_of script) (id_plan_of script) (all_tasks script) gives (replicate is.setup (quiet 0)) (opened script) set_up_leads
+
+  first_tale : Tale [] (opened script)
+  first_tale = ([], first_story (plan_of script) (id_plan_of script) (all_tasks script) gives numbered slots (calls script) (opens script) fit made.seats length_is few_tries opened_leads, λ o. refl)
+
+  set_up_tale : Tale in_setup (set_up script is.setup)
+  set_up_tale = setup_story (plan_of script) (id_plan_of script) (all_tasks script) gives numbered slots small is.setup [] (opened script) (first_views script) (let s = sound_run in s.setup) set_up_leads first_tale
+
+  played_tale : Tale (in_setup ++ in_clients) (played script is.setup (is.scheduled ++ is.later))
+  played_tale = played_story (plan_of script) (id_plan_of script) (all_tasks script) gives numbered slots small (is.scheduled ++ is.later) in_setup (set_up script is.setup) views_set_up (let s = sound_run in s.clients) set_up_ahead is.is_set_up played_leads set_up_tale
+
+  ending_tale : Tale (in_setup ++ in_clients) (ending script (played script is.setup (is.scheduled ++ is.later)))
+  ending_tale = let s = sound_run in ending_story (plan_of script) (id_plan_of script) (all_tasks script) gives numbered slots small (opens script) (in_setup ++ in_clients) (played script is.setup (is.scheduled ++ is.later)) (views_along (plan_of script) (set_up script is.setup) views_set_up (is.scheduled ++ is.later))
       (behind_both (plan_of script) (id_plan_of script) (set_up script is.setup) views_set_up (is.scheduled ++ is.later) s.clients) (let seats = made.seats in omega (arith, many_played, seats)) played_ahead
-      (run_rests (plan_of script) (set_up script is.setup) (is.scheduled ++ is.later) 0 is.is_set_up) played_tale
+      (run_rests (plan_of script) (set_up script is.setup) (is.scheduled ++ is.later) 0 is.is_set_up) ending_leads played_tale
 
-  closed_tale : Tale (run (plan_of script) (ending script (played script is.setup (is.scheduled ++ is.later))) (replicate is.last (quiet 0)))
-  closed_tale = setup_story (plan_of script) (id_plan_of script) (all_tasks script) fin numbered slots small is.last (ending script (played script is.setup (is.scheduled ++ is.later))) (views_played script turns core is (first_views script)) (let s = sound_run in s.closing) ending_tale
+  closed_tale : Tale ((in_setup ++ in_clients) ++ in_closing) (run (plan_of script) (ending script (played script is.setup (is.scheduled ++ is.later))) (replicate is.last (quiet 0)))
+  closed_tale = setup_story (plan_of script) (id_plan_of script) (all_tasks script) gives numbered slots small is.last (in_setup ++ in_clients) (ending script (played script is.setup (is.scheduled ++ is.later))) (views_played script turns core is (first_views script)) (let s = sound_run in s.closing) closed_leads ending_tale
 
-  ended_tale : Tale is.ended
-  ended_tale = let s = sound_run in subst Tale (sym is.is_ended) (told_on (plan_of script) (id_plan_of script) (all_tasks script) fin numbered slots small (run (plan_of script) (ending script (played script is.setup (is.scheduled ++ is.later))) (replicate is.last (quiet 0))) (views_closed script turns core is (first_views script))
-      (behind_both (plan_of script) (id_plan_of script) (ending script (played script is.setup (is.scheduled ++ is.later))) (views_played script turns core is (first_views script)) (replicate is.last (quiet 0)) s.closing) (let seats = made.seats in omega (arith, many_closed, seats)) closed_tale)
+  ended_tale : Tale ((in_setup ++ in_clients) ++ in_closing) is.ended
+  ended_tale = let s = sound_run in subst (Tale ((in_setup ++ in_clients) ++ in_closing)) (sym is.is_ended) (told_on (plan_of script) (id_plan_of script) (all_tasks script) gives numbered slots small ((in_setup ++ in_clients) ++ in_closing) (run (plan_of script) (ending script (played script is.setup (is.scheduled ++ is.later))) (replicate is.last (quiet 0))) (views_closed script turns core is (first_views script))
+      (behind_both (plan_of script) (id_plan_of script) (ending script (played script is.setup (is.scheduled ++ is.later))) (views_played script turns core is (first_views script)) (replicate is.last (quiet 0)) s.closing) (let seats = made.seats in omega (arith, many_closed, seats)) told_leads closed_tale)
 
-  -- at the end of a run its story is there
-  pub run_story : HasStory (plan_of script) (id_plan_of script) (all_tasks script) fin core
-  run_story = subst Tale (sym is.is_end) (played_story (plan_of script) (id_plan_of script) (all_tasks script) fin numbered slots small is.final is.ended (views_closed script turns core is (first_views script)) (let s = sound_run in s.final) ended_ahead is.is_over ended_tale)
+  end_tale : Tale (((in_setup ++ in_clients) ++ in_closing) ++ in_final) core
+  end_tale = subst (Tale (((in_setup ++ in_clients) ++ in_closing) ++ in_final)) (sym is.is_end) (played_story (plan_of script) (id_plan_of script) (all_tasks script) gives numbered slots small is.final ((in_setup ++ in_clients) ++ in_closing) is.ended (views_closed script turns core is (first_views script)) (let s = sound_run in s.final) ended_ahead is.is_over (subst Leads is.is_end leads) ended_tale)
+
+  -- at the end of a run its story is there, and the attempt of each call was advanced as often as the run shows
+  pub run_story : (ns : List ℕ) × HasStory (plan_of script) (id_plan_of script) (all_tasks script) gives ns core × ((o : ℕ) → times o ns ≡ attempts_of_run script turns core is o)
+  run_story = let h = end_tale in (h.0, h.1, λ o. h.2 o ∙ (times_assoc o (in_setup ++ in_clients) in_closing in_final ∙ times_assoc o in_setup in_clients (in_closing ++ in_final)))

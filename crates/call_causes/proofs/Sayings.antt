@@ -9,10 +9,11 @@ use Rattle.atomic_table.proofs.Lists.{at_set}
 use Rattle.sock_words.specs.declared.plain.Plan.{Plan}
 use Rattle.sock_words.specs.declared.outcome.Outcome.{Outcome}
 use Rattle.corr_core.specs.declared.marks.Plan.{Plan as IdPlan}
+use Rattle.sock_programs.specs.declared.task.Op.TheVariants as ops
 use Rattle.sock_programs.specs.declared.task.Task.{Task}
 use Rattle.call_causes.specs.Scenes.{Birth, Saying, Scene, In, Said, IsBorn, IsTaskOf, Named, WhyEnded, WhyOwn, ToldOf, was_said, was_sent}
 use Rattle.call_causes.specs.Says.{Mark, with_done}
-use Rattle.call_causes.specs.Stories.{At, HasPassed, BirthsLaw, undo, ahead, IsUntold, IsBegunBy, IsOwed, AreOnce, TasksLaw}
+use Rattle.call_causes.specs.Stories.{At, HasPassed, BirthsLaw, undo, ahead, IsUntold, IsBegunBy, IsOwed, AreOnce, QuietOf, AreQuiet, TasksLaw}
 use Rattle.call_causes.proofs.BirthTicks.{in_all}
 use Rattle.call_causes.proofs.Numbered.{AllDistinct, AreNumbered, distinct_undo}
 use Rattle.call_causes.proofs.Moving.{in_todo, in_done, listed}
@@ -31,10 +32,10 @@ got_other (y ∷ ys) zero (suc k) v ne = refl
 got_other (y ∷ ys) (suc o) zero v ne = refl
 got_other (y ∷ ys) (suc o) (suc k) v ne = got_other ys o k v (λ e. ne (omega (arith, e)))
 
-pub in_ahead : (p : Plan) (q : IdPlan) (clients : List (List Task)) (fin : ℕ → List ℕ) (bs : List Birth) (todo : List Task) (t : Task) → In t (ahead p q clients fin bs todo) → In t todo
-in_ahead p q clients fin [] todo t there = there
-in_ahead p q clients fin (b ∷ bs) [] t there = there
-in_ahead p q clients fin (b ∷ bs) (u ∷ us) t there = inr there
+pub in_ahead : (p : Plan) (q : IdPlan) (clients : List (List Task)) (gives : ℕ → List ℕ) (bs : List Birth) (todo : List Task) (t : Task) → In t (ahead p q clients gives bs todo) → In t todo
+in_ahead p q clients gives [] todo t there = there
+in_ahead p q clients gives (b ∷ bs) [] t there = there
+in_ahead p q clients gives (b ∷ bs) (u ∷ us) t there = inr there
 
 pub put_at : {A : Type 0} (l : List A) (i : ℕ) (a b : A) → get_elem? l i ≡ core.some a → get_elem? (set l i b) i ≡ core.some b
 put_at [] i a b is = absurd (mathlib.Core.Option.some-ne-none a (sym is))
@@ -48,16 +49,16 @@ put_beside (x ∷ xs) zero (suc j) b c ne is = is
 put_beside (x ∷ xs) (suc i) zero b c ne is = is
 put_beside (x ∷ xs) (suc i) (suc j) b c ne is = put_beside xs i j b c (λ e. ne (omega (arith, e))) is
 
-module _ (p : Plan) (q : IdPlan) (clients : List (List Task)) (fin : ℕ → List ℕ) (numbered : AreNumbered p q clients fin) (w : Scene) (births : BirthsLaw p q clients fin w) (os : List (Option Outcome)) (ss : List Saying) (ms : List Mark) (law : TasksLaw p q clients fin w os ss ms) (j : ℕ) (m : Mark) (at : At ms j m) where
+module _ (p : Plan) (q : IdPlan) (clients : List (List Task)) (gives : ℕ → List ℕ) (numbered : AreNumbered p q clients gives) (w : Scene) (births : BirthsLaw p q clients gives w) (os : List (Option Outcome)) (ss : List Saying) (ms : List Mark) (law : TasksLaw p q clients gives w os ss ms) (j : ℕ) (m : Mark) (at : At ms j m) where
   -- a task of a seat, done or to do, is its client's
-  pub is_done : (l : ℕ) (n : Mark) (t : Task) → At ms l n → In t n.done → IsTaskOf p q clients fin l t
-  is_done l n t there done = listed p q clients fin clients l t (subst (In t) (law.placed l n there) (in_done p q clients fin n.done n.todo t done))
+  pub is_done : (l : ℕ) (n : Mark) (t : Task) → At ms l n → In t n.done → IsTaskOf p q clients gives l t
+  is_done l n t there done = listed p q clients gives clients l t (subst (In t) (law.placed l n there) (in_done p q clients gives n.done n.todo t done))
 
-  pub is_todo : (l : ℕ) (n : Mark) (t : Task) → At ms l n → In t n.todo → IsTaskOf p q clients fin l t
-  is_todo l n t there todo = listed p q clients fin clients l t (subst (In t) (law.placed l n there) (in_todo p q clients fin n.done n.todo t todo))
+  pub is_todo : (l : ℕ) (n : Mark) (t : Task) → At ms l n → In t n.todo → IsTaskOf p q clients gives l t
+  is_todo l n t there todo = listed p q clients gives clients l t (subst (In t) (law.placed l n there) (in_todo p q clients gives n.done n.todo t todo))
 
   pub distinct_at : (l : ℕ) (n : Mark) → At ms l n → AllDistinct n.todo × ((d t : Task) → In d n.done → In t n.todo → d.number ≢ t.number)
-  distinct_at l n there = distinct_undo p q clients fin n.done n.todo (subst AllDistinct (sym (law.placed l n there)) (numbered.distinct l))
+  distinct_at l n there = distinct_undo p q clients gives n.done n.todo (subst AllDistinct (sym (law.placed l n there)) (numbered.distinct l))
 
   one_mark : (l : ℕ) (n : Mark) → At ms l n → l ≡ j → n ≡ m
   one_mark l n there same = some-injective n m (sym there ∙ (ap (get_elem? ms) same ∙ at))
@@ -84,8 +85,13 @@ module _ (p : Plan) (q : IdPlan) (clients : List (List Task)) (fin : ℕ → Lis
       (λ same. inl (let z : Some (Some x) ≡ Some (Some y) = sym (got_same os o (Some x) None free) ∙ (ap (slice_get (set os o (Some x))) same ∙ is) in let e : x ≡ y = cc in λ i. record { number = sym same i; outcome = sym e i }))
       (λ ne. inr (law.outcomes k y (sym (got_other os o k (Some x) ne) ∙ is)))
 
-  pub once_more : (o : ℕ) (x : Outcome) → slice_get os o ≡ Some None → AreOnce p q clients fin ((record { number = o; outcome = x }) ∷ ss)
+  pub once_more : (o : ℕ) (x : Outcome) → slice_get os o ≡ Some None → AreOnce p q clients gives ((record { number = o; outcome = x }) ∷ ss)
   once_more o x free = ((λ y there. let z : Some (Some y) ≡ Some None = sym (law.said o y there) ∙ free in absurd cc), law.once)
+
+  -- messages without outcomes are without them still
+  pub quiet_more : (os' : List (Option Outcome)) (c : ℕ) (ts : List Task) → ((u : Task) (n : ℕ) (bytes : List ℕ) → In u ts → u.op ≡ ops.Send n bytes → slice_get os' u.number ≡ slice_get os u.number) → AreQuiet p q clients gives w os c ts → AreQuiet p q clients gives w os' c ts
+  quiet_more os' c [] still all = tt
+  quiet_more os' c (u ∷ us) still all = (λ n bytes op. ⊎_elim (λ none_. inl (still u n bytes (inl refl) op ∙ none_)) (λ x. inr x) (all.0 n bytes op), quiet_more os' c us (λ v n bytes there op. still v n bytes (inr there) op) all.1)
 
   -- ## The task that is to be done
 
@@ -97,8 +103,8 @@ module _ (p : Plan) (q : IdPlan) (clients : List (List Task)) (fin : ℕ → Lis
     is_here = subst (In t) (sym todo) (inl refl)
 
     -- nothing was said of it
-    pub untold_here : IsUntold p q clients fin os t.number
-    untold_here = law.fresh j m t at (subst (λ bs. In t (ahead p q clients fin bs m.todo)) (sym makes) is_here)
+    pub untold_here : IsUntold p q clients gives os t.number
+    untold_here = law.fresh j m t at (subst (λ bs. In t (ahead p q clients gives bs m.todo)) (sym makes) is_here)
 
     -- no other task has its number
     other_task : (l : ℕ) (n : Mark) (u : Task) → At ms l n → (In u n.done ⊎ (l ≢ j × In u n.todo)) → t.number ≢ u.number
@@ -117,22 +123,25 @@ module _ (p : Plan) (q : IdPlan) (clients : List (List Task)) (fin : ℕ → Lis
         let z : b ∷ [] ≡ [] = sym pending.2 ∙ (ap (λ (y : Mark). y.makes) (one_mark x.0 x.1 x.3 (sym c)) ∙ makes) in absurd cc) x.4.2
 
     -- the marks with one task more that is done
-    pub done_law : ToldOf p q clients fin w m.client m.done t → (os' : List (Option Outcome)) (ss' : List Saying) → ((o : ℕ) (x : Outcome) → In (record { number = o; outcome = x }) ss' → slice_get os' o ≡ Some (Some x)) → ((o : ℕ) (x : Outcome) → slice_get os' o ≡ Some (Some x) → In (record { number = o; outcome = x }) ss')
-        → ((o : ℕ) → t.number ≢ o → slice_get os' o ≡ slice_get os o) → AreOnce p q clients fin ss' → TasksLaw p q clients fin w os' ss' (set ms j (with_done t ts m))
-    done_law told os' ss' said outcomes others once = record {
+    pub done_law : ToldOf p q clients gives w m.client m.done t → (os' : List (Option Outcome)) (ss' : List Saying) → QuietOf p q clients gives w os' m.client m.done t → ((o : ℕ) (x : Outcome) → In (record { number = o; outcome = x }) ss' → slice_get os' o ≡ Some (Some x)) → ((o : ℕ) (x : Outcome) → slice_get os' o ≡ Some (Some x) → In (record { number = o; outcome = x }) ss')
+        → ((o : ℕ) → t.number ≢ o → slice_get os' o ≡ slice_get os o) → AreOnce p q clients gives ss' → TasksLaw p q clients gives w os' ss' (set ms j (with_done t ts m))
+    done_law told os' ss' own said outcomes others once = record {
       once = once;
       client = at_either (λ l n. n.client ≡ l) (with_done t ts m) (law.client j m at) (λ l n ne there. law.client l n there);
-      placed = at_either (λ l n. undo p q clients fin n.done n.todo ≡ get_or clients l []) (with_done t ts m) (ap (undo p q clients fin m.done) (sym todo) ∙ law.placed j m at) (λ l n ne there. law.placed l n there);
-      told = at_either (λ l n. Rattle.call_causes.specs.Scenes.AreTold p q clients fin w n.client n.done) (with_done t ts m) (told, law.told j m at) (λ l n ne there. law.told l n there);
-      begun = λ b there. let x = law.begun b there in let y = still_at (with_done t ts m) (λ n. IsBegunBy p q clients fin n b x.2)
+      placed = at_either (λ l n. undo p q clients gives n.done n.todo ≡ get_or clients l []) (with_done t ts m) (ap (undo p q clients gives m.done) (sym todo) ∙ law.placed j m at) (λ l n ne there. law.placed l n there);
+      told = at_either (λ l n. Rattle.call_causes.specs.Scenes.AreTold p q clients gives w n.client n.done) (with_done t ts m) (told, law.told j m at) (λ l n ne there. law.told l n there);
+      quiet = at_either (λ l n. AreQuiet p q clients gives w os' n.client n.done) (with_done t ts m)
+          (own, quiet_more os' m.client m.done (λ u n bytes there op. others u.number (other_task j m u at (inl there))) (law.quiet j m at))
+          (λ l n ne there. quiet_more os' n.client n.done (λ u k bytes x op. others u.number (other_task l n u there (inl x))) (law.quiet l n there));
+      begun = λ b there. let x = law.begun b there in let y = still_at (with_done t ts m) (λ n. IsBegunBy p q clients gives n b x.2)
           (λ z. (z.0, z.1, ⊎_elim (λ done. inl (inr done)) (λ pending. absurd (let e : b ∷ [] ≡ [] = sym pending.2 ∙ makes in cc)) z.2)) x.0 x.1 x.3 x.4 in (x.0, y.0, x.2, y.1, y.2);
       made = λ k n c there is. at_either (λ l n. (b : Birth) → n.makes ≡ b ∷ [] → In b w.births) (with_done t ts m) (λ b is. law.made j m b at is) (λ l n ne there b is. law.made l n b there is) k n there c is;
       called = λ o inside begun. let x = law.called o inside begun in let y = still_at (with_done t ts m) (λ n. In x.6 n.done) (λ z. inr z) x.4 x.5 x.7 x.8 in (x.0, x.1, x.2, x.3, x.4, y.0, x.6, y.1, y.2, x.9, x.10);
       said = said;
       outcomes = outcomes;
-      fresh = λ l n u there. at_either (λ l n. In u (ahead p q clients fin n.makes n.todo) → IsUntold p q clients fin os' u.number) (with_done t ts m)
-          (λ x. let y : In u ts = subst (λ bs. In u (ahead p q clients fin bs ts)) makes x in others u.number (other_ahead u y) ∙ law.fresh j m u at (subst (λ bs. In u (ahead p q clients fin bs m.todo)) (sym makes) (subst (In u) (sym todo) (inr y))))
-          (λ l n ne there x. others u.number (other_task l n u there (inr (ne, in_ahead p q clients fin n.makes n.todo u x))) ∙ law.fresh l n u there x) l n there;
+      fresh = λ l n u there. at_either (λ l n. In u (ahead p q clients gives n.makes n.todo) → IsUntold p q clients gives os' u.number) (with_done t ts m)
+          (λ x. let y : In u ts = subst (λ bs. In u (ahead p q clients gives bs ts)) makes x in others u.number (other_ahead u y) ∙ law.fresh j m u at (subst (λ bs. In u (ahead p q clients gives bs m.todo)) (sym makes) (subst (In u) (sym todo) (inr y))))
+          (λ l n ne there x. others u.number (other_task l n u there (inr (ne, in_ahead p q clients gives n.makes n.todo u x))) ∙ law.fresh l n u there x) l n there;
       untold = λ b there x. others b.asked.operation (other_call b there) ∙ law.untold b there (⊎_elim (λ now. inl now) (λ owed. inr (before b owed)) x);
       ended = λ b there passed. ⊎_elim (λ x. inl x) (λ owed. let y = still_at (with_done t ts m) (λ n. n.owes ≡ b ∷ []) (λ z. z) owed.0 owed.1 owed.2 owed.3 in inr (owed.0, y.0, y.1, y.2)) (law.ended b there passed);
       owed = λ k n c there is. at_either (λ l n. (b : Birth) → n.owes ≡ b ∷ [] → In b w.births × HasPassed w b) (with_done t ts m) (λ b is. law.owed j m b at is) (λ l n ne there b is. law.owed l n b there is) k n there c is;
@@ -142,12 +151,12 @@ module _ (p : Plan) (q : IdPlan) (clients : List (List Task)) (fin : ℕ → Lis
         before_at : (k : ℕ) (x : Mark) (b : Birth) → At (set ms j (with_done t ts m)) k x → x.owes ≡ b ∷ [] → (n : Mark) × At ms k n × (n.owes ≡ b ∷ [])
         before_at k x b e is = ⊎_elim (λ y. (m, ap (get_elem? ms) y.0 ∙ at, ap (λ (z : Mark). z.owes) y.1 ∙ is)) (λ y. (x, y.1, is)) (at_set ms j k (with_done t ts m) x e)
 
-        before : (b : Birth) → IsOwed p q clients fin (set ms j (with_done t ts m)) b → IsOwed p q clients fin ms b
+        before : (b : Birth) → IsOwed p q clients gives (set ms j (with_done t ts m)) b → IsOwed p q clients gives ms b
         before b owed = let x = before_at owed.0 owed.1 b owed.2 owed.3 in (owed.0, x.0, x.1, x.2)
 
-    pub say_own : ToldOf p q clients fin w m.client m.done t → (x : Outcome) → TasksLaw p q clients fin w (set os t.number (Some x)) ((record { number = t.number; outcome = x }) ∷ ss) (set ms j (with_done t ts m))
-    say_own told x = done_law told (set os t.number (Some x)) ((record { number = t.number; outcome = x }) ∷ ss) (said_more t.number x untold_here) (outcomes_more t.number x untold_here) (λ o ne. got_other os t.number o (Some x) ne) (once_more t.number x untold_here)
+    pub say_own : ToldOf p q clients gives w m.client m.done t → (x : Outcome) → Said w t.number x → WhyOwn p q clients gives w m.client m.done t.op x → TasksLaw p q clients gives w (set os t.number (Some x)) ((record { number = t.number; outcome = x }) ∷ ss) (set ms j (with_done t ts m))
+    say_own told x is why = done_law told (set os t.number (Some x)) ((record { number = t.number; outcome = x }) ∷ ss) (λ n bytes op. inr (x, is, why)) (said_more t.number x untold_here) (outcomes_more t.number x untold_here) (λ o ne. got_other os t.number o (Some x) ne) (once_more t.number x untold_here)
 
     -- of a message that was accepted nothing is said
-    pub sent_own : ToldOf p q clients fin w m.client m.done t → TasksLaw p q clients fin w os ss (set ms j (with_done t ts m))
-    sent_own told = done_law told os ss law.said law.outcomes (λ o ne. refl) law.once
+    pub sent_own : ToldOf p q clients gives w m.client m.done t → TasksLaw p q clients gives w os ss (set ms j (with_done t ts m))
+    sent_own told = done_law told os ss (λ n bytes op. inl untold_here) law.said law.outcomes (λ o ne. refl) law.once

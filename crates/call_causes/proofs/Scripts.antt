@@ -1,21 +1,20 @@
 -- The tasks of a script are as the story of its calls wants them: each has its own number, each `expire` and `join` names a call, and there is an id slot for each call.
-use Rattle.std.proofs.Common.{◌≡◌, ◌≢◌, ℕ, zero, suc, ◌+◌, ◌<◌, ◌≤◌, inl, inr, ⊎_elim, Bool, true, false, cond, List, [], ◌∷◌, length, get_or, slice_get, Option, None, Some, refl, sym, ap, ◌∙◌, subst, arith}
+use Rattle.std.proofs.Common.{◌≡◌, ◌≢◌, ℕ, zero, suc, ◌+◌, ◌<◌, inl, inr, true, cond, List, [], ◌∷◌, get_or, slice_get, None, Some, refl, sym, ap, ◌∙◌, subst, arith}
 use Rattle.std.proofs.lemmas.Option.{slice_get_within}
 use Rattle.std.specs.List.{AllByRecursion}
 use Rattle.sock_words.specs.declared.plain.Plan.{Plan}
 use Rattle.brpc_model.specs.Order.{EachBefore}
 use Rattle.brpc_model.specs.Items.{Item, CallLine, Call, Expire, Join, Fail, is_call}
-use Rattle.brpc_model.specs.Operations.{Operation, operations, link_names}
+use Rattle.brpc_model.specs.Operations.{Operation, operations}
 use Rattle.brpc_model.specs.Places.{names}
 use Rattle.corr_core.specs.declared.marks.Plan.{Plan as IdPlan}
-use Rattle.sock_model.specs.Layout.{code_word}
 use Rattle.sock_message.specs.Asked.{Asked}
 use Rattle.sock_programs.specs.declared.task.Op.{Op}
 use Rattle.sock_programs.specs.declared.task.Op.TheVariants as ops
 use Rattle.sock_programs.specs.declared.task.Task.{Task}
 use Rattle.sock_programs.specs.Tasks.{Numbered, numbered, number_of, tasks, opens, calls, op_of, plan_of, id_plan_of}
-use Rattle.sock_programs.specs.Scripts.{all_tasks, opening_words}
-use Rattle.sock_programs.specs.Told.{AreTasks, HaveOwnLinks, IsOpen}
+use Rattle.sock_programs.specs.Scripts.{all_tasks}
+use Rattle.sock_programs.specs.Told.{HaveOwnLinks, IsOpen}
 use Rattle.client_laws.proofs.Beginning as beginning
 use Rattle.joint_runs.proofs.Runs.{AreMade}
 use Rattle.report_fits.proofs.Lists.{Has, has_later, some_is, has_filter_map, all_at}
@@ -24,7 +23,7 @@ use Rattle.report_fits.proofs.Numbering.{link_at, numbered_at, are_from}
 use Rattle.report_fits.proofs.Targets.{IsTarget, AreThere, expired, joined}
 use Rattle.report_fits.proofs.TaskLemmas as lemmas
 use Rattle.report_fits.proofs.TaskLemmas.{of_tasks, has_task, asks_at, numbers_at, call_asks, expire_asks, join_asks, fail_asks}
-use Rattle.call_causes.specs.Scenes.{In, IsTaskOf, IsOther}
+use Rattle.call_causes.specs.Scenes.{In, IsTaskOf}
 use Rattle.call_causes.proofs.BirthTicks.{all_in, in_all}
 use Rattle.call_causes.proofs.Numbered.{AllDistinct, AreNumbered}
 use Rattle.call_causes.proofs.Calls.{IsCalls}
@@ -62,7 +61,7 @@ call_item : (item : Item) → is_call item ≡ true → (call : CallLine) × (it
 call_item (Call call) is = (call, refl)
 call_item other is = absurd (cc)
 
-module _ (script : List Item) (made : AreMade script) (there : AreThere script) (range : AllByRecursion InRange script) (fin : ℕ → List ℕ) where
+module _ (script : List Item) (made : AreMade script) (there : AreThere script) (range : AllByRecursion InRange script) (gives : ℕ → List ℕ) where
   abbrev p : Plan
   p = plan_of script
 
@@ -73,7 +72,7 @@ module _ (script : List Item) (made : AreMade script) (there : AreThere script) 
   cs = all_tasks script
 
   -- the operation of a task
-  task_at : (c : ℕ) (t : Task) → IsTaskOf (plan_of script) (id_plan_of script) (all_tasks script) fin c t → lemmas.IsTaskOf script c t
+  task_at : (c : ℕ) (t : Task) → IsTaskOf (plan_of script) (id_plan_of script) (all_tasks script) gives c t → lemmas.IsTaskOf script c t
   task_at c t is = has_task script c t (subst (λ (ts : List Task). Has ts t) (sym (of_tasks script c is.0 is.1).1) (in_has is.0 t is.2))
 
   item_there : (i : ℕ) (o : Operation) (item : Item) → slice_get (operations script) i ≡ Some o → o.item ≡ item → Has script item
@@ -81,7 +80,7 @@ module _ (script : List Item) (made : AreMade script) (there : AreThere script) 
 
   -- ## Numbers
 
-  pub are_numbered : AreNumbered (plan_of script) (id_plan_of script) (all_tasks script) fin
+  pub are_numbered : AreNumbered (plan_of script) (id_plan_of script) (all_tasks script) gives
   are_numbered = record {
     apart = λ c d t u is_t is_u same. let a = task_at c t is_t in let b = task_at d u is_u in
         let op : a.operation ≡ b.operation = some_is a.operation b.operation (sym a.there ∙ (ap (slice_get (operations script)) same ∙ b.there)) in sym a.own ∙ (ap (λ (o : Operation). o.client) op ∙ b.own);
@@ -91,25 +90,25 @@ module _ (script : List Item) (made : AreMade script) (there : AreThere script) 
   pub are_ascending : (c : ℕ) → AreAscending (get_or (all_tasks script) c [])
   are_ascending c = (each_ordered (all_tasks script) c (let are = made.are in are.in_order)).1
 
-  numbers : (c : ℕ) (t : Task) → IsTaskOf (plan_of script) (id_plan_of script) (all_tasks script) fin c t → t.number < (plan_of script).operations
+  numbers : (c : ℕ) (t : Task) → IsTaskOf (plan_of script) (id_plan_of script) (all_tasks script) gives c t → t.number < (plan_of script).operations
   numbers c t is = let a = task_at c t is in slice_get_within (operations script) t.number a.operation a.there
 
   -- ## Calls
 
-  pub have_slots : HaveSlots (plan_of script) (id_plan_of script) (all_tasks script) fin
+  pub have_slots : HaveSlots (plan_of script) (id_plan_of script) (all_tasks script) gives
   have_slots = record { calls = calls script; many = refl; listed = listed }
     where
-      listed : (c : ℕ) (t : Task) (asked : Asked) → IsTaskOf (plan_of script) (id_plan_of script) (all_tasks script) fin c t → t.op ≡ ops.Call asked → In t.number (calls script)
+      listed : (c : ℕ) (t : Task) (asked : Asked) → IsTaskOf (plan_of script) (id_plan_of script) (all_tasks script) gives c t → t.op ≡ ops.Call asked → In t.number (calls script)
       listed c t asked is op =
           let a = task_at c t is in
           let call = call_asks (numbered script) (names script) (numbers_at script t.number a.operation) a.operation.item asked (a.asks ∙ ap (λ o. Some o) op) in
           let x : Numbered = record { number = 0 + t.number; link = 0 + link_at (operations script) t.number; op = a.operation } in
           let h = has_filter_map (λ (n : Numbered). cond (is_call n.op.item) (Some n.number) None) (numbered script) x t.number (t.number, numbered_at 0 0 (operations script) t.number a.operation a.there)
-              (ap (λ i. cond (is_call i) (Some (0 + t.number)) None) call.1 ∙ ap (λ n. Some n) (let z : 0 + t.number ≡ t.number = omega arith in z)) in
+          (ap (λ i. cond (is_call i) (Some (0 + t.number)) None) call.1 ∙ ap (λ n. Some n) (let z : 0 + t.number ≡ t.number = omega arith in z)) in
           has_in (calls script) h.0 t.number h.1
 
   -- whatever is at the place of a call is that call
-  target_call : (o : ℕ) (client i : ℕ) → IsTarget script client i o → IsCalls (plan_of script) (id_plan_of script) (all_tasks script) fin o
+  target_call : (o : ℕ) (client i : ℕ) → IsTarget script client i o → IsCalls (plan_of script) (id_plan_of script) (all_tasks script) gives o
   target_call o client i target c u is number =
       let a = task_at c u is in
       let same : a.operation ≡ target.call = some_is a.operation target.call (sym a.there ∙ (ap (slice_get (operations script)) number ∙ target.there)) in
@@ -119,7 +118,7 @@ module _ (script : List Item) (made : AreMade script) (there : AreThere script) 
 
   -- ## Each task fits
 
-  fits_op : (c : ℕ) (t : Task) (op : Op) → IsTaskOf (plan_of script) (id_plan_of script) (all_tasks script) fin c t → t.op ≡ op → FitsOp (plan_of script) (id_plan_of script) (all_tasks script) fin t.number op
+  fits_op : (c : ℕ) (t : Task) (op : Op) → IsTaskOf (plan_of script) (id_plan_of script) (all_tasks script) gives c t → t.op ≡ op → FitsOp (plan_of script) (id_plan_of script) (all_tasks script) gives t.number op
   fits_op c t (ops.Call asked) is op =
       let a = task_at c t is in
       let call = call_asks (numbered script) (names script) (numbers_at script t.number a.operation) a.operation.item asked (a.asks ∙ ap (λ o. Some o) op) in
@@ -127,11 +126,11 @@ module _ (script : List Item) (made : AreMade script) (there : AreThere script) 
   fits_op c t (ops.Expire o) is op =
       let a = task_at c t is in
       let x = expire_asks (numbered script) (names script) (numbers_at script t.number a.operation) a.operation.item o (a.asks ∙ ap (λ o. Some o) op) in
-      subst (IsCalls (plan_of script) (id_plan_of script) (all_tasks script) fin) (sym x.3) (target_call (number_of (numbered script) x.0 x.1) x.0 x.1 (expired script there x.0 x.1 (item_there t.number a.operation (Expire x.0 x.1) a.there x.2)))
+      subst (IsCalls (plan_of script) (id_plan_of script) (all_tasks script) gives) (sym x.3) (target_call (number_of (numbered script) x.0 x.1) x.0 x.1 (expired script there x.0 x.1 (item_there t.number a.operation (Expire x.0 x.1) a.there x.2)))
   fits_op c t (ops.Join o) is op =
       let a = task_at c t is in
       let x = join_asks (numbered script) (names script) (numbers_at script t.number a.operation) a.operation.item o (a.asks ∙ ap (λ o. Some o) op) in
-      subst (IsCalls (plan_of script) (id_plan_of script) (all_tasks script) fin) (sym x.3) (target_call (number_of (numbered script) x.0 x.1) x.0 x.1 (joined script there x.0 x.1 (item_there t.number a.operation (Join x.0 x.1) a.there x.2)))
+      subst (IsCalls (plan_of script) (id_plan_of script) (all_tasks script) gives) (sym x.3) (target_call (number_of (numbered script) x.0 x.1) x.0 x.1 (joined script there x.0 x.1 (item_there t.number a.operation (Join x.0 x.1) a.there x.2)))
   fits_op c t (ops.Fail n code) is op =
       let a = task_at c t is in
       let x = fail_asks (numbered script) (names script) (numbers_at script t.number a.operation) a.operation.item n code (a.asks ∙ ap (λ o. Some o) op) in
@@ -142,10 +141,10 @@ module _ (script : List Item) (made : AreMade script) (there : AreThere script) 
   fits_op c t (ops.Drop n) is op = tt
 
   -- client 0 only opens sockets
-  opens_only : (c : ℕ) (t : Task) → IsTaskOf (plan_of script) (id_plan_of script) (all_tasks script) fin c t → (IsOpen t.op → ⊥) → c ≢ 0
+  opens_only : (c : ℕ) (t : Task) → IsTaskOf (plan_of script) (id_plan_of script) (all_tasks script) gives c t → (IsOpen t.op → ⊥) → c ≢ 0
   opens_only c t is none_ zero_ = let are = made.are in none_ (in_all (λ (u : Task). IsOpen u.op) is.0 (are.setup is.0 (ap (slice_get (all_tasks script)) (sym zero_) ∙ is.1)) t is.2)
 
-  fits_client : (c : ℕ) (t : Task) (op : Op) → IsTaskOf (plan_of script) (id_plan_of script) (all_tasks script) fin c t → t.op ≡ op → FitsClient (plan_of script) (id_plan_of script) (all_tasks script) fin c op
+  fits_client : (c : ℕ) (t : Task) (op : Op) → IsTaskOf (plan_of script) (id_plan_of script) (all_tasks script) gives c t → t.op ≡ op → FitsClient (plan_of script) (id_plan_of script) (all_tasks script) gives c op
   fits_client c t (ops.Open n k) is op = tt
   fits_client c t (ops.Call asked) is op = opens_only c t is (λ o. subst IsOpen op o)
   fits_client c t (ops.Expire o) is op = opens_only c t is (λ o. subst IsOpen op o)
@@ -155,9 +154,9 @@ module _ (script : List Item) (made : AreMade script) (there : AreThere script) 
   fits_client c t (ops.Drop n) is op = opens_only c t is (λ o. subst IsOpen op o)
   fits_client c t (ops.Fail n code) is op = opens_only c t is (λ o. subst IsOpen op o)
 
-  pub begins : Begins (plan_of script) (id_plan_of script) (all_tasks script) fin are_numbered have_slots (opens script)
+  pub begins : Begins (plan_of script) (id_plan_of script) (all_tasks script) gives are_numbered have_slots (opens script)
   begins = record {
-    fits = λ c ts at. all_in (FitsTask (plan_of script) (id_plan_of script) (all_tasks script) fin c) ts (λ t in_. let is : IsTaskOf (plan_of script) (id_plan_of script) (all_tasks script) fin c t = (ts, at, in_) in (fits_op c t t.op is refl, fits_client c t t.op is refl));
+    fits = λ c ts at. all_in (FitsTask (plan_of script) (id_plan_of script) (all_tasks script) gives c) ts (λ t in_. let is : IsTaskOf (plan_of script) (id_plan_of script) (all_tasks script) gives c t = (ts, at, in_) in (fits_op c t t.op is refl, fits_client c t t.op is refl));
     numbers = numbers;
     few = made.few_clients;
     links = let seats = made.seats in omega (arith, seats);

@@ -2,11 +2,10 @@
 use Rattle.std.proofs.Common.{◌≡◌, ◌≢◌, ℕ, ◌+◌, ◌*◌, ◌<◌, ◌≤◌, List, length, length-set, get_or, get_or-set_same, get_or-set_other, set, refl, sym, ap, ◌∙◌, subst, arith}
 use Rattle.std.proofs.lemmas.List.{get_or_past}
 use mathlib.Core.Logic.{dite}
-use mathlib.Core.Option.{Option, none, some}
 use native.Mathlib.Decide.{ℕ_discrete, dec_le}
 use Rattle.sock_words.specs.Words.{socket_id_slot}
 use Rattle.sock_words.specs.declared.plain.Plan.{Plan}
-use Rattle.sock_model.specs.Layout.{tag_word, ref_word, link_word, head_word, code_word, name_word, open_word, request_word, next_word, place_word, all_words}
+use Rattle.sock_model.specs.Layout.{tag_word, code_word, name_word, open_word, request_word, next_word, place_word, all_words}
 use Rattle.corr_core.specs.declared.marks.Plan.{Plan as IdPlan}
 use Rattle.sock_programs.specs.declared.task.Task.{Task}
 use Rattle.sock_programs.specs.Calls.{Call, ClaimSlot, GiveBirth, AddRef, SubRef, SetOdd, Recycle, FreeSlot, StoreLink, LoadLink, ResetHead, WipeCode, StoreCode, StoreName, LoadName, StoreOpen, LoadOpen, TakeLink, FinishLink, PutLink, LookWord, FindLink, LoadCode, ClaimRequest, PutMessage, Unconnect, SwapHead, Connect, EmptyHead, ReadNext, TurnNext, FreeRequest, StorePlace, DropPlace}
@@ -56,8 +55,8 @@ module _ (p : Plan) where
   tagged : (ws : List ℕ) (j v n : ℕ) → j < p.slots → IsNamed ws n → IsNamed (set ws (tag_word j) v) n
   tagged ws j v n inside some_ = other_name ws (tag_word j) v n (λ e. omega (arith, inside, e)) some_
 
-  module _ (q : IdPlan) (clients : List (List Task)) (fin : ℕ → List ℕ) where
-    pub names_after : (call : Call) → IsInside p call → MayDo p q clients fin call → (ws : List ℕ) → length ws ≡ all_words p → (n : ℕ) → n < p.names → IsNamed ws n → IsNamed (words_after ws (word_of p call) (word_after call (found_at ws (word_of p call)))) n
+  module _ (q : IdPlan) (clients : List (List Task)) (gives : ℕ → List ℕ) where
+    pub names_after : (call : Call) → IsInside p call → MayDo p q clients gives call → (ws : List ℕ) → length ws ≡ all_words p → (n : ℕ) → n < p.names → IsNamed ws n → IsNamed (words_after ws (word_of p call) (word_after call (found_at ws (word_of p call)))) n
     names_after (ClaimSlot i) in_ may ws sized n low some_ = tagged ws i 1 n in_ some_
     names_after (FreeSlot i) in_ may ws sized n low some_ = tagged ws i 0 n in_ some_
     names_after (GiveBirth i k) in_ may ws sized n low some_ = of_slot ws i 1 (word_after (GiveBirth i k) (found_at ws (word_of p (GiveBirth i k)))) n in_ (omega arith) some_
@@ -98,26 +97,26 @@ module _ (p : Plan) where
 
   -- ## Codes
 
-  abbrev pub AreOther : List ℕ → Type 0
-  AreOther ws = (i : ℕ) → i < p.slots → get_or ws (code_word i) 0 ≢ 0 → IsOther (get_or ws (code_word i) 0)
+  module _ (q : IdPlan) (clients : List (List Task)) (gives : ℕ → List ℕ) where
+    abbrev pub AreOther : List ℕ → Type 0
+    AreOther ws = (i : ℕ) → i < p.slots → get_or ws (code_word i) 0 ≢ 0 → IsOther p q clients gives (get_or ws (code_word i) 0)
 
-  code_set : (ws : List ℕ) (x w : ℕ) → AreOther ws → ((i : ℕ) → i < p.slots → x ≡ code_word i → w ≢ 0 → IsOther w) → AreOther (set ws x w)
-  code_set ws x w are new i inside = dite (ℕ_discrete x (code_word i))
-      (λ e. dite (dec_le (length ws) x) (λ past. λ some_. absurd (some_ (get_or_past (set ws x w) (code_word i) 0 (omega (arith, past, e, length-set ws x w)))))
-      (λ n. let here : get_or (set ws x w) x 0 ≡ w = get_or-set_same ws x w 0 (omega arith) in subst (λ y. get_or (set ws x w) y 0 ≢ 0 → IsOther (get_or (set ws x w) y 0)) e (subst (λ y. y ≢ 0 → IsOther y) (sym here) (new i inside e))))
-      (λ n. subst (λ y. y ≢ 0 → IsOther y) (sym (get_or-set_other ws x (code_word i) w 0 (λ e. n (sym e)))) (are i inside))
+    code_set : (ws : List ℕ) (x w : ℕ) → AreOther ws → ((i : ℕ) → i < p.slots → x ≡ code_word i → w ≢ 0 → IsOther p q clients gives w) → AreOther (set ws x w)
+    code_set ws x w are new i inside = dite (ℕ_discrete x (code_word i))
+        (λ e. dite (dec_le (length ws) x) (λ past. λ some_. absurd (some_ (get_or_past (set ws x w) (code_word i) 0 (omega (arith, past, e, length-set ws x w)))))
+        (λ n. let here : get_or (set ws x w) x 0 ≡ w = get_or-set_same ws x w 0 (omega arith) in subst (λ y. get_or (set ws x w) y 0 ≢ 0 → IsOther p q clients gives (get_or (set ws x w) y 0)) e (subst (λ y. y ≢ 0 → IsOther p q clients gives y) (sym here) (new i inside e))))
+        (λ n. subst (λ y. y ≢ 0 → IsOther p q clients gives y) (sym (get_or-set_other ws x (code_word i) w 0 (λ e. n (sym e)))) (are i inside))
 
-  code_of_slot : (ws : List ℕ) (j c w : ℕ) → c < 6 → c ≢ 4 → AreOther ws → AreOther (set ws (6 * j + c) w)
-  code_of_slot ws j c w low other are = code_set ws (6 * j + c) w are (λ i inside e. absurd (other (omega (arith, low, e))))
+    code_of_slot : (ws : List ℕ) (j c w : ℕ) → c < 6 → c ≢ 4 → AreOther ws → AreOther (set ws (6 * j + c) w)
+    code_of_slot ws j c w low other are = code_set ws (6 * j + c) w are (λ i inside e. absurd (other (omega (arith, low, e))))
 
-  code_behind : (ws : List ℕ) (x w : ℕ) → 6 * p.slots ≤ x → AreOther ws → AreOther (set ws x w)
-  code_behind ws x w past are = code_set ws x w are (λ i inside e. absurd (omega (arith, inside, e, past)))
+    code_behind : (ws : List ℕ) (x w : ℕ) → 6 * p.slots ≤ x → AreOther ws → AreOther (set ws x w)
+    code_behind ws x w past are = code_set ws x w are (λ i inside e. absurd (omega (arith, inside, e, past)))
 
-  code_tagged : (ws : List ℕ) (j w : ℕ) → AreOther ws → AreOther (set ws (tag_word j) w)
-  code_tagged ws j w are = code_set ws (tag_word j) w are (λ i inside e. absurd (omega (arith, e)))
+    code_tagged : (ws : List ℕ) (j w : ℕ) → AreOther ws → AreOther (set ws (tag_word j) w)
+    code_tagged ws j w are = code_set ws (tag_word j) w are (λ i inside e. absurd (omega (arith, e)))
 
-  module _ (q : IdPlan) (clients : List (List Task)) (fin : ℕ → List ℕ) where
-    pub codes_after : (call : Call) → MayDo p q clients fin call → (ws : List ℕ) → AreOther ws → AreOther (words_after ws (word_of p call) (word_after call (found_at ws (word_of p call))))
+    pub codes_after : (call : Call) → MayDo p q clients gives call → (ws : List ℕ) → AreOther ws → AreOther (words_after ws (word_of p call) (word_after call (found_at ws (word_of p call))))
     codes_after (ClaimSlot i) may ws are = code_tagged ws i (word_after (ClaimSlot i) (found_at ws (word_of p (ClaimSlot i)))) are
     codes_after (FreeSlot i) may ws are = code_tagged ws i (word_after (FreeSlot i) (found_at ws (word_of p (FreeSlot i)))) are
     codes_after (GiveBirth i k) may ws are = code_of_slot ws i 1 (word_after (GiveBirth i k) (found_at ws (word_of p (GiveBirth i k)))) (omega arith) (λ e. omega (arith, e)) are
@@ -134,7 +133,7 @@ module _ (p : Plan) where
     codes_after (EmptyHead i last) may ws are = code_of_slot ws i 3 (word_after (EmptyHead i last) (found_at ws (word_of p (EmptyHead i last)))) (omega arith) (λ e. omega (arith, e)) are
     codes_after (WipeCode i k) may ws are = code_set ws (code_word i) 0 are (λ j inside e some_. absurd (some_ refl))
     codes_after (StoreCode i h c) may ws are = code_set ws (code_word i) c are (λ j inside e some_. may)
-    codes_after (LoadCode i h) may ws are = code_set ws (code_word i) (get_or ws (code_word i) 0) are (λ j inside e. subst (λ x. get_or ws x 0 ≢ 0 → IsOther (get_or ws x 0)) (sym e) (are j inside))
+    codes_after (LoadCode i h) may ws are = code_set ws (code_word i) (get_or ws (code_word i) 0) are (λ j inside e. subst (λ x. get_or ws x 0 ≢ 0 → IsOther p q clients gives (get_or ws x 0)) (sym e) (are j inside))
     codes_after (StoreName n w) may ws are = code_behind ws (name_word p n) w (omega arith) are
     codes_after (LoadName n) may ws are = code_behind ws (name_word p n) (get_or ws (name_word p n) 0) (omega arith) are
     codes_after (StoreOpen o w) may ws are = code_behind ws (open_word p o) w (omega arith) are

@@ -4,7 +4,9 @@ use Rattle.std.specs.List.{common_prefix_len}
 use lib.Seq.{take-append-le, drop-append-le}
 use Rattle.brpc_model.specs.Meta.{Meta, MetaFault, read_meta}
 use Rattle.brpc_model.specs.Frame.{Frame, FrameFault, BadMagic, TooBig, MetaOver, Judged, NoneYet, Faulty, Begins, magic, high_first, matching, body_limit, with_attachment, body_judged, judged}
-use Rattle.brpc_model.specs.Stream.{Stream, Rest, Fault, goes_on, stream_up_to, stream_from}
+use Rattle.brpc_model.specs.Causes.{HasFault}
+use Rattle.prpc_frame.proofs.Lasting.{faulty}
+use Rattle.brpc_model.specs.Stream.{Ending, Stream, Rest, Fault, stream, goes_on, stream_up_to, stream_from}
 use Rattle.brpc_model.proofs.Streams.{stream_goes_on}
 use Rattle.sock_programs.specs.Readers.{last_of}
 
@@ -190,3 +192,60 @@ frames_follow (suc n) at xs ys r room is j f there = by_judged (judged xs) refl 
     by_judged (Faulty fault) e is again = absurd (let w : Fault at fault ≡ Rest r = is in cc)
     by_judged (Begins g body) e is again = subst (λ l. slice_get l (suc (length (stream_up_to n (at + (12 + body)) (drop (12 + body) xs)).frames) + j) ≡ Some f) (sym (begins_more at xs ys g body e))
         (subst (λ k. slice_get (g ∷ (stream_from (at + (12 + body)) (drop (12 + body) xs ++ ys)).frames) k ≡ Some f) (let z : suc (length (stream_up_to n (at + (12 + body)) (drop (12 + body) xs)).frames + j) ≡ suc (length (stream_up_to n (at + (12 + body)) (drop (12 + body) xs)).frames) + j = omega arith in z) (again body g e is))
+
+-- ## Faults
+
+abbrev pub IsFaulty : Ending → Type 0
+IsFaulty e = (start : ℕ) × (fault : FrameFault) × (e ≡ Fault start fault)
+
+-- a fault is one wherever the stream begins
+ends_same : (at at' : ℕ) (bytes : List ℕ) (j : Judged) (g h : ℕ → Stream) → ((body : ℕ) → IsFaulty (g body).ending → IsFaulty (h body).ending) → IsFaulty (goes_on at bytes j g).ending → IsFaulty (goes_on at' bytes j h).ending
+ends_same at at' bytes NoneYet g h all x = absurd (let w : Rest (length bytes) ≡ Fault x.0 x.1 = x.2 in cc)
+ends_same at at' bytes (Faulty fault) g h all x = (at', fault, refl)
+ends_same at at' bytes (Begins f body) g h all x = all body x
+
+faulty_anywhere : (n at at' : ℕ) (bytes : List ℕ) → IsFaulty (stream_up_to n at bytes).ending → IsFaulty (stream_up_to n at' bytes).ending
+faulty_anywhere zero at at' bytes x = x
+faulty_anywhere (suc n) at at' bytes x = ends_same at at' bytes (judged bytes) (λ body. stream_up_to n (at + (12 + body)) (drop (12 + body) bytes)) (λ body. stream_up_to n (at' + (12 + body)) (drop (12 + body) bytes))
+    (λ body y. faulty_anywhere n (at + (12 + body)) (at' + (12 + body)) (drop (12 + body) bytes) y) x
+
+-- behind a frame, with more bytes
+begins_ends : (at : ℕ) (xs ys : List ℕ) (f : Frame) (body : ℕ) → judged xs ≡ Begins f body → (stream_from at (xs ++ ys)).ending ≡ (stream_from (at + (12 + body)) (drop (12 + body) xs ++ ys)).ending
+begins_ends at xs ys f body e = ap (λ (s : Stream). s.ending) (stream_goes_on at (xs ++ ys)) ∙ (ap (λ j. (goes_on at (xs ++ ys) j (λ b. stream_from (at + (12 + b)) (drop (12 + b) (xs ++ ys)))).ending) (judged_more xs ys f body e)
+    ∙ ap (λ l. (stream_from (at + (12 + body)) l).ending) (drop-append-le (12 + body) xs ys (begins_facts xs f body e).2))
+
+-- a fault stays where more bytes come
+faults_stay : (n at : ℕ) (xs ys : List ℕ) → length xs < n → IsFaulty (stream_up_to n at xs).ending → IsFaulty (stream_from at (xs ++ ys)).ending
+faults_stay zero at xs ys room x = absurd (omega (arith, room))
+faults_stay (suc n) at xs ys room x = by_judged (judged xs) refl x (λ body g is later. faults_stay n (at + (12 + body)) (drop (12 + body) xs) ys (left_short xs g body n is room) later)
+  where
+    by_judged : (j : Judged) → judged xs ≡ j → IsFaulty (goes_on at xs j (λ body. stream_up_to n (at + (12 + body)) (drop (12 + body) xs))).ending
+        → ((body : ℕ) (g : Frame) → judged xs ≡ Begins g body → IsFaulty (stream_up_to n (at + (12 + body)) (drop (12 + body) xs)).ending → IsFaulty (stream_from (at + (12 + body)) (drop (12 + body) xs ++ ys)).ending) → IsFaulty (stream_from at (xs ++ ys)).ending
+    by_judged NoneYet is x again = absurd (let w : Rest (length xs) ≡ Fault x.0 x.1 = x.2 in cc)
+    by_judged (Faulty fault) is x again = (at, fault, ap (λ (s : Stream). s.ending) (faulty at xs ys fault is))
+    by_judged (Begins g body) is x again = subst IsFaulty (sym (begins_ends at xs ys g body is)) (again body g is x)
+
+pub faults_more : (xs ys : List ℕ) → HasFault xs → HasFault (xs ++ ys)
+faults_more xs ys x = faults_stay (suc (length xs)) 0 xs ys (omega arith) x
+
+-- behind a rest a fault is one of the whole
+faults_behind : (n at : ℕ) (xs ys : List ℕ) (r : ℕ) → length xs < n → (stream_up_to n at xs).ending ≡ Rest r → IsFaulty (stream_from 0 (last_of r xs ++ ys)).ending → IsFaulty (stream_from at (xs ++ ys)).ending
+faults_behind zero at xs ys r room is x = absurd (omega (arith, room))
+faults_behind (suc n) at xs ys r room is x = by_judged (judged xs) refl is
+    (λ body g e later. faults_behind n (at + (12 + body)) (drop (12 + body) xs) ys r (left_short xs g body n e room) later
+    (subst (λ l. IsFaulty (stream_from 0 (l ++ ys)).ending) (last_same body g e (rest_low n (at + (12 + body)) (drop (12 + body) xs) r later)) x))
+  where
+    last_same : (body : ℕ) (g : Frame) → judged xs ≡ Begins g body → r ≤ length (drop (12 + body) xs) → last_of r xs ≡ last_of r (drop (12 + body) xs)
+    last_same body g e low = let l : length (drop (12 + body) xs) ≡ length xs - (12 + body) = length-drop (12 + body) xs in let b = (begins_facts xs g body e).2 in
+        let k : length xs - r ≡ (12 + body) + (length (drop (12 + body) xs) - r) = omega (arith, l, b, low) in
+        ap (λ m. drop m xs) k ∙ sym (drop-drop (length (drop (12 + body) xs) - r) (12 + body) xs)
+
+    by_judged : (j : Judged) → judged xs ≡ j → (goes_on at xs j (λ body. stream_up_to n (at + (12 + body)) (drop (12 + body) xs))).ending ≡ Rest r
+        → ((body : ℕ) (g : Frame) → judged xs ≡ Begins g body → (stream_up_to n (at + (12 + body)) (drop (12 + body) xs)).ending ≡ Rest r → IsFaulty (stream_from (at + (12 + body)) (drop (12 + body) xs ++ ys)).ending) → IsFaulty (stream_from at (xs ++ ys)).ending
+    by_judged NoneYet e is again = let w : length xs ≡ r = cc in let all : length xs - r ≡ 0 = omega (arith, w) in
+        faulty_anywhere (suc (length (xs ++ ys))) 0 at (xs ++ ys) (subst (λ l. IsFaulty (stream_from 0 (l ++ ys)).ending) (ap (λ m. drop m xs) all) x)
+    by_judged (Faulty fault) e is again = absurd (let w : Fault at fault ≡ Rest r = is in cc)
+    by_judged (Begins g body) e is again = subst IsFaulty (sym (begins_ends at xs ys g body e)) (again body g e is)
+
+pub faults_follow : (xs ys : List ℕ) (r : ℕ) → (stream xs).ending ≡ Rest r → HasFault (last_of r xs ++ ys) → HasFault (xs ++ ys)
+faults_follow xs ys r is x = faults_behind (suc (length xs)) 0 xs ys r (omega arith) is x

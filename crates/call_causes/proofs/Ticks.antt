@@ -1,21 +1,19 @@
 -- A tick of any seat goes on with the story of the calls.
-use Rattle.std.proofs.Common.{◌≡◌, ◌≢◌, ℕ, zero, suc, ◌+◌, ◌<◌, ◌≤◌, ◌⊎◌, inl, inr, ⊎_elim, List, [], ◌∷◌, ◌++◌, length, length-set, get_or, get_or-set_same, set, slice_get, None, Some, refl, sym, ap, ◌∙◌, subst, arith}
+use Rattle.std.proofs.Common.{◌≡◌, ◌≢◌, ℕ, zero, suc, ◌<◌, ◌≤◌, ◌⊎◌, inl, inr, ⊎_elim, List, [], ◌∷◌, ◌++◌, length, length-set, get_or, get_or-set_same, set, slice_get, None, Some, refl, sym, ap, ◌∙◌, subst, arith}
 use Rattle.std.specs.List.{AllByRecursion}
 use mathlib.Core.Option.{Option, none, some, some-injective, some-ne-none}
 use lib.ListN.{get_elem?}
 use Rattle.atomic_table.proofs.Lists.{at_set}
 use Rattle.sock_words.specs.declared.plain.Plan.{Plan}
-use Rattle.sock_words.specs.declared.outcome.Outcome.{Outcome}
 use Rattle.sock_io.specs.declared.link.Put.{Put}
 use Rattle.sock_io.specs.declared.link.Ready.{Ready}
 use Rattle.sock_model.specs.declared.chain.Heading.{Heading}
 use Rattle.sock_model.specs.declared.home.Home.{Home}
 use Rattle.sock_model.specs.declared.home.Home.TheVariants.{Empty, Link, Message}
-use Rattle.sock_model.specs.Layout.{code_word, name_word, all_words}
+use Rattle.sock_model.specs.Layout.{name_word, all_words}
 use Rattle.sock_model.specs.Messages.{Letter}
 use Rattle.sock_model.specs.Reads.{letter_of, shown, message, link_home}
 use Rattle.corr_core.specs.declared.marks.Plan.{Plan as IdPlan}
-use Rattle.sock_programs.specs.declared.task.Op.{Op}
 use Rattle.sock_programs.specs.declared.task.Op.TheVariants as ops
 use Rattle.sock_programs.specs.declared.task.Task.{Task}
 use Rattle.sock_programs.specs.Calls.{Call, StoreName, LoadName, LoadCode}
@@ -35,9 +33,10 @@ use Rattle.id_runs.specs.Goes as goes
 use Rattle.id_runs.proofs.Loops.{ids_round}
 use Rattle.id_runs.proofs.Programs.{block_goes}
 use Rattle.id_runs.proofs.Owners.{steps_on}
-use Rattle.call_causes.specs.Scenes.{Scene, In, Said, IsTaskOf, Named, HasNoneOf, ToldOf, was_said, was_sent, was_begun, AreTold, HasRoom, Later}
+use Rattle.call_causes.specs.Lists.{advances_by, advanced_with, advanced_at}
+use Rattle.call_causes.specs.Scenes.{Scene, In, Said, IsTaskOf, Named, HasNoneOf, ToldOf, was_said, was_sent, was_begun, AreTold, HasRoom, LeadsTo, StaysWithin, Later}
 use Rattle.call_causes.specs.Says.{Mark, SaidBy, MayDo, FindsDo, NoneOfSetup, SaysOn}
-use Rattle.call_causes.specs.Stories.{At, SlotsLaw, BirthsLaw, TasksLaw, ClaimsLaw, ReadsLaw, IsBehind, births_after, claims_after, mark_after, CallStory, HasStory, undo}
+use Rattle.call_causes.specs.Stories.{At, SlotsLaw, ClaimsLaw, ReadsLaw, IsBehind, births_after, claims_after, mark_after, CallStory, HasStory, undo}
 use Rattle.call_causes.proofs.Lasting.{are_told_on, says_on}
 use Rattle.call_causes.proofs.Programs.{block_says}
 use Rattle.call_causes.proofs.Rounds.{round_says}
@@ -48,10 +47,10 @@ use Rattle.call_causes.proofs.Claiming.{HaveSlots, has_room, claims_after_step}
 use Rattle.call_causes.proofs.Links.{reads_after_step}
 use Rattle.call_causes.proofs.Knowing.{is_sized, are_low, finds, knows}
 use Rattle.call_causes.proofs.SockWords.{IsInside, names_after, AreOther, codes_after}
-use Rattle.call_causes.proofs.Chains.{sayings_of, AreFewTries, KeepsFew, set_twice, said_first}
+use Rattle.call_causes.proofs.Chains.{sayings_of, AreFewTries, KeepsFew, set_twice}
 use Rattle.call_causes.proofs.Kept.{kept_slots, kept_claims, kept_reads}
-use Rattle.call_causes.proofs.AsideTicks.{sayings_keep, overs_keep, is_later, AfterTick, aside_ticks}
-use Rattle.call_causes.proofs.SockTicks.{IsBeside, beside_later, beside_slots, beside_births, beside_tasks, beside_said, AfterBeside, beside_ticks}
+use Rattle.call_causes.proofs.AsideTicks.{sayings_keep, overs_keep, is_later, aside_ticks}
+use Rattle.call_causes.proofs.SockTicks.{IsBeside, beside_later, beside_slots, beside_births, beside_tasks, beside_said, beside_ticks}
 
 -- of two lists of one length each place of one is a place of the other
 pub other_there : {A B : Type 0} (l : List A) (m : List B) (i : ℕ) (a : A) → length m ≡ length l → get_elem? l i ≡ some a → (b : B) × (get_elem? m i ≡ some b)
@@ -122,91 +121,96 @@ AllowsDo p other = Unit {0}
 abbrev pub IsSetUp : Core → Type 0
 IsSetUp c = (seat : SeatState) → get_elem? c.seats 0 ≡ some seat → seat.program ≡ Rest
 
-module _ (p : Plan) (q : IdPlan) (clients : List (List Task)) (fin : ℕ → List ℕ) (numbered : AreNumbered p q clients fin) (slots : HaveSlots p q clients fin) (narrow : q.slots ≤ 65536) where
-  module _ (w : Scene) (ms : List Mark) (story : CallStory p q clients fin w ms) (us : List IdView) (ids : SoundIds p q w.core us) (sized : length w.core.words ≡ all_words p) (i : ℕ) (seat : SeatState) (at_seat : get_elem? w.core.seats i ≡ some seat) (u : IdView) (at_view : get_elem? us i ≡ some u) (m : Mark) (at : At ms i m)
+module _ (p : Plan) (q : IdPlan) (clients : List (List Task)) (gives : ℕ → List ℕ) (numbered : AreNumbered p q clients gives) (slots : HaveSlots p q clients gives) (narrow : q.slots ≤ 65536) where
+  module _ (w : Scene) (ms : List Mark) (story : CallStory p q clients gives w ms) (us : List IdView) (ids : SoundIds p q w.core us) (sized : length w.core.words ≡ all_words p) (i : ℕ) (seat : SeatState) (at_seat : get_elem? w.core.seats i ≡ some seat) (u : IdView) (at_view : get_elem? us i ≡ some u) (m : Mark) (at : At ms i m)
       (over : i ≢ 0 → (n : Mark) → At ms 0 n → n.todo ≡ []) where
     abbrev waits : List Retry
     waits = waiting_at w.core.calls.waiting i
 
-    before : HasStory p q clients fin w.core
-    before = record { scene = w; marks = ms; is = refl; story = story }
+    before : HasStory p q clients gives w.advances w.core
+    before = record { scene = w; marks = ms; is = refl; shown = refl; story = story }
 
-    room : HasRoom p q clients fin w
-    room = has_room p q clients fin slots w ms story.claims
+    abbrev Leads : Core → Type 0
+    Leads c = LeadsTo p q clients gives c
+
+    room : HasRoom p q clients gives w
+    room = has_room p q clients gives slots w ms story.claims
 
     -- the seats behind a step
-    seats_after : (w' : Scene) (seat' : SeatState) (mark : Mark) → w'.core.seats ≡ set w.core.seats i seat' → Later p q clients fin w w' → SaysOn p q clients fin w' mark seat'.program
-        → (k : ℕ) (s : SeatState) (n : Mark) → get_elem? w'.core.seats k ≡ some s → At (set ms i mark) k n → SaysOn p q clients fin w' n s.program
+    seats_after : (w' : Scene) (seat' : SeatState) (mark : Mark) → w'.core.seats ≡ set w.core.seats i seat' → Later p q clients gives w w' → SaysOn p q clients gives w' mark seat'.program
+        → (k : ℕ) (s : SeatState) (n : Mark) → get_elem? w'.core.seats k ≡ some s → At (set ms i mark) k n → SaysOn p q clients gives w' n s.program
     seats_after w' seat' mark are l says k s n at_s at_n = ⊎_elim
-        (λ a. ⊎_elim (λ b. subst (λ (y : SeatState). SaysOn p q clients fin w' n y.program) a.1 (subst (λ (y : Mark). SaysOn p q clients fin w' y seat'.program) b.1 says)) (λ b. absurd (b.0 a.0)) (at_set ms i k mark n at_n))
-        (λ a. ⊎_elim (λ b. absurd (a.0 b.0)) (λ b. says_on p q clients fin w w' l n s.program (story.seats k s n a.1 b.1)) (at_set ms i k mark n at_n))
+        (λ a. ⊎_elim (λ b. subst (λ (y : SeatState). SaysOn p q clients gives w' n y.program) a.1 (subst (λ (y : Mark). SaysOn p q clients gives w' y seat'.program) b.1 says)) (λ b. absurd (b.0 a.0)) (at_set ms i k mark n at_n))
+        (λ a. ⊎_elim (λ b. absurd (a.0 b.0)) (λ b. says_on p q clients gives w w' l n s.program (story.seats k s n a.1 b.1)) (at_set ms i k mark n at_n))
         (at_set w.core.seats i k seat' s (subst (λ l. get_elem? l k ≡ some s) are at_s))
 
     -- ## Steps that aren't aside
 
     module _ (x : Program) (hand : List Home) (ws : List ℕ) (hs : List (Option Home)) where
       abbrev scene : Scene
-      scene = record { core = with_seat i x hand ws hs w.core; claims = w.claims; births = w.births; sayings = sayings_of (resolved (waiting_at w.core.calls.waiting i) x) w.sayings }
+      scene = record { core = with_seat i x hand ws hs w.core; claims = w.claims; births = w.births; advances = w.advances; sayings = sayings_of (resolved (waiting_at w.core.calls.waiting i) x) w.sayings }
 
-      on_sockets : ((n : ℕ) → n < p.names → get_or w.core.words (name_word p n) 0 ≢ 0 → get_or ws (name_word p n) 0 ≢ 0) → AreOther p ws → KeepsFew x
-          → ((v : Scene) → v.core.words ≡ ws → Later p q clients fin w v → SaidBy v x → SaysOn p q clients fin v m x) → HasStory p q clients fin (with_seat i x hand ws hs w.core)
-      on_sockets names codes keeps says =
-          let b : IsBeside p q clients fin numbered w scene ms i m at story.slots story.births story.tasks room = record { words = refl; homes = refl; gave = refl; births_are = refl; claims_are = refl; named = λ n y. (y.0, names n y.0 y.1); codes = codes } in
+      on_sockets : ((n : ℕ) → n < p.names → get_or w.core.words (name_word p n) 0 ≢ 0 → get_or ws (name_word p n) 0 ≢ 0) → AreOther p q clients gives ws → KeepsFew x → Leads (with_seat i x hand ws hs w.core)
+          → ((v : Scene) → v.core.words ≡ ws → Later p q clients gives w v → SaidBy v x → SaysOn p q clients gives v m x) → HasStory p q clients gives w.advances (with_seat i x hand ws hs w.core)
+      on_sockets names codes keeps lead says =
+          let b : IsBeside p q clients gives numbered w scene ms i m at story.slots story.births story.tasks (room, lead) = record { words = refl; homes = refl; gave = refl; births_are = refl; claims_are = refl; advances_are = refl; named = λ n y. (y.0, names n y.0 y.1); codes = codes } in
           let few = few_of p q (waiting_at w.core.calls.waiting i) (ids.waiting i) in
-          let l = beside_later p q clients fin numbered w scene ms i m at story.slots story.births story.tasks room b x (waiting_at w.core.calls.waiting i) few keeps refl refl in
-          let said = beside_said p q clients fin numbered w scene ms i m at story.slots story.births story.tasks room b x (waiting_at w.core.calls.waiting i) few keeps refl refl in
-          let r = beside_ticks p q clients fin numbered w scene ms i m at story.slots story.births story.tasks room b x (waiting_at w.core.calls.waiting i) few keeps refl refl (says scene refl l said) in
+          let l = beside_later p q clients gives numbered w scene ms i m at story.slots story.births story.tasks (room, lead) b x (waiting_at w.core.calls.waiting i) few keeps refl refl in
+          let said = beside_said p q clients gives numbered w scene ms i m at story.slots story.births story.tasks (room, lead) b x (waiting_at w.core.calls.waiting i) few keeps refl refl in
+          let r = beside_ticks p q clients gives numbered w scene ms i m at story.slots story.births story.tasks (room, lead) b x (waiting_at w.core.calls.waiting i) few keeps refl refl (says scene refl l said) in
           record {
             scene = scene;
             marks = set ms i r.mark;
             is = refl;
+            shown = refl;
             story = record {
               each = length-set ms i r.mark ∙ (story.each ∙ sym (length-set w.core.seats i (record { program = next_step (resolved (waiting_at w.core.calls.waiting i) x); hand = hand })));
-              slots = kept_slots p q clients fin scene ms i m r.mark at r.kept r.slots_law;
+              slots = kept_slots p q clients gives scene ms i m r.mark at r.kept r.slots_law;
               births = r.births_law;
               tasks = r.tasks_law;
-              claims = kept_claims p q clients fin scene ms i m r.mark at r.kept (record { taken = story.claims.taken; calls = story.claims.calls; once = story.claims.once; free = story.claims.free });
-              reads = kept_reads p q clients fin scene ms i m r.mark at r.kept (record { bytes = story.reads.bytes; tied = story.reads.tied; inside = story.reads.inside });
+              claims = kept_claims p q clients gives scene ms i m r.mark at r.kept (record { taken = story.claims.taken; calls = story.claims.calls; once = story.claims.once; free = story.claims.free });
+              reads = kept_reads p q clients gives scene ms i m r.mark at r.kept (record { bytes = story.reads.bytes; tied = story.reads.tied; inside = story.reads.inside });
               seats = seats_after scene (record { program = next_step (resolved (waiting_at w.core.calls.waiting i) x); hand = hand }) r.mark refl l r.says_on;
             };
           }
 
     -- where no word changes
-    pub on_homes : (x : Program) (hand : List Home) (hs : List (Option Home)) → KeepsFew x → ((v : Scene) → Later p q clients fin w v → SaidBy v x → SaysOn p q clients fin v m x) → HasStory p q clients fin (with_seat i x hand w.core.words hs w.core)
-    on_homes x hand hs keeps says = on_sockets x hand w.core.words hs (λ n low some_. some_) story.births.codes keeps (λ v _ l s. says v l s)
+    pub on_homes : (x : Program) (hand : List Home) (hs : List (Option Home)) → KeepsFew x → Leads (with_seat i x hand w.core.words hs w.core) → ((v : Scene) → Later p q clients gives w v → SaidBy v x → SaysOn p q clients gives v m x) → HasStory p q clients gives w.advances (with_seat i x hand w.core.words hs w.core)
+    on_homes x hand hs keeps lead says = on_sockets x hand w.core.words hs (λ n low some_. some_) story.births.codes keeps lead (λ v _ l s. says v l s)
 
     -- ## The run is ending
 
     abbrev told_scene : Scene
-    told_scene = record { core = is_ending w.core; claims = w.claims; births = w.births; sayings = w.sayings }
+    told_scene = record { core = is_ending w.core; claims = w.claims; births = w.births; advances = w.advances; sayings = w.sayings }
 
-    pub told_story : HasStory p q clients fin (is_ending w.core)
-    told_story =
-        let b : IsBeside p q clients fin numbered w told_scene ms i m at story.slots story.births story.tasks room = record { words = refl; homes = refl; gave = refl; births_are = refl; claims_are = refl; named = λ n y. y; codes = story.births.codes } in
-        let l = beside_later p q clients fin numbered w told_scene ms i m at story.slots story.births story.tasks room b Rest [] tt tt refl refl in record {
+    pub told_story : Leads (is_ending w.core) → HasStory p q clients gives w.advances (is_ending w.core)
+    told_story lead =
+        let b : IsBeside p q clients gives numbered w told_scene ms i m at story.slots story.births story.tasks (room, lead) = record { words = refl; homes = refl; gave = refl; births_are = refl; claims_are = refl; advances_are = refl; named = λ n y. y; codes = story.births.codes } in
+        let l = beside_later p q clients gives numbered w told_scene ms i m at story.slots story.births story.tasks (room, lead) b Rest [] tt tt refl refl in record {
           scene = told_scene;
           marks = ms;
           is = refl;
+          shown = refl;
           story = record {
             each = story.each;
-            slots = beside_slots p q clients fin numbered w told_scene ms i m at story.slots story.births story.tasks room b Rest [] tt tt refl refl;
-            births = beside_births p q clients fin numbered w told_scene ms i m at story.slots story.births story.tasks room b Rest [] tt tt refl refl;
-            tasks = beside_tasks p q clients fin numbered w told_scene ms i m at story.slots story.births story.tasks room b Rest [] tt tt refl refl;
+            slots = beside_slots p q clients gives numbered w told_scene ms i m at story.slots story.births story.tasks (room, lead) b Rest [] tt tt refl refl;
+            births = beside_births p q clients gives numbered w told_scene ms i m at story.slots story.births story.tasks (room, lead) b Rest [] tt tt refl refl;
+            tasks = beside_tasks p q clients gives numbered w told_scene ms i m at story.slots story.births story.tasks (room, lead) b Rest [] tt tt refl refl;
             claims = record { taken = story.claims.taken; calls = story.claims.calls; once = story.claims.once; free = story.claims.free };
             reads = record { bytes = story.reads.bytes; tied = story.reads.tied; inside = story.reads.inside };
-            seats = λ k s n at_s at_n. says_on p q clients fin w told_scene l n s.program (story.seats k s n at_s at_n);
+            seats = λ k s n at_s at_n. says_on p q clients gives w told_scene l n s.program (story.seats k s n at_s at_n);
           };
         }
 
     -- ## What a step on the table of the sockets finds
 
-    setup_done : i ≢ 0 → (t : Task) → IsTaskOf p q clients fin 0 t → (n : Mark) × (before : List Task) × ToldOf p q clients fin w 0 before t
+    setup_done : i ≢ 0 → (t : Task) → IsTaskOf p q clients gives 0 t → (n : Mark) × (before : List Task) × ToldOf p q clients gives w 0 before t
     setup_done other t is =
         let first = first_mark ms i m at in
         let none_ = over other first.0 first.1 in
         let there : In t first.0.done = in_undo first.0.done first.0.todo none_ (subst (In t) (sym (story.tasks.placed 0 first.0 first.1 ∙ listed_here clients 0 is.0 is.1)) is.2) in
-        let told = subst (λ c. AreTold p q clients fin w c first.0.done) (story.tasks.client 0 first.0 first.1) (story.tasks.told 0 first.0 first.1) in
-        let x = told_at p q clients fin w 0 first.0.done t told there in (first.0, x.0, x.1)
+        let told = subst (λ c. AreTold p q clients gives w c first.0.done) (story.tasks.client 0 first.0 first.1) (story.tasks.told 0 first.0 first.1) in
+        let x = told_at p q clients gives w 0 first.0.done t told there in (first.0, x.0, x.1)
       where
         first_mark : (l : List Mark) (k : ℕ) (n : Mark) → get_elem? l k ≡ some n → (o : Mark) × (get_elem? l 0 ≡ some o)
         first_mark [] k n e = absurd (some-ne-none n (sym e))
@@ -217,18 +221,18 @@ module _ (p : Plan) (q : IdPlan) (clients : List (List Task)) (fin : ℕ → Lis
         listed_here (y ∷ cs) zero ts e = let z : y ≡ ts = cc in z
         listed_here (y ∷ cs) (suc c) ts e = listed_here cs c ts e
 
-        undone : (done todo : List Task) → In t (undo p q clients fin done todo) → In t done ⊎ In t todo
+        undone : (done todo : List Task) → In t (undo p q clients gives done todo) → In t done ⊎ In t todo
         undone [] todo there = inr there
         undone (d ∷ done) todo there = ⊎_elim (λ y. inl (inr y)) (λ y. ⊎_elim (λ same. inl (inl same)) (λ z. inr z) y) (undone done (d ∷ todo) there)
 
-        in_undo : (done todo : List Task) → todo ≡ [] → In t (undo p q clients fin done todo) → In t done
+        in_undo : (done todo : List Task) → todo ≡ [] → In t (undo p q clients gives done todo) → In t done
         in_undo done todo none_ there = ⊎_elim (λ y. y) (λ y. absurd (subst (In t) none_ y)) (undone done todo there)
 
-    none_of_setup : i ≢ 0 → (n : ℕ) → (Named p q clients fin w n → ⊥) → (v : Scene) → Later p q clients fin w v → NoneOfSetup p q clients fin v n
+    none_of_setup : i ≢ 0 → (n : ℕ) → (Named p q clients gives w n → ⊥) → (v : Scene) → Later p q clients gives w v → NoneOfSetup p q clients gives v n
     none_of_setup other n unnamed v l t is = let x = setup_done other t is in λ k op. by_told x.1 x.2 k op
       where
-        by_told : (before : List Task) → ToldOf p q clients fin w 0 before t → HasNoneOf p q clients fin v n t
-        by_told before (was_said y s why just) k op = (y, l.said t.number y s, (λ opened. unnamed (open_named p q clients fin w 0 before n k y (subst (λ o. Rattle.call_causes.specs.Scenes.WhyOwn p q clients fin w 0 before o y) op why) opened)))
+        by_told : (before : List Task) → ToldOf p q clients gives w 0 before t → HasNoneOf p q clients gives v n t
+        by_told before (was_said y s why just) k op = (y, l.said t.number y s, (λ opened. unnamed (open_named p q clients gives w 0 before n k y (subst (λ o. Rattle.call_causes.specs.Scenes.WhyOwn p q clients gives w 0 before o y) op why) opened)))
         by_told before (was_sent a bytes sent named) k op = absurd (let z : ops.Send a bytes ≡ ops.Open n k = sym sent ∙ op in cc)
         by_told before (was_begun id asked call own born begun named) k op = absurd (let z : ops.Call asked ≡ ops.Open n k = sym call ∙ op in cc)
 
@@ -236,13 +240,13 @@ module _ (p : Plan) (q : IdPlan) (clients : List (List Task)) (fin : ℕ → Lis
     client_is : m.client ≡ i
     client_is = story.tasks.client i m at
 
-    finds_do : (call : Call) → IsInside p call → MayDo p q clients fin call → (v : Scene) → v.core.words ≡ words_after w.core.words (word_of p call) (word_after call (found_at w.core.words (word_of p call))) → Later p q clients fin w v → FindsDo p q clients fin v m call (found_at w.core.words (word_of p call))
+    finds_do : (call : Call) → IsInside p call → MayDo p q clients gives call → (v : Scene) → v.core.words ≡ words_after w.core.words (word_of p call) (word_after call (found_at w.core.words (word_of p call))) → Later p q clients gives w v → FindsDo p q clients gives v m call (found_at w.core.words (word_of p call))
     finds_do (StoreName n word) in_ may v words l = (in_, (λ e. may (sym (ap (λ ws. get_or ws (name_word p n) 0) words ∙ get_or-set_same w.core.words (name_word p n) word 0 (omega (arith, sized, in_))) ∙ e)))
     finds_do (LoadName n) in_ may v words l = (
       (λ none_. (
         (λ named. named.1 (here ∙ none_)),
         (λ other. none_of_setup (λ e. other (client_is ∙ e)) n (λ named. named.1 none_) v l),
-        are_told_on p q clients fin w v l m.client m.done (story.tasks.told i m at),
+        are_told_on p q clients gives w v l m.client m.done (story.tasks.told i m at),
       )),
       (λ some_. (in_, (λ e. some_ (sym here ∙ e)))),
     )
@@ -254,126 +258,128 @@ module _ (p : Plan) (q : IdPlan) (clients : List (List Task)) (fin : ℕ → Lis
 
     -- ## Steps aside
 
-    module _ (step : Step) (next : Found step → Program) (t : Option Taking) (says : SaysOn p q clients fin w m (Aside step next)) (go : IdGoesOn p q u (Aside step next)) (found : Found step) (is : found_in step w.core.calls t ≡ some found) where
+    module _ (step : Step) (next : Found step → Program) (t : Option Taking) (says : SaysOn p q clients gives w m (Aside step next)) (go : IdGoesOn p q u (Aside step next)) (found : Found step) (is : found_in step w.core.calls t ≡ some found) where
       abbrev retries : List Retry
       retries = waiting_at (calls_after step found w.core.calls).waiting i
 
       abbrev aside_scene : Scene
       aside_scene = record {
         core = with_seat i (next found) seat.hand w.core.words w.core.homes (record w.core { calls = calls_after step found w.core.calls });
-        claims = claims_after p q clients fin step found m w.claims;
-        births = births_after p q clients fin step found m w.births;
+        claims = claims_after p q clients gives step found m w.claims;
+        births = births_after p q clients gives step found m w.births;
+        advances = advances_by step found w.core.calls ++ w.advances;
         sayings = sayings_of (resolved (waiting_at (calls_after step found w.core.calls).waiting i) (next found)) w.sayings;
       }
 
       abbrev moved : Mark
-      moved = mark_after p q clients fin step found m
+      moved = mark_after p q clients gives step found m
 
-      on_ids : HasStory p q clients fin (with_seat i (next found) seat.hand w.core.words w.core.homes (record w.core { calls = calls_after step found w.core.calls }))
-      on_ids =
-          let b : IsBehind p q clients fin w aside_scene m step found = record { words = refl; homes = refl; gave = refl; births = refl; claims = refl; sayings = λ s there. sayings_keep (resolved (waiting_at (calls_after step found w.core.calls).waiting i) (next found)) w.sayings s there; overs = λ x y there. overs_keep (resolved (waiting_at (calls_after step found w.core.calls).waiting i) (next found)) w.sayings x y there } in
-          let kn = knows p q clients fin w us ids ms i m at story.reads u at_view step t found is go.0 says.0 in
-          let law = claims_after_step p q clients fin numbered w aside_scene ms i m at ids.plan (is_sized p q clients fin w us ids) (story.slots.fits i m at) story.births w.core.outcomes w.sayings story.tasks story.claims step found b kn says.0 in
-          let room' = has_room p q clients fin slots aside_scene (set ms i (mark_after p q clients fin step found m)) law in
+      on_ids : Leads (with_seat i (next found) seat.hand w.core.words w.core.homes (record w.core { calls = calls_after step found w.core.calls })) → HasStory p q clients gives (advances_by step found w.core.calls ++ w.advances) (with_seat i (next found) seat.hand w.core.words w.core.homes (record w.core { calls = calls_after step found w.core.calls }))
+      on_ids lead =
+          let b : IsBehind p q clients gives w aside_scene m step found = record { words = refl; homes = refl; gave = refl; births = refl; claims = refl; advances = refl; sayings = λ s there. sayings_keep (resolved (waiting_at (calls_after step found w.core.calls).waiting i) (next found)) w.sayings s there; overs = λ x y there. overs_keep (resolved (waiting_at (calls_after step found w.core.calls).waiting i) (next found)) w.sayings x y there } in
+          let kn = knows p q clients gives w us ids ms i m at story.reads u at_view step t found is go.0 says.0 in
+          let law = claims_after_step p q clients gives numbered w aside_scene ms i m at ids.plan (is_sized p q clients gives w us ids) (story.slots.fits i m at) story.births w.core.outcomes w.sayings story.tasks story.claims step found b kn says.0 in
+          let room' : StaysWithin p q clients gives aside_scene = (has_room p q clients gives slots aside_scene (set ms i (mark_after p q clients gives step found m)) law, lead) in
           let few = few_of p q (waiting_at (calls_after step found w.core.calls).waiting i) (subst (λ (x : List (List Retry)). AllByRecursion (FitsRetryId q) (waiting_at x i)) (sym (waiting_same step found w.core.calls)) (ids.waiting i)) in
-          let keeps = keeps_few p q (id_row q step found Rattle.id_runs.proofs.Steps.no_call u) (next found) (go.1 found Rattle.id_runs.proofs.Steps.no_call (finds p q clients fin w us ids ms i m at story.reads u at_view step t found is go.0)) in
-          let l = is_later p q clients fin numbered w aside_scene ms i m at ids.plan (is_sized p q clients fin w us ids) (are_low p q clients fin w us ids) story.slots story.births story.tasks story.claims story.reads step found b kn refl room' says.0 in
-          let r = aside_ticks p q clients fin numbered w aside_scene ms i m at ids.plan (is_sized p q clients fin w us ids) (are_low p q clients fin w us ids) story.slots story.births story.tasks story.claims story.reads step found b kn refl room' next says (waiting_at (calls_after step found w.core.calls).waiting i) few keeps refl refl in
-          let at1 = put_at ms i m (mark_after p q clients fin step found m) at in
-          let twice = set_twice ms i (mark_after p q clients fin step found m) r.mark in
+          let keeps = keeps_few p q (id_row q step found Rattle.id_runs.proofs.Steps.no_call u) (next found) (go.1 found Rattle.id_runs.proofs.Steps.no_call (finds p q clients gives w us ids ms i m at story.reads u at_view step t found is go.0)) in
+          let l = is_later p q clients gives numbered w aside_scene ms i m at ids.plan (is_sized p q clients gives w us ids) (are_low p q clients gives w us ids) story.slots story.births story.tasks story.claims story.reads step found b kn refl room' says.0 in
+          let r = aside_ticks p q clients gives numbered w aside_scene ms i m at ids.plan (is_sized p q clients gives w us ids) (are_low p q clients gives w us ids) story.slots story.births story.tasks story.claims story.reads step found b kn refl room' next says (waiting_at (calls_after step found w.core.calls).waiting i) few keeps refl refl in
+          let at1 = put_at ms i m (mark_after p q clients gives step found m) at in
+          let twice = set_twice ms i (mark_after p q clients gives step found m) r.mark in
           record {
             scene = aside_scene;
             marks = set ms i r.mark;
             is = refl;
+            shown = refl;
             story = record {
               each = length-set ms i r.mark ∙ (story.each ∙ sym (length-set w.core.seats i (record { program = next_step (resolved (waiting_at (calls_after step found w.core.calls).waiting i) (next found)); hand = seat.hand })));
-              slots = subst (SlotsLaw q aside_scene) twice (kept_slots p q clients fin aside_scene (set ms i (mark_after p q clients fin step found m)) i (mark_after p q clients fin step found m) r.mark at1 r.kept r.slots_law);
+              slots = subst (SlotsLaw q aside_scene) twice (kept_slots p q clients gives aside_scene (set ms i (mark_after p q clients gives step found m)) i (mark_after p q clients gives step found m) r.mark at1 r.kept r.slots_law);
               births = r.births_law;
               tasks = r.tasks_law;
-              claims = subst (ClaimsLaw p q clients fin aside_scene) twice (kept_claims p q clients fin aside_scene (set ms i (mark_after p q clients fin step found m)) i (mark_after p q clients fin step found m) r.mark at1 r.kept law);
-              reads = subst (ReadsLaw p q clients fin aside_scene) twice (kept_reads p q clients fin aside_scene (set ms i (mark_after p q clients fin step found m)) i (mark_after p q clients fin step found m) r.mark at1 r.kept (reads_after_step p q clients fin w aside_scene ms i m at story.reads step found b kn says.0));
+              claims = subst (ClaimsLaw p q clients gives aside_scene) twice (kept_claims p q clients gives aside_scene (set ms i (mark_after p q clients gives step found m)) i (mark_after p q clients gives step found m) r.mark at1 r.kept law);
+              reads = subst (ReadsLaw p q clients gives aside_scene) twice (kept_reads p q clients gives aside_scene (set ms i (mark_after p q clients gives step found m)) i (mark_after p q clients gives step found m) r.mark at1 r.kept (reads_after_step p q clients gives w aside_scene ms i m at story.reads step found b kn says.0));
               seats = seats_after aside_scene (record { program = next_step (resolved (waiting_at (calls_after step found w.core.calls).waiting i) (next found)); hand = seat.hand }) r.mark refl l r.says_on;
             };
           }
 
-    by_found : (step : Step) (next : Found step → Program) (t : Option Taking) → SaysOn p q clients fin w m (Aside step next) → IdGoesOn p q u (Aside step next) → (x : Option (Found step)) → found_in step w.core.calls t ≡ x → HasStory p q clients fin (with_found p i seat w.core step x next)
-    by_found step next t says go none is = before
-    by_found step next t says go (some found) is = on_ids step next t says go found is
+    by_found : (step : Step) (next : Found step → Program) (t : Option Taking) → SaysOn p q clients gives w m (Aside step next) → IdGoesOn p q u (Aside step next) → (x : Option (Found step)) → found_in step w.core.calls t ≡ x → Leads (with_found p i seat w.core step x next) → HasStory p q clients gives (elim x as (λ o. List ℕ) [ none ↦ [] | some found ↦ advances_by step found w.core.calls ] ++ w.advances) (with_found p i seat w.core step x next)
+    by_found step next t says go none is lead = before
+    by_found step next t says go (some found) is lead = on_ids step next t says go found is lead
 
     -- ## Each step
 
-    by_letter : (r : ℕ) (next : Heading → List ℕ → Program) → SaysOn p q clients fin w m (TakeMessage r next) → IdGoesOn p q u (TakeMessage r next) → (x : Option Letter) → message (λ (h : Home). h) w.core.homes r ≡ x → HasStory p q clients fin (with_message p i seat w.core r x (λ letter. next letter.0 letter.1))
-    by_letter r next says go none is = before
-    by_letter r next says go (some letter) is = let owner = ids.owners r (Message letter.0 letter.1) (message_there (get_elem? w.core.homes r) letter is) in
-        on_homes (next letter.0 letter.1) seat.hand (set w.core.homes r none) (keeps_few p q u (next letter.0 letter.1) (go letter.0 letter.1 owner)) (λ v l s. says letter.0 letter.1 v owner l s)
+    by_letter : (r : ℕ) (next : Heading → List ℕ → Program) → SaysOn p q clients gives w m (TakeMessage r next) → IdGoesOn p q u (TakeMessage r next) → (x : Option Letter) → message (λ (h : Home). h) w.core.homes r ≡ x → Leads (with_message p i seat w.core r x (λ letter. next letter.0 letter.1)) → HasStory p q clients gives w.advances (with_message p i seat w.core r x (λ letter. next letter.0 letter.1))
+    by_letter r next says go none is lead = before
+    by_letter r next says go (some letter) is lead = let owner = ids.owners r (Message letter.0 letter.1) (message_there (get_elem? w.core.homes r) letter is) in
+        on_homes (next letter.0 letter.1) seat.hand (set w.core.homes r none) (keeps_few p q u (next letter.0 letter.1) (go letter.0 letter.1 owner)) lead (λ v l s. says letter.0 letter.1 v owner l s)
 
-    by_link : (k : ℕ) (next : ℕ → Program) → SaysOn p q clients fin w m (TakeHome k next) → IdGoesOn p q u (TakeHome k next) → (x : Option (List ℕ × ℕ)) → HasStory p q clients fin (with_link p i seat w.core k x next)
-    by_link k next says go none = before
-    by_link k next says go (some home) = on_homes (next home.1) (lies_at w.core.homes (link_place p k) ++ seat.hand) (set w.core.homes (link_place p k) none) (keeps_few p q u (next home.1) (go home.1)) (λ v l s. says home.1 v l s)
+    by_link : (k : ℕ) (next : ℕ → Program) → SaysOn p q clients gives w m (TakeHome k next) → IdGoesOn p q u (TakeHome k next) → (x : Option (List ℕ × ℕ)) → Leads (with_link p i seat w.core k x next) → HasStory p q clients gives w.advances (with_link p i seat w.core k x next)
+    by_link k next says go none lead = before
+    by_link k next says go (some home) lead = on_homes (next home.1) (lies_at w.core.homes (link_place p k) ++ seat.hand) (set w.core.homes (link_place p k) none) (keeps_few p q u (next home.1) (go home.1)) lead (λ v l s. says home.1 v l s)
 
-    by_put : (bytes : List ℕ) (next : Put → Program) → ((answer : Put) (v : Scene) → Later p q clients fin w v → SaidBy v (next answer) → SaysOn p q clients fin v m (next answer)) → ((answer : Put) → IdGoesOn p q u (next answer)) → (answer : Answer) → HasStory p q clients fin (with_put p i seat w.core bytes answer next)
-    by_put bytes next says go (OfPut answer) = on_homes (next answer) (onto_first (fed bytes answer) seat.hand) w.core.homes (keeps_few p q u (next answer) (go answer)) (λ v l s. says answer v l s)
-    by_put bytes next says go Unasked = before
-    by_put bytes next says go (OfReady r) = before
-    by_put bytes next says go (OfTake t) = before
+    by_put : (bytes : List ℕ) (next : Put → Program) → ((answer : Put) (v : Scene) → Later p q clients gives w v → SaidBy v (next answer) → SaysOn p q clients gives v m (next answer)) → ((answer : Put) → IdGoesOn p q u (next answer)) → (answer : Answer) → Leads (with_put p i seat w.core bytes answer next) → HasStory p q clients gives w.advances (with_put p i seat w.core bytes answer next)
+    by_put bytes next says go (OfPut answer) lead = on_homes (next answer) (onto_first (fed bytes answer) seat.hand) w.core.homes (keeps_few p q u (next answer) (go answer)) lead (λ v l s. says answer v l s)
+    by_put bytes next says go Unasked lead = before
+    by_put bytes next says go (OfReady r) lead = before
+    by_put bytes next says go (OfTake t) lead = before
 
-    by_ready : (next : Ready → Program) → ((answer : Ready) (v : Scene) → Later p q clients fin w v → SaidBy v (next answer) → SaysOn p q clients fin v m (next answer)) → ((answer : Ready) → IdGoesOn p q u (next answer)) → (answer : Answer) → HasStory p q clients fin (with_ready p i seat w.core answer next)
-    by_ready next says go (OfReady answer) = on_homes (next answer) seat.hand w.core.homes (keeps_few p q u (next answer) (go answer)) (λ v l s. says answer v l s)
-    by_ready next says go Unasked = before
-    by_ready next says go (OfPut a) = before
-    by_ready next says go (OfTake t) = before
+    by_ready : (next : Ready → Program) → ((answer : Ready) (v : Scene) → Later p q clients gives w v → SaidBy v (next answer) → SaysOn p q clients gives v m (next answer)) → ((answer : Ready) → IdGoesOn p q u (next answer)) → (answer : Answer) → Leads (with_ready p i seat w.core answer next) → HasStory p q clients gives w.advances (with_ready p i seat w.core answer next)
+    by_ready next says go (OfReady answer) lead = on_homes (next answer) seat.hand w.core.homes (keeps_few p q u (next answer) (go answer)) lead (λ v l s. says answer v l s)
+    by_ready next says go Unasked lead = before
+    by_ready next says go (OfPut a) lead = before
+    by_ready next says go (OfTake t) lead = before
 
-    first_step : (answer : Answer) (program : Program) → SaysOn p q clients fin w m program → IdGoesOn p q u program → FitsFirst p w.core program → AllowsDo p program → HasStory p q clients fin (step_with p i seat w.core answer program)
-    first_step answer (Do call next) says go fits in_ = let found : ℕ = found_at w.core.words (word_of p call) in
+    first_step : (answer : Answer) (program : Program) → SaysOn p q clients gives w m program → IdGoesOn p q u program → FitsFirst p w.core program → AllowsDo p program → Leads (step_with p i seat w.core answer program) → HasStory p q clients gives (advanced_with w.core.calls (taken answer) program ++ w.advances) (step_with p i seat w.core answer program)
+    first_step answer (Do call next) says go fits in_ lead = let found : ℕ = found_at w.core.words (word_of p call) in
         on_sockets (next found) (hand_after p call w.core.homes seat.hand) (words_after w.core.words (word_of p call) (word_after call (found_at w.core.words (word_of p call)))) (homes_after p call seat.hand w.core.homes)
-        (λ n low some_. names_after p q clients fin call in_ says.0 w.core.words sized n low some_) (codes_after p q clients fin call says.0 w.core.words story.births.codes)
-        (keeps_few p q u (next found) ((steps_on p q u call next go).1 found fits)) (λ v words l s. says.1 found v l s (finds_do call in_ says.0 v words l))
-    first_step answer (TakeMessage r next) says go fits in_ = by_letter r next says go (message (λ (h : Home). h) w.core.homes r) refl
-    first_step answer (TakeHome k next) says go fits in_ = by_link k next says go (link_home (λ (h : Home). h) p w.core.homes k)
-    first_step answer (PutHome k n after) says go fits in_ = on_homes after (others_of seat.hand) (set w.core.homes (link_place p k) (first_of (onto_first (with_places n) seat.hand))) (keeps_few p q u after go) (λ v l s. says v l s)
-    first_step answer (PutBytes k asked bytes next) says go fits in_ = by_put bytes next says go answer
-    first_step answer (AskReady k next) says go fits in_ = by_ready next says go answer
-    first_step answer (Aside step next) says go fits in_ = by_found step next (taken answer) says go (found_in step w.core.calls (taken answer)) refl
-    first_step answer (Say o outcome next) says go fits in_ = before
-    first_step answer (Sent o next) says go fits in_ = before
-    first_step answer Rest says go fits in_ = before
-    first_step answer (Write x after) says go fits in_ = before
-    first_step answer (Round head next) says go fits in_ = before
-    first_step answer (Keep r next) says go fits in_ = before
-    first_step answer (Retries requests after) says go fits in_ = before
+        (λ n low some_. names_after p q clients gives call in_ says.0 w.core.words sized n low some_) (codes_after p q clients gives call says.0 w.core.words story.births.codes)
+        (keeps_few p q u (next found) ((steps_on p q u call next go).1 found fits)) lead (λ v words l s. says.1 found v l s (finds_do call in_ says.0 v words l))
+    first_step answer (TakeMessage r next) says go fits in_ lead = by_letter r next says go (message (λ (h : Home). h) w.core.homes r) refl lead
+    first_step answer (TakeHome k next) says go fits in_ lead = by_link k next says go (link_home (λ (h : Home). h) p w.core.homes k) lead
+    first_step answer (PutHome k n after) says go fits in_ lead = on_homes after (others_of seat.hand) (set w.core.homes (link_place p k) (first_of (onto_first (with_places n) seat.hand))) (keeps_few p q u after go) lead (λ v l s. says v l s)
+    first_step answer (PutBytes k asked bytes next) says go fits in_ lead = by_put bytes next says go answer lead
+    first_step answer (AskReady k next) says go fits in_ lead = by_ready next says go answer lead
+    first_step answer (Aside step next) says go fits in_ lead = by_found step next (taken answer) says go (found_in step w.core.calls (taken answer)) refl lead
+    first_step answer (Say o outcome next) says go fits in_ lead = before
+    first_step answer (Sent o next) says go fits in_ lead = before
+    first_step answer Rest says go fits in_ lead = before
+    first_step answer (Write x after) says go fits in_ lead = before
+    first_step answer (Round head next) says go fits in_ lead = before
+    first_step answer (Keep r next) says go fits in_ lead = before
+    first_step answer (Retries requests after) says go fits in_ lead = before
 
-    any_step : (answer : Answer) (program : Program) → SaysOn p q clients fin w m program → IdGoesOn p q u program → FitsFirst p w.core (goes.first_of program) → AllowsDo p (goes.first_of program) → HasStory p q clients fin (tick_with p i seat w.core answer program)
-    any_step answer (Write x after) says go fits in_ = first_step answer (block x after) (block_says p q clients fin w m x after says) (block_goes p q narrow u x after go) fits in_
-    any_step answer (Round head next) says go fits in_ = first_step answer (round head next) (round_says p q clients fin w m head next says) (ids_round p q u head next go) fits in_
-    any_step answer (Do call next) says go fits in_ = first_step answer (Do call next) says go fits in_
-    any_step answer (TakeMessage r next) says go fits in_ = first_step answer (TakeMessage r next) says go fits in_
-    any_step answer (TakeHome k next) says go fits in_ = first_step answer (TakeHome k next) says go fits in_
-    any_step answer (PutHome k n after) says go fits in_ = first_step answer (PutHome k n after) says go fits in_
-    any_step answer (PutBytes k asked bytes next) says go fits in_ = first_step answer (PutBytes k asked bytes next) says go fits in_
-    any_step answer (AskReady k next) says go fits in_ = first_step answer (AskReady k next) says go fits in_
-    any_step answer (Aside step next) says go fits in_ = first_step answer (Aside step next) says go fits in_
-    any_step answer (Say o outcome next) says go fits in_ = before
-    any_step answer (Sent o next) says go fits in_ = before
-    any_step answer Rest says go fits in_ = before
-    any_step answer (Keep r next) says go fits in_ = before
-    any_step answer (Retries requests after) says go fits in_ = before
+    any_step : (answer : Answer) (program : Program) → SaysOn p q clients gives w m program → IdGoesOn p q u program → FitsFirst p w.core (goes.first_of program) → AllowsDo p (goes.first_of program) → Leads (tick_with p i seat w.core answer program) → HasStory p q clients gives (advanced_with w.core.calls (taken answer) (goes.first_of program) ++ w.advances) (tick_with p i seat w.core answer program)
+    any_step answer (Write x after) says go fits in_ lead = first_step answer (block x after) (block_says p q clients gives w m x after says) (block_goes p q narrow u x after go) fits in_ lead
+    any_step answer (Round head next) says go fits in_ lead = first_step answer (round head next) (round_says p q clients gives w m head next says) (ids_round p q u head next go) fits in_ lead
+    any_step answer (Do call next) says go fits in_ lead = first_step answer (Do call next) says go fits in_ lead
+    any_step answer (TakeMessage r next) says go fits in_ lead = first_step answer (TakeMessage r next) says go fits in_ lead
+    any_step answer (TakeHome k next) says go fits in_ lead = first_step answer (TakeHome k next) says go fits in_ lead
+    any_step answer (PutHome k n after) says go fits in_ lead = first_step answer (PutHome k n after) says go fits in_ lead
+    any_step answer (PutBytes k asked bytes next) says go fits in_ lead = first_step answer (PutBytes k asked bytes next) says go fits in_ lead
+    any_step answer (AskReady k next) says go fits in_ lead = first_step answer (AskReady k next) says go fits in_ lead
+    any_step answer (Aside step next) says go fits in_ lead = first_step answer (Aside step next) says go fits in_ lead
+    any_step answer (Say o outcome next) says go fits in_ lead = before
+    any_step answer (Sent o next) says go fits in_ lead = before
+    any_step answer Rest says go fits in_ lead = before
+    any_step answer (Keep r next) says go fits in_ lead = before
+    any_step answer (Retries requests after) says go fits in_ lead = before
 
   -- the step of each seat is one of the table
   abbrev pub Allows : Core → Moment → Type 0
   Allows c mm = (seat : SeatState) → get_elem? c.seats mm.seat ≡ some seat → AllowsDo p (goes.first_of seat.program)
 
   -- a tick of any seat goes on with the story; behind seat 0 once it has nothing left to do
-  pub story_ticks : (c : Core) (us : List IdView) (mm : Moment) → SoundIds p q c us → IsFittingIds p c mm → length c.words ≡ all_words p → Allows c mm → (mm.seat ≢ 0 → IsSetUp c) → HasStory p q clients fin c → HasStory p q clients fin (ticked p c mm)
-  story_ticks c us mm ids fitting sized allows set_up h = subst (λ d. HasStory p q clients fin (ticked p d mm)) h.is
-      (of_scene h.scene h.marks h.story (subst (λ d. SoundIds p q d us) (sym h.is) ids) (subst (λ d. IsFittingIds p d mm) (sym h.is) fitting) (subst (λ (d : Core). length d.words ≡ all_words p) (sym h.is) sized) (subst (λ d. Allows d mm) (sym h.is) allows) (subst (λ d. mm.seat ≢ 0 → IsSetUp d) (sym h.is) set_up))
+  pub story_ticks : (ns : List ℕ) (c : Core) (us : List IdView) (mm : Moment) → SoundIds p q c us → IsFittingIds p c mm → length c.words ≡ all_words p → Allows c mm → (mm.seat ≢ 0 → IsSetUp c) → LeadsTo p q clients gives (ticked p c mm) → HasStory p q clients gives ns c → HasStory p q clients gives (advanced_at c mm ++ ns) (ticked p c mm)
+  story_ticks ns c us mm ids fitting sized allows set_up lead h = subst (λ ks. HasStory p q clients gives (advanced_at c mm ++ ks) (ticked p c mm)) h.shown (subst (λ d. HasStory p q clients gives (advanced_at d mm ++ h.scene.advances) (ticked p d mm)) h.is
+      (of_scene h.scene h.marks h.story (subst (λ d. SoundIds p q d us) (sym h.is) ids) (subst (λ d. IsFittingIds p d mm) (sym h.is) fitting) (subst (λ (d : Core). length d.words ≡ all_words p) (sym h.is) sized) (subst (λ d. Allows d mm) (sym h.is) allows) (subst (λ d. mm.seat ≢ 0 → IsSetUp d) (sym h.is) set_up) (subst (λ d. LeadsTo p q clients gives (ticked p d mm)) (sym h.is) lead)))
     where
-      of_scene : (w : Scene) (ms : List Mark) → CallStory p q clients fin w ms → SoundIds p q w.core us → IsFittingIds p w.core mm → length w.core.words ≡ all_words p → Allows w.core mm → (mm.seat ≢ 0 → IsSetUp w.core) → HasStory p q clients fin (ticked p w.core mm)
-      of_scene w ms story ids fitting sized allows set_up = by_seat (get_elem? w.core.seats mm.seat) refl
+      of_scene : (w : Scene) (ms : List Mark) → CallStory p q clients gives w ms → SoundIds p q w.core us → IsFittingIds p w.core mm → length w.core.words ≡ all_words p → Allows w.core mm → (mm.seat ≢ 0 → IsSetUp w.core) → LeadsTo p q clients gives (ticked p w.core mm) → HasStory p q clients gives (advanced_at w.core mm ++ w.advances) (ticked p w.core mm)
+      of_scene w ms story ids fitting sized allows set_up lead = by_seat (get_elem? w.core.seats mm.seat) refl lead
         where
           over : mm.seat ≢ 0 → (n : Mark) → At ms 0 n → n.todo ≡ []
-          over other n there = let s = other_there ms w.core.seats 0 n (sym story.each) there in let g = subst (SaysOn p q clients fin w n) (set_up other s.0 s.1) (story.seats 0 s.0 n s.1 there) in g.1
+          over other n there = let s = other_there ms w.core.seats 0 n (sym story.each) there in let g = subst (SaysOn p q clients gives w n) (set_up other s.0 s.1) (story.seats 0 s.0 n s.1 there) in g.1
 
-          by_seat : (x : Option SeatState) → get_elem? w.core.seats mm.seat ≡ x → HasStory p q clients fin (elim x as (λ o. Core) [ none ↦ w.core | some seat ↦ tick_with p mm.seat seat w.core mm.answer seat.program ])
-          by_seat none e = record { scene = w; marks = ms; is = refl; story = story }
-          by_seat (some seat) e = let u = other_there w.core.seats us mm.seat seat ids.each e in let m = other_there w.core.seats ms mm.seat seat story.each e in
-              any_step w ms story us ids sized mm.seat seat e u.0 u.1 m.0 m.1 over mm.answer seat.program (story.seats mm.seat seat m.0 e m.1) (ids.seats mm.seat seat u.0 e u.1) (fitting seat e) (allows seat e)
+          by_seat : (x : Option SeatState) → get_elem? w.core.seats mm.seat ≡ x → LeadsTo p q clients gives (elim x as (λ o. Core) [ none ↦ w.core | some seat ↦ tick_with p mm.seat seat w.core mm.answer seat.program ]) → HasStory p q clients gives (elim x as (λ o. List ℕ) [ none ↦ [] | some seat ↦ advanced_with w.core.calls (taken mm.answer) (goes.first_of seat.program) ] ++ w.advances) (elim x as (λ o. Core) [ none ↦ w.core | some seat ↦ tick_with p mm.seat seat w.core mm.answer seat.program ])
+          by_seat none e lead = record { scene = w; marks = ms; is = refl; shown = refl; story = story }
+          by_seat (some seat) e lead = let u = other_there w.core.seats us mm.seat seat ids.each e in let m = other_there w.core.seats ms mm.seat seat story.each e in
+              any_step w ms story us ids sized mm.seat seat e u.0 u.1 m.0 m.1 over mm.answer seat.program (story.seats mm.seat seat m.0 e m.1) (ids.seats mm.seat seat u.0 e u.1) (fitting seat e) (allows seat e) lead

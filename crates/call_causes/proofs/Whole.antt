@@ -1,51 +1,83 @@
 -- In a whole run of a script with calls the story of the calls has ended, so that each task on calls is told.
-use Rattle.std.proofs.Common.{◌≡◌, ℕ, ◌+◌, ◌<◌, ◌≤◌, List, length, get_or, sym, ap, ◌∙◌, subst, arith}
+use Rattle.std.proofs.Common.{◌≡◌, ℕ, List, [], length, get_or, sym, ap, ◌∙◌, subst, arith}
+use Rattle.std.proofs.lemmas.List.{append-nil}
 use Rattle.std.specs.List.{AllByRecursion}
 use Rattle.brpc_model.specs.Items.{Item}
 use Rattle.brpc_model.specs.Operations.{Turn}
-use Rattle.corr_core.specs.Word.{Parts, parts}
+use Rattle.corr_core.specs.Word.{parts}
 use Rattle.id_rule.specs.Lawful.{id_word}
 use Rattle.sock_programs.specs.Cores.{Core}
-use Rattle.sock_programs.specs.Tasks.{opens, plan_of, id_plan_of}
+use Rattle.sock_programs.specs.declared.task.Op.{Op}
+use Rattle.sock_programs.specs.declared.task.Op.TheVariants as ops
+use Rattle.sock_programs.specs.Tasks.{plan_of, id_plan_of}
 use Rattle.sock_programs.specs.Scripts.{all_tasks, IsRunWithCalls}
 use Rattle.sock_programs.specs.ToldCalls.{Fixed, Order}
 use Rattle.sock_runs.specs.Sound.{AllRest}
+use Rattle.sock_causes.specs.Facts.{Seeks, CallsFoundNone}
 use Rattle.joint_runs.proofs.Runs.{AreMade}
 use Rattle.report_fits.proofs.Reading.{InRange}
 use Rattle.report_fits.proofs.Targets.{AreThere}
 use Rattle.owed_calls.specs.Lives.{ClosesInRun}
 use Rattle.owed_calls.proofs.Known.{run_all_ended, run_all_rest}
-use Rattle.call_causes.specs.Lists.{given}
+use Rattle.call_causes.specs.Lists.{given, times, attempts_of_run}
 use Rattle.call_causes.specs.Target.{ToldOnCallsInPart}
-use Rattle.call_causes.specs.Scenes.{Scene}
+use Rattle.call_causes.specs.Scenes.{SeeksName, LeadsTo}
 use Rattle.call_causes.specs.Stories.{HasStory}
 use Rattle.call_causes.proofs.End.{HasEnded, told, versions}
-use Rattle.call_causes.proofs.CallWhys.{why}
+use Rattle.call_causes.proofs.CallWhys.{names_found_none, why}
 use Rattle.call_causes.proofs.Once.{expired_once}
 use Rattle.call_causes.proofs.Scripts.{are_numbered, are_ascending, have_slots, begins}
 use Rattle.call_causes.proofs.Run.{run_story, many_seats}
 use Rattle.call_causes.proofs.Over.{has_ended}
 
-module _ (script : List Item) (made : AreMade script) (there : AreThere script) (range : AllByRecursion InRange script) (turns : List Turn) (core : Core) (is : IsRunWithCalls script turns core) (fin : ℕ → List ℕ) where
+seeks_name : (n : ℕ) (op : Op) → Seeks n op → SeeksName n op
+seeks_name n (ops.Fail m code) s = s
+seeks_name n (ops.Hold m) s = s
+seeks_name n (ops.Send m bytes) s = s
+seeks_name n (ops.Call asked) s = s
+seeks_name n (ops.Open m k) s = absurd s
+seeks_name n (ops.Expire t) s = absurd s
+seeks_name n (ops.Join t) s = absurd s
+seeks_name n (ops.Drop m) s = absurd s
+
+module _ (script : List Item) (made : AreMade script) (there : AreThere script) (range : AllByRecursion InRange script) (turns : List Turn) (core : Core) (is : IsRunWithCalls script turns core) where
+  abbrev gives : ℕ → List ℕ
+  gives = given core
+
+  leads : LeadsTo (plan_of script) (id_plan_of script) (all_tasks script) (given core) core
+  leads k = ([], append-nil (given core k))
+
+  -- with the calls whose attempts were advanced, the latest first
+  pub run_tale : (ns : List ℕ) × HasStory (plan_of script) (id_plan_of script) (all_tasks script) (given core) ns core × ((o : ℕ) → times o ns ≡ attempts_of_run script turns core is o)
+  run_tale = run_story script made (given core) (are_numbered script made there range (given core)) (have_slots script made there range (given core)) (begins script made there range (given core)) turns core is leads
+
   -- whatever the schedule, the story of the calls goes on up to the end of the run
-  pub run_has_story : HasStory (plan_of script) (id_plan_of script) (all_tasks script) fin core
-  run_has_story = run_story script made fin (are_numbered script made there range fin) (have_slots script made there range fin) (begins script made there range fin) turns core is
+  pub run_has_story : HasStory (plan_of script) (id_plan_of script) (all_tasks script) (given core) run_tale.0 core
+  run_has_story = run_tale.1
+
+  -- the number of the last attempt of each call is how often it was advanced
+  pub run_attempts : (o : ℕ) → times o run_has_story.scene.advances ≡ attempts_of_run script turns core is o
+  run_attempts o = ap (times o) run_has_story.shown ∙ run_tale.2 o
 
   module _ (closes : ClosesInRun script turns core is) where
     -- and has ended there, where a link answers that it is closed only where its writing half is finished
-    pub run_has_ended : HasEnded (plan_of script) (id_plan_of script) (all_tasks script) fin run_has_story.scene run_has_story.marks
-    run_has_ended = let h = run_has_story in has_ended (plan_of script) (id_plan_of script) (all_tasks script) fin h.scene h.marks h.story
+    pub run_has_ended : HasEnded (plan_of script) (id_plan_of script) (all_tasks script) (given core) run_has_story.scene run_has_story.marks
+    run_has_ended = let h = run_has_story in has_ended (plan_of script) (id_plan_of script) (all_tasks script) (given core) h.scene h.marks h.story
         (subst AllRest (sym h.is) (run_all_rest script made turns core is closes))
         (λ i inside. subst (λ (d : Core). (parts (get_or d.calls.words (id_word i) 0)).state ≡ 0) (sym h.is) (run_all_ended script made turns core is closes i inside))
-        (let many = ap (λ (d : Core). length d.seats) h.is ∙ many_seats script made fin (are_numbered script made there range fin) (have_slots script made there range fin) (begins script made there range fin) turns core is in let seats = made.seats in let few = made.few_clients in omega (arith, many, seats, few))
+        (let many = ap (λ (d : Core). length d.seats) h.is ∙ many_seats script made (given core) (are_numbered script made there range (given core)) (have_slots script made there range (given core)) (begins script made there range (given core)) turns core is leads in let seats = made.seats in let few = made.few_clients in omega (arith, many, seats, few))
 
-    module _ (fixed : Fixed) (orders : ℕ → Order) (last : ℕ → ℕ) where
-      -- each `call`, `expire` and `join` has an outcome and its cause; of a call that failed only so much is told: with 1008 that an `expire` did it, with 2002 that a response was
-      -- compressed, or else that the code is one of those that are posted
-      pub run_told_in_part : ToldOnCallsInPart (plan_of script) (all_tasks script) core.outcomes fixed (given core) orders last
-      run_told_in_part = let h = run_has_story in let e = run_has_ended in subst (λ (d : Core). ToldOnCallsInPart (plan_of script) (all_tasks script) d.outcomes fixed (given d) orders last) h.is (record {
-        told = told (plan_of script) (id_plan_of script) (all_tasks script) fin h.scene h.marks e;
-        why = why (plan_of script) (id_plan_of script) (all_tasks script) fin (are_ascending script made there range fin) h.scene h.marks e fixed orders last;
-        expired_once = expired_once (plan_of script) (id_plan_of script) (all_tasks script) fin (are_ascending script made there range fin) h.scene h.marks e;
-        versions = versions (plan_of script) (id_plan_of script) (all_tasks script) fin h.scene h.marks e;
+    -- where an operation found a name without a socket, the calls of its client before it found so too
+    pub run_found_none : CallsFoundNone (all_tasks script) core.outcomes
+    run_found_none = let h = run_has_story in subst (λ (d : Core). CallsFoundNone (all_tasks script) d.outcomes) h.is
+        (λ c t u asked n is us sought has low op name. names_found_none (plan_of script) (id_plan_of script) (all_tasks script) (given core) (are_ascending script made there range (given core)) h.scene h.marks run_has_ended c t u n is us (seeks_name n t.op sought) has low (subst (SeeksName n) (sym op) name))
+
+    module _ (fixed : Fixed) (orders : ℕ → Order) where
+      -- each `call`, `expire` and `join` has an outcome and its cause; of a call that failed only so much is told as shows without its sockets
+      pub run_told_in_part : ToldOnCallsInPart (plan_of script) (all_tasks script) core.outcomes fixed (given core) orders (attempts_of_run script turns core is)
+      run_told_in_part = let h = run_has_story in let e = run_has_ended in subst (λ (d : Core). ToldOnCallsInPart (plan_of script) (all_tasks script) d.outcomes fixed (given d) orders (attempts_of_run script turns core is)) h.is (record {
+        told = told (plan_of script) (id_plan_of script) (all_tasks script) (given core) h.scene h.marks e;
+        why = why (plan_of script) (id_plan_of script) (all_tasks script) (given core) (are_ascending script made there range (given core)) h.scene h.marks e fixed orders (λ k. ap (λ (d : Core). given d k) h.is) (attempts_of_run script turns core is) run_attempts;
+        expired_once = expired_once (plan_of script) (id_plan_of script) (all_tasks script) (given core) (are_ascending script made there range (given core)) h.scene h.marks e;
+        versions = versions (plan_of script) (id_plan_of script) (all_tasks script) (given core) h.scene h.marks e;
       })

@@ -1,7 +1,7 @@
 -- How the readings of a run's links ended, and which responses came before their call began.
 use Rattle.std.specs.Prelude.{ℕ, ◌+◌, ◌==◌, ◌&&◌, ◌||◌, Bool, true, false, if◌then◌else◌, nat_le, nat_lt, List, [], ◌∷◌, ◌++◌, length, replicate, flat_map, drop, slice_index, slice_index_or}
 use Rattle.std.specs.List.{filter, list_any}
-use mathlib.Core.Option.{none, some}
+use mathlib.Core.Option.{Option, none, some}
 use lib.ListN.{get_elem?}
 use Rattle.sock_words.specs.declared.plain.Plan.{Plan}
 use Rattle.brpc_model.specs.Items.{Item}
@@ -9,11 +9,12 @@ use Rattle.brpc_model.specs.Operations.{Turn}
 use Rattle.brpc_model.specs.Frame.{Frame}
 use Rattle.brpc_model.specs.Stream.{Ending, Rest, Fault, stream}
 use Rattle.id_rule.specs.Lawful.{id_word}
-use Rattle.sock_programs.specs.Asides.{TakeBytes, Taking, NoMore, AtEnd, Closed, Broken}
+use Rattle.sock_programs.specs.Asides.{Step, Found, UnlockId, TakeBytes, Taking, NoMore, AtEnd, Closed, Broken}
 use Rattle.sock_programs.specs.Heads.{Reads, Discards}
 use Rattle.sock_programs.specs.Programs.{Program, Aside, Round}
 use Rattle.sock_programs.specs.Readers.{LIMIT, has_response, slot_in, version_in, is_early}
-use Rattle.sock_programs.specs.Beside.{taking_in}
+use Rattle.sock_programs.specs.Beside.{call_at, found_in, taking_in}
+use Rattle.id_runs.specs.Goes.{first_of}
 use Rattle.sock_programs.specs.Cores.{Calls, Core}
 use Rattle.sock_programs.specs.Runs.{from_to}
 use Rattle.sock_programs.specs.Ticks.{Moment, quiet, taken, ticked}
@@ -40,6 +41,29 @@ takes_by a m (k ∷ ks) = elim (taking_in a.ending (taken m.answer)) as (λ o. L
 
 abbrev pub takes_at : Core → Moment → List Take
 takes_at c m = elim (get_elem? c.seats m.seat) as (λ o. List Take) [ none ↦ [] | some seat ↦ takes_by c.calls m (taken_link seat.program) ]
+
+-- ## Attempts
+
+-- how often a number stands in a list
+abbrev pub times : ℕ → List ℕ → ℕ
+times o [] = 0
+times o (n ∷ ns) = (if n == o then 1 else 0) + times o ns
+
+-- the operation of the call that lies at this home
+abbrev pub called_at : Calls → ℕ → List ℕ
+called_at a i = elim (call_at (get_elem? a.homes i)) as (λ o. List ℕ) [ none ↦ [] | some asked ↦ asked.operation ∷ [] ]
+
+-- the call whose attempt the step advances: the exchange finds the word that it expects
+abbrev pub advances_by : (step : Step) → Found step → Calls → List ℕ
+advances_by (UnlockId i from true) found a = if found == from then called_at a i else []
+advances_by other found a = []
+
+abbrev pub advanced_with : Calls → Option Taking → Program → List ℕ
+advanced_with a t (Aside step next) = elim (found_in step a t) as (λ o. List ℕ) [ none ↦ [] | some found ↦ advances_by step found a ]
+advanced_with a t other = []
+
+abbrev pub advanced_at : Core → Moment → List ℕ
+advanced_at c m = elim (get_elem? c.seats m.seat) as (λ o. List ℕ) [ none ↦ [] | some seat ↦ advanced_with c.calls (taken m.answer) (first_of seat.program) ]
 
 -- ## Responses that came before their call began
 
@@ -113,6 +137,10 @@ module _ (script : List Item) (turns : List Turn) (end_ : Core) (is : IsRunWithC
 
   abbrev pub silent_of_run : List ℕ
   silent_of_run = filter (found_so is_no_more) (from_to 0 (plan_of script).links)
+
+  -- the number of the last attempt of a call: so often its attempt was advanced
+  abbrev pub attempts_of_run : ℕ → ℕ
+  attempts_of_run o = times o (shows_in_run advanced_at)
 
   -- the responses, by link and place, that were whole before a range of theirs was made
   abbrev pub soon_of_run : List (ℕ × ℕ)

@@ -1,22 +1,24 @@
 -- What has happened so far that lasts, and what it tells of calls.
-use Rattle.std.specs.Prelude.{ℕ, ◌≡◌, ◌≢◌, ◌+◌, ◌<◌, ◌≤◌, ◌⊎◌, ◌∷◌, List, [], slice_get, slice_index, Some, IsSome, ℤ, pos}
+use Rattle.std.specs.Prelude.{ℕ, ◌≡◌, ◌≢◌, ◌+◌, ◌<◌, ◌≤◌, ◌⊎◌, true, ◌∷◌, ◌++◌, List, [], slice_get, slice_index, Some, IsSome, ℤ, pos}
 use Rattle.sock_words.specs.declared.plain.Plan.{Plan}
 use Rattle.sock_words.specs.declared.outcome.Outcome.{Outcome}
 use Rattle.sock_words.specs.declared.outcome.Outcome.TheVariants.{Opened, SlotsFull, Unopened, Answered, Peer, CallFailed, Expired, Queued, Late, Crowded, Joined, NotBegun}
 use Rattle.brpc_model.specs.Meta.{ResponseMeta}
 use Rattle.brpc_model.specs.Frame.{Frame}
 use Rattle.brpc_model.specs.Stream.{stream}
-use Rattle.corr_core.specs.Word.{error_of, code_of}
+use Rattle.brpc_model.specs.Causes.{HasFault}
+use Rattle.corr_core.specs.Word.{parts, error_of, code_of, attempt_of}
 use Rattle.corr_core.specs.declared.marks.Plan.{Plan as IdPlan}
-use Rattle.id_rule.specs.Lawful.{call_word}
+use Rattle.id_rule.specs.Lawful.{id_word, call_word}
+use Rattle.sock_programs.specs.Asides.{id_slot, id_first}
 use Rattle.sock_model.specs.Layout.{name_word}
 use Rattle.sock_message.specs.Asked.{Asked, name_of}
 use Rattle.sock_programs.specs.declared.task.Op.{Op}
 use Rattle.sock_programs.specs.declared.task.Op.TheVariants as ops
 use Rattle.sock_programs.specs.declared.task.Task.{Task}
-use Rattle.sock_programs.specs.Posts.{WHOLE}
+use Rattle.sock_programs.specs.Posts.{WHOLE, is_final}
 use Rattle.sock_programs.specs.Cores.{Core}
-use Rattle.call_causes.specs.Lists.{given}
+use Rattle.call_causes.specs.Lists.{given, times}
 
 -- the id of a call, which has the versions behind it, as many as the call's range less one
 pub record Birth : Type 0 where
@@ -33,11 +35,12 @@ pub record Claim : Type 0 where
   pub slot : ℕ
   pub operation : ℕ
 
--- a core, the slots that were claimed so far, the ids that were made, and what was said, each the latest first
+-- a core, the slots that were claimed so far, the ids that were made, the operations of the calls whose attempt was advanced, and what was said, each the latest first
 pub record Scene : Type 0 where
   pub core : Core
   pub claims : List Claim
   pub births : List Birth
+  pub advances : List ℕ
   pub sayings : List Saying
 
 -- x is one of the list
@@ -74,13 +77,6 @@ IsResponseTo id asked frame = IsSome frame.meta.response × (id < frame.meta.cor
 abbrev pub HasCode : ℤ → Frame → Type 0
 HasCode code frame = (frame.meta.compress_type ≡ pos 0) × (r : ResponseMeta) × (frame.meta.response ≡ Some r) × (r.code ≡ code)
 
--- a code of an error that isn't that of an `expire`
-abbrev pub IsOther : ℕ → Type 0
-IsOther code = (code ≡ 1009) ⊎ ((code ≡ 1014) ⊎ ((code ≡ 2002) ⊎ ((code ≡ 3001) ⊎ ((1500 ≤ code) × (code ≤ 1999)))))
-
-abbrev pub IsErrorCode : ℕ → Type 0
-IsErrorCode code = (code ≡ 1008) ⊎ IsOther code
-
 abbrev pub IsOpened : Outcome → Type 0
 IsOpened (Opened slot version k) = Unit {0}
 IsOpened other = ⊥
@@ -93,7 +89,8 @@ SeeksName n (ops.Send m bytes) = m ≡ n
 SeeksName n (ops.Call asked) = name_of asked 0 ≡ n
 SeeksName n other = ⊥
 
-module _ (p : Plan) (q : IdPlan) (clients : List (List Task)) (fin : ℕ → List ℕ) where
+-- in a run in which the links give these bytes in the end
+module _ (p : Plan) (q : IdPlan) (clients : List (List Task)) (gives : ℕ → List ℕ) where
   -- the name had a socket
   abbrev pub Named : Scene → ℕ → Type 0
   Named w n = (n < p.names) × (slice_index w.core.words (name_word p n) ≢ 0)
@@ -105,9 +102,28 @@ module _ (p : Plan) (q : IdPlan) (clients : List (List Task)) (fin : ℕ → Lis
   abbrev pub IsTaskOf : ℕ → Task → Type 0
   IsTaskOf c t = (ts : List Task) × (slice_get clients c ≡ Some ts) × In t ts
 
+  -- the bytes of a link have a frame fault
+  abbrev pub HasFaulted : Type 0
+  HasFaulted = (k : ℕ) × (k < p.links) × HasFault (gives k)
+
+  -- there is a `fail` with this code
+  abbrev pub HasFail : ℕ → Type 0
+  HasFail code = (c : ℕ) × (t : Task) × (n : ℕ) × IsTaskOf c t × (t.op ≡ ops.Fail n code)
+
+  -- a code of an error that isn't that of an `expire`
+  abbrev pub IsOther : ℕ → Type 0
+  IsOther code = (code ≡ 1009) ⊎ ((code ≡ 1014) ⊎ (((code ≡ 2002) × HasFaulted) ⊎ ((code ≡ 3001) ⊎ ((1500 ≤ code) × (code ≤ 1999) × HasFail code))))
+
+  abbrev pub IsErrorCode : ℕ → Type 0
+  IsErrorCode code = (code ≡ 1008) ⊎ IsOther code
+
   -- an `expire` of the call was told that it ended it, or that its error waits
   abbrev pub IsExpired : Scene → Asked → Type 0
   IsExpired w asked = (client : ℕ) × (t : Task) × IsTaskOf client t × (t.op ≡ ops.Expire asked.operation) × (Said w t.number Expired ⊎ Said w t.number Queued)
+
+  -- the range of an id has ended, and its call had come to the last attempt that it might have
+  abbrev pub HasUsed : Scene → Birth → Type 0
+  HasUsed w b = In b w.births × (id_first b.id + b.asked.range ≤ (parts (slice_index w.core.calls.words (id_word (id_slot b.id)))).first) × (times b.asked.operation w.advances + 2 ≡ b.asked.range)
 
   -- a frame that came is a response of the call with this id, and this holds of it
   abbrev pub IsAnsweredIn : Scene → ℕ → Asked → (Frame → Type 0) → Type 0
@@ -116,13 +132,13 @@ module _ (p : Plan) (q : IdPlan) (clients : List (List Task)) (fin : ℕ → Lis
   -- why an error of the id is there
   pub data CauseOf (w : Scene) (id e : ℕ) : Type 0 where
     of_expiry : (asked : Asked) → e ≡ error_of 1008 WHOLE → IsBorn w id asked → IsExpired w asked → CauseOf w id e
-    of_other : IsOther (code_of e) → CauseOf w id e
+    of_other : IsOther (code_of e) → (is_final (code_of e) ≡ true) ⊎ (attempt_of e ≢ WHOLE) → CauseOf w id e
 
   -- why the call with this id ended with the code
   pub data FailedIn (w : Scene) (id : ℕ) (asked : Asked) (code : ℕ) : Type 0 where
     by_expiry : code ≡ 1008 → IsExpired w asked → FailedIn w id asked code
     by_compression : code ≡ 2002 → IsAnsweredIn w id asked (λ frame. frame.meta.compress_type ≢ pos 0) → FailedIn w id asked code
-    by_other : IsOther code → FailedIn w id asked code
+    by_other : IsOther code → (is_final code ≡ true) ⊎ HasUsed w (record { id = id; asked = asked }) → FailedIn w id asked code
 
   -- why a call whose range has ended has its outcome
   abbrev pub WhyEnded : Scene → Birth → Outcome → Type 0
@@ -164,11 +180,11 @@ module _ (p : Plan) (q : IdPlan) (clients : List (List Task)) (fin : ℕ → Lis
   WhyOwn w c before (ops.Open n k) (Opened slot version l) = Named w n
   WhyOwn w c before (ops.Open n k) SlotsFull = Unit {0}
   WhyOwn w c before (ops.Open n k) other = ⊥
-  WhyOwn w c before (ops.Send n bytes) Unopened = Unit {0}
+  WhyOwn w c before (ops.Send n bytes) Unopened = NoneFound w before n
   WhyOwn w c before (ops.Send n bytes) other = Named w n
-  WhyOwn w c before (ops.Hold n) Unopened = Unit {0}
+  WhyOwn w c before (ops.Hold n) Unopened = NoneFound w before n
   WhyOwn w c before (ops.Hold n) other = Named w n
-  WhyOwn w c before (ops.Fail n code) Unopened = Unit {0}
+  WhyOwn w c before (ops.Fail n code) Unopened = NoneFound w before n
   WhyOwn w c before (ops.Fail n code) other = Named w n
   WhyOwn w c before (ops.Drop n) other = Unit {0}
 
@@ -194,6 +210,13 @@ module _ (p : Plan) (q : IdPlan) (clients : List (List Task)) (fin : ℕ → Lis
   abbrev pub HasRoom : Scene → Type 0
   HasRoom w = (c : ℕ) (t : Task) (asked : Asked) → IsTaskOf c t → t.op ≡ ops.Call asked → ((i : ℕ) → i < q.slots → (o : ℕ) × IsClaimed w i o × (o ≢ t.number)) → ⊥
 
+  -- what each link gave is the beginning of what it gives in the end
+  abbrev pub LeadsTo : Core → Type 0
+  LeadsTo c = (k : ℕ) → (more : List ℕ) × (given c k ++ more ≡ gives k)
+
+  abbrev pub StaysWithin : Scene → Type 0
+  StaysWithin w = HasRoom w × LeadsTo w.core
+
   -- what happened lasts; an id is that of one call, and there are as many id slots as calls
   pub record Later (w w' : Scene) : Type 0 where
     pub said : (o : ℕ) (x : Outcome) → Said w o x → Said w' o x
@@ -203,5 +226,6 @@ module _ (p : Plan) (q : IdPlan) (clients : List (List Task)) (fin : ℕ → Lis
     pub born : (id : ℕ) (asked : Asked) → IsBorn w id asked → IsBorn w' id asked
     pub came : (k n : ℕ) (frame : Frame) → Came w k n frame → Came w' k n frame
     pub claimed : (i o : ℕ) → IsClaimed w i o → IsClaimed w' i o
-    pub room : HasRoom w'
+    pub used : (b : Birth) → HasUsed w b → HasUsed w' b
+    pub within : StaysWithin w'
     pub apart : (id : ℕ) (a b : Asked) → IsBorn w' id a → IsBorn w' id b → a ≡ b

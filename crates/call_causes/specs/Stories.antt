@@ -16,9 +16,9 @@ use Rattle.sock_programs.specs.Asides.{Step, ClaimId, PutCall, MakeId, StoreCall
 use Rattle.sock_programs.specs.Beside.{calls_after}
 use Rattle.sock_programs.specs.Posts.{advance_of}
 use Rattle.sock_programs.specs.Cores.{Core, SeatState}
-use Rattle.call_causes.specs.Lists.{given}
-use Rattle.call_causes.specs.Scenes.{Birth, Claim, Saying, Scene, In, IsOver, Said, IsBorn, IsOther, CauseOf, Begun, IsTaskOf, WhyEnded, AreTold, IsClaimed}
-use Rattle.call_causes.specs.Says.{Slot, NoSlot, Claims, Locked, Holds, Leaves, Mark, with_slot, with_owed, with_made, with_done, put_in, taken_out, given_more, SaysOn}
+use Rattle.call_causes.specs.Lists.{given, times, advances_by}
+use Rattle.call_causes.specs.Scenes.{Birth, Claim, Saying, Scene, In, IsOver, Said, IsBorn, IsOther, CauseOf, Begun, IsTaskOf, WhyEnded, WhyOwn, AreTold, IsClaimed}
+use Rattle.call_causes.specs.Says.{Shape, shape_of, with_attempt, unlocked_by, Slot, NoSlot, Claims, Locked, Holds, Leaves, Mark, with_slot, with_owed, with_made, with_done, put_in, taken_out, given_more, SaysOn}
 
 abbrev pub At : List Mark → ℕ → Mark → Type 0
 At ms j m = get_elem? ms j ≡ core.some m
@@ -37,8 +37,8 @@ LiesAt w i asked = get_elem? w.core.calls.homes i ≡ core.some (core.some (Some
 abbrev pub InSlot : ℕ → Slot → Type 0
 InSlot i NoSlot = ⊥
 InSlot i (Claims j c) = j ≡ i
-InSlot i (Locked j f range) = j ≡ i
-InSlot i (Holds j f range asked) = j ≡ i
+InSlot i (Locked j f shape) = j ≡ i
+InSlot i (Holds j f shape asked) = j ≡ i
 InSlot i (Leaves j) = j ≡ i
 
 -- a call that was put into the home of a claimed slot lies there
@@ -47,14 +47,14 @@ PutThere w i None = Unit {0}
 PutThere w i (Some asked) = (a : Asked) → LiesAt w i a → a ≡ asked
 
 module _ (q : IdPlan) where
-  abbrev pub IsLockedAt : Scene → ℕ → ℕ → ℕ → Type 0
-  IsLockedAt w i f range = (i < q.slots) × (tag_at w i ≢ 0) × ((word_at w i).state ≡ 2) × ((word_at w i).first ≡ f) × ((word_at w i).range ≡ range)
+  abbrev pub IsLockedAt : Scene → ℕ → ℕ → Shape → Type 0
+  IsLockedAt w i f shape = (i < q.slots) × (tag_at w i ≢ 0) × ((word_at w i).state ≡ 2) × ((word_at w i).first ≡ f) × ((word_at w i).range ≡ shape.range) × ((word_at w i).attempt ≡ shape.attempt)
 
   abbrev pub SlotFits : Scene → Slot → Type 0
   SlotFits w NoSlot = Unit {0}
   SlotFits w (Claims i c) = (i < q.slots) × (tag_at w i ≢ 0) × ((word_at w i).state ≡ 0) × PutThere w i c
-  SlotFits w (Locked i f range) = IsLockedAt w i f range
-  SlotFits w (Holds i f range asked) = IsLockedAt w i f range
+  SlotFits w (Locked i f shape) = IsLockedAt w i f shape
+  SlotFits w (Holds i f shape asked) = IsLockedAt w i f shape
   SlotFits w (Leaves i) = (i < q.slots) × (tag_at w i ≢ 0) × ((word_at w i).state ≡ 0)
 
   -- what each seat has of a slot is so, and no other seat has it
@@ -77,7 +77,7 @@ abbrev pub AllApart : List Birth → Type 0
 AllApart [] = Unit {0}
 AllApart (b ∷ bs) = AllByRecursion (AreApart b) bs × AllApart bs
 
-module _ (p : Plan) (q : IdPlan) (clients : List (List Task)) (fin : ℕ → List ℕ) where
+module _ (p : Plan) (q : IdPlan) (clients : List (List Task)) (gives : ℕ → List ℕ) where
   pub record BirthsLaw (w : Scene) : Type 0 where
     -- each was in its slot, or is, and each range that hasn't ended was made
     pub born : (b : Birth) → In b w.births → (id_slot b.id < q.slots) × (2 ≤ b.asked.range) × (b.asked.range ≤ 8) × (HasPassed w b ⊎ IsCurrent w b)
@@ -88,8 +88,11 @@ module _ (p : Plan) (q : IdPlan) (clients : List (List Task)) (fin : ℕ → Lis
     pub homes : (i : ℕ) (asked : Asked) → i < q.slots → 0 < (word_at w i).state → LiesAt w i asked → IsBorn w (call_id i (word_at w i).first) asked
     -- each error that waits has its cause, and each code of a socket is that of an error
     pub errors : (i : ℕ) → i < q.slots → 0 < (word_at w i).state
-        → ((word_at w i).oldest ≢ 0 → CauseOf p q clients fin w (call_id i (word_at w i).first) (word_at w i).oldest) × ((word_at w i).second ≢ 0 → CauseOf p q clients fin w (call_id i (word_at w i).first) (word_at w i).second)
-    pub codes : (i : ℕ) → i < p.slots → slice_index w.core.words (code_word i) ≢ 0 → IsOther (slice_index w.core.words (code_word i))
+        → ((word_at w i).oldest ≢ 0 → CauseOf p q clients gives w (call_id i (word_at w i).first) (word_at w i).oldest) × ((word_at w i).second ≢ 0 → CauseOf p q clients gives w (call_id i (word_at w i).first) (word_at w i).second)
+    -- the attempt of an id is how often it was advanced, and of no call without an id it was
+    pub attempts : (b : Birth) → In b w.births → IsCurrent w b → (word_at w (id_slot b.id)).attempt ≡ times b.asked.operation w.advances
+    pub unmade : (o : ℕ) → ((b : Birth) → In b w.births → b.asked.operation ≢ o) → times o w.advances ≡ 0
+    pub codes : (i : ℕ) → i < p.slots → slice_index w.core.words (code_word i) ≢ 0 → IsOther p q clients gives (slice_index w.core.words (code_word i))
 
   -- ## Tasks, and what is said
 
@@ -121,15 +124,24 @@ module _ (p : Plan) (q : IdPlan) (clients : List (List Task)) (fin : ℕ → Lis
   AreOnce [] = Unit {0}
   AreOnce (s ∷ ss) = ((x : Outcome) → In (record { number = s.number; outcome = x }) ss → ⊥) × AreOnce ss
 
+  -- a message that a task of client c was to send, behind these tasks, has no outcome, or one that has its cause
+  abbrev pub QuietOf : Scene → List (Option Outcome) → ℕ → List Task → Task → Type 0
+  QuietOf w os c before t = (n : ℕ) (bytes : List ℕ) → t.op ≡ ops.Send n bytes → IsUntold os t.number ⊎ ((x : Outcome) × Said w t.number x × WhyOwn p q clients gives w c before t.op x)
+
+  abbrev pub AreQuiet : Scene → List (Option Outcome) → ℕ → List Task → Type 0
+  AreQuiet w os c [] = Unit {0}
+  AreQuiet w os c (t ∷ ts) = QuietOf w os c ts t × AreQuiet w os c ts
+
   -- with these outcomes, by what was said of them
   pub record TasksLaw (w : Scene) (os : List (Option Outcome)) (ss : List Saying) (ms : List Mark) : Type 0 where
     pub client : (j : ℕ) (m : Mark) → At ms j m → m.client ≡ j
     pub placed : (j : ℕ) (m : Mark) → At ms j m → undo m.done m.todo ≡ slice_index_or clients j []
-    pub told : (j : ℕ) (m : Mark) → At ms j m → AreTold p q clients fin w m.client m.done
+    pub told : (j : ℕ) (m : Mark) → At ms j m → AreTold p q clients gives w m.client m.done
+    pub quiet : (j : ℕ) (m : Mark) → At ms j m → AreQuiet w os m.client m.done
     -- each id is one of a call that a client began, and each word of a call is such an id
     pub begun : (b : Birth) → In b w.births → (j : ℕ) × (m : Mark) × (t : Task) × At ms j m × IsBegunBy m b t
     pub made : (j : ℕ) (m : Mark) (b : Birth) → At ms j m → m.makes ≡ b ∷ [] → In b w.births
-    pub called : (o : ℕ) → o < q.operations → Begun p q clients fin w o → (b : Birth) × In b w.births × (b.id ≡ slice_index w.core.calls.words (call_word q o)) × (b.asked.operation ≡ o) × (j : ℕ) × (m : Mark) × (t : Task) × At ms j m × In t m.done × (t.op ≡ ops.Call b.asked) × (t.number ≡ o)
+    pub called : (o : ℕ) → o < q.operations → Begun p q clients gives w o → (b : Birth) × In b w.births × (b.id ≡ slice_index w.core.calls.words (call_word q o)) × (b.asked.operation ≡ o) × (j : ℕ) × (m : Mark) × (t : Task) × At ms j m × In t m.done × (t.op ≡ ops.Call b.asked) × (t.number ≡ o)
     -- what was said is there, and nothing else
     pub said : (o : ℕ) (x : Outcome) → In (record { number = o; outcome = x }) ss → slice_get os o ≡ Some (Some x)
     pub outcomes : (o : ℕ) (x : Outcome) → slice_get os o ≡ Some (Some x) → In (record { number = o; outcome = x }) ss
@@ -137,7 +149,7 @@ module _ (p : Plan) (q : IdPlan) (clients : List (List Task)) (fin : ℕ → Lis
     pub fresh : (j : ℕ) (m : Mark) (t : Task) → At ms j m → In t (ahead m.makes m.todo) → IsUntold os t.number
     -- of a range that hasn't ended nothing is said, and of one that has its outcome, or a seat is to say it
     pub untold : (b : Birth) → In b w.births → IsCurrent w b ⊎ IsOwed ms b → IsUntold os b.asked.operation
-    pub ended : (b : Birth) → In b w.births → HasPassed w b → ((x : Outcome) × Said w b.asked.operation x × WhyEnded p q clients fin w b x) ⊎ IsOwed ms b
+    pub ended : (b : Birth) → In b w.births → HasPassed w b → ((x : Outcome) × Said w b.asked.operation x × WhyEnded p q clients gives w b x) ⊎ IsOwed ms b
     pub owed : (j : ℕ) (m : Mark) (b : Birth) → At ms j m → m.owes ≡ b ∷ [] → In b w.births × HasPassed w b
     pub owed_once : (j l : ℕ) (m n : Mark) (b : Birth) → At ms j m → At ms l n → m.owes ≡ b ∷ [] → n.owes ≡ b ∷ [] → j ≡ l
 
@@ -151,7 +163,7 @@ module _ (p : Plan) (q : IdPlan) (clients : List (List Task)) (fin : ℕ → Lis
   -- each slot that is taken was claimed for a call, and no call claims twice
   pub record ClaimsLaw (w : Scene) (ms : List Mark) : Type 0 where
     pub taken : (i : ℕ) → i < q.slots → tag_at w i ≢ 0 → (o : ℕ) × IsClaimed w i o
-    pub calls : (c : Claim) → In c w.claims → (client : ℕ) × (t : Task) × (asked : Asked) × IsTaskOf p q clients fin client t × (t.op ≡ ops.Call asked) × (t.number ≡ c.operation)
+    pub calls : (c : Claim) → In c w.claims → (client : ℕ) × (t : Task) × (asked : Asked) × IsTaskOf p q clients gives client t × (t.op ≡ ops.Call asked) × (t.number ≡ c.operation)
     pub once : (a b : Claim) → In a w.claims → In b w.claims → a.operation ≡ b.operation → a ≡ b
     pub free : (j : ℕ) (m : Mark) (t : Task) → At ms j m → In t (unclaimed m.slot m.makes m.todo) → (i : ℕ) → IsClaimed w i t.number → ⊥
 
@@ -172,7 +184,7 @@ module _ (p : Plan) (q : IdPlan) (clients : List (List Task)) (fin : ℕ → Lis
   born_by id (asked ∷ more) = (record { id = id; asked = asked }) ∷ []
 
   abbrev pub ended_of : Slot → List Birth
-  ended_of (Holds i f range asked) = (record { id = call_id i f; asked = asked }) ∷ []
+  ended_of (Holds i f shape asked) = (record { id = call_id i f; asked = asked }) ∷ []
   ended_of other = []
 
   abbrev pub claimed_by : ℕ → List Task → List Claim
@@ -196,9 +208,9 @@ module _ (p : Plan) (q : IdPlan) (clients : List (List Task)) (fin : ℕ → Lis
   mark_after (PutCall i asked) found m = with_slot (put_in asked m.slot) m
   mark_after (MakeId i range) found m = with_made (born_by (call_id i (parts found).first) (put_of m.slot)) (with_slot NoSlot m)
   mark_after (StoreCall o id) found m = stored_by m.todo m
-  mark_after (LockId i from) found m = if found == from then with_slot (Locked i (parts from).first (parts from).range) m else m
-  mark_after (PostId i from e) found m = if found == from then (if (parts from).state == 1 then with_slot (Locked i (parts from).first (parts from).range) m else m) else m
-  mark_after (UnlockId i from advance) found m = if found == from then (if (parts from).oldest == 0 then with_slot NoSlot m else m) else m
+  mark_after (LockId i from) found m = if found == from then with_slot (Locked i (parts from).first (shape_of (parts from))) m else m
+  mark_after (PostId i from e) found m = if found == from then (if (parts from).state == 1 then with_slot (Locked i (parts from).first (shape_of (parts from))) m else m) else m
+  mark_after (UnlockId i from advance) found m = if found == from then (if (parts from).oldest == 0 then with_slot NoSlot m else with_slot (with_attempt (parts (unlocked_by from advance)).attempt m.slot) m) else m
   mark_after (EndId i) found m = with_owed (ended_of m.slot) (with_slot (Leaves i) m)
   mark_after (FreeId i) found m = with_slot NoSlot m
   mark_after (TakeCall i) found m = with_slot (taken_out found m.slot) m
@@ -212,6 +224,7 @@ module _ (p : Plan) (q : IdPlan) (clients : List (List Task)) (fin : ℕ → Lis
     pub gave : w'.core.calls.gave ≡ (calls_after step found w.core.calls).gave
     pub births : w'.births ≡ births_after step found m w.births
     pub claims : w'.claims ≡ claims_after step found m w.claims
+    pub advances : w'.advances ≡ advances_by step found w.core.calls ++ w.advances
     pub sayings : (s : Saying) → In s w.sayings → In s w'.sayings
     pub overs : (a b : Saying) → IsOver a b w.sayings → IsOver a b w'.sayings
 
@@ -238,7 +251,7 @@ module _ (p : Plan) (q : IdPlan) (clients : List (List Task)) (fin : ℕ → Lis
   KnowsStep w (LoadIdWord i) found = IsWordAt w i found × HasOldest found
   KnowsStep w (LockId i from) found = IsWordAt w i found × ((parts from).state ≡ 1) × IsTakenWith w i
   KnowsStep w (PostId i from e) found = IsWordAt w i found × (((parts from).state ≡ 1) ⊎ (((parts from).state ≡ 2) × ((parts from).second ≡ 0))) × (e < 32768) × IsTakenWith w i × HasOldest found
-  KnowsStep w (UnlockId i from advance) found = IsWordAt w i found × ((parts from).state ≡ 2) × ((parts from).attempt + advance_of advance ≤ 6)
+  KnowsStep w (UnlockId i from advance) found = IsWordAt w i found × ((parts from).state ≡ 2) × ((parts from).attempt + advance_of advance ≤ 6) × ((asked : Asked) × LiesAt w i asked)
   KnowsStep w (EndId i) found = IsWordAt w i found
   KnowsStep w (FreeId i) found = i < q.slots
   KnowsStep w (TakeCall i) found = (i < q.slots) × LiesAt w i found
@@ -252,11 +265,12 @@ module _ (p : Plan) (q : IdPlan) (clients : List (List Task)) (fin : ℕ → Lis
     pub tasks : TasksLaw w w.core.outcomes w.sayings ms
     pub claims : ClaimsLaw w ms
     pub reads : ReadsLaw w ms
-    pub seats : (j : ℕ) (seat : SeatState) (m : Mark) → get_elem? w.core.seats j ≡ core.some seat → At ms j m → SaysOn p q clients fin w m seat.program
+    pub seats : (j : ℕ) (seat : SeatState) (m : Mark) → get_elem? w.core.seats j ≡ core.some seat → At ms j m → SaysOn p q clients gives w m seat.program
 
-  -- the story of a core
-  pub record HasStory (c : Core) : Type 0 where
+  -- the story of a core, up to which these calls' attempts were advanced, the latest first
+  pub record HasStory (advanced : List ℕ) (c : Core) : Type 0 where
     pub scene : Scene
     pub marks : List Mark
     pub is : scene.core ≡ c
+    pub shown : scene.advances ≡ advanced
     pub story : CallStory scene marks

@@ -1,5 +1,5 @@
 -- Why each `call`, `expire` and `join` has its outcome: what a run with calls tells of them.
-use Rattle.std.specs.Prelude.{ℕ, ◌≡◌, ◌≢◌, ◌+◌, ◌≤◌, ◌⊎◌, List, Option, pos}
+use Rattle.std.specs.Prelude.{ℕ, ◌≡◌, ◌≢◌, ◌+◌, ◌<◌, ◌≤◌, ◌⊎◌, List, [], ◌∷◌, Option, Contains, pos}
 use Rattle.sock_words.specs.declared.plain.Plan.{Plan}
 use Rattle.sock_words.specs.declared.outcome.Outcome.{Outcome}
 use Rattle.sock_words.specs.declared.outcome.Outcome.TheVariants.{Unopened, Answered, Peer, CallFailed, Expired, Queued}
@@ -9,7 +9,7 @@ use Rattle.sock_programs.specs.declared.task.Op.{Op}
 use Rattle.sock_programs.specs.declared.task.Op.TheVariants as ops
 use Rattle.sock_programs.specs.declared.task.Task.{Task}
 use Rattle.sock_programs.specs.Told.{IsTask, Became}
-use Rattle.sock_programs.specs.ToldCalls.{Fixed, Order, FoundNone, HasCode, IsAnsweredBy, IsExpiredWith, IsPosted, ShowsId, Why, WhyExpire, WhyJoin}
+use Rattle.sock_programs.specs.ToldCalls.{Fixed, Order, FoundNone, HasCode, IsAnsweredBy, IsExpiredWith, GaveFault, ShowsId, Why, WhyExpire, WhyJoin}
 
 abbrev pub IsOnCalls : Op → Type 0
 IsOnCalls (ops.Call asked) = Unit {0}
@@ -30,21 +30,25 @@ pub record ToldOnCalls (p : Plan) (clients : List (List Task)) (outcomes : List 
 -- ## In part
 
 module _ (p : Plan) (clients : List (List Task)) (outcomes : List (Option Outcome)) (fixed : Fixed) (gave : ℕ → List ℕ) (orders : ℕ → Order) where
-  -- why the call that is operation o, with this id, ended with the code, as far as an `expire` and compressed responses go: any other code is one of those that are posted
-  pub data FailedInPart (o : ℕ) (asked : Asked) (id code : ℕ) : Type 0 where
-    ByExpiry : code ≡ 1008 → IsExpiredWith p clients outcomes fixed gave orders o Expired ⊎ IsExpiredWith p clients outcomes fixed gave orders o Queued → FailedInPart o asked id code
-    ByCompression : code ≡ 2002 → IsAnsweredBy p clients outcomes fixed gave orders asked id (λ frame. frame.meta.compress_type ≢ pos 0) → FailedInPart o asked id code
-    ByOther : code ≢ 1008 → IsPosted p clients outcomes fixed gave orders code → FailedInPart o asked id code
+  -- why the call that is operation o, with this id, ended with the code, as far as it is told without its sockets: 2002 where no response was compressed is that of a link with a frame
+  -- fault, 1014 that of a reading that ended, and another code, with which none but the last attempt ends, that of a `fail`, or of a socket or a table without requests
+  pub data FailedInPart (last : ℕ → ℕ) (o : ℕ) (asked : Asked) (id code : ℕ) : Type 0 where
+    ByExpiry : code ≡ 1008 → IsExpiredWith p clients outcomes fixed gave orders o Expired ⊎ IsExpiredWith p clients outcomes fixed gave orders o Queued → FailedInPart last o asked id code
+    ByCompression : code ≡ 2002 → IsAnsweredBy p clients outcomes fixed gave orders asked id (λ frame. frame.meta.compress_type ≢ pos 0) → FailedInPart last o asked id code
+    ByFrameFault : code ≡ 2002 → (k : ℕ) → k < p.links → GaveFault p clients outcomes fixed gave orders k → FailedInPart last o asked id code
+    ByFail : last o + 2 ≡ asked.range → 1500 ≤ code → code ≤ 1999 → (client : ℕ) (t : Task) (name : ℕ) → IsTask clients outcomes client t → t.op ≡ ops.Fail name code → FailedInPart last o asked id code
+    ByReading : code ≡ 1014 → FailedInPart last o asked id code
+    BySocketOrRequests : last o + 2 ≡ asked.range → Contains (1009 ∷ 3001 ∷ []) code → FailedInPart last o asked id code
 
-  abbrev pub WhyCallInPart : ℕ → ℕ → Asked → Outcome → Type 0
-  WhyCallInPart c o asked Unopened = FoundNone p clients outcomes fixed gave orders c o (name_of asked 0)
-  WhyCallInPart c o asked (Answered id payload attachment) = IsAnsweredBy p clients outcomes fixed gave orders asked id (λ (frame : Frame). HasCode p clients outcomes fixed gave orders (pos 0) frame × (frame.payload ≡ payload) × (frame.attachment ≡ attachment))
-  WhyCallInPart c o asked (Peer id code) = IsAnsweredBy p clients outcomes fixed gave orders asked id (HasCode p clients outcomes fixed gave orders code) × (code ≢ pos 0)
-  WhyCallInPart c o asked (CallFailed id code) = FailedInPart o asked id code
-  WhyCallInPart c o asked other = ⊥
+  abbrev pub WhyCallInPart : (ℕ → ℕ) → ℕ → ℕ → Asked → Outcome → Type 0
+  WhyCallInPart last c o asked Unopened = FoundNone p clients outcomes fixed gave orders c o (name_of asked 0)
+  WhyCallInPart last c o asked (Answered id payload attachment) = IsAnsweredBy p clients outcomes fixed gave orders asked id (λ (frame : Frame). HasCode p clients outcomes fixed gave orders (pos 0) frame × (frame.payload ≡ payload) × (frame.attachment ≡ attachment))
+  WhyCallInPart last c o asked (Peer id code) = IsAnsweredBy p clients outcomes fixed gave orders asked id (HasCode p clients outcomes fixed gave orders code) × (code ≢ pos 0)
+  WhyCallInPart last c o asked (CallFailed id code) = FailedInPart last o asked id code
+  WhyCallInPart last c o asked other = ⊥
 
   abbrev pub WhyInPart : (ℕ → ℕ) → ℕ → ℕ → Op → Outcome → Type 0
-  WhyInPart last c o (ops.Call asked) outcome = WhyCallInPart c o asked outcome
+  WhyInPart last c o (ops.Call asked) outcome = WhyCallInPart last c o asked outcome
   WhyInPart last c o (ops.Expire t) outcome = WhyExpire p clients outcomes fixed gave orders last c o t outcome
   WhyInPart last c o (ops.Join t) outcome = WhyJoin p clients outcomes fixed gave orders last c o t outcome
   WhyInPart last c o op outcome = ⊥
