@@ -41,6 +41,7 @@ use Rattle.send_causes.specs.Sent.{IsAttempt}
 use Rattle.send_causes.proofs.FirstRuns.{run_own_order}
 use Rattle.send_causes.proofs.Labelled.{ids_of_run, run_labelled}
 use Rattle.send_causes.proofs.Whole.{run_orders, run_sent}
+use Rattle.call_causes.specs.Lists.{attempts_of_run}
 use Rattle.call_causes.specs.Target.{IsOnCalls, ToldOnCallsInPart}
 use Rattle.call_causes.proofs.Whole.{run_told_in_part}
 use Rattle.report_fits.proofs.Counting.{tally, tally_all}
@@ -128,8 +129,8 @@ module _ (bytes : List ℕ) (script : List Item) (reads : script_of bytes ≡ Ok
   pub told_plain : ToldTasks (told_tasks_of script) core.outcomes (plan_of script) orders_of_run (lost_of_run script turns core is) (lost_before script turns core is) (λ o. is_said_late script turns core is o ≡ true)
   told_plain = run_told script are (first_views script) (starts bytes script reads) fresh go turns core is fits owed
 
-  on_calls : (fixed : Fixed) (last : ℕ → ℕ) → ToldOnCallsInPart (plan_of script) (all_tasks script) core.outcomes fixed (gave_in core) orders_of_run last
-  on_calls fixed last = run_told_in_part script (made bytes script reads) (are_there bytes script reads) ((is_counted bytes script reads).in_range) turns core is (λ k. []) closes fixed orders_of_run last
+  on_calls : (fixed : Fixed) → ToldOnCallsInPart (plan_of script) (all_tasks script) core.outcomes fixed (gave_in core) orders_of_run (attempts_of_run script turns core is)
+  on_calls fixed = run_told_in_part script (made bytes script reads) (are_there bytes script reads) ((is_counted bytes script reads).in_range) turns core is closes fixed orders_of_run
 
   pub causes_known : CausesKnown script turns core is
   causes_known = record { orders = orders_of_run; are_orders = are_orders; ids = ids; sent = sent; own_order = own_order; plain = told_plain; on_calls = on_calls }
@@ -176,7 +177,7 @@ module _ (bytes : List ℕ) (script : List Item) (reads : script_of bytes ≡ Ok
       let t : Task = record { number = i; op = a.0 } in
       let it : IsTask (all_tasks script) core.outcomes q.0.client t = operation_task script core.outcomes i q.0 a.0 q.1 a.1 in
       ⊎_elim
-      (λ called. let w = (on_calls nothing_fixed (λ o. 0)).told q.0.client t it called in unsaid w.0 w.1)
+      (λ called. let w = (on_calls nothing_fixed).told q.0.client t it called in unsaid w.0 w.1)
       (λ plain_. ⊎_elim (λ w. unsaid w.0 w.1) (λ w. placed w.0 w.1 w.2 w.3 w.4 w.5 w.6) (told_plain.told q.0.client t (task_down (all_tasks script) (length (opens script)) core.outcomes q.0.client t it plain_)))
       (on_calls_or_plain a.0)
     where

@@ -19,6 +19,7 @@ use Rattle.sock_causes.specs.Losses.{lost_in}
 use Rattle.sock_causes.specs.TaskCauses.{ToldTasks, DropsMade}
 use Rattle.sock_causes.proofs.Scripts.{MadeInRun, lost_of_run}
 use Rattle.send_causes.specs.Sent.{IsAttempt}
+use Rattle.call_causes.specs.Lists.{attempts_of_run}
 use Rattle.call_causes.specs.Target.{ToldOnCallsInPart}
 use Rattle.whole_runs.specs.Heard.{heard_takes, given_by}
 use Rattle.whole_runs.specs.Unserved.{IsUnserved, IsInTime}
@@ -56,8 +57,8 @@ pub record CausesKnown (script : List Item) (turns : List Turn) (core : Core) (r
   pub own_order : (fixed : Fixed) (k : ℕ) → k < length (link_names script) → EachBefore (InOwnOrder (plan_of script) (all_tasks script) core.outcomes fixed (gave_in core) orders) (orders k).accepted
   -- `open`, `send`, `hold`, `drop` and `fail`
   pub plain : ToldTasks (told_tasks_of script) core.outcomes (plan_of script) orders (lost_of_run script turns core run) (lost_before script turns core run) (λ o. is_said_late script turns core run o ≡ true)
-  -- `call`, `expire` and `join`, whatever else the run fixes
-  pub on_calls : (fixed : Fixed) (last : ℕ → ℕ) → ToldOnCallsInPart (plan_of script) (all_tasks script) core.outcomes fixed (gave_in core) orders last
+  -- `call`, `expire` and `join`, whatever else the run fixes; the last attempts are those to which it advanced
+  pub on_calls : (fixed : Fixed) → ToldOnCallsInPart (plan_of script) (all_tasks script) core.outcomes fixed (gave_in core) orders (attempts_of_run script turns core run)
 
 -- each drop was answered `freed` or `kept` by what its own steps did
 abbrev pub DropsTold : {script : List Item} {turns : List Turn} {core : Core} → IsRunWithCalls script turns core → Type 0
