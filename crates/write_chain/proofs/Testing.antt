@@ -1,7 +1,10 @@
 -- A seat that sends messages, one after another: what it has between two of them, and while one is written.
-use Rattle.std.proofs.Common.{◌≡◌, ◌≢◌, ℕ, zero, suc, ◌+◌, ◌*◌, ◌<◌, ◌≤◌, List, [], ◌∷◌, ◌++◌, length, length-append, refl, sym, ap, ◌∙◌, subst, arith, Option, Some, None}
+use Rattle.std.proofs.Common.{◌≡◌, ◌≢◌, ℕ, zero, suc, ◌+◌, ◌*◌, ◌<◌, ◌≤◌, List, [], ◌∷◌, ◌++◌, length, length-append, false, refl, sym, ap, ◌∙◌, subst, arith}
+use Rattle.std.specs.Option.{ForSome}
 use mathlib.Core.Logic.{dite}
+use mathlib.Core.Option.{some, some-injective, some-ne-none}
 use native.Mathlib.Decide.{ℕ_discrete}
+use lib.ListN.{get_elem?}
 use Rattle.atomic_table.specs.Table.{Me}
 use Rattle.atomic_table.specs.Seated.{TableId}
 use Rattle.atomic_table.specs.declared.shared.Seat.{Seat}
@@ -28,6 +31,7 @@ use Rattle.sock_table.specs.Refs.{IsBetween, GaveBack, SameTokens, Knows, MayAdd
 use Rattle.sock_table.proofs.Quiet.{saw_between}
 use Rattle.sock_open.proofs.Testing.{done_between, kept_done, ended_refs, gone_same, known_by}
 use Rattle.sock_open.specs.Made.{IsNewSeat}
+use Rattle.sock_open.specs.Opening.{AreFresh}
 use Rattle.sock_open.proofs.Making.{new_view, new_done}
 use Rattle.sock_open.proofs.Racing.{stored_done, stored_known}
 use Rattle.sock_rule.specs.Rows.{PutAt}
@@ -166,3 +170,11 @@ module _ {S : Type 0} (p : Plan) (id x : ℕ) (v : View) (m : Me S View) (b : Be
 
 pub two_done : {S : Type 0} (z : TableId) (p : Plan) (a b : Seat S View) (xs : List (Seat S View)) → xs ≡ a ∷ b ∷ [] → IsDoneSeat z p a → IsDoneSeat z p b → AllDone z p xs
 two_done z p a b xs e x y = subst (AllDone z p) (sym e) (x, (y, tt))
+
+-- one half that took nothing
+pub one_fresh : {O : Type 0} (state : O → OutState) (p : Plan) (o : O) (outs : List O) → outs ≡ o ∷ [] → p.links ≡ 1 → (state o).link ≡ 0 → (state o).finished ≡ false → ForSome (state o).took (λ bytes. bytes ≡ []) → AreFresh state p outs
+one_fresh {O} state p o outs e links link finished took = subst (AreFresh state p) (sym e) record { count = sym links; each = each }
+  where
+    each : (k : ℕ) (x : O) → get_elem? (o ∷ []) k ≡ some x → ((state x).link ≡ k) × ((state x).finished ≡ false) × ForSome (state x).took (λ bytes. bytes ≡ [])
+    each zero x g = subst (λ (y : O). ((state y).link ≡ 0) × ((state y).finished ≡ false) × ForSome (state y).took (λ bytes. bytes ≡ [])) (some-injective o x g) (link, finished, took)
+    each (suc k) x g = absurd (some-ne-none x (sym g))

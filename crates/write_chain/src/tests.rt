@@ -11,7 +11,7 @@ use crate::entry::{Refused, Started, start};
 use crate::hold::{Once, write_once};
 use crate::keep::{Kept, keep_write};
 use crate::right::WriteRight;
-use sock_io::{MemOut, Shape, Shaped};
+use sock_io::{MemOut, Out, Shape, Shaped};
 use sock_message::{BlockPool, Message};
 use sock_open::{Made, new_table};
 use sock_rule::{Letter, SockSeat};
@@ -198,12 +198,7 @@ struct Wrote {
 }
 
 /// Writes until the head is empty, and gives the reference back.
-fn write_on<R: Wait>(
-    rt: &R,
-    table: &Table,
-    seat: &mut Seat,
-    mut right: WriteRight<Half>,
-) -> Wrote
+fn write_on<R: Wait>(rt: &R, table: &Table, seat: &mut Seat, mut right: WriteRight<Half>) -> Wrote
     requires seat { IsSeat table.now.rule.table.shared.table_id table.now.rule.plan seat.old }
     requires may { MayGoOn table.now.rule.plan right seat.old.me }
     ensures ready { (n : ℕ) → HoldsOne table.now.rule.plan right.sock.id.0 n seat.old.me.0 → IsReady table.now.rule.table.shared.table_id table.now.rule.plan right.sock.id.0 n seat.new }

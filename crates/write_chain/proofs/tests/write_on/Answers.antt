@@ -21,6 +21,6 @@ goes-preserved g c = record {
 pub let_go-requires-clause-up : goal.let_go-requires-clause-up
 let_go-requires-clause-up g c = subst (λ (y : SockRef). GaveUp c.args.table.now.rule.plan y.id.0 c.keep_write.new.seat.me) (sym c.in-Done.ensures.kept.0) c.in-Done.ensures.kept.1
 
-pub returns-in-Done : goal.returns-in-Done
-returns-in-Done g c = λ n h. subst (λ (y : SockRef). IsReady c.args.table.now.rule.table.shared.table_id c.args.table.now.rule.plan y.id.0 n c.let_go.new.seat) (c.in-Done.ensures.kept.0 ∙ c.goes.invariant.same)
+pub returns-in-Done-clause-ready : goal.returns-in-Done-clause-ready
+returns-in-Done-clause-ready g c = λ n h. subst (λ (y : SockRef). IsReady c.args.table.now.rule.table.shared.table_id c.args.table.now.rule.plan y.id.0 n c.let_go.new.seat) (c.in-Done.ensures.kept.0 ∙ c.goes.invariant.same)
     (c.let_go.ensures n (subst (λ (y : SockRef). HoldsOne c.args.table.now.rule.plan y.id.0 n c.keep_write.new.seat.me.0) (sym c.in-Done.ensures.kept.0) (wrote_one c.args.table.now.rule.plan c.goes.right.sock.id.0 n c.goes.seat.me.0 c.keep_write.new.seat.me.0 c.in-Done.ensures.wrote (subst (λ (y : SockRef). HoldsOne c.args.table.now.rule.plan y.id.0 n c.goes.seat.me.0) (sym c.goes.invariant.same) (c.goes.invariant.holds n h)))))
