@@ -2,6 +2,5 @@ pub mod Accepting
 pub mod Noting
 pub mod Stepping
 pub mod Beginning
-pub mod Testing
 pub mod Looking
 pub mod Dropping
