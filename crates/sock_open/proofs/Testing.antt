@@ -50,7 +50,7 @@ module _ {S : Type 0} (z : TableId) (p : Plan) where
   pub may_address : (s : Seat S View) (id : ℕ) → IsDoneSeat z p s → socket_id_slot id < p.slots → 0 < marks_of (is_known (socket_id_version id)) (socket_id_slot id) s.me.0 → MayAddress p s.me.0 id
   may_address s id d inside known = record { inside = inside; known = known; room = (let a = d.done.unheld (socket_id_slot id) inside in omega arith) }
 
-ended_refs : (b : Bool) (w : ℕ) (notes : List Mark) → EndedBy b w notes → total is_ref notes ≡ 0
+pub ended_refs : (b : Bool) (w : ℕ) (notes : List Mark) → EndedBy b w notes → total is_ref notes ≡ 0
 ended_refs false w notes is = ap (total is_ref) is
 ended_refs true w notes is = ap (total is_ref) is.1 ∙ by_cases (nat_le (w + 1) 4294967292)
   where

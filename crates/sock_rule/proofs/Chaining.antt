@@ -1,5 +1,5 @@
 -- Steps of whoever sends a message are allowed to a seat whose view meets their condition: C1, M1, C7, C2 and C3.
-use Rattle.std.proofs.Common.{◌≡◌, ℕ, zero, suc, ◌+◌, ◌-◌, ◌*◌, ◌/◌, ◌%◌, ◌<◌, true, false, List, [], ◌∷◌, ◌++◌, length, length-set, cond, bit_or, get_or, set, refl, sym, ap, ◌∙◌, subst, lt_of_not-le, arith}
+use Rattle.std.proofs.Common.{◌≡◌, ℕ, zero, suc, ◌+◌, ◌-◌, ◌*◌, ◌/◌, ◌%◌, ◌<◌, ◌≤◌, true, false, List, [], ◌∷◌, ◌++◌, length, length-set, cond, bit_or, get_or, set, refl, sym, ap, ◌∙◌, subst, lt_of_not-le, arith}
 use mathlib.Core.Logic.{dite}
 use mathlib.Core.Option.{Option, none, some, some-injective, some-ne-none}
 use native.Mathlib.Decide.{dec_le, ℕ_discrete}
@@ -14,7 +14,7 @@ use Rattle.sock_model.specs.declared.chain.Claim.{Claim}
 use Rattle.sock_model.specs.declared.chain.Entry.{Entry}
 use Rattle.sock_model.specs.declared.chain.Heading.{Heading}
 use Rattle.sock_model.specs.declared.chain.Loose.{Loose}
-use Rattle.sock_model.specs.Weights.{is_hold, is_met}
+use Rattle.sock_model.specs.Weights.{total, is_hold, is_met}
 use Rattle.sock_model.specs.Layout.{request_word, next_word, head_word, link_word}
 use Rattle.sock_model.specs.Memory.{IDLE, UNCONNECTED}
 use Rattle.sock_model.specs.SlotRows.{marks_of, met_link}
@@ -22,6 +22,7 @@ use Rattle.sock_model.specs.ChainRows.{with_claim, fresh_claim, filled_claim, re
 use Rattle.sock_model.specs.Conditions.{MayExchange}
 use Rattle.sock_model.specs.Lawful.{Lawful}
 use Rattle.sock_model.specs.Rule.{MOST_ACCEPTED, noting, Rule}
+use Rattle.slot_laws.proofs.Sums.{total-append}
 use Rattle.chain_laws.proofs.Bits.{or_one_even, or_one_odd}
 use Rattle.chain_laws.proofs.Lists.{at_length, at_snoc, old, new}
 use Rattle.sock_steps.proofs.Maps.{set_at, set_twice}
@@ -30,10 +31,10 @@ use Rattle.sock_steps.proofs.Noting.{tried_rule}
 use Rattle.sock_steps.proofs.RuleFrame.{word_rule}
 use Rattle.sock_steps.proofs.RuleSteps.{meet_rule}
 use Rattle.sock_steps.proofs.RuleChains.{queued_rule, righted_rule, connecting_rule, ready_rule, fill_rule}
-use Rattle.sock_rule.specs.OnTable.{LabelledIn, Labelled, OnTable}
+use Rattle.sock_rule.specs.OnTable.{is_labelled, labelled_in, LabelledIn, Labelled, OnTable}
 use Rattle.sock_rule.specs.ChainPlays.{blank, filled_with, request_told, fill_told, ready_told, swap_told, connect_told}
 use Rattle.sock_rule.proofs.Beside.{beside}
-use Rattle.sock_rule.proofs.Settling.{slot_settled, high_settled, taken_settled, home_back_settled, load_settled}
+use Rattle.sock_rule.proofs.Settling.{slot_settled, next_settled, taken_settled, home_back_settled, load_settled}
 use Rattle.sock_rule.proofs.Reached.{free_generation, free_home_law}
 use Rattle.sock_rule.proofs.Storing.{held_linked, held_is, met_is}
 
@@ -43,6 +44,14 @@ the_claim l c d e f = let h : c ∷ [] ≡ d ∷ [] = sym e ∙ f in cc
 -- an entry more in the own list is no list more
 same_lists : (v : View) (made : List Entry) (taken_in : List (List Entry)) (e : Entry) → v.lists ≡ made ∷ taken_in → length (more v.lists e) ≡ length v.lists
 same_lists v made taken_in e own = ap (λ (l : List (List Entry)). length (more l e)) own ∙ sym (ap length own)
+
+-- and no message less
+more_accepts : (l : ℕ) (v : View) (e : Entry) → labelled_in l v ≤ total (total (is_labelled l)) (more v.lists e)
+more_accepts l v e = in_lists v.lists
+  where
+    in_lists : (ls : List (List Entry)) → total (total (is_labelled l)) ls ≤ total (total (is_labelled l)) (more ls e)
+    in_lists [] = omega arith
+    in_lists (first ∷ others) = omega (arith, total-append (is_labelled l) first (e ∷ []))
 
 odd_stays : (n : ℕ) → n % 2 ≡ 1 → bit_or n 1 ≡ n
 odd_stays n odd = let e : n ≡ 2 * (n / 2) + 1 = omega arith in ap (λ x. bit_or x 1) e ∙ (or_one_odd (n / 2) ∙ sym e)
@@ -99,8 +108,8 @@ module _ {S : Type 0} (shows : S → Home) (p : Plan) (slots id : ℕ) (me : Me 
         takes r home.0,
         home.1,
         beside t id v (with_claim v (fresh_claim 0 r found blank [])) here some_ (set s.words (request_word p r) (bit_or found 1)) (set s.homes r none) (length-set s.homes r none)
-            record { share = refl; lists = refl; finds = refl; stores = λ y z. omega arith; labels = claim_labelled p v (fresh_claim 0 r found blank []) (λ f. absurd (no_truth f)) }
-            (subst (λ n. Rattle.sock_rule.specs.OnTable.Settled p t.stored (set s.words (request_word p r) n) (set s.homes r none)) next (taken_settled t.settled r (2 * g + 1) (omega arith) (omega (arith, o.references.sized))))
+            record { share = refl; lists = refl; finds = refl; stores = λ y z. omega arith; accepts = λ l. omega arith; labels = claim_labelled p v (fresh_claim 0 r found blank []) (λ f. absurd (no_truth f)) }
+            (subst (λ n. Rattle.sock_rule.specs.OnTable.Settled p t.stored t.placed (set s.words (request_word p r) n) (set s.homes r none)) next (taken_settled t.settled r (2 * g + 1) inside (omega arith) (omega (arith, o.references.sized))))
             (subst (λ n. Rule shows p record { words = set s.words (request_word p r) n; homes = set s.homes r none; views = set s.views id (with_claim v (fresh_claim 0 r found blank [])) }) next rule),
         λ q at. let e = same_request r q mine at in (
           (λ z. (home.0, free_generation o r inside even, ap (λ (x : ℕ). (with_claim v (fresh_claim 0 x found blank []), (x, home.0) ∷ me.1)) e)),
@@ -111,8 +120,8 @@ module _ {S : Type 0} (shows : S → Home) (p : Plan) (slots id : ℕ) (me : Me 
         noting (request_word p r) v,
         keeps,
         tt,
-        beside t id v (noting (request_word p r) v) here some_ (set s.words (request_word p r) (bit_or found 1)) s.homes refl record { share = refl; lists = refl; finds = refl; stores = λ y z. omega arith; labels = λ x. x }
-            (subst (λ n. Rattle.sock_rule.specs.OnTable.Settled p t.stored (set s.words (request_word p r) n) s.homes) (sym (odd_stays found (omega arith))) (load_settled t.settled (request_word p r)))
+        beside t id v (noting (request_word p r) v) here some_ (set s.words (request_word p r) (bit_or found 1)) s.homes refl record { share = refl; lists = refl; finds = refl; stores = λ y z. omega arith; accepts = λ l. omega arith; labels = λ x. x }
+            (subst (λ n. Rattle.sock_rule.specs.OnTable.Settled p t.stored t.placed (set s.words (request_word p r) n) s.homes) (sym (odd_stays found (omega arith))) (load_settled t.settled (request_word p r)))
             (tried_rule t.rule id v here mine r inside (omega arith)),
         λ q at. ((λ even. absurd (odd even)), λ z. ap (λ (x : ℕ). (noting x v, me.1)) at),
       ))
@@ -138,7 +147,7 @@ module _ {S : Type 0} (shows : S → Home) (p : Plan) (slots id : ℕ) (me : Me 
         tt,
         subst (λ (l : List (ℕ × S)). OnTable shows p record { words = set s.words (link_word i) k; homes = put_back s.homes l; views = set s.views id (with_claim (met_link i h k v) (filled_claim (record c { link = k }) heading bytes)) }) (sym top)
             (beside t id v (with_claim (met_link i h k v) (filled_claim (record c { link = k }) heading bytes)) here some_ (set s.words (link_word i) k) (set s.homes c.request (some y)) (length-set s.homes c.request (some y))
-            record { share = refl; lists = refl; finds = refl; stores = λ a b. omega arith; labels = claim_labelled p v (filled_claim (record c { link = k }) heading bytes) (λ f. label) }
+            record { share = refl; lists = refl; finds = refl; stores = λ a b. omega arith; accepts = λ l. omega arith; labels = claim_labelled p v (filled_claim (record c { link = k }) heading bytes) (λ f. label) }
             (home_back_settled (load_settled t.settled (link_word i)) c.request y short) rule),
         λ d z x g is at word other. let e : i ≡ x = omega arith in let same : h ≡ g = held_is shows p slots id me mine some_ i inside s t here h g there (subst (λ (q : ℕ). 0 < marks_of (is_hold g) q me.0) (sym e) other) in
             let same_c = the_claim me.0.claims c d claim is in let same_y : (c.request, y) ≡ z = first_is (c.request, y) z below (rest me.1) (sym top ∙ at) in
@@ -155,8 +164,8 @@ module _ {S : Type 0} (shows : S → Home) (p : Plan) (slots id : ℕ) (me : Me 
     with_claim v (ready_claim c),
     keeps,
     tt,
-    beside t id v (with_claim v (ready_claim c)) here some_ (set s.words (next_word p c.request) UNCONNECTED) s.homes refl record { share = refl; lists = refl; finds = refl; stores = λ y z. omega arith; labels = claim_labelled p v (ready_claim c) (label_of s t here c claim) }
-        (high_settled t.settled (next_word p c.request) UNCONNECTED (omega arith))
+    beside t id v (with_claim v (ready_claim c)) here some_ (set s.words (next_word p c.request) UNCONNECTED) s.homes refl record { share = refl; lists = refl; finds = refl; stores = λ y z. omega arith; accepts = λ l. omega arith; labels = claim_labelled p v (ready_claim c) (label_of s t here c claim) }
+        (next_settled t.settled c.request UNCONNECTED low)
         (ready_rule t.rule id v here mine c.request UNCONNECTED (ready_claim c) (readying_law o id c.request v c (ready_claim c) here low claim refl refl refl (λ f. o.messages.claimed c.request c low alone f))),
     λ d is. ap (λ (x : Claim). (with_claim v (ready_claim x), me.1)) (the_claim me.0.claims c d claim is),
   )
@@ -169,7 +178,7 @@ module _ {S : Type 0} (shows : S → Home) (p : Plan) (slots id : ℕ) (me : Me 
         keeps,
         tt,
         beside t id v (righted v x.claim found r.0 r.1) here some_ (set s.words (head_word i) own) s.homes refl
-            record { share = refl; lists = same_lists v x.made x.taken_in (entry_of x.claim (found - IDLE)) x.lists; finds = refl; stores = λ y z. omega arith; labels = more_labelled p v.lists v.claims (entry_of x.claim (found - IDLE)) (label_of s t here x.claim x.claims x.is_filled) }
+            record { share = refl; lists = same_lists v x.made x.taken_in (entry_of x.claim (found - IDLE)) x.lists; finds = refl; stores = λ y z. omega arith; accepts = λ l. more_accepts l v (entry_of x.claim (found - IDLE)); labels = more_labelled p v.lists v.claims (entry_of x.claim (found - IDLE)) (label_of s t here x.claim x.claims x.is_filled) }
             (slot_settled t.settled (head_word i) own (omega arith) (λ j e. omega arith)) r.2,
         λ c is. let q = the_claim me.0.claims x.claim c x.claims is in (refl, (λ low. absurd (omega arith)), λ h. (r.0, r.1, ap (λ (y : Claim). righted me.0 y (get_or s.words (head_word i) 0) r.0 r.1) q)),
       ))
@@ -178,7 +187,7 @@ module _ {S : Type 0} (shows : S → Home) (p : Plan) (slots id : ℕ) (me : Me 
         keeps,
         tt,
         beside t id v (queued v x.claim found) here some_ (set s.words (head_word i) own) s.homes refl
-            record { share = refl; lists = same_lists v x.made x.taken_in (entry_of x.claim found) x.lists; finds = refl; stores = λ y z. omega arith; labels = more_labelled p v.lists v.claims (entry_of x.claim found) (label_of s t here x.claim x.claims x.is_filled) }
+            record { share = refl; lists = same_lists v x.made x.taken_in (entry_of x.claim found) x.lists; finds = refl; stores = λ y z. omega arith; accepts = λ l. more_accepts l v (entry_of x.claim found); labels = more_labelled p v.lists v.claims (entry_of x.claim found) (label_of s t here x.claim x.claims x.is_filled) }
             (slot_settled t.settled (head_word i) own (omega arith) (λ j e. omega arith))
             (queued_rule t.rule id v here mine i own x inside room (lt_of_not-le low)),
         λ c is. let q = the_claim me.0.claims x.claim c x.claims is in (refl, (λ h. ap (λ (y : Claim). queued me.0 y (get_or s.words (head_word i) 0)) q), λ high. absurd (low high)),
@@ -190,7 +199,7 @@ module _ {S : Type 0} (shows : S → Home) (p : Plan) (slots id : ℕ) (me : Me 
     without_loose v l.request,
     keeps,
     tt,
-    beside t id v (without_loose v l.request) here some_ (set s.words (next_word p l.request) l.before) s.homes refl record { share = refl; lists = refl; finds = refl; stores = λ y z. omega arith; labels = λ x. x }
-        (high_settled t.settled (next_word p l.request) l.before (omega arith)) (connecting_rule t.rule id v here mine n l low has),
+    beside t id v (without_loose v l.request) here some_ (set s.words (next_word p l.request) l.before) s.homes refl record { share = refl; lists = refl; finds = refl; stores = λ y z. omega arith; accepts = λ l. omega arith; labels = λ x. x }
+        (next_settled t.settled l.request l.before low) (connecting_rule t.rule id v here mine n l low has),
     λ q at. let e : next_word p l.request ≡ next_word p q = at ∙ ap (λ (z : Plan). next_word z q) mine in let same : l.request ≡ q = omega arith in ap (λ (x : ℕ). (without_loose v x, me.1)) same,
   )

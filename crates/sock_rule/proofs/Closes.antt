@@ -29,7 +29,7 @@ use Rattle.sock_model.specs.declared.chain.Claim.{Claim}
 use Rattle.sock_model.specs.Reads.{claims_of}
 use Rattle.sock_steps.proofs.Positions.{full_log}
 
-two_terms : {A : Type 0} (g : A → ℕ) (vs : List A) (i j : ℕ) (v u : A) → get_elem? vs i ≡ some v → get_elem? vs j ≡ some u → ¬ (j ≡ i) → g v + g u ≤ total g vs
+pub two_terms : {A : Type 0} (g : A → ℕ) (vs : List A) (i j : ℕ) (v u : A) → get_elem? vs i ≡ some v → get_elem? vs j ≡ some u → ¬ (j ≡ i) → g v + g u ≤ total g vs
 two_terms g [] i j v u e f ne = absurd (some-ne-none v (sym e))
 two_terms g (x ∷ xs) zero zero v u e f ne = absurd (ne refl)
 two_terms g (x ∷ xs) zero (suc j) v u e f ne = let a = ap g (some-injective x v e) in let b = term g xs j u f in omega arith
@@ -47,7 +47,7 @@ two_terms g (x ∷ xs) (suc i) zero v u e f ne = let a = ap g (some-injective x 
 two_terms g (x ∷ xs) (suc i) (suc j) v u e f ne = let a = two_terms g xs i j v u e f (λ q. ne (ap suc q)) in omega arith
 
 -- where no other has any, the sum is that of one
-none_of : {A : Type 0} (g : A → ℕ) (vs : List A) → ((j : ℕ) (u : A) → get_elem? vs j ≡ some u → g u ≡ 0) → total g vs ≡ 0
+pub none_of : {A : Type 0} (g : A → ℕ) (vs : List A) → ((j : ℕ) (u : A) → get_elem? vs j ≡ some u → g u ≡ 0) → total g vs ≡ 0
 none_of g [] h = refl
 none_of g (x ∷ xs) h = let a = h zero x refl in let b = none_of g xs (λ j u e. h (suc j) u e) in omega arith
 
@@ -68,7 +68,7 @@ module _ {S : Type 0} {shows : S → Home} {p : Plan} (s : State S View) (t : On
   pub counts : (f : Mark → ℕ) (i : ℕ) → count f (slot_facts s i) ≡ marks_of f i v
   counts f i = tally_is f i s.views ∙ only_one (marks_of f i) s.views id v here (λ j u e ne. ap (λ es. total f (about i es)) (others j u e ne).marks)
 
-  put_is : (x w : ℕ) → total (put_in x w) s.views ≡ put_in x w v
+  pub put_is : (x w : ℕ) → total (put_in x w) s.views ≡ put_in x w v
   put_is x w = only_one (put_in x w) s.views id v here (λ j u e ne. (others j u e ne).stores x w)
 
   module _ (rest : IsAtRest p v) (free : (i : ℕ) → i < p.slots → marks_of is_ref i v ≡ 0) where

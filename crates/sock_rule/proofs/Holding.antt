@@ -1,5 +1,5 @@
 -- Steps of whoever writes a link are allowed to a seat whose view meets their condition: A8, L1, L2, M2, P1, C5, C8, C4 and C6. The seat has one right.
-use Rattle.std.proofs.Common.{◌≡◌, ◌≢◌, ℕ, ◌+◌, ◌*◌, ◌%◌, ◌<◌, ◌⊎◌, ◌++◌, ne_eqb, Bool, true, false, List, [], ◌∷◌, length-set, cond, not, eqb, eq-eqb, get_or, get_or-set_same, set, refl, sym, ap, ◌∙◌, subst, arith}
+use Rattle.std.proofs.Common.{◌≡◌, ◌≢◌, ℕ, ◌+◌, ◌*◌, ◌%◌, ◌<◌, ne_eqb, Bool, true, false, List, [], ◌∷◌, length-set, cond, not, eqb, eq-eqb, get_or, get_or-set_same, set, refl, sym, ap, ◌∙◌, subst, arith}
 use Rattle.std.specs.List.{filter}
 use mathlib.Core.Logic.{dite}
 use mathlib.Core.Option.{Option, none, some}
@@ -21,7 +21,7 @@ use Rattle.sock_model.specs.Memory.{IDLE, UNCONNECTED}
 use Rattle.sock_model.specs.Entries.{slot_of, generation_of}
 use Rattle.sock_model.specs.Slots.{version_of}
 use Rattle.sock_model.specs.References.{slot_facts}
-use Rattle.sock_model.specs.SlotRows.{marks_of, looked}
+use Rattle.sock_model.specs.SlotRows.{marks_of, looked, wrote}
 use Rattle.sock_model.specs.ChainRows.{with_right, without_right, walking_right, passing_right, reading_right, turned_right, freed_stage, freed_right, placed_right, dropped_right, taken_right}
 use Rattle.sock_model.specs.Conditions.{HasRight, MayPlace, MayDrop, MayTake, MayEmpty, MayTurn}
 use Rattle.sock_model.specs.Deliveries.{place_value}
@@ -47,8 +47,9 @@ use Rattle.sock_rule.proofs.Allowed.{word_fits}
 use Rattle.sock_rule.proofs.Beside.{SameShare, beside}
 use Rattle.sock_rule.proofs.Moving.{loaded}
 use Rattle.sock_rule.proofs.Chaining.{first_is}
-use Rattle.sock_rule.proofs.Settling.{slot_settled, high_settled, home_settled, home_taken_settled, back_settled, home_back_settled}
-use Rattle.sock_rule.proofs.Reached.{writes_taken, passes_ticket, walk_ticket, turns_ticket, free_home_law, spent_home_law, hand_label, next_few}
+use Rattle.sock_rule.proofs.Settling.{slot_settled, next_settled, place_settled, load_settled, home_settled, home_taken_settled, back_settled, home_back_settled}
+use Rattle.sock_rule.proofs.Placing.{places_beside, drops_beside}
+use Rattle.sock_rule.proofs.Reached.{writes_taken, passes_ticket, walk_ticket, turns_ticket, turn_ticket, free_home_law, spent_home_law, hand_label, next_few}
 
 pub the_right : (l : List Right) (a b : Right) → l ≡ a ∷ [] → l ≡ b ∷ [] → a ≡ b
 the_right l a b e f = let h : a ∷ [] ≡ b ∷ [] = sym e ∙ f in cc
@@ -78,7 +79,7 @@ module _ {S : Type 0} (shows : S → Home) (p : Plan) (slots id : ℕ) (me : Me 
   has_one = record { right = r; place = 0; has = ap (λ (l : List Right). get_elem? l 0) one }
 
   quiet : (r' : Right) → SameShare p v (with_right v r')
-  quiet r' = record { share = refl; lists = refl; finds = refl; stores = λ x y. omega arith; labels = λ x. x }
+  quiet r' = record { share = refl; lists = refl; finds = refl; stores = λ x y. omega arith; accepts = λ l. omega arith; labels = λ x. x }
 
   its : (q : Right) → me.0.rights ≡ q ∷ [] → r ≡ q
   its q e = the_right me.0.rights r q one e
@@ -96,7 +97,7 @@ module _ {S : Type 0} (shows : S → Home) (p : Plan) (slots id : ℕ) (me : Me 
         with_right (looked i found v) (record r { clean = true }),
         keeps,
         tt,
-        beside t id v w here some_ (set s.words (ref_word i) found) s.homes refl record { share = refl; lists = refl; finds = refl; stores = λ x y. omega arith; labels = λ x. x } (slot_settled t.settled (ref_word i) found (omega arith) (λ j e. omega arith))
+        beside t id v w here some_ (set s.words (ref_word i) found) s.homes refl record { share = refl; lists = refl; finds = refl; stores = λ x y. omega arith; accepts = λ l. omega arith; labels = λ x. x } (slot_settled t.settled (ref_word i) found (omega arith) (λ j e. omega arith))
             (load_rule t.rule id v here mine (ref_word i) found refl w record { plan = refl; found = refl; lists = refl } (clean_look_law shows p s t.rule.lawful id v here has_one i h holds fits even)),
         λ q x e at. let same : i ≡ x = omega arith in let k = its q e in (told x at, (λ z. λ y. (with_right (looked (same y) found v) (record (k y) { clean = true }), me.1)), λ odd. absurd (odd even)),
       ))
@@ -104,7 +105,7 @@ module _ {S : Type 0} (shows : S → Home) (p : Plan) (slots id : ℕ) (me : Me 
         looked i found v,
         keeps,
         tt,
-        beside t id v (looked i found v) here some_ (set s.words (ref_word i) found) s.homes refl record { share = refl; lists = refl; finds = refl; stores = λ x y. omega arith; labels = λ x. x } (slot_settled t.settled (ref_word i) found (omega arith) (λ j e. omega arith))
+        beside t id v (looked i found v) here some_ (set s.words (ref_word i) found) s.homes refl record { share = refl; lists = refl; finds = refl; stores = λ x y. omega arith; accepts = λ l. omega arith; labels = λ x. x } (slot_settled t.settled (ref_word i) found (omega arith) (λ j e. omega arith))
             (look_rule t.rule id v here mine i inside fits),
         λ q x e at. let same : i ≡ x = omega arith in (told x at, (λ even. absurd (odd even)), λ z. λ y. (looked (same y) found v, me.1)),
       ))
@@ -167,16 +168,17 @@ module _ {S : Type 0} (shows : S → Home) (p : Plan) (slots id : ℕ) (me : Me 
       )
 
   -- P1
-  pub places : (now : ℕ) → r.stage ≡ Writes now → r.taken ≡ true → r.clean ≡ true → r.at_home ≡ false → r.heading.place < 8 * p.operations
+  pub places : (now : ℕ) → r.stage ≡ Writes now → r.taken ≡ true → r.clean ≡ true → r.at_home ≡ false → r.heading.place < 8 * p.operations → r.link < 65536
       → Allows (OnTable shows p) slots id me (place_word p r.heading.place) (λ _. place_value false r.link r.places) (λ _. place_told (step slots (place_word p r.heading.place) (place_value false r.link r.places) 0 none) me (place_value false r.link r.places))
-  places now stage taken clean away label s t long here fits = let may : MayPlace p v = record { mine = has_one; now = now; stage = stage; taken = taken; is_clean = clean; away = away; label_in = label } in let w : View = with_right v (placed_right r now) in (
-    with_right v (placed_right r now),
-    keeps,
-    tt,
-    beside t id v w here some_ (set s.words (place_word p r.heading.place) (place_value false r.link r.places)) s.homes refl (quiet (placed_right r now)) (high_settled t.settled (place_word p r.heading.place) (place_value false r.link r.places) (omega arith))
-        (place_rule t.rule id v here mine r.heading.place (place_value false r.link r.places) (placed_right r now) s.homes (placing_law shows p id v may s t.rule.lawful here)),
-    λ q m e st. let same = its q e in let sm : now ≡ m = writes_same now m (sym stage ∙ (ap (λ (z : Right). z.stage) same ∙ st)) in λ z. (with_right v (placed_right (same z) (sm z)), me.1),
-  )
+  places now stage taken clean away label narrow s t long here fits = let may : MayPlace p v = record { mine = has_one; now = now; stage = stage; taken = taken; is_clean = clean; away = away; label_in = label } in let w : View = with_right v (placed_right r now) in
+      let value : ℕ = place_value false r.link r.places in (
+        with_right v (placed_right r now),
+        keeps,
+        tt,
+        places_beside t id v here r one now stage taken label value w (omega (arith, next_few t.rule id v here r now one stage)) some_ (quiet (placed_right r now)) refl (place_settled t.settled r.heading.place value t.stored (λ y yl. refl) (omega (arith, t.rule.lawful.references.sized)))
+            (place_rule t.rule id v here mine r.heading.place value (placed_right r now) s.homes (placing_law shows p id v may s t.rule.lawful here)),
+        λ q m e st. let same = its q e in let sm : now ≡ m = writes_same now m (sym stage ∙ (ap (λ (z : Right). z.stage) same ∙ st)) in λ z. (with_right v (placed_right (same z) (sm z)), me.1),
+      )
 
   -- the life of a link whose life the seat holds and found failed was failed
   failed_life : (s : State S View) → OnTable shows p s → get_elem? s.views id ≡ some me.0 → (j h : ℕ) → HoldsLink p me.0 j h r.link → 0 < marks_of (is_saw (h + 1)) j me.0 → Failed p s r.link
@@ -189,14 +191,14 @@ module _ {S : Type 0} (shows : S → Home) (p : Plan) (slots id : ℕ) (me : Me 
   pub drops : (now j h : ℕ) (y : ℕ × S) → r.stage ≡ Writes now → r.taken ≡ true → r.at_home ≡ false → r.heading.place < 8 * p.operations → Part r (took_in (shows y.1)) → me.1 ≡ y ∷ rest me.1 → HoldsLink p v j h r.link → 0 < marks_of (is_saw (h + 1)) j v
       → Allows (OnTable shows p) slots id me (place_word p r.heading.place) (λ _. place_value true r.link r.places) (λ _. drop_told shows (step slots (place_word p r.heading.place) (place_value true r.link r.places) 0 none) me (place_value true r.link r.places))
   drops now j h y stage taken away label part top holds seen s t long here fits = let may : MayDrop p v = record { mine = has_one; now = now; sent = took_in (shows y.1); stage = stage; taken = taken; away = away; label_in = label; part = part } in
-      let w : View = with_right v (dropped_right r now (took_in (shows y.1))) in (
-        with_right v (dropped_right r now (took_in (shows y.1))),
+      let u : View = with_right v (dropped_right r now (took_in (shows y.1))) in let x : ℕ = place_word p r.heading.place in let value : ℕ = place_value true r.link r.places in (
+        wrote (place_word p r.heading.place) (place_value true r.link r.places) (with_right v (dropped_right r now (took_in (shows y.1)))),
         keeps,
         tt,
-        beside t id v w here some_ (set s.words (place_word p r.heading.place) (place_value true r.link r.places)) s.homes refl (quiet (dropped_right r now (took_in (shows y.1)))) (high_settled t.settled (place_word p r.heading.place) (place_value true r.link r.places) (omega arith))
-            (place_rule t.rule id v here mine r.heading.place (place_value true r.link r.places) (dropped_right r now (took_in (shows y.1))) s.homes (dropping_law shows p id v may s t.rule.lawful here (failed_life s t here j h holds seen))),
+        drops_beside t id v here r one now stage taken label value u (omega arith) some_ mine (quiet (dropped_right r now (took_in (shows y.1)))) refl (omega (arith, t.rule.lawful.references.sized)) (λ noted same. place_settled t.settled r.heading.place value noted same (omega (arith, t.rule.lawful.references.sized)))
+            (place_rule t.rule id v here mine r.heading.place value (dropped_right r now (took_in (shows y.1))) s.homes (dropping_law shows p id v may s t.rule.lawful here (failed_life s t here j h holds seen))),
         λ q m z e st at. let same = its q e in let sm : now ≡ m = writes_same now m (sym stage ∙ (ap (λ (u : Right). u.stage) same ∙ st)) in let sy : y ≡ z = first_is y z (rest me.1) (rest me.1) (sym top ∙ at) in
-            λ u. (with_right v (dropped_right (same u) (sm u) (took_in (shows (sy u).1))), me.1),
+            λ i. (wrote x value (with_right v (dropped_right (same i) (sm i) (took_in (shows (sy i).1)))), me.1),
       )
 
   -- C5 after a message that has its place
@@ -225,7 +227,7 @@ module _ {S : Type 0} (shows : S → Home) (p : Plan) (slots id : ℕ) (me : Me 
         v,
         keeps,
         tt,
-        beside t id v v here some_ (set s.words x found) s.homes refl record { share = refl; lists = refl; finds = refl; stores = λ y z. omega arith; labels = λ y. y } (high_settled t.settled x found (omega arith))
+        beside t id v v here some_ (set s.words x found) s.homes refl record { share = refl; lists = refl; finds = refl; stores = λ y z. omega arith; accepts = λ l. omega arith; labels = λ y. y } (load_settled t.settled x)
             (load_rule t.rule id v here mine x found refl v record { plan = refl; found = refl; lists = refl } (idle_law shows p s o id v here x)),
         λ q e. ((λ m st far. absurd (not_placed q m e st)), (λ top_ at_ after_ st. ((λ z. refl), λ ne. absurd (ne waits)))),
       ))
@@ -262,7 +264,7 @@ module _ {S : Type 0} (shows : S → Home) (p : Plan) (slots id : ℕ) (me : Me 
         gives_back,
         tt,
         subst (λ (l : List (ℕ × S)). OnTable shows p record { words = set s.words (request_word p (slot_of now)) (2 * (generation_of now + 1)); homes = put_back s.homes l; views = set s.views id (with_right v (record r { stage = b })) }) (sym top)
-            (beside t id v w here some_ (set s.words x n) hs (length-set s.homes (slot_of now) (some y)) (quiet r') (back_settled t.settled (slot_of now) n y (omega (arith, t.housed)))
+            (beside t id v w here some_ (set s.words x n) hs (length-set s.homes (slot_of now) (some y)) (quiet r') (back_settled t.settled (slot_of now) n y low (omega (arith, t.housed)))
             (word_rule t.rule id v here mine w x n hs record { plan = refl; found = refl; lists = refl } (λ l z. absurd (omega arith)) law')),
         λ q e. let same = its q e in let st = leads_freed r.last now r.stage b leads in (λ u. (with_right v (record r { stage = sym st u }), rest me.1)) ∙ (λ u. (with_right v (freed_right (same u)), rest me.1)),
       )
@@ -296,7 +298,7 @@ module _ {S : Type 0} (shows : S → Home) (p : Plan) (slots id : ℕ) (me : Me 
         keeps,
         tt,
         subst (λ (b : Bool). OnTable shows p record { words = set s.words (head_word i) (either b (IDLE + r.last) found); homes = s.homes; views = set s.views id (without_right v r.link) }) (sym (eq-eqb found r.last won))
-            (beside t id v (without_right v r.link) here some_ (set s.words x (IDLE + r.last)) s.homes refl record { share = refl; lists = refl; finds = refl; stores = λ y z. omega arith; labels = λ y. y } (slot_settled t.settled x (IDLE + r.last) (let a = holds.inside in omega arith) (λ j e. omega arith))
+            (beside t id v (without_right v r.link) here some_ (set s.words x (IDLE + r.last)) s.homes refl record { share = refl; lists = refl; finds = refl; stores = λ y z. omega arith; accepts = λ l. omega arith; labels = λ y. y } (slot_settled t.settled x (IDLE + r.last) (let a = holds.inside in omega arith) (λ j e. omega arith))
             (emptied_rule t.rule id v here mine i r.last (IDLE + r.last) may holds.inside won)),
         λ q e. let same = its q e in ((λ z. λ u. (without_right v (same u).link, me.1)), λ ne. absurd (ne won)),
       ))
@@ -318,7 +320,7 @@ module _ {S : Type 0} (shows : S → Home) (p : Plan) (slots id : ℕ) (me : Me 
     with_right v (turned_right r top a before),
     keeps,
     tt,
-    beside t id v w here some_ (set s.words (next_word p (slot_of a)) next) s.homes refl (quiet (turned_right r top a before)) (high_settled t.settled (next_word p (slot_of a)) next (omega arith)) (turning_rule t.rule id v here mine next x),
+    beside t id v w here some_ (set s.words (next_word p (slot_of a)) next) s.homes refl (quiet (turned_right r top a before)) (next_settled t.settled (slot_of a) next (turn_ticket t.rule.lawful id v here r one top a next before stage).inside) (turning_rule t.rule id v here mine next x),
     λ q top_ at_ after_ before_ e st. turns_as top a next before top_ at_ after_ before_ (sym stage ∙ (ap (λ (u : Right). u.stage) (its q e) ∙ st)) q (its q e),
   )
     where

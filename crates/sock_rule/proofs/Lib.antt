@@ -16,3 +16,6 @@ pub mod Holding
 pub mod Sending
 pub mod Owning
 pub mod LinksBack
+pub mod Counting
+pub mod Placing
+pub mod DropsTold

@@ -51,7 +51,7 @@ module _ {S : Type 0} (shows : S → Home) (p : Plan) (slots id : ℕ) (me : Me 
         takes (p.requests + k) a.0,
         a.4,
         loaded s (link_word i) id (with_hand v record { link = k; took = a.1; next = a.2 }) hs
-            (beside t id v (with_hand v record { link = k; took = a.1; next = a.2 }) here some_ s.words hs (length-set s.homes (p.requests + k) none) record { share = refl; lists = refl; finds = refl; stores = λ x y. omega arith; labels = λ x. x } (home_settled t.settled (p.requests + k) _ (omega arith))
+            (beside t id v (with_hand v record { link = k; took = a.1; next = a.2 }) here some_ s.words hs (length-set s.homes (p.requests + k) none) record { share = refl; lists = refl; finds = refl; stores = λ x y. omega arith; accepts = λ l. omega arith; labels = λ x. x } (home_settled t.settled (p.requests + k) _ (omega arith))
             (take_rule t.rule id v here mine h hs (a.6 none refl))),
         λ x z l at some_z some_met. let e : i ≡ x = omega arith in
             let its : 0 < marks_of (is_recycled z) i v = subst (λ (y : ℕ). 0 < marks_of (is_recycled z) y v) (sym e) some_z in
@@ -81,7 +81,7 @@ module _ {S : Type 0} (shows : S → Home) (p : Plan) (slots id : ℕ) (me : Me 
         takes (p.requests + k) a.0,
         a.1,
         loaded s x id (spent_hand v record { link = k; took = []; next = 0 }) hs
-            (beside t id v (spent_hand v record { link = k; took = []; next = 0 }) here some_ s.words hs (length-set s.homes (p.requests + k) none) record { share = refl; lists = refl; finds = refl; stores = λ y z. omega arith; labels = λ x. x } (home_settled t.settled (p.requests + k) _ (omega arith))
+            (beside t id v (spent_hand v record { link = k; took = []; next = 0 }) here some_ s.words hs (length-set s.homes (p.requests + k) none) record { share = refl; lists = refl; finds = refl; stores = λ y z. omega arith; accepts = λ l. omega arith; labels = λ x. x } (home_settled t.settled (p.requests + k) _ (omega arith))
             (spend_rule t.rule id v here mine h hs (a.3 none refl))),
         λ l other. let same : k ≡ l = ap (λ (y : List ℕ). get_or y 0 0) (sym pass ∙ other) in
             subst (λ (y : ℕ). TookLink shows me (spent_hand v record { link = k; took = []; next = 0 }, (p.requests + k, a.0) ∷ me.1) y (λ took next. spent_hand v record { link = y; took = took; next = next })) same record {
@@ -105,7 +105,7 @@ module _ {S : Type 0} (shows : S → Home) (p : Plan) (slots id : ℕ) (me : Me 
         gives_back,
         tt,
         subst (λ (c : List (ℕ × S)). OnTable shows p record { words = set s.words x (get_or s.words x 0); homes = put_back s.homes c; views = set s.views id (without_hand v h.link) }) (sym top)
-            (loaded s x id (without_hand v h.link) hs (beside t id v (without_hand v h.link) here some_ s.words hs (length-set s.homes (p.requests + h.link) (some y)) record { share = refl; lists = refl; finds = refl; stores = λ y z. omega arith; labels = λ x. x } (home_settled t.settled (p.requests + h.link) _ (omega arith))
+            (loaded s x id (without_hand v h.link) hs (beside t id v (without_hand v h.link) here some_ s.words hs (length-set s.homes (p.requests + h.link) (some y)) record { share = refl; lists = refl; finds = refl; stores = λ y z. omega arith; accepts = λ l. omega arith; labels = λ x. x } (home_settled t.settled (p.requests + h.link) _ (omega arith))
             (put_rule t.rule id v here mine h.link hs law))),
         λ k z others at. let q : (p.requests + h.link, y) ∷ below ≡ (me.0.plan.requests + k, z) ∷ others = sym top ∙ at in
             let same : h.link ≡ k = (let a = ap (λ (c : List (ℕ × S)). first_of c) q in let b = ap (λ (z : Plan). z.requests) mine in omega arith) in

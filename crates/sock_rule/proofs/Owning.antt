@@ -41,7 +41,7 @@ module _ {S : Type 0} (shows : S → Home) (q p : Plan) (slots id : ℕ) (me : M
       subst (λ (y : ℕ). Allows (OnTable shows q) slots id me word (λ _. y) (λ _. place_told (step slots word y 0 none) me y)) same_value
       (subst (λ (x : ℕ). Allows (OnTable shows q) slots id me x (λ _. place_value false m.right.link m.right.places) (λ _. place_told (step slots x (place_value false m.right.link m.right.places) 0 none) me (place_value false m.right.link m.right.places))) same_word
       (subst (λ (z : Plan). Allows (OnTable shows z) slots id me (place_word p m.right.heading.place) (λ _. place_value false m.right.link m.right.places) (λ _. place_told (step slots (place_word p m.right.heading.place) (place_value false m.right.link m.right.places) 0 none) me (place_value false m.right.link m.right.places))) (sym key)
-      (places shows p slots id me mine some_ m.right m.one m.now m.stage m.taken m.clean m.away (subst (λ (x : ℕ). x < 8 * p.operations) (sym m.place_is) m.place_in))))
+      (places shows p slots id me mine some_ m.right m.one m.now m.stage m.taken m.clean m.away (subst (λ (x : ℕ). x < 8 * p.operations) (sym m.place_is) m.place_in) (subst (λ (x : ℕ). x < 65536) (sym m.link_is) m.link_fits))))
 
   pub frees_on : (now word value : ℕ) → word ≡ request_word p (slot_of now) → value ≡ 2 * (generation_of now + 1) → generation_of now < 140737488355327 → MayFreeRequest now me → Allows (OnTable shows q) slots id me word (λ _. value) (λ _. free_request_told (step slots word value 0 none) me value)
   frees_on now word value e v small m = subst (λ (y : ℕ). Allows (OnTable shows q) slots id me word (λ _. y) (λ _. free_request_told (step slots word y 0 none) me y)) (sym v)

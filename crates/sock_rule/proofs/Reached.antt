@@ -111,6 +111,12 @@ module _ {S : Type 0} {shows : S → Home} {p : Plan} {s : State S View} (o : La
         let back : suc (held.counts.left - 2) ≡ held.counts.left - 1 = omega arith in
         entry_ticket r.link (held.counts.left - 2) before (omega (arith, f.2, f.3, some_)) (ap (nth (on r.link o.log)) back ∙ (sym c ∙ sym b))
 
+    -- the ticket at which the walk stands, whose next word was read
+    pub turn_ticket : (top a after before : ℕ) → r.stage ≡ Turns top a after before → IsTicket p a
+    turn_ticket top a after before stage = let f = held.fits in let walk = (in_stage (Turns top a after before) stage).0 in let some_ = walk.some_left in
+        let back : suc (held.counts.left - 1) ≡ held.counts.left = omega arith in
+        entry_ticket r.link (held.counts.left - 1) a (omega (arith, f.2, f.3, some_)) (ap (nth (on r.link o.log)) back ∙ walk.at_is)
+
   -- the generation of a request that isn't taken
   pub free_generation : (r : ℕ) → r < p.requests → get_or s.words (request_word p r) 0 % 2 ≡ 0 → get_or s.words (request_word p r) 0 / 2 < 140737488355328
   free_generation r rl even = let u = o.chains.in_use r rl in let f = free_of o.chains r (get_or s.words (request_word p r) 0 / 2) u (omega arith) in let w = f.word in omega (arith, u.small)

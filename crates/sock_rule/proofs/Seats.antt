@@ -13,6 +13,7 @@ use Rattle.sock_model.specs.declared.home.Home.TheVariants.{Link}
 use Rattle.sock_model.specs.declared.view.View.{View}
 use Rattle.sock_model.specs.declared.view.StoredWord.{StoredWord}
 use Rattle.sock_model.specs.Weights.{total}
+use Rattle.sock_model.specs.Layout.{place_word}
 use Rattle.sock_model.specs.Reads.{as_link, shown, link_at}
 use Rattle.sock_model.specs.Seats.{newcomer, carrier, earliest, later, joined, spent, first_view}
 use Rattle.sock_model.specs.Rule.{lists_of, Rule}
@@ -23,8 +24,9 @@ use Rattle.sock_steps.proofs.Maps.{set_at, set_twice}
 use Rattle.sock_steps.proofs.Reseat.{opening_law}
 use Rattle.sock_steps.proofs.RuleSeats.{opening_rule, splitting_rule, joining_rule}
 use Rattle.sock_steps.proofs.Carriers.{carrying_rule}
-use Rattle.sock_rule.specs.OnTable.{share_of, is_put, put_in, IsIdle, Labelled, OnTable, opener}
+use Rattle.sock_rule.specs.OnTable.{share_of, is_put, put_in, is_labelled, labelled_in, IsIdle, Labelled, OnTable, opener}
 use Rattle.sock_rule.specs.Seated.{giving, given, MayGive, passing, passed, IsDone, IsNew}
+use Rattle.sock_rule.proofs.Beside.{drop_stays}
 use Rattle.sock_rule.proofs.Finds.{aside_rule}
 
 -- of a weight that is at most another, and less by d at one place, the sum is less by d
@@ -57,7 +59,9 @@ opens {S} shows p ws xs new = let hs : List (Option S) = map some xs in let v : 
       stored = [];
       put = λ x w. omega arith;
       met = λ id u e n h g. absurd (some-ne-none h (sym (subst (λ (z : View). get_elem? z.histories n ≡ some h) (sym (one_view (opener p) u id e)) g)));
-      settled = record { names = new_names; codes = λ i il. omega (arith, new.unused.codes i il); present = λ r rl even. some_there xs r (omega (arith, new.homes)) };
+      placed = λ l. 0;
+      drops = λ l ll. record { told = λ high. absurd (omega arith); stays = λ one n some_. absurd (omega arith) };
+      settled = record { names = new_names; places = new.places; codes = λ i il. omega (arith, new.unused.codes i il); present = λ r rl even. some_there xs r (omega (arith, new.homes)) };
       labelled = λ id u e. subst (Labelled p) (one_view (opener p) u id e) record { entries = λ n l f i x g. no_entries n l f i x g; claimed = λ i c f. absurd (some-ne-none c (sym f)) };
       found_was = λ id u e n x g. absurd (some-ne-none x (sym (subst (λ (z : View). get_elem? z.finds n ≡ some x) (sym (one_view (opener p) u id e)) g)));
     }
@@ -78,10 +82,10 @@ opens {S} shows p ws xs new = let hs : List (Option S) = map some xs in let v : 
 
 module _ {S : Type 0} (shows : S → Home) (p : Plan) (id : ℕ) (v : View) (mine : v.plan ≡ p) where
   -- what holds beside the rule once a seat is added that found nothing
-  adds_seat : (s : State S View) (t : OnTable shows p s) → get_elem? s.views id ≡ some v → (left right : View) → 0 < left.share → ◌≡◌ {A = List StoredWord × List (List StoredWord)} (left.finds, left.histories) (v.finds, v.histories) → left.stores ≡ v.stores → lists_of left ≤ left.share → left.share + right.share ≡ v.share
+  adds_seat : (s : State S View) (t : OnTable shows p s) → get_elem? s.views id ≡ some v → (left right : View) → 0 < left.share → ◌≡◌ {A = List StoredWord × List (List StoredWord)} (left.finds, left.histories) (v.finds, v.histories) → left.stores ≡ v.stores → ((l : ℕ) → labelled_in l v ≤ labelled_in l left) → lists_of left ≤ left.share → left.share + right.share ≡ v.share
       → lists_of right ≤ right.share → (right.share ≡ 0 → IsIdle right) → ◌≡◌ {A = List StoredWord × (List (List StoredWord) × List (List StoredWord))} (right.finds, (right.histories, right.stores)) ([], ([], [] ∷ [])) → (Labelled p v → Labelled p left) → Labelled p right → Rule shows p record { words = s.words; homes = s.homes; views = set s.views id left ++ right ∷ [] }
       → OnTable shows p record { words = s.words; homes = s.homes; views = set s.views id left ++ right ∷ [] }
-  adds_seat s t here left right some_left finds stores fits sum fits_too idle_too none_found labels labels_too r = let first : List View = set s.views id left in
+  adds_seat s t here left right some_left finds stores accepts fits sum fits_too idle_too none_found labels labels_too r = let first : List View = set s.views id left in
       let finds_stay : left.finds ≡ v.finds = ap (λ (q : List StoredWord × List (List StoredWord)). q.0) finds in let met_stay : left.histories ≡ v.histories = ap (λ (q : List StoredWord × List (List StoredWord)). q.1) finds in
       let no_finds : right.finds ≡ [] = ap (λ (q : List StoredWord × (List (List StoredWord) × List (List StoredWord))). q.0) none_found in let no_met : right.histories ≡ [] = ap (λ (q : List StoredWord × (List (List StoredWord) × List (List StoredWord))). q.1.0) none_found in
       let no_stores : right.stores ≡ [] ∷ [] = ap (λ (q : List StoredWord × (List (List StoredWord) × List (List StoredWord))). q.1.1) none_found in
@@ -95,6 +99,8 @@ module _ {S : Type 0} (shows : S → Home) (p : Plan) (id : ℕ) (v : View) (min
             (λ e. subst IsIdle e (idle_too (ap share_of e ∙ none_))) (at_snoc first right u j g);
         stored = t.stored;
         put = λ x w. t.put x w ∙ more x w;
+        placed = t.placed;
+        drops = λ l ll. drop_stays p s.views (set s.views id left ++ right ∷ []) l (t.placed l) (λ n. more (place_word p l) n) (omega (arith, total-append (labelled_in l) first (right ∷ []), total-set (labelled_in l) s.views id v left here, accepts l)) (t.drops l ll);
         settled = t.settled;
         met = λ j u g n h e. ⊎_elim
             (λ a. ⊎_elim (λ y. t.met id v here n h (subst (λ (l : List (List StoredWord)). get_elem? l n ≡ some h) met_stay (subst (λ (z : View). get_elem? z.histories n ≡ some h) (sym y.1) e))) (λ y. t.met j u y.1 n h e) (at_set s.views id j left u a))
@@ -115,7 +121,7 @@ module _ {S : Type 0} (shows : S → Home) (p : Plan) (id : ℕ) (v : View) (min
       let r : Rule shows p record { words = s.words; homes = s.homes; views = set s.views id (giving v) ++ given v ∷ [] } =
       subst (λ (z : View). Rule shows p record { words = s.words; homes = s.homes; views = set s.views id (giving v) ++ z ∷ [] }) is
       (subst (λ vs. Rule shows p record { words = s.words; homes = s.homes; views = vs ++ newcomer p [] 0 ∷ [] }) (set_twice s.views id v' (giving v)) two) in
-      adds_seat s t here (giving v) (given v) (omega (arith, may.another)) refl refl (omega (arith, may.more)) (omega (arith, may.another)) (omega arith) (λ e. absurd (omega arith)) refl (λ x. record { entries = x.entries; claimed = x.claimed }) record { entries = λ n l e i x f. no_entries n l e i x f; claimed = λ i c e. absurd (some-ne-none c (sym e)) } r
+      adds_seat s t here (giving v) (given v) (omega (arith, may.another)) refl refl (λ l. omega arith) (omega (arith, may.more)) (omega (arith, may.another)) (omega arith) (λ e. absurd (omega arith)) refl (λ x. record { entries = x.entries; claimed = x.claimed }) record { entries = λ n l e i x f. no_entries n l e i x f; claimed = λ i c e. absurd (some-ne-none c (sym e)) } r
     where
       no_entries : (n : ℕ) (l : List Entry) → get_elem? ([] ∷ []) n ≡ some l → (i : ℕ) (e : Entry) → get_elem? l i ≡ some e → e.heading.place < 8 * p.operations
       no_entries zero l e i x f = absurd (some-ne-none x (sym (ap (λ (y : List Entry). get_elem? y i) (some-injective [] l e) ∙ f)))
@@ -126,7 +132,7 @@ module _ {S : Type 0} (shows : S → Home) (p : Plan) (id : ℕ) (v : View) (min
   passes_out room some_ s t here = let two = carrying_rule t.rule id v here mine (later v.passes) (earliest v.passes) (v.spare - 1) (λ k. omega (arith, passes-left k v.passes)) (omega (arith, room)) in
       let r : Rule shows p record { words = s.words; homes = s.homes; views = set s.views id (passing v) ++ passed v ∷ [] } =
       subst (λ (q : Plan). Rule shows p record { words = s.words; homes = s.homes; views = set s.views id (passing v) ++ carrier q (earliest v.passes) ∷ [] }) (sym mine) two in
-      adds_seat s t here (passing v) (passed v) some_ refl refl (t.listed id v here) (omega arith) (omega arith) (λ e. record { marks = refl; lists = refl; finds = refl; stores = λ x w. refl; claims = refl; loose = refl; rights = refl; hands = refl }) refl (λ x. record { entries = x.entries; claimed = x.claimed }) record { entries = λ n l e. absurd (some-ne-none l (sym e)); claimed = λ i c e. absurd (some-ne-none c (sym e)) } r
+      adds_seat s t here (passing v) (passed v) some_ refl refl (λ l. omega arith) (t.listed id v here) (omega arith) (omega arith) (λ e. record { marks = refl; lists = refl; finds = refl; stores = λ x w. refl; claims = refl; loose = refl; rights = refl; hands = refl }) refl (λ x. record { entries = x.entries; claimed = x.claimed }) record { entries = λ n l e. absurd (some-ne-none l (sym e)); claimed = λ i c e. absurd (some-ne-none c (sym e)) } r
 
   -- a seat takes in another
   pub takes : 0 < v.share → (other : ℕ) (w : View) → IsDone p w → Joins (OnTable shows p) id v other w (joined v w) spent
@@ -144,6 +150,8 @@ module _ {S : Type 0} (shows : S → Home) (p : Plan) (id : ℕ) (v : View) (min
             (λ y. ⊎_elim (λ q. absurd (omega (arith, ap share_of q.1))) (λ q. t.idle j u q.1 none_) (at_set s.views id j both u y.1)) (at_set first other j spent u g);
         stored = t.stored;
         put = λ x y. t.put x y ∙ more x y;
+        placed = t.placed;
+        drops = λ l ll. drop_stays p s.views (set first other spent) l (t.placed l) (λ n. more (place_word p l) n) (omega (arith, total-set (labelled_in l) s.views id v both here, total-set (labelled_in l) first other w spent there, total-append (total (is_labelled l)) v.lists w.lists)) (t.drops l ll);
         settled = t.settled;
         met = λ j u g n h e. ⊎_elim (λ y. absurd (some-ne-none h (sym (subst (λ (z : View). get_elem? z.histories n ≡ some h) (sym y.1) e))))
             (λ y. ⊎_elim (λ q. ⊎_elim (λ a. t.met id v here n h a) (λ a. t.met other w its a.0 h a.1) (at_append v.histories w.histories n h (subst (λ (z : View). get_elem? z.histories n ≡ some h) (sym q.1) e)))

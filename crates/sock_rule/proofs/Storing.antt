@@ -55,7 +55,7 @@ module _ {S : Type 0} (shows : S → Home) (p : Plan) (slots id : ℕ) (me : Me 
       linked i k v,
       keeps,
       tt,
-      beside t id v (linked i k v) here some_ (set s.words (link_word i) k) s.homes refl record { share = refl; lists = refl; finds = refl; stores = λ x y. omega arith; labels = λ x. x } (slot_settled t.settled _ _ (omega arith) (λ j e. omega arith)) (link_rule t.rule id v here mine i inside k there pass),
+      beside t id v (linked i k v) here some_ (set s.words (link_word i) k) s.homes refl record { share = refl; lists = refl; finds = refl; stores = λ x y. omega arith; accepts = λ l. omega arith; labels = λ x. x } (slot_settled t.settled _ _ (omega arith) (λ j e. omega arith)) (link_rule t.rule id v here mine i inside k there pass),
       λ x at. let e : i ≡ x = omega arith in ap (λ (y : ℕ). (linked y k v, me.1)) e,
     )
 
@@ -89,7 +89,7 @@ module _ {S : Type 0} (shows : S → Home) (p : Plan) (slots id : ℕ) (me : Me 
           met_link i h k v,
           keeps,
           tt,
-          beside t id v (met_link i h k v) here some_ (set s.words (link_word i) k) s.homes refl record { share = refl; lists = refl; finds = refl; stores = λ x y. omega arith; labels = λ x. x } (slot_settled t.settled _ _ (omega arith) (λ j e. omega arith)) (meet_rule t.rule id v here mine i inside h there),
+          beside t id v (met_link i h k v) here some_ (set s.words (link_word i) k) s.homes refl record { share = refl; lists = refl; finds = refl; stores = λ x y. omega arith; accepts = λ l. omega arith; labels = λ x. x } (slot_settled t.settled _ _ (omega arith) (λ j e. omega arith)) (meet_rule t.rule id v here mine i inside h there),
           λ x g at other. let e : i ≡ x = omega arith in let same : h ≡ g = held_is s t here h g there (at_slot (is_hold g) x e other) in (
             (λ q. (met_link (e q) (same q) k v, me.1)),
             (λ l mt. let m1 : 0 < marks_of (is_met g l) i v = at_slot (is_met g l) x e mt in let hg : 0 < marks_of (is_hold g) i v = at_slot (is_hold g) x e other in
@@ -105,7 +105,7 @@ module _ {S : Type 0} (shows : S → Home) (p : Plan) (slots id : ℕ) (me : Me 
       met_link i (w - 2) k v,
       keeps,
       tt,
-      beside t id v (met_link i (w - 2) k v) here some_ (set s.words (link_word i) k) s.homes refl record { share = refl; lists = refl; finds = refl; stores = λ x y. omega arith; labels = λ x. x } (slot_settled t.settled _ _ (omega arith) (λ j e. omega arith)) (meet_last_rule t.rule id v here mine i inside w there),
+      beside t id v (met_link i (w - 2) k v) here some_ (set s.words (link_word i) k) s.homes refl record { share = refl; lists = refl; finds = refl; stores = λ x y. omega arith; accepts = λ l. omega arith; labels = λ x. x } (slot_settled t.settled _ _ (omega arith) (λ j e. omega arith)) (meet_last_rule t.rule id v here mine i inside w there),
       λ x g at other. let e : i ≡ x = omega arith in let same : w ≡ g = last_is s t here w g there (at_slot (is_recycled g) x e other) in ((λ q. (met_link (e q) (same q - 2) k v, me.1)), subst (λ (q : Plan). k < q.links) (sym mine) its),
     )
 
@@ -115,7 +115,7 @@ module _ {S : Type 0} (shows : S → Home) (p : Plan) (slots id : ℕ) (me : Me 
       staged i 1 k 2 v,
       keeps,
       tt,
-      beside t id v (staged i 1 k 2 v) here some_ (set s.words (head_word i) IDLE) s.homes refl record { share = refl; lists = refl; finds = refl; stores = λ x y. omega arith; labels = λ x. x } (slot_settled t.settled _ _ (omega arith) (λ j e. omega arith)) (reset_rule t.rule id v here mine i inside k there),
+      beside t id v (staged i 1 k 2 v) here some_ (set s.words (head_word i) IDLE) s.homes refl record { share = refl; lists = refl; finds = refl; stores = λ x y. omega arith; accepts = λ l. omega arith; labels = λ x. x } (slot_settled t.settled _ _ (omega arith) (λ j e. omega arith)) (reset_rule t.rule id v here mine i inside k there),
       λ x g at other. let e : i ≡ x = omega arith in let same : k ≡ g = staged_is s t here 1 k g (omega arith) there (at_slot (is_stage 1 g) x e other) in λ q. (staged (e q) 1 (same q) 2 v, me.1),
     )
 
@@ -125,7 +125,7 @@ module _ {S : Type 0} (shows : S → Home) (p : Plan) (slots id : ℕ) (me : Me 
       staged i 2 k 3 v,
       keeps,
       tt,
-      beside t id v (staged i 2 k 3 v) here some_ (set s.words (code_word i) 0) s.homes refl record { share = refl; lists = refl; finds = refl; stores = λ x y. omega arith; labels = λ x. x } (code_settled t.settled i 0 inside (omega arith) (omega (arith, t.rule.lawful.references.sized))) (wipe_rule t.rule id v here mine i inside k there),
+      beside t id v (staged i 2 k 3 v) here some_ (set s.words (code_word i) 0) s.homes refl record { share = refl; lists = refl; finds = refl; stores = λ x y. omega arith; accepts = λ l. omega arith; labels = λ x. x } (code_settled t.settled i 0 inside (omega arith) (omega (arith, t.rule.lawful.references.sized))) (wipe_rule t.rule id v here mine i inside k there),
       λ x g at other. let e : i ≡ x = omega arith in let same : k ≡ g = staged_is s t here 2 k g (omega arith) there (at_slot (is_stage 2 g) x e other) in λ q. (staged (e q) 2 (same q) 3 v, me.1),
     )
 
@@ -135,7 +135,7 @@ module _ {S : Type 0} (shows : S → Home) (p : Plan) (slots id : ℕ) (me : Me 
       coded i h c v,
       keeps,
       tt,
-      beside t id v (coded i h c v) here some_ (set s.words (code_word i) c) s.homes refl record { share = refl; lists = refl; finds = refl; stores = λ x y. omega arith; labels = λ x. x } (code_settled t.settled i c inside small (omega (arith, t.rule.lawful.references.sized))) (code_rule t.rule id v here mine i inside h c there no_zero),
+      beside t id v (coded i h c v) here some_ (set s.words (code_word i) c) s.homes refl record { share = refl; lists = refl; finds = refl; stores = λ x y. omega arith; accepts = λ l. omega arith; labels = λ x. x } (code_settled t.settled i c inside small (omega (arith, t.rule.lawful.references.sized))) (code_rule t.rule id v here mine i inside h c there no_zero),
       λ x g at other. let e : i ≡ x = omega arith in let same : h ≡ g = coding_is s t here h g there (at_slot (is_coding g) x e other) in λ q. (coded (e q) (same q) c v, me.1),
     )
 
@@ -151,7 +151,7 @@ module _ {S : Type 0} (shows : S → Home) (p : Plan) (slots id : ℕ) (me : Me 
           v,
           keeps,
           tt,
-          beside t id v v here some_ (set s.words (code_word i) c) s.homes refl record { share = refl; lists = refl; finds = refl; stores = λ x y. omega arith; labels = λ x. x } (load_settled t.settled _)
+          beside t id v v here some_ (set s.words (code_word i) c) s.homes refl record { share = refl; lists = refl; finds = refl; stores = λ x y. omega arith; accepts = λ l. omega arith; labels = λ x. x } (load_settled t.settled _)
               (load_rule t.rule id v here mine (code_word i) c refl v record { plan = refl; found = refl; lists = refl } (idle_law shows p s t.rule.lawful id v here (code_word i))),
           λ x g at other. let e : i ≡ x = omega arith in (ap (λ b. (cond b v (told_code x g c v), me.1)) (sym (eq-eqb c 0 zero_)), also x g e other, small),
         ))
@@ -159,7 +159,7 @@ module _ {S : Type 0} (shows : S → Home) (p : Plan) (slots id : ℕ) (me : Me 
           told_code i h c v,
           keeps,
           tt,
-          beside t id v (told_code i h c v) here some_ (set s.words (code_word i) c) s.homes refl record { share = refl; lists = refl; finds = refl; stores = λ x y. omega arith; labels = λ x. x } (load_settled t.settled _) (found_code_rule t.rule id v here mine i inside h there (omega arith)),
+          beside t id v (told_code i h c v) here some_ (set s.words (code_word i) c) s.homes refl record { share = refl; lists = refl; finds = refl; stores = λ x y. omega arith; accepts = λ l. omega arith; labels = λ x. x } (load_settled t.settled _) (found_code_rule t.rule id v here mine i inside h there (omega arith)),
           λ x g at other. let e : i ≡ x = omega arith in let same : h ≡ g = held_is s t here h g there (at_slot (is_hold g) x e other) in ((λ q. (told_code (e q) (same q) c v, me.1)) ∙ ap (λ b. (cond b v (told_code x g c v), me.1)) (sym (ne_eqb c 0 no_zero)), also x g e other, small),
         ))
 
@@ -170,7 +170,7 @@ module _ {S : Type 0} (shows : S → Home) (p : Plan) (slots id : ℕ) (me : Me 
     put_at (name_word p n) word (record { place = name_word p n; word = word } ∷ t.stored) v,
     keeps,
     tt,
-    puts_beside t id v here some_ mine (set s.words (name_word p n) word) (name_word p n) word (name_settled t.settled _ _ (omega arith) (omega arith) (omega (arith, t.rule.lawful.references.sized)))
+    puts_beside t id v here some_ mine (set s.words (name_word p n) word) (name_word p n) word (omega arith) (name_settled t.settled _ _ (omega arith) (omega arith) (omega (arith, t.rule.lawful.references.sized)))
         (store_name_note_rule t.rule id v here mine n low word some_word inside known),
     record { all = record { place = name_word p n; word = word } ∷ t.stored; view = refl; history = stored_history t id v here (name_word p n) word },
   )
@@ -182,7 +182,7 @@ module _ {S : Type 0} (shows : S → Home) (p : Plan) (slots id : ℕ) (me : Me 
     put_at (open_word p n) word (record { place = open_word p n; word = word } ∷ t.stored) v,
     keeps,
     tt,
-    puts_beside t id v here some_ mine (set s.words (open_word p n) word) (open_word p n) word (name_settled t.settled _ _ (omega arith) (omega arith) (omega (arith, t.rule.lawful.references.sized)))
+    puts_beside t id v here some_ mine (set s.words (open_word p n) word) (open_word p n) word (omega arith) (name_settled t.settled _ _ (omega arith) (omega arith) (omega (arith, t.rule.lawful.references.sized)))
         (store_open_note_rule t.rule id v here mine n low word i some_word inside how),
     record { all = record { place = open_word p n; word = word } ∷ t.stored; view = refl; history = stored_history t id v here (open_word p n) word },
   )
@@ -194,7 +194,7 @@ module _ {S : Type 0} (shows : S → Home) (p : Plan) (slots id : ℕ) (me : Me 
   finds_at x last high low names stores s t long here fits = let w : ℕ = get_or s.words x 0 in let i : ℕ = (w - 1) % 4294967296 in let h : ℕ = (w - 1) / 4294967296 in
       let fresh : get_or s.words x 0 ≢ NOTHING → get_or s.words x 0 ≢ 0 → (get_or s.words x 0 - 1) % 4294967296 < me.0.plan.slots = λ n z. subst (λ (q : Plan). (get_or s.words x 0 - 1) % 4294967296 < q.slots) (sym mine) (names s t n z).0 in
       let stays : (k : ℕ) → get_elem? me.0.found k ≡ some x → get_or s.words x 0 ≢ 0 = λ k e. (t.rule.found_words id v here k x e).1 in
-      let quiet : SameShare p v v = record { share = refl; lists = refl; finds = refl; stores = λ y z. omega arith; labels = λ x. x } in
+      let quiet : SameShare p v v = record { share = refl; lists = refl; finds = refl; stores = λ y z. omega arith; accepts = λ l. omega arith; labels = λ x. x } in
       let read : Rule shows p (stepped s x (get_or s.words x 0) id [] me.0 keeps) = load_rule t.rule id v here mine x w refl v record { plan = refl; found = refl; lists = refl } (idle_law shows p s t.rule.lawful id v here x) in
       dite (ℕ_discrete (get_or s.words x 0) 0)
       (λ zero_. (
@@ -211,7 +211,7 @@ module _ {S : Type 0} (shows : S → Home) (p : Plan) (slots id : ℕ) (me : Me 
         finding x w t.stored v,
         keeps,
         tt,
-        finds_beside t id v (noting x v) here some_ mine (set s.words x w) x w was record { share = refl; lists = refl; finds = refl; stores = λ y z. omega arith; labels = λ x. x } (load_settled t.settled _)
+        finds_beside t id v (noting x v) here some_ mine (set s.words x w) x w was record { share = refl; lists = refl; finds = refl; stores = λ y z. omega arith; accepts = λ l. omega arith; labels = λ x. x } (load_settled t.settled _)
             (step_notes s.views id v v (set s.words x w) s.homes here mine x last there read),
         (record { all = t.stored; view = ap (λ b. (cond b (finding x w t.stored v) (finding x w t.stored (met i h v)), me.1)) (sym (eq-eqb w 18446744073709551615 nothing)) ∙ ap (λ b. (cond b v (cond (eqb w 18446744073709551615) (finding x w t.stored v) (finding x w t.stored (met i h v))), me.1)) (sym (ne_eqb w 0 some_word)); history = found_history t id v here x high low }, (λ z n. fresh n z), stays),
       ))
@@ -219,7 +219,7 @@ module _ {S : Type 0} (shows : S → Home) (p : Plan) (slots id : ℕ) (me : Me 
         finding x w t.stored (met i h v),
         keeps,
         tt,
-        finds_beside t id v (noting x (met i h v)) here some_ mine (set s.words x w) x w was record { share = refl; lists = refl; finds = refl; stores = λ y z. omega arith; labels = λ x. x } (load_settled t.settled _)
+        finds_beside t id v (noting x (met i h v)) here some_ mine (set s.words x w) x w was record { share = refl; lists = refl; finds = refl; stores = λ y z. omega arith; accepts = λ l. omega arith; labels = λ x. x } (load_settled t.settled _)
             (find_note_rule t.rule id v here mine i its.0 x last h low its.1 some_word),
         (record { all = t.stored; view = ap (λ b. (cond b (finding x w t.stored v) (finding x w t.stored (met i h v)), me.1)) (sym (ne_eqb w 18446744073709551615 an_id)) ∙ ap (λ b. (cond b v (cond (eqb w 18446744073709551615) (finding x w t.stored v) (finding x w t.stored (met i h v))), me.1)) (sym (ne_eqb w 0 some_word)); history = found_history t id v here x high low }, (λ z n. fresh n z), stays),
       )))

@@ -13,7 +13,7 @@ use Rattle.sock_model.specs.Weights.{total, is_claimed, is_any_coding, is_zero, 
 use Rattle.sock_model.specs.Layout.{ref_word, request_word, place_word}
 use Rattle.sock_model.specs.Slots.{version_of, nref_of}
 use Rattle.sock_model.specs.SlotRows.{marks_of}
-use Rattle.sock_rule.specs.OnTable.{is_put, put_in, Follows}
+use Rattle.sock_rule.specs.OnTable.{is_put, put_in, DROPPED, Follows}
 
 -- between two calls a seat has nothing but references, rights and notes
 pub record IsAtRest (p : Plan) (v : View) : Type 0 where
@@ -61,6 +61,11 @@ PlacesDiffer log = (i j : ℕ) (a b : Entry) → get_elem? log i ≡ some a → 
 pub record LinkTook (p : Plan) (log : List Entry) (words : List ℕ) (k : ℕ) (took : List ℕ) : Type 0 where
   pub kept : ℕ
   pub fifo : PlacesDiffer log → IsFifo (λ l. slice_index words (place_word p l)) k (on k log) kept took
+
+-- of the place index l: a seat noted that it dropped the message there, with the word that stands there, where that has the dropped bit; and where the places of all labels differ, what a seat noted there is the word
+pub record IsDropTold (p : Plan) (log : List Entry) (v : View) (words : List ℕ) (l : ℕ) : Type 0 where
+  pub told : DROPPED ≤ slice_index words (place_word p l) → 0 < put_in (place_word p l) (slice_index words (place_word p l)) v
+  pub stays : PlacesDiffer log → (n : ℕ) → 0 < put_in (place_word p l) n v → (slice_index words (place_word p l) ≡ n) × (DROPPED ≤ n)
 
 -- the messages that all seats had accepted stand in one order, and each list that the last view keeps is what one of the seats had accepted, in its own order
 pub record Ordered (p : Plan) (found : List ℕ) (lists : List (List Entry)) : Type 0 where

@@ -62,6 +62,7 @@ pub record MayStorePlace (p : Plan) (l k places : ℕ) (v : View) : Type 0 where
   pub place_is : right.heading.place ≡ l
   pub place_in : l < 8 * p.operations
   pub link_is : right.link ≡ k
+  pub link_fits : k < 65536
   pub places_are : right.places ≡ places
 
 -- what a link took of a message that is dropped is a part of it at most, and only a clean right took any

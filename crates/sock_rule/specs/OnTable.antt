@@ -9,9 +9,9 @@ use Rattle.sock_model.specs.declared.chain.Claim.{Claim}
 use Rattle.sock_model.specs.declared.chain.Entry.{Entry}
 use Rattle.sock_model.specs.declared.view.View.{View}
 use Rattle.sock_model.specs.declared.view.StoredWord.{StoredWord}
-use Rattle.sock_model.specs.Weights.{total, pair}
+use Rattle.sock_model.specs.Weights.{total, only, pair}
 use Rattle.sock_model.specs.Marks.{latest}
-use Rattle.sock_model.specs.Layout.{code_word, request_word}
+use Rattle.sock_model.specs.Layout.{code_word, request_word, place_word}
 use Rattle.sock_model.specs.Seats.{first_view}
 use Rattle.sock_model.specs.Rule.{lists_of, Rule}
 
@@ -44,11 +44,29 @@ FindsWere views v = (n : ℕ) (x : StoredWord) → get_elem? v.finds n ≡ some 
 abbrev pub Follows : List StoredWord → List StoredWord → Type 0
 Follows all before = (more : List StoredWord) × (all ≡ more ++ before)
 
+-- the least word with the dropped bit
+abbrev pub DROPPED : ℕ
+DROPPED = 9223372036854775808
+
+-- how many of the messages that a view's lists have are of the label with this place index
+abbrev pub is_labelled : ℕ → Entry → ℕ
+is_labelled l e = only l e.heading.place
+
+abbrev pub labelled_in : ℕ → View → ℕ
+labelled_in l v = total (total (is_labelled l)) v.lists
+
+-- of the word of the place index l: a seat noted that it stored it, where it has the dropped bit, and what a seat noted so is the word still, unless two accepted messages have this index
+pub record IsDropKept (p : Plan) (views : List View) (l word : ℕ) : Type 0 where
+  pub told : DROPPED ≤ word → 0 < total (put_in (place_word p l) word) views
+  pub stays : total (labelled_in l) views ≤ 1 → (n : ℕ) → 0 < total (put_in (place_word p l) n) views → (word ≡ n) × (DROPPED ≤ n)
+
 -- each code fits 16 bits, and a request that isn't taken has its home there: a seat that claims one takes its home with it, gives it back with the message in it, takes it
 -- with the message, and gives it back where it frees the request
-pub record Settled {S : Type 0} (p : Plan) (stored : List StoredWord) (ws : List ℕ) (hs : List (Option S)) : Type 0 where
+pub record Settled {S : Type 0} (p : Plan) (stored : List StoredWord) (placed : ℕ → ℕ) (ws : List ℕ) (hs : List (Option S)) : Type 0 where
   -- the word of a name or of an operation is what was stored there last
   pub names : (x : ℕ) → 6 * p.slots ≤ x → x < 6 * p.slots + p.names + p.operations → slice_index ws x ≡ latest x stored
+  -- the word of each place index is the one that is looked at beside what was noted of it
+  pub places : (l : ℕ) → l < 8 * p.operations → slice_index ws (place_word p l) ≡ placed l
   pub codes : (i : ℕ) → i < p.slots → slice_index ws (code_word i) < 65536
   pub present : (r : ℕ) → r < p.requests → slice_index ws (request_word p r) % 2 ≡ 0 → (y : S) × (get_elem? hs r ≡ some (some y))
 
@@ -76,7 +94,10 @@ module _ {S : Type 0} (shows : S → Home) where
     -- all that was stored at names and operations, the latest first: what the seats stored, and nothing else
     pub stored : List StoredWord
     pub put : (x w : ℕ) → total (is_put x w) stored ≡ total (put_in x w) s.views
-    pub settled : Settled p stored s.words s.homes
+    -- the words of the place indexes, and what the seats noted of drops
+    pub placed : ℕ → ℕ
+    pub drops : (l : ℕ) → l < 8 * p.operations → IsDropKept p s.views l (placed l)
+    pub settled : Settled p stored placed s.words s.homes
     -- which goes on behind what each seat met
     pub met : (id : ℕ) (v : View) → get_elem? s.views id ≡ some v → (n : ℕ) (h : List StoredWord) → get_elem? v.histories n ≡ some h → Follows stored h
     -- labels

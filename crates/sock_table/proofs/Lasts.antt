@@ -25,7 +25,8 @@ use Rattle.sock_model.specs.declared.chain.Entry.{Entry}
 use Rattle.sock_model.specs.Layout.{ref_word, place_word}
 use Rattle.sock_rule.specs.OnTable.{OnTable}
 use Rattle.sock_rule.specs.Seated.{IsDone}
-use Rattle.sock_rule.specs.Closing.{IsAtRest, Closing, LinkTook}
+use Rattle.sock_rule.specs.Closing.{IsAtRest, Closing, LinkTook, IsDropTold}
+use Rattle.sock_rule.proofs.DropsTold.{drop_told}
 use Rattle.sock_rule.proofs.Closes.{ordered, ordered_log, closing}
 use Rattle.sock_table.specs.Closed.{WordsAre, AreLinks, OutsOf, OutBack, ClosedBy}
 use Rattle.sock_table.proofs.Joining.{marks_in, finds_in, histories_in, stores_in, lists_in, found_in}
@@ -143,5 +144,6 @@ module _ {O : Type 0} {g : Ghosts O} (q p : Plan) (id : ℕ) (v : View) (ws : Li
     closing = subst (λ (y : List ℕ). Closing p v y) f.2 (closing f.0 rule_at id v f.1.1 all rest done.unheld);
     each = read;
     placed = placed;
+    dropped = λ l ll. subst (λ (y : List Entry). IsDropTold p y v ws l) (sym (ordered_log f.0 rule_at id v f.1.1 all done.bare.claims)) (subst (λ (y : List ℕ). IsDropTold p rule_at.rule.lawful.log v y l) f.2 (drop_told f.0 rule_at id v f.1.1 all l ll));
     outs_back = out_back (ordered f.0 rule_at id v f.1.1 all done.bare.claims).log (ordered_log f.0 rule_at id v f.1.1 all done.bare.claims) outs of;
   }

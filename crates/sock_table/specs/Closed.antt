@@ -11,7 +11,7 @@ use Rattle.sock_model.specs.Weights.{is_linked, is_freer}
 use Rattle.sock_model.specs.SlotRows.{marks_of}
 use Rattle.sock_model.specs.Layout.{ref_word, place_word}
 use Rattle.sock_rule.specs.Seated.{IsSeat, IsDone}
-use Rattle.sock_rule.specs.Closing.{IsAtRest, Closing, Ordered, LinkTook}
+use Rattle.sock_rule.specs.Closing.{IsAtRest, Closing, Ordered, IsDropTold, LinkTook}
 use Rattle.std.specs.Prelude.{slice_index}
 use Rattle.std.specs.Option.{ForSome}
 use Rattle.sock_io.specs.declared.link.Out.{Ghosts}
@@ -74,5 +74,7 @@ pub record ClosedBy {O S : Type 0} (state : O → OutState) (p : Plan) (seats : 
   -- one reference word for each slot, and one place word for each place index
   pub each : WordsAre (λ (x : Vref). x.0) ref_word p.slots vrefs words
   pub placed : WordsAre (λ (x : PlaceWord). x.0) (place_word p) (8 * p.operations) places words
+  -- which of them have the dropped bit: those of the messages that the seats noted as dropped, where the places of all labels differ
+  pub dropped : (l : ℕ) → l < 8 * p.operations → IsDropTold p ordered.log view words l
   -- one half for each link
   pub outs_back : (k : ℕ) → k < p.links → OutBack state p view ordered.log words outs k

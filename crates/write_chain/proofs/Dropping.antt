@@ -3,6 +3,7 @@ use Rattle.std.proofs.Common.{◌≡◌, ◌≢◌, ℕ, ◌+◌, ◌<◌, cond,
 use mathlib.Core.Logic.{dite}
 use native.Mathlib.Decide.{ℕ_discrete}
 use Rattle.sock_io.specs.Link.{OutState}
+use Rattle.sock_words.specs.declared.plain.Plan.{Plan}
 use Rattle.sock_words.specs.Words.{socket_id_version, socket_id_slot}
 use Rattle.sock_model.specs.declared.marks.Mark.TheVariants.{Saw, Told}
 use Rattle.sock_model.specs.declared.view.View.{View}
@@ -13,7 +14,7 @@ use Rattle.slot_laws.proofs.Numbers.{pair-same}
 use Rattle.sock_rule.specs.Becoming.{Became}
 use Rattle.sock_rule.proofs.Becoming.{stays}
 use Rattle.sock_table.specs.Answers.{CodeOf}
-use Rattle.write_chain.specs.Noting.{saw, told, nothing, finding, Wrote}
+use Rattle.write_chain.specs.Noting.{saw, told, nothing, finding, Wrote, WroteDrop}
 use Rattle.write_chain.specs.Writing.{FoundDead}
 use Rattle.write_chain.specs.Keeping.{IsCode}
 use Rattle.write_chain.proofs.Noting.{found_it, wrote_more}
@@ -41,3 +42,6 @@ code_before code id u v w a k = record { word = k.word; code_is = k.code_is; not
 
 pub still_dead : {O : Type 0} {state : O → OutState} (id : ℕ) (v w : View) → Wrote state id v w → FoundDead id v → FoundDead id w
 still_dead id v w a there = let x = wrote_more (is_saw (socket_id_version id + 1)) (v) w a in omega arith
+
+pub dead_dropped : {O : Type 0} {state : O → OutState} (p : Plan) (id place : ℕ) (v w : View) → WroteDrop state p id place v w → FoundDead id v → FoundDead id w
+dead_dropped p id place v w a there = let x = wrote_more (is_saw (socket_id_version id + 1)) v (record w { stores = v.stores }) a.wrote in omega arith

@@ -1,6 +1,6 @@
 -- What a look finds, and what becomes of a socket whose link failed.
-use Rattle.std.proofs.Common.{◌≡◌, ◌≢◌, ℕ, ◌+◌, ◌-◌, ◌%◌, ◌<◌, zero, suc, Bool, true, false, cond, eqb, eqb-true, eq-eqb, List, [], ◌∷◌, length, take, refl, sym, ap, ◌∙◌, subst, arith}
-use Rattle.std.specs.Prelude.{Ok, Err, IfOk, IfErr}
+use Rattle.std.proofs.Common.{◌≡◌, ◌≢◌, ℕ, ◌+◌, ◌-◌, ◌%◌, ◌<◌, zero, suc, Bool, true, false, not, cond, eqb, eqb-true, eq-eqb, List, [], ◌∷◌, length, take, refl, sym, ap, ◌∙◌, subst, arith}
+use Rattle.std.specs.Prelude.{◌↔◌, IsTrue, Ok, Err, IfOk, IfErr}
 use Rattle.std.specs.declared.result.Result.{Result}
 use Rattle.sock_message.specs.Pieces.{piece}
 use mathlib.Core.Logic.{dite}
@@ -9,7 +9,7 @@ use Rattle.atomic_table.specs.Table.{Me}
 use Rattle.sock_io.specs.declared.link.Out.{Ghosts}
 use Rattle.sock_io.specs.Link.{OutState}
 use Rattle.sock_words.specs.declared.plain.Plan.{Plan}
-use Rattle.sock_words.specs.Words.{socket_id_version, socket_id_slot, vref_version}
+use Rattle.sock_words.specs.Words.{socket_id_version, socket_id_slot, vref_version, IsFailedVref}
 use Rattle.sock_model.specs.declared.marks.Mark.{Mark}
 use Rattle.sock_model.specs.declared.marks.Mark.TheVariants.{Saw}
 use Rattle.sock_model.specs.declared.view.View.{View}
@@ -28,6 +28,25 @@ use Rattle.write_chain.specs.Noting.{saw, Faulted, Noted, nothing, failing, Met_
 use Rattle.write_chain.specs.Writing.{HasPart, IsClean, FoundDead}
 use Rattle.write_chain.proofs.Noting.{found_it}
 use Rattle.write_chain.proofs.Stepping.{part_noted, part_clean}
+
+pub false_true : false ≡ true → ⊥
+false_true e = let n : ℕ ≡ ⊥ = ap (λ b. cond b ⊥ ℕ) e in subst (λ (x : Type 0). x) n 0
+
+not_true : (b : Bool) → not b ≡ true → b ≡ false
+not_true true e = absurd (false_true e)
+not_true false e = refl
+
+not_false : (b : Bool) → not b ≡ false → b ≡ true
+not_false true e = refl
+not_false false e = absurd (false_true (sym e))
+
+-- whether the word that was found is a failed one
+module _ (b : Bool) (found word : ℕ) (same : word ≡ found) (is : IsTrue b ↔ IsFailedVref word) where
+  pub found_live : not b ≡ true → version_of found % 2 ≡ 0
+  found_live t = dite (ℕ_discrete (version_of found % 2) 0) (λ e. e) (λ ne. absurd (false_true (sym (not_true b t) ∙ is.1 (ap (λ (w : ℕ). version_of w % 2) same ∙ omega arith))))
+
+  pub found_dead : not b ≡ false → version_of found % 2 ≢ 0
+  found_dead f e = let odd : version_of word % 2 ≡ 1 = is.0 (not_false b f) in let k = ap (λ (w : ℕ). version_of w % 2) same in absurd (omega arith)
 
 module _ {O : Type 0} {g : Ghosts O} {p : Plan} {id last : ℕ} (hand : InHand O g) (m n : Me (SockHome O g) View) (slot found : ℕ) (at : slot ≡ socket_id_slot id) (h : HasPart p id last hand m) (l : LookedToWrite h.0.right_is slot found m n) where
   became_looked : Became (socket_id_slot id) m.0 (looked slot found m.0) (Saw (version_of found) ∷ []) []
@@ -75,9 +94,6 @@ fails id k v w (Ok u) ok err fault met_ = record {
 fails id k v w (Err e) ok err fault met_ = record { notes = _; noted = found_it _ (saw (vref_version e.found.0)); became = err.1 }
 
 -- ## What is left of a message
-
-pub false_true : false ≡ true → ⊥
-false_true e = let n : ℕ ≡ ⊥ = ap (λ b. cond b ⊥ ℕ) e in subst (λ (x : Type 0). x) n 0
 
 none_left : (l : List ℕ) → length l ≡ 0 → l ≡ []
 none_left [] e = refl

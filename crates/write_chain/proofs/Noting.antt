@@ -1,16 +1,22 @@
 -- What a seat notes while it writes: such notes leave all that it holds.
-use Rattle.std.proofs.Common.{◌≡◌, ℕ, ◌+◌, ◌≤◌, List, [], ◌∷◌, ◌++◌, refl, sym, ap, ◌∙◌, subst, arith}
+use Rattle.std.proofs.Common.{◌≡◌, ℕ, ◌+◌, ◌≤◌, true, List, [], ◌∷◌, ◌++◌, refl, sym, ap, ◌∙◌, subst, arith}
 use Rattle.sock_io.specs.Link.{OutState}
+use Rattle.sock_words.specs.declared.plain.Plan.{Plan}
 use Rattle.sock_words.specs.Words.{socket_id_version, socket_id_slot}
 use Rattle.sock_model.specs.declared.chain.Right.{Right}
 use Rattle.sock_model.specs.declared.marks.Mark.{Mark}
 use Rattle.sock_model.specs.declared.view.View.{View}
 use Rattle.sock_model.specs.Weights.{total, is_ref, is_met}
-use Rattle.sock_model.specs.SlotRows.{marks_of}
+use Rattle.sock_model.specs.declared.view.StoredWord.{StoredWord}
+use Rattle.sock_model.specs.ChainRows.{with_right}
+use Rattle.sock_model.specs.Layout.{place_word}
+use Rattle.sock_model.specs.Deliveries.{place_value}
+use Rattle.sock_model.specs.Marks.{noted}
+use Rattle.sock_model.specs.SlotRows.{marks_of, wrote}
 use Rattle.sock_rule.specs.Becoming.{Became}
 use Rattle.sock_rule.proofs.Becoming.{then_, stays}
 use Rattle.sock_table.proofs.Quiet.{IsQuiet}
-use Rattle.write_chain.specs.Noting.{IsFinding, saw, met, told, Noted, nothing, finding, failing, Met_by, Wrote}
+use Rattle.write_chain.specs.Noting.{IsFinding, saw, met, told, Noted, nothing, finding, failing, Met_by, Wrote, WroteDrop}
 
 finding_quiet : {h : ℕ} (m : Mark) → IsFinding h m → IsQuiet (m ∷ []) × (is_ref m ≡ 0)
 finding_quiet _ (saw w) = (record { claimed = refl; probe = refl; coding = refl; zeros = λ x. refl }, refl)
@@ -67,6 +73,20 @@ module _ {O : Type 0} {state : O → OutState} {id : ℕ} where
   pub wrote_more : (f : Mark → ℕ) (v w : View) → Wrote state id v w → marks_of f (socket_id_slot id) v ≤ marks_of f (socket_id_slot id) w
   wrote_more f v w a = let x : marks_of f (socket_id_slot id) w + 0 ≡ marks_of f (socket_id_slot id) v + total f a.notes = a.became.here f in omega arith
 
+  -- what it stored is noted as it was
+  pub wrote_stores : (v w : View) → Wrote state id v w → w.stores ≡ v.stores
+  wrote_stores v w a = ap (λ (y : View). y.stores) a.became.others
+
+  -- a seat that only wrote, and then dropped a message
+  pub drop_then : (p : Plan) (place : ℕ) (u v w : View) → Wrote state id u v → WroteDrop state p id place v w → WroteDrop state p id place u w
+  drop_then p place u v w a b = let same = wrote_stores u v a in record {
+    link = b.link;
+    position = b.position;
+    met = b.met;
+    stores = b.stores ∙ ap (noted record { place = place_word p place; word = place_value true b.link b.position }) same;
+    wrote = subst (λ (l : List (List StoredWord)). Wrote state id u (record w { stores = l })) same (wrote_then u v (record w { stores = v.stores }) a b.wrote);
+  }
+
 -- ## Rights alone
 
 pub rights_only : (v w : View) (rs : List Right) → w ≡ record v { rights = rs } → w ≡ record v { rights = w.rights }
@@ -74,3 +94,10 @@ rights_only v w rs e = e ∙ sym (ap (λ (y : View). record v { rights = y.right
 
 pub rights_then : (u v w : View) → v ≡ record u { rights = v.rights } → w ≡ record v { rights = w.rights } → w ≡ record u { rights = w.rights }
 rights_then u v w first second = second ∙ ap (λ (y : View). record y { rights = w.rights }) first
+
+-- and a drop
+pub rights_but_store : (u v w : View) (x word : ℕ) (r : Right) → v ≡ wrote x word (with_right u r) → w ≡ record v { rights = w.rights } → (record w { stores = u.stores } ≡ record u { rights = w.rights }) × (w.stores ≡ noted record { place = x; word = word } u.stores)
+rights_but_store u v w x word r first second = (
+  ap (λ (y : View). record y { stores = u.stores }) second ∙ ap (λ (y : View). record y { rights = w.rights; stores = u.stores }) first,
+  ap (λ (y : View). y.stores) second ∙ ap (λ (y : View). y.stores) first,
+)

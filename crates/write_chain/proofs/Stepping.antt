@@ -17,7 +17,7 @@ use Rattle.sock_model.specs.declared.view.View.{View}
 use Rattle.sock_model.specs.Entries.{slot_of}
 use Rattle.sock_model.specs.Links.{HoldsLink}
 use Rattle.sock_model.specs.Weights.{is_ref, is_hold, is_met}
-use Rattle.sock_model.specs.SlotRows.{met_link}
+use Rattle.sock_model.specs.SlotRows.{met_link, wrote}
 use Rattle.sock_model.specs.ChainRows.{with_right, without_right, taken_right, placed_right, dropped_right, passing_right, freed_stage, freed_right, walking_right, reading_right, turned_right}
 use Rattle.sock_rule.specs.Becoming.{Became}
 use Rattle.sock_rule.specs.Holding.{Part, Follows, ends, goes_on, MayFreeRequest, MayLookToWrite, MayEmptyHead}
@@ -49,6 +49,18 @@ writer_on {p} {id} {last} {link} {x} {v} {w} is last' x' same now ticket e = sub
   link_is = same ∙ is.link_is;
   holds = record { inside = is.holds.inside; held = is.holds.held; met = is.holds.met };
   rests = is.rests;
+  room = is.room;
+}
+
+-- and a drop is noted
+writer_dropped : {p : Plan} {id last link : ℕ} {x : Right} {v w : View} → IsWriter p id last link x v → (y word : ℕ) (x' : Right) → x'.link ≡ x.link → x'.last ≡ last → w ≡ wrote y word (with_right v x') → IsWriter p id last link x' w
+writer_dropped {p} {id} {last} {link} {x} {v} {w} is y word x' same now e = subst (λ (z : View). IsWriter p id last link x' z) (sym e) record {
+  one = one_right v x x' is.one same;
+  last_is = now;
+  last_ticket = is.last_ticket;
+  link_is = same ∙ is.link_is;
+  holds = record { inside = is.holds.inside; held = is.holds.held; met = is.holds.met };
+  rests = record { unclaimed = is.rests.unclaimed; unprobed = is.rests.unprobed; uncoding = is.rests.uncoding; no_zero = is.rests.no_zero; no_rights = refl; empty = is.rests.empty; no_passes = is.rests.no_passes };
   room = is.room;
 }
 
@@ -235,10 +247,10 @@ module _ {O : Type 0} {g : Ghosts O} {p : Plan} {id last : ℕ} where
 
   -- P1 with the dropped bit
   pub part_dropped : (hand : InHand O g) (home : LinkHome O g) (m n : Me (SockHome O g) View) (h : HasInHand p id last hand m) → (home.took.list ≡ hand.home.took.list) × (home.next ≡ hand.home.next + 1) → home.out ≡ hand.home.out
-      → n ≡ (with_right m.0 (dropped_right h.right_is hand.now.0 hand.home.took.list), m.1) → HasLink p id last (Placed hand.now.0) ((slot_of hand.now.0, Empty) ∷ []) record { link = hand.link; home = home } n
-  part_dropped hand home m n r more out e = let x' : Right = dropped_right r.right_is hand.now.0 hand.home.took.list in record {
+      → (word value : ℕ) → n ≡ (wrote word value (with_right m.0 (dropped_right h.right_is hand.now.0 hand.home.took.list)), m.1) → HasLink p id last (Placed hand.now.0) ((slot_of hand.now.0, Empty) ∷ []) record { link = hand.link; home = home } n
+  part_dropped hand home m n r more out word value e = let x' : Right = dropped_right r.right_is hand.now.0 hand.home.took.list in record {
     right_is = dropped_right r.right_is hand.now.0 hand.home.took.list;
-    writer = writer_on r.writer last x' refl r.writer.last_is r.writer.last_ticket (ap (λ (q : Me (SockHome O g) View). q.0) e);
+    writer = writer_dropped r.writer word value x' refl r.writer.last_is (ap (λ (q : Me (SockHome O g) View). q.0) e);
     has = record { away = r.has.away; link_in = r.has.link_in; places_are = (let a = more.1 in let b = r.has.places_are in omega arith); own = ap (λ (y : O). (g.state y).link) out ∙ r.has.own; unfinished = ap (λ (y : O). (g.state y).finished) out ∙ r.has.unfinished };
     stage_is = refl;
     idle = refl;

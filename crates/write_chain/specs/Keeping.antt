@@ -13,6 +13,7 @@ use Rattle.write_chain.specs.declared.keep.Went.{Went}
 use Rattle.write_chain.specs.declared.keep.Went.TheVariants as went
 use Rattle.write_chain.specs.declared.keep.Kept.{Kept}
 use Rattle.write_chain.specs.declared.keep.Kept.TheVariants as kept
+use Rattle.write_chain.specs.Noting.{Wrote, WroteDrop}
 use Rattle.write_chain.specs.Writing.{MayGoOn, GaveUp, FoundDead}
 
 -- what a message was dropped with: the code word that was read, or 1009 where that was 0; it is the code that the seat found or stored before
@@ -30,3 +31,13 @@ WentBy p sock (went.Further r) v m = (r.sock ≡ sock) × MayGoOn p r m
 abbrev pub KeptBy : {O : Type 0} {g : Ghosts O} → Plan → SockRef → Kept O g → View → Me (SockHome O g) View → Type 0
 KeptBy p sock (kept.Done s) v m = (s ≡ sock) × GaveUp p sock.id.0 m
 KeptBy p sock (kept.Dropped r msg code) v m = (r.sock ≡ sock) × MayGoOn p r m × FoundDead sock.id.0 m.0 × IsCode code sock.id.0 v m.0
+
+-- the seat only wrote, or dropped the message that is told
+abbrev pub WentWriting : {O : Type 0} {g : Ghosts O} → Plan → SockRef → Went O g → View → View → Type 0
+WentWriting {O} {g} p sock (went.Done s) v w = Wrote g.state sock.id.0 v w
+WentWriting {O} {g} p sock (went.Dropped r msg code) v w = WroteDrop g.state p sock.id.0 msg.label.place v w
+WentWriting {O} {g} p sock (went.Further r) v w = Wrote g.state sock.id.0 v w
+
+abbrev pub KeptWriting : {O : Type 0} {g : Ghosts O} → Plan → SockRef → Kept O g → View → View → Type 0
+KeptWriting {O} {g} p sock (kept.Done s) v w = Wrote g.state sock.id.0 v w
+KeptWriting {O} {g} p sock (kept.Dropped r msg code) v w = WroteDrop g.state p sock.id.0 msg.label.place v w

@@ -1,12 +1,16 @@
 -- What a seat notes of a life while it writes its link.
-use Rattle.std.specs.Prelude.{◌≡◌, ℕ, ◌+◌, ◌<◌, false, List, [], ◌∷◌}
+use Rattle.std.specs.Prelude.{◌≡◌, ℕ, ◌+◌, ◌<◌, true, false, List, [], ◌∷◌}
 use Rattle.sock_io.specs.Link.{OutState}
 use Rattle.sock_io.specs.Causes.{Rose}
+use Rattle.sock_words.specs.declared.plain.Plan.{Plan}
 use Rattle.sock_words.specs.Words.{socket_id_version, socket_id_slot}
 use Rattle.sock_model.specs.declared.marks.Mark.{Mark}
 use Rattle.sock_model.specs.declared.marks.Mark.TheVariants.{Saw, Failer, Stored, Told, Met}
 use Rattle.sock_model.specs.declared.view.View.{View}
 use Rattle.sock_model.specs.Weights.{is_met}
+use Rattle.sock_model.specs.Layout.{place_word}
+use Rattle.sock_model.specs.Deliveries.{place_value}
+use Rattle.sock_model.specs.Marks.{noted}
 use Rattle.sock_model.specs.SlotRows.{marks_of}
 use Rattle.sock_rule.specs.Becoming.{Became}
 
@@ -40,3 +44,11 @@ pub record Wrote {O : Type 0} (state : O → OutState) (id : ℕ) (v w : View) :
   pub notes : List Mark
   pub noted : Noted state (Met_by id w) (socket_id_version id) notes
   pub became : Became (socket_id_slot id) v (record w { rights = v.rights }) notes []
+
+-- a seat dropped a message with this place index, of the link of the life of this id: it stored the word of the index with the dropped bit, and noted that; beside that it only wrote
+pub record WroteDrop {O : Type 0} (state : O → OutState) (p : Plan) (id place : ℕ) (v w : View) : Type 0 where
+  pub link : ℕ
+  pub position : ℕ
+  pub met : Met_by id w link
+  pub stores : w.stores ≡ noted record { place = place_word p place; word = place_value true link position } v.stores
+  pub wrote : Wrote state id v (record w { stores = v.stores })

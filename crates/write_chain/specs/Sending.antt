@@ -78,4 +78,4 @@ FoundTaken p q w = (n : ℕ) × (get_elem? w.found n ≡ some (request_word p q)
 -- the order is as it was, and all comes back
 abbrev pub RefusedBy : Plan → SockRef → Letter → Refused → View → View → Type 0
 RefusedBy p sock msg (refused.Failed s m found) v w = (s ≡ sock) × (m ≡ msg) × (vref_version found.0 ≡ socket_id_version sock.id.0 + 1) × Became (socket_id_slot sock.id.0) v w (Saw (vref_version found.0) ∷ []) []
-RefusedBy p sock msg (refused.Full s m) v w = (s ≡ sock) × (m ≡ msg) × ((q : ℕ) → q < p.requests → FoundTaken p q w) × (w.lists ≡ v.lists) × (w.rights ≡ v.rights) × (w.claims ≡ []) × (w.loose ≡ []) × Became (socket_id_slot sock.id.0) v (record v { marks = w.marks }) (Saw (socket_id_version sock.id.0) ∷ []) []
+RefusedBy p sock msg (refused.Full s m) v w = (s ≡ sock) × (m ≡ msg) × ((q : ℕ) → q < p.requests → FoundTaken p q w) × (w.lists ≡ v.lists) × (w.rights ≡ v.rights) × (w.claims ≡ []) × (w.loose ≡ []) × Became (socket_id_slot sock.id.0) v (record v { marks = w.marks }) (Saw (socket_id_version sock.id.0) ∷ []) [] × (w ≡ record v { marks = w.marks; found = w.found })

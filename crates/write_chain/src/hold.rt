@@ -219,10 +219,7 @@ pub fn look<O: Out>(
     let slot = slot_at(table, sock);
     let step = table.rule.look_to_write(seat, slot);
     let found = Vref::from_word(step.found);
-    if found.version() % 2 == 0 {
-        return true;
-    }
-    false
+    !found.is_failed()
 }
 
 /// The link failed: so does the socket, unless it was failed before.

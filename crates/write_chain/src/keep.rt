@@ -2,10 +2,10 @@
 ghost use Rattle.std.specs.Prelude.{◌≡◌, ◌≢◌, ◌+◌, ◌*◌, ◌<◌, ◌==◌, cond, ℕ, [], ◌∷◌, true, false};
 ghost use Rattle.sock_rule.specs.Seated.{IsSeat};
 ghost use Rattle.write_chain.specs.declared.right.Doing.TheVariants.{Back};
-ghost use Rattle.write_chain.specs.Noting.{Wrote};
+ghost use Rattle.write_chain.specs.Noting.{Wrote, WroteDrop};
 ghost use Rattle.sock_model.specs.declared.chain.Stage.TheVariants.{Empties};
 ghost use Rattle.write_chain.specs.Writing.{MayGoOn, HasLink, HasPart, FoundDead, GoesBy};
-ghost use Rattle.write_chain.specs.Keeping.{IsCode, WentBy, KeptBy};
+ghost use Rattle.write_chain.specs.Keeping.{IsCode, WentBy, WentWriting, KeptBy, KeptWriting};
 
 use crate::hold::{
     LINK_FAILED, Once, Tried, fail_link, fetch_link, go_past, leave, place, take_next, try_put,
@@ -60,7 +60,7 @@ pub fn drop_one<O: Out>(
     ensures message { (result.1.left ≡ hand.bytes) × (result.1.label ≡ hand.label) × (result.1.owner ≡ hand.owner) }
     ensures code { IsCode result.2 sock.now.id.0 seat.old.me.0 seat.new.me.0 }
     ensures dead { FoundDead sock.now.id.0 seat.new.me.0 }
-    ensures wrote { Wrote O.state sock.now.id.0 seat.old.me.0 seat.new.me.0 }
+    ensures wrote { WroteDrop O.state table.now.rule.plan sock.now.id.0 result.1.label.place seat.old.me.0 seat.new.me.0 }
 {
     let told = table.code(seat, sock);
     let InHand {
@@ -177,7 +177,7 @@ pub fn put_or_drop<O: Out>(
     requires may { HasPart table.now.rule.plan sock.id.0 last.0 hand seat.old.me }
     ensures seat { IsSeat table.now.rule.table.shared.table_id table.now.rule.plan seat.new }
     ensures went { WentBy table.now.rule.plan sock result seat.old.me.0 seat.new.me }
-    ensures wrote { Wrote O.state sock.id.0 seat.old.me.0 seat.new.me.0 }
+    ensures wrote { WentWriting table.now.rule.plan sock result seat.old.me.0 seat.new.me.0 }
 {
     match try_put(table, seat, &sock, last, hand) {
         Tried::Dead(hand) => {
@@ -204,6 +204,7 @@ pub fn try_head<O: Out>(
     requires may { HasLink table.now.rule.plan sock.id.0 last.0 Empties [] link seat.old.me }
     ensures seat { IsSeat table.now.rule.table.shared.table_id table.now.rule.plan seat.new }
     ensures went { WentBy table.now.rule.plan sock result seat.old.me.0 seat.new.me }
+    ensures wrote { WentWriting table.now.rule.plan sock result seat.old.me.0 seat.new.me.0 }
     ensures others { seat.new.me.0 ≡ record seat.old.me.0 { rights = seat.new.me.0.rights } }
 {
     match leave(table, seat, sock, last, link) {
@@ -223,7 +224,7 @@ pub fn go_on<O: Out>(
     requires may { MayGoOn table.now.rule.plan right seat.old.me }
     ensures seat { IsSeat table.now.rule.table.shared.table_id table.now.rule.plan seat.new }
     ensures went { WentBy table.now.rule.plan right.sock result seat.old.me.0 seat.new.me }
-    ensures wrote { Wrote O.state right.sock.id.0 seat.old.me.0 seat.new.me.0 }
+    ensures wrote { WentWriting table.now.rule.plan right.sock result seat.old.me.0 seat.new.me.0 }
 {
     let WriteRight { sock, last, doing } = right;
     match doing {
@@ -272,7 +273,7 @@ pub fn keep_write<O: Out, R: Wait>(
     requires may { MayGoOn table.now.rule.plan right seat.old.me }
     ensures seat { IsSeat table.now.rule.table.shared.table_id table.now.rule.plan seat.new }
     ensures kept { KeptBy table.now.rule.plan right.sock result seat.old.me.0 seat.new.me }
-    ensures wrote { Wrote O.state right.sock.id.0 seat.old.me.0 seat.new.me.0 }
+    ensures wrote { KeptWriting table.now.rule.plan right.sock result seat.old.me.0 seat.new.me.0 }
 {
     let backoff = Backoff::new();
     'goes: for _ in rt.forever() {

@@ -18,6 +18,7 @@ store_place-requires-clause-may g c = let h = c.requires.may.0 in (
     place_is = h.place_is;
     place_in = h.place_in;
     link_is = h.writer.link_is;
+    link_fits = omega arith;
     places_are = sym h.has.places_are;
   },
   omega (arith, c.pack-place.ensures.word),

@@ -1,12 +1,19 @@
-use Rattle.std.proofs.Common.{ℕ, ◌+◌, ◌∷◌, arith, sym, ap, ◌∙◌, subst}
+use Rattle.std.proofs.Common.{◌≡◌, ℕ, ◌+◌, ◌<◌, true, List, ◌∷◌, arith, sym, ap, ◌∙◌, subst}
 use Rattle.atomic_table.specs.Table.{rest}
 use Rattle.sock_words.specs.Words.{socket_id_version, socket_id_slot}
+use Rattle.sock_model.specs.declared.marks.SlotMark.{SlotMark}
+use Rattle.sock_model.specs.declared.view.View.{View}
+use Rattle.sock_model.specs.ChainRows.{dropped_right}
+use Rattle.sock_model.specs.Deliveries.{place_value}
 use Rattle.sock_model.specs.Entries.{slot_of}
+use Rattle.sock_model.specs.Layout.{place_word}
+use Rattle.sock_model.specs.Marks.{about, noted}
+use Rattle.sock_model.specs.Weights.{total, is_met}
 use Rattle.sock_model.specs.Links.{HoldsLink}
 use Rattle.sock_rule.specs.declared.homes.SockHome.TheVariants.{Empty}
-use Rattle.write_chain.proofs.Noting.{wrote_notes, wrote_then, wrote_rights, rights_only, rights_then}
+use Rattle.write_chain.proofs.Noting.{wrote_notes, wrote_rights, drop_then, rights_but_store}
 use Rattle.write_chain.proofs.Stepping.{part_noted, part_of, part_dropped}
-use Rattle.write_chain.proofs.Dropping.{code_noted, is_code, still_dead}
+use Rattle.write_chain.proofs.Dropping.{code_noted, is_code, still_dead, dead_dropped}
 use Rattle.write_chain.proofs.keep.drop_one.Goals as goal
 
 pub code-told-requires-clause-held : goal.code-told-requires-clause-held
@@ -44,18 +51,27 @@ drop_place-home-requires-clause-top g c = let h = part_noted c.args.hand c.args.
 
 pub go_past-doing-requires-clause-may : goal.go_past-doing-requires-clause-may
 go_past-doing-requires-clause-may g c = let h = part_noted c.args.hand c.args.seat.now.me c.code-told.new.seat.me (code_noted {state = g.O.Out.state} c.code-told.result c.args.sock.now.id.0 c.args.seat.now.me.0 c.code-told.new.seat.me.0 c.code-told.ensures.code).notes (code_noted {state = g.O.Out.state} c.code-told.result c.args.sock.now.id.0 c.args.seat.now.me.0 c.code-told.new.seat.me.0 c.code-told.ensures.code).noted (code_noted {state = g.O.Out.state} c.code-told.result c.args.sock.now.id.0 c.args.seat.now.me.0 c.code-told.new.seat.me.0 c.code-told.ensures.code).became c.code-told.ensures.slots c.requires.may.0 in let is = c.drop_place-home.ensures.home in let n = c.count_place.ensures in (
-  part_dropped c.args.hand c.count_place.new.self c.code-told.new.seat.me c.drop_place-home.new.seat.me h.0 (n.same.0 ∙ ap (λ y. y.took.list) is, n.same.1 ∙ ap (λ y. y.next + 1) is) (n.out ∙ ap (λ y. y.out) is)
+  part_dropped c.args.hand c.count_place.new.self c.code-told.new.seat.me c.drop_place-home.new.seat.me h.0 (n.same.0 ∙ ap (λ y. y.took.list) is, n.same.1 ∙ ap (λ y. y.next + 1) is) (n.out ∙ ap (λ y. y.out) is) (place_word c.args.table.now.rule.plan c.args.hand.label.place) c.pack-place.result.0
       (c.drop_place-home.ensures.view h.0.right_is c.args.hand.now.0 h.0.writer.one h.0.stage_is),
   h.0.ticket,
 )
 
 pub returns-clause-wrote : goal.returns-clause-wrote
-returns-clause-wrote g c = let h = part_noted c.args.hand c.args.seat.now.me c.code-told.new.seat.me (code_noted {state = g.O.Out.state} c.code-told.result c.args.sock.now.id.0 c.args.seat.now.me.0 c.code-told.new.seat.me.0 c.code-told.ensures.code).notes (code_noted {state = g.O.Out.state} c.code-told.result c.args.sock.now.id.0 c.args.seat.now.me.0 c.code-told.new.seat.me.0 c.code-told.ensures.code).noted (code_noted {state = g.O.Out.state} c.code-told.result c.args.sock.now.id.0 c.args.seat.now.me.0 c.code-told.new.seat.me.0 c.code-told.ensures.code).became c.code-told.ensures.slots c.requires.may.0 in wrote_then c.args.seat.now.me.0 c.code-told.new.seat.me.0 c.go_past-doing.new.seat.me.0 (wrote_notes c.args.seat.now.me.0 c.code-told.new.seat.me.0 (code_noted {state = g.O.Out.state} c.code-told.result c.args.sock.now.id.0 c.args.seat.now.me.0 c.code-told.new.seat.me.0 c.code-told.ensures.code).notes (code_noted {state = g.O.Out.state} c.code-told.result c.args.sock.now.id.0 c.args.seat.now.me.0 c.code-told.new.seat.me.0 c.code-told.ensures.code).noted (code_noted {state = g.O.Out.state} c.code-told.result c.args.sock.now.id.0 c.args.seat.now.me.0 c.code-told.new.seat.me.0 c.code-told.ensures.code).became)
-    (wrote_rights c.code-told.new.seat.me.0 c.go_past-doing.new.seat.me.0 (rights_then c.code-told.new.seat.me.0 c.drop_place-home.new.seat.me.0 c.go_past-doing.new.seat.me.0
-    (rights_only c.code-told.new.seat.me.0 c.drop_place-home.new.seat.me.0 _ (ap (λ m. m.0) (c.drop_place-home.ensures.view h.0.right_is c.args.hand.now.0 h.0.writer.one h.0.stage_is))) c.go_past-doing.ensures.others))
+returns-clause-wrote g c = let h = part_noted c.args.hand c.args.seat.now.me c.code-told.new.seat.me (code_noted {state = g.O.Out.state} c.code-told.result c.args.sock.now.id.0 c.args.seat.now.me.0 c.code-told.new.seat.me.0 c.code-told.ensures.code).notes (code_noted {state = g.O.Out.state} c.code-told.result c.args.sock.now.id.0 c.args.seat.now.me.0 c.code-told.new.seat.me.0 c.code-told.ensures.code).noted (code_noted {state = g.O.Out.state} c.code-told.result c.args.sock.now.id.0 c.args.seat.now.me.0 c.code-told.new.seat.me.0 c.code-told.ensures.code).became c.code-told.ensures.slots c.requires.may.0 in
+    let left = rights_but_store c.code-told.new.seat.me.0 c.drop_place-home.new.seat.me.0 c.go_past-doing.new.seat.me.0 (place_word c.args.table.now.rule.plan c.args.hand.label.place) c.pack-place.result.0 (dropped_right h.0.right_is c.args.hand.now.0 c.args.hand.home.took.list)
+    (ap (λ m. m.0) (c.drop_place-home.ensures.view h.0.right_is c.args.hand.now.0 h.0.writer.one h.0.stage_is)) c.go_past-doing.ensures.others in
+    let value : c.pack-place.result.0 ≡ place_value true c.args.hand.link c.args.hand.home.next = omega (arith, c.pack-place.ensures.word) in
+    let begun = wrote_notes c.args.seat.now.me.0 c.code-told.new.seat.me.0 (code_noted {state = g.O.Out.state} c.code-told.result c.args.sock.now.id.0 c.args.seat.now.me.0 c.code-told.new.seat.me.0 c.code-told.ensures.code).notes (code_noted {state = g.O.Out.state} c.code-told.result c.args.sock.now.id.0 c.args.seat.now.me.0 c.code-told.new.seat.me.0 c.code-told.ensures.code).noted (code_noted {state = g.O.Out.state} c.code-told.result c.args.sock.now.id.0 c.args.seat.now.me.0 c.code-told.new.seat.me.0 c.code-told.ensures.code).became in
+    drop_then {state = g.O.Out.state} c.args.table.now.rule.plan c.args.hand.label.place c.args.seat.now.me.0 c.code-told.new.seat.me.0 c.go_past-doing.new.seat.me.0 begun record {
+      link = c.args.hand.link;
+      position = c.args.hand.home.next;
+      met = subst (λ (l : List SlotMark). 0 < total (is_met (socket_id_version c.args.sock.now.id.0) c.args.hand.link) (about (socket_id_slot c.args.sock.now.id.0) l)) (sym (ap (λ (y : View). y.marks) left.0)) h.0.writer.holds.met;
+      stores = left.1 ∙ ap (λ (x : ℕ). noted record { place = place_word c.args.table.now.rule.plan c.args.hand.label.place; word = x } c.code-told.new.seat.me.0.stores) value;
+      wrote = wrote_rights c.code-told.new.seat.me.0 (record c.go_past-doing.new.seat.me.0 { stores = c.code-told.new.seat.me.0.stores }) left.0;
+    }
 
 pub returns-clause-dead : goal.returns-clause-dead
-returns-clause-dead g c = still_dead c.args.sock.now.id.0 c.args.seat.now.me.0 c.go_past-doing.new.seat.me.0 (returns-clause-wrote g c) c.requires.may.1
+returns-clause-dead g c = dead_dropped c.args.table.now.rule.plan c.args.sock.now.id.0 c.args.hand.label.place c.args.seat.now.me.0 c.go_past-doing.new.seat.me.0 (returns-clause-wrote g c) c.requires.may.1
 
 pub returns-clause-code : goal.returns-clause-code
 returns-clause-code g c = let h = part_noted c.args.hand c.args.seat.now.me c.code-told.new.seat.me (code_noted {state = g.O.Out.state} c.code-told.result c.args.sock.now.id.0 c.args.seat.now.me.0 c.code-told.new.seat.me.0 c.code-told.ensures.code).notes (code_noted {state = g.O.Out.state} c.code-told.result c.args.sock.now.id.0 c.args.seat.now.me.0 c.code-told.new.seat.me.0 c.code-told.ensures.code).noted (code_noted {state = g.O.Out.state} c.code-told.result c.args.sock.now.id.0 c.args.seat.now.me.0 c.code-told.new.seat.me.0 c.code-told.ensures.code).became c.code-told.ensures.slots c.requires.may.0 in is_code c.code_or-code.result c.code-told.result c.args.sock.now.id.0 c.args.seat.now.me.0 c.code-told.new.seat.me.0 c.go_past-doing.new.seat.me.0 c.code-told.ensures.code c.code_or-code.ensures.code

@@ -28,9 +28,6 @@ returns-in-Next-clause-wrote g c = wrote_rights c.args.seat.now.me.0 c.take_next
 pub try_head-requires-clause-may : goal.try_head-requires-clause-may
 try_head-requires-clause-may g c = (subst (λ d. GoesBy c.args.table.now.rule.plan c.args.right.sock.id.0 c.args.right.last.0 d c.args.seat.now.me) c.in-Last.is c.requires.may)
 
-pub returns-in-Last-clause-wrote : goal.returns-in-Last-clause-wrote
-returns-in-Last-clause-wrote g c = wrote_rights c.args.seat.now.me.0 c.try_head.new.seat.me.0 c.try_head.ensures.others
-
 pub fetch_link-link-requires-clause-may : goal.fetch_link-link-requires-clause-may
 fetch_link-link-requires-clause-may g c = (c.args.right.last.0, Walks c.in-Walks.top.0 c.in-Walks.top.0 0, (subst (λ d. GoesBy c.args.table.now.rule.plan c.args.right.sock.id.0 c.args.right.last.0 d c.args.seat.now.me) c.in-Walks.is c.requires.may).0)
 
