@@ -52,14 +52,16 @@ fn answer(
 /// A row: the words, the input, the put from which on each link fails (0: none), the status, and all that is written.
 type Row = (&'static str, &'static str, u32, u8, &'static str);
 
+const FIRST: Row = (
+    "replay",
+    "open a piece=1\nclient\nsend a 6869\n",
+    0,
+    0,
+    "0.1 open 0 0 0\n1.1 placed 0 0\nlink 0 a accepted 1 placed 1 took 2 6869\norder 0 1.1.0\nend\n",
+);
+
 const ROWS: [Row; 44] = [
-    (
-        "replay",
-        "open a piece=1\nclient\nsend a 6869\n",
-        0,
-        0,
-        "0.1 open 0 0 0\n1.1 placed 0 0\nlink 0 a accepted 1 placed 1 took 2 6869\norder 0 1.1.0\nend\n",
-    ),
+    FIRST,
     ("replay", "", 0, 0, "end\n"),
     ("replay", "client\nsend z 61", 0, 0, "1.1 unopened\nend\n"),
     (
@@ -386,7 +388,7 @@ const FAULTS: [(Outside, u8, usize); 7] = [
 
 #[test]
 fn answers_faults(rt: HostRuntime) -> Result<(), Fail> {
-    let (_, script, _, _, text) = ROWS[0];
+    let (_, script, _, _, text) = FIRST;
     for (outside, status, length) in FAULTS {
         let (answered, written) = answer(&rt, "replay", script.as_bytes(), outside)?;
         assert_eq!(rt; answered, status);
