@@ -3,3 +3,4 @@ pub mod Target
 pub mod Scenes
 pub mod Says
 pub mod Stories
+pub mod Posts
