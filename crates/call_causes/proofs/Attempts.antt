@@ -14,8 +14,8 @@ use Rattle.sock_programs.specs.Beside.{call_at}
 use Rattle.sock_programs.specs.Posts.{packed, advance_of}
 use Rattle.id_runs.proofs.Keeps.{parts_packed}
 use Rattle.call_causes.specs.Lists.{times}
-use Rattle.call_causes.specs.Posts.{Post, posts_by}
-use Rattle.call_causes.specs.Scenes.{Birth, Scene, In, WasPosted, EndedAt, MayAdvance}
+use Rattle.call_causes.specs.Posts.{posts_by}
+use Rattle.call_causes.specs.Scenes.{Birth, Scene, In, EndedAt, MayAdvance}
 use Rattle.call_causes.specs.Says.{Claims, Locked, Mark, MayAside}
 use Rattle.call_causes.specs.Stories.{word_at, LiesAt, SlotFits, IsCurrent, BirthsLaw, IsBehind, KnowsStep}
 use Rattle.call_causes.proofs.Posts.{locked_parts, id_back}
@@ -145,9 +145,9 @@ module _ (p : Plan) (q : IdPlan) (clients : List (List Task)) (gives : ℕ → L
   -- an exchange that advances an attempt leaves the range another, and has its error
   advance_has : (step : Step) (found : Found step) → KnowsStep p q clients gives w step found → MayAside p q clients gives w m step → (k : ℕ) → IsAdvance step found k → ((word_at w k).attempt + 3 ≤ (word_at w k).range) × MayAdvance p q clients gives w (call_id k (word_at w k).first) (word_at w k).attempt
   advance_has (UnlockId i from true) found knows may k at = subst (λ n. ((word_at w n).attempt + 3 ≤ (word_at w n).range) × MayAdvance p q clients gives w (call_id n (word_at w n).first) (word_at w n).attempt) at.0 (
-        subst (λ (x : Parts). x.attempt + 3 ≤ x.range) (ap parts (sym at.1) ∙ knows.0.1) (let z = knows.4 in omega (arith, z)),
-        (let held : SlotFits q w (Locked i may.0 may.1) = subst (SlotFits q w) may.2 fits in subst (λ f. MayAdvance p q clients gives w (call_id i f) (word_at w i).attempt) (sym held.3) (subst (MayAdvance p q clients gives w (call_id i may.0)) (sym held.5) (may.3 refl))),
-      )
+    subst (λ (x : Parts). x.attempt + 3 ≤ x.range) (ap parts (sym at.1) ∙ knows.0.1) (let z = knows.4 in omega (arith, z)),
+    (let held : SlotFits q w (Locked i may.0 may.1) = subst (SlotFits q w) may.2 fits in subst (λ f. MayAdvance p q clients gives w (call_id i f) (word_at w i).attempt) (sym held.3) (subst (MayAdvance p q clients gives w (call_id i may.0)) (sym held.5) (may.3 refl))),
+  )
   advance_has (UnlockId i from false) found knows may k at = absurd at
   advance_has (ClaimId i) found knows may k at = absurd at
   advance_has (PutCall i asked) found knows may k at = absurd at
@@ -270,9 +270,9 @@ module _ (p : Plan) (q : IdPlan) (clients : List (List Task)) (gives : ℕ → L
         by_advance (one_more_at i asked inside lies live more same only none_ has_) = subst (λ ns. times c.asked.operation ns + 2 ≤ c.asked.range) (sym same) (⊎_elim
             (λ ne. subst (λ n. n + 2 ≤ c.asked.range) (sym (times_other c.asked.operation asked.operation w.advances ne)) (law.few c there))
             (λ y. subst (λ n. times c.asked.operation (n ∷ w.advances) + 2 ≤ c.asked.range) (sym y.2) (
-                let room : (word_at w (id_slot c.id)).attempt + 3 ≤ (word_at w (id_slot c.id)).range = subst (λ n. (word_at w n).attempt + 3 ≤ (word_at w n).range) (sym y.1) (advance_has step found knows may i has_).0 in
-                let count = law.attempts c there y.0 in let range = y.0.2 in let once = times_same c.asked.operation w.advances in omega (arith, room, count, range, once)
-                ))
+            let room : (word_at w (id_slot c.id)).attempt + 3 ≤ (word_at w (id_slot c.id)).range = subst (λ n. (word_at w n).attempt + 3 ≤ (word_at w n).range) (sym y.1) (advance_has step found knows may i has_).0 in
+            let count = law.attempts c there y.0 in let range = y.0.2 in let once = times_same c.asked.operation w.advances in omega (arith, room, count, range, once)
+            ))
             (is_other c there i asked inside live lies))
 
     pub few_still : (c : Birth) → In c w'.births → times c.asked.operation w'.advances + 2 ≤ c.asked.range

@@ -72,7 +72,7 @@ module _ (p : Plan) (q : IdPlan) (clients : List (List Task)) (gives : ℕ → L
     own = λ u is low. let x = f.own u (d.all u is low) in (opens_none n u x.0, (λ s. e.tasks.said u.number outcomes.Unopened (x.1 (seeks n u.op s))));
   }
 
-  expired_with : (asked : Asked) (o : ℕ) (x : Outcome) (client : ℕ) (t : Task) → o ≡ asked.operation → IsTaskOf p q clients gives client t → t.op ≡ ops.Expire asked.operation → In (record { number = t.number; outcome = x }) w.sayings → IsExpiredWith p clients w.core.outcomes fixed (given w.core) orders o x
+  pub expired_with : (asked : Asked) (o : ℕ) (x : Outcome) (client : ℕ) (t : Task) → o ≡ asked.operation → IsTaskOf p q clients gives client t → t.op ≡ ops.Expire asked.operation → In (record { number = t.number; outcome = x }) w.sayings → IsExpiredWith p clients w.core.outcomes fixed (given w.core) orders o x
   expired_with asked o x client t own is op said = (client, t, (is.0, is.1, in_contains is.0 t is.2), op ∙ ap (λ n. ops.Expire n) (sym own), e.tasks.said t.number x said)
 
   other_by : (asked : Asked) (o id code : ℕ) → o ≡ asked.operation → IsOther p q clients gives code → (is_final code ≡ true) ⊎ (last o + 2 ≡ asked.range) → FailedInPart p clients w.core.outcomes fixed (given w.core) orders last o asked id code

@@ -14,12 +14,11 @@ use Rattle.sock_message.specs.Asked.{Asked}
 use Rattle.sock_programs.specs.declared.task.Task.{Task}
 use Rattle.sock_programs.specs.Asides.{Step, ClaimId, PutCall, MakeId, StoreCall, LoadCall, StoreAt, LoadAt, LoadIdWord, LockId, PostId, UnlockId, EndId, FreeId, TakeCall, TakeBytes, Bytes, Found, call_id, id_slot, id_first}
 use Rattle.sock_programs.specs.Asides as asides
-use Rattle.call_causes.specs.Scenes.{Birth, Saying, Scene, In, IsBorn, IsErrorCode, IsTaskOf, WasPosted, EndedAt, CauseOf, of_expiry, of_other, Later}
+use Rattle.call_causes.specs.Scenes.{Birth, Saying, Scene, In, IsBorn, IsErrorCode, IsTaskOf, EndedAt, CauseOf, of_expiry, of_other, Later}
 use Rattle.call_causes.specs.Says.{Shape, shape_of, with_attempt, unlocked_by, Slot, NoSlot, Claims, Locked, Holds, Leaves, Mark, with_slot, with_owed, with_made, IsVacant, HasCodes, MayAside, Moves}
 use Rattle.call_causes.specs.Stories.{At, word_at, SlotFits, IsCurrent, BirthsLaw, TasksLaw, ClaimsLaw, ReadsLaw, undo, ahead, unclaimed, IsBehind, KnowsStep, put_of, born_by, ended_of, stored_by, mark_after}
 use Rattle.call_causes.proofs.Lasting.{cause_on, are_told_on}
 use Rattle.call_causes.specs.Lists.{times}
-use Rattle.call_causes.specs.Posts.{posts_by}
 use Rattle.call_causes.proofs.Effects.{word_is}
 use Rattle.call_causes.proofs.Laters.{stored_is}
 
