@@ -24,3 +24,4 @@ pub mod FirstRuns
 pub mod Beside
 pub mod LateLooks
 pub mod LateSeats
+pub mod LateRests
