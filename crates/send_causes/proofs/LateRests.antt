@@ -103,9 +103,6 @@ module _ (p : Plan) where
 
   -- ## Ticks of another seat
 
-  AreSame : ℕ → Core → List View → Core → List View → Type 0
-  AreSame j c vs d ws = (get_elem? d.seats j ≡ get_elem? c.seats j) × (get_elem? ws j ≡ get_elem? vs j)
-
   others_tick : (j : ℕ) (c : Core) (vs : List View) (m : Moment) → j ≢ m.seat → Sound p c vs → IsAnswered c m → IsFitting p c m → (get_elem? (ticked p c m).seats j ≡ get_elem? c.seats j) × (get_elem? (views_after p c vs m) j ≡ get_elem? vs j)
   others_tick j c vs m far sound answered fitting = tick_keeps_marks p c vs m sound answered fitting (begins_round p) (goes_round p) (λ d ws. (get_elem? d.seats j ≡ get_elem? c.seats j) × (get_elem? ws j ≡ get_elem? vs j)) (refl, refl)
       (λ seat v call next at_seat at_view is goes. (set_else c.seats m.seat j _ far, set_else vs m.seat j _ far))

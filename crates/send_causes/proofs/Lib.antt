@@ -25,3 +25,4 @@ pub mod Beside
 pub mod LateLooks
 pub mod LateSeats
 pub mod LateRests
+pub mod LateEnding
