@@ -157,11 +157,11 @@ single r = subst (λ b. Righted Never (cond (not b) (r ∷ []) [])) (sym (eq-eqb
 
 -- links of lives whose link is L, and lives of which this is said
 module _ (p : Plan) (L : ℕ → Type 0) (Old : ℕ → ℕ → Type 0) where
-  abbrev claims_of : Mode → ℕ → Type 0
+  abbrev pub claims_of : Mode → ℕ → Type 0
   claims_of Claims k = L k
   claims_of other k = ⊥
 
-  abbrev rights_of : Mode → ℕ → Type 0
+  abbrev pub rights_of : Mode → ℕ → Type 0
   rights_of Writes k = L k
   rights_of other k = ⊥
 

@@ -26,3 +26,5 @@ pub mod LateLooks
 pub mod LateSeats
 pub mod LateRests
 pub mod LateEnding
+pub mod LateLives
+pub mod LatePlaces
