@@ -28,3 +28,4 @@ pub mod LateRests
 pub mod LateEnding
 pub mod LateLives
 pub mod LatePlaces
+pub mod LateDropped
