@@ -1,11 +1,9 @@
 -- In a run with calls a link whose messages were dropped had failed before the ending, or became a socket's while the run was ending.
 use Rattle.std.proofs.Common.{◌≡◌, ℕ, zero, suc, ◌+◌, ◌*◌, ◌<◌, ◌≤◌, ◌⊎◌, Bool, true, false, le-leb, leb-true, List, [], ◌∷◌, ◌++◌, length, replicate, get_or, inl, inr, ⊎_elim, refl, sym, ap, ◌∙◌, subst, arith}
-use Rattle.std.specs.Prelude.{Contains, nat_le, slice_get, slice_index, Some}
+use Rattle.std.specs.Prelude.{nat_le, slice_get, slice_index, Some}
 use Rattle.std.proofs.lemmas.List.{length-map}
 use mathlib.Core.Logic.{dite}
-use mathlib.Core.Option.{some}
 use native.Mathlib.Decide.{dec_le}
-use lib.ListN.{get_elem?}
 use Rattle.sock_words.specs.declared.plain.Plan.{Plan}
 use Rattle.sock_model.specs.declared.view.View.{View}
 use Rattle.sock_model.specs.Deliveries.{ShownAt, no_place, one_place, place_value}
@@ -16,17 +14,15 @@ use Rattle.brpc_model.specs.Items.{Item}
 use Rattle.brpc_model.specs.Operations.{Turn}
 use Rattle.brpc_model.specs.Script.{script_of}
 use Rattle.std.proofs.Common.{Ok}
-use Rattle.sock_programs.specs.Cores.{Core, SeatState}
+use Rattle.sock_programs.specs.Cores.{Core}
 use Rattle.sock_programs.specs.Tasks.{opens, plan_of}
 use Rattle.sock_programs.specs.Ticks.{Moment, quiet}
 use Rattle.sock_programs.specs.Scripts.{all_tasks, played, IsRunWithCalls}
 use Rattle.sock_programs.specs.ToldCalls.{Accepted, label, IsFailing}
 use Rattle.sock_runs.specs.Sound.{state, Sound, AreFew}
 use Rattle.sock_runs.proofs.Along.{seat_rests, place_inside}
-use Rattle.sock_runs.proofs.Bounded.{IsBounded}
-use Rattle.sock_runs.proofs.LinkTicks.{RetriesGo}
 use Rattle.sock_runs.proofs.Whole.{closing_of, views_played, views_closed, views_ended, end_answered, played_sound, closing_sound, closed_sound, ended_sound, rested_ahead, rested_idle}
-use Rattle.sock_causes.specs.Facts.{late_links_of_run, born_at, shown_in}
+use Rattle.sock_causes.specs.Facts.{late_links_of_run}
 use Rattle.sock_causes.specs.Stories.{In}
 use Rattle.sock_causes.proofs.Delivered.{orders_of}
 use Rattle.sock_causes.proofs.Members.{get_there, in_contains}
@@ -38,10 +34,10 @@ use Rattle.send_causes.proofs.Dropped.{ending_begins, ending_places}
 use Rattle.send_causes.proofs.Early.{start, go, fitting}
 use Rattle.send_causes.proofs.LateEnding.{ended_past}
 use Rattle.send_causes.proofs.LateLooks.{Idle}
-use Rattle.send_causes.proofs.LatePlaces.{IsOfLate, IsEnding, ending_along}
+use Rattle.send_causes.proofs.LatePlaces.{IsEnding, ending_along}
 use Rattle.send_causes.proofs.LateRests.{none_stands, ended_idle}
 use Rattle.send_causes.proofs.LateLives.{WasPast}
-use Rattle.send_causes.proofs.Sends.{orders_are, orders_of_run}
+use Rattle.send_causes.proofs.Sends.{orders_are}
 use Rattle.sock_steps.proofs.Positions.{few_log, on_shorter}
 use Rattle.slot_laws.proofs.Sums.{total_bound}
 use Rattle.sock_model.specs.Rule.{lists_of}
@@ -72,15 +68,6 @@ same_link true j k i n few small less e = omega (arith, small, less, e)
 same_link false j k i n few small less e = absurd (let z : ⊥ = omega (arith, few, small, less, e) in z)
 
 module _ (script : List Item) (made : AreMade script) (turns : List Turn) (core : Core) (is : IsRunWithCalls script turns core) where
-  abbrev p : Plan
-  p = plan_of script
-
-  abbrev views : List View
-  views = first_views script
-
-  abbrev rested : Core
-  rested = played script is.setup (is.scheduled ++ is.later)
-
   abbrev IsLate : ℕ → Type 0
   IsLate k = In k (late_links_of_run script turns core is)
 

@@ -1,10 +1,10 @@
 -- Behind the ending of a run each life that was made before is past, wherever clients wait: its slot has a later version.
-use Rattle.std.proofs.Common.{◌≡◌, ◌≢◌, ℕ, zero, suc, ◌+◌, ◌-◌, ◌*◌, ◌%◌, ◌<◌, ◌≤◌, ◌⊎◌, ◌==◌, ◌&&◌, nat_le, Bool, true, false, cond, eq-eqb, ne_eqb, List, [], ◌∷◌, ◌++◌, length, length-set, replicate, get_or, inl, inr, ⊎_elim, refl, sym, ap, ◌∙◌, subst, arith}
+use Rattle.std.proofs.Common.{◌≡◌, ◌≢◌, ℕ, zero, suc, ◌+◌, ◌-◌, ◌*◌, ◌%◌, ◌<◌, ◌≤◌, ◌⊎◌, ◌==◌, ◌&&◌, nat_le, Bool, true, false, cond, eq-eqb, ne_eqb, List, [], ◌∷◌, ◌++◌, length-set, replicate, get_or, inl, inr, ⊎_elim, refl, sym, ap, ◌∙◌, subst, arith}
 use mathlib.Core.Logic.{dite}
 use mathlib.Core.Option.{none, some, some-injective, some-ne-none}
 use native.Mathlib.Decide.{ℕ_discrete}
 use lib.ListN.{get_elem?}
-use Rattle.atomic_table.proofs.Lists.{at_set, set_else, set_here}
+use Rattle.atomic_table.proofs.Lists.{at_set, set_else}
 use Rattle.sock_words.specs.Words.{socket_id, socket_id_version, socket_id_slot, vref_version, vref_nref}
 use Rattle.sock_words.specs.declared.plain.Plan.{Plan}
 use Rattle.sock_model.specs.declared.view.View.{View}
@@ -17,16 +17,15 @@ use Rattle.chain_laws.proofs.Lists.{at_some}
 use Rattle.sock_steps.proofs.Places.{counts}
 use Rattle.sock_steps.proofs.Quiet.{either_way}
 use Rattle.brpc_model.specs.Items.{Item}
-use Rattle.brpc_model.specs.Operations.{Turn, link_names}
+use Rattle.brpc_model.specs.Operations.{Turn}
 use Rattle.sock_programs.specs.Calls.{Call, AddRef, SetOdd, LoadOpen}
 use Rattle.sock_programs.specs.Heads.{Retry}
-use Rattle.sock_programs.specs.Programs.{Program, Do, Rest, Round, LAST_VERSION, NO_SOCKET, recycle, release, address, set_failed}
+use Rattle.sock_programs.specs.Programs.{Program, Do, Rest, LAST_VERSION, NO_SOCKET, recycle, release, address, set_failed}
 use Rattle.sock_programs.specs.Clients.{ending_of}
 use Rattle.sock_programs.specs.Cores.{Core, SeatState, word_of, word_after, found_at, words_after, homes_after, resolved, next_step, waiting_at}
-use Rattle.sock_programs.specs.Runs.{IsAtRest}
 use Rattle.sock_programs.specs.Tasks.{opens, plan_of}
 use Rattle.sock_programs.specs.Ticks.{Moment, IsAnswered, AreAnswered, quiet, ticked, run}
-use Rattle.sock_programs.specs.Scripts.{is_ending, played, IsRunWithCalls}
+use Rattle.sock_programs.specs.Scripts.{played, IsRunWithCalls}
 use Rattle.sock_runs.specs.Rows.{row, hand_at}
 use Rattle.sock_runs.specs.Sound.{state, Sound, first_step, IsFitting, AreFitting, views_after, views_along}
 use Rattle.sock_runs.proofs.Along.{place_inside, seat_rests}
@@ -69,18 +68,29 @@ Still Rest = Unit {0}
 Still other = ⊥
 
 still_recycle : (i from : ℕ) (next : Bool → Program) → ((b : Bool) → Still (next b)) → Still (recycle i from next)
-still_recycle i from next after = (refl, refl, λ found. either_way (found == from) _ _ Still
-    (refl, refl, λ _. (refl, refl, λ _. (refl, refl, λ _. (refl, refl, λ _. either_way (nat_le (vref_version from + 1) LAST_VERSION) _ _ Still (refl, refl, λ _. after true) (after true))))) (after false))
+still_recycle i from next after = (
+  refl,
+  refl,
+  λ found. either_way (found == from) _ _ Still
+      (refl, refl, λ _. (refl, refl, λ _. (refl, refl, λ _. (refl, refl, λ _. either_way (nat_le (vref_version from + 1) LAST_VERSION) _ _ Still (refl, refl, λ _. after true) (after true))))) (after false),
+)
 
 still_release : (i : ℕ) (next : Bool → Program) → ((b : Bool) → Still (next b)) → Still (release i next)
 still_release i next after = (refl, refl, λ found. either_way ((vref_version found % 2 == 1) && (vref_nref found == 1)) _ _ Still (still_recycle i (found - 1) next after) (after false))
 
 still_ending : (os : List ℕ) → Still (ending_of os)
 still_ending [] = tt
-still_ending (o ∷ os) = let rest = still_ending os in (refl, refl, λ word. either_way (word == 0) _ _ Still rest (either_way (word == NO_SOCKET) _ _ Still rest
-    (refl, refl, λ found. either_way (vref_version found == socket_id_version (word - 1)) _ _ Still
-    (refl, refl, λ odd. either_way (vref_version odd % 2 == 0) _ _ Still (refl, refl, λ _. (refl, refl, λ _. still_release (socket_id_slot (word - 1)) (λ _. ending_of os) (λ _. rest))) (still_release (socket_id_slot (word - 1)) (λ _. ending_of os) (λ _. rest)))
-    (still_release (socket_id_slot (word - 1)) (λ _. ending_of os) (λ _. rest)))))
+still_ending (o ∷ os) = let rest = still_ending os in (
+  refl,
+  refl,
+  λ word. either_way (word == 0) _ _ Still rest (either_way (word == NO_SOCKET) _ _ Still rest (
+    refl,
+    refl,
+    λ found. either_way (vref_version found == socket_id_version (word - 1)) _ _ Still
+        (refl, refl, λ odd. either_way (vref_version odd % 2 == 0) _ _ Still (refl, refl, λ _. (refl, refl, λ _. still_release (socket_id_slot (word - 1)) (λ _. ending_of os) (λ _. rest))) (still_release (socket_id_slot (word - 1)) (λ _. ending_of os) (λ _. rest)))
+        (still_release (socket_id_slot (word - 1)) (λ _. ending_of os) (λ _. rest)),
+  )),
+)
 
 first_is : (program : Program) → Still program → first_step program ≡ program
 first_is (Do call next) x = refl
@@ -222,11 +232,11 @@ module _ (p : Plan) (retries : RetriesGo p) where
         both = tick_keeps_marks p c vs m sound answered fits (begins_round p) (goes_round p)
             (λ d ws. (get_or d.words (open_word p o) 0 ≡ socket_id h i + 1) × ((seat : SeatState) → get_elem? d.seats 0 ≡ some seat → IsPast d i h ⊎ Fails o (socket_id h i + 1) seat.program)) (r.word, r.fails)
             (λ seat v call next at_seat at_view is goes. let at_zero = sym (ap (get_elem? c.seats) own) ∙ at_seat in let x = r.makes seat at_zero in let program_is = sym (first_is seat.program x) ∙ is in let y = subst Still program_is x in (
-            opens_same p c.words v o within call goes.0 y.0 ∙ r.word,
-            λ s at. ⊎_elim (λ a. subst (λ (z : SeatState). (h < vref_version (get_or (words_after c.words (word_of p call) (word_after call (found_at c.words (word_of p call)))) (ref_word i) 0)) ⊎ Fails o (socket_id h i + 1) z.program) a.1
-                (subst (λ z. (h < vref_version (get_or (words_after c.words (word_of p call) (word_after call (found_at c.words (word_of p call)))) (ref_word i) 0)) ⊎ Fails o (socket_id h i + 1) z) (sym (next_is (waiting_at c.calls.waiting m.seat) (next (found_at c.words (word_of p call))) (y.2 (found_at c.words (word_of p call)))))
-                (passing_step c vs m.seat v call next sound at_view goes.0 r.given r.word (subst (λ z. IsPast c i h ⊎ Fails o (socket_id h i + 1) z) program_is (r.fails seat at_zero)))))
-                (λ a. absurd (a.0 (sym own))) (at_set c.seats m.seat 0 _ s at),
+              opens_same p c.words v o within call goes.0 y.0 ∙ r.word,
+              λ s at. ⊎_elim (λ a. subst (λ (z : SeatState). (h < vref_version (get_or (words_after c.words (word_of p call) (word_after call (found_at c.words (word_of p call)))) (ref_word i) 0)) ⊎ Fails o (socket_id h i + 1) z.program) a.1
+                  (subst (λ z. (h < vref_version (get_or (words_after c.words (word_of p call) (word_after call (found_at c.words (word_of p call)))) (ref_word i) 0)) ⊎ Fails o (socket_id h i + 1) z) (sym (next_is (waiting_at c.calls.waiting m.seat) (next (found_at c.words (word_of p call))) (y.2 (found_at c.words (word_of p call)))))
+                  (passing_step c vs m.seat v call next sound at_view goes.0 r.given r.word (subst (λ z. IsPast c i h ⊎ Fails o (socket_id h i + 1) z) program_is (r.fails seat at_zero)))))
+                  (λ a. absurd (a.0 (sym own))) (at_set c.seats m.seat 0 _ s at),
             ))
             (λ seat v program rights hand hs a at_seat at_view comes. let x = r.makes seat (sym (ap (get_elem? c.seats) own) ∙ at_seat) in absurd (never_comes p (first_step seat.program) program (subst Still (sym (first_is seat.program x)) x) comes))
 
@@ -237,9 +247,6 @@ module _ (p : Plan) (retries : RetriesGo p) where
 -- ## A run
 
 module _ (script : List Item) (made : AreMade script) (turns : List Turn) (core : Core) (is : IsRunWithCalls script turns core) where
-  abbrev p : Plan
-  p = plan_of script
-
   abbrev closing : Core
   closing = closing_of script turns core is
 
@@ -284,11 +291,11 @@ module _ (script : List Item) (made : AreMade script) (turns : List Turn) (core 
   closed_past i h k inside given = ⊎_elim
       (λ x. let there = x.2.1 in let r = x.3 in
       let passed = passing_along (plan_of script) (go script made turns core is) i h k x.1 inside r.inside is.last closing views closing_is_sound answered (let f = fitting script made turns core is in f.of_closing) (record {
-      given = before;
-      word = r.word;
-      makes = makes;
-      fails = λ seat at. inr (⊎_elim (λ a. subst (λ (z : SeatState). Fails x.1 (socket_id h i + 1) z.program) a.1 (subst (Fails x.1 (socket_id h i + 1)) (sym (next_is (waiting_at (played script is.setup (is.scheduled ++ is.later)).calls.waiting 0) (ending_of (opens script)) (still_ending (opens script))))
-          (fails_ending x.1 (socket_id h i + 1) (omega arith) (low i h inside born) (opens script) there.0 there.1))) (λ a. absurd (a.0 refl)) (at_set (played script is.setup (is.scheduled ++ is.later)).seats 0 0 first_of_ending seat at));
+        given = before;
+        word = r.word;
+        makes = makes;
+        fails = λ seat at. inr (⊎_elim (λ a. subst (λ (z : SeatState). Fails x.1 (socket_id h i + 1) z.program) a.1 (subst (Fails x.1 (socket_id h i + 1)) (sym (next_is (waiting_at (played script is.setup (is.scheduled ++ is.later)).calls.waiting 0) (ending_of (opens script)) (still_ending (opens script))))
+            (fails_ending x.1 (socket_id h i + 1) (omega arith) (low i h inside born) (opens script) there.0 there.1))) (λ a. absurd (a.0 refl)) (at_set (played script is.setup (is.scheduled ++ is.later)).seats 0 0 first_of_ending seat at));
       }) in
       ⊎_elim (λ past. past) (λ f. absurd (subst (Fails x.1 (socket_id h i + 1)) (at_rest seat.0 seat.1) f)) (passed.fails seat.0 seat.1))
       (λ x. absurd (none_pending (socket_id h i) x))

@@ -93,13 +93,13 @@ module _ (p : Plan) (base : Core) (L : ℕ → Type 0) where
   pub lives_ticks : (c : Core) (vs : List View) (m : Moment) → Sound p c vs → IsAnswered c m → IsFitting p c m → ((k : ℕ) → In k (born_at c m) → L k) → Lives c vs → Lives (ticked p c m) (views_after p c vs m)
   lives_ticks c vs m sound answered fits born lives = tick_keeps_marks p c vs m sound answered fits (begins_round p) (goes_round p) Lives lives
       (λ seat v call next at_seat at_view is goes. record {
-      later = λ i inside. let before = lives.later i inside in let on = versions_on p c vs sound m.seat v at_view call goes.0 i inside in omega (arith, before, on);
-      links = λ i h k inside given. ⊎_elim (λ l. inr l)
-          (λ less. lives.links i h k inside (let w : View = row p call (found_at c.words (word_of p call)) (hand_at p c.words c.homes call) v in
-          let moved = counts (state c vs) m.seat v w at_view (words_after c.words (word_of p call) (word_after call (found_at c.words (word_of p call)))) (homes_after p call seat.hand c.homes) (is_linked h k) i in omega (arith, given, moved, less)))
-          (links_after v (found_at c.words (word_of p call)) (hand_at p c.words c.homes call) h k i call (λ n l e. born l (birth_shown c m seat n l next at_seat (is ∙ ap (λ q. Do q next) e))));
-    })
+        later = λ i inside. let before = lives.later i inside in let on = versions_on p c vs sound m.seat v at_view call goes.0 i inside in omega (arith, before, on);
+        links = λ i h k inside given. ⊎_elim (λ l. inr l)
+            (λ less. lives.links i h k inside (let w : View = row p call (found_at c.words (word_of p call)) (hand_at p c.words c.homes call) v in
+            let moved = counts (state c vs) m.seat v w at_view (words_after c.words (word_of p call) (word_after call (found_at c.words (word_of p call)))) (homes_after p call seat.hand c.homes) (is_linked h k) i in omega (arith, given, moved, less)))
+            (links_after v (found_at c.words (word_of p call)) (hand_at p c.words c.homes call) h k i call (λ n l e. born l (birth_shown c m seat n l next at_seat (is ∙ ap (λ q. Do q next) e))));
+      })
       (λ seat v program rights hand hs a at_seat at_view comes. record {
-      later = lives.later;
-      links = λ i h k inside given. lives.links i h k inside (let moved = counts (state c vs) m.seat v (with_rights v rights) at_view c.words hs (is_linked h k) i in omega (arith, given, moved));
-    })
+        later = lives.later;
+        links = λ i h k inside given. lives.links i h k inside (let moved = counts (state c vs) m.seat v (with_rights v rights) at_view c.words hs (is_linked h k) i in omega (arith, given, moved));
+      })

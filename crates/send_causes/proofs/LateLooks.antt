@@ -1,9 +1,8 @@
 -- What each client and reader does about messages: it claims a request only for a life that its last look found live, and it waits only where it has none claimed and writes no link.
-use Rattle.std.proofs.Common.{◌≡◌, ℕ, zero, suc, ◌+◌, ◌-◌, ◌*◌, ◌/◌, ◌%◌, ◌<◌, ◌==◌, ◌&&◌, ◌⊎◌, not, nat_lt, nat_le, Bool, true, false, cond, List, [], ◌∷◌, ◌++◌, length, inl, inr, refl, sym, subst}
+use Rattle.std.proofs.Common.{◌≡◌, ℕ, zero, suc, ◌+◌, ◌-◌, ◌/◌, ◌%◌, ◌==◌, ◌&&◌, ◌⊎◌, not, nat_lt, nat_le, Bool, true, false, cond, List, [], ◌∷◌, ◌++◌, length, inl, inr, refl, sym, subst}
 use Rattle.std.specs.Prelude.{Option, Some, None, if◌then◌else◌}
 use Rattle.sock_words.specs.Words.{socket_id_version, socket_id_slot, vref_version, vref_nref, at_word, at_word_first, at_word_slot, at_word_link, at_word_attempt}
 use Rattle.sock_words.specs.declared.outcome.Outcome.TheVariants.{Unopened, Gone, Full, Held, Freed, Kept}
-use Rattle.sock_words.specs.declared.plain.Plan.{Plan}
 use Rattle.sock_io.specs.declared.link.Put.{Put}
 use Rattle.sock_io.specs.declared.link.Put.TheVariants as puts
 use Rattle.sock_io.specs.declared.link.Ready.{Ready}
@@ -21,13 +20,13 @@ use Rattle.sock_programs.specs.declared.task.Op.{Op}
 use Rattle.sock_programs.specs.declared.task.Op.TheVariants as ops
 use Rattle.sock_programs.specs.declared.task.Task.{Task}
 use Rattle.sock_programs.specs.declared.task.Sizes.{Sizes}
-use Rattle.sock_programs.specs.Calls.{Call, LookWord, FindLink, ClaimRequest, SwapHead, EmptyHead}
+use Rattle.sock_programs.specs.Calls.{LookWord, FindLink, ClaimRequest, SwapHead, EmptyHead}
 use Rattle.sock_programs.specs.Writings.{Holder, Writing, Puts, Waits, Empties, Walks}
-use Rattle.sock_programs.specs.Asides.{Step, Found, StoreAt, Taking, Bytes, Nothing, Closed, call_id, id_slot, id_first}
+use Rattle.sock_programs.specs.Asides.{Found, StoreAt, Taking, Bytes, Nothing, Closed, call_id, id_slot, id_first}
 use Rattle.sock_programs.specs.Heads.{Head, Exit, Retry, Sought, Reading, Posts, Unlocks, Decides, Locks, Joins, Opens, Reads, Discards, Posting, WasGone, WasStale, WasCrowded, WasQueued, HasLocked, Unlocking, IsOpen, HasNext, Deciding, HasEnded, GoesOn, Locking, NotThere, Has, Ended}
 use Rattle.sock_programs.specs.Programs.{Program, Do, Say, Sent, Rest, TakeMessage, TakeHome, PutHome, PutBytes, AskReady, Write, Aside, Round, Keep, Retries, LAST_VERSION, LAST_GENERATION, NO_SOCKET, recycle, release, address, reach, set_failed, fail, fail_outcome, hold, drop_held, open_from, make_socket}
 use Rattle.sock_programs.specs.Posts.{WHOLE, packed, advance_of, is_first, is_sought, is_stale, is_full, judged, posts_round, post_with, posted, post, popped, unlocks_round, ends_call, end_id, decide, decided, unlocked, decides_round, locking, locks_round, joins_round}
-use Rattle.sock_programs.specs.Readers.{LIMIT, has_response, slot_in, version_in, answer, answered, responses, read_on, took_bytes, took, reads_round, discarded, discards_round, opens_round, kept_for, ends_with, posted_last, post_each, thrown_away, read, reader}
+use Rattle.sock_programs.specs.Readers.{LIMIT, has_response, slot_in, answer, answered, responses, read_on, took_bytes, took, reads_round, discarded, discards_round, opens_round, kept_for, ends_with, posted_last, post_each, thrown_away, read, reader}
 use Rattle.sock_programs.specs.Sends.{freed, one_more, passed_telling, tell_drop, placed, dropped, link_failed, put_answered, ready_answered, block, first_put, write_link, heading_of, accept, claim_from, start, send}
 use Rattle.sock_programs.specs.Attempts.{claims_from, heading_for, attempt, begin_call, claim_id, call, tried_again, retry_locked, retry, expire_outcome, expire, join}
 use Rattle.sock_programs.specs.Rounds.{round}
@@ -95,23 +94,22 @@ module _ (m : Mode) where
   G program = Looks m program
 
   looks_recycle : (i from : ℕ) (next : Bool → Program) → ((b : Bool) → G (next b)) → G (recycle i from next)
-  looks_recycle i from next after = (λ found. either_way (found == from) _ _ G
-      ((λ k. (λ _. (λ _. (λ _.
-      either_way (nat_le (vref_version from + 1) LAST_VERSION) _ _ G ((λ _. after true)) (after true))))))
-      (after false))
+  looks_recycle i from next after = λ found. either_way (found == from) _ _ G
+      (λ k _ _ _. either_way (nat_le (vref_version from + 1) LAST_VERSION) _ _ G (λ _. after true) (after true))
+      (after false)
 
   looks_release : (i : ℕ) (next : Bool → Program) → ((b : Bool) → G (next b)) → G (release i next)
-  looks_release i next after = (λ found. either_way ((vref_version found % 2 == 1) && (vref_nref found == 1)) _ _ G (looks_recycle i (found - 1) next after) (after false))
+  looks_release i next after = λ found. either_way ((vref_version found % 2 == 1) && (vref_nref found == 1)) _ _ G (looks_recycle i (found - 1) next after) (after false)
 
   looks_address : (id : ℕ) (held : Program) (gone : ℕ → Program) → G held → ((found : ℕ) → G (gone found)) → G (address id held gone)
-  looks_address id held gone h after = (λ found. either_way (vref_version found == socket_id_version id) _ _ G h (looks_release (socket_id_slot id) (λ _. gone found) (λ _. after found)))
+  looks_address id held gone h after = λ found. either_way (vref_version found == socket_id_version id) _ _ G h (looks_release (socket_id_slot id) (λ _. gone found) (λ _. after found))
 
   looks_reach : (name : ℕ) (unopened : Program) (held gone : ℕ → Program) → G unopened → ((id : ℕ) → G (held id)) → ((found : ℕ) → G (gone found)) → G (reach name unopened held gone)
-  looks_reach name unopened held gone u h after = (λ word. either_way (word == 0) _ _ G u (looks_address (word - 1) (held (word - 1)) gone (h (word - 1)) after))
+  looks_reach name unopened held gone u h after = λ word. either_way (word == 0) _ _ G u (looks_address (word - 1) (held (word - 1)) gone (h (word - 1)) after)
 
   looks_set_failed : (id code : ℕ) (next : ℕ → Program) → ((found : ℕ) → G (next found)) → G (set_failed id code next)
-  looks_set_failed id code next after = (λ found. either_way (vref_version found % 2 == 0) _ _ G
-      ((λ _. (λ _. after found))) (after found))
+  looks_set_failed id code next after = λ found. either_way (vref_version found % 2 == 0) _ _ G
+      (λ _ _. after found) (after found)
 
   looks_fail : (o name code : ℕ) (next : Program) → G next → G (fail o name code next)
   looks_fail o name code next after = looks_reach name (Say o Unopened next) (λ id. set_failed id code (λ found. release (socket_id_slot id) (λ _. Say o (fail_outcome found) next))) (λ found. Say o (Gone (record { 0 = found })) next) after
@@ -126,36 +124,36 @@ module _ (m : Mode) where
   looks_judged : (id e found : ℕ) (k : Posting → Program) → ((x : Posting) → G (k x)) → G (judged id e found k)
   looks_judged id e found k after = either_way (not (is_first (id_first id) (parts found))) _ _ G (after WasGone)
       (either_way (is_stale e (parts found)) _ _ G (after WasStale)
-      (either_way (is_full (parts found)) _ _ G (after (WasCrowded (code_of (parts found).oldest) (code_of (parts found).second))) (after)))
+      (either_way (is_full (parts found)) _ _ G (after (WasCrowded (code_of (parts found).oldest) (code_of (parts found).second))) after))
 
   looks_posts : (id e from : ℕ) (k : Posting → Program) → ((x : Posting) → G (k x)) → G (posts_round id e from k)
-  looks_posts id e from k after = (λ found. either_way (found == from) _ _ G
-      (either_way ((parts from).state == 1) _ _ G (after (HasLocked (packed (posted_word (parts from) e)))) (after WasQueued)) (looks_judged id e found k after))
+  looks_posts id e from k after = λ found. either_way (found == from) _ _ G
+      (either_way ((parts from).state == 1) _ _ G (after (HasLocked (packed (posted_word (parts from) e)))) (after WasQueued)) (looks_judged id e found k after)
 
   looks_post_with : (id e : ℕ) (k : Posting → Program) → ((x : Posting) → G (k x)) → G (post_with id e k)
-  looks_post_with id e k after = (λ found. looks_judged id e found k after)
+  looks_post_with id e k after = λ found. looks_judged id e found k after
 
   looks_popped : (i oldest word : ℕ) (k : Unlocking → Program) → ((x : Unlocking) → G (k x)) → G (popped i oldest word k)
-  looks_popped i oldest word k after = either_way (oldest == 0) _ _ G (after (IsOpen word)) (either_way (is_stale oldest (parts word)) _ _ G (after) (after (HasNext word oldest)))
+  looks_popped i oldest word k after = either_way (oldest == 0) _ _ G (after (IsOpen word)) (either_way (is_stale oldest (parts word)) _ _ G after (after (HasNext word oldest)))
 
   looks_unlocks : (i from : ℕ) (advance : Bool) (k : Unlocking → Program) → ((x : Unlocking) → G (k x)) → G (unlocks_round i from advance k)
-  looks_unlocks i from advance k after = (λ found. either_way (found == from) _ _ G
-      (looks_popped i (parts from).oldest (packed (unlocked_word (parts from) (advance_of advance))) k after) (after))
+  looks_unlocks i from advance k after = λ found. either_way (found == from) _ _ G
+      (looks_popped i (parts from).oldest (packed (unlocked_word (parts from) (advance_of advance))) k after) after
 
   looks_end_id : (i : ℕ) (next : Program) → G next → G (end_id i next)
-  looks_end_id i next after = (λ found. either_way (nat_le ((parts found).first + (parts found).range) LAST) _ _ G ((λ _. after)) after)
+  looks_end_id i next after = λ found. either_way (nat_le ((parts found).first + (parts found).range) LAST) _ _ G (λ _. after) after
 
   looks_decide : (id word e : ℕ) (k : Deciding → Program) → ((x : Deciding) → G (k x)) → G (decide id word e k)
-  looks_decide id word e k after = (λ asked. after)
+  looks_decide id word e k after = λ asked. after
 
   looks_unlocked : (r : Retry) (k : Deciding → Program) → ((x : Deciding) → G (k x)) → (exit : Unlocking) → G (unlocked r k exit)
-  looks_unlocked r k after (IsOpen word) = (after GoesOn)
-  looks_unlocked r k after (HasNext word e) = (looks_decide r.id word e k after)
+  looks_unlocked r k after (IsOpen word) = after GoesOn
+  looks_unlocked r k after (HasNext word e) = looks_decide r.id word e k after
 
   looks_decides : (id : ℕ) (asked : Asked) (word e : ℕ) (k : Deciding → Program) → ((x : Deciding) → G (k x)) → G (decides_round id asked word e k)
-  looks_decides id asked word e k after = let r : Retry = record { id = id; attempt = (parts word).attempt + 1 } in either_way (ends_call (parts word) e) _ _ G
+  looks_decides id asked word e k after = either_way (ends_call (parts word) e) _ _ G
       (looks_end_id (id_slot id) (k (HasEnded asked.operation (code_of e))) (after (HasEnded asked.operation (code_of e))))
-      ((λ _. (looks_unlocked (record { id = id; attempt = (parts word).attempt + 1 }) k after)))
+      (λ _. looks_unlocked (record { id = id; attempt = (parts word).attempt + 1 }) k after)
 
   looks_decided : (id : ℕ) (next : Program) → G next → (exit : Deciding) → G (decided id next exit)
   looks_decided id next after (HasEnded o c) = after
@@ -237,8 +235,11 @@ looks_accept id q n heading bytes next after = λ _ _. (refl, λ found. two_ways
 
 looks_claim : (more q o id : ℕ) (bytes : List ℕ) (next : Program) → LooksOn next → Looks (Saw id) (claim_from more q o id bytes next)
 looks_claim zero q o id bytes next after = looks_release (Saw id) (socket_id_slot id) (λ _. Say o Full next) (λ _. after (Saw id) tt)
-looks_claim (suc more) q o id bytes next after = (refl, λ found. two_ways (found % 2 == 0) Claims (Saw id) _ _
-    (looks_accept id q (found / 2) (heading_of o) bytes (release (socket_id_slot id) (λ _. Sent o next)) (looks_release Idle (socket_id_slot id) (λ _. Sent o next) (λ _. after Idle tt))) (looks_claim more (q + 1) o id bytes next after))
+looks_claim (suc more) q o id bytes next after = (
+  refl,
+  λ found. two_ways (found % 2 == 0) Claims (Saw id) _ _
+      (looks_accept id q (found / 2) (heading_of o) bytes (release (socket_id_slot id) (λ _. Sent o next)) (looks_release Idle (socket_id_slot id) (λ _. Sent o next) (λ _. after Idle tt))) (looks_claim more (q + 1) o id bytes next after),
+)
 
 looks_start : (requests o id : ℕ) (bytes : List ℕ) (next : Program) → LooksOn next → Looks Idle (start requests o id bytes next)
 looks_start requests o id bytes next after = λ found. two_ways (vref_version found % 2 == 0) (Saw id) Idle _ _ (looks_claim requests 0 o id bytes next after)
@@ -251,8 +252,11 @@ looks_send requests o name bytes next after = looks_reach Idle name (Say o Unope
 
 looks_claims : (more q id : ℕ) (heading : Heading) (bytes : List ℕ) (full accepted : Program) → Looks (Saw id) full → Looks Idle accepted → Looks (Saw id) (claims_from more q id heading bytes full accepted)
 looks_claims zero q id heading bytes full accepted none_ after = none_
-looks_claims (suc more) q id heading bytes full accepted none_ after = (refl, λ found. two_ways (found % 2 == 0) Claims (Saw id) _ _
-    (looks_accept id q (found / 2) heading bytes accepted after) (looks_claims more (q + 1) id heading bytes full accepted none_ after))
+looks_claims (suc more) q id heading bytes full accepted none_ after = (
+  refl,
+  λ found. two_ways (found % 2 == 0) Claims (Saw id) _ _
+      (looks_accept id q (found / 2) heading bytes accepted after) (looks_claims more (q + 1) id heading bytes full accepted none_ after),
+)
 
 looks_tries : (requests o socket id n : ℕ) (heading : Heading) (bytes : List ℕ) (next : Program) → LooksOn next
     → Looks Idle (address socket (Do (FindLink (socket_id_slot socket) (socket_id_version socket)) (λ k. Aside (StoreAt o (at_word (id_first id) (id_slot id) k n)) (λ _. Do (LookWord socket) (λ found.
@@ -455,4 +459,3 @@ looks_next m ws (AskReady k next) x = (m, inl refl, x)
 looks_next m ws (Write w after) x = (m, inl refl, x)
 looks_next m ws (Aside step next) x = (m, inl refl, x)
 looks_next m ws (Round head next) x = (m, inl refl, x)
-

@@ -12,11 +12,10 @@ use Rattle.sock_model.specs.declared.view.View.{View}
 use Rattle.sock_model.specs.Deliveries.{place_value}
 use Rattle.sock_model.specs.Layout.{tag_word, ref_word, link_word, head_word, code_word, name_word, open_word, request_word, next_word, place_word}
 use Rattle.sock_programs.specs.Calls.{Call, ClaimSlot, GiveBirth, AddRef, SubRef, SetOdd, Recycle, FreeSlot, StoreLink, LoadLink, ResetHead, WipeCode, StoreCode, StoreName, LoadName, StoreOpen, LoadOpen, TakeLink, FinishLink, PutLink, LookWord, FindLink, LoadCode, ClaimRequest, PutMessage, Unconnect, SwapHead, Connect, EmptyHead, ReadNext, TurnNext, FreeRequest, StorePlace, DropPlace}
-use Rattle.sock_programs.specs.Cores.{Core, SeatState, word_of, word_after, found_at, words_after}
+use Rattle.sock_programs.specs.Cores.{Core, word_of, word_after, found_at, words_after}
 use Rattle.sock_programs.specs.Ticks.{Moment, IsAnswered, AreAnswered, ticked, run}
 use Rattle.sock_runs.specs.May.{May}
 use Rattle.sock_runs.specs.Sound.{state, Sound, AreFew, MOST_PLACES, IsFitting, AreFitting, views_after, views_along}
-use Rattle.sock_runs.proofs.Bounded.{IsBounded}
 use Rattle.sock_runs.proofs.Cases.{tick_keeps_marks}
 use Rattle.sock_runs.proofs.ChainTicks.{turn_inside, free_inside}
 use Rattle.sock_runs.proofs.Few.{places_small}
@@ -28,7 +27,7 @@ use Rattle.joint_runs.proofs.Both.{AreBounded}
 use Rattle.sock_causes.specs.Facts.{born_at, shown_in}
 use Rattle.sock_causes.specs.Stories.{In}
 use Rattle.sock_causes.proofs.Plain.{in_left, in_right}
-use Rattle.send_causes.proofs.LateLooks.{Mode, Idle, Saw, Claims, Writes, Looks}
+use Rattle.send_causes.proofs.LateLooks.{Mode, Idle, Saw, Claims, Writes}
 use Rattle.send_causes.proofs.LateSeats.{Righted, rights_of, Stands, AllStand, stand_ticks}
 use Rattle.send_causes.proofs.LateLives.{WasPast, Lives, lives_tell, lives_ticks}
 
@@ -64,8 +63,15 @@ module _ (p : Plan) (base : Core) (L : ℕ → Type 0) where
     place_stored : (dropped : Bool) (n k position : ℕ) → L k → k < p.links → position < MOST_PLACES
         → (get_or (Rattle.std.proofs.Common.set c.words (place_word p n) (place_value dropped k position)) (place_word p l) 0 ≡ get_or c.words (place_word p l) 0) ⊎ IsOfLate (get_or (Rattle.std.proofs.Common.set c.words (place_word p n) (place_value dropped k position)) (place_word p l) 0)
     place_stored dropped n k position late inside small = dite (ℕ_discrete l n)
-        (λ e. inr record { dropped = dropped; link = k; position = position; late = late; inside = inside; small = small;
-        is = ap (λ x. get_or (Rattle.std.proofs.Common.set c.words (place_word p n) (place_value dropped k position)) (place_word p x) 0) e ∙ get_or-set_same c.words (place_word p n) (place_value dropped k position) 0 (let sized = sound.lawful.references.sized in omega (arith, sized, low, e)) })
+        (λ e. inr record {
+          dropped = dropped;
+          link = k;
+          position = position;
+          late = late;
+          inside = inside;
+          small = small;
+          is = ap (λ x. get_or (Rattle.std.proofs.Common.set c.words (place_word p n) (place_value dropped k position)) (place_word p x) 0) e ∙ get_or-set_same c.words (place_word p n) (place_value dropped k position) 0 (let sized = sound.lawful.references.sized in omega (arith, sized, low, e));
+        })
         (λ far. inl (get_or-set_other c.words (place_word p n) (place_word p l) (place_value dropped k position) 0 (λ e. far (omega (arith, e)))))
 
     place_after : (call : Call) → May p v call → After call
@@ -127,7 +133,7 @@ module _ (p : Plan) (base : Core) (L : ℕ → Type 0) where
   ending_along retries most [] c vs sound answered fits bounded born e = e
   ending_along retries most (m ∷ ms) c vs sound answered fits bounded born e = ending_along retries most ms (ticked p c m) (views_after p c vs m) (sound_ticks p retries c vs m sound answered.0 fits.0) answered.1 fits.1 bounded.1
       (λ k there. born k (in_right (born_at c m) (shown_in born_at p (ticked p c m) ms) k there)) (record {
-    lives = lives_ticks p base L c vs m sound answered.0 fits.0 (λ k there. born k (in_left (born_at c m) (shown_in born_at p (ticked p c m) ms) k there)) e.lives;
-    stands = stand_ticks p L (WasPast p base L) c vs m sound answered.0 fits.0 (lives_tell p base L c vs sound e.lives) e.stands;
-    places = places_late c vs m sound answered.0 fits.0 (let few = bounded.0 in few.few) e.stands e.places;
-  })
+        lives = lives_ticks p base L c vs m sound answered.0 fits.0 (λ k there. born k (in_left (born_at c m) (shown_in born_at p (ticked p c m) ms) k there)) e.lives;
+        stands = stand_ticks p L (WasPast p base L) c vs m sound answered.0 fits.0 (lives_tell p base L c vs sound e.lives) e.stands;
+        places = places_late c vs m sound answered.0 fits.0 (let few = bounded.0 in few.few) e.stands e.places;
+      })

@@ -1,7 +1,6 @@
 -- Where the ending of a run begins, and where seat 0 has made it, no seat has claimed a request or writes a link, and each waits at a head where it has nothing in hand, or is at rest.
-use Rattle.std.proofs.Common.{◌≡◌, ◌≢◌, ℕ, zero, suc, ◌+◌, ◌-◌, ◌<◌, ◌⊎◌, Bool, true, false, List, [], ◌∷◌, ◌++◌, length, map, replicate, set, inl, inr, ⊎_elim, refl, sym, ap, ◌∙◌, subst, arith}
+use Rattle.std.proofs.Common.{◌≡◌, ◌≢◌, ℕ, zero, suc, ◌+◌, ◌-◌, ◌<◌, ◌⊎◌, Bool, true, false, List, [], ◌∷◌, ◌++◌, length, map, replicate, inl, inr, ⊎_elim, refl, sym, ap, ◌∙◌, subst}
 use Rattle.std.proofs.lemmas.Bool.{true≢false}
-use Rattle.std.specs.Prelude as std
 use Rattle.std.specs.List.{AllByRecursion}
 use mathlib.Core.Logic.{dite}
 use mathlib.Core.Option.{Option, none, some, some-injective, some-ne-none}
@@ -19,7 +18,6 @@ use Rattle.sock_programs.specs.declared.task.Task.{Task}
 use Rattle.sock_programs.specs.Clients.{client_from}
 use Rattle.sock_programs.specs.Heads.{Head, Exit, Posts, Unlocks, Decides, Locks, Joins, Opens, Reads, Discards}
 use Rattle.sock_programs.specs.Programs.{Program, Rest, Round}
-use Rattle.sock_programs.specs.Readers.{reader}
 use Rattle.sock_programs.specs.Cores.{Core, SeatState, resolved, next_step}
 use Rattle.sock_programs.specs.Runs.{IsAtRest}
 use Rattle.sock_programs.specs.Tasks.{opens, calls, plan_of, id_plan_of}
@@ -39,8 +37,8 @@ use Rattle.sock_runs.proofs.Whole.{closing_of, views_played, views_closed, set_u
 use Rattle.client_laws.specs.Openings.{all_seats}
 use Rattle.joint_runs.proofs.Runs.{AreMade, first_views}
 use Rattle.send_causes.proofs.Early.{start, go, fitting, opening_rights}
-use Rattle.send_causes.proofs.LateLooks.{Mode, Idle, Looks, LooksOn, client_looks, reader_looks, looks_next}
-use Rattle.send_causes.proofs.LateSeats.{Claiming, Righted, Never, Stands, AllStand, Tells, calm_none, stand_ticks}
+use Rattle.send_causes.proofs.LateLooks.{Mode, Idle, Looks, client_looks, reader_looks, looks_next}
+use Rattle.send_causes.proofs.LateSeats.{Claiming, Righted, Never, Stands, AllStand, Tells, stand_ticks}
 use Rattle.send_causes.proofs.Rests.{still, aside}
 use Rattle.send_causes.proofs.Sends.{opening_claims}
 
@@ -129,23 +127,16 @@ of_seat : (p : Plan) (c : Core) (m : Moment) (j : ℕ) (seat : SeatState) → m.
 of_seat p c m j seat same at is = sym (ap (λ (o : Option SeatState). elim o as (λ o. Bool) [ none ↦ false | some seat ↦ waits_at p c m.answer seat.program ]) (ap (get_elem? c.seats) same ∙ at)) ∙ is
 
 module _ (script : List Item) (made : AreMade script) (turns : List Turn) (core : Core) (is : IsRunWithCalls script turns core) where
-  abbrev p : Plan
-  p = plan_of script
-
-  abbrev vs : List View
-  vs = first_views script
-
-  abbrev rested : Core
-  rested = played script is.setup (is.scheduled ++ is.later)
-
   opened_stand : AllStand (plan_of script) Any NoOld (opened script) (first_views script)
   opened_stand j seat v at at_view = let x = mapped (λ (program : Program). record { program = next_step (resolved [] program); hand = [] }) (all_programs (programs (sizes_of (plan_of script) (id_plan_of script)) (all_tasks script)) (readers_from (calls script) 0 (opens script))) j seat at in
       let looks = all_at (Looks Idle) (all_programs (programs (sizes_of (plan_of script) (id_plan_of script)) (all_tasks script)) (readers_from (calls script) 0 (opens script))) j x.0
       (all_both (Looks Idle) (programs (sizes_of (plan_of script) (id_plan_of script)) (all_tasks script)) _ (clients_look (sizes_of (plan_of script) (id_plan_of script)) (all_tasks script))
       (all_both (Looks Idle) (replicate (32 - length (programs (sizes_of (plan_of script) (id_plan_of script)) (all_tasks script))) Rest) _ (rests_look (32 - length (programs (sizes_of (plan_of script) (id_plan_of script)) (all_tasks script)))) (readers_look (calls script) 0 (opens script)))) x.1 in
-      let y = looks_next Idle [] x.0 looks in subst (λ (s : SeatState). (m : Mode) × Looks m s.program × Stands (plan_of script) Any NoOld m v) x.2
-      (Idle, subst (λ n. Looks n (next_step (resolved [] x.0))) (idle y.0 y.1) y.2,
-      none_stands (plan_of script) Any NoOld v (opening_claims (plan_of script) (all_seats (all_tasks script) (length (opens script))) j v at_view, opening_rights (plan_of script) (all_seats (all_tasks script) (length (opens script))) j v at_view))
+      let y = looks_next Idle [] x.0 looks in subst (λ (s : SeatState). (m : Mode) × Looks m s.program × Stands (plan_of script) Any NoOld m v) x.2 (
+        Idle,
+        subst (λ n. Looks n (next_step (resolved [] x.0))) (idle y.0 y.1) y.2,
+        none_stands (plan_of script) Any NoOld v (opening_claims (plan_of script) (all_seats (all_tasks script) (length (opens script))) j v at_view, opening_rights (plan_of script) (all_seats (all_tasks script) (length (opens script))) j v at_view),
+      )
     where
       idle : (n : Mode) → (n ≡ Idle) ⊎ (Unit {0} × (n ≡ Idle)) → n ≡ Idle
       idle n (inl e) = e

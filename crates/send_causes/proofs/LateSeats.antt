@@ -1,5 +1,5 @@
 -- What the view of a seat has of messages, by where the seat stands in its program; each tick of a run keeps it.
-use Rattle.std.proofs.Common.{◌≡◌, ◌≢◌, ℕ, ◌+◌, ◌-◌, ◌%◌, ◌<◌, ◌==◌, not, nat_lt, Bool, true, false, cond, eqb-true, eq-eqb, List, [], ◌∷◌, ◌++◌, filter, get_or, set, ◌⊎◌, inl, inr, ⊎_elim, refl, sym, ap, ◌∙◌, subst}
+use Rattle.std.proofs.Common.{◌≡◌, ℕ, ◌-◌, ◌%◌, ◌==◌, not, nat_lt, Bool, true, false, cond, eqb-true, eq-eqb, List, [], ◌∷◌, ◌++◌, filter, get_or, set, ◌⊎◌, inl, inr, ⊎_elim, refl, sym, ap, ◌∙◌, subst}
 use Rattle.std.specs.List.{AllByRecursion}
 use mathlib.Core.Option.{some}
 use lib.ListN.{get_elem?}
@@ -9,7 +9,6 @@ use Rattle.sock_words.specs.declared.plain.Plan.{Plan}
 use Rattle.sock_io.specs.declared.link.Put.{Put}
 use Rattle.sock_io.specs.declared.link.Put.TheVariants.{Took, Again, Failed}
 use Rattle.sock_model.specs.declared.chain.Claim.{Claim}
-use Rattle.sock_model.specs.declared.chain.Heading.{Heading}
 use Rattle.sock_model.specs.declared.chain.Right.{Right}
 use Rattle.sock_model.specs.declared.chain.Stage.{Stage}
 use Rattle.sock_model.specs.declared.chain.Stage.TheVariants as stages
@@ -24,17 +23,17 @@ use Rattle.sock_model.specs.Weights.{total, only}
 use Rattle.sock_steps.proofs.Quiet.{either_way}
 use Rattle.sock_programs.specs.Calls.{Call, LookWord, ClaimRequest, PutMessage, Unconnect, SwapHead, EmptyHead, ReadNext, TurnNext, FreeRequest, StorePlace, DropPlace, LoadName, LoadOpen, TakeLink, LoadCode}
 use Rattle.sock_programs.specs.Heads.{Retry}
-use Rattle.sock_programs.specs.Programs.{Program, Do, TakeMessage, TakeHome, PutHome, PutBytes, AskReady, Aside}
+use Rattle.sock_programs.specs.Programs.{Program, Do}
 use Rattle.sock_programs.specs.Cores.{Core, SeatState, resolved, next_step, word_of, found_at, waiting_at, hand_after, lies_at, others_of, link_place}
 use Rattle.sock_programs.specs.Ticks.{Moment, IsAnswered, fed, onto_first, ticked}
 use Rattle.sock_runs.specs.Rows.{row, hand_at, link_in, is_id, by_claim, by_right, new_claim, filled_claim, ready_claim, exchanged, looked_clean, emptied, settled, read_next, turned_next, freed_next, freed_stage, placed_next, dropped_next, took_message, link_away, link_home_again, took_bytes}
 use Rattle.sock_runs.specs.May.{May}
-use Rattle.sock_runs.specs.Sound.{Sound, first_step, IsFitting, views_after}
+use Rattle.sock_runs.specs.Sound.{Sound, IsFitting, views_after}
 use Rattle.sock_runs.proofs.Leaves.{claim_way, right_way}
 use Rattle.sock_runs.proofs.Cases.{tick_keeps}
 use Rattle.sock_runs.proofs.Rounds.{begins_round}
 use Rattle.sock_runs.proofs.Passes.{goes_round}
-use Rattle.send_causes.proofs.LateLooks.{Mode, Idle, Saw, Claims, Writes, IsCalm, seen, Looks, Eased, looks_first, looks_next}
+use Rattle.send_causes.proofs.LateLooks.{Mode, Idle, Saw, Claims, Writes, IsCalm, seen, Looks, looks_first, looks_next}
 
 -- ## Claims and rights
 
@@ -155,7 +154,7 @@ single r = subst (λ b. Righted Never (cond (not b) (r ∷ []) [])) (sym (eq-eqb
 
 -- ## A seat
 
--- links of lives whose link is L, and lives of which this is said
+-- a seat has to do with links of which L is said alone, and looks at no old life as one that is live
 module _ (p : Plan) (L : ℕ → Type 0) (Old : ℕ → ℕ → Type 0) where
   abbrev pub claims_of : Mode → ℕ → Type 0
   claims_of Claims k = L k
@@ -192,9 +191,6 @@ module _ (p : Plan) (L : ℕ → Type 0) (Old : ℕ → ℕ → Type 0) where
   -- ## A step
 
   module _ (v : View) (found : ℕ) (hand : Hand) where
-    Behind : Mode → Program → View → Type 0
-    Behind m program w = Looks m program × Stands m w
-
     looks_at : (id : ℕ) → (vref_version found % 2 ≡ 0 → Old (socket_id_slot id) (socket_id_version id) → ⊥) → (m : Mode) → Stands m v → Stands (seen id found m) (row p (LookWord id) found hand v)
     looks_at id live Claims s = record { claims = claims_keep p v found hand L s.claims (LookWord id) tt; rights = rights_keep p v found hand Never s.rights (LookWord id) tt; new = tt }
     looks_at id live Writes s = record { claims = claims_keep p v found hand Never s.claims (LookWord id) tt; rights = rights_keep p v found hand L s.rights (LookWord id) tt; new = tt }
@@ -221,8 +217,7 @@ module _ (p : Plan) (L : ℕ → Type 0) (Old : ℕ → ℕ → Type 0) where
         by_claims (c ∷ cs) e a false = record { claims = tt; rights = (a.0, any_right L v.rights s.rights); new = tt }
 
     empties : (i last : ℕ) → May p v (EmptyHead i last) → Stands Writes v → Stands (cond (found == last) Idle Writes) (row p (EmptyHead i last) found hand v)
-    empties i last may s = let r : Right = may.1.0.mine.right in
-        subst (λ rs. Stands (cond (found == last) Idle Writes) (by_right rs (emptied last found v) v)) (sym may.1.1) (by_hit (found == last))
+    empties i last may s = subst (λ rs. Stands (cond (found == last) Idle Writes) (by_right rs (emptied last found v) v)) (sym may.1.1) (by_hit (found == last))
       where
         r : Right
         r = may.1.0.mine.right
