@@ -2,3 +2,4 @@ pub mod Texts
 pub mod Rows
 pub mod Reported
 pub mod Table
+pub mod Summed
