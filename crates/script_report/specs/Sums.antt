@@ -55,13 +55,25 @@ sums_of told = record {
 
 -- ## As text
 
--- `load SEED CLIENTS OPS`, a line of the sends, one of the calls, one of the others, and `end`
+-- `load SEED CLIENTS OPS`
+abbrev pub load_line : ℕ → ℕ → ℕ → List ℕ
+load_line seed clients count = codes "load " ++ decimal seed ++ codes " " ++ decimal clients ++ codes " " ++ decimal count ++ codes "\n"
+
+-- `sends N placed P bytes B`
+abbrev pub sends_line : Sums → List ℕ
+sends_line sums = codes "sends " ++ decimal sums.sends ++ codes " placed " ++ decimal sums.placed ++ codes " bytes " ++ decimal sums.placed_bytes ++ codes "\n"
+
+-- `calls N answered A bytes B`
+abbrev pub calls_line : Sums → List ℕ
+calls_line sums = codes "calls " ++ decimal sums.calls ++ codes " answered " ++ decimal sums.answered ++ codes " bytes " ++ decimal sums.answered_bytes ++ codes "\n"
+
+-- `other N`, and `end`
+abbrev pub last_lines : ℕ → List ℕ
+last_lines other = codes "other " ++ decimal other ++ codes "\nend\n"
+
+-- the four lines of a summary
 abbrev pub summary_text : ℕ → ℕ → ℕ → Sums → List ℕ
-summary_text seed clients count sums =
-    codes "load " ++ decimal seed ++ codes " " ++ decimal clients ++ codes " " ++ decimal count
-    ++ codes "\nsends " ++ decimal sums.sends ++ codes " placed " ++ decimal sums.placed ++ codes " bytes " ++ decimal sums.placed_bytes
-    ++ codes "\ncalls " ++ decimal sums.calls ++ codes " answered " ++ decimal sums.answered ++ codes " bytes " ++ decimal sums.answered_bytes
-    ++ codes "\nother " ++ decimal sums.other ++ codes "\nend\n"
+summary_text seed clients count sums = load_line seed clients count ++ sends_line sums ++ calls_line sums ++ last_lines sums.other
 
 -- ## On the way
 

@@ -1,7 +1,7 @@
 ghost use Rattle.std.specs.Prelude.{◌≡◌, map, IfOk, string_bytes};
 ghost use Rattle.brpc_model.specs.PlaceWords.{HasEachOutcome, outcomes_from};
 ghost use Rattle.script_items.specs.Meaning.{item};
-ghost use Rattle.script_report.specs.Sums.{told_of, sums_of, summary_text};
+ghost use Rattle.script_report.specs.Sums.{told_of, sums_of, load_line, sends_line, calls_line, last_lines, summary_text};
 
 use crate::sums::{Sums, sums_of};
 use script_items::Line;
@@ -16,27 +16,55 @@ pub struct Load {
     pub operations: u32,
 }
 
-// The lines of a summary.
-fn summary_words(alloc: Global, load: Load, sums: Sums) -> Result<String, AllocError>
-    ensures { IfOk result (λ text. string_bytes text ≡ summary_text load.seed load.clients load.operations sums) }
+// `load SEED CLIENTS OPS`.
+fn load_line(alloc: Global, load: Load) -> Result<String, AllocError>
+    ensures { IfOk result (λ text. string_bytes text ≡ load_line load.seed load.clients load.operations) }
 {
     let Load {
         seed,
         clients,
         operations,
     } = load;
-    let Sums {
-        sends,
-        placed,
-        placed_bytes,
-        calls,
-        answered,
-        answered_bytes,
-        other,
-    } = sums;
-    format!(in alloc;
-        "load {seed} {clients} {operations}\nsends {sends} placed {placed} bytes {placed_bytes}\ncalls {calls} answered {answered} bytes {answered_bytes}\nother {other}\nend\n"
-    )
+    format!(in alloc; "load {seed} {clients} {operations}\n")
+}
+
+// `sends N placed P bytes B`.
+fn sends_line(alloc: Global, sums: &Sums) -> Result<String, AllocError>
+    ensures { IfOk result (λ text. string_bytes text ≡ sends_line sums.now) }
+{
+    let sends = sums.sends;
+    let placed = sums.placed;
+    let bytes = sums.placed_bytes;
+    format!(in alloc; "sends {sends} placed {placed} bytes {bytes}\n")
+}
+
+// `calls N answered A bytes B`.
+fn calls_line(alloc: Global, sums: &Sums) -> Result<String, AllocError>
+    ensures { IfOk result (λ text. string_bytes text ≡ calls_line sums.now) }
+{
+    let calls = sums.calls;
+    let answered = sums.answered;
+    let bytes = sums.answered_bytes;
+    format!(in alloc; "calls {calls} answered {answered} bytes {bytes}\n")
+}
+
+// `other N`, and `end`.
+fn last_lines(alloc: Global, other: u64) -> Result<String, AllocError>
+    ensures { IfOk result (λ text. string_bytes text ≡ last_lines other) }
+{
+    format!(in alloc; "other {other}\nend\n")
+}
+
+// The lines of a summary.
+fn summary_lines(alloc: Global, load: Load, sums: &Sums) -> Result<Vec<u8>, AllocError>
+    ensures { IfOk result (λ text. text.items ≡ summary_text load.seed load.clients load.operations sums.now) }
+{
+    let mut text = Vec::new(alloc);
+    text.extend_from_slice(load_line(alloc, load)?.as_bytes())?;
+    text.extend_from_slice(sends_line(alloc, sums)?.as_bytes())?;
+    text.extend_from_slice(calls_line(alloc, sums)?.as_bytes())?;
+    text.extend_from_slice(last_lines(alloc, sums.other)?.as_bytes())?;
+    Ok(text)
 }
 
 /// The summary of a run of a drawn script: its sends and how many are placed, its calls and how many are answered, with
@@ -52,6 +80,5 @@ pub fn print_summary(
 ) -> Result<Vec<u8>, AllocError>
     ensures { IfOk result (λ text. HasEachOutcome words.now said.now → text.items ≡ summary_text load.seed load.clients load.operations (sums_of (told_of (map item lines.now) (outcomes_from words.now 0 said.now)))) }
 {
-    let text = summary_words(alloc, load, sums_of(lines, said, words))?;
-    Ok(text.into_bytes())
+    summary_lines(alloc, load, &sums_of(lines, said, words))
 }
