@@ -3,3 +3,4 @@ pub mod Rows
 pub mod Reported
 pub mod Table
 pub mod Summed
+pub mod Existing
