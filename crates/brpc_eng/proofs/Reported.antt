@@ -1,5 +1,5 @@
 -- The report of a run fits the script, and is the only one of a run in which the links answered the same.
-use Rattle.std.proofs.Common.{◌≡◌, ℕ, zero, suc, ◌<◌, true, List, [], ◌∷◌, length, Option, Some, None, IfSome, Ok, ap, sym, ◌∙◌, subst, arith}
+use Rattle.std.proofs.Common.{◌≡◌, ℕ, zero, suc, ◌<◌, true, List, [], ◌∷◌, length, Option, Some, None, IfSome, Ok, Contains, ap, sym, ◌∙◌, subst, arith}
 use Rattle.std.specs.Prelude.{slice_get, is_some}
 use Rattle.std.specs.List.{AllByRecursion}
 use Rattle.std.proofs.lemmas.Option.{slice_get_within, same_Some}
@@ -14,17 +14,18 @@ use Rattle.brpc_model.specs.Run.{Lateness, nothing_late}
 use Rattle.brpc_model.specs.Complete.{FitsWhole}
 use Rattle.sock_programs.specs.Scripts.{is_callless, place_words, Reports}
 use Rattle.sock_programs.specs.Tasks.{plan_of}
-use Rattle.report_fits.proofs.Lists.{within}
+use Rattle.sock_programs.specs.ToldCalls.{Fixed}
+use Rattle.report_fits.proofs.Lists.{within, has_from, has_none}
 use Rattle.report_fits.proofs.Places.{lateness}
 use Rattle.whole_runs.specs.Heard.{as_told, as_taken, take_answers, heard_of, heard_takes}
-use Rattle.whole_runs.specs.Unserved.{IsUnserved}
+use Rattle.whole_runs.specs.Unserved.{IsInTime}
 use Rattle.whole_runs.proofs.HeardRuns.{one_text_told}
 use Rattle.whole_runs.proofs.Gave.{same_takes}
-use Rattle.whole_runs.proofs.Runs.{unserved_fits}
+use Rattle.whole_runs.proofs.Lengths.{ended_length}
 use Rattle.script_run.specs.Causes.{gave_in}
 use Rattle.script_run.specs.Played.{IsRunText, IsCaused}
-use Rattle.script_run.proofs.Told.{as_far}
 use Rattle.brpc_eng.specs.Answers as answer
+use Rattle.brpc_eng.proofs.Untroubled.{callless_fits}
 
 -- two texts of runs
 same_text : (turns : List Turn) (script : List Item) (a b : List ℕ) (xs ys : List LinkEnd) (r : IsRunText script turns a xs) (s : IsRunText script turns b ys) → r.took ≡ s.took → answer.SameAnswers r.whole.run s.whole.run → a ≡ b
@@ -82,19 +83,29 @@ module _ (bytes : List ℕ) (script : List Item) (reads : script_of bytes ≡ Ok
 
 -- ## A report
 
+nothing_there : (x : ℕ) (xs : List ℕ) → xs ≡ [] → Contains xs x → ⊥
+nothing_there x xs none_ there = has_none x (has_from [] x (subst (λ (l : List ℕ). Contains l x) none_ there))
+
+-- where a run fixes that nothing came late
+in_time : (script : List Item) (fixed : Fixed) → lateness fixed ≡ nothing_late → IsInTime script fixed
+in_time script fixed none_ = record {
+  none_late = λ o op name bytes at is there. nothing_there o fixed.late (ap (λ (l : Lateness). l.operations) none_) there;
+  no_late_link = λ k there. nothing_there k fixed.late_links (ap (λ (l : Lateness). l.links) none_) there;
+}
+
 module _ (turns : List Turn) (bytes : List ℕ) (script : List Item) (reads : script_of bytes ≡ Ok script) (ends : List LinkEnd) (text : List ℕ) (is : IsRunText script turns text ends) where
   abbrev Fits : Type 0
   Fits = (late : Lateness) × (is_callless script ≡ true → late ≡ nothing_late) × FitsWhole script text ends late
 
   -- where all causes are known, the report of the text fits
-  fits : IsUnserved script → IsCaused script turns is.whole.core is.whole.run ends → Fits
-  fits unserved c =
+  fits : is_callless script ≡ true → IsCaused script turns is.whole.core is.whole.run ends → Fits
+  fits callless c =
       let w = is.whole in let causes = c.0 in (
         lateness causes.fixed,
         causes.none_late,
         subst (λ (x : List ℕ). FitsWhole script x ends (lateness causes.fixed)) (sym is.is_text)
-            (unserved_fits bytes script reads turns w.core w.run causes.fixed (gave_in w.core) causes.orders causes.tells unserved (λ k early. (causes.early k early).0) is.report is.took ends is.reports is.told c.1
-            (λ untroubled. causes.in_time unserved)),
+            (callless_fits bytes script reads w.core causes.fixed (gave_in w.core) causes.orders (ended_length bytes script reads turns w.core w.run) causes.tells callless
+            (in_time script causes.fixed (causes.none_late callless)) is.report is.took ends is.reports is.told c.1),
       )
 
   -- and it is the only one
@@ -103,10 +114,10 @@ module _ (turns : List Turn) (bytes : List ℕ) (script : List Item) (reads : sc
 
 -- with what the calls say of the values that they were handed
 pub ran_reported : (turns : List Turn) (bytes : List ℕ) (script : List Item) (text text' : List ℕ) (out : answer.Output) (links : answer.Links) (status : ℕ) →
-    script_of bytes ≡ Ok script → IsUnserved script → (links.prompt ≡ true → links.tells → IsRunText script turns text links.ends) → text' ≡ text → answer.TextWritten out text' status →
+    script_of bytes ≡ Ok script → (links.prompt ≡ true → links.tells → IsRunText script turns text links.ends) → text' ≡ text → answer.TextWritten out text' status →
     answer.Ran turns script out links status
-ran_reported turns bytes script text text' out links status reads unserved ran t wrote =
+ran_reported turns bytes script text text' out links status reads ran t wrote =
     let report : links.prompt ≡ true → links.tells → IsRunText script turns text' links.ends = λ q tells. subst (λ (x : List ℕ). IsRunText script turns x links.ends) (sym t) (ran q tells) in
     answer.Reported text'
-    (λ q tells. let r = report q tells in as_far script (fits turns bytes script reads links.ends text' r unserved) r.causes)
+    (λ q tells callless. let r = report q tells in fits turns bytes script reads links.ends text' r callless (r.causes callless))
     (λ q tells. only turns bytes script reads links.ends text' (report q tells)) wrote

@@ -26,7 +26,6 @@ use Rattle.script_run.specs.Given.{AreNumbered, AreUntouched, IsBeginning, specs
 use Rattle.script_run.specs.Causes.{AsFarAsTold}
 use Rattle.script_run.specs.Played.{IsRunText}
 use Rattle.brpc_eng.specs.Streams.{script_limit, IsAtEnd}
-use Rattle.brpc_eng.specs.Built.{is_built_script}
 
 -- ## What a call finds outside, and what it leaves there
 
@@ -99,8 +98,8 @@ fault_text line kind = codes "script fault line " ++ decimal line ++ codes " kin
 
 -- ## A script that was read
 
--- there, as far as causes are proved, the text reports a run of the script over the links given back: it fits, and where nothing went wrong every
--- send is placed; in a script without calls nothing comes late
+-- there, as far as causes are proved, the text reports a run of the script over the links given back, whatever servers they have: it fits, and where
+-- nothing went wrong every send is placed; in a script without calls nothing comes late
 abbrev pub IsReport : Links → List Item → List ℕ → Type 0
 IsReport links script text = links.prompt ≡ true → links.tells → AsFarAsTold script ((late : Lateness) × (is_callless script ≡ true → late ≡ nothing_late) × FitsWhole script text links.ends late)
 
@@ -135,7 +134,7 @@ IsTextOfRun links script turns text = links.prompt ≡ true → links.tells → 
 abbrev pub TextWritten : Output → List ℕ → ℕ → Type 0
 TextWritten out text status = ((status ≡ 0) × WroteAll out text) ⊎ ((status ≡ 5) × WroteSome out text)
 
--- how the run of a script that is built ends
+-- how the run of a script ends
 pub data Ran (turns : List Turn) (script : List Item) (out : Output) (links : Links) (status : ℕ) : Type 0 where
   Reported : (text : List ℕ) → IsReport links script text → IsTextOfRun links script turns text → TextWritten out text status → Ran turns script out links status
   MemoryRanOut : status ≡ 7 → WroteNothing out → Ran turns script out links status
@@ -150,13 +149,11 @@ FaultWritten out line kind status = ((status ≡ 3) × Wrote out (fault_text lin
 
 -- how a script is run where these bytes came, by the schedule that it has or is given
 pub data Replayed (turns : List Item → List Turn) (input : Input) (out : Output) (links : Links) (bytes : List ℕ) (status : ℕ) : Type 0 where
-  RanScript : IsAtEnd input.left → (script : List Item) → script_of bytes ≡ Ok script → is_built_script script ≡ true → OpenedBy script links status → Ran (turns script) script out links status → Replayed turns input out links bytes status
+  RanScript : IsAtEnd input.left → (script : List Item) → script_of bytes ≡ Ok script → OpenedBy script links status → Ran (turns script) script out links status → Replayed turns input out links bytes status
   FaultyScript : IsAtEnd input.left → (line kind : ℕ) → script_of bytes ≡ Err (line, kind) → OpenedNone links → FaultWritten out line kind status → Replayed turns input out links bytes status
   SourceFailed : status ≡ 4 → HaveRisen input.faults → OpenedNone links → WroteNothing out → Replayed turns input out links bytes status
   TooLong : status ≡ 6 → script_limit < length bytes → OpenedNone links → WroteNothing out → Replayed turns input out links bytes status
   NoMemory : status ≡ 7 → OpenedNone links → WroteNothing out → Replayed turns input out links bytes status
-  ScriptNotBuilt : status ≡ 10 → IsAtEnd input.left → (script : List Item) → script_of bytes ≡ Ok script → is_built_script script ≡ false → OpenedNone links → Wrote out not_built_text →
-      Replayed turns input out links bytes status
 
 -- the run of what the source gives: of the input at most one byte more than a script may have is read, and where that
 -- one came no other status than 6 and 7 comes

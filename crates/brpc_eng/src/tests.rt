@@ -60,7 +60,7 @@ const FIRST: Row = (
     "0.1 open 0 0 0\n1.1 placed 0 0\nlink 0 a accepted 1 placed 1 took 2 6869\norder 0 1.1.0\nend\n",
 );
 
-const ROWS: [Row; 44] = [
+const ROWS: [Row; 42] = [
     FIRST,
     ("replay", "", 0, 0, "end\n"),
     ("replay", "client\nsend z 61", 0, 0, "1.1 unopened\nend\n"),
@@ -154,14 +154,6 @@ const ROWS: [Row; 44] = [
         0,
         0,
         "0.1 open 0 0 0\n1.1 call 1 failed 1014\nlink 0 a accepted 1 placed 1 took 30 5052504300000012000000100a0c0a044563686f12044563686f20026869\norder 0 1.1.0\nend\n",
-    ),
-    ("replay", "open a serve\n", 0, 10, "not built\n"),
-    (
-        "replay",
-        "open a end=0\nclient\nsend a 61\n",
-        0,
-        10,
-        "not built\n",
     ),
     (
         "replay",
