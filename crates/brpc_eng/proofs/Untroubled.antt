@@ -20,9 +20,9 @@ use Rattle.sock_programs.specs.declared.task.Op.TheVariants as ops
 use Rattle.sock_programs.specs.Cores.{Core}
 use Rattle.sock_programs.specs.Tasks.{name_number, numbered, op_of, plan_of}
 use Rattle.sock_programs.specs.Scripts.{Reports, all_tasks, is_callless}
-use Rattle.sock_programs.specs.ToldCalls.{Accepted, Fixed, Order, ToldCalls}
+use Rattle.sock_programs.specs.ToldCalls.{Fixed, Order, ToldCalls}
 use Rattle.report_fits.specs.Ends.{AreEndsOf, AreTold, EndsEarly}
-use Rattle.report_fits.proofs.Lists.{Has, has_first, has_later, has_from, contains_from, all_at, some_is}
+use Rattle.report_fits.proofs.Lists.{Has, has_later, has_from, contains_from, all_at, some_is}
 use Rattle.report_fits.proofs.Callless.{not_later}
 use Rattle.report_fits.proofs.TaskLemmas.{numbers_at, asks_at, mentions_send}
 use Rattle.report_fits.proofs.Reported.{SaidOrPlaced}

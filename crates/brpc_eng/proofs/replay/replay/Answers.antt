@@ -4,7 +4,7 @@ use Rattle.brpc_eng.proofs.Replays.{replays_read, replays_faulty}
 use Rattle.brpc_eng.proofs.replay.replay.Goals as goal
 
 pub run_and_report-requires-clause-pieces : goal.run_and_report-requires-clause-pieces
-run_and_report-requires-clause-pieces g c = has_pieces c.deref.result.now _ c.in-Ok-read_script.ensures.script
+run_and_report-requires-clause-pieces g c κs within = has_pieces c.deref.result.now _ c.in-Ok-read_script.ensures.script
 
 pub returns-in-Ok-read_script-clause-replayed : goal.returns-in-Ok-read_script-clause-replayed
 returns-in-Ok-read_script-clause-replayed g c =
