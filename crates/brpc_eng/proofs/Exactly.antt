@@ -2,7 +2,7 @@
 -- built; with 0 no write failed; and where nothing stands in the way of a report, only it and want of memory come.
 use Rattle.std.proofs.Common.{◌≡◌, ◌≢◌, ℕ, ◌<◌, ◌≤◌, ◌⊎◌, inl, inr, true, false, List, [], ◌∷◌, ◌++◌, map, refl, length, Option, Some, None, Result, Ok, Err, ap, sym, ◌∙◌, subst, arith, length-append, append-nil}
 use Rattle.std.specs.Io.KnownBytes.{Consumes}
-use Rattle.brpc_model.specs.Commands.{Command, Replay, Sim, Gen, Frames, command_of}
+use Rattle.brpc_model.specs.Commands.{Command, Replay, Sim, Gen, Load, Frames, command_of}
 use Rattle.brpc_model.specs.Items.{Item}
 use Rattle.brpc_model.specs.Operations.{Turn}
 use Rattle.brpc_model.specs.Script.{script_of}
@@ -18,7 +18,7 @@ use Rattle.sock_io.specs.Memory.{MemInState, mem_in}
 use Rattle.script_run.specs.Played.{TellClosed}
 use Rattle.brpc_eng.proofs.Statuses.{each_script_is_run}
 use Rattle.brpc_eng.specs.Streams.{script_limit, IsAtEnd}
-use Rattle.brpc_eng.specs.Answers.{HaveRisen, StandStill, AllTell, edges_of, Input, Output, Links, TextWritten, Ran, Reported, MemoryRanOut, OpenFailed, FaultWritten, Replayed, RanScript, FaultyScript, SourceFailed, TooLong, NoMemory, Answers, NoCommand, CommandNotBuilt, Generated, Generates, PrintsInput, Replays, Simulates, is_built_command, frames_status, FramesPrinted}
+use Rattle.brpc_eng.specs.Answers.{HaveRisen, StandStill, AllTell, edges_of, Input, Output, Links, TextWritten, Ran, Reported, MemoryRanOut, OpenFailed, FaultWritten, Replayed, RanScript, FaultyScript, SourceFailed, TooLong, NoMemory, Answers, NoCommand, CommandNotBuilt, Generated, Generates, LoadRan, LoadSummed, LoadRanOut, LoadNotOpened, Loads, PrintsInput, Replays, Simulates, is_built_command, frames_status, FramesPrinted}
 
 -- ## Status 2
 
@@ -46,6 +46,11 @@ not_two_made : (seed clients count : ℕ) (out : Output) (status : ℕ) → Gene
 not_two_made seed clients count out status (inl w) = not_two_written out _ status w
 not_two_made seed clients count out status (inr w) = λ e. absurd (omega (arith, e, w.0))
 
+not_two_loaded : (seed clients count : ℕ) (out : Output) (links : Links) (status : ℕ) → LoadRan seed clients count out links status → status ≢ 2
+not_two_loaded seed clients count out links status (LoadSummed text is wrote) = not_two_written out text status wrote
+not_two_loaded seed clients count out links status (LoadRanOut s wrote) = λ e. absurd (omega (arith, e, s))
+not_two_loaded seed clients count out links status (LoadNotOpened s rose back wrote) = λ e. absurd (omega (arith, e, s))
+
 not_two_ended : (ended : Result StreamEnd PrintFault) (status : ℕ) → status ≡ frames_status ended → status ≢ 2
 not_two_ended (Ok end_.Rest) status s = λ e. absurd (omega (arith, e, s))
 not_two_ended (Ok end_.Fault) status s = λ e. absurd (omega (arith, e, s))
@@ -60,6 +65,7 @@ pub usage_exactly : (words : List (List ℕ)) (input : Input) (out : Output) (li
 usage_exactly words input out links status (NoCommand s none same back wrote) = (λ e. none, λ e. s)
 usage_exactly words input out links status (CommandNotBuilt s command is other same back wrote) = (λ e. absurd (omega (arith, e, s)), λ e. absurd (cc))
 usage_exactly words input out links status (Generates seed clients count is same back made) = (λ e. absurd (not_two_made seed clients count out status made e), λ e. absurd (cc))
+usage_exactly words input out links status (Loads seed clients count is same made) = (λ e. absurd (not_two_loaded seed clients count out links status made.ran e), λ e. absurd (cc))
 usage_exactly words input out links status (PrintsInput is back printed) = (λ e. absurd (not_two_ended printed.ended status printed.numbered e), λ e. absurd (cc))
 usage_exactly words input out links status (Replays is replayed) = (λ e. absurd (not_two _ input out links replayed.bytes status replayed.replayed e), λ e. absurd (cc))
 usage_exactly words input out links status (Simulates seed is replayed) = (λ e. absurd (not_two _ input out links replayed.bytes status replayed.replayed e), λ e. absurd (cc))
@@ -122,6 +128,9 @@ report_comes script given words input out links status command (CommandNotBuilt 
 report_comes script given words input out links status command (Generates seed clients count named same back made) asked runs told few is calm =
     let one : Some (Gen seed clients count) ≡ Some command = sym named ∙ asked in
     let alike : Gen seed clients count ≡ command = cc in absurd (subst RunsScript (sym alike) runs)
+report_comes script given words input out links status command (Loads seed clients count named same made) asked runs told few is calm =
+    let one : Some (Load seed clients count) ≡ Some command = sym named ∙ asked in
+    let alike : Load seed clients count ≡ command = cc in absurd (subst RunsScript (sym alike) runs)
 report_comes script given words input out links status command (PrintsInput named back printed) asked runs told few is calm =
     let one : Some Frames ≡ Some command = sym named ∙ asked in
     let alike : Frames ≡ command = cc in absurd (subst RunsScript (sym alike) runs)
@@ -138,6 +147,12 @@ not_ten_made : (seed clients count : ℕ) (out : Output) (status : ℕ) → Gene
 not_ten_made seed clients count out status (inl (inl w)) = λ e. absurd (omega (arith, e, w.0))
 not_ten_made seed clients count out status (inl (inr w)) = λ e. absurd (omega (arith, e, w.0))
 not_ten_made seed clients count out status (inr w) = λ e. absurd (omega (arith, e, w.0))
+
+not_ten_loaded : (seed clients count : ℕ) (out : Output) (links : Links) (status : ℕ) → LoadRan seed clients count out links status → status ≢ 10
+not_ten_loaded seed clients count out links status (LoadSummed text is (inl w)) = λ e. absurd (omega (arith, e, w.0))
+not_ten_loaded seed clients count out links status (LoadSummed text is (inr w)) = λ e. absurd (omega (arith, e, w.0))
+not_ten_loaded seed clients count out links status (LoadRanOut s wrote) = λ e. absurd (omega (arith, e, s))
+not_ten_loaded seed clients count out links status (LoadNotOpened s rose back wrote) = λ e. absurd (omega (arith, e, s))
 
 not_ten_ended : (ended : Result StreamEnd PrintFault) (status : ℕ) → status ≡ frames_status ended → status ≢ 10
 not_ten_ended (Ok end_.Rest) status s = λ e. absurd (omega (arith, e, s))
@@ -162,6 +177,10 @@ unbuilt_exactly command words input out links status (Generates seed clients cou
     let one : Some (Gen seed clients count) ≡ Some command = sym named ∙ asked in
     let alike : Gen seed clients count ≡ command = cc in
     (λ e. absurd (not_ten_made seed clients count out status made e), λ differs. absurd (never_false (subst (λ (x : Command). is_built_command x ≡ false) (sym alike) differs)))
+unbuilt_exactly command words input out links status (Loads seed clients count named same made) asked =
+    let one : Some (Load seed clients count) ≡ Some command = sym named ∙ asked in
+    let alike : Load seed clients count ≡ command = cc in
+    (λ e. absurd (not_ten_loaded seed clients count out links status made.ran e), λ differs. absurd (never_false (subst (λ (x : Command). is_built_command x ≡ false) (sym alike) differs)))
 unbuilt_exactly command words input out links status (PrintsInput named back printed) asked =
     let one : Some Frames ≡ Some command = sym named ∙ asked in
     let alike : Frames ≡ command = cc in
@@ -201,6 +220,11 @@ still_replayed turns input out links bytes status (SourceFailed s rose back wrot
 still_replayed turns input out links bytes status (TooLong s long back wrote) e = wrote.1
 still_replayed turns input out links bytes status (NoMemory s back wrote) e = wrote.1
 
+still_loaded : (seed clients count : ℕ) (out : Output) (links : Links) (status : ℕ) → LoadRan seed clients count out links status → status ≡ 0 → StandStill out.faults
+still_loaded seed clients count out links status (LoadSummed text is wrote) e = still_written out text status wrote e
+still_loaded seed clients count out links status (LoadRanOut s wrote) e = wrote.1
+still_loaded seed clients count out links status (LoadNotOpened s rose back wrote) e = wrote.1
+
 still_ended : (input : Input) (out : Output) (bytes : List ℕ) (ended : Result StreamEnd PrintFault) (status : ℕ) → status ≡ frames_status ended → EndsAs (edges_of input out) bytes ended → status ≡ 0 → StandStill out.faults
 still_ended input out bytes (Ok end_.Rest) status s h e = h.kept
 still_ended input out bytes (Ok end_.Fault) status s h e = absurd (omega (arith, e, s))
@@ -215,6 +239,7 @@ no_write_failed words input out links status (NoCommand s none same back wrote) 
 no_write_failed words input out links status (CommandNotBuilt s other named differs same back wrote) e = absurd (omega (arith, e, s))
 no_write_failed words input out links status (Generates seed clients count named same back (inl w)) e = still_written out _ status w e
 no_write_failed words input out links status (Generates seed clients count named same back (inr w)) e = w.1.1
+no_write_failed words input out links status (Loads seed clients count named same made) e = still_loaded seed clients count out links status made.ran e
 no_write_failed words input out links status (PrintsInput named back printed) e = still_ended input out printed.printed.bytes printed.ended status printed.numbered printed.printed.ended e
 no_write_failed words input out links status (Replays named replayed) e = still_replayed _ input out links replayed.bytes status replayed.replayed e
 no_write_failed words input out links status (Simulates seed named replayed) e = still_replayed _ input out links replayed.bytes status replayed.replayed e

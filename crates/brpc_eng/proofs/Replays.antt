@@ -49,25 +49,31 @@ replays_faulty turns input out links status line kind bytes seen read whole s e 
 
 -- ## The words
 
-not_built : (command : Command) → (command ≡ Replay → ⊥) → ((seed : ℕ) → command ≡ Sim seed → ⊥) → ((draw : Draw) → command ≡ Gen draw → ⊥) → (command ≡ Frames → ⊥) → answer.is_built_command (meaning command) ≡ false
-not_built Replay h s k f = absurd (h refl)
-not_built (Sim seed) h s k f = absurd (s seed refl)
-not_built (Run port) h s k f = refl
-not_built (Gen draw) h s k f = absurd (k draw refl)
-not_built (Load draw) h s k f = refl
-not_built Frames h s k f = absurd (f refl)
-not_built (Serve port connections) h s k f = refl
+not_built : (command : Command) → (command ≡ Replay → ⊥) → ((seed : ℕ) → command ≡ Sim seed → ⊥) → ((draw : Draw) → command ≡ Gen draw → ⊥) → ((draw : Draw) → command ≡ Load draw → ⊥) → (command ≡ Frames → ⊥) → answer.is_built_command (meaning command) ≡ false
+not_built Replay h s k l f = absurd (h refl)
+not_built (Sim seed) h s k l f = absurd (s seed refl)
+not_built (Run port) h s k l f = refl
+not_built (Gen draw) h s k l f = absurd (k draw refl)
+not_built (Load draw) h s k l f = absurd (l draw refl)
+not_built Frames h s k l f = absurd (f refl)
+not_built (Serve port connections) h s k l f = refl
 
 -- a command that isn't built
-pub other_command : (words : List (List ℕ)) (input : answer.Input) (out : answer.Output) (links : answer.Links) (command : Command) → option_map meaning (Some command) ≡ model.command_of words → (command ≡ Replay → ⊥) → ((seed : ℕ) → command ≡ Sim seed → ⊥) → ((draw : Draw) → command ≡ Gen draw → ⊥) → (command ≡ Frames → ⊥) →
+pub other_command : (words : List (List ℕ)) (input : answer.Input) (out : answer.Output) (links : answer.Links) (command : Command) → option_map meaning (Some command) ≡ model.command_of words → (command ≡ Replay → ⊥) → ((seed : ℕ) → command ≡ Sim seed → ⊥) → ((draw : Draw) → command ≡ Gen draw → ⊥) → ((draw : Draw) → command ≡ Load draw → ⊥) → (command ≡ Frames → ⊥) →
     input.left ≡ input.given → answer.OpenedNone links → answer.Wrote out answer.not_built_text → answer.Answers words input out links 10
-other_command words input out links command e other simulated drawn framed same back wrote = answer.CommandNotBuilt refl (meaning command) (sym e) (not_built command other simulated drawn framed) same back wrote
+other_command words input out links command e other simulated drawn loads framed same back wrote = answer.CommandNotBuilt refl (meaning command) (sym e) (not_built command other simulated drawn loads framed) same back wrote
 
 -- a drawn script
 pub drawn_command : (words : List (List ℕ)) (input : answer.Input) (out : answer.Output) (links : answer.Links) (status : ℕ) (command : Command) (draw : Draw) → option_map meaning (Some command) ≡ model.command_of words → command ≡ Gen draw →
     input.left ≡ input.given → answer.OpenedNone links → answer.Generated draw.seed draw.clients draw.operations out status → answer.Answers words input out links status
 drawn_command words input out links status command draw e is same back made =
     answer.Generates draw.seed draw.clients draw.operations (sym e ∙ ap (λ c. option_map meaning (Some c)) is) same back made
+
+-- a summary of its run
+pub load_command : (words : List (List ℕ)) (input : answer.Input) (out : answer.Output) (links : answer.Links) (status : ℕ) (command : Command) (draw : Draw) → option_map meaning (Some command) ≡ model.command_of words → command ≡ Load draw →
+    input.left ≡ input.given → answer.Loaded draw.seed draw.clients draw.operations out links status → answer.Answers words input out links status
+load_command words input out links status command draw e is same made =
+    answer.Loads draw.seed draw.clients draw.operations (sym e ∙ ap (λ c. option_map meaning (Some c)) is) same made
 
 -- the frames of the input
 pub frames_command : (words : List (List ℕ)) (input : answer.Input) (out : answer.Output) (links : answer.Links) (status : ℕ) (command : Command) → option_map meaning (Some command) ≡ model.command_of words → command ≡ Frames →

@@ -1,5 +1,5 @@
 -- The report of a run fits the script, and is the only one of a run in which the links answered the same.
-use Rattle.std.proofs.Common.{◌≡◌, ℕ, zero, suc, ◌<◌, true, List, [], ◌∷◌, length, Option, Some, None, IfSome, Ok, Contains, ap, sym, ◌∙◌, subst, arith}
+use Rattle.std.proofs.Common.{◌≡◌, refl, ◌⊎◌, ℕ, zero, suc, ◌<◌, true, List, [], ◌∷◌, length, Option, Some, None, IfSome, Ok, Contains, ap, sym, ◌∙◌, subst, arith}
 use Rattle.std.specs.Prelude.{slice_get, is_some}
 use Rattle.std.specs.List.{AllByRecursion}
 use Rattle.std.proofs.lemmas.Option.{slice_get_within, same_Some}
@@ -7,12 +7,14 @@ use native.Mathlib.Decide.{dec_lt}
 use mathlib.Core.Logic.{dite}
 use Rattle.brpc_model.specs.Items.{Item}
 use Rattle.brpc_model.specs.Operations.{Turn}
+use Rattle.brpc_model.specs.Drawn.{generated}
 use Rattle.brpc_model.specs.Script.{script_of}
+use Rattle.brpc_model.specs.ScriptText.{script_text}
 use Rattle.brpc_model.specs.Link.{LinkEnd}
 use Rattle.brpc_model.specs.PlaceWords.{took_at, IsLineOf}
 use Rattle.brpc_model.specs.Run.{Lateness, nothing_late}
 use Rattle.brpc_model.specs.Complete.{FitsWhole}
-use Rattle.sock_programs.specs.Scripts.{is_callless, place_words, Reports}
+use Rattle.sock_programs.specs.Scripts.{is_callless, drawn_turns, place_words, Reports}
 use Rattle.sock_programs.specs.Tasks.{plan_of}
 use Rattle.sock_programs.specs.ToldCalls.{Fixed}
 use Rattle.report_fits.proofs.Lists.{within, has_from, has_none}
@@ -23,7 +25,8 @@ use Rattle.whole_runs.proofs.HeardRuns.{one_text_told}
 use Rattle.whole_runs.proofs.Gave.{same_takes}
 use Rattle.whole_runs.proofs.Lengths.{ended_length}
 use Rattle.script_run.specs.Causes.{gave_in}
-use Rattle.script_run.specs.Played.{IsRunText, IsCaused}
+use Rattle.script_run.specs.Given.{AreNumbered, IsBeginning, specs_of}
+use Rattle.script_run.specs.Played.{IsRunText, IsRunSummary, IsCaused}
 use Rattle.brpc_eng.specs.Answers as answer
 use Rattle.brpc_eng.proofs.Untroubled.{callless_fits}
 
@@ -121,3 +124,31 @@ ran_reported turns bytes script text text' out links status reads ran t wrote =
     answer.Reported text'
     (λ q tells callless. let r = report q tells in fits turns bytes script reads links.ends text' r callless (r.causes callless))
     (λ q tells. only turns bytes script reads links.ends text' (report q tells)) wrote
+
+-- ## A summary
+
+-- no link was opened
+pub opened_none : (script : List Item) (links : answer.Links) (status : ℕ) → links.asked ≡ [] → links.ends ≡ [] → ((status ≡ 0) ⊎ (status ≡ 5) → ⊥) → answer.OpenedBy script links status
+opened_none script links status asked ends unwritten = record {
+  front = subst (λ l. IsBeginning l (specs_of script)) (sym asked) (specs_of script, refl);
+  whole = λ written. absurd (unwritten written);
+  given_back = ap length ends ∙ sym (ap length asked);
+  numbered = subst (AreNumbered 0) (sym ends) tt;
+}
+
+-- with what the calls say of the values that they were handed
+pub load_ran : (seed clients count drawn : ℕ) (script : List Item) (text text' : List ℕ) (out : answer.Output) (links : answer.Links) (status : ℕ) → script ≡ generated seed clients count → drawn ≡ seed → script_of (script_text script) ≡ Ok script →
+    (links.prompt ≡ true → links.tells → IsRunSummary (record { seed = seed; clients = clients; operations = count }) script (drawn_turns script drawn) text links.ends) → text' ≡ text → answer.TextWritten out text' status →
+    answer.LoadRan seed clients count out links status
+load_ran seed clients count drawn script text text' out links status made same reads ran t wrote = answer.LoadSummed text' (subst Sums made sums) wrote
+  where
+    Sums : List Item → Type 0
+    Sums s = links.prompt ≡ true → links.tells → (whole : List ℕ) × answer.IsReport links s whole × answer.IsOnlyText links.ends s (drawn_turns s seed) whole × answer.SumsUp seed clients count s whole text'
+
+    sums : Sums script
+    sums q tells = let r = ran q tells in let is = subst (λ d. IsRunText script (drawn_turns script d) r.whole links.ends) same r.reported in (
+      r.whole,
+      (λ q tells callless. fits (drawn_turns script drawn) (script_text script) script reads links.ends r.whole r.reported callless (r.reported.causes callless)),
+      only (drawn_turns script seed) (script_text script) script reads links.ends r.whole is,
+      (r.reported.report, r.reported.is_text, t ∙ r.sums),
+    )

@@ -2,7 +2,7 @@
 use Rattle.std.specs.Prelude.{ℕ, ◌≡◌, ◌≢◌, ◌<◌, ◌≤◌, ◌+◌, ◌⊎◌, ◌++◌, Bool, true, false, List, [], length, codes, decimal, is_some, Option, Some, None, Result, Ok, Err}
 use Rattle.std.specs.Io.KnownBytes.{Appends, Consumes}
 use Rattle.std.specs.List.{AllByRecursion}
-use Rattle.brpc_model.specs.Commands.{Command, Replay, Sim, Gen, Frames, command_of, usage_text}
+use Rattle.brpc_model.specs.Commands.{Command, Replay, Sim, Gen, Load, Frames, command_of, usage_text}
 use Rattle.brpc_model.specs.ScriptText.{script_text}
 use Rattle.brpc_model.specs.Drawn.{generated}
 use Rattle.brpc_model.specs.Items.{Item}
@@ -10,7 +10,9 @@ use Rattle.brpc_model.specs.Operations.{Turn, schedule}
 use Rattle.brpc_model.specs.Script.{script_of}
 use Rattle.brpc_model.specs.Link.{LinkEnd}
 use Rattle.brpc_model.specs.Run.{Lateness, nothing_late}
+use Rattle.brpc_model.specs.Report.{Report, report_text}
 use Rattle.brpc_model.specs.Complete.{FitsWhole}
+use Rattle.script_report.specs.Sums.{told_of, sums_of, summary_text}
 use Rattle.sock_io.specs.Causes.{Rose}
 use Rattle.sock_io.specs.Writing.{WrotePart}
 use Rattle.frame_print.specs.Printed.{Edges, PrintsFrames}
@@ -170,6 +172,27 @@ pub record ReplayedInput (turns : List Item → List Turn) (input : Input) (out 
 abbrev pub Generated : ℕ → ℕ → ℕ → Output → ℕ → Type 0
 Generated seed clients count out status = TextWritten out (script_text (generated seed clients count)) status ⊎ ((status ≡ 7) × WroteNothing out)
 
+-- ## `load`
+
+-- the text is the summary of the run of a script drawn from this seed, for so many clients with so many operations each, and has the numbers of this report
+abbrev pub SumsUp : ℕ → ℕ → ℕ → List Item → List ℕ → List ℕ → Type 0
+SumsUp seed clients count script whole text = (report : Report) × (whole ≡ report_text script report) × (text ≡ summary_text seed clients count (sums_of (told_of script report.outcomes)))
+
+-- where the links are prompt and tell whether they are found closed, it is the summary of a report that `sim` with the same seed may write of the drawn script
+abbrev pub IsSummary : Links → ℕ → ℕ → ℕ → List ℕ → Type 0
+IsSummary links seed clients count text = let script = generated seed clients count in
+    links.prompt ≡ true → links.tells → (whole : List ℕ) × IsReport links script whole × IsOnlyText links.ends script (drawn_turns script seed) whole × SumsUp seed clients count script whole text
+
+-- how the run of the drawn script ends
+pub data LoadRan (seed clients count : ℕ) (out : Output) (links : Links) (status : ℕ) : Type 0 where
+  LoadSummed : (text : List ℕ) → IsSummary links seed clients count text → TextWritten out text status → LoadRan seed clients count out links status
+  LoadRanOut : status ≡ 7 → WroteNothing out → LoadRan seed clients count out links status
+  LoadNotOpened : status ≡ 8 → HaveRisen links.faults → AreUntouched 0 links.ends → WroteNothing out → LoadRan seed clients count out links status
+
+pub record Loaded (seed clients count : ℕ) (out : Output) (links : Links) (status : ℕ) : Type 0 where
+  pub opened : OpenedBy (generated seed clients count) links status
+  pub ran : LoadRan seed clients count out links status
+
 -- ## `frames`
 
 -- what it found and left at the source and the sink
@@ -207,6 +230,7 @@ abbrev pub is_built_command : Command → Bool
 is_built_command Replay = true
 is_built_command (Sim seed) = true
 is_built_command (Gen seed clients count) = true
+is_built_command (Load seed clients count) = true
 is_built_command Frames = true
 is_built_command other = false
 
@@ -219,6 +243,8 @@ pub data Answers (words : List (List ℕ)) (input : Input) (out : Output) (links
       Answers words input out links status
   -- they ask for a drawn script, and nothing is read
   Generates : (seed clients count : ℕ) → command_of words ≡ Some (Gen seed clients count) → input.left ≡ input.given → OpenedNone links → Generated seed clients count out status → Answers words input out links status
+  -- they ask for a summary of its run, and nothing is read
+  Loads : (seed clients count : ℕ) → command_of words ≡ Some (Load seed clients count) → input.left ≡ input.given → Loaded seed clients count out links status → Answers words input out links status
   -- they ask for the frames of the input
   PrintsInput : command_of words ≡ Some Frames → OpenedNone links → FramesPrinted input out status → Answers words input out links status
   -- they ask for a run of the script by its own schedule

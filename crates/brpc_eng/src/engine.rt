@@ -6,6 +6,7 @@ ghost use Rattle.brpc_eng.specs.Status.{number_of};
 use crate::commands::{Command, read_command};
 use crate::frames::frames;
 use crate::generated::print_generated;
+use crate::load::load;
 use crate::replay::{replay, write_answer};
 use crate::status::Status;
 use script_run::Schedule;
@@ -92,6 +93,7 @@ fn answer<S: Source, K: Sink, L: Linker>(
                 replay(alloc, source, out, links, Schedule::Drawn(u64::from(seed)))
             }
             Command::Gen(draw) => print_generated(alloc, &draw, out),
+            Command::Load(draw) => load(alloc, &draw, out, links),
             Command::Frames => frames(alloc, source, out),
             _ => {
                 write_answer(out, NOT_BUILT);

@@ -8,7 +8,7 @@ ghost use Rattle.brpc_eng.specs.Answers.{OpenedBy, Ran, TextWritten};
 
 use crate::status::Status;
 use script_items::Script;
-use script_run::{RunFault, Schedule, run_script};
+use script_run::{Print, RunFault, Schedule, run_script};
 use sock_io::{Failed, Linker, Sink, write_all};
 use std::alloc::Global;
 
@@ -33,15 +33,15 @@ pub fn run_and_report<K: Sink, L: Linker>(
         (number_of result) }
     ensures linker { number_of result ≢ 8 → L.faults links.new ≡ L.faults links.old }
 {
-    match run_script(alloc, script, schedule, links) {
+    match run_script(alloc, script, schedule, Print::Report, links) {
         Ok(text) => write_report(out, &text),
         Err(RunFault::OpenFailed) => Status::OpenFailed,
         Err(RunFault::NoMemory) => Status::NoMemory,
     }
 }
 
-/// Writes a report.
-fn write_report<K: Sink>(out: &mut K, text: &[u8]) -> Status
+/// Writes a report, or a summary.
+pub fn write_report<K: Sink>(out: &mut K, text: &[u8]) -> Status
     ensures { TextWritten (record { before = K.contents out.old; now = K.contents out.new; faults = record { before = K.faults out.old; now = K.faults out.new } }) text.now (number_of result) }
 {
     match write_all(out, text) {
