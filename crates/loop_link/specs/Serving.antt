@@ -1,6 +1,7 @@
 -- What the built-in server of a link gives for the bytes that it was fed, and what a link over it has been offered.
 use Rattle.std.specs.Prelude.{ℕ, ◌≡◌, ◌-◌, ◌&&◌, ◌||◌, nat_le, Bool, true, false, if◌then◌else◌, List, [], ◌++◌, length, take, drop, flat_map, Option, None, Some}
 use Rattle.brpc_model.specs.Frame.{Frame, frame_bytes}
+use Rattle.brpc_model.specs.Stream as stream_
 use Rattle.brpc_model.specs.Reply.{reply_frames}
 use Rattle.brpc_model.specs.Served.{first_of}
 use Rattle.sock_io.specs.declared.ending.Ending.{Ending}
@@ -8,6 +9,7 @@ use Rattle.sock_io.specs.declared.ending.Ending.TheVariants as ending
 use Rattle.sock_io.specs.Memory.{MemInState, is_closing}
 use Rattle.sock_io.specs.Shape.{ShapedState}
 use Rattle.rpc_server.specs.Held.{Held}
+use Rattle.rpc_server.specs.Feeding.{Replied}
 
 -- the other end of a link: whether it is the server, after how many responses that gives its end, all bytes of the link
 -- that it was fed, and whether it met a frame fault in them
@@ -49,6 +51,14 @@ abbrev pub ending_for : (end finished : Bool) → Ending
 ending_for true finished = ending.Ended
 ending_for false true = ending.Closed
 ending_for false false = ending.Open
+
+-- these bytes have a frame fault
+abbrev pub is_fault : stream_.Ending → Bool
+is_fault (stream_.Rest n) = false
+is_fault (stream_.Fault at fault) = true
+
+abbrev pub has_fault : List ℕ → Bool
+has_fault bytes = is_fault (stream_.stream bytes).ending
 
 -- no bytes behind these bring a reply
 abbrev pub IsStuck : List ℕ → Type 0
@@ -98,6 +108,11 @@ pub record Settled (out : ShapedState) (inn : MemInState) (peer : LoopPeerState)
 pub record Follows (fed : List ℕ) (c : Held) : Type 0 where
   pub made : c.made ≡ length (reply_frames fed)
   pub goes_on : (more : List ℕ) → reply_frames (fed ++ more) ≡ reply_frames fed ++ reply_frames (c.bytes ++ more)
+
+-- a piece was fed, and was answered with a frame fault where that says so
+pub record Goes (c : Held) (piece : List ℕ) (c' : Held) (before now : List ℕ) (faulty : Bool) : Type 0 where
+  pub replied : Replied c piece c' before now
+  pub fault : faulty ≡ has_fault (c.bytes ++ piece)
 
 -- these are the bytes of the replies that came to those before
 abbrev pub NewReplies : List ℕ → List ℕ → List ℕ → Type 0

@@ -74,11 +74,9 @@ impl LoopPeer {
         let fed = server.feed(alloc, pool, rest)?;
         let made = fed.server.replies();
         let bytes = gathered(alloc, &fed.replies)?;
-        let count = given_len(self.end, given, made, &bytes);
+        let count = given_len(self.end, given, &bytes);
         inn.give(&bytes[..count])?;
-        if is_reached(self.end, made) || fed.faulty {
-            inn.end();
-        }
+        inn.end_where(is_reached(self.end, made) || fed.faulty);
         self.keep(fed.server, fed.faulty, took.len());
         Ok(())
     }

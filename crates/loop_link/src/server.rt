@@ -1,6 +1,6 @@
 ghost use Rattle.std.specs.Prelude.{◌≡◌, ◌++◌, [], true, length, IfOk};
 ghost use Rattle.brpc_model.specs.Reply.{reply_frames};
-ghost use Rattle.loop_link.specs.Serving.{IsStuck, NewReplies};
+ghost use Rattle.loop_link.specs.Serving.{Goes, IsStuck, NewReplies};
 
 use ghosts::Ghosts;
 use io_buf::{BlockPool, IoBuf};
@@ -65,11 +65,7 @@ impl Server {
         ensures stuck { IfOk result (λ f. f.faulty ≡ true → IsStuck (self ++ piece.now)) }
     {
         let mut replies = IoBuf::new(alloc);
-        let faulty = match self.conn.feed(pool, piece, &mut replies) {
-            Ok(()) => false,
-            Err(ConnFault::Frame(_)) => true,
-            Err(ConnFault::NoMemory) => return Err(NoMemory),
-        };
+        let faulty = feeds(&mut self.conn, pool, piece, &mut replies)?;
         let with = (self.fed, piece);
         let server = Server {
             conn: self.conn,
@@ -80,5 +76,21 @@ impl Server {
             replies,
             faulty,
         })
+    }
+}
+
+// Feeds the connection, and answers whether it met a frame fault.
+fn feeds(
+    conn: &mut Conn,
+    pool: &mut BlockPool,
+    piece: &[u8],
+    out: &mut IoBuf,
+) -> Result<bool, NoMemory>
+    ensures { IfOk result (λ faulty. Goes conn.old piece.now conn.new out.old.items out.new.items faulty) }
+{
+    match conn.feed(pool, piece, out) {
+        Ok(()) => Ok(false),
+        Err(ConnFault::Frame(_)) => Ok(true),
+        Err(ConnFault::NoMemory) => Err(NoMemory),
     }
 }
