@@ -2,7 +2,7 @@
 use Rattle.std.proofs.Common.{◌≡◌, ℕ, zero, suc, ◌+◌, ◌-◌, ◌<◌, ◌≤◌, ◌^◌, nat_le, Bool, true, false, List, [], ◌∷◌, ◌++◌, length, take, drop, Option, None, Some, refl, ap, sym, ◌∙◌, subst, arith, append_assoc, append-nil, length-append, length-drop}
 use Rattle.std.specs.Prelude.{flat_map}
 use Rattle.std.specs.Int.{w32, to_be_bytes}
-use Rattle.std.proofs.Math.Seq.{take-append_seam, take-append-add, drop-append_seam, take-add}
+use Rattle.std.proofs.Math.Seq.{take-append_seam, take-append-add, drop-append_seam, take-add, take-length}
 use Rattle.std.proofs.lemmas.Bool.{leb-false}
 use Rattle.std.proofs.lemmas.List.{drop-drop}
 use Rattle.std.proofs.lemmas.Grind.{flat_map-append}
@@ -26,7 +26,7 @@ laid_size body meta behind = omega arith
 framed_size : (m p a : List ℕ) → length (framed m p a) ≡ 12 + (length m + length p + length a)
 framed_size m p a =
     let whole : length (framed m p a ++ []) ≡ length (laid (length m + length p + length a) (length m) (m ++ (p ++ a) ++ [])) = ap length (laid_out m p a []) in
-    omega (arith, whole, laid_size (length m + length p + length a) (length m) (m ++ (p ++ a) ++ []), length-append (framed m p a) [], length-append m ((p ++ a) ++ []), length-append (p ++ a) [], length-append p a)
+    omega (arith, whole, laid_size (length m + length p + length a) (length m) (m ++ (p ++ a) ++ []), length-append (framed m p a) [], length-append (m ++ (p ++ a)) [], length-append m (p ++ a), length-append p a)
 
 -- the header in front tells how long the frame is
 body_told : (f : Frame) (rest : List ℕ) → length (frame_bytes f ++ rest) < 2 ^ 32 → 12 + high_first (take 4 (drop 4 (frame_bytes f ++ rest))) ≡ length (frame_bytes f)
@@ -102,6 +102,10 @@ fronts_end bytes at k count so_far few short frames small e = by (so_far frames 
     by (first, [], split, len, front, behind) =
         front ∙ ap (flat_map frame_bytes) (sym (ap (take count) (split ∙ append-nil first) ∙ take_all count first (omega (arith, few, len))))
     by (first, f ∷ fs, split, len, front, behind) = absurd (omega (arith, short, some_bytes f fs, ap length behind, length-drop at bytes))
+
+-- what is read of a slice from a place on
+pub slice_rest : (bytes : List ℕ) (at : ℕ) → take (length bytes - at) (drop at bytes) ≡ drop at bytes
+slice_rest bytes at = ap (λ n. take n (drop at bytes)) (sym (length-drop at bytes)) ∙ take-length (drop at bytes)
 
 -- ## The responses that are still given
 

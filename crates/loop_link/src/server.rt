@@ -1,6 +1,7 @@
-ghost use Rattle.std.specs.Prelude.{◌≡◌, ◌++◌, [], true, length, IfOk};
+ghost use Rattle.std.specs.Prelude.{◌≡◌, ◌++◌, [], length, IfOk};
 ghost use Rattle.brpc_model.specs.Reply.{reply_frames};
-ghost use Rattle.loop_link.specs.Serving.{Goes, IsStuck, NewReplies};
+ghost use Rattle.loop_link.specs.Serving.{Goes, NewReplies};
+ghost use Rattle.rpc_server.specs.Feeding.{has_fault};
 
 use ghosts::Ghosts;
 use io_buf::{BlockPool, IoBuf};
@@ -62,7 +63,7 @@ impl Server {
     ) -> Result<Fed, NoMemory>
         ensures fed { IfOk result (λ f. f.server ≡ self ++ piece.now) }
         ensures replies { IfOk result (λ f. NewReplies self piece.now f.replies.items) }
-        ensures stuck { IfOk result (λ f. f.faulty ≡ true → IsStuck (self ++ piece.now)) }
+        ensures faulty { IfOk result (λ f. f.faulty ≡ has_fault (self ++ piece.now)) }
     {
         let mut replies = IoBuf::new(alloc);
         let faulty = feeds(&mut self.conn, pool, piece, &mut replies)?;
