@@ -1,5 +1,5 @@
 -- A linker in memory with the server, by what callers see of it.
-use Rattle.std.specs.Prelude.{ℕ, ◌&&◌, List, [], false, if◌then◌else◌}
+use Rattle.std.specs.Prelude.{ℕ, ◌&&◌, List, [], if◌then◌else◌}
 use Rattle.brpc_model.specs.Link.{LinkEnd}
 use Rattle.sock_io.specs.declared.ending.Ending.{Ending}
 use Rattle.sock_io.specs.declared.ending.Ending.TheVariants as ending
@@ -25,7 +25,7 @@ shape_asked spec = record { piece = spec.piece; again = spec.again; fail = spec.
 
 -- the other end that is asked for, which was fed nothing
 abbrev pub new_peer : LinkSpec → LoopPeerState
-new_peer spec = record { serve = spec.serve; end = spec.end; fed = []; faulty = false }
+new_peer spec = record { serve = spec.serve; end = spec.end; fed = [] }
 
 -- a server of no response gives its end at once
 abbrev pub first_ending : LinkSpec → Ending

@@ -8,14 +8,14 @@ use Rattle.sock_io.specs.declared.ending.Ending.TheVariants as ending
 use Rattle.sock_io.specs.Memory.{MemInState, is_closing}
 use Rattle.sock_io.specs.Shape.{ShapedState}
 use Rattle.rpc_server.specs.Held.{Held}
+use Rattle.rpc_server.specs.Feeding.{has_fault, Replied}
 
--- the other end of a link: whether it is the server, after how many responses that gives its end, all bytes of the link
--- that it was fed, and whether it met a frame fault in them
+-- the other end of a link: whether it is the server, after how many responses that gives its end, and all bytes of the link
+-- that it was fed
 pub record LoopPeerState : Type 0 where
   pub serve : Bool
   pub end : Option ℕ
   pub fed : List ℕ
-  pub faulty : Bool
 
 -- so many responses are all that are given
 abbrev pub is_reached : Option ℕ → ℕ → Bool
@@ -26,13 +26,16 @@ is_reached (Some most) made = nat_le most made
 abbrev pub replies_for : Option ℕ → List ℕ → List ℕ
 replies_for end bytes = flat_map frame_bytes (first_of end (reply_frames bytes))
 
--- without the server it gives nothing
+-- and whether it gives its end for them: that number was reached, or they have a fault
+abbrev pub ends_for : Option ℕ → List ℕ → Bool
+ends_for end bytes = is_reached end (length (reply_frames bytes)) || has_fault bytes
+
+-- an other end that isn't the server gives nothing
 abbrev pub offered_for : LoopPeerState → List ℕ → List ℕ
 offered_for peer bytes = if peer.serve then replies_for peer.end bytes else []
 
--- the server gives its end: the number of responses was reached, or it met a fault
-abbrev pub gives_end : LoopPeerState → Bool
-gives_end peer = peer.serve && (is_reached peer.end (length (reply_frames peer.fed)) || peer.faulty)
+abbrev pub gives_end : LoopPeerState → List ℕ → Bool
+gives_end peer bytes = peer.serve && ends_for peer.end bytes
 
 abbrev pub is_open : Ending → Bool
 is_open ending.Open = true
@@ -45,14 +48,10 @@ is_ended ending.Ended = true
 is_ended ending.Closed = false
 
 -- what stands behind the bytes: the end, where it is given; and where it isn't, the closing once the link was finished
-abbrev pub ending_for : (end finished : Bool) → Ending
+abbrev pub ending_for : (ended finished : Bool) → Ending
 ending_for true finished = ending.Ended
 ending_for false true = ending.Closed
 ending_for false false = ending.Open
-
--- no bytes behind these bring a reply
-abbrev pub IsStuck : List ℕ → Type 0
-IsStuck bytes = (more : List ℕ) → reply_frames (bytes ++ more) ≡ reply_frames bytes
 
 -- ## A link
 
@@ -62,17 +61,16 @@ IsStuck bytes = (more : List ℕ) → reply_frames (bytes ++ more) ≡ reply_fra
 pub record IsOffered (took : List ℕ) (inn : MemInState) (peer : LoopPeerState) : Type 0 where
   pub begins : peer.fed ++ drop (length peer.fed) took ≡ took
   pub offered : inn.given ++ inn.waiting ≡ offered_for peer peer.fed
-  pub ended : is_ended inn.ending ≡ gives_end peer
+  pub ended : is_ended inn.ending ≡ gives_end peer peer.fed
   pub closed : inn.ending ≡ ending.Closed → peer.fed ≡ took
-  pub stuck : peer.faulty ≡ true → IsStuck peer.fed
 
 -- and only where the link was finished
 pub record IsLinked (out : ShapedState) (inn : MemInState) (peer : LoopPeerState) : Type 0 where
   pub offered : IsOffered out.taken inn peer
   pub finished : inn.ending ≡ ending.Closed → out.inner.finished ≡ true
 
--- what an answer to what a link took may change; and where it was offered what belongs to what was fed before, all is
--- fed now
+-- What an answer to what a link took may change; and where the link was offered what belongs to what was fed before, all
+-- is fed now.
 pub record Answers (old : LoopPeerState) (took : List ℕ) (inn : MemInState) (new : LoopPeerState) (inn' : MemInState) : Type 0 where
   pub serve : new.serve ≡ old.serve
   pub end : new.end ≡ old.end
@@ -81,15 +79,15 @@ pub record Answers (old : LoopPeerState) (took : List ℕ) (inn : MemInState) (n
   pub idle : old.serve ≡ false → inn' ≡ inn
   pub all : IsOffered took inn old → (new.fed ≡ took) × IsOffered took inn' new
 
--- all that the link took was fed, so that it was offered what the server gives for that, and its end or the closing
--- stands behind it where it belongs
+-- All that the link took was fed, so that it was offered what the other end gives for that, and the end or the closing
+-- stands behind it where it belongs.
 pub record Settled (out : ShapedState) (inn : MemInState) (peer : LoopPeerState) (inn' : MemInState) (peer' : LoopPeerState) : Type 0 where
   pub serve : peer'.serve ≡ peer.serve
   pub end : peer'.end ≡ peer.end
   pub fed : peer'.fed ≡ out.taken
   pub given : inn'.given ≡ inn.given
   pub offered : inn'.given ++ inn'.waiting ≡ offered_for peer out.taken
-  pub ending : inn'.ending ≡ ending_for (gives_end peer') out.inner.finished
+  pub ending : inn'.ending ≡ ending_for (gives_end peer out.taken) out.inner.finished
   pub linked : IsLinked out inn' peer'
 
 -- ## The server
@@ -98,6 +96,12 @@ pub record Settled (out : ShapedState) (inn : MemInState) (peer : LoopPeerState)
 pub record Follows (fed : List ℕ) (c : Held) : Type 0 where
   pub made : c.made ≡ length (reply_frames fed)
   pub goes_on : (more : List ℕ) → reply_frames (fed ++ more) ≡ reply_frames fed ++ reply_frames (c.bytes ++ more)
+  pub faults : (more : List ℕ) → has_fault (fed ++ more) ≡ has_fault (c.bytes ++ more)
+
+-- a piece was fed, and was answered with a frame fault where that says so
+pub record Goes (c : Held) (piece : List ℕ) (c' : Held) (before now : List ℕ) (faulty : Bool) : Type 0 where
+  pub replied : Replied c piece c' before now
+  pub fault : faulty ≡ has_fault (c.bytes ++ piece)
 
 -- these are the bytes of the replies that came to those before
 abbrev pub NewReplies : List ℕ → List ℕ → List ℕ → Type 0

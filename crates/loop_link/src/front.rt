@@ -2,7 +2,6 @@ ghost use Rattle.std.specs.Prelude.{◌≡◌, ℕ, List, ◌+◌, ◌≤◌, �
 ghost use Rattle.brpc_model.specs.Frame.{Frame, frame_bytes, high_first};
 ghost use Rattle.loop_link.specs.Serving.{first_left};
 
-use crate::counts::is_reached;
 use io_buf::IoBuf;
 use sock_io::NoMemory;
 use std::alloc::Global;
@@ -26,17 +25,17 @@ pub(crate) fn gathered(alloc: Global, buf: &IoBuf) -> Result<Vec<u8>, NoMemory>
 }
 
 /// How many of these bytes are given, which are those of the responses behind the first `given`.
-pub(crate) fn given_len(end: Option<u32>, given: u64, made: u64, bytes: &[u8]) -> usize
+pub(crate) fn given_len(end: Option<u32>, given: u64, bytes: &[u8]) -> usize
     ensures within { result ≤ length bytes.now }
-    ensures given { (frames : List Frame) → length bytes.now < 2 ^ 32 → bytes.now ≡ flat_map frame_bytes frames → made ≡ given + length frames → take result bytes.now ≡ flat_map frame_bytes (first_left end given frames) }
+    ensures given { (frames : List Frame) → length bytes.now < 2 ^ 32 → bytes.now ≡ flat_map frame_bytes frames → take result bytes.now ≡ flat_map frame_bytes (first_left end given frames) }
 {
     match end {
-        Some(most) if u64::from(most) <= made => front_len(bytes, u64::from(most).saturating_sub(given)),
-        _ => bytes.len(),
+        Some(most) => front_len(bytes, u64::from(most).saturating_sub(given)),
+        None => bytes.len(),
     }
 }
 
-/// How many bytes the first `count` of some frames have, which are these bytes.
+// How many bytes the first `count` of some frames have, which are these bytes.
 fn front_len(bytes: &[u8], count: u64) -> usize
     ensures within { result ≤ length bytes.now }
     ensures front { (frames : List Frame) → length bytes.now < 2 ^ 32 → bytes.now ≡ flat_map frame_bytes frames → take result bytes.now ≡ flat_map frame_bytes (take count frames) }

@@ -1,7 +1,7 @@
-ghost use Rattle.std.specs.Prelude.{◌≡◌, ◌<◌, ◌++◌, length, OnErr, OnOk};
+ghost use Rattle.std.specs.Prelude.{◌≡◌, ◌<◌, ◌++◌, false, length, OnErr, OnOk};
 ghost use Rattle.sock_io.specs.Link.{TakeStep};
 ghost use Rattle.sock_io.specs.Memory.{mem_in, empty_in, take_answer, closing};
-ghost use Rattle.loop_link.specs.Serving.{is_open};
+ghost use Rattle.loop_link.specs.Serving.{ending_for, is_open};
 
 use sock_io::{Ending, In, MemIn, NoMemory, Take};
 use std::alloc::Global;
@@ -11,7 +11,7 @@ use std::marker::Model;
 #[derive(Drop)]
 pub struct LoopIn {
     inner: MemIn,
-    open: bool,
+    can_give: bool,
 }
 
 impl Model for LoopIn {
@@ -23,7 +23,7 @@ impl Model for LoopIn {
 
     ghost view = { λ i. i.inner };
 
-    ghost invariant = { λ i. i.open ≡ is_open i.inner.ending };
+    ghost invariant = { λ i. i.can_give ≡ is_open i.inner.ending };
 }
 
 impl LoopIn {
@@ -33,7 +33,7 @@ impl LoopIn {
     {
         LoopIn {
             inner: MemIn::new(alloc, ending),
-            open: match ending {
+            can_give: match ending {
                 Ending::Open => true,
                 Ending::Ended | Ending::Closed => false,
             },
@@ -44,7 +44,7 @@ impl LoopIn {
     pub(crate) fn is_open(&self) -> bool
         ensures { result ≡ is_open self.now.ending }
     {
-        self.open
+        self.can_give
     }
 
     /// The other end gives these bytes.
@@ -56,13 +56,15 @@ impl LoopIn {
         self.inner.give(bytes)
     }
 
-    /// The other end gives its end.
-    pub(crate) fn end(&mut self)
+    /// The other end gives its end, where it has come to that.
+    pub(crate) fn end_where(&mut self, ended: bool)
         requires { self.old.ending ≡ Ending.Open }
-        ensures { self.new ≡ record self.old { ending = Ending.Ended } }
+        ensures { self.new ≡ record self.old { ending = ending_for ended false } }
     {
-        self.inner.end();
-        self.open = false;
+        if ended {
+            self.inner.end();
+            self.can_give = false;
+        }
     }
 
     /// The link was finished and the other end closes its half, unless it gave its end before.
@@ -70,7 +72,7 @@ impl LoopIn {
         ensures { self.new ≡ record self.old { ending = closing self.old.ending } }
     {
         self.inner.close();
-        self.open = false;
+        self.can_give = false;
     }
 }
 

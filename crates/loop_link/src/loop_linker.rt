@@ -13,7 +13,7 @@ use crate::counts::{is_counted, is_reached, next_call, risen};
 use crate::loop_in::LoopIn;
 use crate::loop_peer::LoopPeer;
 use io_buf::BlockPool;
-use sock_io::{Ending, Ends, LinkSpec, Linker, MemOut, NoMemory, OpenFault, Shape, Shaped};
+use sock_io::{Ending, Ends, LinkSpec, Linker, MemOut, NoMemory, OpenFault, Out, Shape, Shaped};
 use std::alloc::Global;
 use std::marker::Model;
 
@@ -79,7 +79,7 @@ impl LoopLinker {
 
 /// What stands in a new link's reading half: a server of no response gives its end at once.
 fn first_ending(spec: &LinkSpec) -> Ending
-    ensures { result ≡ first_ending spec.now }
+    ensures value { result ≡ first_ending spec.now }
     ensures open { is_closing result ≡ false }
 {
     if spec.serve && is_reached(spec.end, 0) {

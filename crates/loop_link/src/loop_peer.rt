@@ -1,4 +1,4 @@
-ghost use Rattle.std.specs.Prelude.{◌≡◌, [], false, length, IfOk, OnErr, OnOk};
+ghost use Rattle.std.specs.Prelude.{◌≡◌, [], length, IfOk, OnErr, OnOk};
 ghost use Rattle.sock_io.specs.Peer.{no_peer};
 ghost use Rattle.loop_link.specs.Serving.{Answers};
 
@@ -13,14 +13,13 @@ use std::alloc::Global;
 use std::marker::Model;
 
 /// The other end of a link, which `LoopLinker::settle` serves: the built-in server, or one that takes all bytes and gives
-/// nothing. Contracts see what was asked of it, all bytes of the link that it was fed, and whether it met a fault.
+/// nothing. Contracts see what was asked of it, and all bytes of the link that it was fed.
 #[derive(Drop)]
 pub struct LoopPeer {
     serve: bool,
     end: Option<u32>,
     /// The server, unless it was lost for want of memory.
     server: Option<Server>,
-    faulty: bool,
     fed_len: usize,
     /// All bytes that it was fed, for the proofs.
     fed: Ghosts<u8>,
@@ -32,7 +31,7 @@ impl Model for LoopPeer {
 
     ghost Value = { LoopPeerState };
 
-    ghost view = { λ p. record { serve = p.serve; end = p.end; fed = p.fed.list; faulty = p.faulty } };
+    ghost view = { λ p. record { serve = p.serve; end = p.end; fed = p.fed.list } };
 
     ghost invariant = { λ p. (p.fed_len ≡ length p.fed.list) × IfSome p.server (λ s. s ≡ p.fed.list) };
 }
@@ -40,13 +39,12 @@ impl Model for LoopPeer {
 impl LoopPeer {
     /// An other end that was fed nothing.
     pub(crate) fn new(serve: bool, end: Option<u32>) -> Self
-        ensures { result ≡ record { serve = serve; end = end; fed = []; faulty = false } }
+        ensures { result ≡ record { serve = serve; end = end; fed = [] } }
     {
         LoopPeer {
             serve,
             end,
             server: None,
-            faulty: false,
             fed_len: 0,
             fed: Ghosts::of(&0u8),
         }
@@ -74,12 +72,10 @@ impl LoopPeer {
         let fed = server.feed(alloc, pool, rest)?;
         let made = fed.server.replies();
         let bytes = gathered(alloc, &fed.replies)?;
-        let count = given_len(self.end, given, made, &bytes);
+        let count = given_len(self.end, given, &bytes);
         inn.give(&bytes[..count])?;
-        if is_reached(self.end, made) || fed.faulty {
-            inn.end();
-        }
-        self.keep(fed.server, fed.faulty, took.len());
+        inn.end_where(is_reached(self.end, made) || fed.faulty);
+        self.keep(fed.server, took.len());
         Ok(())
     }
 
@@ -100,13 +96,12 @@ impl LoopPeer {
     }
 
     // Keeps the server, which was fed so many bytes.
-    fn keep(&mut self, server: Server, faulty: bool, len: usize)
+    fn keep(&mut self, server: Server, len: usize)
         requires { len ≡ length server }
-        ensures { self.new ≡ record self.old { fed = server; faulty = faulty } }
+        ensures { self.new ≡ record self.old { fed = server } }
     {
         self.fed = Ghosts::of(&server);
         self.server = Some(server);
-        self.faulty = faulty;
         self.fed_len = len;
     }
 

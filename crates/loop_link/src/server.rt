@@ -1,6 +1,7 @@
-ghost use Rattle.std.specs.Prelude.{◌≡◌, ◌++◌, [], true, length, IfOk};
+ghost use Rattle.std.specs.Prelude.{◌≡◌, ◌++◌, [], length, IfOk};
 ghost use Rattle.brpc_model.specs.Reply.{reply_frames};
-ghost use Rattle.loop_link.specs.Serving.{IsStuck, NewReplies};
+ghost use Rattle.loop_link.specs.Serving.{Goes, NewReplies};
+ghost use Rattle.rpc_server.specs.Feeding.{has_fault};
 
 use ghosts::Ghosts;
 use io_buf::{BlockPool, IoBuf};
@@ -62,14 +63,10 @@ impl Server {
     ) -> Result<Fed, NoMemory>
         ensures fed { IfOk result (λ f. f.server ≡ self ++ piece.now) }
         ensures replies { IfOk result (λ f. NewReplies self piece.now f.replies.items) }
-        ensures stuck { IfOk result (λ f. f.faulty ≡ true → IsStuck (self ++ piece.now)) }
+        ensures faulty { IfOk result (λ f. f.faulty ≡ has_fault (self ++ piece.now)) }
     {
         let mut replies = IoBuf::new(alloc);
-        let faulty = match self.conn.feed(pool, piece, &mut replies) {
-            Ok(()) => false,
-            Err(ConnFault::Frame(_)) => true,
-            Err(ConnFault::NoMemory) => return Err(NoMemory),
-        };
+        let faulty = feeds(&mut self.conn, pool, piece, &mut replies)?;
         let with = (self.fed, piece);
         let server = Server {
             conn: self.conn,
@@ -80,5 +77,21 @@ impl Server {
             replies,
             faulty,
         })
+    }
+}
+
+// Feeds the connection, and answers whether it met a frame fault.
+fn feeds(
+    conn: &mut Conn,
+    pool: &mut BlockPool,
+    piece: &[u8],
+    out: &mut IoBuf,
+) -> Result<bool, NoMemory>
+    ensures { IfOk result (λ faulty. Goes conn.old piece.now conn.new out.old.items out.new.items faulty) }
+{
+    match conn.feed(pool, piece, out) {
+        Ok(()) => Ok(false),
+        Err(ConnFault::Frame(_)) => Ok(true),
+        Err(ConnFault::NoMemory) => Err(NoMemory),
     }
 }
