@@ -17,7 +17,7 @@ use Rattle.sock_programs.specs.declared.task.Task.{Task}
 use Rattle.sock_programs.specs.Cores.{Core}
 use Rattle.sock_programs.specs.Tasks.{plan_of, id_plan_of}
 use Rattle.sock_programs.specs.Told.{TaskFits, OpFits, IsTask, Became}
-use Rattle.sock_programs.specs.ToldCalls.{Fixed, Order}
+use Rattle.sock_programs.specs.ToldCalls.{Fixed, Order, ShowsId}
 use Rattle.sock_programs.specs.Scripts.{all_tasks, IsRunWithCalls}
 use Rattle.joint_runs.proofs.Runs.{AreMade}
 use Rattle.report_fits.proofs.Reading.{InRange}
@@ -93,6 +93,19 @@ module _ (p : Plan) (q : IdPlan) (clients : List (List Task)) (gives : ℕ → L
         (λ none_. absurd (let z = e.births.unmade o none_ in let is = counts o in omega (arith, z, is, less)))
         (id_of w ms e.births e.tasks o)
 
+    -- and the call has an outcome that shows its id
+    advanced_shown : (o n : ℕ) → n < last o → (outcome : Outcome) × (id : ℕ) × Became clients w.core.outcomes o outcome × ShowsId p clients w.core.outcomes fixed (given w.core) orders outcome id
+    advanced_shown o n less = ⊎_elim
+        (λ x. let y = ended_call p q clients gives w ms e x.0 x.1 in let shown = shows_some x.0 y.0 y.2 in (y.0, shown.0, subst (λ k. Became clients w.core.outcomes k y.0) x.2 y.1, shown.1))
+        (λ none_. absurd (let z = e.births.unmade o none_ in let is = counts o in omega (arith, z, is, less)))
+        (id_of w ms e.births e.tasks o)
+      where
+        shows_some : (b : Birth) (outcome : Outcome) → WhyEnded p q clients gives w b outcome → (id : ℕ) × ShowsId p clients w.core.outcomes fixed (given w.core) orders outcome id
+        shows_some b (outcomes.Answered id payload attachment) h = (id, refl)
+        shows_some b (outcomes.Peer id code) h = (id, refl)
+        shows_some b (outcomes.CallFailed id code) h = (id, refl)
+        shows_some b other h = absurd h
+
     module _ (ascending : (c : ℕ) → AreAscending (get_or clients c [])) (as_given : (k : ℕ) → given w.core k ≡ gives k) where
       -- a call failed by an `expire`, by a compressed response, or by an error that was posted for its last attempt
       failed_by : (c : ℕ) (t : Task) (asked : Asked) (id code : ℕ) → IsTask clients w.core.outcomes c t → t.op ≡ ops.Call asked → Became clients w.core.outcomes t.number (outcomes.CallFailed id code) → FailedByPost p clients w.core.outcomes fixed (given w.core) orders last posts t.number asked id code
@@ -132,6 +145,13 @@ module _ (script : List Item) (made : AreMade script) (there : AreThere script) 
     run_advanced_by client t asked at op n less = let h = run_has_story script made there range turns core is in let e = run_has_ended script made there range turns core is closes in
         subst (λ (d : Core). AdvancedByPost (plan_of script) (all_tasks script) d.outcomes fixed (given d) orders (posts_of_run script turns core is) t.number n) h.is
         (advanced_by (plan_of script) (id_plan_of script) (all_tasks script) (given core) h.scene h.marks e fixed orders (attempts_of_run script turns core is) (run_attempts script made there range turns core is) (posts_of_run script turns core is) (run_posted script made there range turns core is) t.number n less)
+
+    -- and such a call has an outcome, which shows its id
+    pub run_advanced_shown : (client : ℕ) (t : Task) (asked : Asked) → IsTask (all_tasks script) core.outcomes client t → t.op ≡ ops.Call asked → (n : ℕ) → n < attempts_of_run script turns core is t.number
+        → (outcome : Outcome) × (id : ℕ) × Became (all_tasks script) core.outcomes t.number outcome × ShowsId (plan_of script) (all_tasks script) core.outcomes fixed (given core) orders outcome id
+    run_advanced_shown client t asked at op n less = let h = run_has_story script made there range turns core is in let e = run_has_ended script made there range turns core is closes in
+        subst (λ (d : Core). (outcome : Outcome) × (id : ℕ) × Became (all_tasks script) d.outcomes t.number outcome × ShowsId (plan_of script) (all_tasks script) d.outcomes fixed (given d) orders outcome id) h.is
+        (advanced_shown (plan_of script) (id_plan_of script) (all_tasks script) (given core) h.scene h.marks e fixed orders (attempts_of_run script turns core is) (run_attempts script made there range turns core is) (posts_of_run script turns core is) (run_posted script made there range turns core is) t.number n less)
 
     -- a call that failed did so by an `expire`, by a compressed response, or by an error that was posted for its last attempt
     pub run_failed_by : (client : ℕ) (t : Task) (asked : Asked) (id code : ℕ) → IsTask (all_tasks script) core.outcomes client t → t.op ≡ ops.Call asked → Became (all_tasks script) core.outcomes t.number (outcomes.CallFailed id code)

@@ -29,3 +29,5 @@ pub mod LateEnding
 pub mod LateLives
 pub mod LatePlaces
 pub mod LateDropped
+pub mod ByPosts
+pub mod Assembled
