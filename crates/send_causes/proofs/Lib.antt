@@ -24,3 +24,4 @@ pub mod FirstRuns
 pub mod Beside
 pub mod DropPlaces
 pub mod DropCodes
+pub mod DropWords
