@@ -25,3 +25,4 @@ pub mod Beside
 pub mod DropPlaces
 pub mod DropCodes
 pub mod DropWords
+pub mod DropSays
