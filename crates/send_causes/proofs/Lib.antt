@@ -22,3 +22,5 @@ pub mod Lists
 pub mod Firsts
 pub mod FirstRuns
 pub mod Beside
+pub mod RefusedLoops
+pub mod RefusedPrograms

@@ -14,7 +14,7 @@ use Rattle.corr_core.specs.Word.{parts, error_of}
 use Rattle.sock_message.specs.Asked.{Asked, name_of}
 use Rattle.sock_programs.specs.Asides.{Step, Found, PutCall, StoreAt, PostId, call_id, id_slot, id_first}
 use Rattle.sock_programs.specs.Calls.{Call, AddRef, LoadName, LookWord, LoadCode, ClaimRequest, DropPlace}
-use Rattle.sock_programs.specs.Heads.{Head, Exit, Posts, Unlocks, Locks}
+use Rattle.sock_programs.specs.Heads.{Head, Exit, Posts, Unlocks, Locks, Reads}
 use Rattle.sock_programs.specs.Posts.{WHOLE}
 use Rattle.sock_programs.specs.Programs.{Program, Do, Say, Sent, Rest, TakeMessage, TakeHome, PutHome, PutBytes, AskReady, Write, Aside, Round, Keep, Retries}
 use Rattle.sock_programs.specs.Cores.{Core, SeatState, word_of, found_at}
@@ -126,11 +126,11 @@ module _ (requests : ℕ) (is_call : Asked → Type 0) (reads : Bool) where
 
   -- a reader posts how its link ended, a client that a call expired, or what it is charged with
   abbrev pub IsPostOf : Charge → ℕ → ℕ → Type 0
-  IsPostOf charge id e = ((reads ≡ true) × IsReaders e) ⊎ (((reads ≡ false) × (e ≡ error_of 1008 WHOLE)) ⊎ ((reads ≡ false) × IsChargeOf charge id e))
+  IsPostOf due id e = ((reads ≡ true) × IsReaders e) ⊎ (((reads ≡ false) × (e ≡ error_of 1008 WHOLE)) ⊎ ((reads ≡ false) × IsChargeOf due id e))
 
   abbrev pub MayPost : Charge → Step → Type 0
-  MayPost charge (PostId i from e) = IsPostOf charge (call_id i (parts from).first) e
-  MayPost charge other = Unit {0}
+  MayPost due (PostId i from e) = IsPostOf due (call_id i (parts from).first) e
+  MayPost due other = Unit {0}
 
   abbrev pub did_aside : Step → List Deed → List Deed
   did_aside (PutCall i asked) deeds = DidPut asked ∷ deeds
@@ -139,8 +139,14 @@ module _ (requests : ℕ) (is_call : Asked → Type 0) (reads : Bool) where
   -- ## Loops
 
   abbrev pub AtCharge : Charge → Head → Type 0
-  AtCharge charge (Posts id e w) = IsPostOf charge id e
-  AtCharge charge other = Unit {0}
+  AtCharge due (Posts id e w) = IsPostOf due id e
+  AtCharge due (Unlocks i w advance) = due ≡ NoCharge
+  AtCharge due other = Unit {0}
+
+  -- a reading ends with one of these codes
+  abbrev pub LeavesCode : (head : Head) → Exit head → Type 0
+  LeavesCode (Reads r) exit = (exit.code ≡ 1014) ⊎ (exit.code ≡ 2002)
+  LeavesCode other exit = Unit {0}
 
   abbrev pub doing_behind : (head : Head) → Exit head → Doing → Doing
   doing_behind (Unlocks i w advance) exit s = record { trial = unlocks_trial i w advance s.trial; charge = NoCharge; deeds = s.deeds }
@@ -162,7 +168,7 @@ module _ (requests : ℕ) (is_call : Asked → Type 0) (reads : Bool) where
   Charges s (AskReady k next) = (answer : Ready) → Charges idle (next answer)
   Charges s (Write w after) = Charges idle after
   Charges s (Aside step next) = MayPost s.charge step × ((found : Found step) → FindsLabel is_call step found → (u : Doing) × (AsideMove is_call step found s.trial u.trial × Remembers (did_aside step s.deeds) s u) × Charges u (next found))
-  Charges s (Round head next) = (AtLabel is_call head × AtCharge s.charge head) × ((exit : Exit head) → LeavesLabel head exit → Charges (doing_behind head exit s) (next exit))
+  Charges s (Round head next) = (AtLabel is_call head × AtCharge s.charge head) × ((exit : Exit head) → LeavesLabel head exit → LeavesCode head exit → Charges (doing_behind head exit s) (next exit))
   Charges s (Keep r next) = (s.trial ≡ Tries r.id r.attempt) × (r.attempt ≤ 6) × Charges idle next
   Charges s (Retries requests after) = Charges idle after
 
