@@ -93,9 +93,9 @@ module _ (requests : ℕ) (is_call : Asked → Type 0) (reads : Bool) where
         (way idle (leb ((parts found).first + (parts found).range) LAST) (Aside (FreeId i) (λ _. next)) next (λ _. (tt, λ _ _. let_go [] idle next goes)) (λ _. goes)),
   )
 
-  unlocked_goes : (r : Retry) (k : Deciding → Program) → ((exit : Deciding) → Goes idle (k exit)) → (exit : Unlocking) → r.attempt ≤ 6 → ((w e : ℕ) → exit ≡ HasNext w e → (parts w).first ≡ id_first r.id) → (s : Doing) → s.trial ≡ Tries r.id r.attempt → Goes s (unlocked r k exit)
-  unlocked_goes r k goes (IsOpen w) few first s is = (is, few, goes GoesOn)
-  unlocked_goes r k goes (HasNext w e) few first s is = (is, few, decide_goes idle r.id w e k (first w e refl) goes)
+  unlocked_goes : (r : Retry) (k : Deciding → Program) → ((exit : Deciding) → Goes idle (k exit)) → (exit : Unlocking) → r.attempt ≤ 6 → 0 < r.attempt → ((w e : ℕ) → exit ≡ HasNext w e → (parts w).first ≡ id_first r.id) → (s : Doing) → s.trial ≡ Tries r.id r.attempt → Goes s (unlocked r k exit)
+  unlocked_goes r k goes (IsOpen w) few some_ first s is = (is, few, some_, goes GoesOn)
+  unlocked_goes r k goes (HasNext w e) few some_ first s is = (is, few, some_, decide_goes idle r.id w e k (first w e refl) goes)
 
   decides_goes : (s : Doing) (id : ℕ) (asked : Asked) (w e : ℕ) (k : Deciding → Program) → (parts w).first ≡ id_first id → is_call asked → ((exit : Deciding) → Goes idle (k exit)) → Goes s (round (Decides id asked w e) k)
   decides_goes s id asked w e k first call goes = way s (ends_call (parts w) e) (end_id (id_slot id) (k (HasEnded asked.operation (code_of e))))
@@ -108,7 +108,7 @@ module _ (requests : ℕ) (is_call : Asked → Type 0) (reads : Bool) where
           ((inr refl, call), inr (refl, refl)),
           (
             (tt, refl),
-            λ exit l _. unlocked_goes (record { id = id; attempt = (parts w).attempt + 1 }) k goes exit l.0 (λ x y is. next_first exit x y is l.1 ∙ first) (bare (Tries (call_id (id_slot id) (parts w).first) ((parts w).attempt + 1)) [])
+            λ exit l _. unlocked_goes (record { id = id; attempt = (parts w).attempt + 1 }) k goes exit l.0 (omega arith) (λ x y is. next_first exit x y is l.1 ∙ first) (bare (Tries (call_id (id_slot id) (parts w).first) ((parts w).attempt + 1)) [])
                 (ap (λ x. Tries x ((parts w).attempt + 1)) (ap (call_id (id_slot id)) first ∙ id_back id)),
           ),
         ),

@@ -33,9 +33,10 @@ use Rattle.sock_programs.specs.Sends.{freed as given_back, one_more, passed_tell
 use Rattle.sock_programs.specs.Writings.{Holder, Writing, Puts, Waits, Empties, Walks}
 use Rattle.sock_causes.specs.Stories.{In}
 use Rattle.label_runs.proofs.Loops.{not_equal}
+use Rattle.label_runs.proofs.Programs.{OpCalls}
 use Rattle.label_runs.specs.Labels.{Trial, Idle, Tries, Sends, IsOfTrial, MayPut, Kept, LeavesLabel, LeavesLock, LeavesUnlock, locked_trial}
-use Rattle.send_causes.specs.Refused.{Deed, DidStep, DidPut, Charge, NoCharge, IsRefused, HasDropped, Doing, idle, FoundTaken, FoundLost, WasOther, WasOdd, WasNone, WouldStore, IsTrying, Refuses, Drops, Moves, IsPostOf, Charges}
-use Rattle.send_causes.proofs.RefusedLoops.{bare, Goes, way, Steps, step_way, forgets, let_go, post_with_goes, posted_goes, decide_goes, decided_goes, answer_goes}
+use Rattle.send_causes.specs.Refused.{Deed, DidStep, DidPut, DidRound, Charge, NoCharge, IsRefused, HasDropped, Doing, idle, begins, FoundTaken, FoundLost, WasOther, WasOdd, WasNone, WouldStore, IsTrying, Refuses, Drops, Moves, IsPostOf, Charges}
+use Rattle.send_causes.proofs.RefusedLoops.{bare, Goes, way, Steps, step_way, aside_way, forgets, let_go, post_with_goes, posted_goes, decide_goes, decided_goes, answer_goes}
 
 module _ (requests : ℕ) (is_call : Asked → Type 0) (reads : Bool) where
   abbrev G : Doing → Program → Type 0
@@ -183,55 +184,63 @@ module _ (requests : ℕ) (is_call : Asked → Type 0) (reads : Bool) where
     tell_none heading code x none_ goes = subst (λ b. G idle (cond b x (post heading.owner (cond (eqb code 0) 1009 code) heading.attempt x))) (sym (eq-eqb heading.owner 0 none_)) goes
 
     -- a message of a call is told of, another one isn't
-    dropped_goes : (h : Holder) (now : ℕ) (heading : Heading) (after : Program) → G idle after → G idle (dropped h now heading after)
-    dropped_goes h now heading after goes = (
+    dropped_goes : (h : Holder) (now : ℕ) (heading : Heading) (left : List ℕ) (taken : ℕ) (asked : Bool) (ds : List Deed) (after : Program) → In (DidRound (Puts h now heading left taken asked)) ds → G idle after → G (bare Idle ds) (dropped h now heading after)
+    dropped_goes h now heading left taken asked ds after round goes = (
       tt,
       λ code _. (
-        bare Idle (DidStep (LoadCode (socket_id_slot h.id) (socket_id_version h.id)) code ∷ []),
+        bare Idle (DidStep (LoadCode (socket_id_slot h.id) (socket_id_version h.id)) code ∷ ds),
         inl (inl refl, inl (refl, refl)),
         (
           tt,
           λ found _. dite (ℕ_discrete heading.owner 0)
-              (λ none_. then_ (DropPlace heading.place h.link h.places) _ found (bare Idle (DidStep (LoadCode (socket_id_slot h.id) (socket_id_version h.id)) code ∷ []))
+              (λ none_. then_ (DropPlace heading.place h.link h.places) _ found (bare Idle (DidStep (LoadCode (socket_id_slot h.id) (socket_id_version h.id)) code ∷ ds))
               (passed_goes (one_more h) now (tell_drop heading code) after (λ x g. tell_none heading code x none_ g) goes))
               (λ some_. (
-                due (HasDropped heading code) (DidStep (DropPlace heading.place h.link h.places) found ∷ DidStep (LoadCode (socket_id_slot h.id) (socket_id_version h.id)) code ∷ []),
+                due (HasDropped heading code) (DidStep (DropPlace heading.place h.link h.places) found ∷ DidStep (LoadCode (socket_id_slot h.id) (socket_id_version h.id)) code ∷ ds),
                 inr (inr (record {
+                  holder = h;
+                  now = now;
                   heading = heading;
+                  left = left;
+                  taken = taken;
+                  asked = asked;
                   code = code;
-                  slot = socket_id_slot h.id;
-                  version = socket_id_version h.id;
-                  link = h.link;
-                  places = h.places;
                   is = refl;
+                  round = inr round;
                   load = inl refl;
                   gives_up = refl;
                   charge = refl;
                   deeds = refl;
                 })),
-                passed_keeps (HasDropped heading code) (DidStep (DropPlace heading.place h.link h.places) found ∷ DidStep (LoadCode (socket_id_slot h.id) (socket_id_version h.id)) code ∷ []) (one_more h) now (tell_drop heading code) after
+                passed_keeps (HasDropped heading code) (DidStep (DropPlace heading.place h.link h.places) found ∷ DidStep (LoadCode (socket_id_slot h.id) (socket_id_version h.id)) code ∷ ds) (one_more h) now (tell_drop heading code) after
                     (λ es x g. tell_goes heading code es x some_ g) goes,
               )),
         ),
       ),
     )
 
-    pub block_goes : (s : Doing) (w : Writing) (after : Program) → G s (Write w after) → G s (block w after)
-    block_goes s (Puts h now heading left taken asked) after g = (
+    pub block_goes : (w : Writing) (after : Program) → G idle after → G (begins w) (block w after)
+    block_goes (Puts h now heading left taken asked) after g = (
       tt,
-      λ found _. then_ (LookWord h.id) _ found s (split (vref_version found % 2 == 0) (PutBytes h.link asked (part heading.parts left taken) (put_answered h now heading left taken after)) (dropped h now heading after)
-          (λ _. put_goes h now heading left taken after g) (λ _. dropped_goes h now heading after g)),
+      λ found _. step_way requests is_call reads (LookWord h.id) (λ found. cond (vref_version found % 2 == 0) (PutBytes h.link asked (part heading.parts left taken) (put_answered h now heading left taken after)) (dropped h now heading after)) found (begins (Puts h now heading left taken asked))
+          (vref_version found % 2 == 0) (PutBytes h.link asked (part heading.parts left taken) (put_answered h now heading left taken after)) (dropped h now heading after)
+          (λ _. (idle, inl (inl refl, inr (refl, refl)), put_goes h now heading left taken after g))
+          (λ _. (
+            bare Idle (DidStep (LookWord h.id) found ∷ DidRound (Puts h now heading left taken asked) ∷ []),
+            inl (inl refl, inl (refl, refl)),
+            dropped_goes h now heading left taken asked (DidStep (LookWord h.id) found ∷ DidRound (Puts h now heading left taken asked) ∷ []) after (inr (inl refl)) g,
+          )),
     )
-    block_goes s (Waits h now heading left taken) after g = ready_goes
+    block_goes (Waits h now heading left taken) after g = ready_goes
       where
         ready_goes : (answer : Ready) → G idle (ready_answered h now heading left taken after answer)
         ready_goes asks.Now = g
         ready_goes asks.NotYet = g
         ready_goes asks.Failed = set_failed_goes idle h.id 1009 (λ _. Write (Puts h now heading left taken false) after) (λ _. g)
-    block_goes s (Empties h) after g = (tt, λ found _. then_ (Rattle.sock_programs.specs.Calls.EmptyHead (socket_id_slot h.id) h.last) _ found idle (split (found == h.last) after (TakeHome h.link (λ places. Write (Walks (record h { places = places }) found found 0) after)) (λ _. g) (λ _. λ places. g)))
-    block_goes s (Walks h top at after) last g = (
+    block_goes (Empties h) after g = (tt, λ found _. then_ (Rattle.sock_programs.specs.Calls.EmptyHead (socket_id_slot h.id) h.last) _ found idle (split (found == h.last) after (TakeHome h.link (λ places. Write (Walks (record h { places = places }) found found 0) after)) (λ _. g) (λ _. λ places. g)))
+    block_goes (Walks h top at after) last g = (
       tt,
-      λ found _. then_ (ReadNext (slot_of at)) _ found s (split (found == UNCONNECTED) (Write (Walks h top at after) last)
+      λ found _. then_ (ReadNext (slot_of at)) _ found (begins (Walks h top at after)) (split (found == UNCONNECTED) (Write (Walks h top at after) last)
           (Do (TurnNext (slot_of at) after) (λ _. cond (found == h.last) (TakeMessage (slot_of at) (λ heading bytes. Write (Puts (record h { last = top }) at heading bytes 0 false) last)) (Write (Walks h top found at) last)))
           (λ _. g)
           (λ _. (tt, λ other _. then_ (TurnNext (slot_of at) after) _ other idle (split (found == h.last) (TakeMessage (slot_of at) (λ heading bytes. Write (Puts (record h { last = top }) at heading bytes 0 false) last)) (Write (Walks h top found at) last) (λ _. λ heading bytes. g) (λ _. g))))),
@@ -277,8 +286,8 @@ module _ (requests : ℕ) (is_call : Asked → Type 0) (reads : Bool) where
       (λ far. let t = taken r (omega (arith, low, far)) in (t.0, t.1, inr t.2, t.3))
 
   module _ (mine : reads ≡ false) (asked : Asked) (called : is_call asked) (id n socket : ℕ) (next : Program) (few : n ≤ 6) (goes : G idle next) where
-    abbrev name : ℕ
-    name = name_of asked n
+    abbrev wanted : ℕ
+    wanted = name_of asked n
 
     abbrev sending : List Deed → Doing
     sending ds = bare (Sends asked.operation id n) ds
@@ -354,7 +363,7 @@ module _ (requests : ℕ) (is_call : Asked → Type 0) (reads : Bool) where
     live_goes zero all found ds put = fulls (LookWord socket) (looked requests) found ds (λ q low. absurd (omega (arith, low, all))) put
     live_goes (suc m) all found ds put = grows (LookWord socket) (looked requests) found ds (others (suc m) 0) (inl refl) (claims_goes m 0 (DidStep (LookWord socket) found ∷ ds) (omega (arith, all)) (λ q low. absurd (omega (arith, low))) (inr put))
 
-    looks_goes : (ds : List Deed) → In (DidPut asked) ds → In (DidStep (LoadName name) (socket + 1)) ds → G (sending ds) (Do (LookWord socket) (looked requests))
+    looks_goes : (ds : List Deed) → In (DidPut asked) ds → In (DidStep (LoadName wanted) (socket + 1)) ds → G (sending ds) (Do (LookWord socket) (looked requests))
     looks_goes ds put load = (
       tt,
       λ found _. step_way requests is_call reads (LookWord socket) (looked requests) found (sending ds) (eqb (vref_version found % 2) 0) (others requests 0) (post id 1009 n (release (socket_id_slot socket) (λ _. next)))
@@ -394,7 +403,7 @@ module _ (requests : ℕ) (is_call : Asked → Type 0) (reads : Bool) where
           (0, omega arith, (0, refl, refl, omega arith)),
     )
 
-    pub attempt_goes : (ds : List Deed) → In (DidPut asked) ds → In (DidStep (LoadName name) (socket + 1)) ds → G (bare (Tries id n) ds) (attempt requests asked id n socket next)
+    pub attempt_goes : (ds : List Deed) → In (DidPut asked) ds → In (DidStep (LoadName wanted) (socket + 1)) ds → G (bare (Tries id n) ds) (attempt requests asked id n socket next)
     attempt_goes ds put load = (
       tt,
       λ found _. step_way requests is_call reads (AddRef socket) reached found (bare (Tries id n) ds) (vref_version found == socket_id_version socket) held (release (socket_id_slot socket) (λ _. post id 1009 n next))
@@ -435,4 +444,252 @@ module _ (requests : ℕ) (is_call : Asked → Type 0) (reads : Bool) where
             })),
             release_keeps (IsRefused id n 1009) (DidStep (AddRef socket) found ∷ ds) (socket_id_slot socket) (λ _. post id 1009 n next) (λ es _. posts 1009 es next goes),
           )),
+    )
+
+  -- ## Calls
+
+  begin_goes : (mine : reads ≡ false) (socket i : ℕ) (asked : Asked) → is_call asked → (ds : List Deed) → In (DidStep (LoadName (name_of asked 0)) (socket + 1)) ds → (next : Program) → G idle next → G (bare Idle ds) (begin_call requests socket i asked next)
+  begin_goes mine socket i asked called ds load next goes = (
+    tt,
+    λ _ _. (
+      bare Idle (DidPut asked ∷ ds),
+      ((inl refl, called), inl (refl, refl)),
+      (
+        tt,
+        λ found _. (
+          bare (Tries (call_id i (parts found).first) 0) (DidPut asked ∷ ds),
+          (refl, inl (refl, refl)),
+          (
+            tt,
+            λ _ _. (
+              bare (Tries (call_id i (parts found).first) 0) (DidPut asked ∷ ds),
+              (inl refl, inl (refl, refl)),
+              attempt_goes mine asked called (call_id i (parts found).first) 0 socket next (omega arith) goes (DidPut asked ∷ ds) (inl refl) (inr load),
+            ),
+          ),
+        ),
+      ),
+    ),
+  )
+
+  claim_goes : (mine : reads ≡ false) (more i socket : ℕ) (asked : Asked) → is_call asked → (ds : List Deed) → In (DidStep (LoadName (name_of asked 0)) (socket + 1)) ds → (next : Program) → G idle next → G (bare Idle ds) (claim_id (suc more) i requests socket asked next)
+  claim_goes mine zero i socket asked called ds load next goes = (
+    tt,
+    λ found _. aside_way requests is_call reads ds (bare Idle ds) (eqb found 0) (begin_call requests socket i asked next) next
+        (λ _. (bare Idle ds, (inl refl, inl (refl, refl)), begin_goes mine socket i asked called ds load next goes)) (λ _. let_go requests is_call reads ds (bare Idle ds) next goes),
+  )
+  claim_goes mine (suc more) i socket asked called ds load next goes = (
+    tt,
+    λ found _. aside_way requests is_call reads ds (bare Idle ds) (eqb found 0) (begin_call requests socket i asked next) (claim_id (suc more) (i + 1) requests socket asked next)
+        (λ _. (bare Idle ds, (inl refl, inl (refl, refl)), begin_goes mine socket i asked called ds load next goes))
+        (λ _. (bare Idle ds, (inl refl, inl (refl, refl)), claim_goes mine more (i + 1) socket asked called ds load next goes)),
+  )
+
+  call_goes : (mine : reads ≡ false) (ids : ℕ) (asked : Asked) → is_call asked → (next : Program) → G idle next → G idle (call requests ids asked next)
+  call_goes mine ids asked called next goes = (
+    tt,
+    λ word _. step_way requests is_call reads (LoadName (name_of asked 0)) (λ word. cond (eqb word 0) (Say asked.operation outcomes.Unopened next) (claim_id ids 0 requests (word - 1) asked next)) word idle
+        (eqb word 0) (Say asked.operation outcomes.Unopened next) (claim_id ids 0 requests (word - 1) asked next) (λ _. (idle, inl (inl refl, inr (refl, refl)), goes)) (λ some_. claims ids word (not_equal word 0 some_)),
+  )
+    where
+      claims : (ids word : ℕ) → word ≢ 0 → Steps requests is_call reads (LoadName (name_of asked 0)) (λ word. cond (eqb word 0) (Say asked.operation outcomes.Unopened next) (claim_id ids 0 requests (word - 1) asked next)) word idle (claim_id ids 0 requests (word - 1) asked next)
+      claims zero word some_ = (idle, inl (inl refl, inr (refl, refl)), goes)
+      claims (suc more) word some_ = (
+        bare Idle (DidStep (LoadName (name_of asked 0)) word ∷ []),
+        inl (inl refl, inl (refl, refl)),
+        claim_goes mine more 0 (word - 1) asked called (DidStep (LoadName (name_of asked 0)) word ∷ []) (inl (ap (DidStep (LoadName (name_of asked 0))) (omega (arith, some_)))) next goes,
+      )
+
+  -- ## Retries
+
+  module _ (mine : reads ≡ false) (id n : ℕ) (next : Program) (few : n ≤ 6) (later : 0 < n) (goes : G idle next) where
+    tried_goes : (asked : Asked) → is_call asked → (ds : List Deed) → In (DidPut asked) ds → (exit : Unlocking) → ((w e : ℕ) → exit ≡ HasNext w e → (parts w).first ≡ id_first id) → G (bare (Tries id n) ds) (tried_again requests id n asked next exit)
+    tried_goes asked called ds put (IsOpen w) first = (
+      tt,
+      λ word _. step_way requests is_call reads (LoadName (name_of asked n)) (λ word. cond (eqb word 0) (post id 1009 n next) (attempt requests asked id n (word - 1) next)) word (bare (Tries id n) ds)
+          (eqb word 0) (post id 1009 n next) (attempt requests asked id n (word - 1) next)
+          (λ none_. (
+            due (IsRefused id n 1009) (DidStep (LoadName (name_of asked n)) word ∷ ds),
+            inr (inl (record {
+              id = id;
+              attempt = n;
+              code = 1009;
+              asked = asked;
+              called = called;
+              trying = inr (refl, (1, tt, would mine asked called id n 0 next few goes));
+              few = few;
+              put = put;
+              why = inr (refl, WasNone later (inl (ap (DidStep (LoadName (name_of asked n))) (sym (eqb-true word 0 none_)))));
+              gives_up = refl;
+              charge = refl;
+              deeds = refl;
+            })),
+            post_keeps (IsRefused id n 1009) (DidStep (LoadName (name_of asked n)) word ∷ ds) id 1009 n next (inr (inr (mine, (refl, refl)))) goes,
+          ))
+          (λ some_. (
+            bare (Tries id n) (DidStep (LoadName (name_of asked n)) word ∷ ds),
+            inl (inl refl, inl (refl, refl)),
+            attempt_goes mine asked called id n (word - 1) next few goes (DidStep (LoadName (name_of asked n)) word ∷ ds) (inr put) (inl (ap (DidStep (LoadName (name_of asked n))) (let ne = not_equal word 0 some_ in omega (arith, ne)))),
+          )),
+    )
+    tried_goes asked called ds put (HasNext w e) first = decide_goes requests is_call reads (bare (Tries id n) ds) id w e (decided id next) (first w e refl) (decided_goes requests is_call reads id next goes)
+
+    locked_goes : (exit : Locking) → LeavesLock (First (id_first id)) exit → G (bare (locked_trial exit (Tries id n)) []) (retry_locked requests id n next exit)
+    locked_goes (NotThere w) l = goes
+    locked_goes (Has w) l = (
+      tt,
+      λ asked called. (
+        bare (Tries id n) [],
+        (inl refl, inl (refl, refl)),
+        (
+          tt,
+          λ _ _. (
+            bare (Tries id n) (DidPut asked ∷ []),
+            ((inl refl, called), inl (refl, refl)),
+            ((tt, refl), λ exit m _. tried_goes asked called (DidPut asked ∷ []) (inl refl) exit (λ x e is. next_first exit x e is m.1 ∙ l)),
+          ),
+        ),
+      ),
+    )
+      where
+        next_first : (exit : Unlocking) (x e : ℕ) → exit ≡ HasNext x e → LeavesUnlock (parts w).first exit → (parts x).first ≡ (parts w).first
+        next_first exit x e is m = subst (LeavesUnlock (parts w).first) is m
+
+    pub retry_goes : G (bare (Tries id n) []) (retry requests id n next)
+    retry_goes = ((tt, tt), λ exit l _. locked_goes exit l)
+
+  -- ## The other operations on calls
+
+  expire_goes : (mine : reads ≡ false) (o t : ℕ) (next : Program) → G idle next → G idle (expire o t next)
+  expire_goes mine o t next goes = (
+    tt,
+    λ id _. let_go requests is_call reads [] idle (cond (eqb id 0) (Say o outcomes.NotBegun next) (post_with id (error_of 1008 7) (λ how. posted id (error_of 1008 7) (Say o (expire_outcome how) next) how)))
+        (split (eqb id 0) (Say o outcomes.NotBegun next) (post_with id (error_of 1008 7) (λ how. posted id (error_of 1008 7) (Say o (expire_outcome how) next) how))
+        (λ _. goes) (λ _. post_with_goes requests is_call reads idle id (error_of 1008 7) (λ how. posted id (error_of 1008 7) (Say o (expire_outcome how) next) how) (inr (inl (mine, refl)))
+        (λ how l. posted_goes requests is_call reads id (error_of 1008 7) (Say o (expire_outcome how) next) goes how l))),
+  )
+
+  join_goes : (o t : ℕ) (next : Program) → G idle next → G idle (join o t next)
+  join_goes o t next goes = (
+    tt,
+    λ id _. let_go requests is_call reads [] idle (cond (eqb id 0) (Say o outcomes.NotBegun next) (Round (Joins id) (λ _. Say o outcomes.Joined next)))
+        (split (eqb id 0) (Say o outcomes.NotBegun next) (Round (Joins id) (λ _. Say o outcomes.Joined next)) (λ _. goes) (λ _. ((tt, tt), λ _ _ _. goes))),
+  )
+
+  -- ## Clients
+
+  open_goes : (more i o name k : ℕ) (next : Program) → G idle next → G idle (open_from more i o name k next)
+  open_goes zero i o name k next goes = (tt, λ a _. then_ (TakeLink k) _ a idle (tt, λ b _. then_ (FinishLink k) _ b idle (tt, λ d _. then_ (PutLink k) _ d idle (tt, λ e _. then_ (Rattle.sock_programs.specs.Calls.StoreOpen o NO_SOCKET) _ e idle goes))))
+  open_goes (suc more) i o name k next goes = (
+    tt,
+    λ found _. then_ (Rattle.sock_programs.specs.Calls.ClaimSlot i) _ found idle (split (found == 0) (make_socket o name k i next) (open_from more (i + 1) o name k next)
+        (λ _. (tt, λ a _. (idle, inl (inl refl, inr (refl, refl)), (tt, λ b _. (idle, inl (inl refl, inr (refl, refl)), (tt, λ d _. (idle, inl (inl refl, inr (refl, refl)), (tt, λ e _. (idle, inl (inl refl, inr (refl, refl)), (tt, λ f _. (idle, inl (inl refl, inr (refl, refl)), (tt, λ g _. (idle, inl (inl refl, inr (refl, refl)), goes)))))))))))))
+        (λ _. open_goes more (i + 1) o name k next goes)),
+  )
+
+  reach_goes : (name : ℕ) (unopened : Program) (held gone : ℕ → Program) → G idle unopened → ((id : ℕ) → G idle (held id)) → ((found : ℕ) → G idle (gone found)) → G idle (reach name unopened held gone)
+  reach_goes name unopened held gone none_ one others_ = (tt, λ word _. then_ (LoadName name) _ word idle (split (word == 0) unopened (address (word - 1) (held (word - 1)) gone) (λ _. none_) (λ _. address_goes idle (word - 1) (held (word - 1)) gone (one (word - 1)) others_)))
+
+  claim_from_goes : (more q o id : ℕ) (bytes : List ℕ) (next : Program) → G idle next → G idle (claim_from more q o id bytes next)
+  claim_from_goes zero q o id bytes next goes = release_goes idle (socket_id_slot id) (λ _. Say o outcomes.Full next) (λ _. goes)
+  claim_from_goes (suc more) q o id bytes next goes = (
+    tt,
+    λ found _. then_ (ClaimRequest id q) _ found idle (split (found % 2 == 0) (accept id q (found / 2) (heading_of o) bytes (release (socket_id_slot id) (λ _. Sent o next))) (claim_from more (q + 1) o id bytes next)
+        (λ _. accept_goes idle id q (found / 2) (heading_of o) bytes (release (socket_id_slot id) (λ _. Sent o next)) (inl (refl, refl)) (release_goes idle (socket_id_slot id) (λ _. Sent o next) (λ _. goes)))
+        (λ _. claim_from_goes more (q + 1) o id bytes next goes)),
+  )
+
+  send_goes : (o name : ℕ) (bytes : List ℕ) (next : Program) → G idle next → G idle (send requests o name bytes next)
+  send_goes o name bytes next goes = reach_goes name (Say o outcomes.Unopened next) (λ id. start requests o id bytes next) (λ found. Say o (outcomes.Gone (record { 0 = found })) next) goes
+      (λ id. (
+        tt,
+        λ found _. then_ (LookWord id) _ found idle (split (vref_version found % 2 == 0) (claim_from requests 0 o id bytes next) (release (socket_id_slot id) (λ _. Say o (outcomes.Gone (record { 0 = found })) next))
+            (λ _. claim_from_goes requests 0 o id bytes next goes) (λ _. release_goes idle (socket_id_slot id) (λ _. Say o (outcomes.Gone (record { 0 = found })) next) (λ _. goes))),
+      ))
+      (λ found. goes)
+
+  fail_goes : (o name code : ℕ) (next : Program) → G idle next → G idle (fail o name code next)
+  fail_goes o name code next goes = reach_goes name (Say o outcomes.Unopened next) (λ id. set_failed id code (λ found. release (socket_id_slot id) (λ _. Say o (fail_outcome found) next))) (λ found. Say o (outcomes.Gone (record { 0 = found })) next) goes
+      (λ id. set_failed_goes idle id code (λ found. release (socket_id_slot id) (λ _. Say o (fail_outcome found) next)) (λ found. release_goes idle (socket_id_slot id) (λ _. Say o (fail_outcome found) next) (λ _. goes)))
+      (λ found. goes)
+
+  drop_goes : (o : ℕ) (h : Option ℕ) (next : Program) → G idle next → G idle (drop_of o h next)
+  drop_goes o None next goes = goes
+  drop_goes o (Some id) next goes = release_goes idle (socket_id_slot id) (λ freed. Say o (cond freed outcomes.Freed outcomes.Kept) next) (λ _. goes)
+
+  operation_goes : (mine : reads ≡ false) (sizes : Sizes) → sizes.requests ≡ requests → (held : List HeldLife) (o : ℕ) (next : List HeldLife → Program) (op : Op) → OpCalls is_call op → ((hs : List HeldLife) → G idle (next hs)) → G idle (operation sizes held o next op)
+  operation_goes mine sizes size held o next (ops.Open name k) called goes = open_goes sizes.slots 0 o name k (next held) (goes held)
+  operation_goes mine sizes size held o next (ops.Send name bytes) called goes = subst (λ r. G idle (send r o name bytes (next held))) (sym size) (send_goes o name bytes (next held) (goes held))
+  operation_goes mine sizes size held o next (ops.Call asked) called goes = subst (λ r. G idle (call r sizes.ids asked (next held))) (sym size) (call_goes mine sizes.ids asked called (next held) (goes held))
+  operation_goes mine sizes size held o next (ops.Expire t) called goes = expire_goes mine o t (next held) (goes held)
+  operation_goes mine sizes size held o next (ops.Join t) called goes = join_goes o t (next held) (goes held)
+  operation_goes mine sizes size held o next (ops.Hold name) called goes = reach_goes name (Say o outcomes.Unopened (next held)) (λ id. Say o outcomes.Held (next (held ++ (record { name = name; id = id }) ∷ []))) (λ found. Say o (outcomes.Gone (record { 0 = found })) (next held)) (goes held)
+      (λ id. goes (held ++ (record { name = name; id = id }) ∷ [])) (λ found. goes held)
+  operation_goes mine sizes size held o next (ops.Drop name) called goes = drop_goes o (held_under name held) (next (without_name name held)) (goes (without_name name held))
+  operation_goes mine sizes size held o next (ops.Fail name code) called goes = fail_goes o name code (next held) (goes held)
+
+  give_goes : (held : List HeldLife) → G idle (give_back held)
+  give_goes [] = tt
+  give_goes (h ∷ hs) = release_goes idle (socket_id_slot h.id) (λ _. give_back hs) (λ _. give_goes hs)
+
+  pub client_goes : (mine : reads ≡ false) (sizes : Sizes) → sizes.requests ≡ requests → (held : List HeldLife) (ts : List Task) → AllByRecursion (λ (t : Task). OpCalls is_call t.op) ts → G idle (client_from sizes held ts)
+  client_goes mine sizes size held [] all = give_goes held
+  client_goes mine sizes size held (t ∷ ts) all = operation_goes mine sizes size held t.number (λ held'. client_from sizes held' ts) t.op all.0 (λ hs. client_goes mine sizes size hs ts all.1)
+
+  -- ## The ending
+
+  pub ending_goes : (os : List ℕ) → G idle (ending_of os)
+  ending_goes [] = tt
+  ending_goes (o ∷ os) = (
+    tt,
+    λ word _. then_ (Rattle.sock_programs.specs.Calls.LoadOpen o) _ word idle (split (word == 0) (ending_of os) (cond (word == NO_SOCKET) (ending_of os) (address (word - 1) (set_failed (word - 1) 1014 (λ _. release (socket_id_slot (word - 1)) (λ _. ending_of os))) (λ _. ending_of os)))
+        (λ _. ending_goes os)
+        (λ _. split (word == NO_SOCKET) (ending_of os) (address (word - 1) (set_failed (word - 1) 1014 (λ _. release (socket_id_slot (word - 1)) (λ _. ending_of os))) (λ _. ending_of os)) (λ _. ending_goes os)
+        (λ _. address_goes idle (word - 1) (set_failed (word - 1) 1014 (λ _. release (socket_id_slot (word - 1)) (λ _. ending_of os))) (λ _. ending_of os)
+        (set_failed_goes idle (word - 1) 1014 (λ _. release (socket_id_slot (word - 1)) (λ _. ending_of os)) (λ _. release_goes idle (socket_id_slot (word - 1)) (λ _. ending_of os) (λ _. ending_goes os))) (λ _. ending_goes os)))),
+  )
+
+  -- ## Readers
+
+  ends_goes : (id e w : ℕ) (kept : List Frame) (next : Program) → (parts w).first ≡ id_first id → G idle next → G idle (ends_with id e w kept next)
+  ends_goes id e w [] next first goes = decide_goes requests is_call reads idle id w e (decided id next) first (decided_goes requests is_call reads id next goes)
+  ends_goes id e w (f ∷ fs) next first goes = answer_goes requests is_call reads idle f (id_first id) next goes
+
+  last_goes : (id e : ℕ) (kept : List Frame) (next : Program) → G idle next → (exit : Posting) → LeavesLabel (Rattle.sock_programs.specs.Heads.Posts id e 0) exit → G idle (posted_last id e kept next exit)
+  last_goes id e kept next goes (HasLocked w) l = ends_goes id e w (kept_for id (parts w).range kept) next l goes
+  last_goes id e kept next goes WasGone l = goes
+  last_goes id e kept next goes WasStale l = goes
+  last_goes id e kept next goes (WasCrowded a b) l = goes
+  last_goes id e kept next goes WasQueued l = goes
+
+  module _ (theirs : reads ≡ true) where
+    posts_of_reader : (code n : ℕ) → (code ≡ 1014) ⊎ (code ≡ 2002) → (id : ℕ) → IsPostOf requests is_call reads NoCharge id (error_of code n)
+    posts_of_reader code n (inl e) id = inl (theirs, (n, inl (ap (λ c. error_of c n) e)))
+    posts_of_reader code n (inr e) id = inl (theirs, (n, inr (ap (λ c. error_of c n) e)))
+
+    each_goes : (os : List ℕ) (k code : ℕ) → (code ≡ 1014) ⊎ (code ≡ 2002) → (kept : List Frame) (next : Program) → G idle next → G idle (post_each os k code kept next)
+    each_goes [] k code is kept next goes = goes
+    each_goes (o ∷ os) k code is kept next goes = (tt, λ w _. (idle, (inl refl, inr (refl, refl)), by (each_goes os k code is kept next goes) w (eqb w 0) (eqb (at_word_link w) k)))
+      where
+        by : G idle (post_each os k code kept next) → (w : ℕ) (z s : Bool) → G idle (cond z (post_each os k code kept next) (cond s (post_with (call_id (at_word_slot w) (at_word_first w)) (error_of code (at_word_attempt w))
+            (posted_last (call_id (at_word_slot w) (at_word_first w)) (error_of code (at_word_attempt w)) kept (post_each os k code kept next))) (post_each os k code kept next)))
+        by more w true s = more
+        by more w false true = post_with_goes requests is_call reads idle (call_id (at_word_slot w) (at_word_first w)) (error_of code (at_word_attempt w)) (posted_last (call_id (at_word_slot w) (at_word_first w)) (error_of code (at_word_attempt w)) kept (post_each os k code kept next))
+            (posts_of_reader code (at_word_attempt w) is (call_id (at_word_slot w) (at_word_first w)))
+            (last_goes (call_id (at_word_slot w) (at_word_first w)) (error_of code (at_word_attempt w)) kept (post_each os k code kept next) more)
+        by more w false false = more
+
+    thrown_goes : (how : Ended) → G idle (thrown_away how)
+    thrown_goes how = split (how.fault && nat_lt how.reading.total LIMIT) (Round (Discards how.reading.link how.reading.total) (λ _. Rest)) Rest (λ _. ((tt, tt), λ _ _ _. tt)) (λ _. tt)
+
+    read_goes : (calls : List ℕ) (how : Ended) → (how.code ≡ 1014) ⊎ (how.code ≡ 2002) → G idle (read calls how)
+    read_goes calls how is = let last : Program = post_each calls how.reading.link how.code how.reading.kept (thrown_away how) in let goes : G idle last = each_goes calls how.reading.link how.code is how.reading.kept (thrown_away how) (thrown_goes how) in
+        split how.closed last (address how.reading.id (set_failed how.reading.id how.code (λ _. release (socket_id_slot how.reading.id) (λ _. last))) (λ _. last)) (λ _. goes)
+        (λ _. address_goes idle how.reading.id (set_failed how.reading.id how.code (λ _. release (socket_id_slot how.reading.id) (λ _. last))) (λ _. last)
+        (set_failed_goes idle how.reading.id how.code (λ _. release (socket_id_slot how.reading.id) (λ _. last)) (λ _. release_goes idle (socket_id_slot how.reading.id) (λ _. last) (λ _. goes))) (λ _. goes))
+
+    pub reader_goes : (calls : List ℕ) (k o : ℕ) → G idle (reader calls k o)
+    reader_goes calls k o = (
+      (tt, tt),
+      λ word _ _. split (word == NO_SOCKET) Rest (Round (Reads (record { ids = length calls; link = k; id = word - 1; rest = []; total = 0; kept = [] })) (read calls)) (λ _. tt) (λ _. ((tt, tt), λ how _ is. read_goes calls how is)),
     )

@@ -1,10 +1,10 @@
 -- Why clients post errors: they were refused an attempt that they tried, or dropped a message.
-use Rattle.std.specs.Prelude.{ℕ, ◌≡◌, ◌≢◌, ◌+◌, ◌%◌, ◌<◌, ◌≤◌, ◌⊎◌, ◌==◌, if◌then◌else◌, Bool, true, false, List, [], ◌∷◌, ◌++◌, replicate}
+use Rattle.std.specs.Prelude.{ℕ, ◌≡◌, ◌≢◌, ◌+◌, ◌%◌, ◌<◌, ◌≤◌, ◌⊎◌, ◌==◌, if◌then◌else◌, Bool, true, false, nat_le, List, [], ◌∷◌, ◌++◌, length, map, replicate}
 use Rattle.std.specs.List.{AllByRecursion}
 use mathlib.Core.Option.{some}
 use lib.ListN.{get_elem?}
 use Rattle.sock_words.specs.declared.plain.Plan.{Plan}
-use Rattle.sock_words.specs.Words.{at_word, socket_id_version, vref_version}
+use Rattle.sock_words.specs.Words.{at_word, socket_id_slot, socket_id_version, vref_version}
 use Rattle.sock_io.specs.declared.link.Put.{Put}
 use Rattle.sock_io.specs.declared.link.Ready.{Ready}
 use Rattle.sock_model.specs.declared.chain.Heading.{Heading}
@@ -14,10 +14,11 @@ use Rattle.corr_core.specs.Word.{parts, error_of}
 use Rattle.sock_message.specs.Asked.{Asked, name_of}
 use Rattle.sock_programs.specs.Asides.{Step, Found, PutCall, StoreAt, PostId, call_id, id_slot, id_first}
 use Rattle.sock_programs.specs.Calls.{Call, AddRef, LoadName, LookWord, LoadCode, ClaimRequest, DropPlace}
-use Rattle.sock_programs.specs.Heads.{Head, Exit, Posts, Unlocks, Locks, Reads}
+use Rattle.sock_programs.specs.Heads.{Head, Exit, Retry, Posts, Unlocks, Locks, Reads}
 use Rattle.sock_programs.specs.Posts.{WHOLE}
+use Rattle.sock_programs.specs.Writings.{Holder, Writing, Puts}
 use Rattle.sock_programs.specs.Programs.{Program, Do, Say, Sent, Rest, TakeMessage, TakeHome, PutHome, PutBytes, AskReady, Write, Aside, Round, Keep, Retries}
-use Rattle.sock_programs.specs.Cores.{Core, SeatState, word_of, found_at}
+use Rattle.sock_programs.specs.Cores.{Core, SeatState, word_of, found_at, waiting_at}
 use Rattle.sock_programs.specs.Ticks.{Moment, quiet, ticked}
 use Rattle.sock_programs.specs.Tasks.{plan_of}
 use Rattle.sock_programs.specs.Scripts.{opened, ending, set_up, played, IsRunWithCalls}
@@ -25,14 +26,18 @@ use Rattle.sock_runs.specs.Sound.{first_step}
 use Rattle.sock_causes.specs.Stories.{In}
 use Rattle.id_runs.specs.Goes.{FitsSock}
 use Rattle.label_runs.specs.Labels.{Trial, Idle, Tries, Sends, put_behind, Kept, unlocks_trial, locked_trial, LeavesLabel, MayPut, AsideMove, FindsLabel, AtLabel}
+use Rattle.corr_core.specs.declared.marks.Plan.{Plan as IdPlan}
+use Rattle.sock_model.specs.declared.view.View.{View}
 use Rattle.call_causes.specs.Posts.{Post}
+use Rattle.send_causes.specs.Counts.{times_of, WasMade, TrialFits}
 
 -- ## What a seat did
 
--- a step on the table of the sockets with the word that it found, or a call that was put into its home
+-- a step on the table of the sockets with the word that it found, a call that was put into its home, or a round that was begun from the head of a loop of writing
 pub data Deed : Type 0 where
   DidStep : Call → ℕ → Deed
   DidPut : Asked → Deed
+  DidRound : Writing → Deed
 
 -- an error that a seat is going to post: it was refused an attempt (id, attempt, code), or dropped a message, where it found this code of the socket
 pub data Charge : Type 0 where
@@ -48,6 +53,10 @@ pub record Doing : Type 0 where
 
 abbrev pub idle : Doing
 idle = record { trial = Idle; charge = NoCharge; deeds = [] }
+
+-- at the head of a loop of writing
+abbrev pub begins : Writing → Doing
+begins w = record { trial = Idle; charge = NoCharge; deeds = DidRound w ∷ [] }
 
 -- ## Refusals
 
@@ -94,14 +103,16 @@ module _ (requests : ℕ) (is_call : Asked → Type 0) (reads : Bool) where
 
   -- the step drops a message, behind a look at the code of the socket
   pub record Drops (call : Call) (found : ℕ) (s u : Doing) : Type 0 where
+    pub holder : Holder
+    pub now : ℕ
     pub heading : Heading
+    pub left : List ℕ
+    pub taken : ℕ
+    pub asked : Bool
     pub code : ℕ
-    pub slot : ℕ
-    pub version : ℕ
-    pub link : ℕ
-    pub places : ℕ
-    pub is : call ≡ DropPlace heading.place link places
-    pub load : In (DidStep (LoadCode slot version) code) s.deeds
+    pub is : call ≡ DropPlace heading.place holder.link holder.places
+    pub round : In (DidRound (Puts holder now heading left taken asked)) s.deeds
+    pub load : In (DidStep (LoadCode (socket_id_slot holder.id) (socket_id_version holder.id)) code) s.deeds
     pub gives_up : u.trial ≡ Idle
     pub charge : u.charge ≡ HasDropped heading code
     pub deeds : u.deeds ≡ DidStep call found ∷ s.deeds
@@ -169,7 +180,7 @@ module _ (requests : ℕ) (is_call : Asked → Type 0) (reads : Bool) where
   Charges s (Write w after) = Charges idle after
   Charges s (Aside step next) = MayPost s.charge step × ((found : Found step) → FindsLabel is_call step found → (u : Doing) × (AsideMove is_call step found s.trial u.trial × Remembers (did_aside step s.deeds) s u) × Charges u (next found))
   Charges s (Round head next) = (AtLabel is_call head × AtCharge s.charge head) × ((exit : Exit head) → LeavesLabel head exit → LeavesCode head exit → Charges (doing_behind head exit s) (next exit))
-  Charges s (Keep r next) = (s.trial ≡ Tries r.id r.attempt) × (r.attempt ≤ 6) × Charges idle next
+  Charges s (Keep r next) = (s.trial ≡ Tries r.id r.attempt) × (r.attempt ≤ 6) × (0 < r.attempt) × Charges idle next
   Charges s (Retries requests after) = Charges idle after
 
 -- ## What was done in a run
@@ -179,6 +190,7 @@ module _ (p : Plan) where
   abbrev pub DidAt : Core → Moment → ℕ → Deed → Type 0
   DidAt c m seat (DidStep call found) = (m.seat ≡ seat) × (s : SeatState) × (next : ℕ → Program) × (get_elem? c.seats seat ≡ some s) × (first_step s.program ≡ Do call next) × (found ≡ found_at c.words (word_of p call))
   DidAt c m seat (DidPut asked) = (m.seat ≡ seat) × (s : SeatState) × (i : ℕ) × (next : ℕ → Program) × (get_elem? c.seats seat ≡ some s) × (first_step s.program ≡ Aside (PutCall i asked) next)
+  DidAt c m seat (DidRound w) = (m.seat ≡ seat) × (s : SeatState) × (after : Program) × (get_elem? c.seats seat ≡ some s) × (s.program ≡ Write w after)
 
   -- in one of these ticks
   abbrev pub DidIn : Core → List Moment → ℕ → Deed → Type 0
@@ -213,19 +225,48 @@ pub record IsRefusal (requests : ℕ) (is_call : Asked → Type 0) (ids : ℕ �
 
 -- the message was dropped, and this code was found of its socket
 pub record IsDrop (heading : Heading) (code : ℕ) (deeds : List Deed) : Type 0 where
-  pub slot : ℕ
-  pub version : ℕ
-  pub link : ℕ
-  pub places : ℕ
+  pub holder : Holder
+  pub now : ℕ
+  pub left : List ℕ
+  pub taken : ℕ
+  pub asked : Bool
   pub found : ℕ
-  pub load : In (DidStep (LoadCode slot version) code) deeds
-  pub drop : In (DidStep (DropPlace heading.place link places) found) deeds
+  pub round : In (DidRound (Puts holder now heading left taken asked)) deeds
+  pub load : In (DidStep (LoadCode (socket_id_slot holder.id) (socket_id_version holder.id)) code) deeds
+  pub drop : In (DidStep (DropPlace heading.place holder.link holder.places) found) deeds
 
--- who posted the error, and why: Did tells what each seat did
-pub data PostKind (requests : ℕ) (is_call : Asked → Type 0) (ids : ℕ → ℕ) (Did : ℕ → Deed → Type 0) (x : Post) : Type 0 where
+-- who posted the error, and why: Did tells what each seat did, and Gone of which attempts nothing is left
+pub data PostKind (requests : ℕ) (is_call : Asked → Type 0) (ids : ℕ → ℕ) (Did : ℕ → Deed → Type 0) (Gone : ℕ → ℕ → Type 0) (x : Post) : Type 0 where
   -- the readers' seats begin at 32
-  ByReader : (seat n : ℕ) → 32 ≤ seat → (x.error ≡ error_of 1014 n) ⊎ (x.error ≡ error_of 2002 n) → PostKind requests is_call ids Did x
-  ByExpiry : (seat : ℕ) → seat < 32 → x.error ≡ error_of 1008 WHOLE → PostKind requests is_call ids Did x
-  ByRefusal : (seat n code : ℕ) (deeds : List Deed) → seat < 32 → AllByRecursion (Did seat) deeds → IsRefusal requests is_call ids x.id n code deeds → x.error ≡ error_of code n → PostKind requests is_call ids Did x
+  ByReader : (seat n : ℕ) → 32 ≤ seat → (x.error ≡ error_of 1014 n) ⊎ (x.error ≡ error_of 2002 n) → PostKind requests is_call ids Did Gone x
+  ByExpiry : (seat : ℕ) → seat < 32 → x.error ≡ error_of 1008 WHOLE → PostKind requests is_call ids Did Gone x
+  ByRefusal : (seat n code : ℕ) (deeds : List Deed) → seat < 32 → AllByRecursion (Did seat) deeds → IsRefusal requests is_call ids x.id n code deeds → Gone x.id n → x.error ≡ error_of code n → PostKind requests is_call ids Did Gone x
   ByDrop : (seat : ℕ) (heading : Heading) (code : ℕ) (deeds : List Deed) → seat < 32 → AllByRecursion (Did seat) deeds → IsDrop heading code deeds → heading.owner ≢ 0 → heading.owner ≡ x.id
-      → x.error ≡ error_of (if code == 0 then 1009 else code) heading.attempt → PostKind requests is_call ids Did x
+      → x.error ≡ error_of (if code == 0 then 1009 else code) heading.attempt → PostKind requests is_call ids Did Gone x
+
+-- ## The law
+
+abbrev pub trial_in : Doing → Trial
+trial_in s = s.trial
+
+module _ (requests : ℕ) (is_call : Asked → Type 0) (ids : ℕ → ℕ) (p : Plan) (q : IdPlan) where
+  -- the attempt was made, and stands nowhere: no seat tries it, no retry waits for it, and no link accepted it
+  abbrev pub IsSpent : Core → List View → List Doing → ℕ → ℕ → Type 0
+  IsSpent c vs ss id n = (times_of id n c vs (map trial_in ss) ≡ 0) × WasMade q c.calls.words id n
+
+  abbrev pub ChargeFits : Core → List View → List Doing → Charge → List Deed → Type 0
+  ChargeFits c vs ss NoCharge deeds = Unit {0}
+  ChargeFits c vs ss (IsRefused id n code) deeds = IsRefusal requests is_call ids id n code deeds × IsSpent c vs ss id n
+  ChargeFits c vs ss (HasDropped heading code) deeds = IsDrop heading code deeds
+
+  -- each seat has a reason for each error that it is going to post; Did tells what each did so far
+  pub record ChargeLaw (Did : ℕ → Deed → Type 0) (c : Core) (vs : List View) (ss : List Doing) : Type 0 where
+    pub once : (id n : ℕ) → times_of id n c vs (map trial_in ss) ≤ 1
+    pub made : (id n : ℕ) → 0 < times_of id n c vs (map trial_in ss) → WasMade q c.calls.words id n
+    pub each : length ss ≡ length c.seats
+    -- a retry that waits is no first attempt
+    pub later : (i : ℕ) → AllByRecursion (λ (r : Retry). 0 < r.attempt) (waiting_at c.calls.waiting i)
+    pub trials : (j : ℕ) (s : Doing) → get_elem? ss j ≡ some s → TrialFits ids s.trial
+    pub did : (j : ℕ) (s : Doing) → get_elem? ss j ≡ some s → AllByRecursion (Did j) s.deeds
+    pub due : (j : ℕ) (s : Doing) → get_elem? ss j ≡ some s → ChargeFits c vs ss s.charge s.deeds
+    pub programs : (j : ℕ) (seat : SeatState) (s : Doing) → get_elem? c.seats j ≡ some seat → get_elem? ss j ≡ some s → Charges requests is_call (nat_le 32 j) s seat.program
