@@ -26,3 +26,5 @@ pub mod DropPlaces
 pub mod DropCodes
 pub mod DropWords
 pub mod DropSays
+pub mod RefusedLoops
+pub mod RefusedPrograms
