@@ -28,3 +28,4 @@ pub mod DropWords
 pub mod DropSays
 pub mod RefusedLoops
 pub mod RefusedPrograms
+pub mod DropTicks

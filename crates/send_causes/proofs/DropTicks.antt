@@ -1,0 +1,159 @@
+-- Each tick keeps who stored the codes of sockets: the code of a life that failed is one of the ending, a reader or a failed link, or a `fail` with this code failed the life.
+use Rattle.std.proofs.Common.{◌≡◌, ◌≢◌, ℕ, zero, suc, ◌+◌, ◌-◌, ◌%◌, ◌<◌, ◌≤◌, ◌⊎◌, inl, inr, ⊎_elim, Bool, true, false, cond, eqb, eq-eqb, List, [], ◌∷◌, ◌++◌, length, set, get_or, refl, sym, ap, ◌∙◌, subst, arith}
+use Rattle.std.specs.Prelude.{Some, slice_get}
+use Rattle.std.specs.Prelude as std
+use mathlib.Core.Logic.{dite}
+use mathlib.Core.Option.{Option, none, some, some-injective, some-ne-none}
+use native.Mathlib.Decide.{ℕ_discrete}
+use lib.ListN.{get_elem?}
+use Rattle.atomic_table.proofs.Lists.{at_set}
+use Rattle.sock_words.specs.Words.{vref_version, socket_id_slot, socket_id_version}
+use Rattle.sock_words.specs.declared.plain.Plan.{Plan}
+use Rattle.sock_model.specs.declared.home.Home.{Home}
+use Rattle.sock_model.specs.declared.marks.Mark.TheVariants.{Hold, Coding, Failer, Saw}
+use Rattle.sock_model.specs.declared.marks.SlotMark.{SlotMark}
+use Rattle.sock_model.specs.declared.chain.Right.{Right}
+use Rattle.sock_model.specs.declared.view.View.{View}
+use Rattle.sock_model.specs.ChainRows.{taken_right}
+use Rattle.sock_model.specs.Marks.{about, at}
+use Rattle.sock_model.specs.SlotRows.{marks_of, failed}
+use Rattle.sock_model.specs.Weights.{total, is_coding, is_hold}
+use Rattle.slot_laws.proofs.Numbers.{only-at}
+use Rattle.slot_laws.proofs.Sums.{about-here}
+use Rattle.sock_programs.specs.declared.task.Op.TheVariants as ops
+use Rattle.sock_programs.specs.declared.task.Task.{Task}
+use Rattle.sock_programs.specs.Beside.{calls_after}
+use Rattle.sock_programs.specs.Calls.{Call, AddRef, LoadName, SetOdd, StoreCode}
+use Rattle.sock_programs.specs.Cores.{Calls, Core, SeatState, word_of, word_after, found_at, words_after, homes_after, hand_after, lies_at, first_of, others_of, link_place, resolved, waiting_at, next_step, with_seat}
+use Rattle.sock_programs.specs.Drops.{call_in, next_call}
+use Rattle.sock_programs.specs.Heads.{Retry}
+use Rattle.sock_programs.specs.Programs.{Program, Do, TakeMessage, TakeHome, PutHome, PutBytes, AskReady, Aside}
+use Rattle.sock_programs.specs.Ticks.{Moment, IsAnswered, fed, with_places, onto_first, ticked}
+use Rattle.sock_programs.specs.Told.{AreTasks}
+use Rattle.sock_runs.specs.May.{May}
+use Rattle.sock_runs.specs.Rows.{row, hand_at, took_message, link_away, link_home_again, took_bytes}
+use Rattle.sock_runs.specs.Sound.{Sound, first_step, views_after}
+use Rattle.sock_runs.proofs.Cases.{with_rights, right_rights, put_rights}
+use Rattle.sock_causes.specs.Causes.{Asks}
+use Rattle.sock_causes.specs.Explains.{Way, Own, Beside, Closing, Done, ExplainsBy, FailsLife, FailsLink, IsWriterOf, step}
+use Rattle.sock_causes.specs.Kept.{IsSpoken, SeatAt, SeatStory, Story}
+use Rattle.sock_causes.specs.Stories.{Entry, Event, In, trace_of, trace_now}
+use Rattle.sock_causes.proofs.Cases.{tick_cases}
+use Rattle.sock_causes.proofs.Events.{event}
+use Rattle.sock_causes.proofs.Members.{from_trace, to_trace}
+use Rattle.sock_causes.proofs.Seats.{undo_in}
+use Rattle.sock_causes.proofs.Tasks.{one_task, same_some}
+use Rattle.sock_causes.proofs.Tests.{split}
+use Rattle.sock_causes.proofs.Ticks.{MayMove, IsNew, elem_there, get_of}
+use Rattle.send_causes.proofs.DropCodes.{Failing, NoFail, Fails, IsOtherCode, SaysFailed, Stores, codes_first, codes_next}
+use Rattle.send_causes.proofs.DropSays.{IsInHand, says, sets_here}
+use Rattle.send_causes.proofs.DropWords.{version_in, code_in, coding_version, code_stays}
+
+-- ## What is known of codes
+
+module _ (clients : List (List Task)) where
+  -- a `fail` of client d that is operation o, with this code
+  abbrev pub IsFailOf : ℕ → ℕ → ℕ → Type 0
+  IsFailOf d o code = (t : Task) × (name : ℕ) × Asks clients d t × (t.number ≡ o) × (t.op ≡ ops.Fail name code)
+
+  -- it failed the life of version h of slot j
+  pub record FailedWith (es : List Event) (j h code : ℕ) : Type 0 where
+    pub client : ℕ
+    pub operation : ℕ
+    pub found : ℕ
+    pub own : IsFailOf client operation code
+    pub is : In (event client operation (SetOdd j) found) es
+    pub version : vref_version found ≡ h
+    pub even : vref_version found % 2 ≡ 0
+
+  abbrev pub IsKnown : List Event → ℕ → ℕ → ℕ → Type 0
+  IsKnown es j h code = IsOtherCode code ⊎ FailedWith es j h code
+
+  pub known_later : (es fresh : List Event) → ((e : Event) → In e es → In e fresh) → (j h code : ℕ) → IsKnown es j h code → IsKnown fresh j h code
+  known_later es fresh kept j h code (inl other) = inl other
+  known_later es fresh kept j h code (inr f) = inr (record { client = f.client; operation = f.operation; found = f.found; own = f.own; is = kept _ f.is; version = f.version; even = f.even })
+
+  -- what seat j failed, where it is to store the code
+  abbrev pub HasFailed : ℕ → List Event → List View → Failing → Type 0
+  HasFailed j es vs NoFail = Unit {0}
+  HasFailed j es vs (Fails o code i) = (found : ℕ) × IsFailOf j o code × In (event j o (SetOdd i) found) es × (vref_version found % 2 ≡ 0) × ((v : View) → get_elem? vs j ≡ some v → 0 < marks_of (is_coding (vref_version found)) i v)
+
+  pub record SeatCodes (j : ℕ) (c : Core) (vs : List View) (es : List Event) : Type 0 where
+    pub failing : Failing
+    pub program : (seat : SeatState) → get_elem? c.seats j ≡ some seat → Stores (IsFailOf j) failing seat.program
+    pub has : HasFailed j es vs failing
+
+  pub record CodesLaw (p : Plan) (c : Core) (vs : List View) (es : List Event) : Type 0 where
+    pub known : (j h : ℕ) → j < p.slots → h % 2 ≡ 0 → version_in c.words j ≡ h + 1 → code_in c.words j ≢ 0 → IsKnown es j h (code_in c.words j)
+    pub seats : (j : ℕ) → SeatCodes j c vs es
+
+-- ## A step that sets a socket failed
+
+module _ (f : Failing) (mine : ℕ → ℕ → Type 0) where
+  -- what the seat is to store behind a step
+  data Behind (call : Call) (next : ℕ → Program) (found : ℕ) : Type 0 where
+    stores_none : Stores mine NoFail (next found) → Behind call next found
+    stores_own : (i o code : ℕ) → call ≡ SetOdd i → mine o code → vref_version found % 2 ≡ 0 → SaysFailed o (next found) → Stores mine (Fails o code i) (next found) → Behind call next found
+
+  behind : (call : Call) (next : ℕ → Program) (found : ℕ) → Stores mine f (Do call next) → Behind call next found
+  behind (SetOdd i) next found (inl x) = stores_none (x found)
+  behind (SetOdd i) next found (inr x) = ⊎_elim (λ y. stores_own i x.0 x.1 refl x.2 y.0 y.1 y.2) (λ y. stores_none y) (x.3 found)
+  behind (StoreCode i h code) next found x = stores_none (x.1 found)
+  behind call next found x = stores_none (x found)
+
+coding_there : (i found : ℕ) (v : View) → vref_version found % 2 ≡ 0 → 0 < marks_of (is_coding (vref_version found)) i (failed i found v)
+coding_there i found v even = subst (λ b. 0 < total (is_coding w) (about i (cond b (at i (Hold w) ∷ at i (Coding w) ∷ at i (Failer w) ∷ at i (Saw (w + 1)) ∷ v.marks) (at i (Saw w) ∷ v.marks)))) (sym (eq-eqb (vref_version found % 2) 0 even))
+    (let a : total (is_coding w) (about i (at i (Hold w) ∷ at i (Coding w) ∷ rest)) ≡ total (is_coding w) (Hold w ∷ about i (at i (Coding w) ∷ rest)) = ap (total (is_coding w)) (about-here i (Hold w) (at i (Coding w) ∷ rest)) in
+    let b : total (is_coding w) (about i (at i (Coding w) ∷ rest)) ≡ total (is_coding w) (Coding w ∷ about i rest) = ap (total (is_coding w)) (about-here i (Coding w) rest) in let one = only-at w w refl in omega (arith, a, b, one))
+  where
+    w : ℕ
+    w = vref_version found
+
+    rest : List SlotMark
+    rest = at i (Failer (vref_version found)) ∷ at i (Saw (vref_version found + 1)) ∷ v.marks
+
+no_odd : (i id n a b : ℕ) (e : Entry) → e ≡ step (SetOdd i) a → In e (step (AddRef id) b ∷ step (LoadName n) (id + 1) ∷ []) → ⊥
+no_odd i id n a b e is (inl x) = let z : SetOdd i ≡ AddRef id = ap (λ (y : Entry). y.call) (sym is ∙ x) in cc
+no_odd i id n a b e is (inr (inl x)) = let z : SetOdd i ≡ LoadName n = ap (λ (y : Entry). y.call) (sym is ∙ x) in cc
+no_odd i id n a b e is (inr (inr x)) = x
+
+-- ## A tick
+
+module _ (p : Plan) (clients : List (List Task)) (are : AreTasks p clients) (over : Bool) (c : Core) (vs : List View) (es : List Event) (lost : List ℕ) (sound : Sound p c vs) (story : Story p clients over c vs es lost) (m : Moment) (answered : IsAnswered c m)
+    (moves : MayMove over es m.seat) (law : CodesLaw clients p c vs es) where
+  abbrev IsFresh : Event → Type 0
+  IsFresh e = IsNew p clients are over c vs es lost sound story m answered moves e
+
+  -- with the story that is told behind the tick
+  abbrev After : Core → List View → Type 0
+  After d us = (fresh : List Event) (more : List ℕ) → Story p clients over d us fresh more → ((e : Event) → In e es → In e fresh) → ((e : Event) → In e fresh → In e es ⊎ IsFresh e) → CodesLaw clients p d us fresh
+
+  i : ℕ
+  i = m.seat
+
+  -- the seat goes on with this program, and is to store this
+  module _ (fresh : List Event) (kept : (e : Event) → In e es → In e fresh) (a : Calls) (x : Program) (hand : List Home) (ws : List ℕ) (hs : List (Option Home)) (us : List View) (f : Failing) where
+    others : (j : ℕ) → ((v : View) → get_elem? us j ≡ some v → get_elem? vs j ≡ some v) → (g : Failing) → HasFailed clients j es vs g → HasFailed clients j fresh us g
+    others j views NoFail h = tt
+    others j views (Fails o code s) h = (h.0, h.1, kept _ h.2, h.3, λ v at. h.4 v (views v at))
+
+    reseated : Stores (IsFailOf clients m.seat) f x → ((j : ℕ) → j ≢ m.seat → (v : View) → get_elem? us j ≡ some v → get_elem? vs j ≡ some v) → (next_step (resolved (waiting_at a.waiting m.seat) x) ≡ x → HasFailed clients m.seat fresh us f)
+        → ((j h : ℕ) → j < p.slots → h % 2 ≡ 0 → version_in ws j ≡ h + 1 → code_in ws j ≢ 0 → IsKnown clients fresh j h (code_in ws j)) → CodesLaw clients p (with_seat m.seat x hand ws hs (record c { calls = a })) us fresh
+    reseated stores views has known = record {
+      known = known;
+      seats = λ j. dite (ℕ_discrete j m.seat) (λ e. subst (λ n. SeatCodes clients n (with_seat m.seat x hand ws hs (record c { calls = a })) us fresh) (sym e) here) (λ ne. record {
+        failing = (law.seats j).failing;
+        program = λ seat at. ⊎_elim (λ b. absurd (ne b.0)) (λ b. (law.seats j).program seat b.1) (at_set c.seats m.seat j _ seat at);
+        has = others j (views j ne) (law.seats j).failing (law.seats j).has;
+      });
+    }
+      where
+        r : (g : Failing) × (((g ≡ f) × (next_step (resolved (waiting_at a.waiting m.seat) x) ≡ x)) ⊎ (g ≡ NoFail)) × Stores (IsFailOf clients m.seat) g (next_step (resolved (waiting_at a.waiting m.seat) x))
+        r = codes_next (IsFailOf clients m.seat) f (waiting_at a.waiting m.seat) x stores
+
+        here : SeatCodes clients m.seat (with_seat m.seat x hand ws hs (record c { calls = a })) us fresh
+        here = record {
+          failing = r.0;
+          program = λ seat at. ⊎_elim (λ b. subst (λ (z : SeatState). Stores (IsFailOf clients m.seat) r.0 z.program) b.1 r.2) (λ b. absurd (b.0 refl)) (at_set c.seats m.seat m.seat _ seat at);
+          has = ⊎_elim (λ e. subst (HasFailed clients m.seat fresh us) (sym e.0) (has e.1)) (λ e. subst (HasFailed clients m.seat fresh us) (sym e) tt) r.1;
+        }
