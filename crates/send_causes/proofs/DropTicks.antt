@@ -36,7 +36,7 @@ use Rattle.sock_runs.specs.Sound.{Sound, first_step, views_after}
 use Rattle.sock_runs.proofs.Cases.{with_rights, right_rights, put_rights}
 use Rattle.sock_causes.specs.Causes.{Asks}
 use Rattle.sock_causes.specs.Explains.{Way, Own, Beside, Closing, Done, ExplainsBy, FailsLife, FailsLink, IsWriterOf, step}
-use Rattle.sock_causes.specs.Kept.{IsSpoken, SeatAt, SeatStory, Story}
+use Rattle.sock_causes.specs.Kept.{IsSpoken, IsTraced, SeatAt, SeatStory, Story}
 use Rattle.sock_causes.specs.Stories.{Entry, Event, In, trace_of, trace_now}
 use Rattle.sock_causes.proofs.Cases.{tick_cases}
 use Rattle.sock_causes.proofs.Events.{event}
@@ -128,9 +128,6 @@ module _ (p : Plan) (clients : List (List Task)) (are : AreTasks p clients) (ove
   abbrev After : Core → List View → Type 0
   After d us = (fresh : List Event) (more : List ℕ) → Story p clients over d us fresh more → ((e : Event) → In e es → In e fresh) → ((e : Event) → In e fresh → In e es ⊎ IsFresh e) → CodesLaw clients p d us fresh
 
-  i : ℕ
-  i = m.seat
-
   -- the seat goes on with this program, and is to store this
   module _ (fresh : List Event) (kept : (e : Event) → In e es → In e fresh) (a : Calls) (x : Program) (hand : List Home) (ws : List ℕ) (hs : List (Option Home)) (us : List View) (f : Failing) where
     others : (j : ℕ) → ((v : View) → get_elem? us j ≡ some v → get_elem? vs j ≡ some v) → (g : Failing) → HasFailed clients j es vs g → HasFailed clients j fresh us g
@@ -157,3 +154,65 @@ module _ (p : Plan) (clients : List (List Task)) (are : AreTasks p clients) (ove
           program = λ seat at. ⊎_elim (λ b. subst (λ (z : SeatState). Stores (IsFailOf clients m.seat) r.0 z.program) b.1 r.2) (λ b. absurd (b.0 refl)) (at_set c.seats m.seat m.seat _ seat at);
           has = ⊎_elim (λ e. subst (HasFailed clients m.seat fresh us) (sym e.0) (has e.1)) (λ e. subst (HasFailed clients m.seat fresh us) (sym e) tt) r.1;
         }
+
+  -- ## A life that a `fail` failed
+
+  module _ (seat : SeatState) (v : View) (at : get_elem? c.seats m.seat ≡ some seat) (here : get_elem? vs m.seat ≡ some v) where
+    tasks : (ts : List Task) × (slice_get clients m.seat ≡ Some ts)
+    tasks = get_of c.seats clients m.seat seat story.each at
+
+    -- of operation o, which is the seat's own
+    module _ (o code : ℕ) (own : IsFailOf clients m.seat o code) where
+      unspoken : IsSpoken clients o → ⊥
+      unspoken spoken = spoken m.seat own.0 own.2 own.3
+
+      -- the task in hand is the `fail`
+      is_own : (t : Task) → In t tasks.0 → t.number ≡ o → t ≡ own.0
+      is_own t there number = (one_task p clients are m.seat m.seat t own.0 (tasks.0, tasks.1, there) own.2 (number ∙ sym own.3)).1
+
+      -- no step for it failed a life before
+      none_before : (w : Way) (done : List Done) (trace : List Entry) (todo : List Task) (j : ℕ) (next : ℕ → Program) (found k word : ℕ) → ExplainsBy p.slots p.requests (IsSpoken clients) w lost done trace todo (Do (SetOdd j) next)
+          → ((t : Task) → In t todo → In t tasks.0) → ((t : Task) (ts : List Task) → todo ≡ t ∷ ts → w ≡ Own → trace ≡ trace_of m.seat t.number es) → SaysFailed o (next found) → In (event m.seat o (SetOdd k) word) es → ⊥
+      none_before Own done trace [] j next found k word x within traced says_ old = x.0
+      none_before Own done trace (t ∷ ts) j next found k word x within traced says_ old =
+          let h = says p.slots p.requests (IsSpoken clients) o unspoken Own lost done (step (SetOdd j) found ∷ trace) (t ∷ ts) (next found) (x.1 found) says_ in let same : t ≡ h.task = first_is h.is in let number : t.number ≡ o = ap (λ (z : Task). z.number) same ∙ h.numbered in
+          let there : In (step (SetOdd k) word) trace = subst (In (step (SetOdd k) word)) (ap (λ z. trace_of m.seat z es) (sym number) ∙ sym (traced t ts refl refl)) (to_trace es (event m.seat o (SetOdd k) word) old) in
+          ⊎_elim (λ f. no_odd k f.2 f.0 word f.3 (step (SetOdd k) word) refl (subst (In (step (SetOdd k) word)) f.5 there))
+          (λ f. let op : ops.Send f.2.name f.2.bytes ≡ ops.Fail own.1 code = sym f.2.op ∙ (ap (λ (z : Task). z.op) (is_own t (within t (inl refl)) number) ∙ own.4) in absurd (cc)) x.0
+        where
+          first_is : {others_ : List Task} {u : Task} → t ∷ ts ≡ u ∷ others_ → t ≡ u
+          first_is e = cc
+      none_before Beside done trace todo j next found k word x within traced says_ old = let h = says p.slots p.requests (IsSpoken clients) o unspoken Beside lost done (step (SetOdd j) found ∷ trace) todo (next found) (x.1 found) says_ in let z : Beside ≡ Own = h.own in cc
+      none_before Closing done trace todo j next found k word x within traced says_ old = let h = says p.slots p.requests (IsSpoken clients) o unspoken Closing lost done trace todo (next found) (x.1 found) says_ in let z : Closing ≡ Own = h.own in cc
+
+      -- the trace of the task in hand is that of the story
+      its_trace : (w : Way) (trace : List Entry) (todo : List Task) (story' : List Event) → IsTraced w trace m.seat todo story' → (t : Task) (ts : List Task) → todo ≡ t ∷ ts → w ≡ Own → trace ≡ trace_of m.seat t.number story'
+      its_trace w trace todo story' traced t ts is way = subst (λ z. IsTraced z trace m.seat todo story') way traced ∙ ap (λ z. trace_now m.seat z story') is
+
+      -- the step is of the story
+      module _ (j : ℕ) (next : ℕ → Program) (is : first_step seat.program ≡ Do (SetOdd j) next) (fresh : List Event) (more : List ℕ) (kept : (e : Event) → In e es → In e fresh) (new : (e : Event) → In e fresh → In e es ⊎ IsFresh e)
+          (found : ℕ) (found_is : found ≡ found_at c.words (word_of p (SetOdd j))) (says_ : SaysFailed o (next found)) (d : Core) (us : List View) (told : Story p clients over d us fresh more) (seat' : SeatState) (v' : View)
+          (at' : get_elem? d.seats m.seat ≡ some seat') (here' : get_elem? us m.seat ≡ some v') (goes : seat'.program ≡ next found) where
+        before : SeatStory p (IsSpoken clients) over es lost c.outcomes m.seat tasks.0 seat.program v
+        before = story.seats m.seat tasks.0 seat v tasks.1 at here
+
+        behind_ : SeatStory p (IsSpoken clients) over fresh more d.outcomes m.seat tasks.0 seat'.program v'
+        behind_ = told.seats m.seat tasks.0 seat' v' tasks.1 at' here'
+
+        hand_ : IsInHand o behind_.way behind_.trace behind_.todo
+        hand_ = says p.slots p.requests (IsSpoken clients) o unspoken behind_.way more behind_.done behind_.trace behind_.todo (next found) (subst (ExplainsBy p.slots p.requests (IsSpoken clients) behind_.way more behind_.done behind_.trace behind_.todo) goes behind_.at.explains) says_
+
+        its : hand_.task ≡ own.0
+        its = is_own hand_.task (subst (In hand_.task) (sym behind_.at.all) (undo_in behind_.done behind_.todo hand_.task (subst (In hand_.task) (sym hand_.is) (inl refl)))) hand_.numbered
+
+        failed_one : (k word : ℕ) × In (event m.seat o (SetOdd k) word) fresh
+        failed_one = let x = hand_.failed own.1 code (ap (λ (z : Task). z.op) its ∙ own.4) in
+            (x.0, x.1, from_trace m.seat o fresh (step (SetOdd x.0) x.1) (subst (In (step (SetOdd x.0) x.1)) (its_trace behind_.way behind_.trace behind_.todo fresh behind_.at.traced hand_.task hand_.others hand_.is hand_.own ∙ ap (λ z. trace_of m.seat z fresh) hand_.numbered) x.2))
+
+        stands : In (event m.seat o (SetOdd j) found) fresh
+        stands = ⊎_elim (λ old. absurd (none_before before.way before.done before.trace before.todo j next found failed_one.0 failed_one.1
+            (subst (ExplainsBy p.slots p.requests (IsSpoken clients) before.way lost before.done before.trace before.todo) (sets_here seat.program j next is) before.at.explains)
+            (λ t n. subst (In t) (sym before.at.all) (undo_in before.done before.todo t n)) (its_trace before.way before.trace before.todo es before.at.traced) says_ old))
+            (λ n. let calls : std.Some (SetOdd j) ≡ std.Some (SetOdd failed_one.0) = sym (ap (λ o. elim o as (λ o. std.Option Call) [ none ↦ std.None | some x ↦ call_in x.program ]) at ∙ ap call_in (sets_here seat.program j next is)) ∙ n.1.next in
+            let same : failed_one.0 ≡ j = cc in let word : failed_one.1 ≡ found = sym n.1.word ∙ (ap (λ z. found_at c.words (word_of p (SetOdd z))) same ∙ sym found_is) in
+            subst (λ z. In (event m.seat o (SetOdd j) z) fresh) word (subst (λ z. In (event m.seat o (SetOdd z) failed_one.1) fresh) same failed_one.2)) (new (event m.seat o (SetOdd failed_one.0) failed_one.1) failed_one.2)
