@@ -27,19 +27,21 @@ use Rattle.sock_programs.specs.Calls.{Call, AddRef, LoadName, SetOdd, StoreCode}
 use Rattle.sock_programs.specs.Cores.{Calls, Core, SeatState, word_of, word_after, found_at, words_after, homes_after, hand_after, lies_at, first_of, others_of, link_place, resolved, waiting_at, next_step, with_seat}
 use Rattle.sock_programs.specs.Drops.{call_in, next_call}
 use Rattle.sock_programs.specs.Heads.{Retry}
-use Rattle.sock_programs.specs.Programs.{Program, Do, TakeMessage, TakeHome, PutHome, PutBytes, AskReady, Aside}
+use Rattle.sock_programs.specs.Programs.{Program, Do, Rest, TakeMessage, TakeHome, PutHome, PutBytes, AskReady, Aside}
 use Rattle.sock_programs.specs.Ticks.{Moment, IsAnswered, fed, with_places, onto_first, ticked}
 use Rattle.sock_programs.specs.Told.{AreTasks}
 use Rattle.sock_runs.specs.May.{May}
 use Rattle.sock_runs.specs.Rows.{row, hand_at, took_message, link_away, link_home_again, took_bytes}
 use Rattle.sock_runs.specs.Sound.{Sound, first_step, views_after}
 use Rattle.sock_runs.proofs.Cases.{with_rights, right_rights, put_rights}
+use Rattle.sock_steps.proofs.Maps.{set_at}
 use Rattle.sock_causes.specs.Causes.{Asks}
 use Rattle.sock_causes.specs.Explains.{Way, Own, Beside, Closing, Done, ExplainsBy, FailsLife, FailsLink, IsWriterOf, step}
 use Rattle.sock_causes.specs.Kept.{IsSpoken, IsTraced, SeatAt, SeatStory, Story}
 use Rattle.sock_causes.specs.Stories.{Entry, Event, In, trace_of, trace_now}
 use Rattle.sock_causes.proofs.Cases.{tick_cases}
 use Rattle.sock_causes.proofs.Events.{event}
+use Rattle.sock_causes.proofs.Final.{at_within}
 use Rattle.sock_causes.proofs.Members.{from_trace, to_trace}
 use Rattle.sock_causes.proofs.Seats.{undo_in}
 use Rattle.sock_causes.proofs.Tasks.{one_task, same_some}
@@ -216,3 +218,80 @@ module _ (p : Plan) (clients : List (List Task)) (are : AreTasks p clients) (ove
             (λ n. let calls : std.Some (SetOdd j) ≡ std.Some (SetOdd failed_one.0) = sym (ap (λ o. elim o as (λ o. std.Option Call) [ none ↦ std.None | some x ↦ call_in x.program ]) at ∙ ap call_in (sets_here seat.program j next is)) ∙ n.1.next in
             let same : failed_one.0 ≡ j = cc in let word : failed_one.1 ≡ found = sym n.1.word ∙ (ap (λ z. found_at c.words (word_of p (SetOdd z))) same ∙ sym found_is) in
             subst (λ z. In (event m.seat o (SetOdd j) z) fresh) word (subst (λ z. In (event m.seat o (SetOdd z) failed_one.1) fresh) same failed_one.2)) (new (event m.seat o (SetOdd failed_one.0) failed_one.1) failed_one.2)
+
+  -- ## Each step
+
+  program_of : (seat : SeatState) → get_elem? c.seats m.seat ≡ some seat → (x : Program) → first_step seat.program ≡ x → (g : Failing) × HasFailed clients m.seat es vs g × Stores (IsFailOf clients m.seat) g x
+  program_of seat at x is = let l = law.seats m.seat in let f = codes_first (IsFailOf clients m.seat) l.failing seat.program (l.program seat at) in
+      (f.0, ⊎_elim (λ e. subst (HasFailed clients m.seat es vs) (sym e) l.has) (λ e. subst (HasFailed clients m.seat es vs) (sym e) tt) f.1, subst (Stores (IsFailOf clients m.seat) f.0) is f.2)
+
+  same_else : (w : View) (j : ℕ) → j ≢ m.seat → (v : View) → get_elem? (set vs m.seat w) j ≡ some v → get_elem? vs j ≡ some v
+  same_else w j ne v at = ⊎_elim (λ b. absurd (ne b.0)) (λ b. b.1) (at_set vs m.seat j w v at)
+
+  -- a move of the seat, a put or a step aside
+  moved : (a : Calls) (x : Program) (hand : List Home) (hs : List (Option Home)) (us : List View) → ((j : ℕ) → j ≢ m.seat → (v : View) → get_elem? us j ≡ some v → get_elem? vs j ≡ some v) → Stores (IsFailOf clients m.seat) NoFail x → After (with_seat m.seat x hand c.words hs (record c { calls = a })) us
+  moved a x hand hs us views stores fresh more told kept new = reseated fresh kept a x hand c.words hs us NoFail stores views (λ _. tt) (λ j h inside even version some_. known_later clients es fresh kept j h (code_in c.words j) (law.known j h inside even version some_))
+
+  module _ (seat : SeatState) (v : View) (at : get_elem? c.seats m.seat ≡ some seat) (here : get_elem? vs m.seat ≡ some v) (call : Call) (next : ℕ → Program) (is : first_step seat.program ≡ Do call next) (may : May p v call) where
+    abbrev found : ℕ
+    found = found_at c.words (word_of p call)
+
+    abbrev words : List ℕ
+    words = words_after c.words (word_of p call) (word_after call found)
+
+    abbrev w : View
+    w = row p call found (hand_at p c.words c.homes call) v
+
+    abbrev stepped_ : Core
+    stepped_ = with_seat m.seat (next found) (hand_after p call c.homes seat.hand) words (homes_after p call seat.hand c.homes) c
+
+    mine : (g : Failing) × HasFailed clients m.seat es vs g × Stores (IsFailOf clients m.seat) g (Do call next)
+    mine = program_of seat at (Do call next) is
+
+    -- a code that the seat stores
+    stored : (g : Failing) → HasFailed clients m.seat es vs g → (j h k code : ℕ) → j < p.slots → version_in c.words j ≡ h + 1 → IsOtherCode code ⊎ ((o : ℕ) × (g ≡ Fails o code j)) → IsKnown clients es j h code
+    stored g has j h k code inside version (inl other) = inl other
+    stored g has j h k code inside version (inr x) = let f : HasFailed clients m.seat es vs (Fails x.0 code j) = subst (HasFailed clients m.seat es vs) x.1 has in let marks = f.4 v here in
+        inr (record { client = m.seat; operation = x.0; found = f.0; own = f.1; is = f.2; version = (let z = coding_version p c vs sound m.seat v here j (vref_version f.0) inside marks in omega (arith, z, version)); even = f.3 })
+
+    known_behind : (j h : ℕ) → j < p.slots → h % 2 ≡ 0 → version_in words j ≡ h + 1 → code_in words j ≢ 0 → IsKnown clients es j h (code_in words j)
+    known_behind j h inside even version some_ = ⊎_elim
+        (λ x. subst (IsKnown clients es j h) (sym x.1) (law.known j h inside even x.0 (λ z. some_ (x.1 ∙ z))))
+        (λ x. subst (IsKnown clients es j h) (sym x.4) (let stores : Stores (IsFailOf clients m.seat) mine.0 (Do (StoreCode j x.0 x.1) next) = subst (λ y. Stores (IsFailOf clients m.seat) mine.0 (Do y next)) x.2 mine.2 in stored mine.0 mine.1 j h x.0 x.1 inside x.3 stores.0))
+        (code_stays p c vs sound m.seat v here j h inside even call may version some_)
+
+    step_keeps : After stepped_ (set vs m.seat w)
+    step_keeps fresh more told kept new = by (behind mine.0 (IsFailOf clients m.seat) call next found mine.2)
+      where
+        known : (j h : ℕ) → j < p.slots → h % 2 ≡ 0 → version_in words j ≡ h + 1 → code_in words j ≢ 0 → IsKnown clients fresh j h (code_in words j)
+        known j h inside even version some_ = known_later clients es fresh kept j h (code_in words j) (known_behind j h inside even version some_)
+
+        seat_there : m.seat < length c.seats
+        seat_there = at_within c.seats m.seat seat at
+
+        view_there : m.seat < length vs
+        view_there = at_within vs m.seat v here
+
+        by : Behind mine.0 (IsFailOf clients m.seat) call next found → CodesLaw clients p stepped_ (set vs m.seat w) fresh
+        by (stores_none stores) = reseated fresh kept c.calls (next found) (hand_after p call c.homes seat.hand) words (homes_after p call seat.hand c.homes) (set vs m.seat w) NoFail stores (same_else w) (λ _. tt) known
+        by (stores_own j o code call_is own even says_ stores) = reseated fresh kept c.calls (next found) (hand_after p call c.homes seat.hand) words (homes_after p call seat.hand c.homes) (set vs m.seat w) (Fails o code j) stores (same_else w)
+            (λ same. (
+              found,
+              own,
+              stands seat v at here o code own j next (is ∙ ap (λ (z : Call). Do z next) call_is) fresh more kept new found (ap (λ z. found_at c.words (word_of p z)) call_is) says_ stepped_ (set vs m.seat w) told
+                  (record { program = next_step (resolved (waiting_at c.calls.waiting m.seat) (next found)); hand = hand_after p call c.homes seat.hand }) w (set_at c.seats m.seat _ seat_there) (set_at vs m.seat w view_there) same,
+              even,
+              λ u at_u. subst (λ (z : View). 0 < marks_of (is_coding (vref_version found)) j z) (⊎_elim (λ b. b.1) (λ b. absurd (b.0 refl)) (at_set vs m.seat m.seat w u at_u))
+                  (subst (λ z. 0 < marks_of (is_coding (vref_version found)) j (row p z found (hand_at p c.words c.homes call) v)) (sym call_is) (coding_there j found v even)),
+            )) known
+
+  pub codes_ticks : After (ticked p c m) (views_after p c vs m)
+  codes_ticks = tick_cases p c vs m sound answered After
+      (λ fresh more told kept new. record { known = λ j h inside even version some_. known_later clients es fresh kept j h (code_in c.words j) (law.known j h inside even version some_); seats = λ j. record { failing = (law.seats j).failing; program = (law.seats j).program; has = others fresh kept c.calls Rest [] [] [] vs NoFail j (λ v at. at) (law.seats j).failing (law.seats j).has } })
+      (λ seat v call next at here is goes. step_keeps seat v at here call next is goes.0)
+      (λ seat v r next heading bytes at here is goes. moved c.calls (next heading bytes) seat.hand (set c.homes r none) (set vs m.seat (took_message heading bytes v)) (same_else (took_message heading bytes v)) ((program_of seat at (TakeMessage r next) is).2 heading bytes))
+      (λ seat v k next n at here is goes. moved c.calls (next n) (lies_at c.homes (link_place p k) ++ seat.hand) (set c.homes (link_place p k) none) (set vs m.seat (link_away v)) (same_else (link_away v)) ((program_of seat at (TakeHome k next) is).2 n))
+      (λ seat v k n after at here is goes. moved c.calls after (others_of seat.hand) (set c.homes (link_place p k) (first_of (onto_first (with_places n) seat.hand))) (set vs m.seat (link_home_again v)) (same_else (link_home_again v)) (program_of seat at (PutHome k n after) is).2)
+      (λ seat v k asked bytes next answer at here is goes answer_is fits. moved c.calls (next answer) (onto_first (fed bytes answer) seat.hand) c.homes (set vs m.seat (took_bytes answer v)) (same_else (took_bytes answer v)) ((program_of seat at (PutBytes k asked bytes next) is).2 answer))
+      (λ seat v k next answer at here is goes answer_is. moved c.calls (next answer) seat.hand c.homes vs (λ j ne v at. at) ((program_of seat at (AskReady k next) is).2 answer))
+      (λ seat v s next found at here is goes found_is. moved (calls_after s found c.calls) (next found) seat.hand c.homes vs (λ j ne v at. at) ((program_of seat at (Aside s next) is).2 found))
