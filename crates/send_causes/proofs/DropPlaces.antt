@@ -114,6 +114,23 @@ module _ (p : Plan) (q : IdPlan) (is_call : Asked → Type 0) (ids : ℕ → ℕ
     all_in (IsOfSpoken (IsSpoken clients)) s.made e s.of_calls (in_of_at s.made n e (sent_in vs i n e h.view s.made h h.here s.lists)) not_,
   )
 
+  -- an accepted message with an owner is a call's
+  pub log_calls : (r : ℕ) (e : Entry) → get_elem? sound.lawful.log r ≡ some e → e.heading.owner ≢ 0 → IsOfCall is_call ids e.heading e.bytes × IsSpoken clients e.heading.operation
+  log_calls r e there = each_of p c vs sound.lawful each_made (λ (x : Entry). x.heading.owner ≢ 0 → IsOfCall is_call ids x.heading x.bytes × IsSpoken clients x.heading.operation) one r e there
+    where
+      one : (i n : ℕ) (x : Entry) → HasSent vs i n x → x.heading.owner ≢ 0 → IsOfCall is_call ids x.heading x.bytes × IsSpoken clients x.heading.operation
+      one i n x h some_ = by (is_of_send x) refl
+        where
+          by : (b : Bool) → is_of_send x ≡ b → IsOfCall is_call ids x.heading x.bytes × IsSpoken clients x.heading.operation
+          by true is = absurd (some_ (ap (λ (y : Heading). y.owner) (send_message i n x h is).2))
+          by false is = call_message i n x h is
+
+  -- what a seat has in hand to write is the first message without a place
+  pub in_hand : (i : ℕ) (v : View) (r : Right) (now : ℕ) → get_elem? vs i ≡ some v → get_elem? v.rights 0 ≡ some r → r.stage ≡ Writes now → r.taken ≡ true → (m : ℕ) × (e : Entry) × (get_elem? sound.lawful.log m ≡ some e) × (r.heading ≡ e.heading)
+  in_hand i v r now at has stage taken = let kl = right_in sound.lawful i 0 v r at has in let alone = right_alone sound.lawful i 0 v r at has in
+      let e = at_some (on r.link sound.lawful.log) (sound.lawful.places r.link) (writes_room sound.lawful.chains r.link r now kl alone stage) in let l = in_log sound.lawful.chains r.link (sound.lawful.places r.link) e.0 e.1 in
+      (l.0, e.0, l.1, (sound.lawful.messages.in_hand r.link r e.0 kl alone taken e.1).0)
+
   -- two messages of one attempt would count twice
   view_most : (i n : ℕ) (e : Entry) (h : HasSent vs i n e) (id a : ℕ) → total (of_entry id a) h.made ≤ of_view id a h.view
   view_most i n e h id a = let z : total (total (of_entry id a)) h.view.lists ≡ total (of_entry id a) h.made + 0 = ap (total (total (of_entry id a))) h.lists in omega (arith, z)

@@ -29,3 +29,4 @@ pub mod DropSays
 pub mod RefusedLoops
 pub mod RefusedPrograms
 pub mod DropTicks
+pub mod DropRuns
