@@ -42,6 +42,10 @@ use Rattle.sock_causes.proofs.Events.{event, marked_given, given_by}
 use Rattle.sock_causes.proofs.Ticks.{MayMove, IsNew, tick_story}
 use Rattle.label_runs.specs.Labels.{Trial}
 use Rattle.send_causes.specs.Counts.{IsOfCall, LabelLaw, StoresOwn, AreLabelled}
+use Rattle.id_runs.specs.Goes.{SoundIds, IsFittingIds}
+use Rattle.id_runs.specs.Held.{IdView}
+use Rattle.joint_runs.proofs.Both.{AreBounded}
+use Rattle.sock_runs.proofs.Bounded.{IsBounded}
 use Rattle.send_causes.specs.Refused.{Deed, DidStep, DidPut, DidRound, DidAt, DidIn}
 use Rattle.send_causes.proofs.DropPlaces.{log_calls, in_hand, place_stays}
 use Rattle.send_causes.proofs.DropTicks.{IsKnown, CodesLaw, known_later, codes_ticks}
@@ -170,3 +174,75 @@ module _ (p : Plan) (q : IdPlan) (is_call : Asked → Type 0) (ids : ℕ → ℕ
 
       places_stay : PlacesStay c (ticked p c m)
       places_stay o n l spoken small label low written = place_stays p q is_call ids clients over c vs s.events s.lost s.sound s.story s.trials s.labels o n l spoken small label low written m answered fitting
+
+      -- ## Behind it
+
+      module _ (moves : MayMove over s.events m.seat) (id_views : (us : List IdView) × SoundIds p q c us) (fitting_ids : IsFittingIds p c m) (own : StoresOwn ids c m) where
+        pub next_scene : (n : Scene over (ticked p c m) (views_after p c vs m)) × ((e : Event) → In e s.events → In e n.events) × ((e : Event) → In e n.events → In e s.events ⊎ IsNew p clients are over c vs s.events s.lost s.sound s.story m answered moves e)
+        next_scene = let g = tick_story p clients are over c vs s.events s.lost s.sound s.story m answered moves in
+            let l = label_ticks p q narrow is_call ids c vs s.trials s.labels id_views.0 id_views.1 s.sound m answered fitting_ids own in (
+              record {
+                events = g.events;
+                lost = g.lost;
+                sound = sound_ticks p go c vs m s.sound answered fitting;
+                story = g.told;
+                trials = l.0;
+                labels = l.1;
+                codes = codes_ticks p clients are over c vs s.events s.lost s.sound s.story m answered moves s.codes g.events g.lost g.told g.kept g.fresh;
+              },
+              g.kept,
+              g.fresh,
+            )
+
+        -- what was done in it tells so
+        pub tick_tells : (seat : ℕ) (deed : Deed) → DidAt p c m seat deed → Tells (ticked p c m) next_scene.0.events deed
+        tick_tells seat (DidStep (LoadCode i h) code) d = tells_on c (ticked p c m) s.events next_scene.0.events next_scene.1 places_stay (DidStep (LoadCode i h) code)
+            (load_tells d.1 (subst (λ n. get_elem? c.seats n ≡ some d.1) (sym d.0) d.3) i h d.2 d.4 code d.5)
+        tick_tells seat (DidStep (DropPlace l k n) found) d = drop_tells d.1 (subst (λ n. get_elem? c.seats n ≡ some d.1) (sym d.0) d.3) l k n d.2 d.4
+        tick_tells seat (DidRound (Puts h now heading left taken asked)) d = tells_on c (ticked p c m) s.events next_scene.0.events next_scene.1 places_stay (DidRound (Puts h now heading left taken asked))
+            (round_tells d.1 (subst (λ n. get_elem? c.seats n ≡ some d.1) (sym d.0) d.3) h now heading left taken asked d.2 d.4)
+        tick_tells seat other d = tt
+
+    -- ## Along ticks
+
+    pub record Along (over : Bool) (c : Core) (vs : List View) (ms : List Moment) (s : Scene over c vs) : Type 0 where
+      pub after : Scene over (run p c ms) (views_along p c vs ms)
+      pub kept : (e : Event) → In e s.events → In e after.events
+      pub stay : PlacesStay c (run p c ms)
+      pub told : (seat : ℕ) (deed : Deed) → DidIn p c ms seat deed → Tells (run p c ms) after.events deed
+
+    stays_on : (c d e : Core) → PlacesStay c d → PlacesStay d e → PlacesStay c e
+    stays_on c d e x y o n l spoken few label low written = let same = x o n l spoken few label low written in y o n l spoken few label low (λ z. written (sym same ∙ z)) ∙ same
+
+    no_ticks : (over : Bool) (c : Core) (vs : List View) (s : Scene over c vs) → Along over c vs [] s
+    no_ticks over c vs s = record { after = s; kept = λ e m. m; stay = λ o n l spoken few label low written. refl; told = λ seat deed d. absurd d }
+
+    then_along : (over : Bool) (c : Core) (vs : List View) (m : Moment) (ms : List Moment) (s : Scene over c vs) (n : Scene over (ticked p c m) (views_after p c vs m)) → ((e : Event) → In e s.events → In e n.events) → PlacesStay c (ticked p c m)
+        → ((seat : ℕ) (deed : Deed) → DidAt p c m seat deed → Tells (ticked p c m) n.events deed) → Along over (ticked p c m) (views_after p c vs m) ms n → Along over c vs (m ∷ ms) s
+    then_along over c vs m ms s n kept stay told r = record {
+      after = r.after;
+      kept = λ e x. r.kept e (kept e x);
+      stay = stays_on c (ticked p c m) (run p c (m ∷ ms)) stay r.stay;
+      told = λ seat deed d. ⊎_elim (λ now. tells_on (ticked p c m) (run p c (m ∷ ms)) n.events r.after.events r.kept r.stay deed (told seat deed now)) (λ later. r.told seat deed later) d;
+    }
+
+    first_few : (most : ℕ) (c : Core) (vs : List View) (ms : List Moment) → AreBounded p most c vs ms → AreFew vs
+    first_few most c vs [] b = b.few
+    first_few most c vs (m ∷ ms) b = b.0.few
+
+    -- ticks of all seats, once the setup is over
+    pub seats_along : (most : ℕ) (ms : List Moment) (c : Core) (vs : List View) → AreAnswered p c ms → AreFitting p c ms → AreLabelled ids p q c ms → AreBounded p most c vs ms → (s : Scene true c vs) → Along true c vs ms s
+    seats_along most [] c vs answered fitting labelled bounded s = no_ticks true c vs s
+    seats_along most (m ∷ ms) c vs answered fitting labelled bounded s =
+        let few = first_few most c vs (m ∷ ms) bounded in let n = next_scene true c vs s few m answered.0 fitting.0 (inl refl) labelled.0 labelled.1 labelled.2 in
+        then_along true c vs m ms s n.0 n.1 (places_stay true c vs s few m answered.0 fitting.0) (tick_tells true c vs s few m answered.0 fitting.0 (inl refl) labelled.0 labelled.1 labelled.2)
+        (seats_along most ms (ticked p c m) (views_after p c vs m) answered.1 fitting.1 labelled.3 bounded.1 n.0)
+
+    -- and those of the setup alone
+    pub setup_along : (most k : ℕ) (c : Core) (vs : List View) → AreAnswered p c (replicate k (quiet 0)) → AreFitting p c (replicate k (quiet 0)) → AreLabelled ids p q c (replicate k (quiet 0)) → AreBounded p most c vs (replicate k (quiet 0)) → (s : Scene false c vs)
+        → ((e : Event) → In e s.events → e.client ≡ 0) → Along false c vs (replicate k (quiet 0)) s
+    setup_along most zero c vs answered fitting labelled bounded s alone = no_ticks false c vs s
+    setup_along most (suc k) c vs answered fitting labelled bounded s alone =
+        let few = first_few most c vs (replicate (suc k) (quiet 0)) bounded in let moves : MayMove false s.events 0 = inr (refl, alone) in let n = next_scene false c vs s few (quiet 0) answered.0 fitting.0 moves labelled.0 labelled.1 labelled.2 in
+        then_along false c vs (quiet 0) (replicate k (quiet 0)) s n.0 n.1 (places_stay false c vs s few (quiet 0) answered.0 fitting.0) (tick_tells false c vs s few (quiet 0) answered.0 fitting.0 moves labelled.0 labelled.1 labelled.2)
+        (setup_along most k (ticked p c (quiet 0)) (views_after p c vs (quiet 0)) answered.1 fitting.1 labelled.3 bounded.1 n.0 (λ e x. ⊎_elim (λ old. alone e old) (λ new. new.0) (n.2 e x)))
