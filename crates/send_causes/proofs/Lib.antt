@@ -30,3 +30,4 @@ pub mod RefusedLoops
 pub mod RefusedPrograms
 pub mod DropTicks
 pub mod DropRuns
+pub mod DropWhole
