@@ -125,6 +125,17 @@ module _ (p : Plan) (q : IdPlan) (is_call : Asked → Type 0) (ids : ℕ → ℕ
           by true is = absurd (some_ (ap (λ (y : Heading). y.owner) (send_message i n x h is).2))
           by false is = call_message i n x h is
 
+  -- the numbers of attempts are small
+  pub log_few : (r : ℕ) (e : Entry) → get_elem? sound.lawful.log r ≡ some e → e.heading.attempt ≤ 6
+  log_few r e there = each_of p c vs sound.lawful each_made (λ (x : Entry). x.heading.attempt ≤ 6) one r e there
+    where
+      one : (i n : ℕ) (x : Entry) → HasSent vs i n x → x.heading.attempt ≤ 6
+      one i n x h = by (is_of_send x) refl
+        where
+          by : (b : Bool) → is_of_send x ≡ b → x.heading.attempt ≤ 6
+          by true is = let z : x.heading.attempt ≡ 0 = ap (λ (y : Heading). y.attempt) (send_message i n x h is).2 in omega (arith, z)
+          by false is = (call_message i n x h is).0.3
+
   -- what a seat has in hand to write is the first message without a place
   pub in_hand : (i : ℕ) (v : View) (r : Right) (now : ℕ) → get_elem? vs i ≡ some v → get_elem? v.rights 0 ≡ some r → r.stage ≡ Writes now → r.taken ≡ true → (m : ℕ) × (e : Entry) × (get_elem? sound.lawful.log m ≡ some e) × (r.heading ≡ e.heading)
   in_hand i v r now at has stage taken = let kl = right_in sound.lawful i 0 v r at has in let alone = right_alone sound.lawful i 0 v r at has in

@@ -31,3 +31,4 @@ pub mod RefusedPrograms
 pub mod DropTicks
 pub mod DropRuns
 pub mod DropWhole
+pub mod DropOfRun

@@ -1,0 +1,99 @@
+-- Why each error was posted for a message that was dropped: it is that of an attempt that stands dropped in the end, and its code is that of a link that failed, of the ending, of a reader, or of a `fail` that failed the socket of the message's link.
+use Rattle.std.proofs.Common.{true, false, ◌≡◌, ◌≢◌, ℕ, ◌+◌, ◌*◌, ◌/◌, ◌%◌, ◌<◌, ◌≤◌, ◌⊎◌, ◌==◌, if◌then◌else◌, Bool, inl, inr, ⊎_elim, ne_eqb, eq-eqb, List, [], ◌∷◌, length, get_or, nat_le, leb-true, refl, sym, ap, ◌∙◌, subst, arith}
+use Rattle.std.proofs.lemmas.List.{length-map}
+use Rattle.std.specs.Prelude.{Option, Some, slice_get}
+use Rattle.std.specs.List.{AllByRecursion}
+use mathlib.Core.Logic.{dite}
+use mathlib.Core.Option.{some}
+use native.Mathlib.Decide.{ℕ_discrete}
+use lib.ListN.{get_elem?}
+use Rattle.brpc_model.specs.Items.{Item}
+use Rattle.brpc_model.specs.Operations.{Turn}
+use Rattle.sock_words.specs.Words.{socket_id_slot, socket_id_version, vref_version}
+use Rattle.sock_words.specs.declared.plain.Plan.{Plan}
+use Rattle.sock_words.specs.declared.outcome.Outcome.TheVariants.{Failed}
+use Rattle.sock_model.specs.declared.chain.Entry.{Entry}
+use Rattle.sock_model.specs.declared.chain.Heading.{Heading}
+use Rattle.sock_model.specs.declared.view.View.{View}
+use Rattle.sock_model.specs.Deliveries.{place_value}
+use Rattle.sock_model.specs.Entries.{on}
+use Rattle.sock_model.specs.Layout.{place_word, request_word}
+use Rattle.sock_model.specs.Rule.{lists_of}
+use Rattle.sock_steps.proofs.Positions.{few_log, on_shorter}
+use Rattle.slot_laws.proofs.Numbers.{life_le}
+use Rattle.slot_laws.proofs.Sums.{total_bound}
+use Rattle.chain_laws.proofs.Frames.{in_log}
+use Rattle.corr_core.specs.Word.{error_of, code_of, attempt_of}
+use Rattle.sock_message.specs.Asked.{Asked, name_of}
+use Rattle.sock_programs.specs.declared.task.Op.TheVariants as ops
+use Rattle.sock_programs.specs.declared.task.Task.{Task}
+use Rattle.sock_programs.specs.Calls.{SetOdd, LoadCode, DropPlace}
+use Rattle.sock_programs.specs.Cores.{Core}
+use Rattle.sock_programs.specs.Tasks.{opens, plan_of, id_plan_of}
+use Rattle.sock_programs.specs.Scripts.{all_tasks, IsRunWithCalls}
+use Rattle.sock_programs.specs.Told.{IsTask, Became, Made}
+use Rattle.sock_programs.specs.ToldCalls.{Accepted, Order, label, IsAt, IsDropped, IsFailedWith}
+use Rattle.sock_programs.specs.Writings.{Puts}
+use Rattle.sock_runs.specs.Sound.{state, Sound, AllRest}
+use Rattle.sock_runs.proofs.Whole.{views_ended, ended_sound, end_rests}
+use Rattle.sock_causes.specs.Causes.{Asks, WasGiven}
+use Rattle.sock_causes.specs.Explains.{Fits}
+use Rattle.sock_causes.specs.Kept.{IsSpoken, Story}
+use Rattle.sock_causes.specs.PlainTasks.{told_tasks_of}
+use Rattle.sock_causes.specs.Stories.{Event, In}
+use Rattle.sock_causes.proofs.Delivered.{accepted_of, accepted_at}
+use Rattle.sock_causes.proofs.Events.{event, BeforeIn, cause_of}
+use Rattle.sock_causes.proofs.Lifted.{task_up, made_up}
+use Rattle.sock_causes.proofs.Lives.{World, task_of, given_made, one_life, OddMeans, odd_means, odd_life, fail_says}
+use Rattle.sock_causes.proofs.Members.{all_in, in_contains}
+use Rattle.sock_causes.proofs.Tasks.{one_task}
+use Rattle.client_laws.specs.Openings.{all_seats}
+use Rattle.client_laws.proofs.Fresh.{opening_fresh}
+use Rattle.joint_runs.proofs.Runs.{AreMade, first_views, joint_runs, joint_bounded}
+use Rattle.owed_calls.specs.Lives.{ClosesInRun}
+use Rattle.call_causes.specs.Posts.{Post}
+use Rattle.send_causes.specs.Refused.{Deed, DidStep, DidRound, DidInRun, IsDrop}
+use Rattle.send_causes.proofs.Beside.{gave_of_run, fixed_of_run, orders_here}
+use Rattle.send_causes.proofs.Early.{start, go, fitting}
+use Rattle.send_causes.proofs.Labelled.{ids_of_run}
+use Rattle.send_causes.proofs.Runs.{IsCallOf, end_law}
+use Rattle.send_causes.proofs.Sends.{owed, narrow, few_clients, labelled, opening_claims, orders_are}
+use Rattle.send_causes.proofs.DropCodes.{IsOtherCode}
+use Rattle.send_causes.proofs.DropPlaces.{log_few}
+use Rattle.send_causes.proofs.DropRuns.{IsCalls, IsDropAt, Tells}
+use Rattle.send_causes.proofs.DropTicks.{IsKnown, FailedWith}
+use Rattle.send_causes.proofs.DropWhole as whole
+
+module _ (script : List Item) (made : AreMade script) (turns : List Turn) (core : Core) (is : IsRunWithCalls script turns core) (closes : ClosesInRun script turns core is) where
+  abbrev p : Plan
+  p = plan_of script
+
+  abbrev ids : ℕ → ℕ
+  ids = ids_of_run script made turns core is (narrow script made turns core is closes) (few_clients script made turns core is closes)
+
+  fresh : (i : ℕ) (v : View) → get_elem? (first_views script) i ≡ some v → v.lists ≡ [] ∷ []
+  fresh = opening_fresh (plan_of script) (all_seats (all_tasks script) (length (opens script)))
+
+  bare : (i : ℕ) (v : View) → get_elem? (first_views script) i ≡ some v → v.claims ≡ []
+  bare = opening_claims (plan_of script) (all_seats (all_tasks script) (length (opens script)))
+
+  abbrev TellsHere : List Event → Deed → Type 0
+  TellsHere es deed = Tells (plan_of script) (id_plan_of script) (IsCallOf script) (ids_of_run script made turns core is (narrow script made turns core is closes) (few_clients script made turns core is closes)) (told_tasks_of script) core es deed
+
+  -- the story to the end of the run, and what the deeds of the run tell
+  record EndStory : Type 0 where
+    pub events : List Event
+    pub lost : List ℕ
+    pub story : Story (plan_of script) (told_tasks_of script) true core (views_ended script turns core is (first_views script)) events lost
+    pub tells : (seat : ℕ) (deed : Deed) → DidInRun script turns core is seat deed → TellsHere events deed
+
+  ends : EndStory
+  ends = let runs = joint_runs script turns core is made in let b = joint_bounded script turns core is made runs in
+      let s = whole.story_end script made.are (first_views script) (start script made turns core is) fresh bare (go script made turns core is) turns core is (fitting script made turns core is) (narrow script made turns core is closes)
+      (ids_of_run script made turns core is (narrow script made turns core is closes) (few_clients script made turns core is closes)) (labelled script made turns core is closes) _ _ b.setup b.clients b.closing b.final in record {
+        events = _;
+        lost = s.0;
+        story = s.1;
+        tells = whole.run_tells script made.are (first_views script) (start script made turns core is) fresh bare (go script made turns core is) turns core is (fitting script made turns core is) (narrow script made turns core is closes)
+            (ids_of_run script made turns core is (narrow script made turns core is closes) (few_clients script made turns core is closes)) (labelled script made turns core is closes) _ _ b.setup b.clients b.closing b.final;
+      }
