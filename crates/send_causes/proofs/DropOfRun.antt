@@ -97,3 +97,48 @@ module _ (script : List Item) (made : AreMade script) (turns : List Turn) (core 
         tells = whole.run_tells script made.are (first_views script) (start script made turns core is) fresh bare (go script made turns core is) turns core is (fitting script made turns core is) (narrow script made turns core is closes)
             (ids_of_run script made turns core is (narrow script made turns core is closes) (few_clients script made turns core is closes)) (labelled script made turns core is closes) _ _ b.setup b.clients b.closing b.final;
       }
+
+  -- ## Where a message stands that was dropped
+
+  abbrev end_sound : Sound (plan_of script) core (views_ended script turns core is (first_views script))
+  end_sound = ended_sound script made.are (first_views script) (start script made turns core is) (go script made turns core is) turns core is (fitting script made turns core is)
+
+  -- a call's message was dropped, so its attempt stands so on the link
+  pub record IsDroppedOn (o n k : ℕ) : Type 0 where
+    pub place : ℕ
+    pub at : IsAt (plan_of script) (all_tasks script) core.outcomes (fixed_of_run script made turns core is closes) (gave_of_run script made turns core is closes) (orders_here script made turns core is closes) o n k place
+    pub late : (orders_here script made turns core is closes k).placed ≤ place
+
+  -- few messages are accepted
+  few_accepted : (k i : ℕ) (e : Entry) → get_elem? (on k end_sound.lawful.log) i ≡ some e → i < 2147483648
+  few_accepted k i e at = let runs = joint_runs script turns core is made in let b = joint_bounded script turns core is made runs in let f = b.over in let few = f.few in
+      let all = few_log (views_ended script turns core is (first_views script)) end_sound.lawful.log end_sound.lawful.authors
+      (let n = few.few_seats in let t = total_bound lists_of 1 (views_ended script turns core is (first_views script)) (λ j v there. (few.short j v there).0) in omega (arith, n, t)) (λ j v there. (few.short j v there).1) in
+      let less = Rattle.sock_causes.proofs.Final.at_within (on k end_sound.lawful.log) i e at in let shorter = on_shorter k end_sound.lawful.log in omega (arith, all, less, shorter)
+
+  few_attempts : (k i : ℕ) (e : Entry) → get_elem? (on k end_sound.lawful.log) i ≡ some e → e.heading.attempt ≤ 6
+  few_attempts k i e at = let l = in_log end_sound.lawful.chains k i e at in let s = ends in
+      let law = end_law script made.are (first_views script) (start script made turns core is) (go script made turns core is) turns core is (fitting script made turns core is) (narrow script made turns core is closes) (λ j v there. (bare j v there, fresh j v there))
+      (ids_of_run script made turns core is (narrow script made turns core is closes) (few_clients script made turns core is closes)) (labelled script made turns core is closes) in
+      log_few (plan_of script) (id_plan_of script) (IsCallOf script) (ids_of_run script made turns core is (narrow script made turns core is closes) (few_clients script made turns core is closes)) (told_tasks_of script) true core (views_ended script turns core is (first_views script))
+      s.events s.lost end_sound s.story law.0 law.1 l.0 e l.1
+
+  -- by the place word
+  dropped_by : (o n l k m : ℕ) → IsDropAt (plan_of script) (id_plan_of script) (IsCallOf script) (ids_of_run script made turns core is (narrow script made turns core is closes) (few_clients script made turns core is closes)) (told_tasks_of script) core l k m
+      → IsSpoken (told_tasks_of script) o → n ≤ 6 → l ≡ 8 * o + n → IsDroppedOn o n k
+  dropped_by o n l k m x spoken few label_is = let word = x.word o n spoken (omega (arith, few)) label_is in let are = orders_are script made turns core is closes in ⊎_elim
+      (λ z. let none_ : get_or core.words (place_word (plan_of script) l) 0 ≡ 0 = z in absurd (omega (arith, word, none_)))
+      (λ y. let j : ℕ = y.0 in let i : ℕ = y.1 in let a : Accepted = y.2 in let e = accepted_at (on j end_sound.lawful.log) i a y.4 in let low = few_accepted j i e.0 e.1 in let small = few_attempts j i e.0 e.1 in
+      let attempt : a.attempt ≤ 6 = subst (λ (z : Accepted). z.attempt ≤ 6) e.2 small in let limits = end_sound.limits in let links = limits.links in
+      let shown : get_or core.words (place_word (plan_of script) l) 0 ≡ place_value (nat_le (orders_here script made turns core is closes j).placed i) j i = ap (λ z. get_or core.words (place_word (plan_of script) z) 0) y.5 ∙ are.written j i a y.3 y.4 in
+      by j i a y.3 y.4 (omega (arith, y.5, label_is, attempt, few)) (omega (arith, y.5, label_is, attempt, few)) low (nat_le (orders_here script made turns core is closes j).placed i) refl shown word links x.link x.small)
+      (are.alone l x.low)
+    where
+      by : (j i : ℕ) (a : Accepted) → j < (plan_of script).links → slice_get (orders_here script made turns core is closes j).accepted i ≡ Some a → a.operation ≡ o → a.attempt ≡ n → i < 2147483648 → (b : Bool) → nat_le (orders_here script made turns core is closes j).placed i ≡ b
+          → get_or core.words (place_word (plan_of script) l) 0 ≡ place_value b j i → get_or core.words (place_word (plan_of script) l) 0 ≡ place_value true k m → (plan_of script).links ≤ 256 → k < (plan_of script).links → m < Rattle.sock_runs.specs.Sound.MOST_PLACES → IsDroppedOn o n k
+      by j i a jl at op att low true late shown word links kl small = let same : j ≡ k = omega (arith, shown, word, low, small) in record {
+        place = i;
+        at = (kl, a, subst (λ z. slice_get (orders_here script made turns core is closes z).accepted i ≡ Some a) same at, op, att);
+        late = subst (λ z. (orders_here script made turns core is closes z).placed ≤ i) same (leb-true (orders_here script made turns core is closes j).placed i late);
+      }
+      by j i a jl at op att low false late shown word links kl small = absurd (omega (arith, shown, word, low, jl, links))
