@@ -1,7 +1,7 @@
 -- Why each error was posted for a message that was dropped: it is that of an attempt that stands dropped in the end, and its code is that of a link that failed, of the ending, of a reader, or of a `fail` that failed the socket of the message's link.
 use Rattle.std.proofs.Common.{true, false, ◌≡◌, ◌≢◌, ℕ, ◌+◌, ◌*◌, ◌/◌, ◌%◌, ◌<◌, ◌≤◌, ◌⊎◌, ◌==◌, if◌then◌else◌, Bool, inl, inr, ⊎_elim, ne_eqb, eq-eqb, List, [], ◌∷◌, length, get_or, nat_le, leb-true, refl, sym, ap, ◌∙◌, subst, arith}
 use Rattle.std.proofs.lemmas.List.{length-map}
-use Rattle.std.specs.Prelude.{Option, Some, slice_get}
+use Rattle.std.specs.Prelude.{Option, Some, slice_get, slice_index}
 use Rattle.std.specs.List.{AllByRecursion}
 use mathlib.Core.Logic.{dite}
 use mathlib.Core.Option.{some}
@@ -11,6 +11,7 @@ use Rattle.brpc_model.specs.Items.{Item}
 use Rattle.brpc_model.specs.Operations.{Turn}
 use Rattle.sock_words.specs.Words.{socket_id_slot, socket_id_version, vref_version}
 use Rattle.sock_words.specs.declared.plain.Plan.{Plan}
+use Rattle.sock_words.specs.declared.outcome.Outcome.{Outcome}
 use Rattle.sock_words.specs.declared.outcome.Outcome.TheVariants.{Failed}
 use Rattle.sock_model.specs.declared.chain.Entry.{Entry}
 use Rattle.sock_model.specs.declared.chain.Heading.{Heading}
@@ -27,22 +28,28 @@ use Rattle.corr_core.specs.Word.{error_of, code_of, attempt_of}
 use Rattle.sock_message.specs.Asked.{Asked, name_of}
 use Rattle.sock_programs.specs.declared.task.Op.TheVariants as ops
 use Rattle.sock_programs.specs.declared.task.Task.{Task}
-use Rattle.sock_programs.specs.Calls.{SetOdd, LoadCode, DropPlace}
+use Rattle.sock_programs.specs.Calls.{SetOdd, ClaimRequest, LoadCode, DropPlace}
 use Rattle.sock_programs.specs.Cores.{Core}
 use Rattle.sock_programs.specs.Tasks.{opens, plan_of, id_plan_of}
 use Rattle.sock_programs.specs.Scripts.{all_tasks, IsRunWithCalls}
-use Rattle.sock_programs.specs.Told.{IsTask, Became, Made}
+use Rattle.sock_programs.specs.Told.{AreTasks, IsTask, Became, Made}
 use Rattle.sock_programs.specs.ToldCalls.{Accepted, Order, label, IsAt, IsDropped, IsFailedWith}
 use Rattle.sock_programs.specs.Writings.{Puts}
-use Rattle.sock_runs.specs.Sound.{state, Sound, AllRest}
+use Rattle.sock_runs.specs.Sound.{state, Sound, AllRest, MOST_PLACES}
+use Rattle.sock_runs.specs.GoesOn.{GoesOn, HasNothing}
+use Rattle.sock_model.specs.References.{slot_facts}
+use Rattle.sock_model.specs.Slots.{SlotLaw, live}
+use Rattle.slot_laws.proofs.Clauses.{taken_for}
 use Rattle.sock_runs.proofs.Whole.{views_ended, ended_sound, end_rests}
-use Rattle.sock_causes.specs.Causes.{Asks, WasGiven}
-use Rattle.sock_causes.specs.Explains.{Fits}
-use Rattle.sock_causes.specs.Kept.{IsSpoken, Story}
+use Rattle.sock_causes.specs.Causes.{Asks, WasGiven, Cause}
+use Rattle.sock_causes.specs.Explains.{FailsLife, FailsLink, step}
+use Rattle.sock_causes.specs.Kept.{IsSpoken, StaysUsed, Story}
 use Rattle.sock_causes.specs.PlainTasks.{told_tasks_of}
-use Rattle.sock_causes.specs.Stories.{Event, In}
-use Rattle.sock_causes.proofs.Delivered.{accepted_of, accepted_at}
+use Rattle.sock_causes.specs.Stories.{Event, In, trace_of}
+use Rattle.sock_causes.proofs.Delivered.{accepted_of, accepted_at, AreQuiet, requests_used}
+use Rattle.sock_causes.proofs.Openings.{are_seats}
 use Rattle.sock_causes.proofs.Events.{event, BeforeIn, cause_of}
+use Rattle.sock_causes.proofs.Final.{at_within, at_there, idle, final}
 use Rattle.sock_causes.proofs.Lifted.{task_up, made_up}
 use Rattle.sock_causes.proofs.Lives.{World, task_of, given_made, one_life, OddMeans, odd_means, odd_life, fail_says}
 use Rattle.sock_causes.proofs.Members.{all_in, in_contains}
@@ -114,7 +121,7 @@ module _ (script : List Item) (made : AreMade script) (turns : List Turn) (core 
   few_accepted k i e at = let runs = joint_runs script turns core is made in let b = joint_bounded script turns core is made runs in let f = b.over in let few = f.few in
       let all = few_log (views_ended script turns core is (first_views script)) end_sound.lawful.log end_sound.lawful.authors
       (let n = few.few_seats in let t = total_bound lists_of 1 (views_ended script turns core is (first_views script)) (λ j v there. (few.short j v there).0) in omega (arith, n, t)) (λ j v there. (few.short j v there).1) in
-      let less = Rattle.sock_causes.proofs.Final.at_within (on k end_sound.lawful.log) i e at in let shorter = on_shorter k end_sound.lawful.log in omega (arith, all, less, shorter)
+      let less = at_within (on k end_sound.lawful.log) i e at in let shorter = on_shorter k end_sound.lawful.log in omega (arith, all, less, shorter)
 
   few_attempts : (k i : ℕ) (e : Entry) → get_elem? (on k end_sound.lawful.log) i ≡ some e → e.heading.attempt ≤ 6
   few_attempts k i e at = let l = in_log end_sound.lawful.chains k i e at in let s = ends in
@@ -135,10 +142,97 @@ module _ (script : List Item) (made : AreMade script) (turns : List Turn) (core 
       (are.alone l x.low)
     where
       by : (j i : ℕ) (a : Accepted) → j < (plan_of script).links → slice_get (orders_here script made turns core is closes j).accepted i ≡ Some a → a.operation ≡ o → a.attempt ≡ n → i < 2147483648 → (b : Bool) → nat_le (orders_here script made turns core is closes j).placed i ≡ b
-          → get_or core.words (place_word (plan_of script) l) 0 ≡ place_value b j i → get_or core.words (place_word (plan_of script) l) 0 ≡ place_value true k m → (plan_of script).links ≤ 256 → k < (plan_of script).links → m < Rattle.sock_runs.specs.Sound.MOST_PLACES → IsDroppedOn o n k
+          → get_or core.words (place_word (plan_of script) l) 0 ≡ place_value b j i → get_or core.words (place_word (plan_of script) l) 0 ≡ place_value true k m → (plan_of script).links ≤ 256 → k < (plan_of script).links → m < MOST_PLACES → IsDroppedOn o n k
       by j i a jl at op att low true late shown word links kl small = let same : j ≡ k = omega (arith, shown, word, low, small) in record {
         place = i;
         at = (kl, a, subst (λ z. slice_get (orders_here script made turns core is closes z).accepted i ≡ Some a) same at, op, att);
         late = subst (λ z. (orders_here script made turns core is closes z).placed ≤ i) same (leb-true (orders_here script made turns core is closes j).placed i late);
       }
       by j i a jl at op att low false late shown word links kl small = absurd (omega (arith, shown, word, low, jl, links))
+
+  -- ## Who failed a life
+
+  abbrev cs : List (List Task)
+  cs = told_tasks_of script
+
+  abbrev vs : List View
+  vs = views_ended script turns core is (first_views script)
+
+  seats : AreTasks (plan_of script) (told_tasks_of script)
+  seats = are_seats (plan_of script) (all_tasks script) made.are (length (opens script))
+
+  settled : AllRest core
+  settled = end_rests script made.are (first_views script) (start script made turns core is) (go script made turns core is) turns core is (fitting script made turns core is) (owed script made turns core is closes)
+
+  quiet : AreQuiet (views_ended script turns core is (first_views script))
+  quiet i v at = let seat = at_there core.seats i (let l = at_within (views_ended script turns core is (first_views script)) i v at in let e = end_sound.each in omega (arith, l, e)) in
+      let n : HasNothing v = subst (GoesOn (plan_of script) v) (settled i seat.0 seat.1) (end_sound.seats i seat.0 v seat.1 at).goes_on in n.quiet
+
+  slot_law : (j : ℕ) → j < (plan_of script).slots → SlotLaw (plan_of script).first (live (slot_facts (state core (views_ended script turns core is (first_views script))) j)) (slot_facts (state core (views_ended script turns core is (first_views script))) j)
+  slot_law j l = end_sound.lawful.references.slots j l
+
+  -- a request that was found claimed was used
+  word_used : (q i u id found : ℕ) → In (event i u (ClaimRequest id q) found) ends.events → found % 2 ≡ 1 → slice_index core.words (request_word (plan_of script) q) ≢ 0
+  word_used q i u id found m odd = let s = ends.story in let x : StaysUsed (plan_of script) core.words (step (ClaimRequest id q) found) = s.used (event i u (ClaimRequest id q) found) m in let y = (x odd).1 in λ e. omega (arith, y, e)
+
+  world : World (plan_of script) (told_tasks_of script) core.outcomes ends.lost (orders_here script made turns core is closes) ends.events
+  world = let s = ends.story in record {
+    are = seats;
+    few = (let limits = end_sound.limits in limits.slots);
+    good = s.good;
+    final = λ i t a. final (plan_of script) (told_tasks_of script) seats true core (views_ended script turns core is (first_views script)) ends.events ends.lost end_sound ends.story settled i t a;
+    born_once = λ j l h. (let a = s.births j l h in let b = (slot_law j l).born h in let c = life_le (plan_of script).first h ((slot_facts (state core (views_ended script turns core is (first_views script))) j).version + live (slot_facts (state core (views_ended script turns core is (first_views script))) j)) in omega (arith, a, b, c));
+    failed_once = λ j l h. (let a = s.fails j l h in let b = (slot_law j l).failed h in let c = life_le (plan_of script).first h (slot_facts (state core (views_ended script turns core is (first_views script))) j).version in omega (arith, a, b, c));
+    tried_born = λ j l t. let a = s.tries j l in ⊎_elim
+        (λ claimed. let b = idle (plan_of script) (told_tasks_of script) seats true core (views_ended script turns core is (first_views script)) ends.events ends.lost end_sound ends.story settled j in absurd (omega (arith, claimed, b)))
+        (λ born. let b = s.births j l (plan_of script).first in omega (arith, b, born))
+        (taken_for (plan_of script).first (slot_facts (state core (views_ended script turns core is (first_views script))) j) (slot_law j l) end_sound.lawful.fits.even (omega (arith, a, t)));
+    full = λ h. requests_used (plan_of script) core (views_ended script turns core is (first_views script)) end_sound.lawful quiet (λ q l. let x = h q l in word_used q x.0 x.1 x.2 x.3 x.4 x.5);
+  }
+
+  -- a `fail` that was answered `failed` failed a life with this link
+  pub record IsFailedOn (k code : ℕ) : Type 0 where
+    pub client : ℕ
+    pub task : Task
+    pub name : ℕ
+    pub slot : ℕ
+    pub version : ℕ
+    pub is_task : IsTask (all_tasks script) core.outcomes client task
+    pub op : task.op ≡ ops.Fail name code
+    pub became : Became (all_tasks script) core.outcomes task.number Failed
+    pub life : Made (all_tasks script) core.outcomes name k slot version
+
+  -- of a life with a link
+  failed_on : (j h k code : ℕ) → WasGiven ends.events j h k → FailedWith (told_tasks_of script) ends.events j h code → IsFailedOn k code
+  failed_on j h k code given f = by cause.fits
+    where
+      world_ : World (plan_of script) (told_tasks_of script) core.outcomes ends.lost (orders_here script made turns core is closes) ends.events
+      world_ = world
+
+      before : BeforeIn (plan_of script) (told_tasks_of script) ends.lost ends.events (event f.client f.operation (SetOdd j) f.found)
+      before = cause_of (plan_of script) (told_tasks_of script) ends.lost ends.events ends.story.good (event f.client f.operation (SetOdd j) f.found) f.is
+
+      cause : Cause (plan_of script) (told_tasks_of script) ends.lost before.story (event f.client f.operation (SetOdd j) f.found)
+      cause = before.cause
+
+      same : cause.task ≡ f.own.0
+      same = (one_task (plan_of script) (told_tasks_of script) seats f.client f.client cause.task f.own.0 cause.is f.own.2 (cause.numbered ∙ sym f.own.3)).1
+
+      by : FailsLife cause.task.op (trace_of f.client f.operation before.story) j ⊎ FailsLink cause.task ends.lost (trace_of f.client f.operation before.story) j → IsFailedOn k code
+      by (inr x) = absurd (let z : ops.Send x.2.name x.2.bytes ≡ ops.Fail f.own.1 code = sym x.2.op ∙ (ap (λ (y : Task). y.op) same ∙ f.own.4) in cc)
+      by (inl x) = let m = odd_means (plan_of script) (told_tasks_of script) core.outcomes ends.lost (orders_here script made turns core is closes) ends.events world_ ends.lost before.story f.client f.operation j f.found cause before.part x in
+          let life = odd_life (plan_of script) (told_tasks_of script) core.outcomes ends.lost (orders_here script made turns core is closes) ends.events world_ ends.lost before.story f.client f.operation j f.found cause.task m f.even in
+          let g = given_made (plan_of script) (told_tasks_of script) core.outcomes ends.lost (orders_here script made turns core is closes) ends.events world_ j h k given in
+          let here : Made (told_tasks_of script) core.outcomes m.name life.0 j h = subst (Made (told_tasks_of script) core.outcomes m.name life.0 j) f.version life.1 in
+          let link : life.0 ≡ k = (one_life (plan_of script) (told_tasks_of script) core.outcomes ends.lost (orders_here script made turns core is closes) ends.events world_ m.name g.0 life.0 k j h here g.1).1 in
+          let op : ops.Fail m.name m.code ≡ ops.Fail f.own.1 code = sym m.op ∙ (ap (λ (y : Task). y.op) same ∙ f.own.4) in let named : m.name ≡ f.own.1 = cc in record {
+            client = f.client;
+            task = f.own.0;
+            name = f.own.1;
+            slot = j;
+            version = h;
+            is_task = task_up (all_tasks script) (length (opens script)) core.outcomes f.client f.own.0 (task_of (plan_of script) (told_tasks_of script) core.outcomes ends.lost (orders_here script made turns core is closes) ends.events world_ f.client f.own.0 f.own.2);
+            op = f.own.4;
+            became = (world_.final f.client f.own.0 f.own.2).became ∙ ap (λ (o : Option Outcome). Some o) (fail_says (plan_of script) (told_tasks_of script) core.outcomes ends.lost (orders_here script made turns core is closes) ends.events world_ f.client f.operation j f.found f.own.1 code f.own.0 f.own.2 f.own.3 f.own.4 f.is f.even);
+            life = subst (λ z. Made (all_tasks script) core.outcomes z k j h) named (subst (λ z. Made (all_tasks script) core.outcomes m.name z j h) link (made_up (all_tasks script) (length (opens script)) core.outcomes m.name life.0 j h here));
+          }
