@@ -1,10 +1,10 @@
 -- Why each error was posted for a message that was dropped: it is that of an attempt that stands dropped in the end, and its code is that of a link that failed, of the ending, of a reader, or of a `fail` that failed the socket of the message's link.
-use Rattle.std.proofs.Common.{true, false, ◌≡◌, ◌≢◌, ℕ, ◌+◌, ◌*◌, ◌/◌, ◌%◌, ◌<◌, ◌≤◌, ◌⊎◌, ◌==◌, if◌then◌else◌, Bool, inl, inr, ⊎_elim, ne_eqb, eq-eqb, List, [], ◌∷◌, length, get_or, nat_le, leb-true, refl, sym, ap, ◌∙◌, subst, arith}
+use Rattle.std.proofs.Common.{true, false, ◌≡◌, ◌≢◌, ℕ, zero, suc, ◌+◌, ◌*◌, ◌/◌, ◌%◌, ◌<◌, ◌≤◌, ◌⊎◌, ◌==◌, if◌then◌else◌, Bool, inl, inr, ⊎_elim, ne_eqb, eq-eqb, List, [], ◌∷◌, length, get_or, nat_le, leb-true, refl, sym, ap, ◌∙◌, subst, arith}
 use Rattle.std.proofs.lemmas.List.{length-map}
 use Rattle.std.specs.Prelude.{Option, Some, slice_get, slice_index}
 use Rattle.std.specs.List.{AllByRecursion}
 use mathlib.Core.Logic.{dite}
-use mathlib.Core.Option.{some}
+use mathlib.Core.Option.{some, some-injective, some-ne-none}
 use native.Mathlib.Decide.{ℕ_discrete}
 use lib.ListN.{get_elem?}
 use Rattle.brpc_model.specs.Items.{Item}
@@ -50,7 +50,7 @@ use Rattle.sock_causes.proofs.Delivered.{accepted_of, accepted_at, AreQuiet, req
 use Rattle.sock_causes.proofs.Openings.{are_seats}
 use Rattle.sock_causes.proofs.Events.{event, BeforeIn, cause_of}
 use Rattle.sock_causes.proofs.Final.{at_within, at_there, idle, final}
-use Rattle.sock_causes.proofs.Lifted.{task_up, made_up}
+use Rattle.sock_causes.proofs.Lifted.{task_up, made_up, made_down}
 use Rattle.sock_causes.proofs.Lives.{World, task_of, given_made, one_life, OddMeans, odd_means, odd_life, fail_says}
 use Rattle.sock_causes.proofs.Members.{all_in, in_contains}
 use Rattle.sock_causes.proofs.Tasks.{one_task}
@@ -70,6 +70,15 @@ use Rattle.send_causes.proofs.DropPlaces.{log_few}
 use Rattle.send_causes.proofs.DropRuns.{IsCalls, IsDropAt, Tells}
 use Rattle.send_causes.proofs.DropTicks.{IsKnown, FailedWith}
 use Rattle.send_causes.proofs.DropWhole as whole
+
+get_same : {A : Type 0} (xs : List A) (i : ℕ) (x : A) → get_elem? xs i ≡ some x → slice_get xs i ≡ Some x
+get_same [] i x e = absurd (some-ne-none x (sym e))
+get_same (y ∷ xs) zero x e = ap (λ z. Some z) (some-injective y x e)
+get_same (y ∷ xs) (suc i) x e = get_same xs i x e
+
+-- the parts of an error
+decodes : (code n : ℕ) → n ≤ 6 → (attempt_of (error_of code n) ≡ n) × (code_of (error_of code n) ≡ code)
+decodes code n few = (omega (arith, few), omega (arith, few))
 
 module _ (script : List Item) (made : AreMade script) (turns : List Turn) (core : Core) (is : IsRunWithCalls script turns core) (closes : ClosesInRun script turns core is) where
   abbrev p : Plan
@@ -190,25 +199,20 @@ module _ (script : List Item) (made : AreMade script) (turns : List Turn) (core 
     full = λ h. requests_used (plan_of script) core (views_ended script turns core is (first_views script)) end_sound.lawful quiet (λ q l. let x = h q l in word_used q x.0 x.1 x.2 x.3 x.4 x.5);
   }
 
-  -- a `fail` that was answered `failed` failed a life with this link
-  pub record IsFailedOn (k code : ℕ) : Type 0 where
+  -- a `fail` with this code was answered `failed`: it failed this life
+  pub record FailedLife (slot version code : ℕ) : Type 0 where
     pub client : ℕ
     pub task : Task
     pub name : ℕ
-    pub slot : ℕ
-    pub version : ℕ
+    pub link : ℕ
     pub is_task : IsTask (all_tasks script) core.outcomes client task
     pub op : task.op ≡ ops.Fail name code
     pub became : Became (all_tasks script) core.outcomes task.number Failed
-    pub life : Made (all_tasks script) core.outcomes name k slot version
+    pub life : Made (all_tasks script) core.outcomes name link slot version
 
-  -- of a life with a link
-  failed_on : (j h k code : ℕ) → WasGiven ends.events j h k → FailedWith (told_tasks_of script) ends.events j h code → IsFailedOn k code
-  failed_on j h k code given f = by cause.fits
+  failed_life : (j h code : ℕ) → FailedWith (told_tasks_of script) ends.events j h code → FailedLife j h code
+  failed_life j h code f = by cause.fits
     where
-      world_ : World (plan_of script) (told_tasks_of script) core.outcomes ends.lost (orders_here script made turns core is closes) ends.events
-      world_ = world
-
       before : BeforeIn (plan_of script) (told_tasks_of script) ends.lost ends.events (event f.client f.operation (SetOdd j) f.found)
       before = cause_of (plan_of script) (told_tasks_of script) ends.lost ends.events ends.story.good (event f.client f.operation (SetOdd j) f.found) f.is
 
@@ -218,21 +222,95 @@ module _ (script : List Item) (made : AreMade script) (turns : List Turn) (core 
       same : cause.task ≡ f.own.0
       same = (one_task (plan_of script) (told_tasks_of script) seats f.client f.client cause.task f.own.0 cause.is f.own.2 (cause.numbered ∙ sym f.own.3)).1
 
-      by : FailsLife cause.task.op (trace_of f.client f.operation before.story) j ⊎ FailsLink cause.task ends.lost (trace_of f.client f.operation before.story) j → IsFailedOn k code
+      by : FailsLife cause.task.op (trace_of f.client f.operation before.story) j ⊎ FailsLink cause.task ends.lost (trace_of f.client f.operation before.story) j → FailedLife j h code
       by (inr x) = absurd (let z : ops.Send x.2.name x.2.bytes ≡ ops.Fail f.own.1 code = sym x.2.op ∙ (ap (λ (y : Task). y.op) same ∙ f.own.4) in cc)
-      by (inl x) = let m = odd_means (plan_of script) (told_tasks_of script) core.outcomes ends.lost (orders_here script made turns core is closes) ends.events world_ ends.lost before.story f.client f.operation j f.found cause before.part x in
-          let life = odd_life (plan_of script) (told_tasks_of script) core.outcomes ends.lost (orders_here script made turns core is closes) ends.events world_ ends.lost before.story f.client f.operation j f.found cause.task m f.even in
-          let g = given_made (plan_of script) (told_tasks_of script) core.outcomes ends.lost (orders_here script made turns core is closes) ends.events world_ j h k given in
-          let here : Made (told_tasks_of script) core.outcomes m.name life.0 j h = subst (Made (told_tasks_of script) core.outcomes m.name life.0 j) f.version life.1 in
-          let link : life.0 ≡ k = (one_life (plan_of script) (told_tasks_of script) core.outcomes ends.lost (orders_here script made turns core is closes) ends.events world_ m.name g.0 life.0 k j h here g.1).1 in
+      by (inl x) = let m = odd_means (plan_of script) (told_tasks_of script) core.outcomes ends.lost (orders_here script made turns core is closes) ends.events world ends.lost before.story f.client f.operation j f.found cause before.part x in
+          let life = odd_life (plan_of script) (told_tasks_of script) core.outcomes ends.lost (orders_here script made turns core is closes) ends.events world ends.lost before.story f.client f.operation j f.found cause.task m f.even in
           let op : ops.Fail m.name m.code ≡ ops.Fail f.own.1 code = sym m.op ∙ (ap (λ (y : Task). y.op) same ∙ f.own.4) in let named : m.name ≡ f.own.1 = cc in record {
             client = f.client;
             task = f.own.0;
             name = f.own.1;
-            slot = j;
-            version = h;
-            is_task = task_up (all_tasks script) (length (opens script)) core.outcomes f.client f.own.0 (task_of (plan_of script) (told_tasks_of script) core.outcomes ends.lost (orders_here script made turns core is closes) ends.events world_ f.client f.own.0 f.own.2);
+            link = life.0;
+            is_task = task_up (all_tasks script) (length (opens script)) core.outcomes f.client f.own.0 (task_of (plan_of script) (told_tasks_of script) core.outcomes ends.lost (orders_here script made turns core is closes) ends.events world f.client f.own.0 f.own.2);
             op = f.own.4;
-            became = (world_.final f.client f.own.0 f.own.2).became ∙ ap (λ (o : Option Outcome). Some o) (fail_says (plan_of script) (told_tasks_of script) core.outcomes ends.lost (orders_here script made turns core is closes) ends.events world_ f.client f.operation j f.found f.own.1 code f.own.0 f.own.2 f.own.3 f.own.4 f.is f.even);
-            life = subst (λ z. Made (all_tasks script) core.outcomes z k j h) named (subst (λ z. Made (all_tasks script) core.outcomes m.name z j h) link (made_up (all_tasks script) (length (opens script)) core.outcomes m.name life.0 j h here));
+            became = (world.final f.client f.own.0 f.own.2).became ∙ ap (λ (o : Option Outcome). Some o) (fail_says (plan_of script) (told_tasks_of script) core.outcomes ends.lost (orders_here script made turns core is closes) ends.events world f.client f.operation j f.found f.own.1 code f.own.0 f.own.2 f.own.3 f.own.4 f.is f.even);
+            life = made_up (all_tasks script) (length (opens script)) core.outcomes f.own.1 life.0 j h (subst (λ z. Made (told_tasks_of script) core.outcomes z life.0 j h) named (subst (Made (told_tasks_of script) core.outcomes m.name life.0 j) f.version life.1));
           }
+
+  -- of a life that has a link, it is this one
+  its_link : (j h k code : ℕ) → WasGiven ends.events j h k → (f : FailedLife j h code) → f.link ≡ k
+  its_link j h k code given f = let g = given_made (plan_of script) (told_tasks_of script) core.outcomes ends.lost (orders_here script made turns core is closes) ends.events world j h k given in
+      (one_life (plan_of script) (told_tasks_of script) core.outcomes ends.lost (orders_here script made turns core is closes) ends.events world f.name g.0 f.link k j h (made_down (all_tasks script) (length (opens script)) core.outcomes f.name f.link j h f.life) g.1).1
+
+  -- ## Steps of the run
+
+  -- a message of a call that was dropped in the run stands so in the end
+  pub dropped_of_run : (seat o n k m found : ℕ) → IsSpoken (told_tasks_of script) o → n ≤ 6 → DidInRun script turns core is seat (DidStep (DropPlace (8 * o + n) k m) found) → IsDroppedOn o n k
+  dropped_of_run seat o n k m found spoken few did = dropped_by o n (8 * o + n) k m (ends.tells seat (DidStep (DropPlace (8 * o + n) k m) found) did) spoken few refl
+
+  -- a code of a life that was found in the run is one of the others, or that of a `fail` that failed the life
+  pub code_of_run : (seat i h code : ℕ) → DidInRun script turns core is seat (DidStep (LoadCode i h) code) → code ≢ 0 → IsOtherCode code ⊎ FailedLife i h code
+  code_of_run seat i h code did some_ = ⊎_elim (λ other. inl other) (λ f. inr (failed_life i h code f)) (ends.tells seat (DidStep (LoadCode i h) code) did some_)
+
+  -- ## Errors that were posted for dropped messages
+
+  abbrev pub IsFailedOn : ℕ → ℕ → Type 0
+  IsFailedOn k code = (slot version : ℕ) × (f : FailedLife slot version code) × (f.link ≡ k)
+
+  pub record DropOf (x : Post) : Type 0 where
+    -- the call
+    pub client : ℕ
+    pub task : Task
+    pub asked : Asked
+    pub is_task : IsTask (all_tasks script) core.outcomes client task
+    pub op : task.op ≡ ops.Call asked
+    pub own : ids_of_run script made turns core is (narrow script made turns core is closes) (few_clients script made turns core is closes) task.number ≡ x.id
+    -- the attempt that was dropped, and on which link
+    pub few : attempt_of x.error ≤ 6
+    pub link : ℕ
+    pub dropped : IsDroppedOn task.number (attempt_of x.error) link
+    -- whose code it is
+    pub code : IsOtherCode (code_of x.error) ⊎ IsFailedOn link (code_of x.error)
+
+  pub drop_of_run : (x : Post) (seat : ℕ) (heading : Heading) (code : ℕ) (deeds : List Deed) → AllByRecursion (DidInRun script turns core is seat) deeds → IsDrop heading code deeds → heading.owner ≢ 0 → heading.owner ≡ x.id
+      → x.error ≡ error_of (if code == 0 then 1009 else code) heading.attempt → DropOf x
+  drop_of_run x seat heading code deeds did d owned id error = record {
+    client = call.0;
+    task = call.2;
+    asked = calls.asked;
+    is_task = (call.1, get_same (all_tasks script) call.0 call.1 call.3, in_contains call.1 call.2 call.4);
+    op = call.5;
+    own = ap (ids_of_run script made turns core is (narrow script made turns core is closes) (few_clients script made turns core is closes)) number ∙ (calls.owner ∙ id);
+    few = (let f = calls.few in omega (arith, attempt, f));
+    link = d.holder.link;
+    dropped = subst (λ z. IsDroppedOn z (attempt_of x.error) d.holder.link) (sym number) (subst (λ z. IsDroppedOn heading.operation z d.holder.link) (sym attempt)
+        (dropped_by heading.operation heading.attempt heading.place d.holder.link d.holder.places (ends.tells seat (DidStep (DropPlace heading.place d.holder.link d.holder.places) d.found) (all_in (DidInRun script turns core is seat) deeds (DidStep (DropPlace heading.place d.holder.link d.holder.places) d.found) did d.drop))
+        calls.spoken calls.few calls.place));
+    code = subst (λ z. IsOtherCode z ⊎ IsFailedOn d.holder.link z) (sym code_is) whose;
+  }
+    where
+      round : WasGiven ends.events (socket_id_slot d.holder.id) (socket_id_version d.holder.id) d.holder.link
+          × (heading.owner ≢ 0 → IsCalls (plan_of script) (id_plan_of script) (IsCallOf script) (ids_of_run script made turns core is (narrow script made turns core is closes) (few_clients script made turns core is closes)) (told_tasks_of script) heading)
+      round = ends.tells seat (DidRound (Puts d.holder d.now heading d.left d.taken d.asked)) (all_in (DidInRun script turns core is seat) deeds (DidRound (Puts d.holder d.now heading d.left d.taken d.asked)) did d.round)
+
+      calls : IsCalls (plan_of script) (id_plan_of script) (IsCallOf script) (ids_of_run script made turns core is (narrow script made turns core is closes) (few_clients script made turns core is closes)) (told_tasks_of script) heading
+      calls = round.1 owned
+
+      call : IsCallOf script calls.asked
+      call = calls.called
+
+      number : call.2.number ≡ heading.operation
+      number = sym call.6 ∙ calls.own
+
+      attempt : attempt_of x.error ≡ heading.attempt
+      attempt = ap attempt_of error ∙ (let f = calls.few in decodes (if code == 0 then 1009 else code) heading.attempt f).0
+
+      code_is : code_of x.error ≡ (if code == 0 then 1009 else code)
+      code_is = ap code_of error ∙ (let f = calls.few in decodes (if code == 0 then 1009 else code) heading.attempt f).1
+
+      whose : IsOtherCode (if code == 0 then 1009 else code) ⊎ IsFailedOn d.holder.link (if code == 0 then 1009 else code)
+      whose = dite (ℕ_discrete code 0)
+          (λ z. inl (inl (ap (λ b. if b then 1009 else code) (eq-eqb code 0 z))))
+          (λ n. subst (λ z. IsOtherCode z ⊎ IsFailedOn d.holder.link z) (sym (ap (λ b. if b then 1009 else code) (ne_eqb code 0 n)))
+          (⊎_elim (λ other. inl other) (λ f. inr (socket_id_slot d.holder.id, socket_id_version d.holder.id, f, its_link (socket_id_slot d.holder.id) (socket_id_version d.holder.id) d.holder.link code round.0 f))
+          (code_of_run seat (socket_id_slot d.holder.id) (socket_id_version d.holder.id) code (all_in (DidInRun script turns core is seat) deeds (DidStep (LoadCode (socket_id_slot d.holder.id) (socket_id_version d.holder.id)) code) did d.load) n)))
