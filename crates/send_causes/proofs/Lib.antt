@@ -32,3 +32,4 @@ pub mod DropTicks
 pub mod DropRuns
 pub mod DropWhole
 pub mod DropOfRun
+pub mod DropCauses
