@@ -1,5 +1,6 @@
 -- Why each error was posted for a message that was dropped: it is that of an attempt that stands dropped in the end, and its code is that of a link that failed, of the ending, of a reader, or of a `fail` that failed the socket of the message's link.
 use Rattle.std.proofs.Common.{true, false, ◌≡◌, ◌≢◌, ℕ, zero, suc, ◌+◌, ◌*◌, ◌/◌, ◌%◌, ◌<◌, ◌≤◌, ◌⊎◌, ◌==◌, if◌then◌else◌, Bool, inl, inr, ⊎_elim, ne_eqb, eq-eqb, List, [], ◌∷◌, length, get_or, nat_le, leb-true, refl, sym, ap, ◌∙◌, subst, arith}
+use Rattle.std.proofs.lemmas.Bool.{true≢false}
 use Rattle.std.proofs.lemmas.List.{length-map}
 use Rattle.std.specs.Prelude.{Option, Some, slice_get, slice_index}
 use Rattle.std.specs.List.{AllByRecursion}
@@ -42,7 +43,7 @@ use Rattle.sock_model.specs.Slots.{SlotLaw, live}
 use Rattle.slot_laws.proofs.Clauses.{taken_for}
 use Rattle.sock_runs.proofs.Whole.{views_ended, ended_sound, end_rests}
 use Rattle.sock_causes.specs.Causes.{Asks, WasGiven, Cause}
-use Rattle.sock_causes.specs.Explains.{FailsLife, FailsLink, step}
+use Rattle.sock_causes.specs.Explains.{FailsLife, FailsLink, is_plain, step}
 use Rattle.sock_causes.specs.Kept.{IsSpoken, StaysUsed, Story}
 use Rattle.sock_causes.specs.PlainTasks.{told_tasks_of}
 use Rattle.sock_causes.specs.Stories.{Event, In, trace_of}
@@ -50,9 +51,9 @@ use Rattle.sock_causes.proofs.Delivered.{accepted_of, accepted_at, AreQuiet, req
 use Rattle.sock_causes.proofs.Openings.{are_seats}
 use Rattle.sock_causes.proofs.Events.{event, BeforeIn, cause_of}
 use Rattle.sock_causes.proofs.Final.{at_within, at_there, idle, final}
-use Rattle.sock_causes.proofs.Lifted.{task_up, made_up, made_down}
+use Rattle.sock_causes.proofs.Lifted.{up, task_up, made_up, made_down}
 use Rattle.sock_causes.proofs.Lives.{World, task_of, given_made, one_life, OddMeans, odd_means, odd_life, fail_says}
-use Rattle.sock_causes.proofs.Members.{all_in, in_contains}
+use Rattle.sock_causes.proofs.Members.{all_in, contains_in, in_contains}
 use Rattle.sock_causes.proofs.Tasks.{one_task}
 use Rattle.client_laws.specs.Openings.{all_seats}
 use Rattle.client_laws.proofs.Fresh.{opening_fresh}
@@ -69,24 +70,14 @@ use Rattle.send_causes.proofs.DropCodes.{IsOtherCode}
 use Rattle.send_causes.proofs.DropPlaces.{log_few}
 use Rattle.send_causes.proofs.DropRuns.{IsCalls, IsDropAt, Tells}
 use Rattle.send_causes.proofs.DropTicks.{IsKnown, FailedWith}
+use Rattle.send_causes.proofs.DropWhole.{get_same}
 use Rattle.send_causes.proofs.DropWhole as whole
-
-get_same : {A : Type 0} (xs : List A) (i : ℕ) (x : A) → get_elem? xs i ≡ some x → slice_get xs i ≡ Some x
-get_same [] i x e = absurd (some-ne-none x (sym e))
-get_same (y ∷ xs) zero x e = ap (λ z. Some z) (some-injective y x e)
-get_same (y ∷ xs) (suc i) x e = get_same xs i x e
 
 -- the parts of an error
 decodes : (code n : ℕ) → n ≤ 6 → (attempt_of (error_of code n) ≡ n) × (code_of (error_of code n) ≡ code)
 decodes code n few = (omega (arith, few), omega (arith, few))
 
 module _ (script : List Item) (made : AreMade script) (turns : List Turn) (core : Core) (is : IsRunWithCalls script turns core) (closes : ClosesInRun script turns core is) where
-  abbrev p : Plan
-  p = plan_of script
-
-  abbrev ids : ℕ → ℕ
-  ids = ids_of_run script made turns core is (narrow script made turns core is closes) (few_clients script made turns core is closes)
-
   fresh : (i : ℕ) (v : View) → get_elem? (first_views script) i ≡ some v → v.lists ≡ [] ∷ []
   fresh = opening_fresh (plan_of script) (all_seats (all_tasks script) (length (opens script)))
 
@@ -160,12 +151,6 @@ module _ (script : List Item) (made : AreMade script) (turns : List Turn) (core 
       by j i a jl at op att low false late shown word links kl small = absurd (omega (arith, shown, word, low, jl, links))
 
   -- ## Who failed a life
-
-  abbrev cs : List (List Task)
-  cs = told_tasks_of script
-
-  abbrev vs : List View
-  vs = views_ended script turns core is (first_views script)
 
   seats : AreTasks (plan_of script) (told_tasks_of script)
   seats = are_seats (plan_of script) (all_tasks script) made.are (length (opens script))
@@ -244,9 +229,14 @@ module _ (script : List Item) (made : AreMade script) (turns : List Turn) (core 
 
   -- ## Steps of the run
 
+  -- a call is none of the tasks that are told
+  call_spoken : (c : ℕ) (t : Task) (asked : Asked) → IsTask (all_tasks script) core.outcomes c t → t.op ≡ ops.Call asked → IsSpoken (told_tasks_of script) t.number
+  call_spoken c t asked it op d u asks number = let a = up (all_tasks script) (length (opens script)) d u asks in
+      let same : u ≡ t = (one_task (plan_of script) (all_tasks script) made.are d c u t a.0 (it.0, it.1, contains_in it.0 t it.2) number).1 in true≢false (sym a.1 ∙ ap is_plain (ap (λ (z : Task). z.op) same ∙ op))
+
   -- a message of a call that was dropped in the run stands so in the end
-  pub dropped_of_run : (seat o n k m found : ℕ) → IsSpoken (told_tasks_of script) o → n ≤ 6 → DidInRun script turns core is seat (DidStep (DropPlace (8 * o + n) k m) found) → IsDroppedOn o n k
-  dropped_of_run seat o n k m found spoken few did = dropped_by o n (8 * o + n) k m (ends.tells seat (DidStep (DropPlace (8 * o + n) k m) found) did) spoken few refl
+  pub dropped_of_run : (seat client : ℕ) (t : Task) (asked : Asked) (n k m found : ℕ) → IsTask (all_tasks script) core.outcomes client t → t.op ≡ ops.Call asked → n ≤ 6 → DidInRun script turns core is seat (DidStep (DropPlace (8 * t.number + n) k m) found) → IsDroppedOn t.number n k
+  dropped_of_run seat client t asked n k m found it op few did = dropped_by t.number n (8 * t.number + n) k m (ends.tells seat (DidStep (DropPlace (8 * t.number + n) k m) found) did) (call_spoken client t asked it op) few refl
 
   -- a code of a life that was found in the run is one of the others, or that of a `fail` that failed the life
   pub code_of_run : (seat i h code : ℕ) → DidInRun script turns core is seat (DidStep (LoadCode i h) code) → code ≢ 0 → IsOtherCode code ⊎ FailedLife i h code

@@ -28,6 +28,13 @@ pub record IsInHand (o : ℕ) (w : Way) (trace : List Entry) (todo : List Task) 
   pub numbered : task.number ≡ o
   pub failed : (name code : ℕ) → task.op ≡ ops.Fail name code → (i found : ℕ) × In (step (SetOdd i) found) trace × (vref_version found % 2 ≡ 0)
 
+-- so it is the first that is to do
+pub first_numbered : (o : ℕ) (w : Way) (trace : List Entry) (t : Task) (ts : List Task) → IsInHand o w trace (t ∷ ts) → t.number ≡ o
+first_numbered o w trace t ts h = let same : t ≡ h.task = first_is h.is in ap (λ (z : Task). z.number) same ∙ h.numbered
+  where
+    first_is : {others_ : List Task} {u : Task} → t ∷ ts ≡ u ∷ others_ → t ≡ u
+    first_is e = cc
+
 module _ (slots requests : ℕ) (calls : ℕ → Type 0) (o : ℕ) (no_call : calls o → ⊥) where
   shorter : (w : Way) (call : Call) (found : ℕ) (trace : List Entry) (todo : List Task) → ((i : ℕ) → call ≡ SetOdd i → ⊥) → IsInHand o w (step call found ∷ trace) todo → IsInHand o w trace todo
   shorter w call found trace todo other h = record {

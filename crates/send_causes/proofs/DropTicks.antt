@@ -48,7 +48,7 @@ use Rattle.sock_causes.proofs.Tasks.{one_task, same_some}
 use Rattle.sock_causes.proofs.Tests.{split}
 use Rattle.sock_causes.proofs.Ticks.{MayMove, IsNew, elem_there, get_of}
 use Rattle.send_causes.proofs.DropCodes.{Failing, NoFail, Fails, IsOtherCode, SaysFailed, Stores, codes_first, codes_next}
-use Rattle.send_causes.proofs.DropSays.{IsInHand, says, sets_here}
+use Rattle.send_causes.proofs.DropSays.{IsInHand, first_numbered, says, sets_here}
 use Rattle.send_causes.proofs.DropWords.{version_in, code_in, coding_version, code_stays}
 
 -- ## What is known of codes
@@ -177,13 +177,10 @@ module _ (p : Plan) (clients : List (List Task)) (are : AreTasks p clients) (ove
           → ((t : Task) → In t todo → In t tasks.0) → ((t : Task) (ts : List Task) → todo ≡ t ∷ ts → w ≡ Own → trace ≡ trace_of m.seat t.number es) → SaysFailed o (next found) → In (event m.seat o (SetOdd k) word) es → ⊥
       none_before Own done trace [] j next found k word x within traced says_ old = x.0
       none_before Own done trace (t ∷ ts) j next found k word x within traced says_ old =
-          let h = says p.slots p.requests (IsSpoken clients) o unspoken Own lost done (step (SetOdd j) found ∷ trace) (t ∷ ts) (next found) (x.1 found) says_ in let same : t ≡ h.task = first_is h.is in let number : t.number ≡ o = ap (λ (z : Task). z.number) same ∙ h.numbered in
+          let number = first_numbered o Own (step (SetOdd j) found ∷ trace) t ts (says p.slots p.requests (IsSpoken clients) o unspoken Own lost done (step (SetOdd j) found ∷ trace) (t ∷ ts) (next found) (x.1 found) says_) in
           let there : In (step (SetOdd k) word) trace = subst (In (step (SetOdd k) word)) (ap (λ z. trace_of m.seat z es) (sym number) ∙ sym (traced t ts refl refl)) (to_trace es (event m.seat o (SetOdd k) word) old) in
           ⊎_elim (λ f. no_odd k f.2 f.0 word f.3 (step (SetOdd k) word) refl (subst (In (step (SetOdd k) word)) f.5 there))
           (λ f. let op : ops.Send f.2.name f.2.bytes ≡ ops.Fail own.1 code = sym f.2.op ∙ (ap (λ (z : Task). z.op) (is_own t (within t (inl refl)) number) ∙ own.4) in absurd (cc)) x.0
-        where
-          first_is : {others_ : List Task} {u : Task} → t ∷ ts ≡ u ∷ others_ → t ≡ u
-          first_is e = cc
       none_before Beside done trace todo j next found k word x within traced says_ old = let h = says p.slots p.requests (IsSpoken clients) o unspoken Beside lost done (step (SetOdd j) found ∷ trace) todo (next found) (x.1 found) says_ in let z : Beside ≡ Own = h.own in cc
       none_before Closing done trace todo j next found k word x within traced says_ old = let h = says p.slots p.requests (IsSpoken clients) o unspoken Closing lost done trace todo (next found) (x.1 found) says_ in let z : Closing ≡ Own = h.own in cc
 

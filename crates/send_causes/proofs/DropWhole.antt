@@ -55,7 +55,7 @@ use Rattle.send_causes.proofs.Runs.{AreLabelledIn, IsCallOf, first, set_up_law, 
 
 -- ## How a run begins
 
-get_same : {A : Type 0} (xs : List A) (i : ℕ) (x : A) → get_elem? xs i ≡ some x → slice_get xs i ≡ Some x
+pub get_same : {A : Type 0} (xs : List A) (i : ℕ) (x : A) → get_elem? xs i ≡ some x → slice_get xs i ≡ Some x
 get_same [] i x e = absurd (some-ne-none x (sym e))
 get_same (y ∷ xs) zero x e = ap (λ z. Some z) (some-injective y x e)
 get_same (y ∷ xs) (suc i) x e = get_same xs i x e
@@ -71,9 +71,6 @@ others_codes mine (suc n) calls os zero x at = subst (Stores mine NoFail) (some-
 others_codes mine (suc n) calls os (suc i) x at = others_codes mine n calls os i x at
 
 module _ (script : List Item) (are : AreTasks (plan_of script) (all_tasks script)) where
-  abbrev told : List (List Task)
-  told = told_tasks_of script
-
   -- each `fail` of a client is one that is told
   owns_fail : (j : ℕ) (ts : List Task) → slice_get (all_tasks script) j ≡ Some ts → (t : Task) → In t ts → OwnsFail (IsFailOf (told_tasks_of script) j) t.number t.op
   owns_fail j ts at t there = by t.op refl
