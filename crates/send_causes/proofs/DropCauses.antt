@@ -1,21 +1,19 @@
 -- An error that was posted for a dropped message tells why an attempt of its call was followed by another, and why the call failed.
-use Rattle.std.proofs.Common.{◌≡◌, ℕ, ◌+◌, ◌<◌, ◌≤◌, ◌⊎◌, inl, inr, ⊎_elim, List, [], ◌∷◌, length, sym, ap, ◌∙◌, subst, arith}
-use Rattle.std.specs.Prelude.{Some, slice_get}
+use Rattle.std.proofs.Common.{◌≡◌, ℕ, ◌+◌, ◌<◌, ◌≤◌, ◌⊎◌, inl, inr, ⊎_elim, List, [], length, sym, ap, ◌∙◌, subst, arith}
 use Rattle.std.specs.List.{AllByRecursion}
 use Rattle.brpc_model.specs.Items.{Item}
 use Rattle.brpc_model.specs.Operations.{Turn}
 use Rattle.report_fits.proofs.Reading.{InRange}
 use Rattle.report_fits.proofs.Targets.{AreThere}
 use Rattle.corr_core.specs.Word.{code_of, attempt_of}
-use Rattle.sock_message.specs.Asked.{Asked, name_of}
-use Rattle.sock_programs.specs.declared.task.Op.{Op}
+use Rattle.sock_message.specs.Asked.{name_of}
 use Rattle.sock_programs.specs.declared.task.Op.TheVariants as ops
 use Rattle.sock_programs.specs.declared.task.Task.{Task}
 use Rattle.sock_programs.specs.Cores.{Core}
 use Rattle.sock_programs.specs.Tasks.{plan_of, id_plan_of}
 use Rattle.sock_programs.specs.Scripts.{all_tasks, IsRunWithCalls}
 use Rattle.sock_programs.specs.Told.{IsTask, Made}
-use Rattle.sock_programs.specs.ToldCalls.{Accepted, Fixed, IsSent, OfSend, OfCall, IsDropped, IsFailing, IsFailedWith, WhyLost, WasFailing, WhyAgain, AfterDrop, FailedBy, BySocket, ByFail}
+use Rattle.sock_programs.specs.ToldCalls.{Accepted, IsSent, OfSend, OfCall, IsDropped, IsFailing, IsFailedWith, WhyLost, WasFailing, WhyAgain, AfterDrop, FailedBy, BySocket, ByFail}
 use Rattle.sock_causes.specs.Causes.{Asks}
 use Rattle.sock_causes.proofs.Members.{all_in, contains_in, get_all, get_within}
 use Rattle.sock_causes.proofs.Tasks.{one_link, one_task}
@@ -25,11 +23,9 @@ use Rattle.call_causes.specs.Posts.{Post}
 use Rattle.call_causes.proofs.Clients.{FitsOp}
 use Rattle.call_causes.proofs.Scripts.{begins}
 use Rattle.send_causes.proofs.Beside.{gave_of_run, fixed_of_run, orders_here}
-use Rattle.send_causes.proofs.DropCodes.{IsOtherCode}
 use Rattle.send_causes.proofs.DropOfRun.{IsDroppedOn, IsFailedOn, DropOf}
 
 module _ (script : List Item) (made : AreMade script) (turns : List Turn) (core : Core) (is : IsRunWithCalls script turns core) (closes : ClosesInRun script turns core is) where
-
   -- it stands dropped
   pub is_dropped : (o n k : ℕ) → IsDroppedOn script made turns core is closes o n k → IsDropped (plan_of script) (all_tasks script) core.outcomes (fixed_of_run script made turns core is closes) (gave_of_run script made turns core is closes) (orders_here script made turns core is closes) o n
   is_dropped o n k d = (k, d.place, d.at, d.late)

@@ -1,5 +1,5 @@
 -- A code of a socket is one of the ending, of a reader or of a link that failed, or a `fail` stores its own, behind the step by which it set a life failed.
-use Rattle.std.proofs.Common.{inl, inr, ⊎_elim, ◌⊎◌, refl, ap, eqb-true, ◌≡◌, ℕ, zero, suc, ◌+◌, ◌-◌, ◌/◌, ◌%◌, ◌==◌, ◌&&◌, not, nat_lt, nat_le, eqb, ne_eqb, ◌≢◌, ◌≤◌, arith, Bool, true, false, cond, List, [], ◌∷◌, ◌++◌, length, sym, subst}
+use Rattle.std.proofs.Common.{inl, inr, ⊎_elim, ◌⊎◌, refl, ap, eqb-true, ◌≡◌, ℕ, zero, suc, ◌+◌, ◌-◌, ◌/◌, ◌%◌, ◌==◌, ◌&&◌, not, nat_lt, nat_le, Bool, true, false, cond, List, [], ◌∷◌, ◌++◌, length, subst}
 use Rattle.std.specs.Prelude.{Option, Some, None}
 use Rattle.sock_words.specs.Words.{socket_id_version, socket_id_slot, vref_version, vref_nref, at_word_first, at_word_slot, at_word_link, at_word_attempt}
 use Rattle.sock_words.specs.declared.outcome.Outcome.TheVariants.{Unopened, Gone, Full, Held, Freed, Kept, Failed, Already}
@@ -31,12 +31,9 @@ use Rattle.sock_programs.specs.Readers as readers
 use Rattle.sock_programs.specs.Readers.{LIMIT, slot_in, version_in, has_response, is_early, answer, answered, responses, last_of, ended_by, read_on, took, discarded, kept_for, ends_with, posted_last, post_each, thrown_away, read, reader}
 use Rattle.brpc_model.specs.Frame.{Frame}
 use Rattle.brpc_model.specs.Stream as streams
-use Rattle.brpc_model.specs.Order.{EachBefore}
 use Rattle.std.specs.List.{AllByRecursion}
-use Rattle.sock_causes.specs.PlainTasks.{OwnsCall}
-use Rattle.sock_causes.proofs.Seats.{Less}
 use Rattle.sock_programs.specs.Clients.{HeldLife, held_under, without_name, give_back, drop_of, operation, client_from, ending_of}
-use Rattle.sock_programs.specs.Cores.{resolved, still_waiting, next_step}
+use Rattle.sock_programs.specs.Cores.{resolved, next_step}
 use Rattle.sock_runs.specs.Sound.{first_step}
 
 -- a `fail` that is operation o failed a life of this slot, and is to store this code

@@ -1,17 +1,15 @@
 -- Why each error was posted for a message that was dropped: it is that of an attempt that stands dropped in the end, and its code is that of a link that failed, of the ending, of a reader, or of a `fail` that failed the socket of the message's link.
-use Rattle.std.proofs.Common.{true, false, ◌≡◌, ◌≢◌, ℕ, zero, suc, ◌+◌, ◌*◌, ◌/◌, ◌%◌, ◌<◌, ◌≤◌, ◌⊎◌, ◌==◌, if◌then◌else◌, Bool, inl, inr, ⊎_elim, ne_eqb, eq-eqb, List, [], ◌∷◌, length, get_or, nat_le, leb-true, refl, sym, ap, ◌∙◌, subst, arith}
+use Rattle.std.proofs.Common.{true, false, ◌≡◌, ◌≢◌, ℕ, ◌+◌, ◌*◌, ◌%◌, ◌<◌, ◌≤◌, ◌⊎◌, ◌==◌, if◌then◌else◌, Bool, inl, inr, ⊎_elim, ne_eqb, eq-eqb, List, [], ◌∷◌, length, get_or, nat_le, leb-true, refl, sym, ap, ◌∙◌, subst, arith}
 use Rattle.std.proofs.lemmas.Bool.{true≢false}
-use Rattle.std.proofs.lemmas.List.{length-map}
 use Rattle.std.specs.Prelude.{Option, Some, slice_get, slice_index}
 use Rattle.std.specs.List.{AllByRecursion}
 use mathlib.Core.Logic.{dite}
-use mathlib.Core.Option.{some, some-injective, some-ne-none}
+use mathlib.Core.Option.{some}
 use native.Mathlib.Decide.{ℕ_discrete}
 use lib.ListN.{get_elem?}
 use Rattle.brpc_model.specs.Items.{Item}
 use Rattle.brpc_model.specs.Operations.{Turn}
-use Rattle.sock_words.specs.Words.{socket_id_slot, socket_id_version, vref_version}
-use Rattle.sock_words.specs.declared.plain.Plan.{Plan}
+use Rattle.sock_words.specs.Words.{socket_id_slot, socket_id_version}
 use Rattle.sock_words.specs.declared.outcome.Outcome.{Outcome}
 use Rattle.sock_words.specs.declared.outcome.Outcome.TheVariants.{Failed}
 use Rattle.sock_model.specs.declared.chain.Entry.{Entry}
@@ -26,7 +24,7 @@ use Rattle.slot_laws.proofs.Numbers.{life_le}
 use Rattle.slot_laws.proofs.Sums.{total_bound}
 use Rattle.chain_laws.proofs.Frames.{in_log}
 use Rattle.corr_core.specs.Word.{error_of, code_of, attempt_of}
-use Rattle.sock_message.specs.Asked.{Asked, name_of}
+use Rattle.sock_message.specs.Asked.{Asked}
 use Rattle.sock_programs.specs.declared.task.Op.TheVariants as ops
 use Rattle.sock_programs.specs.declared.task.Task.{Task}
 use Rattle.sock_programs.specs.Calls.{SetOdd, ClaimRequest, LoadCode, DropPlace}
@@ -34,7 +32,7 @@ use Rattle.sock_programs.specs.Cores.{Core}
 use Rattle.sock_programs.specs.Tasks.{opens, plan_of, id_plan_of}
 use Rattle.sock_programs.specs.Scripts.{all_tasks, IsRunWithCalls}
 use Rattle.sock_programs.specs.Told.{AreTasks, IsTask, Became, Made}
-use Rattle.sock_programs.specs.ToldCalls.{Accepted, Order, label, IsAt, IsDropped, IsFailedWith}
+use Rattle.sock_programs.specs.ToldCalls.{Accepted, IsAt}
 use Rattle.sock_programs.specs.Writings.{Puts}
 use Rattle.sock_runs.specs.Sound.{state, Sound, AllRest, MOST_PLACES}
 use Rattle.sock_runs.specs.GoesOn.{GoesOn, HasNothing}
@@ -42,17 +40,17 @@ use Rattle.sock_model.specs.References.{slot_facts}
 use Rattle.sock_model.specs.Slots.{SlotLaw, live}
 use Rattle.slot_laws.proofs.Clauses.{taken_for}
 use Rattle.sock_runs.proofs.Whole.{views_ended, ended_sound, end_rests}
-use Rattle.sock_causes.specs.Causes.{Asks, WasGiven, Cause}
+use Rattle.sock_causes.specs.Causes.{WasGiven, Cause}
 use Rattle.sock_causes.specs.Explains.{FailsLife, FailsLink, is_plain, step}
 use Rattle.sock_causes.specs.Kept.{IsSpoken, StaysUsed, Story}
 use Rattle.sock_causes.specs.PlainTasks.{told_tasks_of}
 use Rattle.sock_causes.specs.Stories.{Event, In, trace_of}
-use Rattle.sock_causes.proofs.Delivered.{accepted_of, accepted_at, AreQuiet, requests_used}
+use Rattle.sock_causes.proofs.Delivered.{accepted_at, AreQuiet, requests_used}
 use Rattle.sock_causes.proofs.Openings.{are_seats}
 use Rattle.sock_causes.proofs.Events.{event, BeforeIn, cause_of}
 use Rattle.sock_causes.proofs.Final.{at_within, at_there, idle, final}
 use Rattle.sock_causes.proofs.Lifted.{up, task_up, made_up, made_down}
-use Rattle.sock_causes.proofs.Lives.{World, task_of, given_made, one_life, OddMeans, odd_means, odd_life, fail_says}
+use Rattle.sock_causes.proofs.Lives.{World, task_of, given_made, one_life, odd_means, odd_life, fail_says}
 use Rattle.sock_causes.proofs.Members.{all_in, contains_in, in_contains}
 use Rattle.sock_causes.proofs.Tasks.{one_task}
 use Rattle.client_laws.specs.Openings.{all_seats}
@@ -69,7 +67,7 @@ use Rattle.send_causes.proofs.Sends.{owed, narrow, few_clients, labelled, openin
 use Rattle.send_causes.proofs.DropCodes.{IsOtherCode}
 use Rattle.send_causes.proofs.DropPlaces.{log_few}
 use Rattle.send_causes.proofs.DropRuns.{IsCalls, IsDropAt, Tells}
-use Rattle.send_causes.proofs.DropTicks.{IsKnown, FailedWith}
+use Rattle.send_causes.proofs.DropTicks.{FailedWith}
 use Rattle.send_causes.proofs.DropWhole.{get_same}
 use Rattle.send_causes.proofs.DropWhole as whole
 

@@ -1,5 +1,5 @@
 -- The place word of a call's message, once it is written, stays: no other message has this word.
-use Rattle.std.proofs.Common.{◌≡◌, ◌≢◌, ℕ, zero, suc, ◌+◌, ◌*◌, ◌<◌, ◌≤◌, ◌⊎◌, inl, inr, ⊎_elim, Bool, true, false, cond, eqb, eq-eqb, ne_eqb, List, [], ◌∷◌, ◌++◌, length, get_or, get_or-set_other, refl, sym, ap, ◌∙◌, subst, arith}
+use Rattle.std.proofs.Common.{◌≡◌, ◌≢◌, ℕ, zero, suc, ◌+◌, ◌*◌, ◌<◌, ◌≤◌, ◌⊎◌, inl, inr, ⊎_elim, Bool, true, false, cond, eqb, eq-eqb, ne_eqb, List, [], ◌∷◌, ◌++◌, get_or, get_or-set_other, refl, sym, ap, ◌∙◌, subst, arith}
 use Rattle.std.proofs.lemmas.Bool.{true≢false}
 use Rattle.std.specs.List.{AllByRecursion}
 use Rattle.std.specs.Prelude.{slice_get, Some}
@@ -31,7 +31,6 @@ use Rattle.sock_programs.specs.Calls.{Call, ClaimSlot, GiveBirth, AddRef, SubRef
 use Rattle.sock_programs.specs.Cores.{Core, SeatState, word_of, word_after, found_at, words_after}
 use Rattle.sock_programs.specs.Sends.{heading_of}
 use Rattle.sock_programs.specs.Ticks.{Moment, IsAnswered, ticked}
-use Rattle.sock_programs.specs.Told.{AreTasks}
 use Rattle.sock_runs.specs.May.{May}
 use Rattle.sock_runs.specs.Sound.{state, Sound, IsFitting}
 use Rattle.sock_runs.proofs.Cases.{tick_keeps_marks}

@@ -1,12 +1,11 @@
 -- What the steps by which messages were dropped tell at the end of a run.
-use Rattle.std.proofs.Common.{◌≡◌, ◌≢◌, ℕ, zero, suc, ◌+◌, ◌*◌, ◌%◌, ◌<◌, ◌≤◌, ◌⊎◌, inl, inr, ⊎_elim, Bool, true, false, List, [], ◌∷◌, ◌++◌, length, replicate, get_or, get_or-set_same, refl, sym, ap, ◌∙◌, subst, arith}
+use Rattle.std.proofs.Common.{◌≡◌, ◌≢◌, ℕ, zero, suc, ◌+◌, ◌*◌, ◌<◌, ◌≤◌, ◌⊎◌, inl, inr, ⊎_elim, Bool, true, false, List, [], ◌∷◌, replicate, get_or, get_or-set_same, refl, sym, ap, ◌∙◌, subst, arith}
 use mathlib.Core.Logic.{dite}
-use mathlib.Core.Option.{Option, none, some, some-injective, some-ne-none}
+use mathlib.Core.Option.{none, some}
 use native.Mathlib.Decide.{ℕ_discrete}
 use lib.ListN.{get_elem?}
 use Rattle.sock_words.specs.Words.{socket_id_version, socket_id_slot}
 use Rattle.sock_words.specs.declared.plain.Plan.{Plan}
-use Rattle.sock_model.specs.declared.chain.Entry.{Entry}
 use Rattle.sock_model.specs.declared.chain.Heading.{Heading}
 use Rattle.sock_model.specs.declared.view.View.{View}
 use Rattle.sock_model.specs.Deliveries.{place_value}
@@ -20,13 +19,12 @@ use Rattle.corr_core.specs.declared.marks.Plan.{Plan as IdPlan}
 use Rattle.sock_message.specs.Asked.{Asked}
 use Rattle.sock_programs.specs.declared.task.Task.{Task}
 use Rattle.sock_programs.specs.Calls.{Call, GiveBirth, LoadCode, DropPlace}
-use Rattle.sock_programs.specs.Cores.{Core, SeatState, word_of, found_at, stepped}
+use Rattle.sock_programs.specs.Cores.{Core, SeatState, stepped}
 use Rattle.sock_programs.specs.Programs.{Program, Do, Say, Sent, Rest, TakeMessage, TakeHome, PutHome, PutBytes, AskReady, Write, Aside, Round, Keep, Retries}
 use Rattle.sock_programs.specs.Ticks.{Answer, Moment, IsAnswered, AreAnswered, quiet, step_with, tick_with, ticked, run}
 use Rattle.sock_programs.specs.Told.{AreTasks}
 use Rattle.sock_programs.specs.Writings.{Holder, Puts}
 use Rattle.sock_runs.specs.GoesOn.{GoesOn}
-use Rattle.sock_runs.specs.May.{May}
 use Rattle.sock_runs.specs.Sound.{state, Sound, AreFew, IsFitting, AreFitting, first_step, views_after, views_along, MOST_PLACES}
 use Rattle.sock_runs.proofs.Cases.{goes_first}
 use Rattle.sock_runs.proofs.Few.{places_small}
@@ -36,17 +34,16 @@ use Rattle.sock_runs.proofs.Rounds.{begins_round}
 use Rattle.sock_runs.proofs.Ticks.{sound_ticks}
 use Rattle.sock_causes.specs.Causes.{WasGiven}
 use Rattle.sock_causes.specs.Kept.{IsSpoken, Story}
-use Rattle.sock_causes.specs.Stories.{Event, In, marked}
+use Rattle.sock_causes.specs.Stories.{Event, In}
 use Rattle.sock_causes.proofs.Final.{at_there, at_within}
 use Rattle.sock_causes.proofs.Events.{event, marked_given, given_by}
 use Rattle.sock_causes.proofs.Ticks.{MayMove, IsNew, tick_story}
 use Rattle.label_runs.specs.Labels.{Trial}
-use Rattle.send_causes.specs.Counts.{IsOfCall, LabelLaw, StoresOwn, AreLabelled}
+use Rattle.send_causes.specs.Counts.{LabelLaw, StoresOwn, AreLabelled}
 use Rattle.id_runs.specs.Goes.{SoundIds, IsFittingIds}
 use Rattle.id_runs.specs.Held.{IdView}
 use Rattle.joint_runs.proofs.Both.{AreBounded}
-use Rattle.sock_runs.proofs.Bounded.{IsBounded}
-use Rattle.send_causes.specs.Refused.{Deed, DidStep, DidPut, DidRound, DidAt, DidIn}
+use Rattle.send_causes.specs.Refused.{Deed, DidStep, DidRound, DidAt, DidIn}
 use Rattle.send_causes.proofs.DropPlaces.{log_calls, in_hand, place_stays}
 use Rattle.send_causes.proofs.DropTicks.{IsKnown, CodesLaw, known_later, codes_ticks}
 use Rattle.send_causes.proofs.DropWords.{held_version, live_none, code_in}
@@ -107,8 +104,13 @@ module _ (p : Plan) (q : IdPlan) (is_call : Asked → Type 0) (ids : ℕ → ℕ
   PlacesStay c d = (o n l : ℕ) → IsSpoken clients o → n < 8 → l ≡ 8 * o + n → l < 8 * p.operations → get_or c.words (place_word p l) 0 ≢ 0 → get_or d.words (place_word p l) 0 ≡ get_or c.words (place_word p l) 0
 
   drop_on : (c d : Core) → PlacesStay c d → (l k m : ℕ) → IsDropAt c l k m → IsDropAt d l k m
-  drop_on c d stay l k m x = record { low = x.low; link = x.link; small = x.small; word = λ o n spoken few label. let e = x.word o n spoken few label in
-      stay o n l spoken few label x.low (λ z. let none_ : 0 ≡ place_value true k m = sym z ∙ e in omega (arith, none_)) ∙ e }
+  drop_on c d stay l k m x = record {
+    low = x.low;
+    link = x.link;
+    small = x.small;
+    word = λ o n spoken few label. let e = x.word o n spoken few label in
+        stay o n l spoken few label x.low (λ z. let none_ : 0 ≡ place_value true k m = sym z ∙ e in omega (arith, none_)) ∙ e;
+  }
 
   pub tells_on : (c d : Core) (es fresh : List Event) → ((e : Event) → In e es → In e fresh) → PlacesStay c d → (deed : Deed) → Tells c es deed → Tells d fresh deed
   tells_on c d es fresh kept stay (DidStep (LoadCode i h) code) t = λ some_. known_later clients es fresh kept i h code (t some_)

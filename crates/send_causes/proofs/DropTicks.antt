@@ -1,23 +1,21 @@
 -- Each tick keeps who stored the codes of sockets: the code of a life that failed is one of the ending, a reader or a failed link, or a `fail` with this code failed the life.
-use Rattle.std.proofs.Common.{◌≡◌, ◌≢◌, ℕ, zero, suc, ◌+◌, ◌-◌, ◌%◌, ◌<◌, ◌≤◌, ◌⊎◌, inl, inr, ⊎_elim, Bool, true, false, cond, eqb, eq-eqb, List, [], ◌∷◌, ◌++◌, length, set, get_or, refl, sym, ap, ◌∙◌, subst, arith}
+use Rattle.std.proofs.Common.{◌≡◌, ◌≢◌, ℕ, ◌+◌, ◌%◌, ◌<◌, ◌⊎◌, inl, inr, ⊎_elim, Bool, cond, eq-eqb, List, [], ◌∷◌, ◌++◌, length, set, refl, sym, ap, ◌∙◌, subst, arith}
 use Rattle.std.specs.Prelude.{Some, slice_get}
 use Rattle.std.specs.Prelude as std
 use mathlib.Core.Logic.{dite}
-use mathlib.Core.Option.{Option, none, some, some-injective, some-ne-none}
+use mathlib.Core.Option.{Option, none, some}
 use native.Mathlib.Decide.{ℕ_discrete}
 use lib.ListN.{get_elem?}
 use Rattle.atomic_table.proofs.Lists.{at_set}
-use Rattle.sock_words.specs.Words.{vref_version, socket_id_slot, socket_id_version}
+use Rattle.sock_words.specs.Words.{vref_version}
 use Rattle.sock_words.specs.declared.plain.Plan.{Plan}
 use Rattle.sock_model.specs.declared.home.Home.{Home}
 use Rattle.sock_model.specs.declared.marks.Mark.TheVariants.{Hold, Coding, Failer, Saw}
 use Rattle.sock_model.specs.declared.marks.SlotMark.{SlotMark}
-use Rattle.sock_model.specs.declared.chain.Right.{Right}
 use Rattle.sock_model.specs.declared.view.View.{View}
-use Rattle.sock_model.specs.ChainRows.{taken_right}
 use Rattle.sock_model.specs.Marks.{about, at}
 use Rattle.sock_model.specs.SlotRows.{marks_of, failed}
-use Rattle.sock_model.specs.Weights.{total, is_coding, is_hold}
+use Rattle.sock_model.specs.Weights.{total, is_coding}
 use Rattle.slot_laws.proofs.Numbers.{only-at}
 use Rattle.slot_laws.proofs.Sums.{about-here}
 use Rattle.sock_programs.specs.declared.task.Op.TheVariants as ops
@@ -25,28 +23,25 @@ use Rattle.sock_programs.specs.declared.task.Task.{Task}
 use Rattle.sock_programs.specs.Beside.{calls_after}
 use Rattle.sock_programs.specs.Calls.{Call, AddRef, LoadName, SetOdd, StoreCode}
 use Rattle.sock_programs.specs.Cores.{Calls, Core, SeatState, word_of, word_after, found_at, words_after, homes_after, hand_after, lies_at, first_of, others_of, link_place, resolved, waiting_at, next_step, with_seat}
-use Rattle.sock_programs.specs.Drops.{call_in, next_call}
-use Rattle.sock_programs.specs.Heads.{Retry}
+use Rattle.sock_programs.specs.Drops.{call_in}
 use Rattle.sock_programs.specs.Programs.{Program, Do, Rest, TakeMessage, TakeHome, PutHome, PutBytes, AskReady, Aside}
 use Rattle.sock_programs.specs.Ticks.{Moment, IsAnswered, fed, with_places, onto_first, ticked}
 use Rattle.sock_programs.specs.Told.{AreTasks}
 use Rattle.sock_runs.specs.May.{May}
 use Rattle.sock_runs.specs.Rows.{row, hand_at, took_message, link_away, link_home_again, took_bytes}
 use Rattle.sock_runs.specs.Sound.{Sound, first_step, views_after}
-use Rattle.sock_runs.proofs.Cases.{with_rights, right_rights, put_rights}
 use Rattle.sock_steps.proofs.Maps.{set_at}
 use Rattle.sock_causes.specs.Causes.{Asks}
-use Rattle.sock_causes.specs.Explains.{Way, Own, Beside, Closing, Done, ExplainsBy, FailsLife, FailsLink, IsWriterOf, step}
-use Rattle.sock_causes.specs.Kept.{IsSpoken, IsTraced, SeatAt, SeatStory, Story}
+use Rattle.sock_causes.specs.Explains.{Way, Own, Beside, Closing, Done, ExplainsBy, step}
+use Rattle.sock_causes.specs.Kept.{IsSpoken, IsTraced, SeatStory, Story}
 use Rattle.sock_causes.specs.Stories.{Entry, Event, In, trace_of, trace_now}
 use Rattle.sock_causes.proofs.Cases.{tick_cases}
 use Rattle.sock_causes.proofs.Events.{event}
 use Rattle.sock_causes.proofs.Final.{at_within}
 use Rattle.sock_causes.proofs.Members.{from_trace, to_trace}
 use Rattle.sock_causes.proofs.Seats.{undo_in}
-use Rattle.sock_causes.proofs.Tasks.{one_task, same_some}
-use Rattle.sock_causes.proofs.Tests.{split}
-use Rattle.sock_causes.proofs.Ticks.{MayMove, IsNew, elem_there, get_of}
+use Rattle.sock_causes.proofs.Tasks.{one_task}
+use Rattle.sock_causes.proofs.Ticks.{MayMove, IsNew, get_of}
 use Rattle.send_causes.proofs.DropCodes.{Failing, NoFail, Fails, IsOtherCode, SaysFailed, Stores, codes_first, codes_next}
 use Rattle.send_causes.proofs.DropSays.{IsInHand, first_numbered, says, sets_here}
 use Rattle.send_causes.proofs.DropWords.{version_in, code_in, coding_version, code_stays}

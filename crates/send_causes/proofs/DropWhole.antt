@@ -1,7 +1,6 @@
 -- What the steps by which messages were dropped tell at the end of a whole run.
-use Rattle.std.proofs.Common.{true, false, ◌≡◌, ◌≢◌, ℕ, zero, suc, ◌+◌, ◌-◌, ◌*◌, ◌%◌, ◌<◌, ◌≤◌, ◌⊎◌, inl, inr, ⊎_elim, ◌++◌, List, [], ◌∷◌, length, map, replicate, refl, sym, ap, ◌∙◌, subst, arith}
+use Rattle.std.proofs.Common.{true, false, ◌≡◌, ℕ, zero, suc, ◌+◌, ◌-◌, ◌≤◌, ◌⊎◌, inl, inr, ⊎_elim, ◌++◌, List, [], ◌∷◌, length, replicate, refl, sym, ap, subst, arith}
 use Rattle.std.specs.Prelude.{slice_get, Some}
-use Rattle.std.specs.List.{AllByRecursion}
 use mathlib.Core.Logic.{dite}
 use mathlib.Core.Option.{some, some-injective, some-ne-none}
 use native.Mathlib.Decide.{ℕ_discrete}
@@ -9,21 +8,19 @@ use lib.ListN.{get_elem?}
 use Rattle.atomic_table.proofs.Lists.{at_set}
 use Rattle.brpc_model.specs.Items.{Item}
 use Rattle.brpc_model.specs.Operations.{Turn, clients}
-use Rattle.sock_words.specs.declared.plain.Plan.{Plan}
 use Rattle.sock_model.specs.declared.view.View.{View}
 use Rattle.sock_model.specs.References.{slot_facts}
 use Rattle.sock_model.specs.Slots.{live}
 use Rattle.slot_laws.proofs.Numbers.{life-in}
-use Rattle.sock_message.specs.Asked.{Asked}
 use Rattle.sock_programs.specs.declared.task.Op.{Op}
 use Rattle.sock_programs.specs.declared.task.Op.TheVariants as ops
 use Rattle.sock_programs.specs.declared.task.Sizes.{Sizes}
 use Rattle.sock_programs.specs.declared.task.Task.{Task}
 use Rattle.sock_programs.specs.Clients.{client_from, ending_of}
-use Rattle.sock_programs.specs.Cores.{Core, SeatState, resolved, waiting_at, next_step, with_seat}
+use Rattle.sock_programs.specs.Cores.{Core, SeatState, resolved, waiting_at, next_step}
 use Rattle.sock_programs.specs.Programs.{Program, Rest}
 use Rattle.sock_programs.specs.Readers.{reader}
-use Rattle.sock_programs.specs.Scripts.{sizes_of, programs, readers_from, all_programs, all_tasks, opened, set_up, played, ending, is_ending, IsRunWithCalls}
+use Rattle.sock_programs.specs.Scripts.{sizes_of, programs, readers_from, all_programs, all_tasks, opened, set_up, played, is_ending, IsRunWithCalls}
 use Rattle.sock_programs.specs.Tasks.{opens, calls, plan_of, id_plan_of}
 use Rattle.sock_programs.specs.Ticks.{quiet, run}
 use Rattle.sock_programs.specs.Told.{AreTasks}
@@ -33,9 +30,8 @@ use Rattle.sock_runs.proofs.Bounds.{law}
 use Rattle.sock_runs.proofs.LinkTicks.{RetriesGo}
 use Rattle.sock_runs.proofs.Opening.{mapped, appended}
 use Rattle.sock_runs.proofs.Whole.{Begins, AreFittingIn, closing_of, rested_of, views_played, views_closed, views_ended, set_up_answered, end_answered, rested_ahead, rested_idle, closing_sound, closed_sound}
-use Rattle.sock_causes.specs.Causes.{Asks}
 use Rattle.sock_causes.specs.Explains.{is_plain}
-use Rattle.sock_causes.specs.Kept.{IsSpoken, Story}
+use Rattle.sock_causes.specs.Kept.{Story}
 use Rattle.sock_causes.specs.PlainTasks.{told_tasks_of}
 use Rattle.sock_causes.specs.Stories.{Event, In}
 use Rattle.sock_causes.proofs.Begin.{start_story}
@@ -50,8 +46,8 @@ use Rattle.send_causes.specs.Refused.{Deed, DidInRun}
 use Rattle.send_causes.proofs.DropCodes.{Failing, NoFail, Stores, OwnsFail, client_codes, ending_codes, reader_codes, codes_next}
 use Rattle.send_causes.proofs.DropRuns.{Tells, tells_on, Scene, Along, seats_along, setup_along}
 use Rattle.send_causes.proofs.DropTicks.{IsFailOf, SeatCodes, CodesLaw}
-use Rattle.send_causes.proofs.DropWords.{version_in, code_in}
-use Rattle.send_causes.proofs.Runs.{AreLabelledIn, IsCallOf, first, set_up_law, closing_law, closed_law}
+use Rattle.send_causes.proofs.DropWords.{version_in}
+use Rattle.send_causes.proofs.Runs.{AreLabelledIn, IsCallOf, first, closing_law, closed_law}
 
 -- ## How a run begins
 

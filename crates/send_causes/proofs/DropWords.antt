@@ -1,12 +1,12 @@
 -- What a step does to the code of a failed slot: it stays, or it is stored just then.
-use Rattle.std.proofs.Common.{◌≡◌, ◌≢◌, ℕ, ◌+◌, ◌*◌, ◌/◌, ◌%◌, ◌<◌, ◌≤◌, ◌⊎◌, inl, inr, ⊎_elim, Bool, true, false, cond, eqb, eqb-true, List, bit_or, length, get_or, set, get_or-set_other, get_or-set_same, refl, sym, ap, ◌∙◌, subst, arith}
+use Rattle.std.proofs.Common.{◌≡◌, ◌≢◌, ℕ, ◌+◌, ◌*◌, ◌%◌, ◌<◌, ◌≤◌, ◌⊎◌, inl, inr, Bool, true, false, cond, eqb, List, bit_or, get_or, set, get_or-set_other, get_or-set_same, refl, sym, ap, ◌∙◌, arith}
 use mathlib.Core.Logic.{dite}
 use mathlib.Core.Option.{some}
 use native.Mathlib.Decide.{ℕ_discrete}
 use lib.ListN.{get_elem?}
 use lib.Seq.{set-get_or}
 use Rattle.atomic_table.proofs.Lists.{at_map}
-use Rattle.sock_words.specs.Words.{socket_id_version, socket_id_slot, vref_version}
+use Rattle.sock_words.specs.Words.{socket_id_slot, vref_version}
 use Rattle.sock_words.specs.declared.plain.Plan.{Plan}
 use Rattle.sock_model.specs.declared.marks.Mark.{Mark}
 use Rattle.sock_model.specs.declared.marks.Mark.TheVariants.{Coding}
@@ -15,9 +15,9 @@ use Rattle.sock_model.specs.Layout.{tag_word, ref_word, link_word, head_word, co
 use Rattle.sock_model.specs.Marks.{about}
 use Rattle.sock_model.specs.References.{slot_facts}
 use Rattle.sock_model.specs.SlotRows.{marks_of}
-use Rattle.sock_model.specs.Slots.{KeepsCodes, count, live}
-use Rattle.sock_model.specs.Weights.{total, is_hold, is_coding, is_any_coding}
-use Rattle.slot_laws.proofs.Numbers.{or-even, or-odd, only_le}
+use Rattle.sock_model.specs.Slots.{KeepsCodes, live}
+use Rattle.sock_model.specs.Weights.{is_hold, is_coding, is_any_coding}
+use Rattle.slot_laws.proofs.Numbers.{or-odd, only_le}
 use Rattle.slot_laws.proofs.Sums.{total_mono}
 use Rattle.sock_steps.proofs.Places.{own_count}
 use Rattle.sock_programs.specs.Calls.{Call, ClaimSlot, GiveBirth, AddRef, SubRef, SetOdd, Recycle, FreeSlot, StoreLink, LoadLink, ResetHead, WipeCode, StoreCode, StoreName, LoadName, StoreOpen, LoadOpen, TakeLink, FinishLink, PutLink, LookWord, FindLink, LoadCode, ClaimRequest, PutMessage, Unconnect, SwapHead, Connect, EmptyHead, ReadNext, TurnNext, FreeRequest, StorePlace, DropPlace}
