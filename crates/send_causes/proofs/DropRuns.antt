@@ -47,27 +47,12 @@ use Rattle.send_causes.specs.Refused.{Deed, DidStep, DidRound, DidAt, DidIn}
 use Rattle.send_causes.proofs.DropPlaces.{log_calls, in_hand, place_stays}
 use Rattle.send_causes.proofs.DropTicks.{IsKnown, CodesLaw, known_later, codes_ticks}
 use Rattle.send_causes.proofs.DropWords.{held_version, live_none, code_in}
+use Rattle.send_causes.proofs.Readings.{ticks_first}
 use Rattle.send_causes.proofs.Ticks.{label_ticks}
 
 -- a tick of a seat is its first step
-first_tick : (p : Plan) (i : ℕ) (seat : SeatState) (c : Core) (answer : Answer) (program : Program) → tick_with p i seat c answer program ≡ step_with p i seat c answer (first_step program)
-first_tick p i seat c answer (Write w after) = refl
-first_tick p i seat c answer (Round head next) = refl
-first_tick p i seat c answer (Do call next) = refl
-first_tick p i seat c answer (Say o outcome next) = refl
-first_tick p i seat c answer (Sent o next) = refl
-first_tick p i seat c answer Rest = refl
-first_tick p i seat c answer (TakeMessage q next) = refl
-first_tick p i seat c answer (TakeHome k next) = refl
-first_tick p i seat c answer (PutHome k n after) = refl
-first_tick p i seat c answer (PutBytes k asked bytes next) = refl
-first_tick p i seat c answer (AskReady k next) = refl
-first_tick p i seat c answer (Aside step next) = refl
-first_tick p i seat c answer (Keep r next) = refl
-first_tick p i seat c answer (Retries requests after) = refl
-
 tick_steps : (p : Plan) (c : Core) (m : Moment) (seat : SeatState) (call : Call) (next : ℕ → Program) → get_elem? c.seats m.seat ≡ some seat → first_step seat.program ≡ Do call next → ticked p c m ≡ stepped p m.seat seat call next c
-tick_steps p c m seat call next at is = ap (λ o. elim o as (λ o. Core) [ none ↦ c | some seat ↦ tick_with p m.seat seat c m.answer seat.program ]) at ∙ (first_tick p m.seat seat c m.answer seat.program ∙ ap (step_with p m.seat seat c m.answer) is)
+tick_steps p c m seat call next at is = ap (λ o. elim o as (λ o. Core) [ none ↦ c | some seat ↦ tick_with p m.seat seat c m.answer seat.program ]) at ∙ (ticks_first p m.seat seat c m.answer seat.program ∙ ap (step_with p m.seat seat c m.answer) is)
 
 module _ (p : Plan) (q : IdPlan) (is_call : Asked → Type 0) (ids : ℕ → ℕ) (clients : List (List Task)) where
   -- what the message of a call is
