@@ -20,8 +20,8 @@ use Rattle.sock_message.specs.Asked.{Asked}
 use Rattle.sock_programs.specs.declared.task.Task.{Task}
 use Rattle.sock_programs.specs.Calls.{Call, GiveBirth, LoadCode, DropPlace}
 use Rattle.sock_programs.specs.Cores.{Core, SeatState, stepped}
-use Rattle.sock_programs.specs.Programs.{Program, Do, Say, Sent, Rest, TakeMessage, TakeHome, PutHome, PutBytes, AskReady, Write, Aside, Round, Keep, Retries}
-use Rattle.sock_programs.specs.Ticks.{Answer, Moment, IsAnswered, AreAnswered, quiet, step_with, tick_with, ticked, run}
+use Rattle.sock_programs.specs.Programs.{Program, Do, Write}
+use Rattle.sock_programs.specs.Ticks.{Moment, IsAnswered, AreAnswered, quiet, step_with, tick_with, ticked, run}
 use Rattle.sock_programs.specs.Told.{AreTasks}
 use Rattle.sock_programs.specs.Writings.{Holder, Puts}
 use Rattle.sock_runs.specs.GoesOn.{GoesOn}
