@@ -24,3 +24,4 @@ pub mod FirstRuns
 pub mod Beside
 pub mod RefusedLoops
 pub mod RefusedPrograms
+pub mod RefusedTicks

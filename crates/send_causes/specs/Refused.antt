@@ -95,6 +95,7 @@ module _ (requests : ℕ) (is_call : Asked → Type 0) (reads : Bool) where
     pub called : is_call asked
     pub trying : IsTrying s.trial asked.operation id attempt (Do call next)
     pub few : attempt ≤ 6
+    pub still : put_behind s.trial call ≡ s.trial
     pub put : In (DidPut asked) s.deeds
     pub why : WhyRefused requests asked attempt code (DidStep call found ∷ s.deeds)
     pub gives_up : u.trial ≡ Idle
@@ -177,11 +178,11 @@ module _ (requests : ℕ) (is_call : Asked → Type 0) (reads : Bool) where
   Charges s (PutHome k n after) = Charges idle after
   Charges s (PutBytes k asked bytes next) = (answer : Put) → Charges idle (next answer)
   Charges s (AskReady k next) = (answer : Ready) → Charges idle (next answer)
-  Charges s (Write w after) = Charges idle after
+  Charges s (Write w after) = (reads ≡ false) × Charges idle after
   Charges s (Aside step next) = MayPost s.charge step × ((found : Found step) → FindsLabel is_call step found → (u : Doing) × (AsideMove is_call step found s.trial u.trial × Remembers (did_aside step s.deeds) s u) × Charges u (next found))
   Charges s (Round head next) = (AtLabel is_call head × AtCharge s.charge head) × ((exit : Exit head) → LeavesLabel head exit → LeavesCode head exit → Charges (doing_behind head exit s) (next exit))
   Charges s (Keep r next) = (s.trial ≡ Tries r.id r.attempt) × (r.attempt ≤ 6) × (0 < r.attempt) × Charges idle next
-  Charges s (Retries requests after) = Charges idle after
+  Charges s (Retries many after) = (reads ≡ false) × (many ≡ requests) × Charges idle after
 
 -- ## What was done in a run
 
