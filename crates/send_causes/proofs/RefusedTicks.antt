@@ -486,3 +486,159 @@ module _ (p : Plan) (q : IdPlan) (narrow : q.slots ≤ 65536) (is_call : Asked �
         goes_on c.calls (next (found_at c.words (word_of p call))) (hand_after p call c.homes seat.hand) (words_after c.words (word_of p call) (word_after call (found_at c.words (word_of p call)))) (homes_after p call seat.hand c.homes) u.0
         (row p call (found_at c.words (word_of p call)) (hand_at p c.words c.homes call) v)
         (after_move call next is f would (found_at c.words (word_of p call)) refl (hand_at p c.words c.homes call) u.0 u.1 u.2)
+
+    -- ## Steps aside
+
+    module _ (u : IdView) (at : get_elem? us m.seat ≡ some u) where
+      module _ (step : Step) (next : Found step → Program) (is : first_step seat.program ≡ Aside step next) (f : First (Aside step next)) (found : Found step) (answer : Option Taking) (found_is : found_in step c.calls answer ≡ some found) (may : MayId p q u step) where
+        abbrev t : Doing
+        t = f.doing
+
+        finds : FindsId p q u step found
+        finds = finds_ids p q c.calls real_ids.plan us real_ids.rule m.seat u at (real_ids.real m.seat u at) (real_ids.called, real_ids.placed) real_ids.homes step answer found found_is may
+
+        words_on : (id n : ℕ) → WasMade q c.calls.words id n → WasMade q (calls_after step found c.calls).words id n
+        words_on = made_on q c.calls.words (calls_after step found c.calls).words (words_forward p q c us real_ids m.seat u at step answer found found_is may finds)
+
+        abbrev Ends : Type 0
+        Ends = After (with_seat m.seat (next found) seat.hand c.words c.homes (record c { calls = calls_after step found c.calls })) vs
+
+        abbrev Held : Doing → Type 0
+        Held y = Remembers p.requests is_call reads (did_aside p.requests is_call reads step t.deeds) t y
+
+        did_here : (x : Step) (k : Found x → Program) → first_step seat.program ≡ Aside x k → AllByRecursion (Then m.seat) (did_aside p.requests is_call reads x t.deeds)
+        did_here (PutCall i asked) k e = (inr (refl, seat, i, k, at_seat, e), f.did)
+        did_here _ k e = f.did
+
+        due_here : (x : Step) → ChargeFits p.requests is_call ids p q c vs ss t.charge (did_aside p.requests is_call reads x t.deeds)
+        due_here (PutCall i asked) = due_more t.charge (DidPut asked) t.deeds f.due
+        due_here _ = f.due
+
+        did_then : (y : Doing) → Held y → AllByRecursion (Then m.seat) y.deeds
+        did_then y (inl e) = subst (AllByRecursion (Then m.seat)) (sym e.1) (did_here step next is)
+        did_then y (inr e) = subst (AllByRecursion (Then m.seat)) (sym e.1) tt
+
+        due_then : (y : Doing) → Held y → ChargeFits p.requests is_call ids p q c vs ss y.charge y.deeds
+        due_then y (inl e) = subst (λ z. ChargeFits p.requests is_call ids p q c vs ss z y.deeds) (sym e.0) (subst (ChargeFits p.requests is_call ids p q c vs ss t.charge) (sym e.1) (due_here step))
+        due_then y (inr e) = subst (λ z. ChargeFits p.requests is_call ids p q c vs ss z y.deeds) (sym e.0) tt
+
+        ends : (y : Doing) → Goes (calls_after step found c.calls) (next found) y v → Ends
+        ends y g = subst (λ xs. After (with_seat m.seat (next found) seat.hand c.words c.homes (record c { calls = calls_after step found c.calls })) xs) (set_again vs m.seat v at_view)
+            (goes_on (calls_after step found c.calls) (next found) seat.hand c.words c.homes y v g)
+
+        -- the attempt of the seat stays, or is given up
+        still : (y : Doing) → Charges p.requests is_call reads y (next found) → Held y → TrialFits ids y.trial → ((id n : ℕ) → of_trial id n y.trial ≤ of_trial id n t.trial) → Ends
+        still y g held fits fewer = ends y record {
+          charges = g;
+          kept = calls_waiting step found c.calls;
+          words = words_on;
+          fits = fits;
+          did = did_then y held;
+          new = λ id n. 0;
+          fewer = λ id n. (let a = fewer id n in let b = f.fewer id n in omega (arith, a, b));
+          fresh = λ id n z. absurd (omega (arith, z));
+          due = inl (due_then y held);
+        }
+
+        keeps : (y : Doing) → Kept t.trial y.trial → Held y → Charges p.requests is_call reads y (next found) → Ends
+        keeps y k held g = still y g held (kept_fits ids t.trial y.trial k f.fits) (λ id n. kept_count id n t.trial y.trial k)
+
+        -- a new attempt
+        makes : (id₀ n₀ : ℕ) (y : Doing) → y.trial ≡ Tries id₀ n₀ → Held y → Charges p.requests is_call reads y (next found) → WasNow q (calls_after step found c.calls).words id₀ n₀ → (WasMade q c.calls.words id₀ n₀ → ⊥) → Ends
+        makes id₀ n₀ y e held g now unmade = ends y record {
+          charges = g;
+          kept = calls_waiting step found c.calls;
+          words = words_on;
+          fits = subst (TrialFits ids) (sym e) tt;
+          did = did_then y held;
+          new = λ id n. pair_of id n id₀ n₀;
+          fewer = λ id n. (let z : of_trial id n y.trial ≡ pair_of id n id₀ n₀ = ap (of_trial id n) e in omega (arith, z));
+          fresh = λ id n some_. let same = pair_same id n id₀ n₀ some_ in (
+            pair_one id n id₀ n₀,
+            λ was. unmade (subst (λ x. WasMade q c.calls.words x n₀) (sym same.0) (subst (WasMade q c.calls.words id) (sym same.1) was)),
+            (let w = subst (λ x. WasNow q (calls_after step found c.calls).words x n) same.0 (subst (WasNow q (calls_after step found c.calls).words id₀) same.1 now) in (w.0, inr w.1)),
+          );
+          due = inl (due_then y held);
+        }
+
+        -- the slot of an id that the seat tries is one of the table
+        tried_low : (id n : ℕ) → t.trial ≡ Tries id n → id_slot id < 65536
+        tried_low id n e = let here : of_trial id n t.trial ≡ 1 = ap (of_trial id n) e ∙ pair_here id n in
+            let some_ = term_le (of_trial id n) (map trial_in ss) m.seat s.trial (mapped_at trial_in ss m.seat s at_doing) in let b = f.fewer id n in
+            let made = (law.made id n (omega (arith, here, some_, b))).0 in omega (arith, made, narrow)
+
+        stored : (w : ℕ) (o : ℕ) → ((id n k : ℕ) → w ≡ at_word (id_first id) (id_slot id) k n → k < 65535 → n ≤ 6 → id_slot id < 65536 → (ids o ≡ id) × (id ≢ 0))
+            → (y : Doing) → Storing o w t.trial y.trial → Held y → Charges p.requests is_call reads y (next found) → Ends
+        stored w o own y (inl e) held g = keeps y (inr e) held g
+        stored w o own y (inr x) held g = still y g held
+            (subst (TrialFits ids) (sym x.7) (let z = own x.0 x.1 x.2 x.4 x.5 x.6 (tried_low x.0 x.1 x.3) in (z.0, z.1, x.6)))
+            (λ id n. (let a : of_trial id n y.trial ≡ pair_of id n x.0 x.1 = ap (of_trial id n) x.7 in let b : of_trial id n t.trial ≡ pair_of id n x.0 x.1 = ap (of_trial id n) x.3 in omega (arith, a, b)))
+
+      -- each step aside
+      pub asides : (step : Step) (next : Found step → Program) → first_step seat.program ≡ Aside step next → First (Aside step next) → (found : Found step) (answer : Option Taking) → found_in step c.calls answer ≡ some found → MayId p q u step
+          → ((o w : ℕ) → step ≡ StoreAt o w → (id n k : ℕ) → w ≡ at_word (id_first id) (id_slot id) k n → k < 65535 → n ≤ 6 → id_slot id < 65536 → (ids o ≡ id) × (id ≢ 0))
+          → After (with_seat m.seat (next found) seat.hand c.words c.homes (record c { calls = calls_after step found c.calls })) vs
+      asides (MakeId k range) next is f found answer found_is may own = let x = f.goes.1 found tt in let n = makes_new p q c us real_ids m.seat u at k range found found_is may (finds (MakeId k range) next is f found answer found_is may) in
+          makes (MakeId k range) next is f found answer found_is may (call_id k (parts found).first) 0 x.0 x.1.0 x.1.1 x.2 n.0 (n.1 0)
+      asides (StoreAt o w) next is f found answer found_is may own = let x = f.goes.1 found tt in stored (StoreAt o w) next is f found answer found_is may w o (own o w refl) x.0 x.1.0 x.1.1 x.2
+      asides (UnlockId k from false) next is f found answer found_is may own = let l = finds_label p q c us real_ids m.seat u at (UnlockId k from false) found may (finds (UnlockId k from false) next is f found answer found_is may) in let x = f.goes.1 found l in
+          keeps (UnlockId k from false) next is f found answer found_is may x.0 (inl x.1.0) x.1.1 x.2
+      asides (UnlockId k from true) next is f found answer found_is may own = let l = finds_label p q c us real_ids m.seat u at (UnlockId k from true) found may (finds (UnlockId k from true) next is f found answer found_is may) in let x = f.goes.1 found l in
+          by (eqb found from) refl x.0 x.1.0 x.1.1 x.2
+        where
+          by : (b : Bool) → eqb found from ≡ b → (y : Doing) → y.trial ≡ unlocked_trial k from true found f.doing.trial → Remembers p.requests is_call reads f.doing.deeds f.doing y → Charges p.requests is_call reads y (next found)
+              → After (with_seat m.seat (next found) seat.hand c.words c.homes (record c { calls = calls_after (UnlockId k from true) found c.calls })) vs
+          by true hit y e held g = let n = advances_new p q c us real_ids m.seat u at k from found found_is (eqb-true found from hit) may
+              (finds_label p q c us real_ids m.seat u at (UnlockId k from true) found may (finds (UnlockId k from true) next is f found answer found_is may)) in
+              makes (UnlockId k from true) next is f found answer found_is may (call_id k (parts from).first) ((parts from).attempt + 1) y (e ∙ ap (λ b. cond b (Tries (call_id k (parts from).first) ((parts from).attempt + 1)) f.doing.trial) hit) held g n.0 n.1
+          by false miss y e held g = keeps (UnlockId k from true) next is f found answer found_is may y (inl (e ∙ ap (λ b. cond b (Tries (call_id k (parts from).first) ((parts from).attempt + 1)) f.doing.trial) miss)) held g
+      asides (ClaimId k) next is f found answer found_is may own = let x = f.goes.1 found tt in keeps (ClaimId k) next is f found answer found_is may x.0 x.1.0 x.1.1 x.2
+      asides (PutCall k asked) next is f found answer found_is may own = let x = f.goes.1 found tt in keeps (PutCall k asked) next is f found answer found_is may x.0 x.1.0.0 x.1.1 x.2
+      asides (StoreCall o id) next is f found answer found_is may own = let x = f.goes.1 found tt in keeps (StoreCall o id) next is f found answer found_is may x.0 x.1.0 x.1.1 x.2
+      asides (LoadCall o) next is f found answer found_is may own = let x = f.goes.1 found tt in keeps (LoadCall o) next is f found answer found_is may x.0 x.1.0 x.1.1 x.2
+      asides (LoadAt o) next is f found answer found_is may own = let x = f.goes.1 found tt in keeps (LoadAt o) next is f found answer found_is may x.0 x.1.0 x.1.1 x.2
+      asides (LoadIdWord k) next is f found answer found_is may own = let x = f.goes.1 found tt in keeps (LoadIdWord k) next is f found answer found_is may x.0 x.1.0 x.1.1 x.2
+      asides (LockId k from) next is f found answer found_is may own = let x = f.goes.1 found tt in keeps (LockId k from) next is f found answer found_is may x.0 x.1.0 x.1.1 x.2
+      asides (PostId k from e) next is f found answer found_is may own = let x = f.goes.1 found tt in keeps (PostId k from e) next is f found answer found_is may x.0 x.1.0 x.1.1 x.2
+      asides (EndId k) next is f found answer found_is may own = let x = f.goes.1 found tt in keeps (EndId k) next is f found answer found_is may x.0 x.1.0 x.1.1 x.2
+      asides (FreeId k) next is f found answer found_is may own = let x = f.goes.1 found tt in keeps (FreeId k) next is f found answer found_is may x.0 x.1.0 x.1.1 x.2
+      asides (TakeCall k) next is f found answer found_is may own = let x = f.goes.1 found (calls k found found_is) in keeps (TakeCall k) next is f found answer found_is may x.0 x.1.0 x.1.1 x.2
+      asides (TakeBytes k room) next is f found answer found_is may own = let x = f.goes.1 found tt in keeps (TakeBytes k room) next is f found answer found_is may x.0 x.1.0 x.1.1 x.2
+
+  -- the operation of each attempt that would store an at word is that of its id
+  abbrev pub WouldOwnAt : Type 0
+  WouldOwnAt = (seat : SeatState) → get_elem? c.seats m.seat ≡ some seat → (o id n : ℕ) → n ≤ 6 → id_slot id < 65536 → WouldStore o id n (first_step seat.program) → ids o ≡ id
+
+  -- a tick of any seat
+  module _ (sound : Sound p c vs) (answered : IsAnswered c m) (fitting : IsFittingIds p c m) (own : StoresOwn ids c m) (would : WouldOwnAt) where
+    doing_of : (seat : SeatState) → get_elem? c.seats m.seat ≡ some seat → (s : Doing) × (get_elem? ss m.seat ≡ some s)
+    doing_of seat at = elem_there c.seats ss m.seat seat law.each at
+
+    view_of : (seat : SeatState) → get_elem? c.seats m.seat ≡ some seat → (u : IdView) × (get_elem? us m.seat ≡ some u)
+    view_of seat at = elem_there c.seats us m.seat seat real_ids.each at
+
+    may_as : (seat : SeatState) (at : get_elem? c.seats m.seat ≡ some seat) (x : Program) → first_step seat.program ≡ x → IdGoesOn p q (view_of seat at).0 x
+    may_as seat at x is = let u = view_of seat at in subst (IdGoesOn p q u.0) is (ids_first p q narrow u.0 seat.program (real_ids.seats m.seat seat u.0 at u.1))
+
+    would_as : (seat : SeatState) (v : View) (s : Doing) (at : get_elem? c.seats m.seat ≡ some seat) (here : get_elem? vs m.seat ≡ some v) (doing : get_elem? ss m.seat ≡ some s) (x : Program) → first_step seat.program ≡ x → WouldOwn seat v s at here doing x
+    would_as seat v s at here doing x is = subst (WouldOwn seat v s at here doing) is (would seat at)
+
+    pub charge_ticks : After (ticked p c m) (views_after p c vs m)
+    charge_ticks = tick_cases p c vs m sound answered After nothing
+        (λ seat v call next at here is goes. let d = doing_of seat at in steps seat v d.0 at here d.1 call next is (first_as seat v d.0 at here d.1 (Do call next) is) (would_as seat v d.0 at here d.1 (Do call next) is) (fits_as p c seat.program call next is (fitting seat at)))
+        (λ seat v r next heading bytes at here is goes. let d = doing_of seat at in let w = right_rights v v.rights (λ x. taken_right x heading bytes) in
+        moves seat v d.0 at here d.1 (next heading bytes) seat.hand (set c.homes r none) (took_message heading bytes v) w.0 w.1 ((first_as seat v d.0 at here d.1 (TakeMessage r next) is).goes heading bytes))
+        (λ seat v k next n at here is goes. let d = doing_of seat at in let w = right_rights v v.rights (λ x. record x { at_home = false }) in
+        moves seat v d.0 at here d.1 (next n) (lies_at c.homes (link_place p k) ++ seat.hand) (set c.homes (link_place p k) none) (link_away v) w.0 w.1 ((first_as seat v d.0 at here d.1 (TakeHome k next) is).goes n))
+        (λ seat v k n after at here is goes. let d = doing_of seat at in let w = right_rights v v.rights (λ x. record x { at_home = true }) in
+        moves seat v d.0 at here d.1 after (others_of seat.hand) (set c.homes (link_place p k) (first_of (onto_first (with_places n) seat.hand))) (link_home_again v) w.0 w.1 (first_as seat v d.0 at here d.1 (PutHome k n after) is).goes)
+        (λ seat v k asked bytes next answer at here is goes answer_is fits. let d = doing_of seat at in let w = put_rights v answer in
+        moves seat v d.0 at here d.1 (next answer) (onto_first (fed bytes answer) seat.hand) c.homes (took_bytes answer v) w.0 w.1 ((first_as seat v d.0 at here d.1 (PutBytes k asked bytes next) is).goes answer))
+        (λ seat v k next answer at here is goes answer_is. let d = doing_of seat at in subst (λ xs. After (with_seat m.seat (next answer) seat.hand c.words c.homes c) xs) (set_again vs m.seat v here)
+        (moves seat v d.0 at here d.1 (next answer) seat.hand c.homes v v.rights refl ((first_as seat v d.0 at here d.1 (AskReady k next) is).goes answer)))
+        (λ seat v x next found at here is goes found_is. let d = doing_of seat at in let u = view_of seat at in
+        asides seat v d.0 at here d.1 u.0 u.1 x next is (first_as seat v d.0 at here d.1 (Aside x next) is) found (taken m.answer) found_is (may_as seat at (Aside x next) is).0 (stored_own seat at x next is))
+      where
+        stored_own : (seat : SeatState) → get_elem? c.seats m.seat ≡ some seat → (x : Step) (next : Found x → Program) → first_step seat.program ≡ Aside x next → (o w : ℕ) → x ≡ StoreAt o w → (id n k : ℕ) → w ≡ at_word (id_first id) (id_slot id) k n → k < 65535 → n ≤ 6 → id_slot id < 65536 → (ids o ≡ id) × (id ≢ 0)
+        stored_own seat at (StoreAt o' w') next is o w e = λ id n k x low few small. own seat o w next at (is ∙ (let a : o' ≡ o = cc in let b : w' ≡ w = cc in λ z. Aside (StoreAt (a z) (b z)) next)) id n k x low few small
+        stored_own seat at _ next is o w e = absurd (cc)
