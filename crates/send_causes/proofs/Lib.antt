@@ -25,3 +25,4 @@ pub mod Beside
 pub mod RefusedLoops
 pub mod RefusedPrograms
 pub mod RefusedTicks
+pub mod RefusedPosts

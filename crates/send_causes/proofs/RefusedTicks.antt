@@ -40,7 +40,7 @@ use Rattle.sock_causes.proofs.Ticks.{elem_there}
 use Rattle.owed_calls.proofs.EndsStill.{mapped_at}
 use Rattle.label_runs.specs.Labels.{Trial, Idle, Tries, Sends, IsOfTrial, MayPut, put_behind, Kept, AsideMove, Storing, unlocked_trial, FindsLabel}
 use Rattle.send_causes.specs.Counts.{pair_of, of_trial, of_retry, of_heading, of_view, times_of, WasMade, WasNow, TrialFits, StoresOwn}
-use Rattle.send_causes.specs.Refused.{Deed, DidStep, DidPut, DidRound, Charge, NoCharge, IsRefused, HasDropped, Doing, idle, begins, trial_in, FoundTaken, FoundLost, WasOther, WasOdd, WasNone, WhyRefused, WouldStore, IsTrying, Refuses, Drops, Moves, Remembers, Charges, did_aside, DidAt, IsRefusal, IsDrop, IsSpent, ChargeFits, ChargeLaw}
+use Rattle.send_causes.specs.Refused.{Deed, DidStep, DidPut, DidRound, Charge, NoCharge, IsRefused, HasDropped, Doing, idle, begins, trial_in, FoundTaken, FoundLost, WasOther, WasOdd, WasNone, WhyRefused, WouldStore, WouldOwn, IsTrying, Refuses, Drops, Moves, Remembers, Charges, did_aside, DidAt, IsRefusal, IsDrop, IsSpent, ChargeFits, ChargeLaw}
 use Rattle.send_causes.proofs.Ticks.{AreCalls, calls_waiting, fits_as, ids_first, kept_count, kept_fits, pair_one, pair_same, waits_set}
 use Rattle.send_causes.proofs.Views.{put_of, row_count, rights_count}
 use Rattle.send_causes.proofs.Words.{made_on, finds_label, words_forward, makes_new, advances_new}
@@ -391,10 +391,10 @@ module _ (p : Plan) (q : IdPlan) (narrow : q.slots ≤ 65536) (is_call : Asked �
     behind_fits t _ f = f
 
     -- where the right words were found it stored an at word of its operation
-    abbrev pub WouldOwn : Program → Type 0
-    WouldOwn program = (o id n : ℕ) → n ≤ 6 → id_slot id < 65536 → WouldStore o id n program → ids o ≡ id
+    abbrev pub WouldOwnBy : Program → Type 0
+    WouldOwnBy program = (o id n : ℕ) → n ≤ 6 → id_slot id < 65536 → WouldStore o id n program → ids o ≡ id
 
-    module _ (call : Call) (next : ℕ → Program) (is : first_step seat.program ≡ Do call next) (f : First (Do call next)) (would : WouldOwn (Do call next)) (found : ℕ) (found_is : found ≡ found_at c.words (word_of p call)) where
+    module _ (call : Call) (next : ℕ → Program) (is : first_step seat.program ≡ Do call next) (f : First (Do call next)) (would : WouldOwnBy (Do call next)) (found : ℕ) (found_is : found ≡ found_at c.words (word_of p call)) where
       abbrev d : Doing
       d = f.doing
 
@@ -480,7 +480,7 @@ module _ (p : Plan) (q : IdPlan) (narrow : q.slots ≤ 65536) (is_call : Asked �
               record { holder = x.holder; now = x.now; left = x.left; taken = x.taken; asked = x.asked; found = found; round = inr x.round; load = inr x.load; drop = inl (ap (λ (y : Call). DidStep y found) (sym x.is)) }));
         }
 
-    pub steps : (call : Call) (next : ℕ → Program) → first_step seat.program ≡ Do call next → First (Do call next) → WouldOwn (Do call next) → FitsSock call (found_at c.words (word_of p call))
+    pub steps : (call : Call) (next : ℕ → Program) → first_step seat.program ≡ Do call next → First (Do call next) → WouldOwnBy (Do call next) → FitsSock call (found_at c.words (word_of p call))
         → After (stepped p m.seat seat call next c) (set vs m.seat (row p call (found_at c.words (word_of p call)) (hand_at p c.words c.homes call) v))
     steps call next is f would fits = let u = f.goes.1 (found_at c.words (word_of p call)) fits in
         goes_on c.calls (next (found_at c.words (word_of p call))) (hand_after p call c.homes seat.hand) (words_after c.words (word_of p call) (word_after call (found_at c.words (word_of p call)))) (homes_after p call seat.hand c.homes) u.0
@@ -605,12 +605,8 @@ module _ (p : Plan) (q : IdPlan) (narrow : q.slots ≤ 65536) (is_call : Asked �
       asides (TakeCall k) next is f found answer found_is may own = let x = f.goes.1 found (calls k found found_is) in keeps (TakeCall k) next is f found answer found_is may x.0 x.1.0 x.1.1 x.2
       asides (TakeBytes k room) next is f found answer found_is may own = let x = f.goes.1 found tt in keeps (TakeBytes k room) next is f found answer found_is may x.0 x.1.0 x.1.1 x.2
 
-  -- the operation of each attempt that would store an at word is that of its id
-  abbrev pub WouldOwnAt : Type 0
-  WouldOwnAt = (seat : SeatState) → get_elem? c.seats m.seat ≡ some seat → (o id n : ℕ) → n ≤ 6 → id_slot id < 65536 → WouldStore o id n (first_step seat.program) → ids o ≡ id
-
   -- a tick of any seat
-  module _ (sound : Sound p c vs) (answered : IsAnswered c m) (fitting : IsFittingIds p c m) (own : StoresOwn ids c m) (would : WouldOwnAt) where
+  module _ (sound : Sound p c vs) (answered : IsAnswered c m) (fitting : IsFittingIds p c m) (own : StoresOwn ids c m) (would : WouldOwn ids c m) where
     doing_of : (seat : SeatState) → get_elem? c.seats m.seat ≡ some seat → (s : Doing) × (get_elem? ss m.seat ≡ some s)
     doing_of seat at = elem_there c.seats ss m.seat seat law.each at
 
@@ -620,8 +616,8 @@ module _ (p : Plan) (q : IdPlan) (narrow : q.slots ≤ 65536) (is_call : Asked �
     may_as : (seat : SeatState) (at : get_elem? c.seats m.seat ≡ some seat) (x : Program) → first_step seat.program ≡ x → IdGoesOn p q (view_of seat at).0 x
     may_as seat at x is = let u = view_of seat at in subst (IdGoesOn p q u.0) is (ids_first p q narrow u.0 seat.program (real_ids.seats m.seat seat u.0 at u.1))
 
-    would_as : (seat : SeatState) (v : View) (s : Doing) (at : get_elem? c.seats m.seat ≡ some seat) (here : get_elem? vs m.seat ≡ some v) (doing : get_elem? ss m.seat ≡ some s) (x : Program) → first_step seat.program ≡ x → WouldOwn seat v s at here doing x
-    would_as seat v s at here doing x is = subst (WouldOwn seat v s at here doing) is (would seat at)
+    would_as : (seat : SeatState) (v : View) (s : Doing) (at : get_elem? c.seats m.seat ≡ some seat) (here : get_elem? vs m.seat ≡ some v) (doing : get_elem? ss m.seat ≡ some s) (x : Program) → first_step seat.program ≡ x → WouldOwnBy seat v s at here doing x
+    would_as seat v s at here doing x is = subst (WouldOwnBy seat v s at here doing) is (would seat at)
 
     pub charge_ticks : After (ticked p c m) (views_after p c vs m)
     charge_ticks = tick_cases p c vs m sound answered After nothing

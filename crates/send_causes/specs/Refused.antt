@@ -213,6 +213,23 @@ module _ (script : List Item) (turns : List Turn) (end_ : Core) (is : IsRunWithC
   abbrev pub DidInRun : ℕ → Deed → Type 0
   DidInRun seat deed = DidEarly seat deed ⊎ (DidClosing seat deed ⊎ DidLate seat deed)
 
+-- ## Attempts that would be stored
+
+-- each attempt that would store an at word in the tick, had it found the right words, is of its operation's own call
+abbrev pub WouldOwn : (ℕ → ℕ) → Core → Moment → Type 0
+WouldOwn ids c m = (seat : SeatState) → get_elem? c.seats m.seat ≡ some seat → (o id n : ℕ) → n ≤ 6 → id_slot id < 65536 → WouldStore o id n (first_step seat.program) → ids o ≡ id
+
+abbrev pub AllWouldOwn : (ℕ → ℕ) → Plan → Core → List Moment → Type 0
+AllWouldOwn ids p c [] = Unit {0}
+AllWouldOwn ids p c (m ∷ ms) = WouldOwn ids c m × AllWouldOwn ids p (ticked p c m) ms
+
+-- in all of a run
+pub record RunWouldOwn (ids : ℕ → ℕ) (script : List Item) (turns : List Turn) (core : Core) (is : IsRunWithCalls script turns core) : Type 0 where
+  pub of_setup : AllWouldOwn ids (plan_of script) (opened script) (replicate is.setup (quiet 0))
+  pub of_played : AllWouldOwn ids (plan_of script) (set_up script is.setup) (is.scheduled ++ is.later)
+  pub of_closing : AllWouldOwn ids (plan_of script) (ending script (played script is.setup (is.scheduled ++ is.later))) (replicate is.last (quiet 0))
+  pub of_final : AllWouldOwn ids (plan_of script) is.ended is.final
+
 -- ## The kinds of posts
 
 -- attempt n of the call with this id was refused with the code
