@@ -26,3 +26,4 @@ pub mod RefusedLoops
 pub mod RefusedPrograms
 pub mod RefusedTicks
 pub mod RefusedPosts
+pub mod RefusedRuns
