@@ -37,6 +37,7 @@ use Rattle.sock_runs.proofs.Opening.{mapped}
 use Rattle.sock_runs.proofs.Whole.{Begins, AreFittingIn, closing_of, views_played, views_closed, views_ended, set_up_answered, end_answered, rested_ahead, rested_idle, set_up_sound, played_sound, closing_sound, closed_sound}
 use Rattle.sock_causes.specs.Stories.{In}
 use Rattle.sock_causes.proofs.Final.{at_there}
+use Rattle.sock_causes.proofs.Plain.{in_both}
 use Rattle.sock_causes.proofs.Ticks.{elem_there}
 use Rattle.label_runs.specs.Labels.{Trial, Idle}
 use Rattle.label_runs.proofs.Programs.{OpCalls}
@@ -51,11 +52,6 @@ use Rattle.send_causes.proofs.RefusedPosts.{kind_more, tick_kinds}
 use Rattle.send_causes.proofs.RefusedPrograms.{client_goes, ending_goes, reader_goes}
 
 -- ## Lists
-
-in_either : {A : Type 0} (xs ys : List A) (x : A) → In x (xs ++ ys) → In x xs ⊎ In x ys
-in_either [] ys x m = inr m
-in_either (y ∷ xs) ys x (inl e) = inl (inl e)
-in_either (y ∷ xs) ys x (inr m) = ⊎_elim (λ a. inl (inr a)) (λ b. inr b) (in_either xs ys x m)
 
 at_append : {A : Type 0} (xs ys : List A) (i : ℕ) (a : A) → get_elem? (xs ++ ys) i ≡ some a → (get_elem? xs i ≡ some a) ⊎ ((k : ℕ) × (i ≡ length xs + k) × (get_elem? ys k ≡ some a))
 at_append [] ys i a e = inr (i, omega arith, e)
@@ -122,7 +118,7 @@ module _ (p : Plan) (q : IdPlan) (narrow : q.slots ≤ 65536) (is_call : Asked �
             (λ j d y. regroup j d (inl y)) (λ id n y. r.spent id n (mine.2 id n y)) x (tick_kinds p q narrow is_call ids Did c vs ss law labels.1.calls are.0.0 are.0.1 m sound x now))
             (λ later. kind_more p.requests is_call ids (λ j d. (Did j d ⊎ DidAt p c m j d) ⊎ DidIn p (ticked p c m) ms j d) (λ j d. Did j d ⊎ (DidAt p c m j d ⊎ DidIn p (ticked p c m) ms j d))
             (Spent (run p c (m ∷ ms)) (views_along p c vs (m ∷ ms)) r.doings) (Spent (run p c (m ∷ ms)) (views_along p c vs (m ∷ ms)) r.doings) regroup (λ id n y. y) x (r.kinds x later))
-            (in_either (posted_at c m) (shows_in posted_at p (ticked p c m) ms) x at);
+            (in_both (posted_at c m) (shows_in posted_at p (ticked p c m) ms) x at);
       }
     where
       regroup : (j : ℕ) (d : Deed) → (Did j d ⊎ DidAt p c m j d) ⊎ DidIn p (ticked p c m) ms j d → Did j d ⊎ (DidAt p c m j d ⊎ DidIn p (ticked p c m) ms j d)
@@ -179,3 +175,43 @@ module _ (p : Plan) (q : IdPlan) (narrow : q.slots ≤ 65536) (is_call : Asked �
       none_at : (id n : ℕ) → times_of id n (beginning p q xs) vs (map trial_in (map (λ (x : Program). idle) xs)) ≡ 0
       none_at id n = let a = total_none p q narrow is_call ids (of_trial id n) (map trial_in (map (λ (x : Program). idle) xs)) (λ i t e. ap (of_trial id n) (trials_idle i t e)) in let b = none_waits p q narrow is_call ids id n q.seats in
           let d = total_none p q narrow is_call ids (of_view id n) vs (λ i v e. bare_count p q narrow is_call ids id n v (bare i v e)) in omega (arith, a, b, d)
+
+-- ## Seats
+
+low_false : (i : ℕ) → i < 32 → nat_le 32 i ≡ false
+low_false i low = by (nat_le 32 i) refl
+  where
+    by : (b : Bool) → nat_le 32 i ≡ b → b ≡ false
+    by false e = refl
+    by true e = absurd (let l = leb-true 32 i e in omega (arith, l, low))
+
+high_true : (i : ℕ) → 32 ≤ i → nat_le 32 i ≡ true
+high_true i high = le-leb 32 i high
+
+reader_at : (calls os : List ℕ) (k i : ℕ) (x : Program) → get_elem? (readers_from calls k os) i ≡ some x → (l o : ℕ) × (reader calls l o ≡ x)
+reader_at calls [] k i x at = absurd (some-ne-none x (sym at))
+reader_at calls (o ∷ os) k zero x at = (k, o, some-injective (reader calls k o) x at)
+reader_at calls (o ∷ os) k (suc i) x at = reader_at calls os (k + 1) i x at
+
+seats_charge : (requests : ℕ) (is_call : Asked → Type 0) (sizes : Sizes) → sizes.requests ≡ requests → (cs : List (List Task)) → length cs ≤ 32 → ((i : ℕ) (ts : List Task) → get_elem? cs i ≡ some ts → AllByRecursion (λ (t : Task). OpCalls is_call t.op) ts) → (calls os : List ℕ) (i : ℕ) (x : Program)
+    → get_elem? (all_programs (programs sizes cs) (readers_from calls 0 os)) i ≡ some x → Charges requests is_call (nat_le 32 i) idle x
+seats_charge requests is_call sizes size cs few asks calls os i x at = ⊎_elim
+    (λ a. let t = mapped (client_from sizes []) cs i x a in let low = inside (programs sizes cs) i x a in let e = low_false i (omega (arith, low, long, few)) in
+    subst (λ b. Charges requests is_call b idle x) (sym e) (subst (Charges requests is_call false idle) t.2 (client_goes requests is_call false refl sizes size [] t.0 (asks i t.0 t.1))))
+    (λ a. ⊎_elim (λ b. subst (Charges requests is_call (nat_le 32 i) idle) (in_replicate (32 - length (programs sizes cs)) Rest a.0 x b) tt)
+    (λ b. let r = reader_at calls os 0 b.0 x b.2 in let n = a.1 in let m = b.1 in let e = high_true i (omega (arith, n, m, long, few, length-replicate (32 - length (programs sizes cs)) Rest)) in
+    subst (λ y. Charges requests is_call y idle x) (sym e) (subst (Charges requests is_call true idle) r.2 (reader_goes requests is_call true refl calls r.0 r.1)))
+    (at_append (replicate (32 - length (programs sizes cs)) Rest) (readers_from calls 0 os) a.0 x a.2))
+    (at_append (programs sizes cs) (replicate (32 - length (programs sizes cs)) Rest ++ readers_from calls 0 os) i x at)
+  where
+    long : length (programs sizes cs) ≡ length cs
+    long = length-map cs (client_from sizes [])
+
+-- nobody does a thing in a tick of a seat that rests
+none_done : (p : Plan) (c : Core) (m : Moment) (seat : SeatState) → get_elem? c.seats m.seat ≡ some seat → seat.program ≡ Rest → (j : ℕ) (d : Deed) → DidAt p c m j d → ⊥
+none_done p c m seat at rests j (DidStep call found) x = let same : seat ≡ x.1 = some-injective seat x.1 (sym at ∙ (ap (get_elem? c.seats) x.0 ∙ x.3)) in
+    let e : Rest ≡ Do call x.2 = ap first_step (sym rests ∙ ap (λ (s : SeatState). s.program) same) ∙ x.4 in cc
+none_done p c m seat at rests j (DidPut asked) x = let same : seat ≡ x.1 = some-injective seat x.1 (sym at ∙ (ap (get_elem? c.seats) x.0 ∙ x.4)) in
+    let e : Rest ≡ Aside _ _ = ap first_step (sym rests ∙ ap (λ (s : SeatState). s.program) same) ∙ x.5 in cc
+none_done p c m seat at rests j (DidRound w) x = let same : seat ≡ x.1 = some-injective seat x.1 (sym at ∙ (ap (get_elem? c.seats) x.0 ∙ x.3)) in
+    let e : Rest ≡ Write w x.2 = sym rests ∙ (ap (λ (s : SeatState). s.program) same ∙ x.4) in cc
