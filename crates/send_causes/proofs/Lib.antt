@@ -27,3 +27,4 @@ pub mod RefusedPrograms
 pub mod RefusedTicks
 pub mod RefusedPosts
 pub mod RefusedRuns
+pub mod RefusedWhole

@@ -128,7 +128,7 @@ module _ (p : Plan) (q : IdPlan) (narrow : q.slots ≤ 65536) (is_call : Asked �
 
   -- ## How a run begins
 
-  abbrev none_did : ℕ → Deed → Type 0
+  abbrev pub none_did : ℕ → Deed → Type 0
   none_did j d = ⊥
 
   idle_stays : (reads : Bool) (x : Program) → Charges p.requests is_call reads idle x → Charges p.requests is_call reads idle (next_step (resolved [] x))
@@ -155,7 +155,7 @@ module _ (p : Plan) (q : IdPlan) (narrow : q.slots ≤ 65536) (is_call : Asked �
   all_idle : (xs : List Program) (i : ℕ) (s : Doing) → get_elem? (map (λ (x : Program). idle) xs) i ≡ some s → s ≡ idle
   all_idle xs i s e = sym (mapped (λ (x : Program). idle) xs i s e).2
 
-  begins_charges : (xs : List Program) → ((i : ℕ) (x : Program) → get_elem? xs i ≡ some x → Charges p.requests is_call (nat_le 32 i) idle x) → (vs : List View) → ((i : ℕ) (v : View) → get_elem? vs i ≡ some v → IsBare p q narrow is_call ids v)
+  pub begins_charges : (xs : List Program) → ((i : ℕ) (x : Program) → get_elem? xs i ≡ some x → Charges p.requests is_call (nat_le 32 i) idle x) → (vs : List View) → ((i : ℕ) (v : View) → get_elem? vs i ≡ some v → IsBare p q narrow is_call ids v)
       → Law none_did (beginning p q xs) vs (map (λ (x : Program). idle) xs)
   begins_charges xs goes vs bare = record {
     once = λ id n. let z = none_at id n in omega (arith, z);
@@ -193,7 +193,7 @@ reader_at calls [] k i x at = absurd (some-ne-none x (sym at))
 reader_at calls (o ∷ os) k zero x at = (k, o, some-injective (reader calls k o) x at)
 reader_at calls (o ∷ os) k (suc i) x at = reader_at calls os (k + 1) i x at
 
-seats_charge : (requests : ℕ) (is_call : Asked → Type 0) (sizes : Sizes) → sizes.requests ≡ requests → (cs : List (List Task)) → length cs ≤ 32 → ((i : ℕ) (ts : List Task) → get_elem? cs i ≡ some ts → AllByRecursion (λ (t : Task). OpCalls is_call t.op) ts) → (calls os : List ℕ) (i : ℕ) (x : Program)
+pub seats_charge : (requests : ℕ) (is_call : Asked → Type 0) (sizes : Sizes) → sizes.requests ≡ requests → (cs : List (List Task)) → length cs ≤ 32 → ((i : ℕ) (ts : List Task) → get_elem? cs i ≡ some ts → AllByRecursion (λ (t : Task). OpCalls is_call t.op) ts) → (calls os : List ℕ) (i : ℕ) (x : Program)
     → get_elem? (all_programs (programs sizes cs) (readers_from calls 0 os)) i ≡ some x → Charges requests is_call (nat_le 32 i) idle x
 seats_charge requests is_call sizes size cs few asks calls os i x at = ⊎_elim
     (λ a. let t = mapped (client_from sizes []) cs i x a in let low = inside (programs sizes cs) i x a in let e = low_false i (omega (arith, low, long, few)) in
@@ -208,7 +208,7 @@ seats_charge requests is_call sizes size cs few asks calls os i x at = ⊎_elim
     long = length-map cs (client_from sizes [])
 
 -- nobody does a thing in a tick of a seat that rests
-none_done : (p : Plan) (c : Core) (m : Moment) (seat : SeatState) → get_elem? c.seats m.seat ≡ some seat → seat.program ≡ Rest → (j : ℕ) (d : Deed) → DidAt p c m j d → ⊥
+pub none_done : (p : Plan) (c : Core) (m : Moment) (seat : SeatState) → get_elem? c.seats m.seat ≡ some seat → seat.program ≡ Rest → (j : ℕ) (d : Deed) → DidAt p c m j d → ⊥
 none_done p c m seat at rests j (DidStep call found) x = let same : seat ≡ x.1 = some-injective seat x.1 (sym at ∙ (ap (get_elem? c.seats) x.0 ∙ x.3)) in
     let e : Rest ≡ Do call x.2 = ap first_step (sym rests ∙ ap (λ (s : SeatState). s.program) same) ∙ x.4 in cc
 none_done p c m seat at rests j (DidPut asked) x = let same : seat ≡ x.1 = some-injective seat x.1 (sym at ∙ (ap (get_elem? c.seats) x.0 ∙ x.4)) in
