@@ -58,7 +58,7 @@ at_append [] ys i a e = inr (i, omega arith, e)
 at_append (x ∷ xs) ys zero a e = inl e
 at_append (x ∷ xs) ys (suc i) a e = ⊎_elim (λ t. inl t) (λ t. let n = t.1 in inr (t.0, omega (arith, n), t.2)) (at_append xs ys i a e)
 
-inside : {A : Type 0} (xs : List A) (i : ℕ) (a : A) → get_elem? xs i ≡ some a → i < length xs
+pub inside : {A : Type 0} (xs : List A) (i : ℕ) (a : A) → get_elem? xs i ≡ some a → i < length xs
 inside [] i a e = absurd (some-ne-none a (sym e))
 inside (x ∷ xs) zero a e = omega arith
 inside (x ∷ xs) (suc i) a e = let r = inside xs i a e in omega (arith, r)

@@ -25,6 +25,7 @@ use Rattle.sock_programs.specs.Clients.{ending_of}
 use Rattle.sock_programs.specs.Heads.{Head, Exit, Posts, Unlocks, Decides, Locks, Joins, Opens, Reads, Discards}
 use Rattle.sock_programs.specs.Programs.{Program, Do, Say, Sent, Rest, TakeMessage, TakeHome, PutHome, PutBytes, AskReady, Write, Aside, Round, Keep, Retries}
 use Rattle.sock_programs.specs.Rounds.{round}
+use Rattle.sock_programs.specs.Runs.{IsAtRest}
 use Rattle.sock_programs.specs.Sends.{block}
 use Rattle.sock_programs.specs.Cores.{Core, SeatState}
 use Rattle.sock_programs.specs.Ticks.{Answer, Unasked, OfPut, OfReady, OfTake, Moment, IsPrompt, waits, waits_at, waits_in, quiet, ticked, run, taken, with_message, with_link, with_put, with_ready, with_found, step_with, tick_with}
@@ -55,7 +56,7 @@ use Rattle.send_causes.proofs.Sends.{narrow, few_clients, labelled, opening_clai
 use Rattle.send_causes.proofs.RefusedLoops.{bare}
 use Rattle.send_causes.proofs.RefusedPosts.{kind_more}
 use Rattle.send_causes.proofs.RefusedPrograms.{ending_goes}
-use Rattle.send_causes.proofs.RefusedRuns.{law_more, Behind, run_charges, none_did, begins_charges, seats_charge, none_done}
+use Rattle.send_causes.proofs.RefusedRuns.{law_more, Behind, run_charges, none_did, begins_charges, seats_charge, none_done, inside}
 use Rattle.send_causes.proofs.RefusedTicks.{moves}
 
 -- ## Seats that wait
@@ -254,3 +255,157 @@ module _ (script : List Item) (made : AreMade script) (turns : List Turn) (core 
   setup_runs = run_charges (plan_of script) (id_plan_of script) few_slots (IsCallOf script) own_ids (go script made turns core is) (replicate is.setup (quiet 0)) Nothing (opened script) (first_views script) (start script made turns core is).sound
       (set_up_answered script made.are (first_views script) (start script made turns core is) (go script made turns core is) turns core is (fitting script made turns core is)) (fitting script made turns core is).of_setup at_words.of_setup would.of_setup
       (labels.first script made.are (first_views script) (start script made turns core is) (go script made turns core is) turns core is (fitting script made turns core is) few_slots bare_views own_ids at_words) first_doings first_charges
+
+  abbrev DidSetup : ℕ → Deed → Type 0
+  DidSetup j d = Nothing j d ⊎ DidIn (plan_of script) (opened script) (replicate is.setup (quiet 0)) j d
+
+  abbrev set_views : List View
+  set_views = views_along (plan_of script) (opened script) (first_views script) (replicate is.setup (quiet 0))
+
+  played_runs : Runs DidSetup (set_up script is.setup) set_views setup_runs.doings (is.scheduled ++ is.later)
+  played_runs = run_charges (plan_of script) (id_plan_of script) few_slots (IsCallOf script) own_ids (go script made turns core is) (is.scheduled ++ is.later) DidSetup (set_up script is.setup) set_views
+      (set_up_sound script made.are (first_views script) (start script made turns core is) (go script made turns core is) turns core is (fitting script made turns core is)) is.answered (fitting script made turns core is).of_played at_words.of_played would.of_played
+      (labels.set_up_law script made.are (first_views script) (start script made turns core is) (go script made turns core is) turns core is (fitting script made turns core is) few_slots bare_views own_ids at_words) setup_runs.doings setup_runs.law
+
+  abbrev DidPlay : ℕ → Deed → Type 0
+  DidPlay j d = DidSetup j d ⊎ DidIn (plan_of script) (set_up script is.setup) (is.scheduled ++ is.later) j d
+
+  abbrev rested : Core
+  rested = played script is.setup (is.scheduled ++ is.later)
+
+  abbrev rested_views : List View
+  rested_views = views_played script turns core is (first_views script)
+
+  -- seat 0 begins the ending
+  record Begun : Type 0 where
+    doings : List Doing
+    law : Law DidPlay (closing_of script turns core is) rested_views doings
+    spent : (id n : ℕ) → Gone rested rested_views played_runs.doings id n → Gone (closing_of script turns core is) rested_views doings id n
+
+  begun : Begun
+  begun = let c : Core = rested in let ws : List View = rested_views in
+      let sound = played_sound script made.are (first_views script) (start script made turns core is) (go script made turns core is) turns core is (fitting script made turns core is) in
+      let close = closing_sound script made.are (first_views script) (start script made turns core is) (go script made turns core is) turns core is (fitting script made turns core is) in
+      let seat = at_there c.seats 0 many in let v = elem_there c.seats ws 0 seat.0 sound.each seat.1 in
+      let labels_ = labels.played_law script made.are (first_views script) (start script made turns core is) (go script made turns core is) turns core is (fitting script made turns core is) few_slots bare_views own_ids at_words in
+      let us = behind_ids (plan_of script) (id_plan_of script) few_slots (IsCallOf script) own_ids (is.scheduled ++ is.later) (set_up script is.setup) at_words.of_played in
+      let d = elem_there c.seats played_runs.doings 0 seat.0 played_runs.law.each seat.1 in
+      let rests = seat_rests c (rested_ahead script made.are (first_views script) (start script made turns core is) (go script made turns core is) turns core is (fitting script made turns core is)) 0
+          (rested_idle script made.are (first_views script) (start script made turns core is) (go script made turns core is) turns core is (fitting script made turns core is)) seat.0 seat.1 in
+      let next = moves (plan_of script) (id_plan_of script) few_slots (IsCallOf script) own_ids DidPlay c ws played_runs.doings played_runs.law labels_.1.calls us.0 us.1 (quiet 0) seat.0 v.0 d.0 seat.1 v.1 d.1 (ending_of (opens script)) [] c.homes v.0 v.0.rights refl
+          (ending_goes (plan_of script).requests (IsCallOf script) (nat_le 32 0) (opens script)) in
+      record {
+        doings = next.0;
+        law = law_more (plan_of script) (id_plan_of script) few_slots (IsCallOf script) own_ids (λ j x. DidPlay j x ⊎ DidAt (plan_of script) rested (quiet 0) j x) DidPlay
+            (λ j x. ⊎_elim (λ y. y) (λ y. absurd (none_done (plan_of script) rested (quiet 0) seat.0 seat.1 rests j x y))) (closing_of script turns core is) rested_views next.0
+            (subst (λ xs. Law (λ j x. DidPlay j x ⊎ DidAt (plan_of script) rested (quiet 0) j x) (closing_of script turns core is) xs next.0) (set_again rested_views 0 v.0 v.1) next.1);
+        spent = λ id n x. subst (λ xs. Gone (closing_of script turns core is) xs next.0 id n) (set_again rested_views 0 v.0 v.1) (next.2 id n x);
+      }
+    where
+      many : 0 < length (played script is.setup (is.scheduled ++ is.later)).seats
+      many = let m = Rattle.send_causes.proofs.Rests.many script made turns core is in omega (arith, m)
+
+  closing_runs : Runs DidPlay (closing_of script turns core is) rested_views begun.doings (replicate is.last (quiet 0))
+  closing_runs = run_charges (plan_of script) (id_plan_of script) few_slots (IsCallOf script) own_ids (go script made turns core is) (replicate is.last (quiet 0)) DidPlay (closing_of script turns core is) rested_views
+      (closing_sound script made.are (first_views script) (start script made turns core is) (go script made turns core is) turns core is (fitting script made turns core is))
+      (end_answered script made.are (first_views script) (start script made turns core is) (go script made turns core is) turns core is (fitting script made turns core is)) (fitting script made turns core is).of_closing at_words.of_closing would.of_closing
+      (labels.closing_law script made.are (first_views script) (start script made turns core is) (go script made turns core is) turns core is (fitting script made turns core is) few_slots bare_views own_ids at_words) begun.doings begun.law
+
+  abbrev DidClose : ℕ → Deed → Type 0
+  DidClose j d = DidPlay j d ⊎ DidIn (plan_of script) (closing_of script turns core is) (replicate is.last (quiet 0)) j d
+
+  abbrev closed : Core
+  closed = run (plan_of script) (closing_of script turns core is) (replicate is.last (quiet 0))
+
+  abbrev closed_views : List View
+  closed_views = views_closed script turns core is (first_views script)
+
+  -- and has made it: each seat waits, and the run is ending
+  on_law : (c : Core) (ss : List Doing) → Law DidClose c closed_views ss → Law DidClose (is_ending c) closed_views ss
+  on_law c ss law = record { once = law.once; made = law.made; each = law.each; later = law.later; trials = law.trials; did = law.did; due = λ j s at. on_due s.charge s.deeds (law.due j s at); programs = law.programs }
+    where
+      on_due : (x : Charge) (ds : List Deed) → ChargeFits (plan_of script).requests (IsCallOf script) own_ids (plan_of script) (id_plan_of script) c closed_views ss x ds
+          → ChargeFits (plan_of script).requests (IsCallOf script) own_ids (plan_of script) (id_plan_of script) (is_ending c) closed_views ss x ds
+      on_due NoCharge ds f = tt
+      on_due (IsRefused id n code) ds f = (f.0, (f.1.0, f.1.1))
+      on_due (HasDropped heading code) ds f = f
+
+  ended_law : Law DidClose is.ended closed_views closing_runs.doings
+  ended_law = subst (λ c. Law DidClose c closed_views closing_runs.doings) (sym is.is_ended) (on_law closed closing_runs.doings closing_runs.law)
+
+  ended_spent : (id n : ℕ) → Gone closed closed_views closing_runs.doings id n → Gone is.ended closed_views closing_runs.doings id n
+  ended_spent id n x = subst (λ c. Gone c closed_views closing_runs.doings id n) (sym is.is_ended) (x.0, x.1)
+
+  at_ease : (j : ℕ) (seat : SeatState) → get_elem? is.ended.seats j ≡ some seat → IsAtEase seat.program
+  at_ease j seat at = dite (ℕ_discrete j 0)
+      (λ first. subst IsAtEase (sym (seat_rests is.ended (closed_ahead script made.are (first_views script) (start script made turns core is) (go script made turns core is) turns core is (fitting script made turns core is)) 0 is.is_over seat (subst (λ i. get_elem? is.ended.seats i ≡ some seat) first at))) tt)
+      (λ other. by (still script made turns core is j (inside (played script is.setup (is.scheduled ++ is.later)).seats j seat (rested_at other))) (rested_at other))
+    where
+      rested_at : j ≢ 0 → get_elem? (played script is.setup (is.scheduled ++ is.later)).seats j ≡ some seat
+      rested_at other = sym (set_else (played script is.setup (is.scheduled ++ is.later)).seats 0 j _ other) ∙ (sym (run_other (plan_of script) is.last (closing_of script turns core is) j other) ∙ (sym (ap (λ (c : Core). get_elem? c.seats j) is.is_ended) ∙ at))
+
+      by : IsAtRest (played script is.setup (is.scheduled ++ is.later)) j ⊎ ((m : Moment) × (m.seat ≡ j) × IsPrompt m × (waits (plan_of script) (played script is.setup (is.scheduled ++ is.later)) m ≡ true))
+          → get_elem? (played script is.setup (is.scheduled ++ is.later)).seats j ≡ some seat → IsAtEase seat.program
+      by (inl rest) here = subst IsAtEase (sym (seat_rests rested (rested_ahead script made.are (first_views script) (start script made turns core is) (go script made turns core is) turns core is (fitting script made turns core is)) j rest seat here)) tt
+      by (inr w) here = waits_ease (plan_of script) rested w.0.answer seat.program
+          (subst (λ o. elim o as (λ o. Bool) [ none ↦ false | some x ↦ waits_at (plan_of script) rested w.0.answer x.program ] ≡ true) (subst (λ i. get_elem? rested.seats i ≡ some seat) (sym w.1) here) w.3)
+
+  final_doings : List Doing
+  final_doings = map ease closing_runs.doings
+
+  final_runs : Runs Nothing is.ended closed_views (map ease closing_runs.doings) is.final
+  final_runs = run_charges (plan_of script) (id_plan_of script) few_slots (IsCallOf script) own_ids (go script made turns core is) is.final Nothing is.ended closed_views
+      (closed_sound script made.are (first_views script) (start script made turns core is) (go script made turns core is) turns core is (fitting script made turns core is)) is.answered_again (fitting script made turns core is).of_final at_words.of_final would.of_final
+      (labels.closed_law script made.are (first_views script) (start script made turns core is) (go script made turns core is) turns core is (fitting script made turns core is) few_slots bare_views own_ids at_words) (map ease closing_runs.doings)
+      (forgotten (plan_of script) (id_plan_of script) few_slots (IsCallOf script) own_ids DidClose is.ended closed_views closing_runs.doings ended_law at_ease)
+
+  -- ## What is left of refused attempts
+
+  abbrev pub end_views : List View
+  end_views = views_ended script turns core is (first_views script)
+
+  pub last_doings : List Doing
+  last_doings = final_runs.doings
+
+  -- nothing is left of the attempt as the run ends
+  abbrev pub IsGone : ℕ → ℕ → Type 0
+  IsGone id n = Gone core end_views last_doings id n
+
+  from_ended : (id n : ℕ) → Gone is.ended closed_views (map ease closing_runs.doings) id n → IsGone id n
+  unfolding last_doings
+  from_ended id n x = subst (λ c. Gone c end_views final_runs.doings id n) (sym is.is_end) (final_runs.spent id n x)
+
+  from_closed : (id n : ℕ) → Gone closed closed_views closing_runs.doings id n → IsGone id n
+  from_closed id n x = from_ended id n (forgot_spent (plan_of script) (id_plan_of script) few_slots (IsCallOf script) own_ids is.ended closed_views closing_runs.doings id n (ended_spent id n x))
+
+  from_played : (id n : ℕ) → Gone rested rested_views played_runs.doings id n → IsGone id n
+  from_played id n x = from_closed id n (closing_runs.spent id n (begun.spent id n x))
+
+  from_set_up : (id n : ℕ) → Gone (set_up script is.setup) set_views setup_runs.doings id n → IsGone id n
+  from_set_up id n x = from_played id n (played_runs.spent id n x)
+
+  -- ## The kinds of all posts
+
+  -- what was done for it was done before the run was ending
+  abbrev pub DidBefore : ℕ → Deed → Type 0
+  DidBefore j d = DidEarly script turns core is j d ⊎ DidClosing script turns core is j d
+
+  abbrev pub KindOfPost : (ℕ → Deed → Type 0) → Post → Type 0
+  KindOfPost Did x = PostKind (plan_of script).requests (IsCallOf script) own_ids Did IsGone x
+
+  more : (Did Done : ℕ → Deed → Type 0) (Spent : ℕ → ℕ → Type 0) → ((j : ℕ) (d : Deed) → Did j d → Done j d) → ((id n : ℕ) → Spent id n → IsGone id n) → (x : Post) → PostKind (plan_of script).requests (IsCallOf script) own_ids Did Spent x → KindOfPost Done x
+  more Did Done Spent f g x k = kind_more (plan_of script).requests (IsCallOf script) own_ids Did Done Spent IsGone f g x k
+
+  pub kinds_of_run : (x : Post) → In x (posts_of_run script turns core is) → KindOfPost DidBefore x ⊎ KindOfPost (DidLate script turns core is) x
+  unfolding last_doings
+  kinds_of_run x at = ⊎_elim
+      (λ a. inl (more DidSetup DidBefore _ (λ j d. ⊎_elim (λ z. absurd z) (λ y. inl (inl y))) from_set_up x (setup_runs.kinds x a)))
+      (λ rest. ⊎_elim
+      (λ a. inl (more DidPlay DidBefore _ (λ j d. ⊎_elim (λ z. ⊎_elim (λ w. absurd w) (λ y. inl (inl y)) z) (λ y. inl (inr y))) from_played x (played_runs.kinds x a)))
+      (λ rest. ⊎_elim
+      (λ a. inl (more DidClose DidBefore _ (λ j d. ⊎_elim (λ z. ⊎_elim (λ w. ⊎_elim (λ v. absurd v) (λ y. inl (inl y)) w) (λ y. inl (inr y)) z) (λ y. inr y)) from_closed x (closing_runs.kinds x a)))
+      (λ a. inr (more (λ j d. Nothing j d ⊎ DidIn (plan_of script) is.ended is.final j d) (DidLate script turns core is) (Gone (run (plan_of script) is.ended is.final) end_views final_runs.doings) (λ j d. ⊎_elim (λ z. absurd z) (λ y. y))
+      (λ id n y. subst (λ c. Gone c end_views final_runs.doings id n) (sym is.is_end) y) x (final_runs.kinds x a)))
+      (in_both (shows_in posted_at (plan_of script) (closing_of script turns core is) (replicate is.last (quiet 0))) (shows_in posted_at (plan_of script) is.ended is.final) x rest))
+      (in_both (shows_in posted_at (plan_of script) (set_up script is.setup) (is.scheduled ++ is.later)) _ x rest))
+      (in_both (shows_in posted_at (plan_of script) (opened script) (replicate is.setup (quiet 0))) _ x at)
