@@ -28,3 +28,4 @@ pub mod RefusedTicks
 pub mod RefusedPosts
 pub mod RefusedRuns
 pub mod RefusedWhole
+pub mod RefusedGone
