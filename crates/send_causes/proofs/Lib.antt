@@ -29,3 +29,5 @@ pub mod RefusedPosts
 pub mod RefusedRuns
 pub mod RefusedWhole
 pub mod RefusedGone
+pub mod RefusedMeans
+pub mod RefusedWhys
