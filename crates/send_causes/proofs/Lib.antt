@@ -33,3 +33,10 @@ pub mod DropRuns
 pub mod DropWhole
 pub mod DropOfRun
 pub mod DropCauses
+pub mod RefusedTicks
+pub mod RefusedPosts
+pub mod RefusedRuns
+pub mod RefusedWhole
+pub mod RefusedGone
+pub mod RefusedMeans
+pub mod RefusedWhys

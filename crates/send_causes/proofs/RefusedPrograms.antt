@@ -141,17 +141,17 @@ module _ (requests : ℕ) (is_call : Asked → Type 0) (reads : Bool) where
     freed_keeps ds now next goes = ways ds (generation_of now == LAST_GENERATION) next (Do (FreeRequest (slot_of now) (generation_of now)) (λ _. next)) (goes ds)
         (tt, λ found _. (due c (DidStep (FreeRequest (slot_of now) (generation_of now)) found ∷ ds), inl (inl refl, inl (refl, refl)), goes (DidStep (FreeRequest (slot_of now) (generation_of now)) found ∷ ds)))
 
-    pub passed_keeps : (ds : List Deed) (h : Holder) (now : ℕ) (tells : Program → Program) (after : Program) → ((es : List Deed) (x : Program) → G idle x → G (due c es) (tells x)) → G idle after → G (due c ds) (passed_telling h now tells after)
-    passed_keeps ds h now tells after told goes = ways ds (now == h.last) (given_back now (tells (Write (Empties h) after)))
+    pub passed_keeps : (mine : reads ≡ false) (ds : List Deed) (h : Holder) (now : ℕ) (tells : Program → Program) (after : Program) → ((es : List Deed) (x : Program) → G idle x → G (due c es) (tells x)) → G idle after → G (due c ds) (passed_telling h now tells after)
+    passed_keeps mine ds h now tells after told goes = ways ds (now == h.last) (given_back now (tells (Write (Empties h) after)))
         (Do (ReadNext (slot_of now)) (λ next. given_back now (tells (TakeMessage (slot_of next) (λ heading bytes. Write (Puts h next heading bytes 0 false) after)))))
-        (freed_keeps ds now (tells (Write (Empties h) after)) (λ es. told es (Write (Empties h) after) goes))
+        (freed_keeps ds now (tells (Write (Empties h) after)) (λ es. told es (Write (Empties h) after) (mine, goes)))
         (
           tt,
           λ next _. (
             due c (DidStep (ReadNext (slot_of now)) next ∷ ds),
             inl (inl refl, inl (refl, refl)),
             freed_keeps (DidStep (ReadNext (slot_of now)) next ∷ ds) now (tells (TakeMessage (slot_of next) (λ heading bytes. Write (Puts h next heading bytes 0 false) after)))
-                (λ es. told es (TakeMessage (slot_of next) (λ heading bytes. Write (Puts h next heading bytes 0 false) after)) (λ heading bytes. goes)),
+                (λ es. told es (TakeMessage (slot_of next) (λ heading bytes. Write (Puts h next heading bytes 0 false) after)) (λ heading bytes. (mine, goes))),
           ),
         )
 
@@ -163,17 +163,17 @@ module _ (requests : ℕ) (is_call : Asked → Type 0) (reads : Bool) where
   freed_goes : (s : Doing) (now : ℕ) (next : Program) → G idle next → G idle (given_back now next)
   freed_goes s now next goes = split (generation_of now == LAST_GENERATION) next (Do (FreeRequest (slot_of now) (generation_of now)) (λ _. next)) (λ _. goes) (λ _. (tt, λ found _. then_ (FreeRequest (slot_of now) (generation_of now)) _ found idle goes))
 
-  passed_goes : (h : Holder) (now : ℕ) (tells : Program → Program) (after : Program) → ((x : Program) → G idle x → G idle (tells x)) → G idle after → G idle (passed_telling h now tells after)
-  passed_goes h now tells after told goes = split (now == h.last) (given_back now (tells (Write (Empties h) after)))
+  passed_goes : (mine : reads ≡ false) (h : Holder) (now : ℕ) (tells : Program → Program) (after : Program) → ((x : Program) → G idle x → G idle (tells x)) → G idle after → G idle (passed_telling h now tells after)
+  passed_goes mine h now tells after told goes = split (now == h.last) (given_back now (tells (Write (Empties h) after)))
       (Do (ReadNext (slot_of now)) (λ next. given_back now (tells (TakeMessage (slot_of next) (λ heading bytes. Write (Puts h next heading bytes 0 false) after)))))
-      (λ _. freed_goes idle now (tells (Write (Empties h) after)) (told (Write (Empties h) after) goes))
-      (λ _. (tt, λ next _. then_ (ReadNext (slot_of now)) _ next idle (freed_goes idle now (tells (TakeMessage (slot_of next) (λ heading bytes. Write (Puts h next heading bytes 0 false) after))) (told (TakeMessage (slot_of next) (λ heading bytes. Write (Puts h next heading bytes 0 false) after)) (λ heading bytes. goes)))))
+      (λ _. freed_goes idle now (tells (Write (Empties h) after)) (told (Write (Empties h) after) (mine, goes)))
+      (λ _. (tt, λ next _. then_ (ReadNext (slot_of now)) _ next idle (freed_goes idle now (tells (TakeMessage (slot_of next) (λ heading bytes. Write (Puts h next heading bytes 0 false) after))) (told (TakeMessage (slot_of next) (λ heading bytes. Write (Puts h next heading bytes 0 false) after)) (λ heading bytes. (mine, goes))))))
 
-  put_goes : (h : Holder) (now : ℕ) (heading : Heading) (left : List ℕ) (taken : ℕ) (after : Program) → G idle after → (answer : Put) → G idle (put_answered h now heading left taken after answer)
-  put_goes h now heading left taken after goes (puts.Took n) = split (nat_le (length left) n) (placed h now heading after) (Write (Puts h now heading (drop n left) (taken + n) false) after)
-      (λ _. (tt, λ found _. then_ (Rattle.sock_programs.specs.Calls.StorePlace heading.place h.link h.places) _ found idle (passed_goes (one_more h) now (λ x. x) after (λ x g. g) goes))) (λ _. goes)
-  put_goes h now heading left taken after goes puts.Again = goes
-  put_goes h now heading left taken after goes puts.Failed = set_failed_goes idle h.id 1009 (λ _. Write (Puts h now heading left taken false) after) (λ _. goes)
+  put_goes : (mine : reads ≡ false) (h : Holder) (now : ℕ) (heading : Heading) (left : List ℕ) (taken : ℕ) (after : Program) → G idle after → (answer : Put) → G idle (put_answered h now heading left taken after answer)
+  put_goes mine h now heading left taken after goes (puts.Took n) = split (nat_le (length left) n) (placed h now heading after) (Write (Puts h now heading (drop n left) (taken + n) false) after)
+      (λ _. (tt, λ found _. then_ (Rattle.sock_programs.specs.Calls.StorePlace heading.place h.link h.places) _ found idle (passed_goes mine (one_more h) now (λ x. x) after (λ x g. g) goes))) (λ _. (mine, goes))
+  put_goes mine h now heading left taken after goes puts.Again = (mine, goes)
+  put_goes mine h now heading left taken after goes puts.Failed = set_failed_goes idle h.id 1009 (λ _. Write (Puts h now heading left taken false) after) (λ _. (mine, goes))
 
   module _ (mine : reads ≡ false) where
     tell_goes : (heading : Heading) (code : ℕ) (ds : List Deed) (x : Program) → heading.owner ≢ 0 → G idle x → G (due (HasDropped heading code) ds) (tell_drop heading code x)
@@ -194,7 +194,7 @@ module _ (requests : ℕ) (is_call : Asked → Type 0) (reads : Bool) where
           tt,
           λ found _. dite (ℕ_discrete heading.owner 0)
               (λ none_. then_ (DropPlace heading.place h.link h.places) _ found (bare Idle (DidStep (LoadCode (socket_id_slot h.id) (socket_id_version h.id)) code ∷ ds))
-              (passed_goes (one_more h) now (tell_drop heading code) after (λ x g. tell_none heading code x none_ g) goes))
+              (passed_goes mine (one_more h) now (tell_drop heading code) after (λ x g. tell_none heading code x none_ g) goes))
               (λ some_. (
                 due (HasDropped heading code) (DidStep (DropPlace heading.place h.link h.places) found ∷ DidStep (LoadCode (socket_id_slot h.id) (socket_id_version h.id)) code ∷ ds),
                 inr (inr (record {
@@ -212,7 +212,7 @@ module _ (requests : ℕ) (is_call : Asked → Type 0) (reads : Bool) where
                   charge = refl;
                   deeds = refl;
                 })),
-                passed_keeps (HasDropped heading code) (DidStep (DropPlace heading.place h.link h.places) found ∷ DidStep (LoadCode (socket_id_slot h.id) (socket_id_version h.id)) code ∷ ds) (one_more h) now (tell_drop heading code) after
+                passed_keeps (HasDropped heading code) mine (DidStep (DropPlace heading.place h.link h.places) found ∷ DidStep (LoadCode (socket_id_slot h.id) (socket_id_version h.id)) code ∷ ds) (one_more h) now (tell_drop heading code) after
                     (λ es x g. tell_goes heading code es x some_ g) goes,
               )),
         ),
@@ -224,7 +224,7 @@ module _ (requests : ℕ) (is_call : Asked → Type 0) (reads : Bool) where
       tt,
       λ found _. step_way requests is_call reads (LookWord h.id) (λ found. cond (vref_version found % 2 == 0) (PutBytes h.link asked (part heading.parts left taken) (put_answered h now heading left taken after)) (dropped h now heading after)) found (begins (Puts h now heading left taken asked))
           (vref_version found % 2 == 0) (PutBytes h.link asked (part heading.parts left taken) (put_answered h now heading left taken after)) (dropped h now heading after)
-          (λ _. (idle, inl (inl refl, inr (refl, refl)), put_goes h now heading left taken after g))
+          (λ _. (idle, inl (inl refl, inr (refl, refl)), put_goes mine h now heading left taken after g))
           (λ _. (
             bare Idle (DidStep (LookWord h.id) found ∷ DidRound (Puts h now heading left taken asked) ∷ []),
             inl (inl refl, inl (refl, refl)),
@@ -234,32 +234,32 @@ module _ (requests : ℕ) (is_call : Asked → Type 0) (reads : Bool) where
     block_goes (Waits h now heading left taken) after g = ready_goes
       where
         ready_goes : (answer : Ready) → G idle (ready_answered h now heading left taken after answer)
-        ready_goes asks.Now = g
-        ready_goes asks.NotYet = g
-        ready_goes asks.Failed = set_failed_goes idle h.id 1009 (λ _. Write (Puts h now heading left taken false) after) (λ _. g)
-    block_goes (Empties h) after g = (tt, λ found _. then_ (Rattle.sock_programs.specs.Calls.EmptyHead (socket_id_slot h.id) h.last) _ found idle (split (found == h.last) after (TakeHome h.link (λ places. Write (Walks (record h { places = places }) found found 0) after)) (λ _. g) (λ _. λ places. g)))
+        ready_goes asks.Now = (mine, g)
+        ready_goes asks.NotYet = (mine, g)
+        ready_goes asks.Failed = set_failed_goes idle h.id 1009 (λ _. Write (Puts h now heading left taken false) after) (λ _. (mine, g))
+    block_goes (Empties h) after g = (tt, λ found _. then_ (Rattle.sock_programs.specs.Calls.EmptyHead (socket_id_slot h.id) h.last) _ found idle (split (found == h.last) after (TakeHome h.link (λ places. Write (Walks (record h { places = places }) found found 0) after)) (λ _. g) (λ _. λ places. (mine, g))))
     block_goes (Walks h top at after) last g = (
       tt,
       λ found _. then_ (ReadNext (slot_of at)) _ found (begins (Walks h top at after)) (split (found == UNCONNECTED) (Write (Walks h top at after) last)
           (Do (TurnNext (slot_of at) after) (λ _. cond (found == h.last) (TakeMessage (slot_of at) (λ heading bytes. Write (Puts (record h { last = top }) at heading bytes 0 false) last)) (Write (Walks h top found at) last)))
-          (λ _. g)
-          (λ _. (tt, λ other _. then_ (TurnNext (slot_of at) after) _ other idle (split (found == h.last) (TakeMessage (slot_of at) (λ heading bytes. Write (Puts (record h { last = top }) at heading bytes 0 false) last)) (Write (Walks h top found at) last) (λ _. λ heading bytes. g) (λ _. g))))),
+          (λ _. (mine, g))
+          (λ _. (tt, λ other _. then_ (TurnNext (slot_of at) after) _ other idle (split (found == h.last) (TakeMessage (slot_of at) (λ heading bytes. Write (Puts (record h { last = top }) at heading bytes 0 false) last)) (Write (Walks h top found at) last) (λ _. λ heading bytes. (mine, g)) (λ _. (mine, g)))))),
     )
 
-  first_goes : (h : Holder) (now : ℕ) (heading : Heading) (bytes : List ℕ) (after : Program) → G idle after → G idle (first_put h now heading bytes after)
-  first_goes h now heading bytes after g = (
+  first_goes : (mine : reads ≡ false) (h : Holder) (now : ℕ) (heading : Heading) (bytes : List ℕ) (after : Program) → G idle after → G idle (first_put h now heading bytes after)
+  first_goes mine h now heading bytes after g = (
     tt,
     λ found _. then_ (LookWord h.id) _ found idle (split (vref_version found % 2 == 0) (PutBytes h.link false (part heading.parts bytes 0) (put_answered h now heading bytes 0 after)) (Write (Puts h now heading bytes 0 false) after)
-        (λ _. put_goes h now heading bytes 0 after g) (λ _. g)),
+        (λ _. put_goes mine h now heading bytes 0 after g) (λ _. (mine, g))),
   )
 
-  write_goes : (id q own : ℕ) (after : Program) → G idle after → G idle (write_link id q own after)
-  write_goes id q own after g = (tt, λ k _. then_ (FindLink (socket_id_slot id) (socket_id_version id)) _ k idle (λ places. λ heading bytes. first_goes (record { id = id; link = k; last = own; places = places }) own heading bytes after g))
+  write_goes : (mine : reads ≡ false) (id q own : ℕ) (after : Program) → G idle after → G idle (write_link id q own after)
+  write_goes mine id q own after g = (tt, λ k _. then_ (FindLink (socket_id_slot id) (socket_id_version id)) _ k idle (λ places. λ heading bytes. first_goes mine (record { id = id; link = k; last = own; places = places }) own heading bytes after g))
 
   -- ## Messages
 
-  accept_goes : (s : Doing) (id q g : ℕ) (heading : Heading) (bytes : List ℕ) (after : Program) → MayPut is_call s.trial (PutMessage q heading bytes) → G idle after → G s (accept id q g heading bytes after)
-  accept_goes s id q g heading bytes after may goes = (
+  accept_goes : (mine : reads ≡ false) (s : Doing) (id q g : ℕ) (heading : Heading) (bytes : List ℕ) (after : Program) → MayPut is_call s.trial (PutMessage q heading bytes) → G idle after → G s (accept id q g heading bytes after)
+  accept_goes mine s id q g heading bytes after may goes = (
     may,
     λ a _. (
       idle,
@@ -269,7 +269,7 @@ module _ (requests : ℕ) (is_call : Asked → Type 0) (reads : Bool) where
         λ b _. then_ (Rattle.sock_programs.specs.Calls.Unconnect q) _ b idle (
           tt,
           λ found _. then_ (Rattle.sock_programs.specs.Calls.SwapHead (socket_id_slot id) (ticket_of q g)) _ found idle
-              (split (nat_lt found IDLE) (Do (Connect q found) (λ _. after)) (write_link id q (ticket_of q g) after) (λ _. (tt, λ d _. then_ (Connect q found) _ d idle goes)) (λ _. write_goes id q (ticket_of q g) after goes)),
+              (split (nat_lt found IDLE) (Do (Connect q found) (λ _. after)) (write_link id q (ticket_of q g) after) (λ _. (tt, λ d _. then_ (Connect q found) _ d idle goes)) (λ _. write_goes mine id q (ticket_of q g) after goes)),
         ),
       ),
     ),
@@ -312,12 +312,12 @@ module _ (requests : ℕ) (is_call : Asked → Type 0) (reads : Bool) where
     claim_next more q found = cond (eqb (found % 2) 0) (accept socket q (found / 2) (heading_for asked id n) (frame_of asked id n) (release (socket_id_slot socket) (λ _. next))) (others more (q + 1))
 
     accepts : (ds : List Deed) (q found : ℕ) → G (sending ds) (accept socket q (found / 2) (heading_for asked id n) (frame_of asked id n) (release (socket_id_slot socket) (λ _. next)))
-    accepts ds q found = accept_goes (sending ds) socket q (found / 2) (heading_for asked id n) (frame_of asked id n) (release (socket_id_slot socket) (λ _. next)) (inr (asked, called, refl, refl, refl)) gives_back
+    accepts ds q found = accept_goes mine (sending ds) socket q (found / 2) (heading_for asked id n) (frame_of asked id n) (release (socket_id_slot socket) (λ _. next)) (inr (asked, called, refl, refl, refl)) gives_back
 
     -- the last of the requests was found taken
-    fulls : (call : Call) (then : ℕ → Program) (found : ℕ) (ds : List Deed) → FoundTaken requests (DidStep call found ∷ ds) → In (DidPut asked) ds → Steps requests is_call reads call then found (sending ds) full
-    fulls call then found ds taken put = (
-      refused 3001 (DidStep call found ∷ ds),
+    fulls : (made : Call) (then : ℕ → Program) (found : ℕ) (ds : List Deed) → Rattle.label_runs.specs.Labels.put_behind (Sends asked.operation id n) made ≡ Sends asked.operation id n → FoundTaken requests (DidStep made found ∷ ds) → In (DidPut asked) ds → Steps requests is_call reads made then found (sending ds) full
+    fulls made then found ds same taken put = (
+      refused 3001 (DidStep made found ∷ ds),
       inr (inl (record {
         id = id;
         attempt = n;
@@ -326,17 +326,18 @@ module _ (requests : ℕ) (is_call : Asked → Type 0) (reads : Bool) where
         called = called;
         trying = inl refl;
         few = few;
+        still = same;
         put = put;
         why = inl (refl, taken);
         gives_up = refl;
         charge = refl;
         deeds = refl;
       })),
-      posts 3001 (DidStep call found ∷ ds) (release (socket_id_slot socket) (λ _. next)) gives_back,
+      posts 3001 (DidStep made found ∷ ds) (release (socket_id_slot socket) (λ _. next)) gives_back,
     )
 
-    grows : (call : Call) (then : ℕ → Program) (found : ℕ) (ds : List Deed) (x : Program) → Kept (Rattle.label_runs.specs.Labels.put_behind (Sends asked.operation id n) call) (Sends asked.operation id n) → G (sending (DidStep call found ∷ ds)) x → Steps requests is_call reads call then found (sending ds) x
-    grows call then found ds x k g = (sending (DidStep call found ∷ ds), inl (k, inl (refl, refl)), g)
+    grows : (made : Call) (then : ℕ → Program) (found : ℕ) (ds : List Deed) (x : Program) → Kept (Rattle.label_runs.specs.Labels.put_behind (Sends asked.operation id n) made) (Sends asked.operation id n) → G (sending (DidStep made found ∷ ds)) x → Steps requests is_call reads made then found (sending ds) x
+    grows made then found ds x k g = (sending (DidStep made found ∷ ds), inl (k, inl (refl, refl)), g)
 
     claims_goes : (more q : ℕ) (ds : List Deed) → q + suc more ≡ requests → FoundTaken q ds → In (DidPut asked) ds → G (sending ds) (others (suc more) q)
     claims_goes zero q ds all taken put = (
@@ -344,7 +345,7 @@ module _ (requests : ℕ) (is_call : Asked → Type 0) (reads : Bool) where
       λ found _. step_way requests is_call reads (ClaimRequest socket q) (claim_next zero q) found (sending ds) (eqb (found % 2) 0)
           (accept socket q (found / 2) (heading_for asked id n) (frame_of asked id n) (release (socket_id_slot socket) (λ _. next))) full
           (λ _. grows (ClaimRequest socket q) (claim_next zero q) found ds (accept socket q (found / 2) (heading_for asked id n) (frame_of asked id n) (release (socket_id_slot socket) (λ _. next))) (inl refl) (accepts (DidStep (ClaimRequest socket q) found ∷ ds) q found))
-          (λ odd. fulls (ClaimRequest socket q) (claim_next zero q) found ds (subst (λ x. FoundTaken x (DidStep (ClaimRequest socket q) found ∷ ds)) (let z : q + 1 ≡ requests = all in z) (one_more_taken q socket found ds taken (odd_of found odd))) put),
+          (λ odd. fulls (ClaimRequest socket q) (claim_next zero q) found ds refl (subst (λ x. FoundTaken x (DidStep (ClaimRequest socket q) found ∷ ds)) (let z : q + 1 ≡ requests = all in z) (one_more_taken q socket found ds taken (odd_of found odd))) put),
     )
     claims_goes (suc more) q ds all taken put = (
       tt,
@@ -360,7 +361,7 @@ module _ (requests : ℕ) (is_call : Asked → Type 0) (reads : Bool) where
 
     -- of this many requests
     live_goes : (m : ℕ) → m ≡ requests → (found : ℕ) (ds : List Deed) → In (DidPut asked) ds → Steps requests is_call reads (LookWord socket) (looked requests) found (sending ds) (others m 0)
-    live_goes zero all found ds put = fulls (LookWord socket) (looked requests) found ds (λ q low. absurd (omega (arith, low, all))) put
+    live_goes zero all found ds put = fulls (LookWord socket) (looked requests) found ds refl (λ q low. absurd (omega (arith, low, all))) put
     live_goes (suc m) all found ds put = grows (LookWord socket) (looked requests) found ds (others (suc m) 0) (inl refl) (claims_goes m 0 (DidStep (LookWord socket) found ∷ ds) (omega (arith, all)) (λ q low. absurd (omega (arith, low))) (inr put))
 
     looks_goes : (ds : List Deed) → In (DidPut asked) ds → In (DidStep (LoadName wanted) (socket + 1)) ds → G (sending ds) (Do (LookWord socket) (looked requests))
@@ -378,6 +379,7 @@ module _ (requests : ℕ) (is_call : Asked → Type 0) (reads : Bool) where
               called = called;
               trying = inl refl;
               few = few;
+              still = refl;
               put = put;
               why = inr (refl, WasOdd socket found (inr load) (inl refl) (odd_of (vref_version found) odd));
               gives_up = refl;
@@ -436,6 +438,7 @@ module _ (requests : ℕ) (is_call : Asked → Type 0) (reads : Bool) where
               called = called;
               trying = inr (refl, would);
               few = few;
+              still = refl;
               put = put;
               why = inr (refl, WasOther socket found (inr load) (inl refl) (not_equal (vref_version found) (socket_id_version socket) other));
               gives_up = refl;
@@ -518,6 +521,7 @@ module _ (requests : ℕ) (is_call : Asked → Type 0) (reads : Bool) where
               called = called;
               trying = inr (refl, (1, tt, would mine asked called id n 0 next few goes));
               few = few;
+              still = refl;
               put = put;
               why = inr (refl, WasNone later (inl (ap (DidStep (LoadName (name_of asked n))) (sym (eqb-true word 0 none_)))));
               gives_up = refl;
@@ -590,21 +594,21 @@ module _ (requests : ℕ) (is_call : Asked → Type 0) (reads : Bool) where
   reach_goes : (name : ℕ) (unopened : Program) (held gone : ℕ → Program) → G idle unopened → ((id : ℕ) → G idle (held id)) → ((found : ℕ) → G idle (gone found)) → G idle (reach name unopened held gone)
   reach_goes name unopened held gone none_ one others_ = (tt, λ word _. then_ (LoadName name) _ word idle (split (word == 0) unopened (address (word - 1) (held (word - 1)) gone) (λ _. none_) (λ _. address_goes idle (word - 1) (held (word - 1)) gone (one (word - 1)) others_)))
 
-  claim_from_goes : (more q o id : ℕ) (bytes : List ℕ) (next : Program) → G idle next → G idle (claim_from more q o id bytes next)
-  claim_from_goes zero q o id bytes next goes = release_goes idle (socket_id_slot id) (λ _. Say o outcomes.Full next) (λ _. goes)
-  claim_from_goes (suc more) q o id bytes next goes = (
+  claim_from_goes : (mine : reads ≡ false) (more q o id : ℕ) (bytes : List ℕ) (next : Program) → G idle next → G idle (claim_from more q o id bytes next)
+  claim_from_goes mine zero q o id bytes next goes = release_goes idle (socket_id_slot id) (λ _. Say o outcomes.Full next) (λ _. goes)
+  claim_from_goes mine (suc more) q o id bytes next goes = (
     tt,
     λ found _. then_ (ClaimRequest id q) _ found idle (split (found % 2 == 0) (accept id q (found / 2) (heading_of o) bytes (release (socket_id_slot id) (λ _. Sent o next))) (claim_from more (q + 1) o id bytes next)
-        (λ _. accept_goes idle id q (found / 2) (heading_of o) bytes (release (socket_id_slot id) (λ _. Sent o next)) (inl (refl, refl)) (release_goes idle (socket_id_slot id) (λ _. Sent o next) (λ _. goes)))
-        (λ _. claim_from_goes more (q + 1) o id bytes next goes)),
+        (λ _. accept_goes mine idle id q (found / 2) (heading_of o) bytes (release (socket_id_slot id) (λ _. Sent o next)) (inl (refl, refl)) (release_goes idle (socket_id_slot id) (λ _. Sent o next) (λ _. goes)))
+        (λ _. claim_from_goes mine more (q + 1) o id bytes next goes)),
   )
 
-  send_goes : (o name : ℕ) (bytes : List ℕ) (next : Program) → G idle next → G idle (send requests o name bytes next)
-  send_goes o name bytes next goes = reach_goes name (Say o outcomes.Unopened next) (λ id. start requests o id bytes next) (λ found. Say o (outcomes.Gone (record { 0 = found })) next) goes
+  send_goes : (mine : reads ≡ false) (o name : ℕ) (bytes : List ℕ) (next : Program) → G idle next → G idle (send requests o name bytes next)
+  send_goes mine o name bytes next goes = reach_goes name (Say o outcomes.Unopened next) (λ id. start requests o id bytes next) (λ found. Say o (outcomes.Gone (record { 0 = found })) next) goes
       (λ id. (
         tt,
         λ found _. then_ (LookWord id) _ found idle (split (vref_version found % 2 == 0) (claim_from requests 0 o id bytes next) (release (socket_id_slot id) (λ _. Say o (outcomes.Gone (record { 0 = found })) next))
-            (λ _. claim_from_goes requests 0 o id bytes next goes) (λ _. release_goes idle (socket_id_slot id) (λ _. Say o (outcomes.Gone (record { 0 = found })) next) (λ _. goes))),
+            (λ _. claim_from_goes mine requests 0 o id bytes next goes) (λ _. release_goes idle (socket_id_slot id) (λ _. Say o (outcomes.Gone (record { 0 = found })) next) (λ _. goes))),
       ))
       (λ found. goes)
 
@@ -619,7 +623,7 @@ module _ (requests : ℕ) (is_call : Asked → Type 0) (reads : Bool) where
 
   operation_goes : (mine : reads ≡ false) (sizes : Sizes) → sizes.requests ≡ requests → (held : List HeldLife) (o : ℕ) (next : List HeldLife → Program) (op : Op) → OpCalls is_call op → ((hs : List HeldLife) → G idle (next hs)) → G idle (operation sizes held o next op)
   operation_goes mine sizes size held o next (ops.Open name k) called goes = open_goes sizes.slots 0 o name k (next held) (goes held)
-  operation_goes mine sizes size held o next (ops.Send name bytes) called goes = subst (λ r. G idle (send r o name bytes (next held))) (sym size) (send_goes o name bytes (next held) (goes held))
+  operation_goes mine sizes size held o next (ops.Send name bytes) called goes = subst (λ r. G idle (send r o name bytes (next held))) (sym size) (send_goes mine o name bytes (next held) (goes held))
   operation_goes mine sizes size held o next (ops.Call asked) called goes = subst (λ r. G idle (call r sizes.ids asked (next held))) (sym size) (call_goes mine sizes.ids asked called (next held) (goes held))
   operation_goes mine sizes size held o next (ops.Expire t) called goes = expire_goes mine o t (next held) (goes held)
   operation_goes mine sizes size held o next (ops.Join t) called goes = join_goes o t (next held) (goes held)
@@ -633,8 +637,8 @@ module _ (requests : ℕ) (is_call : Asked → Type 0) (reads : Bool) where
   give_goes (h ∷ hs) = release_goes idle (socket_id_slot h.id) (λ _. give_back hs) (λ _. give_goes hs)
 
   pub client_goes : (mine : reads ≡ false) (sizes : Sizes) → sizes.requests ≡ requests → (held : List HeldLife) (ts : List Task) → AllByRecursion (λ (t : Task). OpCalls is_call t.op) ts → G idle (client_from sizes held ts)
-  client_goes mine sizes size held [] all = give_goes held
-  client_goes mine sizes size held (t ∷ ts) all = operation_goes mine sizes size held t.number (λ held'. client_from sizes held' ts) t.op all.0 (λ hs. client_goes mine sizes size hs ts all.1)
+  client_goes mine sizes size held [] all = (mine, size, give_goes held)
+  client_goes mine sizes size held (t ∷ ts) all = (mine, size, operation_goes mine sizes size held t.number (λ held'. client_from sizes held' ts) t.op all.0 (λ hs. client_goes mine sizes size hs ts all.1))
 
   -- ## The ending
 

@@ -78,11 +78,11 @@ module _ (p : Plan) (q : IdPlan) (narrow : q.slots ≤ 65536) (is_call : Asked �
   idle_stays (Aside step next) g = g
   idle_stays (Round head next) g = g
 
-  total_none : {A : Type 0} (g : A → ℕ) (l : List A) → ((i : ℕ) (a : A) → get_elem? l i ≡ some a → g a ≡ 0) → total g l ≡ 0
+  pub total_none : {A : Type 0} (g : A → ℕ) (l : List A) → ((i : ℕ) (a : A) → get_elem? l i ≡ some a → g a ≡ 0) → total g l ≡ 0
   total_none g [] all = refl
   total_none g (x ∷ l) all = omega (arith, all 0 x refl, total_none g l (λ i a e. all (suc i) a e))
 
-  none_waits : (id n m : ℕ) → total (total (of_retry id n)) (replicate m []) ≡ 0
+  pub none_waits : (id n m : ℕ) → total (total (of_retry id n)) (replicate m []) ≡ 0
   none_waits id n zero = refl
   none_waits id n (suc m) = omega (arith, none_waits id n m)
 
@@ -93,7 +93,7 @@ module _ (p : Plan) (q : IdPlan) (narrow : q.slots ≤ 65536) (is_call : Asked �
   abbrev pub IsBare : View → Type 0
   IsBare v = (v.claims ≡ []) × (v.lists ≡ [] ∷ [])
 
-  bare_count : (id n : ℕ) (v : View) → IsBare v → of_view id n v ≡ 0
+  pub bare_count : (id n : ℕ) (v : View) → IsBare v → of_view id n v ≡ 0
   bare_count id n v bare = let a : total (of_claim id n) v.claims ≡ 0 = ap (total (of_claim id n)) bare.0 in
       let b : total (total (of_entry id n)) v.lists ≡ 0 = ap (total (total (of_entry id n))) bare.1 in omega (arith, a, b)
 
@@ -148,7 +148,7 @@ pub record AreLabelledIn (ids : ℕ → ℕ) (script : List Item) (turns : List 
 abbrev pub IsCallOf : List Item → Asked → Type 0
 IsCallOf script asked = (i : ℕ) × (ts : List Task) × (t : Task) × (get_elem? (all_tasks script) i ≡ some ts) × In t ts × (t.op ≡ ops.Call asked) × (asked.operation ≡ t.number)
 
-asked_by : (script : List Item) (i : ℕ) (ts : List Task) → get_elem? (all_tasks script) i ≡ some ts → AllByRecursion (λ (t : Task). OpCalls (IsCallOf script) t.op) ts
+pub asked_by : (script : List Item) (i : ℕ) (ts : List Task) → get_elem? (all_tasks script) i ≡ some ts → AllByRecursion (λ (t : Task). OpCalls (IsCallOf script) t.op) ts
 asked_by script i ts at = all_of (λ (t : Task). OpCalls (IsCallOf script) t.op) ts of_task
   where
     of_task : (t : Task) → In t ts → OpCalls (IsCallOf script) t.op
@@ -176,7 +176,7 @@ module _ (script : List Item) (are : AreTasks (plan_of script) (all_tasks script
   pub set_up_law : Law (set_up script is.setup) (views_along (plan_of script) (opened script) vs (replicate is.setup (quiet 0)))
   set_up_law = run_labels (plan_of script) (id_plan_of script) narrow (IsCallOf script) ids go (replicate is.setup (quiet 0)) (opened script) vs begins.sound (set_up_answered script are vs begins go turns core is fitting) fitting.of_setup labelled.of_setup first
 
-  played_law : Law (rested_of script turns core is) (views_played script turns core is vs)
+  pub played_law : Law (rested_of script turns core is) (views_played script turns core is vs)
   played_law = run_labels (plan_of script) (id_plan_of script) narrow (IsCallOf script) ids go (is.scheduled ++ is.later) (set_up script is.setup) (views_along (plan_of script) (opened script) vs (replicate is.setup (quiet 0)))
       (set_up_sound script are vs begins go turns core is fitting) is.answered fitting.of_played labelled.of_played set_up_law
 

@@ -95,6 +95,7 @@ module _ (requests : ℕ) (is_call : Asked → Type 0) (reads : Bool) where
     pub called : is_call asked
     pub trying : IsTrying s.trial asked.operation id attempt (Do call next)
     pub few : attempt ≤ 6
+    pub still : put_behind s.trial call ≡ s.trial
     pub put : In (DidPut asked) s.deeds
     pub why : WhyRefused requests asked attempt code (DidStep call found ∷ s.deeds)
     pub gives_up : u.trial ≡ Idle
@@ -177,11 +178,11 @@ module _ (requests : ℕ) (is_call : Asked → Type 0) (reads : Bool) where
   Charges s (PutHome k n after) = Charges idle after
   Charges s (PutBytes k asked bytes next) = (answer : Put) → Charges idle (next answer)
   Charges s (AskReady k next) = (answer : Ready) → Charges idle (next answer)
-  Charges s (Write w after) = Charges idle after
+  Charges s (Write w after) = (reads ≡ false) × Charges idle after
   Charges s (Aside step next) = MayPost s.charge step × ((found : Found step) → FindsLabel is_call step found → (u : Doing) × (AsideMove is_call step found s.trial u.trial × Remembers (did_aside step s.deeds) s u) × Charges u (next found))
   Charges s (Round head next) = (AtLabel is_call head × AtCharge s.charge head) × ((exit : Exit head) → LeavesLabel head exit → LeavesCode head exit → Charges (doing_behind head exit s) (next exit))
   Charges s (Keep r next) = (s.trial ≡ Tries r.id r.attempt) × (r.attempt ≤ 6) × (0 < r.attempt) × Charges idle next
-  Charges s (Retries requests after) = Charges idle after
+  Charges s (Retries many after) = (reads ≡ false) × (many ≡ requests) × Charges idle after
 
 -- ## What was done in a run
 
@@ -211,6 +212,23 @@ module _ (script : List Item) (turns : List Turn) (end_ : Core) (is : IsRunWithC
   -- in the whole run
   abbrev pub DidInRun : ℕ → Deed → Type 0
   DidInRun seat deed = DidEarly seat deed ⊎ (DidClosing seat deed ⊎ DidLate seat deed)
+
+-- ## Attempts that would be stored
+
+-- each attempt that would store an at word in the tick, had it found the right words, is of its operation's own call
+abbrev pub WouldOwn : (ℕ → ℕ) → Core → Moment → Type 0
+WouldOwn ids c m = (seat : SeatState) → get_elem? c.seats m.seat ≡ some seat → (o id n : ℕ) → n ≤ 6 → id_slot id < 65536 → WouldStore o id n (first_step seat.program) → ids o ≡ id
+
+abbrev pub AllWouldOwn : (ℕ → ℕ) → Plan → Core → List Moment → Type 0
+AllWouldOwn ids p c [] = Unit {0}
+AllWouldOwn ids p c (m ∷ ms) = WouldOwn ids c m × AllWouldOwn ids p (ticked p c m) ms
+
+-- in all of a run
+pub record RunWouldOwn (ids : ℕ → ℕ) (script : List Item) (turns : List Turn) (core : Core) (is : IsRunWithCalls script turns core) : Type 0 where
+  pub of_setup : AllWouldOwn ids (plan_of script) (opened script) (replicate is.setup (quiet 0))
+  pub of_played : AllWouldOwn ids (plan_of script) (set_up script is.setup) (is.scheduled ++ is.later)
+  pub of_closing : AllWouldOwn ids (plan_of script) (ending script (played script is.setup (is.scheduled ++ is.later))) (replicate is.last (quiet 0))
+  pub of_final : AllWouldOwn ids (plan_of script) is.ended is.final
 
 -- ## The kinds of posts
 
