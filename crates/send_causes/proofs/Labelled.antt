@@ -19,7 +19,7 @@ use Rattle.sock_runs.proofs.Quiets.{run_seats}
 use Rattle.sock_runs.proofs.Whole.{closing_of, views_played, views_closed}
 use Rattle.joint_runs.proofs.Both.{AreBoth, behind_both}
 use Rattle.joint_runs.proofs.Runs.{AreMade, first_views, joint_runs}
-use Rattle.owed_calls.specs.Owns.{Grows, Behind, Other, Owns, Owned}
+use Rattle.owed_calls.specs.Owns.{Grows, Behind, Other, IsIdOf, Owns, Owned}
 use Rattle.owed_calls.proofs.OwnsLoops.{grows_same, owns_any, owns_round}
 use Rattle.owed_calls.proofs.OwnsSends.{block_goes}
 use Rattle.owed_calls.proofs.OwnsTicks.{own_at, on_sockets, owns_ticks}
@@ -28,6 +28,7 @@ use Rattle.owed_calls.proofs.OwnsRuns.{first_left, none_yet, owned_begins, owned
 use Rattle.owed_calls.proofs.EndsStill.{view_of}
 use Rattle.owed_calls.proofs.Owed.{opened_seats}
 use Rattle.send_causes.specs.Counts.{StoresOwn, AreLabelled}
+use Rattle.send_causes.specs.Refused.{WouldStore, WouldOwn, AllWouldOwn, RunWouldOwn}
 use Rattle.send_causes.proofs.Runs.{AreLabelledIn}
 
 -- the first step of a round
@@ -68,6 +69,21 @@ module _ (p : Plan) (q : IdPlan) (narrow : q.slots ≤ 65536) (calls : List ℕ)
       let some_ : id ≢ 0 = (λ z. mine.0 (e ∙ z)) in let one : has o ≡ id = mine.1 ∙ e in
       (grows o (λ z. some_ (sym one ∙ z)) ∙ one, some_)
 
+  -- and whoever would store one
+  would_own : (has : ℕ → ℕ) (inside : (o : ℕ) → has o ≢ 0 → id_slot (has o) < q.slots) (left : ℕ → Bool) (b : Behind) (o id n : ℕ) → n ≤ 6 → id_slot id < 65536 → (program : Program) → Owns has left b program → WouldStore o id n program → IsIdOf has o id
+  would_own has inside left b o id n few small (Do call next) g would = would_own has inside left Other o id n few small (next would.0) (g would.0 would.1 has (grows_same has)) would.2
+  would_own has inside left b o id n few small (Aside (StoreAt x w) next) g would =
+      let mine = own_at q narrow has inside x w g.0 in let e = named_id id would.0 n w would.2 would.3 few small in
+      subst (λ y. IsIdOf has y id) would.1 (subst (IsIdOf has x) e mine)
+  would_own has inside left b o id n few small (Aside _ next) g would = absurd would
+  would_own has inside left b o id n few small _ g would = absurd would
+
+  all_own : (ids : ℕ → ℕ) (c : Core) (has : ℕ → ℕ) (left : ℕ → ℕ → Bool) → Owned q calls c has left → Grows has ids → (m : Moment) → WouldOwn ids c m
+  all_own ids c has left owned grows m seat at o id n few small would =
+      let s = owned.seats m.seat seat at in let f = owns_first has (left m.seat) s.0 seat.program s.1 in
+      let mine = would_own has (λ y z. (owned.inside y z).0) (left m.seat) f.0 o id n few small (first_step seat.program) f.1 would in
+      grows o (λ z. mine.0 (sym mine.1 ∙ z)) ∙ mine.1
+
   -- of some ticks, for each choice of ids that has those of the last
   record Ahead (c : Core) (ms : List Moment) (has : ℕ → ℕ) : Type 0 where
     more : ℕ → ℕ
@@ -75,15 +91,17 @@ module _ (p : Plan) (q : IdPlan) (narrow : q.slots ≤ 65536) (calls : List ℕ)
     grows : Grows has more
     owned : Owned q calls (run p c ms) more others
     are : (ids : ℕ → ℕ) → Grows more ids → AreLabelled ids p q c ms
+    would : (ids : ℕ → ℕ) → Grows more ids → AllWouldOwn ids p c ms
 
   along : (c : Core) (vs : List View) (ms : List Moment) → AreBoth p q c vs ms → (has : ℕ → ℕ) (left : ℕ → ℕ → Bool) → Owned q calls c has left → Ahead c ms has
-  along c vs [] both has left owned = record { more = has; others = left; grows = grows_same has; owned = owned; are = λ ids g. (both.id_views, both.ids) }
+  along c vs [] both has left owned = record { more = has; others = left; grows = grows_same has; owned = owned; are = λ ids g. (both.id_views, both.ids); would = λ ids g. tt }
   along c vs (m ∷ ms) both has left owned = let n = owns_ticks p q narrow calls c both.0.id_views both.0.ids has left owned m both.1.fitting_ids in let r = along (ticked p c m) _ ms both.2 n.0 n.1 n.3 in record {
     more = r.more;
     others = r.others;
     grows = grows_on has n.0 r.more n.2 r.grows;
     owned = r.owned;
     are = λ ids g. ((both.0.id_views, both.0.ids), both.1.fitting_ids, stores_own ids c has left owned (grows_on has r.more ids (grows_on has n.0 r.more n.2 r.grows) g) m, r.are ids g);
+    would = λ ids g. (all_own ids c has left owned (grows_on has r.more ids (grows_on has n.0 r.more n.2 r.grows) g) m, r.would ids g);
   }
 
 module _ (script : List Item) (made : AreMade script) (turns : List Turn) (core : Core) (is : IsRunWithCalls script turns core) (narrow : (id_plan_of script).slots ≤ 65536) (few : length (all_tasks script) ≤ 32) where
@@ -141,4 +159,15 @@ module _ (script : List Item) (made : AreMade script) (turns : List Turn) (core 
         of_played = clients_go.are final_goes.more second;
         of_closing = closing_goes.are final_goes.more last;
         of_final = final_goes.are final_goes.more (grows_same final_goes.more);
+      }
+
+  -- and so would each attempt do that is refused before it stores one
+  pub run_would_own : RunWouldOwn ids_of_run script turns core is
+  unfolding ids_of_run
+  run_would_own = let last = final_goes.grows in let third = grows_on begun.0 closing_goes.more final_goes.more closing_goes.grows last in
+      let second = grows_on clients_go.more begun.0 final_goes.more begun.2 third in let first = grows_on setup_goes.more clients_go.more final_goes.more clients_go.grows second in record {
+        of_setup = setup_goes.would final_goes.more first;
+        of_played = clients_go.would final_goes.more second;
+        of_closing = closing_goes.would final_goes.more last;
+        of_final = final_goes.would final_goes.more (grows_same final_goes.more);
       }

@@ -78,11 +78,11 @@ module _ (p : Plan) (q : IdPlan) (narrow : q.slots ≤ 65536) (is_call : Asked �
   idle_stays (Aside step next) g = g
   idle_stays (Round head next) g = g
 
-  total_none : {A : Type 0} (g : A → ℕ) (l : List A) → ((i : ℕ) (a : A) → get_elem? l i ≡ some a → g a ≡ 0) → total g l ≡ 0
+  pub total_none : {A : Type 0} (g : A → ℕ) (l : List A) → ((i : ℕ) (a : A) → get_elem? l i ≡ some a → g a ≡ 0) → total g l ≡ 0
   total_none g [] all = refl
   total_none g (x ∷ l) all = omega (arith, all 0 x refl, total_none g l (λ i a e. all (suc i) a e))
 
-  none_waits : (id n m : ℕ) → total (total (of_retry id n)) (replicate m []) ≡ 0
+  pub none_waits : (id n m : ℕ) → total (total (of_retry id n)) (replicate m []) ≡ 0
   none_waits id n zero = refl
   none_waits id n (suc m) = omega (arith, none_waits id n m)
 
@@ -93,7 +93,7 @@ module _ (p : Plan) (q : IdPlan) (narrow : q.slots ≤ 65536) (is_call : Asked �
   abbrev pub IsBare : View → Type 0
   IsBare v = (v.claims ≡ []) × (v.lists ≡ [] ∷ [])
 
-  bare_count : (id n : ℕ) (v : View) → IsBare v → of_view id n v ≡ 0
+  pub bare_count : (id n : ℕ) (v : View) → IsBare v → of_view id n v ≡ 0
   bare_count id n v bare = let a : total (of_claim id n) v.claims ≡ 0 = ap (total (of_claim id n)) bare.0 in
       let b : total (total (of_entry id n)) v.lists ≡ 0 = ap (total (total (of_entry id n))) bare.1 in omega (arith, a, b)
 
@@ -148,7 +148,7 @@ pub record AreLabelledIn (ids : ℕ → ℕ) (script : List Item) (turns : List 
 abbrev pub IsCallOf : List Item → Asked → Type 0
 IsCallOf script asked = (i : ℕ) × (ts : List Task) × (t : Task) × (get_elem? (all_tasks script) i ≡ some ts) × In t ts × (t.op ≡ ops.Call asked) × (asked.operation ≡ t.number)
 
-asked_by : (script : List Item) (i : ℕ) (ts : List Task) → get_elem? (all_tasks script) i ≡ some ts → AllByRecursion (λ (t : Task). OpCalls (IsCallOf script) t.op) ts
+pub asked_by : (script : List Item) (i : ℕ) (ts : List Task) → get_elem? (all_tasks script) i ≡ some ts → AllByRecursion (λ (t : Task). OpCalls (IsCallOf script) t.op) ts
 asked_by script i ts at = all_of (λ (t : Task). OpCalls (IsCallOf script) t.op) ts of_task
   where
     of_task : (t : Task) → In t ts → OpCalls (IsCallOf script) t.op
@@ -166,17 +166,17 @@ asked_by script i ts at = all_of (λ (t : Task). OpCalls (IsCallOf script) t.op)
 
 module _ (script : List Item) (are : AreTasks (plan_of script) (all_tasks script)) (vs : List View) (begins : Begins script vs) (go : RetriesGo (plan_of script)) (turns : List Turn) (core : Core) (is : IsRunWithCalls script turns core)
     (fitting : AreFittingIn script turns core is) (narrow : (id_plan_of script).slots ≤ 65536) (bare : (i : ℕ) (v : View) → get_elem? vs i ≡ some v → (v.claims ≡ []) × (v.lists ≡ [] ∷ [])) (ids : ℕ → ℕ) (labelled : AreLabelledIn ids script turns core is) where
-  abbrev Law : Core → List View → Type 0
+  abbrev pub Law : Core → List View → Type 0
   Law c ws = (ts : List Trial) × LabelLaw (IsCallOf script) ids (plan_of script) (id_plan_of script) c ws ts
 
-  first : Law (opened script) vs
+  pub first : Law (opened script) vs
   first = begins_labels (plan_of script) (id_plan_of script) narrow (IsCallOf script) ids (all_programs (programs (sizes_of (plan_of script) (id_plan_of script)) (all_tasks script)) (readers_from (calls script) 0 (opens script)))
       (programs_go (IsCallOf script) (sizes_of (plan_of script) (id_plan_of script)) (all_tasks script) (asked_by script) (calls script) (opens script)) vs bare
 
-  set_up_law : Law (set_up script is.setup) (views_along (plan_of script) (opened script) vs (replicate is.setup (quiet 0)))
+  pub set_up_law : Law (set_up script is.setup) (views_along (plan_of script) (opened script) vs (replicate is.setup (quiet 0)))
   set_up_law = run_labels (plan_of script) (id_plan_of script) narrow (IsCallOf script) ids go (replicate is.setup (quiet 0)) (opened script) vs begins.sound (set_up_answered script are vs begins go turns core is fitting) fitting.of_setup labelled.of_setup first
 
-  played_law : Law (rested_of script turns core is) (views_played script turns core is vs)
+  pub played_law : Law (rested_of script turns core is) (views_played script turns core is vs)
   played_law = run_labels (plan_of script) (id_plan_of script) narrow (IsCallOf script) ids go (is.scheduled ++ is.later) (set_up script is.setup) (views_along (plan_of script) (opened script) vs (replicate is.setup (quiet 0)))
       (set_up_sound script are vs begins go turns core is fitting) is.answered fitting.of_played labelled.of_played set_up_law
 
@@ -184,7 +184,7 @@ module _ (script : List Item) (are : AreTasks (plan_of script) (all_tasks script
   fresh i v e = (bare i v e).1
 
   -- seat 0 begins the ending
-  closing_law : Law (closing_of script turns core is) (views_played script turns core is vs)
+  pub closing_law : Law (closing_of script turns core is) (views_played script turns core is vs)
   closing_law = let c : Core = rested_of script turns core is in let ws : List View = views_played script turns core is vs in
       let long : length (closing_of script turns core is).seats ≡ length (told_tasks_of script) = (closing_told script are vs begins fresh go turns core is fitting).story.each in
       let some_ = (seats script are vs begins fresh go turns core is fitting).some_ in
@@ -200,7 +200,7 @@ module _ (script : List Item) (are : AreTasks (plan_of script) (all_tasks script
   on_law : (c : Core) (ws : List View) → Law c ws → Law (is_ending c) ws
   on_law c ws law = (law.0, record { once = law.1.once; made = law.1.made; views = law.1.views; trials = law.1.trials; calls = law.1.calls; each = law.1.each; programs = law.1.programs })
 
-  closed_law : Law is.ended (views_closed script turns core is vs)
+  pub closed_law : Law is.ended (views_closed script turns core is vs)
   closed_law = subst (λ c. Law c (views_closed script turns core is vs)) (sym is.is_ended)
       (on_law (run (plan_of script) (closing_of script turns core is) (replicate is.last (quiet 0))) (views_closed script turns core is vs)
       (run_labels (plan_of script) (id_plan_of script) narrow (IsCallOf script) ids go (replicate is.last (quiet 0)) (closing_of script turns core is) (views_played script turns core is vs) (closing_sound script are vs begins go turns core is fitting)

@@ -66,7 +66,7 @@ pair_same id n i m some_ = by (eqb i id) (eqb m n) refl refl some_
 -- ## Sums
 
 -- the lists of retries with one changed
-waits_set : {A : Type 0} (f : List A → ℕ) → f [] ≡ 0 → (ws : List (List A)) (i : ℕ) (x : List A) → total f (set ws i x) + f (get_or ws i []) ≤ total f ws + f x
+pub waits_set : {A : Type 0} (f : List A → ℕ) → f [] ≡ 0 → (ws : List (List A)) (i : ℕ) (x : List A) → total f (set ws i x) + f (get_or ws i []) ≤ total f ws + f x
 waits_set f none_ [] i x = omega (arith, none_)
 waits_set f none_ (w ∷ ws) zero x = omega arith
 waits_set f none_ (w ∷ ws) (suc i) x = let r = waits_set f none_ ws i x in omega (arith, r)
@@ -138,7 +138,7 @@ labels_first is_call t (Aside step next) g = g
 labels_first is_call t (Keep r next) g = g
 labels_first is_call t (Retries requests after) g = g
 
-ids_first : (p : Plan) (q : IdPlan) → q.slots ≤ 65536 → (u : IdView) (program : Program) → IdGoesOn p q u program → IdGoesOn p q u (first_step program)
+pub ids_first : (p : Plan) (q : IdPlan) → q.slots ≤ 65536 → (u : IdView) (program : Program) → IdGoesOn p q u program → IdGoesOn p q u (first_step program)
 ids_first p q narrow u (Write w after) g = id_programs.block_goes p q narrow u w after g
 ids_first p q narrow u (Round head next) g = ids_round p q u head next g
 ids_first p q narrow u (Do call next) g = g
@@ -155,7 +155,7 @@ ids_first p q narrow u (Keep r next) g = g
 ids_first p q narrow u (Retries requests after) g = g
 
 -- what is found of a step on the sockets
-fits_as : (p : Plan) (c : Core) (program : Program) (call : Call) (next : ℕ → Program) → first_step program ≡ Do call next → FitsFirst p c (goes.first_of program) → FitsSock call (found_at c.words (word_of p call))
+pub fits_as : (p : Plan) (c : Core) (program : Program) (call : Call) (next : ℕ → Program) → first_step program ≡ Do call next → FitsFirst p c (goes.first_of program) → FitsSock call (found_at c.words (word_of p call))
 fits_as p c program call next e f = by program e f
   where
     by : (program : Program) → first_step program ≡ Do call next → FitsFirst p c (goes.first_of program) → FitsSock call (found_at c.words (word_of p call))
@@ -232,11 +232,11 @@ calls_waiting (EndId i) found a = refl
 calls_waiting (FreeId i) found a = refl
 calls_waiting (TakeCall i) found a = refl
 
-kept_count : (id n : ℕ) (t u : Trial) → Kept t u → of_trial id n u ≤ of_trial id n t
+pub kept_count : (id n : ℕ) (t u : Trial) → Kept t u → of_trial id n u ≤ of_trial id n t
 kept_count id n t u (inl e) = let z : of_trial id n u ≡ of_trial id n t = ap (of_trial id n) e in omega (arith, z)
 kept_count id n t u (inr e) = let z : of_trial id n u ≡ 0 = ap (of_trial id n) e in omega (arith, z)
 
-kept_fits : (ids : ℕ → ℕ) (t u : Trial) → Kept t u → TrialFits ids t → TrialFits ids u
+pub kept_fits : (ids : ℕ → ℕ) (t u : Trial) → Kept t u → TrialFits ids t → TrialFits ids u
 kept_fits ids t u (inl e) f = subst (TrialFits ids) (sym e) f
 kept_fits ids t u (inr e) f = subst (TrialFits ids) (sym e) tt
 

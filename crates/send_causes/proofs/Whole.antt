@@ -33,11 +33,11 @@ use Rattle.send_causes.proofs.Runs.{AreLabelledIn, IsCallOf, end_law}
 use Rattle.send_causes.proofs.Apart as apart
 
 -- no seat writes a link where none has anything left to do
-quiet_there : (p : Plan) (c : Core) (vs : List View) → Sound p c vs → AllRest c → AreQuiet vs
+pub quiet_there : (p : Plan) (c : Core) (vs : List View) → Sound p c vs → AllRest c → AreQuiet vs
 quiet_there p c vs sound settled i v at = let seat = at_there c.seats i (omega (arith, at_within vs i v at, sound.each)) in
     let n : HasNothing v = subst (GoesOn p v) (settled i seat.0 seat.1) (sound.seats i seat.0 v seat.1 at).goes_on in n.quiet
 
-get_same : {A : Type 0} (xs : List A) (i : ℕ) (x : A) → get_elem? xs i ≡ some x → slice_get xs i ≡ Some x
+pub get_same : {A : Type 0} (xs : List A) (i : ℕ) (x : A) → get_elem? xs i ≡ some x → slice_get xs i ≡ Some x
 get_same [] i x e = absurd (some-ne-none x (sym e))
 get_same (y ∷ xs) zero x e = ap (λ z. Some z) (some-injective y x e)
 get_same (y ∷ xs) (suc i) x e = get_same xs i x e

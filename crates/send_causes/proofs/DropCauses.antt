@@ -1,0 +1,106 @@
+-- An error that was posted for a dropped message tells why an attempt of its call was followed by another, and why the call failed.
+use Rattle.std.proofs.Common.{◌≡◌, ℕ, ◌+◌, ◌<◌, ◌≤◌, ◌⊎◌, inl, inr, ⊎_elim, List, [], length, sym, ap, ◌∙◌, subst, arith}
+use Rattle.std.specs.List.{AllByRecursion}
+use Rattle.brpc_model.specs.Items.{Item}
+use Rattle.brpc_model.specs.Operations.{Turn}
+use Rattle.report_fits.proofs.Reading.{InRange}
+use Rattle.report_fits.proofs.Targets.{AreThere}
+use Rattle.sock_words.specs.declared.plain.Plan.{Plan}
+use Rattle.corr_core.specs.Word.{code_of, attempt_of}
+use Rattle.sock_message.specs.Asked.{name_of}
+use Rattle.sock_programs.specs.declared.task.Op.TheVariants as ops
+use Rattle.sock_programs.specs.declared.task.Task.{Task}
+use Rattle.sock_programs.specs.Cores.{Core}
+use Rattle.sock_programs.specs.Tasks.{plan_of, id_plan_of}
+use Rattle.sock_programs.specs.Scripts.{all_tasks, IsRunWithCalls}
+use Rattle.sock_programs.specs.Told.{IsTask, Made}
+use Rattle.sock_programs.specs.ToldCalls.{Accepted, Order, Fixed, IsSent, OfSend, OfCall, IsDropped, IsFailing, IsFailedWith, WhyLost, WasFailing, WhyAgain, AfterDrop, FailedBy, BySocket, ByFail}
+use Rattle.sock_causes.specs.Causes.{Asks}
+use Rattle.sock_causes.proofs.Members.{all_in, contains_in, get_all, get_within}
+use Rattle.sock_causes.proofs.Tasks.{one_link, one_task}
+use Rattle.joint_runs.proofs.Runs.{AreMade}
+use Rattle.owed_calls.specs.Lives.{ClosesInRun}
+use Rattle.call_causes.specs.Posts.{Post}
+use Rattle.call_causes.proofs.Clients.{FitsOp}
+use Rattle.call_causes.proofs.Scripts.{begins}
+use Rattle.send_causes.proofs.Beside.{gave_of_run, fixed_of_run, orders_here}
+use Rattle.send_causes.proofs.DropOfRun.{IsDroppedOn, IsFailedOn, DropOf}
+
+module _ (script : List Item) (made : AreMade script) (turns : List Turn) (core : Core) (is : IsRunWithCalls script turns core) (closes : ClosesInRun script turns core is) where
+  abbrev p : Plan
+  p = plan_of script
+
+  abbrev clients : List (List Task)
+  clients = all_tasks script
+
+  -- what the run fixes
+  abbrev fixed : Fixed
+  fixed = fixed_of_run script made turns core is closes
+
+  abbrev gave : ℕ → List ℕ
+  gave = gave_of_run script made turns core is closes
+
+  -- what the links accepted
+  abbrev orders : ℕ → Order
+  orders = orders_here script made turns core is closes
+
+  -- it stands dropped
+  pub is_dropped : (o n k : ℕ) → IsDroppedOn script made turns core is closes o n k → IsDropped p clients core.outcomes fixed gave orders o n
+  is_dropped o n k d = (k, d.place, d.at, d.late)
+
+  -- so the attempt had to be followed by another, or the call failed
+  pub again_by_drop : (x : Post) (d : DropOf script made turns core is closes x) (c name : ℕ) → WhyAgain p clients core.outcomes fixed gave orders c d.task.number (attempt_of x.error) name
+  again_by_drop x d c name = AfterDrop (is_dropped d.task.number (attempt_of x.error) d.link d.dropped)
+
+  -- the code of a `fail` is from 1500 to 1999
+  pub fail_range : AreThere script → AllByRecursion InRange script → (client : ℕ) (t : Task) (name code : ℕ) → IsTask clients core.outcomes client t → t.op ≡ ops.Fail name code → (1500 ≤ code) × (code ≤ 1999)
+  fail_range there range client t name code it op = let b = begins script made there range (λ k. []) in
+      let fits = (all_in _ it.0 t (b.fits client it.0 it.1) (contains_in it.0 t it.2)).0 in subst (FitsOp p (id_plan_of script) clients (λ k. []) t.number) op fits
+
+  -- where the messages of calls are known, as those that were sent to sockets of their attempts' names
+  module _ (last : ℕ → ℕ) (sent : (k : ℕ) → k < p.links → AllByRecursion (IsSent p clients core.outcomes fixed gave orders last k) (orders k).accepted) where
+    asks_of : (c : ℕ) (t : Task) → IsTask clients core.outcomes c t → Asks clients c t
+    asks_of c t it = (it.0, it.1, contains_in it.0 t it.2)
+
+    module _ (x : Post) (d : DropOf script made turns core is closes x) where
+      abbrev n : ℕ
+      n = attempt_of x.error
+
+      -- the link's socket had the attempt's name
+      pub named : (slot version : ℕ) × Made clients core.outcomes (name_of d.asked (attempt_of x.error)) d.link slot version
+      named = let at = d.dropped.at in by at.1 at.3 at.4 (get_all (Sent d.link) (orders d.link).accepted d.dropped.place at.1 (sent d.link at.0) at.2)
+        where
+          Sent : ℕ → Accepted → Type 0
+          Sent k a = IsSent p clients core.outcomes fixed gave orders last k a
+
+          same : (c : ℕ) (t : Task) → IsTask clients core.outcomes c t → t.number ≡ d.task.number → t ≡ d.task
+          same c t it number = (one_task p clients made.are c d.client t d.task (asks_of c t it) (asks_of d.client d.task d.is_task) number).1
+
+          by : (a : Accepted) → a.operation ≡ d.task.number → a.attempt ≡ attempt_of x.error → IsSent p clients core.outcomes fixed gave orders last d.link a
+              → (slot version : ℕ) × Made clients core.outcomes (name_of d.asked (attempt_of x.error)) d.link slot version
+          by a op attempt (OfSend client t name slot version it number send first life told) = absurd (let z : ops.Send name a.bytes ≡ ops.Call d.asked = sym send ∙ (ap (λ (y : Task). y.op) (same client t it (number ∙ op)) ∙ d.op) in cc)
+          by a op attempt (OfCall client t asked outcome id slot version it number call became shows few bytes life) = let z : ops.Call asked ≡ ops.Call d.asked = sym call ∙ (ap (λ (y : Task). y.op) (same client t it (number ∙ op)) ∙ d.op) in let one : asked ≡ d.asked = cc in
+              (slot, version, subst (λ y. Made clients core.outcomes (name_of d.asked y) d.link slot version) attempt (subst (λ y. Made clients core.outcomes (name_of y a.attempt) d.link slot version) one life))
+
+      -- the code is that of a `fail` of this name
+      pub failed_with : (code : ℕ) → IsFailedOn script made turns core is closes d.link code → IsFailedWith p clients core.outcomes fixed gave orders (name_of d.asked (attempt_of x.error)) code
+      failed_with code f = let l = f.2 in let a = l.life in let b = named.2 in
+          let task : a.task ≡ b.task = one_link p clients made.are a.client b.client l.name (name_of d.asked (attempt_of x.error)) d.link a.task b.task (asks_of a.client a.task a.is) (asks_of b.client b.task b.is) (a.op ∙ ap (ops.Open l.name) f.3) b.op in
+          let opens : ops.Open l.name d.link ≡ ops.Open (name_of d.asked (attempt_of x.error)) d.link = sym (a.op ∙ ap (ops.Open l.name) f.3) ∙ (ap (λ (y : Task). y.op) task ∙ b.op) in let name : l.name ≡ name_of d.asked (attempt_of x.error) = cc in
+          (l.client, l.task, l.is_task, l.op ∙ ap (λ y. ops.Fail y code) name, l.became)
+
+      -- and messages are dropped only on links that were failing
+      module _ (failing : (k : ℕ) → k < p.links → (orders k).placed < length (orders k).accepted
+          → IsFailing p clients core.outcomes fixed gave orders k) where
+        pub lost_by_drop : (c : ℕ) → WhyLost p clients core.outcomes fixed gave orders c d.task.number (attempt_of x.error) (name_of d.asked (attempt_of x.error))
+        lost_by_drop c = let at = d.dropped.at in let late = d.dropped.late in let inside = get_within (orders d.link).accepted d.dropped.place at.1 at.2 in
+            WasFailing d.link named.0 named.1 named.2 (failing d.link at.0 (omega (arith, late, inside)))
+
+        -- why the call failed, where this was its last attempt; a code of the ending or of a reader ends it whatever retries are left
+        pub failed_by_drop : AreThere script → AllByRecursion InRange script → (c id : ℕ) → attempt_of x.error + 2 ≡ d.asked.range
+            → FailedBy p clients core.outcomes fixed gave orders c d.task.number d.asked id (code_of x.error) (attempt_of x.error)
+            ⊎ ((code_of x.error ≡ 1014) ⊎ (code_of x.error ≡ 2002))
+        failed_by_drop there range c id all = let gone = is_dropped d.task.number (attempt_of x.error) d.link d.dropped in ⊎_elim
+            (λ other. ⊎_elim (λ is. inl (BySocket is all (inr gone) (lost_by_drop c))) (λ final. inr final) other)
+            (λ f. let l = f.2 in let fits = fail_range there range l.client l.task l.name (code_of x.error) l.is_task l.op in inl (ByFail fits.0 fits.1 all gone (failed_with (code_of x.error) f)))
+            d.code

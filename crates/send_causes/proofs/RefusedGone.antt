@@ -1,0 +1,123 @@
+-- An attempt of which nothing is left stands in no order.
+use Rattle.std.proofs.Common.{◌≡◌, ◌≢◌, ℕ, zero, suc, ◌+◌, ◌*◌, ◌<◌, ◌≤◌, ⊎_elim, Bool, true, false, cond, eqb, eq-eqb, ne_eqb, List, [], ◌∷◌, length, refl, sym, ap, ◌∙◌, subst, arith}
+use Rattle.std.proofs.lemmas.Bool.{true≢false}
+use Rattle.std.specs.Prelude.{Some, slice_get}
+use Rattle.std.specs.List.{AllByRecursion}
+use mathlib.Core.Option.{some, some-injective, some-ne-none}
+use lib.ListN.{get_elem?}
+use Rattle.sock_words.specs.declared.plain.Plan.{Plan}
+use Rattle.sock_model.specs.declared.chain.Entry.{Entry}
+use Rattle.sock_model.specs.declared.chain.Heading.{Heading}
+use Rattle.sock_model.specs.declared.view.View.{View}
+use Rattle.sock_model.specs.Weights.{total}
+use Rattle.slot_laws.proofs.Sums.{term_le}
+use Rattle.brpc_model.specs.Items.{Item}
+use Rattle.brpc_model.specs.Operations.{Turn}
+use Rattle.sock_message.specs.Asked.{Asked}
+use Rattle.sock_programs.specs.declared.task.Op.TheVariants as ops
+use Rattle.sock_programs.specs.declared.task.Task.{Task}
+use Rattle.sock_programs.specs.Cores.{Core}
+use Rattle.sock_programs.specs.Tasks.{opens, plan_of, id_plan_of}
+use Rattle.sock_programs.specs.Scripts.{all_tasks, IsRunWithCalls}
+use Rattle.sock_programs.specs.ToldCalls.{Accepted, IsUnordered}
+use Rattle.sock_programs.specs.Told.{AreTasks}
+use Rattle.sock_runs.specs.Sound.{Sound, AllRest}
+use Rattle.sock_runs.proofs.Whole.{views_closed, views_ended, ended_sound, end_rests}
+use Rattle.sock_causes.specs.Causes.{Asks}
+use Rattle.sock_causes.specs.Explains.{is_plain}
+use Rattle.sock_causes.specs.Kept.{is_of_send, Story}
+use Rattle.sock_causes.specs.PlainTasks.{told_tasks_of}
+use Rattle.sock_causes.specs.Stories.{In}
+use Rattle.sock_causes.proofs.Lifted.{up}
+use Rattle.sock_causes.proofs.Members.{all_in, in_contains, contains_in}
+use Rattle.sock_causes.proofs.Messages.{each_made, message_of, number_of}
+use Rattle.sock_causes.proofs.Runs.{Goes}
+use Rattle.sock_causes.proofs.Scripts.{seats, ended_told, final_told, story_end}
+use Rattle.sock_causes.proofs.Senders.{HasSent, all_sent}
+use Rattle.sock_causes.proofs.Tasks.{one_task}
+use Rattle.client_laws.specs.Openings.{all_seats}
+use Rattle.client_laws.proofs.Fresh.{opening_fresh}
+use Rattle.joint_runs.proofs.Runs.{AreMade, first_views}
+use Rattle.owed_calls.specs.Lives.{ClosesInRun}
+use Rattle.send_causes.specs.Counts.{pair_of, of_heading, of_entry, of_view, IsOfCall}
+use Rattle.send_causes.proofs.Apart.{of_call_fits}
+use Rattle.send_causes.proofs.Beside.{fixed_of_run, gave_of_run, orders_here}
+use Rattle.send_causes.proofs.Early.{start, go, fitting}
+use Rattle.send_causes.proofs.Runs.{IsCallOf, Lawful_, end_law}
+use Rattle.send_causes.proofs.Sends.{narrow, owed, labelled, opening_claims}
+use Rattle.send_causes.proofs.Whole.{get_same}
+use Rattle.send_causes.proofs.RefusedWhole.{own_ids, IsGone}
+
+-- a message of the attempt counts
+counts_one : (id n : ℕ) (h : Heading) → h.owner ≢ 0 → h.owner ≡ id → h.attempt ≡ n → of_heading id n h ≡ 1
+counts_one id n h some_ a b = ap (λ z. cond z 0 (pair_of id n h.owner h.attempt)) (ne_eqb h.owner 0 some_) ∙ (ap (λ z. cond z (cond (eqb h.attempt n) 1 0) 0) (eq-eqb h.owner id a) ∙ ap (λ z. cond z 1 0) (eq-eqb h.attempt n b))
+
+module _ (script : List Item) (made : AreMade script) (turns : List Turn) (core : Core) (is : IsRunWithCalls script turns core) (closes : ClosesInRun script turns core is) where
+  abbrev p : Plan
+  p = plan_of script
+
+  abbrev vs : List View
+  vs = views_ended script turns core is (first_views script)
+
+  abbrev fresh : (i : ℕ) (v : View) → get_elem? (first_views script) i ≡ some v → v.lists ≡ [] ∷ []
+  fresh = opening_fresh (plan_of script) (all_seats (all_tasks script) (length (opens script)))
+
+  bare_views : (i : ℕ) (v : View) → get_elem? (first_views script) i ≡ some v → (v.claims ≡ []) × (v.lists ≡ [] ∷ [])
+  bare_views i v at = (opening_claims (plan_of script) (all_seats (all_tasks script) (length (opens script))) i v at, fresh i v at)
+
+  -- no link accepted a message of the attempt
+  module _ (n : ℕ) (asked : Asked) (called : IsCallOf script asked) (gone : IsGone script made turns core is closes (own_ids script made turns core is closes asked.operation) n) where
+    abbrev id : ℕ
+    id = own_ids script made turns core is closes asked.operation
+
+    end_labels : Lawful_ (plan_of script) (id_plan_of script) (narrow script made turns core is closes) (IsCallOf script) (own_ids script made turns core is closes) core vs
+    end_labels = end_law script made.are (first_views script) (start script made turns core is) (go script made turns core is) turns core is (fitting script made turns core is) (narrow script made turns core is closes) bare_views (own_ids script made turns core is closes) (labelled script made turns core is closes)
+
+    abbrev told_run : Goes (plan_of script) (told_tasks_of script) (seats script made.are (first_views script) (start script made turns core is) fresh (go script made turns core is) turns core is (fitting script made turns core is)) true is.final is.ended
+        (views_closed script turns core is (first_views script)) (ended_told script made.are (first_views script) (start script made turns core is) fresh (go script made turns core is) turns core is (fitting script made turns core is))
+    told_run = final_told script made.are (first_views script) (start script made turns core is) fresh (go script made turns core is) turns core is (fitting script made turns core is)
+
+    abbrev told_story : Story (plan_of script) (told_tasks_of script) true core vs told_run.after.events told_run.after.lost
+    told_story = story_end script made.are (first_views script) (start script made turns core is) fresh (go script made turns core is) turns core is (fitting script made turns core is) (owed script made turns core is closes)
+
+    abbrev told_seats : AreTasks (plan_of script) (told_tasks_of script)
+    told_seats = seats script made.are (first_views script) (start script made turns core is) fresh (go script made turns core is) turns core is (fitting script made turns core is)
+
+    abbrev end_sound : Sound (plan_of script) core vs
+    end_sound = ended_sound script made.are (first_views script) (start script made turns core is) (go script made turns core is) turns core is (fitting script made turns core is)
+
+    abbrev rests : AllRest core
+    rests = end_rests script made.are (first_views script) (start script made turns core is) (go script made turns core is) turns core is (fitting script made turns core is) (owed script made turns core is closes)
+
+    none_counts : (i m : ℕ) (e : Entry) → HasSent vs i m e → of_entry id n e ≡ 0
+    none_counts i m e h = let one = term_le (of_entry id n) h.made m e h.stands in
+        let two : total (total (of_entry id n)) h.view.lists ≡ total (of_entry id n) h.made + 0 = ap (total (total (of_entry id n))) h.lists in
+        let three = term_le (of_view id n) vs i h.view h.here in let none_ = gone.0 in omega (arith, one, two, three, none_)
+
+    -- the call's task is no `send`
+    no_task : (i : ℕ) (t : Task) → Asks (told_tasks_of script) i t → t.number ≡ asked.operation → ⊥
+    no_task i t asks e = let x = up (all_tasks script) (length (opens script)) i t asks in let u = called.2 in
+        let one = (one_task (plan_of script) (all_tasks script) made.are i called.0 t u x.0 (called.1, get_same (all_tasks script) called.0 called.1 called.3, called.4) (e ∙ called.6)).1 in
+        true≢false (sym x.1 ∙ (ap (λ (z : Task). is_plain z.op) one ∙ ap is_plain called.5))
+
+    none_sent : (i m : ℕ) (e : Entry) → HasSent vs i m e → e.heading.operation ≡ asked.operation → e.heading.attempt ≡ n → ⊥
+    none_sent i m e h same at = by (is_of_send e) refl
+      where
+        by : (b : Bool) → is_of_send e ≡ b → ⊥
+        by true sends = let x = message_of (plan_of script) (told_tasks_of script) told_seats true core vs told_run.after.events told_run.after.lost end_sound told_story rests i m e h sends in
+            no_task i x.task x.asks (sym (number_of (plan_of script) (told_tasks_of script) told_seats true core vs told_run.after.events told_run.after.lost end_sound told_story rests i e x) ∙ same)
+        by false other = let f = of_call_fits (plan_of script) (id_plan_of script) (IsCallOf script) (own_ids script made turns core is closes) (told_tasks_of script) told_seats core vs told_run.after.events told_run.after.lost end_sound told_story rests
+            end_labels.0 end_labels.1 i m e h other in
+            let one = counts_one id n e.heading f.0 (sym f.1 ∙ ap (own_ids script made turns core is closes) same) at in let none_ = none_counts i m e h in omega (arith, one, none_)
+
+    pub none_accepted : (k : ℕ) → AllByRecursion (λ (a : Accepted). a.operation ≡ asked.operation → a.attempt ≡ n → ⊥) (orders_here script made turns core is closes k).accepted
+    none_accepted k = all_sent (plan_of script) core vs end_sound.lawful (each_made (plan_of script) (told_tasks_of script) told_seats true core vs told_run.after.events told_run.after.lost end_sound told_story rests)
+        (λ (a : Accepted). a.operation ≡ asked.operation → a.attempt ≡ n → ⊥) k (λ i m e h link. none_sent i m e h)
+
+    pub unordered : IsUnordered (plan_of script) (all_tasks script) core.outcomes (fixed_of_run script made turns core is closes) (gave_of_run script made turns core is closes) (orders_here script made turns core is closes) asked.operation n
+    unordered k s = all_at (orders_here script made turns core is closes k).accepted s.0 s.1.1 (none_accepted k) s.1.2 s.1.3 s.1.4
+      where
+        all_at : (l : List Accepted) (i : ℕ) (a : Accepted) → AllByRecursion (λ (a : Accepted). a.operation ≡ asked.operation → a.attempt ≡ n → ⊥) l → slice_get l i ≡ Some a → a.operation ≡ asked.operation → a.attempt ≡ n → ⊥
+        all_at [] i a all e = absurd (cc)
+        all_at (x ∷ l) zero a all e = let same : x ≡ a = cc in subst (λ (y : Accepted). y.operation ≡ asked.operation → y.attempt ≡ n → ⊥) same all.0
+        all_at (x ∷ l) (suc i) a all e = all_at l i a all.1 e

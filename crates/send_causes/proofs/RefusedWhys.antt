@@ -1,0 +1,116 @@
+-- Why attempts were refused: each request was used, or the socket's life was failed.
+use Rattle.std.proofs.Common.{◌≡◌, ◌≢◌, ℕ, ◌+◌, ◌*◌, ◌%◌, ◌<◌, ◌≤◌, ◌⊎◌, inl, inr, ⊎_elim, List, [], ◌∷◌, ◌++◌, length, replicate, refl, sym, ap, ◌∙◌, subst, arith}
+use Rattle.std.specs.List.{AllByRecursion}
+use Rattle.std.specs.Prelude.{slice_index}
+use mathlib.Core.Option.{some}
+use lib.ListN.{get_elem?}
+use Rattle.sock_words.specs.declared.plain.Plan.{Plan}
+use Rattle.sock_model.specs.Layout.{request_word}
+use Rattle.sock_model.specs.declared.view.View.{View}
+use Rattle.brpc_model.specs.Items.{Item}
+use Rattle.brpc_model.specs.Operations.{Turn}
+use Rattle.sock_programs.specs.Calls.{Call, AddRef, LookWord, ClaimRequest}
+use Rattle.sock_programs.specs.Cores.{Core}
+use Rattle.sock_programs.specs.Tasks.{opens, plan_of, id_plan_of}
+use Rattle.sock_programs.specs.Ticks.{Moment, quiet, run}
+use Rattle.sock_programs.specs.Scripts.{all_tasks, opened, set_up, played, is_ending, IsRunWithCalls}
+use Rattle.sock_programs.specs.ToldCalls.{WasFull, all_accepted}
+use Rattle.sock_runs.specs.Sound.{Sound, AllRest, views_along}
+use Rattle.sock_runs.proofs.Whole.{closing_of, views_played, views_closed, views_ended, set_up_answered, end_answered, set_up_sound, closing_sound, closed_sound, ended_sound, end_rests}
+use Rattle.sock_causes.specs.Stories.{In}
+use Rattle.sock_causes.proofs.Delivered.{requests_used}
+use Rattle.joint_runs.proofs.Runs.{AreMade, first_views}
+use Rattle.owed_calls.specs.Lives.{ClosesInRun}
+use Rattle.send_causes.specs.Refused.{Deed, DidStep, DidPut, DidRound, DidIn, DidEarly, DidClosing, DidLate, FoundTaken}
+use Rattle.send_causes.proofs.Beside.{fixed_of_run, gave_of_run, orders_here}
+use Rattle.send_causes.proofs.Early.{start, go, fitting}
+use Rattle.send_causes.proofs.Sends.{owed}
+use Rattle.send_causes.proofs.Whole.{quiet_there}
+use Rattle.send_causes.proofs.RefusedMeans.{IsFailed, Says, IsSo, run_keeps, run_so}
+use Rattle.send_causes.proofs.RefusedWhole.{DidBefore, end_views}
+
+all_in : (P : Deed → Type 0) (ds : List Deed) (d : Deed) → AllByRecursion P ds → In d ds → P d
+all_in P [] d all m = absurd m
+all_in P (x ∷ ds) d all (inl e) = subst P (sym e) all.0
+all_in P (x ∷ ds) d all (inr m) = all_in P ds d all.1 m
+
+module _ (script : List Item) (made : AreMade script) (turns : List Turn) (core : Core) (is : IsRunWithCalls script turns core) (closes : ClosesInRun script turns core is) where
+  abbrev p : Plan
+  p = plan_of script
+
+  abbrev vs : List View
+  vs = first_views script
+
+  abbrev set_views : List View
+  set_views = views_along (plan_of script) (opened script) (first_views script) (replicate is.setup (quiet 0))
+
+  abbrev rested : Core
+  rested = played script is.setup (is.scheduled ++ is.later)
+
+  abbrev rested_views : List View
+  rested_views = views_played script turns core is (first_views script)
+
+  abbrev closed_views : List View
+  closed_views = views_closed script turns core is (first_views script)
+
+  -- ## What was done before the ending
+
+  early_so : (j : ℕ) (d : Deed) → DidEarly script turns core is j d → IsSo (plan_of script) rested rested_views d
+  early_so j d (inl x) = run_keeps (plan_of script) (go script made turns core is) (is.scheduled ++ is.later) (set_up script is.setup) set_views
+      (set_up_sound script made.are (first_views script) (start script made turns core is) (go script made turns core is) turns core is (fitting script made turns core is)) is.answered (fitting script made turns core is).of_played d
+      (run_so (plan_of script) (go script made turns core is) (replicate is.setup (quiet 0)) (opened script) (first_views script) (start script made turns core is).sound
+      (set_up_answered script made.are (first_views script) (start script made turns core is) (go script made turns core is) turns core is (fitting script made turns core is)) (fitting script made turns core is).of_setup j d x)
+  early_so j d (inr x) = run_so (plan_of script) (go script made turns core is) (is.scheduled ++ is.later) (set_up script is.setup) set_views
+      (set_up_sound script made.are (first_views script) (start script made turns core is) (go script made turns core is) turns core is (fitting script made turns core is)) is.answered (fitting script made turns core is).of_played j d x
+
+  -- seat 0 begins the ending, and has made it
+  begin_keeps : (d : Deed) → IsSo (plan_of script) rested rested_views d → IsSo (plan_of script) (closing_of script turns core is) rested_views d
+  begin_keeps (DidStep (ClaimRequest id r) found) so = so
+  begin_keeps (DidStep (AddRef id) found) so = so
+  begin_keeps (DidStep (LookWord id) found) so = so
+  begin_keeps (DidStep _ found) so = tt
+  begin_keeps (DidPut asked) so = tt
+  begin_keeps (DidRound w) so = tt
+
+  end_keeps : (c : Core) (ws : List View) (d : Deed) → IsSo (plan_of script) c ws d → IsSo (plan_of script) (is_ending c) ws d
+  end_keeps c ws (DidStep (ClaimRequest id r) found) so = so
+  end_keeps c ws (DidStep (AddRef id) found) so = so
+  end_keeps c ws (DidStep (LookWord id) found) so = so
+  end_keeps c ws (DidStep _ found) so = tt
+  end_keeps c ws (DidPut asked) so = tt
+  end_keeps c ws (DidRound w) so = tt
+
+  from_ended : (d : Deed) → IsSo (plan_of script) is.ended closed_views d → IsSo (plan_of script) core (end_views script made turns core is closes) d
+  from_ended d so = subst (λ c. IsSo (plan_of script) c (end_views script made turns core is closes) d) (sym is.is_end) (run_keeps (plan_of script) (go script made turns core is) is.final is.ended closed_views
+      (closed_sound script made.are (first_views script) (start script made turns core is) (go script made turns core is) turns core is (fitting script made turns core is)) is.answered_again (fitting script made turns core is).of_final d so)
+
+  abbrev closed : Core
+  closed = run (plan_of script) (closing_of script turns core is) (replicate is.last (quiet 0))
+
+  from_closed : (d : Deed) → IsSo (plan_of script) closed closed_views d → IsSo (plan_of script) core (end_views script made turns core is closes) d
+  from_closed d so = from_ended d (subst (λ c. IsSo (plan_of script) c closed_views d) (sym is.is_ended) (end_keeps closed closed_views d so))
+
+  abbrev close_sound : Sound (plan_of script) (closing_of script turns core is) rested_views
+  close_sound = closing_sound script made.are (first_views script) (start script made turns core is) (go script made turns core is) turns core is (fitting script made turns core is)
+
+  -- ## In the end
+
+  before_so : (j : ℕ) (d : Deed) → DidBefore script made turns core is closes j d → IsSo (plan_of script) core (end_views script made turns core is closes) d
+  before_so j d (inl x) = from_closed d (run_keeps (plan_of script) (go script made turns core is) (replicate is.last (quiet 0)) (closing_of script turns core is) rested_views close_sound
+      (end_answered script made.are (first_views script) (start script made turns core is) (go script made turns core is) turns core is (fitting script made turns core is)) (fitting script made turns core is).of_closing d (begin_keeps d (early_so j d x)))
+  before_so j d (inr x) = from_closed d (run_so (plan_of script) (go script made turns core is) (replicate is.last (quiet 0)) (closing_of script turns core is) rested_views close_sound
+      (end_answered script made.are (first_views script) (start script made turns core is) (go script made turns core is) turns core is (fitting script made turns core is)) (fitting script made turns core is).of_closing j d x)
+
+  late_so : (j : ℕ) (d : Deed) → DidLate script turns core is j d → IsSo (plan_of script) core (end_views script made turns core is closes) d
+  late_so j d x = subst (λ c. IsSo (plan_of script) c (end_views script made turns core is closes) d) (sym is.is_end) (run_so (plan_of script) (go script made turns core is) is.final is.ended closed_views
+      (closed_sound script made.are (first_views script) (start script made turns core is) (go script made turns core is) turns core is (fitting script made turns core is)) is.answered_again (fitting script made turns core is).of_final j d x)
+
+  -- ## Full
+
+  -- where each request was found taken, as many messages were accepted as there are requests
+  pub full : (ds : List Deed) → FoundTaken (plan_of script).requests ds → AllByRecursion (λ (d : Deed). IsSo (plan_of script) core (end_views script made turns core is closes) d) ds
+      → WasFull (plan_of script) (all_tasks script) core.outcomes (fixed_of_run script made turns core is closes) (gave_of_run script made turns core is closes) (orders_here script made turns core is closes)
+  full ds taken so = let sound = ended_sound script made.are (first_views script) (start script made turns core is) (go script made turns core is) turns core is (fitting script made turns core is) in
+      let rests = end_rests script made.are (first_views script) (start script made turns core is) (go script made turns core is) turns core is (fitting script made turns core is) (owed script made turns core is closes) in
+      requests_used (plan_of script) core (end_views script made turns core is closes) sound.lawful (quiet_there (plan_of script) core (end_views script made turns core is closes) sound rests)
+      (λ q low e. let t = taken q low in let s = (all_in (λ (d : Deed). IsSo (plan_of script) core (end_views script made turns core is closes) d) ds (DidStep (ClaimRequest t.0 q) t.1) so t.2 t.3).1 in omega (arith, s, e))
