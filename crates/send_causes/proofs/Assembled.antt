@@ -1,11 +1,10 @@
 -- All that is told of a whole run with calls, from its parts.
-use Rattle.std.proofs.Common.{◌≡◌, ◌≢◌, ℕ, ◌+◌, ◌<◌, ◌≤◌, ◌⊎◌, inl, inr, ⊎_elim, true, List, ◌++◌, length, slice_get, Some, Ok, refl, sym, ap, ◌∙◌, subst, arith}
+use Rattle.std.proofs.Common.{◌≡◌, ℕ, ◌<◌, ◌⊎◌, inl, inr, ⊎_elim, true, List, length, Some, Ok, refl, sym, ap, ◌∙◌, subst, arith}
 use Rattle.std.specs.Prelude.{Contains}
 use Rattle.std.specs.List.{AllByRecursion}
 use Rattle.std.proofs.lemmas.Option.{slice_get_within}
 use Rattle.sock_words.specs.declared.outcome.Outcome.{Outcome}
 use Rattle.sock_words.specs.declared.outcome.Outcome.TheVariants.{Unopened, Answered, Peer, CallFailed}
-use Rattle.sock_words.specs.declared.outcome.Outcome.TheVariants as outcomes
 use Rattle.brpc_model.specs.Items.{Item}
 use Rattle.brpc_model.specs.Operations.{Turn}
 use Rattle.brpc_model.specs.Messages.{shown_id}
@@ -20,9 +19,9 @@ use Rattle.sock_programs.specs.declared.task.Task.{Task}
 use Rattle.sock_programs.specs.Tasks.{opens, plan_of}
 use Rattle.sock_programs.specs.Scripts.{all_tasks, IsRunWithCalls}
 use Rattle.sock_programs.specs.Told.{IsTask, Became, Made}
-use Rattle.sock_programs.specs.ToldCalls.{Accepted, Fixed, Order, AreOrders, IsSent, OfSend, OfCall, InOwnOrder, IsDropped, IsFailing, WhyLost, WasFailing, WhyAgain, FailedBy, ByExpiry, ByCompression, Why, WhyCall, ToldCalls, StandsOn, ShowsId}
+use Rattle.sock_programs.specs.ToldCalls.{Fixed, Order, IsSent, OfSend, OfCall, InOwnOrder, IsDropped, IsFailing, WhyLost, WasFailing, WhyAgain, FailedBy, ByExpiry, ByCompression, Why, WhyCall, ToldCalls}
 use Rattle.sock_causes.specs.Explains.{is_plain}
-use Rattle.sock_causes.specs.Facts.{ToldPlain, closed_before_ending}
+use Rattle.sock_causes.specs.Facts.{ToldPlain}
 use Rattle.sock_causes.proofs.Members.{contains_in}
 use Rattle.sock_causes.proofs.Tasks.{one_task}
 use Rattle.client_laws.specs.Openings.{all_seats}
@@ -33,12 +32,12 @@ use Rattle.report_fits.proofs.Targets.{AreThere}
 use Rattle.report_fits.proofs.Lists.{all_at}
 use Rattle.owed_calls.specs.Lives.{ClosesInRun}
 use Rattle.call_causes.specs.Lists.{given, attempts_of_run, early_of_run, closed_of_run, silent_of_run, soon_of_run}
-use Rattle.call_causes.specs.Posts.{Post, posts_of_run}
+use Rattle.call_causes.specs.Posts.{posts_of_run}
 use Rattle.call_causes.specs.Target.{IsOnCalls, ToldOnCallsInPart, WhyInPart, WhyCallInPart}
 use Rattle.call_causes.proofs.Whole.{run_told_in_part, run_found_none}
 use Rattle.call_causes.proofs.Posted.{run_few_attempts, run_advanced_by, run_advanced_shown, run_failed_by}
 use Rattle.send_causes.specs.PostCauses.{PostCause}
-use Rattle.send_causes.proofs.Beside.{fixed_of_run, gave_of_run, ends_listed}
+use Rattle.send_causes.proofs.Beside.{ends_listed}
 use Rattle.send_causes.proofs.ByPosts.{failed_by_post, again_by_post}
 use Rattle.send_causes.proofs.Early.{start, go, fitting}
 use Rattle.send_causes.proofs.FirstRuns.{run_own_order}
