@@ -1,5 +1,5 @@
 -- What the built-in server of a link gives for the bytes that it was fed, and what a link over it has been offered.
-use Rattle.std.specs.Prelude.{ℕ, ◌≡◌, ◌-◌, ◌&&◌, ◌||◌, nat_le, Bool, true, false, if◌then◌else◌, List, [], ◌++◌, length, take, drop, flat_map, Option, None, Some}
+use Rattle.std.specs.Prelude.{ℕ, ◌≡◌, ◌-◌, ◌<◌, ◌&&◌, ◌||◌, nat_le, Bool, true, false, if◌then◌else◌, List, [], ◌++◌, length, take, drop, flat_map, Option, None, Some}
 use Rattle.brpc_model.specs.Frame.{Frame, frame_bytes}
 use Rattle.brpc_model.specs.Reply.{reply_frames}
 use Rattle.brpc_model.specs.Served.{first_of}
@@ -68,6 +68,11 @@ pub record IsOffered (took : List ℕ) (inn : MemInState) (peer : LoopPeerState)
 pub record IsLinked (out : ShapedState) (inn : MemInState) (peer : LoopPeerState) : Type 0 where
   pub offered : IsOffered out.taken inn peer
   pub finished : inn.ending ≡ ending.Closed → out.inner.finished ≡ true
+
+-- nothing is left to be fed to the server: the other end isn't it, or the link isn't open any more, or these bytes are
+-- another link's
+abbrev pub IsOver : LoopPeerState → List ℕ → MemInState → Type 0
+IsOver peer took inn = peer.serve ≡ true → is_open inn.ending ≡ true → length took < length peer.fed
 
 -- What an answer to what a link took may change; and where the link was offered what belongs to what was fed before, all
 -- is fed now.
