@@ -199,7 +199,7 @@ never_closed false e = cc
 
 open_not_ended : (e : Ending) → is_open e ≡ true → is_ended e ≡ false
 open_not_ended ending.Open h = refl
-open_not_ended ending.Ended h = refl
+open_not_ended ending.Ended h = absurd (cc)
 open_not_ended ending.Closed h = absurd (cc)
 
 left_false : (a b : Bool) → (a || b) ≡ false → a ≡ false
