@@ -135,13 +135,15 @@ end_stays end bytes more h = by (is_reached end (length (reply_frames bytes))) r
     longer = let e = x.1 in omega (arith, ap length e, length-append (reply_frames bytes) x.0)
 
     by : (b : Bool) → is_reached end (length (reply_frames bytes)) ≡ b → (b || has_fault bytes) ≡ true → (ends_for end (bytes ++ more) ≡ true) × (replies_for end (bytes ++ more) ≡ replies_for end bytes)
-    by true e h =
-        (or_left (is_reached end (length (reply_frames (bytes ++ more)))) (has_fault (bytes ++ more)) (reached_more end _ _ e longer),
-         ap (flat_map frame_bytes) (ap (first_of end) x.1 ∙ first_more end (reply_frames bytes) x.0 e))
+    by true e h = (
+      or_left (is_reached end (length (reply_frames (bytes ++ more)))) (has_fault (bytes ++ more)) (reached_more end _ _ e longer),
+      ap (flat_map frame_bytes) (ap (first_of end) x.1 ∙ first_more end (reply_frames bytes) x.0 e),
+    )
     by false e h =
-        let same : stream (bytes ++ more) ≡ stream bytes = fault_stays_whole bytes more h in
-        (or_right (is_reached end (length (reply_frames (bytes ++ more)))) (has_fault (bytes ++ more)) (ap (λ (s : Stream). is_fault s.ending) same ∙ h),
-         ap (λ (s : Stream). flat_map frame_bytes (first_of end (Rattle.std.specs.Prelude.filter_map Rattle.brpc_model.specs.Reply.reply s.frames))) same)
+        let same : stream (bytes ++ more) ≡ stream bytes = fault_stays_whole bytes more h in (
+          or_right (is_reached end (length (reply_frames (bytes ++ more)))) (has_fault (bytes ++ more)) (ap (λ (s : Stream). is_fault s.ending) same ∙ h),
+          ap (λ (s : Stream). flat_map frame_bytes (first_of end (Rattle.std.specs.Prelude.filter_map Rattle.brpc_model.specs.Reply.reply s.frames))) same,
+        )
 
 gives_more : (serve : Bool) (end : Option ℕ) (bytes more : List ℕ) → (serve && ends_for end bytes) ≡ true →
     ((serve && ends_for end (bytes ++ more)) ≡ true) × (cond serve (replies_for end (bytes ++ more)) [] ≡ cond serve (replies_for end bytes) [])
@@ -212,12 +214,15 @@ pub answered : (took rest bytes tail server : List ℕ) (inn inn' : MemInState) 
     ((frames : List Frame) → bytes ≡ flat_map frame_bytes frames → tail ≡ flat_map frame_bytes (first_left old.end (length (reply_frames server)) frames)) →
     inn'.given ≡ inn.given → inn'.waiting ≡ inn.waiting ++ tail → inn'.ending ≡ ending_for (is_reached old.end (length (reply_frames (server ++ rest))) || faulty) false →
     new.serve ≡ old.serve → new.end ≡ old.end → new.fed ≡ server ++ rest → (new.fed ≡ took) × IsOffered took inn' new
-answered took rest bytes tail server inn inn' old new faulty serves live o rest_is server_is replies fault tail_is given waiting ends same_serve same_end fed = (all, record {
-  begins = subst (λ l. l ++ drop (length l) took ≡ took) (sym all) (all_begins took);
-  offered = offered ∙ sym now;
-  ended = ap is_ended ends ∙ ends_where (is_reached old.end (length (reply_frames (server ++ rest))) || faulty) ∙ ap (λ b. is_reached old.end (length (reply_frames (server ++ rest))) || b) fault ∙ sym gives;
-  closed = λ e. absurd (never_closed (is_reached old.end (length (reply_frames (server ++ rest))) || faulty) (sym ends ∙ e));
-})
+answered took rest bytes tail server inn inn' old new faulty serves live o rest_is server_is replies fault tail_is given waiting ends same_serve same_end fed = (
+  all,
+  record {
+    begins = subst (λ l. l ++ drop (length l) took ≡ took) (sym all) (all_begins took);
+    offered = offered ∙ sym now;
+    ended = ap is_ended ends ∙ ends_where (is_reached old.end (length (reply_frames (server ++ rest))) || faulty) ∙ ap (λ b. is_reached old.end (length (reply_frames (server ++ rest))) || b) fault ∙ sym gives;
+    closed = λ e. absurd (never_closed (is_reached old.end (length (reply_frames (server ++ rest))) || faulty) (sym ends ∙ e));
+  },
+)
   where
     all : new.fed ≡ took
     all = fed ∙ ap (λ l. l ++ rest) server_is ∙ ap (λ l. old.fed ++ l) rest_is ∙ o.begins

@@ -105,7 +105,12 @@ impl LoopPeer {
     }
 
     // The server that was fed the front; a new one, where the old one was lost.
-    fn begun(&mut self, alloc: Global, pool: &mut BlockPool, front: &[u8]) -> Result<Server, NoMemory>
+    fn begun(
+        &mut self,
+        alloc: Global,
+        pool: &mut BlockPool,
+        front: &[u8],
+    ) -> Result<Server, NoMemory>
         requires { length front.now ≡ length self.old.fed }
         ensures same { self.new ≡ self.old }
         ensures size { IfOk result (λ s. length s ≡ length front.now) }

@@ -6,10 +6,9 @@ use Rattle.loop_link.proofs.loop_linker.LoopLinkerLinker.settle.Goals.{then-is_f
 
 pub returns-clause-settled : goal.returns-clause-settled
 returns-clause-settled c l =
-    let old = c.args.ends.now in
     let a = subst (λ t. Answers c.args.ends.now.peer t c.args.ends.now.inn c.answer.new.self c.answer.new.inn) c.taken.ensures c.in_ok-answer.ensures.ok in
     elim c.if-is_finished.branch [
-      then-is_finished w ↦
+      | then-is_finished w ↦
           subst (λ e. Settled c.args.ends.now.out c.args.ends.now.inn c.args.ends.now.peer e.inn e.peer) (sym w.ends-is)
           (settled_closed c.args.ends.now.out c.args.ends.now.inn c.answer.new.inn c.args.ends.now.peer c.answer.new.self l a (sym c.is_finished.ensures ∙ w.if-is_finished.true) w.close.new.self w.close.ensures)
       | else-is_finished w ↦

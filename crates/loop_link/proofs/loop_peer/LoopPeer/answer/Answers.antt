@@ -38,8 +38,8 @@ returns-clause-ok c =
     c.replies-given.ensures
     c.replies-made.ensures
     (λ frames are.
-        let small : length c.deref.result.now < 4294967296 = omega (arith, c.in_ok-bytes.ensures.small, ap length c.deref.ensures.value) in
-        ap (take c.given_len-count.result) (c.deref-2.ensures.value ∙ sym c.deref.ensures.value) ∙ c.given_len-count.ensures.given frames small (c.deref.ensures.value ∙ c.in_ok-bytes.ensures.bytes ∙ are))
+    let small : length c.deref.result.now < 4294967296 = omega (arith, c.in_ok-bytes.ensures.small, ap length c.deref.ensures.value) in
+    ap (take c.given_len-count.result) (c.deref-2.ensures.value ∙ sym c.deref.ensures.value) ∙ c.given_len-count.ensures.given frames small (c.deref.ensures.value ∙ c.in_ok-bytes.ensures.bytes ∙ are))
     c.in_ok-give.ensures.ok
     (c.end_where.ensures ∙ ap (λ (b : Bool). let i : MemInState = record c.give.new.self { ending = ending_for b false } in i) c.gives_end.ensures)
     (c.keep.ensures ∙ ap (λ (p : LoopPeerState). let q : LoopPeerState = record p { fed = c.in_ok-fed.fed.server } in q) c.begun.ensures.same)
