@@ -1,25 +1,28 @@
 -- What was offered to a link stays what belongs to it: at its opening, by each call of its halves, and where it is settled.
-use Rattle.std.proofs.Common.{◌≡◌, ℕ, zero, suc, ◌+◌, ◌-◌, ◌<◌, ◌≤◌, ◌&&◌, ◌||◌, nat_le, Bool, true, false, cond, List, [], ◌∷◌, ◌++◌, length, take, drop, Option, None, Some, refl, ap, sym, ◌∙◌, subst, arith, append_assoc, append-nil, length-append}
-use Rattle.std.specs.Prelude.{flat_map}
+use Rattle.std.proofs.Common.{◌≡◌, ◌≢◌, ℕ, zero, suc, ◌<◌, ◌≤◌, ◌⊎◌, inl, inr, ◌&&◌, ◌||◌, Bool, true, false, cond, List, [], ◌∷◌, ◌++◌, length, take, drop, Option, None, Some, refl, ap, sym, ◌∙◌, subst, arith, append_assoc, append-nil, length-append}
+use Rattle.std.specs.Prelude.{flat_map, min}
 use Rattle.std.proofs.Math.Seq.{drop-length, take-append_seam}
 use Rattle.std.proofs.lemmas.Bool.{leb-true, le-leb}
 use Rattle.std.proofs.lemmas.List.{take-append-le, drop-append-le}
 use Rattle.brpc_model.specs.Frame.{Frame, frame_bytes}
 use Rattle.brpc_model.specs.Stream.{Stream, stream}
 use Rattle.brpc_model.specs.Reply.{reply_frames}
-use Rattle.brpc_model.specs.Served.{first_of}
+use Rattle.brpc_model.specs.Items.{Shape}
+use Rattle.brpc_model.specs.Served.{first_of, given_for}
 use Rattle.sock_io.specs.declared.ending.Ending.{Ending}
 use Rattle.sock_io.specs.declared.ending.Ending.TheVariants as ending
 use Rattle.sock_io.specs.declared.link.LinkSpec.{LinkSpec}
 use Rattle.sock_io.specs.declared.link.Put.{Put}
 use Rattle.sock_io.specs.declared.link.Ready.{Ready}
-use Rattle.sock_io.specs.Link.{PutStep, ReadyStep, FinishStep, taken_of}
+use Rattle.sock_io.specs.declared.link.Take.{Take}
+use Rattle.sock_io.specs.declared.link.Take.TheVariants as take_
+use Rattle.sock_io.specs.Link.{PutStep, ReadyStep, FinishStep, TakeStep, taken_of, taken_count, end_of}
 use Rattle.sock_io.specs.Linker.{new_half}
-use Rattle.sock_io.specs.Memory.{MemInState, closing, empty_in, is_closing}
+use Rattle.sock_io.specs.Memory.{MemInState, closing, empty_in, is_closing, mem_in, take_answer}
 use Rattle.sock_io.specs.Shape.{ShapedState, shaped_out}
 use Rattle.rpc_server.specs.Feeding.{is_fault, has_fault}
 use Rattle.loop_link.specs.Linker.{shape_asked, new_peer, first_ending}
-use Rattle.loop_link.specs.Serving.{LoopPeerState, is_reached, replies_for, ends_for, offered_for, gives_end, is_open, is_ended, IsOver, ending_for, IsOffered, IsLinked, Answers, Settled, NewReplies, first_left}
+use Rattle.loop_link.specs.Serving.{LoopPeerState, is_reached, replies_for, ends_for, offered_for, gives_end, is_open, is_ended, IsOver, ending_for, HasTold, IsOffered, IsLinked, Answers, Settled, NewReplies, first_left}
 use Rattle.loop_link.proofs.Following.{fault_stays_whole, replies_begin}
 use Rattle.loop_link.proofs.Fronts.{offered_more}
 
@@ -56,7 +59,12 @@ linked_new link spec = record {
     closed = λ e. absurd (not_closed (spec.serve && is_reached spec.end 0) e);
   };
   finished = λ e. absurd (not_closed (spec.serve && is_reached spec.end 0) e);
+  told = λ t. absurd (none_told t);
 }
+  where
+    none_told : (false ≡ true) ⊎ (false ≡ true) → ⊥
+    none_told (inl t) = cc
+    none_told (inr t) = cc
 
 -- ## Calls of the halves
 
@@ -79,12 +87,14 @@ linked_put out out' inn peer piece result l step =
             o.closed e ∙ sym (took ∙ ap (λ t. out.taken ++ t) none ∙ append-nil out.taken);
       };
       finished = λ e. step.finished ∙ l.finished e;
+      told = l.told;
     }
 
 linked_same : (out out' : ShapedState) (inn : MemInState) (peer : LoopPeerState) → IsLinked out inn peer → out'.taken ≡ out.taken → (out.inner.finished ≡ true → out'.inner.finished ≡ true) → IsLinked out' inn peer
 linked_same out out' inn peer l took finished = record {
   offered = subst (λ t. IsOffered t inn peer) (sym took) l.offered;
   finished = λ e. finished (l.finished e);
+  told = l.told;
 }
 
 pub linked_ready : (out out' : ShapedState) (inn : MemInState) (peer : LoopPeerState) (result : Ready) → IsLinked out inn peer → ReadyStep (shaped_out out) (shaped_out out') result → IsLinked out' inn peer
@@ -93,8 +103,34 @@ linked_ready out out' inn peer result l step = linked_same out out' inn peer l (
 pub linked_finish : (out out' : ShapedState) (inn : MemInState) (peer : LoopPeerState) → IsLinked out inn peer → FinishStep (shaped_out out) (shaped_out out') → IsLinked out' inn peer
 linked_finish out out' inn peer l step = linked_same out out' inn peer l (let e = step.took in cc) (λ e. step.finished)
 
-pub linked_take : (out : ShapedState) (inn inn' : MemInState) (peer : LoopPeerState) → IsLinked out inn peer → inn'.given ++ inn'.waiting ≡ inn.given ++ inn.waiting → inn'.ending ≡ inn.ending → IsLinked out inn' peer
-linked_take out inn inn' peer l bytes same = record {
+not_told : (inn inn' : MemInState) (room : List ℕ) (result : Take) → TakeStep (mem_in inn) (mem_in inn') room result → result ≢ take_.End → result ≢ take_.Closed → HasTold inn' → HasTold inn
+not_told inn inn' room result step x y (inl t) = inl (sym (step.end.1 x) ∙ t)
+not_told inn inn' room result step x y (inr t) = let same : Some inn'.closed ≡ Some inn.closed = step.closed.1 y in let e : inn'.closed ≡ inn.closed = cc in inr (sym e ∙ t)
+
+no_bytes : (l : List ℕ) → length l ≡ 0 → l ≡ []
+no_bytes [] e = refl
+no_bytes (x ∷ l) e = absurd (omega (arith, e))
+
+told_take : (inn inn' : MemInState) (room : List ℕ) (result : Take) → TakeStep (mem_in inn) (mem_in inn') room result → inn'.given ++ inn'.waiting ≡ inn.given ++ inn.waiting → inn'.ending ≡ inn.ending →
+    (HasTold inn → (is_open inn.ending ≡ false) × (inn.waiting ≡ [])) → (w : List ℕ) (e : Ending) → inn.waiting ≡ w → inn.ending ≡ e → result ≡ take_answer w e (length room) → HasTold inn' → (is_open inn'.ending ≡ false) × (inn'.waiting ≡ [])
+told_take inn inn' room result step bytes same told (x ∷ w) e w_is e_is answer t =
+    let before = told (not_told inn inn' room result step (λ r. let z : take_.Took (min (length (x ∷ w)) (length room)) ≡ take_.End = sym answer ∙ r in cc) (λ r. let z : take_.Took (min (length (x ∷ w)) (length room)) ≡ take_.Closed = sym answer ∙ r in cc) t) in
+    let none : x ∷ w ≡ [] = sym w_is ∙ before.1 in absurd (cc)
+told_take inn inn' room result step bytes same told [] ending.Open w_is e_is answer t =
+    let before = told (not_told inn inn' room result step (λ r. let z : take_.Empty ≡ take_.End = sym answer ∙ r in cc) (λ r. let z : take_.Empty ≡ take_.Closed = sym answer ∙ r in cc) t) in
+    let none : true ≡ false = sym (ap is_open e_is) ∙ before.0 in absurd (cc)
+told_take inn inn' room result step bytes same told [] ending.Ended w_is e_is answer t = (
+  ap is_open (same ∙ e_is),
+  no_bytes inn'.waiting (omega (arith, step.gave, ap taken_count answer, ap length bytes, ap length w_is, length-append inn'.given inn'.waiting, length-append inn.given inn.waiting)),
+)
+told_take inn inn' room result step bytes same told [] ending.Closed w_is e_is answer t = (
+  ap is_open (same ∙ e_is),
+  no_bytes inn'.waiting (omega (arith, step.gave, ap taken_count answer, ap length bytes, ap length w_is, length-append inn'.given inn'.waiting, length-append inn.given inn.waiting)),
+)
+
+pub linked_take : (out : ShapedState) (inn inn' : MemInState) (peer : LoopPeerState) (room : List ℕ) (result : Take) → IsLinked out inn peer → TakeStep (mem_in inn) (mem_in inn') room result → result ≡ take_answer inn.waiting inn.ending (length room) →
+    inn'.given ++ inn'.waiting ≡ inn.given ++ inn.waiting → inn'.ending ≡ inn.ending → IsLinked out inn' peer
+linked_take out inn inn' peer room result l step answer bytes same = record {
   offered = record {
     begins = l.offered.begins;
     offered = bytes ∙ l.offered.offered;
@@ -102,12 +138,10 @@ linked_take out inn inn' peer l bytes same = record {
     closed = λ e. l.offered.closed (sym same ∙ e);
   };
   finished = λ e. l.finished (sym same ∙ e);
+  told = told_take inn inn' room result step bytes same l.told inn.waiting inn.ending refl refl answer;
 }
 
 -- ## Behind an end nothing is given
-
-take_more : (most : ℕ) (frames rest : List Frame) → most ≤ length frames → take most (frames ++ rest) ≡ take most frames
-take_more most frames rest h = take-append-le most frames rest h
 
 reached_more : (end : Option ℕ) (made more : ℕ) → is_reached end made ≡ true → made ≤ more → is_reached end more ≡ true
 reached_more None made more h less = absurd (cc)
@@ -264,6 +298,7 @@ answers_passed old new took inn over is = subst (λ p. Answers old took inn p in
   half = refl;
   closing = refl;
   idle = λ _. refl;
+  shut = λ _. refl;
   all = λ o. (refl, passed took inn old (λ serves. open_or_not old took inn over o serves (is_open inn.ending) refl) o);
 }
 
@@ -284,6 +319,7 @@ answers_served old new took front rest server server' bytes tail inn mid inn' en
   half = inn_whole ∙ λ i. record inn { waiting = sym waits i; ending = sym ends i };
   closing = ap is_closing ends ∙ still_open inn.ending (is_reached end made || faulty) live;
   idle = λ e. let x : false ≡ true = sym e ∙ serves in absurd (cc);
+  shut = λ e. let x : false ≡ true = sym e ∙ live in absurd (cc);
   all = λ o.
       answered took rest bytes tail server inn inn' old new faulty serves live o rest_is (begun (first_fed o) ∙ first_fed o) replies fault
       (λ frames are. tail_is frames are ∙ ap (λ x. flat_map frame_bytes (first_left x given frames)) end_is ∙ ap (λ n. flat_map frame_bytes (first_left old.end n frames)) given_is)
@@ -321,6 +357,11 @@ closing_ended ending.Open = refl
 closing_ended ending.Ended = refl
 closing_ended ending.Closed = refl
 
+closing_shut : (e : Ending) → is_open (closing e) ≡ false
+closing_shut ending.Open = refl
+closing_shut ending.Ended = refl
+closing_shut ending.Closed = refl
+
 closed_before : (e f : Ending) → is_closing e ≡ is_closing f → e ≡ ending.Closed → f ≡ ending.Closed
 closed_before e ending.Open same is = absurd (let x : false ≡ true = sym same ∙ ap is_closing is in cc)
 closed_before e ending.Ended same is = absurd (let x : false ≡ true = sym same ∙ ap is_closing is in cc)
@@ -348,6 +389,13 @@ module _ (out : ShapedState) (inn mid : MemInState) (peer new : LoopPeerState) (
   finished_before : mid.ending ≡ ending.Closed → out.inner.finished ≡ true
   finished_before e = l.finished (closed_before mid.ending inn.ending a.closing e)
 
+  told_before : HasTold mid → HasTold inn
+  told_before (inl t) = inl (sym (ap (λ (i : MemInState). i.gave_end) a.half) ∙ t)
+  told_before (inr t) = inr (sym (ap (λ (i : MemInState). i.closed) a.half) ∙ t)
+
+  told_mid : HasTold mid → (is_open mid.ending ≡ false) × (mid.waiting ≡ [])
+  told_mid t = let x = l.told (told_before t) in let same : mid ≡ inn = a.shut x.0 in (ap (λ (i : MemInState). is_open i.ending) same ∙ x.0, ap (λ (i : MemInState). i.waiting) same ∙ x.1)
+
   -- the link isn't finished
   pub settled_open : out.inner.finished ≡ false → Settled out inn peer mid new
   settled_open open_ = record {
@@ -357,7 +405,7 @@ module _ (out : ShapedState) (inn mid : MemInState) (peer new : LoopPeerState) (
     given = given;
     offered = is_offered.offered ∙ offers_same;
     ending = closes_where mid.ending (gives_end peer out.taken) ended_same (λ e. let x : false ≡ true = sym open_ ∙ finished_before e in cc) ∙ ap (ending_for (gives_end peer out.taken)) (sym open_);
-    linked = record { offered = is_offered; finished = finished_before };
+    linked = record { offered = is_offered; finished = finished_before; told = told_mid };
   }
 
   -- it is, and so the other end closes its half
@@ -373,5 +421,30 @@ module _ (out : ShapedState) (inn mid : MemInState) (peer new : LoopPeerState) (
         linked = record {
           offered = record { begins = is_offered.begins; offered = is_offered.offered; ended = closing_ended mid.ending ∙ is_offered.ended; closed = λ _. fed };
           finished = λ _. over;
+          told = λ t. (closing_shut mid.ending, (told_mid t).1);
         };
       }
+
+-- ## A link that is given back
+
+-- once its reading half told of the end or the closing, it gave all that the other end gives for what the link took
+pub gave_all : (out : ShapedState) (inn : MemInState) (peer : LoopPeerState) → IsLinked out inn peer → HasTold inn → inn.given ≡ offered_for peer out.taken
+gave_all out inn peer l t =
+    let o = passed out.taken inn peer (λ _. (l.told t).0) l.offered in
+    sym (append-nil inn.given) ∙ ap (λ w. inn.given ++ w) (sym (l.told t).1) ∙ o.offered
+
+told_end : (inn : MemInState) → (inn.gave_end ≡ true) ⊎ (Some inn.closed ≡ Some true) → HasTold inn
+told_end inn (inl t) = inl t
+told_end inn (inr t) = let e : inn.closed ≡ true = cc in inr e
+
+-- with the server these are the replies to what it took, cut to the first N with `end=N`
+pub gave_replies : (out : ShapedState) (inn : MemInState) (peer : LoopPeerState) (shape : Shape) → IsLinked out inn peer → peer.serve ≡ true → peer.end ≡ shape.end →
+    ((end_of (shaped_out out) (mem_in inn)).gave_end ≡ true) ⊎ ((end_of (shaped_out out) (mem_in inn)).closed ≡ Some true) → inn.given ≡ given_for shape out.taken
+gave_replies out inn peer shape l serves end_is t =
+    gave_all out inn peer l (told_end inn t) ∙ ap (λ b. cond b (replies_for peer.end out.taken) []) serves ∙ ap (λ x. replies_for x out.taken) end_is
+
+-- without it there are none
+pub gave_nothing : (out : ShapedState) (inn : MemInState) (peer : LoopPeerState) → IsLinked out inn peer → peer.serve ≡ false → inn.given ≡ []
+gave_nothing out inn peer l idle =
+    let none : inn.given ++ inn.waiting ≡ [] = l.offered.offered ∙ ap (λ b. cond b (replies_for peer.end peer.fed) []) idle in
+    no_bytes inn.given (omega (arith, ap length none, length-append inn.given inn.waiting))

@@ -36,6 +36,11 @@ fn taken(
     }
 }
 
+// Whether the reply stands in front.
+fn has_reply(room: &[u8; 64]) -> bool {
+    room.starts_with(REPLY)
+}
+
 #[test]
 fn a_request_is_answered(rt: HostRuntime) -> Result<(), Fail> {
     let mut links = LoopLinker::new(rt.alloc(), Vec::new(rt.alloc()));
@@ -54,7 +59,7 @@ fn a_request_is_answered(rt: HostRuntime) -> Result<(), Fail> {
         taken(&mut links, &mut ends, &mut room),
         Some(Take::Took(20))
     );
-    assert_eq!(rt; room[..20], *REPLY);
+    assert!(rt; has_reply(&room));
     assert_eq!(rt; taken(&mut links, &mut ends, &mut room), Some(Take::Closed));
     Ok(())
 }
@@ -73,7 +78,7 @@ fn an_end_comes_behind_so_many_responses(rt: HostRuntime) -> Result<(), Fail> {
         taken(&mut links, &mut one, &mut room),
         Some(Take::Took(20))
     );
-    assert_eq!(rt; room[..20], *REPLY);
+    assert!(rt; has_reply(&room));
     one.out.finish();
     assert_eq!(rt; taken(&mut links, &mut one, &mut room), Some(Take::End));
     Ok(())

@@ -1,4 +1,4 @@
-use Rattle.std.proofs.Common.{◌≡◌, ap, sym, ◌∙◌, subst}
+use Rattle.std.proofs.Common.{sym, ◌∙◌, subst}
 use Rattle.loop_link.specs.Serving.{Answers, Settled}
 use Rattle.loop_link.proofs.Links.{settled_open, settled_closed}
 use Rattle.loop_link.proofs.loop_linker.LoopLinkerLinker.settle.Goals as goal
