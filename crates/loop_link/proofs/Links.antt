@@ -37,10 +37,6 @@ nothing_offered : (serve : Bool) (end : Option ℕ) → [] ≡ cond serve (repli
 nothing_offered true end = sym (none_for end)
 nothing_offered false end = refl
 
-or_false : (b : Bool) → (b || false) ≡ b
-or_false true = refl
-or_false false = refl
-
 first_ended : (serve reached : Bool) → is_ended (cond (serve && reached) ending.Ended ending.Open) ≡ (serve && (reached || false))
 first_ended true true = refl
 first_ended true false = refl
