@@ -36,6 +36,8 @@ fn taken(
     }
 }
 
+fn is_send_and_sync<T: Send + Sync + Drop>(_value: T) {}
+
 // Whether the reply stands in front.
 fn has_reply(room: &[u8; 64]) -> bool {
     room.starts_with(REPLY)
@@ -93,5 +95,8 @@ fn without_the_server_nothing_is_given(rt: HostRuntime) -> Result<(), Fail> {
     assert_eq!(rt; taken(&mut links, &mut ends, &mut room), Some(Take::Empty));
     ends.out.finish();
     assert_eq!(rt; taken(&mut links, &mut ends, &mut room), Some(Take::Closed));
+    let Ends { out: _, inn, peer } = ends;
+    is_send_and_sync(inn);
+    is_send_and_sync(peer);
     Ok(())
 }
