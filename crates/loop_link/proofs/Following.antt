@@ -1,11 +1,11 @@
 -- A connection that was fed piece by piece: its replies are those of all bytes, and behind a fault there are none.
-use Rattle.std.proofs.Common.{◌≡◌, ℕ, zero, suc, ◌+◌, ◌<◌, ◌≤◌, Bool, true, false, nat_lt, List, [], ◌∷◌, ◌++◌, length, drop, refl, ap, sym, ◌∙◌, subst, arith, append_assoc, length-append, drop_of_length-le, Result, Ok, Err}
-use Rattle.std.specs.Prelude.{filter_map, flat_map}
+use Rattle.std.proofs.Common.{◌≡◌, ℕ, zero, suc, ◌+◌, ◌<◌, Bool, true, false, nat_lt, List, [], ◌∷◌, ◌++◌, length, drop, refl, ap, sym, ◌∙◌, subst, arith, append_assoc, length-append, drop_of_length-le, Ok, Err}
+use Rattle.std.specs.Prelude.{filter_map}
 use Rattle.std.proofs.lemmas.Bool.{ltb-true, ltb-false}
 use Rattle.std.proofs.lemmas.List.{drop-append-le}
 use Rattle.std.proofs.lemmas.List.Elements.{filter_map-append}
 use Rattle.brpc_model.specs.Frame.{Frame, Judged, NoneYet, Faulty, Begins, judged}
-use Rattle.brpc_model.specs.Stream.{Stream, Ending, Rest, Fault, with_frame, goes_on, stream_up_to, stream_from, stream}
+use Rattle.brpc_model.specs.Stream.{Stream, with_frame, goes_on, stream_up_to, stream_from, stream}
 use Rattle.brpc_model.specs.Reply.{reply, reply_frames, replies}
 use Rattle.brpc_model.proofs.Streams.{stream_goes_on}
 use Rattle.prpc_frame.proofs.Lasting.{stays, faulty}

@@ -1,5 +1,5 @@
 -- The bytes of the first of some frames, found by the sizes in their headers.
-use Rattle.std.proofs.Common.{◌≡◌, ℕ, zero, suc, ◌+◌, ◌-◌, ◌<◌, ◌≤◌, ◌^◌, nat_le, Bool, true, false, List, [], ◌∷◌, ◌++◌, length, take, drop, Option, None, Some, refl, ap, sym, ◌∙◌, subst, arith, append_assoc, append-nil, length-append, length-drop}
+use Rattle.std.proofs.Common.{◌≡◌, ℕ, zero, suc, ◌+◌, ◌-◌, ◌<◌, ◌≤◌, ◌^◌, false, List, [], ◌∷◌, ◌++◌, length, take, drop, Option, None, Some, refl, ap, sym, ◌∙◌, arith, append_assoc, append-nil, length-append, length-drop}
 use Rattle.std.specs.Prelude.{flat_map}
 use Rattle.std.specs.Int.{w32, to_be_bytes}
 use Rattle.std.proofs.Math.Seq.{take-append_seam, take-append-add, drop-append_seam, take-add, take-length}
@@ -33,8 +33,8 @@ body_told : (f : Frame) (rest : List ℕ) → length (frame_bytes f ++ rest) < 2
 body_told f rest small =
     let size : length (frame_bytes f) ≡ 12 + (length (meta_bytes f.meta) + length f.payload + length f.attachment) = framed_size (meta_bytes f.meta) f.payload f.attachment in
     let told : high_first (take 4 (drop 4 (frame_bytes f ++ rest))) ≡ length (meta_bytes f.meta) + length f.payload + length f.attachment =
-        ap (λ l. high_first (take 4 (drop 4 l))) (laid_out (meta_bytes f.meta) f.payload f.attachment rest)
-        ∙ number (length (meta_bytes f.meta) + length f.payload + length f.attachment) (omega (arith, small, size, length-append (frame_bytes f) rest)) in
+    ap (λ l. high_first (take 4 (drop 4 l))) (laid_out (meta_bytes f.meta) f.payload f.attachment rest)
+    ∙ number (length (meta_bytes f.meta) + length f.payload + length f.attachment) (omega (arith, small, size, length-append (frame_bytes f) rest)) in
     omega (arith, told, size)
 
 take_all : (n : ℕ) (l : List Frame) → length l ≤ n → take n l ≡ l
@@ -65,8 +65,7 @@ fronts_next bytes at k size so_far room told frames small e = by (so_far frames 
     by (first, [], split, count, front, behind) = absurd (omega (arith, room, ap length behind, length-drop at bytes))
     by (first, f ∷ fs, split, count, front, behind) =
         let less : length (frame_bytes f ++ flat_map frame_bytes fs) < 2 ^ 32 = omega (arith, small, ap length behind, length-drop at bytes) in
-        let long : 12 + size ≡ length (frame_bytes f) = ap (λ n. 12 + n) (told ∙ ap (λ l. high_first (take 4 (drop 4 l))) behind) ∙ body_told f (flat_map frame_bytes fs) less in
-        (
+        let long : 12 + size ≡ length (frame_bytes f) = ap (λ n. 12 + n) (told ∙ ap (λ l. high_first (take 4 (drop 4 l))) behind) ∙ body_told f (flat_map frame_bytes fs) less in (
           first ++ f ∷ [],
           fs,
           split ∙ sym (append_assoc first (f ∷ []) fs),

@@ -1,5 +1,5 @@
 -- What the built-in server of a link gives for the bytes that it was fed, and what a link over it has been offered.
-use Rattle.std.specs.Prelude.{ℕ, ◌≡◌, ◌-◌, ◌&&◌, ◌||◌, nat_le, Bool, true, false, if◌then◌else◌, List, [], ◌++◌, length, take, drop, flat_map, Option, None, Some}
+use Rattle.std.specs.Prelude.{ℕ, ◌≡◌, ◌-◌, ◌<◌, ◌⊎◌, ◌&&◌, ◌||◌, nat_le, Bool, true, false, if◌then◌else◌, List, [], ◌++◌, length, take, drop, flat_map, Option, None, Some}
 use Rattle.brpc_model.specs.Frame.{Frame, frame_bytes}
 use Rattle.brpc_model.specs.Reply.{reply_frames}
 use Rattle.brpc_model.specs.Served.{first_of}
@@ -64,10 +64,20 @@ pub record IsOffered (took : List ℕ) (inn : MemInState) (peer : LoopPeerState)
   pub ended : is_ended inn.ending ≡ gives_end peer peer.fed
   pub closed : inn.ending ≡ ending.Closed → peer.fed ≡ took
 
--- and only where the link was finished
+-- the reading half told how it went on behind its bytes: with the end, or the closing
+abbrev pub HasTold : MemInState → Type 0
+HasTold inn = (inn.gave_end ≡ true) ⊎ (inn.closed ≡ true)
+
+-- and only where the link was finished; and its reading half tells of either once all bytes were taken
 pub record IsLinked (out : ShapedState) (inn : MemInState) (peer : LoopPeerState) : Type 0 where
   pub offered : IsOffered out.taken inn peer
   pub finished : inn.ending ≡ ending.Closed → out.inner.finished ≡ true
+  pub told : HasTold inn → (is_open inn.ending ≡ false) × (inn.waiting ≡ [])
+
+-- nothing is left to be fed to the server: the other end isn't it, or the link isn't open any more, or these bytes are
+-- another link's
+abbrev pub IsOver : LoopPeerState → List ℕ → MemInState → Type 0
+IsOver peer took inn = peer.serve ≡ true → is_open inn.ending ≡ true → length took < length peer.fed
 
 -- What an answer to what a link took may change; and where the link was offered what belongs to what was fed before, all
 -- is fed now.
@@ -77,6 +87,7 @@ pub record Answers (old : LoopPeerState) (took : List ℕ) (inn : MemInState) (n
   pub half : inn' ≡ record inn { waiting = inn'.waiting; ending = inn'.ending }
   pub closing : is_closing inn'.ending ≡ is_closing inn.ending
   pub idle : old.serve ≡ false → inn' ≡ inn
+  pub shut : is_open inn.ending ≡ false → inn' ≡ inn
   pub all : IsOffered took inn old → (new.fed ≡ took) × IsOffered took inn' new
 
 -- All that the link took was fed, so that it was offered what the other end gives for that, and the end or the closing

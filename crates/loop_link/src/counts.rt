@@ -1,4 +1,4 @@
-ghost use Rattle.std.specs.Prelude.{◌≡◌, ◌↔◌, ◌≤◌, Contains, IsTrue};
+ghost use Rattle.std.specs.Prelude.{◌≡◌, ◌↔◌, ◌≤◌, ◌||◌, Contains, IsTrue};
 ghost use Rattle.sock_io.specs.Causes.{Rose, next_number};
 ghost use Rattle.loop_link.specs.Serving.{is_reached};
 
@@ -32,4 +32,11 @@ pub(crate) fn is_reached(end: Option<u32>, made: u64) -> bool
         Some(most) => u64::from(most) <= made,
         None => false,
     }
+}
+
+/// Whether the server gives its end: so many responses were made, or it met a fault.
+pub(crate) fn gives_end(end: Option<u32>, made: u64, faulty: bool) -> bool
+    ensures { result ≡ (is_reached end made || faulty) }
+{
+    is_reached(end, made) || faulty
 }

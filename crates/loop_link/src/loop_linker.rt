@@ -161,12 +161,7 @@ impl Linker for LoopLinker {
         ensures closes { OnOk result (ends.old.peer.serve ≡ false → ends.old.out.inner.finished ≡ true → ends.new.inn ≡ record ends.old.inn { ending = closing ends.old.inn.ending }) }
         ensures settled { OnOk result (IsLinked ends.old.out ends.old.inn ends.old.peer → Settled ends.old.out ends.old.inn ends.old.peer ends.new.inn ends.new.peer) }
     {
-        ends.peer.answer(
-            self.alloc,
-            &mut self.pool,
-            ends.out.taken(),
-            &mut ends.inn,
-        )?;
+        ends.peer.answer(self.alloc, &mut self.pool, ends.out.taken(), &mut ends.inn)?;
         if ends.out.is_finished() {
             ends.inn.close();
         }

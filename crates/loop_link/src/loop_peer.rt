@@ -1,8 +1,8 @@
-ghost use Rattle.std.specs.Prelude.{◌≡◌, [], length, IfOk, OnErr, OnOk};
+ghost use Rattle.std.specs.Prelude.{◌≡◌, ◌≤◌, [], true, false, length, IfOk, OnErr, OnOk};
 ghost use Rattle.sock_io.specs.Peer.{no_peer};
-ghost use Rattle.loop_link.specs.Serving.{Answers};
+ghost use Rattle.loop_link.specs.Serving.{Answers, IsOver, is_open};
 
-use crate::counts::is_reached;
+use crate::counts::gives_end;
 use crate::front::{gathered, given_len};
 use crate::loop_in::LoopIn;
 use crate::server::Server;
@@ -62,25 +62,55 @@ impl LoopPeer {
         ensures ok { OnOk result (Answers self.old took.now inn.old self.new inn.new) }
         ensures err { OnErr result ((self.new ≡ self.old) × (inn.new ≡ inn.old)) }
     {
-        if !self.serve || !inn.is_open() || took.len() < self.fed_len {
+        if self.is_over(took, inn) {
             self.pass(took);
             return Ok(());
         }
-        let (front, rest) = took.split_at(self.fed_len);
+        let end = self.end();
+        let (front, rest) = took.split_at(self.fed_len());
         let server = self.begun(alloc, pool, front)?;
         let given = server.replies();
         let fed = server.feed(alloc, pool, rest)?;
         let made = fed.server.replies();
         let bytes = gathered(alloc, &fed.replies)?;
-        let count = given_len(self.end, given, &bytes);
+        let count = given_len(end, given, &bytes);
         inn.give(&bytes[..count])?;
-        inn.end_where(is_reached(self.end, made) || fed.faulty);
+        inn.end_where(gives_end(end, made, fed.faulty));
         self.keep(fed.server, took.len());
         Ok(())
     }
 
+    // Whether nothing is left to be fed to the server. Fewer bytes than it was fed are another link's.
+    fn is_over(&self, took: &[u8], inn: &LoopIn) -> bool
+        ensures over { result ≡ true → IsOver self.now took.now inn.now }
+        ensures served { result ≡ false → self.now.serve ≡ true }
+        ensures live { result ≡ false → is_open inn.now.ending ≡ true }
+        ensures enough { result ≡ false → length self.now.fed ≤ length took.now }
+    {
+        !self.serve || !inn.is_open() || took.len() < self.fed_len
+    }
+
+    // How many bytes it was fed.
+    fn fed_len(&self) -> usize
+        ensures { result ≡ length self.now.fed }
+    {
+        self.fed_len
+    }
+
+    // After how many responses it gives its end.
+    fn end(&self) -> Option<u32>
+        ensures { result ≡ self.now.end }
+    {
+        self.end
+    }
+
     // The server that was fed the front; a new one, where the old one was lost.
-    fn begun(&mut self, alloc: Global, pool: &mut BlockPool, front: &[u8]) -> Result<Server, NoMemory>
+    fn begun(
+        &mut self,
+        alloc: Global,
+        pool: &mut BlockPool,
+        front: &[u8],
+    ) -> Result<Server, NoMemory>
         requires { length front.now ≡ length self.old.fed }
         ensures same { self.new ≡ self.old }
         ensures size { IfOk result (λ s. length s ≡ length front.now) }
