@@ -107,7 +107,7 @@ module _ (script : List Item) (made : AreMade script) (there : AreThere script) 
     -- and each error that an id took for an attempt of its call has its cause
     module _ (ids : ℕ → ℕ) (own_id : (client : ℕ) (t : Task) (asked : Asked) → IsTask (all_tasks script) core.outcomes client t → t.op ≡ ops.Call asked → (outcome : Outcome) → Became (all_tasks script) core.outcomes t.number outcome → (id : ℕ) → shown_id outcome ≡ Some id → ids t.number ≡ id)
         (caused : (client : ℕ) (t : Task) (asked : Asked) (id code n : ℕ) → IsTask (all_tasks script) core.outcomes client t → t.op ≡ ops.Call asked → ids t.number ≡ id → Contains (posts_of_run script turns core is) (record { id = id; error = error_of code n })
-            → PostCause (plan_of script) (all_tasks script) core.outcomes fixed_in_run (given core) orders_in_run client t.number asked id code n) where
+        → PostCause (plan_of script) (all_tasks script) core.outcomes fixed_in_run (given core) orders_in_run client t.number asked id code n) where
       failed_by : (client : ℕ) (t : Task) (asked : Asked) (id code : ℕ) → IsTask (all_tasks script) core.outcomes client t → t.op ≡ ops.Call asked → Became (all_tasks script) core.outcomes t.number (CallFailed id code)
           → FailedBy (plan_of script) (all_tasks script) core.outcomes fixed_in_run (given core) orders_in_run client t.number asked id code (last_in_run t.number)
       failed_by client t asked id code it op became = ⊎_elim (λ a. ByExpiry a.0 a.1) (λ rest. ⊎_elim (λ b. ByCompression b.0 b.1) (λ posted.

@@ -56,8 +56,20 @@ module _ (requests : ℕ) (is_call : Asked → Type 0) (reads : Bool) where
     λ found _. then_ (Recycle i from) _ found idle (split (eqb found from)
         (Do (LoadLink i (vref_version from + 1)) (λ k. Do (TakeLink k) (λ _. Do (FinishLink k) (λ _. Do (PutLink k) (λ _. cond (leb (vref_version from + 1) LAST_VERSION) (Do (FreeSlot i) (λ _. next true)) (next true))))))
         (next false)
-        (λ _. (tt, λ k _. then_ (LoadLink i (vref_version from + 1)) _ k idle (tt, λ a _. then_ (TakeLink k) _ a idle (tt, λ b _. then_ (FinishLink k) _ b idle (tt, λ d _. then_ (PutLink k) _ d idle
-            (split (leb (vref_version from + 1) LAST_VERSION) (Do (FreeSlot i) (λ _. next true)) (next true) (λ _. (tt, λ e _. then_ (FreeSlot i) _ e idle (goes true))) (λ _. goes true)))))))
+        (λ _. (
+          tt,
+          λ k _. then_ (LoadLink i (vref_version from + 1)) _ k idle (
+            tt,
+            λ a _. then_ (TakeLink k) _ a idle (
+              tt,
+              λ b _. then_ (FinishLink k) _ b idle (
+                tt,
+                λ d _. then_ (PutLink k) _ d idle
+                    (split (leb (vref_version from + 1) LAST_VERSION) (Do (FreeSlot i) (λ _. next true)) (next true) (λ _. (tt, λ e _. then_ (FreeSlot i) _ e idle (goes true))) (λ _. goes true)),
+              ),
+            ),
+          ),
+        ))
         (λ _. goes false)),
   )
 
@@ -143,8 +155,7 @@ module _ (requests : ℕ) (is_call : Asked → Type 0) (reads : Bool) where
     pub passed_keeps : (mine : reads ≡ false) (ds : List Deed) (h : Holder) (now : ℕ) (tells : Program → Program) (after : Program) → ((es : List Deed) (x : Program) → G idle x → G (due c es) (tells x)) → G idle after → G (due c ds) (passed_telling h now tells after)
     passed_keeps mine ds h now tells after told goes = ways ds (now == h.last) (given_back now (tells (Write (Empties h) after)))
         (Do (ReadNext (slot_of now)) (λ next. given_back now (tells (TakeMessage (slot_of next) (λ heading bytes. Write (Puts h next heading bytes 0 false) after)))))
-        (freed_keeps ds now (tells (Write (Empties h) after)) (λ es. told es (Write (Empties h) after) (mine, goes)))
-        (
+        (freed_keeps ds now (tells (Write (Empties h) after)) (λ es. told es (Write (Empties h) after) (mine, goes))) (
           tt,
           λ next _. (
             due c (DidStep (ReadNext (slot_of now)) next ∷ ds),

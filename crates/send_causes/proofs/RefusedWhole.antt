@@ -290,9 +290,9 @@ module _ (script : List Item) (made : AreMade script) (turns : List Turn) (core 
       let us = behind_ids (plan_of script) (id_plan_of script) few_slots (IsCallOf script) own_ids (is.scheduled ++ is.later) (set_up script is.setup) at_words.of_played in
       let d = elem_there c.seats played_runs.doings 0 seat.0 played_runs.law.each seat.1 in
       let rests = seat_rests c (rested_ahead script made.are (first_views script) (start script made turns core is) (go script made turns core is) turns core is (fitting script made turns core is)) 0
-          (rested_idle script made.are (first_views script) (start script made turns core is) (go script made turns core is) turns core is (fitting script made turns core is)) seat.0 seat.1 in
+      (rested_idle script made.are (first_views script) (start script made turns core is) (go script made turns core is) turns core is (fitting script made turns core is)) seat.0 seat.1 in
       let next = moves (plan_of script) (id_plan_of script) few_slots (IsCallOf script) own_ids DidPlay c ws played_runs.doings played_runs.law labels_.1.calls us.0 us.1 (quiet 0) seat.0 v.0 d.0 seat.1 v.1 d.1 (ending_of (opens script)) [] c.homes v.0 v.0.rights refl
-          (ending_goes (plan_of script).requests (IsCallOf script) (nat_le 32 0) (opens script)) in
+      (ending_goes (plan_of script).requests (IsCallOf script) (nat_le 32 0) (opens script)) in
       record {
         doings = next.0;
         law = law_more (plan_of script) (id_plan_of script) few_slots (IsCallOf script) own_ids (λ j x. DidPlay j x ⊎ DidAt (plan_of script) rested (quiet 0) j x) DidPlay
