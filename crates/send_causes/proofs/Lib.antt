@@ -40,3 +40,4 @@ pub mod RefusedWhole
 pub mod RefusedGone
 pub mod RefusedMeans
 pub mod RefusedWhys
+pub mod DropPosts
