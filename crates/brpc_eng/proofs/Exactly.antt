@@ -1,9 +1,8 @@
 -- What the answers say together: 2 comes exactly where the words ask for no command, 10 exactly where they ask for one that isn't
--- built or a script comes that isn't; with 0 no write failed; and where nothing stands in the way of a report, only it and want of
--- memory come.
+-- built; with 0 no write failed; and where nothing stands in the way of a report, only it and want of memory come.
 use Rattle.std.proofs.Common.{◌≡◌, ◌≢◌, ℕ, ◌<◌, ◌≤◌, ◌⊎◌, inl, inr, true, false, List, [], ◌∷◌, ◌++◌, map, refl, length, Option, Some, None, Result, Ok, Err, ap, sym, ◌∙◌, subst, arith, length-append, append-nil}
 use Rattle.std.specs.Io.KnownBytes.{Consumes}
-use Rattle.brpc_model.specs.Commands.{Command, Replay, Sim, Gen, Frames, command_of}
+use Rattle.brpc_model.specs.Commands.{Command, Replay, Sim, Gen, Load, Frames, command_of}
 use Rattle.brpc_model.specs.Items.{Item}
 use Rattle.brpc_model.specs.Operations.{Turn}
 use Rattle.brpc_model.specs.Script.{script_of}
@@ -17,10 +16,9 @@ use Rattle.sock_io.specs.Link.{end_of}
 use Rattle.sock_io.specs.Shape.{ShapedState, shaped_out}
 use Rattle.sock_io.specs.Memory.{MemInState, mem_in}
 use Rattle.script_run.specs.Played.{TellClosed}
-use Rattle.brpc_eng.specs.Built.{is_built_script}
-use Rattle.brpc_eng.proofs.Statuses.{unbuilt_script_exactly}
+use Rattle.brpc_eng.proofs.Statuses.{each_script_is_run}
 use Rattle.brpc_eng.specs.Streams.{script_limit, IsAtEnd}
-use Rattle.brpc_eng.specs.Answers.{HaveRisen, StandStill, AllTell, edges_of, Input, Output, Links, TextWritten, Ran, Reported, MemoryRanOut, OpenFailed, FaultWritten, Replayed, RanScript, FaultyScript, SourceFailed, TooLong, NoMemory, ScriptNotBuilt, Answers, NoCommand, CommandNotBuilt, Generated, Generates, PrintsInput, Replays, Simulates, is_built_command, frames_status, FramesPrinted}
+use Rattle.brpc_eng.specs.Answers.{HaveRisen, StandStill, AllTell, edges_of, Input, Output, Links, TextWritten, Ran, Reported, MemoryRanOut, OpenFailed, FaultWritten, Replayed, RanScript, FaultyScript, SourceFailed, TooLong, NoMemory, Answers, NoCommand, CommandNotBuilt, Generated, Generates, LoadRan, LoadSummed, LoadRanOut, LoadNotOpened, Loads, PrintsInput, Replays, Simulates, is_built_command, frames_status, FramesPrinted}
 
 -- ## Status 2
 
@@ -38,16 +36,20 @@ not_two_fault out line kind status (inl w) = λ e. absurd (omega (arith, e, w.0)
 not_two_fault out line kind status (inr w) = λ e. absurd (omega (arith, e, w.0))
 
 not_two : (turns : List Item → List Turn) (input : Input) (out : Output) (links : Links) (bytes : List ℕ) (status : ℕ) → Replayed turns input out links bytes status → status ≢ 2
-not_two turns input out links bytes status (RanScript end script is built opened ran) = not_two_ran (turns script) script out links status ran
+not_two turns input out links bytes status (RanScript end script is opened ran) = not_two_ran (turns script) script out links status ran
 not_two turns input out links bytes status (FaultyScript end line kind is back wrote) = not_two_fault out line kind status wrote
 not_two turns input out links bytes status (SourceFailed s rose back wrote) = λ e. absurd (omega (arith, e, s))
 not_two turns input out links bytes status (TooLong s long back wrote) = λ e. absurd (omega (arith, e, s))
 not_two turns input out links bytes status (NoMemory s back wrote) = λ e. absurd (omega (arith, e, s))
-not_two turns input out links bytes status (ScriptNotBuilt s end script is built back wrote) = λ e. absurd (omega (arith, e, s))
 
 not_two_made : (seed clients count : ℕ) (out : Output) (status : ℕ) → Generated seed clients count out status → status ≢ 2
 not_two_made seed clients count out status (inl w) = not_two_written out _ status w
 not_two_made seed clients count out status (inr w) = λ e. absurd (omega (arith, e, w.0))
+
+not_two_loaded : (seed clients count : ℕ) (out : Output) (links : Links) (status : ℕ) → LoadRan seed clients count out links status → status ≢ 2
+not_two_loaded seed clients count out links status (LoadSummed text is wrote) = not_two_written out text status wrote
+not_two_loaded seed clients count out links status (LoadRanOut s wrote) = λ e. absurd (omega (arith, e, s))
+not_two_loaded seed clients count out links status (LoadNotOpened s rose back wrote) = λ e. absurd (omega (arith, e, s))
 
 not_two_ended : (ended : Result StreamEnd PrintFault) (status : ℕ) → status ≡ frames_status ended → status ≢ 2
 not_two_ended (Ok end_.Rest) status s = λ e. absurd (omega (arith, e, s))
@@ -63,6 +65,7 @@ pub usage_exactly : (words : List (List ℕ)) (input : Input) (out : Output) (li
 usage_exactly words input out links status (NoCommand s none same back wrote) = (λ e. none, λ e. s)
 usage_exactly words input out links status (CommandNotBuilt s command is other same back wrote) = (λ e. absurd (omega (arith, e, s)), λ e. absurd (cc))
 usage_exactly words input out links status (Generates seed clients count is same back made) = (λ e. absurd (not_two_made seed clients count out status made e), λ e. absurd (cc))
+usage_exactly words input out links status (Loads seed clients count is same made) = (λ e. absurd (not_two_loaded seed clients count out links status made.ran e), λ e. absurd (cc))
 usage_exactly words input out links status (PrintsInput is back printed) = (λ e. absurd (not_two_ended printed.ended status printed.numbered e), λ e. absurd (cc))
 usage_exactly words input out links status (Replays is replayed) = (λ e. absurd (not_two _ input out links replayed.bytes status replayed.replayed e), λ e. absurd (cc))
 usage_exactly words input out links status (Simulates seed is replayed) = (λ e. absurd (not_two _ input out links replayed.bytes status replayed.replayed e), λ e. absurd (cc))
@@ -94,18 +97,13 @@ calm_ran turns script input out links status calm (MemoryRanOut s wrote) = inr s
 calm_ran turns script input out links status calm (OpenFailed s rose back wrote) = absurd (calm.linker rose)
 
 calm_replayed : (turns : List Item → List Turn) (script : List Item) (given : List ℕ) (input : Input) (out : Output) (links : Links) (bytes : List ℕ) (status : ℕ) → IsCalm input out links → Consumes (Some given) input.left bytes →
-    length given ≤ script_limit → script_of given ≡ Ok script → is_built_script script ≡ true → Replayed turns input out links bytes status → (status ≡ 0) ⊎ (status ≡ 7)
-calm_replayed turns script given input out links bytes status calm came few is built (RanScript end read is' built' opened ran) = calm_ran (turns read) read input out links status calm ran
-calm_replayed turns script given input out links bytes status calm came few is built (FaultyScript end line kind is' back wrote) =
+    length given ≤ script_limit → script_of given ≡ Ok script → Replayed turns input out links bytes status → (status ≡ 0) ⊎ (status ≡ 7)
+calm_replayed turns script given input out links bytes status calm came few is (RanScript end read is' opened ran) = calm_ran (turns read) read input out links status calm ran
+calm_replayed turns script given input out links bytes status calm came few is (FaultyScript end line kind is' back wrote) =
     let same : script_of bytes ≡ Ok script = ap script_of (came_all given bytes input.left came end) ∙ is in absurd (cc)
-calm_replayed turns script given input out links bytes status calm came few is built (SourceFailed s rose back wrote) = absurd (calm.source rose)
-calm_replayed turns script given input out links bytes status calm came few is built (TooLong s long back wrote) = absurd (omega (arith, long, few, came_few given bytes input.left came))
-calm_replayed turns script given input out links bytes status calm came few is built (NoMemory s back wrote) = inr s
-calm_replayed turns script given input out links bytes status calm came few is built (ScriptNotBuilt s end read is' built' back wrote) =
-    let same : script_of bytes ≡ Ok script = ap script_of (came_all given bytes input.left came end) ∙ is in
-    let one : Ok read ≡ Ok script = sym is' ∙ same in
-    let alike : read ≡ script = cc in
-    let never : true ≡ false = sym built ∙ ap is_built_script (sym alike) ∙ built' in absurd (cc)
+calm_replayed turns script given input out links bytes status calm came few is (SourceFailed s rose back wrote) = absurd (calm.source rose)
+calm_replayed turns script given input out links bytes status calm came few is (TooLong s long back wrote) = absurd (omega (arith, long, few, came_few given bytes input.left came))
+calm_replayed turns script given input out links bytes status calm came few is (NoMemory s back wrote) = inr s
 
 -- a command that runs a script
 abbrev RunsScript : Command → Type 0
@@ -118,27 +116,30 @@ never_unbuilt Replay h e = let f : true ≡ false = e in absurd (cc)
 never_unbuilt (Sim seed) h e = let f : true ≡ false = e in absurd (cc)
 never_unbuilt other h e = h
 
--- `replay` and `sim` of a script that is built, with no fault of the outside, end with its report or for want of memory
+-- `replay` and `sim` of a script, with no fault of the outside, end with its report or for want of memory
 pub report_comes : (script : List Item) (given : List ℕ) (words : List (List ℕ)) (input : Input) (out : Output) (links : Links) (status : ℕ) (command : Command) → Answers words input out links status →
-    command_of words ≡ Some command → RunsScript command → input.given ≡ Some given → length given ≤ script_limit → script_of given ≡ Ok script → is_built_script script ≡ true → IsCalm input out links →
+    command_of words ≡ Some command → RunsScript command → input.given ≡ Some given → length given ≤ script_limit → script_of given ≡ Ok script → IsCalm input out links →
     (status ≡ 0) ⊎ (status ≡ 7)
-report_comes script given words input out links status command (NoCommand s none same back wrote) asked runs told few is built calm = absurd (cc)
-report_comes script given words input out links status command (CommandNotBuilt s other named differs same back wrote) asked runs told few is built calm =
+report_comes script given words input out links status command (NoCommand s none same back wrote) asked runs told few is calm = absurd (cc)
+report_comes script given words input out links status command (CommandNotBuilt s other named differs same back wrote) asked runs told few is calm =
     let one : Some other ≡ Some command = sym named ∙ asked in
     let alike : other ≡ command = cc in
     absurd (never_unbuilt command runs (subst (λ (x : Command). is_built_command x ≡ false) alike differs))
-report_comes script given words input out links status command (Generates seed clients count named same back made) asked runs told few is built calm =
+report_comes script given words input out links status command (Generates seed clients count named same back made) asked runs told few is calm =
     let one : Some (Gen seed clients count) ≡ Some command = sym named ∙ asked in
     let alike : Gen seed clients count ≡ command = cc in absurd (subst RunsScript (sym alike) runs)
-report_comes script given words input out links status command (PrintsInput named back printed) asked runs told few is built calm =
+report_comes script given words input out links status command (Loads seed clients count named same made) asked runs told few is calm =
+    let one : Some (Load seed clients count) ≡ Some command = sym named ∙ asked in
+    let alike : Load seed clients count ≡ command = cc in absurd (subst RunsScript (sym alike) runs)
+report_comes script given words input out links status command (PrintsInput named back printed) asked runs told few is calm =
     let one : Some Frames ≡ Some command = sym named ∙ asked in
     let alike : Frames ≡ command = cc in absurd (subst RunsScript (sym alike) runs)
-report_comes script given words input out links status command (Replays named replayed) asked runs told few is built calm =
+report_comes script given words input out links status command (Replays named replayed) asked runs told few is calm =
     let P : Option (List ℕ) → Type 0 = λ x. Consumes x input.left replayed.bytes in
-    calm_replayed _ script given input out links replayed.bytes status calm (subst P told replayed.came) few is built replayed.replayed
-report_comes script given words input out links status command (Simulates seed named replayed) asked runs told few is built calm =
+    calm_replayed _ script given input out links replayed.bytes status calm (subst P told replayed.came) few is replayed.replayed
+report_comes script given words input out links status command (Simulates seed named replayed) asked runs told few is calm =
     let P : Option (List ℕ) → Type 0 = λ x. Consumes x input.left replayed.bytes in
-    calm_replayed _ script given input out links replayed.bytes status calm (subst P told replayed.came) few is built replayed.replayed
+    calm_replayed _ script given input out links replayed.bytes status calm (subst P told replayed.came) few is replayed.replayed
 
 -- ## Status 10
 
@@ -146,6 +147,12 @@ not_ten_made : (seed clients count : ℕ) (out : Output) (status : ℕ) → Gene
 not_ten_made seed clients count out status (inl (inl w)) = λ e. absurd (omega (arith, e, w.0))
 not_ten_made seed clients count out status (inl (inr w)) = λ e. absurd (omega (arith, e, w.0))
 not_ten_made seed clients count out status (inr w) = λ e. absurd (omega (arith, e, w.0))
+
+not_ten_loaded : (seed clients count : ℕ) (out : Output) (links : Links) (status : ℕ) → LoadRan seed clients count out links status → status ≢ 10
+not_ten_loaded seed clients count out links status (LoadSummed text is (inl w)) = λ e. absurd (omega (arith, e, w.0))
+not_ten_loaded seed clients count out links status (LoadSummed text is (inr w)) = λ e. absurd (omega (arith, e, w.0))
+not_ten_loaded seed clients count out links status (LoadRanOut s wrote) = λ e. absurd (omega (arith, e, s))
+not_ten_loaded seed clients count out links status (LoadNotOpened s rose back wrote) = λ e. absurd (omega (arith, e, s))
 
 not_ten_ended : (ended : Result StreamEnd PrintFault) (status : ℕ) → status ≡ frames_status ended → status ≢ 10
 not_ten_ended (Ok end_.Rest) status s = λ e. absurd (omega (arith, e, s))
@@ -158,23 +165,22 @@ not_ten_ended (Err fault_.NoMemory) status s = λ e. absurd (omega (arith, e, s)
 never_false : true ≡ false → ⊥
 never_false e = cc
 
--- a script came whole that isn't built
-abbrev pub CameUnbuilt : Input → Type 0
-CameUnbuilt input = (bytes : List ℕ) × Consumes input.given input.left bytes × IsAtEnd input.left × ((script : List Item) × (script_of bytes ≡ Ok script) × (is_built_script script ≡ false))
-
--- 10 comes exactly where the command isn't built, or it runs a script, and one came that isn't built (`unbuilt_script_exactly` has what
--- else may end such a run: a failed source, too many bytes, or want of memory)
+-- 10 comes exactly where the command isn't built
 pub unbuilt_exactly : (command : Command) (words : List (List ℕ)) (input : Input) (out : Output) (links : Links) (status : ℕ) → Answers words input out links status → command_of words ≡ Some command →
-    (status ≡ 10 → (is_built_command command ≡ false) ⊎ (RunsScript command × CameUnbuilt input)) × (is_built_command command ≡ false → status ≡ 10)
+    (status ≡ 10 → is_built_command command ≡ false) × (is_built_command command ≡ false → status ≡ 10)
 unbuilt_exactly command words input out links status (NoCommand s none same back wrote) asked = absurd (cc)
 unbuilt_exactly command words input out links status (CommandNotBuilt s other named differs same back wrote) asked =
     let one : Some other ≡ Some command = sym named ∙ asked in
     let alike : other ≡ command = cc in
-    (λ e. inl (subst (λ (x : Command). is_built_command x ≡ false) alike differs), λ e. s)
+    (λ e. subst (λ (x : Command). is_built_command x ≡ false) alike differs, λ e. s)
 unbuilt_exactly command words input out links status (Generates seed clients count named same back made) asked =
     let one : Some (Gen seed clients count) ≡ Some command = sym named ∙ asked in
     let alike : Gen seed clients count ≡ command = cc in
     (λ e. absurd (not_ten_made seed clients count out status made e), λ differs. absurd (never_false (subst (λ (x : Command). is_built_command x ≡ false) (sym alike) differs)))
+unbuilt_exactly command words input out links status (Loads seed clients count named same made) asked =
+    let one : Some (Load seed clients count) ≡ Some command = sym named ∙ asked in
+    let alike : Load seed clients count ≡ command = cc in
+    (λ e. absurd (not_ten_loaded seed clients count out links status made.ran e), λ differs. absurd (never_false (subst (λ (x : Command). is_built_command x ≡ false) (sym alike) differs)))
 unbuilt_exactly command words input out links status (PrintsInput named back printed) asked =
     let one : Some Frames ≡ Some command = sym named ∙ asked in
     let alike : Frames ≡ command = cc in
@@ -182,13 +188,13 @@ unbuilt_exactly command words input out links status (PrintsInput named back pri
 unbuilt_exactly command words input out links status (Replays named replayed) asked =
     let one : Some Replay ≡ Some command = sym named ∙ asked in
     let alike : Replay ≡ command = cc in (
-      λ e. let came = (unbuilt_script_exactly _ input out links status replayed).0 e in inr (subst RunsScript alike tt, (replayed.bytes, replayed.came, came.0, came.1)),
+      λ e. absurd (each_script_is_run _ input out links status replayed e),
       λ differs. absurd (never_false (subst (λ (x : Command). is_built_command x ≡ false) (sym alike) differs)),
     )
 unbuilt_exactly command words input out links status (Simulates seed named replayed) asked =
     let one : Some (Sim seed) ≡ Some command = sym named ∙ asked in
     let alike : Sim seed ≡ command = cc in (
-      λ e. let came = (unbuilt_script_exactly _ input out links status replayed).0 e in inr (subst RunsScript alike tt, (replayed.bytes, replayed.came, came.0, came.1)),
+      λ e. absurd (each_script_is_run _ input out links status replayed e),
       λ differs. absurd (never_false (subst (λ (x : Command). is_built_command x ≡ false) (sym alike) differs)),
     )
 
@@ -208,12 +214,16 @@ still_faulty out line kind status (inl w) e = absurd (omega (arith, e, w.0))
 still_faulty out line kind status (inr w) e = w.1.1
 
 still_replayed : (turns : List Item → List Turn) (input : Input) (out : Output) (links : Links) (bytes : List ℕ) (status : ℕ) → Replayed turns input out links bytes status → status ≡ 0 → StandStill out.faults
-still_replayed turns input out links bytes status (RanScript end script is built opened ran) e = still_ran (turns script) script out links status ran e
+still_replayed turns input out links bytes status (RanScript end script is opened ran) e = still_ran (turns script) script out links status ran e
 still_replayed turns input out links bytes status (FaultyScript end line kind is back wrote) e = still_faulty out line kind status wrote e
 still_replayed turns input out links bytes status (SourceFailed s rose back wrote) e = wrote.1
 still_replayed turns input out links bytes status (TooLong s long back wrote) e = wrote.1
 still_replayed turns input out links bytes status (NoMemory s back wrote) e = wrote.1
-still_replayed turns input out links bytes status (ScriptNotBuilt s end script is built back wrote) e = absurd (omega (arith, e, s))
+
+still_loaded : (seed clients count : ℕ) (out : Output) (links : Links) (status : ℕ) → LoadRan seed clients count out links status → status ≡ 0 → StandStill out.faults
+still_loaded seed clients count out links status (LoadSummed text is wrote) e = still_written out text status wrote e
+still_loaded seed clients count out links status (LoadRanOut s wrote) e = wrote.1
+still_loaded seed clients count out links status (LoadNotOpened s rose back wrote) e = wrote.1
 
 still_ended : (input : Input) (out : Output) (bytes : List ℕ) (ended : Result StreamEnd PrintFault) (status : ℕ) → status ≡ frames_status ended → EndsAs (edges_of input out) bytes ended → status ≡ 0 → StandStill out.faults
 still_ended input out bytes (Ok end_.Rest) status s h e = h.kept
@@ -229,6 +239,7 @@ no_write_failed words input out links status (NoCommand s none same back wrote) 
 no_write_failed words input out links status (CommandNotBuilt s other named differs same back wrote) e = absurd (omega (arith, e, s))
 no_write_failed words input out links status (Generates seed clients count named same back (inl w)) e = still_written out _ status w e
 no_write_failed words input out links status (Generates seed clients count named same back (inr w)) e = w.1.1
+no_write_failed words input out links status (Loads seed clients count named same made) e = still_loaded seed clients count out links status made.ran e
 no_write_failed words input out links status (PrintsInput named back printed) e = still_ended input out printed.printed.bytes printed.ended status printed.numbered printed.printed.ended e
 no_write_failed words input out links status (Replays named replayed) e = still_replayed _ input out links replayed.bytes status replayed.replayed e
 no_write_failed words input out links status (Simulates seed named replayed) e = still_replayed _ input out links replayed.bytes status replayed.replayed e

@@ -1,5 +1,6 @@
 pub mod Known
 pub mod Pieces
+pub mod Untroubled
 pub mod Reported
 pub mod Replays
 pub mod GeneratedLemmas

@@ -1,9 +1,7 @@
 -- How `replay` ends, by what its calls say.
-use Rattle.std.proofs.Common.{◌≡◌, ◌≢◌, ℕ, ◌≤◌, inl, Bool, true, false, List, [], length, Option, Some, None, Vec, Result, Ok, Err, refl, ap, sym, ◌∙◌, subst, arith, option_map, map, not, ◌||◌, ◌∷◌}
-use Rattle.std.specs.Prelude.{is_some}
-use Rattle.std.specs.List.{list_any}
+use Rattle.std.proofs.Common.{◌≡◌, ◌≢◌, ℕ, ◌≤◌, inl, false, List, length, Some, Vec, Result, Ok, Err, refl, ap, sym, ◌∙◌, subst, arith, option_map}
 use Rattle.std.specs.declared.alloc.Global.{Global}
-use Rattle.brpc_model.specs.Items.{Item, Open}
+use Rattle.brpc_model.specs.Items.{Item}
 use Rattle.brpc_model.specs.Script.{script_of}
 use Rattle.brpc_model.specs.Commands as model
 use Rattle.brpc_eng.specs.declared.commands.Command.{Command}
@@ -11,10 +9,6 @@ use Rattle.brpc_eng.specs.declared.draw.Draw.{Draw}
 use Rattle.brpc_eng.specs.declared.commands.Command.TheVariants.{Replay, Sim, Run, Gen, Load, Frames, Serve}
 use Rattle.brpc_model.specs.Operations.{Turn}
 use Rattle.sock_programs.specs.Scripts.{drawn_turns}
-use Rattle.report_fits.proofs.Callless.{any_none}
-use Rattle.report_fits.proofs.Lists.{or_parts, has_from}
-use Rattle.whole_runs.specs.Unserved.{IsUnserved}
-use Rattle.brpc_eng.specs.Built.{is_built_script, is_other_end}
 use Rattle.brpc_eng.specs.Command.{meaning}
 use Rattle.brpc_eng.specs.Streams.{script_limit, ReadWhole}
 use Rattle.brpc_eng.specs.Answers as answer
@@ -40,20 +34,12 @@ whole_input turns input out links bytes read status whole replayed =
 came_is : (input : answer.Input) (bytes seen : List ℕ) (read : Vec ℕ Global) → ReadWhole input.given input.left bytes (Ok read) → seen ≡ read.items → seen ≡ bytes
 came_is input bytes seen read whole e = e ∙ whole.whole.0
 
-pub replays_built : (turns : List Item → List Turn) (input : answer.Input) (out : answer.Output) (links : answer.Links) (status : ℕ) (bytes seen : List ℕ) (read : Vec ℕ Global) (script lines : List Item) (test : Bool) →
-    ReadWhole input.given input.left bytes (Ok read) → seen ≡ read.items → script_of seen ≡ Ok script → lines ≡ script → test ≡ is_built_script lines → test ≡ true →
+pub replays_read : (turns : List Item → List Turn) (input : answer.Input) (out : answer.Output) (links : answer.Links) (status : ℕ) (bytes seen : List ℕ) (read : Vec ℕ Global) (script : List Item) →
+    ReadWhole input.given input.left bytes (Ok read) → seen ≡ read.items → script_of seen ≡ Ok script →
     answer.OpenedBy script links status → answer.Ran (turns script) script out links status → answer.ReplayedInput turns input out links status
-replays_built turns input out links status bytes seen read script lines test whole s e l t built opened ran =
+replays_read turns input out links status bytes seen read script whole s e opened ran =
     let is : script_of bytes ≡ Ok script = ap script_of (sym (came_is input bytes seen read whole s)) ∙ e in
-    let tested : is_built_script script ≡ true = ap is_built_script (sym l) ∙ sym t ∙ built in
-    whole_input turns input out links bytes read status whole (answer.RanScript whole.whole.1 script is tested opened ran)
-
-pub replays_unbuilt : (turns : List Item → List Turn) (input : answer.Input) (out : answer.Output) (links : answer.Links) (bytes seen : List ℕ) (read : Vec ℕ Global) (script lines : List Item) (test : Bool) →
-    ReadWhole input.given input.left bytes (Ok read) → seen ≡ read.items → script_of seen ≡ Ok script → lines ≡ script → test ≡ is_built_script lines → test ≡ false →
-    answer.OpenedNone links → answer.Wrote out answer.not_built_text → answer.ReplayedInput turns input out links 10
-replays_unbuilt turns input out links bytes seen read script lines test whole s e l t built back wrote =
-    let is : script_of bytes ≡ Ok lines = ap script_of (sym (came_is input bytes seen read whole s)) ∙ e ∙ ap (λ x. Ok x) (sym l) in
-    whole_input turns input out links bytes read 10 whole (answer.ScriptNotBuilt refl whole.whole.1 lines is (sym t ∙ built) back wrote)
+    whole_input turns input out links bytes read status whole (answer.RanScript whole.whole.1 script is opened ran)
 
 pub replays_faulty : (turns : List Item → List Turn) (input : answer.Input) (out : answer.Output) (links : answer.Links) (status line kind : ℕ) (bytes seen : List ℕ) (read : Vec ℕ Global) →
     ReadWhole input.given input.left bytes (Ok read) → seen ≡ read.items → script_of seen ≡ Err (line, kind) → answer.OpenedNone links → answer.FaultWritten out line kind status →
@@ -63,25 +49,31 @@ replays_faulty turns input out links status line kind bytes seen read whole s e 
 
 -- ## The words
 
-not_built : (command : Command) → (command ≡ Replay → ⊥) → ((seed : ℕ) → command ≡ Sim seed → ⊥) → ((draw : Draw) → command ≡ Gen draw → ⊥) → (command ≡ Frames → ⊥) → answer.is_built_command (meaning command) ≡ false
-not_built Replay h s k f = absurd (h refl)
-not_built (Sim seed) h s k f = absurd (s seed refl)
-not_built (Run port) h s k f = refl
-not_built (Gen draw) h s k f = absurd (k draw refl)
-not_built (Load draw) h s k f = refl
-not_built Frames h s k f = absurd (f refl)
-not_built (Serve port connections) h s k f = refl
+not_built : (command : Command) → (command ≡ Replay → ⊥) → ((seed : ℕ) → command ≡ Sim seed → ⊥) → ((draw : Draw) → command ≡ Gen draw → ⊥) → ((draw : Draw) → command ≡ Load draw → ⊥) → (command ≡ Frames → ⊥) → answer.is_built_command (meaning command) ≡ false
+not_built Replay h s k l f = absurd (h refl)
+not_built (Sim seed) h s k l f = absurd (s seed refl)
+not_built (Run port) h s k l f = refl
+not_built (Gen draw) h s k l f = absurd (k draw refl)
+not_built (Load draw) h s k l f = absurd (l draw refl)
+not_built Frames h s k l f = absurd (f refl)
+not_built (Serve port connections) h s k l f = refl
 
 -- a command that isn't built
-pub other_command : (words : List (List ℕ)) (input : answer.Input) (out : answer.Output) (links : answer.Links) (command : Command) → option_map meaning (Some command) ≡ model.command_of words → (command ≡ Replay → ⊥) → ((seed : ℕ) → command ≡ Sim seed → ⊥) → ((draw : Draw) → command ≡ Gen draw → ⊥) → (command ≡ Frames → ⊥) →
+pub other_command : (words : List (List ℕ)) (input : answer.Input) (out : answer.Output) (links : answer.Links) (command : Command) → option_map meaning (Some command) ≡ model.command_of words → (command ≡ Replay → ⊥) → ((seed : ℕ) → command ≡ Sim seed → ⊥) → ((draw : Draw) → command ≡ Gen draw → ⊥) → ((draw : Draw) → command ≡ Load draw → ⊥) → (command ≡ Frames → ⊥) →
     input.left ≡ input.given → answer.OpenedNone links → answer.Wrote out answer.not_built_text → answer.Answers words input out links 10
-other_command words input out links command e other simulated drawn framed same back wrote = answer.CommandNotBuilt refl (meaning command) (sym e) (not_built command other simulated drawn framed) same back wrote
+other_command words input out links command e other simulated drawn loads framed same back wrote = answer.CommandNotBuilt refl (meaning command) (sym e) (not_built command other simulated drawn loads framed) same back wrote
 
 -- a drawn script
 pub drawn_command : (words : List (List ℕ)) (input : answer.Input) (out : answer.Output) (links : answer.Links) (status : ℕ) (command : Command) (draw : Draw) → option_map meaning (Some command) ≡ model.command_of words → command ≡ Gen draw →
     input.left ≡ input.given → answer.OpenedNone links → answer.Generated draw.seed draw.clients draw.operations out status → answer.Answers words input out links status
 drawn_command words input out links status command draw e is same back made =
     answer.Generates draw.seed draw.clients draw.operations (sym e ∙ ap (λ c. option_map meaning (Some c)) is) same back made
+
+-- a summary of its run
+pub load_command : (words : List (List ℕ)) (input : answer.Input) (out : answer.Output) (links : answer.Links) (status : ℕ) (command : Command) (draw : Draw) → option_map meaning (Some command) ≡ model.command_of words → command ≡ Load draw →
+    input.left ≡ input.given → answer.Loaded draw.seed draw.clients draw.operations out links status → answer.Answers words input out links status
+load_command words input out links status command draw e is same made =
+    answer.Loads draw.seed draw.clients draw.operations (sym e ∙ ap (λ c. option_map meaning (Some c)) is) same made
 
 -- the frames of the input
 pub frames_command : (words : List (List ℕ)) (input : answer.Input) (out : answer.Output) (links : answer.Links) (status : ℕ) (command : Command) → option_map meaning (Some command) ≡ model.command_of words → command ≡ Frames →
@@ -93,28 +85,7 @@ pub simulated : (words : List (List ℕ)) (input : answer.Input) (out : answer.O
     drawn ≡ seed → answer.ReplayedInput (λ script. drawn_turns script drawn) input out links status → answer.Answers words input out links status
 simulated words input out links status command seed drawn e is same replayed = answer.Simulates drawn (sym e ∙ ap (λ c. option_map meaning (Some c)) (is ∙ ap Sim (sym same))) replayed
 
--- ## What is built
-
-any_map : {A B : Type 0} (f : B → Bool) (g : A → B) (xs : List A) → list_any f (map g xs) ≡ list_any (λ (x : A). f (g x)) xs
-any_map f g [] = refl
-any_map f g (x ∷ xs) = ap (λ b. f (g x) || b) (any_map f g xs)
-
-pub built_is : {A : Type 0} (f : A → Item) (lines : List A) (script : List Item) (ends : Bool) → ends ≡ list_any (λ (x : A). is_other_end (f x)) lines → script ≡ map f lines → not ends ≡ is_built_script script
-built_is f lines script ends e is = ap not (e ∙ sym (any_map is_other_end f lines)) ∙ sym (ap is_built_script is)
-
-not_false : (b : Bool) → not b ≡ true → b ≡ false
-not_false false e = refl
-not_false true e = absurd (cc)
-
-no_some : {A : Type 0} (o : Option A) → is_some o ≡ false → o ≡ None
-no_some None e = refl
-no_some (Some x) e = absurd (cc)
-
--- a script that is built has no link with a server, or with an end of its own
-pub built_unserved : (script : List Item) → is_built_script script ≡ true → IsUnserved script
-built_unserved script built name shape opened =
-    let none_ = or_parts shape.serve (is_some shape.«end») (any_none is_other_end script (Open name shape) (not_false (list_any is_other_end script) built) (has_from script (Open name shape) opened)) in
-    (none_.0, no_some shape.«end» none_.1)
+-- ## The frames
 
 -- only where that is answered a read failed
 not_source : (ended : Result StreamEnd PrintFault) → answer.frames_status ended ≢ 4 → ended ≢ Err fault_.Source

@@ -1,5 +1,5 @@
 -- The report of a run fits the script, and is the only one of a run in which the links answered the same.
-use Rattle.std.proofs.Common.{◌≡◌, ℕ, zero, suc, ◌<◌, true, List, [], ◌∷◌, length, Option, Some, None, IfSome, Ok, ap, sym, ◌∙◌, subst, arith}
+use Rattle.std.proofs.Common.{◌≡◌, refl, ◌⊎◌, ℕ, zero, suc, ◌<◌, true, List, [], ◌∷◌, length, Option, Some, None, IfSome, Ok, Contains, ap, sym, ◌∙◌, subst, arith}
 use Rattle.std.specs.Prelude.{slice_get, is_some}
 use Rattle.std.specs.List.{AllByRecursion}
 use Rattle.std.proofs.lemmas.Option.{slice_get_within, same_Some}
@@ -7,24 +7,28 @@ use native.Mathlib.Decide.{dec_lt}
 use mathlib.Core.Logic.{dite}
 use Rattle.brpc_model.specs.Items.{Item}
 use Rattle.brpc_model.specs.Operations.{Turn}
+use Rattle.brpc_model.specs.Drawn.{generated}
 use Rattle.brpc_model.specs.Script.{script_of}
+use Rattle.brpc_model.specs.ScriptText.{script_text}
 use Rattle.brpc_model.specs.Link.{LinkEnd}
 use Rattle.brpc_model.specs.PlaceWords.{took_at, IsLineOf}
 use Rattle.brpc_model.specs.Run.{Lateness, nothing_late}
 use Rattle.brpc_model.specs.Complete.{FitsWhole}
-use Rattle.sock_programs.specs.Scripts.{is_callless, place_words, Reports}
+use Rattle.sock_programs.specs.Scripts.{is_callless, drawn_turns, place_words, Reports}
 use Rattle.sock_programs.specs.Tasks.{plan_of}
-use Rattle.report_fits.proofs.Lists.{within}
+use Rattle.sock_programs.specs.ToldCalls.{Fixed}
+use Rattle.report_fits.proofs.Lists.{within, has_from, has_none}
 use Rattle.report_fits.proofs.Places.{lateness}
 use Rattle.whole_runs.specs.Heard.{as_told, as_taken, take_answers, heard_of, heard_takes}
-use Rattle.whole_runs.specs.Unserved.{IsUnserved}
+use Rattle.whole_runs.specs.Unserved.{IsInTime}
 use Rattle.whole_runs.proofs.HeardRuns.{one_text_told}
 use Rattle.whole_runs.proofs.Gave.{same_takes}
-use Rattle.whole_runs.proofs.Runs.{unserved_fits}
+use Rattle.whole_runs.proofs.Lengths.{ended_length}
 use Rattle.script_run.specs.Causes.{gave_in}
-use Rattle.script_run.specs.Played.{IsRunText, IsCaused}
-use Rattle.script_run.proofs.Told.{as_far}
+use Rattle.script_run.specs.Given.{AreNumbered, IsBeginning, specs_of}
+use Rattle.script_run.specs.Played.{IsRunText, IsRunSummary, IsCaused}
 use Rattle.brpc_eng.specs.Answers as answer
+use Rattle.brpc_eng.proofs.Untroubled.{callless_fits}
 
 -- two texts of runs
 same_text : (turns : List Turn) (script : List Item) (a b : List ℕ) (xs ys : List LinkEnd) (r : IsRunText script turns a xs) (s : IsRunText script turns b ys) → r.took ≡ s.took → answer.SameAnswers r.whole.run s.whole.run → a ≡ b
@@ -82,19 +86,29 @@ module _ (bytes : List ℕ) (script : List Item) (reads : script_of bytes ≡ Ok
 
 -- ## A report
 
+nothing_there : (x : ℕ) (xs : List ℕ) → xs ≡ [] → Contains xs x → ⊥
+nothing_there x xs none_ there = has_none x (has_from [] x (subst (λ (l : List ℕ). Contains l x) none_ there))
+
+-- where a run fixes that nothing came late
+in_time : (script : List Item) (fixed : Fixed) → lateness fixed ≡ nothing_late → IsInTime script fixed
+in_time script fixed none_ = record {
+  none_late = λ o op name bytes at is there. nothing_there o fixed.late (ap (λ (l : Lateness). l.operations) none_) there;
+  no_late_link = λ k there. nothing_there k fixed.late_links (ap (λ (l : Lateness). l.links) none_) there;
+}
+
 module _ (turns : List Turn) (bytes : List ℕ) (script : List Item) (reads : script_of bytes ≡ Ok script) (ends : List LinkEnd) (text : List ℕ) (is : IsRunText script turns text ends) where
   abbrev Fits : Type 0
   Fits = (late : Lateness) × (is_callless script ≡ true → late ≡ nothing_late) × FitsWhole script text ends late
 
   -- where all causes are known, the report of the text fits
-  fits : IsUnserved script → IsCaused script turns is.whole.core is.whole.run ends → Fits
-  fits unserved c =
+  fits : is_callless script ≡ true → IsCaused script turns is.whole.core is.whole.run ends → Fits
+  fits callless c =
       let w = is.whole in let causes = c.0 in (
         lateness causes.fixed,
         causes.none_late,
         subst (λ (x : List ℕ). FitsWhole script x ends (lateness causes.fixed)) (sym is.is_text)
-            (unserved_fits bytes script reads turns w.core w.run causes.fixed (gave_in w.core) causes.orders causes.tells unserved (λ k early. (causes.early k early).0) is.report is.took ends is.reports is.told c.1
-            (λ untroubled. causes.in_time unserved)),
+            (callless_fits bytes script reads w.core causes.fixed (gave_in w.core) causes.orders (ended_length bytes script reads turns w.core w.run) causes.tells callless
+            (in_time script causes.fixed (causes.none_late callless)) is.report is.took ends is.reports is.told c.1),
       )
 
   -- and it is the only one
@@ -103,10 +117,38 @@ module _ (turns : List Turn) (bytes : List ℕ) (script : List Item) (reads : sc
 
 -- with what the calls say of the values that they were handed
 pub ran_reported : (turns : List Turn) (bytes : List ℕ) (script : List Item) (text text' : List ℕ) (out : answer.Output) (links : answer.Links) (status : ℕ) →
-    script_of bytes ≡ Ok script → IsUnserved script → (links.prompt ≡ true → links.tells → IsRunText script turns text links.ends) → text' ≡ text → answer.TextWritten out text' status →
+    script_of bytes ≡ Ok script → (links.prompt ≡ true → links.tells → IsRunText script turns text links.ends) → text' ≡ text → answer.TextWritten out text' status →
     answer.Ran turns script out links status
-ran_reported turns bytes script text text' out links status reads unserved ran t wrote =
+ran_reported turns bytes script text text' out links status reads ran t wrote =
     let report : links.prompt ≡ true → links.tells → IsRunText script turns text' links.ends = λ q tells. subst (λ (x : List ℕ). IsRunText script turns x links.ends) (sym t) (ran q tells) in
     answer.Reported text'
-    (λ q tells. let r = report q tells in as_far script (fits turns bytes script reads links.ends text' r unserved) r.causes)
+    (λ q tells callless. let r = report q tells in fits turns bytes script reads links.ends text' r callless (r.causes callless))
     (λ q tells. only turns bytes script reads links.ends text' (report q tells)) wrote
+
+-- ## A summary
+
+-- no link was opened
+pub opened_none : (script : List Item) (links : answer.Links) (status : ℕ) → links.asked ≡ [] → links.ends ≡ [] → ((status ≡ 0) ⊎ (status ≡ 5) → ⊥) → answer.OpenedBy script links status
+opened_none script links status asked ends unwritten = record {
+  front = subst (λ l. IsBeginning l (specs_of script)) (sym asked) (specs_of script, refl);
+  whole = λ written. absurd (unwritten written);
+  given_back = ap length ends ∙ sym (ap length asked);
+  numbered = subst (AreNumbered 0) (sym ends) tt;
+}
+
+-- with what the calls say of the values that they were handed
+pub load_ran : (seed clients count drawn : ℕ) (script : List Item) (text text' : List ℕ) (out : answer.Output) (links : answer.Links) (status : ℕ) → script ≡ generated seed clients count → drawn ≡ seed → script_of (script_text script) ≡ Ok script →
+    (links.prompt ≡ true → links.tells → IsRunSummary (record { seed = seed; clients = clients; operations = count }) script (drawn_turns script drawn) text links.ends) → text' ≡ text → answer.TextWritten out text' status →
+    answer.LoadRan seed clients count out links status
+load_ran seed clients count drawn script text text' out links status made same reads ran t wrote = answer.LoadSummed text' (subst Sums made sums) wrote
+  where
+    Sums : List Item → Type 0
+    Sums s = links.prompt ≡ true → links.tells → (whole : List ℕ) × answer.IsReport links s whole × answer.IsOnlyText links.ends s (drawn_turns s seed) whole × answer.SumsUp seed clients count s whole text'
+
+    sums : Sums script
+    sums q tells = let r = ran q tells in let is = subst (λ d. IsRunText script (drawn_turns script d) r.whole links.ends) same r.reported in (
+      r.whole,
+      (λ q tells callless. fits (drawn_turns script drawn) (script_text script) script reads links.ends r.whole r.reported callless (r.reported.causes callless)),
+      only (drawn_turns script seed) (script_text script) script reads links.ends r.whole is,
+      (r.reported.report, r.reported.is_text, t ∙ r.sums),
+    )

@@ -1,12 +1,11 @@
--- Where the statuses 3, 6 and 10 of `replay` and `sim` come: exactly where the bytes that came say so, unless memory ran out, the source
--- failed, or more came than a script may have, before.
-use Rattle.std.proofs.Common.{◌≡◌, ◌≢◌, ℕ, ◌<◌, ◌⊎◌, inl, inr, true, false, List, length, Ok, Err, ap, sym, ◌∙◌, arith}
+-- Where the statuses 3 and 6 of `replay` and `sim` come: exactly where the bytes that came say so, unless memory ran out, the source
+-- failed, or more came than a script may have, before; and 10 comes never.
+use Rattle.std.proofs.Common.{◌≡◌, ◌≢◌, ℕ, ◌<◌, ◌⊎◌, inl, inr, List, length, Ok, Err, sym, ◌∙◌, arith}
 use Rattle.brpc_model.specs.Items.{Item}
 use Rattle.brpc_model.specs.Operations.{Turn}
 use Rattle.brpc_model.specs.Script.{script_of}
-use Rattle.brpc_eng.specs.Built.{is_built_script}
 use Rattle.brpc_eng.specs.Streams.{script_limit, IsAtEnd}
-use Rattle.brpc_eng.specs.Answers.{HaveRisen, Input, Output, Links, Ran, Reported, MemoryRanOut, OpenFailed, FaultWritten, Replayed, RanScript, FaultyScript, SourceFailed, TooLong, NoMemory, ScriptNotBuilt, ReplayedInput}
+use Rattle.brpc_eng.specs.Answers.{HaveRisen, Input, Output, Links, Ran, Reported, MemoryRanOut, OpenFailed, FaultWritten, Replayed, RanScript, FaultyScript, SourceFailed, TooLong, NoMemory, ReplayedInput}
 
 -- ## What each way of ending says of the bytes that came
 
@@ -14,12 +13,11 @@ abbrev IsRun : ℕ → Type 0
 IsRun status = (status ≡ 0) ⊎ (status ≡ 5) ⊎ (status ≡ 7) ⊎ (status ≡ 8)
 
 pub data Ends (input : Input) (bytes : List ℕ) (status : ℕ) : Type 0 where
-  WasRun : IsAtEnd input.left → (script : List Item) → script_of bytes ≡ Ok script → is_built_script script ≡ true → IsRun status → Ends input bytes status
+  WasRun : IsAtEnd input.left → (script : List Item) → script_of bytes ≡ Ok script → IsRun status → Ends input bytes status
   WasFaulty : IsAtEnd input.left → (line kind : ℕ) → script_of bytes ≡ Err (line, kind) → (status ≡ 3) ⊎ (status ≡ 7) → Ends input bytes status
   WasCut : status ≡ 4 → HaveRisen input.faults → Ends input bytes status
   WasLong : status ≡ 6 → script_limit < length bytes → Ends input bytes status
   RanOut : status ≡ 7 → Ends input bytes status
-  WasNotBuilt : status ≡ 10 → IsAtEnd input.left → (script : List Item) → script_of bytes ≡ Ok script → is_built_script script ≡ false → Ends input bytes status
 
 is_run : (turns : List Turn) (script : List Item) (out : Output) (links : Links) (status : ℕ) → Ran turns script out links status → IsRun status
 is_run turns script out links status (Reported text fits of_run (inl w)) = inl w.0
@@ -32,12 +30,11 @@ fault_status out line kind status (inl w) = inl w.0
 fault_status out line kind status (inr w) = inr w.0
 
 ends_of : (turns : List Item → List Turn) (input : Input) (out : Output) (links : Links) (bytes : List ℕ) (status : ℕ) → Replayed turns input out links bytes status → Ends input bytes status
-ends_of turns input out links bytes status (RanScript end script is built opened ran) = WasRun end script is built (is_run (turns script) script out links status ran)
+ends_of turns input out links bytes status (RanScript end script is opened ran) = WasRun end script is (is_run (turns script) script out links status ran)
 ends_of turns input out links bytes status (FaultyScript end line kind is back wrote) = WasFaulty end line kind is (fault_status out line kind status wrote)
 ends_of turns input out links bytes status (SourceFailed s rose back wrote) = WasCut s rose
 ends_of turns input out links bytes status (TooLong s long back wrote) = WasLong s long
 ends_of turns input out links bytes status (NoMemory s back wrote) = RanOut s
-ends_of turns input out links bytes status (ScriptNotBuilt s end script is built back wrote) = WasNotBuilt s end script is built
 
 not_run : (status n : ℕ) → IsRun status → status ≡ n → n ≢ 0 → n ≢ 5 → n ≢ 7 → n ≢ 8 → ⊥
 not_run status n (inl e) is a b c d = a (sym is ∙ e)
@@ -53,21 +50,19 @@ EndedBefore input bytes status = ((status ≡ 4) × HaveRisen input.faults) ⊎ 
 
 -- 3: the input was read to its end, and its bytes are no script
 three : (input : Input) (bytes : List ℕ) (status : ℕ) → Ends input bytes status → status ≡ 3 → IsAtEnd input.left × ((line : ℕ) × (kind : ℕ) × (script_of bytes ≡ Err (line, kind)))
-three input bytes status (WasRun end script is built run) e = absurd (not_run status 3 run e (λ x. absurd (omega (arith, x))) (λ x. absurd (omega (arith, x))) (λ x. absurd (omega (arith, x))) (λ x. absurd (omega (arith, x))))
+three input bytes status (WasRun end script is run) e = absurd (not_run status 3 run e (λ x. absurd (omega (arith, x))) (λ x. absurd (omega (arith, x))) (λ x. absurd (omega (arith, x))) (λ x. absurd (omega (arith, x))))
 three input bytes status (WasFaulty end line kind is s) e = (end, (line, kind, is))
 three input bytes status (WasCut s rose) e = absurd (omega (arith, s, e))
 three input bytes status (WasLong s long) e = absurd (omega (arith, s, e))
 three input bytes status (RanOut s) e = absurd (omega (arith, s, e))
-three input bytes status (WasNotBuilt s end script is built) e = absurd (omega (arith, s, e))
 
 no_script : (input : Input) (bytes : List ℕ) (status line kind : ℕ) → Ends input bytes status → script_of bytes ≡ Err (line, kind) → (status ≡ 3) ⊎ EndedBefore input bytes status
-no_script input bytes status line kind (WasRun end script is built run) e = absurd (cc)
+no_script input bytes status line kind (WasRun end script is run) e = absurd (cc)
 no_script input bytes status line kind (WasFaulty end l k is (inl s)) e = inl s
 no_script input bytes status line kind (WasFaulty end l k is (inr s)) e = inr (inr (inr s))
 no_script input bytes status line kind (WasCut s rose) e = inr (inl (s, rose))
 no_script input bytes status line kind (WasLong s long) e = inr (inr (inl (s, long)))
 no_script input bytes status line kind (RanOut s) e = inr (inr (inr s))
-no_script input bytes status line kind (WasNotBuilt s end script is built) e = absurd (cc)
 
 pub faulty_script_exactly : (turns : List Item → List Turn) (input : Input) (out : Output) (links : Links) (status : ℕ) → (read : ReplayedInput turns input out links status) →
     (status ≡ 3 → IsAtEnd input.left × ((line : ℕ) × (kind : ℕ) × (script_of read.bytes ≡ Err (line, kind))))
@@ -78,42 +73,25 @@ faulty_script_exactly turns input out links status read =
 
 -- 6: more bytes came than a script may have, unless memory ran out before
 six : (input : Input) (bytes : List ℕ) (status : ℕ) → Ends input bytes status → status ≡ 6 → script_limit < length bytes
-six input bytes status (WasRun end script is built run) e = absurd (not_run status 6 run e (λ x. absurd (omega (arith, x))) (λ x. absurd (omega (arith, x))) (λ x. absurd (omega (arith, x))) (λ x. absurd (omega (arith, x))))
+six input bytes status (WasRun end script is run) e = absurd (not_run status 6 run e (λ x. absurd (omega (arith, x))) (λ x. absurd (omega (arith, x))) (λ x. absurd (omega (arith, x))) (λ x. absurd (omega (arith, x))))
 six input bytes status (WasFaulty end line kind is (inl s)) e = absurd (omega (arith, s, e))
 six input bytes status (WasFaulty end line kind is (inr s)) e = absurd (omega (arith, s, e))
 six input bytes status (WasCut s rose) e = absurd (omega (arith, s, e))
 six input bytes status (WasLong s long) e = long
 six input bytes status (RanOut s) e = absurd (omega (arith, s, e))
-six input bytes status (WasNotBuilt s end script is built) e = absurd (omega (arith, s, e))
 
 pub long_script_exactly : (turns : List Item → List Turn) (input : Input) (out : Output) (links : Links) (status : ℕ) → (read : ReplayedInput turns input out links status) →
     (status ≡ 6 → script_limit < length read.bytes) × (script_limit < length read.bytes → (status ≡ 6) ⊎ (status ≡ 7))
 long_script_exactly turns input out links status read = (six input read.bytes status (ends_of turns input out links read.bytes status read.replayed), read.too_long)
 
--- 10: the input was read to its end, and its bytes are a script that isn't built
-ten : (input : Input) (bytes : List ℕ) (status : ℕ) → Ends input bytes status → status ≡ 10 → IsAtEnd input.left × ((script : List Item) × (script_of bytes ≡ Ok script) × (is_built_script script ≡ false))
-ten input bytes status (WasRun end script is built run) e = absurd (not_run status 10 run e (λ x. absurd (omega (arith, x))) (λ x. absurd (omega (arith, x))) (λ x. absurd (omega (arith, x))) (λ x. absurd (omega (arith, x))))
-ten input bytes status (WasFaulty end line kind is (inl s)) e = absurd (omega (arith, s, e))
-ten input bytes status (WasFaulty end line kind is (inr s)) e = absurd (omega (arith, s, e))
-ten input bytes status (WasCut s rose) e = absurd (omega (arith, s, e))
-ten input bytes status (WasLong s long) e = absurd (omega (arith, s, e))
-ten input bytes status (RanOut s) e = absurd (omega (arith, s, e))
-ten input bytes status (WasNotBuilt s end script is built) e = (end, (script, is, built))
+-- 10: a script that was read is run, whatever it asks of its links
+never_ten : (input : Input) (bytes : List ℕ) (status : ℕ) → Ends input bytes status → status ≢ 10
+never_ten input bytes status (WasRun end script is run) e = not_run status 10 run e (λ x. absurd (omega (arith, x))) (λ x. absurd (omega (arith, x))) (λ x. absurd (omega (arith, x))) (λ x. absurd (omega (arith, x)))
+never_ten input bytes status (WasFaulty end line kind is (inl s)) e = absurd (omega (arith, s, e))
+never_ten input bytes status (WasFaulty end line kind is (inr s)) e = absurd (omega (arith, s, e))
+never_ten input bytes status (WasCut s rose) e = absurd (omega (arith, s, e))
+never_ten input bytes status (WasLong s long) e = absurd (omega (arith, s, e))
+never_ten input bytes status (RanOut s) e = absurd (omega (arith, s, e))
 
-unbuilt : (input : Input) (bytes : List ℕ) (status : ℕ) (script : List Item) → Ends input bytes status → script_of bytes ≡ Ok script → is_built_script script ≡ false → (status ≡ 10) ⊎ EndedBefore input bytes status
-unbuilt input bytes status script (WasRun end read is built run) e not_built =
-    let one : Ok read ≡ Ok script = sym is ∙ e in
-    let alike : read ≡ script = cc in
-    let never : true ≡ false = sym built ∙ ap is_built_script alike ∙ not_built in absurd (cc)
-unbuilt input bytes status script (WasFaulty end l k is s) e not_built = absurd (cc)
-unbuilt input bytes status script (WasCut s rose) e not_built = inr (inl (s, rose))
-unbuilt input bytes status script (WasLong s long) e not_built = inr (inr (inl (s, long)))
-unbuilt input bytes status script (RanOut s) e not_built = inr (inr (inr s))
-unbuilt input bytes status script (WasNotBuilt s end read is built) e not_built = inl s
-
-pub unbuilt_script_exactly : (turns : List Item → List Turn) (input : Input) (out : Output) (links : Links) (status : ℕ) → (read : ReplayedInput turns input out links status) →
-    (status ≡ 10 → IsAtEnd input.left × ((script : List Item) × (script_of read.bytes ≡ Ok script) × (is_built_script script ≡ false)))
-    × ((script : List Item) → script_of read.bytes ≡ Ok script → is_built_script script ≡ false → (status ≡ 10) ⊎ EndedBefore input read.bytes status)
-unbuilt_script_exactly turns input out links status read =
-    let ends = ends_of turns input out links read.bytes status read.replayed in
-    (ten input read.bytes status ends, λ script e not_built. unbuilt input read.bytes status script ends e not_built)
+pub each_script_is_run : (turns : List Item → List Turn) (input : Input) (out : Output) (links : Links) (status : ℕ) → ReplayedInput turns input out links status → status ≢ 10
+each_script_is_run turns input out links status read = never_ten input read.bytes status (ends_of turns input out links read.bytes status read.replayed)

@@ -2,7 +2,7 @@
 use Rattle.std.specs.Prelude.{ℕ, ◌≡◌, ◌≢◌, ◌<◌, ◌≤◌, ◌+◌, ◌⊎◌, ◌++◌, Bool, true, false, List, [], length, codes, decimal, is_some, Option, Some, None, Result, Ok, Err}
 use Rattle.std.specs.Io.KnownBytes.{Appends, Consumes}
 use Rattle.std.specs.List.{AllByRecursion}
-use Rattle.brpc_model.specs.Commands.{Command, Replay, Sim, Gen, Frames, command_of, usage_text}
+use Rattle.brpc_model.specs.Commands.{Command, Replay, Sim, Gen, Load, Frames, command_of, usage_text}
 use Rattle.brpc_model.specs.ScriptText.{script_text}
 use Rattle.brpc_model.specs.Drawn.{generated}
 use Rattle.brpc_model.specs.Items.{Item}
@@ -10,7 +10,9 @@ use Rattle.brpc_model.specs.Operations.{Turn, schedule}
 use Rattle.brpc_model.specs.Script.{script_of}
 use Rattle.brpc_model.specs.Link.{LinkEnd}
 use Rattle.brpc_model.specs.Run.{Lateness, nothing_late}
+use Rattle.brpc_model.specs.Report.{Report, report_text}
 use Rattle.brpc_model.specs.Complete.{FitsWhole}
+use Rattle.script_report.specs.Sums.{told_of, sums_of, summary_text}
 use Rattle.sock_io.specs.Causes.{Rose}
 use Rattle.sock_io.specs.Writing.{WrotePart}
 use Rattle.frame_print.specs.Printed.{Edges, PrintsFrames}
@@ -26,7 +28,6 @@ use Rattle.script_run.specs.Given.{AreNumbered, AreUntouched, IsBeginning, specs
 use Rattle.script_run.specs.Causes.{AsFarAsTold}
 use Rattle.script_run.specs.Played.{IsRunText}
 use Rattle.brpc_eng.specs.Streams.{script_limit, IsAtEnd}
-use Rattle.brpc_eng.specs.Built.{is_built_script}
 
 -- ## What a call finds outside, and what it leaves there
 
@@ -99,8 +100,8 @@ fault_text line kind = codes "script fault line " ++ decimal line ++ codes " kin
 
 -- ## A script that was read
 
--- there, as far as causes are proved, the text reports a run of the script over the links given back: it fits, and where nothing went wrong every
--- send is placed; in a script without calls nothing comes late
+-- there, as far as causes are proved, the text reports a run of the script over the links given back, whatever servers they have: it fits, and where
+-- nothing went wrong every send is placed; in a script without calls nothing comes late
 abbrev pub IsReport : Links → List Item → List ℕ → Type 0
 IsReport links script text = links.prompt ≡ true → links.tells → AsFarAsTold script ((late : Lateness) × (is_callless script ≡ true → late ≡ nothing_late) × FitsWhole script text links.ends late)
 
@@ -135,7 +136,7 @@ IsTextOfRun links script turns text = links.prompt ≡ true → links.tells → 
 abbrev pub TextWritten : Output → List ℕ → ℕ → Type 0
 TextWritten out text status = ((status ≡ 0) × WroteAll out text) ⊎ ((status ≡ 5) × WroteSome out text)
 
--- how the run of a script that is built ends
+-- how the run of a script ends
 pub data Ran (turns : List Turn) (script : List Item) (out : Output) (links : Links) (status : ℕ) : Type 0 where
   Reported : (text : List ℕ) → IsReport links script text → IsTextOfRun links script turns text → TextWritten out text status → Ran turns script out links status
   MemoryRanOut : status ≡ 7 → WroteNothing out → Ran turns script out links status
@@ -150,13 +151,11 @@ FaultWritten out line kind status = ((status ≡ 3) × Wrote out (fault_text lin
 
 -- how a script is run where these bytes came, by the schedule that it has or is given
 pub data Replayed (turns : List Item → List Turn) (input : Input) (out : Output) (links : Links) (bytes : List ℕ) (status : ℕ) : Type 0 where
-  RanScript : IsAtEnd input.left → (script : List Item) → script_of bytes ≡ Ok script → is_built_script script ≡ true → OpenedBy script links status → Ran (turns script) script out links status → Replayed turns input out links bytes status
+  RanScript : IsAtEnd input.left → (script : List Item) → script_of bytes ≡ Ok script → OpenedBy script links status → Ran (turns script) script out links status → Replayed turns input out links bytes status
   FaultyScript : IsAtEnd input.left → (line kind : ℕ) → script_of bytes ≡ Err (line, kind) → OpenedNone links → FaultWritten out line kind status → Replayed turns input out links bytes status
   SourceFailed : status ≡ 4 → HaveRisen input.faults → OpenedNone links → WroteNothing out → Replayed turns input out links bytes status
   TooLong : status ≡ 6 → script_limit < length bytes → OpenedNone links → WroteNothing out → Replayed turns input out links bytes status
   NoMemory : status ≡ 7 → OpenedNone links → WroteNothing out → Replayed turns input out links bytes status
-  ScriptNotBuilt : status ≡ 10 → IsAtEnd input.left → (script : List Item) → script_of bytes ≡ Ok script → is_built_script script ≡ false → OpenedNone links → Wrote out not_built_text →
-      Replayed turns input out links bytes status
 
 -- the run of what the source gives: of the input at most one byte more than a script may have is read, and where that
 -- one came no other status than 6 and 7 comes
@@ -172,6 +171,27 @@ pub record ReplayedInput (turns : List Item → List Turn) (input : Input) (out 
 -- the drawn script was printed, or memory ran out before
 abbrev pub Generated : ℕ → ℕ → ℕ → Output → ℕ → Type 0
 Generated seed clients count out status = TextWritten out (script_text (generated seed clients count)) status ⊎ ((status ≡ 7) × WroteNothing out)
+
+-- ## `load`
+
+-- the text is the summary of the run of a script drawn from this seed, for so many clients with so many operations each, and has the numbers of this report
+abbrev pub SumsUp : ℕ → ℕ → ℕ → List Item → List ℕ → List ℕ → Type 0
+SumsUp seed clients count script whole text = (report : Report) × (whole ≡ report_text script report) × (text ≡ summary_text seed clients count (sums_of (told_of script report.outcomes)))
+
+-- where the links are prompt and tell whether they are found closed, it is the summary of a report that `sim` with the same seed may write of the drawn script
+abbrev pub IsSummary : Links → ℕ → ℕ → ℕ → List ℕ → Type 0
+IsSummary links seed clients count text = let script = generated seed clients count in
+    links.prompt ≡ true → links.tells → (whole : List ℕ) × IsReport links script whole × IsOnlyText links.ends script (drawn_turns script seed) whole × SumsUp seed clients count script whole text
+
+-- how the run of the drawn script ends
+pub data LoadRan (seed clients count : ℕ) (out : Output) (links : Links) (status : ℕ) : Type 0 where
+  LoadSummed : (text : List ℕ) → IsSummary links seed clients count text → TextWritten out text status → LoadRan seed clients count out links status
+  LoadRanOut : status ≡ 7 → WroteNothing out → LoadRan seed clients count out links status
+  LoadNotOpened : status ≡ 8 → HaveRisen links.faults → AreUntouched 0 links.ends → WroteNothing out → LoadRan seed clients count out links status
+
+pub record Loaded (seed clients count : ℕ) (out : Output) (links : Links) (status : ℕ) : Type 0 where
+  pub opened : OpenedBy (generated seed clients count) links status
+  pub ran : LoadRan seed clients count out links status
 
 -- ## `frames`
 
@@ -210,6 +230,7 @@ abbrev pub is_built_command : Command → Bool
 is_built_command Replay = true
 is_built_command (Sim seed) = true
 is_built_command (Gen seed clients count) = true
+is_built_command (Load seed clients count) = true
 is_built_command Frames = true
 is_built_command other = false
 
@@ -222,6 +243,8 @@ pub data Answers (words : List (List ℕ)) (input : Input) (out : Output) (links
       Answers words input out links status
   -- they ask for a drawn script, and nothing is read
   Generates : (seed clients count : ℕ) → command_of words ≡ Some (Gen seed clients count) → input.left ≡ input.given → OpenedNone links → Generated seed clients count out status → Answers words input out links status
+  -- they ask for a summary of its run, and nothing is read
+  Loads : (seed clients count : ℕ) → command_of words ≡ Some (Load seed clients count) → input.left ≡ input.given → Loaded seed clients count out links status → Answers words input out links status
   -- they ask for the frames of the input
   PrintsInput : command_of words ≡ Some Frames → OpenedNone links → FramesPrinted input out status → Answers words input out links status
   -- they ask for a run of the script by its own schedule

@@ -1,5 +1,4 @@
 pub mod Streams
-pub mod Built
 pub mod Answers
 pub mod Status
 pub mod Command

@@ -6,7 +6,8 @@ ghost use Rattle.brpc_eng.specs.Status.{number_of};
 use crate::commands::{Command, read_command};
 use crate::frames::frames;
 use crate::generated::print_generated;
-use crate::replay::{NOT_BUILT, replay, write_answer};
+use crate::load::load;
+use crate::replay::{replay, write_answer};
 use crate::status::Status;
 use script_run::Schedule;
 use sock_io::{Gate, Linker, Sink, Source};
@@ -14,6 +15,8 @@ use std::alloc::Global;
 
 const USAGE: &[u8] =
     b"usage: replay | sim SEED | run [PORT] | gen SEED CLIENTS OPS | load SEED CLIENTS OPS | frames | serve PORT N\n";
+
+const NOT_BUILT: &[u8] = b"not built\n";
 
 /// All that the program does: it reads its words, does what they ask for, and answers its status.
 ///
@@ -28,7 +31,7 @@ const USAGE: &[u8] =
 /// | 7 | where memory ran out |
 /// | 8 | only where a link couldn't be opened; those opened before are given back untouched |
 /// | 9 | exactly where the bytes read by `frames` have a faulty frame, also where the sink fails; the frames before it and the fault are written |
-/// | 10 | exactly where the command or the script isn't built; `not built` is written |
+/// | 10 | exactly where the command isn't built; `not built` is written |
 ///
 /// Faults are met in the order words, source, size, script, opening, run, printing; want of memory
 /// may come at any place of it, and is the one answer that needs no cause. `frames` prints as it reads, so that with 4,
@@ -90,6 +93,7 @@ fn answer<S: Source, K: Sink, L: Linker>(
                 replay(alloc, source, out, links, Schedule::Drawn(u64::from(seed)))
             }
             Command::Gen(draw) => print_generated(alloc, &draw, out),
+            Command::Load(draw) => load(alloc, &draw, out, links),
             Command::Frames => frames(alloc, source, out),
             _ => {
                 write_answer(out, NOT_BUILT);

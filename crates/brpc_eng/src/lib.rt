@@ -6,6 +6,7 @@ mod draw;
 mod engine;
 mod frames;
 mod generated;
+mod load;
 mod replay;
 mod run;
 mod status;

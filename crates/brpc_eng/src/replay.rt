@@ -3,15 +3,13 @@ ghost use Rattle.script_run.specs.Played.{TellClosed, turns_of};
 ghost use Rattle.brpc_eng.specs.Status.{number_of};
 ghost use Rattle.brpc_eng.specs.Answers.{Wrote, FaultWritten, ReplayedInput, CountsStand};
 
-use crate::run::{is_built, run_and_report};
+use crate::run::run_and_report;
 use crate::status::Status;
 use crate::streams::{InputFault, read_all};
 use script_lang::{ScriptError, read_script};
 use script_run::Schedule;
 use sock_io::{Linker, Sink, Source, write_all};
 use std::alloc::Global;
-
-pub const NOT_BUILT: &[u8] = b"not built\n";
 
 /// Reads a script and runs it by a schedule: its own, or one that is drawn.
 pub fn replay<S: Source, K: Sink, L: Linker>(
@@ -40,11 +38,7 @@ pub fn replay<S: Source, K: Sink, L: Linker>(
         Err(InputFault::NoMemory) => return Status::NoMemory,
     };
     match read_script(alloc, &bytes) {
-        Ok(script) if is_built(&script) => run_and_report(alloc, &script, schedule, out, links),
-        Ok(_) => {
-            write_answer(out, NOT_BUILT);
-            Status::NotBuilt
-        }
+        Ok(script) => run_and_report(alloc, &script, schedule, out, links),
         Err(ScriptError::Fault { line, kind }) => write_fault(alloc, line, kind, out),
         Err(ScriptError::NoMemory) => Status::NoMemory,
     }

@@ -1,44 +1,18 @@
 ghost use Rattle.std.specs.Prelude.{◌≡◌, ◌≢◌, ℕ, List, [], Ok, true};
-ghost use Rattle.std.specs.List.{list_all, list_any};
+ghost use Rattle.std.specs.List.{list_all};
 ghost use Rattle.brpc_model.specs.Script.{script_of};
-ghost use Rattle.script_items.specs.Meaning.{item};
 ghost use Rattle.script_run.specs.Given.{has_piece};
 ghost use Rattle.script_run.specs.Played.{TellClosed, turns_of};
 ghost use Rattle.brpc_eng.specs.Status.{number_of};
 ghost use Rattle.brpc_eng.specs.Answers.{OpenedBy, Ran, TextWritten};
-ghost use Rattle.brpc_eng.specs.Built.{is_built_script, is_other_end};
 
 use crate::status::Status;
-use script_items::{Line, Script};
-use script_run::{RunFault, Schedule, run_script};
+use script_items::Script;
+use script_run::{Print, RunFault, Schedule, run_script};
 use sock_io::{Failed, Linker, Sink, write_all};
 use std::alloc::Global;
 
-/// Whether a script is one that is run: no line asks for an other end that answers or ends.
-pub fn is_built(script: &Script) -> bool
-    ensures { result ≡ is_built_script script.now }
-{
-    !has_other_ends(script.lines())
-}
-
-/// Whether there is a line that asks for an other end that answers or ends.
-fn has_other_ends(lines: &[Line]) -> bool
-    ensures { result ≡ list_any (λ line. is_other_end (item line)) lines.now }
-{
-    lines.iter().any(asks_other_end)
-}
-
-/// Whether it is such a line.
-fn asks_other_end(line: &Line) -> bool
-    ensures { result ≡ is_other_end (item line.now) }
-{
-    match line {
-        Line::Open(open) => open.shape.serve || open.shape.end.is_some(),
-        _ => false,
-    }
-}
-
-/// Runs a script that is built, and writes its report.
+/// Runs a script, and writes its report.
 pub fn run_and_report<K: Sink, L: Linker>(
     alloc: Global,
     script: &Script,
@@ -49,7 +23,6 @@ pub fn run_and_report<K: Sink, L: Linker>(
     requires asked { L.asked links.old ≡ [] }
     requires back { L.back links.old ≡ [] }
     requires script { (bytes : List ℕ) × (script_of bytes ≡ Ok script.now) }
-    requires built { is_built_script script.now ≡ true }
     requires pieces { list_all has_piece script.now ≡ true }
     ensures ran { Ran (turns_of script.now schedule) script.now
         (record { before = K.contents out.old; now = K.contents out.new; faults = record { before = K.faults out.old; now = K.faults out.new } })
@@ -60,15 +33,15 @@ pub fn run_and_report<K: Sink, L: Linker>(
         (number_of result) }
     ensures linker { number_of result ≢ 8 → L.faults links.new ≡ L.faults links.old }
 {
-    match run_script(alloc, script, schedule, links) {
+    match run_script(alloc, script, schedule, Print::Report, links) {
         Ok(text) => write_report(out, &text),
         Err(RunFault::OpenFailed) => Status::OpenFailed,
         Err(RunFault::NoMemory) => Status::NoMemory,
     }
 }
 
-/// Writes a report.
-fn write_report<K: Sink>(out: &mut K, text: &[u8]) -> Status
+/// Writes a report, or a summary.
+pub fn write_report<K: Sink>(out: &mut K, text: &[u8]) -> Status
     ensures { TextWritten (record { before = K.contents out.old; now = K.contents out.new; faults = record { before = K.faults out.old; now = K.faults out.new } }) text.now (number_of result) }
 {
     match write_all(out, text) {

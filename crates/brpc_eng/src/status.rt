@@ -20,7 +20,7 @@ pub enum Status {
     OpenFailed,
     /// A frame of the input is faulty.
     FaultyFrames,
-    /// The command or the script isn't built.
+    /// The command isn't built.
     NotBuilt,
 }
 

@@ -1,4 +1,5 @@
 use crate::brpc;
+use loop_link::LoopLinker;
 use sock_io::{MemSink, MemSource, OpenGate, SinkLinker};
 use std::test::Fail;
 
@@ -60,7 +61,7 @@ const FIRST: Row = (
     "0.1 open 0 0 0\n1.1 placed 0 0\nlink 0 a accepted 1 placed 1 took 2 6869\norder 0 1.1.0\nend\n",
 );
 
-const ROWS: [Row; 44] = [
+const ROWS: [Row; 42] = [
     FIRST,
     ("replay", "", 0, 0, "end\n"),
     ("replay", "client\nsend z 61", 0, 0, "1.1 unopened\nend\n"),
@@ -154,14 +155,6 @@ const ROWS: [Row; 44] = [
         0,
         0,
         "0.1 open 0 0 0\n1.1 call 1 failed 1014\nlink 0 a accepted 1 placed 1 took 30 5052504300000012000000100a0c0a044563686f12044563686f20026869\norder 0 1.1.0\nend\n",
-    ),
-    ("replay", "open a serve\n", 0, 10, "not built\n"),
-    (
-        "replay",
-        "open a end=0\nclient\nsend a 61\n",
-        0,
-        10,
-        "not built\n",
     ),
     (
         "replay",
@@ -340,6 +333,74 @@ fn answers_rows(rt: HostRuntime) -> Result<(), Fail> {
     Ok(())
 }
 
+/// Words and scripts over links whose other ends serve or end as their lines ask, with all that is written.
+const SERVED: [(&'static str, &'static str, &'static str); 6] = [
+    (
+        "replay",
+        "open a serve\nclient\ncall a Echo.Echo 6869",
+        "0.1 open 0 0 0\n1.1 call 1 answered 6869 -\nlink 0 a accepted 1 placed 1 took 30 5052504300000012000000100a0c0a044563686f12044563686f20026869\norder 0 1.1.0\nend\n",
+    ),
+    (
+        "replay",
+        "open a serve\nclient\ncall a Echo.Echo 6869\nclient\nexpire 1.1\nsched\nto 1 C4\nto 2 I6",
+        "0.1 open 0 0 0\n1.1 call 1 failed 1008\n2.1 expired\nlink 0 a accepted 1 placed 1 took 30 5052504300000012000000100a0c0a044563686f12044563686f20026869\norder 0 1.1.0\nend\n",
+    ),
+    (
+        "replay",
+        "open a serve fail=1\nopen b serve\nclient\ncall a,b Echo.Echo 6869 retry=1",
+        "0.1 open 0 0 0\n0.2 open 1 0 1\n1.1 call 1 answered 6869 -\nlink 0 a accepted 1 placed 0 took 0 -\norder 0 1.1.0\nlink 1 b accepted 1 placed 1 took 30 5052504300000012000000100a0c0a044563686f12044563686f20036869\norder 1 1.1.1\nend\n",
+    ),
+    (
+        "replay",
+        "open a serve end=0\nclient\ncall a Echo.Echo 6869\nsched\nto 1 C4",
+        "0.1 open 0 0 0\n1.1 call 1 failed 1014\nlink 0 a accepted 1 placed 1 took 30 5052504300000012000000100a0c0a044563686f12044563686f20026869\norder 0 1.1.0\nend\n",
+    ),
+    (
+        "replay",
+        "open a serve\nclient\ncall a Sum.Bytes 6869\njoin 1.1\ncall a Echo.Reverse 6869\njoin 1.3\ncall a No.Op -",
+        "0.1 open 0 0 0\n1.1 call 1 answered 00000000000000d1 -\n1.2 joined\n1.3 call 3 answered 6968 -\n1.4 joined\n1.5 call 5 peer 1001\nlink 0 a accepted 3 placed 3 took 87 5052504300000012000000100a0c0a0353756d12054279746573200268695052\norder 0 1.1.0 1.3.0 1.5.0\nend\n",
+    ),
+    (
+        "load 7 8 500",
+        "",
+        "load 7 8 500\nsends 2000 placed 2000 bytes 65024\ncalls 2000 answered 2000 bytes 64928\nother 0\nend\n",
+    ),
+];
+
+/// The status of a call over such links, and what it wrote.
+fn served(rt: &HostRuntime, words: &str, input: &[u8]) -> Result<(u8, Vec<u8>), Fail> {
+    let alloc = rt.alloc();
+    let mut source = MemSource::new(input.to_vec(alloc)?, Vec::new(alloc));
+    let mut out = MemSink::new(alloc, 8192, Vec::new(alloc))
+        .ok()
+        .ok_or("no memory")?;
+    let mut links = LoopLinker::new(alloc, Vec::new(alloc));
+    let mut list = Vec::new(alloc);
+    for word in words.split(' ') {
+        list.push(String::from_str(alloc, word)?)?;
+    }
+    let status = brpc(
+        rt,
+        alloc,
+        &list,
+        &mut source,
+        &mut out,
+        &mut links,
+        &OpenGate,
+    );
+    Ok((status, out.bytes().to_vec(alloc)?))
+}
+
+#[test]
+fn answers_served(rt: HostRuntime) -> Result<(), Fail> {
+    for (words, input, text) in SERVED {
+        let (status, written) = served(&rt, words, input.as_bytes())?;
+        assert_eq!(rt; status, 0, "at {words} {input}");
+        assert_eq!(rt; written.as_slice(), text.as_bytes(), "at {words} {input}");
+    }
+    Ok(())
+}
+
 /// Words, with the status.
 const WORDS: [(&str, u8); 16] = [
     ("--help", 2),
@@ -352,10 +413,10 @@ const WORDS: [(&str, u8); 16] = [
     ("run", 10),
     ("run 65535", 10),
     ("run 0", 2),
-    ("load 7 31 132", 10),
+    ("load 0 1 0", 2),
     ("gen 7 31 133", 2),
     ("load 7 32 1", 2),
-    ("load 7 1 4092", 10),
+    ("sim 01", 2),
     ("serve 80 31", 10),
     ("serve 80 32", 2),
 ];

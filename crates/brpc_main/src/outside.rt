@@ -1,13 +1,14 @@
 use crate::run::run_with;
-use sock_io::{OpenGate, SinkLinker, StdSink, StdSource};
+use loop_link::LoopLinker;
+use sock_io::{OpenGate, StdSink, StdSource};
 use std::process::ExitCode;
 use std::{env, io};
 
-/// The program over its standard streams: nothing but `run_with` over them.
+/// The program over its standard streams and links in memory: nothing but `run_with` over them.
 pub fn run_program(rt: &HostRuntime) -> ExitCode {
     let mut source = StdSource::new(rt.reader());
     let mut out = StdSink::new(io::writer(rt));
-    let mut links = SinkLinker::new(rt.alloc(), Vec::new(rt.alloc()), 0);
+    let mut links = LoopLinker::new(rt.alloc(), Vec::new(rt.alloc()));
     let stderr = rt.stderr();
     run_with(
         rt,

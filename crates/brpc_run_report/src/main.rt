@@ -1,4 +1,4 @@
-//! The program as it is built: the report of a script, status 0.
+//! The program as it is built: the report of a script with a server at one of its links, status 0.
 #![tactic(auto)]
 
 use brpc_main::run_program;

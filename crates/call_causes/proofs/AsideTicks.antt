@@ -16,8 +16,8 @@ use Rattle.call_causes.specs.Says.{Claims, Mark, IsNextSaid, SaidBy, MayAside, M
 use Rattle.call_causes.specs.Stories.{At, word_at, SlotFits, SlotsLaw, BirthsLaw, TasksLaw, ClaimsLaw, ReadsLaw, IsBehind, KnowsStep, mark_after}
 use Rattle.call_causes.proofs.Births.{IsMake}
 use Rattle.call_causes.proofs.BirthTicks as birth_ticks
-use Rattle.call_causes.proofs.Laters.{made_of, home_before, later}
-use Rattle.call_causes.proofs.Attempts.{attempts_still, unmade_still}
+use Rattle.call_causes.proofs.Laters.{made_of, home_before, ats_still, later}
+use Rattle.call_causes.proofs.Attempts.{few_still, advanced_still, attempts_still, unmade_still}
 use Rattle.call_causes.proofs.Moving.{moves}
 use Rattle.call_causes.proofs.Errors as errors
 use Rattle.call_causes.proofs.SlotTicks.{slots_after}
@@ -125,6 +125,9 @@ module _ (p : Plan) (q : IdPlan) (clients : List (List Task)) (gives : ℕ → L
       homes = birth_ticks.homes p q clients gives w w' m plan sized fits births low step found b knows may made (fresh step found may) (home_before p q clients gives w w' m plan sized fits births low step found b knows may);
       errors = errors.errors p q clients gives w w' m plan sized fits births is_later step found b knows shows;
       attempts = attempts_still p q clients gives w w' m plan sized fits births low step found b knows may made (fresh step found may);
+      few = few_still p q clients gives w w' m plan sized fits births low step found b knows may made (fresh step found may);
+      advanced = advanced_still p q clients gives w w' m plan sized fits births low step found b knows may made (fresh step found may);
+      ats = ats_still p q clients gives w w' m plan sized fits births low step found b knows may;
       unmade = unmade_still p q clients gives w w' m plan sized fits births low step found b knows may made (fresh step found may);
       codes = λ i inside some_. subst (λ ws. IsOther p q clients gives (get_or ws (code_word i) 0)) (sym same) (births.codes i inside (subst (λ ws. get_or ws (code_word i) 0 ≢ 0) same some_));
     }
@@ -158,7 +161,8 @@ module _ (p : Plan) (q : IdPlan) (clients : List (List Task)) (gives : ℕ → L
       born = λ id asked s. s;
       came = λ k n frame s. s;
       claimed = λ i o s. s;
-      used = λ b u. u;
+      posted = λ x s. s;
+      ended = λ b n u. u;
       within = room;
       apart = (is_later says.0).apart;
     }

@@ -16,7 +16,7 @@ use Rattle.sock_programs.specs.Told.{IsTask, Became, OpensNone}
 use Rattle.sock_programs.specs.ToldCalls.{Fixed, Order, FoundNone, Seeks, HasCode, IsExpiredWith}
 use Rattle.call_causes.specs.Lists.{given, times}
 use Rattle.call_causes.specs.Target.{IsOnCalls, FailedInPart, ByExpiry, ByCompression, ByFrameFault, ByFail, ByReading, BySocketOrRequests, WhyCallInPart, WhyInPart}
-use Rattle.call_causes.specs.Scenes.{Scene, In, HasUsed, IsOther, IsOpened, SeeksName, IsTaskOf, HasNoneOf, NoneFound, FailedIn, by_expiry, by_compression, by_other, WhyEnded, WhyOwn, ToldOf, was_said, was_sent, was_begun}
+use Rattle.call_causes.specs.Scenes.{Scene, In, IsOther, IsOpened, SeeksName, IsTaskOf, HasNoneOf, NoneFound, FailedIn, by_expiry, by_compression, by_other, WhyEnded, WhyOwn, ToldOf, was_said, was_sent, was_begun}
 use Rattle.call_causes.specs.Says.{Mark}
 use Rattle.call_causes.proofs.Posts.{or_cases}
 use Rattle.call_causes.proofs.End.{HasEnded, ended_call, one_outcome, call_of, answered, contains_in}
@@ -72,15 +72,15 @@ module _ (p : Plan) (q : IdPlan) (clients : List (List Task)) (gives : ℕ → L
     own = λ u is low. let x = f.own u (d.all u is low) in (opens_none n u x.0, (λ s. e.tasks.said u.number outcomes.Unopened (x.1 (seeks n u.op s))));
   }
 
-  expired_with : (asked : Asked) (o : ℕ) (x : Outcome) (client : ℕ) (t : Task) → o ≡ asked.operation → IsTaskOf p q clients gives client t → t.op ≡ ops.Expire asked.operation → In (record { number = t.number; outcome = x }) w.sayings → IsExpiredWith p clients w.core.outcomes fixed (given w.core) orders o x
+  pub expired_with : (asked : Asked) (o : ℕ) (x : Outcome) (client : ℕ) (t : Task) → o ≡ asked.operation → IsTaskOf p q clients gives client t → t.op ≡ ops.Expire asked.operation → In (record { number = t.number; outcome = x }) w.sayings → IsExpiredWith p clients w.core.outcomes fixed (given w.core) orders o x
   expired_with asked o x client t own is op said = (client, t, (is.0, is.1, in_contains is.0 t is.2), op ∙ ap (λ n. ops.Expire n) (sym own), e.tasks.said t.number x said)
 
-  other_by : (asked : Asked) (o id code : ℕ) → o ≡ asked.operation → IsOther p q clients gives code → (is_final code ≡ true) ⊎ HasUsed p q clients gives w (record { id = id; asked = asked }) → FailedInPart p clients w.core.outcomes fixed (given w.core) orders last o asked id code
+  other_by : (asked : Asked) (o id code : ℕ) → o ≡ asked.operation → IsOther p q clients gives code → (is_final code ≡ true) ⊎ (last o + 2 ≡ asked.range) → FailedInPart p clients w.core.outcomes fixed (given w.core) orders last o asked id code
   other_by asked o id code own other by_last = by_code other
     where
       -- a code that isn't final is that of the last attempt that might be
       used : (is_final code ≡ true → ⊥) → last o + 2 ≡ asked.range
-      used open_ = ⊎_elim (λ final. absurd (open_ final)) (λ u. ap (λ n. n + 2) (ap last own ∙ sym (counts asked.operation)) ∙ u.2) by_last
+      used open_ = ⊎_elim (λ final. absurd (open_ final)) (λ u. u) by_last
 
       not_final : (n : ℕ) → is_final n ≡ false → code ≡ n → is_final code ≡ true → ⊥
       not_final n open_ is final = let z : false ≡ true = sym open_ ∙ (ap is_final (sym is) ∙ final) in cc
@@ -99,7 +99,7 @@ module _ (p : Plan) (q : IdPlan) (clients : List (List Task)) (gives : ℕ → L
   failed_by : (asked : Asked) (o id code : ℕ) → o ≡ asked.operation → FailedIn p q clients gives w id asked code → FailedInPart p clients w.core.outcomes fixed (given w.core) orders last o asked id code
   failed_by asked o id code own (by_expiry is x) = ByExpiry is (⊎_elim (λ s. inl (expired_with asked o outcomes.Expired x.0 x.1 own x.2 x.3 s)) (λ s. inr (expired_with asked o outcomes.Queued x.0 x.1 own x.2 x.3 s)) x.4)
   failed_by asked o id code own (by_compression is x) = ByCompression is (answered p q clients gives w ms e fixed orders id asked (λ frame. frame.meta.compress_type ≢ pos 0) x)
-  failed_by asked o id code own (by_other x by_last) = other_by asked o id code own x by_last
+  failed_by asked o id code own (by_other n x there ended by_last) = other_by asked o id code own x (⊎_elim (λ final. inl final) (λ u. inr (ap (λ k. k + 2) (ap last own ∙ (sym (counts asked.operation) ∙ ended.2)) ∙ u)) by_last)
 
   ended_by : (c o id : ℕ) (asked : Asked) (x : Outcome) → o ≡ asked.operation → WhyEnded p q clients gives w (record { id = id; asked = asked }) x → WhyCallInPart p clients w.core.outcomes fixed (given w.core) orders last c o asked x
   ended_by c o id asked (outcomes.Answered i payload attachment) own why = subst (λ n. WhyCallInPart p clients w.core.outcomes fixed (given w.core) orders last c o asked (outcomes.Answered n payload attachment)) (sym why.0)

@@ -20,7 +20,7 @@ use Rattle.id_runs.proofs.Loops.{not_equal}
 use Rattle.call_causes.specs.Scenes.{Birth, Scene, In, Said, IsOver, IsBorn, IsOpened, SeeksName, IsClaimed, CauseOf, of_expiry, by_expiry, Named, Begun, IsTaskOf, HasNoneOf, NoneFound, HasBegunIn, HasNotBegunIn, WhyOwn, IsJust, ToldOf, was_said, was_sent, was_begun, AreTold}
 use Rattle.call_causes.specs.Says.{Shape, with_attempt, NoSlot, Claims, Locked, Mark, with_slot, with_owed, with_made, with_done, IsFree, put_in, SaidBy, NoneOfSetup, Again, LeavesUnlock, LeavesLock, SaysOn}
 use Rattle.call_causes.proofs.Lasting.{far, own_on}
-use Rattle.call_causes.proofs.Posts.{After, Follows, way, again_same, follows_on, id_back, failed_of, Exits, Decided, decide_says, decided_says, post_with_says, post_says}
+use Rattle.call_causes.proofs.Posts.{After, Follows, way, again_same, follows_on, id_back, was_posted, failed_of, Exits, Decided, decide_says, decided_says, post_with_says, post_says}
 use Rattle.call_causes.proofs.Programs.{attempt_says}
 
 module _ (p : Plan) (q : IdPlan) (clients : List (List Task)) (gives : ℕ → List ℕ) where
@@ -180,7 +180,7 @@ module _ (p : Plan) (q : IdPlan) (clients : List (List Task)) (gives : ℕ → L
       let slot : Locked (id_slot id) f range ≡ Locked (id_slot id) (id_first id) range = ap (λ k. Locked (id_slot id) k range) first in
       let found = lv.1 f range refl in
       let cause = subst (λ i. CauseOf p q clients gives v i e) (ap (call_id (id_slot id)) first ∙ id_back id) found.0 in
-      subst (λ y. Tells v y (decide id x e (decided id next))) (sym lv.0) (decide_says p q clients gives v (with_slot (Locked (id_slot id) f (record { range = range.range; attempt = (parts x).attempt })) m) id x e (decided id next) (record { range = range.range; attempt = (parts x).attempt }) (ap (with_attempt (parts x).attempt) slot) (found.1, refl) owes makes
+      subst (λ y. Tells v y (decide id x e (decided id next))) (sym lv.0) (decide_says p q clients gives v (with_slot (Locked (id_slot id) f (record { range = range.range; attempt = (parts x).attempt })) m) id x e (decided id next) (record { range = range.range; attempt = (parts x).attempt }) (ap (with_attempt (parts x).attempt) slot) (found.1, refl) owes makes lv.2 (was_posted p q clients gives v id e cause)
       (decided_says p q clients gives v (with_slot (Locked (id_slot id) f (record { range = range.range; attempt = (parts x).attempt })) m) id e next owes
       (λ u b l' _ born is last. failed_of p q clients gives u b id e (l'.apart id) is born (Rattle.call_causes.proofs.Lasting.cause_on p q clients gives v u l' id e cause) last) (follows_on p q clients gives w v m (Locked (id_slot id) f (record { range = range.range; attempt = (parts x).attempt })) next l goes)))
 
@@ -199,7 +199,7 @@ module _ (p : Plan) (q : IdPlan) (clients : List (List Task)) (gives : ℕ → L
             λ _ v3 m3 l3 _ mv3. (
               tt,
               subst (λ y. Tells v3 y (unlocks asked)) (sym mv3) (
-                ((lv.0, lv.1, refl), free.1, free.2),
+                ((lv.0, lv.1, refl, λ e. absurd (let z : false ≡ true = e in cc)), free.1, free.2),
                 λ exit v4 m4 l4 s4 lv4. (tt, tried_says w m lv.0 lv.1 requests id n asked next lv.4 free.1 free.2 few goes exit v4 m4 (far p q clients gives w v3 v4 (far p q clients gives w v2 v3 (far p q clients gives w v v2 l l2) l3) l4) s4 lv4),
               ),
             ),
@@ -257,12 +257,12 @@ module _ (p : Plan) (q : IdPlan) (clients : List (List Task)) (gives : ℕ → L
       exits id v l begun asked there same (WasCrowded a b) v2 m2 l2 s lv = (tt, says (outcomes.Crowded a b) v2 m2 (far p q clients gives w v v2 l l2) s.1 lv.0 (own_on p q clients gives v v2 l2 m.client m.done (ops.Expire t) (outcomes.Crowded a b) (begun, lv.1, lv.2)) tt)
       exits id v l begun asked there same WasQueued v2 m2 l2 s lv = (
         of_expiry asked refl (l2.born id asked there) (m.client, u, has.is, names asked same, inr s.0.0),
-        says outcomes.Queued v2 m2 (far p q clients gives w v v2 l l2) s.1 lv (own_on p q clients gives v v2 l2 m.client m.done (ops.Expire t) outcomes.Queued begun) tt,
+        says outcomes.Queued v2 m2 (far p q clients gives w v v2 l l2) s.1 lv.0 (own_on p q clients gives v v2 l2 m.client m.done (ops.Expire t) outcomes.Queued begun) tt,
       )
       exits id v l begun asked there same (HasLocked word) v2 m2 l2 s lv = (
         tt,
         subst (λ x. Tells v2 x (decide id word (error_of 1008 7) (decided id (Say u.number outcomes.Expired next)))) (sym lv.1)
-            (decide_says p q clients gives v2 (with_slot (Locked (id_slot id) (id_first id) lv.0) m) id word (error_of 1008 7) (decided id (Say u.number outcomes.Expired next)) lv.0 refl lv.2 free.1 free.2 (expired id lv.0 v2 (far p q clients gives w v v2 l l2) asked (l2.born id asked there) same)),
+            (decide_says p q clients gives v2 (with_slot (Locked (id_slot id) (id_first id) lv.0) m) id word (error_of 1008 7) (decided id (Say u.number outcomes.Expired next)) lv.0 refl lv.2 free.1 free.2 lv.3 (λ _. lv.4) (expired id lv.0 v2 (far p q clients gives w v v2 l l2) asked (l2.born id asked there) same)),
       )
 
   pub join_says : (w : Scene) (m : Mark) (u : Task) (ts : List Task) (t : ℕ) (next : Program) → IsNext m u ts → IsFree m → u.op ≡ ops.Join t → IsCalls t → Ends w (with_done u ts m) next → Tells w m (join u.number t next)

@@ -99,7 +99,7 @@ module _ (p : Plan) (q : IdPlan) (clients : List (List Task)) (gives : ℕ → L
             )
 
     -- the id that an outcome shows is that of the call
-    shows_own : (b : Birth) (x : Outcome) (i : ℕ) → WhyEnded p q clients gives w b x → shown_id x ≡ Some i → b.id ≡ i
+    pub shows_own : (b : Birth) (x : Outcome) (i : ℕ) → WhyEnded p q clients gives w b x → shown_id x ≡ Some i → b.id ≡ i
     shows_own b (outcomes.Answered id payload attachment) i why is = sym why.0 ∙ (let z : id ≡ i = cc in z)
     shows_own b (outcomes.Peer id c) i why is = sym why.0 ∙ (let z : id ≡ i = cc in z)
     shows_own b (outcomes.CallFailed id c) i why is = sym why.0 ∙ (let z : id ≡ i = cc in z)

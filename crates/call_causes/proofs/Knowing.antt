@@ -7,7 +7,7 @@ use Rattle.sock_words.specs.declared.plain.Plan.{Plan}
 use Rattle.corr_core.specs.Word.{parts}
 use Rattle.corr_core.specs.Law.{Local, SlotLaw, Stands, vacant, retired, claimed, opened, locked, leaving}
 use Rattle.corr_core.specs.declared.marks.Plan.{Plan as IdPlan}
-use Rattle.id_rule.specs.Lawful.{tag_word, id_word, call_word, all_words, local}
+use Rattle.id_rule.specs.Lawful.{tag_word, id_word, call_word, at_word, all_words, local}
 use Rattle.sock_message.specs.Asked.{Asked}
 use Rattle.sock_programs.specs.declared.task.Task.{Task}
 use Rattle.sock_programs.specs.Asides.{Step, ClaimId, PutCall, MakeId, StoreCall, LoadCall, StoreAt, LoadAt, LoadIdWord, LockId, PostId, UnlockId, EndId, FreeId, TakeCall, TakeBytes, Taking, Found}
@@ -65,11 +65,11 @@ module _ (p : Plan) (q : IdPlan) (clients : List (List Task)) (gives : ℕ → L
     knows (StoreCall o id) t found is may a = (may.0, may.1)
     knows (LoadCall o) t found is may a = (may, sym (some-injective (get_or w.core.calls.words (call_word w.core.calls.plan o) 0) found is) ∙ ap (λ (r : IdPlan). get_or w.core.calls.words (call_word r o) 0) ids.plan)
     knows (StoreAt o x) t found is may a = may.0
-    knows (LoadAt o) t found is may a = tt
+    knows (LoadAt o) t found is may a = (may, sym (some-injective (get_or w.core.calls.words (at_word w.core.calls.plan o) 0) found is) ∙ ap (λ (r : IdPlan). get_or w.core.calls.words (at_word r o) 0) ids.plan)
     knows (LoadIdWord i) t found is may a = let f = finds (LoadIdWord i) t found is may in (is_word i found may is, f.2)
     knows (LockId i from) t found is may a = (is_word i found may.0 is, may.1, taken_with i may.0)
     knows (PostId i from e) t found is may a = let f = finds (PostId i from e) t found is may in (is_word i found may.0 is, may.1, may.3, taken_with i may.0, f.2)
-    knows (UnlockId i from advance) t found is may a = let x = may.1 in let l = x.7 in let att = l.attempt_is in let rg = l.range_is in let room = x.8 in (is_word i found may.0 is, l.state_is, few from (advance_of advance) (omega (arith, att, rg, room)), call_there p q w.core.calls ids.plan us ids.rule j u at_view (ids.real j u at_view) i may.0 (Rattle.corr_core.specs.declared.marks.Token.TheVariants.Locked x.0 x.1 x.2 x.5 x.3 x.4 (Rattle.corr_core.specs.declared.marks.Hand.TheVariants.Full x.5), x.5, x.6, refl))
+    knows (UnlockId i from advance) t found is may a = let x = may.1 in let l = x.7 in let att = l.attempt_is in let rg = l.range_is in let room = x.8 in (is_word i found may.0 is, l.state_is, few from (advance_of advance) (omega (arith, att, rg, room)), call_there p q w.core.calls ids.plan us ids.rule j u at_view (ids.real j u at_view) i may.0 (Rattle.corr_core.specs.declared.marks.Token.TheVariants.Locked x.0 x.1 x.2 x.5 x.3 x.4 (Rattle.corr_core.specs.declared.marks.Hand.TheVariants.Full x.5), x.5, x.6, refl), (omega (arith, att, rg, room)))
     knows (EndId i) t found is may a = is_word i found may.0 is
     knows (FreeId i) t found is may a = may.0
     knows (TakeCall i) t found is may a = (may.0, lies i (get_elem? w.core.calls.homes i) found refl is)

@@ -1,10 +1,11 @@
 -- What is told of calls lasts.
-use Rattle.std.proofs.Common.{◌≡◌, ◌≢◌, ℕ, inl, inr, ⊎_elim, List, [], ◌∷◌}
+use Rattle.std.proofs.Common.{◌≡◌, ◌≢◌, ℕ, inl, inr, ⊎_elim, Bool, List, [], ◌∷◌}
 use Rattle.std.specs.List.{AllByRecursion}
 use Rattle.sock_words.specs.declared.plain.Plan.{Plan}
 use Rattle.sock_words.specs.declared.outcome.Outcome.{Outcome}
 use Rattle.sock_words.specs.declared.outcome.Outcome.TheVariants as outcomes
 use Rattle.brpc_model.specs.Frame.{Frame}
+use Rattle.corr_core.specs.Word.{error_of}
 use Rattle.corr_core.specs.declared.marks.Plan.{Plan as IdPlan}
 use Rattle.sock_message.specs.Asked.{Asked}
 use Rattle.sock_programs.specs.declared.task.Op.{Op}
@@ -13,8 +14,8 @@ use Rattle.sock_programs.specs.declared.task.Task.{Task}
 use Rattle.sock_programs.specs.Asides.{Step, ClaimId, PutCall, MakeId, StoreCall, LoadCall, StoreAt, LoadAt, LoadIdWord, LockId, PostId, UnlockId, EndId, FreeId, TakeCall, TakeBytes, call_id}
 use Rattle.sock_programs.specs.Heads.{Head, Posts, Unlocks, Decides, Locks, Joins, Opens, Reads, Discards}
 use Rattle.sock_programs.specs.Programs.{Program, Do, Say, Sent, Rest, TakeMessage, TakeHome, PutHome, PutBytes, AskReady, Write, Aside, Round, Keep, Retries}
-use Rattle.call_causes.specs.Scenes.{Birth, Scene, In, Said, IsBorn, IsAnsweredIn, IsExpired, CauseOf, of_expiry, of_other, FailedIn, by_expiry, by_compression, by_other, WhyEnded, HasNoneOf, NoneFound, HasBegunIn, HasNotBegunIn, WhyOwn, IsJust, ToldOf, was_said, was_sent, was_begun, AreTold, Later}
-use Rattle.call_causes.specs.Says.{Mark, MayAside, CameFrom, IsReading, AtHead, SaysOn}
+use Rattle.call_causes.specs.Scenes.{Birth, Scene, In, Said, IsBorn, MayAdvance, IsAnsweredIn, IsExpired, CauseOf, of_expiry, of_other, FailedIn, by_expiry, by_compression, by_other, WhyEnded, HasNoneOf, NoneFound, HasBegunIn, HasNotBegunIn, WhyOwn, IsJust, ToldOf, was_said, was_sent, was_begun, AreTold, Later}
+use Rattle.call_causes.specs.Says.{Mark, MayUnlock, MayAside, CameFrom, IsReading, AtHead, SaysOn}
 
 module _ (p : Plan) (q : IdPlan) (clients : List (List Task)) (gives : ℕ → List ℕ) where
   abbrev After : Scene → Scene → Type 0
@@ -29,7 +30,8 @@ module _ (p : Plan) (q : IdPlan) (clients : List (List Task)) (gives : ℕ → L
     born = λ id asked s. y.born id asked (x.born id asked s);
     came = λ k n frame s. y.came k n frame (x.came k n frame s);
     claimed = λ i o s. y.claimed i o (x.claimed i o s);
-    used = λ b u. y.used b (x.used b u);
+    posted = λ e s. y.posted e (x.posted e s);
+    ended = λ b n u. y.ended b n (x.ended b n u);
     within = y.within;
     apart = y.apart;
   }
@@ -43,12 +45,18 @@ module _ (p : Plan) (q : IdPlan) (clients : List (List Task)) (gives : ℕ → L
 
     pub cause_on : (id e : ℕ) → CauseOf p q clients gives w id e → CauseOf p q clients gives w' id e
     cause_on id e (of_expiry asked is b x) = of_expiry asked is (l.born id asked b) (expired_on asked x)
-    cause_on id e (of_other x last) = of_other x last
+    cause_on id e (of_other x part there) = of_other x part (l.posted (record { id = id; error = e }) there)
+
+    pub advance_on : (id n : ℕ) → MayAdvance p q clients gives w id n → MayAdvance p q clients gives w' id n
+    advance_on id n a = (a.0, l.posted (record { id = id; error = error_of a.0 n }) a.1, a.2)
+
+    pub unlock_on : (m : Mark) (i : ℕ) (advance : Bool) → MayUnlock p q clients gives w m i advance → MayUnlock p q clients gives w' m i advance
+    unlock_on m i advance may = (may.0, may.1, may.2, λ e. advance_on (call_id i may.0) may.1.attempt (may.3 e))
 
     failed_on : (id : ℕ) (asked : Asked) (c : ℕ) → FailedIn p q clients gives w id asked c → FailedIn p q clients gives w' id asked c
     failed_on id asked c (by_expiry is x) = by_expiry is (expired_on asked x)
     failed_on id asked c (by_compression is x) = by_compression is (answered_on id asked (λ frame. frame.meta.compress_type ≢ Rattle.std.specs.Prelude.pos 0) x)
-    failed_on id asked c (by_other x last) = by_other x (⊎_elim (λ y. inl y) (λ u. inr (l.used (record { id = id; asked = asked }) u)) last)
+    failed_on id asked c (by_other n x there ended last) = by_other n x (l.posted (record { id = id; error = error_of c n }) there) (l.ended (record { id = id; asked = asked }) n ended) last
 
     pub ended_on : (b : Birth) (x : Outcome) → WhyEnded p q clients gives w b x → WhyEnded p q clients gives w' b x
     ended_on b (outcomes.Answered id payload attachment) y = (y.0, answered_on b.id b.asked (λ (frame : Frame). Rattle.call_causes.specs.Scenes.HasCode (Rattle.std.specs.Prelude.pos 0) frame × (frame.payload ≡ payload) × (frame.attachment ≡ attachment)) y.1)
@@ -123,16 +131,16 @@ module _ (p : Plan) (q : IdPlan) (clients : List (List Task)) (gives : ℕ → L
     aside_on m (LoadIdWord i) may = may
     aside_on m (LockId i from) may = may
     aside_on m (PostId i from e) may = may
-    aside_on m (UnlockId i from advance) may = may
+    aside_on m (UnlockId i from advance) may = unlock_on m i advance may
     aside_on m (FreeId i) may = may
     aside_on m (TakeCall i) may = may
     aside_on m (TakeBytes k room) may = may
 
     head_on : (m : Mark) (head : Head) → AtHead p q clients gives w m head → AtHead p q clients gives w' m head
-    head_on m (Decides id asked word e) at = (at.0, l.born id asked at.1, at.2, at.3)
+    head_on m (Decides id asked word e) at = (at.0, l.born id asked at.1, at.2, at.3, at.4, λ part. l.posted (record { id = id; error = e }) (at.5 part))
     head_on m (Reads r) at = (at.0, record { inside = at.1.inside; link = at.1.link; goes = at.1.goes; kept = kept_on r.link r.kept at.1.kept })
     head_on m (Posts id e word) at = at
-    head_on m (Unlocks i word advance) at = at
+    head_on m (Unlocks i word advance) at = (unlock_on m i advance at.0, at.1, at.2)
     head_on m (Locks i sought word) at = at
     head_on m (Joins id) at = at
     head_on m (Opens o) at = at

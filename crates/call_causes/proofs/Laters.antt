@@ -5,6 +5,7 @@ use mathlib.Core.Option.{some-injective}
 use mathlib.Core.Logic.{dite}
 use native.Mathlib.Decide.{ℕ_discrete}
 use lib.ListN.{get_elem?}
+use Rattle.sock_words.specs.Words.{at_word_attempt}
 use Rattle.sock_words.specs.declared.plain.Plan.{Plan}
 use Rattle.brpc_model.specs.Frame.{Frame}
 use Rattle.brpc_model.specs.Stream as streams
@@ -17,18 +18,15 @@ use Rattle.sock_programs.specs.Asides.{Step, ClaimId, PutCall, MakeId, StoreCall
 use Rattle.sock_programs.specs.Asides as asides
 use Rattle.sock_programs.specs.Posts.{packed, advance_of}
 use Rattle.id_runs.proofs.Keeps.{parts_packed}
+use Rattle.call_causes.specs.Posts.{posts_by}
 use Rattle.call_causes.specs.Scenes.{Birth, Scene, In, IsBorn, IsClaimed, Came, Begun, StaysWithin, Later}
 use Rattle.call_causes.specs.Says.{Claims, Holds, Mark, MayAside}
 use Rattle.call_causes.specs.Stories.{word_at, LiesAt, SlotFits, BirthsLaw, IsBehind, KnowsStep, put_of, born_by, claimed_by}
 use Rattle.call_causes.proofs.Streams.{frames_stay}
 use Rattle.call_causes.proofs.Effects.{beside, word_is, lies_is}
 use Rattle.call_causes.proofs.Births.{IsMake}
-use Rattle.call_causes.proofs.Attempts.{used_still}
+use Rattle.call_causes.proofs.Attempts.{in_behind, ended_still}
 use Rattle.call_causes.proofs.BirthTicks.{Made, no_more, one_more, one_call, born, born_still, apart}
-
-in_behind : {A : Type 0} (x : A) (xs ys : List A) → In x ys → In x (xs ++ ys)
-in_behind x [] ys there = there
-in_behind x (y ∷ xs) ys there = inr (in_behind x xs ys there)
 
 module _ (p : Plan) (q : IdPlan) (clients : List (List Task)) (gives : ℕ → List ℕ) (w w' : Scene) (m : Mark) (plan : w.core.calls.plan ≡ q) (sized : length w.core.calls.words ≡ all_words q) (fits : SlotFits q w m.slot) (law : BirthsLaw p q clients gives w)
     (low : (k : ℕ) → k < q.slots → (word_at w k).first ≤ 67108856) where
@@ -125,6 +123,41 @@ module _ (p : Plan) (q : IdPlan) (clients : List (List Task)) (gives : ℕ → L
   begun_still (TakeBytes l room) asides.Closed b knows o = words_still o b.words
   begun_still (TakeBytes l room) asides.Broken b knows o = words_still o b.words
 
+  -- ## Words of where attempts went
+
+  at_beside : (x v o : ℕ) → o < q.operations → w'.core.calls.words ≡ set w.core.calls.words x v → at_word q o ≢ x → at_word_attempt (get_or w'.core.calls.words (at_word q o) 0) ≤ 6
+  at_beside x v o inside words ne = subst (λ n. at_word_attempt n ≤ 6) (sym (ap (λ ws. get_or ws (at_word q o) 0) words ∙ get_or-set_other w.core.calls.words x (at_word q o) v 0 ne)) (law.ats o inside)
+
+  ats_same : (o : ℕ) → o < q.operations → w'.core.calls.words ≡ w.core.calls.words → at_word_attempt (get_or w'.core.calls.words (at_word q o) 0) ≤ 6
+  ats_same o inside words = subst (λ ws. at_word_attempt (get_or ws (at_word q o) 0) ≤ 6) (sym words) (law.ats o inside)
+
+  pub ats_still : (step : Step) (found : Found step) → Behind step found → KnowsStep p q clients gives w step found → MayAside p q clients gives w m step → (o : ℕ) → o < q.operations → at_word_attempt (get_or w'.core.calls.words (at_word q o) 0) ≤ 6
+  ats_still (ClaimId i) found b knows may o inside = at_beside (tag_word i) 1 o inside b.words (λ e. omega (arith, e))
+  ats_still (PutCall i asked) found b knows may o inside = ats_same o inside b.words
+  ats_still (MakeId i range) found b knows may o inside = at_beside (id_word i) (packed (made_word (parts found).first range)) o inside b.words (let z = knows.0.0 in λ e. omega (arith, z, e))
+  ats_still (StoreCall u id) found b knows may o inside = at_beside (call_word q u) id o inside (b.words ∙ ap (λ (r : IdPlan). set w.core.calls.words (call_word r u) id) plan) (λ e. omega (arith, e))
+  ats_still (LoadCall u) found b knows may o inside = ats_same o inside b.words
+  ats_still (StoreAt u x) found b knows may o inside =
+      let words : w'.core.calls.words ≡ set w.core.calls.words (at_word q u) x = b.words ∙ ap (λ (r : IdPlan). set w.core.calls.words (at_word r u) x) plan in
+      dite (ℕ_discrete u o)
+      (λ here. subst (λ n. at_word_attempt (get_or w'.core.calls.words (at_word q n) 0) ≤ 6) here
+      (subst (λ n. at_word_attempt n ≤ 6) (sym (ap (λ ws. get_or ws (at_word q u) 0) words ∙ get_or-set_same w.core.calls.words (at_word q u) x 0 (omega (arith, sized, knows)))) may))
+      (λ ne. at_beside (at_word q u) x o inside words (λ e. ne (omega (arith, e))))
+  ats_still (LoadAt u) found b knows may o inside = ats_same o inside b.words
+  ats_still (LoadIdWord i) found b knows may o inside = ats_same o inside b.words
+  ats_still (LockId i from) found b knows may o inside = at_beside (id_word i) (cond (eqb found from) (packed (posted_word (parts from) 0)) found) o inside b.words (let z = knows.0.0 in λ e. omega (arith, z, e))
+  ats_still (PostId i from e) found b knows may o inside = at_beside (id_word i) (cond (eqb found from) (packed (posted_word (parts from) e)) found) o inside b.words (let z = knows.0.0 in λ x. omega (arith, z, x))
+  ats_still (UnlockId i from advance) found b knows may o inside = at_beside (id_word i) (cond (eqb found from) (packed (unlocked_word (parts from) (advance_of advance))) found) o inside b.words (let z = knows.0.0 in λ e. omega (arith, z, e))
+  ats_still (EndId i) found b knows may o inside = at_beside (id_word i) (packed (free_word ((parts found).first + (parts found).range))) o inside b.words (let z = knows.0 in λ e. omega (arith, z, e))
+  ats_still (FreeId i) found b knows may o inside = at_beside (tag_word i) 0 o inside b.words (λ e. omega (arith, e))
+  ats_still (TakeCall i) found b knows may o inside = ats_same o inside b.words
+  ats_still (TakeBytes l room) (Bytes bytes) b knows may o inside = ats_same o inside b.words
+  ats_still (TakeBytes l room) asides.Nothing b knows may o inside = ats_same o inside b.words
+  ats_still (TakeBytes l room) asides.NoMore b knows may o inside = ats_same o inside b.words
+  ats_still (TakeBytes l room) asides.AtEnd b knows may o inside = ats_same o inside b.words
+  ats_still (TakeBytes l room) asides.Closed b knows may o inside = ats_same o inside b.words
+  ats_still (TakeBytes l room) asides.Broken b knows may o inside = ats_same o inside b.words
+
   -- ## Frames
 
   gave_same : w'.core.calls.gave ≡ w.core.calls.gave → (k n : ℕ) (f : Frame) → Came w k n f → Came w' k n f
@@ -195,7 +228,8 @@ module _ (p : Plan) (q : IdPlan) (clients : List (List Task)) (gives : ℕ → L
     born = born_still p q clients gives w w' m plan sized fits law low step found b knows may made fresh;
     came = came_still step found b knows;
     claimed = claims_still step found b;
-    used = used_still p q clients gives w w' m plan sized fits law low step found b knows may made fresh;
+    posted = λ x there. subst (In x) (sym b.posts) (in_behind x (posts_by step found) w.posts there);
+    ended = ended_still p q clients gives w w' m plan sized fits law low step found b knows may made fresh;
     within = room;
     apart = one_call w'.births (apart p q clients gives w w' m plan sized fits law low step found b knows may made fresh) (λ c there. (born p q clients gives w w' m plan sized fits law low step found b knows may made fresh c there).1);
   }

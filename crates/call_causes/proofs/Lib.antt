@@ -40,4 +40,5 @@ pub mod Once
 pub mod Over
 pub mod Scripts
 pub mod Whole
+pub mod Posted
 pub mod Shown

@@ -2,6 +2,7 @@
 use Rattle.std.proofs.Common.{◌≡◌, ◌≢◌, ℕ, ◌+◌, ◌*◌, ◌<◌, ◌≤◌, ◌⊎◌, inl, inr, ⊎_elim, Bool, true, false, cond, eqb, eq-eqb, ne_eqb, List, [], ◌∷◌, ◌++◌, length, get_or, set, get_or-set_same, Option, None, Some, refl, sym, ap, ◌∙◌, subst, arith}
 use mathlib.Core.Option.{some-injective}
 use lib.ListN.{get_elem?}
+use Rattle.sock_words.specs.Words.{at_word_attempt}
 use Rattle.sock_words.specs.declared.plain.Plan.{Plan}
 use Rattle.sock_words.specs.declared.outcome.Outcome.{Outcome}
 use Rattle.corr_core.specs.Word.{Parts, parts, code_of, unlocked_word, free_word}
@@ -13,7 +14,7 @@ use Rattle.sock_message.specs.Asked.{Asked}
 use Rattle.sock_programs.specs.declared.task.Task.{Task}
 use Rattle.sock_programs.specs.Asides.{Step, ClaimId, PutCall, MakeId, StoreCall, LoadCall, StoreAt, LoadAt, LoadIdWord, LockId, PostId, UnlockId, EndId, FreeId, TakeCall, TakeBytes, Bytes, Found, call_id, id_slot, id_first}
 use Rattle.sock_programs.specs.Asides as asides
-use Rattle.call_causes.specs.Scenes.{Birth, Saying, Scene, In, IsBorn, IsErrorCode, IsTaskOf, HasUsed, CauseOf, of_expiry, of_other, Later}
+use Rattle.call_causes.specs.Scenes.{Birth, Saying, Scene, In, IsBorn, IsErrorCode, IsTaskOf, EndedAt, CauseOf, of_expiry, of_other, Later}
 use Rattle.call_causes.specs.Says.{Shape, shape_of, with_attempt, unlocked_by, Slot, NoSlot, Claims, Locked, Holds, Leaves, Mark, with_slot, with_owed, with_made, IsVacant, HasCodes, MayAside, Moves}
 use Rattle.call_causes.specs.Stories.{At, word_at, SlotFits, IsCurrent, BirthsLaw, TasksLaw, ClaimsLaw, ReadsLaw, undo, ahead, unclaimed, IsBehind, KnowsStep, put_of, born_by, ended_of, stored_by, mark_after}
 use Rattle.call_causes.proofs.Lasting.{cause_on, are_told_on}
@@ -39,7 +40,7 @@ module _ (p : Plan) (q : IdPlan) (clients : List (List Task)) (gives : ℕ → L
 
   error_code : (w : Scene) (id e : ℕ) → CauseOf p q clients gives w id e → IsErrorCode p q clients gives (code_of e)
   error_code w id e (of_expiry asked is born x) = inl (ap code_of is ∙ omega arith)
-  error_code w id e (of_other x last) = inr x
+  error_code w id e (of_other x part there) = inr x
 
   -- for a seat that holds no id no slot was claimed
   pub free_unclaimed : (s : Slot) (bs : List Birth) (todo : List Task) (t : Task) → IsVacant s → bs ≡ [] → In t todo → In t (unclaimed p q clients gives s bs todo)
@@ -91,12 +92,12 @@ module _ (p : Plan) (q : IdPlan) (clients : List (List Task)) (gives : ℕ → L
     ended = let x = word_is p q clients gives w w' m plan i held.0 sized (packed (free_word ((parts found).first + (parts found).range))) b.words ∙ parts_packed (free_word ((parts found).first + (parts found).range)) (omega arith) (omega arith) (omega arith) (omega arith) (omega arith) (omega arith) in
         ap (λ (y : Parts). y.first) x ∙ ap (λ (y : Parts). y.first + y.range) knows.1
 
-    used : shape.attempt + 2 ≡ asked.range → HasUsed p q clients gives w' (record { id = call_id i f; asked = asked })
-    used all = (
+    used : EndedAt p q clients gives w' (record { id = call_id i f; asked = asked }) shape.attempt
+    used = (
       l.born (call_id i f) asked there,
       subst (λ n. id_first (call_id i f) + asked.range ≤ (word_at w' n).first) (sym slot_is)
           (let one = held.3 in let range : (word_at w i).range ≡ asked.range = subst (λ n. (word_at w n).range ≡ asked.range) slot_is now.2 in omega (arith, ended, one, range, first_is)),
-      ap (λ n. n + 2) (ap (times asked.operation) b.advances ∙ (sym (law.attempts (record { id = call_id i f; asked = asked }) there now) ∙ (ap (λ n. (word_at w n).attempt) slot_is ∙ held.5))) ∙ all,
+      ap (times asked.operation) b.advances ∙ (sym (law.attempts (record { id = call_id i f; asked = asked }) there now) ∙ (ap (λ n. (word_at w n).attempt) slot_is ∙ held.5)),
     )
 
   -- ## Each step
@@ -135,13 +136,14 @@ module _ (p : Plan) (q : IdPlan) (clients : List (List Task)) (gives : ℕ → L
     (λ none_. ((λ begun. begun (ap (λ ws. get_or ws (call_word q o) 0) b.words ∙ (sym knows.1 ∙ none_))), are_told_on p q clients gives w w' l m.client m.done (tasks.told j m at))),
   )
   moves (StoreAt o x) found b knows may = refl
-  moves (LoadAt o) found b knows may = refl
+  moves (LoadAt o) found b knows may = (refl, subst (λ n. at_word_attempt n ≤ 6) (sym knows.1) (law.ats o knows.0))
   moves (LoadIdWord i) found b knows may = (refl, has_codes i found knows.0.0 knows.0.1 knows.1)
   moves (LockId i from) found b knows may = let x : Mark = with_slot (Locked i (parts from).first (shape_of (parts from))) m in ((λ same. ap (λ c. cond c x m) (eq-eqb found from same)), (λ ne. ap (λ c. cond c x m) (ne_eqb found from ne)))
   moves (PostId i from e) found b knows may = let x : Mark = with_slot (Locked i (parts from).first (shape_of (parts from))) m in let y : Mark = cond (eqb (parts from).state 1) x m in (
     (λ same one. ap (λ c. cond c y m) (eq-eqb found from same) ∙ ap (λ c. cond c x m) (eq-eqb (parts from).state 1 one)),
     (λ same other. ap (λ c. cond c y m) (eq-eqb found from same) ∙ ap (λ c. cond c x m) (ne_eqb (parts from).state 1 other)),
     (λ ne. (ap (λ c. cond c y m) (ne_eqb found from ne), has_codes i found knows.0.0 knows.0.1 knows.4)),
+    (λ same. subst (In (record { id = call_id i (parts from).first; error = e })) (sym (b.posts ∙ ap (λ (c : Bool). cond c ((record { id = call_id i (parts from).first; error = e }) ∷ []) [] ++ w.posts) (eq-eqb found from same))) (inl refl)),
   )
   moves (UnlockId i from advance) found b knows may = let x : Mark = with_slot NoSlot m in let z : Mark = with_slot (with_attempt (parts (unlocked_by from advance)).attempt m.slot) m in let y : Mark = cond (eqb (parts from).oldest 0) x z in (
     (λ same none_. ap (λ c. cond c y m) (eq-eqb found from same) ∙ ap (λ c. cond c x z) (eq-eqb (parts from).oldest 0 none_)),

@@ -7,11 +7,12 @@ use mathlib.Core.Option as core
 use mathlib.Core.Option.{some-injective, some-ne-none}
 use native.Mathlib.Decide.{ℕ_discrete}
 use lib.ListN.{get_elem?}
+use Rattle.sock_words.specs.Words.{at_word_attempt}
 use Rattle.sock_words.specs.declared.plain.Plan.{Plan}
 use Rattle.sock_words.specs.declared.outcome.Outcome.{Outcome}
 use Rattle.corr_core.specs.Word.{Parts}
 use Rattle.corr_core.specs.declared.marks.Plan.{Plan as IdPlan}
-use Rattle.id_rule.specs.Lawful.{Unused, call_word}
+use Rattle.id_rule.specs.Lawful.{Unused, call_word, at_word}
 use Rattle.sock_programs.specs.declared.task.Task.{Task}
 use Rattle.sock_programs.specs.Programs.{Program, Rest}
 use Rattle.sock_programs.specs.Clients.{client_from}
@@ -157,7 +158,7 @@ module _ (p : Plan) (q : IdPlan) (clients : List (List Task)) (gives : ℕ → L
     core0 = beginning p q (all_programs (programs (sizes_of p q) clients) (readers_from calls 0 opens))
 
     abbrev first_scene : Scene
-    first_scene = record { core = beginning p q (all_programs (programs (sizes_of p q) clients) (readers_from calls 0 opens)); claims = []; births = []; advances = []; sayings = first_sayings (all_programs (programs (sizes_of p q) clients) (readers_from calls 0 opens)) [] }
+    first_scene = record { core = beginning p q (all_programs (programs (sizes_of p q) clients) (readers_from calls 0 opens)); claims = []; births = []; advances = []; posts = []; sayings = first_sayings (all_programs (programs (sizes_of p q) clients) (readers_from calls 0 opens)) [] }
 
     module _ (long : length (all_programs (programs (sizes_of p q) clients) (readers_from calls 0 opens)) ≡ q.seats) (few_tries : (i : ℕ) (x : Program) → get_elem? (all_programs (programs (sizes_of p q) clients) (readers_from calls 0 opens)) i ≡ core.some x → KeepsFew x) (lead : LeadsTo p q clients gives (beginning p q (all_programs (programs (sizes_of p q) clients) (readers_from calls 0 opens)))) where
       -- ## Programs
@@ -194,6 +195,9 @@ module _ (p : Plan) (q : IdPlan) (clients : List (List Task)) (gives : ℕ → L
         homes = λ i asked inside live lies. absurd (let z = free_at i inside in omega (arith, z, live));
         errors = λ i inside live. absurd (let z = free_at i inside in omega (arith, z, live));
         attempts = λ b there. absurd there;
+        few = λ b there. absurd there;
+        advanced = λ b there. absurd there;
+        ats = λ o inside. subst (λ n. at_word_attempt n ≤ 6) (sym (fresh_words.rest (at_word q o) (omega arith))) (omega arith);
         unmade = λ o all. refl;
         codes = fit.codes;
       }
@@ -250,7 +254,8 @@ module _ (p : Plan) (q : IdPlan) (clients : List (List Task)) (gives : ℕ → L
         born = λ id asked s. s;
         came = λ k n frame s. s;
         claimed = λ i o s. s;
-        used = λ b u. u;
+        posted = λ x s. s;
+        ended = λ b n u. u;
         within = (has_room p q clients gives slots first_scene (first_marks 0 q.seats) first_claims, lead);
         apart = λ id a b x y. absurd x;
       }
@@ -296,7 +301,7 @@ module _ (p : Plan) (q : IdPlan) (clients : List (List Task)) (gives : ℕ → L
           )
 
       -- the story as a run begins
-      pub first_story : HasStory p q clients gives [] (beginning p q (all_programs (programs (sizes_of p q) clients) (readers_from calls 0 opens)))
+      pub first_story : HasStory p q clients gives [] [] (beginning p q (all_programs (programs (sizes_of p q) clients) (readers_from calls 0 opens)))
       first_story =
           let xs : List Program = all_programs (programs (sizes_of p q) clients) (readers_from calls 0 opens) in
           let r = begin_all (all_programs (programs (sizes_of p q) clients) (readers_from calls 0 opens)) 0 (replicate p.operations None) [] (first_marks 0 q.seats) (λ i x e. subst (λ n. get_elem? xs n ≡ core.some x) (let z : i ≡ 0 + i = omega arith in z) e) first_tasks
@@ -305,6 +310,7 @@ module _ (p : Plan) (q : IdPlan) (clients : List (List Task)) (gives : ℕ → L
             marks = r.0;
             is = refl;
             shown = refl;
+            shown_posts = refl;
             story = record {
               each = r.1 ∙ (length_marks 0 q.seats ∙ (sym long ∙ sym (length-map xs (λ (x : Program). record { program = next_step (resolved [] x); hand = [] }))));
               slots = r.4;

@@ -1,6 +1,6 @@
 -- What writers, attempts and calls say has its cause.
 use Rattle.std.proofs.Common.{◌≡◌, ◌≢◌, ℕ, zero, suc, ◌+◌, ◌-◌, ◌/◌, ◌%◌, ◌≤◌, inl, inr, ◌==◌, ◌&&◌, Bool, true, false, cond, eqb, leb, nat_lt, nat_le, List, length, refl, sym, ap, ◌∙◌, subst, arith}
-use Rattle.sock_words.specs.Words.{socket_id_version, socket_id_slot, vref_version, vref_nref, at_word}
+use Rattle.sock_words.specs.Words.{socket_id_version, socket_id_slot, vref_version, vref_nref, at_word, at_word_attempt}
 use Rattle.sock_words.specs.declared.plain.Plan.{Plan}
 use Rattle.sock_io.specs.declared.link.Put.{Put}
 use Rattle.sock_io.specs.declared.link.Put.TheVariants as puts
@@ -210,6 +210,9 @@ module _ (p : Plan) (q : IdPlan) (clients : List (List Task)) (gives : ℕ → L
   pub releases : (w : Scene) (m : Mark) (i : ℕ) (next : Program) → Ends w m next → Ends w m (release i (λ _. next))
   releases w m i next goes = λ v m' l _ a. release_says v m' i (λ _. next) (λ _ v2 l2 s2. goes v2 m' (far p q clients gives w v v2 l l2) s2 a)
 
+  at_few : (f s k n : ℕ) → n ≤ 6 → at_word_attempt (at_word f s k n) ≤ 6
+  at_few f s k n few = omega (arith, few)
+
   pub attempt_says : (w : Scene) (m : Mark) (requests : ℕ) (asked : Asked) (id n socket : ℕ) (next : Program) → IsFree m → n ≤ 6 → Ends w m next → Tells w m (attempt requests asked id n socket next)
   attempt_says w m requests asked id n socket next free few goes =
       let i : ℕ = socket_id_slot socket in
@@ -219,7 +222,7 @@ module _ (p : Plan) (q : IdPlan) (clients : List (List Task)) (gives : ℕ → L
       (λ v l _. (
         tt,
         λ k v2 l2 _ _. (
-          tt,
+          at_few (id_first id) (id_slot id) k n few,
           λ _ v3 m3 l3 _ mv. (
             tt,
             subst (λ x. Tells v3 x (Do (LookWord socket) looked)) (sym mv) (

@@ -1,5 +1,5 @@
 -- What readers say of calls has its cause: each response ends a call of whose versions it is, and each error that they post has one of their codes.
-use Rattle.std.proofs.Common.{◌≡◌, ℕ, zero, suc, ◌+◌, ◌-◌, ◌*◌, ◌<◌, ◌⊎◌, inl, inr, ◌&&◌, Bool, true, false, cond, eqb, eqb-true, nat_lt, ltb-true, List, [], ◌∷◌, ◌++◌, slice_get, Option, None, Some, IsSome, length, ℤ, pos, negsuc, append_assoc, refl, sym, ap, ◌∙◌, subst, arith}
+use Rattle.std.proofs.Common.{◌≡◌, ◌≢◌, ℕ, zero, suc, ◌+◌, ◌-◌, ◌*◌, ◌<◌, ◌≤◌, ◌⊎◌, inl, inr, ◌&&◌, Bool, true, false, cond, eqb, eqb-true, nat_lt, ltb-true, List, [], ◌∷◌, ◌++◌, slice_get, Option, None, Some, IsSome, length, ℤ, pos, negsuc, append_assoc, refl, sym, ap, ◌∙◌, subst, arith}
 use Rattle.std.specs.List.{AllByRecursion}
 use Rattle.sock_words.specs.Words.{socket_id_slot, at_word_first, at_word_slot, at_word_link, at_word_attempt}
 use Rattle.sock_words.specs.declared.plain.Plan.{Plan}
@@ -7,20 +7,20 @@ use Rattle.brpc_model.specs.Meta.{ResponseMeta}
 use Rattle.brpc_model.specs.Frame.{Frame}
 use Rattle.brpc_model.specs.Stream as streams
 use Rattle.brpc_model.specs.Causes.{HasFault}
-use Rattle.corr_core.specs.Word.{parts, error_of, code_of}
+use Rattle.corr_core.specs.Word.{parts, error_of, code_of, attempt_of}
 use Rattle.corr_core.specs.declared.marks.Plan.{Plan as IdPlan}
 use Rattle.sock_message.specs.Asked.{Asked}
 use Rattle.sock_programs.specs.declared.task.Task.{Task}
 use Rattle.sock_programs.specs.Asides.{Taking, Bytes, Nothing, NoMore, AtEnd, Closed, Broken, call_id, id_slot, id_first}
 use Rattle.sock_programs.specs.Heads.{Version, Reading, Locks, Opens, Reads, Discards, WasGone, WasStale, WasCrowded, WasQueued, HasLocked, Locking, NotThere, Has, Ended}
 use Rattle.sock_programs.specs.Programs.{Program, Rest, Say, Round, NO_SOCKET, address, release, set_failed}
-use Rattle.sock_programs.specs.Posts.{is_final, post_with, decide, decided}
+use Rattle.sock_programs.specs.Posts.{is_stale, post_with, decide, decided}
 use Rattle.sock_programs.specs.Readers.{LIMIT, by_code, outcome_by, ending_of, has_response, slot_in, version_in, is_early, answer, answered, responses, last_of, ended_by, read_on, took_bytes, took, reads_round, discarded, discards_round, opens_round, kept_for, ends_with, posted_last, post_each, thrown_away, read, reader}
 use Rattle.call_causes.specs.Lists.{given}
-use Rattle.call_causes.specs.Scenes.{Birth, Scene, Came, IsResponseTo, HasFaulted, IsOther, of_other, by_compression, by_other, WhyEnded}
+use Rattle.call_causes.specs.Scenes.{Birth, Scene, Came, IsResponseTo, WasPosted, HasFaulted, IsOther, of_other, by_compression, WhyEnded}
 use Rattle.call_causes.specs.Says.{Shape, shape_of, HasShape, with_attempt, unlocked_by, Slot, NoSlot, Locked, Mark, with_slot, with_owed, with_bytes, IsVacant, IsFree, taken_out, SaidBy, GoesFrom, CameFrom, IsReading, Again, LeavesLock, LeavesPost, YieldsPost, Leaves', SaysOn}
 use Rattle.call_causes.proofs.Lasting.{far, kept_on}
-use Rattle.call_causes.proofs.Posts.{After, Then, Follows, way, plain_way, and_left, and_right, again_same, follows_on, end_says, decide_says, decided_says, Exits, post_with_says}
+use Rattle.call_causes.proofs.Posts.{After, Then, Follows, way, plain_way, and_left, and_right, again_same, follows_on, end_says, decide_says, decided_says, failed_of, Exits, post_with_says}
 use Rattle.call_causes.proofs.Programs.{release_says, address_says, set_failed_says, again_on}
 use Rattle.call_causes.proofs.Streams.{frames_follow, faults_more, faults_follow}
 
@@ -237,13 +237,14 @@ module _ (p : Plan) (q : IdPlan) (clients : List (List Task)) (gives : ℕ → L
 
   -- ## The end of a reading
 
-  module _ (link code : ℕ) (inside : link < p.links) (other : IsOther p q clients gives code) (final : is_final code ≡ true) where
+  module _ (link code : ℕ) (inside : link < p.links) (other : IsOther p q clients gives code) where
     -- the call in hand ends with the first of the kept responses of its versions, or it is decided on
-    kept_ends : (w : Scene) (m : Mark) (id e word : ℕ) (shape : Shape) (next : Program) → m.slot ≡ Locked (id_slot id) (id_first id) shape → m.owes ≡ [] → m.makes ≡ [] → HasShape word shape → IsOther p q clients gives (code_of e) → is_final (code_of e) ≡ true → Ends w m next
+    kept_ends : (w : Scene) (m : Mark) (id e word : ℕ) (shape : Shape) (next : Program) → m.slot ≡ Locked (id_slot id) (id_first id) shape → m.owes ≡ [] → m.makes ≡ [] → HasShape word shape → is_stale e (parts word) ≡ false → IsOther p q clients gives (code_of e) → attempt_of e ≢ 7 → WasPosted w id e → Ends w m next
         → (kept : List Frame) → AreKept w link kept → Tells w m (ends_with id e word (kept_for id (parts word).range kept) next)
-    kept_ends w m id e word shape next slot owes makes same coded done goes [] all = decide_says p q clients gives w m id word e (decided id next) shape slot same owes makes (decided_says p q clients gives w m id e next owes (λ _ _ _ _ _ _ _. by_other coded (inl done)) goes)
-    kept_ends w m id e word shape next slot owes makes same coded done goes (f ∷ fs) all =
-        by_test (eqb (slot_in f) (id_slot id)) (nat_lt id f.meta.correlation_id && nat_lt f.meta.correlation_id (id + (parts word).range)) refl refl (kept_ends w m id e word shape next slot owes makes same coded done goes fs all.1)
+    kept_ends w m id e word shape next slot owes makes same fresh coded light there goes [] all = decide_says p q clients gives w m id word e (decided id next) shape slot same owes makes fresh (λ _. there)
+        (decided_says p q clients gives w m id e next owes (λ u b l' _ born is last. failed_of p q clients gives u b id e (l'.apart id) is born (of_other coded light (l'.posted (record { id = id; error = e }) there)) last) goes)
+    kept_ends w m id e word shape next slot owes makes same fresh coded light there goes (f ∷ fs) all =
+        by_test (eqb (slot_in f) (id_slot id)) (nat_lt id f.meta.correlation_id && nat_lt f.meta.correlation_id (id + (parts word).range)) refl refl (kept_ends w m id e word shape next slot owes makes same fresh coded light there goes fs all.1)
       where
         answers : slot_in f ≡ id_slot id → (nat_lt id f.meta.correlation_id && nat_lt f.meta.correlation_id (id + (parts word).range)) ≡ true → Tells w m (answer f (id_first id) next)
         answers here is =
@@ -257,16 +258,16 @@ module _ (p : Plan) (q : IdPlan) (clients : List (List Task)) (gives : ℕ → L
         by_test true false here is later = later
         by_test false s here is later = later
 
-    posted_exits : (w : Scene) (m : Mark) (id e : ℕ) (kept : List Frame) (next : Program) → IsFree m → IsOther p q clients gives (code_of e) → is_final (code_of e) ≡ true → AreKept w link kept → Ends w m next → Exits p q clients gives w m id e (posted_last id e kept next)
-    posted_exits w m id e kept next free coded done all goes (HasLocked word) v m' l s lv = (
+    posted_exits : (w : Scene) (m : Mark) (id e : ℕ) (kept : List Frame) (next : Program) → IsFree m → IsOther p q clients gives (code_of e) → attempt_of e ≢ 7 → AreKept w link kept → Ends w m next → Exits p q clients gives w m id e (posted_last id e kept next)
+    posted_exits w m id e kept next free coded light all goes (HasLocked word) v m' l s lv = (
       tt,
       subst (λ x. Tells v x (ends_with id e word (kept_for id (parts word).range kept) next)) (sym lv.1)
-          (kept_ends v (with_slot (Locked (id_slot id) (id_first id) lv.0) m) id e word lv.0 next refl free.1 free.2 lv.2 coded done (follows_on p q clients gives w v m (Locked (id_slot id) (id_first id) lv.0) next l goes) kept (kept_on p q clients gives w v l link kept all)),
+          (kept_ends v (with_slot (Locked (id_slot id) (id_first id) lv.0) m) id e word lv.0 next refl free.1 free.2 lv.2 lv.3 coded light lv.4 (follows_on p q clients gives w v m (Locked (id_slot id) (id_first id) lv.0) next l goes) kept (kept_on p q clients gives w v l link kept all)),
     )
-    posted_exits w m id e kept next free coded done all goes WasGone v m' l s lv = (tt, goes v m' l s lv)
-    posted_exits w m id e kept next free coded done all goes WasStale v m' l s lv = (tt, goes v m' l s lv)
-    posted_exits w m id e kept next free coded done all goes (WasCrowded a b) v m' l s lv = (tt, goes v m' l s lv.0)
-    posted_exits w m id e kept next free coded done all goes WasQueued v m' l s lv = (of_other coded (inl done), goes v m' l s lv)
+    posted_exits w m id e kept next free coded light all goes WasGone v m' l s lv = (tt, goes v m' l s lv)
+    posted_exits w m id e kept next free coded light all goes WasStale v m' l s lv = (tt, goes v m' l s lv)
+    posted_exits w m id e kept next free coded light all goes (WasCrowded a b) v m' l s lv = (tt, goes v m' l s lv.0)
+    posted_exits w m id e kept next free coded light all goes WasQueued v m' l s lv = (of_other coded light lv.1, goes v m' l s lv.0)
 
     ends_again : (w : Scene) (m m' : Mark) (next : Program) → Again p q clients gives m m' → Ends w m next → Ends w m' next
     ends_again w m m' next a goes = λ v m'' l s b. goes v m'' l s (again_on p q clients gives m m' m'' a b)
@@ -274,8 +275,9 @@ module _ (p : Plan) (q : IdPlan) (clients : List (List Task)) (gives : ℕ → L
     coded : (x : ℕ) → IsOther p q clients gives (code_of (error_of code (at_word_attempt x)))
     coded x = subst (IsOther p q clients gives) (let z : code ≡ code_of (code * 8 + at_word_attempt x) = omega arith in z) other
 
-    final_at : (x : ℕ) → is_final (code_of (error_of code (at_word_attempt x))) ≡ true
-    final_at x = subst (λ c. is_final c ≡ true) (let z : code ≡ code_of (code * 8 + at_word_attempt x) = omega arith in z) final
+    -- it is for one attempt
+    of_one : (x : ℕ) → at_word_attempt x ≤ 6 → attempt_of (error_of code (at_word_attempt x)) ≢ 7
+    of_one x few e = omega (arith, few, e)
 
     post_each_at : (w : Scene) (kept : List Frame) (next : Program) (os : List ℕ) (m : Mark) → IsFree m → Ends w m next → (v : Scene) → Later' w v → AreKept v link kept → SaidBy v (post_each os link code kept next) → Tells v m (post_each os link code kept next)
     post_each_at w kept next [] m free goes v l all s = goes v m l s (again_same p q clients gives m m free refl)
@@ -284,12 +286,12 @@ module _ (p : Plan) (q : IdPlan) (clients : List (List Task)) (gives : ℕ → L
       λ x v2 m2 l2 s2 mv. let rest : Program = post_each os link code kept next in let f2 = far p q clients gives w v v2 l l2 in let all2 = kept_on p q clients gives v v2 l2 link kept all in
           let id : ℕ = call_id (at_word_slot x) (at_word_first x) in let e : ℕ = error_of code (at_word_attempt x) in (
             tt,
-            subst (λ y. Tells v2 y (cond (eqb x 0) rest (cond (eqb (at_word_link x) link) (post_with (call_id (at_word_slot x) (at_word_first x)) (error_of code (at_word_attempt x)) (posted_last (call_id (at_word_slot x) (at_word_first x)) (error_of code (at_word_attempt x)) kept rest)) rest))) (sym mv)
+            subst (λ y. Tells v2 y (cond (eqb x 0) rest (cond (eqb (at_word_link x) link) (post_with (call_id (at_word_slot x) (at_word_first x)) (error_of code (at_word_attempt x)) (posted_last (call_id (at_word_slot x) (at_word_first x)) (error_of code (at_word_attempt x)) kept rest)) rest))) (sym mv.0)
                 (way p q clients gives v2 m (eqb x 0) rest (cond (eqb (at_word_link x) link) (post_with (call_id (at_word_slot x) (at_word_first x)) (error_of code (at_word_attempt x)) (posted_last (call_id (at_word_slot x) (at_word_first x)) (error_of code (at_word_attempt x)) kept rest)) rest) s2
                 (λ _ s'. post_each_at w kept next os m free goes v2 f2 all2 s')
                 (λ _ s'. way p q clients gives v2 m (eqb (at_word_link x) link) (post_with (call_id (at_word_slot x) (at_word_first x)) (error_of code (at_word_attempt x)) (posted_last (call_id (at_word_slot x) (at_word_first x)) (error_of code (at_word_attempt x)) kept rest)) rest s'
                 (λ _ _. post_with_says p q clients gives v2 m id e (posted_last id e kept rest) free
-                (posted_exits v2 m id e kept rest free (coded x) (final_at x) all2
+                (posted_exits v2 m id e kept rest free (coded x) (of_one x mv.1) all2
                 (λ u m' l3 s3 a. post_each_at w kept next os m' (subst IsFree (sym a.is) (a.vacant, free.1, free.2)) (ends_again w m m' next a goes) u (far p q clients gives w v2 u f2 l3) (kept_on p q clients gives v2 u l3 link kept all2) s3)))
                 (λ _ s''. post_each_at w kept next os m free goes v2 f2 all2 s''))),
           ),
@@ -304,10 +306,6 @@ module _ (p : Plan) (q : IdPlan) (clients : List (List Task)) (gives : ℕ → L
   other_code c (inl is) = inr (inl is)
   other_code c (inr is) = inr (inr (inl is))
 
-  final_code : (c : ℕ) → (c ≡ 1014) ⊎ ((c ≡ 2002) × HasFaulted p q clients gives) → is_final c ≡ true
-  final_code c (inl is) = subst (λ n. is_final n ≡ true) (sym is) refl
-  final_code c (inr is) = subst (λ n. is_final n ≡ true) (sym is.0) refl
-
   -- how a reading ended, and what the seat has then
   pub record IsOver (w : Scene) (m : Mark) (how : Ended) : Type 0 where
     pub free : IsFree m
@@ -321,7 +319,7 @@ module _ (p : Plan) (q : IdPlan) (clients : List (List Task)) (gives : ℕ → L
   read_says calls how w m v l o s =
       let last : Program = post_each calls how.reading.link how.code how.reading.kept (thrown_away how) in
       let other = other_code how.code o.code in
-      let posts : (u : Scene) → Later' w u → AreKept u how.reading.link how.reading.kept → SaidBy u last → Tells u m last = λ u l' all s'. post_each_at how.reading.link how.code o.inside other (final_code how.code o.code) w how.reading.kept (thrown_away how) calls m o.free (over_ends w m how o.free o.none_ o.own) u l' all s' in
+      let posts : (u : Scene) → Later' w u → AreKept u how.reading.link how.reading.kept → SaidBy u last → Tells u m last = λ u l' all s'. post_each_at how.reading.link how.code o.inside other w how.reading.kept (thrown_away how) calls m o.free (over_ends w m how o.free o.none_ o.own) u l' all s' in
       let later : (u : Scene) → Later' v u → SaidBy u last → Tells u m last = λ u l' s'. posts u (far p q clients gives w v u l l') (kept_on p q clients gives v u l' how.reading.link how.reading.kept o.kept) s' in
       way p q clients gives v m how.closed last (address how.reading.id (set_failed how.reading.id how.code (λ _. release (socket_id_slot how.reading.id) (λ _. last))) (λ _. last)) s
       (λ _ s'. posts v l o.kept s')

@@ -13,7 +13,7 @@ use Rattle.call_causes.proofs.Reading.{reads_says, discards_says, opens_says}
 
 module _ (p : Plan) (q : IdPlan) (clients : List (List Task)) (gives : ℕ → List ℕ) where
   pub round_says : (w : Scene) (m : Mark) (head : Head) (k : Exit head → Program) → SaysOn p q clients gives w m (Round head k) → SaysOn p q clients gives w m (round head k)
-  round_says w m (Posts id e word) k g = posts_says p q clients gives w m id e word k g.0.0 g.0.1 g.1
+  round_says w m (Posts id e word) k g = posts_says p q clients gives w m id e word k g.0.0 g.0.1 g.0.2 g.1
   round_says w m (Unlocks i word advance) k g = unlocks_says p q clients gives w m i word advance k g.0.0 g.0.1 g.0.2 (λ exit v m' l s lv. (g.1 exit v m' l s lv).1)
   round_says w m (Decides id asked word e) k g = decides_says p q clients gives w m id asked word e k g.0 (λ exit v m' l s lv. (g.1 exit v m' l s lv).1)
   round_says w m (Locks i sought word) k g = locks_says p q clients gives w m i sought word k g.0.0 g.0.1 (λ exit v m' l s lv. (g.1 exit v m' l s lv).1)

@@ -2,12 +2,13 @@
 use Rattle.std.proofs.Common.{◌≡◌, ◌≢◌, ℕ, ◌+◌, ◌<◌, ◌≤◌, inl, inr, ⊎_elim, List, [], get_or, set, slice_get, Some, refl, sym, ap, ◌∙◌, subst}
 use lib.ListN.{get_elem?}
 use Rattle.atomic_table.proofs.Lists.{set_again}
+use Rattle.sock_words.specs.Words.{at_word_attempt}
 use Rattle.sock_words.specs.declared.plain.Plan.{Plan}
 use Rattle.sock_model.specs.Layout.{code_word}
 use Rattle.brpc_model.specs.Stream as streams
 use Rattle.corr_core.specs.Word.{Parts, parts}
 use Rattle.corr_core.specs.declared.marks.Plan.{Plan as IdPlan}
-use Rattle.id_rule.specs.Lawful.{tag_word, id_word, call_word}
+use Rattle.id_rule.specs.Lawful.{tag_word, id_word, call_word, at_word}
 use Rattle.sock_message.specs.Asked.{Asked}
 use Rattle.sock_programs.specs.declared.task.Task.{Task}
 use Rattle.sock_programs.specs.Heads.{Retry}
@@ -18,7 +19,7 @@ use Rattle.call_causes.specs.Lists.{times}
 use Rattle.call_causes.specs.Scenes.{Birth, Claim, Saying, Scene, In, IsOver, IsBorn, IsOther, Named, StaysWithin, Later}
 use Rattle.call_causes.specs.Says.{Mark, SaidBy, SaysOn}
 use Rattle.call_causes.specs.Stories.{At, word_at, tag_at, LiesAt, HasPassed, IsCurrent, SlotsLaw, BirthsLaw, TasksLaw}
-use Rattle.call_causes.proofs.Lasting.{are_told_on, cause_on}
+use Rattle.call_causes.proofs.Lasting.{are_told_on, cause_on, advance_on}
 use Rattle.call_causes.proofs.Slots.{LikeAt, like_fits}
 use Rattle.call_causes.proofs.BirthTicks.{one_call}
 use Rattle.call_causes.proofs.Numbered.{AreNumbered}
@@ -35,6 +36,7 @@ module _ (p : Plan) (q : IdPlan) (clients : List (List Task)) (gives : ℕ → L
     pub births_are : w'.births ≡ w.births
     pub claims_are : w'.claims ≡ w.claims
     pub advances_are : w'.advances ≡ w.advances
+    pub posts_are : w'.posts ≡ w.posts
     pub named : (n : ℕ) → Named p q clients gives w n → Named p q clients gives w' n
     pub codes : (i : ℕ) → i < p.slots → get_or w'.core.words (code_word i) 0 ≢ 0 → IsOther p q clients gives (get_or w'.core.words (code_word i) 0)
 
@@ -48,7 +50,8 @@ module _ (p : Plan) (q : IdPlan) (clients : List (List Task)) (gives : ℕ → L
       born = λ id asked there. subst (In (record { id = id; asked = asked })) (sym b.births_are) there;
       came = λ k n f there. subst (λ g. slice_get (streams.stream (get_or g k [])).frames n ≡ Some f) (sym b.gave) there;
       claimed = λ i o there. subst (In (record { slot = i; operation = o })) (sym b.claims_are) there;
-      used = λ c u. (subst (In c) (sym b.births_are) u.0, subst (λ ws. id_first c.id + c.asked.range ≤ (parts (get_or ws (id_word (id_slot c.id)) 0)).first) (sym b.words) u.1, ap (λ ns. times c.asked.operation ns + 2) b.advances_are ∙ u.2);
+      posted = λ x there. subst (In x) (sym b.posts_are) there;
+      ended = λ c n u. (subst (In c) (sym b.births_are) u.0, subst (λ ws. id_first c.id + c.asked.range ≤ (parts (get_or ws (id_word (id_slot c.id)) 0)).first) (sym b.words) u.1, ap (times c.asked.operation) b.advances_are ∙ u.2);
       within = room;
       apart = λ id a c s t. one_call w.births births.apart (λ y there. (births.born y there).1) id a c (subst (In (record { id = id; asked = a })) b.births_are s) (subst (In (record { id = id; asked = c })) b.births_are t);
     }
@@ -96,6 +99,9 @@ module _ (p : Plan) (q : IdPlan) (clients : List (List Task)) (gives : ℕ → L
       errors = λ k inside. subst (λ (y : Parts). 0 < y.state → (y.oldest ≢ 0 → Rattle.call_causes.specs.Scenes.CauseOf p q clients gives w' (call_id k y.first) y.oldest) × (y.second ≢ 0 → Rattle.call_causes.specs.Scenes.CauseOf p q clients gives w' (call_id k y.first) y.second)) (sym (word_same k))
           (λ now. let e = births.errors k inside now in ((λ ne. cause_on p q clients gives w w' beside_later (call_id k (word_at w k).first) (word_at w k).oldest (e.0 ne)), (λ ne. cause_on p q clients gives w w' beside_later (call_id k (word_at w k).first) (word_at w k).second (e.1 ne))));
       attempts = λ c there now. ap (λ (y : Parts). y.attempt) (word_same (id_slot c.id)) ∙ (births.attempts c (subst (In c) b.births_are there) (back_current c now) ∙ ap (times c.asked.operation) (sym b.advances_are));
+      few = λ c there. subst (λ ns. times c.asked.operation ns + 2 ≤ c.asked.range) (sym b.advances_are) (births.few c (subst (In c) b.births_are there));
+      advanced = λ c there n less. advance_on p q clients gives w w' beside_later c.id n (births.advanced c (subst (In c) b.births_are there) n (subst (λ ns. n < times c.asked.operation ns) b.advances_are less));
+      ats = λ o inside. subst (λ ws. at_word_attempt (get_or ws (at_word q o) 0) ≤ 6) (sym b.words) (births.ats o inside);
       unmade = λ o all. ap (times o) b.advances_are ∙ births.unmade o (λ c there. all c (subst (In c) (sym b.births_are) there));
       codes = b.codes;
     }
@@ -135,7 +141,8 @@ module _ (p : Plan) (q : IdPlan) (clients : List (List Task)) (gives : ℕ → L
       born = λ id asked s. s;
       came = λ k n frame s. s;
       claimed = λ i o s. s;
-      used = λ c u. u;
+      posted = λ x s. s;
+      ended = λ c n u. u;
       within = room;
       apart = beside_later.apart;
     }

@@ -1,6 +1,7 @@
 -- Programs that say of calls only what has its cause in what happened so far.
-use Rattle.std.specs.Prelude.{ℕ, ◌≡◌, ◌≢◌, ◌+◌, ◌<◌, ◌⊎◌, Bool, true, List, [], ◌∷◌, ◌++◌, slice_get, Option, Some, None}
+use Rattle.std.specs.Prelude.{ℕ, ◌≡◌, ◌≢◌, ◌+◌, ◌<◌, ◌≤◌, ◌⊎◌, Bool, true, false, List, [], ◌∷◌, ◌++◌, slice_get, Option, Some, None}
 use Rattle.std.specs.List.{AllByRecursion}
+use Rattle.sock_words.specs.Words.{at_word_attempt}
 use Rattle.sock_words.specs.declared.plain.Plan.{Plan}
 use Rattle.sock_io.specs.declared.link.Put.{Put}
 use Rattle.sock_io.specs.declared.link.Ready.{Ready}
@@ -14,15 +15,15 @@ use Rattle.sock_message.specs.Asked.{Asked, name_of}
 use Rattle.sock_programs.specs.declared.task.Op.TheVariants as ops
 use Rattle.sock_programs.specs.declared.task.Task.{Task}
 use Rattle.sock_programs.specs.Calls.{Call, StoreName, LoadName, StoreCode, LoadCode}
-use Rattle.sock_programs.specs.Asides.{Step, ClaimId, PutCall, MakeId, StoreCall, LoadCall, LoadIdWord, LockId, PostId, UnlockId, EndId, FreeId, TakeCall, TakeBytes, Taking, Bytes, Found, call_id, id_slot, id_first}
+use Rattle.sock_programs.specs.Asides.{Step, ClaimId, PutCall, MakeId, StoreCall, LoadCall, StoreAt, LoadAt, LoadIdWord, LockId, PostId, UnlockId, EndId, FreeId, TakeCall, TakeBytes, Taking, Bytes, Found, call_id, id_slot, id_first}
 use Rattle.sock_programs.specs.Heads.{Head, Exit, Sought, First, Version, Posts, Unlocks, Decides, Locks, Joins, Opens, Reads, Discards, Posting, WasCrowded, WasQueued, HasLocked, Unlocking, IsOpen, HasNext, Deciding, HasEnded, GoesOn, Locking, NotThere, Has, Reading}
-use Rattle.sock_programs.specs.Posts.{WHOLE, is_final, is_first, is_sought, packed, advance_of}
+use Rattle.sock_programs.specs.Posts.{WHOLE, is_final, is_first, is_stale, is_sought, packed, advance_of}
 use Rattle.sock_programs.specs.Programs.{Program, Do, Say, Sent, Rest, TakeMessage, TakeHome, PutHome, PutBytes, AskReady, Write, Aside, Round, Keep, Retries}
 use Rattle.sock_programs.specs.Readers.{has_response}
 use Rattle.id_runs.specs.Goes.{FitsOwner, FitsWriting}
 use Rattle.call_causes.specs.Lists.{given}
 use Rattle.sock_words.specs.declared.outcome.Outcome.{Outcome}
-use Rattle.call_causes.specs.Scenes.{Birth, Scene, Said, IsOver, IsJust, IsBorn, IsClaimed, Came, HasFaulted, IsOther, IsErrorCode, Named, Begun, HasUsed, HasBegunIn, CauseOf, WhyEnded, WhyOwn, AreTold, HasNoneOf, IsTaskOf, Later}
+use Rattle.call_causes.specs.Scenes.{Birth, Scene, Said, IsOver, IsJust, IsBorn, IsClaimed, Came, HasFaulted, IsOther, IsErrorCode, Named, Begun, WasPosted, EndedAt, MayAdvance, HasBegunIn, CauseOf, WhyEnded, WhyOwn, AreTold, HasNoneOf, IsTaskOf, Later}
 
 -- ## Marks
 
@@ -146,6 +147,10 @@ module _ (p : Plan) (q : IdPlan) (clients : List (List Task)) (gives : ℕ → L
 
   -- ## Steps aside
 
+  -- an exchange that advances the attempt has its error
+  abbrev pub MayUnlock : Scene → Mark → ℕ → Bool → Type 0
+  MayUnlock w m i advance = (f : ℕ) × (shape : Shape) × (m.slot ≡ Locked i f shape) × (advance ≡ true → MayAdvance p q clients gives w (call_id i f) shape.attempt)
+
   abbrev pub MayAside : Scene → Mark → Step → Type 0
   MayAside w m (ClaimId i) = IsFree m × (t : Task) × (ts : List Task) × (asked : Asked) × (m.todo ≡ t ∷ ts) × (t.op ≡ ops.Call asked) × (t.number ≡ asked.operation) × IsTaskOf p q clients gives m.client t
   MayAside w m (PutCall i asked) = (m.slot ≡ Claims i None) ⊎ ((f : ℕ) × (shape : Shape) × (m.slot ≡ Holds i f shape asked) × IsBorn w (call_id i f) asked)
@@ -153,11 +158,12 @@ module _ (p : Plan) (q : IdPlan) (clients : List (List Task)) (gives : ℕ → L
   MayAside w m (StoreCall o id) = (b : Birth) × (t : Task) × (ts : List Task) × (m.makes ≡ b ∷ []) × (m.todo ≡ t ∷ ts) × (t.op ≡ ops.Call b.asked) × (t.number ≡ b.asked.operation) × (o ≡ b.asked.operation) × (id ≡ b.id) × IsBorn w b.id b.asked × Named p q clients gives w (name_of b.asked 0)
   MayAside w m (LockId i from) = IsFree m
   MayAside w m (PostId i from e) = IsFree m
-  MayAside w m (UnlockId i from advance) = (f : ℕ) × (shape : Shape) × (m.slot ≡ Locked i f shape)
+  MayAside w m (UnlockId i from advance) = MayUnlock w m i advance
   MayAside w m (EndId i) = (f : ℕ) × (shape : Shape) × (asked : Asked) × (m.slot ≡ Holds i f shape asked) × IsBorn w (call_id i f) asked × (m.owes ≡ [])
   MayAside w m (FreeId i) = m.slot ≡ Leaves i
   MayAside w m (TakeCall i) = (f : ℕ) × (shape : Shape) × (m.slot ≡ Locked i f shape)
   MayAside w m (TakeBytes k room) = m.link ≡ k ∷ []
+  MayAside w m (StoreAt o x) = at_word_attempt x ≤ 6
   MayAside w m other = Unit {0}
 
   -- what the step makes of the mark, and what it shows
@@ -169,10 +175,11 @@ module _ (p : Plan) (q : IdPlan) (clients : List (List Task)) (gives : ℕ → L
   Moves w m (LoadCall o) found m' = (m' ≡ m) × (found ≢ 0 → HasBegunIn p q clients gives w m.client m.done o × ((asked : Asked) × IsBorn w found asked × (asked.operation ≡ o))) × (found ≡ 0 → (Begun p q clients gives w o → ⊥) × AreTold p q clients gives w m.client m.done)
   Moves w m (LoadIdWord i) found m' = (m' ≡ m) × HasCodes found
   Moves w m (LockId i from) found m' = (found ≡ from → m' ≡ with_slot (Locked i (parts from).first (shape_of (parts from))) m) × (found ≢ from → m' ≡ m)
-  Moves w m (PostId i from e) found m' = (found ≡ from → (parts from).state ≡ 1 → m' ≡ with_slot (Locked i (parts from).first (shape_of (parts from))) m) × (found ≡ from → (parts from).state ≢ 1 → m' ≡ m) × (found ≢ from → (m' ≡ m) × HasCodes found)
+  Moves w m (PostId i from e) found m' = (found ≡ from → (parts from).state ≡ 1 → m' ≡ with_slot (Locked i (parts from).first (shape_of (parts from))) m) × (found ≡ from → (parts from).state ≢ 1 → m' ≡ m) × (found ≢ from → (m' ≡ m) × HasCodes found) × (found ≡ from → WasPosted w (call_id i (parts from).first) e)
   Moves w m (UnlockId i from advance) found m' = (found ≡ from → (parts from).oldest ≡ 0 → m' ≡ with_slot NoSlot m)
       × (found ≡ from → (parts from).oldest ≢ 0 → (m' ≡ with_slot (with_attempt (parts (unlocked_by from advance)).attempt m.slot) m) × ((f : ℕ) (shape : Shape) → m.slot ≡ Locked i f shape → CauseOf p q clients gives w (call_id i f) (parts from).oldest × ((parts (unlocked_by from advance)).range ≡ shape.range))) × (found ≢ from → m' ≡ m)
-  Moves w m (EndId i) found m' = (f : ℕ) (shape : Shape) (asked : Asked) → m.slot ≡ Holds i f shape asked → (m' ≡ with_owed (record { id = call_id i f; asked = asked } ∷ []) (with_slot (Leaves i) m)) × (shape.attempt + 2 ≡ asked.range → HasUsed p q clients gives w (record { id = call_id i f; asked = asked }))
+  Moves w m (EndId i) found m' = (f : ℕ) (shape : Shape) (asked : Asked) → m.slot ≡ Holds i f shape asked → (m' ≡ with_owed (record { id = call_id i f; asked = asked } ∷ []) (with_slot (Leaves i) m)) × EndedAt p q clients gives w (record { id = call_id i f; asked = asked }) shape.attempt
+  Moves w m (LoadAt o) found m' = (m' ≡ m) × (at_word_attempt found ≤ 6)
   Moves w m (FreeId i) found m' = m' ≡ with_slot NoSlot m
   Moves w m (TakeCall i) found m' = (m' ≡ with_slot (taken_out found m.slot) m) × ((f : ℕ) (shape : Shape) → m.slot ≡ Locked i f shape → IsBorn w (call_id i f) found × (found.range ≡ shape.range))
   Moves w m (TakeBytes k room) found m' = (m' ≡ given_more found m) × (m.link ≡ k ∷ [] → given w.core k ≡ (given_more found m).bytes)
@@ -201,9 +208,10 @@ module _ (p : Plan) (q : IdPlan) (clients : List (List Task)) (gives : ℕ → L
     pub kept : AllByRecursion (CameFrom w r.link) r.kept
 
   abbrev pub AtHead : Scene → Mark → Head → Type 0
-  AtHead w m (Posts id e word) = IsFree m × (is_first (id_first id) (parts word) ≡ true)
-  AtHead w m (Unlocks i word advance) = ((f : ℕ) × (shape : Shape) × (m.slot ≡ Locked i f shape)) × (m.owes ≡ []) × (m.makes ≡ [])
+  AtHead w m (Posts id e word) = IsFree m × (is_first (id_first id) (parts word) ≡ true) × (is_stale e (parts word) ≡ false)
+  AtHead w m (Unlocks i word advance) = MayUnlock w m i advance × (m.owes ≡ []) × (m.makes ≡ [])
   AtHead w m (Decides id asked word e) = ((shape : Shape) × (m.slot ≡ Holds (id_slot id) (id_first id) shape asked) × HasShape word shape × (asked.range ≡ shape.range)) × IsBorn w id asked × (m.owes ≡ []) × (m.makes ≡ [])
+      × (is_stale e (parts word) ≡ false) × (attempt_of e ≢ WHOLE → WasPosted w id e)
   AtHead w m (Locks i sought word) = IsFree m × IsSoughtIn sought word
   AtHead w m (Joins id) = IsFree m
   AtHead w m (Opens o) = IsFree m
@@ -220,18 +228,20 @@ module _ (p : Plan) (q : IdPlan) (clients : List (List Task)) (gives : ℕ → L
   MatchesRange (First first) f range = f ≡ first
   MatchesRange (Version v) f range = (f < v) × (v < f + range)
 
-  abbrev pub LeavesPost : Mark → ℕ → Posting → Mark → Type 0
-  LeavesPost m id (HasLocked word) m' = (shape : Shape) × (m' ≡ with_slot (Locked (id_slot id) (id_first id) shape) m) × HasShape word shape
-  LeavesPost m id (WasCrowded a b) m' = Again m m' × IsErrorCode p q clients gives a × IsErrorCode p q clients gives b
-  LeavesPost m id other m' = Again m m'
+  -- an error that an id took is of the current attempt, or for the whole call
+  abbrev pub LeavesPost : Scene → Mark → ℕ → ℕ → Posting → Mark → Type 0
+  LeavesPost w m id e (HasLocked word) m' = (shape : Shape) × (m' ≡ with_slot (Locked (id_slot id) (id_first id) shape) m) × HasShape word shape × (is_stale e (parts word) ≡ false) × WasPosted w id e
+  LeavesPost w m id e (WasCrowded a b) m' = Again m m' × IsErrorCode p q clients gives a × IsErrorCode p q clients gives b
+  LeavesPost w m id e WasQueued m' = Again m m' × WasPosted w id e
+  LeavesPost w m id e other m' = Again m m'
 
   abbrev pub LeavesUnlock : Scene → Mark → ℕ → Unlocking → Mark → Type 0
   LeavesUnlock w m i (IsOpen word) m' = m' ≡ with_slot NoSlot m
-  LeavesUnlock w m i (HasNext word e) m' = (m' ≡ with_slot (with_attempt (parts word).attempt m.slot) m) × ((f : ℕ) (shape : Shape) → m.slot ≡ Locked i f shape → CauseOf p q clients gives w (call_id i f) e × ((parts word).range ≡ shape.range))
+  LeavesUnlock w m i (HasNext word e) m' = (m' ≡ with_slot (with_attempt (parts word).attempt m.slot) m) × ((f : ℕ) (shape : Shape) → m.slot ≡ Locked i f shape → CauseOf p q clients gives w (call_id i f) e × ((parts word).range ≡ shape.range)) × (is_stale e (parts word) ≡ false)
 
-  -- an error that ends its call is for the whole of it, or final, or comes where no attempt is left
+  -- an error that ends its call is for the whole of it, or for its last attempt, and final, or comes where no attempt is left
   abbrev pub IsLast : Scene → Birth → ℕ → Type 0
-  IsLast w b e = (attempt_of e ≡ WHOLE) ⊎ ((is_final (code_of e) ≡ true) ⊎ HasUsed p q clients gives w b)
+  IsLast w b e = (attempt_of e ≡ WHOLE) ⊎ (EndedAt p q clients gives w b (attempt_of e) × ((is_final (code_of e) ≡ true) ⊎ (attempt_of e + 2 ≡ b.asked.range)))
 
   -- the error that ended a call is this one, or, where this one isn't for the whole call, one that was queued
   abbrev pub EndsBy : Scene → Birth → ℕ → ℕ → ℕ → Type 0
@@ -246,7 +256,7 @@ module _ (p : Plan) (q : IdPlan) (clients : List (List Task)) (gives : ℕ → L
   LeavesLock m i sought (NotThere word) m' = m' ≡ m
 
   abbrev pub Leaves' : Scene → Mark → (head : Head) → Exit head → Mark → Type 0
-  Leaves' w m (Posts id e word) exit m' = LeavesPost m id exit m'
+  Leaves' w m (Posts id e word) exit m' = LeavesPost w m id e exit m'
   Leaves' w m (Unlocks i word advance) exit m' = LeavesUnlock w m i exit m'
   Leaves' w m (Decides id asked word e) exit m' = LeavesDecision w m id e exit m'
   Leaves' w m (Locks i sought word) exit m' = LeavesLock m i sought exit m'

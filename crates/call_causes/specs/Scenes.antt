@@ -1,5 +1,5 @@
 -- What has happened so far that lasts, and what it tells of calls.
-use Rattle.std.specs.Prelude.{ℕ, ◌≡◌, ◌≢◌, ◌+◌, ◌<◌, ◌≤◌, ◌⊎◌, true, ◌∷◌, ◌++◌, List, [], slice_get, slice_index, Some, IsSome, ℤ, pos}
+use Rattle.std.specs.Prelude.{ℕ, ◌≡◌, ◌≢◌, ◌+◌, ◌<◌, ◌≤◌, ◌⊎◌, true, false, ◌∷◌, ◌++◌, List, [], slice_get, slice_index, Some, IsSome, ℤ, pos}
 use Rattle.sock_words.specs.declared.plain.Plan.{Plan}
 use Rattle.sock_words.specs.declared.outcome.Outcome.{Outcome}
 use Rattle.sock_words.specs.declared.outcome.Outcome.TheVariants.{Opened, SlotsFull, Unopened, Answered, Peer, CallFailed, Expired, Queued, Late, Crowded, Joined, NotBegun}
@@ -19,6 +19,7 @@ use Rattle.sock_programs.specs.declared.task.Task.{Task}
 use Rattle.sock_programs.specs.Posts.{WHOLE, is_final}
 use Rattle.sock_programs.specs.Cores.{Core}
 use Rattle.call_causes.specs.Lists.{given, times}
+use Rattle.call_causes.specs.Posts.{Post}
 
 -- the id of a call, which has the versions behind it, as many as the call's range less one
 pub record Birth : Type 0 where
@@ -35,12 +36,14 @@ pub record Claim : Type 0 where
   pub slot : ℕ
   pub operation : ℕ
 
--- a core, the slots that were claimed so far, the ids that were made, the operations of the calls whose attempt was advanced, and what was said, each the latest first
+-- a core, the slots that were claimed so far, the ids that were made, the operations of the calls whose attempt was advanced, the errors that ids took, and what was said, each the
+-- latest first
 pub record Scene : Type 0 where
   pub core : Core
   pub claims : List Claim
   pub births : List Birth
   pub advances : List ℕ
+  pub posts : List Post
   pub sayings : List Saying
 
 -- x is one of the list
@@ -65,6 +68,10 @@ IsBorn w id asked = In (record { id = id; asked = asked }) w.births
 
 abbrev pub IsClaimed : Scene → ℕ → ℕ → Type 0
 IsClaimed w i o = In (record { slot = i; operation = o }) w.claims
+
+-- the id took this error
+abbrev pub WasPosted : Scene → ℕ → ℕ → Type 0
+WasPosted w id e = In (record { id = id; error = e }) w.posts
 
 -- frame n of link k came
 abbrev pub Came : Scene → ℕ → ℕ → Frame → Type 0
@@ -121,24 +128,28 @@ module _ (p : Plan) (q : IdPlan) (clients : List (List Task)) (gives : ℕ → L
   abbrev pub IsExpired : Scene → Asked → Type 0
   IsExpired w asked = (client : ℕ) × (t : Task) × IsTaskOf client t × (t.op ≡ ops.Expire asked.operation) × (Said w t.number Expired ⊎ Said w t.number Queued)
 
-  -- the range of an id has ended, and its call had come to the last attempt that it might have
-  abbrev pub HasUsed : Scene → Birth → Type 0
-  HasUsed w b = In b w.births × (id_first b.id + b.asked.range ≤ (parts (slice_index w.core.calls.words (id_word (id_slot b.id)))).first) × (times b.asked.operation w.advances + 2 ≡ b.asked.range)
+  -- the range of an id has ended, and its call had come to attempt n
+  abbrev pub EndedAt : Scene → Birth → ℕ → Type 0
+  EndedAt w b n = In b w.births × (id_first b.id + b.asked.range ≤ (parts (slice_index w.core.calls.words (id_word (id_slot b.id)))).first) × (times b.asked.operation w.advances ≡ n)
+
+  -- an error of attempt n that ends no call by its code alone was posted to the id
+  abbrev pub MayAdvance : Scene → ℕ → ℕ → Type 0
+  MayAdvance w id n = (code : ℕ) × WasPosted w id (error_of code n) × (is_final code ≡ false)
 
   -- a frame that came is a response of the call with this id, and this holds of it
   abbrev pub IsAnsweredIn : Scene → ℕ → Asked → (Frame → Type 0) → Type 0
   IsAnsweredIn w id asked P = (k n : ℕ) × (frame : Frame) × (k < p.links) × Came w k n frame × IsResponseTo id asked frame × P frame
 
-  -- why an error of the id is there
+  -- why an error of the id is there: but for that of an `expire` it was posted, and for one attempt
   pub data CauseOf (w : Scene) (id e : ℕ) : Type 0 where
     of_expiry : (asked : Asked) → e ≡ error_of 1008 WHOLE → IsBorn w id asked → IsExpired w asked → CauseOf w id e
-    of_other : IsOther (code_of e) → (is_final (code_of e) ≡ true) ⊎ (attempt_of e ≢ WHOLE) → CauseOf w id e
+    of_other : IsOther (code_of e) → attempt_of e ≢ WHOLE → WasPosted w id e → CauseOf w id e
 
-  -- why the call with this id ended with the code
+  -- why the call with this id ended with the code: by another error, where that of its last attempt was posted
   pub data FailedIn (w : Scene) (id : ℕ) (asked : Asked) (code : ℕ) : Type 0 where
     by_expiry : code ≡ 1008 → IsExpired w asked → FailedIn w id asked code
     by_compression : code ≡ 2002 → IsAnsweredIn w id asked (λ frame. frame.meta.compress_type ≢ pos 0) → FailedIn w id asked code
-    by_other : IsOther code → (is_final code ≡ true) ⊎ HasUsed w (record { id = id; asked = asked }) → FailedIn w id asked code
+    by_other : (n : ℕ) → IsOther code → WasPosted w id (error_of code n) → EndedAt w (record { id = id; asked = asked }) n → (is_final code ≡ true) ⊎ (n + 2 ≡ asked.range) → FailedIn w id asked code
 
   -- why a call whose range has ended has its outcome
   abbrev pub WhyEnded : Scene → Birth → Outcome → Type 0
@@ -226,6 +237,7 @@ module _ (p : Plan) (q : IdPlan) (clients : List (List Task)) (gives : ℕ → L
     pub born : (id : ℕ) (asked : Asked) → IsBorn w id asked → IsBorn w' id asked
     pub came : (k n : ℕ) (frame : Frame) → Came w k n frame → Came w' k n frame
     pub claimed : (i o : ℕ) → IsClaimed w i o → IsClaimed w' i o
-    pub used : (b : Birth) → HasUsed w b → HasUsed w' b
+    pub posted : (x : Post) → In x w.posts → In x w'.posts
+    pub ended : (b : Birth) (n : ℕ) → EndedAt w b n → EndedAt w' b n
     pub within : StaysWithin w'
     pub apart : (id : ℕ) (a b : Asked) → IsBorn w' id a → IsBorn w' id b → a ≡ b

@@ -3,21 +3,23 @@ use Rattle.std.specs.Prelude.{ℕ, ◌==◌, if◌then◌else◌, ◌++◌, ◌�
 use Rattle.std.specs.List.{AllByRecursion}
 use mathlib.Core.Option as core
 use lib.ListN.{get_elem?}
+use Rattle.sock_words.specs.Words.{at_word_attempt}
 use Rattle.sock_words.specs.declared.plain.Plan.{Plan}
 use Rattle.sock_words.specs.declared.outcome.Outcome.{Outcome}
 use Rattle.sock_model.specs.Layout.{code_word}
 use Rattle.corr_core.specs.Word.{Parts, parts}
 use Rattle.corr_core.specs.declared.marks.Plan.{Plan as IdPlan}
-use Rattle.id_rule.specs.Lawful.{tag_word, id_word, call_word}
+use Rattle.id_rule.specs.Lawful.{tag_word, id_word, call_word, at_word}
 use Rattle.sock_message.specs.Asked.{Asked}
 use Rattle.sock_programs.specs.declared.task.Op.TheVariants as ops
 use Rattle.sock_programs.specs.declared.task.Task.{Task}
-use Rattle.sock_programs.specs.Asides.{Step, ClaimId, PutCall, MakeId, StoreCall, LoadCall, StoreAt, LoadIdWord, LockId, PostId, UnlockId, EndId, FreeId, TakeCall, TakeBytes, Found, call_id, id_slot, id_first}
+use Rattle.sock_programs.specs.Asides.{Step, ClaimId, PutCall, MakeId, StoreCall, LoadCall, StoreAt, LoadAt, LoadIdWord, LockId, PostId, UnlockId, EndId, FreeId, TakeCall, TakeBytes, Found, call_id, id_slot, id_first}
 use Rattle.sock_programs.specs.Beside.{calls_after}
 use Rattle.sock_programs.specs.Posts.{advance_of}
 use Rattle.sock_programs.specs.Cores.{Core, SeatState}
 use Rattle.call_causes.specs.Lists.{given, times, advances_by}
-use Rattle.call_causes.specs.Scenes.{Birth, Claim, Saying, Scene, In, IsOver, Said, IsBorn, IsOther, CauseOf, Begun, IsTaskOf, WhyEnded, WhyOwn, AreTold, IsClaimed}
+use Rattle.call_causes.specs.Posts.{Post, posts_by}
+use Rattle.call_causes.specs.Scenes.{Birth, Claim, Saying, Scene, In, IsOver, Said, IsBorn, IsOther, MayAdvance, CauseOf, Begun, IsTaskOf, WhyEnded, WhyOwn, AreTold, IsClaimed}
 use Rattle.call_causes.specs.Says.{Shape, shape_of, with_attempt, unlocked_by, Slot, NoSlot, Claims, Locked, Holds, Leaves, Mark, with_slot, with_owed, with_made, with_done, put_in, taken_out, given_more, SaysOn}
 
 abbrev pub At : List Mark → ℕ → Mark → Type 0
@@ -91,8 +93,13 @@ module _ (p : Plan) (q : IdPlan) (clients : List (List Task)) (gives : ℕ → L
         → ((word_at w i).oldest ≢ 0 → CauseOf p q clients gives w (call_id i (word_at w i).first) (word_at w i).oldest) × ((word_at w i).second ≢ 0 → CauseOf p q clients gives w (call_id i (word_at w i).first) (word_at w i).second)
     -- the attempt of an id is how often it was advanced, and of no call without an id it was
     pub attempts : (b : Birth) → In b w.births → IsCurrent w b → (word_at w (id_slot b.id)).attempt ≡ times b.asked.operation w.advances
+    -- which was less often than the range has attempts, and each time by an error that was posted for the attempt before
+    pub few : (b : Birth) → In b w.births → times b.asked.operation w.advances + 2 ≤ b.asked.range
+    pub advanced : (b : Birth) → In b w.births → (n : ℕ) → n < times b.asked.operation w.advances → MayAdvance p q clients gives w b.id n
     pub unmade : (o : ℕ) → ((b : Birth) → In b w.births → b.asked.operation ≢ o) → times o w.advances ≡ 0
     pub codes : (i : ℕ) → i < p.slots → slice_index w.core.words (code_word i) ≢ 0 → IsOther p q clients gives (slice_index w.core.words (code_word i))
+    -- where an attempt went is written of an attempt that a range may have
+    pub ats : (o : ℕ) → o < q.operations → at_word_attempt (slice_index w.core.calls.words (at_word q o)) ≤ 6
 
   -- ## Tasks, and what is said
 
@@ -225,6 +232,7 @@ module _ (p : Plan) (q : IdPlan) (clients : List (List Task)) (gives : ℕ → L
     pub births : w'.births ≡ births_after step found m w.births
     pub claims : w'.claims ≡ claims_after step found m w.claims
     pub advances : w'.advances ≡ advances_by step found w.core.calls ++ w.advances
+    pub posts : w'.posts ≡ posts_by step found ++ w.posts
     pub sayings : (s : Saying) → In s w.sayings → In s w'.sayings
     pub overs : (a b : Saying) → IsOver a b w.sayings → IsOver a b w'.sayings
 
@@ -248,15 +256,15 @@ module _ (p : Plan) (q : IdPlan) (clients : List (List Task)) (gives : ℕ → L
   KnowsStep w (StoreCall o id) found = (o < q.operations) × (id ≢ 0)
   KnowsStep w (LoadCall o) found = (o < q.operations) × (found ≡ slice_index w.core.calls.words (call_word q o))
   KnowsStep w (StoreAt o x) found = o < q.operations
+  KnowsStep w (LoadAt o) found = (o < q.operations) × (found ≡ slice_index w.core.calls.words (at_word q o))
   KnowsStep w (LoadIdWord i) found = IsWordAt w i found × HasOldest found
   KnowsStep w (LockId i from) found = IsWordAt w i found × ((parts from).state ≡ 1) × IsTakenWith w i
   KnowsStep w (PostId i from e) found = IsWordAt w i found × (((parts from).state ≡ 1) ⊎ (((parts from).state ≡ 2) × ((parts from).second ≡ 0))) × (e < 32768) × IsTakenWith w i × HasOldest found
-  KnowsStep w (UnlockId i from advance) found = IsWordAt w i found × ((parts from).state ≡ 2) × ((parts from).attempt + advance_of advance ≤ 6) × ((asked : Asked) × LiesAt w i asked)
+  KnowsStep w (UnlockId i from advance) found = IsWordAt w i found × ((parts from).state ≡ 2) × ((parts from).attempt + advance_of advance ≤ 6) × ((asked : Asked) × LiesAt w i asked) × ((parts from).attempt + advance_of advance + 2 ≤ (parts from).range)
   KnowsStep w (EndId i) found = IsWordAt w i found
   KnowsStep w (FreeId i) found = i < q.slots
   KnowsStep w (TakeCall i) found = (i < q.slots) × LiesAt w i found
   KnowsStep w (TakeBytes k room) found = k < length w.core.calls.gave
-  KnowsStep w other found = Unit {0}
 
   pub record CallStory (w : Scene) (ms : List Mark) : Type 0 where
     pub each : length ms ≡ length w.core.seats
@@ -267,10 +275,11 @@ module _ (p : Plan) (q : IdPlan) (clients : List (List Task)) (gives : ℕ → L
     pub reads : ReadsLaw w ms
     pub seats : (j : ℕ) (seat : SeatState) (m : Mark) → get_elem? w.core.seats j ≡ core.some seat → At ms j m → SaysOn p q clients gives w m seat.program
 
-  -- the story of a core, up to which these calls' attempts were advanced, the latest first
-  pub record HasStory (advanced : List ℕ) (c : Core) : Type 0 where
+  -- the story of a core, up to which ids took these errors, and these calls' attempts were advanced, each the latest first
+  pub record HasStory (posted : List Post) (advanced : List ℕ) (c : Core) : Type 0 where
     pub scene : Scene
     pub marks : List Mark
     pub is : scene.core ≡ c
     pub shown : scene.advances ≡ advanced
+    pub shown_posts : scene.posts ≡ posted
     pub story : CallStory scene marks

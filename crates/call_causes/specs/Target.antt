@@ -1,5 +1,5 @@
 -- Why each `call`, `expire` and `join` has its outcome: what a run with calls tells of them.
-use Rattle.std.specs.Prelude.{ℕ, ◌≡◌, ◌≢◌, ◌+◌, ◌<◌, ◌≤◌, ◌⊎◌, List, [], ◌∷◌, Option, Contains, pos}
+use Rattle.std.specs.Prelude.{ℕ, ◌≡◌, ◌≢◌, ◌+◌, ◌<◌, ◌≤◌, ◌⊎◌, true, false, List, [], ◌∷◌, Option, Contains, pos}
 use Rattle.sock_words.specs.declared.plain.Plan.{Plan}
 use Rattle.sock_words.specs.declared.outcome.Outcome.{Outcome}
 use Rattle.sock_words.specs.declared.outcome.Outcome.TheVariants.{Unopened, Answered, Peer, CallFailed, Expired, Queued}
@@ -8,8 +8,11 @@ use Rattle.sock_message.specs.Asked.{Asked, name_of}
 use Rattle.sock_programs.specs.declared.task.Op.{Op}
 use Rattle.sock_programs.specs.declared.task.Op.TheVariants as ops
 use Rattle.sock_programs.specs.declared.task.Task.{Task}
+use Rattle.corr_core.specs.Word.{error_of}
+use Rattle.sock_programs.specs.Posts.{is_final}
 use Rattle.sock_programs.specs.Told.{IsTask, Became}
 use Rattle.sock_programs.specs.ToldCalls.{Fixed, Order, FoundNone, HasCode, IsAnsweredBy, IsExpiredWith, GaveFault, ShowsId, Why, WhyExpire, WhyJoin}
+use Rattle.call_causes.specs.Posts.{Post}
 
 abbrev pub IsOnCalls : Op → Type 0
 IsOnCalls (ops.Call asked) = Unit {0}
@@ -60,3 +63,18 @@ module _ (p : Plan) (clients : List (List Task)) (outcomes : List (Option Outcom
     pub expired_once : (c d : ℕ) (t u : Task) (o : ℕ) → IsTask clients outcomes c t → IsTask clients outcomes d u → t.op ≡ ops.Expire o → u.op ≡ ops.Expire o → Became clients outcomes t.number Expired → Became clients outcomes u.number Expired → t.number ≡ u.number
     pub versions : (c d : ℕ) (t u : Task) (a b : Asked) (x y : Outcome) (i j : ℕ) → IsTask clients outcomes c t → IsTask clients outcomes d u → t.op ≡ ops.Call a → u.op ≡ ops.Call b → Became clients outcomes t.number x → Became clients outcomes u.number y
         → ShowsId p clients outcomes fixed gave orders x i → ShowsId p clients outcomes fixed gave orders y j → t.number ≢ u.number → (i + a.range ≤ j) ⊎ (j + b.range ≤ i)
+
+-- ## By the errors that ids took
+
+module _ (p : Plan) (clients : List (List Task)) (outcomes : List (Option Outcome)) (fixed : Fixed) (gave : ℕ → List ℕ) (orders : ℕ → Order) where
+  -- why the call that is operation o, with this id, ended with the code: by an `expire`, by a compressed response, or by an error that its id took for its last attempt, with a code that
+  -- ends a call whatever retries are left, or where none is left
+  abbrev pub FailedByPost : (ℕ → ℕ) → List Post → ℕ → Asked → ℕ → ℕ → Type 0
+  FailedByPost last posts o asked id code = ((code ≡ 1008) × (IsExpiredWith p clients outcomes fixed gave orders o Expired ⊎ IsExpiredWith p clients outcomes fixed gave orders o Queued))
+      ⊎ (((code ≡ 2002) × IsAnsweredBy p clients outcomes fixed gave orders asked id (λ frame. frame.meta.compress_type ≢ pos 0))
+      ⊎ (Contains posts (record { id = id; error = error_of code (last o) }) × ((is_final code ≡ true) ⊎ (last o + 2 ≡ asked.range))))
+
+  -- attempt n of the call that is operation o was given up: its id, which its outcome shows, took an error for that attempt, whose code alone ends no call
+  abbrev pub AdvancedByPost : List Post → ℕ → ℕ → Type 0
+  AdvancedByPost posts o n = (id code : ℕ) × ((outcome : Outcome) → Became clients outcomes o outcome → (shown : ℕ) → ShowsId p clients outcomes fixed gave orders outcome shown → shown ≡ id)
+      × Contains posts (record { id = id; error = error_of code n }) × (is_final code ≡ false)

@@ -1,22 +1,36 @@
 -- What answering the whole frames says of the piece that was fed.
-use Rattle.std.proofs.Common.{◌≡◌, ℕ, List, [], ◌++◌, length, take, refl, ap, sym, ◌∙◌, arith, append-nil}
+use Rattle.std.proofs.Common.{◌≡◌, ℕ, zero, suc, ◌+◌, List, [], ◌++◌, length, drop, take, refl, ap, sym, ◌∙◌, arith, append-nil}
 use Rattle.std.specs.Prelude.{flat_map, filter_map, option_map, Option, Some, None, Result, Ok, Err}
 use Rattle.std.proofs.lemmas.List.Elements.{filter_map-append}
 use Rattle.std.proofs.Math.Seq.{take-append_seam}
-use Rattle.brpc_model.specs.Frame.{FrameFault, Judged, Faulty, judged, frame_bytes}
-use Rattle.brpc_model.specs.Stream.{Stream, Ending, Rest, Fault, stream, stream_from}
+use Rattle.brpc_model.specs.Frame.{FrameFault, Judged, NoneYet, Faulty, Begins, judged, frame_bytes}
+use Rattle.brpc_model.specs.Stream.{Stream, Ending, Rest, Fault, goes_on, stream, stream_up_to, stream_from}
 use Rattle.brpc_model.specs.Reply.{reply, reply_frames}
 use Rattle.prpc_frame.specs.Meaning.{fault_of}
 use Rattle.prpc_frame.proofs.Cuts.{stream_begins, stream_whole, frames_then, stream_rest, stream_fault, frames_anywhere}
 use Rattle.rpc_server.specs.Held.{Held}
 use Rattle.rpc_server.specs.declared.conn.ConnFault.{ConnFault}
 use Rattle.rpc_server.specs.declared.conn.ConnFault.TheVariants as fault_
-use Rattle.rpc_server.specs.Feeding.{Replied, Feeds, Answered, Stopped, AnswersWhole}
+use Rattle.rpc_server.specs.Feeding.{is_fault, has_fault, Replied, Feeds, Answered, Stopped, AnswersWhole}
 
 -- the fault that is meant
 fault_meant : (o : Option FrameFault) (j : Judged) → option_map (λ f. Faulty f) o ≡ Some j → (f : FrameFault) × (o ≡ Some f) × (j ≡ Faulty f)
 fault_meant None j e = absurd (cc)
 fault_meant (Some f) j e = let s : j ≡ Faulty f = cc in (f, refl, s)
+
+-- whether there is a fault is the same wherever the stream begins
+goes_faults : (at at' : ℕ) (bytes : List ℕ) (j : Judged) (f g : ℕ → Stream) → ((body : ℕ) → is_fault (f body).ending ≡ is_fault (g body).ending) → is_fault (goes_on at bytes j f).ending ≡ is_fault (goes_on at' bytes j g).ending
+goes_faults at at' bytes NoneYet f g h = refl
+goes_faults at at' bytes (Faulty fault) f g h = refl
+goes_faults at at' bytes (Begins frame body) f g h = h body
+
+same_faults : (n at at' : ℕ) (bytes : List ℕ) → is_fault (stream_up_to n at bytes).ending ≡ is_fault (stream_up_to n at' bytes).ending
+same_faults zero at at' bytes = refl
+same_faults (suc n) at at' bytes = goes_faults at at' bytes (judged bytes) (λ body. stream_up_to n (at + (12 + body)) (drop (12 + body) bytes)) (λ body. stream_up_to n (at' + (12 + body)) (drop (12 + body) bytes))
+    (λ body. same_faults n (at + (12 + body)) (at' + (12 + body)) (drop (12 + body) bytes))
+
+faults_anywhere : (at : ℕ) (bytes : List ℕ) → is_fault (stream_from at bytes).ending ≡ has_fault bytes
+faults_anywhere at bytes = same_faults (suc (length bytes)) at 0 bytes
 
 module _ (c mid : Held) (piece : List ℕ) (goes : (at : ℕ) (more : List ℕ) → stream_from at (mid.bytes ++ more) ≡ stream_from at (c.bytes ++ (piece ++ more))) (made : mid.made ≡ c.made) where
   whole : stream (c.bytes ++ piece) ≡ stream mid.bytes
@@ -37,6 +51,7 @@ module _ (c mid : Held) (piece : List ℕ) (goes : (at : ℕ) (more : List ℕ) 
       appended = a.appended ∙ ap (λ l. before ++ flat_map frame_bytes l) (sym replies_are);
       counted = omega (arith, a.counted, made, ap length replies_are);
       goes_on = λ more. ap (filter_map reply) (later more) ∙ (filter_map-append reply a.frames (stream (c'.bytes ++ more)).frames ∙ ap (λ l. l ++ reply_frames (c'.bytes ++ more)) (sym replies_are));
+      faults = λ more. ap (λ (s : Stream). is_fault s.ending) (sym (goes 0 more) ∙ stream_begins mid.bytes c'.bytes a.frames a.cut more) ∙ faults_anywhere a.cut.size (c'.bytes ++ more);
     }
 
     pub ends : (stream (c.bytes ++ piece)).ending ≡ ending

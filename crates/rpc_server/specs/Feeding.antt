@@ -1,7 +1,7 @@
 -- What feeding a connection appends and leaves.
-use Rattle.std.specs.Prelude.{◌≡◌, ℕ, ◌+◌, List, [], ◌∷◌, ◌++◌, length, take, flat_map, filter_map, Some, Result, Ok, Err}
+use Rattle.std.specs.Prelude.{◌≡◌, ℕ, ◌+◌, Bool, false, true, List, [], ◌∷◌, ◌++◌, length, take, flat_map, filter_map, Some, Result, Ok, Err}
 use Rattle.brpc_model.specs.Frame.{Frame, FrameFault, NoneYet, judged, frame_bytes}
-use Rattle.brpc_model.specs.Stream.{Rest, Fault, stream}
+use Rattle.brpc_model.specs.Stream.{Ending, Rest, Fault, stream}
 use Rattle.brpc_model.specs.Reply.{reply, reply_frames, replies}
 use Rattle.prpc_frame.specs.Cuts.{Cut}
 use Rattle.prpc_frame.specs.Meaning.{fault_of, IsFault}
@@ -16,14 +16,23 @@ replies_to f = filter_map reply (f ∷ [])
 abbrev pub reply_bytes : Frame → List ℕ
 reply_bytes f = flat_map frame_bytes (replies_to f)
 
+-- these bytes have a frame fault
+abbrev pub is_fault : Ending → Bool
+is_fault (Rest n) = false
+is_fault (Fault at fault) = true
+
+abbrev pub has_fault : List ℕ → Bool
+has_fault bytes = is_fault (stream bytes).ending
+
 -- ## A piece
 
 -- the replies to the frames that became whole with the piece were appended and counted; and however the bytes go on, their replies are those and
--- the ones behind
+-- the ones behind, and they have a fault where what is held then has one
 pub record Replied (c : Held) (piece : List ℕ) (c' : Held) (before now : List ℕ) : Type 0 where
   pub appended : now ≡ before ++ replies (c.bytes ++ piece)
   pub counted : c'.made ≡ c.made + length (reply_frames (c.bytes ++ piece))
   pub goes_on : (more : List ℕ) → reply_frames (c.bytes ++ (piece ++ more)) ≡ reply_frames (c.bytes ++ piece) ++ reply_frames (c'.bytes ++ more)
+  pub faults : (more : List ℕ) → has_fault (c.bytes ++ (piece ++ more)) ≡ has_fault (c'.bytes ++ more)
 
 -- what is held is the rest of a frame that isn't whole; or there is a fault, and no frame behind it; or memory ran out behind the replies to
 -- some first frames

@@ -52,7 +52,7 @@ told_within (w ∷ ws) (suc n) k p h = let i : n < length ws = told_within ws n 
 
 -- ## One element replaced
 
-get_same : {A : Type 0} (xs : List A) (i : ℕ) (y : A) → i < length xs → slice_get (slice_set xs i y) i ≡ Some y
+pub get_same : {A : Type 0} (xs : List A) (i : ℕ) (y : A) → i < length xs → slice_get (slice_set xs i y) i ≡ Some y
 get_same [] i y l = absurd (omega arith)
 get_same (x ∷ xs) zero y l = refl
 get_same (x ∷ xs) (suc i) y l = get_same xs i y (omega arith)
@@ -64,7 +64,7 @@ get_other (x ∷ xs) zero (suc j) y n = refl
 get_other (x ∷ xs) (suc i) zero y n = refl
 get_other (x ∷ xs) (suc i) (suc j) y n = get_other xs i j y (λ e. n (ap suc e))
 
-length_set : {A : Type 0} (xs : List A) (i : ℕ) (y : A) → length (slice_set xs i y) ≡ length xs
+pub length_set : {A : Type 0} (xs : List A) (i : ℕ) (y : A) → length (slice_set xs i y) ≡ length xs
 length_set [] i y = refl
 length_set (x ∷ xs) zero y = refl
 length_set (x ∷ xs) (suc i) y = let e : length (slice_set xs i y) ≡ length xs = length_set xs i y in omega arith

@@ -1,13 +1,16 @@
-//! Prints the report of a run: a line for each operation, two lines for each link, and `end`.
+//! Prints the report of a run: a line for each operation, two lines for each link, and `end`; or its summary.
 #![tactic(auto)]
 
 mod links;
 mod operations;
 mod orders;
+mod summary;
+mod sums;
 mod told;
 mod words;
 
 pub use links::Accepted;
+pub use summary::{Load, print_summary};
 pub use told::print_report;
 
 #[cfg(test)]

@@ -15,8 +15,8 @@ pub struct OperationPlace {
     pub number: usize,
 }
 
-// Whether the line is an operation of a client or of the setup.
-fn is_operation(line: &Line) -> bool
+/// Whether the line is an operation of a client or of the setup.
+pub fn is_operation(line: &Line) -> bool
     ensures { result ≡ is_operation (item line.now) }
 {
     match line {

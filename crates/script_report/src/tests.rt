@@ -1,6 +1,6 @@
 ghost use Rattle.brpc_model.specs.PlaceWords.{ArePlaces};
 
-use crate::print_report;
+use crate::{Load, print_report, print_summary};
 use script_items::{Line, read_line};
 use sock_words::{Outcome, PlaceWord};
 use std::alloc::Global;
@@ -26,6 +26,15 @@ link 0 a accepted 2 placed 1 took 2 6868
 order 0 2.1.0 1.1.0
 link 1 b accepted 1 placed 1 took 1 62
 order 1 2.1.1
+end
+";
+
+/// The send is dropped, and the call failed.
+const SUMMARY: &str = "\
+load 7 2 1
+sends 1 placed 0 bytes 0
+calls 1 answered 0 bytes 0
+other 2
 end
 ";
 
@@ -87,5 +96,25 @@ fn prints_no_line_of_what_is_untold(rt: HostRuntime) -> Result<(), Fail> {
     let words = [PlaceWord::from_word(9_223_372_036_854_775_808); 32];
     let text = print_report(rt.alloc(), &lines, &[None, None, None, None], &words, &[])?;
     assert_eq!(rt; text.as_slice(), UNTOLD.as_bytes());
+    Ok(())
+}
+
+#[test]
+fn sums_what_is_reported(rt: HostRuntime) -> Result<(), Fail> {
+    let lines = lines(rt.alloc())?;
+    let words = words();
+    let said = [
+        None,
+        None,
+        None,
+        Some(Outcome::CallFailed { id: 1, code: 1014 }),
+    ];
+    let load = Load {
+        seed: 7,
+        clients: 2,
+        operations: 1,
+    };
+    let text = print_summary(rt.alloc(), load, &lines, &said, &words)?;
+    assert_eq!(rt; text.as_slice(), SUMMARY.as_bytes());
     Ok(())
 }

@@ -6,12 +6,18 @@ use Rattle.sock_words.specs.declared.place_word.PlaceWord.{PlaceWord}
 use Rattle.std.specs.Prelude.{Option}
 use Rattle.brpc_model.specs.Items.{Item}
 use Rattle.brpc_model.specs.Link.{LinkEnd}
-use Rattle.brpc_model.specs.PlaceWords.{ArePlaces, HasEachOutcome, IsReportText}
+use Rattle.brpc_model.specs.PlaceWords.{ArePlaces, HasEachOutcome, outcomes_from}
 use Rattle.brpc_model.specs.Operations.{operations}
 use Rattle.script_items.specs.Meaning.{item}
 use Rattle.script_items.specs.declared.line.Line.{Line}
 use Rattle.report_fits.specs.Ends.{AreTold}
 use Rattle.sock_core.specs.Finish.{told_from}
+use Rattle.script_report.specs.declared.summary.Load.{Load}
+use Rattle.script_report.specs.Sums.{told_of, sums_of, summary_text}
+use Rattle.script_report.proofs.Existing.{report_exists}
+use Rattle.script_run.specs.declared.report.Print.{Print}
+use Rattle.script_run.specs.declared.report.Print.TheVariants as print
+use Rattle.script_run.specs.Played.{IsPrintOf}
 use Rattle.script_run.proofs.Numbering.{map_more}
 
 first_told : (e other : LinkEnd) (bytes : List ℕ) → Some e ≡ Some other → IfSome e.took (λ told. bytes ≡ told) → IfSome other.took (λ told. bytes ≡ told)
@@ -38,20 +44,32 @@ module _ {A T : Type 0} (f : A → LinkEnd) (view : T → List ℕ) (ends : List
   pub told_all : (i : ℕ) (took : List T) → length ends ≤ i → AreTold (map f (take i ends)) (map view took) → AreTold (map f ends) (map view took)
   told_all i took h told = subst (λ es. AreTold (map f es) (map view took)) (take_all i ends h) told
 
-module _ {A L T E : Type 0} (items : T → List ℕ) (view : A → List ℕ) (ends_of : L → LinkEnd) where
-  -- the report that was printed is that of what is left
+-- what is printed of a script, by what was said, the place words and what the links took
+module _ {A L T E : Type 0} (items : T → List ℕ) (view : A → List ℕ) (ends_of : L → LinkEnd) (Prints : List Item → List (Option Outcome) → List PlaceWord → List (List ℕ) → List ℕ → Type 0) where
+  -- the text that was printed is that of what is left
   pub reported : (r : Result T E) (lines : List Line) (script : List Item) (count : ℕ) (outcomes : List (ℕ × Outcome)) (said shown : List (Option Outcome)) (words : List PlaceWord) (links : List L) (took showing : List A) →
       map item lines ≡ script → count ≡ length (operations script) → ((os : List (Option Outcome)) → length os ≡ count → outcomes ≡ told_from 0 os → said ≡ os) → shown ≡ said → showing ≡ took → AreTold (map ends_of links) (map view took) →
-      IfOk r (λ t. ArePlaces words → HasEachOutcome words shown → IsReportText (map item lines) shown words (map view showing) (items t)) →
-      IfOk r (λ t. (os : List (Option Outcome)) → length os ≡ length (operations script) → outcomes ≡ told_from 0 os → ArePlaces words → HasEachOutcome words os → (x : List (List ℕ)) × AreTold (map ends_of links) x × IsReportText script os words x (items t))
+      IfOk r (λ t. ArePlaces words → HasEachOutcome words shown → Prints (map item lines) shown words (map view showing) (items t)) →
+      IfOk r (λ t. (os : List (Option Outcome)) → length os ≡ length (operations script) → outcomes ≡ told_from 0 os → ArePlaces words → HasEachOutcome words os → (x : List (List ℕ)) × AreTold (map ends_of links) x × Prints script os words x (items t))
   reported (Ok t) lines script count outcomes said shown words links took showing e counted spread f s told h =
       λ os many are places each.
       let is : shown ≡ os = f ∙ spread os (many ∙ sym counted) are in (
         map view took,
         told,
-        subst (λ xs. IsReportText xs os words (map view took) (items t)) e
-            (subst (λ xs. IsReportText (map item lines) xs words (map view took) (items t)) is
-            (subst (λ xs. IsReportText (map item lines) shown words (map view xs) (items t)) s
+        subst (λ xs. Prints xs os words (map view took) (items t)) e
+            (subst (λ xs. Prints (map item lines) xs words (map view took) (items t)) is
+            (subst (λ xs. Prints (map item lines) shown words (map view xs) (items t)) s
             (h places (subst (HasEachOutcome words) (sym is) each)))),
       )
   reported (Err x) lines script count outcomes said shown words links took showing e counted spread f s told h = tt
+
+-- a summary has the numbers of the report that is told
+pub summed : {T E : Type 0} (items : T → List ℕ) (shows : Print) (load : Load) (script : List Item) (said : List (Option Outcome)) (words : List PlaceWord) (took : List (List ℕ)) (r : Result T E) → shows ≡ print.Summary load →
+    IfOk r (λ t. HasEachOutcome words said → items t ≡ summary_text load.seed load.clients load.operations (sums_of (told_of script (outcomes_from words 0 said)))) →
+    IfOk r (λ t. ArePlaces words → HasEachOutcome words said → IsPrintOf shows script said words took (items t))
+summed items shows load script said words took (Err e) is h = tt
+summed items shows load script said words took (Ok t) is h = λ places each. let w = report_exists script said words took places in subst (λ (p : Print). IsPrintOf p script said words took (items t)) (sym is) (record {
+  whole = w.0;
+  reported = w.1;
+  sums = h each ∙ ap (λ (os : List Outcome). summary_text load.seed load.clients load.operations (sums_of (told_of script os))) (sym w.1.told.outcomes);
+})

@@ -13,7 +13,7 @@ use Rattle.brpc_model.specs.Script.{script_of}
 use Rattle.brpc_model.specs.Link.{LinkEnd, HalfAnswer, TakeAnswer}
 use Rattle.brpc_model.specs.Operations.{Turn, link_names, operations}
 use Rattle.brpc_model.specs.Causes.{HasFault, reading_limit}
-use Rattle.brpc_model.specs.PlaceWords.{ArePlaces, HasEachOutcome, IsReportText}
+use Rattle.brpc_model.specs.PlaceWords.{ArePlaces, HasEachOutcome, IsReportText, outcomes_from}
 use Rattle.sock_io.specs.Link.{OutState, InState, more_told}
 use Rattle.sock_model.specs.declared.home.Home.TheVariants.{Link}
 use Rattle.sock_programs.specs.Asides.{Taking, AtEnd, Closed, Broken}
@@ -42,7 +42,10 @@ use Rattle.sock_core.specs.Machines.{MachineState, core_with}
 use Rattle.sock_core.specs.Runs.{SameLink, SameLinks, ShowsTaking}
 use Rattle.script_run.specs.Causes.{HasCauses, EndedEarly, gave_in}
 use Rattle.script_run.specs.Given.{IsUntouched, AreUntouched}
-use Rattle.script_run.specs.Played.{IsMade, HasRun, AreHeard, IsWholeRun, IsEndTold, AreEndsTold, IsRunText}
+use Rattle.script_report.specs.Sums.{told_of, sums_of, summary_text}
+use Rattle.script_run.specs.declared.report.Print.{Print}
+use Rattle.script_run.specs.declared.report.Print.TheVariants as print
+use Rattle.script_run.specs.Played.{IsMade, HasRun, AreHeard, IsWholeRun, IsEndTold, AreEndsTold, IsRunText, IsPrintOf, IsPrinted}
 use Rattle.script_run.proofs.Homes.{index_at, took_is, lies_is, told_is}
 use Rattle.script_run.proofs.Idle.{clients_idle}
 use Rattle.script_run.proofs.Placed.{run_places, causes_known}
@@ -181,39 +184,59 @@ module _ (bytes : List ℕ) (script : List Item) (turns : List Turn) (start m : 
     over = over;
   }
 
-  module _ (outcomes : List (ℕ × Outcome)) (words : List PlaceWord) (ends : List LinkEnd) (text : List ℕ) (outcomes_are : outcomes ≡ told_from 0 m.outcomes) (words_are : words ≡ place_words m.plan m.words) (ends_same : ends ≡ m.ends)
-      (told : (os : List (Option Outcome)) → length os ≡ length (operations script) → outcomes ≡ told_from 0 os → ArePlaces words → HasEachOutcome words os → (took : List (List ℕ)) × AreTold ends took × IsReportText script os words took text) where
-    pub text_is : IsRunText script turns text ends
-    unfolding whole
-    text_is =
-        let known = causes_known bytes script reads turns end_core ran.run (ran.closes tell) in
+  module _ (outcomes : List (ℕ × Outcome)) (words : List PlaceWord) (ends : List LinkEnd) (outcomes_are : outcomes ≡ told_from 0 m.outcomes) (words_are : words ≡ place_words m.plan m.words) (ends_same : ends ≡ m.ends) where
+    words_now : words ≡ place_words (plan_of script) m.words
+    words_now = words_are ∙ ap (λ (q : Plan). place_words q m.words) plan
+
+    module _ (took : List (List ℕ)) (told : AreTold ends took) (text : List ℕ) (reported : IsReportText script m.outcomes words took text) where
+      pub text_is : IsRunText script turns text ends
+      unfolding whole
+      text_is =
+          let report = subst (λ (ws : List PlaceWord). IsReportText script m.outcomes ws took text) words_now reported in record {
+            whole = whole ends ends_same;
+            took = took;
+            told = told;
+            report = report.report;
+            reports = report.told;
+            is_text = report.is_text;
+            ends_told = subst (AreEndsTold script end_core) (sym ends_same) ends_told;
+            known = causes_known bytes script reads turns end_core ran.run (ran.closes tell);
+            causes = as_far script (λ has. (has, subst (AreEndsOf script end_core has.fixed (gave_in end_core)) (sym ends_same) (ends_are has))) (has_causes bytes script reads turns end_core ran.run (ran.closes tell));
+          }
+
+      -- its outcomes are those that were printed
+      same_outcomes : text_is.report.outcomes ≡ reported.report.outcomes
+      unfolding text_is whole
+      same_outcomes = text_is.reports.outcomes ∙ ap (λ (ws : List PlaceWord). outcomes_from ws 0 m.outcomes) (sym words_now) ∙ sym reported.told.outcomes
+
+    print_is : (shows : Print) (took : List (List ℕ)) (text : List ℕ) → AreTold ends took → IsPrintOf shows script m.outcomes words took text → IsPrinted shows script turns text ends
+    print_is print.Report took text told is = text_is took told text is
+    print_is (print.Summary load) took text told is = record {
+      whole = is.whole;
+      reported = text_is took told is.whole is.reported;
+      sums = is.sums ∙ ap (λ (os : List Outcome). summary_text load.seed load.clients load.operations (sums_of (told_of script os))) (sym (same_outcomes took told is.whole is.reported));
+    }
+
+    pub printed_is : (shows : Print) (text : List ℕ)
+        → ((os : List (Option Outcome)) → length os ≡ length (operations script) → outcomes ≡ told_from 0 os → ArePlaces words → HasEachOutcome words os → (took : List (List ℕ)) × AreTold ends took × IsPrintOf shows script os words took text)
+        → IsPrinted shows script turns text ends
+    printed_is shows text prints =
         let places = run_places bytes script reads turns end_core ran.run (ran.closes tell) in
-        let words_now : words ≡ place_words (plan_of script) m.words = words_are ∙ ap (λ (q : Plan). place_words q m.words) plan in
-        let w = told m.outcomes (ended_length bytes script reads turns end_core ran.run) outcomes_are
+        let w = prints m.outcomes (ended_length bytes script reads turns end_core ran.run) outcomes_are
         (subst ArePlaces (sym words_now) places.0) (subst (λ (ws : List PlaceWord). HasEachOutcome ws m.outcomes) (sym words_now) places.1) in
-        let report = subst (λ (ws : List PlaceWord). IsReportText script m.outcomes ws w.0 text) words_now w.2 in record {
-          whole = whole ends ends_same;
-          took = w.0;
-          told = w.1;
-          report = report.report;
-          reports = report.told;
-          is_text = report.is_text;
-          ends_told = subst (AreEndsTold script end_core) (sym ends_same) ends_told;
-          known = known;
-          causes = as_far script (λ has. (has, subst (AreEndsOf script end_core has.fixed (gave_in end_core)) (sym ends_same) (ends_are has))) (has_causes bytes script reads turns end_core ran.run (ran.closes tell));
-        }
+        print_is shows w.0 text w.1 w.2
 
 -- where it was played to its end
-pub text_answered : {T E F S P C : Type 0} (items : T → List ℕ) (r : Result T E) (q : Result S F) (bytes : List ℕ) (script : List Item) (turns : List Turn) (start m : MachineState) (outcomes : List (ℕ × Outcome)) (words : List PlaceWord) (ends back : List LinkEnd) →
+pub text_answered : {T E F S P C : Type 0} (shows : Print) (items : T → List ℕ) (r : Result T E) (q : Result S F) (bytes : List ℕ) (script : List Item) (turns : List Turn) (start m : MachineState) (outcomes : List (ℕ × Outcome)) (words : List PlaceWord) (ends back : List LinkEnd) →
     script_of bytes ≡ Ok script → IsMade script start → AreUntouched 0 start.ends → length start.ends ≡ length (link_names script) → SameLinks start m →
     map (λ (o : OutState). o.took) m.links.outs ≡ map (λ (e : LinkEnd). e.took) m.ends → map (λ (i : InState). i.gave) m.links.inns ≡ map (λ (e : LinkEnd). e.gave_count) m.ends →
     map (λ (i : InState). i.gave_bytes) m.links.inns ≡ map (λ (e : LinkEnd). e.gave) m.ends → length m.letters ≡ m.plan.requests →
     outcomes ≡ told_from 0 m.outcomes → words ≡ place_words m.plan m.words → ends ≡ m.ends → back ≡ ends →
     (IsOk r → IsOk q) → (P → ArePrompt start.links) → (C → TellClosing start.links) → (C → AllByRecursion (λ (e : LinkEnd). e.closed ≢ None) start.ends) →
     OnOk q (ArePrompt start.links → HasRun script turns start m) → OnOk q ((m.plan ≡ start.plan) × (m.ids.plan ≡ start.ids.plan)) →
-    IfOk r (λ t. (os : List (Option Outcome)) → length os ≡ length (operations script) → outcomes ≡ told_from 0 os → ArePlaces words → HasEachOutcome words os → (took : List (List ℕ)) × AreTold ends took × IsReportText script os words took (items t)) →
-    IfOk r (λ t. P → C → IsRunText script turns (items t) back)
-text_answered items (Err e) q bytes script turns start m outcomes words ends back reads made untouched many same outs counts given letters outcomes_are words_are ends_same back_is played prompt tell closed ran sized told = tt
-text_answered items (Ok t) (Err e) bytes script turns start m outcomes words ends back reads made untouched many same outs counts given letters outcomes_are words_are ends_same back_is played prompt tell closed ran sized told = let same = played refl in absurd (cc)
-text_answered items (Ok t) (Ok done) bytes script turns start m outcomes words ends back reads made untouched many same outs counts given letters outcomes_are words_are ends_same back_is played prompt tell closed ran sized told =
-    λ p c. subst (IsRunText script turns (items t)) (sym back_is) (text_is bytes script turns start m reads untouched many same (ran (prompt p)) (sized.0 ∙ made.plan) (tell c) (closed c) outs counts given letters outcomes words ends (items t) outcomes_are words_are ends_same told)
+    IfOk r (λ t. (os : List (Option Outcome)) → length os ≡ length (operations script) → outcomes ≡ told_from 0 os → ArePlaces words → HasEachOutcome words os → (took : List (List ℕ)) × AreTold ends took × IsPrintOf shows script os words took (items t)) →
+    IfOk r (λ t. P → C → IsPrinted shows script turns (items t) back)
+text_answered shows items (Err e) q bytes script turns start m outcomes words ends back reads made untouched many same outs counts given letters outcomes_are words_are ends_same back_is played prompt tell closed ran sized told = tt
+text_answered shows items (Ok t) (Err e) bytes script turns start m outcomes words ends back reads made untouched many same outs counts given letters outcomes_are words_are ends_same back_is played prompt tell closed ran sized told = let same = played refl in absurd (cc)
+text_answered shows items (Ok t) (Ok done) bytes script turns start m outcomes words ends back reads made untouched many same outs counts given letters outcomes_are words_are ends_same back_is played prompt tell closed ran sized told =
+    λ p c. subst (IsPrinted shows script turns (items t)) (sym back_is) (printed_is bytes script turns start m reads untouched many same (ran (prompt p)) (sized.0 ∙ made.plan) (tell c) (closed c) outs counts given letters outcomes words ends outcomes_are words_are ends_same shows (items t) told)

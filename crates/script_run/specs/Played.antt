@@ -5,6 +5,11 @@ use Rattle.brpc_model.specs.Items.{Item}
 use Rattle.brpc_model.specs.Link.{LinkEnd}
 use Rattle.brpc_model.specs.Operations.{Turn, schedule, clients, link_names}
 use Rattle.brpc_model.specs.Report.{Report, report_text}
+use Rattle.brpc_model.specs.PlaceWords.{IsReportText}
+use Rattle.sock_words.specs.declared.outcome.Outcome.{Outcome}
+use Rattle.sock_words.specs.declared.place_word.PlaceWord.{PlaceWord}
+use Rattle.script_report.specs.declared.summary.Load.{Load}
+use Rattle.script_report.specs.Sums.{told_of, sums_of, summary_text}
 use Rattle.sock_programs.specs.Cores.{Core}
 use Rattle.sock_programs.specs.Ticks.{Answer, Moment}
 use Rattle.sock_programs.specs.Runs.{IsAtRest, Turns}
@@ -21,6 +26,8 @@ use Rattle.whole_runs.specs.Over.{IsAllOver}
 use Rattle.sock_core.specs.Runs.{ShowFaults, LinksTell, TakesTell, ShowTakings, Follows, Made}
 use Rattle.sock_core.specs.Driving.{FirstRests}
 use Rattle.script_run.specs.Causes.{HasCauses, CausesKnown, DropsTold, AsFarAsTold, broken_of, gave_in}
+use Rattle.script_run.specs.declared.report.Print.{Print}
+use Rattle.script_run.specs.declared.report.Print.TheVariants as print
 use Rattle.script_run.specs.declared.schedule.Schedule.{Schedule}
 use Rattle.script_run.specs.declared.schedule.Schedule.TheVariants.{Own, Drawn}
 
@@ -130,3 +137,31 @@ pub record IsRunText (script : List Item) (turns : List Turn) (text : List ℕ) 
   -- why each outcome came: what is known in every script, and all of it as far as that is proved
   pub known : CausesKnown script turns whole.core whole.run
   pub causes : AsFarAsTold script (IsCaused script turns whole.core whole.run ends)
+
+-- ## What is printed
+
+-- the summary that a load prints has the numbers of this report
+abbrev pub summary_of : Load → List Item → Report → List ℕ
+summary_of load script report = summary_text load.seed load.clients load.operations (sums_of (told_of script report.outcomes))
+
+-- the text is the summary of a run that left these outcomes and place words
+pub record IsSummaryText (load : Load) (script : List Item) (said : List (Option Outcome)) (words : List PlaceWord) (took : List (List ℕ)) (text : List ℕ) : Type 0 where
+  pub whole : List ℕ
+  pub reported : IsReportText script said words took whole
+  pub sums : text ≡ summary_of load script reported.report
+
+-- it is its report, or its summary
+abbrev pub IsPrintOf : Print → List Item → List (Option Outcome) → List PlaceWord → List (List ℕ) → List ℕ → Type 0
+IsPrintOf print.Report script said words took text = IsReportText script said words took text
+IsPrintOf (print.Summary load) script said words took text = IsSummaryText load script said words took text
+
+-- the text is the summary of a run of the script by these lines
+pub record IsRunSummary (load : Load) (script : List Item) (turns : List Turn) (text : List ℕ) (ends : List LinkEnd) : Type 0 where
+  -- of which this is the report
+  pub whole : List ℕ
+  pub reported : IsRunText script turns whole ends
+  pub sums : text ≡ summary_of load script reported.report
+
+abbrev pub IsPrinted : Print → List Item → List Turn → List ℕ → List LinkEnd → Type 0
+IsPrinted print.Report script turns text ends = IsRunText script turns text ends
+IsPrinted (print.Summary load) script turns text ends = IsRunSummary load script turns text ends

@@ -1,5 +1,5 @@
 //! Runs a script on the machine, by its own schedule or a drawn one, over links that it opens and gives
-//! back, and prints the report.
+//! back, and prints the report, or a summary of it.
 #![tactic(auto)]
 
 mod links;
@@ -11,5 +11,7 @@ mod schedule;
 mod tests;
 
 pub use links::spec_of;
+pub use report::Print;
 pub use run::{RunFault, run_script};
 pub use schedule::Schedule;
+pub use script_report::Load;

@@ -2,18 +2,29 @@ ghost use Rattle.std.specs.Prelude.{◌≡◌, ℕ, List, Option, Ok, IfOk, IfSo
 ghost use Rattle.sock_words.specs.declared.outcome.Outcome.{Outcome};
 ghost use Rattle.brpc_model.specs.Script.{script_of};
 ghost use Rattle.brpc_model.specs.Operations.{operations};
-ghost use Rattle.brpc_model.specs.PlaceWords.{ArePlaces, HasEachOutcome, IsReportText};
+ghost use Rattle.brpc_model.specs.PlaceWords.{ArePlaces, HasEachOutcome};
+ghost use Rattle.script_items.specs.Meaning.{item};
 ghost use Rattle.sock_io.specs.Link.{end_of};
 ghost use Rattle.sock_core.specs.Finish.{told_from};
 ghost use Rattle.report_fits.specs.Ends.{AreTold};
+ghost use Rattle.script_run.specs.Played.{IsPrintOf};
 
 use crate::said::said_of;
-use script_items::Script;
-use script_report::print_report;
+use script_items::{Line, Script};
+use script_report::{Load, print_report, print_summary};
 use script_tasks::plan_of;
 use sock_io::{Ends, In, Out, Peer};
 use sock_words::{Outcome, PlaceWord};
 use std::alloc::{AllocError, Global};
+
+/// What is printed of a run.
+#[derive(Clone, Copy, Debug, PartialEq, Eq)]
+pub enum Print {
+    /// Its report.
+    Report,
+    /// The summary of a run of a drawn script.
+    Summary(Load),
+}
 
 /// What a link took, as it tells.
 fn taken<O: Out, I: In, P: Peer>(ends: &Ends<O, I, P>) -> &[u8]
@@ -36,20 +47,38 @@ fn taken_by<'a, O: Out, I: In, P: Peer>(
     Ok(took)
 }
 
-/// The report of a run, by the outcomes, the place words and the links that it left.
+/// What is to be printed of a run of these lines, by what was said and the place words that it left.
+fn printed(
+    alloc: Global,
+    print: Print,
+    lines: &[Line],
+    said: &[Option<Outcome>],
+    places: &[PlaceWord],
+    took: &[&[u8]],
+) -> Result<Vec<u8>, AllocError>
+    ensures { IfOk result (λ text. ArePlaces places.now → HasEachOutcome places.now said.now → IsPrintOf print (map item lines.now) said.now places.now (map (λ bytes. bytes.now) took.now) text.items) }
+{
+    match print {
+        Print::Report => print_report(alloc, lines, said, places, took),
+        Print::Summary(load) => print_summary(alloc, load, lines, said, places),
+    }
+}
+
+/// The report of a run, or its summary, by the outcomes, the place words and the links that it left.
 pub fn report<O: Out, I: In, P: Peer>(
     alloc: Global,
     script: &Script,
+    print: Print,
     outcomes: Vec<(u16, Outcome)>,
     places: &[PlaceWord],
     ends: &[Ends<O, I, P>],
 ) -> Result<Vec<u8>, AllocError>
     requires script { (bytes : List ℕ) × (script_of bytes ≡ Ok script.now) }
     ensures { IfOk result (λ text. (os : List (Option Outcome)) → length os ≡ length (operations script.now) → outcomes.items ≡ told_from 0 os → ArePlaces places.now → HasEachOutcome places.now os →
-        (took : List (List ℕ)) × AreTold (map (λ e. end_of (O.state e.out) (I.state e.inn)) ends.now) took × IsReportText script.now os places.now took text.items) }
+        (took : List (List ℕ)) × AreTold (map (λ e. end_of (O.state e.out) (I.state e.inn)) ends.now) took × IsPrintOf print script.now os places.now took text.items) }
 {
     let plan = plan_of(alloc, script.lines())?;
     let said = said_of(alloc, plan.operations, outcomes)?;
     let took = taken_by(alloc, ends)?;
-    print_report(alloc, script.lines(), &said, places, &took)
+    printed(alloc, print, script.lines(), &said, places, &took)
 }

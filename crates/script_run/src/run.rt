@@ -4,7 +4,7 @@ ghost use Rattle.brpc_model.specs.Link.{LinkEnd};
 ghost use Rattle.brpc_model.specs.Items.{Item};
 ghost use Rattle.brpc_model.specs.Script.{script_of};
 ghost use Rattle.brpc_model.specs.Operations.{link_names, operations};
-ghost use Rattle.brpc_model.specs.PlaceWords.{ArePlaces, HasEachOutcome, IsReportText};
+ghost use Rattle.brpc_model.specs.PlaceWords.{ArePlaces, HasEachOutcome};
 ghost use Rattle.sock_io.specs.declared.link.Ends.{Ends};
 ghost use Rattle.sock_io.specs.Causes.{Rose};
 ghost use Rattle.sock_io.specs.Link.{end_of};
@@ -13,11 +13,11 @@ ghost use Rattle.sock_core.specs.Finish.{told_from};
 ghost use Rattle.sock_core.specs.Links.{ArePrompt, TellClosing};
 ghost use Rattle.sock_core.specs.Runs.{SameLinks};
 ghost use Rattle.script_run.specs.Given.{AreNumbered, AreUntouched, IsBeginning, has_piece, specs_of};
-ghost use Rattle.script_run.specs.Played.{IsMade, HasRun, IsRunText, TellClosed, turns_of};
+ghost use Rattle.script_run.specs.Played.{IsMade, HasRun, IsPrintOf, IsPrinted, TellClosed, turns_of};
 ghost use Rattle.report_fits.specs.Ends.{AreTold};
 
 use crate::links::{give_back, open_links};
-use crate::report::report;
+use crate::report::{Print, report};
 use crate::schedule::{Schedule, play_schedule};
 use script_items::Script;
 use sock_core::{Finished, Machine, NotMade};
@@ -33,7 +33,7 @@ pub enum RunFault {
     NoMemory,
 }
 
-/// Runs a script by a schedule: the text of its report.
+/// Runs a script by a schedule: the text of its report, or of its summary.
 ///
 /// Its links are opened in order and all given back, in order, whatever becomes of the run. Where one can't be opened,
 /// nothing is run, and nothing is put on the others.
@@ -41,13 +41,14 @@ pub fn run_script<L: Linker>(
     alloc: Global,
     script: &Script,
     schedule: Schedule,
+    print: Print,
     links: &mut L,
 ) -> Result<Vec<u8>, RunFault>
     requires script { (bytes : List ℕ) × (script_of bytes ≡ Ok script.now) }
     requires pieces { list_all has_piece script.now ≡ true }
     requires asked { L.asked links.old ≡ [] }
     requires back { L.back links.old ≡ [] }
-    ensures text { IfOk result (λ text. L.prompt links.old ≡ true → TellClosed L.I.state → IsRunText script.now (turns_of script.now schedule) text.items (L.back links.new)) }
+    ensures text { IfOk result (λ text. L.prompt links.old ≡ true → TellClosed L.I.state → IsPrinted print script.now (turns_of script.now schedule) text.items (L.back links.new)) }
     ensures unopened { IsErrOf result RunFault.OpenFailed → AreUntouched 0 (L.back links.new) }
     ensures all { OnOk result (length (L.back links.new) ≡ length (link_names script.now)) }
     // What is asked of the links is what the lines of the script ask, all of it unless one could not be opened.
@@ -63,7 +64,7 @@ pub fn run_script<L: Linker>(
     let mut ends = Vec::new(alloc);
     let opened = open_links(script.lines(), links, &mut ends);
     match opened {
-        Ok(()) => run_over(alloc, script, schedule, links, ends),
+        Ok(()) => run_over(alloc, script, schedule, print, links, ends),
         Err(fault) => {
             give_back(links, ends);
             Err(not_opened(fault))
@@ -87,6 +88,7 @@ fn run_over<L: Linker>(
     alloc: Global,
     script: &Script,
     schedule: Schedule,
+    print: Print,
     links: &mut L,
     ends: Vec<Ends<L::O, L::I, L::P>>,
 ) -> Result<Vec<u8>, RunFault>
@@ -99,7 +101,7 @@ fn run_over<L: Linker>(
     requires few { length ends.items ≤ 256 }
     requires opened { length (L.asked links.old) ≡ length ends.items }
     requires back { L.back links.old ≡ [] }
-    ensures text { IfOk result (λ text. L.prompt links.old ≡ true → TellClosed L.I.state → IsRunText script.now (turns_of script.now schedule) text.items (L.back links.new)) }
+    ensures text { IfOk result (λ text. L.prompt links.old ≡ true → TellClosed L.I.state → IsPrinted print script.now (turns_of script.now schedule) text.items (L.back links.new)) }
     ensures back { length (L.back links.new) ≡ length ends.items }
     ensures numbered { AreNumbered 0 (L.back links.new) }
     ensures asked { L.asked links.new ≡ L.asked links.old }
@@ -114,7 +116,7 @@ fn run_over<L: Linker>(
             return Err(RunFault::NoMemory);
         }
     };
-    run_on(alloc, script, schedule, links, machine)
+    run_on(alloc, script, schedule, print, links, machine)
 }
 
 /// Runs a script on a machine, and gives its links back.
@@ -122,6 +124,7 @@ fn run_on<L: Linker>(
     alloc: Global,
     script: &Script,
     schedule: Schedule,
+    print: Print,
     links: &mut L,
     mut machine: Machine<L::O, L::I, L::P>,
 ) -> Result<Vec<u8>, RunFault>
@@ -135,7 +138,7 @@ fn run_on<L: Linker>(
     requires few { length machine.ends ≤ 256 }
     requires opened { length (L.asked links.old) ≡ length machine.ends }
     requires back { L.back links.old ≡ [] }
-    ensures text { IfOk result (λ text. L.prompt links.old ≡ true → TellClosed L.I.state → IsRunText script.now (turns_of script.now schedule) text.items (L.back links.new)) }
+    ensures text { IfOk result (λ text. L.prompt links.old ≡ true → TellClosed L.I.state → IsPrinted print script.now (turns_of script.now schedule) text.items (L.back links.new)) }
     ensures back { length (L.back links.new) ≡ length machine.ends }
     ensures numbered { AreNumbered 0 (L.back links.new) }
     ensures asked { L.asked links.new ≡ L.asked links.old }
@@ -149,15 +152,16 @@ fn run_on<L: Linker>(
         places,
         ends,
     } = machine.finish();
-    let text = report_played(alloc, script, played, outcomes, &places, &ends);
+    let text = report_played(alloc, script, print, played, outcomes, &places, &ends);
     give_back(links, ends);
     text
 }
 
-/// The report of a run that was played, by what it left.
+/// The report of a run that was played, or its summary, by what it left.
 fn report_played<O: Out, I: In, P: Peer>(
     alloc: Global,
     script: &Script,
+    print: Print,
     played: Result<(), NoMemory>,
     outcomes: Vec<(u16, Outcome)>,
     places: &[PlaceWord],
@@ -166,13 +170,13 @@ fn report_played<O: Out, I: In, P: Peer>(
     requires script { (bytes : List ℕ) × (script_of bytes ≡ Ok script.now) }
     ensures played { IsOk result → IsOk played }
     ensures text { IfOk result (λ text. (os : List (Option Outcome)) → length os ≡ length (operations script.now) → outcomes.items ≡ told_from 0 os → ArePlaces places.now → HasEachOutcome places.now os →
-        (took : List (List ℕ)) × AreTold (map (λ e. end_of (O.state e.out) (I.state e.inn)) ends.now) took × IsReportText script.now os places.now took text.items) }
+        (took : List (List ℕ)) × AreTold (map (λ e. end_of (O.state e.out) (I.state e.inn)) ends.now) took × IsPrintOf print script.now os places.now took text.items) }
     ensures known { IsErrOf result RunFault.OpenFailed → ⊥ }
 {
     if played.is_err() {
         return Err(RunFault::NoMemory);
     }
-    match report(alloc, script, outcomes, places, ends) {
+    match report(alloc, script, print, outcomes, places, ends) {
         Ok(text) => Ok(text),
         Err(_) => Err(RunFault::NoMemory),
     }

@@ -58,7 +58,7 @@ module _ (script : List Item) (made : AreMade script) (turns : List Turn) (core 
       (ids_of_run script made turns core is (narrow script made turns core is closes) (few_clients script made turns core is closes)) (labelled script made turns core is closes) fixed_of_run gave_of_run last_of_run k kl
 
   module _ (bytes : List ℕ) (reads : script_of bytes ≡ Ok script) where
-    ends_listed : (k : ℕ) → In k (closed_before_ending script turns core is) → Contains (early_of_run script turns core is) k
+    pub ends_listed : (k : ℕ) → In k (closed_before_ending script turns core is) → Contains (early_of_run script turns core is) k
     ends_listed k m = early_listed script turns core is bytes reads k (closed_early script made turns core is k m).0 (closed_so script made turns core is k m).1
 
     -- each of the other tasks has its outcome, and a cause of it

@@ -22,6 +22,15 @@ pub mod Lists
 pub mod Firsts
 pub mod FirstRuns
 pub mod Beside
+pub mod LateLooks
+pub mod LateSeats
+pub mod LateRests
+pub mod LateEnding
+pub mod LateLives
+pub mod LatePlaces
+pub mod LateDropped
+pub mod ByPosts
+pub mod Assembled
 pub mod DropPlaces
 pub mod DropCodes
 pub mod DropWords

@@ -2,17 +2,23 @@ use Rattle.std.proofs.Common.{refl, sym}
 use Rattle.script_run.specs.Played.{TellClosed}
 use Rattle.brpc_eng.specs.Answers as answer
 use Rattle.brpc_eng.specs.Status.{number_of}
-use Rattle.brpc_eng.proofs.Replays.{other_command, drawn_command, frames_command, simulated}
+use Rattle.brpc_eng.proofs.Replays.{other_command, drawn_command, load_command, frames_command, simulated}
 use Rattle.brpc_eng.proofs.engine.answer.Goals as goal
 
 pub returns-in-None-clause-answers : goal.returns-in-None-clause-answers
 returns-in-None-clause-answers g c = answer.NoCommand refl (sym c.in-None.ensures) refl (c.requires.asked, c.requires.back) c.write_answer.ensures
 
 pub returns-in_default-clause-answers : goal.returns-in_default-clause-answers
-returns-in_default-clause-answers g c = other_command _ _ _ _ c.in-Some.command c.in-Some.ensures c.in_default.not-Replay c.in_default.not-Sim c.in_default.not-Gen c.in_default.not-Frames refl (c.requires.asked, c.requires.back) c.write_answer-in_default.ensures
+returns-in_default-clause-answers g c = other_command _ _ _ _ c.in-Some.command c.in-Some.ensures c.in_default.not-Replay c.in_default.not-Sim c.in_default.not-Gen c.in_default.not-Load c.in_default.not-Frames refl (c.requires.asked, c.requires.back) c.write_answer-in_default.ensures
 
 pub returns-in-Gen-clause-answers : goal.returns-in-Gen-clause-answers
 returns-in-Gen-clause-answers g c = drawn_command _ _ _ _ _ c.in-Some.command c.in-Gen.draw c.in-Some.ensures c.in-Gen.is refl (c.requires.asked, c.requires.back) c.print_generated.ensures
+
+pub returns-in-Load-clause-answers : goal.returns-in-Load-clause-answers
+returns-in-Load-clause-answers g c = load_command _ _ _ _ _ c.in-Some.command c.in-Load.draw c.in-Some.ensures c.in-Load.is refl c.load.ensures.loaded
+
+pub returns-in-Load-clause-counts : goal.returns-in-Load-clause-counts
+returns-in-Load-clause-counts g c = record { source_still = λ other. refl; linker_still = c.load.ensures.linker }
 
 pub returns-in-Frames-clause-answers : goal.returns-in-Frames-clause-answers
 returns-in-Frames-clause-answers g c = frames_command _ _ _ _ _ c.in-Some.command c.in-Some.ensures c.in-Frames.is (c.requires.asked, c.requires.back) c.frames.ensures.printed

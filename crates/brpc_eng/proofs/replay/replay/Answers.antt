@@ -1,6 +1,6 @@
-use Rattle.std.proofs.Common.{◌∙◌, ap, ap₂, sym, refl, Err}
+use Rattle.std.proofs.Common.{◌∙◌, ap, ap₂, sym, Err}
 use Rattle.brpc_eng.proofs.Pieces.{has_pieces}
-use Rattle.brpc_eng.proofs.Replays.{replays_built, replays_unbuilt, replays_faulty}
+use Rattle.brpc_eng.proofs.Replays.{replays_read, replays_faulty}
 use Rattle.brpc_eng.proofs.replay.replay.Goals as goal
 
 pub run_and_report-requires-clause-pieces : goal.run_and_report-requires-clause-pieces
@@ -8,13 +8,8 @@ run_and_report-requires-clause-pieces g c κs within = has_pieces c.deref.result
 
 pub returns-in-Ok-read_script-clause-replayed : goal.returns-in-Ok-read_script-clause-replayed
 returns-in-Ok-read_script-clause-replayed g c =
-    replays_built _ _ _ _ _ c.in-Ok.ensures.came.0 c.deref.result.now c.in-Ok.bytes _ _ c.is_built.result c.in-Ok.ensures.came.1 c.deref.ensures.value c.in-Ok-read_script.ensures.script
-    refl c.is_built.ensures c.if-is_built.true c.run_and_report.ensures.opened c.run_and_report.ensures.ran
-
-pub returns-in-Ok-2-clause-replayed : goal.returns-in-Ok-2-clause-replayed
-returns-in-Ok-2-clause-replayed g c =
-    replays_unbuilt _ _ _ _ c.in-Ok.ensures.came.0 c.deref.result.now c.in-Ok.bytes _ _ c.is_built.result c.in-Ok.ensures.came.1 c.deref.ensures.value c.in-Ok-read_script.ensures.script
-    refl c.is_built.ensures c.if-is_built.false (c.requires.asked, c.requires.back) c.write_answer.ensures
+    replays_read _ _ _ _ _ c.in-Ok.ensures.came.0 c.deref.result.now c.in-Ok.bytes _ c.in-Ok.ensures.came.1 c.deref.ensures.value c.in-Ok-read_script.ensures.script
+    c.run_and_report.ensures.opened c.run_and_report.ensures.ran
 
 pub returns-in-Err-Fault-clause-replayed : goal.returns-in-Err-Fault-clause-replayed
 returns-in-Err-Fault-clause-replayed g c =

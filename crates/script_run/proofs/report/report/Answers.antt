@@ -4,6 +4,7 @@ use Rattle.sock_io.specs.Link.{end_of}
 use Rattle.sock_programs.specs.Tasks.{plan_of}
 use Rattle.report_fits.specs.Limits.{KeepsLimits}
 use Rattle.report_fits.proofs.Sizes.{keeps_limits}
+use Rattle.script_run.specs.Played.{IsPrintOf}
 use Rattle.script_run.proofs.Telling.{reported}
 use Rattle.script_run.proofs.report.report.Goals as goal
 
@@ -13,5 +14,5 @@ plan_of-requires g c = subst KeepsLimits (sym c.lines.ensures) (keeps_limits c.r
 pub returns : goal.returns
 returns g c =
     let count = ap (λ (p : Plan). p.operations) (c.in_ok-plan.ensures ∙ ap plan_of c.lines.ensures) in
-    reported (λ text. text.items) (λ bytes. bytes.now) (λ e. end_of (g.O.Out.state e.out) (g.I.In.state e.inn)) c.print_report.result c.lines-2.result.now c.args.script.now c.in_ok-plan.plan.operations c.args.outcomes.items c.in_ok-said.said.items c.deref.result.now c.args.places.now c.args.ends.now
-    c.in_ok-took.took.items c.deref-2.result.now c.lines-2.ensures count c.in_ok-said.ensures c.deref.ensures.value c.deref-2.ensures.value c.in_ok-took.ensures c.print_report.ensures
+    reported (λ text. text.items) (λ bytes. bytes.now) (λ e. end_of (g.O.Out.state e.out) (g.I.In.state e.inn)) (IsPrintOf c.args.print) c.printed.result c.lines-2.result.now c.args.script.now c.in_ok-plan.plan.operations c.args.outcomes.items c.in_ok-said.said.items c.deref.result.now c.args.places.now c.args.ends.now
+    c.in_ok-took.took.items c.deref-2.result.now c.lines-2.ensures count c.in_ok-said.ensures c.deref.ensures.value c.deref-2.ensures.value c.in_ok-took.ensures c.printed.ensures

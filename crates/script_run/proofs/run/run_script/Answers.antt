@@ -1,7 +1,9 @@
-use Rattle.std.proofs.Common.{◌≡◌, Err, ap, ◌∙◌, arith}
+use Rattle.std.proofs.Common.{◌≡◌, true, Err, ap, ◌∙◌, arith}
+use Rattle.std.proofs.lemmas.Result.{IfOk-weaker}
 use Rattle.sock_io.specs.declared.link.OpenFault.TheVariants.{Failed}
 use Rattle.std.specs.List.{list_all}
 use Rattle.script_run.specs.Given.{has_piece}
+use Rattle.script_run.specs.Played.{IsPrinted, TellClosed, turns_of}
 use Rattle.script_run.proofs.Numbering.{numbered_of, links_of, few_links, pieces_of}
 use Rattle.script_run.proofs.Running.{ok_all}
 use Rattle.script_run.proofs.run.run_script.Goals as goal
@@ -36,3 +38,7 @@ returns-in-Ok-clause-all g c =
 pub returns-in-Err-clause-kept : goal.returns-in-Err-clause-kept
 returns-in-Err-clause-kept g c known =
     c.give_back.ensures.faults ∙ c.in-Err.ensures.kept (λ e. let is : c.in-Err.fault ≡ Failed = cc in known (ap (λ x. Err x) (c.not_opened.ensures.kept is)))
+
+pub returns-in-Ok-clause-text : goal.returns-in-Ok-clause-text
+returns-in-Ok-clause-text g c = IfOk-weaker c.run_over.result _ (λ text. g.L.Linker.prompt c.args.links.now ≡ true → TellClosed g.L.I.In.state → IsPrinted c.args.print c.args.script.now (turns_of c.args.script.now c.args.schedule) text.items (g.L.Linker.back c.run_over.new.links))
+    (λ text h prompt tell. h (c.in-Ok.ensures.prompt ∙ prompt) tell) c.run_over.ensures.text

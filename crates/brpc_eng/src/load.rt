@@ -1,0 +1,38 @@
+ghost use Rattle.std.specs.Prelude.{◌≡◌, ◌≢◌, []};
+ghost use Rattle.script_run.specs.Played.{TellClosed};
+ghost use Rattle.brpc_eng.specs.Status.{number_of};
+ghost use Rattle.brpc_eng.specs.Answers.{Loaded};
+
+use crate::draw::Draw;
+use crate::run::write_report;
+use crate::status::Status;
+use script_print::generate;
+use script_run::{Load, Print, RunFault, Schedule, run_script};
+use sock_io::{Linker, Sink};
+use std::alloc::Global;
+
+/// Draws a script, runs it by the schedule that its seed draws, and writes the summary of that run.
+pub fn load<K: Sink, L: Linker>(alloc: Global, draw: &Draw, out: &mut K, links: &mut L) -> Status
+    requires asked { L.asked links.old ≡ [] }
+    requires back { L.back links.old ≡ [] }
+    ensures loaded { Loaded draw.now.seed draw.now.clients draw.now.operations
+        (record { before = K.contents out.old; now = K.contents out.new; faults = record { before = K.faults out.old; now = K.faults out.new } })
+        (record { prompt = L.prompt links.old; tells = TellClosed L.I.state; asked = L.asked links.new; ends = L.back links.new; faults = record { before = L.faults links.old; now = L.faults links.new } })
+        (number_of result) }
+    ensures linker { number_of result ≢ 8 → L.faults links.new ≡ L.faults links.old }
+{
+    let seed = u64::from(draw.seed);
+    let Ok(script) = generate(alloc, seed, draw.clients as u16, draw.operations as u16) else {
+        return Status::NoMemory;
+    };
+    let summary = Print::Summary(Load {
+        seed: draw.seed,
+        clients: draw.clients,
+        operations: draw.operations,
+    });
+    match run_script(alloc, &script, Schedule::Drawn(seed), summary, links) {
+        Ok(text) => write_report(out, &text),
+        Err(RunFault::OpenFailed) => Status::OpenFailed,
+        Err(RunFault::NoMemory) => Status::NoMemory,
+    }
+}

@@ -1,0 +1,7 @@
+use Rattle.std.proofs.Common.{◌≡◌, append_assoc, string_bytes}
+use Rattle.std.proofs.lemmas.Result.{IfOk-weaker}
+use Rattle.script_report.specs.Sums.{calls_line}
+use Rattle.script_report.proofs.summary.calls_line.Goals as goal
+
+pub returns : goal.returns
+returns c = IfOk-weaker c.format.result _ (λ t. string_bytes t ≡ calls_line c.args.sums.now) (λ t e. simp append_assoc e) c.format.ensures.ok
