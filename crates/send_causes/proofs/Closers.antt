@@ -1,5 +1,5 @@
--- A reader sets its socket failed only where the reading of its link ended; it exchanges no head, and takes bytes of its own link alone.
-use Rattle.std.proofs.Common.{◌≡◌, ℕ, ◌+◌, ◌-◌, ◌%◌, ◌≤◌, ◌==◌, ◌&&◌, not, nat_lt, nat_le, ltb-false, Bool, true, false, cond, List, [], ◌∷◌, ◌++◌, length, length-append, append-nil, append_assoc, refl, sym, ap, ◌∙◌, subst, arith}
+-- A reader sets its socket failed only where the reading of its link ended, with the code of that end; it exchanges no head, and takes bytes of its own link alone.
+use Rattle.std.proofs.Common.{◌≡◌, ℕ, ◌+◌, ◌-◌, ◌%◌, ◌≤◌, ◌==◌, ◌&&◌, ◌⊎◌, inl, inr, not, nat_lt, nat_le, ltb-false, Bool, true, false, cond, List, [], ◌∷◌, ◌++◌, length, length-append, append-nil, append_assoc, refl, sym, ap, ◌∙◌, subst, arith}
 use Rattle.std.proofs.lemmas.Bool.{true≢false}
 use Rattle.std.proofs.lemmas.List.Concat.{flat_map-append}
 use Rattle.std.specs.Prelude.{Option, Some, None}
@@ -9,7 +9,7 @@ use Rattle.corr_core.specs.Word.{parts, posted_word, unlocked_word, code_of, err
 use Rattle.corr_core.specs.Law.{LAST}
 use Rattle.brpc_model.specs.Frame.{Frame}
 use Rattle.brpc_model.specs.Stream as streams
-use Rattle.sock_programs.specs.Calls.{Call, SetOdd, AddRef, SwapHead, GiveBirth, StoreOpen}
+use Rattle.sock_programs.specs.Calls.{Call, SetOdd, StoreCode, AddRef, SwapHead, GiveBirth, StoreOpen}
 use Rattle.sock_programs.specs.Asides.{Step, Found, TakeBytes, Taking, Bytes, Nothing, NoMore, AtEnd, Closed, Broken, call_id, id_slot, id_first}
 use Rattle.sock_programs.specs.Heads.{Head, Exit, Retry, Sought, Reading, Posts, Unlocks, Decides, Locks, Joins, Opens, Reads, Discards, Posting, WasGone, WasStale, WasCrowded, WasQueued, HasLocked, Unlocking, IsOpen, HasNext, Deciding, HasEnded, GoesOn, Locking, NotThere, Has, Ended}
 use Rattle.sock_programs.specs.Programs.{Program, Do, Say, Sent, Rest, TakeMessage, TakeHome, PutHome, PutBytes, AskReady, Write, Aside, Round, Keep, Retries, LAST_VERSION, recycle, release, address, set_failed}
@@ -39,12 +39,17 @@ module _ (k id : ℕ) (Odd : List Taking → Type 0) (Lasts : Type 0) where
     pub total : r.total ≡ length (given_by h)
     pub tied : (more : List ℕ) → Faults 0 (r.rest ++ more) → Faults 0 (given_by h ++ more)
 
+  -- the code with which the reading ended
+  abbrev pub Codes : List Taking → ℕ → Type 0
+  Codes h code = Odd h × ((code ≡ 1014) ⊎ ((code ≡ 2002) × Faults 0 (given_by h)))
+
   abbrev pub EndsSo : List Taking → Ended → Type 0
-  EndsSo h how = (how.closed ≡ false → Odd h) × (how.reading.link ≡ k) × (how.reading.id ≡ id)
+  EndsSo h how = (how.closed ≡ false → Codes h how.code) × (how.reading.link ≡ k) × (how.reading.id ≡ id)
 
   -- behind these takes, where the seat has just got a reference to the life or not
   abbrev pub Calm : Bool → List Taking → Program → Type 0
   Calm held h (Do (SetOdd i) next) = (held ≡ true) × Odd h × (i ≡ socket_id_slot id) × ((found : ℕ) → Calm false h (next found))
+  Calm held h (Do (StoreCode i v code) next) = Codes h code × (i ≡ socket_id_slot id) × (v ≡ socket_id_version id) × ((found : ℕ) → Calm false h (next found))
   Calm held h (Do (AddRef x) next) = (x ≡ id) × ((found : ℕ) → Calm (vref_version found == socket_id_version id) h (next found))
   Calm held h (Do (SwapHead i own) next) = ⊥
   Calm held h (Do (GiveBirth i l) next) = ⊥
@@ -165,8 +170,8 @@ module _ (k id : ℕ) (Odd : List Taking → Type 0) (Lasts : Type 0) where
         by found true = goes
         by found false = calm_release (socket_id_slot id) (λ _. gone found) (λ _. after found)
 
-    set_failed_calm : (code : ℕ) (next : ℕ → Program) → Odd h → ((found : ℕ) → C (next found)) → Calm true h (set_failed id code next)
-    set_failed_calm code next odd after = (refl, odd, refl, λ found. either_way (vref_version found % 2 == 0) _ _ C (λ _ _. after found) (after found))
+    set_failed_calm : (code : ℕ) (next : ℕ → Program) → Codes h code → ((found : ℕ) → C (next found)) → Calm true h (set_failed id code next)
+    set_failed_calm code next codes after = (refl, codes.0, refl, λ found. either_way (vref_version found % 2 == 0) _ _ C (codes, refl, refl, λ _ _. after found) (after found))
 
     thrown_calm : (how : Ended) → how.reading.link ≡ k → C (thrown_away how)
     thrown_calm how own = either_way (how.fault && nat_lt how.reading.total LIMIT) (Round (Discards how.reading.link how.reading.total) (λ _. Rest)) Rest C (own, λ n h'. tt) tt
@@ -221,9 +226,9 @@ module _ (k id : ℕ) (Odd : List Taking → Type 0) (Lasts : Type 0) where
         where
           by : (b : Bool) → nat_lt (r.total + length bytes) LIMIT ≡ b → Calm false (h ++ Bytes bytes ∷ []) (cond b (Round (Reads (with_rest bytes kept n)) next) (next (ended_by 1014 false false (with_rest bytes kept n))))
           by true less = (record { link = at.link; own = at.own; total = more_total bytes; tied = λ more f. all_tied bytes more (fault_follows (r.rest ++ bytes) more n is f) }, goes)
-          by false most = goes (ended_by 1014 false false (with_rest bytes kept n)) (h ++ Bytes bytes ∷ []) ((λ _. ends.most (h ++ Bytes bytes ∷ []) (let l = ltb-false (r.total + length bytes) LIMIT most in let t = more_total bytes in omega (arith, l, t))), at.link, at.own)
-      read_on_calm kept bytes (streams.Fault start fault) is = goes (ended_by 2002 false true (with_more bytes kept)) (h ++ Bytes bytes ∷ [])
-          ((λ _. ends.fault (h ++ Bytes bytes ∷ []) (subst (Faults 0) (append-nil (given_by (h ++ Bytes bytes ∷ []))) (all_tied bytes [] (subst (Faults 0) (sym (append-nil (r.rest ++ bytes))) (start, fault, is))))), at.link, at.own)
+          by false most = goes (ended_by 1014 false false (with_rest bytes kept n)) (h ++ Bytes bytes ∷ []) ((λ _. (ends.most (h ++ Bytes bytes ∷ []) (let l = ltb-false (r.total + length bytes) LIMIT most in let t = more_total bytes in omega (arith, l, t)), inl refl)), at.link, at.own)
+      read_on_calm kept bytes (streams.Fault start fault) is = let faulty : Faults 0 (given_by (h ++ Bytes bytes ∷ [])) = subst (Faults 0) (append-nil (given_by (h ++ Bytes bytes ∷ []))) (all_tied bytes [] (subst (Faults 0) (sym (append-nil (r.rest ++ bytes))) (start, fault, is))) in
+          goes (ended_by 2002 false true (with_more bytes kept)) (h ++ Bytes bytes ∷ []) ((λ _. (ends.fault (h ++ Bytes bytes ∷ []) faulty, inr (refl, faulty))), at.link, at.own)
 
       took_calm : (t : Taking) → (t ≡ NoMore → Lasts) → Calm false (h ++ t ∷ []) (took r next t)
       took_calm (Bytes bytes) some_ = calm_responses (h ++ Bytes bytes ∷ []) r.ids (streams.stream (r.rest ++ bytes)).frames r.kept (λ kept. read_on (with_more bytes kept) (r.rest ++ bytes) (streams.stream (r.rest ++ bytes)).ending next)
@@ -232,10 +237,10 @@ module _ (k id : ℕ) (Odd : List Taking → Type 0) (Lasts : Type 0) where
         record { link = at.link; own = at.own; total = at.total ∙ ap length (sym (gave_none h Nothing refl)); tied = λ more f. subst (λ l. Faults 0 (l ++ more)) (sym (gave_none h Nothing refl)) (at.tied more f) },
         goes,
       )
-      took_calm NoMore some_ = goes (ended_by 1014 false false r) (h ++ NoMore ∷ []) ((λ _. ends.no_more (some_ refl) h), at.link, at.own)
-      took_calm AtEnd some_ = goes (ended_by 1014 false false r) (h ++ AtEnd ∷ []) ((λ _. ends.at_end h), at.link, at.own)
+      took_calm NoMore some_ = goes (ended_by 1014 false false r) (h ++ NoMore ∷ []) ((λ _. (ends.no_more (some_ refl) h, inl refl)), at.link, at.own)
+      took_calm AtEnd some_ = goes (ended_by 1014 false false r) (h ++ AtEnd ∷ []) ((λ _. (ends.at_end h, inl refl)), at.link, at.own)
       took_calm Closed some_ = goes (ended_by 1014 true false r) (h ++ Closed ∷ []) ((λ e. absurd (true≢false e)), at.link, at.own)
-      took_calm Broken some_ = goes (ended_by 1014 false false r) (h ++ Broken ∷ []) ((λ _. ends.broken h), at.link, at.own)
+      took_calm Broken some_ = goes (ended_by 1014 false false r) (h ++ Broken ∷ []) ((λ _. (ends.broken h, inl refl)), at.link, at.own)
 
     discarded_calm : (h : List Taking) (l total : ℕ) (next : ℕ → Program) → l ≡ k → ((n : ℕ) (h' : List Taking) → Calm false h' (next n)) → (t : Taking) → Calm false (h ++ t ∷ []) (discarded l total next t)
     discarded_calm h l total next own goes (Bytes bytes) = either_way (nat_lt (total + length bytes) LIMIT) (Round (Discards l (total + length bytes)) next) (next (total + length bytes)) (Calm false (h ++ Bytes bytes ∷ [])) (own, goes) (goes (total + length bytes) (h ++ Bytes bytes ∷ []))
@@ -312,6 +317,7 @@ module _ (k id : ℕ) (Odd : List Taking → Type 0) (Lasts : Type 0) where
 
   pub calm_step : (held : Bool) (h : List Taking) (call : Call) (next : ℕ → Program) → Calm held h (Do call next) → IsCalmCall call × ((found : ℕ) → Behind h call (next found) found)
   calm_step held h (SetOdd i) next x = (tt, λ found. record { held = false; calm = x.3 found; got = λ e. absurd (true≢false (sym e)) })
+  calm_step held h (StoreCode i v code) next x = (tt, λ found. record { held = false; calm = x.3 found; got = λ e. absurd (true≢false (sym e)) })
   calm_step held h (AddRef y) next x = (tt, λ found. record { held = vref_version found == socket_id_version id; calm = x.1 found; got = λ e. (ap AddRef x.0, e) })
   calm_step held h (SwapHead i own) next x = absurd x
   calm_step held h (GiveBirth i l) next x = absurd x
@@ -330,3 +336,7 @@ module _ (k id : ℕ) (Odd : List Taking → Type 0) (Lasts : Type 0) where
   -- where the program is to set a socket failed, it has just got its reference
   pub sets_odd : (held : Bool) (h : List Taking) (i : ℕ) (next : ℕ → Program) → Calm held h (Do (SetOdd i) next) → (held ≡ true) × Odd h × (i ≡ socket_id_slot id)
   sets_odd held h i next x = (x.0, x.1, x.2)
+
+  -- a code that it stores is its own socket's, by how the reading ended
+  pub stores_code : (held : Bool) (h : List Taking) (i v code : ℕ) (next : ℕ → Program) → Calm held h (Do (StoreCode i v code) next) → Codes h code × (i ≡ socket_id_slot id) × (v ≡ socket_id_version id)
+  stores_code held h i v code next x = (x.0, x.1, x.2)
