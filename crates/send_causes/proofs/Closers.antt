@@ -18,8 +18,10 @@ use Rattle.sock_programs.specs.Readers.{LIMIT, ending_of, slot_in, version_in, h
 use Rattle.sock_programs.specs.Rounds.{round}
 use Rattle.sock_programs.specs.Cores.{resolved, next_step}
 use Rattle.sock_runs.specs.Sound.{first_step}
+use Rattle.sock_causes.specs.Stories.{In}
+use Rattle.sock_causes.proofs.Plain.{in_left, in_right}
 use Rattle.whole_runs.specs.Heard.{bytes_found, given_by}
-use Rattle.send_causes.proofs.Faults.{Faults, fault_follows}
+use Rattle.send_causes.proofs.Faults.{Faults, fault_stays, fault_follows}
 
 -- ## What takes gave
 
@@ -28,6 +30,20 @@ gave_more h bytes = flat_map-append bytes_found h (Bytes bytes ∷ []) ∙ ap (�
 
 gave_none : (h : List Taking) (t : Taking) → bytes_found t ≡ [] → given_by (h ++ t ∷ []) ≡ given_by h
 gave_none h t e = flat_map-append bytes_found h (t ∷ []) ∙ ap (λ l. given_by h ++ (l ++ [])) e ∙ append-nil (given_by h)
+
+-- the code with which a reading ends that wasn't closed, by these takes
+abbrev pub Codes : List Taking → ℕ → Type 0
+Codes h code = ((code ≡ 1014) × (In AtEnd h ⊎ (In Broken h ⊎ (In NoMore h ⊎ (LIMIT ≤ length (given_by h)))))) ⊎ ((code ≡ 2002) × Faults 0 (given_by h))
+
+pub codes_more : (h later : List Taking) (code : ℕ) → Codes h code → Codes (h ++ later) code
+codes_more h later code (inl (e, inl m)) = inl (e, inl (in_left h later AtEnd m))
+codes_more h later code (inl (e, inr (inl m))) = inl (e, inr (inl (in_left h later Broken m)))
+codes_more h later code (inl (e, inr (inr (inl m)))) = inl (e, inr (inr (inl (in_left h later NoMore m))))
+codes_more h later code (inl (e, inr (inr (inr l)))) = inl (e, inr (inr (inr (let z : length (given_by (h ++ later)) ≡ length (given_by h) + length (given_by later) = ap length (flat_map-append bytes_found h later) ∙ length-append (given_by h) (given_by later) in omega (arith, z, l)))))
+codes_more h later code (inr (e, f)) = inr (e, subst (Faults 0) (sym (flat_map-append bytes_found h later)) (fault_stays 0 (given_by h) (given_by later) f))
+
+last_in : (h : List Taking) (t : Taking) → In t (h ++ t ∷ [])
+last_in h t = in_right h (t ∷ []) t (inl refl)
 
 -- ## Programs
 
@@ -39,12 +55,8 @@ module _ (k id : ℕ) (Odd : List Taking → Type 0) (Lasts : Type 0) where
     pub total : r.total ≡ length (given_by h)
     pub tied : (more : List ℕ) → Faults 0 (r.rest ++ more) → Faults 0 (given_by h ++ more)
 
-  -- the code with which the reading ended
-  abbrev pub Codes : List Taking → ℕ → Type 0
-  Codes h code = Odd h × ((code ≡ 1014) ⊎ ((code ≡ 2002) × Faults 0 (given_by h)))
-
   abbrev pub EndsSo : List Taking → Ended → Type 0
-  EndsSo h how = (how.closed ≡ false → Codes h how.code) × (how.reading.link ≡ k) × (how.reading.id ≡ id)
+  EndsSo h how = (how.closed ≡ false → Odd h × Codes h how.code) × (how.reading.link ≡ k) × (how.reading.id ≡ id)
 
   -- behind these takes, where the seat has just got a reference to the life or not
   abbrev pub Calm : Bool → List Taking → Program → Type 0
@@ -170,8 +182,8 @@ module _ (k id : ℕ) (Odd : List Taking → Type 0) (Lasts : Type 0) where
         by found true = goes
         by found false = calm_release (socket_id_slot id) (λ _. gone found) (λ _. after found)
 
-    set_failed_calm : (code : ℕ) (next : ℕ → Program) → Codes h code → ((found : ℕ) → C (next found)) → Calm true h (set_failed id code next)
-    set_failed_calm code next codes after = (refl, codes.0, refl, λ found. either_way (vref_version found % 2 == 0) _ _ C (codes, refl, refl, λ _ _. after found) (after found))
+    set_failed_calm : (code : ℕ) (next : ℕ → Program) → Odd h × Codes h code → ((found : ℕ) → C (next found)) → Calm true h (set_failed id code next)
+    set_failed_calm code next codes after = (refl, codes.0, refl, λ found. either_way (vref_version found % 2 == 0) _ _ C (codes.1, refl, refl, λ _ _. after found) (after found))
 
     thrown_calm : (how : Ended) → how.reading.link ≡ k → C (thrown_away how)
     thrown_calm how own = either_way (how.fault && nat_lt how.reading.total LIMIT) (Round (Discards how.reading.link how.reading.total) (λ _. Rest)) Rest C (own, λ n h'. tt) tt
@@ -213,6 +225,9 @@ module _ (k id : ℕ) (Odd : List Taking → Type 0) (Lasts : Type 0) where
       more_total : (bytes : List ℕ) → r.total + length bytes ≡ length (given_by (h ++ Bytes bytes ∷ []))
       more_total bytes = let a = at.total in let b = ap length (gave_more h bytes) in let d = length-append (given_by h) bytes in omega (arith, a, b, d)
 
+      all_read : (bytes : List ℕ) → nat_lt (r.total + length bytes) LIMIT ≡ false → LIMIT ≤ length (given_by (h ++ Bytes bytes ∷ []))
+      all_read bytes most = let l = ltb-false (r.total + length bytes) LIMIT most in let t = more_total bytes in omega (arith, l, t)
+
       -- a fault of the rest with what came is one of all that came
       all_tied : (bytes more : List ℕ) → Faults 0 ((r.rest ++ bytes) ++ more) → Faults 0 (given_by (h ++ Bytes bytes ∷ []) ++ more)
       all_tied bytes more f = subst (λ l. Faults 0 (l ++ more)) (sym (gave_more h bytes))
@@ -226,7 +241,7 @@ module _ (k id : ℕ) (Odd : List Taking → Type 0) (Lasts : Type 0) where
         where
           by : (b : Bool) → nat_lt (r.total + length bytes) LIMIT ≡ b → Calm false (h ++ Bytes bytes ∷ []) (cond b (Round (Reads (with_rest bytes kept n)) next) (next (ended_by 1014 false false (with_rest bytes kept n))))
           by true less = (record { link = at.link; own = at.own; total = more_total bytes; tied = λ more f. all_tied bytes more (fault_follows (r.rest ++ bytes) more n is f) }, goes)
-          by false most = goes (ended_by 1014 false false (with_rest bytes kept n)) (h ++ Bytes bytes ∷ []) ((λ _. (ends.most (h ++ Bytes bytes ∷ []) (let l = ltb-false (r.total + length bytes) LIMIT most in let t = more_total bytes in omega (arith, l, t)), inl refl)), at.link, at.own)
+          by false most = goes (ended_by 1014 false false (with_rest bytes kept n)) (h ++ Bytes bytes ∷ []) ((λ _. (ends.most (h ++ Bytes bytes ∷ []) (all_read bytes most), inl (refl, inr (inr (inr (all_read bytes most)))))), at.link, at.own)
       read_on_calm kept bytes (streams.Fault start fault) is = let faulty : Faults 0 (given_by (h ++ Bytes bytes ∷ [])) = subst (Faults 0) (append-nil (given_by (h ++ Bytes bytes ∷ []))) (all_tied bytes [] (subst (Faults 0) (sym (append-nil (r.rest ++ bytes))) (start, fault, is))) in
           goes (ended_by 2002 false true (with_more bytes kept)) (h ++ Bytes bytes ∷ []) ((λ _. (ends.fault (h ++ Bytes bytes ∷ []) faulty, inr (refl, faulty))), at.link, at.own)
 
@@ -237,10 +252,10 @@ module _ (k id : ℕ) (Odd : List Taking → Type 0) (Lasts : Type 0) where
         record { link = at.link; own = at.own; total = at.total ∙ ap length (sym (gave_none h Nothing refl)); tied = λ more f. subst (λ l. Faults 0 (l ++ more)) (sym (gave_none h Nothing refl)) (at.tied more f) },
         goes,
       )
-      took_calm NoMore some_ = goes (ended_by 1014 false false r) (h ++ NoMore ∷ []) ((λ _. (ends.no_more (some_ refl) h, inl refl)), at.link, at.own)
-      took_calm AtEnd some_ = goes (ended_by 1014 false false r) (h ++ AtEnd ∷ []) ((λ _. (ends.at_end h, inl refl)), at.link, at.own)
+      took_calm NoMore some_ = goes (ended_by 1014 false false r) (h ++ NoMore ∷ []) ((λ _. (ends.no_more (some_ refl) h, inl (refl, inr (inr (inl (last_in h NoMore)))))), at.link, at.own)
+      took_calm AtEnd some_ = goes (ended_by 1014 false false r) (h ++ AtEnd ∷ []) ((λ _. (ends.at_end h, inl (refl, inl (last_in h AtEnd)))), at.link, at.own)
       took_calm Closed some_ = goes (ended_by 1014 true false r) (h ++ Closed ∷ []) ((λ e. absurd (true≢false e)), at.link, at.own)
-      took_calm Broken some_ = goes (ended_by 1014 false false r) (h ++ Broken ∷ []) ((λ _. (ends.broken h, inl refl)), at.link, at.own)
+      took_calm Broken some_ = goes (ended_by 1014 false false r) (h ++ Broken ∷ []) ((λ _. (ends.broken h, inl (refl, inr (inl (last_in h Broken))))), at.link, at.own)
 
     discarded_calm : (h : List Taking) (l total : ℕ) (next : ℕ → Program) → l ≡ k → ((n : ℕ) (h' : List Taking) → Calm false h' (next n)) → (t : Taking) → Calm false (h ++ t ∷ []) (discarded l total next t)
     discarded_calm h l total next own goes (Bytes bytes) = either_way (nat_lt (total + length bytes) LIMIT) (Round (Discards l (total + length bytes)) next) (next (total + length bytes)) (Calm false (h ++ Bytes bytes ∷ [])) (own, goes) (goes (total + length bytes) (h ++ Bytes bytes ∷ []))
