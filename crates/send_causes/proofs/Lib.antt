@@ -23,3 +23,4 @@ pub mod Firsts
 pub mod FirstRuns
 pub mod Beside
 pub mod EndedReads
+pub mod EndedTicks
