@@ -24,3 +24,4 @@ pub mod FirstRuns
 pub mod Beside
 pub mod EndedReads
 pub mod EndedTicks
+pub mod EndedRuns
