@@ -79,7 +79,7 @@ module _ (p : Plan) (calls os : List ℕ) (in_os : (k o : ℕ) → get_elem? os 
         by_seat true e there = by_state (leb-true 32 m.seat e) there (get_elem? c.seats m.seat) refl
         by_seat false e there = absurd there
 
-    more_post : (h later : ℕ → List Taking) (x : Post) → IsPostOf h x → IsPostOf (λ n. h n ++ later n) x
+    pub more_post : (h later : ℕ → List Taking) (x : Post) → IsPostOf h x → IsPostOf (λ n. h n ++ later n) x
     more_post h later x r = record { link = r.link; inside = r.inside; may = post_more r.link (Seen r.link) (h r.link) (later r.link) x.id x.error r.may }
 
     module _ (Q : ℕ → ℕ → Type 0) (go : RetriesGo p) where

@@ -25,3 +25,4 @@ pub mod Beside
 pub mod EndedReads
 pub mod EndedTicks
 pub mod EndedRuns
+pub mod EndedWhole
