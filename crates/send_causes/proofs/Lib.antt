@@ -26,3 +26,6 @@ pub mod EndedReads
 pub mod EndedTicks
 pub mod EndedRuns
 pub mod EndedWhole
+pub mod EndedTrails
+pub mod EndedLoops
+pub mod EndedPrograms
