@@ -29,3 +29,4 @@ pub mod EndedWhole
 pub mod EndedTrails
 pub mod EndedLoops
 pub mod EndedPrograms
+pub mod EndedNames

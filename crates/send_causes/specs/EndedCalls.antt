@@ -7,7 +7,7 @@ use Rattle.brpc_model.specs.Causes.{HasFault}
 use Rattle.brpc_model.specs.Items.{Item}
 use Rattle.brpc_model.specs.Operations.{Turn}
 use Rattle.corr_core.specs.Word.{error_of}
-use Rattle.sock_programs.specs.Asides.{Step, Found, LoadAt, Taking, call_id}
+use Rattle.sock_programs.specs.Asides.{Step, Found, StoreAt, LoadAt, Taking, call_id}
 use Rattle.sock_programs.specs.Beside.{found_in}
 use Rattle.sock_programs.specs.Programs.{Program, Aside}
 use Rattle.sock_programs.specs.Cores.{Calls, Core}
@@ -68,3 +68,19 @@ module _ (script : List Item) (turns : List Turn) (end_ : Core) (is : IsRunWithC
     pub id : x.id ≡ call_id (at_word_slot word) (at_word_first word)
     pub error : x.error ≡ error_of code (at_word_attempt word)
     pub ended : EndedSo k code
+
+-- ## At words that were stored
+
+pub record Store : Type 0 where
+  pub operation : ℕ
+  pub word : ℕ
+
+abbrev pub stores_by : Program → List Store
+stores_by (Aside (StoreAt o w) next) = (record { operation = o; word = w }) ∷ []
+stores_by other = []
+
+abbrev pub stored_at : Core → Moment → List Store
+stored_at c m = elim (get_elem? c.seats m.seat) as (λ o. List Store) [ none ↦ [] | some seat ↦ stores_by (first_step seat.program) ]
+
+abbrev pub stores_of_run : (script : List Item) (turns : List Turn) (end_ : Core) → IsRunWithCalls script turns end_ → List Store
+stores_of_run script turns end_ is = shows_in_run script turns end_ is stored_at
