@@ -30,3 +30,4 @@ pub mod EndedTrails
 pub mod EndedLoops
 pub mod EndedPrograms
 pub mod EndedNames
+pub mod EndedNamed
