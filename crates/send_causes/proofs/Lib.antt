@@ -50,3 +50,12 @@ pub mod RefusedGone
 pub mod RefusedMeans
 pub mod RefusedWhys
 pub mod DropPosts
+pub mod EndedReads
+pub mod EndedTicks
+pub mod EndedRuns
+pub mod EndedWhole
+pub mod EndedTrails
+pub mod EndedLoops
+pub mod EndedPrograms
+pub mod EndedNames
+pub mod EndedNamed
