@@ -42,6 +42,7 @@ pub mod DropRuns
 pub mod DropWhole
 pub mod DropOfRun
 pub mod DropCauses
+pub mod DropEnds
 pub mod RefusedTicks
 pub mod RefusedPosts
 pub mod RefusedRuns
