@@ -40,6 +40,7 @@ use Rattle.sock_runs.specs.GoesOn.{GoesOn, HasNothing}
 use Rattle.sock_model.specs.References.{slot_facts}
 use Rattle.sock_model.specs.Slots.{SlotLaw, live}
 use Rattle.slot_laws.proofs.Clauses.{taken_for}
+use Rattle.sock_runs.proofs.LinksStay.{IsGiven}
 use Rattle.sock_runs.proofs.Whole.{views_ended, ended_sound, end_rests}
 use Rattle.sock_causes.specs.Causes.{WasGiven, Cause}
 use Rattle.sock_causes.specs.Explains.{FailsLife, FailsLink, is_plain, step}
@@ -103,13 +104,13 @@ module _ (script : List Item) (made : AreMade script) (turns : List Turn) (core 
   TellsHere es deed = Tells p (id_plan_of script) (IsCallOf script) ids_here told core es deed
 
   -- the story to the end of the run, and what the deeds of the run tell
-  record EndStory : Type 0 where
+  pub record EndStory : Type 0 where
     pub events : List Event
     pub lost : List ℕ
     pub story : Story p told true core views events lost
     pub tells : (seat : ℕ) (deed : Deed) → DidInRun script turns core is seat deed → TellsHere events deed
 
-  ends : EndStory
+  pub ends : EndStory
   ends = let runs = joint_runs script turns core is made in let b = joint_bounded script turns core is made runs in
       let s = whole.story_end script made.are (first_views script) (start script made turns core is) fresh bare (go script made turns core is) turns core is (fitting script made turns core is) (narrow script made turns core is closes)
       ids_here (labelled script made turns core is closes) _ _ b.setup b.clients b.closing b.final in record {
@@ -242,6 +243,15 @@ module _ (script : List Item) (made : AreMade script) (turns : List Turn) (core 
   its_link j h k code given f = let g = given_made p told core.outcomes ends.lost orders ends.events world j h k given in
       (one_life p told core.outcomes ends.lost orders ends.events world f.name g.0 f.link k j h (made_down (all_tasks script) (length (opens script)) core.outcomes f.name f.link j h f.life) g.1).1
 
+  -- a life has one link
+  pub one_given : (j h k l : ℕ) → WasGiven ends.events j h k → WasGiven ends.events j h l → k ≡ l
+  one_given j h k l a b = let g = given_made p told core.outcomes ends.lost orders ends.events world j h k a in let g' = given_made p told core.outcomes ends.lost orders ends.events world j h l b in
+      (one_life p told core.outcomes ends.lost orders ends.events world g.0 g'.0 k l j h g.1 g'.1).1
+
+  -- that it was given its link the story knows
+  pub story_given : (j h k : ℕ) → j < p.slots → IsGiven core views j h k → WasGiven ends.events j h k
+  story_given j h k inside given = let s = ends.story in let tie = s.links j inside h k in omega (arith, tie, given)
+
   -- ## Steps of the run
 
   -- a call is none of the tasks that are told
@@ -274,6 +284,8 @@ module _ (script : List Item) (made : AreMade script) (turns : List Turn) (core 
     pub few : attempt_of x.error ≤ 6
     pub link : ℕ
     pub dropped : IsDroppedOn task.number (attempt_of x.error) link
+    -- the life of the link whose code was found
+    pub found : (code_of x.error ≡ 1009) ⊎ ((seat slot version : ℕ) × DidInRun script turns core is seat (DidStep (LoadCode slot version) (code_of x.error)) × (code_of x.error ≢ 0) × WasGiven ends.events slot version link)
     -- whose code it is
     pub code : IsOtherCode (code_of x.error) ⊎ IsFailedOn link (code_of x.error)
 
@@ -291,6 +303,17 @@ module _ (script : List Item) (made : AreMade script) (turns : List Turn) (core 
     dropped = subst (λ z. IsDroppedOn z (attempt_of x.error) d.holder.link) (sym number) (subst (λ z. IsDroppedOn heading.operation z d.holder.link) (sym attempt)
         (dropped_by heading.operation heading.attempt heading.place d.holder.link d.holder.places (ends.tells seat (DidStep (DropPlace heading.place d.holder.link d.holder.places) d.found) (all_in (DidInRun script turns core is seat) deeds (DidStep (DropPlace heading.place d.holder.link d.holder.places) d.found) did d.drop))
         calls.spoken calls.few calls.place));
+    found = dite (ℕ_discrete code 0)
+        (λ z. inl (code_is ∙ ap (λ b. if b then 1009 else code) (eq-eqb code 0 z)))
+        (λ n. let same : code_of x.error ≡ code = code_is ∙ ap (λ b. if b then 1009 else code) (ne_eqb code 0 n) in inr (
+        seat,
+        socket_id_slot d.holder.id,
+        socket_id_version d.holder.id,
+        subst (λ z. DidInRun script turns core is seat (DidStep (LoadCode (socket_id_slot d.holder.id) (socket_id_version d.holder.id)) z)) (sym same)
+            (all_in (DidInRun script turns core is seat) deeds (DidStep (LoadCode (socket_id_slot d.holder.id) (socket_id_version d.holder.id)) code) did d.load),
+        λ z. n (sym same ∙ z),
+        round.0,
+        ));
     code = subst (λ z. IsOtherCode z ⊎ IsFailedOn d.holder.link z) (sym code_is) whose;
   }
     where

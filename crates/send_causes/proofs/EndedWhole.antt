@@ -94,7 +94,7 @@ module _ (script : List Item) (made : AreMade script) (turns : List Turn) (core 
 
   -- ## The parts of the run
 
-  opened_keeps : K (opened script) (first_views script) (λ n. [])
+  pub opened_keeps : K (opened script) (first_views script) (λ n. [])
   opened_keeps = record {
     readers = λ n o at seat v at_seat at_view. (opening_rights (plan_of script) (all_seats (all_tasks script) (length (opens script))) (32 + n) v at_view, inl (begins_at n o at seat at_seat, refl));
     clients = λ j low seat at. let x = mapped (λ (program : Program). record { program = next_step (resolved [] program); hand = [] }) (all_programs first (readers_from (calls script) 0 (opens script))) j seat at in
@@ -109,25 +109,25 @@ module _ (script : List Item) (made : AreMade script) (turns : List Turn) (core 
   opened_told n seat at = let o = at_some (opens script) n (let l = place_inside (opened script).seats (32 + n) seat at in let m = opened_seats script (let k = known script made turns core is in k.few) in omega (arith, l, m)) in
       subst (Tells n (Seen (plan_of script) (calls script) (opens script) (let k = known script made turns core is in k.in_script) (loads_of_run script turns core is) n) []) (sym (begins_at n o.0 o.1 seat at)) (reader_tells n (Seen (plan_of script) (calls script) (opens script) (let k = known script made turns core is in k.in_script) (loads_of_run script turns core is) n) (calls script) o.0)
 
-  abbrev in_setup : List Moment
+  abbrev pub in_setup : List Moment
   in_setup = replicate is.setup (quiet 0)
 
-  abbrev in_clients : List Moment
+  abbrev pub in_clients : List Moment
   in_clients = is.scheduled ++ is.later
 
-  abbrev in_closing : List Moment
+  abbrev pub in_closing : List Moment
   in_closing = replicate is.last (quiet 0)
 
-  abbrev h₁ : ℕ → List Taking
+  abbrev pub h₁ : ℕ → List Taking
   h₁ n = [] ++ F (opened script) in_setup n
 
-  abbrev h₂ : ℕ → List Taking
+  abbrev pub h₂ : ℕ → List Taking
   h₂ n = h₁ n ++ F (set_up script is.setup) in_clients n
 
-  abbrev h₃ : ℕ → List Taking
+  abbrev pub h₃ : ℕ → List Taking
   h₃ n = h₂ n ++ F (closing_of script turns core is) in_closing n
 
-  abbrev h₄ : ℕ → List Taking
+  abbrev pub h₄ : ℕ → List Taking
   h₄ n = h₃ n ++ F is.ended is.final n
 
   -- what the parts load
@@ -171,7 +171,7 @@ module _ (script : List Item) (made : AreMade script) (turns : List Turn) (core 
       (recorded_set_up script made.are (first_views script) (start script made turns core is) (go script made turns core is) turns core is (fitting script made turns core is)) (λ e. tt) set_up_keeps
 
   -- seat 0 alone gets a program for the ending
-  closing_keeps : K (closing_of script turns core is) (views_played script turns core is (first_views script)) h₂
+  pub closing_keeps : K (closing_of script turns core is) (views_played script turns core is (first_views script)) h₂
   closing_keeps = let k = played_keeps in record {
     readers = λ n o at seat v at_seat at_view. k.readers n o at seat v (sym (set_else (played script is.setup in_clients).seats 0 (32 + n) _ (λ e. let z : ⊥ = omega (arith, e) in z)) ∙ at_seat) at_view;
     clients = λ j low seat at. ⊎_elim (λ a. subst (λ (s : SeatState). NoTakes s.program) a.1 (takes_next _ (ending_of (opens script)) (ending_takes (opens script)))) (λ a. k.clients j low seat a.1) (at_set (played script is.setup in_clients).seats 0 j _ seat at);
@@ -195,7 +195,7 @@ module _ (script : List Item) (made : AreMade script) (turns : List Turn) (core 
       (recorded_closing script made.are (first_views script) (start script made turns core is) (go script made turns core is) turns core is (fitting script made turns core is)) (λ e. tt) closing_keeps
 
   -- that the run is ending the seats don't see
-  closed_keeps : K is.ended (views_closed script turns core is (first_views script)) h₃
+  pub closed_keeps : K is.ended (views_closed script turns core is (first_views script)) h₃
   closed_keeps = subst (λ d. K d (views_closed script turns core is (first_views script)) h₃) (sym is.is_ended) (let k = run_keeps in record { readers = k.readers; clients = k.clients; many = k.many })
 
   closed_told : T h₃ is.ended
@@ -308,7 +308,7 @@ module _ (script : List Item) (made : AreMade script) (turns : List Turn) (core 
     ended_early (inr (inr (inl l))) = spoilt (either (is_fault script turns core is (stream (given core k)).ending) (nat_le LIMIT (length (given core k))) (le-leb LIMIT (length (given core k)) (let e = ap length same in omega (arith, e, l))))
     ended_early (inr (inr (inr m))) = by_take Broken m refl
 
-    ended_so : (code : ℕ) → WasOver code (h₄ k) → EndedSo script turns core is k code
+    pub ended_so : (code : ℕ) → WasOver code (h₄ k) → EndedSo script turns core is k code
     ended_so code (inl (e, inl x)) = inl (e, inl (ended_early x))
     ended_so code (inl (e, inr (inl m))) = inl (e, inr (inl (listed (found_so script turns core is (is_closed script turns core is)) k low (found_here (is_closed script turns core is) k Closed m refl))))
     ended_so code (inl (e, inr (inr m))) = inl (e, inr (inr (listed (found_so script turns core is (is_no_more script turns core is)) k low (found_here (is_no_more script turns core is) k NoMore m refl))))
