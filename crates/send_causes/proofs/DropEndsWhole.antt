@@ -34,14 +34,14 @@ use Rattle.sock_causes.specs.Stories.{In}
 use Rattle.client_laws.proofs.Beginning as clients_begin
 use Rattle.joint_runs.proofs.Runs.{AreMade, first_views}
 use Rattle.owed_calls.proofs.WordsGiven.{Named, run_named, named_ending, named_on}
-use Rattle.send_causes.specs.Refused.{DidStep, DidInRun}
+use Rattle.send_causes.specs.Refused.{DidStep, DidEarly, DidInRun}
 use Rattle.send_causes.proofs.DropCodes.{Failing, NoFail, Fails, Stores, OwnsFail, client_codes, ending_codes, codes_next}
 use Rattle.send_causes.proofs.DropEnds.{StoresThose, EndsLaw, EndsAlong, Whose, ends_along}
 use Rattle.send_causes.proofs.DropWhole.{get_same}
 use Rattle.send_causes.proofs.Early.{Any, ends_anyhow, start, go, fitting, known, named_set_up, before_readers}
 use Rattle.send_causes.proofs.EndedWhole.{opened_keeps, closing_keeps, closed_keeps, h₁, h₂, h₃, h₄, in_setup, in_clients, in_closing}
 
-module _ (script : List Item) (made : AreMade script) (turns : List Turn) (core : Core) (is : IsRunWithCalls script turns core) (P : ℕ → Type 0) (gone : P 1009) (over : P 1014)
+module _ (script : List Item) (made : AreMade script) (turns : List Turn) (core : Core) (is : IsRunWithCalls script turns core) (P : ℕ → Type 0) (gone : P 1009)
     (fits : (j : ℕ) (ts : List Task) → slice_get (all_tasks script) j ≡ Some ts → (t : Task) → In t ts → (name code : ℕ) → t.op ≡ ops.Fail name code → P code) where
   abbrev p : Plan
   p = plan_of script
@@ -121,63 +121,70 @@ module _ (script : List Item) (made : AreMade script) (turns : List Turn) (core 
       (set_up_sound script made.are (first_views script) (start script made turns core is) (go script made turns core is) turns core is (fitting script made turns core is)) is.answered (let f = fitting script made turns core is in f.of_played)
       (recorded_set_up script made.are (first_views script) (start script made turns core is) (go script made turns core is) turns core is (fitting script made turns core is)) tt setup_goes.after
 
-  closing_law : L (closing_of script turns core is) (views_played script turns core is (first_views script)) (h₂ script made turns core is)
-  closing_law = let l = clients_go.after in record {
-    keeps = closing_keeps script made turns core is;
-    clients = λ j low. dite (ℕ_discrete j 0) (λ e. subst (λ n. StoresThose P gone n (closing_of script turns core is)) (sym e) here) (λ ne. record {
-      failing = (l.clients j low).failing;
-      program = λ seat at. ⊎_elim (λ b. absurd (ne b.0)) (λ b. (l.clients j low).program seat b.1) (at_set (rested_of script turns core is).seats 0 j _ seat at);
-      has = (l.clients j low).has;
-    });
-    known = λ j h inside even version some_. same_words (rested_of script turns core is) (closing_of script turns core is) refl (h₂ script made turns core is) j h _ (l.known j h inside even version some_);
-  }
-    where
-      here : StoresThose P gone 0 (closing_of script turns core is)
-      here = record {
-        failing = NoFail;
-        program = λ seat at. ⊎_elim (λ b. subst (λ (z : SeatState). Stores (λ o code. P code) P NoFail z.program) b.1 (none_next (waiting_at (rested_of script turns core is).calls.waiting 0) (ending_of (opens script)) (ending_codes (λ o code. P code) P gone over (opens script))))
-            (λ b. absurd (b.0 refl)) (at_set (rested_of script turns core is).seats 0 0 _ seat at);
-        has = tt;
-      }
+  -- whose a code is that was found before the ending
+  pub whose_early : (seat i v code : ℕ) → DidEarly script turns core is seat (DidStep (LoadCode i v) code) → code ≢ 0 → WhoseIn (rested_of script turns core is) (h₂ script made turns core is) i v code
+  whose_early seat i v code (inl d) some_ = clients_go.stay i v code (setup_goes.told seat i v code d some_)
+  whose_early seat i v code (inr d) some_ = clients_go.told seat i v code d some_
 
-  closing_goes : A (closing_of script turns core is) (views_played script turns core is (first_views script)) (h₂ script made turns core is) (in_closing script made turns core is)
-  closing_goes = ends_along (plan_of script) (calls script) (opens script) (let k = known script made turns core is in k.in_script) Any (Unit {0}) ends_anyhow P gone (IsListed script) (go script made turns core is) (in_closing script made turns core is) (closing_of script turns core is)
-      (views_played script turns core is (first_views script)) (h₂ script made turns core is)
-      (closing_sound script made.are (first_views script) (start script made turns core is) (go script made turns core is) turns core is (fitting script made turns core is))
-      (end_answered script made.are (first_views script) (start script made turns core is) (go script made turns core is) turns core is (fitting script made turns core is)) (let f = fitting script made turns core is in f.of_closing)
-      (recorded_closing script made.are (first_views script) (start script made turns core is) (go script made turns core is) turns core is (fitting script made turns core is)) tt closing_law
+  -- ## The ending
 
-  on_law : (c : Core) (ws : List View) (h : ℕ → List Taking) → L c ws h → L (is_ending c) ws h
-  on_law c ws h l = record {
-    keeps = (let k = l.keeps in record { readers = k.readers; clients = k.clients; many = k.many });
-    clients = λ j low. record { failing = (l.clients j low).failing; program = (l.clients j low).program; has = (l.clients j low).has };
-    known = λ j g inside even version some_. same_words c (is_ending c) refl h j g _ (l.known j g inside even version some_);
-  }
+  module _ (over : P 1014) where
+    closing_law : L (closing_of script turns core is) (views_played script turns core is (first_views script)) (h₂ script made turns core is)
+    closing_law = let l = clients_go.after in record {
+      keeps = closing_keeps script made turns core is;
+      clients = λ j low. dite (ℕ_discrete j 0) (λ e. subst (λ n. StoresThose P gone n (closing_of script turns core is)) (sym e) here) (λ ne. record {
+        failing = (l.clients j low).failing;
+        program = λ seat at. ⊎_elim (λ b. absurd (ne b.0)) (λ b. (l.clients j low).program seat b.1) (at_set (rested_of script turns core is).seats 0 j _ seat at);
+        has = (l.clients j low).has;
+      });
+      known = λ j h inside even version some_. same_words (rested_of script turns core is) (closing_of script turns core is) refl (h₂ script made turns core is) j h _ (l.known j h inside even version some_);
+    }
+      where
+        here : StoresThose P gone 0 (closing_of script turns core is)
+        here = record {
+          failing = NoFail;
+          program = λ seat at. ⊎_elim (λ b. subst (λ (z : SeatState). Stores (λ o code. P code) P NoFail z.program) b.1 (none_next (waiting_at (rested_of script turns core is).calls.waiting 0) (ending_of (opens script)) (ending_codes (λ o code. P code) P gone over (opens script))))
+              (λ b. absurd (b.0 refl)) (at_set (rested_of script turns core is).seats 0 0 _ seat at);
+          has = tt;
+        }
 
-  ended_law : L is.ended (views_closed script turns core is (first_views script)) (h₃ script made turns core is)
-  ended_law = subst (λ c. L c (views_closed script turns core is (first_views script)) (h₃ script made turns core is)) (sym is.is_ended)
-      (on_law (run (plan_of script) (closing_of script turns core is) (in_closing script made turns core is)) (views_closed script turns core is (first_views script)) (h₃ script made turns core is) closing_goes.after)
+    closing_goes : A (closing_of script turns core is) (views_played script turns core is (first_views script)) (h₂ script made turns core is) (in_closing script made turns core is)
+    closing_goes = ends_along (plan_of script) (calls script) (opens script) (let k = known script made turns core is in k.in_script) Any (Unit {0}) ends_anyhow P gone (IsListed script) (go script made turns core is) (in_closing script made turns core is) (closing_of script turns core is)
+        (views_played script turns core is (first_views script)) (h₂ script made turns core is)
+        (closing_sound script made.are (first_views script) (start script made turns core is) (go script made turns core is) turns core is (fitting script made turns core is))
+        (end_answered script made.are (first_views script) (start script made turns core is) (go script made turns core is) turns core is (fitting script made turns core is)) (let f = fitting script made turns core is in f.of_closing)
+        (recorded_closing script made.are (first_views script) (start script made turns core is) (go script made turns core is) turns core is (fitting script made turns core is)) tt closing_law
 
-  final_goes : A is.ended (views_closed script turns core is (first_views script)) (h₃ script made turns core is) is.final
-  final_goes = ends_along (plan_of script) (calls script) (opens script) (let k = known script made turns core is in k.in_script) Any (Unit {0}) ends_anyhow P gone (IsListed script) (go script made turns core is) is.final is.ended
-      (views_closed script turns core is (first_views script)) (h₃ script made turns core is)
-      (closed_sound script made.are (first_views script) (start script made turns core is) (go script made turns core is) turns core is (fitting script made turns core is)) is.answered_again (let f = fitting script made turns core is in f.of_final)
-      (recorded_closed script made.are (first_views script) (start script made turns core is) (go script made turns core is) turns core is (fitting script made turns core is)) tt ended_law
+    on_law : (c : Core) (ws : List View) (h : ℕ → List Taking) → L c ws h → L (is_ending c) ws h
+    on_law c ws h l = record {
+      keeps = (let k = l.keeps in record { readers = k.readers; clients = k.clients; many = k.many });
+      clients = λ j low. record { failing = (l.clients j low).failing; program = (l.clients j low).program; has = (l.clients j low).has };
+      known = λ j g inside even version some_. same_words c (is_ending c) refl h j g _ (l.known j g inside even version some_);
+    }
 
-  -- ## The end
+    ended_law : L is.ended (views_closed script turns core is (first_views script)) (h₃ script made turns core is)
+    ended_law = subst (λ c. L c (views_closed script turns core is (first_views script)) (h₃ script made turns core is)) (sym is.is_ended)
+        (on_law (run (plan_of script) (closing_of script turns core is) (in_closing script made turns core is)) (views_closed script turns core is (first_views script)) (h₃ script made turns core is) closing_goes.after)
 
-  at_end : (i v code : ℕ) → WhoseIn is.ended (h₃ script made turns core is) i v code → WhoseIn core (h₄ script made turns core is) i v code
-  at_end i v code w = subst (λ c. WhoseIn c (h₄ script made turns core is) i v code) (sym is.is_end) (final_goes.stay i v code w)
+    final_goes : A is.ended (views_closed script turns core is (first_views script)) (h₃ script made turns core is) is.final
+    final_goes = ends_along (plan_of script) (calls script) (opens script) (let k = known script made turns core is in k.in_script) Any (Unit {0}) ends_anyhow P gone (IsListed script) (go script made turns core is) is.final is.ended
+        (views_closed script turns core is (first_views script)) (h₃ script made turns core is)
+        (closed_sound script made.are (first_views script) (start script made turns core is) (go script made turns core is) turns core is (fitting script made turns core is)) is.answered_again (let f = fitting script made turns core is in f.of_final)
+        (recorded_closed script made.are (first_views script) (start script made turns core is) (go script made turns core is) turns core is (fitting script made turns core is)) tt ended_law
 
-  at_closed : (i v code : ℕ) → WhoseIn (run (plan_of script) (closing_of script turns core is) (in_closing script made turns core is)) (h₃ script made turns core is) i v code → WhoseIn core (h₄ script made turns core is) i v code
-  at_closed i v code w = at_end i v code (same_words (run (plan_of script) (closing_of script turns core is) (in_closing script made turns core is)) is.ended (ap (λ (c : Core). c.words) (sym is.is_ended)) (h₃ script made turns core is) i v code w)
+    -- ## The end
 
-  at_rested : (i v code : ℕ) → WhoseIn (played script is.setup (is.scheduled ++ is.later)) (h₂ script made turns core is) i v code → WhoseIn core (h₄ script made turns core is) i v code
-  at_rested i v code w = at_closed i v code (closing_goes.stay i v code (same_words (played script is.setup (is.scheduled ++ is.later)) (closing_of script turns core is) refl (h₂ script made turns core is) i v code w))
+    at_end : (i v code : ℕ) → WhoseIn is.ended (h₃ script made turns core is) i v code → WhoseIn core (h₄ script made turns core is) i v code
+    at_end i v code w = subst (λ c. WhoseIn c (h₄ script made turns core is) i v code) (sym is.is_end) (final_goes.stay i v code w)
 
-  -- whose a code is that was found at any time of the run
-  pub whose_of_run : (seat i v code : ℕ) → DidInRun script turns core is seat (DidStep (LoadCode i v) code) → code ≢ 0 → WhoseIn core (h₄ script made turns core is) i v code
-  whose_of_run seat i v code (inl (inl d)) some_ = at_rested i v code (clients_go.stay i v code (setup_goes.told seat i v code d some_))
-  whose_of_run seat i v code (inl (inr d)) some_ = at_rested i v code (clients_go.told seat i v code d some_)
-  whose_of_run seat i v code (inr (inl d)) some_ = at_closed i v code (closing_goes.told seat i v code d some_)
-  whose_of_run seat i v code (inr (inr d)) some_ = subst (λ c. WhoseIn c (h₄ script made turns core is) i v code) (sym is.is_end) (final_goes.told seat i v code d some_)
+    at_closed : (i v code : ℕ) → WhoseIn (run (plan_of script) (closing_of script turns core is) (in_closing script made turns core is)) (h₃ script made turns core is) i v code → WhoseIn core (h₄ script made turns core is) i v code
+    at_closed i v code w = at_end i v code (same_words (run (plan_of script) (closing_of script turns core is) (in_closing script made turns core is)) is.ended (ap (λ (c : Core). c.words) (sym is.is_ended)) (h₃ script made turns core is) i v code w)
+
+    at_rested : (i v code : ℕ) → WhoseIn (played script is.setup (is.scheduled ++ is.later)) (h₂ script made turns core is) i v code → WhoseIn core (h₄ script made turns core is) i v code
+    at_rested i v code w = at_closed i v code (closing_goes.stay i v code (same_words (played script is.setup (is.scheduled ++ is.later)) (closing_of script turns core is) refl (h₂ script made turns core is) i v code w))
+
+    -- whose a code is that was found at any time of the run
+    pub whose_of_run : (seat i v code : ℕ) → DidInRun script turns core is seat (DidStep (LoadCode i v) code) → code ≢ 0 → WhoseIn core (h₄ script made turns core is) i v code
+    whose_of_run seat i v code (inl d) some_ = at_rested i v code (whose_early seat i v code d some_)
+    whose_of_run seat i v code (inr (inl d)) some_ = at_closed i v code (closing_goes.told seat i v code d some_)
+    whose_of_run seat i v code (inr (inr d)) some_ = subst (λ c. WhoseIn c (h₄ script made turns core is) i v code) (sym is.is_end) (final_goes.told seat i v code d some_)

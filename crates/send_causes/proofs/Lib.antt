@@ -43,6 +43,7 @@ pub mod DropWhole
 pub mod DropOfRun
 pub mod DropCauses
 pub mod DropEnds
+pub mod DropEndsCauses
 pub mod DropEndsWhole
 pub mod RefusedTicks
 pub mod RefusedPosts
