@@ -42,6 +42,18 @@ codes_more h later code (inl (e, inr (inr (inl m)))) = inl (e, inr (inr (inl (in
 codes_more h later code (inl (e, inr (inr (inr l)))) = inl (e, inr (inr (inr (let z : length (given_by (h ++ later)) ≡ length (given_by h) + length (given_by later) = ap length (flat_map-append bytes_found h later) ∙ length-append (given_by h) (given_by later) in omega (arith, z, l)))))
 codes_more h later code (inr (e, f)) = inr (e, subst (Faults 0) (sym (flat_map-append bytes_found h later)) (fault_stays 0 (given_by h) (given_by later) f))
 
+-- by these takes a reading has ended
+abbrev pub IsOver : List Taking → Type 0
+IsOver h = (In AtEnd h ⊎ (Faults 0 (given_by h) ⊎ ((LIMIT ≤ length (given_by h)) ⊎ In Broken h))) ⊎ (In Closed h ⊎ In NoMore h)
+
+pub over_more : (h later : List Taking) → IsOver h → IsOver (h ++ later)
+over_more h later (inl (inl m)) = inl (inl (in_left h later AtEnd m))
+over_more h later (inl (inr (inl f))) = inl (inr (inl (subst (Faults 0) (sym (flat_map-append bytes_found h later)) (fault_stays 0 (given_by h) (given_by later) f))))
+over_more h later (inl (inr (inr (inl l)))) = inl (inr (inr (inl (let z : length (given_by (h ++ later)) ≡ length (given_by h) + length (given_by later) = ap length (flat_map-append bytes_found h later) ∙ length-append (given_by h) (given_by later) in omega (arith, z, l)))))
+over_more h later (inl (inr (inr (inr m)))) = inl (inr (inr (inr (in_left h later Broken m))))
+over_more h later (inr (inl m)) = inr (inl (in_left h later Closed m))
+over_more h later (inr (inr m)) = inr (inr (in_left h later NoMore m))
+
 last_in : (h : List Taking) (t : Taking) → In t (h ++ t ∷ [])
 last_in h t = in_right h (t ∷ []) t (inl refl)
 
@@ -56,7 +68,7 @@ module _ (k id : ℕ) (Odd : List Taking → Type 0) (Lasts : Type 0) where
     pub tied : (more : List ℕ) → Faults 0 (r.rest ++ more) → Faults 0 (given_by h ++ more)
 
   abbrev pub EndsSo : List Taking → Ended → Type 0
-  EndsSo h how = (how.closed ≡ false → Odd h × Codes h how.code) × (how.reading.link ≡ k) × (how.reading.id ≡ id)
+  EndsSo h how = (how.closed ≡ false → Odd h × Codes h how.code) × (how.reading.link ≡ k) × (how.reading.id ≡ id) × IsOver h
 
   -- behind these takes, where the seat has just got a reference to the life or not
   abbrev pub Calm : Bool → List Taking → Program → Type 0
@@ -69,7 +81,7 @@ module _ (k id : ℕ) (Odd : List Taking → Type 0) (Lasts : Type 0) where
   Calm held h (Do call next) = (found : ℕ) → Calm false h (next found)
   Calm held h (Say o outcome next) = Calm held h next
   Calm held h (Sent o next) = Calm held h next
-  Calm held h Rest = Unit {0}
+  Calm held h Rest = IsOver h
   Calm held h (TakeMessage q next) = ⊥
   Calm held h (TakeHome l next) = ⊥
   Calm held h (PutHome l n after) = ⊥
@@ -80,7 +92,7 @@ module _ (k id : ℕ) (Odd : List Taking → Type 0) (Lasts : Type 0) where
   Calm held h (Aside step next) = (found : Found step) → Calm false h (next found)
   Calm held h (Round (Opens o) next) = ⊥
   Calm held h (Round (Reads r) next) = IsReading h r × ((how : Ended) (h' : List Taking) → EndsSo h' how → Calm false h' (next how))
-  Calm held h (Round (Discards l total) next) = (l ≡ k) × ((n : ℕ) (h' : List Taking) → Calm false h' (next n))
+  Calm held h (Round (Discards l total) next) = (l ≡ k) × IsOver h × ((n : ℕ) (h' : List Taking) → IsOver h' → Calm false h' (next n))
   Calm held h (Round head next) = (exit : Exit head) → Calm false h (next exit)
   Calm held h (Keep r next) = Calm held h next
   Calm held h (Retries requests after) = ⊥
@@ -185,8 +197,8 @@ module _ (k id : ℕ) (Odd : List Taking → Type 0) (Lasts : Type 0) where
     set_failed_calm : (code : ℕ) (next : ℕ → Program) → Odd h × Codes h code → ((found : ℕ) → C (next found)) → Calm true h (set_failed id code next)
     set_failed_calm code next codes after = (refl, codes.0, refl, λ found. either_way (vref_version found % 2 == 0) _ _ C (codes.1, refl, refl, λ _ _. after found) (after found))
 
-    thrown_calm : (how : Ended) → how.reading.link ≡ k → C (thrown_away how)
-    thrown_calm how own = either_way (how.fault && nat_lt how.reading.total LIMIT) (Round (Discards how.reading.link how.reading.total) (λ _. Rest)) Rest C (own, λ n h'. tt) tt
+    thrown_calm : (how : Ended) → how.reading.link ≡ k → IsOver h → C (thrown_away how)
+    thrown_calm how own over = either_way (how.fault && nat_lt how.reading.total LIMIT) (Round (Discards how.reading.link how.reading.total) (λ _. Rest)) Rest C (own, over, λ n h' ended. ended) over
 
     abbrev last_posts : List ℕ → Ended → Program
     last_posts calls how = post_each calls how.reading.link how.code how.reading.kept (thrown_away how)
@@ -196,7 +208,7 @@ module _ (k id : ℕ) (Odd : List Taking → Type 0) (Lasts : Type 0) where
     read_calm calls how e = by how.closed refl
       where
         lasts : C (last_posts calls how)
-        lasts = calm_post_each calls how.reading.link how.code how.reading.kept (thrown_away how) (thrown_calm how e.1)
+        lasts = calm_post_each calls how.reading.link how.code how.reading.kept (thrown_away how) (thrown_calm how e.1 e.3)
 
         by : (b : Bool) → how.closed ≡ b → C (cond b (last_posts calls how) (address how.reading.id (set_failed how.reading.id how.code (λ _. release (socket_id_slot how.reading.id) (λ _. (last_posts calls how)))) (λ _. (last_posts calls how))))
         by true is = lasts
@@ -241,9 +253,9 @@ module _ (k id : ℕ) (Odd : List Taking → Type 0) (Lasts : Type 0) where
         where
           by : (b : Bool) → nat_lt (r.total + length bytes) LIMIT ≡ b → Calm false (h ++ Bytes bytes ∷ []) (cond b (Round (Reads (with_rest bytes kept n)) next) (next (ended_by 1014 false false (with_rest bytes kept n))))
           by true less = (record { link = at.link; own = at.own; total = more_total bytes; tied = λ more f. all_tied bytes more (fault_follows (r.rest ++ bytes) more n is f) }, goes)
-          by false most = goes (ended_by 1014 false false (with_rest bytes kept n)) (h ++ Bytes bytes ∷ []) ((λ _. (ends.most (h ++ Bytes bytes ∷ []) (all_read bytes most), inl (refl, inr (inr (inr (all_read bytes most)))))), at.link, at.own)
+          by false most = goes (ended_by 1014 false false (with_rest bytes kept n)) (h ++ Bytes bytes ∷ []) ((λ _. (ends.most (h ++ Bytes bytes ∷ []) (all_read bytes most), inl (refl, inr (inr (inr (all_read bytes most)))))), at.link, at.own, inl (inr (inr (inl (all_read bytes most)))))
       read_on_calm kept bytes (streams.Fault start fault) is = let faulty : Faults 0 (given_by (h ++ Bytes bytes ∷ [])) = subst (Faults 0) (append-nil (given_by (h ++ Bytes bytes ∷ []))) (all_tied bytes [] (subst (Faults 0) (sym (append-nil (r.rest ++ bytes))) (start, fault, is))) in
-          goes (ended_by 2002 false true (with_more bytes kept)) (h ++ Bytes bytes ∷ []) ((λ _. (ends.fault (h ++ Bytes bytes ∷ []) faulty, inr (refl, faulty))), at.link, at.own)
+          goes (ended_by 2002 false true (with_more bytes kept)) (h ++ Bytes bytes ∷ []) ((λ _. (ends.fault (h ++ Bytes bytes ∷ []) faulty, inr (refl, faulty))), at.link, at.own, inl (inr (inl faulty)))
 
       took_calm : (t : Taking) → (t ≡ NoMore → Lasts) → Calm false (h ++ t ∷ []) (took r next t)
       took_calm (Bytes bytes) some_ = calm_responses (h ++ Bytes bytes ∷ []) r.ids (streams.stream (r.rest ++ bytes)).frames r.kept (λ kept. read_on (with_more bytes kept) (r.rest ++ bytes) (streams.stream (r.rest ++ bytes)).ending next)
@@ -252,18 +264,19 @@ module _ (k id : ℕ) (Odd : List Taking → Type 0) (Lasts : Type 0) where
         record { link = at.link; own = at.own; total = at.total ∙ ap length (sym (gave_none h Nothing refl)); tied = λ more f. subst (λ l. Faults 0 (l ++ more)) (sym (gave_none h Nothing refl)) (at.tied more f) },
         goes,
       )
-      took_calm NoMore some_ = goes (ended_by 1014 false false r) (h ++ NoMore ∷ []) ((λ _. (ends.no_more (some_ refl) h, inl (refl, inr (inr (inl (last_in h NoMore)))))), at.link, at.own)
-      took_calm AtEnd some_ = goes (ended_by 1014 false false r) (h ++ AtEnd ∷ []) ((λ _. (ends.at_end h, inl (refl, inl (last_in h AtEnd)))), at.link, at.own)
-      took_calm Closed some_ = goes (ended_by 1014 true false r) (h ++ Closed ∷ []) ((λ e. absurd (true≢false e)), at.link, at.own)
-      took_calm Broken some_ = goes (ended_by 1014 false false r) (h ++ Broken ∷ []) ((λ _. (ends.broken h, inl (refl, inr (inl (last_in h Broken))))), at.link, at.own)
+      took_calm NoMore some_ = goes (ended_by 1014 false false r) (h ++ NoMore ∷ []) ((λ _. (ends.no_more (some_ refl) h, inl (refl, inr (inr (inl (last_in h NoMore)))))), at.link, at.own, inr (inr (last_in h NoMore)))
+      took_calm AtEnd some_ = goes (ended_by 1014 false false r) (h ++ AtEnd ∷ []) ((λ _. (ends.at_end h, inl (refl, inl (last_in h AtEnd)))), at.link, at.own, inl (inl (last_in h AtEnd)))
+      took_calm Closed some_ = goes (ended_by 1014 true false r) (h ++ Closed ∷ []) ((λ e. absurd (true≢false e)), at.link, at.own, inr (inl (last_in h Closed)))
+      took_calm Broken some_ = goes (ended_by 1014 false false r) (h ++ Broken ∷ []) ((λ _. (ends.broken h, inl (refl, inr (inl (last_in h Broken))))), at.link, at.own, inl (inr (inr (inr (last_in h Broken)))))
 
-    discarded_calm : (h : List Taking) (l total : ℕ) (next : ℕ → Program) → l ≡ k → ((n : ℕ) (h' : List Taking) → Calm false h' (next n)) → (t : Taking) → Calm false (h ++ t ∷ []) (discarded l total next t)
-    discarded_calm h l total next own goes (Bytes bytes) = either_way (nat_lt (total + length bytes) LIMIT) (Round (Discards l (total + length bytes)) next) (next (total + length bytes)) (Calm false (h ++ Bytes bytes ∷ [])) (own, goes) (goes (total + length bytes) (h ++ Bytes bytes ∷ []))
-    discarded_calm h l total next own goes Nothing = (own, goes)
-    discarded_calm h l total next own goes NoMore = goes total (h ++ NoMore ∷ [])
-    discarded_calm h l total next own goes AtEnd = goes total (h ++ AtEnd ∷ [])
-    discarded_calm h l total next own goes Closed = goes total (h ++ Closed ∷ [])
-    discarded_calm h l total next own goes Broken = goes total (h ++ Broken ∷ [])
+    discarded_calm : (h : List Taking) (l total : ℕ) (next : ℕ → Program) → l ≡ k → IsOver h → ((n : ℕ) (h' : List Taking) → IsOver h' → Calm false h' (next n)) → (t : Taking) → Calm false (h ++ t ∷ []) (discarded l total next t)
+    discarded_calm h l total next own over goes (Bytes bytes) = let more = over_more h (Bytes bytes ∷ []) over in
+        either_way (nat_lt (total + length bytes) LIMIT) (Round (Discards l (total + length bytes)) next) (next (total + length bytes)) (Calm false (h ++ Bytes bytes ∷ [])) (own, more, goes) (goes (total + length bytes) (h ++ Bytes bytes ∷ []) more)
+    discarded_calm h l total next own over goes Nothing = (own, over_more h (Nothing ∷ []) over, goes)
+    discarded_calm h l total next own over goes NoMore = goes total (h ++ NoMore ∷ []) (over_more h (NoMore ∷ []) over)
+    discarded_calm h l total next own over goes AtEnd = goes total (h ++ AtEnd ∷ []) (over_more h (AtEnd ∷ []) over)
+    discarded_calm h l total next own over goes Closed = goes total (h ++ Closed ∷ []) (over_more h (Closed ∷ []) over)
+    discarded_calm h l total next own over goes Broken = goes total (h ++ Broken ∷ []) (over_more h (Broken ∷ []) over)
 
     -- one round of a loop
     calm_round : (held : Bool) (h : List Taking) (head : Head) (next : Exit head → Program) → Calm held h (Round head next) → Calm held h (round head next)
@@ -277,7 +290,7 @@ module _ (k id : ℕ) (Odd : List Taking → Type 0) (Lasts : Type 0) where
     calm_round held h (Joins i) next x = calm_joins h i next x
     calm_round held h (Opens o) next x = absurd x
     calm_round held h (Reads r) next x = let at = x.0 in (at.link, λ t some_. took_calm h r next at x.1 t some_)
-    calm_round held h (Discards l total) next x = (x.0, λ t some_. discarded_calm h l total next x.0 x.1 t)
+    calm_round held h (Discards l total) next x = (x.0, λ t some_. discarded_calm h l total next x.0 x.1 x.2 t)
 
     pub calm_first : (held : Bool) (h : List Taking) (program : Program) → Calm held h program → Calm held h (first_step program)
     calm_first held h (Write w after) x = absurd x

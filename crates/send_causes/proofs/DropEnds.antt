@@ -166,7 +166,7 @@ module _ (p : Plan) (calls os : List ℕ) (in_os : (k o : ℕ) → get_elem? os 
             where
               by : (r : (n : ℕ) × (o : ℕ) × (m.seat ≡ 32 + n) × (get_elem? os n ≡ some o)) → State p calls r.0 r.1 (in_os r.0 r.1 r.3) Odd Lasts (ends r.0) (get_or c.words (open_word p r.1) 0) (taken r.0) seat.program v → IsReaders c taken j g code
               by r (none_, inl s) = absurd (let z : first_step (reader calls r.0 r.1) ≡ Do (StoreCode j g code) next = sym (ap first_step s.0) ∙ is in cc)
-              by r (none_, inr (inl s)) = absurd (let z : Rest ≡ Do (StoreCode j g code) next = sym (ap first_step s) ∙ is in cc)
+              by r (none_, inr (inl s)) = absurd (let z : Rest ≡ Do (StoreCode j g code) next = sym (ap first_step s.0) ∙ is in cc)
               by r (none_, inr (inr s)) = let x = stores_code r.0 s.id Odd Lasts s.held (taken r.0) j g code next (subst (Calm r.0 s.id Odd Lasts s.held (taken r.0)) is (calm_first r.0 s.id Odd Lasts (ends r.0 s.id) s.held (taken r.0) seat.program s.calm)) in
                   record { link = r.0; operation = r.1; id = s.id; at = r.3; word = s.word; socket = s.socket; slot = x.1; version = x.2; codes = x.0 }
 

@@ -138,7 +138,7 @@ module _ (p : Plan) (calls os : List ℕ) (in_os : (k o : ℕ) → get_elem? os 
           where
             of_state : State p calls r.0 r.1 (in_os r.0 r.1 r.3) Odd Lasts (ends r.0) (get_or c.words (open_word p r.1) 0) (taken r.0) seat.program v → Closes taken x
             of_state (none_, inl s) = absurd (subst (λ y. In x (lost_by c.words (call_in y))) s.0 m')
-            of_state (none_, inr (inl s)) = absurd (subst (λ y. In x (lost_by c.words (call_in y))) s m')
+            of_state (none_, inr (inl s)) = absurd (subst (λ y. In x (lost_by c.words (call_in y))) s.0 m')
             of_state (none_, inr (inr s)) = let l = lost_is s.id r.0 s.held (taken r.0) c.words seat.program x s.calm m' in
                 let y = sets_odd r.0 s.id Odd Lasts s.held (taken r.0) l.0 l.1 (subst (Calm r.0 s.id Odd Lasts s.held (taken r.0)) l.2 s.calm) in
                 let own = link_of p os c vs sound named r.1 s.id (in_os r.0 r.1 r.3) s.word s.socket m.seat v at_view (s.has y.0) in
