@@ -127,7 +127,7 @@ module _ (script : List Item) (made : AreMade script) (turns : List Turn) (core 
 
   -- ## Where a message stands that was dropped
 
-  abbrev end_sound : Sound p core views
+  abbrev pub end_sound : Sound p core views
   end_sound = ended_sound script made.are (first_views script) (start script made turns core is) (go script made turns core is) turns core is (fitting script made turns core is)
 
   -- a call's message was dropped, so its attempt stands so on the link

@@ -44,6 +44,7 @@ pub mod DropOfRun
 pub mod DropCauses
 pub mod DropEnds
 pub mod DropEndsCauses
+pub mod DropEndsOver
 pub mod DropEndsWhole
 pub mod RefusedTicks
 pub mod RefusedPosts
