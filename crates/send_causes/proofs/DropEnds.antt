@@ -1,11 +1,10 @@
 -- Each tick keeps that a code of a socket which no client and no ending stores is that of its reader, by how the reading of its link ended.
-use Rattle.std.proofs.Common.{◌≡◌, ◌≢◌, ℕ, ◌+◌, ◌-◌, ◌%◌, ◌<◌, ◌≤◌, ◌⊎◌, inl, inr, ⊎_elim, true, List, [], ◌∷◌, ◌++◌, length, append-nil, append_assoc, get_or, set, refl, sym, ap, ◌∙◌, subst, arith}
+use Rattle.std.proofs.Common.{◌≡◌, ◌≢◌, ℕ, ◌+◌, ◌%◌, ◌<◌, ◌≤◌, ◌⊎◌, inl, inr, ⊎_elim, true, List, [], ◌∷◌, ◌++◌, append-nil, append_assoc, get_or, set, refl, sym, ap, ◌∙◌, subst, arith}
 use mathlib.Core.Logic.{dite}
 use mathlib.Core.Option.{Option, none, some}
 use native.Mathlib.Decide.{ℕ_discrete, dec_le}
 use lib.ListN.{get_elem?}
 use Rattle.atomic_table.proofs.Lists.{at_set}
-use Rattle.chain_laws.proofs.Lists.{at_some}
 use Rattle.sock_words.specs.Words.{socket_id_version, socket_id_slot}
 use Rattle.sock_words.specs.declared.plain.Plan.{Plan}
 use Rattle.sock_model.specs.declared.home.Home.{Home}
@@ -15,7 +14,7 @@ use Rattle.sock_model.specs.References.{slot_facts}
 use Rattle.sock_model.specs.Slots.{live}
 use Rattle.sock_programs.specs.Asides.{Taking}
 use Rattle.sock_programs.specs.Beside.{calls_after}
-use Rattle.sock_programs.specs.Calls.{Call, LoadOpen, StoreCode, LoadCode}
+use Rattle.sock_programs.specs.Calls.{Call, StoreCode, LoadCode}
 use Rattle.sock_programs.specs.Cores.{Calls, Core, SeatState, word_of, word_after, found_at, words_after, homes_after, hand_after, lies_at, first_of, others_of, link_place, resolved, waiting_at, next_step, with_seat}
 use Rattle.sock_programs.specs.Programs.{Program, Do, Rest, TakeMessage, TakeHome, PutHome, PutBytes, AskReady, Aside, NO_SOCKET}
 use Rattle.sock_programs.specs.Readers.{reader}
@@ -23,7 +22,6 @@ use Rattle.sock_programs.specs.Ticks.{Moment, IsAnswered, AreAnswered, fed, with
 use Rattle.sock_runs.specs.GoesOn.{GoesOn}
 use Rattle.sock_runs.specs.May.{May}
 use Rattle.sock_runs.specs.Sound.{state, Sound, IsFitting, AreFitting, first_step, views_after, views_along}
-use Rattle.sock_runs.proofs.Along.{place_inside}
 use Rattle.sock_runs.proofs.Cases.{goes_first}
 use Rattle.sock_runs.proofs.LinkTicks.{RetriesGo}
 use Rattle.sock_runs.proofs.OpensStay.{run_word}

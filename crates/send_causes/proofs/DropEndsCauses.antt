@@ -1,5 +1,5 @@
 -- A code 2002 that was posted for a dropped message tells of a frame fault on the link of the message.
-use Rattle.std.proofs.Common.{◌≡◌, ◌≢◌, ℕ, ◌+◌, ◌*◌, ◌<◌, ◌≤◌, ◌⊎◌, inl, inr, ⊎_elim, List, ◌++◌, length, replicate, Ok, get_or, refl, sym, ap, ◌∙◌, subst, arith}
+use Rattle.std.proofs.Common.{◌≡◌, ◌≢◌, ℕ, ◌+◌, ◌*◌, ◌<◌, ◌⊎◌, inl, inr, ⊎_elim, List, ◌++◌, replicate, Ok, get_or, refl, sym, ap, ◌∙◌, subst, arith}
 use Rattle.std.specs.Prelude.{Some, slice_get}
 use Rattle.std.specs.List.{AllByRecursion}
 use mathlib.Core.Option.{some}
@@ -9,7 +9,7 @@ use Rattle.brpc_model.specs.Operations.{Turn}
 use Rattle.brpc_model.specs.Script.{script_of}
 use Rattle.report_fits.proofs.Reading.{InRange}
 use Rattle.report_fits.proofs.Targets.{AreThere}
-use Rattle.sock_words.specs.Words.{socket_id, socket_id_slot, socket_id_version}
+use Rattle.sock_words.specs.Words.{socket_id_slot, socket_id_version}
 use Rattle.sock_words.specs.declared.plain.Plan.{Plan}
 use Rattle.sock_model.specs.Layout.{open_word}
 use Rattle.corr_core.specs.Word.{code_of, attempt_of}
@@ -21,7 +21,7 @@ use Rattle.sock_programs.specs.Tasks.{opens, plan_of}
 use Rattle.sock_programs.specs.Ticks.{run, quiet}
 use Rattle.sock_programs.specs.Scripts.{all_tasks, opened, set_up, played, IsRunWithCalls}
 use Rattle.sock_programs.specs.ToldCalls.{Order, Fixed, IsSent, GaveFault}
-use Rattle.sock_runs.specs.Sound.{Sound, views_along}
+use Rattle.sock_runs.specs.Sound.{views_along}
 use Rattle.sock_runs.proofs.Along.{place_inside}
 use Rattle.sock_runs.proofs.LinksOpening.{OpensLink}
 use Rattle.sock_runs.proofs.Whole.{closing_of, views_played, views_closed, views_ended, set_up_sound, closing_sound, closed_sound, end_answered}
@@ -36,11 +36,10 @@ use Rattle.call_causes.specs.Posts.{Post}
 use Rattle.send_causes.specs.PostCauses.{PostCause, OfFault}
 use Rattle.send_causes.proofs.Beside.{orders_here}
 use Rattle.send_causes.proofs.DropCauses.{fail_range, may_be_on, caused_by_drop}
-use Rattle.send_causes.proofs.DropEnds.{IsReaders}
 use Rattle.send_causes.proofs.DropEndsWhole.{WhoseIn, whose_of_run}
 use Rattle.send_causes.proofs.DropOfRun.{DropOf, ends, one_given, story_given}
 use Rattle.send_causes.proofs.Early.{start, go, fitting, known, named_set_up, opens_apart}
-use Rattle.send_causes.proofs.EndedWhole.{h₄, in_closing, in_setup, in_clients, ended_so}
+use Rattle.send_causes.proofs.EndedWhole.{h₄, ended_so}
 
 module _ (script : List Item) (made : AreMade script) (turns : List Turn) (core : Core) (is : IsRunWithCalls script turns core) where
   -- the words of opens at the end of the run

@@ -1,5 +1,5 @@
 -- The reading of each link with a life ended; so each error that was posted for a dropped message has its cause, but for responses that came before the call began.
-use Rattle.std.proofs.Common.{◌≡◌, ◌≢◌, ℕ, ◌+◌, ◌*◌, ◌<◌, ◌≤◌, ◌⊎◌, inl, inr, ⊎_elim, List, length, Ok, get_or, refl, sym, ap, ◌∙◌, subst, arith}
+use Rattle.std.proofs.Common.{◌≡◌, ◌≢◌, ℕ, ◌+◌, ◌*◌, ◌<◌, ◌⊎◌, inl, inr, ⊎_elim, List, length, Ok, get_or, refl, sym, ap, ◌∙◌, subst, arith}
 use Rattle.std.specs.Prelude.{Contains}
 use Rattle.std.specs.List.{AllByRecursion}
 use mathlib.Core.Option.{some}
@@ -15,14 +15,13 @@ use Rattle.sock_words.specs.declared.plain.Plan.{Plan}
 use Rattle.sock_model.specs.declared.view.View.{View}
 use Rattle.sock_model.specs.Layout.{open_word}
 use Rattle.corr_core.specs.Word.{code_of, attempt_of}
-use Rattle.sock_message.specs.Asked.{name_of}
 use Rattle.sock_programs.specs.declared.task.Task.{Task}
 use Rattle.sock_programs.specs.Cores.{Core, SeatState}
 use Rattle.sock_programs.specs.Programs.{Rest, NO_SOCKET}
 use Rattle.sock_programs.specs.Readers.{reader}
 use Rattle.sock_programs.specs.Tasks.{opens, calls, plan_of}
 use Rattle.sock_programs.specs.Scripts.{all_tasks, IsRunWithCalls}
-use Rattle.sock_programs.specs.ToldCalls.{Accepted, Order, Fixed, StandsAt, IsSent, Gave, IsResponse, IsPlaced}
+use Rattle.sock_programs.specs.ToldCalls.{Order, Fixed, IsSent, Gave, IsResponse, IsPlaced}
 use Rattle.sock_runs.specs.Sound.{first_step}
 use Rattle.sock_runs.proofs.Along.{place_inside}
 use Rattle.sock_runs.proofs.Whole.{IsListed, views_closed, views_ended, closed_sound, recorded_closed}

@@ -1,5 +1,5 @@
 -- A code of a life that was found in the run, and that clients and the ending may not store, is that of the reader of its link, by how the reading of the link ended.
-use Rattle.std.proofs.Common.{◌≡◌, ◌≢◌, ℕ, ◌+◌, ◌-◌, ◌<◌, ◌≤◌, ◌⊎◌, inl, inr, ⊎_elim, List, [], ◌∷◌, ◌++◌, length, get_or, replicate, refl, sym, ap, ◌∙◌, subst, arith}
+use Rattle.std.proofs.Common.{◌≡◌, ◌≢◌, ℕ, ◌-◌, ◌<◌, inl, inr, ⊎_elim, List, [], ◌∷◌, ◌++◌, length, get_or, refl, sym, ap, ◌∙◌, subst, arith}
 use Rattle.std.specs.Prelude.{Some, slice_get}
 use Rattle.std.specs.List.{AllByRecursion}
 use mathlib.Core.Logic.{dite}
@@ -21,25 +21,22 @@ use Rattle.sock_programs.specs.Calls.{LoadCode}
 use Rattle.sock_programs.specs.Clients.{client_from, ending_of}
 use Rattle.sock_programs.specs.Cores.{Core, SeatState, resolved, waiting_at, next_step}
 use Rattle.sock_programs.specs.Heads.{Retry}
-use Rattle.sock_programs.specs.Programs.{Program, Rest}
+use Rattle.sock_programs.specs.Programs.{Program}
 use Rattle.sock_programs.specs.Tasks.{opens, calls, plan_of, id_plan_of}
-use Rattle.sock_programs.specs.Ticks.{Moment, quiet, run}
+use Rattle.sock_programs.specs.Ticks.{Moment, run}
 use Rattle.sock_programs.specs.Scripts.{sizes_of, programs, readers_from, all_programs, all_tasks, opened, set_up, played, is_ending, IsRunWithCalls}
-use Rattle.sock_runs.specs.Sound.{Sound, views_along}
-use Rattle.sock_runs.proofs.Along.{place_inside}
-use Rattle.sock_runs.proofs.LinksOpening.{OpensLink}
+use Rattle.sock_runs.specs.Sound.{views_along}
 use Rattle.sock_runs.proofs.Opening.{mapped}
-use Rattle.sock_runs.proofs.Whole.{IsListed, closing_of, rested_of, views_played, views_closed, views_ended, set_up_answered, end_answered, set_up_sound, closing_sound, closed_sound, recorded_opened, recorded_set_up, recorded_closing, recorded_closed}
+use Rattle.sock_runs.proofs.Whole.{IsListed, closing_of, rested_of, views_played, views_closed, set_up_answered, end_answered, set_up_sound, closing_sound, closed_sound, recorded_opened, recorded_set_up, recorded_closing, recorded_closed}
 use Rattle.sock_causes.specs.Stories.{In}
 use Rattle.client_laws.proofs.Beginning as clients_begin
 use Rattle.joint_runs.proofs.Runs.{AreMade, first_views}
-use Rattle.owed_calls.proofs.WordsGiven.{Named, run_named, named_ending, named_on}
 use Rattle.send_causes.specs.Refused.{DidStep, DidEarly, DidInRun}
-use Rattle.send_causes.proofs.DropCodes.{Failing, NoFail, Fails, Stores, OwnsFail, client_codes, ending_codes, codes_next}
+use Rattle.send_causes.proofs.DropCodes.{NoFail, Stores, OwnsFail, client_codes, ending_codes, codes_next}
 use Rattle.send_causes.proofs.DropEnds.{StoresThose, EndsLaw, EndsAlong, Whose, ends_along}
 use Rattle.send_causes.proofs.DropWhole.{get_same}
-use Rattle.send_causes.proofs.Early.{Any, ends_anyhow, start, go, fitting, known, named_set_up, before_readers}
-use Rattle.send_causes.proofs.EndedWhole.{opened_keeps, closing_keeps, closed_keeps, h₁, h₂, h₃, h₄, in_setup, in_clients, in_closing}
+use Rattle.send_causes.proofs.Early.{Any, ends_anyhow, start, go, fitting, known, before_readers}
+use Rattle.send_causes.proofs.EndedWhole.{opened_keeps, closing_keeps, h₁, h₂, h₃, h₄, in_setup, in_clients, in_closing}
 
 module _ (script : List Item) (made : AreMade script) (turns : List Turn) (core : Core) (is : IsRunWithCalls script turns core) (P : ℕ → Type 0) (gone : P 1009)
     (fits : (j : ℕ) (ts : List Task) → slice_get (all_tasks script) j ≡ Some ts → (t : Task) → In t ts → (name code : ℕ) → t.op ≡ ops.Fail name code → P code) where
