@@ -101,8 +101,17 @@ module _ (script : List Item) (made : AreMade script) (turns : List Turn) (core 
   -- it is so with other seats too
   same_words : (c d : Core) → c.words ≡ d.words → (h : ℕ → List Taking) (j g code : ℕ) → WhoseIn c h j g code → WhoseIn d h j g code
   same_words c d e h j g code (inl x) = inl x
-  same_words c d e h j g code (inr x) = inr (record { link = x.link; operation = x.operation; id = x.id; at = x.at; word = ap (λ ws. get_or ws (open_word (plan_of script) x.operation) 0) (sym e) ∙ x.word;
-      socket = λ z. x.socket (ap (λ ws. get_or ws (open_word (plan_of script) x.operation) 0) e ∙ z); slot = x.slot; version = x.version; codes = x.codes })
+  same_words c d e h j g code (inr x) = inr (record {
+    link = x.link;
+    operation = x.operation;
+    id = x.id;
+    at = x.at;
+    word = ap (λ ws. get_or ws (open_word (plan_of script) x.operation) 0) (sym e) ∙ x.word;
+    socket = λ z. x.socket (ap (λ ws. get_or ws (open_word (plan_of script) x.operation) 0) e ∙ z);
+    slot = x.slot;
+    version = x.version;
+    codes = x.codes;
+  })
 
   abbrev A : Core → List View → (ℕ → List Taking) → List Moment → Type 0
   A c ws h ms = EndsAlong (plan_of script) (calls script) (opens script) (let k = known script made turns core is in k.in_script) Any (Unit {0}) ends_anyhow P gone (IsListed script) (go script made turns core is) c ws h ms

@@ -348,13 +348,13 @@ module _ (script : List Item) (made : AreMade script) (turns : List Turn) (core 
     found = dite (ℕ_discrete code 0)
         (λ z. inl (code_is ∙ ap (λ b. if b then 1009 else code) (eq-eqb code 0 z)))
         (λ n. let same : code_of x.error ≡ code = code_is ∙ ap (λ b. if b then 1009 else code) (ne_eqb code 0 n) in inr (
-        seat,
-        socket_id_slot d.holder.id,
-        socket_id_version d.holder.id,
-        subst (λ z. DidInRun script turns core is seat (DidStep (LoadCode (socket_id_slot d.holder.id) (socket_id_version d.holder.id)) z)) (sym same)
-            (all_in (DidInRun script turns core is seat) deeds (DidStep (LoadCode (socket_id_slot d.holder.id) (socket_id_version d.holder.id)) code) did d.load),
-        λ z. n (sym same ∙ z),
-        round.0,
+          seat,
+          socket_id_slot d.holder.id,
+          socket_id_version d.holder.id,
+          subst (λ z. DidInRun script turns core is seat (DidStep (LoadCode (socket_id_slot d.holder.id) (socket_id_version d.holder.id)) z)) (sym same)
+              (all_in (DidInRun script turns core is seat) deeds (DidStep (LoadCode (socket_id_slot d.holder.id) (socket_id_version d.holder.id)) code) did d.load),
+          λ z. n (sym same ∙ z),
+          round.0,
         ));
     code = subst (λ z. IsOtherCode z ⊎ IsFailedOn d.holder.link z) (sym code_is) whose;
   }
