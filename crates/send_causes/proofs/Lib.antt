@@ -31,3 +31,4 @@ pub mod EndedLoops
 pub mod EndedPrograms
 pub mod EndedNames
 pub mod EndedNamed
+pub mod EndedLives
