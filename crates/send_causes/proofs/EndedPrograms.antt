@@ -272,7 +272,7 @@ module _ (is_call : Asked → Type 0) where
 
     locked_goes : (exit : Locking) → LeavesLock (First (id_first id)) exit → Follows is_call lost (retry_locked requests id n next exit)
     locked_goes (NotThere w) l = goes
-    locked_goes (Has w) l = λ asked called. (lost, inl refl, λ _ _. (known asked, (inr (w, false, tried_again requests id n asked next, refl, own asked), called), (tt, λ exit m. tried_goes asked called exit (λ x e is. next_first exit x e is m.1 ∙ l))))
+    locked_goes (Has w) l = λ asked called. (lost, inl refl, λ _ _. (known asked, (inr (w, false, tried_again requests id n asked next, refl, own asked, omega (arith, l)), called), (tt, λ exit m. tried_goes asked called exit (λ x e is. next_first exit x e is m.1 ∙ l))))
       where
         next_first : (exit : Unlocking) (x e : ℕ) → exit ≡ HasNext x e → LeavesUnlock (parts w).first exit → (parts x).first ≡ (parts w).first
         next_first exit x e is m = subst (LeavesUnlock (parts w).first) is m
