@@ -32,3 +32,4 @@ pub mod EndedPrograms
 pub mod EndedNames
 pub mod EndedNamed
 pub mod EndedLives
+pub mod EndedAttempts
