@@ -3,7 +3,7 @@ use Rattle.std.proofs.Common.{◌≡◌, ◌≢◌, ℕ, ◌+◌, ◌-◌, ◌*�
 use Rattle.std.proofs.lemmas.Bool.{true≢false}
 use Rattle.std.specs.Prelude.{Contains, Some, slice_get}
 use Rattle.std.specs.List.{AllByRecursion}
-use mathlib.Core.Option.{Option, none, some, some-injective}
+use mathlib.Core.Option.{Option, none, some, some-injective, some-ne-none}
 use lib.ListN.{get_elem?}
 use Rattle.sock_words.specs.declared.plain.Plan.{Plan}
 use Rattle.sock_words.specs.Words.{at_word, at_word_first, at_word_slot, at_word_link, at_word_attempt}
@@ -186,3 +186,89 @@ module _ (script : List Item) (made : AreMade script) (turns : List Turn) (core 
   at_place P [] all i a e = absurd (cc)
   at_place P (x ∷ xs) all Rattle.std.proofs.Common.zero a e = let same : x ≡ a = cc in subst P same all.0
   at_place P (x ∷ xs) all (Rattle.std.proofs.Common.suc i) a e = at_place P xs all.1 i a e
+
+  get_there : {A : Type 0} (xs : List A) (i : ℕ) (x : A) → get_elem? xs i ≡ some x → slice_get xs i ≡ Some x
+  get_there [] i x e = absurd (some-ne-none x (sym e))
+  get_there (y ∷ xs) Rattle.std.proofs.Common.zero x e = ap (λ z. Some z) (some-injective y x e)
+  get_there (y ∷ xs) (Rattle.std.proofs.Common.suc i) x e = get_there xs i x e
+
+  -- the operation of a call is no other task's
+  spoken_call : (asked : Asked) → IsCallOf script asked → IsSpoken (told_tasks_of script) asked.operation
+  spoken_call asked of d t asks e = let u = up (all_tasks script) (length (opens script)) d t asks in
+      let same = (one_task (plan_of script) (all_tasks script) made.are of.0 d of.2 t (of.1, get_there (all_tasks script) of.0 of.1 of.3, of.4) u.0 (sym of.6 ∙ sym e)).1 in
+      true≢false (sym u.1 ∙ (ap (λ (x : Task). is_plain x.op) (sym same) ∙ ap is_plain of.5))
+
+  module _ (once : AreStoredOnce script turns core is) (fixed : Fixed) (gave : ℕ → List ℕ) where
+    abbrev Stands : ℕ → ℕ → ℕ → Type 0
+    Stands o n l = StandsOn (plan_of script) (all_tasks script) core.outcomes fixed gave (orders_of_run script made turns core is closes) o n l
+
+    stands_stored : (o w : ℕ) → IsAttemptOn o w → (n l : ℕ) → Stands o n l → Contains (stores_of_run script turns core is) (record { operation = o; word = at_word (id_first (ids o)) (id_slot (ids o)) l n })
+    stands_stored o w x n l s = let a : Accepted = s.1.1 in
+        let here = at_place (λ (a : Accepted). IsSpoken (told_tasks_of script) a.operation → In (record { operation = a.operation; word = at_word (id_first (ids a.operation)) (id_slot (ids a.operation)) l a.attempt }) (stores_of_run script turns core is))
+        (orders_of_run script made turns core is closes l).accepted (all_stored l) s.0 s.1.1 s.1.2 in
+        let there : In (record { operation = a.operation; word = at_word (id_first (ids a.operation)) (id_slot (ids a.operation)) l a.attempt }) (stores_of_run script turns core is) = here (subst (λ z. IsSpoken (told_tasks_of script) z) (x.operation ∙ sym s.1.3) (spoken_call x.asked x.called)) in
+        in_contains (stores_of_run script turns core is) (record { operation = o; word = at_word (id_first (ids o)) (id_slot (ids o)) l n })
+        (subst (λ z. In (record { operation = o; word = at_word (id_first (ids o)) (id_slot (ids o)) l z }) (stores_of_run script turns core is)) s.1.4
+        (subst (λ z. In (record { operation = z; word = at_word (id_first (ids z)) (id_slot (ids z)) l a.attempt }) (stores_of_run script turns core is)) s.1.3 there))
+
+    -- where the attempt was accepted, it was by this link
+    only_link : (o w : ℕ) (x : IsAttemptOn o w) (l : ℕ) → Stands o x.attempt l → l ≡ x.link
+    only_link o w x l s =
+        let sound = ended_sound script made.are vs begins goes turns core is fits in
+        let low : l < 65535 = (let a = s.1.0 in let b = sound.limits in let c = b.links in omega (arith, a, c)) in
+        let first : id_first (ids o) < 4294967296 = omega arith in
+        let v : ℕ = at_word (id_first (ids o)) (id_slot (ids o)) l x.attempt in
+        let n_v : at_word_attempt (at_word (id_first (ids o)) (id_slot (ids o)) l x.attempt) ≡ x.attempt = word_attempt (id_first (ids o)) (id_slot (ids o)) l x.attempt first x.slot low x.few in
+        let n_w : at_word_attempt w ≡ x.attempt = ap at_word_attempt x.word ∙ word_attempt (id_first (ids o)) (id_slot (ids o)) x.link x.attempt first x.slot x.small x.few in
+        let same : at_word (id_first (ids o)) (id_slot (ids o)) l x.attempt ≡ w = once o (at_word (id_first (ids o)) (id_slot (ids o)) l x.attempt) w (stands_stored o w x x.attempt l s) (in_contains (stores_of_run script turns core is) (record { operation = o; word = w }) x.stored) (n_v ∙ sym n_w) in
+        sym (word_link (id_first (ids o)) (id_slot (ids o)) l x.attempt first x.slot low x.few) ∙ (ap at_word_link (same ∙ x.word) ∙ word_link (id_first (ids o)) (id_slot (ids o)) x.link x.attempt first x.slot x.small x.few)
+
+    may_be_on : (o w : ℕ) (x : IsAttemptOn o w) → MayBeOn (plan_of script) (all_tasks script) core.outcomes fixed gave (orders_of_run script made turns core is closes) o x.attempt (name_of x.asked x.attempt) x.link
+    may_be_on o w x = (x.socket, x.version, x.life, λ l s. only_link o w x l s)
+
+    -- ## Posts
+
+    -- a reader posted the error for attempt n of a call, whose operation's id is the post's: the reading of its link ended with the code, and the attempt may be on the link
+    pub record IsReaderPost (code n : ℕ) (x : Post) : Type 0 where
+      pub asked : Asked
+      pub called : IsCallOf script asked
+      pub id : x.id ≡ ids asked.operation
+      pub some_ : ids asked.operation ≢ 0
+      pub few : n ≤ 6
+      pub link : ℕ
+      pub inside : link < (plan_of script).links
+      pub on : MayBeOn (plan_of script) (all_tasks script) core.outcomes fixed gave (orders_of_run script made turns core is closes) asked.operation n (name_of asked n) link
+      pub ended : EndedSo script turns core is link code
+
+    of_word : (k o w code : ℕ) (x : Post) → k < (plan_of script).links → IsEndPost script turns core is k o w code x → (c m : ℕ) → x.error ≡ error_of c m → m ≤ 7 → IsReaderPost c m x
+    of_word k o w code x low post c m error few = let e = ending in
+        let a = of_load o w (e.loads (record { seat = 32 + k; operation = o; word = w }) (contains_in (Rattle.send_causes.specs.EndedCalls.loads_of_run script turns core is) (record { seat = 32 + k; operation = o; word = w }) post.loaded) post.some_) in
+        let first : id_first (ids o) < 4294967296 = omega arith in
+        let link : a.link ≡ k = sym (word_link (id_first (ids o)) (id_slot (ids o)) a.link a.attempt first a.slot a.small a.few) ∙ (sym (ap at_word_link a.word) ∙ post.link) in
+        let n_w : at_word_attempt w ≡ a.attempt = ap at_word_attempt a.word ∙ word_attempt (id_first (ids o)) (id_slot (ids o)) a.link a.attempt first a.slot a.small a.few in
+        let s_w : at_word_slot w ≡ id_slot (ids o) = ap at_word_slot a.word ∙ word_slot (id_first (ids o)) (id_slot (ids o)) a.link a.attempt first a.slot a.small a.few in
+        let f_w : at_word_first w ≡ id_first (ids o) = ap at_word_first a.word ∙ word_first (id_first (ids o)) (id_slot (ids o)) a.link a.attempt first a.slot a.small a.few in
+        let id : x.id ≡ ids o = post.id ∙ (ap (λ z. call_id z (at_word_first w)) s_w ∙ (ap (λ z. call_id (id_slot (ids o)) z) f_w ∙ id_again (ids o))) in
+        let errors : error_of code a.attempt ≡ error_of c m = ap (λ z. error_of code z) (sym n_w) ∙ (sym post.error ∙ error) in let fewer = a.few in
+        let code_is : code ≡ c = omega (arith, errors, few, fewer) in let n_is : a.attempt ≡ m = omega (arith, errors, few, fewer) in record {
+          asked = a.asked;
+          called = a.called;
+          id = id ∙ ap ids (sym a.operation);
+          some_ = λ z. a.some_ (ap ids (sym a.operation) ∙ z);
+          few = (let f = a.few in omega (arith, f, n_is));
+          link = k;
+          inside = low;
+          on = subst (λ z. MayBeOn (plan_of script) (all_tasks script) core.outcomes fixed gave (orders_of_run script made turns core is closes) z m (name_of a.asked m) k) (sym a.operation)
+              (subst (λ z. MayBeOn (plan_of script) (all_tasks script) core.outcomes fixed gave (orders_of_run script made turns core is closes) o z (name_of a.asked z) k) n_is
+              (subst (λ z. MayBeOn (plan_of script) (all_tasks script) core.outcomes fixed gave (orders_of_run script made turns core is closes) o a.attempt (name_of a.asked a.attempt) z) link (may_be_on o w a)));
+          ended = subst (λ z. EndedSo script turns core is k z) code_is post.ended;
+        }
+
+    pub run_reader_post : (bytes : List ℕ) → script_of bytes ≡ Ok script → (x : Post) → In x (reader_posts_of_run script turns core is) → (code n : ℕ) → x.error ≡ error_of code n → n ≤ 7 → IsReaderPost code n x
+    run_reader_post bytes reads x there code n error few = let p = run_end_posts script made turns core is bytes reads x there in of_word p.0 p.1 p.2 p.3 x p.4 p.5 code n error few
+
+  -- where it posted 2002, its link gave a frame fault
+  pub run_reader_fault : (once : AreStoredOnce script turns core is) (fixed : Fixed) (bytes : List ℕ) → script_of bytes ≡ Ok script → (x : Post) (n : ℕ) (r : IsReaderPost once fixed (gave_of_run script made turns core is closes) 2002 n x)
+      → GaveFault (plan_of script) (all_tasks script) core.outcomes fixed (gave_of_run script made turns core is closes) (orders_of_run script made turns core is closes) r.link
+  run_reader_fault once fixed bytes reads x n r = ⊎_elim (λ a. absurd (let e = a.0 in let z : ⊥ = omega (arith, e) in z))
+      (λ b. (b.1.0, b.1.1, ap (λ l. (stream l).ending) (sym (gave_heard bytes script reads turns core is r.link r.inside)) ∙ b.1.2)) r.ended
