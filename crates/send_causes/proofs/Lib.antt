@@ -36,3 +36,4 @@ pub mod EndedAttempts
 pub mod EndedTrials
 pub mod EndedTryLoops
 pub mod EndedTryPrograms
+pub mod EndedTryTicks
