@@ -25,7 +25,7 @@ use Rattle.sock_programs.specs.Calls.{Call, PutMessage}
 use Rattle.sock_programs.specs.Heads.{Retry}
 use Rattle.sock_programs.specs.Programs.{Program, Do, Say, Sent, Rest, TakeMessage, TakeHome, PutHome, PutBytes, AskReady, Write, Aside, Round, Keep, Retries}
 use Rattle.sock_programs.specs.Cores.{Calls, Core, SeatState, word_of, found_at, words_after, word_after, homes_after, hand_after, lies_at, first_of, others_of, link_place, resolved, still_waiting, waiting_at, next_step, with_seat}
-use Rattle.sock_programs.specs.Ticks.{Moment, IsAnswered, fed, with_places, onto_first, taken, ticked}
+use Rattle.sock_programs.specs.Ticks.{Moment, IsAnswered, fed, with_places, onto_first, taken, step_with, tick_with, ticked}
 use Rattle.sock_runs.specs.Sound.{Sound, first_step, views_after}
 use Rattle.sock_causes.specs.Stories.{In}
 use Rattle.sock_causes.proofs.Cases.{tick_cases}
@@ -35,6 +35,7 @@ use Rattle.label_runs.specs.Labels.{Trial, Idle, Tries, Sends, put_behind, Kept,
 use Rattle.send_causes.specs.Counts.{pair_of, of_retry, WasMade, WasNow, StoresOwn}
 use Rattle.send_causes.specs.EndedCalls.{Store, stores_by, stored_at}
 use Rattle.send_causes.proofs.Words.{made_on, finds_label, words_forward, makes_new, advances_new}
+use Rattle.send_causes.proofs.Readings.{ticks_first}
 use Rattle.send_causes.proofs.Ticks.{AreCalls, calls_waiting, pair_one, pair_same}
 use Rattle.send_causes.proofs.EndedNames.{ids_first, fits_as, PutsCall, calls_behind, few_of}
 use Rattle.send_causes.proofs.EndedTrials.{Stows, Stowing}
@@ -387,3 +388,46 @@ module _ (p : Plan) (q : IdPlan) (narrow : q.slots ≤ 65536) (is_call : Asked �
     -- what the tick stores
     as_stored : (seat : SeatState) → get_elem? c.seats m.seat ≡ some seat → (x : Program) → first_step seat.program ≡ x → (d : Core) → (xs : List Trial) × OnceLaw is_call ids q (stores_by x ++ done) d xs → Result d
     as_stored seat at x is d r = subst (λ l. (xs : List Trial) × OnceLaw is_call ids q (l ++ done) d xs) (sym (ap (λ x. elim x as (λ o. List Store) [ none ↦ [] | some seat ↦ stores_by (first_step seat.program) ]) at ∙ ap stores_by is)) r
+
+    -- where it stores none
+    quiet : stored_at c m ≡ [] → Result (ticked p c m)
+    quiet none_ = tick_cases p c vs m sound answered (λ d ws. Result d) (subst (λ l. (xs : List Trial) × OnceLaw is_call ids q (l ++ done) c xs) (sym none_) (ts, law))
+        (λ seat v call next at here is goes. let t = trial_of seat at in let g = first_as seat at (Do call next) is in let u = g.1 (found_at c.words (word_of p call)) (fits_as p c seat.program call next is (fitting seat at)) in
+        let b = leaves m.seat seat t.0 at t.1 (next (found_at c.words (word_of p call))) (hand_after p call c.homes seat.hand) (words_after c.words (word_of p call) (word_after call (found_at c.words (word_of p call)))) (Rattle.sock_programs.specs.Cores.homes_after p call seat.hand c.homes) u.0
+        (λ id n. (let x = kept_count id n (put_behind t.0 call) u.0 u.1 in let y = put_count id n t.0 call in omega (arith, x, y))) u.2 in as_stored seat at (Do call next) is _ (b.trials, b.behind))
+        (λ seat v r next heading bytes at here is goes. let t = trial_of seat at in let b = moves m.seat seat t.0 at t.1 (next heading bytes) seat.hand (set c.homes r none) (first_as seat at (TakeMessage r next) is heading bytes) in as_stored seat at (TakeMessage r next) is _ (b.trials, b.behind))
+        (λ seat v k next n at here is goes. let t = trial_of seat at in let b = moves m.seat seat t.0 at t.1 (next n) (lies_at c.homes (link_place p k) ++ seat.hand) (set c.homes (link_place p k) none) (first_as seat at (TakeHome k next) is n) in as_stored seat at (TakeHome k next) is _ (b.trials, b.behind))
+        (λ seat v k n after at here is goes. let t = trial_of seat at in let b = moves m.seat seat t.0 at t.1 after (others_of seat.hand) (set c.homes (link_place p k) (first_of (onto_first (with_places n) seat.hand))) (first_as seat at (PutHome k n after) is) in as_stored seat at (PutHome k n after) is _ (b.trials, b.behind))
+        (λ seat v k asked bytes next answer at here is goes answer_is fits. let t = trial_of seat at in let b = moves m.seat seat t.0 at t.1 (next answer) (onto_first (fed bytes answer) seat.hand) c.homes (first_as seat at (PutBytes k asked bytes next) is answer) in as_stored seat at (PutBytes k asked bytes next) is _ (b.trials, b.behind))
+        (λ seat v k next answer at here is goes answer_is. let t = trial_of seat at in let b = moves m.seat seat t.0 at t.1 (next answer) seat.hand c.homes (first_as seat at (AskReady k next) is answer) in as_stored seat at (AskReady k next) is _ (b.trials, b.behind))
+        (λ seat v s next found at here is goes found_is. let t = trial_of seat at in let u = view_of seat at in
+        as_stored seat at (Aside s next) is _ (asides m.seat seat t.0 at t.1 u.0 u.1 s next found (taken m.answer) found_is (may_as seat at (Aside s next) is).0 (first_as seat at (Aside s next) is) (stored_own seat at s next is)))
+      where
+        stored_own : (seat : SeatState) → get_elem? c.seats m.seat ≡ some seat → (s : Step) (next : Found s → Program) → first_step seat.program ≡ Aside s next → (o w : ℕ) → s ≡ StoreAt o w → (id n k : ℕ) → w ≡ at_word (id_first id) (id_slot id) k n → k < 65535 → n ≤ 6 → id_slot id < 65536 → (ids o ≡ id) × (id ≢ 0)
+        stored_own seat at (StoreAt o' w') next is o w e = λ id n k x low few small. own seat o w next at (is ∙ (let a : o' ≡ o = cc in let b : w' ≡ w = cc in λ z. Aside (StoreAt (a z) (b z)) next)) id n k x low few small
+        stored_own seat at _ next is o w e = absurd (cc)
+
+    -- where it stores one
+    stores : (seat : SeatState) → get_elem? c.seats m.seat ≡ some seat → (o w : ℕ) (next : ℕ → Program) → first_step seat.program ≡ Aside (StoreAt o w) next → Result (ticked p c m)
+    stores seat at o w next is = let t = trial_of seat at in let u = view_of seat at in let found : ℕ = std.slice_index c.calls.words (Rattle.id_rule.specs.Lawful.at_word c.calls.plan o) in
+        subst Result (sym after) (as_stored seat at (Aside (StoreAt o w) next) is _ (asides m.seat seat t.0 at t.1 u.0 u.1 (StoreAt o w) next (std.slice_index c.calls.words (Rattle.id_rule.specs.Lawful.at_word c.calls.plan o)) (taken m.answer) refl (may_as seat at (Aside (StoreAt o w) next) is).0
+        (first_as seat at (Aside (StoreAt o w) next) is) (λ o' w' e id n k x low few small. own seat o' w' next at (is ∙ ap (λ s. as_store s) e) id n k x low few small)))
+      where
+        after : ticked p c m ≡ step_with p m.seat seat c m.answer (Aside (StoreAt o w) next)
+        after = ap (λ x. elim x as (λ x. Core) [ none ↦ c | some s ↦ tick_with p m.seat s c m.answer s.program ]) at ∙ (ticks_first p m.seat seat c m.answer seat.program ∙ ap (step_with p m.seat seat c m.answer) is)
+
+        as_store : Step → Program
+        as_store (StoreAt o' w') = Aside (StoreAt o' w') next
+        as_store other = Rest
+
+    pub once_ticks : Result (ticked p c m)
+    once_ticks = by_seat (get_elem? c.seats m.seat) refl
+      where
+        by_program : (seat : SeatState) → get_elem? c.seats m.seat ≡ some seat → (x : Program) → first_step seat.program ≡ x → stored_at c m ≡ stores_by x → Result (ticked p c m)
+        by_program seat at (Aside (StoreAt o w) next) is same = stores seat at o w next is
+        by_program seat at (Aside step next) is same = quiet same
+        by_program seat at _ is same = quiet same
+
+        by_seat : (x : Option SeatState) → get_elem? c.seats m.seat ≡ x → Result (ticked p c m)
+        by_seat none e = quiet (ap (λ x. elim x as (λ o. List Store) [ none ↦ [] | some seat ↦ stores_by (first_step seat.program) ]) e)
+        by_seat (some seat) e = by_program seat e (first_step seat.program) refl (ap (λ x. elim x as (λ o. List Store) [ none ↦ [] | some seat ↦ stores_by (first_step seat.program) ]) e)
