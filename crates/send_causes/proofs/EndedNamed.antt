@@ -59,7 +59,7 @@ use Rattle.send_causes.proofs.EndedNames.{ViewOver, NameLaw, StoredFor, for_up, 
 -- ## How a run begins
 
 -- the calls of a client's tasks are those of the script
-asked_by : (script : List Item) (i : ℕ) (ts : List Task) → get_elem? (all_tasks script) i ≡ some ts → AllByRecursion (λ (t : Task). OpCalls (IsCallOf script) t.op) ts
+pub asked_by : (script : List Item) (i : ℕ) (ts : List Task) → get_elem? (all_tasks script) i ≡ some ts → AllByRecursion (λ (t : Task). OpCalls (IsCallOf script) t.op) ts
 asked_by script i ts at = all_of (λ (t : Task). OpCalls (IsCallOf script) t.op) ts of_task
   where
     of_task : (t : Task) → In t ts → OpCalls (IsCallOf script) t.op

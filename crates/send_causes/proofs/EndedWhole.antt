@@ -170,6 +170,9 @@ module _ (script : List Item) (made : AreMade script) (turns : List Turn) (core 
       (set_up_sound script made.are (first_views script) (start script made turns core is) (go script made turns core is) turns core is (fitting script made turns core is)) is.answered (let f = fitting script made turns core is in f.of_played)
       (recorded_set_up script made.are (first_views script) (start script made turns core is) (go script made turns core is) turns core is (fitting script made turns core is)) (λ e. tt) set_up_keeps
 
+  pub seats_played : length (played script is.setup in_clients).seats ≡ 32 + length (opens script)
+  seats_played = let k = played_keeps in k.many
+
   -- seat 0 alone gets a program for the ending
   closing_keeps : K (closing_of script turns core is) (views_played script turns core is (first_views script)) h₂
   closing_keeps = let k = played_keeps in record {

@@ -37,3 +37,4 @@ pub mod EndedTrials
 pub mod EndedTryLoops
 pub mod EndedTryPrograms
 pub mod EndedTryTicks
+pub mod EndedOnce
