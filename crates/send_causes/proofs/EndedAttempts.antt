@@ -187,7 +187,7 @@ module _ (script : List Item) (made : AreMade script) (turns : List Turn) (core 
   at_place P (x ∷ xs) all Rattle.std.proofs.Common.zero a e = let same : x ≡ a = cc in subst P same all.0
   at_place P (x ∷ xs) all (Rattle.std.proofs.Common.suc i) a e = at_place P xs all.1 i a e
 
-  get_there : {A : Type 0} (xs : List A) (i : ℕ) (x : A) → get_elem? xs i ≡ some x → slice_get xs i ≡ Some x
+  pub get_there : {A : Type 0} (xs : List A) (i : ℕ) (x : A) → get_elem? xs i ≡ some x → slice_get xs i ≡ Some x
   get_there [] i x e = absurd (some-ne-none x (sym e))
   get_there (y ∷ xs) Rattle.std.proofs.Common.zero x e = ap (λ z. Some z) (some-injective y x e)
   get_there (y ∷ xs) (Rattle.std.proofs.Common.suc i) x e = get_there xs i x e

@@ -38,3 +38,4 @@ pub mod EndedTryLoops
 pub mod EndedTryPrograms
 pub mod EndedTryTicks
 pub mod EndedOnce
+pub mod EndedCauses
