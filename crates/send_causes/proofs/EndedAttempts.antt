@@ -15,8 +15,6 @@ use Rattle.brpc_model.specs.Operations.{Turn}
 use Rattle.brpc_model.specs.Script.{script_of}
 use Rattle.brpc_model.specs.Stream.{stream}
 use Rattle.sock_message.specs.Asked.{Asked, name_of}
-use Rattle.sock_programs.specs.declared.task.Op.{Op}
-use Rattle.sock_programs.specs.declared.task.Op.TheVariants as ops
 use Rattle.sock_programs.specs.declared.task.Task.{Task}
 use Rattle.sock_programs.specs.Asides.{StoreAt, call_id, id_slot, id_first}
 use Rattle.sock_programs.specs.Programs.{Program, Aside}
@@ -29,7 +27,6 @@ use Rattle.sock_programs.specs.ToldCalls.{Accepted, Fixed, StandsOn, MayBeOn, Ga
 use Rattle.sock_runs.specs.Sound.{first_step}
 use Rattle.sock_runs.proofs.LinkTicks.{RetriesGo}
 use Rattle.sock_runs.proofs.Whole.{Begins, AreFittingIn, closing_of, views_ended, ended_sound, end_rests}
-use Rattle.sock_causes.specs.Causes.{Asks}
 use Rattle.sock_causes.specs.Explains.{is_plain}
 use Rattle.sock_causes.specs.Kept.{IsSpoken}
 use Rattle.sock_causes.specs.PlainTasks.{told_tasks_of}
@@ -48,7 +45,7 @@ use Rattle.call_causes.specs.Posts.{Post}
 use Rattle.send_causes.specs.Counts.{AreLabelled}
 use Rattle.send_causes.specs.EndedCalls.{Load, Store, stores_by, stored_at, stores_of_run, reader_posts_of_run, AreStoredOnce, EndedSo, IsEndPost}
 use Rattle.send_causes.proofs.Apart as apart
-use Rattle.send_causes.proofs.Beside.{gave_of_run, orders_here}
+use Rattle.send_causes.proofs.Beside.{gave_of_run}
 use Rattle.send_causes.proofs.Early.{start, go, fitting}
 use Rattle.send_causes.proofs.Runs.{AreLabelledIn, IsCallOf, end_law}
 use Rattle.send_causes.proofs.Sends.{owed, orders_of_run, narrow, opening_claims}

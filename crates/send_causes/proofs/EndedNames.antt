@@ -41,7 +41,6 @@ use Rattle.sock_runs.specs.May.{May}
 use Rattle.sock_runs.specs.Rows.{row, hand_at, new_claim, filled_claim, ready_claim, by_claim, exchanged, took_message, link_away, link_home_again, took_bytes}
 use Rattle.sock_runs.specs.Sound.{Sound, first_step, views_after}
 use Rattle.sock_runs.proofs.Cases.{with_rights, right_rights, put_rights}
-use Rattle.sock_runs.proofs.Leaves.{claim_way}
 use Rattle.sock_causes.specs.Causes.{WasGiven}
 use Rattle.sock_causes.specs.Kept.{Story}
 use Rattle.sock_causes.specs.Stories.{Event, In, last_name}
@@ -54,8 +53,8 @@ use Rattle.label_runs.specs.Labels.{FindsLabel}
 use Rattle.send_causes.specs.EndedCalls.{Load, loads_by, loaded_with, loaded_at, Store, stores_by, stored_at}
 use Rattle.send_causes.proofs.Words.{finds_label, makes_new}
 use Rattle.send_causes.proofs.Ticks.{AreCalls, none_asked, calls_waiting}
-use Rattle.send_causes.proofs.Views.{Same, row_same}
-use Rattle.send_causes.proofs.EndedTrails.{Of, NoCall, Makes, Knows, Trail, lost, Stays, IsOwnStore, MayAttempt, GoesDo, GoesAside, PutsBack, Follows}
+use Rattle.send_causes.proofs.Views.{row_same}
+use Rattle.send_causes.proofs.EndedTrails.{Of, NoCall, Makes, Knows, Trail, lost, Stays, IsOwnStore, MayAttempt, GoesDo, GoesAside, Follows}
 use Rattle.send_causes.proofs.EndedLoops.{follows_round}
 use Rattle.send_causes.proofs.EndedPrograms.{block_goes, retry_goes}
 
@@ -261,10 +260,16 @@ module _ (is_call : Asked → Type 0) (seen : List Store) (es : List Event) wher
 
     put_over : (q : ℕ) (heading : Heading) (bytes : List ℕ) → MayAttempt is_call t (PutMessage q heading bytes) → (cs : List Claim) → v.claims ≡ cs → ViewOver (by_claim cs (λ c. with_claim v (filled_claim c heading bytes)) v)
     put_over q heading bytes may [] e = over
-    put_over q heading bytes may (x ∷ cs) e = ((λ some_. ⊎_elim (λ none_. absurd (some_ none_))
-        (λ a. let n : AllByRecursion IsNamed ((name_of a.0 heading.attempt, a.1) ∷ []) = subst (AllByRecursion IsNamed) a.4 true_.0 in let l : AllByRecursion (IsFor a.1) (x ∷ cs) = subst (AllByRecursion (IsFor a.1)) e (true_.1 a.5 (name_of a.0 heading.attempt) a.1 a.4) in
-        let stored : AllByRecursion IsStored ((heading.operation, at_word (id_first heading.owner) (id_slot heading.owner) a.6.0 heading.attempt) ∷ []) = subst (AllByRecursion IsStored) a.6.2 true_.3 in
-        (a.0, a.1, a.2, a.3, n.0, l.0, (a.6.0, true_.2 (name_of a.0 heading.attempt) a.1 a.6.0 a.4 a.6.1, stored.0))) may, tt), over.1)
+    put_over q heading bytes may (x ∷ cs) e = (
+      (
+        λ some_. ⊎_elim (λ none_. absurd (some_ none_))
+            (λ a. let n : AllByRecursion IsNamed ((name_of a.0 heading.attempt, a.1) ∷ []) = subst (AllByRecursion IsNamed) a.4 true_.0 in let l : AllByRecursion (IsFor a.1) (x ∷ cs) = subst (AllByRecursion (IsFor a.1)) e (true_.1 a.5 (name_of a.0 heading.attempt) a.1 a.4) in
+            let stored : AllByRecursion IsStored ((heading.operation, at_word (id_first heading.owner) (id_slot heading.owner) a.6.0 heading.attempt) ∷ []) = subst (AllByRecursion IsStored) a.6.2 true_.3 in
+            (a.0, a.1, a.2, a.3, n.0, l.0, (a.6.0, true_.2 (name_of a.0 heading.attempt) a.1 a.6.0 a.4 a.6.1, stored.0))) may,
+        tt,
+      ),
+      over.1,
+    )
 
     pub row_over : (p : Plan) (found : ℕ) (hand : Hand) (call : Call) → MayAttempt is_call t call → ViewOver (row p call found hand v)
     row_over p found hand (ClaimRequest i q) may = split (found % 2 == 0) _ v ViewOver (((λ some_. absurd (some_ refl)), tt), over.1) over

@@ -1,11 +1,10 @@
 -- In a whole run no attempt has two at words.
-use Rattle.std.proofs.Common.{◌≡◌, ℕ, zero, suc, ◌+◌, ◌-◌, ◌<◌, ◌≤◌, ◌⊎◌, inl, inr, ⊎_elim, true, false, List, [], ◌∷◌, ◌++◌, length, map, replicate, refl, sym, ap, ◌∙◌, subst, arith}
+use Rattle.std.proofs.Common.{◌≡◌, ℕ, zero, suc, ◌+◌, ◌-◌, ◌≤◌, ⊎_elim, List, [], ◌∷◌, ◌++◌, length, map, replicate, refl, sym, ◌∙◌, subst, arith}
 use Rattle.std.specs.List.{AllByRecursion}
 use Rattle.std.proofs.lemmas.List.{length-map}
 use mathlib.Core.Option.{some, some-injective, some-ne-none}
 use lib.ListN.{get_elem?}
 use Rattle.sock_words.specs.declared.plain.Plan.{Plan}
-use Rattle.sock_words.specs.Words.{at_word_attempt}
 use Rattle.sock_model.specs.declared.view.View.{View}
 use Rattle.sock_model.specs.Weights.{total}
 use Rattle.brpc_model.specs.Items.{Item}
@@ -17,24 +16,23 @@ use Rattle.sock_programs.specs.Clients.{client_from, ending_of}
 use Rattle.sock_programs.specs.Cores.{Core, SeatState, resolved, next_step}
 use Rattle.sock_programs.specs.declared.task.Sizes.{Sizes}
 use Rattle.sock_programs.specs.declared.task.Task.{Task}
-use Rattle.sock_programs.specs.Heads.{Retry}
 use Rattle.sock_programs.specs.Programs.{Program, Do, Say, Sent, Rest, TakeMessage, TakeHome, PutHome, PutBytes, AskReady, Write, Aside, Round, Keep, Retries}
 use Rattle.sock_programs.specs.Readers.{reader}
 use Rattle.sock_programs.specs.Ticks.{Moment, AreAnswered, quiet, ticked, run}
 use Rattle.sock_programs.specs.Tasks.{opens, calls, plan_of, id_plan_of}
-use Rattle.sock_programs.specs.Scripts.{sizes_of, programs, readers_from, all_programs, all_tasks, beginning, opened, set_up, played, is_ending, IsRunWithCalls}
+use Rattle.sock_programs.specs.Scripts.{sizes_of, programs, readers_from, all_programs, all_tasks, beginning, opened, set_up, played, IsRunWithCalls}
 use Rattle.sock_runs.specs.Sound.{Sound, AreFitting, views_after, views_along}
 use Rattle.sock_runs.proofs.LinkTicks.{RetriesGo}
 use Rattle.sock_runs.proofs.Opening.{mapped, appended}
 use Rattle.sock_runs.proofs.Ticks.{sound_ticks}
-use Rattle.sock_runs.proofs.Whole.{closing_of, rested_of, views_played, views_closed, set_up_answered, end_answered, set_up_sound, closing_sound, closed_sound}
+use Rattle.sock_runs.proofs.Whole.{closing_of, views_played, views_closed, set_up_answered, end_answered, set_up_sound, closing_sound, closed_sound}
 use Rattle.sock_causes.specs.Stories.{In}
 use Rattle.sock_causes.proofs.Final.{at_there}
 use Rattle.sock_causes.proofs.Members.{contains_in}
 use Rattle.sock_causes.proofs.Plain.{in_left, in_right, in_both}
 use Rattle.sock_causes.proofs.Ticks.{elem_there}
 use Rattle.joint_runs.proofs.Runs.{AreMade, first_views}
-use Rattle.label_runs.specs.Labels.{Trial, Idle, Tries}
+use Rattle.label_runs.specs.Labels.{Trial, Idle}
 use Rattle.label_runs.proofs.Programs.{OpCalls}
 use Rattle.owed_calls.specs.Lives.{ClosesInRun}
 use Rattle.call_causes.specs.Lists.{shows_in}
@@ -47,7 +45,7 @@ use Rattle.send_causes.proofs.Ticks.{none_asked}
 use Rattle.send_causes.proofs.EndedNamed.{asked_by}
 use Rattle.send_causes.proofs.EndedTrials.{Stows}
 use Rattle.send_causes.proofs.EndedTryPrograms.{client_goes, ending_goes, reader_goes}
-use Rattle.send_causes.proofs.EndedTryTicks.{of_try, tries_of, OnceLaw, moves, once_ticks}
+use Rattle.send_causes.proofs.EndedTryTicks.{of_try, OnceLaw, moves, once_ticks}
 use Rattle.send_causes.proofs.EndedWhole.{seats_played}
 
 -- ## How a run begins

@@ -1,8 +1,8 @@
 -- A tick keeps what is said of the posts of a reader.
-use Rattle.std.proofs.Common.{◌≡◌, ◌≢◌, ℕ, ◌+◌, ◌==◌, eqb, eq-eqb, Bool, true, false, cond, List, [], ◌∷◌, ◌++◌, map, filter, set, append-nil, inl, inr, ⊎_elim, ◌⊎◌, refl, sym, ap, ◌∙◌, subst, arith}
+use Rattle.std.proofs.Common.{◌≡◌, ◌≢◌, ℕ, ◌+◌, ◌==◌, eq-eqb, Bool, true, false, cond, List, [], ◌∷◌, ◌++◌, map, filter, set, append-nil, inl, inr, ⊎_elim, refl, sym, ap, ◌∙◌, subst}
 use Rattle.std.specs.Prelude.{slice_index, Some, None}
 use mathlib.Core.Logic.{dite}
-use mathlib.Core.Option.{Option, none, some, some-injective}
+use mathlib.Core.Option.{Option, none, some}
 use native.Mathlib.Decide.{ℕ_discrete}
 use lib.ListN.{get_elem?}
 use Rattle.atomic_table.proofs.Lists.{at_set, set_else}
@@ -17,17 +17,16 @@ use Rattle.id_rule.specs.Lawful.{at_word}
 use Rattle.id_runs.specs.Goes as goes
 use Rattle.sock_programs.specs.Asides.{Step, Found, LoadAt, PostId, TakeBytes, Taking, call_id}
 use Rattle.sock_programs.specs.Beside.{at_last, taking_in, found_in}
-use Rattle.sock_programs.specs.Calls.{Call}
-use Rattle.sock_programs.specs.Heads.{Decides, Locks, Reads, Discards}
+use Rattle.sock_programs.specs.Heads.{Decides, Locks}
 use Rattle.sock_programs.specs.Posts.{ends_call}
 use Rattle.sock_programs.specs.Writings.{Puts, Waits, Empties, Walks}
-use Rattle.sock_programs.specs.Programs.{Program, Do, Say, Sent, Rest, TakeMessage, TakeHome, PutHome, PutBytes, AskReady, Write, Aside, Round, Keep, Retries}
+use Rattle.sock_programs.specs.Programs.{Program, Do, TakeMessage, TakeHome, PutHome, PutBytes, AskReady, Write, Aside, Round, Retries}
 use Rattle.sock_programs.specs.Cores.{Core, SeatState, word_of, found_at, waiting_at}
 use Rattle.sock_programs.specs.Ticks.{Answer, Unasked, OfPut, OfReady, OfTake, Moment, taken, with_message, with_link, with_put, with_ready, with_found, step_with, tick_with, ticked}
 use Rattle.sock_runs.specs.Sound.{first_step}
 use Rattle.sock_causes.specs.Stories.{In}
 use Rattle.owed_calls.proofs.OwingRuns.{same_first}
-use Rattle.whole_runs.specs.Heard.{as_taken, taken_link, taken_at}
+use Rattle.whole_runs.specs.Heard.{as_taken, taken_link}
 use Rattle.call_causes.specs.Posts.{Post, posts_by, posted_with, posted_at}
 use Rattle.send_causes.specs.EndedCalls.{Load, loaded_with, loaded_at}
 use Rattle.send_causes.proofs.EndedReads.{Tells, MayPost, tell_first, tell_next}

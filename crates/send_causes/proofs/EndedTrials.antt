@@ -1,5 +1,5 @@
 -- Each at word is stored for an attempt that its seat tries, once. (As Labels of label_runs has it, but that none is stored where the seat tries no attempt.)
-use Rattle.std.specs.Prelude.{ℕ, ◌≡◌, ◌≢◌, ◌+◌, ◌<◌, ◌≤◌, ◌⊎◌, ◌==◌, Bool, true, false, if◌then◌else◌, List, [], Option, Some, None}
+use Rattle.std.specs.Prelude.{ℕ, ◌≡◌, ◌<◌, ◌≤◌, List}
 use Rattle.sock_io.specs.declared.link.Put.{Put}
 use Rattle.sock_io.specs.declared.link.Ready.{Ready}
 use Rattle.sock_model.specs.declared.chain.Heading.{Heading}
@@ -8,8 +8,7 @@ use Rattle.corr_core.specs.Word.{parts}
 use Rattle.id_runs.specs.Goes.{FitsSock}
 use Rattle.sock_message.specs.Asked.{Asked}
 use Rattle.sock_programs.specs.Asides.{Step, Found, PutCall, MakeId, StoreAt, UnlockId, call_id, id_slot, id_first}
-use Rattle.sock_programs.specs.Calls.{Call}
-use Rattle.sock_programs.specs.Heads.{Head, Exit}
+use Rattle.sock_programs.specs.Heads.{Exit}
 use Rattle.sock_programs.specs.Programs.{Program, Do, Say, Sent, Rest, TakeMessage, TakeHome, PutHome, PutBytes, AskReady, Write, Aside, Round, Keep, Retries}
 use Rattle.label_runs.specs.Labels.{Trial, Idle, Tries, Sends, put_behind, Kept, unlocked_trial, trial_behind, LeavesLabel, MayPut, FindsLabel, AtLabel}
 

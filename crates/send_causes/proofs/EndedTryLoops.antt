@@ -13,7 +13,7 @@ use Rattle.sock_programs.specs.Programs.{Program, Say, Aside, Round}
 use Rattle.sock_programs.specs.Readers.{answer, answered, responses, read_on, took, discarded, last_of, slot_in, version_in, has_response, ending_of, is_early, ended_by as how_ended, LIMIT}
 use Rattle.sock_programs.specs.Rounds.{round}
 use Rattle.label_runs.specs.Labels.{Trial, Idle, Tries, FindsLabel, LeavesLabel, unlocks_trial, unlocked_trial}
-use Rattle.send_causes.proofs.EndedTrials.{Stows, Moves, Stowing}
+use Rattle.send_causes.proofs.EndedTrials.{Stows}
 
 -- ## Numbers
 

@@ -29,7 +29,7 @@ use Rattle.sock_programs.specs.Readers.{kept_for, ends_with, posted_last, post_e
 use Rattle.sock_programs.specs.Sends.{freed as given_back, one_more, passed_telling, tell_drop, placed, dropped, put_answered, ready_answered, block, first_put, accept, write_link, heading_of, claim_from, start, send}
 use Rattle.sock_programs.specs.Writings.{Holder, Writing, Puts, Waits, Empties, Walks}
 use Rattle.label_runs.specs.Labels.{Trial, Idle, Tries, Sends, IsOfTrial, MayPut, LeavesLabel, LeavesLock, LeavesUnlock}
-use Rattle.send_causes.proofs.EndedTrials.{Stows, Moves, Stowing}
+use Rattle.send_causes.proofs.EndedTrials.{Stows}
 use Rattle.send_causes.proofs.EndedTryLoops.{way, post_with_goes, posted_goes, post_goes, decide_goes, decided_goes, answer_goes}
 
 module _ (is_call : Asked → Type 0) where

@@ -1,5 +1,5 @@
 -- Each tick keeps that no attempt has two at words.
-use Rattle.std.proofs.Common.{◌≡◌, ◌≢◌, ℕ, zero, suc, ◌+◌, ◌*◌, ◌/◌, ◌%◌, ◌<◌, ◌≤◌, ◌⊎◌, inl, inr, ⊎_elim, Bool, true, false, cond, eqb, eqb-true, eq-eqb, List, [], ◌∷◌, ◌++◌, length-set, get_or, set, refl, sym, ap, ◌∙◌, subst, arith}
+use Rattle.std.proofs.Common.{◌≡◌, ◌≢◌, ℕ, zero, suc, ◌+◌, ◌<◌, ◌≤◌, ◌⊎◌, inl, inr, ⊎_elim, Bool, true, false, cond, eqb, eqb-true, eq-eqb, List, [], ◌∷◌, ◌++◌, length-set, get_or, set, refl, sym, ap, ◌∙◌, subst, arith}
 use Rattle.std.specs.List.{AllByRecursion}
 use Rattle.std.specs.Prelude as std
 use mathlib.Core.Logic.{dite}
@@ -26,12 +26,11 @@ use Rattle.sock_programs.specs.Heads.{Retry}
 use Rattle.sock_programs.specs.Programs.{Program, Do, Say, Sent, Rest, TakeMessage, TakeHome, PutHome, PutBytes, AskReady, Write, Aside, Round, Keep, Retries}
 use Rattle.sock_programs.specs.Cores.{Calls, Core, SeatState, word_of, found_at, words_after, word_after, homes_after, hand_after, lies_at, first_of, others_of, link_place, resolved, still_waiting, waiting_at, next_step, with_seat}
 use Rattle.sock_programs.specs.Ticks.{Moment, IsAnswered, fed, with_places, onto_first, taken, step_with, tick_with, ticked}
-use Rattle.sock_runs.specs.Sound.{Sound, first_step, views_after}
+use Rattle.sock_runs.specs.Sound.{Sound, first_step}
 use Rattle.sock_causes.specs.Stories.{In}
 use Rattle.sock_causes.proofs.Cases.{tick_cases}
-use Rattle.sock_causes.proofs.Plain.{in_both}
 use Rattle.sock_causes.proofs.Ticks.{elem_there}
-use Rattle.label_runs.specs.Labels.{Trial, Idle, Tries, Sends, put_behind, Kept, unlocked_trial, FindsLabel}
+use Rattle.label_runs.specs.Labels.{Trial, Idle, Tries, put_behind, Kept, unlocked_trial}
 use Rattle.send_causes.specs.Counts.{pair_of, of_retry, WasMade, WasNow, StoresOwn}
 use Rattle.send_causes.specs.EndedCalls.{Store, stores_by, stored_at}
 use Rattle.send_causes.proofs.Words.{made_on, finds_label, words_forward, makes_new, advances_new}
@@ -327,15 +326,18 @@ module _ (p : Plan) (q : IdPlan) (narrow : q.slots ≤ 65536) (is_call : Asked �
         single_now y z (inr m) (inr k) same_op same_attempt = law.single y z m k same_op same_attempt
 
         stored : End ((record { operation = o; word = w }) ∷ done) (with_seat i (next found) seat.hand c.words c.homes (record c { calls = calls_after (StoreAt o w) found c.calls }))
-        stored = let l = b.behind in (b.trials, record {
-          once = l.once;
-          made = l.made;
-          calls = l.calls;
-          each = l.each;
-          programs = l.programs;
-          gone = λ y there. ⊎_elim (λ e. subst (IsGone is_call ids q d b.trials) (sym e) now) (λ m. l.gone y m) there;
-          single = single_now;
-        })
+        stored = let l = b.behind in (
+          b.trials,
+          record {
+            once = l.once;
+            made = l.made;
+            calls = l.calls;
+            each = l.each;
+            programs = l.programs;
+            gone = λ y there. ⊎_elim (λ e. subst (IsGone is_call ids q d b.trials) (sym e) now) (λ m. l.gone y m) there;
+            single = single_now;
+          },
+        )
 
       as_end : (d : Core) (u : Trial) (new : ℕ → ℕ → ℕ) → After d u new → End done d
       as_end d u new x = (x.trials, x.behind)
