@@ -112,9 +112,6 @@ module _ (script : List Item) (made : AreMade script) (turns : List Turn) (core 
   abbrev bare : (i : ℕ) (v : View) → get_elem? (first_views script) i ≡ some v → (v.claims ≡ []) × (v.lists ≡ [] ∷ [])
   bare = λ i v at. (opening_claims (plan_of script) (all_seats (all_tasks script) (length (opens script))) i v at, opening_fresh (plan_of script) (all_seats (all_tasks script) (length (opens script))) i v at)
 
-  abbrev Stores : Store → Type 0
-  Stores x = In x (stores_of_run script turns core is)
-
   own_store : (x : Store) → In x (stores_of_run script turns core is) → IsOwn ids (plan_of script) (id_plan_of script) x
   own_store x there = ⊎_elim (λ a. ticks_own ids (plan_of script) (id_plan_of script) (replicate is.setup (quiet 0)) (opened script) labelled.of_setup x a)
       (λ b. ⊎_elim (λ a. ticks_own ids (plan_of script) (id_plan_of script) (is.scheduled ++ is.later) (set_up script is.setup) labelled.of_played x a)
@@ -126,9 +123,6 @@ module _ (script : List Item) (made : AreMade script) (turns : List Turn) (core 
 
   abbrev tasks : AreTasks (plan_of script) (told_tasks_of script)
   tasks = tasks_are script made.are vs begins goes turns core is fits (narrow script made turns core is closes) bare ids labelled
-
-  abbrev End : Type 0
-  End = EndNamed script made.are vs begins goes turns core is fits (narrow script made turns core is closes) bare ids labelled core
 
   ending : EndNamed script made.are vs begins goes turns core is fits (narrow script made turns core is closes) bare ids labelled core
   ending = end_named script made.are vs begins goes turns core is fits (narrow script made turns core is closes) bare ids labelled

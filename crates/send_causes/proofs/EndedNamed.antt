@@ -171,9 +171,6 @@ module _ (script : List Item) (are : AreTasks (plan_of script) (all_tasks script
   pub tasks_are : AreTasks (plan_of script) (told_tasks_of script)
   tasks_are = are_seats (plan_of script) (all_tasks script) are (length (opens script))
 
-  abbrev seen : List Store
-  seen = stores_of_run script turns core is
-
   abbrev Keeps : Bool → Core → List View → Type 0
   Keeps over c ws = Named (plan_of script) (id_plan_of script) narrow (IsCallOf script) (stores_of_run script turns core is) (told_tasks_of script) tasks_are ids over c ws
 
@@ -210,9 +207,6 @@ module _ (script : List Item) (are : AreTasks (plan_of script) (all_tasks script
     law = begins_named (plan_of script) (id_plan_of script) (IsCallOf script) (stores_of_run script turns core is) [] (all_programs (programs (sizes_of (plan_of script) (id_plan_of script)) (all_tasks script)) (readers_from (calls script) 0 (opens script)))
         (all_follow (IsCallOf script) (sizes_of (plan_of script) (id_plan_of script)) (all_tasks script) (asked_by script) (calls script) (opens script)) vs bare;
   }
-
-  abbrev views_set : List View
-  views_set = views_along (plan_of script) (opened script) vs in_setup
 
   setup_part : After false [] (opened script) vs in_setup
   setup_part = setup_named p q narrow (IsCallOf script) (stores_of_run script turns core is) (told_tasks_of script) tasks_are ids go is.setup (opened script) vs begins.sound (set_up_answered script are vs begins go turns core is fitting) fitting.of_setup labelled.of_setup

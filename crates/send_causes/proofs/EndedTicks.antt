@@ -126,9 +126,6 @@ module _ (p : Plan) (n : ℕ) (At : ℕ → ℕ → Type 0) where
           same : loaded_at c m ≡ (record { seat = m.seat; operation = o; word = slice_index c.calls.words (at_word c.calls.plan o) }) ∷ []
           same = ap (λ x. elim x as (λ o. List Load) [ none ↦ [] | some seat ↦ loaded_with m.seat c.calls (taken m.answer) (first_step seat.program) ]) at ∙ ap (loaded_with m.seat c.calls (taken m.answer)) is
 
-      got : Program → List Taking
-      got x = map (at_last c.calls.ending) (as_taken (map (λ (j : ℕ). m.answer) (filter (λ j. j == n) (takes_by x))))
-
       own_step : (x : Program) → first_step seat.program ≡ x → Tells n At h x → HasTold (h ++ map (at_last c.calls.ending) (as_taken (map (λ (j : ℕ). m.answer) (filter (λ j. j == n) (takes_by x))))) (step_with p m.seat seat c m.answer x)
       own_step (Aside (TakeBytes l room) next) is x = subst (λ b. HasTold (h ++ map (at_last c.calls.ending) (as_taken (map (λ (j : ℕ). m.answer) (cond b (l ∷ []) [])))) (step_with p m.seat seat c m.answer (Aside (TakeBytes l room) next))) (sym (eq-eqb l n x.0))
           (takes l room next x.1 m.answer)

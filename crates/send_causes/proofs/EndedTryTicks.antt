@@ -339,9 +339,6 @@ module _ (p : Plan) (q : IdPlan) (narrow : q.slots ≤ 65536) (is_call : Asked �
           },
         )
 
-      as_end : (d : Core) (u : Trial) (new : ℕ → ℕ → ℕ) → After d u new → End done d
-      as_end d u new x = (x.trials, x.behind)
-
       -- each step aside
       asides : (step : Step) (next : Found step → Program) (found : Found step) (answer : Option Taking) → found_in step c.calls answer ≡ some found → MayId p q u step → Stows is_call t (Aside step next)
           → ((o w : ℕ) → step ≡ StoreAt o w → (id n k : ℕ) → w ≡ at_word (id_first id) (id_slot id) k n → k < 65535 → n ≤ 6 → id_slot id < 65536 → (ids o ≡ id) × (id ≢ 0))

@@ -141,9 +141,6 @@ module _ (script : List Item) (made : AreMade script) (turns : List Turn) (core 
 
   -- ## What is said of the parts
 
-  Part : Core → List Moment → Core → (ℕ → List Taking) → (ℕ → List Taking) → Type 0
-  Part c ms d h h' = T h' d × ((x : Post) → In x (shows_in reader_posts_at (plan_of script) c ms) → P h' x)
-
   setup_part : T h₁ (set_up script is.setup) × ((x : Post) → In x (shows_in reader_posts_at (plan_of script) (opened script) in_setup) → P h₁ x)
   setup_part = told_along (plan_of script) (calls script) (opens script) (let k = known script made turns core is in k.in_script) (loads_of_run script turns core is) (IsListed script) (go script made turns core is) in_setup (opened script) (first_views script) (λ n. [])
       (let s = start script made turns core is in s.sound) (set_up_answered script made.are (first_views script) (start script made turns core is) (go script made turns core is) turns core is (fitting script made turns core is)) (let f = fitting script made turns core is in f.of_setup)
