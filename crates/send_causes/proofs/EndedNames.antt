@@ -41,7 +41,6 @@ use Rattle.sock_runs.specs.May.{May}
 use Rattle.sock_runs.specs.Rows.{row, hand_at, new_claim, filled_claim, ready_claim, by_claim, exchanged, took_message, link_away, link_home_again, took_bytes}
 use Rattle.sock_runs.specs.Sound.{Sound, first_step, views_after}
 use Rattle.sock_runs.proofs.Cases.{with_rights, right_rights, put_rights}
-use Rattle.sock_runs.proofs.Leaves.{claim_way}
 use Rattle.sock_causes.specs.Causes.{WasGiven}
 use Rattle.sock_causes.specs.Kept.{Story}
 use Rattle.sock_causes.specs.Stories.{Event, In, last_name}
@@ -52,10 +51,10 @@ use Rattle.sock_causes.proofs.Tests.{split}
 use Rattle.sock_causes.proofs.Ticks.{elem_there}
 use Rattle.label_runs.specs.Labels.{FindsLabel}
 use Rattle.send_causes.specs.EndedCalls.{Load, loads_by, loaded_with, loaded_at, Store, stores_by, stored_at}
-use Rattle.send_causes.proofs.Words.{finds_label}
+use Rattle.send_causes.proofs.Words.{finds_label, makes_new}
 use Rattle.send_causes.proofs.Ticks.{AreCalls, none_asked, calls_waiting}
-use Rattle.send_causes.proofs.Views.{Same, row_same}
-use Rattle.send_causes.proofs.EndedTrails.{Trail, lost, Stays, IsOwnStore, MayAttempt, GoesDo, GoesAside, PutsBack, Follows}
+use Rattle.send_causes.proofs.Views.{row_same}
+use Rattle.send_causes.proofs.EndedTrails.{Of, NoCall, Makes, Knows, Trail, lost, Stays, IsOwnStore, MayAttempt, GoesDo, GoesAside, Follows}
 use Rattle.send_causes.proofs.EndedLoops.{follows_round}
 use Rattle.send_causes.proofs.EndedPrograms.{block_goes, retry_goes}
 
@@ -191,6 +190,7 @@ module _ (is_call : Asked → Type 0) (seen : List Store) (es : List Event) wher
     pub link : ℕ
     pub socket : ℕ
     pub word : w ≡ at_word (id_first id) (id_slot id) link attempt
+    pub slot : id_slot id < 65536
     pub small : link < 65535
     pub few : attempt ≤ 6
     pub named : IsNamed (name_of asked attempt, socket)
@@ -210,9 +210,15 @@ module _ (is_call : Asked → Type 0) (seen : List Store) (es : List Event) wher
   abbrev pub ViewOver : View → Type 0
   ViewOver v = AllByRecursion ClaimOver v.claims × AllByRecursion (AllByRecursion EntryOver) v.lists
 
+  -- the slot of an id that the seat knows is one of a table
+  abbrev pub HasSlot : Of → Type 0
+  HasSlot NoCall = Unit {0}
+  HasSlot (Makes id) = id_slot id < 65536
+  HasSlot (Knows o id) = id_slot id < 65536
+
   abbrev pub IsTrue : View → Trail → Type 0
   IsTrue v t = AllByRecursion IsNamed t.name × (t.claimed ≡ true → (m s : ℕ) → t.name ≡ (m, s) ∷ [] → AllByRecursion (IsFor s) v.claims)
-      × ((m s k : ℕ) → t.name ≡ (m, s) ∷ [] → t.linked ≡ k ∷ [] → WasGiven es (socket_id_slot s) (socket_id_version s) k) × AllByRecursion IsStored t.stored
+      × ((m s k : ℕ) → t.name ≡ (m, s) ∷ [] → t.linked ≡ k ∷ [] → WasGiven es (socket_id_slot s) (socket_id_version s) k) × AllByRecursion IsStored t.stored × HasSlot t.of
 
   pub record NameLaw (c : Core) (vs : List View) (ts : List Trail) : Type 0 where
     pub views : (j : ℕ) (v : View) → get_elem? vs j ≡ some v → ViewOver v
@@ -223,14 +229,14 @@ module _ (is_call : Asked → Type 0) (seen : List Store) (es : List Event) wher
     pub programs : (j : ℕ) (seat : SeatState) (t : Trail) → get_elem? c.seats j ≡ some seat → get_elem? ts j ≡ some t → Follows is_call t seat.program
 
   pub lost_true : (v : View) → IsTrue v lost
-  lost_true v = (tt, λ e. absurd (true≢false (sym e)), λ m s k n l. absurd (no_name m s n), tt)
+  lost_true v = (tt, λ e. absurd (true≢false (sym e)), λ m s k n l. absurd (no_name m s n), tt, tt)
 
   stays_true : (v : View) (t u : Trail) → Stays t u → IsTrue v t → IsTrue v u
   stays_true v t u (inl e) h = subst (IsTrue v) (sym e) h
   stays_true v t u (inr e) h = subst (IsTrue v) (sym e) (lost_true v)
 
   trail_on : (v w : View) (t : Trail) → w.claims ≡ v.claims → IsTrue v t → IsTrue w t
-  trail_on v w t e h = (h.0, λ b m s is. subst (AllByRecursion (IsFor s)) (sym e) (h.1 b m s is), h.2, h.3)
+  trail_on v w t e h = (h.0, λ b m s is. subst (AllByRecursion (IsFor s)) (sym e) (h.1 b m s is), h.2, h.3, h.4)
 
   -- ## Rows
 
@@ -254,10 +260,16 @@ module _ (is_call : Asked → Type 0) (seen : List Store) (es : List Event) wher
 
     put_over : (q : ℕ) (heading : Heading) (bytes : List ℕ) → MayAttempt is_call t (PutMessage q heading bytes) → (cs : List Claim) → v.claims ≡ cs → ViewOver (by_claim cs (λ c. with_claim v (filled_claim c heading bytes)) v)
     put_over q heading bytes may [] e = over
-    put_over q heading bytes may (x ∷ cs) e = ((λ some_. ⊎_elim (λ none_. absurd (some_ none_))
-        (λ a. let n : AllByRecursion IsNamed ((name_of a.0 heading.attempt, a.1) ∷ []) = subst (AllByRecursion IsNamed) a.4 true_.0 in let l : AllByRecursion (IsFor a.1) (x ∷ cs) = subst (AllByRecursion (IsFor a.1)) e (true_.1 a.5 (name_of a.0 heading.attempt) a.1 a.4) in
-        let stored : AllByRecursion IsStored ((heading.operation, at_word (id_first heading.owner) (id_slot heading.owner) a.6.0 heading.attempt) ∷ []) = subst (AllByRecursion IsStored) a.6.2 true_.3 in
-        (a.0, a.1, a.2, a.3, n.0, l.0, (a.6.0, true_.2 (name_of a.0 heading.attempt) a.1 a.6.0 a.4 a.6.1, stored.0))) may, tt), over.1)
+    put_over q heading bytes may (x ∷ cs) e = (
+      (
+        λ some_. ⊎_elim (λ none_. absurd (some_ none_))
+            (λ a. let n : AllByRecursion IsNamed ((name_of a.0 heading.attempt, a.1) ∷ []) = subst (AllByRecursion IsNamed) a.4 true_.0 in let l : AllByRecursion (IsFor a.1) (x ∷ cs) = subst (AllByRecursion (IsFor a.1)) e (true_.1 a.5 (name_of a.0 heading.attempt) a.1 a.4) in
+            let stored : AllByRecursion IsStored ((heading.operation, at_word (id_first heading.owner) (id_slot heading.owner) a.6.0 heading.attempt) ∷ []) = subst (AllByRecursion IsStored) a.6.2 true_.3 in
+            (a.0, a.1, a.2, a.3, n.0, l.0, (a.6.0, true_.2 (name_of a.0 heading.attempt) a.1 a.6.0 a.4 a.6.1, stored.0))) may,
+        tt,
+      ),
+      over.1,
+    )
 
     pub row_over : (p : Plan) (found : ℕ) (hand : Hand) (call : Call) → MayAttempt is_call t call → ViewOver (row p call found hand v)
     row_over p found hand (ClaimRequest i q) may = split (found % 2 == 0) _ v ViewOver (((λ some_. absurd (some_ refl)), tt), over.1) over
@@ -268,15 +280,15 @@ module _ (is_call : Asked → Type 0) (seen : List Store) (es : List Event) wher
 
     ready_true : (cs : List Claim) → v.claims ≡ cs → IsTrue (by_claim cs (λ c. with_claim v (ready_claim c)) v) t
     ready_true [] e = true_
-    ready_true (x ∷ cs) e = (true_.0, λ b m s is. (let l : AllByRecursion (IsFor s) (x ∷ cs) = subst (AllByRecursion (IsFor s)) e (true_.1 b m s is) in (l.0, tt)), true_.2, true_.3)
+    ready_true (x ∷ cs) e = (true_.0, λ b m s is. (let l : AllByRecursion (IsFor s) (x ∷ cs) = subst (AllByRecursion (IsFor s)) e (true_.1 b m s is) in (l.0, tt)), true_.2, true_.3, true_.4)
 
     put_true : (heading : Heading) (bytes : List ℕ) (cs : List Claim) → v.claims ≡ cs → IsTrue (by_claim cs (λ c. with_claim v (filled_claim c heading bytes)) v) t
     put_true heading bytes [] e = true_
-    put_true heading bytes (x ∷ cs) e = (true_.0, λ b m s is. (let l : AllByRecursion (IsFor s) (x ∷ cs) = subst (AllByRecursion (IsFor s)) e (true_.1 b m s is) in (l.0, tt)), true_.2, true_.3)
+    put_true heading bytes (x ∷ cs) e = (true_.0, λ b m s is. (let l : AllByRecursion (IsFor s) (x ∷ cs) = subst (AllByRecursion (IsFor s)) e (true_.1 b m s is) in (l.0, tt)), true_.2, true_.3, true_.4)
 
     swap_true : (found : ℕ) (hand : Hand) (cs : List Claim) → v.claims ≡ cs → IsTrue (by_claim cs (exchanged found hand v) v) t
     swap_true found hand [] e = true_
-    swap_true found hand (x ∷ cs) e = split (nat_lt found IDLE) (queued v x found) (righted v x found hand.took hand.next) (λ w. IsTrue w t) (true_.0, λ b m s is. tt, true_.2, true_.3) (true_.0, λ b m s is. tt, true_.2, true_.3)
+    swap_true found hand (x ∷ cs) e = split (nat_lt found IDLE) (queued v x found) (righted v x found hand.took hand.next) (λ w. IsTrue w t) (true_.0, λ b m s is. tt, true_.2, true_.3, true_.4) (true_.0, λ b m s is. tt, true_.2, true_.3, true_.4)
 
     -- what is known stays so, where the step claims no request
     row_true : (p : Plan) (found : ℕ) (hand : Hand) (call : Call) → ((i q : ℕ) → call ≡ ClaimRequest i q → ⊥) → IsTrue (row p call found hand v) t
@@ -287,7 +299,7 @@ module _ (is_call : Asked → Type 0) (seen : List Store) (es : List Event) wher
     row_true p found hand call others = trail_on v (row p call found hand v) t (row_same v p found hand call refl).0 true_
 
     claim_true : (p : Plan) (found : ℕ) (hand : Hand) (i q m : ℕ) → found % 2 ≡ 0 → t.name ≡ (m, i) ∷ [] → WasGiven es (socket_id_slot i) (socket_id_version i) hand.link → IsTrue (row p (ClaimRequest i q) found hand v) (record { name = (m, i) ∷ []; claimed = true; of = t.of; linked = t.linked; stored = t.stored })
-    claim_true p found hand i q m free name given = (subst (AllByRecursion IsNamed) name true_.0, λ b x s is. split_claim x s is, λ x s k is l. true_.2 x s k (name ∙ is) l, true_.3)
+    claim_true p found hand i q m free name given = (subst (AllByRecursion IsNamed) name true_.0, λ b x s is. split_claim x s is, λ x s k is l. true_.2 x s k (name ∙ is) l, true_.3, true_.4)
       where
         split_claim : (x s : ℕ) → one_name m i ≡ one_name x s → AllByRecursion (IsFor s) (row p (ClaimRequest i q) found hand v).claims
         split_claim x s is = let same : i ≡ s = ap first_socket is in subst (λ b. AllByRecursion (IsFor s) (cond b (with_claim (met_link (socket_id_slot i) (socket_id_version i) hand.link v) (new_claim hand.link q found)) v).claims) (sym (Rattle.std.proofs.Common.eq-eqb (found % 2) 0 free))
@@ -315,13 +327,13 @@ module _ (is_call : Asked → Type 0) (seen : List Store) (es fs : List Event) (
   over_up h link o some_ = let a = o some_ in (a.0, a.1, a.2, a.3, named_up (name_of a.0 h.attempt, a.1) a.4, given_up (socket_id_slot a.1) (socket_id_version a.1) link a.5, (a.6.0, given_up (socket_id_slot a.1) (socket_id_version a.1) a.6.0 a.6.1, a.6.2))
 
   pub for_up : (o w : ℕ) → StoredFor is_call seen es o w → StoredFor is_call seen fs o w
-  for_up o w x = record { asked = x.asked; called = x.called; operation = x.operation; id = x.id; attempt = x.attempt; link = x.link; socket = x.socket; word = x.word; small = x.small; few = x.few; named = named_up (name_of x.asked x.attempt, x.socket) x.named; given = given_up (socket_id_slot x.socket) (socket_id_version x.socket) x.link x.given; stored = x.stored }
+  for_up o w x = record { asked = x.asked; called = x.called; operation = x.operation; id = x.id; attempt = x.attempt; link = x.link; socket = x.socket; word = x.word; slot = x.slot; small = x.small; few = x.few; named = named_up (name_of x.asked x.attempt, x.socket) x.named; given = given_up (socket_id_slot x.socket) (socket_id_version x.socket) x.link x.given; stored = x.stored }
 
   pub view_up : (v : View) → ViewOver is_call seen es v → ViewOver is_call seen fs v
   view_up v o = (all_up (ClaimOver is_call seen es) (ClaimOver is_call seen fs) (λ x a. over_up x.heading x.link a) v.claims o.0, all_up (AllByRecursion (EntryOver is_call seen es)) (AllByRecursion (EntryOver is_call seen fs)) (λ l a. all_up (EntryOver is_call seen es) (EntryOver is_call seen fs) (λ e b. over_up e.heading e.link b) l a) v.lists o.1)
 
   pub true_up : (v : View) (t : Trail) → IsTrue is_call seen es v t → IsTrue is_call seen fs v t
-  true_up v t h = (all_up (IsNamed is_call seen es) (IsNamed is_call seen fs) named_up t.name h.0, λ b m s is. all_up (IsFor is_call seen es s) (IsFor is_call seen fs s) (λ x a. given_up (socket_id_slot s) (socket_id_version s) x.link a) v.claims (h.1 b m s is), λ m s k n l. given_up (socket_id_slot s) (socket_id_version s) k (h.2 m s k n l), h.3)
+  true_up v t h = (all_up (IsNamed is_call seen es) (IsNamed is_call seen fs) named_up t.name h.0, λ b m s is. all_up (IsFor is_call seen es s) (IsFor is_call seen fs s) (λ x a. given_up (socket_id_slot s) (socket_id_version s) x.link a) v.claims (h.1 b m s is), λ m s k n l. given_up (socket_id_slot s) (socket_id_version s) k (h.2 m s k n l), h.3, h.4)
 
 -- ## A tick
 
@@ -394,7 +406,7 @@ module _ (p : Plan) (q : IdPlan) (narrow : q.slots ≤ 65536) (is_call : Asked �
     true_behind (LoadName m) may u g = ⊎_elim
         (λ e. subst (IsTrue is_call seen es (Row (LoadName m))) (sym e) kept)
         (λ x. ⊎_elim (λ e. subst (IsTrue is_call seen es (Row (LoadName m))) (sym e) (lost_true is_call seen es (Row (LoadName m))))
-        (λ y. subst (IsTrue is_call seen es (Row (LoadName m))) (sym y.1) ((named y.0, tt), λ e. absurd (true≢false (sym e)), λ m s k n l. absurd (no_link k l), tt)) x) g
+        (λ y. subst (IsTrue is_call seen es (Row (LoadName m))) (sym y.1) ((named y.0, tt), λ e. absurd (true≢false (sym e)), λ m s k n l. absurd (no_link k l), tt, true_here.4)) x) g
       where
         kept : IsTrue is_call seen es (Row (LoadName m)) t
         kept = row_true is_call seen es v t true_here (law.views i v at_view) p (found_at c.words (word_of p (LoadName m))) (hand_at p c.words c.homes (LoadName m)) (LoadName m) (λ a b e. absurd cc)
@@ -403,14 +415,14 @@ module _ (p : Plan) (q : IdPlan) (narrow : q.slots ≤ 65536) (is_call : Asked �
         named some_ = let word : found_at c.words (word_of p (LoadName m)) ≡ last_name m es = story.named m may in let s = last_some es m (λ z. some_ (word ∙ z)) in
             (s.0, s.1, s.2, subst (λ w. In (event s.0 s.1 (StoreName m w) s.2) es) (sym word ∙ (let z : found_at c.words (word_of p (LoadName m)) ≡ found_at c.words (word_of p (LoadName m)) - 1 + 1 = omega (arith, some_) in z)) s.3)
     true_behind (ClaimRequest s r) may u g = ⊎_elim
-        (λ e. subst (IsTrue is_call seen es (Row (ClaimRequest s r))) (sym e) (true_here.0, λ b. absurd (true≢false (sym b)), true_here.2, true_here.3))
+        (λ e. subst (IsTrue is_call seen es (Row (ClaimRequest s r))) (sym e) (true_here.0, λ b. absurd (true≢false (sym b)), true_here.2, true_here.3, true_here.4))
         (λ x. ⊎_elim (λ e. subst (IsTrue is_call seen es (Row (ClaimRequest s r))) (sym e) (lost_true is_call seen es (Row (ClaimRequest s r))))
         (λ y. subst (IsTrue is_call seen es (Row (ClaimRequest s r))) (sym y.3) (claim_true is_call seen es v t true_here (law.views i v at_view) p (found_at c.words (word_of p (ClaimRequest s r))) (hand_at p c.words c.homes (ClaimRequest s r)) s r y.1 y.0 y.2
         (held_given p clients c vs sound.lawful es broken over story i v at_view (socket_id_slot s) (socket_id_version s) may.1.0 may.1.1))) x) g
     true_behind (FindLink j h) may u g = ⊎_elim
         (λ e. subst (IsTrue is_call seen es (Row (FindLink j h))) (sym e) true_here)
         (λ x. ⊎_elim (λ e. subst (IsTrue is_call seen es (Row (FindLink j h))) (sym e) (lost_true is_call seen es (Row (FindLink j h))))
-        (λ y. subst (IsTrue is_call seen es (Row (FindLink j h))) (sym y.5) (true_here.0, λ e. absurd (true≢false (sym e)), λ m s k n l. given_link y.0 y.1 y.2 y.3 y.4 m s k n l, tt)) x) g
+        (λ y. subst (IsTrue is_call seen es (Row (FindLink j h))) (sym y.5) (true_here.0, λ e. absurd (true≢false (sym e)), λ m s k n l. given_link y.0 y.1 y.2 y.3 y.4 m s k n l, tt, true_here.4)) x) g
       where
         given_link : (m s : ℕ) → t.name ≡ one_name m s → j ≡ socket_id_slot s → h ≡ socket_id_version s → (m' s' k : ℕ) → t.name ≡ one_name m' s' → found_at c.words (word_of p (FindLink j h)) ∷ [] ≡ k ∷ [] → WasGiven es (socket_id_slot s') (socket_id_version s') k
         given_link m s name slot version m' s' k n l = let same : s ≡ s' = ap first_socket (sym name ∙ n) in
@@ -439,12 +451,13 @@ module _ (p : Plan) (q : IdPlan) (narrow : q.slots ≤ 65536) (is_call : Asked �
       IsShown (StoreAt o w) = IsStored is_call seen es (o, w)
       IsShown other = Unit {0}
 
-      true_aside : (step : Step) (after : Program) (found : Found step) (x : Trail) → IsShown step → GoesAside is_call t step after found x → IsTrue is_call seen es v x
-      true_aside (MakeId k r) after found x shown g = subst (IsTrue is_call seen es v) (sym g.0) (true_here.0, true_here.1, true_here.2, true_here.3)
-      true_aside (StoreCall o id) after found x shown g = ⊎_elim (λ e. subst (IsTrue is_call seen es v) (sym e) (lost_true is_call seen es v)) (λ y. subst (IsTrue is_call seen es v) (sym y.1) (true_here.0, true_here.1, true_here.2, true_here.3)) g
-      true_aside (StoreAt o w) after found x shown g = ⊎_elim (λ e. subst (IsTrue is_call seen es v) (sym e) (lost_true is_call seen es v)) (λ e. subst (IsTrue is_call seen es v) (sym e) (true_here.0, λ z. absurd (true≢false (sym z)), true_here.2, (shown, tt))) g.0
-      true_aside (PutCall k asked) after found x shown g = ⊎_elim (λ s. stays_true is_call seen es v t x s true_here) (λ y. subst (IsTrue is_call seen es v) (sym y.4) (tt, λ e. absurd (true≢false (sym e)), λ m s k n l. absurd (no_name m s n), tt)) g.0
-      true_aside step after found x shown g = stays_true is_call seen es v t x g true_here
+      true_aside : (step : Step) (answer : Option Taking) (after : Program) (found : Found step) → found_in step c.calls answer ≡ some found → MayId p q u step → (x : Trail) → IsShown step → GoesAside is_call t step after found x → IsTrue is_call seen es v x
+      true_aside (MakeId k r) answer after found is may x shown g = let n = makes_new p q c us real_ids i u at k r found is may (finds_ids p q c.calls real_ids.plan us real_ids.rule i u at (real_ids.real i u at) (real_ids.called, real_ids.placed) real_ids.homes (MakeId k r) answer found is may) in
+          subst (IsTrue is_call seen es v) (sym g.0) (true_here.0, true_here.1, true_here.2, true_here.3, (let low = n.0.0 in omega (arith, low, narrow)))
+      true_aside (StoreCall o id) answer after found is may x shown g = ⊎_elim (λ e. subst (IsTrue is_call seen es v) (sym e) (lost_true is_call seen es v)) (λ y. subst (IsTrue is_call seen es v) (sym y.1) (true_here.0, true_here.1, true_here.2, true_here.3, subst (HasSlot is_call seen es) y.0 true_here.4)) g
+      true_aside (StoreAt o w) answer after found is may x shown g = ⊎_elim (λ e. subst (IsTrue is_call seen es v) (sym e) (lost_true is_call seen es v)) (λ e. subst (IsTrue is_call seen es v) (sym e) (true_here.0, λ z. absurd (true≢false (sym z)), true_here.2, (shown, tt), true_here.4)) g.0
+      true_aside (PutCall k asked) answer after found is may x shown g = ⊎_elim (λ s. stays_true is_call seen es v t x s true_here) (λ y. subst (IsTrue is_call seen es v) (sym y.4) (tt, λ e. absurd (true≢false (sym e)), λ m s k n l. absurd (no_name m s n), tt, (let low = may.0 in let b = y.5 in omega (arith, low, narrow, b)))) g.0
+      true_aside step answer after found is may x shown g = stays_true is_call seen es v t x g true_here
 
       at_same : (a : Calls) → a.plan ≡ c.calls.plan → a.words ≡ c.calls.words → AtsFor is_call seen fs a
       at_same a plan words o low some_ = let same : std.slice_index a.words (ids.at_word a.plan o) ≡ std.slice_index c.calls.words (ids.at_word c.calls.plan o) = ap (λ w. std.slice_index w (ids.at_word a.plan o)) words ∙ ap (λ (r : IdPlan). std.slice_index c.calls.words (ids.at_word r o)) plan in
@@ -479,6 +492,7 @@ module _ (p : Plan) (q : IdPlan) (narrow : q.slots ≤ 65536) (is_call : Asked �
             link = own.link;
             socket = own.socket;
             word = own.word;
+            slot = subst (HasSlot is_call seen es) own.knows true_here.4;
             small = own.small;
             few = own.few;
             named = (subst (AllByRecursion (IsNamed is_call seen es)) own.name true_here.0).0;
@@ -517,7 +531,7 @@ module _ (p : Plan) (q : IdPlan) (narrow : q.slots ≤ 65536) (is_call : Asked �
       asides step next found answer is may shown g = let x = g found (finds_step step answer found is may) in
           subst (λ ys. After (with_seat i (next found) seat.hand c.words c.homes (record c { calls = calls_after step found c.calls })) ys) (set_again vs i v at_view)
           (goes_on (calls_after step found c.calls) (next found) seat.hand c.words c.homes x.0 v (calls_waiting step found c.calls) (calls_behind is_call step found c.calls (puts_step step (next found) found x.0 x.1) law.calls) (ats_behind step (next found) found x.0 may shown x.1) x.2
-          (true_up is_call seen es fs up v x.0 (true_aside step (next found) found x.0 shown x.1)) (view_up is_call seen es fs up v (law.views i v at_view)))
+          (true_up is_call seen es fs up v x.0 (true_aside step answer (next found) found is may x.0 shown x.1)) (view_up is_call seen es fs up v (law.views i v at_view)))
 
   -- a tick of any seat
   module _ (m : Moment) (answered : IsAnswered c m) (fitting : IsFittingIds p c m) (stores : (x : Store) → In x (stored_at c m) → In x seen) where

@@ -1,5 +1,5 @@
 -- The programs of clients, readers and the ending follow what leads to attempts. (As Programs of label_runs has it.)
-use Rattle.std.proofs.Common.{◌≡◌, ℕ, zero, suc, ◌+◌, ◌-◌, ◌/◌, ◌%◌, ◌≤◌, ◌⊎◌, ◌==◌, ◌&&◌, inl, inr, Bool, true, false, cond, eqb, eqb-true, sym, ap, ⊎_elim, leb, nat_lt, nat_le, List, [], ◌∷◌, ◌++◌, Option, Some, None, length, drop, refl, ◌∙◌, subst, arith}
+use Rattle.std.proofs.Common.{◌≡◌, ℕ, zero, suc, ◌+◌, ◌-◌, ◌/◌, ◌%◌, ◌≤◌, ◌==◌, ◌&&◌, inl, inr, Bool, true, false, cond, eqb, eqb-true, sym, ap, ⊎_elim, leb, nat_lt, nat_le, List, [], ◌∷◌, ◌++◌, Option, Some, None, length, drop, refl, ◌∙◌, subst, arith}
 use Rattle.std.specs.List.{AllByRecursion}
 use Rattle.brpc_model.specs.Frame.{Frame}
 use Rattle.sock_words.specs.Words.{socket_id_slot, socket_id_version, vref_version, vref_nref, at_word, at_word_first, at_word_slot, at_word_link, at_word_attempt}
@@ -210,16 +210,18 @@ module _ (is_call : Asked → Type 0) where
     pub attempt_goes : Follows is_call (trying asked id n socket) (attempt requests asked id n socket next)
     attempt_goes = address_goes (trying asked id n socket) socket (Do (FindLink (socket_id_slot socket) (socket_id_version socket)) (λ k. Aside (StoreAt asked.operation (at_word (id_first id) (id_slot id) k n)) (λ _. Do (LookWord socket) (λ found. cond (eqb (vref_version found % 2) 0)
         (claims_from requests 0 socket (heading_for asked id n) (frame_of asked id n) (post id 3001 n (release (socket_id_slot socket) (λ _. next))) (release (socket_id_slot socket) (λ _. next))) (post id 1009 n (release (socket_id_slot socket) (λ _. next)))))))
-        (λ _. post id 1009 n next)
-        (tt, λ k low. (
-          with_link k (trying asked id n socket),
-          inr (inr (name_of asked n, socket, refl, refl, refl, refl)),
-          λ _ _. (
-            sending asked id n socket k,
-            (inr refl, record { asked = asked; called = called; operation = refl; id = id; attempt = n; link = k; socket = socket; knows = refl; name = refl; linked = refl; word = refl; small = low; few = few }),
-            looks_goes k (heading_for asked id n) (frame_of asked id n) (inr (asked, socket, called, refl, refl, refl, (k, refl, refl))),
+        (λ _. post id 1009 n next) (
+          tt,
+          λ k low. (
+            with_link k (trying asked id n socket),
+            inr (inr (name_of asked n, socket, refl, refl, refl, refl)),
+            λ _ _. (
+              sending asked id n socket k,
+              (inr refl, record { asked = asked; called = called; operation = refl; id = id; attempt = n; link = k; socket = socket; knows = refl; name = refl; linked = refl; word = refl; small = low; few = few }),
+              looks_goes k (heading_for asked id n) (frame_of asked id n) (inr (asked, socket, called, refl, refl, refl, (k, refl, refl))),
+            ),
           ),
-        ))
+        )
         (λ _. post_goes is_call (trying asked id n socket) id 1009 n next goes)
 
   -- ## Calls
@@ -272,7 +274,7 @@ module _ (is_call : Asked → Type 0) where
 
     locked_goes : (exit : Locking) → LeavesLock (First (id_first id)) exit → Follows is_call lost (retry_locked requests id n next exit)
     locked_goes (NotThere w) l = goes
-    locked_goes (Has w) l = λ asked called. (lost, inl refl, λ _ _. (known asked, (inr (w, false, tried_again requests id n asked next, refl, own asked), called), (tt, λ exit m. tried_goes asked called exit (λ x e is. next_first exit x e is m.1 ∙ l))))
+    locked_goes (Has w) l = λ asked called. (lost, inl refl, λ _ _. (known asked, (inr (w, false, tried_again requests id n asked next, refl, own asked, omega (arith, l)), called), (tt, λ exit m. tried_goes asked called exit (λ x e is. next_first exit x e is m.1 ∙ l))))
       where
         next_first : (exit : Unlocking) (x e : ℕ) → exit ≡ HasNext x e → LeavesUnlock (parts w).first exit → (parts x).first ≡ (parts w).first
         next_first exit x e is m = subst (LeavesUnlock (parts w).first) is m

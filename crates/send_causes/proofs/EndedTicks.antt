@@ -1,8 +1,8 @@
 -- A tick keeps what is said of the posts of a reader.
-use Rattle.std.proofs.Common.{◌≡◌, ◌≢◌, ℕ, ◌+◌, ◌==◌, eqb, eq-eqb, Bool, true, false, cond, List, [], ◌∷◌, ◌++◌, map, filter, set, append-nil, inl, inr, ⊎_elim, ◌⊎◌, refl, sym, ap, ◌∙◌, subst, arith}
+use Rattle.std.proofs.Common.{◌≡◌, ◌≢◌, ℕ, ◌+◌, ◌==◌, eq-eqb, Bool, true, false, cond, List, [], ◌∷◌, ◌++◌, map, filter, set, append-nil, inl, inr, ⊎_elim, refl, sym, ap, ◌∙◌, subst}
 use Rattle.std.specs.Prelude.{slice_index, Some, None}
 use mathlib.Core.Logic.{dite}
-use mathlib.Core.Option.{Option, none, some, some-injective}
+use mathlib.Core.Option.{Option, none, some}
 use native.Mathlib.Decide.{ℕ_discrete}
 use lib.ListN.{get_elem?}
 use Rattle.atomic_table.proofs.Lists.{at_set, set_else}
@@ -17,17 +17,16 @@ use Rattle.id_rule.specs.Lawful.{at_word}
 use Rattle.id_runs.specs.Goes as goes
 use Rattle.sock_programs.specs.Asides.{Step, Found, LoadAt, PostId, TakeBytes, Taking, call_id}
 use Rattle.sock_programs.specs.Beside.{at_last, taking_in, found_in}
-use Rattle.sock_programs.specs.Calls.{Call}
-use Rattle.sock_programs.specs.Heads.{Decides, Locks, Reads, Discards}
+use Rattle.sock_programs.specs.Heads.{Decides, Locks}
 use Rattle.sock_programs.specs.Posts.{ends_call}
 use Rattle.sock_programs.specs.Writings.{Puts, Waits, Empties, Walks}
-use Rattle.sock_programs.specs.Programs.{Program, Do, Say, Sent, Rest, TakeMessage, TakeHome, PutHome, PutBytes, AskReady, Write, Aside, Round, Keep, Retries}
+use Rattle.sock_programs.specs.Programs.{Program, Do, TakeMessage, TakeHome, PutHome, PutBytes, AskReady, Write, Aside, Round, Retries}
 use Rattle.sock_programs.specs.Cores.{Core, SeatState, word_of, found_at, waiting_at}
 use Rattle.sock_programs.specs.Ticks.{Answer, Unasked, OfPut, OfReady, OfTake, Moment, taken, with_message, with_link, with_put, with_ready, with_found, step_with, tick_with, ticked}
 use Rattle.sock_runs.specs.Sound.{first_step}
 use Rattle.sock_causes.specs.Stories.{In}
 use Rattle.owed_calls.proofs.OwingRuns.{same_first}
-use Rattle.whole_runs.specs.Heard.{as_taken, taken_link, taken_at}
+use Rattle.whole_runs.specs.Heard.{as_taken, taken_link}
 use Rattle.call_causes.specs.Posts.{Post, posts_by, posted_with, posted_at}
 use Rattle.send_causes.specs.EndedCalls.{Load, loaded_with, loaded_at}
 use Rattle.send_causes.proofs.EndedReads.{Tells, MayPost, tell_first, tell_next}
@@ -126,9 +125,6 @@ module _ (p : Plan) (n : ℕ) (At : ℕ → ℕ → Type 0) where
         where
           same : loaded_at c m ≡ (record { seat = m.seat; operation = o; word = slice_index c.calls.words (at_word c.calls.plan o) }) ∷ []
           same = ap (λ x. elim x as (λ o. List Load) [ none ↦ [] | some seat ↦ loaded_with m.seat c.calls (taken m.answer) (first_step seat.program) ]) at ∙ ap (loaded_with m.seat c.calls (taken m.answer)) is
-
-      got : Program → List Taking
-      got x = map (at_last c.calls.ending) (as_taken (map (λ (j : ℕ). m.answer) (filter (λ j. j == n) (takes_by x))))
 
       own_step : (x : Program) → first_step seat.program ≡ x → Tells n At h x → HasTold (h ++ map (at_last c.calls.ending) (as_taken (map (λ (j : ℕ). m.answer) (filter (λ j. j == n) (takes_by x))))) (step_with p m.seat seat c m.answer x)
       own_step (Aside (TakeBytes l room) next) is x = subst (λ b. HasTold (h ++ map (at_last c.calls.ending) (as_taken (map (λ (j : ℕ). m.answer) (cond b (l ∷ []) [])))) (step_with p m.seat seat c m.answer (Aside (TakeBytes l room) next))) (sym (eq-eqb l n x.0))

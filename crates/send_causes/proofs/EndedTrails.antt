@@ -1,5 +1,5 @@
 -- What leads a seat to an attempt of a call: the name under which it found the socket, the operation whose call has the id, the link of the socket, and the at word that it stored for it.
-use Rattle.std.specs.Prelude.{ℕ, ◌≡◌, ◌≢◌, ◌+◌, ◌-◌, ◌*◌, ◌%◌, ◌<◌, ◌≤◌, ◌⊎◌, Bool, true, false, List, [], ◌∷◌}
+use Rattle.std.specs.Prelude.{ℕ, ◌≡◌, ◌≢◌, ◌-◌, ◌%◌, ◌<◌, ◌≤◌, ◌⊎◌, Bool, true, false, List, [], ◌∷◌}
 use Rattle.sock_io.specs.declared.link.Put.{Put}
 use Rattle.sock_io.specs.declared.link.Ready.{Ready}
 use Rattle.sock_model.specs.declared.chain.Heading.{Heading}
@@ -61,7 +61,7 @@ IsStoring id other = ⊥
 
 -- the call that was put back is that of the word whose lock is given back next
 abbrev pub PutsBack : ℕ → Asked → Program → Trail → Type 0
-PutsBack i asked after u = (w : ℕ) × (advance : Bool) × (next : Exit (Unlocks i w advance) → Program) × (after ≡ Round (Unlocks i w advance) next) × (u ≡ record { name = []; claimed = false; of = Knows asked.operation (call_id i (parts w).first); linked = []; stored = [] })
+PutsBack i asked after u = (w : ℕ) × (advance : Bool) × (next : Exit (Unlocks i w advance) → Program) × (after ≡ Round (Unlocks i w advance) next) × (u ≡ record { name = []; claimed = false; of = Knows asked.operation (call_id i (parts w).first); linked = []; stored = [] }) × ((parts w).first < 4294967296)
 
 -- these are the calls
 module _ (is_call : Asked → Type 0) where

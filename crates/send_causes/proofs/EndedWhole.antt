@@ -1,12 +1,11 @@
 -- Each post by a reader in a whole run: the reading of its link ended, and it loaded an at word that names its link.
-use Rattle.std.proofs.Common.{◌≡◌, ◌≢◌, ℕ, zero, suc, ◌+◌, ◌-◌, ◌<◌, ◌≤◌, ◌==◌, ◌&&◌, ◌||◌, eq-eqb, Bool, true, false, cond, nat_le, le-leb, List, [], ◌∷◌, ◌++◌, length, length-set, map, replicate, get_or, append-nil, inl, inr, ⊎_elim, ◌⊎◌, Ok, refl, sym, ap, ◌∙◌, subst, arith}
-use Rattle.std.proofs.lemmas.Bool.{true≢false}
+use Rattle.std.proofs.Common.{◌≡◌, ℕ, zero, suc, ◌+◌, ◌-◌, ◌<◌, ◌≤◌, ◌==◌, ◌&&◌, ◌||◌, eq-eqb, Bool, true, false, cond, nat_le, le-leb, List, [], ◌∷◌, ◌++◌, length, length-set, replicate, get_or, append-nil, inl, inr, ⊎_elim, ◌⊎◌, Ok, refl, sym, ap, ◌∙◌, subst, arith}
 use Rattle.std.proofs.lemmas.List.{length-map}
 use Rattle.std.proofs.lemmas.List.Concat.{flat_map-append}
 use Rattle.std.specs.Prelude.{Contains}
 use Rattle.std.specs.List.{filter, list_any}
 use mathlib.Core.Logic.{dite}
-use mathlib.Core.Option.{Option, none, some, some-injective, some-ne-none}
+use mathlib.Core.Option.{some, some-injective, some-ne-none}
 use native.Mathlib.Decide.{ℕ_discrete}
 use lib.ListN.{get_elem?}
 use Rattle.atomic_table.proofs.Lists.{at_set, set_else}
@@ -14,12 +13,10 @@ use Rattle.chain_laws.proofs.Lists.{at_some}
 use Rattle.sock_words.specs.declared.plain.Plan.{Plan}
 use Rattle.sock_model.specs.declared.view.View.{View}
 use Rattle.sock_model.specs.Layout.{open_word}
-use Rattle.brpc_model.specs.Causes.{HasFault}
-use Rattle.brpc_model.specs.Frame.{FrameFault}
 use Rattle.brpc_model.specs.Items.{Item}
 use Rattle.brpc_model.specs.Operations.{Turn}
 use Rattle.brpc_model.specs.Script.{script_of}
-use Rattle.brpc_model.specs.Stream.{Ending, Fault, stream}
+use Rattle.brpc_model.specs.Stream.{stream}
 use Rattle.sock_programs.specs.Asides.{Taking, NoMore, AtEnd, Closed, Broken}
 use Rattle.sock_programs.specs.Clients.{client_from, ending_of}
 use Rattle.sock_programs.specs.Cores.{Core, SeatState, resolved, next_step}
@@ -28,8 +25,8 @@ use Rattle.sock_programs.specs.Readers.{LIMIT, reader}
 use Rattle.sock_programs.specs.Runs.{from_to}
 use Rattle.sock_programs.specs.Tasks.{opens, calls, plan_of, id_plan_of}
 use Rattle.sock_programs.specs.Ticks.{Moment, quiet, ticked, run}
-use Rattle.sock_programs.specs.Scripts.{sizes_of, programs, readers_from, all_programs, all_tasks, opened, set_up, played, is_ending, IsRunWithCalls}
-use Rattle.sock_runs.specs.Sound.{Sound, views_along}
+use Rattle.sock_programs.specs.Scripts.{sizes_of, programs, readers_from, all_programs, all_tasks, opened, set_up, played, IsRunWithCalls}
+use Rattle.sock_runs.specs.Sound.{views_along}
 use Rattle.sock_runs.proofs.Along.{place_inside}
 use Rattle.sock_runs.proofs.Opening.{mapped}
 use Rattle.sock_runs.proofs.OpensStay.{readers_begin}
@@ -45,12 +42,11 @@ use Rattle.owed_calls.proofs.Owed.{opened_seats}
 use Rattle.whole_runs.specs.Heard.{as_taken, bytes_found, taken_in, heard_takes, given_by}
 use Rattle.whole_runs.proofs.Gave.{gave_heard}
 use Rattle.whole_runs.proofs.HeardRuns.{taken_append}
-use Rattle.call_causes.specs.Lists.{Take, takes_at, given, shows_in, takes_of_run, is_last, is_closed, is_no_more, found_so, is_fault, early_of_run, closed_of_run, silent_of_run}
+use Rattle.call_causes.specs.Lists.{Take, takes_at, given, shows_in, takes_of_run, is_last, is_closed, is_no_more, found_so, is_fault, early_of_run}
 use Rattle.call_causes.specs.Posts.{Post, posted_at, posts_of_run}
 use Rattle.send_causes.specs.EndedCalls.{Load, loaded_at, reader_posts_at, client_posts_at, loads_of_run, reader_posts_of_run, client_posts_of_run, EndedSo, IsEndPost}
 use Rattle.send_causes.proofs.Early.{EndedBy, Any, ends_anyhow, opening_rights, start, go, fitting, known}
-use Rattle.send_causes.proofs.EndedReads.{WasOver, Tells, MayPost, reader_tells}
-use Rattle.send_causes.proofs.EndedTicks.{HasTold}
+use Rattle.send_causes.proofs.EndedReads.{WasOver, Tells, reader_tells}
 use Rattle.send_causes.proofs.EndedRuns.{Keeping, finds, Seen, AllTold, IsPostOf, more_post, told_along, finds_taken, finds_give, quiet_finds}
 use Rattle.send_causes.proofs.ReaderRuns.{keeps_along}
 use Rattle.send_causes.proofs.Takeless.{NoTakes, client_takes, ending_takes, takes_next}
@@ -145,9 +141,6 @@ module _ (script : List Item) (made : AreMade script) (turns : List Turn) (core 
 
   -- ## What is said of the parts
 
-  Part : Core → List Moment → Core → (ℕ → List Taking) → (ℕ → List Taking) → Type 0
-  Part c ms d h h' = T h' d × ((x : Post) → In x (shows_in reader_posts_at (plan_of script) c ms) → P h' x)
-
   setup_part : T h₁ (set_up script is.setup) × ((x : Post) → In x (shows_in reader_posts_at (plan_of script) (opened script) in_setup) → P h₁ x)
   setup_part = told_along (plan_of script) (calls script) (opens script) (let k = known script made turns core is in k.in_script) (loads_of_run script turns core is) (IsListed script) (go script made turns core is) in_setup (opened script) (first_views script) (λ n. [])
       (let s = start script made turns core is in s.sound) (set_up_answered script made.are (first_views script) (start script made turns core is) (go script made turns core is) turns core is (fitting script made turns core is)) (let f = fitting script made turns core is in f.of_setup)
@@ -169,6 +162,9 @@ module _ (script : List Item) (made : AreMade script) (turns : List Turn) (core 
   played_keeps = keeps_along (plan_of script) (calls script) (opens script) (let k = known script made turns core is in k.in_script) Any (Unit {0}) ends_anyhow (IsListed script) (go script made turns core is) in_clients (set_up script is.setup) (views_along (plan_of script) (opened script) (first_views script) in_setup) h₁
       (set_up_sound script made.are (first_views script) (start script made turns core is) (go script made turns core is) turns core is (fitting script made turns core is)) is.answered (let f = fitting script made turns core is in f.of_played)
       (recorded_set_up script made.are (first_views script) (start script made turns core is) (go script made turns core is) turns core is (fitting script made turns core is)) (λ e. tt) set_up_keeps
+
+  pub seats_played : length (played script is.setup in_clients).seats ≡ 32 + length (opens script)
+  seats_played = let k = played_keeps in k.many
 
   -- seat 0 alone gets a program for the ending
   pub closing_keeps : K (closing_of script turns core is) (views_played script turns core is (first_views script)) h₂

@@ -84,3 +84,7 @@ stored_at c m = elim (get_elem? c.seats m.seat) as (λ o. List Store) [ none ↦
 
 abbrev pub stores_of_run : (script : List Item) (turns : List Turn) (end_ : Core) → IsRunWithCalls script turns end_ → List Store
 stores_of_run script turns end_ is = shows_in_run script turns end_ is stored_at
+
+-- no attempt has two at words
+abbrev pub AreStoredOnce : (script : List Item) (turns : List Turn) (end_ : Core) → IsRunWithCalls script turns end_ → Type 0
+AreStoredOnce script turns end_ is = (o v w : ℕ) → Contains (stores_of_run script turns end_ is) (record { operation = o; word = v }) → Contains (stores_of_run script turns end_ is) (record { operation = o; word = w }) → at_word_attempt v ≡ at_word_attempt w → v ≡ w
