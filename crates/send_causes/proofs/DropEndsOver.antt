@@ -1,5 +1,5 @@
 -- The reading of each link with a life ended; so each error that was posted for a dropped message has its cause, but for responses that came before the call began.
-use Rattle.std.proofs.Common.{◌≡◌, ◌≢◌, ℕ, ◌+◌, ◌*◌, ◌<◌, ◌⊎◌, inl, inr, ⊎_elim, List, length, Ok, get_or, refl, sym, ap, ◌∙◌, subst, arith}
+use Rattle.std.proofs.Common.{◌≡◌, ◌≢◌, ℕ, ◌+◌, ◌*◌, ◌<◌, ◌≤◌, ◌⊎◌, inl, inr, ⊎_elim, List, length, Ok, get_or, refl, sym, ap, ◌∙◌, subst, arith}
 use Rattle.std.specs.Prelude.{Contains}
 use Rattle.std.specs.List.{AllByRecursion}
 use mathlib.Core.Option.{some}
@@ -14,19 +14,24 @@ use Rattle.sock_words.specs.Words.{socket_id, socket_id_slot, socket_id_version}
 use Rattle.sock_words.specs.declared.plain.Plan.{Plan}
 use Rattle.sock_model.specs.declared.view.View.{View}
 use Rattle.sock_model.specs.Layout.{open_word}
-use Rattle.corr_core.specs.Word.{code_of, attempt_of}
+use Rattle.corr_core.specs.Word.{error_of, code_of, attempt_of}
+use Rattle.sock_message.specs.Asked.{Asked}
+use Rattle.sock_programs.specs.declared.task.Op.TheVariants as ops
+use Rattle.sock_programs.specs.Told.{IsTask}
 use Rattle.sock_programs.specs.declared.task.Task.{Task}
 use Rattle.sock_programs.specs.Cores.{Core, SeatState}
 use Rattle.sock_programs.specs.Programs.{Rest, NO_SOCKET}
 use Rattle.sock_programs.specs.Readers.{reader}
 use Rattle.sock_programs.specs.Tasks.{opens, calls, plan_of}
 use Rattle.sock_programs.specs.Scripts.{all_tasks, IsRunWithCalls}
-use Rattle.sock_programs.specs.ToldCalls.{Order, Fixed, IsSent, Gave, IsResponse, IsPlaced}
+use Rattle.sock_programs.specs.ToldCalls.{Order, Fixed, IsSent, Gave, IsResponse, IsPlaced, StandsOn}
 use Rattle.sock_runs.specs.Sound.{first_step}
 use Rattle.sock_runs.proofs.Along.{place_inside}
 use Rattle.sock_runs.proofs.Whole.{IsListed, views_closed, views_ended, closed_sound, recorded_closed}
 use Rattle.sock_causes.specs.Causes.{WasGiven}
 use Rattle.sock_causes.proofs.Final.{at_there}
+use Rattle.sock_causes.proofs.Members.{contains_in}
+use Rattle.sock_causes.proofs.Tasks.{one_task}
 use Rattle.joint_runs.proofs.Runs.{AreMade, first_views}
 use Rattle.owed_calls.specs.Lives.{ClosesInRun}
 use Rattle.call_causes.specs.Lists.{given, early_of_run, closed_of_run, silent_of_run}
@@ -36,7 +41,7 @@ use Rattle.send_causes.proofs.Assembled.{last_in_run, fixed_in_run, orders_in_ru
 use Rattle.send_causes.proofs.Closers.{Calm, IsOver}
 use Rattle.send_causes.proofs.DropCauses.{may_be_on, stands_on}
 use Rattle.send_causes.proofs.DropEndsCauses.{own_link, cause_of_drop}
-use Rattle.send_causes.proofs.DropOfRun.{IsOpened, DropOf, ends, end_sound, settled, given_opened}
+use Rattle.send_causes.proofs.DropOfRun.{ids_here, IsOpened, DropOf, ends, end_sound, settled, given_opened}
 use Rattle.send_causes.proofs.Early.{Any, ends_anyhow, start, go, fitting, known}
 use Rattle.send_causes.proofs.EndedWhole.{h₃, h₄, closed_keeps, ended_so}
 use Rattle.send_causes.proofs.Readings.{State}
@@ -124,3 +129,32 @@ module _ (script : List Item) (made : AreMade script) (turns : List Turn) (core 
         lost = inr (inl (stands_on script made turns core is closes fixed (given core) (last_in_run script made there range bytes reads turns core is closes) sent x d));
         unanswered = λ m frame gave response. (not_placed x d, soon code m frame gave response);
       })) (cause_of_drop script made turns core is closes there range bytes reads fixed (last_in_run script made there range bytes reads turns core is closes) sent x d c x.id)
+
+      -- of the call whose id took the error, where no two calls have one id
+      module _ (single : (o x : ℕ) → ids_here script made turns core is closes o ≢ 0
+          → ids_here script made turns core is closes o ≡ ids_here script made turns core is closes x → o ≡ x) where
+        pub caused_for_call : (c : ℕ) (t : Task) (asked : Asked) (id code n : ℕ) → IsTask clients core.outcomes c t → t.op ≡ ops.Call asked → ids_here script made turns core is closes t.number ≡ id → id ≢ 0 → n ≤ 7
+            → DropOf script made turns core is closes (record { id = id; error = error_of code n })
+            → ((k : ℕ) → code ≡ 1014 → (m : ℕ) (frame : Frame) → StandsOn p clients core.outcomes fixed (given core) orders t.number n k → Gave p clients core.outcomes fixed (given core) orders k m frame → IsResponse p clients core.outcomes fixed (given core) orders asked id frame → Contains fixed.soon (k, m))
+            → PostCause p clients core.outcomes fixed (given core) orders c t.number asked id code n
+        caused_for_call c t asked id code n it op own some_ small d soon = subst (λ z. PostCause p clients core.outcomes fixed (given core) orders c t.number asked id z n) code_is (subst (λ z. PostCause p clients core.outcomes fixed (given core) orders c t.number asked id (code_of (error_of code n)) z) attempt_is
+            (subst (λ z. PostCause p clients core.outcomes fixed (given core) orders c t.number z id (code_of (error_of code n)) (attempt_of (error_of code n))) same_asked
+            (subst (λ z. PostCause p clients core.outcomes fixed (given core) orders c z d.asked id (code_of (error_of code n)) (attempt_of (error_of code n))) number
+            (caused_for_drop (record { id = id; error = error_of code n }) d (λ e m frame gave response. soon d.link (sym code_is ∙ e) m frame
+            (subst (λ z. StandsOn p clients core.outcomes fixed (given core) orders t.number z d.link) attempt_is (subst (λ z. StandsOn p clients core.outcomes fixed (given core) orders z (attempt_of (error_of code n)) d.link) number (d.dropped.place, d.dropped.at)))
+            gave (subst (λ z. IsResponse p clients core.outcomes fixed (given core) orders z id frame) same_asked response)) c))))
+          where
+            code_is : code_of (error_of code n) ≡ code
+            code_is = omega (arith, small)
+
+            attempt_is : attempt_of (error_of code n) ≡ n
+            attempt_is = omega (arith, small)
+
+            number : d.task.number ≡ t.number
+            number = single d.task.number t.number (λ z. some_ (sym d.own ∙ z)) (d.own ∙ sym own)
+
+            same : d.task ≡ t
+            same = (one_task p clients made.are d.client c d.task t (let i = d.is_task in (i.0, i.1, contains_in i.0 d.task i.2)) (it.0, it.1, contains_in it.0 t it.2) number).1
+
+            same_asked : d.asked ≡ asked
+            same_asked = let z : ops.Call d.asked ≡ ops.Call asked = sym d.op ∙ (ap (λ (y : Task). y.op) same ∙ op) in cc

@@ -88,7 +88,7 @@ module _ (script : List Item) (made : AreMade script) (turns : List Turn) (core 
   abbrev told : List (List Task)
   told = told_tasks_of script
 
-  abbrev ids_here : ℕ → ℕ
+  abbrev pub ids_here : ℕ → ℕ
   ids_here = ids_of_run script made turns core is (narrow script made turns core is closes) (few_clients script made turns core is closes)
 
   -- what the links accepted
