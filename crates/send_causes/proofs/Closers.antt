@@ -1,5 +1,5 @@
--- A reader sets its socket failed only where the reading of its link ended; it exchanges no head, and takes bytes of its own link alone.
-use Rattle.std.proofs.Common.{◌≡◌, ℕ, ◌+◌, ◌-◌, ◌%◌, ◌≤◌, ◌==◌, ◌&&◌, not, nat_lt, nat_le, ltb-false, Bool, true, false, cond, List, [], ◌∷◌, ◌++◌, length, length-append, append-nil, append_assoc, refl, sym, ap, ◌∙◌, subst, arith}
+-- A reader sets its socket failed only where the reading of its link ended, with the code of that end; it exchanges no head, and takes bytes of its own link alone.
+use Rattle.std.proofs.Common.{◌≡◌, ℕ, ◌+◌, ◌-◌, ◌%◌, ◌≤◌, ◌==◌, ◌&&◌, ◌⊎◌, inl, inr, not, nat_lt, nat_le, ltb-false, Bool, true, false, cond, List, [], ◌∷◌, ◌++◌, length, length-append, append-nil, append_assoc, refl, sym, ap, ◌∙◌, subst, arith}
 use Rattle.std.proofs.lemmas.Bool.{true≢false}
 use Rattle.std.proofs.lemmas.List.Concat.{flat_map-append}
 use Rattle.std.specs.Prelude.{Option, Some, None}
@@ -9,7 +9,7 @@ use Rattle.corr_core.specs.Word.{parts, posted_word, unlocked_word, code_of, err
 use Rattle.corr_core.specs.Law.{LAST}
 use Rattle.brpc_model.specs.Frame.{Frame}
 use Rattle.brpc_model.specs.Stream as streams
-use Rattle.sock_programs.specs.Calls.{Call, SetOdd, AddRef, SwapHead, GiveBirth, StoreOpen}
+use Rattle.sock_programs.specs.Calls.{Call, SetOdd, StoreCode, AddRef, SwapHead, GiveBirth, StoreOpen}
 use Rattle.sock_programs.specs.Asides.{Step, Found, TakeBytes, Taking, Bytes, Nothing, NoMore, AtEnd, Closed, Broken, call_id, id_slot, id_first}
 use Rattle.sock_programs.specs.Heads.{Head, Exit, Retry, Sought, Reading, Posts, Unlocks, Decides, Locks, Joins, Opens, Reads, Discards, Posting, WasGone, WasStale, WasCrowded, WasQueued, HasLocked, Unlocking, IsOpen, HasNext, Deciding, HasEnded, GoesOn, Locking, NotThere, Has, Ended}
 use Rattle.sock_programs.specs.Programs.{Program, Do, Say, Sent, Rest, TakeMessage, TakeHome, PutHome, PutBytes, AskReady, Write, Aside, Round, Keep, Retries, LAST_VERSION, recycle, release, address, set_failed}
@@ -18,8 +18,10 @@ use Rattle.sock_programs.specs.Readers.{LIMIT, ending_of, slot_in, version_in, h
 use Rattle.sock_programs.specs.Rounds.{round}
 use Rattle.sock_programs.specs.Cores.{resolved, next_step}
 use Rattle.sock_runs.specs.Sound.{first_step}
+use Rattle.sock_causes.specs.Stories.{In}
+use Rattle.sock_causes.proofs.Plain.{in_left, in_right}
 use Rattle.whole_runs.specs.Heard.{bytes_found, given_by}
-use Rattle.send_causes.proofs.Faults.{Faults, fault_follows}
+use Rattle.send_causes.proofs.Faults.{Faults, fault_stays, fault_follows}
 
 -- ## What takes gave
 
@@ -28,6 +30,32 @@ gave_more h bytes = flat_map-append bytes_found h (Bytes bytes ∷ []) ∙ ap (�
 
 gave_none : (h : List Taking) (t : Taking) → bytes_found t ≡ [] → given_by (h ++ t ∷ []) ≡ given_by h
 gave_none h t e = flat_map-append bytes_found h (t ∷ []) ∙ ap (λ l. given_by h ++ (l ++ [])) e ∙ append-nil (given_by h)
+
+-- the code with which a reading ends that wasn't closed, by these takes
+abbrev pub Codes : List Taking → ℕ → Type 0
+Codes h code = ((code ≡ 1014) × (In AtEnd h ⊎ (In Broken h ⊎ (In NoMore h ⊎ (LIMIT ≤ length (given_by h)))))) ⊎ ((code ≡ 2002) × Faults 0 (given_by h))
+
+pub codes_more : (h later : List Taking) (code : ℕ) → Codes h code → Codes (h ++ later) code
+codes_more h later code (inl (e, inl m)) = inl (e, inl (in_left h later AtEnd m))
+codes_more h later code (inl (e, inr (inl m))) = inl (e, inr (inl (in_left h later Broken m)))
+codes_more h later code (inl (e, inr (inr (inl m)))) = inl (e, inr (inr (inl (in_left h later NoMore m))))
+codes_more h later code (inl (e, inr (inr (inr l)))) = inl (e, inr (inr (inr (let z : length (given_by (h ++ later)) ≡ length (given_by h) + length (given_by later) = ap length (flat_map-append bytes_found h later) ∙ length-append (given_by h) (given_by later) in omega (arith, z, l)))))
+codes_more h later code (inr (e, f)) = inr (e, subst (Faults 0) (sym (flat_map-append bytes_found h later)) (fault_stays 0 (given_by h) (given_by later) f))
+
+-- by these takes a reading has ended
+abbrev pub IsOver : List Taking → Type 0
+IsOver h = (In AtEnd h ⊎ (Faults 0 (given_by h) ⊎ ((LIMIT ≤ length (given_by h)) ⊎ In Broken h))) ⊎ (In Closed h ⊎ In NoMore h)
+
+pub over_more : (h later : List Taking) → IsOver h → IsOver (h ++ later)
+over_more h later (inl (inl m)) = inl (inl (in_left h later AtEnd m))
+over_more h later (inl (inr (inl f))) = inl (inr (inl (subst (Faults 0) (sym (flat_map-append bytes_found h later)) (fault_stays 0 (given_by h) (given_by later) f))))
+over_more h later (inl (inr (inr (inl l)))) = inl (inr (inr (inl (let z : length (given_by (h ++ later)) ≡ length (given_by h) + length (given_by later) = ap length (flat_map-append bytes_found h later) ∙ length-append (given_by h) (given_by later) in omega (arith, z, l)))))
+over_more h later (inl (inr (inr (inr m)))) = inl (inr (inr (inr (in_left h later Broken m))))
+over_more h later (inr (inl m)) = inr (inl (in_left h later Closed m))
+over_more h later (inr (inr m)) = inr (inr (in_left h later NoMore m))
+
+last_in : (h : List Taking) (t : Taking) → In t (h ++ t ∷ [])
+last_in h t = in_right h (t ∷ []) t (inl refl)
 
 -- ## Programs
 
@@ -40,11 +68,12 @@ module _ (k id : ℕ) (Odd : List Taking → Type 0) (Lasts : Type 0) where
     pub tied : (more : List ℕ) → Faults 0 (r.rest ++ more) → Faults 0 (given_by h ++ more)
 
   abbrev pub EndsSo : List Taking → Ended → Type 0
-  EndsSo h how = (how.closed ≡ false → Odd h) × (how.reading.link ≡ k) × (how.reading.id ≡ id)
+  EndsSo h how = (how.closed ≡ false → Odd h × Codes h how.code) × (how.reading.link ≡ k) × (how.reading.id ≡ id) × IsOver h
 
   -- behind these takes, where the seat has just got a reference to the life or not
   abbrev pub Calm : Bool → List Taking → Program → Type 0
   Calm held h (Do (SetOdd i) next) = (held ≡ true) × Odd h × (i ≡ socket_id_slot id) × ((found : ℕ) → Calm false h (next found))
+  Calm held h (Do (StoreCode i v code) next) = Codes h code × (i ≡ socket_id_slot id) × (v ≡ socket_id_version id) × ((found : ℕ) → Calm false h (next found))
   Calm held h (Do (AddRef x) next) = (x ≡ id) × ((found : ℕ) → Calm (vref_version found == socket_id_version id) h (next found))
   Calm held h (Do (SwapHead i own) next) = ⊥
   Calm held h (Do (GiveBirth i l) next) = ⊥
@@ -52,7 +81,7 @@ module _ (k id : ℕ) (Odd : List Taking → Type 0) (Lasts : Type 0) where
   Calm held h (Do call next) = (found : ℕ) → Calm false h (next found)
   Calm held h (Say o outcome next) = Calm held h next
   Calm held h (Sent o next) = Calm held h next
-  Calm held h Rest = Unit {0}
+  Calm held h Rest = IsOver h
   Calm held h (TakeMessage q next) = ⊥
   Calm held h (TakeHome l next) = ⊥
   Calm held h (PutHome l n after) = ⊥
@@ -63,7 +92,7 @@ module _ (k id : ℕ) (Odd : List Taking → Type 0) (Lasts : Type 0) where
   Calm held h (Aside step next) = (found : Found step) → Calm false h (next found)
   Calm held h (Round (Opens o) next) = ⊥
   Calm held h (Round (Reads r) next) = IsReading h r × ((how : Ended) (h' : List Taking) → EndsSo h' how → Calm false h' (next how))
-  Calm held h (Round (Discards l total) next) = (l ≡ k) × ((n : ℕ) (h' : List Taking) → Calm false h' (next n))
+  Calm held h (Round (Discards l total) next) = (l ≡ k) × IsOver h × ((n : ℕ) (h' : List Taking) → IsOver h' → Calm false h' (next n))
   Calm held h (Round head next) = (exit : Exit head) → Calm false h (next exit)
   Calm held h (Keep r next) = Calm held h next
   Calm held h (Retries requests after) = ⊥
@@ -165,11 +194,11 @@ module _ (k id : ℕ) (Odd : List Taking → Type 0) (Lasts : Type 0) where
         by found true = goes
         by found false = calm_release (socket_id_slot id) (λ _. gone found) (λ _. after found)
 
-    set_failed_calm : (code : ℕ) (next : ℕ → Program) → Odd h → ((found : ℕ) → C (next found)) → Calm true h (set_failed id code next)
-    set_failed_calm code next odd after = (refl, odd, refl, λ found. either_way (vref_version found % 2 == 0) _ _ C (λ _ _. after found) (after found))
+    set_failed_calm : (code : ℕ) (next : ℕ → Program) → Odd h × Codes h code → ((found : ℕ) → C (next found)) → Calm true h (set_failed id code next)
+    set_failed_calm code next codes after = (refl, codes.0, refl, λ found. either_way (vref_version found % 2 == 0) _ _ C (codes.1, refl, refl, λ _ _. after found) (after found))
 
-    thrown_calm : (how : Ended) → how.reading.link ≡ k → C (thrown_away how)
-    thrown_calm how own = either_way (how.fault && nat_lt how.reading.total LIMIT) (Round (Discards how.reading.link how.reading.total) (λ _. Rest)) Rest C (own, λ n h'. tt) tt
+    thrown_calm : (how : Ended) → how.reading.link ≡ k → IsOver h → C (thrown_away how)
+    thrown_calm how own over = either_way (how.fault && nat_lt how.reading.total LIMIT) (Round (Discards how.reading.link how.reading.total) (λ _. Rest)) Rest C (own, over, λ n h' ended. ended) over
 
     abbrev last_posts : List ℕ → Ended → Program
     last_posts calls how = post_each calls how.reading.link how.code how.reading.kept (thrown_away how)
@@ -179,7 +208,7 @@ module _ (k id : ℕ) (Odd : List Taking → Type 0) (Lasts : Type 0) where
     read_calm calls how e = by how.closed refl
       where
         lasts : C (last_posts calls how)
-        lasts = calm_post_each calls how.reading.link how.code how.reading.kept (thrown_away how) (thrown_calm how e.1)
+        lasts = calm_post_each calls how.reading.link how.code how.reading.kept (thrown_away how) (thrown_calm how e.1 e.3)
 
         by : (b : Bool) → how.closed ≡ b → C (cond b (last_posts calls how) (address how.reading.id (set_failed how.reading.id how.code (λ _. release (socket_id_slot how.reading.id) (λ _. (last_posts calls how)))) (λ _. (last_posts calls how))))
         by true is = lasts
@@ -208,6 +237,9 @@ module _ (k id : ℕ) (Odd : List Taking → Type 0) (Lasts : Type 0) where
       more_total : (bytes : List ℕ) → r.total + length bytes ≡ length (given_by (h ++ Bytes bytes ∷ []))
       more_total bytes = let a = at.total in let b = ap length (gave_more h bytes) in let d = length-append (given_by h) bytes in omega (arith, a, b, d)
 
+      all_read : (bytes : List ℕ) → nat_lt (r.total + length bytes) LIMIT ≡ false → LIMIT ≤ length (given_by (h ++ Bytes bytes ∷ []))
+      all_read bytes most = let l = ltb-false (r.total + length bytes) LIMIT most in let t = more_total bytes in omega (arith, l, t)
+
       -- a fault of the rest with what came is one of all that came
       all_tied : (bytes more : List ℕ) → Faults 0 ((r.rest ++ bytes) ++ more) → Faults 0 (given_by (h ++ Bytes bytes ∷ []) ++ more)
       all_tied bytes more f = subst (λ l. Faults 0 (l ++ more)) (sym (gave_more h bytes))
@@ -221,9 +253,9 @@ module _ (k id : ℕ) (Odd : List Taking → Type 0) (Lasts : Type 0) where
         where
           by : (b : Bool) → nat_lt (r.total + length bytes) LIMIT ≡ b → Calm false (h ++ Bytes bytes ∷ []) (cond b (Round (Reads (with_rest bytes kept n)) next) (next (ended_by 1014 false false (with_rest bytes kept n))))
           by true less = (record { link = at.link; own = at.own; total = more_total bytes; tied = λ more f. all_tied bytes more (fault_follows (r.rest ++ bytes) more n is f) }, goes)
-          by false most = goes (ended_by 1014 false false (with_rest bytes kept n)) (h ++ Bytes bytes ∷ []) ((λ _. ends.most (h ++ Bytes bytes ∷ []) (let l = ltb-false (r.total + length bytes) LIMIT most in let t = more_total bytes in omega (arith, l, t))), at.link, at.own)
-      read_on_calm kept bytes (streams.Fault start fault) is = goes (ended_by 2002 false true (with_more bytes kept)) (h ++ Bytes bytes ∷ [])
-          ((λ _. ends.fault (h ++ Bytes bytes ∷ []) (subst (Faults 0) (append-nil (given_by (h ++ Bytes bytes ∷ []))) (all_tied bytes [] (subst (Faults 0) (sym (append-nil (r.rest ++ bytes))) (start, fault, is))))), at.link, at.own)
+          by false most = goes (ended_by 1014 false false (with_rest bytes kept n)) (h ++ Bytes bytes ∷ []) ((λ _. (ends.most (h ++ Bytes bytes ∷ []) (all_read bytes most), inl (refl, inr (inr (inr (all_read bytes most)))))), at.link, at.own, inl (inr (inr (inl (all_read bytes most)))))
+      read_on_calm kept bytes (streams.Fault start fault) is = let faulty : Faults 0 (given_by (h ++ Bytes bytes ∷ [])) = subst (Faults 0) (append-nil (given_by (h ++ Bytes bytes ∷ []))) (all_tied bytes [] (subst (Faults 0) (sym (append-nil (r.rest ++ bytes))) (start, fault, is))) in
+          goes (ended_by 2002 false true (with_more bytes kept)) (h ++ Bytes bytes ∷ []) ((λ _. (ends.fault (h ++ Bytes bytes ∷ []) faulty, inr (refl, faulty))), at.link, at.own, inl (inr (inl faulty)))
 
       took_calm : (t : Taking) → (t ≡ NoMore → Lasts) → Calm false (h ++ t ∷ []) (took r next t)
       took_calm (Bytes bytes) some_ = calm_responses (h ++ Bytes bytes ∷ []) r.ids (streams.stream (r.rest ++ bytes)).frames r.kept (λ kept. read_on (with_more bytes kept) (r.rest ++ bytes) (streams.stream (r.rest ++ bytes)).ending next)
@@ -232,18 +264,19 @@ module _ (k id : ℕ) (Odd : List Taking → Type 0) (Lasts : Type 0) where
         record { link = at.link; own = at.own; total = at.total ∙ ap length (sym (gave_none h Nothing refl)); tied = λ more f. subst (λ l. Faults 0 (l ++ more)) (sym (gave_none h Nothing refl)) (at.tied more f) },
         goes,
       )
-      took_calm NoMore some_ = goes (ended_by 1014 false false r) (h ++ NoMore ∷ []) ((λ _. ends.no_more (some_ refl) h), at.link, at.own)
-      took_calm AtEnd some_ = goes (ended_by 1014 false false r) (h ++ AtEnd ∷ []) ((λ _. ends.at_end h), at.link, at.own)
-      took_calm Closed some_ = goes (ended_by 1014 true false r) (h ++ Closed ∷ []) ((λ e. absurd (true≢false e)), at.link, at.own)
-      took_calm Broken some_ = goes (ended_by 1014 false false r) (h ++ Broken ∷ []) ((λ _. ends.broken h), at.link, at.own)
+      took_calm NoMore some_ = goes (ended_by 1014 false false r) (h ++ NoMore ∷ []) ((λ _. (ends.no_more (some_ refl) h, inl (refl, inr (inr (inl (last_in h NoMore)))))), at.link, at.own, inr (inr (last_in h NoMore)))
+      took_calm AtEnd some_ = goes (ended_by 1014 false false r) (h ++ AtEnd ∷ []) ((λ _. (ends.at_end h, inl (refl, inl (last_in h AtEnd)))), at.link, at.own, inl (inl (last_in h AtEnd)))
+      took_calm Closed some_ = goes (ended_by 1014 true false r) (h ++ Closed ∷ []) ((λ e. absurd (true≢false e)), at.link, at.own, inr (inl (last_in h Closed)))
+      took_calm Broken some_ = goes (ended_by 1014 false false r) (h ++ Broken ∷ []) ((λ _. (ends.broken h, inl (refl, inr (inl (last_in h Broken))))), at.link, at.own, inl (inr (inr (inr (last_in h Broken)))))
 
-    discarded_calm : (h : List Taking) (l total : ℕ) (next : ℕ → Program) → l ≡ k → ((n : ℕ) (h' : List Taking) → Calm false h' (next n)) → (t : Taking) → Calm false (h ++ t ∷ []) (discarded l total next t)
-    discarded_calm h l total next own goes (Bytes bytes) = either_way (nat_lt (total + length bytes) LIMIT) (Round (Discards l (total + length bytes)) next) (next (total + length bytes)) (Calm false (h ++ Bytes bytes ∷ [])) (own, goes) (goes (total + length bytes) (h ++ Bytes bytes ∷ []))
-    discarded_calm h l total next own goes Nothing = (own, goes)
-    discarded_calm h l total next own goes NoMore = goes total (h ++ NoMore ∷ [])
-    discarded_calm h l total next own goes AtEnd = goes total (h ++ AtEnd ∷ [])
-    discarded_calm h l total next own goes Closed = goes total (h ++ Closed ∷ [])
-    discarded_calm h l total next own goes Broken = goes total (h ++ Broken ∷ [])
+    discarded_calm : (h : List Taking) (l total : ℕ) (next : ℕ → Program) → l ≡ k → IsOver h → ((n : ℕ) (h' : List Taking) → IsOver h' → Calm false h' (next n)) → (t : Taking) → Calm false (h ++ t ∷ []) (discarded l total next t)
+    discarded_calm h l total next own over goes (Bytes bytes) = let more = over_more h (Bytes bytes ∷ []) over in
+        either_way (nat_lt (total + length bytes) LIMIT) (Round (Discards l (total + length bytes)) next) (next (total + length bytes)) (Calm false (h ++ Bytes bytes ∷ [])) (own, more, goes) (goes (total + length bytes) (h ++ Bytes bytes ∷ []) more)
+    discarded_calm h l total next own over goes Nothing = (own, over_more h (Nothing ∷ []) over, goes)
+    discarded_calm h l total next own over goes NoMore = goes total (h ++ NoMore ∷ []) (over_more h (NoMore ∷ []) over)
+    discarded_calm h l total next own over goes AtEnd = goes total (h ++ AtEnd ∷ []) (over_more h (AtEnd ∷ []) over)
+    discarded_calm h l total next own over goes Closed = goes total (h ++ Closed ∷ []) (over_more h (Closed ∷ []) over)
+    discarded_calm h l total next own over goes Broken = goes total (h ++ Broken ∷ []) (over_more h (Broken ∷ []) over)
 
     -- one round of a loop
     calm_round : (held : Bool) (h : List Taking) (head : Head) (next : Exit head → Program) → Calm held h (Round head next) → Calm held h (round head next)
@@ -257,7 +290,7 @@ module _ (k id : ℕ) (Odd : List Taking → Type 0) (Lasts : Type 0) where
     calm_round held h (Joins i) next x = calm_joins h i next x
     calm_round held h (Opens o) next x = absurd x
     calm_round held h (Reads r) next x = let at = x.0 in (at.link, λ t some_. took_calm h r next at x.1 t some_)
-    calm_round held h (Discards l total) next x = (x.0, λ t some_. discarded_calm h l total next x.0 x.1 t)
+    calm_round held h (Discards l total) next x = (x.0, λ t some_. discarded_calm h l total next x.0 x.1 x.2 t)
 
     pub calm_first : (held : Bool) (h : List Taking) (program : Program) → Calm held h program → Calm held h (first_step program)
     calm_first held h (Write w after) x = absurd x
@@ -312,6 +345,7 @@ module _ (k id : ℕ) (Odd : List Taking → Type 0) (Lasts : Type 0) where
 
   pub calm_step : (held : Bool) (h : List Taking) (call : Call) (next : ℕ → Program) → Calm held h (Do call next) → IsCalmCall call × ((found : ℕ) → Behind h call (next found) found)
   calm_step held h (SetOdd i) next x = (tt, λ found. record { held = false; calm = x.3 found; got = λ e. absurd (true≢false (sym e)) })
+  calm_step held h (StoreCode i v code) next x = (tt, λ found. record { held = false; calm = x.3 found; got = λ e. absurd (true≢false (sym e)) })
   calm_step held h (AddRef y) next x = (tt, λ found. record { held = vref_version found == socket_id_version id; calm = x.1 found; got = λ e. (ap AddRef x.0, e) })
   calm_step held h (SwapHead i own) next x = absurd x
   calm_step held h (GiveBirth i l) next x = absurd x
@@ -330,3 +364,7 @@ module _ (k id : ℕ) (Odd : List Taking → Type 0) (Lasts : Type 0) where
   -- where the program is to set a socket failed, it has just got its reference
   pub sets_odd : (held : Bool) (h : List Taking) (i : ℕ) (next : ℕ → Program) → Calm held h (Do (SetOdd i) next) → (held ≡ true) × Odd h × (i ≡ socket_id_slot id)
   sets_odd held h i next x = (x.0, x.1, x.2)
+
+  -- a code that it stores is its own socket's, by how the reading ended
+  pub stores_code : (held : Bool) (h : List Taking) (i v code : ℕ) (next : ℕ → Program) → Calm held h (Do (StoreCode i v code) next) → Codes h code × (i ≡ socket_id_slot id) × (v ≡ socket_id_version id)
+  stores_code held h i v code next x = (x.0, x.1, x.2)

@@ -14,7 +14,7 @@ use Rattle.sock_programs.specs.Cores.{Core}
 use Rattle.sock_programs.specs.Tasks.{plan_of, id_plan_of}
 use Rattle.sock_programs.specs.Scripts.{all_tasks, IsRunWithCalls}
 use Rattle.sock_programs.specs.Told.{IsTask, Made}
-use Rattle.sock_programs.specs.ToldCalls.{Accepted, Order, Fixed, IsSent, OfSend, OfCall, IsDropped, IsFailing, IsFailedWith, WhyLost, WasFailing, WhyAgain, AfterDrop, FailedBy, BySocket, ByFail}
+use Rattle.sock_programs.specs.ToldCalls.{Accepted, Order, Fixed, StandsAt, IsSent, OfSend, OfCall, StandsOn, IsDropped, IsFailing, MayBeOn, IsFailedWith, WhyLost, WasFailing, WhyAgain, AfterDrop, FailedBy, BySocket, ByFail}
 use Rattle.sock_causes.specs.Causes.{Asks}
 use Rattle.sock_causes.proofs.Members.{all_in, contains_in, get_all, get_within}
 use Rattle.sock_causes.proofs.Tasks.{one_link, one_task}
@@ -23,22 +23,17 @@ use Rattle.owed_calls.specs.Lives.{ClosesInRun}
 use Rattle.call_causes.specs.Posts.{Post}
 use Rattle.call_causes.proofs.Clients.{FitsOp}
 use Rattle.call_causes.proofs.Scripts.{begins}
-use Rattle.send_causes.proofs.Beside.{gave_of_run, fixed_of_run, orders_here}
+use Rattle.send_causes.specs.PostCauses.{PostCause, OfDrop, OfFail}
+use Rattle.send_causes.proofs.Beside.{orders_here}
+use Rattle.send_causes.proofs.Sends.{orders_are}
 use Rattle.send_causes.proofs.DropOfRun.{IsDroppedOn, IsFailedOn, DropOf}
 
-module _ (script : List Item) (made : AreMade script) (turns : List Turn) (core : Core) (is : IsRunWithCalls script turns core) (closes : ClosesInRun script turns core is) where
+module _ (script : List Item) (made : AreMade script) (turns : List Turn) (core : Core) (is : IsRunWithCalls script turns core) (closes : ClosesInRun script turns core is) (fixed : Fixed) (gave : ℕ → List ℕ) where
   abbrev p : Plan
   p = plan_of script
 
   abbrev clients : List (List Task)
   clients = all_tasks script
-
-  -- what the run fixes
-  abbrev fixed : Fixed
-  fixed = fixed_of_run script made turns core is closes
-
-  abbrev gave : ℕ → List ℕ
-  gave = gave_of_run script made turns core is closes
 
   -- what the links accepted
   abbrev orders : ℕ → Order
@@ -88,6 +83,25 @@ module _ (script : List Item) (made : AreMade script) (turns : List Turn) (core 
           let task : a.task ≡ b.task = one_link p clients made.are a.client b.client l.name (name_of d.asked (attempt_of x.error)) d.link a.task b.task (asks_of a.client a.task a.is) (asks_of b.client b.task b.is) (a.op ∙ ap (ops.Open l.name) f.3) b.op in
           let opens : ops.Open l.name d.link ≡ ops.Open (name_of d.asked (attempt_of x.error)) d.link = sym (a.op ∙ ap (ops.Open l.name) f.3) ∙ (ap (λ (y : Task). y.op) task ∙ b.op) in let name : l.name ≡ name_of d.asked (attempt_of x.error) = cc in
           (l.client, l.task, l.is_task, l.op ∙ ap (λ y. ops.Fail y code) name, l.became)
+
+      -- no other link accepted the attempt
+      pub may_be_on : MayBeOn p clients core.outcomes fixed gave orders d.task.number (attempt_of x.error) (name_of d.asked (attempt_of x.error)) d.link
+      may_be_on = (named.0, named.1, named.2, λ l stands. other l stands.0 stands.1.0 stands.1.1 stands.1.2 stands.1.3 stands.1.4)
+        where
+          other : (l i : ℕ) → l < p.links → (a : Accepted) → StandsAt orders l i a → a.operation ≡ d.task.number → a.attempt ≡ attempt_of x.error → l ≡ d.link
+          other l i low a at op attempt = let are = orders_are script made turns core is closes in let mine = d.dropped.at in
+              (are.apart l d.link i d.dropped.place a mine.1 low mine.0 at mine.2 (let b = mine.3 in let e = mine.4 in omega (arith, op, attempt, b, e))).0
+
+      pub stands_on : StandsOn p clients core.outcomes fixed gave orders d.task.number (attempt_of x.error) d.link
+      stands_on = (d.dropped.place, d.dropped.at)
+
+      -- why the error was posted, where its code is none of the ending or of a reader
+      pub caused_by_drop : AreThere script → AllByRecursion InRange script → (c id : ℕ) → PostCause p clients core.outcomes fixed gave orders c d.task.number d.asked id (code_of x.error) (attempt_of x.error)
+          ⊎ ((code_of x.error ≡ 1014) ⊎ (code_of x.error ≡ 2002))
+      caused_by_drop there range c id = let gone = is_dropped d.task.number (attempt_of x.error) d.link d.dropped in ⊎_elim
+          (λ other. ⊎_elim (λ is. inl (OfDrop is gone)) (λ final. inr final) other)
+          (λ f. let l = f.2 in let fits = fail_range there range l.client l.task l.name (code_of x.error) l.is_task l.op in inl (OfFail fits.0 fits.1 gone (failed_with (code_of x.error) f)))
+          d.code
 
       -- and messages are dropped only on links that were failing
       module _ (failing : (k : ℕ) → k < p.links → (orders k).placed < length (orders k).accepted

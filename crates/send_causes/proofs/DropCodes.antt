@@ -52,13 +52,13 @@ SaysFailed o (Do call next) = SaysFailed o (next 0)
 SaysFailed o (Say x outcome next) = (x ≡ o) × (outcome ≡ Failed)
 SaysFailed o other = ⊥
 
--- these are the `fail` operations of the seat, with their codes
-module _ (mine : ℕ → ℕ → Type 0) where
+-- these are the `fail` operations of the seat, with their codes, and the other codes that it may store
+module _ (mine : ℕ → ℕ → Type 0) (Other : ℕ → Type 0) where
   -- each code that the program stores is one of the others, or its own
   abbrev pub Stores : Failing → Program → Type 0
   Stores f (Do (SetOdd i) next) = ((found : ℕ) → Stores NoFail (next found))
       ⊎ ((o code : ℕ) × mine o code × ((found : ℕ) → ((vref_version found % 2 ≡ 0) × SaysFailed o (next found) × Stores (Fails o code i) (next found)) ⊎ Stores NoFail (next found)))
-  Stores f (Do (StoreCode i h code) next) = (IsOtherCode code ⊎ ((o : ℕ) × (f ≡ Fails o code i))) × ((found : ℕ) → Stores NoFail (next found))
+  Stores f (Do (StoreCode i h code) next) = (Other code ⊎ ((o : ℕ) × (f ≡ Fails o code i))) × ((found : ℕ) → Stores NoFail (next found))
   Stores f (Do call next) = (found : ℕ) → Stores NoFail (next found)
   Stores f (Say o outcome next) = Stores NoFail next
   Stores f (Sent o next) = Stores NoFail next
@@ -75,10 +75,12 @@ module _ (mine : ℕ → ℕ → Type 0) where
   Stores f (Keep r next) = Stores NoFail next
   Stores f (Retries requests after) = Stores NoFail after
 
+-- a link that failed is told of
+module _ (mine : ℕ → ℕ → Type 0) (Other : ℕ → Type 0) (gone : Other 1009) where
   -- ## Parts of programs
 
   abbrev G : Program → Type 0
-  G program = Stores NoFail program
+  G program = Stores mine Other NoFail program
 
   codes_recycle : (i from : ℕ) (next : Bool → Program) → ((b : Bool) → G (next b)) → G (recycle i from next)
   codes_recycle i from next after = (λ found. either_way (found == from) _ _ G
@@ -95,7 +97,7 @@ module _ (mine : ℕ → ℕ → Type 0) where
   codes_reach : (name : ℕ) (unopened : Program) (held gone : ℕ → Program) → G unopened → ((id : ℕ) → G (held id)) → ((found : ℕ) → G (gone found)) → G (reach name unopened held gone)
   codes_reach name unopened held gone u h after = (λ word. either_way (word == 0) _ _ G u (codes_address (word - 1) (held (word - 1)) gone (h (word - 1)) after))
 
-  codes_set_failed : (id code : ℕ) (next : ℕ → Program) → IsOtherCode code → ((found : ℕ) → G (next found)) → G (set_failed id code next)
+  codes_set_failed : (id code : ℕ) (next : ℕ → Program) → Other code → ((found : ℕ) → G (next found)) → G (set_failed id code next)
   codes_set_failed id code next low after = inl (λ found. either_way (vref_version found % 2 == 0) _ _ G ((inl low, λ _ _. after found)) (after found))
 
   -- what a `fail` stores is its own code
@@ -105,7 +107,7 @@ module _ (mine : ℕ → ℕ → Type 0) where
     where
       by : (id found : ℕ) (b : Bool) → (vref_version found % 2 == 0) ≡ b
           → ((vref_version found % 2 ≡ 0) × SaysFailed o (cond b (Do (StoreCode (socket_id_slot id) (socket_id_version id) code) (λ _. Do (SubRef (socket_id_slot id)) (λ _. release (socket_id_slot id) (λ _. Say o (fail_outcome found) next)))) (release (socket_id_slot id) (λ _. Say o (fail_outcome found) next)))
-          × Stores (Fails o code (socket_id_slot id)) (cond b (Do (StoreCode (socket_id_slot id) (socket_id_version id) code) (λ _. Do (SubRef (socket_id_slot id)) (λ _. release (socket_id_slot id) (λ _. Say o (fail_outcome found) next)))) (release (socket_id_slot id) (λ _. Say o (fail_outcome found) next))))
+          × Stores mine Other (Fails o code (socket_id_slot id)) (cond b (Do (StoreCode (socket_id_slot id) (socket_id_version id) code) (λ _. Do (SubRef (socket_id_slot id)) (λ _. release (socket_id_slot id) (λ _. Say o (fail_outcome found) next)))) (release (socket_id_slot id) (λ _. Say o (fail_outcome found) next))))
           ⊎ G (cond b (Do (StoreCode (socket_id_slot id) (socket_id_version id) code) (λ _. Do (SubRef (socket_id_slot id)) (λ _. release (socket_id_slot id) (λ _. Say o (fail_outcome found) next)))) (release (socket_id_slot id) (λ _. Say o (fail_outcome found) next)))
       by id found true even = inl (eqb-true (vref_version found % 2) 0 even, (refl, ap (λ b. cond b Failed (Already (record { 0 = found }))) even), (inr (o, refl), λ _ _. codes_release (socket_id_slot id) (λ _. Say o (fail_outcome found) next) (λ _. after)))
       by id found false odd = inr (codes_release (socket_id_slot id) (λ _. Say o (fail_outcome found) next) (λ _. after))
@@ -229,7 +231,7 @@ module _ (mine : ℕ → ℕ → Type 0) where
   codes_dropped h now heading next after = (λ c. (λ _. codes_passed (one_more h) now (tell_drop heading c) (λ x y. codes_tell heading c x y) next after))
 
   codes_link_failed : (h : Holder) (next : Program) → G next → G (link_failed h next)
-  codes_link_failed h next after = codes_set_failed h.id 1009 (λ _. next) (inl refl) (λ _. after)
+  codes_link_failed h next after = codes_set_failed h.id 1009 (λ _. next) gone (λ _. after)
 
   codes_put : (h : Holder) (now : ℕ) (heading : Heading) (left : List ℕ) (taken : ℕ) (next : Program) → G next → (answer : Put) → G (put_answered h now heading left taken next answer)
   codes_put h now heading left taken next after (puts.Took n) = either_way (nat_le (length left) n) _ _ G (codes_placed h now heading next after) (after)
@@ -259,9 +261,9 @@ module _ (mine : ℕ → ℕ → Type 0) where
   codes_write_link id q own next after = (λ k. (λ places. (λ heading bytes.
       codes_first_put (record { id = id; link = k; last = own; places = places }) own heading bytes next after)))
 
-  codes_ended : (word : ℕ) (next : Program) → G next → G (cond (word == 0) next (cond (word == NO_SOCKET) next (address (word - 1) (set_failed (word - 1) 1014 (λ _. release (socket_id_slot (word - 1)) (λ _. next))) (λ _. next))))
-  codes_ended word next after = either_way (word == 0) _ _ G after (either_way (word == NO_SOCKET) _ _ G after
-      (codes_address (word - 1) (set_failed (word - 1) 1014 (λ _. release (socket_id_slot (word - 1)) (λ _. next))) (λ _. next) (codes_set_failed (word - 1) 1014 (λ _. release (socket_id_slot (word - 1)) (λ _. next)) (inr (inl refl)) (λ _. codes_release (socket_id_slot (word - 1)) (λ _. next) (λ _. after))) (λ _. after)))
+  codes_ended : Other 1014 → (word : ℕ) (next : Program) → G next → G (cond (word == 0) next (cond (word == NO_SOCKET) next (address (word - 1) (set_failed (word - 1) 1014 (λ _. release (socket_id_slot (word - 1)) (λ _. next))) (λ _. next))))
+  codes_ended over word next after = either_way (word == 0) _ _ G after (either_way (word == NO_SOCKET) _ _ G after
+      (codes_address (word - 1) (set_failed (word - 1) 1014 (λ _. release (socket_id_slot (word - 1)) (λ _. next))) (λ _. next) (codes_set_failed (word - 1) 1014 (λ _. release (socket_id_slot (word - 1)) (λ _. next)) over (λ _. codes_release (socket_id_slot (word - 1)) (λ _. next) (λ _. after))) (λ _. after)))
 
   codes_ends_with : (id e word : ℕ) (kept : List Frame) (next : Program) → G next → G (ends_with id e word kept next)
   codes_ends_with id e word [] next after = codes_decide id word e (decided id next) (codes_decided id next after)
@@ -283,13 +285,13 @@ module _ (mine : ℕ → ℕ → Type 0) where
   codes_thrown_away : G Rest → (how : Ended) → G (thrown_away how)
   codes_thrown_away rests how = either_way (how.fault && nat_lt how.reading.total LIMIT) _ _ G ((λ _. rests)) rests
 
-  codes_read : G Rest → (calls : List ℕ) (how : Ended) → IsOtherCode how.code → G (read calls how)
+  codes_read : G Rest → (calls : List ℕ) (how : Ended) → Other how.code → G (read calls how)
   codes_read rests calls how low = let rest : Program = post_each calls how.reading.link how.code how.reading.kept (thrown_away how) in
       let last : G (post_each calls how.reading.link how.code how.reading.kept (thrown_away how)) = codes_post_each calls how.reading.link how.code how.reading.kept (thrown_away how) (codes_thrown_away rests how) in either_way how.closed _ _ G last
       (codes_address how.reading.id (set_failed how.reading.id how.code (λ _. release (socket_id_slot how.reading.id) (λ _. rest))) (λ _. rest) (codes_set_failed how.reading.id how.code (λ _. release (socket_id_slot how.reading.id) (λ _. rest)) low (λ _. codes_release (socket_id_slot how.reading.id) (λ _. rest) (λ _. last))) (λ _. last))
 
-  codes_reading : G Rest → (calls : List ℕ) (k word : ℕ) → G (cond (word == NO_SOCKET) Rest (Round (Reads (record { ids = length calls; link = k; id = word - 1; rest = []; total = 0; kept = [] })) (read calls)))
-  codes_reading rests calls k word = either_way (word == NO_SOCKET) _ _ G rests (λ how low. codes_read rests calls how low)
+  codes_reading : ((code : ℕ) → IsOtherCode code → Other code) → G Rest → (calls : List ℕ) (k word : ℕ) → G (cond (word == NO_SOCKET) Rest (Round (Reads (record { ids = length calls; link = k; id = word - 1; rest = []; total = 0; kept = [] })) (read calls)))
+  codes_reading others rests calls k word = either_way (word == NO_SOCKET) _ _ G rests (λ how low. codes_read rests calls how (others how.code low))
 
   -- ## Messages
 
@@ -387,16 +389,16 @@ module _ (mine : ℕ → ℕ → Type 0) where
   client_codes sizes [] held owns = codes_back held
   client_codes sizes (t ∷ ts) held owns = codes_operation sizes held t.number (λ h. client_from sizes h ts) t.op owns.0 (λ h. client_codes sizes ts h owns.1)
 
-  pub ending_codes : (os : List ℕ) → G (ending_of os)
-  ending_codes [] = tt
-  ending_codes (o ∷ os) = λ word. codes_ended word (ending_of os) (ending_codes os)
+  pub ending_codes : Other 1014 → (os : List ℕ) → G (ending_of os)
+  ending_codes over [] = tt
+  ending_codes over (o ∷ os) = λ word. codes_ended over word (ending_of os) (ending_codes over os)
 
-  pub reader_codes : (calls : List ℕ) (k o : ℕ) → G (reader calls k o)
-  reader_codes calls k o = λ word. codes_reading tt calls k word
+  pub reader_codes : ((code : ℕ) → IsOtherCode code → Other code) → (calls : List ℕ) (k o : ℕ) → G (reader calls k o)
+  reader_codes others calls k o = λ word. codes_reading others tt calls k word
 
   -- ## Along ticks
 
-  codes_round : (f : Failing) (head : Head) (next : Exit head → Program) → Stores f (Round head next) → G (round head next)
+  codes_round : (f : Failing) (head : Head) (next : Exit head → Program) → Stores mine Other f (Round head next) → G (round head next)
   codes_round f (Posts id e w) next x = codes_posts id e w next x
   codes_round f (Unlocks i w advance) next x = codes_unlocks i w advance next x
   codes_round f (Decides id asked w e) next x = codes_decides id asked w e next x
@@ -407,7 +409,7 @@ module _ (mine : ℕ → ℕ → Type 0) where
   codes_round f (Discards k total) next x = λ t. codes_discarded k total next x t
 
   -- what a seat is to store is the same at the first step of a round
-  pub codes_first : (f : Failing) (program : Program) → Stores f program → (g : Failing) × ((g ≡ f) ⊎ (g ≡ NoFail)) × Stores g (first_step program)
+  pub codes_first : (f : Failing) (program : Program) → Stores mine Other f program → (g : Failing) × ((g ≡ f) ⊎ (g ≡ NoFail)) × Stores mine Other g (first_step program)
   codes_first f (Write w after) x = (NoFail, inr refl, codes_block w after x)
   codes_first f (Round head next) x = (NoFail, inr refl, codes_round f head next x)
   codes_first f (Do call next) x = (f, inl refl, x)
@@ -424,11 +426,11 @@ module _ (mine : ℕ → ℕ → Type 0) where
   codes_first f (Retries requests after) x = (f, inl refl, x)
 
   -- and behind what is said, where a retry may come first
-  pub codes_next : (f : Failing) (ws : List Retry) (program : Program) → Stores f program → (g : Failing) × (((g ≡ f) × (next_step (resolved ws program) ≡ program)) ⊎ (g ≡ NoFail)) × Stores g (next_step (resolved ws program))
-  codes_next f ws (Say o outcome next) x = let r = codes_next NoFail ws next x in (NoFail, inr refl, subst (λ g. Stores g (next_step (resolved ws next))) (⊎_elim (λ e. e.0) (λ e. e) r.1) r.2)
-  codes_next f ws (Sent o next) x = let r = codes_next NoFail ws next x in (NoFail, inr refl, subst (λ g. Stores g (next_step (resolved ws next))) (⊎_elim (λ e. e.0) (λ e. e) r.1) r.2)
-  codes_next f ws (Keep r next) x = let y = codes_next NoFail (ws ++ r ∷ []) next x in (NoFail, inr refl, subst (λ g. Stores g (next_step (resolved (ws ++ r ∷ []) next))) (⊎_elim (λ e. e.0) (λ e. e) y.1) y.2)
-  codes_next f [] (Retries requests after) x = let r = codes_next NoFail [] after x in (NoFail, inr refl, subst (λ g. Stores g (next_step (resolved [] after))) (⊎_elim (λ e. e.0) (λ e. e) r.1) r.2)
+  pub codes_next : (f : Failing) (ws : List Retry) (program : Program) → Stores mine Other f program → (g : Failing) × (((g ≡ f) × (next_step (resolved ws program) ≡ program)) ⊎ (g ≡ NoFail)) × Stores mine Other g (next_step (resolved ws program))
+  codes_next f ws (Say o outcome next) x = let r = codes_next NoFail ws next x in (NoFail, inr refl, subst (λ g. Stores mine Other g (next_step (resolved ws next))) (⊎_elim (λ e. e.0) (λ e. e) r.1) r.2)
+  codes_next f ws (Sent o next) x = let r = codes_next NoFail ws next x in (NoFail, inr refl, subst (λ g. Stores mine Other g (next_step (resolved ws next))) (⊎_elim (λ e. e.0) (λ e. e) r.1) r.2)
+  codes_next f ws (Keep r next) x = let y = codes_next NoFail (ws ++ r ∷ []) next x in (NoFail, inr refl, subst (λ g. Stores mine Other g (next_step (resolved (ws ++ r ∷ []) next))) (⊎_elim (λ e. e.0) (λ e. e) y.1) y.2)
+  codes_next f [] (Retries requests after) x = let r = codes_next NoFail [] after x in (NoFail, inr refl, subst (λ g. Stores mine Other g (next_step (resolved [] after))) (⊎_elim (λ e. e.0) (λ e. e) r.1) r.2)
   codes_next f (r ∷ ws) (Retries requests after) x = (NoFail, inr refl, codes_retry requests r.id r.attempt (Retries requests after) x)
   codes_next f ws (Do call next) x = (f, inl (refl, refl), x)
   codes_next f ws Rest x = (f, inl (refl, refl), x)

@@ -4,12 +4,12 @@ use Rattle.std.proofs.lemmas.Bool.{true≢false}
 use Rattle.std.specs.Prelude.{Option, Some, slice_get, slice_index}
 use Rattle.std.specs.List.{AllByRecursion}
 use mathlib.Core.Logic.{dite}
-use mathlib.Core.Option.{some}
+use mathlib.Core.Option.{some, some-ne-none}
 use native.Mathlib.Decide.{ℕ_discrete}
 use lib.ListN.{get_elem?}
 use Rattle.brpc_model.specs.Items.{Item}
 use Rattle.brpc_model.specs.Operations.{Turn}
-use Rattle.sock_words.specs.Words.{socket_id_slot, socket_id_version}
+use Rattle.sock_words.specs.Words.{socket_id, socket_id_slot, socket_id_version, vref_version}
 use Rattle.sock_words.specs.declared.outcome.Outcome.{Outcome}
 use Rattle.sock_words.specs.declared.outcome.Outcome.TheVariants.{Failed}
 use Rattle.sock_model.specs.declared.chain.Entry.{Entry}
@@ -18,17 +18,17 @@ use Rattle.sock_words.specs.declared.plain.Plan.{Plan}
 use Rattle.sock_model.specs.declared.view.View.{View}
 use Rattle.sock_model.specs.Deliveries.{place_value}
 use Rattle.sock_model.specs.Entries.{on}
-use Rattle.sock_model.specs.Layout.{place_word, request_word}
+use Rattle.sock_model.specs.Layout.{open_word, place_word, request_word}
 use Rattle.sock_model.specs.Rule.{lists_of}
 use Rattle.sock_steps.proofs.Positions.{few_log, on_shorter}
-use Rattle.slot_laws.proofs.Numbers.{life_le}
+use Rattle.slot_laws.proofs.Numbers.{life_le, life_is}
 use Rattle.slot_laws.proofs.Sums.{total_bound}
 use Rattle.chain_laws.proofs.Frames.{in_log}
 use Rattle.corr_core.specs.Word.{error_of, code_of, attempt_of}
 use Rattle.sock_message.specs.Asked.{Asked}
 use Rattle.sock_programs.specs.declared.task.Op.TheVariants as ops
 use Rattle.sock_programs.specs.declared.task.Task.{Task}
-use Rattle.sock_programs.specs.Calls.{SetOdd, ClaimRequest, LoadCode, DropPlace}
+use Rattle.sock_programs.specs.Calls.{GiveBirth, SetOdd, ClaimRequest, LoadCode, DropPlace}
 use Rattle.sock_programs.specs.Cores.{Core}
 use Rattle.sock_programs.specs.Tasks.{opens, plan_of, id_plan_of}
 use Rattle.sock_programs.specs.Scripts.{all_tasks, IsRunWithCalls}
@@ -38,9 +38,14 @@ use Rattle.sock_programs.specs.Writings.{Puts}
 use Rattle.sock_runs.specs.Sound.{state, Sound, AllRest, MOST_PLACES}
 use Rattle.sock_runs.specs.GoesOn.{GoesOn, HasNothing}
 use Rattle.sock_model.specs.References.{slot_facts}
-use Rattle.sock_model.specs.Slots.{SlotLaw, live}
+use Rattle.sock_model.specs.Slots.{SlotLaw, live, count}
+use Rattle.sock_model.specs.Weights.{is_born}
 use Rattle.slot_laws.proofs.Clauses.{taken_for}
-use Rattle.sock_runs.proofs.Whole.{views_ended, ended_sound, end_rests}
+use Rattle.sock_runs.proofs.LinksStay.{IsGiven}
+use Rattle.sock_runs.proofs.Bounds.{lives_le}
+use Rattle.sock_runs.proofs.Recorded.{Recorded, Stands, run_recorded}
+use Rattle.sock_runs.proofs.Records.{next_stores}
+use Rattle.sock_runs.proofs.Whole.{IsListed, views_closed, views_ended, closed_sound, recorded_closed, ended_sound, end_rests}
 use Rattle.sock_causes.specs.Causes.{WasGiven, Cause}
 use Rattle.sock_causes.specs.Explains.{FailsLife, FailsLink, is_plain, step}
 use Rattle.sock_causes.specs.Kept.{IsSpoken, StaysUsed, Story}
@@ -48,10 +53,10 @@ use Rattle.sock_causes.specs.PlainTasks.{told_tasks_of}
 use Rattle.sock_causes.specs.Stories.{Event, In, trace_of}
 use Rattle.sock_causes.proofs.Delivered.{accepted_at, AreQuiet, requests_used}
 use Rattle.sock_causes.proofs.Openings.{are_seats}
-use Rattle.sock_causes.proofs.Events.{event, BeforeIn, cause_of}
+use Rattle.sock_causes.proofs.Events.{event, BeforeIn, cause_of, in_marked, birth_adds, marked_given}
 use Rattle.sock_causes.proofs.Final.{at_within, at_there, idle, final}
 use Rattle.sock_causes.proofs.Lifted.{up, task_up, made_up, made_down}
-use Rattle.sock_causes.proofs.Lives.{World, task_of, given_made, one_life, odd_means, odd_life, fail_says}
+use Rattle.sock_causes.proofs.Lives.{World, birth_means, task_of, given_made, one_life, odd_means, odd_life, fail_says}
 use Rattle.sock_causes.proofs.Members.{all_in, contains_in, in_contains}
 use Rattle.sock_causes.proofs.Tasks.{one_task}
 use Rattle.client_laws.specs.Openings.{all_seats}
@@ -83,7 +88,7 @@ module _ (script : List Item) (made : AreMade script) (turns : List Turn) (core 
   abbrev told : List (List Task)
   told = told_tasks_of script
 
-  abbrev ids_here : ℕ → ℕ
+  abbrev pub ids_here : ℕ → ℕ
   ids_here = ids_of_run script made turns core is (narrow script made turns core is closes) (few_clients script made turns core is closes)
 
   -- what the links accepted
@@ -103,13 +108,13 @@ module _ (script : List Item) (made : AreMade script) (turns : List Turn) (core 
   TellsHere es deed = Tells p (id_plan_of script) (IsCallOf script) ids_here told core es deed
 
   -- the story to the end of the run, and what the deeds of the run tell
-  record EndStory : Type 0 where
+  pub record EndStory : Type 0 where
     pub events : List Event
     pub lost : List ℕ
     pub story : Story p told true core views events lost
     pub tells : (seat : ℕ) (deed : Deed) → DidInRun script turns core is seat deed → TellsHere events deed
 
-  ends : EndStory
+  pub ends : EndStory
   ends = let runs = joint_runs script turns core is made in let b = joint_bounded script turns core is made runs in
       let s = whole.story_end script made.are (first_views script) (start script made turns core is) fresh bare (go script made turns core is) turns core is (fitting script made turns core is) (narrow script made turns core is closes)
       ids_here (labelled script made turns core is closes) _ _ b.setup b.clients b.closing b.final in record {
@@ -122,7 +127,7 @@ module _ (script : List Item) (made : AreMade script) (turns : List Turn) (core 
 
   -- ## Where a message stands that was dropped
 
-  abbrev end_sound : Sound p core views
+  abbrev pub end_sound : Sound p core views
   end_sound = ended_sound script made.are (first_views script) (start script made turns core is) (go script made turns core is) turns core is (fitting script made turns core is)
 
   -- a call's message was dropped, so its attempt stands so on the link
@@ -170,7 +175,7 @@ module _ (script : List Item) (made : AreMade script) (turns : List Turn) (core 
   seats : AreTasks p told
   seats = are_seats p (all_tasks script) made.are (length (opens script))
 
-  settled : AllRest core
+  pub settled : AllRest core
   settled = end_rests script made.are (first_views script) (start script made turns core is) (go script made turns core is) turns core is (fitting script made turns core is) (owed script made turns core is closes)
 
   quiet : AreQuiet views
@@ -242,6 +247,53 @@ module _ (script : List Item) (made : AreMade script) (turns : List Turn) (core 
   its_link j h k code given f = let g = given_made p told core.outcomes ends.lost orders ends.events world j h k given in
       (one_life p told core.outcomes ends.lost orders ends.events world f.name g.0 f.link k j h (made_down (all_tasks script) (length (opens script)) core.outcomes f.name f.link j h f.life) g.1).1
 
+  -- a life has one link
+  pub one_given : (j h k l : ℕ) → WasGiven ends.events j h k → WasGiven ends.events j h l → k ≡ l
+  one_given j h k l a b = let g = given_made p told core.outcomes ends.lost orders ends.events world j h k a in let g' = given_made p told core.outcomes ends.lost orders ends.events world j h l b in
+      (one_life p told core.outcomes ends.lost orders ends.events world g.0 g'.0 k l j h g.1 g'.1).1
+
+  -- that it was given its link the story knows
+  pub story_given : (j h k : ℕ) → j < p.slots → IsGiven core views j h k → WasGiven ends.events j h k
+  story_given j h k inside given = let s = ends.story in let tie = s.links j inside h k in omega (arith, tie, given)
+
+  -- ## Opens
+
+  recorded_end : Recorded p (IsListed script) core views
+  recorded_end = subst (λ c. Recorded p (IsListed script) c views) (sym is.is_end)
+      (run_recorded p (go script made turns core is) (IsListed script) is.ended (views_closed script turns core is (first_views script)) is.final
+      (closed_sound script made.are (first_views script) (start script made turns core is) (go script made turns core is) turns core is (fitting script made turns core is)) is.answered_again (let f = fitting script made turns core is in f.of_final)
+      (recorded_closed script made.are (first_views script) (start script made turns core is) (go script made turns core is) turns core is (fitting script made turns core is)))
+
+  -- the life stands in the word of the `open` of a link
+  pub record IsOpened (j h : ℕ) : Type 0 where
+    pub link : ℕ
+    pub operation : ℕ
+    pub at : get_elem? (opens script) link ≡ some operation
+    pub word : get_or core.words (open_word p operation) 0 ≡ socket_id h j + 1
+    pub inside : j < p.slots
+    pub low : h < 4294967295
+
+  -- as each life does that was given a link
+  pub given_opened : (j h k : ℕ) → WasGiven ends.events j h k → IsOpened j h
+  given_opened j h k given = let r = recorded_end in by (r.lives j h means.0 born)
+    where
+      made_by : (c o found : ℕ) × In (event c o (GiveBirth j k) found) ends.events × (vref_version found ≡ h)
+      made_by = marked_given ends.events j h k given
+
+      means : (j < p.slots) × (vref_version made_by.2 % 2 ≡ 0) × (p.first ≤ vref_version made_by.2)
+      means = birth_means p told core.outcomes ends.lost orders ends.events world made_by.0 made_by.1 j k made_by.2 made_by.3
+
+      born : 0 < count (is_born h) (slot_facts (state core views) j)
+      born = let s = ends.story in let a = s.births j means.0 h in let b = in_marked (is_born h) j ends.events (event made_by.0 made_by.1 (GiveBirth j k) made_by.2) made_by.3 (birth_adds made_by.0 made_by.1 j k made_by.2 h made_by.4) in omega (arith, a, b)
+
+      low : h < 4294967295
+      low = let l = slot_law j means.0 in let b = l.born h in let t = l.top in let x = life_is p.first h ((slot_facts (state core views) j).version + live (slot_facts (state core views) j)) (let c = born in omega (arith, b, c)) in
+          let few = lives_le p (state core views) end_sound.lawful.references j means.0 in let less = x.1 in let even = x.2 in omega (arith, t, few, less, even)
+
+      by : Stands p (IsListed script) core (let r = recorded_end in r.left) (socket_id h j) → IsOpened j h
+      by (inl (c, o, listed, x)) = record { link = listed.1.0; operation = o; at = listed.1.1; word = x.word; inside = means.0; low = low }
+      by (inr x) = absurd (some-ne-none (x.operation, socket_id h j + 1) (sym x.next ∙ ap next_stores (settled x.place x.seat x.there)))
+
   -- ## Steps of the run
 
   -- a call is none of the tasks that are told
@@ -274,6 +326,8 @@ module _ (script : List Item) (made : AreMade script) (turns : List Turn) (core 
     pub few : attempt_of x.error ≤ 6
     pub link : ℕ
     pub dropped : IsDroppedOn task.number (attempt_of x.error) link
+    -- the life of the link whose code was found
+    pub found : (code_of x.error ≡ 1009) ⊎ ((seat slot version : ℕ) × DidInRun script turns core is seat (DidStep (LoadCode slot version) (code_of x.error)) × (code_of x.error ≢ 0) × WasGiven ends.events slot version link)
     -- whose code it is
     pub code : IsOtherCode (code_of x.error) ⊎ IsFailedOn link (code_of x.error)
 
@@ -291,6 +345,17 @@ module _ (script : List Item) (made : AreMade script) (turns : List Turn) (core 
     dropped = subst (λ z. IsDroppedOn z (attempt_of x.error) d.holder.link) (sym number) (subst (λ z. IsDroppedOn heading.operation z d.holder.link) (sym attempt)
         (dropped_by heading.operation heading.attempt heading.place d.holder.link d.holder.places (ends.tells seat (DidStep (DropPlace heading.place d.holder.link d.holder.places) d.found) (all_in (DidInRun script turns core is seat) deeds (DidStep (DropPlace heading.place d.holder.link d.holder.places) d.found) did d.drop))
         calls.spoken calls.few calls.place));
+    found = dite (ℕ_discrete code 0)
+        (λ z. inl (code_is ∙ ap (λ b. if b then 1009 else code) (eq-eqb code 0 z)))
+        (λ n. let same : code_of x.error ≡ code = code_is ∙ ap (λ b. if b then 1009 else code) (ne_eqb code 0 n) in inr (
+          seat,
+          socket_id_slot d.holder.id,
+          socket_id_version d.holder.id,
+          subst (λ z. DidInRun script turns core is seat (DidStep (LoadCode (socket_id_slot d.holder.id) (socket_id_version d.holder.id)) z)) (sym same)
+              (all_in (DidInRun script turns core is seat) deeds (DidStep (LoadCode (socket_id_slot d.holder.id) (socket_id_version d.holder.id)) code) did d.load),
+          λ z. n (sym same ∙ z),
+          round.0,
+        ));
     code = subst (λ z. IsOtherCode z ⊎ IsFailedOn d.holder.link z) (sym code_is) whose;
   }
     where

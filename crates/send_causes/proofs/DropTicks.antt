@@ -77,7 +77,7 @@ module _ (clients : List (List Task)) where
 
   pub record SeatCodes (j : ℕ) (c : Core) (vs : List View) (es : List Event) : Type 0 where
     pub failing : Failing
-    pub program : (seat : SeatState) → get_elem? c.seats j ≡ some seat → Stores (IsFailOf j) failing seat.program
+    pub program : (seat : SeatState) → get_elem? c.seats j ≡ some seat → Stores (IsFailOf j) IsOtherCode failing seat.program
     pub has : HasFailed j es vs failing
 
   pub record CodesLaw (p : Plan) (c : Core) (vs : List View) (es : List Event) : Type 0 where
@@ -86,13 +86,13 @@ module _ (clients : List (List Task)) where
 
 -- ## A step that sets a socket failed
 
-module _ (f : Failing) (mine : ℕ → ℕ → Type 0) where
+module _ (f : Failing) (mine : ℕ → ℕ → Type 0) (Other : ℕ → Type 0) where
   -- what the seat is to store behind a step
-  data Behind (call : Call) (next : ℕ → Program) (found : ℕ) : Type 0 where
-    stores_none : Stores mine NoFail (next found) → Behind call next found
-    stores_own : (i o code : ℕ) → call ≡ SetOdd i → mine o code → vref_version found % 2 ≡ 0 → SaysFailed o (next found) → Stores mine (Fails o code i) (next found) → Behind call next found
+  pub data Behind (call : Call) (next : ℕ → Program) (found : ℕ) : Type 0 where
+    stores_none : Stores mine Other NoFail (next found) → Behind call next found
+    stores_own : (i o code : ℕ) → call ≡ SetOdd i → mine o code → vref_version found % 2 ≡ 0 → SaysFailed o (next found) → Stores mine Other (Fails o code i) (next found) → Behind call next found
 
-  behind : (call : Call) (next : ℕ → Program) (found : ℕ) → Stores mine f (Do call next) → Behind call next found
+  pub behind : (call : Call) (next : ℕ → Program) (found : ℕ) → Stores mine Other f (Do call next) → Behind call next found
   behind (SetOdd i) next found (inl x) = stores_none (x found)
   behind (SetOdd i) next found (inr x) = ⊎_elim (λ y. stores_own i x.0 x.1 refl x.2 y.0 y.1 y.2) (λ y. stores_none y) (x.3 found)
   behind (StoreCode i h code) next found x = stores_none (x.1 found)
@@ -131,7 +131,7 @@ module _ (p : Plan) (clients : List (List Task)) (are : AreTasks p clients) (ove
     others j views NoFail h = tt
     others j views (Fails o code s) h = (h.0, h.1, kept _ h.2, h.3, λ v at. h.4 v (views v at))
 
-    reseated : Stores (IsFailOf clients m.seat) f x → ((j : ℕ) → j ≢ m.seat → (v : View) → get_elem? us j ≡ some v → get_elem? vs j ≡ some v) → (next_step (resolved (waiting_at a.waiting m.seat) x) ≡ x → HasFailed clients m.seat fresh us f)
+    reseated : Stores (IsFailOf clients m.seat) IsOtherCode f x → ((j : ℕ) → j ≢ m.seat → (v : View) → get_elem? us j ≡ some v → get_elem? vs j ≡ some v) → (next_step (resolved (waiting_at a.waiting m.seat) x) ≡ x → HasFailed clients m.seat fresh us f)
         → ((j h : ℕ) → j < p.slots → h % 2 ≡ 0 → version_in ws j ≡ h + 1 → code_in ws j ≢ 0 → IsKnown clients fresh j h (code_in ws j)) → CodesLaw clients p (with_seat m.seat x hand ws hs (record c { calls = a })) us fresh
     reseated stores views has known = record {
       known = known;
@@ -142,13 +142,13 @@ module _ (p : Plan) (clients : List (List Task)) (are : AreTasks p clients) (ove
       });
     }
       where
-        r : (g : Failing) × (((g ≡ f) × (next_step (resolved (waiting_at a.waiting m.seat) x) ≡ x)) ⊎ (g ≡ NoFail)) × Stores (IsFailOf clients m.seat) g (next_step (resolved (waiting_at a.waiting m.seat) x))
-        r = codes_next (IsFailOf clients m.seat) f (waiting_at a.waiting m.seat) x stores
+        r : (g : Failing) × (((g ≡ f) × (next_step (resolved (waiting_at a.waiting m.seat) x) ≡ x)) ⊎ (g ≡ NoFail)) × Stores (IsFailOf clients m.seat) IsOtherCode g (next_step (resolved (waiting_at a.waiting m.seat) x))
+        r = codes_next (IsFailOf clients m.seat) IsOtherCode (inl refl) f (waiting_at a.waiting m.seat) x stores
 
         here : SeatCodes clients m.seat (with_seat m.seat x hand ws hs (record c { calls = a })) us fresh
         here = record {
           failing = r.0;
-          program = λ seat at. ⊎_elim (λ b. subst (λ (z : SeatState). Stores (IsFailOf clients m.seat) r.0 z.program) b.1 r.2) (λ b. absurd (b.0 refl)) (at_set c.seats m.seat m.seat _ seat at);
+          program = λ seat at. ⊎_elim (λ b. subst (λ (z : SeatState). Stores (IsFailOf clients m.seat) IsOtherCode r.0 z.program) b.1 r.2) (λ b. absurd (b.0 refl)) (at_set c.seats m.seat m.seat _ seat at);
           has = ⊎_elim (λ e. subst (HasFailed clients m.seat fresh us) (sym e.0) (has e.1)) (λ e. subst (HasFailed clients m.seat fresh us) (sym e) tt) r.1;
         }
 
@@ -213,15 +213,15 @@ module _ (p : Plan) (clients : List (List Task)) (are : AreTasks p clients) (ove
 
   -- ## Each step
 
-  program_of : (seat : SeatState) → get_elem? c.seats m.seat ≡ some seat → (x : Program) → first_step seat.program ≡ x → (g : Failing) × HasFailed clients m.seat es vs g × Stores (IsFailOf clients m.seat) g x
-  program_of seat at x is = let l = law.seats m.seat in let f = codes_first (IsFailOf clients m.seat) l.failing seat.program (l.program seat at) in
-      (f.0, ⊎_elim (λ e. subst (HasFailed clients m.seat es vs) (sym e) l.has) (λ e. subst (HasFailed clients m.seat es vs) (sym e) tt) f.1, subst (Stores (IsFailOf clients m.seat) f.0) is f.2)
+  program_of : (seat : SeatState) → get_elem? c.seats m.seat ≡ some seat → (x : Program) → first_step seat.program ≡ x → (g : Failing) × HasFailed clients m.seat es vs g × Stores (IsFailOf clients m.seat) IsOtherCode g x
+  program_of seat at x is = let l = law.seats m.seat in let f = codes_first (IsFailOf clients m.seat) IsOtherCode (inl refl) l.failing seat.program (l.program seat at) in
+      (f.0, ⊎_elim (λ e. subst (HasFailed clients m.seat es vs) (sym e) l.has) (λ e. subst (HasFailed clients m.seat es vs) (sym e) tt) f.1, subst (Stores (IsFailOf clients m.seat) IsOtherCode f.0) is f.2)
 
   same_else : (w : View) (j : ℕ) → j ≢ m.seat → (v : View) → get_elem? (set vs m.seat w) j ≡ some v → get_elem? vs j ≡ some v
   same_else w j ne v at = ⊎_elim (λ b. absurd (ne b.0)) (λ b. b.1) (at_set vs m.seat j w v at)
 
   -- a move of the seat, a put or a step aside
-  moved : (a : Calls) (x : Program) (hand : List Home) (hs : List (Option Home)) (us : List View) → ((j : ℕ) → j ≢ m.seat → (v : View) → get_elem? us j ≡ some v → get_elem? vs j ≡ some v) → Stores (IsFailOf clients m.seat) NoFail x → After (with_seat m.seat x hand c.words hs (record c { calls = a })) us
+  moved : (a : Calls) (x : Program) (hand : List Home) (hs : List (Option Home)) (us : List View) → ((j : ℕ) → j ≢ m.seat → (v : View) → get_elem? us j ≡ some v → get_elem? vs j ≡ some v) → Stores (IsFailOf clients m.seat) IsOtherCode NoFail x → After (with_seat m.seat x hand c.words hs (record c { calls = a })) us
   moved a x hand hs us views stores fresh more told kept new = reseated fresh kept a x hand c.words hs us NoFail stores views (λ _. tt) (λ j h inside even version some_. known_later clients es fresh kept j h (code_in c.words j) (law.known j h inside even version some_))
 
   module _ (seat : SeatState) (v : View) (at : get_elem? c.seats m.seat ≡ some seat) (here : get_elem? vs m.seat ≡ some v) (call : Call) (next : ℕ → Program) (is : first_step seat.program ≡ Do call next) (may : May p v call) where
@@ -237,7 +237,7 @@ module _ (p : Plan) (clients : List (List Task)) (are : AreTasks p clients) (ove
     abbrev stepped_ : Core
     stepped_ = with_seat m.seat (next found) (hand_after p call c.homes seat.hand) words (homes_after p call seat.hand c.homes) c
 
-    mine : (g : Failing) × HasFailed clients m.seat es vs g × Stores (IsFailOf clients m.seat) g (Do call next)
+    mine : (g : Failing) × HasFailed clients m.seat es vs g × Stores (IsFailOf clients m.seat) IsOtherCode g (Do call next)
     mine = program_of seat at (Do call next) is
 
     -- a code that the seat stores
@@ -249,11 +249,11 @@ module _ (p : Plan) (clients : List (List Task)) (are : AreTasks p clients) (ove
     known_behind : (j h : ℕ) → j < p.slots → h % 2 ≡ 0 → version_in words j ≡ h + 1 → code_in words j ≢ 0 → IsKnown clients es j h (code_in words j)
     known_behind j h inside even version some_ = ⊎_elim
         (λ x. subst (IsKnown clients es j h) (sym x.1) (law.known j h inside even x.0 (λ z. some_ (x.1 ∙ z))))
-        (λ x. subst (IsKnown clients es j h) (sym x.4) (let stores : Stores (IsFailOf clients m.seat) mine.0 (Do (StoreCode j x.0 x.1) next) = subst (λ y. Stores (IsFailOf clients m.seat) mine.0 (Do y next)) x.2 mine.2 in stored mine.0 mine.1 j h x.0 x.1 inside x.3 stores.0))
+        (λ x. subst (IsKnown clients es j h) (sym x.4) (let stores : Stores (IsFailOf clients m.seat) IsOtherCode mine.0 (Do (StoreCode j x.0 x.1) next) = subst (λ y. Stores (IsFailOf clients m.seat) IsOtherCode mine.0 (Do y next)) x.2 mine.2 in stored mine.0 mine.1 j h x.0 x.1 inside x.3 stores.0))
         (code_stays p c vs sound m.seat v here j h inside even call may version some_)
 
     step_keeps : After stepped_ (set vs m.seat w)
-    step_keeps fresh more told kept new = by (behind mine.0 (IsFailOf clients m.seat) call next found mine.2)
+    step_keeps fresh more told kept new = by (behind mine.0 (IsFailOf clients m.seat) IsOtherCode call next found mine.2)
       where
         known : (j h : ℕ) → j < p.slots → h % 2 ≡ 0 → version_in words j ≡ h + 1 → code_in words j ≢ 0 → IsKnown clients fresh j h (code_in words j)
         known j h inside even version some_ = known_later clients es fresh kept j h (code_in words j) (known_behind j h inside even version some_)
@@ -264,7 +264,7 @@ module _ (p : Plan) (clients : List (List Task)) (are : AreTasks p clients) (ove
         view_there : m.seat < length vs
         view_there = at_within vs m.seat v here
 
-        by : Behind mine.0 (IsFailOf clients m.seat) call next found → CodesLaw clients p stepped_ (set vs m.seat w) fresh
+        by : Behind mine.0 (IsFailOf clients m.seat) IsOtherCode call next found → CodesLaw clients p stepped_ (set vs m.seat w) fresh
         by (stores_none stores) = reseated fresh kept c.calls (next found) (hand_after p call c.homes seat.hand) words (homes_after p call seat.hand c.homes) (set vs m.seat w) NoFail stores (same_else w) (λ _. tt) known
         by (stores_own j o code call_is own even says_ stores) = reseated fresh kept c.calls (next found) (hand_after p call c.homes seat.hand) words (homes_after p call seat.hand c.homes) (set vs m.seat w) (Fails o code j) stores (same_else w)
             (λ same. (

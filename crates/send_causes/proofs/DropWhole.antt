@@ -43,7 +43,7 @@ use Rattle.sock_causes.proofs.Runs.{set_up_over, ending_story, is_ending_story}
 use Rattle.sock_causes.proofs.Scripts.{own_from}
 use Rattle.joint_runs.proofs.Both.{AreBounded}
 use Rattle.send_causes.specs.Refused.{Deed, DidInRun}
-use Rattle.send_causes.proofs.DropCodes.{Failing, NoFail, Stores, OwnsFail, client_codes, ending_codes, reader_codes, codes_next}
+use Rattle.send_causes.proofs.DropCodes.{Failing, NoFail, Stores, OwnsFail, IsOtherCode, client_codes, ending_codes, reader_codes, codes_next}
 use Rattle.send_causes.proofs.DropRuns.{Tells, tells_on, Scene, Along, seats_along, setup_along}
 use Rattle.send_causes.proofs.DropTicks.{IsFailOf, SeatCodes, CodesLaw}
 use Rattle.send_causes.proofs.DropWords.{version_in}
@@ -56,22 +56,22 @@ get_same [] i x e = absurd (some-ne-none x (sym e))
 get_same (y ∷ xs) zero x e = ap (λ z. Some z) (some-injective y x e)
 get_same (y ∷ xs) (suc i) x e = get_same xs i x e
 
-readers_codes : (mine : ℕ → ℕ → Type 0) (calls os : List ℕ) (k i : ℕ) (x : Program) → get_elem? (readers_from calls k os) i ≡ some x → Stores mine NoFail x
+readers_codes : (mine : ℕ → ℕ → Type 0) (calls os : List ℕ) (k i : ℕ) (x : Program) → get_elem? (readers_from calls k os) i ≡ some x → Stores mine IsOtherCode NoFail x
 readers_codes mine calls [] k i x at = absurd (some-ne-none x (sym at))
-readers_codes mine calls (o ∷ os) k zero x at = subst (Stores mine NoFail) (some-injective (reader calls k o) x at) (reader_codes mine calls k o)
+readers_codes mine calls (o ∷ os) k zero x at = subst (Stores mine IsOtherCode NoFail) (some-injective (reader calls k o) x at) (reader_codes mine IsOtherCode (inl refl) (λ code other. other) calls k o)
 readers_codes mine calls (o ∷ os) k (suc i) x at = readers_codes mine calls os (k + 1) i x at
 
-others_codes : (mine : ℕ → ℕ → Type 0) (n : ℕ) (calls os : List ℕ) (i : ℕ) (x : Program) → get_elem? (replicate n Rest ++ readers_from calls 0 os) i ≡ some x → Stores mine NoFail x
+others_codes : (mine : ℕ → ℕ → Type 0) (n : ℕ) (calls os : List ℕ) (i : ℕ) (x : Program) → get_elem? (replicate n Rest ++ readers_from calls 0 os) i ≡ some x → Stores mine IsOtherCode NoFail x
 others_codes mine zero calls os i x at = readers_codes mine calls os 0 i x at
-others_codes mine (suc n) calls os zero x at = subst (Stores mine NoFail) (some-injective Rest x at) tt
+others_codes mine (suc n) calls os zero x at = subst (Stores mine IsOtherCode NoFail) (some-injective Rest x at) tt
 others_codes mine (suc n) calls os (suc i) x at = others_codes mine n calls os i x at
 
 module _ (script : List Item) (are : AreTasks (plan_of script) (all_tasks script)) where
   -- each `fail` of a client is one that is told
-  owns_fail : (j : ℕ) (ts : List Task) → slice_get (all_tasks script) j ≡ Some ts → (t : Task) → In t ts → OwnsFail (IsFailOf (told_tasks_of script) j) t.number t.op
+  owns_fail : (j : ℕ) (ts : List Task) → slice_get (all_tasks script) j ≡ Some ts → (t : Task) → In t ts → OwnsFail (IsFailOf (told_tasks_of script) j) IsOtherCode (inl refl) t.number t.op
   owns_fail j ts at t there = by t.op refl
     where
-      by : (op : Op) → t.op ≡ op → OwnsFail (IsFailOf (told_tasks_of script) j) t.number op
+      by : (op : Op) → t.op ≡ op → OwnsFail (IsFailOf (told_tasks_of script) j) IsOtherCode (inl refl) t.number op
       by (ops.Fail name code) is = (t, name, down (all_tasks script) (length (opens script)) j t (ts, at, there) (ap is_plain is), refl, is)
       by (ops.Open n k) is = tt
       by (ops.Send n bytes) is = tt
@@ -81,11 +81,11 @@ module _ (script : List Item) (are : AreTasks (plan_of script) (all_tasks script
       by (ops.Hold n) is = tt
       by (ops.Drop n) is = tt
 
-  clients_codes : (j : ℕ) (x : Program) → get_elem? (programs (sizes_of (plan_of script) (id_plan_of script)) (all_tasks script)) j ≡ some x → Stores (IsFailOf (told_tasks_of script) j) NoFail x
+  clients_codes : (j : ℕ) (x : Program) → get_elem? (programs (sizes_of (plan_of script) (id_plan_of script)) (all_tasks script)) j ≡ some x → Stores (IsFailOf (told_tasks_of script) j) IsOtherCode NoFail x
   clients_codes j x at = let sizes : Sizes = sizes_of (plan_of script) (id_plan_of script) in let t = mapped (client_from sizes []) (all_tasks script) j x at in
-      subst (Stores (IsFailOf (told_tasks_of script) j) NoFail) t.2 (client_codes (IsFailOf (told_tasks_of script) j) sizes t.0 [] (all_of (λ (u : Task). OwnsFail (IsFailOf (told_tasks_of script) j) u.number u.op) t.0 (owns_fail j t.0 (get_same (all_tasks script) j t.0 t.1))))
+      subst (Stores (IsFailOf (told_tasks_of script) j) IsOtherCode NoFail) t.2 (client_codes (IsFailOf (told_tasks_of script) j) IsOtherCode (inl refl) sizes t.0 [] (all_of (λ (u : Task). OwnsFail (IsFailOf (told_tasks_of script) j) IsOtherCode (inl refl) u.number u.op) t.0 (owns_fail j t.0 (get_same (all_tasks script) j t.0 t.1))))
 
-  all_codes : (j : ℕ) (x : Program) → get_elem? (all_programs (programs (sizes_of (plan_of script) (id_plan_of script)) (all_tasks script)) (readers_from (calls script) 0 (opens script))) j ≡ some x → Stores (IsFailOf (told_tasks_of script) j) NoFail x
+  all_codes : (j : ℕ) (x : Program) → get_elem? (all_programs (programs (sizes_of (plan_of script) (id_plan_of script)) (all_tasks script)) (readers_from (calls script) 0 (opens script))) j ≡ some x → Stores (IsFailOf (told_tasks_of script) j) IsOtherCode NoFail x
   all_codes j x at = let ps : List Program = programs (sizes_of (plan_of script) (id_plan_of script)) (all_tasks script) in
       ⊎_elim (λ a. clients_codes j x a) (λ b. others_codes (IsFailOf (told_tasks_of script) j) (32 - length ps) (calls script) (opens script) b.0 x b.1)
       (appended ps (replicate (32 - length ps) Rest ++ readers_from (calls script) 0 (opens script)) j x at)
@@ -100,13 +100,13 @@ module _ (script : List Item) (are : AreTasks (plan_of script) (all_tasks script
     seats = λ j. record {
       failing = NoFail;
       program = λ seat at. let x = mapped (λ (x : Program). record { program = next_step (resolved [] x); hand = [] }) (all_programs (programs (sizes_of (plan_of script) (id_plan_of script)) (all_tasks script)) (readers_from (calls script) 0 (opens script))) j seat at in
-          subst (λ (s : SeatState). Stores (IsFailOf (told_tasks_of script) j) NoFail s.program) x.2 (none_next j x.0 (all_codes j x.0 x.1));
+          subst (λ (s : SeatState). Stores (IsFailOf (told_tasks_of script) j) IsOtherCode NoFail s.program) x.2 (none_next j x.0 (all_codes j x.0 x.1));
       has = tt;
     };
   }
     where
-      none_next : (j : ℕ) (x : Program) → Stores (IsFailOf (told_tasks_of script) j) NoFail x → Stores (IsFailOf (told_tasks_of script) j) NoFail (next_step (resolved [] x))
-      none_next j x stores = let r = codes_next (IsFailOf (told_tasks_of script) j) NoFail [] x stores in subst (λ g. Stores (IsFailOf (told_tasks_of script) j) g (next_step (resolved [] x))) (⊎_elim (λ e. e.0) (λ e. e) r.1) r.2
+      none_next : (j : ℕ) (x : Program) → Stores (IsFailOf (told_tasks_of script) j) IsOtherCode NoFail x → Stores (IsFailOf (told_tasks_of script) j) IsOtherCode NoFail (next_step (resolved [] x))
+      none_next j x stores = let r = codes_next (IsFailOf (told_tasks_of script) j) IsOtherCode (inl refl) NoFail [] x stores in subst (λ g. Stores (IsFailOf (told_tasks_of script) j) IsOtherCode g (next_step (resolved [] x))) (⊎_elim (λ e. e.0) (λ e. e) r.1) r.2
 
 module _ (script : List Item) (are : AreTasks (plan_of script) (all_tasks script)) (vs : List View) (begins : Begins script vs) (fresh : (i : ℕ) (v : View) → get_elem? vs i ≡ some v → v.lists ≡ [] ∷ []) (bare : (i : ℕ) (v : View) → get_elem? vs i ≡ some v → v.claims ≡ []) (go : RetriesGo (plan_of script))
     (turns : List Turn) (core : Core) (is : IsRunWithCalls script turns core) (fitting : AreFittingIn script turns core is) (narrow : (id_plan_of script).slots ≤ 65536) (ids : ℕ → ℕ) (labelled : AreLabelledIn ids script turns core is) (most more : ℕ)
@@ -177,13 +177,13 @@ module _ (script : List Item) (are : AreTasks (plan_of script) (all_tasks script
   }
     where
       r : (g : Failing) × (((g ≡ NoFail) × (next_step (resolved (waiting_at (rested_of script turns core is).calls.waiting 0) (ending_of (opens script))) ≡ ending_of (opens script))) ⊎ (g ≡ NoFail))
-          × Stores (IsFailOf (told_tasks_of script) 0) g (next_step (resolved (waiting_at (rested_of script turns core is).calls.waiting 0) (ending_of (opens script))))
-      r = codes_next (IsFailOf (told_tasks_of script) 0) NoFail (waiting_at (rested_of script turns core is).calls.waiting 0) (ending_of (opens script)) (ending_codes (IsFailOf (told_tasks_of script) 0) (opens script))
+          × Stores (IsFailOf (told_tasks_of script) 0) IsOtherCode g (next_step (resolved (waiting_at (rested_of script turns core is).calls.waiting 0) (ending_of (opens script))))
+      r = codes_next (IsFailOf (told_tasks_of script) 0) IsOtherCode (inl refl) NoFail (waiting_at (rested_of script turns core is).calls.waiting 0) (ending_of (opens script)) (ending_codes (IsFailOf (told_tasks_of script) 0) IsOtherCode (inl refl) (inr (inl refl)) (opens script))
 
       here : SeatCodes (told_tasks_of script) 0 (closing_of script turns core is) (views_played script turns core is vs) es
       here = record {
         failing = NoFail;
-        program = λ seat at. ⊎_elim (λ b. subst (λ (z : SeatState). Stores (IsFailOf (told_tasks_of script) 0) NoFail z.program) b.1 (subst (λ g. Stores (IsFailOf (told_tasks_of script) 0) g (next_step (resolved (waiting_at (rested_of script turns core is).calls.waiting 0) (ending_of (opens script))))) (⊎_elim (λ e. e.0) (λ e. e) r.1) r.2))
+        program = λ seat at. ⊎_elim (λ b. subst (λ (z : SeatState). Stores (IsFailOf (told_tasks_of script) 0) IsOtherCode NoFail z.program) b.1 (subst (λ g. Stores (IsFailOf (told_tasks_of script) 0) IsOtherCode g (next_step (resolved (waiting_at (rested_of script turns core is).calls.waiting 0) (ending_of (opens script))))) (⊎_elim (λ e. e.0) (λ e. e) r.1) r.2))
             (λ b. absurd (b.0 refl)) (at_set (rested_of script turns core is).seats 0 0 _ seat at);
         has = tt;
       }

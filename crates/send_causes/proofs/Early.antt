@@ -111,7 +111,7 @@ opening_rights p (ts ∷ clients) zero v e = subst (λ (u : View). u.rights ≡ 
 opening_rights p (ts ∷ clients) (suc i) v e = views_bare p clients i v e
 
 -- before the readers stand the clients, and seats with nothing to do
-before_readers : (xs : List Program) (n : ℕ) (rs : List Program) (j : ℕ) (x : Program) → j < length xs + n → get_elem? (xs ++ (replicate n Rest ++ rs)) j ≡ some x → (get_elem? xs j ≡ some x) ⊎ (x ≡ Rest)
+pub before_readers : (xs : List Program) (n : ℕ) (rs : List Program) (j : ℕ) (x : Program) → j < length xs + n → get_elem? (xs ++ (replicate n Rest ++ rs)) j ≡ some x → (get_elem? xs j ≡ some x) ⊎ (x ≡ Rest)
 before_readers [] zero rs j x low e = absurd (let z : ⊥ = omega (arith, low) in z)
 before_readers [] (suc n) rs zero x low e = inr (sym (some-injective Rest x e))
 before_readers [] (suc n) rs (suc j) x low e = ⊎_elim (λ a. absurd (some-ne-none x (sym a))) (λ b. inr b) (before_readers [] n rs j x (omega (arith, low)) e)
@@ -248,7 +248,7 @@ founds_heard p calls os in_os Odd Lasts ends (m ∷ ms) c k e = ap (λ b. map (a
 -- ## A run
 
 -- no operation is the `open` of two links
-opens_apart : (script : List Item) (k l o : ℕ) → get_elem? (opens script) k ≡ some o → get_elem? (opens script) l ≡ some o → k ≡ l
+pub opens_apart : (script : List Item) (k l o : ℕ) → get_elem? (opens script) k ≡ some o → get_elem? (opens script) l ≡ some o → k ≡ l
 opens_apart script k l o at_k at_l = dite (ℕ_discrete k l) (λ e. e)
     (λ far. dite (dec_le (suc k) l) (λ less. absurd (let z = before k l (omega (arith, less)) at_k at_l in omega (arith, z))) (λ more. absurd (let z = before l k (omega (arith, far, more)) at_l at_k in omega (arith, z))))
   where
@@ -363,7 +363,7 @@ module _ (script : List Item) (made : AreMade script) (turns : List Turn) (core 
   named_opened = beginning_named (plan_of script) (OpensLink (opens script)) (id_plan_of script) (all_tasks script) (replicate (32 - length first) Rest ++ readers_from (calls script) 0 (opens script)) (tasks_own script 0 (Rattle.brpc_model.specs.Operations.clients script + 1))
       (names_others (OpensLink (opens script)) (32 - length first) (calls script) (opens script) 0) (first_views script) no_word
 
-  named_set_up : Named (plan_of script) (OpensLink (opens script)) (set_up script is.setup) views_set
+  pub named_set_up : Named (plan_of script) (OpensLink (opens script)) (set_up script is.setup) views_set
   named_set_up = run_named (plan_of script) go (OpensLink (opens script)) (opened script) (first_views script) (replicate is.setup (quiet 0)) start.sound (set_up_answered script made.are (first_views script) start go turns core is fitting) fitting.of_setup named_opened
 
   -- the setup is made of opens

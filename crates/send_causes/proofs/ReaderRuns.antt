@@ -69,16 +69,16 @@ module _ (p : Plan) (calls os : List ℕ) (in_os : (k o : ℕ) → get_elem? os 
   keeps_same c vs taken taken' same k = record { readers = λ n o at. subst (λ h. HasReader p calls n o (in_os n o at) Odd Lasts (ends n) h c vs) (same n) (k.readers n o at); clients = k.clients; many = k.many }
 
   -- the link of a reader's seat
-  abbrev ReaderOf : ℕ → Type 0
+  abbrev pub ReaderOf : ℕ → Type 0
   ReaderOf j = (n : ℕ) × (o : ℕ) × (j ≡ 32 + n) × (get_elem? os n ≡ some o)
 
-  reader_of : (c : Core) (vs : List View) (taken : ℕ → List Taking) → Keeps c vs taken → (j : ℕ) (seat : SeatState) → get_elem? c.seats j ≡ some seat → 32 ≤ j → ReaderOf j
+  pub reader_of : (c : Core) (vs : List View) (taken : ℕ → List Taking) → Keeps c vs taken → (j : ℕ) (seat : SeatState) → get_elem? c.seats j ≡ some seat → 32 ≤ j → ReaderOf j
   reader_of c vs taken k j seat at high = let many = k.many in let x = at_some os (j - 32) (let l = place_inside c.seats j seat at in omega (arith, l, many, high)) in (j - 32, x.0, omega (arith, high), x.1)
 
-  view_at : (c : Core) (vs : List View) → Sound p c vs → (j : ℕ) (seat : SeatState) → get_elem? c.seats j ≡ some seat → (v : View) × (get_elem? vs j ≡ some v)
+  pub view_at : (c : Core) (vs : List View) → Sound p c vs → (j : ℕ) (seat : SeatState) → get_elem? c.seats j ≡ some seat → (v : View) × (get_elem? vs j ≡ some v)
   view_at c vs sound j seat at = at_some vs j (let l = place_inside c.seats j seat at in let e = sound.each in omega (arith, l, e))
 
-  state_at : (c : Core) (vs : List View) (taken : ℕ → List Taking) → Keeps c vs taken → (j : ℕ) (seat : SeatState) (v : View) → get_elem? c.seats j ≡ some seat → get_elem? vs j ≡ some v → (r : ReaderOf j)
+  pub state_at : (c : Core) (vs : List View) (taken : ℕ → List Taking) → Keeps c vs taken → (j : ℕ) (seat : SeatState) (v : View) → get_elem? c.seats j ≡ some seat → get_elem? vs j ≡ some v → (r : ReaderOf j)
       → State p calls r.0 r.1 (in_os r.0 r.1 r.3) Odd Lasts (ends r.0) (get_or c.words (open_word p r.1) 0) (taken r.0) seat.program v
   state_at c vs taken k j seat v at at_view r = k.readers r.0 r.1 r.3 seat v (sym (ap (get_elem? c.seats) r.2) ∙ at) (sym (ap (get_elem? vs) r.2) ∙ at_view)
 
@@ -95,7 +95,7 @@ module _ (p : Plan) (calls os : List ℕ) (in_os : (k o : ℕ) → get_elem? os 
       (λ low. ap (filter (λ l. l == n)) (none_taken seat.program (k.clients j (omega (arith, low)) seat at)))
 
   module _ (Q : ℕ → ℕ → Type 0) (go : RetriesGo p) where
-    keeps_ticks : (c : Core) (vs : List View) (m : Moment) (taken : ℕ → List Taking) → Sound p c vs → IsAnswered c m → IsFitting p c m → Recorded p Q c vs → (c.calls.ending ≡ true → Lasts) → Keeps c vs taken
+    pub keeps_ticks : (c : Core) (vs : List View) (m : Moment) (taken : ℕ → List Taking) → Sound p c vs → IsAnswered c m → IsFitting p c m → Recorded p Q c vs → (c.calls.ending ≡ true → Lasts) → Keeps c vs taken
         → Keeps (ticked p c m) (views_after p c vs m) (λ n. taken n ++ found_by c m n)
     keeps_ticks c vs m taken sound answered fitting recorded lasting k = record {
       readers = λ n o at. reader_ticks p calls n o (in_os n o at) Odd Lasts (ends n) Q go (taken n) c vs m sound answered fitting recorded (k.readers n o at) lasting (λ seat at_seat far. others_none c vs taken sound k m.seat seat at_seat n far);
@@ -138,7 +138,7 @@ module _ (p : Plan) (calls os : List ℕ) (in_os : (k o : ℕ) → get_elem? os 
           where
             of_state : State p calls r.0 r.1 (in_os r.0 r.1 r.3) Odd Lasts (ends r.0) (get_or c.words (open_word p r.1) 0) (taken r.0) seat.program v → Closes taken x
             of_state (none_, inl s) = absurd (subst (λ y. In x (lost_by c.words (call_in y))) s.0 m')
-            of_state (none_, inr (inl s)) = absurd (subst (λ y. In x (lost_by c.words (call_in y))) s m')
+            of_state (none_, inr (inl s)) = absurd (subst (λ y. In x (lost_by c.words (call_in y))) s.0 m')
             of_state (none_, inr (inr s)) = let l = lost_is s.id r.0 s.held (taken r.0) c.words seat.program x s.calm m' in
                 let y = sets_odd r.0 s.id Odd Lasts s.held (taken r.0) l.0 l.1 (subst (Calm r.0 s.id Odd Lasts s.held (taken r.0)) l.2 s.calm) in
                 let own = link_of p os c vs sound named r.1 s.id (in_os r.0 r.1 r.3) s.word s.socket m.seat v at_view (s.has y.0) in

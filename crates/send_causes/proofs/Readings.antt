@@ -139,7 +139,7 @@ module _ (p : Plan) (calls : List ℕ) (n o : ℕ) (inside : o < p.operations) (
 
   -- it waits for its `open`, or is done, or is at work
   abbrev pub State : ℕ → List Taking → Program → View → Type 0
-  State w h program v = (v.rights ≡ []) × (((program ≡ reader calls n o) × (h ≡ [])) ⊎ ((program ≡ Rest) ⊎ IsAt w h program v))
+  State w h program v = (v.rights ≡ []) × (((program ≡ reader calls n o) × (h ≡ [])) ⊎ (((program ≡ Rest) × (w ≡ NO_SOCKET)) ⊎ IsAt w h program v))
 
   abbrev pub Word : Core → ℕ
   Word c = get_or c.words (open_word p o) 0
@@ -185,7 +185,7 @@ module _ (p : Plan) (calls : List ℕ) (n o : ℕ) (inside : o < p.operations) (
 
   steady : (w : ℕ) (h : List Taking) (program : Program) (v : View) → State w h program v → Steady (first_step program)
   steady w h program v (r, inl x) = subst (λ y. Steady (first_step y)) (sym x.0) tt
-  steady w h program v (r, inr (inl x)) = subst (λ y. Steady (first_step y)) (sym x) tt
+  steady w h program v (r, inr (inl x)) = subst (λ y. Steady (first_step y)) (sym x.0) tt
   steady w h program v (r, inr (inr x)) = calm_steady x.id x.held h (first_step program) (calm_first n x.id Odd Lasts (ends x.id) x.held h program x.calm)
 
   -- ## Its own steps
@@ -201,7 +201,7 @@ module _ (p : Plan) (calls : List ℕ) (n o : ℕ) (inside : o < p.operations) (
       rights = rights_none p v (Word c) hand (LoadOpen o) (λ i own e. cc) r
 
       by_socket : Word c ≢ 0 → (b : Bool) → (Word c == NO_SOCKET) ≡ b → State (Word c) h (next_step (resolved ws (cond b Rest (Round (Reads (record { ids = length calls; link = n; id = Word c - 1; rest = []; total = 0; kept = [] })) (read calls))))) (found_id (Word c) v)
-      by_socket some_ true e = (rights, inr (inl refl))
+      by_socket some_ true e = (rights, inr (inl (refl, eqb-true (Word c) NO_SOCKET e)))
       by_socket some_ false e = (
         rights,
         inr (inr record {
@@ -217,7 +217,7 @@ module _ (p : Plan) (calls : List ℕ) (n o : ℕ) (inside : o < p.operations) (
       by_word : (b : Bool) → (Word c == 0) ≡ b → State (Word c) h (next_step (resolved ws (cond b (reader calls n o) (behind (Word c))))) (found_id (Word c) v)
       by_word true e = (rights, inl (refl, x.1))
       by_word false e = by_socket (λ z. true≢false (sym (eq-eqb (Word c) 0 z) ∙ e)) (Word c == NO_SOCKET) refl
-  own_call h c program v ws hand (r, inr (inl x)) call next is = absurd (let y : Rest ≡ Do call next = sym (ap first_step x) ∙ is in cc)
+  own_call h c program v ws hand (r, inr (inl x)) call next is = absurd (let y : Rest ≡ Do call next = sym (ap first_step x.0) ∙ is in cc)
   own_call h c program v ws hand (r, inr (inr x)) call next is =
       let found : ℕ = found_at c.words (word_of p call) in
       let y = calm_step n x.id Odd Lasts x.held h call next (subst (Calm n x.id Odd Lasts x.held h) is (calm_first n x.id Odd Lasts (ends x.id) x.held h program x.calm)) in
@@ -243,7 +243,7 @@ module _ (p : Plan) (calls : List ℕ) (n o : ℕ) (inside : o < p.operations) (
   own_aside : (w : ℕ) (h : List Taking) (program : Program) (v : View) (ws : List Retry) → State w h program v → taken_link program ≡ [] → (s : Step) (next : Found s → Program) (found : Found s) → first_step program ≡ Aside s next
       → State w h (next_step (resolved ws (next found))) v
   own_aside w h program v ws (r, inl x) none_ s next found is = absurd (let y : Do (LoadOpen o) first ≡ Aside s next = sym (ap first_step x.0) ∙ is in cc)
-  own_aside w h program v ws (r, inr (inl x)) none_ s next found is = absurd (let y : Rest ≡ Aside s next = sym (ap first_step x) ∙ is in cc)
+  own_aside w h program v ws (r, inr (inl x)) none_ s next found is = absurd (let y : Rest ≡ Aside s next = sym (ap first_step x.0) ∙ is in cc)
   own_aside w h program v ws (r, inr (inr x)) none_ s next found is = (
     r,
     inr (inr record {
@@ -261,7 +261,7 @@ module _ (p : Plan) (calls : List ℕ) (n o : ℕ) (inside : o < p.operations) (
   own_take : (w : ℕ) (h : List Taking) (program : Program) (v : View) (ws : List Retry) → State w h program v → (l room : ℕ) (next : Taking → Program) → first_step program ≡ Aside (TakeBytes l room) next → (t : Taking) → (t ≡ NoMore → Lasts)
       → (l ≡ n) × State w (h ++ t ∷ []) (next_step (resolved ws (next t))) v
   own_take w h program v ws (r, inl x) l room next is t some_ = absurd (let y : Do (LoadOpen o) first ≡ Aside (TakeBytes l room) next = sym (ap first_step x.0) ∙ is in cc)
-  own_take w h program v ws (r, inr (inl x)) l room next is t some_ = absurd (let y : Rest ≡ Aside (TakeBytes l room) next = sym (ap first_step x) ∙ is in cc)
+  own_take w h program v ws (r, inr (inl x)) l room next is t some_ = absurd (let y : Rest ≡ Aside (TakeBytes l room) next = sym (ap first_step x.0) ∙ is in cc)
   own_take w h program v ws (r, inr (inr x)) l room next is t some_ = let y : Calm n x.id Odd Lasts x.held h (Aside (TakeBytes l room) next) = subst (Calm n x.id Odd Lasts x.held h) is (calm_first n x.id Odd Lasts (ends x.id) x.held h program x.calm) in (
     y.0,
     (r, inr (inr record { id = x.id; word = x.word; socket = x.socket; held = false; calm = calm_next n x.id Odd Lasts false (h ++ t ∷ []) ws (next t) (y.1 t some_); has = λ z. absurd (true≢false (sym z)) })),
@@ -279,7 +279,7 @@ module _ (p : Plan) (calls : List ℕ) (n o : ℕ) (inside : o < p.operations) (
   -- the word of its `open` stays once it is there
   on_word : (w w' : ℕ) (h : List Taking) (program : Program) (v : View) → (w ≢ 0 → w' ≡ w) → State w h program v → State w' h program v
   on_word w w' h program v stays (r, inl x) = (r, inl x)
-  on_word w w' h program v stays (r, inr (inl x)) = (r, inr (inl x))
+  on_word w w' h program v stays (r, inr (inl x)) = (r, inr (inl (x.0, stays (λ z. (let e = x.1 in omega (arith, e, z))) ∙ x.1)))
   on_word w w' h program v stays (r, inr (inr x)) = let same : w' ≡ w = stays (λ z. (let e = x.word in omega (arith, e, z))) in
       (r, inr (inr record { id = x.id; word = same ∙ x.word; socket = λ z. x.socket (sym same ∙ z); held = x.held; calm = x.calm; has = x.has }))
 

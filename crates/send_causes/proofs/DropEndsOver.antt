@@ -1,0 +1,160 @@
+-- The reading of each link with a life ended; so each error that was posted for a dropped message has its cause, but for responses that came before the call began.
+use Rattle.std.proofs.Common.{◌≡◌, ◌≢◌, ℕ, ◌+◌, ◌*◌, ◌<◌, ◌≤◌, ◌⊎◌, inl, inr, ⊎_elim, List, length, Ok, get_or, refl, sym, ap, ◌∙◌, subst, arith}
+use Rattle.std.specs.Prelude.{Contains}
+use Rattle.std.specs.List.{AllByRecursion}
+use mathlib.Core.Option.{some}
+use lib.ListN.{get_elem?}
+use Rattle.brpc_model.specs.Items.{Item}
+use Rattle.brpc_model.specs.Operations.{Turn}
+use Rattle.brpc_model.specs.Frame.{Frame}
+use Rattle.brpc_model.specs.Script.{script_of}
+use Rattle.report_fits.proofs.Reading.{InRange}
+use Rattle.report_fits.proofs.Targets.{AreThere}
+use Rattle.sock_words.specs.Words.{socket_id, socket_id_slot, socket_id_version}
+use Rattle.sock_words.specs.declared.plain.Plan.{Plan}
+use Rattle.sock_model.specs.declared.view.View.{View}
+use Rattle.sock_model.specs.Layout.{open_word}
+use Rattle.corr_core.specs.Word.{error_of, code_of, attempt_of}
+use Rattle.sock_message.specs.Asked.{Asked}
+use Rattle.sock_programs.specs.declared.task.Op.TheVariants as ops
+use Rattle.sock_programs.specs.Told.{IsTask}
+use Rattle.sock_programs.specs.declared.task.Task.{Task}
+use Rattle.sock_programs.specs.Cores.{Core, SeatState}
+use Rattle.sock_programs.specs.Programs.{Rest, NO_SOCKET}
+use Rattle.sock_programs.specs.Readers.{reader}
+use Rattle.sock_programs.specs.Tasks.{opens, calls, plan_of}
+use Rattle.sock_programs.specs.Scripts.{all_tasks, IsRunWithCalls}
+use Rattle.sock_programs.specs.ToldCalls.{Order, Fixed, IsSent, Gave, IsResponse, IsPlaced, StandsOn}
+use Rattle.sock_runs.specs.Sound.{first_step}
+use Rattle.sock_runs.proofs.Along.{place_inside}
+use Rattle.sock_runs.proofs.Whole.{IsListed, views_closed, views_ended, closed_sound, recorded_closed}
+use Rattle.sock_causes.specs.Causes.{WasGiven}
+use Rattle.sock_causes.proofs.Final.{at_there}
+use Rattle.sock_causes.proofs.Members.{contains_in}
+use Rattle.sock_causes.proofs.Tasks.{one_task}
+use Rattle.joint_runs.proofs.Runs.{AreMade, first_views}
+use Rattle.owed_calls.specs.Lives.{ClosesInRun}
+use Rattle.call_causes.specs.Lists.{given, early_of_run, closed_of_run, silent_of_run}
+use Rattle.call_causes.specs.Posts.{Post}
+use Rattle.send_causes.specs.PostCauses.{PostCause, OfEnd}
+use Rattle.send_causes.proofs.Assembled.{last_in_run, fixed_in_run, orders_in_run}
+use Rattle.send_causes.proofs.Closers.{Calm, IsOver}
+use Rattle.send_causes.proofs.DropCauses.{may_be_on, stands_on}
+use Rattle.send_causes.proofs.DropEndsCauses.{own_link, cause_of_drop}
+use Rattle.send_causes.proofs.DropOfRun.{ids_here, IsOpened, DropOf, ends, end_sound, settled, given_opened}
+use Rattle.send_causes.proofs.Early.{Any, ends_anyhow, start, go, fitting, known}
+use Rattle.send_causes.proofs.EndedWhole.{h₃, h₄, closed_keeps, ended_so}
+use Rattle.send_causes.proofs.Readings.{State}
+use Rattle.send_causes.proofs.ReaderRuns.{Keeps, keeps_along}
+use Rattle.send_causes.proofs.Sends.{orders_are}
+
+module _ (script : List Item) (made : AreMade script) (turns : List Turn) (core : Core) (is : IsRunWithCalls script turns core) (closes : ClosesInRun script turns core is) where
+  abbrev views : List View
+  views = views_ended script turns core is (first_views script)
+
+  end_keeps : Keeps (plan_of script) (calls script) (opens script) (let k = known script made turns core is in k.in_script) Any (Unit {0}) ends_anyhow core (views_ended script turns core is (first_views script)) (h₄ script made turns core is)
+  end_keeps = subst (λ c. Keeps (plan_of script) (calls script) (opens script) (let k = known script made turns core is in k.in_script) Any (Unit {0}) ends_anyhow c (views_ended script turns core is (first_views script)) (h₄ script made turns core is)) (sym is.is_end)
+      (keeps_along (plan_of script) (calls script) (opens script) (let k = known script made turns core is in k.in_script) Any (Unit {0}) ends_anyhow (IsListed script) (go script made turns core is) is.final is.ended
+      (views_closed script turns core is (first_views script)) (h₃ script made turns core is)
+      (closed_sound script made.are (first_views script) (start script made turns core is) (go script made turns core is) turns core is (fitting script made turns core is)) is.answered_again (let f = fitting script made turns core is in f.of_final)
+      (recorded_closed script made.are (first_views script) (start script made turns core is) (go script made turns core is) turns core is (fitting script made turns core is)) (λ e. tt) (closed_keeps script made turns core is))
+
+  -- the reading of a link that a life was given has ended
+  pub reading_over : (j h k : ℕ) → WasGiven (ends script made turns core is closes).events j h k → (k < (plan_of script).links) × IsOver (h₄ script made turns core is k)
+  reading_over j h k given_ = by (given_opened script made turns core is closes j h k given_)
+    where
+      by : IsOpened script made turns core is closes j h → (k < (plan_of script).links) × IsOver (h₄ script made turns core is k)
+      by o = subst (λ n. (n < (plan_of script).links) × IsOver (h₄ script made turns core is n)) same (
+        (let many = (let k = known script made turns core is in k.as_many) in omega (arith, place, many)),
+        of_seat (at_there core.seats (32 + o.link) (let k = end_keeps in let many = k.many in omega (arith, place, many))),
+      )
+        where
+          place : o.link < length (opens script)
+          place = place_inside (opens script) o.link o.operation o.at
+
+          few : j < 4294967296
+          few = let s = o.inside in let m = made.limits in let l = m.slots in omega (arith, s, l)
+
+          socket : get_or core.words (open_word (plan_of script) o.operation) 0 ≢ NO_SOCKET
+          socket e = let w : h * 4294967296 + j + 1 ≡ 18446744073709551615 = sym o.word ∙ e in let low = o.low in omega (arith, w, low, few)
+
+          same : o.link ≡ k
+          same = own_link script made turns core is closes o.link o.operation (socket_id h j) j h k o.at o.word socket (let z : j ≡ socket_id_slot (h * 4294967296 + j) = omega (arith, few) in z) (let z : h ≡ socket_id_version (h * 4294967296 + j) = omega (arith, few) in z) given_
+
+          of_seat : (seat : SeatState) × (get_elem? core.seats (32 + o.link) ≡ some seat) → IsOver (h₄ script made turns core is o.link)
+          of_seat (seat, at) = let v = at_there views (32 + o.link) (let k = end_keeps in let many = k.many in let e = (end_sound script made turns core is closes).each in omega (arith, place, many, e)) in
+              let k = end_keeps in of_state (k.readers o.link o.operation o.at seat v.0 at v.1)
+            where
+              rests : seat.program ≡ Rest
+              rests = settled script made turns core is closes (32 + o.link) seat at
+
+              of_state : {v : View} → State (plan_of script) (calls script) o.link o.operation (let k = known script made turns core is in k.in_script o.link o.operation o.at) Any (Unit {0}) (ends_anyhow o.link) (get_or core.words (open_word (plan_of script) o.operation) 0) (h₄ script made turns core is o.link) seat.program v
+                  → IsOver (h₄ script made turns core is o.link)
+              of_state (none_, inl s) = absurd (let z : first_step (reader (calls script) o.link o.operation) ≡ Rest = sym (ap first_step s.0) ∙ ap first_step rests in cc)
+              of_state (none_, inr (inl s)) = absurd (socket s.1)
+              of_state (none_, inr (inr s)) = subst (Calm o.link s.id Any (Unit {0}) s.held (h₄ script made turns core is o.link)) rests s.calm
+
+  -- which the lists of ends tell
+  pub ended_of_link : (bytes : List ℕ) → script_of bytes ≡ Ok script → (j h k : ℕ) → WasGiven (ends script made turns core is closes).events j h k
+      → Contains (early_of_run script turns core is) k ⊎ (Contains (closed_of_run script turns core is) k ⊎ Contains (silent_of_run script turns core is) k)
+  ended_of_link bytes reads j h k given_ = let o = reading_over j h k given_ in ⊎_elim (λ a. a.1) (λ b. absurd (let e = b.0 in omega (arith, e))) (ended_so script made turns core is bytes reads k o.0 1014 (inl (refl, o.1)))
+
+  module _ (there : AreThere script) (range : AllByRecursion InRange script) (bytes : List ℕ) (reads : script_of bytes ≡ Ok script) where
+    abbrev p : Plan
+    p = plan_of script
+
+    abbrev clients : List (List Task)
+    clients = all_tasks script
+
+    abbrev fixed : Fixed
+    fixed = fixed_in_run script made there range bytes reads turns core is closes
+
+    abbrev orders : ℕ → Order
+    orders = orders_in_run script made there range bytes reads turns core is closes
+
+    -- the dropped attempt isn't placed
+    not_placed : (x : Post) (d : DropOf script made turns core is closes x) → IsPlaced p clients core.outcomes fixed (given core) orders d.task.number (attempt_of x.error) → ⊥
+    not_placed x d (k, i, (low, a, at, op, attempt), placed) = let are = orders_are script made turns core is closes in let mine = d.dropped.at in
+        let same = are.apart k d.link i d.dropped.place a mine.1 low mine.0 at mine.2 (let b = mine.3 in let e = mine.4 in omega (arith, op, attempt, b, e)) in
+        let late = d.dropped.late in let here : i < (orders d.link).placed = subst (λ n. i < (orders n).placed) same.0 placed in let place = same.1 in omega (arith, late, here, place)
+
+    module _ (sent : (k : ℕ) → k < p.links → AllByRecursion (IsSent p clients core.outcomes fixed (given core) orders (last_in_run script made there range bytes reads turns core is closes) k) (orders k).accepted) where
+      -- why an error was posted for a dropped message, where the link's responses of an id whose code is that of the ending came before the call began
+      pub caused_for_drop : (x : Post) (d : DropOf script made turns core is closes x)
+          → (code_of x.error ≡ 1014 → (m : ℕ) (frame : Frame) → Gave p clients core.outcomes fixed (given core) orders d.link m frame → IsResponse p clients core.outcomes fixed (given core) orders d.asked x.id frame → Contains fixed.soon (d.link, m))
+          → (c : ℕ) → PostCause p clients core.outcomes fixed (given core) orders c d.task.number d.asked x.id (code_of x.error) (attempt_of x.error)
+      caused_for_drop x d soon c = ⊎_elim (λ cause. cause) (λ code. OfEnd code d.link (record {
+        on = may_be_on script made turns core is closes fixed (given core) (last_in_run script made there range bytes reads turns core is closes) sent x d;
+        ended = ⊎_elim (λ e. absurd (omega (arith, e, code))) (λ f. ended_of_link bytes reads f.1 f.2 d.link f.5) d.found;
+        lost = inr (inl (stands_on script made turns core is closes fixed (given core) (last_in_run script made there range bytes reads turns core is closes) sent x d));
+        unanswered = λ m frame gave response. (not_placed x d, soon code m frame gave response);
+      })) (cause_of_drop script made turns core is closes there range bytes reads fixed (last_in_run script made there range bytes reads turns core is closes) sent x d c x.id)
+
+      -- of the call whose id took the error, where no two calls have one id
+      module _ (single : (o x : ℕ) → ids_here script made turns core is closes o ≢ 0
+          → ids_here script made turns core is closes o ≡ ids_here script made turns core is closes x → o ≡ x) where
+        pub caused_for_call : (c : ℕ) (t : Task) (asked : Asked) (id code n : ℕ) → IsTask clients core.outcomes c t → t.op ≡ ops.Call asked → ids_here script made turns core is closes t.number ≡ id → id ≢ 0 → n ≤ 7
+            → DropOf script made turns core is closes (record { id = id; error = error_of code n })
+            → ((k : ℕ) → code ≡ 1014 → (m : ℕ) (frame : Frame) → StandsOn p clients core.outcomes fixed (given core) orders t.number n k → Gave p clients core.outcomes fixed (given core) orders k m frame → IsResponse p clients core.outcomes fixed (given core) orders asked id frame → Contains fixed.soon (k, m))
+            → PostCause p clients core.outcomes fixed (given core) orders c t.number asked id code n
+        caused_for_call c t asked id code n it op own some_ small d soon = subst (λ z. PostCause p clients core.outcomes fixed (given core) orders c t.number asked id z n) code_is (subst (λ z. PostCause p clients core.outcomes fixed (given core) orders c t.number asked id (code_of (error_of code n)) z) attempt_is
+            (subst (λ z. PostCause p clients core.outcomes fixed (given core) orders c t.number z id (code_of (error_of code n)) (attempt_of (error_of code n))) same_asked
+            (subst (λ z. PostCause p clients core.outcomes fixed (given core) orders c z d.asked id (code_of (error_of code n)) (attempt_of (error_of code n))) number
+            (caused_for_drop (record { id = id; error = error_of code n }) d (λ e m frame gave response. soon d.link (sym code_is ∙ e) m frame
+            (subst (λ z. StandsOn p clients core.outcomes fixed (given core) orders t.number z d.link) attempt_is (subst (λ z. StandsOn p clients core.outcomes fixed (given core) orders z (attempt_of (error_of code n)) d.link) number (d.dropped.place, d.dropped.at)))
+            gave (subst (λ z. IsResponse p clients core.outcomes fixed (given core) orders z id frame) same_asked response)) c))))
+          where
+            code_is : code_of (error_of code n) ≡ code
+            code_is = omega (arith, small)
+
+            attempt_is : attempt_of (error_of code n) ≡ n
+            attempt_is = omega (arith, small)
+
+            number : d.task.number ≡ t.number
+            number = single d.task.number t.number (λ z. some_ (sym d.own ∙ z)) (d.own ∙ sym own)
+
+            same : d.task ≡ t
+            same = (one_task p clients made.are d.client c d.task t (let i = d.is_task in (i.0, i.1, contains_in i.0 d.task i.2)) (it.0, it.1, contains_in it.0 t it.2) number).1
+
+            same_asked : d.asked ≡ asked
+            same_asked = let z : ops.Call d.asked ≡ ops.Call asked = sym d.op ∙ (ap (λ (y : Task). y.op) same ∙ op) in cc

@@ -1,0 +1,323 @@
+-- A reader posts errors only behind the end of its reading, and for at words that it loaded which name its link.
+use Rattle.std.proofs.Common.{◌≡◌, ◌≢◌, ℕ, ◌+◌, ◌-◌, ◌%◌, ◌==◌, ◌&&◌, ◌⊎◌, inl, inr, not, nat_lt, nat_le, ltb-false, eqb-true, eq-eqb, Bool, true, false, cond, List, [], ◌∷◌, ◌++◌, length, length-append, append-nil, append_assoc, refl, sym, ap, ◌∙◌, subst, arith}
+use Rattle.std.proofs.lemmas.Bool.{true≢false}
+use Rattle.std.proofs.lemmas.List.Concat.{flat_map-append}
+use Rattle.std.specs.Prelude.{Option, Some, None}
+use Rattle.sock_words.specs.Words.{socket_id_version, socket_id_slot, vref_version, vref_nref, at_word_first, at_word_slot, at_word_link, at_word_attempt}
+use Rattle.sock_steps.proofs.Quiet.{either_way}
+use Rattle.corr_core.specs.Word.{parts, posted_word, unlocked_word, code_of, error_of}
+use Rattle.corr_core.specs.Law.{LAST}
+use Rattle.brpc_model.specs.Frame.{Frame}
+use Rattle.brpc_model.specs.Stream as streams
+use Rattle.label_runs.proofs.Loops.{id_back, not_true, and_left}
+use Rattle.sock_programs.specs.Asides.{Found, LoadAt, PostId, TakeBytes, Taking, Bytes, Nothing, NoMore, AtEnd, Closed, Broken, call_id, id_slot, id_first}
+use Rattle.sock_programs.specs.Heads.{Head, Exit, Retry, Sought, Reading, Posts, Unlocks, Decides, Locks, Joins, Opens, Reads, Discards, Posting, WasGone, WasStale, WasCrowded, WasQueued, HasLocked, Unlocking, IsOpen, HasNext, Deciding, HasEnded, GoesOn, Locking, NotThere, Has, Ended}
+use Rattle.sock_programs.specs.Programs.{Program, Do, Say, Sent, Rest, TakeMessage, TakeHome, PutHome, PutBytes, AskReady, Write, Aside, Round, Keep, Retries, NO_SOCKET, LAST_VERSION, recycle, release, address, set_failed}
+use Rattle.sock_programs.specs.Posts.{packed, advance_of, is_first, is_sought, is_stale, is_full, judged, posts_round, post_with, popped, unlocks_round, ends_call, end_id, decide, decided, unlocked, locking, locks_round, joins_round}
+use Rattle.sock_programs.specs.Readers.{LIMIT, ending_of, slot_in, version_in, has_response, is_early, answer, answered, responses, last_of, ended_by, read_on, took, discarded, opens_round, kept_for, ends_with, posted_last, post_each, thrown_away, read, reader}
+use Rattle.sock_programs.specs.Rounds.{round}
+use Rattle.sock_programs.specs.Cores.{resolved, next_step}
+use Rattle.sock_runs.specs.Sound.{first_step}
+use Rattle.sock_causes.specs.Stories.{In}
+use Rattle.sock_causes.proofs.Plain.{in_left, in_right}
+use Rattle.whole_runs.specs.Heard.{bytes_found, given_by}
+use Rattle.send_causes.proofs.Faults.{Faults, fault_stays, fault_follows}
+use Rattle.send_causes.proofs.Early.{EndedBy, ended_more}
+
+-- ## How a reading ends
+
+gave_more : (h : List Taking) (bytes : List ℕ) → given_by (h ++ Bytes bytes ∷ []) ≡ given_by h ++ bytes
+gave_more h bytes = flat_map-append bytes_found h (Bytes bytes ∷ []) ∙ ap (λ l. given_by h ++ l) (append-nil bytes)
+
+gave_none : (h : List Taking) (t : Taking) → bytes_found t ≡ [] → given_by (h ++ t ∷ []) ≡ given_by h
+gave_none h t e = flat_map-append bytes_found h (t ∷ []) ∙ ap (λ l. given_by h ++ (l ++ [])) e ∙ append-nil (given_by h)
+
+-- with this code, by these takes
+abbrev pub WasOver : ℕ → List Taking → Type 0
+WasOver code h = ((code ≡ 1014) × (EndedBy h ⊎ (In Closed h ⊎ In NoMore h))) ⊎ ((code ≡ 2002) × Faults 0 (given_by h))
+
+pub over_more : (code : ℕ) (h later : List Taking) → WasOver code h → WasOver code (h ++ later)
+over_more code h later (inl (e, inl x)) = inl (e, inl (ended_more h later x))
+over_more code h later (inl (e, inr (inl x))) = inl (e, inr (inl (in_left h later Closed x)))
+over_more code h later (inl (e, inr (inr x))) = inl (e, inr (inr (in_left h later NoMore x)))
+over_more code h later (inr (e, f)) = inr (e, subst (Faults 0) (sym (flat_map-append bytes_found h later)) (fault_stays 0 (given_by h) (given_by later) f))
+
+last_in : (h : List Taking) (t : Taking) → In t (h ++ t ∷ [])
+last_in h t = in_right h (t ∷ []) t (inl refl)
+
+-- ## Programs
+
+-- of the reader of link k; `At o w` tells that it loaded the at word w of operation o
+module _ (k : ℕ) (At : ℕ → ℕ → Type 0) where
+  pub record IsReading (h : List Taking) (r : Reading) : Type 0 where
+    pub link : r.link ≡ k
+    pub total : r.total ≡ length (given_by h)
+    pub tied : (more : List ℕ) → Faults 0 (r.rest ++ more) → Faults 0 (given_by h ++ more)
+
+  abbrev pub EndsSo : List Taking → Ended → Type 0
+  EndsSo h how = WasOver how.code h × (how.reading.link ≡ k)
+
+  -- behind these takes the reader may post the error to the id
+  pub record MayPost (h : List Taking) (id e : ℕ) : Type 0 where
+    pub operation : ℕ
+    pub word : ℕ
+    pub code : ℕ
+    pub loaded : At operation word
+    pub some_ : word ≢ 0
+    pub link : at_word_link word ≡ k
+    pub id_is : id ≡ call_id (at_word_slot word) (at_word_first word)
+    pub error_is : e ≡ error_of code (at_word_attempt word)
+    pub over : WasOver code h
+
+  -- behind these takes
+  abbrev pub Tells : List Taking → Program → Type 0
+  Tells h (Do call next) = (found : ℕ) → Tells h (next found)
+  Tells h (Say o outcome next) = Tells h next
+  Tells h (Sent o next) = Tells h next
+  Tells h Rest = Unit {0}
+  Tells h (TakeMessage q next) = ⊥
+  Tells h (TakeHome l next) = ⊥
+  Tells h (PutHome l n after) = ⊥
+  Tells h (PutBytes l asked bytes next) = ⊥
+  Tells h (AskReady l next) = ⊥
+  Tells h (Write w after) = ⊥
+  Tells h (Aside (TakeBytes l room) next) = (l ≡ k) × ((t : Taking) → Tells (h ++ t ∷ []) (next t))
+  Tells h (Aside (LoadAt o) next) = (w : ℕ) → At o w → Tells h (next w)
+  Tells h (Aside (PostId i from e) next) = MayPost h (call_id i (parts from).first) e × ((found : ℕ) → Tells h (next found))
+  Tells h (Aside step next) = (found : Found step) → Tells h (next found)
+  Tells h (Round (Posts id e w) next) = MayPost h id e × ((parts w).first ≡ id_first id) × ((exit : Posting) → Tells h (next exit))
+  Tells h (Round (Reads r) next) = IsReading h r × ((how : Ended) (h' : List Taking) → EndsSo h' how → Tells h' (next how))
+  Tells h (Round (Discards l total) next) = (l ≡ k) × ((n : ℕ) (h' : List Taking) → Tells h' (next n))
+  Tells h (Round head next) = (exit : Exit head) → Tells h (next exit)
+  Tells h (Keep r next) = Tells h next
+  Tells h (Retries requests after) = ⊥
+
+  pub post_more : (h later : List Taking) (id e : ℕ) → MayPost h id e → MayPost (h ++ later) id e
+  post_more h later id e x = record { operation = x.operation; word = x.word; code = x.code; loaded = x.loaded; some_ = x.some_; link = x.link; id_is = x.id_is; error_is = x.error_is; over = over_more x.code h later x.over }
+
+  -- ## Parts of programs
+
+  module _ (h : List Taking) where
+    abbrev C : Program → Type 0
+    C = Tells h
+
+    way : (b : Bool) (x y : Program) → (b ≡ true → C x) → (b ≡ false → C y) → C (cond b x y)
+    way true x y f g = f refl
+    way false x y f g = g refl
+
+    tell_recycle : (i from : ℕ) (next : Bool → Program) → ((b : Bool) → C (next b)) → C (recycle i from next)
+    tell_recycle i from next after = (λ found. either_way (found == from) _ _ C
+        ((λ k. (λ _. (λ _. (λ _.
+        either_way (nat_le (vref_version from + 1) LAST_VERSION) _ _ C ((λ _. after true)) (after true))))))
+        (after false))
+
+    tell_release : (i : ℕ) (next : Bool → Program) → ((b : Bool) → C (next b)) → C (release i next)
+    tell_release i next after = (λ found. either_way ((vref_version found % 2 == 1) && (vref_nref found == 1)) _ _ C (tell_recycle i (found - 1) next after) (after false))
+
+    tell_judged : (id e found : ℕ) (next : Posting → Program) → MayPost h id e → ((x : Posting) → C (next x)) → C (judged id e found next)
+    tell_judged id e found next may after = let two : Program = cond (is_full (parts found)) (next (WasCrowded (code_of (parts found).oldest) (code_of (parts found).second))) (Round (Posts id e found) next) in
+        way (not (is_first (id_first id) (parts found))) (next WasGone) (cond (is_stale e (parts found)) (next WasStale) two) (λ _. after WasGone)
+        (λ here. either_way (is_stale e (parts found)) (next WasStale) two C (after WasStale)
+        (either_way (is_full (parts found)) (next (WasCrowded (code_of (parts found).oldest) (code_of (parts found).second))) (Round (Posts id e found) next) C (after (WasCrowded (code_of (parts found).oldest) (code_of (parts found).second)))
+        (may, eqb-true (parts found).first (id_first id) (and_left ((parts found).first == id_first id) (not ((parts found).state == 0)) (not_true (is_first (id_first id) (parts found)) here)), after)))
+
+    tell_posts : (id e from : ℕ) (next : Posting → Program) → MayPost h id e → (parts from).first ≡ id_first id → ((x : Posting) → C (next x)) → C (posts_round id e from next)
+    tell_posts id e from next may first after = (
+      subst (λ x. MayPost h x e) (sym (ap (call_id (id_slot id)) first ∙ id_back id)) may,
+      λ found. either_way (found == from) (cond ((parts from).state == 1) (next (HasLocked (packed (posted_word (parts from) e)))) (next WasQueued)) (judged id e found next) C
+          (either_way ((parts from).state == 1) (next (HasLocked (packed (posted_word (parts from) e)))) (next WasQueued) C (after (HasLocked (packed (posted_word (parts from) e)))) (after WasQueued)) (tell_judged id e found next may after),
+    )
+
+    tell_post_with : (id e : ℕ) (next : Posting → Program) → MayPost h id e → ((x : Posting) → C (next x)) → C (post_with id e next)
+    tell_post_with id e next may after = (λ found. tell_judged id e found next may after)
+
+    tell_popped : (i oldest word : ℕ) (next : Unlocking → Program) → ((x : Unlocking) → C (next x)) → C (popped i oldest word next)
+    tell_popped i oldest word next after = either_way (oldest == 0) _ _ C (after (IsOpen word)) (either_way (is_stale oldest (parts word)) _ _ C (after) (after (HasNext word oldest)))
+
+    tell_unlocks : (i from : ℕ) (advance : Bool) (next : Unlocking → Program) → ((x : Unlocking) → C (next x)) → C (unlocks_round i from advance next)
+    tell_unlocks i from advance next after = (λ found. either_way (found == from) _ _ C
+        (tell_popped i (parts from).oldest (packed (unlocked_word (parts from) (advance_of advance))) next after) (after))
+
+    tell_end_id : (i : ℕ) (next : Program) → C next → C (end_id i next)
+    tell_end_id i next after = (λ found. either_way (nat_le ((parts found).first + (parts found).range) LAST) _ _ C ((λ _. after)) after)
+
+    tell_decide : (id word e : ℕ) (next : Deciding → Program) → ((x : Deciding) → C (next x)) → C (decide id word e next)
+    tell_decide id word e next after = (λ asked. after)
+
+    tell_unlocked : (r : Retry) (next : Deciding → Program) → ((x : Deciding) → C (next x)) → (exit : Unlocking) → C (unlocked r next exit)
+    tell_unlocked r next after (IsOpen word) = (after GoesOn)
+    tell_unlocked r next after (HasNext word e) = (tell_decide r.id word e next after)
+
+    tell_decided : (id : ℕ) (next : Program) → C next → (exit : Deciding) → C (decided id next exit)
+    tell_decided id next after (HasEnded o c) = after
+    tell_decided id next after GoesOn = after
+
+    tell_locking : (i : ℕ) (sought : Sought) (found : ℕ) (next : Locking → Program) → ((x : Locking) → C (next x)) → C (locking i sought found next)
+    tell_locking i sought found next after = either_way (not (is_sought sought (parts found))) _ _ C (after (NotThere found))
+        (either_way ((parts found).state == 1) _ _ C (after) (after))
+
+    tell_locks : (i : ℕ) (sought : Sought) (word : Option ℕ) (next : Locking → Program) → ((x : Locking) → C (next x)) → C (locks_round i sought word next)
+    tell_locks i sought None next after = (λ found. tell_locking i sought found next after)
+    tell_locks i sought (Some from) next after = (λ found. either_way (found == from) _ _ C (after (Has (packed (posted_word (parts from) 0)))) (tell_locking i sought found next after))
+
+    tell_joins : (id : ℕ) (next : ℕ → Program) → ((x : ℕ) → C (next x)) → C (joins_round id next)
+    tell_joins id next after = (λ found. either_way (is_first (id_first id) (parts found)) _ _ C (after) (after found))
+
+    tell_opens : (o : ℕ) (next : ℕ → Program) → ((x : ℕ) → C (next x)) → C (opens_round o next)
+    tell_opens o next after = (λ word. either_way (word == 0) _ _ C (after) (after word))
+
+    tell_answer : (frame : Frame) (first : ℕ) (next : Program) → C next → C (answer frame first next)
+    tell_answer frame first next after = (λ asked. tell_end_id (slot_in frame) (Say asked.operation (ending_of (call_id (slot_in frame) first) frame) next)
+        (after))
+
+    tell_answered : (frame : Frame) (kept : List Frame) (next : List Frame → Program) → ((x : List Frame) → C (next x)) → (exit : Locking) → C (answered frame kept next exit)
+    tell_answered frame kept next after (NotThere found) = after (cond (is_early (version_in frame) found) (kept ++ frame ∷ []) kept)
+    tell_answered frame kept next after (Has word) = tell_answer frame (parts word).first (next kept) (after kept)
+
+    tell_responses : (ids : ℕ) (frames kept : List Frame) (next : List Frame → Program) → ((x : List Frame) → C (next x)) → C (responses ids frames kept next)
+    tell_responses ids [] kept next after = after kept
+    tell_responses ids (f ∷ fs) kept next after = either_way (has_response f.meta.response && nat_lt (slot_in f) ids) _ _ C
+        ((tell_answered f kept (λ kept'. responses ids fs kept' next) (λ kept'. tell_responses ids fs kept' next after)))
+        (tell_responses ids fs kept next after)
+
+    tell_ends_with : (id e word : ℕ) (kept : List Frame) (next : Program) → C next → C (ends_with id e word kept next)
+    tell_ends_with id e word [] next after = tell_decide id word e (decided id next) (tell_decided id next after)
+    tell_ends_with id e word (f ∷ fs) next after = tell_answer f (id_first id) next after
+
+    tell_posted_last : (id e : ℕ) (kept : List Frame) (next : Program) → C next → (exit : Posting) → C (posted_last id e kept next exit)
+    tell_posted_last id e kept next after (HasLocked word) = tell_ends_with id e word (kept_for id (parts word).range kept) next after
+    tell_posted_last id e kept next after WasGone = after
+    tell_posted_last id e kept next after WasStale = after
+    tell_posted_last id e kept next after (WasCrowded a b) = after
+    tell_posted_last id e kept next after WasQueued = after
+
+    tell_post_each : (os : List ℕ) (c : ℕ) (kept : List Frame) (next : Program) → WasOver c h → C next → C (post_each os k c kept next)
+    tell_post_each [] c kept next over after = after
+    tell_post_each (o ∷ os) c kept next over after = λ w at. (let id : ℕ = call_id (at_word_slot w) (at_word_first w) in let e : ℕ = error_of c (at_word_attempt w) in
+        let more : C (post_each os k c kept next) = tell_post_each os c kept next over after in
+        way (w == 0) (post_each os k c kept next) (cond (at_word_link w == k) (post_with (call_id (at_word_slot w) (at_word_first w)) (error_of c (at_word_attempt w)) (posted_last (call_id (at_word_slot w) (at_word_first w)) (error_of c (at_word_attempt w)) kept (post_each os k c kept next))) (post_each os k c kept next))
+        (λ _. more)
+        (λ some_. way (at_word_link w == k) (post_with (call_id (at_word_slot w) (at_word_first w)) (error_of c (at_word_attempt w)) (posted_last (call_id (at_word_slot w) (at_word_first w)) (error_of c (at_word_attempt w)) kept (post_each os k c kept next))) (post_each os k c kept next)
+        (λ own. tell_post_with (call_id (at_word_slot w) (at_word_first w)) (error_of c (at_word_attempt w)) (posted_last (call_id (at_word_slot w) (at_word_first w)) (error_of c (at_word_attempt w)) kept (post_each os k c kept next))
+        (record { operation = o; word = w; code = c; loaded = at; some_ = λ z. true≢false (sym (eq-eqb w 0 z) ∙ some_); link = eqb-true (at_word_link w) k own; id_is = refl; error_is = refl; over = over })
+        (tell_posted_last (call_id (at_word_slot w) (at_word_first w)) (error_of c (at_word_attempt w)) kept (post_each os k c kept next) more))
+        (λ _. more)))
+
+    tell_address : (id : ℕ) (held : Program) (gone : ℕ → Program) → C held → ((found : ℕ) → C (gone found)) → C (address id held gone)
+    tell_address id held gone goes after = λ found. either_way (vref_version found == socket_id_version id) held (release (socket_id_slot id) (λ _. gone found)) C goes (tell_release (socket_id_slot id) (λ _. gone found) (λ _. after found))
+
+    tell_set_failed : (id code : ℕ) (next : ℕ → Program) → ((found : ℕ) → C (next found)) → C (set_failed id code next)
+    tell_set_failed id code next after = λ found. either_way (vref_version found % 2 == 0) _ _ C (λ _ _. after found) (after found)
+
+    thrown_tells : (how : Ended) → how.reading.link ≡ k → C (thrown_away how)
+    thrown_tells how own = either_way (how.fault && nat_lt how.reading.total LIMIT) (Round (Discards how.reading.link how.reading.total) (λ _. Rest)) Rest C (own, λ n h'. tt) tt
+
+    abbrev last_posts : List ℕ → Ended → Program
+    last_posts calls how = post_each calls how.reading.link how.code how.reading.kept (thrown_away how)
+
+    -- the end of a reading
+    read_tells : (calls : List ℕ) (how : Ended) → EndsSo h how → C (read calls how)
+    read_tells calls how e = either_way how.closed (last_posts calls how) (address how.reading.id (set_failed how.reading.id how.code (λ _. release (socket_id_slot how.reading.id) (λ _. (last_posts calls how)))) (λ _. (last_posts calls how))) C lasts
+        (tell_address how.reading.id (set_failed how.reading.id how.code (λ _. release (socket_id_slot how.reading.id) (λ _. (last_posts calls how)))) (λ _. (last_posts calls how))
+        (tell_set_failed how.reading.id how.code (λ _. release (socket_id_slot how.reading.id) (λ _. (last_posts calls how))) (λ _. tell_release (socket_id_slot how.reading.id) (λ _. (last_posts calls how)) (λ _. lasts))) (λ _. lasts))
+      where
+        lasts : C (last_posts calls how)
+        lasts = subst (λ l. C (post_each calls l how.code how.reading.kept (thrown_away how))) (sym e.1) (tell_post_each calls how.code how.reading.kept (thrown_away how) e.0 (thrown_tells how e.1))
+
+  -- ## Reading
+
+  abbrev Goes : (Ended → Program) → Type 0
+  Goes next = (how : Ended) (h' : List Taking) → EndsSo h' how → Tells h' (next how)
+
+  module _ (h : List Taking) (r : Reading) (next : Ended → Program) (at : IsReading h r) (goes : Goes next) where
+    abbrev with_more : List ℕ → List Frame → Reading
+    with_more bytes kept = record { ids = r.ids; link = r.link; id = r.id; rest = r.rest; total = r.total + length bytes; kept = kept }
+
+    more_total : (bytes : List ℕ) → r.total + length bytes ≡ length (given_by (h ++ Bytes bytes ∷ []))
+    more_total bytes = let a = at.total in let b = ap length (gave_more h bytes) in let d = length-append (given_by h) bytes in omega (arith, a, b, d)
+
+    -- a fault of the rest with what came is one of all that came
+    all_tied : (bytes more : List ℕ) → Faults 0 ((r.rest ++ bytes) ++ more) → Faults 0 (given_by (h ++ Bytes bytes ∷ []) ++ more)
+    all_tied bytes more f = subst (λ l. Faults 0 (l ++ more)) (sym (gave_more h bytes))
+        (subst (Faults 0) (sym (append_assoc (given_by h) bytes more)) (at.tied (bytes ++ more) (subst (Faults 0) (append_assoc r.rest bytes more) f)))
+
+    abbrev with_rest : List ℕ → List Frame → ℕ → Reading
+    with_rest bytes kept n = record { ids = r.ids; link = r.link; id = r.id; rest = last_of n (r.rest ++ bytes); total = r.total + length bytes; kept = kept }
+
+    tell_read_on : (kept : List Frame) (bytes : List ℕ) (s : streams.Ending) → (streams.stream (r.rest ++ bytes)).ending ≡ s → Tells (h ++ Bytes bytes ∷ []) (read_on (with_more bytes kept) (r.rest ++ bytes) s next)
+    tell_read_on kept bytes (streams.Rest n) is = way (h ++ Bytes bytes ∷ []) (nat_lt (r.total + length bytes) LIMIT) (Round (Reads (with_rest bytes kept n)) next) (next (ended_by 1014 false false (with_rest bytes kept n)))
+        (λ less. (record { link = at.link; total = more_total bytes; tied = λ more f. all_tied bytes more (fault_follows (r.rest ++ bytes) more n is f) }, goes))
+        (λ most. goes (ended_by 1014 false false (with_rest bytes kept n)) (h ++ Bytes bytes ∷ []) (inl (refl, inl (inr (inr (inl (let l = ltb-false (r.total + length bytes) LIMIT most in let t = more_total bytes in omega (arith, l, t)))))), at.link))
+    tell_read_on kept bytes (streams.Fault start fault) is = goes (ended_by 2002 false true (with_more bytes kept)) (h ++ Bytes bytes ∷ [])
+        (inr (refl, subst (Faults 0) (append-nil (given_by (h ++ Bytes bytes ∷ []))) (all_tied bytes [] (subst (Faults 0) (sym (append-nil (r.rest ++ bytes))) (start, fault, is)))), at.link)
+
+    tell_took : (t : Taking) → Tells (h ++ t ∷ []) (took r next t)
+    tell_took (Bytes bytes) = tell_responses (h ++ Bytes bytes ∷ []) r.ids (streams.stream (r.rest ++ bytes)).frames r.kept (λ kept. read_on (with_more bytes kept) (r.rest ++ bytes) (streams.stream (r.rest ++ bytes)).ending next)
+        (λ kept. tell_read_on kept bytes (streams.stream (r.rest ++ bytes)).ending refl)
+    tell_took Nothing = (
+      record { link = at.link; total = at.total ∙ ap length (sym (gave_none h Nothing refl)); tied = λ more f. subst (λ l. Faults 0 (l ++ more)) (sym (gave_none h Nothing refl)) (at.tied more f) },
+      goes,
+    )
+    tell_took NoMore = goes (ended_by 1014 false false r) (h ++ NoMore ∷ []) (inl (refl, inr (inr (last_in h NoMore))), at.link)
+    tell_took AtEnd = goes (ended_by 1014 false false r) (h ++ AtEnd ∷ []) (inl (refl, inl (inl (last_in h AtEnd))), at.link)
+    tell_took Closed = goes (ended_by 1014 true false r) (h ++ Closed ∷ []) (inl (refl, inr (inl (last_in h Closed))), at.link)
+    tell_took Broken = goes (ended_by 1014 false false r) (h ++ Broken ∷ []) (inl (refl, inl (inr (inr (inr (last_in h Broken))))), at.link)
+
+  tell_discarded : (h : List Taking) (l total : ℕ) (next : ℕ → Program) → l ≡ k → ((n : ℕ) (h' : List Taking) → Tells h' (next n)) → (t : Taking) → Tells (h ++ t ∷ []) (discarded l total next t)
+  tell_discarded h l total next own goes (Bytes bytes) = either_way (nat_lt (total + length bytes) LIMIT) (Round (Discards l (total + length bytes)) next) (next (total + length bytes)) (Tells (h ++ Bytes bytes ∷ [])) (own, goes) (goes (total + length bytes) (h ++ Bytes bytes ∷ []))
+  tell_discarded h l total next own goes Nothing = (own, goes)
+  tell_discarded h l total next own goes NoMore = goes total (h ++ NoMore ∷ [])
+  tell_discarded h l total next own goes AtEnd = goes total (h ++ AtEnd ∷ [])
+  tell_discarded h l total next own goes Closed = goes total (h ++ Closed ∷ [])
+  tell_discarded h l total next own goes Broken = goes total (h ++ Broken ∷ [])
+
+  -- one round of a loop
+  tell_round : (h : List Taking) (head : Head) (next : Exit head → Program) → Tells h (Round head next) → Tells h (round head next)
+  tell_round h (Posts i e w) next x = tell_posts h i e w next x.0 x.1 x.2
+  tell_round h (Unlocks i w advance) next x = tell_unlocks h i w advance next x
+  tell_round h (Decides i asked w e) next x = either_way (ends_call (parts w) e) _ _ (Tells h)
+      (tell_end_id h (id_slot i) (next (HasEnded asked.operation (code_of e))) (x (HasEnded asked.operation (code_of e))))
+      (λ _ exit. tell_unlocked h (record { id = i; attempt = (parts w).attempt + 1 }) next x exit)
+  tell_round h (Locks i sought None) next x = tell_locks h i sought None next x
+  tell_round h (Locks i sought (Some w)) next x = tell_locks h i sought (Some w) next x
+  tell_round h (Joins i) next x = tell_joins h i next x
+  tell_round h (Opens o) next x = tell_opens h o next x
+  tell_round h (Reads r) next x = let at = x.0 in (at.link, λ t. tell_took h r next at x.1 t)
+  tell_round h (Discards l total) next x = (x.0, λ t. tell_discarded h l total next x.0 x.1 t)
+
+  pub tell_first : (h : List Taking) (program : Program) → Tells h program → Tells h (first_step program)
+  tell_first h (Write w after) x = absurd x
+  tell_first h (Round head next) x = tell_round h head next x
+  tell_first h (Do call next) x = x
+  tell_first h (Say o outcome next) x = x
+  tell_first h (Sent o next) x = x
+  tell_first h Rest x = x
+  tell_first h (TakeMessage q next) x = x
+  tell_first h (TakeHome l next) x = x
+  tell_first h (PutHome l n after) x = x
+  tell_first h (PutBytes l asked bytes next) x = x
+  tell_first h (AskReady l next) x = x
+  tell_first h (Aside step next) x = x
+  tell_first h (Keep r next) x = x
+  tell_first h (Retries requests after) x = x
+
+  pub tell_next : (h : List Taking) (ws : List Retry) (program : Program) → Tells h program → Tells h (next_step (resolved ws program))
+  tell_next h ws (Say o outcome next) x = tell_next h ws next x
+  tell_next h ws (Sent o next) x = tell_next h ws next x
+  tell_next h ws (Keep r next) x = tell_next h (ws ++ r ∷ []) next x
+  tell_next h ws (Retries requests after) x = absurd x
+  tell_next h ws (Do call next) x = x
+  tell_next h ws Rest x = x
+  tell_next h ws (TakeMessage q next) x = absurd x
+  tell_next h ws (TakeHome l next) x = absurd x
+  tell_next h ws (PutHome l n after) x = absurd x
+  tell_next h ws (PutBytes l asked bytes next) x = absurd x
+  tell_next h ws (AskReady l next) x = absurd x
+  tell_next h ws (Write w after) x = absurd x
+  tell_next h ws (Aside step next) x = x
+  tell_next h ws (Round head next) x = x
+
+  -- the reader's program
+  pub reader_tells : (calls : List ℕ) (o : ℕ) → Tells [] (reader calls k o)
+  reader_tells calls o = λ word. either_way (word == NO_SOCKET) Rest (Round (Reads (record { ids = length calls; link = k; id = word - 1; rest = []; total = 0; kept = [] })) (read calls)) (Tells []) tt
+      (record { link = refl; total = refl; tied = λ more f. f }, λ how h' e. read_tells h' calls how e)
