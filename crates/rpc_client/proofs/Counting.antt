@@ -1,0 +1,97 @@
+-- References, as they are counted behind each call.
+use Rattle.std.proofs.Common.{◌≡◌, ℕ, zero, suc, ◌+◌, ◌<◌, ◌≤◌, Bool, List, [], ◌∷◌, ◌++◌, refl, sym, ap, ◌∙◌, subst, arith}
+use mathlib.Core.Logic.{dite}
+use native.Mathlib.Decide.{ℕ_discrete}
+use Rattle.atomic_table.specs.Seated.{TableId}
+use Rattle.atomic_table.specs.declared.shared.Seat.{Seat}
+use Rattle.sock_words.specs.declared.plain.Plan.{Plan}
+use Rattle.sock_words.specs.Words.{socket_id_version, socket_id_slot}
+use Rattle.sock_model.specs.declared.marks.Mark.{Mark}
+use Rattle.sock_model.specs.declared.marks.Mark.TheVariants.{Hold, Saw, Known}
+use Rattle.sock_model.specs.declared.view.View.{View}
+use Rattle.sock_model.specs.Weights.{total, only, pair, is_ref, is_hold}
+use Rattle.sock_model.specs.Marks.{about}
+use Rattle.sock_model.specs.SlotRows.{marks_of, met}
+use Rattle.slot_laws.proofs.Sums.{total_mono}
+use Rattle.slot_laws.proofs.Numbers.{only-at, only-else, only_le, pair_only}
+use Rattle.std.proofs.lemmas.Bool.Decides.{nat_tests}
+use Rattle.sock_rule.specs.Becoming.{Became}
+use Rattle.sock_rule.proofs.Becoming.{adds_mark}
+use Rattle.sock_table.specs.Refs.{GaveBack}
+use Rattle.sock_table.specs.Answers.{Held, GoneFrom}
+use Rattle.sock_table.specs.Named.{HasSeen, FindsId}
+use Rattle.sock_open.proofs.Testing.{ended_refs}
+use Rattle.rpc_client.specs.Seats.{Idle, MayAct, AtRest, StaysSeen, SameRefs, OneMore}
+
+hold_ref : (h : ℕ) (m : Mark) → is_hold h m ≤ is_ref m
+hold_ref h (Hold k) = only_le h k
+hold_ref h _ = omega arith
+
+-- marks among which is no reference are none to a life
+pub no_lives : (h : ℕ) (l : List Mark) → total is_ref l ≡ 0 → total (is_hold h) l ≡ 0
+no_lives h l e = let m = total_mono (is_hold h) is_ref (hold_ref h) l in omega arith
+
+-- of each slot
+pub counted : (f : Mark → ℕ) (i j : ℕ) (v w : View) (adds drops : List Mark) → Became i v w adds drops → total f adds ≡ 0 → total f drops ≡ 0 → marks_of f j w ≡ marks_of f j v
+counted f i j v w adds drops b a d = dite (ℕ_discrete j i) (λ e. subst (λ (y : ℕ). marks_of f y w ≡ marks_of f y v) (sym e) (let x = b.here f in omega arith)) (λ ne. ap (total f) (b.elsewhere j ne))
+
+-- notes come and go
+pub same_refs : (i : ℕ) (v w : View) (adds drops : List Mark) → Became i v w adds drops → total is_ref adds ≡ 0 → total is_ref drops ≡ 0 → SameRefs v w
+same_refs i v w adds drops b a d = record { refs = λ j. counted is_ref i j v w adds drops b a d; lives = λ j h. counted (is_hold h) i j v w adds drops b (no_lives h adds a) (no_lives h drops d) }
+
+pub refs_then : (u v w : View) → SameRefs u v → SameRefs v w → SameRefs u w
+refs_then u v w a b = record { refs = λ i. b.refs i ∙ a.refs i; lives = λ i h. b.lives i h ∙ a.lives i h }
+
+pub refs_none : (v w : View) → w.marks ≡ v.marks → SameRefs v w
+refs_none v w e = record { refs = λ i. ap (λ l. total is_ref (about i l)) e; lives = λ i h. ap (λ l. total (is_hold h) (about i l)) e }
+
+pub more_then : (id : ℕ) (u v w : View) → SameRefs u v → OneMore id v w → OneMore id u w
+more_then id u v w a b = record { refs = λ i. omega (arith, b.refs i, a.refs i); lives = λ i h. omega (arith, b.lives i h, a.lives i h) }
+
+pub then_more : (id : ℕ) (u v w : View) → OneMore id u v → SameRefs v w → OneMore id u w
+then_more id u v w a b = record { refs = λ i. omega (arith, b.refs i, a.refs i); lives = λ i h. omega (arith, b.lives i h, a.lives i h) }
+
+pair-else : (i h x y : ℕ) → (x ≡ i → ⊥) → pair i h x y ≡ 0
+pair-else i h x y ne = let a = pair_only i h x y in let b = only-else i x ne in omega arith
+
+pair-here : (h i y : ℕ) → pair i h i y ≡ only h y
+unfolding pair only
+pair-here h i y = grind (arith, nat_tests)
+
+-- a reference came
+pub one_more : (id : ℕ) (v w : View) → Held id v w → OneMore id v w
+one_more id v w b = record {
+  refs = λ j. dite (ℕ_discrete j i) (λ e. subst (λ (y : ℕ). marks_of is_ref y w ≡ marks_of is_ref y v + only y i) (sym e) (let x = b.here is_ref in let o = only-at i i refl in omega arith)) (λ ne. let x = ap (total is_ref) (b.elsewhere j ne) in let o = only-else j i (λ e. ne (sym e)) in omega arith);
+  lives = λ j k. dite (ℕ_discrete j i) (λ e. subst (λ (y : ℕ). marks_of (is_hold k) y w ≡ marks_of (is_hold k) y v + pair y k i h) (sym e) (let x = b.here (is_hold k) in let o = pair-here k i h in omega arith)) (λ ne. let x = ap (total (is_hold k)) (b.elsewhere j ne) in let o = pair-else j k i h (λ e. ne (sym e)) in omega arith);
+}
+  where
+    i : ℕ
+    i = socket_id_slot id
+
+    h : ℕ
+    h = socket_id_version id
+
+-- and went
+pub given : (id : ℕ) (u v w : View) (ended : Bool) → OneMore id u v → GaveBack (socket_id_slot id) v w (Hold (socket_id_version id)) ended → SameRefs u w
+given id u v w ended a g = record {
+  refs = λ j. dite (ℕ_discrete j i) (λ e. subst (λ (y : ℕ). marks_of is_ref y w ≡ marks_of is_ref y u) (sym e) (let x = g.became.here is_ref in let y = a.refs i in let o = only-at i i refl in omega arith)) (λ ne. let x = ap (total is_ref) (g.became.elsewhere j ne) in let y = a.refs j in let o = only-else j i (λ e. ne (sym e)) in omega arith);
+  lives = λ j k. dite (ℕ_discrete j i) (λ e. subst (λ (y : ℕ). marks_of (is_hold k) y w ≡ marks_of (is_hold k) y u) (sym e) (let x = g.became.here (is_hold k) in let y = a.lives i k in let o = pair-here k i h in let z = no_lives k g.notes none_ in omega arith)) (λ ne. let x = ap (total (is_hold k)) (g.became.elsewhere j ne) in let y = a.lives j k in let o = pair-else j k i h (λ e. ne (sym e)) in omega arith);
+}
+  where
+    i : ℕ
+    i = socket_id_slot id
+
+    h : ℕ
+    h = socket_id_version id
+
+    none_ : total is_ref g.notes ≡ 0
+    none_ = ended_refs ended g.version g.notes g.by
+
+pub gone_refs : (id found : ℕ) (v w : View) → GoneFrom id found v w → SameRefs v w
+gone_refs id found v w g = same_refs (socket_id_slot id) v w _ _ g.became (let a = ended_refs g.ended g.version g.notes g.by in omega arith) refl
+
+pub finds_refs : (x id : ℕ) (v w : View) → FindsId x id v w → SameRefs v w
+finds_refs x id v w d = refs_then v m w (same_refs (socket_id_slot id) v m _ _ (adds_mark (socket_id_slot id) (Known (socket_id_version id)) v) refl refl) (refs_none m w (ap (λ (y : View). y.marks) d.view))
+  where
+    m : View
+    m = met (socket_id_slot id) (socket_id_version id) v

@@ -1,0 +1,14 @@
+//! A client on a table of sockets that threads share: its operations, each with its outcome.
+#![tactic(auto)]
+
+mod failing;
+mod holding;
+mod opening;
+mod reaching;
+mod sending;
+
+pub use failing::fail_one;
+pub use holding::{Held, drop_one, hold_one};
+pub use opening::open_one;
+pub use reaching::{Reached, reach};
+pub use sending::send_one;
