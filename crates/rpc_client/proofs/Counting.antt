@@ -74,7 +74,7 @@ one_more id v w b = record {
 -- and went
 pub given : (id : ℕ) (u v w : View) (ended : Bool) → OneMore id u v → GaveBack (socket_id_slot id) v w (Hold (socket_id_version id)) ended → SameRefs u w
 given id u v w ended a g = record {
-  refs = λ j. dite (ℕ_discrete j i) (λ e. subst (λ (y : ℕ). marks_of is_ref y w ≡ marks_of is_ref y u) (sym e) (let x = g.became.here is_ref in let y = a.refs i in let o = only-at i i refl in omega arith)) (λ ne. let x = ap (total is_ref) (g.became.elsewhere j ne) in let y = a.refs j in let o = only-else j i (λ e. ne (sym e)) in omega arith);
+  refs = λ j. dite (ℕ_discrete j i) (λ e. subst (λ (y : ℕ). marks_of is_ref y w ≡ marks_of is_ref y u) (sym e) (let x = g.became.here is_ref in let y = a.refs i in let o = only-at i i refl in omega (arith, none_))) (λ ne. let x = ap (total is_ref) (g.became.elsewhere j ne) in let y = a.refs j in let o = only-else j i (λ e. ne (sym e)) in omega arith);
   lives = λ j k. dite (ℕ_discrete j i) (λ e. subst (λ (y : ℕ). marks_of (is_hold k) y w ≡ marks_of (is_hold k) y u) (sym e) (let x = g.became.here (is_hold k) in let y = a.lives i k in let o = pair-here k i h in let z = no_lives k g.notes none_ in omega arith)) (λ ne. let x = ap (total (is_hold k)) (g.became.elsewhere j ne) in let y = a.lives j k in let o = pair-else j k i h (λ e. ne (sym e)) in omega arith);
 }
   where

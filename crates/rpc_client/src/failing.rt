@@ -10,7 +10,7 @@ ghost use Rattle.rpc_client.specs.Failing.{SetBy, FailedBy};
 use crate::reaching::{Reached, reach};
 use sock_io::Out;
 use sock_rule::SockSeat;
-use sock_table::{Already, SockRef, SockTable};
+use sock_table::{SockRef, SockTable};
 use sock_words::Outcome;
 
 /// A socket to which the seat has a reference is set failed, and the reference is given back.
@@ -29,7 +29,9 @@ fn fail_socket<O: Out>(
 {
     match table.set_failed(seat, sock, code) {
         Ok(()) => Outcome::Failed,
-        Err(Already { found }) => Outcome::Already { found },
+        Err(already) => Outcome::Already {
+            found: already.found,
+        },
     }
 }
 

@@ -6,7 +6,7 @@ ghost use Rattle.rpc_client.specs.Opening.{OpenedBy, GotNone};
 
 use sock_io::Out;
 use sock_rule::SockSeat;
-use sock_table::{CreateFull, LinkPass, SockTable};
+use sock_table::{LinkPass, SockTable};
 use sock_words::Outcome;
 
 /// The operation gets no socket: the writing half of the link ends.
@@ -58,8 +58,8 @@ pub fn open_one<O: Out>(
                 link,
             }
         }
-        Err(CreateFull { pass }) => {
-            open_none(table, seat, operation, pass);
+        Err(full) => {
+            open_none(table, seat, operation, full.pass);
             Outcome::SlotsFull
         }
     }

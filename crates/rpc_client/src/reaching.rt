@@ -5,7 +5,7 @@ ghost use Rattle.rpc_client.specs.Reaching.{ReachedBy, RefsBy};
 
 use sock_io::Out;
 use sock_rule::SockSeat;
-use sock_table::{Gone, SockRef, SockTable};
+use sock_table::{SockRef, SockTable};
 use sock_words::Vref;
 
 /// What a name leads to: nothing was opened under it yet, its socket is gone, or a reference.
@@ -30,6 +30,6 @@ pub fn reach<O: Out>(table: &SockTable<O>, seat: &mut SockSeat<O>, name: u16) ->
     };
     match table.address(seat, id) {
         Ok(sock) => Reached::Here(sock),
-        Err(Gone { found }) => Reached::Gone(found),
+        Err(gone) => Reached::Gone(gone.found),
     }
 }

@@ -11,4 +11,4 @@ pub returns-in-Ok-clause-seen : goal.returns-in-Ok-clause-seen
 returns-in-Ok-clause-seen g c = here_seen c.args.table.now.rule.plan c.args.name c.in-Some.id c.args.seat.now.me.0 c.find.new.seat.me.0 c.address.new.seat.me.0 c.in-Some.ensures.found c.in-Ok.sock c.in-Ok.ensures.held
 
 pub returns-in-Err-clause-seen : goal.returns-in-Err-clause-seen
-returns-in-Err-clause-seen g c = gone_seen c.args.table.now.rule.plan c.args.name c.in-Some.id c.args.seat.now.me.0 c.find.new.seat.me.0 c.address.new.seat.me.0 c.in-Some.ensures.found c.in-Err.found.0 c.in-Err.ensures.gone
+returns-in-Err-clause-seen g c = gone_seen c.args.table.now.rule.plan c.args.name c.in-Some.id c.args.seat.now.me.0 c.find.new.seat.me.0 c.address.new.seat.me.0 c.in-Some.ensures.found c.in-Err.gone.found.0 c.in-Err.ensures.gone
