@@ -11,7 +11,7 @@ pub fail_socket-outcome-requires-clause-room : goal.fail_socket-outcome-requires
 fail_socket-outcome-requires-clause-room g c = let z = c.args.table.now.rule.table.shared.table_id in let p = c.args.table.now.rule.plan in (has_one z p c.in-Here.sock.id.0 c.args.seat.now c.reach.new.seat.me.0 c.requires.may (here_inside p c.args.name c.in-Here.sock c.args.seat.now.me.0 c.reach.new.seat.me.0 c.in-Here.ensures.reached) c.in-Here.ensures.refs).1
 
 pub release-requires-clause-held : goal.release-requires-clause-held
-release-requires-clause-held g c = let p = c.args.table.now.rule.plan in holds_still p c.in-Here.sock.id.0 c.reach.new.seat.me.0 c.fail_socket-outcome.new.seat.me.0 (fail_socket-outcome-requires-clause-held g c.before) (set_refs c.in-Here.sock.id.0 c.args.code c.fail_socket-outcome.result c.reach.new.seat.me.0 c.fail_socket-outcome.new.seat.me.0 c.fail_socket-outcome.ensures.by)
+release-requires-clause-held g c = let p = c.args.table.now.rule.plan in holds_still p c.in-Here.sock.id.0 c.reach.new.seat.me.0 c.fail_socket-outcome.new.seat.me.0 (has_one c.args.table.now.rule.table.shared.table_id p c.in-Here.sock.id.0 c.args.seat.now c.reach.new.seat.me.0 c.requires.may (here_inside p c.args.name c.in-Here.sock c.args.seat.now.me.0 c.reach.new.seat.me.0 c.in-Here.ensures.reached) c.in-Here.ensures.refs).0 (set_refs c.in-Here.sock.id.0 c.args.code c.fail_socket-outcome.result c.reach.new.seat.me.0 c.fail_socket-outcome.new.seat.me.0 c.fail_socket-outcome.ensures.by)
 
 pub returns-in-Here-clause-rest : goal.returns-in-Here-clause-rest
 returns-in-Here-clause-rest g c = let z = c.args.table.now.rule.table.shared.table_id in let p = c.args.table.now.rule.plan in
