@@ -1,5 +1,7 @@
 -- From a name to a reference, and what a seat has seen.
 use Rattle.atomic_table.specs.Seated.{TableId}
+use Rattle.atomic_table.specs.Table.{Me}
+use Rattle.sock_rule.specs.Rows.{PutAt}
 use Rattle.atomic_table.specs.declared.shared.Seat.{Seat}
 use Rattle.sock_rule.specs.Seated.{IsSeat}
 use Rattle.sock_table.specs.Refs.{IsBetween, SameTokens, GaveBack}
@@ -111,3 +113,7 @@ tried_failed p n code _ sock ended v u t w r b g = elim b [ ]
 -- all that was found is known still where marks alone changed
 pub seen_others : (v w : View) → w ≡ record v { marks = w.marks } → StaysSeen v w
 seen_others v w e = seen_same v w (ap (λ (y : View). y.found) e)
+
+-- a word was stored
+pub seen_put : {S : Type 0} (x word : ℕ) (m n : Me S View) → PutAt x word m n → StaysSeen m.0 n.0
+seen_put {S} x word m n put = seen_more x m.0 n.0 (ap (λ (y : Me S View). y.0.found) put.view)

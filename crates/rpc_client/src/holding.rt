@@ -92,8 +92,8 @@ pub fn give_back<O: Out>(
     ensures len { vec_len held.new + 1 ≡ vec_len held.old }
     ensures capacity { vec_capacity held.new ≡ vec_capacity held.old }
 {
-    let Held { name: _, id } = held.remove(at);
-    match table.release(seat, SockRef { id }) {
+    let gone = held.remove(at);
+    match table.release(seat, SockRef { id: gone.id }) {
         Released::Freed => Outcome::Freed,
         Released::Kept => Outcome::Kept,
     }
