@@ -1,5 +1,5 @@
 // References that a client keeps.
-ghost use Rattle.std.specs.Prelude.{◌≡◌, ◌+◌, ◌<◌, ◌==◌, vec_len, vec_capacity, position};
+ghost use Rattle.std.specs.Prelude.{◌≡◌, ◌+◌, ◌<◌, ◌==◌, length, vec_len, vec_capacity, position};
 ghost use Rattle.rpc_client.specs.Seats.{MayAct, AtRest, StaysSeen};
 ghost use Rattle.rpc_client.specs.Holding.{IsHolder, HeldBy, GivenBy, DroppedBy};
 
@@ -83,7 +83,7 @@ pub fn give_back<O: Out>(
 ) -> Outcome
     requires may { MayAct table.now.rule.table.shared.table_id table.now.rule.plan seat.old }
     requires holder { IsHolder table.now.rule.plan held.old.items seat.old.me.0 }
-    requires there { at < vec_len held.old }
+    requires there { at < length held.old.items }
     ensures rest { AtRest table.now.rule.table.shared.table_id table.now.rule.plan seat.old seat.new }
     ensures holder { IsHolder table.now.rule.plan held.new.items seat.new.me.0 }
     ensures by { GivenBy at result held.old.items seat.old.me.0 held.new.items seat.new.me.0 }

@@ -82,6 +82,25 @@ fn refuse<O: Out>(table: &SockTable<O>, seat: &mut SockSeat<O>, refused: Refused
     }
 }
 
+/// A message that was accepted is written, with all that comes meanwhile, where this seat has the right.
+fn write_if<O: Out, R: Wait>(
+    table: &SockTable<O>,
+    rt: &R,
+    seat: &mut SockSeat<O>,
+    started: Started<O>,
+) -> SockRef
+    requires seat { IsSeat table.now.rule.table.shared.table_id table.now.rule.plan seat.old }
+    requires begins { Begins table.now.rule.plan (sock_of started) started seat.old.me }
+    ensures seat { IsSeat table.now.rule.table.shared.table_id table.now.rule.plan seat.new }
+    ensures gave { (result ≡ sock_of started) × GaveUp table.now.rule.plan (sock_of started).id.0 seat.new.me }
+    ensures wrote { WroteAll O.state table.now.rule.plan (sock_of started).id.0 seat.old.me.0 seat.new.me.0 }
+{
+    match started {
+        Started::Queued(sock) => sock,
+        Started::Right(right) => write_all(table, rt, seat, right),
+    }
+}
+
 /// A message that was accepted: whoever has the right writes, and the reference is given back.
 fn see_through<O: Out, R: Wait>(
     table: &SockTable<O>,
@@ -95,10 +114,7 @@ fn see_through<O: Out, R: Wait>(
     ensures idle { Idle table.now.rule.table.shared.table_id table.now.rule.plan seat.new }
     ensures by { SeenThrough O.state table.now.rule.plan (sock_of started).id.0 seat.old.me.0 seat.new.me.0 }
 {
-    let sock = match started {
-        Started::Queued(sock) => sock,
-        Started::Right(right) => write_all(table, rt, seat, right),
-    };
+    let sock = write_if(table, rt, seat, started);
     table.release(seat, sock);
 }
 
