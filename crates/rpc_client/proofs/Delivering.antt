@@ -39,12 +39,12 @@ use Rattle.rpc_client.proofs.Writing.{all_refs}
 
 module _ {O : Type 0} {g : Ghosts O} (p : Plan) (sock : SockRef) (heading : Heading) (bytes : List ℕ) where
   pub sock_is : (s : Started O g) (v w : View) → StartedBy p sock heading bytes s v w → sock_of s ≡ sock
-  sock_is (started.Queued r) v w (is, a, rights) = is
-  sock_is (started.Right r) v w (is, first, a, rest) = is
+  sock_is (started.Queued r) v w b = b.0
+  sock_is (started.Right r) v w b = b.0
 
   pub accepted_of : (s : Started O g) (v w : View) → StartedBy p sock heading bytes s v w → Accepted (Saw (socket_id_version sock.id.0) ∷ []) p sock.id.0 heading bytes v w
-  accepted_of (started.Queued r) v w (is, a, rights) = a
-  accepted_of (started.Right r) v w (is, first, a, rest) = a
+  accepted_of (started.Queued r) v w b = b.1
+  accepted_of (started.Right r) v w b = b.2
 
 pub accepted_refs : (notes : List Mark) (p : Plan) (id : ℕ) (heading : Heading) (bytes : List ℕ) (v w : View) → total is_ref notes ≡ 0 → Accepted notes p id heading bytes v w → SameRefs v w
 accepted_refs notes p id heading bytes v w none_ a = let r = same_refs (socket_id_slot id) v (record v { marks = w.marks }) _ [] a.marks (omega arith) refl in record { refs = λ i. r.refs i; lives = λ i h. r.lives i h }
