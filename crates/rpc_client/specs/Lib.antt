@@ -4,3 +4,4 @@ pub mod Opening
 pub mod Holding
 pub mod Failing
 pub mod Sending
+pub mod Acting

@@ -1,12 +1,14 @@
 //! A client on a table of sockets that threads share: its operations, each with its outcome.
 #![tactic(auto)]
 
+mod acting;
 mod failing;
 mod holding;
 mod opening;
 mod reaching;
 mod sending;
 
+pub use acting::{Action, Client, Operation, Told};
 pub use failing::fail_one;
 pub use holding::{Held, drop_one, hold_one};
 pub use opening::open_one;

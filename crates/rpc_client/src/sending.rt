@@ -7,7 +7,7 @@ ghost use Rattle.sock_rule.specs.Seated.{IsSeat};
 ghost use Rattle.sock_table.specs.Answers.{Holds};
 ghost use Rattle.write_chain.specs.Sending.{HasRoom};
 ghost use Rattle.write_chain.specs.Writing.{MayBegin, MayGoOn, GaveUp, Begins};
-ghost use Rattle.rpc_client.specs.Seats.{Idle, MayAct, AtRest, SameRefs};
+ghost use Rattle.rpc_client.specs.Seats.{Idle, MayAct, AtRest, StaysSeen, SameRefs};
 ghost use Rattle.rpc_client.specs.Sending.{WroteAll, RefusedHolds, RefusedAs, sock_of, SeenThrough, DeliveredBy, SentBy};
 
 use crate::reaching::{Reached, reach};
@@ -159,6 +159,7 @@ pub fn send_one<O: Out, R: Wait>(
     ensures rest { AtRest table.now.rule.table.shared.table_id table.now.rule.plan seat.old seat.new }
     ensures by { SentBy O.state table.now.rule.plan name msg result seat.old.me.0 seat.new.me.0 }
     ensures refs { SameRefs seat.old.me.0 seat.new.me.0 }
+    ensures seen { StaysSeen seat.old.me.0 seat.new.me.0 }
 {
     match reach(table, seat, name) {
         Reached::Unopened => Some(Outcome::Unopened),

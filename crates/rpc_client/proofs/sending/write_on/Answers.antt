@@ -11,13 +11,13 @@ drops-init g c = record { can_go = tt; is_finite = tt; seat = c.requires.seat; s
 pub drops-preserved : goal.drops-preserved
 drops-preserved g c = let p = c.args.table.now.rule.plan in let w = (subst (λ (y : SockRef). KeptBy p y (kept.Dropped c.in-Dropped.next c.in-Dropped.msg c.in-Dropped.code) c.drops.seat.me.0 c.keep_write.new.seat.me) c.drops.invariant.same c.in-Dropped.ensures.kept) in
     let wrote = (subst (λ (y : SockRef). KeptWriting p y (kept.Dropped c.in-Dropped.next c.in-Dropped.msg c.in-Dropped.code) c.drops.seat.me.0 c.keep_write.new.seat.me.0) c.drops.invariant.same c.in-Dropped.ensures.wrote) in record {
-  can_go = tt;
-  is_finite = tt;
-  seat = c.keep_write.ensures.seat;
-  same = w.0;
-  may = w.1;
-  wrote = all_then p c.args.right.sock.id.0 c.args.seat.now.me.0 c.drops.seat.me.0 c.keep_write.new.seat.me.0 c.drops.invariant.wrote (all_dropped p c.args.right.sock.id.0 c.in-Dropped.msg.label.place c.drops.seat.me.0 c.keep_write.new.seat.me.0 wrote);
-}
+      can_go = tt;
+      is_finite = tt;
+      seat = c.keep_write.ensures.seat;
+      same = w.0;
+      may = w.1;
+      wrote = all_then p c.args.right.sock.id.0 c.args.seat.now.me.0 c.drops.seat.me.0 c.keep_write.new.seat.me.0 c.drops.invariant.wrote (all_dropped p c.args.right.sock.id.0 c.in-Dropped.msg.label.place c.drops.seat.me.0 c.keep_write.new.seat.me.0 wrote);
+    }
 
 pub returns-in-Done-clause-gave : goal.returns-in-Done-clause-gave
 returns-in-Done-clause-gave g c = let p = c.args.table.now.rule.plan in subst (λ (y : SockRef). KeptBy p y (kept.Done c.in-Done.sock) c.drops.seat.me.0 c.keep_write.new.seat.me) c.drops.invariant.same c.in-Done.ensures.kept
