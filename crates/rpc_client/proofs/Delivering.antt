@@ -28,11 +28,11 @@ use Rattle.write_chain.specs.declared.entry.Refused.{Refused}
 use Rattle.write_chain.specs.declared.entry.Refused.TheVariants as refused
 use Rattle.write_chain.specs.Sending.{HasRoom, Accepted, StartedBy, RefusedBy}
 use Rattle.rpc_client.specs.declared.reaching.Reached.TheVariants.{Here}
-use Rattle.rpc_client.specs.Seats.{Idle, SameRefs, OneMore}
+use Rattle.rpc_client.specs.Seats.{Idle, StaysSeen, SameRefs, OneMore}
 use Rattle.rpc_client.specs.Reaching.{ReachedBy}
 use Rattle.rpc_client.specs.Sending.{WroteAll, RefusedHolds, RefusedAs, sock_of, Returned, SeenThrough, WentOut, CameBack, DeliveredBy, SentWith, SentBy}
 use Rattle.rpc_client.proofs.Counting.{same_refs, refs_then, then_more, given}
-use Rattle.rpc_client.proofs.Finding.{holds_still}
+use Rattle.rpc_client.proofs.Finding.{holds_still, seen_same, seen_then, seen_became}
 use Rattle.rpc_client.proofs.Writing.{all_refs}
 
 -- ## Accepted
@@ -81,7 +81,7 @@ refused_idle z p sock msg r s t idle seat slots b = let e = refused_claims p soc
 
 pub came_back : {O : Type 0} (state : O → OutState) (p : Plan) (sock : SockRef) (msg : Letter) (r : Refused) (o : Outcome) (v t w : View) → RefusedBy p sock msg r v t → RefusedAs r o t w → DeliveredBy state p sock msg (Some o) v w
 came_back state p sock msg (refused.Failed s m found) o v t w b a = subst (λ (y : Outcome). DeliveredBy state p sock msg (Some y) v w) (sym a.0) record { refused_at = t; refused_by = (refl, refl, b.2, b.3); returned = subst (λ (y : SockRef). Returned y.id.0 t w) b.0 a.1 }
-came_back state p sock msg (refused.Full s m) o v t w b a = subst (λ (y : Outcome). DeliveredBy state p sock msg (Some y) v w) (sym a.0) record { refused_at = t; refused_by = (refl, refl, b.2, b.3, b.4, b.5, b.6, b.7, b.8); returned = subst (λ (y : SockRef). Returned y.id.0 t w) b.0 a.1 }
+came_back state p sock msg (refused.Full s m) o v t w b a = subst (λ (y : Outcome). DeliveredBy state p sock msg (Some y) v w) (sym a.0) record { refused_at = t; refused_by = (refl, refl, b.2, b.3, b.4, b.5, b.6, b.7, b.8, b.9); returned = subst (λ (y : SockRef). Returned y.id.0 t w) b.0 a.1 }
 
 -- ## The reference is given back in each case
 
@@ -113,3 +113,22 @@ module _ {O : Type 0} (state : O → OutState) (p : Plan) (sock : SockRef) (msg 
 -- its own list has room where it is as it was
 pub room_still : (v w : View) → w.lists ≡ v.lists → HasRoom v → HasRoom w
 room_still v w e r = record { made = r.made; taken_in = r.taken_in; lists = e ∙ r.lists; room = r.room }
+
+-- ## What was seen is seen still
+
+refused_seen : (p : Plan) (sock : SockRef) (msg : Letter) (r : Refused) (v w : View) → RefusedBy p sock msg r v w → StaysSeen v w
+refused_seen p sock msg (refused.Failed s m found) v w b = seen_became (socket_id_slot sock.id.0) v w _ _ b.3
+refused_seen p sock msg (refused.Full s m) v w b = b.9
+
+module _ {O : Type 0} (state : O → OutState) (p : Plan) (sock : SockRef) (msg : Letter) where
+  returned_seen : (id : ℕ) (v w : View) → Returned id v w → StaysSeen v w
+  returned_seen id v w r = seen_became (socket_id_slot id) v w _ _ r.back.became
+
+  came_seen : (r : Refused) (v w : View) → CameBack p sock msg r v w → StaysSeen v w
+  came_seen r v w c = seen_then v c.refused_at w (refused_seen p sock msg r v c.refused_at c.refused_by) (returned_seen sock.id.0 c.refused_at w c.returned)
+
+  pub delivered_seen : (o : Option Outcome) (v w : View) → DeliveredBy state p sock msg o v w → StaysSeen v w
+  delivered_seen None v w c = seen_then v c.taken w c.accepted.seen (seen_then c.taken c.through.wrote w (seen_same c.taken c.through.wrote (ap (λ (y : View). y.found) c.through.by.became.others)) (returned_seen sock.id.0 c.through.wrote w c.through.returned))
+  delivered_seen (Some (outcome.Gone found)) v w c = came_seen (refused.Failed sock msg found) v w c
+  delivered_seen (Some outcome.Full) v w c = came_seen (refused.Full sock msg) v w c
+  delivered_seen (Some _) v w c = elim c [ ]

@@ -1,6 +1,6 @@
 use Rattle.std.proofs.Common.{◌∙◌, inl}
-use Rattle.rpc_client.proofs.Finding.{has_one, here_inside}
-use Rattle.rpc_client.proofs.Delivering.{delivered_refs, delivered_share, sent, room_still}
+use Rattle.rpc_client.proofs.Finding.{has_one, here_inside, seen_then}
+use Rattle.rpc_client.proofs.Delivering.{delivered_refs, delivered_share, delivered_seen, sent, room_still}
 use Rattle.rpc_client.proofs.sending.send_one.Goals as goal
 
 pub deliver-requires-clause-idle : goal.deliver-requires-clause-idle
@@ -26,3 +26,6 @@ returns-in-Here-clause-by g c = sent g.O.Out.state c.args.table.now.rule.plan c.
 
 pub returns-in-Here-clause-refs : goal.returns-in-Here-clause-refs
 returns-in-Here-clause-refs g c = delivered_refs g.O.Out.state c.args.table.now.rule.plan c.in-Here.sock c.args.msg c.deliver.result c.args.seat.now.me.0 c.reach.new.seat.me.0 c.deliver.new.seat.me.0 c.in-Here.ensures.refs c.deliver.ensures.by
+
+pub returns-in-Here-clause-seen : goal.returns-in-Here-clause-seen
+returns-in-Here-clause-seen g c = seen_then c.args.seat.now.me.0 c.reach.new.seat.me.0 c.deliver.new.seat.me.0 c.in-Here.ensures.seen (delivered_seen g.O.Out.state c.args.table.now.rule.plan c.in-Here.sock c.args.msg c.deliver.result c.reach.new.seat.me.0 c.deliver.new.seat.me.0 c.deliver.ensures.by)
