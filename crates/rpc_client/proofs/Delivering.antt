@@ -132,3 +132,7 @@ module _ {O : Type 0} (state : O → OutState) (p : Plan) (sock : SockRef) (msg 
   delivered_seen (Some (outcome.Gone found)) v w c = came_seen (refused.Failed sock msg found) v w c
   delivered_seen (Some outcome.Full) v w c = came_seen (refused.Full sock msg) v w c
   delivered_seen (Some _) v w c = elim c [ ]
+
+-- a message that came back is in no list
+pub came_lists : (p : Plan) (sock : SockRef) (msg : Letter) (r : Refused) (v w : View) → CameBack p sock msg r v w → w.lists ≡ v.lists
+came_lists p sock msg r v w c = ap (λ (y : View). y.lists) c.returned.back.became.others ∙ (refused_claims p sock msg r v c.refused_at c.refused_by).3

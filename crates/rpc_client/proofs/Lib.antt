@@ -2,3 +2,4 @@ pub mod Counting
 pub mod Finding
 pub mod Writing
 pub mod Delivering
+pub mod Going

@@ -5,3 +5,4 @@ pub mod Holding
 pub mod Failing
 pub mod Sending
 pub mod Acting
+pub mod Running

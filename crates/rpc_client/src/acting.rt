@@ -1,5 +1,5 @@
 // One operation of a client.
-ghost use Rattle.std.specs.Prelude.{◌≡◌, ◌+◌, ◌*◌, ◌<◌, IfOk, IfErr, All, vec_len, vec_capacity};
+ghost use Rattle.std.specs.Prelude.{◌≡◌, ◌+◌, ◌*◌, ◌<◌, IfOk, IfErr, All, length, vec_len, vec_capacity};
 ghost use Rattle.sock_table.specs.Passes.{IsPass};
 ghost use Rattle.write_chain.specs.Sending.{HasRoom};
 ghost use Rattle.rpc_client.specs.Seats.{MayAct, AtRest, StaysSeen, SameRefs};
@@ -93,7 +93,7 @@ fn open_next<O: Out>(client: &mut Client<O>, table: &SockTable<O>, operation: &O
     requires name { operation.now.name < table.now.rule.plan.names }
     requires number { operation.now.number < table.now.rule.plan.operations }
     requires passes { All (IsPass table.now.rule.table.shared.table_id table.now.rule.plan) client.old.passes.items }
-    requires pass { 0 < vec_len client.old.passes }
+    requires pass { 0 < length client.old.passes.items }
     ensures rest { AtRest table.now.rule.table.shared.table_id table.now.rule.plan client.old.seat client.new.seat }
     ensures by { OpenedNext table.now.rule.plan operation.now result client.old.passes.items client.old.seat.me client.new.passes.items client.new.seat.me }
     ensures passes { All (IsPass table.now.rule.table.shared.table_id table.now.rule.plan) client.new.passes.items }
@@ -116,7 +116,7 @@ fn open_next<O: Out>(client: &mut Client<O>, table: &SockTable<O>, operation: &O
 
 /// What becomes of an operation, of which the client made `order` before. Nothing is told of a send that was accepted. Where
 /// memory is wanting, nothing was done.
-fn act<O: Out, R: Wait>(
+pub fn act<O: Out, R: Wait>(
     client: &mut Client<O>,
     rt: &R,
     table: &SockTable<O>,
@@ -126,7 +126,7 @@ fn act<O: Out, R: Wait>(
 ) -> Result<Option<Outcome>, NoMemory>
     requires order { order < 65535 }
     requires go { MayGo table.now.rule.table.shared.table_id table.now.rule.plan order client.old }
-    requires may { MayMake table.now.rule.plan operation.now (vec_len client.old.passes) }
+    requires may { MayMake table.now.rule.plan operation.now (length client.old.passes.items) }
     requires room { vec_len client.old.held < vec_capacity client.old.held }
     ensures go { IfOk result (λ _. MayGo table.now.rule.table.shared.table_id table.now.rule.plan (order + 1) client.new) }
     ensures acted { IfOk result (λ o. ActedBy O.state table.now.rule.plan (label_of of order operation.now) operation.now o (stand client.old) (stand client.new)) }
@@ -136,6 +136,7 @@ fn act<O: Out, R: Wait>(
     ensures capacity { vec_capacity client.new.held ≡ vec_capacity client.old.held }
 {
     let name = operation.name;
+    let number = operation.number;
     match &operation.action {
         Action::Open => Ok(Some(open_next(client, table, operation))),
         Action::Send(bytes) => {
@@ -143,7 +144,7 @@ fn act<O: Out, R: Wait>(
                 client: of,
                 operation: order + 1,
                 attempt: 0,
-                place: 8 * u32::from(operation.number),
+                place: 8 * u32::from(number),
             };
             send_bytes(client, rt, table, label, name, bytes.as_slice())
         }

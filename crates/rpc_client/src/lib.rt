@@ -6,6 +6,7 @@ mod failing;
 mod holding;
 mod opening;
 mod reaching;
+mod running;
 mod sending;
 
 pub use acting::{Action, Client, Operation, Told};

@@ -1,0 +1,59 @@
+// A client's run.
+ghost use Rattle.std.specs.Prelude.{◌≡◌, ◌+◌, ◌<◌, ◌≤◌, ◌++◌, ℕ, [], Option, IfOk, IfErr, OnOk, length, vec_len, vec_capacity};
+ghost use Rattle.sock_words.specs.declared.outcome.Outcome.{Outcome as AnOutcome};
+ghost use Rattle.sock_table.specs.Closed.{IsDoneSeat};
+ghost use Rattle.rpc_client.specs.Seats.{MayAct, AtRest, StaysSeen};
+ghost use Rattle.rpc_client.specs.Holding.{IsHolder};
+ghost use Rattle.rpc_client.specs.Acting.{label_of, MayGo, MayMake, ActedBy, stand};
+ghost use Rattle.rpc_client.specs.Running.{telling, GaveFirst};
+
+use crate::acting::{Client, Operation, Told, act};
+use crate::holding::{Held, give_back};
+use sock_io::{Gate, Out};
+use sock_message::NoMemory;
+use sock_rule::SockSeat;
+use sock_table::{LinkPass, SockTable};
+use std::sync::Wait;
+
+/// An operation is made, and what becomes of it is told.
+fn make<O: Out, R: Wait>(
+    client: &mut Client<O>,
+    rt: &R,
+    table: &SockTable<O>,
+    of: u16,
+    order: u16,
+    operation: &Operation,
+) -> Result<(), NoMemory>
+    requires order { order < 65535 }
+    requires go { MayGo table.now.rule.table.shared.table_id table.now.rule.plan order client.old }
+    requires may { MayMake table.now.rule.plan operation.now (length client.old.passes.items) }
+    requires room { (vec_len client.old.held < vec_capacity client.old.held) × (vec_len client.old.outcomes < vec_capacity client.old.outcomes) }
+    ensures go { IfOk result (λ _. MayGo table.now.rule.table.shared.table_id table.now.rule.plan (order + 1) client.new) }
+    ensures made { IfOk result (λ _. (by : Option AnOutcome) × ActedBy O.state table.now.rule.plan (label_of of order operation.now) operation.now by (stand client.old) (stand client.new) × (client.new.outcomes.items ≡ client.old.outcomes.items ++ telling operation.now.number by)) }
+    ensures seen { StaysSeen client.old.seat.me.0 client.new.seat.me.0 }
+    ensures none_ { IfErr result (λ _. (client.new.seat ≡ client.old.seat) × (client.new.passes ≡ client.old.passes) × (client.new.held ≡ client.old.held) × (client.new.outcomes ≡ client.old.outcomes)) }
+    ensures capacity { (vec_capacity client.new.held ≡ vec_capacity client.old.held) × (vec_capacity client.new.outcomes ≡ vec_capacity client.old.outcomes) }
+{
+    let told = act(client, rt, table, of, order, operation)?;
+    if let Some(outcome) = told {
+        client.outcomes.push_reserved(Told {
+            number: operation.number,
+            outcome,
+        });
+    }
+    Ok(())
+}
+
+/// All references are given back, the oldest first.
+fn give_all<O: Out>(table: &SockTable<O>, seat: &mut SockSeat<O>, held: &mut Vec<Held>)
+    requires may { MayAct table.now.rule.table.shared.table_id table.now.rule.plan seat.old }
+    requires holder { IsHolder table.now.rule.plan held.old.items seat.old.me.0 }
+    ensures rest { AtRest table.now.rule.table.shared.table_id table.now.rule.plan seat.old seat.new }
+    ensures none_ { (held.new.items ≡ []) × IsHolder table.now.rule.plan [] seat.new.me.0 }
+    ensures given { GaveFirst held.old.items (length held.old.items) seat.old.me.0 seat.new.me.0 }
+    ensures lists { seat.new.me.0.lists ≡ seat.old.me.0.lists }
+{
+    'gives: while !held.is_empty() {
+        give_back(table, seat, held, 0);
+    }
+}
