@@ -3,3 +3,4 @@ pub mod Finding
 pub mod Writing
 pub mod Delivering
 pub mod Going
+pub mod Coursing

@@ -13,12 +13,13 @@ use Rattle.sock_table.specs.Named.{HasSeen}
 use Rattle.sock_table.specs.declared.passes.LinkPass.{LinkPass}
 use Rattle.rpc_client.specs.declared.acting.Action.{Action}
 use Rattle.rpc_client.specs.declared.acting.Action.TheVariants as action
+use Rattle.rpc_client.specs.declared.acting.Client.{Client}
 use Rattle.rpc_client.specs.declared.acting.Operation.{Operation}
 use Rattle.rpc_client.specs.declared.acting.Told.{Told}
 use Rattle.rpc_client.specs.declared.holding.Held.{Held}
 use Rattle.rpc_client.specs.Opening.{GotNone}
 use Rattle.rpc_client.specs.Sending.{Returned}
-use Rattle.rpc_client.specs.Acting.{Stand, MayMake, label_of, ActedBy}
+use Rattle.rpc_client.specs.Acting.{Stand, stand, MayMake, label_of, ActedBy}
 
 -- what is told of an operation: nothing of a send that was accepted
 abbrev pub telling : ℕ → Option Outcome → List Told
@@ -54,6 +55,16 @@ pub record Made {O : Type 0} {g : Ghosts O} (state : O → OutState) (p : Plan) 
 abbrev pub Ran : {O : Type 0} {g : Ghosts O} → (O → OutState) → Plan → ℕ → List Operation → ℕ → Course g → Course g → Type 0
 Ran state p client os zero s t = t ≡ s
 Ran {O} {g} state p client os (suc n) s t = (u : Course g) × (o : Operation) × Ran state p client os n s u × (get_elem? os n ≡ some o) × Made state p client n o u t
+
+-- a client that did nothing yet
+abbrev pub begins : {O : Type 0} {g : Ghosts O} → Client O g → Course g
+begins c = record { has = stand c; told = c.outcomes.items; names = [] }
+
+-- a client has come from there to here by its first n operations, and knows the names that it opened or found
+pub record RanTo {O : Type 0} {g : Ghosts O} (state : O → OutState) (p : Plan) (client : ℕ) (os : List Operation) (n : ℕ) (c d : Client O g) : Type 0 where
+  pub names : List ℕ
+  pub ran : Ran state p client os n (begins c) record { has = stand d; told = d.outcomes.items; names = names }
+  pub known : All (λ x. HasSeen (name_word p x) d.seat.me.0) names
 
 -- how many passes are left behind an operation
 abbrev pub left_by : Action → ℕ → ℕ

@@ -1,6 +1,6 @@
 // References that a client keeps.
 ghost use Rattle.std.specs.Prelude.{◌≡◌, ◌+◌, ◌<◌, ◌==◌, length, vec_len, vec_capacity, position};
-ghost use Rattle.rpc_client.specs.Seats.{MayAct, AtRest, StaysSeen};
+ghost use Rattle.rpc_client.specs.Seats.{Idle, MayAct, AtRest, StaysSeen};
 ghost use Rattle.rpc_client.specs.Holding.{IsHolder, HeldBy, GivenBy, DroppedBy};
 
 use crate::reaching::{Reached, reach};
@@ -81,7 +81,7 @@ pub fn give_back<O: Out>(
     held: &mut Vec<Held>,
     at: usize,
 ) -> Outcome
-    requires may { MayAct table.now.rule.table.shared.table_id table.now.rule.plan seat.old }
+    requires idle { Idle table.now.rule.table.shared.table_id table.now.rule.plan seat.old }
     requires holder { IsHolder table.now.rule.plan held.old.items seat.old.me.0 }
     requires there { at < length held.old.items }
     ensures rest { AtRest table.now.rule.table.shared.table_id table.now.rule.plan seat.old seat.new }

@@ -1,11 +1,11 @@
 // A client's run.
-ghost use Rattle.std.specs.Prelude.{◌≡◌, ◌+◌, ◌<◌, ◌≤◌, ◌++◌, ℕ, [], Option, IfOk, IfErr, OnOk, length, vec_len, vec_capacity};
+ghost use Rattle.std.specs.Prelude.{◌≡◌, ◌+◌, ◌<◌, ◌≤◌, ◌++◌, ℕ, [], Option, IfOk, IfErr, drop, length, vec_len, vec_capacity};
 ghost use Rattle.sock_words.specs.declared.outcome.Outcome.{Outcome as AnOutcome};
 ghost use Rattle.sock_table.specs.Closed.{IsDoneSeat};
-ghost use Rattle.rpc_client.specs.Seats.{MayAct, AtRest, StaysSeen};
+ghost use Rattle.rpc_client.specs.Seats.{Idle, AtRest, StaysSeen};
 ghost use Rattle.rpc_client.specs.Holding.{IsHolder};
 ghost use Rattle.rpc_client.specs.Acting.{label_of, MayGo, MayMake, ActedBy, stand};
-ghost use Rattle.rpc_client.specs.Running.{telling, GaveFirst};
+ghost use Rattle.rpc_client.specs.Running.{telling, MayMakeAll, RanTo, GaveFirst};
 
 use crate::acting::{Client, Operation, Told, act};
 use crate::holding::{Held, give_back};
@@ -44,9 +44,38 @@ fn make<O: Out, R: Wait>(
     Ok(())
 }
 
+/// The operations are made, one after the other, until memory is wanting: how many were made.
+fn make_all<O: Out, R: Wait, G: Gate>(
+    client: &mut Client<O>,
+    rt: &R,
+    table: &SockTable<O>,
+    of: u16,
+    operations: &[Operation],
+    gate: &G,
+) -> u16
+    requires few { length operations.now ≤ 65535 }
+    requires go { MayGo table.now.rule.table.shared.table_id table.now.rule.plan 0 client.old }
+    requires may { MayMakeAll table.now.rule.plan operations.now (length client.old.passes.items) }
+    requires room { (vec_len client.old.held + length operations.now ≤ vec_capacity client.old.held) × (vec_len client.old.outcomes + length operations.now ≤ vec_capacity client.old.outcomes) }
+    ensures count { result ≤ length operations.now }
+    ensures go { MayGo table.now.rule.table.shared.table_id table.now.rule.plan result client.new }
+    ensures ran { RanTo O.state table.now.rule.plan of operations.now result client.old client.new }
+    ensures left { MayMakeAll table.now.rule.plan (drop result operations.now) (length client.new.passes.items) }
+{
+    let mut order = 0u16;
+    'makes: for operation in operations {
+        gate.pass(rt, of, order + 1);
+        match make(client, rt, table, of, order, operation) {
+            Ok(()) => order += 1,
+            Err(_) => return order,
+        }
+    }
+    order
+}
+
 /// All references are given back, the oldest first.
 fn give_all<O: Out>(table: &SockTable<O>, seat: &mut SockSeat<O>, held: &mut Vec<Held>)
-    requires may { MayAct table.now.rule.table.shared.table_id table.now.rule.plan seat.old }
+    requires idle { Idle table.now.rule.table.shared.table_id table.now.rule.plan seat.old }
     requires holder { IsHolder table.now.rule.plan held.old.items seat.old.me.0 }
     ensures rest { AtRest table.now.rule.table.shared.table_id table.now.rule.plan seat.old seat.new }
     ensures none_ { (held.new.items ≡ []) × IsHolder table.now.rule.plan [] seat.new.me.0 }
