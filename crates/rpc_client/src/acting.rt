@@ -127,7 +127,7 @@ pub fn act<O: Out, R: Wait>(
     requires order { order < 65535 }
     requires go { MayGo table.now.rule.table.shared.table_id table.now.rule.plan order client.old }
     requires may { MayMake table.now.rule.plan operation.now (length client.old.passes.items) }
-    requires room { vec_len client.old.held < vec_capacity client.old.held }
+    requires room { length client.old.held.items < vec_capacity client.old.held }
     ensures go { IfOk result (λ _. MayGo table.now.rule.table.shared.table_id table.now.rule.plan (order + 1) client.new) }
     ensures acted { IfOk result (λ o. ActedBy O.state table.now.rule.plan (label_of of order operation.now) operation.now o (stand client.old) (stand client.new)) }
     ensures seen { StaysSeen client.old.seat.me.0 client.new.seat.me.0 }

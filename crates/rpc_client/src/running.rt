@@ -27,7 +27,7 @@ fn make<O: Out, R: Wait>(
     requires order { order < 65535 }
     requires go { MayGo table.now.rule.table.shared.table_id table.now.rule.plan order client.old }
     requires may { MayMake table.now.rule.plan operation.now (length client.old.passes.items) }
-    requires room { (vec_len client.old.held < vec_capacity client.old.held) × (vec_len client.old.outcomes < vec_capacity client.old.outcomes) }
+    requires room { (length client.old.held.items < vec_capacity client.old.held) × (length client.old.outcomes.items < vec_capacity client.old.outcomes) }
     ensures go { IfOk result (λ _. MayGo table.now.rule.table.shared.table_id table.now.rule.plan (order + 1) client.new) }
     ensures made { IfOk result (λ _. (by : Option AnOutcome) × ActedBy O.state table.now.rule.plan (label_of of order operation.now) operation.now by (stand client.old) (stand client.new) × (client.new.outcomes.items ≡ client.old.outcomes.items ++ telling operation.now.number by)) }
     ensures seen { StaysSeen client.old.seat.me.0 client.new.seat.me.0 }
@@ -56,7 +56,7 @@ fn make_all<O: Out, R: Wait, G: Gate>(
     requires few { length operations.now ≤ 65535 }
     requires go { MayGo table.now.rule.table.shared.table_id table.now.rule.plan 0 client.old }
     requires may { MayMakeAll table.now.rule.plan operations.now (length client.old.passes.items) }
-    requires room { (vec_len client.old.held + length operations.now ≤ vec_capacity client.old.held) × (vec_len client.old.outcomes + length operations.now ≤ vec_capacity client.old.outcomes) }
+    requires room { (length operations.now ≤ vec_capacity client.old.held) × (length client.old.outcomes.items + length operations.now ≤ vec_capacity client.old.outcomes) }
     ensures count { result ≤ length operations.now }
     ensures go { MayGo table.now.rule.table.shared.table_id table.now.rule.plan result client.new }
     ensures ran { RanTo O.state table.now.rule.plan of operations.now result client.old client.new }
