@@ -1,5 +1,5 @@
 -- How a run goes on.
-use Rattle.std.proofs.Common.{◌≡◌, ◌≢◌, ℕ, zero, suc, ◌+◌, ◌-◌, ◌<◌, ◌≤◌, Bool, true, false, cond, Option, Some, None, inl, inr, List, [], ◌∷◌, ◌++◌, length, take, drop, length-drop, refl, sym, ap, ◌∙◌, subst, arith}
+use Rattle.std.proofs.Common.{◌≡◌, ◌≢◌, ℕ, zero, suc, ◌+◌, ◌-◌, ◌<◌, ◌≤◌, Bool, true, false, cond, Option, Some, None, inl, inr, List, [], ◌∷◌, ◌++◌, length, get_or, drop, length-drop, length-append, refl, sym, ap, ◌∙◌, subst, arith}
 use mathlib.Core.Option.{some, some-ne-none}
 use lib.ListN.{get_elem?}
 use Rattle.std.specs.List.{remove}
@@ -23,12 +23,13 @@ use Rattle.rpc_client.specs.declared.acting.Action.{Action}
 use Rattle.rpc_client.specs.declared.acting.Action.TheVariants as action
 use Rattle.rpc_client.specs.declared.acting.Client.{Client}
 use Rattle.rpc_client.specs.declared.acting.Operation.{Operation}
+use Rattle.rpc_client.specs.declared.acting.Told.{Told}
 use Rattle.rpc_client.specs.declared.reaching.Reached.TheVariants.{Gone, Here}
 use Rattle.rpc_client.specs.Seats.{StaysSeen}
 use Rattle.rpc_client.specs.Reaching.{ReachedBy}
 use Rattle.rpc_client.specs.Opening.{OpenedBy}
 use Rattle.rpc_client.specs.Failing.{TriedTo, FailedBy}
-use Rattle.rpc_client.specs.Acting.{Stand, stand, letter_of, label_of, Acted, ActedBy}
+use Rattle.rpc_client.specs.Acting.{Stand, stand, MayMake, letter_of, label_of, Acted, ActedBy}
 use Rattle.rpc_client.proofs.Finding.{seen_became, seen_others, set_others}
 use Rattle.rpc_client.proofs.Delivering.{delivered_seen}
 use Rattle.sock_words.specs.declared.outcome.Outcome.{Outcome}
@@ -37,7 +38,7 @@ use Rattle.sock_model.specs.declared.view.View.{View}
 use Rattle.rpc_client.specs.declared.holding.Held.{Held}
 use Rattle.rpc_client.specs.Holding.{HeldBy, GivenBy, DroppedBy}
 use Rattle.rpc_client.specs.Sending.{Returned, SentWith, SentBy}
-use Rattle.rpc_client.specs.Running.{telling, finds_name, Course, Made, Ran, begins, RanTo, GaveFirst}
+use Rattle.rpc_client.specs.Running.{telling, finds_name, Course, Made, Ran, begins, RanTo, left_by, MayMakeAll, GaveFirst}
 
 -- ## Giving back
 
@@ -166,3 +167,25 @@ module _ {O : Type 0} {g : Ghosts O} (state : O → OutState) (p : Plan) where
       ran = subst (λ (u : Course g). Ran state p client os n (begins c) u) (λ i. record { has = record { me = (sym seat i).me; held = (sym held i).items; passes = (sym passes i).items }; told = (sym outcomes i).items; names = r.names }) r.ran;
       known = subst (λ s. All (λ x. HasSeen (name_word p x) s.me.0) r.names) (sym seat) r.known;
     }
+
+-- ## What is left to be made
+
+pub may_next : (p : Plan) (os : List Operation) (n passes : ℕ) (o : Operation) → n < length os → o ≡ get_or os n o → MayMakeAll p (drop n os) passes → MayMake p o passes × MayMakeAll p (drop (suc n) os) (left_by o.action passes)
+may_next p [] n passes o lt e m = absurd (omega arith)
+may_next p (y ∷ ys) zero passes o lt e m = subst (λ (x : Operation). MayMake p x passes × MayMakeAll p ys (left_by x.action passes)) (sym e) m
+may_next p (y ∷ ys) (suc n) passes o lt e m = may_next p ys n passes o (omega arith) e m
+
+pub acted_passes : {O : Type 0} {g : Ghosts O} (state : O → OutState) (p : Plan) (label : Label) (o : Operation) (a : Action) (by : Option Outcome) (s t : Stand g) → Acted state p label o a by s t → length t.passes ≡ left_by a (length s.passes)
+acted_passes state p label o action.Open (Some by) s t b = let e = ap length b.0.next in let d = length-append t.passes (b.0.pass ∷ []) in omega arith
+acted_passes state p label o (action.Send bytes) by s t b = ap length b.2
+acted_passes state p label o action.Hold (Some by) s t b = ap length b.1
+acted_passes state p label o action.Drop (Some by) s t b = ap length b.1
+acted_passes state p label o (action.Fail code) (Some by) s t b = ap length b.2
+acted_passes state p label o _ None s t b = elim b [ ]
+
+telling_few : (number : ℕ) (by : Option Outcome) → length (telling number by) ≤ 1
+telling_few number None = omega arith
+telling_few number (Some by) = omega arith
+
+pub told_room : (number : ℕ) (by : Option Outcome) (old new : List Told) → new ≡ old ++ telling number by → length new ≤ length old + 1
+told_room number by old new e = let a = ap length e in let b = length-append old (telling number by) in let c = telling_few number by in omega arith
