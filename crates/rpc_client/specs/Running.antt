@@ -1,5 +1,5 @@
 -- A client's run: its operations one after the other, and what it gives back in the end.
-use Rattle.std.specs.Prelude.{◌≡◌, ◌≢◌, ℕ, zero, suc, ◌+◌, ◌-◌, ◌≤◌, Bool, true, false, cond, List, [], ◌∷◌, ◌++◌, Option, Some, None, All, length}
+use Rattle.std.specs.Prelude.{◌≡◌, ◌≢◌, ℕ, zero, suc, ◌+◌, ◌-◌, ◌≤◌, Bool, true, false, cond, List, [], ◌∷◌, ◌++◌, Option, Some, None, All, length, drop}
 use mathlib.Core.Option.{some}
 use lib.ListN.{get_elem?}
 use Rattle.sock_io.specs.declared.link.Out.{Ghosts}
@@ -71,12 +71,33 @@ abbrev pub left_by : Action → ℕ → ℕ
 left_by action.Open passes = passes - 1
 left_by _ passes = passes
 
--- each operation is one that the table has, and there is a pass for each `open`
+-- each operation is one that the table has, and there is one pass for each `open`
 abbrev pub MayMakeAll : Plan → List Operation → ℕ → Type 0
-MayMakeAll p [] passes = Unit {0}
+MayMakeAll p [] passes = passes ≡ 0
 MayMakeAll p (o ∷ os) passes = MayMake p o passes × MayMakeAll p os (left_by o.action passes)
 
 -- the first n references of the list were given back, the oldest first
 abbrev pub GaveFirst : List Held → ℕ → View → View → Type 0
 GaveFirst held zero v w = w ≡ v
 GaveFirst held (suc n) v w = (u : View) × (x : Held) × GaveFirst held n v u × (get_elem? held n ≡ some x) × Returned x.id.0 u w
+
+-- an operation that isn't made any more: an `open` gets no socket, and its pass is spent
+abbrev pub LeftBy : {O : Type 0} {g : Ghosts O} → Plan → Operation → Action → Stand g → Stand g → Type 0
+LeftBy {O} {g} p o action.Open s t = (pass : LinkPass O g) × (s.passes ≡ t.passes ++ pass ∷ []) × GotNone p o.number s.me t.me × (t.held ≡ s.held)
+LeftBy p o _ s t = t ≡ s
+
+-- the first n operations of the list were left like that
+abbrev pub LeftFirst : {O : Type 0} {g : Ghosts O} → Plan → List Operation → ℕ → Stand g → Stand g → Type 0
+LeftFirst p os zero s t = t ≡ s
+LeftFirst {O} {g} p os (suc n) s t = (u : Stand g) × (o : Operation) × LeftFirst p os n s u × (get_elem? os n ≡ some o) × LeftBy p o o.action u t
+
+-- the first operations were made, the rest were left, and then all references were given back
+pub record RunBy {O : Type 0} {g : Ghosts O} (state : O → OutState) (p : Plan) (client : ℕ) (os : List Operation) (c d : Client O g) : Type 0 where
+  pub made : ℕ
+  pub few : made ≤ length os
+  pub came : Client O g
+  pub ran : RanTo state p client os made c came
+  pub told : d.outcomes ≡ came.outcomes
+  pub end : Stand g
+  pub left : LeftFirst p (drop made os) (length (drop made os)) (stand came) end
+  pub given : GaveFirst end.held (length end.held) end.me.0 d.seat.me.0

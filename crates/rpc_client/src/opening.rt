@@ -1,7 +1,7 @@
 // A socket is made and published.
 ghost use Rattle.std.specs.Prelude.{◌≡◌, ◌<◌};
 ghost use Rattle.sock_table.specs.Passes.{IsPass};
-ghost use Rattle.rpc_client.specs.Seats.{MayAct, AtRest, StaysSeen, SameRefs};
+ghost use Rattle.rpc_client.specs.Seats.{Idle, MayAct, AtRest, StaysSeen, SameRefs};
 ghost use Rattle.rpc_client.specs.Opening.{OpenedBy, GotNone};
 
 use sock_io::Out;
@@ -16,7 +16,7 @@ pub fn open_none<O: Out>(
     operation: u16,
     pass: LinkPass<O>,
 )
-    requires may { MayAct table.now.rule.table.shared.table_id table.now.rule.plan seat.old }
+    requires idle { Idle table.now.rule.table.shared.table_id table.now.rule.plan seat.old }
     requires operation { operation < table.now.rule.plan.operations }
     requires pass { IsPass table.now.rule.table.shared.table_id table.now.rule.plan pass }
     ensures rest { AtRest table.now.rule.table.shared.table_id table.now.rule.plan seat.old seat.new }

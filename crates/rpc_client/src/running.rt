@@ -1,14 +1,16 @@
 // A client's run.
-ghost use Rattle.std.specs.Prelude.{◌≡◌, ◌+◌, ◌<◌, ◌≤◌, ◌++◌, ℕ, [], Option, IfOk, IfErr, drop, length, vec_len, vec_capacity};
+ghost use Rattle.std.specs.Prelude.{◌≡◌, ◌+◌, ◌<◌, ◌≤◌, ◌++◌, ℕ, [], Option, IfOk, IfErr, All, drop, length, vec_len, vec_capacity};
 ghost use Rattle.sock_words.specs.declared.outcome.Outcome.{Outcome as AnOutcome};
+ghost use Rattle.sock_table.specs.Passes.{IsPass};
 ghost use Rattle.sock_table.specs.Closed.{IsDoneSeat};
-ghost use Rattle.rpc_client.specs.Seats.{Idle, AtRest, StaysSeen};
+ghost use Rattle.rpc_client.specs.Seats.{Idle, AtRest, StaysSeen, SameRefs};
 ghost use Rattle.rpc_client.specs.Holding.{IsHolder};
 ghost use Rattle.rpc_client.specs.Acting.{label_of, MayGo, MayMake, ActedBy, stand};
-ghost use Rattle.rpc_client.specs.Running.{telling, MayMakeAll, RanTo, GaveFirst};
+ghost use Rattle.rpc_client.specs.Running.{telling, MayMakeAll, RanTo, LeftBy, LeftFirst, GaveFirst};
 
-use crate::acting::{Client, Operation, Told, act};
+use crate::acting::{Action, Client, Operation, Told, act};
 use crate::holding::{Held, give_back};
+use crate::opening::open_none;
 use sock_io::{Gate, Out};
 use sock_message::NoMemory;
 use sock_rule::SockSeat;
@@ -84,5 +86,40 @@ fn give_all<O: Out>(table: &SockTable<O>, seat: &mut SockSeat<O>, held: &mut Vec
 {
     'gives: while !held.is_empty() {
         give_back(table, seat, held, 0);
+    }
+}
+
+/// An operation that isn't made any more: an `open` gets no socket.
+fn leave_one<O: Out>(client: &mut Client<O>, table: &SockTable<O>, operation: &Operation)
+    requires idle { Idle table.now.rule.table.shared.table_id table.now.rule.plan client.old.seat }
+    requires passes { All (IsPass table.now.rule.table.shared.table_id table.now.rule.plan) client.old.passes.items }
+    requires may { MayMake table.now.rule.plan operation.now (length client.old.passes.items) }
+    ensures rest { AtRest table.now.rule.table.shared.table_id table.now.rule.plan client.old.seat client.new.seat }
+    ensures passes { All (IsPass table.now.rule.table.shared.table_id table.now.rule.plan) client.new.passes.items }
+    ensures left { LeftBy table.now.rule.plan operation.now operation.now.action (stand client.old) (stand client.new) }
+    ensures refs { SameRefs client.old.seat.me.0 client.new.seat.me.0 }
+    ensures others { (client.new.held ≡ client.old.held) × (client.new.outcomes ≡ client.old.outcomes) }
+{
+    if let Action::Open = &operation.action {
+        let Some(pass) = client.passes.pop() else {
+            unreachable!();
+        };
+        open_none(table, &mut client.seat, operation.number, pass);
+    }
+}
+
+/// None of these operations is made any more.
+fn leave_all<O: Out>(client: &mut Client<O>, table: &SockTable<O>, operations: &[Operation])
+    requires idle { Idle table.now.rule.table.shared.table_id table.now.rule.plan client.old.seat }
+    requires passes { All (IsPass table.now.rule.table.shared.table_id table.now.rule.plan) client.old.passes.items }
+    requires may { MayMakeAll table.now.rule.plan operations.now (length client.old.passes.items) }
+    ensures rest { AtRest table.now.rule.table.shared.table_id table.now.rule.plan client.old.seat client.new.seat }
+    ensures passes { client.new.passes.items ≡ [] }
+    ensures left { LeftFirst table.now.rule.plan operations.now (length operations.now) (stand client.old) (stand client.new) }
+    ensures refs { SameRefs client.old.seat.me.0 client.new.seat.me.0 }
+    ensures others { (client.new.held ≡ client.old.held) × (client.new.outcomes ≡ client.old.outcomes) }
+{
+    'leaves: for operation in operations {
+        leave_one(client, table, operation);
     }
 }

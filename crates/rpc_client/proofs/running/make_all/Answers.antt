@@ -23,13 +23,13 @@ makes-preserved g c = let p = c.args.table.now.rule.plan in let i = c.makes.inva
     let lt : n < length c.args.operations.now = omega (arith, i.order, c.makes-test.true) in
     let is = subst (λ (k : ℕ). o ≡ get_or c.args.operations.now k o) (sym i.order) c.operation-item.is in
     let next = (may_next p c.args.operations.now n (length c.makes.client.passes.items) o lt is i.left).1 in record {
-  order = omega (arith, i.order);
-  go = c.in-Ok.ensures.go;
-  ran = ran_more g.O.Out.state p c.args.of c.args.operations.now n o c.args.client.now c.makes.client c.make.new.client m.0 (removed_there c.args.operations.now n o lt is) i.ran m.1 m.2 c.make.ensures.seen;
-  left = subst (λ (k : ℕ). MayMakeAll p (drop k c.args.operations.now) (length c.make.new.client.passes.items)) (sym (add-one n)) (subst (λ (k : ℕ). MayMakeAll p (drop (suc n) c.args.operations.now) k) (sym (acted_passes g.O.Out.state p (label_of c.args.of n o) o o.action m.0 (stand c.makes.client) (stand c.make.new.client) m.1)) next);
-  held_room = omega (arith, c.make.ensures.capacity.0, i.held_room);
-  told_room = omega (arith, c.make.ensures.capacity.1, i.told_room, told_room o.number m.0 c.makes.client.outcomes.items c.make.new.client.outcomes.items m.2);
-}
+      order = omega (arith, i.order);
+      go = c.in-Ok.ensures.go;
+      ran = ran_more g.O.Out.state p c.args.of c.args.operations.now n o c.args.client.now c.makes.client c.make.new.client m.0 (removed_there c.args.operations.now n o lt is) i.ran m.1 m.2 c.make.ensures.seen;
+      left = subst (λ (k : ℕ). MayMakeAll p (drop k c.args.operations.now) (length c.make.new.client.passes.items)) (sym (add-one n)) (subst (λ (k : ℕ). MayMakeAll p (drop (suc n) c.args.operations.now) k) (sym (acted_passes g.O.Out.state p (label_of c.args.of n o) o o.action m.0 (stand c.makes.client) (stand c.make.new.client) m.1)) next);
+      held_room = omega (arith, c.make.ensures.capacity.0, i.held_room);
+      told_room = omega (arith, c.make.ensures.capacity.1, i.told_room, told_room o.number m.0 c.makes.client.outcomes.items c.make.new.client.outcomes.items m.2);
+    }
 
 pub returns-in-Err-clause-ran : goal.returns-in-Err-clause-ran
 returns-in-Err-clause-ran g c = let e = c.in-Err.ensures.none_ in ran_still g.O.Out.state c.args.table.now.rule.plan c.args.of c.args.operations.now c.makes.order c.args.client.now c.makes.client c.make.new.client c.makes.invariant.ran e.0 e.1 e.2 e.3
