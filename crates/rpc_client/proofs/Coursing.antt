@@ -30,6 +30,7 @@ use Rattle.rpc_client.specs.Reaching.{ReachedBy}
 use Rattle.rpc_client.specs.Opening.{OpenedBy}
 use Rattle.rpc_client.specs.Failing.{TriedTo, FailedBy}
 use Rattle.rpc_client.specs.Acting.{Stand, stand, MayMake, letter_of, label_of, Acted, ActedBy}
+use Rattle.rpc_client.proofs.Counting.{removed_there}
 use Rattle.rpc_client.proofs.Finding.{seen_became, seen_others, set_others}
 use Rattle.rpc_client.proofs.Delivering.{delivered_seen}
 use Rattle.sock_words.specs.declared.outcome.Outcome.{Outcome}
@@ -38,7 +39,7 @@ use Rattle.sock_model.specs.declared.view.View.{View}
 use Rattle.rpc_client.specs.declared.holding.Held.{Held}
 use Rattle.rpc_client.specs.Holding.{HeldBy, GivenBy, DroppedBy}
 use Rattle.rpc_client.specs.Sending.{Returned, SentWith, SentBy}
-use Rattle.rpc_client.specs.Running.{telling, finds_name, Course, Made, Ran, begins, RanTo, left_by, MayMakeAll, GaveFirst}
+use Rattle.rpc_client.specs.Running.{telling, finds_name, Course, Made, Ran, begins, RanTo, left_by, MayMakeAll, LeftBy, LeftFirst, GaveFirst}
 
 -- ## Giving back
 
@@ -189,3 +190,26 @@ telling_few number (Some by) = omega arith
 
 pub told_room : (number : ℕ) (by : Option Outcome) (old new : List Told) → new ≡ old ++ telling number by → length new ≤ length old + 1
 told_room number by old new e = let a = ap length e in let b = length-append old (telling number by) in let c = telling_few number by in omega arith
+
+left_passes : {O : Type 0} {g : Ghosts O} (p : Plan) (o : Operation) (a : Action) (s t : Stand g) → LeftBy p o a s t → length t.passes ≡ left_by a (length s.passes)
+left_passes p o action.Open s t b = let e = ap length b.1 in let d = length-append t.passes (b.0 ∷ []) in omega arith
+left_passes {O} {g} p o _ s t b = ap (λ (u : Stand g). length u.passes) b
+
+module _ {O : Type 0} {g : Ghosts O} (p : Plan) (os : List Operation) where
+  pub left_more : (n : ℕ) (o : Operation) (s t u : Stand g) → n < length os → o ≡ get_or os n o → LeftFirst p os n s t → LeftBy p o o.action t u → LeftFirst p os (n + 1) s u
+  left_more n o s t u lt e left by = subst (λ (k : ℕ). LeftFirst p os k s u) (sym (add-one n)) (t, o, left, removed_there os n o lt e, by)
+
+  pub may_left : (n : ℕ) (o : Operation) (s t : Stand g) → n < length os → o ≡ get_or os n o → LeftBy p o o.action s t → MayMakeAll p (drop n os) (length s.passes) → MayMakeAll p (drop (n + 1) os) (length t.passes)
+  may_left n o s t lt e by may = subst (λ (k : ℕ). MayMakeAll p (drop k os) (length t.passes)) (sym (add-one n)) (subst (λ (k : ℕ). MayMakeAll p (drop (suc n) os) k) (sym (left_passes p o o.action s t by)) (may_next p os n (length s.passes) o lt e may).1)
+
+none_length : {A : Type 0} (l : List A) → length l ≡ 0 → l ≡ []
+none_length [] e = refl
+none_length (x ∷ xs) e = absurd (omega arith)
+
+none_made : (p : Plan) (os : List Operation) (passes : ℕ) → length os ≡ 0 → MayMakeAll p os passes → passes ≡ 0
+none_made p [] passes e m = m
+none_made p (o ∷ os) passes e m = absurd (omega arith)
+
+-- no pass is left where no operation is
+pub none_left : {A : Type 0} (p : Plan) (os : List Operation) (n : ℕ) (passes : List A) → length os ≤ n → MayMakeAll p (drop n os) (length passes) → passes ≡ []
+none_left p os n passes le m = none_length passes (none_made p (drop n os) (length passes) (let a = length-drop n os in omega arith) m)

@@ -123,3 +123,30 @@ fn leave_all<O: Out>(client: &mut Client<O>, table: &SockTable<O>, operations: &
         leave_one(client, table, operation);
     }
 }
+
+/// There is room for what the operations tell and hold, and they are made, until memory is wanting: how many were made.
+fn make_some<O: Out, R: Wait, G: Gate>(
+    client: &mut Client<O>,
+    rt: &R,
+    table: &SockTable<O>,
+    of: u16,
+    operations: &[Operation],
+    gate: &G,
+) -> u16
+    requires few { length operations.now ≤ 65535 }
+    requires go { MayGo table.now.rule.table.shared.table_id table.now.rule.plan 0 client.old }
+    requires may { MayMakeAll table.now.rule.plan operations.now (length client.old.passes.items) }
+    ensures count { result ≤ length operations.now }
+    ensures go { MayGo table.now.rule.table.shared.table_id table.now.rule.plan result client.new }
+    ensures ran { RanTo O.state table.now.rule.plan of operations.now result client.old client.new }
+    ensures left { MayMakeAll table.now.rule.plan (drop result operations.now) (length client.new.passes.items) }
+{
+    let count = operations.len();
+    if client.outcomes.reserve(count).is_err() {
+        return 0;
+    }
+    if client.held.reserve(count).is_err() {
+        return 0;
+    }
+    make_all(client, rt, table, of, operations, gate)
+}
