@@ -131,6 +131,7 @@ pub fn act<O: Out, R: Wait>(
     ensures go { IfOk result (λ _. MayGo table.now.rule.table.shared.table_id table.now.rule.plan (order + 1) client.new) }
     ensures acted { IfOk result (λ o. ActedBy O.state table.now.rule.plan (label_of of order operation.now) operation.now o (stand client.old) (stand client.new)) }
     ensures seen { StaysSeen client.old.seat.me.0 client.new.seat.me.0 }
+    ensures share { client.new.seat.me.0.share ≡ client.old.seat.me.0.share }
     ensures none_ { IfErr result (λ _. (client.new.seat ≡ client.old.seat) × (client.new.passes ≡ client.old.passes) × (client.new.held ≡ client.old.held)) }
     ensures told { client.new.outcomes ≡ client.old.outcomes }
     ensures capacity { vec_capacity client.new.held ≡ vec_capacity client.old.held }

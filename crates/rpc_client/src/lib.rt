@@ -2,6 +2,7 @@
 #![tactic(auto)]
 
 mod acting;
+mod client;
 mod failing;
 mod holding;
 mod opening;
@@ -10,8 +11,9 @@ mod running;
 mod sending;
 
 pub use acting::{Action, Client, Operation, Told};
+pub use client::{NoClient, Spent};
 pub use failing::fail_one;
-pub use holding::{Held, drop_one, hold_one};
-pub use opening::open_one;
+pub use holding::{Held, drop_one, give_back, hold_one};
+pub use opening::{open_none, open_one};
 pub use reaching::{Reached, reach};
 pub use sending::send_one;

@@ -33,6 +33,7 @@ fn make<O: Out, R: Wait>(
     ensures go { IfOk result (λ _. MayGo table.now.rule.table.shared.table_id table.now.rule.plan (order + 1) client.new) }
     ensures made { IfOk result (λ _. (by : Option AnOutcome) × ActedBy O.state table.now.rule.plan (label_of of order operation.now) operation.now by (stand client.old) (stand client.new) × (client.new.outcomes.items ≡ client.old.outcomes.items ++ telling operation.now.number by)) }
     ensures seen { StaysSeen client.old.seat.me.0 client.new.seat.me.0 }
+    ensures share { client.new.seat.me.0.share ≡ client.old.seat.me.0.share }
     ensures none_ { IfErr result (λ _. (client.new.seat ≡ client.old.seat) × (client.new.passes ≡ client.old.passes) × (client.new.held ≡ client.old.held) × (client.new.outcomes ≡ client.old.outcomes)) }
     ensures capacity { (vec_capacity client.new.held ≡ vec_capacity client.old.held) × (vec_capacity client.new.outcomes ≡ vec_capacity client.old.outcomes) }
 {
@@ -63,6 +64,7 @@ fn make_all<O: Out, R: Wait, G: Gate>(
     ensures go { MayGo table.now.rule.table.shared.table_id table.now.rule.plan result client.new }
     ensures ran { RanTo O.state table.now.rule.plan of operations.now result client.old client.new }
     ensures left { MayMakeAll table.now.rule.plan (drop result operations.now) (length client.new.passes.items) }
+    ensures share { client.new.seat.me.0.share ≡ client.old.seat.me.0.share }
 {
     let mut order = 0u16;
     'makes: for operation in operations {
@@ -76,7 +78,7 @@ fn make_all<O: Out, R: Wait, G: Gate>(
 }
 
 /// All references are given back, the oldest first.
-fn give_all<O: Out>(table: &SockTable<O>, seat: &mut SockSeat<O>, held: &mut Vec<Held>)
+pub fn give_all<O: Out>(table: &SockTable<O>, seat: &mut SockSeat<O>, held: &mut Vec<Held>)
     requires idle { Idle table.now.rule.table.shared.table_id table.now.rule.plan seat.old }
     requires holder { IsHolder table.now.rule.plan held.old.items seat.old.me.0 }
     ensures rest { AtRest table.now.rule.table.shared.table_id table.now.rule.plan seat.old seat.new }
@@ -109,7 +111,7 @@ fn leave_one<O: Out>(client: &mut Client<O>, table: &SockTable<O>, operation: &O
 }
 
 /// None of these operations is made any more.
-fn leave_all<O: Out>(client: &mut Client<O>, table: &SockTable<O>, operations: &[Operation])
+pub fn leave_all<O: Out>(client: &mut Client<O>, table: &SockTable<O>, operations: &[Operation])
     requires idle { Idle table.now.rule.table.shared.table_id table.now.rule.plan client.old.seat }
     requires passes { All (IsPass table.now.rule.table.shared.table_id table.now.rule.plan) client.old.passes.items }
     requires may { MayMakeAll table.now.rule.plan operations.now (length client.old.passes.items) }
@@ -125,7 +127,7 @@ fn leave_all<O: Out>(client: &mut Client<O>, table: &SockTable<O>, operations: &
 }
 
 /// There is room for what the operations tell and hold, and they are made, until memory is wanting: how many were made.
-fn make_some<O: Out, R: Wait, G: Gate>(
+pub fn make_some<O: Out, R: Wait, G: Gate>(
     client: &mut Client<O>,
     rt: &R,
     table: &SockTable<O>,
@@ -140,6 +142,7 @@ fn make_some<O: Out, R: Wait, G: Gate>(
     ensures go { MayGo table.now.rule.table.shared.table_id table.now.rule.plan result client.new }
     ensures ran { RanTo O.state table.now.rule.plan of operations.now result client.old client.new }
     ensures left { MayMakeAll table.now.rule.plan (drop result operations.now) (length client.new.passes.items) }
+    ensures share { client.new.seat.me.0.share ≡ client.old.seat.me.0.share }
 {
     let count = operations.len();
     if client.outcomes.reserve(count).is_err() {

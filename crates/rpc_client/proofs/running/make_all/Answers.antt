@@ -1,4 +1,4 @@
-use Rattle.std.proofs.Common.{◌≡◌, ℕ, suc, ◌+◌, ◌<◌, get_or, add-one, drop, length, sym, subst, refl, arith}
+use Rattle.std.proofs.Common.{◌≡◌, ◌∙◌, ℕ, suc, ◌+◌, ◌<◌, get_or, add-one, drop, length, sym, subst, refl, arith}
 use Rattle.rpc_client.specs.Acting.{label_of, stand}
 use Rattle.rpc_client.specs.Running.{MayMakeAll}
 use Rattle.rpc_client.proofs.Counting.{removed_there}
@@ -12,6 +12,7 @@ makes-init g c = record {
   ran = ran_none g.O.Out.state c.args.table.now.rule.plan c.args.of c.args.operations.now c.args.client.now;
   left = c.requires.may;
   held_room = c.requires.room.0;
+  share = refl;
   told_room = omega (arith, c.requires.room.1);
 }
 
@@ -28,6 +29,7 @@ makes-preserved g c = let p = c.args.table.now.rule.plan in let i = c.makes.inva
       ran = ran_more g.O.Out.state p c.args.of c.args.operations.now n o c.args.client.now c.makes.client c.make.new.client m.0 (removed_there c.args.operations.now n o lt is) i.ran m.1 m.2 c.make.ensures.seen;
       left = subst (λ (k : ℕ). MayMakeAll p (drop k c.args.operations.now) (length c.make.new.client.passes.items)) (sym (add-one n)) (subst (λ (k : ℕ). MayMakeAll p (drop (suc n) c.args.operations.now) k) (sym (acted_passes g.O.Out.state p (label_of c.args.of n o) o o.action m.0 (stand c.makes.client) (stand c.make.new.client) m.1)) next);
       held_room = omega (arith, c.make.ensures.capacity.0, i.held_room);
+      share = c.make.ensures.share ∙ i.share;
       told_room = omega (arith, c.make.ensures.capacity.1, i.told_room, told_room o.number m.0 c.makes.client.outcomes.items c.make.new.client.outcomes.items m.2);
     }
 

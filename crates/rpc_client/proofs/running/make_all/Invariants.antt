@@ -10,5 +10,6 @@ invariant-makes g l = record {
   ran : RanTo g.O.Out.state l.table.rule.plan l.of l.operations l.order l.fn.client l.client;
   left : MayMakeAll l.table.rule.plan (drop l.order l.operations) (length l.client.passes.items);
   held_room : length l.operations ≤ vec_capacity l.client.held;
+  share : l.client.seat.me.0.share ≡ l.fn.client.seat.me.0.share;
   told_room : length l.client.outcomes.items + length l.operations ≤ vec_capacity l.client.outcomes + l.order;
 }
