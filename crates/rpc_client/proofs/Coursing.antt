@@ -1,5 +1,5 @@
 -- How a run goes on.
-use Rattle.std.proofs.Common.{◌≡◌, ◌≢◌, ℕ, zero, suc, ◌+◌, ◌-◌, ◌<◌, ◌≤◌, Bool, true, false, cond, Option, Some, None, inl, inr, List, [], ◌∷◌, ◌++◌, length, get_or, drop, length-drop, length-append, refl, sym, ap, ◌∙◌, subst, arith}
+use Rattle.std.proofs.Common.{◌≡◌, ◌≢◌, ℕ, zero, suc, ◌+◌, ◌-◌, ◌<◌, ◌≤◌, Bool, true, false, cond, Option, Some, None, inl, inr, List, [], ◌∷◌, ◌++◌, length, get_or, take, drop, length-drop, length-append, refl, sym, ap, ◌∙◌, subst, arith}
 use mathlib.Core.Option.{some, some-ne-none}
 use lib.ListN.{get_elem?}
 use Rattle.std.specs.List.{remove}
@@ -213,3 +213,13 @@ none_made p (o ∷ os) passes e m = absurd (omega arith)
 -- no pass is left where no operation is
 pub none_left : {A : Type 0} (p : Plan) (os : List Operation) (n : ℕ) (passes : List A) → length os ≤ n → MayMakeAll p (drop n os) (length passes) → passes ≡ []
 none_left p os n passes le m = none_length passes (none_made p (drop n os) (length passes) (let a = length-drop n os in omega arith) m)
+
+-- a list up to its end is the list
+pub take_whole : {A : Type 0} (n : ℕ) (l : List A) → length l ≤ n → take n l ≡ l
+take_whole zero [] le = refl
+take_whole zero (x ∷ xs) le = absurd (omega arith)
+take_whole (suc n) [] le = refl
+take_whole (suc n) (x ∷ xs) le = ap (λ l. x ∷ l) (take_whole n xs (omega arith))
+
+pub left_whole : {O : Type 0} {g : Ghosts O} (p : Plan) (os : List Operation) (n : ℕ) (s t : Stand g) → LeftFirst p (take (length os - n) (drop n os)) (length (take (length os - n) (drop n os))) s t → LeftFirst p (drop n os) (length (drop n os)) s t
+left_whole p os n s t left = subst (λ (l : List Operation). LeftFirst p l (length l) s t) (take_whole (length os - n) (drop n os) (let a = length-drop n os in omega arith)) left

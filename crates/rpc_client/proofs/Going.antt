@@ -21,7 +21,12 @@ use Rattle.rpc_client.specs.declared.holding.Held.{Held}
 use Rattle.rpc_client.specs.declared.reaching.Reached.TheVariants.{Here}
 use Rattle.rpc_client.specs.Seats.{MayAct, AtRest, SameRefs}
 use Rattle.rpc_client.specs.Reaching.{ReachedBy}
-use Rattle.rpc_client.specs.Holding.{is_there}
+use Rattle.rpc_client.specs.Holding.{is_there, IsHolder}
+use Rattle.std.specs.Prelude.{All}
+use Rattle.std.proofs.lemmas.List.Elements.{All-nil}
+use Rattle.sock_table.specs.Passes.{IsPass}
+use Rattle.sock_open.specs.Made.{IsNewSeat}
+use Rattle.sock_open.proofs.Making.{new_view, new_is_seat, new_between}
 use Rattle.rpc_client.specs.Sending.{CameBack, SentWith, SentBy}
 use Rattle.rpc_client.specs.Acting.{OwnList, MayGo}
 use Rattle.rpc_client.proofs.Counting.{holder_same}
@@ -62,8 +67,18 @@ module _ {O : Type 0} (state : O → OutState) (p : Plan) (k : ℕ) (msg : Lette
   sent_go z n c d (Err e) go rest by refs passes held = tt
   sent_go {E} {g} z n c d (Ok o) go rest by refs passes held = record {
     idle = rest.idle;
-    holder = subst (λ h. Rattle.rpc_client.specs.Holding.IsHolder p h.items d.seat.me.0) (sym held) (holder_same p c.held.items c.seat.me.0 go.holder d.seat.me.0 refs);
-    passes = subst (λ l. Rattle.std.specs.Prelude.All (Rattle.sock_table.specs.Passes.IsPass z p) l.items) (sym passes) go.passes;
+    holder = subst (λ h. IsHolder p h.items d.seat.me.0) (sym held) (holder_same p c.held.items c.seat.me.0 go.holder d.seat.me.0 refs);
+    passes = subst (λ l. All (IsPass z p) l.items) (sym passes) go.passes;
     few = (let a = go.few in let b = ap (λ h. length h.items) held in omega arith);
     own = sent_own n o c.seat.me.0 d.seat.me.0 go.own by;
   }
+
+-- a new seat begins
+pub new_go : {O : Type 0} {g : Ghosts O} (z : TableId) (p : Plan) (c : Client O g) → IsNewSeat z p c.seat → All (IsPass z p) c.passes.items → c.held.items ≡ [] → MayGo z p 0 c
+new_go z p c new passes none_ = let v = new_view z p c.seat new in record {
+  idle = record { seat = new_is_seat z p c.seat new; slots = ap (λ m. m.1) new.me; between = new_between z p c.seat new; claims = ap (λ (y : View). y.claims) v; loose = ap (λ (y : View). y.loose) v };
+  holder = subst (λ (h : List Held). IsHolder p h c.seat.me.0) (sym none_) (subst (λ (y : View). IsHolder p [] y) (sym v) record { refs = λ i. refl; lives = λ i h. refl; inside = All-nil (λ (x : Held). socket_id_slot x.id.0 < p.slots) });
+  passes = passes;
+  few = (let e = ap length none_ in omega arith);
+  own = record { made = []; taken_in = []; lists = ap (λ (y : View). y.lists) v; few = omega arith };
+}
