@@ -6,8 +6,6 @@ use lib.ListN.{get_elem?}
 use native.Mathlib.Decide.{ℕ_discrete, dec_lt}
 use Rattle.std.specs.List.{remove}
 use Rattle.std.proofs.lemmas.List.Elements.{All-push, All-get_or, All-append, All-take, All-drop}
-use Rattle.atomic_table.specs.Seated.{TableId}
-use Rattle.atomic_table.specs.declared.shared.Seat.{Seat}
 use Rattle.sock_words.specs.declared.plain.Plan.{Plan}
 use Rattle.sock_words.specs.Words.{socket_id_version, socket_id_slot}
 use Rattle.sock_model.specs.declared.marks.Mark.{Mark}
@@ -27,9 +25,9 @@ use Rattle.sock_table.specs.Answers.{Holds, GoneFrom}
 use Rattle.sock_table.specs.Answers as answers
 use Rattle.rpc_client.specs.declared.holding.Held.{Held}
 use Rattle.rpc_client.specs.Holding.{IsHolder, is_there, is_life}
-use Rattle.sock_table.specs.Named.{HasSeen, FindsId}
+use Rattle.sock_table.specs.Named.{FindsId}
 use Rattle.sock_open.proofs.Testing.{ended_refs}
-use Rattle.rpc_client.specs.Seats.{Idle, MayAct, AtRest, StaysSeen, SameRefs, OneMore}
+use Rattle.rpc_client.specs.Seats.{SameRefs, OneMore}
 
 hold_ref : (h : ℕ) (m : Mark) → is_hold h m ≤ is_ref m
 hold_ref h (Hold k) = only_le h k

@@ -39,7 +39,7 @@ use Rattle.sock_model.specs.declared.view.View.{View}
 use Rattle.rpc_client.specs.declared.holding.Held.{Held}
 use Rattle.rpc_client.specs.Holding.{HeldBy, GivenBy, DroppedBy}
 use Rattle.rpc_client.specs.Sending.{Returned, SentWith, SentBy}
-use Rattle.rpc_client.specs.Running.{telling, finds_name, Course, Made, Ran, begins, RanTo, left_by, MayMakeAll, LeftBy, LeftFirst, GaveFirst}
+use Rattle.rpc_client.specs.Running.{telling, finds_name, Course, Ran, begins, RanTo, left_by, MayMakeAll, LeftBy, LeftFirst, GaveFirst}
 
 -- ## Giving back
 

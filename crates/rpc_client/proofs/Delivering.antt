@@ -1,5 +1,5 @@
 -- A message that is accepted or refused, and what the seat has then.
-use Rattle.std.proofs.Common.{◌≡◌, ℕ, ◌+◌, ◌<◌, Option, Some, None, List, [], ◌∷◌, refl, sym, ap, ◌∙◌, subst, inr, arith}
+use Rattle.std.proofs.Common.{◌≡◌, ℕ, Option, Some, None, List, [], ◌∷◌, refl, sym, ap, ◌∙◌, subst, inr, arith}
 use Rattle.atomic_table.specs.Seated.{TableId}
 use Rattle.atomic_table.specs.declared.shared.Seat.{Seat}
 use Rattle.sock_io.specs.declared.link.Out.{Ghosts}
@@ -9,19 +9,16 @@ use Rattle.sock_words.specs.declared.outcome.Outcome.{Outcome}
 use Rattle.sock_words.specs.declared.outcome.Outcome.TheVariants as outcome
 use Rattle.sock_words.specs.Words.{socket_id_version, socket_id_slot}
 use Rattle.sock_model.specs.declared.chain.Heading.{Heading}
-use Rattle.sock_model.specs.declared.chain.Entry.{Entry}
 use Rattle.sock_model.specs.declared.marks.Mark.{Mark}
 use Rattle.sock_model.specs.declared.marks.Mark.TheVariants.{Saw}
 use Rattle.sock_model.specs.declared.view.View.{View}
 use Rattle.sock_model.specs.Weights.{total, is_ref}
-use Rattle.sock_model.specs.SlotRows.{marks_of}
-use Rattle.sock_rule.specs.Becoming.{Became}
 use Rattle.sock_rule.specs.Seated.{IsSeat}
 use Rattle.sock_rule.specs.declared.homes.Letter.{Letter}
-use Rattle.sock_table.specs.Refs.{IsBetween, GaveBack}
+use Rattle.sock_table.specs.Refs.{IsBetween}
 use Rattle.sock_table.specs.Answers.{Holds}
 use Rattle.sock_table.specs.declared.refs.SockRef.{SockRef}
-use Rattle.sock_table.proofs.Quiet.{between, saw_between}
+use Rattle.sock_table.proofs.Quiet.{saw_between}
 use Rattle.write_chain.specs.declared.entry.Started.{Started}
 use Rattle.write_chain.specs.declared.entry.Started.TheVariants as started
 use Rattle.write_chain.specs.declared.entry.Refused.{Refused}
@@ -30,8 +27,8 @@ use Rattle.write_chain.specs.Sending.{HasRoom, Accepted, StartedBy, RefusedBy}
 use Rattle.rpc_client.specs.declared.reaching.Reached.TheVariants.{Here}
 use Rattle.rpc_client.specs.Seats.{Idle, StaysSeen, SameRefs, OneMore}
 use Rattle.rpc_client.specs.Reaching.{ReachedBy}
-use Rattle.rpc_client.specs.Sending.{WroteAll, RefusedHolds, RefusedAs, sock_of, Returned, SeenThrough, WentOut, CameBack, DeliveredBy, SentWith, SentBy}
-use Rattle.rpc_client.proofs.Counting.{same_refs, refs_then, then_more, given}
+use Rattle.rpc_client.specs.Sending.{RefusedHolds, RefusedAs, sock_of, Returned, CameBack, DeliveredBy, SentBy}
+use Rattle.rpc_client.proofs.Counting.{same_refs, then_more, given}
 use Rattle.rpc_client.proofs.Finding.{holds_still, seen_same, seen_then, seen_became}
 use Rattle.rpc_client.proofs.Writing.{all_refs}
 

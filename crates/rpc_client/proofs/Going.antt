@@ -27,7 +27,7 @@ use Rattle.std.proofs.lemmas.List.Elements.{All-nil}
 use Rattle.sock_table.specs.Passes.{IsPass}
 use Rattle.sock_open.specs.Made.{IsNewSeat}
 use Rattle.sock_open.proofs.Making.{new_view, new_is_seat, new_between}
-use Rattle.rpc_client.specs.Sending.{CameBack, SentWith, SentBy}
+use Rattle.rpc_client.specs.Sending.{SentBy}
 use Rattle.rpc_client.specs.Acting.{OwnList, MayGo}
 use Rattle.rpc_client.proofs.Counting.{holder_same}
 use Rattle.rpc_client.proofs.Delivering.{came_lists}

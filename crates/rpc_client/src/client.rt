@@ -1,5 +1,5 @@
 // A client from its seat and passes to its outcomes.
-ghost use Rattle.std.specs.Prelude.{◌≡◌, ◌≤◌, ℕ, [], IfOk, IfErr, All, length, reverse};
+ghost use Rattle.std.specs.Prelude.{◌≡◌, ◌<◌, ◌≤◌, ℕ, [], IfOk, IfErr, All, length, reverse};
 ghost use Rattle.atomic_table.specs.Seated.{TableId};
 ghost use Rattle.sock_words.specs.declared.plain.Plan.{Plan};
 ghost use Rattle.sock_table.specs.Passes.{IsPass};
@@ -75,7 +75,7 @@ impl<O: Out> Client<O> {
         ensures done { IsDoneSeat table.now.rule.table.shared.table_id table.now.rule.plan self.new.seat }
         ensures share { self.new.seat.me.0.share ≡ self.old.seat.me.0.share }
         ensures empty { (self.new.held.items ≡ []) × (self.new.passes.items ≡ []) }
-        ensures ran { (r : RunBy O.state table.now.rule.plan of operations.now self.old self.new) × IfOk result (λ _. r.made ≡ length operations.now) }
+        ensures ran { (r : RunBy O.state table.now.rule.plan of operations.now self.old self.new) × IfOk result (λ _. r.made ≡ length operations.now) × IfErr result (λ _. r.made < length operations.now) }
     {
         let made = make_some(self, rt, table, of, operations, gate);
         leave_all(self, table, &operations[made as usize..]);

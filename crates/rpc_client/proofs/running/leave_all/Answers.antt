@@ -1,7 +1,7 @@
-use Rattle.std.proofs.Common.{◌≡◌, ◌∙◌, ◌<◌, get_or, length, refl, arith}
+use Rattle.std.proofs.Common.{◌∙◌, length}
 use Rattle.rpc_client.specs.Acting.{stand}
 use Rattle.rpc_client.proofs.Counting.{refs_then}
-use Rattle.rpc_client.proofs.Coursing.{left_more, may_left, may_next, none_left}
+use Rattle.rpc_client.proofs.Coursing.{left_more, may_left, may_next}
 use Rattle.rpc_client.proofs.running.leave_all.Goals as goal
 
 pub leave_one-requires-clause-may : goal.leave_one-requires-clause-may

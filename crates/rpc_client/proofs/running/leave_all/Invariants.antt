@@ -1,7 +1,7 @@
 use Rattle.std.proofs.Common.{◌≡◌, length, drop}
 use Rattle.std.specs.Prelude.{All}
 use Rattle.sock_table.specs.Passes.{IsPass}
-use Rattle.rpc_client.specs.Seats.{Idle, AtRest, SameRefs}
+use Rattle.rpc_client.specs.Seats.{Idle, SameRefs}
 use Rattle.rpc_client.specs.Acting.{stand}
 use Rattle.rpc_client.specs.Running.{MayMakeAll, LeftFirst}
 use Rattle.rpc_client.proofs.running.leave_all.Given as goal

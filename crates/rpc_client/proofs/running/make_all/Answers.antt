@@ -1,4 +1,4 @@
-use Rattle.std.proofs.Common.{◌≡◌, ◌∙◌, ℕ, suc, ◌+◌, ◌<◌, get_or, add-one, drop, length, sym, subst, refl, arith}
+use Rattle.std.proofs.Common.{◌≡◌, ◌∙◌, ℕ, suc, ◌<◌, get_or, add-one, drop, length, sym, subst, refl, arith}
 use Rattle.rpc_client.specs.Acting.{label_of, stand}
 use Rattle.rpc_client.specs.Running.{MayMakeAll}
 use Rattle.rpc_client.proofs.Counting.{removed_there}

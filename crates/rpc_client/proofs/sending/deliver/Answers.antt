@@ -1,8 +1,8 @@
-use Rattle.std.proofs.Common.{◌≡◌, ◌∙◌, sym, subst, [], ◌∷◌}
+use Rattle.std.proofs.Common.{sym, subst}
 use Rattle.sock_rule.specs.Shows.{heading_of}
 use Rattle.sock_table.specs.declared.refs.SockRef.{SockRef}
 use Rattle.write_chain.specs.Writing.{Begins}
-use Rattle.rpc_client.specs.Sending.{sock_of, SeenThrough}
+use Rattle.rpc_client.specs.Sending.{SeenThrough}
 use Rattle.rpc_client.proofs.Delivering.{sock_is, accepted_of, refused_holds, refused_idle, came_back}
 use Rattle.rpc_client.proofs.sending.deliver.Goals as goal
 

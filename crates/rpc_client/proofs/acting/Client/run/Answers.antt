@@ -1,4 +1,4 @@
-use Rattle.std.proofs.Common.{sym, subst}
+use Rattle.std.proofs.Common.{sym, subst, arith}
 use Rattle.rpc_client.specs.Acting.{stand}
 use Rattle.rpc_client.specs.Holding.{IsHolder}
 use Rattle.rpc_client.proofs.Counting.{holder_same}
@@ -21,6 +21,7 @@ returns-then-made-operations-clause-ran g c = (
     given = c.give_all.ensures.given;
   },
   c.if-made-operations.true,
+  tt,
 )
 
 pub returns-else-made-operations-clause-ran : goal.returns-else-made-operations-clause-ran
@@ -36,4 +37,5 @@ returns-else-made-operations-clause-ran g c = (
     given = c.give_all.ensures.given;
   },
   tt,
+  omega (arith, c.make_some-made.ensures.count, c.if-made-operations.false),
 )
