@@ -49,6 +49,7 @@ pub struct Told {
 }
 
 /// A client: its seat, the passes of its `open`s, the next one last, the references that it keeps, and what it tells.
+#[derive(Drop)]
 pub struct Client<O: Out> {
     pub seat: SockSeat<O>,
     pub passes: Vec<LinkPass<O>>,

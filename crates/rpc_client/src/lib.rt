@@ -17,3 +17,6 @@ pub use holding::{Held, drop_one, give_back, hold_one};
 pub use opening::{open_none, open_one};
 pub use reaching::{Reached, reach};
 pub use sending::send_one;
+
+#[cfg(test)]
+mod tests;
