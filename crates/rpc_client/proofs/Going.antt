@@ -23,9 +23,10 @@ use Rattle.rpc_client.specs.Seats.{MayAct, AtRest, SameRefs}
 use Rattle.rpc_client.specs.Reaching.{ReachedBy}
 use Rattle.rpc_client.specs.Holding.{is_there, IsHolder}
 use Rattle.std.specs.Prelude.{All}
-use Rattle.std.proofs.lemmas.List.Elements.{All-nil}
+use Rattle.std.proofs.lemmas.List.Elements.{All-nil, All-cons}
 use Rattle.sock_table.specs.Passes.{IsPass}
-use Rattle.sock_open.specs.Made.{IsNewSeat}
+use Rattle.sock_open.specs.Made.{IsNewSeat, PassesFrom}
+use Rattle.sock_table.specs.declared.passes.LinkPass.{LinkPass}
 use Rattle.sock_open.proofs.Making.{new_view, new_is_seat, new_between}
 use Rattle.rpc_client.specs.Sending.{SentBy}
 use Rattle.rpc_client.specs.Acting.{OwnList, MayGo}
@@ -82,3 +83,8 @@ new_go z p c new passes none_ = let v = new_view z p c.seat new in record {
   few = (let e = ap length none_ in omega arith);
   own = record { made = []; taken_in = []; lists = ap (λ (y : View). y.lists) v; few = omega arith };
 }
+
+-- the passes of a new table
+pub passes_all : {O : Type 0} {g : Ghosts O} (z : TableId) (p : Plan) (n : ℕ) (xs : List (LinkPass O g)) → PassesFrom z p n xs → All (IsPass z p) xs
+passes_all z p n [] a = All-nil (IsPass z p)
+passes_all z p n (x ∷ xs) a = All-cons (IsPass z p) x xs a.0 (passes_all z p (n + 1) xs a.2)

@@ -67,7 +67,9 @@ fn told<R: Wait>(
     requires few { length operations.now ≤ 65535 }
     requires may { MayMakeAll table.now.rule.plan operations.now (length passes.items) }
 {
-    let mut client = Client::new(alloc, seat, passes).ok()?;
+    let Ok(mut client) = Client::new(alloc, seat, passes) else {
+        return None;
+    };
     let ran = client.run(rt, table, 1, operations, &OpenGate);
     let Spent { seat: _, outcomes } = client.spent();
     ran.ok()?;
