@@ -23,6 +23,7 @@ use Rattle.slot_laws.proofs.Sums.{about-here}
 use Rattle.sock_rule.specs.Becoming.{Became}
 use Rattle.sock_rule.specs.Sending.{MaySwap, filled_for}
 use Rattle.sock_rule.proofs.Becoming.{adds_mark, becomes}
+use Rattle.sock_table.specs.Named.{HasSeen}
 use Rattle.sock_table.specs.Answers.{Holds}
 use Rattle.write_chain.specs.Sending.{HasRoom, MaySend, Accepted, IsFirst, FoundTaken}
 
@@ -86,6 +87,10 @@ module _ (p : Plan) (v a b : View) (id slot h k at own : ℕ) (c : Claim) (headi
         hands = ap (λ (y : View). y.hands) all;
         share = ap (λ (y : View). y.share) all;
         passes = ap (λ (y : View). y.passes) all;
+        seen = λ n h. (h.0, ap (λ (y : View). get_elem? y.found h.0) all ∙ h.1);
+        finds = ap (λ (y : View). y.finds) all;
+        histories = ap (λ (y : View). y.histories) all;
+        stores = ap (λ (y : View). y.stores) all;
       },
       ap (λ (y : View). y.rights) all ∙ rights,
     )
@@ -109,6 +114,10 @@ module _ (p : Plan) (v a b : View) (id slot h k at own : ℕ) (c : Claim) (headi
         hands = ap (λ (y : View). y.hands) all_r;
         share = ap (λ (y : View). y.share) all_r;
         passes = ap (λ (y : View). y.passes) all_r;
+        seen = λ n h. (h.0, ap (λ (y : View). get_elem? y.found h.0) all_r ∙ h.1);
+        finds = ap (λ (y : View). y.finds) all_r;
+        histories = ap (λ (y : View). y.histories) all_r;
+        stores = ap (λ (y : View). y.stores) all_r;
       },
       new_right (ready_claim (filled_for c k heading bytes)) found sent places,
       ap (λ (y : View). y.rights) all_r ∙ ap (λ (l : List Right). new_right (ready_claim (filled_for c k heading bytes)) found sent places ∷ l) rights,
@@ -125,12 +134,14 @@ pub record Asking (p : Plan) (id at : ℕ) (v w : View) : Type 0 where
   pub marks : Became (socket_id_slot id) v (record v { marks = w.marks }) (Saw (socket_id_version id) ∷ []) []
   pub others : w ≡ record v { marks = w.marks; found = w.found }
   pub taken : (q : ℕ) → q < at → FoundTaken p q w
+  pub seen : (x : ℕ) → HasSeen x v → HasSeen x w
 
 pub asks_first : (p : Plan) (id : ℕ) (v w : View) → Became (socket_id_slot id) v w (Saw (socket_id_version id) ∷ []) [] → Asking p id 0 v w
 asks_first p id v w b = record {
   marks = subst (λ (x : View). Became (socket_id_slot id) v x (Saw (socket_id_version id) ∷ []) []) b.others b;
   others = b.others ∙ (let e = ap (λ (x : View). x.found) b.others in λ i. record v { marks = w.marks; found = sym e i });
   taken = λ q lt. absurd (omega arith);
+  seen = λ x h. (h.0, ap (λ (y : View). get_elem? y.found h.0) b.others ∙ h.1);
 }
 
 pub asks_next : (p : Plan) (id at : ℕ) (v w x : View) → Asking p id at v w → x ≡ Rattle.sock_model.specs.Rule.noting (request_word p at) w → Asking p id (at + 1) v x
@@ -140,6 +151,7 @@ asks_next p id at v w x a e = record {
   taken = λ q lt. mathlib.Core.Logic.dite (native.Mathlib.Decide.ℕ_discrete q at)
       (λ s. (0, ap (λ (y : View). get_elem? y.found 0) e ∙ ap (λ (z : ℕ). some (request_word p z)) (sym s)))
       (λ ne. let t = a.taken q (omega arith) in (suc t.0, ap (λ (y : View). get_elem? y.found (suc t.0)) e ∙ t.1));
+  seen = λ n h. (let t = a.seen n h in (suc t.0, ap (λ (y : View). get_elem? y.found (suc t.0)) e ∙ t.1));
 }
 
 pub false_true : false ≡ true → ⊥
@@ -170,6 +182,10 @@ accepted_after p id at heading bytes c v w x a k = record {
   hands = k.hands ∙ ap (λ (y : View). y.hands) a.others;
   share = k.share ∙ ap (λ (y : View). y.share) a.others;
   passes = k.passes ∙ ap (λ (y : View). y.passes) a.others;
+  seen = λ n h. k.seen n (a.seen n h);
+  finds = k.finds ∙ ap (λ (y : View). y.finds) a.others;
+  histories = k.histories ∙ ap (λ (y : View). y.histories) a.others;
+  stores = k.stores ∙ ap (λ (y : View). y.stores) a.others;
 }
 
 pub started_after : {O : Type 0} {g : Ghosts O} (p : Plan) (sock : Rattle.sock_table.specs.declared.refs.SockRef.SockRef) (at : ℕ) (heading : Heading) (bytes : List ℕ) (c : Claim) (s : Rattle.write_chain.specs.declared.entry.Started.Started O g) (v w u x : View)

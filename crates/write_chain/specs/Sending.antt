@@ -17,6 +17,7 @@ use Rattle.sock_model.specs.ChainRows.{more}
 use Rattle.sock_model.specs.Rule.{MOST_ACCEPTED}
 use Rattle.sock_rule.specs.Becoming.{Became}
 use Rattle.sock_rule.specs.ChainPlays.{IsTicket}
+use Rattle.sock_table.specs.Named.{HasSeen}
 use Rattle.sock_table.specs.Refs.{IsBetween}
 use Rattle.write_chain.specs.declared.entry.Started.{Started}
 use Rattle.write_chain.specs.declared.entry.Started.TheVariants as started
@@ -53,6 +54,11 @@ pub record Accepted (notes : List Mark) (p : Plan) (id : ℕ) (heading : Heading
   pub hands : w.hands ≡ v.hands
   pub share : w.share ≡ v.share
   pub passes : w.passes ≡ v.passes
+  -- what was seen is seen still, and nothing was stored or found at names and operations
+  pub seen : (x : ℕ) → HasSeen x v → HasSeen x w
+  pub finds : w.finds ≡ v.finds
+  pub histories : w.histories ≡ v.histories
+  pub stores : w.stores ≡ v.stores
 
 -- the seat's one right is x, of this link up to this ticket, and nothing was done with it
 pub record IsFirst (x : Right) (k last : ℕ) : Type 0 where
@@ -78,4 +84,4 @@ FoundTaken p q w = (n : ℕ) × (get_elem? w.found n ≡ some (request_word p q)
 -- the order is as it was, and all comes back
 abbrev pub RefusedBy : Plan → SockRef → Letter → Refused → View → View → Type 0
 RefusedBy p sock msg (refused.Failed s m found) v w = (s ≡ sock) × (m ≡ msg) × (vref_version found.0 ≡ socket_id_version sock.id.0 + 1) × Became (socket_id_slot sock.id.0) v w (Saw (vref_version found.0) ∷ []) []
-RefusedBy p sock msg (refused.Full s m) v w = (s ≡ sock) × (m ≡ msg) × ((q : ℕ) → q < p.requests → FoundTaken p q w) × (w.lists ≡ v.lists) × (w.rights ≡ v.rights) × (w.claims ≡ []) × (w.loose ≡ []) × Became (socket_id_slot sock.id.0) v (record v { marks = w.marks }) (Saw (socket_id_version sock.id.0) ∷ []) [] × (w ≡ record v { marks = w.marks; found = w.found })
+RefusedBy p sock msg (refused.Full s m) v w = (s ≡ sock) × (m ≡ msg) × ((q : ℕ) → q < p.requests → FoundTaken p q w) × (w.lists ≡ v.lists) × (w.rights ≡ v.rights) × (w.claims ≡ []) × (w.loose ≡ []) × Became (socket_id_slot sock.id.0) v (record v { marks = w.marks }) (Saw (socket_id_version sock.id.0) ∷ []) [] × (w ≡ record v { marks = w.marks; found = w.found }) × ((x : ℕ) → HasSeen x v → HasSeen x w)

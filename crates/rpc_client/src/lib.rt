@@ -1,0 +1,22 @@
+//! A client on a table of sockets that threads share: its operations, each with its outcome.
+#![tactic(auto)]
+
+mod acting;
+mod client;
+mod failing;
+mod holding;
+mod opening;
+mod reaching;
+mod running;
+mod sending;
+
+pub use acting::{Action, Client, Operation, Told};
+pub use client::{NoClient, Spent};
+pub use failing::fail_one;
+pub use holding::{Held, drop_one, give_back, hold_one};
+pub use opening::{open_none, open_one};
+pub use reaching::{Reached, reach};
+pub use sending::send_one;
+
+#[cfg(test)]
+mod tests;

@@ -1,0 +1,35 @@
+// From a name to a reference.
+ghost use Rattle.std.specs.Prelude.{◌≡◌, ◌<◌};
+ghost use Rattle.rpc_client.specs.Seats.{MayAct, AtRest, StaysSeen, SameRefs};
+ghost use Rattle.rpc_client.specs.Reaching.{ReachedBy, RefsBy};
+
+use sock_io::Out;
+use sock_rule::SockSeat;
+use sock_table::{SockRef, SockTable};
+use sock_words::Vref;
+
+/// What a name leads to: nothing was opened under it yet, its socket is gone, or a reference.
+pub enum Reached {
+    Unopened,
+    Gone(Vref),
+    Here(SockRef),
+}
+
+/// The name is read, and its id is addressed.
+pub fn reach<O: Out>(table: &SockTable<O>, seat: &mut SockSeat<O>, name: u16) -> Reached
+    requires may { MayAct table.now.rule.table.shared.table_id table.now.rule.plan seat.old }
+    requires name { name < table.now.rule.plan.names }
+    ensures rest { AtRest table.now.rule.table.shared.table_id table.now.rule.plan seat.old seat.new }
+    ensures reached { ReachedBy table.now.rule.plan name result seat.old.me.0 seat.new.me.0 }
+    ensures refs { RefsBy result seat.old.me.0 seat.new.me.0 }
+    ensures lists { seat.new.me.0.lists ≡ seat.old.me.0.lists }
+    ensures seen { StaysSeen seat.old.me.0 seat.new.me.0 }
+{
+    let Some(id) = table.find(seat, name) else {
+        return Reached::Unopened;
+    };
+    match table.address(seat, id) {
+        Ok(sock) => Reached::Here(sock),
+        Err(gone) => Reached::Gone(gone.found),
+    }
+}
