@@ -22,3 +22,4 @@ pub mod Lists
 pub mod Firsts
 pub mod FirstRuns
 pub mod Beside
+pub mod AttemptedWords
