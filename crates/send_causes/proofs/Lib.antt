@@ -23,3 +23,6 @@ pub mod Firsts
 pub mod FirstRuns
 pub mod Beside
 pub mod AttemptedWords
+pub mod AttemptedIds
+pub mod AttemptedBegin
+pub mod AttemptedRuns
