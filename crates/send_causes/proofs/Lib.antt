@@ -26,3 +26,5 @@ pub mod AttemptedWords
 pub mod AttemptedIds
 pub mod AttemptedBegin
 pub mod AttemptedRuns
+pub mod AttemptedCalls
+pub mod AttemptedSent
