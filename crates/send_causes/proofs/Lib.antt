@@ -28,3 +28,5 @@ pub mod AttemptedBegin
 pub mod AttemptedRuns
 pub mod AttemptedCalls
 pub mod AttemptedSent
+pub mod AttemptedTrails
+pub mod AttemptedLoops
