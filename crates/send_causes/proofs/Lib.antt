@@ -30,3 +30,4 @@ pub mod AttemptedCalls
 pub mod AttemptedSent
 pub mod AttemptedTrails
 pub mod AttemptedLoops
+pub mod AttemptedPrograms
