@@ -31,3 +31,4 @@ pub mod AttemptedSent
 pub mod AttemptedTrails
 pub mod AttemptedLoops
 pub mod AttemptedPrograms
+pub mod AttemptedNames
