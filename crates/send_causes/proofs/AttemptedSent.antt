@@ -86,7 +86,7 @@ module _ (p : Plan) (q : IdPlan) (is_call : Asked → Type 0) (ids : ℕ → ℕ
 
 -- ## Lists
 
-get_same : {A : Type 0} (xs : List A) (i : ℕ) (x : A) → get_elem? xs i ≡ some x → slice_get xs i ≡ Some x
+pub get_same : {A : Type 0} (xs : List A) (i : ℕ) (x : A) → get_elem? xs i ≡ some x → slice_get xs i ≡ Some x
 get_same [] i x e = absurd (some-ne-none x (sym e))
 get_same (y ∷ xs) zero x e = ap (λ z. Some z) (some-injective y x e)
 get_same (y ∷ xs) (suc i) x e = get_same xs i x e
@@ -103,7 +103,7 @@ IsNamedOn script core k a = (client : ℕ) (t : Task) (asked : Asked) → IsTask
 
 module _ (script : List Item) (made : AreMade script) (there : AreThere script) (range : AllByRecursion InRange script) (turns : List Turn) (core : Core) (is : IsRunWithCalls script turns core) (closes : ClosesInRun script turns core is)
     (ids : ℕ → ℕ) (labelled : AreLabelledIn ids script turns core is) (rising : AreRisingIn ids script turns core is) (stored : AreStored ids script core)
-    (named : (k : ℕ) → k < (plan_of script).links → AllByRecursion (IsNamedOn script core k) (orders_of_run script made turns core is closes k).accepted) where
+    (named : (k : ℕ) → k < (plan_of script).links → AllByRecursion (λ (a : Accepted). IsSpoken (told_tasks_of script) a.operation → IsNamedOn script core k a) (orders_of_run script made turns core is closes k).accepted) where
   abbrev p : Plan
   p = plan_of script
 
@@ -145,13 +145,13 @@ module _ (script : List Item) (made : AreMade script) (there : AreThere script) 
     few_attempts o n some_ (inl none_) = omega (arith, none_)
     few_attempts o n some_ (inr x) = let same : o ≡ x.0 = single script made there range turns core is ids stored o x.0 some_ (sym x.1) in subst (λ y. n ≤ attempts_of_run script turns core is y) (sym same) x.2
 
-    lift : (k : ℕ) (a : Accepted) → causes.IsSent (told_tasks_of script) core.outcomes k a ⊎ IsSpoken (told_tasks_of script) a.operation → IsKind a → IsMade a → IsNamedOn script core k a → Sent k a
+    lift : (k : ℕ) (a : Accepted) → causes.IsSent (told_tasks_of script) core.outcomes k a ⊎ IsSpoken (told_tasks_of script) a.operation → IsKind a → IsMade a → (IsSpoken (told_tasks_of script) a.operation → IsNamedOn script core k a) → Sent k a
     lift k a (inl s) kind made_ name = OfSend s.client s.task s.name s.slot s.version (task_up (all_tasks script) (length (opens script)) core.outcomes s.client s.task s.is) s.numbered s.op s.first
         (made_up (all_tasks script) (length (opens script)) core.outcomes s.name k s.slot s.version s.life) s.untold
     lift k a (inr spoken) (inr t) made_ name = absurd (spoken t.0 t.1 t.2 t.3)
     lift k a (inr spoken) (inl x) made_ name = let w = x.1 in let m = made_ spoken in let o = shows script made there range turns core is ids stored closes a.operation m.0 in
         let task : IsTask (all_tasks script) core.outcomes w.0 w.2 = (w.1, get_same (all_tasks script) w.0 w.1 w.3, in_contains w.1 w.2 w.4) in let number : w.2.number ≡ a.operation = sym w.6 ∙ x.2 in
-        let life = name w.0 w.2 x.0 task number w.5 in
+        let life = name spoken w.0 w.2 x.0 task number w.5 in
         OfCall w.0 w.2 x.0 o.0 (ids a.operation) life.0 life.1 task number w.5 o.1 o.2 (few_attempts a.operation a.attempt m.0 m.1) x.4 life.2
 
     -- what each link accepted
@@ -160,7 +160,7 @@ module _ (script : List Item) (made : AreMade script) (there : AreThere script) 
         let counted = end_counted script made.are vs begins goes turns core is fits n bare ids one_each labelled rising in
         let sound = ended_sound script made.are vs begins goes turns core is fits in let rests = end_rests script made.are vs begins goes turns core is fits owes in
         let tells = run_told script made.are vs begins fresh goes turns core is fits owes in
-        four (λ (a : Accepted). causes.IsSent (told_tasks_of script) core.outcomes k a ⊎ IsSpoken (told_tasks_of script) a.operation) IsKind IsMade (IsNamedOn script core k) (Sent k) (lift k) (orders_of_run script made turns core is closes k).accepted
+        four (λ (a : Accepted). causes.IsSent (told_tasks_of script) core.outcomes k a ⊎ IsSpoken (told_tasks_of script) a.operation) IsKind IsMade (λ (a : Accepted). IsSpoken (told_tasks_of script) a.operation → IsNamedOn script core k a) (Sent k) (lift k) (orders_of_run script made turns core is closes k).accepted
         (tells.sent k low)
         (apart.all_kinds (plan_of script) (id_plan_of script) (IsCallOf script) ids (told_tasks_of script) (seats script made.are vs begins fresh goes turns core is fits) core (views_ended script turns core is vs)
         (final_told script made.are vs begins fresh goes turns core is fits).after.events (final_told script made.are vs begins fresh goes turns core is fits).after.lost sound

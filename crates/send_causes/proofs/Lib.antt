@@ -32,3 +32,6 @@ pub mod AttemptedTrails
 pub mod AttemptedLoops
 pub mod AttemptedPrograms
 pub mod AttemptedNames
+pub mod AttemptedLives
+pub mod AttemptedNamed
+pub mod AttemptedRun
