@@ -71,7 +71,7 @@ AdvancesId ids c m id = (o : ℕ) × (ids o ≢ 0) × (ids o ≡ id) × (advance
 abbrev pub AreRising : (ℕ → ℕ) → Plan → IdPlan → Core → List Moment → Type 0
 AreRising ids p q c [] = ℕ
 AreRising ids p q c (m ∷ ms) = ((i : ℕ) → i < q.slots → 0 < (word_of_id (ticked p c m).calls.words i).state
-    → Rise (word_of_id c.calls.words i) (word_of_id (ticked p c m).calls.words i) (AdvancesId ids c m (call_id i (word_of_id c.calls.words i).first))) × AreRising ids p q (ticked p c m) ms
+    → Rise (word_of_id c.calls.words i) (word_of_id (ticked p c m).calls.words i) (Unit {0}) (AdvancesId ids c m (call_id i (word_of_id c.calls.words i).first))) × AreRising ids p q (ticked p c m) ms
 
 module _ (p : Plan) (q : IdPlan) (narrow : q.slots ≤ 65536) (calls : List ℕ) where
   -- whoever stores an at word stores one of the operation's own id
@@ -86,8 +86,8 @@ module _ (p : Plan) (q : IdPlan) (narrow : q.slots ≤ 65536) (calls : List ℕ)
 
   -- the call that a tick advances has the id
   own_rise : (ids : ℕ → ℕ) (c : Core) (has : ℕ → ℕ) (left : ℕ → ℕ → Bool) → Owned q calls c has left → Grows has ids → (m : Moment) (i : ℕ) → i < q.slots → (d : Core)
-      → Rise (word_of_id c.calls.words i) (word_of_id d.calls.words i) (AdvancesAt c m i) → Rise (word_of_id c.calls.words i) (word_of_id d.calls.words i) (AdvancesId ids c m (call_id i (word_of_id c.calls.words i).first))
-  own_rise ids c has left owned grows m i low d (is_new z) = is_new z
+      → Rise (word_of_id c.calls.words i) (word_of_id d.calls.words i) (Unit {0}) (AdvancesAt c m i) → Rise (word_of_id c.calls.words i) (word_of_id d.calls.words i) (Unit {0}) (AdvancesId ids c m (call_id i (word_of_id c.calls.words i).first))
+  own_rise ids c has left owned grows m i low d (is_new n z) = is_new n z
   own_rise ids c has left owned grows m i low d (is_same f live a) = is_same f live a
   own_rise ids c has left owned grows m i low d (is_more f live a more) = let mine = owned.homes i low more.0 more.1 (λ z. omega (arith, z, live)) in let same : ids more.0.operation ≡ call_id i (word_of_id c.calls.words i).first = grows more.0.operation (λ z. mine.0 (sym mine.1 ∙ z)) ∙ mine.1 in
       is_more f live a (more.0.operation, (λ z. mine.0 (sym same ∙ z)), same, more.2)

@@ -80,8 +80,8 @@ module _ (p : Plan) (q : IdPlan) (narrow : q.slots ≤ 65536) (is_call : Asked �
     grown : (o : ℕ) → so o ≤ more o
     grown o = let a = up o in omega (arith, a)
 
-    risen_within : (i : ℕ) (old new : Parts) → (0 < old.state → IsWithin so (call_id i old.first) old.attempt) → Rise old new (AdvancesId ids c m (call_id i old.first)) → IsWithin more (call_id i new.first) new.attempt
-    risen_within i old new had (is_new z) = inl z
+    risen_within : (i : ℕ) (old new : Parts) → (0 < old.state → IsWithin so (call_id i old.first) old.attempt) → Rise old new (Unit {0}) (AdvancesId ids c m (call_id i old.first)) → IsWithin more (call_id i new.first) new.attempt
+    risen_within i old new had (is_new n z) = inl z
     risen_within i old new had (is_same first live same) = subst (λ f. IsWithin more (call_id i f) new.attempt) (sym first) (subst (IsWithin more (call_id i old.first)) (sym same) (more_within so more grown (call_id i old.first) old.attempt (had live)))
     risen_within i old new had (is_more first live one a) = subst (λ f. IsWithin more (call_id i f) new.attempt) (sym first) (subst (IsWithin more (call_id i old.first)) (sym one)
         (inr (a.0, a.2, (let most = up a.0 in let once = times_one a.0 (advanced_at c m) a.3 in ⊎_elim (λ z. omega (arith, z, most, once))
@@ -91,7 +91,7 @@ module _ (p : Plan) (q : IdPlan) (narrow : q.slots ≤ 65536) (is_call : Asked �
   id_of id first slot s f = ap (λ x. call_id x first) s ∙ ap (call_id (id_slot id)) f ∙ (let z : call_id (id_slot id) (id_first id) ≡ id = omega arith in z)
 
   one_tick : (so more : ℕ → ℕ) (c : Core) (vs : List View) (us : List IdView) (real : SoundIds p q c us) → Sound p c vs → (m : Moment) → IsAnswered c m → IsFittingIds p c m → StoresOwn ids c m
-      → ((i : ℕ) → i < q.slots → 0 < (word_of_id (ticked p c m).calls.words i).state → Rise (word_of_id c.calls.words i) (word_of_id (ticked p c m).calls.words i) (AdvancesId ids c m (call_id i (word_of_id c.calls.words i).first)))
+      → ((i : ℕ) → i < q.slots → 0 < (word_of_id (ticked p c m).calls.words i).state → Rise (word_of_id c.calls.words i) (word_of_id (ticked p c m).calls.words i) (Unit {0}) (AdvancesId ids c m (call_id i (word_of_id c.calls.words i).first)))
       → ((o : ℕ) → so o + times o (advanced_at c m) ≤ more o) → Counted so c vs → Counted more (ticked p c m) (views_after p c vs m)
   one_tick so more c vs us real sound m answered fits own rises up k = let next = label_ticks p q narrow is_call ids c vs k.trials k.law us real sound m answered fits own in record {
     trials = next.0;
