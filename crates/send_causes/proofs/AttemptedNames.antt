@@ -57,7 +57,7 @@ use Rattle.send_causes.proofs.AttemptedPrograms.{block_goes, retry_goes}
 
 -- ## First steps
 
-follows_first : (is_call : Asked → Type 0) (t : Trail) (program : Program) → Follows is_call t program → Follows is_call t (first_step program)
+pub follows_first : (is_call : Asked → Type 0) (t : Trail) (program : Program) → Follows is_call t program → Follows is_call t (first_step program)
 follows_first is_call t (Write w after) g = block_goes is_call t w after g
 follows_first is_call t (Round head next) g = follows_round is_call t head next g
 follows_first is_call t (Do call next) g = g
@@ -73,7 +73,7 @@ follows_first is_call t (Aside step next) g = g
 follows_first is_call t (Keep r next) g = g
 follows_first is_call t (Retries requests after) g = g
 
-ids_first : (p : Plan) (q : IdPlan) → q.slots ≤ 65536 → (u : IdView) (program : Program) → IdGoesOn p q u program → IdGoesOn p q u (first_step program)
+pub ids_first : (p : Plan) (q : IdPlan) → q.slots ≤ 65536 → (u : IdView) (program : Program) → IdGoesOn p q u program → IdGoesOn p q u (first_step program)
 ids_first p q narrow u (Write w after) g = id_programs.block_goes p q narrow u w after g
 ids_first p q narrow u (Round head next) g = ids_round p q u head next g
 ids_first p q narrow u (Do call next) g = g
@@ -90,7 +90,7 @@ ids_first p q narrow u (Keep r next) g = g
 ids_first p q narrow u (Retries requests after) g = g
 
 -- what is found of a step on the sockets
-fits_as : (p : Plan) (c : Core) (program : Program) (call : Call) (next : ℕ → Program) → first_step program ≡ Do call next → FitsFirst p c (goes.first_of program) → FitsSock call (found_at c.words (word_of p call))
+pub fits_as : (p : Plan) (c : Core) (program : Program) (call : Call) (next : ℕ → Program) → first_step program ≡ Do call next → FitsFirst p c (goes.first_of program) → FitsSock call (found_at c.words (word_of p call))
 fits_as p c program call next e f = by program e f
   where
     by : (program : Program) → first_step program ≡ Do call next → FitsFirst p c (goes.first_of program) → FitsSock call (found_at c.words (word_of p call))
@@ -111,7 +111,7 @@ fits_as p c program call next e f = by program e f
 
 -- ## Calls at home
 
-abbrev PutsCall : (Asked → Type 0) → Step → Type 0
+abbrev pub PutsCall : (Asked → Type 0) → Step → Type 0
 PutsCall is_call (PutCall i asked) = is_call asked
 PutsCall is_call other = Unit {0}
 
@@ -131,7 +131,7 @@ calls_given : (is_call : Asked → Type 0) (k : ℕ) (t : Taking) (a : Calls) �
 calls_given is_call k (Bytes bytes) a h = h
 calls_given is_call k _ a h = h
 
-calls_behind : (is_call : Asked → Type 0) (x : Step) (found : Found x) (a : Calls) → PutsCall is_call x → AreCalls is_call a → AreCalls is_call (calls_after x found a)
+pub calls_behind : (is_call : Asked → Type 0) (x : Step) (found : Found x) (a : Calls) → PutsCall is_call x → AreCalls is_call a → AreCalls is_call (calls_after x found a)
 calls_behind is_call (PutCall i asked) found a puts h = λ n other at. ⊎_elim
     (λ r. subst is_call (one_asked asked other r.1) puts) (λ r. h n other (ap call_at r.1))
     (at_set a.homes i n (some (std.Some asked)) (some (std.Some other)) (home_is (get_elem? (set a.homes i (some (std.Some asked))) n) other at))
@@ -281,7 +281,7 @@ few_more : (ws : List Retry) (r : Retry) → AllByRecursion (λ (x : Retry). x.a
 few_more [] r all one = (one, tt)
 few_more (w ∷ ws) r all one = (all.0, few_more ws r all.1 one)
 
-few_of : (q : IdPlan) (ws : List Retry) → AllByRecursion (FitsRetryId q) ws → AllByRecursion (λ (x : Retry). x.attempt ≤ 6) ws
+pub few_of : (q : IdPlan) (ws : List Retry) → AllByRecursion (FitsRetryId q) ws → AllByRecursion (λ (x : Retry). x.attempt ≤ 6) ws
 few_of q [] all = tt
 few_of q (w ∷ ws) all = (all.0.1, few_of q ws all.1)
 

@@ -35,3 +35,5 @@ pub mod AttemptedNames
 pub mod AttemptedLives
 pub mod AttemptedNamed
 pub mod AttemptedRun
+pub mod AttemptedFacts
+pub mod AttemptedOwn
