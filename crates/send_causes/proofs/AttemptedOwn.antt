@@ -136,17 +136,224 @@ module _ (p : Plan) (q : IdPlan) (narrow : q.slots ≤ 65536) (is_call : Asked �
 
     -- ## Steps aside
 
-    module _ (u : IdView) (at : get_elem? us i ≡ some u) (step : Step) (next : Found step → Program) (first_is : first_step seat.program ≡ Aside step next) (found : Found step) (answer : Option Taking) (found_is : found_in step c.calls answer ≡ some found)
-        (go : IdGoesOn p q u (Aside step next)) (g : Follows is_call t (Aside step next)) where
-      finds_id : FindsId p q u step found
-      finds_id = finds_ids p q c.calls real_ids.plan us real_ids.rule i u at (real_ids.real i u at) (real_ids.called, real_ids.placed) real_ids.homes step answer found found_is go.0
-
-      -- what the ids allow of the next step
-      ahead : IdGoesOn p q (id_row q step found no_call u) (next found)
-      ahead = go.1 found no_call finds_id
-
+    module _ (u : IdView) (at : get_elem? us i ≡ some u) where
       sized : std.length c.calls.words ≡ all_words q
       sized = real_ids.rule.sized
 
-      abbrev Then : Core
-      Then = with_seat i (next found) seat.hand c.words c.homes (record c { calls = calls_after step found c.calls })
+      abbrev Then : (step : Step) → Found step → Program → Core
+      Then step found x = with_seat i x seat.hand c.words c.homes (record c { calls = calls_after step found c.calls })
+
+      other_kept : (x w o id : ℕ) → call_word q o ≢ x → IsStored q c o id → get_or (set c.calls.words x w) (call_word q o) 0 ≡ id
+      other_kept x w o id ne s = get_or-set_other c.calls.words x (call_word q o) w 0 ne ∙ s
+
+      stored_here : (o id : ℕ) → o < q.operations → get_or (set c.calls.words (call_word c.calls.plan o) id) (call_word q o) 0 ≡ id
+      stored_here o id low = subst (λ (r : IdPlan). get_or (set c.calls.words (call_word r o) id) (call_word q o) 0 ≡ id) (sym real_ids.plan) (get_or-set_same c.calls.words (call_word q o) id 0 (omega (arith, sized, low)))
+
+      -- the word of a call stays
+      words_kept : (step : Step) (next : Found step → Program) (found : Found step) → first_step seat.program ≡ Aside step next → MayId p q u step → (o id : ℕ) → o < q.operations → id ≢ 0 → IsStored q c o id → get_or (calls_after step found c.calls).words (call_word q o) 0 ≡ id
+      words_kept (ClaimId k) next found is may o id low some_ s = other_kept (tag_word k) 1 o id (λ e. omega (arith, e, may)) s
+      words_kept (PutCall k asked) next found is may o id low some_ s = s
+      words_kept (MakeId k range) next found is may o id low some_ s = let in_ = may.0 in other_kept (id_word k) _ o id (λ e. omega (arith, e, in_)) s
+      words_kept (StoreCall x y) next found is may o id low some_ s = dite (ℕ_discrete x o)
+          (λ same. let one = facts.one_store o id y i seat (λ z. next z) low some_ s at_seat (is ∙ ap (λ n. Aside (StoreCall n y) next) same) in
+          subst (λ n. get_or (set c.calls.words (call_word c.calls.plan n) y) (call_word q o) 0 ≡ id) (sym same) (stored_here o y low ∙ one))
+          (λ far. subst (λ (r : IdPlan). get_or (set c.calls.words (call_word r x) y) (call_word q o) 0 ≡ id) (sym real_ids.plan) (other_kept (call_word q x) y o id (λ e. far (omega (arith, e))) s))
+      words_kept (LoadCall x) next found is may o id low some_ s = s
+      words_kept (StoreAt x w) next found is may o id low some_ s = subst (λ (r : IdPlan). get_or (set c.calls.words (at_word r x) w) (call_word q o) 0 ≡ id) (sym real_ids.plan) (other_kept (at_word q x) w o id (λ e. omega (arith, e)) s)
+      words_kept (LoadAt x) next found is may o id low some_ s = s
+      words_kept (LoadIdWord k) next found is may o id low some_ s = s
+      words_kept (LockId k from) next found is may o id low some_ s = let in_ = may.0 in other_kept (id_word k) _ o id (λ e. omega (arith, e, in_)) s
+      words_kept (PostId k from e) next found is may o id low some_ s = let in_ = may.0 in other_kept (id_word k) _ o id (λ e. omega (arith, e, in_)) s
+      words_kept (UnlockId k from advance) next found is may o id low some_ s = let in_ = may.0 in other_kept (id_word k) _ o id (λ e. omega (arith, e, in_)) s
+      words_kept (EndId k) next found is may o id low some_ s = let in_ = may.0 in other_kept (id_word k) _ o id (λ e. omega (arith, e, in_)) s
+      words_kept (FreeId k) next found is may o id low some_ s = let in_ = may.0 in other_kept (tag_word k) 0 o id (λ e. omega (arith, e, in_)) s
+      words_kept (TakeCall k) next found is may o id low some_ s = s
+      words_kept (TakeBytes k room) next (Bytes bytes) is may o id low some_ s = s
+      words_kept (TakeBytes k room) next found is may o id low some_ s = s
+
+      -- a seat that was to store it has stored it
+      store_mine : (step : Step) (next : Found step → Program) (found : Found step) (o id : ℕ) (after : Found (StoreCall o id) → Program) → o < q.operations → Aside step next ≡ Aside (StoreCall o id) after → get_or (calls_after step found c.calls).words (call_word q o) 0 ≡ id
+      store_mine (StoreCall x y) next found o id after low e = let a : x ≡ o = cc in let b : y ≡ id = cc in subst (λ n. get_or (set c.calls.words (call_word c.calls.plan n) y) (call_word q o) 0 ≡ id) (sym a) (stored_here o y low ∙ b)
+      store_mine (ClaimId k) next found o id after low e = absurd cc
+      store_mine (PutCall k asked) next found o id after low e = absurd cc
+      store_mine (MakeId k range) next found o id after low e = absurd cc
+      store_mine (LoadCall x) next found o id after low e = absurd cc
+      store_mine (StoreAt x w) next found o id after low e = absurd cc
+      store_mine (LoadAt x) next found o id after low e = absurd cc
+      store_mine (LoadIdWord k) next found o id after low e = absurd cc
+      store_mine (LockId k from) next found o id after low e = absurd cc
+      store_mine (PostId k from x) next found o id after low e = absurd cc
+      store_mine (UnlockId k from advance) next found o id after low e = absurd cc
+      store_mine (EndId k) next found o id after low e = absurd cc
+      store_mine (FreeId k) next found o id after low e = absurd cc
+      store_mine (TakeCall k) next found o id after low e = absurd cc
+      store_mine (TakeBytes k room) next found o id after low e = absurd cc
+
+      stays_aside : (step : Step) (next : Found step → Program) (found : Found step) → first_step seat.program ≡ Aside step next → MayId p q u step → (o id : ℕ) → IsOwn q c o id → IsOwn q (Then step found (next found)) o id
+      stays_aside step next found is may = own_on (calls_after step found c.calls) (next found) seat.hand c.words c.homes (calls_waiting step found c.calls) (words_kept step next found is may) (λ o id after low e. store_mine step next found o id after low (sym is ∙ ap first_step e))
+
+      -- ## A new range
+
+      -- what stores the word of its call
+      storing_of : (id : ℕ) (program : Program) → trails.IsStoring id program → (o x : ℕ) × (after : Found (StoreCall o x) → Program) × (program ≡ Aside (StoreCall o x) after) × (x ≡ id)
+      storing_of id (Aside (StoreCall o x) after) h = (o, x, after, refl, h)
+      storing_of id (Do call next) h = absurd h
+      storing_of id (Say o outcome next) h = absurd h
+      storing_of id (Sent o next) h = absurd h
+      storing_of id Rest h = absurd h
+      storing_of id (TakeMessage r next) h = absurd h
+      storing_of id (TakeHome k next) h = absurd h
+      storing_of id (PutHome k n after) h = absurd h
+      storing_of id (PutBytes k asked bytes next) h = absurd h
+      storing_of id (AskReady k next) h = absurd h
+      storing_of id (Write w after) h = absurd h
+      storing_of id (Round head next) h = absurd h
+      storing_of id (Keep r next) h = absurd h
+      storing_of id (Retries n after) h = absurd h
+      storing_of id (Aside step next) h = absurd h
+
+      made_own : (k range : ℕ) (next : ℕ → Program) (found : ℕ) → IdGoesOn p q (id_row q (MakeId k range) found no_call u) (next found) → trails.IsStoring (call_id k (parts found).first) (next found) → (o : ℕ) × IsOwn q (Then (MakeId k range) found (next found)) o (call_id k (parts found).first)
+      made_own k range next found ahead storing = let s = storing_of (call_id k (parts found).first) (next found) storing in
+          let may : MayId p q (id_row q (MakeId k range) found no_call u) (StoreCall s.0 s.1) = (subst (IdGoesOn p q (id_row q (MakeId k range) found no_call u)) s.3 ahead).0 in
+          (s.0, subst (IsOwn q (Then (MakeId k range) found (next found)) s.0) s.4 (record {
+            inside = may.0;
+            some_ = may.1;
+            either = inr (record {
+              seat = i;
+              state = record { program = next_step (resolved (waiting_at c.calls.waiting i) (next found)); hand = seat.hand };
+              next = s.2;
+              at = set_here c.seats i (record { program = next_step (resolved (waiting_at c.calls.waiting i) (next found)); hand = seat.hand }) (at_length c.seats i seat at_seat);
+              is = ap (λ x. next_step (resolved (waiting_at c.calls.waiting i) x)) s.3;
+            });
+          }))
+
+      made_range : (step : Step) (next : Found step → Program) (found : Found step) (x : Trail) → IdGoesOn p q (id_row q step found no_call u) (next found) → GoesAside is_call t step (next found) found x → (k : ℕ) → IsMakeAt step found k (word_of_id (calls_after step found c.calls).words k)
+          → (o : ℕ) × IsOwn q (Then step found (next found)) o (call_id k (word_of_id (calls_after step found c.calls).words k).first)
+      made_range (MakeId m range) next found x ahead g k made = let r = made_own m range next found ahead g.1 in
+          (r.0, subst (IsOwn q (Then (MakeId m range) found (next found)) r.0) (ap (λ n. call_id n (parts found).first) made.0 ∙ ap (call_id k) (sym made.1)) r.1)
+      made_range (ClaimId m) next found x ahead g k made = absurd made
+      made_range (PutCall m asked) next found x ahead g k made = absurd made
+      made_range (StoreCall y z) next found x ahead g k made = absurd made
+      made_range (LoadCall y) next found x ahead g k made = absurd made
+      made_range (StoreAt y w) next found x ahead g k made = absurd made
+      made_range (LoadAt y) next found x ahead g k made = absurd made
+      made_range (LoadIdWord m) next found x ahead g k made = absurd made
+      made_range (LockId m from) next found x ahead g k made = absurd made
+      made_range (PostId m from e) next found x ahead g k made = absurd made
+      made_range (UnlockId m from advance) next found x ahead g k made = absurd made
+      made_range (EndId m) next found x ahead g k made = absurd made
+      made_range (FreeId m) next found x ahead g k made = absurd made
+      made_range (TakeCall m) next found x ahead g k made = absurd made
+      made_range (TakeBytes l room) next found x ahead g k made = absurd made
+
+      -- each range that lives behind the step is that of a call
+      ranges_after : (step : Step) (next : Found step → Program) (found : Found step) (answer : Option Taking) → first_step seat.program ≡ Aside step next → found_in step c.calls answer ≡ some found → MayId p q u step → (x : Trail) → IdGoesOn p q (id_row q step found no_call u) (next found)
+          → GoesAside is_call t step (next found) found x → (k : ℕ) → k < q.slots → 0 < (word_of_id (calls_after step found c.calls).words k).state → (o : ℕ) × IsOwn q (Then step found (next found)) o (call_id k (word_of_id (calls_after step found c.calls).words k).first)
+      ranges_after step next found answer first_is is may x ahead g k low live = by_rise (risen p q c us real_ids i u at step answer found is may k low live)
+        where
+          old : 0 < (word_of_id c.calls.words k).state → (word_of_id (calls_after step found c.calls).words k).first ≡ (word_of_id c.calls.words k).first → (o : ℕ) × IsOwn q (Then step found (next found)) o (call_id k (word_of_id (calls_after step found c.calls).words k).first)
+          old some_ first = let r = law.ranges k low some_ in (r.0, subst (λ f. IsOwn q (Then step found (next found)) r.0 (call_id k f)) (sym first) (stays_aside step next found first_is may r.0 (call_id k (word_of_id c.calls.words k).first) r.1))
+
+          by_rise : Rise (word_of_id c.calls.words k) (word_of_id (calls_after step found c.calls).words k) (IsMakeAt step found k (word_of_id (calls_after step found c.calls).words k)) (Rattle.send_causes.proofs.AttemptedWords.Advances p q c us real_ids step found k)
+              → (o : ℕ) × IsOwn q (Then step found (next found)) o (call_id k (word_of_id (calls_after step found c.calls).words k).first)
+          by_rise (is_new made zero_) = made_range step next found x ahead g k made
+          by_rise (is_same first some_ same) = old some_ first
+          by_rise (is_more first some_ one_more more) = old some_ first
+
+      -- ## A call that is put back
+
+      has_one : (k : ℕ) (w : IdView) (tok : Token Asked) → w.tokens ≡ one k tok → tokens_in k w ≡ tok ∷ []
+      has_one k w tok e = ap (tokens_of k) e ∙ ap (λ b. cond b (tok ∷ []) []) (Rattle.std.proofs.Common.eq-eqb k k refl)
+
+      back_row : (k found : ℕ) (asked : Asked) (tok : Token Asked) → HasOne k tok u → tokens_in k (id_row q (PutCall k asked) found no_call u) ≡ with_hand tok (Full asked) ∷ []
+      back_row k found asked tok has = ap (λ l. tokens_in k (by_token l (λ x. with_token k (with_hand x (Full asked)) u) u)) has ∙ token_here k (with_hand tok (Full asked)) u
+
+      put_own : (k : ℕ) (asked : Asked) (next : ℕ → Program) (found : ℕ) → first_step seat.program ≡ Aside (PutCall k asked) next → MayId p q u (PutCall k asked) → (w : ℕ) (advance : Bool) (after : Exit (Unlocks k w advance) → Program) → next found ≡ Round (Unlocks k w advance) after
+          → IdGoesOn p q (id_row q (PutCall k asked) found no_call u) (next found) → IsOwn q c asked.operation (call_id k (parts w).first)
+      put_own k asked next found first_is may w advance after is ahead = let l = (subst (IdGoesOn p q (id_row q (PutCall k asked) found no_call u)) is ahead).0.1 in ⊎_elim
+          (λ claims. absurd (let e : Claimed claims.0 (Full asked) ∷ [] ≡ Locked l.f l.rg l.att l.c l.o l.s (Full l.c) ∷ [] = sym (back_row k found asked (Claimed claims.0 Empty) claims.1) ∙ has_one k (id_row q (PutCall k asked) found no_call u) (Locked l.f l.rg l.att l.c l.o l.s (Full l.c)) l.tokens in cc))
+          (λ lock. let e : Locked lock.0 lock.1 lock.2 asked lock.3 lock.4 (Full asked) ∷ [] ≡ Locked l.f l.rg l.att l.c l.o l.s (Full l.c) ∷ [] = sym (back_row k found asked (Locked lock.0 lock.1 lock.2 asked lock.3 lock.4 Empty) lock.5) ∙ has_one k (id_row q (PutCall k asked) found no_call u) (Locked l.f l.rg l.att l.c l.o l.s (Full l.c)) l.tokens in
+          let same : lock.0 ≡ l.f = cc in
+          let here = locked_first (real_ids.rule.slots k may.0).b (local (id_state c.calls us) k) lock.0 lock.1 lock.2 asked lock.3 lock.4 Empty (real_ids.rule.slots k may.0).stands
+          (allowed.own q i (u, []) k may.0 (real_ids.real i u at) (id_state c.calls us) real_ids.rule at (Locked lock.0 lock.1 lock.2 asked lock.3 lock.4 Empty) lock.5) in
+          let two : (word_of_id c.calls.words k).state ≡ 2 = here.1 in let first : (word_of_id c.calls.words k).first ≡ lock.0 = here.0 in
+          let r = law.ranges k may.0 (omega (arith, two)) in let o = facts.put_back k r.0 i asked seat next at_seat first_is two r.1 in
+          subst (λ f. IsOwn q c asked.operation (call_id k f)) (first ∙ (same ∙ l.word_is.first_is)) (subst (λ y. IsOwn q c y (call_id k (word_of_id c.calls.words k).first)) o r.1)) may.1
+
+      abbrev Holds : (step : Step) → Found step → Program → Trail → Type 0
+      Holds step found x y = IsTrueOf q (Then step found x) y.of
+
+      stays_of : (step : Step) (next : Found step → Program) (found : Found step) → first_step seat.program ≡ Aside step next → MayId p q u step → (x : Trail) → Stays t x → Holds step found (next found) x
+      stays_of step next found first_is may x (inr e) = subst (λ (y : Trail). Holds step found (next found) y) (sym e) tt
+      stays_of step next found first_is may x (inl e) = subst (λ (y : Trail). Holds step found (next found) y) (sym e) (by_of t.of (law.knows i t at_trail))
+        where
+          by_of : (y : Of) → IsTrueOf q c y → IsTrueOf q (Then step found (next found)) y
+          by_of NoCall h = tt
+          by_of (Makes id) h = tt
+          by_of (Knows o id) h = stays_aside step next found first_is may o id h
+
+      of_aside : (step : Step) (next : Found step → Program) (found : Found step) → first_step seat.program ≡ Aside step next → MayId p q u step → (x : Trail) → IdGoesOn p q (id_row q step found no_call u) (next found) → GoesAside is_call t step (next found) found x → Holds step found (next found) x
+      of_aside (MakeId k range) next found first_is may x ahead g = subst (λ (y : Trail). Holds (MakeId k range) found (next found) y) (sym g.0) tt
+      of_aside (StoreCall o id) next found first_is may x ahead g = ⊎_elim (λ e. subst (λ (y : Trail). Holds (StoreCall o id) found (next found) y) (sym e) tt)
+          (λ y. subst (λ (z : Trail). Holds (StoreCall o id) found (next found) z) (sym y.1) (record { inside = may.0; some_ = may.1; either = inl (stored_here o id may.0) })) g
+      of_aside (StoreAt o w) next found first_is may x ahead g = stays_of (StoreAt o w) next found first_is may x g.0
+      of_aside (PutCall k asked) next found first_is may x ahead g = ⊎_elim (λ s. stays_of (PutCall k asked) next found first_is may x s)
+          (λ y. subst (λ (z : Trail). Holds (PutCall k asked) found (next found) z) (sym y.4) (stays_aside (PutCall k asked) next found first_is may asked.operation (call_id k (parts y.0).first) (put_own k asked next found first_is may y.0 y.1 y.2 y.3 ahead))) g.0
+      of_aside step next found first_is may x ahead g = stays_of step next found first_is may x g
+
+      finds_step : (step : Step) (answer : Option Taking) (found : Found step) → found_in step c.calls answer ≡ some found → MayId p q u step → FindsLabel is_call step found
+      finds_step (UnlockId k from advance) answer found is may = finds_label p q c us real_ids i u at (UnlockId k from advance) found may (finds_ids p q c.calls real_ids.plan us real_ids.rule i u at (real_ids.real i u at) (real_ids.called, real_ids.placed) real_ids.homes (UnlockId k from advance) answer found is may)
+      finds_step (TakeCall k) answer found is may = law.calls k found is
+      finds_step _ answer found is may = tt
+
+      puts_step : (step : Step) (after : Program) (found : Found step) (x : Trail) → GoesAside is_call t step after found x → PutsCall is_call step
+      puts_step (PutCall k asked) after found x g = g.1
+      puts_step _ after found x g = tt
+
+      -- a step aside
+      asides : (step : Step) (next : Found step → Program) (found : Found step) (answer : Option Taking) → first_step seat.program ≡ Aside step next → found_in step c.calls answer ≡ some found → IdGoesOn p q u (Aside step next) → Follows is_call t (Aside step next)
+          → After (with_seat i (next found) seat.hand c.words c.homes (record c { calls = calls_after step found c.calls })) vs
+      asides step next found answer first_is is go g = let may = go.0 in let x = g found (finds_step step answer found is may) in
+          let ahead = go.1 found no_call (finds_ids p q c.calls real_ids.plan us real_ids.rule i u at (real_ids.real i u at) (real_ids.called, real_ids.placed) real_ids.homes step answer found is may) in
+          goes_on (calls_after step found c.calls) (next found) seat.hand c.words c.homes (calls_waiting step found c.calls) x.0 (calls_behind is_call step found c.calls (puts_step step (next found) found x.0 x.1) law.calls) x.2
+          (stays_aside step next found first_is may) (of_aside step next found first_is may x.0 ahead x.1) (ranges_after step next found answer first_is is may x.0 ahead x.1)
+
+  -- ## A tick of any seat
+
+  module _ (sound : Sound p c vs) (m : Moment) (answered : IsAnswered c m) (fitting : IsFittingIds p c m) where
+    trail_of : (seat : SeatState) → get_elem? c.seats m.seat ≡ some seat → (t : Trail) × (get_elem? ts m.seat ≡ some t)
+    trail_of seat at = elem_there c.seats ts m.seat seat law.each at
+
+    view_of : (seat : SeatState) → get_elem? c.seats m.seat ≡ some seat → (u : IdView) × (get_elem? us m.seat ≡ some u)
+    view_of seat at = elem_there c.seats us m.seat seat real_ids.each at
+
+    first_as : (seat : SeatState) (at : get_elem? c.seats m.seat ≡ some seat) (x : Program) → first_step seat.program ≡ x → Follows is_call (trail_of seat at).0 x
+    first_as seat at x is = let t = trail_of seat at in subst (Follows is_call t.0) is (follows_first is_call t.0 seat.program (law.programs m.seat seat t.0 at t.1))
+
+    may_as : (seat : SeatState) (at : get_elem? c.seats m.seat ≡ some seat) (x : Program) → first_step seat.program ≡ x → IdGoesOn p q (view_of seat at).0 x
+    may_as seat at x is = let u = view_of seat at in subst (IdGoesOn p q u.0) is (ids_first p q narrow u.0 seat.program (real_ids.seats m.seat seat u.0 at u.1))
+
+    unchanged : (ws : List View) → After c ws
+    unchanged ws = (ts, law, λ o id own. own)
+
+    -- After says nothing of views
+    abbrev Behind : Core → List View → Type 0
+    Behind d ws = After d vs
+
+    pub own_ticks : After (ticked p c m) vs
+    own_ticks = tick_cases p c vs m sound answered Behind (unchanged vs)
+        (λ seat v call next at here is goes. let t = trail_of seat at in let g = first_as seat at (Do call next) is in let found : ℕ = found_at c.words (word_of p call) in let u = g.1 (found_at c.words (word_of p call)) (fits_as p c seat.program call next is (fitting seat at)) in
+        beside m.seat seat t.0 at t.1 (next (found_at c.words (word_of p call))) (hand_after p call c.homes seat.hand) (words_after c.words (word_of p call) (word_after call (found_at c.words (word_of p call)))) (homes_after p call seat.hand c.homes) u.0
+        (λ o id after e. (let z : Do call next ≡ Aside (StoreCall o id) after = sym is ∙ ap first_step e in cc)) u.2 (of_do m.seat seat t.0 at t.1 call (found_at c.words (word_of p call)) u.0 u.1))
+        (λ seat v r next heading bytes at here is goes. let t = trail_of seat at in
+        beside m.seat seat t.0 at t.1 (next heading bytes) seat.hand c.words (set c.homes r none) lost (λ o id after e. (let z : TakeMessage r next ≡ Aside (StoreCall o id) after = sym is ∙ ap first_step e in cc)) (first_as seat at (TakeMessage r next) is heading bytes) (λ h. tt))
+        (λ seat v k next n at here is goes. let t = trail_of seat at in
+        beside m.seat seat t.0 at t.1 (next n) (lies_at c.homes (link_place p k) ++ seat.hand) c.words (set c.homes (link_place p k) none) lost (λ o id after e. (let z : TakeHome k next ≡ Aside (StoreCall o id) after = sym is ∙ ap first_step e in cc)) (first_as seat at (TakeHome k next) is n) (λ h. tt))
+        (λ seat v k n after' at here is goes. let t = trail_of seat at in
+        beside m.seat seat t.0 at t.1 after' (others_of seat.hand) c.words (set c.homes (link_place p k) (first_of (onto_first (with_places n) seat.hand))) lost (λ o id after e. (let z : PutHome k n after' ≡ Aside (StoreCall o id) after = sym is ∙ ap first_step e in cc)) (first_as seat at (PutHome k n after') is) (λ h. tt))
+        (λ seat v k asked bytes next answer at here is goes answer_is fits. let t = trail_of seat at in
+        beside m.seat seat t.0 at t.1 (next answer) (onto_first (fed bytes answer) seat.hand) c.words c.homes lost (λ o id after e. (let z : PutBytes k asked bytes next ≡ Aside (StoreCall o id) after = sym is ∙ ap first_step e in cc)) (first_as seat at (PutBytes k asked bytes next) is answer) (λ h. tt))
+        (λ seat v k next answer at here is goes answer_is. let t = trail_of seat at in
+        beside m.seat seat t.0 at t.1 (next answer) seat.hand c.words c.homes lost (λ o id after e. (let z : AskReady k next ≡ Aside (StoreCall o id) after = sym is ∙ ap first_step e in cc)) (first_as seat at (AskReady k next) is answer) (λ h. tt))
+        (λ seat v s next found at here is goes found_is. let t = trail_of seat at in let u = view_of seat at in
+        asides m.seat seat t.0 at t.1 u.0 u.1 s next found (taken m.answer) is found_is (may_as seat at (Aside s next) is) (first_as seat at (Aside s next) is))
