@@ -8,7 +8,7 @@ use Rattle.corr_core.specs.Word.{parts}
 use Rattle.corr_core.specs.declared.marks.Plan.{Plan as IdPlan}
 use Rattle.id_rule.specs.Lawful.{call_word}
 use Rattle.sock_message.specs.Asked.{Asked}
-use Rattle.sock_programs.specs.Asides.{PutCall, StoreCall, Found, call_id}
+use Rattle.sock_programs.specs.Asides.{PutCall, StoreCall, Found, call_id, id_slot}
 use Rattle.sock_programs.specs.Cores.{Core, SeatState}
 use Rattle.sock_programs.specs.Programs.{Program, Do, Say, Sent, Rest, TakeMessage, TakeHome, PutHome, PutBytes, AskReady, Write, Aside, Round, Keep, Retries}
 use Rattle.sock_runs.specs.Sound.{first_step}
@@ -39,6 +39,7 @@ module _ (q : IdPlan) where
   pub record IsOwn (c : Core) (o id : ℕ) : Type 0 where
     pub inside : o < q.operations
     pub some_ : id ≢ 0
+    pub low : id_slot id < q.slots
     pub either : IsStored c o id ⊎ IsStoring c o id
 
 -- what is so at one moment
@@ -77,9 +78,12 @@ module _ (p : Plan) (q : IdPlan) (clients : List (List Task)) (gives : ℕ → L
     storing_birth : (o x j : ℕ) (seat : SeatState) (next : Found (StoreCall o x) → Program) → get_elem? w.core.seats j ≡ some seat → first_step seat.program ≡ Aside (StoreCall o x) next → (b : Birth) × In b w.births × (b.id ≡ x) × (b.asked.operation ≡ o)
     storing_birth o x j seat next at is = let s = says_at j seat (Aside (StoreCall o x) next) at is in let may = s.2.0 in (may.0, may.9, sym may.8, sym may.7)
 
+    stored_birth : (o id : ℕ) → o < q.operations → id ≢ 0 → IsStored q w.core o id → (b : Birth) × In b w.births × (b.id ≡ id) × (b.asked.operation ≡ o)
+    stored_birth o id low some_ stored = let b = story.tasks.called o low (λ z. some_ (sym stored ∙ z)) in (b.0, b.1, b.2 ∙ stored, b.3)
+
     own_birth : (o id : ℕ) → IsOwn q w.core o id → (b : Birth) × In b w.births × (b.id ≡ id) × (b.asked.operation ≡ o)
     own_birth o id own = ⊎_elim
-        (λ stored. let b = story.tasks.called o own.inside (λ z. own.some_ (sym stored ∙ z)) in (b.0, b.1, b.2 ∙ stored, b.3))
+        (λ stored. stored_birth o id own.inside own.some_ stored)
         (λ (s : IsStoring q w.core o id). storing_birth o id s.seat s.state s.next s.at (ap first_step s.is)) own.either
 
     -- one operation has one id
@@ -92,7 +96,7 @@ module _ (p : Plan) (q : IdPlan) (clients : List (List Task)) (gives : ℕ → L
 
     in_scene : Facts q w.core
     in_scene = record {
-      one_store = λ o id x j seat next low some_ stored at is. let a = storing_birth o x j seat next at is in let b = own_birth o id (record { inside = low; some_ = some_; either = inl stored }) in sym a.2 ∙ (one_id a.0 b.0 a.1 b.1 (a.3 ∙ sym b.3) ∙ b.2);
+      one_store = λ o id x j seat next low some_ stored at is. let a = storing_birth o x j seat next at is in let b = stored_birth o id low some_ stored in sym a.2 ∙ (one_id a.0 b.0 a.1 b.1 (a.3 ∙ sym b.3) ∙ b.2);
       at_home = λ i o asked low live lies own. let a = own_birth o (Rattle.sock_programs.specs.Asides.call_id i (word_of_id w.core.calls.words i).first) own in
           sym a.3 ∙ one_operation a.0 (call_id i (word_of_id w.core.calls.words i).first) asked a.1 a.2 (story.births.homes i asked low live lies);
       put_back = λ i o j asked seat next at is two own. let s = says_at j seat (Aside (PutCall i asked) next) at is in let a = own_birth o (call_id i (word_of_id w.core.calls.words i).first) own in ⊎_elim

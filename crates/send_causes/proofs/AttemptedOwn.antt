@@ -86,7 +86,7 @@ module _ (p : Plan) (q : IdPlan) (narrow : q.slots ≤ 65536) (is_call : Asked �
       -- ids of calls stay so
       own_on : ((o id : ℕ) → o < q.operations → id ≢ 0 → IsStored q c o id → IsStored q Now o id) → ((o id : ℕ) (next : Found (StoreCall o id) → Program) → o < q.operations → seat.program ≡ Aside (StoreCall o id) next → IsStored q Now o id)
           → (o id : ℕ) → IsOwn q c o id → IsOwn q Now o id
-      own_on stored mine o id own = record { inside = own.inside; some_ = own.some_; either = ⊎_elim (λ s. inl (stored o id own.inside own.some_ s)) (λ (s : IsStoring q c o id). dite (ℕ_discrete s.seat i)
+      own_on stored mine o id own = record { inside = own.inside; some_ = own.some_; low = own.low; either = ⊎_elim (λ s. inl (stored o id own.inside own.some_ s)) (λ (s : IsStoring q c o id). dite (ℕ_discrete s.seat i)
           (λ here. inl (mine o id s.next own.inside (subst (λ (z : SeatState). z.program ≡ Aside (StoreCall o id) s.next) (some-injective s.state seat (sym s.at ∙ ap (get_elem? c.seats) here ∙ at_seat)) s.is)))
           (λ far. inr (record { seat = s.seat; state = s.state; next = s.next; at = set_else c.seats i s.seat next_seat far ∙ s.at; is = s.is }))) own.either }
 
@@ -116,7 +116,7 @@ module _ (p : Plan) (q : IdPlan) (narrow : q.slots ≤ 65536) (is_call : Asked �
     StoresNone = (o id : ℕ) (next : Found (StoreCall o id) → Program) → seat.program ≡ Aside (StoreCall o id) next → ⊥
 
     -- a move that is no step aside
-    beside : (x : Program) (hand : List Home) (ws : List ℕ) (hs : List (Option Home)) (u : Trail) → ((o id : ℕ) (next : Found (StoreCall o id) → Program) → seat.program ≡ Aside (StoreCall o id) next → ⊥) → Follows is_call u x → (IsTrueOf q c t.of → IsTrueOf q c u.of) → After (with_seat i x hand ws hs (record c { calls = c.calls })) vs
+    pub beside : (x : Program) (hand : List Home) (ws : List ℕ) (hs : List (Option Home)) (u : Trail) → ((o id : ℕ) (next : Found (StoreCall o id) → Program) → seat.program ≡ Aside (StoreCall o id) next → ⊥) → Follows is_call u x → (IsTrueOf q c t.of → IsTrueOf q c u.of) → After (with_seat i x hand ws hs (record c { calls = c.calls })) vs
     beside x hand ws hs u none_ follows true_ = let stays = own_on c.calls x hand ws hs refl (λ o id low some_ s. s) (λ o id next low e. absurd (none_ o id next e)) in
         goes_on c.calls x hand ws hs refl u law.calls follows stays (of_on u.of (true_ (law.knows i t at_trail))) (λ k low live. let r = law.ranges k low live in (r.0, stays r.0 (call_id k (word_of_id c.calls.words k).first) r.1))
       where
@@ -218,6 +218,7 @@ module _ (p : Plan) (q : IdPlan) (narrow : q.slots ≤ 65536) (is_call : Asked �
           (s.0, subst (IsOwn q (Then (MakeId k range) found (next found)) s.0) s.4 (record {
             inside = may.0;
             some_ = may.1;
+            low = may.2;
             either = inr (record {
               seat = i;
               state = record { program = next_step (resolved (waiting_at c.calls.waiting i) (next found)); hand = seat.hand };
@@ -295,7 +296,7 @@ module _ (p : Plan) (q : IdPlan) (narrow : q.slots ≤ 65536) (is_call : Asked �
       of_aside : (step : Step) (next : Found step → Program) (found : Found step) → first_step seat.program ≡ Aside step next → MayId p q u step → (x : Trail) → IdGoesOn p q (id_row q step found no_call u) (next found) → GoesAside is_call t step (next found) found x → Holds step found (next found) x
       of_aside (MakeId k range) next found first_is may x ahead g = subst (λ (y : Trail). Holds (MakeId k range) found (next found) y) (sym g.0) tt
       of_aside (StoreCall o id) next found first_is may x ahead g = ⊎_elim (λ e. subst (λ (y : Trail). Holds (StoreCall o id) found (next found) y) (sym e) tt)
-          (λ y. subst (λ (z : Trail). Holds (StoreCall o id) found (next found) z) (sym y.1) (record { inside = may.0; some_ = may.1; either = inl (stored_here o id may.0) })) g
+          (λ y. subst (λ (z : Trail). Holds (StoreCall o id) found (next found) z) (sym y.1) (record { inside = may.0; some_ = may.1; low = may.2; either = inl (stored_here o id may.0) })) g
       of_aside (StoreAt o w) next found first_is may x ahead g = stays_of (StoreAt o w) next found first_is may x g.0
       of_aside (PutCall k asked) next found first_is may x ahead g = ⊎_elim (λ s. stays_of (PutCall k asked) next found first_is may x s)
           (λ y. subst (λ (z : Trail). Holds (PutCall k asked) found (next found) z) (sym y.4) (stays_aside (PutCall k asked) next found first_is may asked.operation (call_id k (parts y.0).first) (put_own k asked next found first_is may y.0 y.1 y.2 y.3 ahead))) g.0

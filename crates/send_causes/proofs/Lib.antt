@@ -37,3 +37,4 @@ pub mod AttemptedNamed
 pub mod AttemptedRun
 pub mod AttemptedFacts
 pub mod AttemptedOwn
+pub mod AttemptedStored
