@@ -1,4 +1,4 @@
--- What each link accepted in a whole run, where each operation's call has one id, whose word is stored as the run ends.
+-- What each link accepted in a whole run of a script with calls.
 use Rattle.std.proofs.Common.{◌≡◌, ◌≢◌, ℕ, ◌<◌, ◌≤◌, List, [], ◌∷◌, length, sym, ap, ◌∙◌, subst}
 use Rattle.std.specs.Prelude.{Some, slice_get}
 use Rattle.std.specs.List.{AllByRecursion}
@@ -30,6 +30,7 @@ use Rattle.joint_runs.proofs.Runs.{AreMade, first_views}
 use Rattle.report_fits.proofs.Reading.{InRange}
 use Rattle.report_fits.proofs.Targets.{AreThere}
 use Rattle.owed_calls.specs.Lives.{ClosesInRun}
+use Rattle.owed_calls.proofs.Known.{run_all_rest}
 use Rattle.call_causes.specs.Lists.{attempts_of_run}
 use Rattle.send_causes.proofs.Apart as apart
 use Rattle.send_causes.proofs.Early.{start, go, fitting}
@@ -40,6 +41,7 @@ use Rattle.send_causes.proofs.AttemptedCalls.{AreStored}
 use Rattle.send_causes.proofs.AttemptedSent.{IsNamedOn, get_same, run_attempted}
 use Rattle.send_causes.proofs.AttemptedNamed.{tasks_are, end_named}
 use Rattle.send_causes.proofs.AttemptedLives.{all_over}
+use Rattle.send_causes.proofs.AttemptedStored.{ids_at, stored_run, words_stored}
 
 all_on : {A : Type 0} (P Q : A → Type 0) → ((x : A) → P x → Q x) → (xs : List A) → AllByRecursion P xs → AllByRecursion Q xs
 all_on P Q f [] a = tt
@@ -86,3 +88,10 @@ module _ (script : List Item) (made : AreMade script) (there : AreThere script) 
     -- each message that a link accepted is that of a `send` of which nothing is said, or of an attempt that was made of a call with an id, to a name of the link's socket
     pub run_all_sent : (k : ℕ) → k < (plan_of script).links → AllByRecursion (IsSent (plan_of script) (all_tasks script) core.outcomes fixed gave (orders_of_run script made turns core is closes) (attempts_of_run script turns core is) k) (orders_of_run script made turns core is closes k).accepted
     run_all_sent = run_attempted script made there range turns core is closes ids labelled rising stored run_named fixed gave
+
+module _ (script : List Item) (made : AreMade script) (there : AreThere script) (range : AllByRecursion InRange script) (turns : List Turn) (core : Core) (is : IsRunWithCalls script turns core) (closes : ClosesInRun script turns core is) (fixed : Fixed) (gave : ℕ → List ℕ) where
+  -- each message that a link accepted is that of a `send` of which nothing is said, or of an attempt that was made of a call with an id, to a name of the link's socket
+  pub attempted_of_run : (k : ℕ) → k < (plan_of script).links
+      → AllByRecursion (λ (a : Accepted). IsSent (plan_of script) (all_tasks script) core.outcomes fixed gave (orders_of_run script made turns core is closes) (attempts_of_run script turns core is) k a) (orders_of_run script made turns core is closes k).accepted
+  attempted_of_run k low = let s = stored_run script made there range turns core is (run_all_rest script made turns core is closes) in
+      run_all_sent script made there range turns core is closes (ids_at script core) s.0 s.1 (words_stored script made there range turns core is) fixed gave k low

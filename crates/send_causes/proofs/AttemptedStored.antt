@@ -77,15 +77,15 @@ named_id id k n w is low few small =
 
 -- behind seat 0, once it has nothing left to do
 abbrev AreSetUp : Plan → Core → List Moment → Type 0
-AreSetUp p c [] = ℕ
+AreSetUp p c [] = Unit {0}
 AreSetUp p c (m ∷ ms) = (m.seat ≢ 0 → IsSetUp c) × AreSetUp p (ticked p c m) ms
 
 alone_set_up : (p : Plan) (n : ℕ) (c : Core) → AreSetUp p c (replicate n (quiet 0))
-alone_set_up p zero c = 0
+alone_set_up p zero c = tt
 alone_set_up p (suc n) c = ((λ other. absurd (other refl)), alone_set_up p n (ticked p c (quiet 0)))
 
 rests_set_up : (p : Plan) (ms : List Moment) (c : Core) → IsAhead c → IsAtRest c 0 → AreSetUp p c ms
-rests_set_up p [] c ahead rests = 0
+rests_set_up p [] c ahead rests = tt
 rests_set_up p (m ∷ ms) c ahead rests = ((λ _ seat at. seat_rests c ahead 0 rests seat at), rests_set_up p ms (ticked p c m) (ticked_ahead p c m ahead) (ticked_rests p c m 0 rests))
 
 module _ (p : Plan) (q : IdPlan) (clients : List (List Task)) (gives : ℕ → List ℕ) (numbered : AreNumbered p q clients gives) (slots : HaveSlots p q clients gives) (small : q.slots ≤ 65536) (is_call : Asked → Type 0) where
@@ -122,7 +122,7 @@ module _ (p : Plan) (q : IdPlan) (clients : List (List Task)) (gives : ℕ → L
         let has = are r.0 (call_id i (word_of_id c.calls.words i).first) r.1 in is_more f live a (r.0, (λ z. r.1.some_ (sym has ∙ z)), has, more.2 ∙ ap (λ n. n ∷ []) (sym same))
 
   along : (ms : List Moment) (c : Core) (vs : List View) → AreBoth p q c vs ms → AreAnswered p c ms → AreSetUp p c ms → LeadsTo p q clients gives (run p c ms) → Owns c → Ahead c ms
-  along [] c vs both answered over lead k = record { owns = k; stays = λ o id own. own; are = λ ids a. ((both.id_views, both.ids), 0) }
+  along [] c vs both answered over lead k = record { owns = k; stays = λ o id own. own; are = λ ids a. ((both.id_views, both.ids), tt) }
   along (m ∷ ms) c vs both answered over lead k =
       let t = own_ticks p q small is_call c vs k.trails k.law both.0.id_views both.0.ids (facts p q clients gives k.shown c k.story) both.0.sockets m answered.0 both.1.fitting_ids in
       let next : Owns (ticked p c m) = record {
@@ -215,9 +215,9 @@ module _ (script : List Item) (made : AreMade script) (there : AreThere script) 
   few_tries i x at = keeps_few (plan_of script) (id_plan_of script) newcomer x (at_place (all_programs (programs (sizes_of (plan_of script) (id_plan_of script)) (all_tasks script)) (readers_from (calls script) 0 (opens script))) i (all_go (plan_of script) (id_plan_of script) small made.operations (all_tasks script) (calls script) (opens script) (let are = made.are in are.fit) made.calls_in made.slots) at)
     where
       at_place : (xs : List Program) (i : ℕ) → AllByRecursion (IdGoesOn (plan_of script) (id_plan_of script) newcomer) xs → get_elem? xs i ≡ some x → IdGoesOn (plan_of script) (id_plan_of script) newcomer x
-      at_place [] i go at = absurd (some-ne-none x (sym at))
-      at_place (y ∷ ys) zero go at = subst (IdGoesOn (plan_of script) (id_plan_of script) newcomer) (some-injective y x at) go.0
-      at_place (y ∷ ys) (suc i) go at = at_place ys i go.1 at
+      at_place [] i goes at = absurd (some-ne-none x (sym at))
+      at_place (y ∷ ys) zero goes at = subst (IdGoesOn (plan_of script) (id_plan_of script) newcomer) (some-injective y x at) goes.0
+      at_place (y ∷ ys) (suc i) goes at = at_place ys i goes.1 at
 
   opened_ahead : IsAhead (opened script)
   opened_ahead = beginning_ahead (plan_of script) (id_plan_of script) (all_programs (programs (sizes_of (plan_of script) (id_plan_of script)) (all_tasks script)) (readers_from (calls script) 0 (opens script)))
