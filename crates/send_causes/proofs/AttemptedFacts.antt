@@ -1,10 +1,9 @@
 -- What the story of the calls says at one moment of the operation whose call has an id: its word is stored, or a seat stores it next.
-use Rattle.std.proofs.Common.{◌≡◌, ◌≢◌, ℕ, ◌+◌, ◌<◌, ◌≤◌, ◌⊎◌, inl, inr, ⊎_elim, List, get_or, length, refl, sym, ap, ◌∙◌, subst, arith}
+use Rattle.std.proofs.Common.{◌≡◌, ◌≢◌, ℕ, ◌<◌, ◌⊎◌, ⊎_elim, List, get_or, sym, ap, ◌∙◌, subst, arith}
 use Rattle.std.specs.Prelude as std
 use mathlib.Core.Option.{some}
 use lib.ListN.{get_elem?}
 use Rattle.sock_words.specs.declared.plain.Plan.{Plan}
-use Rattle.corr_core.specs.Word.{parts}
 use Rattle.corr_core.specs.declared.marks.Plan.{Plan as IdPlan}
 use Rattle.id_rule.specs.Lawful.{call_word}
 use Rattle.sock_message.specs.Asked.{Asked}

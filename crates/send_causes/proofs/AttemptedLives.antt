@@ -1,12 +1,9 @@
 -- As a run ends, each message of an attempt is over the link of a life that its name had.
-use Rattle.std.proofs.Common.{◌≡◌, ◌≢◌, ℕ, ◌+◌, ◌*◌, ◌%◌, ◌<◌, ◌≤◌, ◌⊎◌, inl, inr, ⊎_elim, Bool, true, false, List, [], ◌∷◌, refl, sym, ap, ◌∙◌, subst, arith}
+use Rattle.std.proofs.Common.{◌≡◌, ◌≢◌, ℕ, ◌+◌, ◌*◌, ◌%◌, ◌<◌, ◌⊎◌, inl, inr, ⊎_elim, Bool, true, false, List, [], ◌∷◌, refl, sym, ap, ◌∙◌, subst, arith}
 use Rattle.std.specs.Prelude.{Option, Some, slice_index}
 use Rattle.std.specs.List.{AllByRecursion}
-use mathlib.Core.Option.{some}
-use lib.ListN.{get_elem?}
 use Rattle.sock_words.specs.declared.plain.Plan.{Plan}
 use Rattle.sock_words.specs.declared.outcome.Outcome.{Outcome}
-use Rattle.sock_words.specs.declared.outcome.Outcome.TheVariants.{Opened}
 use Rattle.sock_words.specs.Words.{socket_id, socket_id_slot, socket_id_version, vref_version}
 use Rattle.sock_model.specs.declared.chain.Entry.{Entry}
 use Rattle.sock_model.specs.declared.chain.Heading.{Heading}
@@ -19,7 +16,6 @@ use Rattle.slot_laws.proofs.Numbers.{life_le}
 use Rattle.sock_message.specs.Asked.{Asked, name_of}
 use Rattle.sock_programs.specs.Calls.{GiveBirth, StoreName, ClaimRequest}
 use Rattle.sock_programs.specs.Cores.{Core}
-use Rattle.sock_programs.specs.declared.task.Op.TheVariants as ops
 use Rattle.sock_programs.specs.declared.task.Task.{Task}
 use Rattle.sock_programs.specs.Told.{AreTasks, Made}
 use Rattle.sock_programs.specs.ToldCalls.{Accepted}

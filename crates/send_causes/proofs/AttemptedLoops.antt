@@ -1,8 +1,8 @@
 -- One round of each loop follows what leads to attempts. (As Loops of label_runs has it.)
-use Rattle.std.proofs.Common.{◌≡◌, ◌≢◌, ℕ, ◌+◌, ◌<◌, ◌≤◌, inl, inr, ◌&&◌, not, Bool, true, false, cond, eqb, eqb-true, eq-eqb, leb, nat_lt, List, [], ◌∷◌, ◌++◌, Option, Some, None, length, refl, sym, ap, ◌∙◌, subst, arith}
+use Rattle.std.proofs.Common.{◌≡◌, ℕ, ◌+◌, ◌<◌, ◌≤◌, inl, inr, ◌&&◌, not, Bool, true, false, cond, eqb, eqb-true, leb, nat_lt, List, [], ◌∷◌, ◌++◌, Option, Some, None, length, refl, ap, ◌∙◌, subst, arith}
 use Rattle.brpc_model.specs.Frame.{Frame}
 use Rattle.brpc_model.specs.Stream as streams
-use Rattle.corr_core.specs.Word.{Parts, parts, locked_word, posted_word, unlocked_word, code_of}
+use Rattle.corr_core.specs.Word.{Parts, parts, posted_word, unlocked_word, code_of}
 use Rattle.corr_core.specs.Law.{LAST}
 use Rattle.id_runs.proofs.Keeps.{parts_packed}
 use Rattle.sock_message.specs.Asked.{Asked}
@@ -13,7 +13,7 @@ use Rattle.sock_programs.specs.Programs.{Program, Say, Aside, Round}
 use Rattle.sock_programs.specs.Readers.{answer, answered, responses, read_on, took, discarded, last_of, slot_in, version_in, has_response, ending_of, is_early, ended_by as how_ended, LIMIT}
 use Rattle.sock_programs.specs.Rounds.{round}
 use Rattle.label_runs.specs.Labels.{FindsLabel, LeavesLabel}
-use Rattle.label_runs.proofs.Loops.{id_back, not_true, not_equal, and_left, locked_parts}
+use Rattle.label_runs.proofs.Loops.{not_true, not_equal, and_left, locked_parts}
 use Rattle.send_causes.proofs.AttemptedTrails.{Trail, lost, Stays, Follows}
 
 module _ (is_call : Asked → Type 0) where

@@ -1,7 +1,7 @@
 -- In a whole run the message of each attempt is over the link of a socket that was found under its name.
-use Rattle.std.proofs.Common.{◌≡◌, ◌≢◌, ℕ, zero, suc, ◌+◌, ◌-◌, ◌<◌, ◌≤◌, ◌⊎◌, inl, inr, ⊎_elim, true, false, List, [], ◌∷◌, ◌++◌, length, length-set, map, replicate, refl, sym, ap, ◌∙◌, subst, arith}
+use Rattle.std.proofs.Common.{◌≡◌, ℕ, zero, suc, ◌+◌, ◌-◌, ◌≤◌, inl, inr, ⊎_elim, true, false, List, [], ◌∷◌, ◌++◌, length, map, replicate, refl, sym, ◌∙◌, subst, arith}
 use Rattle.std.specs.List.{AllByRecursion}
-use Rattle.std.specs.Prelude.{Bool, Some, slice_get}
+use Rattle.std.specs.Prelude.{Bool}
 use Rattle.std.proofs.lemmas.List.{length-map}
 use mathlib.Core.Option.{some, some-injective, some-ne-none}
 use lib.ListN.{get_elem?}
@@ -11,19 +11,17 @@ use Rattle.sock_model.specs.declared.view.View.{View}
 use Rattle.brpc_model.specs.Items.{Item}
 use Rattle.brpc_model.specs.Operations.{Turn, clients}
 use Rattle.corr_core.specs.declared.marks.Plan.{Plan as IdPlan}
-use Rattle.sock_message.specs.Asked.{Asked, name_of}
+use Rattle.sock_message.specs.Asked.{Asked}
 use Rattle.sock_programs.specs.Beside.{call_at}
 use Rattle.sock_programs.specs.Clients.{client_from, ending_of}
 use Rattle.sock_programs.specs.Cores.{Core, SeatState, resolved, next_step}
-use Rattle.sock_programs.specs.declared.task.Op.TheVariants as ops
 use Rattle.sock_programs.specs.declared.task.Sizes.{Sizes}
 use Rattle.sock_programs.specs.declared.task.Task.{Task}
 use Rattle.sock_programs.specs.Programs.{Program, Rest}
 use Rattle.sock_programs.specs.Readers.{reader}
-use Rattle.sock_programs.specs.Runs.{IsAtRest}
 use Rattle.sock_programs.specs.Ticks.{Moment, AreAnswered, quiet, ticked, run}
 use Rattle.sock_programs.specs.Tasks.{opens, calls, plan_of, id_plan_of}
-use Rattle.sock_programs.specs.Scripts.{sizes_of, programs, readers_from, all_programs, all_tasks, beginning, opened, set_up, played, is_ending, IsRunWithCalls}
+use Rattle.sock_programs.specs.Scripts.{sizes_of, programs, readers_from, all_programs, all_tasks, beginning, opened, set_up, is_ending, IsRunWithCalls}
 use Rattle.sock_programs.specs.Told.{AreTasks}
 use Rattle.sock_runs.specs.Sound.{Sound, AreFitting, views_after, views_along}
 use Rattle.sock_runs.proofs.Along.{seat_rests}
@@ -161,8 +159,8 @@ module _ (script : List Item) (are : AreTasks (plan_of script) (all_tasks script
       let t = elem_there (rested_of script turns core is).seats k.trails 0 seat.0 k.law.each seat.1 in
       let us = behind_ids p q narrow (IsCallOf script) ids (is.scheduled ++ is.later) (set_up script is.setup) labelled.of_played in
       let n = subst (λ xs. (ts : List Trail) × NameLaw (IsCallOf script) k.events (closing_of script turns core is) xs ts) (set_again (views_played script turns core is vs) 0 v.0 v.1)
-          (moves p q narrow (IsCallOf script) (told_tasks_of script) true (rested_of script turns core is) (views_played script turns core is vs) k.events k.events k.lost_links sound k.story (λ e m. m) k.trails k.law us.0 us.1 0 seat.0 v.0 t.0 seat.1 v.1 t.1
-          (ending_of (opens script)) [] (rested_of script turns core is).homes v.0 v.0.rights refl (ending_goes (IsCallOf script) (opens script))) in record {
+      (moves p q narrow (IsCallOf script) (told_tasks_of script) true (rested_of script turns core is) (views_played script turns core is vs) k.events k.events k.lost_links sound k.story (λ e m. m) k.trails k.law us.0 us.1 0 seat.0 v.0 t.0 seat.1 v.1 t.1
+      (ending_of (opens script)) [] (rested_of script turns core is).homes v.0 v.0.rights refl (ending_goes (IsCallOf script) (opens script))) in record {
         events = k.events;
         lost_links = k.lost_links;
         story = ending_story (plan_of script) (told_tasks_of script) tasks_are (rested_of script turns core is) (views_played script turns core is vs) k.events k.lost_links (opens script) sound k.story seat.0 v.0 seat.1

@@ -25,7 +25,7 @@ use Rattle.id_runs.specs.Goes as goes
 use Rattle.id_runs.proofs.Steps.{finds_ids}
 use Rattle.id_runs.proofs.Loops.{ids_round}
 use Rattle.id_runs.proofs.Programs as id_programs
-use Rattle.sock_programs.specs.Asides.{Step, Found, ClaimId, PutCall, MakeId, StoreCall, LoadCall, StoreAt, LoadAt, LoadIdWord, LockId, PostId, UnlockId, EndId, FreeId, TakeCall, TakeBytes, Taking, Bytes}
+use Rattle.sock_programs.specs.Asides.{Step, Found, PutCall, MakeId, StoreCall, StoreAt, UnlockId, TakeCall, TakeBytes, Taking, Bytes}
 use Rattle.sock_message.specs.Asked.{Asked, name_of}
 use Rattle.sock_programs.specs.Beside.{found_in, calls_after, call_at, more_given}
 use Rattle.sock_programs.specs.Calls.{Call, StoreName, LoadName, ClaimRequest, PutMessage, Unconnect, SwapHead}
@@ -38,7 +38,6 @@ use Rattle.sock_runs.specs.May.{May}
 use Rattle.sock_runs.specs.Rows.{row, hand_at, new_claim, filled_claim, ready_claim, by_claim, exchanged, took_message, link_away, link_home_again, took_bytes}
 use Rattle.sock_runs.specs.Sound.{Sound, first_step, views_after}
 use Rattle.sock_runs.proofs.Cases.{with_rights, right_rights, put_rights}
-use Rattle.sock_runs.proofs.Leaves.{claim_way}
 use Rattle.sock_causes.specs.Causes.{WasGiven}
 use Rattle.sock_causes.specs.Kept.{Story}
 use Rattle.sock_causes.specs.Stories.{Event, In, last_name}
@@ -50,8 +49,8 @@ use Rattle.sock_causes.proofs.Ticks.{elem_there}
 use Rattle.label_runs.specs.Labels.{FindsLabel}
 use Rattle.send_causes.proofs.Words.{finds_label}
 use Rattle.send_causes.proofs.Ticks.{AreCalls, none_asked, calls_waiting}
-use Rattle.send_causes.proofs.Views.{Same, row_same}
-use Rattle.send_causes.proofs.AttemptedTrails.{Trail, lost, Stays, MayAttempt, GoesDo, GoesAside, PutsBack, Follows}
+use Rattle.send_causes.proofs.Views.{row_same}
+use Rattle.send_causes.proofs.AttemptedTrails.{Trail, lost, Stays, MayAttempt, GoesDo, GoesAside, Follows}
 use Rattle.send_causes.proofs.AttemptedLoops.{follows_round}
 use Rattle.send_causes.proofs.AttemptedPrograms.{block_goes, retry_goes}
 
@@ -216,9 +215,15 @@ module _ (is_call : Asked → Type 0) (es : List Event) where
 
     put_over : (q : ℕ) (heading : Heading) (bytes : List ℕ) → MayAttempt is_call t (PutMessage q heading bytes) → (cs : List Claim) → v.claims ≡ cs → ViewOver (by_claim cs (λ c. with_claim v (filled_claim c heading bytes)) v)
     put_over q heading bytes may [] e = over
-    put_over q heading bytes may (x ∷ cs) e = ((λ some_. ⊎_elim (λ none_. absurd (some_ none_))
-        (λ a. let n : AllByRecursion IsNamed ((name_of a.0 heading.attempt, a.1) ∷ []) = subst (AllByRecursion IsNamed) a.4 true_.0 in let l : AllByRecursion (IsFor a.1) (x ∷ cs) = subst (AllByRecursion (IsFor a.1)) e (true_.1 a.5 (name_of a.0 heading.attempt) a.1 a.4) in
-        (a.0, a.1, a.2, a.3, n.0, l.0)) may, tt), over.1)
+    put_over q heading bytes may (x ∷ cs) e = (
+      (
+        λ some_. ⊎_elim (λ none_. absurd (some_ none_))
+            (λ a. let n : AllByRecursion IsNamed ((name_of a.0 heading.attempt, a.1) ∷ []) = subst (AllByRecursion IsNamed) a.4 true_.0 in let l : AllByRecursion (IsFor a.1) (x ∷ cs) = subst (AllByRecursion (IsFor a.1)) e (true_.1 a.5 (name_of a.0 heading.attempt) a.1 a.4) in
+            (a.0, a.1, a.2, a.3, n.0, l.0)) may,
+        tt,
+      ),
+      over.1,
+    )
 
     pub row_over : (p : Plan) (found : ℕ) (hand : Hand) (call : Call) → MayAttempt is_call t call → ViewOver (row p call found hand v)
     row_over p found hand (ClaimRequest i q) may = split (found % 2 == 0) _ v ViewOver (((λ some_. absurd (some_ refl)), tt), over.1) over

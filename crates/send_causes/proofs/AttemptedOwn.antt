@@ -4,14 +4,14 @@ use Rattle.std.specs.List.{AllByRecursion}
 use Rattle.std.specs.Prelude as std
 use mathlib.Core.Logic.{dite}
 use native.Mathlib.Decide.{ℕ_discrete}
-use mathlib.Core.Option.{Option, some, none, some-injective, some-ne-none}
+use mathlib.Core.Option.{Option, some, none, some-injective}
 use lib.ListN.{get_elem?}
-use Rattle.atomic_table.proofs.Lists.{at_set, set_else, set_again, set_here}
+use Rattle.atomic_table.proofs.Lists.{at_set, set_else, set_here}
 use Rattle.chain_laws.proofs.Lists.{at_length}
 use Rattle.sock_words.specs.declared.plain.Plan.{Plan}
 use Rattle.sock_model.specs.declared.home.Home.{Home}
 use Rattle.sock_model.specs.declared.view.View.{View}
-use Rattle.corr_core.specs.Word.{Parts, parts}
+use Rattle.corr_core.specs.Word.{parts}
 use Rattle.corr_core.specs.Law.{Births, Local, Stands, vacant, retired, claimed, opened, locked, leaving}
 use Rattle.corr_core.specs.declared.marks.Plan.{Plan as IdPlan}
 use Rattle.corr_core.specs.declared.marks.Hand.{Hand}
@@ -23,20 +23,18 @@ use Rattle.id_rule.specs.Plays.{with_hand}
 use Rattle.id_rule.proofs.Allowed as allowed
 use Rattle.id_rule.proofs.Frames.{token_here}
 use Rattle.id_runs.specs.Held.{IdView, MayId, HasOne, id_state, id_row, one, by_token}
-use Rattle.id_runs.specs.Goes.{FitsRetryId, FindsId, IdGoesOn, IsLocked, SoundIds, IsFittingIds}
+use Rattle.id_runs.specs.Goes.{FitsRetryId, IdGoesOn, SoundIds, IsFittingIds}
 use Rattle.id_runs.proofs.Steps.{finds_ids, no_call}
 use Rattle.sock_programs.specs.Asides.{Step, Found, ClaimId, PutCall, MakeId, StoreCall, LoadCall, StoreAt, LoadAt, LoadIdWord, LockId, PostId, UnlockId, EndId, FreeId, TakeCall, TakeBytes, Taking, Bytes, call_id}
 use Rattle.sock_programs.specs.Heads.{Exit, Unlocks}
-use Rattle.sock_programs.specs.Posts.{advance_of}
 use Rattle.sock_message.specs.Asked.{Asked}
 use Rattle.sock_programs.specs.Beside.{found_in, calls_after}
 use Rattle.sock_programs.specs.Calls.{Call, LoadName, ClaimRequest}
 use Rattle.sock_programs.specs.Heads.{Retry}
 use Rattle.sock_programs.specs.Programs.{Program, Do, Say, Sent, Rest, TakeMessage, TakeHome, PutHome, PutBytes, AskReady, Write, Aside, Round, Keep, Retries}
-use Rattle.sock_programs.specs.Cores.{Calls, Core, SeatState, word_of, found_at, words_after, word_after, homes_after, hand_after, lies_at, first_of, others_of, link_place, resolved, waiting_at, next_step, with_seat, stepped}
+use Rattle.sock_programs.specs.Cores.{Calls, Core, SeatState, word_of, found_at, words_after, word_after, homes_after, hand_after, lies_at, first_of, others_of, link_place, resolved, waiting_at, next_step, with_seat}
 use Rattle.sock_programs.specs.Ticks.{Moment, IsAnswered, fed, with_places, onto_first, taken, ticked}
-use Rattle.sock_runs.specs.Rows.{row, hand_at}
-use Rattle.sock_runs.specs.Sound.{Sound, first_step, views_after}
+use Rattle.sock_runs.specs.Sound.{Sound, first_step}
 use Rattle.sock_causes.proofs.Cases.{tick_cases}
 use Rattle.sock_causes.proofs.Ticks.{elem_there}
 use Rattle.label_runs.specs.Labels.{FindsLabel}
@@ -86,9 +84,14 @@ module _ (p : Plan) (q : IdPlan) (narrow : q.slots ≤ 65536) (is_call : Asked �
       -- ids of calls stay so
       own_on : ((o id : ℕ) → o < q.operations → id ≢ 0 → IsStored q c o id → IsStored q Now o id) → ((o id : ℕ) (next : Found (StoreCall o id) → Program) → o < q.operations → seat.program ≡ Aside (StoreCall o id) next → IsStored q Now o id)
           → (o id : ℕ) → IsOwn q c o id → IsOwn q Now o id
-      own_on stored mine o id own = record { inside = own.inside; some_ = own.some_; low = own.low; either = ⊎_elim (λ s. inl (stored o id own.inside own.some_ s)) (λ (s : IsStoring q c o id). dite (ℕ_discrete s.seat i)
-          (λ here. inl (mine o id s.next own.inside (subst (λ (z : SeatState). z.program ≡ Aside (StoreCall o id) s.next) (some-injective s.state seat (sym s.at ∙ ap (get_elem? c.seats) here ∙ at_seat)) s.is)))
-          (λ far. inr (record { seat = s.seat; state = s.state; next = s.next; at = set_else c.seats i s.seat next_seat far ∙ s.at; is = s.is }))) own.either }
+      own_on stored mine o id own = record {
+        inside = own.inside;
+        some_ = own.some_;
+        low = own.low;
+        either = ⊎_elim (λ s. inl (stored o id own.inside own.some_ s)) (λ (s : IsStoring q c o id). dite (ℕ_discrete s.seat i)
+            (λ here. inl (mine o id s.next own.inside (subst (λ (z : SeatState). z.program ≡ Aside (StoreCall o id) s.next) (some-injective s.state seat (sym s.at ∙ ap (get_elem? c.seats) here ∙ at_seat)) s.is)))
+            (λ far. inr (record { seat = s.seat; state = s.state; next = s.next; at = set_else c.seats i s.seat next_seat far ∙ s.at; is = s.is }))) own.either;
+      }
 
       goes_on : (u : Trail) → AreCalls is_call a → Follows is_call u x → ((o id : ℕ) → IsOwn q c o id → IsOwn q Now o id) → IsTrueOf q Now u.of → ((k : ℕ) → k < q.slots → 0 < (word_of_id a.words k).state → (o : ℕ) × IsOwn q Now o (call_id k (word_of_id a.words k).first)) → After Now vs
       goes_on u calls follows stays true_ ranges = let few = few_of q (waiting_at a.waiting i) (subst (λ (l : List (List Retry)). AllByRecursion (FitsRetryId q) (waiting_at l i)) (sym waits) (real_ids.waiting i)) in
@@ -110,10 +113,6 @@ module _ (p : Plan) (q : IdPlan) (narrow : q.slots ≤ 65536) (is_call : Asked �
           of_on stays NoCall h = tt
           of_on stays (Makes id) h = tt
           of_on stays (Knows o id) h = stays o id h
-
-    -- the seat doesn't store the word of a call
-    StoresNone : Type 0
-    StoresNone = (o id : ℕ) (next : Found (StoreCall o id) → Program) → seat.program ≡ Aside (StoreCall o id) next → ⊥
 
     -- a move that is no step aside
     pub beside : (x : Program) (hand : List Home) (ws : List ℕ) (hs : List (Option Home)) (u : Trail) → ((o id : ℕ) (next : Found (StoreCall o id) → Program) → seat.program ≡ Aside (StoreCall o id) next → ⊥) → Follows is_call u x → (IsTrueOf q c t.of → IsTrueOf q c u.of) → After (with_seat i x hand ws hs (record c { calls = c.calls })) vs
@@ -214,19 +213,21 @@ module _ (p : Plan) (q : IdPlan) (narrow : q.slots ≤ 65536) (is_call : Asked �
 
       made_own : (k range : ℕ) (next : ℕ → Program) (found : ℕ) → IdGoesOn p q (id_row q (MakeId k range) found no_call u) (next found) → trails.IsStoring (call_id k (parts found).first) (next found) → (o : ℕ) × IsOwn q (Then (MakeId k range) found (next found)) o (call_id k (parts found).first)
       made_own k range next found ahead storing = let s = storing_of (call_id k (parts found).first) (next found) storing in
-          let may : MayId p q (id_row q (MakeId k range) found no_call u) (StoreCall s.0 s.1) = (subst (IdGoesOn p q (id_row q (MakeId k range) found no_call u)) s.3 ahead).0 in
-          (s.0, subst (IsOwn q (Then (MakeId k range) found (next found)) s.0) s.4 (record {
-            inside = may.0;
-            some_ = may.1;
-            low = may.2;
-            either = inr (record {
-              seat = i;
-              state = record { program = next_step (resolved (waiting_at c.calls.waiting i) (next found)); hand = seat.hand };
-              next = s.2;
-              at = set_here c.seats i (record { program = next_step (resolved (waiting_at c.calls.waiting i) (next found)); hand = seat.hand }) (at_length c.seats i seat at_seat);
-              is = ap (λ x. next_step (resolved (waiting_at c.calls.waiting i) x)) s.3;
-            });
-          }))
+          let may : MayId p q (id_row q (MakeId k range) found no_call u) (StoreCall s.0 s.1) = (subst (IdGoesOn p q (id_row q (MakeId k range) found no_call u)) s.3 ahead).0 in (
+            s.0,
+            subst (IsOwn q (Then (MakeId k range) found (next found)) s.0) s.4 (record {
+              inside = may.0;
+              some_ = may.1;
+              low = may.2;
+              either = inr (record {
+                seat = i;
+                state = record { program = next_step (resolved (waiting_at c.calls.waiting i) (next found)); hand = seat.hand };
+                next = s.2;
+                at = set_here c.seats i (record { program = next_step (resolved (waiting_at c.calls.waiting i) (next found)); hand = seat.hand }) (at_length c.seats i seat at_seat);
+                is = ap (λ x. next_step (resolved (waiting_at c.calls.waiting i) x)) s.3;
+              });
+            }),
+          )
 
       made_range : (step : Step) (next : Found step → Program) (found : Found step) (x : Trail) → IdGoesOn p q (id_row q step found no_call u) (next found) → GoesAside is_call t step (next found) found x → (k : ℕ) → IsMakeAt step found k (word_of_id (calls_after step found c.calls).words k)
           → (o : ℕ) × IsOwn q (Then step found (next found)) o (call_id k (word_of_id (calls_after step found c.calls).words k).first)
@@ -269,6 +270,9 @@ module _ (p : Plan) (q : IdPlan) (narrow : q.slots ≤ 65536) (is_call : Asked �
       back_row : (k found : ℕ) (asked : Asked) (tok : Token Asked) → HasOne k tok u → tokens_in k (id_row q (PutCall k asked) found no_call u) ≡ with_hand tok (Full asked) ∷ []
       back_row k found asked tok has = ap (λ l. tokens_in k (by_token l (λ x. with_token k (with_hand x (Full asked)) u) u)) has ∙ token_here k (with_hand tok (Full asked)) u
 
+      own_as : (k o x f a b g : ℕ) → IsOwn q c o (call_id k f) → o ≡ x → f ≡ a → a ≡ b → b ≡ g → IsOwn q c x (call_id k g)
+      own_as k o x f a b g own e h i j = subst (λ n. IsOwn q c x (call_id k n)) (h ∙ (i ∙ j)) (subst (λ y. IsOwn q c y (call_id k f)) e own)
+
       put_own : (k : ℕ) (asked : Asked) (next : ℕ → Program) (found : ℕ) → first_step seat.program ≡ Aside (PutCall k asked) next → MayId p q u (PutCall k asked) → (w : ℕ) (advance : Bool) (after : Exit (Unlocks k w advance) → Program) → next found ≡ Round (Unlocks k w advance) after
           → IdGoesOn p q (id_row q (PutCall k asked) found no_call u) (next found) → IsOwn q c asked.operation (call_id k (parts w).first)
       put_own k asked next found first_is may w advance after is ahead = let l = (subst (IdGoesOn p q (id_row q (PutCall k asked) found no_call u)) is ahead).0.1 in ⊎_elim
@@ -279,7 +283,7 @@ module _ (p : Plan) (q : IdPlan) (narrow : q.slots ≤ 65536) (is_call : Asked �
           (allowed.own q i (u, []) k may.0 (real_ids.real i u at) (id_state c.calls us) real_ids.rule at (Locked lock.0 lock.1 lock.2 asked lock.3 lock.4 Empty) lock.5) in
           let two : (word_of_id c.calls.words k).state ≡ 2 = here.1 in let first : (word_of_id c.calls.words k).first ≡ lock.0 = here.0 in
           let r = law.ranges k may.0 (omega (arith, two)) in let o = facts.put_back k r.0 i asked seat next at_seat first_is two r.1 in
-          subst (λ f. IsOwn q c asked.operation (call_id k f)) (first ∙ (same ∙ l.word_is.first_is)) (subst (λ y. IsOwn q c y (call_id k (word_of_id c.calls.words k).first)) o r.1)) may.1
+          own_as k r.0 asked.operation (word_of_id c.calls.words k).first lock.0 l.f (parts w).first r.1 o first same l.word_is.first_is) may.1
 
       abbrev Holds : (step : Step) → Found step → Program → Trail → Type 0
       Holds step found x y = IsTrueOf q (Then step found x) y.of

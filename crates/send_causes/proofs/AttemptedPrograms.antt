@@ -1,5 +1,5 @@
 -- The programs of clients, readers and the ending follow what leads to attempts. (As Programs of label_runs has it.)
-use Rattle.std.proofs.Common.{◌≡◌, ℕ, zero, suc, ◌+◌, ◌-◌, ◌/◌, ◌%◌, ◌≤◌, ◌⊎◌, ◌==◌, ◌&&◌, inl, inr, Bool, true, false, cond, eqb, eqb-true, sym, ap, ⊎_elim, leb, nat_lt, nat_le, List, [], ◌∷◌, ◌++◌, Option, Some, None, length, drop, refl, ◌∙◌, subst, arith}
+use Rattle.std.proofs.Common.{◌≡◌, ℕ, zero, suc, ◌+◌, ◌-◌, ◌/◌, ◌%◌, ◌≤◌, ◌==◌, ◌&&◌, inl, inr, Bool, true, false, cond, eqb, eqb-true, sym, ap, ⊎_elim, leb, nat_lt, nat_le, List, [], ◌∷◌, ◌++◌, Option, Some, None, length, drop, refl, ◌∙◌, subst, arith}
 use Rattle.std.specs.List.{AllByRecursion}
 use Rattle.brpc_model.specs.Frame.{Frame}
 use Rattle.sock_words.specs.Words.{socket_id_slot, socket_id_version, vref_version, vref_nref, at_word, at_word_first, at_word_slot, at_word_link, at_word_attempt}

@@ -1,5 +1,5 @@
 -- In a whole run no attempt stands anywhere that is above the number of times that its call was advanced.
-use Rattle.std.proofs.Common.{◌≡◌, ◌≢◌, ℕ, zero, suc, ◌+◌, ◌<◌, ◌≤◌, ◌⊎◌, inl, inr, ⊎_elim, cond, eqb, eq-eqb, List, [], ◌∷◌, ◌++◌, length, length-set, replicate, get_or, refl, sym, ap, ◌∙◌, subst, arith}
+use Rattle.std.proofs.Common.{◌≡◌, ◌≢◌, ℕ, ◌+◌, ◌<◌, ◌≤◌, ◌⊎◌, inl, inr, ⊎_elim, cond, eqb, eq-eqb, List, [], ◌∷◌, ◌++◌, length, length-set, replicate, refl, sym, ap, ◌∙◌, subst, arith}
 use Rattle.atomic_table.proofs.Lists.{set_again}
 use mathlib.Core.Option.{some}
 use lib.ListN.{get_elem?}
@@ -7,9 +7,8 @@ use Rattle.sock_words.specs.declared.plain.Plan.{Plan}
 use Rattle.sock_model.specs.declared.view.View.{View}
 use Rattle.brpc_model.specs.Items.{Item}
 use Rattle.brpc_model.specs.Operations.{Turn}
-use Rattle.corr_core.specs.Word.{Parts, parts}
+use Rattle.corr_core.specs.Word.{Parts}
 use Rattle.corr_core.specs.declared.marks.Plan.{Plan as IdPlan}
-use Rattle.id_rule.specs.Lawful.{Unused, id_word}
 use Rattle.id_runs.specs.Held.{IdView}
 use Rattle.id_runs.specs.Goes.{SoundIds, IsFittingIds}
 use Rattle.id_runs.proofs.Opening.{unused}
@@ -19,7 +18,7 @@ use Rattle.sock_programs.specs.Clients.{ending_of}
 use Rattle.sock_programs.specs.Cores.{Core}
 use Rattle.sock_programs.specs.Ticks.{Moment, IsAnswered, AreAnswered, quiet, ticked, run}
 use Rattle.sock_programs.specs.Tasks.{opens, calls, plan_of, id_plan_of}
-use Rattle.sock_programs.specs.Scripts.{sizes_of, programs, readers_from, all_programs, all_tasks, opened, ending, set_up, played, is_ending, IsRunWithCalls}
+use Rattle.sock_programs.specs.Scripts.{sizes_of, programs, readers_from, all_programs, all_tasks, opened, set_up, is_ending, IsRunWithCalls}
 use Rattle.sock_programs.specs.Told.{AreTasks}
 use Rattle.sock_runs.specs.Sound.{Sound, AreFitting, views_after, views_along}
 use Rattle.sock_runs.proofs.LinkTicks.{RetriesGo}
@@ -84,8 +83,12 @@ module _ (p : Plan) (q : IdPlan) (narrow : q.slots ≤ 65536) (is_call : Asked �
     risen_within i old new had (is_new n z) = inl z
     risen_within i old new had (is_same first live same) = subst (λ f. IsWithin more (call_id i f) new.attempt) (sym first) (subst (IsWithin more (call_id i old.first)) (sym same) (more_within so more grown (call_id i old.first) old.attempt (had live)))
     risen_within i old new had (is_more first live one a) = subst (λ f. IsWithin more (call_id i f) new.attempt) (sym first) (subst (IsWithin more (call_id i old.first)) (sym one)
-        (inr (a.0, a.2, (let most = up a.0 in let once = times_one a.0 (advanced_at c m) a.3 in ⊎_elim (λ z. omega (arith, z, most, once))
-        (λ x. let same : a.0 ≡ x.0 = single a.0 x.0 a.1 (a.2 ∙ sym x.1) in let few : old.attempt ≤ so a.0 = subst (λ o. old.attempt ≤ so o) (sym same) x.2 in omega (arith, few, most, once)) (had live)))))
+        (inr (
+          a.0,
+          a.2,
+          (let most = up a.0 in let once = times_one a.0 (advanced_at c m) a.3 in ⊎_elim (λ z. omega (arith, z, most, once))
+              (λ x. let same : a.0 ≡ x.0 = single a.0 x.0 a.1 (a.2 ∙ sym x.1) in let few : old.attempt ≤ so a.0 = subst (λ o. old.attempt ≤ so o) (sym same) x.2 in omega (arith, few, most, once)) (had live)),
+        )))
 
   id_of : (id first slot : ℕ) → slot ≡ id_slot id → first ≡ id_first id → call_id slot first ≡ id
   id_of id first slot s f = ap (λ x. call_id x first) s ∙ ap (call_id (id_slot id)) f ∙ (let z : call_id (id_slot id) (id_first id) ≡ id = omega arith in z)

@@ -5,7 +5,6 @@ use Rattle.std.specs.List.{AllByRecursion}
 use mathlib.Core.Option.{some, some-injective, some-ne-none}
 use lib.ListN.{get_elem?}
 use Rattle.sock_words.specs.declared.plain.Plan.{Plan}
-use Rattle.sock_words.specs.declared.outcome.Outcome.{Outcome}
 use Rattle.sock_model.specs.declared.chain.Entry.{Entry}
 use Rattle.sock_model.specs.declared.chain.Heading.{Heading}
 use Rattle.sock_model.specs.declared.view.View.{View}
@@ -13,7 +12,6 @@ use Rattle.sock_model.specs.Weights.{total}
 use Rattle.slot_laws.proofs.Sums.{term_le}
 use Rattle.brpc_model.specs.Items.{Item}
 use Rattle.brpc_model.specs.Operations.{Turn}
-use Rattle.brpc_model.specs.Messages.{shown_id}
 use Rattle.corr_core.specs.declared.marks.Plan.{Plan as IdPlan}
 use Rattle.sock_message.specs.Asked.{Asked, name_of, frame_of}
 use Rattle.sock_programs.specs.declared.task.Op.TheVariants as ops
@@ -21,7 +19,7 @@ use Rattle.sock_programs.specs.declared.task.Task.{Task}
 use Rattle.sock_programs.specs.Cores.{Core}
 use Rattle.sock_programs.specs.Tasks.{opens, plan_of, id_plan_of}
 use Rattle.sock_programs.specs.Scripts.{all_tasks, IsRunWithCalls}
-use Rattle.sock_programs.specs.Told.{AreTasks, IsTask, Became, Made}
+use Rattle.sock_programs.specs.Told.{AreTasks, IsTask, Made}
 use Rattle.sock_programs.specs.ToldCalls.{Accepted, Fixed, IsSent, OfSend, OfCall}
 use Rattle.sock_runs.specs.Sound.{Sound, AllRest}
 use Rattle.sock_runs.proofs.Whole.{views_ended, ended_sound, end_rests}
@@ -34,7 +32,7 @@ use Rattle.sock_causes.proofs.Delivered.{orders_of}
 use Rattle.sock_causes.proofs.Lifted.{task_up, made_up}
 use Rattle.sock_causes.proofs.Members.{in_contains}
 use Rattle.sock_causes.proofs.Messages.{each_made, message_of, number_of}
-use Rattle.sock_causes.proofs.Scripts.{seats, final_told, story_end, orders, run_told}
+use Rattle.sock_causes.proofs.Scripts.{seats, final_told, story_end, run_told}
 use Rattle.sock_causes.proofs.Senders.{HasSent, all_sent}
 use Rattle.client_laws.specs.Openings.{all_seats}
 use Rattle.client_laws.proofs.Fresh.{opening_fresh}

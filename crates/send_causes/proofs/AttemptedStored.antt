@@ -13,11 +13,11 @@ use Rattle.brpc_model.specs.Items.{Item}
 use Rattle.brpc_model.specs.Operations.{Turn}
 use Rattle.corr_core.specs.Word.{Parts}
 use Rattle.corr_core.specs.declared.marks.Plan.{Plan as IdPlan}
-use Rattle.id_rule.specs.Lawful.{Unused, call_word, all_words, newcomer}
+use Rattle.id_rule.specs.Lawful.{call_word, newcomer}
 use Rattle.id_runs.specs.Goes.{IdGoesOn}
 use Rattle.id_runs.proofs.Opening.{unused, all_go}
 use Rattle.sock_message.specs.Asked.{Asked}
-use Rattle.sock_programs.specs.Asides.{Found, StoreAt, StoreCall, call_id, id_slot, id_first}
+use Rattle.sock_programs.specs.Asides.{StoreCall, call_id, id_slot, id_first}
 use Rattle.sock_programs.specs.Clients.{ending_of}
 use Rattle.sock_programs.specs.Cores.{Core, SeatState, with_seat}
 use Rattle.sock_programs.specs.declared.task.Task.{Task}
@@ -26,18 +26,17 @@ use Rattle.sock_programs.specs.Runs.{IsAtRest}
 use Rattle.sock_programs.specs.Ticks.{Moment, AreAnswered, quiet, ticked, run}
 use Rattle.sock_programs.specs.Tasks.{opens, calls, plan_of, id_plan_of}
 use Rattle.sock_programs.specs.Scripts.{sizes_of, programs, readers_from, all_programs, all_tasks, opened, ending, set_up, played, is_ending, IsRunWithCalls}
-use Rattle.sock_runs.specs.Sound.{IsAhead, AllRest, first_step, views_after, views_along}
+use Rattle.sock_runs.specs.Sound.{IsAhead, AllRest, views_after, views_along}
 use Rattle.sock_runs.proofs.Along.{seat_ahead, seat_rests, ticked_ahead, run_ahead, beginning_ahead}
 use Rattle.sock_runs.proofs.Quiets.{ticked_rests, run_rests}
-use Rattle.sock_runs.proofs.Whole.{views_played, views_closed, views_ended, set_up_answered, end_answered, end_rests}
+use Rattle.sock_runs.proofs.Whole.{views_played, views_closed, set_up_answered, end_answered}
 use Rattle.sock_causes.proofs.Final.{at_there}
 use Rattle.sock_causes.proofs.Ticks.{elem_there}
 use Rattle.client_laws.proofs.Lasting.{length_all}
-use Rattle.joint_runs.proofs.Both.{BothSound, AreBoth, FitsBoth, behind_both}
+use Rattle.joint_runs.proofs.Both.{BothSound, AreBoth, behind_both}
 use Rattle.joint_runs.proofs.Runs.{AreMade, first_views, joint_runs}
 use Rattle.report_fits.proofs.Reading.{InRange}
 use Rattle.report_fits.proofs.Targets.{AreThere}
-use Rattle.owed_calls.specs.Lives.{ClosesInRun}
 use Rattle.call_causes.specs.Lists.{given, advanced_at}
 use Rattle.call_causes.specs.Scenes.{LeadsTo}
 use Rattle.call_causes.specs.Stories.{HasStory}
@@ -54,7 +53,7 @@ use Rattle.label_runs.proofs.Loops.{id_back}
 use Rattle.send_causes.specs.Counts.{word_of_id, StoresOwn, AreLabelled}
 use Rattle.send_causes.proofs.Early.{start, go, fitting}
 use Rattle.send_causes.proofs.Runs.{AreLabelledIn, IsCallOf}
-use Rattle.send_causes.proofs.Sends.{owed, opening_claims}
+use Rattle.send_causes.proofs.Sends.{opening_claims}
 use Rattle.client_laws.specs.Openings.{all_seats}
 use Rattle.client_laws.proofs.Fresh.{opening_fresh}
 use Rattle.send_causes.proofs.AttemptedBegin.{asked_by}
@@ -65,7 +64,7 @@ use Rattle.send_causes.proofs.AttemptedPrograms.{ending_goes}
 use Rattle.send_causes.proofs.AttemptedNames.{follows_first}
 use Rattle.send_causes.proofs.AttemptedNamed.{all_follow, begins_named}
 use Rattle.send_causes.proofs.AttemptedCalls.{AreStored}
-use Rattle.send_causes.proofs.AttemptedFacts.{IsStored, IsStoring, IsOwn, Facts, facts}
+use Rattle.send_causes.proofs.AttemptedFacts.{IsStoring, IsOwn, facts}
 use Rattle.send_causes.proofs.AttemptedOwn.{IsTrueOf, CallLaw, beside, own_ticks}
 
 -- the id that an at word names
@@ -307,9 +306,10 @@ module _ (script : List Item) (made : AreMade script) (there : AreThere script) 
   ended_owns : Has is.ended × ((o id : ℕ) → IsOwn (id_plan_of script) (run (plan_of script) (ending script (played script is.setup (is.scheduled ++ is.later))) (replicate is.last (quiet 0))) o id → IsOwn (id_plan_of script) is.ended o id)
   ended_owns = let s = joint_runs script turns core is made in let c : Core = run (plan_of script) (ending script (played script is.setup (is.scheduled ++ is.later))) (replicate is.last (quiet 0)) in
       let both = behind_both p q (ending script (played script is.setup (is.scheduled ++ is.later))) (views_played script turns core is (first_views script)) (replicate is.last (quiet 0)) s.closing in
-      subst (λ d. Has d × ((o id : ℕ) → IsOwn (id_plan_of script) (run (plan_of script) (ending script (played script is.setup (is.scheduled ++ is.later))) (replicate is.last (quiet 0))) o id → IsOwn (id_plan_of script) d o id)) (sym is.is_ended)
-      (told_owns p q (all_tasks script) gives numbered slots small (IsCallOf script) (run (plan_of script) (ending script (played script is.setup (is.scheduled ++ is.later))) (replicate is.last (quiet 0))) (views_closed script turns core is (first_views script)) both (let m = many_closed in let s = some_seats in omega (arith, m, s)) told_leads closing_goes.owns,
-      told_own p q (all_tasks script) gives numbered slots small (IsCallOf script) (run (plan_of script) (ending script (played script is.setup (is.scheduled ++ is.later))) (replicate is.last (quiet 0))))
+      subst (λ d. Has d × ((o id : ℕ) → IsOwn (id_plan_of script) (run (plan_of script) (ending script (played script is.setup (is.scheduled ++ is.later))) (replicate is.last (quiet 0))) o id → IsOwn (id_plan_of script) d o id)) (sym is.is_ended) (
+        told_owns p q (all_tasks script) gives numbered slots small (IsCallOf script) (run (plan_of script) (ending script (played script is.setup (is.scheduled ++ is.later))) (replicate is.last (quiet 0))) (views_closed script turns core is (first_views script)) both (let m = many_closed in let s = some_seats in omega (arith, m, s)) told_leads closing_goes.owns,
+        told_own p q (all_tasks script) gives numbered slots small (IsCallOf script) (run (plan_of script) (ending script (played script is.setup (is.scheduled ++ is.later))) (replicate is.last (quiet 0))),
+      )
 
   final_goes : Goes is.ended is.final
   final_goes = let s = joint_runs script turns core is made in along p q (all_tasks script) gives numbered slots small (IsCallOf script) is.final is.ended (views_closed script turns core is (first_views script)) s.final
