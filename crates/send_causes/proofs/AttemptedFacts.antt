@@ -13,7 +13,7 @@ use Rattle.sock_programs.specs.Programs.{Program, Do, Say, Sent, Rest, TakeMessa
 use Rattle.sock_runs.specs.Sound.{first_step}
 use Rattle.sock_programs.specs.declared.task.Task.{Task}
 use Rattle.call_causes.specs.Scenes.{Birth, Scene, In, IsBorn}
-use Rattle.call_causes.specs.Says.{Mark, SaysOn}
+use Rattle.call_causes.specs.Says.{Mark, SaysOn, Claims, Holds}
 use Rattle.call_causes.specs.Stories.{SlotFits, CallStory, HasStory}
 use Rattle.call_causes.proofs.BirthTicks.{two_of, one_call}
 use Rattle.call_causes.proofs.Programs.{block_says}
@@ -96,11 +96,11 @@ module _ (p : Plan) (q : IdPlan) (clients : List (List Task)) (gives : ℕ → L
     in_scene : Facts q w.core
     in_scene = record {
       one_store = λ o id x j seat next low some_ stored at is. let a = storing_birth o x j seat next at is in let b = stored_birth o id low some_ stored in sym a.2 ∙ (one_id a.0 b.0 a.1 b.1 (a.3 ∙ sym b.3) ∙ b.2);
-      at_home = λ i o asked low live lies own. let a = own_birth o (Rattle.sock_programs.specs.Asides.call_id i (word_of_id w.core.calls.words i).first) own in
+      at_home = λ i o asked low live lies own. let a = own_birth o (call_id i (word_of_id w.core.calls.words i).first) own in
           sym a.3 ∙ one_operation a.0 (call_id i (word_of_id w.core.calls.words i).first) asked a.1 a.2 (story.births.homes i asked low live lies);
       put_back = λ i o j asked seat next at is two own. let s = says_at j seat (Aside (PutCall i asked) next) at is in let a = own_birth o (call_id i (word_of_id w.core.calls.words i).first) own in ⊎_elim
-          (λ claims. absurd (let f : SlotFits q w (Rattle.call_causes.specs.Says.Claims i std.None) = subst (SlotFits q w) claims (story.slots.fits j s.0 s.1) in let none_ = f.2 in omega (arith, none_, two)))
-          (λ holds. let f : SlotFits q w (Rattle.call_causes.specs.Says.Holds i holds.0 holds.1 asked) = subst (SlotFits q w) holds.2 (story.slots.fits j s.0 s.1) in
+          (λ claims. absurd (let f : SlotFits q w (Claims i std.None) = subst (SlotFits q w) claims (story.slots.fits j s.0 s.1) in let none_ = f.2 in omega (arith, none_, two)))
+          (λ holds. let f : SlotFits q w (Holds i holds.0 holds.1 asked) = subst (SlotFits q w) holds.2 (story.slots.fits j s.0 s.1) in
           sym a.3 ∙ one_operation a.0 (call_id i (word_of_id w.core.calls.words i).first) asked a.1 a.2 (subst (λ x. IsBorn w (call_id i x) asked) (sym f.3) holds.3)) s.2.0;
     }
 

@@ -6,13 +6,13 @@ use Rattle.corr_core.specs.Word.{Parts, parts, posted_word, unlocked_word, code_
 use Rattle.corr_core.specs.Law.{LAST}
 use Rattle.id_runs.proofs.Keeps.{parts_packed}
 use Rattle.sock_message.specs.Asked.{Asked}
-use Rattle.sock_programs.specs.Asides.{FreeId, Taking, Bytes, Nothing, NoMore, AtEnd, Closed, Broken, PutCall, id_slot, id_first, call_id}
+use Rattle.sock_programs.specs.Asides.{FreeId, Taking, Bytes, Nothing, NoMore, AtEnd, Closed, Broken, PutCall, id_slot, id_first, call_id, UnlockId}
 use Rattle.sock_programs.specs.Heads.{Head, Exit, Sought, First, Version, Reading, Posts, Unlocks, Decides, Locks, Joins, Opens, Reads, Discards, Retry, Posting, WasGone, WasStale, WasCrowded, WasQueued, HasLocked, Unlocking, IsOpen, HasNext, Deciding, HasEnded, GoesOn, Locking, NotThere, Has, Ended}
 use Rattle.sock_programs.specs.Posts.{packed, advance_of, is_first, is_sought, is_stale, is_full, judged, posted, post_with, post, popped, end_id, ends_call, decide, decided, unlocked, locking}
 use Rattle.sock_programs.specs.Programs.{Program, Say, Aside, Round}
 use Rattle.sock_programs.specs.Readers.{answer, answered, responses, read_on, took, discarded, last_of, slot_in, version_in, has_response, ending_of, is_early, ended_by as how_ended, LIMIT}
 use Rattle.sock_programs.specs.Rounds.{round}
-use Rattle.label_runs.specs.Labels.{FindsLabel, LeavesLabel}
+use Rattle.label_runs.specs.Labels.{FindsLabel, LeavesLabel, LeavesUnlock, IsSoughtWord}
 use Rattle.label_runs.proofs.Loops.{not_true, not_equal, and_left, locked_parts}
 use Rattle.send_causes.proofs.AttemptedTrails.{Trail, lost, Stays, Follows}
 
@@ -68,8 +68,8 @@ module _ (is_call : Asked → Type 0) where
         ),
       ))
     where
-      next_first : (exit : Unlocking) (x y : ℕ) → exit ≡ HasNext x y → Rattle.label_runs.specs.Labels.LeavesUnlock (parts w).first exit → (parts x).first ≡ (parts w).first
-      next_first exit x y is l = subst (Rattle.label_runs.specs.Labels.LeavesUnlock (parts w).first) is l
+      next_first : (exit : Unlocking) (x y : ℕ) → exit ≡ HasNext x y → LeavesUnlock (parts w).first exit → (parts x).first ≡ (parts w).first
+      next_first exit x y is l = subst (LeavesUnlock (parts w).first) is l
 
   pub decided_goes : (id : ℕ) (next : Program) → Follows is_call lost next → (exit : Deciding) → Follows is_call lost (decided id next exit)
   decided_goes id next goes (HasEnded o c) = goes
@@ -98,7 +98,7 @@ module _ (is_call : Asked → Type 0) where
     abbrev after : ℕ
     after = packed (unlocked_word (parts from) (advance_of advance))
 
-    first_as : (x y : ℕ) → x ≡ y → (exit : Unlocking) → Rattle.label_runs.specs.Labels.LeavesUnlock x exit → Rattle.label_runs.specs.Labels.LeavesUnlock y exit
+    first_as : (x y : ℕ) → x ≡ y → (exit : Unlocking) → LeavesUnlock x exit → LeavesUnlock y exit
     first_as x y e (HasNext w error) l = l ∙ e
     first_as x y e (IsOpen w) l = tt
 
@@ -113,7 +113,7 @@ module _ (is_call : Asked → Type 0) where
     unlocks_goes : Follows is_call t (round (Unlocks i from advance) k)
     unlocks_goes = λ found f. by found f (eqb found from) refl
       where
-        by : (found : ℕ) → FindsLabel is_call (Rattle.sock_programs.specs.Asides.UnlockId i from advance) found → (b : Bool) → eqb found from ≡ b
+        by : (found : ℕ) → FindsLabel is_call (UnlockId i from advance) found → (b : Bool) → eqb found from ≡ b
             → (u : Trail) × Stays t u × Follows is_call u (cond b (popped i (parts from).oldest after k) (Round (Unlocks i found advance) k))
         by found f true hit = (t, inl refl, pops f.1)
         by found f false miss = let same = f.2 (not_equal found from miss) in (
@@ -137,7 +137,7 @@ module _ (is_call : Asked → Type 0) where
           none_left (First f) = tt
           none_left (Version v) = tt
 
-  locks_goes : (t : Trail) (i : ℕ) (sought : Sought) (from : Option ℕ) (k : Locking → Program) → Rattle.label_runs.specs.Labels.IsSoughtWord sought from
+  locks_goes : (t : Trail) (i : ℕ) (sought : Sought) (from : Option ℕ) (k : Locking → Program) → IsSoughtWord sought from
       → ((exit : Locking) → LeavesLabel (Locks i sought from) exit → Follows is_call lost (k exit)) → Follows is_call t (round (Locks i sought from) k)
   locks_goes t i sought None k at goes = λ found _. locking_goes t i sought found None k goes
   locks_goes t i sought (Some from) k at goes = λ found _. by found (eqb found from)

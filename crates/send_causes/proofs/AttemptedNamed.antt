@@ -45,7 +45,7 @@ use Rattle.send_causes.proofs.Ticks.{none_asked}
 use Rattle.send_causes.proofs.AttemptedBegin.{asked_by}
 use Rattle.send_causes.proofs.AttemptedTrails.{Trail, lost, Follows}
 use Rattle.send_causes.proofs.AttemptedPrograms.{client_goes, ending_goes, reader_goes}
-use Rattle.send_causes.proofs.AttemptedNames.{ViewOver, NameLaw, lost_true, resolves, moves, name_ticks}
+use Rattle.send_causes.proofs.AttemptedNames.{NameLaw, lost_true, resolves, moves, name_ticks, EntryOver, ClaimOver, IsTrue}
 
 -- ## How a run begins
 
@@ -74,8 +74,8 @@ module _ (p : Plan) (q : IdPlan) (is_call : Asked → Type 0) (es : List Event) 
   pub begins_named : (xs : List Program) → ((i : ℕ) (x : Program) → get_elem? xs i ≡ some x → Follows is_call lost x) → (vs : List View) → ((i : ℕ) (v : View) → get_elem? vs i ≡ some v → (v.claims ≡ []) × (v.lists ≡ [] ∷ []))
       → NameLaw is_call es (beginning p q xs) vs (map (λ (x : Program). lost) xs)
   begins_named xs goes vs bare = record {
-    views = λ j v e. let b = bare j v e in (subst (AllByRecursion (Rattle.send_causes.proofs.AttemptedNames.ClaimOver is_call es)) (sym b.0) tt, subst (AllByRecursion (AllByRecursion (Rattle.send_causes.proofs.AttemptedNames.EntryOver is_call es))) (sym b.1) (tt, tt));
-    trails = λ j v t ev et. subst (Rattle.send_causes.proofs.AttemptedNames.IsTrue is_call es v) (mapped (λ (x : Program). lost) xs j t et).2 (lost_true is_call es v);
+    views = λ j v e. let b = bare j v e in (subst (AllByRecursion (ClaimOver is_call es)) (sym b.0) tt, subst (AllByRecursion (AllByRecursion (EntryOver is_call es))) (sym b.1) (tt, tt));
+    trails = λ j v t ev et. subst (IsTrue is_call es v) (mapped (λ (x : Program). lost) xs j t et).2 (lost_true is_call es v);
     calls = λ k asked e. absurd (none_home q.slots k asked e);
     each = length-map xs (λ (x : Program). lost) ∙ sym (length-map xs (λ (x : Program). record { program = next_step (resolved [] x); hand = [] }));
     programs = λ j seat t e et. let x = mapped (λ (x : Program). record { program = next_step (resolved [] x); hand = [] }) xs j seat e in let r = resolves is_call lost [] x.0 tt (goes j x.0 x.1) in

@@ -1,5 +1,5 @@
 -- Each tick keeps that the message of an attempt is over the link of a socket that was found under its name.
-use Rattle.std.proofs.Common.{◌≡◌, ◌≢◌, ℕ, zero, suc, ◌+◌, ◌-◌, ◌*◌, ◌%◌, ◌<◌, ◌≤◌, ◌⊎◌, ◌==◌, inl, inr, ⊎_elim, Bool, true, false, cond, eqb, eqb-true, nat_lt, List, [], ◌∷◌, ◌++◌, length-set, get_or, set, refl, sym, ap, ◌∙◌, subst, arith}
+use Rattle.std.proofs.Common.{◌≡◌, ◌≢◌, ℕ, ◌+◌, ◌-◌, ◌%◌, ◌≤◌, ◌==◌, inl, inr, ⊎_elim, Bool, true, false, cond, nat_lt, List, [], ◌∷◌, ◌++◌, length-set, set, refl, sym, ap, ◌∙◌, subst, arith, eq-eqb}
 use Rattle.std.specs.List.{AllByRecursion}
 use Rattle.std.specs.Prelude as std
 use Rattle.std.proofs.lemmas.Bool.{true≢false}
@@ -256,7 +256,7 @@ module _ (is_call : Asked → Type 0) (es : List Event) where
     claim_true p found hand i q m free name given = (subst (AllByRecursion IsNamed) name true_.0, λ b x s is. split_claim x s is)
       where
         split_claim : (x s : ℕ) → one_name m i ≡ one_name x s → AllByRecursion (IsFor s) (row p (ClaimRequest i q) found hand v).claims
-        split_claim x s is = let same : i ≡ s = ap first_socket is in subst (λ b. AllByRecursion (IsFor s) (cond b (with_claim (met_link (socket_id_slot i) (socket_id_version i) hand.link v) (new_claim hand.link q found)) v).claims) (sym (Rattle.std.proofs.Common.eq-eqb (found % 2) 0 free))
+        split_claim x s is = let same : i ≡ s = ap first_socket is in subst (λ b. AllByRecursion (IsFor s) (cond b (with_claim (met_link (socket_id_slot i) (socket_id_version i) hand.link v) (new_claim hand.link q found)) v).claims) (sym (eq-eqb (found % 2) 0 free))
             ((subst (λ y. WasGiven es (socket_id_slot y) (socket_id_version y) hand.link) same given, tt))
 
 -- with a longer story

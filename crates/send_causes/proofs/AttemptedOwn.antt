@@ -1,5 +1,5 @@
 -- Each tick keeps that whoever tries an attempt knows the id of its call, and that each range that lives is that of a call.
-use Rattle.std.proofs.Common.{◌≡◌, ◌≢◌, ℕ, zero, suc, ◌+◌, ◌*◌, ◌<◌, ◌≤◌, ◌⊎◌, inl, inr, ⊎_elim, Bool, true, false, cond, List, [], ◌∷◌, ◌++◌, length-set, get_or, set, get_or-set_same, get_or-set_other, refl, sym, ap, ◌∙◌, subst, arith}
+use Rattle.std.proofs.Common.{◌≡◌, ◌≢◌, ℕ, ◌<◌, ◌≤◌, inl, inr, ⊎_elim, Bool, cond, List, [], ◌∷◌, ◌++◌, length-set, get_or, set, get_or-set_same, get_or-set_other, refl, sym, ap, ◌∙◌, subst, arith, eq-eqb}
 use Rattle.std.specs.List.{AllByRecursion}
 use Rattle.std.specs.Prelude as std
 use mathlib.Core.Logic.{dite}
@@ -17,7 +17,7 @@ use Rattle.corr_core.specs.declared.marks.Plan.{Plan as IdPlan}
 use Rattle.corr_core.specs.declared.marks.Hand.{Hand}
 use Rattle.corr_core.specs.declared.marks.Hand.TheVariants.{Full, Empty}
 use Rattle.corr_core.specs.declared.marks.Token.{Token}
-use Rattle.corr_core.specs.declared.marks.Token.TheVariants.{Claimed, Locked}
+use Rattle.corr_core.specs.declared.marks.Token.TheVariants.{Claimed, Locked, Leaving}
 use Rattle.id_rule.specs.Lawful.{id_word, tag_word, call_word, at_word, all_words, local, tokens_of, tokens_in, with_token}
 use Rattle.id_rule.specs.Plays.{with_hand}
 use Rattle.id_rule.proofs.Allowed as allowed
@@ -41,9 +41,8 @@ use Rattle.label_runs.specs.Labels.{FindsLabel}
 use Rattle.send_causes.specs.Counts.{word_of_id}
 use Rattle.send_causes.proofs.Words.{finds_label}
 use Rattle.send_causes.proofs.Ticks.{AreCalls, calls_waiting}
-use Rattle.send_causes.proofs.AttemptedWords.{Rise, is_new, is_same, is_more, IsMakeAt, risen}
-use Rattle.send_causes.proofs.AttemptedTrails.{Of, NoCall, Makes, Knows, Trail, lost, Stays, GoesDo, GoesAside, PutsBack, Follows}
-use Rattle.send_causes.proofs.AttemptedTrails as trails
+use Rattle.send_causes.proofs.AttemptedWords.{Rise, is_new, is_same, is_more, IsMakeAt, risen, Advances}
+use Rattle.send_causes.proofs.AttemptedTrails.{StoresNext, Of, NoCall, Makes, Knows, Trail, lost, Stays, GoesDo, GoesAside, Follows}
 use Rattle.send_causes.proofs.AttemptedNames.{follows_first, ids_first, fits_as, calls_behind, PutsCall, few_of, resolves}
 use Rattle.send_causes.proofs.AttemptedFacts.{IsStored, IsStoring, IsOwn, Facts}
 
@@ -66,7 +65,7 @@ locked_first b l f rg att c o s h (retired t g st x y) has = let e : [] ≡ Lock
 locked_first b l f rg att c o s h (claimed seen h' t g st x y z) has = let e : Claimed seen h' ∷ [] ≡ Locked f rg att c o s h ∷ [] = sym t ∙ has in absurd cc
 locked_first b l f rg att c o s h (opened d t st live x y z) has = let e : [] ≡ Locked f rg att c o s h ∷ [] = sym t ∙ has in absurd cc
 locked_first b l f rg att c o s h (locked d x y h' t st live z w v) has = let e : Locked l.word.first l.word.range l.word.attempt d x y h' ∷ [] ≡ Locked f rg att c o s h ∷ [] = sym t ∙ has in (let same : l.word.first ≡ f = cc in same, st)
-locked_first b l f rg att c o s h (leaving t g st x y) has = let e : Rattle.corr_core.specs.declared.marks.Token.TheVariants.Leaving ∷ [] ≡ Locked f rg att c o s h ∷ [] = sym t ∙ has in absurd cc
+locked_first b l f rg att c o s h (leaving t g st x y) has = let e : Leaving ∷ [] ≡ Locked f rg att c o s h ∷ [] = sym t ∙ has in absurd cc
 
 module _ (p : Plan) (q : IdPlan) (narrow : q.slots ≤ 65536) (is_call : Asked → Type 0) (c : Core) (vs : List View) (ts : List Trail) (law : CallLaw q is_call c ts) (us : List IdView) (real_ids : SoundIds p q c us) (facts : Facts q c) where
   -- behind the tick the law holds, and what was so of ids stays so
@@ -194,7 +193,7 @@ module _ (p : Plan) (q : IdPlan) (narrow : q.slots ≤ 65536) (is_call : Asked �
       -- ## A new range
 
       -- what stores the word of its call
-      storing_of : (id : ℕ) (program : Program) → trails.IsStoring id program → (o x : ℕ) × (after : Found (StoreCall o x) → Program) × (program ≡ Aside (StoreCall o x) after) × (x ≡ id)
+      storing_of : (id : ℕ) (program : Program) → StoresNext id program → (o x : ℕ) × (after : Found (StoreCall o x) → Program) × (program ≡ Aside (StoreCall o x) after) × (x ≡ id)
       storing_of id (Aside (StoreCall o x) after) h = (o, x, after, refl, h)
       storing_of id (Do call next) h = absurd h
       storing_of id (Say o outcome next) h = absurd h
@@ -211,7 +210,7 @@ module _ (p : Plan) (q : IdPlan) (narrow : q.slots ≤ 65536) (is_call : Asked �
       storing_of id (Retries n after) h = absurd h
       storing_of id (Aside step next) h = absurd h
 
-      made_own : (k range : ℕ) (next : ℕ → Program) (found : ℕ) → IdGoesOn p q (id_row q (MakeId k range) found no_call u) (next found) → trails.IsStoring (call_id k (parts found).first) (next found) → (o : ℕ) × IsOwn q (Then (MakeId k range) found (next found)) o (call_id k (parts found).first)
+      made_own : (k range : ℕ) (next : ℕ → Program) (found : ℕ) → IdGoesOn p q (id_row q (MakeId k range) found no_call u) (next found) → StoresNext (call_id k (parts found).first) (next found) → (o : ℕ) × IsOwn q (Then (MakeId k range) found (next found)) o (call_id k (parts found).first)
       made_own k range next found ahead storing = let s = storing_of (call_id k (parts found).first) (next found) storing in
           let may : MayId p q (id_row q (MakeId k range) found no_call u) (StoreCall s.0 s.1) = (subst (IdGoesOn p q (id_row q (MakeId k range) found no_call u)) s.3 ahead).0 in (
             s.0,
@@ -256,7 +255,7 @@ module _ (p : Plan) (q : IdPlan) (narrow : q.slots ≤ 65536) (is_call : Asked �
           old : 0 < (word_of_id c.calls.words k).state → (word_of_id (calls_after step found c.calls).words k).first ≡ (word_of_id c.calls.words k).first → (o : ℕ) × IsOwn q (Then step found (next found)) o (call_id k (word_of_id (calls_after step found c.calls).words k).first)
           old some_ first = let r = law.ranges k low some_ in (r.0, subst (λ f. IsOwn q (Then step found (next found)) r.0 (call_id k f)) (sym first) (stays_aside step next found first_is may r.0 (call_id k (word_of_id c.calls.words k).first) r.1))
 
-          by_rise : Rise (word_of_id c.calls.words k) (word_of_id (calls_after step found c.calls).words k) (IsMakeAt step found k (word_of_id (calls_after step found c.calls).words k)) (Rattle.send_causes.proofs.AttemptedWords.Advances p q c us real_ids step found k)
+          by_rise : Rise (word_of_id c.calls.words k) (word_of_id (calls_after step found c.calls).words k) (IsMakeAt step found k (word_of_id (calls_after step found c.calls).words k)) (Advances p q c us real_ids step found k)
               → (o : ℕ) × IsOwn q (Then step found (next found)) o (call_id k (word_of_id (calls_after step found c.calls).words k).first)
           by_rise (is_new made zero_) = made_range step next found x ahead g k made
           by_rise (is_same first some_ same) = old some_ first
@@ -265,7 +264,7 @@ module _ (p : Plan) (q : IdPlan) (narrow : q.slots ≤ 65536) (is_call : Asked �
       -- ## A call that is put back
 
       has_one : (k : ℕ) (w : IdView) (tok : Token Asked) → w.tokens ≡ one k tok → tokens_in k w ≡ tok ∷ []
-      has_one k w tok e = ap (tokens_of k) e ∙ ap (λ b. cond b (tok ∷ []) []) (Rattle.std.proofs.Common.eq-eqb k k refl)
+      has_one k w tok e = ap (tokens_of k) e ∙ ap (λ b. cond b (tok ∷ []) []) (eq-eqb k k refl)
 
       back_row : (k found : ℕ) (asked : Asked) (tok : Token Asked) → HasOne k tok u → tokens_in k (id_row q (PutCall k asked) found no_call u) ≡ with_hand tok (Full asked) ∷ []
       back_row k found asked tok has = ap (λ l. tokens_in k (by_token l (λ x. with_token k (with_hand x (Full asked)) u) u)) has ∙ token_here k (with_hand tok (Full asked)) u

@@ -19,9 +19,9 @@ use Rattle.sock_programs.specs.declared.task.Sizes.{Sizes}
 use Rattle.sock_programs.specs.declared.task.Task.{Task}
 use Rattle.sock_programs.specs.Asides.{StoreAt, call_id, id_slot, id_first}
 use Rattle.sock_programs.specs.Attempts.{claims_from, heading_for, attempt, begin_call, claim_id, call, tried_again, retry_locked, retry, expire_outcome, expire, join}
-use Rattle.sock_programs.specs.Calls.{Call, SubRef, AddRef, StoreCode, LoadLink, TakeLink, FinishLink, PutLink, FreeSlot, LoadName, FreeRequest, ReadNext, FindLink, LookWord, TurnNext, Connect}
+use Rattle.sock_programs.specs.Calls.{SubRef, StoreCode, LoadLink, TakeLink, FinishLink, PutLink, FreeSlot, LoadName, FreeRequest, ReadNext, FindLink, LookWord, TurnNext, Connect, ClaimRequest, PutMessage}
 use Rattle.sock_programs.specs.Clients.{HeldLife, held_under, without_name, give_back, drop_of, operation, client_from, ending_of}
-use Rattle.sock_programs.specs.Heads.{First, Unlocks, Locks, Joins, Reads, Discards, Posting, WasGone, WasStale, WasCrowded, WasQueued, HasLocked, Unlocking, IsOpen, HasNext, Locking, NotThere, Has, Ended}
+use Rattle.sock_programs.specs.Heads.{First, Joins, Reads, Discards, Posting, WasGone, WasStale, WasCrowded, WasQueued, HasLocked, Unlocking, IsOpen, HasNext, Locking, NotThere, Has, Ended, Posts}
 use Rattle.sock_programs.specs.Parts.{part}
 use Rattle.sock_programs.specs.Posts.{post_with, posted, post, decided}
 use Rattle.sock_programs.specs.Programs.{Program, Do, Say, Sent, Rest, TakeMessage, TakeHome, PutBytes, Write, Aside, Round, NO_SOCKET, LAST_VERSION, LAST_GENERATION, recycle, release, address, reach, set_failed, make_socket, open_from, fail_outcome, fail}
@@ -31,7 +31,7 @@ use Rattle.sock_programs.specs.Writings.{Holder, Writing, Puts, Waits, Empties, 
 use Rattle.label_runs.specs.Labels.{LeavesLabel, LeavesLock, LeavesUnlock}
 use Rattle.label_runs.proofs.Loops.{id_back, not_equal}
 use Rattle.label_runs.proofs.Programs.{OpCalls}
-use Rattle.send_causes.proofs.AttemptedTrails.{Trail, lost, Stays, NoCall, Makes, Knows, MayAttempt, Follows}
+use Rattle.send_causes.proofs.AttemptedTrails.{Trail, lost, Stays, NoCall, Makes, Knows, MayAttempt, Follows, GoesDo}
 use Rattle.send_causes.proofs.AttemptedLoops.{way, post_with_goes, posted_goes, post_goes, decide_goes, decided_goes, answer_goes}
 
 module _ (is_call : Asked → Type 0) where
@@ -135,7 +135,7 @@ module _ (is_call : Asked → Type 0) where
 
   -- ## Messages
 
-  accept_goes : (t : Trail) (id q g : ℕ) (heading : Heading) (bytes : List ℕ) (after : Program) → MayAttempt is_call t (Rattle.sock_programs.specs.Calls.PutMessage q heading bytes) → Follows is_call lost after → Follows is_call t (accept id q g heading bytes after)
+  accept_goes : (t : Trail) (id q g : ℕ) (heading : Heading) (bytes : List ℕ) (after : Program) → MayAttempt is_call t (PutMessage q heading bytes) → Follows is_call lost after → Follows is_call t (accept id q g heading bytes after)
   accept_goes t id q g heading bytes after may goes = (
     may,
     λ _ _. (
@@ -178,18 +178,18 @@ module _ (is_call : Asked → Type 0) where
     full_goes : (t : Trail) → Follows is_call t (post id 3001 n (release (socket_id_slot socket) (λ _. next)))
     full_goes t = post_goes is_call t id 3001 n (release (socket_id_slot socket) (λ _. next)) (release_goes lost (socket_id_slot socket) (λ _. next) (λ _. goes))
 
-    claims_goes : (more q : ℕ) (heading : Heading) (bytes : List ℕ) → MayAttempt is_call has_claim (Rattle.sock_programs.specs.Calls.PutMessage q heading bytes)
+    claims_goes : (more q : ℕ) (heading : Heading) (bytes : List ℕ) → MayAttempt is_call has_claim (PutMessage q heading bytes)
         → Follows is_call (trying asked id n socket) (claims_from more q socket heading bytes (post id 3001 n (release (socket_id_slot socket) (λ _. next))) (release (socket_id_slot socket) (λ _. next)))
     claims_goes zero q heading bytes may = full_goes (trying asked id n socket)
     claims_goes (suc more) q heading bytes may = (tt, λ found _. by (claims_goes more (q + 1) heading bytes may) found (found % 2 == 0) refl)
       where
         by : Follows is_call (trying asked id n socket) (claims_from more (q + 1) socket heading bytes (post id 3001 n (release (socket_id_slot socket) (λ _. next))) (release (socket_id_slot socket) (λ _. next)))
-            → (found : ℕ) (b : Bool) → (found % 2 == 0) ≡ b → (u : Trail) × Rattle.send_causes.proofs.AttemptedTrails.GoesDo (trying asked id n socket) (Rattle.sock_programs.specs.Calls.ClaimRequest socket q) found u
+            → (found : ℕ) (b : Bool) → (found % 2 == 0) ≡ b → (u : Trail) × GoesDo (trying asked id n socket) (ClaimRequest socket q) found u
             × Follows is_call u (cond b (accept socket q (found / 2) heading bytes (release (socket_id_slot socket) (λ _. next))) (claims_from more (q + 1) socket heading bytes (post id 3001 n (release (socket_id_slot socket) (λ _. next))) (release (socket_id_slot socket) (λ _. next))))
         by later found true free = (has_claim, inr (inr (eqb-true (found % 2) 0 free, name_of asked n, refl, refl)), accept_goes has_claim socket q (found / 2) heading bytes (release (socket_id_slot socket) (λ _. next)) may (release_goes lost (socket_id_slot socket) (λ _. next) (λ _. goes)))
         by later found false used = (trying asked id n socket, inl refl, later)
 
-    looks_goes : (heading : Heading) (bytes : List ℕ) → MayAttempt is_call has_claim (Rattle.sock_programs.specs.Calls.PutMessage 0 heading bytes) → Follows is_call (trying asked id n socket) (Do (LookWord socket) (λ found. cond (eqb (vref_version found % 2) 0)
+    looks_goes : (heading : Heading) (bytes : List ℕ) → MayAttempt is_call has_claim (PutMessage 0 heading bytes) → Follows is_call (trying asked id n socket) (Do (LookWord socket) (λ found. cond (eqb (vref_version found % 2) 0)
         (claims_from requests 0 socket heading bytes (post id 3001 n (release (socket_id_slot socket) (λ _. next))) (release (socket_id_slot socket) (λ _. next))) (post id 1009 n (release (socket_id_slot socket) (λ _. next)))))
     looks_goes heading bytes may = (
       tt,
@@ -239,7 +239,7 @@ module _ (is_call : Asked → Type 0) where
   call_goes : (requests ids : ℕ) (asked : Asked) → is_call asked → (next : Program) → Follows is_call lost next → Follows is_call lost (call requests ids asked next)
   call_goes requests ids asked called next goes = (tt, λ word _. by word (eqb word 0) refl)
     where
-      by : (word : ℕ) (b : Bool) → eqb word 0 ≡ b → (u : Trail) × Rattle.send_causes.proofs.AttemptedTrails.GoesDo lost (LoadName (name_of asked 0)) word u × Follows is_call u (cond b (Say asked.operation outcomes.Unopened next) (claim_id ids 0 requests (word - 1) asked next))
+      by : (word : ℕ) (b : Bool) → eqb word 0 ≡ b → (u : Trail) × GoesDo lost (LoadName (name_of asked 0)) word u × Follows is_call u (cond b (Say asked.operation outcomes.Unopened next) (claim_id ids 0 requests (word - 1) asked next))
       by word true none_ = (lost, inl refl, goes)
       by word false some_ = let r = claim_goes ids 0 requests (word - 1) asked called next goes in
           (r.0, ⊎_elim (λ e. inr (inr (not_equal word 0 some_, e))) (λ e. inr (inl e)) r.1, r.2)
@@ -253,7 +253,7 @@ module _ (is_call : Asked → Type 0) where
     tried_goes : (asked : Asked) → is_call asked → (exit : Unlocking) → ((w e : ℕ) → exit ≡ HasNext w e → (parts w).first ≡ id_first id) → Follows is_call (known asked) (tried_again requests id n asked next exit)
     tried_goes asked called (IsOpen w) first = (tt, λ word _. by word (eqb word 0) refl)
       where
-        by : (word : ℕ) (b : Bool) → eqb word 0 ≡ b → (u : Trail) × Rattle.send_causes.proofs.AttemptedTrails.GoesDo (known asked) (LoadName (name_of asked n)) word u × Follows is_call u (cond b (post id 1009 n next) (attempt requests asked id n (word - 1) next))
+        by : (word : ℕ) (b : Bool) → eqb word 0 ≡ b → (u : Trail) × GoesDo (known asked) (LoadName (name_of asked n)) word u × Follows is_call u (cond b (post id 1009 n next) (attempt requests asked id n (word - 1) next))
         by word true none_ = (known asked, inl refl, post_goes is_call (known asked) id 1009 n next goes)
         by word false some_ = (trying asked id n (word - 1), inr (inr (not_equal word 0 some_, refl)), attempt_goes requests asked called id n (word - 1) next few goes)
     tried_goes asked called (HasNext w e) first = decide_goes is_call (known asked) id w e (decided id next) (first w e refl) (decided_goes is_call id next goes)
@@ -382,7 +382,7 @@ module _ (is_call : Asked → Type 0) where
   ends_goes id e w [] next first goes = decide_goes is_call lost id w e (decided id next) first (decided_goes is_call id next goes)
   ends_goes id e w (f ∷ fs) next first goes = answer_goes is_call lost f (id_first id) next goes
 
-  last_goes : (id e : ℕ) (kept : List Frame) (next : Program) → Follows is_call lost next → (exit : Posting) → LeavesLabel (Rattle.sock_programs.specs.Heads.Posts id e 0) exit → Follows is_call lost (posted_last id e kept next exit)
+  last_goes : (id e : ℕ) (kept : List Frame) (next : Program) → Follows is_call lost next → (exit : Posting) → LeavesLabel (Posts id e 0) exit → Follows is_call lost (posted_last id e kept next exit)
   last_goes id e kept next goes (HasLocked w) l = ends_goes id e w (kept_for id (parts w).range kept) next l goes
   last_goes id e kept next goes WasGone l = goes
   last_goes id e kept next goes WasStale l = goes

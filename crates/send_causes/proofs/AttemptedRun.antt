@@ -14,7 +14,7 @@ use Rattle.sock_programs.specs.Tasks.{opens, plan_of, id_plan_of}
 use Rattle.sock_programs.specs.Scripts.{all_tasks, IsRunWithCalls}
 use Rattle.sock_programs.specs.Told.{IsTask, Made}
 use Rattle.sock_programs.specs.ToldCalls.{Accepted, Fixed, IsSent}
-use Rattle.sock_runs.proofs.Whole.{views_ended, ended_sound, end_rests}
+use Rattle.sock_runs.proofs.Whole.{views_ended, ended_sound, end_rests, AreFittingIn, Begins}
 use Rattle.sock_causes.specs.Causes.{Asks}
 use Rattle.sock_causes.specs.Kept.{IsSpoken}
 use Rattle.sock_causes.specs.PlainTasks.{told_tasks_of}
@@ -39,6 +39,7 @@ use Rattle.send_causes.proofs.AttemptedSent.{IsNamedOn, get_same, run_attempted}
 use Rattle.send_causes.proofs.AttemptedNamed.{tasks_are, end_named}
 use Rattle.send_causes.proofs.AttemptedLives.{all_over}
 use Rattle.send_causes.proofs.AttemptedStored.{ids_at, stored_run, words_stored}
+use Rattle.sock_runs.proofs.LinkTicks.{RetriesGo}
 
 all_on : {A : Type 0} (P Q : A → Type 0) → ((x : A) → P x → Q x) → (xs : List A) → AllByRecursion P xs → AllByRecursion Q xs
 all_on P Q f [] a = tt
@@ -49,13 +50,13 @@ module _ (script : List Item) (made : AreMade script) (there : AreThere script) 
   abbrev vs : List View
   vs = first_views script
 
-  abbrev begins : Rattle.sock_runs.proofs.Whole.Begins script (first_views script)
+  abbrev begins : Begins script (first_views script)
   begins = start script made turns core is
 
-  abbrev goes : Rattle.sock_runs.proofs.LinkTicks.RetriesGo (plan_of script)
+  abbrev goes : RetriesGo (plan_of script)
   goes = go script made turns core is
 
-  abbrev fits : Rattle.sock_runs.proofs.Whole.AreFittingIn script turns core is
+  abbrev fits : AreFittingIn script turns core is
   fits = fitting script made turns core is
 
   abbrev bare : (i : ℕ) (v : View) → get_elem? (first_views script) i ≡ some v → (v.claims ≡ []) × (v.lists ≡ [] ∷ [])

@@ -22,7 +22,7 @@ use Rattle.sock_programs.specs.Scripts.{all_tasks, IsRunWithCalls}
 use Rattle.sock_programs.specs.Told.{AreTasks, IsTask, Made}
 use Rattle.sock_programs.specs.ToldCalls.{Accepted, Fixed, IsSent, OfSend, OfCall}
 use Rattle.sock_runs.specs.Sound.{Sound, AllRest}
-use Rattle.sock_runs.proofs.Whole.{views_ended, ended_sound, end_rests}
+use Rattle.sock_runs.proofs.Whole.{views_ended, ended_sound, end_rests, AreFittingIn, IsOwed, Begins}
 use Rattle.sock_causes.specs.Causes.{Asks}
 use Rattle.sock_causes.specs.Kept.{is_of_send, IsSpoken, Story}
 use Rattle.sock_causes.specs.PlainTasks.{told_tasks_of}
@@ -50,6 +50,7 @@ use Rattle.send_causes.proofs.Sends.{owed, orders_of_run, narrow, opening_claims
 use Rattle.send_causes.proofs.AttemptedIds.{AreRisingIn}
 use Rattle.send_causes.proofs.AttemptedRuns.{IsWithin, end_counted}
 use Rattle.send_causes.proofs.AttemptedCalls.{AreStored, single, shows}
+use Rattle.sock_runs.proofs.LinkTicks.{RetriesGo}
 
 -- ## Accepted messages
 
@@ -108,13 +109,13 @@ module _ (script : List Item) (made : AreMade script) (there : AreThere script) 
   abbrev vs : List View
   vs = first_views script
 
-  abbrev begins : Rattle.sock_runs.proofs.Whole.Begins script (first_views script)
+  abbrev begins : Begins script (first_views script)
   begins = start script made turns core is
 
-  abbrev goes : Rattle.sock_runs.proofs.LinkTicks.RetriesGo (plan_of script)
+  abbrev goes : RetriesGo (plan_of script)
   goes = go script made turns core is
 
-  abbrev fits : Rattle.sock_runs.proofs.Whole.AreFittingIn script turns core is
+  abbrev fits : AreFittingIn script turns core is
   fits = fitting script made turns core is
 
   abbrev fresh : (i : ℕ) (v : View) → get_elem? (first_views script) i ≡ some v → v.lists ≡ [] ∷ []
@@ -123,7 +124,7 @@ module _ (script : List Item) (made : AreMade script) (there : AreThere script) 
   abbrev bare : (i : ℕ) (v : View) → get_elem? (first_views script) i ≡ some v → (v.claims ≡ []) × (v.lists ≡ [] ∷ [])
   bare = λ i v at. (opening_claims (plan_of script) (all_seats (all_tasks script) (length (opens script))) i v at, opening_fresh (plan_of script) (all_seats (all_tasks script) (length (opens script))) i v at)
 
-  abbrev owes : Rattle.sock_runs.proofs.Whole.IsOwed script turns core is
+  abbrev owes : IsOwed script turns core is
   owes = owed script made turns core is closes
 
   abbrev one_each : (o x : ℕ) → ids o ≢ 0 → ids o ≡ ids x → o ≡ x

@@ -1,5 +1,5 @@
 -- In a whole run the word of each call is that of its id as the run ends, and whoever stores an at word stores one of that id.
-use Rattle.std.proofs.Common.{◌≡◌, ◌≢◌, ℕ, zero, suc, ◌+◌, ◌<◌, ◌≤◌, ◌⊎◌, inl, inr, ⊎_elim, List, [], ◌∷◌, ◌++◌, length, map, replicate, get_or, refl, sym, ap, ◌∙◌, subst, arith}
+use Rattle.std.proofs.Common.{◌≡◌, ◌≢◌, ℕ, zero, suc, ◌<◌, ◌≤◌, inl, inr, ⊎_elim, List, [], ◌∷◌, ◌++◌, length, map, replicate, get_or, refl, sym, ap, ◌∙◌, subst, arith, length-set}
 use Rattle.std.specs.List.{AllByRecursion}
 use Rattle.std.proofs.lemmas.List.{append-nil, length-map, get_or_past}
 use mathlib.Core.Logic.{dite}
@@ -19,7 +19,7 @@ use Rattle.id_runs.proofs.Opening.{unused, all_go}
 use Rattle.sock_message.specs.Asked.{Asked}
 use Rattle.sock_programs.specs.Asides.{StoreCall, call_id, id_slot, id_first}
 use Rattle.sock_programs.specs.Clients.{ending_of}
-use Rattle.sock_programs.specs.Cores.{Core, SeatState, with_seat}
+use Rattle.sock_programs.specs.Cores.{Core, with_seat, next_step, resolved}
 use Rattle.sock_programs.specs.declared.task.Task.{Task}
 use Rattle.sock_programs.specs.Programs.{Program, Rest, Aside}
 use Rattle.sock_programs.specs.Runs.{IsAtRest}
@@ -28,7 +28,7 @@ use Rattle.sock_programs.specs.Tasks.{opens, calls, plan_of, id_plan_of}
 use Rattle.sock_programs.specs.Scripts.{sizes_of, programs, readers_from, all_programs, all_tasks, opened, ending, set_up, played, is_ending, IsRunWithCalls}
 use Rattle.sock_runs.specs.Sound.{IsAhead, AllRest, views_after, views_along}
 use Rattle.sock_runs.proofs.Along.{seat_ahead, seat_rests, ticked_ahead, run_ahead, beginning_ahead}
-use Rattle.sock_runs.proofs.Quiets.{ticked_rests, run_rests}
+use Rattle.sock_runs.proofs.Quiets.{ticked_rests, run_rests, run_seats}
 use Rattle.sock_runs.proofs.Whole.{views_played, views_closed, set_up_answered, end_answered}
 use Rattle.sock_causes.proofs.Final.{at_there}
 use Rattle.sock_causes.proofs.Ticks.{elem_there}
@@ -59,13 +59,15 @@ use Rattle.client_laws.proofs.Fresh.{opening_fresh}
 use Rattle.send_causes.proofs.AttemptedBegin.{asked_by}
 use Rattle.send_causes.proofs.AttemptedWords.{Rise, AdvancesAt, is_new, is_same, is_more, tick_rises}
 use Rattle.send_causes.proofs.AttemptedIds.{AdvancesId, AreRising, AreRisingIn}
-use Rattle.send_causes.proofs.AttemptedTrails.{Trail, Knows, lost, Follows}
+use Rattle.send_causes.proofs.AttemptedTrails.{Trail, Knows, lost, Follows, NoCall, Makes, Of}
 use Rattle.send_causes.proofs.AttemptedPrograms.{ending_goes}
 use Rattle.send_causes.proofs.AttemptedNames.{follows_first}
 use Rattle.send_causes.proofs.AttemptedNamed.{all_follow, begins_named}
 use Rattle.send_causes.proofs.AttemptedCalls.{AreStored}
 use Rattle.send_causes.proofs.AttemptedFacts.{IsStoring, IsOwn, facts}
 use Rattle.send_causes.proofs.AttemptedOwn.{IsTrueOf, CallLaw, beside, own_ticks}
+use Rattle.sock_runs.proofs.Opening.{mapped}
+use Rattle.joint_runs.proofs.Starts.{narrow}
 
 -- the id that an at word names
 named_id : (id k n w : ℕ) → w ≡ at_word (id_first id) (id_slot id) k n → k < 65535 → n ≤ 6 → id_slot id < 65536 → call_id (at_word_slot w) (at_word_first w) ≡ id
@@ -143,9 +145,9 @@ module _ (p : Plan) (q : IdPlan) (clients : List (List Task)) (gives : ℕ → L
   told_own : (c : Core) (o id : ℕ) → IsOwn q c o id → IsOwn q (is_ending c) o id
   told_own c o id own = record { inside = own.inside; some_ = own.some_; low = own.low; either = ⊎_elim (λ s. inl s) (λ (s : IsStoring q c o id). inr (record { seat = s.seat; state = s.state; next = s.next; at = s.at; is = s.is })) own.either }
 
-  told_of : (c : Core) (x : Rattle.send_causes.proofs.AttemptedTrails.Of) → IsTrueOf q c x → IsTrueOf q (is_ending c) x
-  told_of c Rattle.send_causes.proofs.AttemptedTrails.NoCall h = tt
-  told_of c (Rattle.send_causes.proofs.AttemptedTrails.Makes id) h = tt
+  told_of : (c : Core) (x : Of) → IsTrueOf q c x → IsTrueOf q (is_ending c) x
+  told_of c NoCall h = tt
+  told_of c (Makes id) h = tt
   told_of c (Knows o id) h = told_own c o id h
 
   told_owns : (c : Core) (vs : List View) → BothSound p q c vs → 0 < length c.seats → LeadsTo p q clients gives (is_ending c) → Owns c → Owns (is_ending c)
@@ -193,7 +195,7 @@ module _ (script : List Item) (made : AreMade script) (there : AreThere script) 
   slots = scripts.have_slots script made there range (given core)
 
   abbrev small : (id_plan_of script).slots ≤ 65536
-  small = Rattle.joint_runs.proofs.Starts.narrow (plan_of script) (id_plan_of script) (all_tasks script) (calls script) (opens script) made
+  small = narrow (plan_of script) (id_plan_of script) (all_tasks script) (calls script) (opens script) made
 
   abbrev Leads : Core → Type 0
   Leads c = LeadsTo (plan_of script) (id_plan_of script) (all_tasks script) (given core) c
@@ -266,7 +268,7 @@ module _ (script : List Item) (made : AreMade script) (there : AreThere script) 
         story = first_story (plan_of script) (id_plan_of script) (all_tasks script) (given core) numbered slots (calls script) (opens script) (scripts.begins script made there range (given core)) made.seats length_is few_tries opened_leads;
         trails = map (λ (x : Program). lost) (all_programs (programs (sizes_of (plan_of script) (id_plan_of script)) (all_tasks script)) (readers_from (calls script) 0 (opens script)));
         law = record {
-          knows = λ j t at. subst (λ (y : Trail). IsTrueOf (id_plan_of script) (opened script) y.of) (Rattle.sock_runs.proofs.Opening.mapped (λ (x : Program). lost) (all_programs (programs (sizes_of (plan_of script) (id_plan_of script)) (all_tasks script)) (readers_from (calls script) 0 (opens script))) j t at).2 tt;
+          knows = λ j t at. subst (λ (y : Trail). IsTrueOf (id_plan_of script) (opened script) y.of) (mapped (λ (x : Program). lost) (all_programs (programs (sizes_of (plan_of script) (id_plan_of script)) (all_tasks script)) (readers_from (calls script) 0 (opens script))) j t at).2 tt;
           ranges = λ i low live. absurd (let free : (word_of_id (opened script).calls.words i).state ≡ 0 = ap (λ (w : Parts). w.state) ((unused (id_plan_of script)).ids i low) in omega (arith, free, live));
           calls = n.calls;
           each = n.each;
@@ -289,11 +291,11 @@ module _ (script : List Item) (made : AreMade script) (there : AreThere script) 
   some_seats = let seats = made.seats in omega (arith, seats)
 
   many_played : length (played script is.setup (is.scheduled ++ is.later)).seats ≡ (id_plan_of script).seats
-  many_played = Rattle.sock_runs.proofs.Quiets.run_seats (plan_of script) (set_up script is.setup) (is.scheduled ++ is.later) ∙ (Rattle.sock_runs.proofs.Quiets.run_seats (plan_of script) (opened script) (replicate is.setup (quiet 0))
-      ∙ (length-map (all_programs (programs (sizes_of (plan_of script) (id_plan_of script)) (all_tasks script)) (readers_from (calls script) 0 (opens script))) (λ (program : Program). record { program = Rattle.sock_programs.specs.Cores.next_step (Rattle.sock_programs.specs.Cores.resolved [] program); hand = [] }) ∙ length_is))
+  many_played = run_seats (plan_of script) (set_up script is.setup) (is.scheduled ++ is.later) ∙ (run_seats (plan_of script) (opened script) (replicate is.setup (quiet 0))
+      ∙ (length-map (all_programs (programs (sizes_of (plan_of script) (id_plan_of script)) (all_tasks script)) (readers_from (calls script) 0 (opens script))) (λ (program : Program). record { program = next_step (resolved [] program); hand = [] }) ∙ length_is))
 
   many_closed : length (run (plan_of script) (ending script (played script is.setup (is.scheduled ++ is.later))) (replicate is.last (quiet 0))).seats ≡ (id_plan_of script).seats
-  many_closed = Rattle.sock_runs.proofs.Quiets.run_seats (plan_of script) (ending script (played script is.setup (is.scheduled ++ is.later))) (replicate is.last (quiet 0)) ∙ (Rattle.std.proofs.Common.length-set (played script is.setup (is.scheduled ++ is.later)).seats 0 _ ∙ many_played)
+  many_closed = run_seats (plan_of script) (ending script (played script is.setup (is.scheduled ++ is.later))) (replicate is.last (quiet 0)) ∙ (length-set (played script is.setup (is.scheduled ++ is.later)).seats 0 _ ∙ many_played)
 
   begun : Has (ending script (played script is.setup (is.scheduled ++ is.later))) × ((o id : ℕ) → IsOwn (id_plan_of script) (played script is.setup (is.scheduled ++ is.later)) o id → IsOwn (id_plan_of script) (ending script (played script is.setup (is.scheduled ++ is.later))) o id)
   begun = ending_owns p q (all_tasks script) gives numbered slots small (IsCallOf script) (opens script) (played script is.setup (is.scheduled ++ is.later)) (views_played script turns core is (first_views script)) played_both (let m = many_played in let s = some_seats in omega (arith, m, s)) played_ahead

@@ -44,9 +44,9 @@ GoesDo t call found u = Stays t u
 -- ## Steps aside
 
 -- the next step stores the word of the call that has the id
-abbrev pub IsStoring : ℕ → Program → Type 0
-IsStoring id (Aside (StoreCall o x) next) = x ≡ id
-IsStoring id other = ⊥
+abbrev pub StoresNext : ℕ → Program → Type 0
+StoresNext id (Aside (StoreCall o x) next) = x ≡ id
+StoresNext id other = ⊥
 
 -- the at word is that of an attempt of the call
 abbrev pub IsOwnStore : Of → ℕ → ℕ → Type 0
@@ -59,7 +59,7 @@ PutsBack i asked after u = (w : ℕ) × (advance : Bool) × (next : Exit (Unlock
 -- these are the calls
 module _ (is_call : Asked → Type 0) where
   abbrev pub GoesAside : Trail → (step : Step) → Program → Found step → Trail → Type 0
-  GoesAside t (MakeId i range) after found u = (u ≡ record { name = t.name; claimed = t.claimed; of = Makes (call_id i (parts found).first) }) × IsStoring (call_id i (parts found).first) after
+  GoesAside t (MakeId i range) after found u = (u ≡ record { name = t.name; claimed = t.claimed; of = Makes (call_id i (parts found).first) }) × StoresNext (call_id i (parts found).first) after
   GoesAside t (StoreCall o id) after found u = (u ≡ lost) ⊎ ((t.of ≡ Makes id) × (u ≡ record { name = t.name; claimed = t.claimed; of = Knows o id }))
   GoesAside t (StoreAt o w) after found u = Stays t u × IsOwnStore t.of o w
   GoesAside t (PutCall i asked) after found u = (Stays t u ⊎ PutsBack i asked after u) × is_call asked
