@@ -22,3 +22,10 @@ pub mod Lists
 pub mod Firsts
 pub mod FirstRuns
 pub mod Beside
+pub mod LateLooks
+pub mod LateSeats
+pub mod LateRests
+pub mod LateEnding
+pub mod LateLives
+pub mod LatePlaces
+pub mod LateDropped
