@@ -42,3 +42,5 @@ pub mod Scripts
 pub mod Whole
 pub mod Posted
 pub mod Shown
+pub mod Handled
+pub mod HandledStates
