@@ -139,7 +139,7 @@ module _ (F : Type 0) (kept : List Frame) where
         (both (at_word_link w == k) (post_with id e (posted_last id e kept rest)) rest (tt, λ found. after_judged id e found rest (after_posted id e rest (after_each os k code next a))) (after_each os k code next a)),
   )
 
-after_read : (F : Type 0) (calls : List ℕ) (how : Ended) → (how.fault ≡ true → F) → After F how.reading.kept (read calls how)
+pub after_read : (F : Type 0) (calls : List ℕ) (how : Ended) → (how.fault ≡ true → F) → After F how.reading.kept (read calls how)
 after_read F calls how faulty =
     let last : Program = post_each calls how.reading.link how.code how.reading.kept (thrown_away how) in
     let a : After F how.reading.kept last = after_each F how.reading.kept calls how.reading.link how.code (thrown_away how) (by_fault how.fault refl) in

@@ -44,3 +44,4 @@ pub mod Posted
 pub mod Shown
 pub mod Handled
 pub mod HandledStates
+pub mod HandledSteps
