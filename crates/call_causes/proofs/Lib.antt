@@ -45,3 +45,4 @@ pub mod Shown
 pub mod Handled
 pub mod HandledStates
 pub mod HandledSteps
+pub mod HandledFacts
