@@ -46,3 +46,4 @@ pub mod Handled
 pub mod HandledStates
 pub mod HandledSteps
 pub mod HandledFacts
+pub mod HandledTicks
