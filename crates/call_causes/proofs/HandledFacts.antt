@@ -23,7 +23,7 @@ use Rattle.call_causes.specs.Says.{Mark, MayAside, SaysOn}
 use Rattle.call_causes.specs.Stories.{At, word_at, IsBehind, KnowsStep, births_after, claims_after, ReadsLaw, CallStory}
 use Rattle.call_causes.proofs.Births.{Turn, keeps, ends, makes, IsMake, IsEnd, turn}
 use Rattle.call_causes.proofs.Effects.{word_is}
-use Rattle.call_causes.proofs.Knowing.{is_sized, knows}
+use Rattle.call_causes.proofs.Knowing.{is_sized, are_low, knows}
 use Rattle.call_causes.proofs.Handled.{bound, Goes}
 
 bound_free : (w : Parts) → w.state ≡ 0 → bound w ≡ w.first
@@ -78,6 +78,7 @@ Tied i c other = Unit {0}
 abbrev pub FindsWord : List ℕ → List ℕ → (step : Step) → Found step → Type 0
 FindsWord ws ws' (LoadIdWord i) found = parts found ≡ parts (slice_index ws (id_word i))
 FindsWord ws ws' (LockId i from) found = parts found ≡ parts (slice_index ws (id_word i))
+FindsWord ws ws' (PostId i from e) found = (parts found ≡ parts (slice_index ws (id_word i))) × ((parts (slice_index ws (id_word i))).first ≤ 67108856)
 FindsWord ws ws' (EndId i) found = (parts (slice_index ws' (id_word i))).first ≡ (parts (slice_index ws (id_word i))).first + (parts (slice_index ws (id_word i))).range
 FindsWord ws ws' step found = Unit {0}
 
@@ -87,24 +88,24 @@ pub record Facts (q : IdPlan) (i : ℕ) (c : Core) (step : Step) (found : Found 
   pub tied : Tied i c step
 
 module _ (p : Plan) (q : IdPlan) (clients : List (List Task)) (gives : ℕ → List ℕ) (w : Scene) where
-  finds_word : (w' : Scene) (m : Mark) (plan : w.core.calls.plan ≡ q) (sized : length w.core.calls.words ≡ all_words q) (step : Step) (found : Found step) → IsBehind p q clients gives w w' m step found → KnowsStep p q clients gives w step found → FindsWord w.core.calls.words w'.core.calls.words step found
-  finds_word w' m plan sized (LoadIdWord i) found b kn = kn.0.1
-  finds_word w' m plan sized (LockId i from) found b kn = kn.0.1
-  finds_word w' m plan sized (EndId i) found b kn =
+  finds_word : (w' : Scene) (m : Mark) (low : (k : ℕ) → k < q.slots → (word_at w k).first ≤ 67108856) (plan : w.core.calls.plan ≡ q) (sized : length w.core.calls.words ≡ all_words q) (step : Step) (found : Found step) → IsBehind p q clients gives w w' m step found → KnowsStep p q clients gives w step found → FindsWord w.core.calls.words w'.core.calls.words step found
+  finds_word w' m low plan sized (LoadIdWord i) found b kn = kn.0.1
+  finds_word w' m low plan sized (LockId i from) found b kn = kn.0.1
+  finds_word w' m low plan sized (EndId i) found b kn =
       let x = word_is p q clients gives w w' m plan i kn.0 sized (packed (free_word ((parts found).first + (parts found).range))) b.words ∙ parts_packed (free_word ((parts found).first + (parts found).range)) (omega arith) (omega arith) (omega arith) (omega arith) (omega arith) (omega arith) in
       ap (λ (y : Parts). y.first) x ∙ ap (λ (y : Parts). y.first + y.range) kn.1
-  finds_word w' m plan sized (ClaimId i) found b kn = tt
-  finds_word w' m plan sized (PutCall i asked) found b kn = tt
-  finds_word w' m plan sized (MakeId i range) found b kn = tt
-  finds_word w' m plan sized (StoreCall o id) found b kn = tt
-  finds_word w' m plan sized (LoadCall o) found b kn = tt
-  finds_word w' m plan sized (StoreAt o x) found b kn = tt
-  finds_word w' m plan sized (LoadAt o) found b kn = tt
-  finds_word w' m plan sized (PostId i from e) found b kn = tt
-  finds_word w' m plan sized (UnlockId i from advance) found b kn = tt
-  finds_word w' m plan sized (FreeId i) found b kn = tt
-  finds_word w' m plan sized (TakeCall i) found b kn = tt
-  finds_word w' m plan sized (TakeBytes l room) found b kn = tt
+  finds_word w' m low plan sized (ClaimId i) found b kn = tt
+  finds_word w' m low plan sized (PutCall i asked) found b kn = tt
+  finds_word w' m low plan sized (MakeId i range) found b kn = tt
+  finds_word w' m low plan sized (StoreCall o id) found b kn = tt
+  finds_word w' m low plan sized (LoadCall o) found b kn = tt
+  finds_word w' m low plan sized (StoreAt o x) found b kn = tt
+  finds_word w' m low plan sized (LoadAt o) found b kn = tt
+  finds_word w' m low plan sized (PostId i from e) found b kn = (kn.0.1, low i kn.0.0)
+  finds_word w' m low plan sized (UnlockId i from advance) found b kn = tt
+  finds_word w' m low plan sized (FreeId i) found b kn = tt
+  finds_word w' m low plan sized (TakeCall i) found b kn = tt
+  finds_word w' m low plan sized (TakeBytes l room) found b kn = tt
 
   tied_to : (ms : List Mark) (reads : ReadsLaw p q clients gives w ms) (i : ℕ) (m : Mark) (at : At ms i m) (step : Step) → MayAside p q clients gives w m step → Tied i w.core step
   tied_to ms reads i m at (TakeBytes l room) may = (reads.tied i l m at may, reads.inside i l m at may)
@@ -129,6 +130,6 @@ module _ (p : Plan) (q : IdPlan) (clients : List (List Task)) (gives : ℕ → L
         let sized = is_sized p q clients gives w us ids in
         record {
           goes = λ j low. turn_goes (IsMake step j) (IsEnd step j) (parts (slice_index w.core.calls.words (id_word j))) (parts (slice_index (calls_after step found w.core.calls).words (id_word j))) (turn p q clients gives w scene m ids.plan sized (story.slots.fits i m at) step found b kn says.0 j low);
-          finds = finds_word scene m ids.plan sized step found b kn;
+          finds = finds_word scene m (are_low p q clients gives w us ids) ids.plan sized step found b kn;
           tied = tied_to ms story.reads i m at step says.0;
         }

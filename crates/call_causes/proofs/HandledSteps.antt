@@ -1,5 +1,5 @@
 -- Each step of the reader of a link goes on with what it has handled.
-use Rattle.std.proofs.Common.{◌≡◌, ◌≢◌, ℕ, zero, suc, ◌+◌, ◌-◌, ◌<◌, ◌==◌, ◌⊎◌, inl, inr, ⊎_elim, ◌&&◌, not, Bool, true, false, cond, eqb, eqb-true, nat_le, nat_lt, List, [], ◌∷◌, ◌++◌, length, append_assoc, append-nil, Option, None, Some, refl, sym, ap, ◌∙◌, subst, arith}
+use Rattle.std.proofs.Common.{◌≡◌, ◌≢◌, ℕ, zero, suc, ◌+◌, ◌-◌, ◌<◌, ◌≤◌, ◌==◌, ◌⊎◌, inl, inr, ⊎_elim, ◌&&◌, not, Bool, true, false, cond, eqb, eqb-true, nat_le, nat_lt, List, [], ◌∷◌, ◌++◌, length, append_assoc, append-nil, Option, None, Some, refl, sym, ap, ◌∙◌, subst, arith}
 use Rattle.std.proofs.lemmas.Bool.{true≢false}
 use Rattle.sock_words.specs.declared.outcome.Outcome.{Outcome}
 use Rattle.corr_core.specs.Word.{Parts, parts, posted_word}
@@ -23,8 +23,15 @@ abbrev pub bytes_in : Taking → List ℕ
 bytes_in (Bytes bytes) = bytes
 bytes_in other = []
 
--- the reader of link k, whose `open` is operation o
-module _ (k ids : ℕ) (calls : List ℕ) (o : ℕ) (many : length calls ≡ ids) where
+-- what a step finds
+abbrev pub Finds : Sit → Sit → (step : Step) → Found step → Type 0
+Finds s t (LoadIdWord i) found = parts found ≡ word_of s i
+Finds s t (LockId i from) found = parts found ≡ word_of s i
+Finds s t (PostId i from e) found = (parts found ≡ word_of s i) × ((word_of s i).first ≤ 67108856)
+Finds s t (EndId i) found = (word_of t i).first ≡ (word_of s i).first + (word_of s i).range
+Finds s t step found = Unit {0}
+
+module _ (k ids : ℕ) where
   -- behind a take: the rest of the frames waits
   pub record Took (s t : Sit) (tk : Taking) : Type 0 where
     pub words : (i : ℕ) → i < ids → Goes (word_of s i) (word_of t i)
@@ -32,6 +39,21 @@ module _ (k ids : ℕ) (calls : List ℕ) (o : ℕ) (many : length calls ≡ ids
     pub bytes : t.bytes ≡ s.bytes ++ bytes_in tk
     pub waits : (fs : List Frame) → frames_in t.bytes ≡ frames_in s.bytes ++ fs → AllFrom (Waits k ids t) (length (frames_in s.bytes)) fs
 
+  module _ (St : Sit → Program → Type 0) where
+    -- how the seat stands behind a step that leads from one situation to another
+    abbrev pub Onward : Sit → Sit → List Retry → Program → Type 0
+    Onward s t ws (Do call next) = (found : ℕ) → Later k ids s t → St t (next_step (resolved ws (next found)))
+    Onward s t ws (Aside (TakeBytes l room) next) = (tk : Taking) → Took s t tk → St t (next_step (resolved ws (next tk)))
+    Onward s t ws (Aside step next) = (found : Found step) → Later k ids s t → Finds s t step found → St t (next_step (resolved ws (next found)))
+    Onward s t ws (TakeMessage q next) = ⊥
+    Onward s t ws (TakeHome l next) = ⊥
+    Onward s t ws (PutHome l n after) = ⊥
+    Onward s t ws (PutBytes l asked bytes next) = ⊥
+    Onward s t ws (AskReady l next) = ⊥
+    Onward s t ws other = Unit {0}
+
+-- the reader of link k, whose `open` is operation o
+module _ (k ids : ℕ) (calls : List ℕ) (o : ℕ) (many : length calls ≡ ids) where
   -- ## Where it stands
 
   -- behind the frames of a piece
@@ -112,30 +134,15 @@ module _ (k ids : ℕ) (calls : List ℕ) (o : ℕ) (many : length calls ≡ ids
 
   -- ## A step
 
-  abbrev pub Finds : Sit → Sit → (step : Step) → Found step → Type 0
-  Finds s t (LoadIdWord i) found = parts found ≡ word_of s i
-  Finds s t (LockId i from) found = parts found ≡ word_of s i
-  Finds s t (EndId i) found = (word_of t i).first ≡ (word_of s i).first + (word_of s i).range
-  Finds s t step found = Unit {0}
-
-  -- what is left by a step that leads from one situation to another
-  abbrev pub Onward : Sit → Sit → List Retry → Program → Type 0
-  Onward s t ws (Do call next) = (found : ℕ) → Later k ids s t → State t (next_step (resolved ws (next found)))
-  Onward s t ws (Aside (TakeBytes l room) next) = (tk : Taking) → Took s t tk → State t (next_step (resolved ws (next tk)))
-  Onward s t ws (Aside step next) = (found : Found step) → Later k ids s t → Finds s t step found → State t (next_step (resolved ws (next found)))
-  Onward s t ws (TakeMessage q next) = ⊥
-  Onward s t ws (TakeHome l next) = ⊥
-  Onward s t ws (PutHome l n after) = ⊥
-  Onward s t ws (PutBytes l asked bytes next) = ⊥
-  Onward s t ws (AskReady l next) = ⊥
-  Onward s t ws other = Unit {0}
+  abbrev Goes' : Sit → Sit → List Retry → Program → Type 0
+  Goes' s t ws x = Onward k ids State s t ws x
 
   -- behind the reading
   module _ (s t : Sit) (ws : List Retry) (kept : List Frame) (ov : Over k ids s kept) where
     over_later : Later k ids s t → (x : Program) → After (Frozen k ids s) kept x → State t (next_step (resolved ws x))
     over_later l x a = over kept (over_on k ids s t l kept ov) (after_next (Frozen k ids t) kept ws x (after_map (Frozen k ids s) (Frozen k ids t) kept (frozen_on k ids s t l) x a))
 
-    over_took : Frozen k ids s → (tk : Taking) → Took s t tk → (x : Program) → After (Frozen k ids s) kept x → State t (next_step (resolved ws x))
+    over_took : Frozen k ids s → (tk : Taking) → Took k ids s t tk → (x : Program) → After (Frozen k ids s) kept x → State t (next_step (resolved ws x))
     over_took frozen tk l x a = over kept
         (subst (AllFrom (Done k ids t kept) 0) (sym frames_are) (all_on (Done k ids s kept) (Done k ids mid kept) (done_on k ids s mid (record { words = l.words; soon = l.soon; bytes = refl }) kept) 0 (frames_in s.bytes) ov))
         (after_next (Frozen k ids t) kept ws x (after_map (Frozen k ids s) (Frozen k ids t) kept (λ z more. ap (λ b. frames_in (b ++ more)) l.bytes ∙ (ap frames_in (append_assoc s.bytes (bytes_in tk) more) ∙ (z (bytes_in tk ++ more) ∙ sym frames_are))) x a))
@@ -146,11 +153,11 @@ module _ (k ids : ℕ) (calls : List ℕ) (o : ℕ) (many : length calls ≡ ids
         frames_are : frames_in t.bytes ≡ frames_in s.bytes
         frames_are = ap frames_in l.bytes ∙ frozen (bytes_in tk)
 
-    over_aside : (step : Step) (next : Found step → Program) → After (Frozen k ids s) kept (Aside step next) → Onward s t ws (Aside step next)
+    over_aside : (step : Step) (next : Found step → Program) → After (Frozen k ids s) kept (Aside step next) → Goes' s t ws (Aside step next)
     over_aside (TakeBytes l room) next a = λ tk took_. over_took a.0 tk took_ (next tk) (a.1 tk)
     over_aside step next a = λ found l f. over_later l (next found) (a.1 found)
 
-    over_onward : (x : Program) → After (Frozen k ids s) kept x → Onward s t ws x
+    over_onward : (x : Program) → After (Frozen k ids s) kept x → Goes' s t ws x
     over_onward (Do call next) a = λ found l. over_later l (next found) (a found)
     over_onward (Aside step next) a = over_aside step next a
     over_onward (TakeMessage q next) a = a
@@ -161,7 +168,7 @@ module _ (k ids : ℕ) (calls : List ℕ) (o : ℕ) (many : length calls ≡ ids
     over_onward other a = tt
 
   -- whoever waits for the word of its `open`
-  waiting_onward : (s t : Sit) (ws : List Retry) → s.bytes ≡ [] → Onward s t ws (first_step (reader calls k o))
+  waiting_onward : (s t : Sit) (ws : List Retry) → s.bytes ≡ [] → Goes' s t ws (first_step (reader calls k o))
   waiting_onward s t ws none_ = λ word l. by_test (λ x. State t (next_step (resolved ws x))) (word == 0) (reader calls k o) (cond (word == NO_SOCKET) Rest (Round (Reads (start word)) (read calls))) (λ _. waiting refl (l.bytes ∙ none_))
       (λ _. by_test (λ x. State t (next_step (resolved ws x))) (word == NO_SOCKET) Rest (Round (Reads (start word)) (read calls)) (λ _. over [] (empty (l.bytes ∙ none_)) tt) (λ _. reading (start word) refl (begins word (l.bytes ∙ none_))))
     where
@@ -181,19 +188,19 @@ module _ (k ids : ℕ) (calls : List ℕ) (o : ℕ) (many : length calls ≡ ids
       }
 
   -- where a take gave nothing
-  no_bytes : (s t : Sit) (tk : Taking) → bytes_in tk ≡ [] → Took s t tk → Later k ids s t
+  no_bytes : (s t : Sit) (tk : Taking) → bytes_in tk ≡ [] → Took k ids s t tk → Later k ids s t
   no_bytes s t tk none_ l = record { words = l.words; soon = l.soon; bytes = l.bytes ∙ (ap (λ b. s.bytes ++ b) none_ ∙ append-nil s.bytes) }
 
-  reading_onward : (s t : Sit) (ws : List Retry) (r : Reading) → IsAt k ids s r → Onward s t ws (first_step (Round (Reads r) (read calls)))
+  reading_onward : (s t : Sit) (ws : List Retry) (r : Reading) → IsAt k ids s r → Goes' s t ws (first_step (Round (Reads r) (read calls)))
   reading_onward s t ws r at = by_take
     where
       mid : Sit
       mid = record { words = t.words; soon = t.soon; bytes = s.bytes }
 
-      ends : (tk : Taking) → bytes_in tk ≡ [] → Took s t tk → (closed : Bool) → State t (next_step (resolved ws (read calls (ended_by 1014 closed false r))))
+      ends : (tk : Taking) → bytes_in tk ≡ [] → Took k ids s t tk → (closed : Bool) → State t (next_step (resolved ws (read calls (ended_by 1014 closed false r))))
       ends tk none_ l closed = over_read t ws (ended_by 1014 closed false r) (over_on k ids s t (no_bytes s t tk none_ l) r.kept at.handled) (λ e. absurd (true≢false (sym e)))
 
-      by_take : (tk : Taking) → Took s t tk → State t (next_step (resolved ws (took r (read calls) tk)))
+      by_take : (tk : Taking) → Took k ids s t tk → State t (next_step (resolved ws (took r (read calls) tk)))
       by_take (Bytes bytes) l = enter t r bytes (frames_in (r.rest ++ bytes)) (frames_in s.bytes) r.kept (record {
         link = at.link;
         ids_are = at.ids_are;
@@ -229,7 +236,7 @@ module _ (k ids : ℕ) (calls : List ℕ) (o : ℕ) (many : length calls ≡ ids
             (λ _. seeking r bytes before f fs kept (Some found) refl resp has m) (λ _. seeking r bytes before f fs kept None refl resp tt m)
 
   seeking_onward : (s t : Sit) (ws : List Retry) (r : Reading) (bytes : List ℕ) (before : List Frame) (f : Frame) (fs kept : List Frame) (w : Option ℕ) → IsResp k ids f → Sought' f w → Mid k ids s r bytes before (f ∷ fs) kept
-      → Onward s t ws (first_step (Round (Locks (slot_in f) (Version (version_in f)) w) (answered f kept (λ kept'. responses r.ids fs kept' (behind r bytes)))))
+      → Goes' s t ws (first_step (Round (Locks (slot_in f) (Version (version_in f)) w) (answered f kept (λ kept'. responses r.ids fs kept' (behind r bytes)))))
   seeking_onward s t ws r bytes before f fs kept None resp sought m = λ found l same. state_on s t l (next_step (resolved ws (locking (slot_in f) (Version (version_in f)) found (answered f kept (λ kept'. responses r.ids fs kept' (behind r bytes)))))) (found_word s ws r bytes before f fs kept resp m found same)
   seeking_onward s t ws r bytes before f fs kept (Some from) resp sought m = λ found l same. by_hit found l same (found == from) refl
     where
@@ -241,19 +248,19 @@ module _ (k ids : ℕ) (calls : List ℕ) (o : ℕ) (many : length calls ≡ ids
       by_hit found l same false miss = state_on s t l (next_step (resolved ws (locking (slot_in f) (Version (version_in f)) found next))) (found_word s ws r bytes before f fs kept resp m found same)
 
   ending_onward : (s t : Sit) (ws : List Retry) (r : Reading) (bytes : List ℕ) (before : List Frame) (f : Frame) (fs kept : List Frame) (n : ℕ) (outcome : Outcome) → IsResp k ids f → Bounded k ids s f → Mid k ids s r bytes before (f ∷ fs) kept
-      → Onward s t ws (end_id (slot_in f) (Say n outcome (go r bytes fs kept)))
+      → Goes' s t ws (end_id (slot_in f) (Say n outcome (go r bytes fs kept)))
   ending_onward s t ws r bytes before f fs kept n outcome resp b m = λ found l same.
       let m' = mid_same k ids t r bytes before f fs kept (mid_on k ids s t l r bytes before (f ∷ fs) kept m) (λ _. inl (gone_behind k ids s t f b same)) in
       by_test (λ x. State t (next_step (resolved ws x))) (nat_le ((parts found).first + (parts found).range) LAST) (Aside (FreeId (slot_in f)) (λ _. Say n outcome (go r bytes fs kept))) (Say n outcome (go r bytes fs kept))
       (λ _. freeing r bytes (before ++ f ∷ []) fs kept (slot_in f) n outcome refl m') (λ _. enter t r bytes fs (before ++ f ∷ []) kept m' ws)
 
   -- each step of the reader leads on
-  pub onward : (s t : Sit) (ws : List Retry) (x : Program) → State s x → Onward s t ws (first_step x)
-  onward s t ws x (waiting is none_) = subst (λ y. Onward s t ws (first_step y)) (sym is) (waiting_onward s t ws none_)
-  onward s t ws x (reading r is at) = subst (λ y. Onward s t ws (first_step y)) (sym is) (reading_onward s t ws r at)
-  onward s t ws x (seeking r bytes before f fs kept w is resp sought m) = subst (λ y. Onward s t ws (first_step y)) (sym is) (seeking_onward s t ws r bytes before f fs kept w resp sought m)
-  onward s t ws x (taking r bytes before f fs kept first is resp b m) = subst (λ y. Onward s t ws (first_step y)) (sym is)
+  pub onward : (s t : Sit) (ws : List Retry) (x : Program) → State s x → Goes' s t ws (first_step x)
+  onward s t ws x (waiting is none_) = subst (λ y. Goes' s t ws (first_step y)) (sym is) (waiting_onward s t ws none_)
+  onward s t ws x (reading r is at) = subst (λ y. Goes' s t ws (first_step y)) (sym is) (reading_onward s t ws r at)
+  onward s t ws x (seeking r bytes before f fs kept w is resp sought m) = subst (λ y. Goes' s t ws (first_step y)) (sym is) (seeking_onward s t ws r bytes before f fs kept w resp sought m)
+  onward s t ws x (taking r bytes before f fs kept first is resp b m) = subst (λ y. Goes' s t ws (first_step y)) (sym is)
       (λ asked l _. ending_ r bytes before f fs kept asked.operation (ending_of (call_id (slot_in f) first) f) refl resp (bounded_on k ids s t l f resp b) (mid_on k ids s t l r bytes before (f ∷ fs) kept m))
-  onward s t ws x (ending_ r bytes before f fs kept n outcome is resp b m) = subst (λ y. Onward s t ws (first_step y)) (sym is) (ending_onward s t ws r bytes before f fs kept n outcome resp b m)
-  onward s t ws x (freeing r bytes before fs kept i n outcome is m) = subst (λ y. Onward s t ws (first_step y)) (sym is) (λ found l _. enter t r bytes fs before kept (mid_on k ids s t l r bytes before fs kept m) ws)
+  onward s t ws x (ending_ r bytes before f fs kept n outcome is resp b m) = subst (λ y. Goes' s t ws (first_step y)) (sym is) (ending_onward s t ws r bytes before f fs kept n outcome resp b m)
+  onward s t ws x (freeing r bytes before fs kept i n outcome is m) = subst (λ y. Goes' s t ws (first_step y)) (sym is) (λ found l _. enter t r bytes fs before kept (mid_on k ids s t l r bytes before fs kept m) ws)
   onward s t ws x (over kept ov a) = over_onward s t ws kept ov (first_step x) (after_first (Frozen k ids s) kept x a)

@@ -34,7 +34,7 @@ use Rattle.call_causes.proofs.Attempts.{in_behind}
 use Rattle.call_causes.proofs.Handled as handled
 use Rattle.call_causes.proofs.Handled.{bound, early_is, goes_same, AllFrom, Sit, frames_in, IsResp, Later, in_more}
 use Rattle.call_causes.proofs.HandledFacts.{Facts, Tied}
-use Rattle.call_causes.proofs.HandledSteps.{Took, State, state_on, Onward, onward, bytes_in}
+use Rattle.call_causes.proofs.HandledSteps.{Took, Onward, bytes_in}
 
 -- ## What a program takes
 
@@ -90,9 +90,9 @@ pub record Known (q : IdPlan) (c : Core) (m : Moment) : Type 0 where
   pub plan : c.calls.plan ≡ q
   pub facts : (seat : SeatState) → get_elem? c.seats m.seat ≡ some seat → (step : Step) (next : Found step → Program) (t : Option Taking) (found : Found step) → first_step seat.program ≡ Aside step next → found_in step c.calls t ≡ some found → Facts q m.seat c step found
 
-module _ (p : Plan) (q : IdPlan) (k : ℕ) (calls : List ℕ) (o : ℕ) (many : length calls ≡ q.slots) where
+module _ (p : Plan) (q : IdPlan) (k : ℕ) (St : Sit → Program → Type 0) (st_on : (s t : Sit) → Later k q.slots s t → (x : Program) → St s x → St t x) (onw : (s t : Sit) (ws : List Retry) (x : Program) → St s x → Onward k q.slots St s t ws (first_step x)) where
   abbrev pub HasReader : List (ℕ × ℕ) → Core → Type 0
-  HasReader soon c = (seat : SeatState) → get_elem? c.seats (32 + k) ≡ some seat → State k q.slots calls o many (sit k c soon) seat.program
+  HasReader soon c = (seat : SeatState) → get_elem? c.seats (32 + k) ≡ some seat → St (sit k c soon) seat.program
 
   module _ (soon : List (ℕ × ℕ)) (c : Core) (m : Moment) (known : Known q c m) (before : HasReader soon c) where
     abbrev soon_then : Core → List (ℕ × ℕ)
@@ -110,23 +110,23 @@ module _ (p : Plan) (q : IdPlan) (k : ℕ) (calls : List ℕ) (o : ℕ) (many : 
     }
 
     stays : Goal c
-    stays seat at = state_on k q.slots calls o many (sit k c soon) (sit k c (soon_then c)) (still c refl refl) seat.program (before seat at)
+    stays seat at = st_on (sit k c soon) (sit k c (soon_then c)) (still c refl refl) seat.program (before seat at)
 
     module _ (seat : SeatState) (at_seat : get_elem? c.seats m.seat ≡ some seat) where
       abbrev Own : Program → Type 0
-      Own x = m.seat ≡ 32 + k → (t : Sit) (ws : List Retry) → Onward k q.slots calls o many (sit k c soon) t ws x
+      Own x = m.seat ≡ 32 + k → (t : Sit) (ws : List Retry) → Onward k q.slots St (sit k c soon) t ws x
 
       own : Own (first_step seat.program)
-      own here t ws = onward k q.slots calls o many (sit k c soon) t ws seat.program (before seat (ap (get_elem? c.seats) (sym here) ∙ at_seat))
+      own here t ws = onw (sit k c soon) t ws seat.program (before seat (ap (get_elem? c.seats) (sym here) ∙ at_seat))
 
       -- a seat becomes this one, and what others have goes on
-      put : (d : Core) (y : SeatState) → d.seats ≡ set c.seats m.seat y → (m.seat ≢ 32 + k → Later k q.slots (sit k c soon) (sit k d (soon_then d))) → (m.seat ≡ 32 + k → State k q.slots calls o many (sit k d (soon_then d)) y.program) → Goal d
+      put : (d : Core) (y : SeatState) → d.seats ≡ set c.seats m.seat y → (m.seat ≢ 32 + k → Later k q.slots (sit k c soon) (sit k d (soon_then d))) → (m.seat ≡ 32 + k → St (sit k d (soon_then d)) y.program) → Goal d
       put d y seats far near s at = ⊎_elim
-          (λ a. subst (λ (z : SeatState). State k q.slots calls o many (sit k d (soon_then d)) z.program) a.1 (near (sym a.0)))
-          (λ a. state_on k q.slots calls o many (sit k c soon) (sit k d (soon_then d)) (far (λ e. a.0 (sym e))) s.program (before s a.1))
+          (λ a. subst (λ (z : SeatState). St (sit k d (soon_then d)) z.program) a.1 (near (sym a.0)))
+          (λ a. st_on (sit k c soon) (sit k d (soon_then d)) (far (λ e. a.0 (sym e))) s.program (before s a.1))
           (at_set c.seats m.seat (32 + k) y s (subst (λ l. get_elem? l (32 + k) ≡ some s) seats at))
 
-      moved : (x : Program) (hand : List Home) (ws : List ℕ) (hs : List (Option Home)) → (m.seat ≡ 32 + k → (t : Sit) (rs : List Retry) → Later k q.slots (sit k c soon) t → State k q.slots calls o many t (next_step (resolved rs x))) → Goal (with_seat m.seat x hand ws hs c)
+      moved : (x : Program) (hand : List Home) (ws : List ℕ) (hs : List (Option Home)) → (m.seat ≡ 32 + k → (t : Sit) (rs : List Retry) → Later k q.slots (sit k c soon) t → St t (next_step (resolved rs x))) → Goal (with_seat m.seat x hand ws hs c)
       moved x hand ws hs on = put (with_seat m.seat x hand ws hs c) (record { program = next_step (resolved (waiting_at c.calls.waiting m.seat) x); hand = hand }) refl (λ _. still (with_seat m.seat x hand ws hs c) refl refl)
           (λ here. on here (sit k (with_seat m.seat x hand ws hs c) (soon_then (with_seat m.seat x hand ws hs c))) (waiting_at c.calls.waiting m.seat) (still (with_seat m.seat x hand ws hs c) refl refl))
 
@@ -184,7 +184,7 @@ module _ (p : Plan) (q : IdPlan) (k : ℕ) (calls : List ℕ) (o : ℕ) (many : 
       plan_same l room Closed = refl
       plan_same l room Broken = refl
 
-      own_take : (l room : ℕ) (next : Taking → Program) (found : Taking) → Facts q m.seat c (TakeBytes l room) found → m.seat ≡ 32 + k → l ≡ k → takes_at c m ≡ (record { link = l; found = found }) ∷ [] → Took k q.slots calls o many (sit k c soon) (after (TakeBytes l room) found (next found)) found
+      own_take : (l room : ℕ) (next : Taking → Program) (found : Taking) → Facts q m.seat c (TakeBytes l room) found → m.seat ≡ 32 + k → l ≡ k → takes_at c m ≡ (record { link = l; found = found }) ∷ [] → Took k q.slots (sit k c soon) (after (TakeBytes l room) found (next found)) found
       own_take l room next found f here same takes = let d : Core = behind (TakeBytes l room) found (next found) in record {
         words = f.goes;
         soon = λ y there. in_more y soon (flat_map (soon_by c d) (takes_at c m)) there;
@@ -200,7 +200,7 @@ module _ (p : Plan) (q : IdPlan) (k : ℕ) (calls : List ℕ) (o : ℕ) (many : 
       takes_are l room next found links is = ap (λ x. elim x as (λ x. List Take) [ none ↦ [] | some s ↦ takes_by c.calls m (taken_link s.program) ]) at_seat ∙ (ap (takes_by c.calls m) links
           ∙ ap (λ x. elim x as (λ x. List Take) [ none ↦ [] | some t ↦ (record { link = l; found = t }) ∷ [] ]) is)
 
-      own_aside : (step : Step) (next : Found step → Program) (found : Found step) → Facts q m.seat c step found → (m.seat ≡ 32 + k) → Own (Aside step next) → taken_link seat.program ≡ take_of (Aside step next) → found_in step c.calls (taken m.answer) ≡ some found → State k q.slots calls o many (after step found (next found)) (next_step (resolved (waits' step found) (next found)))
+      own_aside : (step : Step) (next : Found step → Program) (found : Found step) → Facts q m.seat c step found → (m.seat ≡ 32 + k) → Own (Aside step next) → taken_link seat.program ≡ take_of (Aside step next) → found_in step c.calls (taken m.answer) ≡ some found → St (after step found (next found)) (next_step (resolved (waits' step found) (next found)))
       own_aside (TakeBytes l room) next found f here go links is = go here (after (TakeBytes l room) found (next found)) (waits' (TakeBytes l room) found) found
           (own_take l room next found f here (let a = f.tied.0 in omega (arith, a, here)) (takes_are l room next found links is))
       own_aside step next found f here go links is = go here (after step found (next found)) (waits' step found) found (later step found (next found) f refl) f.finds
@@ -234,7 +234,7 @@ module _ (p : Plan) (q : IdPlan) (k : ℕ) (calls : List ℕ) (o : ℕ) (many : 
       ready_tick (OfPut a) next no_ = stays
       ready_tick (OfTake t) next no_ = stays
 
-      never : (x : Program) → first_step seat.program ≡ x → ((t : Sit) → Onward k q.slots calls o many (sit k c soon) t [] x → ⊥) → m.seat ≡ 32 + k → ⊥
+      never : (x : Program) → first_step seat.program ≡ x → ((t : Sit) → Onward k q.slots St (sit k c soon) t [] x → ⊥) → m.seat ≡ 32 + k → ⊥
       never x first no_ here = no_ (sit k c soon) (subst Own first own here (sit k c soon) [])
 
       first_tick : (answer : Answer) → m.answer ≡ answer → (x : Program) → first_step seat.program ≡ x → Goal (step_with p m.seat seat c answer x)
