@@ -47,3 +47,4 @@ pub mod HandledStates
 pub mod HandledSteps
 pub mod HandledFacts
 pub mod HandledTicks
+pub mod HandledPosts
