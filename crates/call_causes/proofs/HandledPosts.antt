@@ -1,10 +1,12 @@
 -- A reader that posts, or sets its socket failed, has handled all frames that its link gives: each response that its id might have stands among the soon ones.
 use Rattle.std.proofs.Common.{◌≡◌, ℕ, zero, suc, ◌+◌, ◌<◌, ◌≤◌, ◌==◌, ◌⊎◌, inl, inr, ⊎_elim, Bool, true, false, cond, eqb, eqb-true, List, [], ◌∷◌, ◌++◌, length, slice_get, Some, append_assoc, append-nil, refl, sym, ap, ◌∙◌, subst, arith}
-use mathlib.Core.Option.{Option, none, some}
+use Rattle.std.specs.Prelude.{slice_index}
+use mathlib.Core.Option.{Option, none, some, some-injective}
 use lib.ListN.{get_elem?}
 use Rattle.sock_words.specs.declared.plain.Plan.{Plan}
 use Rattle.brpc_model.specs.Frame.{Frame}
-use Rattle.corr_core.specs.Word.{parts}
+use Rattle.corr_core.specs.Word.{Parts, parts}
+use Rattle.id_rule.specs.Lawful.{id_word}
 use Rattle.corr_core.specs.declared.marks.Plan.{Plan as IdPlan}
 use Rattle.sock_programs.specs.Calls.{Call, LoadOpen}
 use Rattle.sock_programs.specs.Asides.{Step, Found, LoadIdWord, LockId, PostId, EndId, FreeId, TakeCall, TakeBytes, Taking, call_id, id_slot, id_first}
@@ -117,3 +119,67 @@ module _ (k ids : ℕ) where
     late_over s x (ending_ r bytes before f fs kept n outcome is resp b m) late = absurd (subst (λ y. IsLate (first_step y)) is late)
     late_over s x (freeing r bytes before fs kept i n outcome is m) late = absurd (subst (λ y. IsLate (first_step y)) is late)
     late_over s x (over kept ov a) late = (kept, ov, a)
+
+-- ## A tick in which an id takes an error
+
+pub record PostedBy (q : IdPlan) (t : Option Taking) (c : Core) (program : Program) (x : Post) : Type 0 where
+  pub slot : ℕ
+  pub from : ℕ
+  pub error : ℕ
+  pub next : ℕ → Program
+  pub first : program ≡ Aside (PostId slot from error) next
+  pub found : found_in (PostId slot from error) c.calls t ≡ some from
+  pub id_is : x.id ≡ call_id slot (parts from).first
+  pub error_is : x.error ≡ error
+
+posted_step : (q : IdPlan) (t : Option Taking) (c : Core) (step : Step) (next : Found step → Program) (found : Found step) → found_in step c.calls t ≡ some found → (x : Post) → In x (posts_by step found) → PostedBy q t c (Aside step next) x
+posted_step q t c (PostId i from e) next found is x there = by_hit (found == from) refl there
+  where
+    by_hit : (b : Bool) → (found == from) ≡ b → In x (cond b ((record { id = call_id i (parts from).first; error = e }) ∷ []) []) → PostedBy q t c (Aside (PostId i from e) next) x
+    by_hit true hit (inl same) = record { slot = i; from = from; error = e; next = next; first = refl; found = is ∙ ap some (eqb-true found from hit); id_is = ap (λ (y : Post). y.id) same; error_is = ap (λ (y : Post). y.error) same }
+    by_hit true hit (inr z) = absurd z
+    by_hit false hit z = absurd z
+posted_step q t c step next found is x there = absurd there
+
+pub posted_is : (q : IdPlan) (t : Option Taking) (c : Core) (program : Program) (x : Post) → In x (posted_with c.calls t program) → PostedBy q t c program x
+posted_is q t c (Aside step next) x there = by_found (found_in step c.calls t) refl there
+  where
+    by_found : (y : Option (Found step)) → found_in step c.calls t ≡ y → In x (elim y as (λ o. List Post) [ none ↦ [] | some found ↦ posts_by step found ]) → PostedBy q t c (Aside step next) x
+    by_found none is z = absurd z
+    by_found (some found) is z = posted_step q t c step next found is x z
+posted_is q t c other x there = absurd there
+
+module _ (p : Plan) (q : IdPlan) (k : ℕ) where
+  abbrev pub HasOver : List (ℕ × ℕ) → Core → Type 0
+  HasOver soon c = (seat : SeatState) → get_elem? c.seats (32 + k) ≡ some seat → IsOver k q.slots (sit k c soon) seat.program
+
+  abbrev pub HasClaims : Post → List (ℕ × ℕ) → Core → Type 0
+  HasClaims x soon c = (seat : SeatState) → get_elem? c.seats (32 + k) ≡ some seat → Claims k q.slots (id_slot x.id) (id_first x.id) (sit k c soon) seat.program
+
+  module _ (c : Core) (m : Moment) (known : Known q c m) (x : Post) (there : In x (posted_at c m)) where
+    -- by whom
+    by_whom : (seat : SeatState) × (get_elem? c.seats m.seat ≡ some seat) × PostedBy q (taken m.answer) c (first_step seat.program) x
+    by_whom = by_seat (get_elem? c.seats m.seat) refl there
+      where
+        by_seat : (y : Option SeatState) → get_elem? c.seats m.seat ≡ y → In x (elim y as (λ o. List Post) [ none ↦ [] | some seat ↦ posted_with c.calls (taken m.answer) (Rattle.id_runs.specs.Goes.first_of seat.program) ])
+            → (seat : SeatState) × (get_elem? c.seats m.seat ≡ some seat) × PostedBy q (taken m.answer) c (first_step seat.program) x
+        by_seat none e z = absurd z
+        by_seat (some seat) e z = (seat, e, posted_is q (taken m.answer) c (first_step seat.program) x (subst (λ y. In x (posted_with c.calls (taken m.answer) y)) (same_first seat.program) z))
+
+    -- the id's range is the one in its slot
+    range_there : (id_first x.id ≡ (parts (slice_index c.calls.words (id_word (id_slot x.id)))).first)
+    range_there =
+        let b = by_whom.2 in let f = (known.facts by_whom.0 by_whom.1 (PostId b.slot b.from b.error) b.next (taken m.answer) b.from b.first b.found).finds in
+        let low : (parts b.from).first ≤ 67108856 = (let e = ap (λ (y : Parts). y.first) f.0 in let z = f.1 in omega (arith, e, z)) in
+        let slot : id_slot x.id ≡ b.slot = ap id_slot b.id_is ∙ (let z : id_slot (call_id b.slot (parts b.from).first) ≡ b.slot = omega (arith, low) in z) in
+        let first : id_first x.id ≡ (parts b.from).first = ap id_first b.id_is ∙ (let z : id_first (call_id b.slot (parts b.from).first) ≡ (parts b.from).first = omega (arith, low) in z) in
+        first ∙ (ap (λ (y : Parts). y.first) f.0 ∙ ap (λ i. (parts (slice_index c.calls.words (id_word i))).first) (sym slot))
+
+    -- where the reader of the link is behind the end of its reading, all that is to be said of its responses is so
+    pub claims_at : (soon : List (ℕ × ℕ)) → HasOver soon c → HasClaims x soon c
+    claims_at soon ov seat at = let z = ov seat at in (z, subst (λ n. Claim k q.slots (id_slot x.id) n (sit k c soon)) (sym range_there) (claim_here k q.slots (sit k c soon) z.0 (id_slot x.id) z.1))
+
+    -- and there it is where it posts
+    pub over_at : (calls : List ℕ) (o : ℕ) (many : length calls ≡ q.slots) (soon : List (ℕ × ℕ)) → HasReader p q k (State k q.slots calls o many) (state_on k q.slots calls o many) (onward k q.slots calls o many) soon c → m.seat ≡ 32 + k → HasOver soon c
+    over_at calls o many soon has own seat at = late_over k q.slots calls o many (sit k c soon) seat.program (has seat at)
+        (subst (λ y. IsLate k q.slots calls o many y) (sym (ap (λ (y : SeatState). first_step y.program) (some-injective seat by_whom.0 (sym at ∙ (ap (get_elem? c.seats) (sym own) ∙ by_whom.1))) ∙ by_whom.2.first)) tt)
