@@ -48,3 +48,4 @@ pub mod HandledSteps
 pub mod HandledFacts
 pub mod HandledTicks
 pub mod HandledPosts
+pub mod HandledRuns
