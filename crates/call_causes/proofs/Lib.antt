@@ -49,3 +49,4 @@ pub mod HandledFacts
 pub mod HandledTicks
 pub mod HandledPosts
 pub mod HandledRuns
+pub mod HandledWhole

@@ -1,0 +1,223 @@
+-- In a whole run each response of link k that an id might have to which the link's reader posted an error stands among the soon ones.
+use Rattle.std.proofs.Common.{◌≡◌, ℕ, zero, suc, ◌+◌, ◌<◌, ◌≤◌, ◌⊎◌, inl, inr, ⊎_elim, List, [], ◌∷◌, ◌++◌, length, replicate, slice_get, Some, append_assoc, get_or, refl, sym, ap, ◌∙◌, subst, arith}
+use Rattle.std.specs.List.{AllByRecursion}
+use Rattle.std.proofs.lemmas.List.{length-map, append-nil}
+use mathlib.Core.Option.{Option, none, some, some-injective, some-ne-none}
+use lib.ListN.{get_elem?}
+use Rattle.atomic_table.proofs.Lists.{at_set}
+use Rattle.sock_model.specs.Layout.{open_word}
+use Rattle.brpc_model.specs.Items.{Item}
+use Rattle.brpc_model.specs.Operations.{Turn}
+use Rattle.brpc_model.specs.Frame.{Frame}
+use Rattle.chain_laws.proofs.Lists.{at_some}
+use Rattle.sock_programs.specs.Asides.{id_slot, id_first}
+use Rattle.sock_programs.specs.Clients.{ending_of, client_from}
+use Rattle.sock_programs.specs.Readers.{slot_in, version_in}
+use Rattle.sock_programs.specs.Cores.{Core, SeatState, resolved, waiting_at, next_step}
+use Rattle.sock_programs.specs.Ticks.{Moment, quiet, run}
+use Rattle.sock_programs.specs.Tasks.{opens, calls, plan_of, id_plan_of}
+use Rattle.sock_programs.specs.Scripts.{sizes_of, programs, all_tasks, opened, ending, set_up, played, is_ending, IsRunWithCalls}
+use Rattle.sock_runs.proofs.OpensStay.{readers_begin}
+use Rattle.sock_runs.proofs.Whole.{views_played, views_closed}
+use Rattle.client_laws.proofs.Beginning as clients_begin
+use Rattle.joint_runs.proofs.Runs.{AreMade, first_views}
+use Rattle.report_fits.proofs.Reading.{InRange}
+use Rattle.report_fits.proofs.Targets.{AreThere}
+use Rattle.call_causes.specs.Lists.{given, soon_at, shows_in, shows_in_run, soon_of_run}
+use Rattle.call_causes.specs.Posts.{Post}
+use Rattle.call_causes.specs.Scenes.{In, LeadsTo}
+use Rattle.call_causes.proofs.Numbered.{AreNumbered}
+use Rattle.call_causes.proofs.Claiming.{HaveSlots}
+use Rattle.call_causes.proofs.Opening.{Begins}
+use Rattle.call_causes.proofs.Scripts.{are_numbered, have_slots, begins}
+use Rattle.call_causes.proofs.Run as runs
+use Rattle.call_causes.proofs.Handled.{Sit, Later, frames_in, IsResp}
+use Rattle.call_causes.proofs.HandledSteps.{Onward, State, waiting, state_on, onward}
+use Rattle.call_causes.proofs.HandledTicks.{sit, HasReader}
+use Rattle.call_causes.proofs.HandledPosts.{HasClaims}
+use Rattle.call_causes.proofs.HandledRuns.{AreKnown, setup_known, played_known, along, posted_by, Reads', reads_along, claims_along, posts_claim}
+
+each_at : {A : Type 0} (P : A → Type 0) (xs : List A) → AllByRecursion P xs → (i : ℕ) (x : A) → get_elem? xs i ≡ some x → P x
+each_at P [] all i x at = absurd (some-ne-none x (sym at))
+each_at P (y ∷ ys) all zero x at = subst P (some-injective y x at) all.0
+each_at P (y ∷ ys) all (suc i) x at = each_at P ys all.1 i x at
+
+empty_at : (n k : ℕ) → get_or (replicate n []) k [] ≡ (let e : List ℕ = [] in e)
+empty_at zero k = refl
+empty_at (suc n) zero = refl
+empty_at (suc n) (suc k) = empty_at n k
+
+in_two : {A : Type 0} (x : A) (xs ys : List A) → In x (xs ++ ys) → In x xs ⊎ In x ys
+in_two x [] ys there = inr there
+in_two x (z ∷ xs) ys (inl same) = inl (inl same)
+in_two x (z ∷ xs) ys (inr there) = ⊎_elim (λ a. inl (inr a)) (λ a. inr a) (in_two x xs ys there)
+
+module _ (script : List Item) (made : AreMade script) (there : AreThere script) (range : AllByRecursion InRange script) (turns : List Turn) (core : Core) (is : IsRunWithCalls script turns core) where
+  leads : LeadsTo (plan_of script) (id_plan_of script) (all_tasks script) (given core) core
+  leads k = ([], append-nil (given core k))
+
+  numbered : AreNumbered (plan_of script) (id_plan_of script) (all_tasks script) (given core)
+  numbered = are_numbered script made there range (given core)
+
+  slots : HaveSlots (plan_of script) (id_plan_of script) (all_tasks script) (given core)
+  slots = have_slots script made there range (given core)
+
+  -- ## The ticks of each part
+
+  abbrev in_setup : List Moment
+  in_setup = replicate is.setup (quiet 0)
+
+  abbrev in_clients : List Moment
+  in_clients = is.scheduled ++ is.later
+
+  abbrev in_closing : List Moment
+  in_closing = replicate is.last (quiet 0)
+
+  abbrev closing : Core
+  closing = ending script (played script is.setup (is.scheduled ++ is.later))
+
+  known_setup : AreKnown (plan_of script) (id_plan_of script) (opened script) in_setup
+  known_setup = let s = runs.sound_run script made (given core) (are_numbered script made there range (given core)) (have_slots script made there range (given core)) (begins script made there range (given core)) turns core is leads in
+      setup_known (plan_of script) (id_plan_of script) (all_tasks script) (given core) (are_numbered script made there range (given core)) (have_slots script made there range (given core)) (runs.small script made (given core) (are_numbered script made there range (given core)) (have_slots script made there range (given core)) (begins script made there range (given core)) turns core is leads)
+      is.setup [] [] (opened script) (first_views script) s.setup
+      (runs.set_up_leads script made (given core) (are_numbered script made there range (given core)) (have_slots script made there range (given core)) (begins script made there range (given core)) turns core is leads)
+      (runs.first_tale script made (given core) (are_numbered script made there range (given core)) (have_slots script made there range (given core)) (begins script made there range (given core)) turns core is leads)
+
+  known_clients : AreKnown (plan_of script) (id_plan_of script) (set_up script is.setup) in_clients
+  known_clients = let s = runs.sound_run script made (given core) (are_numbered script made there range (given core)) (have_slots script made there range (given core)) (begins script made there range (given core)) turns core is leads in
+      played_known (plan_of script) (id_plan_of script) (all_tasks script) (given core) (are_numbered script made there range (given core)) (have_slots script made there range (given core)) (runs.small script made (given core) (are_numbered script made there range (given core)) (have_slots script made there range (given core)) (begins script made there range (given core)) turns core is leads)
+      (is.scheduled ++ is.later) (runs.posts_in_setup script made (given core) (are_numbered script made there range (given core)) (have_slots script made there range (given core)) (begins script made there range (given core)) turns core is leads)
+      (runs.in_setup script made (given core) (are_numbered script made there range (given core)) (have_slots script made there range (given core)) (begins script made there range (given core)) turns core is leads)
+      (set_up script is.setup) (runs.views_set_up script made (given core) (are_numbered script made there range (given core)) (have_slots script made there range (given core)) (begins script made there range (given core)) turns core is leads) s.clients
+      (runs.set_up_ahead script made (given core) (are_numbered script made there range (given core)) (have_slots script made there range (given core)) (begins script made there range (given core)) turns core is leads) is.is_set_up
+      (runs.played_leads script made (given core) (are_numbered script made there range (given core)) (have_slots script made there range (given core)) (begins script made there range (given core)) turns core is leads)
+      (runs.set_up_tale script made (given core) (are_numbered script made there range (given core)) (have_slots script made there range (given core)) (begins script made there range (given core)) turns core is leads)
+
+  known_closing : AreKnown (plan_of script) (id_plan_of script) closing in_closing
+  known_closing = let s = runs.sound_run script made (given core) (are_numbered script made there range (given core)) (have_slots script made there range (given core)) (begins script made there range (given core)) turns core is leads in
+      let t = runs.ending_tale script made (given core) (are_numbered script made there range (given core)) (have_slots script made there range (given core)) (begins script made there range (given core)) turns core is leads in
+      setup_known (plan_of script) (id_plan_of script) (all_tasks script) (given core) (are_numbered script made there range (given core)) (have_slots script made there range (given core)) (runs.small script made (given core) (are_numbered script made there range (given core)) (have_slots script made there range (given core)) (begins script made there range (given core)) turns core is leads)
+      is.last t.0 t.1 closing (views_played script turns core is (first_views script)) s.closing
+      (runs.closed_leads script made (given core) (are_numbered script made there range (given core)) (have_slots script made there range (given core)) (begins script made there range (given core)) turns core is leads) (t.0, t.1, t.2, (λ x y. y), λ n. refl)
+
+  known_final : AreKnown (plan_of script) (id_plan_of script) is.ended is.final
+  known_final = let s = runs.sound_run script made (given core) (are_numbered script made there range (given core)) (have_slots script made there range (given core)) (begins script made there range (given core)) turns core is leads in
+      let t = runs.ended_tale script made (given core) (are_numbered script made there range (given core)) (have_slots script made there range (given core)) (begins script made there range (given core)) turns core is leads in
+      played_known (plan_of script) (id_plan_of script) (all_tasks script) (given core) (are_numbered script made there range (given core)) (have_slots script made there range (given core)) (runs.small script made (given core) (are_numbered script made there range (given core)) (have_slots script made there range (given core)) (begins script made there range (given core)) turns core is leads)
+      is.final t.0 t.1 is.ended (views_closed script turns core is (first_views script)) s.final
+      (runs.ended_ahead script made (given core) (are_numbered script made there range (given core)) (have_slots script made there range (given core)) (begins script made there range (given core)) turns core is leads) is.is_over
+      (subst (LeadsTo (plan_of script) (id_plan_of script) (all_tasks script) (given core)) is.is_end leads) (t.0, t.1, t.2, (λ x y. y), λ n. refl)
+
+  module _ (k o : ℕ) (at : get_elem? (opens script) k ≡ some o) where
+    -- ## Through the parts of the run
+
+    abbrev soon_setup : List (ℕ × ℕ)
+    soon_setup = shows_in (soon_at (plan_of script)) (plan_of script) (opened script) in_setup
+
+    abbrev soon_clients : List (ℕ × ℕ)
+    soon_clients = shows_in (soon_at (plan_of script)) (plan_of script) (set_up script is.setup) in_clients
+
+    abbrev soon_closing : List (ℕ × ℕ)
+    soon_closing = shows_in (soon_at (plan_of script)) (plan_of script) closing in_closing
+
+    abbrev soon_final : List (ℕ × ℕ)
+    soon_final = shows_in (soon_at (plan_of script)) (plan_of script) is.ended is.final
+
+    module _ (St : Sit → Rattle.sock_programs.specs.Programs.Program → Type 0) where
+      abbrev Has : List (ℕ × ℕ) → Core → Type 0
+      Has soon c = (seat : SeatState) → get_elem? c.seats (32 + k) ≡ some seat → St (sit k c soon) seat.program
+
+      -- seat 0 begins the ending, and the readers are told
+      begins_ending : (soon : List (ℕ × ℕ)) (c : Core) → Has soon c → Has soon (ending script c)
+      begins_ending soon c h seat at = ⊎_elim (λ a. absurd (let z = a.0 in omega (arith, z))) (λ a. h seat a.1)
+          (at_set c.seats 0 (32 + k) (record { program = next_step (resolved (waiting_at c.calls.waiting 0) (ending_of (opens script))); hand = [] }) seat at)
+
+      is_told : (soon : List (ℕ × ℕ)) (c : Core) → Has soon c → Has soon (is_ending c)
+      is_told soon c h = h
+
+      module _ (on : (soon : List (ℕ × ℕ)) (c : Core) (ms : List Moment) → AreKnown (plan_of script) (id_plan_of script) c ms → Has soon c → Has (soon ++ shows_in (soon_at (plan_of script)) (plan_of script) c ms) (run (plan_of script) c ms)) where
+        from_ended : (soon : List (ℕ × ℕ)) → Has soon is.ended → Has (soon ++ soon_final) core
+        from_ended soon h = subst (Has (soon ++ soon_final)) (sym is.is_end) (on soon is.ended is.final known_final h)
+
+        from_closing : (soon : List (ℕ × ℕ)) → Has soon closing → Has (soon ++ (soon_closing ++ soon_final)) core
+        from_closing soon h = subst (λ l. Has l core) (append_assoc soon soon_closing soon_final) (from_ended (soon ++ soon_closing) (subst (Has (soon ++ soon_closing)) (sym is.is_ended) (is_told (soon ++ soon_closing) (run (plan_of script) closing in_closing) (on soon closing in_closing known_closing h))))
+
+        from_played : (soon : List (ℕ × ℕ)) → Has soon (played script is.setup (is.scheduled ++ is.later)) → Has (soon ++ (soon_closing ++ soon_final)) core
+        from_played soon h = from_closing soon (begins_ending soon (played script is.setup (is.scheduled ++ is.later)) h)
+
+        from_set_up : (soon : List (ℕ × ℕ)) → Has soon (set_up script is.setup) → Has (soon ++ (soon_clients ++ (soon_closing ++ soon_final))) core
+        from_set_up soon h = subst (λ l. Has l core) (append_assoc soon soon_clients (soon_closing ++ soon_final)) (from_played (soon ++ soon_clients) (on soon (set_up script is.setup) in_clients known_clients h))
+
+    -- ## Its reader
+
+    abbrev p' : Rattle.sock_words.specs.declared.plain.Plan.Plan
+    p' = plan_of script
+
+    abbrev q' : Rattle.corr_core.specs.declared.marks.Plan.Plan
+    q' = id_plan_of script
+
+    many : length (calls script) ≡ (id_plan_of script).slots
+    many = made.slots
+
+    abbrev Reading : List (ℕ × ℕ) → Core → Type 0
+    Reading soon c = Reads' (plan_of script) (id_plan_of script) k (calls script) o many soon c
+
+    reads_first : Reading [] (opened script)
+    reads_first seat at_seat = waiting
+        (⊎_elim (λ e. e) (λ x. absurd (x.0 ((let u = clients_begin.unused (plan_of script) in u.opens) o (each_at (λ n. n < (plan_of script).operations) (opens script) made.opens_in k o at))))
+        (readers_begin (plan_of script) (id_plan_of script) (programs (sizes_of (plan_of script) (id_plan_of script)) (all_tasks script)) (calls script) (opens script)
+        (let l = length-map (all_tasks script) (client_from (sizes_of (plan_of script) (id_plan_of script)) []) in let f = made.few_clients in omega (arith, l, f)) k o at seat at_seat))
+        (empty_at (plan_of script).links k)
+
+    reads_on : (soon : List (ℕ × ℕ)) (c : Core) (ms : List Moment) → AreKnown (plan_of script) (id_plan_of script) c ms → Reading soon c → Reading (soon ++ shows_in (soon_at (plan_of script)) (plan_of script) c ms) (run (plan_of script) c ms)
+    reads_on soon c ms known h = reads_along (plan_of script) (id_plan_of script) k (calls script) o many ms soon c known h
+
+    reads_set_up : Reading soon_setup (set_up script is.setup)
+    reads_set_up = reads_on [] (opened script) in_setup known_setup reads_first
+
+    reads_closing : Reading (soon_setup ++ soon_clients) closing
+    reads_closing = begins_ending (State k (id_plan_of script).slots (calls script) o many) (soon_setup ++ soon_clients) (played script is.setup (is.scheduled ++ is.later)) (reads_on soon_setup (set_up script is.setup) in_clients known_clients reads_set_up)
+
+    reads_ended : Reading ((soon_setup ++ soon_clients) ++ soon_closing) is.ended
+    reads_ended = subst (Reading ((soon_setup ++ soon_clients) ++ soon_closing)) (sym is.is_ended) (reads_on (soon_setup ++ soon_clients) closing in_closing known_closing reads_closing)
+
+    module _ (x : Post) where
+      abbrev Claiming : List (ℕ × ℕ) → Core → Type 0
+      Claiming soon c = HasClaims (plan_of script) (id_plan_of script) k x soon c
+
+      on : (soon : List (ℕ × ℕ)) (c : Core) (ms : List Moment) → AreKnown (plan_of script) (id_plan_of script) c ms → Claiming soon c → Claiming (soon ++ shows_in (soon_at (plan_of script)) (plan_of script) c ms) (run (plan_of script) c ms)
+      on soon c ms known h = claims_along (plan_of script) (id_plan_of script) k (calls script) o many x ms soon c known h
+
+      abbrev Cl : Sit → Rattle.sock_programs.specs.Programs.Program → Type 0
+      Cl = Rattle.call_causes.proofs.HandledPosts.Claims k (id_plan_of script).slots (id_slot x.id) (id_first x.id)
+
+      claims_in : (soon : List (ℕ × ℕ)) (c : Core) (ms : List Moment) → AreKnown (plan_of script) (id_plan_of script) c ms → Reading soon c → In x (shows_in (posted_by (32 + k)) (plan_of script) c ms) → Claiming (soon ++ shows_in (soon_at (plan_of script)) (plan_of script) c ms) (run (plan_of script) c ms)
+      claims_in soon c ms known h there = posts_claim (plan_of script) (id_plan_of script) k (calls script) o many x ms soon c known h there
+
+      -- where the reader posted it, the claim stands in the end
+      in_the_end : In x (shows_in_run script turns core is (posted_by (32 + k))) → Claiming (soon_of_run script turns core is) core
+      in_the_end there = ⊎_elim
+          (λ a. from_set_up Cl on soon_setup (claims_in [] (opened script) in_setup known_setup reads_first a))
+          (λ l. ⊎_elim
+          (λ a. subst (λ y. Claiming y core) (append_assoc soon_setup soon_clients (soon_closing ++ soon_final)) (from_played Cl on (soon_setup ++ soon_clients) (claims_in soon_setup (set_up script is.setup) in_clients known_clients reads_set_up a)))
+          (λ l. ⊎_elim
+          (λ a. subst (λ y. Claiming y core) (append_assoc (soon_setup ++ soon_clients) soon_closing soon_final ∙ append_assoc soon_setup soon_clients (soon_closing ++ soon_final))
+          (from_ended Cl on ((soon_setup ++ soon_clients) ++ soon_closing) (subst (Claiming ((soon_setup ++ soon_clients) ++ soon_closing)) (sym is.is_ended) (claims_in (soon_setup ++ soon_clients) closing in_closing known_closing reads_closing a))))
+          (λ a. subst (λ y. Claiming y core) (append_assoc (soon_setup ++ soon_clients) soon_closing soon_final ∙ append_assoc soon_setup soon_clients (soon_closing ++ soon_final))
+          (subst (Claiming (((soon_setup ++ soon_clients) ++ soon_closing) ++ soon_final)) (sym is.is_end) (claims_in ((soon_setup ++ soon_clients) ++ soon_closing) is.ended is.final known_final reads_ended a)))
+          (in_two x (shows_in (posted_by (32 + k)) (plan_of script) closing in_closing) (shows_in (posted_by (32 + k)) (plan_of script) is.ended is.final) l))
+          (in_two x (shows_in (posted_by (32 + k)) (plan_of script) (set_up script is.setup) in_clients) (shows_in (posted_by (32 + k)) (plan_of script) closing in_closing ++ shows_in (posted_by (32 + k)) (plan_of script) is.ended is.final) l))
+          (in_two x (shows_in (posted_by (32 + k)) (plan_of script) (opened script) in_setup) (shows_in (posted_by (32 + k)) (plan_of script) (set_up script is.setup) in_clients ++ (shows_in (posted_by (32 + k)) (plan_of script) closing in_closing ++ shows_in (posted_by (32 + k)) (plan_of script) is.ended is.final)) there)
+
+      seat_there : (seat : SeatState) × (get_elem? core.seats (32 + k) ≡ some seat)
+      seat_there = at_some core.seats (32 + k) (let seats = made.seats in let low = inside (opens script) k at in
+          let l = runs.many_seats script made (given core) (are_numbered script made there range (given core)) (have_slots script made there range (given core)) (begins script made there range (given core)) turns core is leads in omega (arith, l, seats, low))
+        where
+          inside : (xs : List ℕ) (i : ℕ) → get_elem? xs i ≡ some o → i < length xs
+          inside [] i e = absurd (some-ne-none o (sym e))
+          inside (y ∷ ys) zero e = omega arith
+          inside (y ∷ ys) (suc i) e = let z = inside ys i e in omega (arith, z)
+
+      -- each response of link k that is of the id's slot and behind its first version is soon, where the reader of k posted to the id
+      pub soon_of_readers : In x (shows_in_run script turns core is (posted_by (32 + k))) → (n : ℕ) (f : Frame) → slice_get (frames_in (given core k)) n ≡ Some f → IsResp k (id_plan_of script).slots f → slot_in f ≡ id_slot x.id → id_first x.id < version_in f → In (k, n) (soon_of_run script turns core is)
+      soon_of_readers posted n f frame resp slot behind = (in_the_end posted seat_there.0 seat_there.1).1 n f frame resp slot behind
