@@ -1,9 +1,9 @@
 -- Where the reader of a link stands in its program, and what it has handled there.
-use Rattle.std.proofs.Common.{◌≡◌, ◌≢◌, ℕ, zero, suc, ◌+◌, ◌-◌, ◌%◌, ◌<◌, ◌≤◌, ◌==◌, ◌⊎◌, inl, inr, ⊎_elim, ◌&&◌, not, Bool, true, false, cond, eqb, eqb-true, nat_le, nat_lt, List, [], ◌∷◌, ◌++◌, length, append_assoc, append-nil, slice_get, Option, None, Some, refl, sym, ap, ◌∙◌, subst, arith}
+use Rattle.std.proofs.Common.{◌≡◌, ◌≢◌, ℕ, zero, suc, ◌+◌, ◌-◌, ◌%◌, ◌<◌, ◌≤◌, ◌==◌, ◌⊎◌, inl, inr, ⊎_elim, ◌&&◌, ◌||◌, not, Bool, true, false, cond, eqb, eqb-true, nat_le, nat_lt, List, [], ◌∷◌, ◌++◌, length, append_assoc, append-nil, slice_get, Option, None, Some, refl, sym, ap, ◌∙◌, subst, arith}
 use Rattle.std.proofs.lemmas.Bool.{true≢false}
 use Rattle.sock_words.specs.Words.{socket_id_version, socket_id_slot, vref_version, vref_nref, at_word_first, at_word_slot, at_word_link, at_word_attempt}
 use Rattle.sock_words.specs.declared.outcome.Outcome.{Outcome}
-use Rattle.corr_core.specs.Word.{Parts, parts, posted_word, unlocked_word, code_of, error_of}
+use Rattle.corr_core.specs.Word.{Parts, parts, posted_word, unlocked_word, code_of, attempt_of, error_of}
 use Rattle.corr_core.specs.Law.{LAST}
 use Rattle.brpc_model.specs.Frame.{Frame}
 use Rattle.brpc_model.specs.Stream as streams
@@ -12,7 +12,7 @@ use Rattle.sock_message.specs.Asked.{Asked}
 use Rattle.sock_programs.specs.Asides.{Step, Found, LoadAt, PostId, EndId, FreeId, TakeCall, TakeBytes, Taking, Bytes, Nothing, NoMore, AtEnd, Closed, Broken, call_id, id_slot, id_first}
 use Rattle.sock_programs.specs.Heads.{Head, Exit, Retry, Sought, Version, Reading, Posts, Unlocks, Decides, Locks, Joins, Opens, Reads, Discards, Posting, WasGone, WasStale, WasCrowded, WasQueued, HasLocked, Unlocking, IsOpen, HasNext, Deciding, HasEnded, GoesOn, Locking, NotThere, Has, Ended}
 use Rattle.sock_programs.specs.Programs.{Program, Do, Say, Sent, Rest, TakeMessage, TakeHome, PutHome, PutBytes, AskReady, Write, Aside, Round, Keep, Retries, NO_SOCKET, LAST_VERSION, recycle, release, address, set_failed}
-use Rattle.sock_programs.specs.Posts.{packed, advance_of, is_first, is_sought, is_stale, is_full, judged, posts_round, post_with, popped, unlocks_round, ends_call, end_id, decide, decided, unlocked, locking, locks_round, joins_round}
+use Rattle.sock_programs.specs.Posts.{WHOLE, packed, advance_of, is_final, is_first, is_sought, is_stale, is_full, judged, posts_round, post_with, popped, unlocks_round, ends_call, end_id, decide, decided, unlocked, locking, locks_round, joins_round}
 use Rattle.sock_programs.specs.Readers.{LIMIT, ending_of, slot_in, version_in, has_response, is_early, answer, answered, responses, last_of, ended_by, read_on, took, discarded, opens_round, kept_for, ends_with, posted_last, post_each, thrown_away, read, reader}
 use Rattle.sock_programs.specs.Rounds.{round}
 use Rattle.sock_programs.specs.Cores.{resolved, next_step}
@@ -27,15 +27,16 @@ use Rattle.call_causes.proofs.Handled.{Goes, AllFrom, Sit, word_of, frames_in, I
 abbrev pub posts_then : ℕ → ℕ → ℕ → List Frame → Program → ℕ → Program
 posts_then id e from kept rest found = cond (found == from) (cond ((parts from).state == 1) (posted_last id e kept rest (HasLocked (packed (posted_word (parts from) e)))) (posted_last id e kept rest WasQueued)) (judged id e found (posted_last id e kept rest))
 
--- a reader that keeps these responses takes bytes only where F, and posts errors
+-- a reader that keeps these responses takes bytes only where F, posts errors that end calls, and decides on those of calls to which it keeps no response
 module _ (F : Type 0) (kept : List Frame) where
   abbrev pub Posting' : (step : Step) → (Found step → Program) → Type 0
-  Posting' (PostId i from e) next = (id : ℕ) × (rest : Program) × (i ≡ id_slot id) × (next ≡ posts_then id e from kept rest)
+  Posting' (PostId i from e) next = (id : ℕ) × (rest : Program) × (i ≡ id_slot id) × (next ≡ posts_then id e from kept rest) × (is_final (code_of e) ≡ true)
   Posting' (TakeBytes l room) next = F
   Posting' other next = Unit {0}
 
   abbrev pub PostingAt : (head : Head) → (Exit head → Program) → Type 0
-  PostingAt (Posts id e w) next = (rest : Program) × (next ≡ posted_last id e kept rest)
+  PostingAt (Posts id e w) next = (rest : Program) × (next ≡ posted_last id e kept rest) × (is_final (code_of e) ≡ true)
+  PostingAt (Decides id asked word e) next = (kept_for id (parts word).range kept ≡ []) × (is_final (code_of e) ≡ true)
   PostingAt (Reads r) next = ⊥
   PostingAt (Discards l total) next = F
   PostingAt other next = Unit {0}
@@ -78,18 +79,18 @@ module _ (F : Type 0) (kept : List Frame) where
   after_failed : (id code : ℕ) (next : ℕ → Program) → ((found : ℕ) → After (next found)) → After (set_failed id code next)
   after_failed id code next a = λ found. both (vref_version found % 2 == 0) (Do (Rattle.sock_programs.specs.Calls.StoreCode (socket_id_slot id) (socket_id_version id) code) (λ _. Do (Rattle.sock_programs.specs.Calls.SubRef (socket_id_slot id)) (λ _. next found))) (next found) (λ _ _. a found) (a found)
 
-  after_judged : (id e found : ℕ) (rest : Program) → ((x : Posting) → After (posted_last id e kept rest x)) → After (judged id e found (posted_last id e kept rest))
-  after_judged id e found rest a = let k : Posting → Program = posted_last id e kept rest in
+  after_judged : (id e found : ℕ) (rest : Program) → is_final (code_of e) ≡ true → ((x : Posting) → After (posted_last id e kept rest x)) → After (judged id e found (posted_last id e kept rest))
+  after_judged id e found rest final a = let k : Posting → Program = posted_last id e kept rest in
       let two : Program = cond (is_full (parts found)) (k (WasCrowded (code_of (parts found).oldest) (code_of (parts found).second))) (Round (Posts id e found) k) in
       both (not (is_first (id_first id) (parts found))) (k WasGone) (cond (is_stale e (parts found)) (k WasStale) two) (a WasGone)
       (both (is_stale e (parts found)) (k WasStale) two (a WasStale)
-      (both (is_full (parts found)) (k (WasCrowded (code_of (parts found).oldest) (code_of (parts found).second))) (Round (Posts id e found) k) (a (WasCrowded (code_of (parts found).oldest) (code_of (parts found).second))) ((rest, refl), a)))
+      (both (is_full (parts found)) (k (WasCrowded (code_of (parts found).oldest) (code_of (parts found).second))) (Round (Posts id e found) k) (a (WasCrowded (code_of (parts found).oldest) (code_of (parts found).second))) ((rest, refl, final), a)))
 
-  after_posts : (id e from : ℕ) (rest : Program) → ((x : Posting) → After (posted_last id e kept rest x)) → After (posts_round id e from (posted_last id e kept rest))
-  after_posts id e from rest a = (
-    (id, rest, refl, refl),
+  after_posts : (id e from : ℕ) (rest : Program) → is_final (code_of e) ≡ true → ((x : Posting) → After (posted_last id e kept rest x)) → After (posts_round id e from (posted_last id e kept rest))
+  after_posts id e from rest final a = (
+    (id, rest, refl, refl, final),
     λ found. both (found == from) (cond ((parts from).state == 1) (posted_last id e kept rest (HasLocked (packed (posted_word (parts from) e)))) rest) (judged id e found (posted_last id e kept rest))
-        (both ((parts from).state == 1) (posted_last id e kept rest (HasLocked (packed (posted_word (parts from) e)))) rest (a (HasLocked (packed (posted_word (parts from) e)))) (a WasQueued)) (after_judged id e found rest a),
+        (both ((parts from).state == 1) (posted_last id e kept rest (HasLocked (packed (posted_word (parts from) e)))) rest (a (HasLocked (packed (posted_word (parts from) e)))) (a WasQueued)) (after_judged id e found rest final a),
   )
 
   after_end : (i : ℕ) (next : Program) → After next → After (end_id i next)
@@ -107,42 +108,49 @@ module _ (F : Type 0) (kept : List Frame) where
   after_unlocks i from advance next a = (tt, λ found. both (found == from) (popped i (parts from).oldest (packed (unlocked_word (parts from) (advance_of advance))) next) (Round (Unlocks i found advance) next)
       (after_popped i (parts from).oldest (packed (unlocked_word (parts from) (advance_of advance))) next a) (tt, a))
 
-  after_unlocked : (r : Retry) (next : Deciding → Program) → ((x : Deciding) → After (next x)) → (exit : Unlocking) → After (unlocked r next exit)
-  after_unlocked r next a (IsOpen word) = a GoesOn
-  after_unlocked r next a (HasNext word e) = (tt, λ asked. (tt, a))
+  ends_final : (w : Parts) (e : ℕ) → is_final (code_of e) ≡ true → ends_call w e ≡ true
+  ends_final w e final = by (attempt_of e == WHOLE) (is_final (code_of e)) final
+    where
+      by : (a b : Bool) → b ≡ true → (a || (b || (w.attempt + 2 == w.range))) ≡ true
+      by true b is = refl
+      by false true is = refl
+      by false false is = absurd (true≢false (sym is))
 
-  after_decides : (id : ℕ) (asked : Asked) (word e : ℕ) (next : Deciding → Program) → ((x : Deciding) → After (next x)) → After (round (Decides id asked word e) next)
-  after_decides id asked word e next a = both (ends_call (parts word) e) (end_id (id_slot id) (next (HasEnded asked.operation (code_of e)))) (Aside (Rattle.sock_programs.specs.Asides.PutCall (id_slot id) asked) (λ _. Round (Unlocks (id_slot id) word true) (unlocked (record { id = id; attempt = (parts word).attempt + 1 }) next)))
-      (after_end (id_slot id) (next (HasEnded asked.operation (code_of e))) (a (HasEnded asked.operation (code_of e))))
-      (tt, λ _. (tt, after_unlocked (record { id = id; attempt = (parts word).attempt + 1 }) next a))
+  after_decides : (id : ℕ) (asked : Asked) (word e : ℕ) (next : Deciding → Program) → is_final (code_of e) ≡ true → ((x : Deciding) → After (next x)) → After (round (Decides id asked word e) next)
+  after_decides id asked word e next final a = subst (λ b. After (cond b (end_id (id_slot id) (next (HasEnded asked.operation (code_of e)))) (Aside (Rattle.sock_programs.specs.Asides.PutCall (id_slot id) asked) (λ _. Round (Unlocks (id_slot id) word true) (unlocked (record { id = id; attempt = (parts word).attempt + 1 }) next)))))
+      (sym (ends_final (parts word) e final)) (after_end (id_slot id) (next (HasEnded asked.operation (code_of e))) (a (HasEnded asked.operation (code_of e))))
 
   after_answer : (f : Frame) (first : ℕ) (next : Program) → After next → After (answer f first next)
   after_answer f first next a = (tt, λ asked. after_end (slot_in f) (Say asked.operation (ending_of (call_id (slot_in f) first) f) next) a)
 
-  after_ends : (id e word : ℕ) (l : List Frame) (next : Program) → After next → After (ends_with id e word l next)
-  after_ends id e word [] next a = (tt, λ asked. (tt, after_decided id next a))
-  after_ends id e word (f ∷ fs) next a = after_answer f (id_first id) next a
+  after_ends : (id e word : ℕ) (l : List Frame) (next : Program) → kept_for id (parts word).range kept ≡ l → is_final (code_of e) ≡ true → After next → After (ends_with id e word l next)
+  after_ends id e word [] next none_ final a = (tt, λ asked. ((none_, final), after_decided id next a))
+  after_ends id e word (f ∷ fs) next none_ final a = after_answer f (id_first id) next a
 
-  after_posted : (id e : ℕ) (next : Program) → After next → (x : Posting) → After (posted_last id e kept next x)
-  after_posted id e next a (HasLocked word) = after_ends id e word (kept_for id (parts word).range kept) next a
-  after_posted id e next a WasGone = a
-  after_posted id e next a WasStale = a
-  after_posted id e next a (WasCrowded x y) = a
-  after_posted id e next a WasQueued = a
+  after_posted : (id e : ℕ) (next : Program) → is_final (code_of e) ≡ true → After next → (x : Posting) → After (posted_last id e kept next x)
+  after_posted id e next final a (HasLocked word) = after_ends id e word (kept_for id (parts word).range kept) next refl final a
+  after_posted id e next final a WasGone = a
+  after_posted id e next final a WasStale = a
+  after_posted id e next final a (WasCrowded x y) = a
+  after_posted id e next final a WasQueued = a
 
-  after_each : (os : List ℕ) (k code : ℕ) (next : Program) → After next → After (post_each os k code kept next)
-  after_each [] k code next a = a
-  after_each (o ∷ os) k code next a = (
+  after_each : (os : List ℕ) (k code : ℕ) (next : Program) → is_final code ≡ true → After next → After (post_each os k code kept next)
+  after_each [] k code next final a = a
+  after_each (o ∷ os) k code next final a = (
     tt,
     λ w. let rest : Program = post_each os k code kept next in let id : ℕ = call_id (at_word_slot w) (at_word_first w) in let e : ℕ = error_of code (at_word_attempt w) in
-        both (w == 0) rest (cond (at_word_link w == k) (post_with id e (posted_last id e kept rest)) rest) (after_each os k code next a)
-        (both (at_word_link w == k) (post_with id e (posted_last id e kept rest)) rest (tt, λ found. after_judged id e found rest (after_posted id e rest (after_each os k code next a))) (after_each os k code next a)),
+        let final' : is_final (code_of (error_of code (at_word_attempt w))) ≡ true = ap is_final (code_back code (at_word_attempt w) (omega arith)) ∙ final in
+        both (w == 0) rest (cond (at_word_link w == k) (post_with id e (posted_last id e kept rest)) rest) (after_each os k code next final a)
+        (both (at_word_link w == k) (post_with id e (posted_last id e kept rest)) rest (tt, λ found. after_judged id e found rest final' (after_posted id e rest final' (after_each os k code next final a))) (after_each os k code next final a)),
   )
+    where
+      code_back : (c n : ℕ) → n < 8 → code_of (error_of c n) ≡ c
+      code_back c n low = omega (arith, low)
 
-pub after_read : (F : Type 0) (calls : List ℕ) (how : Ended) → (how.fault ≡ true → F) → After F how.reading.kept (read calls how)
-after_read F calls how faulty =
+pub after_read : (F : Type 0) (calls : List ℕ) (how : Ended) → is_final how.code ≡ true → (how.fault ≡ true → F) → After F how.reading.kept (read calls how)
+after_read F calls how final faulty =
     let last : Program = post_each calls how.reading.link how.code how.reading.kept (thrown_away how) in
-    let a : After F how.reading.kept last = after_each F how.reading.kept calls how.reading.link how.code (thrown_away how) (by_fault how.fault refl) in
+    let a : After F how.reading.kept last = after_each F how.reading.kept calls how.reading.link how.code (thrown_away how) final (by_fault how.fault refl) in
     both F how.reading.kept how.closed last (address how.reading.id (set_failed how.reading.id how.code (λ _. release (socket_id_slot how.reading.id) (λ _. last))) (λ _. last)) a
     (after_address F how.reading.kept how.reading.id (set_failed how.reading.id how.code (λ _. release (socket_id_slot how.reading.id) (λ _. last))) (λ _. last)
     (after_failed F how.reading.kept how.reading.id how.code (λ _. release (socket_id_slot how.reading.id) (λ _. last)) (λ _. after_release F how.reading.kept (socket_id_slot how.reading.id) (λ _. last) (λ _. a))) (λ _. a))
@@ -166,9 +174,9 @@ after_first F kept (Write w after) a = absurd a
 after_first F kept (Aside step next) a = a
 after_first F kept (Keep r next) a = a
 after_first F kept (Retries requests after) a = absurd a
-after_first F kept (Round (Posts id e w) next) a = subst (λ n. After F kept (posts_round id e w n)) (sym a.0.1) (after_posts F kept id e w a.0.0 (λ x. subst (λ n. After F kept (n x)) a.0.1 (a.1 x)))
+after_first F kept (Round (Posts id e w) next) a = subst (λ n. After F kept (posts_round id e w n)) (sym a.0.1) (after_posts F kept id e w a.0.0 a.0.2 (λ x. subst (λ n. After F kept (n x)) a.0.1 (a.1 x)))
 after_first F kept (Round (Unlocks i w advance) next) a = after_unlocks F kept i w advance next a.1
-after_first F kept (Round (Decides id asked w e) next) a = after_decides F kept id asked w e next a.1
+after_first F kept (Round (Decides id asked w e) next) a = after_decides F kept id asked w e next a.0.1 a.1
 after_first F kept (Round (Locks i sought None) next) a = (tt, λ found. after_locking F kept i sought found next a.1)
   where
     after_locking : (F : Type 0) (kept : List Frame) (i : ℕ) (sought : Sought) (found : ℕ) (next : Locking → Program) → ((x : Locking) → After F kept (next x)) → After F kept (locking i sought found next)
@@ -214,6 +222,7 @@ posting_map F G kept on other next x = tt
 
 posting_at_map : (F G : Type 0) (kept : List Frame) → (F → G) → (head : Head) (next : Exit head → Program) → PostingAt F kept head next → PostingAt G kept head next
 posting_at_map F G kept on (Posts id e w) next x = x
+posting_at_map F G kept on (Decides id asked w e) next x = x
 posting_at_map F G kept on (Reads r) next x = absurd x
 posting_at_map F G kept on (Discards l total) next x = on x
 posting_at_map F G kept on other next x = tt

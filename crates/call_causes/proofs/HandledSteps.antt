@@ -10,7 +10,7 @@ use Rattle.brpc_model.specs.Causes.{HasFault}
 use Rattle.sock_programs.specs.Asides.{Step, Found, LoadIdWord, LockId, PostId, EndId, FreeId, TakeCall, TakeBytes, Taking, Bytes, Nothing, NoMore, AtEnd, Closed, Broken, call_id}
 use Rattle.sock_programs.specs.Heads.{Retry, Version, Reading, Locks, Reads, Locking, NotThere, Has, Ended}
 use Rattle.sock_programs.specs.Programs.{Program, Do, Say, Sent, Rest, TakeMessage, TakeHome, PutHome, PutBytes, AskReady, Write, Aside, Round, Keep, Retries, NO_SOCKET}
-use Rattle.sock_programs.specs.Posts.{packed, end_id, locking, is_sought, has_version}
+use Rattle.sock_programs.specs.Posts.{packed, is_final, end_id, locking, is_sought, has_version}
 use Rattle.sock_programs.specs.Readers.{LIMIT, ending_of, slot_in, version_in, has_response, is_early, answer, answered, responses, last_of, ended_by, read_on, took_bytes, took, read, reader}
 use Rattle.sock_programs.specs.Cores.{resolved, next_step}
 use Rattle.sock_runs.specs.Sound.{first_step}
@@ -94,8 +94,8 @@ module _ (k ids : ℕ) (calls : List ℕ) (o : ℕ) (many : length calls ≡ ids
   by_test P false x y f g = g refl
 
   -- the reading is over
-  over_read : (s : Sit) (ws : List Retry) (how : Ended) → Over k ids s how.reading.kept → (how.fault ≡ true → Frozen k ids s) → State s (next_step (resolved ws (read calls how)))
-  over_read s ws how ov faulty = over how.reading.kept ov (after_next (Frozen k ids s) how.reading.kept ws (read calls how) (after_read (Frozen k ids s) calls how faulty))
+  over_read : (s : Sit) (ws : List Retry) (how : Ended) → is_final how.code ≡ true → Over k ids s how.reading.kept → (how.fault ≡ true → Frozen k ids s) → State s (next_step (resolved ws (read calls how)))
+  over_read s ws how final ov faulty = over how.reading.kept ov (after_next (Frozen k ids s) how.reading.kept ws (read calls how) (after_read (Frozen k ids s) calls how final faulty))
 
   enter : (s : Sit) (r : Reading) (bytes : List ℕ) (fs before kept : List Frame) → Mid k ids s r bytes before fs kept → (ws : List Retry) → State s (next_step (resolved ws (go r bytes fs kept)))
   enter s r bytes [] before kept m ws = by_end (streams.stream (r.rest ++ bytes)).ending refl
@@ -121,8 +121,8 @@ module _ (k ids : ℕ) (calls : List ℕ) (o : ℕ) (many : length calls ≡ ids
 
       by_end : (e : streams.Ending) → (streams.stream (r.rest ++ bytes)).ending ≡ e → State s (next_step (resolved ws (read_on r' (r.rest ++ bytes) e (read calls))))
       by_end (streams.Rest n) is = by_test (λ x. State s (next_step (resolved ws x))) (nat_lt (r.total + length bytes) LIMIT) (Round (Reads (rest' n)) (read calls)) (read calls (ended_by 1014 false false (rest' n)))
-          (λ _. reading (rest' n) refl (at n is)) (λ _. over_read s ws (ended_by 1014 false false (rest' n)) (mid_over k ids s r bytes before kept m) (λ e. absurd (true≢false (sym e))))
-      by_end (streams.Fault place fault) is = over_read s ws (ended_by 2002 false true r') (mid_over k ids s r bytes before kept m)
+          (λ _. reading (rest' n) refl (at n is)) (λ _. over_read s ws (ended_by 1014 false false (rest' n)) refl (mid_over k ids s r bytes before kept m) (λ e. absurd (true≢false (sym e))))
+      by_end (streams.Fault place fault) is = over_read s ws (ended_by 2002 false true r') refl (mid_over k ids s r bytes before kept m)
           (λ _ more. frames_before_fault s.bytes more (subst HasFault (append-nil s.bytes) (m.fault [] (subst HasFault (sym (append-nil (r.rest ++ bytes))) (place, fault, is)))))
   enter s r bytes (f ∷ fs) before kept m ws = by_test (λ x. State s (next_step (resolved ws x))) (has_response f.meta.response && nat_lt (slot_in f) r.ids)
       (Round (Locks (slot_in f) (Version (version_in f)) None) (answered f kept (λ kept'. responses r.ids fs kept' (behind r bytes)))) (go r bytes fs kept)
@@ -198,7 +198,7 @@ module _ (k ids : ℕ) (calls : List ℕ) (o : ℕ) (many : length calls ≡ ids
       mid = record { words = t.words; soon = t.soon; bytes = s.bytes }
 
       ends : (tk : Taking) → bytes_in tk ≡ [] → Took k ids s t tk → (closed : Bool) → State t (next_step (resolved ws (read calls (ended_by 1014 closed false r))))
-      ends tk none_ l closed = over_read t ws (ended_by 1014 closed false r) (over_on k ids s t (no_bytes s t tk none_ l) r.kept at.handled) (λ e. absurd (true≢false (sym e)))
+      ends tk none_ l closed = over_read t ws (ended_by 1014 closed false r) refl (over_on k ids s t (no_bytes s t tk none_ l) r.kept at.handled) (λ e. absurd (true≢false (sym e)))
 
       by_take : (tk : Taking) → Took k ids s t tk → State t (next_step (resolved ws (took r (read calls) tk)))
       by_take (Bytes bytes) l = enter t r bytes (frames_in (r.rest ++ bytes)) (frames_in s.bytes) r.kept (record {
