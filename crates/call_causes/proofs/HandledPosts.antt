@@ -77,7 +77,7 @@ module _ (k ids : ℕ) where
           (λ same. true≢false (sym (subst (λ h. (slot_in h == id_slot id) && (nat_lt id h.meta.correlation_id && nat_lt h.meta.correlation_id (id + range)) ≡ true) same fits) ∙ is))
           (λ later. rest none_ later) there
 
-  silent_here : (s : Sit) (kept : List Frame) (id range : ℕ) → Over k ids s kept → (word_of s (id_slot id)).first ≡ id_first id → kept_for id range kept ≡ [] → Silent (id_slot id) (id_first id) range s
+  pub silent_here : (s : Sit) (kept : List Frame) (id range : ℕ) → Over k ids s kept → (word_of s (id_slot id)).first ≡ id_first id → kept_for id range kept ≡ [] → Silent (id_slot id) (id_first id) range s
   silent_here s kept id range ov here none_ n f there resp slot low high = ⊎_elim
       (λ gone. let z = subst (λ j. version_in f ≤ (word_of s j).first) slot gone in omega (arith, low, z, here))
       (λ x. none_kept id range f slot low high kept none_ x.1)
@@ -157,14 +157,14 @@ module _ (k ids : ℕ) where
 
   module _ (calls : List ℕ) (o : ℕ) (many : length calls ≡ ids) where
     -- a step that only a reader behind the end of its reading makes
-    abbrev IsLate : Program → Type 0
+    abbrev pub IsLate : Program → Type 0
     IsLate (Do (LoadOpen n) next) = ⊥
     IsLate (Do call next) = Unit {0}
     IsLate (Aside (PostId i from e) next) = Unit {0}
     IsLate other = ⊥
 
     -- a decision
-    abbrev IsDecision : Program → Type 0
+    abbrev pub IsDecision : Program → Type 0
     IsDecision (Round (Decides id asked word e) next) = Unit {0}
     IsDecision other = ⊥
 

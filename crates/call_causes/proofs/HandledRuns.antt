@@ -1,15 +1,16 @@
 -- Over the ticks of a run what is said of the reader of a link goes on, and what it claims where it posts lasts.
 use Rattle.std.proofs.Common.{◌≡◌, ◌≢◌, ℕ, zero, suc, ◌+◌, ◌<◌, ◌≤◌, ◌==◌, ◌⊎◌, inl, inr, ⊎_elim, cond, eqb-true, Bool, true, false, append_assoc, List, [], ◌∷◌, ◌++◌, length, replicate, refl, sym, ap, ◌∙◌, subst, arith}
 use Rattle.std.proofs.lemmas.List.{append-nil}
-use mathlib.Core.Option.{Option, none, some}
+use mathlib.Core.Option.{Option, none, some, some-injective}
 use lib.ListN.{get_elem?}
 use Rattle.sock_words.specs.declared.plain.Plan.{Plan}
 use Rattle.sock_model.specs.declared.view.View.{View}
 use Rattle.corr_core.specs.declared.marks.Plan.{Plan as IdPlan}
 use Rattle.sock_programs.specs.declared.task.Task.{Task}
-use Rattle.sock_programs.specs.Asides.{Step, Found, Taking}
+use Rattle.sock_programs.specs.Asides.{Step, Found, Taking, id_slot, id_first}
 use Rattle.sock_programs.specs.Beside.{found_in}
-use Rattle.sock_programs.specs.Heads.{Retry}
+use Rattle.sock_programs.specs.Heads.{Exit, Retry, Decides}
+use Rattle.sock_message.specs.Asked.{Asked}
 use Rattle.sock_programs.specs.Programs.{Program, Do, Say, Sent, Rest, TakeMessage, TakeHome, PutHome, PutBytes, AskReady, Write, Aside, Round, Keep, Retries}
 use Rattle.sock_programs.specs.Cores.{Core, SeatState}
 use Rattle.sock_programs.specs.Ticks.{Moment, quiet, ticked, run}
@@ -24,9 +25,10 @@ use Rattle.id_runs.proofs.Loops.{ids_round}
 use Rattle.id_runs.proofs.Programs.{block_goes}
 use Rattle.call_causes.specs.Lists.{times, soon_at, shows_in, advanced_at}
 use Rattle.call_causes.specs.Posts.{Post, posted_at}
+use Rattle.call_causes.specs.Decided.{posted_by, Decision, decision_in, decided_at, decided_by}
 use Rattle.call_causes.specs.Scenes.{Scene, In, LeadsTo}
 use Rattle.call_causes.specs.Says.{Mark, SaysOn}
-use Rattle.call_causes.specs.Stories.{CallStory, HasStory}
+use Rattle.call_causes.specs.Stories.{SlotFits, CallStory, HasStory}
 use Rattle.call_causes.proofs.Leading.{run_leads}
 use Rattle.call_causes.proofs.Numbered.{AreNumbered}
 use Rattle.call_causes.proofs.Claiming.{HaveSlots}
@@ -37,8 +39,9 @@ use Rattle.call_causes.proofs.Run.{Story, one_tick}
 use Rattle.call_causes.proofs.Handled.{Sit, Later}
 use Rattle.call_causes.proofs.HandledFacts.{Facts, facts}
 use Rattle.call_causes.proofs.HandledSteps.{Onward, State, state_on, onward}
+use Rattle.call_causes.proofs.HandledStates.{After}
 use Rattle.call_causes.proofs.HandledTicks.{sit, Known, HasReader, reader_ticks}
-use Rattle.call_causes.proofs.HandledPosts.{IsOver, Claims, claims_on, claims_onward, HasOver, HasClaims, claims_at, over_at}
+use Rattle.call_causes.proofs.HandledPosts.{IsOver, Claims, claims_on, claims_onward, Silence, silence_on, silence_onward, silent_here, deciding_over, IsDecision, HasOver, HasClaims, claims_at, over_at}
 
 -- ## What is known of ticks
 
@@ -86,6 +89,10 @@ module _ (p : Plan) (q : IdPlan) (clients : List (List Task)) (gives : ℕ → L
         let u = other_there w.core.seats us m.seat seat ids.each at in let mark = other_there w.core.seats ms m.seat seat story.each at in
         facts p q clients gives w ms story us ids m.seat u.0 u.1 mark.0 mark.1 step next t (subst (SaysOn p q clients gives w mark.0) first (says_first w mark.0 seat.program (story.seats m.seat seat mark.0 at mark.1)))
         (subst (IdGoesOn p q u.0) first (goes_first u.0 seat.program (ids.seats m.seat seat u.0 at u.1))) found is;
+    decides = λ seat at id asked word e next is.
+        let mark = other_there w.core.seats ms m.seat seat story.each at in let says = subst (SaysOn p q clients gives w mark.0) is (story.seats m.seat seat mark.0 at mark.1) in
+        let held = says.0.0 in let fits = subst (SlotFits q w) held.1 (story.slots.fits m.seat mark.0 mark.1) in
+        (fits.3, held.2.0 ∙ sym held.3);
   }
 
   known_tick : (posted : List Post) (shown : List ℕ) (c : Core) (vs : List View) (m : Moment) → BothSound p q c vs → Story p q clients gives numbered slots small posted shown c → Known q c m
@@ -117,10 +124,6 @@ module _ (p : Plan) (q : IdPlan) (k : ℕ) (St : Sit → Program → Type 0) (st
   along (m ∷ ms) soon c known h = subst (λ l. HasReader p q k St st_on onw l (run p (ticked p c m) ms)) (append_assoc soon (soon_at p c m) (shows_in (soon_at p) p (ticked p c m) ms))
       (along ms (soon ++ soon_at p c m) (ticked p c m) known.1 (reader_ticks p q k St st_on onw soon c m known.0 h))
 
--- what the id took in a tick of this seat
-abbrev pub posted_by : ℕ → Core → Moment → List Post
-posted_by j c m = cond (m.seat == j) (posted_at c m) []
-
 module _ (p : Plan) (q : IdPlan) (k : ℕ) (calls : List ℕ) (o : ℕ) (many : length calls ≡ q.slots) where
   abbrev pub Reads' : List (ℕ × ℕ) → Core → Type 0
   Reads' soon c = HasReader p q k (State k q.slots calls o many) (state_on k q.slots calls o many) (onward k q.slots calls o many) soon c
@@ -142,8 +145,8 @@ module _ (p : Plan) (q : IdPlan) (k : ℕ) (calls : List ℕ) (o : ℕ) (many : 
 
   -- what is claimed lasts
   pub claims_along : (x : Post) (ms : List Moment) (soon : List (ℕ × ℕ)) (c : Core) → AreKnown p q c ms → HasClaims p q k x soon c → HasClaims p q k x (soon ++ shows_in (soon_at p) p c ms) (run p c ms)
-  claims_along x ms soon c known h = along p q k (Claims k q.slots (Rattle.sock_programs.specs.Asides.id_slot x.id) (Rattle.sock_programs.specs.Asides.id_first x.id)) (claims_on k q.slots (Rattle.sock_programs.specs.Asides.id_slot x.id) (Rattle.sock_programs.specs.Asides.id_first x.id))
-      (claims_onward k q.slots (Rattle.sock_programs.specs.Asides.id_slot x.id) (Rattle.sock_programs.specs.Asides.id_first x.id)) ms soon c known h
+  claims_along x ms soon c known h = along p q k (Claims k q.slots (id_slot x.id) (id_first x.id)) (claims_on k q.slots (id_slot x.id) (id_first x.id))
+      (claims_onward k q.slots (id_slot x.id) (id_first x.id)) ms soon c known h
 
   -- where the reader posts an error, it claims
   pub posts_claim : (x : Post) (ms : List Moment) (soon : List (ℕ × ℕ)) (c : Core) → AreKnown p q c ms → Reads' soon c → In x (shows_in (posted_by (32 + k)) p c ms) → HasClaims p q k x (soon ++ shows_in (soon_at p) p c ms) (run p c ms)
@@ -153,3 +156,48 @@ module _ (p : Plan) (q : IdPlan) (k : ℕ) (calls : List ℕ) (o : ℕ) (many : 
       (λ later. subst (λ l. HasClaims p q k x l (run p (ticked p c m) ms)) (append_assoc soon (soon_at p c m) (shows_in (soon_at p) p (ticked p c m) ms))
       (posts_claim x ms (soon ++ soon_at p c m) (ticked p c m) known.1 (reader_ticks p q k (State k q.slots calls o many) (state_on k q.slots calls o many) (onward k q.slots calls o many) soon c m known.0 h) later))
       (in_two x (posted_by (32 + k) c m) (shows_in (posted_by (32 + k)) p (ticked p c m) ms) there)
+
+  -- ## Decisions
+
+  abbrev pub IsSilent : Decision → List (ℕ × ℕ) → Core → Type 0
+  IsSilent d soon c = (seat : SeatState) → get_elem? c.seats (32 + k) ≡ some seat → Silence k q.slots (id_slot d.id) (id_first d.id) d.asked.range (sit k c soon) seat.program
+
+  deciding : (m : Moment) (c : Core) (d : Decision) → In d (decided_by (32 + k) c m) → (m.seat ≡ 32 + k) × In d (decided_at c m)
+  deciding m c d there = by_seat (m.seat == 32 + k) refl there
+    where
+      by_seat : (b : Bool) → (m.seat == 32 + k) ≡ b → In d (cond b (decided_at c m) []) → (m.seat ≡ 32 + k) × In d (decided_at c m)
+      by_seat true is z = (eqb-true m.seat (32 + k) is, z)
+      by_seat false is z = absurd z
+
+  -- the seat is at it
+  abbrev Is' : Decision → Program → Type 0
+  Is' d x = (word : ℕ) × (next : Exit (Decides d.id d.asked word d.error) → Program) × (x ≡ Round (Decides d.id d.asked word d.error) next)
+
+  decision_is : (d : Decision) (x : Program) → In d (decision_in x) → Is' d x
+  decision_is d (Round (Decides id asked word e) next) (inl same) = subst (λ y. Is' y (Round (Decides id asked word e) next)) (sym same) (word, next, refl)
+  decision_is d (Round (Decides id asked word e) next) (inr z) = absurd z
+  decision_is d other there = absurd there
+
+  silent_at : (d : Decision) (m : Moment) (soon : List (ℕ × ℕ)) (c : Core) → Known q c m → Reads' soon c → In d (decided_by (32 + k) c m) → IsSilent d soon c
+  silent_at d m soon c known h there seat at = let y = deciding m c d there in by_whom y.0 (get_elem? c.seats m.seat) refl y.1
+    where
+      by_whom : m.seat ≡ 32 + k → (x : Option SeatState) → get_elem? c.seats m.seat ≡ x → In d (elim x as (λ o. List Decision) [ none ↦ [] | some s ↦ decision_in s.program ]) → Silence k q.slots (id_slot d.id) (id_first d.id) d.asked.range (sit k c soon) seat.program
+      by_whom own none e z = absurd z
+      by_whom own (some s) e z = let here : get_elem? c.seats m.seat ≡ some seat = ap (get_elem? c.seats) own ∙ at in let same : s ≡ seat = some-injective s seat (sym e ∙ here) in
+          let is = decision_is d seat.program (subst (λ (t : SeatState). In d (decision_in t.program)) same z) in
+          let ov = deciding_over k q.slots calls o many (sit k c soon) seat.program (h seat at) (subst (λ x. IsDecision k q.slots calls o many x) (sym is.2) tt) in
+          let a = subst (λ x. After (Rattle.call_causes.proofs.Handled.Frozen k q.slots (sit k c soon)) ov.0 x) is.2 ov.2 in
+          let locked = known.decides seat here d.id d.asked is.0 d.error is.1 is.2 in
+          (ov, silent_here k q.slots (sit k c soon) ov.0 d.id d.asked.range ov.1 locked.0 (ap (λ n. Rattle.sock_programs.specs.Readers.kept_for d.id n ov.0) (sym locked.1) ∙ a.0.0))
+
+  pub silence_along : (d : Decision) (ms : List Moment) (soon : List (ℕ × ℕ)) (c : Core) → AreKnown p q c ms → IsSilent d soon c → IsSilent d (soon ++ shows_in (soon_at p) p c ms) (run p c ms)
+  silence_along d ms soon c known h = along p q k (Silence k q.slots (id_slot d.id) (id_first d.id) d.asked.range) (silence_on k q.slots (id_slot d.id) (id_first d.id) d.asked.range) (silence_onward k q.slots (id_slot d.id) (id_first d.id) d.asked.range) ms soon c known h
+
+  -- where the reader decides on an error of a call, its link gave no response to it
+  pub decides_silent : (d : Decision) (ms : List Moment) (soon : List (ℕ × ℕ)) (c : Core) → AreKnown p q c ms → Reads' soon c → In d (shows_in (decided_by (32 + k)) p c ms) → IsSilent d (soon ++ shows_in (soon_at p) p c ms) (run p c ms)
+  decides_silent d [] soon c known h there = absurd there
+  decides_silent d (m ∷ ms) soon c known h there = ⊎_elim
+      (λ now. silence_along d (m ∷ ms) soon c known (silent_at d m soon c known.0 h now))
+      (λ later. subst (λ l. IsSilent d l (run p (ticked p c m) ms)) (append_assoc soon (soon_at p c m) (shows_in (soon_at p) p (ticked p c m) ms))
+      (decides_silent d ms (soon ++ soon_at p c m) (ticked p c m) known.1 (reader_ticks p q k (State k q.slots calls o many) (state_on k q.slots calls o many) (onward k q.slots calls o many) soon c m known.0 h) later))
+      (in_two d (decided_by (32 + k) c m) (shows_in (decided_by (32 + k)) p (ticked p c m) ms) there)

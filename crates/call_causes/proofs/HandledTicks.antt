@@ -17,9 +17,10 @@ use Rattle.corr_core.specs.Word.{parts}
 use Rattle.corr_core.specs.declared.marks.Plan.{Plan as IdPlan}
 use Rattle.id_rule.specs.Lawful.{id_word}
 use Rattle.sock_steps.proofs.Quiet.{either_way}
-use Rattle.sock_programs.specs.Asides.{Step, ClaimId, PutCall, MakeId, StoreCall, LoadCall, StoreAt, LoadAt, LoadIdWord, LockId, PostId, UnlockId, EndId, FreeId, TakeCall, TakeBytes, Taking, Bytes, Nothing, NoMore, AtEnd, Closed, Broken, Found}
+use Rattle.sock_programs.specs.Asides.{Step, ClaimId, PutCall, MakeId, StoreCall, LoadCall, StoreAt, LoadAt, LoadIdWord, LockId, PostId, UnlockId, EndId, FreeId, TakeCall, TakeBytes, Taking, Bytes, Nothing, NoMore, AtEnd, Closed, Broken, Found, id_slot, id_first}
 use Rattle.sock_programs.specs.Heads.{Head, Exit, Retry, Posts, Unlocks, Decides, Locks, Joins, Opens, Reads, Discards}
 use Rattle.sock_programs.specs.Programs.{Program, Do, Say, Sent, Rest, TakeMessage, TakeHome, PutHome, PutBytes, AskReady, Write, Aside, Round, Keep, Retries}
+use Rattle.sock_message.specs.Asked.{Asked}
 use Rattle.sock_programs.specs.Writings.{Puts, Waits, Empties, Walks}
 use Rattle.sock_programs.specs.Sends.{block}
 use Rattle.sock_programs.specs.Rounds.{round}
@@ -89,6 +90,9 @@ soon_waits k ids d slots soon (f ∷ fs) n all = by_soon (is_soon d f) refl all 
 pub record Known (q : IdPlan) (c : Core) (m : Moment) : Type 0 where
   pub plan : c.calls.plan ≡ q
   pub facts : (seat : SeatState) → get_elem? c.seats m.seat ≡ some seat → (step : Step) (next : Found step → Program) (t : Option Taking) (found : Found step) → first_step seat.program ≡ Aside step next → found_in step c.calls t ≡ some found → Facts q m.seat c step found
+  -- a call that is decided on is locked, and has the range of its id
+  pub decides : (seat : SeatState) → get_elem? c.seats m.seat ≡ some seat → (id : ℕ) (asked : Asked) (word e : ℕ) (next : Exit (Decides id asked word e) → Program) → seat.program ≡ Round (Decides id asked word e) next
+      → ((parts (slice_index c.calls.words (id_word (id_slot id)))).first ≡ id_first id) × ((parts word).range ≡ asked.range)
 
 module _ (p : Plan) (q : IdPlan) (k : ℕ) (St : Sit → Program → Type 0) (st_on : (s t : Sit) → Later k q.slots s t → (x : Program) → St s x → St t x) (onw : (s t : Sit) (ws : List Retry) (x : Program) → St s x → Onward k q.slots St s t ws (first_step x)) where
   abbrev pub HasReader : List (ℕ × ℕ) → Core → Type 0

@@ -12,6 +12,7 @@ use Rattle.brpc_model.specs.Frame.{Frame}
 use Rattle.chain_laws.proofs.Lists.{at_some}
 use Rattle.sock_programs.specs.Asides.{id_slot, id_first}
 use Rattle.sock_programs.specs.Clients.{ending_of, client_from}
+use Rattle.sock_programs.specs.Programs.{Program}
 use Rattle.sock_programs.specs.Readers.{slot_in, version_in}
 use Rattle.sock_programs.specs.Cores.{Core, SeatState, resolved, waiting_at, next_step}
 use Rattle.sock_programs.specs.Ticks.{Moment, quiet, run}
@@ -25,6 +26,7 @@ use Rattle.report_fits.proofs.Reading.{InRange}
 use Rattle.report_fits.proofs.Targets.{AreThere}
 use Rattle.call_causes.specs.Lists.{given, soon_at, shows_in, shows_in_run, soon_of_run}
 use Rattle.call_causes.specs.Posts.{Post}
+use Rattle.call_causes.specs.Decided.{posted_by, Decision, decided_by}
 use Rattle.call_causes.specs.Scenes.{In, LeadsTo}
 use Rattle.call_causes.proofs.Numbered.{AreNumbered}
 use Rattle.call_causes.proofs.Claiming.{HaveSlots}
@@ -34,8 +36,8 @@ use Rattle.call_causes.proofs.Run as runs
 use Rattle.call_causes.proofs.Handled.{Sit, Later, frames_in, IsResp}
 use Rattle.call_causes.proofs.HandledSteps.{Onward, State, waiting, state_on, onward}
 use Rattle.call_causes.proofs.HandledTicks.{sit, HasReader}
-use Rattle.call_causes.proofs.HandledPosts.{HasClaims}
-use Rattle.call_causes.proofs.HandledRuns.{AreKnown, setup_known, played_known, along, posted_by, Reads', reads_along, claims_along, posts_claim}
+use Rattle.call_causes.proofs.HandledPosts.{Claims, Silence}
+use Rattle.call_causes.proofs.HandledRuns.{AreKnown, setup_known, played_known, along, Reads', reads_along, claims_along, posts_claim, silence_along, decides_silent}
 
 each_at : {A : Type 0} (P : A → Type 0) (xs : List A) → AllByRecursion P xs → (i : ℕ) (x : A) → get_elem? xs i ≡ some x → P x
 each_at P [] all i x at = absurd (some-ne-none x (sym at))
@@ -123,7 +125,7 @@ module _ (script : List Item) (made : AreMade script) (there : AreThere script) 
     abbrev soon_final : List (ℕ × ℕ)
     soon_final = shows_in (soon_at (plan_of script)) (plan_of script) is.ended is.final
 
-    module _ (St : Sit → Rattle.sock_programs.specs.Programs.Program → Type 0) where
+    module _ (St : Sit → Program → Type 0) where
       abbrev Has : List (ℕ × ℕ) → Core → Type 0
       Has soon c = (seat : SeatState) → get_elem? c.seats (32 + k) ≡ some seat → St (sit k c soon) seat.program
 
@@ -150,12 +152,6 @@ module _ (script : List Item) (made : AreMade script) (there : AreThere script) 
 
     -- ## Its reader
 
-    abbrev p' : Rattle.sock_words.specs.declared.plain.Plan.Plan
-    p' = plan_of script
-
-    abbrev q' : Rattle.corr_core.specs.declared.marks.Plan.Plan
-    q' = id_plan_of script
-
     many : length (calls script) ≡ (id_plan_of script).slots
     many = made.slots
 
@@ -181,43 +177,61 @@ module _ (script : List Item) (made : AreMade script) (there : AreThere script) 
     reads_ended : Reading ((soon_setup ++ soon_clients) ++ soon_closing) is.ended
     reads_ended = subst (Reading ((soon_setup ++ soon_clients) ++ soon_closing)) (sym is.is_ended) (reads_on (soon_setup ++ soon_clients) closing in_closing known_closing reads_closing)
 
-    module _ (x : Post) where
-      abbrev Claiming : List (ℕ × ℕ) → Core → Type 0
-      Claiming soon c = HasClaims (plan_of script) (id_plan_of script) k x soon c
+    -- what each part of the run makes of it stands in the end
+    module _ {A : Type 0} (show : Core → Moment → List A) (x : A) (St : Sit → Program → Type 0)
+        (on : (soon : List (ℕ × ℕ)) (c : Core) (ms : List Moment) → AreKnown (plan_of script) (id_plan_of script) c ms → Has St soon c → Has St (soon ++ shows_in (soon_at (plan_of script)) (plan_of script) c ms) (run (plan_of script) c ms))
+        (comes : (soon : List (ℕ × ℕ)) (c : Core) (ms : List Moment) → AreKnown (plan_of script) (id_plan_of script) c ms → Reading soon c → In x (shows_in show (plan_of script) c ms) → Has St (soon ++ shows_in (soon_at (plan_of script)) (plan_of script) c ms) (run (plan_of script) c ms)) where
+      abbrev shown_setup : List A
+      shown_setup = shows_in show (plan_of script) (opened script) in_setup
 
-      on : (soon : List (ℕ × ℕ)) (c : Core) (ms : List Moment) → AreKnown (plan_of script) (id_plan_of script) c ms → Claiming soon c → Claiming (soon ++ shows_in (soon_at (plan_of script)) (plan_of script) c ms) (run (plan_of script) c ms)
-      on soon c ms known h = claims_along (plan_of script) (id_plan_of script) k (calls script) o many x ms soon c known h
+      abbrev shown_clients : List A
+      shown_clients = shows_in show (plan_of script) (set_up script is.setup) in_clients
 
-      abbrev Cl : Sit → Rattle.sock_programs.specs.Programs.Program → Type 0
-      Cl = Rattle.call_causes.proofs.HandledPosts.Claims k (id_plan_of script).slots (id_slot x.id) (id_first x.id)
+      abbrev shown_closing : List A
+      shown_closing = shows_in show (plan_of script) closing in_closing
 
-      claims_in : (soon : List (ℕ × ℕ)) (c : Core) (ms : List Moment) → AreKnown (plan_of script) (id_plan_of script) c ms → Reading soon c → In x (shows_in (posted_by (32 + k)) (plan_of script) c ms) → Claiming (soon ++ shows_in (soon_at (plan_of script)) (plan_of script) c ms) (run (plan_of script) c ms)
-      claims_in soon c ms known h there = posts_claim (plan_of script) (id_plan_of script) k (calls script) o many x ms soon c known h there
+      abbrev shown_final : List A
+      shown_final = shows_in show (plan_of script) is.ended is.final
 
-      -- where the reader posted it, the claim stands in the end
-      in_the_end : In x (shows_in_run script turns core is (posted_by (32 + k))) → Claiming (soon_of_run script turns core is) core
-      in_the_end there = ⊎_elim
-          (λ a. from_set_up Cl on soon_setup (claims_in [] (opened script) in_setup known_setup reads_first a))
-          (λ l. ⊎_elim
-          (λ a. subst (λ y. Claiming y core) (append_assoc soon_setup soon_clients (soon_closing ++ soon_final)) (from_played Cl on (soon_setup ++ soon_clients) (claims_in soon_setup (set_up script is.setup) in_clients known_clients reads_set_up a)))
-          (λ l. ⊎_elim
-          (λ a. subst (λ y. Claiming y core) (append_assoc (soon_setup ++ soon_clients) soon_closing soon_final ∙ append_assoc soon_setup soon_clients (soon_closing ++ soon_final))
-          (from_ended Cl on ((soon_setup ++ soon_clients) ++ soon_closing) (subst (Claiming ((soon_setup ++ soon_clients) ++ soon_closing)) (sym is.is_ended) (claims_in (soon_setup ++ soon_clients) closing in_closing known_closing reads_closing a))))
-          (λ a. subst (λ y. Claiming y core) (append_assoc (soon_setup ++ soon_clients) soon_closing soon_final ∙ append_assoc soon_setup soon_clients (soon_closing ++ soon_final))
-          (subst (Claiming (((soon_setup ++ soon_clients) ++ soon_closing) ++ soon_final)) (sym is.is_end) (claims_in ((soon_setup ++ soon_clients) ++ soon_closing) is.ended is.final known_final reads_ended a)))
-          (in_two x (shows_in (posted_by (32 + k)) (plan_of script) closing in_closing) (shows_in (posted_by (32 + k)) (plan_of script) is.ended is.final) l))
-          (in_two x (shows_in (posted_by (32 + k)) (plan_of script) (set_up script is.setup) in_clients) (shows_in (posted_by (32 + k)) (plan_of script) closing in_closing ++ shows_in (posted_by (32 + k)) (plan_of script) is.ended is.final) l))
-          (in_two x (shows_in (posted_by (32 + k)) (plan_of script) (opened script) in_setup) (shows_in (posted_by (32 + k)) (plan_of script) (set_up script is.setup) in_clients ++ (shows_in (posted_by (32 + k)) (plan_of script) closing in_closing ++ shows_in (posted_by (32 + k)) (plan_of script) is.ended is.final)) there)
+      abbrev Ended : Type 0
+      Ended = Has St (soon_of_run script turns core is) core
 
-      seat_there : (seat : SeatState) × (get_elem? core.seats (32 + k) ≡ some seat)
-      seat_there = at_some core.seats (32 + k) (let seats = made.seats in let low = inside (opens script) k at in
-          let l = runs.many_seats script made (given core) (are_numbered script made there range (given core)) (have_slots script made there range (given core)) (begins script made there range (given core)) turns core is leads in omega (arith, l, seats, low))
-        where
-          inside : (xs : List ℕ) (i : ℕ) → get_elem? xs i ≡ some o → i < length xs
-          inside [] i e = absurd (some-ne-none o (sym e))
-          inside (y ∷ ys) zero e = omega arith
-          inside (y ∷ ys) (suc i) e = let z = inside ys i e in omega (arith, z)
+      by_final : In x shown_final → Ended
+      by_final a = subst (λ y. Has St y core) (append_assoc (soon_setup ++ soon_clients) soon_closing soon_final ∙ append_assoc soon_setup soon_clients (soon_closing ++ soon_final))
+          (subst (Has St (((soon_setup ++ soon_clients) ++ soon_closing) ++ soon_final)) (sym is.is_end) (comes ((soon_setup ++ soon_clients) ++ soon_closing) is.ended is.final known_final reads_ended a))
 
-      -- each response of link k that is of the id's slot and behind its first version is soon, where the reader of k posted to the id
-      pub soon_of_readers : In x (shows_in_run script turns core is (posted_by (32 + k))) → (n : ℕ) (f : Frame) → slice_get (frames_in (given core k)) n ≡ Some f → IsResp k (id_plan_of script).slots f → slot_in f ≡ id_slot x.id → id_first x.id < version_in f → In (k, n) (soon_of_run script turns core is)
-      soon_of_readers posted n f frame resp slot behind = (in_the_end posted seat_there.0 seat_there.1).1 n f frame resp slot behind
+      by_closing : In x shown_closing → Ended
+      by_closing a = subst (λ y. Has St y core) (append_assoc (soon_setup ++ soon_clients) soon_closing soon_final ∙ append_assoc soon_setup soon_clients (soon_closing ++ soon_final))
+          (from_ended St on ((soon_setup ++ soon_clients) ++ soon_closing) (subst (Has St ((soon_setup ++ soon_clients) ++ soon_closing)) (sym is.is_ended) (comes (soon_setup ++ soon_clients) closing in_closing known_closing reads_closing a)))
+
+      by_clients : In x shown_clients → Ended
+      by_clients a = subst (λ y. Has St y core) (append_assoc soon_setup soon_clients (soon_closing ++ soon_final)) (from_played St on (soon_setup ++ soon_clients) (comes soon_setup (set_up script is.setup) in_clients known_clients reads_set_up a))
+
+      by_setup : In x shown_setup → Ended
+      by_setup a = from_set_up St on soon_setup (comes [] (opened script) in_setup known_setup reads_first a)
+
+      in_the_end : In x (shows_in_run script turns core is show) → Ended
+      in_the_end there = ⊎_elim by_setup
+          (λ l. ⊎_elim by_clients (λ l. ⊎_elim by_closing by_final (in_two x shown_closing shown_final l)) (in_two x shown_clients (shown_closing ++ shown_final) l))
+          (in_two x shown_setup (shown_clients ++ (shown_closing ++ shown_final)) there)
+
+    seat_there : (seat : SeatState) × (get_elem? core.seats (32 + k) ≡ some seat)
+    seat_there = at_some core.seats (32 + k) (let seats = made.seats in let low = inside (opens script) k at in
+        let l = runs.many_seats script made (given core) (are_numbered script made there range (given core)) (have_slots script made there range (given core)) (begins script made there range (given core)) turns core is leads in omega (arith, l, seats, low))
+      where
+        inside : (xs : List ℕ) (i : ℕ) → get_elem? xs i ≡ some o → i < length xs
+        inside [] i e = absurd (some-ne-none o (sym e))
+        inside (y ∷ ys) zero e = omega arith
+        inside (y ∷ ys) (suc i) e = let z = inside ys i e in omega (arith, z)
+
+    -- each response of link k that is of the id's slot and behind its first version is soon, where the reader of k posted to the id
+    pub soon_of_readers : (x : Post) → In x (shows_in_run script turns core is (posted_by (32 + k))) → (n : ℕ) (f : Frame) → slice_get (frames_in (given core k)) n ≡ Some f → IsResp k (id_plan_of script).slots f → slot_in f ≡ id_slot x.id → id_first x.id < version_in f → In (k, n) (soon_of_run script turns core is)
+    soon_of_readers x posted n f frame resp slot behind = (in_the_end (posted_by (32 + k)) x (Claims k (id_plan_of script).slots (id_slot x.id) (id_first x.id))
+        (λ soon c ms known h. claims_along (plan_of script) (id_plan_of script) k (calls script) o many x ms soon c known h)
+        (λ soon c ms known h a. posts_claim (plan_of script) (id_plan_of script) k (calls script) o many x ms soon c known h a) posted seat_there.0 seat_there.1).1 n f frame resp slot behind
+
+    -- link k gave no response to a call on whose error its reader decided
+    pub silent_of_readers : (d : Decision) → In d (shows_in_run script turns core is (decided_by (32 + k))) → (n : ℕ) (f : Frame) → slice_get (frames_in (given core k)) n ≡ Some f → IsResp k (id_plan_of script).slots f → slot_in f ≡ id_slot d.id → id_first d.id < version_in f → version_in f < id_first d.id + d.asked.range → ⊥
+    silent_of_readers d decided n f frame resp slot low high = (in_the_end (decided_by (32 + k)) d (Silence k (id_plan_of script).slots (id_slot d.id) (id_first d.id) d.asked.range)
+        (λ soon c ms known h. silence_along (plan_of script) (id_plan_of script) k (calls script) o many d ms soon c known h)
+        (λ soon c ms known h a. decides_silent (plan_of script) (id_plan_of script) k (calls script) o many d ms soon c known h a) decided seat_there.0 seat_there.1).1 n f frame resp slot low high
