@@ -10,6 +10,12 @@ use Rattle.brpc_model.specs.Items.{Item}
 use Rattle.brpc_model.specs.Operations.{Turn}
 use Rattle.brpc_model.specs.Frame.{Frame}
 use Rattle.chain_laws.proofs.Lists.{at_some}
+use Rattle.sock_words.specs.declared.outcome.Outcome.TheVariants as outcomes
+use Rattle.sock_message.specs.Asked.{Asked}
+use Rattle.sock_programs.specs.declared.task.Op.TheVariants as ops
+use Rattle.sock_programs.specs.declared.task.Task.{Task}
+use Rattle.sock_programs.specs.Told.{IsTask, Became}
+use Rattle.owed_calls.specs.Lives.{ClosesInRun}
 use Rattle.sock_programs.specs.Asides.{id_slot, id_first}
 use Rattle.sock_programs.specs.Clients.{ending_of, client_from}
 use Rattle.sock_programs.specs.Programs.{Program}
@@ -19,19 +25,26 @@ use Rattle.sock_programs.specs.Ticks.{Moment, quiet, run}
 use Rattle.sock_programs.specs.Tasks.{opens, calls, plan_of, id_plan_of}
 use Rattle.sock_programs.specs.Scripts.{sizes_of, programs, all_tasks, opened, ending, set_up, played, is_ending, IsRunWithCalls}
 use Rattle.sock_runs.proofs.OpensStay.{readers_begin}
-use Rattle.sock_runs.proofs.Whole.{views_played, views_closed}
+use Rattle.sock_runs.proofs.Whole.{views_played, views_closed, views_ended}
 use Rattle.client_laws.proofs.Beginning as clients_begin
-use Rattle.joint_runs.proofs.Runs.{AreMade, first_views}
+use Rattle.id_runs.specs.Held.{IdView}
+use Rattle.id_runs.specs.Goes.{SoundIds}
+use Rattle.joint_runs.proofs.Both.{BothSound}
+use Rattle.joint_runs.proofs.Runs.{AreMade, first_views, joint_runs}
 use Rattle.report_fits.proofs.Reading.{InRange}
 use Rattle.report_fits.proofs.Targets.{AreThere}
 use Rattle.call_causes.specs.Lists.{given, soon_at, shows_in, shows_in_run, soon_of_run}
 use Rattle.call_causes.specs.Posts.{Post}
 use Rattle.call_causes.specs.Decided.{posted_by, Decision, decided_by}
-use Rattle.call_causes.specs.Scenes.{In, LeadsTo}
+use Rattle.call_causes.specs.Scenes.{Scene, In, LeadsTo}
+use Rattle.call_causes.specs.Says.{Mark}
 use Rattle.call_causes.proofs.Numbered.{AreNumbered}
 use Rattle.call_causes.proofs.Claiming.{HaveSlots}
 use Rattle.call_causes.proofs.Opening.{Begins}
 use Rattle.call_causes.proofs.Scripts.{are_numbered, have_slots, begins}
+use Rattle.call_causes.proofs.End.{HasEnded, call_of}
+use Rattle.call_causes.proofs.Knowing.{are_low}
+use Rattle.call_causes.proofs.Whole.{run_has_story, run_has_ended}
 use Rattle.call_causes.proofs.Run as runs
 use Rattle.call_causes.proofs.Handled.{Sit, Later, frames_in, IsResp}
 use Rattle.call_causes.proofs.HandledSteps.{Onward, State, waiting, state_on, onward}
@@ -235,3 +248,24 @@ module _ (script : List Item) (made : AreMade script) (there : AreThere script) 
     silent_of_readers d decided n f frame resp slot low high = (in_the_end (decided_by (32 + k)) d (Silence k (id_plan_of script).slots (id_slot d.id) (id_first d.id) d.asked.range)
         (λ soon c ms known h. silence_along (plan_of script) (id_plan_of script) k (calls script) o many d ms soon c known h)
         (λ soon c ms known h a. decides_silent (plan_of script) (id_plan_of script) k (calls script) o many d ms soon c known h a) decided seat_there.0 seat_there.1).1 n f frame resp slot low high
+
+  -- ## The ids of calls that failed
+
+  module _ (closes : ClosesInRun script turns core is) where
+    -- the versions of such a call are those of one id slot
+    pub failed_inside : (client : ℕ) (t : Task) (asked : Asked) (id code : ℕ) → IsTask (all_tasks script) core.outcomes client t → t.op ≡ ops.Call asked → Became (all_tasks script) core.outcomes t.number (outcomes.CallFailed id code)
+        → (id_slot id < (id_plan_of script).slots) × (id_first id + asked.range ≤ 67108856)
+    failed_inside client t asked id code is_task op has = let h = run_has_story script made there range turns core is in let e = run_has_ended script made there range turns core is closes in
+        subst (λ (d : Core). IsTask (all_tasks script) d.outcomes client t → Became (all_tasks script) d.outcomes t.number (outcomes.CallFailed id code) → (id_slot id < (id_plan_of script).slots) × (id_first id + asked.range ≤ 67108856)) h.is
+        (λ is_task' has'. ⊎_elim (λ own. absurd own.1)
+        (λ x. let same : id ≡ x.0 = x.2.0 in subst (λ i. (id_slot i < (id_plan_of script).slots) × (id_first i + asked.range ≤ 67108856)) (sym same) (of_birth h.scene h.marks e (subst (λ d. BothSound (plan_of script) (id_plan_of script) d (views_ended script turns core is (first_views script))) (sym h.is)
+        (let s = joint_runs script turns core is made in s.over)).id_views (subst (λ d. BothSound (plan_of script) (id_plan_of script) d (views_ended script turns core is (first_views script))) (sym h.is) (let s = joint_runs script turns core is made in s.over)).ids x.0 x.1))
+        (call_of (plan_of script) (id_plan_of script) (all_tasks script) (given core) h.scene h.marks e client t asked (outcomes.CallFailed id code) is_task' op has')) is_task has
+      where
+        of_birth : (w : Scene) (ms : List Mark) → HasEnded (plan_of script) (id_plan_of script) (all_tasks script) (given core) w ms → (us : List IdView) → SoundIds (plan_of script) (id_plan_of script) w.core us → (i : ℕ) → In (record { id = i; asked = asked }) w.births
+            → (id_slot i < (id_plan_of script).slots) × (id_first i + asked.range ≤ 67108856)
+        of_birth w ms e us ids i born = let b = e.births.born (record { id = i; asked = asked }) born in (
+          b.0,
+          ⊎_elim (λ passed. let low = are_low (plan_of script) (id_plan_of script) (all_tasks script) (given core) w us ids (id_slot i) b.0 in omega (arith, passed, low))
+              (λ now. absurd (let live = now.1 in let none_ = e.free (id_slot i) b.0 in omega (arith, live, none_))) b.3,
+        )
