@@ -29,3 +29,4 @@ pub mod LateEnding
 pub mod LateLives
 pub mod LatePlaces
 pub mod LateDropped
+pub mod Unanswered
