@@ -1,7 +1,6 @@
 -- Where the reader of a link stands with the frames that the link gave: each response that it handled is of a range that has begun or passed, or stands among the soon ones and is kept.
-use Rattle.std.proofs.Common.{◌≡◌, ◌≢◌, ℕ, zero, suc, ◌+◌, ◌-◌, ◌<◌, ◌≤◌, ◌⊎◌, inl, inr, ⊎_elim, ◌&&◌, not, Bool, true, false, cond, eqb, eqb-true, nat_le, nat_lt, ltb-true, ltb-false, leb-true, leb-false, List, [], ◌∷◌, ◌++◌, length, length-append, append_assoc, append-nil, drop, slice_get, Option, None, Some, refl, sym, ap, ◌∙◌, subst, arith}
+use Rattle.std.proofs.Common.{◌≡◌, ℕ, zero, suc, ◌+◌, ◌<◌, ◌≤◌, ◌⊎◌, inl, inr, ⊎_elim, ◌&&◌, not, Bool, true, false, cond, eqb, nat_le, nat_lt, ltb-true, ltb-false, leb-true, leb-false, List, [], ◌∷◌, ◌++◌, length, length-append, append_assoc, append-nil, slice_get, None, Some, refl, sym, ap, ◌∙◌, subst, arith}
 use Rattle.std.specs.Prelude.{slice_index}
-use Rattle.std.proofs.lemmas.Bool.{true≢false}
 use Rattle.brpc_model.specs.Frame.{Frame}
 use Rattle.brpc_model.specs.Stream as streams
 use Rattle.brpc_model.specs.Causes.{HasFault}

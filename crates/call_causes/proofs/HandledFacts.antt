@@ -12,7 +12,7 @@ use Rattle.sock_programs.specs.Asides.{Step, Found, ClaimId, PutCall, MakeId, St
 use Rattle.sock_programs.specs.Beside.{found_in, calls_after}
 use Rattle.sock_programs.specs.Posts.{packed}
 use Rattle.sock_programs.specs.Programs.{Program, Aside}
-use Rattle.sock_programs.specs.Cores.{Core, SeatState}
+use Rattle.sock_programs.specs.Cores.{Core}
 use Rattle.id_runs.specs.Held.{IdView}
 use Rattle.id_runs.specs.Goes.{IdGoesOn, SoundIds}
 use Rattle.id_runs.proofs.Keeps.{parts_packed}

@@ -1,5 +1,5 @@
 -- A reader that posts, or sets its socket failed, has handled all frames that its link gives: each response that its id might have stands among the soon ones.
-use Rattle.std.proofs.Common.{◌≡◌, ℕ, zero, suc, ◌+◌, ◌<◌, ◌≤◌, ◌==◌, ◌&&◌, ◌⊎◌, inl, inr, ⊎_elim, Bool, true, false, cond, eqb, eqb-true, eq-eqb, nat_lt, lt-ltb, List, [], ◌∷◌, ◌++◌, length, slice_get, Some, append_assoc, append-nil, refl, sym, ap, ◌∙◌, subst, arith}
+use Rattle.std.proofs.Common.{◌≡◌, ℕ, ◌+◌, ◌<◌, ◌≤◌, ◌==◌, ◌&&◌, inl, inr, ⊎_elim, Bool, true, false, cond, eqb-true, eq-eqb, nat_lt, lt-ltb, List, [], ◌∷◌, ◌++◌, length, slice_get, Some, append_assoc, refl, sym, ap, ◌∙◌, subst, arith}
 use Rattle.std.specs.Prelude.{slice_index}
 use Rattle.std.proofs.lemmas.Bool.{true≢false}
 use mathlib.Core.Option.{Option, none, some, some-injective}
@@ -9,25 +9,22 @@ use Rattle.brpc_model.specs.Frame.{Frame}
 use Rattle.corr_core.specs.Word.{Parts, parts}
 use Rattle.id_rule.specs.Lawful.{id_word}
 use Rattle.corr_core.specs.declared.marks.Plan.{Plan as IdPlan}
-use Rattle.sock_programs.specs.Calls.{Call, LoadOpen}
-use Rattle.sock_programs.specs.Asides.{Step, Found, LoadIdWord, LockId, PostId, EndId, FreeId, TakeCall, TakeBytes, Taking, call_id, id_slot, id_first}
+use Rattle.sock_programs.specs.Calls.{LoadOpen}
+use Rattle.sock_programs.specs.Asides.{Step, Found, PostId, TakeBytes, Taking, call_id, id_slot, id_first}
 use Rattle.sock_programs.specs.Heads.{Head, Exit, Retry, Decides, Locks, Reads}
-use Rattle.sock_programs.specs.Programs.{Program, Do, Say, Sent, Rest, TakeMessage, TakeHome, PutHome, PutBytes, AskReady, Write, Aside, Round, Keep, Retries}
-use Rattle.sock_message.specs.Asked.{Asked}
+use Rattle.sock_programs.specs.Programs.{Program, Do, TakeMessage, TakeHome, PutHome, PutBytes, AskReady, Aside, Round}
 use Rattle.sock_programs.specs.Beside.{found_in}
 use Rattle.sock_programs.specs.Readers.{slot_in, version_in, kept_for, reader}
 use Rattle.sock_programs.specs.Cores.{Core, SeatState, resolved, next_step}
-use Rattle.sock_programs.specs.Ticks.{Moment, ticked, run, taken}
+use Rattle.sock_programs.specs.Ticks.{Moment, taken}
 use Rattle.sock_runs.specs.Sound.{first_step}
 use Rattle.owed_calls.proofs.OwingRuns.{same_first}
-use Rattle.call_causes.specs.Lists.{given, soon_at, shows_in}
 use Rattle.call_causes.specs.Posts.{Post, posts_by, posted_with, posted_at}
 use Rattle.call_causes.specs.Scenes.{In}
 use Rattle.call_causes.proofs.Handled.{Sit, word_of, frames_in, IsResp, Done, Later, Over, Frozen, AllFrom, all_on, all_at, over_on, frozen_on, done_on}
 use Rattle.call_causes.proofs.HandledStates.{After, after_first, after_next, after_map}
-use Rattle.call_causes.proofs.HandledFacts.{Facts}
 use Rattle.call_causes.proofs.HandledSteps.{Took, Onward, Finds, bytes_in, State, waiting, reading, seeking, taking, ending_, freeing, over, state_on, onward}
-use Rattle.call_causes.proofs.HandledTicks.{sit, Known, HasReader, reader_ticks}
+use Rattle.call_causes.proofs.HandledTicks.{sit, Known, HasReader}
 
 -- ## A reader behind the end of its reading
 

@@ -1,5 +1,5 @@
 -- Over the ticks of a run what is said of the reader of a link goes on, and what it claims where it posts lasts.
-use Rattle.std.proofs.Common.{◌≡◌, ◌≢◌, ℕ, zero, suc, ◌+◌, ◌<◌, ◌≤◌, ◌==◌, ◌⊎◌, inl, inr, ⊎_elim, cond, eqb-true, Bool, true, false, append_assoc, List, [], ◌∷◌, ◌++◌, length, replicate, refl, sym, ap, ◌∙◌, subst, arith}
+use Rattle.std.proofs.Common.{◌≡◌, ℕ, zero, suc, ◌+◌, ◌≤◌, ◌==◌, ◌⊎◌, inl, inr, ⊎_elim, cond, eqb-true, Bool, true, false, append_assoc, List, [], ◌∷◌, ◌++◌, length, replicate, refl, sym, ap, ◌∙◌, subst}
 use Rattle.std.proofs.lemmas.List.{append-nil}
 use mathlib.Core.Option.{Option, none, some, some-injective}
 use lib.ListN.{get_elem?}
@@ -7,10 +7,8 @@ use Rattle.sock_words.specs.declared.plain.Plan.{Plan}
 use Rattle.sock_model.specs.declared.view.View.{View}
 use Rattle.corr_core.specs.declared.marks.Plan.{Plan as IdPlan}
 use Rattle.sock_programs.specs.declared.task.Task.{Task}
-use Rattle.sock_programs.specs.Asides.{Step, Found, Taking, id_slot, id_first}
-use Rattle.sock_programs.specs.Beside.{found_in}
+use Rattle.sock_programs.specs.Asides.{id_slot, id_first}
 use Rattle.sock_programs.specs.Heads.{Exit, Retry, Decides}
-use Rattle.sock_message.specs.Asked.{Asked}
 use Rattle.sock_programs.specs.Programs.{Program, Do, Say, Sent, Rest, TakeMessage, TakeHome, PutHome, PutBytes, AskReady, Write, Aside, Round, Keep, Retries}
 use Rattle.sock_programs.specs.Cores.{Core, SeatState}
 use Rattle.sock_programs.specs.Ticks.{Moment, quiet, ticked, run}
@@ -23,12 +21,12 @@ use Rattle.id_runs.specs.Held.{IdView}
 use Rattle.id_runs.specs.Goes.{IdGoesOn, SoundIds}
 use Rattle.id_runs.proofs.Loops.{ids_round}
 use Rattle.id_runs.proofs.Programs.{block_goes}
-use Rattle.call_causes.specs.Lists.{times, soon_at, shows_in, advanced_at}
+use Rattle.call_causes.specs.Lists.{soon_at, shows_in, advanced_at}
 use Rattle.call_causes.specs.Posts.{Post, posted_at}
 use Rattle.call_causes.specs.Decided.{posted_by, Decision, decision_in, decided_at, decided_by}
 use Rattle.call_causes.specs.Scenes.{Scene, In, LeadsTo}
 use Rattle.call_causes.specs.Says.{Mark, SaysOn}
-use Rattle.call_causes.specs.Stories.{SlotFits, CallStory, HasStory}
+use Rattle.call_causes.specs.Stories.{SlotFits, CallStory}
 use Rattle.call_causes.proofs.Leading.{run_leads}
 use Rattle.call_causes.proofs.Numbered.{AreNumbered}
 use Rattle.call_causes.proofs.Claiming.{HaveSlots}
@@ -37,11 +35,11 @@ use Rattle.call_causes.proofs.Rounds.{round_says}
 use Rattle.call_causes.proofs.Ticks.{other_there}
 use Rattle.call_causes.proofs.Run.{Story, one_tick}
 use Rattle.call_causes.proofs.Handled.{Sit, Later}
-use Rattle.call_causes.proofs.HandledFacts.{Facts, facts}
+use Rattle.call_causes.proofs.HandledFacts.{facts}
 use Rattle.call_causes.proofs.HandledSteps.{Onward, State, state_on, onward}
 use Rattle.call_causes.proofs.HandledStates.{After}
 use Rattle.call_causes.proofs.HandledTicks.{sit, Known, HasReader, reader_ticks}
-use Rattle.call_causes.proofs.HandledPosts.{IsOver, Claims, claims_on, claims_onward, Silence, silence_on, silence_onward, silent_here, deciding_over, IsDecision, HasOver, HasClaims, claims_at, over_at}
+use Rattle.call_causes.proofs.HandledPosts.{Claims, claims_on, claims_onward, Silence, silence_on, silence_onward, silent_here, deciding_over, IsDecision, HasClaims, claims_at, over_at}
 
 -- ## What is known of ticks
 

@@ -1,25 +1,19 @@
 -- Where the reader of a link stands in its program, and what it has handled there.
-use Rattle.std.proofs.Common.{◌≡◌, ◌≢◌, ℕ, zero, suc, ◌+◌, ◌-◌, ◌%◌, ◌<◌, ◌≤◌, ◌==◌, ◌⊎◌, inl, inr, ⊎_elim, ◌&&◌, ◌||◌, not, Bool, true, false, cond, eqb, eqb-true, nat_le, nat_lt, List, [], ◌∷◌, ◌++◌, length, append_assoc, append-nil, slice_get, Option, None, Some, refl, sym, ap, ◌∙◌, subst, arith}
+use Rattle.std.proofs.Common.{◌≡◌, ℕ, ◌+◌, ◌-◌, ◌%◌, ◌<◌, ◌==◌, ◌&&◌, ◌||◌, not, Bool, true, false, cond, nat_le, nat_lt, List, [], ◌∷◌, ◌++◌, length, None, Some, refl, sym, ap, ◌∙◌, subst, arith}
 use Rattle.std.proofs.lemmas.Bool.{true≢false}
 use Rattle.sock_words.specs.Words.{socket_id_version, socket_id_slot, vref_version, vref_nref, at_word_first, at_word_slot, at_word_link, at_word_attempt}
-use Rattle.sock_words.specs.declared.outcome.Outcome.{Outcome}
 use Rattle.corr_core.specs.Word.{Parts, parts, posted_word, unlocked_word, code_of, attempt_of, error_of}
 use Rattle.corr_core.specs.Law.{LAST}
 use Rattle.brpc_model.specs.Frame.{Frame}
-use Rattle.brpc_model.specs.Stream as streams
-use Rattle.brpc_model.specs.Causes.{HasFault}
 use Rattle.sock_message.specs.Asked.{Asked}
 use Rattle.sock_programs.specs.Asides.{Step, Found, LoadAt, PostId, EndId, FreeId, TakeCall, TakeBytes, Taking, Bytes, Nothing, NoMore, AtEnd, Closed, Broken, call_id, id_slot, id_first}
-use Rattle.sock_programs.specs.Heads.{Head, Exit, Retry, Sought, Version, Reading, Posts, Unlocks, Decides, Locks, Joins, Opens, Reads, Discards, Posting, WasGone, WasStale, WasCrowded, WasQueued, HasLocked, Unlocking, IsOpen, HasNext, Deciding, HasEnded, GoesOn, Locking, NotThere, Has, Ended}
-use Rattle.sock_programs.specs.Programs.{Program, Do, Say, Sent, Rest, TakeMessage, TakeHome, PutHome, PutBytes, AskReady, Write, Aside, Round, Keep, Retries, NO_SOCKET, LAST_VERSION, recycle, release, address, set_failed}
-use Rattle.sock_programs.specs.Posts.{WHOLE, packed, advance_of, is_final, is_first, is_sought, is_stale, is_full, judged, posts_round, post_with, popped, unlocks_round, ends_call, end_id, decide, decided, unlocked, locking, locks_round, joins_round}
-use Rattle.sock_programs.specs.Readers.{LIMIT, ending_of, slot_in, version_in, has_response, is_early, answer, answered, responses, last_of, ended_by, read_on, took, discarded, opens_round, kept_for, ends_with, posted_last, post_each, thrown_away, read, reader}
+use Rattle.sock_programs.specs.Heads.{Head, Exit, Retry, Sought, Posts, Unlocks, Decides, Locks, Joins, Opens, Reads, Discards, Posting, WasGone, WasStale, WasCrowded, WasQueued, HasLocked, Unlocking, IsOpen, HasNext, Deciding, HasEnded, GoesOn, Locking, NotThere, Has, Ended}
+use Rattle.sock_programs.specs.Programs.{Program, Do, Say, Sent, Rest, TakeMessage, TakeHome, PutHome, PutBytes, AskReady, Write, Aside, Round, Keep, Retries, LAST_VERSION, recycle, release, address, set_failed}
+use Rattle.sock_programs.specs.Posts.{WHOLE, packed, advance_of, is_final, is_first, is_sought, is_stale, is_full, judged, posts_round, post_with, popped, unlocks_round, ends_call, end_id, decided, unlocked, locking}
+use Rattle.sock_programs.specs.Readers.{LIMIT, ending_of, slot_in, answer, discarded, kept_for, ends_with, posted_last, post_each, thrown_away, read}
 use Rattle.sock_programs.specs.Rounds.{round}
 use Rattle.sock_programs.specs.Cores.{resolved, next_step}
 use Rattle.sock_runs.specs.Sound.{first_step}
-use Rattle.call_causes.specs.Scenes.{In}
-use Rattle.call_causes.proofs.Streams.{frames_behind_rest, frames_before_fault, faults_follow}
-use Rattle.call_causes.proofs.Handled.{Goes, AllFrom, Sit, word_of, frames_in, IsResp, Gone, Bounded, Done, Waits, Later, Over, Frozen, IsAt, Mid, mid_on, at_on, over_on, frozen_on, mid_next, mid_same, mid_over, early_done, gone_by, bounded_by, gone_behind, bounded_on}
 
 -- ## Behind the end of a reading
 
@@ -105,8 +99,11 @@ module _ (F : Type 0) (kept : List Frame) where
       (both (is_stale oldest (parts word)) (Round (Unlocks i word false) next) (next (HasNext word oldest)) (tt, a) (a (HasNext word oldest)))
 
   after_unlocks : (i from : ℕ) (advance : Bool) (next : Unlocking → Program) → ((x : Unlocking) → After (next x)) → After (unlocks_round i from advance next)
-  after_unlocks i from advance next a = (tt, λ found. both (found == from) (popped i (parts from).oldest (packed (unlocked_word (parts from) (advance_of advance))) next) (Round (Unlocks i found advance) next)
-      (after_popped i (parts from).oldest (packed (unlocked_word (parts from) (advance_of advance))) next a) (tt, a))
+  after_unlocks i from advance next a = (
+    tt,
+    λ found. both (found == from) (popped i (parts from).oldest (packed (unlocked_word (parts from) (advance_of advance))) next) (Round (Unlocks i found advance) next)
+        (after_popped i (parts from).oldest (packed (unlocked_word (parts from) (advance_of advance))) next a) (tt, a),
+  )
 
   ends_final : (w : Parts) (e : ℕ) → is_final (code_of e) ≡ true → ends_call w e ≡ true
   ends_final w e final = by (attempt_of e == WHOLE) (is_final (code_of e)) final
@@ -182,9 +179,12 @@ after_first F kept (Round (Locks i sought None) next) a = (tt, λ found. after_l
     after_locking : (F : Type 0) (kept : List Frame) (i : ℕ) (sought : Sought) (found : ℕ) (next : Locking → Program) → ((x : Locking) → After F kept (next x)) → After F kept (locking i sought found next)
     after_locking F kept i sought found next a = both F kept (not (is_sought sought (parts found))) (next (NotThere found)) (cond ((parts found).state == 1) (Round (Locks i sought (Some found)) next) (Round (Locks i sought None) next)) (a (NotThere found))
         (both F kept ((parts found).state == 1) (Round (Locks i sought (Some found)) next) (Round (Locks i sought None) next) (tt, a) (tt, a))
-after_first F kept (Round (Locks i sought (Some w)) next) a = (tt, λ found. both F kept (found == w) (next (Has (packed (posted_word (parts w) 0)))) (locking i sought found next) (a.1 (Has (packed (posted_word (parts w) 0))))
-    (both F kept (not (is_sought sought (parts found))) (next (NotThere found)) (cond ((parts found).state == 1) (Round (Locks i sought (Some found)) next) (Round (Locks i sought None) next)) (a.1 (NotThere found))
-    (both F kept ((parts found).state == 1) (Round (Locks i sought (Some found)) next) (Round (Locks i sought None) next) (tt, a.1) (tt, a.1))))
+after_first F kept (Round (Locks i sought (Some w)) next) a = (
+  tt,
+  λ found. both F kept (found == w) (next (Has (packed (posted_word (parts w) 0)))) (locking i sought found next) (a.1 (Has (packed (posted_word (parts w) 0))))
+      (both F kept (not (is_sought sought (parts found))) (next (NotThere found)) (cond ((parts found).state == 1) (Round (Locks i sought (Some found)) next) (Round (Locks i sought None) next)) (a.1 (NotThere found))
+      (both F kept ((parts found).state == 1) (Round (Locks i sought (Some found)) next) (Round (Locks i sought None) next) (tt, a.1) (tt, a.1))),
+)
 after_first F kept (Round (Joins id) next) a = (tt, λ found. both F kept (is_first (id_first id) (parts found)) (Round (Joins id) next) (next found) (tt, a.1) (a.1 found))
 after_first F kept (Round (Opens o) next) a = λ word. both F kept (word == 0) (Round (Opens o) next) (next word) (tt, a.1) (a.1 word)
 after_first F kept (Round (Reads r) next) a = absurd a.0

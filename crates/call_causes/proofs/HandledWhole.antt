@@ -1,11 +1,10 @@
 -- In a whole run each response of link k that an id might have to which the link's reader posted an error stands among the soon ones.
-use Rattle.std.proofs.Common.{◌≡◌, ℕ, zero, suc, ◌+◌, ◌<◌, ◌≤◌, ◌⊎◌, inl, inr, ⊎_elim, List, [], ◌∷◌, ◌++◌, length, replicate, slice_get, Some, append_assoc, get_or, refl, sym, ap, ◌∙◌, subst, arith}
+use Rattle.std.proofs.Common.{◌≡◌, ℕ, zero, suc, ◌+◌, ◌<◌, ◌≤◌, ◌⊎◌, inl, inr, ⊎_elim, List, [], ◌∷◌, ◌++◌, length, replicate, slice_get, Some, append_assoc, get_or, refl, sym, ◌∙◌, subst, arith}
 use Rattle.std.specs.List.{AllByRecursion}
 use Rattle.std.proofs.lemmas.List.{length-map, append-nil}
-use mathlib.Core.Option.{Option, none, some, some-injective, some-ne-none}
+use mathlib.Core.Option.{some, some-injective, some-ne-none}
 use lib.ListN.{get_elem?}
 use Rattle.atomic_table.proofs.Lists.{at_set}
-use Rattle.sock_model.specs.Layout.{open_word}
 use Rattle.brpc_model.specs.Items.{Item}
 use Rattle.brpc_model.specs.Operations.{Turn}
 use Rattle.brpc_model.specs.Frame.{Frame}
@@ -40,17 +39,16 @@ use Rattle.call_causes.specs.Scenes.{Scene, In, LeadsTo}
 use Rattle.call_causes.specs.Says.{Mark}
 use Rattle.call_causes.proofs.Numbered.{AreNumbered}
 use Rattle.call_causes.proofs.Claiming.{HaveSlots}
-use Rattle.call_causes.proofs.Opening.{Begins}
 use Rattle.call_causes.proofs.Scripts.{are_numbered, have_slots, begins}
 use Rattle.call_causes.proofs.End.{HasEnded, call_of}
 use Rattle.call_causes.proofs.Knowing.{are_low}
 use Rattle.call_causes.proofs.Whole.{run_has_story, run_has_ended}
 use Rattle.call_causes.proofs.Run as runs
-use Rattle.call_causes.proofs.Handled.{Sit, Later, frames_in, IsResp}
-use Rattle.call_causes.proofs.HandledSteps.{Onward, State, waiting, state_on, onward}
-use Rattle.call_causes.proofs.HandledTicks.{sit, HasReader}
+use Rattle.call_causes.proofs.Handled.{Sit, frames_in, IsResp}
+use Rattle.call_causes.proofs.HandledSteps.{State, waiting}
+use Rattle.call_causes.proofs.HandledTicks.{sit}
 use Rattle.call_causes.proofs.HandledPosts.{Claims, Silence}
-use Rattle.call_causes.proofs.HandledRuns.{AreKnown, setup_known, played_known, along, Reads', reads_along, claims_along, posts_claim, silence_along, decides_silent}
+use Rattle.call_causes.proofs.HandledRuns.{AreKnown, setup_known, played_known, Reads', reads_along, claims_along, posts_claim, silence_along, decides_silent}
 
 each_at : {A : Type 0} (P : A → Type 0) (xs : List A) → AllByRecursion P xs → (i : ℕ) (x : A) → get_elem? xs i ≡ some x → P x
 each_at P [] all i x at = absurd (some-ne-none x (sym at))

@@ -1,6 +1,6 @@
 -- What one seat does to ids in ticks: the errors that it posts, and those on which it decides.
 use Rattle.std.specs.Prelude.{ℕ, ◌==◌, if◌then◌else◌, List, [], ◌∷◌}
-use mathlib.Core.Option.{Option, none, some}
+use mathlib.Core.Option.{none, some}
 use lib.ListN.{get_elem?}
 use Rattle.sock_message.specs.Asked.{Asked}
 use Rattle.sock_programs.specs.Heads.{Decides}
