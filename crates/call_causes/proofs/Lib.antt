@@ -50,3 +50,4 @@ pub mod HandledTicks
 pub mod HandledPosts
 pub mod HandledRuns
 pub mod HandledWhole
+pub mod HandledBehind
