@@ -1,5 +1,5 @@
 -- In a whole run each response of link k that an id might have to which the link's reader posted an error stands among the soon ones.
-use Rattle.std.proofs.Common.{◌≡◌, ℕ, zero, suc, ◌+◌, ◌<◌, ◌≤◌, ◌⊎◌, inl, inr, ⊎_elim, List, [], ◌∷◌, ◌++◌, length, replicate, slice_get, Some, append_assoc, get_or, refl, sym, ◌∙◌, subst, arith}
+use Rattle.std.proofs.Common.{◌≡◌, ℕ, zero, suc, ◌+◌, ◌<◌, ◌≤◌, ◌⊎◌, inl, inr, ⊎_elim, true, List, [], ◌∷◌, ◌++◌, length, replicate, slice_get, Some, append_assoc, get_or, refl, sym, ◌∙◌, subst, arith}
 use Rattle.std.specs.List.{AllByRecursion}
 use Rattle.std.proofs.lemmas.List.{length-map, append-nil}
 use mathlib.Core.Option.{some, some-injective, some-ne-none}
@@ -33,8 +33,8 @@ use Rattle.joint_runs.proofs.Runs.{AreMade, first_views, joint_runs}
 use Rattle.report_fits.proofs.Reading.{InRange}
 use Rattle.report_fits.proofs.Targets.{AreThere}
 use Rattle.call_causes.specs.Lists.{given, soon_at, shows_in, shows_in_run, soon_of_run}
-use Rattle.call_causes.specs.Posts.{Post}
-use Rattle.call_causes.specs.Decided.{posted_by, Decision, decided_by}
+use Rattle.call_causes.specs.Posts.{Post, posted_at}
+use Rattle.call_causes.specs.Decided.{posted_by, Decision, decided_by, posted_behind, late_in}
 use Rattle.call_causes.specs.Scenes.{Scene, In, LeadsTo}
 use Rattle.call_causes.specs.Says.{Mark}
 use Rattle.call_causes.proofs.Numbered.{AreNumbered}
@@ -48,6 +48,7 @@ use Rattle.call_causes.proofs.Handled.{Sit, frames_in, IsResp}
 use Rattle.call_causes.proofs.HandledSteps.{State, waiting}
 use Rattle.call_causes.proofs.HandledTicks.{sit}
 use Rattle.call_causes.proofs.HandledPosts.{Claims, Silence}
+use Rattle.call_causes.proofs.HandledBehind.{IsBehind, behind_along, behind_claims, late_claims, late_behind}
 use Rattle.call_causes.proofs.HandledRuns.{AreKnown, setup_known, played_known, Reads', reads_along, claims_along, posts_claim, silence_along, decides_silent}
 
 each_at : {A : Type 0} (P : A → Type 0) (xs : List A) → AllByRecursion P xs → (i : ℕ) (x : A) → get_elem? xs i ≡ some x → P x
@@ -246,6 +247,45 @@ module _ (script : List Item) (made : AreMade script) (there : AreThere script) 
     silent_of_readers d decided n f frame resp slot low high = (in_the_end (decided_by (32 + k)) d (Silence k (id_plan_of script).slots (id_slot d.id) (id_first d.id) d.asked.range)
         (λ soon c ms known h. silence_along (plan_of script) (id_plan_of script) k (calls script) o many d ms soon c known h)
         (λ soon c ms known h a. decides_silent (plan_of script) (id_plan_of script) k (calls script) o many d ms soon c known h a) decided seat_there.0 seat_there.1).1 n f frame resp slot low high
+
+    -- ## Behind its reading
+
+    -- the error was posted, by whatever seat, behind a step of the reader that it makes only behind the end of its reading
+    abbrev pub PostedLate : Post → Type 0
+    PostedLate x = In x (posted_behind (32 + k) (plan_of script) (set_up script is.setup) (is.scheduled ++ is.later))
+        ⊎ (In x (posted_behind (32 + k) (plan_of script) is.ended is.final)
+        ⊎ ((late_in (32 + k) (plan_of script) (set_up script is.setup) (is.scheduled ++ is.later) ≡ true) × In x (shows_in posted_at (plan_of script) is.ended is.final)))
+
+    module _ (x : Post) where
+      abbrev Cl : Sit → Program → Type 0
+      Cl = Claims k (id_plan_of script).slots (id_slot x.id) (id_first x.id)
+
+      abbrev Behind : List (ℕ × ℕ) → Core → Type 0
+      Behind soon c = IsBehind (plan_of script) (id_plan_of script) k (calls script) o many soon c
+
+      on : (soon : List (ℕ × ℕ)) (c : Core) (ms : List Moment) → AreKnown (plan_of script) (id_plan_of script) c ms → Has Cl soon c → Has Cl (soon ++ shows_in (soon_at (plan_of script)) (plan_of script) c ms) (run (plan_of script) c ms)
+      on soon c ms known h = claims_along (plan_of script) (id_plan_of script) k (calls script) o many x ms soon c known h
+
+      in_final : Has Cl (((soon_setup ++ soon_clients) ++ soon_closing) ++ soon_final) (run (plan_of script) is.ended is.final) → Has Cl (soon_of_run script turns core is) core
+      in_final h = subst (λ y. Has Cl y core) (append_assoc (soon_setup ++ soon_clients) soon_closing soon_final ∙ append_assoc soon_setup soon_clients (soon_closing ++ soon_final))
+          (subst (Has Cl (((soon_setup ++ soon_clients) ++ soon_closing) ++ soon_final)) (sym is.is_end) h)
+
+      behind_ended : late_in (32 + k) (plan_of script) (set_up script is.setup) in_clients ≡ true → Behind ((soon_setup ++ soon_clients) ++ soon_closing) is.ended
+      behind_ended late = subst (Behind ((soon_setup ++ soon_clients) ++ soon_closing)) (sym is.is_ended)
+          (behind_along (plan_of script) (id_plan_of script) k (calls script) o many in_closing (soon_setup ++ soon_clients) closing known_closing
+          (λ seat at_seat. ⊎_elim (λ a. absurd (let z = a.0 in omega (arith, z))) (λ a. late_behind (plan_of script) (id_plan_of script) k (calls script) o many in_clients soon_setup (set_up script is.setup) known_clients reads_set_up late seat a.1)
+          (at_set (played script is.setup (is.scheduled ++ is.later)).seats 0 (32 + k) (let c = played script is.setup (is.scheduled ++ is.later) in record { program = next_step (resolved (waiting_at c.calls.waiting 0) (ending_of (opens script))); hand = [] }) seat at_seat)))
+
+      late_claimed : PostedLate x → Has Cl (soon_of_run script turns core is) core
+      late_claimed there = ⊎_elim
+          (λ a. subst (λ y. Has Cl y core) (append_assoc soon_setup soon_clients (soon_closing ++ soon_final)) (from_played Cl on (soon_setup ++ soon_clients) (late_claims (plan_of script) (id_plan_of script) k (calls script) o many x in_clients soon_setup (set_up script is.setup) known_clients reads_set_up a)))
+          (λ l. ⊎_elim
+          (λ a. in_final (late_claims (plan_of script) (id_plan_of script) k (calls script) o many x is.final ((soon_setup ++ soon_clients) ++ soon_closing) is.ended known_final reads_ended a))
+          (λ a. in_final (behind_claims (plan_of script) (id_plan_of script) k (calls script) o many x is.final ((soon_setup ++ soon_clients) ++ soon_closing) is.ended known_final (behind_ended a.0) a.1)) l) there
+
+    -- so each response of link k that is of the id's slot and behind its first version is soon
+    pub soon_behind : (x : Post) → PostedLate x → (n : ℕ) (f : Frame) → slice_get (frames_in (given core k)) n ≡ Some f → IsResp k (id_plan_of script).slots f → slot_in f ≡ id_slot x.id → id_first x.id < version_in f → In (k, n) (soon_of_run script turns core is)
+    soon_behind x posted n f frame resp slot behind = (late_claimed x posted seat_there.0 seat_there.1).1 n f frame resp slot behind
 
   -- ## The ids of calls that failed
 
