@@ -1,5 +1,5 @@
 -- Behind the end of a reading each error that an id takes, from whatever seat, leaves no response of its link but soon ones.
-use Rattle.std.proofs.Common.{◌≡◌, ℕ, ◌+◌, ◌<◌, ◌≤◌, ◌==◌, ◌⊎◌, inl, inr, ⊎_elim, ◌&&◌, ◌||◌, Bool, true, false, cond, eqb-true, append_assoc, List, [], ◌∷◌, ◌++◌, length, refl, sym, ap, ◌∙◌, subst}
+use Rattle.std.proofs.Common.{◌≡◌, ℕ, ◌+◌, ◌==◌, ◌⊎◌, inl, inr, ⊎_elim, ◌&&◌, ◌||◌, Bool, true, false, cond, eqb-true, append_assoc, List, [], ◌∷◌, ◌++◌, length, refl, sym, ap, ◌∙◌, subst}
 use Rattle.std.proofs.lemmas.Bool.{true≢false}
 use mathlib.Core.Option.{Option, none, some, some-injective}
 use lib.ListN.{get_elem?}
@@ -7,7 +7,6 @@ use Rattle.sock_words.specs.declared.plain.Plan.{Plan}
 use Rattle.corr_core.specs.declared.marks.Plan.{Plan as IdPlan}
 use Rattle.sock_programs.specs.Asides.{PostId}
 use Rattle.sock_programs.specs.Calls.{LoadOpen}
-use Rattle.sock_programs.specs.Heads.{Retry}
 use Rattle.sock_programs.specs.Programs.{Program, Do, Aside}
 use Rattle.sock_programs.specs.Cores.{Core, SeatState}
 use Rattle.sock_programs.specs.Ticks.{Moment, ticked, run}
@@ -17,9 +16,9 @@ use Rattle.call_causes.specs.Posts.{Post, posted_at}
 use Rattle.call_causes.specs.Decided.{is_late_step, late_at, late_in, posted_behind}
 use Rattle.call_causes.specs.Scenes.{In}
 use Rattle.call_causes.proofs.Handled.{Sit, Later}
-use Rattle.call_causes.proofs.HandledSteps.{Onward, State, state_on, onward}
+use Rattle.call_causes.proofs.HandledSteps.{State, state_on, onward}
 use Rattle.call_causes.proofs.HandledTicks.{sit, Known, HasReader, reader_ticks}
-use Rattle.call_causes.proofs.HandledPosts.{IsOver, IsLate, late_over, With, with_on, with_onward, HasClaims, claims_at}
+use Rattle.call_causes.proofs.HandledPosts.{IsLate, late_over, With, with_on, with_onward, HasClaims, claims_at}
 use Rattle.call_causes.proofs.HandledRuns.{AreKnown, along, Reads', claims_along}
 
 -- a step that is late
@@ -44,8 +43,11 @@ module _ (p : Plan) (q : IdPlan) (k : ℕ) (calls : List ℕ) (o : ℕ) (many : 
   late_here c m soon h late seat at = by_seat (get_elem? c.seats m.seat) refl late
     where
       by_test : (s : SeatState) → get_elem? c.seats m.seat ≡ some s → (b d : Bool) → (m.seat == 32 + k) ≡ b → is_late_step (first_step s.program) ≡ d → (b && d) ≡ true → With k q.slots None' none_on (sit k c soon) seat.program
-      by_test s e true true own is z = (late_over k q.slots calls o many (sit k c soon) seat.program (h seat at) (late_step k q.slots calls o many (first_step seat.program)
-          (ap (λ (y : SeatState). is_late_step (first_step y.program)) (some-injective seat s (sym at ∙ (ap (get_elem? c.seats) (sym (eqb-true m.seat (32 + k) own)) ∙ e))) ∙ is)), tt)
+      by_test s e true true own is z = (
+        late_over k q.slots calls o many (sit k c soon) seat.program (h seat at) (late_step k q.slots calls o many (first_step seat.program)
+            (ap (λ (y : SeatState). is_late_step (first_step y.program)) (some-injective seat s (sym at ∙ (ap (get_elem? c.seats) (sym (eqb-true m.seat (32 + k) own)) ∙ e))) ∙ is)),
+        tt,
+      )
       by_test s e true false own is z = absurd (true≢false (sym z))
       by_test s e false d own is z = absurd (true≢false (sym z))
 

@@ -28,11 +28,10 @@ use Rattle.report_fits.proofs.Targets.{AreThere}
 use Rattle.owed_calls.specs.Lives.{ClosesInRun}
 use Rattle.whole_runs.proofs.Gave.{gave_heard}
 use Rattle.call_causes.specs.Lists.{given, shows_in_run, soon_of_run}
-use Rattle.call_causes.specs.Posts.{Post}
-use Rattle.call_causes.specs.Decided.{posted_by, Decision, decided_by}
+use Rattle.call_causes.specs.Decided.{posted_by, decided_by}
 use Rattle.call_causes.specs.Scenes.{In}
 use Rattle.call_causes.proofs.Whys.{in_contains}
-use Rattle.call_causes.proofs.HandledWhole.{soon_of_readers, silent_of_readers, failed_inside}
+use Rattle.call_causes.proofs.HandledWhole.{PostedLate, soon_behind, soon_of_readers, silent_of_readers, failed_inside}
 use Rattle.send_causes.proofs.Beside.{gave_of_run, fixed_of_run, orders_here}
 
 some_response : (r : Option ResponseMeta) → IsSome r → has_response r ≡ true
@@ -70,6 +69,11 @@ module _ (script : List Item) (made : AreMade script) (there : AreThere script) 
   pub soon_where_posted : (e : ℕ) → In (record { id = id; error = e }) (shows_in_run script turns core is (posted_by (32 + k))) → (m : ℕ) (frame : Frame) → Gives m frame → Responds frame → Contains (soon_of_run script turns core is) (k, m)
   soon_where_posted e posted m frame g r = in_contains (soon_of_run script turns core is) (k, m)
       (soon_of_readers script made there range turns core is k o at (record { id = id; error = e }) posted m frame (there_too m frame g) (responds frame r) (slot_is frame r) (behind frame r))
+
+  -- or an error was posted to it, by whatever seat, behind the end of the link's reading
+  pub soon_where_late : (e : ℕ) → PostedLate script made there range turns core is k o at (record { id = id; error = e }) → (m : ℕ) (frame : Frame) → Gives m frame → Responds frame → Contains (soon_of_run script turns core is) (k, m)
+  soon_where_late e posted m frame g r = in_contains (soon_of_run script turns core is) (k, m)
+      (soon_behind script made there range turns core is k o at (record { id = id; error = e }) posted m frame (there_too m frame g) (responds frame r) (slot_is frame r) (behind frame r))
 
   -- where it decided on the error, as whoever ends a call by it
   pub unanswered_where_decided : (e n : ℕ) → In (record { id = id; asked = asked; error = e }) (shows_in_run script turns core is (decided_by (32 + k))) → (m : ℕ) (frame : Frame) → Gives m frame → Responds frame
