@@ -87,3 +87,4 @@ pub mod AttemptedRun
 pub mod AttemptedFacts
 pub mod AttemptedOwn
 pub mod AttemptedStored
+pub mod Unanswered
