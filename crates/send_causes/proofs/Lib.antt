@@ -27,6 +27,7 @@ pub mod RefusedPrograms
 pub mod RefusedTicks
 pub mod RefusedPosts
 pub mod RefusedRuns
+pub mod RefusedClosing
 pub mod RefusedWhole
 pub mod RefusedGone
 pub mod RefusedMeans
