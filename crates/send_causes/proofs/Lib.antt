@@ -32,3 +32,4 @@ pub mod RefusedWhole
 pub mod RefusedGone
 pub mod RefusedMeans
 pub mod RefusedWhys
+pub mod RefusedNames
