@@ -33,3 +33,4 @@ pub mod RefusedGone
 pub mod RefusedMeans
 pub mod RefusedWhys
 pub mod RefusedNames
+pub mod RefusedLost

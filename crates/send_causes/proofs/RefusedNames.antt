@@ -56,7 +56,7 @@ abbrev pub IsNamed : List Event → Deed → Type 0
 IsNamed es (DidStep (LoadName n) found) = found ≢ 0 → (client o before : ℕ) × In (event client o (StoreName n found) before) es
 IsNamed es other = Unit {0}
 
-named_more : (es fs : List Event) → ((e : Event) → In e es → In e fs) → (d : Deed) → IsNamed es d → IsNamed fs d
+pub named_more : (es fs : List Event) → ((e : Event) → In e es → In e fs) → (d : Deed) → IsNamed es d → IsNamed fs d
 named_more es fs part (DidStep (LoadName n) found) x = λ some_. let y = x some_ in (y.0, y.1, y.2, part _ y.3)
 named_more es fs part (DidStep _ found) x = tt
 named_more es fs part (DidPut asked) x = tt

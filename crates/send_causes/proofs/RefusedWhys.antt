@@ -29,7 +29,7 @@ use Rattle.send_causes.proofs.Whole.{quiet_there}
 use Rattle.send_causes.proofs.RefusedMeans.{IsFailed, Says, IsSo, run_keeps, run_so}
 use Rattle.send_causes.proofs.RefusedWhole.{end_views}
 
-all_in : (P : Deed → Type 0) (ds : List Deed) (d : Deed) → AllByRecursion P ds → In d ds → P d
+pub all_in : (P : Deed → Type 0) (ds : List Deed) (d : Deed) → AllByRecursion P ds → In d ds → P d
 all_in P [] d all m = absurd m
 all_in P (x ∷ ds) d all (inl e) = subst P (sym e) all.0
 all_in P (x ∷ ds) d all (inr m) = all_in P ds d all.1 m
