@@ -34,3 +34,4 @@ pub mod RefusedMeans
 pub mod RefusedWhys
 pub mod RefusedNames
 pub mod RefusedLost
+pub mod RefusedRun
