@@ -1,37 +1,35 @@
 -- An attempt that found no live socket under its name: the link of the socket was failing, or the run was ending.
-use Rattle.std.proofs.Common.{◌≡◌, ◌≢◌, ℕ, zero, suc, ◌+◌, ◌-◌, ◌*◌, ◌%◌, ◌<◌, ◌≤◌, ◌⊎◌, inl, inr, ⊎_elim, Bool, true, false, cond, List, [], ◌∷◌, ◌++◌, length, replicate, Ok, Some, None, refl, sym, ap, ◌∙◌, subst, arith}
-use Rattle.std.specs.Prelude.{Contains}
+use Rattle.std.proofs.Common.{◌≡◌, ℕ, ◌+◌, ◌<◌, ◌⊎◌, inl, inr, Bool, true, false, cond, List, [], ◌∷◌, ◌++◌, length, replicate, Ok, Some, None, refl, sym, ap, ◌∙◌, subst, arith}
 use Rattle.std.specs.List.{AllByRecursion}
 use mathlib.Core.Option.{none, some}
 use lib.ListN.{get_elem?}
-use Rattle.sock_words.specs.Words.{socket_id_slot, socket_id_version, vref_version}
+use Rattle.sock_words.specs.Words.{socket_id_slot, socket_id_version}
 use Rattle.sock_words.specs.declared.plain.Plan.{Plan}
 use Rattle.sock_model.specs.declared.view.View.{View}
-use Rattle.sock_model.specs.Links.{Failed}
 use Rattle.brpc_model.specs.Items.{Item}
 use Rattle.brpc_model.specs.Operations.{Turn, clients}
 use Rattle.brpc_model.specs.Script.{script_of}
 use Rattle.corr_core.specs.Word.{parts}
-use Rattle.sock_message.specs.Asked.{Asked, name_of}
+use Rattle.sock_message.specs.Asked.{Asked}
 use Rattle.sock_programs.specs.Asides.{Step, PutCall}
-use Rattle.sock_programs.specs.Calls.{Call, AddRef, LookWord, LoadName}
+use Rattle.sock_programs.specs.Calls.{AddRef, LookWord, LoadName}
 use Rattle.sock_programs.specs.Heads.{Head, Exit, Posts, Unlocks, Decides, Locks, Joins, Opens, Reads, Discards}
 use Rattle.sock_programs.specs.Posts.{ends_call}
 use Rattle.sock_programs.specs.Programs.{Program, Do, Say, Sent, Rest, TakeMessage, TakeHome, PutHome, PutBytes, AskReady, Write, Aside, Round, Keep, Retries}
-use Rattle.sock_programs.specs.Writings.{Writing, Puts, Waits, Empties, Walks}
-use Rattle.sock_programs.specs.Cores.{Core, SeatState}
+use Rattle.sock_programs.specs.Writings.{Puts, Waits, Empties, Walks}
+use Rattle.sock_programs.specs.Cores.{Core}
 use Rattle.sock_programs.specs.Tasks.{opens, calls, plan_of, id_plan_of}
 use Rattle.sock_programs.specs.Ticks.{Moment, quiet, ticked, run}
-use Rattle.sock_programs.specs.Scripts.{all_tasks, opened, set_up, played, is_ending, IsRunWithCalls}
+use Rattle.sock_programs.specs.Scripts.{all_tasks, opened, set_up, played, IsRunWithCalls}
 use Rattle.sock_programs.specs.Told.{AreTasks}
-use Rattle.sock_programs.specs.ToldCalls.{IsFailing, WhyLost, WasFailing, RunEnding}
-use Rattle.sock_runs.specs.Sound.{Sound, AllRest, first_step, state, views_along}
+use Rattle.sock_programs.specs.ToldCalls.{WhyLost, WasFailing, RunEnding}
+use Rattle.sock_runs.specs.Sound.{Sound, first_step, state, views_along}
 use Rattle.sock_runs.proofs.Along.{seat_rests}
 use Rattle.sock_runs.proofs.Whole.{closing_of, views_played, views_closed, views_ended, set_up_answered, end_answered, rested_ahead, rested_idle, set_up_sound, played_sound, closing_sound, closed_sound, ended_sound, end_rests}
 use Rattle.sock_causes.specs.Facts.{put_by, put_at, shown_in, late_of_run}
 use Rattle.sock_causes.specs.Kept.{Story}
 use Rattle.sock_causes.specs.PlainTasks.{told_tasks_of}
-use Rattle.sock_causes.specs.Stories.{Event, In}
+use Rattle.sock_causes.specs.Stories.{In}
 use Rattle.sock_causes.proofs.Begin.{start_story}
 use Rattle.sock_causes.proofs.Final.{at_there}
 use Rattle.sock_causes.proofs.Lifted.{made_up}
@@ -44,7 +42,7 @@ use Rattle.client_laws.specs.Openings.{all_seats}
 use Rattle.client_laws.proofs.Fresh.{opening_fresh}
 use Rattle.joint_runs.proofs.Runs.{AreMade, first_views}
 use Rattle.owed_calls.specs.Lives.{ClosesInRun}
-use Rattle.send_causes.specs.Refused.{Deed, DidStep, DidPut, DidRound, DidAt, DidIn, DidEarly, DidLate, FoundLost, WasOther, WasOdd, WasNone}
+use Rattle.send_causes.specs.Refused.{Deed, DidStep, DidPut, DidIn, DidEarly, DidLate, FoundLost, WasOther, WasOdd, WasNone}
 use Rattle.send_causes.proofs.Beside.{fixed_of_run, gave_of_run, orders_here, failing_of_run}
 use Rattle.send_causes.proofs.Early.{start, go, fitting}
 use Rattle.send_causes.proofs.Sends.{owed}
@@ -200,9 +198,9 @@ module _ (script : List Item) (made : AreMade script) (turns : List Turn) (core 
     failed_early : (c o n name s : ℕ) → IsNamed played_told.after.events (DidStep (LoadName name) (s + 1)) → (0 < Rattle.sock_model.specs.Slots.count (Rattle.sock_model.specs.Weights.is_failer (socket_id_version s)) (Rattle.sock_model.specs.References.slot_facts (state rested rested_views) (socket_id_slot s))) → Lost c o n name
     failed_early c o n name s named failed = let x = named (λ z. omega (arith, z)) in
         let life = named_life (plan_of script) (told_tasks_of script) told_are core end_views final_told.after.events final_told.after.lost
-            (ended_sound script made.are (first_views script) (start script made turns core is) (go script made turns core is) turns core is (fitting script made turns core is)) end_story
-            (end_rests script made.are (first_views script) (start script made turns core is) (go script made turns core is) turns core is (fitting script made turns core is) (owed script made turns core is closes))
-            rested rested_views played_told.after.events played_told.after.lost played_told.after.story (λ e m. final_told.kept e (closed_told.kept e m)) name s x in
+        (ended_sound script made.are (first_views script) (start script made turns core is) (go script made turns core is) turns core is (fitting script made turns core is)) end_story
+        (end_rests script made.are (first_views script) (start script made turns core is) (go script made turns core is) turns core is (fitting script made turns core is) (owed script made turns core is closes))
+        rested rested_views played_told.after.events played_told.after.lost played_told.after.story (λ e m. final_told.kept e (closed_told.kept e m)) name s x in
         WasFailing life.0 (socket_id_slot s) (socket_id_version s) (made_up (all_tasks script) (length (opens script)) core.outcomes name life.0 (socket_id_slot s) (socket_id_version s) life.1)
         (failing_of_run script made turns core is closes bytes reads life.0 (record { slot = socket_id_slot s; version = socket_id_version s; life = record { inside = life.2; given = life.3 }; failed = failed }))
 

@@ -1,5 +1,5 @@
 -- What the steps of a seat say of sockets and requests stays so: a life that was found failed was failed, and a request that was found taken was used.
-use Rattle.std.proofs.Common.{Bool, true, false, ◌≡◌, ◌≢◌, ℕ, ◌+◌, ◌*◌, ◌%◌, ◌<◌, ◌≤◌, ◌⊎◌, inl, inr, ⊎_elim, List, [], ◌∷◌, ◌++◌, set, refl, sym, ap, ◌∙◌, subst, arith}
+use Rattle.std.proofs.Common.{true, false, ◌≡◌, ◌≢◌, ℕ, ◌+◌, ◌%◌, ◌<◌, ◌≤◌, inl, inr, List, [], ◌∷◌, ◌++◌, set, refl, sym, ap, subst, arith}
 use Rattle.std.specs.Prelude.{slice_index}
 use mathlib.Core.Option.{Option, some, none}
 use lib.ListN.{get_elem?}
@@ -17,7 +17,6 @@ use Rattle.sock_model.specs.SlotRows.{marks_of}
 use Rattle.sock_model.specs.ChainRows.{taken_right}
 use Rattle.slot_laws.proofs.Numbers.{live_le, life_is, life-in}
 use Rattle.sock_steps.proofs.Places.{own_count, counts}
-use Rattle.sock_message.specs.Asked.{Asked}
 use Rattle.sock_programs.specs.Beside.{calls_after}
 use Rattle.sock_programs.specs.Calls.{Call, AddRef, LookWord, ClaimRequest}
 use Rattle.sock_programs.specs.Programs.{Program, Do}
@@ -26,7 +25,7 @@ use Rattle.sock_programs.specs.Ticks.{Moment, AreAnswered, IsAnswered, ticked, r
 use Rattle.sock_runs.specs.GoesOn.{GoesOn}
 use Rattle.sock_runs.specs.May.{May}
 use Rattle.sock_runs.specs.Rows.{row, hand_at, took_message, link_away, link_home_again, took_bytes}
-use Rattle.sock_runs.specs.Sound.{Sound, AreFitting, first_step, state, views_after, views_along}
+use Rattle.sock_runs.specs.Sound.{Sound, AreFitting, state, views_after, views_along}
 use Rattle.sock_runs.proofs.Cases.{goes_first, with_rights, right_rights, put_rights}
 use Rattle.sock_runs.proofs.LinkTicks.{RetriesGo}
 use Rattle.sock_runs.proofs.Passes.{goes_round}

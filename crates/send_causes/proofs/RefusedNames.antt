@@ -1,32 +1,23 @@
 -- A socket that was found under a name is that of a life that was made under it.
-use Rattle.std.proofs.Common.{◌≡◌, ◌≢◌, ℕ, zero, suc, ◌+◌, ◌*◌, ◌%◌, ◌<◌, ◌≤◌, ◌⊎◌, inl, inr, ⊎_elim, Bool, true, false, List, [], ◌∷◌, ◌++◌, length, replicate, refl, sym, ap, ◌∙◌, subst, arith}
+use Rattle.std.proofs.Common.{◌≡◌, ◌≢◌, ℕ, zero, suc, ◌+◌, ◌*◌, ◌%◌, ◌<◌, inl, inr, ⊎_elim, Bool, true, false, List, [], ◌∷◌, replicate, refl, sym, ap, ◌∙◌, subst, arith}
 use Rattle.std.specs.Prelude.{Option, Some, slice_index}
-use mathlib.Core.Option.{some}
-use lib.ListN.{get_elem?}
 use Rattle.sock_words.specs.declared.plain.Plan.{Plan}
 use Rattle.sock_words.specs.declared.outcome.Outcome.{Outcome}
 use Rattle.sock_words.specs.Words.{socket_id, socket_id_slot, socket_id_version, vref_version}
 use Rattle.sock_model.specs.declared.view.View.{View}
-use Rattle.sock_model.specs.Layout.{name_word, request_word}
-use Rattle.sock_model.specs.Links.{Failed}
+use Rattle.sock_model.specs.Layout.{request_word}
 use Rattle.sock_model.specs.Slots.{SlotLaw, live}
 use Rattle.sock_model.specs.References.{slot_facts}
 use Rattle.slot_laws.proofs.Clauses.{taken_for}
 use Rattle.slot_laws.proofs.Numbers.{life_le}
-use Rattle.brpc_model.specs.Items.{Item}
-use Rattle.brpc_model.specs.Operations.{Turn, clients}
-use Rattle.sock_programs.specs.Calls.{Call, GiveBirth, StoreName, ClaimRequest, LoadName}
-use Rattle.sock_programs.specs.Cores.{Core, SeatState, word_of, found_at}
-use Rattle.sock_programs.specs.declared.task.Op.TheVariants as ops
+use Rattle.sock_programs.specs.Calls.{GiveBirth, StoreName, ClaimRequest, LoadName}
+use Rattle.sock_programs.specs.Cores.{Core}
 use Rattle.sock_programs.specs.declared.task.Task.{Task}
-use Rattle.sock_programs.specs.Programs.{Program, Do}
-use Rattle.sock_programs.specs.Ticks.{Moment, AreAnswered, IsAnswered, quiet, ticked, run}
-use Rattle.sock_programs.specs.Tasks.{opens, calls, plan_of, id_plan_of}
-use Rattle.sock_programs.specs.Scripts.{all_tasks, opened, set_up, played, is_ending, IsRunWithCalls}
+use Rattle.sock_programs.specs.Programs.{Do}
+use Rattle.sock_programs.specs.Ticks.{Moment, AreAnswered, quiet, ticked, run}
 use Rattle.sock_programs.specs.Told.{AreTasks, Made}
 use Rattle.sock_runs.specs.GoesOn.{GoesOn, HasNothing}
-use Rattle.sock_runs.specs.Sound.{Sound, AllRest, AreFitting, first_step, state, views_after, views_along}
-use Rattle.sock_runs.proofs.Along.{seat_rests}
+use Rattle.sock_runs.specs.Sound.{Sound, AllRest, AreFitting, state, views_after, views_along}
 use Rattle.sock_runs.proofs.Cases.{goes_first}
 use Rattle.sock_runs.proofs.LinkTicks.{RetriesGo}
 use Rattle.sock_runs.proofs.Passes.{goes_round}
@@ -35,17 +26,12 @@ use Rattle.sock_runs.proofs.Ticks.{sound_ticks}
 use Rattle.sock_causes.specs.Causes.{Asks}
 use Rattle.sock_causes.specs.Explains.{step}
 use Rattle.sock_causes.specs.Kept.{StaysUsed, Story}
-use Rattle.sock_causes.specs.PlainTasks.{told_tasks_of}
 use Rattle.sock_causes.specs.Stories.{Event, In, trace_of}
-use Rattle.sock_causes.proofs.Begin.{start_story}
 use Rattle.sock_causes.proofs.Delivered.{orders_of, AreQuiet, requests_used}
 use Rattle.sock_causes.proofs.Events.{event, cause_of, given_by, last_some}
-use Rattle.sock_causes.proofs.Final.{Final, at_there, at_within, idle, final}
+use Rattle.sock_causes.proofs.Final.{at_there, at_within, idle, final}
 use Rattle.sock_causes.proofs.Lives.{World, task_of, tells_of}
 use Rattle.sock_causes.proofs.Members.{from_trace, to_trace}
-use Rattle.sock_causes.proofs.Openings.{are_seats, all_explained}
-use Rattle.sock_causes.proofs.Runs.{IsStoried, set_up_over, ending_story, is_ending_story}
-use Rattle.sock_causes.proofs.Scripts.{own_from}
 use Rattle.sock_causes.proofs.Ticks.{elem_there, tick_story}
 use Rattle.send_causes.specs.Refused.{Deed, DidStep, DidPut, DidRound, DidAt, DidIn}
 
@@ -97,7 +83,7 @@ module _ (p : Plan) (cs : List (List Task)) (are : AreTasks p cs) where
   setup_named go zero c vs sound answered fitting t alone = record { after = t; kept = λ e m. m; named = λ j d x. absurd x }
   setup_named go (suc n) c vs sound answered fitting t alone = let g = tick_story p cs are false c vs t.events t.lost sound t.story (quiet 0) answered.0 (inr (refl, alone)) in
       let r = setup_named go n (ticked p c (quiet 0)) (views_after p c vs (quiet 0)) (sound_ticks p go c vs (quiet 0) sound answered.0 fitting.0) answered.1 fitting.1 (record { events = g.events; lost = g.lost; story = g.told })
-          (λ e m. ⊎_elim (λ o. alone e o) (λ o. o.0) (g.fresh e m)) in record {
+      (λ e m. ⊎_elim (λ o. alone e o) (λ o. o.0) (g.fresh e m)) in record {
         after = record { events = r.after.events; lost = r.after.lost; story = r.after.story };
         kept = λ e m. r.kept e (g.kept e m);
         named = λ j d. ⊎_elim (λ now. named_more t.events r.after.events (λ e m. r.kept e (g.kept e m)) d (named_now false c vs t.events t.lost sound t.story (quiet 0) j d now)) (λ later. r.named j d later);
@@ -145,8 +131,7 @@ module _ (p : Plan) (clients : List (List Task)) (are : AreTasks p clients) (c :
         let t : Task = b.cause.task in let asks : Asks clients client t = b.cause.is in
         let tells = tells_of p clients c.outcomes lost (orders_of p c vs sound.lawful) es world client t asks (step (GiveBirth i k) word) (subst (λ z. In (step (GiveBirth i k) word) (trace_of client z es)) (sym b.cause.numbered) (to_trace es (event client o (GiveBirth i k) word) (part (event client o (GiveBirth i k) word) birth))) in
         let made : Made clients c.outcomes n k i (vref_version word) = record { client = client; task = t; is = task_of p clients c.outcomes lost (orders_of p c vs sound.lawful) es world client t asks; op = f.3; became = (world.final client t asks).became ∙ ap (λ (x : Option Outcome). Some x) tells } in
-        let parts = parts_of s (vref_version word) i means.0 f.5 in let given = given_by fs client o word i (socket_id_version s) k birth parts.1 in let tie = told.links i means.0 (socket_id_version s) k in
-        (
+        let parts = parts_of s (vref_version word) i means.0 f.5 in let given = given_by fs client o word i (socket_id_version s) k birth parts.1 in let tie = told.links i means.0 (socket_id_version s) k in (
           k,
           subst (λ z. Made clients c.outcomes n k (socket_id_slot s) z) parts.1 (subst (λ z. Made clients c.outcomes n k z (vref_version word)) parts.0 made),
           subst (λ z. z < p.slots) parts.0 means.0,

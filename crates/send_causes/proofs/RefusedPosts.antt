@@ -1,18 +1,17 @@
 -- Of each post of a tick: who made it, and why.
-use Rattle.std.proofs.Common.{◌≡◌, ◌≢◌, ℕ, zero, suc, ◌+◌, ◌<◌, ◌≤◌, ◌⊎◌, inl, inr, ⊎_elim, Bool, true, false, cond, eqb, nat_le, leb-true, leb-false, List, [], ◌∷◌, map, refl, sym, ap, ◌∙◌, subst, arith}
+use Rattle.std.proofs.Common.{◌≡◌, ℕ, ◌<◌, ◌≤◌, inl, inr, Bool, true, false, cond, eqb, nat_le, leb-true, leb-false, List, [], ◌∷◌, refl, sym, subst, arith}
 use Rattle.std.specs.List.{AllByRecursion}
-use mathlib.Core.Option.{Option, some, none, some-injective, some-ne-none}
+use mathlib.Core.Option.{Option, some, none}
 use lib.ListN.{get_elem?}
 use Rattle.sock_words.specs.declared.plain.Plan.{Plan}
-use Rattle.sock_model.specs.declared.chain.Heading.{Heading}
 use Rattle.sock_model.specs.declared.view.View.{View}
-use Rattle.corr_core.specs.Word.{parts, error_of}
+use Rattle.corr_core.specs.Word.{parts}
 use Rattle.corr_core.specs.declared.marks.Plan.{Plan as IdPlan}
 use Rattle.id_runs.specs.Held.{IdView}
 use Rattle.id_runs.specs.Goes.{SoundIds}
 use Rattle.id_runs.specs.Goes as goes
 use Rattle.sock_message.specs.Asked.{Asked}
-use Rattle.sock_programs.specs.Asides.{Step, Found, PostId, Taking, call_id}
+use Rattle.sock_programs.specs.Asides.{Step, Found, PostId, call_id}
 use Rattle.sock_programs.specs.Beside.{found_in}
 use Rattle.sock_programs.specs.Programs.{Program, Do, Say, Sent, Rest, TakeMessage, TakeHome, PutHome, PutBytes, AskReady, Write, Aside, Round, Keep, Retries}
 use Rattle.sock_programs.specs.Cores.{Core, SeatState}

@@ -1,6 +1,5 @@
 -- The programs of clients, readers and the ending post what they are charged with.
-use Rattle.std.proofs.Common.{◌≡◌, ◌≢◌, ℕ, zero, suc, ◌+◌, ◌-◌, ◌*◌, ◌/◌, ◌%◌, ◌<◌, ◌≤◌, ◌⊎◌, ◌==◌, ◌&&◌, inl, inr, ⊎_elim, Bool, true, false, cond, eqb, eqb-true, eq-eqb, ne_eqb, leb, nat_lt, nat_le, List, [], ◌∷◌, ◌++◌, Option, Some, None, length, drop, refl, sym, ap, ◌∙◌, subst, arith}
-use Rattle.std.proofs.lemmas.Bool.{true≢false}
+use Rattle.std.proofs.Common.{◌≡◌, ◌≢◌, ℕ, zero, suc, ◌+◌, ◌-◌, ◌*◌, ◌/◌, ◌%◌, ◌<◌, ◌≤◌, ◌⊎◌, ◌==◌, ◌&&◌, inl, inr, Bool, true, false, cond, eqb, eqb-true, eq-eqb, ne_eqb, leb, nat_lt, nat_le, List, [], ◌∷◌, ◌++◌, Option, Some, None, length, drop, refl, sym, ap, ◌∙◌, subst, arith}
 use Rattle.std.specs.List.{AllByRecursion}
 use mathlib.Core.Logic.{dite}
 use native.Mathlib.Decide.{ℕ_discrete}
@@ -27,7 +26,7 @@ use Rattle.sock_programs.specs.Clients.{HeldLife, held_under, without_name, give
 use Rattle.sock_programs.specs.Heads.{First, Unlocks, Locks, Joins, Reads, Discards, Posting, WasGone, WasStale, WasCrowded, WasQueued, HasLocked, Unlocking, IsOpen, HasNext, Locking, NotThere, Has, Ended}
 use Rattle.sock_programs.specs.Parts.{part}
 use Rattle.sock_programs.specs.Posts.{post_with, posted, post, decided}
-use Rattle.sock_programs.specs.Programs.{Program, Do, Say, Sent, Rest, TakeMessage, TakeHome, PutBytes, Write, Aside, Round, Retries, NO_SOCKET, LAST_VERSION, LAST_GENERATION, recycle, release, address, reach, set_failed, make_socket, open_from, fail_outcome, fail}
+use Rattle.sock_programs.specs.Programs.{Program, Do, Say, Sent, Rest, TakeMessage, TakeHome, PutBytes, Write, Aside, Round, NO_SOCKET, LAST_VERSION, LAST_GENERATION, recycle, release, address, reach, set_failed, make_socket, open_from, fail_outcome, fail}
 use Rattle.sock_programs.specs.Readers.{kept_for, ends_with, posted_last, post_each, thrown_away, read, reader, LIMIT}
 use Rattle.sock_programs.specs.Sends.{freed as given_back, one_more, passed_telling, tell_drop, placed, dropped, put_answered, ready_answered, block, first_put, accept, write_link, heading_of, claim_from, start, send}
 use Rattle.sock_programs.specs.Writings.{Holder, Writing, Puts, Waits, Empties, Walks}
@@ -35,7 +34,7 @@ use Rattle.sock_causes.specs.Stories.{In}
 use Rattle.label_runs.proofs.Loops.{not_equal}
 use Rattle.label_runs.proofs.Programs.{OpCalls}
 use Rattle.label_runs.specs.Labels.{Trial, Idle, Tries, Sends, IsOfTrial, MayPut, Kept, LeavesLabel, LeavesLock, LeavesUnlock, locked_trial}
-use Rattle.send_causes.specs.Refused.{Deed, DidStep, DidPut, DidRound, Charge, NoCharge, IsRefused, HasDropped, Doing, idle, begins, FoundTaken, FoundLost, WasOther, WasOdd, WasNone, WouldStore, IsTrying, Refuses, Drops, Moves, IsPostOf, Charges}
+use Rattle.send_causes.specs.Refused.{Deed, DidStep, DidPut, DidRound, Charge, NoCharge, IsRefused, HasDropped, Doing, idle, begins, FoundTaken, WasOther, WasOdd, WasNone, WouldStore, IsPostOf}
 use Rattle.send_causes.proofs.RefusedLoops.{bare, Goes, way, Steps, step_way, aside_way, forgets, let_go, post_with_goes, posted_goes, decide_goes, decided_goes, answer_goes}
 
 module _ (requests : ℕ) (is_call : Asked → Type 0) (reads : Bool) where
@@ -57,8 +56,20 @@ module _ (requests : ℕ) (is_call : Asked → Type 0) (reads : Bool) where
     λ found _. then_ (Recycle i from) _ found idle (split (eqb found from)
         (Do (LoadLink i (vref_version from + 1)) (λ k. Do (TakeLink k) (λ _. Do (FinishLink k) (λ _. Do (PutLink k) (λ _. cond (leb (vref_version from + 1) LAST_VERSION) (Do (FreeSlot i) (λ _. next true)) (next true))))))
         (next false)
-        (λ _. (tt, λ k _. then_ (LoadLink i (vref_version from + 1)) _ k idle (tt, λ a _. then_ (TakeLink k) _ a idle (tt, λ b _. then_ (FinishLink k) _ b idle (tt, λ d _. then_ (PutLink k) _ d idle
-            (split (leb (vref_version from + 1) LAST_VERSION) (Do (FreeSlot i) (λ _. next true)) (next true) (λ _. (tt, λ e _. then_ (FreeSlot i) _ e idle (goes true))) (λ _. goes true)))))))
+        (λ _. (
+          tt,
+          λ k _. then_ (LoadLink i (vref_version from + 1)) _ k idle (
+            tt,
+            λ a _. then_ (TakeLink k) _ a idle (
+              tt,
+              λ b _. then_ (FinishLink k) _ b idle (
+                tt,
+                λ d _. then_ (PutLink k) _ d idle
+                    (split (leb (vref_version from + 1) LAST_VERSION) (Do (FreeSlot i) (λ _. next true)) (next true) (λ _. (tt, λ e _. then_ (FreeSlot i) _ e idle (goes true))) (λ _. goes true)),
+              ),
+            ),
+          ),
+        ))
         (λ _. goes false)),
   )
 
@@ -144,8 +155,7 @@ module _ (requests : ℕ) (is_call : Asked → Type 0) (reads : Bool) where
     pub passed_keeps : (mine : reads ≡ false) (ds : List Deed) (h : Holder) (now : ℕ) (tells : Program → Program) (after : Program) → ((es : List Deed) (x : Program) → G idle x → G (due c es) (tells x)) → G idle after → G (due c ds) (passed_telling h now tells after)
     passed_keeps mine ds h now tells after told goes = ways ds (now == h.last) (given_back now (tells (Write (Empties h) after)))
         (Do (ReadNext (slot_of now)) (λ next. given_back now (tells (TakeMessage (slot_of next) (λ heading bytes. Write (Puts h next heading bytes 0 false) after)))))
-        (freed_keeps ds now (tells (Write (Empties h) after)) (λ es. told es (Write (Empties h) after) (mine, goes)))
-        (
+        (freed_keeps ds now (tells (Write (Empties h) after)) (λ es. told es (Write (Empties h) after) (mine, goes))) (
           tt,
           λ next _. (
             due c (DidStep (ReadNext (slot_of now)) next ∷ ds),

@@ -1,7 +1,6 @@
 -- What a whole run tells of the errors that clients posted for attempts that they were refused.
-use Rattle.std.proofs.Common.{◌≡◌, ℕ, ◌+◌, ◌*◌, ◌/◌, ◌%◌, ◌<◌, ◌≤◌, ◌⊎◌, inl, inr, ⊎_elim, List, [], ◌∷◌, length, Ok, refl, sym, ap, ◌∙◌, subst, arith}
+use Rattle.std.proofs.Common.{◌≡◌, ℕ, ◌<◌, ◌≤◌, ◌⊎◌, inl, inr, ⊎_elim, List, [], ◌∷◌, Ok, sym, ap, ◌∙◌, subst, arith}
 use Rattle.std.specs.List.{AllByRecursion}
-use Rattle.sock_words.specs.declared.plain.Plan.{Plan}
 use Rattle.sock_model.specs.declared.chain.Heading.{Heading}
 use Rattle.brpc_model.specs.Items.{Item}
 use Rattle.brpc_model.specs.Operations.{Turn}
@@ -18,13 +17,12 @@ use Rattle.sock_causes.specs.Stories.{In}
 use Rattle.joint_runs.proofs.Runs.{AreMade}
 use Rattle.owed_calls.specs.Lives.{ClosesInRun}
 use Rattle.call_causes.specs.Posts.{Post, posts_of_run}
-use Rattle.send_causes.specs.Refused.{Deed, DidStep, DidEarly, DidLate, DidInRun, IsRefusal, IsDrop, PostKind, ByReader, ByExpiry, ByRefusal, ByDrop}
+use Rattle.send_causes.specs.Refused.{Deed, DidStep, DidEarly, DidLate, DidInRun, IsRefusal, IsDrop, ByReader, ByExpiry, ByRefusal, ByDrop}
 use Rattle.send_causes.proofs.Beside.{fixed_of_run, gave_of_run, orders_here}
 use Rattle.send_causes.proofs.Runs.{IsCallOf}
 use Rattle.send_causes.proofs.RefusedGone.{unordered}
 use Rattle.send_causes.proofs.RefusedLost.{early_lost, late_lost}
 use Rattle.send_causes.proofs.RefusedMeans.{IsSo}
-use Rattle.send_causes.proofs.RefusedPosts.{kind_more}
 use Rattle.send_causes.proofs.RefusedWhole.{own_ids, end_views, IsGone, KindOfPost, kinds_of_run}
 use Rattle.send_causes.proofs.RefusedWhys.{full, before_so, late_so}
 

@@ -2,54 +2,39 @@
 use Rattle.std.proofs.Common.{◌≡◌, ℕ, zero, suc, ◌+◌, ◌-◌, ◌<◌, ◌≤◌, ◌⊎◌, inl, inr, ⊎_elim, Bool, true, false, nat_le, le-leb, leb-true, List, [], ◌∷◌, ◌++◌, length, map, replicate, refl, sym, ap, ◌∙◌, subst, arith}
 use Rattle.std.specs.List.{AllByRecursion}
 use Rattle.std.proofs.lemmas.List.{length-map, length-replicate}
-use Rattle.std.proofs.Common.{length-set}
-use mathlib.Core.Logic.{dite}
-use native.Mathlib.Decide.{dec_le}
 use mathlib.Core.Option.{some, some-injective, some-ne-none}
 use lib.ListN.{get_elem?}
-use Rattle.atomic_table.proofs.Lists.{set_again}
 use Rattle.sock_words.specs.declared.plain.Plan.{Plan}
 use Rattle.sock_model.specs.declared.view.View.{View}
-use Rattle.sock_model.specs.Weights.{total}
-use Rattle.brpc_model.specs.Items.{Item}
-use Rattle.brpc_model.specs.Operations.{Turn}
 use Rattle.corr_core.specs.declared.marks.Plan.{Plan as IdPlan}
-use Rattle.id_runs.specs.Held.{IdView}
-use Rattle.id_runs.specs.Goes.{SoundIds}
 use Rattle.sock_message.specs.Asked.{Asked}
-use Rattle.sock_programs.specs.Beside.{call_at}
 use Rattle.sock_programs.specs.Heads.{Retry}
 use Rattle.sock_programs.specs.declared.task.Sizes.{Sizes}
 use Rattle.sock_programs.specs.declared.task.Task.{Task}
 use Rattle.sock_programs.specs.Programs.{Program, Do, Say, Sent, Rest, TakeMessage, TakeHome, PutHome, PutBytes, AskReady, Write, Aside, Round, Keep, Retries}
-use Rattle.sock_programs.specs.Clients.{client_from, ending_of}
+use Rattle.sock_programs.specs.Clients.{client_from}
 use Rattle.sock_programs.specs.Readers.{reader}
 use Rattle.sock_programs.specs.Cores.{Core, SeatState, resolved, next_step, waiting_at}
-use Rattle.sock_programs.specs.Ticks.{Moment, AreAnswered, quiet, ticked, run}
-use Rattle.sock_programs.specs.Tasks.{opens, calls, plan_of, id_plan_of}
-use Rattle.sock_programs.specs.Scripts.{sizes_of, programs, readers_from, all_programs, all_tasks, beginning, opened, set_up, played, is_ending, IsRunWithCalls}
-use Rattle.sock_programs.specs.Told.{AreTasks}
+use Rattle.sock_programs.specs.Ticks.{Moment, AreAnswered, ticked, run}
+use Rattle.sock_programs.specs.Tasks.{calls}
+use Rattle.sock_programs.specs.Scripts.{programs, readers_from, all_programs, beginning}
 use Rattle.sock_runs.specs.Sound.{Sound, AreFitting, first_step, views_after, views_along}
 use Rattle.sock_runs.proofs.LinkTicks.{RetriesGo}
 use Rattle.sock_runs.proofs.Ticks.{sound_ticks}
-use Rattle.sock_runs.proofs.Along.{seat_rests}
 use Rattle.sock_runs.proofs.Opening.{mapped}
-use Rattle.sock_runs.proofs.Whole.{Begins, AreFittingIn, closing_of, views_played, views_closed, views_ended, set_up_answered, end_answered, rested_ahead, rested_idle, set_up_sound, played_sound, closing_sound, closed_sound}
 use Rattle.sock_causes.specs.Stories.{In}
-use Rattle.sock_causes.proofs.Final.{at_there}
 use Rattle.sock_causes.proofs.Plain.{in_both}
-use Rattle.sock_causes.proofs.Ticks.{elem_there}
 use Rattle.label_runs.specs.Labels.{Trial, Idle}
 use Rattle.label_runs.proofs.Programs.{OpCalls}
 use Rattle.call_causes.specs.Lists.{shows_in}
-use Rattle.call_causes.specs.Posts.{Post, posted_at, posts_of_run}
-use Rattle.send_causes.specs.Counts.{of_trial, of_retry, of_view, times_of, TrialFits, LabelLaw, AreLabelled}
-use Rattle.send_causes.specs.Refused.{Deed, DidStep, DidPut, DidRound, Charge, NoCharge, IsRefused, HasDropped, Doing, idle, trial_in, Charges, DidAt, DidIn, DidInRun, IsSpent, ChargeFits, ChargeLaw, PostKind, AllWouldOwn, RunWouldOwn}
+use Rattle.call_causes.specs.Posts.{Post, posted_at}
+use Rattle.send_causes.specs.Counts.{of_trial, of_view, times_of, TrialFits, AreLabelled}
+use Rattle.send_causes.specs.Refused.{Deed, DidStep, DidPut, DidRound, Doing, idle, trial_in, Charges, DidAt, DidIn, IsSpent, ChargeFits, ChargeLaw, PostKind, AllWouldOwn}
 use Rattle.send_causes.proofs.Ticks.{label_ticks}
-use Rattle.send_causes.proofs.Runs.{AreLabelledIn, IsCallOf, IsBare, Lawful_, asked_by, total_none, none_waits, bare_count, behind_ids, run_labels}
-use Rattle.send_causes.proofs.RefusedTicks.{Then, charge_ticks, moves}
+use Rattle.send_causes.proofs.Runs.{IsBare, Lawful_, total_none, none_waits, bare_count}
+use Rattle.send_causes.proofs.RefusedTicks.{charge_ticks}
 use Rattle.send_causes.proofs.RefusedPosts.{kind_more, tick_kinds}
-use Rattle.send_causes.proofs.RefusedPrograms.{client_goes, ending_goes, reader_goes}
+use Rattle.send_causes.proofs.RefusedPrograms.{client_goes, reader_goes}
 
 -- ## Lists
 

@@ -1,9 +1,9 @@
 -- Each tick keeps the law of charges: whoever is refused an attempt gives it up, and nothing is left of it.
-use Rattle.std.proofs.Common.{◌≡◌, ◌≢◌, ℕ, zero, suc, ◌+◌, ◌*◌, ◌<◌, ◌≤◌, ◌⊎◌, inl, inr, ⊎_elim, Bool, true, false, cond, eqb, eqb-true, eq-eqb, nat_le, List, [], ◌∷◌, ◌++◌, length, length-set, map, get_or, set, refl, sym, ap, ◌∙◌, subst, arith}
+use Rattle.std.proofs.Common.{◌≡◌, ◌≢◌, ℕ, zero, suc, ◌+◌, ◌<◌, ◌≤◌, ◌⊎◌, inl, inr, ⊎_elim, Bool, true, false, cond, eqb, eqb-true, eq-eqb, nat_le, List, [], ◌∷◌, ◌++◌, length-set, map, set, refl, sym, ap, ◌∙◌, subst, arith}
 use Rattle.std.specs.List.{AllByRecursion}
 use mathlib.Core.Logic.{dite}
 use native.Mathlib.Decide.{ℕ_discrete}
-use mathlib.Core.Option.{Option, some, none, some-injective, some-ne-none}
+use mathlib.Core.Option.{Option, some, none}
 use lib.ListN.{get_elem?}
 use Rattle.atomic_table.proofs.Lists.{at_set, set_again}
 use Rattle.sock_words.specs.declared.plain.Plan.{Plan}
@@ -16,11 +16,10 @@ use Rattle.sock_model.specs.declared.view.View.{View}
 use Rattle.sock_model.specs.Weights.{total}
 use Rattle.sock_model.specs.ChainRows.{taken_right}
 use Rattle.slot_laws.proofs.Sums.{term_le, total-append, total-set}
-use Rattle.corr_core.specs.Word.{parts, error_of}
+use Rattle.corr_core.specs.Word.{parts}
 use Rattle.corr_core.specs.declared.marks.Plan.{Plan as IdPlan}
 use Rattle.id_runs.specs.Held.{IdView, MayId}
 use Rattle.id_runs.specs.Goes.{FitsRetryId, FitsSock, FindsId, IdGoesOn, SoundIds, IsFittingIds}
-use Rattle.id_runs.specs.Goes as goes
 use Rattle.id_runs.proofs.Steps.{finds_ids}
 use Rattle.sock_programs.specs.Asides.{Step, Found, ClaimId, PutCall, MakeId, StoreCall, LoadCall, StoreAt, LoadAt, LoadIdWord, LockId, PostId, UnlockId, EndId, FreeId, TakeCall, TakeBytes, Taking, call_id, id_slot, id_first}
 use Rattle.sock_message.specs.Asked.{Asked}
@@ -38,9 +37,9 @@ use Rattle.sock_causes.specs.Stories.{In}
 use Rattle.sock_causes.proofs.Cases.{tick_cases}
 use Rattle.sock_causes.proofs.Ticks.{elem_there}
 use Rattle.owed_calls.proofs.EndsStill.{mapped_at}
-use Rattle.label_runs.specs.Labels.{Trial, Idle, Tries, Sends, IsOfTrial, MayPut, put_behind, Kept, AsideMove, Storing, unlocked_trial, FindsLabel}
-use Rattle.send_causes.specs.Counts.{pair_of, of_trial, of_retry, of_heading, of_view, times_of, WasMade, WasNow, TrialFits, StoresOwn}
-use Rattle.send_causes.specs.Refused.{Deed, DidStep, DidPut, DidRound, Charge, NoCharge, IsRefused, HasDropped, Doing, idle, begins, trial_in, FoundTaken, FoundLost, WasOther, WasOdd, WasNone, WhyRefused, WouldStore, WouldOwn, IsTrying, Refuses, Drops, Moves, Remembers, Charges, did_aside, DidAt, IsRefusal, IsDrop, IsSpent, ChargeFits, ChargeLaw}
+use Rattle.label_runs.specs.Labels.{Trial, Idle, Tries, Sends, IsOfTrial, MayPut, put_behind, Kept, Storing, unlocked_trial}
+use Rattle.send_causes.specs.Counts.{pair_of, of_trial, of_retry, of_view, times_of, WasMade, WasNow, TrialFits, StoresOwn}
+use Rattle.send_causes.specs.Refused.{Deed, DidStep, DidPut, Charge, NoCharge, IsRefused, HasDropped, Doing, idle, begins, trial_in, FoundTaken, FoundLost, WasOther, WasOdd, WasNone, WhyRefused, WouldStore, WouldOwn, IsTrying, Refuses, Moves, Remembers, Charges, did_aside, DidAt, IsRefusal, IsDrop, IsSpent, ChargeFits, ChargeLaw}
 use Rattle.send_causes.proofs.Ticks.{AreCalls, calls_waiting, fits_as, ids_first, kept_count, kept_fits, pair_one, pair_same, waits_set}
 use Rattle.send_causes.proofs.Views.{put_of, row_count, rights_count}
 use Rattle.send_causes.proofs.Words.{made_on, finds_label, words_forward, makes_new, advances_new}

@@ -1,5 +1,5 @@
 -- In a whole run each post is a reader's, an expiry, that of a refused attempt of which nothing is left, or that of a dropped message; and whatever was done for it was done before the run was ending, or behind that.
-use Rattle.std.proofs.Common.{◌≡◌, ◌≢◌, ℕ, zero, suc, ◌+◌, ◌<◌, ◌≤◌, ◌⊎◌, inl, inr, ⊎_elim, Bool, true, false, nat_le, List, [], ◌∷◌, ◌++◌, length, length-set, map, replicate, refl, sym, ap, ◌∙◌, subst, arith}
+use Rattle.std.proofs.Common.{◌≡◌, ◌≢◌, ℕ, zero, suc, ◌<◌, ◌≤◌, ◌⊎◌, inl, inr, ⊎_elim, Bool, true, false, nat_le, List, [], ◌∷◌, ◌++◌, length, map, replicate, refl, sym, ap, ◌∙◌, subst, arith}
 use Rattle.std.proofs.lemmas.List.{length-map}
 use Rattle.std.specs.List.{AllByRecursion}
 use Rattle.std.specs.Prelude as std
@@ -22,13 +22,13 @@ use Rattle.sock_message.specs.Asked.{Asked}
 use Rattle.sock_programs.specs.Asides.{Step, Found}
 use Rattle.sock_programs.specs.Beside.{found_in}
 use Rattle.sock_programs.specs.Clients.{ending_of}
-use Rattle.sock_programs.specs.Heads.{Head, Exit, Posts, Unlocks, Decides, Locks, Joins, Opens, Reads, Discards}
+use Rattle.sock_programs.specs.Heads.{Posts, Unlocks, Decides, Locks, Joins, Opens, Reads, Discards}
 use Rattle.sock_programs.specs.Programs.{Program, Do, Say, Sent, Rest, TakeMessage, TakeHome, PutHome, PutBytes, AskReady, Write, Aside, Round, Keep, Retries}
 use Rattle.sock_programs.specs.Rounds.{round}
 use Rattle.sock_programs.specs.Runs.{IsAtRest}
 use Rattle.sock_programs.specs.Sends.{block}
 use Rattle.sock_programs.specs.Cores.{Core, SeatState, waiting_at}
-use Rattle.sock_programs.specs.Ticks.{Answer, Unasked, OfPut, OfReady, OfTake, Moment, IsPrompt, waits, waits_at, waits_in, quiet, ticked, run, taken, with_message, with_link, with_put, with_ready, with_found, step_with, tick_with}
+use Rattle.sock_programs.specs.Ticks.{Answer, Unasked, OfPut, OfReady, OfTake, Moment, IsPrompt, waits, waits_at, quiet, ticked, run, taken, with_message, with_link, with_put, with_ready, with_found, step_with, tick_with}
 use Rattle.sock_programs.specs.Tasks.{opens, calls, plan_of, id_plan_of}
 use Rattle.sock_programs.specs.Scripts.{sizes_of, programs, readers_from, all_programs, all_tasks, opened, set_up, played, is_ending, IsRunWithCalls}
 use Rattle.sock_runs.specs.Sound.{views_along}
@@ -42,11 +42,10 @@ use Rattle.client_laws.specs.Openings.{all_seats}
 use Rattle.client_laws.proofs.Fresh.{opening_fresh}
 use Rattle.joint_runs.proofs.Runs.{AreMade, first_views}
 use Rattle.owed_calls.specs.Lives.{ClosesInRun}
-use Rattle.owed_calls.proofs.EndsStill.{mapped_at}
 use Rattle.call_causes.specs.Lists.{shows_in}
 use Rattle.call_causes.specs.Posts.{Post, posted_at, posts_of_run}
-use Rattle.send_causes.specs.Counts.{of_trial, times_of, TrialFits}
-use Rattle.send_causes.specs.Refused.{Deed, Charge, NoCharge, IsRefused, HasDropped, Doing, idle, trial_in, Charges, DidAt, DidIn, DidEarly, DidClosing, DidLate, IsSpent, ChargeFits, ChargeLaw, PostKind, AllWouldOwn, RunWouldOwn}
+use Rattle.send_causes.specs.Counts.{times_of, TrialFits}
+use Rattle.send_causes.specs.Refused.{Deed, Charge, NoCharge, IsRefused, HasDropped, Doing, idle, trial_in, Charges, DidAt, DidIn, DidEarly, DidLate, IsSpent, ChargeFits, ChargeLaw, PostKind, RunWouldOwn}
 use Rattle.send_causes.proofs.Early.{start, go, fitting}
 use Rattle.send_causes.proofs.Labelled.{ids_of_run, run_would_own}
 use Rattle.send_causes.proofs.Rests.{still}
@@ -292,9 +291,9 @@ module _ (script : List Item) (made : AreMade script) (turns : List Turn) (core 
       let us = behind_ids (plan_of script) (id_plan_of script) few_slots (IsCallOf script) own_ids (is.scheduled ++ is.later) (set_up script is.setup) at_words.of_played in
       let d = elem_there c.seats played_runs.doings 0 seat.0 played_runs.law.each seat.1 in
       let rests = seat_rests c (rested_ahead script made.are (first_views script) (start script made turns core is) (go script made turns core is) turns core is (fitting script made turns core is)) 0
-          (rested_idle script made.are (first_views script) (start script made turns core is) (go script made turns core is) turns core is (fitting script made turns core is)) seat.0 seat.1 in
+      (rested_idle script made.are (first_views script) (start script made turns core is) (go script made turns core is) turns core is (fitting script made turns core is)) seat.0 seat.1 in
       let next = moves (plan_of script) (id_plan_of script) few_slots (IsCallOf script) own_ids DidPlay c ws played_runs.doings played_runs.law labels_.1.calls us.0 us.1 (quiet 0) seat.0 v.0 d.0 seat.1 v.1 d.1 (ending_of (opens script)) [] c.homes v.0 v.0.rights refl
-          (ending_goes (plan_of script).requests (IsCallOf script) (nat_le 32 0) (opens script)) in
+      (ending_goes (plan_of script).requests (IsCallOf script) (nat_le 32 0) (opens script)) in
       record {
         doings = next.0;
         law = law_more (plan_of script) (id_plan_of script) few_slots (IsCallOf script) own_ids (λ j x. DidPlay j x ⊎ DidAt (plan_of script) rested (quiet 0) j x) DidPlay

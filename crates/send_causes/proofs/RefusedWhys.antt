@@ -1,32 +1,28 @@
 -- Why attempts were refused: each request was used, or the socket's life was failed.
-use Rattle.std.proofs.Common.{◌≡◌, ◌≢◌, ℕ, ◌+◌, ◌*◌, ◌%◌, ◌<◌, ◌≤◌, ◌⊎◌, inl, inr, ⊎_elim, List, [], ◌∷◌, ◌++◌, length, replicate, refl, sym, ap, ◌∙◌, subst, arith}
+use Rattle.std.proofs.Common.{ℕ, inl, inr, List, [], ◌∷◌, ◌++◌, replicate, sym, subst, arith}
 use Rattle.std.specs.List.{AllByRecursion}
-use Rattle.std.specs.Prelude.{slice_index}
-use mathlib.Core.Option.{some}
-use lib.ListN.{get_elem?}
 use Rattle.sock_words.specs.declared.plain.Plan.{Plan}
-use Rattle.sock_model.specs.Layout.{request_word}
 use Rattle.sock_model.specs.declared.view.View.{View}
 use Rattle.brpc_model.specs.Items.{Item}
 use Rattle.brpc_model.specs.Operations.{Turn}
-use Rattle.sock_programs.specs.Calls.{Call, AddRef, LookWord, ClaimRequest}
+use Rattle.sock_programs.specs.Calls.{AddRef, LookWord, ClaimRequest}
 use Rattle.sock_programs.specs.Cores.{Core}
-use Rattle.sock_programs.specs.Tasks.{opens, plan_of, id_plan_of}
-use Rattle.sock_programs.specs.Ticks.{Moment, quiet, run}
+use Rattle.sock_programs.specs.Tasks.{plan_of}
+use Rattle.sock_programs.specs.Ticks.{quiet, run}
 use Rattle.sock_programs.specs.Scripts.{all_tasks, opened, set_up, played, is_ending, IsRunWithCalls}
-use Rattle.sock_programs.specs.ToldCalls.{WasFull, all_accepted}
-use Rattle.sock_runs.specs.Sound.{Sound, AllRest, views_along}
-use Rattle.sock_runs.proofs.Whole.{closing_of, views_played, views_closed, views_ended, set_up_answered, end_answered, set_up_sound, closing_sound, closed_sound, ended_sound, end_rests}
+use Rattle.sock_programs.specs.ToldCalls.{WasFull}
+use Rattle.sock_runs.specs.Sound.{Sound, views_along}
+use Rattle.sock_runs.proofs.Whole.{closing_of, views_played, views_closed, set_up_answered, end_answered, set_up_sound, closing_sound, closed_sound, ended_sound, end_rests}
 use Rattle.sock_causes.specs.Stories.{In}
 use Rattle.sock_causes.proofs.Delivered.{requests_used}
 use Rattle.joint_runs.proofs.Runs.{AreMade, first_views}
 use Rattle.owed_calls.specs.Lives.{ClosesInRun}
-use Rattle.send_causes.specs.Refused.{Deed, DidStep, DidPut, DidRound, DidIn, DidEarly, DidClosing, DidLate, FoundTaken}
+use Rattle.send_causes.specs.Refused.{Deed, DidStep, DidPut, DidRound, DidEarly, DidLate, FoundTaken}
 use Rattle.send_causes.proofs.Beside.{fixed_of_run, gave_of_run, orders_here}
 use Rattle.send_causes.proofs.Early.{start, go, fitting}
 use Rattle.send_causes.proofs.Sends.{owed}
 use Rattle.send_causes.proofs.Whole.{quiet_there}
-use Rattle.send_causes.proofs.RefusedMeans.{IsFailed, Says, IsSo, run_keeps, run_so}
+use Rattle.send_causes.proofs.RefusedMeans.{IsSo, run_keeps, run_so}
 use Rattle.send_causes.proofs.RefusedWhole.{end_views}
 
 pub all_in : (P : Deed → Type 0) (ds : List Deed) (d : Deed) → AllByRecursion P ds → In d ds → P d
