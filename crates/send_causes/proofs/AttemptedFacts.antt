@@ -12,6 +12,7 @@ use Rattle.sock_programs.specs.Cores.{Core, SeatState}
 use Rattle.sock_programs.specs.Programs.{Program, Do, Say, Sent, Rest, TakeMessage, TakeHome, PutHome, PutBytes, AskReady, Write, Aside, Round, Keep, Retries}
 use Rattle.sock_runs.specs.Sound.{first_step}
 use Rattle.sock_programs.specs.declared.task.Task.{Task}
+use Rattle.call_causes.specs.Posts.{Post}
 use Rattle.call_causes.specs.Scenes.{Birth, Scene, In, IsBorn}
 use Rattle.call_causes.specs.Says.{Mark, SaysOn, Claims, Holds}
 use Rattle.call_causes.specs.Stories.{SlotFits, CallStory, HasStory}
@@ -105,5 +106,5 @@ module _ (p : Plan) (q : IdPlan) (clients : List (List Task)) (gives : ℕ → L
     }
 
   -- so it is at a moment of which the story of the calls is told
-  pub facts : (ns : List ℕ) (c : Core) → HasStory p q clients gives ns c → Facts q c
-  facts ns c h = subst (Facts q) h.is (in_scene h.scene h.marks h.story)
+  pub facts : (ps : List Post) (ns : List ℕ) (c : Core) → HasStory p q clients gives ps ns c → Facts q c
+  facts ps ns c h = subst (Facts q) h.is (in_scene h.scene h.marks h.story)

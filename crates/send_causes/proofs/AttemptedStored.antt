@@ -39,6 +39,7 @@ use Rattle.report_fits.proofs.Reading.{InRange}
 use Rattle.report_fits.proofs.Targets.{AreThere}
 use Rattle.call_causes.specs.Lists.{given, advanced_at}
 use Rattle.call_causes.specs.Scenes.{LeadsTo}
+use Rattle.call_causes.specs.Posts.{Post, posted_at}
 use Rattle.call_causes.specs.Stories.{HasStory}
 use Rattle.call_causes.proofs.Allowing.{allows}
 use Rattle.call_causes.proofs.Chains.{KeepsFew}
@@ -96,8 +97,9 @@ module _ (p : Plan) (q : IdPlan) (clients : List (List Task)) (gives : ℕ → L
 
   -- the story of a core, and the law of its calls
   pub record Owns (c : Core) : Type 0 where
+    pub posted : List Post
     pub shown : List ℕ
-    pub story : HasStory p q clients gives shown c
+    pub story : HasStory p q clients gives posted shown c
     pub trails : List Trail
     pub law : CallLaw q is_call c trails
 
@@ -119,16 +121,17 @@ module _ (p : Plan) (q : IdPlan) (clients : List (List Task)) (gives : ℕ → L
         → Rise (word_of_id c.calls.words i) (word_of_id d.calls.words i) (Unit {0}) (AdvancesId ids c m (call_id i (word_of_id c.calls.words i).first))
     own_rise m i low d (is_new n z) = is_new n z
     own_rise m i low d (is_same f live a) = is_same f live a
-    own_rise m i low d (is_more f live a more) = let r = k.law.ranges i low live in let same = (facts p q clients gives k.shown c k.story).at_home i r.0 more.0 low live more.1 r.1 in
+    own_rise m i low d (is_more f live a more) = let r = k.law.ranges i low live in let same = (facts p q clients gives k.posted k.shown c k.story).at_home i r.0 more.0 low live more.1 r.1 in
         let has = are r.0 (call_id i (word_of_id c.calls.words i).first) r.1 in is_more f live a (r.0, (λ z. r.1.some_ (sym has ∙ z)), has, more.2 ∙ ap (λ n. n ∷ []) (sym same))
 
   along : (ms : List Moment) (c : Core) (vs : List View) → AreBoth p q c vs ms → AreAnswered p c ms → AreSetUp p c ms → LeadsTo p q clients gives (run p c ms) → Owns c → Ahead c ms
   along [] c vs both answered over lead k = record { owns = k; stays = λ o id own. own; are = λ ids a. ((both.id_views, both.ids), tt) }
   along (m ∷ ms) c vs both answered over lead k =
-      let t = own_ticks p q small is_call c vs k.trails k.law both.0.id_views both.0.ids (facts p q clients gives k.shown c k.story) both.0.sockets m answered.0 both.1.fitting_ids in
+      let t = own_ticks p q small is_call c vs k.trails k.law both.0.id_views both.0.ids (facts p q clients gives k.posted k.shown c k.story) both.0.sockets m answered.0 both.1.fitting_ids in
       let next : Owns (ticked p c m) = record {
+        posted = posted_at c m ++ k.posted;
         shown = advanced_at c m ++ k.shown;
-        story = story_ticks p q clients gives numbered slots small k.shown c both.0.id_views m both.0.ids both.1.fitting_ids (let s = both.0.sockets in s.lawful.references.sized) (allows p c vs m both.0.sockets) over.0 (run_leads p q clients gives ms (ticked p c m) lead) k.story;
+        story = story_ticks p q clients gives numbered slots small k.posted k.shown c both.0.id_views m both.0.ids both.1.fitting_ids (let s = both.0.sockets in s.lawful.references.sized) (allows p c vs m both.0.sockets) over.0 (run_leads p q clients gives ms (ticked p c m) lead) k.story;
         trails = t.0;
         law = t.1;
       } in
@@ -151,9 +154,10 @@ module _ (p : Plan) (q : IdPlan) (clients : List (List Task)) (gives : ℕ → L
   told_of c (Knows o id) h = told_own c o id h
 
   told_owns : (c : Core) (vs : List View) → BothSound p q c vs → 0 < length c.seats → LeadsTo p q clients gives (is_ending c) → Owns c → Owns (is_ending c)
-  told_owns c vs both some_ lead k = let h = told_on p q clients gives numbered slots small k.shown c vs both some_ lead (k.shown, k.story, λ o. refl) in record {
-    shown = h.0;
-    story = h.1;
+  told_owns c vs both some_ lead k = let h = told_on p q clients gives numbered slots small k.posted k.shown c vs both some_ lead (k.posted, k.shown, k.story, (λ x there. there), λ o. refl) in record {
+    posted = h.0;
+    shown = h.1;
+    story = h.2;
     trails = k.trails;
     law = record {
       knows = λ j t at. told_of c t.of (k.law.knows j t at);
@@ -167,10 +171,10 @@ module _ (p : Plan) (q : IdPlan) (clients : List (List Task)) (gives : ℕ → L
   -- seat 0 begins the ending
   ending_owns : (os : List ℕ) (c : Core) (vs : List View) → BothSound p q c vs → 0 < length c.seats → IsAhead c → IsAtRest c 0 → LeadsTo p q clients gives (with_seat 0 (ending_of os) [] c.words c.homes c) → Owns c
       → Owns (with_seat 0 (ending_of os) [] c.words c.homes c) × ((o id : ℕ) → IsOwn q c o id → IsOwn q (with_seat 0 (ending_of os) [] c.words c.homes c) o id)
-  ending_owns os c vs both some_ ahead rests lead k = let h = ending_story p q clients gives numbered slots small os k.shown c vs both some_ ahead rests lead (k.shown, k.story, λ o. refl) in
+  ending_owns os c vs both some_ ahead rests lead k = let h = ending_story p q clients gives numbered slots small os k.posted k.shown c vs both some_ ahead rests lead (k.posted, k.shown, k.story, (λ x there. there), λ o. refl) in
       let seat = at_there c.seats 0 some_ in let t = elem_there c.seats k.trails 0 seat.0 k.law.each seat.1 in let rest = seat_rests c ahead 0 rests seat.0 seat.1 in
-      let b = beside p q small is_call c vs k.trails k.law both.id_views both.ids (facts p q clients gives k.shown c k.story) 0 seat.0 t.0 seat.1 t.1 (ending_of os) [] c.words c.homes lost (λ o id after e. (let z : Rest ≡ Aside (StoreCall o id) after = sym rest ∙ e in cc)) (ending_goes is_call os) (λ z. tt) in
-      (record { shown = h.0; story = h.1; trails = b.0; law = b.1 }, b.2)
+      let b = beside p q small is_call c vs k.trails k.law both.id_views both.ids (facts p q clients gives k.posted k.shown c k.story) 0 seat.0 t.0 seat.1 t.1 (ending_of os) [] c.words c.homes lost (λ o id after e. (let z : Rest ≡ Aside (StoreCall o id) after = sym rest ∙ e in cc)) (ending_goes is_call os) (λ z. tt) in
+      (record { posted = h.0; shown = h.1; story = h.2; trails = b.0; law = b.1 }, b.2)
 
 -- ## A whole run
 
@@ -264,6 +268,7 @@ module _ (script : List Item) (made : AreMade script) (there : AreThere script) 
   first = let n = begins_named (plan_of script) (id_plan_of script) (IsCallOf script) [] (all_programs (programs (sizes_of (plan_of script) (id_plan_of script)) (all_tasks script)) (readers_from (calls script) 0 (opens script)))
       (all_follow (IsCallOf script) (sizes_of (plan_of script) (id_plan_of script)) (all_tasks script) (asked_by script) (calls script) (opens script)) (first_views script)
       (λ i v at. (opening_claims (plan_of script) (all_seats (all_tasks script) (length (opens script))) i v at, opening_fresh (plan_of script) (all_seats (all_tasks script) (length (opens script))) i v at)) in record {
+        posted = [];
         shown = [];
         story = first_story (plan_of script) (id_plan_of script) (all_tasks script) (given core) numbered slots (calls script) (opens script) (scripts.begins script made there range (given core)) made.seats length_is few_tries opened_leads;
         trails = map (λ (x : Program). lost) (all_programs (programs (sizes_of (plan_of script) (id_plan_of script)) (all_tasks script)) (readers_from (calls script) 0 (opens script)));

@@ -49,6 +49,7 @@ pub mod DropEndsWhole
 pub mod RefusedTicks
 pub mod RefusedPosts
 pub mod RefusedRuns
+pub mod RefusedClosing
 pub mod RefusedWhole
 pub mod RefusedGone
 pub mod RefusedMeans
@@ -88,3 +89,6 @@ pub mod AttemptedFacts
 pub mod AttemptedOwn
 pub mod AttemptedStored
 pub mod Unanswered
+pub mod RefusedNames
+pub mod RefusedLost
+pub mod RefusedRun
