@@ -10,7 +10,7 @@ use Rattle.sock_causes.specs.Stories.{In}
 use Rattle.joint_runs.proofs.Runs.{AreMade}
 use Rattle.owed_calls.specs.Lives.{ClosesInRun}
 use Rattle.call_causes.specs.Posts.{Post, posts_of_run}
-use Rattle.send_causes.specs.Refused.{Deed, DidInRun, DidLate, PostKind, ByReader, ByExpiry, ByRefusal, ByDrop}
+use Rattle.send_causes.specs.Refused.{Deed, DidInRun, DidEarly, DidLate, PostKind, ByReader, ByExpiry, ByRefusal, ByDrop}
 use Rattle.send_causes.proofs.DropOfRun.{DropOf, drop_of_run}
 use Rattle.send_causes.proofs.RefusedWhole.{KindOfPost, kinds_of_run}
 
