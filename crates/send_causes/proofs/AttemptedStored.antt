@@ -1,5 +1,5 @@
 -- In a whole run the word of each call is that of its id as the run ends, and whoever stores an at word stores one of that id.
-use Rattle.std.proofs.Common.{◌≡◌, ◌≢◌, ℕ, zero, suc, ◌<◌, ◌≤◌, inl, inr, ⊎_elim, List, [], ◌∷◌, ◌++◌, length, map, replicate, get_or, refl, sym, ap, ◌∙◌, subst, arith, length-set}
+use Rattle.std.proofs.Common.{◌≡◌, ◌≢◌, ℕ, zero, suc, ◌<◌, ◌≤◌, ◌⊎◌, inl, inr, ⊎_elim, List, [], ◌∷◌, ◌++◌, length, map, replicate, get_or, refl, sym, ap, ◌∙◌, subst, arith, length-set}
 use Rattle.std.specs.List.{AllByRecursion}
 use Rattle.std.proofs.lemmas.List.{append-nil, length-map, get_or_past}
 use mathlib.Core.Logic.{dite}
@@ -17,16 +17,17 @@ use Rattle.id_rule.specs.Lawful.{call_word, newcomer}
 use Rattle.id_runs.specs.Goes.{IdGoesOn}
 use Rattle.id_runs.proofs.Opening.{unused, all_go}
 use Rattle.sock_message.specs.Asked.{Asked}
-use Rattle.sock_programs.specs.Asides.{StoreCall, call_id, id_slot, id_first}
+use Rattle.sock_programs.specs.Asides.{StoreCall, StoreAt, call_id, id_slot, id_first}
+use Rattle.sock_programs.specs.Calls.{Call, LoadName, ClaimRequest}
 use Rattle.sock_programs.specs.Clients.{ending_of}
 use Rattle.sock_programs.specs.Cores.{Core, with_seat, next_step, resolved}
 use Rattle.sock_programs.specs.declared.task.Task.{Task}
-use Rattle.sock_programs.specs.Programs.{Program, Rest, Aside}
+use Rattle.sock_programs.specs.Programs.{Program, Rest, Do, Aside}
 use Rattle.sock_programs.specs.Runs.{IsAtRest}
 use Rattle.sock_programs.specs.Ticks.{Moment, AreAnswered, quiet, ticked, run}
 use Rattle.sock_programs.specs.Tasks.{opens, calls, plan_of, id_plan_of}
 use Rattle.sock_programs.specs.Scripts.{sizes_of, programs, readers_from, all_programs, all_tasks, opened, ending, set_up, played, is_ending, IsRunWithCalls}
-use Rattle.sock_runs.specs.Sound.{IsAhead, AllRest, views_after, views_along}
+use Rattle.sock_runs.specs.Sound.{IsAhead, AllRest, first_step, views_after, views_along}
 use Rattle.sock_runs.proofs.Along.{seat_ahead, seat_rests, ticked_ahead, run_ahead, beginning_ahead}
 use Rattle.sock_runs.proofs.Quiets.{ticked_rests, run_rests, run_seats}
 use Rattle.sock_runs.proofs.Whole.{views_played, views_closed, set_up_answered, end_answered}
@@ -60,7 +61,8 @@ use Rattle.client_laws.proofs.Fresh.{opening_fresh}
 use Rattle.send_causes.proofs.AttemptedBegin.{asked_by}
 use Rattle.send_causes.proofs.AttemptedWords.{Rise, AdvancesAt, is_new, is_same, is_more, tick_rises}
 use Rattle.send_causes.proofs.AttemptedIds.{AdvancesId, AreRising, AreRisingIn}
-use Rattle.send_causes.proofs.AttemptedTrails.{Trail, Knows, lost, Follows, NoCall, Makes, Of}
+use Rattle.send_causes.specs.Refused.{WouldStore, WouldOwn, AllWouldOwn, RunWouldOwn}
+use Rattle.send_causes.proofs.AttemptedTrails.{Trail, Knows, lost, Follows, GoesDo, Stays, NoCall, Makes, Of}
 use Rattle.send_causes.proofs.AttemptedPrograms.{ending_goes}
 use Rattle.send_causes.proofs.AttemptedNames.{follows_first}
 use Rattle.send_causes.proofs.AttemptedNamed.{all_follow, begins_named}
@@ -76,6 +78,38 @@ named_id id k n w is low few small =
     let s : at_word_slot w ≡ id_slot id = ap at_word_slot is ∙ (let z : at_word_slot (at_word (id_first id) (id_slot id) k n) ≡ id_slot id = omega (arith, small, low, few) in z) in
     let f : at_word_first w ≡ id_first id = ap at_word_first is ∙ (let z : at_word_first (at_word (id_first id) (id_slot id) k n) ≡ id_first id = omega (arith, small, low, few) in z) in
     ap (λ x. call_id x (at_word_first w)) s ∙ ap (call_id (id_slot id)) f ∙ id_back id
+
+-- a step on the sockets leaves which call is known, or forgets it
+stays_of : (t u : Trail) → Stays t u → (u.of ≡ t.of) ⊎ (u.of ≡ NoCall)
+stays_of t u (inl same) = inl (ap (λ (x : Trail). x.of) same)
+stays_of t u (inr none_) = inr (ap (λ (x : Trail). x.of) none_)
+
+goes_of : (t u : Trail) (call : Call) (found : ℕ) → GoesDo t call found u → (u.of ≡ t.of) ⊎ (u.of ≡ NoCall)
+goes_of t u (LoadName m) found g = ⊎_elim (λ same. inl (ap (λ (x : Trail). x.of) same)) (λ rest. ⊎_elim (λ none_. inr (ap (λ (x : Trail). x.of) none_)) (λ a. inl (ap (λ (x : Trail). x.of) a.1)) rest) g
+goes_of t u (ClaimRequest s q) found g = ⊎_elim (λ same. inl (ap (λ (x : Trail). x.of) same)) (λ rest. ⊎_elim (λ none_. inr (ap (λ (x : Trail). x.of) none_)) (λ a. inl (ap (λ (x : Trail). x.of) a.3)) rest) g
+goes_of t u other found g = stays_of t u g
+
+-- whoever would store an at word knows its call
+record Would (of : Of) (o id n : ℕ) : Type 0 where
+  own : ℕ
+  attempt : ℕ
+  link : ℕ
+  other : ℕ
+  word : ℕ
+  knows : of ≡ Knows o own
+  mine : word ≡ at_word (id_first own) (id_slot own) link attempt
+  low : link < 65535
+  few : attempt ≤ 6
+  theirs : word ≡ at_word (id_first id) (id_slot id) other n
+  low_too : other < 65535
+
+would_of : (is_call : Asked → Type 0) (t : Trail) (x : Program) (o id n : ℕ) → Follows is_call t x → WouldStore o id n x → Would t.of o id n
+would_of is_call t (Do call next) o id n f (found, fits, would) = let g = f.1 found fits in let r = would_of is_call g.0 (next found) o id n g.2 would in
+    ⊎_elim (λ same. record { own = r.own; attempt = r.attempt; link = r.link; other = r.other; word = r.word; knows = sym same ∙ r.knows; mine = r.mine; low = r.low; few = r.few; theirs = r.theirs; low_too = r.low_too })
+    (λ none_. absurd (let z : NoCall ≡ Knows o r.own = sym none_ ∙ r.knows in cc)) (goes_of t g.0 call found g.1)
+would_of is_call t (Aside (StoreAt x w) next) o id n f (k, same, is, low) = let own = (f 0 tt).1.1 in
+    record { own = own.0; attempt = own.1; link = own.2; other = k; word = w; knows = own.3 ∙ ap (λ z. Knows z own.0) same; mine = own.4; low = own.5; few = own.6; theirs = is; low_too = low }
+would_of is_call t other o id n f would = absurd would
 
 -- behind seat 0, once it has nothing left to do
 abbrev AreSetUp : Plan → Core → List Moment → Type 0
@@ -108,6 +142,7 @@ module _ (p : Plan) (q : IdPlan) (clients : List (List Task)) (gives : ℕ → L
     pub owns : Owns (run p c ms)
     pub stays : (o id : ℕ) → IsOwn q c o id → IsOwn q (run p c ms) o id
     pub are : (ids : ℕ → ℕ) → AreOf (run p c ms) ids → AreLabelled ids p q c ms × AreRising ids p q c ms
+    pub would : (ids : ℕ → ℕ) → AreOf (run p c ms) ids → AllWouldOwn ids p c ms
 
   module _ (c : Core) (k : Owns c) (ids : ℕ → ℕ) (are : AreOf c ids) where
     stores_own : (m : Moment) → StoresOwn ids c m
@@ -117,6 +152,13 @@ module _ (p : Plan) (q : IdPlan) (clients : List (List Task)) (gives : ℕ → L
         let mine = named_id own.0 own.2 own.1 w own.4 own.5 own.6 (let z = knows.low in omega (arith, z, small)) in let theirs = named_id id l n w same low few slot in
         let one : own.0 ≡ id = sym mine ∙ theirs in (are o own.0 knows ∙ one, (λ z. knows.some_ (one ∙ z)))
 
+    would_own : (m : Moment) → WouldOwn ids c m
+    would_own m seat at o id n few slot would = let t = elem_there c.seats k.trails m.seat seat k.law.each at in
+        let w = would_of is_call t.0 (first_step seat.program) o id n (follows_first is_call t.0 seat.program (k.law.programs m.seat seat t.0 at t.1)) would in
+        let knows : IsOwn q c o w.own = subst (IsTrueOf q c) w.knows (k.law.knows m.seat t.0 t.1) in
+        let mine = named_id w.own w.link w.attempt w.word w.mine w.low w.few (let z = knows.low in omega (arith, z, small)) in let theirs = named_id id w.other n w.word w.theirs w.low_too few slot in
+        are o w.own knows ∙ (sym mine ∙ theirs)
+
     own_rise : (m : Moment) (i : ℕ) → i < q.slots → (d : Core) → Rise (word_of_id c.calls.words i) (word_of_id d.calls.words i) (Unit {0}) (AdvancesAt c m i)
         → Rise (word_of_id c.calls.words i) (word_of_id d.calls.words i) (Unit {0}) (AdvancesId ids c m (call_id i (word_of_id c.calls.words i).first))
     own_rise m i low d (is_new n z) = is_new n z
@@ -125,7 +167,7 @@ module _ (p : Plan) (q : IdPlan) (clients : List (List Task)) (gives : ℕ → L
         let has = are r.0 (call_id i (word_of_id c.calls.words i).first) r.1 in is_more f live a (r.0, (λ z. r.1.some_ (sym has ∙ z)), has, more.2 ∙ ap (λ n. n ∷ []) (sym same))
 
   along : (ms : List Moment) (c : Core) (vs : List View) → AreBoth p q c vs ms → AreAnswered p c ms → AreSetUp p c ms → LeadsTo p q clients gives (run p c ms) → Owns c → Ahead c ms
-  along [] c vs both answered over lead k = record { owns = k; stays = λ o id own. own; are = λ ids a. ((both.id_views, both.ids), tt) }
+  along [] c vs both answered over lead k = record { owns = k; stays = λ o id own. own; are = λ ids a. ((both.id_views, both.ids), tt); would = λ ids a. tt }
   along (m ∷ ms) c vs both answered over lead k =
       let t = own_ticks p q small is_call c vs k.trails k.law both.0.id_views both.0.ids (facts p q clients gives k.posted k.shown c k.story) both.0.sockets m answered.0 both.1.fitting_ids in
       let next : Owns (ticked p c m) = record {
@@ -142,6 +184,7 @@ module _ (p : Plan) (q : IdPlan) (clients : List (List Task)) (gives : ℕ → L
           ((both.0.id_views, both.0.ids), both.1.fitting_ids, stores_own c k ids here m, rest.0),
           (λ i low live. own_rise c k ids here m i low (ticked p c m) (tick_rises p q small c both.0.id_views both.0.ids m i low live), rest.1),
         );
+        would = λ ids a. (would_own c k ids (λ o id own. a o id (r.stays o id (t.2 o id own))) m, r.would ids a);
       }
 
   -- the readers are told that the run is ending
@@ -338,6 +381,15 @@ module _ (script : List Item) (made : AreMade script) (there : AreThere script) 
           record { of_setup = one.0; of_played = two.0; of_closing = three.0; of_final = four.0 },
           record { of_setup = one.1; of_played = two.1; of_closing = three.1; of_final = four.1 },
         )
+
+    -- and so would each attempt do that is refused before it stores one
+    pub would_run : RunWouldOwn (ids_at script core) script turns core is
+    would_run = record {
+      of_setup = setup_goes.would (ids_at script core) (λ o id own. end_are o id (final_goes.stays o id (ended_owns.1 o id (closing_goes.stays o id (begun.1 o id (clients_go.stays o id own))))));
+      of_played = clients_go.would (ids_at script core) (λ o id own. end_are o id (final_goes.stays o id (ended_owns.1 o id (closing_goes.stays o id (begun.1 o id own)))));
+      of_closing = closing_goes.would (ids_at script core) (λ o id own. end_are o id (final_goes.stays o id (ended_owns.1 o id own)));
+      of_final = final_goes.would (ids_at script core) end_are;
+    }
 
   -- the words of the calls are those of calls of the table
   pub words_stored : AreStored (ids_at script core) script core
