@@ -42,3 +42,12 @@ pub mod Scripts
 pub mod Whole
 pub mod Posted
 pub mod Shown
+pub mod Handled
+pub mod HandledStates
+pub mod HandledSteps
+pub mod HandledFacts
+pub mod HandledTicks
+pub mod HandledPosts
+pub mod HandledRuns
+pub mod HandledWhole
+pub mod HandledBehind

@@ -72,7 +72,7 @@ module _ (p : Plan) (q : IdPlan) (clients : List (List Task)) (gives : ℕ → L
   retold : (x y : List Post) (a b : List ℕ) (c : Core) → x ≡ y → ((o : ℕ) → times o a ≡ times o b) → Story x a c → Story y b c
   retold x y a b c are same h = (h.0, h.1, h.2, λ z there. subst (In z) are (h.3 z there), λ o. h.4 o ∙ same o)
 
-  one_tick : (posted : List Post) (shown : List ℕ) (c : Core) (vs : List View) (m : Moment) → BothSound p q c vs → Rattle.joint_runs.proofs.Both.FitsBoth p c m → (m.seat ≢ 0 → (seat : SeatState) → get_elem? c.seats 0 ≡ some seat → seat.program ≡ Rattle.sock_programs.specs.Programs.Rest) → LeadsTo p q clients gives (ticked p c m) → Story posted shown c → Story (posted ++ posted_at c m) (shown ++ advanced_at c m) (ticked p c m)
+  pub one_tick : (posted : List Post) (shown : List ℕ) (c : Core) (vs : List View) (m : Moment) → BothSound p q c vs → Rattle.joint_runs.proofs.Both.FitsBoth p c m → (m.seat ≢ 0 → (seat : SeatState) → get_elem? c.seats 0 ≡ some seat → seat.program ≡ Rattle.sock_programs.specs.Programs.Rest) → LeadsTo p q clients gives (ticked p c m) → Story posted shown c → Story (posted ++ posted_at c m) (shown ++ advanced_at c m) (ticked p c m)
   one_tick posted shown c vs m both fits over lead h = (
     posted_at c m ++ h.0,
     advanced_at c m ++ h.1,
@@ -140,39 +140,39 @@ module _ (p : Plan) (q : IdPlan) (clients : List (List Task)) (gives : ℕ → L
 
 module _ (script : List Item) (made : AreMade script) (gives : ℕ → List ℕ) (numbered : AreNumbered (plan_of script) (id_plan_of script) (all_tasks script) gives) (slots : HaveSlots (plan_of script) (id_plan_of script) (all_tasks script) gives) (fit : Begins (plan_of script) (id_plan_of script) (all_tasks script) gives numbered slots (opens script))
     (turns : List Turn) (core : Core) (is : IsRunWithCalls script turns core) (leads : LeadsTo (plan_of script) (id_plan_of script) (all_tasks script) gives core) where
-  abbrev Tale : List Post → List ℕ → Core → Type 0
+  abbrev pub Tale : List Post → List ℕ → Core → Type 0
   Tale posted shown c = (ps : List Post) × (ns : List ℕ) × HasStory (plan_of script) (id_plan_of script) (all_tasks script) gives ps ns c × ((x : Post) → In x ps → In x posted) × ((o : ℕ) → times o ns ≡ times o shown)
 
   -- the calls whose attempts the ticks of each part of the run advance
-  abbrev in_setup : List ℕ
+  abbrev pub in_setup : List ℕ
   in_setup = shows_in advanced_at (plan_of script) (opened script) (replicate is.setup (quiet 0))
 
-  abbrev in_clients : List ℕ
+  abbrev pub in_clients : List ℕ
   in_clients = shows_in advanced_at (plan_of script) (set_up script is.setup) (is.scheduled ++ is.later)
 
-  abbrev in_closing : List ℕ
+  abbrev pub in_closing : List ℕ
   in_closing = shows_in advanced_at (plan_of script) (ending script (played script is.setup (is.scheduled ++ is.later))) (replicate is.last (quiet 0))
 
   abbrev in_final : List ℕ
   in_final = shows_in advanced_at (plan_of script) is.ended is.final
 
   -- and the errors that ids take in them
-  abbrev posts_in_setup : List Post
+  abbrev pub posts_in_setup : List Post
   posts_in_setup = shows_in posted_at (plan_of script) (opened script) (replicate is.setup (quiet 0))
 
-  abbrev posts_in_clients : List Post
+  abbrev pub posts_in_clients : List Post
   posts_in_clients = shows_in posted_at (plan_of script) (set_up script is.setup) (is.scheduled ++ is.later)
 
-  abbrev posts_in_closing : List Post
+  abbrev pub posts_in_closing : List Post
   posts_in_closing = shows_in posted_at (plan_of script) (ending script (played script is.setup (is.scheduled ++ is.later))) (replicate is.last (quiet 0))
 
   abbrev posts_in_final : List Post
   posts_in_final = shows_in posted_at (plan_of script) is.ended is.final
 
-  abbrev small : (id_plan_of script).slots ≤ 65536
+  abbrev pub small : (id_plan_of script).slots ≤ 65536
   small = narrow (plan_of script) (id_plan_of script) (all_tasks script) (calls script) (opens script) made
 
-  sound_run : IsSoundRun script turns core is
+  pub sound_run : IsSoundRun script turns core is
   sound_run = joint_runs script turns core is made
 
   abbrev all : List Program
@@ -189,22 +189,22 @@ module _ (script : List Item) (made : AreMade script) (gives : ℕ → List ℕ)
       at_place (y ∷ ys) zero go at = subst (IdGoesOn (plan_of script) (id_plan_of script) newcomer) (some-injective y x at) go.0
       at_place (y ∷ ys) (suc i) go at = at_place ys i go.1 at
 
-  abbrev views_set_up : List View
+  abbrev pub views_set_up : List View
   views_set_up = views_along (plan_of script) (opened script) (first_views script) (replicate is.setup (quiet 0))
 
   opened_ahead : IsAhead (opened script)
   opened_ahead = beginning_ahead (plan_of script) (id_plan_of script) (all_programs (programs (sizes_of (plan_of script) (id_plan_of script)) (all_tasks script)) (readers_from (calls script) 0 (opens script)))
 
-  set_up_ahead : IsAhead (set_up script is.setup)
+  pub set_up_ahead : IsAhead (set_up script is.setup)
   set_up_ahead = run_ahead (plan_of script) (opened script) (replicate is.setup (quiet 0)) opened_ahead
 
   played_ahead : IsAhead (played script is.setup (is.scheduled ++ is.later))
   played_ahead = run_ahead (plan_of script) (set_up script is.setup) (is.scheduled ++ is.later) set_up_ahead
 
-  ending_ahead : IsAhead (ending script (played script is.setup (is.scheduled ++ is.later)))
+  pub ending_ahead : IsAhead (ending script (played script is.setup (is.scheduled ++ is.later)))
   ending_ahead = let c = played script is.setup (is.scheduled ++ is.later) in seat_ahead c 0 (ending_of (opens script)) [] c.words c.homes played_ahead
 
-  ended_ahead : IsAhead is.ended
+  pub ended_ahead : IsAhead is.ended
   ended_ahead = subst IsAhead (sym is.is_ended) (run_ahead (plan_of script) (ending script (played script is.setup (is.scheduled ++ is.later))) (replicate is.last (quiet 0)) ending_ahead)
 
   -- no seat has an outcome to say before its next step at the end
@@ -231,31 +231,31 @@ module _ (script : List Item) (made : AreMade script) (gives : ℕ → List ℕ)
   told_leads : Leads (is_ending (run (plan_of script) (ending script (played script is.setup (is.scheduled ++ is.later))) (replicate is.last (quiet 0))))
   told_leads = subst Leads is.is_ended ended_leads
 
-  closed_leads : Leads (run (plan_of script) (ending script (played script is.setup (is.scheduled ++ is.later))) (replicate is.last (quiet 0)))
+  pub closed_leads : Leads (run (plan_of script) (ending script (played script is.setup (is.scheduled ++ is.later))) (replicate is.last (quiet 0)))
   closed_leads = λ k. told_leads k
 
   ending_leads : Leads (ending script (played script is.setup (is.scheduled ++ is.later)))
   ending_leads = run_leads (plan_of script) (id_plan_of script) (all_tasks script) gives (replicate is.last (quiet 0)) (ending script (played script is.setup (is.scheduled ++ is.later))) closed_leads
 
-  played_leads : Leads (played script is.setup (is.scheduled ++ is.later))
+  pub played_leads : Leads (played script is.setup (is.scheduled ++ is.later))
   played_leads = λ k. ending_leads k
 
-  set_up_leads : Leads (set_up script is.setup)
+  pub set_up_leads : Leads (set_up script is.setup)
   set_up_leads = run_leads (plan_of script) (id_plan_of script) (all_tasks script) gives (is.scheduled ++ is.later) (set_up script is.setup) played_leads
 
   opened_leads : Leads (opened script)
   opened_leads = run_leads (plan_of script) (id_plan_of script) (all_tasks script) gives (replicate is.setup (quiet 0)) (opened script) set_up_leads
 
-  first_tale : Tale [] [] (opened script)
+  pub first_tale : Tale [] [] (opened script)
   first_tale = ([], [], first_story (plan_of script) (id_plan_of script) (all_tasks script) gives numbered slots (calls script) (opens script) fit made.seats length_is few_tries opened_leads, (λ x there. there), λ o. refl)
 
-  set_up_tale : Tale posts_in_setup in_setup (set_up script is.setup)
+  pub set_up_tale : Tale posts_in_setup in_setup (set_up script is.setup)
   set_up_tale = setup_story (plan_of script) (id_plan_of script) (all_tasks script) gives numbered slots small is.setup [] [] (opened script) (first_views script) (let s = sound_run in s.setup) set_up_leads first_tale
 
   played_tale : Tale (posts_in_setup ++ posts_in_clients) (in_setup ++ in_clients) (played script is.setup (is.scheduled ++ is.later))
   played_tale = played_story (plan_of script) (id_plan_of script) (all_tasks script) gives numbered slots small (is.scheduled ++ is.later) posts_in_setup in_setup (set_up script is.setup) views_set_up (let s = sound_run in s.clients) set_up_ahead is.is_set_up played_leads set_up_tale
 
-  ending_tale : Tale (posts_in_setup ++ posts_in_clients) (in_setup ++ in_clients) (ending script (played script is.setup (is.scheduled ++ is.later)))
+  pub ending_tale : Tale (posts_in_setup ++ posts_in_clients) (in_setup ++ in_clients) (ending script (played script is.setup (is.scheduled ++ is.later)))
   ending_tale = let s = sound_run in ending_story (plan_of script) (id_plan_of script) (all_tasks script) gives numbered slots small (opens script) (posts_in_setup ++ posts_in_clients) (in_setup ++ in_clients) (played script is.setup (is.scheduled ++ is.later)) (views_along (plan_of script) (set_up script is.setup) views_set_up (is.scheduled ++ is.later))
       (behind_both (plan_of script) (id_plan_of script) (set_up script is.setup) views_set_up (is.scheduled ++ is.later) s.clients) (let seats = made.seats in omega (arith, many_played, seats)) played_ahead
       (run_rests (plan_of script) (set_up script is.setup) (is.scheduled ++ is.later) 0 is.is_set_up) ending_leads played_tale
@@ -263,7 +263,7 @@ module _ (script : List Item) (made : AreMade script) (gives : ℕ → List ℕ)
   closed_tale : Tale ((posts_in_setup ++ posts_in_clients) ++ posts_in_closing) ((in_setup ++ in_clients) ++ in_closing) (run (plan_of script) (ending script (played script is.setup (is.scheduled ++ is.later))) (replicate is.last (quiet 0)))
   closed_tale = setup_story (plan_of script) (id_plan_of script) (all_tasks script) gives numbered slots small is.last (posts_in_setup ++ posts_in_clients) (in_setup ++ in_clients) (ending script (played script is.setup (is.scheduled ++ is.later))) (views_played script turns core is (first_views script)) (let s = sound_run in s.closing) closed_leads ending_tale
 
-  ended_tale : Tale ((posts_in_setup ++ posts_in_clients) ++ posts_in_closing) ((in_setup ++ in_clients) ++ in_closing) is.ended
+  pub ended_tale : Tale ((posts_in_setup ++ posts_in_clients) ++ posts_in_closing) ((in_setup ++ in_clients) ++ in_closing) is.ended
   ended_tale = let s = sound_run in subst (Tale ((posts_in_setup ++ posts_in_clients) ++ posts_in_closing) ((in_setup ++ in_clients) ++ in_closing)) (sym is.is_ended) (told_on (plan_of script) (id_plan_of script) (all_tasks script) gives numbered slots small ((posts_in_setup ++ posts_in_clients) ++ posts_in_closing) ((in_setup ++ in_clients) ++ in_closing) (run (plan_of script) (ending script (played script is.setup (is.scheduled ++ is.later))) (replicate is.last (quiet 0))) (views_closed script turns core is (first_views script))
       (behind_both (plan_of script) (id_plan_of script) (ending script (played script is.setup (is.scheduled ++ is.later))) (views_played script turns core is (first_views script)) (replicate is.last (quiet 0)) s.closing) (let seats = made.seats in omega (arith, many_closed, seats)) told_leads closed_tale)
 

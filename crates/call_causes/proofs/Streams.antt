@@ -249,3 +249,45 @@ faults_behind (suc n) at xs ys r room is x = by_judged (judged xs) refl is
 
 pub faults_follow : (xs ys : List ℕ) (r : ℕ) → (stream xs).ending ≡ Rest r → HasFault (last_of r xs ++ ys) → HasFault (xs ++ ys)
 faults_follow xs ys r is x = faults_behind (suc (length xs)) 0 xs ys r (omega arith) is x
+
+-- ## The frames as a whole
+
+-- behind a rest they are those before it, and those that begin with it
+frames_behind : (n at : ℕ) (xs ys : List ℕ) (r : ℕ) → length xs < n → (stream_up_to n at xs).ending ≡ Rest r → (stream_from at (xs ++ ys)).frames ≡ (stream_up_to n at xs).frames ++ (stream_from 0 (last_of r xs ++ ys)).frames
+frames_behind zero at xs ys r room is = absurd (omega (arith, room))
+frames_behind (suc n) at xs ys r room is = by_judged (judged xs) refl is
+    (λ body g e later. frames_behind n (at + (12 + body)) (drop (12 + body) xs) ys r (left_short xs g body n e room) later
+    ∙ ap (λ l. (stream_up_to n (at + (12 + body)) (drop (12 + body) xs)).frames ++ (stream_from 0 (l ++ ys)).frames) (sym (last_same body g e (rest_low n (at + (12 + body)) (drop (12 + body) xs) r later))))
+  where
+    last_same : (body : ℕ) (g : Frame) → judged xs ≡ Begins g body → r ≤ length (drop (12 + body) xs) → last_of r xs ≡ last_of r (drop (12 + body) xs)
+    last_same body g e low = let l : length (drop (12 + body) xs) ≡ length xs - (12 + body) = length-drop (12 + body) xs in let b = (begins_facts xs g body e).2 in
+        let k : length xs - r ≡ (12 + body) + (length (drop (12 + body) xs) - r) = omega (arith, l, b, low) in
+        ap (λ m. drop m xs) k ∙ sym (drop-drop (length (drop (12 + body) xs) - r) (12 + body) xs)
+
+    by_judged : (x : Judged) → judged xs ≡ x → (goes_on at xs x (λ body. stream_up_to n (at + (12 + body)) (drop (12 + body) xs))).ending ≡ Rest r
+        → ((body : ℕ) (g : Frame) → judged xs ≡ Begins g body → (stream_up_to n (at + (12 + body)) (drop (12 + body) xs)).ending ≡ Rest r
+        → (stream_from (at + (12 + body)) (drop (12 + body) xs ++ ys)).frames ≡ (stream_up_to n (at + (12 + body)) (drop (12 + body) xs)).frames ++ (stream_from 0 (last_of r xs ++ ys)).frames)
+        → (stream_from at (xs ++ ys)).frames ≡ (goes_on at xs x (λ body. stream_up_to n (at + (12 + body)) (drop (12 + body) xs))).frames ++ (stream_from 0 (last_of r xs ++ ys)).frames
+    by_judged NoneYet e is again = let w : length xs ≡ r = cc in let all : length xs - r ≡ 0 = omega (arith, w) in
+        anywhere (suc (length (xs ++ ys))) at 0 (xs ++ ys) ∙ ap (λ m. (stream_from 0 (drop m xs ++ ys)).frames) (sym all)
+    by_judged (Faulty fault) e is again = absurd (let w : Fault at fault ≡ Rest r = is in cc)
+    by_judged (Begins g body) e is again = begins_more at xs ys g body e ∙ ap (λ l. g ∷ l) (again body g e is)
+
+pub frames_behind_rest : (xs ys : List ℕ) (r : ℕ) → (stream xs).ending ≡ Rest r → (stream (xs ++ ys)).frames ≡ (stream xs).frames ++ (stream (last_of r xs ++ ys)).frames
+frames_behind_rest xs ys r is = frames_behind (suc (length xs)) 0 xs ys r (omega arith) is
+
+-- behind a fault there are none
+frames_before : (n at : ℕ) (xs ys : List ℕ) → length xs < n → IsFaulty (stream_up_to n at xs).ending → (stream_from at (xs ++ ys)).frames ≡ (stream_up_to n at xs).frames
+frames_before zero at xs ys room x = absurd (omega (arith, room))
+frames_before (suc n) at xs ys room x = by_judged (judged xs) refl x (λ body g is later. frames_before n (at + (12 + body)) (drop (12 + body) xs) ys (left_short xs g body n is room) later)
+  where
+    by_judged : (j : Judged) → judged xs ≡ j → IsFaulty (goes_on at xs j (λ body. stream_up_to n (at + (12 + body)) (drop (12 + body) xs))).ending
+        → ((body : ℕ) (g : Frame) → judged xs ≡ Begins g body → IsFaulty (stream_up_to n (at + (12 + body)) (drop (12 + body) xs)).ending
+        → (stream_from (at + (12 + body)) (drop (12 + body) xs ++ ys)).frames ≡ (stream_up_to n (at + (12 + body)) (drop (12 + body) xs)).frames)
+        → (stream_from at (xs ++ ys)).frames ≡ (goes_on at xs j (λ body. stream_up_to n (at + (12 + body)) (drop (12 + body) xs))).frames
+    by_judged NoneYet is x again = absurd (let w : Rest (length xs) ≡ Fault x.0 x.1 = x.2 in cc)
+    by_judged (Faulty fault) is x again = ap (λ (s : Stream). s.frames) (faulty at xs ys fault is)
+    by_judged (Begins g body) is x again = begins_more at xs ys g body is ∙ ap (λ l. g ∷ l) (again body g is x)
+
+pub frames_before_fault : (xs ys : List ℕ) → HasFault xs → (stream (xs ++ ys)).frames ≡ (stream xs).frames
+frames_before_fault xs ys x = frames_before (suc (length xs)) 0 xs ys (omega arith) x

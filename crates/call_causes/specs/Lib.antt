@@ -4,3 +4,4 @@ pub mod Scenes
 pub mod Says
 pub mod Stories
 pub mod Posts
+pub mod Decided

@@ -10,9 +10,9 @@ use Rattle.sock_causes.specs.Stories.{In}
 use Rattle.joint_runs.proofs.Runs.{AreMade}
 use Rattle.owed_calls.specs.Lives.{ClosesInRun}
 use Rattle.call_causes.specs.Posts.{Post, posts_of_run}
-use Rattle.send_causes.specs.Refused.{Deed, DidInRun, DidLate, PostKind, ByReader, ByExpiry, ByRefusal, ByDrop}
+use Rattle.send_causes.specs.Refused.{Deed, DidInRun, DidEarly, DidLate, PostKind, ByReader, ByExpiry, ByRefusal, ByDrop}
 use Rattle.send_causes.proofs.DropOfRun.{DropOf, drop_of_run}
-use Rattle.send_causes.proofs.RefusedWhole.{DidBefore, KindOfPost, kinds_of_run}
+use Rattle.send_causes.proofs.RefusedWhole.{KindOfPost, kinds_of_run}
 
 all_more : (P Q : Deed → Type 0) → ((d : Deed) → P d → Q d) → (ds : List Deed) → AllByRecursion P ds → AllByRecursion Q ds
 all_more P Q f [] a = tt
@@ -35,8 +35,8 @@ module _ (script : List Item) (made : AreMade script) (turns : List Turn) (core 
   by_kind Did f x (ByRefusal seat n code deeds low did refusal gone error) = inr (ByRefusal seat n code deeds low did refusal gone error, tt)
 
   -- what was done before the run was ending, or behind that
-  pub posts_by_drops : (x : Post) → In x (posts_of_run script turns core is) → DropOf script made turns core is closes x ⊎ (Others (DidBefore script made turns core is closes) x ⊎ Others (DidLate script turns core is) x)
+  pub posts_by_drops : (x : Post) → In x (posts_of_run script turns core is) → DropOf script made turns core is closes x ⊎ (Others (DidEarly script turns core is) x ⊎ Others (DidLate script turns core is) x)
   posts_by_drops x at = ⊎_elim
-      (λ k. ⊎_elim (λ d. inl d) (λ o. inr (inl o)) (by_kind (DidBefore script made turns core is closes) (λ j d. ⊎_elim (λ early. inl early) (λ closing. inr (inl closing))) x k))
+      (λ k. ⊎_elim (λ d. inl d) (λ o. inr (inl o)) (by_kind (DidEarly script turns core is) (λ j d early. inl early) x k))
       (λ k. ⊎_elim (λ d. inl d) (λ o. inr (inr o)) (by_kind (DidLate script turns core is) (λ j d late. inr (inr late)) x k))
       (kinds_of_run script made turns core is closes x at)

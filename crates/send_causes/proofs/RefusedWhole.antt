@@ -27,7 +27,7 @@ use Rattle.sock_programs.specs.Programs.{Program, Do, Say, Sent, Rest, TakeMessa
 use Rattle.sock_programs.specs.Rounds.{round}
 use Rattle.sock_programs.specs.Runs.{IsAtRest}
 use Rattle.sock_programs.specs.Sends.{block}
-use Rattle.sock_programs.specs.Cores.{Core, SeatState}
+use Rattle.sock_programs.specs.Cores.{Core, SeatState, waiting_at}
 use Rattle.sock_programs.specs.Ticks.{Answer, Unasked, OfPut, OfReady, OfTake, Moment, IsPrompt, waits, waits_at, quiet, ticked, run, taken, with_message, with_link, with_put, with_ready, with_found, step_with, tick_with}
 use Rattle.sock_programs.specs.Tasks.{opens, calls, plan_of, id_plan_of}
 use Rattle.sock_programs.specs.Scripts.{sizes_of, programs, readers_from, all_programs, all_tasks, opened, set_up, played, is_ending, IsRunWithCalls}
@@ -45,13 +45,14 @@ use Rattle.owed_calls.specs.Lives.{ClosesInRun}
 use Rattle.call_causes.specs.Lists.{shows_in}
 use Rattle.call_causes.specs.Posts.{Post, posted_at, posts_of_run}
 use Rattle.send_causes.specs.Counts.{times_of, TrialFits}
-use Rattle.send_causes.specs.Refused.{Deed, Charge, NoCharge, IsRefused, HasDropped, Doing, idle, trial_in, Charges, DidAt, DidIn, DidEarly, DidClosing, DidLate, IsSpent, ChargeFits, ChargeLaw, PostKind, RunWouldOwn}
+use Rattle.send_causes.specs.Refused.{Deed, Charge, NoCharge, IsRefused, HasDropped, Doing, idle, trial_in, Charges, DidAt, DidIn, DidEarly, DidLate, IsSpent, ChargeFits, ChargeLaw, PostKind, RunWouldOwn}
 use Rattle.send_causes.proofs.Early.{start, go, fitting}
 use Rattle.send_causes.proofs.Labelled.{ids_of_run, run_would_own}
 use Rattle.send_causes.proofs.Rests.{still}
 use Rattle.send_causes.proofs.Runs.{AreLabelledIn, IsCallOf, Lawful_, asked_by, behind_ids}
 use Rattle.send_causes.proofs.Runs as labels
 use Rattle.send_causes.proofs.Sends.{narrow, few_clients, labelled, opening_claims}
+use Rattle.send_causes.proofs.RefusedClosing.{OnSockets, ending_goes as on_sockets, alone, set_first, none_closing}
 use Rattle.send_causes.proofs.RefusedLoops.{bare}
 use Rattle.send_causes.proofs.RefusedPosts.{kind_more}
 use Rattle.send_causes.proofs.RefusedPrograms.{ending_goes}
@@ -385,24 +386,28 @@ module _ (script : List Item) (made : AreMade script) (turns : List Turn) (core 
 
   -- ## The kinds of all posts
 
-  -- what was done for it was done before the run was ending
-  abbrev pub DidBefore : ℕ → Deed → Type 0
-  DidBefore j d = DidEarly script turns core is j d ⊎ DidClosing script turns core is j d
-
   abbrev pub KindOfPost : (ℕ → Deed → Type 0) → Post → Type 0
   KindOfPost Did x = PostKind (plan_of script).requests (IsCallOf script) own_ids Did IsGone x
 
   more : (Did Done : ℕ → Deed → Type 0) (Spent : ℕ → ℕ → Type 0) → ((j : ℕ) (d : Deed) → Did j d → Done j d) → ((id n : ℕ) → Spent id n → IsGone id n) → (x : Post) → PostKind (plan_of script).requests (IsCallOf script) own_ids Did Spent x → KindOfPost Done x
   more Did Done Spent f g x k = kind_more (plan_of script).requests (IsCallOf script) own_ids Did Done Spent IsGone f g x k
 
-  pub kinds_of_run : (x : Post) → In x (posts_of_run script turns core is) → KindOfPost DidBefore x ⊎ KindOfPost (DidLate script turns core is) x
+  -- no error is posted while seat 0 closes what was opened
+  closing_none : (x : Post) → In x (shows_in posted_at (plan_of script) (closing_of script turns core is) (replicate is.last (quiet 0))) → ⊥
+  closing_none x at = none_closing (plan_of script) is.last (closing_of script turns core is)
+      (let seat = at_there rested.seats 0 many in (_, set_first rested.seats seat.0 _ seat.1, subst OnSockets (sym (alone (waiting_at rested.calls.waiting 0) (ending_of (opens script)) (on_sockets (opens script)))) (on_sockets (opens script)))) x at
+    where
+      many : 0 < length (played script is.setup (is.scheduled ++ is.later)).seats
+      many = let m = Rattle.send_causes.proofs.Rests.many script made turns core is in omega (arith, m)
+
+  pub kinds_of_run : (x : Post) → In x (posts_of_run script turns core is) → KindOfPost (DidEarly script turns core is) x ⊎ KindOfPost (DidLate script turns core is) x
   unfolding last_doings
   kinds_of_run x at = ⊎_elim
-      (λ a. inl (more DidSetup DidBefore _ (λ j d. ⊎_elim (λ z. absurd z) (λ y. inl (inl y))) from_set_up x (setup_runs.kinds x a)))
+      (λ a. inl (more DidSetup (DidEarly script turns core is) _ (λ j d. ⊎_elim (λ z. absurd z) (λ y. inl y)) from_set_up x (setup_runs.kinds x a)))
       (λ rest. ⊎_elim
-      (λ a. inl (more DidPlay DidBefore _ (λ j d. ⊎_elim (λ z. ⊎_elim (λ w. absurd w) (λ y. inl (inl y)) z) (λ y. inl (inr y))) from_played x (played_runs.kinds x a)))
+      (λ a. inl (more DidPlay (DidEarly script turns core is) _ (λ j d. ⊎_elim (λ z. ⊎_elim (λ w. absurd w) (λ y. inl y) z) (λ y. inr y)) from_played x (played_runs.kinds x a)))
       (λ rest. ⊎_elim
-      (λ a. inl (more DidClose DidBefore _ (λ j d. ⊎_elim (λ z. ⊎_elim (λ w. ⊎_elim (λ v. absurd v) (λ y. inl (inl y)) w) (λ y. inl (inr y)) z) (λ y. inr y)) from_closed x (closing_runs.kinds x a)))
+      (λ a. absurd (closing_none x a))
       (λ a. inr (more (λ j d. Nothing j d ⊎ DidIn (plan_of script) is.ended is.final j d) (DidLate script turns core is) (Gone (run (plan_of script) is.ended is.final) end_views final_runs.doings) (λ j d. ⊎_elim (λ z. absurd z) (λ y. y))
       (λ id n y. subst (λ c. Gone c end_views final_runs.doings id n) (sym is.is_end) y) x (final_runs.kinds x a)))
       (in_both (shows_in posted_at (plan_of script) (closing_of script turns core is) (replicate is.last (quiet 0))) (shows_in posted_at (plan_of script) is.ended is.final) x rest))

@@ -23,9 +23,9 @@ use Rattle.send_causes.proofs.Early.{start, go, fitting}
 use Rattle.send_causes.proofs.Sends.{owed}
 use Rattle.send_causes.proofs.Whole.{quiet_there}
 use Rattle.send_causes.proofs.RefusedMeans.{IsSo, run_keeps, run_so}
-use Rattle.send_causes.proofs.RefusedWhole.{DidBefore, end_views}
+use Rattle.send_causes.proofs.RefusedWhole.{end_views}
 
-all_in : (P : Deed → Type 0) (ds : List Deed) (d : Deed) → AllByRecursion P ds → In d ds → P d
+pub all_in : (P : Deed → Type 0) (ds : List Deed) (d : Deed) → AllByRecursion P ds → In d ds → P d
 all_in P [] d all m = absurd m
 all_in P (x ∷ ds) d all (inl e) = subst P (sym e) all.0
 all_in P (x ∷ ds) d all (inr m) = all_in P ds d all.1 m
@@ -51,7 +51,7 @@ module _ (script : List Item) (made : AreMade script) (turns : List Turn) (core 
 
   -- ## What was done before the ending
 
-  early_so : (j : ℕ) (d : Deed) → DidEarly script turns core is j d → IsSo (plan_of script) rested rested_views d
+  pub early_so : (j : ℕ) (d : Deed) → DidEarly script turns core is j d → IsSo (plan_of script) rested rested_views d
   early_so j d (inl x) = run_keeps (plan_of script) (go script made turns core is) (is.scheduled ++ is.later) (set_up script is.setup) set_views
       (set_up_sound script made.are (first_views script) (start script made turns core is) (go script made turns core is) turns core is (fitting script made turns core is)) is.answered (fitting script made turns core is).of_played d
       (run_so (plan_of script) (go script made turns core is) (replicate is.setup (quiet 0)) (opened script) (first_views script) (start script made turns core is).sound
@@ -91,13 +91,11 @@ module _ (script : List Item) (made : AreMade script) (turns : List Turn) (core 
 
   -- ## In the end
 
-  before_so : (j : ℕ) (d : Deed) → DidBefore script made turns core is closes j d → IsSo (plan_of script) core (end_views script made turns core is closes) d
-  before_so j d (inl x) = from_closed d (run_keeps (plan_of script) (go script made turns core is) (replicate is.last (quiet 0)) (closing_of script turns core is) rested_views close_sound
+  pub before_so : (j : ℕ) (d : Deed) → DidEarly script turns core is j d → IsSo (plan_of script) core (end_views script made turns core is closes) d
+  before_so j d x = from_closed d (run_keeps (plan_of script) (go script made turns core is) (replicate is.last (quiet 0)) (closing_of script turns core is) rested_views close_sound
       (end_answered script made.are (first_views script) (start script made turns core is) (go script made turns core is) turns core is (fitting script made turns core is)) (fitting script made turns core is).of_closing d (begin_keeps d (early_so j d x)))
-  before_so j d (inr x) = from_closed d (run_so (plan_of script) (go script made turns core is) (replicate is.last (quiet 0)) (closing_of script turns core is) rested_views close_sound
-      (end_answered script made.are (first_views script) (start script made turns core is) (go script made turns core is) turns core is (fitting script made turns core is)) (fitting script made turns core is).of_closing j d x)
 
-  late_so : (j : ℕ) (d : Deed) → DidLate script turns core is j d → IsSo (plan_of script) core (end_views script made turns core is closes) d
+  pub late_so : (j : ℕ) (d : Deed) → DidLate script turns core is j d → IsSo (plan_of script) core (end_views script made turns core is closes) d
   late_so j d x = subst (λ c. IsSo (plan_of script) c (end_views script made turns core is closes) d) (sym is.is_end) (run_so (plan_of script) (go script made turns core is) is.final is.ended closed_views
       (closed_sound script made.are (first_views script) (start script made turns core is) (go script made turns core is) turns core is (fitting script made turns core is)) is.answered_again (fitting script made turns core is).of_final j d x)
 

@@ -1,0 +1,427 @@
+-- Each tick keeps that the message of an attempt is over the link of a socket that was found under its name.
+use Rattle.std.proofs.Common.{◌≡◌, ◌≢◌, ℕ, ◌+◌, ◌-◌, ◌%◌, ◌≤◌, ◌==◌, inl, inr, ⊎_elim, Bool, true, false, cond, nat_lt, List, [], ◌∷◌, ◌++◌, length-set, set, refl, sym, ap, ◌∙◌, subst, arith, eq-eqb}
+use Rattle.std.specs.List.{AllByRecursion}
+use Rattle.std.specs.Prelude as std
+use Rattle.std.proofs.lemmas.Bool.{true≢false}
+use mathlib.Core.Option.{Option, some, none, some-injective, some-ne-none}
+use lib.ListN.{get_elem?}
+use Rattle.atomic_table.proofs.Lists.{at_set, set_again}
+use Rattle.sock_words.specs.declared.plain.Plan.{Plan}
+use Rattle.sock_words.specs.Words.{socket_id_slot, socket_id_version}
+use Rattle.sock_model.specs.declared.chain.Right.{Right}
+use Rattle.sock_model.specs.declared.chain.Heading.{Heading}
+use Rattle.sock_model.specs.declared.chain.Claim.{Claim}
+use Rattle.sock_model.specs.declared.chain.Entry.{Entry}
+use Rattle.sock_model.specs.declared.home.Home.{Home}
+use Rattle.sock_model.specs.declared.view.View.{View}
+use Rattle.sock_model.specs.declared.view.Hand.{Hand}
+use Rattle.sock_model.specs.ChainRows.{with_claim, entry_of, more, queued, righted, taken_right}
+use Rattle.sock_model.specs.Memory.{IDLE}
+use Rattle.sock_model.specs.SlotRows.{met_link}
+use Rattle.corr_core.specs.declared.marks.Plan.{Plan as IdPlan}
+use Rattle.id_runs.specs.Held.{IdView, MayId}
+use Rattle.id_runs.specs.Goes.{FitsRetryId, FitsSock, FindsId, IdGoesOn, SoundIds, FitsFirst, IsFittingIds}
+use Rattle.id_runs.specs.Goes as goes
+use Rattle.id_runs.proofs.Steps.{finds_ids}
+use Rattle.id_runs.proofs.Loops.{ids_round}
+use Rattle.id_runs.proofs.Programs as id_programs
+use Rattle.sock_programs.specs.Asides.{Step, Found, PutCall, MakeId, StoreCall, StoreAt, UnlockId, TakeCall, TakeBytes, Taking, Bytes}
+use Rattle.sock_message.specs.Asked.{Asked, name_of}
+use Rattle.sock_programs.specs.Beside.{found_in, calls_after, call_at, more_given}
+use Rattle.sock_programs.specs.Calls.{Call, StoreName, LoadName, ClaimRequest, PutMessage, Unconnect, SwapHead}
+use Rattle.sock_programs.specs.Heads.{Retry}
+use Rattle.sock_programs.specs.Programs.{Program, Do, Say, Sent, Rest, TakeMessage, TakeHome, PutHome, PutBytes, AskReady, Write, Aside, Round, Keep, Retries}
+use Rattle.sock_programs.specs.Cores.{Calls, Core, SeatState, word_of, found_at, words_after, word_after, homes_after, hand_after, lies_at, first_of, others_of, link_place, resolved, waiting_at, next_step, with_seat, stepped}
+use Rattle.sock_programs.specs.declared.task.Task.{Task}
+use Rattle.sock_programs.specs.Ticks.{Moment, IsAnswered, fed, with_places, onto_first, taken, ticked}
+use Rattle.sock_runs.specs.May.{May}
+use Rattle.sock_runs.specs.Rows.{row, hand_at, new_claim, filled_claim, ready_claim, by_claim, exchanged, took_message, link_away, link_home_again, took_bytes}
+use Rattle.sock_runs.specs.Sound.{Sound, first_step, views_after}
+use Rattle.sock_runs.proofs.Cases.{with_rights, right_rights, put_rights}
+use Rattle.sock_causes.specs.Causes.{WasGiven}
+use Rattle.sock_causes.specs.Kept.{Story}
+use Rattle.sock_causes.specs.Stories.{Event, In, last_name}
+use Rattle.sock_causes.proofs.Cases.{tick_cases}
+use Rattle.sock_causes.proofs.Events.{event, marked_given, given_by, last_some}
+use Rattle.sock_causes.proofs.Means.{held_given}
+use Rattle.sock_causes.proofs.Tests.{split}
+use Rattle.sock_causes.proofs.Ticks.{elem_there}
+use Rattle.label_runs.specs.Labels.{FindsLabel}
+use Rattle.send_causes.proofs.Words.{finds_label}
+use Rattle.send_causes.proofs.Ticks.{AreCalls, none_asked, calls_waiting}
+use Rattle.send_causes.proofs.Views.{row_same}
+use Rattle.send_causes.proofs.AttemptedTrails.{Trail, lost, Stays, MayAttempt, GoesDo, GoesAside, Follows}
+use Rattle.send_causes.proofs.AttemptedLoops.{follows_round}
+use Rattle.send_causes.proofs.AttemptedPrograms.{block_goes, retry_goes}
+
+-- ## First steps
+
+pub follows_first : (is_call : Asked → Type 0) (t : Trail) (program : Program) → Follows is_call t program → Follows is_call t (first_step program)
+follows_first is_call t (Write w after) g = block_goes is_call t w after g
+follows_first is_call t (Round head next) g = follows_round is_call t head next g
+follows_first is_call t (Do call next) g = g
+follows_first is_call t (Say o outcome next) g = g
+follows_first is_call t (Sent o next) g = g
+follows_first is_call t Rest g = g
+follows_first is_call t (TakeMessage q next) g = g
+follows_first is_call t (TakeHome k next) g = g
+follows_first is_call t (PutHome k n after) g = g
+follows_first is_call t (PutBytes k asked bytes next) g = g
+follows_first is_call t (AskReady k next) g = g
+follows_first is_call t (Aside step next) g = g
+follows_first is_call t (Keep r next) g = g
+follows_first is_call t (Retries requests after) g = g
+
+pub ids_first : (p : Plan) (q : IdPlan) → q.slots ≤ 65536 → (u : IdView) (program : Program) → IdGoesOn p q u program → IdGoesOn p q u (first_step program)
+ids_first p q narrow u (Write w after) g = id_programs.block_goes p q narrow u w after g
+ids_first p q narrow u (Round head next) g = ids_round p q u head next g
+ids_first p q narrow u (Do call next) g = g
+ids_first p q narrow u (Say o outcome next) g = g
+ids_first p q narrow u (Sent o next) g = g
+ids_first p q narrow u Rest g = g
+ids_first p q narrow u (TakeMessage r next) g = g
+ids_first p q narrow u (TakeHome k next) g = g
+ids_first p q narrow u (PutHome k n after) g = g
+ids_first p q narrow u (PutBytes k asked bytes next) g = g
+ids_first p q narrow u (AskReady k next) g = g
+ids_first p q narrow u (Aside step next) g = g
+ids_first p q narrow u (Keep r next) g = g
+ids_first p q narrow u (Retries requests after) g = g
+
+-- what is found of a step on the sockets
+pub fits_as : (p : Plan) (c : Core) (program : Program) (call : Call) (next : ℕ → Program) → first_step program ≡ Do call next → FitsFirst p c (goes.first_of program) → FitsSock call (found_at c.words (word_of p call))
+fits_as p c program call next e f = by program e f
+  where
+    by : (program : Program) → first_step program ≡ Do call next → FitsFirst p c (goes.first_of program) → FitsSock call (found_at c.words (word_of p call))
+    by (Write w after) e f = subst (FitsFirst p c) e f
+    by (Round head k) e f = subst (FitsFirst p c) e f
+    by (Do d k) e f = subst (FitsFirst p c) e f
+    by (Say o outcome k) e f = subst (FitsFirst p c) e f
+    by (Sent o k) e f = subst (FitsFirst p c) e f
+    by Rest e f = subst (FitsFirst p c) e f
+    by (TakeMessage q k) e f = subst (FitsFirst p c) e f
+    by (TakeHome l k) e f = subst (FitsFirst p c) e f
+    by (PutHome l n k) e f = subst (FitsFirst p c) e f
+    by (PutBytes l a b k) e f = subst (FitsFirst p c) e f
+    by (AskReady l k) e f = subst (FitsFirst p c) e f
+    by (Aside s k) e f = subst (FitsFirst p c) e f
+    by (Keep r k) e f = subst (FitsFirst p c) e f
+    by (Retries n k) e f = subst (FitsFirst p c) e f
+
+-- ## Calls at home
+
+abbrev pub PutsCall : (Asked → Type 0) → Step → Type 0
+PutsCall is_call (PutCall i asked) = is_call asked
+PutsCall is_call other = Unit {0}
+
+home_is : (x : Option (Option (std.Option Asked))) (asked : Asked) → call_at x ≡ some asked → x ≡ some (some (std.Some asked))
+home_is none asked e = absurd (some-ne-none asked (sym e))
+home_is (some none) asked e = absurd (some-ne-none asked (sym e))
+home_is (some (some std.None)) asked e = absurd (some-ne-none asked (sym e))
+home_is (some (some (std.Some a))) asked e = ap (λ (z : Asked). some (some (std.Some z))) (some-injective a asked e)
+
+one_asked : (a b : Asked) → some (std.Some a) ≡ some (std.Some b) → a ≡ b
+one_asked a b e = cc
+
+no_asked : (a : Asked) → some none_asked ≡ some (std.Some a) → ⊥
+no_asked a e = cc
+
+calls_given : (is_call : Asked → Type 0) (k : ℕ) (t : Taking) (a : Calls) → AreCalls is_call a → AreCalls is_call (more_given k t a)
+calls_given is_call k (Bytes bytes) a h = h
+calls_given is_call k _ a h = h
+
+pub calls_behind : (is_call : Asked → Type 0) (x : Step) (found : Found x) (a : Calls) → PutsCall is_call x → AreCalls is_call a → AreCalls is_call (calls_after x found a)
+calls_behind is_call (PutCall i asked) found a puts h = λ n other at. ⊎_elim
+    (λ r. subst is_call (one_asked asked other r.1) puts) (λ r. h n other (ap call_at r.1))
+    (at_set a.homes i n (some (std.Some asked)) (some (std.Some other)) (home_is (get_elem? (set a.homes i (some (std.Some asked))) n) other at))
+calls_behind is_call (TakeCall i) found a puts h = λ n other at. ⊎_elim
+    (λ r. absurd (no_asked other r.1)) (λ r. h n other (ap call_at r.1))
+    (at_set a.homes i n (some std.None) (some (std.Some other)) (home_is (get_elem? (set a.homes i (some std.None)) n) other at))
+calls_behind is_call (TakeBytes k room) found a puts h = calls_given is_call k found a h
+calls_behind is_call _ found a puts h = h
+
+-- ## What is known of names and links
+
+abbrev one_name : ℕ → ℕ → List (ℕ × ℕ)
+one_name m s = (m, s) ∷ []
+
+abbrev first_socket : List (ℕ × ℕ) → ℕ
+first_socket [] = 0
+first_socket (x ∷ xs) = x.1
+
+module _ (is_call : Asked → Type 0) (es : List Event) where
+  -- the socket was stored under the name
+  abbrev pub IsNamed : ℕ × ℕ → Type 0
+  IsNamed x = (client o found : ℕ) × In (event client o (StoreName x.0 (x.1 + 1)) found) es
+
+  abbrev pub IsFor : ℕ → Claim → Type 0
+  IsFor s x = WasGiven es (socket_id_slot s) (socket_id_version s) x.link
+
+  -- the message of an attempt is over the link of a socket with its name
+  abbrev pub IsOver : Heading → ℕ → Type 0
+  IsOver h link = h.owner ≢ 0 → (asked : Asked) × (s : ℕ) × is_call asked × (asked.operation ≡ h.operation) × IsNamed (name_of asked h.attempt, s) × WasGiven es (socket_id_slot s) (socket_id_version s) link
+
+  abbrev pub ClaimOver : Claim → Type 0
+  ClaimOver x = IsOver x.heading x.link
+
+  abbrev pub EntryOver : Entry → Type 0
+  EntryOver e = IsOver e.heading e.link
+
+  abbrev pub ViewOver : View → Type 0
+  ViewOver v = AllByRecursion ClaimOver v.claims × AllByRecursion (AllByRecursion EntryOver) v.lists
+
+  abbrev pub IsTrue : View → Trail → Type 0
+  IsTrue v t = AllByRecursion IsNamed t.name × (t.claimed ≡ true → (m s : ℕ) → t.name ≡ (m, s) ∷ [] → AllByRecursion (IsFor s) v.claims)
+
+  pub record NameLaw (c : Core) (vs : List View) (ts : List Trail) : Type 0 where
+    pub views : (j : ℕ) (v : View) → get_elem? vs j ≡ some v → ViewOver v
+    pub trails : (j : ℕ) (v : View) (t : Trail) → get_elem? vs j ≡ some v → get_elem? ts j ≡ some t → IsTrue v t
+    pub calls : AreCalls is_call c.calls
+    pub each : std.length ts ≡ std.length c.seats
+    pub programs : (j : ℕ) (seat : SeatState) (t : Trail) → get_elem? c.seats j ≡ some seat → get_elem? ts j ≡ some t → Follows is_call t seat.program
+
+  pub lost_true : (v : View) → IsTrue v lost
+  lost_true v = (tt, λ e. absurd (true≢false (sym e)))
+
+  trail_same : (v : View) (t u : Trail) → u.name ≡ t.name → u.claimed ≡ t.claimed → IsTrue v t → IsTrue v u
+  trail_same v t u n b h = (subst (AllByRecursion IsNamed) (sym n) h.0, λ e m s is. h.1 (sym b ∙ e) m s (sym n ∙ is))
+
+  stays_true : (v : View) (t u : Trail) → Stays t u → IsTrue v t → IsTrue v u
+  stays_true v t u (inl e) h = subst (IsTrue v) (sym e) h
+  stays_true v t u (inr e) h = subst (IsTrue v) (sym e) (lost_true v)
+
+  trail_on : (v w : View) (t : Trail) → w.claims ≡ v.claims → IsTrue v t → IsTrue w t
+  trail_on v w t e h = (h.0, λ b m s is. subst (AllByRecursion (IsFor s)) (sym e) (h.1 b m s is))
+
+  -- ## Rows
+
+  module _ (v : View) (t : Trail) (true_ : IsTrue v t) (over : ViewOver v) where
+    all_more : (l : List Entry) (e : Entry) → AllByRecursion EntryOver l → EntryOver e → AllByRecursion EntryOver (l ++ e ∷ [])
+    all_more [] e all one = (one, tt)
+    all_more (x ∷ l) e all one = (all.0, all_more l e all.1 one)
+
+    more_over : (ls : List (List Entry)) (e : Entry) → AllByRecursion (AllByRecursion EntryOver) ls → EntryOver e → AllByRecursion (AllByRecursion EntryOver) (more ls e)
+    more_over [] e all one = tt
+    more_over (l ∷ ls) e all one = (all_more l e all.0 one, all.1)
+
+    ready_over : (cs : List Claim) → v.claims ≡ cs → ViewOver (by_claim cs (λ c. with_claim v (ready_claim c)) v)
+    ready_over [] e = over
+    ready_over (x ∷ cs) e = let all : AllByRecursion ClaimOver (x ∷ cs) = subst (AllByRecursion ClaimOver) e over.0 in ((all.0, tt), over.1)
+
+    swap_over : (found : ℕ) (hand : Hand) (cs : List Claim) → v.claims ≡ cs → ViewOver (by_claim cs (exchanged found hand v) v)
+    swap_over found hand [] e = over
+    swap_over found hand (x ∷ cs) e = let all : AllByRecursion ClaimOver (x ∷ cs) = subst (AllByRecursion ClaimOver) e over.0 in let one = all.0 in
+        split (nat_lt found IDLE) (queued v x found) (righted v x found hand.took hand.next) ViewOver (tt, more_over v.lists (entry_of x found) over.1 one) (tt, more_over v.lists (entry_of x (found - IDLE)) over.1 one)
+
+    put_over : (q : ℕ) (heading : Heading) (bytes : List ℕ) → MayAttempt is_call t (PutMessage q heading bytes) → (cs : List Claim) → v.claims ≡ cs → ViewOver (by_claim cs (λ c. with_claim v (filled_claim c heading bytes)) v)
+    put_over q heading bytes may [] e = over
+    put_over q heading bytes may (x ∷ cs) e = (
+      (
+        λ some_. ⊎_elim (λ none_. absurd (some_ none_))
+            (λ a. let n : AllByRecursion IsNamed ((name_of a.0 heading.attempt, a.1) ∷ []) = subst (AllByRecursion IsNamed) a.4 true_.0 in let l : AllByRecursion (IsFor a.1) (x ∷ cs) = subst (AllByRecursion (IsFor a.1)) e (true_.1 a.5 (name_of a.0 heading.attempt) a.1 a.4) in
+            (a.0, a.1, a.2, a.3, n.0, l.0)) may,
+        tt,
+      ),
+      over.1,
+    )
+
+    pub row_over : (p : Plan) (found : ℕ) (hand : Hand) (call : Call) → MayAttempt is_call t call → ViewOver (row p call found hand v)
+    row_over p found hand (ClaimRequest i q) may = split (found % 2 == 0) _ v ViewOver (((λ some_. absurd (some_ refl)), tt), over.1) over
+    row_over p found hand (PutMessage q heading bytes) may = put_over q heading bytes may v.claims refl
+    row_over p found hand (Unconnect q) may = ready_over v.claims refl
+    row_over p found hand (SwapHead i own) may = swap_over found hand v.claims refl
+    row_over p found hand call may = let s = row_same v p found hand call refl in (subst (AllByRecursion ClaimOver) (sym s.0) over.0, subst (AllByRecursion (AllByRecursion EntryOver)) (sym s.1) over.1)
+
+    ready_true : (cs : List Claim) → v.claims ≡ cs → IsTrue (by_claim cs (λ c. with_claim v (ready_claim c)) v) t
+    ready_true [] e = true_
+    ready_true (x ∷ cs) e = (true_.0, λ b m s is. (let l : AllByRecursion (IsFor s) (x ∷ cs) = subst (AllByRecursion (IsFor s)) e (true_.1 b m s is) in (l.0, tt)))
+
+    put_true : (heading : Heading) (bytes : List ℕ) (cs : List Claim) → v.claims ≡ cs → IsTrue (by_claim cs (λ c. with_claim v (filled_claim c heading bytes)) v) t
+    put_true heading bytes [] e = true_
+    put_true heading bytes (x ∷ cs) e = (true_.0, λ b m s is. (let l : AllByRecursion (IsFor s) (x ∷ cs) = subst (AllByRecursion (IsFor s)) e (true_.1 b m s is) in (l.0, tt)))
+
+    swap_true : (found : ℕ) (hand : Hand) (cs : List Claim) → v.claims ≡ cs → IsTrue (by_claim cs (exchanged found hand v) v) t
+    swap_true found hand [] e = true_
+    swap_true found hand (x ∷ cs) e = split (nat_lt found IDLE) (queued v x found) (righted v x found hand.took hand.next) (λ w. IsTrue w t) (true_.0, λ b m s is. tt) (true_.0, λ b m s is. tt)
+
+    -- what is known stays so, where the step claims no request
+    row_true : (p : Plan) (found : ℕ) (hand : Hand) (call : Call) → ((i q : ℕ) → call ≡ ClaimRequest i q → ⊥) → IsTrue (row p call found hand v) t
+    row_true p found hand (ClaimRequest i q) others = absurd (others i q refl)
+    row_true p found hand (PutMessage q heading bytes) others = put_true heading bytes v.claims refl
+    row_true p found hand (Unconnect q) others = ready_true v.claims refl
+    row_true p found hand (SwapHead i own) others = swap_true found hand v.claims refl
+    row_true p found hand call others = trail_on v (row p call found hand v) t (row_same v p found hand call refl).0 true_
+
+    claim_true : (p : Plan) (found : ℕ) (hand : Hand) (i q m : ℕ) → found % 2 ≡ 0 → t.name ≡ (m, i) ∷ [] → WasGiven es (socket_id_slot i) (socket_id_version i) hand.link → IsTrue (row p (ClaimRequest i q) found hand v) (record { name = (m, i) ∷ []; claimed = true; of = t.of })
+    claim_true p found hand i q m free name given = (subst (AllByRecursion IsNamed) name true_.0, λ b x s is. split_claim x s is)
+      where
+        split_claim : (x s : ℕ) → one_name m i ≡ one_name x s → AllByRecursion (IsFor s) (row p (ClaimRequest i q) found hand v).claims
+        split_claim x s is = let same : i ≡ s = ap first_socket is in subst (λ b. AllByRecursion (IsFor s) (cond b (with_claim (met_link (socket_id_slot i) (socket_id_version i) hand.link v) (new_claim hand.link q found)) v).claims) (sym (eq-eqb (found % 2) 0 free))
+            ((subst (λ y. WasGiven es (socket_id_slot y) (socket_id_version y) hand.link) same given, tt))
+
+-- with a longer story
+module _ (is_call : Asked → Type 0) (es fs : List Event) (up : (e : Event) → In e es → In e fs) where
+  pub given_up : (j h k : ℕ) → WasGiven es j h k → WasGiven fs j h k
+  given_up j h k given = let g = marked_given es j h k given in given_by fs g.0 g.1 g.2 j h k (up _ g.3) g.4
+
+  all_up : {A : Type 0} (P Q : A → Type 0) → ((x : A) → P x → Q x) → (xs : List A) → AllByRecursion P xs → AllByRecursion Q xs
+  all_up P Q f [] a = tt
+  all_up P Q f (x ∷ xs) a = (f x a.0, all_up P Q f xs a.1)
+
+  named_up : (x : ℕ × ℕ) → IsNamed is_call es x → IsNamed is_call fs x
+  named_up x n = (n.0, n.1, n.2, up _ n.3)
+
+  over_up : (h : Heading) (link : ℕ) → IsOver is_call es h link → IsOver is_call fs h link
+  over_up h link o some_ = let a = o some_ in (a.0, a.1, a.2, a.3, named_up (name_of a.0 h.attempt, a.1) a.4, given_up (socket_id_slot a.1) (socket_id_version a.1) link a.5)
+
+  pub view_up : (v : View) → ViewOver is_call es v → ViewOver is_call fs v
+  view_up v o = (all_up (ClaimOver is_call es) (ClaimOver is_call fs) (λ x a. over_up x.heading x.link a) v.claims o.0, all_up (AllByRecursion (EntryOver is_call es)) (AllByRecursion (EntryOver is_call fs)) (λ l a. all_up (EntryOver is_call es) (EntryOver is_call fs) (λ e b. over_up e.heading e.link b) l a) v.lists o.1)
+
+  pub true_up : (v : View) (t : Trail) → IsTrue is_call es v t → IsTrue is_call fs v t
+  true_up v t h = (all_up (IsNamed is_call es) (IsNamed is_call fs) named_up t.name h.0, λ b m s is. all_up (IsFor is_call es s) (IsFor is_call fs s) (λ x a. given_up (socket_id_slot s) (socket_id_version s) x.link a) v.claims (h.1 b m s is))
+
+-- ## A tick
+
+few_more : (ws : List Retry) (r : Retry) → AllByRecursion (λ (x : Retry). x.attempt ≤ 6) ws → r.attempt ≤ 6 → AllByRecursion (λ (x : Retry). x.attempt ≤ 6) (ws ++ r ∷ [])
+few_more [] r all one = (one, tt)
+few_more (w ∷ ws) r all one = (all.0, few_more ws r all.1 one)
+
+pub few_of : (q : IdPlan) (ws : List Retry) → AllByRecursion (FitsRetryId q) ws → AllByRecursion (λ (x : Retry). x.attempt ≤ 6) ws
+few_of q [] all = tt
+few_of q (w ∷ ws) all = (all.0.1, few_of q ws all.1)
+
+-- what follows once all is said
+pub resolves : (is_call : Asked → Type 0) (t : Trail) (ws : List Retry) (x : Program) → AllByRecursion (λ (r : Retry). r.attempt ≤ 6) ws → Follows is_call t x → (u : Trail) × Stays t u × Follows is_call u (next_step (resolved ws x))
+resolves is_call t ws (Say o outcome next) few g = resolves is_call t ws next few g
+resolves is_call t ws (Sent o next) few g = resolves is_call t ws next few g
+resolves is_call t ws (Keep k next) few g = let r = resolves is_call lost (ws ++ k ∷ []) next (few_more ws k few g.0) g.1 in (r.0, ⊎_elim (λ e. inr e) (λ e. inr e) r.1, r.2)
+resolves is_call t [] (Retries requests after) few g = let r = resolves is_call lost [] after tt g in (r.0, ⊎_elim (λ e. inr e) (λ e. inr e) r.1, r.2)
+resolves is_call t (k ∷ ws) (Retries requests after) few g = (lost, inr refl, retry_goes is_call requests k.id k.attempt (Retries requests after) few.0 g)
+resolves is_call t ws (Do call next) few g = (t, inl refl, g)
+resolves is_call t ws Rest few g = (t, inl refl, g)
+resolves is_call t ws (TakeMessage q next) few g = (t, inl refl, g)
+resolves is_call t ws (TakeHome k next) few g = (t, inl refl, g)
+resolves is_call t ws (PutHome k n after) few g = (t, inl refl, g)
+resolves is_call t ws (PutBytes k asked bytes next) few g = (t, inl refl, g)
+resolves is_call t ws (AskReady k next) few g = (t, inl refl, g)
+resolves is_call t ws (Write w after) few g = (t, inl refl, g)
+resolves is_call t ws (Aside step next) few g = (t, inl refl, g)
+resolves is_call t ws (Round head next) few g = (t, inl refl, g)
+
+module _ (p : Plan) (q : IdPlan) (narrow : q.slots ≤ 65536) (is_call : Asked → Type 0) (clients : List (List Task)) (over : Bool) (c : Core) (vs : List View) (es fs : List Event) (broken : List ℕ) (sound : Sound p c vs) (story : Story p clients over c vs es broken)
+    (up : (e : Event) → In e es → In e fs) (ts : List Trail) (law : NameLaw is_call es c vs ts) (us : List IdView) (real_ids : SoundIds p q c us) where
+  abbrev pub After : Core → List View → Type 0
+  After d ws = (xs : List Trail) × NameLaw is_call fs d ws xs
+
+  module _ (i : ℕ) (seat : SeatState) (v : View) (t : Trail) (at_seat : get_elem? c.seats i ≡ some seat) (at_view : get_elem? vs i ≡ some v) (at_trail : get_elem? ts i ≡ some t) where
+    goes_on : (a : Calls) (x : Program) (hand : List Home) (ws : List ℕ) (hs : List (Option Home)) (u : Trail) (w : View) → a.waiting ≡ c.calls.waiting → AreCalls is_call a → Follows is_call u x → IsTrue is_call fs w u → ViewOver is_call fs w
+        → After (with_seat i x hand ws hs (record c { calls = a })) (set vs i w)
+    goes_on a x hand ws hs u w waits calls follows true_ view = let few = few_of q (waiting_at a.waiting i) (subst (λ (l : List (List Retry)). AllByRecursion (FitsRetryId q) (waiting_at l i)) (sym waits) (real_ids.waiting i)) in
+        let r = resolves is_call u (waiting_at a.waiting i) x few follows in (
+          set ts i r.0,
+          record {
+            views = λ j y e. ⊎_elim (λ b. subst (ViewOver is_call fs) b.1 view) (λ b. view_up is_call es fs up y (law.views j y b.1)) (at_set vs i j w y e);
+            trails = λ j y z ev et. ⊎_elim
+                (λ b. ⊎_elim (λ d. subst (IsTrue is_call fs y) b.1 (subst (λ y. IsTrue is_call fs y r.0) d.1 (stays_true is_call fs w u r.0 r.1 true_))) (λ d. absurd (d.0 b.0)) (at_set vs i j w y ev))
+                (λ b. ⊎_elim (λ d. absurd (b.0 d.0)) (λ d. true_up is_call es fs up y z (law.trails j y z d.1 b.1)) (at_set vs i j w y ev)) (at_set ts i j r.0 z et);
+            calls = calls;
+            each = length-set ts i r.0 ∙ (law.each ∙ sym (length-set c.seats i (record { program = next_step (resolved (waiting_at a.waiting i) x); hand = hand })));
+            programs = λ j s' y e et. ⊎_elim
+                (λ b. ⊎_elim (λ d. subst (λ (z : SeatState). Follows is_call y z.program) b.1 (subst (λ z. Follows is_call z (next_step (resolved (waiting_at a.waiting i) x))) d.1 r.2)) (λ d. absurd (d.0 b.0)) (at_set ts i j r.0 y et))
+                (λ b. ⊎_elim (λ d. absurd (b.0 d.0)) (λ d. law.programs j s' y b.1 d.1) (at_set ts i j r.0 y et)) (at_set c.seats i j (record { program = next_step (resolved (waiting_at a.waiting i) x); hand = hand }) s' e);
+          },
+        )
+
+    true_here : IsTrue is_call es v t
+    true_here = law.trails i v t at_view at_trail
+
+    -- a move that is no step on words
+    pub moves : (x : Program) (hand : List Home) (hs : List (Option Home)) (w : View) (rights : List Right) → w ≡ with_rights v rights → Follows is_call lost x → After (with_seat i x hand c.words hs (record c { calls = c.calls })) (set vs i w)
+    moves x hand hs w rights e g = goes_on c.calls x hand c.words hs lost w refl law.calls g (lost_true is_call fs w) (subst (ViewOver is_call fs) (sym e) (view_up is_call es fs up v (law.views i v at_view)))
+
+    abbrev Row : Call → View
+    Row call = row p call (found_at c.words (word_of p call)) (hand_at p c.words c.homes call) v
+
+    -- what is known behind a step on the sockets
+    true_behind : (call : Call) → May p v call → (u : Trail) → GoesDo t call (found_at c.words (word_of p call)) u → IsTrue is_call es (Row call) u
+    true_behind (LoadName m) may u g = ⊎_elim
+        (λ e. subst (IsTrue is_call es (Row (LoadName m))) (sym e) kept)
+        (λ x. ⊎_elim (λ e. subst (IsTrue is_call es (Row (LoadName m))) (sym e) (lost_true is_call es (Row (LoadName m))))
+        (λ y. subst (IsTrue is_call es (Row (LoadName m))) (sym y.1) ((named y.0, tt), λ e. absurd (true≢false (sym e)))) x) g
+      where
+        kept : IsTrue is_call es (Row (LoadName m)) t
+        kept = row_true is_call es v t true_here (law.views i v at_view) p (found_at c.words (word_of p (LoadName m))) (hand_at p c.words c.homes (LoadName m)) (LoadName m) (λ a b e. absurd cc)
+
+        named : found_at c.words (word_of p (LoadName m)) ≢ 0 → IsNamed is_call es (m, found_at c.words (word_of p (LoadName m)) - 1)
+        named some_ = let word : found_at c.words (word_of p (LoadName m)) ≡ last_name m es = story.named m may in let s = last_some es m (λ z. some_ (word ∙ z)) in
+            (s.0, s.1, s.2, subst (λ w. In (event s.0 s.1 (StoreName m w) s.2) es) (sym word ∙ (let z : found_at c.words (word_of p (LoadName m)) ≡ found_at c.words (word_of p (LoadName m)) - 1 + 1 = omega (arith, some_) in z)) s.3)
+    true_behind (ClaimRequest s r) may u g = ⊎_elim
+        (λ e. subst (IsTrue is_call es (Row (ClaimRequest s r))) (sym e) (true_here.0, λ b. absurd (true≢false (sym b))))
+        (λ x. ⊎_elim (λ e. subst (IsTrue is_call es (Row (ClaimRequest s r))) (sym e) (lost_true is_call es (Row (ClaimRequest s r))))
+        (λ y. subst (IsTrue is_call es (Row (ClaimRequest s r))) (sym y.3) (claim_true is_call es v t true_here (law.views i v at_view) p (found_at c.words (word_of p (ClaimRequest s r))) (hand_at p c.words c.homes (ClaimRequest s r)) s r y.1 y.0 y.2
+        (held_given p clients c vs sound.lawful es broken over story i v at_view (socket_id_slot s) (socket_id_version s) may.1.0 may.1.1))) x) g
+    true_behind call may u g = stays_true is_call es (Row call) t u g (row_true is_call es v t true_here (law.views i v at_view) p (found_at c.words (word_of p call)) (hand_at p c.words c.homes call) call (λ a b e. absurd cc))
+
+    -- a step on the sockets
+    steps : (call : Call) (next : ℕ → Program) → May p v call → Follows is_call t (Do call next) → FitsSock call (found_at c.words (word_of p call)) → After (stepped p i seat call next c) (set vs i (row p call (found_at c.words (word_of p call)) (hand_at p c.words c.homes call) v))
+    steps call next may g fits = let u = g.1 (found_at c.words (word_of p call)) fits in
+        goes_on c.calls (next (found_at c.words (word_of p call))) (hand_after p call c.homes seat.hand) (words_after c.words (word_of p call) (word_after call (found_at c.words (word_of p call)))) (homes_after p call seat.hand c.homes) u.0 (Row call) refl law.calls u.2
+        (true_up is_call es fs up (Row call) u.0 (true_behind call may u.0 u.1)) (view_up is_call es fs up (Row call) (row_over is_call es v t true_here (law.views i v at_view) p (found_at c.words (word_of p call)) (hand_at p c.words c.homes call) call g.0))
+
+    module _ (u : IdView) (at : get_elem? us i ≡ some u) where
+      finds_step : (step : Step) (t' : Option Taking) (found : Found step) → found_in step c.calls t' ≡ some found → MayId p q u step → FindsLabel is_call step found
+      finds_step (UnlockId k from advance) t' found is may = finds_label p q c us real_ids i u at (UnlockId k from advance) found may (finds_ids p q c.calls real_ids.plan us real_ids.rule i u at (real_ids.real i u at) (real_ids.called, real_ids.placed) real_ids.homes (UnlockId k from advance) t' found is may)
+      finds_step (TakeCall k) t' found is may = law.calls k found is
+      finds_step _ t' found is may = tt
+
+      puts_step : (step : Step) (after : Program) (found : Found step) (x : Trail) → GoesAside is_call t step after found x → PutsCall is_call step
+      puts_step (PutCall k asked) after found x g = g.1
+      puts_step _ after found x g = tt
+
+      true_aside : (step : Step) (after : Program) (found : Found step) (x : Trail) → GoesAside is_call t step after found x → IsTrue is_call es v x
+      true_aside (MakeId k r) after found x g = subst (IsTrue is_call es v) (sym g.0) (true_here.0, true_here.1)
+      true_aside (StoreCall o id) after found x g = ⊎_elim (λ e. subst (IsTrue is_call es v) (sym e) (lost_true is_call es v)) (λ y. subst (IsTrue is_call es v) (sym y.1) (true_here.0, true_here.1)) g
+      true_aside (StoreAt o w) after found x g = stays_true is_call es v t x g.0 true_here
+      true_aside (PutCall k asked) after found x g = ⊎_elim (λ s. stays_true is_call es v t x s true_here) (λ y. subst (IsTrue is_call es v) (sym y.4) (tt, λ e. absurd (true≢false (sym e)))) g.0
+      true_aside step after found x g = stays_true is_call es v t x g true_here
+
+      -- a step aside
+      asides : (step : Step) (next : Found step → Program) (found : Found step) (answer : Option Taking) → found_in step c.calls answer ≡ some found → MayId p q u step → Follows is_call t (Aside step next)
+          → After (with_seat i (next found) seat.hand c.words c.homes (record c { calls = calls_after step found c.calls })) vs
+      asides step next found answer is may g = let x = g found (finds_step step answer found is may) in
+          subst (λ ys. After (with_seat i (next found) seat.hand c.words c.homes (record c { calls = calls_after step found c.calls })) ys) (set_again vs i v at_view)
+          (goes_on (calls_after step found c.calls) (next found) seat.hand c.words c.homes x.0 v (calls_waiting step found c.calls) (calls_behind is_call step found c.calls (puts_step step (next found) found x.0 x.1) law.calls) x.2
+          (true_up is_call es fs up v x.0 (true_aside step (next found) found x.0 x.1)) (view_up is_call es fs up v (law.views i v at_view)))
+
+  -- a tick of any seat
+  module _ (m : Moment) (answered : IsAnswered c m) (fitting : IsFittingIds p c m) where
+    trail_of : (seat : SeatState) → get_elem? c.seats m.seat ≡ some seat → (t : Trail) × (get_elem? ts m.seat ≡ some t)
+    trail_of seat at = elem_there c.seats ts m.seat seat law.each at
+
+    view_of : (seat : SeatState) → get_elem? c.seats m.seat ≡ some seat → (u : IdView) × (get_elem? us m.seat ≡ some u)
+    view_of seat at = elem_there c.seats us m.seat seat real_ids.each at
+
+    first_as : (seat : SeatState) (at : get_elem? c.seats m.seat ≡ some seat) (x : Program) → first_step seat.program ≡ x → Follows is_call (trail_of seat at).0 x
+    first_as seat at x is = let t = trail_of seat at in subst (Follows is_call t.0) is (follows_first is_call t.0 seat.program (law.programs m.seat seat t.0 at t.1))
+
+    may_as : (seat : SeatState) (at : get_elem? c.seats m.seat ≡ some seat) (x : Program) → first_step seat.program ≡ x → IdGoesOn p q (view_of seat at).0 x
+    may_as seat at x is = let u = view_of seat at in subst (IdGoesOn p q u.0) is (ids_first p q narrow u.0 seat.program (real_ids.seats m.seat seat u.0 at u.1))
+
+    unchanged : After c vs
+    unchanged = (ts, record { views = λ j v e. view_up is_call es fs up v (law.views j v e); trails = λ j v t a b. true_up is_call es fs up v t (law.trails j v t a b); calls = law.calls; each = law.each; programs = law.programs })
+
+    pub name_ticks : After (ticked p c m) (views_after p c vs m)
+    name_ticks = tick_cases p c vs m sound answered After unchanged
+        (λ seat v call next at here is goes. let t = trail_of seat at in steps m.seat seat v t.0 at here t.1 call next goes.0 (first_as seat at (Do call next) is) (fits_as p c seat.program call next is (fitting seat at)))
+        (λ seat v r next heading bytes at here is goes. let t = trail_of seat at in let w = right_rights v v.rights (λ x. taken_right x heading bytes) in
+        moves m.seat seat v t.0 at here t.1 (next heading bytes) seat.hand (set c.homes r none) (took_message heading bytes v) w.0 w.1 (first_as seat at (TakeMessage r next) is heading bytes))
+        (λ seat v k next n at here is goes. let t = trail_of seat at in let w = right_rights v v.rights (λ x. record x { at_home = false }) in
+        moves m.seat seat v t.0 at here t.1 (next n) (lies_at c.homes (link_place p k) ++ seat.hand) (set c.homes (link_place p k) none) (link_away v) w.0 w.1 (first_as seat at (TakeHome k next) is n))
+        (λ seat v k n after at here is goes. let t = trail_of seat at in let w = right_rights v v.rights (λ x. record x { at_home = true }) in
+        moves m.seat seat v t.0 at here t.1 after (others_of seat.hand) (set c.homes (link_place p k) (first_of (onto_first (with_places n) seat.hand))) (link_home_again v) w.0 w.1 (first_as seat at (PutHome k n after) is))
+        (λ seat v k asked bytes next answer at here is goes answer_is fits. let t = trail_of seat at in let w = put_rights v answer in
+        moves m.seat seat v t.0 at here t.1 (next answer) (onto_first (fed bytes answer) seat.hand) c.homes (took_bytes answer v) w.0 w.1 (first_as seat at (PutBytes k asked bytes next) is answer))
+        (λ seat v k next answer at here is goes answer_is. let t = trail_of seat at in subst (λ xs. After (with_seat m.seat (next answer) seat.hand c.words c.homes c) xs) (set_again vs m.seat v here)
+        (moves m.seat seat v t.0 at here t.1 (next answer) seat.hand c.homes v v.rights refl (first_as seat at (AskReady k next) is answer)))
+        (λ seat v s next found at here is goes found_is. let t = trail_of seat at in let u = view_of seat at in
+        asides m.seat seat v t.0 at here t.1 u.0 u.1 s next found (taken m.answer) found_is (may_as seat at (Aside s next) is).0 (first_as seat at (Aside s next) is))

@@ -1,0 +1,94 @@
+-- What leads a seat to an attempt of a call: the name under which it found the socket, and the operation whose call has the id.
+use Rattle.std.specs.Prelude.{ℕ, ◌≡◌, ◌≢◌, ◌-◌, ◌%◌, ◌<◌, ◌≤◌, ◌⊎◌, Bool, true, false, List, [], ◌∷◌}
+use Rattle.sock_io.specs.declared.link.Put.{Put}
+use Rattle.sock_io.specs.declared.link.Ready.{Ready}
+use Rattle.sock_model.specs.declared.chain.Heading.{Heading}
+use Rattle.sock_words.specs.Words.{at_word}
+use Rattle.corr_core.specs.Word.{parts}
+use Rattle.id_runs.specs.Goes.{FitsSock}
+use Rattle.sock_message.specs.Asked.{Asked, name_of}
+use Rattle.sock_programs.specs.Asides.{Step, Found, PutCall, MakeId, StoreCall, StoreAt, call_id, id_slot, id_first}
+use Rattle.sock_programs.specs.Calls.{Call, LoadName, ClaimRequest, PutMessage}
+use Rattle.sock_programs.specs.Heads.{Head, Exit, Unlocks}
+use Rattle.sock_programs.specs.Programs.{Program, Do, Say, Sent, Rest, TakeMessage, TakeHome, PutHome, PutBytes, AskReady, Write, Aside, Round, Keep, Retries}
+use Rattle.label_runs.specs.Labels.{FindsLabel, AtLabel, LeavesLabel}
+
+-- of which call the seat knows the id: none; it made this id, and stores the word of its call next; or that of this operation
+pub data Of : Type 0 where
+  NoCall : Of
+  Makes : ℕ → Of
+  Knows : ℕ → ℕ → Of
+
+-- the name with the socket that was found under it; whether the seat's claim is for that socket; and the call
+pub record Trail : Type 0 where
+  pub name : List (ℕ × ℕ)
+  pub claimed : Bool
+  pub of : Of
+
+abbrev pub lost : Trail
+lost = record { name = []; claimed = false; of = NoCall }
+
+abbrev pub Stays : Trail → Trail → Type 0
+Stays t u = (u ≡ t) ⊎ (u ≡ lost)
+
+abbrev pub unclaimed : Trail → Trail
+unclaimed t = record { name = t.name; claimed = false; of = t.of }
+
+-- ## Steps on the sockets
+
+abbrev pub GoesDo : Trail → Call → ℕ → Trail → Type 0
+GoesDo t (LoadName m) found u = (u ≡ t) ⊎ ((u ≡ lost) ⊎ ((found ≢ 0) × (u ≡ record { name = (m, found - 1) ∷ []; claimed = false; of = t.of })))
+GoesDo t (ClaimRequest s q) found u = (u ≡ unclaimed t) ⊎ ((u ≡ lost) ⊎ ((found % 2 ≡ 0) × (m : ℕ) × (t.name ≡ (m, s) ∷ []) × (u ≡ record { name = (m, s) ∷ []; claimed = true; of = t.of })))
+GoesDo t call found u = Stays t u
+
+-- ## Steps aside
+
+-- the next step stores the word of the call that has the id
+abbrev pub StoresNext : ℕ → Program → Type 0
+StoresNext id (Aside (StoreCall o x) next) = x ≡ id
+StoresNext id other = ⊥
+
+-- the at word is that of an attempt of the call
+abbrev pub IsOwnStore : Of → ℕ → ℕ → Type 0
+IsOwnStore of o w = (id n k : ℕ) × (of ≡ Knows o id) × (w ≡ at_word (id_first id) (id_slot id) k n) × (k < 65535) × (n ≤ 6)
+
+-- the call that was put back is that of the word whose lock is given back next
+abbrev pub PutsBack : ℕ → Asked → Program → Trail → Type 0
+PutsBack i asked after u = (w : ℕ) × (advance : Bool) × (next : Exit (Unlocks i w advance) → Program) × (after ≡ Round (Unlocks i w advance) next) × (u ≡ record { name = []; claimed = false; of = Knows asked.operation (call_id i (parts w).first) })
+
+-- these are the calls
+module _ (is_call : Asked → Type 0) where
+  abbrev pub GoesAside : Trail → (step : Step) → Program → Found step → Trail → Type 0
+  GoesAside t (MakeId i range) after found u = (u ≡ record { name = t.name; claimed = t.claimed; of = Makes (call_id i (parts found).first) }) × StoresNext (call_id i (parts found).first) after
+  GoesAside t (StoreCall o id) after found u = (u ≡ lost) ⊎ ((t.of ≡ Makes id) × (u ≡ record { name = t.name; claimed = t.claimed; of = Knows o id }))
+  GoesAside t (StoreAt o w) after found u = Stays t u × IsOwnStore t.of o w
+  GoesAside t (PutCall i asked) after found u = (Stays t u ⊎ PutsBack i asked after u) × is_call asked
+  GoesAside t other after found u = Stays t u
+
+  -- the message of a call is that of an attempt over the socket that was found under its name
+  abbrev pub MayAttempt : Trail → Call → Type 0
+  MayAttempt t (PutMessage q heading bytes) = (heading.owner ≡ 0) ⊎ ((asked : Asked) × (s : ℕ) × is_call asked × (asked.operation ≡ heading.operation) × (t.name ≡ (name_of asked heading.attempt, s) ∷ []) × (t.claimed ≡ true))
+  MayAttempt t call = Unit {0}
+
+  -- giving a lock back leaves what is known
+  abbrev pub trail_behind : Head → Trail → Trail
+  trail_behind (Unlocks i w advance) t = t
+  trail_behind head t = lost
+
+  -- ## Programs
+
+  abbrev pub Follows : Trail → Program → Type 0
+  Follows t (Do call next) = MayAttempt t call × ((found : ℕ) → FitsSock call found → (u : Trail) × GoesDo t call found u × Follows u (next found))
+  Follows t (Say o outcome next) = Follows t next
+  Follows t (Sent o next) = Follows t next
+  Follows t Rest = Unit {0}
+  Follows t (TakeMessage q next) = (heading : Heading) (bytes : List ℕ) → Follows lost (next heading bytes)
+  Follows t (TakeHome k next) = (n : ℕ) → Follows lost (next n)
+  Follows t (PutHome k n after) = Follows lost after
+  Follows t (PutBytes k asked bytes next) = (answer : Put) → Follows lost (next answer)
+  Follows t (AskReady k next) = (answer : Ready) → Follows lost (next answer)
+  Follows t (Write w after) = Follows lost after
+  Follows t (Aside step next) = (found : Found step) → FindsLabel is_call step found → (u : Trail) × GoesAside t step (next found) found u × Follows u (next found)
+  Follows t (Round head next) = AtLabel is_call head × ((exit : Exit head) → LeavesLabel head exit → Follows (trail_behind head t) (next exit))
+  Follows t (Keep r next) = (r.attempt ≤ 6) × Follows lost next
+  Follows t (Retries requests after) = Follows lost after
