@@ -94,3 +94,5 @@ pub mod RefusedLost
 pub mod RefusedRun
 pub mod OwnIds
 pub mod FoundTries
+pub mod FoundRuns
+pub mod FoundSetup
