@@ -162,6 +162,7 @@ module _ (p : Plan) (q : IdPlan) (clients : List (List Task)) (gives : ℕ → L
       came = λ k n frame s. s;
       claimed = λ i o s. s;
       posted = λ x s. s;
+      decided = λ d s. s;
       ended = λ b n u. u;
       within = room;
       apart = (is_later says.0).apart;

@@ -31,6 +31,7 @@ module _ (p : Plan) (q : IdPlan) (clients : List (List Task)) (gives : ℕ → L
     came = λ k n frame s. y.came k n frame (x.came k n frame s);
     claimed = λ i o s. y.claimed i o (x.claimed i o s);
     posted = λ e s. y.posted e (x.posted e s);
+    decided = λ d s. y.decided d (x.decided d s);
     ended = λ b n u. y.ended b n (x.ended b n u);
     within = y.within;
     apart = y.apart;
@@ -56,7 +57,7 @@ module _ (p : Plan) (q : IdPlan) (clients : List (List Task)) (gives : ℕ → L
     failed_on : (id : ℕ) (asked : Asked) (c : ℕ) → FailedIn p q clients gives w id asked c → FailedIn p q clients gives w' id asked c
     failed_on id asked c (by_expiry is x) = by_expiry is (expired_on asked x)
     failed_on id asked c (by_compression is x) = by_compression is (answered_on id asked (λ frame. frame.meta.compress_type ≢ Rattle.std.specs.Prelude.pos 0) x)
-    failed_on id asked c (by_other n x there ended last) = by_other n x (l.posted (record { id = id; error = error_of c n }) there) (l.ended (record { id = id; asked = asked }) n ended) last
+    failed_on id asked c (by_other n x there ended last on) = by_other n x (l.posted (record { id = id; error = error_of c n }) there) (l.ended (record { id = id; asked = asked }) n ended) last (l.decided (record { id = id; asked = asked; error = error_of c n }) on)
 
     pub ended_on : (b : Birth) (x : Outcome) → WhyEnded p q clients gives w b x → WhyEnded p q clients gives w' b x
     ended_on b (outcomes.Answered id payload attachment) y = (y.0, answered_on b.id b.asked (λ (frame : Frame). Rattle.call_causes.specs.Scenes.HasCode (Rattle.std.specs.Prelude.pos 0) frame × (frame.payload ≡ payload) × (frame.attachment ≡ attachment)) y.1)
