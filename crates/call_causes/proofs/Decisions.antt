@@ -1,5 +1,5 @@
 -- In a whole run a call that failed by an error that was posted ended by a seat's decision on that error.
-use Rattle.std.proofs.Common.{◌≡◌, ◌≢◌, ℕ, ◌+◌, ◌⊎◌, inl, inr, ⊎_elim, cond, eqb, eq-eqb, List, [], ◌∷◌, ◌++◌, replicate, get_or, Contains, refl, sym, ap, ◌∙◌, subst, arith}
+use Rattle.std.proofs.Common.{◌≡◌, ◌≢◌, ℕ, ◌+◌, inl, inr, ⊎_elim, cond, eq-eqb, List, [], ◌∷◌, ◌++◌, replicate, get_or, Contains, refl, sym, ap, ◌∙◌, subst}
 use Rattle.std.specs.List.{AllByRecursion}
 use Rattle.sock_words.specs.declared.plain.Plan.{Plan}
 use Rattle.sock_words.specs.declared.outcome.Outcome.TheVariants as outcomes
@@ -38,26 +38,26 @@ use Rattle.call_causes.proofs.Whole.{run_has_story, run_attempts, run_posted, ru
 module _ (p : Plan) (q : IdPlan) (clients : List (List Task)) (gives : ℕ → List ℕ) (w : Scene) (ms : List Mark) (e : HasEnded p q clients gives w ms) (fixed : Fixed) (orders : ℕ → Order) (last : ℕ → ℕ) (counts : (o : ℕ) → times o w.advances ≡ last o) (posts : List Post) (posted : (id error : ℕ) → WasPosted w id error → In (record { id = id; error = error }) posts)
     (decided : ℕ → List Decision) (by_seat : (d : Decision) → In d w.decisions → (j : ℕ) × In d (decided j)) (ascending : (c : ℕ) → AreAscending (get_or clients c [])) (as_given : (k : ℕ) → given w.core k ≡ gives k) where
   -- a call failed by an `expire`, by a compressed response, or by an error that was posted for its last attempt, on which a seat decided
-    failed_by : (c : ℕ) (t : Task) (asked : Asked) (id code : ℕ) → IsTask clients w.core.outcomes c t → t.op ≡ ops.Call asked → Became clients w.core.outcomes t.number (outcomes.CallFailed id code) → FailedByDecision p clients w.core.outcomes fixed (given w.core) orders last posts decided t.number asked id code
-    failed_by c t asked id code is op has = ⊎_elim (λ own. absurd own.1) (λ x. by_cause x.0 x.2.0 x.3 x.2.1) (call_of p q clients gives w ms e c t asked (outcomes.CallFailed id code) is op has)
-      where
-        by_cause : (i : ℕ) → id ≡ i → t.number ≡ asked.operation → FailedIn p q clients gives w i asked code → FailedByDecision p clients w.core.outcomes fixed (given w.core) orders last posts decided t.number asked id code
-        by_cause i same own (by_expiry is x) = inl (
-          is,
-          ⊎_elim
-              (λ s. inl (expired_with p q clients gives ascending w ms e fixed orders as_given last counts asked t.number outcomes.Expired x.0 x.1 own x.2 x.3 s))
-              (λ s. inr (expired_with p q clients gives ascending w ms e fixed orders as_given last counts asked t.number outcomes.Queued x.0 x.1 own x.2 x.3 s)) x.4,
-        )
-        by_cause i same own (by_compression is x) = inr (inl (is, answered p q clients gives w ms e fixed orders id asked (λ (frame : Frame). frame.meta.compress_type ≢ Rattle.std.specs.Prelude.pos 0) (subst (λ k. Rattle.call_causes.specs.Scenes.IsAnsweredIn p q clients gives w k asked (λ (frame : Frame). frame.meta.compress_type ≢ Rattle.std.specs.Prelude.pos 0)) (sym same) x)))
-        by_cause i same own (by_other n x there ended by_last on) =
-            let n_is : n ≡ last t.number = sym ended.2 ∙ (counts asked.operation ∙ ap last (sym own)) in
-            let s = by_seat (record { id = i; asked = asked; error = error_of code n }) on in
-            inr (inr (
-              subst (λ k. Contains posts (record { id = id; error = error_of code k })) n_is (subst (λ k. Contains posts (record { id = k; error = error_of code n })) (sym same) (in_contains posts (record { id = i; error = error_of code n }) (posted i (error_of code n) there))),
-              ⊎_elim (λ final. inl final) (λ u. inr (ap (λ k. k + 2) (sym n_is) ∙ u)) by_last,
+  failed_by : (c : ℕ) (t : Task) (asked : Asked) (id code : ℕ) → IsTask clients w.core.outcomes c t → t.op ≡ ops.Call asked → Became clients w.core.outcomes t.number (outcomes.CallFailed id code) → FailedByDecision p clients w.core.outcomes fixed (given w.core) orders last posts decided t.number asked id code
+  failed_by c t asked id code is op has = ⊎_elim (λ own. absurd own.1) (λ x. by_cause x.0 x.2.0 x.3 x.2.1) (call_of p q clients gives w ms e c t asked (outcomes.CallFailed id code) is op has)
+    where
+      by_cause : (i : ℕ) → id ≡ i → t.number ≡ asked.operation → FailedIn p q clients gives w i asked code → FailedByDecision p clients w.core.outcomes fixed (given w.core) orders last posts decided t.number asked id code
+      by_cause i same own (by_expiry is x) = inl (
+        is,
+        ⊎_elim
+            (λ s. inl (expired_with p q clients gives ascending w ms e fixed orders as_given last counts asked t.number outcomes.Expired x.0 x.1 own x.2 x.3 s))
+            (λ s. inr (expired_with p q clients gives ascending w ms e fixed orders as_given last counts asked t.number outcomes.Queued x.0 x.1 own x.2 x.3 s)) x.4,
+      )
+      by_cause i same own (by_compression is x) = inr (inl (is, answered p q clients gives w ms e fixed orders id asked (λ (frame : Frame). frame.meta.compress_type ≢ Rattle.std.specs.Prelude.pos 0) (subst (λ k. Rattle.call_causes.specs.Scenes.IsAnsweredIn p q clients gives w k asked (λ (frame : Frame). frame.meta.compress_type ≢ Rattle.std.specs.Prelude.pos 0)) (sym same) x)))
+      by_cause i same own (by_other n x there ended by_last on) =
+          let n_is : n ≡ last t.number = sym ended.2 ∙ (counts asked.operation ∙ ap last (sym own)) in
+          let s = by_seat (record { id = i; asked = asked; error = error_of code n }) on in
+          inr (inr (
+            subst (λ k. Contains posts (record { id = id; error = error_of code k })) n_is (subst (λ k. Contains posts (record { id = k; error = error_of code n })) (sym same) (in_contains posts (record { id = i; error = error_of code n }) (posted i (error_of code n) there))),
+            ⊎_elim (λ final. inl final) (λ u. inr (ap (λ k. k + 2) (sym n_is) ∙ u)) by_last,
             s.0,
             subst (λ k. In (record { id = id; asked = asked; error = error_of code k }) (decided s.0)) n_is (subst (λ k. In (record { id = k; asked = asked; error = error_of code n }) (decided s.0)) (sym same) s.1),
-            ))
+          ))
 
 -- ## Who decides
 

@@ -306,26 +306,29 @@ module _ (p : Plan) (q : IdPlan) (clients : List (List Task)) (gives : ℕ → L
       first_decided =
           let xs : List Program = all_programs (programs (sizes_of p q) clients) (readers_from calls 0 opens) in
           let r = begin_all (all_programs (programs (sizes_of p q) clients) (readers_from calls 0 opens)) 0 (replicate p.operations None) [] (first_marks 0 q.seats) (λ i x e. subst (λ n. get_elem? xs n ≡ core.some x) (let z : i ≡ 0 + i = omega arith in z) e) first_tasks
-          (λ i x e. ((λ low. absurd (omega (arith, low))), (λ _. there_first q.seats i (let z = inside_of xs i x e in omega (arith, z, long))))) (λ s there. there) (λ a b there. there) first_slots first_claims first_reads in record { shown_decisions = refl; has = record {
-            scene = first_scene;
-            marks = r.0;
-            is = refl;
-            shown = refl;
-            shown_posts = refl;
-            story = record {
-              each = r.1 ∙ (length_marks 0 q.seats ∙ (sym long ∙ sym (length-map xs (λ (x : Program). record { program = next_step (resolved [] x); hand = [] }))));
-              slots = r.4;
-              births = first_births;
-              tasks = r.2;
-              claims = r.5;
-              reads = r.6;
-              seats = λ j seat m at_seat at_m.
-                  let s = mapped_at (λ (x : Program). record { program = next_step (resolved [] x); hand = [] }) xs j seat at_seat in
-                  let d = (r.3 j s.0 s.1).0 (let z = inside_of xs j s.0 s.1 in omega (arith, z)) in
-                  let same : d.0 ≡ m = some-injective d.0 m (sym d.1 ∙ at_m) in
-                  subst (λ (y : SeatState). SaysOn p q clients gives first_scene m y.program) s.2 (subst (λ (n : Mark). SaysOn p q clients gives first_scene n (next_step (resolved [] s.0))) same d.3);
+          (λ i x e. ((λ low. absurd (omega (arith, low))), (λ _. there_first q.seats i (let z = inside_of xs i x e in omega (arith, z, long))))) (λ s there. there) (λ a b there. there) first_slots first_claims first_reads in record {
+            shown_decisions = refl;
+            has = record {
+              scene = first_scene;
+              marks = r.0;
+              is = refl;
+              shown = refl;
+              shown_posts = refl;
+              story = record {
+                each = r.1 ∙ (length_marks 0 q.seats ∙ (sym long ∙ sym (length-map xs (λ (x : Program). record { program = next_step (resolved [] x); hand = [] }))));
+                slots = r.4;
+                births = first_births;
+                tasks = r.2;
+                claims = r.5;
+                reads = r.6;
+                seats = λ j seat m at_seat at_m.
+                    let s = mapped_at (λ (x : Program). record { program = next_step (resolved [] x); hand = [] }) xs j seat at_seat in
+                    let d = (r.3 j s.0 s.1).0 (let z = inside_of xs j s.0 s.1 in omega (arith, z)) in
+                    let same : d.0 ≡ m = some-injective d.0 m (sym d.1 ∙ at_m) in
+                    subst (λ (y : SeatState). SaysOn p q clients gives first_scene m y.program) s.2 (subst (λ (n : Mark). SaysOn p q clients gives first_scene n (next_step (resolved [] s.0))) same d.3);
+              };
             };
-          } }
+          }
 
       pub first_story : HasStory p q clients gives [] [] (beginning p q (all_programs (programs (sizes_of p q) clients) (readers_from calls 0 opens)))
       first_story = first_decided.has
