@@ -14,7 +14,7 @@ use Rattle.sock_programs.specs.declared.task.Task.{Task}
 use Rattle.sock_programs.specs.Asides.{Step, ClaimId, PutCall, MakeId, StoreCall, LoadCall, StoreAt, LoadAt, LoadIdWord, LockId, PostId, UnlockId, EndId, FreeId, TakeCall, TakeBytes, call_id}
 use Rattle.sock_programs.specs.Heads.{Head, Posts, Unlocks, Decides, Locks, Joins, Opens, Reads, Discards}
 use Rattle.sock_programs.specs.Programs.{Program, Do, Say, Sent, Rest, TakeMessage, TakeHome, PutHome, PutBytes, AskReady, Write, Aside, Round, Keep, Retries}
-use Rattle.call_causes.specs.Scenes.{Birth, Scene, In, Said, IsBorn, MayAdvance, IsAnsweredIn, IsExpired, CauseOf, of_expiry, of_other, FailedIn, by_expiry, by_compression, by_other, WhyEnded, HasNoneOf, NoneFound, HasBegunIn, HasNotBegunIn, WhyOwn, IsJust, ToldOf, was_said, was_sent, was_begun, AreTold, Later}
+use Rattle.call_causes.specs.Scenes.{Birth, Scene, In, Said, IsBorn, MayAdvance, IsAnsweredIn, IsExpired, CauseOf, of_expiry, of_other, FailedIn, by_expiry, by_compression, by_other, WhyEnded, HasNoneOf, NoneFound, HasBegunIn, HasNotBegunIn, WhyOwn, IsJust, ToldOf, was_said, was_sent, was_begun, AreTold, StaysWithin, Later}
 use Rattle.call_causes.specs.Says.{Mark, MayUnlock, MayAside, CameFrom, IsReading, AtHead, SaysOn}
 
 module _ (p : Plan) (q : IdPlan) (clients : List (List Task)) (gives : ℕ → List ℕ) where
@@ -35,6 +35,23 @@ module _ (p : Plan) (q : IdPlan) (clients : List (List Task)) (gives : ℕ → L
     ended = λ b n u. y.ended b n (x.ended b n u);
     within = y.within;
     apart = y.apart;
+  }
+
+  -- a scene is as late as itself
+  pub here_later : (w : Scene) → StaysWithin p q clients gives w → ((id : ℕ) (a b : Asked) → IsBorn w id a → IsBorn w id b → a ≡ b) → After w w
+  here_later w room apart = record {
+    said = λ o x s. s;
+    over = λ a b s. s;
+    named = λ n s. s;
+    begun = λ o s. s;
+    born = λ id asked s. s;
+    came = λ k n frame s. s;
+    claimed = λ i o s. s;
+    posted = λ x s. s;
+    decided = λ d s. s;
+    ended = λ b n u. u;
+    within = room;
+    apart = apart;
   }
 
   module _ (w w' : Scene) (l : After w w') where

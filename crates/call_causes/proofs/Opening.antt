@@ -22,7 +22,8 @@ use Rattle.sock_programs.specs.Scripts.{opening_words, sizes_of, programs, reade
 use Rattle.id_runs.proofs.Opening.{unused}
 use Rattle.call_causes.specs.Scenes.{Birth, Saying, Scene, In, IsOver, Begun, IsTaskOf, LeadsTo, Later}
 use Rattle.call_causes.specs.Says.{NoSlot, Mark, SaysOn}
-use Rattle.call_causes.specs.Stories.{At, word_at, SlotsLaw, BirthsLaw, TasksLaw, ClaimsLaw, ReadsLaw, IsUntold, CallStory, HasStory, HasDecided}
+use Rattle.call_causes.specs.Stories.{At, word_at, SlotsLaw, BirthsLaw, TasksLaw, ClaimsLaw, ReadsLaw, IsUntold, CallStory, HasStory}
+use Rattle.call_causes.proofs.Lasting.{here_later}
 use Rattle.call_causes.proofs.Reading.{reader_says}
 use Rattle.call_causes.proofs.Clients.{FitsTask, client_says}
 use Rattle.call_causes.proofs.Numbered.{AreNumbered}
@@ -246,20 +247,7 @@ module _ (p : Plan) (q : IdPlan) (clients : List (List Task)) (gives : ℕ → L
       }
 
       here : Later p q clients gives first_scene first_scene
-      here = record {
-        said = λ o x s. s;
-        over = λ a b s. s;
-        named = λ n s. s;
-        begun = λ o s. s;
-        born = λ id asked s. s;
-        came = λ k n frame s. s;
-        claimed = λ i o s. s;
-        posted = λ x s. s;
-        decided = λ d s. s;
-        ended = λ b n u. u;
-        within = (has_room p q clients gives slots first_scene (first_marks 0 q.seats) first_claims, lead);
-        apart = λ id a b x y. absurd x;
-      }
+      here = here_later p q clients gives first_scene (has_room p q clients gives slots first_scene (first_marks 0 q.seats) first_claims, lead) (λ id a b x y. absurd x)
 
       -- ## One seat after another says what it says before its first step
 
@@ -302,13 +290,12 @@ module _ (p : Plan) (q : IdPlan) (clients : List (List Task)) (gives : ℕ → L
           )
 
       -- the story as a run begins
-      pub first_decided : HasDecided p q clients gives [] [] [] (beginning p q (all_programs (programs (sizes_of p q) clients) (readers_from calls 0 opens)))
+      pub first_decided : (h : HasStory p q clients gives [] [] (beginning p q (all_programs (programs (sizes_of p q) clients) (readers_from calls 0 opens)))) × (h.scene.decisions ≡ [])
       first_decided =
           let xs : List Program = all_programs (programs (sizes_of p q) clients) (readers_from calls 0 opens) in
           let r = begin_all (all_programs (programs (sizes_of p q) clients) (readers_from calls 0 opens)) 0 (replicate p.operations None) [] (first_marks 0 q.seats) (λ i x e. subst (λ n. get_elem? xs n ≡ core.some x) (let z : i ≡ 0 + i = omega arith in z) e) first_tasks
-          (λ i x e. ((λ low. absurd (omega (arith, low))), (λ _. there_first q.seats i (let z = inside_of xs i x e in omega (arith, z, long))))) (λ s there. there) (λ a b there. there) first_slots first_claims first_reads in record {
-            shown_decisions = refl;
-            has = record {
+          (λ i x e. ((λ low. absurd (omega (arith, low))), (λ _. there_first q.seats i (let z = inside_of xs i x e in omega (arith, z, long))))) (λ s there. there) (λ a b there. there) first_slots first_claims first_reads in (
+            record {
               scene = first_scene;
               marks = r.0;
               is = refl;
@@ -327,8 +314,9 @@ module _ (p : Plan) (q : IdPlan) (clients : List (List Task)) (gives : ℕ → L
                     let same : d.0 ≡ m = some-injective d.0 m (sym d.1 ∙ at_m) in
                     subst (λ (y : SeatState). SaysOn p q clients gives first_scene m y.program) s.2 (subst (λ (n : Mark). SaysOn p q clients gives first_scene n (next_step (resolved [] s.0))) same d.3);
               };
-            };
-          }
+            },
+            refl,
+          )
 
       pub first_story : HasStory p q clients gives [] [] (beginning p q (all_programs (programs (sizes_of p q) clients) (readers_from calls 0 opens)))
-      first_story = first_decided.has
+      first_story = first_decided.0

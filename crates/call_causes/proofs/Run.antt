@@ -34,13 +34,13 @@ use Rattle.call_causes.specs.Decided.{Decision, decided_at}
 use Rattle.call_causes.specs.Scenes.{Scene, In, LeadsTo}
 use Rattle.call_causes.proofs.Leading.{run_leads}
 use Rattle.call_causes.specs.Says.{Mark, SaysOn}
-use Rattle.call_causes.specs.Stories.{CallStory, HasStory, HasDecided}
+use Rattle.call_causes.specs.Stories.{CallStory, HasStory, GoesOn}
 use Rattle.call_causes.proofs.Clients.{ending_says}
 use Rattle.call_causes.proofs.Numbered.{AreNumbered}
 use Rattle.call_causes.proofs.Claiming.{HaveSlots}
 use Rattle.call_causes.proofs.Attempts.{in_behind, in_front}
 use Rattle.call_causes.proofs.Chains.{KeepsFew}
-use Rattle.call_causes.proofs.Ticks.{other_there, keeps_few, on_homes, told_story, decided_ticks}
+use Rattle.call_causes.proofs.Ticks.{other_there, keeps_few, on_homes, told_story, story_lasts}
 use Rattle.call_causes.proofs.Allowing.{allows}
 use Rattle.call_causes.proofs.Opening.{Begins, first_decided}
 
@@ -76,7 +76,7 @@ module _ (p : Plan) (q : IdPlan) (clients : List (List Task)) (gives : ℕ → L
       → Told (decided ++ decided_at c m) (posted ++ posted_at c m) (shown ++ advanced_at c m) (ticked p c m)
   told_tick decided posted shown c vs m both fits over lead t =
       let h = t.0 in
-      let k = decided_ticks p q clients gives numbered slots small h.2.scene.decisions h.0 h.1 c both.id_views m both.ids fits.fitting_ids (let s = both.sockets in s.lawful.references.sized) (allows p c vs m both.sockets) over lead (record { has = h.2; shown_decisions = refl }) in (
+      let k = story_lasts p q clients gives numbered slots small h.0 h.1 c both.id_views m both.ids fits.fitting_ids (let s = both.sockets in s.lawful.references.sized) (allows p c vs m both.sockets) over lead h.2 in (
         (
           posted_at c m ++ h.0,
           advanced_at c m ++ h.1,
@@ -108,20 +108,20 @@ module _ (p : Plan) (q : IdPlan) (clients : List (List Task)) (gives : ℕ → L
       (played_told ms (decided ++ decided_at c m) (posted ++ posted_at c m) (shown ++ advanced_at c m) (ticked p c m) (views_after p c vs m) are.2 (ticked_ahead p c m ahead) (ticked_rests p c m 0 rests) lead (told_tick decided posted shown c vs m are.0 are.1 (λ _ seat at. seat_rests c ahead 0 rests seat at) (run_leads p q clients gives ms (ticked p c m) lead) h))
 
   -- a story that shows as much as the scene of one shows what that shows
-  reshown : (ps : List Post) (ns : List ℕ) (c d : Core) (h : HasStory p q clients gives ps ns c) → HasDecided p q clients gives h.scene.decisions h.scene.posts h.scene.advances d → HasDecided p q clients gives h.scene.decisions ps ns d
-  reshown ps ns c d h k = subst (λ xs. HasDecided p q clients gives h.scene.decisions xs ns d) h.shown_posts (subst (λ ks. HasDecided p q clients gives h.scene.decisions h.scene.posts ks d) h.shown k)
+  reshown : (ps : List Post) (ns : List ℕ) (c d : Core) (h : HasStory p q clients gives ps ns c) → GoesOn p q clients gives h.scene h.scene.decisions h.scene.posts h.scene.advances d → GoesOn p q clients gives h.scene h.scene.decisions ps ns d
+  reshown ps ns c d h k = subst (λ xs. GoesOn p q clients gives h.scene h.scene.decisions xs ns d) h.shown_posts (subst (λ ks. GoesOn p q clients gives h.scene h.scene.decisions h.scene.posts ks d) h.shown k)
 
   -- behind a change that shows nothing
-  told_still : (decided : List Decision) (posted : List Post) (shown : List ℕ) (c d : Core) (t : Told decided posted shown c) → (let h = t.0.2 in HasDecided p q clients gives h.scene.decisions h.scene.posts h.scene.advances d) → Told decided posted shown d
-  told_still decided posted shown c d t k = let h = t.0 in let r = reshown h.0 h.1 c d h.2 k in ((h.0, h.1, r.has, h.3, h.4), λ e there. t.1 e (subst (In e) r.shown_decisions there))
+  told_still : (decided : List Decision) (posted : List Post) (shown : List ℕ) (c d : Core) (t : Told decided posted shown c) → (let s = t.0 in let h = s.2 in GoesOn p q clients gives h.scene h.scene.decisions s.0 s.1 d) → Told decided posted shown d
+  told_still decided posted shown c d t k = let s = t.0 in ((s.0, s.1, k.has, s.3, s.4), λ e there. t.1 e (subst (In e) k.shown_decisions there))
 
   -- seat 0 begins the ending
-  ending_told : (os : List ℕ) (decided : List Decision) (posted : List Post) (shown : List ℕ) (c : Core) (vs : List View) → BothSound p q c vs → 0 < length c.seats → IsAhead c → IsAtRest c 0 → LeadsTo p q clients gives (with_seat 0 (ending_of os) [] c.words c.homes c) → Told decided posted shown c → Told decided posted shown (with_seat 0 (ending_of os) [] c.words c.homes c)
-  ending_told os decided posted shown c vs both some_ ahead rests lead t = let h = t.0.2 in told_still decided posted shown c (with_seat 0 (ending_of os) [] c.words c.homes c) t
-      (subst (λ d. HasDecided p q clients gives h.scene.decisions h.scene.posts h.scene.advances (with_seat 0 (ending_of os) [] d.words d.homes d)) h.is
+  pub ending_lasts : (os : List ℕ) (ps : List Post) (ns : List ℕ) (c : Core) (vs : List View) → BothSound p q c vs → 0 < length c.seats → IsAhead c → IsAtRest c 0 → LeadsTo p q clients gives (with_seat 0 (ending_of os) [] c.words c.homes c) → (h : HasStory p q clients gives ps ns c) → GoesOn p q clients gives h.scene h.scene.decisions ps ns (with_seat 0 (ending_of os) [] c.words c.homes c)
+  ending_lasts os ps ns c vs both some_ ahead rests lead h = reshown ps ns c (with_seat 0 (ending_of os) [] c.words c.homes c) h
+      (subst (λ d. GoesOn p q clients gives h.scene h.scene.decisions h.scene.posts h.scene.advances (with_seat 0 (ending_of os) [] d.words d.homes d)) h.is
       (of_scene h.scene h.marks h.story (subst (λ d. BothSound p q d vs) (sym h.is) both) (subst (λ (d : Core). 0 < length d.seats) (sym h.is) some_) (subst IsAhead (sym h.is) ahead) (subst (λ d. IsAtRest d 0) (sym h.is) rests) (subst (λ d. LeadsTo p q clients gives (with_seat 0 (ending_of os) [] d.words d.homes d)) (sym h.is) lead)))
     where
-      of_scene : (w : Scene) (ms : List Mark) → CallStory p q clients gives w ms → BothSound p q w.core vs → 0 < length w.core.seats → IsAhead w.core → IsAtRest w.core 0 → LeadsTo p q clients gives (with_seat 0 (ending_of os) [] w.core.words w.core.homes w.core) → HasDecided p q clients gives w.decisions w.posts w.advances (with_seat 0 (ending_of os) [] w.core.words w.core.homes w.core)
+      of_scene : (w : Scene) (ms : List Mark) → CallStory p q clients gives w ms → BothSound p q w.core vs → 0 < length w.core.seats → IsAhead w.core → IsAtRest w.core 0 → LeadsTo p q clients gives (with_seat 0 (ending_of os) [] w.core.words w.core.homes w.core) → GoesOn p q clients gives w w.decisions w.posts w.advances (with_seat 0 (ending_of os) [] w.core.words w.core.homes w.core)
       of_scene w ms story both some_ ahead rests lead =
           let s = first_there w.core.seats some_ in let ids = both.ids in let sockets = both.sockets in
           let u = other_there w.core.seats both.id_views 0 s.0 ids.each s.1 in let m = other_there w.core.seats ms 0 s.0 story.each s.1 in
@@ -133,14 +133,19 @@ module _ (p : Plan) (q : IdPlan) (clients : List (List Task)) (gives : ℕ → L
           first_there [] less = absurd (omega (arith, less))
           first_there (x ∷ xs) less = (x, refl)
 
+  ending_told : (os : List ℕ) (decided : List Decision) (posted : List Post) (shown : List ℕ) (c : Core) (vs : List View) → BothSound p q c vs → 0 < length c.seats → IsAhead c → IsAtRest c 0 → LeadsTo p q clients gives (with_seat 0 (ending_of os) [] c.words c.homes c) → Told decided posted shown c → Told decided posted shown (with_seat 0 (ending_of os) [] c.words c.homes c)
+  ending_told os decided posted shown c vs both some_ ahead rests lead t = let h = t.0 in told_still decided posted shown c (with_seat 0 (ending_of os) [] c.words c.homes c) t (ending_lasts os h.0 h.1 c vs both some_ ahead rests lead h.2)
+
   pub ending_story : (os : List ℕ) (posted : List Post) (shown : List ℕ) (c : Core) (vs : List View) → BothSound p q c vs → 0 < length c.seats → IsAhead c → IsAtRest c 0 → LeadsTo p q clients gives (with_seat 0 (ending_of os) [] c.words c.homes c) → Story posted shown c → Story posted shown (with_seat 0 (ending_of os) [] c.words c.homes c)
   ending_story os posted shown c vs both some_ ahead rests lead h = (ending_told os h.2.scene.decisions posted shown c vs both some_ ahead rests lead (h, λ d there. there)).0
 
   -- the readers are told that the run is ending
-  is_ending_told : (decided : List Decision) (posted : List Post) (shown : List ℕ) (c : Core) (vs : List View) → BothSound p q c vs → 0 < length c.seats → LeadsTo p q clients gives (is_ending c) → Told decided posted shown c → Told decided posted shown (is_ending c)
-  is_ending_told decided posted shown c vs both some_ lead t = let h = t.0.2 in told_still decided posted shown c (is_ending c) t (subst (λ d. HasDecided p q clients gives h.scene.decisions h.scene.posts h.scene.advances (is_ending d)) h.is (of_scene h.scene h.marks h.story (subst (λ d. BothSound p q d vs) (sym h.is) both) (subst (λ (d : Core). 0 < length d.seats) (sym h.is) some_) (subst (λ d. LeadsTo p q clients gives (is_ending d)) (sym h.is) lead)))
+  pub told_lasts : (ps : List Post) (ns : List ℕ) (c : Core) (vs : List View) → BothSound p q c vs → 0 < length c.seats → LeadsTo p q clients gives (is_ending c) → (h : HasStory p q clients gives ps ns c) → GoesOn p q clients gives h.scene h.scene.decisions ps ns (is_ending c)
+  told_lasts ps ns c vs both some_ lead h = reshown ps ns c (is_ending c) h
+      (subst (λ d. GoesOn p q clients gives h.scene h.scene.decisions h.scene.posts h.scene.advances (is_ending d)) h.is
+      (of_scene h.scene h.marks h.story (subst (λ d. BothSound p q d vs) (sym h.is) both) (subst (λ (d : Core). 0 < length d.seats) (sym h.is) some_) (subst (λ d. LeadsTo p q clients gives (is_ending d)) (sym h.is) lead)))
     where
-      of_scene : (w : Scene) (ms : List Mark) → CallStory p q clients gives w ms → BothSound p q w.core vs → 0 < length w.core.seats → LeadsTo p q clients gives (is_ending w.core) → HasDecided p q clients gives w.decisions w.posts w.advances (is_ending w.core)
+      of_scene : (w : Scene) (ms : List Mark) → CallStory p q clients gives w ms → BothSound p q w.core vs → 0 < length w.core.seats → LeadsTo p q clients gives (is_ending w.core) → GoesOn p q clients gives w w.decisions w.posts w.advances (is_ending w.core)
       of_scene w ms story both some_ lead =
           let s = first_there w.core.seats some_ in let ids = both.ids in let sockets = both.sockets in
           let u = other_there w.core.seats both.id_views 0 s.0 ids.each s.1 in let m = other_there w.core.seats ms 0 s.0 story.each s.1 in
@@ -149,6 +154,9 @@ module _ (p : Plan) (q : IdPlan) (clients : List (List Task)) (gives : ℕ → L
           first_there : (l : List SeatState) → 0 < length l → (x : SeatState) × (get_elem? l 0 ≡ some x)
           first_there [] less = absurd (omega (arith, less))
           first_there (x ∷ xs) less = (x, refl)
+
+  is_ending_told : (decided : List Decision) (posted : List Post) (shown : List ℕ) (c : Core) (vs : List View) → BothSound p q c vs → 0 < length c.seats → LeadsTo p q clients gives (is_ending c) → Told decided posted shown c → Told decided posted shown (is_ending c)
+  is_ending_told decided posted shown c vs both some_ lead t = let h = t.0 in told_still decided posted shown c (is_ending c) t (told_lasts h.0 h.1 c vs both some_ lead h.2)
 
   pub told_on : (posted : List Post) (shown : List ℕ) (c : Core) (vs : List View) → BothSound p q c vs → 0 < length c.seats → LeadsTo p q clients gives (is_ending c) → Story posted shown c → Story posted shown (is_ending c)
   told_on posted shown c vs both some_ lead h = (is_ending_told h.2.scene.decisions posted shown c vs both some_ lead (h, λ d there. there)).0
@@ -277,7 +285,7 @@ module _ (script : List Item) (made : AreMade script) (gives : ℕ → List ℕ)
   opened_leads = run_leads (plan_of script) (id_plan_of script) (all_tasks script) gives (replicate is.setup (quiet 0)) (opened script) set_up_leads
 
   pub first_tale : Tale [] [] [] (opened script)
-  first_tale = let k = first_decided (plan_of script) (id_plan_of script) (all_tasks script) gives numbered slots (calls script) (opens script) fit made.seats length_is few_tries opened_leads in (([], [], k.has, (λ x there. there), λ o. refl), λ d there. subst (In d) k.shown_decisions there)
+  first_tale = let k = first_decided (plan_of script) (id_plan_of script) (all_tasks script) gives numbered slots (calls script) (opens script) fit made.seats length_is few_tries opened_leads in (([], [], k.0, (λ x there. there), λ o. refl), λ d there. subst (In d) k.1 there)
 
   pub set_up_tale : Tale decided_in_setup posts_in_setup in_setup (set_up script is.setup)
   set_up_tale = setup_told (plan_of script) (id_plan_of script) (all_tasks script) gives numbered slots small is.setup [] [] [] (opened script) (first_views script) (let s = sound_run in s.setup) set_up_leads first_tale

@@ -20,7 +20,7 @@ use Rattle.call_causes.specs.Decided.{Decision}
 use Rattle.call_causes.specs.Scenes.{Birth, Claim, Saying, Scene, In, IsOver, IsBorn, IsOther, Named, StaysWithin, Later}
 use Rattle.call_causes.specs.Says.{Mark, SaidBy, SaysOn}
 use Rattle.call_causes.specs.Stories.{At, word_at, tag_at, LiesAt, HasPassed, IsCurrent, SlotsLaw, BirthsLaw, TasksLaw}
-use Rattle.call_causes.proofs.Lasting.{are_told_on, cause_on, advance_on}
+use Rattle.call_causes.proofs.Lasting.{are_told_on, cause_on, advance_on, here_later}
 use Rattle.call_causes.proofs.Slots.{LikeAt, like_fits}
 use Rattle.call_causes.proofs.BirthTicks.{one_call}
 use Rattle.call_causes.proofs.Numbered.{AreNumbered}
@@ -136,20 +136,7 @@ module _ (p : Plan) (q : IdPlan) (clients : List (List Task)) (gives : ℕ → L
     beside_said = said_first w' ws x (said_all w' x ws w.sayings (λ s there. subst (In s) (sym sayings) there) (λ a b there. subst (IsOver a b) (sym sayings) there))
 
     here : Later p q clients gives w' w'
-    here = record {
-      said = λ o v s. s;
-      over = λ a b s. s;
-      named = λ n s. s;
-      begun = λ o s. s;
-      born = λ id asked s. s;
-      came = λ k n frame s. s;
-      claimed = λ i o s. s;
-      posted = λ x s. s;
-      decided = λ d s. s;
-      ended = λ c n u. u;
-      within = room;
-      apart = beside_later.apart;
-    }
+    here = here_later p q clients gives w' room beside_later.apart
 
     -- the laws behind the tick, with the mark that is left once all is said
     pub record AfterBeside : Type 0 where

@@ -38,12 +38,13 @@ use Rattle.call_causes.specs.Posts.{Post, posts_by, posted_with, posted_at}
 use Rattle.call_causes.specs.Decided.{Decision, decision_in, decided_at}
 use Rattle.call_causes.specs.Scenes.{Scene, In, Said, IsTaskOf, Named, HasNoneOf, ToldOf, was_said, was_sent, was_begun, AreTold, HasRoom, LeadsTo, StaysWithin, Later}
 use Rattle.call_causes.specs.Says.{Mark, SaidBy, MayDo, FindsDo, NoneOfSetup, SaysOn}
-use Rattle.call_causes.specs.Stories.{At, SlotsLaw, ClaimsLaw, ReadsLaw, IsBehind, births_after, claims_after, mark_after, CallStory, HasStory, HasDecided, undo}
-use Rattle.call_causes.proofs.Lasting.{are_told_on, says_on}
+use Rattle.call_causes.specs.Stories.{At, SlotsLaw, ClaimsLaw, ReadsLaw, IsBehind, births_after, claims_after, mark_after, CallStory, HasStory, GoesOn, undo}
+use Rattle.call_causes.proofs.Lasting.{far, here_later, are_told_on, says_on}
 use Rattle.call_causes.proofs.Programs.{block_says}
 use Rattle.call_causes.proofs.Rounds.{round_says}
 use Rattle.call_causes.proofs.Calls.{told_at, open_named}
 use Rattle.call_causes.proofs.Numbered.{AreNumbered}
+use Rattle.call_causes.proofs.BirthTicks.{one_call}
 use Rattle.call_causes.proofs.Attempts.{in_behind, in_front}
 use Rattle.call_causes.proofs.Leading.{run_leads}
 use Rattle.call_causes.proofs.Sayings.{put_at}
@@ -130,23 +131,31 @@ abbrev pub IsSetUp : Core → Type 0
 IsSetUp c = (seat : SeatState) → get_elem? c.seats 0 ≡ some seat → seat.program ≡ Rest
 
 module _ (p : Plan) (q : IdPlan) (clients : List (List Task)) (gives : ℕ → List ℕ) (numbered : AreNumbered p q clients gives) (slots : HaveSlots p q clients gives) (narrow : q.slots ≤ 65536) where
+  -- where nothing happens
+  stays : (w : Scene) (ms : List Mark) → CallStory p q clients gives w ms → LeadsTo p q clients gives w.core → GoesOn p q clients gives w w.decisions w.posts w.advances w.core
+  stays w ms story lead = record {
+    has = record { scene = w; marks = ms; is = refl; shown = refl; shown_posts = refl; story = story };
+    shown_decisions = refl;
+    later = here_later p q clients gives w (has_room p q clients gives slots w ms story.claims, lead) (let births = story.births in one_call w.births births.apart (λ b there. (births.born b there).1));
+  }
+
   module _ (w : Scene) (ms : List Mark) (story : CallStory p q clients gives w ms) (us : List IdView) (ids : SoundIds p q w.core us) (sized : length w.core.words ≡ all_words p) (i : ℕ) (seat : SeatState) (at_seat : get_elem? w.core.seats i ≡ some seat) (u : IdView) (at_view : get_elem? us i ≡ some u) (m : Mark) (at : At ms i m)
       (over : i ≢ 0 → (n : Mark) → At ms 0 n → n.todo ≡ []) where
     abbrev waits : List Retry
     waits = waiting_at w.core.calls.waiting i
 
-    -- the story of a core behind the step, with the errors on which seats decided up to it
-    abbrev Goes : List Post → List ℕ → Core → Type 0
-    Goes posted advanced c = HasDecided p q clients gives w.decisions posted advanced c
-
-    before : Goes w.posts w.advances w.core
-    before = record { has = record { scene = w; marks = ms; is = refl; shown = refl; shown_posts = refl; story = story }; shown_decisions = refl }
-
     abbrev Leads : Core → Type 0
     Leads c = LeadsTo p q clients gives c
 
+    -- the story goes on behind the step
+    abbrev Goes : List Post → List ℕ → Core → Type 0
+    Goes posted advanced c = GoesOn p q clients gives w w.decisions posted advanced c
+
     room : HasRoom p q clients gives w
     room = has_room p q clients gives slots w ms story.claims
+
+    before : Leads w.core → Goes w.posts w.advances w.core
+    before lead = stays w ms story lead
 
     -- the seats behind a step
     seats_after : (w' : Scene) (seat' : SeatState) (mark : Mark) → w'.core.seats ≡ set w.core.seats i seat' → Later p q clients gives w w' → SaysOn p q clients gives w' mark seat'.program
@@ -172,6 +181,7 @@ module _ (p : Plan) (q : IdPlan) (clients : List (List Task)) (gives : ℕ → L
           let r = beside_ticks p q clients gives numbered w scene ms i m at story.slots story.births story.tasks (room, lead) b x (waiting_at w.core.calls.waiting i) few keeps refl refl (says scene refl l said) in
           record {
             shown_decisions = refl;
+            later = l;
             has = record {
               scene = scene;
               marks = set ms i r.mark;
@@ -204,6 +214,7 @@ module _ (p : Plan) (q : IdPlan) (clients : List (List Task)) (gives : ℕ → L
         let b : IsBeside p q clients gives numbered w told_scene ms i m at story.slots story.births story.tasks (room, lead) = record { words = refl; homes = refl; gave = refl; births_are = refl; claims_are = refl; advances_are = refl; posts_are = refl; decided = λ d there. there; named = λ n y. y; codes = story.births.codes } in
         let l = beside_later p q clients gives numbered w told_scene ms i m at story.slots story.births story.tasks (room, lead) b Rest [] tt tt refl refl in record {
           shown_decisions = refl;
+          later = l;
           has = record {
             scene = told_scene;
             marks = ms;
@@ -228,15 +239,18 @@ module _ (p : Plan) (q : IdPlan) (clients : List (List Task)) (gives : ℕ → L
       noted_beside : IsBeside p q clients gives numbered w (noted ds w) ms i m at story.slots story.births story.tasks (room, lead)
       noted_beside = record { words = refl; homes = refl; gave = refl; births_are = refl; claims_are = refl; advances_are = refl; posts_are = refl; decided = λ d there. in_behind d ds w.decisions there; named = λ n y. y; codes = story.births.codes }
 
+      pub noted_later : Later p q clients gives w (noted ds w)
+      noted_later = beside_later p q clients gives numbered w (noted ds w) ms i m at story.slots story.births story.tasks (room, lead) noted_beside Rest [] tt tt refl refl
+
       pub noted_story : CallStory p q clients gives (noted ds w) ms
-      noted_story = let l = beside_later p q clients gives numbered w (noted ds w) ms i m at story.slots story.births story.tasks (room, lead) noted_beside Rest [] tt tt refl refl in record {
+      noted_story = record {
         each = story.each;
         slots = beside_slots p q clients gives numbered w (noted ds w) ms i m at story.slots story.births story.tasks (room, lead) noted_beside Rest [] tt tt refl refl;
         births = beside_births p q clients gives numbered w (noted ds w) ms i m at story.slots story.births story.tasks (room, lead) noted_beside Rest [] tt tt refl refl;
         tasks = beside_tasks p q clients gives numbered w (noted ds w) ms i m at story.slots story.births story.tasks (room, lead) noted_beside Rest [] tt tt refl refl;
         claims = record { taken = story.claims.taken; calls = story.claims.calls; once = story.claims.once; free = story.claims.free };
         reads = record { bytes = story.reads.bytes; tied = story.reads.tied; inside = story.reads.inside };
-        seats = λ k s n at_s at_n. says_on p q clients gives w (noted ds w) l n s.program (story.seats k s n at_s at_n);
+        seats = λ k s n at_s at_n. says_on p q clients gives w (noted ds w) noted_later n s.program (story.seats k s n at_s at_n);
       }
 
     -- ## What a step on the table of the sockets finds
@@ -327,6 +341,7 @@ module _ (p : Plan) (q : IdPlan) (clients : List (List Task)) (gives : ℕ → L
           let twice = set_twice ms i (mark_after p q clients gives step found m) r.mark in
           record {
             shown_decisions = refl;
+            later = l;
             has = record {
               scene = aside_scene;
               marks = set ms i r.mark;
@@ -346,31 +361,31 @@ module _ (p : Plan) (q : IdPlan) (clients : List (List Task)) (gives : ℕ → L
           }
 
     by_found : (step : Step) (next : Found step → Program) (t : Option Taking) → SaysOn p q clients gives w m (Aside step next) → IdGoesOn p q u (Aside step next) → (x : Option (Found step)) → found_in step w.core.calls t ≡ x → Leads (with_found p i seat w.core step x next) → Goes (elim x as (λ o. List Post) [ none ↦ [] | some found ↦ posts_by step found ] ++ w.posts) (elim x as (λ o. List ℕ) [ none ↦ [] | some found ↦ advances_by step found w.core.calls ] ++ w.advances) (with_found p i seat w.core step x next)
-    by_found step next t says go none is lead = before
+    by_found step next t says go none is lead = before lead
     by_found step next t says go (some found) is lead = on_ids step next t says go found is lead
 
     -- ## Each step
 
     by_letter : (r : ℕ) (next : Heading → List ℕ → Program) → SaysOn p q clients gives w m (TakeMessage r next) → IdGoesOn p q u (TakeMessage r next) → (x : Option Letter) → message (λ (h : Home). h) w.core.homes r ≡ x → Leads (with_message p i seat w.core r x (λ letter. next letter.0 letter.1)) → Goes w.posts w.advances (with_message p i seat w.core r x (λ letter. next letter.0 letter.1))
-    by_letter r next says go none is lead = before
+    by_letter r next says go none is lead = before lead
     by_letter r next says go (some letter) is lead = let owner = ids.owners r (Message letter.0 letter.1) (message_there (get_elem? w.core.homes r) letter is) in
         on_homes (next letter.0 letter.1) seat.hand (set w.core.homes r none) (keeps_few p q u (next letter.0 letter.1) (go letter.0 letter.1 owner)) lead (λ v l s. says letter.0 letter.1 v owner l s)
 
     by_link : (k : ℕ) (next : ℕ → Program) → SaysOn p q clients gives w m (TakeHome k next) → IdGoesOn p q u (TakeHome k next) → (x : Option (List ℕ × ℕ)) → Leads (with_link p i seat w.core k x next) → Goes w.posts w.advances (with_link p i seat w.core k x next)
-    by_link k next says go none lead = before
+    by_link k next says go none lead = before lead
     by_link k next says go (some home) lead = on_homes (next home.1) (lies_at w.core.homes (link_place p k) ++ seat.hand) (set w.core.homes (link_place p k) none) (keeps_few p q u (next home.1) (go home.1)) lead (λ v l s. says home.1 v l s)
 
     by_put : (bytes : List ℕ) (next : Put → Program) → ((answer : Put) (v : Scene) → Later p q clients gives w v → SaidBy v (next answer) → SaysOn p q clients gives v m (next answer)) → ((answer : Put) → IdGoesOn p q u (next answer)) → (answer : Answer) → Leads (with_put p i seat w.core bytes answer next) → Goes w.posts w.advances (with_put p i seat w.core bytes answer next)
     by_put bytes next says go (OfPut answer) lead = on_homes (next answer) (onto_first (fed bytes answer) seat.hand) w.core.homes (keeps_few p q u (next answer) (go answer)) lead (λ v l s. says answer v l s)
-    by_put bytes next says go Unasked lead = before
-    by_put bytes next says go (OfReady r) lead = before
-    by_put bytes next says go (OfTake t) lead = before
+    by_put bytes next says go Unasked lead = before lead
+    by_put bytes next says go (OfReady r) lead = before lead
+    by_put bytes next says go (OfTake t) lead = before lead
 
     by_ready : (next : Ready → Program) → ((answer : Ready) (v : Scene) → Later p q clients gives w v → SaidBy v (next answer) → SaysOn p q clients gives v m (next answer)) → ((answer : Ready) → IdGoesOn p q u (next answer)) → (answer : Answer) → Leads (with_ready p i seat w.core answer next) → Goes w.posts w.advances (with_ready p i seat w.core answer next)
     by_ready next says go (OfReady answer) lead = on_homes (next answer) seat.hand w.core.homes (keeps_few p q u (next answer) (go answer)) lead (λ v l s. says answer v l s)
-    by_ready next says go Unasked lead = before
-    by_ready next says go (OfPut a) lead = before
-    by_ready next says go (OfTake t) lead = before
+    by_ready next says go Unasked lead = before lead
+    by_ready next says go (OfPut a) lead = before lead
+    by_ready next says go (OfTake t) lead = before lead
 
     first_step : (answer : Answer) (program : Program) → SaysOn p q clients gives w m program → IdGoesOn p q u program → FitsFirst p w.core program → AllowsDo p program → Leads (step_with p i seat w.core answer program) → Goes (posted_with w.core.calls (taken answer) program ++ w.posts) (advanced_with w.core.calls (taken answer) program ++ w.advances) (step_with p i seat w.core answer program)
     first_step answer (Do call next) says go fits in_ lead = let found : ℕ = found_at w.core.words (word_of p call) in
@@ -383,13 +398,13 @@ module _ (p : Plan) (q : IdPlan) (clients : List (List Task)) (gives : ℕ → L
     first_step answer (PutBytes k asked bytes next) says go fits in_ lead = by_put bytes next says go answer lead
     first_step answer (AskReady k next) says go fits in_ lead = by_ready next says go answer lead
     first_step answer (Aside step next) says go fits in_ lead = by_found step next (taken answer) says go (found_in step w.core.calls (taken answer)) refl lead
-    first_step answer (Say o outcome next) says go fits in_ lead = before
-    first_step answer (Sent o next) says go fits in_ lead = before
-    first_step answer Rest says go fits in_ lead = before
-    first_step answer (Write x after) says go fits in_ lead = before
-    first_step answer (Round head next) says go fits in_ lead = before
-    first_step answer (Keep r next) says go fits in_ lead = before
-    first_step answer (Retries requests after) says go fits in_ lead = before
+    first_step answer (Say o outcome next) says go fits in_ lead = before lead
+    first_step answer (Sent o next) says go fits in_ lead = before lead
+    first_step answer Rest says go fits in_ lead = before lead
+    first_step answer (Write x after) says go fits in_ lead = before lead
+    first_step answer (Round head next) says go fits in_ lead = before lead
+    first_step answer (Keep r next) says go fits in_ lead = before lead
+    first_step answer (Retries requests after) says go fits in_ lead = before lead
 
     -- where the error on which the seat decides is noted, if it decides on one
     any_step : (answer : Answer) (program : Program) → ((d : Decision) → In d (decision_in program) → In d w.decisions) → SaysOn p q clients gives w m program → IdGoesOn p q u program → FitsFirst p w.core (goes.first_of program) → AllowsDo p (goes.first_of program) → Leads (tick_with p i seat w.core answer program) → Goes (posted_with w.core.calls (taken answer) (goes.first_of program) ++ w.posts) (advanced_with w.core.calls (taken answer) (goes.first_of program) ++ w.advances) (tick_with p i seat w.core answer program)
@@ -402,27 +417,26 @@ module _ (p : Plan) (q : IdPlan) (clients : List (List Task)) (gives : ℕ → L
     any_step answer (PutBytes k asked bytes next) on says go fits in_ lead = first_step answer (PutBytes k asked bytes next) says go fits in_ lead
     any_step answer (AskReady k next) on says go fits in_ lead = first_step answer (AskReady k next) says go fits in_ lead
     any_step answer (Aside step next) on says go fits in_ lead = first_step answer (Aside step next) says go fits in_ lead
-    any_step answer (Say o outcome next) on says go fits in_ lead = before
-    any_step answer (Sent o next) on says go fits in_ lead = before
-    any_step answer Rest on says go fits in_ lead = before
-    any_step answer (Keep r next) on says go fits in_ lead = before
-    any_step answer (Retries requests after) on says go fits in_ lead = before
+    any_step answer (Say o outcome next) on says go fits in_ lead = before lead
+    any_step answer (Sent o next) on says go fits in_ lead = before lead
+    any_step answer Rest on says go fits in_ lead = before lead
+    any_step answer (Keep r next) on says go fits in_ lead = before lead
+    any_step answer (Retries requests after) on says go fits in_ lead = before lead
 
   -- the step of each seat is one of the table
   abbrev pub Allows : Core → Moment → Type 0
   Allows c mm = (seat : SeatState) → get_elem? c.seats mm.seat ≡ some seat → AllowsDo p (goes.first_of seat.program)
 
   -- a tick of any seat goes on with the story, with the error noted on which it decides; behind seat 0 once it has nothing left to do
-  pub decided_ticks : (ds : List Decision) (ps : List Post) (ns : List ℕ) (c : Core) (us : List IdView) (mm : Moment) → SoundIds p q c us → IsFittingIds p c mm → length c.words ≡ all_words p → Allows c mm → (mm.seat ≢ 0 → IsSetUp c) → LeadsTo p q clients gives (ticked p c mm) → HasDecided p q clients gives ds ps ns c
-      → HasDecided p q clients gives (decided_at c mm ++ ds) (posted_at c mm ++ ps) (advanced_at c mm ++ ns) (ticked p c mm)
-  decided_ticks ds ps ns c us mm ids fitting sized allows set_up lead k = let h = k.has in
-      subst (λ es. HasDecided p q clients gives (decided_at c mm ++ es) (posted_at c mm ++ ps) (advanced_at c mm ++ ns) (ticked p c mm)) k.shown_decisions
-      (subst (λ ks. HasDecided p q clients gives (decided_at c mm ++ h.scene.decisions) (posted_at c mm ++ ks) (advanced_at c mm ++ ns) (ticked p c mm)) h.shown_posts
-      (subst (λ ks. HasDecided p q clients gives (decided_at c mm ++ h.scene.decisions) (posted_at c mm ++ h.scene.posts) (advanced_at c mm ++ ks) (ticked p c mm)) h.shown
-      (subst (λ d. HasDecided p q clients gives (decided_at d mm ++ h.scene.decisions) (posted_at d mm ++ h.scene.posts) (advanced_at d mm ++ h.scene.advances) (ticked p d mm)) h.is
-      (of_scene h.scene h.marks h.story (subst (λ d. SoundIds p q d us) (sym h.is) ids) (subst (λ d. IsFittingIds p d mm) (sym h.is) fitting) (subst (λ (d : Core). length d.words ≡ all_words p) (sym h.is) sized) (subst (λ d. Allows d mm) (sym h.is) allows) (subst (λ d. mm.seat ≢ 0 → IsSetUp d) (sym h.is) set_up) (subst (λ d. LeadsTo p q clients gives (ticked p d mm)) (sym h.is) lead)))))
+  pub story_lasts : (ps : List Post) (ns : List ℕ) (c : Core) (us : List IdView) (mm : Moment) → SoundIds p q c us → IsFittingIds p c mm → length c.words ≡ all_words p → Allows c mm → (mm.seat ≢ 0 → IsSetUp c) → LeadsTo p q clients gives (ticked p c mm) → (h : HasStory p q clients gives ps ns c)
+      → GoesOn p q clients gives h.scene (decided_at c mm ++ h.scene.decisions) (posted_at c mm ++ ps) (advanced_at c mm ++ ns) (ticked p c mm)
+  story_lasts ps ns c us mm ids fitting sized allows set_up lead h =
+      subst (λ ks. GoesOn p q clients gives h.scene (decided_at c mm ++ h.scene.decisions) (posted_at c mm ++ ks) (advanced_at c mm ++ ns) (ticked p c mm)) h.shown_posts
+      (subst (λ ks. GoesOn p q clients gives h.scene (decided_at c mm ++ h.scene.decisions) (posted_at c mm ++ h.scene.posts) (advanced_at c mm ++ ks) (ticked p c mm)) h.shown
+      (subst (λ d. GoesOn p q clients gives h.scene (decided_at d mm ++ h.scene.decisions) (posted_at d mm ++ h.scene.posts) (advanced_at d mm ++ h.scene.advances) (ticked p d mm)) h.is
+      (of_scene h.scene h.marks h.story (subst (λ d. SoundIds p q d us) (sym h.is) ids) (subst (λ d. IsFittingIds p d mm) (sym h.is) fitting) (subst (λ (d : Core). length d.words ≡ all_words p) (sym h.is) sized) (subst (λ d. Allows d mm) (sym h.is) allows) (subst (λ d. mm.seat ≢ 0 → IsSetUp d) (sym h.is) set_up) (subst (λ d. LeadsTo p q clients gives (ticked p d mm)) (sym h.is) lead))))
     where
-      of_scene : (w : Scene) (ms : List Mark) → CallStory p q clients gives w ms → SoundIds p q w.core us → IsFittingIds p w.core mm → length w.core.words ≡ all_words p → Allows w.core mm → (mm.seat ≢ 0 → IsSetUp w.core) → LeadsTo p q clients gives (ticked p w.core mm) → HasDecided p q clients gives (decided_at w.core mm ++ w.decisions) (posted_at w.core mm ++ w.posts) (advanced_at w.core mm ++ w.advances) (ticked p w.core mm)
+      of_scene : (w : Scene) (ms : List Mark) → CallStory p q clients gives w ms → SoundIds p q w.core us → IsFittingIds p w.core mm → length w.core.words ≡ all_words p → Allows w.core mm → (mm.seat ≢ 0 → IsSetUp w.core) → LeadsTo p q clients gives (ticked p w.core mm) → GoesOn p q clients gives w (decided_at w.core mm ++ w.decisions) (posted_at w.core mm ++ w.posts) (advanced_at w.core mm ++ w.advances) (ticked p w.core mm)
       of_scene w ms story ids fitting sized allows set_up lead = by_seat (get_elem? w.core.seats mm.seat) refl lead
         where
           over : mm.seat ≢ 0 → (n : Mark) → At ms 0 n → n.todo ≡ []
@@ -431,12 +445,15 @@ module _ (p : Plan) (q : IdPlan) (clients : List (List Task)) (gives : ℕ → L
           here : LeadsTo p q clients gives w.core
           here = run_leads p q clients gives (mm ∷ []) w.core lead
 
-          by_seat : (x : Option SeatState) → get_elem? w.core.seats mm.seat ≡ x → LeadsTo p q clients gives (elim x as (λ o. Core) [ none ↦ w.core | some seat ↦ tick_with p mm.seat seat w.core mm.answer seat.program ]) → HasDecided p q clients gives (elim x as (λ o. List Decision) [ none ↦ [] | some seat ↦ decision_in seat.program ] ++ w.decisions) (elim x as (λ o. List Post) [ none ↦ [] | some seat ↦ posted_with w.core.calls (taken mm.answer) (goes.first_of seat.program) ] ++ w.posts) (elim x as (λ o. List ℕ) [ none ↦ [] | some seat ↦ advanced_with w.core.calls (taken mm.answer) (goes.first_of seat.program) ] ++ w.advances) (elim x as (λ o. Core) [ none ↦ w.core | some seat ↦ tick_with p mm.seat seat w.core mm.answer seat.program ])
-          by_seat none e lead = record { has = record { scene = w; marks = ms; is = refl; shown = refl; shown_posts = refl; story = story }; shown_decisions = refl }
+          by_seat : (x : Option SeatState) → get_elem? w.core.seats mm.seat ≡ x → LeadsTo p q clients gives (elim x as (λ o. Core) [ none ↦ w.core | some seat ↦ tick_with p mm.seat seat w.core mm.answer seat.program ]) → GoesOn p q clients gives w (elim x as (λ o. List Decision) [ none ↦ [] | some seat ↦ decision_in seat.program ] ++ w.decisions) (elim x as (λ o. List Post) [ none ↦ [] | some seat ↦ posted_with w.core.calls (taken mm.answer) (goes.first_of seat.program) ] ++ w.posts) (elim x as (λ o. List ℕ) [ none ↦ [] | some seat ↦ advanced_with w.core.calls (taken mm.answer) (goes.first_of seat.program) ] ++ w.advances) (elim x as (λ o. Core) [ none ↦ w.core | some seat ↦ tick_with p mm.seat seat w.core mm.answer seat.program ])
+          by_seat none e lead = stays w ms story here
           by_seat (some seat) e lead = let u = other_there w.core.seats us mm.seat seat ids.each e in let m = other_there w.core.seats ms mm.seat seat story.each e in
               let told = noted_story w ms story us ids sized mm.seat seat e u.0 u.1 m.0 m.1 over (decision_in seat.program) here in
-              any_step (noted (decision_in seat.program) w) ms told us ids sized mm.seat seat e u.0 u.1 m.0 m.1 over mm.answer seat.program (λ d there. in_front d (decision_in seat.program) w.decisions there) (told.seats mm.seat seat m.0 e m.1) (ids.seats mm.seat seat u.0 e u.1) (fitting seat e) (allows seat e) lead
+              let k = any_step (noted (decision_in seat.program) w) ms told us ids sized mm.seat seat e u.0 u.1 m.0 m.1 over mm.answer seat.program (λ d there. in_front d (decision_in seat.program) w.decisions there) (told.seats mm.seat seat m.0 e m.1) (ids.seats mm.seat seat u.0 e u.1) (fitting seat e) (allows seat e) lead in record {
+                has = k.has;
+                shown_decisions = k.shown_decisions;
+                later = far p q clients gives w (noted (decision_in seat.program) w) (let h = k.has in h.scene) (noted_later w ms story us ids sized mm.seat seat e u.0 u.1 m.0 m.1 over (decision_in seat.program) here) k.later;
+              }
 
-  -- the same where it isn't asked on what seats decided
   pub story_ticks : (ps : List Post) (ns : List ℕ) (c : Core) (us : List IdView) (mm : Moment) → SoundIds p q c us → IsFittingIds p c mm → length c.words ≡ all_words p → Allows c mm → (mm.seat ≢ 0 → IsSetUp c) → LeadsTo p q clients gives (ticked p c mm) → HasStory p q clients gives ps ns c → HasStory p q clients gives (posted_at c mm ++ ps) (advanced_at c mm ++ ns) (ticked p c mm)
-  story_ticks ps ns c us mm ids fitting sized allows set_up lead h = let k = decided_ticks h.scene.decisions ps ns c us mm ids fitting sized allows set_up lead (record { has = h; shown_decisions = refl }) in k.has
+  story_ticks ps ns c us mm ids fitting sized allows set_up lead h = let k = story_lasts ps ns c us mm ids fitting sized allows set_up lead h in k.has

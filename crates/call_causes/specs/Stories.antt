@@ -20,7 +20,7 @@ use Rattle.sock_programs.specs.Cores.{Core, SeatState}
 use Rattle.call_causes.specs.Lists.{given, times, advances_by}
 use Rattle.call_causes.specs.Posts.{Post, posts_by}
 use Rattle.call_causes.specs.Decided.{Decision}
-use Rattle.call_causes.specs.Scenes.{Birth, Claim, Saying, Scene, In, IsOver, Said, IsBorn, IsOther, MayAdvance, CauseOf, Begun, IsTaskOf, WhyEnded, WhyOwn, AreTold, IsClaimed}
+use Rattle.call_causes.specs.Scenes.{Birth, Claim, Saying, Scene, In, IsOver, Said, IsBorn, IsOther, MayAdvance, CauseOf, Begun, IsTaskOf, WhyEnded, WhyOwn, AreTold, IsClaimed, Later}
 use Rattle.call_causes.specs.Says.{Shape, shape_of, with_attempt, unlocked_by, Slot, NoSlot, Claims, Locked, Holds, Leaves, Mark, with_slot, with_owed, with_made, with_done, put_in, taken_out, given_more, SaysOn}
 
 abbrev pub At : List Mark → ℕ → Mark → Type 0
@@ -286,7 +286,8 @@ module _ (p : Plan) (q : IdPlan) (clients : List (List Task)) (gives : ℕ → L
     pub shown_posts : scene.posts ≡ posted
     pub story : CallStory scene marks
 
-  -- and up to which seats decided on these errors
-  pub record HasDecided (decided : List Decision) (posted : List Post) (advanced : List ℕ) (c : Core) : Type 0 where
+  -- it goes on from this scene, and seats decided on these errors up to its core
+  pub record GoesOn (w : Scene) (decided : List Decision) (posted : List Post) (advanced : List ℕ) (c : Core) : Type 0 where
     pub has : HasStory posted advanced c
     pub shown_decisions : has.scene.decisions ≡ decided
+    pub later : Later p q clients gives w has.scene
