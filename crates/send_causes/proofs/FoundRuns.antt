@@ -1,13 +1,11 @@
 -- What seats found missing lasts along the ticks of a run.
-use Rattle.std.proofs.Common.{◌≡◌, ◌≢◌, ℕ, zero, suc, ◌+◌, ◌<◌, ◌≤◌, ◌⊎◌, inl, inr, ⊎_elim, List, [], ◌∷◌, ◌++◌, length, get_or, refl, sym, ap, ◌∙◌, subst, arith}
-use mathlib.Core.Option.{Option, some, some-ne-none}
+use Rattle.std.proofs.Common.{◌≡◌, ◌≢◌, ℕ, ◌≤◌, ⊎_elim, List, [], ◌∷◌, ◌++◌, get_or, refl, sym, ap, ◌∙◌, subst}
+use mathlib.Core.Option.{some, some-ne-none}
 use lib.ListN.{get_elem?}
 use Rattle.sock_words.specs.declared.plain.Plan.{Plan}
 use Rattle.sock_model.specs.declared.view.View.{View}
-use Rattle.sock_model.specs.Layout.{name_word, all_words}
+use Rattle.sock_model.specs.Layout.{name_word}
 use Rattle.corr_core.specs.declared.marks.Plan.{Plan as IdPlan}
-use Rattle.id_runs.specs.Held.{IdView}
-use Rattle.id_runs.specs.Goes.{SoundIds, IsFittingIds}
 use Rattle.sock_message.specs.Asked.{Asked}
 use Rattle.sock_programs.specs.declared.task.Task.{Task}
 use Rattle.sock_programs.specs.Calls.{LoadName}
@@ -19,13 +17,13 @@ use Rattle.joint_runs.proofs.Both.{BothSound, AreBoth}
 use Rattle.call_causes.specs.Lists.{advanced_at}
 use Rattle.call_causes.specs.Posts.{Post, posted_at}
 use Rattle.call_causes.specs.Scenes.{Scene, Named, LeadsTo, Later}
-use Rattle.call_causes.specs.Says.{Mark}
-use Rattle.call_causes.specs.Stories.{At, CallStory, HasStory}
+use Rattle.call_causes.specs.Decided.{Decision}
+use Rattle.call_causes.specs.Stories.{HasStory, GoesOn}
 use Rattle.call_causes.proofs.Allowing.{allows}
 use Rattle.call_causes.proofs.Claiming.{HaveSlots}
 use Rattle.call_causes.proofs.Leading.{run_leads}
 use Rattle.call_causes.proofs.Numbered.{AreNumbered}
-use Rattle.call_causes.proofs.Ticks.{IsSetUp, Allows, other_there}
+use Rattle.call_causes.proofs.Ticks.{IsSetUp, other_there, story_lasts}
 use Rattle.send_causes.specs.Refused.{DidMiss, WouldStore, DidAt, DidIn}
 use Rattle.send_causes.proofs.AttemptedFacts.{IsOwn, facts}
 use Rattle.send_causes.proofs.AttemptedNames.{follows_first}
@@ -37,9 +35,7 @@ first_there : {A : Type 0} (xs : List A) (i : ℕ) (x : A) → get_elem? xs i �
 first_there [] i x at = absurd (some-ne-none x (sym at))
 first_there (y ∷ ys) i x at = (y, refl)
 
-module _ (p : Plan) (q : IdPlan) (clients : List (List Task)) (gives : ℕ → List ℕ) (numbered : AreNumbered p q clients gives) (slots : HaveSlots p q clients gives) (small : q.slots ≤ 65536)
-    (lasts : (ps : List Post) (ns : List ℕ) (c : Core) (us : List IdView) (m : Moment) → SoundIds p q c us → IsFittingIds p c m → length c.words ≡ all_words p → Allows p q clients gives numbered slots small c m → (m.seat ≢ 0 → IsSetUp c) → LeadsTo p q clients gives (ticked p c m)
-        → (h : HasStory p q clients gives ps ns c) → (k : HasStory p q clients gives (posted_at c m ++ ps) (advanced_at c m ++ ns) (ticked p c m)) × Later p q clients gives h.scene k.scene) where
+module _ (p : Plan) (q : IdPlan) (clients : List (List Task)) (gives : ℕ → List ℕ) (numbered : AreNumbered p q clients gives) (slots : HaveSlots p q clients gives) (small : q.slots ≤ 65536) where
   abbrev Missed_ : Scene → ℕ → ℕ → ℕ → Type 0
   Missed_ w j name o = Missed p q clients gives w j name o
 
@@ -53,11 +49,19 @@ module _ (p : Plan) (q : IdPlan) (clients : List (List Task)) (gives : ℕ → L
   abbrev since : (w v : Scene) (c : Core) → Later p q clients gives w v → Since v c → Since w c
   since w v c l s = record { posted = s.posted; shown = s.shown; story = s.story; stays = λ j name o x. s.stays j name o (missed_on p q clients gives w v l j name o x) }
 
+  -- and of a core later still
+  pub then_since : (w : Scene) (c d : Core) (s : Since w c) → ((ps : List Post) (ns : List ℕ) (h : HasStory p q clients gives ps ns c) → Since h.scene d) → Since w d
+  then_since w c d s on = let r = on s.posted s.shown s.story in record { posted = r.posted; shown = r.shown; story = r.story; stays = λ j name o x. r.stays j name o (s.stays j name o x) }
+
+  -- behind a change after which what happened lasts
+  pub since_change : (w : Scene) (ds : List Decision) (ps : List Post) (ns : List ℕ) (c : Core) → GoesOn p q clients gives w ds ps ns c → Since w c
+  since_change w ds ps ns c g = record { posted = ps; shown = ns; story = g.has; stays = λ j name o x. missed_on p q clients gives w g.has.scene g.later j name o x }
+
   pub since_ticks : (ms : List Moment) (c : Core) (vs : List View) → AreBoth p q c vs ms → AreSetUp p c ms → LeadsTo p q clients gives (run p c ms) → (ps : List Post) (ns : List ℕ) (h : HasStory p q clients gives ps ns c) → Since h.scene (run p c ms)
   since_ticks [] c vs both over lead ps ns h = record { posted = ps; shown = ns; story = h; stays = λ j name o x. x }
   since_ticks (m ∷ ms) c vs both over lead ps ns h =
-      let k = lasts ps ns c both.0.id_views m both.0.ids both.1.fitting_ids (let s = both.0.sockets in s.lawful.references.sized) (allows p c vs m both.0.sockets) over.0 (run_leads p q clients gives ms (ticked p c m) lead) h in
-      since h.scene k.0.scene (run p (ticked p c m) ms) k.1 (since_ticks ms (ticked p c m) (views_after p c vs m) both.2 over.1 lead (posted_at c m ++ ps) (advanced_at c m ++ ns) k.0)
+      let k = story_lasts p q clients gives numbered slots small ps ns c both.0.id_views m both.0.ids both.1.fitting_ids (let s = both.0.sockets in s.lawful.references.sized) (allows p c vs m both.0.sockets) over.0 (run_leads p q clients gives ms (ticked p c m) lead) h in
+      since h.scene k.has.scene (run p (ticked p c m) ms) k.later (since_ticks ms (ticked p c m) (views_after p c vs m) both.2 over.1 lead (posted_at c m ++ ps) (advanced_at c m ++ ns) k.has)
 
   -- ## What is missed in these ticks
 
@@ -86,11 +90,11 @@ module _ (p : Plan) (q : IdPlan) (clients : List (List Task)) (gives : ℕ → L
     find_along [] c vs both answered over lead k = record { later = record { posted = k.posted; shown = k.shown; story = k.story; stays = λ j name o x. x }; missed = λ j name o id n other x. absurd x }
     find_along (m ∷ ms) c vs both answered over lead k =
         let t = own_ticks p q small is_call c vs k.trails k.law both.0.id_views both.0.ids (facts p q clients gives k.posted k.shown c k.story) both.0.sockets m answered.0 both.1.fitting_ids in
-        let l = lasts k.posted k.shown c both.0.id_views m both.0.ids both.1.fitting_ids (let s = both.0.sockets in s.lawful.references.sized) (allows p c vs m both.0.sockets) over.0 (run_leads p q clients gives ms (ticked p c m) lead) k.story in
-        let next : Owns p q clients gives numbered slots small is_call (ticked p c m) = record { posted = posted_at c m ++ k.posted; shown = advanced_at c m ++ k.shown; story = l.0; trails = t.0; law = t.1 } in
+        let l = story_lasts p q clients gives numbered slots small k.posted k.shown c both.0.id_views m both.0.ids both.1.fitting_ids (let s = both.0.sockets in s.lawful.references.sized) (allows p c vs m both.0.sockets) over.0 (run_leads p q clients gives ms (ticked p c m) lead) k.story in
+        let next : Owns p q clients gives numbered slots small is_call (ticked p c m) = record { posted = posted_at c m ++ k.posted; shown = advanced_at c m ++ k.shown; story = l.has; trails = t.0; law = t.1 } in
         let r = find_along ms (ticked p c m) (views_after p c vs m) both.2 answered.1 over.1 lead next in record {
-          later = since k.story.scene l.0.scene (run p (ticked p c m) ms) l.1 r.later;
+          later = since k.story.scene l.has.scene (run p (ticked p c m) ms) l.later r.later;
           missed = λ j name o id n other. ⊎_elim
-              (λ now. r.later.stays j name o (missed_on p q clients gives k.story.scene l.0.scene l.1 j name o (missed_now c k m over.0 j name o id n other now)))
+              (λ now. r.later.stays j name o (missed_on p q clients gives k.story.scene l.has.scene l.later j name o (missed_now c k m over.0 j name o id n other now)))
               (λ later. r.missed j name o id n other later);
         }

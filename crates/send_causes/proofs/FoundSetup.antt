@@ -9,7 +9,7 @@ use Rattle.sock_words.specs.declared.plain.Plan.{Plan}
 use Rattle.sock_words.specs.declared.kind.Kind.{Kind}
 use Rattle.corr_core.specs.declared.marks.Plan.{Plan as IdPlan}
 use Rattle.sock_programs.specs.Calls.{Call, LoadName}
-use Rattle.sock_programs.specs.Clients.{client_from}
+use Rattle.sock_programs.specs.Clients.{operation, client_from}
 use Rattle.sock_programs.specs.declared.task.Op.{Op}
 use Rattle.sock_programs.specs.declared.task.Op.TheVariants as ops
 use Rattle.sock_programs.specs.declared.task.Sizes.{Sizes}
@@ -51,17 +51,11 @@ open_goes (suc more) i o name k next g = (tt, λ found. way (found == 0) (make_s
 
 opens_go : (sizes : Sizes) (ts : List Task) → AllByRecursion (λ (t : Task). IsOpen t.op) ts → LooksForNone (client_from sizes [] ts)
 opens_go sizes [] all = tt
-opens_go sizes (t ∷ ts) all = by t.op refl all.0
+opens_go sizes (t ∷ ts) all = by (opens_go sizes ts all.1) t.op all.0
   where
-    by : (op : Op) → t.op ≡ op → IsOpen op → LooksForNone (Rattle.sock_programs.specs.Clients.operation sizes [] t.number (λ held'. client_from sizes held' ts) op)
-    by (ops.Open name k) e is = open_goes sizes.slots 0 t.number name k (client_from sizes [] ts) (opens_go sizes ts all.1)
-    by (ops.Send name bytes) e is = absurd is
-    by (ops.Call asked) e is = absurd is
-    by (ops.Expire o) e is = absurd is
-    by (ops.Join o) e is = absurd is
-    by (ops.Hold name) e is = absurd is
-    by (ops.Drop name) e is = absurd is
-    by (ops.Fail name code) e is = absurd is
+    by : LooksForNone (client_from sizes [] ts) → (op : Op) → IsOpen op → LooksForNone (operation sizes [] t.number (λ held'. client_from sizes held' ts) op)
+    by rest (ops.Open name k) is = open_goes sizes.slots 0 t.number name k (client_from sizes [] ts) rest
+    by rest _ is = absurd is
 
 goes_on : (x : Program) → LooksForNone x → LooksForNone (next_step (resolved [] x))
 goes_on (Say o outcome next) g = goes_on next g

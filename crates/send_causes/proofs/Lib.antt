@@ -96,3 +96,4 @@ pub mod OwnIds
 pub mod FoundTries
 pub mod FoundRuns
 pub mod FoundSetup
+pub mod FoundWhole
