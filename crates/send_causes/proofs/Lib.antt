@@ -93,7 +93,7 @@ pub mod RefusedNames
 pub mod RefusedLost
 pub mod RefusedRun
 pub mod OwnIds
-pub mod FoundTries
-pub mod FoundRuns
-pub mod FoundSetup
-pub mod FoundWhole
+pub mod FoundNames
+pub mod FoundNamesRuns
+pub mod FoundNamesSetup
+pub mod FoundNamesWhole

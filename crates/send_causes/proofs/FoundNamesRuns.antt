@@ -3,9 +3,9 @@ use Rattle.std.proofs.Common.{◌≡◌, ◌≢◌, ℕ, ◌≤◌, ⊎_elim, Li
 use mathlib.Core.Option.{some, some-ne-none}
 use lib.ListN.{get_elem?}
 use Rattle.sock_words.specs.declared.plain.Plan.{Plan}
+use Rattle.corr_core.specs.declared.marks.Plan.{Plan as IdPlan}
 use Rattle.sock_model.specs.declared.view.View.{View}
 use Rattle.sock_model.specs.Layout.{name_word}
-use Rattle.corr_core.specs.declared.marks.Plan.{Plan as IdPlan}
 use Rattle.sock_message.specs.Asked.{Asked}
 use Rattle.sock_programs.specs.declared.task.Task.{Task}
 use Rattle.sock_programs.specs.Calls.{LoadName}
@@ -13,10 +13,10 @@ use Rattle.sock_programs.specs.Cores.{Core, SeatState}
 use Rattle.sock_programs.specs.Ticks.{Moment, AreAnswered, ticked, run}
 use Rattle.sock_runs.specs.Sound.{first_step, views_after}
 use Rattle.sock_causes.proofs.Ticks.{elem_there}
-use Rattle.joint_runs.proofs.Both.{BothSound, AreBoth}
+use Rattle.joint_runs.proofs.Both.{AreBoth}
 use Rattle.call_causes.specs.Lists.{advanced_at}
 use Rattle.call_causes.specs.Posts.{Post, posted_at}
-use Rattle.call_causes.specs.Scenes.{Scene, Named, LeadsTo, Later}
+use Rattle.call_causes.specs.Scenes.{Scene, LeadsTo, Later}
 use Rattle.call_causes.specs.Decided.{Decision}
 use Rattle.call_causes.specs.Stories.{HasStory, GoesOn}
 use Rattle.call_causes.proofs.Allowing.{allows}
@@ -29,7 +29,7 @@ use Rattle.send_causes.proofs.AttemptedFacts.{IsOwn, facts}
 use Rattle.send_causes.proofs.AttemptedNames.{follows_first}
 use Rattle.send_causes.proofs.AttemptedOwn.{IsTrueOf, own_ticks}
 use Rattle.send_causes.proofs.AttemptedStored.{Owns, AreSetUp, would_of}
-use Rattle.send_causes.proofs.FoundTries.{Missed, missed_on, missed_here}
+use Rattle.send_causes.proofs.FoundNames.{Missed, missed_on, missed_here}
 
 first_there : {A : Type 0} (xs : List A) (i : ℕ) (x : A) → get_elem? xs i ≡ some x → (y : A) × (get_elem? xs 0 ≡ some y)
 first_there [] i x at = absurd (some-ne-none x (sym at))

@@ -1,23 +1,23 @@
 -- Seats that look for no socket: seat 0 in the setup, and those that have no client.
-use Rattle.std.proofs.Common.{◌≡◌, ◌≢◌, ℕ, zero, suc, ◌+◌, ◌-◌, ◌%◌, ◌<◌, ◌≤◌, ◌⊎◌, ◌==◌, inl, inr, ⊎_elim, Bool, true, false, cond, eqb, List, [], ◌∷◌, ◌++◌, length, map, replicate, set, get_or, slice_get, Some, refl, sym, ap, ◌∙◌, subst, arith}
-use Rattle.std.proofs.lemmas.List.{length-map, length-replicate}
+use Rattle.std.proofs.Common.{◌≡◌, ◌≢◌, ℕ, zero, suc, ◌+◌, ◌-◌, ◌<◌, ◌≤◌, ◌==◌, ⊎_elim, Bool, true, false, cond, List, [], ◌∷◌, ◌++◌, length, replicate, set, slice_get, Some, refl, sym, ap, ◌∙◌, subst, arith}
+use Rattle.std.proofs.lemmas.List.{length-map}
 use Rattle.std.specs.Prelude as std
 use Rattle.std.specs.List.{AllByRecursion}
-use mathlib.Core.Option.{Option, none, some, some-injective, some-ne-none}
+use mathlib.Core.Option.{Option, none, some, some-injective}
 use lib.ListN.{get_elem?}
 use Rattle.sock_words.specs.declared.plain.Plan.{Plan}
-use Rattle.sock_words.specs.declared.kind.Kind.{Kind}
 use Rattle.corr_core.specs.declared.marks.Plan.{Plan as IdPlan}
+use Rattle.sock_words.specs.declared.kind.Kind.{Kind}
 use Rattle.sock_programs.specs.Calls.{Call, LoadName}
 use Rattle.sock_programs.specs.Clients.{operation, client_from}
 use Rattle.sock_programs.specs.declared.task.Op.{Op}
 use Rattle.sock_programs.specs.declared.task.Op.TheVariants as ops
 use Rattle.sock_programs.specs.declared.task.Sizes.{Sizes}
 use Rattle.sock_programs.specs.declared.task.Task.{Task}
-use Rattle.sock_programs.specs.Programs.{Program, Do, Say, Sent, Rest, TakeMessage, TakeHome, PutHome, PutBytes, AskReady, Write, Aside, Round, Keep, Retries, make_socket, open_from}
+use Rattle.sock_programs.specs.Programs.{Program, Do, Say, Rest, Retries, make_socket, open_from}
 use Rattle.sock_programs.specs.Cores.{Core, SeatState, resolved, still_waiting, next_step, waiting_at, word_of, found_at}
 use Rattle.sock_programs.specs.Runs.{kind_in, next_kind, IsAtRest}
-use Rattle.sock_programs.specs.Scripts.{programs, readers_from, all_programs, beginning}
+use Rattle.sock_programs.specs.Scripts.{programs, all_programs, beginning}
 use Rattle.sock_programs.specs.Ticks.{Moment, quiet, ticked, tick_with}
 use Rattle.sock_programs.specs.Told.{IsOpen}
 use Rattle.sock_runs.specs.Sound.{IsAhead, first_step}

@@ -1,20 +1,19 @@
 -- In a whole run: why a retry that found no socket under its name lost its attempt.
-use Rattle.std.proofs.Common.{◌≡◌, ◌≢◌, ℕ, ◌+◌, ◌<◌, ◌≤◌, ◌⊎◌, inl, inr, ⊎_elim, List, [], ◌++◌, length, get_or, replicate, sym, ap, ◌∙◌, subst, arith}
+use Rattle.std.proofs.Common.{◌≡◌, ◌≢◌, ℕ, ◌+◌, ◌<◌, ◌≤◌, ◌⊎◌, ⊎_elim, List, [], ◌++◌, length, get_or, replicate, refl, sym, ap, ◌∙◌, subst, arith}
 use Rattle.std.specs.List.{AllByRecursion}
 use mathlib.Core.Logic.{dite}
 use native.Mathlib.Decide.{ℕ_discrete, dec_le}
 use Rattle.sock_words.specs.declared.plain.Plan.{Plan}
+use Rattle.corr_core.specs.declared.marks.Plan.{Plan as IdPlan}
 use Rattle.sock_words.specs.declared.outcome.Outcome.TheVariants as outcomes
 use Rattle.brpc_model.specs.Items.{Item}
 use Rattle.brpc_model.specs.Operations.{Turn}
 use Rattle.corr_core.specs.Word.{parts}
-use Rattle.corr_core.specs.declared.marks.Plan.{Plan as IdPlan}
 use Rattle.id_rule.specs.Lawful.{id_word}
 use Rattle.sock_programs.specs.declared.task.Op.{Op}
 use Rattle.sock_programs.specs.declared.task.Op.TheVariants as ops
 use Rattle.sock_programs.specs.declared.task.Task.{Task}
 use Rattle.sock_programs.specs.Cores.{Core}
-use Rattle.sock_programs.specs.Runs.{IsAtRest}
 use Rattle.sock_programs.specs.Ticks.{quiet, run}
 use Rattle.sock_programs.specs.Tasks.{opens, calls, plan_of, id_plan_of}
 use Rattle.sock_programs.specs.Told.{IsTask, OpensNone}
@@ -41,10 +40,10 @@ use Rattle.call_causes.proofs.Scripts.{are_ascending, begins}
 use Rattle.call_causes.proofs.Whys.{AreAscending, ascending_undo}
 use Rattle.send_causes.specs.Refused.{DidMiss, DidIn, FoundNothing}
 use Rattle.send_causes.proofs.Runs.{IsCallOf}
-use Rattle.send_causes.proofs.AttemptedStored.{alone_set_up, rests_set_up, numbered, slots, small, Leads, opened_ahead, set_up_ahead, played_ahead, ended_ahead, end_leads, told_leads, closed_leads, ending_leads, played_leads, setup_goes, played_both, some_seats, many_played, many_closed}
-use Rattle.send_causes.proofs.FoundRuns.{Since, then_since, since_change, since_ticks, Finds, find_along}
-use Rattle.send_causes.proofs.FoundSetup.{none_in_setup, none_beside, none_at_rest, begins_setup, begins_at_rest}
-use Rattle.send_causes.proofs.FoundTries.{Missed}
+use Rattle.send_causes.proofs.AttemptedStored.{alone_set_up, rests_set_up, numbered, slots, small, Leads, set_up_ahead, played_ahead, ended_ahead, end_leads, told_leads, closed_leads, ending_leads, played_leads, setup_goes, played_both, some_seats, many_played, many_closed}
+use Rattle.send_causes.proofs.FoundNamesRuns.{Since, then_since, since_change, since_ticks, Finds, find_along}
+use Rattle.send_causes.proofs.FoundNamesSetup.{none_in_setup, none_beside, none_at_rest, begins_setup, begins_at_rest}
+use Rattle.send_causes.proofs.FoundNames.{Missed}
 
 seeks_name : (p : Plan) (clients : List (List Task)) (os : List _) (fixed : Fixed) (gave : ℕ → List ℕ) (orders : ℕ → Order) (n : ℕ) (op : Op) → Seeks p clients os fixed gave orders n op → SeeksName n op
 seeks_name p clients os fixed gave orders n (ops.Fail m code) s = s
@@ -81,7 +80,7 @@ module _ (p : Plan) (q : IdPlan) (clients : List (List Task)) (gives : ℕ → L
 
       done : (u : Task) → IsTask clients w.core.outcomes c u → u.number < t.number + 1 → In u x.done
       done u is low = let mine = is_task c u is in ⊎_elim (λ y. y)
-          (λ todo. absurd (let z = order t u (x.begun t (is_task c t it) (Rattle.std.proofs.Common.refl)) todo in omega (arith, z, low)))
+          (λ todo. absurd (let z = order t u (x.begun t (is_task c t it) refl) todo in omega (arith, z, low)))
           (undo_done p q clients gives x.done x.todo u (subst (In u) (sym (x.placed ∙ listed_or clients c mine.0 mine.1)) mine.2))
 
 -- ## A whole run
