@@ -94,3 +94,4 @@ pub mod RefusedNames
 pub mod RefusedLost
 pub mod RefusedRun
 pub mod OwnIds
+pub mod FoundTries
