@@ -38,12 +38,9 @@ pub record DropPost (Did : Deed → Type 0) (x : Post) : Type 0 where
   pub owner : heading.owner ≡ x.id
   pub error : x.error ≡ error_of (if code == 0 then 1009 else code) heading.attempt
 
-pub drop_post_more : (Did Done : Deed → Type 0) → ((d : Deed) → Did d → Done d) → (x : Post) → DropPost Did x → DropPost Done x
-drop_post_more Did Done f x y = record { heading = y.heading; code = y.code; deeds = y.deeds; did = all_done y.deeds y.did; drop = y.drop; owned = y.owned; owner = y.owner; error = y.error }
-  where
-    all_done : (ds : List Deed) → AllByRecursion Did ds → AllByRecursion Done ds
-    all_done [] a = tt
-    all_done (d ∷ ds) a = (f d a.0, all_done ds a.1)
+pub all_done : (Did Done : Deed → Type 0) → ((d : Deed) → Did d → Done d) → (ds : List Deed) → AllByRecursion Did ds → AllByRecursion Done ds
+all_done Did Done f [] a = tt
+all_done Did Done f (d ∷ ds) a = (f d a.0, all_done Did Done f ds a.1)
 
 module _ (p : Plan) (q : IdPlan) (narrow : q.slots ≤ 65536) (is_call : Asked → Type 0) (ids : ℕ → ℕ) (Did : ℕ → Deed → Type 0) (c : Core) (vs : List View) (ss : List Doing) (law : ChargeLaw p.requests is_call ids p q Did c vs ss)
     (calls : AreCalls is_call c.calls) (us : List IdView) (real_ids : SoundIds p q c us) (m : Moment) (sound : Sound p c vs) (low : m.seat < 32) where

@@ -94,3 +94,4 @@ pub mod RefusedLost
 pub mod RefusedRun
 pub mod LateDropsPosts
 pub mod LateDropsCodes
+pub mod LateDropsRuns
