@@ -95,3 +95,4 @@ pub mod RefusedRun
 pub mod LateDropsPosts
 pub mod LateDropsCodes
 pub mod LateDropsRuns
+pub mod LateDropsEnding
