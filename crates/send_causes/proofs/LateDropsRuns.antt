@@ -106,7 +106,7 @@ module _ (p : Plan) (q : IdPlan) (narrow : q.slots ≤ 65536) (is_call : Asked �
   Says Late (DidStep (LoadCode i h) code) = code ≢ 0 → New i h → Of Late i h code
   Says Late other = Unit {0}
 
-  says_more : (Late Then : ℕ → Type 0) → ((n : ℕ) → Late n → Then n) → (d : Deed) → Says Late d → Says Then d
+  pub says_more : (Late Then : ℕ → Type 0) → ((n : ℕ) → Late n → Then n) → (d : Deed) → Says Late d → Says Then d
   says_more Late Then f (DidStep (LoadCode i h) code) s = λ some_ new. stored_more p calls os in_os Odd Lasts ends P gone W New Late Then f i h code (s some_ new)
   says_more Late Then f other s = tt
 
@@ -121,7 +121,7 @@ module _ (p : Plan) (q : IdPlan) (narrow : q.slots ≤ 65536) (is_call : Asked �
     pub post : DropPost Done x
     pub whose : post.code ≢ 0 → New (socket_id_slot post.drop.holder.id) (socket_id_version post.drop.holder.id) → Of InTime (socket_id_slot post.drop.holder.id) (socket_id_version post.drop.holder.id) post.code
 
-  late_post_more : (Did Done : Deed → Type 0) (Now Then : ℕ → Type 0) → ((d : Deed) → Did d → Done d) → ((n : ℕ) → Now n → Then n) → (x : Post) → LatePost Did Now x → LatePost Done Then x
+  pub late_post_more : (Did Done : Deed → Type 0) (Now Then : ℕ → Type 0) → ((d : Deed) → Did d → Done d) → ((n : ℕ) → Now n → Then n) → (x : Post) → LatePost Did Now x → LatePost Done Then x
   late_post_more Did Done Now Then f g x y = record {
     post = record { heading = y.post.heading; code = y.post.code; deeds = y.post.deeds; did = all_done Did Done f y.post.deeds y.post.did; drop = y.post.drop; owned = y.post.owned; owner = y.post.owner; error = y.post.error };
     whose = λ some_ new. stored_more p calls os in_os Odd Lasts ends P gone W New Now Then g _ _ _ (y.whose some_ new);

@@ -98,3 +98,4 @@ pub mod LateDropsCodes
 pub mod LateDropsRuns
 pub mod LateDropsEnding
 pub mod OwnIds
+pub mod LateDropsWhole
