@@ -39,7 +39,7 @@ use Rattle.send_causes.proofs.DropEnds.{StoresThose}
 use Rattle.send_causes.proofs.DropEndsWhole.{opened_law}
 use Rattle.send_causes.proofs.Early.{Any, ends_anyhow, start, go, fitting, known}
 use Rattle.send_causes.proofs.EndedWhole.{h₃, closed_keeps}
-use Rattle.send_causes.proofs.LateDropsCodes.{LateLaw, late_more}
+use Rattle.send_causes.proofs.LateDropsCodes.{IsLife, LateLaw, late_more}
 use Rattle.send_causes.proofs.LateDropsEnding.{IsNew}
 use Rattle.send_causes.proofs.LateDropsRuns.{of_seat, none_late, none_behind, Told, Charged, says_more, LatePost, late_post_more, InTime, With, Done_, Behind, posts_along}
 use Rattle.send_causes.proofs.LateRests.{others_along}
@@ -128,6 +128,9 @@ module _ (script : List Item) (made : AreMade script) (turns : List Turn) (core 
 
     abbrev pub ToldOf : (ℕ → Deed → Type 0) → (ℕ → Type 0) → ℕ → Deed → Type 0
     ToldOf Done Late = Told (plan_of script) (id_plan_of script) small (IsCallOf script) ids (calls script) (opens script) (let k = known script made turns core is in k.in_script) Any (Unit {0}) ends_anyhow IsNoEnd no_end core.words New Done Late
+
+    abbrev pub LifeOf : ℕ → ℕ → Type 0
+    LifeOf j h = IsLife (plan_of script) (calls script) (opens script) (let k = known script made turns core is in k.in_script) Any (Unit {0}) ends_anyhow IsNoEnd no_end core.words New j h
 
     abbrev pub PostOf : (Deed → Type 0) → (ℕ → Type 0) → Post → Type 0
     PostOf Done InTime_ x = LatePost (plan_of script) (id_plan_of script) small (IsCallOf script) ids (calls script) (opens script) (let k = known script made turns core is in k.in_script) Any (Unit {0}) ends_anyhow IsNoEnd no_end core.words New Done InTime_ x

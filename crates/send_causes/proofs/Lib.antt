@@ -99,3 +99,4 @@ pub mod LateDropsRuns
 pub mod LateDropsEnding
 pub mod OwnIds
 pub mod LateDropsWhole
+pub mod LateDrops
