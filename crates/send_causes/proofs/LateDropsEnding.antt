@@ -1,14 +1,13 @@
 -- While a run is ending, messages are dropped only of links of lives that were made then.
-use Rattle.std.proofs.Common.{◌≡◌, ℕ, ◌+◌, ◌<◌, ◌≤◌, ◌⊎◌, inl, inr, ⊎_elim, List, [], ◌∷◌, get_or, refl, sym, ap, ◌∙◌, subst, arith}
+use Rattle.std.proofs.Common.{◌≡◌, ℕ, ◌<◌, ◌⊎◌, inl, inr, ⊎_elim, List, [], ◌∷◌, get_or, sym, subst, arith}
 use mathlib.Core.Logic.{dite}
 use mathlib.Core.Option.{some}
 use native.Mathlib.Decide.{dec_le}
 use lib.ListN.{get_elem?}
 use Rattle.brpc_model.specs.Items.{Item}
 use Rattle.brpc_model.specs.Operations.{Turn}
-use Rattle.sock_words.specs.Words.{socket_id_slot, socket_id_version, vref_version}
+use Rattle.sock_words.specs.Words.{vref_version}
 use Rattle.sock_words.specs.declared.plain.Plan.{Plan}
-use Rattle.sock_model.specs.declared.chain.Right.{Right}
 use Rattle.sock_model.specs.declared.view.View.{View}
 use Rattle.sock_model.specs.Layout.{ref_word}
 use Rattle.chain_laws.proofs.Lists.{at_some}
@@ -16,11 +15,11 @@ use Rattle.sock_programs.specs.Calls.{DropPlace}
 use Rattle.sock_programs.specs.Cores.{Core, SeatState}
 use Rattle.sock_programs.specs.Programs.{Program, Do}
 use Rattle.sock_programs.specs.Tasks.{plan_of}
-use Rattle.sock_programs.specs.Ticks.{Moment, IsAnswered, AreAnswered, ticked, run}
+use Rattle.sock_programs.specs.Ticks.{Moment, AreAnswered, ticked, run}
 use Rattle.sock_programs.specs.Scripts.{IsRunWithCalls}
 use Rattle.sock_runs.specs.GoesOn.{GoesOn}
 use Rattle.sock_runs.specs.May.{May}
-use Rattle.sock_runs.specs.Sound.{Sound, IsFitting, AreFitting, first_step, views_after, views_along}
+use Rattle.sock_runs.specs.Sound.{Sound, AreFitting, first_step, views_after, views_along}
 use Rattle.sock_runs.proofs.Along.{place_inside}
 use Rattle.sock_runs.proofs.Cases.{goes_first}
 use Rattle.sock_runs.proofs.LinksStay.{IsGiven, run_given}

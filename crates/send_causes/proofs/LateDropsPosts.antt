@@ -1,5 +1,5 @@
 -- An error with the code of the end of a reading that a client posts in a tick is that of a message that it dropped.
-use Rattle.std.proofs.Common.{◌≡◌, ◌≢◌, ℕ, ◌+◌, ◌<◌, ◌≤◌, ◌==◌, if◌then◌else◌, inl, inr, ⊎_elim, Bool, true, false, cond, eqb, nat_le, leb-true, List, [], ◌∷◌, refl, sym, ap, ◌∙◌, subst, arith}
+use Rattle.std.proofs.Common.{◌≡◌, ◌≢◌, ℕ, ◌<◌, ◌≤◌, ◌==◌, if◌then◌else◌, inl, inr, ⊎_elim, Bool, true, false, cond, eqb, nat_le, leb-true, List, [], ◌∷◌, refl, sym, ap, ◌∙◌, subst, arith}
 use Rattle.std.specs.List.{AllByRecursion}
 use mathlib.Core.Option.{Option, some, none}
 use lib.ListN.{get_elem?}

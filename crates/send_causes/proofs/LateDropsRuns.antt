@@ -1,8 +1,7 @@
 -- Over the ticks of a run: where a client posts an error with the code of the end of a reading, it dropped a message, and the reader of the socket whose code it found was behind the end of its reading before.
-use Rattle.std.proofs.Common.{◌≡◌, ◌≢◌, ℕ, zero, suc, ◌+◌, ◌<◌, ◌≤◌, ◌==◌, ◌⊎◌, inl, inr, ⊎_elim, Bool, true, false, cond, eqb, eqb-true, ne_eqb, List, [], ◌∷◌, ◌++◌, replicate, get_or, refl, sym, ap, ◌∙◌, subst, arith}
+use Rattle.std.proofs.Common.{◌≡◌, ◌≢◌, ℕ, zero, suc, ◌+◌, ◌<◌, ◌≤◌, ◌==◌, ◌⊎◌, inl, inr, ⊎_elim, Bool, true, false, cond, eqb-true, ne_eqb, List, [], ◌∷◌, ◌++◌, replicate, get_or, refl, sym, ap, ◌∙◌, subst, arith}
 use Rattle.std.specs.Prelude.{◌||◌, ◌&&◌}
 use Rattle.std.proofs.lemmas.Bool.{true≢false}
-use Rattle.std.specs.List.{AllByRecursion}
 use mathlib.Core.Option.{Option, none, some}
 use lib.ListN.{get_elem?}
 use Rattle.sock_words.specs.Words.{socket_id_version, socket_id_slot}
@@ -30,7 +29,7 @@ use Rattle.call_causes.specs.Posts.{Post, posted_at}
 use Rattle.send_causes.specs.Counts.{AreLabelled}
 use Rattle.send_causes.specs.Refused.{Deed, DidStep, Doing, DidAt, DidIn, ChargeLaw, AllWouldOwn}
 use Rattle.send_causes.proofs.Closers.{Ends}
-use Rattle.send_causes.proofs.LateDropsCodes.{IsLife, Stored, stored_more, LateLaw, late_more, Later, late_ticks, found_stored}
+use Rattle.send_causes.proofs.LateDropsCodes.{Stored, stored_more, LateLaw, late_more, late_ticks, found_stored}
 use Rattle.send_causes.proofs.LateDropsPosts.{DropPost, all_done, tick_drop}
 use Rattle.send_causes.proofs.Readings.{found_by}
 use Rattle.send_causes.proofs.RefusedRuns.{law_more}

@@ -1,5 +1,5 @@
 -- In a whole run an error with the code of the end of a reading that a client posts is that of a message that it dropped; and the reader of the socket whose code it found was behind the end of its reading before.
-use Rattle.std.proofs.Common.{◌≡◌, ◌≢◌, ℕ, ◌+◌, ◌<◌, ◌≤◌, ◌⊎◌, inl, inr, ⊎_elim, true, List, [], ◌∷◌, ◌++◌, length, replicate, get_or, refl, sym, ap, ◌∙◌, subst, arith}
+use Rattle.std.proofs.Common.{◌≡◌, ◌≢◌, ℕ, ◌+◌, ◌<◌, ◌≤◌, ◌⊎◌, inl, inr, ⊎_elim, List, [], ◌∷◌, ◌++◌, replicate, get_or, sym, ap, ◌∙◌, subst, arith}
 use Rattle.std.specs.Prelude.{Some, slice_get}
 use mathlib.Core.Logic.{dite}
 use mathlib.Core.Option.{some}
@@ -15,7 +15,7 @@ use Rattle.corr_core.specs.Word.{code_of}
 use Rattle.sock_programs.specs.declared.task.Op.TheVariants as ops
 use Rattle.sock_programs.specs.declared.task.Task.{Task}
 use Rattle.sock_programs.specs.Asides.{Taking}
-use Rattle.sock_programs.specs.Cores.{Core, SeatState}
+use Rattle.sock_programs.specs.Cores.{Core}
 use Rattle.sock_programs.specs.Tasks.{opens, calls, plan_of, id_plan_of}
 use Rattle.sock_programs.specs.Ticks.{Moment, AreAnswered, quiet, ticked, run}
 use Rattle.sock_programs.specs.Scripts.{all_tasks, opened, set_up, played, IsRunWithCalls}
@@ -33,7 +33,7 @@ use Rattle.call_causes.specs.Decided.{posted_by, posted_behind}
 use Rattle.call_causes.specs.Lists.{shows_in, shows_in_run}
 use Rattle.call_causes.specs.Posts.{Post, posted_at}
 use Rattle.send_causes.specs.Counts.{AreLabelled}
-use Rattle.send_causes.specs.Refused.{Deed, Doing, DidIn, DidInRun, DidEarly, DidLate, AllWouldOwn, RunWouldOwn}
+use Rattle.send_causes.specs.Refused.{Deed, Doing, DidIn, DidEarly, DidLate, AllWouldOwn, RunWouldOwn}
 use Rattle.send_causes.proofs.DropCodes.{Stores}
 use Rattle.send_causes.proofs.DropEnds.{StoresThose}
 use Rattle.send_causes.proofs.DropEndsWhole.{opened_law}
