@@ -93,5 +93,11 @@ pub mod Unanswered
 pub mod RefusedNames
 pub mod RefusedLost
 pub mod RefusedRun
+pub mod LateDropsPosts
+pub mod LateDropsCodes
+pub mod LateDropsRuns
+pub mod LateDropsEnding
 pub mod OwnIds
 pub mod FoundTries
+pub mod LateDropsWhole
+pub mod LateDrops
