@@ -47,6 +47,7 @@ pub mod DropEndsCauses
 pub mod DropEndsOver
 pub mod DropEndsWhole
 pub mod RefusedTicks
+pub mod PostSeats
 pub mod RefusedPosts
 pub mod RefusedRuns
 pub mod RefusedClosing
@@ -92,8 +93,15 @@ pub mod Unanswered
 pub mod RefusedNames
 pub mod RefusedLost
 pub mod RefusedRun
+pub mod LateDropsPosts
+pub mod LateDropsCodes
+pub mod LateDropsRuns
+pub mod LateDropsEnding
 pub mod OwnIds
 pub mod FoundNames
 pub mod FoundNamesRuns
 pub mod FoundNamesSetup
 pub mod FoundNamesWhole
+pub mod FoundTries
+pub mod LateDropsWhole
+pub mod LateDrops
