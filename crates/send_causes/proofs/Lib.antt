@@ -102,6 +102,5 @@ pub mod FoundNames
 pub mod FoundNamesRuns
 pub mod FoundNamesSetup
 pub mod FoundNamesWhole
-pub mod FoundTries
 pub mod LateDropsWhole
 pub mod LateDrops
