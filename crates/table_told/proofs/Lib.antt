@@ -1,3 +1,4 @@
 pub mod Entries
 pub mod Growing
 pub mod Moments
+pub mod Sources
