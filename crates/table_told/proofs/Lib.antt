@@ -2,3 +2,4 @@ pub mod Entries
 pub mod Growing
 pub mod Moments
 pub mod Sources
+pub mod Flats

@@ -1,2 +1,3 @@
 pub mod Threads
 pub mod Left
+pub mod Moments
