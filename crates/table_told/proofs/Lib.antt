@@ -3,3 +3,4 @@ pub mod Growing
 pub mod Moments
 pub mod Sources
 pub mod Flats
+pub mod Owning

@@ -67,10 +67,10 @@ pub record IsOfLife (f : Mark → ℕ) : Type 0 where
 abbrev pub Same : (Mark → ℕ) → View → View → Type 0
 Same f v w = (i : ℕ) → marks_of f i w ≡ marks_of f i v
 
-same_then : (f : Mark → ℕ) (u v w : View) → Same f u v → Same f v w → Same f u w
+pub same_then : (f : Mark → ℕ) (u v w : View) → Same f u v → Same f v w → Same f u w
 same_then f u v w a b i = b i ∙ a i
 
-same_as : (f : Mark → ℕ) (v w : View) → w ≡ v → Same f v w
+pub same_as : (f : Mark → ℕ) (v w : View) → w ≡ v → Same f v w
 same_as f v w e i = ap (marks_of f i) e
 
 not_more : (f : Mark → ℕ) (v w : View) → Same f v w → (i : ℕ) → marks_of f i v < marks_of f i w → ⊥
@@ -106,13 +106,13 @@ module _ (f : Mark → ℕ) (z : IsOfLife f) where
   ended_none false w notes e = ap (total f) e
   ended_none true w notes e = ap (total f) e.1 ∙ (let a = z.freer (Rattle.std.proofs.Common.◌-◌ w 1) in let b = z.met (Rattle.std.proofs.Common.◌-◌ (w + 1) 2) e.0 in let c = retired_none (w + 1) in omega arith)
 
-  found_same : (x id : ℕ) (v w : View) → FindsId x id v w → Same f v w
+  pub found_same : (x id : ℕ) (v w : View) → FindsId x id v w → Same f v w
   found_same x id v w d i = ap (marks_of f i) d.view ∙ one_mark f i (socket_id_slot id) (Known (socket_id_version id)) v.marks (z.known (socket_id_version id))
 
-  back_same : (i h : ℕ) (v w : View) (ended : Bool) → GaveBack i v w (Hold h) ended → Same f v w
+  pub back_same : (i h : ℕ) (v w : View) (ended : Bool) → GaveBack i v w (Hold h) ended → Same f v w
   back_same i h v w ended g = became_same f i v w g.notes (Hold h ∷ []) (ended_none ended g.version g.notes g.by) (let e = z.hold h in omega arith) g.became
 
-  returned_same : (id : ℕ) (v w : View) → Returned id v w → Same f v w
+  pub returned_same : (id : ℕ) (v w : View) → Returned id v w → Same f v w
   returned_same id v w r = back_same (socket_id_slot id) (socket_id_version id) v w r.ended r.back
 
   pub reached_same : (p : Plan) (n : ℕ) (r : Reached) (v w : View) → ReachedBy p n r v w → Same f v w
@@ -284,10 +284,10 @@ note_is x n y (l ∷ ls) = omega arith
 put_is : {S : Type 0} (x n y word : ℕ) (m m' : Me S View) → PutAt y word m m' → put_in x n m'.0 ≡ pair x n y word + put_in x n m.0
 put_is {S} x n y word m m' put = ap (λ (z : Me S View). put_in x n z.0) put.view ∙ note_is x n record { place = y; word = word } m.0.stores
 
-found_puts : (x n y id : ℕ) (v w : View) → FindsId y id v w → put_in x n w ≡ put_in x n v
+pub found_puts : (x n y id : ℕ) (v w : View) → FindsId y id v w → put_in x n w ≡ put_in x n v
 found_puts x n y id v w d = ap (put_in x n) d.view
 
-others_puts : (x n : ℕ) (v w : View) → w ≡ record v { marks = w.marks } → put_in x n w ≡ put_in x n v
+pub others_puts : (x n : ℕ) (v w : View) → w ≡ record v { marks = w.marks } → put_in x n w ≡ put_in x n v
 others_puts x n v w e = ap (put_in x n) e
 
 reached_puts : (x m : ℕ) (p : Plan) (n : ℕ) (r : Reached) (v w : View) → ReachedBy p n r v w → put_in x m w ≡ put_in x m v
