@@ -4,3 +4,4 @@ pub mod Moments
 pub mod Sources
 pub mod Flats
 pub mod Owning
+pub mod OneThread

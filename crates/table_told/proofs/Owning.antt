@@ -28,6 +28,7 @@ use Rattle.rpc_client.specs.Running.{Course, Ran}
 use Rattle.rpc_client.specs.Sending.{CameBack, SentBy, SentWith}
 use Rattle.rpc_client.proofs.Delivering.{came_lists}
 use Rattle.rpc_client.proofs.Finding.{set_others}
+use Rattle.table_told.specs.Besides.{KeepsAtOpen}
 use Rattle.table_told.specs.Moments.{Moment, moments, view_of}
 use Rattle.table_told.proofs.Moments.{flat-append}
 
@@ -131,10 +132,6 @@ module _ {O : Type 0} (state : O → OutState) (p : Plan) where
 -- the message that an operation sent
 abbrev pub entries_of : {O : Type 0} {g : Ghosts O} {state : O → OutState} {p : Plan} {client : ℕ} → Moment g state p client → List Entry
 entries_of {state = state} {p = p} {client = client} m = entries_by state p (label_of client m.order m.operation) m.operation m.operation.action m.made.by m.before.has m.after.has m.made.acted
-
--- an `open` leaves the lists
-abbrev pub KeepsAtOpen : {O : Type 0} {g : Ghosts O} {state : O → OutState} {p : Plan} {client : ℕ} → Moment g state p client → Type 0
-KeepsAtOpen m = m.operation.action ≡ action.Open → (view_of m.after).lists ≡ (view_of m.before).lists
 
 module _ {O : Type 0} {g : Ghosts O} (state : O → OutState) (p : Plan) (client : ℕ) (os : List Operation) where
   pub run_lists : (n : ℕ) (s t : Course g) (r : Ran state p client os n s t) → ((k : ℕ) (m : Moment g state p client) → get_elem? (moments state p client os n s t r) k ≡ some m → KeepsAtOpen m)
