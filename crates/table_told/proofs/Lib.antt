@@ -5,3 +5,4 @@ pub mod Sources
 pub mod Flats
 pub mod Owning
 pub mod OneThread
+pub mod Acts

@@ -19,7 +19,7 @@ use Rattle.rpc_client.specs.declared.acting.Action.TheVariants as action
 use Rattle.rpc_client.specs.Acting.{stand}
 use Rattle.rpc_client.specs.Running.{begins}
 use Rattle.table_told.specs.Moments.{Moment, moments, view_of}
-use Rattle.table_told.specs.Threads.{Thread, IsThread, ThreadRun}
+use Rattle.table_told.specs.Threads.{Thread, IsThread, Threaded, ThreadRun}
 
 -- a client's operations, one after the other
 abbrev pub moments_of : {O : Type 0} {g : Ghosts O} {state : O → OutState} {p : Plan} {c : ℕ} {ts : List Task} (x : Thread g) → IsThread state p c ts x → List (Moment g state p c)
@@ -35,8 +35,8 @@ OpensInside {p = p} m = (slot version link : ℕ) → m.made.by ≡ Some (Opened
 
 pub record Besides {O : Type 0} {g : Ghosts O} {state : O → OutState} {p : Plan} {clients : List (List Task)} {outcomes : List (Option Outcome)} {places : List PlaceWord} {vrefs : List Vref} {outs : List O} (run : ThreadRun g state p clients outcomes places vrefs outs) : Type 0 where
   -- of an `open`
-  pub keeps : (c : ℕ) (x : Thread g) (ts : List Task) (at : get_elem? run.threads c ≡ some x) (there : slice_get clients c ≡ Some ts) (k : ℕ) (m : Moment g state p c) → get_elem? (moments_of x (run.each c x ts at there)) k ≡ some m → KeepsAtOpen m
-  pub inside : (c : ℕ) (x : Thread g) (ts : List Task) (at : get_elem? run.threads c ≡ some x) (there : slice_get clients c ≡ Some ts) (k : ℕ) (m : Moment g state p c) → get_elem? (moments_of x (run.each c x ts at there)) k ≡ some m → OpensInside m
+  pub keeps : (c : ℕ) (y : Threaded g state p) → get_elem? run.threads c ≡ some y → (k : ℕ) (m : Moment g state p y.client) → get_elem? (moments_of y.thread y.is) k ≡ some m → KeepsAtOpen m
+  pub inside : (c : ℕ) (y : Threaded g state p) → get_elem? run.threads c ≡ some y → (k : ℕ) (m : Moment g state p y.client) → get_elem? (moments_of y.thread y.is) k ≡ some m → OpensInside m
   -- a life's version is even, and none stands before the first
   pub born_life : (i h : ℕ) → i < p.slots → 0 < marks_of (is_born h) i run.closed.view → (p.first ≤ h) × (h % 2 ≡ 0)
   -- a place word tells an accepted message or nothing

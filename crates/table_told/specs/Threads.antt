@@ -84,6 +84,13 @@ pub record IsThread {O : Type 0} {g : Ghosts O} (state : O → OutState) (p : Pl
   -- no operation was left for want of memory
   pub all : ran.made ≡ length x.operations
 
+-- one of the clients with its tasks
+pub record Threaded {O : Type 0} (g : Ghosts O) (state : O → OutState) (p : Plan) : Type 0 where
+  pub client : ℕ
+  pub tasks : List Task
+  pub thread : Thread g
+  pub is : IsThread state p client tasks thread
+
 -- ## The outcomes
 
 -- the client told this of the operation of this number
@@ -91,22 +98,25 @@ abbrev pub TellsOf : {O : Type 0} {g : Ghosts O} → Thread g → ℕ → Outcom
 TellsOf x number outcome = (i : ℕ) × (t : Told) × (get_elem? x.ended.outcomes.items i ≡ some t) × (t.number ≡ number) × (t.outcome ≡ outcome)
 
 -- what is told of each operation is what one of the clients told
-pub record AreOutcomes {O : Type 0} {g : Ghosts O} (p : Plan) (threads : List (Thread g)) (outcomes : List (Option Outcome)) : Type 0 where
+pub record AreOutcomes {O : Type 0} {g : Ghosts O} {state : O → OutState} {p : Plan} (threads : List (Threaded g state p)) (outcomes : List (Option Outcome)) : Type 0 where
   pub long : length outcomes ≡ p.operations
-  pub each : (c : ℕ) (x : Thread g) (number : ℕ) (outcome : Outcome) → get_elem? threads c ≡ some x → TellsOf x number outcome → slice_get outcomes number ≡ Some (Some outcome)
-  pub alone : (number : ℕ) (outcome : Outcome) → slice_get outcomes number ≡ Some (Some outcome) → (c : ℕ) × (x : Thread g) × (get_elem? threads c ≡ some x) × TellsOf x number outcome
+  pub each : (c : ℕ) (y : Threaded g state p) (number : ℕ) (outcome : Outcome) → get_elem? threads c ≡ some y → TellsOf y.thread number outcome → slice_get outcomes number ≡ Some (Some outcome)
+  pub alone : (number : ℕ) (outcome : Outcome) → slice_get outcomes number ≡ Some (Some outcome) → (c : ℕ) × (y : Threaded g state p) × (get_elem? threads c ≡ some y) × TellsOf y.thread number outcome
 
 -- ## The run
 
-abbrev pub seat_of : {O : Type 0} {g : Ghosts O} → Thread g → Seat (SockHome O g) View
-seat_of x = x.ended.seat
+abbrev pub tasks_of : {O : Type 0} {g : Ghosts O} {state : O → OutState} {p : Plan} → Threaded g state p → List Task
+tasks_of y = y.tasks
+
+abbrev pub seat_of : {O : Type 0} {g : Ghosts O} {state : O → OutState} {p : Plan} → Threaded g state p → Seat (SockHome O g) View
+seat_of y = y.thread.ended.seat
 
 -- the setup's seat is that of client 0. Each other client waits for the names of the sockets that the setup opened
 pub record ThreadRun {O : Type 0} (g : Ghosts O) (state : O → OutState) (p : Plan) (clients : List (List Task)) (outcomes : List (Option Outcome)) (places : List PlaceWord) (vrefs : List Vref) (outs : List O) : Type 0 where
   pub tasks : AreTasks p clients
-  pub threads : List (Thread g)
-  pub as_many : length threads ≡ length clients
-  pub each : (c : ℕ) (x : Thread g) (ts : List Task) → get_elem? threads c ≡ some x → slice_get clients c ≡ Some ts → IsThread state p c ts x
-  pub waited : (c : ℕ) (x : Thread g) → get_elem? threads c ≡ some x → 0 < c → (t : Task) (n k slot version : ℕ) → IsTask clients outcomes 0 t → t.op ≡ ops.Open n k → Became clients outcomes t.number (Opened slot version k) → (i : ℕ) × (get_elem? x.names i ≡ some n)
-  pub told : AreOutcomes p threads outcomes
+  pub threads : List (Threaded g state p)
+  pub numbered : (c : ℕ) (y : Threaded g state p) → get_elem? threads c ≡ some y → y.client ≡ c
+  pub all : map tasks_of threads ≡ clients
+  pub waited : (c : ℕ) (y : Threaded g state p) → get_elem? threads c ≡ some y → 0 < c → (t : Task) (n k slot version : ℕ) → IsTask clients outcomes 0 t → t.op ≡ ops.Open n k → Became clients outcomes t.number (Opened slot version k) → (i : ℕ) × (get_elem? y.thread.names i ≡ some n)
+  pub told : AreOutcomes threads outcomes
   pub closed : ClosedBy state p (map seat_of threads) places vrefs outs
