@@ -1,5 +1,5 @@
 -- Lists that are put together of lists, by places.
-use Rattle.std.proofs.Common.{◌≡◌, ℕ, zero, suc, ◌+◌, ◌<◌, ◌≤◌, ◌⊎◌, inl, inr, List, [], ◌∷◌, ◌++◌, length, flat_map, refl, sym, ap, ◌∙◌, subst, arith}
+use Rattle.std.proofs.Common.{◌≡◌, ℕ, zero, suc, ◌+◌, ◌<◌, ◌≤◌, ◌⊎◌, inl, inr, List, [], ◌∷◌, ◌++◌, length, length-append, flat_map, refl, sym, ap, ◌∙◌, subst, arith}
 use mathlib.Core.Option.{some, some-injective, some-ne-none}
 use lib.ListN.{get_elem?}
 
@@ -62,3 +62,32 @@ module _ {A B : Type 0} (f : A → List B) where
             (zero, suc r.0, x, r.1, omega arith, refl, r.2, ap (get_elem? (f x)) (sym p) ∙ a, ap (get_elem? (f r.1)) (sym q) ∙ r.4)
         by_cases (inr v) (inl b) again = absurd (let q = inside (f x) j z b in let a = v.1 in omega arith)
         by_cases (inr v) (inr w) again = let r = again v.0 w.0 y z (let a = v.1 in let b = w.1 in omega arith) v.2 w.2 in (suc r.0, suc r.1, r.2, r.3, (let l = r.4 in omega arith), r.5, r.6, r.7, r.8)
+
+-- ## Two that are put together alike
+
+module _ {C : Type 0} where
+  same_first : (a b : List C) (c d : List C) → length a ≡ length b → a ++ c ≡ b ++ d → (a ≡ b) × (c ≡ d)
+  same_first [] [] c d long e = (refl, e)
+  same_first [] (y ∷ ys) c d long e = absurd (omega arith)
+  same_first (x ∷ xs) [] c d long e = absurd (omega arith)
+  same_first (x ∷ xs) (y ∷ ys) c d long e = let h : x ≡ y = head_same e in let t : xs ++ c ≡ ys ++ d = tail_same e in let r = same_first xs ys c d (omega arith) t in ((λ i. h i ∷ r.0 i), r.1)
+    where
+      head_same : {x y : C} {s t : List C} → x ∷ s ≡ y ∷ t → x ≡ y
+      head_same e = cc
+
+      tail_same : {x y : C} {s t : List C} → x ∷ s ≡ y ∷ t → s ≡ t
+      tail_same e = cc
+
+  -- where the parts at each place are as long, they are the same
+  pub flat_same : {A B : Type 0} (f : A → List C) (g : B → List C) (xs : List A) (ys : List B) → length xs ≡ length ys → ((k : ℕ) (x : A) (y : B) → get_elem? xs k ≡ some x → get_elem? ys k ≡ some y → length (f x) ≡ length (g y))
+      → flat_map f xs ≡ flat_map g ys → (k : ℕ) (x : A) (y : B) → get_elem? xs k ≡ some x → get_elem? ys k ≡ some y → f x ≡ g y
+  flat_same f g [] ys long each e k x y at bt = absurd (some-ne-none x (sym at))
+  flat_same f g (a ∷ as_) [] long each e k x y at bt = absurd (omega arith)
+  flat_same f g (a ∷ as_) (b ∷ bs) long each e zero x y at bt = ap f (sym (some-injective a x at)) ∙ ((same_first (f a) (g b) (flat_map f as_) (flat_map g bs) (each zero a b refl refl) e).0 ∙ ap g (some-injective b y bt))
+  flat_same f g (a ∷ as_) (b ∷ bs) long each e (suc k) x y at bt = flat_same f g as_ bs (omega arith) (λ j u v h i. each (suc j) u v h i) (same_first (f a) (g b) (flat_map f as_) (flat_map g bs) (each zero a b refl refl) e).1 k x y at bt
+
+  pub flat_long : {A B : Type 0} (f : A → List C) (g : B → List C) (xs : List A) (ys : List B) → length xs ≡ length ys → ((k : ℕ) (x : A) (y : B) → get_elem? xs k ≡ some x → get_elem? ys k ≡ some y → length (f x) ≡ length (g y)) → length (flat_map f xs) ≡ length (flat_map g ys)
+  flat_long f g [] [] long each = refl
+  flat_long f g [] (b ∷ bs) long each = absurd (omega arith)
+  flat_long f g (a ∷ as_) [] long each = absurd (omega arith)
+  flat_long f g (a ∷ as_) (b ∷ bs) long each = omega (arith, length-append (f a) (flat_map f as_), length-append (g b) (flat_map g bs), each zero a b refl refl, flat_long f g as_ bs (omega arith) (λ j u v h i. each (suc j) u v h i))

@@ -6,3 +6,4 @@ pub mod Flats
 pub mod Owning
 pub mod OneThread
 pub mod Acts
+pub mod Passes
