@@ -7,3 +7,5 @@ pub mod Owning
 pub mod OneThread
 pub mod Acts
 pub mod Passes
+pub mod Outcomes
+pub mod Lives
