@@ -9,3 +9,4 @@ pub mod Acts
 pub mod Passes
 pub mod Outcomes
 pub mod Lives
+pub mod Accepting
