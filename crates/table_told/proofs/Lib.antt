@@ -10,3 +10,4 @@ pub mod Passes
 pub mod Outcomes
 pub mod Lives
 pub mod Accepting
+pub mod Orders
