@@ -109,7 +109,7 @@ module _ {O : Type 0} {g : Ghosts O} {state : O → OutState} {p : Plan} {client
       by_source : (a : Act run) (act : Action) (by : Option Outcome) → ((slot version l : ℕ) → by ≡ Some (outcome.Opened slot version l) → (n : ℕ) × Made clients outcomes n l slot version) → Source (is_linked h k) (linked_life h k) state p (label_of a.y.client a.m.order a.m.operation) a.m.operation i a.m.before.has a.m.after.has act by → (n : ℕ) × Made clients outcomes n k i h
       by_source a _ _ made (opens version link weighs) = let q = pair_is h k version link (omega arith) in subst (λ l. (n : ℕ) × Made clients outcomes n l i h) q.1 (subst (λ v. (n : ℕ) × Made clients outcomes n link i v) q.0 (made i version link refl))
       by_source a _ _ made (fails code f) = absurd (let m = f.3 in omega arith)
-      by_source a _ _ made (writes act letter sent f) = absurd (let m = f.weighs in omega arith)
+      by_source a _ _ made (writes act by b id v w all grew f listed) = absurd (let m = f.weighs in omega arith)
 
   -- what an operation found under a name is a life that an `open` of the name made
   pub found_made : (a : Act run) (n : ℕ) (id : SocketId) → n < p.names → HasFound record { place = name_word p n; word = id.0 + 1 } (after run a) → (k : ℕ) × Made clients outcomes n k (socket_id_slot id.0) (socket_id_version id.0)

@@ -1,4 +1,6 @@
 -- Which operations make a life, fail one, or store a name.
+use Rattle.table_told.specs.Broken.{noted_links, faults_by}
+use Rattle.table_told.proofs.Growing.{Grew, returned_grew}
 use Rattle.std.proofs.Common.{◌≡◌, ◌≢◌, ℕ, zero, suc, ◌+◌, ◌<◌, ◌≤◌, ◌⊎◌, Bool, true, false, cond, Option, Some, None, inl, inr, nat_le, List, [], ◌∷◌, ◌++◌, refl, sym, ap, ◌∙◌, subst, arith}
 use Rattle.std.specs.Prelude.{All}
 use Rattle.std.proofs.lemmas.List.Elements.{All-head, All-tail}
@@ -134,26 +136,28 @@ module _ (f : Mark → ℕ) (z : IsOfLife f) where
   noted_none h _ e (finding m ms a b) = omega (arith, finding_none h m a, noted_none h ms e b)
   noted_none h _ e (failing k ms a b c) = omega (arith, e, z.saw (h + 1), z.stored h 1009, z.told h 1009, noted_none h ms e c)
 
-  noted_by : {O : Type 0} {state : O → OutState} {L : ℕ → Type 0} (h : ℕ) (ms : List Mark) → Noted state L h ms → 0 < total f ms → (k : ℕ) × L k × Faulted state k
+  noted_by : {O : Type 0} {state : O → OutState} {L : ℕ → Type 0} (h : ℕ) (ms : List Mark) (noted : Noted state L h ms) → 0 < total f ms → (k : ℕ) × L k × (j : ℕ) × (get_elem? (noted_links h ms noted) j ≡ some k)
   noted_by h _ nothing less = absurd (omega arith)
   noted_by h _ (finding m ms a b) less = noted_by h ms b (let e = finding_none h m a in omega arith)
-  noted_by h _ (failing k ms a b c) less = (k, a, b)
+  noted_by h _ (failing k ms a b c) less = (k, a, 0, refl)
 
   -- the seat that wrote the link of this life failed it
-  pub record WroteFail {O : Type 0} (state : O → OutState) (p : Plan) (id i : ℕ) (v w : View) : Type 0 where
+  pub record WroteFail {O : Type 0} (state : O → OutState) (p : Plan) (id i : ℕ) (v w : View) (all : WroteAll state p id v w) : Type 0 where
     pub slot : socket_id_slot id ≡ i
     pub weighs : 0 < f (Failer (socket_id_version id))
     pub link : ℕ
     pub link_met : Met_by id w link
-    pub faulted : Faulted state link
+    -- a fault of this link came
+    pub place : ℕ
+    pub listed : get_elem? (noted_links (socket_id_version id) all.notes all.noted) place ≡ some link
 
   module _ {O : Type 0} (state : O → OutState) (p : Plan) where
-    wrote_same : (id : ℕ) (v w : View) → WroteAll state p id v w → (i : ℕ) → marks_of f i v < marks_of f i w → WroteFail state p id i v w
+    wrote_same : (id : ℕ) (v w : View) (a : WroteAll state p id v w) (i : ℕ) → marks_of f i v < marks_of f i w → WroteFail state p id i v w a
     wrote_same id v w a i less =
         let b = became_slot f (socket_id_slot id) v (record w { rights = v.rights; stores = v.stores }) a.notes [] refl a.became i less in
         let n = noted_by (socket_id_version id) a.notes a.noted b.1 in
         let weighs : 0 < f (Failer (socket_id_version id)) = dite (ℕ_discrete (f (Failer (socket_id_version id))) 0) (λ none_. absurd (let e = noted_none (socket_id_version id) a.notes none_ a.noted in let m = b.1 in omega arith)) (λ ne. omega arith) in
-        record { slot = b.0; weighs = weighs; link = n.0; link_met = n.1; faulted = n.2 }
+        record { slot = b.0; weighs = weighs; link = n.0; link_met = n.1; place = n.2; listed = n.3 }
 
     refused_same : (sock : SockRef) (msg : Letter) (r : Refused) (v w : View) → RefusedBy p sock msg r v w → Same f v w
     refused_same sock msg (refused.Failed s m found) v w b = became_same f (socket_id_slot sock.id.0) v w _ [] (let a = z.saw (Rattle.sock_words.specs.Words.vref_version found.0) in omega arith) refl b.3
@@ -171,7 +175,7 @@ module _ (f : Mark → ℕ) (z : IsOfLife f) where
     refused_sent n msg outcome.Full v w s = same_then f v s.has w (reached_same p n (reached.Here s.sock) v s.has s.reached_it) (came_same s.sock msg _ s.has w s.delivered)
     refused_sent n msg _ v w s = elim s [ ]
 
-    pub sent_source : (n : ℕ) (msg : Letter) (v w : View) (s : SentWith state p n msg None v w) (i : ℕ) → marks_of f i v < marks_of f i w → WroteFail state p s.sock.id.0 i s.delivered.taken s.delivered.through.wrote
+    pub sent_source : (n : ℕ) (msg : Letter) (v w : View) (s : SentWith state p n msg None v w) (i : ℕ) → marks_of f i v < marks_of f i w → WroteFail state p s.sock.id.0 i s.delivered.taken s.delivered.through.wrote s.delivered.through.by
     sent_source n msg v w s i less =
         let a = reached_same p n (reached.Here s.sock) v s.has s.reached_it i in
         let b = became_same f (socket_id_slot s.sock.id.0) s.has (record s.has { marks = s.delivered.taken.marks }) _ [] (let x = z.saw (socket_id_version s.sock.id.0) in let y = z.met (socket_id_version s.sock.id.0) s.delivered.accepted.entry.link in omega arith) refl s.delivered.accepted.marks i in
@@ -258,7 +262,7 @@ module _ (f : Mark → ℕ) (z : IsOfLife f) where
   pub data Source {O : Type 0} {g : Ghosts O} (state : O → OutState) (p : Plan) (label : Label) (o : Operation) (i : ℕ) (s t : Stand g) : Action → Option Outcome → Type 0 where
     opens : (version link : ℕ) → 0 < f (Linked version link) + f (Born version) → Source state p label o i s t action.Open (Some (outcome.Opened i version link))
     fails : (code : ℕ) → FailsLife p o.name code outcome.Failed i s.me.0 t.me.0 → Source state p label o i s t (action.Fail code) (Some outcome.Failed)
-    writes : (a : Action) (letter : Letter) (sent : SentWith state p o.name letter None s.me.0 t.me.0) → WroteFail state p sent.sock.id.0 i sent.delivered.taken sent.delivered.through.wrote → Source state p label o i s t a None
+    writes : (a : Action) (by : Option Outcome) (b : Acted state p label o a by s t) (id : ℕ) (v w : View) (all : WroteAll state p id v w) → Grew w t.me.0 → (fail : WroteFail state p id i v w all) → get_elem? (faults_by state p label o a by s t b) fail.place ≡ some fail.link → Source state p label o i s t a by
 
   opens_as : {O : Type 0} {g : Ghosts O} (state : O → OutState) (p : Plan) (label : Label) (o : Operation) (i : ℕ) (s t : Stand g) (link : ℕ) (by : Outcome) → (version : ℕ) × (by ≡ outcome.Opened i version link) × (0 < f (Linked version link) + f (Born version)) → Source state p label o i s t action.Open (Some by)
   opens_as state p label o i s t link by w = subst (λ (x : Outcome). Source state p label o i s t action.Open (Some x)) (sym w.1) (opens w.0 link w.2)
@@ -269,7 +273,8 @@ module _ (f : Mark → ℕ) (z : IsOfLife f) where
   pub acted_source : {O : Type 0} {g : Ghosts O} (state : O → OutState) (p : Plan) (label : Label) (o : Operation) (a : Action) (by : Option Outcome) (s t : Stand g) → Acted state p label o a by s t → (i : ℕ) → marks_of f i s.me.0 < marks_of f i t.me.0 → Source state p label o i s t a by
   acted_source state p label o action.Open (Some by) s t b i less = opens_as state p label o i s t b.0.pass.link by (opened_source p o.name o.number b.0.pass.link by s.me t.me b.0.opened i less)
   acted_source state p label o (action.Send bytes) (Some by) s t b i less = absurd (not_more f s.me.0 t.me.0 (refused_sent state p o.name (letter_of label bytes.items) by s.me.0 t.me.0 b.0) i less)
-  acted_source state p label o (action.Send bytes) None s t b i less = writes (action.Send bytes) (letter_of label bytes.items) b.0 (sent_source state p o.name (letter_of label bytes.items) s.me.0 t.me.0 b.0 i less)
+  acted_source state p label o (action.Send bytes) None s t b i less = let d = b.0.delivered in let w = sent_source state p o.name (letter_of label bytes.items) s.me.0 t.me.0 b.0 i less in
+      writes (action.Send bytes) None b b.0.sock.id.0 d.taken d.through.wrote d.through.by (returned_grew b.0.sock.id.0 d.through.wrote t.me.0 d.through.returned) w w.listed
   acted_source state p label o action.Hold (Some by) s t b i less = absurd (not_more f s.me.0 t.me.0 (held_same p o.name by s.held s.me.0 t.held t.me.0 b.0) i less)
   acted_source state p label o action.Drop (Some by) s t b i less = absurd (not_more f s.me.0 t.me.0 (dropped_same o.name by s.held s.me.0 t.held t.me.0 b.0) i less)
   acted_source state p label o (action.Fail code) (Some by) s t b i less = fails_as state p label o i s t code by (failed_source p o.name code by s.me.0 t.me.0 b.0 i less)
