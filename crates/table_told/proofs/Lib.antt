@@ -11,3 +11,4 @@ pub mod Outcomes
 pub mod Lives
 pub mod Accepting
 pub mod Orders
+pub mod Fails
