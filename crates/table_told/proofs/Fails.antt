@@ -5,6 +5,7 @@ use Rattle.std.specs.List.{AllByRecursion}
 use Rattle.std.proofs.lemmas.Option.{none-some, same_Some}
 use mathlib.Core.Logic.{dite}
 use native.Mathlib.Decide.{ℕ_discrete, dec_lt}
+use mathlib.Core.Option as core
 use mathlib.Core.Option.{some, some-injective, some-ne-none}
 use lib.ListN.{get_elem?}
 use Rattle.brpc_model.specs.Order.{EachBefore}
@@ -53,7 +54,7 @@ use Rattle.table_told.proofs.Flats.{flat_there}
 use Rattle.table_told.proofs.Growing.{Grew, HasFound, grew_then, added_grew, back_grew, reached_grew}
 use Rattle.table_told.proofs.Lives.{acted_of, maker, act_born, linked_made, found_made, made_inside, lives, born_life, failer_life}
 use Rattle.table_told.proofs.OneThread.{between}
-use Rattle.table_told.proofs.Outcomes.{task_of, number_of, asked_of, number_is, is_task, asks_of, same_task, act_told, act_of, task_is, same_number, earlier}
+use Rattle.table_told.proofs.Outcomes.{task_of, number_of, asked_of, number_is, is_task, asks_of, same_task, act_told, act_of, task_is, same_number, earlier, one_place, same_moment}
 use Rattle.table_told.proofs.Sources.{Source, opens, fails, writes, acted_source}
 
 -- ## What an operation found under its name
@@ -80,6 +81,12 @@ tried_fails p n code v w t =
     let q = only-same (socket_id_version t.sock.id.0) in
     let c = (back_grew i (socket_id_version t.sock.id.0) t.set w t.ended t.back).marks f (λ h. refl) i in
     omega arith
+
+tried_finds : (p : Plan) (n code : ℕ) (v w : View) (t : TriedTo p n code outcome.Failed v w) → w.finds ≡ record { place = name_word p n; word = t.sock.id.0 + 1 } ∷ v.finds
+tried_finds p n code v w t = ap (λ (y : View). y.finds) t.back.became.others ∙ (ap (λ (y : View). y.finds) t.set_by.others ∙ (ap (λ (y : View). y.finds) t.reached_it.2.others ∙ ap (λ (y : View). y.finds) t.reached_it.1.1.view))
+
+first_word : (x y : StoredWord) (s t : List StoredWord) → x ∷ s ≡ y ∷ t → x.word ≡ y.word
+first_word x y s t e = some-injective x.word y.word (ap (λ (l : List StoredWord). elim l as (λ l. core.Option ℕ) [ [] ↦ core.none | z ∷ zs ↦ some z.word ]) e)
 
 -- ## The task's name
 
@@ -159,14 +166,15 @@ module _ {O : Type 0} {g : Ghosts O} {state : O → OutState} {p : Plan} {client
     pub link : ℕ
     pub made : MadeHere a.m.operation.name link (socket_id_slot tried.sock.id.0) (socket_id_version tried.sock.id.0)
 
-  pub failed_life : (a : Act run) → a.m.made.by ≡ Some outcome.Failed → FailedLife a
-  failed_life a e =
-      let w = acted_failed state p (label_of a.y.client a.m.order a.m.operation) a.m.operation a.m.operation.action a.m.made.by a.m.before.has a.m.after.has (acted_of run a) e in
-      let t = w.2 in
+  abbrev pub life_by : (a : Act run) (code : ℕ) → a.m.operation.action ≡ action.Fail code → TriedTo p a.m.operation.name code outcome.Failed (before run a) (after run a) → FailedLife a
+  life_by a code is t =
       let found = here_found p a.m.operation.name t.sock (before run a) t.has t.reached_it in
       let later = grew_then t.has t.set (after run a) (added_grew (socket_id_slot t.sock.id.0) t.has t.set _ t.set_by) (back_grew (socket_id_slot t.sock.id.0) (socket_id_version t.sock.id.0) t.set (after run a) t.ended t.back) in
       let made = found_made run a a.m.operation.name t.sock.id (name_low a) (later.finds record { place = name_word p a.m.operation.name; word = t.sock.id.0 + 1 } found) in
-      record { code = w.0; is_fail = w.1; tried = t; link = made.0; made = made.1 }
+      record { code = code; is_fail = is; tried = t; link = made.0; made = made.1 }
+
+  pub failed_life : (a : Act run) → a.m.made.by ≡ Some outcome.Failed → FailedLife a
+  failed_life a e = let w = acted_failed state p (label_of a.y.client a.m.order a.m.operation) a.m.operation a.m.operation.action a.m.made.by a.m.before.has a.m.after.has (acted_of run a) e in life_by a w.0 w.1 w.2
 
   pub failed_task : (a : Act run) (l : FailedLife a) → (task_of run a).op ≡ ops.Fail a.m.operation.name l.code
   failed_task a l = asks_fail (task_of run a).op a.m.operation.name l.code (subst (AsksFor (task_of run a).op a.m.operation.name) l.is_fail (asked_of run a).asks)
@@ -187,7 +195,7 @@ module _ {O : Type 0} {g : Ghosts O} {state : O → OutState} {p : Plan} {client
   }
 
   -- two of one link are one
-  fails_once : (a b : Act run) → a.m.made.by ≡ Some outcome.Failed → b.m.made.by ≡ Some outcome.Failed → (l : FailedLife a) (m : FailedLife b) → l.link ≡ m.link → number_of run a ≡ number_of run b
+  pub fails_once : (a b : Act run) → a.m.made.by ≡ Some outcome.Failed → b.m.made.by ≡ Some outcome.Failed → (l : FailedLife a) (m : FailedLife b) → l.link ≡ m.link → number_of run a ≡ number_of run b
   fails_once a b ea eb l m same =
       let i = socket_id_slot l.tried.sock.id.0 in
       let h = socket_id_version l.tried.sock.id.0 in
@@ -200,3 +208,13 @@ module _ {O : Type 0} {g : Ghosts O} {state : O → OutState} {p : Plan} {client
       let its_ : marks_of (is_failer h) i (before run b) < marks_of (is_failer h) i (after run b) = subst (λ x. marks_of (is_failer h) x (before run b) < marks_of (is_failer h) x (after run b)) (sym q.0) (subst (λ x. marks_of (is_failer x) j (before run b) < marks_of (is_failer x) j (after run b)) (sym q.1) its) in
       let one = once_added run (is_failer h) (failer_life h) i few a b mine its_ in
       same_number run a b one.0 one.1
+
+  -- the life that an operation failed has one link
+  pub same_link : (a b : Act run) → number_of run a ≡ number_of run b → (l : FailedLife a) (m : FailedLife b) → l.link ≡ m.link
+  same_link a b same l m =
+      let at = one_place run a b same in
+      let q = same_moment run a b at.0 at.1 (λ y x. (view_of x.after).finds ≡ record { place = name_word p x.operation.name; word = m.tried.sock.id.0 + 1 } ∷ (view_of x.before).finds) (tried_finds p b.m.operation.name m.code (before run b) (after run b) m.tried) in
+      let word = first_word (record { place = name_word p a.m.operation.name; word = l.tried.sock.id.0 + 1 }) (record { place = name_word p a.m.operation.name; word = m.tried.sock.id.0 + 1 }) (before run a).finds (before run a).finds (sym (tried_finds p a.m.operation.name l.code (before run a) (after run a) l.tried) ∙ q) in
+      let id : l.tried.sock.id.0 ≡ m.tried.sock.id.0 = omega arith in
+      (life_is a.m.operation.name b.m.operation.name l.link m.link (socket_id_slot l.tried.sock.id.0) (socket_id_version l.tried.sock.id.0) l.made
+      (subst (λ x. MadeHere b.m.operation.name m.link (socket_id_slot x) (socket_id_version x)) (sym id) m.made)).1

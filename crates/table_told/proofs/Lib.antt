@@ -12,3 +12,4 @@ pub mod Lives
 pub mod Accepting
 pub mod Orders
 pub mod Fails
+pub mod Failing

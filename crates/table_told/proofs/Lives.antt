@@ -103,13 +103,13 @@ module _ {O : Type 0} {g : Ghosts O} {state : O → OutState} {p : Plan} {client
   linked_made i h k some_ =
       let w = marks_from run (is_linked h k) (linked_life h k) i some_ in
       let a = w.0 in
-      by_source a a.m.operation.action a.m.made.by (λ slot version l e. (a.m.operation.name, made_of a slot version l e))
+      by_source a a.m.operation.action a.m.made.by (acted_of a) (λ slot version l e. (a.m.operation.name, made_of a slot version l e))
       (acted_source (is_linked h k) (linked_life h k) state p (label_of a.y.client a.m.order a.m.operation) a.m.operation a.m.operation.action a.m.made.by a.m.before.has a.m.after.has (acted_of a) i w.1)
     where
-      by_source : (a : Act run) (act : Action) (by : Option Outcome) → ((slot version l : ℕ) → by ≡ Some (outcome.Opened slot version l) → (n : ℕ) × Made clients outcomes n l slot version) → Source (is_linked h k) (linked_life h k) state p (label_of a.y.client a.m.order a.m.operation) a.m.operation i a.m.before.has a.m.after.has act by → (n : ℕ) × Made clients outcomes n k i h
-      by_source a _ _ made (opens version link weighs) = let q = pair_is h k version link (omega arith) in subst (λ l. (n : ℕ) × Made clients outcomes n l i h) q.1 (subst (λ v. (n : ℕ) × Made clients outcomes n link i v) q.0 (made i version link refl))
-      by_source a _ _ made (fails code f) = absurd (let m = f.3 in omega arith)
-      by_source a _ _ made (writes act by b id v w all grew f listed) = absurd (let m = f.weighs in omega arith)
+      by_source : (a : Act run) (act : Action) (by : Option Outcome) (b : Acted state p (label_of a.y.client a.m.order a.m.operation) a.m.operation act by a.m.before.has a.m.after.has) → ((slot version l : ℕ) → by ≡ Some (outcome.Opened slot version l) → (n : ℕ) × Made clients outcomes n l slot version) → Source (is_linked h k) (linked_life h k) state p (label_of a.y.client a.m.order a.m.operation) a.m.operation i a.m.before.has a.m.after.has act by b → (n : ℕ) × Made clients outcomes n k i h
+      by_source a _ _ _ made (opens version link b weighs) = let q = pair_is h k version link (omega arith) in subst (λ l. (n : ℕ) × Made clients outcomes n l i h) q.1 (subst (λ v. (n : ℕ) × Made clients outcomes n link i v) q.0 (made i version link refl))
+      by_source a _ _ _ made (fails code b f) = absurd (let m = f.3 in omega arith)
+      by_source a _ _ _ made (writes act by b id v w all grew f listed) = absurd (let m = f.weighs in omega arith)
 
   -- what an operation found under a name is a life that an `open` of the name made
   pub found_made : (a : Act run) (n : ℕ) (id : SocketId) → n < p.names → HasFound record { place = name_word p n; word = id.0 + 1 } (after run a) → (k : ℕ) × Made clients outcomes n k (socket_id_slot id.0) (socket_id_version id.0)

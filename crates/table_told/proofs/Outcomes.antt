@@ -117,3 +117,15 @@ module _ {O : Type 0} {g : Ghosts O} {state : O → OutState} {p : Plan} {client
 
   pub earlier : (a b : Act run) → a.c ≡ b.c → number_of a < number_of b → a.k < b.k
   earlier a b same less = dite (dec_lt a.k b.k) (λ lt. lt) (λ ge. absurd (dite (ℕ_discrete a.k b.k) (λ q. (let r = same_number a b same q in omega arith)) (λ ne. (let r = numbers_rise b a (sym same) (omega arith) in omega arith))))
+
+  -- two operations of one number are one
+  pub one_place : (a b : Act run) → number_of a ≡ number_of b → (a.c ≡ b.c) × (a.k ≡ b.k)
+  one_place a b same =
+      let client = (task_is a b.c (task_of b) (is_task b) (same ∙ number_is b)).0 in
+      (client, dite (ℕ_discrete a.k b.k) (λ q. q) (λ ne. absurd (dite (dec_lt a.k b.k) (λ lt. (let r = numbers_rise a b client lt in omega arith)) (λ ge. (let r = numbers_rise b a (sym client) (omega arith) in omega arith)))))
+
+  pub same_moment : (a b : Act run) → a.c ≡ b.c → a.k ≡ b.k → (Q : (y : Threaded g state p) → Moment g state p y.client → Type 0) → Q b.y b.m → Q a.y a.m
+  same_moment a b client place Q q =
+      let y : b.y ≡ a.y = some-injective b.y a.y (sym b.at ∙ (ap (get_elem? run.threads) (sym client) ∙ a.at)) in
+      subst (λ (z : Threaded g state p). (m : Moment g state p z.client) → get_elem? (moments_of z.thread z.is) a.k ≡ some m → Q z m) y
+      (λ m is. subst (Q b.y) (some-injective b.m m (sym b.is ∙ (ap (get_elem? (moments_of b.y.thread b.y.is)) (sym place) ∙ is))) q) a.m a.is

@@ -259,25 +259,25 @@ module _ (f : Mark → ℕ) (z : IsOfLife f) where
   -- ## Any operation
 
   -- what an operation did where marks of such a weight came for slot i: it opened a socket, failed a life, or wrote a link that failed
-  pub data Source {O : Type 0} {g : Ghosts O} (state : O → OutState) (p : Plan) (label : Label) (o : Operation) (i : ℕ) (s t : Stand g) : Action → Option Outcome → Type 0 where
-    opens : (version link : ℕ) → 0 < f (Linked version link) + f (Born version) → Source state p label o i s t action.Open (Some (outcome.Opened i version link))
-    fails : (code : ℕ) → FailsLife p o.name code outcome.Failed i s.me.0 t.me.0 → Source state p label o i s t (action.Fail code) (Some outcome.Failed)
-    writes : (a : Action) (by : Option Outcome) (b : Acted state p label o a by s t) (id : ℕ) (v w : View) (all : WroteAll state p id v w) → Grew w t.me.0 → (fail : WroteFail state p id i v w all) → get_elem? (faults_by state p label o a by s t b) fail.place ≡ some fail.link → Source state p label o i s t a by
+  pub data Source {O : Type 0} {g : Ghosts O} (state : O → OutState) (p : Plan) (label : Label) (o : Operation) (i : ℕ) (s t : Stand g) : (a : Action) (by : Option Outcome) → Acted state p label o a by s t → Type 0 where
+    opens : (version link : ℕ) (b : Acted state p label o action.Open (Some (outcome.Opened i version link)) s t) → 0 < f (Linked version link) + f (Born version) → Source state p label o i s t action.Open (Some (outcome.Opened i version link)) b
+    fails : (code : ℕ) (b : Acted state p label o (action.Fail code) (Some outcome.Failed) s t) → FailsLife p o.name code outcome.Failed i s.me.0 t.me.0 → Source state p label o i s t (action.Fail code) (Some outcome.Failed) b
+    writes : (a : Action) (by : Option Outcome) (b : Acted state p label o a by s t) (id : ℕ) (v w : View) (all : WroteAll state p id v w) → Grew w t.me.0 → (fail : WroteFail state p id i v w all) → get_elem? (faults_by state p label o a by s t b) fail.place ≡ some fail.link → Source state p label o i s t a by b
 
-  opens_as : {O : Type 0} {g : Ghosts O} (state : O → OutState) (p : Plan) (label : Label) (o : Operation) (i : ℕ) (s t : Stand g) (link : ℕ) (by : Outcome) → (version : ℕ) × (by ≡ outcome.Opened i version link) × (0 < f (Linked version link) + f (Born version)) → Source state p label o i s t action.Open (Some by)
-  opens_as state p label o i s t link by w = subst (λ (x : Outcome). Source state p label o i s t action.Open (Some x)) (sym w.1) (opens w.0 link w.2)
+  opens_as : {O : Type 0} {g : Ghosts O} (state : O → OutState) (p : Plan) (label : Label) (o : Operation) (i : ℕ) (s t : Stand g) (link : ℕ) (by : Outcome) (b : Acted state p label o action.Open (Some by) s t) → (version : ℕ) × (by ≡ outcome.Opened i version link) × (0 < f (Linked version link) + f (Born version)) → Source state p label o i s t action.Open (Some by) b
+  opens_as state p label o i s t link by b w = subst (λ (x : Outcome). (b : Acted state p label o action.Open (Some x) s t) → Source state p label o i s t action.Open (Some x) b) (sym w.1) (λ b. opens w.0 link b w.2) b
 
-  fails_as : {O : Type 0} {g : Ghosts O} (state : O → OutState) (p : Plan) (label : Label) (o : Operation) (i : ℕ) (s t : Stand g) (code : ℕ) (by : Outcome) → FailsLife p o.name code by i s.me.0 t.me.0 → Source state p label o i s t (action.Fail code) (Some by)
-  fails_as state p label o i s t code by w = subst (λ (x : Outcome). Source state p label o i s t (action.Fail code) (Some x)) (sym w.1) (fails code (w.0, refl, w.2, w.3))
+  fails_as : {O : Type 0} {g : Ghosts O} (state : O → OutState) (p : Plan) (label : Label) (o : Operation) (i : ℕ) (s t : Stand g) (code : ℕ) (by : Outcome) (b : Acted state p label o (action.Fail code) (Some by) s t) → FailsLife p o.name code by i s.me.0 t.me.0 → Source state p label o i s t (action.Fail code) (Some by) b
+  fails_as state p label o i s t code by b w = subst (λ (x : Outcome). (b : Acted state p label o (action.Fail code) (Some x) s t) → Source state p label o i s t (action.Fail code) (Some x) b) (sym w.1) (λ b. fails code b (w.0, refl, w.2, w.3)) b
 
-  pub acted_source : {O : Type 0} {g : Ghosts O} (state : O → OutState) (p : Plan) (label : Label) (o : Operation) (a : Action) (by : Option Outcome) (s t : Stand g) → Acted state p label o a by s t → (i : ℕ) → marks_of f i s.me.0 < marks_of f i t.me.0 → Source state p label o i s t a by
-  acted_source state p label o action.Open (Some by) s t b i less = opens_as state p label o i s t b.0.pass.link by (opened_source p o.name o.number b.0.pass.link by s.me t.me b.0.opened i less)
+  pub acted_source : {O : Type 0} {g : Ghosts O} (state : O → OutState) (p : Plan) (label : Label) (o : Operation) (a : Action) (by : Option Outcome) (s t : Stand g) (b : Acted state p label o a by s t) (i : ℕ) → marks_of f i s.me.0 < marks_of f i t.me.0 → Source state p label o i s t a by b
+  acted_source state p label o action.Open (Some by) s t b i less = opens_as state p label o i s t b.0.pass.link by b (opened_source p o.name o.number b.0.pass.link by s.me t.me b.0.opened i less)
   acted_source state p label o (action.Send bytes) (Some by) s t b i less = absurd (not_more f s.me.0 t.me.0 (refused_sent state p o.name (letter_of label bytes.items) by s.me.0 t.me.0 b.0) i less)
   acted_source state p label o (action.Send bytes) None s t b i less = let d = b.0.delivered in let w = sent_source state p o.name (letter_of label bytes.items) s.me.0 t.me.0 b.0 i less in
       writes (action.Send bytes) None b b.0.sock.id.0 d.taken d.through.wrote d.through.by (returned_grew b.0.sock.id.0 d.through.wrote t.me.0 d.through.returned) w w.listed
   acted_source state p label o action.Hold (Some by) s t b i less = absurd (not_more f s.me.0 t.me.0 (held_same p o.name by s.held s.me.0 t.held t.me.0 b.0) i less)
   acted_source state p label o action.Drop (Some by) s t b i less = absurd (not_more f s.me.0 t.me.0 (dropped_same o.name by s.held s.me.0 t.held t.me.0 b.0) i less)
-  acted_source state p label o (action.Fail code) (Some by) s t b i less = fails_as state p label o i s t code by (failed_source p o.name code by s.me.0 t.me.0 b.0 i less)
+  acted_source state p label o (action.Fail code) (Some by) s t b i less = fails_as state p label o i s t code by b (failed_source p o.name code by s.me.0 t.me.0 b.0 i less)
   acted_source state p label o _ None s t b i less = elim b [ ]
 
 -- ## Words that are stored
