@@ -13,3 +13,4 @@ pub mod Accepting
 pub mod Orders
 pub mod Fails
 pub mod Failing
+pub mod Whys
