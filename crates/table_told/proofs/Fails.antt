@@ -153,7 +153,7 @@ module _ {O : Type 0} {g : Ghosts O} {state : O → OutState} {p : Plan} {client
       (λ lt. (let e = c.failed_once i h low born lt in omega arith))
       (λ ge. (let e = c.not_failed i h low (omega arith) in omega arith))
 
-  made_born : (n k i h : ℕ) → MadeHere n k i h → 0 < marks_of (is_born h) i (All run)
+  pub made_born : (n k i h : ℕ) → MadeHere n k i h → 0 < marks_of (is_born h) i (All run)
   made_born n k i h m = let w = maker run n k i h m in let b = act_born run w.0 i h k w.1 in let a = has_marks run w.0 (is_born h) (λ x. refl) i in omega arith
 
   -- ## The `fail`s that were answered `failed`

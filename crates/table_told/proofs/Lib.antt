@@ -14,3 +14,5 @@ pub mod Orders
 pub mod Fails
 pub mod Failing
 pub mod Whys
+pub mod Causes
+pub mod Names
