@@ -16,3 +16,4 @@ pub mod Failing
 pub mod Whys
 pub mod Causes
 pub mod Names
+pub mod Whole

@@ -1,0 +1,216 @@
+-- What a run on threads leaves is what is told of a run: all but the causes of `drop`s.
+use Rattle.std.proofs.Common.{◌≡◌, ◌≢◌, ℕ, zero, suc, ◌+◌, ◌*◌, ◌/◌, ◌%◌, ◌<◌, ◌≤◌, ◌⊎◌, inl, inr, List, [], ◌∷◌, length, map, slice_get, Option, Some, None, Contains, refl, sym, ap, ◌∙◌, subst, arith}
+use Rattle.std.specs.List.{AllByRecursion}
+use Rattle.std.specs.Prelude.{All}
+use Rattle.std.proofs.lemmas.Option.{none-some, same_Some}
+use mathlib.Core.Logic.{dite}
+use native.Mathlib.Decide.{ℕ_discrete, dec_lt}
+use mathlib.Core.Option.{some, some-injective, some-ne-none}
+use lib.ListN.{get_elem?}
+use Rattle.sock_io.specs.declared.link.Out.{Ghosts}
+use Rattle.sock_io.specs.Link.{OutState}
+use Rattle.sock_words.specs.declared.outcome.Outcome.{Outcome}
+use Rattle.sock_words.specs.declared.outcome.Outcome.TheVariants as outcome
+use Rattle.sock_words.specs.declared.plain.Plan.{Plan}
+use Rattle.sock_words.specs.declared.place_word.PlaceWord.{PlaceWord}
+use Rattle.sock_words.specs.declared.socket_id.SocketId.{SocketId}
+use Rattle.sock_words.specs.declared.vref.Vref.{Vref}
+use Rattle.sock_words.specs.Words.{socket_id_version, socket_id_slot, vref_version}
+use Rattle.sock_model.specs.declared.chain.Entry.{Entry}
+use Rattle.sock_model.specs.declared.marks.Mark.{Mark}
+use Rattle.sock_model.specs.declared.marks.Mark.TheVariants.{Saw}
+use Rattle.sock_rule.specs.Becoming.{Became as Becomes}
+use Rattle.sock_rule.specs.declared.homes.Letter.{Letter}
+use Rattle.rpc_client.specs.Failing.{TriedTo}
+use Rattle.rpc_client.specs.Sending.{SentWith}
+use Rattle.sock_model.specs.declared.view.View.{View}
+use Rattle.sock_model.specs.Entries.{on}
+use Rattle.sock_model.specs.Layout.{name_word}
+use Rattle.sock_model.specs.SlotRows.{marks_of}
+use Rattle.sock_model.specs.Weights.{is_born, is_failer, is_known, is_saw, is_met, is_tried, is_linked, only, pair, total}
+use Rattle.slot_laws.proofs.Numbers.{only-same, pair-same}
+use Rattle.sock_programs.specs.declared.task.Op.TheVariants as ops
+use Rattle.sock_programs.specs.declared.task.Task.{Task}
+use Rattle.sock_programs.specs.Told.{IsTask, Became, Made, IsNoLater, HasLife, EachOpened, OpensNone}
+use Rattle.sock_programs.specs.ToldCalls.{FoundFailed, FoundNone, Seeks}
+use Rattle.report_fits.proofs.Lists.{Has, all_from, within}
+use Rattle.sock_table.specs.Answers.{NoneLater}
+use Rattle.sock_table.specs.declared.refs.SockRef.{SockRef}
+use Rattle.rpc_client.specs.declared.acting.Action.{Action}
+use Rattle.rpc_client.specs.declared.acting.Action.TheVariants as action
+use Rattle.rpc_client.specs.declared.reaching.Reached.TheVariants as reached
+use Rattle.rpc_client.specs.Acting.{Acted, label_of}
+use Rattle.rpc_client.specs.Reaching.{ReachedBy}
+use Rattle.table_told.specs.Besides.{Besides, moments_of}
+use Rattle.table_told.specs.Left.{gave_of, accepted_of}
+use Rattle.table_told.specs.Moments.{Moment, view_of}
+use Rattle.table_told.specs.Threads.{ThreadRun, Threaded}
+use Rattle.table_told.proofs.Accepting.{log, act_of_entry, Sent, sent_place, asks_send}
+use Rattle.table_told.proofs.Acts.{Act, task_at, All as AllView, before, after, has_marks, marks_from}
+use Rattle.table_told.proofs.Fails.{MadeHere, made_born, here_found, life_is, name_low, one_outcome, fits_at, FailedLife}
+use Rattle.table_told.proofs.Failing.{fixed, all_fails, broken, FailedBy, life_failed}
+use Rattle.table_told.proofs.Growing.{Grew, HasFound, grew_then, added_grew, back_grew, found_grew, wrote_grew, returned_grew, delivered_grew}
+use Rattle.table_told.proofs.Lives.{acted_of, made_of, linked_made, found_made, made_inside, born_life}
+use Rattle.table_told.proofs.OneThread.{between}
+use Rattle.table_told.proofs.Orders.{orders, ends, LinkEnds, kept, entry_on}
+use Rattle.table_told.proofs.Outcomes.{task_of, number_of, asked_of, number_is, is_task, act_told, act_of, task_is, earlier, one_place, same_moment}
+use Rattle.table_told.proofs.Passes.{opened_link}
+use Rattle.table_told.proofs.Sources.{Source, opens, fails, writes, acted_source}
+use Rattle.table_told.proofs.Causes.{gone_cause, refused_cause, already_cause, has_life, opened_cause}
+use Rattle.table_told.proofs.Names.{unopened_cause, full_cause}
+use Rattle.table_told.proofs.Whys.{dropped, sent}
+
+use Rattle.std.proofs.Common.{Bool, true, false, cond}
+use Rattle.std.proofs.lemmas.List.Elements.{All-head, All-tail}
+use Rattle.chain_laws.proofs.Lists.{Snoc, old, new, at_snoc}
+use Rattle.sock_programs.specs.declared.task.Op.{Op}
+use Rattle.sock_programs.specs.ToldCalls.{Fixed, Order}
+use Rattle.sock_words.specs.declared.plain.Label.{Label}
+use Rattle.sock_table.specs.Named.{HasSeen}
+use Rattle.rpc_client.specs.declared.acting.Operation.{Operation}
+use Rattle.rpc_client.specs.Acting.{Stand}
+use Rattle.rpc_client.specs.Opening.{FoundFull}
+use Rattle.rpc_client.specs.Running.{Course, Ran, finds_name}
+use Rattle.table_told.specs.Moments.{moments}
+use Rattle.table_told.specs.Threads.{AsksFor}
+use Rattle.table_told.proofs.Growing.{none_grew, stays}
+use Rattle.table_told.proofs.Moments.{moment_is, moments_long}
+use Rattle.table_told.proofs.OneThread.{first, last, knows_first}
+use Rattle.table_told.proofs.Outcomes.{act_made}
+use Rattle.std.proofs.Common.{filter, sum_by, eqb, eq-eqb, ne_eqb}
+use Rattle.std.proofs.lemmas.List.Sums.{sum_by-cons}
+use Rattle.sock_model.specs.Layout.{request_word}
+use Rattle.sock_programs.specs.Runs.{from_to}
+use Rattle.sock_programs.specs.Told.{IsOpen}
+use Rattle.sock_programs.specs.ToldCalls.{Why, WasFull, ToldCalls, all_accepted}
+use Rattle.sock_causes.specs.Causes.{Asks}
+use Rattle.sock_causes.proofs.Tasks.{setup_opens}
+use Rattle.table_told.specs.Left.{orders_of}
+use Rattle.table_told.proofs.Acts.{has_seen}
+use Rattle.table_told.proofs.Fails.{failed_life}
+use Rattle.table_told.proofs.Failing.{each_failed, are, once}
+use Rattle.table_told.proofs.Lives.{lives}
+use Rattle.table_told.proofs.Orders.{left, are_orders, told, own_order}
+use Rattle.table_told.proofs.Outcomes.{asks_of}
+-- ## How many messages there are
+
+abbrev size : ℕ → List Entry → ℕ
+size k l = length (map accepted_of (on k l))
+
+abbrev sizes : ℕ → ℕ → List Entry → ℕ
+sizes a n l = sum_by (λ k. size k l) (from_to a n)
+
+size_here : (k : ℕ) (e : Entry) (es : List Entry) → e.link ≡ k → size k (e ∷ es) ≡ suc (size k es)
+size_here k e es y = ap (λ b. length (map accepted_of (cond b (e ∷ on k es) (on k es)))) (eq-eqb e.link k y)
+
+size_else : (k : ℕ) (e : Entry) (es : List Entry) → e.link ≢ k → size k (e ∷ es) ≡ size k es
+size_else k e es n = ap (λ b. length (map accepted_of (cond b (e ∷ on k es) (on k es)))) (ne_eqb e.link k n)
+
+sizes_cons : (a n : ℕ) (l : List Entry) → sizes a (suc n) l ≡ size a l + sizes (a + 1) n l
+sizes_cons a n l = sum_by-cons (λ k. size k l) a (from_to (a + 1) n)
+
+sizes_else : (a n : ℕ) (e : Entry) (es : List Entry) → e.link < a → sizes a n (e ∷ es) ≡ sizes a n es
+sizes_else a zero e es l = refl
+sizes_else a (suc n) e es l = omega (arith, sizes_cons a n (e ∷ es), sizes_cons a n es, size_else a e es (λ q. omega arith), sizes_else (a + 1) n e es (omega arith))
+
+sizes_in : (a n : ℕ) (e : Entry) (es : List Entry) → a ≤ e.link → e.link < a + n → sizes a n (e ∷ es) ≡ suc (sizes a n es)
+sizes_in a zero e es low high = absurd (omega arith)
+sizes_in a (suc n) e es low high = dite (ℕ_discrete e.link a)
+    (λ y. omega (arith, sizes_cons a n (e ∷ es), sizes_cons a n es, size_here a e es y, sizes_else (a + 1) n e es (omega arith)))
+    (λ ne. omega (arith, sizes_cons a n (e ∷ es), sizes_cons a n es, size_else a e es ne, sizes_in (a + 1) n e es (omega arith) (omega arith)))
+
+sizes_none : (a n : ℕ) → sizes a n [] ≡ 0
+sizes_none a zero = refl
+sizes_none a (suc n) = omega (arith, sizes_cons a n [], sizes_none (a + 1) n)
+
+-- the chains of all links are the log
+sizes_all : (n : ℕ) (l : List Entry) → ((i : ℕ) (e : Entry) → get_elem? l i ≡ some e → e.link < n) → sizes 0 n l ≡ length l
+sizes_all n [] below = sizes_none 0 n
+sizes_all n (e ∷ es) below = omega (arith, sizes_in 0 n e es (omega arith) (omega (arith, below 0 e refl)), sizes_all n es (λ i x g. below (suc i) x g))
+
+module _ {O : Type 0} {g : Ghosts O} {state : O → OutState} {p : Plan} {clients : List (List Task)} {outcomes : List (Option Outcome)} {places : List PlaceWord} {vrefs : List Vref} {outs : List O} (run : ThreadRun g state p clients outcomes places vrefs outs) (more : Besides run) where
+  links_low : (q : ℕ) (e : Entry) → get_elem? (log run more) q ≡ some e → e.link < p.links
+  links_low q e at = let w = act_of_entry run more q e at in subst (λ (x : Entry). x.link < p.links) w.1.entry w.1.sent.delivered.accepted.inside
+
+  -- each request was found taken, so that there are as many messages
+  pub was_full : (b : Act run) (letter : Letter) → SentWith state p b.m.operation.name letter (Some outcome.Full) (before run b) (after run b) → p.requests ≤ all_accepted p.links (orders run more)
+  was_full b letter s =
+      let d = s.delivered in
+      let full = run.closed.ordered.full (λ q low. has_seen run b (request_word p q) ((returned_grew s.sock.id.0 d.refused_at (after run b) d.returned).seen (request_word p q) (d.refused_by.2 q low))) in
+      omega (arith, sizes_all p.links (log run more) links_low)
+
+  -- only an `open` is the setup's
+  is_client : (a : Act run) → (IsOpen (task_of run a).op → ⊥) → 0 < a.c
+  is_client a other = dite (ℕ_discrete a.c 0)
+      (λ none_. absurd (other (setup_opens p clients run.tasks (task_of run a) (subst (λ c. Asks clients c (task_of run a)) none_ (asks_of run a.c (task_of run a) (is_task run a))))))
+      (λ ne. omega arith)
+
+  module _ (last_ : ℕ → ℕ) where
+    abbrev WhyHere : ℕ → ℕ → Op → Outcome → Type 0
+    WhyHere c o op x = Why p clients outcomes (fixed run more) gave_of (orders run more) last_ c o op x
+
+    -- why the `drop`s have their outcomes
+    abbrev pub WhyDrops : Type 0
+    WhyDrops = (a : Act run) (n : ℕ) (o : Outcome) → a.m.made.by ≡ Some o → a.m.operation.action ≡ action.Drop → (task_of run a).op ≡ ops.Drop n → Why p clients outcomes (fixed run more) gave_of (orders run more) last_ a.c (number_of run a) (ops.Drop n) o
+
+    same_op : (n k m l : ℕ) → ops.Open n k ≡ ops.Open m l → l ≡ k
+    same_op n k m l e = ap (λ op. elim_link op) (sym e)
+      where
+        elim_link : Op → ℕ
+        elim_link (ops.Open n k) = k
+        elim_link other = 0
+
+    module _ (drops : WhyDrops) where
+      why_of : (a : Act run) (op : Op) (act : Action) (o : Outcome) → Acted state p (label_of a.y.client a.m.order a.m.operation) a.m.operation act (Some o) a.m.before.has a.m.after.has → AsksFor op a.m.operation.name act → a.m.made.by ≡ Some o → (task_of run a).op ≡ op → a.m.operation.action ≡ act → WhyHere a.c (number_of run a) op o
+      why_of a (ops.Open n k) action.Open (outcome.Opened slot version l) b asks by op act = let w = opened_cause run more a slot version l by in (same_op n k a.m.operation.name l (sym op ∙ w.0), w.1, w.2, w.3)
+      why_of a (ops.Open n k) action.Open outcome.SlotsFull b asks by op act = full_cause run more a b.0.opened
+      why_of a (ops.Open n k) action.Open other b asks by op act = elim b.0.opened [ ]
+      why_of a (ops.Send n bytes) (action.Send sent_) outcome.Unopened b asks by op act = subst (λ x. WhyHere a.c (number_of run a) (ops.Send x bytes) outcome.Unopened) asks.0 (unopened_cause run more a (is_client a (λ h. subst IsOpen op h)) by b.0.1)
+      why_of a (ops.Send n bytes) (action.Send sent_) (outcome.Gone found) b asks by op act = subst (λ x. WhyHere a.c (number_of run a) (ops.Send x bytes) (outcome.Gone found)) asks.0 (elim (b.0) [ inl r ↦ gone_cause run more a found by r | inr s ↦ refused_cause run more a found _ by s ])
+      why_of a (ops.Send n bytes) (action.Send sent_) outcome.Full b asks by op act = subst (λ x. WhyHere a.c (number_of run a) (ops.Send x bytes) outcome.Full) asks.0 (has_life run more a b.0.sock b.0.has b.0.reached_it (delivered_grew state p b.0.sock _ (Some outcome.Full) b.0.has (after run a) b.0.delivered), was_full a _ b.0)
+      why_of a (ops.Send n bytes) (action.Send sent_) other b asks by op act = elim b.0 [ ]
+      why_of a (ops.Hold n) action.Hold outcome.Unopened b asks by op act = subst (λ x. WhyHere a.c (number_of run a) (ops.Hold x) outcome.Unopened) asks (unopened_cause run more a (is_client a (λ h. subst IsOpen op h)) by b.0.1.1)
+      why_of a (ops.Hold n) action.Hold (outcome.Gone found) b asks by op act = subst (λ x. WhyHere a.c (number_of run a) (ops.Hold x) (outcome.Gone found)) asks (gone_cause run more a found by b.0.1)
+      why_of a (ops.Hold n) action.Hold outcome.Held b asks by op act = subst (λ x. WhyHere a.c (number_of run a) (ops.Hold x) outcome.Held) asks (has_life run more a record { id = b.0.0 } (after run a) b.0.2 (grew_none (after run a)))
+        where
+          grew_none : (v : View) → Grew v v
+          grew_none v = stays v
+      why_of a (ops.Hold n) action.Hold other b asks by op act = elim b.0 [ ]
+      why_of a (ops.Drop n) action.Drop o b asks by op act = drops a n o by act op
+      why_of a (ops.Fail n code) (action.Fail c) outcome.Unopened b asks by op act = subst (λ x. WhyHere a.c (number_of run a) (ops.Fail x code) outcome.Unopened) asks.0 (unopened_cause run more a (is_client a (λ h. subst IsOpen op h)) by b.0.1)
+      why_of a (ops.Fail n code) (action.Fail c) (outcome.Gone found) b asks by op act = subst (λ x. WhyHere a.c (number_of run a) (ops.Fail x code) (outcome.Gone found)) asks.0 (gone_cause run more a found by b.0)
+      why_of a (ops.Fail n code) (action.Fail c) outcome.Failed b asks by op act = let w = each_failed run more (number_of run a) (act_told run a outcome.Failed by) in (w.0, w.1)
+      why_of a (ops.Fail n code) (action.Fail c) (outcome.Already found) b asks by op act = subst (λ x. WhyHere a.c (number_of run a) (ops.Fail x code) (outcome.Already found)) asks.0 (already_cause run more a found c by b.0)
+      why_of a (ops.Fail n code) (action.Fail c) other b asks by op act = elim b.0 [ ]
+      why_of a op act o b asks by op_is act_is = elim asks [ ]
+
+      -- each outcome has its cause
+      pub why : (c : ℕ) (t : Task) (o : Outcome) → IsTask clients outcomes c t → Became clients outcomes t.number o → WhyHere c t.number t.op o
+      why c t o is became =
+          let w = act_of run t.number o became in
+          let a = w.0 in
+          let at = task_is run a c t is w.1 in
+          let here = why_of a (task_of run a).op a.m.operation.action o (subst (λ x. Acted state p (label_of a.y.client a.m.order a.m.operation) a.m.operation a.m.operation.action x a.m.before.has a.m.after.has) w.2 (acted_of run a)) (asked_of run a).asks w.2 refl refl in
+          subst (λ (x : Task). WhyHere c t.number x.op o) at.1 (subst (λ x. WhyHere x t.number (task_of run a).op o) at.0 (subst (λ n. WhyHere a.c n (task_of run a).op o) w.1 here))
+
+  -- no task is on calls
+  no_call : (c : ℕ) (t : Task) → IsTask clients outcomes c t → ((name : ℕ) (act : Action) → AsksFor t.op name act → ⊥) → ⊥
+  no_call c t is none_ = let w = act_made run c t is in none_ w.0.m.operation.name w.0.m.operation.action (subst (λ (x : Task). AsksFor x.op w.0.m.operation.name w.0.m.operation.action) w.3 (asked_of run w.0).asks)
+
+  -- all that is told of the run
+  pub told_of_threads : WhyDrops (λ o. 0) → ToldCalls p clients outcomes (fixed run more) gave_of (orders run more) (left run more)
+  told_of_threads drops = record {
+    last = λ o. 0;
+    are_orders = are_orders run more;
+    told = told run more (fixed run more);
+    are = are run more;
+    once = once run more;
+    lives = lives run more;
+    why = why (λ o. 0) drops;
+    again = λ c t asked is op. absurd (no_call c t is (λ name act asks. subst (λ x. AsksFor x name act) op asks));
+    sent = λ k low. sent run more (λ o. 0) k;
+    own_order = λ k low. own_order run more (fixed run more) k;
+    dropped = dropped run more;
+    expired_once = λ c d t u o is also op other first_ second_. absurd (no_call c t is (λ name act asks. subst (λ x. AsksFor x name act) op asks));
+    versions = λ c d t u a b x y i j is also op other first_ second_ shows its ne. absurd (no_call c t is (λ name act asks. subst (λ z. AsksFor z name act) op asks));
+  }
