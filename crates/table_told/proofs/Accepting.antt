@@ -1,5 +1,5 @@
 -- Each message in the log is that of one send: which operation sent it, and in which order.
-use Rattle.std.proofs.Common.{◌≡◌, ◌≢◌, ℕ, zero, suc, ◌+◌, ◌*◌, ◌<◌, ◌≤◌, List, [], ◌∷◌, ◌++◌, length, flat_map, map, slice_get, Option, Some, None, refl, sym, ap, ◌∙◌, subst, arith}
+use Rattle.std.proofs.Common.{◌≡◌, ◌≢◌, ℕ, zero, suc, ◌*◌, ◌<◌, List, [], ◌∷◌, ◌++◌, flat_map, map, Option, Some, None, refl, sym, ap, ◌∙◌, arith}
 use mathlib.Core.Logic.{dite}
 use native.Mathlib.Decide.{ℕ_discrete, dec_lt}
 use mathlib.Core.Option.{some, some-injective, some-ne-none}
@@ -26,13 +26,12 @@ use Rattle.rpc_client.specs.declared.acting.Action.{Action}
 use Rattle.rpc_client.specs.declared.acting.Action.TheVariants as action
 use Rattle.rpc_client.specs.Acting.{label_of, Acted}
 use Rattle.table_told.specs.Besides.{Besides, moments_of}
-use Rattle.table_told.specs.Moments.{Moment}
 use Rattle.table_told.specs.Threads.{Threaded, ThreadRun, AsksFor, seat_of}
 use Rattle.table_told.proofs.Acts.{Act, final_of}
 use Rattle.table_told.proofs.Entries.{before, pick_at, before_rises, from_pick}
 use Rattle.table_told.proofs.Flats.{flat_from, flat_there, flat_rises}
 use Rattle.table_told.proofs.OneThread.{own_list}
-use Rattle.table_told.proofs.Outcomes.{task_of, number_of, asked_of, number_is, is_task, same_task, numbers_rise}
+use Rattle.table_told.proofs.Outcomes.{task_of, number_of, number_is, is_task, same_task, numbers_rise}
 use Rattle.table_told.proofs.Owning.{Sends, IsSend, entries_by, entries_of, entry_source, entry_there, entries_small}
 
 -- the task of a send of these bytes
@@ -152,7 +151,7 @@ module _ {O : Type 0} {g : Ghosts O} {state : O → OutState} {p : Plan} {client
       let author : s.author ≡ t.author = some-injective s.author t.author (sym s.name ∙ (ap (get_elem? run.closed.ordered.names) same ∙ t.name)) in
       let also : get_elem? (own s.y) (before s.author by r) ≡ some e = ap (λ l. get_elem? l (before s.author by r)) (s.own_list ∙ (ap (λ x. pick x by log) author ∙ sym t.own_list)) ∙ (ap (λ x. get_elem? (own t.y) (before x by r)) author ∙ t.place) in
       let w = flat_rises entries_of (λ m. entries_small state p (label_of s.y.client m.order m.operation) m.operation m.operation.action m.made.by m.before.has m.after.has m.made.acted) (moments_of s.y.thread s.y.is)
-          (before s.author by q) (before s.author by r) d e (before_rises s.author by q r s.by_author less) s.place also in
+      (before s.author by q) (before s.author by r) d e (before_rises s.author by q r s.by_author less) s.place also in
       let a : Act run = record { c = s.c; y = s.y; at = s.at; k = w.0; m = w.2; is = w.5 } in
       let b : Act run = record { c = s.c; y = s.y; at = s.at; k = w.1; m = w.3; is = w.6 } in
       omega (arith, numbers_rise run a b refl w.4, sent_place a d (sent_by a 0 d w.7), sent_place b e (sent_by b 0 e w.8))

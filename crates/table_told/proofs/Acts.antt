@@ -1,5 +1,5 @@
 -- The operations of all clients, and what the table's last words and notes say of them.
-use Rattle.std.proofs.Common.{◌≡◌, ◌≢◌, ℕ, zero, suc, ◌+◌, ◌-◌, ◌<◌, ◌≤◌, List, [], ◌∷◌, ◌++◌, length, flat_map, map, slice_get, Option, Some, None, refl, sym, ap, ◌∙◌, subst, arith}
+use Rattle.std.proofs.Common.{◌≡◌, ℕ, zero, suc, ◌+◌, ◌<◌, ◌≤◌, List, [], ◌∷◌, length, flat_map, map, slice_get, Option, Some, refl, sym, ap, ◌∙◌, subst, arith}
 use Rattle.std.proofs.lemmas.Option.{none-some, same_Some}
 use mathlib.Core.Logic.{dite}
 use mathlib.Core.Option.{some, some-injective, some-ne-none}
@@ -27,9 +27,9 @@ use Rattle.sock_rule.proofs.Closes.{two_terms}
 use Rattle.sock_table.specs.Named.{HasSeen}
 use Rattle.table_told.specs.Besides.{moments_of}
 use Rattle.table_told.specs.Moments.{Moment, view_of, gain, stored}
-use Rattle.table_told.specs.Threads.{Thread, Threaded, ThreadRun, IsAsked, tasks_of, seat_of}
+use Rattle.table_told.specs.Threads.{Threaded, ThreadRun, IsAsked, tasks_of, seat_of}
 use Rattle.table_told.proofs.Flats.{append_first, append_later}
-use Rattle.table_told.proofs.Growing.{IsNote, Grew, HasFound}
+use Rattle.table_told.proofs.Growing.{IsNote, HasFound}
 use Rattle.table_told.proofs.Sources.{IsOfLife}
 use Rattle.table_told.proofs.OneThread.{moment_at, later, life_marks, put_words}
 

@@ -1,11 +1,8 @@
 -- The cause of each outcome, but for that of a `drop`.
-use Rattle.std.proofs.Common.{◌≡◌, ◌≢◌, ℕ, zero, suc, ◌+◌, ◌*◌, ◌/◌, ◌%◌, ◌<◌, ◌≤◌, ◌⊎◌, inl, inr, List, [], ◌∷◌, length, map, slice_get, Option, Some, None, Contains, refl, sym, ap, ◌∙◌, subst, arith}
-use Rattle.std.specs.List.{AllByRecursion}
-use Rattle.std.specs.Prelude.{All}
-use Rattle.std.proofs.lemmas.Option.{none-some, same_Some}
+use Rattle.std.proofs.Common.{◌≡◌, ◌≢◌, ℕ, ◌+◌, ◌%◌, ◌<◌, ◌≤◌, inl, inr, List, [], ◌∷◌, Option, Some, refl, sym, ap, ◌∙◌, subst, arith}
 use mathlib.Core.Logic.{dite}
 use native.Mathlib.Decide.{ℕ_discrete, dec_lt}
-use mathlib.Core.Option.{some, some-injective, some-ne-none}
+use mathlib.Core.Option.{some, some-injective}
 use lib.ListN.{get_elem?}
 use Rattle.sock_io.specs.declared.link.Out.{Ghosts}
 use Rattle.sock_io.specs.Link.{OutState}
@@ -16,7 +13,6 @@ use Rattle.sock_words.specs.declared.place_word.PlaceWord.{PlaceWord}
 use Rattle.sock_words.specs.declared.socket_id.SocketId.{SocketId}
 use Rattle.sock_words.specs.declared.vref.Vref.{Vref}
 use Rattle.sock_words.specs.Words.{socket_id_version, socket_id_slot, vref_version}
-use Rattle.sock_model.specs.declared.chain.Entry.{Entry}
 use Rattle.sock_model.specs.declared.marks.Mark.{Mark}
 use Rattle.sock_model.specs.declared.marks.Mark.TheVariants.{Saw}
 use Rattle.sock_rule.specs.Becoming.{Became as Becomes}
@@ -24,39 +20,30 @@ use Rattle.sock_rule.specs.declared.homes.Letter.{Letter}
 use Rattle.rpc_client.specs.Failing.{TriedTo}
 use Rattle.rpc_client.specs.Sending.{SentWith}
 use Rattle.sock_model.specs.declared.view.View.{View}
-use Rattle.sock_model.specs.Entries.{on}
 use Rattle.sock_model.specs.Layout.{name_word}
 use Rattle.sock_model.specs.SlotRows.{marks_of}
-use Rattle.sock_model.specs.Weights.{is_born, is_failer, is_known, is_saw, is_met, is_tried, is_linked, only, pair, total}
-use Rattle.slot_laws.proofs.Numbers.{only-same, pair-same}
+use Rattle.sock_model.specs.Weights.{is_known, is_saw, only, total}
+use Rattle.slot_laws.proofs.Numbers.{only-same}
 use Rattle.sock_programs.specs.declared.task.Op.TheVariants as ops
 use Rattle.sock_programs.specs.declared.task.Task.{Task}
-use Rattle.sock_programs.specs.Told.{IsTask, Became, Made, IsNoLater, HasLife, EachOpened, OpensNone}
-use Rattle.sock_programs.specs.ToldCalls.{FoundFailed, FoundNone, Seeks}
-use Rattle.report_fits.proofs.Lists.{Has, all_from, within}
-use Rattle.sock_table.specs.Answers.{NoneLater}
+use Rattle.sock_programs.specs.Told.{IsTask, Became, HasLife}
+use Rattle.sock_programs.specs.ToldCalls.{FoundFailed}
 use Rattle.sock_table.specs.declared.refs.SockRef.{SockRef}
-use Rattle.rpc_client.specs.declared.acting.Action.{Action}
-use Rattle.rpc_client.specs.declared.acting.Action.TheVariants as action
 use Rattle.rpc_client.specs.declared.reaching.Reached.TheVariants as reached
-use Rattle.rpc_client.specs.Acting.{Acted, label_of}
 use Rattle.rpc_client.specs.Reaching.{ReachedBy}
 use Rattle.table_told.specs.Besides.{Besides, moments_of}
-use Rattle.table_told.specs.Left.{gave_of, accepted_of}
+use Rattle.table_told.specs.Left.{gave_of}
 use Rattle.table_told.specs.Moments.{Moment, view_of}
 use Rattle.table_told.specs.Threads.{ThreadRun, Threaded}
-use Rattle.table_told.proofs.Accepting.{log, act_of_entry, Sent, sent_place, asks_send}
-use Rattle.table_told.proofs.Acts.{Act, task_at, All as AllView, before, after, has_marks, marks_from}
-use Rattle.table_told.proofs.Fails.{MadeHere, made_born, here_found, life_is, name_low, one_outcome, fits_at, FailedLife}
-use Rattle.table_told.proofs.Failing.{fixed, all_fails, broken, FailedBy, life_failed}
-use Rattle.table_told.proofs.Growing.{Grew, HasFound, grew_then, added_grew, back_grew, found_grew, wrote_grew, returned_grew, delivered_grew}
-use Rattle.table_told.proofs.Lives.{acted_of, made_of, linked_made, found_made, made_inside, born_life}
+use Rattle.table_told.proofs.Acts.{Act, task_at, before, after, has_marks}
+use Rattle.table_told.proofs.Fails.{made_born, here_found, name_low, one_outcome}
+use Rattle.table_told.proofs.Failing.{fixed, FailedBy, life_failed}
+use Rattle.table_told.proofs.Growing.{Grew, HasFound, grew_then, added_grew, back_grew, found_grew, returned_grew, delivered_grew}
+use Rattle.table_told.proofs.Lives.{made_of, found_made, made_inside}
 use Rattle.table_told.proofs.OneThread.{between}
-use Rattle.table_told.proofs.Orders.{orders, ends, LinkEnds, kept, entry_on}
-use Rattle.table_told.proofs.Outcomes.{task_of, number_of, asked_of, number_is, is_task, act_told, act_of, task_is, earlier, one_place, same_moment}
+use Rattle.table_told.proofs.Orders.{orders}
+use Rattle.table_told.proofs.Outcomes.{task_of, number_of, asked_of, act_told, task_is, earlier}
 use Rattle.table_told.proofs.Passes.{opened_link}
-use Rattle.table_told.proofs.Sources.{Source, opens, fails, writes, acted_source}
-use Rattle.table_told.proofs.Whys.{dropped}
 
 -- the id was found under the name, and its life is known
 found_knows : (p : Plan) (n : ℕ) (sock : SockRef) (v w : View) → ReachedBy p n (reached.Here sock) v w → (socket_id_slot sock.id.0 < p.slots) × (0 < marks_of (is_known (socket_id_version sock.id.0)) (socket_id_slot sock.id.0) w)
@@ -85,14 +72,14 @@ module _ {O : Type 0} {g : Ghosts O} {state : O → OutState} {p : Plan} {client
       dite (dec_lt (number_of run f.a) (number_of run b)) (λ lt. lt) (λ ge. absurd (dite (ℕ_discrete (number_of run f.a) (number_of run b))
       (λ same. other (one_outcome run more (number_of run b) o outcome.Failed (act_told run b o by) (subst (λ n. Became clients outcomes n outcome.Failed) same (act_told run f.a outcome.Failed f.by))))
       (λ ne. (
-          let at = earlier run b f.a (sym client) (omega arith) in
-          let grew = act_between b f.a (sym client) at in
-          let t_ = f.life.tried in
-          let also = found_grew (name_word p f.a.m.operation.name) t_.sock.id.0 (before run f.a) t_.reached_it.0 t_.reached_it.1.1 in
-          let here = grew.marks (is_saw w) (λ x. refl) (socket_id_slot id.0) in
-          let then = also.marks (is_saw w) (λ x. refl) (socket_id_slot id.0) in
-          let none_ = t_.reached_it.3 w (subst (λ s. 0 < marks_of (is_saw w) s t_.reached_it.0) (sym f.slot) (omega arith)) in
-          let v = f.version in omega arith))))
+      let at = earlier run b f.a (sym client) (omega arith) in
+      let grew = act_between b f.a (sym client) at in
+      let t_ = f.life.tried in
+      let also = found_grew (name_word p f.a.m.operation.name) t_.sock.id.0 (before run f.a) t_.reached_it.0 t_.reached_it.1.1 in
+      let here = grew.marks (is_saw w) (λ x. refl) (socket_id_slot id.0) in
+      let then = also.marks (is_saw w) (λ x. refl) (socket_id_slot id.0) in
+      let none_ = t_.reached_it.3 w (subst (λ s. 0 < marks_of (is_saw w) s t_.reached_it.0) (sym f.slot) (omega arith)) in
+      let v = f.version in omega arith))))
 
   -- the operation saw a later version of a life that it had found: that was failed, by no later operation of its client
   pub dead : (b : Act run) (o : Outcome) → b.m.made.by ≡ Some o → (o ≡ outcome.Failed → ⊥) → (id : SocketId) (w : ℕ) → socket_id_slot id.0 < p.slots → HasFound record { place = name_word p b.m.operation.name; word = id.0 + 1 } (after run b)
@@ -115,7 +102,6 @@ module _ {O : Type 0} {g : Ghosts O} {state : O → OutState} {p : Plan} {client
           | inr br ↦ inl (inr (inl br))
         ];
       }
-
 
   -- ## By what it reached
 

@@ -1,6 +1,5 @@
 -- Places in the log: of the entries of one author, and of those of one link.
-use Rattle.std.proofs.Common.{◌≡◌, ◌≢◌, ℕ, zero, suc, ◌+◌, ◌<◌, ◌≤◌, Bool, true, false, cond, eqb, eq-eqb, ne_eqb, List, [], ◌∷◌, length, refl, sym, ap, ◌∙◌, subst, arith}
-use Rattle.std.specs.List.{filter}
+use Rattle.std.proofs.Common.{◌≡◌, ◌≢◌, ℕ, zero, suc, ◌+◌, ◌<◌, true, cond, eqb, eq-eqb, ne_eqb, List, [], ◌∷◌, refl, sym, ap, ◌∙◌, subst, arith}
 use mathlib.Core.Logic.{dite}
 use mathlib.Core.Option.{some, some-injective, some-ne-none}
 use native.Mathlib.Decide.{ℕ_discrete}
@@ -37,7 +36,7 @@ pick_at a (b ∷ bs) [] q e f g = absurd (some-ne-none e (sym g))
 pick_at a (b ∷ bs) (x ∷ xs) zero e f g = let same = some-injective b a f in subst (λ n. get_elem? (pick n (b ∷ bs) (x ∷ xs)) 0 ≡ some e) same (ap (λ l. get_elem? l 0) (pick_here b bs x xs) ∙ g)
 pick_at a (b ∷ bs) (x ∷ xs) (suc q) e f g = dite (ℕ_discrete b a)
     (λ same. subst (λ n. get_elem? (pick n (b ∷ bs) (x ∷ xs)) (before n (b ∷ bs) (suc q)) ≡ some e) same
-        (ap (λ l. get_elem? l (before b (b ∷ bs) (suc q))) (pick_here b bs x xs) ∙ (ap (get_elem? (x ∷ pick b bs xs)) (before_here b bs q) ∙ pick_at b bs xs q e (f ∙ ap some (sym same)) g)))
+    (ap (λ l. get_elem? l (before b (b ∷ bs) (suc q))) (pick_here b bs x xs) ∙ (ap (get_elem? (x ∷ pick b bs xs)) (before_here b bs q) ∙ pick_at b bs xs q e (f ∙ ap some (sym same)) g)))
     (λ ne. ap (λ l. get_elem? l (before a (b ∷ bs) (suc q))) (pick_other a b bs x xs ne) ∙ (ap (get_elem? (pick a bs xs)) (before_other a b bs q ne) ∙ pick_at a bs xs q e f g))
 
 -- of two entries of an author the earlier one stands before

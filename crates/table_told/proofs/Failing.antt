@@ -1,9 +1,7 @@
 -- The list of `fail`s that failed a life, and why each failed life was failed.
-use Rattle.std.proofs.Common.{◌≡◌, ◌≢◌, ℕ, zero, suc, ◌+◌, ◌<◌, ◌≤◌, ◌⊎◌, inl, inr, List, [], ◌∷◌, length, flat_map, filter_map, slice_get, option_map, Option, Some, None, Contains, refl, sym, ap, ◌∙◌, subst, arith}
+use Rattle.std.proofs.Common.{◌≡◌, ◌≢◌, ℕ, zero, suc, ◌+◌, ◌<◌, ◌⊎◌, inl, inr, List, [], ◌∷◌, flat_map, filter_map, slice_get, option_map, Option, Some, None, Contains, refl, sym, ap, ◌∙◌, subst, arith}
 use Rattle.std.specs.List.{AllByRecursion}
 use Rattle.std.proofs.lemmas.Option.{none-some, same_Some, slice_get_within}
-use mathlib.Core.Logic.{dite}
-use native.Mathlib.Decide.{ℕ_discrete, dec_lt}
 use mathlib.Core.Option.{some, some-injective, some-ne-none}
 use lib.ListN.{get_elem?}
 use Rattle.brpc_model.specs.Order.{EachBefore}
@@ -13,37 +11,31 @@ use Rattle.sock_words.specs.declared.outcome.Outcome.{Outcome}
 use Rattle.sock_words.specs.declared.outcome.Outcome.TheVariants as outcome
 use Rattle.sock_words.specs.declared.plain.Plan.{Plan}
 use Rattle.sock_words.specs.declared.place_word.PlaceWord.{PlaceWord}
-use Rattle.sock_words.specs.declared.socket_id.SocketId.{SocketId}
 use Rattle.sock_words.specs.declared.vref.Vref.{Vref}
 use Rattle.sock_words.specs.Words.{socket_id_version, socket_id_slot}
-use Rattle.sock_model.specs.declared.view.View.{View}
-use Rattle.sock_model.specs.Layout.{name_word}
 use Rattle.sock_model.specs.SlotRows.{marks_of}
-use Rattle.sock_model.specs.Weights.{is_failer, is_known, is_saw, is_met}
+use Rattle.sock_model.specs.Weights.{is_failer, is_met}
 use Rattle.slot_laws.proofs.Numbers.{only_is}
 use Rattle.sock_programs.specs.declared.task.Task.{Task}
 use Rattle.sock_programs.specs.Runs.{from_to}
-use Rattle.sock_programs.specs.Told.{IsTask, Became, Made, IsFail, IsNoLater}
-use Rattle.sock_programs.specs.ToldCalls.{Fixed, FoundFailed, MayFail, IsFailing}
-use Rattle.report_fits.proofs.Lists.{Has, contains_from, has_from, all_from, has_filter_map, filter_map_has, before_filter_map, before_from}
+use Rattle.sock_programs.specs.Told.{Became, IsFail}
+use Rattle.sock_programs.specs.ToldCalls.{Fixed}
+use Rattle.report_fits.proofs.Lists.{Has, contains_from, all_from, has_filter_map, filter_map_has, before_filter_map, before_from}
 use Rattle.rpc_client.specs.declared.acting.Action.{Action}
 use Rattle.rpc_client.specs.declared.acting.Action.TheVariants as action
 use Rattle.rpc_client.specs.Acting.{Acted, label_of}
 use Rattle.rpc_client.specs.Failing.{TriedTo}
 use Rattle.table_told.specs.Besides.{Besides, moments_of}
 use Rattle.table_told.specs.Broken.{broken_of, faults_by, faults_of}
-use Rattle.table_told.specs.Left.{fixed_of, gave_of}
-use Rattle.table_told.specs.Moments.{Moment, view_of}
+use Rattle.table_told.specs.Left.{fixed_of}
 use Rattle.table_told.specs.Threads.{ThreadRun, Threaded}
 use Rattle.table_told.proofs.Acts.{Act, All, before, after, has_marks, marks_from}
 use Rattle.table_told.proofs.Flats.{flat_there}
-use Rattle.table_told.proofs.Growing.{Grew, HasFound, found_grew}
-use Rattle.table_told.proofs.Lives.{acted_of, linked_made, found_made, failer_life}
-use Rattle.table_told.proofs.OneThread.{between}
-use Rattle.table_told.proofs.Outcomes.{number_of, act_told, act_of, task_is, earlier}
+use Rattle.table_told.proofs.Lives.{acted_of, linked_made, failer_life}
+use Rattle.table_told.proofs.Outcomes.{number_of, act_told, act_of}
 use Rattle.table_told.proofs.Sources.{Source, opens, fails, writes, acted_source}
-use Rattle.table_told.proofs.Fails.{MadeHere, FailedLife, failed_life, life_by, as_fail, fails_once, same_link, life_is, link_is, name_low, one_outcome}
-use Rattle.table_told.proofs.Orders.{choose, orders}
+use Rattle.table_told.proofs.Fails.{MadeHere, FailedLife, failed_life, life_by, as_fail, fails_once, same_link, life_is}
+use Rattle.table_told.proofs.Orders.{choose}
 
 -- ## Numbers from 0
 
@@ -188,11 +180,11 @@ module _ {O : Type 0} {g : Ghosts O} {state : O → OutState} {p : Plan} {client
       let a = w.0 in
       by_source a a.m.operation.action a.m.made.by a.m.made.acted
       (λ code is t slot version by. (
-          let l = life_by run more a code is t in
-          let e = each_failed (number_of run a) (act_told run a outcome.Failed by) in
-          let mine : l.link ≡ k = (life_is run more a.m.operation.name n l.link k i h (at_life a.m.operation.name l.link (socket_id_slot t.sock.id.0) (socket_id_version t.sock.id.0) slot version l.made) made).1 in
-          let its : e.0 ≡ k = sym e.2.link ∙ (same_link run more e.2.a a e.2.number e.2.life l ∙ mine) in
-          inl record { a = a; by = by; life = l; slot = slot; version = version; listed = subst (λ x. Contains all_fails (number_of run a, x)) its e.1 }))
+      let l = life_by run more a code is t in
+      let e = each_failed (number_of run a) (act_told run a outcome.Failed by) in
+      let mine : l.link ≡ k = (life_is run more a.m.operation.name n l.link k i h (at_life a.m.operation.name l.link (socket_id_slot t.sock.id.0) (socket_id_version t.sock.id.0) slot version l.made) made).1 in
+      let its : e.0 ≡ k = sym e.2.link ∙ (same_link run more e.2.a a e.2.number e.2.life l ∙ mine) in
+      inl record { a = a; by = by; life = l; slot = slot; version = version; listed = subst (λ x. Contains all_fails (number_of run a, x)) its e.1 }))
       (λ j l listed met. inr (is_broken a j k (listed ∙ ap some (met_link l met))))
       (acted_source (is_failer h) (failer_life h) state p (label_of a.y.client a.m.order a.m.operation) a.m.operation a.m.operation.action a.m.made.by a.m.before.has a.m.after.has (acted_of run a) i w.1)
     where

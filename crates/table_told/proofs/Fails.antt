@@ -1,14 +1,12 @@
 -- Lives that were failed: by which `fail`, or since their link failed.
-use Rattle.std.proofs.Common.{◌≡◌, ◌≢◌, ℕ, zero, suc, ◌+◌, ◌<◌, ◌≤◌, ◌⊎◌, inl, inr, Bool, true, false, List, [], ◌∷◌, length, flat_map, filter_map, slice_get, option_map, Option, Some, None, Contains, refl, sym, ap, ◌∙◌, subst, arith}
+use Rattle.std.proofs.Common.{◌≡◌, ℕ, ◌+◌, ◌<◌, ◌≤◌, List, [], ◌∷◌, Option, Some, None, refl, sym, ap, ◌∙◌, subst, arith}
 use Rattle.std.specs.Prelude.{slice_index}
-use Rattle.std.specs.List.{AllByRecursion}
-use Rattle.std.proofs.lemmas.Option.{none-some, same_Some}
+use Rattle.std.proofs.lemmas.Option.{same_Some}
 use mathlib.Core.Logic.{dite}
-use native.Mathlib.Decide.{ℕ_discrete, dec_lt}
+use native.Mathlib.Decide.{dec_lt}
 use mathlib.Core.Option as core
 use mathlib.Core.Option.{some, some-injective, some-ne-none}
 use lib.ListN.{get_elem?}
-use Rattle.brpc_model.specs.Order.{EachBefore}
 use Rattle.sock_io.specs.declared.link.Out.{Ghosts}
 use Rattle.sock_io.specs.Link.{OutState}
 use Rattle.sock_words.specs.declared.outcome.Outcome.{Outcome}
@@ -16,27 +14,22 @@ use Rattle.sock_words.specs.declared.outcome.Outcome.TheVariants as outcome
 use Rattle.sock_words.specs.declared.plain.Label.{Label}
 use Rattle.sock_words.specs.declared.plain.Plan.{Plan}
 use Rattle.sock_words.specs.declared.place_word.PlaceWord.{PlaceWord}
-use Rattle.sock_words.specs.declared.socket_id.SocketId.{SocketId}
 use Rattle.sock_words.specs.declared.vref.Vref.{Vref}
-use Rattle.sock_words.specs.Words.{socket_id_version, socket_id_slot, vref_version}
+use Rattle.sock_words.specs.Words.{socket_id_version, socket_id_slot}
 use Rattle.sock_model.specs.declared.marks.Mark.{Mark}
-use Rattle.sock_model.specs.declared.marks.Mark.TheVariants.{Known, Failer, Saw}
 use Rattle.sock_model.specs.declared.view.StoredWord.{StoredWord}
 use Rattle.sock_model.specs.declared.view.View.{View}
 use Rattle.sock_model.specs.Layout.{name_word, ref_word}
 use Rattle.sock_model.specs.Slots.{version_of}
 use Rattle.sock_model.specs.SlotRows.{marks_of}
-use Rattle.sock_model.specs.Weights.{is_born, is_linked, is_failer, is_known, is_saw, is_met, only}
-use Rattle.slot_laws.proofs.Numbers.{only-same, only_is, pair-same}
-use Rattle.slot_laws.proofs.Sums.{about-here}
+use Rattle.sock_model.specs.Weights.{is_born, is_failer, only}
+use Rattle.slot_laws.proofs.Numbers.{only-same}
 use Rattle.sock_programs.specs.declared.task.Op.{Op}
 use Rattle.sock_programs.specs.declared.task.Op.TheVariants as ops
 use Rattle.sock_programs.specs.declared.task.Task.{Task}
-use Rattle.sock_programs.specs.Runs.{from_to}
-use Rattle.sock_programs.specs.Told.{IsTask, Became, Made, IsFail, TaskFits, OpFits}
+use Rattle.sock_programs.specs.Told.{Became, Made, IsFail, TaskFits, OpFits}
 use Rattle.sock_causes.proofs.Members.{all_in}
 use Rattle.sock_causes.proofs.Tasks.{fits_of, one_link}
-use Rattle.report_fits.proofs.Lists.{Has, has_from, contains_from, all_from, has_filter_map, filter_map_has, before_filter_map, some_is}
 use Rattle.sock_table.specs.declared.refs.SockRef.{SockRef}
 use Rattle.rpc_client.specs.declared.acting.Action.{Action}
 use Rattle.rpc_client.specs.declared.acting.Action.TheVariants as action
@@ -45,17 +38,13 @@ use Rattle.rpc_client.specs.declared.reaching.Reached.TheVariants as reached
 use Rattle.rpc_client.specs.Acting.{Stand, Acted, label_of}
 use Rattle.rpc_client.specs.Failing.{TriedTo, FailedBy}
 use Rattle.rpc_client.specs.Reaching.{ReachedBy}
-use Rattle.table_told.specs.Besides.{Besides, moments_of}
-use Rattle.table_told.specs.Broken.{broken_of, faults_of}
-use Rattle.table_told.specs.Moments.{Moment, view_of}
-use Rattle.table_told.specs.Threads.{ThreadRun, Threaded, AsksFor}
-use Rattle.table_told.proofs.Acts.{Act, All, before, after, has_marks, marks_from, once_added, client_is}
-use Rattle.table_told.proofs.Flats.{flat_there}
-use Rattle.table_told.proofs.Growing.{Grew, HasFound, grew_then, added_grew, back_grew, reached_grew}
-use Rattle.table_told.proofs.Lives.{acted_of, maker, act_born, linked_made, found_made, made_inside, lives, born_life, failer_life}
-use Rattle.table_told.proofs.OneThread.{between}
-use Rattle.table_told.proofs.Outcomes.{task_of, number_of, asked_of, number_is, is_task, asks_of, same_task, act_told, act_of, task_is, same_number, earlier, one_place, same_moment}
-use Rattle.table_told.proofs.Sources.{Source, opens, fails, writes, acted_source}
+use Rattle.table_told.specs.Besides.{Besides}
+use Rattle.table_told.specs.Moments.{view_of}
+use Rattle.table_told.specs.Threads.{ThreadRun, AsksFor}
+use Rattle.table_told.proofs.Acts.{Act, All, before, after, has_marks, once_added}
+use Rattle.table_told.proofs.Growing.{HasFound, grew_then, added_grew, back_grew, reached_grew}
+use Rattle.table_told.proofs.Lives.{acted_of, maker, act_born, found_made, made_inside, lives, failer_life}
+use Rattle.table_told.proofs.Outcomes.{task_of, number_of, asked_of, number_is, is_task, asks_of, same_task, act_told, same_number, one_place, same_moment}
 
 -- ## What an operation found under its name
 

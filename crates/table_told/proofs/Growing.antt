@@ -1,5 +1,5 @@
 -- What a seat has noted stays noted, whatever operation it makes.
-use Rattle.std.proofs.Common.{◌≡◌, ◌≢◌, ℕ, zero, suc, ◌+◌, ◌<◌, ◌≤◌, Bool, true, false, cond, eqb, eq-eqb, ne_eqb, Option, Some, None, inl, inr, List, [], ◌∷◌, ◌++◌, refl, sym, ap, ◌∙◌, subst, arith}
+use Rattle.std.proofs.Common.{◌≡◌, ℕ, suc, ◌+◌, ◌≤◌, Bool, true, false, Option, Some, None, inl, inr, List, [], ◌∷◌, refl, sym, ap, ◌∙◌, subst, arith}
 use mathlib.Core.Logic.{dite}
 use mathlib.Core.Option.{some}
 use native.Mathlib.Decide.{ℕ_discrete, dec_lt}
@@ -11,11 +11,9 @@ use Rattle.sock_words.specs.declared.outcome.Outcome.{Outcome}
 use Rattle.sock_words.specs.declared.outcome.Outcome.TheVariants as outcome
 use Rattle.sock_words.specs.declared.plain.Label.{Label}
 use Rattle.sock_words.specs.declared.plain.Plan.{Plan}
-use Rattle.sock_words.specs.declared.socket_id.SocketId.{SocketId}
-use Rattle.sock_words.specs.declared.vref.Vref.{Vref}
 use Rattle.sock_words.specs.Words.{socket_id_version, socket_id_slot}
 use Rattle.sock_model.specs.declared.marks.Mark.{Mark}
-use Rattle.sock_model.specs.declared.marks.Mark.TheVariants.{Hold, Known, Saw}
+use Rattle.sock_model.specs.declared.marks.Mark.TheVariants.{Hold, Known}
 use Rattle.sock_model.specs.declared.marks.SlotMark.{SlotMark}
 use Rattle.sock_model.specs.declared.view.StoredWord.{StoredWord}
 use Rattle.sock_model.specs.declared.view.View.{View}
@@ -23,12 +21,11 @@ use Rattle.sock_model.specs.Layout.{name_word, open_word}
 use Rattle.sock_model.specs.Marks.{about, at, noted}
 use Rattle.sock_model.specs.SlotRows.{marks_of}
 use Rattle.sock_model.specs.Weights.{total}
-use Rattle.slot_laws.proofs.Sums.{total-append, about-here, about-other}
+use Rattle.slot_laws.proofs.Sums.{about-here, about-other}
 use Rattle.sock_rule.specs.Becoming.{Became}
 use Rattle.sock_rule.specs.OnTable.{is_put, put_in}
 use Rattle.sock_rule.specs.Rows.{PutAt}
 use Rattle.sock_rule.specs.declared.homes.Letter.{Letter}
-use Rattle.sock_rule.specs.declared.homes.SockHome.{SockHome}
 use Rattle.sock_table.specs.Named.{HasSeen, FindsId}
 use Rattle.sock_table.specs.Passes.{Created, TriedTo as TriedSlots}
 use Rattle.sock_table.specs.Refs.{SameNotes, GaveBack}

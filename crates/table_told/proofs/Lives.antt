@@ -1,8 +1,6 @@
 -- Lives and the operations that made them.
-use Rattle.std.proofs.Common.{◌≡◌, ◌≢◌, ℕ, zero, suc, ◌+◌, ◌<◌, ◌≤◌, ◌⊎◌, inl, inr, List, [], ◌∷◌, length, slice_get, Option, Some, None, refl, sym, ap, ◌∙◌, subst, arith}
-use Rattle.std.proofs.lemmas.Option.{none-some, same_Some}
-use mathlib.Core.Option.{some, some-injective, some-ne-none}
-use lib.ListN.{get_elem?}
+use Rattle.std.proofs.Common.{◌≡◌, ℕ, ◌+◌, ◌<◌, List, Option, Some, None, refl, sym, ap, ◌∙◌, subst, arith}
+use Rattle.std.proofs.lemmas.Option.{same_Some}
 use Rattle.atomic_table.specs.Table.{Me}
 use Rattle.sock_io.specs.declared.link.Out.{Ghosts}
 use Rattle.sock_io.specs.Link.{OutState}
@@ -15,26 +13,20 @@ use Rattle.sock_words.specs.declared.socket_id.SocketId.{SocketId}
 use Rattle.sock_words.specs.declared.vref.Vref.{Vref}
 use Rattle.sock_words.specs.Words.{socket_id_version, socket_id_slot}
 use Rattle.sock_model.specs.declared.marks.Mark.{Mark}
-use Rattle.sock_model.specs.declared.marks.Mark.TheVariants.{Known, Born, Linked, Failer}
-use Rattle.sock_model.specs.declared.view.StoredWord.{StoredWord}
 use Rattle.sock_model.specs.declared.view.View.{View}
 use Rattle.sock_model.specs.Layout.{name_word, open_word}
 use Rattle.sock_model.specs.SlotRows.{marks_of}
-use Rattle.sock_model.specs.Weights.{is_born, is_linked, is_failer, only, pair}
-use Rattle.slot_laws.proofs.Numbers.{only-same, only_is, pair_is}
-use Rattle.sock_programs.specs.declared.task.Op.TheVariants as ops
+use Rattle.sock_model.specs.Weights.{is_born, is_linked, is_failer, only}
+use Rattle.slot_laws.proofs.Numbers.{only-same, pair_is}
 use Rattle.sock_programs.specs.declared.task.Task.{Task}
-use Rattle.sock_programs.specs.Told.{IsTask, Became, Made}
-use Rattle.sock_rule.specs.declared.homes.SockHome.{SockHome}
-use Rattle.sock_table.specs.Named.{FindsId}
+use Rattle.sock_programs.specs.Told.{Became, Made}
 use Rattle.rpc_client.specs.declared.acting.Action.{Action}
 use Rattle.rpc_client.specs.declared.acting.Action.TheVariants as action
 use Rattle.rpc_client.specs.declared.acting.Operation.{Operation}
 use Rattle.rpc_client.specs.Acting.{Stand, Acted, label_of}
 use Rattle.rpc_client.specs.Opening.{OpenedBy}
-use Rattle.table_told.specs.Besides.{Besides, moments_of}
-use Rattle.table_told.specs.Moments.{Moment}
-use Rattle.table_told.specs.Threads.{ThreadRun, Threaded}
+use Rattle.table_told.specs.Besides.{Besides}
+use Rattle.table_told.specs.Threads.{ThreadRun}
 use Rattle.table_told.proofs.Acts.{Act, All, before, after, task_at, has_found, marks_from, puts_from, once_added}
 use Rattle.table_told.proofs.Growing.{HasFound, put_grew}
 use Rattle.table_told.proofs.Outcomes.{task_of, number_of, asked_of, number_is, is_task, act_told, act_of, task_is, same_number}

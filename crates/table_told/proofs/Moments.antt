@@ -1,19 +1,17 @@
 -- What the operations of a client add up to.
-use Rattle.std.proofs.Common.{◌≡◌, ℕ, zero, suc, ◌+◌, ◌-◌, ◌<◌, ◌≤◌, List, [], ◌∷◌, ◌++◌, length, flat_map, length-append, append_assoc, append-nil, refl, sym, ap, ◌∙◌, subst, arith}
-use mathlib.Core.Option.{some, some-injective, some-ne-none}
+use Rattle.std.proofs.Common.{◌≡◌, ℕ, zero, suc, ◌+◌, ◌<◌, List, [], ◌∷◌, ◌++◌, length, flat_map, length-append, append_assoc, append-nil, refl, sym, ap, ◌∙◌, subst, arith}
+use mathlib.Core.Option.{some, some-ne-none}
 use lib.ListN.{get_elem?}
 use Rattle.sock_io.specs.declared.link.Out.{Ghosts}
 use Rattle.sock_io.specs.Link.{OutState}
 use Rattle.sock_words.specs.declared.plain.Plan.{Plan}
 use Rattle.sock_model.specs.declared.marks.Mark.{Mark}
-use Rattle.sock_model.specs.declared.view.View.{View}
 use Rattle.sock_model.specs.SlotRows.{marks_of}
 use Rattle.sock_model.specs.Weights.{total}
-use Rattle.chain_laws.proofs.Lists.{Snoc, old, new, at_snoc, at_last, at_longer}
+use Rattle.chain_laws.proofs.Lists.{old, new, at_snoc}
 use Rattle.slot_laws.proofs.Sums.{total-append}
 use Rattle.sock_rule.specs.OnTable.{put_in}
 use Rattle.rpc_client.specs.declared.acting.Operation.{Operation}
-use Rattle.rpc_client.specs.declared.acting.Told.{Told}
 use Rattle.rpc_client.specs.Acting.{label_of}
 use Rattle.rpc_client.specs.Running.{Course, Ran}
 use Rattle.table_told.specs.Moments.{Moment, moments, view_of, tells, gain, stored}

@@ -1,5 +1,5 @@
 -- A client's whole run: what its seat has in the end, by its operations.
-use Rattle.std.proofs.Common.{◌≡◌, ◌≢◌, ℕ, zero, suc, ◌+◌, ◌-◌, ◌<◌, ◌≤◌, Option, Some, None, List, [], ◌∷◌, ◌++◌, length, flat_map, map, drop, slice_get, length-drop, refl, sym, ap, ◌∙◌, subst, arith}
+use Rattle.std.proofs.Common.{◌≡◌, ℕ, zero, suc, ◌<◌, Some, List, [], ◌∷◌, ◌++◌, length, flat_map, drop, slice_get, length-drop, refl, sym, ap, ◌∙◌, subst, arith}
 use Rattle.std.proofs.lemmas.List.{nil_from_length}
 use Rattle.std.proofs.lemmas.Option.{none-some, same_Some}
 use mathlib.Core.Option.{some, some-injective, some-ne-none}
@@ -7,8 +7,6 @@ use lib.ListN.{get_elem?}
 use Rattle.sock_io.specs.declared.link.Out.{Ghosts}
 use Rattle.sock_io.specs.Link.{OutState}
 use Rattle.sock_words.specs.declared.plain.Plan.{Plan}
-use Rattle.sock_words.specs.Words.{socket_id_version, socket_id_slot}
-use Rattle.sock_model.specs.declared.chain.Entry.{Entry}
 use Rattle.sock_model.specs.declared.marks.Mark.{Mark}
 use Rattle.sock_model.specs.declared.view.View.{View}
 use Rattle.sock_model.specs.Layout.{name_word}
@@ -18,15 +16,14 @@ use Rattle.sock_model.specs.Weights.{total}
 use Rattle.sock_programs.specs.declared.task.Task.{Task}
 use Rattle.sock_rule.specs.OnTable.{put_in}
 use Rattle.sock_table.specs.Named.{HasSeen}
-use Rattle.rpc_client.specs.declared.acting.Client.{Client}
 use Rattle.rpc_client.specs.declared.acting.Operation.{Operation}
 use Rattle.rpc_client.specs.declared.holding.Held.{Held}
 use Rattle.rpc_client.specs.Acting.{Stand, stand}
 use Rattle.rpc_client.specs.Running.{Course, begins, LeftFirst, GaveFirst}
 use Rattle.table_told.specs.Besides.{moments_of, KeepsAtOpen}
-use Rattle.table_told.specs.Moments.{Moment, moments, view_of, tells, gain, stored}
+use Rattle.table_told.specs.Moments.{Moment, view_of, tells, gain, stored}
 use Rattle.table_told.specs.Threads.{Thread, IsThread, FoundEach, AreAsked, IsAsked}
-use Rattle.table_told.proofs.Growing.{IsNote, Grew, stays, grew_then, found_grew, returned_grew}
+use Rattle.table_told.proofs.Growing.{Grew, stays, grew_then, found_grew, returned_grew}
 use Rattle.table_told.proofs.Moments.{moments_long, moment_is, ends_grew, begins_grew, between_grew, told_is, gains, stores}
 use Rattle.table_told.proofs.Sources.{IsOfLife, Same, same_then, same_as, found_same, returned_same, found_puts, others_puts}
 use Rattle.table_told.proofs.Owning.{entries_of, run_lists}

@@ -1,11 +1,11 @@
 -- The orders of the links are those that place words and links show; each accepted message is one that was sent, in its client's order.
-use Rattle.std.proofs.Common.{◌≡◌, ◌≢◌, ℕ, zero, suc, ◌+◌, ◌*◌, ◌/◌, ◌%◌, ◌<◌, ◌≤◌, ◌⊎◌, inl, inr, ⊎_elim, Bool, true, false, cond, eqb, nat_le, le-leb, lt-ltb, List, [], ◌∷◌, ◌++◌, length, flat_map, map, take, drop, get_or, replicate, append-nil, slice_get, Option, Some, None, refl, sym, ap, ◌∙◌, subst, arith}
+use Rattle.std.proofs.Common.{◌≡◌, ◌≢◌, ℕ, zero, suc, ◌+◌, ◌/◌, ◌%◌, ◌<◌, ◌≤◌, ◌⊎◌, inl, inr, ⊎_elim, true, false, eqb, nat_le, List, [], ◌∷◌, ◌++◌, length, flat_map, map, take, drop, get_or, replicate, append-nil, slice_get, Option, Some, None, refl, sym, ap, ◌∙◌, subst, arith}
 use Rattle.std.specs.Prelude.{slice_index}
 use Rattle.std.specs.Option.{ForSome}
 use Rattle.std.proofs.lemmas.Bool.Decides.{nat_tests}
 use Rattle.std.proofs.lemmas.Option.{none-some, same_Some}
 use mathlib.Core.Logic.{dite}
-use native.Mathlib.Decide.{ℕ_discrete, dec_lt}
+use native.Mathlib.Decide.{dec_lt}
 use mathlib.Core.Option as core
 use mathlib.Core.Option.{some, none, some-injective, some-ne-none}
 use lib.ListN.{get_elem?}
@@ -28,7 +28,7 @@ use Rattle.sock_model.specs.Weights.{is_linked, is_failer}
 use Rattle.sock_causes.proofs.Members.{all_in}
 use Rattle.sock_causes.proofs.Tasks.{fits_of}
 use Rattle.sock_programs.specs.declared.task.Op.TheVariants as ops
-use Rattle.chain_laws.proofs.Lists.{distinct_filter, at_length}
+use Rattle.chain_laws.proofs.Lists.{distinct_filter}
 use Rattle.sock_programs.specs.declared.task.Task.{Task}
 use Rattle.sock_programs.specs.Cores.{Core, link_place, lies_at}
 use Rattle.sock_programs.specs.Runs.{from_to}
@@ -37,13 +37,13 @@ use Rattle.sock_programs.specs.Told.{IsTask, Became, TaskFits, OpFits}
 use Rattle.sock_programs.specs.ToldCalls.{Accepted, Order, Fixed, AreOrders, IsTaken, StandsAt, StandsOn, InOwnOrder, bytes_of, label}
 use Rattle.report_fits.proofs.Lists.{before_from}
 use Rattle.table_told.specs.Besides.{Besides}
-use Rattle.table_told.specs.Left.{accepted_of, orders_of, homes_of, core_of, fixed_of, gave_of}
+use Rattle.table_told.specs.Left.{accepted_of, orders_of, homes_of, core_of, gave_of}
 use Rattle.table_told.specs.Threads.{ThreadRun}
-use Rattle.table_told.proofs.Accepting.{log, places_differ, act_of_entry, entry_of_act, Sent, sent_place, in_order, asks_send}
+use Rattle.table_told.proofs.Accepting.{log, places_differ, act_of_entry, entry_of_act, sent_place, in_order, asks_send}
 use Rattle.table_told.proofs.Acts.{Act}
 use Rattle.table_told.proofs.Entries.{from_on, on_there, on_rises}
 use Rattle.table_told.proofs.Flats.{append_later}
-use Rattle.table_told.proofs.Outcomes.{task_of, number_of, number_is, asked_of, is_task, asks_of, act_told, act_made}
+use Rattle.table_told.proofs.Outcomes.{task_of, number_of, asked_of, is_task, asks_of, act_told, act_made}
 
 -- ## A value for each number below a bound
 

@@ -1,5 +1,5 @@
 -- A client's own list of accepted messages: one for each send that was accepted, in their order.
-use Rattle.std.proofs.Common.{◌≡◌, ℕ, zero, suc, ◌+◌, ◌<◌, ◌≤◌, Option, Some, None, inl, inr, List, [], ◌∷◌, ◌++◌, length, flat_map, append_assoc, append-nil, refl, sym, ap, ◌∙◌, subst, arith}
+use Rattle.std.proofs.Common.{◌≡◌, ℕ, zero, suc, ◌≤◌, Option, Some, None, inl, inr, List, [], ◌∷◌, ◌++◌, length, flat_map, append_assoc, append-nil, refl, sym, ap, ◌∙◌, arith}
 use mathlib.Core.Option.{some, some-injective, some-ne-none}
 use lib.ListN.{get_elem?}
 use Rattle.sock_io.specs.declared.link.Out.{Ghosts}
@@ -13,7 +13,6 @@ use Rattle.sock_model.specs.declared.view.View.{View}
 use Rattle.sock_model.specs.ChainRows.{more}
 use Rattle.chain_laws.proofs.Lists.{at_longer, at_last}
 use Rattle.sock_rule.specs.declared.homes.Letter.{Letter}
-use Rattle.sock_table.specs.declared.refs.SockRef.{SockRef}
 use Rattle.rpc_client.specs.declared.acting.Action.{Action}
 use Rattle.rpc_client.specs.declared.acting.Action.TheVariants as action
 use Rattle.rpc_client.specs.declared.acting.Operation.{Operation}
@@ -21,11 +20,11 @@ use Rattle.rpc_client.specs.declared.holding.Held.{Held}
 use Rattle.rpc_client.specs.declared.reaching.Reached.{Reached}
 use Rattle.rpc_client.specs.declared.reaching.Reached.TheVariants as reached
 use Rattle.rpc_client.specs.Acting.{Stand, Acted, letter_of, label_of}
-use Rattle.rpc_client.specs.Failing.{SetBy, TriedTo, FailedBy}
+use Rattle.rpc_client.specs.Failing.{TriedTo, FailedBy}
 use Rattle.rpc_client.specs.Holding.{HeldBy, DroppedBy}
 use Rattle.rpc_client.specs.Reaching.{ReachedBy}
 use Rattle.rpc_client.specs.Running.{Course, Ran}
-use Rattle.rpc_client.specs.Sending.{CameBack, SentBy, SentWith}
+use Rattle.rpc_client.specs.Sending.{SentBy, SentWith}
 use Rattle.rpc_client.proofs.Delivering.{came_lists}
 use Rattle.rpc_client.proofs.Finding.{set_others}
 use Rattle.table_told.specs.Besides.{KeepsAtOpen}

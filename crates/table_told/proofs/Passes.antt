@@ -1,8 +1,8 @@
 -- The link of each socket that a client opens is that of its task: the passes of its links are spent in their order.
-use Rattle.std.proofs.Common.{◌≡◌, ℕ, zero, suc, ◌+◌, ◌<◌, ◌≤◌, Option, Some, None, List, [], ◌∷◌, ◌++◌, length, flat_map, map, reverse, slice_get, length-append, append_assoc, append-nil, refl, sym, ap, ◌∙◌, subst, arith}
+use Rattle.std.proofs.Common.{◌≡◌, ℕ, zero, suc, ◌≤◌, Option, Some, None, List, [], ◌∷◌, ◌++◌, length, flat_map, map, reverse, slice_get, length-append, append_assoc, append-nil, refl, sym, ap, ◌∙◌, subst, arith}
 use Rattle.std.proofs.lemmas.List.{nil_from_length, reverse-append, reverse-reverse, length-reverse}
 use Rattle.std.proofs.lemmas.Option.{none-some, same_Some}
-use mathlib.Core.Option.{some, some-injective, some-ne-none}
+use mathlib.Core.Option.{some, some-injective}
 use lib.ListN.{get_elem?}
 use Rattle.sock_io.specs.declared.link.Out.{Ghosts}
 use Rattle.sock_io.specs.Link.{OutState}
@@ -13,7 +13,6 @@ use Rattle.sock_words.specs.declared.plain.Plan.{Plan}
 use Rattle.sock_programs.specs.declared.task.Op.{Op}
 use Rattle.sock_programs.specs.declared.task.Op.TheVariants as ops
 use Rattle.sock_programs.specs.declared.task.Task.{Task}
-use Rattle.sock_rule.specs.declared.homes.SockHome.{SockHome}
 use Rattle.sock_table.specs.declared.passes.LinkPass.{LinkPass}
 use Rattle.rpc_client.specs.declared.acting.Action.{Action}
 use Rattle.rpc_client.specs.declared.acting.Action.TheVariants as action

@@ -32,14 +32,13 @@ use Rattle.sock_rule.specs.Becoming.{Became}
 use Rattle.sock_rule.specs.OnTable.{is_put, put_in}
 use Rattle.sock_rule.specs.Rows.{PutAt}
 use Rattle.sock_rule.specs.declared.homes.Letter.{Letter}
-use Rattle.sock_rule.specs.declared.homes.SockHome.{SockHome}
 use Rattle.sock_table.specs.Named.{FindsId}
 use Rattle.sock_table.specs.Passes.{Created, TriedTo as TriedSlots}
 use Rattle.sock_table.specs.Refs.{SameNotes, GaveBack, EndedBy, retired}
 use Rattle.sock_table.specs.declared.refs.SockRef.{SockRef}
 use Rattle.write_chain.specs.declared.entry.Refused.{Refused}
 use Rattle.write_chain.specs.declared.entry.Refused.TheVariants as refused
-use Rattle.write_chain.specs.Noting.{Noted, nothing, finding, failing, IsFinding, saw, met, told, Faulted, Met_by}
+use Rattle.write_chain.specs.Noting.{Noted, nothing, finding, failing, IsFinding, saw, met, told, Met_by}
 use Rattle.write_chain.specs.Sending.{RefusedBy}
 use Rattle.rpc_client.specs.declared.acting.Action.{Action}
 use Rattle.rpc_client.specs.declared.acting.Action.TheVariants as action

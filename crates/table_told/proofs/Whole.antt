@@ -1,11 +1,8 @@
 -- What a run on threads leaves is what is told of a run: all but the causes of `drop`s.
-use Rattle.std.proofs.Common.{◌≡◌, ◌≢◌, ℕ, zero, suc, ◌+◌, ◌*◌, ◌/◌, ◌%◌, ◌<◌, ◌≤◌, ◌⊎◌, inl, inr, List, [], ◌∷◌, length, map, slice_get, Option, Some, None, Contains, refl, sym, ap, ◌∙◌, subst, arith}
-use Rattle.std.specs.List.{AllByRecursion}
-use Rattle.std.specs.Prelude.{All}
-use Rattle.std.proofs.lemmas.Option.{none-some, same_Some}
+use Rattle.std.proofs.Common.{◌≡◌, ◌≢◌, ℕ, zero, suc, ◌+◌, ◌<◌, ◌≤◌, inl, inr, List, [], ◌∷◌, length, map, Option, Some, refl, sym, ap, ◌∙◌, subst, arith}
 use mathlib.Core.Logic.{dite}
-use native.Mathlib.Decide.{ℕ_discrete, dec_lt}
-use mathlib.Core.Option.{some, some-injective, some-ne-none}
+use native.Mathlib.Decide.{ℕ_discrete}
+use mathlib.Core.Option.{some}
 use lib.ListN.{get_elem?}
 use Rattle.sock_io.specs.declared.link.Out.{Ghosts}
 use Rattle.sock_io.specs.Link.{OutState}
@@ -13,85 +10,50 @@ use Rattle.sock_words.specs.declared.outcome.Outcome.{Outcome}
 use Rattle.sock_words.specs.declared.outcome.Outcome.TheVariants as outcome
 use Rattle.sock_words.specs.declared.plain.Plan.{Plan}
 use Rattle.sock_words.specs.declared.place_word.PlaceWord.{PlaceWord}
-use Rattle.sock_words.specs.declared.socket_id.SocketId.{SocketId}
 use Rattle.sock_words.specs.declared.vref.Vref.{Vref}
-use Rattle.sock_words.specs.Words.{socket_id_version, socket_id_slot, vref_version}
 use Rattle.sock_model.specs.declared.chain.Entry.{Entry}
-use Rattle.sock_model.specs.declared.marks.Mark.{Mark}
-use Rattle.sock_model.specs.declared.marks.Mark.TheVariants.{Saw}
-use Rattle.sock_rule.specs.Becoming.{Became as Becomes}
 use Rattle.sock_rule.specs.declared.homes.Letter.{Letter}
-use Rattle.rpc_client.specs.Failing.{TriedTo}
 use Rattle.rpc_client.specs.Sending.{SentWith}
 use Rattle.sock_model.specs.declared.view.View.{View}
 use Rattle.sock_model.specs.Entries.{on}
-use Rattle.sock_model.specs.Layout.{name_word}
-use Rattle.sock_model.specs.SlotRows.{marks_of}
-use Rattle.sock_model.specs.Weights.{is_born, is_failer, is_known, is_saw, is_met, is_tried, is_linked, only, pair, total}
-use Rattle.slot_laws.proofs.Numbers.{only-same, pair-same}
 use Rattle.sock_programs.specs.declared.task.Op.TheVariants as ops
 use Rattle.sock_programs.specs.declared.task.Task.{Task}
-use Rattle.sock_programs.specs.Told.{IsTask, Became, Made, IsNoLater, HasLife, EachOpened, OpensNone}
-use Rattle.sock_programs.specs.ToldCalls.{FoundFailed, FoundNone, Seeks}
-use Rattle.report_fits.proofs.Lists.{Has, all_from, within}
-use Rattle.sock_table.specs.Answers.{NoneLater}
-use Rattle.sock_table.specs.declared.refs.SockRef.{SockRef}
+use Rattle.sock_programs.specs.Told.{IsTask, Became}
 use Rattle.rpc_client.specs.declared.acting.Action.{Action}
 use Rattle.rpc_client.specs.declared.acting.Action.TheVariants as action
-use Rattle.rpc_client.specs.declared.reaching.Reached.TheVariants as reached
 use Rattle.rpc_client.specs.Acting.{Acted, label_of}
-use Rattle.rpc_client.specs.Reaching.{ReachedBy}
-use Rattle.table_told.specs.Besides.{Besides, moments_of}
+use Rattle.table_told.specs.Besides.{Besides}
 use Rattle.table_told.specs.Left.{gave_of, accepted_of}
-use Rattle.table_told.specs.Moments.{Moment, view_of}
-use Rattle.table_told.specs.Threads.{ThreadRun, Threaded}
-use Rattle.table_told.proofs.Accepting.{log, act_of_entry, Sent, sent_place, asks_send}
-use Rattle.table_told.proofs.Acts.{Act, task_at, All as AllView, before, after, has_marks, marks_from}
-use Rattle.table_told.proofs.Fails.{MadeHere, made_born, here_found, life_is, name_low, one_outcome, fits_at, FailedLife}
-use Rattle.table_told.proofs.Failing.{fixed, all_fails, broken, FailedBy, life_failed}
-use Rattle.table_told.proofs.Growing.{Grew, HasFound, grew_then, added_grew, back_grew, found_grew, wrote_grew, returned_grew, delivered_grew}
-use Rattle.table_told.proofs.Lives.{acted_of, made_of, linked_made, found_made, made_inside, born_life}
-use Rattle.table_told.proofs.OneThread.{between}
-use Rattle.table_told.proofs.Orders.{orders, ends, LinkEnds, kept, entry_on}
-use Rattle.table_told.proofs.Outcomes.{task_of, number_of, asked_of, number_is, is_task, act_told, act_of, task_is, earlier, one_place, same_moment}
-use Rattle.table_told.proofs.Passes.{opened_link}
-use Rattle.table_told.proofs.Sources.{Source, opens, fails, writes, acted_source}
+use Rattle.table_told.specs.Threads.{ThreadRun}
+use Rattle.table_told.proofs.Accepting.{log, act_of_entry}
+use Rattle.table_told.proofs.Acts.{Act, before, after}
+use Rattle.table_told.proofs.Failing.{fixed}
+use Rattle.table_told.proofs.Growing.{Grew, returned_grew, delivered_grew}
+use Rattle.table_told.proofs.Lives.{acted_of}
+use Rattle.table_told.proofs.Orders.{orders}
+use Rattle.table_told.proofs.Outcomes.{task_of, number_of, asked_of, is_task, act_told, act_of, task_is}
 use Rattle.table_told.proofs.Causes.{gone_cause, refused_cause, already_cause, has_life, opened_cause}
 use Rattle.table_told.proofs.Names.{unopened_cause, full_cause}
 use Rattle.table_told.proofs.Whys.{dropped, sent}
-
-use Rattle.std.proofs.Common.{Bool, true, false, cond}
-use Rattle.std.proofs.lemmas.List.Elements.{All-head, All-tail}
-use Rattle.chain_laws.proofs.Lists.{Snoc, old, new, at_snoc}
+use Rattle.std.proofs.Common.{cond}
 use Rattle.sock_programs.specs.declared.task.Op.{Op}
-use Rattle.sock_programs.specs.ToldCalls.{Fixed, Order}
-use Rattle.sock_words.specs.declared.plain.Label.{Label}
-use Rattle.sock_table.specs.Named.{HasSeen}
-use Rattle.rpc_client.specs.declared.acting.Operation.{Operation}
-use Rattle.rpc_client.specs.Acting.{Stand}
-use Rattle.rpc_client.specs.Opening.{FoundFull}
-use Rattle.rpc_client.specs.Running.{Course, Ran, finds_name}
-use Rattle.table_told.specs.Moments.{moments}
 use Rattle.table_told.specs.Threads.{AsksFor}
-use Rattle.table_told.proofs.Growing.{none_grew, stays}
-use Rattle.table_told.proofs.Moments.{moment_is, moments_long}
-use Rattle.table_told.proofs.OneThread.{first, last, knows_first}
+use Rattle.table_told.proofs.Growing.{stays}
 use Rattle.table_told.proofs.Outcomes.{act_made}
-use Rattle.std.proofs.Common.{filter, sum_by, eqb, eq-eqb, ne_eqb}
+use Rattle.std.proofs.Common.{sum_by, eq-eqb, ne_eqb}
 use Rattle.std.proofs.lemmas.List.Sums.{sum_by-cons}
 use Rattle.sock_model.specs.Layout.{request_word}
 use Rattle.sock_programs.specs.Runs.{from_to}
 use Rattle.sock_programs.specs.Told.{IsOpen}
-use Rattle.sock_programs.specs.ToldCalls.{Why, WasFull, ToldCalls, all_accepted}
+use Rattle.sock_programs.specs.ToldCalls.{Why, ToldCalls, all_accepted}
 use Rattle.sock_causes.specs.Causes.{Asks}
 use Rattle.sock_causes.proofs.Tasks.{setup_opens}
-use Rattle.table_told.specs.Left.{orders_of}
 use Rattle.table_told.proofs.Acts.{has_seen}
-use Rattle.table_told.proofs.Fails.{failed_life}
 use Rattle.table_told.proofs.Failing.{each_failed, are, once}
 use Rattle.table_told.proofs.Lives.{lives}
 use Rattle.table_told.proofs.Orders.{left, are_orders, told, own_order}
 use Rattle.table_told.proofs.Outcomes.{asks_of}
+
 -- ## How many messages there are
 
 abbrev size : ℕ → List Entry → ℕ

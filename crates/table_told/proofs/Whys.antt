@@ -1,55 +1,38 @@
 -- Why operations have their outcomes: what each of them found, and whose messages links accepted.
-use Rattle.std.proofs.Common.{◌≡◌, ◌≢◌, ℕ, zero, suc, ◌+◌, ◌*◌, ◌/◌, ◌%◌, ◌<◌, ◌≤◌, ◌⊎◌, inl, inr, List, [], ◌∷◌, length, map, slice_get, Option, Some, None, Contains, refl, sym, ap, ◌∙◌, subst, arith}
+use Rattle.std.proofs.Common.{◌≡◌, ℕ, suc, ◌+◌, ◌<◌, inl, inr, List, [], ◌∷◌, length, map, slice_get, Option, Some, None, refl, sym, ap, ◌∙◌, subst, arith}
 use Rattle.std.specs.List.{AllByRecursion}
-use Rattle.std.specs.Prelude.{All}
-use Rattle.std.proofs.lemmas.Option.{none-some, same_Some}
-use mathlib.Core.Logic.{dite}
-use native.Mathlib.Decide.{ℕ_discrete, dec_lt}
-use mathlib.Core.Option.{some, some-injective, some-ne-none}
+use Rattle.std.proofs.lemmas.Option.{none-some}
+use mathlib.Core.Option.{some}
 use lib.ListN.{get_elem?}
 use Rattle.sock_io.specs.declared.link.Out.{Ghosts}
 use Rattle.sock_io.specs.Link.{OutState}
 use Rattle.sock_words.specs.declared.outcome.Outcome.{Outcome}
-use Rattle.sock_words.specs.declared.outcome.Outcome.TheVariants as outcome
 use Rattle.sock_words.specs.declared.plain.Plan.{Plan}
 use Rattle.sock_words.specs.declared.place_word.PlaceWord.{PlaceWord}
-use Rattle.sock_words.specs.declared.socket_id.SocketId.{SocketId}
 use Rattle.sock_words.specs.declared.vref.Vref.{Vref}
-use Rattle.sock_words.specs.Words.{socket_id_version, socket_id_slot, vref_version}
+use Rattle.sock_words.specs.Words.{socket_id_version, socket_id_slot}
 use Rattle.sock_model.specs.declared.chain.Entry.{Entry}
 use Rattle.sock_model.specs.declared.marks.Mark.{Mark}
-use Rattle.sock_model.specs.declared.view.View.{View}
 use Rattle.sock_model.specs.Entries.{on}
 use Rattle.sock_model.specs.Layout.{name_word}
 use Rattle.sock_model.specs.SlotRows.{marks_of}
-use Rattle.sock_model.specs.Weights.{is_born, is_failer, is_known, is_saw, is_met, is_tried, is_linked, only, pair}
-use Rattle.slot_laws.proofs.Numbers.{only-same, pair-same}
+use Rattle.sock_model.specs.Weights.{is_met, pair}
+use Rattle.slot_laws.proofs.Numbers.{pair-same}
 use Rattle.sock_programs.specs.declared.task.Op.TheVariants as ops
 use Rattle.sock_programs.specs.declared.task.Task.{Task}
-use Rattle.sock_programs.specs.Told.{IsTask, Became, Made, IsNoLater, HasLife, EachOpened}
-use Rattle.sock_programs.specs.ToldCalls.{Accepted, IsSent, OfSend, IsFailing, FoundFailed}
-use Rattle.report_fits.proofs.Lists.{Has, all_from, within}
-use Rattle.sock_table.specs.Answers.{NoneLater}
-use Rattle.sock_table.specs.declared.refs.SockRef.{SockRef}
-use Rattle.rpc_client.specs.declared.acting.Action.{Action}
-use Rattle.rpc_client.specs.declared.acting.Action.TheVariants as action
-use Rattle.rpc_client.specs.declared.reaching.Reached.TheVariants as reached
-use Rattle.rpc_client.specs.Acting.{Acted, label_of}
-use Rattle.rpc_client.specs.Reaching.{ReachedBy}
-use Rattle.table_told.specs.Besides.{Besides, moments_of}
+use Rattle.sock_programs.specs.ToldCalls.{Accepted, IsSent, OfSend, IsFailing}
+use Rattle.report_fits.proofs.Lists.{all_from, within}
+use Rattle.table_told.specs.Besides.{Besides}
 use Rattle.table_told.specs.Left.{gave_of, accepted_of}
-use Rattle.table_told.specs.Moments.{Moment, view_of}
-use Rattle.table_told.specs.Threads.{ThreadRun, Threaded}
+use Rattle.table_told.specs.Threads.{ThreadRun}
 use Rattle.table_told.proofs.Accepting.{log, act_of_entry, Sent, sent_place, asks_send}
-use Rattle.table_told.proofs.Acts.{Act, All as AllView, before, after, has_marks, marks_from}
-use Rattle.table_told.proofs.Fails.{MadeHere, here_found, life_is, name_low, one_outcome, fits_at, FailedLife}
-use Rattle.table_told.proofs.Failing.{fixed, all_fails, broken, FailedBy, life_failed}
-use Rattle.table_told.proofs.Growing.{Grew, HasFound, grew_then, added_grew, back_grew, found_grew, wrote_grew, returned_grew, delivered_grew}
-use Rattle.table_told.proofs.Lives.{acted_of, linked_made, found_made, made_inside, born_life}
-use Rattle.table_told.proofs.OneThread.{between}
-use Rattle.table_told.proofs.Orders.{orders, ends, LinkEnds, kept, entry_on}
-use Rattle.table_told.proofs.Outcomes.{task_of, number_of, asked_of, number_is, is_task, act_told, act_of, task_is, earlier, one_place, same_moment}
-use Rattle.table_told.proofs.Sources.{Source, opens, fails, writes, acted_source}
+use Rattle.table_told.proofs.Acts.{Act, before, after, has_marks}
+use Rattle.table_told.proofs.Fails.{MadeHere, here_found, life_is, name_low, fits_at}
+use Rattle.table_told.proofs.Failing.{fixed, life_failed}
+use Rattle.table_told.proofs.Growing.{grew_then, wrote_grew, returned_grew, delivered_grew}
+use Rattle.table_told.proofs.Lives.{linked_made, found_made}
+use Rattle.table_told.proofs.Orders.{orders, ends, entry_on}
+use Rattle.table_told.proofs.Outcomes.{task_of, number_of, asked_of, number_is, is_task, act_of, one_place, same_moment}
 
 map_long : {A B : Type 0} (f : A → B) (xs : List A) → length (map f xs) ≡ length xs
 map_long f [] = refl

@@ -1,5 +1,5 @@
 -- What a run on threads leaves, as a core: the words and homes of the closed table, with the messages of each link in their order.
-use Rattle.std.specs.Prelude.{ℕ, ◌+◌, ◌*◌, ◌/◌, ◌%◌, false, List, [], ◌++◌, map, replicate, Option}
+use Rattle.std.specs.Prelude.{ℕ, ◌/◌, ◌%◌, false, List, [], ◌++◌, map, replicate, Option}
 use mathlib.Core.Option as core
 use Rattle.sock_words.specs.declared.outcome.Outcome.{Outcome}
 use Rattle.sock_words.specs.declared.plain.Plan.{Plan}
