@@ -17,3 +17,4 @@ pub mod Whys
 pub mod Causes
 pub mod Names
 pub mod Whole
+pub mod Reports
