@@ -92,3 +92,5 @@ pub mod Unanswered
 pub mod RefusedNames
 pub mod RefusedLost
 pub mod RefusedRun
+pub mod OwnDecisionsStands
+pub mod OwnDecisionsLoops
