@@ -94,3 +94,4 @@ pub mod RefusedLost
 pub mod RefusedRun
 pub mod OwnDecisionsStands
 pub mod OwnDecisionsLoops
+pub mod OwnDecisionsPrograms
