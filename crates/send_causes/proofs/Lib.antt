@@ -95,3 +95,5 @@ pub mod RefusedRun
 pub mod OwnDecisionsStands
 pub mod OwnDecisionsLoops
 pub mod OwnDecisionsPrograms
+pub mod OwnDecisionsHomes
+pub mod OwnDecisionsTicks
