@@ -97,3 +97,5 @@ pub mod OwnDecisionsLoops
 pub mod OwnDecisionsPrograms
 pub mod OwnDecisionsHomes
 pub mod OwnDecisionsTicks
+pub mod OwnDecisionsRuns
+pub mod OwnDecisions

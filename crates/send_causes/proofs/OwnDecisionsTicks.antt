@@ -386,8 +386,12 @@ module _ (p : Plan) (q : IdPlan) (narrow : q.slots ≤ 65536) (Taken : Post → 
     }
 
     -- behind which the seat has nothing
-    pub calms : (x : Program) (hand : List Home) (ws : List ℕ) (hs : List (Option Home)) → HomesFit (HeadFits (Behind Calm)) hs → HandFits (HeadFits (Behind Calm)) hand → Aims Calm x → Result [] (with_seat i x hand ws hs (record c { calls = c.calls }))
+    calms : (x : Program) (hand : List Home) (ws : List ℕ) (hs : List (Option Home)) → HomesFit (HeadFits (Behind Calm)) hs → HandFits (HeadFits (Behind Calm)) hand → Aims Calm x → Result [] (with_seat i x hand ws hs (record c { calls = c.calls }))
     calms x hand ws hs homes hands g = on_sockets x hand ws hs Calm (λ id n. omega arith) tt homes hands g
+
+    -- the seat gets another program
+    pub restarts : (x : Program) → Aims Calm x → Result [] (with_seat i x [] c.words c.homes (record c { calls = c.calls }))
+    restarts x g = calms x [] c.words c.homes (old_homes Calm) tt g
 
     same : (x : Program) (hand : List Home) (ws : List ℕ) (hs : List (Option Home)) → HomesFit (HeadFits (Behind s)) hs → HandFits (HeadFits (Behind s)) hand → Aims s x → Result [] (with_seat i x hand ws hs (record c { calls = c.calls }))
     same x hand ws hs homes hands g = on_sockets x hand ws hs s (λ id n. omega arith) (eased_stand [] s (inl refl)) homes hands g
