@@ -1,10 +1,7 @@
 -- In a whole run each decision on an error of an attempt is made by the seat that posted it.
-use Rattle.std.proofs.Common.{◌≡◌, ◌≢◌, ◌⊎◌, ℕ, ◌+◌, inl, inr, ⊎_elim, append_assoc, List, [], ◌∷◌, ◌++◌, length, map, replicate, refl, sym, ◌∙◌, subst, arith}
+use Rattle.std.proofs.Common.{◌≡◌, ◌≢◌, ◌⊎◌, ℕ, inl, inr, ⊎_elim, List, [], ◌++◌, map, replicate, sym, subst, arith}
 use Rattle.std.proofs.lemmas.List.{append-nil}
 use Rattle.std.specs.List.{AllByRecursion}
-use mathlib.Core.Option.{some}
-use lib.ListN.{get_elem?}
-use Rattle.sock_model.specs.declared.view.View.{View}
 use Rattle.brpc_model.specs.Items.{Item}
 use Rattle.brpc_model.specs.Operations.{Turn}
 use Rattle.corr_core.specs.Word.{attempt_of}
@@ -12,14 +9,14 @@ use Rattle.sock_programs.specs.Clients.{ending_of}
 use Rattle.sock_programs.specs.Cores.{Core}
 use Rattle.sock_programs.specs.Posts.{WHOLE}
 use Rattle.sock_programs.specs.Programs.{Program}
-use Rattle.sock_programs.specs.Ticks.{Moment, quiet, run}
+use Rattle.sock_programs.specs.Ticks.{Moment, quiet}
 use Rattle.sock_programs.specs.Tasks.{opens, calls, plan_of, id_plan_of}
-use Rattle.sock_programs.specs.Scripts.{sizes_of, programs, readers_from, all_programs, all_tasks, opened, set_up, played, is_ending, IsRunWithCalls}
+use Rattle.sock_programs.specs.Scripts.{sizes_of, programs, readers_from, all_programs, all_tasks, opened, set_up, played, IsRunWithCalls}
 use Rattle.sock_runs.specs.Sound.{views_along}
 use Rattle.sock_runs.proofs.Whole.{closing_of, views_played, views_closed}
 use Rattle.sock_causes.proofs.Final.{at_there}
 use Rattle.sock_causes.proofs.Ticks.{elem_there}
-use Rattle.joint_runs.proofs.Both.{BothSound, behind_both}
+use Rattle.joint_runs.proofs.Both.{behind_both}
 use Rattle.joint_runs.proofs.Runs.{AreMade, first_views, IsSoundRun, joint_runs}
 use Rattle.report_fits.proofs.Reading.{InRange}
 use Rattle.report_fits.proofs.Targets.{AreThere}
@@ -152,9 +149,6 @@ module _ (script : List Item) (made : AreMade script) (there : AreThere script) 
       closing_part.stands closed_law
 
   -- ## The whole run
-
-  abbrev posts_of : ℕ → List Post
-  posts_of j = shows_in_run script turns core is (posted_by j)
 
   module _ (j : ℕ) where
     abbrev a : List Post

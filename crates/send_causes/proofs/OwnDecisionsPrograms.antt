@@ -1,6 +1,5 @@
 -- The programs of clients, readers and the ending keep to what they try and post.
 use Rattle.std.proofs.Common.{◌≡◌, ◌≢◌, ℕ, zero, suc, ◌+◌, ◌-◌, ◌/◌, ◌%◌, ◌≤◌, ◌⊎◌, ◌==◌, ◌&&◌, inl, inr, Bool, true, false, cond, eqb, leb, nat_lt, nat_le, List, [], ◌∷◌, ◌++◌, Option, Some, None, length, drop, refl, sym, ap, ◌∙◌, subst, arith}
-use Rattle.std.specs.List.{AllByRecursion}
 use Rattle.brpc_model.specs.Frame.{Frame}
 use Rattle.sock_words.specs.Words.{socket_id_slot, socket_id_version, vref_version, vref_nref, at_word, at_word_first, at_word_slot, at_word_link, at_word_attempt}
 use Rattle.sock_words.specs.declared.outcome.Outcome.TheVariants as outcomes
@@ -21,7 +20,7 @@ use Rattle.sock_programs.specs.Asides.{StoreAt, call_id, id_slot, id_first}
 use Rattle.sock_programs.specs.Attempts.{claims_from, heading_for, attempt, begin_call, claim_id, call, tried_again, retry_locked, retry, expire_outcome, expire, join}
 use Rattle.sock_programs.specs.Calls.{Call, SubRef, AddRef, StoreCode, LoadLink, TakeLink, FinishLink, PutLink, FreeSlot, LoadName, FreeRequest, ReadNext, FindLink, LookWord, TurnNext, Connect}
 use Rattle.sock_programs.specs.Clients.{HeldLife, held_under, without_name, give_back, drop_of, operation, client_from, ending_of}
-use Rattle.sock_programs.specs.Heads.{First, Posts, Unlocks, Locks, Joins, Reads, Discards, Posting, WasGone, WasStale, WasCrowded, WasQueued, HasLocked, Unlocking, IsOpen, HasNext, Locking, NotThere, Has, Ended}
+use Rattle.sock_programs.specs.Heads.{First, Posts, Joins, Reads, Discards, Posting, WasGone, WasStale, WasCrowded, WasQueued, HasLocked, Unlocking, IsOpen, HasNext, Locking, NotThere, Has, Ended}
 use Rattle.sock_programs.specs.Parts.{part}
 use Rattle.sock_programs.specs.Posts.{WHOLE, post_with, posted, post, decided}
 use Rattle.sock_programs.specs.Programs.{Program, Do, Say, Sent, Rest, TakeMessage, TakeHome, PutBytes, Write, Aside, Round, NO_SOCKET, LAST_VERSION, LAST_GENERATION, recycle, release, address, reach, set_failed, make_socket, open_from, fail_outcome, fail}
@@ -29,7 +28,7 @@ use Rattle.sock_programs.specs.Readers.{kept_for, ends_with, posted_last, post_e
 use Rattle.sock_programs.specs.Sends.{freed as given_back, one_more, passed_telling, tell_drop, placed, dropped, put_answered, ready_answered, block, first_put, accept, write_link, heading_of, claim_from, start, send}
 use Rattle.sock_programs.specs.Writings.{Holder, Writing, Puts, Waits, Empties, Walks}
 use Rattle.label_runs.specs.Labels.{LeavesLock}
-use Rattle.send_causes.proofs.OwnDecisionsStands.{Stand, Calm, Trying, Past, Posted, Eases, behind_message, MayPut, LeavesUnlock, LeavesStand, locked_stand, posted_stand, Aims}
+use Rattle.send_causes.proofs.OwnDecisionsStands.{Stand, Calm, Trying, Past, Posted, Eases, behind_message, MayPut, LeavesStand, locked_stand, posted_stand, Aims}
 use Rattle.send_causes.proofs.EndedTryLoops.{id_back, not_equal}
 use Rattle.send_causes.proofs.OwnDecisionsLoops.{way, next_is, post_with_goes, posted_goes, post_goes, decide_goes, decided_goes, answer_goes}
 

@@ -1,14 +1,13 @@
 -- Along the ticks of a run: errors that wait were posted before, and each seat decides on its own, but for those that are for the whole call.
 use Rattle.std.proofs.Common.{◌≡◌, ◌≢◌, ℕ, zero, suc, ◌+◌, ◌-◌, ◌<◌, ◌≤◌, ◌==◌, ◌⊎◌, inl, inr, ⊎_elim, Bool, true, false, cond, eqb-true, append_assoc, List, [], ◌∷◌, ◌++◌, length, map, replicate, refl, sym, ap, ◌∙◌, subst, arith}
 use Rattle.std.proofs.lemmas.List.{length-map, append-nil}
-use Rattle.std.specs.List.{AllByRecursion}
 use mathlib.Core.Option.{some, some-injective, some-ne-none}
 use lib.ListN.{get_elem?}
 use Rattle.sock_words.specs.declared.plain.Plan.{Plan}
 use Rattle.sock_model.specs.declared.home.Home.TheVariants.{Empty, Link, Message}
 use Rattle.sock_model.specs.declared.view.View.{View}
 use Rattle.sock_model.specs.Weights.{total}
-use Rattle.corr_core.specs.Word.{parts, error_of, attempt_of}
+use Rattle.corr_core.specs.Word.{error_of, attempt_of}
 use Rattle.corr_core.specs.declared.marks.Plan.{Plan as IdPlan}
 use Rattle.id_rule.specs.Lawful.{at_word}
 use Rattle.id_runs.specs.Held.{IdView}
@@ -38,7 +37,7 @@ use Rattle.call_causes.specs.Lists.{times, shows_in, advanced_at}
 use Rattle.call_causes.specs.Posts.{Post, posted_at}
 use Rattle.call_causes.specs.Says.{Mark}
 use Rattle.call_causes.specs.Scenes.{Birth, Scene, In, LeadsTo, CauseOf, of_expiry, of_other}
-use Rattle.call_causes.specs.Stories.{HasPassed, IsCurrent, CallStory}
+use Rattle.call_causes.specs.Stories.{IsCurrent, CallStory}
 use Rattle.call_causes.proofs.Claiming.{HaveSlots}
 use Rattle.call_causes.proofs.Leading.{run_leads}
 use Rattle.call_causes.proofs.Numbered.{AreNumbered}
@@ -47,7 +46,7 @@ use Rattle.send_causes.specs.Counts.{of_retry, word_of_id}
 use Rattle.send_causes.proofs.OwnDecisionsHomes.{HandFits, HomesFit}
 use Rattle.send_causes.proofs.OwnDecisionsPrograms.{client_goes, reader_goes}
 use Rattle.send_causes.proofs.OwnDecisionsStands.{Stand, Calm, Aims}
-use Rattle.send_causes.proofs.OwnDecisionsTicks.{of_stand, tries_of, IsPast, StandFits, HeadFits, AimLaw, QueuedAt, AreQueued, law_more, aim_ticks, decided_own}
+use Rattle.send_causes.proofs.OwnDecisionsTicks.{of_stand, IsPast, StandFits, HeadFits, AimLaw, QueuedAt, AreQueued, law_more, aim_ticks, decided_own}
 
 -- ## Lists
 

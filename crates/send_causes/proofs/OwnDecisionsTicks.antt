@@ -1,10 +1,10 @@
 -- Each tick keeps that an error of an attempt is posted only where nobody tries the attempt any more, and so that nobody decides on an error that another seat posted, but for one for the whole call.
-use Rattle.std.proofs.Common.{◌≡◌, ◌≢◌, ℕ, zero, suc, ◌+◌, ◌*◌, ◌<◌, ◌≤◌, ◌⊎◌, inl, inr, ⊎_elim, not, ◌&&◌, Bool, true, false, cond, eqb, eqb-true, eq-eqb, List, [], ◌∷◌, ◌++◌, length-set, get_or, get_or-set_same, get_or-set_other, set, refl, sym, ap, ◌∙◌, subst, arith}
+use Rattle.std.proofs.Common.{◌≡◌, ◌≢◌, ℕ, ◌+◌, ◌*◌, ◌<◌, ◌≤◌, ◌⊎◌, inl, inr, ⊎_elim, not, ◌&&◌, Bool, true, false, cond, eqb, eqb-true, eq-eqb, List, [], ◌∷◌, ◌++◌, length-set, get_or, get_or-set_same, get_or-set_other, set, refl, sym, ap, ◌∙◌, subst, arith}
 use Rattle.std.specs.List.{AllByRecursion}
 use Rattle.std.specs.Prelude as std
 use mathlib.Core.Logic.{dite}
 use native.Mathlib.Decide.{ℕ_discrete}
-use mathlib.Core.Option.{Option, some, none, some-injective, some-ne-none}
+use mathlib.Core.Option.{Option, some, none, some-injective}
 use lib.ListN.{get_elem?}
 use Rattle.atomic_table.proofs.Lists.{at_set}
 use Rattle.sock_words.specs.declared.plain.Plan.{Plan}
@@ -35,7 +35,7 @@ use Rattle.sock_programs.specs.Programs.{Program, Do, Say, Sent, Rest, TakeMessa
 use Rattle.sock_programs.specs.Cores.{Calls, Core, SeatState, word_of, found_at, words_after, word_after, homes_after, hand_after, lies_at, first_of, others_of, link_place, resolved, still_waiting, waiting_at, next_step, with_seat}
 use Rattle.sock_programs.specs.Ticks.{Answer, Unasked, OfPut, OfReady, OfTake, Moment, fed, with_places, onto_first, taken, with_message, with_link, with_put, with_ready, with_found, step_with, tick_with, ticked}
 use Rattle.sock_runs.specs.Sound.{first_step}
-use Rattle.call_causes.specs.Decided.{posted_by, Decision, decision_in, decided_at, decided_by}
+use Rattle.call_causes.specs.Decided.{posted_by, Decision, decision_in, decided_at}
 use Rattle.call_causes.specs.Posts.{Post, posts_by, posted_with, posted_at}
 use Rattle.call_causes.specs.Scenes.{In}
 use Rattle.sock_causes.proofs.Ticks.{elem_there}
@@ -43,10 +43,10 @@ use Rattle.send_causes.specs.Counts.{pair_of, of_retry, word_of_id, WasMade, Was
 use Rattle.send_causes.proofs.Words.{made_on, finds_label, words_forward, makes_new, advances_new}
 use Rattle.send_causes.proofs.Readings.{ticks_first}
 use Rattle.send_causes.proofs.Ticks.{calls_waiting, pair_one, pair_same, waits_set}
-use Rattle.send_causes.proofs.EndedNames.{ids_first, fits_as, few_of}
+use Rattle.send_causes.proofs.EndedNames.{ids_first, few_of}
 use Rattle.send_causes.proofs.EndedTryLoops.{id_back}
 use Rattle.send_causes.proofs.OwnDecisionsHomes.{HandFits, HomesFit, PutFits, hand_more, home_more, message_there, home_set, home_away, first_fits, others_fit, lies_fit, fed_fits, places_fit, hand_fits, homes_fit}
-use Rattle.send_causes.proofs.OwnDecisionsStands.{Stand, Calm, Trying, Past, Posted, Eases, behind_message, MayPut, MayPost, MayAside, Stowing, FindsAside, unlocked_stand, Aims}
+use Rattle.send_causes.proofs.OwnDecisionsStands.{Stand, Calm, Trying, Past, Posted, Eases, MayPut, MayPost, MayAside, Stowing, unlocked_stand, Aims}
 use Rattle.send_causes.proofs.OwnDecisionsLoops.{aims_round}
 use Rattle.send_causes.proofs.OwnDecisionsPrograms.{block_goes, retry_goes}
 
@@ -405,9 +405,6 @@ module _ (p : Plan) (q : IdPlan) (narrow : q.slots ≤ 65536) (Taken : Post → 
     by_letter r next go none is = before
     by_letter r next go (some letter) is = by (eqb letter.0.owner 0) refl
       where
-        heading : Heading
-        heading = letter.0
-
         there : HeadFits (IsPast q c ss) letter.0
         there = law.homes r (Message letter.0 letter.1) (message_there (get_elem? c.homes r) letter is)
 
@@ -528,7 +525,7 @@ module _ (p : Plan) (q : IdPlan) (narrow : q.slots ≤ 65536) (Taken : Post → 
           slot = let made = (law.made st.0 st.1 (tried st.0 st.1 st.3)).0 in omega (arith, made, narrow)
 
           past_word : Behind x (call_id (at_word_slot w) (at_word_first w)) (at_word_attempt w)
-          past_word = let first : id_first st.0 < 4294967296 = omega arith in let link = st.5 in let few = st.6 in let e = st.4 in
+          past_word = let first : id_first st.0 < 4294967296 = omega arith in
               let s_w : at_word_slot w ≡ id_slot st.0 = ap at_word_slot st.4 ∙ word_slot (id_first st.0) (id_slot st.0) st.2 st.1 first slot st.5 st.6 in
               let f_w : at_word_first w ≡ id_first st.0 = ap at_word_first st.4 ∙ word_first (id_first st.0) (id_slot st.0) st.2 st.1 first slot st.5 st.6 in
               let n_w : at_word_attempt w ≡ st.1 = ap at_word_attempt st.4 ∙ word_attempt (id_first st.0) (id_slot st.0) st.2 st.1 first slot st.5 st.6 in
@@ -563,7 +560,7 @@ module _ (p : Plan) (q : IdPlan) (narrow : q.slots ≤ 65536) (Taken : Post → 
           fits_now : PostFits (Behind x) (record { id = call_id k (parts from).first; error = e })
           fits_now = ⊎_elim (λ whole. inl whole)
               (λ y. let past : IsPast q c ss (call_id k (parts from).first) y.1 = subst (StandFits (IsPast q c ss) (Mine i)) y.3 (law.stands i s at_stand) in
-              let few = past.0 in let error = y.2 in let same_ : attempt_of e ≡ y.1 = (let z : attempt_of (error_of y.0 y.1) ≡ y.1 = omega (arith, few) in ap attempt_of y.2 ∙ z) in
+              let few = past.0 in let same_ : attempt_of e ≡ y.1 = (let z : attempt_of (error_of y.0 y.1) ≡ y.1 = omega (arith, few) in ap attempt_of y.2 ∙ z) in
               inr (inl (subst (IsPast q c ss (call_id k (parts from).first)) (sym same_) past)))
               post
 
@@ -620,7 +617,7 @@ module _ (p : Plan) (q : IdPlan) (narrow : q.slots ≤ 65536) (Taken : Post → 
 
               given_before : trying.0 < (parts from).attempt → ⊥
               given_before less = let there = queued.1 trying.0 less in let same_ : attempt_of (error_of there.0 trying.0) ≡ trying.0 = omega (arith, few) in
-                  ⊎_elim (λ z. (let y : trying.0 ≡ 7 = sym same_ ∙ z in omega (arith, y, few))) (λ past. (let none_ = past.1 in let y : tries_of (call_id k (parts from).first) trying.0 c ss ≡ 0 = subst (λ n. tries_of (call_id k (parts from).first) n c ss ≡ 0) same_ past.1 in omega (arith, y, tries)))
+                  ⊎_elim (λ z. (let y : trying.0 ≡ 7 = sym same_ ∙ z in omega (arith, y, few))) (λ past. (let y : tries_of (call_id k (parts from).first) trying.0 c ss ≡ 0 = subst (λ n. tries_of (call_id k (parts from).first) n c ss ≡ 0) same_ past.1 in omega (arith, y, tries)))
                   (law.posts (record { id = call_id k (parts from).first; error = error_of there.0 trying.0 }) there.1)
 
       -- ## Each step aside
@@ -665,7 +662,7 @@ module _ (p : Plan) (q : IdPlan) (narrow : q.slots ≤ 65536) (Taken : Post → 
       by_found known step next t may g (some found) is = asides known step next found t is may g
 
       pub steps : AreQueued q Taken c → (answer : Answer) (x : Program) → Aims s x → IdGoesOn p q u x → FitsFirst p c x → Result (posted_with c.calls (taken answer) x) (step_with p i seat c answer x)
-      steps known answer (Do call next) g go fits = let found : ℕ = found_at c.words (word_of p call) in let w = g.1 (found_at c.words (word_of p call)) fits in
+      steps known answer (Do call next) g go fits = let w = g.1 (found_at c.words (word_of p call)) fits in
           on_sockets (next (found_at c.words (word_of p call))) (hand_after p call c.homes seat.hand) (words_after c.words (word_of p call) (word_after call (found_at c.words (word_of p call)))) (homes_after p call seat.hand c.homes) w.0
           (λ id n. eased_count id n s w.0 w.1) (eased_stand [] w.0 w.1) (homes_fit (HeadFits (Behind w.0)) p call (put_fits call w.0 g.0) c.homes seat.hand (old_homes w.0) (old_hands w.0)) (hand_fits (HeadFits (Behind w.0)) p call c.homes seat.hand (old_homes w.0) (old_hands w.0)) w.2
       steps known answer (TakeMessage r next) g go fits = by_letter r next g (message (λ (h : Home). h) c.homes r) refl
