@@ -11,10 +11,11 @@ use Rattle.sock_words.specs.declared.plain.Plan.{Plan}
 use Rattle.sock_words.specs.Words.{socket_id_version, socket_id_slot, vref_version, at_word, at_word_link, at_word_attempt}
 use Rattle.sock_model.specs.declared.chain.Claim.{Claim}
 use Rattle.sock_model.specs.declared.chain.Entry.{Entry}
+use Rattle.sock_model.specs.declared.chain.Right.{Right}
 use Rattle.sock_model.specs.declared.home.Home.{Home}
 use Rattle.sock_model.specs.declared.view.Hand.{Hand}
 use Rattle.sock_model.specs.declared.view.View.{View}
-use Rattle.sock_model.specs.ChainRows.{with_claim, entry_of, more, queued, righted}
+use Rattle.sock_model.specs.ChainRows.{with_claim, entry_of, more, queued, righted, taken_right}
 use Rattle.sock_model.specs.Layout.{ref_word, link_word}
 use Rattle.sock_model.specs.Memory.{IDLE}
 use Rattle.sock_steps.proofs.Quiet.{either_way}
@@ -23,13 +24,13 @@ use Rattle.sock_programs.specs.Asides.{Step, Found, StoreAt, id_slot, id_first}
 use Rattle.sock_programs.specs.Beside.{calls_after}
 use Rattle.sock_programs.specs.Calls.{Call, AddRef, LookWord, FindLink, ClaimRequest, PutMessage, Unconnect, SwapHead}
 use Rattle.sock_programs.specs.Heads.{Retry}
-use Rattle.sock_programs.specs.Programs.{Program, Do, TakeMessage, TakeHome, PutHome, PutBytes, AskReady, Aside}
-use Rattle.sock_programs.specs.Cores.{Core, SeatState, word_of, found_at, resolved, next_step, waiting_at, with_seat}
-use Rattle.sock_programs.specs.Ticks.{Moment, IsAnswered, step_with, tick_with, ticked}
+use Rattle.sock_programs.specs.Programs.{Program, Do, Say, Sent, Rest, TakeMessage, TakeHome, PutHome, PutBytes, AskReady, Write, Aside, Round, Keep, Retries}
+use Rattle.sock_programs.specs.Cores.{Core, SeatState, word_of, found_at, resolved, next_step, waiting_at, hand_after, link_place, lies_at, others_of}
+use Rattle.sock_programs.specs.Ticks.{Answer, Moment, IsAnswered, fed, onto_first, step_with, tick_with, ticked}
 use Rattle.sock_runs.specs.Fits.{FitsRetry}
 use Rattle.sock_runs.specs.GoesOn.{GoesOn}
 use Rattle.sock_runs.specs.May.{May}
-use Rattle.sock_runs.specs.Rows.{row, hand_at, by_claim, exchanged, filled_claim, ready_claim}
+use Rattle.sock_runs.specs.Rows.{row, hand_at, by_claim, exchanged, filled_claim, ready_claim, took_message, link_away, link_home_again, took_bytes}
 use Rattle.sock_runs.specs.Sound.{Sound, IsFitting, first_step, views_with, views_of, views_after}
 use Rattle.sock_runs.proofs.Cases.{with_rights, right_rights, put_rights}
 use Rattle.sock_runs.proofs.Leaves.{claim_way}
@@ -267,3 +268,146 @@ module _ (p : Plan) (Old : ℕ → ℕ → Type 0) where
               (ap (λ h. h.operation) knows.2 ∙ w.0) (ap (λ h. h.attempt) knows.2 ∙ w.1))),
         )
         step_next call next m g knows may did now = absurd g
+
+-- ## Words and views
+
+module _ (f s k n : ℕ) (link : k < 65535) (few : n ≤ 6) where
+  word_link : k ≡ at_word_link (at_word f s k n)
+  word_link = omega (arith, link, few)
+
+  word_attempt : n ≡ at_word_attempt (at_word f s k n)
+  word_attempt = omega (arith, link, few)
+
+views_first : (p : Plan) (i : ℕ) (c : Core) (vs : List View) (v : View) (answer : Answer) (program : Program) → views_of p i c vs v answer program ≡ views_with p i c vs v answer (first_step program)
+views_first p i c vs v answer (Write w after) = refl
+views_first p i c vs v answer (Round head next) = refl
+views_first p i c vs v answer program = refl
+
+-- a seat has another view, or none other
+entered_set : (o n : ℕ) (vs : List View) (i : ℕ) (v w : View) → get_elem? vs i ≡ some v → (HasEntry o n v → HasEntry o n w) → Entered o n vs → Entered o n (set vs i w)
+entered_set o n vs i v w here f (j, u, at, h) = dite (ℕ_discrete j i)
+    (λ e. let same : u ≡ v = some-injective u v (sym at ∙ (ap (get_elem? vs) e ∙ here)) in (i, w, set_here vs i w (at_within vs i v here), f (subst (HasEntry o n) same h)))
+    (λ ne. (j, u, set_else vs i j w ne ∙ at, h))
+
+-- ## Ticks
+
+module _ (p : Plan) (Old : ℕ → ℕ → Type 0) (retries : RetriesGo p) (c : Core) (vs : List View) (sound : Sound p c vs) (mo : Moment) (answered : IsAnswered c mo) (fitting : IsFitting p c mo)
+    (fresh : (id : ℕ) → socket_id_slot id < p.slots → vref_version (std.slice_index c.words (ref_word (socket_id_slot id))) ≡ socket_id_version id → Old (socket_id_slot id) (socket_id_version id) → ⊥) where
+  rights_entered : (o n : ℕ) (v w : View) → get_elem? vs mo.seat ≡ some v → (rights : List Right) × (w ≡ with_rights v rights) → Entered o n vs → Entered o n (set vs mo.seat w)
+  rights_entered o n v w here x = entered_set o n vs mo.seat v w here (λ h. subst (HasEntry o n) (sym x.1) h)
+
+  entered_tick : (o n : ℕ) → Entered o n vs → Entered o n (views_after p c vs mo)
+  entered_tick o n = tick_cases p c vs mo sound answered (λ d ws. Entered o n vs → Entered o n ws) (λ e. e)
+      (λ seat v call next at here is goes. entered_set o n vs mo.seat v (row p call (found_at c.words (word_of p call)) (hand_at p c.words c.homes call) v) here (row_entry o n p v (found_at c.words (word_of p call)) (hand_at p c.words c.homes call) call))
+      (λ seat v r next heading bytes at here is goes. rights_entered o n v (took_message heading bytes v) here (right_rights v v.rights (λ x. taken_right x heading bytes)))
+      (λ seat v k next m at here is goes. rights_entered o n v (link_away v) here (right_rights v v.rights (λ x. record x { at_home = false })))
+      (λ seat v k m after at here is goes. rights_entered o n v (link_home_again v) here (right_rights v v.rights (λ x. record x { at_home = true })))
+      (λ seat v k asked bytes next answer at here is goes answer_is fits. rights_entered o n v (took_bytes answer v) here (put_rights v answer))
+      (λ seat v k next answer at here is goes answer_is e. e)
+      (λ seat v s next found at here is goes found_is e. e)
+
+  pub keeps_here : Keeps p Old c vs (ticked p c mo) (views_after p c vs mo)
+  keeps_here = record {
+    so = tick_keeps p c vs sound mo answered;
+    given = λ i h k given. run_given p i h k retries c vs (mo ∷ []) sound (answered, tt) (fitting, tt) given;
+    entered = entered_tick;
+  }
+
+  abbrev Behind : Core → List View → Type 0
+  Behind d ws = AllStand p Old d ws × ((o n k : ℕ) → Fate p Old c vs o n k → Fate p Old d ws o n k)
+
+  module _ (all : AllStand p Old c vs) where
+    module _ (seat : SeatState) (v : View) (at : get_elem? c.seats mo.seat ≡ some seat) (here : get_elem? vs mo.seat ≡ some v) (d : Core) (ws : List View) (keeps : Keeps p Old c vs d ws) (program : Program) (hand : List Home) (w : View) (rs : List Retry)
+        (fits : AllByRecursion FitsRetry rs) (seats_are : d.seats ≡ set c.seats mo.seat (record { program = next_step (resolved rs program); hand = hand })) (views_are : ws ≡ set vs mo.seat w)
+        (nexts : (m : Mode) → Goes p.requests m (first_step seat.program) → Knows p Old c vs v m → Next p Old c vs d ws keeps w m program) where
+      abbrev new : SeatState
+      new = record { program = next_step (resolved rs program); hand = hand }
+
+      first_goes : (m : Mode) → Goes p.requests m seat.program → Goes p.requests m (first_step seat.program)
+      first_goes m g = goes_first p.requests p v m seat.program (sound.seats mo.seat seat v at here).goes_on g
+
+      new_seat : get_elem? d.seats mo.seat ≡ some new
+      new_seat = ap (λ l. get_elem? l mo.seat) seats_are ∙ set_here c.seats mo.seat new (at_within c.seats mo.seat seat at)
+
+      new_view : get_elem? ws mo.seat ≡ some w
+      new_view = ap (λ l. get_elem? l mo.seat) views_are ∙ set_here vs mo.seat w (at_within vs mo.seat v here)
+
+      stands : AllStand p Old d ws
+      stands j s u at_j at_u = ⊎_elim
+          (λ a. ⊎_elim
+          (λ b. let x = all mo.seat seat v at here in let y = nexts x.0 (first_goes x.0 x.1) x.2 in
+          (y.0, subst (λ (z : SeatState). Goes p.requests y.0 z.program) a.1 (goes_next p.requests y.0 rs program fits y.1), subst (λ z. Knows p Old d ws z y.0) b.1 y.2))
+          (λ b. absurd (b.0 a.0)) (at_set vs mo.seat j w u (sym (ap (λ l. get_elem? l j) views_are) ∙ at_u)))
+          (λ a. ⊎_elim (λ b. absurd (a.0 b.0)) (λ b. let x = all j s u a.1 b.1 in (x.0, x.1, knows_stays p Old c vs d ws keeps u x.0 x.2)) (at_set vs mo.seat j w u (sym (ap (λ l. get_elem? l j) views_are) ∙ at_u)))
+          (at_set c.seats mo.seat j new s (sym (ap (λ l. get_elem? l j) seats_are) ∙ at_j))
+
+      works_on : (o n k : ℕ) → Working p Old c vs o n k → Fate p Old d ws o n k
+      works_on o n k (j, s, u, at_j, at_u, m, g, knows, works) = dite (ℕ_discrete j mo.seat)
+          (λ e. let same : s ≡ seat = some-injective s seat (sym at_j ∙ (ap (get_elem? c.seats) e ∙ at)) in let same_view : u ≡ v = some-injective u v (sym at_u ∙ (ap (get_elem? vs) e ∙ here)) in
+          let y = nexts m (first_goes m (subst (λ (z : SeatState). Goes p.requests m z.program) same g)) (subst (λ z. Knows p Old c vs z m) same_view knows) in
+          ⊎_elim (λ still. inl (mo.seat, new, w, new_seat, new_view, y.0, goes_next p.requests y.0 rs program fits y.1, y.2, still)) (λ e. inr e) (y.3 o n k works))
+          (λ ne. inl (j, s, u, ap (λ l. get_elem? l j) seats_are ∙ (set_else c.seats mo.seat j new ne ∙ at_j), ap (λ l. get_elem? l j) views_are ∙ (set_else vs mo.seat j w ne ∙ at_u), m, g, knows_stays p Old c vs d ws keeps u m knows, works))
+
+      behind : Behind d ws
+      behind = (stands, λ o n k f. ⊎_elim (λ a. works_on o n k a) (λ e. inr (ended_stays p Old c vs d ws keeps o n k e)) f)
+
+    -- a step at no attempt
+    plain : (seat : SeatState) (v : View) (first : Program) → get_elem? c.seats mo.seat ≡ some seat → get_elem? vs mo.seat ≡ some v → first_step seat.program ≡ first → (d : Core) (ws : List View) (keeps : Keeps p Old c vs d ws) (program : Program) (hand : List Home) (w : View)
+        → d.seats ≡ set c.seats mo.seat (record { program = next_step (resolved (waiting_at c.calls.waiting mo.seat) program); hand = hand }) → ws ≡ set vs mo.seat w → (Goes p.requests Free first → Goes p.requests Free program) → IsPlain p Old c vs d ws keeps first → Behind d ws
+    plain seat v first at here is d ws keeps program hand w seats_are views_are f none_ = behind seat v at here d ws keeps program hand w (waiting_at c.calls.waiting mo.seat) (sound.waiting mo.seat) seats_are views_are
+        (λ m g knows. plain_next p Old c vs d ws keeps w program m first f none_ (subst (Goes p.requests m) is g))
+
+    pub tick_stands : Behind (ticked p c mo) (views_after p c vs mo)
+    tick_stands = tick_cases p c vs mo sound answered (λ d ws. Keeps p Old c vs d ws → Behind d ws) (λ keeps. (all, λ o n k f. f))
+        (λ seat v call next at here is goes keeps. behind seat v at here _ _ keeps (next (found_at c.words (word_of p call))) (hand_after p call c.homes seat.hand) (row p call (found_at c.words (word_of p call)) (hand_at p c.words c.homes call) v) (waiting_at c.calls.waiting mo.seat) (sound.waiting mo.seat) refl refl
+        (λ m g knows. step_next p Old c vs _ _ keeps sound mo v here fresh call next m (subst (Goes p.requests m) is g) knows goes.0 (refl, seat, next, at, is, refl) (set_here vs mo.seat (row p call (found_at c.words (word_of p call)) (hand_at p c.words c.homes call) v) (at_within vs mo.seat v here))))
+        (λ seat v r next heading bytes at here is goes keeps. plain seat v (TakeMessage r next) at here is _ _ keeps (next heading bytes) seat.hand (took_message heading bytes v) refl refl (λ g. g heading bytes) tt)
+        (λ seat v k next n at here is goes keeps. plain seat v (TakeHome k next) at here is _ _ keeps (next n) (lies_at c.homes (link_place p k) ++ seat.hand) (link_away v) refl refl (λ g. g n) tt)
+        (λ seat v k n after at here is goes keeps. plain seat v (PutHome k n after) at here is _ _ keeps after (others_of seat.hand) (link_home_again v) refl refl (λ g. g) tt)
+        (λ seat v k asked bytes next answer at here is goes answer_is fits keeps. plain seat v (PutBytes k asked bytes next) at here is _ _ keeps (next answer) (onto_first (fed bytes answer) seat.hand) (took_bytes answer v) refl refl (λ g. g answer) tt)
+        (λ seat v k next answer at here is goes answer_is keeps. plain seat v (AskReady k next) at here is _ _ keeps (next answer) seat.hand v refl (sym (set_again vs mo.seat v here)) (λ g. g answer) tt)
+        (λ seat v s next found at here is goes found_is keeps. behind seat v at here _ _ keeps (next found) seat.hand v (waiting_at (calls_after s found c.calls).waiting mo.seat)
+        (subst (λ l. AllByRecursion FitsRetry (waiting_at l mo.seat)) (sym (calls_waiting s found c.calls)) (sound.waiting mo.seat)) refl (sym (set_again vs mo.seat v here))
+        (λ m g knows. aside_next p Old c vs _ _ keeps v s next found m (subst (Goes p.requests m) is g) knows))
+        keeps_here
+
+    -- ## Stores
+
+    -- whoever stores an at word is at the attempt behind that
+    module _ (seat : SeatState) (at : get_elem? c.seats mo.seat ≡ some seat) (o w : ℕ) (next : ℕ → Program) (is : first_step seat.program ≡ Aside (StoreAt o w) next) where
+      abbrev at_slot : ℕ
+      at_slot = std.slice_index c.calls.words (ids.at_word c.calls.plan o)
+
+      abbrev stored : SeatState
+      stored = record { program = next_step (resolved (waiting_at c.calls.waiting mo.seat) (next at_slot)); hand = seat.hand }
+
+      ticked_is : ticked p c mo ≡ step_with p mo.seat seat c mo.answer (Aside (StoreAt o w) next)
+      ticked_is = ap (λ x. elim x as (λ x. Core) [ none ↦ c | some s ↦ tick_with p mo.seat s c mo.answer s.program ]) at ∙ (ticks_first p mo.seat seat c mo.answer seat.program ∙ ap (step_with p mo.seat seat c mo.answer) is)
+
+      views_stay : (v : View) → get_elem? vs mo.seat ≡ some v → views_after p c vs mo ≡ vs
+      views_stay v at_view = ap (λ x. elim x as (λ x. List View) [ none ↦ vs | some s ↦ elim (get_elem? vs mo.seat) as (λ o. List View) [ none ↦ vs | some v ↦ views_of p mo.seat c vs v mo.answer s.program ] ]) at
+          ∙ (ap (λ x. elim x as (λ o. List View) [ none ↦ vs | some v ↦ views_of p mo.seat c vs v mo.answer seat.program ]) at_view
+          ∙ (views_first p mo.seat c vs v mo.answer seat.program ∙ ap (views_with p mo.seat c vs v mo.answer) is))
+
+      by_mode : (v : View) → get_elem? vs mo.seat ≡ some v → (m : Mode) → Goes p.requests m (Aside (StoreAt o w) next) → Knows p Old c vs v m → Fate p Old (ticked p c mo) (views_after p c vs mo) o (at_word_attempt w) (at_word_link w)
+      by_mode v at_view (Linked t k) g knows = inl (mo.seat, stored, v, ap (λ (d : Core). get_elem? d.seats mo.seat) ticked_is ∙ set_here c.seats mo.seat stored (at_within c.seats mo.seat seat at), ap (λ l. get_elem? l mo.seat) (views_stay v at_view) ∙ at_view,
+          Stored t k, goes_next p.requests (Stored t k) (waiting_at c.calls.waiting mo.seat) (next at_slot) (sound.waiting mo.seat) (g.2 at_slot), on_stays p Old c vs (ticked p c mo) (views_after p c vs mo) keeps_here t k knows,
+          (sym g.0, word_attempt (id_first t.id) (id_slot t.id) k t.heading.attempt knows.1 knows.0.0 ∙ ap at_word_attempt (sym g.1), word_link (id_first t.id) (id_slot t.id) k t.heading.attempt knows.1 knows.0.0 ∙ ap at_word_link (sym g.1)))
+      by_mode v at_view m g knows = absurd g
+
+      store_fate : Fate p Old (ticked p c mo) (views_after p c vs mo) o (at_word_attempt w) (at_word_link w)
+      store_fate = let v = elem_there c.seats vs mo.seat seat sound.each at in let x = all mo.seat seat v.0 at v.1 in
+          by_mode v.0 v.1 x.0 (subst (Goes p.requests x.0) is (goes_first p.requests p v.0 x.0 seat.program (sound.seats mo.seat seat v.0 at v.1).goes_on x.1)) x.2
+
+    pub tick_stores : (x : Store) → In x (stored_at c mo) → Fate p Old (ticked p c mo) (views_after p c vs mo) x.operation (at_word_attempt x.word) (at_word_link x.word)
+    tick_stores x there = by (get_elem? c.seats mo.seat) refl there
+      where
+        by_program : (seat : SeatState) → get_elem? c.seats mo.seat ≡ some seat → (program : Program) → first_step seat.program ≡ program → In x (stores_by program) → Fate p Old (ticked p c mo) (views_after p c vs mo) x.operation (at_word_attempt x.word) (at_word_link x.word)
+        by_program seat at (Aside (StoreAt o w) next) is (inl same) = subst (λ (y : Store). Fate p Old (ticked p c mo) (views_after p c vs mo) y.operation (at_word_attempt y.word) (at_word_link y.word)) (sym same) (store_fate seat at o w next is)
+        by_program seat at (Aside (StoreAt o w) next) is (inr z) = absurd z
+        by_program seat at (Aside _ next) is z = absurd z
+        by_program seat at _ is z = absurd z
+
+        by : (o : Option SeatState) → get_elem? c.seats mo.seat ≡ o → In x (elim o as (λ o. List Store) [ none ↦ [] | some seat ↦ stores_by (first_step seat.program) ]) → Fate p Old (ticked p c mo) (views_after p c vs mo) x.operation (at_word_attempt x.word) (at_word_link x.word)
+        by none e z = absurd z
+        by (some seat) e z = by_program seat e (first_step seat.program) refl z
