@@ -47,6 +47,7 @@ pub mod DropEndsCauses
 pub mod DropEndsOver
 pub mod DropEndsWhole
 pub mod RefusedTicks
+pub mod PostSeats
 pub mod RefusedPosts
 pub mod RefusedRuns
 pub mod RefusedClosing
@@ -94,3 +95,11 @@ pub mod RefusedLost
 pub mod RefusedRun
 pub mod ClosedLostPrograms
 pub mod ClosedLostTicks
+pub mod LateDropsPosts
+pub mod LateDropsCodes
+pub mod LateDropsRuns
+pub mod LateDropsEnding
+pub mod OwnIds
+pub mod FoundTries
+pub mod LateDropsWhole
+pub mod LateDrops
