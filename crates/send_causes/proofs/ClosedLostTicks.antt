@@ -1,5 +1,5 @@
 -- Each tick keeps what is known of each attempt whose at word was stored: its seat is at it, a link accepted it, its socket was found failed, or each request was found taken.
-use Rattle.std.proofs.Common.{◌≡◌, ◌≢◌, ℕ, ◌+◌, ◌-◌, ◌%◌, ◌<◌, ◌≤◌, ◌⊎◌, ◌==◌, inl, inr, ⊎_elim, nat_lt, Bool, true, false, eqb-true, List, [], ◌∷◌, ◌++◌, set, refl, sym, ap, ◌∙◌, subst, arith}
+use Rattle.std.proofs.Common.{◌≡◌, ◌≢◌, ℕ, ◌+◌, ◌-◌, ◌%◌, ◌<◌, ◌≤◌, ◌⊎◌, ◌==◌, inl, inr, ⊎_elim, nat_lt, true, false, List, [], ◌∷◌, ◌++◌, set, refl, sym, ap, ◌∙◌, subst, arith}
 use Rattle.std.specs.List.{AllByRecursion}
 use Rattle.std.specs.Prelude as std
 use mathlib.Core.Logic.{dite}
@@ -16,7 +16,7 @@ use Rattle.sock_model.specs.declared.home.Home.{Home}
 use Rattle.sock_model.specs.declared.view.Hand.{Hand}
 use Rattle.sock_model.specs.declared.view.View.{View}
 use Rattle.sock_model.specs.ChainRows.{with_claim, entry_of, more, queued, righted, taken_right}
-use Rattle.sock_model.specs.Layout.{ref_word, link_word}
+use Rattle.sock_model.specs.Layout.{ref_word}
 use Rattle.sock_model.specs.Memory.{IDLE}
 use Rattle.sock_steps.proofs.Quiet.{either_way}
 use Rattle.id_rule.specs.Lawful as ids
@@ -24,11 +24,10 @@ use Rattle.sock_programs.specs.Asides.{Step, Found, StoreAt, id_slot, id_first}
 use Rattle.sock_programs.specs.Beside.{calls_after}
 use Rattle.sock_programs.specs.Calls.{Call, AddRef, LookWord, FindLink, ClaimRequest, PutMessage, Unconnect, SwapHead}
 use Rattle.sock_programs.specs.Heads.{Retry}
-use Rattle.sock_programs.specs.Programs.{Program, Do, Say, Sent, Rest, TakeMessage, TakeHome, PutHome, PutBytes, AskReady, Write, Aside, Round, Keep, Retries}
+use Rattle.sock_programs.specs.Programs.{Program, Do, TakeMessage, TakeHome, PutHome, PutBytes, AskReady, Write, Aside, Round}
 use Rattle.sock_programs.specs.Cores.{Core, SeatState, word_of, found_at, resolved, next_step, waiting_at, hand_after, link_place, lies_at, others_of}
 use Rattle.sock_programs.specs.Ticks.{Answer, Moment, IsAnswered, fed, onto_first, step_with, tick_with, ticked}
 use Rattle.sock_runs.specs.Fits.{FitsRetry}
-use Rattle.sock_runs.specs.GoesOn.{GoesOn}
 use Rattle.sock_runs.specs.May.{May}
 use Rattle.sock_runs.specs.Rows.{row, hand_at, by_claim, exchanged, filled_claim, ready_claim, took_message, link_away, link_home_again, took_bytes}
 use Rattle.sock_runs.specs.Sound.{Sound, IsFitting, first_step, views_with, views_of, views_after}
@@ -272,10 +271,10 @@ module _ (p : Plan) (Old : ℕ → ℕ → Type 0) where
 -- ## Words and views
 
 module _ (f s k n : ℕ) (link : k < 65535) (few : n ≤ 6) where
-  word_link : k ≡ at_word_link (at_word f s k n)
+  pub word_link : k ≡ at_word_link (at_word f s k n)
   word_link = omega (arith, link, few)
 
-  word_attempt : n ≡ at_word_attempt (at_word f s k n)
+  pub word_attempt : n ≡ at_word_attempt (at_word f s k n)
   word_attempt = omega (arith, link, few)
 
 views_first : (p : Plan) (i : ℕ) (c : Core) (vs : List View) (v : View) (answer : Answer) (program : Program) → views_of p i c vs v answer program ≡ views_with p i c vs v answer (first_step program)

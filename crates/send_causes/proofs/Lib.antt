@@ -95,6 +95,7 @@ pub mod RefusedLost
 pub mod RefusedRun
 pub mod ClosedLostPrograms
 pub mod ClosedLostTicks
+pub mod ClosedLostRuns
 pub mod LateDropsPosts
 pub mod LateDropsCodes
 pub mod LateDropsRuns
