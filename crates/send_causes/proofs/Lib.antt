@@ -96,6 +96,7 @@ pub mod RefusedRun
 pub mod ClosedLostPrograms
 pub mod ClosedLostTicks
 pub mod ClosedLostRuns
+pub mod ClosedLost
 pub mod LateDropsPosts
 pub mod LateDropsCodes
 pub mod LateDropsRuns
