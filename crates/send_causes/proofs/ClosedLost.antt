@@ -1,6 +1,6 @@
 -- Each attempt of a call whose at word names a link: the link was failing, or accepted the attempt, or none did and each request was found taken.
-use Rattle.std.proofs.Common.{◌≡◌, ◌≢◌, ℕ, zero, suc, ◌+◌, ◌<◌, ◌≤◌, ◌⊎◌, inl, inr, ⊎_elim, Bool, true, false, List, [], ◌∷◌, ◌++◌, length, replicate, get_or, Ok, refl, sym, ap, ◌∙◌, subst, arith}
-use Rattle.std.specs.Prelude.{Contains, Some, slice_get}
+use Rattle.std.proofs.Common.{◌≡◌, ℕ, zero, suc, ◌+◌, ◌<◌, ◌⊎◌, inl, inr, ⊎_elim, Bool, true, false, List, [], ◌∷◌, ◌++◌, length, replicate, get_or, Ok, refl, sym, ap, ◌∙◌, subst, arith}
+use Rattle.std.specs.Prelude.{Some, slice_get}
 use mathlib.Core.Logic.{dite}
 use mathlib.Core.Option.{none, some}
 use native.Mathlib.Decide.{ℕ_discrete, dec_le}
@@ -11,27 +11,24 @@ use Rattle.sock_words.specs.declared.plain.Plan.{Plan}
 use Rattle.sock_model.specs.declared.chain.Entry.{Entry}
 use Rattle.sock_model.specs.declared.view.View.{View}
 use Rattle.sock_model.specs.Layout.{ref_word}
-use Rattle.sock_model.specs.Links.{Failed}
 use Rattle.brpc_model.specs.Items.{Item}
 use Rattle.brpc_model.specs.Operations.{Turn}
 use Rattle.brpc_model.specs.Script.{script_of}
 use Rattle.sock_programs.specs.Asides.{id_slot, id_first}
-use Rattle.sock_programs.specs.Calls.{ClaimRequest, LookWord}
+use Rattle.sock_programs.specs.Calls.{ClaimRequest}
 use Rattle.sock_programs.specs.Clients.{ending_of}
 use Rattle.sock_programs.specs.Cores.{Core, SeatState, waiting_at}
-use Rattle.sock_programs.specs.Programs.{Rest}
 use Rattle.sock_programs.specs.Runs.{IsAtRest}
 use Rattle.sock_programs.specs.Tasks.{opens, calls, plan_of, id_plan_of}
-use Rattle.sock_programs.specs.Ticks.{Moment, IsAnswered, AreAnswered, IsPrompt, quiet, ticked, run, waits, waits_at}
-use Rattle.sock_programs.specs.Scripts.{sizes_of, all_tasks, opened, set_up, played, is_ending, IsRunWithCalls}
+use Rattle.sock_programs.specs.Ticks.{Moment, AreAnswered, IsPrompt, quiet, ticked, run, waits, waits_at}
+use Rattle.sock_programs.specs.Scripts.{sizes_of, all_tasks, opened, set_up, played, IsRunWithCalls}
 use Rattle.sock_programs.specs.Told.{AreTasks}
 use Rattle.sock_programs.specs.ToldCalls.{Accepted, StandsOn, IsUnordered, IsFailing, WasFull}
-use Rattle.sock_runs.specs.Sound.{state, Sound, AllRest, IsFitting, AreFitting, views_after, views_along}
+use Rattle.sock_runs.specs.Sound.{Sound, AllRest, AreFitting, views_after, views_along}
 use Rattle.sock_runs.proofs.Along.{seat_rests, place_inside}
-use Rattle.sock_runs.proofs.LinksStay.{IsGiven}
 use Rattle.sock_runs.proofs.LinkTicks.{RetriesGo}
 use Rattle.sock_runs.proofs.Ticks.{sound_ticks}
-use Rattle.sock_runs.proofs.Whole.{closing_of, views_played, views_closed, views_ended, set_up_answered, end_answered, rested_ahead, rested_idle, set_up_sound, played_sound, closing_sound, closed_sound, closed_ahead, ended_sound, end_rests}
+use Rattle.sock_runs.proofs.Whole.{closing_of, views_played, views_closed, views_ended, set_up_answered, end_answered, rested_ahead, set_up_sound, played_sound, closing_sound, closed_sound, closed_ahead, ended_sound, end_rests}
 use Rattle.sock_causes.specs.Facts.{late_links_of_run, born_at, shown_in}
 use Rattle.sock_causes.specs.Kept.{Story}
 use Rattle.sock_causes.specs.PlainTasks.{told_tasks_of}
@@ -43,7 +40,7 @@ use Rattle.sock_causes.proofs.Messages.{each_made}
 use Rattle.sock_causes.proofs.Plain.{in_both, in_left, in_right}
 use Rattle.sock_causes.proofs.Runs.{Goes as ToldGoes}
 use Rattle.sock_causes.proofs.Scripts.{seats, ended_told, final_told, story_end}
-use Rattle.sock_causes.proofs.Senders.{HasSent, sent_stands}
+use Rattle.sock_causes.proofs.Senders.{sent_stands}
 use Rattle.sock_causes.proofs.Ticks.{elem_there}
 use Rattle.client_laws.specs.Openings.{all_seats}
 use Rattle.client_laws.proofs.Fresh.{opening_fresh}
@@ -52,13 +49,13 @@ use Rattle.owed_calls.specs.Lives.{ClosesInRun}
 use Rattle.call_causes.specs.Lists.{shows_in}
 use Rattle.call_causes.specs.Posts.{Post}
 use Rattle.send_causes.specs.EndedCalls.{Store, stored_at, stores_of_run, loads_of_run, IsEndPost}
-use Rattle.send_causes.specs.Refused.{Deed, DidStep}
+use Rattle.send_causes.specs.Refused.{DidStep}
 use Rattle.send_causes.proofs.Beside.{fixed_of_run, gave_of_run, orders_here, failing_of_run}
 use Rattle.send_causes.proofs.Early.{start, go, fitting}
 use Rattle.send_causes.proofs.EndedAttempts.{IsAttemptOn, ending, of_load, only_link}
 use Rattle.send_causes.proofs.EndedOnce.{run_stored_once}
 use Rattle.send_causes.proofs.LateEnding.{ended_past}
-use Rattle.send_causes.proofs.LateLives.{WasPast, Lives, lives_ticks}
+use Rattle.send_causes.proofs.LateLives.{Lives, lives_ticks}
 use Rattle.send_causes.proofs.LateRests.{others_along}
 use Rattle.send_causes.proofs.RefusedClosing.{OnSockets, alone, set_first}
 use Rattle.send_causes.proofs.RefusedClosing as closing
@@ -68,7 +65,7 @@ use Rattle.send_causes.proofs.Runs.{AreLabelledIn}
 use Rattle.send_causes.proofs.Sends.{owed}
 use Rattle.send_causes.proofs.Whole.{quiet_there}
 use Rattle.send_causes.proofs.ClosedLostPrograms.{Mode, Free, Goes}
-use Rattle.send_causes.proofs.ClosedLostTicks.{HasEntry, Entered, Works, AreTaken, WasLost, Ended, Working, AllStand, Fate, word_link, word_attempt}
+use Rattle.send_causes.proofs.ClosedLostTicks.{Entered, Works, AreTaken, Ended, Fate, word_link, word_attempt}
 use Rattle.send_causes.proofs.ClosedLostRuns.{Behind, run_fates, run_entered, none_closing, AllFree, begins_free, rests_free, waits_free}
 
 -- ## Lists

@@ -215,18 +215,31 @@ module _ (p : Plan) (Old : ℕ → ℕ → Type 0) where
 
         links : (t : Try) (i h : ℕ) (next : ℕ → Program) → Goes p.requests (Held t) (Do (FindLink i h) next) → IsNew t → May p v (FindLink i h) → Next (after (FindLink i h)) (Held t) (next (found (FindLink i h)))
         links t i h next g new may = let given = finds_given p c vs sound mo.seat v here i h may in
-            let small = sound.lawful.in_slots.small i h (found (FindLink i h)) (record { inside = may.0; given = given }) in let few = sound.limits.links in
-            (Linked t (found (FindLink i h)), g.2 (found (FindLink i h)), (new, omega (arith, small, few), subst (λ z. IsGiven d ws z (socket_id_version t.socket) (found (FindLink i h))) g.0 (subst (λ z. IsGiven d ws i z (found (FindLink i h))) g.1 (keeps.given i h (found (FindLink i h)) given))),
-            λ o n k z. absurd z)
+            let small = sound.lawful.in_slots.small i h (found (FindLink i h)) (record { inside = may.0; given = given }) in let few = sound.limits.links in (
+              Linked t (found (FindLink i h)),
+              g.2 (found (FindLink i h)),
+              (new, omega (arith, small, few), subst (λ z. IsGiven d ws z (socket_id_version t.socket) (found (FindLink i h))) g.0 (subst (λ z. IsGiven d ws i z (found (FindLink i h))) g.1 (keeps.given i h (found (FindLink i h)) given))),
+              λ o n k z. absurd z,
+            )
 
         odd_of : (x : ℕ) → x % 2 ≢ 0 → x % 2 ≡ 1
         odd_of x n = omega (arith, n)
 
         looks : (t : Try) (k s : ℕ) (next : ℕ → Program) → Goes p.requests (Stored t k) (Do (LookWord s) next) → IsOn c vs t k → DidAt p c mo mo.seat (DidStep (LookWord s) (found (LookWord s))) → Next (after (LookWord s)) (Stored t k) (next (found (LookWord s)))
         looks t k s next g on did = dite (ℕ_discrete (vref_version (found (LookWord s)) % 2) 0) (λ even. by_even ((g.1 (found (LookWord s))).0 even))
-            (λ no_. let odd = odd_of (vref_version (found (LookWord s))) no_ in (Free, (g.1 (found (LookWord s))).1 odd, tt, λ o n l w. inr (inr (inl (s, found (LookWord s), odd, keeps.so (DidStep (LookWord s) (found (LookWord s))) (did_so p c vs sound mo mo.seat (DidStep (LookWord s) (found (LookWord s))) did),
-            subst (IsGiven d ws (socket_id_slot s) (socket_id_version s)) w.2 (subst (λ z. IsGiven d ws (socket_id_slot z) (socket_id_version z) k) (sym g.0) (keeps.given (socket_id_slot t.socket) (socket_id_version t.socket) k on.2)),
-            subst (λ z. Old (socket_id_slot z) (socket_id_version z) → ⊥) (sym g.0) on.0.1)))))
+            (λ no_. let odd = odd_of (vref_version (found (LookWord s))) no_ in (
+              Free,
+              (g.1 (found (LookWord s))).1 odd,
+              tt,
+              λ o n l w. inr (inr (inl (
+                s,
+                found (LookWord s),
+                odd,
+                keeps.so (DidStep (LookWord s) (found (LookWord s))) (did_so p c vs sound mo mo.seat (DidStep (LookWord s) (found (LookWord s))) did),
+                subst (IsGiven d ws (socket_id_slot s) (socket_id_version s)) w.2 (subst (λ z. IsGiven d ws (socket_id_slot z) (socket_id_version z) k) (sym g.0) (keeps.given (socket_id_slot t.socket) (socket_id_version t.socket) k on.2)),
+                subst (λ z. Old (socket_id_slot z) (socket_id_version z) → ⊥) (sym g.0) on.0.1,
+              ))),
+            ))
           where
             by_even : Goes p.requests (Claims t k 0) (next (found (LookWord s))) ⊎ ((0 ≡ p.requests) × Goes p.requests Free (next (found (LookWord s)))) → Next (after (LookWord s)) (Stored t k) (next (found (LookWord s)))
             by_even (inl x) = (Claims t k 0, x, (on_stays t k on, λ r low. absurd (let z : ⊥ = omega (arith, low) in z)), λ o n l w. inl w)
@@ -263,8 +276,13 @@ module _ (p : Plan) (Old : ℕ → ℕ → Type 0) where
           Free,
           g (found (SwapHead i own)),
           tt,
-          λ o n l w. inr (inl (mo.seat, after (SwapHead i own), now, swap_entry o n v (found (SwapHead i own)) (hand_at p c.words c.homes (SwapHead i own)) knows.0 may.1.made may.1.taken_in knows.1 may.1.lists
-              (ap (λ h. h.operation) knows.2 ∙ w.0) (ap (λ h. h.attempt) knows.2 ∙ w.1))),
+          λ o n l w. inr (inl (
+            mo.seat,
+            after (SwapHead i own),
+            now,
+            swap_entry o n v (found (SwapHead i own)) (hand_at p c.words c.homes (SwapHead i own)) knows.0 may.1.made may.1.taken_in knows.1 may.1.lists
+                (ap (λ h. h.operation) knows.2 ∙ w.0) (ap (λ h. h.attempt) knows.2 ∙ w.1),
+          )),
         )
         step_next call next m g knows may did now = absurd g
 
@@ -389,9 +407,17 @@ module _ (p : Plan) (Old : ℕ → ℕ → Type 0) (retries : RetriesGo p) (c : 
           ∙ (views_first p mo.seat c vs v mo.answer seat.program ∙ ap (views_with p mo.seat c vs v mo.answer) is))
 
       by_mode : (v : View) → get_elem? vs mo.seat ≡ some v → (m : Mode) → Goes p.requests m (Aside (StoreAt o w) next) → Knows p Old c vs v m → Fate p Old (ticked p c mo) (views_after p c vs mo) o (at_word_attempt w) (at_word_link w)
-      by_mode v at_view (Linked t k) g knows = inl (mo.seat, stored, v, ap (λ (d : Core). get_elem? d.seats mo.seat) ticked_is ∙ set_here c.seats mo.seat stored (at_within c.seats mo.seat seat at), ap (λ l. get_elem? l mo.seat) (views_stay v at_view) ∙ at_view,
-          Stored t k, goes_next p.requests (Stored t k) (waiting_at c.calls.waiting mo.seat) (next at_slot) (sound.waiting mo.seat) (g.2 at_slot), on_stays p Old c vs (ticked p c mo) (views_after p c vs mo) keeps_here t k knows,
-          (sym g.0, word_attempt (id_first t.id) (id_slot t.id) k t.heading.attempt knows.1 knows.0.0 ∙ ap at_word_attempt (sym g.1), word_link (id_first t.id) (id_slot t.id) k t.heading.attempt knows.1 knows.0.0 ∙ ap at_word_link (sym g.1)))
+      by_mode v at_view (Linked t k) g knows = inl (
+        mo.seat,
+        stored,
+        v,
+        ap (λ (d : Core). get_elem? d.seats mo.seat) ticked_is ∙ set_here c.seats mo.seat stored (at_within c.seats mo.seat seat at),
+        ap (λ l. get_elem? l mo.seat) (views_stay v at_view) ∙ at_view,
+        Stored t k,
+        goes_next p.requests (Stored t k) (waiting_at c.calls.waiting mo.seat) (next at_slot) (sound.waiting mo.seat) (g.2 at_slot),
+        on_stays p Old c vs (ticked p c mo) (views_after p c vs mo) keeps_here t k knows,
+        (sym g.0, word_attempt (id_first t.id) (id_slot t.id) k t.heading.attempt knows.1 knows.0.0 ∙ ap at_word_attempt (sym g.1), word_link (id_first t.id) (id_slot t.id) k t.heading.attempt knows.1 knows.0.0 ∙ ap at_word_link (sym g.1)),
+      )
       by_mode v at_view m g knows = absurd g
 
       store_fate : Fate p Old (ticked p c mo) (views_after p c vs mo) o (at_word_attempt w) (at_word_link w)
