@@ -124,7 +124,7 @@ module _ (script : List Item) (made : AreMade script) (turns : List Turn) (core 
   abbrev tasks : AreTasks (plan_of script) (told_tasks_of script)
   tasks = tasks_are script made.are vs begins goes turns core is fits (narrow script made turns core is closes) bare ids labelled
 
-  ending : EndNamed script made.are vs begins goes turns core is fits (narrow script made turns core is closes) bare ids labelled core
+  pub ending : EndNamed script made.are vs begins goes turns core is fits (narrow script made turns core is closes) bare ids labelled core
   ending = end_named script made.are vs begins goes turns core is fits (narrow script made turns core is closes) bare ids labelled
 
   -- an at word that is loaded is that of an attempt of the operation's call, over a link of a life of its name
@@ -144,7 +144,7 @@ module _ (script : List Item) (made : AreMade script) (turns : List Turn) (core 
     pub version : ℕ
     pub life : Made (all_tasks script) core.outcomes (name_of asked attempt) link socket version
 
-  of_load : (o w : ℕ) → StoredFor (IsCallOf script) (stores_of_run script turns core is) (let e = ending in e.named.events) o w → IsAttemptOn o w
+  pub of_load : (o w : ℕ) → StoredFor (IsCallOf script) (stores_of_run script turns core is) (let e = ending in e.named.events) o w → IsAttemptOn o w
   of_load o w x = let own = own_store (record { operation = o; word = w }) x.stored x.id x.attempt x.link x.word x.small x.few x.slot in
       let sound = ended_sound script made.are vs begins goes turns core is fits in let rests = end_rests script made.are vs begins goes turns core is fits (owed script made turns core is closes) in let e = ending in
       let l = at_made (plan_of script) (told_tasks_of script) tasks core (views_ended script turns core is vs) e.named.events e.named.lost_links sound e.named.story rests (IsCallOf script) (stores_of_run script turns core is) o w x in record {
@@ -203,7 +203,7 @@ module _ (script : List Item) (made : AreMade script) (turns : List Turn) (core 
         (subst (λ z. In (record { operation = z; word = at_word (id_first (ids z)) (id_slot (ids z)) l a.attempt }) (stores_of_run script turns core is)) s.1.3 there))
 
     -- where the attempt was accepted, it was by this link
-    only_link : (o w : ℕ) (x : IsAttemptOn o w) (l : ℕ) → Stands o x.attempt l → l ≡ x.link
+    pub only_link : (o w : ℕ) (x : IsAttemptOn o w) (l : ℕ) → Stands o x.attempt l → l ≡ x.link
     only_link o w x l s =
         let sound = ended_sound script made.are vs begins goes turns core is fits in
         let low : l < 65535 = (let a = s.1.0 in let b = sound.limits in let c = b.links in omega (arith, a, c)) in

@@ -93,6 +93,10 @@ pub mod Unanswered
 pub mod RefusedNames
 pub mod RefusedLost
 pub mod RefusedRun
+pub mod ClosedLostPrograms
+pub mod ClosedLostTicks
+pub mod ClosedLostRuns
+pub mod ClosedLost
 pub mod LateDropsPosts
 pub mod LateDropsCodes
 pub mod LateDropsRuns
