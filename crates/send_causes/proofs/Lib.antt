@@ -92,3 +92,4 @@ pub mod Unanswered
 pub mod RefusedNames
 pub mod RefusedLost
 pub mod RefusedRun
+pub mod CausedReaders
