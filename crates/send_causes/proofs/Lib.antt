@@ -93,3 +93,4 @@ pub mod RefusedNames
 pub mod RefusedLost
 pub mod RefusedRun
 pub mod CausedReaders
+pub mod OwnIds

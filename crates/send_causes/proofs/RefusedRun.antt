@@ -17,19 +17,19 @@ use Rattle.sock_causes.specs.Stories.{In}
 use Rattle.joint_runs.proofs.Runs.{AreMade}
 use Rattle.owed_calls.specs.Lives.{ClosesInRun}
 use Rattle.call_causes.specs.Posts.{Post, posts_of_run}
-use Rattle.send_causes.specs.Refused.{Deed, DidStep, DidEarly, DidLate, DidInRun, IsRefusal, IsDrop, ByReader, ByExpiry, ByRefusal, ByDrop}
+use Rattle.send_causes.specs.Refused.{Deed, DidStep, DidEarly, DidLate, DidInRun, IsRefusal, IsDrop, RunWouldOwn, ByReader, ByExpiry, ByRefusal, ByDrop}
 use Rattle.send_causes.proofs.Beside.{fixed_of_run, gave_of_run, orders_here}
-use Rattle.send_causes.proofs.Runs.{IsCallOf}
+use Rattle.send_causes.proofs.Runs.{AreLabelledIn, IsCallOf}
 use Rattle.send_causes.proofs.RefusedGone.{unordered}
 use Rattle.send_causes.proofs.RefusedLost.{early_lost, late_lost}
 use Rattle.send_causes.proofs.RefusedMeans.{IsSo}
-use Rattle.send_causes.proofs.RefusedWhole.{own_ids, end_views, IsGone, KindOfPost, kinds_of_run}
+use Rattle.send_causes.proofs.RefusedWhole.{end_views, IsGone, KindOfPost, kinds_of_run}
 use Rattle.send_causes.proofs.RefusedWhys.{full, before_so, late_so}
 
 code_is : (e code n : ℕ) → n ≤ 6 → e ≡ error_of code n → (code_of e ≡ code) × (attempt_of e ≡ n)
 code_is e code n few is = (ap code_of is ∙ (let z : code_of (error_of code n) ≡ code = omega (arith, few) in z), ap attempt_of is ∙ (let z : attempt_of (error_of code n) ≡ n = omega (arith, few) in z))
 
-module _ (script : List Item) (made : AreMade script) (turns : List Turn) (core : Core) (is : IsRunWithCalls script turns core) (closes : ClosesInRun script turns core is) where
+module _ (script : List Item) (made : AreMade script) (turns : List Turn) (core : Core) (is : IsRunWithCalls script turns core) (closes : ClosesInRun script turns core is) (ids : ℕ → ℕ) (labelled : AreLabelledIn ids script turns core is) (would : RunWouldOwn ids script turns core is) where
   abbrev IsUnordered_ : ℕ → ℕ → Type 0
   IsUnordered_ o n = IsUnordered (plan_of script) (all_tasks script) core.outcomes (fixed_of_run script made turns core is closes) (gave_of_run script made turns core is closes) (orders_here script made turns core is closes) o n
 
@@ -47,7 +47,7 @@ module _ (script : List Item) (made : AreMade script) (turns : List Turn) (core 
   pub record IsOfRefusal (x : Post) : Type 0 where
     pub asked : Asked
     pub called : IsCallOf script asked
-    pub own : own_ids script made turns core is closes asked.operation ≡ x.id
+    pub own : ids asked.operation ≡ x.id
     pub few : attempt_of x.error ≤ 6
     pub unordered : IsUnordered_ asked.operation (attempt_of x.error)
     pub why : ((code_of x.error ≡ 3001) × WasFull_)
@@ -55,14 +55,14 @@ module _ (script : List Item) (made : AreMade script) (turns : List Turn) (core 
 
   module _ (bytes : List ℕ) (reads : script_of bytes ≡ Ok script) where
     -- what is said of the attempt by the error alone
-    of_attempt : (x : Post) (n : ℕ) → attempt_of x.error ≡ n → (r : Asked) → IsCallOf script r → own_ids script made turns core is closes r.operation ≡ x.id → n ≤ 6 → IsGone script made turns core is closes x.id n
+    of_attempt : (x : Post) (n : ℕ) → attempt_of x.error ≡ n → (r : Asked) → IsCallOf script r → ids r.operation ≡ x.id → n ≤ 6 → IsGone script made turns core is closes ids labelled would x.id n
         → ((code_of x.error ≡ 3001) × WasFull_) ⊎ ((code_of x.error ≡ 1009) × (((c : ℕ) → WhyLost_ c r.operation n (name_of r n)) ⊎ FoundNothing n (name_of r n))) → IsOfRefusal x
     of_attempt x n same r called own few gone why = record {
       asked = r;
       called = called;
       own = own;
       few = subst (λ z. z ≤ 6) (sym same) few;
-      unordered = subst (IsUnordered_ r.operation) (sym same) (unordered script made turns core is closes n r called (subst (λ z. IsGone script made turns core is closes z n) (sym own) gone));
+      unordered = subst (IsUnordered_ r.operation) (sym same) (unordered script made turns core is closes ids labelled would n r called (subst (λ z. IsGone script made turns core is closes ids labelled would z n) (sym own) gone));
       why = subst (λ z. ((code_of x.error ≡ 3001) × WasFull_) ⊎ ((code_of x.error ≡ 1009) × (((c : ℕ) → WhyLost_ c r.operation z (name_of r z)) ⊎ FoundNothing z (name_of r z)))) (sym same) why;
     }
 
@@ -70,15 +70,15 @@ module _ (script : List Item) (made : AreMade script) (turns : List Turn) (core 
     all_so Did f [] a = tt
     all_so Did f (d ∷ ds) a = (f d a.0, all_so Did f ds a.1)
 
-    early_refusal : (x : Post) (seat n code : ℕ) (ds : List Deed) → seat < 32 → AllByRecursion (DidEarly script turns core is seat) ds → IsRefusal (plan_of script).requests (IsCallOf script) (own_ids script made turns core is closes) x.id n code ds
-        → IsGone script made turns core is closes x.id n → x.error ≡ error_of code n → IsOfRefusal x
+    early_refusal : (x : Post) (seat n code : ℕ) (ds : List Deed) → seat < 32 → AllByRecursion (DidEarly script turns core is seat) ds → IsRefusal (plan_of script).requests (IsCallOf script) ids x.id n code ds
+        → IsGone script made turns core is closes ids labelled would x.id n → x.error ≡ error_of code n → IsOfRefusal x
     early_refusal x seat n code ds client did r gone e = let parts = code_is x.error code n r.few e in
         of_attempt x n parts.1 r.asked r.called r.own r.few gone (⊎_elim
         (λ f. inl (parts.0 ∙ f.0, full script made turns core is closes ds f.1 (all_so (DidEarly script turns core is seat) (before_so script made turns core is closes seat) ds did)))
         (λ l. inr (parts.0 ∙ l.0, ⊎_elim (λ w. inl w) (λ w. inr (w.0, seat, client, w.1)) (early_lost script made turns core is closes bytes reads r.asked.operation n (name_of r.asked n) seat ds did l.1))) r.why)
 
-    late_refusal : (x : Post) (seat n code : ℕ) (ds : List Deed) → AllByRecursion (DidLate script turns core is seat) ds → IsRefusal (plan_of script).requests (IsCallOf script) (own_ids script made turns core is closes) x.id n code ds
-        → IsGone script made turns core is closes x.id n → x.error ≡ error_of code n → IsOfRefusal x
+    late_refusal : (x : Post) (seat n code : ℕ) (ds : List Deed) → AllByRecursion (DidLate script turns core is seat) ds → IsRefusal (plan_of script).requests (IsCallOf script) ids x.id n code ds
+        → IsGone script made turns core is closes ids labelled would x.id n → x.error ≡ error_of code n → IsOfRefusal x
     late_refusal x seat n code ds did r gone e = let parts = code_is x.error code n r.few e in
         of_attempt x n parts.1 r.asked r.called r.own r.few gone (⊎_elim
         (λ f. inl (parts.0 ∙ f.0, full script made turns core is closes ds f.1 (all_so (DidLate script turns core is seat) (late_so script made turns core is closes seat) ds did)))
@@ -93,19 +93,19 @@ module _ (script : List Item) (made : AreMade script) (turns : List Turn) (core 
           → x.error ≡ error_of (Rattle.std.specs.Prelude.if◌then◌else◌ (Rattle.std.specs.Prelude.◌==◌ code 0) 1009 code) heading.attempt → WhyPosted x
 
     pub refused_of_run : (x : Post) → In x (posts_of_run script turns core is) → WhyPosted x
-    refused_of_run x at = ⊎_elim early late (kinds_of_run script made turns core is closes x at)
+    refused_of_run x at = ⊎_elim early late (kinds_of_run script made turns core is closes ids labelled would x at)
       where
         all_of : (Did Done : Deed → Type 0) → ((d : Deed) → Did d → Done d) → (ds : List Deed) → AllByRecursion Did ds → AllByRecursion Done ds
         all_of Did Done f [] a = tt
         all_of Did Done f (d ∷ ds) a = (f d a.0, all_of Did Done f ds a.1)
 
-        early : KindOfPost script made turns core is closes (DidEarly script turns core is) x → WhyPosted x
+        early : KindOfPost script made turns core is closes ids labelled would (DidEarly script turns core is) x → WhyPosted x
         early (ByReader seat n high e) = PostedByReader seat n high e
         early (ByExpiry seat low e) = PostedByExpiry seat low e
         early (ByRefusal seat n code ds low did r gone e) = PostedByRefusal (early_refusal x seat n code ds low did r gone e)
         early (ByDrop seat heading code ds low did drop owner same e) = PostedByDrop seat heading code ds low (all_of (DidEarly script turns core is seat) (DidInRun script turns core is seat) (λ d y. inl y) ds did) drop same e
 
-        late : KindOfPost script made turns core is closes (DidLate script turns core is) x → WhyPosted x
+        late : KindOfPost script made turns core is closes ids labelled would (DidLate script turns core is) x → WhyPosted x
         late (ByReader seat n high e) = PostedByReader seat n high e
         late (ByExpiry seat low e) = PostedByExpiry seat low e
         late (ByRefusal seat n code ds low did r gone e) = PostedByRefusal (late_refusal x seat n code ds did r gone e)
