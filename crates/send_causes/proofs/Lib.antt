@@ -94,3 +94,4 @@ pub mod RefusedLost
 pub mod RefusedRun
 pub mod CausedReaders
 pub mod OwnIds
+pub mod CausedRanges
