@@ -47,6 +47,7 @@ pub mod DropEndsCauses
 pub mod DropEndsOver
 pub mod DropEndsWhole
 pub mod RefusedTicks
+pub mod PostSeats
 pub mod RefusedPosts
 pub mod RefusedRuns
 pub mod RefusedClosing

@@ -28,15 +28,16 @@ use Rattle.report_fits.proofs.Reading.{InRange}
 use Rattle.report_fits.proofs.Targets.{AreThere}
 use Rattle.owed_calls.specs.Lives.{ClosesInRun}
 use Rattle.owed_calls.proofs.Known.{run_all_rest}
-use Rattle.call_causes.specs.Lists.{given}
-use Rattle.call_causes.specs.Posts.{Post, posts_of_run}
+use Rattle.call_causes.specs.Decided.{posted_by}
+use Rattle.call_causes.specs.Lists.{given, shows_in_run}
+use Rattle.call_causes.specs.Posts.{Post}
 use Rattle.call_causes.specs.Scenes.{Birth, Scene, In as Has, Begun, WhyOwn, ToldOf, was_said, was_sent, was_begun, AreTold}
 use Rattle.call_causes.specs.Says.{Mark}
 use Rattle.call_causes.proofs.End.{HasEnded, one_outcome, call_of}
 use Rattle.call_causes.proofs.Whole.{run_has_story, run_has_ended}
 use Rattle.send_causes.specs.EndedCalls.{reader_posts_of_run, EndedSo}
 use Rattle.send_causes.specs.PostCauses.{PostCause, OfFault}
-use Rattle.send_causes.specs.Refused.{DidInRun, IsDrop, RunWouldOwn}
+use Rattle.send_causes.specs.Refused.{Deed, DidInRun, IsDrop, RunWouldOwn}
 use Rattle.send_causes.proofs.Assembled.{last_in_run, fixed_in_run, orders_in_run}
 use Rattle.send_causes.proofs.AttemptedCalls.{single, shows}
 use Rattle.send_causes.proofs.AttemptedRun.{attempted_of_run}
@@ -44,7 +45,7 @@ use Rattle.send_causes.proofs.AttemptedStored.{ids_at, stored_run, would_run, wo
 use Rattle.send_causes.proofs.DropEndsOver.{caused_for_call}
 use Rattle.send_causes.proofs.DropOfRun.{DropOf, drop_of_run}
 use Rattle.send_causes.proofs.EndedCauses.{EndedOn, run_ended_on, run_by_end}
-use Rattle.send_causes.proofs.RefusedRun.{WhyPosted, refused_of_run}
+use Rattle.send_causes.proofs.RefusedRun.{WhyPosted, refused_of_seat}
 use Rattle.send_causes.proofs.Runs.{AreLabelledIn}
 
 -- ## Words of calls
@@ -118,17 +119,17 @@ module _ (script : List Item) (made : AreMade script) (there : AreThere script) 
     abbrev orders : ℕ → Order
     orders = orders_in_run script made there range bytes reads turns core is closes
 
-    -- why each error was posted that an id took
-    pub whys_of_run : (x : Post) → In x (posts_of_run script turns core is) → WhyPosted script made turns core is closes (ids_at script core) labelled_at would_at bytes reads x
-    whys_of_run = refused_of_run script made turns core is closes (ids_at script core) labelled_at would_at bytes reads
+    -- why each error was posted that an id took from a seat
+    pub whys_of_seat : (j : ℕ) (x : Post) → In x (shows_in_run script turns core is (posted_by j)) → WhyPosted script made turns core is closes (ids_at script core) labelled_at would_at bytes reads j x
+    whys_of_seat = refused_of_seat script made turns core is closes (ids_at script core) labelled_at would_at bytes reads
 
     -- of an error that was posted for a dropped message
     abbrev pub DropAt : Post → Type 0
     DropAt x = DropOf script made turns core is closes (ids_at script core) labelled_at x
 
-    pub drop_post : (x : Post) (seat : ℕ) (heading : Heading) (code : ℕ) (deeds : List Rattle.send_causes.specs.Refused.Deed) → AllByRecursion (DidInRun script turns core is seat) deeds → IsDrop heading code deeds → x.id ≢ 0 → heading.owner ≡ x.id
+    pub drop_post : (x : Post) (seat : ℕ) (heading : Heading) (code : ℕ) (deeds : List Deed) → AllByRecursion (DidInRun script turns core is seat) deeds → IsDrop heading code deeds → heading.owner ≢ 0 → heading.owner ≡ x.id
         → x.error ≡ error_of (if code == 0 then 1009 else code) heading.attempt → DropAt x
-    drop_post x seat heading code deeds did drop some_ owner error = drop_of_run script made turns core is closes (ids_at script core) labelled_at x seat heading code deeds did drop (λ z. some_ (sym owner ∙ z)) owner error
+    drop_post = drop_of_run script made turns core is closes (ids_at script core) labelled_at
 
     sent : (k : ℕ) → k < p.links → AllByRecursion (λ (a : Accepted). IsSent p clients core.outcomes fixed (given core) orders (last_in_run script made there range bytes reads turns core is closes) k a) (orders k).accepted
     sent = attempted_of_run script made there range turns core is closes fixed (given core)

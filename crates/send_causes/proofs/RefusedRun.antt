@@ -1,5 +1,5 @@
 -- What a whole run tells of the errors that clients posted for attempts that they were refused.
-use Rattle.std.proofs.Common.{◌≡◌, ℕ, ◌<◌, ◌≤◌, ◌⊎◌, inl, inr, ⊎_elim, List, [], ◌∷◌, Ok, sym, ap, ◌∙◌, subst, arith}
+use Rattle.std.proofs.Common.{◌≡◌, ◌≢◌, ℕ, ◌<◌, ◌≤◌, ◌⊎◌, inl, inr, ⊎_elim, List, [], ◌∷◌, Ok, sym, ap, ◌∙◌, subst, arith}
 use Rattle.std.specs.List.{AllByRecursion}
 use Rattle.sock_model.specs.declared.chain.Heading.{Heading}
 use Rattle.brpc_model.specs.Items.{Item}
@@ -16,14 +16,16 @@ use Rattle.sock_programs.specs.ToldCalls.{IsUnordered, WhyLost, WasFull}
 use Rattle.sock_causes.specs.Stories.{In}
 use Rattle.joint_runs.proofs.Runs.{AreMade}
 use Rattle.owed_calls.specs.Lives.{ClosesInRun}
-use Rattle.call_causes.specs.Posts.{Post, posts_of_run}
+use Rattle.call_causes.specs.Decided.{posted_by}
+use Rattle.call_causes.specs.Lists.{shows_in_run}
+use Rattle.call_causes.specs.Posts.{Post}
 use Rattle.send_causes.specs.Refused.{Deed, DidStep, DidEarly, DidLate, DidInRun, IsRefusal, IsDrop, RunWouldOwn, ByReader, ByExpiry, ByRefusal, ByDrop}
 use Rattle.send_causes.proofs.Beside.{fixed_of_run, gave_of_run, orders_here}
 use Rattle.send_causes.proofs.Runs.{AreLabelledIn, IsCallOf}
 use Rattle.send_causes.proofs.RefusedGone.{unordered}
 use Rattle.send_causes.proofs.RefusedLost.{early_lost, late_lost}
 use Rattle.send_causes.proofs.RefusedMeans.{IsSo}
-use Rattle.send_causes.proofs.RefusedWhole.{end_views, IsGone, KindOfPost, kinds_of_run}
+use Rattle.send_causes.proofs.RefusedWhole.{end_views, IsGone, KindOfPost, kinds_of_seat}
 use Rattle.send_causes.proofs.RefusedWhys.{full, before_so, late_so}
 
 code_is : (e code n : ℕ) → n ≤ 6 → e ≡ error_of code n → (code_of e ≡ code) × (attempt_of e ≡ n)
@@ -84,29 +86,29 @@ module _ (script : List Item) (made : AreMade script) (turns : List Turn) (core 
         (λ f. inl (parts.0 ∙ f.0, full script made turns core is closes ds f.1 (all_so (DidLate script turns core is seat) (late_so script made turns core is closes seat) ds did)))
         (λ l. inr (parts.0 ∙ l.0, inl (λ c. late_lost script made turns core is closes bytes reads c n (name_of r.asked n) seat r.asked ds did r.put))) r.why)
 
-    -- who posted an error, and why
-    pub data WhyPosted (x : Post) : Type 0 where
-      PostedByReader : (seat n : ℕ) → 32 ≤ seat → (x.error ≡ error_of 1014 n) ⊎ (x.error ≡ error_of 2002 n) → WhyPosted x
-      PostedByExpiry : (seat : ℕ) → seat < 32 → x.error ≡ error_of 1008 WHOLE → WhyPosted x
-      PostedByRefusal : IsOfRefusal x → WhyPosted x
-      PostedByDrop : (seat : ℕ) (heading : Heading) (code : ℕ) (ds : List Deed) → seat < 32 → AllByRecursion (DidInRun script turns core is seat) ds → IsDrop heading code ds → heading.owner ≡ x.id
-          → x.error ≡ error_of (Rattle.std.specs.Prelude.if◌then◌else◌ (Rattle.std.specs.Prelude.◌==◌ code 0) 1009 code) heading.attempt → WhyPosted x
+    -- why seat j posted an error
+    pub data WhyPosted (j : ℕ) (x : Post) : Type 0 where
+      PostedByReader : (n : ℕ) → 32 ≤ j → (x.error ≡ error_of 1014 n) ⊎ (x.error ≡ error_of 2002 n) → WhyPosted j x
+      PostedByExpiry : j < 32 → x.error ≡ error_of 1008 WHOLE → WhyPosted j x
+      PostedByRefusal : j < 32 → IsOfRefusal x → WhyPosted j x
+      PostedByDrop : (heading : Heading) (code : ℕ) (ds : List Deed) → j < 32 → AllByRecursion (DidInRun script turns core is j) ds → IsDrop heading code ds → heading.owner ≢ 0 → heading.owner ≡ x.id
+          → x.error ≡ error_of (Rattle.std.specs.Prelude.if◌then◌else◌ (Rattle.std.specs.Prelude.◌==◌ code 0) 1009 code) heading.attempt → WhyPosted j x
 
-    pub refused_of_run : (x : Post) → In x (posts_of_run script turns core is) → WhyPosted x
-    refused_of_run x at = ⊎_elim early late (kinds_of_run script made turns core is closes ids labelled would x at)
+    pub refused_of_seat : (j : ℕ) (x : Post) → In x (shows_in_run script turns core is (posted_by j)) → WhyPosted j x
+    refused_of_seat j x at = ⊎_elim early late (kinds_of_seat script made turns core is closes ids labelled would j x at)
       where
         all_of : (Did Done : Deed → Type 0) → ((d : Deed) → Did d → Done d) → (ds : List Deed) → AllByRecursion Did ds → AllByRecursion Done ds
         all_of Did Done f [] a = tt
         all_of Did Done f (d ∷ ds) a = (f d a.0, all_of Did Done f ds a.1)
 
-        early : KindOfPost script made turns core is closes ids labelled would (DidEarly script turns core is) x → WhyPosted x
-        early (ByReader seat n high e) = PostedByReader seat n high e
-        early (ByExpiry seat low e) = PostedByExpiry seat low e
-        early (ByRefusal seat n code ds low did r gone e) = PostedByRefusal (early_refusal x seat n code ds low did r gone e)
-        early (ByDrop seat heading code ds low did drop owner same e) = PostedByDrop seat heading code ds low (all_of (DidEarly script turns core is seat) (DidInRun script turns core is seat) (λ d y. inl y) ds did) drop same e
+        early : KindOfPost script made turns core is closes ids labelled would (DidEarly script turns core is) j x → WhyPosted j x
+        early (ByReader n high e) = PostedByReader n high e
+        early (ByExpiry low e) = PostedByExpiry low e
+        early (ByRefusal n code ds low did r gone e) = PostedByRefusal low (early_refusal x j n code ds low did r gone e)
+        early (ByDrop heading code ds low did drop owner same e) = PostedByDrop heading code ds low (all_of (DidEarly script turns core is j) (DidInRun script turns core is j) (λ d y. inl y) ds did) drop owner same e
 
-        late : KindOfPost script made turns core is closes ids labelled would (DidLate script turns core is) x → WhyPosted x
-        late (ByReader seat n high e) = PostedByReader seat n high e
-        late (ByExpiry seat low e) = PostedByExpiry seat low e
-        late (ByRefusal seat n code ds low did r gone e) = PostedByRefusal (late_refusal x seat n code ds did r gone e)
-        late (ByDrop seat heading code ds low did drop owner same e) = PostedByDrop seat heading code ds low (all_of (DidLate script turns core is seat) (DidInRun script turns core is seat) (λ d y. inr (inr y)) ds did) drop same e
+        late : KindOfPost script made turns core is closes ids labelled would (DidLate script turns core is) j x → WhyPosted j x
+        late (ByReader n high e) = PostedByReader n high e
+        late (ByExpiry low e) = PostedByExpiry low e
+        late (ByRefusal n code ds low did r gone e) = PostedByRefusal low (late_refusal x j n code ds did r gone e)
+        late (ByDrop heading code ds low did drop owner same e) = PostedByDrop heading code ds low (all_of (DidLate script turns core is j) (DidInRun script turns core is j) (λ d y. inr (inr y)) ds did) drop owner same e

@@ -42,8 +42,9 @@ use Rattle.client_laws.specs.Openings.{all_seats}
 use Rattle.client_laws.proofs.Fresh.{opening_fresh}
 use Rattle.joint_runs.proofs.Runs.{AreMade, first_views}
 use Rattle.owed_calls.specs.Lives.{ClosesInRun}
-use Rattle.call_causes.specs.Lists.{shows_in}
-use Rattle.call_causes.specs.Posts.{Post, posted_at, posts_of_run}
+use Rattle.call_causes.specs.Decided.{posted_by}
+use Rattle.call_causes.specs.Lists.{shows_in, shows_in_run}
+use Rattle.call_causes.specs.Posts.{Post, posted_at}
 use Rattle.send_causes.specs.Counts.{times_of, TrialFits}
 use Rattle.send_causes.specs.Refused.{Deed, Charge, NoCharge, IsRefused, HasDropped, Doing, idle, trial_in, Charges, DidAt, DidIn, DidEarly, DidLate, IsSpent, ChargeFits, ChargeLaw, PostKind, RunWouldOwn}
 use Rattle.send_causes.proofs.Early.{start, go, fitting}
@@ -53,6 +54,7 @@ use Rattle.send_causes.proofs.Runs as labels
 use Rattle.send_causes.proofs.Sends.{narrow, few_clients, opening_claims}
 use Rattle.send_causes.proofs.RefusedClosing.{OnSockets, ending_goes as on_sockets, alone, set_first, none_closing}
 use Rattle.send_causes.proofs.RefusedLoops.{bare}
+use Rattle.send_causes.proofs.PostSeats.{of_all}
 use Rattle.send_causes.proofs.RefusedPosts.{kind_more}
 use Rattle.send_causes.proofs.RefusedPrograms.{ending_goes}
 use Rattle.send_causes.proofs.RefusedRuns.{law_more, Behind, run_charges, none_did, begins_charges, seats_charge, none_done, inside}
@@ -217,13 +219,13 @@ module _ (script : List Item) (made : AreMade script) (turns : List Turn) (core 
   abbrev vs : List View
   vs = first_views script
 
-  abbrev few_slots : (id_plan_of script).slots ≤ 65536
+  abbrev pub few_slots : (id_plan_of script).slots ≤ 65536
   few_slots = narrow script made turns core is closes
 
-  bare_views : (i : ℕ) (v : View) → get_elem? (first_views script) i ≡ some v → (v.claims ≡ []) × (v.lists ≡ [] ∷ [])
+  pub bare_views : (i : ℕ) (v : View) → get_elem? (first_views script) i ≡ some v → (v.claims ≡ []) × (v.lists ≡ [] ∷ [])
   bare_views i v at = (opening_claims (plan_of script) (all_seats (all_tasks script) (length (opens script))) i v at, opening_fresh (plan_of script) (all_seats (all_tasks script) (length (opens script))) i v at)
 
-  abbrev Law : (ℕ → Deed → Type 0) → Core → List View → List Doing → Type 0
+  abbrev pub Law : (ℕ → Deed → Type 0) → Core → List View → List Doing → Type 0
   Law Did c ws ss = ChargeLaw (plan_of script).requests (IsCallOf script) ids (plan_of script) (id_plan_of script) Did c ws ss
 
   abbrev Gone : Core → List View → List Doing → ℕ → ℕ → Type 0
@@ -235,13 +237,13 @@ module _ (script : List Item) (made : AreMade script) (turns : List Turn) (core 
   abbrev seats_first : List Program
   seats_first = all_programs (programs (sizes_of (plan_of script) (id_plan_of script)) (all_tasks script)) (readers_from (calls script) 0 (opens script))
 
-  abbrev first_doings : List Doing
+  abbrev pub first_doings : List Doing
   first_doings = map (λ (x : Program). idle) seats_first
 
-  abbrev Nothing : ℕ → Deed → Type 0
+  abbrev pub Nothing : ℕ → Deed → Type 0
   Nothing = none_did (plan_of script) (id_plan_of script) few_slots (IsCallOf script) ids
 
-  first_charges : Law Nothing (opened script) (first_views script) first_doings
+  pub first_charges : Law Nothing (opened script) (first_views script) first_doings
   first_charges = begins_charges (plan_of script) (id_plan_of script) few_slots (IsCallOf script) ids seats_first
       (seats_charge (plan_of script).requests (IsCallOf script) (sizes_of (plan_of script) (id_plan_of script)) refl (all_tasks script) (few_clients script made turns core is closes) (asked_by script) (calls script) (opens script))
       (first_views script) bare_views
@@ -345,14 +347,21 @@ module _ (script : List Item) (made : AreMade script) (turns : List Turn) (core 
       by (inr w) here = waits_ease (plan_of script) rested w.0.answer seat.program
           (subst (λ o. elim o as (λ o. Bool) [ none ↦ false | some x ↦ waits_at (plan_of script) rested w.0.answer x.program ] ≡ true) (subst (λ i. get_elem? rested.seats i ≡ some seat) (sym w.1) here) w.3)
 
-  final_doings : List Doing
+  -- what was done before that is forgotten
+  final_law : Law Nothing is.ended closed_views (map ease closing_runs.doings)
+  final_law = forgotten (plan_of script) (id_plan_of script) few_slots (IsCallOf script) ids DidClose is.ended closed_views closing_runs.doings ended_law at_ease
+
+  pub final_doings : List Doing
   final_doings = map ease closing_runs.doings
+
+  pub final_charges : Law Nothing is.ended closed_views final_doings
+  unfolding final_doings
+  final_charges = final_law
 
   final_runs : Runs Nothing is.ended closed_views (map ease closing_runs.doings) is.final
   final_runs = run_charges (plan_of script) (id_plan_of script) few_slots (IsCallOf script) ids (go script made turns core is) is.final Nothing is.ended closed_views
       (closed_sound script made.are (first_views script) (start script made turns core is) (go script made turns core is) turns core is (fitting script made turns core is)) is.answered_again (fitting script made turns core is).of_final labelled.of_final would.of_final
-      (labels.closed_law script made.are (first_views script) (start script made turns core is) (go script made turns core is) turns core is (fitting script made turns core is) few_slots bare_views ids labelled) (map ease closing_runs.doings)
-      (forgotten (plan_of script) (id_plan_of script) few_slots (IsCallOf script) ids DidClose is.ended closed_views closing_runs.doings ended_law at_ease)
+      (labels.closed_law script made.are (first_views script) (start script made turns core is) (go script made turns core is) turns core is (fitting script made turns core is) few_slots bare_views ids labelled) (map ease closing_runs.doings) final_law
 
   -- ## What is left of refused attempts
 
@@ -381,11 +390,11 @@ module _ (script : List Item) (made : AreMade script) (turns : List Turn) (core 
 
   -- ## The kinds of all posts
 
-  abbrev pub KindOfPost : (ℕ → Deed → Type 0) → Post → Type 0
-  KindOfPost Did x = PostKind (plan_of script).requests (IsCallOf script) ids Did IsGone x
+  abbrev pub KindOfPost : (ℕ → Deed → Type 0) → ℕ → Post → Type 0
+  KindOfPost Did j x = PostKind (plan_of script).requests (IsCallOf script) ids Did IsGone j x
 
-  more : (Did Done : ℕ → Deed → Type 0) (Spent : ℕ → ℕ → Type 0) → ((j : ℕ) (d : Deed) → Did j d → Done j d) → ((id n : ℕ) → Spent id n → IsGone id n) → (x : Post) → PostKind (plan_of script).requests (IsCallOf script) ids Did Spent x → KindOfPost Done x
-  more Did Done Spent f g x k = kind_more (plan_of script).requests (IsCallOf script) ids Did Done Spent IsGone f g x k
+  more : (Did Done : ℕ → Deed → Type 0) (Spent : ℕ → ℕ → Type 0) → ((j : ℕ) (d : Deed) → Did j d → Done j d) → ((id n : ℕ) → Spent id n → IsGone id n) → (j : ℕ) (x : Post) → PostKind (plan_of script).requests (IsCallOf script) ids Did Spent j x → KindOfPost Done j x
+  more Did Done Spent f g j x k = kind_more (plan_of script).requests (IsCallOf script) ids Did Done Spent IsGone f g j x k
 
   -- no error is posted while seat 0 closes what was opened
   closing_none : (x : Post) → In x (shows_in posted_at (plan_of script) (closing_of script turns core is) (replicate is.last (quiet 0))) → ⊥
@@ -395,16 +404,16 @@ module _ (script : List Item) (made : AreMade script) (turns : List Turn) (core 
       many : 0 < length (played script is.setup (is.scheduled ++ is.later)).seats
       many = let m = Rattle.send_causes.proofs.Rests.many script made turns core is in omega (arith, m)
 
-  pub kinds_of_run : (x : Post) → In x (posts_of_run script turns core is) → KindOfPost (DidEarly script turns core is) x ⊎ KindOfPost (DidLate script turns core is) x
+  pub kinds_of_seat : (j : ℕ) (x : Post) → In x (shows_in_run script turns core is (posted_by j)) → KindOfPost (DidEarly script turns core is) j x ⊎ KindOfPost (DidLate script turns core is) j x
   unfolding last_doings
-  kinds_of_run x at = ⊎_elim
-      (λ a. inl (more DidSetup (DidEarly script turns core is) _ (λ j d. ⊎_elim (λ z. absurd z) (λ y. inl y)) from_set_up x (setup_runs.kinds x a)))
+  kinds_of_seat j x at = ⊎_elim
+      (λ a. inl (more DidSetup (DidEarly script turns core is) _ (λ j d. ⊎_elim (λ z. absurd z) (λ y. inl y)) from_set_up j x (setup_runs.kinds j x a)))
       (λ rest. ⊎_elim
-      (λ a. inl (more DidPlay (DidEarly script turns core is) _ (λ j d. ⊎_elim (λ z. ⊎_elim (λ w. absurd w) (λ y. inl y) z) (λ y. inr y)) from_played x (played_runs.kinds x a)))
+      (λ a. inl (more DidPlay (DidEarly script turns core is) _ (λ j d. ⊎_elim (λ z. ⊎_elim (λ w. absurd w) (λ y. inl y) z) (λ y. inr y)) from_played j x (played_runs.kinds j x a)))
       (λ rest. ⊎_elim
-      (λ a. absurd (closing_none x a))
+      (λ a. absurd (closing_none x (of_all j (plan_of script) (replicate is.last (quiet 0)) (closing_of script turns core is) x a)))
       (λ a. inr (more (λ j d. Nothing j d ⊎ DidIn (plan_of script) is.ended is.final j d) (DidLate script turns core is) (Gone (run (plan_of script) is.ended is.final) last_views final_runs.doings) (λ j d. ⊎_elim (λ z. absurd z) (λ y. y))
-      (λ id n y. subst (λ c. Gone c last_views final_runs.doings id n) (sym is.is_end) y) x (final_runs.kinds x a)))
-      (in_both (shows_in posted_at (plan_of script) (closing_of script turns core is) (replicate is.last (quiet 0))) (shows_in posted_at (plan_of script) is.ended is.final) x rest))
-      (in_both (shows_in posted_at (plan_of script) (set_up script is.setup) (is.scheduled ++ is.later)) _ x rest))
-      (in_both (shows_in posted_at (plan_of script) (opened script) (replicate is.setup (quiet 0))) _ x at)
+      (λ id n y. subst (λ c. Gone c last_views final_runs.doings id n) (sym is.is_end) y) j x (final_runs.kinds j x a)))
+      (in_both (shows_in (posted_by j) (plan_of script) (closing_of script turns core is) (replicate is.last (quiet 0))) (shows_in (posted_by j) (plan_of script) is.ended is.final) x rest))
+      (in_both (shows_in (posted_by j) (plan_of script) (set_up script is.setup) (is.scheduled ++ is.later)) _ x rest))
+      (in_both (shows_in (posted_by j) (plan_of script) (opened script) (replicate is.setup (quiet 0))) _ x at)

@@ -253,14 +253,14 @@ pub record IsDrop (heading : Heading) (code : ℕ) (deeds : List Deed) : Type 0 
   pub load : In (DidStep (LoadCode (socket_id_slot holder.id) (socket_id_version holder.id)) code) deeds
   pub drop : In (DidStep (DropPlace heading.place holder.link holder.places) found) deeds
 
--- who posted the error, and why: Did tells what each seat did, and Gone of which attempts nothing is left
-pub data PostKind (requests : ℕ) (is_call : Asked → Type 0) (ids : ℕ → ℕ) (Did : ℕ → Deed → Type 0) (Gone : ℕ → ℕ → Type 0) (x : Post) : Type 0 where
+-- why seat j posted the error: Did tells what each seat did, and Gone of which attempts nothing is left
+pub data PostKind (requests : ℕ) (is_call : Asked → Type 0) (ids : ℕ → ℕ) (Did : ℕ → Deed → Type 0) (Gone : ℕ → ℕ → Type 0) (j : ℕ) (x : Post) : Type 0 where
   -- the readers' seats begin at 32
-  ByReader : (seat n : ℕ) → 32 ≤ seat → (x.error ≡ error_of 1014 n) ⊎ (x.error ≡ error_of 2002 n) → PostKind requests is_call ids Did Gone x
-  ByExpiry : (seat : ℕ) → seat < 32 → x.error ≡ error_of 1008 WHOLE → PostKind requests is_call ids Did Gone x
-  ByRefusal : (seat n code : ℕ) (deeds : List Deed) → seat < 32 → AllByRecursion (Did seat) deeds → IsRefusal requests is_call ids x.id n code deeds → Gone x.id n → x.error ≡ error_of code n → PostKind requests is_call ids Did Gone x
-  ByDrop : (seat : ℕ) (heading : Heading) (code : ℕ) (deeds : List Deed) → seat < 32 → AllByRecursion (Did seat) deeds → IsDrop heading code deeds → heading.owner ≢ 0 → heading.owner ≡ x.id
-      → x.error ≡ error_of (if code == 0 then 1009 else code) heading.attempt → PostKind requests is_call ids Did Gone x
+  ByReader : (n : ℕ) → 32 ≤ j → (x.error ≡ error_of 1014 n) ⊎ (x.error ≡ error_of 2002 n) → PostKind requests is_call ids Did Gone j x
+  ByExpiry : j < 32 → x.error ≡ error_of 1008 WHOLE → PostKind requests is_call ids Did Gone j x
+  ByRefusal : (n code : ℕ) (deeds : List Deed) → j < 32 → AllByRecursion (Did j) deeds → IsRefusal requests is_call ids x.id n code deeds → Gone x.id n → x.error ≡ error_of code n → PostKind requests is_call ids Did Gone j x
+  ByDrop : (heading : Heading) (code : ℕ) (deeds : List Deed) → j < 32 → AllByRecursion (Did j) deeds → IsDrop heading code deeds → heading.owner ≢ 0 → heading.owner ≡ x.id
+      → x.error ≡ error_of (if code == 0 then 1009 else code) heading.attempt → PostKind requests is_call ids Did Gone j x
 
 -- ## The law
 
