@@ -96,3 +96,4 @@ pub mod RefusedRun
 pub mod CausedReaders
 pub mod OwnIds
 pub mod CausedRanges
+pub mod CausedPosts
