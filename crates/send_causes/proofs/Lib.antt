@@ -97,3 +97,4 @@ pub mod CausedReaders
 pub mod OwnIds
 pub mod CausedRanges
 pub mod CausedPosts
+pub mod CausedEnds
