@@ -1,5 +1,5 @@
 -- Why calls failed with the code of the end of a reading: a reader whose reading ended decided on it, or a client for whom the attempt's message was dropped from a link of which the reader had stored that code.
-use Rattle.std.proofs.Common.{◌≡◌, ◌≢◌, ℕ, ◌+◌, ◌-◌, ◌<◌, ◌≤◌, ◌⊎◌, inl, inr, ⊎_elim, List, length, Ok, refl, sym, ap, ◌∙◌, subst, arith}
+use Rattle.std.proofs.Common.{◌≡◌, ◌≢◌, ℕ, ◌+◌, ◌-◌, ◌<◌, ◌≤◌, ◌⊎◌, ⊎_elim, List, Ok, refl, sym, ◌∙◌, subst, arith}
 use Rattle.std.specs.Prelude.{Contains, Some, slice_get}
 use Rattle.std.specs.List.{AllByRecursion}
 use mathlib.Core.Logic.{dite}
@@ -47,7 +47,7 @@ use Rattle.send_causes.proofs.Early.{known}
 use Rattle.send_causes.proofs.EndedAttempts.{IsReaderPost, of_word, of_word_is}
 use Rattle.send_causes.proofs.EndedOnce.{run_stored_once}
 use Rattle.send_causes.proofs.OwnIds.{labelled_at, would_at, single_at, some_id, own_id, whys_of_seat, DropAt, drop_post, drop_cause}
-use Rattle.send_causes.proofs.RefusedRun.{IsOfRefusal, WhyPosted, PostedByReader, PostedByExpiry, PostedByRefusal, PostedByDrop}
+use Rattle.send_causes.proofs.RefusedRun.{WhyPosted, PostedByReader, PostedByExpiry, PostedByRefusal, PostedByDrop}
 use Rattle.send_causes.proofs.Unanswered.{soon_where_late, unanswered_where_decided}
 
 module _ (script : List Item) (made : AreMade script) (there : AreThere script) (range : AllByRecursion InRange script) (turns : List Turn) (core : Core) (is : IsRunWithCalls script turns core) (closes : ClosesInRun script turns core is) (bytes : List ℕ) (reads : script_of bytes ≡ Ok script) where
@@ -192,8 +192,11 @@ module _ (script : List Item) (made : AreMade script) (there : AreThere script) 
 
       by_seat : (j : ℕ) → In (record { id = id; asked = asked; error = error_of 1014 (last t.number) }) (shows_in_run script turns core is (decided_by j)) → (k : ℕ) × Ended k
       by_seat j decides = let posted = own_decisions j (record { id = id; asked = asked; error = error_of 1014 (last t.number) }) decides (λ z. let f = few in omega (arith, z, f)) in dite (dec_le 32 j)
-          (λ high. let e : j ≡ 32 + (j - 32) = omega (arith, high) in (j - 32, by_reader (j - 32) (subst (λ i. In x (shows_in_run script turns core is (posted_by i))) e posted)
-          (subst (λ i. In (record { id = id; asked = asked; error = error_of 1014 (last t.number) }) (shows_in_run script turns core is (decided_by i))) e decides)))
+          (λ high. let e : j ≡ 32 + (j - 32) = omega (arith, high) in (
+            j - 32,
+            by_reader (j - 32) (subst (λ i. In x (shows_in_run script turns core is (posted_by i))) e posted)
+                (subst (λ i. In (record { id = id; asked = asked; error = error_of 1014 (last t.number) }) (shows_in_run script turns core is (decided_by i))) e decides),
+          ))
           (λ low. by_client j (omega (arith, low)) posted (whys_of_seat script made there range turns core is closes bytes reads j x posted))
 
     -- a call that failed with that code did so by a link whose reading ended

@@ -1,5 +1,5 @@
 -- Why errors were posted for attempts of calls: each has its cause, but for those of the end of a reading.
-use Rattle.std.proofs.Common.{◌≡◌, ◌≢◌, ℕ, ◌+◌, ◌<◌, ◌≤◌, ◌⊎◌, inl, inr, ⊎_elim, List, Ok, Some, refl, sym, ap, ◌∙◌, subst, arith}
+use Rattle.std.proofs.Common.{◌≡◌, ◌≢◌, ℕ, ◌<◌, ◌≤◌, ⊎_elim, List, Ok, Some, refl, sym, ◌∙◌, subst, arith}
 use Rattle.std.specs.Prelude.{Option, Contains}
 use Rattle.std.specs.List.{AllByRecursion}
 use mathlib.Core.Logic.{dite}

@@ -1,5 +1,5 @@
 -- The post of a reader tells of the link of the seat that posted it: the reading of that link ended, and the reader loaded an at word that names it.
-use Rattle.std.proofs.Common.{◌≡◌, ℕ, ◌+◌, ◌<◌, ◌==◌, eqb-true, Bool, true, false, cond, List, [], ◌∷◌, ◌++◌, length, replicate, append-nil, append_assoc, ⊎_elim, Ok, refl, ap, ◌∙◌, subst, arith}
+use Rattle.std.proofs.Common.{◌≡◌, ℕ, ◌+◌, ◌<◌, ◌==◌, eqb-true, Bool, true, false, cond, List, [], ◌∷◌, ◌++◌, length, append-nil, append_assoc, ⊎_elim, Ok, refl, ap, ◌∙◌, subst, arith}
 use mathlib.Core.Option.{Option, none, some}
 use lib.ListN.{get_elem?}
 use Rattle.sock_words.specs.declared.plain.Plan.{Plan}
@@ -31,7 +31,7 @@ use Rattle.send_causes.proofs.Early.{Any, ends_anyhow, start, go, fitting, known
 use Rattle.send_causes.proofs.EndedReads.{MayPost, post_more}
 use Rattle.send_causes.proofs.EndedRuns.{Keeping, finds, Seen, AllTold, told_along}
 use Rattle.send_causes.proofs.EndedTicks.{told_posts}
-use Rattle.send_causes.proofs.EndedWhole.{opened_keeps, opened_told, in_setup, in_clients, in_closing, h₁, h₂, h₃, h₄, setup_part, set_up_keeps, clients_part, closing_keeps, closing_told, closed_keeps, closed_told, ended_so}
+use Rattle.send_causes.proofs.EndedWhole.{opened_keeps, opened_told, in_setup, in_clients, in_closing, h₁, h₂, h₃, h₄, setup_part, set_up_keeps, closing_keeps, closing_told, closed_keeps, closed_told, ended_so}
 use Rattle.send_causes.proofs.ReaderRuns.{keeps_along}
 use Rattle.send_causes.proofs.Readings.{found_by}
 
