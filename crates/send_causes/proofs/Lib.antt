@@ -98,3 +98,4 @@ pub mod OwnIds
 pub mod CausedRanges
 pub mod CausedPosts
 pub mod CausedEnds
+pub mod FoundTries

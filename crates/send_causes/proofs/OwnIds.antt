@@ -1,6 +1,6 @@
 -- The ids of calls are those that the words of calls tell as a run ends: the id that an outcome shows is its call's, and over these ids it is told why errors were posted.
 use Rattle.std.proofs.Common.{◌≡◌, ◌≢◌, ℕ, ◌<◌, ◌≤◌, ◌⊎◌, ◌==◌, if◌then◌else◌, inl, inr, ⊎_elim, List, [], ◌∷◌, get_or, Ok, None, Some, refl, sym, ap, ◌∙◌, subst, arith}
-use Rattle.std.specs.Prelude.{Option, Contains}
+use Rattle.std.specs.Prelude.{Contains}
 use Rattle.std.specs.List.{AllByRecursion}
 use Rattle.sock_words.specs.declared.outcome.Outcome.{Outcome}
 use Rattle.sock_words.specs.declared.outcome.Outcome.TheVariants as outcomes
@@ -31,7 +31,7 @@ use Rattle.owed_calls.proofs.Known.{run_all_rest}
 use Rattle.call_causes.specs.Decided.{posted_by}
 use Rattle.call_causes.specs.Lists.{given, shows_in_run}
 use Rattle.call_causes.specs.Posts.{Post}
-use Rattle.call_causes.specs.Scenes.{Birth, Scene, In as Has, Begun, WhyOwn, ToldOf, was_said, was_sent, was_begun, AreTold}
+use Rattle.call_causes.specs.Scenes.{Scene, In as Has, Begun, WhyOwn, ToldOf, was_said, was_sent, was_begun, AreTold}
 use Rattle.call_causes.specs.Says.{Mark}
 use Rattle.call_causes.proofs.End.{HasEnded, one_outcome, call_of}
 use Rattle.call_causes.proofs.Whole.{run_has_story, run_has_ended}

@@ -7,7 +7,6 @@ use Rattle.brpc_model.specs.Operations.{Turn}
 use Rattle.brpc_model.specs.Script.{script_of}
 use Rattle.corr_core.specs.Word.{error_of, code_of, attempt_of}
 use Rattle.sock_message.specs.Asked.{Asked, name_of}
-use Rattle.sock_programs.specs.Calls.{LoadName}
 use Rattle.sock_programs.specs.Cores.{Core}
 use Rattle.sock_programs.specs.Posts.{WHOLE}
 use Rattle.sock_programs.specs.Tasks.{plan_of}
@@ -19,7 +18,7 @@ use Rattle.owed_calls.specs.Lives.{ClosesInRun}
 use Rattle.call_causes.specs.Decided.{posted_by}
 use Rattle.call_causes.specs.Lists.{shows_in_run}
 use Rattle.call_causes.specs.Posts.{Post}
-use Rattle.send_causes.specs.Refused.{Deed, DidStep, DidEarly, DidLate, DidInRun, IsRefusal, IsDrop, RunWouldOwn, ByReader, ByExpiry, ByRefusal, ByDrop}
+use Rattle.send_causes.specs.Refused.{Deed, DidEarly, DidLate, DidInRun, FoundNothing, IsRefusal, IsDrop, RunWouldOwn, ByReader, ByExpiry, ByRefusal, ByDrop}
 use Rattle.send_causes.proofs.Beside.{fixed_of_run, gave_of_run, orders_here}
 use Rattle.send_causes.proofs.Runs.{AreLabelledIn, IsCallOf}
 use Rattle.send_causes.proofs.RefusedGone.{unordered}
@@ -41,10 +40,6 @@ module _ (script : List Item) (made : AreMade script) (turns : List Turn) (core 
   abbrev WhyLost_ : ℕ → ℕ → ℕ → ℕ → Type 0
   WhyLost_ c o n name = WhyLost (plan_of script) (all_tasks script) core.outcomes (fixed_of_run script made turns core is closes) (gave_of_run script made turns core is closes) (orders_here script made turns core is closes) c o n name
 
-  -- a seat of a client, which retried the call before the run was ending, found nothing under the name
-  abbrev pub FoundNothing : ℕ → ℕ → Type 0
-  FoundNothing n name = (0 < n) × (seat : ℕ) × (seat < 32) × DidEarly script turns core is seat (DidStep (LoadName name) 0)
-
   -- the error was posted for an attempt that was refused, of the call with this id, whatever its client c
   pub record IsOfRefusal (x : Post) : Type 0 where
     pub asked : Asked
@@ -53,19 +48,19 @@ module _ (script : List Item) (made : AreMade script) (turns : List Turn) (core 
     pub few : attempt_of x.error ≤ 6
     pub unordered : IsUnordered_ asked.operation (attempt_of x.error)
     pub why : ((code_of x.error ≡ 3001) × WasFull_)
-        ⊎ ((code_of x.error ≡ 1009) × (((c : ℕ) → WhyLost_ c asked.operation (attempt_of x.error) (name_of asked (attempt_of x.error))) ⊎ FoundNothing (attempt_of x.error) (name_of asked (attempt_of x.error))))
+        ⊎ ((code_of x.error ≡ 1009) × (((c : ℕ) → WhyLost_ c asked.operation (attempt_of x.error) (name_of asked (attempt_of x.error))) ⊎ FoundNothing script turns core is asked.operation (attempt_of x.error) (name_of asked (attempt_of x.error))))
 
   module _ (bytes : List ℕ) (reads : script_of bytes ≡ Ok script) where
     -- what is said of the attempt by the error alone
     of_attempt : (x : Post) (n : ℕ) → attempt_of x.error ≡ n → (r : Asked) → IsCallOf script r → ids r.operation ≡ x.id → n ≤ 6 → IsGone script made turns core is closes ids labelled would x.id n
-        → ((code_of x.error ≡ 3001) × WasFull_) ⊎ ((code_of x.error ≡ 1009) × (((c : ℕ) → WhyLost_ c r.operation n (name_of r n)) ⊎ FoundNothing n (name_of r n))) → IsOfRefusal x
+        → ((code_of x.error ≡ 3001) × WasFull_) ⊎ ((code_of x.error ≡ 1009) × (((c : ℕ) → WhyLost_ c r.operation n (name_of r n)) ⊎ FoundNothing script turns core is r.operation n (name_of r n))) → IsOfRefusal x
     of_attempt x n same r called own few gone why = record {
       asked = r;
       called = called;
       own = own;
       few = subst (λ z. z ≤ 6) (sym same) few;
       unordered = subst (IsUnordered_ r.operation) (sym same) (unordered script made turns core is closes ids labelled would n r called (subst (λ z. IsGone script made turns core is closes ids labelled would z n) (sym own) gone));
-      why = subst (λ z. ((code_of x.error ≡ 3001) × WasFull_) ⊎ ((code_of x.error ≡ 1009) × (((c : ℕ) → WhyLost_ c r.operation z (name_of r z)) ⊎ FoundNothing z (name_of r z)))) (sym same) why;
+      why = subst (λ z. ((code_of x.error ≡ 3001) × WasFull_) ⊎ ((code_of x.error ≡ 1009) × (((c : ℕ) → WhyLost_ c r.operation z (name_of r z)) ⊎ FoundNothing script turns core is r.operation z (name_of r z)))) (sym same) why;
     }
 
     all_so : (Did : Deed → Type 0) → ((d : Deed) → Did d → IsSo (plan_of script) core (end_views script made turns core is closes) d) → (ds : List Deed) → AllByRecursion Did ds → AllByRecursion (λ (d : Deed). IsSo (plan_of script) core (end_views script made turns core is closes) d) ds
@@ -77,7 +72,7 @@ module _ (script : List Item) (made : AreMade script) (turns : List Turn) (core 
     early_refusal x seat n code ds client did r gone e = let parts = code_is x.error code n r.few e in
         of_attempt x n parts.1 r.asked r.called r.own r.few gone (⊎_elim
         (λ f. inl (parts.0 ∙ f.0, full script made turns core is closes ds f.1 (all_so (DidEarly script turns core is seat) (before_so script made turns core is closes seat) ds did)))
-        (λ l. inr (parts.0 ∙ l.0, ⊎_elim (λ w. inl w) (λ w. inr (w.0, seat, client, w.1)) (early_lost script made turns core is closes bytes reads r.asked.operation n (name_of r.asked n) seat ds did l.1))) r.why)
+        (λ l. inr (parts.0 ∙ l.0, ⊎_elim (λ w. inl w) (λ w. inr (w.0, seat, w.1.0, client, w.1.1)) (early_lost script made turns core is closes bytes reads r.asked.operation n (name_of r.asked n) seat ds did l.1))) r.why)
 
     late_refusal : (x : Post) (seat n code : ℕ) (ds : List Deed) → AllByRecursion (DidLate script turns core is seat) ds → IsRefusal (plan_of script).requests (IsCallOf script) ids x.id n code ds
         → IsGone script made turns core is closes ids labelled would x.id n → x.error ≡ error_of code n → IsOfRefusal x

@@ -30,7 +30,7 @@ use Rattle.call_causes.specs.Lists.{shows_in}
 use Rattle.call_causes.specs.Decided.{posted_by}
 use Rattle.call_causes.specs.Posts.{Post}
 use Rattle.send_causes.specs.Counts.{of_trial, of_view, times_of, TrialFits, AreLabelled}
-use Rattle.send_causes.specs.Refused.{Deed, DidStep, DidPut, DidRound, Doing, idle, trial_in, Charges, DidAt, DidIn, IsSpent, ChargeFits, ChargeLaw, PostKind, AllWouldOwn}
+use Rattle.send_causes.specs.Refused.{Deed, DidStep, DidPut, DidRound, DidMiss, Doing, idle, trial_in, Charges, DidAt, DidIn, IsSpent, ChargeFits, ChargeLaw, PostKind, AllWouldOwn}
 use Rattle.send_causes.proofs.Ticks.{label_ticks}
 use Rattle.send_causes.proofs.Runs.{IsBare, Lawful_, total_none, none_waits, bare_count}
 use Rattle.send_causes.proofs.RefusedTicks.{charge_ticks}
@@ -200,6 +200,8 @@ seats_charge requests is_call sizes size cs few asks calls os i x at = ⊎_elim
 pub none_done : (p : Plan) (c : Core) (m : Moment) (seat : SeatState) → get_elem? c.seats m.seat ≡ some seat → seat.program ≡ Rest → (j : ℕ) (d : Deed) → DidAt p c m j d → ⊥
 none_done p c m seat at rests j (DidStep call found) x = let same : seat ≡ x.1 = some-injective seat x.1 (sym at ∙ (ap (get_elem? c.seats) x.0 ∙ x.3)) in
     let e : Rest ≡ Do call x.2 = ap first_step (sym rests ∙ ap (λ (s : SeatState). s.program) same) ∙ x.4 in cc
+none_done p c m seat at rests j (DidMiss name o id n) x = let same : seat ≡ x.1 = some-injective seat x.1 (sym at ∙ (ap (get_elem? c.seats) x.0 ∙ x.3)) in
+    let e : Rest ≡ Do _ x.2 = ap first_step (sym rests ∙ ap (λ (s : SeatState). s.program) same) ∙ x.4 in cc
 none_done p c m seat at rests j (DidPut asked) x = let same : seat ≡ x.1 = some-injective seat x.1 (sym at ∙ (ap (get_elem? c.seats) x.0 ∙ x.4)) in
     let e : Rest ≡ Aside _ _ = ap first_step (sym rests ∙ ap (λ (s : SeatState). s.program) same) ∙ x.5 in cc
 none_done p c m seat at rests j (DidRound w) x = let same : seat ≡ x.1 = some-injective seat x.1 (sym at ∙ (ap (get_elem? c.seats) x.0 ∙ x.3)) in
