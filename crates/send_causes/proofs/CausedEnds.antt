@@ -72,7 +72,7 @@ module _ (script : List Item) (made : AreMade script) (there : AreThere script) 
   abbrev May : ℕ → ℕ → ℕ → ℕ → Type 0
   May o n name k = MayBeOn p clients core.outcomes fixed (given core) orders o n name k
 
-  abbrev Lost : ℕ → ℕ → ℕ → Type 0
+  abbrev pub Lost : ℕ → ℕ → ℕ → Type 0
   Lost o n k = IsFailing p clients core.outcomes fixed (given core) orders k ⊎ (StandsOn p clients core.outcomes fixed (given core) orders o n k ⊎ (IsUnordered p clients core.outcomes fixed (given core) orders o n × WasFull p clients core.outcomes fixed (given core) orders))
 
   abbrev Responds : Asked → ℕ → Frame → Type 0

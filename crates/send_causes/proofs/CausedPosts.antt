@@ -30,13 +30,14 @@ use Rattle.call_causes.specs.Lists.{given, shows_in_run}
 use Rattle.call_causes.specs.Posts.{Post, posts_of_run}
 use Rattle.send_causes.specs.EndedCalls.{reader_posts_of_run}
 use Rattle.send_causes.specs.PostCauses.{PostCause, OfLoss, OfWant, OfFault}
+use Rattle.send_causes.specs.Refused.{FoundNothing}
 use Rattle.send_causes.proofs.Assembled.{fixed_in_run, orders_in_run}
 use Rattle.send_causes.proofs.AttemptedRun.{one_asked}
 use Rattle.send_causes.proofs.AttemptedStored.{ids_at}
 use Rattle.send_causes.proofs.Beside.{gave_of_run}
 use Rattle.send_causes.proofs.OwnIds.{labelled_at, would_at, single_at, some_id, own_id, whys_of_seat, drop_post, drop_cause, reader_post}
 use Rattle.send_causes.proofs.PostSeats.{seat_of_post, reader_post_of}
-use Rattle.send_causes.proofs.RefusedRun.{FoundNothing, IsOfRefusal, WhyPosted, PostedByReader, PostedByExpiry, PostedByRefusal, PostedByDrop}
+use Rattle.send_causes.proofs.RefusedRun.{IsOfRefusal, WhyPosted, PostedByReader, PostedByExpiry, PostedByRefusal, PostedByDrop}
 
 -- an attempt's loss is none of what links gave
 lost_over : (p : Plan) (clients : List (List Task)) (outcomes : List (Option Outcome)) (fixed : Fixed) (gave took : ℕ → List ℕ) (orders : ℕ → Order) (c o n name : ℕ) → WhyLost p clients outcomes fixed gave orders c o n name → WhyLost p clients outcomes fixed took orders c o n name
@@ -57,11 +58,11 @@ module _ (script : List Item) (made : AreMade script) (there : AreThere script) 
   abbrev orders : ℕ → Order
   orders = orders_in_run script made there range bytes reads turns core is closes
 
-  abbrev Lost : ℕ → ℕ → ℕ → ℕ → Type 0
+  abbrev pub Lost : ℕ → ℕ → ℕ → ℕ → Type 0
   Lost c o n name = WhyLost p clients core.outcomes fixed (given core) orders c o n name
 
   -- a retry that found nothing under its name lost it so
-  module _ (found_lost : (c : ℕ) (t : Task) (n name : ℕ) → IsTask (all_tasks script) core.outcomes c t → FoundNothing script made turns core is closes (ids_at script core) (labelled_at script made there range turns core is closes) (would_at script made there range turns core is closes) n name
+  module _ (found_lost : (c : ℕ) (t : Task) (n name : ℕ) → IsTask (all_tasks script) core.outcomes c t → FoundNothing script turns core is t.number n name
       → Lost c t.number n name) where
     module _ (client : ℕ) (t : Task) (asked : Asked) (it : IsTask (all_tasks script) core.outcomes client t) (op : t.op ≡ ops.Call asked) (id code n : ℕ) (own : ids_at script core t.number ≡ id) (some_ : id ≢ 0) (few : n ≤ 6) (other : code ≢ 1014) where
       abbrev x : Post
@@ -81,7 +82,7 @@ module _ (script : List Item) (made : AreMade script) (there : AreThere script) 
           (λ full. OfWant (sym code_is ∙ full.0) unordered full.1)
           (λ gone. OfLoss (sym code_is ∙ gone.0) unordered (⊎_elim
           (λ lost. own_attempt (λ o m name. Lost client o m name) (lost_over p clients core.outcomes fixed (gave_of_run script made turns core is closes) (given core) orders client r.asked.operation (attempt_of (error_of code n)) (name_of r.asked (attempt_of (error_of code n))) (lost client)))
-          (λ none_. found_lost client t n (name_of asked n) it (own_attempt (λ o m name. FoundNothing script made turns core is closes (ids_at script core) (labelled_at script made there range turns core is closes) (would_at script made there range turns core is closes) m name) none_)) gone.1)) r.why
+          (λ none_. found_lost client t n (name_of asked n) it (own_attempt (λ o m name. FoundNothing script turns core is o m name) none_)) gone.1)) r.why
         where
           number : r.asked.operation ≡ t.number
           number = single_at script made there range turns core is closes r.asked.operation t.number (λ z. some_ (sym r.own ∙ z)) (r.own ∙ sym own)

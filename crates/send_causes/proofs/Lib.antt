@@ -99,3 +99,4 @@ pub mod CausedRanges
 pub mod CausedPosts
 pub mod CausedEnds
 pub mod FoundTries
+pub mod AllTold
