@@ -36,9 +36,7 @@ use Rattle.send_causes.proofs.CausedPosts.{caused_of_run}
 use Rattle.send_causes.proofs.OwnIds.{DropAt}
 
 module _ (script : List Item) (made : AreMade script) (there : AreThere script) (range : AllByRecursion InRange script) (turns : List Turn) (core : Core) (is : IsRunWithCalls script turns core) (closes : ClosesInRun script turns core is) (bytes : List ℕ) (reads : script_of bytes ≡ Ok script) where
-  module _ (decided : (client : ℕ) (t : Task) (asked : Asked) (id : ℕ) → IsTask (all_tasks script) core.outcomes client t → t.op ≡ ops.Call asked → Became (all_tasks script) core.outcomes t.number (CallFailed id 1014)
-      → (j : ℕ) × In (record { id = id; asked = asked; error = error_of 1014 (attempts_of_run script turns core is t.number) }) (shows_in_run script turns core is (decided_by j)))
-      (own_decisions : (j : ℕ) (d : Decision) → In d (shows_in_run script turns core is (decided_by j)) → attempt_of d.error ≢ 7 → In (record { id = d.id; error = d.error }) (shows_in_run script turns core is (posted_by j)))
+  module _ (own_decisions : (j : ℕ) (d : Decision) → In d (shows_in_run script turns core is (decided_by j)) → attempt_of d.error ≢ 7 → In (record { id = d.id; error = d.error }) (shows_in_run script turns core is (posted_by j)))
       (end_lost : (k o word code : ℕ) (x : Post) → IsEndPost script turns core is k o word code x → Lost script made there range turns core is closes bytes reads o (at_word_attempt word) k)
       (late_drop : (j : ℕ) → j < 32 → (x : Post) → In x (shows_in_run script turns core is (posted_by j)) → code_of x.error ≡ 1014 → (d : DropAt script made there range turns core is closes bytes reads x)
       → (o : ℕ) × (at : get_elem? (opens script) d.link ≡ some o) × PostedLate script made there range turns core is d.link o at x)
@@ -46,9 +44,9 @@ module _ (script : List Item) (made : AreMade script) (there : AreThere script) 
       → posts.Lost script made there range turns core is closes bytes reads c t.number n name) where
     -- why each task has its outcome, and each link took what it took
     pub told_of_run : ToldCalls (plan_of script) (all_tasks script) core.outcomes (fixed_in_run script made there range bytes reads turns core is closes) (given core) (orders_in_run script made there range bytes reads turns core is closes) core
-    told_of_run = told_calls script made there range bytes reads turns core is closes (caused_of_run script made there range turns core is closes bytes reads found_lost) (ended_of_run script made there range turns core is closes bytes reads decided own_decisions end_lost late_drop)
+    told_of_run = told_calls script made there range bytes reads turns core is closes (caused_of_run script made there range turns core is closes bytes reads found_lost) (ended_of_run script made there range turns core is closes bytes reads own_decisions end_lost late_drop)
 
     -- its last attempts are those to which the run came
     pub told_last : (o : ℕ) → told_of_run.last o ≡ last_in_run script made there range bytes reads turns core is closes o
     unfolding told_of_run
-    told_last o = assembled.told_last script made there range bytes reads turns core is closes (caused_of_run script made there range turns core is closes bytes reads found_lost) (ended_of_run script made there range turns core is closes bytes reads decided own_decisions end_lost late_drop) o
+    told_last o = assembled.told_last script made there range bytes reads turns core is closes (caused_of_run script made there range turns core is closes bytes reads found_lost) (ended_of_run script made there range turns core is closes bytes reads own_decisions end_lost late_drop) o

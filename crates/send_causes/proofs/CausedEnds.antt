@@ -33,6 +33,7 @@ use Rattle.whole_runs.proofs.Gave.{gave_heard}
 use Rattle.call_causes.specs.Decided.{Decision, posted_by, decided_by}
 use Rattle.call_causes.specs.Lists.{given, shows_in_run}
 use Rattle.call_causes.specs.Posts.{Post}
+use Rattle.call_causes.proofs.Decisions.{run_failed_decided}
 use Rattle.call_causes.proofs.HandledWhole.{PostedLate}
 use Rattle.send_causes.specs.EndedCalls.{AreStoredOnce, EndedSo, IsEndPost}
 use Rattle.send_causes.specs.PostCauses.{PostCause, OfLoss, OfWant, OfDrop, OfFail, OfFault, OfEnd}
@@ -98,10 +99,14 @@ module _ (script : List Item) (made : AreMade script) (there : AreThere script) 
   of_end c o asked id code n e (OfFault is_ k on fault) = absurd (omega (arith, e, is_))
   of_end c o asked id code n e (OfEnd is_ k ended) = (k, ended)
 
-  -- what is known of whoever decided on the error with which a call failed
-  module _ (decided : (client : ℕ) (t : Task) (asked : Asked) (id : ℕ) → IsTask (all_tasks script) core.outcomes client t → t.op ≡ ops.Call asked → Became (all_tasks script) core.outcomes t.number (CallFailed id 1014)
-      → (j : ℕ) × In (record { id = id; asked = asked; error = error_of 1014 (last t.number) }) (shows_in_run script turns core is (decided_by j)))
-      (own_decisions : (j : ℕ) (d : Decision) → In d (shows_in_run script turns core is (decided_by j)) → attempt_of d.error ≢ 7 → In (record { id = d.id; error = d.error }) (shows_in_run script turns core is (posted_by j)))
+  -- some seat decided on the error with which a call failed
+  decided : (client : ℕ) (t : Task) (asked : Asked) (id : ℕ) → IsTask (all_tasks script) core.outcomes client t → t.op ≡ ops.Call asked → Became (all_tasks script) core.outcomes t.number (CallFailed id 1014)
+      → (j : ℕ) × In (record { id = id; asked = asked; error = error_of 1014 (last t.number) }) (shows_in_run script turns core is (decided_by j))
+  decided client t asked id it op became = ⊎_elim (λ a. absurd (let e = a.0 in let z : ⊥ = omega (arith, e) in z)) (λ rest. ⊎_elim (λ b. absurd (let e = b.0 in let z : ⊥ = omega (arith, e) in z)) (λ c. (c.2, c.3)) rest)
+      (run_failed_decided script made there range turns core is closes fixed orders client t asked id 1014 it op became)
+
+  -- what is known of those who decide
+  module _ (own_decisions : (j : ℕ) (d : Decision) → In d (shows_in_run script turns core is (decided_by j)) → attempt_of d.error ≢ 7 → In (record { id = d.id; error = d.error }) (shows_in_run script turns core is (posted_by j)))
       (end_lost : (k o word code : ℕ) (x : Post) → IsEndPost script turns core is k o word code x → Lost o (at_word_attempt word) k)
       (late_drop : (j : ℕ) → j < 32 → (x : Post) → In x (shows_in_run script turns core is (posted_by j)) → code_of x.error ≡ 1014 → (d : DropAt script made there range turns core is closes bytes reads x)
       → (o : ℕ) × (at : get_elem? (opens script) d.link ≡ some o) × PostedLate script made there range turns core is d.link o at x) where
