@@ -100,3 +100,10 @@ pub mod CausedPosts
 pub mod CausedEnds
 pub mod FoundTries
 pub mod AllTold
+pub mod LateDropsPosts
+pub mod LateDropsCodes
+pub mod LateDropsRuns
+pub mod LateDropsEnding
+pub mod OwnIds
+pub mod LateDropsWhole
+pub mod LateDrops

@@ -40,7 +40,7 @@ kind_more requests is_call ids Did Done Gone Went f g j x (ByDrop heading code d
     all_done [] a = tt
     all_done (d ∷ ds) a = (f j d a.0, all_done ds a.1)
 
-same_first : (program : Program) → goes.first_of program ≡ first_step program
+pub same_first : (program : Program) → goes.first_of program ≡ first_step program
 same_first (Write w after) = refl
 same_first (Round head next) = refl
 same_first (Do call next) = refl

@@ -397,7 +397,7 @@ module _ (script : List Item) (made : AreMade script) (turns : List Turn) (core 
   more Did Done Spent f g j x k = kind_more (plan_of script).requests (IsCallOf script) ids Did Done Spent IsGone f g j x k
 
   -- no error is posted while seat 0 closes what was opened
-  closing_none : (x : Post) → In x (shows_in posted_at (plan_of script) (closing_of script turns core is) (replicate is.last (quiet 0))) → ⊥
+  pub closing_none : (x : Post) → In x (shows_in posted_at (plan_of script) (closing_of script turns core is) (replicate is.last (quiet 0))) → ⊥
   closing_none x at = none_closing (plan_of script) is.last (closing_of script turns core is)
       (let seat = at_there rested.seats 0 many in (_, set_first rested.seats seat.0 _ seat.1, subst OnSockets (sym (alone (waiting_at rested.calls.waiting 0) (ending_of (opens script)) (on_sockets (opens script)))) (on_sockets (opens script)))) x at
     where
