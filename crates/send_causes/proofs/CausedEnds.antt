@@ -47,6 +47,7 @@ use Rattle.send_causes.proofs.DropCauses.{may_be_on}
 use Rattle.send_causes.proofs.Early.{known}
 use Rattle.send_causes.proofs.EndedAttempts.{IsReaderPost, of_word, of_word_is}
 use Rattle.send_causes.proofs.EndedOnce.{run_stored_once}
+use Rattle.send_causes.proofs.LateDrops.{late_drop_at}
 use Rattle.send_causes.proofs.OwnIds.{labelled_at, would_at, single_at, some_id, own_id, whys_of_seat, DropAt, drop_post, drop_cause}
 use Rattle.send_causes.proofs.RefusedRun.{WhyPosted, PostedByReader, PostedByExpiry, PostedByRefusal, PostedByDrop}
 use Rattle.send_causes.proofs.Unanswered.{soon_where_late, unanswered_where_decided}
@@ -107,9 +108,7 @@ module _ (script : List Item) (made : AreMade script) (there : AreThere script) 
 
   -- what is known of those who decide
   module _ (own_decisions : (j : ℕ) (d : Decision) → In d (shows_in_run script turns core is (decided_by j)) → attempt_of d.error ≢ 7 → In (record { id = d.id; error = d.error }) (shows_in_run script turns core is (posted_by j)))
-      (end_lost : (k o word code : ℕ) (x : Post) → IsEndPost script turns core is k o word code x → Lost o (at_word_attempt word) k)
-      (late_drop : (j : ℕ) → j < 32 → (x : Post) → In x (shows_in_run script turns core is (posted_by j)) → code_of x.error ≡ 1014 → (d : DropAt script made there range turns core is closes bytes reads x)
-      → (o : ℕ) × (at : get_elem? (opens script) d.link ≡ some o) × PostedLate script made there range turns core is d.link o at x) where
+      (end_lost : (k o word code : ℕ) (x : Post) → IsEndPost script turns core is k o word code x → Lost o (at_word_attempt word) k) where
     module _ (client : ℕ) (t : Task) (asked : Asked) (id : ℕ) (it : IsTask (all_tasks script) core.outcomes client t) (op : t.op ≡ ops.Call asked) (became : Became (all_tasks script) core.outcomes t.number (CallFailed id 1014)) where
       abbrev n : ℕ
       n = last t.number
@@ -173,7 +172,7 @@ module _ (script : List Item) (made : AreMade script) (there : AreThere script) 
           (λ k end_ m frame stands gives responds. soon k m frame (at_link k stands) gives responds))
         where
           late : (o : ℕ) × (at : get_elem? (opens script) d.link ≡ some o) × PostedLate script made there range turns core is d.link o at x
-          late = late_drop j low x posted (let f = few in omega (arith, f)) d
+          late = late_drop_at script made there range turns core is closes j low x posted (let f = few in omega (arith, f)) d
 
           number : d.task.number ≡ t.number
           number = single_at script made there range turns core is closes d.task.number t.number (λ z. some_ (sym d.own ∙ z)) (d.own ∙ sym own)

@@ -104,6 +104,5 @@ pub mod LateDropsPosts
 pub mod LateDropsCodes
 pub mod LateDropsRuns
 pub mod LateDropsEnding
-pub mod OwnIds
 pub mod LateDropsWhole
 pub mod LateDrops
