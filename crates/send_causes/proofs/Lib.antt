@@ -104,5 +104,11 @@ pub mod LateDropsPosts
 pub mod LateDropsCodes
 pub mod LateDropsRuns
 pub mod LateDropsEnding
+pub mod OwnIds
+pub mod FoundNames
+pub mod FoundNamesRuns
+pub mod FoundNamesSetup
+pub mod FoundNamesWhole
+pub mod FoundTries
 pub mod LateDropsWhole
 pub mod LateDrops

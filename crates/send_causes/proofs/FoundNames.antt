@@ -1,20 +1,18 @@
 -- A seat that found no socket under a name, as it tried an attempt of a call: no task of the setup gave the name a socket, none of the seat's own tasks so far
 -- gave it one or found one, and where the call is the seat's own it had begun.
-use Rattle.std.proofs.Common.{◌≡◌, ◌≢◌, ℕ, zero, suc, ◌+◌, ◌<◌, ◌≤◌, ◌⊎◌, inl, inr, ⊎_elim, List, [], ◌∷◌, length, get_or, slice_get, None, Some, refl, sym, ap, ◌∙◌, subst, arith}
-use Rattle.std.specs.Prelude.{slice_index, slice_index_or}
+use Rattle.std.proofs.Common.{◌≡◌, ℕ, zero, suc, ◌⊎◌, inl, inr, ⊎_elim, List, [], ◌∷◌, get_or, slice_get, Some, refl, sym, ap, ◌∙◌, subst}
+use Rattle.std.specs.Prelude.{slice_index_or}
 use mathlib.Core.Option.{some, some-injective}
 use lib.ListN.{get_elem?}
 use Rattle.sock_words.specs.declared.plain.Plan.{Plan}
-use Rattle.sock_words.specs.declared.outcome.Outcome.{Outcome}
-use Rattle.sock_words.specs.declared.outcome.Outcome.TheVariants as outcomes
-use Rattle.sock_model.specs.Layout.{name_word}
 use Rattle.corr_core.specs.declared.marks.Plan.{Plan as IdPlan}
+use Rattle.sock_words.specs.declared.outcome.Outcome.TheVariants as outcomes
 use Rattle.sock_programs.specs.declared.task.Op.TheVariants as ops
 use Rattle.sock_programs.specs.declared.task.Task.{Task}
-use Rattle.sock_programs.specs.Asides.{StoreCall, Found}
+use Rattle.sock_programs.specs.Asides.{StoreCall}
 use Rattle.sock_programs.specs.Calls.{Call}
 use Rattle.sock_programs.specs.Cores.{SeatState}
-use Rattle.sock_programs.specs.Programs.{Program, Do, Rest, Aside}
+use Rattle.sock_programs.specs.Programs.{Program, Do, Aside}
 use Rattle.sock_runs.specs.Sound.{first_step}
 use Rattle.call_causes.specs.Scenes.{Scene, In, Named, IsTaskOf, HasNoneOf, NoneFound, ToldOf, was_said, was_sent, was_begun, AreTold, Later}
 use Rattle.call_causes.specs.Says.{Mark, NoneOfSetup, SaysOn}
