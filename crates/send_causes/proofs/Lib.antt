@@ -98,17 +98,14 @@ pub mod OwnIds
 pub mod CausedRanges
 pub mod CausedPosts
 pub mod CausedEnds
-pub mod FoundTries
 pub mod AllTold
 pub mod LateDropsPosts
 pub mod LateDropsCodes
 pub mod LateDropsRuns
 pub mod LateDropsEnding
-pub mod OwnIds
 pub mod FoundNames
 pub mod FoundNamesRuns
 pub mod FoundNamesSetup
 pub mod FoundNamesWhole
-pub mod FoundTries
 pub mod LateDropsWhole
 pub mod LateDrops
