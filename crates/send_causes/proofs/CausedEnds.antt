@@ -110,9 +110,6 @@ module _ (script : List Item) (made : AreMade script) (there : AreThere script) 
   module _ (own_decisions : (j : ℕ) (d : Decision) → In d (shows_in_run script turns core is (decided_by j)) → attempt_of d.error ≢ 7 → In (record { id = d.id; error = d.error }) (shows_in_run script turns core is (posted_by j)))
       (end_lost : (k o word code : ℕ) (x : Post) → IsEndPost script turns core is k o word code x → Lost o (at_word_attempt word) k) where
     module _ (client : ℕ) (t : Task) (asked : Asked) (id : ℕ) (it : IsTask (all_tasks script) core.outcomes client t) (op : t.op ≡ ops.Call asked) (became : Became (all_tasks script) core.outcomes t.number (CallFailed id 1014)) where
-      abbrev n : ℕ
-      n = last t.number
-
       abbrev x : Post
       x = record { id = id; error = error_of 1014 (last t.number) }
 
