@@ -109,3 +109,10 @@ pub mod FoundNamesSetup
 pub mod FoundNamesWhole
 pub mod LateDropsWhole
 pub mod LateDrops
+pub mod OwnDecisionsStands
+pub mod OwnDecisionsLoops
+pub mod OwnDecisionsPrograms
+pub mod OwnDecisionsHomes
+pub mod OwnDecisionsTicks
+pub mod OwnDecisionsRuns
+pub mod OwnDecisions
