@@ -231,7 +231,7 @@ module _ (script : List Item) (made : AreMade script) (turns : List Turn) (core 
       pub on : MayBeOn (plan_of script) (all_tasks script) core.outcomes fixed gave (orders_of_run script made turns core is closes) asked.operation n (name_of asked n) link
       pub ended : EndedSo script turns core is link code
 
-    of_word : (k o w code : ℕ) (x : Post) → k < (plan_of script).links → IsEndPost script turns core is k o w code x → (c m : ℕ) → x.error ≡ error_of c m → m ≤ 7 → IsReaderPost c m x
+    pub of_word : (k o w code : ℕ) (x : Post) → k < (plan_of script).links → IsEndPost script turns core is k o w code x → (c m : ℕ) → x.error ≡ error_of c m → m ≤ 7 → IsReaderPost c m x
     of_word k o w code x low post c m error few = let e = ending in
         let a = of_load o w (e.loads (record { seat = 32 + k; operation = o; word = w }) (contains_in (Rattle.send_causes.specs.EndedCalls.loads_of_run script turns core is) (record { seat = 32 + k; operation = o; word = w }) post.loaded) post.some_) in
         let first : id_first (ids o) < 4294967296 = omega arith in
@@ -254,6 +254,13 @@ module _ (script : List Item) (made : AreMade script) (turns : List Turn) (core 
               (subst (λ z. MayBeOn (plan_of script) (all_tasks script) core.outcomes fixed gave (orders_of_run script made turns core is closes) o a.attempt (name_of a.asked a.attempt) z) link (may_be_on o w a)));
           ended = subst (λ z. EndedSo script turns core is k z) code_is post.ended;
         }
+
+    -- it is for the operation of the at word, on the reader's own link
+    pub of_word_is : (k o w code : ℕ) (x : Post) (low : k < (plan_of script).links) (post : IsEndPost script turns core is k o w code x) (c m : ℕ) (error : x.error ≡ error_of c m) (few : m ≤ 7)
+        → ((of_word k o w code x low post c m error few).link ≡ k) × ((of_word k o w code x low post c m error few).asked.operation ≡ o)
+    unfolding of_word
+    of_word_is k o w code x low post c m error few = let e = ending in
+        let a = of_load o w (e.loads (record { seat = 32 + k; operation = o; word = w }) (contains_in (Rattle.send_causes.specs.EndedCalls.loads_of_run script turns core is) (record { seat = 32 + k; operation = o; word = w }) post.loaded) post.some_) in (refl, a.operation)
 
     pub run_reader_post : (bytes : List ℕ) → script_of bytes ≡ Ok script → (x : Post) → In x (reader_posts_of_run script turns core is) → (code n : ℕ) → x.error ≡ error_of code n → n ≤ 7 → IsReaderPost code n x
     run_reader_post bytes reads x there code n error few = let p = run_end_posts script made turns core is bytes reads x there in of_word p.0 p.1 p.2 p.3 x p.4 p.5 code n error few

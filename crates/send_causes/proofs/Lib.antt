@@ -97,11 +97,16 @@ pub mod ClosedLostPrograms
 pub mod ClosedLostTicks
 pub mod ClosedLostRuns
 pub mod ClosedLost
+pub mod CausedReaders
+pub mod OwnIds
+pub mod CausedRanges
+pub mod CausedPosts
+pub mod CausedEnds
+pub mod AllTold
 pub mod LateDropsPosts
 pub mod LateDropsCodes
 pub mod LateDropsRuns
 pub mod LateDropsEnding
-pub mod OwnIds
 pub mod FoundNames
 pub mod FoundNamesRuns
 pub mod FoundNamesSetup
